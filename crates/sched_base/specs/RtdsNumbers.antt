@@ -1,5 +1,5 @@
 -- RTDS's formulas, on numbers. Spans and moments are in nanoseconds.
-use Rattle.std.specs.Prelude.{ℕ, suc, ◌+◌, ◌-◌, ◌*◌, ◌/◌, Bool, nat_lt, if◌then◌else◌}
+use Rattle.std.specs.Prelude.{ℕ, ◌+◌, ◌-◌, ◌*◌, ◌/◌, Bool, nat_lt, if◌then◌else◌}
 
 -- the budget left after a span: one that is used up is full again with extra time, and else stays empty
 abbrev pub burned_left : ℕ → ℕ → Bool → ℕ → ℕ
