@@ -1,7 +1,21 @@
 -- Names, as lists of bytes.
-use Rattle.std.specs.Prelude.{ℕ, ◌≤◌, List, length}
+use Rattle.std.specs.Prelude.{ℕ, ◌≤◌, ◌==◌, ◌&&◌, ◌||◌, Bool, false, List, [], ◌∷◌, length, nat_le}
+use Rattle.std.specs.List.{list_all}
 
 -- a name has 1 to 32 bytes
 pub record IsNameLength (bytes : List ℕ) : Type 0 where
   pub some : 1 ≤ length bytes
   pub most : length bytes ≤ 32
+
+-- an ASCII letter
+abbrev pub is_letter : ℕ → Bool
+is_letter b = nat_le 65 b && nat_le b 90 || nat_le 97 b && nat_le b 122
+
+-- a letter, a digit, a hyphen or an underscore
+abbrev pub is_name_byte : ℕ → Bool
+is_name_byte b = is_letter b || nat_le 48 b && nat_le b 57 || b == 45 || b == 95
+
+-- a name in a file or a command: a letter, and up to 31 letters, digits, hyphens and underscores
+abbrev pub is_name : List ℕ → Bool
+is_name [] = false
+is_name (b ∷ bytes) = is_letter b && nat_le (length bytes) 31 && list_all is_name_byte bytes

@@ -1,6 +1,8 @@
 //! The names of pools and domains.
 
 ghost use Rattle.std.specs.Prelude.{◌≡◌, ◌≤◌, length};
+ghost use Rattle.std.specs.List.{list_all};
+ghost use Rattle.sched_base.specs.Names.{is_letter as letter, is_name_byte as name_byte, is_name as name};
 
 use arrayvec::ArrayVec;
 use std::marker::Model;
@@ -12,6 +14,36 @@ pub const NAME_MOST: usize = 32;
 #[derive(Drop)]
 pub struct Name {
     bytes: ArrayVec<u8, NAME_MOST>,
+}
+
+fn is_letter(b: u8) -> bool
+    ensures { result ≡ letter b }
+{
+    65 <= b && b <= 90 || 97 <= b && b <= 122
+}
+
+fn is_name_byte(b: u8) -> bool
+    ensures { result ≡ name_byte b }
+{
+    is_letter(b) || 48 <= b && b <= 57 || b == 45 || b == 95
+}
+
+fn are_name_bytes(bytes: &[u8]) -> bool
+    ensures { result ≡ list_all name_byte bytes.now }
+{
+    bytes.iter().all(|b| is_name_byte(*b))
+}
+
+/// Whether the bytes are a name as files and commands spell it: an ASCII letter, and up to 31 letters, digits, hyphens and underscores.
+pub fn is_name(bytes: &[u8]) -> bool
+    ensures { result ≡ name bytes.now }
+{
+    match bytes {
+        [] => false,
+        [first, others @ ..] => {
+            is_letter(*first) && others.len() <= 31 && are_name_bytes(others)
+        }
+    }
 }
 
 /// The bytes in a list of their own.
@@ -37,9 +69,9 @@ impl Model for Name {
 }
 
 impl Name {
-    ghost use Rattle.std.specs.Prelude.{◌≡◌, ◌==◌, bytes_eq};
+    ghost use Rattle.std.specs.Prelude.{◌≡◌, ◌==◌, bytes_eq, if◌then◌else◌};
     ghost use Rattle.std.specs.Option.{SomeIff};
-    ghost use Rattle.sched_base.specs.Names.{IsNameLength};
+    ghost use Rattle.sched_base.specs.Names.{IsNameLength, is_name as spells};
 
     /// The name with these bytes, or `None` exactly where they are none or more than 32.
     pub fn new(bytes: &[u8]) -> Option<Name>
@@ -49,6 +81,17 @@ impl Name {
             return None;
         }
         Some(Name { bytes: held(bytes) })
+    }
+
+    /// The name that the bytes spell, or `None` exactly where they spell none.
+    pub fn read(bytes: &[u8]) -> Option<Name>
+        ensures { result ≡ (if spells bytes.now then Some bytes.now else None) }
+    {
+        if is_name(bytes) {
+            Name::new(bytes)
+        } else {
+            None
+        }
     }
 
     /// The bytes, of which there are 1 to 32.

@@ -1,0 +1,61 @@
+-- Where the subjects of actions are.
+use Rattle.sched_base.specs.Numbers.{domain as domain_number}
+use Rattle.std.specs.Prelude.{ℕ, suc, ◌+◌, ◌-◌, ◌/◌, List, [], ◌∷◌, ◌++◌, Option, None, is_some, length, map}
+use Rattle.sched_base.specs.declared.UnitId.{UnitId}
+use Rattle.sched_base.specs.declared.VcpuId.{VcpuId}
+use Rattle.sched_model.specs.declared.config.Config.{Config}
+use Rattle.sched_model.specs.declared.config.DomConfig.{DomConfig}
+use Rattle.sched_model.specs.Places.{at_place, change_at, first_place, numbers_from}
+use Rattle.sched_model.specs.State.{Pool, State}
+use Rattle.sched_model.specs.Opening.{core_count}
+use Rattle.sched_model.specs.Pool.{Action}
+use Rattle.sched_model.specs.declared.action.Action.TheVariants.{Stall, Xl, Moved, DomMoved, Wake, Block, Slice, Repl, Refill, Arrive, Decide, Leave, Save}
+
+-- the pool that has the core
+abbrev pub home_of_core : State → ℕ → Option ℕ
+home_of_core s r = first_place 0 (λ pool. is_some (at_place pool.resources r)) s.pools
+
+-- the pool that has the domain
+abbrev pub home_of_domain : State → ℕ → Option ℕ
+home_of_domain s d = first_place 0 (λ pool. is_some (at_place pool.domains d)) s.pools
+
+-- the pool of the action's subject
+abbrev pub home_of : ℕ → State → Action → Option ℕ
+home_of g s Stall = None
+home_of g s Xl = None
+home_of g s (Moved r) = home_of_core s r
+home_of g s (DomMoved d) = home_of_domain s d
+home_of g s (Wake v) = home_of_domain s v.dom.0
+home_of g s (Block p) = home_of_core s (p / g)
+home_of g s (Slice r) = home_of_core s r
+home_of g s (Repl u) = home_of_domain s u.dom.0
+home_of g s (Refill d) = home_of_domain s d
+home_of g s (Arrive p) = home_of_core s (p / g)
+home_of g s (Decide r) = home_of_core s r
+home_of g s (Leave p) = home_of_core s (p / g)
+home_of g s (Save r) = home_of_core s r
+
+-- the vCPUs of all domains in order; the first domain of the list has the number d
+abbrev pub vcpus_from : ℕ → List DomConfig → List VcpuId
+vcpus_from d [] = []
+vcpus_from d (domain ∷ domains) = map (λ n. record { dom = domain_number d; n = n }) (numbers_from 0 (length domain.guests)) ++ vcpus_from (suc d) domains
+
+-- the units of all domains in order; the first domain of the list has the number d
+abbrev pub units_from : ℕ → ℕ → List DomConfig → List UnitId
+units_from g d [] = []
+units_from g d (domain ∷ domains) = map (λ n. record { dom = domain_number d; n = n }) (numbers_from 0 ((length domain.guests + g - 1) / g)) ++ units_from g (suc d) domains
+
+-- every action there may be, in the order in which a run takes them
+abbrev pub candidates : Config → List Action
+candidates config =
+    let g = config.granularity in
+    let cores = numbers_from 0 (core_count config) in
+    let processors = numbers_from 0 config.processors in
+    let domains = numbers_from 0 (length config.domains) in
+    Stall ∷ Xl ∷ map Moved cores ++ map DomMoved domains ++ map Wake (vcpus_from 0 config.domains) ++ map Block processors
+    ++ map Slice cores ++ map Repl (units_from g 0 config.domains) ++ map Refill domains ++ map Arrive processors
+    ++ map Decide cores ++ map Leave processors ++ map Save cores
+
+-- the pool i changed by f; all else stays
+abbrev pub change_pool : ℕ → (Pool → Pool) → State → State
+change_pool i f s = record s { pools = change_at i f s.pools }

@@ -1,0 +1,76 @@
+-- Which waiting units a core may take.
+use Rattle.sched_base.specs.Numbers.{core_set}
+use Rattle.std.specs.Prelude.{ℕ, ◌==◌, ◌&&◌, ◌||◌, Bool, false, not, List, Option, Some, None, filter, bit_and, slice_index_or, nat_lt, int_lt, pos}
+use Rattle.std.specs.List.{list_any}
+use Rattle.sched_base.specs.declared.UnitId.{UnitId}
+use Rattle.sched_base.specs.declared.Cores.{Cores}
+use Rattle.sched_base.specs.declared.Moment.{Moment}
+use Rattle.sched_model.specs.Places.{at_place, is_unit, numbered}
+use Rattle.sched_model.specs.State.{Scheduler, Records, Credit2Domain, RtdsUnit, has_core}
+use Rattle.sched_model.specs.declared.state.Records.TheVariants.{Credit2Pool, RtdsPool, ArincPool, NullPool}
+use Rattle.sched_model.specs.Arinc.{window_unit}
+use Rattle.std.specs.Prelude.{slice_get}
+
+-- what a core asks: its unit, whether that is runnable, since when it runs, whether the core is leaving, the moment, the core, and the set of the pool's cores
+pub record Ask : Type 0 where
+  pub cur : Option UnitId
+  pub runnable : Bool
+  pub since : ℕ
+  pub leaving : Bool
+  pub at : ℕ
+  pub core : ℕ
+  pub home : ℕ
+
+-- the unit's set of cores, where these are the sets of each domain's units
+abbrev pub cores_of : List (Option (List Cores)) → UnitId → ℕ
+cores_of affinity u = elim (at_place affinity u.dom.0) [ None ↦ 0 | Some units ↦ (slice_index_or units u.n (core_set 0)).0 ]
+
+-- whether the unit may be on the core: its set has the core, or has none of the pool's cores
+abbrev pub is_allowed_by : List (Option (List Cores)) → ℕ → ℕ → UnitId → Bool
+is_allowed_by affinity home core u = has_core (cores_of affinity u) core || bit_and (cores_of affinity u) home == 0
+
+-- the same, of a unit of the scheduler
+abbrev pub is_allowed : Scheduler → ℕ → ℕ → UnitId → Bool
+is_allowed scheduler home core u = is_allowed_by scheduler.affinity home core u
+
+-- whether the cap lets the unit's domain run
+abbrev pub has_budget : Credit2Domain → Bool
+has_budget d = d.cap == 0 || int_lt (pos 0) d.budget
+
+-- the unit's record
+abbrev pub rtds_unit : List (Option (List RtdsUnit)) → UnitId → Option RtdsUnit
+rtds_unit domains u = elim (at_place domains u.dom.0) [ None ↦ None | Some units ↦ slice_get units u.n ]
+
+-- whether the null scheduler has given the core to the unit: the core is kept for it, is one of the pool, and is allowed
+abbrev pub is_placed : Scheduler → List (Option UnitId) → ℕ → ℕ → UnitId → Bool
+is_placed scheduler kept home core u = is_unit (at_place kept core) u && has_core home core && is_allowed scheduler home core u
+
+-- whether some unit is given this core
+abbrev pub is_taken : Scheduler → List (Option UnitId) → ℕ → ℕ → Bool
+is_taken scheduler kept home core = elim (at_place kept core) [ None ↦ false | Some u ↦ is_placed scheduler kept home core u ]
+
+-- whether the unit is given some core
+abbrev pub has_place : Scheduler → List (Option UnitId) → ℕ → UnitId → Bool
+has_place scheduler kept home u = list_any (λ e. is_placed scheduler kept home e.0 u) (numbered 0 kept)
+
+-- whether the scheduler's own rule lets the unit have the core at t
+abbrev pub passes : Records → Scheduler → ℕ → ℕ → ℕ → UnitId → Bool
+passes (Credit2Pool records) scheduler home core t u = elim (at_place records.domains u.dom.0) [ None ↦ false | Some d ↦ has_budget d ]
+passes (RtdsPool domains) scheduler home core t u = elim (rtds_unit domains u) [ None ↦ false | Some unit ↦ nat_lt 0 unit.left ]
+passes (ArincPool records) scheduler home core t u = is_unit (window_unit records t) u
+passes (NullPool kept) scheduler home core t u = is_placed scheduler kept home core u || (not (has_place scheduler kept home u) && not (is_taken scheduler kept home core))
+
+-- whether a waiting unit is eligible for the core
+abbrev pub is_eligible : Scheduler → ℕ → ℕ → ℕ → UnitId → Bool
+is_eligible scheduler home core t u = is_allowed scheduler home core u && passes scheduler.records scheduler home core t u
+
+-- the units that are eligible for the core, in order of arrival
+abbrev pub eligible : Scheduler → ℕ → ℕ → ℕ → List UnitId
+eligible scheduler home core t = filter (is_eligible scheduler home core t) scheduler.queue
+
+-- the answer to a core: its unit, the moment at which to ask again, how many resets there were, and the scheduler's records then
+pub record Decision : Type 0 where
+  pub unit : Option UnitId
+  pub due : Option Moment
+  pub reset : ℕ
+  pub records : Records

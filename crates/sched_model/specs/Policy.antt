@@ -1,0 +1,200 @@
+-- What a scheduler decides for its pool, and what happens to its records.
+use Rattle.sched_base.specs.Numbers.{moment, span, core_set}
+use Rattle.std.specs.Prelude.{ℕ, ◌-◌, ◌^◌, ◌==◌, ◌&&◌, ◌||◌, Bool, true, false, not, List, [], ◌∷◌, ◌++◌, Option, Some, None, filter, map, replicate, nat_le, if◌then◌else◌, option_map}
+use Rattle.std.specs.List.{list_any}
+use Rattle.sched_base.specs.declared.UnitId.{UnitId}
+use Rattle.sched_base.specs.declared.Moment.{Moment}
+use Rattle.sched_base.specs.declared.Cores.{Cores}
+use Rattle.sched_model.specs.declared.config.SchedKind.{SchedKind}
+use Rattle.sched_model.specs.declared.config.SchedKind.TheVariants as kinds
+use Rattle.sched_model.specs.declared.config.PoolParams.{PoolParams}
+use Rattle.sched_model.specs.declared.config.PoolParams.TheVariants as pool_params
+use Rattle.sched_model.specs.declared.config.DomParams.{DomParams}
+use Rattle.sched_model.specs.declared.config.DomParams.TheVariants as dom_params
+use Rattle.sched_model.specs.declared.config.ParamChange.{ParamChange}
+use Rattle.sched_model.specs.declared.config.ParamChange.TheVariants as changes
+use Rattle.sched_model.specs.Places.{at_place, put_at, clear_at, change_at, change_item, has_unit, is_unit, without_unit, same_unit}
+use Rattle.sched_model.specs.State.{Scheduler, Records, Credit2Domain, RtdsUnit}
+use Rattle.sched_model.specs.declared.state.Records.TheVariants.{Credit2Pool, RtdsPool, ArincPool, NullPool}
+use Rattle.sched_model.specs.Arinc.{Window, present_window}
+use Rattle.sched_model.specs.Eligible.{Ask, Decision, is_allowed, is_eligible, rtds_unit}
+use Rattle.sched_model.specs.Credit2 as credit2
+use Rattle.sched_model.specs.Rtds as rtds
+use Rattle.sched_model.specs.NullScheduler as null
+
+-- the decision of an ARINC 653 pool: the window's unit, where it waits or goes on, up to the window's end
+abbrev pub choose_window : Ask → Scheduler → Option Window → Decision
+choose_window ask scheduler None = record { unit = None; due = None; reset = 0; records = scheduler.records }
+choose_window ask scheduler (Some window) =
+    let chosen : Option UnitId =
+    elim window.unit [
+      | None ↦ None
+      | Some u ↦ (if (is_unit ask.cur u && ask.runnable) || (has_unit scheduler.queue u && is_eligible scheduler ask.home ask.core ask.at u) then Some u else None)
+    ]
+    in record { unit = chosen; due = Some (moment window.until); reset = 0; records = scheduler.records }
+
+-- the decision of the scheduler whose records these are
+abbrev pub decision_by : Records → Ask → Scheduler → Decision
+decision_by (Credit2Pool records) ask scheduler = credit2.choose2 ask scheduler records
+decision_by (RtdsPool domains) ask scheduler = rtds.choose_rt ask scheduler domains
+decision_by (ArincPool records) ask scheduler = choose_window ask scheduler (if ask.leaving then None else present_window records ask.at)
+decision_by (NullPool kept) ask scheduler = null.choose_null ask scheduler kept
+
+-- the scheduler's decision for a core
+abbrev pub decision_of : Ask → Scheduler → Decision
+decision_of ask scheduler = decision_by scheduler.records ask scheduler
+
+-- the scheduler after its decision: the chosen unit has left the queue
+abbrev pub after_decision : Decision → Scheduler → Scheduler
+after_decision decision scheduler =
+    record scheduler { queue = elim decision.unit [ None ↦ scheduler.queue | Some u ↦ without_unit u scheduler.queue ]; records = decision.records }
+
+-- whether an eligible unit is better than the core's own
+abbrev pub is_better : Records → UnitId → ℕ → ℕ → UnitId → Bool
+is_better (Credit2Pool records) cur since t u = credit2.is_better records cur since t u
+is_better (RtdsPool domains) cur since t u = rtds.unit_before domains u cur
+is_better (ArincPool records) cur since t u = not (same_unit u cur)
+is_better (NullPool kept) cur since t u = false
+
+-- whether the core is to decide anew: a unit waits for it while it has none, or its own is not allowed, or a better one waits
+abbrev pub better_waits : Option UnitId → ℕ → ℕ → ℕ → ℕ → Scheduler → Bool
+better_waits None since t core home scheduler = list_any (is_eligible scheduler home core t) scheduler.queue
+better_waits (Some cur) since t core home scheduler =
+    not (is_allowed scheduler home core cur)
+    || list_any (λ u. is_eligible scheduler home core t u && is_better scheduler.records cur since t u) scheduler.queue
+
+-- the unit at the end of the queue
+abbrev pub enqueue : UnitId → Scheduler → Scheduler
+enqueue u scheduler = record scheduler { queue = scheduler.queue ++ u ∷ [] }
+
+-- the domain's units out of the queue
+abbrev pub dequeue_domain : ℕ → Scheduler → Scheduler
+dequeue_domain d scheduler = record scheduler { queue = filter (λ u. not (u.dom.0 == d)) scheduler.queue }
+
+-- which scheduler it is
+abbrev pub kind_of : Records → SchedKind
+kind_of (Credit2Pool records) = kinds.Credit2
+kind_of (RtdsPool domains) = kinds.Rtds
+kind_of (ArincPool records) = kinds.Arinc653
+kind_of (NullPool kept) = kinds.Null
+
+-- the records of a pool with these parameters and no domain, on a machine of so many domains and cores
+abbrev pub fresh_records : PoolParams → ℕ → ℕ → Records
+fresh_records (pool_params.Credit2 limit) domains cores = Credit2Pool (record { limit = limit; last_reset = None; domains = replicate domains None })
+fresh_records pool_params.Rtds domains cores = RtdsPool (replicate domains None)
+fresh_records (pool_params.Arinc653 frame) domains cores = ArincPool (record { frame = frame; installed = 0 })
+fresh_records pool_params.Null domains cores = NullPool (replicate cores None)
+
+-- the parameters that a pool and a domain have where none are given
+abbrev pub default_pool_params : SchedKind → PoolParams
+default_pool_params kinds.Credit2 = pool_params.Credit2 1000
+default_pool_params kinds.Rtds = pool_params.Rtds
+default_pool_params kinds.Arinc653 = pool_params.Arinc653 None
+default_pool_params kinds.Null = pool_params.Null
+
+-- the parameters of a domain that moves to a pool with these records
+abbrev pub default_dom_params : Records → DomParams
+default_dom_params (Credit2Pool records) = dom_params.Credit2 256 0
+default_dom_params (RtdsPool domains) = dom_params.Rtds (span 10000000) (span 4000000) true
+default_dom_params (ArincPool records) = dom_params.Arinc653
+default_dom_params (NullPool kept) = dom_params.Null
+
+-- a scheduler keeps its records where it is given parameters of another one
+abbrev pub joined_records : Records → DomParams → ℕ → ℕ → ℕ → Records
+joined_records (Credit2Pool records) (dom_params.Credit2 weight cap) d count t =
+    Credit2Pool (record records { domains = put_at d (credit2.fresh_domain weight cap count t) records.domains })
+joined_records (RtdsPool domains) (dom_params.Rtds period budget extra) d count t = RtdsPool (put_at d (rtds.fresh_units period.0 budget.0 extra count t) domains)
+joined_records records params d count t = records
+
+-- every core there may be
+abbrev pub all_cores : Cores
+all_cores = core_set (2 ^ 64 - 1)
+
+-- the domain d, with so many units, joins at t
+abbrev pub join : ℕ → ℕ → DomParams → ℕ → Scheduler → Scheduler
+join d count params t scheduler =
+    record scheduler { affinity = put_at d (replicate count all_cores) scheduler.affinity; records = joined_records scheduler.records params d count t }
+
+-- the records without the domain d
+abbrev pub parted_records : Records → ℕ → Records
+parted_records (Credit2Pool records) d = Credit2Pool (record records { domains = clear_at d records.domains })
+parted_records (RtdsPool domains) d = RtdsPool (clear_at d domains)
+parted_records (ArincPool records) d = ArincPool records
+parted_records (NullPool kept) d = NullPool (null.released (λ u. u.dom.0 == d) kept)
+
+-- the domain parts
+abbrev pub part : ℕ → Scheduler → Scheduler
+part d scheduler = record scheduler { affinity = clear_at d scheduler.affinity; records = parted_records scheduler.records d }
+
+-- whether the unit's deadline has come; whether the domain's refill has
+abbrev pub replenish_due : Records → ℕ → UnitId → Bool
+replenish_due (Credit2Pool records) t u = false
+replenish_due (RtdsPool domains) t u = elim (rtds_unit domains u) [ None ↦ false | Some x ↦ nat_le x.deadline t ]
+replenish_due (ArincPool records) t u = false
+replenish_due (NullPool kept) t u = false
+
+-- the moment of the domain's next refill
+abbrev pub next_refill : Records → ℕ → Option Moment
+next_refill (Credit2Pool records) d = elim (at_place records.domains d) [ None ↦ None | Some domain ↦ option_map moment domain.refill ]
+next_refill (RtdsPool domains) d = None
+next_refill (ArincPool records) d = None
+next_refill (NullPool kept) d = None
+
+-- the records after the unit is replenished at t
+abbrev pub replenish : Records → ℕ → UnitId → Records
+replenish (Credit2Pool records) t u = Credit2Pool records
+replenish (RtdsPool domains) t u = RtdsPool (rtds.change_unit u (rtds.replenish t) domains)
+replenish (ArincPool records) t u = ArincPool records
+replenish (NullPool kept) t u = NullPool kept
+
+-- the records after a refill of the domain at t
+abbrev pub refill : Records → ℕ → ℕ → Records
+refill (Credit2Pool records) t d = Credit2Pool (credit2.refilled t d records)
+refill (RtdsPool domains) t d = RtdsPool domains
+refill (ArincPool records) t d = ArincPool records
+refill (NullPool kept) t d = NullPool kept
+
+-- the unit's RTDS record; the domain's Credit2 record
+abbrev pub rtds_record : Records → UnitId → Option RtdsUnit
+rtds_record (Credit2Pool records) u = None
+rtds_record (RtdsPool domains) u = rtds_unit domains u
+rtds_record (ArincPool records) u = None
+rtds_record (NullPool kept) u = None
+
+-- the domain's Credit2 record
+abbrev pub credit2_record : Records → ℕ → Option Credit2Domain
+credit2_record (Credit2Pool records) d = at_place records.domains d
+credit2_record (RtdsPool domains) d = None
+credit2_record (ArincPool records) d = None
+credit2_record (NullPool kept) d = None
+
+-- the pool's rate limit, in microseconds
+abbrev pub rate_of : Records → ℕ
+rate_of (Credit2Pool records) = records.limit
+rate_of (RtdsPool domains) = 0
+rate_of (ArincPool records) = 0
+rate_of (NullPool kept) = 0
+
+-- the sets of cores of the domain's units, or of one of them, set
+abbrev pub pinned : Option ℕ → Cores → List Cores → List Cores
+pinned None cores units = map (λ old. cores) units
+pinned (Some n) cores units = change_item n (λ old. cores) units
+
+-- the records after a change of parameters at t; a change for another scheduler changes nothing
+abbrev pub changed_records : Records → ParamChange → ℕ → Records
+changed_records (Credit2Pool records) (changes.Dom d weight cap) t = Credit2Pool (credit2.set_domain t d.0 weight cap records)
+changed_records (Credit2Pool records) (changes.Rate limit) t = Credit2Pool (record records { limit = limit })
+changed_records (RtdsPool domains) (changes.«Unit» u period budget extra) t =
+    RtdsPool (rtds.change_unit u (λ x. record x { next_period = period.0; next_budget = budget.0; next_extra = extra }) domains)
+changed_records (ArincPool records) (changes.Frame frame) t = ArincPool (record { frame = Some frame; installed = t })
+changed_records records change t = records
+
+-- the sets of cores after a change of parameters
+abbrev pub changed_affinity : ParamChange → List (Option (List Cores)) → List (Option (List Cores))
+changed_affinity (changes.Pin d unit cores) affinity = change_at d.0 (pinned unit cores) affinity
+changed_affinity _ affinity = affinity
+
+-- the scheduler after a change of its parameters at t
+abbrev pub set_params : ParamChange → ℕ → Scheduler → Scheduler
+set_params change t scheduler =
+    record scheduler { affinity = changed_affinity change scheduler.affinity; records = changed_records scheduler.records change t }

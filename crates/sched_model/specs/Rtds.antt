@@ -1,0 +1,115 @@
+-- RTDS: the unit with the least level, and of those the least deadline, runs as long as its budget lasts.
+use Rattle.sched_base.specs.Numbers.{moment}
+use Rattle.std.specs.Prelude.{ℕ, ◌+◌, ◌-◌, ◌==◌, ◌&&◌, ◌||◌, Bool, false, List, [], ◌∷◌, Option, Some, None, nat_lt, replicate, if◌then◌else◌}
+use Rattle.sched_base.specs.declared.UnitId.{UnitId}
+use Rattle.sched_base.specs.RtdsNumbers.{burned_left, burned_level, next_deadline}
+use Rattle.sched_model.specs.Places.{change_at, change_item}
+use Rattle.sched_model.specs.State.{Scheduler, RtdsUnit}
+use Rattle.sched_model.specs.declared.state.Records.TheVariants.{RtdsPool}
+use Rattle.sched_model.specs.Eligible.{Ask, Decision, is_allowed, eligible, rtds_unit}
+
+-- the unit charged for a span
+abbrev pub burn : ℕ → RtdsUnit → RtdsUnit
+burn elapsed u = record u { left = burned_left u.left u.budget u.extra elapsed; level = burned_level u.level u.left u.extra elapsed }
+
+-- a running unit charged up to t
+abbrev pub burn_to : ℕ → RtdsUnit → RtdsUnit
+burn_to t u = elim u.burned [ None ↦ u | Some from ↦ burn (t - from) (record u { burned = Some t }) ]
+
+-- the unit with the newest parameters and a full budget, and with the first deadline after t that is whole periods after the old one
+abbrev pub renew : ℕ → RtdsUnit → RtdsUnit
+renew t u =
+    record u {
+      period = u.next_period;
+      budget = u.next_budget;
+      extra = u.next_extra;
+      deadline = next_deadline u.deadline u.next_period t;
+      left = u.next_budget;
+      level = 0;
+    }
+
+-- the replenishment of a unit at t
+abbrev pub replenish : ℕ → RtdsUnit → RtdsUnit
+replenish t u = renew t (burn_to t u)
+
+-- the unit changed by f
+abbrev pub change_unit : UnitId → (RtdsUnit → RtdsUnit) → List (Option (List RtdsUnit)) → List (Option (List RtdsUnit))
+change_unit u f domains = change_at u.dom.0 (change_item u.n f) domains
+
+-- whether the first unit runs before the second
+abbrev pub is_before : RtdsUnit → RtdsUnit → Bool
+is_before a b = nat_lt a.level b.level || (a.level == b.level && nat_lt a.deadline b.deadline)
+
+-- whether the first unit runs before the second, by their records
+abbrev pub unit_before : List (Option (List RtdsUnit)) → UnitId → UnitId → Bool
+unit_before domains u w = elim (rtds_unit domains u) [ None ↦ false | Some a ↦ elim (rtds_unit domains w) [ None ↦ false | Some b ↦ is_before a b ] ]
+
+-- the unit that runs before the others: the best so far, or one of those that follow; among equals the earlier
+abbrev pub foremost : List (Option (List RtdsUnit)) → Option UnitId → List UnitId → Option UnitId
+foremost domains best [] = best
+foremost domains None (u ∷ units) = foremost domains (Some u) units
+foremost domains (Some best) (u ∷ units) = foremost domains (Some (if unit_before domains u best then u else best)) units
+
+-- the budget that is left to the unit
+abbrev pub budget_left : List (Option (List RtdsUnit)) → UnitId → ℕ
+budget_left domains u = elim (rtds_unit domains u) [ None ↦ 0 | Some x ↦ x.left ]
+
+-- the core's own unit, where it may go on
+abbrev pub own_candidate : Ask → Scheduler → List (Option (List RtdsUnit)) → Option UnitId
+own_candidate ask scheduler domains =
+    elim ask.cur [
+      | None ↦ None
+      | Some u ↦ (if ask.runnable && is_allowed scheduler ask.home ask.core u && nat_lt 0 (budget_left domains u) then Some u else None)
+    ]
+
+-- the core's own unit charged up to t
+abbrev pub burn_cur : Option UnitId → ℕ → List (Option (List RtdsUnit)) → List (Option (List RtdsUnit))
+burn_cur None t domains = domains
+burn_cur (Some u) t domains = change_unit u (burn_to t) domains
+
+-- the unit runs from a moment, or runs no more
+abbrev pub set_running : Option ℕ → UnitId → List (Option (List RtdsUnit)) → List (Option (List RtdsUnit))
+set_running from u domains = change_unit u (λ x. record x { burned = from }) domains
+
+-- the core's own unit runs no more
+abbrev pub switch_off : Option UnitId → List (Option (List RtdsUnit)) → List (Option (List RtdsUnit))
+switch_off None domains = domains
+switch_off (Some u) domains = set_running None u domains
+
+-- the choice, after the core's own unit was charged
+abbrev pub choice : Ask → Scheduler → List (Option (List RtdsUnit)) → Option UnitId
+choice ask scheduler domains =
+    (if ask.leaving then None else foremost domains (own_candidate ask scheduler domains) (eligible (record scheduler { records = RtdsPool domains }) ask.home ask.core ask.at))
+
+-- the decision for a choice
+abbrev pub decide : Ask → List (Option (List RtdsUnit)) → Option UnitId → Decision
+decide ask domains None = record { unit = None; due = None; reset = 0; records = RtdsPool (switch_off ask.cur domains) }
+decide ask domains (Some u) =
+    record {
+      unit = Some u;
+      due = Some (moment (ask.at + budget_left domains u));
+      reset = 0;
+      records = RtdsPool (set_running (Some ask.at) u (switch_off ask.cur domains));
+    }
+
+-- the decision: the core's own unit is charged first, and then the choice is made
+abbrev pub choose_rt : Ask → Scheduler → List (Option (List RtdsUnit)) → Decision
+choose_rt ask scheduler domains =
+    let burned : List (Option (List RtdsUnit)) = burn_cur ask.cur ask.at domains in
+    decide ask burned (choice ask scheduler burned)
+
+-- the units of a domain that joins at t
+abbrev pub fresh_units : ℕ → ℕ → Bool → ℕ → ℕ → List RtdsUnit
+fresh_units period budget extra count t =
+    replicate count (record {
+      period = period;
+      budget = budget;
+      extra = extra;
+      next_period = period;
+      next_budget = budget;
+      next_extra = extra;
+      deadline = t + period;
+      left = budget;
+      level = 0;
+      burned = None;
+    })

@@ -1,0 +1,100 @@
+//! Short lists, which take no memory of their own.
+
+use arrayvec::ArrayVec;
+use std::marker::Model;
+
+/// A list of at most N items, which lie in the value itself. Contracts see the list of its items.
+#[derive(Drop)]
+pub struct Short<T, const N: usize> {
+    items: ArrayVec<T, N>,
+}
+
+impl<T, const N: usize> Model for Short<T, N> {
+    ghost use Rattle.std.specs.Prelude.{List};
+
+    ghost Value = { List T };
+
+    ghost view = { λ s. s.items.items };
+}
+
+impl<T, const N: usize> Short<T, N> {
+    ghost use Rattle.std.specs.Prelude.{◌≡◌, ◌==◌, ◌↔◌, ◌<◌, ◌≤◌, IsSome, IfSome, length, slice_index_or};
+    ghost use Rattle.std.specs.Borrow.{sem};
+    ghost use Rattle.sched_model.specs.Lent.{short_lends_get};
+
+    /// The items, at most N.
+    pub fn as_slice(&self) -> &[T]
+        ensures items { result.now ≡ self.now }
+        ensures fits { length result.now ≤ N }
+    {
+        self.items.as_slice()
+    }
+
+    /// How many items there are, at most N.
+    pub fn len(&self) -> usize
+        ensures items { result ≡ length self.now }
+        ensures fits { result ≤ N }
+    {
+        self.items.len()
+    }
+
+    /// Whether there is no item.
+    pub fn is_empty(&self) -> bool
+        ensures { result ≡ (length self.now == 0) }
+    {
+        self.items.is_empty()
+    }
+
+    /// Whether no further item has room.
+    pub fn is_full(&self) -> bool
+        ensures { result ≡ (length self.now == N) }
+    {
+        self.items.is_full()
+    }
+
+    /// The item at the place i, for writing, where there is one.
+    pub fn get_mut(&mut self, i: usize) -> Option<&mut T>
+        ensures* writes_back { sem 𝓛 (short_lends_get T.row N.row self.entry i result) }
+        ensures some { IsSome result ↔ (i < length self.old) }
+        ensures value { IfSome result (λ x. x.now ≡ slice_index_or self.old i x.now) }
+    {
+        self.items.get_mut(i)
+    }
+}
+
+impl<T: Default + Drop, const N: usize> Short<T, N> {
+    ghost use Rattle.std.specs.Prelude.{◌≡◌, ◌++◌, ◌∷◌, [], ◌<◌, length, slice_index_or, remove};
+
+    /// A list without items.
+    pub fn new() -> Self
+        ensures { result ≡ [] }
+    {
+        Short {
+            items: ArrayVec::new(),
+        }
+    }
+
+    /// Adds an item at the end.
+    pub fn push(&mut self, item: T)
+        requires { length self.old < N }
+        ensures { self.new ≡ self.old ++ item ∷ [] }
+    {
+        self.items.push(item);
+    }
+
+    /// Takes out the item at the place i; those behind it move up.
+    pub fn remove(&mut self, i: usize) -> T
+        requires { i < length self.old }
+        ensures value { result ≡ slice_index_or self.old i result }
+        ensures items { self.new ≡ remove self.old i }
+    {
+        self.items.remove(i)
+    }
+
+    /// Takes out all items.
+    pub fn clear(&mut self)
+        ensures { self.new ≡ [] }
+    {
+        self.items.clear();
+    }
+}
