@@ -8,18 +8,9 @@ use Rattle.sched_base.specs.declared.Moment.{Moment}
 use Rattle.sched_model.specs.Places.{at_place, is_unit, numbered}
 use Rattle.sched_model.specs.State.{Scheduler, Records, Credit2Domain, RtdsUnit, has_core}
 use Rattle.sched_model.specs.declared.state.Records.TheVariants.{Credit2Pool, RtdsPool, ArincPool, NullPool}
+pub use Rattle.sched_model.specs.declared.ask.Ask.{Ask}
 use Rattle.sched_model.specs.Arinc.{window_unit}
 use Rattle.std.specs.Prelude.{slice_get}
-
--- what a core asks: its unit, whether that is runnable, since when it runs, whether the core is leaving, the moment, the core, and the set of the pool's cores
-pub record Ask : Type 0 where
-  pub cur : Option UnitId
-  pub runnable : Bool
-  pub since : ℕ
-  pub leaving : Bool
-  pub at : ℕ
-  pub core : ℕ
-  pub home : ℕ
 
 -- the unit's set of cores, where these are the sets of each domain's units
 abbrev pub cores_of : List (Option (List Cores)) → UnitId → ℕ

@@ -4,6 +4,7 @@
 #![tactic(auto)]
 
 pub mod action;
+pub mod ask;
 pub mod command;
 pub mod config;
 pub mod event;

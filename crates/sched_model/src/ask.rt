@@ -1,0 +1,16 @@
+//! What a core asks its scheduler.
+
+use sched_base::UnitId;
+
+/// A core's question: its unit, whether that is runnable, since when it runs, whether the core is leaving its pool,
+/// the moment, the core, and the set of the pool's cores. Moments are in nanoseconds.
+#[derive(Clone, Copy, Debug, PartialEq, Eq)]
+pub struct Ask {
+    pub cur: Option<UnitId>,
+    pub runnable: bool,
+    pub since: u64,
+    pub leaving: bool,
+    pub at: u64,
+    pub core: u8,
+    pub home: u64,
+}
