@@ -22,16 +22,16 @@ use Rattle.sched_model.specs.Credit2 as credit2
 use Rattle.sched_model.specs.Rtds as rtds
 use Rattle.sched_model.specs.NullScheduler as null
 
--- the decision of an ARINC 653 pool: the window's unit, where it waits or goes on, up to the window's end
+-- the window's unit, where it goes on or waits
+abbrev pub choice_of_window : Ask → Scheduler → Option UnitId → Option UnitId
+choice_of_window ask scheduler None = None
+choice_of_window ask scheduler (Some u) =
+    (if (is_unit ask.cur u && ask.runnable) || (has_unit scheduler.queue u && is_eligible scheduler ask.home ask.core ask.at u) then Some u else None)
+
+-- the decision of an ARINC 653 pool: the window's choice, up to the window's end
 abbrev pub choose_window : Ask → Scheduler → Option Window → Decision
 choose_window ask scheduler None = record { unit = None; due = None; reset = 0; records = scheduler.records }
-choose_window ask scheduler (Some window) =
-    let chosen : Option UnitId =
-    elim window.unit [
-      | None ↦ None
-      | Some u ↦ (if (is_unit ask.cur u && ask.runnable) || (has_unit scheduler.queue u && is_eligible scheduler ask.home ask.core ask.at u) then Some u else None)
-    ]
-    in record { unit = chosen; due = Some (moment window.until); reset = 0; records = scheduler.records }
+choose_window ask scheduler (Some window) = record { unit = choice_of_window ask scheduler window.unit; due = Some (moment window.until); reset = 0; records = scheduler.records }
 
 -- the decision of the scheduler whose records these are
 abbrev pub decision_by : Records → Ask → Scheduler → Decision

@@ -1,0 +1,31 @@
+-- The numbers of a pool are in range.
+use Rattle.std.specs.Prelude.{◌≡◌, ◌≤◌, ℕ, List, Option, Some, None, slice_get, length}
+use Rattle.std.specs.Option.{ForSome}
+use Rattle.sched_base.specs.declared.VcpuId.{VcpuId}
+use Rattle.sched_base.specs.declared.Moment.{Moment}
+use Rattle.sched_base.specs.declared.Span.{Span}
+use Rattle.sched_model.specs.declared.state.Vcpu.{Vcpu}
+use Rattle.sched_model.specs.declared.state.Domain.{Domain}
+use Rattle.sched_model.specs.declared.state.Pool.{Pool}
+use Rattle.sched_model.specs.Places.{at_place}
+use Rattle.sched_plain.specs.Built.{IsBuilt}
+
+-- the vCPU, where these are the domains
+abbrev pub vcpu_among : List (Option Domain) → VcpuId → Option Vcpu
+vcpu_among domains v = elim (at_place domains v.dom.0) [ None ↦ None | Some d ↦ slice_get d.vcpus v.n ]
+
+-- the moment from which its work is counted, and the work left, are at most 10^13 nanoseconds
+pub record VcpuFits (v : Vcpu) : Type 0 where
+  pub started : ForSome v.started (λ (from : Moment). from.0 ≤ 10000000000000)
+  pub work_left : ForSome v.work_left (λ (work : Span). work.0 ≤ 10000000000000)
+
+-- each vCPU does, and a domain has at most 32
+pub record DomainsFit (domains : List (Option Domain)) : Type 0 where
+  pub vcpus : (v : VcpuId) → ForSome (vcpu_among domains v) VcpuFits
+  pub few : (d : ℕ) (domain : Domain) → at_place domains d ≡ Some domain → length domain.vcpus ≤ 32
+
+-- the pool is built, has at most 64 cores, and its vCPUs do
+pub record PoolFits (pool : Pool) : Type 0 where
+  pub built : IsBuilt pool.scheduler.records
+  pub cores : length pool.resources ≤ 64
+  pub domains : DomainsFit pool.domains

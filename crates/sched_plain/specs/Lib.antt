@@ -1,0 +1,4 @@
+pub mod Frames
+pub mod Built
+pub mod Fits
+pub mod Rows

@@ -1,0 +1,39 @@
+//! Which waiting units a core may take.
+
+ghost use Rattle.std.specs.Prelude.{◌≡◌, ◌<◌, slice_index_or};
+ghost use Rattle.sched_base.specs.Numbers.{core_set};
+ghost use Rattle.sched_model.specs.Eligible.{cores_of as cores_of_spec, is_allowed_by};
+
+use sched_base::UnitId;
+use sched_model::config::Pins;
+
+/// The unit's set of cores, where these are the sets of each domain's units.
+fn cores_of(affinity: &[Option<Pins>], u: UnitId) -> u64
+    ensures { result ≡ cores_of_spec affinity.now u }
+{
+    let d = u.dom.0 as usize;
+    if d >= affinity.len() {
+        return 0;
+    }
+    match &affinity[d] {
+        None => 0,
+        Some(units) => set_at(units, u.n as usize),
+    }
+}
+
+/// The set of cores at a place, and the empty one past the end.
+fn set_at(units: &Pins, n: usize) -> u64
+    ensures { result ≡ (slice_index_or units.now n (core_set 0)).0 }
+{
+    let sets = units.as_slice();
+    if n < sets.len() { sets[n].0 } else { 0 }
+}
+
+/// Whether the unit may be on the core: its set has the core, or has none of the pool's cores.
+pub fn is_allowed(affinity: &[Option<Pins>], home: u64, core: u8, u: UnitId) -> bool
+    requires { core < 64 }
+    ensures { result ≡ is_allowed_by affinity.now home core u }
+{
+    let cores = cores_of(affinity, u);
+    cores / (1u64 << core) % 2 == 1 || cores & home == 0
+}

@@ -1,0 +1,13 @@
+//! A machine that keeps the state of the definitions plainly, and scans it.
+#![tactic(auto)]
+
+pub mod arinc;
+pub mod cores;
+pub mod eligible;
+pub mod events;
+pub mod policy;
+pub mod pool;
+pub mod runnable;
+pub mod settle;
+pub mod units;
+pub mod vcpus;

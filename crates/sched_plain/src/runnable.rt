@@ -1,0 +1,42 @@
+//! Which units may run at all.
+
+ghost use Rattle.std.specs.Prelude.{◌≡◌, take, drop};
+ghost use Rattle.std.specs.List.{list_any};
+ghost use Rattle.sched_model.specs.State.{is_awake, unit_runnable, runnable_among};
+
+use sched_base::UnitId;
+use sched_model::state::{Domain, Vcpu};
+
+/// Whether one of the vCPUs from a place on, count at most, is awake.
+fn any_awake(vcpus: &[Vcpu], from: usize, count: usize) -> bool
+    ensures { result ≡ list_any is_awake (take count (drop from vcpus.now)) }
+{
+    vcpus
+        .iter()
+        .skip(from)
+        .take(count)
+        .any(|v| v.asleep_until.is_none())
+}
+
+/// Whether some vCPU of the unit with this index is awake, and its domain is neither paused nor moving. A unit has g vCPUs.
+pub fn is_unit_runnable(g: u8, domain: &Domain, n: u8) -> bool
+    ensures { result ≡ unit_runnable g domain.now n }
+{
+    !domain.paused
+        && domain.moving.is_none()
+        && any_awake(domain.vcpus.as_slice(), n as usize * g as usize, g as usize)
+}
+
+/// The same of a unit of one of these domains.
+pub fn is_runnable(g: u8, domains: &[Option<Domain>], u: UnitId) -> bool
+    ensures { result ≡ runnable_among g domains.now u }
+{
+    let d = u.dom.0 as usize;
+    if d >= domains.len() {
+        return false;
+    }
+    match &domains[d] {
+        None => false,
+        Some(domain) => is_unit_runnable(g, domain, u.n),
+    }
+}

@@ -1,0 +1,70 @@
+//! Units, and the queue in which they wait.
+
+ghost use Rattle.std.specs.Prelude.{◌≡◌, ◌<◌, ◌==◌, ◌++◌, ◌∷◌, [], length, not, filter};
+ghost use Rattle.std.specs.List.{list_any};
+ghost use Rattle.sched_model.specs.Places.{same_unit, is_unit, has_unit as has_unit_spec, without_unit};
+ghost use Rattle.sched_model.specs.Pool.{is_of_domain as is_of_domain_spec, same_choice};
+
+use sched_base::UnitId;
+use sched_model::short::Short;
+use sched_model::state::Queue;
+
+/// Whether two units are the same.
+pub fn is_same(u: UnitId, w: UnitId) -> bool
+    ensures { result ≡ same_unit u w }
+{
+    u.dom.0 == w.dom.0 && u.n == w.n
+}
+
+/// Whether the unit is the one that stands there, if any does.
+pub fn is_there(there: Option<UnitId>, u: UnitId) -> bool
+    ensures { result ≡ is_unit there u }
+{
+    match there {
+        None => false,
+        Some(w) => is_same(w, u),
+    }
+}
+
+/// Whether the choice is the unit that is there.
+pub fn is_same_choice(a: Option<UnitId>, b: Option<UnitId>) -> bool
+    ensures { result ≡ same_choice a b }
+{
+    match a {
+        None => b.is_none(),
+        Some(u) => match b {
+            None => false,
+            Some(w) => is_same(u, w),
+        },
+    }
+}
+
+/// Whether the unit that stands there, if any does, is one of the domain.
+pub fn is_of_domain(d: u8, there: Option<UnitId>) -> bool
+    ensures { result ≡ is_of_domain_spec d there }
+{
+    match there {
+        None => false,
+        Some(u) => u.dom.0 == d,
+    }
+}
+
+/// Whether the unit is among the units.
+pub fn has_unit(units: &[UnitId], u: UnitId) -> bool
+    ensures { result ≡ has_unit_spec units.now u }
+{
+    units.iter().any(|w| is_same(u, *w))
+}
+
+/// The unit is taken out of the queue.
+pub fn drop_unit(queue: &mut Queue, u: UnitId)
+    ensures { queue.new ≡ without_unit u queue.old }
+{
+    let mut kept = Short::new();
+    for w in queue.as_slice() {
+        if !is_same(u, *w) {
+            kept.push(*w);
+        }
+    }
+    *queue = kept;
+}
