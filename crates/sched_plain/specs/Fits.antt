@@ -1,6 +1,7 @@
 -- The numbers of a pool are in range.
-use Rattle.std.specs.Prelude.{◌≡◌, ◌≤◌, ℕ, List, Option, Some, None, slice_get, length}
+use Rattle.std.specs.Prelude.{◌≡◌, ◌≤◌, ◌<◌, ℕ, List, Option, Some, None, slice_get, length}
 use Rattle.std.specs.Option.{ForSome}
+use Rattle.std.specs.List.{All}
 use Rattle.sched_base.specs.declared.VcpuId.{VcpuId}
 use Rattle.sched_base.specs.declared.Moment.{Moment}
 use Rattle.sched_base.specs.declared.Span.{Span}
@@ -8,7 +9,11 @@ use Rattle.sched_model.specs.declared.state.Vcpu.{Vcpu}
 use Rattle.sched_model.specs.declared.state.Domain.{Domain}
 use Rattle.sched_model.specs.declared.state.Pool.{Pool}
 use Rattle.sched_model.specs.Places.{at_place}
+use Rattle.sched_model.specs.declared.config.DomConfig.{DomConfig}
+use Rattle.sched_model.specs.declared.machine.Machine.{Machine}
+use Rattle.sched_model.specs.declared.state.State.{State}
 use Rattle.sched_plain.specs.Built.{IsBuilt}
+use Rattle.sched_plain.specs.Moves.{EachInSize}
 
 -- the vCPU, where these are the domains
 abbrev pub vcpu_among : List (Option Domain) → VcpuId → Option Vcpu
@@ -29,3 +34,18 @@ pub record PoolFits (pool : Pool) : Type 0 where
   pub built : IsBuilt pool.scheduler.records
   pub cores : length pool.resources ≤ 64
   pub domains : DomainsFit pool.domains
+
+-- the numbers of the machine are in range
+pub record MachineFits (m : Machine) : Type 0 where
+  pub some_processor : 0 < m.config.granularity
+  pub few_siblings : m.config.granularity ≤ 4
+  pub few_processors : m.config.processors ≤ 64
+  pub few_domains : length m.config.domains ≤ 64
+  pub few_guests : All (λ (d : DomConfig). length d.guests ≤ 32) m.config.domains
+
+-- the numbers of the state are in range
+pub record StateFits (s : State) : Type 0 where
+  pub few_pools : length s.pools ≤ 16
+  pub few_free : length s.free ≤ 64
+  pub sizes : EachInSize s.pools
+  pub pools : (i : ℕ) → ForSome (at_place s.pools i) PoolFits

@@ -2,3 +2,5 @@ pub mod Frames
 pub mod Built
 pub mod Fits
 pub mod Rows
+pub mod Moves
+pub mod Search

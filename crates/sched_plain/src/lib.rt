@@ -4,7 +4,9 @@
 pub mod arinc;
 pub mod cores;
 pub mod eligible;
+pub mod enabled;
 pub mod events;
+pub mod homes;
 pub mod policy;
 pub mod pool;
 pub mod runnable;

@@ -1,0 +1,172 @@
+//! Where cores and domains are, and whether one of them is on its way.
+
+ghost use Rattle.std.specs.Prelude.{◌≡◌, ℕ, ◌+◌, ◌<◌, ◌≤◌, ◌^◌, length, is_some};
+ghost use Rattle.std.specs.List.{list_any};
+ghost use Rattle.sched_model.specs.declared.state.Resource.{Resource as ResourceRecord};
+ghost use Rattle.sched_model.specs.declared.state.Domain.{Domain as DomainRecord};
+ghost use Rattle.sched_model.specs.declared.state.Pool.{Pool as PoolRecord};
+ghost use Rattle.sched_model.specs.declared.state.FreeCore.{FreeCore as FreeCoreRecord};
+ghost use Rattle.sched_model.specs.Places.{at_place, first_place, numbered};
+ghost use Rattle.sched_model.specs.Actions.{home_of_core as home_of_core_spec, home_of_domain as home_of_domain_spec, home_of as home_of_spec};
+ghost use Rattle.sched_model.specs.Machine.{is_move_under_way as is_move_under_way_spec};
+ghost use Rattle.sched_plain.specs.Moves.{is_anything_moving, EachInSize};
+
+use sched_model::action::Action;
+use sched_model::state::{Domain, FreeCore, Pool, Resource, State};
+
+/// Whether something stands at the place.
+fn has_core(cores: &[Option<Resource>], r: usize) -> bool
+    ensures { result ≡ is_some (at_place cores.now r) }
+{
+    r < cores.len() && cores[r].is_some()
+}
+
+/// Whether something stands at the place.
+fn has_domain(domains: &[Option<Domain>], d: usize) -> bool
+    ensures { result ≡ is_some (at_place domains.now d) }
+{
+    d < domains.len() && domains[d].is_some()
+}
+
+/// The pool that has the core, where the first of these has the number i.
+fn core_home(i: usize, pools: &[Option<Pool>], r: u8) -> Option<usize>
+    requires { i + length pools.now < 2 ^ 64 }
+    ensures { result ≡ first_place i (λ (pool : PoolRecord). is_some (at_place pool.resources r)) pools.now }
+{
+    match pools {
+        [] => None,
+        [None, rest @ ..] => core_home(i + 1, rest, r),
+        [Some(pool), rest @ ..] => {
+            if has_core(pool.resources.as_slice(), r as usize) {
+                Some(i)
+            } else {
+                core_home(i + 1, rest, r)
+            }
+        }
+    }
+}
+
+/// The pool that has the domain, where the first of these has the number i.
+fn domain_home(i: usize, pools: &[Option<Pool>], d: u8) -> Option<usize>
+    requires { i + length pools.now < 2 ^ 64 }
+    ensures { result ≡ first_place i (λ (pool : PoolRecord). is_some (at_place pool.domains d)) pools.now }
+{
+    match pools {
+        [] => None,
+        [None, rest @ ..] => domain_home(i + 1, rest, d),
+        [Some(pool), rest @ ..] => {
+            if has_domain(pool.domains.as_slice(), d as usize) {
+                Some(i)
+            } else {
+                domain_home(i + 1, rest, d)
+            }
+        }
+    }
+}
+
+/// The pool that has the core.
+pub fn home_of_core(s: &State, r: u8) -> Option<usize>
+    requires { length s.now.pools ≤ 16 }
+    ensures { result ≡ home_of_core_spec s.entry.now r }
+{
+    core_home(0, s.pools.as_slice(), r)
+}
+
+/// The pool that has the domain.
+pub fn home_of_domain(s: &State, d: u8) -> Option<usize>
+    requires { length s.now.pools ≤ 16 }
+    ensures { result ≡ home_of_domain_spec s.entry.now d }
+{
+    domain_home(0, s.pools.as_slice(), d)
+}
+
+/// The pool of the action's subject.
+pub fn home_of(g: u8, s: &State, action: Action) -> Option<usize>
+    requires some { 0 < g }
+    requires few { length s.now.pools ≤ 16 }
+    ensures { result ≡ home_of_spec g s.entry.now action }
+{
+    match action {
+        Action::Stall => None,
+        Action::Xl => None,
+        Action::Moved(r) => home_of_core(s, r),
+        Action::DomMoved(d) => home_of_domain(s, d),
+        Action::Wake(v) => home_of_domain(s, v.dom.0),
+        Action::Block(p) => home_of_core(s, p / g),
+        Action::Slice(r) => home_of_core(s, r),
+        Action::Repl(u) => home_of_domain(s, u.dom.0),
+        Action::Refill(d) => home_of_domain(s, d),
+        Action::Arrive(p) => home_of_core(s, p / g),
+        Action::Decide(r) => home_of_core(s, r),
+        Action::Leave(p) => home_of_core(s, p / g),
+        Action::Save(r) => home_of_core(s, r),
+    }
+}
+
+/// Whether one of the cores is leaving, where the first of these has the number i.
+fn any_leaving(i: usize, cores: &[Option<Resource>]) -> bool
+    requires { i + length cores.now < 2 ^ 64 }
+    ensures { result ≡ list_any (λ (c : ℕ × ResourceRecord). c.1.leaving) (numbered i cores.now) }
+{
+    match cores {
+        [] => false,
+        [None, rest @ ..] => any_leaving(i + 1, rest),
+        [Some(c), rest @ ..] => c.leaving || any_leaving(i + 1, rest),
+    }
+}
+
+/// Whether one of the domains is moving, where the first of these has the number i.
+fn any_moving(i: usize, domains: &[Option<Domain>]) -> bool
+    requires { i + length domains.now < 2 ^ 64 }
+    ensures { result ≡ list_any (λ (d : ℕ × DomainRecord). is_some d.1.moving) (numbered i domains.now) }
+{
+    match domains {
+        [] => false,
+        [None, rest @ ..] => any_moving(i + 1, rest),
+        [Some(d), rest @ ..] => d.moving.is_some() || any_moving(i + 1, rest),
+    }
+}
+
+/// Whether one of the free cores is leaving, where the first of these has the number i.
+fn any_free_leaving(i: usize, free: &[Option<FreeCore>]) -> bool
+    requires { i + length free.now < 2 ^ 64 }
+    ensures { result ≡ list_any (λ (e : ℕ × FreeCoreRecord). is_some e.1.target) (numbered i free.now) }
+{
+    match free {
+        [] => false,
+        [None, rest @ ..] => any_free_leaving(i + 1, rest),
+        [Some(c), rest @ ..] => c.target.is_some() || any_free_leaving(i + 1, rest),
+    }
+}
+
+/// Whether a core or a domain of the pool is on its way.
+fn is_moving_in(pool: &Pool) -> bool
+    requires cores { length pool.now.resources ≤ 64 }
+    requires domains { length pool.now.domains ≤ 64 }
+    ensures { result ≡ is_anything_moving pool.now }
+{
+    any_leaving(0, pool.resources.as_slice()) || any_moving(0, pool.domains.as_slice())
+}
+
+/// Whether a core or a domain of one of the pools is on its way, where the first of these has the number i.
+fn any_in_pools(i: usize, pools: &[Option<Pool>]) -> bool
+    requires few { i + length pools.now < 2 ^ 64 }
+    requires sizes { EachInSize pools.now }
+    ensures { result ≡ list_any (λ (e : ℕ × PoolRecord). is_anything_moving e.1) (numbered i pools.now) }
+{
+    match pools {
+        [] => false,
+        [None, rest @ ..] => any_in_pools(i + 1, rest),
+        [Some(pool), rest @ ..] => is_moving_in(pool) || any_in_pools(i + 1, rest),
+    }
+}
+
+/// Whether a core or a domain is on its way to another pool.
+pub fn is_move_under_way(s: &State) -> bool
+    requires pools { length s.now.pools ≤ 16 }
+    requires free { length s.now.free ≤ 64 }
+    requires sizes { EachInSize s.now.pools }
+    ensures { result ≡ is_move_under_way_spec s.entry.now }
+{
+    any_in_pools(0, s.pools.as_slice()) || any_free_leaving(0, s.free.as_slice())
+}
