@@ -1,5 +1,5 @@
 -- How counts of faults compose.
-use Rattle.std.proofs.Common.{◌≡◌, ℕ, ◌+◌, ◌-◌, ◌^◌, ◌<◌, ◌≤◌, arith, refl}
+use Rattle.std.proofs.Common.{ℕ, ◌^◌, ◌<◌, ◌≤◌, arith}
 use Rattle.sched_io.specs.Faults.{Rose, one_more}
 
 -- a count that rose has risen later too
@@ -23,3 +23,6 @@ rose_one_more count fits = record { kept = omega arith; higher = λ below. omega
 -- a count that stays at 0 never rose
 pub never_rose : Rose 0 0 → ⊥
 never_rose rose = let step : 0 < 0 = rose.higher (λ e. cc) in omega arith
+
+-- what a caller's proof needs of counts of faults
+pub ruleset fault_steps = (rose_before, rose_after, never_rose)

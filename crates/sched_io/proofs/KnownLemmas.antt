@@ -46,7 +46,7 @@ pub moved_front : (done rest piece : List ℕ) (count : ℕ) → done ++ rest �
     (done ++ take count rest) ++ take (length rest - count) (drop count rest) ≡ piece
 moved_front done rest piece count whole =
     let left : take (length rest - count) (drop count rest) ≡ drop count rest =
-        rw (← length-drop count rest) (take-length (drop count rest)) in
+    rw (← length-drop count rest) (take-length (drop count rest)) in
     rw (left, append_assoc, take-append-drop) whole
 
 -- where nothing is left, all is done

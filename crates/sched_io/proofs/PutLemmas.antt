@@ -1,7 +1,6 @@
 -- How puts follow one another.
-use Rattle.std.proofs.Common.{◌≡◌, ℕ, zero, suc, ◌+◌, List, [], ◌∷◌, ap, ◌++◌, length, take, Option, Some, None, IfSome, IsSomeAnd, refl, sym, arith, append_assoc}
+use Rattle.std.proofs.Common.{◌≡◌, ℕ, zero, suc, ◌+◌, List, [], ◌∷◌, ap, ◌++◌, length, take, Option, Some, None, refl, arith, append_assoc}
 use Rattle.std.proofs.lemmas.Grind.{common_steps}
-use Rattle.std.proofs.lemmas.List.{take-append-le}
 use Rattle.std.proofs.Math.Seq.{take-append-add, take-length}
 use Rattle.sched_io.specs.Puts.{Adds, AddsPart}
 
@@ -50,3 +49,6 @@ pub part_of_whole : (first second : Option (List ℕ)) (text : List ℕ) → Add
 part_of_whole first None text whole = record { told = tt }
 part_of_whole None (Some all) text whole = absurd whole.told
 part_of_whole (Some old) (Some all) text whole = record { told = (length text, rw (whole.told, take-length) refl) }
+
+-- what a caller's proof needs of puts
+pub ruleset put_steps = (adds_nothing, adds_both, adds_then_part, part_of_more, part_of_whole)

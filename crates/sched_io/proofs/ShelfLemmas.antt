@@ -1,5 +1,5 @@
 -- What a name holds in the list of pairs is what the map has at its text.
-use Rattle.std.proofs.Common.{◌≡◌, ◌≢◌, ℕ, Bool, true, false, cond, List, [], ◌∷◌, map, Option, Some, None, refl, arith, bytes_eq, ap, sym, ◌∙◌}
+use Rattle.std.proofs.Common.{◌≡◌, ◌≢◌, ℕ, Bool, true, false, cond, List, [], ◌∷◌, map, Option, Some, refl, bytes_eq, ap, sym, ◌∙◌}
 use Rattle.std.specs.Prelude.{Vec, String}
 use Rattle.std.specs.declared.alloc.Global.{Global}
 use Rattle.std.specs.String.{string_bytes, string_cmp}
@@ -56,5 +56,5 @@ pub set_others : (key : String Global) (value : Vec ℕ Global) (old new : BTree
     (other : List ℕ) → other ≢ name → bytes_under other (plain new.entries) ≡ bytes_under other (plain old.entries)
 set_others key value old new updates name is other differs =
     let unlike : bytes_eq (string_bytes key) other ≡ false =
-        false_from_ne_true _ (λ e. differs (sym ((bytes_eq-Decides (string_bytes key) other).0 e) ∙ is)) in
+    false_from_ne_true _ (λ e. differs (sym ((bytes_eq-Decides (string_bytes key) other).0 e) ∙ is)) in
     rw (changed key value old new updates other, unlike) refl

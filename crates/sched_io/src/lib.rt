@@ -24,7 +24,7 @@ pub use mem_sink::MemSink;
 pub use mem_store::MemStore;
 pub use out_sink::OutSink;
 pub use sink::Sink;
-pub use store::{ReadErr, Store};
+pub use store::{MOST_BYTES, ReadErr, Store};
 pub use sure_sink::SureSink;
 pub use sure_store::SureStore;
 

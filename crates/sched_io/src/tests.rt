@@ -71,8 +71,14 @@ fn sure_ones_never_fail(rt: HostRuntime) -> Result<(), Fail> {
     let alloc = rt.alloc();
     let mut store = SureStore::room(alloc)?;
     store.set(alloc, "work", b"12")?;
-    assert_eq!(rt; read(&mut store, alloc, "work")?.as_slice(), b"12".as_slice());
-    assert_eq!(rt; read(&mut store, alloc, "other")?.as_slice(), b"".as_slice());
+    assert_eq!(rt;
+        read(&mut store, alloc, "work")?.as_slice(),
+        b"12".as_slice()
+    );
+    assert_eq!(rt;
+        read(&mut store, alloc, "other")?.as_slice(),
+        b"".as_slice()
+    );
     let mut sink = SureSink::room(alloc, 3)?;
     // The second piece would pass the room; from then on nothing more is kept.
     for (piece, over, kept) in [("ab", false, "ab"), ("cd", true, "ab"), ("c", true, "ab")] {
