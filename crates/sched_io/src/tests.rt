@@ -1,7 +1,6 @@
 //! Each call on its happy path, and the failures that a user of the types plans.
 
 use super::*;
-use sched_base::{Failed, NoMemory};
 use std::alloc::Global;
 use std::fmt::Display;
 use std::io::Print;
