@@ -1,0 +1,4 @@
+pub mod ShelfLemmas
+pub mod FaultLemmas
+pub mod PutLemmas
+pub mod KnownLemmas
