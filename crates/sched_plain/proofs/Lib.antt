@@ -1,2 +1,4 @@
 pub mod Places
 pub mod Deciding
+pub mod Searching
+pub mod Domains

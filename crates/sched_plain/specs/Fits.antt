@@ -1,7 +1,6 @@
 -- The numbers of a pool are in range.
 use Rattle.std.specs.Prelude.{◌≡◌, ◌≤◌, ◌<◌, ℕ, List, Option, Some, None, slice_get, length}
 use Rattle.std.specs.Option.{ForSome}
-use Rattle.std.specs.List.{All}
 use Rattle.sched_base.specs.declared.VcpuId.{VcpuId}
 use Rattle.sched_base.specs.declared.Moment.{Moment}
 use Rattle.sched_base.specs.declared.Span.{Span}
@@ -9,11 +8,11 @@ use Rattle.sched_model.specs.declared.state.Vcpu.{Vcpu}
 use Rattle.sched_model.specs.declared.state.Domain.{Domain}
 use Rattle.sched_model.specs.declared.state.Pool.{Pool}
 use Rattle.sched_model.specs.Places.{at_place}
-use Rattle.sched_model.specs.declared.config.DomConfig.{DomConfig}
 use Rattle.sched_model.specs.declared.machine.Machine.{Machine}
 use Rattle.sched_model.specs.declared.state.State.{State}
 use Rattle.sched_plain.specs.Built.{IsBuilt}
 use Rattle.sched_plain.specs.Moves.{EachInSize}
+use Rattle.sched_plain.specs.Search.{FewGuests}
 
 -- the vCPU, where these are the domains
 abbrev pub vcpu_among : List (Option Domain) → VcpuId → Option Vcpu
@@ -41,7 +40,7 @@ pub record MachineFits (m : Machine) : Type 0 where
   pub few_siblings : m.config.granularity ≤ 4
   pub few_processors : m.config.processors ≤ 64
   pub few_domains : length m.config.domains ≤ 64
-  pub few_guests : All (λ (d : DomConfig). length d.guests ≤ 32) m.config.domains
+  pub few_guests : FewGuests m.config.domains
 
 -- the numbers of the state are in range
 pub record StateFits (s : State) : Type 0 where

@@ -1,11 +1,16 @@
 -- The scan of the candidate actions.
-use Rattle.std.specs.Prelude.{ℕ, Bool, false, Some, None, slice_get, nat_le}
+use Rattle.std.specs.Prelude.{◌≤◌, ℕ, ◌++◌, Bool, false, List, [], ◌∷◌, Some, None, slice_get, nat_le, map, length}
 use Rattle.sched_model.specs.declared.action.Action.{Action}
 use Rattle.sched_model.specs.declared.action.Action.TheVariants as action
+use Rattle.sched_model.specs.declared.config.Config.{Config}
+use Rattle.sched_model.specs.declared.config.DomConfig.{DomConfig}
 use Rattle.sched_model.specs.declared.machine.Machine.{Machine}
+use Rattle.sched_model.specs.Places.{numbers_from}
+use Rattle.sched_model.specs.Opening.{core_count}
+use Rattle.sched_model.specs.Actions.{vcpus_from, units_from}
 use Rattle.sched_model.specs.declared.state.State.{State}
-use Rattle.sched_plain.specs.declared.enabled.Numbered.{Numbered}
-use Rattle.sched_plain.specs.declared.enabled.Numbered.TheVariants as kind
+use Rattle.sched_plain.specs.declared.scan.Numbered.{Numbered}
+use Rattle.sched_plain.specs.declared.scan.Numbered.TheVariants as kind
 
 -- the action of the kind whose subject has this number
 abbrev pub action_at : Numbered → ℕ → Action
@@ -26,3 +31,28 @@ stall_due m s t = elim (slice_get m.work.stalls s.next_stall) [ None ↦ false |
 -- whether the next command has come
 abbrev pub command_due : Machine → State → ℕ → Bool
 command_due m s t = elim (slice_get m.work.commands s.next_command) [ None ↦ false | Some line ↦ nat_le line.at.0 t ]
+
+-- each domain has at most 32 vCPUs
+abbrev pub FewGuests : List DomConfig → Type 0
+FewGuests [] = Unit {0}
+FewGuests (domain ∷ domains) = (length domain.guests ≤ 32) × FewGuests domains
+
+-- the stall, the command and the moves of cores
+abbrev pub moved_actions : Config → List Action
+moved_actions config = action.Stall ∷ action.Xl ∷ map action.Moved (numbers_from 0 (core_count config))
+
+-- the candidate actions up to the blocks
+abbrev pub guest_actions : Config → List Action
+guest_actions config =
+    moved_actions config ++ map action.DomMoved (numbers_from 0 (length config.domains)) ++ map action.Wake (vcpus_from 0 config.domains)
+    ++ map action.Block (numbers_from 0 config.processors)
+
+-- those up to the replenishments
+abbrev pub timed_actions : Config → List Action
+timed_actions config = guest_actions config ++ map action.Slice (numbers_from 0 (core_count config)) ++ map action.Repl (units_from config.granularity 0 config.domains)
+
+-- those up to the decisions
+abbrev pub met_actions : Config → List Action
+met_actions config =
+    timed_actions config ++ map action.Refill (numbers_from 0 (length config.domains)) ++ map action.Arrive (numbers_from 0 config.processors)
+    ++ map action.Decide (numbers_from 0 (core_count config))

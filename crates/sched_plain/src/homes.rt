@@ -2,6 +2,7 @@
 
 ghost use Rattle.std.specs.Prelude.{◌≡◌, ℕ, ◌+◌, ◌<◌, ◌≤◌, ◌^◌, length, is_some};
 ghost use Rattle.std.specs.List.{list_any};
+ghost use Rattle.std.specs.Option.{option_copied};
 ghost use Rattle.sched_model.specs.declared.state.Resource.{Resource as ResourceRecord};
 ghost use Rattle.sched_model.specs.declared.state.Domain.{Domain as DomainRecord};
 ghost use Rattle.sched_model.specs.declared.state.Pool.{Pool as PoolRecord};
@@ -78,6 +79,18 @@ pub fn home_of_domain(s: &State, d: u8) -> Option<usize>
     ensures { result ≡ home_of_domain_spec s.entry.now d }
 {
     domain_home(0, s.pools.as_slice(), d)
+}
+
+/// The pool with this number.
+pub fn pool_at(s: &State, i: usize) -> Option<&Pool>
+    ensures { option_copied result ≡ at_place s.entry.now.pools i }
+{
+    let pools = s.pools.as_slice();
+    if i < pools.len() {
+        pools[i].as_ref()
+    } else {
+        None
+    }
 }
 
 /// The pool of the action's subject.

@@ -10,6 +10,7 @@ pub mod homes;
 pub mod policy;
 pub mod pool;
 pub mod runnable;
+pub mod scan;
 pub mod settle;
 pub mod units;
 pub mod vcpus;

@@ -1,0 +1,274 @@
+//! The first event of the whole machine that may come at t, by a scan of the candidates in order.
+
+ghost use Rattle.std.specs.Prelude.{◌≡◌, ℕ, ◌+◌, ◌-◌, ◌/◌, ◌<◌, ◌≤◌, ◌^◌, ◌++◌, ◌∷◌, length, map, find, Some, None};
+ghost use Rattle.sched_base.specs.declared.VcpuId.{VcpuId as VcpuRecord};
+ghost use Rattle.sched_base.specs.declared.UnitId.{UnitId as UnitRecord};
+ghost use Rattle.sched_base.specs.Numbers.{domain};
+ghost use Rattle.sched_model.specs.Places.{numbers_from};
+ghost use Rattle.sched_model.specs.Opening.{core_count as core_count_spec};
+ghost use Rattle.sched_model.specs.Actions.{vcpus_from, units_from};
+ghost use Rattle.sched_model.specs.Machine.{is_enabled as is_enabled_spec, first_enabled as first_enabled_spec};
+ghost use Rattle.sched_model.specs.declared.action.Action.TheVariants as action_of;
+ghost use Rattle.sched_plain.specs.Fits.{MachineFits, StateFits};
+ghost use Rattle.sched_plain.specs.Search.{FewGuests, action_at, moved_actions, guest_actions, timed_actions, met_actions};
+
+use crate::enabled::is_enabled;
+use sched_base::{DomId, UnitId, VcpuId};
+use sched_model::action::Action;
+use sched_model::config::{Config, DomConfig};
+use sched_model::machine::Machine;
+use sched_model::state::State;
+
+/// The kinds of action whose subject is a plain number.
+#[derive(Clone, Copy, Debug, PartialEq, Eq)]
+pub enum Numbered {
+    Moved,
+    DomMoved,
+    Block,
+    Slice,
+    Refill,
+    Arrive,
+    Decide,
+    Leave,
+    Save,
+}
+
+impl Numbered {
+    /// The action of this kind whose subject has the number n.
+    fn at(self, n: u8) -> Action
+        ensures { result ≡ action_at self n }
+    {
+        match self {
+            Numbered::Moved => Action::Moved(n),
+            Numbered::DomMoved => Action::DomMoved(n),
+            Numbered::Block => Action::Block(n),
+            Numbered::Slice => Action::Slice(n),
+            Numbered::Refill => Action::Refill(n),
+            Numbered::Arrive => Action::Arrive(n),
+            Numbered::Decide => Action::Decide(n),
+            Numbered::Leave => Action::Leave(n),
+            Numbered::Save => Action::Save(n),
+        }
+    }
+}
+
+/// The first action of the kind that may come at t, among count subjects from the number n on.
+fn first_numbered(
+    m: &Machine,
+    s: &State,
+    t: u64,
+    kind: Numbered,
+    n: u8,
+    count: u8,
+) -> Option<Action>
+    requires machine { MachineFits m.now }
+    requires state { StateFits s.now }
+    requires few { n + count < 2 ^ 8 }
+    ensures { result ≡ find (is_enabled_spec m.now s.entry.now t) (map (action_at kind) (numbers_from n count)) }
+{
+    if count == 0 {
+        return None;
+    }
+    let action = kind.at(n);
+    if is_enabled(m, s, t, action) {
+        return Some(action);
+    }
+    first_numbered(m, s, t, kind, n + 1, count - 1)
+}
+
+/// The first vCPU of the domain that may wake at t, among count from the index n on.
+fn first_wake_in(m: &Machine, s: &State, t: u64, d: u8, n: u8, count: u8) -> Option<Action>
+    requires machine { MachineFits m.now }
+    requires state { StateFits s.now }
+    requires few { n + count < 2 ^ 8 }
+    ensures { result ≡ find (is_enabled_spec m.now s.entry.now t) (map action_of.Wake (map (λ k. let v : VcpuRecord = record { dom = domain d; n = k } in v) (numbers_from n count))) }
+{
+    if count == 0 {
+        return None;
+    }
+    let action = Action::Wake(VcpuId { dom: DomId(d), n });
+    if is_enabled(m, s, t, action) {
+        return Some(action);
+    }
+    first_wake_in(m, s, t, d, n + 1, count - 1)
+}
+
+/// The first unit of the domain that may be replenished at t, among count from the index n on.
+fn first_repl_in(m: &Machine, s: &State, t: u64, d: u8, n: u8, count: u8) -> Option<Action>
+    requires machine { MachineFits m.now }
+    requires state { StateFits s.now }
+    requires few { n + count < 2 ^ 8 }
+    ensures { result ≡ find (is_enabled_spec m.now s.entry.now t) (map action_of.Repl (map (λ k. let u : UnitRecord = record { dom = domain d; n = k } in u) (numbers_from n count))) }
+{
+    if count == 0 {
+        return None;
+    }
+    let action = Action::Repl(UnitId { dom: DomId(d), n });
+    if is_enabled(m, s, t, action) {
+        return Some(action);
+    }
+    first_repl_in(m, s, t, d, n + 1, count - 1)
+}
+
+/// The first vCPU that may wake at t, of these domains, of which the first has the number d.
+#[tactic(auto, using(crate::proofs::Searching::found_in_map))]
+fn first_wake(m: &Machine, s: &State, t: u64, d: u8, domains: &[DomConfig]) -> Option<Action>
+    requires machine { MachineFits m.now }
+    requires state { StateFits s.now }
+    requires guests { FewGuests domains.now }
+    requires few { d + length domains.now ≤ 64 }
+    ensures { result ≡ find (is_enabled_spec m.now s.entry.now t) (map action_of.Wake (vcpus_from d domains.now)) }
+{
+    match domains {
+        [] => None,
+        [domain, rest @ ..] => {
+            match first_wake_in(m, s, t, d, 0, domain.guests.len() as u8) {
+                Some(action) => Some(action),
+                None => first_wake(m, s, t, d + 1, rest),
+            }
+        }
+    }
+}
+
+/// The first unit that may be replenished at t, of these domains, of which the first has the number d.
+#[tactic(auto, using(crate::proofs::Searching::found_in_map))]
+fn first_repl(m: &Machine, s: &State, t: u64, d: u8, domains: &[DomConfig]) -> Option<Action>
+    requires machine { MachineFits m.now }
+    requires state { StateFits s.now }
+    requires guests { FewGuests domains.now }
+    requires few { d + length domains.now ≤ 64 }
+    ensures { result ≡ find (is_enabled_spec m.now s.entry.now t) (map action_of.Repl (units_from m.now.config.granularity d domains.now)) }
+{
+    match domains {
+        [] => None,
+        [domain, rest @ ..] => {
+            let g = m.config.granularity as usize;
+            let count = (domain.guests.len() + g - 1) / g;
+            match first_repl_in(m, s, t, d, 0, count as u8) {
+                Some(action) => Some(action),
+                None => first_repl(m, s, t, d + 1, rest),
+            }
+        }
+    }
+}
+
+/// How many cores the machine has.
+fn core_count(config: &Config) -> u8
+    requires { 0 < config.now.granularity }
+    ensures { result ≡ core_count_spec config.now }
+{
+    config.processors / config.granularity
+}
+
+/// The first stall, command or move of a core that may come at t.
+#[tactic(auto, using(crate::proofs::Searching::found_in_both))]
+fn first_moved(m: &Machine, s: &State, t: u64) -> Option<Action>
+    requires machine { MachineFits m.now }
+    requires state { StateFits s.now }
+    ensures { result ≡ find (is_enabled_spec m.now s.entry.now t) (moved_actions m.now.config) }
+{
+    if is_enabled(m, s, t, Action::Stall) {
+        return Some(Action::Stall);
+    }
+    if is_enabled(m, s, t, Action::Xl) {
+        return Some(Action::Xl);
+    }
+    first_numbered(m, s, t, Numbered::Moved, 0, core_count(&m.config))
+}
+
+/// The first up to the moves of domains.
+#[tactic(auto, using(crate::proofs::Searching::found_in_both))]
+fn first_dom_moved(m: &Machine, s: &State, t: u64) -> Option<Action>
+    requires machine { MachineFits m.now }
+    requires state { StateFits s.now }
+    ensures { result ≡ find (is_enabled_spec m.now s.entry.now t) (moved_actions m.now.config ++ map action_of.DomMoved (numbers_from 0 (length m.now.config.domains))) }
+{
+    if let Some(action) = first_moved(m, s, t) {
+        return Some(action);
+    }
+    first_numbered(m, s, t, Numbered::DomMoved, 0, m.config.domains.len() as u8)
+}
+
+/// The first up to the blocks.
+#[tactic(auto, using(crate::proofs::Searching::found_in_both))]
+fn first_of_guests(m: &Machine, s: &State, t: u64) -> Option<Action>
+    requires machine { MachineFits m.now }
+    requires state { StateFits s.now }
+    ensures { result ≡ find (is_enabled_spec m.now s.entry.now t) (guest_actions m.now.config) }
+{
+    if let Some(action) = first_dom_moved(m, s, t) {
+        return Some(action);
+    }
+    if let Some(action) = first_wake(m, s, t, 0, m.config.domains.as_slice()) {
+        return Some(action);
+    }
+    first_numbered(m, s, t, Numbered::Block, 0, m.config.processors)
+}
+
+/// The first up to the replenishments.
+#[tactic(auto, using(crate::proofs::Searching::found_in_both))]
+fn first_of_timed(m: &Machine, s: &State, t: u64) -> Option<Action>
+    requires machine { MachineFits m.now }
+    requires state { StateFits s.now }
+    ensures { result ≡ find (is_enabled_spec m.now s.entry.now t) (timed_actions m.now.config) }
+{
+    if let Some(action) = first_of_guests(m, s, t) {
+        return Some(action);
+    }
+    if let Some(action) = first_numbered(m, s, t, Numbered::Slice, 0, core_count(&m.config)) {
+        return Some(action);
+    }
+    first_repl(m, s, t, 0, m.config.domains.as_slice())
+}
+
+/// The first up to the arrivals.
+#[tactic(auto, using(crate::proofs::Searching::found_in_both))]
+fn first_arrive(m: &Machine, s: &State, t: u64) -> Option<Action>
+    requires machine { MachineFits m.now }
+    requires state { StateFits s.now }
+    ensures { result ≡ find (is_enabled_spec m.now s.entry.now t) (timed_actions m.now.config ++ map action_of.Refill (numbers_from 0 (length m.now.config.domains)) ++ map action_of.Arrive (numbers_from 0 m.now.config.processors)) }
+{
+    if let Some(action) = first_of_timed(m, s, t) {
+        return Some(action);
+    }
+    if let Some(action) = first_numbered(
+        m,
+        s,
+        t,
+        Numbered::Refill,
+        0,
+        m.config.domains.len() as u8,
+    ) {
+        return Some(action);
+    }
+    first_numbered(m, s, t, Numbered::Arrive, 0, m.config.processors)
+}
+
+/// The first up to the decisions.
+#[tactic(auto, using(crate::proofs::Searching::found_in_both))]
+fn first_of_met(m: &Machine, s: &State, t: u64) -> Option<Action>
+    requires machine { MachineFits m.now }
+    requires state { StateFits s.now }
+    ensures { result ≡ find (is_enabled_spec m.now s.entry.now t) (met_actions m.now.config) }
+{
+    if let Some(action) = first_arrive(m, s, t) {
+        return Some(action);
+    }
+    first_numbered(m, s, t, Numbered::Decide, 0, core_count(&m.config))
+}
+
+/// The first action that may come at t.
+#[tactic(auto, using(crate::proofs::Searching::found_in_both))]
+pub fn first_enabled(m: &Machine, s: &State, t: u64) -> Option<Action>
+    requires machine { MachineFits m.now }
+    requires state { StateFits s.now }
+    ensures { result ≡ first_enabled_spec m.now s.entry.now t }
+{
+    if let Some(action) = first_of_met(m, s, t) {
+        return Some(action);
+    }
+    if let Some(action) = first_numbered(m, s, t, Numbered::Leave, 0, m.config.processors) {
+        return Some(action);
+    }
+    first_numbered(m, s, t, Numbered::Save, 0, core_count(&m.config))
+}
