@@ -1,0 +1,6 @@
+mod Named
+mod Awaits
+mod Rows
+mod Moments
+mod First
+mod Grows
