@@ -4,3 +4,4 @@ mod Rows
 mod Moments
 mod First
 mod Grows
+mod Ordered

@@ -1,5 +1,5 @@
 -- What the laws of runs say.
-use Rattle.std.specs.Prelude.{◌≡◌, ◌≢◌, ◌<◌, ◌++◌, ◌∷◌, ℕ, true, false, List, Option, Some, None}
+use Rattle.std.specs.Prelude.{◌≡◌, ◌≢◌, ◌<◌, [], ◌++◌, ◌∷◌, ℕ, true, false, List, Option, Some, None, ⊤}
 use Rattle.std.specs.List.{All}
 use Rattle.sched_model.specs.declared.action.Action.{Action}
 use Rattle.sched_model.specs.declared.event.Entry.{Entry}
@@ -7,7 +7,7 @@ use Rattle.sched_model.specs.declared.machine.Machine.{Machine}
 use Rattle.sched_model.specs.declared.state.State.{State}
 use Rattle.sched_model.specs.Actions.{candidates}
 use Rattle.sched_model.specs.Machine.{is_enabled, first_enabled}
-use Rattle.sched_model.specs.Runs.{IsRun, IsNext, begun, after_entries}
+use Rattle.sched_model.specs.Runs.{Reached, IsRun, IsNext, action_of, begun, after_entry, after_entries}
 
 -- the entries are a run, and the entry may come next
 pub record GoesOn (m : Machine) (entries : List Entry) (entry : Entry) : Type 0 where
@@ -41,3 +41,18 @@ pub record IsLeastLater (m : Machine) (s : State) (t n : ℕ) : Type 0 where
 abbrev pub IsNextMoment : Machine → State → ℕ → Option ℕ → Type 0
 IsNextMoment m s t None = (later : ℕ) → t < later → first_enabled m s later ≡ None
 IsNextMoment m s t (Some n) = IsLeastLater m s t n
+
+-- the action is the first one that may come, where the entry is one of an action
+abbrev pub TakesFirst : Machine → State → Option Action → Type 0
+TakesFirst m s None = ⊤
+TakesFirst m s (Some action) = first_enabled m s s.now ≡ Some action
+
+-- each entry takes the first action that may come
+abbrev pub IsOrderedFrom : Machine → Reached → List Entry → Type 0
+IsOrderedFrom m from [] = ⊤
+IsOrderedFrom m from (entry ∷ entries) = TakesFirst m from.state (action_of entry.event) × IsOrderedFrom m (after_entry m from entry) entries
+
+-- the entries are a run, and each takes the first action that may come
+pub record IsOrderedRun (m : Machine) (entries : List Entry) : Type 0 where
+  pub run : IsRun m entries
+  pub ordered : IsOrderedFrom m (begun m) entries
