@@ -6,6 +6,7 @@ mod SiblingsRuns
 mod CommandsRuns
 mod AffinityRuns
 mod NullRuns
+mod ScriptsRuns
 mod RealisticRuns
 mod FreeOrdersRuns
 mod NumbersRuns

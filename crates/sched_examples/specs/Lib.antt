@@ -7,5 +7,6 @@ pub mod Siblings
 pub mod Commands
 pub mod Affinity
 pub mod Null
+pub mod Scripts
 pub mod Realistic
 pub mod FreeOrders

@@ -139,6 +139,61 @@ entries_core_is_freed =
     at 1000000 event.Finish ∷
     []
 
+-- two cores and three units, and commands that take the core of the one that sleeps out of the pool and back
+unfoldable pub machine_core_is_kept_while_away : Machine
+machine_core_is_kept_while_away = record {
+  config = record {
+    granularity = 1;
+    processors = 2;
+    horizon = moment 10000000;
+    pools = null_pool (codes "Pool-0") 3 ∷ [];
+    domains =
+        null_domain (codes "a") 0 (forever ∷ []) ∷
+        null_domain (codes "b") 0 ((span 1000000 ∷ span 9000000 ∷ []) ∷ []) ∷
+        null_domain (codes "c") 0 (forever ∷ []) ∷
+        [];
+  };
+  work = record {
+    stalls = [];
+    commands =
+        xl 2000000 (Ok (command.CpuRemove (which.Name (codes "Pool-0")) 1)) ∷
+        xl 3000000 (Ok (command.CpuAdd (which.Name (codes "Pool-0")) 1)) ∷
+        [];
+  };
+}
+
+-- its ordered run
+unfoldable pub entries_core_is_kept_while_away : List Entry
+entries_core_is_kept_while_away =
+    at 0 (event.Arrive (processor 0)) ∷
+    at 0 (event.Arrive (processor 1)) ∷
+    at 0 (event.Decide (core 0) (Some (unit 0 0)) None (span 0) 0) ∷
+    at 0 (event.Decide (core 1) (Some (unit 1 0)) None (span 0) 0) ∷
+    at 0 (event.Leave (processor 0) (Some (vcpu 0 0))) ∷
+    at 0 (event.Leave (processor 1) (Some (vcpu 1 0))) ∷
+    at 0 (event.End (moment 1000000)) ∷
+    at 1000000 (event.Block (processor 1) (vcpu 1 0)) ∷
+    at 1000000 (event.Arrive (processor 1)) ∷
+    at 1000000 (event.Decide (core 1) None None (span 0) 0) ∷
+    at 1000000 (event.Leave (processor 1) None) ∷
+    at 1000000 (event.Save (core 1) (unit 1 0) false) ∷
+    at 1000000 (event.End (moment 2000000)) ∷
+    at 2000000 (event.Xl 1 (Ok (reply.Done))) ∷
+    at 2000000 (event.Moved (core 1) None) ∷
+    at 2000000 (event.End (moment 3000000)) ∷
+    at 3000000 (event.Xl 2 (Ok (reply.Done))) ∷
+    at 3000000 (event.Moved (core 1) (Some (pool 0))) ∷
+    at 3000000 (event.Arrive (processor 1)) ∷
+    at 3000000 (event.Decide (core 1) None None (span 0) 0) ∷
+    at 3000000 (event.Leave (processor 1) None) ∷
+    at 3000000 (event.End (moment 10000000)) ∷
+    at 10000000 (event.Wake (vcpu 1 0)) ∷
+    at 10000000 (event.Arrive (processor 1)) ∷
+    at 10000000 (event.Decide (core 1) (Some (unit 1 0)) None (span 0) 0) ∷
+    at 10000000 (event.Leave (processor 1) (Some (vcpu 1 0))) ∷
+    at 10000000 event.Finish ∷
+    []
+
 -- two cores of four processors, a domain of five vCPUs, and another domain
 unfoldable pub machine_cores_of_four : Machine
 machine_cores_of_four = record {

@@ -13,4 +13,5 @@ pub mod null;
 pub mod numbers;
 pub mod realistic;
 pub mod rtds;
+pub mod scripts;
 pub mod siblings;
