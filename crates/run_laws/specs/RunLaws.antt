@@ -14,6 +14,10 @@ pub record GoesOn (m : Machine) (entries : List Entry) (entry : Entry) : Type 0 
   pub run : IsRun m entries
   pub next : IsNext m (after_entries m (begun m) entries) entry
 
+-- the entries lead to the end of the run
+abbrev pub IsOver : Machine → List Entry → Type 0
+IsOver m entries = (after_entries m (begun m) entries).over ≡ true
+
 -- none of the actions may come at t
 abbrev pub NoneMayCome : Machine → State → ℕ → List Action → Type 0
 NoneMayCome m s t actions = All (λ a. is_enabled m s t a ≡ false) actions

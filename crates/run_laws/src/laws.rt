@@ -8,7 +8,7 @@ ghost use Rattle.sched_model.specs.declared.state.State.{State};
 ghost use Rattle.sched_model.specs.Machine.{first_enabled, is_enabled, next_moment, ordered_run};
 ghost use Rattle.sched_model.specs.Opening.{opening};
 ghost use Rattle.sched_model.specs.Runs.{IsRun, IsWholeRun};
-ghost use Rattle.run_laws.specs.RunLaws.{GoesOn, IsFirst, IsNextMoment, IsOrderedRun};
+ghost use Rattle.run_laws.specs.RunLaws.{GoesOn, IsFirst, IsNextMoment, IsOrderedRun, IsOver};
 
 /// A run goes on by an entry exactly where that entry may come next, and every beginning of a run is a run.
 pub fn law_run_grows()
@@ -16,10 +16,11 @@ pub fn law_run_grows()
     ensures beginnings { (m : Machine) (first rest : List Entry) → IsRun m (first ++ rest) → IsRun m first }
 {}
 
-/// The ordered run of every machine is a run, however many entries it is allowed, and one that needs fewer is a whole run.
+/// The ordered run of every machine is a run, however many entries it is allowed. One that is over is a whole run, and so is one that needs fewer entries.
 pub fn law_ordered_run()
     ensures run { (m : Machine) (most : ℕ) → IsRun m (ordered_run most m (opening m)) }
-    ensures whole { (m : Machine) (most : ℕ) → length (ordered_run most m (opening m)) < most → IsWholeRun m (ordered_run most m (opening m)) }
+    ensures whole { (m : Machine) (most : ℕ) → IsOver m (ordered_run most m (opening m)) → IsWholeRun m (ordered_run most m (opening m)) }
+    ensures fewer { (m : Machine) (most : ℕ) → length (ordered_run most m (opening m)) < most → IsWholeRun m (ordered_run most m (opening m)) }
 {}
 
 /// The runs in which each entry takes the first action that may come are the ordered run and its beginnings: the machine alone determines them.
