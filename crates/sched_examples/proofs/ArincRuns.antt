@@ -1,0 +1,36 @@
+-- ARINC 653 pools, computed.
+use Rattle.std.proofs.Common.{refl}
+use Rattle.sched_examples.specs.Words.{RunsAs, IsSoundFor}
+use Rattle.sched_examples.specs.Arinc.{machine_windows_of_a_frame, entries_windows_of_a_frame, machine_guest_sleeps_in_its_window, entries_guest_sleeps_in_its_window, machine_stall_over_two_frames, entries_stall_over_two_frames, machine_frames_by_command, entries_frames_by_command}
+
+pub windows_of_a_frame-run : RunsAs machine_windows_of_a_frame entries_windows_of_a_frame
+unfolding machine_windows_of_a_frame entries_windows_of_a_frame
+windows_of_a_frame-run = refl
+
+pub windows_of_a_frame-sound : IsSoundFor 39 machine_windows_of_a_frame
+unfolding machine_windows_of_a_frame
+windows_of_a_frame-sound = refl
+
+pub guest_sleeps_in_its_window-run : RunsAs machine_guest_sleeps_in_its_window entries_guest_sleeps_in_its_window
+unfolding machine_guest_sleeps_in_its_window entries_guest_sleeps_in_its_window
+guest_sleeps_in_its_window-run = refl
+
+pub guest_sleeps_in_its_window-sound : IsSoundFor 22 machine_guest_sleeps_in_its_window
+unfolding machine_guest_sleeps_in_its_window
+guest_sleeps_in_its_window-sound = refl
+
+pub stall_over_two_frames-run : RunsAs machine_stall_over_two_frames entries_stall_over_two_frames
+unfolding machine_stall_over_two_frames entries_stall_over_two_frames
+stall_over_two_frames-run = refl
+
+pub stall_over_two_frames-sound : IsSoundFor 13 machine_stall_over_two_frames
+unfolding machine_stall_over_two_frames
+stall_over_two_frames-sound = refl
+
+pub frames_by_command-run : RunsAs machine_frames_by_command entries_frames_by_command
+unfolding machine_frames_by_command entries_frames_by_command
+frames_by_command-run = refl
+
+pub frames_by_command-sound : IsSoundFor 21 machine_frames_by_command
+unfolding machine_frames_by_command
+frames_by_command-sound = refl

@@ -1,0 +1,12 @@
+mod ArincRuns
+mod RtdsRuns
+mod Credit2Runs
+mod CapsRuns
+mod SiblingsRuns
+mod CommandsRuns
+mod AffinityRuns
+mod NullRuns
+mod ScriptsRuns
+mod RealisticRuns
+mod FreeOrdersRuns
+mod NumbersRuns

@@ -1,0 +1,8 @@
+use Rattle.sched_examples.proofs.NullRuns.{core_is_kept_while_away-run, core_is_kept_while_away-sound}
+use Rattle.sched_examples.proofs.null.core_is_kept_while_away.Goals as goal
+
+pub returns-clause-run : goal.returns-clause-run
+returns-clause-run c = core_is_kept_while_away-run
+
+pub returns-clause-sound : goal.returns-clause-sound
+returns-clause-sound c = core_is_kept_while_away-sound

@@ -1,0 +1,12 @@
+pub mod Words
+pub mod Arinc
+pub mod Rtds
+pub mod Credit2
+pub mod Caps
+pub mod Siblings
+pub mod Commands
+pub mod Affinity
+pub mod Null
+pub mod Scripts
+pub mod Realistic
+pub mod FreeOrders
