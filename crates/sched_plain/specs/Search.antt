@@ -37,22 +37,46 @@ abbrev pub FewGuests : List DomConfig → Type 0
 FewGuests [] = Unit {0}
 FewGuests (domain ∷ domains) = (length domain.guests ≤ 32) × FewGuests domains
 
--- the stall, the command and the moves of cores
-abbrev pub moved_actions : Config → List Action
+-- the candidate actions up to the moves of cores
+unfoldable pub moved_actions : Config → List Action
 moved_actions config = action.Stall ∷ action.Xl ∷ map action.Moved (numbers_from 0 (core_count config))
 
--- the candidate actions up to the blocks
-abbrev pub guest_actions : Config → List Action
-guest_actions config =
-    moved_actions config ++ map action.DomMoved (numbers_from 0 (length config.domains)) ++ map action.Wake (vcpus_from 0 config.domains)
-    ++ map action.Block (numbers_from 0 config.processors)
+-- those up to the moves of domains
+unfoldable pub dom_moved_actions : Config → List Action
+dom_moved_actions config = moved_actions config ++ map action.DomMoved (numbers_from 0 (length config.domains))
+
+-- those up to the wakes
+unfoldable pub wake_actions : Config → List Action
+wake_actions config = dom_moved_actions config ++ map action.Wake (vcpus_from 0 config.domains)
+
+-- those up to the blocks
+unfoldable pub block_actions : Config → List Action
+block_actions config = wake_actions config ++ map action.Block (numbers_from 0 config.processors)
+
+-- those up to the slices
+unfoldable pub slice_actions : Config → List Action
+slice_actions config = block_actions config ++ map action.Slice (numbers_from 0 (core_count config))
 
 -- those up to the replenishments
-abbrev pub timed_actions : Config → List Action
-timed_actions config = guest_actions config ++ map action.Slice (numbers_from 0 (core_count config)) ++ map action.Repl (units_from config.granularity 0 config.domains)
+unfoldable pub repl_actions : Config → List Action
+repl_actions config = slice_actions config ++ map action.Repl (units_from config.granularity 0 config.domains)
+
+-- those up to the refills
+unfoldable pub refill_actions : Config → List Action
+refill_actions config = repl_actions config ++ map action.Refill (numbers_from 0 (length config.domains))
+
+-- those up to the arrivals
+unfoldable pub arrive_actions : Config → List Action
+arrive_actions config = refill_actions config ++ map action.Arrive (numbers_from 0 config.processors)
 
 -- those up to the decisions
-abbrev pub met_actions : Config → List Action
-met_actions config =
-    timed_actions config ++ map action.Refill (numbers_from 0 (length config.domains)) ++ map action.Arrive (numbers_from 0 config.processors)
-    ++ map action.Decide (numbers_from 0 (core_count config))
+unfoldable pub decide_actions : Config → List Action
+decide_actions config = arrive_actions config ++ map action.Decide (numbers_from 0 (core_count config))
+
+-- those up to the leaves
+unfoldable pub leave_actions : Config → List Action
+leave_actions config = decide_actions config ++ map action.Leave (numbers_from 0 config.processors)
+
+-- all of them, up to the saves
+unfoldable pub save_actions : Config → List Action
+save_actions config = leave_actions config ++ map action.Save (numbers_from 0 (core_count config))

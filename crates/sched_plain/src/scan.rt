@@ -10,7 +10,7 @@ ghost use Rattle.sched_model.specs.Actions.{vcpus_from, units_from};
 ghost use Rattle.sched_model.specs.Machine.{is_enabled as is_enabled_spec, first_enabled as first_enabled_spec};
 ghost use Rattle.sched_model.specs.declared.action.Action.TheVariants as action_of;
 ghost use Rattle.sched_plain.specs.Fits.{MachineFits, StateFits};
-ghost use Rattle.sched_plain.specs.Search.{FewGuests, action_at, moved_actions, guest_actions, timed_actions, met_actions};
+ghost use Rattle.sched_plain.specs.Search.{FewGuests, action_at, moved_actions, dom_moved_actions, wake_actions, block_actions, slice_actions, repl_actions, refill_actions, arrive_actions, decide_actions, leave_actions, save_actions};
 
 use crate::enabled::is_enabled;
 use sched_base::{DomId, UnitId, VcpuId};
@@ -161,8 +161,8 @@ fn core_count(config: &Config) -> u8
 }
 
 /// The first stall, command or move of a core that may come at t.
-#[tactic(auto, using(crate::proofs::Searching::found_in_both))]
-fn first_moved(m: &Machine, s: &State, t: u64) -> Option<Action>
+#[tactic(auto, unfolding(crate::specs::Search::moved_actions))]
+fn first_up_to_moved(m: &Machine, s: &State, t: u64) -> Option<Action>
     requires machine { MachineFits m.now }
     requires state { StateFits s.now }
     ensures { result ≡ find (is_enabled_spec m.now s.entry.now t) (moved_actions m.now.config) }
@@ -177,98 +177,140 @@ fn first_moved(m: &Machine, s: &State, t: u64) -> Option<Action>
 }
 
 /// The first up to the moves of domains.
-#[tactic(auto, using(crate::proofs::Searching::found_in_both))]
-fn first_dom_moved(m: &Machine, s: &State, t: u64) -> Option<Action>
+#[tactic(auto, using(crate::proofs::Searching::found_in_both), unfolding(crate::specs::Search::dom_moved_actions))]
+fn first_up_to_dom_moved(m: &Machine, s: &State, t: u64) -> Option<Action>
     requires machine { MachineFits m.now }
     requires state { StateFits s.now }
-    ensures { result ≡ find (is_enabled_spec m.now s.entry.now t) (moved_actions m.now.config ++ map action_of.DomMoved (numbers_from 0 (length m.now.config.domains))) }
+    ensures { result ≡ find (is_enabled_spec m.now s.entry.now t) (dom_moved_actions m.now.config) }
 {
-    if let Some(action) = first_moved(m, s, t) {
-        return Some(action);
+    match first_up_to_moved(m, s, t) {
+        Some(action) => Some(action),
+        None => first_numbered(m, s, t, Numbered::DomMoved, 0, m.config.domains.len() as u8),
     }
-    first_numbered(m, s, t, Numbered::DomMoved, 0, m.config.domains.len() as u8)
+}
+
+/// The first up to the wakes.
+#[tactic(auto, using(crate::proofs::Searching::found_in_both), unfolding(crate::specs::Search::wake_actions))]
+fn first_up_to_wake(m: &Machine, s: &State, t: u64) -> Option<Action>
+    requires machine { MachineFits m.now }
+    requires state { StateFits s.now }
+    ensures { result ≡ find (is_enabled_spec m.now s.entry.now t) (wake_actions m.now.config) }
+{
+    match first_up_to_dom_moved(m, s, t) {
+        Some(action) => Some(action),
+        None => first_wake(m, s, t, 0, m.config.domains.as_slice()),
+    }
 }
 
 /// The first up to the blocks.
-#[tactic(auto, using(crate::proofs::Searching::found_in_both))]
-fn first_of_guests(m: &Machine, s: &State, t: u64) -> Option<Action>
+#[tactic(auto, using(crate::proofs::Searching::found_in_both), unfolding(crate::specs::Search::block_actions))]
+fn first_up_to_block(m: &Machine, s: &State, t: u64) -> Option<Action>
     requires machine { MachineFits m.now }
     requires state { StateFits s.now }
-    ensures { result ≡ find (is_enabled_spec m.now s.entry.now t) (guest_actions m.now.config) }
+    ensures { result ≡ find (is_enabled_spec m.now s.entry.now t) (block_actions m.now.config) }
 {
-    if let Some(action) = first_dom_moved(m, s, t) {
-        return Some(action);
+    match first_up_to_wake(m, s, t) {
+        Some(action) => Some(action),
+        None => first_numbered(m, s, t, Numbered::Block, 0, m.config.processors),
     }
-    if let Some(action) = first_wake(m, s, t, 0, m.config.domains.as_slice()) {
-        return Some(action);
+}
+
+/// The first up to the slices.
+#[tactic(auto, using(crate::proofs::Searching::found_in_both), unfolding(crate::specs::Search::slice_actions))]
+fn first_up_to_slice(m: &Machine, s: &State, t: u64) -> Option<Action>
+    requires machine { MachineFits m.now }
+    requires state { StateFits s.now }
+    ensures { result ≡ find (is_enabled_spec m.now s.entry.now t) (slice_actions m.now.config) }
+{
+    match first_up_to_block(m, s, t) {
+        Some(action) => Some(action),
+        None => first_numbered(m, s, t, Numbered::Slice, 0, core_count(&m.config)),
     }
-    first_numbered(m, s, t, Numbered::Block, 0, m.config.processors)
 }
 
 /// The first up to the replenishments.
-#[tactic(auto, using(crate::proofs::Searching::found_in_both))]
-fn first_of_timed(m: &Machine, s: &State, t: u64) -> Option<Action>
+#[tactic(auto, using(crate::proofs::Searching::found_in_both), unfolding(crate::specs::Search::repl_actions))]
+fn first_up_to_repl(m: &Machine, s: &State, t: u64) -> Option<Action>
     requires machine { MachineFits m.now }
     requires state { StateFits s.now }
-    ensures { result ≡ find (is_enabled_spec m.now s.entry.now t) (timed_actions m.now.config) }
+    ensures { result ≡ find (is_enabled_spec m.now s.entry.now t) (repl_actions m.now.config) }
 {
-    if let Some(action) = first_of_guests(m, s, t) {
-        return Some(action);
+    match first_up_to_slice(m, s, t) {
+        Some(action) => Some(action),
+        None => first_repl(m, s, t, 0, m.config.domains.as_slice()),
     }
-    if let Some(action) = first_numbered(m, s, t, Numbered::Slice, 0, core_count(&m.config)) {
-        return Some(action);
+}
+
+/// The first up to the refills.
+#[tactic(auto, using(crate::proofs::Searching::found_in_both), unfolding(crate::specs::Search::refill_actions))]
+fn first_up_to_refill(m: &Machine, s: &State, t: u64) -> Option<Action>
+    requires machine { MachineFits m.now }
+    requires state { StateFits s.now }
+    ensures { result ≡ find (is_enabled_spec m.now s.entry.now t) (refill_actions m.now.config) }
+{
+    match first_up_to_repl(m, s, t) {
+        Some(action) => Some(action),
+        None => first_numbered(m, s, t, Numbered::Refill, 0, m.config.domains.len() as u8),
     }
-    first_repl(m, s, t, 0, m.config.domains.as_slice())
 }
 
 /// The first up to the arrivals.
-#[tactic(auto, using(crate::proofs::Searching::found_in_both))]
-fn first_arrive(m: &Machine, s: &State, t: u64) -> Option<Action>
+#[tactic(auto, using(crate::proofs::Searching::found_in_both), unfolding(crate::specs::Search::arrive_actions))]
+fn first_up_to_arrive(m: &Machine, s: &State, t: u64) -> Option<Action>
     requires machine { MachineFits m.now }
     requires state { StateFits s.now }
-    ensures { result ≡ find (is_enabled_spec m.now s.entry.now t) (timed_actions m.now.config ++ map action_of.Refill (numbers_from 0 (length m.now.config.domains)) ++ map action_of.Arrive (numbers_from 0 m.now.config.processors)) }
+    ensures { result ≡ find (is_enabled_spec m.now s.entry.now t) (arrive_actions m.now.config) }
 {
-    if let Some(action) = first_of_timed(m, s, t) {
-        return Some(action);
+    match first_up_to_refill(m, s, t) {
+        Some(action) => Some(action),
+        None => first_numbered(m, s, t, Numbered::Arrive, 0, m.config.processors),
     }
-    if let Some(action) = first_numbered(
-        m,
-        s,
-        t,
-        Numbered::Refill,
-        0,
-        m.config.domains.len() as u8,
-    ) {
-        return Some(action);
-    }
-    first_numbered(m, s, t, Numbered::Arrive, 0, m.config.processors)
 }
 
 /// The first up to the decisions.
-#[tactic(auto, using(crate::proofs::Searching::found_in_both))]
-fn first_of_met(m: &Machine, s: &State, t: u64) -> Option<Action>
+#[tactic(auto, using(crate::proofs::Searching::found_in_both), unfolding(crate::specs::Search::decide_actions))]
+fn first_up_to_decide(m: &Machine, s: &State, t: u64) -> Option<Action>
     requires machine { MachineFits m.now }
     requires state { StateFits s.now }
-    ensures { result ≡ find (is_enabled_spec m.now s.entry.now t) (met_actions m.now.config) }
+    ensures { result ≡ find (is_enabled_spec m.now s.entry.now t) (decide_actions m.now.config) }
 {
-    if let Some(action) = first_arrive(m, s, t) {
-        return Some(action);
+    match first_up_to_arrive(m, s, t) {
+        Some(action) => Some(action),
+        None => first_numbered(m, s, t, Numbered::Decide, 0, core_count(&m.config)),
     }
-    first_numbered(m, s, t, Numbered::Decide, 0, core_count(&m.config))
 }
 
-/// The first action that may come at t.
-#[tactic(auto, using(crate::proofs::Searching::found_in_both))]
+/// The first up to the leaves.
+#[tactic(auto, using(crate::proofs::Searching::found_in_both), unfolding(crate::specs::Search::leave_actions))]
+fn first_up_to_leave(m: &Machine, s: &State, t: u64) -> Option<Action>
+    requires machine { MachineFits m.now }
+    requires state { StateFits s.now }
+    ensures { result ≡ find (is_enabled_spec m.now s.entry.now t) (leave_actions m.now.config) }
+{
+    match first_up_to_decide(m, s, t) {
+        Some(action) => Some(action),
+        None => first_numbered(m, s, t, Numbered::Leave, 0, m.config.processors),
+    }
+}
+
+/// The first up to the saves.
+#[tactic(auto, using(crate::proofs::Searching::found_in_both), unfolding(crate::specs::Search::save_actions))]
+fn first_up_to_save(m: &Machine, s: &State, t: u64) -> Option<Action>
+    requires machine { MachineFits m.now }
+    requires state { StateFits s.now }
+    ensures { result ≡ find (is_enabled_spec m.now s.entry.now t) (save_actions m.now.config) }
+{
+    match first_up_to_leave(m, s, t) {
+        Some(action) => Some(action),
+        None => first_numbered(m, s, t, Numbered::Save, 0, core_count(&m.config)),
+    }
+}
+
+/// The first action that may come at t, or none exactly where none may.
 pub fn first_enabled(m: &Machine, s: &State, t: u64) -> Option<Action>
     requires machine { MachineFits m.now }
     requires state { StateFits s.now }
     ensures { result ≡ first_enabled_spec m.now s.entry.now t }
 {
-    if let Some(action) = first_of_met(m, s, t) {
-        return Some(action);
-    }
-    if let Some(action) = first_numbered(m, s, t, Numbered::Leave, 0, m.config.processors) {
-        return Some(action);
-    }
-    first_numbered(m, s, t, Numbered::Save, 0, core_count(&m.config))
+    first_up_to_save(m, s, t)
 }
