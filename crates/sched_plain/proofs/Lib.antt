@@ -2,3 +2,4 @@ pub mod Places
 pub mod Deciding
 pub mod Searching
 pub mod Domains
+pub mod FitsLemmas

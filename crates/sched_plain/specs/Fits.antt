@@ -1,6 +1,7 @@
 -- The numbers of a pool are in range.
-use Rattle.std.specs.Prelude.{◌≡◌, ◌≤◌, ◌<◌, ℕ, List, Option, Some, None, slice_get, length}
+use Rattle.std.specs.Prelude.{◌≡◌, ◌≤◌, ◌<◌, ℕ, List, [], ◌∷◌, Option, Some, None, slice_get, length}
 use Rattle.std.specs.Option.{ForSome}
+use Rattle.std.specs.List.{AllByRecursion}
 use Rattle.sched_base.specs.declared.VcpuId.{VcpuId}
 use Rattle.sched_base.specs.declared.Moment.{Moment}
 use Rattle.sched_base.specs.declared.Span.{Span}
@@ -11,7 +12,6 @@ use Rattle.sched_model.specs.Places.{at_place}
 use Rattle.sched_model.specs.declared.machine.Machine.{Machine}
 use Rattle.sched_model.specs.declared.state.State.{State}
 use Rattle.sched_plain.specs.Built.{IsBuilt}
-use Rattle.sched_plain.specs.Moves.{EachInSize}
 use Rattle.sched_plain.specs.Search.{FewGuests}
 
 -- the vCPU, where these are the domains
@@ -23,16 +23,23 @@ pub record VcpuFits (v : Vcpu) : Type 0 where
   pub started : ForSome v.started (λ (from : Moment). from.0 ≤ 10000000000000)
   pub work_left : ForSome v.work_left (λ (work : Span). work.0 ≤ 10000000000000)
 
--- each vCPU does, and a domain has at most 32
-pub record DomainsFit (domains : List (Option Domain)) : Type 0 where
-  pub vcpus : (v : VcpuId) → ForSome (vcpu_among domains v) VcpuFits
-  pub few : (d : ℕ) (domain : Domain) → at_place domains d ≡ Some domain → length domain.vcpus ≤ 32
+-- a domain has at most 32 vCPUs, and each of them does
+pub record DomainFits (domain : Domain) : Type 0 where
+  pub few : length domain.vcpus ≤ 32
+  pub vcpus : AllByRecursion VcpuFits domain.vcpus
 
--- the pool is built, has at most 64 cores, and its vCPUs do
+-- whatever stands at a place has the property
+abbrev pub AllPlaces : {X : Type 0} → (X → Type 0) → List (Option X) → Type 0
+AllPlaces P [] = Unit {0}
+AllPlaces P (None ∷ places) = AllPlaces P places
+AllPlaces P (Some x ∷ places) = P x × AllPlaces P places
+
+-- the pool is built, has places for at most 64 cores and 64 domains, and its domains fit
 pub record PoolFits (pool : Pool) : Type 0 where
   pub built : IsBuilt pool.scheduler.records
   pub cores : length pool.resources ≤ 64
-  pub domains : DomainsFit pool.domains
+  pub few_domains : length pool.domains ≤ 64
+  pub domains : AllPlaces DomainFits pool.domains
 
 -- the numbers of the machine are in range
 pub record MachineFits (m : Machine) : Type 0 where
@@ -46,5 +53,4 @@ pub record MachineFits (m : Machine) : Type 0 where
 pub record StateFits (s : State) : Type 0 where
   pub few_pools : length s.pools ≤ 16
   pub few_free : length s.free ≤ 64
-  pub sizes : EachInSize s.pools
-  pub pools : (i : ℕ) → ForSome (at_place s.pools i) PoolFits
+  pub pools : AllPlaces PoolFits s.pools

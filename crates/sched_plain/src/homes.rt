@@ -10,7 +10,8 @@ ghost use Rattle.sched_model.specs.declared.state.FreeCore.{FreeCore as FreeCore
 ghost use Rattle.sched_model.specs.Places.{at_place, first_place, numbered};
 ghost use Rattle.sched_model.specs.Actions.{home_of_core as home_of_core_spec, home_of_domain as home_of_domain_spec, home_of as home_of_spec};
 ghost use Rattle.sched_model.specs.Machine.{is_move_under_way as is_move_under_way_spec};
-ghost use Rattle.sched_plain.specs.Moves.{is_anything_moving, EachInSize};
+ghost use Rattle.sched_plain.specs.Moves.{is_anything_moving};
+ghost use Rattle.sched_plain.specs.Fits.{AllPlaces, PoolFits};
 
 use sched_model::action::Action;
 use sched_model::state::{Domain, FreeCore, Pool, Resource, State};
@@ -154,8 +155,7 @@ fn any_free_leaving(i: usize, free: &[Option<FreeCore>]) -> bool
 
 /// Whether a core or a domain of the pool is on its way.
 fn is_moving_in(pool: &Pool) -> bool
-    requires cores { length pool.now.resources ≤ 64 }
-    requires domains { length pool.now.domains ≤ 64 }
+    requires { PoolFits pool.now }
     ensures { result ≡ is_anything_moving pool.now }
 {
     any_leaving(0, pool.resources.as_slice()) || any_moving(0, pool.domains.as_slice())
@@ -164,7 +164,7 @@ fn is_moving_in(pool: &Pool) -> bool
 /// Whether a core or a domain of one of the pools is on its way, where the first of these has the number i.
 fn any_in_pools(i: usize, pools: &[Option<Pool>]) -> bool
     requires few { i + length pools.now < 2 ^ 64 }
-    requires sizes { EachInSize pools.now }
+    requires fits { AllPlaces PoolFits pools.now }
     ensures { result ≡ list_any (λ (e : ℕ × PoolRecord). is_anything_moving e.1) (numbered i pools.now) }
 {
     match pools {
@@ -178,7 +178,7 @@ fn any_in_pools(i: usize, pools: &[Option<Pool>]) -> bool
 pub fn is_move_under_way(s: &State) -> bool
     requires pools { length s.now.pools ≤ 16 }
     requires free { length s.now.free ≤ 64 }
-    requires sizes { EachInSize s.now.pools }
+    requires fits { AllPlaces PoolFits s.now.pools }
     ensures { result ≡ is_move_under_way_spec s.entry.now }
 {
     any_in_pools(0, s.pools.as_slice()) || any_free_leaving(0, s.free.as_slice())

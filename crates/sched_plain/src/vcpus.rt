@@ -7,7 +7,7 @@ ghost use Rattle.sched_model.specs.declared.state.Vcpu.{Vcpu as VcpuRecord};
 ghost use Rattle.sched_model.specs.declared.state.Domain.{Domain as DomainRecord};
 ghost use Rattle.sched_model.specs.Places.{change_at, change_item, at_place};
 ghost use Rattle.sched_model.specs.Pool.{done_at as done_at_spec, stopped, vcpu_of as vcpu_of_spec};
-ghost use Rattle.sched_plain.specs.Fits.{VcpuFits, DomainsFit, vcpu_among};
+ghost use Rattle.sched_plain.specs.Fits.{VcpuFits, vcpu_among};
 
 use sched_base::{Moment, Span, VcpuId};
 use sched_model::row::Row;

@@ -1,5 +1,6 @@
 use Rattle.std.proofs.Common.{sym}
+use Rattle.sched_plain.proofs.FitsLemmas.{at_place-fits}
 use Rattle.sched_plain.proofs.enabled.is_enabled_at.Goals as goal
 
 pub is_enabled_in-requires-clause-fits : goal.is_enabled_in-requires-clause-fits
-is_enabled_in-requires-clause-fits c = c.requires.state.pools c.args.i _ (sym c.in-Some.ensures)
+is_enabled_in-requires-clause-fits c = at_place-fits _ c.args.s.now.pools c.args.i _ c.requires.state.pools (sym c.in-Some.ensures)
