@@ -3,3 +3,4 @@ pub mod Deciding
 pub mod Searching
 pub mod Domains
 pub mod FitsLemmas
+pub mod SoonestLemmas

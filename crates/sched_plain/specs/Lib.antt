@@ -4,3 +4,4 @@ pub mod Fits
 pub mod Rows
 pub mod Moves
 pub mod Search
+pub mod Soonest

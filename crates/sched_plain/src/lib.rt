@@ -7,6 +7,7 @@ pub mod eligible;
 pub mod enabled;
 pub mod events;
 pub mod homes;
+pub mod next;
 pub mod policy;
 pub mod pool;
 pub mod runnable;
