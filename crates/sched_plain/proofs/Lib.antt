@@ -4,3 +4,7 @@ pub mod Searching
 pub mod Domains
 pub mod FitsLemmas
 pub mod SoonestLemmas
+pub mod AllPlacesLemmas
+pub mod QuietPools
+pub mod QuietEvents
+pub mod QuietDecide

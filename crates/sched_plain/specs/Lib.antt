@@ -5,3 +5,4 @@ pub mod Rows
 pub mod Moves
 pub mod Search
 pub mod Soonest
+pub mod Quiet
