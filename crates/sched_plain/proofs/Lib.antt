@@ -8,3 +8,4 @@ pub mod AllPlacesLemmas
 pub mod QuietPools
 pub mod QuietEvents
 pub mod QuietDecide
+pub mod SteadyKinds
