@@ -1,6 +1,6 @@
 -- What stands at one place, where each has the property.
 use Rattle.std.proofs.Common.{◌≡◌, ◌≤◌, ◌+◌, ◌*◌, ◌<◌, ◌∙◌, ℕ, zero, suc, List, [], ◌∷◌, length, refl, sym, ap, subst, arith}
-use Rattle.std.specs.Prelude.{Option, Some, None, slice_get}
+use Rattle.std.specs.Prelude.{Option, Some, None, slice_get, slice_index_or}
 use Rattle.std.specs.List.{AllByRecursion}
 use Rattle.sched_base.specs.declared.VcpuId.{VcpuId}
 use Rattle.sched_base.specs.declared.UnitId.{UnitId}
@@ -54,3 +54,21 @@ vcpu_for-past g pool c i u is all past =
     let v : VcpuId = record { dom = u.dom; n = u.n * g + i } in
     let none : vcpu_among pool.domains v ≡ None = vcpu_among-past pool.domains v all past in
     rw is (rw (none, vcpu_for) refl)
+
+-- a place that has something is inside
+pub at_place-inside : {X : Type 0} (places : List (Option X)) (i : ℕ) (x : X) → at_place places i ≡ Some x → i < length places
+at_place-inside [] i x there = absurd cc
+at_place-inside (y ∷ places) zero x there = omega arith
+at_place-inside (y ∷ places) (suc i) x there = let rest = at_place-inside places i x there in omega arith
+
+-- what was read at a place inside stands there
+pub at_place-item : {X : Type 0} (places : List (Option X)) (i : ℕ) (o : Option X) → i < length places → o ≡ slice_index_or places i o → at_place places i ≡ o
+at_place-item [] i o inside is = absurd (omega arith)
+at_place-item (y ∷ places) zero o inside is = sym is
+at_place-item (y ∷ places) (suc i) o inside is = at_place-item places i o (omega arith) is
+
+-- past the end nothing stands
+pub at_place-past : {X : Type 0} (places : List (Option X)) (i : ℕ) → length places ≤ i → at_place places i ≡ None
+at_place-past [] i past = refl
+at_place-past (y ∷ places) zero past = absurd (omega arith)
+at_place-past (y ∷ places) (suc i) past = at_place-past places i (omega arith)

@@ -9,3 +9,4 @@ pub mod QuietPools
 pub mod QuietEvents
 pub mod QuietDecide
 pub mod SteadyKinds
+pub mod Performing

@@ -65,16 +65,16 @@ choice-waited ask scheduler (Some u) other =
     length (queue_after chosen scheduler.queue) + one_if chosen ≤ length scheduler.queue) [
       | true ↦ λ is not_same. absurd (own ask.cur (and-left (is_unit ask.cur u) ask.runnable is) not_same)
       | false ↦ λ is not_same. elim (has_unit scheduler.queue u) as (λ b. has_unit scheduler.queue u ≡ b
-      → let chosen : Option UnitId = cond (b && is_eligible scheduler ask.home ask.core ask.at u) (Some u) None in
-      length (queue_after chosen scheduler.queue) + one_if chosen ≤ length scheduler.queue) [
-        | false ↦ λ waits. omega arith
-        | true ↦ λ waits. elim (is_eligible scheduler ask.home ask.core ask.at u) as (λ b.
-        let chosen : Option UnitId = cond b (Some u) None in
-        length (queue_after chosen scheduler.queue) + one_if chosen ≤ length scheduler.queue) [
-          | false ↦ omega arith
-          | true ↦ without-shorter u scheduler.queue waits
-        ]
-      ] refl
+          → let chosen : Option UnitId = cond (b && is_eligible scheduler ask.home ask.core ask.at u) (Some u) None in
+          length (queue_after chosen scheduler.queue) + one_if chosen ≤ length scheduler.queue) [
+            | false ↦ λ waits. omega arith
+            | true ↦ λ waits. elim (is_eligible scheduler ask.home ask.core ask.at u) as (λ b.
+                let chosen : Option UnitId = cond b (Some u) None in
+                length (queue_after chosen scheduler.queue) + one_if chosen ≤ length scheduler.queue) [
+                  | false ↦ omega arith
+                  | true ↦ without-shorter u scheduler.queue waits
+                ]
+          ] refl
     ] refl other
   where
     own : (cur : Option UnitId) → is_unit cur u ≡ true → same_choice (Some u) cur ≡ false → ⊥
@@ -177,6 +177,7 @@ quiet-decide g t r pool enabled quiet =
         same_queue : (o : Option UnitId) → length (elim o as (λ _. List UnitId) [ None ↦ pool.scheduler.queue | Some u ↦ without_unit u pool.scheduler.queue ]) ≡ length (queue_after o pool.scheduler.queue)
         same_queue None = refl
         same_queue (Some u) = refl
+
         quiet_decided : (decision : Decision) (c : Resource) → c.leaving ≡ false → QuietCore (decided t decision c)
         quiet_decided decision c stays =
             elim (same_choice decision.unit c.cur) as (λ b. QuietCore (elim b as (λ _. Resource) [

@@ -36,8 +36,8 @@ quiet-change_processor g p what pool saves quiet =
 pub quiet-arrive : (g t p : ℕ) (pool : Pool) → enabled_in g t pool (Arrive p) ≡ true → QuietPool pool → QuietPool (after_in g t pool (Arrive p))
 quiet-arrive g t p pool enabled quiet =
     let saves : (c : Resource) → at_place pool.resources (p / g) ≡ Some c → is_open c ≡ true → c.saving ≡ None = λ c there gathered.
-      is_none-none c.saving (and-right (c.pending && is_open c) (is_none c.saving)
-      (test_at-there pool.resources (p / g) (λ x. x.pending && is_open x && is_none x.saving) c (and-left _ _ enabled) there)) in
+    is_none-none c.saving (and-right (c.pending && is_open c) (is_none c.saving)
+    (test_at-there pool.resources (p / g) (λ x. x.pending && is_open x && is_none x.saving) c (and-left _ _ enabled) there)) in
     elim (guest_of g pool p) as (λ o. QuietPool (change_processor g p (does doing.Held) (elim o as (λ _. Pool) [ None ↦ pool | Some v ↦ change_vcpu v (stopped t) pool ]))) [
       | None ↦ quiet-change_processor g p doing.Held pool saves quiet
       | Some v ↦ quiet-change_processor g p doing.Held (change_vcpu v (stopped t) pool) saves (quiet-change_vcpu v (stopped t) pool (quiet_stopped t) quiet)
@@ -53,6 +53,7 @@ quiet-open_if_left r pool quiet = quiet-change_core r open_if_left pool (λ c th
           | true ↦ λ is. q
           | false ↦ λ is. record { stays = q.stays; gathers = λ held gathered. absurd cc }
         ] refl
+
     units : (c : Resource) → one_if (open_if_left c).cur + one_if (open_if_left c).saving ≤ one_if c.cur + one_if c.saving
     units c =
         elim (list_any is_held c.processors) as (λ b. let x : Resource = cond b c (record c { stage = stage.Open }) in one_if x.cur + one_if x.saving ≤ one_if c.cur + one_if c.saving) [
@@ -76,6 +77,7 @@ quiet-leave g t p pool early enabled quiet =
         clash : (b : Bool) → b ≡ true → not b ≡ true → ⊥
         clash true is isnt = cc
         clash false is isnt = cc
+
     taken : (o : Option VcpuId) → QuietPool (elim o as (λ _. Pool) [ None ↦ change_processor g p (does doing.Idle) pool | Some v ↦ started_on g t p v pool ])
     taken None = quiet-change_processor g p doing.Idle pool decided quiet
     taken (Some v) =
@@ -95,8 +97,10 @@ quiet-save g t r pool quiet =
   where
     next : Pool
     next = change_core r saved pool
+
     kept : QuietPool next
     kept = quiet-change_core r saved pool (λ c there q. record { stays = q.stays; gathers = λ held gathered. refl }) (λ c there. omega arith) quiet
+
     put_away : (c : Resource) (u : UnitId) → at_place pool.resources r ≡ Some c → c.saving ≡ Some u → (b : Bool) → QuietPool (cond b (queue_unit u next) next)
     put_away c u is some false = kept
     put_away c u is some true =

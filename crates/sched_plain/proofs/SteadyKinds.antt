@@ -84,6 +84,7 @@ module _ (g t : ℕ) (pool : Pool) (quiet : QuietPool pool) where
       middle_fails : (a b c : Bool) → b ≡ false → a && b && c ≡ false
       middle_fails true b c fails = rw fails refl
       middle_fails false b c fails = refl
+
       never_due : (records : Records) → IsBuilt records → replenish_due records t u ≡ false
       never_due (ArincPool r) built = refl
       never_due (Credit2Pool r) built = absurd built

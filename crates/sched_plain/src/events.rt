@@ -140,7 +140,6 @@ fn set_decided_at(t: u64, r: u8, answer: Decided, cores: &mut Row<Option<Resourc
 /// The core decides: its scheduler chooses, and its old unit, where it is another, is to be saved.
 pub fn decide(g: u8, t: u64, r: u8, pool: &mut Pool) -> Event
     requires enabled { IsTrue (enabled_in g t pool.old (Decide r)) }
-    requires number { r < 64 }
     requires early { t ≤ 10000000000000 }
     requires fits { PoolFits pool.old }
     ensures event { result ≡ event_in g t pool.old (Decide r) }

@@ -8,6 +8,7 @@ pub mod enabled;
 pub mod events;
 pub mod homes;
 pub mod next;
+pub mod perform;
 pub mod policy;
 pub mod pool;
 pub mod runnable;
