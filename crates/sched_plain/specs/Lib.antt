@@ -6,3 +6,4 @@ pub mod Moves
 pub mod Search
 pub mod Soonest
 pub mod Quiet
+pub mod FirstForm

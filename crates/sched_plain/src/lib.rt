@@ -6,6 +6,7 @@ pub mod cores;
 pub mod eligible;
 pub mod enabled;
 pub mod events;
+pub mod first_form;
 pub mod homes;
 pub mod next;
 pub mod perform;
