@@ -1,6 +1,6 @@
 -- Changes at one place keep what holds of every place.
-use Rattle.std.proofs.Common.{◌≡◌, ◌≤◌, ◌<◌, ◌+◌, ◌∙◌, ℕ, zero, suc, List, [], ◌∷◌, length, refl, sym, ap, subst, arith}
-use Rattle.std.specs.Prelude.{Option, Some, None, option_map, slice_set}
+use Rattle.std.proofs.Common.{◌≡◌, ℕ, zero, suc, List, [], ◌∷◌, length, refl, ap}
+use Rattle.std.specs.Prelude.{Option, Some, None, slice_set}
 use Rattle.std.specs.List.{AllByRecursion}
 use Rattle.sched_model.specs.Places.{at_place, change_at, change_each, change_item}
 use Rattle.sched_plain.specs.Fits.{AllPlaces}

@@ -1,6 +1,6 @@
 -- The search among the vCPUs and units of the domains goes on behind a domain that has none.
-use Rattle.std.proofs.Common.{◌≡◌, ◌≤◌, ◌+◌, ◌-◌, ◌/◌, ◌∙◌, ℕ, suc, Bool, List, [], ◌∷◌, ◌++◌, length, take, drop, get_or, map, refl, sym, ap, arith}
-use Rattle.std.specs.Prelude.{Option, Some, None, find}
+use Rattle.std.proofs.Common.{◌≡◌, ◌≤◌, ◌+◌, ◌-◌, ◌/◌, ◌∙◌, ℕ, suc, Bool, List, [], ◌∷◌, length, take, drop, get_or, map, sym, ap, arith}
+use Rattle.std.specs.Prelude.{Option, None, find}
 use Rattle.std.specs.Option.{option_or}
 use Rattle.std.proofs.lemmas.Grind.{common_steps}
 use Rattle.sched_base.specs.Numbers.{domain}

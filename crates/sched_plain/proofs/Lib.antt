@@ -10,3 +10,6 @@ pub mod QuietEvents
 pub mod QuietDecide
 pub mod SteadyKinds
 pub mod Performing
+pub mod Replicate
+pub mod SteadyFits
+pub mod SteadyOpened

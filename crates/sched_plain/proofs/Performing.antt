@@ -1,6 +1,6 @@
 -- What an event of a core or a processor does is done in the pool of its subject.
 use Rattle.std.proofs.Common.{◌≡◌, ◌≤◌, ◌<◌, ◌+◌, ◌∙◌, ℕ, Bool, true, false, not, ◌&&◌, List, length, refl, sym, ap, subst, arith}
-use Rattle.std.specs.Prelude.{Option, Some, None, is_none, is_some, slice_set, option_map, unwrap_or}
+use Rattle.std.specs.Prelude.{Option, Some, None, is_some, slice_set, option_map, unwrap_or}
 use Rattle.std.specs.List.{list_any}
 use Rattle.sched_model.specs.declared.action.Action.{Action}
 use Rattle.sched_model.specs.declared.action.Action.TheVariants.{Stall, Xl, Moved, DomMoved, Wake, Block, Slice, Repl, Refill, Arrive, Decide, Leave, Save}
@@ -11,7 +11,7 @@ use Rattle.sched_model.specs.declared.state.Pool.{Pool}
 use Rattle.sched_model.specs.declared.state.State.{State}
 use Rattle.sched_model.specs.Checked.{most_span}
 use Rattle.sched_model.specs.Opening.{no_pool}
-use Rattle.sched_model.specs.Places.{at_place, change_at, test_at}
+use Rattle.sched_model.specs.Places.{at_place, test_at}
 use Rattle.sched_model.specs.Pool.{enabled_in, event_in, after_in, settled, is_held, first_up}
 use Rattle.sched_model.specs.Actions.{home_of, change_pool}
 use Rattle.sched_model.specs.Machine.{is_enabled, enabled_at_home, event_of, after, after_at_home, home_pool}
@@ -19,7 +19,7 @@ use Rattle.sched_plain.specs.Built.{IsBuiltAction}
 use Rattle.sched_plain.specs.Quiet.{QuietPool, Steady, one_if, units_on}
 use Rattle.sched_plain.proofs.AllPlacesLemmas.{change_at-keeps, length-change_at}
 use Rattle.sched_plain.proofs.FitsLemmas.{at_place-fits}
-use Rattle.sched_plain.proofs.QuietPools.{and-left, and-right, test_at-there, quiet-settled, units_on-change_at}
+use Rattle.sched_plain.proofs.QuietPools.{and-left, test_at-there, quiet-settled, units_on-change_at}
 use Rattle.sched_plain.proofs.QuietEvents.{quiet-slice, quiet-arrive, quiet-leave, quiet-save}
 use Rattle.sched_plain.proofs.QuietDecide.{quiet-decide}
 use Rattle.sched_plain.proofs.SteadyKinds.{steady-kinds}

@@ -1,6 +1,6 @@
 -- A decision keeps a quiet pool quiet: a unit that is put on has left the queue.
-use Rattle.std.proofs.Common.{◌≡◌, ◌≤◌, ◌<◌, ◌+◌, ◌∙◌, ℕ, zero, suc, Bool, true, false, not, ◌&&◌, ◌||◌, ◌==◌, List, [], ◌∷◌, length, refl, sym, ap, subst, cond, arith}
-use Rattle.std.specs.Prelude.{Option, Some, None, filter, slice_set, nat_le}
+use Rattle.std.proofs.Common.{◌≡◌, ◌≤◌, ◌+◌, ℕ, zero, suc, Bool, true, false, not, ◌&&◌, ◌||◌, List, [], ◌∷◌, length, refl, sym, ap, subst, cond, arith}
+use Rattle.std.specs.Prelude.{Option, Some, None, slice_set, nat_le}
 use Rattle.std.proofs.lemmas.Bool.Decides.{nat_tests}
 use Rattle.std.specs.List.{list_any, list_all}
 use Rattle.sched_base.specs.declared.UnitId.{UnitId}
@@ -17,13 +17,13 @@ use Rattle.sched_base.specs.Numbers.{moment}
 use Rattle.sched_model.specs.Arinc.{Window, present_window}
 use Rattle.sched_model.specs.Places.{at_place, same_unit, is_unit, has_unit, without_unit}
 use Rattle.sched_model.specs.Eligible.{Decision, is_eligible}
-use Rattle.sched_model.specs.Policy.{decision_of, decision_by, choose_window, choice_of_window, after_decision}
+use Rattle.sched_model.specs.Policy.{decision_of, decision_by, choose_window, choice_of_window}
 use Rattle.sched_model.specs.Pool.{enabled_in, after_in, after_decide, ask_of, decided, same_choice, is_held, is_open, first_up}
 use Rattle.sched_plain.specs.Built.{IsBuilt}
 use Rattle.sched_plain.specs.Quiet.{QuietCore, QuietPool, one_if, units_on}
 use Rattle.sched_plain.proofs.AllPlacesLemmas.{put_at-keeps, length-put_at}
 use Rattle.sched_plain.proofs.FitsLemmas.{at_place-fits}
-use Rattle.sched_plain.proofs.QuietPools.{and-left, and-right, test_at-there, units_on-change_at}
+use Rattle.sched_plain.proofs.QuietPools.{and-left, and-right, test_at-there}
 
 -- two units are the same whichever comes first
 same_unit-sym : (u w : UnitId) → same_unit u w ≡ same_unit w u

@@ -1,23 +1,21 @@
 -- Each event that the plain machine has keeps a quiet pool quiet.
-use Rattle.std.proofs.Common.{◌≡◌, ◌≤◌, ◌<◌, ◌+◌, ◌*◌, ◌/◌, ◌%◌, ◌∙◌, ℕ, zero, suc, Bool, true, false, not, ◌&&◌, ◌||◌, List, [], ◌∷◌, ◌++◌, length, refl, sym, ap, subst, cond, arith, length-append}
-use Rattle.std.specs.Prelude.{Option, Some, None, is_none, is_some, nat_le}
-use Rattle.std.specs.List.{list_any, list_all}
+use Rattle.std.proofs.Common.{◌≡◌, ◌≤◌, ◌+◌, ◌/◌, ◌%◌, ℕ, Bool, true, false, not, ◌&&◌, [], ◌∷◌, ◌++◌, length, refl, ap, cond, arith, length-append}
+use Rattle.std.specs.Prelude.{Option, Some, None, is_none}
+use Rattle.std.specs.List.{list_any}
 use Rattle.sched_base.specs.Numbers.{moment}
 use Rattle.sched_base.specs.declared.UnitId.{UnitId}
 use Rattle.sched_base.specs.declared.VcpuId.{VcpuId}
-use Rattle.sched_model.specs.declared.state.Vcpu.{Vcpu}
-use Rattle.sched_model.specs.declared.state.Processor.{Processor}
 use Rattle.sched_model.specs.declared.state.Doing.{Doing}
 use Rattle.sched_model.specs.declared.state.Doing.TheVariants as doing
 use Rattle.sched_model.specs.declared.state.Stage.TheVariants as stage
 use Rattle.sched_model.specs.declared.state.Resource.{Resource}
 use Rattle.sched_model.specs.declared.state.Pool.{Pool}
-use Rattle.sched_model.specs.declared.action.Action.TheVariants.{Slice, Arrive, Decide, Leave, Save}
+use Rattle.sched_model.specs.declared.action.Action.TheVariants.{Slice, Arrive, Leave, Save}
 use Rattle.sched_model.specs.State.{is_runnable}
 use Rattle.sched_model.specs.Checked.{most_span}
 use Rattle.sched_model.specs.Places.{at_place, change_item}
-use Rattle.sched_model.specs.Pool.{enabled_in, after_in, change_core, change_vcpu, change_processor, does, stopped, is_held, is_open, first_up, guest_of, processor_of, open_if_left, started_on, vcpu_for, after_leave, after_save, saved, queue_unit}
-use Rattle.sched_plain.specs.Quiet.{QuietVcpu, QuietCore, QuietPool, one_if, units_on}
+use Rattle.sched_model.specs.Pool.{enabled_in, after_in, change_core, change_vcpu, change_processor, does, stopped, is_held, is_open, guest_of, open_if_left, started_on, vcpu_for, after_leave, after_save, saved, queue_unit}
+use Rattle.sched_plain.specs.Quiet.{QuietCore, QuietPool, one_if, units_on}
 use Rattle.sched_plain.proofs.QuietPools.{and-left, and-right, test_at-there, is_none-none, quiet_stopped, quiet_started, quiet-change_vcpu, quiet-change_core, units_on-change_at}
 
 -- the core's due has come

@@ -1,23 +1,19 @@
 -- The events of a quiet pool keep it quiet.
-use Rattle.std.proofs.Common.{◌≡◌, ◌≤◌, ◌<◌, ◌+◌, ◌*◌, ◌/◌, ◌%◌, ◌∙◌, ℕ, zero, suc, Bool, true, false, not, ◌&&◌, ◌||◌, ◌-◌, List, [], ◌∷◌, ◌++◌, length, refl, sym, ap, subst, cond, arith, length-append}
-use Rattle.std.specs.Prelude.{Option, Some, None, option_map, is_none, is_some, slice_set, filter}
-use Rattle.std.specs.List.{AllByRecursion, list_any, list_all}
-use Rattle.std.specs.Option.{ForSome}
+use Rattle.std.proofs.Common.{◌≡◌, ◌≤◌, ◌+◌, ℕ, zero, suc, Bool, true, false, ◌&&◌, ◌||◌, ◌-◌, List, [], ◌∷◌, length, refl, sym, ap, subst, cond, arith}
+use Rattle.std.specs.Prelude.{Option, Some, None, option_map, is_none}
 use Rattle.sched_base.specs.Numbers.{moment}
-use Rattle.sched_base.specs.declared.UnitId.{UnitId}
 use Rattle.sched_base.specs.declared.VcpuId.{VcpuId}
 use Rattle.sched_base.specs.declared.Moment.{Moment}
 use Rattle.sched_model.specs.declared.state.Vcpu.{Vcpu}
 use Rattle.sched_model.specs.declared.state.Domain.{Domain}
-use Rattle.sched_model.specs.declared.state.Processor.{Processor}
 use Rattle.sched_model.specs.declared.state.Resource.{Resource}
 use Rattle.sched_model.specs.declared.state.Scheduler.{Scheduler}
 use Rattle.sched_model.specs.declared.state.Pool.{Pool}
 use Rattle.sched_model.specs.Checked.{most_span}
 use Rattle.sched_model.specs.Places.{at_place, change_at, change_each, change_item, test_at}
 use Rattle.sched_model.specs.Policy.{better_waits}
-use Rattle.sched_model.specs.Pool.{change_core, change_vcpu, change_processor, stopped, is_held, is_open, open_if_left, reconsidered, settled, home_cores}
-use Rattle.sched_plain.specs.Fits.{AllPlaces, PoolFits, DomainFits, VcpuFits}
+use Rattle.sched_model.specs.Pool.{change_core, change_vcpu, stopped, reconsidered, settled, home_cores}
+use Rattle.sched_plain.specs.Fits.{PoolFits, DomainFits, VcpuFits}
 use Rattle.sched_plain.specs.Quiet.{QuietVcpu, QuietDomain, QuietCore, QuietPool, one_if, units_on}
 use Rattle.sched_plain.proofs.AllPlacesLemmas.{change_at-keeps, change_each-keeps, change_item-keeps, AllPlaces-weaken, AllByRecursion-weaken, length-change_item, length-change_at, length-change_each}
 

@@ -1,7 +1,6 @@
 -- In a steady state only the events of cores and processors may come.
-use Rattle.std.proofs.Common.{◌≡◌, ◌≤◌, ◌<◌, ◌+◌, ◌/◌, ◌%◌, ◌∙◌, ℕ, zero, suc, Bool, true, false, not, ◌&&◌, ◌||◌, List, [], ◌∷◌, length, refl, sym, ap, subst, arith}
-use Rattle.std.specs.Prelude.{Option, Some, None, is_none, is_some, slice_get, nat_le}
-use Rattle.std.specs.List.{list_any, AllByRecursion}
+use Rattle.std.proofs.Common.{◌≡◌, ◌+◌, ℕ, Bool, true, false, not, ◌&&◌, ◌||◌, List, refl, ap}
+use Rattle.std.specs.Prelude.{Option, Some, None, is_none, is_some, slice_get}
 use Rattle.sched_base.specs.Numbers.{moment}
 use Rattle.sched_base.specs.declared.Moment.{Moment}
 use Rattle.sched_base.specs.declared.UnitId.{UnitId}
@@ -10,11 +9,8 @@ use Rattle.sched_model.specs.declared.action.Action.{Action}
 use Rattle.sched_model.specs.declared.action.Action.TheVariants.{Stall, Xl, Moved, DomMoved, Wake, Block, Slice, Repl, Refill, Arrive, Decide, Leave, Save}
 use Rattle.sched_model.specs.declared.machine.Machine.{Machine}
 use Rattle.sched_model.specs.declared.state.Vcpu.{Vcpu}
-use Rattle.sched_model.specs.declared.state.Domain.{Domain}
 use Rattle.sched_model.specs.declared.state.Records.{Records}
 use Rattle.sched_model.specs.declared.state.Records.TheVariants.{Credit2Pool, RtdsPool, ArincPool, NullPool}
-use Rattle.sched_model.specs.declared.state.Resource.{Resource}
-use Rattle.sched_model.specs.declared.state.FreeCore.{FreeCore}
 use Rattle.sched_model.specs.declared.state.Pool.{Pool}
 use Rattle.sched_model.specs.declared.state.State.{State}
 use Rattle.sched_model.specs.State.{has_come, is_up}
@@ -24,10 +20,9 @@ use Rattle.sched_model.specs.Pool.{enabled_in, vcpu_of, done_at, guest_of, proce
 use Rattle.sched_model.specs.Actions.{home_of}
 use Rattle.sched_model.specs.Machine.{is_enabled, enabled_at_home, free_ready}
 use Rattle.sched_plain.specs.Built.{IsBuilt, IsBuiltAction}
-use Rattle.sched_plain.specs.Fits.{AllPlaces, vcpu_among}
+use Rattle.sched_plain.specs.Fits.{AllPlaces}
 use Rattle.sched_plain.specs.Quiet.{QuietVcpu, QuietDomain, QuietCore, QuietPool, IsAtRest, Steady}
 use Rattle.sched_plain.proofs.FitsLemmas.{at_place-fits, slice_get-fits}
-use Rattle.sched_plain.proofs.QuietPools.{and-left, and-right}
 
 -- a test that fails wherever something stands fails at each place
 pub test_at-fails : {X : Type 0} (P : X → Type 0) (places : List (Option X)) (i : ℕ) (test : X → Bool) → ((x : X) → P x → test x ≡ false) → AllPlaces P places → test_at places i test ≡ false

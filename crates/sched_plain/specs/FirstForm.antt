@@ -1,7 +1,6 @@
 -- The form of machine that the plain machine runs so far: one core, one ARINC 653 pool with a frame, and two domains of one endless vCPU each.
-use Rattle.std.specs.Prelude.{◌≡◌, ℕ, ◌==◌, ◌&&◌, Bool, true, false, List, [], ◌∷◌, Option, Some, None}
+use Rattle.std.specs.Prelude.{ℕ, ◌==◌, ◌&&◌, Bool, true, false, List, [], ◌∷◌, Some}
 use Rattle.sched_base.specs.Numbers.{pool}
-use Rattle.sched_base.specs.declared.Moment.{Moment}
 use Rattle.sched_base.specs.declared.Span.{Span}
 use Rattle.sched_base.specs.declared.Cores.{Cores}
 use Rattle.sched_model.specs.declared.config.Config.{Config}

@@ -7,3 +7,5 @@ pub mod Search
 pub mod Soonest
 pub mod Quiet
 pub mod FirstForm
+pub mod FirstState
+pub mod Standing

@@ -1,4 +1,4 @@
-use Rattle.std.proofs.Common.{sym, arith}
+use Rattle.std.proofs.Common.{arith}
 use Rattle.sched_plain.proofs.FitsLemmas.{vcpu_for-past}
 use Rattle.sched_plain.proofs.events.vcpu_for.Goals as goal
 

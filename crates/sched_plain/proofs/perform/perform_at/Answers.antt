@@ -1,6 +1,4 @@
-use Rattle.std.proofs.Common.{◌≡◌, ◌<◌, ◌∙◌, sym, subst, arith, length}
-use Rattle.std.specs.Prelude.{Some, None, slice_index_or}
-use Rattle.sched_model.specs.Places.{at_place}
+use Rattle.std.proofs.Common.{◌∙◌, arith}
 use Rattle.sched_plain.proofs.FitsLemmas.{at_place-item, at_place-past}
 use Rattle.sched_plain.proofs.Performing.{built-here, pool-here, enabled-here, quiet-here, event-here, state-here}
 use Rattle.sched_plain.proofs.perform.perform_at.Goals as goal

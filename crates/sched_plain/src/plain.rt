@@ -1,0 +1,111 @@
+//! The plain machine: a machine and the state that it stands in.
+
+use crate::enabled::is_enabled;
+use crate::first_form::first_form;
+use crate::next::next_moment;
+use crate::opening::opening_state;
+use crate::perform::perform;
+use crate::scan::first_enabled;
+use sched_base::{Moment, NoMemory};
+use sched_model::action::Action;
+use sched_model::event::Event;
+use sched_model::machine::Machine;
+use sched_model::state::State;
+use std::alloc::Global;
+use std::marker::Model;
+
+/// A machine, and the state that it stands in. Contracts see both.
+///
+/// It keeps the state as the definitions have it and scans it at each call. All memory is taken when it is opened.
+#[derive(Drop)]
+pub struct Plain {
+    machine: Machine,
+    state: State,
+}
+
+impl Model for Plain {
+    ghost use Rattle.sched_plain.specs.Standing.{Standing};
+
+    ghost Value = { Standing };
+
+    ghost use Rattle.sched_plain.specs.Quiet.{Steady};
+
+    ghost view = { λ p. record { machine = p.machine; state = p.state } };
+
+    ghost invariant = { λ p. Steady p.machine p.state };
+}
+
+impl Plain {
+    ghost use Rattle.std.specs.Prelude.{◌≡◌, ◌≤◌, [], true, Some, IfOk, option_map};
+    ghost use Rattle.sched_base.specs.Numbers.{moment};
+    ghost use Rattle.sched_model.specs.Opening.{opening};
+    ghost use Rattle.sched_model.specs.Checked.{IsChecked};
+    ghost use Rattle.sched_model.specs.Machine.{is_enabled as is_enabled_spec, first_enabled as first_enabled_spec, next_in_horizon, event_of, after};
+    ghost use Rattle.sched_plain.specs.FirstForm.{is_first_form};
+
+    /// The machine at its opening. Its values have passed the checks of the domain file, and so far it is of the first form:
+    /// one core, one ARINC 653 pool with a frame, two domains of one endless vCPU each, and no workload.
+    pub fn open(alloc: Global, machine: Machine) -> Result<Plain, NoMemory>
+        requires checked { IsChecked machine }
+        requires form { is_first_form machine.config ≡ true }
+        requires no_stalls { machine.work.stalls ≡ [] }
+        requires no_commands { machine.work.commands ≡ [] }
+        ensures opened { IfOk result (λ p. p ≡ record { machine = machine; state = opening machine }) }
+    {
+        match first_form(&machine.config) {
+            None => unreachable!(),
+            Some(x) => {
+                let state = opening_state(alloc, &x)?;
+                Ok(Plain { machine, state })
+            }
+        }
+    }
+
+    /// The moment that the state has come to.
+    pub fn now(&self) -> Moment
+        ensures { result ≡ moment self.now.state.now }
+    {
+        Moment(self.state.now)
+    }
+
+    /// Whether the action may come now.
+    pub fn is_enabled(&self, action: Action) -> bool
+        ensures { result ≡ is_enabled_spec self.now.machine self.now.state self.now.state.now action }
+    {
+        is_enabled(&self.machine, &self.state, self.state.now, action)
+    }
+
+    /// The first action that may come now, or none exactly where none may.
+    pub fn first_enabled(&self) -> Option<Action>
+        ensures { result ≡ first_enabled_spec self.now.machine self.now.state self.now.state.now }
+    {
+        first_enabled(&self.machine, &self.state, self.state.now)
+    }
+
+    /// Does the event of an action that may come now, and answers it with the fields that its line prints.
+    pub fn perform(&mut self, action: Action) -> Event
+        requires { is_enabled_spec self.old.machine self.old.state self.old.state.now action ≡ true }
+        ensures event { result ≡ event_of self.old.machine self.old.state self.old.state.now action }
+        ensures state { self.new ≡ record self.old { state = after self.old.machine self.old.state self.old.state.now action } }
+    {
+        perform(&self.machine, &mut self.state, action)
+    }
+
+    /// The least later moment at which something may happen, where it is at most the horizon.
+    pub fn next_moment(&self) -> Option<Moment>
+        ensures { result ≡ option_map moment (next_in_horizon self.now.machine self.now.state) }
+    {
+        match next_moment(&self.machine, &self.state, self.state.now) {
+            Some(next) if next <= self.machine.config.horizon.0 => Some(Moment(next)),
+            _ => None,
+        }
+    }
+
+    /// Goes on to the next moment.
+    pub fn pass_to(&mut self, next: Moment)
+        requires { next_in_horizon self.old.machine self.old.state ≡ Some next.0 }
+        ensures { self.new ≡ record self.old { state = record self.old.state { now = next.0 } } }
+    {
+        self.state.now = next.0;
+    }
+}
