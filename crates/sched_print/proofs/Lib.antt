@@ -1,0 +1,4 @@
+pub mod Numbers
+pub mod Again
+pub mod Newlines
+pub mod Texts

@@ -1,0 +1,5 @@
+pub mod Line
+pub mod Ranges
+pub mod Reading
+pub mod Forms
+pub mod Laws
