@@ -1,6 +1,6 @@
 -- The text of an entry is read back as that entry.
-use Rattle.std.proofs.Common.{◌≡◌, ◌<◌, ◌^◌, ℕ, List, [], ◌∷◌, ◌++◌, arith, refl, ◌∙◌, append_assoc}
-use Rattle.std.specs.Prelude.{Bool, true, false, ℤ, pos, negsuc, Option, Some, None, Result, Ok, Err, decimal}
+use Rattle.std.proofs.Common.{◌≡◌, ℕ, List, refl, append_assoc}
+use Rattle.std.specs.Prelude.{true, false, pos, negsuc, Some, None, Ok, Err, decimal}
 use Rattle.sched_base.specs.declared.Moment.{Moment}
 use Rattle.sched_model.specs.declared.config.SchedKind.TheVariants as kind
 use Rattle.sched_model.specs.declared.event.Event.{Event}

@@ -1,8 +1,7 @@
 -- The forms of the texts of entries.
-use Rattle.std.specs.Prelude.{ℕ, ℤ, pos, negsuc, ◌+◌, ◌-◌, ◌^◌, Bool, true, false, codes, Option, Some, None, Result, Ok, Err}
+use Rattle.std.specs.Prelude.{ℕ, ℤ, pos, negsuc, ◌+◌, ◌-◌, ◌^◌, Bool, true, false, codes, Option, Some, None, Ok, Err}
 use Rattle.sched_base.specs.Numbers.{moment, span, processor, core, domain, pool}
 use Rattle.sched_base.specs.declared.Moment.{Moment}
-use Rattle.sched_base.specs.declared.Span.{Span}
 use Rattle.sched_base.specs.declared.DomId.{DomId}
 use Rattle.sched_base.specs.declared.PoolId.{PoolId}
 use Rattle.sched_base.specs.declared.ProcId.{ProcId}
@@ -19,7 +18,6 @@ use Rattle.sched_model.specs.declared.event.Reply.{Reply}
 use Rattle.sched_model.specs.declared.event.Reply.TheVariants as reply
 use Rattle.sched_model.specs.declared.event.Param.{Param}
 use Rattle.sched_model.specs.declared.event.Param.TheVariants as param
-use Rattle.sched_model.specs.declared.event.Entry.{Entry}
 use Rattle.sched_print.specs.Reading.{Form, Done, Word, Number, Either}
 
 -- a text of the one form or of the other
