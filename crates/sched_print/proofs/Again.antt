@@ -11,7 +11,7 @@ use Rattle.sched_model.specs.declared.event.Param.TheVariants as param
 use Rattle.sched_model.specs.declared.event.Entry.{Entry}
 use Rattle.sched_print.specs.Line.{words, with_event}
 use Rattle.sched_print.specs.Ranges.{IsPrintable, IsPrintableEvent, IsMoment}
-use Rattle.sched_print.specs.Reading.{read}
+use Rattle.sched_print.specs.Reading.{read, word_at}
 use Rattle.sched_print.specs.Forms.{entries}
 use Rattle.sched_print.proofs.Numbers.{fits_number, fits_64, fits_32, fits_pool, fits_command, fits_below, number_at-space, number_at-last, number_at-u, number_at-v, number_at-hyphen, number_at-n, less-one}
 
@@ -19,6 +19,7 @@ use Rattle.sched_print.proofs.Numbers.{fits_number, fits_64, fits_32, fits_pool,
 ruleset digits = (number_at-space, number_at-last, number_at-u, number_at-v, number_at-hyphen, number_at-n, less-one)
 
 again_at : (t : Moment) (what : Event) (bytes : List ℕ) → IsMoment t → IsPrintableEvent what → bytes ≡ with_event (decimal t.0) what → read entries bytes ≡ Ok (record { at = t; event = what })
+unfolding word_at
 again_at t (event.Stall p until) bytes ht h e = let f = fits_number ht in let f0 = fits_64 h.0 in let f1 = fits_number h.1 in let g = simp append_assoc at e in rw g (simp digits)
 again_at t (event.Xl k (Ok reply.Done)) bytes ht h e = let f = fits_number ht in let f0 = fits_command h.0.0 h.0.1 in let g = simp append_assoc at e in rw g (simp digits)
 again_at t (event.Xl k (Ok (reply.Pools pools free))) bytes ht h e = let f = fits_number ht in let f0 = fits_command h.0.0 h.0.1 in let f1 = fits_number h.1.0 in let f2 = fits_number h.1.1 in let g = simp append_assoc at e in rw g (simp digits)

@@ -97,7 +97,7 @@ has_none_at front (event.Leave p (Some v)) h = simp (has_none-append, has_none-d
 has_none_at front (event.Save r u true) h = simp (has_none-append, has_none-decimal, h)
 has_none_at front (event.Save r u false) h = simp (has_none-append, has_none-decimal, h)
 has_none_at front (event.End next) h = simp (has_none-append, has_none-decimal, h)
-has_none_at front event.Finish h = simp (has_none-append, has_none-decimal, h)
+has_none_at front event.Finish h = simp (has_none-append, h)
 
 pub has_none-words : (e : Entry) → has_none (words e) ≡ true
 has_none-words e = has_none_at (decimal e.at.0) e.event (has_none-decimal e.at.0)

@@ -3,3 +3,4 @@ pub mod Ranges
 pub mod Reading
 pub mod Forms
 pub mod Laws
+pub mod Places

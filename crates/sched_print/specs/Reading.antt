@@ -1,6 +1,6 @@
 -- Forms of texts, and how a text is read by its form. What is not of the form leaves as many bytes as stand behind the longest
 -- beginning that some text of the form has.
-use Rattle.std.specs.Prelude.{ℕ, ◌+◌, ◌-◌, ◌*◌, ◌==◌, ◌&&◌, Bool, min, List, [], ◌∷◌, length, Result, Ok, Err, nat_lt, nat_le, if◌then◌else◌}
+use Rattle.std.specs.Prelude.{◌≡◌, ℕ, ◌+◌, ◌-◌, ◌*◌, ◌==◌, ◌&&◌, Bool, min, List, [], ◌∷◌, length, Result, Ok, Err, nat_lt, nat_le, if◌then◌else◌}
 use Rattle.sched_model.specs.declared.event.Entry.{Entry}
 
 pub data Form : Type 0 where
@@ -18,8 +18,13 @@ abbrev pub ◌>>=◌ : {A B : Type 0} → Result A ℕ → (A → Result B ℕ) 
 (Ok x) >>= f = f x
 (Err left) >>= f = Err left
 
+-- what a function returned, seen by view, is what was to be found
+abbrev pub Gives : {X Y : Type 0} → (X → Y) → Result X ℕ → Result Y ℕ → Type 0
+Gives view (Ok x) found = found ≡ Ok (view x)
+Gives view (Err left) found = found ≡ Err left
+
 -- behind the word
-abbrev pub word_at : List ℕ → List ℕ → Result (List ℕ) ℕ
+unfoldable pub word_at : List ℕ → List ℕ → Result (List ℕ) ℕ
 word_at [] bytes = Ok bytes
 word_at (c ∷ word) [] = Err 0
 word_at (c ∷ word) (b ∷ bytes) = if b == c then word_at word bytes else Err (length (b ∷ bytes))

@@ -1,6 +1,6 @@
 //! Lines from worked runs, and others by hand: one at least of each kind of entry, each refusal and each reply.
 
-use crate::{LineBuf, put_entry};
+use crate::{LineBuf, NotEntry, put_entry, read_entry};
 use sched_base::{DomId, Moment, PoolId, ProcId, ResId, Span, UnitId, VcpuId};
 use sched_model::config::SchedKind;
 use sched_model::event::{Entry, Event, Param, Refusal, Reply};
@@ -520,14 +520,25 @@ fn refusal_lines() -> [(Entry, &'static str); 25] {
     ]
 }
 
+/// Whether the entry is written as the line, and the line is read as the entry.
 fn is_written(e: &Entry, line: &str) -> bool {
     let mut out = LineBuf::new();
     put_entry(e, &mut out);
-    out.as_bytes() == line.as_bytes()
+    let bytes = line.as_bytes();
+    let without = match bytes {
+        [front @ .., b'\n'] => front,
+        _ => bytes,
+    };
+    out.as_bytes() == bytes && read_entry(without) == Ok(*e)
+}
+
+/// Whether the line is no entry, and stops to begin one behind this many bytes.
+fn stops_at(line: &str, place: u32) -> bool {
+    read_entry(line.as_bytes()) == Err(NotEntry { place })
 }
 
 #[test]
-fn entries_are_written_as_their_lines(rt: HostRuntime) {
+fn entries_are_written_as_their_lines_and_read_again(rt: HostRuntime) {
     for (e, line) in event_lines() {
         assert!(rt; is_written(&e, line), "{line}");
     }
@@ -546,4 +557,34 @@ fn a_cleared_buffer_is_written_again(rt: HostRuntime) {
     out.clear();
     put_entry(&entry(1, Event::Finish), &mut out);
     assert_eq!(rt; out.as_bytes(), b"1 finish\n".as_slice());
+}
+
+#[test]
+fn other_lines_are_refused_at_their_place(rt: HostRuntime) {
+    let lines = [
+        ("", 0),
+        ("00 finish", 1),
+        ("0 finish ", 8),
+        ("0 arrive p64", 11),
+        ("0 xl 4097 ok", 8),
+        ("0 xl 0 ok", 5),
+        ("0 refill d0 periods 1 budget -0", 30),
+        ("9223372036854775808 finish", 18),
+        ("-1 finish", 0),
+        ("0  finish", 2),
+        ("0 finis", 7),
+        ("0 finish\n", 8),
+        ("0 xl 1 refused 2 NoCpu cpu 1", 19),
+        ("0 xl 1 refused 18 NoVcpu", 16),
+        ("0 xl 1 refused 3 NameTaken pool 16", 33),
+        ("0 xl 1 ok pool 1 rtd cpus 1 domains 1", 20),
+        ("0 repl d0u32 start 0 deadline 1 budget 1 extra 0", 11),
+        ("0 repl d0u0 start 0 deadline 1 budget 1 extra 2", 46),
+        ("0 decide c0 d0u0 due idle late 0 reset 0", 21),
+        ("0 save c0 d0u0 on", 16),
+        ("0 moved c0 pool 1 ", 17),
+    ];
+    for (line, place) in lines {
+        assert!(rt; stops_at(line, place), "{line}");
+    }
 }
