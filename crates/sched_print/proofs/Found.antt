@@ -1,12 +1,11 @@
 -- What reading the front of a line says of the line.
-use Rattle.std.proofs.Common.{◌≡◌, ◌+◌, ◌-◌, ◌^◌, ◌<◌, ◌≤◌, ◌⊎◌, inl, inr, ℕ, zero, suc, List, [], ◌∷◌, ◌++◌, length, take, drop, arith, rules, refl, sym, ap, ◌∙◌, append_assoc, append-nil, length-append, length-drop, subst}
-use Rattle.std.specs.Prelude.{Result, Ok, Err, ⊤, decimal, min}
+use Rattle.std.proofs.Common.{◌≡◌, ◌+◌, ◌-◌, ◌^◌, ◌<◌, ◌≤◌, inl, inr, ℕ, zero, suc, List, [], ◌∷◌, ◌++◌, length, take, drop, arith, rules, refl, sym, ap, ◌∙◌, length-append, length-drop, subst}
+use Rattle.std.specs.Prelude.{Ok, Err, ⊤, decimal, min}
 use Rattle.std.proofs.lemmas.Fmt.{length-decimal-le}
 use Rattle.std.proofs.lemmas.List.{take-append-drop, take_all, length-take, length-take-le}
 use Rattle.std.proofs.lemmas.Grind.{common_steps}
 use Rattle.sched_model.specs.declared.event.Entry.{Entry}
 use Rattle.sched_print.specs.Line.{words}
-use Rattle.sched_print.specs.Ranges.{IsPrintable}
 use Rattle.sched_print.specs.Reading.{Form, Done, Word, Number, Either, read}
 use Rattle.sched_print.specs.Forms.{entries}
 use Rattle.sched_print.specs.Places.{IsText, BeginsText, IsPlace}

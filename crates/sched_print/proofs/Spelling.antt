@@ -1,11 +1,11 @@
 -- Which texts are of a form, and that reading a text by its form finds exactly those.
-use Rattle.std.proofs.Common.{◌≡◌, ◌≢◌, ◌+◌, ◌-◌, ◌*◌, ◌/◌, ◌%◌, ◌^◌, ◌<◌, ◌≤◌, ◌⊎◌, inl, inr, ℕ, zero, suc, Bool, true, false, not, ◌&&◌, cond, List, [], ◌∷◌, ◌++◌, length, arith, refl, sym, ap, ◌∙◌, append_assoc, append-nil, length-append, subst}
-use Rattle.std.specs.Prelude.{Result, Ok, Err, ⊤, nat_le, nat_lt, ◌==◌, decimal, min}
-use Rattle.std.proofs.lemmas.Fmt.{decimal_digit, decimal_step, decimal_by_steps}
+use Rattle.std.proofs.Common.{◌≡◌, ◌≢◌, ◌+◌, ◌-◌, ◌*◌, ◌/◌, ◌%◌, ◌^◌, ◌<◌, ◌≤◌, ◌⊎◌, inl, inr, ℕ, suc, Bool, true, false, not, ◌&&◌, cond, List, [], ◌∷◌, ◌++◌, length, arith, refl, sym, ap, ◌∙◌, append_assoc, subst}
+use Rattle.std.specs.Prelude.{Result, Ok, Err, ⊤, nat_le, ◌==◌, decimal, min}
+use Rattle.std.proofs.lemmas.Fmt.{decimal_digit, decimal_step}
 use Rattle.std.proofs.lemmas.Bool.Decides.{nat_tests}
 use Rattle.sched_model.specs.declared.event.Entry.{Entry}
-use Rattle.sched_print.specs.Reading.{Form, Done, Word, Number, Either, read, word_at, end_at, better, goes_on, digits_at, number_at, ◌>>=◌}
-use Rattle.sched_print.proofs.Numbers.{is_digit, is_plain, Fits, number_at-plain, number_at-decimal, number_at-zero, digits_at-plain}
+use Rattle.sched_print.specs.Reading.{Form, Done, Word, Number, Either, read, word_at, better, goes_on, digits_at, number_at, ◌>>=◌}
+use Rattle.sched_print.proofs.Numbers.{is_digit, is_plain}
 
 -- t is a text of the form, and stands for e
 abbrev pub Spells : Form → List ℕ → Entry → Type 0

@@ -1,12 +1,12 @@
 -- What is read is a text of the form, and reading stops behind the longest beginning of a text of the form.
-use Rattle.std.proofs.Common.{◌≡◌, ◌≢◌, ◌+◌, ◌-◌, ◌*◌, ◌/◌, ◌%◌, ◌^◌, ◌<◌, ◌≤◌, ◌⊎◌, inl, inr, ℕ, zero, suc, Bool, true, false, not, cond, List, [], ◌∷◌, ◌++◌, length, arith, refl, sym, ap, ◌∙◌, append_assoc, append-nil, length-append, subst}
-use Rattle.std.specs.Prelude.{Result, Ok, Err, nat_le, nat_lt, ◌==◌, decimal, min}
+use Rattle.std.proofs.Common.{◌≡◌, ◌+◌, ◌-◌, ◌/◌, ◌%◌, ◌^◌, ◌<◌, ◌≤◌, ◌⊎◌, inl, inr, ℕ, zero, suc, Bool, true, false, cond, List, [], ◌∷◌, ◌++◌, length, arith, refl, sym, ap, ◌∙◌, append_assoc, append-nil, length-append, subst}
+use Rattle.std.specs.Prelude.{Result, Ok, Err, ◌==◌, decimal, min}
 use Rattle.std.proofs.lemmas.Fmt.{decimal_digit, decimal_step, decimal_by_steps}
 use Rattle.std.proofs.lemmas.Bool.Decides.{nat_tests}
 use Rattle.sched_model.specs.declared.event.Entry.{Entry}
 use Rattle.sched_print.specs.Reading.{Form, Done, Word, Number, Either, read, word_at, better, digits_at, number_at, ◌>>=◌}
-use Rattle.sched_print.proofs.Numbers.{is_digit, is_plain, Fits, number_at-plain, number_at-decimal, number_at-zero}
-use Rattle.sched_print.proofs.Spelling.{Spells, Begins, IsFormed, starts_plain, plain_start, same_byte, digits_shrinks, NumberGives, number_gives, Reached, ReachedAll, reached}
+use Rattle.sched_print.proofs.Numbers.{is_plain, Fits, number_at-plain, number_at-decimal, number_at-zero}
+use Rattle.sched_print.proofs.Spelling.{Spells, Begins, IsFormed, plain_start, same_byte, digits_shrinks, NumberGives, number_gives, reached}
 
 abbrev SoundAll : Form → Type 0
 SoundAll f = (bytes : List ℕ) (e : Entry) → IsFormed f → read f bytes ≡ Ok e → Spells f bytes e

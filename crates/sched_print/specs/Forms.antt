@@ -1,5 +1,5 @@
 -- The forms of the texts of entries.
-use Rattle.std.specs.Prelude.{ℕ, ℤ, pos, negsuc, ◌+◌, ◌-◌, ◌^◌, Bool, true, false, List, Result, codes, Option, Some, None, Ok, Err}
+use Rattle.std.specs.Prelude.{ℕ, pos, negsuc, ◌+◌, ◌-◌, ◌^◌, Bool, true, false, List, Result, codes, Option, Some, None, Ok, Err}
 use Rattle.sched_base.specs.Numbers.{moment, span, processor, core, domain, pool}
 use Rattle.sched_base.specs.declared.Moment.{Moment}
 use Rattle.sched_base.specs.declared.DomId.{DomId}

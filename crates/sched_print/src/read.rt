@@ -1,6 +1,6 @@
 //! A line is read as its entry.
 
-ghost use Rattle.std.specs.Prelude.{◌≡◌, ◌≤◌, length, IfErr};
+ghost use Rattle.std.specs.Prelude.{◌≡◌};
 ghost use Rattle.sched_print.specs.Reading.{read};
 ghost use Rattle.sched_print.specs.Forms as form;
 
