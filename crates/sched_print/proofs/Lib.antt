@@ -1,0 +1,9 @@
+pub mod Numbers
+pub mod Again
+pub mod Newlines
+pub mod Texts
+pub mod Spelling
+pub mod Stuck
+pub mod EntryForms
+pub mod Found
+pub mod Steps

@@ -1,0 +1,9 @@
+use Rattle.std.proofs.Common.{sym, ◌∙◌}
+use Rattle.sched_print.specs.Forms as form
+use Rattle.sched_print.proofs.Steps.{after_unit}
+use Rattle.sched_print.proofs.read.repl.Goals as goal
+
+pub returns : goal.returns
+returns c =
+    rw c.in_ok-rest.ensures
+    (c.repl_end.ensures ∙ sym (after_unit (λ u. form.repl_end u (form.entry c.args.at.0)) c.in_ok-rest.rest.now c.in_ok-u.u c.in_ok-u.rest.now c.in_ok-u.ensures))

@@ -1,0 +1,103 @@
+//! The buffer that a line is written into.
+
+use arrayvec::ArrayVec;
+use itoa::Buffer;
+use std::marker::Model;
+
+/// The most bytes that a line buffer holds. The longest line has fewer.
+pub const LINE_MOST: usize = 192;
+
+/// A line that is being written, of at most 192 bytes. Contracts see the list of its bytes.
+#[derive(Drop)]
+pub struct LineBuf {
+    bytes: ArrayVec<u8, LINE_MOST>,
+}
+
+impl Model for LineBuf {
+    ghost use Rattle.std.specs.Prelude.{List, ℕ};
+
+    ghost Value = { List ℕ };
+
+    ghost view = { λ b. b.bytes.items };
+}
+
+impl LineBuf {
+    ghost use Rattle.std.specs.Prelude.{◌≡◌, ◌+◌, ◌≤◌, ◌++◌, [], length, decimal};
+    ghost use Rattle.std.specs.Fmt.{signed_decimal};
+
+    /// A buffer without bytes.
+    pub fn new() -> LineBuf
+        ensures { result ≡ [] }
+    {
+        LineBuf {
+            bytes: ArrayVec::new(),
+        }
+    }
+
+    /// Takes out all bytes.
+    pub fn clear(&mut self)
+        ensures { self.new ≡ [] }
+    {
+        self.bytes.clear();
+    }
+
+    /// The bytes, of which there are at most 192.
+    pub fn as_bytes(&self) -> &[u8]
+        ensures bytes { result.now ≡ self.now }
+        ensures length { length result.now ≤ 192 }
+    {
+        self.bytes.as_slice()
+    }
+
+    /// Adds these bytes at the end.
+    pub fn put(&mut self, bytes: &[u8])
+        requires { length self.old + length bytes.now ≤ 192 }
+        ensures bytes { self.new ≡ self.old ++ bytes.now }
+        ensures length { length self.new ≡ length self.old + length bytes.now }
+    {
+        let _ = self.bytes.try_extend_from_slice(bytes);
+    }
+
+    /// Adds the digits of a number at the end: at most 20.
+    pub fn put_number(&mut self, n: u64)
+        requires { length self.old + 20 ≤ 192 }
+        ensures bytes { self.new ≡ self.old ++ decimal n }
+        ensures length { length self.new ≤ length self.old + 20 }
+    {
+        let mut buffer = Buffer::new();
+        let digits = buffer.format(n);
+        self.put(digits.as_bytes());
+    }
+
+    /// Adds these bytes and then the digits of a number.
+    pub fn put_field(&mut self, before: &[u8], n: u64)
+        requires { length self.old + length before.now + 20 ≤ 192 }
+        ensures bytes { self.new ≡ self.old ++ before.now ++ decimal n }
+        ensures length { length self.new ≤ length self.old + length before.now + 20 }
+    {
+        self.put(before);
+        self.put_number(n);
+    }
+
+    /// Adds these bytes and a number, and then other bytes and another number.
+    pub fn put_two_fields(&mut self, before: &[u8], n: u64, between: &[u8], m: u64)
+        requires { length self.old + length before.now + length between.now + 40 ≤ 192 }
+        ensures bytes { self.new ≡ self.old ++ before.now ++ decimal n ++ between.now ++ decimal m }
+        ensures length { length self.new ≤ length self.old + length before.now + length between.now + 40 }
+    {
+        self.put_field(before, n);
+        self.put_field(between, m);
+    }
+
+    /// Adds these bytes and then the digits of a number, behind a hyphen where it is negative.
+    pub fn put_signed_field(&mut self, before: &[u8], n: i64)
+        requires { length self.old + length before.now + 20 ≤ 192 }
+        ensures bytes { self.new ≡ self.old ++ before.now ++ signed_decimal n }
+        ensures length { length self.new ≤ length self.old + length before.now + 20 }
+    {
+        self.put(before);
+        let mut buffer = Buffer::new();
+        let digits = buffer.format(n);
+        self.put(digits.as_bytes());
+    }
+}
