@@ -1,0 +1,4 @@
+pub mod Steps
+pub mod Values
+pub mod Keys
+pub mod Heads

@@ -1,0 +1,10 @@
+//! The domain file: from its bytes to the machine that it describes, or to the first fault in it.
+#![tactic(auto)]
+
+pub mod fault;
+mod keys;
+mod head;
+mod stop;
+mod values;
+
+pub use fault::{DomCause, DomFault, TableName, Text};
