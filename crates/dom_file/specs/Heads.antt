@@ -1,5 +1,5 @@
 -- The keys of the top table that say what the machine is.
-use Rattle.std.specs.Prelude.{ℕ, ◌%◌, ◌==◌, pos, codes, List, [], ◌∷◌, Result, Ok, Err, if◌then◌else◌}
+use Rattle.std.specs.Prelude.{◌≡◌, ℕ, ◌%◌, ◌==◌, pos, codes, List, [], ◌∷◌, Result, Ok, Err, if◌then◌else◌}
 use Rattle.sched_base.specs.Numbers.{moment}
 use Rattle.sched_base.specs.declared.Moment.{Moment}
 use Rattle.sched_model.specs.Checked.{IsWithin, most_span}
@@ -55,3 +55,4 @@ head_of table = do
 pub record IsHead (head : Head) : Type 0 where
   pub granularity : IsWithin 1 4 head.granularity
   pub processors : IsWithin 1 64 head.processors
+  pub whole_cores : head.processors % head.granularity ≡ 0

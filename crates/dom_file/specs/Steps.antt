@@ -49,3 +49,8 @@ abbrev pub Stops : {A B : Type 0} → (A → B) → Result A Stop → Result B D
 Stops view (Ok x) checked = checked ≡ Ok (view x)
 Stops view (Err stops.NoMemory) checked = Unit {0}
 Stops view (Err (stops.Cause cause)) checked = checked ≡ Err cause
+
+-- the call's answer, seen by view, is that of the checks, unless memory was wanted
+abbrev pub GivesBy : {A B : Type 0} → (A → B) → Result A DomFault → Result B DomFault → Type 0
+GivesBy view (Ok x) checked = checked ≡ Ok (view x)
+GivesBy view (Err fault) checked = Fails fault checked

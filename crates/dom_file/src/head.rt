@@ -59,6 +59,7 @@ fn processors(table: &Table, granularity: u8) -> Result<u8, DomCause>
     requires { IsWithin 1 4 granularity }
     ensures value { result ≡ processors_in granularity (table_view table.now) }
     ensures range { IfOk result (IsWithin 1 64) }
+    ensures whole_cores { IfOk result (λ p. p % granularity ≡ 0) }
 {
     let processors = number(required(table, "processors")?, 1, 64)?;
     if processors % granularity as u64 == 0 {

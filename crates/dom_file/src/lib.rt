@@ -3,7 +3,11 @@
 
 pub mod fault;
 mod keys;
+mod cores;
+mod draft;
+mod frame;
 mod head;
+mod pool;
 mod stop;
 mod values;
 
