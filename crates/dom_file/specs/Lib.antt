@@ -5,3 +5,5 @@ pub mod Heads
 pub mod Cores
 pub mod Frames
 pub mod Pools
+pub mod Guests
+pub mod Pins

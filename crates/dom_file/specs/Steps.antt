@@ -54,3 +54,10 @@ Stops view (Err (stops.Cause cause)) checked = checked ≡ Err cause
 abbrev pub GivesBy : {A B : Type 0} → (A → B) → Result A DomFault → Result B DomFault → Type 0
 GivesBy view (Ok x) checked = checked ≡ Ok (view x)
 GivesBy view (Err fault) checked = Fails fault checked
+
+-- a value that stands, and a cause that became the fault of this key of the table with this number
+abbrev pub IsPlaced : {A : Type 0} → TableName → ℕ → List ℕ → Result A Stop → Result A DomFault → Type 0
+IsPlaced table index key (Ok x) answer = answer ≡ Ok x
+IsPlaced table index key (Err stops.NoMemory) answer = answer ≡ Err NoMemory
+IsPlaced table index key (Err (stops.Cause cause)) (Ok x) = ⊥
+IsPlaced table index key (Err (stops.Cause cause)) (Err fault) = IsFaultAt table index key cause fault

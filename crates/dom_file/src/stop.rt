@@ -1,7 +1,7 @@
 //! Why a check stops before it gives a value.
 
 ghost use Rattle.std.specs.Prelude.{◌≡◌};
-ghost use Rattle.dom_file.specs.Steps.{Gives, IsFaultAt, at};
+ghost use Rattle.dom_file.specs.Steps.{Gives, IsFaultAt, IsPlaced, at};
 ghost use Rattle.dom_file.specs.declared.fault.DomFault.TheVariants.{NoMemory as FaultOfMemory};
 ghost use Rattle.dom_file.specs.declared.stop.Stop.TheVariants.{NoMemory, Cause};
 
@@ -89,5 +89,22 @@ pub(crate) fn placed<X>(
     match checked {
         Ok(value) => Ok(value),
         Err(cause) => Err(fault_at(alloc, table, index, key, cause)),
+    }
+}
+
+/// The value, or the fault of this key of the table with this number, unless memory was wanted already.
+pub(crate) fn placed_or_stopped<X>(
+    alloc: Global,
+    table: TableName,
+    index: u32,
+    key: &str,
+    checked: Result<X, Stop>,
+) -> Result<X, DomFault>
+    ensures { IsPlaced table index key.now checked result }
+{
+    match checked {
+        Ok(value) => Ok(value),
+        Err(Stop::NoMemory) => Err(DomFault::NoMemory),
+        Err(Stop::Cause(cause)) => Err(fault_at(alloc, table, index, key, cause)),
     }
 }
