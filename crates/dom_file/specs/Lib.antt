@@ -7,3 +7,4 @@ pub mod Frames
 pub mod Pools
 pub mod Guests
 pub mod Pins
+pub mod Domains

@@ -4,6 +4,7 @@
 pub mod fault;
 mod keys;
 mod cores;
+mod domain;
 mod draft;
 mod frame;
 mod guests;
