@@ -54,3 +54,10 @@ pub gathers-all : {A B C E : Type 0} (check : B → Result C E) (view : A → B)
     → length xs ≤ i → Gathers check view xs i done → each check (map view xs) ≡ Ok done
 gathers-all check view xs i done past so_far =
     so_far ∙ each-all check view (λ ys. Ok (done ++ ys)) xs i past ∙ ap (λ zs. Ok zs) (append-nil done)
+
+-- the same where the elements are checked as they are
+abbrev pub Collects : {A C E : Type 0} → (A → Result C E) → List A → ℕ → List C → Type 0
+Collects check xs i done = each check xs ≡ (each check (drop i xs) >>= λ ys. Ok (done ++ ys))
+
+pub collects-none : {A C E : Type 0} (check : A → Result C E) (xs : List A) → Collects check xs 0 []
+collects-none check xs = bind-Ok (each check xs)

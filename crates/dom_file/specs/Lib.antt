@@ -8,3 +8,5 @@ pub mod Pools
 pub mod Guests
 pub mod Pins
 pub mod Domains
+pub mod Finish
+pub mod Configs

@@ -6,12 +6,15 @@ mod keys;
 mod cores;
 mod domain;
 mod draft;
+mod finish;
 mod frame;
 mod guests;
 mod head;
 mod pins;
 mod pool;
+mod read;
 mod stop;
 mod values;
 
+pub use read::read_domains;
 pub use fault::{DomCause, DomFault, TableName, Text};
