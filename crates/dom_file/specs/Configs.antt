@@ -1,5 +1,5 @@
 -- The machine that a domain file describes, or the first fault in it.
-use Rattle.std.specs.Prelude.{ℕ, codes, List, [], ◌∷◌, Option, Some, None, Result, Ok, Err, if◌then◌else◌}
+use Rattle.std.specs.Prelude.{◌≡◌, ℕ, codes, List, [], ◌∷◌, Option, Some, None, Result, Ok, Err, if◌then◌else◌}
 use Rattle.std.specs.Str.{is_utf8}
 use Rattle.sched_model.specs.declared.config.Config.{Config}
 use Rattle.toml.specs.Data.{Data, Members, get_member}
@@ -8,7 +8,7 @@ use Rattle.dom_file.specs.declared.draft.PoolDraft.{PoolDraft}
 use Rattle.dom_file.specs.declared.fault.TableName.TheVariants.{Top}
 use Rattle.dom_file.specs.declared.fault.DomCause.{DomCause}
 use Rattle.dom_file.specs.declared.fault.DomFault.{DomFault}
-use Rattle.dom_file.specs.declared.fault.DomFault.TheVariants.{BadToml}
+use Rattle.dom_file.specs.declared.fault.DomFault.TheVariants.{NoMemory, BadToml, Bad}
 use Rattle.dom_file.specs.declared.head.Head.{Head}
 use Rattle.dom_file.specs.Steps.{◌>>=◌, at, each}
 use Rattle.dom_file.specs.Values.{table_of, array_of}
@@ -46,10 +46,16 @@ config_of table = do
   pools ← finished_pools head.granularity domains [] drafts
   Ok (record { granularity = head.granularity; processors = head.processors; horizon = head.horizon; pools = pools; domains = domains })
 
--- the table that the bytes spell: a TOML document is text in UTF-8
-abbrev pub document_in : List ℕ → Result Members DomFault
-document_in bytes = if is_utf8 bytes then elim (parse_document bytes) [ None ↦ Err BadToml | Some table ↦ Ok table ] else Err BadToml
+-- the table that the bytes spell, if they are a TOML document, which is text in UTF-8
+abbrev pub document : List ℕ → Option Members
+document bytes = if is_utf8 bytes then parse_document bytes else None
 
 -- the machine that the bytes of a domain file describe, or why there is none
 unfoldable pub domains_of : List ℕ → Result Config DomFault
-domains_of bytes = document_in bytes >>= config_of
+domains_of bytes = elim (document bytes) [ None ↦ Err BadToml | Some table ↦ config_of table ]
+
+-- no table was read: the bytes are no document, or memory was wanted
+abbrev pub IsNoTable : List ℕ → DomFault → Type 0
+IsNoTable bytes NoMemory = Unit {0}
+IsNoTable bytes BadToml = document bytes ≡ None
+IsNoTable bytes (Bad table index key cause) = ⊥

@@ -23,10 +23,10 @@ abbrev pub each : {A B E : Type 0} → (A → Result B E) → List A → Result 
 each check [] = Ok []
 each check (x ∷ xs) = check x >>= λ y. each check xs >>= λ ys. Ok (y ∷ ys)
 
--- the call's fault is that of the checks, unless memory was wanted
+-- the call's fault is that of the checks, unless memory was wanted; the checks of a table never say that there is none
 abbrev pub Fails : {A : Type 0} → DomFault → Result A DomFault → Type 0
 Fails NoMemory checked = Unit {0}
-Fails BadToml checked = checked ≡ Err BadToml
+Fails BadToml checked = ⊥
 Fails (Bad table index key cause) checked = checked ≡ Err (Bad table index key cause)
 
 -- the call's answer is that of the checks, unless memory was wanted

@@ -94,7 +94,7 @@ pub enum DomFault {
     #[error("no memory")]
     NoMemory,
     /// The bytes are no TOML document.
-    #[error("no TOML document")]
+    #[error("not TOML")]
     BadToml,
     /// The key of the table with this number is refused for this cause. The number of the top table is 0.
     #[error("{table} {index} {key} {cause}")]

@@ -18,3 +18,6 @@ mod values;
 
 pub use read::read_domains;
 pub use fault::{DomCause, DomFault, TableName, Text};
+
+#[cfg(test)]
+mod tests;

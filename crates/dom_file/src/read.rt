@@ -1,15 +1,15 @@
 //! The whole domain file.
 
-ghost use Rattle.std.specs.Prelude.{◌≡◌, ◌≢◌, ◌≤◌, Ok, Err, map, option_map, codes, length, IfOk, IfErr, IfSome};
+ghost use Rattle.std.specs.Prelude.{◌≡◌, ◌≢◌, ◌≤◌, Some, None, Ok, Err, map, option_map, codes, length, IfOk, IfErr, IfSome, MatchResult};
 ghost use Rattle.std.specs.List.{All};
 ghost use Rattle.sched_model.specs.Checked.{IsCheckedConfig, IsWithin};
 ghost use Rattle.toml.specs.View.{view, table_view};
-ghost use Rattle.dom_file.specs.declared.fault.DomFault.TheVariants.{NoMemory};
+ghost use Rattle.dom_file.specs.declared.fault.DomFault.TheVariants.{NoMemory, BadToml};
 ghost use Rattle.dom_file.specs.declared.fault.TableName.TheVariants.{Top};
 ghost use Rattle.dom_file.specs.Steps.{Gives, GivesBy, Stops, at, each};
 ghost use Rattle.dom_file.specs.Values.{table_of};
 ghost use Rattle.dom_file.specs.Heads.{IsHead};
-ghost use Rattle.dom_file.specs.Configs.{all_pools as all_pools_of, config_of, document_in, domain_tables_in, domains_of, pool_tables_in, tables_of};
+ghost use Rattle.dom_file.specs.Configs.{all_pools as all_pools_of, config_of, document as document_of, domain_tables_in, domains_of, IsNoTable, pool_tables_in, tables_of};
 
 use crate::domain::domains;
 use crate::draft::PoolDraft;
@@ -116,8 +116,9 @@ fn config(alloc: Global, table: &Table) -> Result<Config, DomFault>
     })
 }
 
+/// The table that the bytes spell.
 fn document(alloc: Global, bytes: &[u8]) -> Result<Table, DomFault>
-    ensures { GivesBy table_view result (document_in bytes.now) }
+    ensures { MatchResult result (λ table. document_of bytes.now ≡ Some (table_view table)) (IsNoTable bytes.now) }
 {
     match toml::table_from_slice(alloc, bytes) {
         Ok(table) => Ok(table),
@@ -139,6 +140,7 @@ fn document(alloc: Global, bytes: &[u8]) -> Result<Table, DomFault>
 pub fn read_domains(alloc: Global, bytes: &[u8]) -> Result<Config, DomFault>
     requires { length bytes.now ≤ 536870912 }
     ensures ok { IfOk result (λ config. domains_of bytes.now ≡ Ok config) }
+    ensures bad_toml { result ≡ Err BadToml → document_of bytes.now ≡ None }
     ensures refused { IfErr result (λ fault. fault ≢ NoMemory → domains_of bytes.now ≡ Err fault) }
 {
     let table = document(alloc, bytes)?;
