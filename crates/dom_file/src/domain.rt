@@ -166,7 +166,13 @@ fn domain_params(
             let period = placed(alloc, TableName::Domain, index, "period_us", period(table))?;
             let budget = budget(table, period);
             let budget = placed(alloc, TableName::Domain, index, "budget_us", budget)?;
-            let extra = placed(alloc, TableName::Domain, index, "extratime", extra_time(table))?;
+            let extra = placed(
+                alloc,
+                TableName::Domain,
+                index,
+                "extratime",
+                extra_time(table),
+            )?;
             Ok(DomParams::Rtds {
                 period: Span(period * 1000),
                 budget: Span(budget * 1000),

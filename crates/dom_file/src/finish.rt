@@ -40,11 +40,7 @@ fn units_at(granularity: u8, domains: &[DomConfig], n: usize) -> usize
     }
 }
 
-fn entry(
-    granularity: u8,
-    domains: &[DomConfig],
-    draft: &EntryDraft,
-) -> Result<FrameEntry, DomCause>
+fn entry(granularity: u8, domains: &[DomConfig], draft: &EntryDraft) -> Result<FrameEntry, DomCause>
     requires granularity { IsWithin 1 4 granularity }
     requires few { length domains.now ≤ 64 }
     requires guests { All (λ d. length d.guests ≤ 32) domains.now }

@@ -93,12 +93,30 @@ pub(crate) fn frame(
 {
     let Some(major) = value_at(table, "major_ns") else {
         return match value_at(table, "frame") {
-            Some(_) => placed(alloc, TableName::Pool, index, "major_ns", Err(DomCause::Missing)),
+            Some(_) => placed(
+                alloc,
+                TableName::Pool,
+                index,
+                "major_ns",
+                Err(DomCause::Missing),
+            ),
             None => Ok(None),
         };
     };
-    let major = placed(alloc, TableName::Pool, index, "major_ns", number(major, 1, MOST_SPAN))?;
-    let entries = placed(alloc, TableName::Pool, index, "frame", frame_entries(table, major))?;
+    let major = placed(
+        alloc,
+        TableName::Pool,
+        index,
+        "major_ns",
+        number(major, 1, MOST_SPAN),
+    )?;
+    let entries = placed(
+        alloc,
+        TableName::Pool,
+        index,
+        "frame",
+        frame_entries(table, major),
+    )?;
     Ok(Some(FrameDraft {
         major: Span(major),
         entries,

@@ -1,7 +1,6 @@
 //! The tables of the pools.
 
 ghost use Rattle.std.specs.Prelude.{◌≡◌, ◌≤◌, [], ◌∷◌, map, length, Ok, IfOk};
-
 ghost use Rattle.toml.specs.View.{table_view};
 ghost use Rattle.dom_file.specs.Steps.{Gives, GivesBy};
 ghost use Rattle.dom_file.specs.Heads.{IsHead};
@@ -119,7 +118,13 @@ fn pool_params(
 {
     match kind {
         SchedKind::Credit2 => {
-            let limit = placed(alloc, TableName::Pool, index, "ratelimit_us", rate_limit(table))?;
+            let limit = placed(
+                alloc,
+                TableName::Pool,
+                index,
+                "ratelimit_us",
+                rate_limit(table),
+            )?;
             Ok(ParamsDraft::Credit2 { limit })
         }
         SchedKind::Rtds => Ok(ParamsDraft::Rtds),
@@ -144,9 +149,21 @@ fn pool(
     ensures { Gives result (pool_in head.now pools.now (table_view table.now)) }
 {
     let index = pools.len() as u32;
-    let name = placed(alloc, TableName::Pool, index, "name", pool_name(pools, table))?;
+    let name = placed(
+        alloc,
+        TableName::Pool,
+        index,
+        "name",
+        pool_name(pools, table),
+    )?;
     let kind = placed(alloc, TableName::Pool, index, "sched", sched(table))?;
-    let cores = placed(alloc, TableName::Pool, index, "cpus", cpus(head, pools, kind, table))?;
+    let cores = placed(
+        alloc,
+        TableName::Pool,
+        index,
+        "cpus",
+        cpus(head, pools, kind, table),
+    )?;
     only_known(alloc, TableName::Pool, index, pool_keys(kind), table)?;
     let params = pool_params(alloc, kind, index, table)?;
     Ok(PoolDraft {

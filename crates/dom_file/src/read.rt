@@ -74,7 +74,13 @@ fn placed_domain_tables(alloc: Global, table: &Table) -> Result<Vec<&Table>, Dom
     ensures value { GivesBy (λ v. map (λ t. table_view t.now) v.items) result (at Top 0 (codes "domain") (domain_tables_in (table_view table.now))) }
     ensures count { IfOk result (λ v. length v.items ≤ 64) }
 {
-    placed_or_stopped(alloc, TableName::Top, 0, "domain", domain_tables(alloc, table))
+    placed_or_stopped(
+        alloc,
+        TableName::Top,
+        0,
+        "domain",
+        domain_tables(alloc, table),
+    )
 }
 
 /// The pools of the tables, or the one of a file without pools.
