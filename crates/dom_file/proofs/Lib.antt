@@ -1,2 +1,5 @@
+pub mod CheckedDomains
+pub mod CheckedPools
 pub mod Each
 pub mod Lists
+pub mod Passed
