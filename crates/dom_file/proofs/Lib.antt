@@ -1,3 +1,4 @@
+pub mod CheckedConfig
 pub mod CheckedDomains
 pub mod CheckedPools
 pub mod Each

@@ -147,6 +147,7 @@ pub fn read_domains(alloc: Global, bytes: &[u8]) -> Result<Config, DomFault>
     requires { length bytes.now ≤ 536870912 }
     ensures ok { IfOk result (λ config. domains_of bytes.now ≡ Ok config) }
     ensures bad_toml { result ≡ Err BadToml → document_of bytes.now ≡ None }
+    ensures checked { IfOk result IsCheckedConfig }
     ensures refused { IfErr result (λ fault. fault ≢ NoMemory → domains_of bytes.now ≡ Err fault) }
 {
     let table = document(alloc, bytes)?;

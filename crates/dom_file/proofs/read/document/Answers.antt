@@ -1,4 +1,3 @@
-use Rattle.dom_file.proofs.CheckedDomains.{domains_ok}
 use Rattle.std.proofs.Common.{◌≡◌, ℕ, List, true, false, None, Err, sym, ◌∙◌, refl, inl, inr}
 use Rattle.std.specs.Str.{IsUtf8, is_utf8}
 use Rattle.std.proofs.lemmas.Bool.{cases_Bool, false≢true}
