@@ -225,16 +225,16 @@ domain_ok head config ds same_g count pairs domain checked =
     let R = IsPoolOf config.granularity config.domains in
     let home = checked.home in
     let units : length (units_from config.granularity 0 (domain ∷ [])) ≡ unit_count head.granularity (length domain.guests) =
-      length-units_from config.granularity 0 (domain ∷ []) ∙ sum_by-cons (λ (d : DomConfig). unit_count config.granularity (length d.guests)) domain [] ∙ rw same_g (omega arith) in
+    length-units_from config.granularity 0 (domain ∷ []) ∙ sum_by-cons (λ (d : DomConfig). unit_count config.granularity (length d.guests)) domain [] ∙ rw same_g (omega arith) in
     record {
       name = checked.name;
       home = omega (arith, slice_get_within ds domain.home.0 home.0 home.1, length-Pairs R ds config.pools pairs);
       home_pool = λ pool at_home.
-        let found = get-Pairs R ds config.pools domain.home.0 pool pairs at_home in
-        let same : found.0 ≡ home.0 = same_draft ds domain.home.0 found.0 home.0 found.1 home.1 in
-        let kind : home.0.kind ≡ pool.kind = ap (λ (p : PoolDraft). p.kind) (sym same) ∙ sym found.2.kind in
-        let cores : home.0.cores ≡ pool.cores = ap (λ (p : PoolDraft). p.cores) (sym same) ∙ sym found.2.cores in
-        (subst (λ n. 0 < n) cores home.2, subst (λ k. DomParamsPass k domain.params) kind home.3);
+          let found = get-Pairs R ds config.pools domain.home.0 pool pairs at_home in
+          let same : found.0 ≡ home.0 = same_draft ds domain.home.0 found.0 home.0 found.1 home.1 in
+          let kind : home.0.kind ≡ pool.kind = ap (λ (p : PoolDraft). p.kind) (sym same) ∙ sym found.2.kind in
+          let cores : home.0.cores ≡ pool.cores = ap (λ (p : PoolDraft). p.cores) (sym same) ∙ sym found.2.cores in
+          (subst (λ n. 0 < n) cores home.2, subst (λ k. DomParamsPass k domain.params) kind home.3);
       some_guest = checked.count.least;
       few_guests = checked.count.most;
       scripts = All-from_recursion IsCheckedScript domain.guests checked.scripts;
@@ -273,13 +273,13 @@ parts_ok h ds domains pools parts =
       few_domains = parts.few_domains;
       pools = All-from_recursion (IsCheckedPool config) pools (both-Pairs (IsPoolDraft h) R (IsCheckedPool config) (pool_ok h config gran refl) ds pools parts.ds.drafts parts.pairs);
       cores_apart = λ i j r p q at_i at_j in_p in_q.
-        let d = get-Pairs R ds pools i p parts.pairs at_i in
-        let e = get-Pairs R ds pools j q parts.pairs at_j in
-        parts.ds.cores_apart r i j d.0 e.0 d.1 e.1 (subst (λ cores. has_core cores r ≡ true) d.2.cores in_p, subst (λ cores. has_core cores r ≡ true) e.2.cores in_q);
+          let d = get-Pairs R ds pools i p parts.pairs at_i in
+          let e = get-Pairs R ds pools j q parts.pairs at_j in
+          parts.ds.cores_apart r i j d.0 e.0 d.1 e.1 (subst (λ cores. has_core cores r ≡ true) d.2.cores in_p, subst (λ cores. has_core cores r ≡ true) e.2.cores in_q);
       pool_names_apart = λ i j p q at_i at_j named.
-        let d = get-Pairs R ds pools i p parts.pairs at_i in
-        let e = get-Pairs R ds pools j q parts.pairs at_j in
-        parts.ds.names_apart i j d.0 e.0 d.1 e.1 (sym d.2.name ∙ named ∙ e.2.name);
+          let d = get-Pairs R ds pools i p parts.pairs at_i in
+          let e = get-Pairs R ds pools j q parts.pairs at_j in
+          parts.ds.names_apart i j d.0 e.0 d.1 e.1 (sym d.2.name ∙ named ∙ e.2.name);
       domains = All-from_recursion (IsCheckedDomain config) domains (all-weaker (IsDomainDraft h ds) (IsCheckedDomain config) (domain_ok h config ds refl refl parts.pairs) domains parts.domains.drafts);
       domain_names_apart = parts.domains.names_apart;
       few_units = omega (arith, length-units_from h.granularity 0 domains, parts.few_units);

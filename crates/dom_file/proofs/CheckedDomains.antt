@@ -103,7 +103,7 @@ pins_ok : (head : Head) → IsCheckedHead head → (units : ℕ) (table : Member
 pins_ok head checked units table pins e =
     let none : ArePins head units [] = (inl refl, tt) in
     either_ok (ArePins head units) (eqb head.format 1) [] pins _ none
-      (λ h. absent_or_ok (ArePins head units) (get_member (codes "pins") table) [] (λ d. array_of units units d >>= each (pin_of head)) pins none (pin_list_ok head checked units pins) h) e
+    (λ h. absent_or_ok (ArePins head units) (get_member (codes "pins") table) [] (λ d. array_of units units d >>= each (pin_of head)) pins none (pin_list_ok head checked units pins) h) e
 
 -- ---- the home
 
@@ -141,9 +141,10 @@ params_ok kinds.Credit2 i table params e =
     let weight = s0.0 in
     let s1 = bind_ok (at Domain i (codes "cap") (number_or (codes "cap") 0 0 6400 table)) (λ cap. Ok (dom_params.Credit2 weight cap)) params s0.2 in
     let cap = s1.0 in
-    subst (DomParamsPass kinds.Credit2) (ok_is DomFault (dom_params.Credit2 weight cap) params s1.2)
-      ( number_or_ok (codes "weight") 256 1 65535 table weight (record { least = omega arith; most = omega arith }) (at_ok Domain i (codes "weight") (number_or (codes "weight") 256 1 65535 table) weight s0.1)
-      , (number_or_ok (codes "cap") 0 0 6400 table cap (record { least = omega arith; most = omega arith }) (at_ok Domain i (codes "cap") (number_or (codes "cap") 0 0 6400 table) cap s1.1)).most)
+    subst (DomParamsPass kinds.Credit2) (ok_is DomFault (dom_params.Credit2 weight cap) params s1.2) (
+      number_or_ok (codes "weight") 256 1 65535 table weight (record { least = omega arith; most = omega arith }) (at_ok Domain i (codes "weight") (number_or (codes "weight") 256 1 65535 table) weight s0.1),
+      (number_or_ok (codes "cap") 0 0 6400 table cap (record { least = omega arith; most = omega arith }) (at_ok Domain i (codes "cap") (number_or (codes "cap") 0 0 6400 table) cap s1.1)).most,
+    )
 params_ok kinds.Rtds i table params e =
     let s0 = bind_ok (at Domain i (codes "period_us") (period_in table)) (λ period. at Domain i (codes "budget_us") (budget_in period table) >>= λ budget. at Domain i (codes "extratime") (extra_in table) >>= λ extra. Ok (dom_params.Rtds (span (period * 1000)) (span (budget * 1000)) extra)) params e in
     let period = s0.0 in
@@ -154,7 +155,7 @@ params_ok kinds.Rtds i table params e =
     let p = number_or_ok (codes "period_us") 10000 10 1000000000 table period (record { least = omega arith; most = omega arith }) (at_ok Domain i (codes "period_us") (period_in table) period s0.1) in
     let b = number_or_ok (codes "budget_us") (min period 4000) 10 period table budget (record { least = omega (arith, p.least); most = omega arith }) (at_ok Domain i (codes "budget_us") (budget_in period table) budget s1.1) in
     subst (DomParamsPass kinds.Rtds) (ok_is DomFault (dom_params.Rtds (span (period * 1000)) (span (budget * 1000)) extra) params s2.2)
-      (record { least = omega (arith, p.least); most = omega (arith, p.most) }, record { least = omega (arith, b.least); most = omega (arith, b.most) })
+    (record { least = omega (arith, p.least); most = omega (arith, p.most) }, record { least = omega (arith, b.least); most = omega (arith, b.most) })
 params_ok kinds.Arinc653 i table params e = subst (DomParamsPass kinds.Arinc653) (ok_is DomFault dom_params.Arinc653 params e) tt
 params_ok kinds.Null i table params e = subst (DomParamsPass kinds.Null) (ok_is DomFault dom_params.Null params e) tt
 

@@ -87,7 +87,8 @@ head_ok table head e =
     let s4 = bind_ok (at Top 0 (codes "horizon_ns") (horizon_in table)) (λ horizon. Ok (record { format = format; granularity = granularity; processors = processors; horizon = horizon })) head s3.2 in
     let horizon = s4.0 in
     let both = processors_ok granularity table processors (at_ok Top 0 (codes "processors") (processors_in granularity table) processors s3.1) in
-    subst IsCheckedHead (ok_is DomFault (record { format = format; granularity = granularity; processors = processors; horizon = horizon }) head s4.2) (record {
+    let made : Head = record { format = format; granularity = granularity; processors = processors; horizon = horizon } in
+    subst IsCheckedHead (ok_is DomFault made head s4.2) (record {
       granularity = granularity_ok table granularity (at_ok Top 0 (codes "granularity") (granularity_in table) granularity s2.1);
       processors = both.0;
       whole_cores = both.1;
@@ -131,7 +132,7 @@ cores_ok head pools checked ds set e =
     let all = all-Pairs R (λ c. (c < cores_in_all head) × (is_taken pools c ≡ false)) (λ d c r. r) ds s.0 pairs in
     let made = with_cores_ok (λ c. is_taken pools c ≡ false) (cores_in_all head) s.0 0 all (pow_pos (cores_in_all head)) (λ r h. absurd (no_core r h)) in
     subst (λ set. AreFreeCores head pools set × (1 ≤ length ds → 1 ≤ set)) (ok_is DomCause (with_cores 0 s.0) set s.2)
-      (record { fits = made.0; free = made.1 }, λ some. some_cores s.0 (omega (arith, some, length-Pairs R ds s.0 pairs)))
+    (record { fits = made.0; free = made.1 }, λ some. some_cores s.0 (omega (arith, some, length-Pairs R ds s.0 pairs)))
 
 few_cores_ok : (kind : SchedKind) (cores set : ℕ) → few_cores kind cores ≡ Ok set → (cores ≡ set) × (kind ≡ kinds.Arinc653 → count_ones set ≤ 1)
 few_cores_ok kinds.Credit2 cores set e = (ok_is DomCause cores set e, λ other. absurd cc)

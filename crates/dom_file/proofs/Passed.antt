@@ -186,7 +186,7 @@ pub with_cores_ok : (P : ℕ → Type 0) (n : ℕ) (cores : List ℕ) (set : ℕ
 with_cores_ok P n [] set all fits has = (fits, has)
 with_cores_ok P n (core ∷ cores) set all fits has =
     with_cores_ok P n cores (bit_or set (2 ^ core)) all.1 (or_lt n set (2 ^ core) fits (pow-lt all.0.0))
-      (λ r in_set. elim (core_of_or set core r in_set) [ inl before ↦ has r before | inr same ↦ subst P (sym same) all.0.1 ])
+    (λ r in_set. elim (core_of_or set core r in_set) [ inl before ↦ has r before | inr same ↦ subst P (sym same) all.0.1 ])
 
 -- a set of some core is not empty
 pub with_cores-le : (cores : List ℕ) (set : ℕ) → set ≤ with_cores set cores

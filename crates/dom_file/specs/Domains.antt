@@ -49,6 +49,7 @@ home_at pools n = elim (slice_get pools n) [
   | Some p ↦ (if p.cores == 0 then Err Empty else Ok (record { pool = pool n; kind = p.kind }))
 ]
 
+-- the domain's home
 abbrev pub home_in : List PoolDraft → Members → Result HomePool DomCause
 home_in pools table = home_place_in pools table >>= home_at pools
 

@@ -36,6 +36,7 @@ entry_of g domains e = do
   unit ← below (units_at g domains dom) e.unit
   Ok (record { dom = domain dom; unit = unit; run = e.run })
 
+-- a frame whose entries are all there
 abbrev pub frame_of : ℕ → List DomConfig → FrameDraft → Result Frame DomCause
 frame_of g domains frame = each (entry_of g domains) frame.entries >>= λ entries. Ok (record { major = frame.major; entries = entries })
 

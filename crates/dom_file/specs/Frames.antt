@@ -23,6 +23,7 @@ entry_in (dom ∷ unit ∷ run ∷ []) = do
   Ok (record { dom = dom; unit = unit; run = span run })
 entry_in ds = Err (Range (pos (length ds)))
 
+-- the same of an array
 abbrev pub entry_of : Data → Result EntryDraft DomCause
 entry_of d = elements_of d >>= entry_in
 
@@ -33,6 +34,7 @@ entries_of major d = do
   entries ← each entry_of ds
   let sum = sum_by (λ (e : EntryDraft). e.run.0) entries in if nat_le sum major then Ok entries else Err (Range (pos sum))
 
+-- the entries at the key `frame`, which has to be there
 abbrev pub frame_entries_in : ℕ → Members → Result (List EntryDraft) DomCause
 frame_entries_in major table = required table (codes "frame") >>= entries_of major
 

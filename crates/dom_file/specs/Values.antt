@@ -15,15 +15,19 @@ of_kind (Some x) = Ok x
 abbrev pub required : Members → List ℕ → Result Data DomCause
 required table key = elim (get_member key table) [ None ↦ Err Missing | Some d ↦ Ok d ]
 
+-- an integer of any size
 abbrev pub integer_of : Data → Result ℤ DomCause
 integer_of d = of_kind (as_integer d)
 
+-- true or false
 abbrev pub truth_of : Data → Result Bool DomCause
 truth_of d = of_kind (as_bool d)
 
+-- the bytes of a string
 abbrev pub text_of : Data → Result (List ℕ) DomCause
 text_of d = of_kind (as_str d)
 
+-- a table within the table
 abbrev pub table_of : Data → Result Members DomCause
 table_of d = of_kind (as_table d)
 
