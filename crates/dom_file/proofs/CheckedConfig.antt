@@ -1,9 +1,9 @@
 -- The values of a machine that was read pass all checks.
-use Rattle.std.proofs.Common.{◌≡◌, ℕ, zero, suc, ◌+◌, ◌-◌, ◌*◌, ◌/◌, ◌%◌, ◌^◌, ◌≤◌, ◌<◌, ℤ, pos, negsuc, Bool, true, false, cond, leb, ltb, codes, List, [], ◌∷◌, ◌++◌, length, map, Option, Some, None, Result, Ok, Err, refl, sym, ap, subst, ◌∙◌, append_assoc, length-append, inl, inr, arith}
-use Rattle.std.specs.Prelude.{◌⊎◌, ⊤, IfSome, slice_get}
+use Rattle.std.proofs.Common.{◌≡◌, ℕ, zero, suc, ◌+◌, ◌-◌, ◌*◌, ◌/◌, ◌^◌, ◌≤◌, ◌<◌, ℤ, pos, negsuc, true, leb, ltb, codes, List, [], ◌∷◌, ◌++◌, length, Option, Some, None, Result, Ok, Err, refl, sym, ap, subst, ◌∙◌, append_assoc, length-append, inl, inr, arith}
+use Rattle.std.specs.Prelude.{⊤, IfSome, slice_get}
 use Rattle.std.specs.Result.{IfOk}
-use Rattle.std.specs.List.{All, AllByRecursion, sum_by}
-use Rattle.std.proofs.lemmas.Bool.{leb-true, ltb-true, false≢true}
+use Rattle.std.specs.List.{AllByRecursion, sum_by}
+use Rattle.std.proofs.lemmas.Bool.{leb-true, ltb-true}
 use Rattle.std.proofs.lemmas.List.{append-nil, length-map}
 use Rattle.std.proofs.lemmas.List.Elements.{All-from_recursion}
 use Rattle.std.proofs.lemmas.List.Sums.{sum_by-cons}
@@ -24,7 +24,7 @@ use Rattle.sched_model.specs.Places.{numbers_from}
 use Rattle.sched_model.specs.State.{has_core}
 use Rattle.sched_model.specs.Opening.{core_count}
 use Rattle.sched_model.specs.Actions.{units_from}
-use Rattle.sched_model.specs.Checked.{IsWithin, IsGranularity, HasUnit, IsCheckedFrame, PoolParamsPass, IsCheckedPool, IsCheckedScript, DomParamsPass, IsCheckedPins, IsCheckedDomain, IsCheckedConfig, most_span}
+use Rattle.sched_model.specs.Checked.{IsWithin, IsGranularity, HasUnit, IsCheckedFrame, PoolParamsPass, IsCheckedPool, IsCheckedScript, DomParamsPass, IsCheckedDomain, IsCheckedConfig, most_span}
 use Rattle.toml.specs.Data.{Data, Members, get_member}
 use Rattle.dom_file.specs.declared.draft.EntryDraft.{EntryDraft}
 use Rattle.dom_file.specs.declared.draft.FrameDraft.{FrameDraft}
@@ -40,11 +40,11 @@ use Rattle.dom_file.specs.Steps.{◌>>=◌, at, each, Gives}
 use Rattle.dom_file.specs.Values.{table_of, array_of}
 use Rattle.dom_file.specs.Heads.{head_of}
 use Rattle.dom_file.specs.Pins.{unit_count}
-use Rattle.dom_file.specs.Pools.{pools_in, default_pool}
+use Rattle.dom_file.specs.Pools.{default_pool}
 use Rattle.dom_file.specs.Domains.{domains_in}
 use Rattle.dom_file.specs.Finish.{below, units_at, entry_of, frame_of, params_of, finished_pool, finished_pools, total_units, few_units}
 use Rattle.dom_file.specs.Configs.{tables_of, pool_tables_in, domain_tables_in, all_pools, config_of}
-use Rattle.dom_file.proofs.Passed.{bind_ok, at_ok, kept, ok_is, absent_or_ok, array_ok, Pairs, each_ok, length-Pairs, all-get, get-Pairs, one_core}
+use Rattle.dom_file.proofs.Passed.{bind_ok, at_ok, kept, ok_is, absent_or_ok, array_ok, Pairs, each_ok, length-Pairs, get-Pairs, one_core}
 use Rattle.dom_file.proofs.CheckedPools.{IsCheckedHead, head_ok, IsFrameDraft, DraftPasses, IsPoolDraft, ArePoolDrafts, pools_ok, default_pool_ok}
 use Rattle.dom_file.proofs.CheckedDomains.{IsDomainDraft, AreDomainDrafts, domains_ok}
 

@@ -1,9 +1,9 @@
 -- What is known of the domains where their checks passed.
-use Rattle.std.proofs.Common.{◌≡◌, ℕ, zero, suc, ◌+◌, ◌-◌, ◌*◌, ◌/◌, ◌%◌, ◌^◌, ◌≤◌, ◌<◌, min, pos, Bool, true, false, cond, ltb, eqb, codes, List, [], ◌∷◌, ◌++◌, length, Option, Some, None, Result, Ok, Err, refl, sym, ap, subst, ◌∙◌, inl, inr, arith}
+use Rattle.std.proofs.Common.{◌≡◌, ℕ, zero, suc, ◌+◌, ◌-◌, ◌*◌, ◌%◌, ◌^◌, ◌<◌, min, pos, Bool, true, false, cond, eqb, codes, List, [], ◌∷◌, ◌++◌, length, Option, Some, None, Result, Ok, Err, refl, sym, subst, inl, inr, arith}
 use Rattle.std.specs.Prelude.{◌⊎◌, slice_get}
-use Rattle.std.specs.List.{AllByRecursion, list_any}
+use Rattle.std.specs.List.{AllByRecursion}
 use Rattle.std.specs.Str.{bytes_eq}
-use Rattle.std.proofs.lemmas.Bool.{eqb-true, eq-eqb, false≢true}
+use Rattle.std.proofs.lemmas.Bool.{eqb-true, false≢true}
 use Rattle.std.proofs.lemmas.List.Elements.{All-from_recursion}
 use Rattle.sched_base.specs.Numbers.{span, pool as pool_number, core_set}
 use Rattle.sched_base.specs.Names.{is_name}
@@ -30,7 +30,7 @@ use Rattle.dom_file.specs.Cores.{cores_of}
 use Rattle.dom_file.specs.Guests.{span_of, script_of, scripts_of}
 use Rattle.dom_file.specs.Pins.{unit_count, pin_of, pins_in}
 use Rattle.dom_file.specs.Domains.{has_name, domain_name_in, home_place_in, home_at, home_in, domain_keys, period_in, budget_in, extra_in, params_in, domain_in, domains_in}
-use Rattle.dom_file.proofs.Passed.{bind_ok, at_ok, kept_not, ok_is, absent_or_ok, number_ok, number_or_ok, name_ok, array_ok, Pairs, each_ok, length-Pairs, all-Pairs, all-push, length-push, none_passes, Apart, apart-push, other_name}
+use Rattle.dom_file.proofs.Passed.{bind_ok, at_ok, kept_not, ok_is, absent_or_ok, number_ok, number_or_ok, name_ok, array_ok, each_ok, length-Pairs, all-Pairs, all-push, length-push, none_passes, Apart, apart-push, other_name}
 use Rattle.dom_file.proofs.CheckedPools.{IsCheckedHead, cores_in_all, cores_ok}
 
 kept_check : {A E : Type 0} (b : Bool) (r : Result A E) (e : E) (y : A) → cond b r (Err e) ≡ Ok y → (b ≡ true) × (r ≡ Ok y)

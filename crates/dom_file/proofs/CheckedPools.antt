@@ -1,9 +1,9 @@
 -- What is known of the top table and of the pools where their checks passed.
-use Rattle.std.proofs.Common.{◌≡◌, ◌≢◌, ℕ, zero, suc, ◌+◌, ◌-◌, ◌*◌, ◌/◌, ◌%◌, ◌^◌, ◌≤◌, ◌<◌, pos, Bool, true, false, cond, ◌&&◌, leb, ltb, eqb, codes, List, [], ◌∷◌, ◌++◌, length, Option, Some, None, Result, Ok, Err, bit_or, refl, sym, ap, subst, ◌∙◌, inl, inr, arith}
+use Rattle.std.proofs.Common.{◌≡◌, ℕ, zero, suc, ◌+◌, ◌-◌, ◌/◌, ◌%◌, ◌^◌, ◌≤◌, ◌<◌, pos, true, false, cond, ◌&&◌, leb, ltb, eqb, codes, List, [], ◌∷◌, ◌++◌, length, Option, Some, None, Result, Ok, Err, bit_or, refl, sym, subst, ◌∙◌, inl, inr, arith}
 use Rattle.std.specs.Prelude.{◌⊎◌, ⊤, IfSome, count_ones, slice_get}
-use Rattle.std.specs.List.{AllByRecursion, list_any, sum_by}
+use Rattle.std.specs.List.{AllByRecursion, sum_by}
 use Rattle.std.specs.Str.{bytes_eq}
-use Rattle.std.proofs.lemmas.Bool.{and_parts, cases_Bool, leb-true, lt-ltb, ltb-false, eqb-true, false≢true}
+use Rattle.std.proofs.lemmas.Bool.{leb-true, lt-ltb, ltb-false, eqb-true, false≢true}
 use Rattle.std.proofs.lemmas.Nat.{pow_pos, le_or_r}
 use Rattle.sched_base.specs.Numbers.{moment, span}
 use Rattle.sched_base.specs.declared.Moment.{Moment}
@@ -28,10 +28,10 @@ use Rattle.dom_file.specs.Steps.{◌>>=◌, at, each}
 use Rattle.dom_file.specs.Values.{required, integer_of, number_of, number_or, elements_of, array_of, name_of}
 use Rattle.dom_file.specs.Keys.{only_known}
 use Rattle.dom_file.specs.Heads.{top_keys, format_in, granularity_in, processors_in, horizon_in, head_of}
-use Rattle.dom_file.specs.Cores.{with_cores, is_taken, core_of, cores_of, all_cores}
+use Rattle.dom_file.specs.Cores.{with_cores, is_taken, core_of, cores_of}
 use Rattle.dom_file.specs.Frames.{entry_in, entry_of, entries_of, frame_entries_in, frame_with, frame_in}
 use Rattle.dom_file.specs.Pools.{is_named, pool_name_in, sched_in, few_cores, cpus_in, pool_keys, limit_in, params_in, pool_in, pools_in, default_pool}
-use Rattle.dom_file.proofs.Passed.{bind_ok, at_ok, kept, kept_not, ok_is, number_ok, number_or_ok, name_ok, array_ok, Pairs, each_ok, length-Pairs, all-Pairs, all-push, length-push, none_passes, Apart, apart-push, other_name, with_cores_ok, with_cores-le, no_core}
+use Rattle.dom_file.proofs.Passed.{bind_ok, at_ok, kept, kept_not, ok_is, number_ok, number_or_ok, name_ok, array_ok, each_ok, length-Pairs, all-Pairs, all-push, length-push, none_passes, Apart, apart-push, other_name, with_cores_ok, with_cores-le, no_core}
 
 -- ---- the top table
 

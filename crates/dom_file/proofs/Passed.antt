@@ -1,24 +1,24 @@
 -- What is known where a check passed: one value, a list of values, and sets of cores.
-use Rattle.std.proofs.Common.{◌≡◌, ◌≢◌, ℕ, zero, suc, ◌+◌, ◌-◌, ◌*◌, ◌/◌, ◌%◌, ◌^◌, ◌≤◌, ◌<◌, max, ℤ, pos, negsuc, Bool, true, false, cond, ◌&&◌, ◌||◌, leb, ltb, eqb, List, [], ◌∷◌, ◌++◌, length, Option, Some, None, Result, Ok, Err, bit_or, refl, sym, ap, subst, ◌∙◌, inl, inr, arith}
+use Rattle.std.proofs.Common.{◌≡◌, ◌≢◌, ℕ, zero, suc, ◌+◌, ◌/◌, ◌^◌, ◌≤◌, ◌<◌, ℤ, pos, negsuc, Bool, true, false, cond, ◌&&◌, ◌||◌, leb, List, [], ◌∷◌, ◌++◌, length, Option, Some, None, Result, Ok, Err, bit_or, refl, sym, ap, subst, ◌∙◌, inl, inr, arith}
 use Rattle.std.specs.Prelude.{◌⊎◌, count_ones, slice_get}
 use Rattle.std.specs.List.{AllByRecursion, list_any}
 use Rattle.std.specs.Int.{bit_at}
 use Rattle.std.specs.Int.Count.{ones, ones_in}
 use Rattle.std.specs.Str.{bytes_eq}
 use Rattle.std.proofs.Math.Pow.{pow-lt}
-use Rattle.std.proofs.lemmas.Bool.{and_parts, cases_eq, leb-true, ltb-true, ltb-false, eqb-true, eq-eqb, false≢true}
-use Rattle.std.proofs.lemmas.Nat.{le_or_l, le_or_r, or_lt, pow_pos}
+use Rattle.std.proofs.lemmas.Bool.{and_parts, cases_eq, leb-true, eqb-true, eq-eqb, false≢true}
+use Rattle.std.proofs.lemmas.Nat.{le_or_l, or_lt}
 use Rattle.std.proofs.lemmas.Nat.Bits.{bit_at_or, bit_at-pow_other, bit_at-zero, bit_at-suc, bit_at_lowest}
 use Rattle.std.proofs.lemmas.Slice.Eq.{bytes_eq-Decides}
 use Rattle.sched_base.specs.Names.{is_name}
-use Rattle.sched_model.specs.Checked.{IsWithin, IsGranularity}
+use Rattle.sched_model.specs.Checked.{IsWithin}
 use Rattle.sched_model.specs.State.{has_core}
-use Rattle.toml.specs.Data.{Data, Members, get_member, as_integer, as_str, as_array}
+use Rattle.toml.specs.Data.{Data, Members, get_member, as_integer}
 use Rattle.dom_file.specs.declared.fault.TableName.{TableName}
 use Rattle.dom_file.specs.declared.fault.DomCause.{DomCause}
 use Rattle.dom_file.specs.declared.fault.DomCause.TheVariants.{Range, Kind}
 use Rattle.dom_file.specs.Steps.{◌>>=◌, at, each}
-use Rattle.dom_file.specs.Values.{of_kind, within, number_of, number_or, elements_of, array_of, list_of, text_of, name_of}
+use Rattle.dom_file.specs.Values.{of_kind, within, number_of, number_or, elements_of, array_of, text_of, name_of}
 use Rattle.dom_file.specs.Cores.{with_cores}
 
 -- ---- steps

@@ -1,5 +1,5 @@
 -- The tables of the domains.
-use Rattle.std.specs.Prelude.{ℕ, suc, ◌*◌, ◌==◌, min, codes, Bool, true, List, [], ◌∷◌, ◌++◌, length, slice_get, Option, Some, None, Result, Ok, Err, if◌then◌else◌}
+use Rattle.std.specs.Prelude.{ℕ, suc, ◌*◌, ◌==◌, min, codes, Bool, true, List, [], ◌∷◌, ◌++◌, length, slice_get, Some, None, Result, Ok, Err, if◌then◌else◌}
 use Rattle.std.specs.List.{list_any}
 use Rattle.std.specs.Str.{bytes_eq}
 use Rattle.sched_base.specs.Numbers.{span, pool}

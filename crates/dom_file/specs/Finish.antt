@@ -1,5 +1,5 @@
 -- The units in all, the frames of the pools held against the domains, and the pools that come of it.
-use Rattle.std.specs.Prelude.{ℕ, ℤ, pos, negsuc, nat_lt, nat_le, codes, List, [], ◌∷◌, ◌++◌, length, slice_get, Option, Some, None, Result, Ok, Err, ⊤, if◌then◌else◌}
+use Rattle.std.specs.Prelude.{ℕ, ℤ, pos, negsuc, nat_lt, nat_le, codes, List, [], ◌∷◌, ◌++◌, length, slice_get, Some, None, Result, Ok, Err, ⊤, if◌then◌else◌}
 use Rattle.std.specs.List.{sum_by}
 use Rattle.sched_base.specs.Numbers.{domain}
 use Rattle.sched_model.specs.declared.config.DomConfig.{DomConfig}

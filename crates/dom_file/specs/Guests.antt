@@ -1,5 +1,5 @@
 -- The scripts of a domain's vCPUs.
-use Rattle.std.specs.Prelude.{ℕ, ◌%◌, ◌==◌, pos, codes, List, length, Result, Ok, Err, if◌then◌else◌}
+use Rattle.std.specs.Prelude.{◌%◌, ◌==◌, pos, codes, List, length, Result, Ok, Err, if◌then◌else◌}
 use Rattle.sched_base.specs.Numbers.{span}
 use Rattle.sched_base.specs.declared.Span.{Span}
 use Rattle.sched_model.specs.Checked.{most_span}

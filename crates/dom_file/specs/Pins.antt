@@ -1,5 +1,5 @@
 -- The sets of cores that a domain's units are pinned to.
-use Rattle.std.specs.Prelude.{ℕ, ◌+◌, ◌-◌, ◌/◌, ◌==◌, codes, List, [], Option, Some, None, Result, Ok, if◌then◌else◌}
+use Rattle.std.specs.Prelude.{ℕ, ◌+◌, ◌-◌, ◌/◌, ◌==◌, codes, List, [], Some, None, Result, Ok, if◌then◌else◌}
 use Rattle.sched_base.specs.Numbers.{core_set}
 use Rattle.sched_base.specs.declared.Cores.{Cores}
 use Rattle.toml.specs.Data.{Data, Members, get_member}

@@ -1,5 +1,5 @@
 -- The tables of the pools.
-use Rattle.std.specs.Prelude.{ℕ, pos, ◌==◌, ◌&&◌, nat_lt, nat_le, count_ones, codes, Bool, List, [], ◌∷◌, ◌++◌, length, Option, Some, None, Result, Ok, Err, if◌then◌else◌}
+use Rattle.std.specs.Prelude.{ℕ, pos, ◌&&◌, nat_lt, count_ones, codes, Bool, List, [], ◌∷◌, ◌++◌, length, Some, None, Result, Ok, Err, if◌then◌else◌}
 use Rattle.std.specs.List.{list_any}
 use Rattle.std.specs.Str.{bytes_eq}
 use Rattle.sched_model.specs.declared.config.SchedKind.{SchedKind}

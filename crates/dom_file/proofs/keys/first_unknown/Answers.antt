@@ -1,4 +1,4 @@
-use Rattle.std.proofs.Common.{◌≡◌, map, not, string_bytes, ap, sym, ◌∙◌, List}
+use Rattle.std.proofs.Common.{map, not, string_bytes, ap, sym, ◌∙◌}
 use Rattle.std.specs.Prelude.{find}
 use Rattle.dom_file.specs.Keys.{is_among}
 use Rattle.dom_file.proofs.Lists.{keys_of-members_view}

@@ -1,8 +1,6 @@
-use Rattle.std.proofs.Common.{◌≡◌, List, map, Option, Some, option_map, sym, ap, refl, ◌∙◌, Bor, Vec, Global}
-use Rattle.toml.specs.declared.value.Value.{Value}
-use Rattle.toml.specs.Data.{Data, as_array}
+use Rattle.std.proofs.Common.{◌≡◌, Some, option_map, sym, ap, refl, ◌∙◌}
+use Rattle.toml.specs.Data.{as_array}
 use Rattle.toml.specs.View.{view, array_view}
-use Rattle.dom_file.specs.Values.{elements_of}
 use Rattle.dom_file.proofs.Lists.{list_of-items_view}
 use Rattle.dom_file.proofs.values.elements.Goals as goal
 
