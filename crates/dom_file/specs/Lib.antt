@@ -1,0 +1,12 @@
+pub mod Steps
+pub mod Values
+pub mod Keys
+pub mod Heads
+pub mod Cores
+pub mod Frames
+pub mod Pools
+pub mod Guests
+pub mod Pins
+pub mod Domains
+pub mod Finish
+pub mod Configs

@@ -1,0 +1,110 @@
+//! Why a check stops before it gives a value.
+
+ghost use Rattle.std.specs.Prelude.{◌≡◌};
+ghost use Rattle.dom_file.specs.Steps.{Gives, IsFaultAt, IsPlaced, at};
+ghost use Rattle.dom_file.specs.declared.fault.DomFault.TheVariants.{NoMemory as FaultOfMemory};
+ghost use Rattle.dom_file.specs.declared.stop.Stop.TheVariants.{NoMemory, Cause};
+
+use crate::fault::{DomCause, DomFault, TableName, Text};
+use std::alloc::{AllocError, AllocFailed, Global};
+
+/// A value is refused for a cause, or memory was wanted and not found.
+#[derive(Drop)]
+pub(crate) enum Stop {
+    NoMemory,
+    Cause(DomCause),
+}
+
+impl From<DomCause> for Stop {
+    ghost from_gives = { λ cause stop. stop ≡ Cause cause };
+
+    fn from(cause: DomCause) -> Stop {
+        Stop::Cause(cause)
+    }
+}
+
+impl From<AllocError> for Stop {
+    ghost from_gives = { λ _ stop. stop ≡ NoMemory };
+
+    fn from(_e: AllocError) -> Stop {
+        Stop::NoMemory
+    }
+}
+
+impl<T: Drop> From<AllocFailed<T>> for Stop {
+    ghost from_gives = { λ _ stop. stop ≡ NoMemory };
+
+    fn from(_e: AllocFailed<T>) -> Stop {
+        Stop::NoMemory
+    }
+}
+
+impl From<AllocError> for DomFault {
+    ghost from_gives = { λ _ fault. fault ≡ FaultOfMemory };
+
+    fn from(_e: AllocError) -> DomFault {
+        DomFault::NoMemory
+    }
+}
+
+impl<T: Drop> From<AllocFailed<T>> for DomFault {
+    ghost from_gives = { λ _ fault. fault ≡ FaultOfMemory };
+
+    fn from(_e: AllocFailed<T>) -> DomFault {
+        DomFault::NoMemory
+    }
+}
+
+/// The fault of this key of the table with this number.
+pub(crate) fn fault_at(
+    alloc: Global,
+    table: TableName,
+    index: u32,
+    key: &str,
+    cause: DomCause,
+) -> DomFault
+    ensures { IsFaultAt table index key.now cause result }
+{
+    match Text::new(alloc, key) {
+        Ok(key) => DomFault::Bad {
+            table,
+            index,
+            key,
+            cause,
+        },
+        Err(_) => DomFault::NoMemory,
+    }
+}
+
+/// The value, or the fault of this key of the table with this number.
+pub(crate) fn placed<X>(
+    alloc: Global,
+    table: TableName,
+    index: u32,
+    key: &str,
+    checked: Result<X, DomCause>,
+) -> Result<X, DomFault>
+    ensures { Gives result (at table index key.now checked) }
+{
+    match checked {
+        Ok(value) => Ok(value),
+        Err(cause) => Err(fault_at(alloc, table, index, key, cause)),
+    }
+}
+
+/// The value, or the fault of this key of the table with this number, unless memory was wanted already.
+pub(crate) fn placed_or_stopped<X>(
+    alloc: Global,
+    table: TableName,
+    index: u32,
+    key: &str,
+    checked: Result<X, Stop>,
+) -> Result<X, DomFault>
+    ensures { IsPlaced table index key.now checked result }
+{
+    match checked {
+        Ok(value) => Ok(value),
+        Err(Stop::NoMemory) => Err(DomFault::NoMemory),
+        Err(Stop::Cause(cause)) => Err(fault_at(alloc, table, index, key, cause)),
+    }
+}
