@@ -65,7 +65,7 @@ impl Text {
     ghost use Rattle.std.specs.Prelude.{◌≡◌, IfOk};
 
     /// A copy of the text.
-    pub(crate) fn new(alloc: Global, text: &str) -> Result<Text, AllocError>
+    pub fn new(alloc: Global, text: &str) -> Result<Text, AllocError>
         ensures { IfOk result (λ t. t ≡ text.now) }
     {
         Ok(Text {
