@@ -1,0 +1,2 @@
+pub mod FirstPasses
+pub mod WithoutWork
