@@ -1,0 +1,143 @@
+-- What holds of each element of a list, and of what stands at a place.
+use Rattle.std.proofs.Common.{arith, length, ◌≡◌, ◌≢◌, ℕ, zero, suc, Bool, true, false, List, [], ◌∷◌, ◌++◌, refl, subst, ap, cond}
+use Rattle.std.specs.Prelude.{Option, Some, None, is_some, filter, ◌&&◌, ◌||◌, slice_get}
+use Rattle.std.specs.List.{list_any, AllByRecursion}
+use Rattle.sched_model.specs.Places.{at_place, put_at, clear_at, change_at, change_item, test_at, numbered}
+use Rattle.sched_laws.specs.Each.{EachPlace}
+use Rattle.sched_laws.proofs.Bools.{both}
+
+pub AllByRecursion-map : {X : Type 0} (P Q : X → Type 0) → ((x : X) → P x → Q x) → (xs : List X) → AllByRecursion P xs → AllByRecursion Q xs
+AllByRecursion-map P Q to [] each = tt
+AllByRecursion-map P Q to (x ∷ xs) each = (to x each.0, AllByRecursion-map P Q to xs each.1)
+
+pub AllByRecursion-push : {X : Type 0} (P : X → Type 0) (xs : List X) (x : X) → AllByRecursion P xs → P x → AllByRecursion P (xs ++ x ∷ [])
+AllByRecursion-push P [] x each here = (here, tt)
+AllByRecursion-push P (y ∷ xs) x each here = (each.0, AllByRecursion-push P xs x each.1 here)
+
+-- those that pass a test
+pub AllByRecursion-filter : {X : Type 0} (P Q : X → Type 0) (test : X → Bool) → ((x : X) → test x ≡ true → P x → Q x) → (xs : List X) → AllByRecursion P xs → AllByRecursion Q (filter test xs)
+AllByRecursion-filter P Q test to [] each = tt
+AllByRecursion-filter P Q test to (x ∷ xs) each =
+    elim (test x) as (λ b. test x ≡ b → AllByRecursion Q (cond b (x ∷ filter test xs) (filter test xs))) [
+      | true ↦ λ is. (to x is each.0, AllByRecursion-filter P Q test to xs each.1)
+      | false ↦ λ is. AllByRecursion-filter P Q test to xs each.1
+    ] refl
+
+-- none of the list passes, where none is found
+pub none_passes : {X : Type 0} (test : X → Bool) (xs : List X) → list_any test xs ≡ false → AllByRecursion (λ x. test x ≡ false) xs
+none_passes test [] none = tt
+none_passes test (x ∷ xs) none =
+    elim (test x) as (λ b. test x ≡ b → (b || list_any test xs) ≡ false → AllByRecursion (λ x. test x ≡ false) (x ∷ xs)) [
+      | true ↦ λ is h. absurd (cc)
+      | false ↦ λ is h. (is, none_passes test xs h)
+    ] refl none
+
+-- what holds of each numbered thing holds at each place
+pub at_numbered : {X : Type 0} (P : X → Type 0) (n : ℕ) (places : List (Option X)) → AllByRecursion (λ (e : ℕ × X). P e.1) (numbered n places) → EachPlace P places
+at_numbered P n [] each i x at = absurd (cc)
+at_numbered P n (None ∷ places) each zero x at = absurd (cc)
+at_numbered P n (None ∷ places) each (suc i) x at = at_numbered P (suc n) places each i x at
+at_numbered P n (Some y ∷ places) each zero x at = let e : y ≡ x = cc in subst P e each.0
+at_numbered P n (Some y ∷ places) each (suc i) x at = at_numbered P (suc n) places each.1 i x at
+
+-- a test at a place, from what stands there, and back
+pub test_at-some : {X : Type 0} (places : List (Option X)) (i : ℕ) (test : X → Bool) (x : X) → at_place places i ≡ Some x → test x ≡ true → test_at places i test ≡ true
+test_at-some places i test x at passes = rw (at, test_at) passes
+
+pub some-test_at : {X : Type 0} (places : List (Option X)) (i : ℕ) (test : X → Bool) → test_at places i test ≡ true → (x : X) × (at_place places i ≡ Some x) × (test x ≡ true)
+some-test_at {X} places i test passes =
+    elim (at_place places i) as (λ o. at_place places i ≡ o → elim o as (λ _. Bool) [ None ↦ false | Some x ↦ test x ] ≡ true → (x : X) × (at_place places i ≡ Some x) × (test x ≡ true)) [
+      | None ↦ λ is h. absurd (cc)
+      | Some x ↦ λ is h. (x, is, h)
+    ] refl passes
+
+-- a change that the test does not see
+pub test_at-change_at : {X : Type 0} (i j : ℕ) (f : X → X) (test : X → Bool) (places : List (Option X)) → ((x : X) → test (f x) ≡ test x) → test_at (change_at i f places) j test ≡ test_at places j test
+test_at-change_at zero j f test [] same = refl
+test_at-change_at (suc i) j f test [] same = refl
+test_at-change_at zero zero f test (None ∷ places) same = refl
+test_at-change_at zero zero f test (Some x ∷ places) same = same x
+test_at-change_at zero (suc j) f test (p ∷ places) same = refl
+test_at-change_at (suc i) zero f test (p ∷ places) same = refl
+test_at-change_at (suc i) (suc j) f test (p ∷ places) same = test_at-change_at i j f test places same
+
+pub test_at-change_at_other : {X : Type 0} (i j : ℕ) (f : X → X) (test : X → Bool) (places : List (Option X)) → j ≢ i → test_at (change_at i f places) j test ≡ test_at places j test
+test_at-change_at_other zero j f test [] other = refl
+test_at-change_at_other (suc i) j f test [] other = refl
+test_at-change_at_other zero zero f test (p ∷ places) other = absurd (other refl)
+test_at-change_at_other zero (suc j) f test (p ∷ places) other = refl
+test_at-change_at_other (suc i) zero f test (p ∷ places) other = refl
+test_at-change_at_other (suc i) (suc j) f test (p ∷ places) other = test_at-change_at_other i j f test places (λ e. other (ap suc e))
+
+pub test_at-put_at : {X : Type 0} (i j : ℕ) (x : X) (test : X → Bool) (places : List (Option X)) → test x ≡ true → test_at places j test ≡ true → test_at (put_at i x places) j test ≡ true
+test_at-put_at zero j x test [] here passes = passes
+test_at-put_at (suc i) j x test [] here passes = passes
+test_at-put_at zero zero x test (p ∷ places) here passes = here
+test_at-put_at zero (suc j) x test (p ∷ places) here passes = passes
+test_at-put_at (suc i) zero x test (p ∷ places) here passes = passes
+test_at-put_at (suc i) (suc j) x test (p ∷ places) here passes = test_at-put_at i j x test places here passes
+
+pub test_at-clear_at : {X : Type 0} (i j : ℕ) (test : X → Bool) (places : List (Option X)) → j ≢ i → test_at (clear_at i places) j test ≡ test_at places j test
+test_at-clear_at zero j test [] other = refl
+test_at-clear_at (suc i) j test [] other = refl
+test_at-clear_at zero zero test (p ∷ places) other = absurd (other refl)
+test_at-clear_at zero (suc j) test (p ∷ places) other = refl
+test_at-clear_at (suc i) zero test (p ∷ places) other = refl
+test_at-clear_at (suc i) (suc j) test (p ∷ places) other = test_at-clear_at i j test places (λ e. other (ap suc e))
+
+-- both parts of a test that passes
+-- neither part of a test that fails
+-- something is there
+pub some_is : {X : Type 0} (o : Option X) → is_some o ≡ true → (x : X) × (o ≡ Some x)
+some_is None some = absurd (cc)
+some_is (Some x) some = (x, refl)
+
+pub is_some_at : {X : Type 0} (o : Option X) (x : X) → o ≡ Some x → is_some o ≡ true
+is_some_at o x is = rw is refl
+
+-- a change after which the test passes where it did
+pub test_at-change_at_more : {X : Type 0} (i j : ℕ) (f : X → X) (test : X → Bool) (places : List (Option X)) → ((x : X) → test x ≡ true → test (f x) ≡ true) → test_at places j test ≡ true → test_at (change_at i f places) j test ≡ true
+test_at-change_at_more zero j f test [] more passes = passes
+test_at-change_at_more (suc i) j f test [] more passes = passes
+test_at-change_at_more zero zero f test (None ∷ places) more passes = passes
+test_at-change_at_more zero zero f test (Some x ∷ places) more passes = more x passes
+test_at-change_at_more zero (suc j) f test (p ∷ places) more passes = passes
+test_at-change_at_more (suc i) zero f test (p ∷ places) more passes = passes
+test_at-change_at_more (suc i) (suc j) f test (p ∷ places) more passes = test_at-change_at_more i j f test places more passes
+
+pub and_more : (a b c : Bool) → (a && b) ≡ true → (b ≡ true → c ≡ true) → (a && c) ≡ true
+and_more true b c both to = to both
+and_more false b c both to = absurd (cc)
+
+pub test_at-put_at_other : {X : Type 0} (i j : ℕ) (x : X) (test : X → Bool) (places : List (Option X)) → j ≢ i → test_at (put_at i x places) j test ≡ test_at places j test
+test_at-put_at_other zero j x test [] other = refl
+test_at-put_at_other (suc i) j x test [] other = refl
+test_at-put_at_other zero zero x test (p ∷ places) other = absurd (other refl)
+test_at-put_at_other zero (suc j) x test (p ∷ places) other = refl
+test_at-put_at_other (suc i) zero x test (p ∷ places) other = refl
+test_at-put_at_other (suc i) (suc j) x test (p ∷ places) other = test_at-put_at_other i j x test places (λ e. other (ap suc e))
+
+-- a change after which the test fails
+pub test_at-change_at_false : {X : Type 0} (i : ℕ) (f : X → X) (test : X → Bool) (places : List (Option X)) → ((x : X) → test (f x) ≡ false) → test_at (change_at i f places) i test ≡ false
+test_at-change_at_false zero f test [] fails = refl
+test_at-change_at_false (suc i) f test [] fails = refl
+test_at-change_at_false zero f test (None ∷ places) fails = refl
+test_at-change_at_false zero f test (Some x ∷ places) fails = fails x
+test_at-change_at_false (suc i) f test (p ∷ places) fails = test_at-change_at_false i f test places fails
+
+pub test_at-clear_at_false : {X : Type 0} (i : ℕ) (test : X → Bool) (places : List (Option X)) → test_at (clear_at i places) i test ≡ false
+test_at-clear_at_false zero test [] = refl
+test_at-clear_at_false (suc i) test [] = refl
+test_at-clear_at_false zero test (p ∷ places) = refl
+test_at-clear_at_false (suc i) test (p ∷ places) = test_at-clear_at_false i test places
+
+pub length_change_item : {X : Type 0} (i : ℕ) (f : X → X) (xs : List X) → length (change_item i f xs) ≡ length xs
+length_change_item i f [] = refl
+length_change_item zero f (x ∷ xs) = grind arith
+length_change_item (suc i) f (x ∷ xs) = (let r = length_change_item i f xs in grind (arith, r))
+
+-- past the end of a list there is nothing
+pub get_later : {X : Type 0} (xs : List X) (n : ℕ) → slice_get xs n ≡ None → slice_get xs (suc n) ≡ None
+get_later [] n none = grind arith
+get_later (x ∷ xs) zero none = absurd (cc)
+get_later (x ∷ xs) (suc n) none = get_later xs n none

@@ -1,0 +1,14 @@
+use Rattle.sched_laws.proofs.NullLaw.{one_core, cause, own_core, running}
+use Rattle.sched_laws.proofs.laws.law_null_kept.Goals as goal
+
+pub returns-clause-one_core : goal.returns-clause-one_core
+returns-clause-one_core c m checked entries run = one_core m checked entries run
+
+pub returns-clause-cause : goal.returns-clause-cause
+returns-clause-cause c m checked entries next run = cause m checked entries next run
+
+pub returns-clause-own_core : goal.returns-clause-own_core
+returns-clause-own_core c m checked entries next run = own_core m checked entries next run
+
+pub returns-clause-running : goal.returns-clause-running
+returns-clause-running c m checked before last run is = running m checked before last run is

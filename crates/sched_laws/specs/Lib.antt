@@ -1,0 +1,4 @@
+pub mod Each
+pub mod StateLaws
+pub mod RunLaws
+pub mod NullLaws

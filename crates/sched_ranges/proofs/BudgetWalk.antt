@@ -1,0 +1,532 @@
+-- What each step of a Credit2 pool keeps of its budgets, and of which units run.
+use Rattle.std.proofs.Common.{◌≡◌, ◌<◌, ℕ, true, false, List, [], ◌∷◌, refl, subst, sym, ◌∙◌, ap, cond, ◌⊎◌, inl, inr, Bool, zero, suc, not, ◌≤◌, ◌+◌, ◌-◌, ◌*◌, ◌/◌, ◌%◌, arith, length}
+use Rattle.std.specs.Prelude.{Option, Some, None, is_some, length, replicate, ◌&&◌, ◌||◌, ◌*◌, ◌+◌, ◌/◌, ◌%◌, option_map, is_none, slice_get, unwrap_or, pos}
+use Rattle.std.specs.List.{list_any}
+use Rattle.sched_base.specs.Numbers.{moment, domain as domain_number, pool as pool_number, span}
+use Rattle.sched_base.specs.declared.Moment.{Moment}
+use Rattle.sched_base.specs.declared.UnitId.{UnitId}
+use Rattle.sched_base.specs.declared.VcpuId.{VcpuId}
+use Rattle.sched_model.specs.declared.config.ParamChange.{ParamChange}
+use Rattle.sched_model.specs.declared.config.ParamChange.TheVariants as changes
+use Rattle.sched_model.specs.declared.config.DomParams.{DomParams}
+use Rattle.sched_model.specs.declared.config.DomParams.TheVariants as dom_params
+use Rattle.sched_model.specs.Credit2 as credit2
+use Rattle.sched_model.specs.Rtds as rtds
+use Rattle.sched_model.specs.declared.config.PoolParams.{PoolParams}
+use Rattle.sched_model.specs.declared.config.PoolParams.TheVariants as pool_params
+use Rattle.sched_model.specs.declared.state.Domain.{Domain}
+use Rattle.sched_model.specs.declared.state.Doing.TheVariants.{Guest, Idle, Held}
+use Rattle.sched_model.specs.declared.state.Stage.TheVariants.{Open}
+use Rattle.sched_model.specs.declared.state.Processor.{Processor}
+use Rattle.sched_model.specs.declared.state.Resource.{Resource}
+use Rattle.sched_model.specs.declared.state.Pool.{Pool}
+use Rattle.sched_model.specs.declared.state.RtdsUnit.{RtdsUnit}
+use Rattle.sched_model.specs.declared.state.Credit2Records.{Credit2Records}
+use Rattle.sched_model.specs.declared.state.Records.{Records}
+use Rattle.sched_model.specs.declared.state.Records.TheVariants.{Credit2Pool, RtdsPool, ArincPool, NullPool}
+use Rattle.sched_model.specs.declared.action.Action.{Action}
+use Rattle.sched_model.specs.declared.action.Action.TheVariants.{Stall, Xl, Moved, DomMoved, Wake, Block, Slice, Repl, Refill, Arrive, Decide, Leave, Save}
+use Rattle.sched_model.specs.Places.{at_place, put_at, clear_at, change_at, change_each, change_item, test_at, numbers_from}
+use Rattle.sched_model.specs.State.{is_runnable}
+use Rattle.sched_model.specs.Opening.{fresh_core, core_count}
+use Rattle.sched_model.specs.Policy as policy
+use Rattle.sched_model.specs.Policy.{rtds_record, changed_records, joined_records, parted_records, fresh_records, decision_of, decision_by, choose_window, default_dom_params, default_pool_params}
+use Rattle.sched_model.specs.NullScheduler as null
+use Rattle.sched_model.specs.Pool as pools
+use Rattle.sched_model.specs.Pool.{enabled_in, after_in, settled, home_cores, reconsidered, change_core, change_processor, change_vcpu, change_domain, change_cores_of, does, started_on, set_leaving, set_moving, set_pending, pause, unpause, set_params, without_domain, with_domain, is_of_domain, is_held, is_open, first_up, processor_of, guest_of, decided, same_choice, ask_of}
+use Rattle.sched_laws.proofs.EachPlace.{EachPlace-empty, by_option, by_test, by_cond, at_place-change_each, at_place-put_at, at_place-put_at_other, at_place-clear_at_other, place_below, EachAt-clear_at, EachAt-put_at}
+use Rattle.sched_laws.proofs.Lists.{AllByRecursion-map, some-test_at}
+use Rattle.sched_laws.proofs.Kept.{IsKept}
+use Rattle.sched_laws.proofs.Sound.{none_is}
+use Rattle.sched_laws.proofs.Known.{IsKnownPool, known_pools}
+use Rattle.sched_laws.proofs.Bools.{and_left, and_right}
+use Rattle.std.proofs.lemmas.Nat.{le-div}
+use Rattle.sched_base.specs.declared.Span.{Span}
+use Rattle.sched_base.specs.Credit2Numbers.{start_credit}
+use Rattle.sched_model.specs.declared.machine.Machine.{Machine}
+use Rattle.sched_model.specs.declared.config.DomConfig.{DomConfig}
+use Rattle.sched_model.specs.declared.ask.Ask.{Ask}
+use Rattle.sched_model.specs.declared.state.Scheduler.{Scheduler}
+use Rattle.sched_model.specs.declared.state.Credit2Unit.{Credit2Unit}
+use Rattle.sched_model.specs.declared.state.Credit2Domain.{Credit2Domain}
+use Rattle.sched_model.specs.Arinc.{Window, present_window}
+use Rattle.sched_model.specs.Eligible.{Decision}
+use Rattle.sched_model.specs.Checked.{IsChecked}
+use Rattle.sched_model.specs.Commands.{set_rtds_unit}
+use Rattle.sched_model.specs.Credit2.{domain_has_budget}
+use Rattle.sched_laws.proofs.Choices.{IfUnit, decision_has}
+use Rattle.sched_laws.proofs.Counts.{times, total_at, one_at}
+use Rattle.sched_laws.proofs.OnePlace.{OnePlace, core_places, one_same, both_of, there_each, same_choice_same}
+use Rattle.sched_laws.proofs.Fits.{ChangeFits}
+use Rattle.sched_laws.proofs.Steps.{IsKeptAt}
+use Rattle.sched_ranges.specs.Ranges.{IsUnitOf}
+use Rattle.sched_ranges.proofs.Records.{ParamsFit, default_fits}
+use Rattle.sched_ranges.proofs.Walk.{DomFits, NearEnd, EndsFit, PoolFits, range_steps}
+use Rattle.sched_ranges.proofs.Budget.{BudgetFits, Nobody}
+use Rattle.sched_ranges.proofs.Budgets.{b_fresh, b_later}
+use Rattle.sched_ranges.proofs.Decided.{unit_rec, IsCur, None2, Budgets, RunsOnly, AllRunOnly, choice_pays, decides_unit, decides_idle, s_refilled, s_set_domain, r_burn_cur, r_reset, r_take, r_switch_off, r_set_running, r_refilled, r_set_domain}
+
+-- the domain has as many units as its vCPUs make
+abbrev pub CountIs : Machine → ℕ → ℕ → Type 0
+CountIs m d k = (config : DomConfig) → slice_get m.config.domains d ≡ Some config → k ≡ (length config.guests + m.config.granularity - 1) / m.config.granularity
+
+-- the unit is some core's own
+abbrev pub OnCore : List (Option Resource) → ℕ → ℕ → Type 0
+OnCore cores d n = (r : ℕ) × (c : Resource) × (at_place cores r ≡ Some c) × (c.cur ≡ Some (record { dom = domain_number d; n = n }))
+
+pub record CreditOk (m : Machine) (t : ℕ) (records : Credit2Records) (cores : List (Option Resource)) : Type 0 where
+  pub budgets : Budgets t (CountIs m) None2 None2 records
+  pub runs : AllRunOnly (OnCore cores) records
+
+-- the same of a pool with these records; nothing where it is not one of Credit2
+abbrev pub CreditFits : Machine → ℕ → Records → List (Option Resource) → Type 0
+CreditFits m t records cores = (own : Credit2Records) → records ≡ Credit2Pool own → CreditOk m t own cores
+
+pub credit_fits : (m : Machine) (t : ℕ) (own : Credit2Records) (cores : List (Option Resource)) → CreditOk m t own cores → CreditFits m t (Credit2Pool own) cores
+credit_fits m t own cores fits other is = (let e : own ≡ other = cc in subst (λ (k : Credit2Records). CreditOk m t k cores) e fits)
+
+-- each core that has a unit keeps it
+abbrev Stays : List (Option Resource) → List (Option Resource) → Type 0
+Stays old new = (r : ℕ) (c : Resource) (u : UnitId) → at_place old r ≡ Some c → c.cur ≡ Some u → (d : Resource) × (at_place new r ≡ Some d) × (d.cur ≡ Some u)
+
+fits_stay : (m : Machine) (t : ℕ) (records : Records) (old new : List (Option Resource)) → Stays old new → CreditFits m t records old → CreditFits m t records new
+fits_stay m t records old new stays fits own is =
+    let before = fits own is in
+    record {
+      budgets = before.budgets;
+      runs = λ d x at n y has. elim (before.runs d x at n y has) [
+        | inl none ↦ inl none
+        | inr on ↦ inr (let e = stays on.0 on.1 (record { dom = domain_number d; n = n }) on.2 on.3 in (on.0, e.0, e.1, e.2))
+      ];
+    }
+
+stays_change_at : (i : ℕ) (f : Resource → Resource) (cores : List (Option Resource)) → ((c : Resource) → (f c).cur ≡ c.cur) → Stays cores (change_at i f cores)
+stays_change_at i f [] same r c u at own = absurd (cc)
+stays_change_at zero f (None ∷ cores) same zero c u at own = absurd (cc)
+stays_change_at zero f (Some x ∷ cores) same zero c u at own = (let e : x ≡ c = cc in (f x, refl, same x ∙ ap (λ (z : Resource). z.cur) e ∙ own))
+stays_change_at zero f (x ∷ cores) same (suc r) c u at own = (c, at, own)
+stays_change_at (suc i) f (x ∷ cores) same zero c u at own = (c, at, own)
+stays_change_at (suc i) f (x ∷ cores) same (suc r) c u at own = stays_change_at i f cores same r c u at own
+
+stays_change_each : (f : ℕ → Resource → Resource) (cores : List (Option Resource)) → ((r : ℕ) (c : Resource) → (f r c).cur ≡ c.cur) → Stays cores (change_each 0 f cores)
+stays_change_each f cores same r c u at own =
+    let e : 0 + r ≡ r = omega arith in
+    let there : at_place (change_each 0 f cores) r ≡ option_map (f (0 + r)) (at_place cores r) = at_place-change_each 0 r f cores in
+    (f (0 + r) c, there ∙ ap (λ (o : Option Resource). option_map (f (0 + r)) o) at, same (0 + r) c ∙ own)
+
+-- whether it is Credit2
+abbrev is_credit2 : Records → Bool
+is_credit2 (Credit2Pool records) = true
+is_credit2 (RtdsPool domains) = false
+is_credit2 (ArincPool records) = false
+is_credit2 (NullPool kept) = false
+
+not_credit2 : (m : Machine) (t : ℕ) (records : Records) (cores : List (Option Resource)) → is_credit2 records ≡ false → CreditFits m t records cores
+not_credit2 m t records cores other own is = absurd (let e : true ≡ false = sym (ap is_credit2 is) ∙ other in cc)
+
+rt_kind : (ask : Ask) (domains : List (Option (List RtdsUnit))) (chosen : Option UnitId) → is_credit2 (rtds.decide ask domains chosen).records ≡ false
+rt_kind ask domains None = refl
+rt_kind ask domains (Some u) = refl
+
+window_kind : (ask : Ask) (scheduler : Scheduler) (window : Option Window) → (choose_window ask scheduler window).records ≡ scheduler.records
+window_kind ask scheduler None = refl
+window_kind ask scheduler (Some window) = refl
+
+null_decides : (core : ℕ) (kept : List (Option UnitId)) (chosen : Option UnitId) → is_credit2 (null.decide core kept chosen).records ≡ false
+null_decides core kept None = refl
+null_decides core kept (Some u) = refl
+
+null_kind : (ask : Ask) (scheduler : Scheduler) (kept : List (Option UnitId)) → is_credit2 (null.choose_null ask scheduler kept).records ≡ false
+null_kind ask scheduler kept = by_cond (λ (d : Decision). is_credit2 d.records ≡ false) ask.leaving (null.decide ask.core (clear_at ask.core kept) None) (null.decide ask.core kept (null.choice ask scheduler kept)) (λ leaves. refl) (λ stays. null_decides ask.core kept (null.choice ask scheduler kept))
+
+-- another core's own unit stays it
+other_core : (t r : ℕ) (c : Resource) (pool : Pool) → at_place pool.resources r ≡ Some c → (decision : Decision) (d n : ℕ) → OnCore pool.resources d n → (IsCur c.cur d n → ⊥) → OnCore (put_at r (decided t decision c) pool.resources) d n
+other_core t r c pool at decision d n on apart = (
+  on.0,
+  on.1,
+  at_place-put_at_other r on.0 (decided t decision c) pool.resources (λ e. (
+      let there : at_place pool.resources r ≡ Some on.1 = subst (λ k. at_place pool.resources k ≡ Some on.1) e on.2 in
+      let same : on.1 ≡ c = cc in
+      let own : c.cur ≡ Some (record { dom = domain_number d; n = n }) = subst (λ (x : Resource). x.cur ≡ Some (record { dom = domain_number d; n = n })) same on.3 in
+      apart (subst (λ (o : Option UnitId). IsCur o d n) (sym own) (refl, refl)))) ∙ on.2,
+  on.3,
+)
+
+-- a unit that waits does not run
+waiting_is_off : (g : ℕ) (own : Credit2Records) (pool : Pool) (u : UnitId) → OnePlace g pool → AllRunOnly (OnCore pool.resources) own → 1 ≤ times u pool.scheduler.queue → (y : Credit2Unit) → unit_rec own u ≡ Some y → y.burned ≡ None
+waiting_is_off g own pool u one runs waits y rec =
+    by_option (λ (o : Option Credit2Unit). o ≡ Some y → y.burned ≡ None) (at_place own.domains u.dom.0) _ _ (λ none e. absurd (cc))
+    (λ d at has. elim (runs u.dom.0 d at u.n y has) [
+      | inl none ↦ none
+      | inr on ↦ absurd (
+          let a = total_at (core_places u) on.0 on.1 pool.resources on.2 in
+          let own_u = on.3 in
+          let b : one_at u on.1.cur ≡ 1 = rw own_u (one_same u) in
+          let most = one.most u in
+          omega (arith, waits, a, b, most))
+    ]) rec
+
+unit_inside : (m : Machine) → 0 < m.config.granularity → (u : UnitId) → (is : IsUnitOf m u) → u.n < (length is.config.guests + m.config.granularity - 1) / m.config.granularity
+unit_inside m some u is =
+    let g : ℕ = m.config.granularity in
+    let within = is.inside in
+    let spread : suc u.n * g ≡ u.n * g + g = grind arith in
+    le-div (suc u.n) (length is.config.guests + g - 1) g some (omega (arith, within, spread))
+
+fresh_off : (On : ℕ → Type 0) (weight percent units t : ℕ) → RunsOnly On (credit2.fresh_domain weight percent units t).units
+fresh_off On weight percent units t n y at = inl (off units n y at)
+  where
+    off : (k n : ℕ) (y : Credit2Unit) → slice_get (replicate k (record { credit = pos start_credit; residual = 0; held = pos 0; burned = None })) n ≡ Some y → y.burned ≡ None
+    off zero n y at = absurd (cc)
+    off (suc k) zero y at = (let e : ◌≡◌ {A = Credit2Unit} (record { credit = pos start_credit; residual = 0; held = pos 0; burned = None }) y = cc in sym (ap (λ (z : Credit2Unit). z.burned) e))
+    off (suc k) (suc n) y at = off k n y at
+
+module _ (m : Machine) (some : 0 < m.config.granularity) (t : ℕ) where
+  abbrev pub N : Pool → Type 0
+  N pool = CreditFits m t pool.scheduler.records pool.resources
+
+  n_replenish : (records : Records) (u : UnitId) (cores : List (Option Resource)) → CreditFits m t records cores → CreditFits m t (policy.replenish records t u) cores
+  n_replenish (Credit2Pool own) u cores fits = fits
+  n_replenish (RtdsPool domains) u cores fits = not_credit2 m t (policy.replenish (RtdsPool domains) t u) cores refl
+  n_replenish (ArincPool records) u cores fits = fits
+  n_replenish (NullPool kept) u cores fits = fits
+
+  n_refill : (records : Records) (d : ℕ) (cores : List (Option Resource)) → CreditFits m t records cores → CreditFits m t (policy.refill records t d) cores
+  n_refill (Credit2Pool own) d cores fits = (let ok = fits own refl in credit_fits m t (credit2.refilled t d own) cores (record { budgets = s_refilled t (CountIs m) d own ok.budgets; runs = r_refilled t (OnCore cores) d own ok.runs }))
+  n_refill (RtdsPool domains) d cores fits = fits
+  n_refill (ArincPool records) d cores fits = fits
+  n_refill (NullPool kept) d cores fits = fits
+
+  n_parted : (records : Records) (d : ℕ) (cores : List (Option Resource)) → CreditFits m t records cores → CreditFits m t (parted_records records d) cores
+  n_parted (Credit2Pool own) d cores fits = (
+      let ok = fits own refl in
+      credit_fits m t (record own { domains = clear_at d own.domains }) cores (record {
+        budgets = EachAt-clear_at (λ d. BudgetFits t (CountIs m d) Nobody Nobody) d own.domains ok.budgets;
+        runs = EachAt-clear_at (λ d (x : Credit2Domain). RunsOnly (OnCore cores d) x.units) d own.domains ok.runs;
+      }))
+  n_parted (RtdsPool domains) d cores fits = not_credit2 m t (parted_records (RtdsPool domains) d) cores refl
+  n_parted (ArincPool records) d cores fits = fits
+  n_parted (NullPool kept) d cores fits = not_credit2 m t (parted_records (NullPool kept) d) cores refl
+
+  n_joined : (records : Records) (params : DomParams) (d count : ℕ) (cores : List (Option Resource)) → ParamsFit params → CountIs m d count → CreditFits m t records cores → CreditFits m t (joined_records records params d count t) cores
+  n_joined (Credit2Pool own) (dom_params.Credit2 weight percent) d count cores good counted fits = (
+      let ok = fits own refl in
+      credit_fits m t (record own { domains = put_at d (credit2.fresh_domain weight percent count t) own.domains }) cores (record {
+        budgets = EachAt-put_at (λ d. BudgetFits t (CountIs m d) Nobody Nobody) d (credit2.fresh_domain weight percent count t) own.domains ok.budgets (b_fresh t (CountIs m d) weight percent count good.1 counted);
+        runs = EachAt-put_at (λ d (x : Credit2Domain). RunsOnly (OnCore cores d) x.units) d (credit2.fresh_domain weight percent count t) own.domains ok.runs (fresh_off (OnCore cores d) weight percent count t);
+      }))
+  n_joined (Credit2Pool own) (dom_params.Rtds period budget extra) d count cores good counted fits = fits
+  n_joined (Credit2Pool own) dom_params.Arinc653 d count cores good counted fits = fits
+  n_joined (Credit2Pool own) dom_params.Null d count cores good counted fits = fits
+  n_joined (RtdsPool domains) (dom_params.Credit2 weight percent) d count cores good counted fits = not_credit2 m t (joined_records (RtdsPool domains) (dom_params.Credit2 weight percent) d count t) cores refl
+  n_joined (RtdsPool domains) (dom_params.Rtds period budget extra) d count cores good counted fits = not_credit2 m t (joined_records (RtdsPool domains) (dom_params.Rtds period budget extra) d count t) cores refl
+  n_joined (RtdsPool domains) dom_params.Arinc653 d count cores good counted fits = not_credit2 m t (joined_records (RtdsPool domains) dom_params.Arinc653 d count t) cores refl
+  n_joined (RtdsPool domains) dom_params.Null d count cores good counted fits = not_credit2 m t (joined_records (RtdsPool domains) dom_params.Null d count t) cores refl
+  n_joined (ArincPool records) (dom_params.Credit2 weight percent) d count cores good counted fits = not_credit2 m t (joined_records (ArincPool records) (dom_params.Credit2 weight percent) d count t) cores refl
+  n_joined (ArincPool records) (dom_params.Rtds period budget extra) d count cores good counted fits = not_credit2 m t (joined_records (ArincPool records) (dom_params.Rtds period budget extra) d count t) cores refl
+  n_joined (ArincPool records) dom_params.Arinc653 d count cores good counted fits = not_credit2 m t (joined_records (ArincPool records) dom_params.Arinc653 d count t) cores refl
+  n_joined (ArincPool records) dom_params.Null d count cores good counted fits = not_credit2 m t (joined_records (ArincPool records) dom_params.Null d count t) cores refl
+  n_joined (NullPool kept) (dom_params.Credit2 weight percent) d count cores good counted fits = not_credit2 m t (joined_records (NullPool kept) (dom_params.Credit2 weight percent) d count t) cores refl
+  n_joined (NullPool kept) (dom_params.Rtds period budget extra) d count cores good counted fits = not_credit2 m t (joined_records (NullPool kept) (dom_params.Rtds period budget extra) d count t) cores refl
+  n_joined (NullPool kept) dom_params.Arinc653 d count cores good counted fits = not_credit2 m t (joined_records (NullPool kept) dom_params.Arinc653 d count t) cores refl
+  n_joined (NullPool kept) dom_params.Null d count cores good counted fits = not_credit2 m t (joined_records (NullPool kept) dom_params.Null d count t) cores refl
+
+  n_changed : (records : Records) (change : ParamChange) (cores : List (Option Resource)) → ChangeFits change → CreditFits m t records cores → CreditFits m t (changed_records records change t) cores
+  n_changed (Credit2Pool own) (changes.Dom d weight percent) cores good fits = (let ok = fits own refl in credit_fits m t (credit2.set_domain t d.0 weight percent own) cores (record { budgets = s_set_domain t (CountIs m) d.0 weight percent own good.1 ok.budgets; runs = r_set_domain t (OnCore cores) d.0 weight percent own ok.runs }))
+  n_changed (Credit2Pool own) (changes.Rate limit) cores good fits = (let ok = fits own refl in credit_fits m t (record own { limit = limit }) cores (record { budgets = ok.budgets; runs = ok.runs }))
+  n_changed (Credit2Pool own) (changes.«Unit» u period budget extra) cores good fits = fits
+  n_changed (Credit2Pool own) (changes.Frame frame) cores good fits = fits
+  n_changed (Credit2Pool own) (changes.Pin d unit set) cores good fits = fits
+  n_changed (RtdsPool domains) (changes.Dom d weight percent) cores good fits = not_credit2 m t (changed_records (RtdsPool domains) (changes.Dom d weight percent) t) cores refl
+  n_changed (RtdsPool domains) (changes.Rate limit) cores good fits = not_credit2 m t (changed_records (RtdsPool domains) (changes.Rate limit) t) cores refl
+  n_changed (RtdsPool domains) (changes.«Unit» u period budget extra) cores good fits = not_credit2 m t (changed_records (RtdsPool domains) (changes.«Unit» u period budget extra) t) cores refl
+  n_changed (RtdsPool domains) (changes.Frame frame) cores good fits = not_credit2 m t (changed_records (RtdsPool domains) (changes.Frame frame) t) cores refl
+  n_changed (RtdsPool domains) (changes.Pin d unit set) cores good fits = not_credit2 m t (changed_records (RtdsPool domains) (changes.Pin d unit set) t) cores refl
+  n_changed (ArincPool records) (changes.Dom d weight percent) cores good fits = not_credit2 m t (changed_records (ArincPool records) (changes.Dom d weight percent) t) cores refl
+  n_changed (ArincPool records) (changes.Rate limit) cores good fits = not_credit2 m t (changed_records (ArincPool records) (changes.Rate limit) t) cores refl
+  n_changed (ArincPool records) (changes.«Unit» u period budget extra) cores good fits = not_credit2 m t (changed_records (ArincPool records) (changes.«Unit» u period budget extra) t) cores refl
+  n_changed (ArincPool records) (changes.Frame frame) cores good fits = not_credit2 m t (changed_records (ArincPool records) (changes.Frame frame) t) cores refl
+  n_changed (ArincPool records) (changes.Pin d unit set) cores good fits = not_credit2 m t (changed_records (ArincPool records) (changes.Pin d unit set) t) cores refl
+  n_changed (NullPool kept) (changes.Dom d weight percent) cores good fits = not_credit2 m t (changed_records (NullPool kept) (changes.Dom d weight percent) t) cores refl
+  n_changed (NullPool kept) (changes.Rate limit) cores good fits = not_credit2 m t (changed_records (NullPool kept) (changes.Rate limit) t) cores refl
+  n_changed (NullPool kept) (changes.«Unit» u period budget extra) cores good fits = not_credit2 m t (changed_records (NullPool kept) (changes.«Unit» u period budget extra) t) cores refl
+  n_changed (NullPool kept) (changes.Frame frame) cores good fits = not_credit2 m t (changed_records (NullPool kept) (changes.Frame frame) t) cores refl
+  n_changed (NullPool kept) (changes.Pin d unit set) cores good fits = not_credit2 m t (changed_records (NullPool kept) (changes.Pin d unit set) t) cores refl
+
+  n_unit_changed : (records : Records) (u : UnitId) (period budget : Span) (extra : Bool) (cores : List (Option Resource)) → CreditFits m t records cores → CreditFits m t (changed_records records (changes.«Unit» u period budget extra) t) cores
+  n_unit_changed (Credit2Pool own) u period budget extra cores fits = fits
+  n_unit_changed (RtdsPool domains) u period budget extra cores fits = not_credit2 m t (changed_records (RtdsPool domains) (changes.«Unit» u period budget extra) t) cores refl
+  n_unit_changed (ArincPool records) u period budget extra cores fits = fits
+  n_unit_changed (NullPool kept) u period budget extra cores fits = fits
+
+  n_change_core : (r : ℕ) (f : Resource → Resource) (pool : Pool) → ((c : Resource) → (f c).cur ≡ c.cur) → N pool → N (change_core r f pool)
+  n_change_core r f pool holds fits = fits_stay m t pool.scheduler.records pool.resources (change_at r f pool.resources) (stays_change_at r f pool.resources holds) fits
+
+  n_change_each : (f : ℕ → Resource → Resource) (pool : Pool) → ((r : ℕ) (c : Resource) → (f r c).cur ≡ c.cur) → N pool → N (record pool { resources = change_each 0 f pool.resources })
+  n_change_each f pool holds fits = fits_stay m t pool.scheduler.records pool.resources (change_each 0 f pool.resources) (stays_change_each f pool.resources holds) fits
+
+  n_change_processor : (p : ℕ) (f : Processor → Processor) (pool : Pool) → N pool → N (change_processor m.config.granularity p f pool)
+  n_change_processor p f pool fits = n_change_core (p / m.config.granularity) (λ c. record c { processors = change_item (p % m.config.granularity) f c.processors }) pool (λ c. refl) fits
+
+  n_started_on : (p : ℕ) (v : VcpuId) (pool : Pool) → N pool → N (started_on m.config.granularity t p v pool)
+  n_started_on p v pool fits = n_change_processor p (does (Guest v)) (change_vcpu v (λ x. record x { started = Some (moment t) }) pool) fits
+
+  n_settled : (pool : Pool) → N pool → N (settled t pool)
+  n_settled pool fits = n_change_each (reconsidered t (home_cores pool) pool.scheduler) pool (λ r c. by_cond (λ (d : Resource). d.cur ≡ c.cur) c.leaving c _ (λ is. refl) (λ is. refl)) fits
+
+  n_joined_siblings : (v : VcpuId) (pool : Pool) → N pool → N (pools.joined_siblings m.config.granularity t v pool)
+  n_joined_siblings v pool fits =
+      by_option N (pools.core_of pool (pools.unit_of m.config.granularity v)) _ _ (λ is. fits)
+      (λ r is. by_option N (processor_of m.config.granularity pool (r * m.config.granularity + v.n % m.config.granularity)) _ _ (λ is2. fits)
+      (λ q is2. by_cond N (pools.is_idle q) _ _ (λ idle. n_started_on (r * m.config.granularity + v.n % m.config.granularity) v pool fits) (λ idle. fits)))
+
+  n_after_wake : (v : VcpuId) (pool : Pool) → N pool → N (pools.after_wake m.config.granularity t v pool)
+  n_after_wake v pool fits =
+      let next : Pool = change_vcpu v pools.woken pool in
+      by_test N (is_runnable m.config.granularity next (pools.unit_of m.config.granularity v)) _ _
+      (λ runs. by_cond N (pools.is_off next (pools.unit_of m.config.granularity v)) _ _ (λ off. fits) (λ off. n_joined_siblings v next fits))
+      (λ runs. fits)
+
+  n_after_block : (q : ℕ) (v : VcpuId) (pool : Pool) → N pool → N (pools.after_block m.config.granularity t q v pool)
+  n_after_block q v pool fits =
+      let next : Pool = change_processor m.config.granularity q (does Idle) (change_vcpu v (pools.put_to_sleep t) pool) in
+      let here : N next = n_change_processor q (does Idle) (change_vcpu v (pools.put_to_sleep t) pool) fits in
+      by_cond N (is_runnable m.config.granularity next (pools.unit_of m.config.granularity v)) _ _ (λ runs. here) (λ runs. n_change_core (q / m.config.granularity) (λ c. record c { pending = true }) next (λ c. refl) here)
+
+  n_after_arrive : (q : ℕ) (pool : Pool) → N pool → N (pools.after_arrive m.config.granularity t q pool)
+  n_after_arrive q pool fits =
+      by_option (λ (next : Pool). N (change_processor m.config.granularity q (does Held) next)) (guest_of m.config.granularity pool q) _ _
+      (λ is. n_change_processor q (does Held) pool fits) (λ v is. n_change_processor q (does Held) (change_vcpu v (pools.stopped t) pool) fits)
+
+  n_open : (q : ℕ) (pool : Pool) → N pool → N (change_core (q / m.config.granularity) pools.open_if_left pool)
+  n_open q pool fits =
+      n_change_core (q / m.config.granularity) pools.open_if_left pool
+      (λ c. by_cond (λ (d : Resource). d.cur ≡ c.cur) (list_any is_held c.processors) c (record c { stage = Open }) (λ is. refl) (λ is. refl)) fits
+
+  n_after_leave : (q : ℕ) (c : Resource) (pool : Pool) → N pool → N (pools.after_leave m.config.granularity t q c pool)
+  n_after_leave q c pool fits =
+      by_option (λ (next : Pool). N (change_core (q / m.config.granularity) pools.open_if_left next)) (pools.vcpu_for m.config.granularity pool c (q % m.config.granularity)) _ _
+      (λ is. n_open q (change_processor m.config.granularity q (does Idle) pool) (n_change_processor q (does Idle) pool fits)) (λ v is. n_open q (started_on m.config.granularity t q v pool) (n_started_on q v pool fits))
+
+  n_after_replenish : (u : UnitId) (pool : Pool) → N pool → N (pools.after_replenish t u pool)
+  n_after_replenish u pool fits =
+      let records : Records = policy.replenish pool.scheduler.records t u in
+      let next : Pool = pools.with_records records pool in
+      let here : N next = n_replenish pool.scheduler.records u pool.resources fits in
+      by_option N (pools.core_of pool u) _ _ (λ is. here)
+      (λ r is. by_option N (rtds_record records u) _ _ (λ is2. here)
+      (λ x is2. n_change_core r (pools.due_within t x.budget) next (λ c. refl) here))
+
+  n_after_save : (r : ℕ) (u : UnitId) (pool : Pool) → N pool → N (pools.after_save m.config.granularity r u pool)
+  n_after_save r u pool fits =
+      let here : N (change_core r pools.saved pool) = n_change_core r pools.saved pool (λ c. refl) fits in
+      by_cond N (is_runnable m.config.granularity pool u) _ _ (λ runs. here) (λ runs. here)
+
+  -- a core that decides saves nothing
+  -- a decision: the core's own unit stops, and the chosen one runs
+  n_decide : (own : Credit2Records) (r : ℕ) (c : Resource) (pool : Pool) → pool.scheduler.records ≡ Credit2Pool own → at_place pool.resources r ≡ Some c → PoolFits m t pool → OnePlace m.config.granularity pool → CreditOk m t own pool.resources
+      → (chosen : Option UnitId) → IfUnit (λ u. domain_has_budget (credit2.burn_cur c.cur t own) u ≡ true) chosen → IfUnit (λ u. IsUnitOf m u × ((1 ≤ times u pool.scheduler.queue) ⊎ (c.cur ≡ Some u))) chosen
+      → (decision : Decision) → decision ≡ credit2.decide (ask_of m.config.granularity t pool r c) pool.scheduler (credit2.burn_cur c.cur t own) chosen → CreditFits m t decision.records (put_at r (decided t decision c) pool.resources)
+  n_decide own r c pool is at fits one ok None pays may decision same =
+      let ask : Ask = ask_of m.config.granularity t pool r c in
+      subst (λ (d : Decision). CreditFits m t d.records (put_at r (decided t d c) pool.resources)) (sym same)
+      (credit_fits m t (credit2.switch_off c.cur (credit2.burn_cur c.cur t own)) _ (record {
+        budgets = decides_idle t (CountIs m) ask pool.scheduler own refl ok.budgets;
+        runs = λ d x at2 n y has. elim (r_switch_off t (OnCore pool.resources) c.cur (credit2.burn_cur c.cur t own) (r_burn_cur t (OnCore pool.resources) c.cur own ok.runs) d x at2 n y has) [
+          | inl none ↦ inl none
+          | inr on ↦ inr (other_core t r c pool at (record { unit = None; due = None; reset = 0; records = Credit2Pool (credit2.switch_off c.cur (credit2.burn_cur c.cur t own)) }) d n on.0 on.1)
+        ];
+      }))
+  n_decide own r c pool is at fits one ok (Some u) pays may decision same =
+      let ask : Ask = ask_of m.config.granularity t pool r c in
+      let burned : Credit2Records = credit2.burn_cur c.cur t own in
+      let k : ℕ = credit2.resets_for t u burned in
+      let taken : Credit2Records = credit2.change_domain u.dom.0 (credit2.take_budget u.n) (credit2.reset t k burned) in
+      let d2 : Decision = credit2.decide ask pool.scheduler burned (Some u) in
+      let off : (c.cur ≡ Some u) ⊎ ((y : Credit2Unit) → unit_rec own u ≡ Some y → y.burned ≡ None) = elim may.1 [
+        | inr mine ↦ inl mine
+        | inl waits ↦ inr (λ y rec. waiting_is_off m.config.granularity own pool u one ok.runs waits y rec)
+      ] in
+      let inside : (n : ℕ) → CountIs m u.dom.0 n → u.n < n = λ n count. (let w = unit_inside m some u may.0 in let e = count may.0.config may.0.at in omega (arith, w, e)) in
+      subst (λ (d : Decision). CreditFits m t d.records (put_at r (decided t d c) pool.resources)) (sym same)
+      (credit_fits m t (credit2.set_running (Some t) u (credit2.switch_off c.cur taken)) (put_at r (decided t d2 c) pool.resources) (record {
+        budgets = decides_unit t (CountIs m) ask pool.scheduler own refl ok.budgets u pays inside off k;
+        runs =
+            let taken_runs = r_take t (OnCore pool.resources) u (credit2.reset t k burned) (r_reset t (OnCore pool.resources) k burned (r_burn_cur t (OnCore pool.resources) c.cur own ok.runs)) in
+            let stopped = r_switch_off t (OnCore pool.resources) c.cur taken taken_runs in
+            r_set_running t (λ d n. OnCore pool.resources d n × (IsCur c.cur d n → ⊥)) (OnCore (put_at r (decided t d2 c) pool.resources)) u (credit2.switch_off c.cur taken)
+            (λ d n on. other_core t r c pool at d2 d n on.0 on.1)
+            (r, decided t d2 c, at_place-put_at r (decided t d2 c) pool.resources (place_below pool.resources r c at), decided_is d2 c)
+            stopped;
+      }))
+    where
+      decided_is : (d : Decision) (c : Resource) → (decided t d c).cur ≡ d.unit
+      decided_is d c = by_test (λ (x : Resource). x.cur ≡ d.unit) (same_choice d.unit c.cur) _ _ (λ is. sym (same_choice_same d.unit c.cur is)) (λ is. refl)
+
+  n_after_decide : (r : ℕ) (c : Resource) (pool : Pool) → at_place pool.resources r ≡ Some c → PoolFits m t pool → IsKnownPool m.config.granularity pool → N pool → N (pools.after_decide m.config.granularity t r c pool)
+  n_after_decide r c pool at fits known credit = by_records pool.scheduler.records refl
+    where
+      may_be : IfUnit (λ u. IsUnitOf m u × ((1 ≤ times u pool.scheduler.queue) ⊎ (c.cur ≡ Some u))) (decision_of (ask_of m.config.granularity t pool r c) pool.scheduler).unit
+      may_be = decision_has (λ u. IsUnitOf m u × ((1 ≤ times u pool.scheduler.queue) ⊎ (c.cur ≡ Some u))) (ask_of m.config.granularity t pool r c) pool.scheduler
+          (AllByRecursion-map (λ u. (1 ≤ times u pool.scheduler.queue) × IsUnitOf m u) (λ u. IsUnitOf m u × ((1 ≤ times u pool.scheduler.queue) ⊎ (c.cur ≡ Some u))) (λ u both. (both.1, inl both.0)) pool.scheduler.queue (both_of (λ u. 1 ≤ times u pool.scheduler.queue) (IsUnitOf m) pool.scheduler.queue (there_each pool.scheduler.queue) fits.queue))
+          (λ u own runs. (subst (IfUnit (IsUnitOf m)) own (fits.cores r c at).cur, inr own))
+
+      unit_is : (own : Credit2Records) (chosen : Option UnitId) → (credit2.decide (ask_of m.config.granularity t pool r c) pool.scheduler own chosen).unit ≡ chosen
+      unit_is own None = refl
+      unit_is own (Some u) = refl
+
+      by_records : (records : Records) → pool.scheduler.records ≡ records → CreditFits m t (decision_of (ask_of m.config.granularity t pool r c) pool.scheduler).records (put_at r (decided t (decision_of (ask_of m.config.granularity t pool r c) pool.scheduler) c) pool.resources)
+      by_records (Credit2Pool own) is =
+          let ask : Ask = ask_of m.config.granularity t pool r c in
+          let burned : Credit2Records = credit2.burn_cur c.cur t own in
+          let same : decision_of ask pool.scheduler ≡ credit2.decide ask pool.scheduler burned (credit2.choice ask pool.scheduler burned) = ap (λ (x : Records). decision_by x ask pool.scheduler) is in
+          n_decide own r c pool is at fits known.one (credit own is) (credit2.choice ask pool.scheduler burned) (choice_pays t (CountIs m) ask pool.scheduler burned)
+          (subst (IfUnit (λ u. IsUnitOf m u × ((1 ≤ times u pool.scheduler.queue) ⊎ (c.cur ≡ Some u)))) (ap (λ (d : Decision). d.unit) same ∙ unit_is burned (credit2.choice ask pool.scheduler burned)) may_be)
+          (decision_of ask pool.scheduler) same
+      by_records (RtdsPool domains) is = not_credit2 m t (decision_of (ask_of m.config.granularity t pool r c) pool.scheduler).records (put_at r (decided t (decision_of (ask_of m.config.granularity t pool r c) pool.scheduler) c) pool.resources)
+          (ap (λ (x : Records). is_credit2 (decision_by x (ask_of m.config.granularity t pool r c) pool.scheduler).records) is ∙ rt_kind (ask_of m.config.granularity t pool r c) (rtds.burn_cur c.cur t domains) (rtds.choice (ask_of m.config.granularity t pool r c) pool.scheduler (rtds.burn_cur c.cur t domains)))
+      by_records (ArincPool records) is = not_credit2 m t (decision_of (ask_of m.config.granularity t pool r c) pool.scheduler).records (put_at r (decided t (decision_of (ask_of m.config.granularity t pool r c) pool.scheduler) c) pool.resources)
+          (ap (λ (x : Records). is_credit2 (decision_by x (ask_of m.config.granularity t pool r c) pool.scheduler).records) is ∙ ap is_credit2 (window_kind (ask_of m.config.granularity t pool r c) pool.scheduler (cond c.leaving None (present_window records t)) ∙ is))
+      by_records (NullPool kept) is = not_credit2 m t (decision_of (ask_of m.config.granularity t pool r c) pool.scheduler).records (put_at r (decided t (decision_of (ask_of m.config.granularity t pool r c) pool.scheduler) c) pool.resources)
+          (ap (λ (x : Records). is_credit2 (decision_by x (ask_of m.config.granularity t pool r c) pool.scheduler).records) is ∙ null_kind (ask_of m.config.granularity t pool r c) pool.scheduler kept)
+
+  n_acts : (pool : Pool) (action : Action) → enabled_in m.config.granularity t pool action ≡ true → PoolFits m t pool → IsKnownPool m.config.granularity pool → N pool → N (after_in m.config.granularity t pool action)
+  n_acts pool Stall on ranges known fits = fits
+  n_acts pool Xl on ranges known fits = fits
+  n_acts pool (Moved r) on ranges known fits = fits
+  n_acts pool (DomMoved d) on ranges known fits = fits
+  n_acts pool (Wake v) on ranges known fits = n_after_wake v pool fits
+  n_acts pool (Block q) on ranges known fits = by_option N (guest_of m.config.granularity pool q) _ _ (λ is. fits) (λ v is. n_after_block q v pool fits)
+  n_acts pool (Slice r) on ranges known fits = n_change_core r (λ c. record c { pending = true }) pool (λ c. refl) fits
+  n_acts pool (Repl u) on ranges known fits = n_after_replenish u pool fits
+  n_acts pool (Refill d) on ranges known fits = n_refill pool.scheduler.records d pool.resources fits
+  n_acts pool (Arrive q) on ranges known fits = n_after_arrive q pool fits
+  n_acts pool (Decide r) on ranges known fits = by_option N (at_place pool.resources r) _ _ (λ is. fits) (λ c is. n_after_decide r c pool is ranges known fits)
+  n_acts pool (Leave q) on ranges known fits = by_option N (at_place pool.resources (q / m.config.granularity)) _ _ (λ is. fits) (λ c is. n_after_leave q c pool fits)
+  n_acts pool (Save r) on ranges known fits = by_option N (at_place pool.resources r) _ _ (λ is. fits) (λ c is. by_option N c.saving _ _ (λ is2. fits) (λ u is2. n_after_save r u pool fits))
+
+  n_change_cores_of : (d : ℕ) (f : Resource → Resource) (pool : Pool) → ((c : Resource) → (f c).cur ≡ c.cur) → N pool → N (change_cores_of d f pool)
+  n_change_cores_of d f pool holds fits = n_change_each (λ r c. cond (is_of_domain d c.cur) (f c) c) pool (λ r c. by_cond (λ (x : Resource). x.cur ≡ c.cur) (is_of_domain d c.cur) (f c) c (λ is. holds c) (λ is. refl)) fits
+
+  n_queue_units : (d : ℕ) (units : List ℕ) (pool : Pool) → N pool → N (pools.queue_units m.config.granularity d units pool)
+  n_queue_units d [] pool fits = fits
+  n_queue_units d (k ∷ ks) pool fits =
+      let u : UnitId = record { dom = domain_number d; n = k } in
+      n_queue_units d ks _ (by_cond N (is_runnable m.config.granularity pool u && pools.is_off pool u) _ _ (λ is. fits) (λ is. fits))
+
+  n_withdrawn : (d : ℕ) (f : Domain → Domain) (pool : Pool) → N pool → N (pools.withdrawn d (change_domain d f pool))
+  n_withdrawn d f pool fits = n_change_cores_of d set_pending (record pool { domains = change_at d f pool.domains; scheduler = policy.dequeue_domain d pool.scheduler }) (λ c. refl) fits
+
+  n_pause : (d : ℕ) (pool : Pool) → N pool → N (pause d pool)
+  n_pause d pool fits = by_cond N (test_at pool.domains d (λ x. x.paused)) _ _ (λ is. fits) (λ is. n_withdrawn d (λ x. record x { paused = true }) pool fits)
+
+  n_unpause : (d : ℕ) (pool : Pool) → N pool → N (unpause m.config.granularity d pool)
+  n_unpause d pool fits =
+      by_option N (at_place pool.domains d) _ _ (λ is. fits)
+      (λ domain is. by_cond N domain.paused _ _ (λ is2. n_queue_units d (numbers_from 0 (pools.unit_count m.config.granularity domain)) (change_domain d (λ x. record x { paused = false }) pool) fits) (λ is2. fits))
+
+  n_marked : (change : ParamChange) (pool : Pool) → N pool → N (pools.marked change t pool)
+  n_marked (changes.Dom d weight (Some percent)) pool fits = n_change_cores_of d.0 (λ c. record c { pending = true; due = Some (moment t) }) pool (λ c. refl) fits
+  n_marked (changes.Dom d weight None) pool fits = fits
+  n_marked (changes.Rate limit) pool fits = fits
+  n_marked (changes.«Unit» u period budget extra) pool fits = fits
+  n_marked (changes.Frame frame) pool fits = n_change_each (λ r c. set_pending c) pool (λ r c. refl) fits
+  n_marked (changes.Pin d unit cores) pool fits = fits
+
+  pub n_set_params : (change : ParamChange) (pool : Pool) → ChangeFits change → N pool → N (set_params change t pool)
+  n_set_params change pool good fits =
+      n_marked change (record pool { scheduler = policy.set_params change t pool.scheduler }) (n_changed pool.scheduler.records change pool.resources good fits)
+
+  n_set_rtds_unit : (period budget : Option Span) (extra : Option Bool) (u : UnitId) (pool : Pool) → N pool → N (set_rtds_unit t period budget extra u pool)
+  n_set_rtds_unit period budget extra u pool fits =
+      by_option N (rtds_record pool.scheduler.records u) _ _ (λ is. fits)
+      (λ x is. n_unit_changed pool.scheduler.records u (unwrap_or period (span x.next_period)) (unwrap_or budget (span x.next_budget)) (unwrap_or extra x.next_extra) pool.resources fits)
+
+  counted : (d : ℕ) (domain : Domain) → DomFits m t d domain → CountIs m d (pools.unit_count m.config.granularity domain)
+  counted d domain comes config at =
+      let count = comes.count in
+      let there = comes.at in
+      let same : comes.config ≡ config = cc in
+      ap (λ k. (k + m.config.granularity - 1) / m.config.granularity) (count ∙ ap (λ (c : DomConfig). length c.guests) same)
+
+  pub n_with_domain : (d : ℕ) (domain : Domain) (params : DomParams) (pool : Pool) → ParamsFit params → DomFits m t d domain → N pool → N (with_domain m.config.granularity t d domain params pool)
+  n_with_domain d domain params pool good comes fits =
+      n_queue_units d (numbers_from 0 (pools.unit_count m.config.granularity domain)) (record pool { domains = put_at d domain pool.domains; scheduler = policy.join d (pools.unit_count m.config.granularity domain) params t pool.scheduler })
+      (n_joined pool.scheduler.records params d (pools.unit_count m.config.granularity domain) pool.resources good (counted d domain comes) fits)
+
+  n_without_domain : (d : ℕ) (pool : Pool) → N pool → N (without_domain d pool)
+  n_without_domain d pool fits = n_parted pool.scheduler.records d pool.resources fits
+
+  n_core_comes : (r : ℕ) (ends : List Moment) (pool : Pool) → at_place pool.resources r ≡ None → N pool → N (record pool { resources = put_at r (fresh_core ends) pool.resources })
+  n_core_comes r ends pool none fits =
+      fits_stay m t pool.scheduler.records pool.resources (put_at r (fresh_core ends) pool.resources)
+      (λ k c u at own. (c, at_place-put_at_other r k (fresh_core ends) pool.resources (λ e. (let there : at_place pool.resources r ≡ Some c = subst (λ j. at_place pool.resources j ≡ Some c) e at in absurd (cc))) ∙ at, own)) fits
+
+  n_core_goes : (r : ℕ) (pool : Pool) → enabled_in m.config.granularity t pool (Moved r) ≡ true → N pool → N (record pool { resources = clear_at r pool.resources })
+  n_core_goes r pool on fits =
+      let found = some-test_at pool.resources r (λ c. c.leaving && is_none c.cur && is_none c.saving && not c.pending && is_open c && first_up t c) on in
+      let c0 : Resource = found.0 in
+      let two : (c0.leaving && is_none c0.cur) ≡ true = and_left _ (is_none c0.saving) (and_left (c0.leaving && is_none c0.cur && is_none c0.saving) (not c0.pending) (and_left (c0.leaving && is_none c0.cur && is_none c0.saving && not c0.pending) (is_open c0) (and_left (c0.leaving && is_none c0.cur && is_none c0.saving && not c0.pending && is_open c0) (first_up t c0) found.2))) in
+      let free : c0.cur ≡ None = none_is c0.cur (and_right c0.leaving (is_none c0.cur) two) in
+      fits_stay m t pool.scheduler.records pool.resources (clear_at r pool.resources)
+      (λ k c u at own. (
+        c,
+        at_place-clear_at_other r k pool.resources (λ e. (
+            let there : at_place pool.resources r ≡ Some c = subst (λ j. at_place pool.resources j ≡ Some c) e at in
+            let here : at_place pool.resources r ≡ Some c0 = found.1 in
+            let same : c0 ≡ c = cc in
+            let clash : None ≡ Some u = sym free ∙ ap (λ (x : Resource). x.cur) same ∙ own in
+            absurd (cc))) ∙ at,
+        own,
+      )) fits
+
+-- a pool that keeps no records yet
+pub n_fresh : (m : Machine) (t : ℕ) (params : PoolParams) (domains count : ℕ) (cores : List (Option Resource)) → CreditFits m t (fresh_records params domains count) cores
+n_fresh m t (pool_params.Credit2 limit) domains count cores =
+    credit_fits m t (record { limit = limit; last_reset = None; domains = replicate domains None }) cores (record {
+      budgets = λ d x at. absurd (EachPlace-empty {X = Credit2Domain} (λ y. ⊥) domains d x at);
+      runs = λ d x at. absurd (EachPlace-empty {X = Credit2Domain} (λ y. ⊥) domains d x at);
+    })
+n_fresh m t pool_params.Rtds domains count cores = not_credit2 m t (fresh_records pool_params.Rtds domains count) cores refl
+n_fresh m t (pool_params.Arinc653 frame) domains count cores = not_credit2 m t (fresh_records (pool_params.Arinc653 frame) domains count) cores refl
+n_fresh m t pool_params.Null domains count cores = not_credit2 m t (fresh_records pool_params.Null domains count) cores refl
+
+pub n_later : (m : Machine) (t next : ℕ) (records : Records) (cores : List (Option Resource)) → t ≤ next → CreditFits m t records cores → CreditFits m next records cores
+n_later m t next records cores past fits own is = (let ok = fits own is in record { budgets = λ d x at. b_later t next (CountIs m d) x past (ok.budgets d x at); runs = ok.runs })
+
+-- all that is kept of a pool
+pub record WholePool (m : Machine) (t : ℕ) (pool : Pool) : Type 0 where
+  pub known : IsKnownPool m.config.granularity pool
+  pub fits : PoolFits m t pool
+  pub credit : CreditFits m t pool.scheduler.records pool.resources
+
+pub whole_steps : (m : Machine) (checked : IsChecked m) (some : 0 < m.config.granularity) (t : ℕ) → IsKeptAt m t (NearEnd t) (EndsFit m t) (DomFits m t) (WholePool m t) (WholePool m t)
+whole_steps m checked some t =
+    let steps = range_steps m checked t in
+    let known : IsKept m.config.granularity (IsKnownPool m.config.granularity) = known_pools m.config.granularity some in
+    record {
+      weakens = λ pool w. w;
+      settles = λ pool w. record { known = known.inside.settles t pool w.known; fits = steps.settles pool w.fits; credit = n_settled m some t pool w.credit };
+      stalls = λ p end pool near w. record { known = known.inside.stalls p end pool w.known; fits = steps.stalls p end pool near w.fits; credit = n_change_processor m some t p (λ q. record q { stall_end = moment end }) pool w.credit };
+      acts = λ pool action on w. record { known = known.inside.acts t pool action on w.known; fits = steps.acts pool action on w.fits; credit = n_acts m some t pool action on w.fits w.known w.credit };
+      leaves = λ r pool w. record { known = known.inside.leaves r pool w.known; fits = steps.leaves r pool w.fits; credit = n_change_core m some t r (λ c. record c { leaving = true; pending = c.pending || is_some c.cur }) pool (λ c. refl) w.credit };
+      moves = λ d i pool w. record { known = known.inside.moves d i pool w.known; fits = steps.moves d i pool w.fits; credit = n_withdrawn m some t d (λ x. record x { moving = Some (pool_number i) }) pool w.credit };
+      pauses = λ d pool w. record { known = known.inside.pauses d pool w.known; fits = steps.pauses d pool w.fits; credit = n_pause m some t d pool w.credit };
+      unpauses = λ d pool w. record { known = known.inside.unpauses d pool w.known; fits = steps.unpauses d pool w.fits; credit = n_unpause m some t d pool w.credit };
+      changes = λ change pool good w. record { known = known.inside.changes change t pool w.known; fits = steps.changes change pool good w.fits; credit = n_set_params m some t change pool good w.credit };
+      rtds = λ period budget extra u pool good w. record { known = known_set_rtds m some t period budget extra u pool w.known; fits = steps.rtds period budget extra u pool good w.fits; credit = n_set_rtds_unit m some t period budget extra u pool w.credit };
+      core_comes = λ r ends pool none good w. record { known = known.core_comes r ends pool none w.known; fits = steps.core_comes r ends pool none good w.fits; credit = n_core_comes m some t r ends pool none w.credit };
+      ends_stall = steps.ends_stall;
+      ends_go = λ r c pool at w. steps.ends_go r c pool at w.fits;
+      core_goes = λ r pool on w. record { known = known.core_goes t r pool on w.known; fits = steps.core_goes r pool on w.fits; credit = n_core_goes m some t r pool on w.credit };
+      domain_is = λ d domain pool at w. steps.domain_is d domain pool at w.fits;
+      domain_comes = λ d domain pool stays none comes w. record { known = known.domain_comes t d domain (default_dom_params pool.scheduler.records) pool stays none w.known; fits = steps.domain_comes d domain pool stays none comes w.fits; credit = n_with_domain m some t d domain (default_dom_params pool.scheduler.records) pool (default_fits pool.scheduler.records) comes w.credit };
+      domain_goes = λ d pool on w. record { known = known.domain_goes t d pool on w.known; fits = steps.domain_goes d pool on w.fits; credit = n_without_domain m some t d pool w.credit };
+      domain_leaves = λ d pool null on w. record { known = known.domain_goes t d pool on w.known; fits = steps.domain_leaves d pool null on w.fits; credit = n_without_domain m some t d pool w.credit };
+      empty = λ kind. record { known = known.empty m.config (default_pool_params kind); fits = steps.empty kind; credit = n_fresh m t (default_pool_params kind) (length m.config.domains) (core_count m.config) (replicate (core_count m.config) None) };
+    }
+  where
+    known_set_rtds : (m : Machine) (some : 0 < m.config.granularity) (t : ℕ) (period budget : Option Span) (extra : Option Bool) (u : UnitId) (pool : Pool) → IsKnownPool m.config.granularity pool → IsKnownPool m.config.granularity (set_rtds_unit t period budget extra u pool)
+    known_set_rtds m some t period budget extra u pool known =
+        by_option (IsKnownPool m.config.granularity) (rtds_record pool.scheduler.records u) _ _ (λ is. known)
+        (λ x is. (known_pools m.config.granularity some).inside.changes (changes.«Unit» u (unwrap_or period (span x.next_period)) (unwrap_or budget (span x.next_budget)) (unwrap_or extra x.next_extra)) t pool known)

@@ -1,0 +1,13 @@
+pub mod Vcpus
+pub mod Rtds
+pub mod Credit2
+pub mod Records
+pub mod Walk
+pub mod Law
+pub mod Queue
+pub mod Done
+pub mod Places
+pub mod Budget
+pub mod Budgets
+pub mod Decided
+pub mod BudgetWalk

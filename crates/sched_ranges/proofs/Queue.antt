@@ -1,0 +1,88 @@
+-- A pool's queue has no more units than the machine.
+use Rattle.std.proofs.Common.{◌≡◌, ◌≢◌, ◌<◌, ◌≤◌, ◌+◌, ◌-◌, ◌*◌, ◌/◌, ℕ, zero, suc, true, false, List, [], ◌∷◌, ◌++◌, refl, arith, subst, sym, ap, cond, length}
+use Rattle.std.specs.Prelude.{Some, slice_get, map}
+use Rattle.std.specs.List.{AllByRecursion}
+use Rattle.std.proofs.Math.Decide.{ℕ_discrete}
+use Rattle.std.proofs.lemmas.Nat.{le-div}
+use Rattle.sched_base.specs.Numbers.{domain as domain_number}
+use Rattle.sched_base.specs.declared.UnitId.{UnitId}
+use Rattle.sched_model.specs.declared.machine.Machine.{Machine}
+use Rattle.sched_model.specs.declared.config.DomConfig.{DomConfig}
+use Rattle.sched_model.specs.Places.{numbers_from, same_unit}
+use Rattle.sched_model.specs.Actions.{units_from}
+use Rattle.sched_laws.proofs.Lists.{AllByRecursion-map}
+use Rattle.sched_laws.proofs.Choices.{same_unit_same}
+use Rattle.sched_laws.proofs.Counts.{one, times, same_unit_refl}
+use Rattle.sched_laws.proofs.OnePlace.{both_of, there_each}
+use Rattle.sched_ranges.specs.Ranges.{IsUnitOf}
+
+-- the list without the first of these units
+abbrev drop_one : UnitId → List UnitId → List UnitId
+drop_one u [] = []
+drop_one u (w ∷ units) = elim (same_unit u w) [ true ↦ units | false ↦ w ∷ drop_one u units ]
+
+length_drop : (u : UnitId) (units : List UnitId) → 1 ≤ times u units → suc (length (drop_one u units)) ≡ length units
+length_drop u [] some = absurd (omega (arith, some))
+length_drop u (w ∷ units) some =
+    elim (same_unit u w) as (λ b. 1 ≤ cond b 1 0 + times u units → suc (length (elim b as (λ _. List UnitId) [ true ↦ units | false ↦ w ∷ drop_one u units ])) ≡ length (w ∷ units)) [
+      | true ↦ λ e. omega arith
+      | false ↦ λ e. (let r = length_drop u units (omega (arith, e)) in omega (arith, r))
+    ] some
+
+times_drop : (u v : UnitId) (units : List UnitId) → u ≢ v → times v (drop_one u units) ≡ times v units
+times_drop u v [] other = refl
+times_drop u v (w ∷ units) other =
+    elim (same_unit u w) as (λ b. same_unit u w ≡ b → times v (elim b as (λ _. List UnitId) [ true ↦ units | false ↦ w ∷ drop_one u units ]) ≡ one v w + times v units) [
+      | true ↦ λ is. (let z : one v w ≡ 0 = not_one (subst (λ (x : UnitId). v ≢ x) (same_unit_same u w is) (λ e. other (sym e))) in omega (arith, z))
+      | false ↦ λ is. ap (λ k. one v w + k) (times_drop u v units other)
+    ] refl
+  where
+    not_one : v ≢ w → one v w ≡ 0
+    not_one apart = elim (same_unit v w) as (λ b. same_unit v w ≡ b → ◌≡◌ {A = ℕ} (cond b 1 0) 0) [ true ↦ λ is. absurd (apart (same_unit_same v w is)) | false ↦ λ is. refl ] refl
+
+-- a list of different units of another list is no longer
+pub no_longer : (xs ys : List UnitId) → ((u : UnitId) → times u xs ≤ 1) → AllByRecursion (λ u. 1 ≤ times u ys) xs → length xs ≤ length ys
+no_longer [] ys once has = omega arith
+no_longer (x ∷ xs) ys once has =
+    let less = length_drop x ys has.0 in
+    let alone : times x xs ≡ 0 = (let o = once x in let s : one x x ≡ 1 = (let e = same_unit_refl x in rw e refl) in omega (arith, o, s)) in
+    let rest = no_longer xs (drop_one x ys) (λ u. (let o = once u in omega (arith, o)))
+    (AllByRecursion-map (λ w. (1 ≤ times w xs) × (1 ≤ times w ys)) (λ w. 1 ≤ times w (drop_one x ys))
+    (λ w both. (let apart : x ≢ w = λ e. (let b = subst (λ (u : UnitId). 1 ≤ times u xs) (sym e) both.0 in omega (arith, alone, b)) in let e = times_drop x w ys apart in let b = both.1 in omega (arith, e, b)))
+    xs (both_of (λ w. 1 ≤ times w xs) (λ w. 1 ≤ times w ys) xs (there_each xs) has.1)) in
+    omega (arith, less, rest)
+
+times-append : (u : UnitId) (xs ys : List UnitId) → times u (xs ++ ys) ≡ times u xs + times u ys
+times-append u [] ys = omega arith
+times-append u (x ∷ xs) ys = (let r = times-append u xs ys in omega (arith, r))
+
+numbers_have : (d k a c : ℕ) → a ≤ k → k < a + c → 1 ≤ times (record { dom = domain_number d; n = k }) (map (λ n. record { dom = domain_number d; n = n }) (numbers_from a c))
+numbers_have d k a zero low high = absurd (omega (arith, low, high))
+numbers_have d k a (suc c) low high =
+    elim (ℕ_discrete k a) [
+      | yes e ↦ subst (λ j. 1 ≤ times (record { dom = domain_number d; n = k }) (map (λ n. record { dom = domain_number d; n = n }) (numbers_from j (suc c)))) e
+          (let s = same_unit_refl (record { dom = domain_number d; n = k }) in rw s (omega arith))
+      | no other ↦ (let r = numbers_have d k (suc a) c (omega (arith, low, other)) (omega (arith, high)) in omega (arith, r))
+    ]
+
+-- a unit of a domain of the file is one of the machine's units
+units_have : (g d k : ℕ) (domains : List DomConfig) (config : DomConfig) (u : UnitId) → slice_get domains k ≡ Some config → u.dom.0 ≡ d + k → u.n < (length config.guests + g - 1) / g → 1 ≤ times u (units_from g d domains)
+units_have g d k [] config u at dom inside = absurd (cc)
+units_have g d zero (x ∷ domains) config u at dom inside =
+    let e : x ≡ config = cc in
+    let n : u.n < (length x.guests + g - 1) / g = subst (λ (c : DomConfig). u.n < (length c.guests + g - 1) / g) (sym e) inside in
+    let here : 1 ≤ times (record { dom = domain_number d; n = u.n }) (map (λ n. record { dom = domain_number d; n = n }) (numbers_from 0 ((length x.guests + g - 1) / g))) = numbers_have d u.n 0 ((length x.guests + g - 1) / g) (omega arith) (omega (arith, n)) in
+    let same : ◌≡◌ {A = UnitId} (record { dom = domain_number d; n = u.n }) u = ap (λ (j : ℕ). record { dom = domain_number j; n = u.n }) (omega (arith, dom)) in
+    let there = subst (λ (w : UnitId). 1 ≤ times w (map (λ n. record { dom = domain_number d; n = n }) (numbers_from 0 ((length x.guests + g - 1) / g)))) same here in
+    let a = times-append u (map (λ n. record { dom = domain_number d; n = n }) (numbers_from 0 ((length x.guests + g - 1) / g))) (units_from g (suc d) domains) in
+    omega (arith, a, there)
+units_have g d (suc k) (x ∷ domains) config u at dom inside =
+    let r = units_have g (suc d) k domains config u at (omega (arith, dom)) inside in
+    let a = times-append u (map (λ n. record { dom = domain_number d; n = n }) (numbers_from 0 ((length x.guests + g - 1) / g))) (units_from g (suc d) domains) in
+    omega (arith, a, r)
+
+pub unit_is_there : (m : Machine) → 0 < m.config.granularity → (u : UnitId) → IsUnitOf m u → 1 ≤ times u (units_from m.config.granularity 0 m.config.domains)
+unit_is_there m some u is =
+    let g : ℕ = m.config.granularity in
+    units_have g 0 u.dom.0 m.config.domains is.config u is.at (omega arith)
+    (let within = is.inside in let spread : suc u.n * g ≡ u.n * g + g = grind arith in le-div (suc u.n) (length is.config.guests + g - 1) g some (omega (arith, within, spread)))
