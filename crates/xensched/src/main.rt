@@ -6,6 +6,9 @@ pub mod status;
 pub mod top;
 pub mod words;
 
+#[cfg(test)]
+mod tests;
+
 use sched_io::{FileStore, OutSink};
 use status::Status;
 use std::process::ExitCode;
