@@ -3,7 +3,7 @@
 //! A unit that runs pays with its credit, and a heavy unit pays less for the same span than a light one.
 #![tactic(auto)]
 
-ghost use Rattle.std.specs.Prelude.{◌≡◌, ◌+◌, ◌*◌, ◌<◌, ◌≤◌, pos, negsuc, ◌≤ℤ◌, ◌-ℤ◌};
+ghost use Rattle.std.specs.Prelude.{◌≡◌, ◌+◌, ◌*◌, ◌<◌, ◌≤◌, pos, negsuc, ◌≤ℤ◌, ◌+ℤ◌, ◌-ℤ◌, ◌*ℤ◌};
 ghost use Rattle.sched_base.specs.Credit2Numbers.{burned_credit, burned_residual};
 
 use sched_base::Span;
@@ -32,6 +32,7 @@ pub fn burn(c: Credit, weight: u32, max_weight: u32, elapsed: Span) -> Credit
     ensures credit { result.credit ≡ burned_credit c.credit c.residual weight max_weight elapsed.0 }
     ensures residual { result.residual ≡ burned_residual c.residual weight max_weight elapsed.0 }
 
+    ensures nothing_lost { ((c.credit -ℤ result.credit) *ℤ pos weight) +ℤ pos result.residual ≡ pos (elapsed.0 * max_weight + c.residual) }
     ensures residual_is_part { result.residual < weight }
     ensures never_rises { result.credit ≤ℤ c.credit }
     ensures falls_at_most { (c.credit -ℤ pos (elapsed.0 * max_weight + c.residual)) ≤ℤ result.credit }

@@ -33,7 +33,8 @@ pub fn quota(total: i64, units: u32) -> i64
 /// What a chosen unit takes of its domain's budget, which is above 0: its quota, or what is left where that is less.
 pub fn take(budget: i64, quota: i64) -> i64
     requires { pos 0 <ℤ budget }
-    ensures exact { result ≡ int_min quota budget }
+    ensures exact { pos 0 ≤ℤ quota → result ≡ numbers.take budget (numbers.above_zero quota) }
+    ensures least { result ≡ int_min quota budget }
     ensures no_more { result ≤ℤ budget }
     ensures some { pos 0 <ℤ quota → pos 0 <ℤ result }
 {
