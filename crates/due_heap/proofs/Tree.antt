@@ -63,7 +63,7 @@ sooner-either (Some a) (Some b) =
 parent_first : (room : ℕ) (nodes : List (Option Due)) → IsSettledBut room nodes 0 → (k : ℕ) → 2 ≤ k → k < 2 * room
     → NotLater (node nodes (k / 2)) (node nodes k)
 parent_first room nodes settled k low below =
-    let right = settled.sooner (k / 2) (omega arith) (omega arith) (λ e. omega arith) in
+    let right = settled.each (k / 2) (omega arith) (omega arith) (λ e. omega arith) in
     let both = sooner-first (node nodes (2 * (k / 2))) (node nodes (2 * (k / 2) + 1)) in
     let at_parent : NotLater (sooner (node nodes (2 * (k / 2))) (node nodes (2 * (k / 2) + 1))) (node nodes k) =
     elim (cases_eq (2 * (k / 2)) k) [
@@ -96,7 +96,7 @@ leaf_of zero room nodes settled k most some below = absurd (omega arith)
 leaf_of (suc n) room nodes settled k most some below =
     elim (cases_lt k room) [
       | inl inner ↦
-          let right = settled.sooner k some inner (λ e. omega arith) in
+          let right = settled.each k some inner (λ e. omega arith) in
           elim (sooner-either (node nodes (2 * k)) (node nodes (2 * k + 1))) [
             | inl e ↦
                 let leaf = leaf_of n room nodes settled (2 * k) (omega arith) (omega arith) (omega arith) in
@@ -155,7 +155,7 @@ pub root_armed : (room : ℕ) (nodes : List (Option Due)) → IsTree room nodes
     → (d : Due) → node nodes 1 ≡ Some d → IsArmed (dues_of room nodes) d.id d.at
 root_armed room nodes tree d root =
     let in_tree : 1 < length nodes = within nodes 1 d root in
-    let len = tree.length in
+    let len = tree.size in
     let leaf = leaf_of (2 * room) room nodes tree.settled 1 (omega arith) (omega arith) (omega arith) in
     let at_leaf : node nodes (room + leaf.0) ≡ Some d = sym leaf.2 ∙ root in
     let id = id_of_leaf room nodes tree leaf.0 d leaf.1 at_leaf in
@@ -169,7 +169,7 @@ armed_leaf : (room : ℕ) (nodes : List (Option Due)) → IsTree room nodes
 armed_leaf room nodes tree id at armed =
     let due = due_of_moment (node nodes (room + id)) at (sym (due_of-dues_of room nodes id) ∙ armed) in
     let in_tree : room + id < length nodes = within nodes (room + id) due.0 due.1 in
-    let len = tree.length in
+    let len = tree.size in
     let same = id_of_leaf room nodes tree id due.0 (omega arith) due.1 in
     let first = root_first (room + id) room nodes tree.settled (room + id) (omega arith) (omega arith) (omega arith) in
     (due.0, due.2, same, subst (λ (x : Option Due). NotLater (node nodes 1) x) due.1 first)

@@ -26,12 +26,12 @@ moment_of (Some d) = Some d.at
 abbrev pub dues_of : ℕ → List (Option Due) → List (Option Moment)
 dues_of room nodes = map moment_of (drop room nodes)
 
--- each node but one that is no leaf is the sooner of the two below it
+-- each node that is no leaf is the sooner of the two below it, but for one that may be wrong; with 0, which is no node, all are
 pub record IsSettledBut (room : ℕ) (nodes : List (Option Due)) (but : ℕ) : Type 0 where
-  pub sooner : (k : ℕ) → 1 ≤ k → k < room → k ≢ but → node nodes k ≡ sooner (node nodes (2 * k)) (node nodes (2 * k + 1))
+  pub each : (k : ℕ) → 1 ≤ k → k < room → k ≢ but → node nodes k ≡ sooner (node nodes (2 * k)) (node nodes (2 * k + 1))
 
 -- a tree with so many leaves, each with its own id
 pub record IsTree (room : ℕ) (nodes : List (Option Due)) : Type 0 where
-  pub length : length nodes ≡ 2 * room
+  pub size : length nodes ≡ 2 * room
   pub leaves : (id : ℕ) → id < room → IfSome (node nodes (room + id)) (λ d. d.id ≡ id)
   pub settled : IsSettledBut room nodes 0
