@@ -1,0 +1,114 @@
+//! Credit2's caps, on numbers.
+//!
+//! A domain with a cap has a budget, which is filled up every 10,000,000 nanoseconds, and its units take of it what they
+//! run on. All budgets are in nanoseconds.
+#![tactic(auto)]
+
+ghost use Rattle.std.specs.Prelude.{◌≡◌, ◌≤◌, ◌*◌, pos, ◌+ℤ◌, ◌≤ℤ◌, ◌<ℤ◌, ◌-ℤ◌};
+ghost use Rattle.std.specs.Int.{int_min};
+ghost use Rattle.sched_base.specs.Credit2Numbers as numbers;
+
+/// No unit takes less than this at once, where the budget has so much.
+const LEAST_QUOTA: i64 = 500_000;
+
+/// The budget that a cap gives for each 10,000,000 nanoseconds. The cap is in percent of one processor.
+pub fn total(cap: u32) -> i64
+    requires { cap ≤ 6400 }
+    ensures { result ≡ pos (numbers.total cap) }
+{
+    cap as i64 * 100_000
+}
+
+/// The most that a unit takes of the budget at once: an even share of the total, and never less than 500,000.
+/// The units are all units of the domain, of which there is at least one.
+pub fn quota(total: i64, units: u32) -> i64
+    requires { 1 ≤ units }
+    ensures exact { result ≡ pos (numbers.quota (numbers.above_zero total) units) }
+    ensures least { pos 500000 ≤ℤ result }
+    ensures share { pos 500000 ≤ℤ total → result ≤ℤ total }
+{
+    (total / units as i64).max(LEAST_QUOTA)
+}
+
+/// What a chosen unit takes of its domain's budget, which is above 0: its quota, or what is left where that is less.
+pub fn take(budget: i64, quota: i64) -> i64
+    requires { pos 0 <ℤ budget }
+    ensures exact { pos 0 ≤ℤ quota → result ≡ numbers.take budget (numbers.above_zero quota) }
+    ensures least { result ≡ int_min quota budget }
+    ensures no_more { result ≤ℤ budget }
+    ensures some { pos 0 <ℤ quota → pos 0 <ℤ result }
+{
+    quota.min(budget)
+}
+
+/// A domain's budget after n whole spans, of which 1 to 10^6 have come since the last refill.
+///
+/// It grows by the total for each of them. What the running units still hold of earlier budgets, from 0 to the total,
+/// counts against the total: the budget and what they hold are never more than that.
+pub fn refill(budget: i64, held: i64, total: i64, n: u64) -> i64
+    requires some { 1 ≤ n }
+    requires few { n ≤ 1000000 }
+    requires held { pos 0 ≤ℤ held }
+    requires within { held ≤ℤ total }
+    ensures exact { result ≡ numbers.refill budget (numbers.above_zero held) (numbers.above_zero total) n }
+    ensures room { result ≤ℤ (total -ℤ held) }
+    ensures grows { budget ≤ℤ (total -ℤ held) → budget ≤ℤ result }
+{
+    let room = total - held;
+    grown(budget, total, n).min(room as i128) as i64
+}
+
+/// The budget and n times the total, which is not below 0.
+fn grown(budget: i64, total: i64, n: u64) -> i128
+    requires few { n ≤ 1000000 }
+    requires some { pos 0 ≤ℤ total }
+    ensures { result ≡ budget +ℤ pos (n * numbers.above_zero total) }
+{
+    let all = n as u128 * total as u128;
+    budget as i128 + all as i128
+}
+
+#[cfg(test)]
+mod tests {
+    use super::*;
+
+    #[test]
+    fn gives_and_takes_budgets(rt: HostRuntime) {
+        for (cap, units, all, share) in [
+            (25, 2, 2_500_000, 1_250_000),
+            (25, 6, 2_500_000, 500_000),
+            (1, 1, 100_000, 500_000),
+            (100, 3, 10_000_000, 3_333_333),
+            (6400, 1, 640_000_000, 640_000_000),
+            (0, 1, 0, 500_000),
+        ] {
+            assert_eq!(rt; total(cap), all, "total of {cap}");
+            assert_eq!(rt;
+                quota(total(cap), units),
+                share,
+                "quota of {cap} over {units}"
+            );
+        }
+        for (budget, most, want) in [
+            (2_500_000, 1_250_000, 1_250_000),
+            (250_000, 1_250_000, 250_000),
+            (7, 7, 7),
+        ] {
+            assert_eq!(rt; take(budget, most), want, "{most} of {budget}");
+        }
+        for (budget, held, all, n, want) in [
+            (300_000, 200_000, 2_500_000, 1, 2_300_000),
+            (-6_000_000, 0, 2_500_000, 2, -1_000_000),
+            (0, 0, 2_500_000, 1, 2_500_000),
+            (-2_500_000, 2_500_000, 2_500_000, 1, 0),
+            (2_500_000, 0, 2_500_000, 1_000_000, 2_500_000),
+            (-640_000_000, 1, 640_000_000, 3, 639_999_999),
+        ] {
+            assert_eq!(rt;
+                refill(budget, held, all, n),
+                want,
+                "refill of {budget} by {n}"
+            );
+        }
+    }
+}

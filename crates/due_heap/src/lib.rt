@@ -1,0 +1,162 @@
+//! A heap of moments by id: each of a fixed number of ids may be due at a moment, and the first of them is at hand.
+//!
+//! It is a tree of winners: the leaves are the ids in turn, and each other node is the sooner one of the two below it.
+//! So the root is the first of all, and a change of one id is carried up one path, in steps by the logarithm of the room.
+#![tactic(auto)]
+
+ghost use Rattle.std.specs.Prelude.{◌≡◌, ◌+◌, ◌*◌, ◌/◌, ◌<◌, ◌≤◌, length, drop};
+ghost use Rattle.due_heap.specs.Winners.{IsSettledBut, node};
+
+mod due;
+
+use due::{Due, sooner};
+use sched_base::{Moment, NoMemory};
+use std::alloc::Global;
+use std::marker::Model;
+
+/// The heap. Contracts see it as the list of its ids' moments, with none where an id is not armed.
+#[derive(Drop)]
+pub struct DueHeap {
+    room: usize,
+    nodes: Vec<Option<Due>>,
+}
+
+impl Model for DueHeap {
+    ghost use Rattle.std.specs.Prelude.{List, Option};
+    ghost use Rattle.sched_base.specs.declared.Moment.{Moment};
+
+    ghost Value = { List (Option Moment) };
+
+    ghost use Rattle.due_heap.specs.Winners.{dues_of, IsTree};
+
+    ghost view = { λ a. dues_of a.room a.nodes.items };
+
+    ghost invariant = { λ a. IsTree a.room a.nodes.items };
+}
+
+/// The root, which is none where there is no leaf.
+fn root(nodes: &[Option<Due>]) -> Option<Due>
+    ensures { result ≡ node nodes.now 1 }
+{
+    if nodes.len() > 1 { nodes[1] } else { None }
+}
+
+/// Carries a changed leaf up to the root.
+fn settle(nodes: &mut [Option<Due>], room: usize, leaf: usize)
+    requires length { length nodes.old ≡ 2 * room }
+    requires below { leaf < 2 * room }
+    requires but { IsSettledBut room nodes.old (leaf / 2) }
+    ensures settled { IsSettledBut room nodes.new 0 }
+    ensures leaves { drop room nodes.new ≡ drop room nodes.old }
+{
+    let mut k = leaf / 2;
+    while k > 0 {
+        let winner = sooner(nodes[2 * k], nodes[2 * k + 1]);
+        if nodes[k] == winner {
+            return;
+        }
+        nodes[k] = winner;
+        k /= 2;
+    }
+}
+
+impl DueHeap {
+    ghost use Rattle.std.specs.Prelude.{ℕ, ◌≡◌, ◌<◌, Some, None, IfOk, IfSome, IfNone, length, replicate, slice_set};
+    ghost use Rattle.due_heap.specs.Dues.{IsArmed, GoesFirst};
+
+    /// A heap for the ids below n, none of them armed.
+    pub fn room(alloc: Global, n: usize) -> Result<DueHeap, NoMemory>
+        ensures { IfOk result (λ heap. heap ≡ replicate n None) }
+    {
+        let all = n.checked_mul(2).ok_or(NoMemory)?;
+        let nodes = vec![in alloc; None; all]?;
+        Ok(DueHeap { room: n, nodes })
+    }
+
+    /// Makes an id below the room due at a moment, in place of the moment that it had.
+    pub fn arm(&mut self, id: u16, at: Moment)
+        requires { id < length self.old }
+        ensures { self.new ≡ slice_set self.old id (Some at) }
+    {
+        let leaf = self.room + id as usize;
+        self.nodes[leaf] = Some(Due { at, id });
+        settle(self.nodes.as_mut_slice(), self.room, leaf);
+    }
+
+    /// Makes an id due at no moment. An id that is not armed, or not below the room, changes nothing.
+    pub fn disarm(&mut self, id: u16)
+        ensures { self.new ≡ slice_set self.old id None }
+    {
+        if (id as usize) < self.room {
+            let leaf = self.room + id as usize;
+            self.nodes[leaf] = None;
+            settle(self.nodes.as_mut_slice(), self.room, leaf);
+        }
+    }
+
+    /// The first of the armed ids with its moment: the least by moment, then by id. `None` where none is armed.
+    pub fn least(&self) -> Option<(Moment, u16)>
+        ensures none { IfNone result ((id : ℕ) (at : Moment) → ¬ IsArmed self.now id at) }
+        ensures armed { IfSome result (λ due. IsArmed self.now due.1 due.0) }
+        ensures first { IfSome result (λ due. (id : ℕ) (at : Moment) → IsArmed self.now id at → GoesFirst due.0 due.1 at id) }
+    {
+        match root(self.nodes.as_slice()) {
+            Some(due) => Some((due.at, due.id)),
+            None => None,
+        }
+    }
+}
+
+#[cfg(test)]
+mod tests {
+    use super::*;
+    use std::test::Fail;
+
+    /// The moment and the id of the first.
+    fn first(heap: &DueHeap) -> Option<(u64, u16)> {
+        match heap.least() {
+            Some((at, id)) => Some((at.0, id)),
+            None => None,
+        }
+    }
+
+    #[test]
+    fn first_by_moment_then_by_id(rt: HostRuntime) -> Result<(), Fail> {
+        let mut heap = DueHeap::room(rt.alloc(), 5)?;
+        assert_eq!(rt; first(&heap), None);
+        heap.arm(3, Moment(70));
+        assert_eq!(rt; first(&heap), Some((70, 3)));
+        heap.arm(1, Moment(70));
+        assert_eq!(rt; first(&heap), Some((70, 1)));
+        heap.arm(4, Moment(10));
+        heap.arm(0, Moment(u64::MAX));
+        assert_eq!(rt; first(&heap), Some((10, 4)));
+        heap.arm(4, Moment(90));
+        assert_eq!(rt; first(&heap), Some((70, 1)));
+        heap.disarm(1);
+        heap.disarm(2);
+        heap.disarm(9);
+        assert_eq!(rt; first(&heap), Some((70, 3)));
+        heap.disarm(3);
+        assert_eq!(rt; first(&heap), Some((90, 4)));
+        heap.disarm(4);
+        heap.disarm(0);
+        assert_eq!(rt; first(&heap), None);
+        Ok(())
+    }
+
+    #[test]
+    fn small_rooms(rt: HostRuntime) -> Result<(), Fail> {
+        let mut none = DueHeap::room(rt.alloc(), 0)?;
+        none.disarm(0);
+        assert_eq!(rt; first(&none), None);
+        let mut one = DueHeap::room(rt.alloc(), 1)?;
+        one.arm(0, Moment(5));
+        assert_eq!(rt; first(&one), Some((5, 0)));
+        one.disarm(0);
+        assert_eq!(rt; first(&one), None);
+        let too_many = DueHeap::room(rt.alloc(), usize::MAX);
+        assert!(rt; too_many.is_err());
+        Ok(())
+    }
+}
