@@ -1,0 +1,115 @@
+-- The state cut into parts, of which each is guarded by one lock: a pool is a part, with the pool's number, and what the tool keeps is the part 16.
+-- A name is the number of a core, or 64 more than that of a domain. Each name is listed by the part of its home.
+use Rattle.std.specs.Prelude.{ℕ, suc, ◌-◌, ◌&&◌, Bool, false, eqb, List, [], ◌∷◌, Option, Some, None, is_some, option_map, length, map, take, nat_lt, if◌then◌else◌}
+use Rattle.sched_base.specs.declared.Name.{Name}
+use Rattle.sched_base.specs.declared.Moment.{Moment}
+use Rattle.sched_model.specs.declared.config.Config.{Config}
+use Rattle.sched_model.specs.declared.config.SchedKind.{SchedKind}
+use Rattle.sched_model.specs.declared.state.Domain.{Domain}
+use Rattle.sched_model.specs.declared.state.Resource.{Resource}
+use Rattle.sched_model.specs.declared.state.FreeCore.{FreeCore}
+use Rattle.sched_model.specs.declared.state.Pool.{Pool}
+use Rattle.sched_model.specs.declared.state.State.{State}
+use Rattle.sched_model.specs.Places.{at_place, first_place}
+use Rattle.sched_model.specs.Opening.{core_count}
+use Rattle.sched_model.specs.Policy.{kind_of}
+
+-- a pool as the tool knows it: its scheduler, which cores it has, and for each domain that it has the number of its vCPUs
+pub record Outline : Type 0 where
+  pub kind : SchedKind
+  pub cores : List Bool
+  pub domains : List (Option ℕ)
+
+-- what is on its way: a core to a pool or to none, or a domain to a pool
+pub data UnderWay : Type 0 where
+  core_to : ℕ → Option ℕ → UnderWay
+  domain_to : ℕ → ℕ → UnderWay
+
+-- what the tool keeps: the names and the outlines of the pools, the ends of stalls of the cores of no pool, what is on its way,
+-- and how many stalls and commands were done
+pub record ToolPart : Type 0 where
+  pub names : List (Option Name)
+  pub pools : List (Option Outline)
+  pub free : List (Option (List Moment))
+  pub under_way : Option UnderWay
+  pub next_stall : ℕ
+  pub next_command : ℕ
+
+-- a part: a pool, or nothing where there is no pool with this number; or what the tool keeps
+pub data StatePart : Type 0 where
+  pool_part : Option Pool → StatePart
+  tool_part : ToolPart → StatePart
+
+-- the part of a lock that guards none
+abbrev pub no_part : StatePart
+no_part = pool_part None
+
+-- the tool's part has the number after those of the pools
+abbrev pub tool_lock : ℕ
+tool_lock = 16
+
+-- how the tool knows a pool
+abbrev pub outline_of : Pool → Outline
+outline_of pool = record { kind = kind_of pool.scheduler.records; cores = map is_some pool.resources; domains = map (option_map (λ (d : Domain). length d.vcpus)) pool.domains }
+
+-- the first answer for something that stands at a place, with the number of its place; the first place has the number n
+abbrev pub first_answer : {X Y : Type 0} → (ℕ → X → Option Y) → ℕ → List (Option X) → Option Y
+first_answer f n [] = None
+first_answer f n (None ∷ places) = first_answer f (suc n) places
+first_answer f n (Some x ∷ places) = elim (f n x) [ Some y ↦ Some y | None ↦ first_answer f (suc n) places ]
+
+-- the core leaves its pool; the domain moves to a pool; the core of no pool is to join one
+abbrev pub core_leaving : ℕ → Resource → Option UnderWay
+core_leaving r c = (if c.leaving then Some (core_to r None) else None)
+
+abbrev pub domain_moving : ℕ → Domain → Option UnderWay
+domain_moving d domain = option_map (λ i. domain_to d i.0) domain.moving
+
+abbrev pub core_joining : ℕ → FreeCore → Option UnderWay
+core_joining r c = option_map (λ (i : ℕ). core_to r (Some i)) c.target
+
+-- what is on its way from the pool
+abbrev pub leaving_pool : ℕ → Pool → Option UnderWay
+leaving_pool i pool = elim (first_answer core_leaving 0 pool.resources) [ Some way ↦ Some way | None ↦ first_answer domain_moving 0 pool.domains ]
+
+-- what is on its way
+abbrev pub under_way_of : State → Option UnderWay
+under_way_of s = elim (first_answer leaving_pool 0 s.pools) [ Some way ↦ Some way | None ↦ first_answer core_joining 0 s.free ]
+
+-- what the tool keeps of the state
+abbrev pub tool_of : State → ToolPart
+tool_of s =
+    record {
+      names = s.names;
+      pools = map (option_map outline_of) s.pools;
+      free = map (option_map (λ (c : FreeCore). c.stall_ends)) s.free;
+      under_way = under_way_of s;
+      next_stall = s.next_stall;
+      next_command = s.next_command;
+    }
+
+-- the part k of the state
+abbrev pub part_of : State → ℕ → StatePart
+part_of s k = (if eqb k tool_lock then tool_part (tool_of s) else pool_part (at_place s.pools k))
+
+-- whether the pool has what the name n names
+abbrev pub pool_lists : ℕ → Pool → Bool
+pool_lists n pool = (if nat_lt n 64 then is_some (at_place pool.resources n) else is_some (at_place pool.domains (n - 64)))
+
+-- whether the part lists the name n
+abbrev pub lists : StatePart → ℕ → Bool
+lists (pool_part None) n = false
+lists (pool_part (Some pool)) n = pool_lists n pool
+lists (tool_part tool) n = nat_lt n 64 && is_some (at_place tool.free n)
+
+-- whether the input has what the name n names
+abbrev pub is_name : Config → ℕ → Bool
+is_name config n = (if nat_lt n 64 then nat_lt n (core_count config) else nat_lt (n - 64) (length config.domains))
+
+-- the home of a name that names nothing of the input
+abbrev pub nowhere : ℕ
+nowhere = 255
+
+-- the part that is the home of the name n: the pool that lists it, or the tool's part where no pool does
+abbrev pub home_in : Config → State → ℕ → ℕ
+home_in config s n = (if is_name config n then elim (first_place 0 (pool_lists n) (take tool_lock s.pools)) [ Some i ↦ i | None ↦ tool_lock ] else nowhere)

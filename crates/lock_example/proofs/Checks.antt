@@ -1,0 +1,101 @@
+-- What is computed of the example.
+use Rattle.std.proofs.Common.{◌≡◌, ℕ, zero, suc, ◌<◌, Bool, true, false, true≢false, eqb, List, [], ◌∷◌, take, ◌++◌, ◌≤◌, length, sym, refl, ap, ◌∙◌, arith}
+use Rattle.std.specs.Prelude.{◌&&◌}
+use mathlib.Core.Logic.{dite}
+use mathlib.Core.Option.{some, some-injective, some-ne-none}
+use native.Mathlib.Decide.{ℕ_discrete, dec_lt}
+use lib.ListN.{get_elem?}
+use Rattle.sched_model.specs.declared.config.Config.{Config}
+use Rattle.sched_model.specs.declared.state.State.{State}
+use Rattle.sched_model.specs.declared.event.Entry.{Entry}
+use Rattle.journal_core.specs.Parts.{StatePart, part_of, lists, home_in}
+use Rattle.journal_core.specs.Histories.{part_at, home_at, state_at, NamesStandOnce}
+use Rattle.lock_moves.specs.declared.names.Names.{Names}
+use Rattle.lock_moves.specs.NameSets.{in_names, AreNamesOf}
+use Rattle.lock_example.specs.Example.{adding, two_entries, part_after, names_after, new_book}
+use Rattle.lock_example.specs.declared.counter.Counter.{Counter}
+use Rattle.lock_example.specs.Counters.{AreNew}
+use Rattle.lock_moves.specs.Opened.{AreParts}
+
+-- whether the test holds of each number below k
+abbrev all_below : (ℕ → Bool) → ℕ → Bool
+all_below f zero = true
+all_below f (suc k) = f k && all_below f k
+
+left : (a b : Bool) → (a && b) ≡ true → a ≡ true
+left true b e = refl
+left false b e = absurd (true≢false (sym e))
+
+right : (a b : Bool) → (a && b) ≡ true → b ≡ true
+right true b e = e
+right false b e = absurd (true≢false (sym e))
+
+at_each : (f : ℕ → Bool) (k n : ℕ) → all_below f k ≡ true → n < k → f n ≡ true
+at_each f zero n all low = absurd (omega (arith, low))
+at_each f (suc k) n all low = dite (ℕ_discrete n k)
+    (λ is. ap f is ∙ left (f k) (all_below f k) all)
+    (λ ne. at_each f k n (right (f k) (all_below f k) all) (omega (arith, low, ne)))
+
+abbrev same : Bool → Bool → Bool
+same true b = b
+same false true = false
+same false false = true
+
+same_is : (a b : Bool) → same a b ≡ true → a ≡ b
+same_is true b e = sym e
+same_is false true e = absurd (true≢false (sym e))
+same_is false false e = refl
+
+-- whether the sets have the names that the part lists
+abbrev names_agree : Names → StatePart → Bool
+names_agree names part = all_below (λ n. same (in_names names n) (lists part n)) 128
+
+abbrev counters_agree : ℕ → ℕ → Bool
+counters_agree lock count = names_agree (names_after lock count) (part_after lock count)
+
+all_agree : all_below (λ lock. all_below (counters_agree lock) 3) 17 ≡ true
+unfolding part_at
+all_agree = refl
+
+pub names-part : (lock count : ℕ) → lock < 17 → count < 3 → AreNamesOf (part_after lock count) (names_after lock count)
+names-part lock count low few n small =
+    same_is _ _ (at_each (λ n. same (in_names (names_after lock count) n) (lists (part_after lock count) n)) 128 n (at_each (counters_agree lock) 3 count (at_each (λ lock. all_below (counters_agree lock) 3) 17 lock all_agree low) few) small)
+
+-- whether each name is listed by the part of its home alone
+abbrev stand_once : Config → State → Bool
+stand_once config s = all_below (λ k. all_below (λ n. same (lists (part_of s k) n) (eqb (home_in config s n) k)) 128) 17
+
+once-by : (h : List Entry) → stand_once adding.config (state_at adding h) ≡ true → NamesStandOnce adding h
+unfolding part_at home_at
+once-by h all k n low small = let s = state_at adding h in
+    same_is _ _ (at_each (λ n. same (lists (part_of s k) n) (eqb (home_in adding.config s n) k)) 128 n (at_each (λ k. all_below (λ n. same (lists (part_of s k) n) (eqb (home_in adding.config s n) k)) 128) 17 k all low) small)
+
+pub once-first : NamesStandOnce adding []
+once-first = once-by [] refl
+
+pub once-second : NamesStandOnce adding (take 1 two_entries)
+once-second = once-by (take 1 two_entries) refl
+
+pub once-third : NamesStandOnce adding two_entries
+once-third = once-by two_entries refl
+
+-- one counter more
+pub new-snoc : (counters : List Counter) (x : Counter) → length counters ≡ x.lock → x.count ≡ 0 → AreNew counters → AreNew (counters ++ x ∷ [])
+new-snoc counters x len none new k y at = dite (dec_lt k (length counters))
+    (λ low. new k y (sym (at_front counters k low) ∙ at))
+    (λ high. let is = at_back counters k y (omega (arith, high)) at in (ap (λ (z : Counter). z.lock) is.1 ∙ (sym len ∙ sym is.0), ap (λ (z : Counter). z.count) is.1 ∙ none))
+  where
+    at_front : (xs : List Counter) (j : ℕ) → j < length xs → get_elem? (xs ++ x ∷ []) j ≡ get_elem? xs j
+    at_front [] j low = absurd (omega (arith, low))
+    at_front (z ∷ zs) zero low = refl
+    at_front (z ∷ zs) (suc j) low = at_front zs j (omega (arith, low))
+
+    at_back : (xs : List Counter) (j : ℕ) (y : Counter) → length xs ≤ j → get_elem? (xs ++ x ∷ []) j ≡ some y → (j ≡ length xs) × (y ≡ x)
+    at_back [] zero y high e = (refl, sym (some-injective x y e))
+    at_back [] (suc j) y high e = absurd (some-ne-none y (sym e))
+    at_back (z ∷ zs) zero y high e = absurd (omega (arith, high))
+    at_back (z ∷ zs) (suc j) y high e = let t = at_back zs j y (omega (arith, high)) e in (ap suc t.0, t.1)
+
+-- the new counters are the parts of the book before the run
+pub new-parts : (counters : List Counter) → length counters ≡ 17 → AreNew counters → AreParts (λ (c : Counter). part_after c.lock c.count) new_book counters
+new-parts counters len new = record { all = len; each = λ k x at. let is = new k x at in λ i. part_after (is.0 i) (is.1 i) }

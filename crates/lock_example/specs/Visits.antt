@@ -1,0 +1,16 @@
+-- What a visit of a lock leaves.
+use Rattle.std.specs.Prelude.{◌≡◌, ℕ, true, List, []}
+use Rattle.lock_moves.specs.declared.content.NameId.{NameId}
+use Rattle.lock_moves.specs.Words.{has_name}
+use Rattle.lock_moves.specs.Sight.{Sitting, searched}
+use Rattle.lock_moves.specs.Sets.{LockTable, seeing}
+
+-- the seat is of the set and holds nothing, and the input has the name
+pub record CanVisit (set : LockTable) (name : NameId) (s : Sitting) : Type 0 where
+  pub table : s.table ≡ set.table
+  pub nothing : s.view.held ≡ []
+  pub has : has_name s.view.input name ≡ true
+
+-- the seat holds nothing and has all that it had, but for the tries that were refused and the moment
+abbrev pub IsBack : Sitting → Sitting → Type 0
+IsBack old new = (refused : List ℕ) × (t : ℕ) × (new ≡ seeing old (searched refused t old.view))

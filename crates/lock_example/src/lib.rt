@@ -1,0 +1,13 @@
+//! A worked example of the locks: a core joins a pool, under two seats.
+#![tactic(auto)]
+
+mod counter;
+mod input;
+mod visits;
+
+pub use counter::Counter;
+pub use input::{book, opened};
+pub use visits::visit;
+
+#[cfg(test)]
+mod tests;

@@ -1,0 +1,13 @@
+pub mod Named
+pub mod Places
+pub mod Finding
+pub mod Moving
+pub mod Prefix
+pub mod Taking
+pub mod Writing
+pub mod Committing
+pub mod Sharing
+pub mod Naming
+pub mod Opening
+pub mod Closing
+pub mod Staging

@@ -1,0 +1,9 @@
+pub mod Words
+pub mod NameSets
+pub mod Sight
+pub mod Rests
+pub mod Agrees
+pub mod Plays
+pub mod Sets
+pub mod Opened
+pub mod Lent

@@ -1,0 +1,238 @@
+-- What a seat knows, and how a step changes it.
+use Rattle.std.specs.Prelude.{◌≡◌, ℕ, zero, suc, ◌+◌, ◌-◌, ◌<◌, Bool, false, cond, ◌||◌, eqb, leb, List, [], ◌∷◌, ◌++◌, length, replicate, Option, Some, None, ⊤}
+use Rattle.atomic_table.specs.Seated.{TableId}
+use Rattle.sched_base.specs.Numbers.{moment}
+use Rattle.sched_model.specs.declared.event.Entry.{Entry}
+use Rattle.sched_model.specs.declared.machine.Machine.{Machine}
+use Rattle.journal_core.specs.Parts.{StatePart, no_part}
+use Rattle.journal_core.specs.Histories.{part_at}
+use Rattle.journal_core.specs.Books.{Chronicle}
+
+-- what is known of a lock that is held: the part that it guards, and the names whose word is this lock
+pub record Known : Type 0 where
+  pub part : StatePart
+  pub names : List ℕ
+
+-- What a seat knows and holds:
+-- the input; the front, a beginning of the book's history; its own places, at which it added an entry; its parts of the 1024;
+-- how often it took the book; the locks at which it was turned away, one for each time; the locks that it holds;
+-- the moment, where it holds a lock; 0, or 1 more than the core whose stage word it has raised under the book;
+-- and the core and the number of its last load of a stage word, and how many such loads it made
+pub record Seen : Type 0 where
+  pub input : Machine
+  pub front : List Entry
+  pub own : List ℕ
+  pub shares : ℕ
+  pub takes : ℕ
+  pub refused : List ℕ
+  pub held : List (ℕ × Known)
+  pub now : ℕ
+  pub named : ℕ
+  pub loaded : ℕ × ℕ
+  pub loads : ℕ
+
+-- A seat as contracts see it: the table, its number, and what it knows and holds
+pub record Sitting : Type 0 where
+  pub table : TableId
+  pub id : ℕ
+  pub view : Seen
+
+abbrev pub known : StatePart → List ℕ → Known
+known part names = record { part = part; names = names }
+
+-- the book's lock guards no part and no name
+abbrev pub book_known : Known
+book_known = known no_part []
+
+-- what is known of the lock k, if it is held
+abbrev pub find_lock : ℕ → List (ℕ × Known) → Option Known
+find_lock k [] = None
+find_lock k (x ∷ xs) = cond (eqb k x.0) (Some x.1) (find_lock k xs)
+
+-- the locks but k
+abbrev pub without : ℕ → List (ℕ × Known) → List (ℕ × Known)
+without k [] = []
+without k (x ∷ xs) = cond (eqb k x.0) (without k xs) (x ∷ without k xs)
+
+-- the same locks, with the parts of the state to which the history h leads
+abbrev pub refreshed : Machine → List Entry → List (ℕ × Known) → List (ℕ × Known)
+refreshed m h [] = []
+refreshed m h (x ∷ xs) = (x.0, known (part_at m h x.0) x.1.names) ∷ refreshed m h xs
+
+-- the lock k is held
+abbrev pub Holds : ℕ → Seen → Type 0
+Holds k v = (x : Known) × (find_lock k v.held ≡ Some x)
+
+-- each lock that is held has a smaller number
+abbrev pub AllBelow : ℕ → List (ℕ × Known) → Type 0
+AllBelow k xs = (j : ℕ) (x : Known) → find_lock j xs ≡ Some x → j < k
+
+-- whether the number is in the list
+abbrev pub has_place : ℕ → List ℕ → Bool
+has_place p [] = false
+has_place p (q ∷ qs) = eqb p q || has_place p qs
+
+-- each number of the list is greater than p
+abbrev pub AllAbove : ℕ → List ℕ → Type 0
+AllAbove p [] = ⊤
+AllAbove p (q ∷ qs) = (p < q) × AllAbove p qs
+
+-- the list rises strictly
+abbrev pub Rising : List ℕ → Type 0
+Rising [] = ⊤
+Rising (q ∷ qs) = AllAbove q qs × Rising qs
+
+-- the longer of two histories
+abbrev pub longer : List Entry → List Entry → List Entry
+longer xs ys = cond (leb (length xs) (length ys)) ys xs
+
+-- the numbers below n that stand in one of the lists, in order
+abbrev pub both_places : List ℕ → List ℕ → ℕ → List ℕ
+both_places xs ys zero = []
+both_places xs ys (suc n) = both_places xs ys n ++ cond (has_place n xs || has_place n ys) (n ∷ []) []
+
+-- the lock k was taken, whose value is the part and lists the names, at the moment t
+abbrev pub took : ℕ → StatePart → List ℕ → ℕ → Seen → Seen
+took k part names t v = record v { held = (k, known part names) ∷ v.held; now = t }
+
+-- the book was taken, whose history is h
+abbrev pub took_book : List Entry → ℕ → Seen → Seen
+took_book h t v = record v { front = h; takes = suc v.takes; held = (17, book_known) ∷ v.held; now = t }
+
+-- the names without n
+abbrev pub without_name : ℕ → List ℕ → List ℕ
+without_name n [] = []
+without_name n (x ∷ xs) = cond (eqb n x) (without_name n xs) (x ∷ without_name n xs)
+
+-- the same locks, with the name n in the lock `to` alone
+abbrev pub renamed : ℕ → ℕ → List (ℕ × Known) → List (ℕ × Known)
+renamed n to [] = []
+renamed n to (x ∷ xs) = (x.0, known x.1.part (cond (eqb to x.0) (n ∷ x.1.names) (without_name n x.1.names))) ∷ renamed n to xs
+
+-- the name n was moved to the lock `to`
+abbrev pub moved_name : ℕ → ℕ → Seen → Seen
+moved_name n to v = record v { held = renamed n to v.held }
+
+-- 1 where the view names the core r
+abbrev pub raise : ℕ → Seen → ℕ
+raise r v = cond (eqb (suc r) v.named) 1 0
+
+-- the stage word of the core r was raised
+abbrev pub naming : ℕ → Seen → Seen
+naming r v = record v { named = suc r }
+
+-- the stage word of the core r was loaded, and was n
+abbrev pub has_loaded : ℕ → ℕ → Seen → Seen
+has_loaded r n v = record v { loaded = (r, n); loads = suc v.loads }
+
+-- the moment word was stored
+abbrev pub with_now : ℕ → Seen → Seen
+with_now t v = record v { now = t }
+
+-- the lock k was found taken
+abbrev pub turned_away : ℕ → Seen → Seen
+turned_away k v = record v { refused = k ∷ v.refused }
+
+-- the lock k was found taken n times
+abbrev pub tried_again : ℕ → ℕ → Seen → Seen
+tried_again n k v = record v { refused = replicate n k ++ v.refused }
+
+-- what a seat that holds nothing may have changed by tries alone
+abbrev pub searched : List ℕ → ℕ → Seen → Seen
+searched refused t v = record v { refused = refused; held = []; now = t }
+
+-- the lock k was put back
+abbrev pub gave : ℕ → Seen → Seen
+gave k v = record v { held = without k v.held }
+
+-- the own places with that of the entry by which the history h is longer than the front, if it is
+abbrev pub places_after : Seen → List Entry → List ℕ
+places_after v h = cond (eqb (length h) (length v.front)) v.own (v.own ++ length v.front ∷ [])
+
+-- the book was put back, with the history h
+abbrev pub committed_view : List Entry → Seen → Seen
+committed_view h v = record v { front = h; own = places_after v h; held = refreshed v.input h (without 17 v.held); named = 0 }
+
+-- a seat that has done nothing yet
+abbrev pub fresh : Machine → List Entry → ℕ → Seen
+fresh m h shares = record { input = m; front = h; own = []; shares = shares; takes = 0; refused = []; held = []; now = 0; named = 0; loaded = (0, 0); loads = 0 }
+
+-- the first seat of a set
+abbrev pub opening_view : Chronicle → Seen
+opening_view b = fresh b.input b.history 1024
+
+-- one part was given to a new seat; the new seat
+abbrev pub lessened : Seen → Seen
+lessened v = record v { shares = v.shares - 1 }
+
+abbrev pub newcomer : Seen → Seen
+newcomer v = fresh v.input v.front 1
+
+-- another seat was taken in
+abbrev pub joined : Seen → Seen → Seen
+joined v w = record v { front = longer v.front w.front; own = both_places v.own w.own (length (longer v.front w.front)); shares = v.shares + w.shares }
+
+-- What the table keeps of a seat: what the seat knows, and 0, or 1 more than the lock whose slot is out with the seat in the midst of a call
+pub record View : Type 0 where
+  pub seen : Seen
+  pub out : ℕ
+
+-- no slot is out
+abbrev pub at_rest : Seen → View
+at_rest v = record { seen = v; out = 0 }
+
+-- what the seat knows becomes this, and the slot stays where it is
+abbrev pub with_seen : Seen → View → View
+with_seen w v = record v { seen = w }
+
+-- the slot of the lock is out, or home
+abbrev pub with_out : ℕ → View → View
+with_out n v = record v { out = n }
+
+-- no input
+abbrev pub no_machine : Machine
+no_machine = record { config = record { granularity = 0; processors = 0; horizon = moment 0; pools = []; domains = [] }; work = record { stalls = []; commands = [] } }
+
+-- a seat that was joined away
+abbrev pub spent_view : View
+spent_view = at_rest (fresh no_machine [] 0)
+
+-- how the steps change what the table keeps
+abbrev pub view_took : ℕ → StatePart → List ℕ → ℕ → View → View
+view_took k part names t v = record { seen = took k part names t v.seen; out = suc k }
+
+abbrev pub view_took_book : List Entry → ℕ → View → View
+view_took_book h t v = record { seen = took_book h t v.seen; out = 18 }
+
+abbrev pub view_gave : ℕ → View → View
+view_gave k v = at_rest (gave k v.seen)
+
+abbrev pub view_committed : List Entry → View → View
+view_committed h v = at_rest (committed_view h v.seen)
+
+abbrev pub view_turned_away : ℕ → View → View
+view_turned_away k v = with_seen (turned_away k v.seen) v
+
+abbrev pub view_moved_name : ℕ → ℕ → View → View
+view_moved_name n to v = with_seen (moved_name n to v.seen) v
+
+abbrev pub view_with_now : ℕ → View → View
+view_with_now t v = with_seen (with_now t v.seen) v
+
+abbrev pub view_naming : ℕ → View → View
+view_naming r v = with_seen (naming r v.seen) v
+
+abbrev pub view_has_loaded : ℕ → ℕ → View → View
+view_has_loaded r n v = with_seen (has_loaded r n v.seen) v
+
+abbrev pub view_lessened : View → View
+view_lessened v = with_seen (lessened v.seen) v
+
+abbrev pub view_newcomer : View → View
+view_newcomer v = at_rest (newcomer v.seen)
+
+abbrev pub view_joined : View → View → View
+view_joined v w = with_seen (joined v.seen w.seen) v
+
+abbrev pub view_opening : Chronicle → View
+view_opening b = at_rest (opening_view b)

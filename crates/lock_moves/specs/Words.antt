@@ -1,0 +1,36 @@
+-- The words of the table: 0 to 17 are the locks, 18 to 145 the names, 146 is the moment, and 147 to 210 are the stages of the cores. The slot k is the lock k's.
+use Rattle.std.specs.Prelude.{ℕ, ◌+◌, ◌&&◌, Bool, true, nat_lt}
+use Rattle.sched_model.specs.declared.machine.Machine.{Machine}
+use Rattle.journal_core.specs.Parts.{is_name}
+use Rattle.lock_moves.specs.declared.content.NameId.{NameId}
+use Rattle.lock_moves.specs.declared.content.NameId.TheVariants.{Res, Dom}
+use Rattle.lock_moves.specs.declared.content.WordId.{WordId}
+use Rattle.lock_moves.specs.declared.content.WordId.TheVariants.{Lock, Name, Now, Stage}
+
+-- the number of a name: that of a core, or 64 more than that of a domain
+abbrev pub name_number : NameId → ℕ
+name_number (Res r) = r.0
+name_number (Dom d) = 64 + d.0
+
+-- whether the input has the core
+abbrev pub has_core : Machine → ℕ → Bool
+has_core m r = nat_lt r 64 && is_name m.config r
+
+-- whether the input has what the name names
+abbrev pub has_name : Machine → NameId → Bool
+has_name m (Res r) = has_core m r.0
+has_name m (Dom d) = nat_lt d.0 64 && is_name m.config (64 + d.0)
+
+-- the number of a word
+abbrev pub word_index : WordId → ℕ
+word_index (Lock k) = k.0
+word_index (Name n) = 18 + name_number n
+word_index Now = 146
+word_index (Stage r) = 147 + r.0
+
+-- whether there is such a word: a lock's number is at most 17, and a name or a core is one of the input
+abbrev pub has_word : Machine → WordId → Bool
+has_word m (Lock k) = nat_lt k.0 18
+has_word m (Name n) = has_name m n
+has_word m Now = true
+has_word m (Stage r) = has_core m r.0

@@ -1,0 +1,108 @@
+//! How a set is opened and closed.
+
+ghost use Rattle.std.specs.Prelude.{◌≡◌, true, ℕ, ◌+◌, ◌<◌, ◌≤◌, [], ◌∷◌, ◌++◌, map, length, IfOk};
+ghost use Rattle.journal_core.specs.Histories.{home_at, NamesStandOnce};
+ghost use Rattle.lock_moves.specs.declared.content.Content.TheVariants.{Value, Ledger};
+ghost use Rattle.lock_moves.specs.Sight.{opening_view, has_place};
+ghost use Rattle.lock_moves.specs.Opened.{AreParts, IsOpening};
+
+use crate::content::{Content, Part};
+use crate::seat::LockSeat;
+use crate::set::LockSet;
+use atomic_table::Table;
+use journal_core::Book;
+use sched_base::{NoMemory, ResId};
+use std::alloc::Global;
+use std::snapshot::Snapshot;
+
+// The lock whose value lists the name, or 255.
+fn lock_listing<V: Part>(values: &[V], book: &Book, name: usize) -> u64
+    requires parts { AreParts V.part book.now values.now }
+    requires once { NamesStandOnce book.now.input book.now.history }
+    requires name { name < 128 }
+    ensures { result ≡ home_at book.now.input book.now.history name }
+{
+    for k in 0..17 {
+        if values[k].names().has(name) {
+            return k as u64;
+        }
+    }
+    255
+}
+
+// The words of the table at the opening.
+fn words_of<V: Part>(values: &[V], book: &Book) -> [u64; 211]
+    requires parts { AreParts V.part book.now values.now }
+    requires once { NamesStandOnce book.now.input book.now.history }
+    ensures { IsOpening book.now result }
+{
+    let mut words = [0u64; 211];
+    for n in 0..128 {
+        words[18 + n] = lock_listing(values, book, n);
+    }
+    words[146] = book.now().0;
+    for r in 0..64 {
+        words[147 + r] = u64::from(book.decides(ResId(r as u8)));
+    }
+    words
+}
+
+// What lies in the slots at the opening.
+fn stowed<V: Part>(alloc: Global, values: Vec<V>, book: Book) -> Result<Vec<Content<V>>, NoMemory>
+    ensures { IfOk result (λ s. s.items ≡ map Value values.items ++ Ledger book ∷ []) }
+{
+    let mut slots = Vec::new(alloc);
+    for value in values {
+        slots.push(Content::Value(value))?;
+    }
+    slots.push(Content::Ledger(book))?;
+    Ok(slots)
+}
+
+impl<V: Part> LockSet<V> {
+    /// A set of these values, one for each lock but the book's in the order of the locks, each its part of the book's state;
+    /// and its first seat, which has all parts and whose front is the book's history.
+    pub fn open(
+        alloc: Global,
+        values: Vec<V>,
+        book: Book,
+    ) -> Result<(LockSet<V>, LockSeat), NoMemory>
+        requires parts { AreParts V.part book values.items }
+        requires once { NamesStandOnce book.input book.history }
+        ensures seat { IfOk result (λ r. (r.1.table ≡ r.0.table) × (r.1.view ≡ opening_view book)) }
+        ensures opened { IfOk result (λ r. r.0.opened ≡ book) }
+    {
+        book.tell();
+        let about = Snapshot::of(&book);
+        let words = words_of(values.as_slice(), &book);
+        let slots = stowed(alloc, values, book)?;
+        let Ok((table, seat)) = Table::new(alloc, &words, slots, &about) else {
+            return Err(NoMemory);
+        };
+        let badge = seat.into_badge();
+        Ok((LockSet { table }, LockSeat { badge }))
+    }
+
+    /// The book, whose history is the front of the one seat that is left. Each place that was added since the opening is one of this seat's own.
+    pub fn close(self, seat: LockSeat) -> Book
+        requires set { seat.table ≡ self.table }
+        requires only { seat.view.shares ≡ 1024 }
+        requires nothing { seat.view.held ≡ [] }
+        ensures input { result.input ≡ seat.view.input }
+        ensures history { result.history ≡ seat.view.front }
+        ensures own { (p : ℕ) → length self.opened.history ≤ p → p < length seat.view.front → has_place p seat.view.own ≡ true }
+    {
+        let LockSet { table } = self;
+        let LockSeat { badge } = seat;
+        let mut closed = table.close_with(badge.into_seat());
+        let content = closed.take(17);
+        for k in 0..17 {
+            drop(closed.take(k));
+        }
+        closed.free();
+        let Content::Ledger(book) = content else {
+            unreachable!()
+        };
+        book
+    }
+}

@@ -1,0 +1,307 @@
+//! The calls on a set of locks.
+
+ghost use Rattle.std.specs.Prelude.{◌≡◌, ◌≢◌, true, ℕ, ◌+◌, ◌^◌, ◌<◌, ◌≤◌, List, [], Some, None, IfOk, MatchOption};
+ghost use mathlib.Core.List.{IsPrefix};
+ghost use Rattle.sched_model.specs.declared.event.Entry.{Entry};
+ghost use Rattle.sched_model.specs.Runs.{IsRun};
+ghost use Rattle.journal_core.specs.Parts.{lists};
+ghost use Rattle.journal_core.specs.Histories.{decides_at, NamesStandOnce};
+ghost use Rattle.lock_moves.specs.Sight.{find_lock, Holds, AllBelow, took_book, turned_away, gave, committed_view, lessened, newcomer, joined, moved_name, with_now, tried_again, searched, naming, has_loaded};
+ghost use Rattle.lock_moves.specs.Plays.{Current, Next, Kept, Placed, Decided, Tells};
+ghost use Rattle.lock_moves.specs.Sets.{seeing, HasTaken, IsAsKnown, HasName};
+ghost use Rattle.lock_moves.specs.Words.{name_number, has_name, has_core, has_word, word_index};
+
+use crate::content::{Content, Held, HeldBook, LockId, NameId, Part, WordId};
+use crate::rule::{
+    Agreement, Clock, Commit, Cut, Fetch, Glue, Load, Look, Name, Put, Raise, Settle, Take,
+    TakeBook,
+};
+use crate::seat::{LockSeat, seated};
+use crate::view::View;
+use atomic_table::Table;
+use journal_core::Book;
+use sched_base::{Moment, ResId};
+use std::alloc::Global;
+use std::marker::Model;
+use std::snapshot::Snapshot;
+use std::sync::Wait;
+
+/// A set of 18 locks: one for each of 16 pools, the tool's and the book's. Contracts see which table it is, and the book that it was opened with.
+#[derive(Drop)]
+pub struct LockSet<V: Part> {
+    pub(crate) table: Table<Content<V>, View, Snapshot<Book>, Agreement, Global>,
+}
+
+impl<V: Part> Model for LockSet<V> {
+    ghost use Rattle.std.specs.Prelude.{◌≡◌};
+    ghost use Rattle.lock_moves.specs.Sets.{LockTable};
+
+    ghost Value = { LockTable };
+
+    ghost view = { λ s. record { table = s.table.shared.table_id; opened = s.table.shared.key.value } };
+
+    ghost invariant = { λ s. (s.table.shared.table_id.words ≡ 211) × (s.table.shared.table_id.slots ≡ 18) };
+}
+
+impl<V: Part> LockSet<V> {
+    /// Takes the lock if it is free.
+    pub fn try_lock(&self, seat: &mut LockSeat, lock: LockId) -> Option<Held<V>>
+        requires set { seat.old.table ≡ self.now.table }
+        requires number { lock.0 < 17 }
+        requires order { AllBelow lock.0 seat.old.view.held }
+        ensures { MatchOption result (seat.new ≡ seeing seat.old (turned_away lock.0 seat.old.view)) (λ h. (h.lock ≡ lock.0) × HasTaken lock.0 (V.part h.value) seat.old.view seat.old seat.new) }
+    {
+        let number = lock.0 as usize;
+        let mut me = seated::<V>(&mut seat.badge);
+        let found = self
+            .table
+            .shared
+            .compare_exchange::<Take>(&mut me, number, 0, 1);
+        if found != 0 {
+            seat.badge = me.into_badge();
+            return None;
+        }
+        let content = self.table.shared.exchange(&mut me, number, Content::Out);
+        self.table.shared.load::<Settle>(&mut me, number);
+        seat.badge = me.into_badge();
+        let Content::Value(value) = content else {
+            unreachable!()
+        };
+        Some(Held { lock, value })
+    }
+
+    /// Puts the lock back, with the value that is its part as the seat knows it.
+    pub fn unlock(&self, seat: &mut LockSeat, h: Held<V>)
+        requires set { seat.old.table ≡ self.now.table }
+        requires number { h.lock < 17 }
+        requires known { IsAsKnown h.lock (V.part h.value) seat.old.view }
+        ensures { seat.new ≡ seeing seat.old (gave h.lock seat.old.view) }
+    {
+        let Held { lock, value } = h;
+        let number = lock.0 as usize;
+        let mut me = seated::<V>(&mut seat.badge);
+        self.table.shared.load::<Fetch>(&mut me, number);
+        let empty = self
+            .table
+            .shared
+            .exchange(&mut me, number, Content::Value(value));
+        self.table.shared.store::<Put>(&mut me, number, 0);
+        seat.badge = me.into_badge();
+        drop(empty);
+    }
+
+    // Takes the book if its lock is free.
+    fn try_book(&self, seat: &mut LockSeat) -> Option<HeldBook>
+        requires set { seat.old.table ≡ self.now.table }
+        requires order { AllBelow 17 seat.old.view.held }
+        ensures { MatchOption result (seat.new ≡ seeing seat.old (turned_away 17 seat.old.view)) (λ b. ((now : ℕ) × (seat.new ≡ seeing seat.old (took_book b.history now seat.old.view))) × (b.input ≡ seat.old.view.input) × IsPrefix seat.old.view.front b.history × Current seat.new.view) }
+    {
+        let mut me = seated::<V>(&mut seat.badge);
+        let found = self
+            .table
+            .shared
+            .compare_exchange::<TakeBook>(&mut me, 17, 0, 1);
+        if found != 0 {
+            seat.badge = me.into_badge();
+            return None;
+        }
+        let content = self.table.shared.exchange(&mut me, 17, Content::Out);
+        self.table.shared.load::<Settle>(&mut me, 17);
+        seat.badge = me.into_badge();
+        let Content::Ledger(book) = content else {
+            unreachable!()
+        };
+        Some(HeldBook { book })
+    }
+
+    /// Puts the book back, with one entry more or none. The front is then its history.
+    pub fn commit(&self, seat: &mut LockSeat, b: HeldBook)
+        requires set { seat.old.table ≡ self.now.table }
+        requires held { Holds 17 seat.old.view }
+        requires input { b.input ≡ seat.old.view.input }
+        requires next { Next seat.old.view.front b.history }
+        requires kept { Kept seat.old.view b.history }
+        requires placed { Placed seat.old.view b.history }
+        requires decided { Decided seat.old.view b.history }
+        requires names { NamesStandOnce b.input b.history }
+        ensures { seat.new ≡ seeing seat.old (committed_view b.history seat.old.view) }
+    {
+        let HeldBook { book } = b;
+        book.tell();
+        let mut me = seated::<V>(&mut seat.badge);
+        self.table.shared.load::<Fetch>(&mut me, 17);
+        let empty = self
+            .table
+            .shared
+            .exchange(&mut me, 17, Content::Ledger(book));
+        self.table.shared.store::<Commit>(&mut me, 17, 0);
+        seat.badge = me.into_badge();
+        drop(empty);
+    }
+
+    /// A second seat, with one of the parts of this one and with the same front.
+    pub fn split(&self, seat: &mut LockSeat) -> LockSeat
+        requires set { seat.old.table ≡ self.now.table }
+        requires two { 1 < seat.old.view.shares }
+        ensures kept { seat.new ≡ seeing seat.old (lessened seat.old.view) }
+        ensures new { (result.table ≡ seat.old.table) × (result.view ≡ newcomer seat.old.view) }
+    {
+        let mut me = seated::<V>(&mut seat.badge);
+        let new = self.table.shared.split_seat::<Cut>(&mut me);
+        seat.badge = me.into_badge();
+        LockSeat {
+            badge: new.into_badge(),
+        }
+    }
+
+    /// Takes in a seat that holds nothing.
+    pub fn join(&self, into: &mut LockSeat, seat: LockSeat)
+        requires sets { (into.old.table ≡ self.now.table) × (seat.table ≡ self.now.table) }
+        requires nothing { seat.view.held ≡ [] }
+        ensures { into.new ≡ seeing into.old (joined into.old.view seat.view) }
+    {
+        let mut me = seated::<V>(&mut into.badge);
+        let LockSeat { badge } = seat;
+        self.table
+            .shared
+            .join_seat::<Glue>(&mut me, badge.into_seat());
+        into.badge = me.into_badge();
+    }
+
+    /// What a word holds. Under a lock of this seat it tells what the seat's view has.
+    pub fn read_word(&self, seat: &mut LockSeat, w: WordId) -> u64
+        requires set { seat.old.table ≡ self.now.table }
+        requires word { has_word seat.old.view.input w ≡ true }
+        ensures same { seat.new ≡ seat.old }
+        ensures tells { Tells (word_index w) result seat.old.view }
+    {
+        let mut me = seated::<V>(&mut seat.badge);
+        let found = self.table.shared.load::<Look>(&mut me, w.index());
+        seat.badge = me.into_badge();
+        found
+    }
+
+    /// Moves a name from one lock of this seat to another, under the book: it stores the name's word, and the view has the name for the other lock.
+    /// The two values are changed by the caller, before it unlocks them.
+    pub fn move_name(&self, seat: &mut LockSeat, name: NameId, from: &mut Held<V>, to: &mut Held<V>)
+        requires set { seat.old.table ≡ self.now.table }
+        requires name { has_name seat.old.view.input name ≡ true }
+        requires book { Holds 17 seat.old.view }
+        requires from { HasName from.old.lock (name_number name) seat.old.view }
+        requires number { to.old.lock < 17 }
+        requires to { Holds to.old.lock seat.old.view }
+        ensures view { seat.new ≡ seeing seat.old (moved_name (name_number name) to.old.lock seat.old.view) }
+        ensures from { from.new ≡ from.old }
+        ensures to { to.new ≡ to.old }
+    {
+        let lock = to.lock.0 as u64;
+        let mut me = seated::<V>(&mut seat.badge);
+        self.table
+            .shared
+            .store::<Name>(&mut me, 18 + name.number(), lock);
+        seat.badge = me.into_badge();
+    }
+
+    /// Sets the moment, under all locks.
+    pub fn set_now(&self, seat: &mut LockSeat, t: Moment)
+        requires set { seat.old.table ≡ self.now.table }
+        requires all { (k : ℕ) → k < 18 → Holds k seat.old.view }
+        ensures { seat.new ≡ seeing seat.old (with_now t.0 seat.old.view) }
+    {
+        let mut me = seated::<V>(&mut seat.badge);
+        self.table.shared.store::<Clock>(&mut me, 146, t.0);
+        seat.badge = me.into_badge();
+    }
+
+    /// Takes the lock, and waits until it is free.
+    pub fn lock<R: Wait>(&self, rt: &R, seat: &mut LockSeat, lock: LockId) -> Held<V>
+        requires set { seat.old.table ≡ self.now.table }
+        requires number { lock.0 < 17 }
+        requires order { AllBelow lock.0 seat.old.view.held }
+        ensures lock { result.lock ≡ lock.0 }
+        ensures taken { (n : ℕ) × HasTaken lock.0 (V.part result.value) (tried_again n lock.0 seat.old.view) seat.old seat.new }
+    {
+        for _ in rt.forever() {
+            if let Some(held) = self.try_lock(seat, lock) {
+                return held;
+            }
+        }
+        unreachable!()
+    }
+
+    /// Takes the book, and waits until it is free.
+    pub fn take_book<R: Wait>(&self, rt: &R, seat: &mut LockSeat) -> HeldBook
+        requires set { seat.old.table ≡ self.now.table }
+        requires order { AllBelow 17 seat.old.view.held }
+        ensures taken { (n : ℕ) × (now : ℕ) × (seat.new ≡ seeing seat.old (took_book result.history now (tried_again n 17 seat.old.view))) }
+        ensures input { result.input ≡ seat.old.view.input }
+        ensures begins { IsPrefix seat.old.view.front result.history }
+        ensures current { Current seat.new.view }
+    {
+        for _ in rt.forever() {
+            if let Some(held) = self.try_book(seat) {
+                return held;
+            }
+        }
+        unreachable!()
+    }
+
+    /// Takes the lock that guards what the name names, and answers a value that lists it. It waits, and tries again where the name has moved.
+    pub fn lock_of<R: Wait>(&self, rt: &R, seat: &mut LockSeat, name: NameId) -> Held<V>
+        requires set { seat.old.table ≡ self.now.table }
+        requires name { has_name seat.old.view.input name ≡ true }
+        requires nothing { seat.old.view.held ≡ [] }
+        ensures taken { (refused : List ℕ) × (t : ℕ) × HasTaken result.lock (V.part result.value) (searched refused t seat.old.view) seat.old seat.new }
+        ensures number { result.lock < 17 }
+        ensures lists { lists (V.part result.value) (name_number name) ≡ true }
+        ensures has { HasName result.lock (name_number name) seat.new.view }
+    {
+        let mut word = self.read_word(seat, WordId::Name(name));
+        for _ in rt.forever() {
+            if word < 17 {
+                let held = self.lock(rt, seat, LockId(word as u8));
+                let found = self.read_word(seat, WordId::Name(name));
+                if found == word {
+                    return held;
+                }
+                self.unlock(seat, held);
+                word = found;
+            } else {
+                word = self.read_word(seat, WordId::Name(name));
+            }
+        }
+        unreachable!()
+    }
+
+    /// Raises the stage word of a core by one, under the book and the lock of the core's home. The view then names the core.
+    pub fn set_stage(&self, seat: &mut LockSeat, r: ResId, b: &HeldBook)
+        requires set { seat.old.table ≡ self.now.table }
+        requires core { has_core seat.old.view.input r.0 ≡ true }
+        requires book { Holds 17 seat.old.view }
+        requires held { Next seat.old.view.front b.now.history }
+        requires home { (k : ℕ) × HasName k r.0 seat.old.view }
+        requires nobody { seat.old.view.named ≡ 0 }
+        ensures { seat.new ≡ seeing seat.old (naming r.0 seat.old.view) }
+    {
+        b.book.tell();
+        let mut me = seated::<V>(&mut seat.badge);
+        self.table
+            .shared
+            .fetch_add::<Raise>(&mut me, 147 + r.0 as usize, 1);
+        seat.badge = me.into_badge();
+    }
+
+    /// Loads the stage word of a core, which the view keeps with the core and counts. In some history that begins with the front, the book's at the load,
+    /// the core has at most so many decisions.
+    pub fn read_stage(&self, seat: &mut LockSeat, r: ResId) -> u64
+        requires set { seat.old.table ≡ self.now.table }
+        requires core { has_core seat.old.view.input r.0 ≡ true }
+        ensures kept { seat.new ≡ seeing seat.old (has_loaded r.0 result seat.old.view) }
+        ensures counts { (h : List Entry) × IsPrefix seat.old.view.front h × (decides_at h r.0 ≤ result) }
+    {
+        let mut me = seated::<V>(&mut seat.badge);
+        let found = self.table.shared.load::<Load>(&mut me, 147 + r.0 as usize);
+        seat.badge = me.into_badge();
+        found
+    }
+}
