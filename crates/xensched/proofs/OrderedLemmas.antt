@@ -96,7 +96,7 @@ pub goes_on_more : (n : ℕ) (m : Machine) (s : State) → goes_on n m s ≡ tru
 goes_on_more zero m s going last = goes-both (is_last m s) true last refl
 goes_on_more (suc n) m s going last =
     goes-both (is_last m s) (goes_on (suc n) m (next_state m s)) (goes-first (is_last m s) (goes_on n m (next_state m s)) going)
-        (goes_on_more n m (next_state m s) (goes-second (is_last m s) (goes_on n m (next_state m s)) going) last)
+    (goes_on_more n m (next_state m s) (goes-second (is_last m s) (goes_on n m (next_state m s)) going) last)
 
 -- the state after one entry more
 pub reached_more : (n : ℕ) (m : Machine) (s : State) → reached (suc n) m s ≡ next_state m (reached n m s)
@@ -109,4 +109,4 @@ goes_on_stops zero more m s going last =
     ap (λ k. goes_on k m s) (zero-add (suc more)) ∙ stops-first (is_last m s) (goes_on more m (next_state m s)) last
 goes_on_stops (suc n) more m s going last =
     ap (λ k. goes_on k m s) (suc-add n (suc more)) ∙ stops-second (is_last m s) (goes_on (n + suc more) m (next_state m s))
-        (goes_on_stops n more m (next_state m s) (goes-second (is_last m s) (goes_on n m (next_state m s)) going) last)
+    (goes_on_stops n more m (next_state m s) (goes-second (is_last m s) (goes_on n m (next_state m s)) going) last)

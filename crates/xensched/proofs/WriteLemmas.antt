@@ -49,8 +49,8 @@ pub begins_with : (m : Machine) (s : State) (limit n : ℕ) → n < limit → go
     (rest : List Entry) × (ordered_run limit m s ≡ ordered_run n m s ++ next_entry m (reached n m s) ∷ rest)
 begins_with m s limit n below going =
     last_cases (is_last m (reached n m s))
-        (λ last. ([], ap (λ k. ordered_run k m s) (rest_of limit n below) ∙ run_ends n (limit - (n + 1)) m s going last))
-        (λ more. (ordered_run (limit - (n + 1)) m (reached (suc n) m s), ap (λ k. ordered_run k m s) (rest_of limit n below) ∙ run_splits n (limit - (n + 1)) m s going more))
+    (λ last. ([], ap (λ k. ordered_run k m s) (rest_of limit n below) ∙ run_ends n (limit - (n + 1)) m s going last))
+    (λ more. (ordered_run (limit - (n + 1)) m (reached (suc n) m s), ap (λ k. ordered_run k m s) (rest_of limit n below) ∙ run_splits n (limit - (n + 1)) m s going more))
 
 pub so_far_part : {m : Machine} {s : State} {before now after : Option (List ℕ)} {old new n : ℕ} {machine : Machine} {state : State} (limit : ℕ) (piece : List ℕ) →
     SoFar m s before now old new n machine state → n < limit → piece ≡ line (next_entry machine state) → AddsPart now after piece →
@@ -59,7 +59,7 @@ so_far_part {m} {s} {before} {now} {after} {old} {new} {n} {machine} {state} lim
     let whole : (rest : List Entry) × (ordered_run limit m s ≡ ordered_run n m s ++ next_entry m (reached n m s) ∷ rest) = begins_with m s limit n below far.going in
     let lines : piece ≡ line (next_entry m (reached n m s)) = there (λ a b. piece ≡ line (next_entry a b)) far.machine_kept far.state_reached is in
     let written : AddsPart before after ((text (ordered_run n m s) ++ line (next_entry m (reached n m s))) ++ text whole.0) =
-        part_of_more before after _ (text whole.0) (adds_then_part before now after _ _ far.adds (subst (λ (z : List ℕ). AddsPart now after z) lines part)) in
+    part_of_more before after _ (text whole.0) (adds_then_part before now after _ _ far.adds (subst (λ (z : List ℕ). AddsPart now after z) lines part)) in
     subst (λ (z : List ℕ). AddsPart before after z) (sym (ap text whole.1 ∙ text_more (ordered_run n m s) (next_entry m (reached n m s)) whole.0)) written
 
 pub so_far_ends : {m : Machine} {s : State} {before now after : Option (List ℕ)} {old new n : ℕ} {machine : Machine} {state : State} (limit : ℕ) (piece : List ℕ) →
@@ -70,7 +70,7 @@ so_far_ends {m} {s} {before} {now} {after} {old} {new} {n} {machine} {state} lim
     let lines : piece ≡ line (next_entry m (reached n m s)) = there (λ a b. piece ≡ line (next_entry a b)) far.machine_kept far.state_reached is in
     let whole : ordered_run limit m s ≡ ordered_run n m s ++ next_entry m (reached n m s) ∷ [] = ap (λ k. ordered_run k m s) (rest_of limit n below) ∙ run_ends n (limit - (n + 1)) m s far.going ends in
     let written : Adds before after (text (ordered_run n m s) ++ line (next_entry m (reached n m s))) =
-        adds_both before now after _ _ far.adds (subst (λ (z : List ℕ). Adds now after z) lines put) in
+    adds_both before now after _ _ far.adds (subst (λ (z : List ℕ). Adds now after z) lines put) in
     subst (λ (z : List ℕ). Adds before after z) (sym (ap text whole ∙ text_next (ordered_run n m s) (next_entry m (reached n m s)))) written
 
 pub so_far_stops : {m : Machine} {s : State} {before now : Option (List ℕ)} {old new n : ℕ} {machine : Machine} {state : State} (limit : ℕ) →

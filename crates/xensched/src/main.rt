@@ -3,11 +3,10 @@
 
 pub mod run;
 pub mod status;
-pub mod top;
-pub mod words;
-
 #[cfg(test)]
 mod tests;
+pub mod top;
+pub mod words;
 
 use sched_io::{FileStore, OutSink};
 use status::Status;

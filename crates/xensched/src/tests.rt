@@ -7,10 +7,14 @@ use std::alloc::Global;
 use std::test::Fail;
 
 /// Two domains that take turns on one core: 4 ms and the second run of each frame.
-const HEAD: &str = "format = 1\nprocessors = 1\nhorizon_ns = 20000000\n[[pool]]\nname = \"Pool-0\"\nsched = \"arinc653\"\ncpus = [0]\nmajor_ns = 10000000\nframe = [[0, 0, 4000000], [1, 0, ";
-const TAIL: &str = "]]\n[[domain]]\nname = \"a\"\nguests = [[]]\n[[domain]]\nname = \"b\"\nguests = [[]]\n";
+const HEAD: &str =
+    "format = 1\nprocessors = 1\nhorizon_ns = 20000000\n[[pool]]\nname = \"Pool-0\"\nsched = \"arinc653\"\ncpus = [0]\nmajor_ns = 10000000\nframe = [[0, 0, 4000000], [1, 0, ";
 
-const FULL_FRAME: &str = "0 arrive p0\n0 decide c0 d0u0 due 4000000 late 0 reset 0\n0 leave p0 d0v0\n0 end 4000000\n4000000 slice c0\n4000000 arrive p0\n4000000 decide c0 d1u0 due 10000000 late 0 reset 0\n4000000 leave p0 d1v0\n4000000 save c0 d0u0 queued\n4000000 end 10000000\n10000000 slice c0\n10000000 arrive p0\n10000000 decide c0 d0u0 due 14000000 late 0 reset 0\n10000000 leave p0 d0v0\n10000000 save c0 d1u0 queued\n10000000 end 14000000\n14000000 slice c0\n14000000 arrive p0\n14000000 decide c0 d1u0 due 20000000 late 0 reset 0\n14000000 leave p0 d1v0\n14000000 save c0 d0u0 queued\n14000000 end 20000000\n20000000 slice c0\n20000000 arrive p0\n20000000 decide c0 d0u0 due 24000000 late 0 reset 0\n20000000 leave p0 d0v0\n20000000 save c0 d1u0 queued\n20000000 finish\n";
+const TAIL: &str =
+    "]]\n[[domain]]\nname = \"a\"\nguests = [[]]\n[[domain]]\nname = \"b\"\nguests = [[]]\n";
+
+const FULL_FRAME: &str =
+    "0 arrive p0\n0 decide c0 d0u0 due 4000000 late 0 reset 0\n0 leave p0 d0v0\n0 end 4000000\n4000000 slice c0\n4000000 arrive p0\n4000000 decide c0 d1u0 due 10000000 late 0 reset 0\n4000000 leave p0 d1v0\n4000000 save c0 d0u0 queued\n4000000 end 10000000\n10000000 slice c0\n10000000 arrive p0\n10000000 decide c0 d0u0 due 14000000 late 0 reset 0\n10000000 leave p0 d0v0\n10000000 save c0 d1u0 queued\n10000000 end 14000000\n14000000 slice c0\n14000000 arrive p0\n14000000 decide c0 d1u0 due 20000000 late 0 reset 0\n14000000 leave p0 d1v0\n14000000 save c0 d0u0 queued\n14000000 end 20000000\n20000000 slice c0\n20000000 arrive p0\n20000000 decide c0 d0u0 due 24000000 late 0 reset 0\n20000000 leave p0 d0v0\n20000000 save c0 d1u0 queued\n20000000 finish\n";
 
 const TWO_LINES: &str = "0 arrive p0\n0 decide c0 d0u0 due 4000000 late 0 reset 0\n";
 
@@ -42,7 +46,14 @@ fn each_status_with_what_it_writes(rt: HostRuntime) -> Result<(), Fail> {
         (accepted, "6000001", "", 0, 4, ""),
         (accepted, "6000000", "0 xl cpupool-list\n", 0, 5, ""),
         ("run --ordered other.toml work.txt", "6000000", "", 0, 2, ""),
-        ("run --ordered domains.toml other.txt", "6000000", "", 0, 2, ""),
+        (
+            "run --ordered domains.toml other.txt",
+            "6000000",
+            "",
+            0,
+            2,
+            "",
+        ),
         ("run a", "6000000", "", 0, 1, ""),
         ("run --ordered domains.toml", "6000000", "", 0, 1, ""),
         ("run --ordered domains.toml -work", "6000000", "", 0, 1, ""),
