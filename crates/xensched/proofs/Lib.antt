@@ -1,2 +1,4 @@
 pub mod FirstPasses
 pub mod WithoutWork
+pub mod OrderedLemmas
+pub mod WriteLemmas

@@ -1,5 +1,12 @@
 //! The ordered run: in each state the first event that may come.
 
+ghost use Rattle.std.specs.Prelude.{◌≡◌, ◌≤◌, Ok, true, false, OnOk, OnErr};
+ghost use Rattle.sched_io.specs.Faults.{Rose};
+ghost use Rattle.sched_io.specs.Puts.{Adds, AddsPart};
+ghost use Rattle.sched_model.specs.Machine.{ordered_run};
+ghost use Rattle.sched_print.specs.Line.{text};
+ghost use Rattle.xensched.specs.Ordered.{next_entry, next_state, is_last, goes_on};
+
 use sched_base::Failed;
 use sched_io::Sink;
 use sched_model::event::{Entry, Event};
@@ -15,40 +22,65 @@ pub enum RunEnd {
     Full,
 }
 
+/// An entry, and whether it is the last.
+#[derive(Drop)]
+struct Step {
+    entry: Entry,
+    last: bool,
+}
+
 /// The entry that the machine gives next: the first event that may come, else the next moment, else the end.
 #[tactic(auto, using(crate::proofs::FirstPasses::first_may_come))]
-fn step(plain: &mut Plain) -> Entry {
+fn go_on(plain: &mut Plain) -> Step
+    ensures entry { result.entry ≡ next_entry plain.old.machine plain.old.state }
+    ensures last { result.last ≡ is_last plain.old.machine plain.old.state }
+    ensures after { plain.new ≡ record plain.old { state = next_state plain.old.machine plain.old.state } }
+{
     let at = plain.now();
     if let Some(action) = plain.first_enabled() {
-        return Entry {
-            at,
-            event: plain.perform(action),
+        let event = plain.perform(action);
+        return Step {
+            entry: Entry { at, event },
+            last: false,
         };
     }
     match plain.next_moment() {
         Some(next) => {
             plain.pass_to(next);
-            Entry {
-                at,
-                event: Event::End { next },
+            Step {
+                entry: Entry {
+                    at,
+                    event: Event::End { next },
+                },
+                last: false,
             }
         }
-        None => Entry {
-            at,
-            event: Event::Finish,
+        None => Step {
+            entry: Entry {
+                at,
+                event: Event::Finish,
+            },
+            last: true,
         },
     }
 }
 
 /// Writes the ordered run, one put a line, with at most this many entries.
-pub fn write_run<K: Sink>(plain: &mut Plain, limit: u64, sink: &mut K) -> Result<RunEnd, Failed> {
+pub fn write_run<K: Sink>(plain: &mut Plain, limit: u64, sink: &mut K) -> Result<RunEnd, Failed>
+    ensures whole { OnOk result (Adds (K.told sink.old) (K.told sink.new) (text (ordered_run limit plain.old.machine plain.old.state))) }
+    ensures part { OnErr result (AddsPart (K.told sink.old) (K.told sink.new) (text (ordered_run limit plain.old.machine plain.old.state))) }
+    ensures finished { result ≡ Ok RunEnd.Finished → goes_on limit plain.old.machine plain.old.state ≡ false }
+    ensures full { result ≡ Ok RunEnd.Full → goes_on limit plain.old.machine plain.old.state ≡ true }
+    ensures counts { K.faults sink.old ≤ K.faults sink.new }
+    ensures cause { OnErr result (Rose (K.faults sink.old) (K.faults sink.new)) }
+{
     let mut line = LineBuf::new();
-    for _ in 0..limit {
-        let entry = step(plain);
+    for done in 0..limit {
+        let next = go_on(plain);
         line.clear();
-        put_entry(&entry, &mut line);
+        put_entry(&next.entry, &mut line);
         sink.put(line.as_bytes())?;
-        if entry.event == Event::Finish {
+        if next.last {
             return Ok(RunEnd::Finished);
         }
     }
