@@ -1,0 +1,4 @@
+pub mod Placed
+pub mod Chosen
+pub mod Forms
+pub mod Whole

@@ -1,0 +1,118 @@
+//! One line of the work file.
+
+ghost use Rattle.std.specs.Prelude.{◌≡◌, ◌≤◌, ◌^◌, ◌==◌, length, IfOk};
+ghost use Rattle.sched_model.specs.Checked.{IsCheckedStall, IsCheckedCommandLine};
+ghost use Rattle.xl_words.specs.Parts.{words};
+ghost use Rattle.work_file.specs.Line.{is_silent as silent, number_within, stall_of, command_of, said_at, said_by, line_of, IsCheckedLine};
+
+use crate::fault::WorkCause;
+use sched_base::{Moment, ProcId, Span};
+use sched_model::config::Config;
+use sched_model::work::{CommandLine, StallLine};
+use xl_words::{next_word, read_command, read_number};
+
+/// The latest moment and the longest span, in nanoseconds.
+const MOST_SPAN: u64 = 10_000_000_000_000;
+
+/// What one line says.
+#[derive(Drop)]
+pub(crate) enum Line {
+    Silent,
+    Stall(StallLine),
+    Command(CommandLine),
+}
+
+fn is_silent(line: &[u8]) -> bool
+    ensures { result ≡ silent line.now }
+{
+    line.is_empty() || line[0] == b'#'
+}
+
+/// The number that the word spells, where it is in the range.
+fn number_in(low: u64, high: u64, word: &[u8]) -> Result<u64, WorkCause>
+    ensures value { result ≡ number_within low high word.now }
+    ensures range { IfOk result (λ n. (low ≤ n) × (n ≤ high)) }
+{
+    match read_number(word) {
+        Some(n) if low <= n && n <= high => Ok(n),
+        _ => Err(WorkCause::Number),
+    }
+}
+
+/// A stall, from the words behind `stall`.
+#[tactic(auto, unfolding(crate::specs::Line::stall_of))]
+fn stall_behind(config: &Config, at: u64, rest: &[u8]) -> Result<Line, WorkCause>
+    requires { at ≤ 10 ^ 13 }
+    ensures value { result ≡ stall_of config.now at (words rest.now) }
+    ensures checked { IfOk result (IsCheckedLine config.now) }
+{
+    let Some((cpu, rest)) = next_word(rest) else {
+        return Err(WorkCause::Word);
+    };
+    let Some((length, rest)) = next_word(rest) else {
+        return Err(WorkCause::Word);
+    };
+    if next_word(rest).is_some() {
+        return Err(WorkCause::Word);
+    }
+    let Some(cpu) = read_number(cpu) else {
+        return Err(WorkCause::Number);
+    };
+    let span = number_in(1, MOST_SPAN, length)?;
+    if cpu >= u64::from(config.processors) {
+        return Err(WorkCause::Target);
+    }
+    Ok(Line::Stall(StallLine {
+        at: Moment(at),
+        cpu: ProcId(cpu as u8),
+        span: Span(span),
+    }))
+}
+
+/// A command, from the words behind `xl`.
+fn command_behind(config: &Config, at: u64, rest: &[u8]) -> Result<Line, WorkCause>
+    requires { at ≤ 10 ^ 13 }
+    ensures value { result ≡ command_of at (words rest.now) }
+    ensures checked { IfOk result (IsCheckedLine config.now) }
+{
+    if next_word(rest).is_none() {
+        return Err(WorkCause::Word);
+    }
+    Ok(Line::Command(CommandLine {
+        at: Moment(at),
+        command: read_command(rest),
+    }))
+}
+
+/// What stands behind the moment.
+fn said_behind(config: &Config, at: u64, rest: &[u8]) -> Result<Line, WorkCause>
+    requires { at ≤ 10 ^ 13 }
+    ensures value { result ≡ said_at config.now at (words rest.now) }
+    ensures checked { IfOk result (IsCheckedLine config.now) }
+{
+    let Some((kind, rest)) = next_word(rest) else {
+        return Err(WorkCause::Word);
+    };
+    if kind == b"stall".as_slice() {
+        stall_behind(config, at, rest)
+    } else if kind == b"xl".as_slice() {
+        command_behind(config, at, rest)
+    } else {
+        Err(WorkCause::Word)
+    }
+}
+
+/// What the line says, or the first of its faults.
+pub(crate) fn read_line(config: &Config, line: &[u8]) -> Result<Line, WorkCause>
+    ensures value { result ≡ line_of config.now line.now }
+    ensures checked { IfOk result (IsCheckedLine config.now) }
+{
+    if is_silent(line) {
+        return Ok(Line::Silent);
+    }
+    let Some((word, rest)) = next_word(line) else {
+        return Err(WorkCause::Number);
+    };
+    let at = number_in(0, MOST_SPAN, word)?;
+    said_behind(config, at, rest)
+}

@@ -1,0 +1,10 @@
+use Rattle.std.proofs.Common.{rules}
+use Rattle.xl_words.specs.Parts.{words}
+use Rattle.xl_words.specs.Options.{credit2_domain_rules}
+use Rattle.xl_words.proofs.OptionLemmas.{goes_on_valued}
+use Rattle.xl_words.proofs.options.+credit2_domain_options.Goals as goal
+
+pub returns-clause-value : goal.returns-clause-value
+returns-clause-value t c =
+    goes_on_valued credit2_domain_rules c.args.place c.args.given c.in-Some-credit2_domain_option.given c.in-Some.word.now c.in-Some-next_word.value.now (words c.args.rest.now) (words c.in-Some.rest.now) (words c.in-Some-next_word.rest.now) c.credit2_domain_options.result
+    (search rules) (search rules) (search rules) (search rules) (search rules) c.credit2_domain_options.ensures.value
