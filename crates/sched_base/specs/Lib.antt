@@ -2,3 +2,5 @@ pub mod Names
 pub mod Numbers
 pub mod Credit2Numbers
 pub mod RtdsNumbers
+pub mod Units
+pub mod CoreSets

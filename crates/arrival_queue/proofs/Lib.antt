@@ -1,0 +1,9 @@
+pub mod Splits
+pub mod Keeping
+pub mod Ranks
+pub mod Views
+pub mod Walking
+pub mod Numbering
+pub mod Steps
+pub mod Changes
+pub mod Lengths

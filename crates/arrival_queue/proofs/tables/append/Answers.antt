@@ -1,0 +1,21 @@
+use Rattle.std.proofs.Common.{◌≡◌, ℕ, ◌+◌, ◌-◌, ◌<◌, ◌≤◌, List, ◌++◌, Bool, true, false, length, map, set, refl, sym, ◌∙◌, ap, subst, arith, rules}
+use Rattle.std.specs.Prelude.{Option, Some, None}
+use Rattle.sched_base.specs.Units.{number_of}
+use Rattle.unit_ring.specs.declared.Node.{Node}
+use Rattle.unit_ring.specs.Lists as l
+use Rattle.unit_ring.specs.Lists.{Item, Lists, item, has_node, is_live, room_of, taken, given, appended}
+use Rattle.arrival_queue.specs.declared.key.Key.{Key}
+use Rattle.arrival_queue.specs.Tables.{IsQueue, all_items, below, comes_before, put_ring, ring_with, has_number, queues_of}
+use Rattle.arrival_queue.proofs.Numbering.{renumbered, seen_anew, with_later}
+use Rattle.arrival_queue.proofs.Steps.{same_queue, fresh_items, found_live, found_ring, put_kept, append_kept, Found, found, take_kept}
+use Rattle.arrival_queue.proofs.tables.append.Goals as goal
+
+pub returns-clause-fresh : goal.returns-clause-fresh
+returns-clause-fresh g c = fresh_items c.args.tables.now.ring c.push_back-n.result.0 c.push_back-n.ensures.fresh
+
+pub returns-clause-tables : goal.returns-clause-tables
+returns-clause-tables g c =
+    let number : number_of c.args.u < 65536 = search rules in
+    same_queue (taken (appended c.args.tables.now.ring 1 (item c.push_back-n.result.0 c.args.u))) c.enter.new.tables.ring (set c.args.tables.now.nodes.items (number_of c.args.u) (Some c.push_back-n.result)) c.enter.new.tables.nodes.items (set c.args.tables.now.keys.items c.push_back-n.result.0 c.args.key) c.enter.new.tables.keys.items (set c.args.tables.now.arrivals.items c.push_back-n.result.0 c.args.arrival) c.enter.new.tables.arrivals.items c.args.tables.now.fresh.items c.enter.new.tables.fresh.items c.args.tables.now.next c.enter.new.tables.next
+    (c.enter.ensures.ring ∙ c.push_back-n.ensures.after) c.enter.ensures.nodes c.enter.ensures.keys c.enter.ensures.arrivals c.enter.ensures.fresh c.enter.ensures.next
+    (append_kept c.args.tables.now.ring c.args.tables.now.nodes.items c.args.tables.now.keys.items c.args.tables.now.arrivals.items c.args.tables.now.fresh.items c.args.tables.now.next c.requires.tables c.push_back-n.result.0 c.args.u c.args.key c.args.arrival (fresh_items c.args.tables.now.ring c.push_back-n.result.0 c.push_back-n.ensures.fresh) c.requires.absent c.push_back-n.ensures.number number c.requires.arrived c.requires.room)

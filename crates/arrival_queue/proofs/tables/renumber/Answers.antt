@@ -1,0 +1,24 @@
+use Rattle.std.proofs.Common.{◌≡◌, ℕ, ◌+◌, ◌-◌, ◌<◌, ◌≤◌, List, ◌++◌, Bool, true, false, length, map, set, refl, sym, ◌∙◌, ap, subst, arith, rules}
+use Rattle.std.specs.Prelude.{Option, Some, None}
+use Rattle.sched_base.specs.Units.{number_of}
+use Rattle.unit_ring.specs.declared.Node.{Node}
+use Rattle.unit_ring.specs.Lists as l
+use Rattle.unit_ring.specs.Lists.{Item, Lists, item, has_node, is_live, room_of, taken, given, appended}
+use Rattle.arrival_queue.specs.declared.key.Key.{Key}
+use Rattle.arrival_queue.specs.Tables.{IsQueue, all_items, below, comes_before, put_ring, ring_with, has_number, queues_of}
+use Rattle.arrival_queue.proofs.Numbering.{renumbered, seen_anew, with_later}
+use Rattle.arrival_queue.proofs.Steps.{same_queue, fresh_items, found_live, found_ring, put_kept, append_kept, Found, found, take_kept}
+use Rattle.arrival_queue.proofs.tables.renumber.Goals as goal
+
+pub returns-clause-tables : goal.returns-clause-tables
+returns-clause-tables c =
+    let anew : c.swap.new.x.items ≡ map (below c.args.tables.now.arrivals.items) c.args.tables.now.arrivals.items = search rules in
+    let other : c.swap.new.y.items ≡ c.args.tables.now.arrivals.items = search rules in
+    let next : c.len-count.result + 1 ≡ length c.args.tables.now.arrivals.items + 1 = search rules in
+    same_queue c.args.tables.now.ring c.args.tables.now.ring c.args.tables.now.nodes.items c.args.tables.now.nodes.items c.args.tables.now.keys.items c.args.tables.now.keys.items (map (below c.args.tables.now.arrivals.items) c.args.tables.now.arrivals.items) c.swap.new.x.items c.args.tables.now.arrivals.items c.swap.new.y.items (length c.args.tables.now.arrivals.items + 1) (c.len-count.result + 1)
+    refl refl refl anew other next (renumbered c.args.tables.now.ring c.args.tables.now.nodes.items c.args.tables.now.keys.items c.args.tables.now.arrivals.items c.args.tables.now.fresh.items c.args.tables.now.arrivals.items c.args.tables.now.next c.requires.tables refl)
+
+pub returns-clause-seen : goal.returns-clause-seen
+returns-clause-seen c =
+    let anew : c.swap.new.x.items ≡ map (below c.args.tables.now.arrivals.items) c.args.tables.now.arrivals.items = search rules in
+    ap (queues_of c.args.tables.now.ring c.args.tables.now.keys.items) anew ∙ seen_anew c.args.tables.now.ring c.args.tables.now.nodes.items c.args.tables.now.keys.items c.args.tables.now.arrivals.items c.args.tables.now.fresh.items c.args.tables.now.next c.requires.tables

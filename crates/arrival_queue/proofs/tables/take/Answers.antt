@@ -1,0 +1,28 @@
+use Rattle.std.proofs.Common.{◌≡◌, ℕ, ◌+◌, ◌-◌, ◌<◌, ◌≤◌, List, ◌++◌, Bool, true, false, length, map, set, refl, sym, ◌∙◌, ap, subst, arith, rules}
+use Rattle.std.specs.Prelude.{Option, Some, None}
+use Rattle.sched_base.specs.Units.{number_of}
+use Rattle.unit_ring.specs.declared.Node.{Node}
+use Rattle.unit_ring.specs.Lists as l
+use Rattle.unit_ring.specs.Lists.{Item, Lists, item, has_node, is_live, room_of, taken, given, appended}
+use Rattle.arrival_queue.specs.declared.key.Key.{Key}
+use Rattle.arrival_queue.specs.Tables.{IsQueue, all_items, below, comes_before, put_ring, ring_with, has_number, queues_of}
+use Rattle.arrival_queue.proofs.Numbering.{renumbered, seen_anew, with_later}
+use Rattle.arrival_queue.proofs.Steps.{same_queue, fresh_items, found_live, found_ring, put_kept, append_kept, Found, found, take_kept}
+use Rattle.arrival_queue.proofs.tables.take.Goals as goal
+
+pub unlink-requires : goal.unlink-requires
+unlink-requires g c = record { live = (found c.args.tables.now.ring c.args.u c.args.n c.requires.tables.apart c.requires.here).live }
+
+pub returns-clause-gone : goal.returns-clause-gone
+returns-clause-gone g c =
+    let f = found c.args.tables.now.ring c.args.u c.args.n c.requires.tables.apart c.requires.here in
+    ap (λ (ring : Lists). has_number (number_of c.args.u) (all_items ring)) c.unlink.ensures.after
+    ∙ ap (has_number (number_of c.args.u)) f.rest
+    ∙ f.gone
+
+pub returns-clause-tables : goal.returns-clause-tables
+returns-clause-tables g c =
+    let f = found c.args.tables.now.ring c.args.u c.args.n c.requires.tables.apart c.requires.here in
+    same_queue (given (l.without c.args.tables.now.ring c.args.n.0)) c.unlink.new.self (set c.args.tables.now.nodes.items (number_of c.args.u) None) (set c.args.tables.now.nodes.items c.unit_number.result None) c.args.tables.now.keys.items c.args.tables.now.keys.items c.args.tables.now.arrivals.items c.args.tables.now.arrivals.items c.args.tables.now.fresh.items c.args.tables.now.fresh.items c.args.tables.now.next c.args.tables.now.next
+    c.unlink.ensures.after (ap (λ (k : ℕ). set c.args.tables.now.nodes.items k None) c.unit_number.ensures.number) refl refl refl refl
+    (take_kept c.args.tables.now.ring c.args.tables.now.nodes.items c.args.tables.now.keys.items c.args.tables.now.arrivals.items c.args.tables.now.fresh.items c.args.tables.now.next c.args.u c.args.n c.requires.tables f)

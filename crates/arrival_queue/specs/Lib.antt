@@ -1,0 +1,4 @@
+pub mod Queues
+pub mod Filters
+pub mod Tables
+pub mod Whole

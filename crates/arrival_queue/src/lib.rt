@@ -1,0 +1,153 @@
+//! Units in order of a key, then of arrival; and beside them others, in order of arrival alone.
+//!
+//! They stand on the two lists of one ring. A table finds a unit's node without a walk, and each node has its key and
+//! the number of its arrival. The numbers rise, and where they reach their end they are given anew in the same order.
+#![tactic(auto)]
+
+ghost use Rattle.std.specs.Prelude.{◌≡◌};
+
+pub mod key;
+mod tables;
+pub mod walks;
+
+pub use key::{Key, is_less};
+use sched_base::{Cores, Masks, NoMemory, ResId, Steps, UnitId};
+use std::alloc::Global;
+use std::marker::Model;
+use std::sync::ledger::Ledger;
+use tables::{Tables, append, arrival_of, arrive, find, make_tables, put, take};
+use unit_ring::Ring;
+pub use walks::{Allowed, has_domain};
+
+/// The queue. Contracts see its two lists, each unit with its key and how many of the units here arrived earlier, and
+/// how many more units there is room for.
+#[derive(Drop)]
+pub struct ArrivalQueue {
+    tables: Tables,
+}
+
+impl Model for ArrivalQueue {
+    ghost use Rattle.arrival_queue.specs.Queues.{Queues};
+
+    ghost Value = { Queues };
+
+    ghost use Rattle.arrival_queue.specs.Whole.{seen, IsTables};
+
+    ghost view = { λ a. seen a.tables };
+
+    ghost invariant = { λ a. IsTables a.tables };
+}
+
+impl ArrivalQueue {
+    ghost use Rattle.std.specs.Prelude.{◌≡◌, ◌+◌, ◌<◌, ◌≤◌, ◌&&◌, true, false, length, map, IfOk};
+    ghost use Rattle.arrival_queue.specs.Queues.{holds, inserted, appended, removed, moved, without, empty};
+    ghost use Rattle.std.specs.Bool.{OnTrue, OnFalse};
+    ghost use Rattle.arrival_queue.specs.Filters.{first_of, first_that, has_domain as domain_in, in_domains, may_run};
+
+    /// A queue with room for so many units.
+    pub fn room(alloc: Global, units: usize) -> Result<ArrivalQueue, NoMemory>
+        ensures { IfOk result (λ queue. queue ≡ empty units) }
+    {
+        let tables = make_tables(alloc, units)?;
+        Ok(ArrivalQueue { tables })
+    }
+
+    /// A unit that is not here arrives, and is put at its place.
+    pub fn insert_counted<L: Ledger>(&mut self, u: UnitId, key: Key, steps: &mut Steps<L>)
+        requires absent { holds self.old u ≡ false }
+        requires room { 0 < self.old.spare }
+        ensures after { self.new ≡ inserted self.old u key }
+        ensures cost { steps.new ≤ steps.old + length self.old.sorted + 2 }
+    {
+        let arrival = arrive(&mut self.tables);
+        put(&mut self.tables, u, key, arrival, steps);
+    }
+
+    /// A unit that is not here arrives, and is put at the end of the others.
+    pub fn append_counted<L: Ledger>(&mut self, u: UnitId, key: Key, steps: &mut Steps<L>)
+        requires absent { holds self.old u ≡ false }
+        requires room { 0 < self.old.spare }
+        ensures after { self.new ≡ appended self.old u key }
+        ensures cost { steps.new ≡ steps.old + 1 }
+    {
+        let arrival = arrive(&mut self.tables);
+        append(&mut self.tables, u, key, arrival, steps);
+    }
+
+    /// Takes a unit of either list away. False where it is in neither, and then nothing changes.
+    pub fn remove_counted<L: Ledger>(&mut self, u: UnitId, steps: &mut Steps<L>) -> bool
+        ensures answer { result ≡ holds self.old u }
+        ensures gone { OnTrue result (self.new ≡ removed self.old u) }
+        ensures none { OnFalse result (self.new ≡ self.old) }
+        ensures cost { steps.new ≤ steps.old + 1 }
+    {
+        match find(&self.tables, u) {
+            Some(n) => {
+                take(&mut self.tables, n, u, steps);
+                true
+            }
+            None => false,
+        }
+    }
+
+    /// Puts a unit of either list at its place by another key. Its arrival stays.
+    pub fn move_counted<L: Ledger>(&mut self, u: UnitId, key: Key, steps: &mut Steps<L>)
+        requires { holds self.old u ≡ true }
+        ensures after { self.new ≡ moved self.old u key }
+        ensures cost { steps.new ≤ steps.old + length (without u self.old.sorted) + 3 }
+    {
+        match find(&self.tables, u) {
+            Some(n) => {
+                let arrival = arrival_of(&self.tables, n);
+                take(&mut self.tables, n, u, steps);
+                put(&mut self.tables, u, key, arrival, steps);
+            }
+            None => {}
+        }
+    }
+
+    /// The first of the units in order of their keys.
+    pub fn first_counted<L: Ledger>(&self, steps: &mut Steps<L>) -> Option<UnitId>
+        ensures first { result ≡ first_of self.now.sorted }
+        ensures cost { steps.new ≡ steps.old + 1 }
+    {
+        match self.tables.ring.first(0, steps) {
+            Some(n) => Some(self.tables.ring.unit(n)),
+            None => None,
+        }
+    }
+
+    /// The first of them whose domain is in the set.
+    pub fn first_where_counted<L: Ledger>(
+        &self,
+        allowed: Allowed,
+        steps: &mut Steps<L>,
+    ) -> Option<UnitId>
+        ensures { result ≡ first_that (λ u. domain_in allowed.0 u.dom.0) self.now.sorted }
+    {
+        walks::first_where(&self.tables.ring, allowed, steps)
+    }
+
+    /// The first of them whose domain is in the set, where there is one, and whose cores let it run on a core of a pool.
+    pub fn first_on_counted<L: Ledger>(
+        &self,
+        domains: Option<Allowed>,
+        masks: &Masks,
+        core: ResId,
+        home: Cores,
+        steps: &mut Steps<L>,
+    ) -> Option<UnitId>
+        ensures { result ≡ first_that (λ u. in_domains domains u && may_run masks.now core home u) self.now.sorted }
+    {
+        walks::first_on(&self.tables.ring, domains, masks, core, home, steps)
+    }
+
+    /// The ring on which the units stand.
+    pub fn ring(&self) -> &Ring
+        ensures sorted { map (λ x. x.unit) result.now.first ≡ map (λ e. e.unit) self.now.sorted }
+        ensures others { map (λ x. x.unit) result.now.second ≡ map (λ e. e.unit) self.now.others }
+        ensures spare { result.now.spare ≡ self.now.spare }
+    {
+        &self.tables.ring
+    }
+}

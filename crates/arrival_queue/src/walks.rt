@@ -1,0 +1,70 @@
+//! Searches along list 0 of a ring.
+
+ghost use Rattle.std.specs.Prelude.{◌≡◌, ◌&&◌};
+ghost use Rattle.arrival_queue.specs.Filters.{has_domain as domain_in, in_domains, may_run};
+ghost use Rattle.arrival_queue.specs.Tables.{Apart, all_items, first_unit};
+
+use sched_base::{Cores, DomId, Masks, ResId, Steps, UnitId, has_core, is_allowed};
+use std::sync::ledger::Ledger;
+use unit_ring::Ring;
+
+/// A set of domains, with bit d for domain d.
+#[derive(Clone, Copy, Debug, PartialEq, Eq)]
+pub struct Allowed(pub u64);
+
+/// Whether a domain is in a set of domains, which has a bit for each as a set of cores has.
+pub fn has_domain(allowed: Allowed, d: DomId) -> bool
+    ensures { result ≡ domain_in allowed.0 d.0 }
+{
+    has_core(Cores(allowed.0), ResId(d.0))
+}
+
+/// Whether a unit passes: its domain is in the set, where there is one, and its cores let it run on the core of a pool.
+fn passes(domains: Option<Allowed>, masks: &Masks, core: ResId, home: Cores, u: UnitId) -> bool
+    ensures { result ≡ (in_domains domains u && may_run masks.now core home u) }
+{
+    let is_in = match domains {
+        None => true,
+        Some(allowed) => has_domain(allowed, u.dom),
+    };
+    is_in && is_allowed(masks.get(u), core, home)
+}
+
+/// The first unit whose domain is in the set.
+pub fn first_where<L: Ledger>(ring: &Ring, allowed: Allowed, steps: &mut Steps<L>) -> Option<UnitId>
+    requires { Apart (all_items ring.now) }
+    ensures { result ≡ first_unit (λ u. domain_in allowed.0 u.dom.0) ring.now.first }
+{
+    let mut at = ring.first(0, steps);
+    while let Some(n) = at {
+        let u = ring.unit(n);
+        if has_domain(allowed, u.dom) {
+            return Some(u);
+        }
+        at = ring.next(n, steps);
+    }
+    None
+}
+
+/// The first unit that passes.
+pub fn first_on<L: Ledger>(
+    ring: &Ring,
+    domains: Option<Allowed>,
+    masks: &Masks,
+    core: ResId,
+    home: Cores,
+    steps: &mut Steps<L>,
+) -> Option<UnitId>
+    requires { Apart (all_items ring.now) }
+    ensures { result ≡ first_unit (λ u. in_domains domains u && may_run masks.now core home u) ring.now.first }
+{
+    let mut at = ring.first(0, steps);
+    while let Some(n) = at {
+        let u = ring.unit(n);
+        if passes(domains, masks, core, home, u) {
+            return Some(u);
+        }
+        at = ring.next(n, steps);
+    }
+    None
+}

@@ -1,0 +1,4 @@
+use Rattle.rtds_queue.proofs.RtdsQueues.remove.Given as goal
+
+abbrev pub ghosts-remove_from : goal.ghosts-remove_from
+ghosts-remove_from a = record { name = a.blank.name; parts = a.blank.parts }

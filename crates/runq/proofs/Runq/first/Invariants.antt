@@ -1,0 +1,4 @@
+use Rattle.runq.proofs.Runq.first.Given as goal
+
+abbrev pub ghosts-first_from : goal.ghosts-first_from
+ghosts-first_from a = record { name = a.blank.name; parts = a.blank.parts }

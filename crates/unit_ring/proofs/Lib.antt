@@ -1,0 +1,6 @@
+pub mod Linking
+pub mod Shifting
+pub mod Fences
+pub mod ItemLists
+pub mod Operations
+pub mod Calls

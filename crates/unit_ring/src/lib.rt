@@ -1,0 +1,245 @@
+//! Two lists of schedule units on one ring of nodes. A node goes from one place to another in one step.
+//!
+//! The nodes lie in memory that `room` takes once. All of them stand in one chain of links, the free ones too: from
+//! fence 0 go the nodes of list 0, from fence 1 those of list 1, and from fence 2 the free ones up to fence 3.
+#![tactic(auto)]
+
+ghost use Rattle.std.specs.Prelude.{◌≡◌, ◌≢◌, ◌-◌, ◌<◌, ◌≤◌, [], length};
+ghost use Rattle.unit_ring.specs.Chains.{IsChain, Has, as_node, chain, fenced, nodes_up_to, without, put_before};
+
+mod links;
+
+use sched_base::{DomId, NoMemory, Steps, UnitId};
+use std::alloc::Global;
+use std::marker::Model;
+use std::sync::ledger::Ledger;
+
+/// How many fences there are; the nodes have the numbers after theirs.
+const FENCES: u32 = 4;
+
+/// The most nodes that their numbers allow.
+const NODES_MOST: usize = 0xffff_fff0;
+
+/// What stands for the unit of a number that has none.
+const NO_UNIT: UnitId = UnitId {
+    dom: DomId(0),
+    n: 0,
+};
+
+/// The fence before the free nodes, and the one after them.
+const FREE: u32 = 2;
+
+const FREE_END: u32 = 3;
+
+/// A node of a ring, by its number.
+#[derive(Clone, Copy, Debug, PartialEq, Eq)]
+pub struct Node(pub u32);
+
+/// The ring. Contracts see its two lists, of nodes with their units, and the number of free nodes.
+#[derive(Drop)]
+pub struct Ring {
+    after: Vec<u32>,
+    before: Vec<u32>,
+    units: Vec<UnitId>,
+}
+
+impl Model for Ring {
+    ghost use Rattle.unit_ring.specs.Lists.{Lists};
+    ghost use Rattle.unit_ring.specs.Chains.{lists_of, IsRing};
+
+    ghost Value = { Lists };
+
+    ghost view = { λ a. lists_of a.after.items a.units.items };
+
+    ghost invariant = { λ a. IsRing a.after.items a.before.items a.units.items };
+}
+
+/// Links along the fences and all other numbers.
+fn link_all(after: &mut Vec<u32>, before: &mut Vec<u32>)
+    requires lengths { length before.old.items ≡ length after.old.items }
+    requires some { 4 ≤ length after.old.items }
+    requires few { length after.old.items < 4294967296 }
+    ensures whole { IsChain after.new.items before.new.items (fenced [] [] (nodes_up_to (length after.old.items - 4))) }
+    ensures size { length after.new.items ≡ length after.old.items }
+{
+    links::link_all(after.as_mut_slice(), before.as_mut_slice());
+}
+
+/// The node of a number of the chain, where it is no fence.
+fn node_at(n: u32) -> Option<Node>
+    ensures { result ≡ as_node n }
+{
+    if n < FENCES { None } else { Some(Node(n)) }
+}
+
+/// Moves a number of the chain before another.
+fn shift(after: &mut Vec<u32>, before: &mut Vec<u32>, n: u32, at: u32)
+    requires whole { IsChain after.old.items before.old.items (chain after.old.items) }
+    requires number { Has n (chain after.old.items) }
+    requires inner { n ≢ 3 }
+    requires place { Has at (chain after.old.items) }
+    requires apart { at ≢ n }
+    ensures whole { IsChain after.new.items before.new.items (chain after.new.items) }
+    ensures moved { chain after.new.items ≡ put_before at n (without n (chain after.old.items)) }
+    ensures size { length after.new.items ≡ length after.old.items }
+{
+    links::shift(after.as_mut_slice(), before.as_mut_slice(), n, at);
+}
+
+impl Ring {
+    ghost use Rattle.std.specs.Prelude.{◌≡◌, ◌+◌, ◌<◌, ◌≤◌, true, false, IfOk};
+    ghost use Rattle.unit_ring.specs.Lists.{item, is_live, unit_of, first_in, next_of, list_of, without as lists_without, put_before as lists_with, appended, taken, given, empty, room_of};
+
+    /// A ring with so many nodes, all of them free.
+    pub fn room(alloc: Global, nodes: usize) -> Result<Ring, NoMemory>
+        ensures { IfOk result (λ ring. ring ≡ empty nodes) }
+    {
+        if nodes > NODES_MOST {
+            return Err(NoMemory);
+        }
+        let all = nodes + FENCES as usize;
+        let mut after = vec![in alloc; 0; all]?;
+        let mut before = vec![in alloc; 0; all]?;
+        let units = vec![in alloc; NO_UNIT; all]?;
+        link_all(&mut after, &mut before);
+        Ok(Ring {
+            after,
+            before,
+            units,
+        })
+    }
+
+    /// Puts a unit at the end of a list, on a free node. A list is 0 or 1.
+    pub fn push_back<L: Ledger>(&mut self, list: u8, u: UnitId, steps: &mut Steps<L>) -> Node
+        requires list { list ≤ 1 }
+        requires room { 0 < self.old.spare }
+        ensures after { self.new ≡ taken (appended self.old list (item result.0 u)) }
+        ensures fresh { is_live self.old result.0 ≡ false }
+        ensures number { result.0 < room_of self.old + 4 }
+        ensures step { steps.new ≡ steps.old + 1 }
+    {
+        steps.tick();
+        let n = links::next(self.after.as_slice(), FREE);
+        shift(&mut self.after, &mut self.before, n, list as u32 + 1);
+        self.units[n as usize] = u;
+        Node(n)
+    }
+
+    /// Puts a unit before a live node, on a free node.
+    pub fn insert_before<L: Ledger>(&mut self, at: Node, u: UnitId, steps: &mut Steps<L>) -> Node
+        requires live { is_live self.old at.0 ≡ true }
+        requires room { 0 < self.old.spare }
+        ensures after { self.new ≡ taken (lists_with self.old at.0 (item result.0 u)) }
+        ensures fresh { is_live self.old result.0 ≡ false }
+        ensures number { result.0 < room_of self.old + 4 }
+        ensures step { steps.new ≡ steps.old + 1 }
+    {
+        steps.tick();
+        let n = links::next(self.after.as_slice(), FREE);
+        shift(&mut self.after, &mut self.before, n, at.0);
+        self.units[n as usize] = u;
+        Node(n)
+    }
+
+    /// Takes a live node out of its list, and answers its unit. The node is free then.
+    pub fn unlink<L: Ledger>(&mut self, n: Node, steps: &mut Steps<L>) -> UnitId
+        requires live { is_live self.old n.0 ≡ true }
+        ensures after { self.new ≡ given (lists_without self.old n.0) }
+        ensures unit { result ≡ unit_of self.old n.0 }
+        ensures step { steps.new ≡ steps.old + 1 }
+    {
+        steps.tick();
+        shift(&mut self.after, &mut self.before, n.0, FREE_END);
+        self.units[n.0 as usize]
+    }
+
+    /// Moves a live node with its unit to the end of a list.
+    pub fn shift<L: Ledger>(&mut self, n: Node, list: u8, steps: &mut Steps<L>)
+        requires live { is_live self.old n.0 ≡ true }
+        requires list { list ≤ 1 }
+        ensures after { self.new ≡ appended (lists_without self.old n.0) list (item n.0 (unit_of self.old n.0)) }
+        ensures step { steps.new ≡ steps.old + 1 }
+    {
+        steps.tick();
+        shift(&mut self.after, &mut self.before, n.0, list as u32 + 1);
+    }
+
+    /// The first node of a list, or `None` where it is empty.
+    pub fn first<L: Ledger>(&self, list: u8, steps: &mut Steps<L>) -> Option<Node>
+        requires list { list ≤ 1 }
+        ensures node { result ≡ first_in (list_of self.now list) }
+        ensures step { steps.new ≡ steps.old + 1 }
+    {
+        steps.tick();
+        node_at(links::next(self.after.as_slice(), list as u32))
+    }
+
+    /// The node after a live one in its list, or `None` where it is the last.
+    pub fn next<L: Ledger>(&self, n: Node, steps: &mut Steps<L>) -> Option<Node>
+        requires live { is_live self.now n.0 ≡ true }
+        ensures node { result ≡ next_of self.now n.0 }
+        ensures step { steps.new ≡ steps.old + 1 }
+    {
+        steps.tick();
+        node_at(links::next(self.after.as_slice(), n.0))
+    }
+
+    /// The unit of a live node.
+    pub fn unit(&self, n: Node) -> UnitId
+        requires live { is_live self.now n.0 ≡ true }
+        ensures { result ≡ unit_of self.now n.0 }
+    {
+        self.units[n.0 as usize]
+    }
+}
+
+#[cfg(test)]
+mod tests {
+    use super::*;
+    use std::marker::Brand;
+    use std::process::Abort;
+    use std::sync::ledger::Blank;
+    use std::test::Fail;
+
+    fn unit(n: u8) -> UnitId {
+        UnitId {
+            dom: DomId(n),
+            n: 0,
+        }
+    }
+
+    fn counted<L: Ledger, R: Abort>(rt: &R, alloc: Global, blank: Blank) -> Result<(), Fail>
+        requires name { blank.name ≡ L.name }
+        requires parts { blank.parts ≡ L.parts }
+        requires one { blank.parts ≡ 1 }
+    {
+        let mut steps = Steps::<L>::new(blank);
+        let mut ring = Ring::room(alloc, 4)?;
+        let a = ring.push_back(0, unit(1), &mut steps);
+        let b = ring.push_back(0, unit(2), &mut steps);
+        let c = ring.insert_before(b, unit(3), &mut steps);
+        assert_eq!(rt; ring.first(0, &mut steps), Some(a));
+        assert_eq!(rt; ring.next(a, &mut steps), Some(c));
+        assert_eq!(rt; ring.next(c, &mut steps), Some(b));
+        assert_eq!(rt; ring.next(b, &mut steps), None);
+        ring.shift(a, 1, &mut steps);
+        assert_eq!(rt; ring.first(0, &mut steps), Some(c));
+        assert_eq!(rt; ring.first(1, &mut steps), Some(a));
+        assert_eq!(rt; ring.next(a, &mut steps), None);
+        assert_eq!(rt; ring.unit(a), unit(1));
+        assert_eq!(rt; ring.unlink(c, &mut steps), unit(3));
+        assert_eq!(rt; ring.first(0, &mut steps), Some(b));
+        assert_eq!(rt; ring.next(b, &mut steps), None);
+        let d = ring.push_back(0, unit(4), &mut steps);
+        let e = ring.push_back(0, unit(5), &mut steps);
+        assert_eq!(rt; ring.next(b, &mut steps), Some(d));
+        assert_eq!(rt; ring.next(d, &mut steps), Some(e));
+        Ok(())
+    }
+
+    #[test]
+    fn two_lists_of_four_nodes(rt: HostRuntime) -> Result<(), Fail> {
+        let alloc = rt.alloc();
+        counted::<Brand, HostRuntime>(&rt, alloc, Blank::new(1))
+    }
+}
