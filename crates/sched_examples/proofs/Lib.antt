@@ -10,3 +10,4 @@ mod ScriptsRuns
 mod RealisticRuns
 mod FreeOrdersRuns
 mod NumbersRuns
+mod ReportsComputed

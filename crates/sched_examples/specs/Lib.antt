@@ -10,3 +10,4 @@ pub mod Null
 pub mod Scripts
 pub mod Realistic
 pub mod FreeOrders
+pub mod Reports

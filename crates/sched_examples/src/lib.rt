@@ -12,6 +12,7 @@ pub mod free_orders;
 pub mod null;
 pub mod numbers;
 pub mod realistic;
+pub mod reports;
 pub mod rtds;
 pub mod scripts;
 pub mod siblings;

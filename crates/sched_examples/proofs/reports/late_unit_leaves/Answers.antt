@@ -1,0 +1,5 @@
+use Rattle.sched_examples.proofs.ReportsComputed.{late_unit_leaves-report}
+use Rattle.sched_examples.proofs.reports.late_unit_leaves.Goals as goal
+
+pub returns : goal.returns
+returns c = late_unit_leaves-report

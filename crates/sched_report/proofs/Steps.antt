@@ -1,0 +1,159 @@
+-- What one entry more makes of what a report keeps.
+use Rattle.std.proofs.Common.{◌≡◌, ◌≢◌, ℕ, ◌+◌, ◌*◌, ◌<◌, Bool, true, false, true≢false, cond, List, [], ◌∷◌, ◌++◌, refl, sym, ap, subst, ◌∙◌, arith, length, get_or, inl, inr, add-zero}
+use Rattle.std.specs.Prelude.{Option, Some, None, sum_by, nat_lt}
+use Rattle.std.proofs.lemmas.Bool.{cases_lt, and_parts, and_from, eq-eqb, ne_eqb, ltb-true, lt-ltb, le-ltb}
+use Rattle.std.proofs.lemmas.List.{get_or-set_same, get_or-set_other, length-set, append-nil}
+use Rattle.sched_base.specs.declared.UnitId.{UnitId}
+use Rattle.sched_model.specs.declared.event.Entry.{Entry}
+use Rattle.sched_model.specs.Places.{same_unit, is_unit, numbers_from}
+use Rattle.sched_model.specs.Pool.{same_choice}
+use Rattle.sched_report.specs.declared.choice.Choice.{Choice}
+use Rattle.sched_report.specs.declared.tally.UnitTally.{UnitTally}
+use Rattle.sched_report.specs.declared.tally.CoreTally.{CoreTally}
+use Rattle.sched_report.specs.Stays.{choice_in, choices}
+use Rattle.sched_report.specs.Tallies.{nothing_done, undecided, place_of, has_place, tally_at, changed_at, found, picked, renewed, ended, after_found, units_after, units_renewed, units_with, begins, lateness_on}
+use Rattle.sched_report.proofs.Folds.{told}
+use Rattle.sched_report.proofs.Grows.{chosen_at, choices-more, charge}
+use Rattle.sched_report.proofs.Sums.{sum_by-same, sum_at, sum_beyond}
+
+-- the place of a unit that has one
+abbrev place : UnitId → ℕ
+place u = u.dom.0 * 32 + u.n
+
+placed : (u : UnitId) → has_place u ≡ true → place_of u ≡ Some (place u)
+placed u has = ap (λ b. cond b (Some (place u)) None) has
+
+place-below : (u : UnitId) → has_place u ≡ true → place u < 2048
+place-below u has =
+    let parts = and_parts (nat_lt u.dom.0 64) (nat_lt u.n 32) has in
+    omega (arith, ltb-true u.dom.0 64 parts.0, ltb-true u.n 32 parts.1)
+
+places-apart : (w u : UnitId) → has_place w ≡ true → has_place u ≡ true → same_unit w u ≡ false → place u ≢ place w
+places-apart w u has_w has_u apart e =
+    let of_w = and_parts (nat_lt w.dom.0 64) (nat_lt w.n 32) has_w in
+    let of_u = and_parts (nat_lt u.dom.0 64) (nat_lt u.n 32) has_u in
+    let n_w = ltb-true w.n 32 of_w.1 in
+    let n_u = ltb-true u.n 32 of_u.1 in
+    let dom : w.dom.0 ≡ u.dom.0 = omega (arith, e, n_w, n_u) in
+    let n : w.n ≡ u.n = omega (arith, e, dom) in
+    true≢false (sym (and_from _ _ (eq-eqb _ _ dom) (eq-eqb _ _ n)) ∙ apart)
+
+-- a change of the tally of w is one of the tally of u where they are the same
+pub tally_at-changed : (w u : UnitId) (f : UnitTally → UnitTally) (units : List UnitTally) → has_place u ≡ true → length units ≡ 2048
+    → tally_at (changed_at (place_of w) f units) (place_of u) ≡ cond (same_unit w u) (f (tally_at units (place_of u))) (tally_at units (place_of u))
+tally_at-changed w u f units has all =
+    let i = place u in
+    let was : UnitTally = get_or units i nothing_done in
+    let here : place_of u ≡ Some i = placed u has in
+    let there : get_or (changed_at (place_of w) f units) i nothing_done ≡ cond (same_unit w u) (f was) was = elim (told w u) [
+      | inl same ↦
+          subst (λ q. get_or (changed_at q f units) i nothing_done ≡ cond (same_unit w u) (f was) was) (sym (ap place_of same.0 ∙ here))
+          (get_or-set_same units i (f was) nothing_done (omega (arith, place-below u has, all)) ∙ ap (λ b. cond b (f was) was) (sym same.1))
+      | inr apart ↦ stays (has_place w) refl apart.0 ∙ ap (λ b. cond b (f was) was) (sym apart.0)
+    ] in
+    subst (λ q. tally_at (changed_at (place_of w) f units) q ≡ cond (same_unit w u) (f (tally_at units q)) (tally_at units q)) (sym here) there
+  where
+    stays : (b : Bool) → has_place w ≡ b → same_unit w u ≡ false → get_or (changed_at (cond b (Some (place w)) None) f units) (place u) nothing_done ≡ get_or units (place u) nothing_done
+    stays true has_w apart = get_or-set_other units (place w) (place u) (f (get_or units (place w) nothing_done)) nothing_done (places-apart w u has_w has apart)
+    stays false has_w apart = refl
+
+length-changed : (o : Option ℕ) (f : UnitTally → UnitTally) (units : List UnitTally) → length (changed_at o f units) ≡ length units
+length-changed None f units = refl
+length-changed (Some i) f units = length-set units i (f (get_or units i nothing_done))
+
+module _ (u : UnitId) (has : has_place u ≡ true) where
+  abbrev at : List UnitTally → UnitTally
+  at units = tally_at units (place_of u)
+
+  found-at : (o : Option UnitId) (time late : ℕ) (units : List UnitTally) → length units ≡ 2048
+      → at (elim o as (λ _. List UnitTally) [ None ↦ units | Some w ↦ changed_at (place_of w) (found time late) units ])
+      ≡ record (at units) { run = (at units).run + elim o as (λ _. ℕ) [ None ↦ 0 | Some w ↦ cond (same_unit w u) time 0 ]; late = (at units).late + cond (is_unit o u) late 0 }
+  found-at None time late units all = λ i. record (at units) { run = sym (add-zero (at units).run) i; late = sym (add-zero (at units).late) i }
+  found-at (Some w) time late units all =
+      let t : UnitTally = at units in
+      tally_at-changed w u (found time late) units has all
+      ∙ elim (same_unit w u) as (λ b. cond b (found time late t) t ≡ record t { run = t.run + cond b time 0; late = t.late + cond b late 0 }) [
+        | true ↦ refl
+        | false ↦ λ i. record t { run = sym (add-zero t.run) i; late = sym (add-zero t.late) i }
+      ]
+
+  picked-more : (w : UnitId) (units : List UnitTally) → length units ≡ 2048
+      → at (changed_at (place_of w) picked units) ≡ record (at units) { picks = (at units).picks + cond (same_unit w u) 1 0 }
+  picked-more w units all =
+      let t : UnitTally = at units in
+      tally_at-changed w u picked units has all
+      ∙ elim (same_unit w u) as (λ b. cond b (picked t) t ≡ record t { picks = t.picks + cond b 1 0 }) [ true ↦ refl | false ↦ λ i. record t { picks = sym (add-zero t.picks) i } ]
+
+  picked-at : (before chosen : Option UnitId) (units : List UnitTally) → length units ≡ 2048
+      → at (cond (same_choice before chosen) units (elim chosen as (λ _. List UnitTally) [ None ↦ units | Some w ↦ changed_at (place_of w) picked units ]))
+      ≡ record (at units) { picks = (at units).picks + elim chosen as (λ _. ℕ) [ None ↦ 0 | Some w ↦ cond (is_unit before w) 0 (cond (same_unit w u) 1 0) ] }
+  picked-at None None units all = λ i. record (at units) { picks = sym (add-zero (at units).picks) i }
+  picked-at (Some x) None units all = λ i. record (at units) { picks = sym (add-zero (at units).picks) i }
+  picked-at None (Some w) units all = picked-more w units all
+  picked-at (Some x) (Some w) units all =
+      elim (same_unit x w) as (λ b. at (cond b units (changed_at (place_of w) picked units)) ≡ record (at units) { picks = (at units).picks + cond b 0 (cond (same_unit w u) 1 0) }) [
+        | true ↦ λ i. record (at units) { picks = sym (add-zero (at units).picks) i }
+        | false ↦ picked-more w units all
+      ]
+
+length-found : (o : Option UnitId) (f : UnitTally → UnitTally) (units : List UnitTally)
+    → length (elim o as (λ _. List UnitTally) [ None ↦ units | Some w ↦ changed_at (place_of w) f units ]) ≡ length units
+length-found None f units = refl
+length-found (Some w) f units = length-changed (place_of w) f units
+
+pub length-after : (k : CoreTally) (c : Choice) (units : List UnitTally) → length (units_after k c units) ≡ length units
+length-after k c units =
+    let found_units : List UnitTally = after_found k c units in
+    elim (same_choice k.cur c.unit) as (λ b. length (cond b found_units (elim c.unit as (λ _. List UnitTally) [ None ↦ found_units | Some w ↦ changed_at (place_of w) picked found_units ])) ≡ length found_units) [
+      | true ↦ refl
+      | false ↦ length-found c.unit picked found_units
+    ] ∙ length-found k.cur (found (ended k c) c.late.0) units
+
+pub length-with : (cores : List CoreTally) (units : List UnitTally) (o : Option Choice) → length (units_with o cores units) ≡ length units
+length-with cores units None = refl
+length-with cores units (Some c) =
+    elim (nat_lt c.core.0 (length cores)) as (λ b. length (cond b (units_after (get_or cores c.core.0 undecided) c units) units) ≡ length units) [
+      | true ↦ length-after (get_or cores c.core.0 undecided) c units
+      | false ↦ refl
+    ]
+
+pub length-renewed : (units : List UnitTally) (o : Option UnitId) → length (units_renewed o units) ≡ length units
+length-renewed units None = refl
+length-renewed units (Some u) = length-changed (place_of u) renewed units
+
+-- the time, the stays and the lateness that a choice gives the unit, where the core was in this state
+abbrev pub given : CoreTally → Choice → UnitId → UnitTally → UnitTally
+given k c u t = record t {
+  run = t.run + charge (λ w. same_unit w u) k c;
+  picks = t.picks + begins u (record { before = k.cur; choice = c });
+  late = t.late + lateness_on u (record { before = k.cur; choice = c });
+}
+
+pub tally_at-after : (k : CoreTally) (c : Choice) (u : UnitId) (units : List UnitTally) → has_place u ≡ true → length units ≡ 2048
+    → tally_at (units_after k c units) (place_of u) ≡ given k c u (tally_at units (place_of u))
+tally_at-after k c u units has all =
+    picked-at u has k.cur c.unit (after_found k c units) (length-found k.cur (found (ended k c) c.late.0) units ∙ all)
+    ∙ ap (λ (t : UnitTally). let after : UnitTally = record t { picks = t.picks + begins u (record { before = k.cur; choice = c }) } in after) (found-at u has k.cur (ended k c) c.late.0 units all)
+
+-- what is summed over the cores, after one entry more
+module _ (F : List Choice → ℕ) (more : List Choice → Choice → ℕ) (grows : (cs : List Choice) (c : Choice) → F (cs ++ c ∷ []) ≡ F cs + more cs c) (es : List Entry) (e : Entry) where
+  pub sum-more : (n : ℕ) (o : Option Choice) → choice_in e ≡ o
+      → sum_by (λ r. F (choices r (es ++ e ∷ []))) (numbers_from 0 n)
+      ≡ sum_by (λ r. F (choices r es)) (numbers_from 0 n) + elim o as (λ _. ℕ) [ None ↦ 0 | Some c ↦ cond (nat_lt c.core.0 n) (more (choices c.core.0 es) c) 0 ]
+  sum-more n None is =
+      sum_by-same (λ r. F (choices r (es ++ e ∷ []))) (λ r. F (choices r es)) (numbers_from 0 n)
+      (λ r. ap F (choices-more r es e ∙ ap (λ o. choices r es ++ chosen_at r o) is ∙ append-nil (choices r es)))
+      ∙ sym (add-zero (sum_by (λ r. F (choices r es)) (numbers_from 0 n)))
+  sum-more n (Some c) is =
+      let f : ℕ → ℕ = λ r. F (choices r es) in
+      let g : ℕ → ℕ = λ r. F (choices r (es ++ e ∷ [])) in
+      let gain = more (choices c.core.0 es) c in
+      let same : (r : ℕ) → r ≢ c.core.0 → g r ≡ f r = λ r apart.
+      ap F (choices-more r es e ∙ ap (λ o. choices r es ++ chosen_at r o) is ∙ ap (λ b. choices r es ++ cond b (c ∷ []) []) (ne_eqb c.core.0 r (λ i. apart (sym i))) ∙ append-nil (choices r es)) in
+      let here : g c.core.0 ≡ f c.core.0 + gain =
+      ap F (choices-more c.core.0 es e ∙ ap (λ o. choices c.core.0 es ++ chosen_at c.core.0 o) is ∙ ap (λ b. choices c.core.0 es ++ cond b (c ∷ []) []) (eq-eqb c.core.0 c.core.0 refl))
+      ∙ grows (choices c.core.0 es) c in
+      elim (cases_lt c.core.0 n) [
+        | inl low ↦ sum_at f g c.core.0 gain 0 n same here (omega arith) (omega (arith, low)) ∙ ap (λ b. sum_by f (numbers_from 0 n) + cond b gain 0) (sym (lt-ltb c.core.0 n low))
+        | inr high ↦ sum_beyond f g c.core.0 0 n same (omega (arith, high)) ∙ sym (add-zero (sum_by f (numbers_from 0 n))) ∙ ap (λ b. sum_by f (numbers_from 0 n) + cond b gain 0) (sym (le-ltb c.core.0 n high))
+      ]

@@ -1,0 +1,256 @@
+//! What a report keeps of each core and of each unit, and how a choice changes it.
+
+ghost use Rattle.std.specs.Prelude.{◌≡◌, ◌+◌, ◌*◌, ◌^◌, ◌<◌, ◌≤◌, IfSome, length, sum_by, true, Some, None};
+ghost use Rattle.sched_base.specs.declared.UnitId.{UnitId as UnitRecord};
+ghost use Rattle.sched_model.specs.Places.{same_unit};
+ghost use Rattle.sched_model.specs.Pool.{same_choice};
+ghost use Rattle.sched_report.specs.Stays.{choice_in, renewed_by};
+ghost use Rattle.sched_report.specs.Tallies.{UnitsWithin, CoresWithin, IsShort};
+ghost use Rattle.sched_report.specs.Tallies as tallies;
+
+use crate::choice::{Choice, choice_in, renewed_by};
+use sched_base::{Moment, UnitId};
+use sched_model::event::Entry;
+
+/// The most domains that a machine has.
+const DOMAINS: u8 = 64;
+
+/// The most units that a domain has.
+const UNITS_OF_DOMAIN: u8 = 32;
+
+/// How many places there are for units: one for each unit that there may be.
+pub const PLACES: usize = 2048;
+
+/// What a unit did up to now, but for a stay that goes on. Times are in nanoseconds.
+#[derive(Clone, Copy, Debug)]
+pub struct UnitTally {
+    pub run: u128,
+    pub picks: u32,
+    pub repl: u32,
+    pub late: u128,
+}
+
+/// The unit that is on a core and since when, and what the core did up to now, but for the stay that goes on.
+#[derive(Clone, Copy, Debug)]
+pub struct CoreTally {
+    pub cur: Option<UnitId>,
+    pub since: Moment,
+    pub run: u128,
+    pub decides: u32,
+}
+
+impl UnitTally {
+    /// Nothing done.
+    pub const NOTHING: UnitTally = UnitTally {
+        run: 0,
+        picks: 0,
+        repl: 0,
+        late: 0,
+    };
+}
+
+impl CoreTally {
+    /// A core that has not decided.
+    pub const UNDECIDED: CoreTally = CoreTally {
+        cur: None,
+        since: Moment(0),
+        run: 0,
+        decides: 0,
+    };
+}
+
+/// Whether two units are the same.
+pub fn is_same(u: UnitId, w: UnitId) -> bool
+    ensures { result ≡ same_unit u w }
+{
+    u.dom.0 == w.dom.0 && u.n == w.n
+}
+
+/// Whether the choice leaves on the core what is there.
+fn is_kept(cur: Option<UnitId>, chosen: Option<UnitId>) -> bool
+    ensures { result ≡ same_choice cur chosen }
+{
+    match cur {
+        None => chosen.is_none(),
+        Some(u) => match chosen {
+            None => false,
+            Some(w) => is_same(u, w),
+        },
+    }
+}
+
+/// Where the tally of the unit stands.
+pub fn place_of(u: UnitId) -> Option<usize>
+    ensures place { result ≡ tallies.place_of u }
+    ensures below { IfSome result (λ i. i < 2048) }
+{
+    if u.dom.0 < DOMAINS && u.n < UNITS_OF_DOMAIN {
+        Some(u.dom.0 as usize * UNITS_OF_DOMAIN as usize + u.n as usize)
+    } else {
+        None
+    }
+}
+
+/// How long the stay was that the choice ends, 0 where it ends none.
+fn ended(core: &CoreTally, c: &Choice) -> u64
+    ensures { result ≡ tallies.ended core.now c.now }
+{
+    if core.cur.is_none() || is_kept(core.cur, c.unit) {
+        0
+    } else {
+        c.at.0.saturating_sub(core.since.0)
+    }
+}
+
+/// A core after a choice.
+pub fn core_after(core: &CoreTally, c: &Choice) -> CoreTally
+    requires run { core.now.run + 2 ^ 64 ≤ 2 ^ 128 }
+    requires decides { core.now.decides + 1 < 2 ^ 32 }
+    ensures { result ≡ tallies.core_after core.now c.now }
+{
+    let run = core.run + u128::from(ended(core, c));
+    let decides = core.decides + 1;
+    if is_kept(core.cur, c.unit) {
+        CoreTally {
+            run,
+            decides,
+            ..*core
+        }
+    } else {
+        CoreTally {
+            cur: c.unit,
+            since: c.at,
+            run,
+            decides,
+        }
+    }
+}
+
+/// Tells the unit that the choice finds on the core how much time ended, and how late the choice was.
+fn count_found(units: &mut [UnitTally], core: &CoreTally, c: &Choice)
+    requires places { length units.old ≡ 2048 }
+    requires within { UnitsWithin 4294967294 4294967294 4294967294 units.old }
+    ensures { units.new ≡ tallies.after_found core.now c.now units.old }
+{
+    if let Some(u) = core.cur {
+        if let Some(i) = place_of(u) {
+            let unit = &mut units[i];
+            unit.run += u128::from(ended(core, c));
+            unit.late += u128::from(c.late.0);
+        }
+    }
+}
+
+/// Tells the unit whose stay begins with the choice that one begins.
+fn count_picked(units: &mut [UnitTally], core: &CoreTally, c: &Choice)
+    requires places { length units.old ≡ 2048 }
+    requires within { UnitsWithin 4294967295 4294967294 4294967294 units.old }
+    ensures { units.new ≡ tallies.after_picked core.now c.now units.old }
+{
+    if !is_kept(core.cur, c.unit)
+        && let Some(u) = c.unit
+        && let Some(i) = place_of(u)
+    {
+        units[i].picks += 1;
+    }
+}
+
+/// Tells the units what a choice of the core means for them.
+fn count_units(units: &mut [UnitTally], core: &CoreTally, c: &Choice)
+    requires places { length units.old ≡ 2048 }
+    requires within { UnitsWithin 4294967294 4294967294 4294967294 units.old }
+    requires short { IsShort c.now }
+    ensures { units.new ≡ tallies.units_after core.now c.now units.old }
+{
+    count_found(units, core, c);
+    count_picked(units, core, c);
+}
+
+/// Counts a choice of a core. A core that is not there changes nothing.
+fn count_choice(cores: &mut [CoreTally], units: &mut [UnitTally], c: &Choice)
+    requires places { length units.old ≡ 2048 }
+    requires units { UnitsWithin 4294967294 4294967294 4294967294 units.old }
+    requires cores { CoresWithin 4294967294 cores.old }
+    requires short { IsShort c.now }
+    ensures cores { cores.new ≡ tallies.cores_with (Some c.now) cores.old }
+    ensures units { units.new ≡ tallies.units_with (Some c.now) cores.old units.old }
+{
+    let r = c.core.0 as usize;
+    if r < cores.len() {
+        let core = cores[r];
+        count_units(units, &core, c);
+        cores[r] = core_after(&core, c);
+    }
+}
+
+/// Counts a replenishment of the unit.
+fn count_renewed(units: &mut [UnitTally], u: UnitId)
+    requires places { length units.old ≡ 2048 }
+    requires within { UnitsWithin 4294967295 4294967295 4294967294 units.old }
+    ensures { units.new ≡ tallies.units_renewed (Some u) units.old }
+{
+    if let Some(i) = place_of(u) {
+        units[i].repl += 1;
+    }
+}
+
+/// Counts an entry: a choice of a core, or a replenishment of a unit. Every other entry leaves all as it is.
+pub fn count_entry(cores: &mut [CoreTally], units: &mut [UnitTally], e: &Entry)
+    requires places { length units.old ≡ 2048 }
+    requires units { UnitsWithin 4294967294 4294967294 4294967294 units.old }
+    requires cores { CoresWithin 4294967294 cores.old }
+    ensures cores { cores.new ≡ tallies.cores_with (choice_in e.now) cores.old }
+    ensures units { units.new ≡ tallies.units_renewed (renewed_by e.now.event) (tallies.units_with (choice_in e.now) cores.old units.old) }
+    ensures short { IfSome (choice_in e.now) IsShort }
+{
+    if let Some(c) = choice_in(e) {
+        count_choice(cores, units, &c);
+    }
+    if let Some(u) = renewed_by(e) {
+        count_renewed(units, u);
+    }
+}
+
+/// The time of the core's stay that goes on, up to the last moment.
+pub fn open_time(core: &CoreTally, last: Moment) -> u64
+    ensures { result ≡ tallies.open_time (λ u. true) last.0 core.now }
+{
+    match core.cur {
+        None => 0,
+        Some(_) => last.0.saturating_sub(core.since.0),
+    }
+}
+
+/// The time of the core's stay that goes on, up to the last moment, where it is one of the unit.
+fn open_time_of(core: &CoreTally, u: UnitId, last: Moment) -> u64
+    ensures { result ≡ tallies.open_time (λ w. same_unit w u) last.0 core.now }
+{
+    match core.cur {
+        Some(w) if is_same(w, u) => last.0.saturating_sub(core.since.0),
+        _ => 0,
+    }
+}
+
+/// The time of the unit's stays that go on, up to the last moment.
+pub fn open_times_of(cores: &[CoreTally], u: UnitId, last: Moment) -> u128
+    requires { length cores.now ≤ 64 }
+    ensures time { result ≡ sum_by (tallies.open_time (λ w. same_unit w u) last.0) cores.now }
+    ensures small { result ≤ 64 * 2 ^ 64 }
+{
+    let mut time = 0;
+    for core in cores {
+        time += u128::from(open_time_of(core, u, last));
+    }
+    time
+}
+
+/// The tally of the unit.
+pub fn tally_of(units: &[UnitTally], u: UnitId) -> UnitTally
+    requires { length units.now ≡ 2048 }
+    ensures { result ≡ tallies.tally_at units.now (tallies.place_of u) }
+{
+    match place_of(u) {
+        Some(i) => units[i],
+        None => UnitTally::NOTHING,
+    }
+}
