@@ -1,0 +1,347 @@
+-- What an accepted command does to the tool's part is what it does to the state.
+use Rattle.sched_base.specs.Numbers.{pool as pool_number}
+use Rattle.std.proofs.Common.{◌≡◌, ◌+◌, ℕ, zero, suc, Bool, true, false, not, List, [], ◌∷◌, Option, Some, None, Result, Ok, Err, length, map, refl, sym, ◌∙◌, ap, cond, add-zero, zero-add, arith}
+use Rattle.std.specs.Prelude.{◌==◌, ◌&&◌, ◌||◌, is_some, option_map, slice_set, replicate}
+use Rattle.std.proofs.lemmas.List.{map-set}
+use Rattle.sched_base.specs.declared.Name.{Name}
+use Rattle.sched_base.specs.declared.Moment.{Moment}
+use Rattle.sched_model.specs.declared.config.ParamChange.TheVariants as changes
+use Rattle.sched_model.specs.declared.config.SchedKind.{SchedKind}
+use Rattle.sched_model.specs.declared.config.SchedKind.TheVariants as kinds
+use Rattle.sched_base.specs.declared.DomId.{DomId}
+use Rattle.sched_base.specs.declared.PoolId.{PoolId}
+use Rattle.sched_base.specs.declared.ResId.{ResId}
+use Rattle.sched_model.specs.declared.event.Reply.{Reply}
+use Rattle.sched_model.specs.declared.event.Refusal.{Refusal}
+use Rattle.sched_model.specs.declared.machine.Machine.{Machine}
+use Rattle.sched_model.specs.declared.plan.Plan.{Plan}
+use Rattle.sched_model.specs.declared.plan.Plan.TheVariants as plan
+use Rattle.sched_model.specs.declared.work.CommandLine.{CommandLine}
+use Rattle.sched_model.specs.declared.state.Domain.{Domain}
+use Rattle.sched_model.specs.declared.state.FreeCore.{FreeCore}
+use Rattle.sched_model.specs.declared.state.Pool.{Pool}
+use Rattle.sched_model.specs.declared.state.Resource.{Resource}
+use Rattle.sched_model.specs.declared.state.State.{State}
+use Rattle.sched_model.specs.Places.{at_place, change_at, put_at, clear_at, numbers_from}
+use Rattle.sched_model.specs.Opening.{empty_pool, core_count}
+use Rattle.sched_model.specs.Policy.{kind_of, fresh_records, default_pool_params}
+use Rattle.sched_model.specs.Pool.{settled, set_params, pause, unpause, set_moving, set_leaving, change_domain}
+use Rattle.sched_model.specs.Actions.{home_of_domain, change_pool}
+use Rattle.sched_model.specs.Commands.{carried_out, change_home, set_rtds, pool_of_plan}
+use Rattle.sched_model.specs.Machine.{verdict, after_command, settled_at}
+use Rattle.journal_core.specs.Parts.{Outline, UnderWay, ToolPart, core_to, domain_to, outline_of, first_answer, leaving_pool, core_leaving, domain_moving, core_joining, under_way_of, tool_of as part_of_tool}
+use Rattle.cpupool.specs.Tool.{Tool, tool_of, ends_of, entry_of}
+use Rattle.cpupool.specs.Judging.{has_core}
+use Rattle.cpupool.specs.Advanced.{empty_outline, advanced, carried, has_domain_at}
+use Rattle.cpupool.proofs.SubjectLemmas.{at_place-map, flag-there, there-map, length-map as length_map}
+use Rattle.cpupool.proofs.OpenedLemmas.{map_none}
+use Rattle.cpupool.proofs.SightLemmas.{IsStill, map_change, outline_still, leaving_still, settled_still, params_still, withdrawn_still, pause_still, unpause_still, rtds_still}
+
+-- the tool sees the same of both states
+record IsSame (a b : State) : Type 0 where
+  names : a.names ≡ b.names
+  outlines : map (option_map outline_of) a.pools ≡ map (option_map outline_of) b.pools
+  leaving : first_answer leaving_pool 0 a.pools ≡ first_answer leaving_pool 0 b.pools
+  free : a.free ≡ b.free
+  stall : a.next_stall ≡ b.next_stall
+  command : a.next_command ≡ b.next_command
+
+-- the part that the tool has of such pools and cores
+abbrev part_by : List (Option Name) → List (Option Outline) → Option UnderWay → List (Option FreeCore) → ℕ → ℕ → ToolPart
+part_by names outlines leaving free stall command =
+    record {
+      names = names;
+      pools = outlines;
+      free = map (option_map ends_of) free;
+      under_way = elim leaving [ Some way ↦ Some way | None ↦ first_answer core_joining 0 free ];
+      next_stall = stall;
+      next_command = command;
+    }
+
+same_part : (a b : State) → IsSame a b → part_of_tool a ≡ part_of_tool b
+same_part a b same =
+    ap (λ x. part_by x (map (option_map outline_of) a.pools) (first_answer leaving_pool 0 a.pools) a.free a.next_stall a.next_command) same.names
+    ∙ ap (λ x. part_by b.names x (first_answer leaving_pool 0 a.pools) a.free a.next_stall a.next_command) same.outlines
+    ∙ ap (λ x. part_by b.names (map (option_map outline_of) b.pools) x a.free a.next_stall a.next_command) same.leaving
+    ∙ ap (λ x. part_by b.names (map (option_map outline_of) b.pools) (first_answer leaving_pool 0 b.pools) x a.next_stall a.next_command) same.free
+    ∙ ap (λ x. part_by b.names (map (option_map outline_of) b.pools) (first_answer leaving_pool 0 b.pools) b.free x a.next_command) same.stall
+    ∙ ap (λ x. part_by b.names (map (option_map outline_of) b.pools) (first_answer leaving_pool 0 b.pools) b.free b.next_stall x) same.command
+
+-- one place changed without a change of its answer
+pub answer_change : {X Y : Type 0} (h : ℕ → X → Option Y) (f : X → X) → ((n : ℕ) (x : X) → h n (f x) ≡ h n x) → (i n : ℕ) (places : List (Option X)) → first_answer h n (change_at i f places) ≡ first_answer h n places
+answer_change h f same i n [] = refl
+answer_change h f same zero n (None ∷ places) = refl
+answer_change {X} {Y} h f same zero n (Some x ∷ places) =
+    ap (λ (o : Option Y). elim o [ Some y ↦ Some y | None ↦ first_answer h (suc n) places ]) (same n x)
+answer_change h f same (suc i) n (None ∷ places) = answer_change h f same i (suc n) places
+answer_change {X} {Y} h f same (suc i) n (Some x ∷ places) =
+    let answer : Option Y → Option Y = λ rest. elim (h n x) [ Some y ↦ Some y | None ↦ rest ] in
+    ap answer (answer_change h f same i (suc n) places)
+
+still_pool : (i : ℕ) (f : Pool → Pool) (s : State) → ((pool : Pool) → IsStill (f pool) pool) → part_of_tool (change_pool i f s) ≡ part_of_tool s
+still_pool i f s same = same_part (change_pool i f s) s (record {
+  names = refl;
+  outlines = map_change outline_of f (λ pool. outline_still (f pool) pool (same pool)) i s.pools;
+  leaving = answer_change leaving_pool f (λ n pool. leaving_still n (f pool) pool (same pool)) i 0 s.pools;
+  free = refl;
+  stall = refl;
+  command = refl;
+})
+
+still_home : (d : ℕ) (f : Pool → Pool) (s : State) → ((pool : Pool) → IsStill (f pool) pool) → part_of_tool (change_home d f s) ≡ part_of_tool s
+still_home d f s same = elim (home_of_domain s d) as (λ o. part_of_tool (elim o [ None ↦ s | Some i ↦ change_pool i f s ]) ≡ part_of_tool s) [ None ↦ refl | Some i ↦ still_pool i f s same ]
+
+still_settled : (t : ℕ) (o : Option ℕ) (s : State) → part_of_tool (settled_at t o s) ≡ part_of_tool s
+still_settled t None s = refl
+still_settled t (Some i) s = still_pool i (settled t) s (settled_still t)
+
+-- an answer, or else another
+abbrev answer_else : {Y : Type 0} → Option Y → Option Y → Option Y
+answer_else o rest = elim o [ Some y ↦ Some y | None ↦ rest ]
+
+-- no place answers, and one is changed so that it does
+first_none : {X Y : Type 0} (h : ℕ → X → Option Y) (n : ℕ) (x : X) (places : List (Option X)) → first_answer h n (Some x ∷ places) ≡ None → (h n x ≡ None) × (first_answer h (suc n) places ≡ None)
+first_none {X} {Y} h n x places none = split (h n x) none
+  where
+    split : (o : Option Y) → answer_else o (first_answer h (suc n) places) ≡ None → (o ≡ None) × (first_answer h (suc n) places ≡ None)
+    split None none = (refl, none)
+    split (Some y) none = cc
+
+abbrev changed_answer : {X Y : Type 0} → (X → Option Y) → Option X → Option Y
+changed_answer f None = None
+changed_answer f (Some x) = f x
+
+answer_put : {X Y : Type 0} (h : ℕ → X → Option Y) (f : X → X) (i n : ℕ) (places : List (Option X)) → first_answer h n places ≡ None
+    → first_answer h n (change_at i f places) ≡ changed_answer (λ x. h (n + i) (f x)) (at_place places i)
+answer_put h f i n [] none = refl
+answer_put h f zero n (None ∷ places) none = none
+answer_put {X} {Y} h f zero n (Some x ∷ places) none =
+    let rest = (first_none h n x places none).1 in
+    let answer : Option Y → Option Y → Option Y = λ o r. elim o [ Some y ↦ Some y | None ↦ r ] in
+    ap (answer (h n (f x))) rest
+    ∙ elim (h n (f x)) as (λ o. answer o None ≡ o) [ Some y ↦ refl | None ↦ refl ]
+    ∙ ap (λ k. h k (f x)) (sym (add-zero n))
+answer_put h f (suc i) n (None ∷ places) none = answer_put h f i (suc n) places none ∙ ap (λ k. changed_answer (λ x. h k (f x)) (at_place places i)) (next n i)
+  where
+    next : (n i : ℕ) → suc n + i ≡ n + suc i
+    next n i = omega arith
+answer_put {X} {Y} h f (suc i) n (Some x ∷ places) none =
+    let split = first_none h n x places none in
+    let answer : Option Y → Option Y = λ o. elim o [ Some y ↦ Some y | None ↦ first_answer h (suc n) (change_at i f places) ] in
+    let next : suc n + i ≡ n + suc i = omega arith in
+    ap answer split.0 ∙ answer_put h f i (suc n) places split.1 ∙ ap (λ k. changed_answer (λ x. h k (f x)) (at_place places i)) next
+
+none_at : {X Y : Type 0} (h : ℕ → X → Option Y) (i n : ℕ) (places : List (Option X)) (x : X) → first_answer h n places ≡ None → at_place places i ≡ Some x → h (n + i) x ≡ None
+none_at h i n [] x none there = cc
+none_at h zero n (None ∷ places) x none there = cc
+none_at h zero n (Some y ∷ places) x none there =
+    let same : y ≡ x = cc in
+    ap (λ k. h k x) (add-zero n) ∙ ap (h n) (sym same) ∙ (first_none h n y places none).0
+none_at h (suc i) n (None ∷ places) x none there = ap (λ k. h k x) (next n i) ∙ none_at h i (suc n) places x none there
+  where
+    next : (n i : ℕ) → n + suc i ≡ suc n + i
+    next n i = omega arith
+none_at h (suc i) n (Some y ∷ places) x none there =
+    let next : n + suc i ≡ suc n + i = omega arith in
+    ap (λ k. h k x) next ∙ none_at h i (suc n) places x (first_none h n y places none).1 there
+
+-- a place made empty, or given what does not answer
+put_none : {X Y : Type 0} (h : ℕ → X → Option Y) (x : X) → ((n : ℕ) → h n x ≡ None) → (i n : ℕ) (places : List (Option X)) → first_answer h n places ≡ None → first_answer h n (put_at i x places) ≡ None
+put_none h x quiet i n [] none = none
+put_none {X} {Y} h x quiet zero n (None ∷ places) none = ap (λ (o : Option Y). elim o [ Some y ↦ Some y | None ↦ first_answer h (suc n) places ]) (quiet n) ∙ none
+put_none {X} {Y} h x quiet zero n (Some z ∷ places) none = ap (λ (o : Option Y). elim o [ Some y ↦ Some y | None ↦ first_answer h (suc n) places ]) (quiet n) ∙ (first_none h n z places none).1
+put_none h x quiet (suc i) n (None ∷ places) none = put_none h x quiet i (suc n) places none
+put_none {X} {Y} h x quiet (suc i) n (Some z ∷ places) none =
+    ap (λ (o : Option Y). elim o [ Some y ↦ Some y | None ↦ first_answer h (suc n) (put_at i x places) ]) (first_none h n z places none).0 ∙ put_none h x quiet i (suc n) places (first_none h n z places none).1
+
+clear_none : {X Y : Type 0} (h : ℕ → X → Option Y) (i n : ℕ) (places : List (Option X)) → first_answer h n places ≡ None → first_answer h n (clear_at i places) ≡ None
+clear_none h i n [] none = none
+clear_none h zero n (None ∷ places) none = none
+clear_none h zero n (Some z ∷ places) none = (first_none h n z places none).1
+clear_none h (suc i) n (None ∷ places) none = clear_none h i (suc n) places none
+clear_none {X} {Y} h (suc i) n (Some z ∷ places) none =
+    ap (λ (o : Option Y). elim o [ Some y ↦ Some y | None ↦ first_answer h (suc n) (clear_at i places) ]) (first_none h n z places none).0 ∙ clear_none h i (suc n) places (first_none h n z places none).1
+
+-- nothing is on its way from the pools, nor from the cores of none
+abbrev or_else : Option UnderWay → Option UnderWay → Option UnderWay
+or_else a b = elim a [ Some way ↦ Some way | None ↦ b ]
+
+none_either : (a b : Option UnderWay) → or_else a b ≡ None → (a ≡ None) × (b ≡ None)
+none_either None b none = (refl, none)
+none_either (Some way) b none = cc
+
+-- a pool without cores and domains
+no_flags : (X : Type 0) (n : ℕ) → map (is_some {T = X}) (replicate n None) ≡ replicate n false
+no_flags X zero = refl
+no_flags X (suc n) = ap (λ rest. false ∷ rest) (no_flags X n)
+
+no_answer : {X Y : Type 0} (h : ℕ → X → Option Y) (n count : ℕ) → first_answer h n (replicate count None) ≡ None
+no_answer h n zero = refl
+no_answer h n (suc count) = no_answer h (suc n) count
+
+default_kind : (kind : SchedKind) (domains cores : ℕ) → kind_of (fresh_records (default_pool_params kind) domains cores) ≡ kind
+default_kind kinds.Credit2 domains cores = refl
+default_kind kinds.Rtds domains cores = refl
+default_kind kinds.Arinc653 domains cores = refl
+default_kind kinds.Null domains cores = refl
+
+empty_seen : (m : Machine) (s : State) (kind : SchedKind) → outline_of (empty_pool m.config (default_pool_params kind)) ≡ empty_outline (tool_of m s) kind
+empty_seen m s kind =
+    let kinds_same = default_kind kind (length m.config.domains) (core_count m.config) in
+    let cores = no_flags Resource (core_count m.config) in
+    let domains = map_none (λ (d : Domain). length d.vcpus) (length m.config.domains) ∙ ap (λ n. replicate n None) (sym (length_map entry_of m.config.domains)) in
+    cc (kinds_same, cores, domains)
+
+empty_quiet : (m : Machine) (kind : SchedKind) (n : ℕ) → leaving_pool n (empty_pool m.config (default_pool_params kind)) ≡ None
+empty_quiet m kind n =
+    ap (λ a. or_else a (first_answer domain_moving 0 (replicate (length m.config.domains) None))) (no_answer core_leaving 0 (core_count m.config)) ∙ no_answer domain_moving 0 (length m.config.domains)
+
+-- a core sets out from its pool
+flags_change : {X : Type 0} (f : X → X) (i : ℕ) (places : List (Option X)) → map is_some (change_at i f places) ≡ map is_some places
+flags_change f i [] = refl
+flags_change f zero (None ∷ places) = refl
+flags_change f zero (Some x ∷ places) = refl
+flags_change f (suc i) (x ∷ places) = ap (λ rest. is_some x ∷ rest) (flags_change f i places)
+
+leaving_outline : (r : ℕ) (pool : Pool) → outline_of (set_leaving r pool) ≡ outline_of pool
+leaving_outline r pool = ap (λ cores. record (outline_of pool) { cores = cores }) (flags_change (λ c. record c { leaving = true; pending = c.pending || is_some c.cur }) r pool.resources)
+
+core_sets_out : (r k : ℕ) (pool : Pool) → leaving_pool k pool ≡ None → leaving_pool k (set_leaving r pool) ≡ cond (is_some (at_place pool.resources r)) (Some (core_to r None)) None
+core_sets_out r k pool none =
+    let split = none_either (first_answer core_leaving 0 pool.resources) (first_answer domain_moving 0 pool.domains) none in
+    let g : Resource → Resource = λ c. record c { leaving = true; pending = c.pending || is_some c.cur } in
+    ap (λ b. or_else (first_answer core_leaving 0 (change_at r g pool.resources)) b) split.1
+    ∙ ap (λ a. or_else a None) (answer_put core_leaving g r 0 pool.resources split.0)
+    ∙ ap (λ n. or_else (changed_answer (λ (c : Resource). Some (core_to n None)) (at_place pool.resources r)) None) (zero-add r)
+    ∙ elim (at_place pool.resources r) as (λ o. or_else (changed_answer (λ (c : Resource). Some (core_to r None)) o) None ≡ cond (is_some o) (Some (core_to r None)) None) [ None ↦ refl | Some c ↦ refl ]
+
+-- a domain sets out from its pool
+moving_outline : (d j : ℕ) (pool : Pool) → outline_of (set_moving d j pool) ≡ outline_of pool
+moving_outline d j pool =
+    let f : Domain → Domain = λ domain. record domain { moving = Some (pool_number j) } in
+    outline_still (set_moving d j pool) (change_domain d f pool) (withdrawn_still d (change_domain d f pool))
+    ∙ ap (λ domains. record (outline_of pool) { domains = domains }) (map_change (λ (x : Domain). length x.vcpus) f (λ x. refl) d pool.domains)
+
+domain_sets_out : (d j k : ℕ) (pool : Pool) → leaving_pool k pool ≡ None → leaving_pool k (set_moving d j pool) ≡ cond (is_some (at_place pool.domains d)) (Some (domain_to d j)) None
+domain_sets_out d j k pool none =
+    let split = none_either (first_answer core_leaving 0 pool.resources) (first_answer domain_moving 0 pool.domains) none in
+    let f : Domain → Domain = λ domain. record domain { moving = Some (pool_number j) } in
+    leaving_still k (set_moving d j pool) (change_domain d f pool) (withdrawn_still d (change_domain d f pool))
+    ∙ ap (λ a. or_else a (first_answer domain_moving 0 (change_at d f pool.domains))) split.0
+    ∙ answer_put domain_moving f d 0 pool.domains split.1
+    ∙ ap (λ n. changed_answer (λ (x : Domain). Some (domain_to n j)) (at_place pool.domains d)) (zero-add d)
+    ∙ elim (at_place pool.domains d) as (λ o. changed_answer (λ (x : Domain). Some (domain_to d j)) o ≡ cond (is_some o) (Some (domain_to d j)) None) [ None ↦ refl | Some x ↦ refl ]
+
+module _ (m : Machine) (s : State) (idle : under_way_of s ≡ None) where
+  abbrev none_leaves : first_answer leaving_pool 0 s.pools ≡ None
+  none_leaves = (none_either (first_answer leaving_pool 0 s.pools) (first_answer core_joining 0 s.free) idle).0
+
+  abbrev none_joins : first_answer core_joining 0 s.free ≡ None
+  none_joins = (none_either (first_answer leaving_pool 0 s.pools) (first_answer core_joining 0 s.free) idle).1
+
+  -- one pool is changed, and what sets out from it is told by a test of its outline
+  sets_out : (i : ℕ) (f : Pool → Pool) (way : UnderWay) (test : Outline → Bool) → ((k : ℕ) (pool : Pool) → leaving_pool k pool ≡ None → leaving_pool k (f pool) ≡ cond (test (outline_of pool)) (Some way) None)
+      → or_else (first_answer leaving_pool 0 (change_at i f s.pools)) (first_answer core_joining 0 s.free)
+      ≡ cond (elim (at_place (map (option_map outline_of) s.pools) i) [ None ↦ false | Some o ↦ test o ]) (Some way) None
+  sets_out i f way test same =
+      let tested : Option Outline → Option UnderWay = λ o. cond (elim o [ None ↦ false | Some x ↦ test x ]) (Some way) None in
+      ap (or_else (first_answer leaving_pool 0 (change_at i f s.pools))) none_joins
+      ∙ ap (λ a. or_else a None) (answer_put leaving_pool f i 0 s.pools none_leaves)
+      ∙ elim (at_place s.pools i) as (λ o. at_place s.pools i ≡ o → or_else (changed_answer (λ pool. leaving_pool (0 + i) (f pool)) o) None ≡ tested (option_map outline_of o)) [
+        | None ↦ λ is. refl
+        | Some pool ↦ λ is.
+            ap (λ a. or_else a None) (same (0 + i) pool (none_at leaving_pool i 0 s.pools pool none_leaves is))
+            ∙ elim (test (outline_of pool)) as (λ b. or_else (cond b (Some way) None) None ≡ cond b (Some way) None) [ true ↦ refl | false ↦ refl ]
+      ] refl
+      ∙ ap tested (sym (at_place-map outline_of s.pools i))
+
+  abbrev over : State
+  over = record s { next_command = suc s.next_command }
+
+  abbrev part_over : ToolPart → ToolPart
+  part_over part = record part { next_command = suc s.next_command }
+
+  -- the part after the plan
+  abbrev Carried : ℕ → Plan → Type 0
+  Carried t p = part_of_tool (carried_out m t p over) ≡ part_over (carried (tool_of m s) p (part_of_tool s))
+
+  created : (t : ℕ) (i : PoolId) (name : Name) (kind : SchedKind) (answer : Reply) → Carried t (plan.PoolCreate i name kind answer)
+  created t i name kind answer =
+      let fresh : Pool = empty_pool m.config (default_pool_params kind) in
+      let outlines = map-set (option_map outline_of) s.pools i.0 (Some fresh) ∙ ap (λ o. slice_set (map (option_map outline_of) s.pools) i.0 (Some o)) (empty_seen m s kind) in
+      let leaving = put_none leaving_pool fresh (empty_quiet m kind) i.0 0 s.pools none_leaves ∙ sym none_leaves in
+      ap (λ x. part_by (put_at i.0 name s.names) x (first_answer leaving_pool 0 (put_at i.0 fresh s.pools)) s.free s.next_stall (suc s.next_command)) outlines
+      ∙ ap (λ x. part_by (put_at i.0 name s.names) (slice_set (map (option_map outline_of) s.pools) i.0 (Some (empty_outline (tool_of m s) kind))) x s.free s.next_stall (suc s.next_command)) leaving
+
+  destroyed : (t : ℕ) (i : PoolId) (answer : Reply) → Carried t (plan.PoolDestroy i answer)
+  destroyed t i answer =
+      let outlines = map-set (option_map outline_of) s.pools i.0 None in
+      let leaving = clear_none leaving_pool i.0 0 s.pools none_leaves ∙ sym none_leaves in
+      ap (λ x. part_by (clear_at i.0 s.names) x (first_answer leaving_pool 0 (clear_at i.0 s.pools)) s.free s.next_stall (suc s.next_command)) outlines
+      ∙ ap (λ x. part_by (clear_at i.0 s.names) (clear_at i.0 (map (option_map outline_of) s.pools)) x s.free s.next_stall (suc s.next_command)) leaving
+
+  -- the part with this on its way
+  abbrev part_with : List (Option Outline) → List (Option (List Moment)) → Option UnderWay → ToolPart
+  part_with outlines free way = record { names = s.names; pools = outlines; free = free; under_way = way; next_stall = s.next_stall; next_command = suc s.next_command }
+
+  added : (t : ℕ) (i : PoolId) (core : ResId) (answer : Reply) → Carried t (plan.CpuAdd i core answer)
+  added t i core answer =
+      let g : FreeCore → FreeCore = λ c. record c { target = Some i.0 } in
+      let ends = map_change ends_of g (λ c. refl) core.0 s.free in
+      let way = ap (λ a. or_else a (first_answer core_joining 0 (change_at core.0 g s.free))) none_leaves
+      ∙ answer_put core_joining g core.0 0 s.free none_joins
+      ∙ ap (λ n. changed_answer (λ (c : FreeCore). Some (core_to n (Some i.0))) (at_place s.free core.0)) (zero-add core.0)
+      ∙ elim (at_place s.free core.0) as (λ o. changed_answer (λ (c : FreeCore). Some (core_to core.0 (Some i.0))) o ≡ cond (is_some o) (Some (core_to core.0 (Some i.0))) None) [ None ↦ refl | Some c ↦ refl ]
+      ∙ ap (λ b. cond b (Some (core_to core.0 (Some i.0))) None) (sym (there-map ends_of s.free core.0)) in
+      ap (λ x. part_with (map (option_map outline_of) s.pools) x (or_else (first_answer leaving_pool 0 s.pools) (first_answer core_joining 0 (change_at core.0 g s.free)))) ends
+      ∙ ap (part_with (map (option_map outline_of) s.pools) (map (option_map ends_of) s.free)) way
+
+  removed : (t : ℕ) (i : PoolId) (core : ResId) (answer : Reply) → Carried t (plan.CpuRemove i core answer)
+  removed t i core answer =
+      let f : Pool → Pool = set_leaving core.0 in
+      let outlines = map_change outline_of f (leaving_outline core.0) i.0 s.pools in
+      let way = sets_out i.0 f (core_to core.0 None) (λ o. has_core o core.0)
+      (λ k pool none. core_sets_out core.0 k pool none ∙ ap (λ b. cond b (Some (core_to core.0 None)) None) (sym (flag-there pool.resources core.0))) in
+      ap (λ x. part_with x (map (option_map ends_of) s.free) (or_else (first_answer leaving_pool 0 (change_at i.0 f s.pools)) (first_answer core_joining 0 s.free))) outlines
+      ∙ ap (part_with (map (option_map outline_of) s.pools) (map (option_map ends_of) s.free)) way
+
+  moved_out : (t : ℕ) (d : DomId) (i j : PoolId) → part_of_tool (change_pool i.0 (set_moving d.0 j.0) over) ≡ part_over (record (part_of_tool s) { under_way = cond (has_domain_at (part_of_tool s) i.0 d.0) (Some (domain_to d.0 j.0)) None })
+  moved_out t d i j =
+      let f : Pool → Pool = set_moving d.0 j.0 in
+      let outlines = map_change outline_of f (moving_outline d.0 j.0) i.0 s.pools in
+      let way = sets_out i.0 f (domain_to d.0 j.0) (λ o. is_some (at_place o.domains d.0))
+      (λ k pool none. domain_sets_out d.0 j.0 k pool none ∙ ap (λ b. cond b (Some (domain_to d.0 j.0)) None) (sym (there-map (λ (x : Domain). length x.vcpus) pool.domains d.0))) in
+      ap (λ x. part_with x (map (option_map ends_of) s.free) (or_else (first_answer leaving_pool 0 (change_at i.0 f s.pools)) (first_answer core_joining 0 s.free))) outlines
+      ∙ ap (part_with (map (option_map outline_of) s.pools) (map (option_map ends_of) s.free)) way
+
+  migrated : (t : ℕ) (d : DomId) (i j : PoolId) (answer : Reply) → Carried t (plan.Migrate d i j answer)
+  migrated t d i j answer =
+      elim (i.0 == j.0) as (λ b. part_of_tool (cond b over (change_pool i.0 (set_moving d.0 j.0) over)) ≡ part_over (record (part_of_tool s) { under_way = cond (not b && has_domain_at (part_of_tool s) i.0 d.0) (Some (domain_to d.0 j.0)) None })) [
+        | true ↦ ap (λ w. part_over (record (part_of_tool s) { under_way = w })) idle
+        | false ↦ moved_out t d i j
+      ]
+
+  -- each plan
+  pub carried-seen : (t : ℕ) (p : Plan) → Carried t p
+  carried-seen t (plan.PoolList pool answer) = refl
+  carried-seen t (plan.PoolCreate i name kind answer) = created t i name kind answer
+  carried-seen t (plan.PoolDestroy i answer) = destroyed t i answer
+  carried-seen t (plan.PoolRename i name answer) = refl
+  carried-seen t (plan.CpuAdd i core answer) = added t i core answer
+  carried-seen t (plan.CpuRemove i core answer) = removed t i core answer
+  carried-seen t (plan.Migrate d i j answer) = migrated t d i j answer
+  carried-seen t (plan.Credit2Dom d weight cap answer) = still_home d.0 (set_params (changes.Dom d weight cap) t) over (params_still (changes.Dom d weight cap) t)
+  carried-seen t (plan.Credit2Pool i None answer) = refl
+  carried-seen t (plan.Credit2Pool i (Some us) answer) = still_pool i.0 (set_params (changes.Rate us) t) over (params_still (changes.Rate us) t)
+  carried-seen t (plan.RtdsDom d first count period budget extra answer) = still_home d.0 (set_rtds t d.0 period budget extra (numbers_from first count)) over (rtds_still t d.0 period budget extra (numbers_from first count))
+  carried-seen t (plan.Pause d answer) = still_home d.0 (pause d.0) over (pause_still d.0)
+  carried-seen t (plan.Unpause d answer) = still_home d.0 (unpause m.config.granularity d.0) over (unpause_still m.config.granularity d.0)
+  carried-seen t (plan.ArincSet i frame answer) = still_pool i.0 (set_params (changes.Frame frame) t) over (params_still (changes.Frame frame) t)
+  carried-seen t (plan.Pin d unit cores answer) = still_home d.0 (set_params (changes.Pin d unit cores) t) over (params_still (changes.Pin d unit cores) t)
+
+  -- what an accepted command does
+  pub advanced-seen : (t : ℕ) (line : CommandLine) (p : Plan) → verdict m s line ≡ Ok p → advanced (tool_of m s) p ≡ tool_of m (after_command m t line s)
+  advanced-seen t line p accepted =
+      let after : Result Plan Refusal → State = λ r. elim r [ Err fault ↦ over | Ok q ↦ settled_at t (pool_of_plan s q) (carried_out m t q over) ] in
+      let with_part : ToolPart → Tool = λ part. record (tool_of m s) { part = part } in
+      ap with_part (sym (carried-seen t p) ∙ sym (still_settled t (pool_of_plan s p) (carried_out m t p over))) ∙ ap (λ r. tool_of m (after r)) (sym accepted)

@@ -1,0 +1,126 @@
+-- The facts are those of the domain and the pool that the command names, and what is read from them is what the definitions read from the records.
+use Rattle.sched_base.specs.Numbers.{span, domain as domain_number, pool as pool_number}
+use Rattle.std.proofs.Common.{◌≡◌, ◌+◌, ◌/◌, ◌<◌, ◌≤◌, ℕ, zero, suc, Bool, true, false, List, [], ◌∷◌, Option, Some, None, length, map, take, drop, refl, sym, ◌∙◌, ap, subst, add-zero, arith}
+use Rattle.std.specs.Prelude.{option_map, unwrap_or, slice_get, cond}
+use Rattle.sched_base.specs.declared.UnitId.{UnitId}
+use Rattle.sched_model.specs.declared.command.Which.{Which}
+use Rattle.sched_model.specs.declared.event.Refusal.{Refusal}
+use Rattle.sched_model.specs.declared.event.Refusal.TheVariants as refusal
+use Rattle.sched_model.specs.declared.event.Param.TheVariants as param
+use Rattle.sched_model.specs.declared.event.Reply.TheVariants as reply
+use Rattle.sched_model.specs.declared.facts.Stored.{Stored}
+use Rattle.sched_model.specs.declared.facts.Stored.TheVariants as stored
+use Rattle.sched_model.specs.declared.facts.Subject.{Subject}
+use Rattle.sched_model.specs.declared.machine.Machine.{Machine}
+use Rattle.sched_model.specs.declared.state.Credit2Domain.{Credit2Domain}
+use Rattle.sched_model.specs.declared.state.Credit2Records.{Credit2Records}
+use Rattle.sched_model.specs.declared.state.Domain.{Domain}
+use Rattle.sched_model.specs.declared.state.Pool.{Pool}
+use Rattle.sched_model.specs.declared.state.Records.{Records}
+use Rattle.sched_model.specs.declared.state.Records.TheVariants.{Credit2Pool, RtdsPool}
+use Rattle.sched_model.specs.declared.state.RtdsUnit.{RtdsUnit}
+use Rattle.sched_model.specs.declared.state.State.{State}
+use Rattle.sched_model.specs.Actions.{home_of_domain}
+use Rattle.sched_model.specs.Places.{at_place}
+use Rattle.sched_model.specs.Policy.{rate_of, rtds_record}
+use Rattle.sched_model.specs.Pool.{unit_count}
+use Rattle.sched_model.specs.Commands.{pool_of, domain_of, in_range, rtds_fault, rtds_units}
+use Rattle.cpupool.specs.Facts.{pool_subject, domain_subject, no_subject, stored_of, stored_from, stored_in, rate_at, units_at}
+use Rattle.cpupool.specs.Judging.{weight_reply, stored_fault, rtds_reply}
+
+-- the rate limit of the pool that is named
+pub rate-known : (s : State) (which : Which) (i : ℕ) (pool : Pool) → pool_of s which ≡ Some i → at_place s.pools i ≡ Some pool → rate_at s (pool_subject s which) ≡ rate_of pool.scheduler.records
+rate-known s which i pool is at =
+    let rate_in : Option Pool → ℕ = λ o. elim o [ None ↦ 0 | Some p ↦ rate_of p.scheduler.records ] in
+    let rate : Option ℕ → ℕ = λ o. rate_at s (record { pool = option_map pool_number o; dom = None }) in
+    ap rate is ∙ ap rate_in at
+
+-- the set values of the domain that is named
+pub units-known : (m : Machine) (s : State) (which : Which) (d i : ℕ) (pool : Pool) (domain : Domain)
+    → domain_of m which ≡ Some d → home_of_domain s d ≡ Some i → at_place s.pools i ≡ Some pool → at_place pool.domains d ≡ Some domain
+    → units_at m.config.granularity s (domain_subject m s which no_subject) ≡ stored_from pool.scheduler.records d 0 (unit_count m.config.granularity domain)
+units-known m s which d i pool domain is lives at inside =
+    let g = m.config.granularity in
+    let subject : Option ℕ → Subject = λ o. elim o [ None ↦ no_subject | Some e ↦ record { pool = option_map pool_number (home_of_domain s e); dom = Some (domain_number e) } ] in
+    let by_home : Option ℕ → List Stored = λ o. units_at g s (record { pool = option_map pool_number o; dom = Some (domain_number d) }) in
+    let by_pool : Option Pool → List Stored = λ o. elim o [ None ↦ [] | Some p ↦ stored_in g p d ] in
+    let by_domain : Option Domain → List Stored = λ o. elim o [ None ↦ [] | Some x ↦ stored_from pool.scheduler.records d 0 (unit_count g x) ] in
+    ap (λ o. units_at g s (subject o)) is ∙ ap by_home lives ∙ ap by_pool at ∙ ap by_domain inside
+
+-- the subject of a command that names the domain d
+pub subject-known : (m : Machine) (s : State) (which : Which) (otherwise : Subject) (d : ℕ) → domain_of m which ≡ Some d → (domain_subject m s which otherwise).dom ≡ Some (domain_number d)
+subject-known m s which otherwise d is =
+    let subject : Option ℕ → Subject = λ o. elim o [ None ↦ otherwise | Some e ↦ record { pool = option_map pool_number (home_of_domain s e); dom = Some (domain_number e) } ] in
+    ap (λ o. (subject o).dom) is
+
+-- what is told of weight and cap, where the domain has a record
+pub weight-known : (records : Credit2Records) (d count : ℕ) → 1 ≤ count → length (stored_from (Credit2Pool records) d 0 count) ≡ count
+    → weight_reply (stored_from (Credit2Pool records) d 0 count) ≡ (elim (at_place records.domains d) [ None ↦ reply.Done | Some x ↦ reply.Weight x.weight x.cap ])
+weight-known records d zero some all = absurd (omega arith)
+weight-known records d (suc count) some all =
+    let units : Option Credit2Domain → List Stored = λ o. elim (option_map (λ (x : Credit2Domain). stored.Credit2 x.weight x.cap) o) [ None ↦ [] | Some v ↦ v ∷ stored_from (Credit2Pool records) d 1 count ] in
+    elim (at_place records.domains d) as (λ o. weight_reply (units o) ≡ (elim o [ None ↦ reply.Done | Some x ↦ reply.Weight x.weight x.cap ])) [
+      | None ↦ refl
+      | Some x ↦ refl
+    ]
+
+-- what is stored of an RTDS unit
+abbrev pub rtds_stored : RtdsUnit → Stored
+rtds_stored x = stored.Rtds (span x.next_period) (span x.next_budget) x.next_extra
+
+-- the unit n of the domain d
+abbrev pub unit_at : ℕ → ℕ → UnitId
+unit_at d n = record { dom = domain_number d; n = n }
+
+-- what is stored of the units of an RTDS pool are their records
+pub units-stored : (pool : Pool) (domains : List (Option (List RtdsUnit))) → pool.scheduler.records ≡ RtdsPool domains → (d first count : ℕ) → stored_from pool.scheduler.records d first count ≡ map rtds_stored (rtds_units pool d first count)
+units-stored pool domains is d first zero = refl
+units-stored pool domains is d first (suc count) =
+    let by_stored : Option Stored → List Stored = λ o. elim o [ None ↦ [] | Some v ↦ v ∷ stored_from pool.scheduler.records d (suc first) count ] in
+    let by_unit : Option RtdsUnit → List RtdsUnit = λ o. elim o [ None ↦ [] | Some x ↦ x ∷ rtds_units pool d (suc first) count ] in
+    let here : stored_of pool.scheduler.records d first ≡ option_map rtds_stored (rtds_record pool.scheduler.records (unit_at d first)) =
+    let P : Records → Type 0 = λ records. stored_of records d first ≡ option_map rtds_stored (rtds_record records (unit_at d first)) in subst P (sym is) refl in
+    ap by_stored here
+    ∙ elim (rtds_record pool.scheduler.records (unit_at d first)) as (λ o. by_stored (option_map rtds_stored o) ≡ map rtds_stored (by_unit o)) [
+      | None ↦ refl
+      | Some x ↦ ap (λ rest. rtds_stored x ∷ rest) (units-stored pool domains is d (suc first) count)
+    ]
+
+-- the refusal of new parameters
+pub fault-stored : (period budget : Option ℕ) (units : List RtdsUnit) → stored_fault period budget (map rtds_stored units) ≡ rtds_fault period budget units
+fault-stored period budget [] = refl
+fault-stored period budget (x ∷ units) =
+    let left_period = unwrap_or period (x.next_period / 1000) in
+    let left_budget = unwrap_or budget (x.next_budget / 1000) in
+    let by_budget : Option Refusal → Bool → Option Refusal = λ rest b. elim b [ false ↦ Some (refusal.Range param.Budget left_budget) | true ↦ rest ] in
+    let by_period : Option Refusal → Bool → Option Refusal = λ rest b. elim b [ false ↦ Some (refusal.Range param.Period left_period) | true ↦ by_budget rest (in_range 10 left_period left_budget) ] in
+    ap (λ rest. by_period rest (in_range 10 1000000000 left_period)) (fault-stored period budget units)
+
+-- the reply for the first of some units
+pub reply-stored : (pool : Pool) (d first count : ℕ) (asks : Bool) → 1 ≤ count
+    → cond asks (rtds_reply (map rtds_stored (rtds_units pool d first count))) reply.Done
+    ≡ (elim (slice_get (rtds_units pool d first 1) 0) [ None ↦ reply.Done | Some x ↦ cond asks (reply.Rtds (x.next_period / 1000) (x.next_budget / 1000) x.next_extra) reply.Done ])
+reply-stored pool d first zero asks some = absurd (omega arith)
+reply-stored pool d first (suc count) asks some =
+    let units : ℕ → Option RtdsUnit → List RtdsUnit = λ n o. elim o [ None ↦ [] | Some x ↦ x ∷ rtds_units pool d (suc first) n ] in
+    elim (rtds_record pool.scheduler.records (unit_at d first)) as (λ o. cond asks (rtds_reply (map rtds_stored (units count o))) reply.Done
+    ≡ (elim (slice_get (units 0 o) 0) [ None ↦ reply.Done | Some x ↦ cond asks (reply.Rtds (x.next_period / 1000) (x.next_budget / 1000) x.next_extra) reply.Done ])) [
+      | None ↦ elim asks as (λ b. cond b reply.Done reply.Done ≡ reply.Done) [ true ↦ refl | false ↦ refl ]
+      | Some x ↦ refl
+    ]
+
+-- where every unit has a value, one of them alone is that unit's
+pub one-stored : (records : Records) (d first count k : ℕ) → k < count → length (stored_from records d first count) ≡ count → take 1 (drop k (stored_from records d first count)) ≡ stored_from records d (first + k) 1
+one-stored records d first zero k below all = absurd (omega arith)
+one-stored records d first (suc count) zero below all =
+    let units : ℕ → Option Stored → List Stored = λ n o. elim o [ None ↦ [] | Some v ↦ v ∷ stored_from records d (suc first) n ] in
+    elim (stored_of records d first) as (λ o. take 1 (units count o) ≡ units 0 o) [ None ↦ refl | Some v ↦ refl ]
+    ∙ ap (λ n. stored_from records d n 1) (sym (add-zero first))
+one-stored records d first (suc count) (suc k) below all =
+    let units : Option Stored → List Stored = λ o. elim o [ None ↦ [] | Some v ↦ v ∷ stored_from records d (suc first) count ] in
+    elim (stored_of records d first) as (λ o. length (units o) ≡ suc count → take 1 (drop (suc k) (units o)) ≡ stored_from records d (first + suc k) 1) [
+      | None ↦ λ full. absurd (omega arith)
+      | Some v ↦ λ full.
+          let next : suc first + k ≡ first + suc k = omega arith in
+          one-stored records d (suc first) count k (omega arith) (omega arith) ∙ ap (λ n. stored_from records d n 1) next
+    ] all

@@ -1,0 +1,65 @@
+-- When the tool has something to do, and the stalls of the cores that no pool has.
+use Rattle.sched_base.specs.Numbers.{moment}
+use Rattle.std.specs.Prelude.{◌≡◌, ◌<◌, ◌+◌, ℕ, ◌||◌, Bool, true, false, Option, Some, None, List, [], ◌∷◌, is_none, option_map, slice_get, min, max, nat_le, if◌then◌else◌}
+use Rattle.sched_base.specs.declared.Moment.{Moment}
+use Rattle.sched_model.specs.Places.{at_place, change_at, change_item}
+use Rattle.sched_model.specs.declared.work.StallLine.{StallLine}
+use Rattle.sched_model.specs.declared.work.CommandLine.{CommandLine}
+use Rattle.journal_core.specs.Parts.{ToolPart, UnderWay, core_to, domain_to}
+use Rattle.cpupool.specs.Tool.{Tool}
+use Rattle.cpupool.specs.Steps.{stall_comes, command_comes, joining_ready}
+
+-- whether a stall, a command or the move of a core of no pool may come at t
+abbrev pub is_anything_due : Tool → ℕ → Bool
+is_anything_due tool t = stall_comes tool t || command_comes tool t || joining_ready tool.part t tool.part.under_way
+
+-- the answer is the least moment after t at which the test passes, or none where it passes at no later moment
+abbrev pub IsLeastLater : ℕ → (ℕ → Bool) → Option Moment → Type 0
+IsLeastLater t test None = (later : ℕ) → t < later → test later ≡ false
+IsLeastLater t test (Some least) = (t < least.0) × (test least.0 ≡ true) × ((later : ℕ) → t < later → later < least.0 → test later ≡ false)
+
+-- the later of the two ends of a stall of the processor at place i of the core r, which no pool has
+abbrev pub free_stall_end : ToolPart → ℕ → ℕ → ℕ → ℕ
+free_stall_end part r i end = elim (at_place part.free r) [ None ↦ end | Some ends ↦ elim (slice_get ends i) [ None ↦ end | Some old ↦ max old.0 end ] ]
+
+-- that processor stalls up to a moment
+abbrev pub free_stalled : ToolPart → ℕ → ℕ → ℕ → ToolPart
+free_stalled part r i end = record part { free = change_at r (change_item i (λ old. moment end)) part.free }
+
+-- a moment that is there has come at t
+abbrev pub has_come : Option ℕ → ℕ → Bool
+has_come None t = false
+has_come (Some at) t = nat_le at t
+
+-- the sooner of the moments that are there
+abbrev pub sooner : Option ℕ → Option ℕ → Option ℕ
+sooner None b = b
+sooner (Some a) None = Some a
+sooner (Some a) (Some b) = Some (min a b)
+
+-- the moment, or the next after t where that is later
+abbrev pub later_than : ℕ → Option ℕ → Option Moment
+later_than t None = None
+later_than t (Some at) = Some (moment (max at (t + 1)))
+
+-- the moments of the next stall and of the next command, and the one at which the core of no pool may join its pool
+abbrev pub stall_at : Tool → Option ℕ
+stall_at tool = option_map (λ (line : StallLine). line.at.0) (slice_get tool.stalls tool.part.next_stall)
+
+abbrev pub command_at : Tool → Option ℕ
+command_at tool = (if is_none tool.part.under_way then option_map (λ (line : CommandLine). line.at.0) (slice_get tool.commands tool.part.next_command) else None)
+
+abbrev pub first_end : Option (List Moment) → Option ℕ
+first_end None = None
+first_end (Some []) = None
+first_end (Some (end ∷ ends)) = Some end.0
+
+abbrev pub joining_at : ToolPart → Option UnderWay → Option ℕ
+joining_at part None = None
+joining_at part (Some (core_to r None)) = None
+joining_at part (Some (core_to r (Some i))) = first_end (at_place part.free r)
+joining_at part (Some (domain_to d i)) = None
+
+-- the soonest of the three
+abbrev pub soonest : Tool → Option ℕ
+soonest tool = sooner (stall_at tool) (sooner (command_at tool) (joining_at tool.part tool.part.under_way))

@@ -1,0 +1,28 @@
+-- The states whose numbers are in range.
+use Rattle.std.specs.Prelude.{◌≤◌, List, [], ◌∷◌, Option, Some, None, length}
+use Rattle.sched_model.specs.declared.state.Domain.{Domain}
+use Rattle.sched_model.specs.declared.state.Pool.{Pool}
+use Rattle.sched_model.specs.declared.state.State.{State}
+
+-- whatever stands at a place has the property
+abbrev pub AllPlaces : {X : Type 0} → (X → Type 0) → List (Option X) → Type 0
+AllPlaces P [] = Unit {0}
+AllPlaces P (None ∷ places) = AllPlaces P places
+AllPlaces P (Some x ∷ places) = P x × AllPlaces P places
+
+-- a domain has at most 32 vCPUs
+abbrev pub DomainFits : Domain → Type 0
+DomainFits d = length d.vcpus ≤ 32
+
+-- a pool has places for at most 64 cores and 64 domains
+pub record PoolFits (pool : Pool) : Type 0 where
+  pub cores : length pool.resources ≤ 64
+  pub few_domains : length pool.domains ≤ 64
+  pub domains : AllPlaces DomainFits pool.domains
+
+-- there are places for at most 16 pools and 64 cores of none
+pub record StateFits (s : State) : Type 0 where
+  pub names : length s.names ≤ 16
+  pub few_pools : length s.pools ≤ 16
+  pub pools : AllPlaces PoolFits s.pools
+  pub free : length s.free ≤ 64

@@ -1,0 +1,10 @@
+pub mod Tool
+pub mod Facts
+pub mod Fitting
+pub mod Judging
+pub mod Named
+pub mod Opened
+pub mod OpenedTool
+pub mod Steps
+pub mod Advanced
+pub mod Dues

@@ -1,0 +1,61 @@
+-- What the tool knows: of the machine what commands are judged by, its workload, and the tool's part of the state.
+use Rattle.std.specs.Prelude.{◌≤◌, ℕ, List, length, map}
+use Rattle.sched_model.specs.declared.config.DomConfig.{DomConfig}
+use Rattle.sched_model.specs.declared.work.StallLine.{StallLine}
+use Rattle.sched_model.specs.declared.work.CommandLine.{CommandLine}
+use Rattle.sched_base.specs.declared.Moment.{Moment}
+use Rattle.sched_model.specs.declared.state.Domain.{Domain}
+use Rattle.sched_model.specs.declared.machine.Machine.{Machine}
+use Rattle.sched_model.specs.declared.state.FreeCore.{FreeCore}
+use Rattle.sched_model.specs.declared.state.State.{State}
+use Rattle.journal_core.specs.Parts.{ToolPart, UnderWay, core_to, domain_to, tool_of as part_of_tool}
+use Rattle.cpupool.specs.declared.outline.DomainEntry.{DomainEntry}
+use Rattle.cpupool.specs.declared.outline.Way.{Way}
+use Rattle.cpupool.specs.declared.outline.Way.TheVariants as way
+
+-- what the tool knows: the processors of a core, all processors, the domains' names and how many vCPUs they have, the workload,
+-- and the tool's part of the state
+pub record Tool : Type 0 where
+  pub granularity : ℕ
+  pub processors : ℕ
+  pub domains : List DomainEntry
+  pub stalls : List StallLine
+  pub commands : List CommandLine
+  pub part : ToolPart
+
+-- a domain's name and how many vCPUs it has
+abbrev pub entry_of : DomConfig → DomainEntry
+entry_of d = record { name = d.name; vcpus = length d.guests }
+
+-- what the tool knows of a machine that stands in this state
+abbrev pub tool_of : Machine → State → Tool
+tool_of m s =
+    record {
+      granularity = m.config.granularity;
+      processors = m.config.processors;
+      domains = map entry_of m.config.domains;
+      stalls = m.work.stalls;
+      commands = m.work.commands;
+      part = part_of_tool s;
+    }
+
+-- how many vCPUs a domain has; the ends of the stalls of a core's processors
+abbrev pub size_of : Domain → ℕ
+size_of d = length d.vcpus
+
+abbrev pub ends_of : FreeCore → List Moment
+ends_of c = c.stall_ends
+
+-- what is on its way
+abbrev pub way_of : Way → UnderWay
+way_of (way.Core r to) = core_to r to
+way_of (way.Domain d to) = domain_to d to
+
+-- a core has 1 to 4 processors, there are at most 64 of these and at most 64 domains, and at most 4096 stalls and commands
+pub record IsKnown (granularity processors domains stalls commands : ℕ) : Type 0 where
+  pub some_processor : 1 ≤ granularity
+  pub few_siblings : granularity ≤ 4
+  pub few_processors : processors ≤ 64
+  pub few_domains : domains ≤ 64
+  pub few_stalls : stalls ≤ 4096
+  pub few_commands : commands ≤ 4096

@@ -1,0 +1,167 @@
+//! Accepted commands, carried out on what the tool keeps.
+
+ghost use Rattle.std.specs.Prelude.{◌≡◌, ◌≤◌, ◌+◌, false, Some, None, length, replicate, slice_set};
+
+use crate::outline::{CoreFlags, DomainSizes, Outline, Outlines, PoolNames, Way};
+use crate::pools::{has_core, outline_at, size_in};
+use crate::tool::ToolState;
+use sched_base::Name;
+use sched_model::config::SchedKind;
+use sched_model::plan::Plan;
+use sched_model::short::Short;
+
+/// No core, where there are so many.
+#[tactic(auto, using(crate::proofs::NumberLemmas::replicate_one_more))]
+fn no_cores(cores: u8) -> CoreFlags
+    requires { cores ≤ 64 }
+    ensures { result ≡ replicate cores false }
+{
+    let mut flags = Short::new();
+    for i in 0..cores {
+        flags.push(false);
+    }
+    flags
+}
+
+/// No domain, where there are so many.
+#[tactic(auto, using(crate::proofs::NumberLemmas::replicate_one_more))]
+fn no_domains(domains: usize) -> DomainSizes
+    requires { domains ≤ 64 }
+    ensures { result ≡ replicate domains None }
+{
+    let mut sizes = Short::new();
+    for i in 0..domains {
+        sizes.push(None);
+    }
+    sizes
+}
+
+/// Puts a pool, or none, at the place i.
+#[tactic(auto, using(crate::proofs::PlaceLemmas::set_past))]
+fn put_pool(pools: &mut Outlines, i: u8, pool: Option<Outline>)
+    ensures { pools.new ≡ slice_set pools.old i pool }
+{
+    if let Some(place) = pools.get_mut(i as usize) {
+        *place = pool;
+    }
+}
+
+/// Puts a name, or none, at the place i.
+#[tactic(auto, using(crate::proofs::PlaceLemmas::set_past))]
+fn put_name(names: &mut PoolNames, i: u8, name: Option<Name>)
+    ensures { names.new ≡ slice_set names.old i name }
+{
+    if let Some(place) = names.get_mut(i as usize) {
+        *place = name;
+    }
+}
+
+impl ToolState {
+    ghost use Rattle.std.specs.Prelude.{◌≡◌, ◌<◌, None, Ok, ℕ, is_some, length};
+    ghost use Rattle.sched_model.specs.declared.machine.Machine.{Machine};
+    ghost use Rattle.sched_model.specs.declared.state.State.{State};
+    ghost use Rattle.sched_model.specs.declared.work.CommandLine.{CommandLine as Line};
+    ghost use Rattle.sched_model.specs.Machine.{verdict, after_command};
+    ghost use Rattle.sched_model.specs.Places.{at_place};
+    ghost use Rattle.cpupool.specs.Tool.{tool_of};
+    ghost use Rattle.cpupool.specs.Advanced.{empty_outline as empty_outline_spec, has_core_at as has_core_at_spec, has_domain_at as has_domain_at_spec, advanced, carried};
+
+    /// The next command is accepted with this plan: it is over, and what it does to the tool's part is done.
+    pub fn advance(&mut self, p: &Plan)
+        requires left { self.old.part.next_command < length self.old.commands }
+        requires idle { self.old.part.under_way ≡ None }
+        ensures { (m : Machine) → (s : State) → (t : ℕ) → (line : Line) → tool_of m s ≡ self.old → verdict m s line ≡ Ok p.now
+            → self.new ≡ tool_of m (after_command m t line s) }
+    {
+        self.carry_out(p);
+    }
+
+    /// The same, by what the tool keeps.
+    fn carry_out(&mut self, p: &Plan)
+        requires left { self.old.part.next_command < length self.old.commands }
+        requires idle { self.old.part.under_way ≡ None }
+        ensures { self.new ≡ advanced self.old p.now }
+    {
+        match p {
+            Plan::PoolCreate {
+                pool,
+                name,
+                kind,
+                ..
+            } => {
+                let outline = self.empty_outline(*kind);
+                put_name(&mut self.names, pool.0, Some(name.duplicate()));
+                put_pool(&mut self.pools, pool.0, Some(outline));
+            }
+            Plan::PoolDestroy { pool, .. } => {
+                put_name(&mut self.names, pool.0, None);
+                put_pool(&mut self.pools, pool.0, None);
+            }
+            Plan::PoolRename { pool, name, .. } => {
+                put_name(&mut self.names, pool.0, Some(name.duplicate()));
+            }
+            Plan::CpuAdd { pool, core, .. } => {
+                if self.has_free(core.0) {
+                    self.under_way = Some(Way::Core {
+                        r: core.0,
+                        to: Some(pool.0),
+                    });
+                }
+            }
+            Plan::CpuRemove { pool, core, .. } => {
+                if self.has_core_at(pool.0, core.0) {
+                    self.under_way = Some(Way::Core {
+                        r: core.0,
+                        to: None,
+                    });
+                }
+            }
+            Plan::Migrate { dom, from, to, .. } => {
+                if from.0 != to.0 && self.has_domain_at(from.0, dom.0) {
+                    self.under_way = Some(Way::Domain { d: dom.0, to: to.0 });
+                }
+            }
+            _ => {}
+        }
+        self.next_command += 1;
+    }
+
+    /// A pool without cores and domains.
+    fn empty_outline(&self, kind: SchedKind) -> Outline
+        ensures { result ≡ empty_outline_spec self.now kind }
+    {
+        Outline {
+            kind,
+            cores: no_cores(self.processors / self.granularity),
+            domains: no_domains(self.domains.len()),
+        }
+    }
+
+    /// Whether no pool has the core r.
+    fn has_free(&self, r: u8) -> bool
+        ensures { result ≡ is_some (at_place self.now.part.free r) }
+    {
+        let free = self.free.as_slice();
+        (r as usize) < free.len() && free[r as usize].is_some()
+    }
+
+    /// Whether the pool i has the core r.
+    fn has_core_at(&self, i: u8, r: u8) -> bool
+        ensures { result ≡ has_core_at_spec self.now.part i r }
+    {
+        match outline_at(self.pools.as_slice(), i as usize) {
+            None => false,
+            Some(pool) => has_core(pool, r as usize),
+        }
+    }
+
+    /// Whether the pool i has the domain d.
+    fn has_domain_at(&self, i: u8, d: u8) -> bool
+        ensures { result ≡ has_domain_at_spec self.now.part i d }
+    {
+        match outline_at(self.pools.as_slice(), i as usize) {
+            None => false,
+            Some(pool) => size_in(pool, d as usize).is_some(),
+        }
+    }
+}

@@ -1,0 +1,68 @@
+//! Commands, judged.
+
+use crate::tool::ToolState;
+use sched_model::command::Command;
+use sched_model::event::Refusal;
+use sched_model::facts::Facts;
+use sched_model::plan::Plan;
+
+impl ToolState {
+    ghost use Rattle.std.specs.Prelude.{◌≡◌};
+    ghost use Rattle.sched_model.specs.declared.machine.Machine.{Machine};
+    ghost use Rattle.sched_model.specs.declared.state.State.{State};
+    ghost use Rattle.sched_model.specs.Checked.{IsCheckedCommand};
+    ghost use Rattle.sched_model.specs.Commands.{judge as judge_spec};
+    ghost use Rattle.cpupool.specs.Tool.{tool_of};
+    ghost use Rattle.cpupool.specs.Facts.{facts_of, KeepsFacts};
+    ghost use Rattle.cpupool.specs.Judging.{seen_judge as seen_judge_spec};
+
+    /// What the command will do, or why it is refused: the first check that fails.
+    ///
+    /// The facts are those of the state for this command. They have a value for each unit of the domain that the command names.
+    #[tactic(auto, using(crate::proofs::JudgeLemmas::judge_seen))]
+    pub fn judge(&self, c: &Command, facts: &Facts) -> Result<Plan, Refusal>
+        requires { IsCheckedCommand c.now }
+        ensures { (m : Machine) → (s : State) → tool_of m s ≡ self.now → facts_of m s c.now ≡ facts.now → KeepsFacts m s c.now
+            → result ≡ judge_spec m s c.now }
+    {
+        self.seen_judge(c, facts)
+    }
+
+    /// The answer to the command.
+    fn seen_judge(&self, c: &Command, facts: &Facts) -> Result<Plan, Refusal>
+        requires { IsCheckedCommand c.now }
+        ensures { result ≡ seen_judge_spec self.now facts.now c.now }
+    {
+        let units = facts.units.as_slice();
+        match c {
+            Command::PoolList { pool } => self.judge_pool_list(pool),
+            Command::PoolCreate { name, sched } => self.judge_pool_create(name, *sched),
+            Command::PoolDestroy { pool } => self.judge_pool_destroy(pool),
+            Command::PoolRename { pool, name } => self.judge_pool_rename(pool, name),
+            Command::CpuAdd { pool, cpu } => self.judge_cpu_add(pool, *cpu),
+            Command::CpuRemove { pool, cpu } => self.judge_cpu_remove(pool, *cpu),
+            Command::Migrate { dom, pool } => self.judge_migrate(dom, pool),
+            Command::Credit2Dom { dom, weight, cap } => {
+                self.judge_credit2_dom(units, dom, *weight, *cap)
+            }
+            Command::Credit2Pool { pool, limit } => {
+                self.judge_credit2_pool(facts.rate, pool, *limit)
+            }
+            Command::RtdsDom {
+                dom,
+                vcpu,
+                period,
+                budget,
+                extra,
+            } => self.judge_rtds_dom(units, dom, *vcpu, *period, *budget, *extra),
+            Command::Pause { dom } => self.judge_pause(dom),
+            Command::Unpause { dom } => self.judge_unpause(dom),
+            Command::ArincSet {
+                pool,
+                major,
+                entries,
+            } => self.judge_arinc_set(pool, *major, entries),
+            Command::Pin { dom, vcpu, cpus } => self.judge_pin(dom, *vcpu, cpus),
+        }
+    }
+}

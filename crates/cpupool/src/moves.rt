@@ -1,0 +1,167 @@
+//! What is on its way, and the cores that no pool has.
+
+ghost use Rattle.std.specs.Prelude.{◌≡◌, option_map, slice_set};
+ghost use Rattle.sched_base.specs.Numbers.{pool as pool_number};
+ghost use Rattle.std.specs.Option.{option_copied};
+ghost use Rattle.sched_model.specs.Places.{at_place};
+ghost use Rattle.cpupool.specs.Steps.{first_end_up};
+
+use crate::outline::{FreeCores, Way};
+use crate::pools::{kind_of, outline_at};
+use crate::reading::same_ends;
+use crate::tool::ToolState;
+use sched_base::{DomId, Moment, PoolId, ResId};
+use sched_model::config::SchedKind;
+use sched_model::facts::{ResPart, StallEnds};
+
+/// What is on its way: a core to a pool, or to none; or a domain to a pool with this scheduler.
+#[derive(Clone, Copy, Debug, PartialEq, Eq)]
+pub enum Move {
+    Res {
+        r: ResId,
+        to: Option<PoolId>,
+    },
+    Dom {
+        d: DomId,
+        to: PoolId,
+        kind: SchedKind,
+    },
+}
+
+/// The ends of the stalls of the core r, where no pool has it.
+pub(crate) fn ends_at(free: &[Option<StallEnds>], r: usize) -> Option<&StallEnds>
+    ensures { option_copied result ≡ at_place free.now r }
+{
+    if r < free.len() {
+        free[r].as_ref()
+    } else {
+        None
+    }
+}
+
+/// Whether no pool has the core r, and its first processor is up at t.
+fn is_first_up(t: u64, free: &[Option<StallEnds>], r: usize) -> bool
+    ensures { result ≡ first_end_up t (at_place free.now r) }
+{
+    match ends_at(free, r) {
+        None => false,
+        Some(ends) => match ends.as_slice() {
+            [] => false,
+            [end, ..] => end.0 <= t,
+        },
+    }
+}
+
+/// The number of the pool, where there is one.
+fn target_of(to: Option<u8>) -> Option<PoolId>
+    ensures { result ≡ option_map pool_number to }
+{
+    match to {
+        None => None,
+        Some(i) => Some(PoolId(i)),
+    }
+}
+
+/// Puts the ends of stalls at the place of the core r, or nothing.
+#[tactic(auto, using(crate::proofs::PlaceLemmas::set_past))]
+pub(crate) fn put_ends(free: &mut FreeCores, r: usize, ends: Option<StallEnds>)
+    ensures { free.new ≡ slice_set free.old r ends }
+{
+    if let Some(place) = free.get_mut(r) {
+        *place = ends;
+    }
+}
+
+/// The stall of the processor at place i ends at a moment.
+#[tactic(auto, using(crate::proofs::PlaceLemmas::set_past))]
+pub(crate) fn put_end(ends: &mut StallEnds, i: usize, end: Moment)
+    ensures { ends.new ≡ slice_set ends.old i end }
+{
+    if let Some(place) = ends.get_mut(i) {
+        *place = end;
+    }
+}
+
+impl ToolState {
+    ghost use Rattle.std.specs.Prelude.{◌≡◌, ◌<◌, Some, None, IsSome, option_map, is_some, length};
+    ghost use Rattle.sched_model.specs.declared.machine.Machine.{Machine};
+    ghost use Rattle.sched_model.specs.declared.state.State.{State};
+    ghost use Rattle.sched_model.specs.Places.{at_place, put_at, clear_at};
+    ghost use Rattle.sched_model.specs.Machine.{is_move_under_way};
+    ghost use Rattle.cpupool.specs.Tool.{tool_of};
+    ghost use Rattle.cpupool.specs.Steps.{kind_at as kind_at_spec, move_of, joining_ready};
+
+    /// The scheduler of the pool i.
+    fn kind_at(&self, i: u8) -> SchedKind
+        ensures { result ≡ kind_at_spec self.now.part i }
+    {
+        match outline_at(self.pools.as_slice(), i as usize) {
+            None => SchedKind::Null,
+            Some(pool) => kind_of(pool),
+        }
+    }
+
+    /// What is on its way, or `None` exactly where nothing is.
+    pub fn moving(&self) -> Option<Move>
+        ensures way { result ≡ option_map (move_of self.now.part) self.now.part.under_way }
+        ensures none { (m : Machine) → (s : State) → tool_of m s ≡ self.now → is_some result ≡ is_move_under_way s }
+    {
+        self.way_under_way()
+    }
+
+    /// What is on its way, as the program tells it.
+    fn way_under_way(&self) -> Option<Move>
+        ensures { result ≡ option_map (move_of self.now.part) self.now.part.under_way }
+    {
+        match self.under_way {
+            None => None,
+            Some(Way::Core { r, to }) => Some(Move::Res {
+                r: ResId(r),
+                to: target_of(to),
+            }),
+            Some(Way::Domain { d, to }) => Some(Move::Dom {
+                d: DomId(d),
+                to: PoolId(to),
+                kind: self.kind_at(to),
+            }),
+        }
+    }
+
+    /// Whether a core of no pool is to join one, and its first processor is up at t.
+    pub fn free_ready(&self, t: Moment) -> bool
+        ensures { result ≡ joining_ready self.now.part t.0 self.now.part.under_way }
+    {
+        match self.under_way {
+            Some(Way::Core { r, to: Some(_) }) => {
+                is_first_up(t.0, self.free.as_slice(), r as usize)
+            }
+            _ => false,
+        }
+    }
+
+    /// A core that no pool had is given; the core is one of the machine, and none is there with its number.
+    pub fn give_free(&mut self, r: ResPart)
+        requires core { r.r.0 < length self.old.part.free }
+        requires new { at_place self.old.part.free r.r.0 ≡ None }
+        ensures { self.new ≡ record self.old { part = record self.old.part { free = put_at r.r.0 r.stall_ends self.old.part.free } } }
+    {
+        let ResPart { r, stall_ends } = r;
+        put_ends(&mut self.free, r.0 as usize, Some(stall_ends));
+    }
+
+    /// Takes a core that no pool has.
+    pub fn take_free(&mut self, r: ResId) -> ResPart
+        requires { IsSome (at_place self.old.part.free r.0) }
+        ensures core { result.r ≡ r }
+        ensures ends { at_place self.old.part.free r.0 ≡ Some result.stall_ends }
+        ensures rest { self.new ≡ record self.old { part = record self.old.part { free = clear_at r.0 self.old.part.free } } }
+    {
+        let place = r.0 as usize;
+        let stall_ends = match ends_at(self.free.as_slice(), place) {
+            None => unreachable!(),
+            Some(ends) => same_ends(ends),
+        };
+        put_ends(&mut self.free, place, None);
+        ResPart { r, stall_ends }
+    }
+}

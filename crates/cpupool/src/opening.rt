@@ -1,0 +1,231 @@
+//! What the tool keeps at the opening.
+
+ghost use Rattle.std.specs.Prelude.{◌≡◌, ◌+◌, ◌-◌, ◌/◌, ◌≤◌, ◌<◌, ◌++◌, ◌==◌, Some, None, map, length, replicate, option_map, IfOk};
+ghost use Rattle.std.specs.List.{All, list_any};
+ghost use Rattle.sched_base.specs.Numbers.{moment};
+ghost use Rattle.sched_model.specs.declared.config.DomConfig.{DomConfig as DomainRecord};
+ghost use Rattle.sched_model.specs.declared.config.PoolConfig.{PoolConfig as PoolRecord};
+ghost use Rattle.sched_model.specs.Checked.{IsCheckedDomain};
+ghost use Rattle.sched_model.specs.Places.{numbers_from};
+ghost use Rattle.sched_model.specs.State.{has_core as has_core_spec};
+ghost use Rattle.cpupool.specs.Tool.{entry_of as entry_of_spec};
+ghost use Rattle.cpupool.specs.Opened.{kind_of_params, size_at_home, opened_outline as opened_outline_spec, opened_outlines as opened_outlines_spec, opened_free as opened_free_spec, HasFewGuests};
+
+use crate::outline::{
+    CoreFlags, DomainEntry, DomainSizes, FreeCores, Outline, Outlines, PoolNames,
+};
+use sched_base::{Moment, NoMemory};
+use sched_model::config::{DomConfig, PoolConfig, PoolParams, SchedKind};
+use sched_model::facts::StallEnds;
+use sched_model::row::Row;
+use sched_model::short::Short;
+use std::alloc::Global;
+
+/// Which scheduler the parameters are of.
+fn kind_of_params(params: &PoolParams) -> SchedKind
+    ensures { result ≡ kind_of_params params.now }
+{
+    match params {
+        PoolParams::Credit2 { .. } => SchedKind::Credit2,
+        PoolParams::Rtds => SchedKind::Rtds,
+        PoolParams::Arinc653 { .. } => SchedKind::Arinc653,
+        PoolParams::Null => SchedKind::Null,
+    }
+}
+
+/// The names and sizes of the domains.
+#[tactic(auto, using(std::proofs::lemmas::List::map_more))]
+pub(crate) fn opened_entries(
+    alloc: Global,
+    domains: &[DomConfig],
+) -> Result<Row<DomainEntry>, NoMemory>
+    requires { All HasFewGuests domains.now }
+    ensures { IfOk result (λ all. all ≡ map entry_of_spec domains.now) }
+{
+    let mut all = Vec::new(alloc);
+    for d in domains {
+        all.push(DomainEntry {
+            name: d.name.duplicate(),
+            vcpus: d.guests.len() as u8,
+        })?;
+    }
+    Ok(Row::from_vec(all))
+}
+
+/// How many vCPUs each domain has whose home is the pool i.
+#[tactic(auto, using(std::proofs::lemmas::List::map_more))]
+fn sizes_at_home(i: u8, domains: &[DomConfig]) -> DomainSizes
+    requires few { length domains.now ≤ 64 }
+    requires guests { All HasFewGuests domains.now }
+    ensures { result ≡ map (size_at_home i) domains.now }
+{
+    let mut sizes = Short::new();
+    for d in domains {
+        sizes.push(if d.home.0 == i {
+            Some(d.guests.len() as u8)
+        } else {
+            None
+        });
+    }
+    sizes
+}
+
+/// Whether the set has the core.
+fn has_core(set: u64, r: u8) -> bool
+    requires { r < 64 }
+    ensures { result ≡ has_core_spec set r }
+{
+    (set >> r) % 2 == 1
+}
+
+/// Which of the first cores, so many, are in the set.
+#[tactic(auto, using(crate::proofs::NumberLemmas::map_numbers_more, crate::proofs::NumberLemmas::length_numbers))]
+fn flags_of(set: u64, cores: u8) -> CoreFlags
+    requires { cores ≤ 64 }
+    ensures { result ≡ map (has_core_spec set) (numbers_from 0 cores) }
+{
+    let mut flags = Short::new();
+    for r in 0..cores {
+        flags.push(has_core(set, r));
+    }
+    flags
+}
+
+/// The pool i as the tool knows it, on a machine of so many cores.
+fn opened_outline(i: u8, cores: u8, domains: &[DomConfig], pool: &PoolConfig) -> Outline
+    requires cores { cores ≤ 64 }
+    requires few { length domains.now ≤ 64 }
+    requires guests { All HasFewGuests domains.now }
+    ensures { result ≡ opened_outline_spec cores domains.now i pool.now }
+{
+    Outline {
+        kind: kind_of_params(&pool.params),
+        cores: flags_of(pool.cores, cores),
+        domains: sizes_at_home(i, domains),
+    }
+}
+
+/// The pools as the tool knows them, of which the first has the number i, behind those that stand already.
+fn add_outlines(
+    outlines: Outlines,
+    i: u8,
+    cores: u8,
+    domains: &[DomConfig],
+    pools: &[PoolConfig],
+) -> Outlines
+    requires room { length outlines + length pools.now ≤ 16 }
+    requires number { i + length pools.now ≤ 16 }
+    requires cores { cores ≤ 64 }
+    requires few { length domains.now ≤ 64 }
+    requires guests { All HasFewGuests domains.now }
+    ensures { result ≡ outlines ++ opened_outlines_spec cores domains.now i pools.now }
+{
+    match pools {
+        [] => outlines,
+        [pool, rest @ ..] => {
+            let mut more = outlines;
+            more.push(Some(opened_outline(i, cores, domains, pool)));
+            add_outlines(more, i + 1, cores, domains, rest)
+        }
+    }
+}
+
+/// So many places more, without anything.
+#[tactic(auto, using(crate::proofs::NumberLemmas::replicate_one_more, std::proofs::Common::append_assoc))]
+fn with_spare_pools(outlines: Outlines, spare: usize) -> Outlines
+    requires { length outlines + spare ≤ 16 }
+    ensures { result ≡ outlines ++ replicate spare None }
+{
+    let mut all = outlines;
+    for i in 0..spare {
+        all.push(None);
+    }
+    all
+}
+
+/// The pools as the tool knows them, on a machine of so many cores.
+#[tactic(auto, using(crate::proofs::OutlineLemmas::length_outlines))]
+pub(crate) fn opened_outlines(cores: u8, domains: &[DomConfig], pools: &[PoolConfig]) -> Outlines
+    requires pools { length pools.now ≤ 16 }
+    requires cores { cores ≤ 64 }
+    requires few { length domains.now ≤ 64 }
+    requires guests { All HasFewGuests domains.now }
+    ensures { result ≡ opened_outlines_spec cores domains.now 0 pools.now ++ replicate (16 - length pools.now) None }
+{
+    let outlines = add_outlines(Short::new(), 0, cores, domains, pools);
+    with_spare_pools(outlines, 16 - pools.len())
+}
+
+/// The names of the pools.
+#[tactic(auto, using(std::proofs::lemmas::List::map_more))]
+fn names_of(pools: &[PoolConfig]) -> PoolNames
+    requires { length pools.now ≤ 16 }
+    ensures { result ≡ map (λ (pool : PoolRecord). Some pool.name) pools.now }
+{
+    let mut names = Short::new();
+    for pool in pools {
+        names.push(Some(pool.name.duplicate()));
+    }
+    names
+}
+
+/// The names of the pools, and a place for each pool there may be besides.
+#[tactic(auto, using(crate::proofs::NumberLemmas::replicate_one_more, std::proofs::Common::append_assoc))]
+pub(crate) fn opened_names(pools: &[PoolConfig]) -> PoolNames
+    requires { length pools.now ≤ 16 }
+    ensures { result ≡ map (λ (pool : PoolRecord). Some pool.name) pools.now ++ replicate (16 - length pools.now) None }
+{
+    let mut names = names_of(pools);
+    for i in 0..16 - pools.len() {
+        names.push(None);
+    }
+    names
+}
+
+/// Processors that do not stall, so many.
+#[tactic(auto, using(crate::proofs::NumberLemmas::replicate_one_more))]
+fn no_stalls(processors: u8) -> StallEnds
+    requires { processors ≤ 4 }
+    ensures { result ≡ replicate processors (moment 0) }
+{
+    let mut ends = Short::new();
+    for i in 0..processors {
+        ends.push(Moment(0));
+    }
+    ends
+}
+
+/// Whether one of the pools has the core.
+fn is_taken(pools: &[PoolConfig], r: u8) -> bool
+    requires { r < 64 }
+    ensures { result ≡ list_any (λ (pool : PoolRecord). has_core_spec pool.cores r) pools.now }
+{
+    pools.iter().any(|pool| has_core(pool.cores, r))
+}
+
+/// The core r of so many processors, where no pool has it.
+fn free_core(processors: u8, pools: &[PoolConfig], r: u8) -> Option<StallEnds>
+    requires core { r < 64 }
+    requires processors { processors ≤ 4 }
+    ensures { result ≡ opened_free_spec processors pools.now r }
+{
+    if is_taken(pools, r) {
+        None
+    } else {
+        Some(no_stalls(processors))
+    }
+}
+
+/// The cores that no pool has, of so many cores of so many processors each.
+#[tactic(auto, using(crate::proofs::NumberLemmas::map_numbers_more, crate::proofs::NumberLemmas::length_numbers))]
+pub(crate) fn opened_free(processors: u8, cores: u8, pools: &[PoolConfig]) -> FreeCores
+    requires cores { cores ≤ 64 }
+    requires processors { processors ≤ 4 }
+    ensures { result ≡ map (opened_free_spec processors pools.now) (numbers_from 0 cores) }
+{
+    let mut free = Short::new();
+    for r in 0..cores {
+        free.push(free_core(processors, pools, r));
+    }
+    free
+}

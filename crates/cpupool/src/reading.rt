@@ -1,0 +1,236 @@
+//! What the tool keeps, read from the whole state.
+
+ghost use Rattle.std.specs.Prelude.{◌≡◌, ℕ, ◌+◌, ◌≤◌, ◌<◌, ◌^◌, Some, None, is_some, option_map, length, map};
+ghost use Rattle.std.specs.Option.{ForSome};
+ghost use Rattle.sched_model.specs.Policy.{kind_of as kind_of_spec};
+ghost use Rattle.journal_core.specs.Parts.{outline_of as outline_of_spec, first_answer, core_leaving as core_leaving_spec, domain_moving as domain_moving_spec, core_joining as core_joining_spec, leaving_pool as leaving_pool_spec, under_way_of as under_way_of_spec};
+ghost use Rattle.cpupool.specs.Tool.{way_of, size_of as size_of_spec, ends_of as ends_of_spec};
+ghost use Rattle.cpupool.specs.Fitting.{AllPlaces, DomainFits, PoolFits, StateFits};
+
+use crate::outline::{CoreFlags, DomainSizes, FreeCores, Outline, Outlines, PoolNames, Way};
+use sched_base::Name;
+use sched_model::config::SchedKind;
+use sched_model::facts::StallEnds;
+use sched_model::short::Short;
+use sched_model::state::{Domain, FreeCore, Pool, Records, Resource, State};
+
+/// Which scheduler it is.
+fn kind_of(records: &Records) -> SchedKind
+    ensures { result ≡ kind_of_spec records.now }
+{
+    match records {
+        Records::Credit2Pool(_) => SchedKind::Credit2,
+        Records::RtdsPool(_) => SchedKind::Rtds,
+        Records::ArincPool(_) => SchedKind::Arinc653,
+        Records::NullPool(_) => SchedKind::Null,
+    }
+}
+
+/// Which cores there are.
+#[tactic(auto, using(std::proofs::lemmas::List::map_more))]
+fn read_cores(cores: &[Option<Resource>]) -> CoreFlags
+    requires { length cores.now ≤ 64 }
+    ensures { result ≡ map is_some cores.now }
+{
+    let mut flags = Short::new();
+    for core in cores {
+        flags.push(core.is_some());
+    }
+    flags
+}
+
+/// How many vCPUs the domain has, where there is one.
+fn size_of(domain: &Option<Domain>) -> Option<u8>
+    requires { ForSome domain.now DomainFits }
+    ensures { result ≡ option_map size_of_spec domain.now }
+{
+    match domain {
+        None => None,
+        Some(d) => Some(d.vcpus.len() as u8),
+    }
+}
+
+/// How many vCPUs each domain has.
+#[tactic(auto, using(std::proofs::lemmas::List::map_more, crate::proofs::AllPlacesLemmas::place_fits))]
+fn read_domains(domains: &[Option<Domain>]) -> DomainSizes
+    requires few { length domains.now ≤ 64 }
+    requires fits { AllPlaces DomainFits domains.now }
+    ensures { result ≡ map (option_map size_of_spec) domains.now }
+{
+    let mut sizes = Short::new();
+    for domain in domains {
+        sizes.push(size_of(domain));
+    }
+    sizes
+}
+
+/// The pool as the tool knows it.
+fn read_pool(pool: &Option<Pool>) -> Option<Outline>
+    requires { ForSome pool.now PoolFits }
+    ensures { result ≡ option_map outline_of_spec pool.now }
+{
+    match pool {
+        None => None,
+        Some(pool) => Some(Outline {
+            kind: kind_of(&pool.scheduler.records),
+            cores: read_cores(pool.resources.as_slice()),
+            domains: read_domains(pool.domains.as_slice()),
+        }),
+    }
+}
+
+/// The pools as the tool knows them.
+#[tactic(auto, using(std::proofs::lemmas::List::map_more, crate::proofs::AllPlacesLemmas::place_fits))]
+pub(crate) fn read_pools(pools: &[Option<Pool>]) -> Outlines
+    requires few { length pools.now ≤ 16 }
+    requires fits { AllPlaces PoolFits pools.now }
+    ensures { result ≡ map (option_map outline_of_spec) pools.now }
+{
+    let mut outlines = Short::new();
+    for pool in pools {
+        outlines.push(read_pool(pool));
+    }
+    outlines
+}
+
+/// The name once more.
+fn read_name(name: &Option<Name>) -> Option<Name>
+    ensures { result ≡ name.now }
+{
+    match name {
+        None => None,
+        Some(name) => Some(name.duplicate()),
+    }
+}
+
+/// The names once more.
+pub(crate) fn read_names(names: &[Option<Name>]) -> PoolNames
+    requires { length names.now ≤ 16 }
+    ensures { result ≡ names.now }
+{
+    let mut all = Short::new();
+    for name in names {
+        all.push(read_name(name));
+    }
+    all
+}
+
+/// The ends of stalls once more.
+pub(crate) fn same_ends(ends: &StallEnds) -> StallEnds
+    ensures { result ≡ ends.now }
+{
+    let mut all = Short::new();
+    for end in ends.as_slice() {
+        all.push(*end);
+    }
+    all
+}
+
+/// The ends of the stalls of the core's processors, where there is such a core.
+fn read_free_core(core: &Option<FreeCore>) -> Option<StallEnds>
+    ensures { result ≡ option_map ends_of_spec core.now }
+{
+    match core {
+        None => None,
+        Some(core) => Some(same_ends(&core.stall_ends)),
+    }
+}
+
+/// The ends of the stalls of each core that no pool has.
+#[tactic(auto, using(std::proofs::lemmas::List::map_more))]
+pub(crate) fn read_free(free: &[Option<FreeCore>]) -> FreeCores
+    requires { length free.now ≤ 64 }
+    ensures { result ≡ map (option_map ends_of_spec) free.now }
+{
+    let mut all = Short::new();
+    for core in free {
+        all.push(read_free_core(core));
+    }
+    all
+}
+
+/// The first of the cores that is leaving, where the first of these has the number r.
+fn core_leaving(r: u8, cores: &[Option<Resource>]) -> Option<Way>
+    requires { r + length cores.now ≤ 64 }
+    ensures { option_map way_of result ≡ first_answer core_leaving_spec r cores.now }
+{
+    match cores {
+        [] => None,
+        [None, rest @ ..] => core_leaving(r + 1, rest),
+        [Some(c), rest @ ..] => {
+            if c.leaving {
+                Some(Way::Core { r, to: None })
+            } else {
+                core_leaving(r + 1, rest)
+            }
+        }
+    }
+}
+
+/// The first of the domains that is moving, where the first of these has the number d.
+fn domain_moving(d: u8, domains: &[Option<Domain>]) -> Option<Way>
+    requires { d + length domains.now ≤ 64 }
+    ensures { option_map way_of result ≡ first_answer domain_moving_spec d domains.now }
+{
+    match domains {
+        [] => None,
+        [None, rest @ ..] => domain_moving(d + 1, rest),
+        [Some(domain), rest @ ..] => match domain.moving {
+            Some(to) => Some(Way::Domain { d, to: to.0 }),
+            None => domain_moving(d + 1, rest),
+        },
+    }
+}
+
+/// What is on its way from the pool i.
+fn leaving_pool(i: u8, pool: &Pool) -> Option<Way>
+    requires { PoolFits pool.now }
+    ensures { option_map way_of result ≡ leaving_pool_spec i pool.now }
+{
+    match core_leaving(0, pool.resources.as_slice()) {
+        Some(way) => Some(way),
+        None => domain_moving(0, pool.domains.as_slice()),
+    }
+}
+
+/// What is on its way from one of the pools, where the first of these has the number i.
+fn leaving_pools(i: u8, pools: &[Option<Pool>]) -> Option<Way>
+    requires few { i + length pools.now ≤ 16 }
+    requires fits { AllPlaces PoolFits pools.now }
+    ensures { option_map way_of result ≡ first_answer leaving_pool_spec i pools.now }
+{
+    match pools {
+        [] => None,
+        [None, rest @ ..] => leaving_pools(i + 1, rest),
+        [Some(pool), rest @ ..] => match leaving_pool(i, pool) {
+            Some(way) => Some(way),
+            None => leaving_pools(i + 1, rest),
+        },
+    }
+}
+
+/// The first of the cores that is to join a pool, where the first of these has the number r.
+fn core_joining(r: u8, free: &[Option<FreeCore>]) -> Option<Way>
+    requires { r + length free.now ≤ 64 }
+    ensures { option_map way_of result ≡ first_answer core_joining_spec r free.now }
+{
+    match free {
+        [] => None,
+        [None, rest @ ..] => core_joining(r + 1, rest),
+        [Some(core), rest @ ..] => match core.target {
+            Some(to) => Some(Way::Core { r, to: Some(to) }),
+            None => core_joining(r + 1, rest),
+        },
+    }
+}
+
+/// What is on its way.
+pub(crate) fn under_way_of(state: &State) -> Option<Way>
+    requires { StateFits state.now }
+    ensures { option_map way_of result ≡ under_way_of_spec state.entry.now }
+{
+    match leaving_pools(0, state.pools.as_slice()) {
+        Some(way) => Some(way),
+        None => core_joining(0, state.free.as_slice()),
+    }
+}

@@ -1,0 +1,226 @@
+//! What the tool keeps: the tool's part of the machine's state, and what it judges commands by.
+
+use crate::copies::{same_commands, same_stalls};
+use crate::opening::{opened_entries, opened_free, opened_names, opened_outlines};
+use crate::outline::{DomainEntry, FreeCores, Outlines, PoolNames, Way};
+use crate::pools::{domain_home, domain_named, outline_at, place_named};
+use crate::reading::{read_free, read_names, read_pools, under_way_of};
+use sched_base::{DomId, NoMemory, PoolId};
+use sched_model::command::{Command, Which};
+use sched_model::config::Config;
+use sched_model::facts::Subject;
+use sched_model::row::Row;
+use sched_model::state::State;
+use sched_model::work::{Commands, Stalls, Work};
+use std::alloc::Global;
+use std::marker::Model;
+
+/// What the tool keeps. Contracts see the tool's part of the machine's state, what the tool knows of the machine, and its workload.
+#[derive(Drop)]
+pub struct ToolState {
+    pub(crate) granularity: u8,
+    pub(crate) processors: u8,
+    pub(crate) domains: Row<DomainEntry>,
+    pub(crate) stalls: Stalls,
+    pub(crate) commands: Commands,
+    pub(crate) names: PoolNames,
+    pub(crate) pools: Outlines,
+    pub(crate) free: FreeCores,
+    pub(crate) under_way: Option<Way>,
+    pub(crate) next_stall: u32,
+    pub(crate) next_command: u32,
+}
+
+impl Model for ToolState {
+    ghost use Rattle.std.specs.Prelude.{option_map, length};
+    ghost use Rattle.cpupool.specs.Tool.{Tool, way_of, IsKnown};
+
+    ghost Value = { Tool };
+
+    ghost view = { λ t. record {
+      granularity = t.granularity;
+      processors = t.processors;
+      domains = t.domains;
+      stalls = t.stalls;
+      commands = t.commands;
+      part = record {
+        names = t.names;
+        pools = t.pools;
+        free = t.free;
+        under_way = option_map way_of t.under_way;
+        next_stall = t.next_stall;
+        next_command = t.next_command;
+      };
+    } };
+
+    ghost invariant = { λ t. IsKnown t.granularity t.processors (length t.domains) (length t.stalls) (length t.commands) };
+}
+
+impl ToolState {
+    ghost use Rattle.std.specs.Prelude.{◌≡◌, IfOk};
+    ghost use Rattle.sched_model.specs.declared.machine.Machine.{Machine};
+    ghost use Rattle.sched_model.specs.declared.state.State.{State as StateRecord};
+    ghost use Rattle.journal_core.specs.Parts.{tool_of as part_of_tool};
+    ghost use Rattle.cpupool.specs.Tool.{tool_of};
+    ghost use Rattle.cpupool.specs.Facts.{subject_of};
+    ghost use Rattle.cpupool.specs.Fitting.{StateFits};
+    ghost use Rattle.cpupool.specs.OpenedTool.{opened_tool};
+    ghost use Rattle.sched_model.specs.Checked.{IsChecked, IsCheckedConfig, IsCheckedWork};
+    ghost use Rattle.sched_model.specs.Opening.{opening};
+    ghost use Rattle.cpupool.specs.Judging.{seen_pool, seen_domain, seen_subject, seen_pool_subject, seen_domain_subject, home_of_domain as home_of_domain_spec};
+
+    /// What the tool keeps of the machine at its opening. All memory is taken here.
+    pub fn open(alloc: Global, config: &Config, work: &Work) -> Result<ToolState, NoMemory>
+        requires { IsChecked (record { config = config.now; work = work.now }) }
+        ensures { let m : Machine = record { config = config.now; work = work.now } in IfOk result (λ t. t ≡ tool_of m (opening m)) }
+    {
+        ToolState::opened(alloc, config, work)
+    }
+
+    /// The same, put together.
+    fn opened(alloc: Global, config: &Config, work: &Work) -> Result<ToolState, NoMemory>
+        requires config { IsCheckedConfig config.now }
+        requires work { IsCheckedWork config.now work.now }
+        ensures { IfOk result (λ t. t ≡ opened_tool config.now work.now) }
+    {
+        let pools = config.pools.as_slice();
+        let domains = config.domains.as_slice();
+        let cores = config.processors / config.granularity;
+        Ok(ToolState {
+            granularity: config.granularity,
+            processors: config.processors,
+            domains: opened_entries(alloc, domains)?,
+            stalls: same_stalls(alloc, &work.stalls)?,
+            commands: same_commands(alloc, &work.commands)?,
+            names: opened_names(pools),
+            pools: opened_outlines(cores, domains, pools),
+            free: opened_free(config.granularity, cores, pools),
+            under_way: None,
+            next_stall: 0,
+            next_command: 0,
+        })
+    }
+
+    /// Makes the tool's part that of the state. It takes no memory.
+    pub fn read(&mut self, state: &State)
+        requires { StateFits state.now }
+        ensures { self.new ≡ record self.old { part = part_of_tool state.entry.now } }
+    {
+        self.names = read_names(state.names.as_slice());
+        self.pools = read_pools(state.pools.as_slice());
+        self.free = read_free(state.free.as_slice());
+        self.under_way = under_way_of(state);
+        self.next_stall = state.next_stall;
+        self.next_command = state.next_command;
+    }
+
+    /// The pool that a command names.
+    pub(crate) fn pool_of(&self, which: &Which) -> Option<u8>
+        ensures pool { result ≡ seen_pool self.now which.now }
+    {
+        match which {
+            Which::Name(name) => place_named(0, self.names.as_slice(), name),
+            Which::Number(i) => {
+                let i = *i as usize;
+                let pools = self.pools.as_slice();
+                if i < pools.len() && pools[i].is_some() {
+                    Some(i as u8)
+                } else {
+                    None
+                }
+            }
+        }
+    }
+
+    /// The domain that a command names.
+    pub(crate) fn domain_of(&self, which: &Which) -> Option<u8>
+        ensures domain { result ≡ seen_domain self.now which.now }
+    {
+        match which {
+            Which::Name(name) => domain_named(0, self.domains.as_slice(), name),
+            Which::Number(d) => {
+                let d = *d;
+                if d < self.domains.len() as u64 {
+                    Some(d as u8)
+                } else {
+                    None
+                }
+            }
+        }
+    }
+
+    /// The pool that has the domain.
+    pub(crate) fn home_of_domain(&self, d: u8) -> Option<u8>
+        ensures { result ≡ home_of_domain_spec self.now.part d }
+    {
+        domain_home(0, self.pools.as_slice(), d as usize)
+    }
+
+    /// The pool alone as the subject of a command.
+    fn pool_subject(&self, which: &Which) -> Subject
+        ensures { result ≡ seen_pool_subject self.now which.now }
+    {
+        match self.pool_of(which) {
+            None => Subject {
+                pool: None,
+                dom: None,
+            },
+            Some(i) => Subject {
+                pool: Some(PoolId(i)),
+                dom: None,
+            },
+        }
+    }
+
+    /// The domain and its home as the subject of a command, or else this subject.
+    fn domain_subject(&self, which: &Which, otherwise: Subject) -> Subject
+        ensures { result ≡ seen_domain_subject self.now which.now otherwise }
+    {
+        match self.domain_of(which) {
+            None => otherwise,
+            Some(d) => Subject {
+                pool: match self.home_of_domain(d) {
+                    None => None,
+                    Some(i) => Some(PoolId(i)),
+                },
+                dom: Some(DomId(d)),
+            },
+        }
+    }
+
+    /// The domain that the command names, and its home; where it names no domain that is there, the pool that it names.
+    /// A domain in the entries of a frame does not count as named.
+    #[tactic(auto, using(crate::proofs::SubjectLemmas::subject_seen))]
+    pub fn subject(&self, c: &Command) -> Subject
+        ensures { (m : Machine) → (s : StateRecord) → tool_of m s ≡ self.now → result ≡ subject_of m s c.now }
+    {
+        self.seen_subject(c)
+    }
+
+    /// The subject of the command.
+    fn seen_subject(&self, c: &Command) -> Subject
+        ensures { result ≡ seen_subject self.now c.now }
+    {
+        let none = Subject {
+            pool: None,
+            dom: None,
+        };
+        match c {
+            Command::PoolList { pool: None } => none,
+            Command::PoolList { pool: Some(pool) } => self.pool_subject(pool),
+            Command::PoolCreate { .. } => none,
+            Command::PoolDestroy { pool } => self.pool_subject(pool),
+            Command::PoolRename { pool, .. } => self.pool_subject(pool),
+            Command::CpuAdd { pool, .. } => self.pool_subject(pool),
+            Command::CpuRemove { pool, .. } => self.pool_subject(pool),
+            Command::Migrate { dom, pool } => self.domain_subject(dom, self.pool_subject(pool)),
+            Command::Credit2Dom { dom, .. } => self.domain_subject(dom, none),
+            Command::Credit2Pool { pool, .. } => self.pool_subject(pool),
+            Command::RtdsDom { dom, .. } => self.domain_subject(dom, none),
+            Command::Pause { dom } => self.domain_subject(dom, none),
+            Command::Unpause { dom } => self.domain_subject(dom, none),
+            Command::ArincSet { pool, .. } => self.pool_subject(pool),
+            Command::Pin { dom, .. } => self.domain_subject(dom, none),
+        }
+    }
+}
