@@ -21,13 +21,13 @@ pub struct Credit {
 ///
 /// The charge is the span times the greatest weight of the pool, and the residual: the credit falls by the whole times
 /// that the unit's weight goes into it, and what is left over is the new residual. So no part of a charge is lost.
-/// The span is at most 10^13 nanoseconds, a weight at most 65535, and the credit at least -10^18.
+/// The span is at most 10^13 nanoseconds, a weight at most 65535, and the credit at least -4 * 10^18.
 pub fn burn(c: Credit, weight: u32, max_weight: u32, elapsed: Span) -> Credit
     requires some_weight { 1 ≤ weight }
     requires no_more { weight ≤ max_weight }
     requires most { max_weight ≤ 65535 }
     requires short { elapsed.0 ≤ 10000000000000 }
-    requires low { negsuc 999999999999999999 ≤ℤ c.credit }
+    requires low { negsuc 3999999999999999999 ≤ℤ c.credit }
 
     ensures credit { result.credit ≡ burned_credit c.credit c.residual weight max_weight elapsed.0 }
     ensures residual { result.residual ≡ burned_residual c.residual weight max_weight elapsed.0 }

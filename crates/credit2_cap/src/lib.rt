@@ -30,26 +30,24 @@ pub fn quota(total: i64, units: u32) -> i64
     (total / units as i64).max(LEAST_QUOTA)
 }
 
-/// What a chosen unit takes of its domain's budget, which is above 0: its quota, or what is left where that is less.
+/// What a chosen unit takes of its domain's budget: its quota, or what is left where that is less.
 pub fn take(budget: i64, quota: i64) -> i64
-    requires { pos 0 <ℤ budget }
     ensures exact { pos 0 ≤ℤ quota → result ≡ numbers.take budget (numbers.above_zero quota) }
     ensures least { result ≡ int_min quota budget }
     ensures no_more { result ≤ℤ budget }
-    ensures some { pos 0 <ℤ quota → pos 0 <ℤ result }
+    ensures some { pos 0 <ℤ budget → pos 0 <ℤ quota → pos 0 <ℤ result }
 {
     quota.min(budget)
 }
 
-/// A domain's budget after n whole spans, of which 1 to 10^6 have come since the last refill.
+/// A domain's budget after n whole spans, of which at most 10^9 have come since the last refill.
 ///
-/// It grows by the total for each of them. What the running units still hold of earlier budgets, from 0 to the total,
+/// It grows by the total for each of them. What the running units still hold of earlier budgets
 /// counts against the total: the budget and what they hold are never more than that.
 pub fn refill(budget: i64, held: i64, total: i64, n: u64) -> i64
-    requires some { 1 ≤ n }
-    requires few { n ≤ 1000000 }
+    requires few { n ≤ 1000000000 }
     requires held { pos 0 ≤ℤ held }
-    requires within { held ≤ℤ total }
+    requires total { pos 0 ≤ℤ total }
     ensures exact { result ≡ numbers.refill budget (numbers.above_zero held) (numbers.above_zero total) n }
     ensures room { result ≤ℤ (total -ℤ held) }
     ensures grows { budget ≤ℤ (total -ℤ held) → budget ≤ℤ result }
@@ -60,7 +58,7 @@ pub fn refill(budget: i64, held: i64, total: i64, n: u64) -> i64
 
 /// The budget and n times the total, which is not below 0.
 fn grown(budget: i64, total: i64, n: u64) -> i128
-    requires few { n ≤ 1000000 }
+    requires few { n ≤ 1000000000 }
     requires some { pos 0 ≤ℤ total }
     ensures { result ≡ budget +ℤ pos (n * numbers.above_zero total) }
 {

@@ -17,6 +17,7 @@ const MOST_CREDIT: i64 = 10_500_000;
 pub fn resets(credit: i64) -> u64
     ensures exact { result ≡ numbers.resets credit }
     ensures some { 1 ≤ result }
+    ensures few { result ≤ 1000000000000 }
     ensures enough { pos 0 <ℤ numbers.raise credit result }
 {
     1 + below_zero(credit) / START_CREDIT
