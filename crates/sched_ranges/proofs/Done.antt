@@ -24,7 +24,7 @@ use Rattle.sched_laws.proofs.Lists.{AllByRecursion-map}
 use Rattle.sched_laws.proofs.Opened.{each_get}
 use Rattle.sched_laws.proofs.SiblingsLaw.{some_processor}
 use Rattle.sched_laws.proofs.Reached as reached
-use Rattle.sched_ranges.specs.Ranges.{IsNear, IsPast, VcpuInRange, DomainInRange, IsUnitOf, CoreInRange, RtdsInRange, Credit2UnitInRange, Credit2InRange, RecordsInRange, PoolInRange, StateInRange}
+use Rattle.sched_ranges.specs.Ranges.{IsNear, IsPast, VcpuInRange, DomainInRange, IsUnitOf, CoreInRange, RtdsInRange, Credit2UnitInRange, Credit2InRange, IsFrame, RecordsInRange, PoolInRange, StateInRange}
 use Rattle.sched_ranges.proofs.Vcpus.{VcpuFits}
 use Rattle.std.proofs.lemmas.Int.{ints}
 use Rattle.sched_model.specs.declared.state.Credit2Unit.{Credit2Unit}
@@ -44,7 +44,6 @@ use Rattle.sched_ranges.proofs.Budget.{lasts, helds, HeldFits, BudgetFits, Nobod
 use Rattle.sched_ranges.proofs.BudgetWalk.{CountIs, CreditFits}
 use Rattle.std.specs.List.{AllByRecursion}
 use Rattle.sched_model.specs.declared.config.DomConfig.{DomConfig}
-use Rattle.sched_model.specs.declared.config.Frame.{Frame}
 
 if_some : {X : Type 0} (o : Option X) (P : X → Type 0) → ((x : X) → o ≡ Some x → P x) → IfSome o P
 if_some None P all = tt
@@ -168,7 +167,7 @@ records_in_range m checked t (Credit2Pool records) cores credit fits = (
   λ d x at. (let budget = (credit records refl).budgets d x at in credit2_in_range m t d x (units_few m checked t d x records fits.places at budget) (fits.domains d x at) budget),
 )
 records_in_range m checked t (RtdsPool domains) cores credit fits = (fits.places, λ d units at. All-from_recursion (RtdsInRange t) units (AllByRecursion-map (RtdsFits t) (RtdsInRange t) (rtds_in_range t) units (fits.units d units at)))
-records_in_range m checked t (ArincPool records) cores credit fits = (fits.installed, if_some records.frame (λ (frame : Frame). frame.major.0 ≤ most_span) fits.major)
+records_in_range m checked t (ArincPool records) cores credit fits = (fits.installed, if_some records.frame IsFrame (λ frame has. record { some_span = (let l = (fits.major frame has).least in omega (arith, l)); fits = fits.fits frame has; bounded = (fits.major frame has).most }))
 records_in_range m checked t (NullPool kept) cores credit fits = fits
 
 core_in_range : (m : Machine) (t : ℕ) (c : Resource) → CoreFits m t c → CoreInRange m t c

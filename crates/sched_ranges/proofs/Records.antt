@@ -48,7 +48,7 @@ use Rattle.sched_ranges.proofs.Rtds.{RtdsFits, RtdsFit, rtds_chooses, rtds_reple
 pub record ArincFits (t : ℕ) (records : ArincRecords) : Type 0 where
   pub installed : records.installed ≤ t
   pub fits : (frame : Frame) → records.frame ≡ Some frame → FitsMajor frame
-  pub major : (frame : Frame) → records.frame ≡ Some frame → frame.major.0 ≤ most_span
+  pub major : (frame : Frame) → records.frame ≡ Some frame → IsWithin 1 most_span frame.major.0
 
 pub record RtdsPoolFits (t count : ℕ) (domains : List (Option (List RtdsUnit))) : Type 0 where
   pub places : length domains ≡ count
@@ -117,7 +117,7 @@ window_near t records window is fits =
     by_option (λ (o : Option Window). o ≡ Some window → window.until ≤ t + most_span) records.frame _ _ (λ none e. absurd (cc))
     (λ frame has e.
     let ahead : ℕ = (t - records.installed) % frame.major.0 in
-    let major = fits.major frame has in
+    let major = (fits.major frame has).most in
     let sum = fits.fits frame has in
     let low = until_last (t - ahead) ahead (t - ahead + frame.major.0) frame.entries (omega (arith, sum)) in
     let same : window_at records.installed frame t ≡ window = cc in
@@ -231,7 +231,7 @@ changed_fits n cores t (ArincPool records) (changes.«Unit» u period budget ext
 changed_fits n cores t (ArincPool records) (changes.Frame frame) good fits = record {
   installed = omega arith;
   fits = λ f is. (let e : frame ≡ f = cc in subst FitsMajor e good.0);
-  major = λ f is. (let e : frame ≡ f = cc in subst (λ (x : Frame). x.major.0 ≤ most_span) e good.1.most);
+  major = λ f is. (let e : frame ≡ f = cc in subst (λ (x : Frame). IsWithin 1 most_span x.major.0) e good.1);
 }
 changed_fits n cores t (ArincPool records) (changes.Pin d unit cores2) good fits = fits
 changed_fits n cores t (NullPool kept) (changes.Dom d weight percent) good fits = fits
@@ -291,7 +291,7 @@ opened_fits config n cores kind (pool_params.Arinc653 None) passed = no_frame 0
 opened_fits config n cores kinds.Arinc653 (pool_params.Arinc653 (Some frame)) passed = record {
   installed = omega arith;
   fits = λ f is. (let e : frame ≡ f = cc in subst FitsMajor e passed.fits);
-  major = λ f is. (let e : frame ≡ f = cc in subst (λ (x : Frame). x.major.0 ≤ most_span) e passed.major.most);
+  major = λ f is. (let e : frame ≡ f = cc in subst (λ (x : Frame). IsWithin 1 most_span x.major.0) e passed.major);
 }
 opened_fits config n cores kinds.Credit2 (pool_params.Arinc653 (Some frame)) passed = absurd passed
 opened_fits config n cores kinds.Rtds (pool_params.Arinc653 (Some frame)) passed = absurd passed

@@ -1,5 +1,5 @@
 -- The ranges of the numbers of a state. Moments and spans are in nanoseconds.
-use Rattle.std.specs.Prelude.{◌≡◌, ◌≤◌, ◌<◌, ◌+◌, ◌*◌, ℕ, List, Some, slice_get, length, pos, neg_ℤ, ◌≤ℤ◌}
+use Rattle.std.specs.Prelude.{◌≡◌, ◌≤◌, ◌<◌, ◌+◌, ◌*◌, ℕ, List, Some, slice_get, length, sum_by, pos, neg_ℤ, ◌≤ℤ◌}
 use Rattle.std.specs.List.{All}
 use Rattle.std.specs.Option.{IfSome}
 use Rattle.sched_base.specs.declared.Moment.{Moment}
@@ -7,6 +7,7 @@ use Rattle.sched_base.specs.declared.Span.{Span}
 use Rattle.sched_base.specs.declared.UnitId.{UnitId}
 use Rattle.sched_model.specs.declared.config.DomConfig.{DomConfig}
 use Rattle.sched_model.specs.declared.config.Frame.{Frame}
+use Rattle.sched_model.specs.declared.config.FrameEntry.{FrameEntry}
 use Rattle.sched_model.specs.declared.machine.Machine.{Machine}
 use Rattle.sched_model.specs.declared.state.Vcpu.{Vcpu}
 use Rattle.sched_model.specs.declared.state.Domain.{Domain}
@@ -93,11 +94,17 @@ pub record Credit2InRange (t : ℕ) (d : Credit2Domain) : Type 0 where
   pub budget_most : d.budget ≤ℤ pos (32 * t + 640000000)
   pub budget_least : neg_ℤ (pos (32 * t + 20480000000)) ≤ℤ d.budget
 
+-- a frame: its runs fit its major span, which is 1 nanosecond at least, and at most a longest span
+pub record IsFrame (frame : Frame) : Type 0 where
+  pub some_span : 0 < frame.major.0
+  pub fits : sum_by (λ (e : FrameEntry). e.run.0) frame.entries ≤ frame.major.0
+  pub bounded : frame.major.0 ≤ most_span
+
 -- the records of a scheduler at t: a place for each domain or core, and their numbers
 abbrev pub RecordsInRange : Machine → ℕ → Records → Type 0
 RecordsInRange m t (Credit2Pool records) = (length records.domains ≡ length m.config.domains) × (records.limit ≤ 500000) × EachPlace (Credit2InRange t) records.domains
 RecordsInRange m t (RtdsPool domains) = (length domains ≡ length m.config.domains) × EachPlace (All (RtdsInRange t)) domains
-RecordsInRange m t (ArincPool records) = (records.installed ≤ t) × IfSome records.frame (λ (frame : Frame). frame.major.0 ≤ most_span)
+RecordsInRange m t (ArincPool records) = (records.installed ≤ t) × IfSome records.frame IsFrame
 RecordsInRange m t (NullPool kept) = length kept ≡ core_count m.config
 
 -- a pool at t: a place for each domain and core of the machine, and all numbers of what it has

@@ -1,0 +1,6 @@
+pub mod Measured
+pub mod Shape
+pub mod Counts
+pub mod Walk
+pub mod Opening
+pub mod Law

@@ -1,0 +1,4 @@
+//! The law of records: the scheduler of a pool keeps records of the domains that the pool has.
+#![tactic(auto)]
+
+pub mod laws;
