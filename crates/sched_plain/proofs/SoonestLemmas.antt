@@ -1,6 +1,7 @@
 -- How the soonest moment is found, list by list.
 use Rattle.std.proofs.Common.{◌≡◌, ◌∙◌, ℕ, suc, map, Bool, true, false, List, [], ◌∷◌, ◌++◌, min, refl, sym, ap, cond, arith}
-use Rattle.std.specs.Prelude.{Option, Some, None, filter, nat_lt, is_some, option_map, slice_get, ◌&&◌}
+use Rattle.std.specs.List.{cons_option}
+use Rattle.std.specs.Prelude.{Option, Some, None, filter, filter_map, nat_lt, is_some, option_map, slice_get, ◌&&◌}
 use Rattle.sched_model.specs.declared.work.StallLine.{StallLine}
 use Rattle.sched_model.specs.declared.work.CommandLine.{CommandLine}
 use Rattle.std.proofs.lemmas.Bool.Decides.{nat_tests}
@@ -10,12 +11,14 @@ use Rattle.sched_model.specs.declared.state.Resource.{Resource}
 use Rattle.sched_model.specs.declared.state.Domain.{Domain}
 use Rattle.sched_model.specs.declared.state.Pool.{Pool}
 use Rattle.sched_model.specs.declared.state.FreeCore.{FreeCore}
+use Rattle.sched_model.specs.declared.state.Credit2Domain.{Credit2Domain}
+use Rattle.sched_model.specs.declared.state.RtdsUnit.{RtdsUnit}
 use Rattle.sched_model.specs.declared.machine.Machine.{Machine}
 use Rattle.sched_model.specs.declared.state.State.{State}
 use Rattle.sched_base.specs.declared.Moment.{Moment}
 use Rattle.sched_model.specs.Places.{least, numbered}
 use Rattle.sched_model.specs.Machine.{some_of, joined, first_enabled, core_moments, vcpu_moments, records_moments, pool_moments, moments}
-use Rattle.sched_plain.specs.Soonest.{lesser, is_later, is_sooner, soonest, soonest_of_each, soonest_of_places, line_moments}
+use Rattle.sched_plain.specs.Soonest.{lesser, is_later, is_sooner, soonest, soonest_of_each, soonest_of_places, line_moments, refill_moments}
 
 lesser-none : (a : Option ℕ) → lesser a None ≡ a
 lesser-none None = refl
@@ -164,3 +167,22 @@ module _ (m : Machine) (s : State) (t : ℕ) where
   lines-soonest best so_far r a b stall command first then =
       then ∙ ap (λ x. soonest m s t x (some_of (b ∷ []))) first ∙ sym (soonest_of_some m s t best a b)
       ∙ ap (λ x. soonest m s t best (some_of (x ∷ b ∷ []))) stall ∙ ap (λ x. soonest m s t best (some_of (option_map (λ (line : StallLine). line.at) (slice_get m.work.stalls s.next_stall) ∷ x ∷ []))) command
+
+-- the refills that are there, one list of one or none for each domain
+refill_joined : (o : Option ℕ) (rest more : List ℕ) → rest ≡ more → elim o as (λ _. List ℕ) [ None ↦ [] | Some at ↦ at ∷ [] ] ++ rest ≡ cons_option o more
+refill_joined None rest more same = same
+refill_joined (Some at) rest more same = ap (λ xs. at ∷ xs) same
+
+refills_joined : (n : ℕ) (places : List (Option Credit2Domain)) → joined (λ (e : ℕ × Credit2Domain). refill_moments e.1) (numbered n places) ≡ filter_map (λ (e : ℕ × Credit2Domain). e.1.refill) (numbered n places)
+refills_joined n [] = refl
+refills_joined n (None ∷ places) = refills_joined (suc n) places
+refills_joined n (Some d ∷ places) = refill_joined d.refill _ _ (refills_joined (suc n) places)
+
+module _ (m : Machine) (s : State) (t : ℕ) where
+  -- the moments of the refills of a Credit2 pool
+  pub refills-soonest : (best : Option ℕ) (domains : List (Option Credit2Domain)) → soonest_of_places m s t refill_moments best domains ≡ soonest m s t best (filter_map (λ (e : ℕ × Credit2Domain). e.1.refill) (numbered 0 domains))
+  refills-soonest best domains = soonest_of_numbered m s t refill_moments 0 best domains ∙ ap (soonest m s t best) (refills_joined 0 domains)
+
+  -- the deadlines of an RTDS pool
+  pub deadlines-soonest : (best : Option ℕ) (domains : List (Option (List RtdsUnit))) → soonest_of_places m s t (λ (units : List RtdsUnit). map (λ (x : RtdsUnit). x.deadline) units) best domains ≡ soonest m s t best (joined (λ (e : ℕ × List RtdsUnit). map (λ (x : RtdsUnit). x.deadline) e.1) (numbered 0 domains))
+  deadlines-soonest best domains = soonest_of_numbered m s t (λ (units : List RtdsUnit). map (λ (x : RtdsUnit). x.deadline) units) 0 best domains

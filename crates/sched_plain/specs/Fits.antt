@@ -1,45 +1,16 @@
--- The numbers of a pool are in range.
-use Rattle.std.specs.Prelude.{◌≤◌, ◌<◌, List, [], ◌∷◌, Option, Some, None, slice_get, length}
-use Rattle.std.specs.Option.{ForSome}
-use Rattle.std.specs.List.{AllByRecursion}
-use Rattle.sched_base.specs.declared.VcpuId.{VcpuId}
-use Rattle.sched_base.specs.declared.Moment.{Moment}
-use Rattle.sched_base.specs.declared.Span.{Span}
-use Rattle.sched_model.specs.declared.state.Vcpu.{Vcpu}
-use Rattle.sched_model.specs.declared.state.Domain.{Domain}
-use Rattle.sched_model.specs.declared.state.Pool.{Pool}
-use Rattle.sched_model.specs.Places.{at_place}
+-- The numbers of the machine and of the state are in range.
+use Rattle.std.specs.Prelude.{◌≤◌, ◌<◌, ℕ, List, [], ◌∷◌, length}
+use Rattle.sched_model.specs.declared.config.DomConfig.{DomConfig}
 use Rattle.sched_model.specs.declared.machine.Machine.{Machine}
 use Rattle.sched_model.specs.declared.state.State.{State}
-use Rattle.sched_plain.specs.Built.{IsBuilt}
-use Rattle.sched_plain.specs.Search.{FewGuests}
+use Rattle.sched_model.specs.declared.state.Pool.{Pool}
+use Rattle.plain_units.specs.Fits.{RecordsFit}
+use Rattle.plain_pool.specs.Fits.{AllPlaces, PoolFits}
 
--- the vCPU, where these are the domains
-abbrev pub vcpu_among : List (Option Domain) → VcpuId → Option Vcpu
-vcpu_among domains v = elim (at_place domains v.dom.0) [ None ↦ None | Some d ↦ slice_get d.vcpus v.n ]
-
--- the moment from which its work is counted, and the work left, are at most 10^13 nanoseconds
-pub record VcpuFits (v : Vcpu) : Type 0 where
-  pub started : ForSome v.started (λ (from : Moment). from.0 ≤ 10000000000000)
-  pub work_left : ForSome v.work_left (λ (work : Span). work.0 ≤ 10000000000000)
-
--- a domain has at most 32 vCPUs, and each of them does
-pub record DomainFits (domain : Domain) : Type 0 where
-  pub few : length domain.vcpus ≤ 32
-  pub vcpus : AllByRecursion VcpuFits domain.vcpus
-
--- whatever stands at a place has the property
-abbrev pub AllPlaces : {X : Type 0} → (X → Type 0) → List (Option X) → Type 0
-AllPlaces P [] = Unit {0}
-AllPlaces P (None ∷ places) = AllPlaces P places
-AllPlaces P (Some x ∷ places) = P x × AllPlaces P places
-
--- the pool is built, has places for at most 64 cores and 64 domains, and its domains fit
-pub record PoolFits (pool : Pool) : Type 0 where
-  pub built : IsBuilt pool.scheduler.records
-  pub cores : length pool.resources ≤ 64
-  pub few_domains : length pool.domains ≤ 64
-  pub domains : AllPlaces DomainFits pool.domains
+-- each domain has at most 32 vCPUs
+abbrev pub FewGuests : List DomConfig → Type 0
+FewGuests [] = Unit {0}
+FewGuests (domain ∷ domains) = (length domain.guests ≤ 32) × FewGuests domains
 
 -- the numbers of the machine are in range
 pub record MachineFits (m : Machine) : Type 0 where
@@ -54,3 +25,9 @@ pub record StateFits (s : State) : Type 0 where
   pub few_pools : length s.pools ≤ 16
   pub few_free : length s.free ≤ 64
   pub pools : AllPlaces PoolFits s.pools
+
+-- the numbers of the pool are in range at t, and its queue has no more than there may be units
+pub record PoolFitsAt (t : ℕ) (pool : Pool) : Type 0 where
+  pub fits : PoolFits pool
+  pub records : RecordsFit t pool.scheduler.records
+  pub queue : length pool.scheduler.queue ≤ 256

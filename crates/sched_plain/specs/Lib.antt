@@ -1,11 +1,7 @@
-pub mod Frames
-pub mod Built
+pub mod Reached
 pub mod Fits
-pub mod Rows
 pub mod Moves
 pub mod Search
 pub mod Soonest
-pub mod Quiet
-pub mod FirstForm
-pub mod FirstState
+pub mod Stalls
 pub mod Standing

@@ -1,9 +1,44 @@
 -- Cores and domains on their way.
-use Rattle.std.specs.Prelude.{◌||◌, Bool, is_some}
+use Rattle.std.specs.Prelude.{ℕ, ◌||◌, Bool, List, Option, Some, None, is_some, option_map}
 use Rattle.std.specs.List.{list_any}
+use Rattle.sched_base.specs.declared.Moment.{Moment}
+use Rattle.sched_base.specs.declared.PoolId.{PoolId}
+use Rattle.sched_model.specs.declared.state.Domain.{Domain}
+use Rattle.sched_model.specs.declared.state.FreeCore.{FreeCore}
 use Rattle.sched_model.specs.declared.state.Pool.{Pool}
-use Rattle.sched_model.specs.Places.{numbered}
+use Rattle.sched_model.specs.Opening.{fresh_core}
+use Rattle.sched_model.specs.Places.{at_place, clear_at, numbered, put_at}
+use Rattle.sched_model.specs.Pool.{settled}
+use Rattle.plain_pool.specs.Cores.{ends_of}
 
 -- whether a core or a domain of the pool is on its way
 abbrev pub is_anything_moving : Pool → Bool
 is_anything_moving pool = list_any (λ c. c.1.leaving) (numbered 0 pool.resources) || list_any (λ d. is_some d.1.moving) (numbered 0 pool.domains)
+
+-- the pool to which the core of no pool is leaving
+abbrev pub target_at : List (Option FreeCore) → ℕ → Option ℕ
+target_at free r = elim (at_place free r) [ None ↦ None | Some c ↦ c.target ]
+
+-- the pool with the core, looked at
+abbrev pub with_core : ℕ → ℕ → List Moment → Pool → Pool
+with_core t r ends pool = settled t (record pool { resources = put_at r (fresh_core ends) pool.resources })
+
+-- the pool without the core, looked at
+abbrev pub without_core : ℕ → ℕ → Pool → Pool
+without_core t r pool = settled t (record pool { resources = clear_at r pool.resources })
+
+-- the same, where the pool has the core
+abbrev pub without_its_core : ℕ → ℕ → Pool → Pool
+without_its_core t r pool = elim (at_place pool.resources r) [ None ↦ pool | Some c ↦ without_core t r pool ]
+
+-- the ends of the stalls of the core, where the pool i has it
+abbrev pub ends_at : ℕ → ℕ → List (Option Pool) → Option (List Moment)
+ends_at r i pools = elim (at_place pools i) [ None ↦ None | Some pool ↦ option_map ends_of (at_place pool.resources r) ]
+
+-- the domain d, where the pool i has it
+abbrev pub domain_in : ℕ → ℕ → List (Option Pool) → Option Domain
+domain_in d i pools = elim (at_place pools i) [ None ↦ None | Some pool ↦ at_place pool.domains d ]
+
+-- the pool to which it is moving
+abbrev pub target_in : ℕ → ℕ → List (Option Pool) → Option PoolId
+target_in d i pools = elim (domain_in d i pools) [ None ↦ None | Some domain ↦ domain.moving ]

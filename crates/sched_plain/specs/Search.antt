@@ -1,9 +1,8 @@
 -- The scan of the candidate actions.
-use Rattle.std.specs.Prelude.{◌≤◌, ℕ, ◌++◌, Bool, false, List, [], ◌∷◌, Some, None, slice_get, nat_le, map, length}
+use Rattle.std.specs.Prelude.{ℕ, ◌++◌, Bool, false, List, ◌∷◌, Some, None, slice_get, nat_le, map, length}
 use Rattle.sched_model.specs.declared.action.Action.{Action}
 use Rattle.sched_model.specs.declared.action.Action.TheVariants as action
 use Rattle.sched_model.specs.declared.config.Config.{Config}
-use Rattle.sched_model.specs.declared.config.DomConfig.{DomConfig}
 use Rattle.sched_model.specs.declared.machine.Machine.{Machine}
 use Rattle.sched_model.specs.Places.{numbers_from}
 use Rattle.sched_model.specs.Opening.{core_count}
@@ -31,11 +30,6 @@ stall_due m s t = elim (slice_get m.work.stalls s.next_stall) [ None ↦ false |
 -- whether the next command has come
 abbrev pub command_due : Machine → State → ℕ → Bool
 command_due m s t = elim (slice_get m.work.commands s.next_command) [ None ↦ false | Some line ↦ nat_le line.at.0 t ]
-
--- each domain has at most 32 vCPUs
-abbrev pub FewGuests : List DomConfig → Type 0
-FewGuests [] = Unit {0}
-FewGuests (domain ∷ domains) = (length domain.guests ≤ 32) × FewGuests domains
 
 -- the candidate actions up to the moves of cores
 unfoldable pub moved_actions : Config → List Action

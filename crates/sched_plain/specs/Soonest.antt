@@ -2,6 +2,7 @@
 use Rattle.std.specs.Prelude.{ℕ, ◌&&◌, Bool, true, List, [], ◌∷◌, Option, Some, None, filter, min, nat_lt, is_some, option_map, slice_get}
 use Rattle.sched_model.specs.declared.machine.Machine.{Machine}
 use Rattle.sched_model.specs.declared.state.State.{State}
+use Rattle.sched_model.specs.declared.state.Credit2Domain.{Credit2Domain}
 use Rattle.sched_model.specs.Places.{least}
 use Rattle.sched_model.specs.declared.work.StallLine.{StallLine}
 use Rattle.sched_model.specs.declared.work.CommandLine.{CommandLine}
@@ -39,3 +40,7 @@ abbrev pub soonest_of_places : {X : Type 0} → Machine → State → ℕ → (X
 soonest_of_places m s t f best [] = best
 soonest_of_places m s t f best (None ∷ places) = soonest_of_places m s t f best places
 soonest_of_places m s t f best (Some x ∷ places) = soonest_of_places m s t f (soonest m s t best (f x)) places
+
+-- the moment of the domain's refill, where it has one
+abbrev pub refill_moments : Credit2Domain → List ℕ
+refill_moments d = elim d.refill [ None ↦ [] | Some at ↦ at ∷ [] ]

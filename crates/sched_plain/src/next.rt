@@ -1,6 +1,6 @@
 //! The next moment at which something may happen: the least of those that the state names.
 
-ghost use Rattle.std.specs.Prelude.{◌≡◌, ℕ, ◌+◌, ◌<◌, ◌≤◌, ◌^◌, ◌∷◌, ◌++◌, [], Some, None, map, option_map, slice_get};
+ghost use Rattle.std.specs.Prelude.{◌≡◌, ℕ, List, ◌+◌, ◌<◌, ◌≤◌, ◌^◌, ◌∷◌, ◌++◌, [], Some, None, map, option_map, slice_get};
 ghost use Rattle.std.specs.List.{AllByRecursion};
 ghost use Rattle.sched_base.specs.declared.Moment.{Moment as MomentRecord};
 ghost use Rattle.sched_model.specs.declared.state.Processor.{Processor as ProcessorRecord};
@@ -8,18 +8,22 @@ ghost use Rattle.sched_model.specs.declared.state.Resource.{Resource as Resource
 ghost use Rattle.sched_model.specs.declared.state.Domain.{Domain as DomainRecord};
 ghost use Rattle.sched_model.specs.declared.state.Pool.{Pool as PoolRecord};
 ghost use Rattle.sched_model.specs.declared.state.FreeCore.{FreeCore as FreeCoreRecord};
+ghost use Rattle.sched_model.specs.declared.state.RtdsUnit.{RtdsUnit as RtdsRecord};
 ghost use Rattle.sched_model.specs.Machine.{next_moment as next_moment_spec, some_of, core_moments, vcpu_moments, joined, records_moments, pool_moments, moments as moments_spec};
 ghost use Rattle.sched_model.specs.declared.work.StallLine.{StallLine};
 ghost use Rattle.sched_model.specs.declared.work.CommandLine.{CommandLine};
-ghost use Rattle.sched_plain.specs.Built.{IsBuilt};
-ghost use Rattle.sched_plain.specs.Fits.{MachineFits, StateFits, PoolFits, DomainFits, VcpuFits, AllPlaces};
-ghost use Rattle.sched_plain.specs.Soonest.{soonest, soonest_of_each, soonest_of_places, is_sooner as is_sooner_spec, line_moments};
+ghost use Rattle.plain_pool.specs.Fits.{AllPlaces, DomainFits, PoolFits, VcpuFits};
+ghost use Rattle.sched_plain.specs.Fits.{MachineFits, StateFits};
+ghost use Rattle.sched_plain.specs.Soonest.{soonest, soonest_of_each, soonest_of_places, is_sooner as is_sooner_spec, line_moments, refill_moments};
 
 use crate::scan::first_enabled;
-use crate::vcpus::done_at;
+use plain_pool::vcpus::done_at;
 use sched_base::Moment;
 use sched_model::machine::Machine;
-use sched_model::state::{Domain, FreeCore, Pool, Processor, Records, Resource, State, Vcpu};
+use sched_model::state::{
+    Credit2Domain, Domain, FreeCore, Pool, Processor, Records, Resource, RtdsUnit, RtdsUnits,
+    State, Vcpu,
+};
 
 /// Whether the moment is after t, sooner than the best so far, and something may happen at it.
 fn is_sooner(m: &Machine, s: &State, t: u64, best: Option<u64>, later: u64) -> bool
@@ -182,7 +186,106 @@ fn look_at_domains(
     }
 }
 
-/// The moments that a scheduler names.
+/// The moment of a domain's refill.
+#[tactic(auto, using(crate::proofs::SoonestLemmas::soonest_of_none))]
+fn look_at_refill(
+    m: &Machine,
+    s: &State,
+    t: u64,
+    best: Option<u64>,
+    d: &Credit2Domain,
+) -> Option<u64>
+    requires machine { MachineFits m.now }
+    requires state { StateFits s.now }
+    ensures { result ≡ soonest m.now s.entry.now t best (refill_moments d.now) }
+{
+    match d.refill {
+        None => best,
+        Some(at) => look_at(m, s, t, best, at),
+    }
+}
+
+/// The moments of the refills of domains.
+fn look_at_refills(
+    m: &Machine,
+    s: &State,
+    t: u64,
+    best: Option<u64>,
+    domains: &[Option<Credit2Domain>],
+) -> Option<u64>
+    requires machine { MachineFits m.now }
+    requires state { StateFits s.now }
+    ensures { result ≡ soonest_of_places m.now s.entry.now t refill_moments best domains.now }
+{
+    match domains {
+        [] => best,
+        [None, rest @ ..] => look_at_refills(m, s, t, best, rest),
+        [Some(d), rest @ ..] => {
+            let so_far = look_at_refill(m, s, t, best, d);
+            look_at_refills(m, s, t, so_far, rest)
+        }
+    }
+}
+
+/// The deadlines of RTDS units.
+fn look_at_units(
+    m: &Machine,
+    s: &State,
+    t: u64,
+    best: Option<u64>,
+    units: &[RtdsUnit],
+) -> Option<u64>
+    requires machine { MachineFits m.now }
+    requires state { StateFits s.now }
+    ensures { result ≡ soonest_of_each m.now s.entry.now t (λ (x : RtdsRecord). x.deadline ∷ []) best units.now }
+{
+    match units {
+        [] => best,
+        [x, rest @ ..] => {
+            let so_far = look_at(m, s, t, best, x.deadline);
+            look_at_units(m, s, t, so_far, rest)
+        }
+    }
+}
+
+/// The deadlines of a domain's RTDS units.
+fn look_at_deadlines_of(
+    m: &Machine,
+    s: &State,
+    t: u64,
+    best: Option<u64>,
+    units: &RtdsUnits,
+) -> Option<u64>
+    requires machine { MachineFits m.now }
+    requires state { StateFits s.now }
+    ensures { result ≡ soonest m.now s.entry.now t best (map (λ (x : RtdsRecord). x.deadline) units.now) }
+{
+    look_at_units(m, s, t, best, units.as_slice())
+}
+
+/// The deadlines of the RTDS units of domains.
+fn look_at_deadlines(
+    m: &Machine,
+    s: &State,
+    t: u64,
+    best: Option<u64>,
+    domains: &[Option<RtdsUnits>],
+) -> Option<u64>
+    requires machine { MachineFits m.now }
+    requires state { StateFits s.now }
+    ensures { result ≡ soonest_of_places m.now s.entry.now t (λ (units : List RtdsRecord). map (λ (x : RtdsRecord). x.deadline) units) best domains.now }
+{
+    match domains {
+        [] => best,
+        [None, rest @ ..] => look_at_deadlines(m, s, t, best, rest),
+        [Some(units), rest @ ..] => {
+            let so_far = look_at_deadlines_of(m, s, t, best, units);
+            look_at_deadlines(m, s, t, so_far, rest)
+        }
+    }
+}
+
+/// The moments that a scheduler names: the refills of Credit2 domains, and the deadlines of RTDS units.
 #[tactic(auto, using(crate::proofs::SoonestLemmas::soonest_of_none))]
 fn look_at_records(
     m: &Machine,
@@ -193,12 +296,13 @@ fn look_at_records(
 ) -> Option<u64>
     requires machine { MachineFits m.now }
     requires state { StateFits s.now }
-    requires built { IsBuilt records.now }
     ensures { result ≡ soonest m.now s.entry.now t best (records_moments records.now) }
 {
     match records {
+        Records::Credit2Pool(pool) => look_at_refills(m, s, t, best, pool.domains.as_slice()),
+        Records::RtdsPool(domains) => look_at_deadlines(m, s, t, best, domains.as_slice()),
         Records::ArincPool(_) => best,
-        _ => unreachable!(),
+        Records::NullPool(_) => best,
     }
 }
 

@@ -1,11 +1,10 @@
 //! The plain machine: a machine and the state that it stands in.
 
 use crate::enabled::is_enabled;
-use crate::first_form::first_form;
 use crate::next::next_moment;
-use crate::opening::opening_state;
 use crate::perform::perform;
 use crate::scan::first_enabled;
+use plain_opening::opening::open_state;
 use sched_base::{Moment, NoMemory};
 use sched_model::action::Action;
 use sched_model::event::Event;
@@ -28,37 +27,29 @@ impl Model for Plain {
 
     ghost Value = { Standing };
 
-    ghost use Rattle.sched_plain.specs.Quiet.{Steady};
+    ghost use Rattle.std.specs.Prelude.{◌≡◌, []};
+    ghost use Rattle.sched_plain.specs.Reached.{Stands};
 
     ghost view = { λ p. record { machine = p.machine; state = p.state } };
 
-    ghost invariant = { λ p. Steady p.machine p.state };
+    ghost invariant = { λ p. Stands p.machine p.state × (p.machine.work.commands ≡ []) };
 }
 
 impl Plain {
-    ghost use Rattle.std.specs.Prelude.{◌≡◌, ◌≤◌, [], true, Some, IfOk, option_map};
+    ghost use Rattle.std.specs.Prelude.{◌≡◌, [], true, None, Some, IfOk, option_map};
     ghost use Rattle.sched_base.specs.Numbers.{moment};
     ghost use Rattle.sched_model.specs.Opening.{opening};
     ghost use Rattle.sched_model.specs.Checked.{IsChecked};
     ghost use Rattle.sched_model.specs.Machine.{is_enabled as is_enabled_spec, first_enabled as first_enabled_spec, next_in_horizon, event_of, after};
-    ghost use Rattle.sched_plain.specs.FirstForm.{is_first_form};
 
-    /// The machine at its opening. Its values have passed the checks of the domain file, and so far it is of the first form:
-    /// one core, one ARINC 653 pool with a frame, two domains of one endless vCPU each, and no workload.
+    /// The machine at its opening. Its values have passed the checks of the domain file, and so far it has no commands.
     pub fn open(alloc: Global, machine: Machine) -> Result<Plain, NoMemory>
         requires checked { IsChecked machine }
-        requires form { is_first_form machine.config ≡ true }
-        requires no_stalls { machine.work.stalls ≡ [] }
         requires no_commands { machine.work.commands ≡ [] }
-        ensures opened { IfOk result (λ p. p ≡ record { machine = machine; state = opening machine }) }
+        ensures { IfOk result (λ p. p ≡ record { machine = machine; state = opening machine }) }
     {
-        match first_form(&machine.config) {
-            None => unreachable!(),
-            Some(x) => {
-                let state = opening_state(alloc, &x)?;
-                Ok(Plain { machine, state })
-            }
-        }
+        let state = open_state(alloc, &machine)?;
+        Ok(Plain { machine, state })
     }
 
     /// The moment that the state has come to.
@@ -101,9 +92,10 @@ impl Plain {
         }
     }
 
-    /// Goes on to the next moment.
+    /// Goes on to the next moment, where nothing may come now.
     pub fn pass_to(&mut self, next: Moment)
-        requires { next_in_horizon self.old.machine self.old.state ≡ Some next.0 }
+        requires nothing { first_enabled_spec self.old.machine self.old.state self.old.state.now ≡ None }
+        requires next { next_in_horizon self.old.machine self.old.state ≡ Some next.0 }
         ensures { self.new ≡ record self.old { state = record self.old.state { now = next.0 } } }
     {
         self.state.now = next.0;

@@ -9,8 +9,8 @@ ghost use Rattle.sched_model.specs.Opening.{core_count as core_count_spec};
 ghost use Rattle.sched_model.specs.Actions.{vcpus_from, units_from};
 ghost use Rattle.sched_model.specs.Machine.{is_enabled as is_enabled_spec, first_enabled as first_enabled_spec};
 ghost use Rattle.sched_model.specs.declared.action.Action.TheVariants as action_of;
-ghost use Rattle.sched_plain.specs.Fits.{MachineFits, StateFits};
-ghost use Rattle.sched_plain.specs.Search.{FewGuests, action_at, moved_actions, dom_moved_actions, wake_actions, block_actions, slice_actions, repl_actions, refill_actions, arrive_actions, decide_actions, leave_actions, save_actions};
+ghost use Rattle.sched_plain.specs.Fits.{FewGuests, MachineFits, StateFits};
+ghost use Rattle.sched_plain.specs.Search.{action_at, moved_actions, dom_moved_actions, wake_actions, block_actions, slice_actions, repl_actions, refill_actions, arrive_actions, decide_actions, leave_actions, save_actions};
 
 use crate::enabled::is_enabled;
 use sched_base::{DomId, UnitId, VcpuId};

@@ -1,0 +1,22 @@
+use Rattle.std.proofs.Common.{sym, subst, arith}
+use Rattle.sched_model.specs.declared.state.Credit2Domain.{Credit2Domain}
+use Rattle.sched_model.specs.declared.state.Credit2Records.{Credit2Records}
+use Rattle.sched_model.specs.Credit2.{max_weight}
+use Rattle.sched_ranges.specs.Ranges.{Credit2InRange}
+use Rattle.plain_credit2.specs.Bounds.{DomainFits}
+use Rattle.plain_credit2.proofs.Items.{place_fits}
+use Rattle.plain_credit2.proofs.Ranges.{pool_in_range}
+use Rattle.plain_credit2.proofs.running.refill.Goals as goal
+
+pub refill_domain-requires-clause-fits : goal.refill_domain-requires-clause-fits
+refill_domain-requires-clause-fits c =
+    let records : Credit2Records = c.args.records.now in
+    let d : Credit2Domain = c.in-Some.domain in
+    let here : DomainFits (max_weight records) c.args.t d =
+    place_fits (DomainFits (max_weight records) c.args.t) records.domains c.args.d _ d (pool_in_range c.args.t records c.requires.early c.requires.fits) (omega arith) c.item_mut.ensures.value c.in-Some.is
+    in
+    subst (λ w. DomainFits w c.args.t d) (sym c.max_weight-most.ensures) here
+
+pub refill_domain-requires-clause-few : goal.refill_domain-requires-clause-few
+refill_domain-requires-clause-few c =
+    (place_fits (Credit2InRange c.args.t) c.args.records.now.domains c.args.d _ c.in-Some.domain c.requires.fits.domains (omega arith) c.item_mut.ensures.value c.in-Some.is).count

@@ -1,0 +1,36 @@
+-- Which of the waiting units a core looks at.
+use Rattle.std.specs.Prelude.{ℕ, ◌&&◌, Bool, not, List, Option, Some, None, int_lt, if◌then◌else◌, ℤ, min, slice_get, ◌==◌}
+use Rattle.sched_base.specs.declared.UnitId.{UnitId}
+use Rattle.sched_base.specs.declared.Cores.{Cores}
+use Rattle.sched_base.specs.Credit2Numbers.{above_zero, slice}
+use Rattle.sched_model.specs.declared.state.Credit2Domain.{Credit2Domain}
+use Rattle.sched_model.specs.declared.state.Credit2Records.{Credit2Records}
+use Rattle.sched_model.specs.declared.state.Scheduler.{Scheduler}
+use Rattle.sched_model.specs.declared.state.Records.TheVariants.{Credit2Pool}
+use Rattle.sched_model.specs.declared.ask.Ask.{Ask}
+use Rattle.sched_model.specs.Places.{is_unit}
+use Rattle.sched_model.specs.Eligible.{is_allowed_by}
+use Rattle.sched_model.specs.Credit2.{domain_has_budget, credit_of}
+
+-- the scheduler of these parts
+abbrev pub scheduler_of : List UnitId → List (Option (List Cores)) → Credit2Records → Scheduler
+scheduler_of queue affinity records = record { queue = queue; affinity = affinity; records = Credit2Pool records }
+
+-- whether the asking core may take the waiting unit, which is not the one to be passed over
+abbrev pub contends : List (Option (List Cores)) → Ask → Credit2Records → Option UnitId → UnitId → Bool
+contends affinity ask records over u = not (is_unit over u) && (is_allowed_by affinity ask.home ask.core u && domain_has_budget records u)
+
+-- the one of greater credit; the first where they have as much
+abbrev pub richer : Credit2Records → Option UnitId → UnitId → UnitId
+richer records None u = u
+richer records (Some best) u = (if int_lt (credit_of records best) (credit_of records u) then u else best)
+
+-- how long the unit with this index of the domain runs; under a cap for no longer than the budget that it holds
+abbrev pub slice_in : Credit2Domain → ℕ → ℤ → ℕ → ℕ → ℕ
+slice_in d n other most limit =
+    elim (slice_get d.units n) [
+      | None ↦ 0
+      | Some x ↦
+          let long = slice x.credit other d.weight most limit in
+          (if d.cap == 0 then long else min long (above_zero x.held))
+    ]

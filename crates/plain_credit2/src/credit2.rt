@@ -1,0 +1,104 @@
+//! Credit2: the unit with the greatest credit runs. Moments and spans are in nanoseconds.
+
+ghost use Rattle.std.specs.Prelude.{◌≡◌, ◌<◌, ◌≤◌, Some, None};
+ghost use Rattle.sched_model.specs.declared.state.Records.TheVariants.{Credit2Pool};
+ghost use Rattle.sched_model.specs.Credit2.{domain_has_budget as domain_has_budget_spec, is_better as is_better_spec, decide as decide_spec, choose2};
+ghost use Rattle.plain_units.specs.Fits.{Credit2Fits};
+ghost use Rattle.plain_units.specs.Tells.{Tells};
+ghost use Rattle.plain_credit2.specs.Bounds.{PoolFits};
+ghost use Rattle.plain_credit2.specs.Waiting.{scheduler_of};
+
+use crate::choice::{choice, domain_has_budget, is_within_limit, resets_for, slice_of};
+pub use crate::domain::periods;
+pub use crate::params::{fresh_domain, set_domain};
+pub use crate::running::refill;
+use crate::running::{
+    burn_cur, burned_credit_of, credit_of, reset, set_running, switch_off, take_at,
+};
+use plain_units::decided::Decided;
+use sched_base::{Moment, UnitId};
+use sched_model::ask::Ask;
+use sched_model::config::Pins;
+use sched_model::state::Credit2Records;
+
+/// Whether the cap lets the unit's domain run.
+pub fn passes(records: &Credit2Records, u: UnitId) -> bool
+    ensures { result ≡ domain_has_budget_spec records.now u }
+{
+    domain_has_budget(records, u)
+}
+
+/// Whether a unit has more credit than the core's own has at t, and that has run for the rate limit since a moment.
+pub fn is_better(records: &Credit2Records, cur: UnitId, since: u64, t: u64, u: UnitId) -> bool
+    requires early { t ≤ 10000000000000 }
+    requires fits { Credit2Fits t records.now }
+    ensures { result ≡ is_better_spec records.now cur since t u }
+{
+    !is_within_limit(records, since, t) && burned_credit_of(records, t, cur) < credit_of(records, u)
+}
+
+/// The core idles: its own unit runs no more.
+fn idle(
+    records: &mut Credit2Records,
+    queue: &[UnitId],
+    affinity: &[Option<Pins>],
+    ask: &Ask,
+) -> Decided
+    ensures decided { Tells result (decide_spec ask.now (scheduler_of queue.now affinity.now records.old) records.old None) }
+    ensures records { Credit2Pool records.new ≡ (decide_spec ask.now (scheduler_of queue.now affinity.now records.old) records.old None).records }
+{
+    switch_off(ask.cur, records);
+    Decided {
+        unit: None,
+        due: None,
+        reset: 0,
+    }
+}
+
+/// The core runs the unit: the resets that it calls for are made, and it takes its budget.
+fn run_unit(
+    records: &mut Credit2Records,
+    queue: &[UnitId],
+    affinity: &[Option<Pins>],
+    ask: &Ask,
+    u: UnitId,
+) -> Decided
+    requires core { ask.now.core < 64 }
+    requires early { ask.now.at ≤ 10000000000000 }
+    requires fits { PoolFits ask.now.at records.old }
+    requires limit { records.old.limit ≤ 500000 }
+    ensures decided { Tells result (decide_spec ask.now (scheduler_of queue.now affinity.now records.old) records.old (Some u)) }
+    ensures records { Credit2Pool records.new ≡ (decide_spec ask.now (scheduler_of queue.now affinity.now records.old) records.old (Some u)).records }
+{
+    let resets = resets_for(ask.at, u, records);
+    reset(ask.at, resets, records);
+    take_at(u, records);
+    let long = slice_of(ask, queue, affinity, records, u);
+    switch_off(ask.cur, records);
+    set_running(Some(ask.at), u, records);
+    Decided {
+        unit: Some(u),
+        due: Some(Moment(ask.at + long)),
+        reset: resets,
+    }
+}
+
+/// The decision for a core: its own unit is charged first, and then the choice is made of it and the units that wait.
+pub fn choose(
+    records: &mut Credit2Records,
+    queue: &[UnitId],
+    affinity: &[Option<Pins>],
+    ask: &Ask,
+) -> Decided
+    requires fits { Credit2Fits ask.now.at records.old }
+    requires early { ask.now.at ≤ 10000000000000 }
+    requires core { ask.now.core < 64 }
+    ensures decided { Tells result (choose2 ask.now (scheduler_of queue.now affinity.now records.old) records.old) }
+    ensures records { Credit2Pool records.new ≡ (choose2 ask.now (scheduler_of queue.now affinity.now records.old) records.old).records }
+{
+    burn_cur(ask.cur, ask.at, records);
+    match choice(ask, queue, affinity, records) {
+        None => idle(records, queue, affinity, ask),
+        Some(u) => run_unit(records, queue, affinity, ask, u),
+    }
+}

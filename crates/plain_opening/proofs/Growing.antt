@@ -1,0 +1,32 @@
+-- One more number, and one more item that a function makes of it.
+use Rattle.std.proofs.Common.{◌≡◌, ◌∙◌, ◌+◌, ℕ, zero, suc, List, [], ◌∷◌, ◌++◌, length, refl, sym, ap, arith}
+use Rattle.std.specs.Prelude.{Option, None, map, replicate}
+use Rattle.std.proofs.lemmas.List.{append_assoc}
+use Rattle.sched_laws.proofs.Opened.{length_map_numbers}
+use Rattle.plain_opening.proofs.Replicate.{replicate_one_more}
+use Rattle.sched_model.specs.Places.{numbers_from}
+
+-- the numbers from one on, and the next
+numbers_from_more : {X : Type 0} (f : ℕ → X) (from n k : ℕ) → k ≡ from + n → map f (numbers_from from n) ++ f k ∷ [] ≡ map f (numbers_from from (suc n))
+numbers_from_more f from zero k is = let same : k ≡ from = omega arith in ap (λ j. f j ∷ []) same
+numbers_from_more f from (suc n) k is = ap (λ xs. f from ∷ xs) (numbers_from_more f (suc from) n k (omega arith))
+
+-- the first n numbers, and the next
+pub numbers_one_more : {X : Type 0} (f : ℕ → X) (n : ℕ) → map f (numbers_from 0 n) ++ f n ∷ [] ≡ map f (numbers_from 0 (n + 1))
+numbers_one_more f n =
+    let one_more : suc n ≡ n + 1 = omega arith in
+    numbers_from_more f 0 n n (omega arith) ∙ ap (λ k. map f (numbers_from 0 k)) one_more
+
+-- one more empty place behind others
+pub padded_one_more : {X : Type 0} (xs : List (Option X)) (n : ℕ) → xs ++ replicate n None ++ None ∷ [] ≡ xs ++ replicate (n + 1) None
+padded_one_more {X} xs n =
+    let none : Option X = None in
+    append_assoc xs (replicate n none) (none ∷ []) ∙ ap (λ ys. xs ++ ys) (replicate_one_more n none)
+
+-- an item between two lists
+pub pushed_before : {X : Type 0} (xs ys : List X) (x : X) → xs ++ x ∷ [] ++ ys ≡ xs ++ (x ∷ ys)
+pushed_before xs ys x = append_assoc xs (x ∷ []) ys
+
+-- as many items as numbers
+pub length_of_numbers : {X : Type 0} (f : ℕ → X) (n : ℕ) → length (map f (numbers_from 0 n)) ≡ n
+length_of_numbers f n = length_map_numbers f 0 n

@@ -1,0 +1,5 @@
+pub mod Replicate
+pub mod Growing
+pub mod Queues
+pub mod Room
+pub mod Joining

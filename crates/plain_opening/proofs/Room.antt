@@ -1,0 +1,22 @@
+-- The queues of the pools have room at the opening.
+use Rattle.std.proofs.Common.{◌≡◌, ◌≤◌, ℕ, suc, List, [], ◌∷◌, ◌++◌, length, refl}
+use Rattle.std.specs.Prelude.{Option, Some, None, replicate}
+use Rattle.sched_model.specs.declared.config.Config.{Config}
+use Rattle.sched_model.specs.declared.config.PoolConfig.{PoolConfig}
+use Rattle.sched_model.specs.declared.machine.Machine.{Machine}
+use Rattle.sched_model.specs.declared.state.Pool.{Pool}
+use Rattle.sched_model.specs.Checked.{IsChecked}
+use Rattle.sched_model.specs.Opening.{opening_pools, opening_pool}
+use Rattle.sched_model.specs.Places.{at_place}
+use Rattle.sched_ranges.proofs.Done.{in_range}
+use Rattle.plain_opening.specs.Opened.{FewWait, AllFewWait}
+
+-- where it holds of all that stands at a place
+each_few : (config : Config) (i : ℕ) (pools : List PoolConfig) (rest : List (Option Pool)) → ((k : ℕ) (x : Pool) → at_place (opening_pools config i pools ++ rest) k ≡ Some x → FewWait x)
+    → AllFewWait config i pools
+each_few config i [] rest few = tt
+each_few config i (pool ∷ pools) rest few = (few 0 (opening_pool config i pool) refl, each_few config (suc i) pools rest (λ k x is. few (suc k) x is))
+
+-- at the opening of a machine
+pub few_wait : (m : Machine) → IsChecked m → AllFewWait m.config 0 m.config.pools
+few_wait m checked = each_few m.config 0 m.config.pools _ (λ k x is. ((in_range m checked [] tt).pools k x is).queue_count)

@@ -1,0 +1,7 @@
+use Rattle.std.proofs.Common.{◌≡◌, take}
+use Rattle.std.specs.Prelude.{map}
+use Rattle.plain_opening.specs.Opened.{spare_for}
+use Rattle.plain_opening.proofs.spare.open_spares.Given as goal
+
+abbrev pub invariant-loop-line : goal.invariant-loop-line
+invariant-loop-line l = l.spares.items ≡ map (spare_for l.m.config) (take l.line-index l.line-items)

@@ -1,0 +1,115 @@
+//! The cores at the opening.
+
+ghost use Rattle.std.specs.Prelude.{◌≡◌, ◌+◌, ◌≤◌, ◌<◌, ◌^◌, ◌∷◌, [], List, Option, Some, None, IfOk, replicate, length, map, if◌then◌else◌};
+ghost use Rattle.std.specs.List.{list_any};
+ghost use Rattle.sched_base.specs.Numbers.{moment};
+ghost use Rattle.sched_model.specs.Places.{numbers_from};
+ghost use Rattle.sched_model.specs.State.{has_core as has_core_spec};
+ghost use Rattle.sched_model.specs.Opening.{opening_free as opening_free_spec};
+ghost use Rattle.sched_model.specs.declared.config.PoolConfig.{PoolConfig as PoolRecord};
+ghost use Rattle.plain_opening.specs.Opened.{opening_core};
+
+use plain_pool::leaving::fresh_core;
+use sched_base::{Moment, NoMemory};
+use sched_model::config::{Config, PoolConfig};
+use sched_model::facts::StallEnds;
+use sched_model::row::Row;
+use sched_model::short::Short;
+use sched_model::state::{FreeCore, Resource};
+use std::alloc::Global;
+
+/// Whether the core is in the set.
+fn has_core(cores: u64, r: u8) -> bool
+    requires { r < 64 }
+    ensures { result ≡ has_core_spec cores r }
+{
+    cores / (1u64 << r) % 2 == 1
+}
+
+/// The ends of the stalls of g processors that were never stalled.
+#[tactic(auto, using(crate::proofs::Replicate::replicate_one_more))]
+fn no_stalls(g: u8) -> StallEnds
+    requires { g ≤ 4 }
+    ensures { result ≡ replicate g (moment 0) }
+{
+    let mut ends = Short::new();
+    for i in 0..g {
+        ends.push(Moment(0));
+    }
+    ends
+}
+
+/// The core r, where it is in the set.
+fn core_of_set(cores: u64, r: u8, g: u8) -> Option<Resource>
+    requires few { g ≤ 4 }
+    requires core { r < 64 }
+    ensures { result ≡ opening_core g cores r }
+{
+    if has_core(cores, r) {
+        Some(fresh_core(&no_stalls(g)))
+    } else {
+        None
+    }
+}
+
+/// The cores of a pool that has this set of them: one place for each core of the machine.
+#[tactic(auto, using(crate::proofs::Growing::length_of_numbers))]
+pub fn fresh_cores(
+    alloc: Global,
+    cores: u64,
+    count: u8,
+    g: u8,
+) -> Result<Row<Option<Resource>>, NoMemory>
+    requires few { g ≤ 4 }
+    requires count { count ≤ 64 }
+    ensures cores { IfOk result (λ row. row ≡ map (opening_core g cores) (numbers_from 0 count)) }
+    ensures few { IfOk result (λ row. length row ≤ 64) }
+{
+    let mut places = Vec::new(alloc);
+    for r in 0..count {
+        places.push(core_of_set(cores, r, g))?;
+    }
+    Ok(Row::from_vec(places))
+}
+
+/// Whether one of the pools has the core.
+fn is_in_pool(pools: &[PoolConfig], r: u8) -> bool
+    requires { r < 64 }
+    ensures { result ≡ list_any (λ (pool : PoolRecord). has_core_spec pool.cores r) pools.now }
+{
+    pools.iter().any(|pool| has_core(pool.cores, r))
+}
+
+/// The core r, where no pool has it.
+fn free_core(config: &Config, r: u8) -> Option<FreeCore>
+    requires few { config.now.granularity ≤ 4 }
+    requires core { r < 64 }
+    ensures { result ≡ opening_free_spec config.now r }
+{
+    if is_in_pool(config.pools.as_slice(), r) {
+        None
+    } else {
+        Some(FreeCore {
+            target: None,
+            stall_ends: no_stalls(config.granularity),
+        })
+    }
+}
+
+/// The cores of no pool: one place for each core of the machine.
+#[tactic(auto, using(crate::proofs::Growing::numbers_one_more))]
+pub fn free_cores(
+    alloc: Global,
+    config: &Config,
+    count: u8,
+) -> Result<Row<Option<FreeCore>>, NoMemory>
+    requires few { config.now.granularity ≤ 4 }
+    requires count { count ≤ 64 }
+    ensures { IfOk result (λ row. row ≡ map (opening_free_spec config.now) (numbers_from 0 count)) }
+{
+    let mut places = Vec::new(alloc);
+    for r in 0..count {
+        places.push(free_core(config, r))?;
+    }
+    Ok(Row::from_vec(places))
+}

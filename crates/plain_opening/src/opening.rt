@@ -1,0 +1,217 @@
+//! The state at the opening.
+
+ghost use Rattle.std.specs.Prelude.{◌≡◌, ℕ, ◌+◌, ◌-◌, ◌≤◌, ◌<◌, ◌*◌, ◌∷◌, ◌++◌, [], List, Option, Some, None, IfOk, OnOk, replicate, length, map, slice_get};
+ghost use Rattle.sched_model.specs.declared.config.PoolConfig.{PoolConfig as PoolConfigRecord};
+ghost use Rattle.sched_model.specs.Checked.{IsChecked, IsCheckedConfig};
+ghost use Rattle.sched_model.specs.Opening.{with_pins as with_pins_spec, with_configured as with_configured_spec, with_domains as with_domains_spec, opening_pool as opening_pool_spec, opening_pools as opening_pools_spec, opening};
+ghost use Rattle.std.specs.List.{All};
+ghost use Rattle.plain_policy.specs.Parameters.{ParamsFit};
+ghost use Rattle.plain_opening.specs.Opened.{FewWait, AllFewWait, JoinFits, configured_if as configured_if_spec};
+
+use crate::cores::{free_cores, fresh_cores};
+use crate::rows::fresh_vcpus;
+use crate::spare::{core_count, empty_pool};
+use plain_policy::params::pin;
+use plain_pool::domains::with_domain;
+use sched_base::{Cores, Name, NoMemory};
+use sched_model::config::{Config, DomConfig, PoolConfig};
+use sched_model::machine::Machine;
+use sched_model::row::Row;
+use sched_model::state::{Domain, Pool, State};
+use std::alloc::Global;
+
+/// How many pools there may be.
+const MOST_POOLS: usize = 16;
+
+/// The sets of cores of the units of the domain d set, the first of them that of unit n.
+#[tactic(auto, using(crate::proofs::Queues::pinned_once))]
+fn with_pins(d: u8, n: u8, pins: &[Cores], pool: &mut Pool)
+    requires few { n + length pins.now ≤ 32 }
+    ensures { pool.new ≡ with_pins_spec d n pins.now pool.old }
+{
+    match pins {
+        [] => {}
+        [cores, rest @ ..] => {
+            pin(d, Some(n), *cores, &mut pool.scheduler.affinity);
+            with_pins(d, n + 1, rest, pool);
+        }
+    }
+}
+
+/// The domain d of the file joins the pool.
+#[tactic(auto, using(crate::proofs::Queues::cores_by_configured))]
+fn with_configured(
+    alloc: Global,
+    g: u8,
+    d: u8,
+    joining: &DomConfig,
+    pool: &mut Pool,
+) -> Result<(), NoMemory>
+    requires some { 0 < g }
+    requires few { g ≤ 4 }
+    requires cores { length pool.old.resources ≤ 64 }
+    requires guests { length joining.now.guests ≤ 32 }
+    requires params { ParamsFit joining.now.params }
+    requires room { FewWait (with_configured_spec g d joining.now pool.old) }
+    ensures pool { OnOk result (pool.new ≡ with_configured_spec g d joining.now pool.old) }
+    ensures cores { OnOk result (pool.new.resources ≡ pool.old.resources) }
+{
+    let fresh = Domain {
+        paused: false,
+        moving: None,
+        vcpus: fresh_vcpus(alloc, joining.guests.as_slice())?,
+    };
+    with_domain(g, 0, d, fresh, &joining.params, pool);
+    with_pins(d, 0, joining.pins.as_slice(), pool);
+    Ok(())
+}
+
+/// The domain d of the file joins the pool i, where this is its home.
+fn configured_if(
+    alloc: Global,
+    g: u8,
+    i: u8,
+    d: u8,
+    joining: &DomConfig,
+    pool: &mut Pool,
+) -> Result<(), NoMemory>
+    requires some { 0 < g }
+    requires few { g ≤ 4 }
+    requires cores { length pool.old.resources ≤ 64 }
+    requires fits { JoinFits joining.now }
+    requires room { FewWait (configured_if_spec g i d joining.now pool.old) }
+    ensures pool { OnOk result (pool.new ≡ configured_if_spec g i d joining.now pool.old) }
+    ensures cores { OnOk result (pool.new.resources ≡ pool.old.resources) }
+{
+    if joining.home.0 == i {
+        with_configured(alloc, g, d, joining, pool)
+    } else {
+        Ok(())
+    }
+}
+
+/// The domains whose home is the pool i join it, the first of the list being the domain d.
+#[tactic(auto, using(crate::proofs::Queues::room_of_first))]
+fn with_domains(
+    alloc: Global,
+    g: u8,
+    i: u8,
+    d: u8,
+    domains: &[DomConfig],
+    pool: &mut Pool,
+) -> Result<(), NoMemory>
+    requires some { 0 < g }
+    requires few { g ≤ 4 }
+    requires cores { length pool.old.resources ≤ 64 }
+    requires domains { All JoinFits domains.now }
+    requires count { d + length domains.now ≤ 64 }
+    requires room { FewWait (with_domains_spec g i d domains.now pool.old) }
+    ensures { OnOk result (pool.new ≡ with_domains_spec g i d domains.now pool.old) }
+{
+    match domains {
+        [] => Ok(()),
+        [joining, rest @ ..] => {
+            configured_if(alloc, g, i, d, joining, pool)?;
+            with_domains(alloc, g, i, d + 1, rest, pool)
+        }
+    }
+}
+
+/// The pool i with its cores and domains.
+#[tactic(auto, using(crate::proofs::Joining::joins_fit))]
+fn opening_pool(alloc: Global, config: &Config, i: u8, pool: &PoolConfig) -> Result<Pool, NoMemory>
+    requires checked { IsCheckedConfig config.now }
+    requires room { FewWait (opening_pool_spec config.now i pool.now) }
+    ensures { IfOk result (λ opened. opened ≡ opening_pool_spec config.now i pool.now) }
+{
+    let g = config.granularity;
+    let mut opened = empty_pool(alloc, config, &pool.params)?;
+    opened.resources = fresh_cores(alloc, pool.cores, core_count(config), g)?;
+    with_domains(alloc, g, i, 0, config.domains.as_slice(), &mut opened)?;
+    Ok(opened)
+}
+
+/// Adds so many empty places.
+#[tactic(auto, using(crate::proofs::Growing::padded_one_more))]
+fn push_empty<T: Drop>(count: usize, places: &mut Vec<Option<T>>) -> Result<(), NoMemory>
+    ensures { OnOk result (places.new.items ≡ places.old.items ++ replicate count None) }
+{
+    for i in 0..count {
+        places.push(None)?;
+    }
+    Ok(())
+}
+
+/// The name of each pool.
+fn names_of(alloc: Global, pools: &[PoolConfig]) -> Result<Vec<Option<Name>>, NoMemory>
+    ensures { IfOk result (λ names. names.items ≡ map (λ (pool : PoolConfigRecord). Some pool.name) pools.now) }
+{
+    let mut names = Vec::new(alloc);
+    for pool in pools {
+        names.push(Some(pool.name.duplicate()))?;
+    }
+    Ok(names)
+}
+
+/// The name of each pool, and empty places up to the most pools that there may be.
+fn opening_names(alloc: Global, pools: &[PoolConfig]) -> Result<Row<Option<Name>>, NoMemory>
+    requires { length pools.now ≤ 16 }
+    ensures { IfOk result (λ names. names ≡ map (λ (pool : PoolConfigRecord). Some pool.name) pools.now ++ replicate (16 - length pools.now) None) }
+{
+    let mut names = names_of(alloc, pools)?;
+    push_empty(MOST_POOLS - pools.len(), &mut names)?;
+    Ok(Row::from_vec(names))
+}
+
+/// Adds the pools of the list, the first of them with the number i.
+#[tactic(auto, using(crate::proofs::Growing::pushed_before))]
+fn push_pools(
+    alloc: Global,
+    config: &Config,
+    i: u8,
+    pools: &[PoolConfig],
+    places: &mut Vec<Option<Pool>>,
+) -> Result<(), NoMemory>
+    requires checked { IsCheckedConfig config.now }
+    requires few { i + length pools.now ≤ 16 }
+    requires room { AllFewWait config.now i pools.now }
+    ensures { OnOk result (places.new.items ≡ places.old.items ++ opening_pools_spec config.now i pools.now) }
+{
+    match pools {
+        [] => Ok(()),
+        [pool, rest @ ..] => {
+            places.push(Some(opening_pool(alloc, config, i, pool)?))?;
+            push_pools(alloc, config, i + 1, rest, places)
+        }
+    }
+}
+
+/// The pools of the file, and empty places up to the most pools that there may be.
+fn opening_pools(alloc: Global, config: &Config) -> Result<Row<Option<Pool>>, NoMemory>
+    requires checked { IsCheckedConfig config.now }
+    requires room { AllFewWait config.now 0 config.now.pools }
+    ensures { IfOk result (λ pools. pools ≡ opening_pools_spec config.now 0 config.now.pools ++ replicate (16 - length config.now.pools) None) }
+{
+    let pools = config.pools.as_slice();
+    let mut places = Vec::new(alloc);
+    push_pools(alloc, config, 0, pools, &mut places)?;
+    push_empty(MOST_POOLS - pools.len(), &mut places)?;
+    Ok(Row::from_vec(places))
+}
+
+/// The state at the opening of a machine whose values have passed the checks of the domain file and of the work file.
+#[tactic(auto, using(crate::proofs::Room::few_wait))]
+pub fn open_state(alloc: Global, m: &Machine) -> Result<State, NoMemory>
+    requires { IsChecked m.now }
+    ensures { IfOk result (λ s. s ≡ opening m.now) }
+{
+    let config = &m.config;
+    Ok(State {
+        now: 0,
+        names: opening_names(alloc, config.pools.as_slice())?,
+        pools: opening_pools(alloc, config)?,
+        free: free_cores(alloc, config, core_count(config))?,
+        next_stall: 0,
+        next_command: 0,
+    })
+}

@@ -1,0 +1,132 @@
+//! Pools without domains and cores, and those that the commands of a work file may make.
+
+ghost use Rattle.std.specs.Prelude.{◌≡◌, ◌+◌, ◌≤◌, ◌<◌, ◌/◌, ◌∷◌, [], List, Option, Some, None, IfOk, replicate, length, map};
+ghost use Rattle.sched_model.specs.Opening.{empty_pool as empty_pool_spec, core_count as core_count_spec};
+ghost use Rattle.sched_model.specs.Policy.{fresh_records as fresh_records_spec, default_pool_params as default_pool_params_spec};
+ghost use Rattle.plain_opening.specs.Opened.{spare_for as spare_for_spec, spares_of};
+
+use crate::rows::empty_places;
+use sched_base::NoMemory;
+use sched_model::command::Command;
+use sched_model::config::{Config, Frame, FrameList, PoolParams, SchedKind};
+use sched_model::machine::Machine;
+use sched_model::row::Row;
+use sched_model::short::Short;
+use sched_model::state::{ArincRecords, Credit2Records, Pool, Records, Scheduler};
+use sched_model::work::CommandLine;
+use std::alloc::Global;
+
+/// How many cores the machine has.
+pub fn core_count(config: &Config) -> u8
+    requires { 0 < config.now.granularity }
+    ensures { result ≡ core_count_spec config.now }
+{
+    config.processors / config.granularity
+}
+
+/// The entries once more. It takes no memory.
+fn same_entries(entries: &FrameList) -> FrameList
+    ensures { result ≡ entries.now }
+{
+    let mut all = Short::new();
+    for e in entries.as_slice() {
+        all.push(*e);
+    }
+    all
+}
+
+/// The frame once more, where there is one. It takes no memory.
+fn same_frame(frame: &Option<Frame>) -> Option<Frame>
+    ensures { result ≡ frame.now }
+{
+    match frame {
+        None => None,
+        Some(frame) => Some(Frame {
+            major: frame.major,
+            entries: same_entries(&frame.entries),
+        }),
+    }
+}
+
+/// The records of a pool with these parameters and no domain, on a machine of so many domains and cores.
+fn fresh_records(
+    alloc: Global,
+    params: &PoolParams,
+    domains: usize,
+    cores: usize,
+) -> Result<Records, NoMemory>
+    ensures { IfOk result (λ records. records ≡ fresh_records_spec params.now domains cores) }
+{
+    match params {
+        PoolParams::Credit2 { limit } => Ok(Records::Credit2Pool(Credit2Records {
+            limit: *limit,
+            last_reset: None,
+            domains: empty_places(alloc, domains)?,
+        })),
+        PoolParams::Rtds => Ok(Records::RtdsPool(empty_places(alloc, domains)?)),
+        PoolParams::Arinc653 { frame } => Ok(Records::ArincPool(ArincRecords {
+            frame: same_frame(frame),
+            installed: 0,
+        })),
+        PoolParams::Null => Ok(Records::NullPool(empty_places(alloc, cores)?)),
+    }
+}
+
+/// A pool without domains and cores.
+pub fn empty_pool(alloc: Global, config: &Config, params: &PoolParams) -> Result<Pool, NoMemory>
+    requires { 0 < config.now.granularity }
+    ensures { IfOk result (λ pool. pool ≡ empty_pool_spec config.now params.now) }
+{
+    let domains = config.domains.len();
+    let cores = core_count(config) as usize;
+    Ok(Pool {
+        scheduler: Scheduler {
+            queue: Short::new(),
+            affinity: empty_places(alloc, domains)?,
+            records: fresh_records(alloc, params, domains, cores)?,
+        },
+        domains: empty_places(alloc, domains)?,
+        resources: empty_places(alloc, cores)?,
+    })
+}
+
+/// The parameters that a pool has where none are given.
+fn default_params(kind: SchedKind) -> PoolParams
+    ensures { result ≡ default_pool_params_spec kind }
+{
+    match kind {
+        SchedKind::Credit2 => PoolParams::Credit2 { limit: 1000 },
+        SchedKind::Rtds => PoolParams::Rtds,
+        SchedKind::Arinc653 => PoolParams::Arinc653 { frame: None },
+        SchedKind::Null => PoolParams::Null,
+    }
+}
+
+/// The pool that the command on the line makes, where it makes one: of Credit2, unless it names another scheduler.
+fn spare_for(alloc: Global, config: &Config, line: &CommandLine) -> Result<Option<Pool>, NoMemory>
+    requires { 0 < config.now.granularity }
+    ensures { IfOk result (λ spare. spare ≡ spare_for_spec config.now line.now) }
+{
+    match &line.command {
+        Ok(Command::PoolCreate { name: _, sched }) => {
+            let kind = match sched {
+                None => SchedKind::Credit2,
+                Some(kind) => *kind,
+            };
+            Ok(Some(empty_pool(alloc, config, &default_params(kind))?))
+        }
+        _ => Ok(None),
+    }
+}
+
+/// The pools that the commands of the work file may make: one place for each command, with the pool that it makes.
+pub fn open_spares(alloc: Global, m: &Machine) -> Result<Row<Option<Pool>>, NoMemory>
+    requires { 0 < m.now.config.granularity }
+    ensures { IfOk result (λ spares. spares ≡ spares_of m.now) }
+{
+    let mut spares = Vec::new(alloc);
+    for line in m.work.commands.as_slice() {
+        spares.push(spare_for(alloc, &m.config, line)?)?;
+    }
+    Ok(Row::from_vec(spares))
+}

@@ -1,0 +1,13 @@
+//! What the schedulers decide, by a scan of the waiting units.
+#![tactic(auto)]
+
+pub mod arinc;
+pub mod null;
+pub mod params;
+pub mod places;
+pub mod policy;
+pub mod queue;
+pub mod records;
+pub mod rtds;
+#[cfg(test)]
+mod tests;

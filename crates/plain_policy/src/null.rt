@@ -1,0 +1,210 @@
+//! The null scheduler: each core is given to one unit for good.
+
+ghost use Rattle.std.specs.Prelude.{◌≡◌, ℕ, ◌+◌, ◌<◌, ◌≤◌, ◌==◌, [], length};
+ghost use Rattle.std.specs.List.{list_any};
+ghost use Rattle.sched_base.specs.declared.UnitId.{UnitId as UnitName};
+ghost use Rattle.sched_model.specs.declared.state.Records.TheVariants.{NullPool};
+ghost use Rattle.sched_model.specs.Eligible.{is_placed as is_placed_spec, is_taken as is_taken_spec, passes as passes_spec};
+ghost use Rattle.sched_model.specs.Places.{at_place, numbered, same_unit};
+ghost use Rattle.sched_model.specs.State.{has_core as has_core_spec};
+ghost use Rattle.sched_model.specs.NullScheduler.{released, kept_for, placed_or_earliest, choice as choice_spec, choose_null};
+ghost use Rattle.plain_units.specs.Tells.{Tells};
+ghost use Rattle.plain_policy.specs.Parts.{scheduler_of};
+
+use crate::places::set_place;
+use plain_units::decided::Decided;
+use plain_units::eligible::is_allowed;
+use plain_units::units::{is_same, is_there};
+use sched_base::UnitId;
+use sched_model::ask::Ask;
+use sched_model::config::Pins;
+use sched_model::row::Row;
+
+/// The unit that the core is kept for.
+fn kept_at(kept: &[Option<UnitId>], core: u8) -> Option<UnitId>
+    ensures { result ≡ at_place kept.now core }
+{
+    let place = core as usize;
+    if place < kept.len() {
+        kept[place]
+    } else {
+        None
+    }
+}
+
+/// Whether the set has the core.
+fn has_core(home: u64, core: u8) -> bool
+    requires { core < 64 }
+    ensures { result ≡ has_core_spec home core }
+{
+    home / (1u64 << core) % 2 == 1
+}
+
+/// Whether the core is given to the unit: it is kept for it, is one of the pool's, and is allowed.
+fn is_placed(
+    kept: &[Option<UnitId>],
+    affinity: &[Option<Pins>],
+    home: u64,
+    core: u8,
+    u: UnitId,
+) -> bool
+    requires { core < 64 }
+    ensures { result ≡ is_placed_spec (scheduler_of [] affinity.now (NullPool kept.now)) kept.now home core u }
+{
+    is_there(kept_at(kept, core), u) && has_core(home, core) && is_allowed(affinity, home, core, u)
+}
+
+/// Whether some unit is given the core.
+fn is_taken(kept: &[Option<UnitId>], affinity: &[Option<Pins>], home: u64, core: u8) -> bool
+    requires { core < 64 }
+    ensures { result ≡ is_taken_spec (scheduler_of [] affinity.now (NullPool kept.now)) kept.now home core }
+{
+    match kept_at(kept, core) {
+        None => false,
+        Some(u) => is_placed(kept, affinity, home, core, u),
+    }
+}
+
+/// Whether the unit is given one of these cores, of which the first has the number core.
+fn has_place_from(
+    core: u8,
+    places: &[Option<UnitId>],
+    kept: &[Option<UnitId>],
+    affinity: &[Option<Pins>],
+    home: u64,
+    u: UnitId,
+) -> bool
+    requires { core + length places.now ≤ 64 }
+    ensures { result ≡ list_any (λ (e : ℕ × UnitName). is_placed_spec (scheduler_of [] affinity.now (NullPool kept.now)) kept.now home e.0 u) (numbered core places.now) }
+{
+    match places {
+        [] => false,
+        [None, rest @ ..] => has_place_from(core + 1, rest, kept, affinity, home, u),
+        [Some(_), rest @ ..] => {
+            is_placed(kept, affinity, home, core, u)
+                || has_place_from(core + 1, rest, kept, affinity, home, u)
+        }
+    }
+}
+
+/// Whether the null scheduler's own rule lets the unit have the core: it is given the core, or neither of them is given at all.
+pub fn passes(
+    kept: &[Option<UnitId>],
+    affinity: &[Option<Pins>],
+    home: u64,
+    core: u8,
+    u: UnitId,
+) -> bool
+    requires core { core < 64 }
+    requires few { length kept.now ≤ 64 }
+    ensures { result ≡ passes_spec (NullPool kept.now) (scheduler_of [] affinity.now (NullPool kept.now)) home core 0 u }
+{
+    is_placed(kept, affinity, home, core, u)
+        || (!has_place_from(0, kept, kept, affinity, home, u)
+            && !is_taken(kept, affinity, home, core))
+}
+
+/// The first waiting unit that may have the core.
+fn earliest(
+    kept: &[Option<UnitId>],
+    queue: &[UnitId],
+    affinity: &[Option<Pins>],
+    ask: &Ask,
+) -> Option<UnitId>
+    requires core { ask.now.core < 64 }
+    requires few { length kept.now ≤ 64 }
+    ensures { result ≡ placed_or_earliest ask.now (scheduler_of queue.now affinity.now (NullPool kept.now)) kept.now }
+{
+    for u in queue {
+        if is_allowed(affinity, ask.home, ask.core, *u)
+            && passes(kept, affinity, ask.home, ask.core, *u)
+        {
+            return Some(*u);
+        }
+    }
+    None
+}
+
+/// The core's own unit, where it was given the core and may go on, and else one that waits.
+fn choice(
+    kept: &[Option<UnitId>],
+    queue: &[UnitId],
+    affinity: &[Option<Pins>],
+    ask: &Ask,
+) -> Option<UnitId>
+    requires core { ask.now.core < 64 }
+    requires few { length kept.now ≤ 64 }
+    ensures { result ≡ choice_spec ask.now (scheduler_of queue.now affinity.now (NullPool kept.now)) kept.now }
+{
+    if let Some(u) = ask.cur
+        && ask.runnable
+        && is_placed(kept, affinity, ask.home, ask.core, u)
+    {
+        return Some(u);
+    }
+    earliest(kept, queue, affinity, ask)
+}
+
+/// No core is kept for the unit any more.
+fn release_unit(u: UnitId, kept: &mut Row<Option<UnitId>>)
+    ensures { kept.new ≡ released (same_unit u) kept.old }
+{
+    for r in 0..kept.len() {
+        let there = kept.item_mut(r);
+        if let Some(w) = *there
+            && is_same(u, w)
+        {
+            *there = None;
+        }
+    }
+}
+
+/// No core is kept for a unit of the domain any more.
+pub fn release_domain(d: u8, kept: &mut Row<Option<UnitId>>)
+    ensures { kept.new ≡ released (λ u. u.dom.0 == d) kept.old }
+{
+    for r in 0..kept.len() {
+        let there = kept.item_mut(r);
+        if let Some(w) = *there
+            && w.dom.0 == d
+        {
+            *there = None;
+        }
+    }
+}
+
+/// The core is kept for the unit, and no other core is.
+fn keep_for(core: u8, u: UnitId, kept: &mut Row<Option<UnitId>>)
+    ensures { kept.new ≡ kept_for core u kept.old }
+{
+    release_unit(u, kept);
+    set_place(kept, core, Some(u));
+}
+
+/// The null scheduler decides: the chosen unit keeps the core, and a core that is leaving keeps none.
+pub fn choose(
+    kept: &mut Row<Option<UnitId>>,
+    queue: &[UnitId],
+    affinity: &[Option<Pins>],
+    ask: &Ask,
+) -> Decided
+    requires core { ask.now.core < 64 }
+    requires few { length kept.old ≤ 64 }
+    ensures decided { Tells result (choose_null ask.now (scheduler_of queue.now affinity.now (NullPool kept.old)) kept.old) }
+    ensures records { NullPool kept.new ≡ (choose_null ask.now (scheduler_of queue.now affinity.now (NullPool kept.old)) kept.old).records }
+{
+    let chosen = if ask.leaving {
+        set_place(kept, ask.core, None);
+        None
+    } else {
+        choice(kept.as_slice(), queue, affinity, ask)
+    };
+    if let Some(u) = chosen {
+        keep_for(ask.core, u, kept);
+    }
+    Decided {
+        unit: chosen,
+        due: None,
+        reset: 0,
+    }
+}

@@ -1,0 +1,165 @@
+//! The parameters of pools and domains, and the domains that join and part.
+
+ghost use Rattle.std.specs.Prelude.{◌≡◌, ◌≤◌};
+ghost use Rattle.sched_model.specs.Places.{change_at};
+ghost use Rattle.sched_model.specs.Policy.{default_pool_params as default_pool_params_spec, default_dom_params as default_dom_params_spec, pinned, joined_records, join as join_spec, parted_records, part as part_spec, set_params as set_params_spec};
+ghost use Rattle.plain_units.specs.Fits.{RecordsFit};
+ghost use Rattle.plain_policy.specs.Parameters.{ParamsFit, ChangeFits};
+
+use crate::null::release_domain;
+use crate::places::{copies, set_place};
+use crate::rtds;
+use plain_credit2::credit2;
+use sched_base::{Cores, Span};
+use sched_model::config::{DomParams, ParamChange, Pins, PoolParams, SchedKind};
+use sched_model::row::Row;
+use sched_model::state::{Records, Scheduler};
+
+/// The parameters of a pool where none are given.
+pub fn default_pool_params(kind: SchedKind) -> PoolParams
+    ensures { result ≡ default_pool_params_spec kind }
+{
+    match kind {
+        SchedKind::Credit2 => PoolParams::Credit2 { limit: 1000 },
+        SchedKind::Rtds => PoolParams::Rtds,
+        SchedKind::Arinc653 => PoolParams::Arinc653 { frame: None },
+        SchedKind::Null => PoolParams::Null,
+    }
+}
+
+/// The parameters of a domain that moves to a pool with these records.
+pub fn default_dom_params(records: &Records) -> DomParams
+    ensures { result ≡ default_dom_params_spec records.now }
+{
+    match records {
+        Records::Credit2Pool(_) => DomParams::Credit2 {
+            weight: 256,
+            cap: 0,
+        },
+        Records::RtdsPool(_) => DomParams::Rtds {
+            period: Span(10_000_000),
+            budget: Span(4_000_000),
+            extra: true,
+        },
+        Records::ArincPool(_) => DomParams::Arinc653,
+        Records::NullPool(_) => DomParams::Null,
+    }
+}
+
+/// The records with those of a domain that joins at t, with so many units. A scheduler keeps its records where it is given
+/// parameters of another one.
+fn join_records(d: u8, count: u8, params: &DomParams, t: u64, records: &mut Records)
+    requires count { count ≤ 32 }
+    requires params { ParamsFit params.now }
+    requires early { t ≤ 10000000000000 }
+    ensures { records.new ≡ joined_records records.old params.now d count t }
+{
+    match (records, *params) {
+        (Records::Credit2Pool(records), DomParams::Credit2 { weight, cap }) => {
+            let domain = credit2::fresh_domain(weight, cap, count, t);
+            set_place(&mut records.domains, d, Some(domain));
+        }
+        (
+            Records::RtdsPool(domains),
+            DomParams::Rtds {
+                period,
+                budget,
+                extra,
+            },
+        ) => {
+            let units = rtds::fresh_units(period, budget, extra, count, t);
+            set_place(domains, d, Some(units));
+        }
+        _ => {}
+    }
+}
+
+/// The domain, with so many units, joins at t. Its units may have all cores.
+pub fn join(d: u8, count: u8, params: &DomParams, t: u64, scheduler: &mut Scheduler)
+    requires count { count ≤ 32 }
+    requires params { ParamsFit params.now }
+    requires early { t ≤ 10000000000000 }
+    ensures { scheduler.new ≡ join_spec d count params.now t scheduler.old }
+{
+    let sets = copies(Cores(u64::MAX), count);
+    set_place(&mut scheduler.affinity, d, Some(sets));
+    join_records(d, count, params, t, &mut scheduler.records);
+}
+
+/// The records without the domain.
+fn part_records(d: u8, records: &mut Records)
+    ensures { records.new ≡ parted_records records.old d }
+{
+    match records {
+        Records::Credit2Pool(records) => set_place(&mut records.domains, d, None),
+        Records::RtdsPool(domains) => set_place(domains, d, None),
+        Records::ArincPool(_) => {}
+        Records::NullPool(kept) => release_domain(d, kept),
+    }
+}
+
+/// The domain parts.
+pub fn part(d: u8, scheduler: &mut Scheduler)
+    ensures { scheduler.new ≡ part_spec d scheduler.old }
+{
+    set_place(&mut scheduler.affinity, d, None);
+    part_records(d, &mut scheduler.records);
+}
+
+/// The set of cores of one of the units, or of all of them.
+fn pin_units(unit: Option<u8>, cores: Cores, units: &mut Pins)
+    ensures { units.new ≡ pinned unit cores units.old }
+{
+    match unit {
+        None => *units = copies(cores, units.len() as u8),
+        Some(n) => {
+            if let Some(set) = units.get_mut(n as usize) {
+                *set = cores;
+            }
+        }
+    }
+}
+
+/// The set of cores of one of the domain's units, or of all of them.
+pub fn pin(d: u8, unit: Option<u8>, cores: Cores, affinity: &mut Row<Option<Pins>>)
+    ensures { affinity.new ≡ change_at d (pinned unit cores) affinity.old }
+{
+    let place = d as usize;
+    if place < affinity.len() {
+        if let Some(units) = affinity.item_mut(place) {
+            pin_units(unit, cores, units);
+        }
+    }
+}
+
+/// The parameters change at t. A change for another scheduler changes nothing.
+pub fn set_params(change: ParamChange, t: u64, scheduler: &mut Scheduler)
+    requires change { ChangeFits change }
+    requires records { RecordsFit t scheduler.old.records }
+    requires early { t ≤ 10000000000000 }
+    ensures { scheduler.new ≡ set_params_spec change t scheduler.old }
+{
+    match (change, &mut scheduler.records) {
+        (ParamChange::Pin { dom, unit, cores }, _) => {
+            pin(dom.0, unit, cores, &mut scheduler.affinity);
+        }
+        (ParamChange::Dom { dom, weight, cap }, Records::Credit2Pool(records)) => {
+            credit2::set_domain(t, dom.0, weight, cap, records);
+        }
+        (ParamChange::Rate { limit }, Records::Credit2Pool(records)) => records.limit = limit,
+        (
+            ParamChange::Unit {
+                unit,
+                period,
+                budget,
+                extra,
+            },
+            Records::RtdsPool(domains),
+        ) => rtds::set_next(unit, period, budget, extra, domains),
+        (ParamChange::Frame { frame }, Records::ArincPool(records)) => {
+            records.frame = Some(frame);
+            records.installed = t;
+        }
+        _ => {}
+    }
+}

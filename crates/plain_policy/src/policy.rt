@@ -1,0 +1,187 @@
+//! What a scheduler decides for its pool, by a scan of the waiting units.
+
+ghost use Rattle.std.specs.Prelude.{◌≡◌, ◌<◌, ◌≤◌, ◌&&◌};
+ghost use Rattle.std.specs.List.{list_any};
+ghost use Rattle.sched_model.specs.Eligible.{passes as passes_spec, is_eligible as is_eligible_spec};
+ghost use Rattle.sched_model.specs.Policy.{decision_by, decision_of, after_decision, is_better as is_better_spec, better_waits as better_waits_spec, replenish as replenish_spec, refill as refill_spec};
+ghost use Rattle.plain_units.specs.Fits.{RecordsFit};
+ghost use Rattle.plain_units.specs.Tells.{Tells};
+ghost use Rattle.plain_policy.specs.Parts.{scheduler_of};
+
+use crate::{arinc, null, rtds};
+use plain_credit2::credit2;
+use plain_units::decided::Decided;
+use plain_units::eligible::is_allowed;
+use plain_units::units::{drop_unit, is_same};
+use sched_base::UnitId;
+use sched_model::ask::Ask;
+use sched_model::config::Pins;
+use sched_model::state::{Records, Scheduler};
+
+/// Whether the scheduler's own rule lets the unit have a core at t.
+fn passes(scheduler: &Scheduler, home: u64, core: u8, t: u64, u: UnitId) -> bool
+    requires records { RecordsFit t scheduler.now.records }
+    requires early { t ≤ 10000000000000 }
+    requires core { core < 64 }
+    ensures { result ≡ passes_spec scheduler.now.records scheduler.now home core t u }
+{
+    match &scheduler.records {
+        Records::Credit2Pool(records) => credit2::passes(records, u),
+        Records::RtdsPool(domains) => rtds::passes(domains.as_slice(), u),
+        Records::ArincPool(records) => arinc::passes(records, t, u),
+        Records::NullPool(kept) => {
+            null::passes(
+                kept.as_slice(),
+                scheduler.affinity.as_slice(),
+                home,
+                core,
+                u,
+            )
+        }
+    }
+}
+
+/// Whether a waiting unit is eligible for the core.
+fn is_eligible(scheduler: &Scheduler, home: u64, core: u8, t: u64, u: UnitId) -> bool
+    requires records { RecordsFit t scheduler.now.records }
+    requires early { t ≤ 10000000000000 }
+    requires core { core < 64 }
+    ensures { result ≡ is_eligible_spec scheduler.now home core t u }
+{
+    is_allowed(scheduler.affinity.as_slice(), home, core, u) && passes(scheduler, home, core, t, u)
+}
+
+/// Whether the unit is better than the core's own.
+fn is_better(scheduler: &Scheduler, cur: UnitId, since: u64, t: u64, u: UnitId) -> bool
+    requires records { RecordsFit t scheduler.now.records }
+    requires early { t ≤ 10000000000000 }
+    ensures { result ≡ is_better_spec scheduler.now.records cur since t u }
+{
+    match &scheduler.records {
+        Records::Credit2Pool(records) => credit2::is_better(records, cur, since, t, u),
+        Records::RtdsPool(domains) => rtds::unit_before(domains.as_slice(), u, cur),
+        Records::ArincPool(_) => !is_same(u, cur),
+        Records::NullPool(_) => false,
+    }
+}
+
+/// Whether some unit waits that is eligible for the core.
+fn some_waits(scheduler: &Scheduler, home: u64, core: u8, t: u64) -> bool
+    requires records { RecordsFit t scheduler.now.records }
+    requires early { t ≤ 10000000000000 }
+    requires core { core < 64 }
+    ensures { result ≡ list_any (is_eligible_spec scheduler.now home core t) scheduler.now.queue }
+{
+    let waiting = scheduler.queue.as_slice();
+    waiting
+        .iter()
+        .any(|u| is_eligible(scheduler, home, core, t, *u))
+}
+
+/// Whether some unit waits that is eligible for the core and better than its own.
+fn some_better_waits(
+    scheduler: &Scheduler,
+    own: UnitId,
+    since: u64,
+    t: u64,
+    core: u8,
+    home: u64,
+) -> bool
+    requires records { RecordsFit t scheduler.now.records }
+    requires early { t ≤ 10000000000000 }
+    requires core { core < 64 }
+    ensures { result ≡ list_any (λ u. is_eligible_spec scheduler.now home core t u && is_better_spec scheduler.now.records own since t u) scheduler.now.queue }
+{
+    let waiting = scheduler.queue.as_slice();
+    waiting.iter().any(|u| {
+        is_eligible(scheduler, home, core, t, *u) && is_better(scheduler, own, since, t, *u)
+    })
+}
+
+/// Whether the core is to decide anew: a unit waits for it while it has none, or its own is not allowed, or a better one waits.
+pub fn better_waits(
+    cur: Option<UnitId>,
+    since: u64,
+    t: u64,
+    core: u8,
+    home: u64,
+    scheduler: &Scheduler,
+) -> bool
+    requires records { RecordsFit t scheduler.now.records }
+    requires early { t ≤ 10000000000000 }
+    requires core { core < 64 }
+    ensures { result ≡ better_waits_spec cur since t core home scheduler.now }
+{
+    match cur {
+        None => some_waits(scheduler, home, core, t),
+        Some(own) => {
+            !is_allowed(scheduler.affinity.as_slice(), home, core, own)
+                || some_better_waits(scheduler, own, since, t, core, home)
+        }
+    }
+}
+
+/// The scheduler of these parts decides for a core.
+fn decide_by(
+    queue: &[UnitId],
+    affinity: &[Option<Pins>],
+    records: &mut Records,
+    ask: &Ask,
+) -> Decided
+    requires records { RecordsFit ask.now.at records.old }
+    requires early { ask.now.at ≤ 10000000000000 }
+    requires core { ask.now.core < 64 }
+    ensures decided { Tells result (decision_by records.old ask.now (scheduler_of queue.now affinity.now records.old)) }
+    ensures records { records.new ≡ (decision_by records.old ask.now (scheduler_of queue.now affinity.now records.old)).records }
+{
+    match records {
+        Records::Credit2Pool(records) => credit2::choose(records, queue, affinity, ask),
+        Records::RtdsPool(domains) => rtds::choose(domains, queue, affinity, ask),
+        Records::ArincPool(records) => arinc::choose(records, queue, affinity, ask),
+        Records::NullPool(kept) => null::choose(kept, queue, affinity, ask),
+    }
+}
+
+/// The scheduler decides for a core; the chosen unit leaves the queue.
+pub fn decide(scheduler: &mut Scheduler, ask: &Ask) -> Decided
+    requires records { RecordsFit ask.now.at scheduler.old.records }
+    requires early { ask.now.at ≤ 10000000000000 }
+    requires core { ask.now.core < 64 }
+    ensures decided { Tells result (decision_of ask.now scheduler.old) }
+    ensures scheduler { scheduler.new ≡ after_decision (decision_of ask.now scheduler.old) scheduler.old }
+{
+    let decided = decide_by(
+        scheduler.queue.as_slice(),
+        scheduler.affinity.as_slice(),
+        &mut scheduler.records,
+        ask,
+    );
+    if let Some(u) = decided.unit {
+        drop_unit(&mut scheduler.queue, u);
+    }
+    decided
+}
+
+/// The unit is replenished at t.
+pub fn replenish(records: &mut Records, t: u64, u: UnitId)
+    requires records { RecordsFit t records.old }
+    requires early { t ≤ 10000000000000 }
+    ensures { records.new ≡ replenish_spec records.old t u }
+{
+    match records {
+        Records::RtdsPool(domains) => rtds::replenish(t, u, domains),
+        _ => {}
+    }
+}
+
+/// The domain is refilled at t.
+pub fn refill(records: &mut Records, t: u64, d: u8)
+    requires records { RecordsFit t records.old }
+    requires early { t ≤ 10000000000000 }
+    ensures { records.new ≡ refill_spec records.old t d }
+{
+    match records {
+        Records::Credit2Pool(records) => credit2::refill(t, d, records),
+        _ => {}
+    }
+}

@@ -1,0 +1,29 @@
+//! The queue of a scheduler.
+
+ghost use Rattle.std.specs.Prelude.{◌≡◌, ◌<◌, length};
+ghost use Rattle.sched_model.specs.Policy.{enqueue as enqueue_spec, dequeue_domain as dequeue_domain_spec};
+
+use sched_base::UnitId;
+use sched_model::short::Short;
+use sched_model::state::Scheduler;
+
+/// The unit waits at the end of the queue.
+pub fn enqueue(u: UnitId, scheduler: &mut Scheduler)
+    requires { length scheduler.old.queue < 256 }
+    ensures { scheduler.new ≡ enqueue_spec u scheduler.old }
+{
+    scheduler.queue.push(u);
+}
+
+/// The domain's units are taken out of the queue.
+pub fn dequeue_domain(d: u8, scheduler: &mut Scheduler)
+    ensures { scheduler.new ≡ dequeue_domain_spec d scheduler.old }
+{
+    let mut kept = Short::new();
+    for u in scheduler.queue.as_slice() {
+        if u.dom.0 != d {
+            kept.push(*u);
+        }
+    }
+    scheduler.queue = kept;
+}

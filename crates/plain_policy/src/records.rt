@@ -1,0 +1,84 @@
+//! What a scheduler's records tell.
+
+ghost use Rattle.std.specs.Prelude.{◌≡◌};
+ghost use Rattle.std.specs.Option.{option_copied};
+ghost use Rattle.sched_model.specs.Policy.{kind_of as kind_of_spec, rate_of as rate_of_spec, replenish_due as replenish_due_spec, next_refill as next_refill_spec, rtds_record as rtds_record_spec, credit2_record as credit2_record_spec};
+ghost use Rattle.sched_model.specs.Machine.{is_null as is_null_spec};
+
+use crate::rtds::rtds_unit;
+use plain_credit2::running::domain_at;
+use sched_base::{Moment, UnitId};
+use sched_model::config::SchedKind;
+use sched_model::state::{Credit2Domain, Records, RtdsUnit};
+
+/// Which scheduler it is.
+pub fn kind_of(records: &Records) -> SchedKind
+    ensures { result ≡ kind_of_spec records.now }
+{
+    match records {
+        Records::Credit2Pool(_) => SchedKind::Credit2,
+        Records::RtdsPool(_) => SchedKind::Rtds,
+        Records::ArincPool(_) => SchedKind::Arinc653,
+        Records::NullPool(_) => SchedKind::Null,
+    }
+}
+
+/// Whether it is the null scheduler.
+pub fn is_null(records: &Records) -> bool
+    ensures { result ≡ is_null_spec records.now }
+{
+    match records {
+        Records::NullPool(_) => true,
+        _ => false,
+    }
+}
+
+/// The pool's rate limit in microseconds, and 0 where its scheduler has none.
+pub fn rate_of(records: &Records) -> u32
+    ensures { result ≡ rate_of_spec records.now }
+{
+    match records {
+        Records::Credit2Pool(records) => records.limit,
+        _ => 0,
+    }
+}
+
+/// The unit's RTDS record.
+pub fn rtds_record(records: &Records, u: UnitId) -> Option<&RtdsUnit>
+    ensures { option_copied result ≡ rtds_record_spec records.now u }
+{
+    match records {
+        Records::RtdsPool(domains) => rtds_unit(domains.as_slice(), u),
+        _ => None,
+    }
+}
+
+/// The domain's Credit2 record.
+pub fn credit2_record(records: &Records, d: u8) -> Option<&Credit2Domain>
+    ensures { option_copied result ≡ credit2_record_spec records.now d }
+{
+    match records {
+        Records::Credit2Pool(records) => domain_at(records.domains.as_slice(), d),
+        _ => None,
+    }
+}
+
+/// Whether the unit's deadline has come at t.
+pub fn replenish_due(records: &Records, t: u64, u: UnitId) -> bool
+    ensures { result ≡ replenish_due_spec records.now t u }
+{
+    match rtds_record(records, u) {
+        None => false,
+        Some(unit) => unit.deadline <= t,
+    }
+}
+
+/// The moment of the domain's next refill.
+pub fn next_refill(records: &Records, d: u8) -> Option<Moment>
+    ensures { result ≡ next_refill_spec records.now d }
+{
+    match credit2_record(records, d) {
+        None => None,
+        Some(domain) => domain.refill.map(Moment),
+    }
+}

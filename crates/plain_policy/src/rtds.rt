@@ -1,0 +1,352 @@
+//! RTDS: the unit with the least level, and of those the least deadline, runs as long as its budget lasts.
+
+ghost use Rattle.std.specs.Prelude.{◌≡◌, ◌+◌, ◌<◌, ◌≤◌, ◌^◌, [], ◌∷◌, Some};
+ghost use Rattle.std.specs.Option.{option_copied};
+ghost use Rattle.sched_base.specs.declared.UnitId.{UnitId as UnitName};
+ghost use Rattle.sched_model.specs.declared.state.RtdsUnit.{RtdsUnit as RtdsRecord};
+ghost use Rattle.sched_model.specs.declared.state.Records.TheVariants.{RtdsPool};
+ghost use Rattle.sched_model.specs.Places.{at_place, change_item};
+ghost use Rattle.sched_model.specs.Eligible.{rtds_unit as rtds_unit_spec, passes as passes_spec, eligible};
+ghost use Rattle.sched_model.specs.Rtds.{burn as burn_spec, burn_to as burn_to_spec, replenish as replenish_spec, change_unit, is_before as is_before_spec, unit_before as unit_before_spec, foremost as foremost_spec, budget_left as budget_left_spec, own_candidate as own_candidate_spec, burn_cur as burn_cur_spec, set_running as set_running_spec, choice as choice_spec, decide as decide_spec, choose_rt, fresh_units as fresh_units_spec};
+ghost use Rattle.sched_ranges.specs.Ranges.{RtdsInRange};
+ghost use Rattle.plain_units.specs.Fits.{RtdsFits};
+ghost use Rattle.plain_units.specs.Tells.{Tells};
+ghost use Rattle.plain_policy.specs.Parts.{scheduler_of};
+
+use crate::places::copies;
+use plain_units::decided::Decided;
+use plain_units::eligible::is_allowed;
+use sched_base::{Moment, Span, UnitId};
+use sched_model::ask::Ask;
+use sched_model::config::Pins;
+use sched_model::row::Row;
+use sched_model::state::{RtdsUnit, RtdsUnits};
+
+/// The records of the domain's units.
+fn units_of(domains: &[Option<RtdsUnits>], d: u8) -> Option<&RtdsUnits>
+    ensures { option_copied result ≡ at_place domains.now d }
+{
+    let place = d as usize;
+    if place < domains.len() {
+        domains[place].as_ref()
+    } else {
+        None
+    }
+}
+
+/// The unit's record.
+pub fn rtds_unit(domains: &[Option<RtdsUnits>], u: UnitId) -> Option<&RtdsUnit>
+    ensures { option_copied result ≡ rtds_unit_spec domains.now u }
+{
+    match units_of(domains, u.dom.0) {
+        None => None,
+        Some(units) => units.as_slice().get(u.n as usize),
+    }
+}
+
+/// The records of the units of a domain that joins at t.
+pub fn fresh_units(period: Span, budget: Span, extra: bool, count: u8, t: u64) -> RtdsUnits
+    requires count { count ≤ 32 }
+    requires period { period.0 ≤ 1000000000000 }
+    requires early { t ≤ 10000000000000 }
+    ensures { result ≡ fresh_units_spec period.0 budget.0 extra count t }
+{
+    let unit = RtdsUnit {
+        period: period.0,
+        budget: budget.0,
+        extra,
+        next_period: period.0,
+        next_budget: budget.0,
+        next_extra: extra,
+        deadline: t + period.0,
+        left: budget.0,
+        level: 0,
+        burned: None,
+    };
+    copies(unit, count)
+}
+
+/// The record at this place of the domain's units.
+fn put_item(n: u8, unit: RtdsUnit, units: &mut RtdsUnits)
+    ensures { units.new ≡ change_item n (λ x. unit) units.old }
+{
+    if let Some(there) = units.get_mut(n as usize) {
+        *there = unit;
+    }
+}
+
+/// The unit's record is this one.
+fn put_unit(u: UnitId, unit: RtdsUnit, domains: &mut Row<Option<RtdsUnits>>)
+    ensures { domains.new ≡ change_unit u (λ x. unit) domains.old }
+{
+    let place = u.dom.0 as usize;
+    if place < domains.len() {
+        if let Some(units) = domains.item_mut(place) {
+            put_item(u.n, unit, units);
+        }
+    }
+}
+
+/// What is set of the unit's parameters takes force at its next replenishment.
+pub fn set_next(
+    u: UnitId,
+    period: Span,
+    budget: Span,
+    extra: bool,
+    domains: &mut Row<Option<RtdsUnits>>,
+)
+    ensures { domains.new ≡ change_unit u (λ (x : RtdsRecord). record x { next_period = period.0; next_budget = budget.0; next_extra = extra }) domains.old }
+{
+    if let Some(x) = rtds_unit(domains.as_slice(), u) {
+        let unit = RtdsUnit {
+            next_period: period.0,
+            next_budget: budget.0,
+            next_extra: extra,
+            ..*x
+        };
+        put_unit(u, unit, domains);
+    }
+}
+
+/// The unit after a charge for a span.
+fn burn(elapsed: u64, x: RtdsUnit) -> RtdsUnit
+    requires { x.level + 1 < 2 ^ 32 }
+    ensures { result ≡ burn_spec elapsed x }
+{
+    let mut unit = x;
+    if elapsed < x.left {
+        unit.left = x.left - elapsed;
+    } else if x.extra {
+        unit.left = x.budget;
+        unit.level = x.level + 1;
+    } else {
+        unit.left = 0;
+    }
+    unit
+}
+
+/// A running unit after a charge up to t.
+fn burn_to(t: u64, x: RtdsUnit) -> RtdsUnit
+    requires { x.level + 1 < 2 ^ 32 }
+    ensures { result ≡ burn_to_spec t x }
+{
+    match x.burned {
+        None => x,
+        Some(from) => {
+            let running = RtdsUnit {
+                burned: Some(t),
+                ..x
+            };
+            burn(t.saturating_sub(from), running)
+        }
+    }
+}
+
+/// The replenishment of a unit at t: what was set last takes force, and the new deadline is the first one after t that is whole
+/// periods after the old one.
+fn replenish_unit(t: u64, x: RtdsUnit) -> RtdsUnit
+    requires fits { RtdsInRange t x }
+    requires early { t ≤ 10000000000000 }
+    ensures { result ≡ replenish_spec t x }
+{
+    let charged = burn_to(t, x);
+    let periods = t.saturating_sub(charged.deadline) / charged.next_period + 1;
+    RtdsUnit {
+        period: charged.next_period,
+        budget: charged.next_budget,
+        extra: charged.next_extra,
+        deadline: charged.deadline + charged.next_period * periods,
+        left: charged.next_budget,
+        level: 0,
+        ..charged
+    }
+}
+
+/// The unit is replenished at t.
+pub fn replenish(t: u64, u: UnitId, domains: &mut Row<Option<RtdsUnits>>)
+    requires fits { RtdsFits t domains.old }
+    requires early { t ≤ 10000000000000 }
+    ensures { domains.new ≡ change_unit u (replenish_spec t) domains.old }
+{
+    if let Some(x) = rtds_unit(domains.as_slice(), u) {
+        let unit = replenish_unit(t, *x);
+        put_unit(u, unit, domains);
+    }
+}
+
+/// The unit is charged up to t.
+fn burn_unit(t: u64, u: UnitId, domains: &mut Row<Option<RtdsUnits>>)
+    requires fits { RtdsFits t domains.old }
+    requires early { t ≤ 10000000000000 }
+    ensures { domains.new ≡ change_unit u (burn_to_spec t) domains.old }
+{
+    if let Some(x) = rtds_unit(domains.as_slice(), u) {
+        let unit = burn_to(t, *x);
+        put_unit(u, unit, domains);
+    }
+}
+
+/// The unit runs from a moment, or runs no more.
+fn set_running(from: Option<u64>, u: UnitId, domains: &mut Row<Option<RtdsUnits>>)
+    ensures { domains.new ≡ set_running_spec from u domains.old }
+{
+    if let Some(x) = rtds_unit(domains.as_slice(), u) {
+        let unit = RtdsUnit { burned: from, ..*x };
+        put_unit(u, unit, domains);
+    }
+}
+
+/// Whether the first unit runs before the second: its level is less, or its deadline where they have one level.
+fn is_before(a: &RtdsUnit, b: &RtdsUnit) -> bool
+    ensures { result ≡ is_before_spec a.now b.now }
+{
+    a.level < b.level || (a.level == b.level && a.deadline < b.deadline)
+}
+
+/// Whether the first unit runs before the second, by their records.
+pub fn unit_before(domains: &[Option<RtdsUnits>], u: UnitId, w: UnitId) -> bool
+    ensures { result ≡ unit_before_spec domains.now u w }
+{
+    match rtds_unit(domains, u) {
+        None => false,
+        Some(a) => match rtds_unit(domains, w) {
+            None => false,
+            Some(b) => is_before(a, b),
+        },
+    }
+}
+
+/// The budget that is left to the unit, in nanoseconds.
+fn budget_left(domains: &[Option<RtdsUnits>], u: UnitId) -> u64
+    ensures { result ≡ budget_left_spec domains.now u }
+{
+    match rtds_unit(domains, u) {
+        None => 0,
+        Some(unit) => unit.left,
+    }
+}
+
+/// Whether the unit has budget left.
+pub fn passes(domains: &[Option<RtdsUnits>], u: UnitId) -> bool
+    ensures { result ≡ passes_spec (RtdsPool domains.now) (scheduler_of [] [] (RtdsPool domains.now)) 0 0 0 u }
+{
+    budget_left(domains, u) > 0
+}
+
+/// The unit that runs before the other: the one that is the best so far, where there is one and it is not after the other.
+fn better_of(domains: &[Option<RtdsUnits>], best: Option<UnitId>, u: UnitId) -> UnitId
+    ensures { Some result ≡ foremost_spec domains.now best (u ∷ []) }
+{
+    match best {
+        None => u,
+        Some(w) => { if unit_before(domains, u, w) { u } else { w } }
+    }
+}
+
+/// The unit that runs before the others: the best so far, or an eligible one of the queue; among equals the earlier.
+fn foremost(
+    domains: &[Option<RtdsUnits>],
+    queue: &[UnitId],
+    affinity: &[Option<Pins>],
+    ask: &Ask,
+    own: Option<UnitId>,
+) -> Option<UnitId>
+    requires { ask.now.core < 64 }
+    ensures { result ≡ foremost_spec domains.now own (eligible (scheduler_of queue.now affinity.now (RtdsPool domains.now)) ask.now.home ask.now.core ask.now.at) }
+{
+    let mut best = own;
+    for u in queue {
+        if is_allowed(affinity, ask.home, ask.core, *u) && passes(domains, *u) {
+            best = Some(better_of(domains, best, *u));
+        }
+    }
+    best
+}
+
+/// The core's own unit, where it may go on.
+fn own_candidate(
+    domains: &[Option<RtdsUnits>],
+    affinity: &[Option<Pins>],
+    ask: &Ask,
+) -> Option<UnitId>
+    requires { ask.now.core < 64 }
+    ensures { result ≡ own_candidate_spec ask.now (scheduler_of [] affinity.now (RtdsPool domains.now)) domains.now }
+{
+    let u = ask.cur?;
+    if ask.runnable && is_allowed(affinity, ask.home, ask.core, u) && 0 < budget_left(domains, u) {
+        Some(u)
+    } else {
+        None
+    }
+}
+
+/// The choice, after the core's own unit was charged.
+fn choice(
+    domains: &[Option<RtdsUnits>],
+    queue: &[UnitId],
+    affinity: &[Option<Pins>],
+    ask: &Ask,
+) -> Option<UnitId>
+    requires { ask.now.core < 64 }
+    ensures { result ≡ choice_spec ask.now (scheduler_of queue.now affinity.now (RtdsPool domains.now)) domains.now }
+{
+    if ask.leaving {
+        return None;
+    }
+    let own = own_candidate(domains, affinity, ask);
+    foremost(domains, queue, affinity, ask, own)
+}
+
+/// The core's own unit is charged up to t. No unit has more left than the longest budget then.
+fn burn_cur(cur: Option<UnitId>, t: u64, domains: &mut Row<Option<RtdsUnits>>)
+    requires fits { RtdsFits t domains.old }
+    requires early { t ≤ 10000000000000 }
+    ensures domains { domains.new ≡ burn_cur_spec cur t domains.old }
+    ensures left { (u : UnitName) → budget_left_spec domains.new u ≤ 1000000000000 }
+{
+    if let Some(u) = cur {
+        burn_unit(t, u, domains);
+    }
+}
+
+/// The chosen unit runs from now on, and the core's own no more.
+fn run(chosen: Option<UnitId>, ask: &Ask, domains: &mut Row<Option<RtdsUnits>>) -> Decided
+    requires early { ask.now.at ≤ 10000000000000 }
+    requires left { (u : UnitName) → budget_left_spec domains.old u ≤ 1000000000000 }
+    ensures decided { Tells result (decide_spec ask.now domains.old chosen) }
+    ensures records { RtdsPool domains.new ≡ (decide_spec ask.now domains.old chosen).records }
+{
+    let due = match chosen {
+        None => None,
+        Some(u) => Some(Moment(ask.at + budget_left(domains.as_slice(), u))),
+    };
+    if let Some(u) = ask.cur {
+        set_running(None, u, domains);
+    }
+    if let Some(u) = chosen {
+        set_running(Some(ask.at), u, domains);
+    }
+    Decided {
+        unit: chosen,
+        due,
+        reset: 0,
+    }
+}
+
+/// RTDS decides: the core's own unit is charged first, and then the choice is made.
+pub fn choose(
+    domains: &mut Row<Option<RtdsUnits>>,
+    queue: &[UnitId],
+    affinity: &[Option<Pins>],
+    ask: &Ask,
+) -> Decided
+    requires fits { RtdsFits ask.now.at domains.old }
+    requires early { ask.now.at ≤ 10000000000000 }
+    requires core { ask.now.core < 64 }
+    ensures decided { Tells result (choose_rt ask.now (scheduler_of queue.now affinity.now (RtdsPool domains.old)) domains.old) }
+    ensures records { RtdsPool domains.new ≡ (choose_rt ask.now (scheduler_of queue.now affinity.now (RtdsPool domains.old)) domains.old).records }
+{
+    burn_cur(ask.cur, ask.at, domains);
+    let chosen = choice(domains.as_slice(), queue, affinity, ask);
+    run(chosen, ask, domains)
+}

@@ -1,0 +1,4 @@
+pub mod FitsLemmas
+pub mod DecideLemmas
+pub mod Replenished
+pub mod QueueLemmas

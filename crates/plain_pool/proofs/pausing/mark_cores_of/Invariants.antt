@@ -1,0 +1,11 @@
+use Rattle.std.proofs.Common.{◌≡◌, ◌++◌, take, drop, length}
+use Rattle.sched_model.specs.Places.{change_each}
+use Rattle.plain_pool.specs.Marks.{pending_of}
+use Rattle.plain_pool.proofs.pausing.mark_cores_of.Given as goal
+
+abbrev pub invariant-loop-r : goal.invariant-loop-r
+invariant-loop-r l =
+    record {
+      so_far : take l.r l.cores ++ change_each l.r (pending_of l.d) (drop l.r l.cores) ≡ change_each 0 (pending_of l.d) l.initial.cores;
+      as_long : length l.cores ≡ length l.initial.cores;
+    }

@@ -1,0 +1,103 @@
+//! A core decides. g is the number of a core's processors, t the moment.
+
+ghost use Rattle.std.specs.Prelude.{◌≡◌, ◌≤◌, ◌<◌, length, IsTrue, false, None, Some};
+ghost use Rattle.std.specs.Option.{option_copied};
+ghost use Rattle.sched_base.specs.Numbers.{span};
+ghost use Rattle.sched_model.specs.declared.action.Action.TheVariants.{Decide};
+ghost use Rattle.sched_model.specs.Places.{at_place, change_at};
+ghost use Rattle.sched_model.specs.Pool.{enabled_in, after_in, event_in, ask_of as ask_of_spec, lateness};
+ghost use Rattle.plain_units.specs.Fits.{RecordsFit};
+ghost use Rattle.plain_pool.specs.Deciding.{decided_by};
+ghost use Rattle.plain_pool.specs.Fits.{PoolFits};
+
+use crate::cores::{core_at, home_cores};
+use crate::runnable::is_runnable;
+use plain_policy::policy::decide as decide_by_policy;
+use plain_units::decided::Decided;
+use plain_units::units::is_same_choice;
+use sched_base::{Moment, ResId, Span};
+use sched_model::ask::Ask;
+use sched_model::event::Event;
+use sched_model::row::Row;
+use sched_model::state::{Pool, Resource, Stage};
+
+/// What the core asks its scheduler.
+fn ask_of(g: u8, t: u64, pool: &Pool, r: u8, c: &Resource) -> Ask
+    requires { length pool.now.resources ≤ 64 }
+    ensures { result ≡ ask_of_spec g t pool.now r c.now }
+{
+    let runnable = match c.cur {
+        None => false,
+        Some(u) => is_runnable(g, pool.domains.as_slice(), u),
+    };
+    Ask {
+        cur: c.cur,
+        runnable,
+        since: c.since.0,
+        leaving: c.leaving,
+        at: t,
+        core: r,
+        home: home_cores(pool.resources.as_slice()),
+    }
+}
+
+/// How much later than its due the core decides.
+fn lateness_of(t: u64, c: &Resource) -> Span
+    ensures { result ≡ span (lateness t c.now) }
+{
+    match c.due {
+        None => Span(0),
+        Some(due) => Span(t.saturating_sub(due.0)),
+    }
+}
+
+/// The core with what was decided.
+fn set_decided(t: u64, answer: Decided, c: &mut Resource)
+    ensures { c.new ≡ decided_by t answer c.old }
+{
+    if !is_same_choice(answer.unit, c.cur) {
+        c.saving = c.cur;
+        c.cur = answer.unit;
+        c.since = Moment(t);
+    }
+    c.due = answer.due;
+    c.pending = false;
+    c.stage = Stage::Decided;
+}
+
+/// What was decided at the core with this number.
+fn set_decided_at(t: u64, r: u8, answer: Decided, cores: &mut Row<Option<Resource>>)
+    ensures { cores.new ≡ change_at r (decided_by t answer) cores.old }
+{
+    let place = r as usize;
+    if place < cores.len() {
+        if let Some(c) = cores.item_mut(place) {
+            set_decided(t, answer, c);
+        }
+    }
+}
+
+/// The core decides: its scheduler chooses, and its old unit, where it is another, is to be saved.
+pub fn decide(g: u8, t: u64, r: u8, pool: &mut Pool) -> Event
+    requires enabled { IsTrue (enabled_in g t pool.old (Decide r)) }
+    requires early { t ≤ 10000000000000 }
+    requires fits { PoolFits pool.old }
+    requires records { RecordsFit t pool.old.scheduler.records }
+    ensures event { result ≡ event_in g t pool.old (Decide r) }
+    ensures pool { pool.new ≡ after_in g t pool.old (Decide r) }
+{
+    let Some(c) = core_at(pool.resources.as_slice(), r as usize) else {
+        unreachable!();
+    };
+    let ask = ask_of(g, t, pool, r, c);
+    let late = lateness_of(t, c);
+    let answer = decide_by_policy(&mut pool.scheduler, &ask);
+    set_decided_at(t, r, answer, &mut pool.resources);
+    Event::Decide {
+        r: ResId(r),
+        unit: answer.unit,
+        due: answer.due,
+        late,
+        reset: answer.reset,
+    }
+}

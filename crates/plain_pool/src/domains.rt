@@ -1,0 +1,89 @@
+//! Domains that join a pool and part from it, and units that are queued. g is the number of a core's processors, t the moment.
+
+ghost use Rattle.std.specs.Prelude.{◌≡◌, ◌<◌, ◌≤◌, None, length};
+ghost use Rattle.sched_model.specs.Places.{at_place, clear_at, numbers_from};
+ghost use Rattle.sched_model.specs.Pool.{unit_count as unit_count_spec, queue_if_off as queue_if_off_spec, queue_units as queue_units_spec, with_domain as with_domain_spec, without_domain as without_domain_spec};
+ghost use Rattle.plain_policy.specs.Parameters.{ParamsFit};
+
+use crate::runnable::is_runnable;
+use crate::waking::is_off;
+use plain_policy::params::{join, part};
+use plain_policy::places::set_place;
+use plain_policy::queue::enqueue;
+use sched_base::{DomId, UnitId};
+use sched_model::config::DomParams;
+use sched_model::row::Row;
+use sched_model::state::{Domain, Pool};
+
+/// How many units of g vCPUs the domain has.
+pub fn unit_count(g: u8, domain: &Domain) -> u8
+    requires some { 0 < g }
+    requires few { g ≤ 4 }
+    requires vcpus { length domain.now.vcpus ≤ 32 }
+    ensures count { result ≡ unit_count_spec g domain.now }
+    ensures fits { result ≤ 32 }
+{
+    ((domain.vcpus.len() + g as usize - 1) / g as usize) as u8
+}
+
+/// The unit joins the queue where it is runnable and off.
+fn queue_if_off(g: u8, u: UnitId, pool: &mut Pool)
+    requires cores { length pool.old.resources ≤ 64 }
+    requires room { length (queue_if_off_spec g u pool.old).scheduler.queue ≤ 256 }
+    ensures { pool.new ≡ queue_if_off_spec g u pool.old }
+{
+    if is_runnable(g, pool.domains.as_slice(), u) && is_off(pool, u) {
+        enqueue(u, &mut pool.scheduler);
+    }
+}
+
+/// The same of the domain's units, of which there are count, one after another.
+pub fn queue_units(g: u8, d: u8, count: u8, pool: &mut Pool)
+    requires cores { length pool.old.resources ≤ 64 }
+    requires room { length (queue_units_spec g d (numbers_from 0 count) pool.old).scheduler.queue ≤ 256 }
+    ensures { pool.new ≡ queue_units_spec g d (numbers_from 0 count) pool.old }
+{
+    for n in 0..count {
+        let u = UnitId { dom: DomId(d), n };
+        queue_if_off(g, u, pool);
+    }
+}
+
+/// The domain joins the pool at t with these parameters, and its units that may run wait.
+pub fn with_domain(g: u8, t: u64, d: u8, joining: Domain, params: &DomParams, pool: &mut Pool)
+    requires some { 0 < g }
+    requires few { g ≤ 4 }
+    requires early { t ≤ 10000000000000 }
+    requires cores { length pool.old.resources ≤ 64 }
+    requires vcpus { length joining.vcpus ≤ 32 }
+    requires params { ParamsFit params.now }
+    requires room { length (with_domain_spec g t d joining params.now pool.old).scheduler.queue ≤ 256 }
+    ensures { pool.new ≡ with_domain_spec g t d joining params.now pool.old }
+{
+    let count = unit_count(g, &joining);
+    set_place(&mut pool.domains, d, Some(joining));
+    join(d, count, params, t, &mut pool.scheduler);
+    queue_units(g, d, count, pool);
+}
+
+/// The domain is taken out of its place.
+fn take_domain(d: u8, domains: &mut Row<Option<Domain>>) -> Option<Domain>
+    ensures domain { result ≡ at_place domains.old d }
+    ensures domains { domains.new ≡ clear_at d domains.old }
+{
+    let place = d as usize;
+    if place < domains.len() {
+        domains.replace(place, None)
+    } else {
+        None
+    }
+}
+
+/// The domain parts from the pool, which is to have none of its units on a core. It is none where the pool has no such domain.
+pub fn without_domain(d: u8, pool: &mut Pool) -> Option<Domain>
+    ensures domain { result ≡ at_place pool.old.domains d }
+    ensures pool { pool.new ≡ without_domain_spec d pool.old }
+{
+    part(d, &mut pool.scheduler);
+    take_domain(d, &mut pool.domains)
+}

@@ -1,0 +1,169 @@
+//! The events of one pool, before its cores are looked at. g is the number of a core's processors, t the moment.
+
+ghost use Rattle.std.specs.Prelude.{◌≡◌, ◌+◌, ◌*◌, ◌<◌, ◌≤◌, ◌/◌, ◌%◌, length, IsTrue, Some, None, true};
+ghost use Rattle.sched_model.specs.declared.action.Action.TheVariants.{Slice, Arrive, Leave, Save};
+ghost use Rattle.sched_model.specs.Places.{change_at};
+ghost use Rattle.sched_model.specs.Pool.{enabled_in, after_in, event_in, vcpu_for as vcpu_for_spec, open_if_left as open_if_left_spec, saved, saving_among};
+ghost use Rattle.plain_units.specs.Fits.{RecordsFit};
+ghost use Rattle.plain_pool.specs.Fits.{PoolFits};
+ghost use Rattle.plain_pool.specs.Own.{IsOfPool};
+
+use crate::cores::{any_held, core_at};
+use crate::deciding::decide;
+use crate::doing::{change_doing, set_pending, take};
+use crate::pool::guest_of;
+use crate::replenishing::{refill, replenish};
+use crate::runnable::is_runnable;
+use crate::vcpus::{stop_vcpu, vcpu_of};
+use crate::waking::{block, wake};
+use plain_policy::queue::enqueue;
+use sched_base::{ProcId, ResId, UnitId, VcpuId};
+use sched_model::action::Action;
+use sched_model::event::Event;
+use sched_model::row::Row;
+use sched_model::state::{Doing, Pool, Resource, Stage};
+
+/// The core's due has come.
+pub fn slice(g: u8, t: u64, r: u8, pool: &mut Pool) -> Event
+    ensures event { result ≡ event_in g t pool.old (Slice r) }
+    ensures pool { pool.new ≡ after_in g t pool.old (Slice r) }
+{
+    set_pending(r, &mut pool.resources);
+    Event::Slice { r: ResId(r) }
+}
+
+/// The processor arrives: its vCPU stops, and it waits for its siblings.
+pub fn arrive(g: u8, t: u64, p: u8, pool: &mut Pool) -> Event
+    requires { 0 < g }
+    ensures event { result ≡ event_in g t pool.old (Arrive p) }
+    ensures pool { pool.new ≡ after_in g t pool.old (Arrive p) }
+{
+    if let Some(v) = guest_of(g, pool, p) {
+        stop_vcpu(&mut pool.domains, v, t);
+    }
+    change_doing(g, p, Doing::Held, &mut pool.resources);
+    Event::Arrive { p: ProcId(p) }
+}
+
+/// The vCPU of the core's cur that belongs on the core's i-th processor, where cur is runnable and that vCPU is there and awake.
+fn vcpu_for(g: u8, pool: &Pool, c: &Resource, i: u8) -> Option<VcpuId>
+    requires few { g ≤ 4 }
+    requires place { i < 4 }
+    requires fits { PoolFits pool.now }
+    ensures { result ≡ vcpu_for_spec g pool.now c.now i }
+{
+    let u = c.cur?;
+    let n = u.n as usize * g as usize + i as usize;
+    if n >= 32 {
+        return None;
+    }
+    let v = VcpuId {
+        dom: u.dom,
+        n: n as u8,
+    };
+    let x = vcpu_of(pool.domains.as_slice(), v)?;
+    if is_runnable(g, pool.domains.as_slice(), u) && x.asleep_until.is_none() {
+        Some(v)
+    } else {
+        None
+    }
+}
+
+/// The stage is open again once nobody is held.
+fn open_if_left(r: u8, cores: &mut Row<Option<Resource>>)
+    ensures { cores.new ≡ change_at r open_if_left_spec cores.old }
+{
+    let place = r as usize;
+    if place < cores.len() {
+        if let Some(c) = cores.item_mut(place) {
+            if !any_held(c.processors.as_slice()) {
+                c.stage = Stage::Open;
+            }
+        }
+    }
+}
+
+/// The unit that the core is saving is taken out.
+fn take_saved(r: u8, cores: &mut Row<Option<Resource>>) -> Option<UnitId>
+    ensures unit { result ≡ saving_among cores.old r }
+    ensures cores { cores.new ≡ change_at r saved cores.old }
+{
+    let place = r as usize;
+    if place >= cores.len() {
+        return None;
+    }
+    match cores.item_mut(place) {
+        None => None,
+        Some(c) => {
+            let unit = c.saving;
+            c.saving = None;
+            unit
+        }
+    }
+}
+
+/// The processor leaves the meeting with the vCPU of its place in the core's unit, or idles; the last one opens the stage.
+pub fn leave(g: u8, t: u64, p: u8, pool: &mut Pool) -> Event
+    requires enabled { IsTrue (enabled_in g t pool.old (Leave p)) }
+    requires some { 0 < g }
+    requires few { g ≤ 4 }
+    requires fits { PoolFits pool.old }
+    ensures event { result ≡ event_in g t pool.old (Leave p) }
+    ensures pool { pool.new ≡ after_in g t pool.old (Leave p) }
+{
+    let Some(c) = core_at(pool.resources.as_slice(), (p / g) as usize) else {
+        unreachable!();
+    };
+    let v = vcpu_for(g, pool, c, p % g);
+    take(g, t, p, v, pool);
+    open_if_left(p / g, &mut pool.resources);
+    Event::Leave { p: ProcId(p), v }
+}
+
+/// The saved unit waits at the end of the queue where it is runnable, and else is off.
+pub fn save(g: u8, t: u64, r: u8, pool: &mut Pool) -> Event
+    requires enabled { IsTrue (enabled_in g t pool.old (Save r)) }
+    requires room { length (after_in g t pool.old (Save r)).scheduler.queue ≤ 256 }
+    ensures event { result ≡ event_in g t pool.old (Save r) }
+    ensures pool { pool.new ≡ after_in g t pool.old (Save r) }
+{
+    let Some(u) = take_saved(r, &mut pool.resources) else {
+        unreachable!();
+    };
+    let queued = is_runnable(g, pool.domains.as_slice(), u);
+    if queued {
+        enqueue(u, &mut pool.scheduler);
+    }
+    Event::Save {
+        r: ResId(r),
+        u,
+        queued,
+    }
+}
+
+/// The event happens in the pool, before the pool's cores are looked at.
+pub fn happen(g: u8, t: u64, action: Action, pool: &mut Pool) -> Event
+    requires some { 0 < g }
+    requires few { g ≤ 4 }
+    requires early { t ≤ 10000000000000 }
+    requires fits { PoolFits pool.old }
+    requires records { RecordsFit t pool.old.scheduler.records }
+    requires enabled { enabled_in g t pool.old action ≡ true }
+    requires own { IsOfPool action }
+    requires room { length (after_in g t pool.old action).scheduler.queue ≤ 256 }
+    ensures event { result ≡ event_in g t pool.old action }
+    ensures pool { pool.new ≡ after_in g t pool.old action }
+{
+    match action {
+        Action::Wake(v) => wake(g, t, v, pool),
+        Action::Block(p) => block(g, t, p, pool),
+        Action::Slice(r) => slice(g, t, r, pool),
+        Action::Repl(u) => replenish(g, t, u, pool),
+        Action::Refill(d) => refill(g, t, d, pool),
+        Action::Arrive(p) => arrive(g, t, p, pool),
+        Action::Decide(r) => decide(g, t, r, pool),
+        Action::Leave(p) => leave(g, t, p, pool),
+        Action::Save(r) => save(g, t, r, pool),
+        _ => unreachable!(),
+    }
+}

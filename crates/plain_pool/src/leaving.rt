@@ -1,0 +1,125 @@
+//! Cores that join a pool and leave it, and the ends of their stalls. g is the number of a core's processors.
+
+ghost use Rattle.std.specs.Prelude.{◌≡◌, ◌<◌, ◌≤◌, ◌/◌, ◌%◌, ◌^◌, length, map, option_map};
+ghost use Rattle.sched_base.specs.Numbers.{moment};
+ghost use Rattle.sched_model.specs.declared.state.Pool.{Pool as PoolRecord};
+ghost use Rattle.sched_model.specs.declared.state.Processor.{Processor as ProcessorRecord};
+ghost use Rattle.sched_model.specs.declared.state.Resource.{Resource as ResourceRecord};
+ghost use Rattle.sched_model.specs.Opening.{fresh_core as fresh_core_spec};
+ghost use Rattle.sched_model.specs.Places.{at_place, put_at, clear_at, change_at, change_item};
+ghost use Rattle.sched_model.specs.Pool.{set_leaving as set_leaving_spec, change_processor};
+ghost use Rattle.plain_pool.specs.Cores.{fresh_processor, ends_of, stalled_to};
+
+use plain_policy::places::set_place;
+use sched_base::Moment;
+use sched_model::facts::StallEnds;
+use sched_model::row::Row;
+use sched_model::short::Short;
+use sched_model::state::{Doing, Pool, Processor, Processors, Resource, Stage};
+
+/// Processors that idle, with these ends of their stalls.
+fn fresh_processors(stall_ends: &StallEnds) -> Processors
+    ensures { result ≡ map fresh_processor stall_ends.now }
+{
+    let mut processors = Short::new();
+    for end in stall_ends.as_slice() {
+        processors.push(Processor {
+            doing: Doing::Idle,
+            stall_end: *end,
+        });
+    }
+    processors
+}
+
+/// A core that joins a pool, with the ends of its processors' stalls: it is to decide.
+pub fn fresh_core(stall_ends: &StallEnds) -> Resource
+    ensures { result ≡ fresh_core_spec stall_ends.now }
+{
+    Resource {
+        cur: None,
+        saving: None,
+        pending: true,
+        leaving: false,
+        since: Moment(0),
+        due: None,
+        stage: Stage::Open,
+        processors: fresh_processors(stall_ends),
+    }
+}
+
+/// The core joins the pool, with the ends of its processors' stalls.
+pub fn put_core(r: u8, stall_ends: &StallEnds, pool: &mut Pool)
+    ensures { pool.new ≡ record pool.old { resources = put_at r (fresh_core_spec stall_ends.now) pool.old.resources } }
+{
+    set_place(&mut pool.resources, r, Some(fresh_core(stall_ends)));
+}
+
+/// The ends of the stalls of the core's processors.
+fn stall_ends_of(c: &Resource) -> StallEnds
+    ensures { result ≡ ends_of c.now }
+{
+    let mut stall_ends = Short::new();
+    for p in c.processors.as_slice() {
+        stall_ends.push(p.stall_end);
+    }
+    stall_ends
+}
+
+/// The core is taken out of its place.
+fn take_place(r: u8, cores: &mut Row<Option<Resource>>) -> Option<Resource>
+    ensures core { result ≡ at_place cores.old r }
+    ensures cores { cores.new ≡ clear_at r cores.old }
+{
+    let place = r as usize;
+    if place < cores.len() {
+        cores.replace(place, None)
+    } else {
+        None
+    }
+}
+
+/// The core leaves the pool: the ends of its processors' stalls, and none where the pool has no such core.
+pub fn take_core(r: u8, pool: &mut Pool) -> Option<StallEnds>
+    ensures ends { result ≡ option_map ends_of (at_place pool.old.resources r) }
+    ensures pool { pool.new ≡ record pool.old { resources = clear_at r pool.old.resources } }
+{
+    match take_place(r, &mut pool.resources) {
+        None => None,
+        Some(c) => Some(stall_ends_of(&c)),
+    }
+}
+
+/// The core is leaving; it is to decide where it has a unit.
+pub fn set_leaving(r: u8, pool: &mut Pool)
+    ensures { pool.new ≡ set_leaving_spec r pool.old }
+{
+    let place = r as usize;
+    if place < pool.resources.len() {
+        if let Some(c) = pool.resources.item_mut(place) {
+            c.leaving = true;
+            c.pending = c.pending || c.cur.is_some();
+        }
+    }
+}
+
+/// The stall of the processor at this place ends at this moment.
+fn set_end(processors: &mut Processors, i: usize, end: u64)
+    ensures { processors.new ≡ change_item i (stalled_to end) processors.old }
+{
+    if let Some(p) = processors.get_mut(i) {
+        p.stall_end = Moment(end);
+    }
+}
+
+/// The processor's stall ends at this moment.
+pub fn set_stall_end(g: u8, p: u8, end: u64, pool: &mut Pool)
+    requires { 0 < g }
+    ensures { pool.new ≡ change_processor g p (stalled_to end) pool.old }
+{
+    let r = (p / g) as usize;
+    if r < pool.resources.len() {
+        if let Some(c) = pool.resources.item_mut(r) {
+            set_end(&mut c.processors, (p % g) as usize, end);
+        }
+    }
+}

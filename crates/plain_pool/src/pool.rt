@@ -1,0 +1,237 @@
+//! When the events of one pool may come. g is the number of a core's processors, t the moment.
+
+ghost use Rattle.std.specs.Prelude.{◌≡◌, ◌+◌, ◌<◌, ◌≤◌, ◌^◌, ◌/◌, ◌%◌, length, Some, None, false, is_some};
+ghost use Rattle.std.specs.Option.{option_copied, IfSome, ForSome};
+ghost use Rattle.sched_model.specs.Places.{at_place};
+ghost use Rattle.sched_model.specs.Pool.{enabled_in, processor_of as processor_of_spec, guest_of as guest_of_spec, lowest_up as lowest_up_spec, vcpu_of as vcpu_of_spec, core_of as core_of_spec};
+ghost use Rattle.sched_model.specs.declared.action.Action.TheVariants.{Moved, DomMoved, Wake, Block, Slice, Repl, Refill, Arrive, Decide, Leave, Save};
+ghost use Rattle.plain_pool.specs.Fits.{PoolFits};
+ghost use Rattle.plain_pool.specs.Rows.{done_among, processor_up};
+
+use crate::cores::{
+    all_held, any_held, core_at, core_of, first_core, first_up, has_come, has_domain, is_held,
+    is_open, is_up,
+};
+use crate::vcpus::{done_at, vcpu_of};
+use plain_policy::records::{next_refill, replenish_due};
+use plain_units::units::has_unit;
+use sched_base::{UnitId, VcpuId};
+use sched_model::action::Action;
+use sched_model::state::{Doing, Pool, Processor};
+
+/// The processor with this number.
+pub fn processor_of(g: u8, pool: &Pool, p: u8) -> Option<&Processor>
+    requires { 0 < g }
+    ensures { option_copied result ≡ processor_of_spec g pool.now p }
+{
+    let c = core_at(pool.resources.as_slice(), (p / g) as usize)?;
+    c.processors.as_slice().get((p % g) as usize)
+}
+
+/// The vCPU that the processor runs.
+pub fn guest_of(g: u8, pool: &Pool, p: u8) -> Option<VcpuId>
+    requires { 0 < g }
+    ensures { result ≡ guest_of_spec g pool.now p }
+{
+    match processor_of(g, pool, p) {
+        None => None,
+        Some(q) => match q.doing {
+            Doing::Guest(v) => Some(v),
+            _ => None,
+        },
+    }
+}
+
+/// Whether the pool's lowest processor is up.
+fn lowest_up(t: u64, pool: &Pool) -> bool
+    ensures { result ≡ lowest_up_spec t pool.now }
+{
+    let cores = pool.resources.as_slice();
+    match first_core(cores) {
+        None => false,
+        Some(r) => match core_at(cores, r) {
+            None => false,
+            Some(c) => first_up(t, c),
+        },
+    }
+}
+
+/// Whether the domain is moving, and no unit of it is on a core.
+fn is_dom_moved(g: u8, t: u64, pool: &Pool, d: u8) -> bool
+    requires { length pool.now.resources ≤ 64 }
+    ensures { result ≡ enabled_in g t pool.now (DomMoved d) }
+{
+    let place = d as usize;
+    let domains = pool.domains.as_slice();
+    if place >= domains.len() {
+        return false;
+    }
+    match &domains[place] {
+        None => false,
+        Some(domain) => { domain.moving.is_some() && !has_domain(0, pool.resources.as_slice(), d) }
+    }
+}
+
+/// Whether the core may be moved: it is leaving, and nothing is on it.
+fn is_moved(g: u8, t: u64, pool: &Pool, r: u8) -> bool
+    ensures { result ≡ enabled_in g t pool.now (Moved r) }
+{
+    match core_at(pool.resources.as_slice(), r as usize) {
+        None => false,
+        Some(c) => {
+            c.leaving
+                && c.cur.is_none()
+                && c.saving.is_none()
+                && !c.pending
+                && is_open(c)
+                && first_up(t, c)
+        }
+    }
+}
+
+/// Whether the vCPU sleeps and its wake moment has come.
+fn is_wake(g: u8, t: u64, pool: &Pool, v: VcpuId) -> bool
+    ensures { result ≡ enabled_in g t pool.now (Wake v) }
+{
+    match vcpu_of(pool.domains.as_slice(), v) {
+        None => false,
+        Some(x) => has_come(t, x.asleep_until),
+    }
+}
+
+/// Whether the work of the vCPU is done at t.
+fn is_done(t: u64, pool: &Pool, v: VcpuId) -> bool
+    requires { PoolFits pool.now }
+    ensures { result ≡ done_among t pool.now v }
+{
+    match vcpu_of(pool.domains.as_slice(), v) {
+        None => false,
+        Some(x) => has_come(t, done_at(x)),
+    }
+}
+
+/// Whether the processor is there and up at t.
+fn is_processor_up(g: u8, t: u64, pool: &Pool, p: u8) -> bool
+    requires { 0 < g }
+    ensures { result ≡ processor_up g t pool.now p }
+{
+    match processor_of(g, pool, p) {
+        None => false,
+        Some(q) => is_up(t, q),
+    }
+}
+
+/// Whether the processor runs a vCPU whose work is done, and is up.
+fn is_block(g: u8, t: u64, pool: &Pool, p: u8) -> bool
+    requires some { 0 < g }
+    requires fits { PoolFits pool.now }
+    ensures { result ≡ enabled_in g t pool.now (Block p) }
+{
+    match guest_of(g, pool, p) {
+        None => false,
+        Some(v) => is_done(t, pool, v) && is_processor_up(g, t, pool, p),
+    }
+}
+
+/// Whether the core's due has come, it is not pending yet, and its first processor is up.
+fn is_slice(g: u8, t: u64, pool: &Pool, r: u8) -> bool
+    ensures { result ≡ enabled_in g t pool.now (Slice r) }
+{
+    match core_at(pool.resources.as_slice(), r as usize) {
+        None => false,
+        Some(c) => has_come(t, c.due) && !c.pending && first_up(t, c),
+    }
+}
+
+/// Whether the unit waits or runs, its deadline has come, and the pool's lowest processor is up.
+fn is_repl(g: u8, t: u64, pool: &Pool, u: UnitId) -> bool
+    requires { PoolFits pool.now }
+    ensures { result ≡ enabled_in g t pool.now (Repl u) }
+{
+    let stands = has_unit(pool.scheduler.queue.as_slice(), u)
+        || core_of(pool.resources.as_slice(), u).is_some();
+    stands && replenish_due(&pool.scheduler.records, t, u) && lowest_up(t, pool)
+}
+
+/// Whether the domain's refill has come, and the pool's lowest processor is up.
+fn is_refill(g: u8, t: u64, pool: &Pool, d: u8) -> bool
+    requires { PoolFits pool.now }
+    ensures { result ≡ enabled_in g t pool.now (Refill d) }
+{
+    has_come(t, next_refill(&pool.scheduler.records, d)) && lowest_up(t, pool)
+}
+
+/// Whether the processor's core is pending, open and saves nothing, and the processor is not held and is up.
+fn is_arrive(g: u8, t: u64, pool: &Pool, p: u8) -> bool
+    requires { 0 < g }
+    ensures { result ≡ enabled_in g t pool.now (Arrive p) }
+{
+    let gathers = match core_at(pool.resources.as_slice(), (p / g) as usize) {
+        None => false,
+        Some(c) => c.pending && is_open(c) && c.saving.is_none(),
+    };
+    let free = match processor_of(g, pool, p) {
+        None => false,
+        Some(q) => !is_held(q) && is_up(t, q),
+    };
+    gathers && free
+}
+
+/// Whether all processors of the core are held, its stage is open, and its first processor is up.
+fn is_decide(g: u8, t: u64, pool: &Pool, r: u8) -> bool
+    ensures { result ≡ enabled_in g t pool.now (Decide r) }
+{
+    match core_at(pool.resources.as_slice(), r as usize) {
+        None => false,
+        Some(c) => all_held(c.processors.as_slice()) && is_open(c) && first_up(t, c),
+    }
+}
+
+/// Whether the processor's core has decided, and the processor is held and up.
+fn is_leave(g: u8, t: u64, pool: &Pool, p: u8) -> bool
+    requires { 0 < g }
+    ensures { result ≡ enabled_in g t pool.now (Leave p) }
+{
+    let decided = match core_at(pool.resources.as_slice(), (p / g) as usize) {
+        None => false,
+        Some(c) => !is_open(c),
+    };
+    let waits = match processor_of(g, pool, p) {
+        None => false,
+        Some(q) => is_held(q) && is_up(t, q),
+    };
+    decided && waits
+}
+
+/// Whether the core saves a unit, nobody of it is held, and its first processor is up.
+fn is_save(g: u8, t: u64, pool: &Pool, r: u8) -> bool
+    ensures { result ≡ enabled_in g t pool.now (Save r) }
+{
+    match core_at(pool.resources.as_slice(), r as usize) {
+        None => false,
+        Some(c) => { c.saving.is_some() && !any_held(c.processors.as_slice()) && first_up(t, c) }
+    }
+}
+
+/// Whether an event of this pool may come at t.
+pub fn is_enabled_in(g: u8, t: u64, pool: &Pool, action: Action) -> bool
+    requires some { 0 < g }
+    requires fits { PoolFits pool.now }
+    ensures { result ≡ enabled_in g t pool.now action }
+{
+    match action {
+        Action::Stall => false,
+        Action::Xl => false,
+        Action::Moved(r) => is_moved(g, t, pool, r),
+        Action::DomMoved(d) => is_dom_moved(g, t, pool, d),
+        Action::Wake(v) => is_wake(g, t, pool, v),
+        Action::Block(p) => is_block(g, t, pool, p),
+        Action::Slice(r) => is_slice(g, t, pool, r),
+        Action::Repl(u) => is_repl(g, t, pool, u),
+        Action::Refill(d) => is_refill(g, t, pool, d),
+        Action::Arrive(p) => is_arrive(g, t, pool, p),
+        Action::Decide(r) => is_decide(g, t, pool, r),
+        Action::Leave(p) => is_leave(g, t, pool, p),
+        Action::Save(r) => is_save(g, t, pool, r),
+    }
+}

@@ -1,0 +1,129 @@
+//! Replenishments of RTDS units and refills of Credit2 domains. g is the number of a core's processors, t the moment.
+
+ghost use Rattle.std.specs.Prelude.{◌≡◌, ◌+◌, ◌≤◌, IsTrue, Some, length, min, true};
+ghost use Rattle.sched_base.specs.Numbers.{moment};
+ghost use Rattle.sched_model.specs.declared.action.Action.TheVariants.{Repl, Refill};
+ghost use Rattle.sched_model.specs.declared.state.Resource.{Resource as ResourceRecord};
+ghost use Rattle.sched_model.specs.Places.{change_at, first_place, is_unit};
+ghost use Rattle.sched_model.specs.Policy.{replenish as replenish_spec, replenish_due, rtds_record as rtds_record_spec};
+ghost use Rattle.sched_model.specs.Pool.{enabled_in, after_in, event_in, due_within};
+ghost use Rattle.plain_units.specs.Fits.{RecordsFit};
+ghost use Rattle.plain_pool.specs.Fits.{PoolFits};
+ghost use Rattle.plain_pool.specs.Records.{budget_at, due_at_core, periods_at};
+
+use crate::cores::core_of;
+use plain_credit2::credit2::periods;
+use plain_policy::policy::{refill as refill_records, replenish as replenish_records};
+use plain_policy::records::{credit2_record, rtds_record};
+use sched_base::{DomId, Moment, Span, UnitId};
+use sched_model::event::Event;
+use sched_model::row::Row;
+use sched_model::state::{Pool, Records, Resource, RtdsUnit};
+
+/// The due, or the moment at which the budget is used up, if that is earlier.
+fn sooner(t: u64, budget: u64, due: Moment) -> Moment
+    ensures { result ≡ moment (min (t + budget) due.0) }
+{
+    Moment(t.saturating_add(budget).min(due.0))
+}
+
+/// The core asks again after the budget at the latest, where it is to ask again at all.
+fn bring_due(t: u64, budget: u64, c: &mut Resource)
+    ensures { c.new ≡ due_within t budget c.old }
+{
+    if let Some(due) = c.due {
+        c.due = Some(sooner(t, budget, due));
+    }
+}
+
+/// The same of the core at this place.
+fn bring_due_at(r: usize, t: u64, budget: u64, cores: &mut Row<Option<Resource>>)
+    ensures { cores.new ≡ change_at r (due_within t budget) cores.old }
+{
+    if r < cores.len() {
+        if let Some(c) = cores.item_mut(r) {
+            bring_due(t, budget, c);
+        }
+    }
+}
+
+/// The same of the core that has the unit as its cur, if one has.
+fn bring_due_of(u: UnitId, t: u64, budget: u64, cores: &mut Row<Option<Resource>>)
+    requires { length cores.old ≤ 64 }
+    ensures { cores.new ≡ due_at_core (first_place 0 (λ (c : ResourceRecord). is_unit c.cur u) cores.old) t budget cores.old }
+{
+    if let Some(r) = core_of(cores.as_slice(), u) {
+        bring_due_at(r, t, budget, cores);
+    }
+}
+
+/// The unit, whose deadline has come, is replenished: its record afterwards.
+fn renew(t: u64, u: UnitId, records: &mut Records) -> RtdsUnit
+    requires due { replenish_due records.old t u ≡ true }
+    requires early { t ≤ 10000000000000 }
+    requires fits { RecordsFit t records.old }
+    ensures unit { Some result ≡ rtds_record_spec (replenish_spec records.old t u) u }
+    ensures records { records.new ≡ replenish_spec records.old t u }
+{
+    replenish_records(records, t, u);
+    match rtds_record(records, u) {
+        None => unreachable!(),
+        Some(x) => *x,
+    }
+}
+
+/// The unit's deadline has come: it has its budget anew, and a core that runs it asks again when that is used up, if not before.
+pub fn replenish(g: u8, t: u64, u: UnitId, pool: &mut Pool) -> Event
+    requires enabled { IsTrue (enabled_in g t pool.old (Repl u)) }
+    requires early { t ≤ 10000000000000 }
+    requires fits { PoolFits pool.old }
+    requires records { RecordsFit t pool.old.scheduler.records }
+    ensures event { result ≡ event_in g t pool.old (Repl u) }
+    ensures pool { pool.new ≡ after_in g t pool.old (Repl u) }
+{
+    let x = renew(t, u, &mut pool.scheduler.records);
+    bring_due_of(u, t, x.budget, &mut pool.resources);
+    Event::Repl {
+        u,
+        start: Moment(x.deadline.saturating_sub(x.period)),
+        deadline: Moment(x.deadline),
+        budget: Span(x.budget),
+        extra: x.extra,
+    }
+}
+
+/// How many of the domain's periods have come at t since its refill was due.
+fn periods_of(t: u64, d: u8, pool: &Pool) -> u64
+    ensures { result ≡ periods_at t d pool.now }
+{
+    match credit2_record(&pool.scheduler.records, d) {
+        None => 0,
+        Some(x) => periods(x, t),
+    }
+}
+
+/// The budget that is left to the domain.
+fn budget_of(d: u8, pool: &Pool) -> i64
+    ensures { result ≡ budget_at d pool.now }
+{
+    match credit2_record(&pool.scheduler.records, d) {
+        None => 0,
+        Some(x) => x.budget,
+    }
+}
+
+/// The domain's refill has come: its budget is filled.
+pub fn refill(g: u8, t: u64, d: u8, pool: &mut Pool) -> Event
+    requires early { t ≤ 10000000000000 }
+    requires records { RecordsFit t pool.old.scheduler.records }
+    ensures event { result ≡ event_in g t pool.old (Refill d) }
+    ensures pool { pool.new ≡ after_in g t pool.old (Refill d) }
+{
+    let periods = periods_of(t, d, pool);
+    refill_records(&mut pool.scheduler.records, t, d);
+    Event::Refill {
+        d: DomId(d),
+        periods,
+        budget: budget_of(d, pool),
+    }
+}

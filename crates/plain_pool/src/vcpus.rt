@@ -1,0 +1,199 @@
+//! The vCPUs of a pool's domains.
+
+ghost use Rattle.std.specs.Prelude.{◌≡◌, ◌<◌, ◌≤◌, ◌+◌, ◌%◌, option_map, Some, slice_get, slice_index_or};
+ghost use Rattle.std.specs.Option.{option_copied, IfSome, ForSome};
+ghost use Rattle.std.specs.List.{All, AllByRecursion};
+ghost use Rattle.sched_base.specs.Numbers.{moment, span};
+ghost use Rattle.sched_model.specs.declared.state.Vcpu.{Vcpu as VcpuRecord};
+ghost use Rattle.sched_model.specs.declared.state.Domain.{Domain as DomainRecord};
+ghost use Rattle.sched_model.specs.Places.{change_at, change_item, at_place};
+ghost use Rattle.sched_model.specs.Pool.{done_at as done_at_spec, put_to_sleep, stopped, woken};
+ghost use Rattle.plain_pool.specs.Fits.{AllPlaces, DomainFits, VcpuFits, vcpu_among};
+
+use sched_base::{Moment, Span, VcpuId};
+use sched_model::row::Row;
+use sched_model::state::{Domain, Vcpu};
+
+/// The vCPU, where these are the domains.
+pub fn vcpu_of(domains: &[Option<Domain>], v: VcpuId) -> Option<&Vcpu>
+    ensures { option_copied result ≡ vcpu_among domains.now v }
+{
+    let d = v.dom.0 as usize;
+    if d >= domains.len() {
+        return None;
+    }
+    match &domains[d] {
+        None => None,
+        Some(domain) => vcpu_in(domain, v.n as usize),
+    }
+}
+
+/// The vCPU at this place in the domain.
+fn vcpu_in(domain: &Domain, n: usize) -> Option<&Vcpu>
+    ensures { option_copied result ≡ slice_get domain.now.vcpus n }
+{
+    domain.vcpus.as_slice().get(n)
+}
+
+/// The moment at which the vCPU's work is done, where it is run and its work has an end.
+pub fn done_at(v: &Vcpu) -> Option<Moment>
+    requires { VcpuFits v.now }
+    ensures { result ≡ done_at_spec v.now }
+{
+    let from = v.started?;
+    let work = v.work_left?;
+    Some(Moment(from.0 + work.0))
+}
+
+/// Stopped at t: the work left falls by what was done since it was started.
+fn stop(v: &mut Vcpu, t: u64)
+    ensures { v.new ≡ stopped t v.old }
+{
+    if let Some(from) = v.started {
+        if let Some(work) = v.work_left {
+            let done = t.saturating_sub(from.0);
+            v.work_left = Some(Span(work.0.saturating_sub(done)));
+        }
+        v.started = None;
+    }
+}
+
+/// The vCPU at this place stopped at t.
+fn stop_at(vcpus: &mut Row<Vcpu>, n: usize, t: u64)
+    ensures { vcpus.new ≡ change_item n (stopped t) vcpus.old }
+{
+    if n < vcpus.len() {
+        stop(vcpus.item_mut(n), t);
+    }
+}
+
+/// The vCPU stopped at t.
+pub fn stop_vcpu(domains: &mut Row<Option<Domain>>, v: VcpuId, t: u64)
+    ensures { domains.new ≡ change_at v.dom.0 (λ (d : DomainRecord). record d { vcpus = change_item v.n (stopped t) d.vcpus }) domains.old }
+{
+    let d = v.dom.0 as usize;
+    if d < domains.len() {
+        if let Some(domain) = domains.item_mut(d) {
+            stop_at(&mut domain.vcpus, v.n as usize, t);
+        }
+    }
+}
+
+/// The vCPU at this place counts its work from t on.
+fn start_at(vcpus: &mut Row<Vcpu>, n: usize, t: u64)
+    ensures { vcpus.new ≡ change_item n (λ (x : VcpuRecord). record x { started = Some (moment t) }) vcpus.old }
+{
+    if n < vcpus.len() {
+        let v = vcpus.item_mut(n);
+        v.started = Some(Moment(t));
+    }
+}
+
+/// The vCPU counts its work from t on.
+pub fn start_vcpu(domains: &mut Row<Option<Domain>>, v: VcpuId, t: u64)
+    ensures { domains.new ≡ change_at v.dom.0 (λ (d : DomainRecord). record d { vcpus = change_item v.n (λ (x : VcpuRecord). record x { started = Some (moment t) }) d.vcpus }) domains.old }
+{
+    let d = v.dom.0 as usize;
+    if d < domains.len() {
+        if let Some(domain) = domains.item_mut(d) {
+            start_at(&mut domain.vcpus, v.n as usize, t);
+        }
+    }
+}
+
+/// The place after this one in a script with so many spans, which begins again after its last.
+fn next_place(place: u8, count: usize) -> u8
+    requires { place < 64 }
+    ensures { result ≡ (place + 1) % count }
+{
+    let next = place + 1;
+    if count == 0 || (next as usize) < count {
+        next
+    } else {
+        (next as usize % count) as u8
+    }
+}
+
+/// Awake, with the next run of the script as work left.
+fn wake_up(v: &mut Vcpu)
+    requires { VcpuFits v.old }
+    ensures { v.new ≡ woken v.old }
+{
+    let next = next_place(v.place, v.script.len());
+    v.place = next;
+    v.asleep_until = None;
+    v.work_left = v.script.as_slice().get(next as usize).copied();
+}
+
+/// The vCPU at this place wakes.
+fn wake_at(vcpus: &mut Row<Vcpu>, n: usize)
+    requires { AllByRecursion VcpuFits vcpus.old }
+    ensures { vcpus.new ≡ change_item n woken vcpus.old }
+{
+    if n < vcpus.len() {
+        wake_up(vcpus.item_mut(n));
+    }
+}
+
+/// The vCPU wakes.
+pub fn wake_vcpu(domains: &mut Row<Option<Domain>>, v: VcpuId)
+    requires { AllPlaces DomainFits domains.old }
+    ensures { domains.new ≡ change_at v.dom.0 (λ (d : DomainRecord). record d { vcpus = change_item v.n woken d.vcpus }) domains.old }
+{
+    let d = v.dom.0 as usize;
+    if d < domains.len() {
+        if let Some(domain) = domains.item_mut(d) {
+            wake_at(&mut domain.vcpus, v.n as usize);
+        }
+    }
+}
+
+/// The span at this place of a script, and none past its end.
+fn span_at(script: &[Span], place: usize) -> Span
+    ensures { result ≡ slice_index_or script.now place (span 0) }
+{
+    if place < script.len() {
+        script[place]
+    } else {
+        Span(0)
+    }
+}
+
+/// Asleep from t for the next span of the script.
+fn fall_asleep(v: &mut Vcpu, t: u64)
+    requires fits { VcpuFits v.old }
+    requires early { t ≤ 10000000000000 }
+    ensures { v.new ≡ put_to_sleep t v.old }
+{
+    let place = v.place + 1;
+    let span = span_at(v.script.as_slice(), place as usize);
+    v.place = place;
+    v.asleep_until = Some(Moment(t + span.0));
+    v.work_left = Some(Span(0));
+    v.started = None;
+}
+
+/// The vCPU at this place sleeps from t for the next span of its script.
+fn sleep_at(vcpus: &mut Row<Vcpu>, n: usize, t: u64)
+    requires fits { AllByRecursion VcpuFits vcpus.old }
+    requires early { t ≤ 10000000000000 }
+    ensures { vcpus.new ≡ change_item n (put_to_sleep t) vcpus.old }
+{
+    if n < vcpus.len() {
+        fall_asleep(vcpus.item_mut(n), t);
+    }
+}
+
+/// The vCPU sleeps from t for the next span of its script.
+pub fn sleep_vcpu(domains: &mut Row<Option<Domain>>, v: VcpuId, t: u64)
+    requires fits { AllPlaces DomainFits domains.old }
+    requires early { t ≤ 10000000000000 }
+    ensures { domains.new ≡ change_at v.dom.0 (λ (d : DomainRecord). record d { vcpus = change_item v.n (put_to_sleep t) d.vcpus }) domains.old }
+{
+    let d = v.dom.0 as usize;
+    if d < domains.len() {
+        if let Some(domain) = domains.item_mut(d) {
+            sleep_at(&mut domain.vcpus, v.n as usize, t);
+        }
+    }
+}

@@ -1,0 +1,86 @@
+-- What is in range after an accepted command is carried out, before the cores of its pool are looked at.
+use Rattle.std.proofs.Common.{◌≡◌, ◌≢◌, ◌∙◌, ◌⊎◌, ℕ, zero, suc, true, inl, inr, refl, sym, ap, subst, arith}
+use Rattle.std.specs.Prelude.{Option, Some, None, Result, Ok, Err, option_map, slice_get}
+use Rattle.sched_model.specs.declared.action.Action.TheVariants.{Xl}
+use Rattle.sched_model.specs.declared.event.Refusal.{Refusal}
+use Rattle.sched_model.specs.declared.machine.Machine.{Machine}
+use Rattle.sched_model.specs.declared.plan.Plan.{Plan}
+use Rattle.sched_model.specs.declared.plan.Plan.TheVariants as plan
+use Rattle.sched_model.specs.declared.state.Pool.{Pool}
+use Rattle.sched_model.specs.declared.state.State.{State}
+use Rattle.sched_model.specs.declared.work.CommandLine.{CommandLine}
+use Rattle.sched_model.specs.Actions.{home_of_domain}
+use Rattle.sched_model.specs.Commands.{carried_out, change_home, pool_of_plan}
+use Rattle.sched_model.specs.Machine.{after, after_command, is_enabled, settled_at, verdict}
+use Rattle.sched_model.specs.Places.{at_place}
+use Rattle.sched_model.specs.Pool.{settled}
+use Rattle.sched_model.proofs.PlaceLemmas.{at_place-change_at, at_place-change_at_other}
+use Rattle.sched_laws.specs.Each.{EachPlace}
+use Rattle.sched_laws.proofs.EachPlace.{by_cond, by_option, place_below}
+use Rattle.sched_plain.specs.Fits.{PoolFitsAt}
+use Rattle.sched_plain.specs.Reached.{Stands}
+use Rattle.sched_plain.proofs.Reaching.{stands-after}
+use Rattle.sched_plain.proofs.Bridges.{stands-pool}
+use Rattle.sched_plain.proofs.Performing.{settled-back}
+
+-- no command changes the moment
+home-now : (d : ℕ) (f : Pool → Pool) (s : State) → (change_home d f s).now ≡ s.now
+home-now d f s = by_option (λ (x : State). x.now ≡ s.now) (home_of_domain s d) _ _ (λ none. refl) (λ i is. refl)
+
+carried-now : (m : Machine) (t : ℕ) (p : Plan) (s : State) → (carried_out m t p s).now ≡ s.now
+carried-now m t (plan.PoolList pool answer) s = refl
+carried-now m t (plan.PoolCreate i name kind answer) s = refl
+carried-now m t (plan.PoolDestroy i answer) s = refl
+carried-now m t (plan.PoolRename i name answer) s = refl
+carried-now m t (plan.CpuAdd i core answer) s = refl
+carried-now m t (plan.CpuRemove i core answer) s = refl
+carried-now m t (plan.Migrate d i j answer) s = by_cond (λ (x : State). x.now ≡ s.now) _ _ _ (λ same. refl) (λ other. refl)
+carried-now m t (plan.Credit2Dom d weight percent answer) s = home-now d.0 _ s
+carried-now m t (plan.Credit2Pool i None answer) s = refl
+carried-now m t (plan.Credit2Pool i (Some us) answer) s = refl
+carried-now m t (plan.RtdsDom d first count period budget extra answer) s = home-now d.0 _ s
+carried-now m t (plan.Pause d answer) s = home-now d.0 _ s
+carried-now m t (plan.Unpause d answer) s = home-now d.0 _ s
+carried-now m t (plan.ArincSet i frame answer) s = refl
+carried-now m t (plan.Pin d unit cores answer) s = home-now d.0 _ s
+
+settled-now : (t : ℕ) (o : Option ℕ) (s : State) → (settled_at t o s).now ≡ s.now
+settled-now t None s = refl
+settled-now t (Some i) s = refl
+
+-- two numbers are one or two
+same_or_other : (j i : ℕ) → (j ≡ i) ⊎ (j ≢ i)
+same_or_other zero zero = inl refl
+same_or_other zero (suc i) = inr (λ e. omega (arith, e))
+same_or_other (suc j) zero = inr (λ e. omega (arith, e))
+same_or_other (suc j) (suc i) = elim (same_or_other j i) [ inl same ↦ inl (ap suc same) | inr other ↦ inr (λ e. other (omega (arith, e))) ]
+
+-- what holds once the cores of a pool are looked at holds before
+unsettled : (t : ℕ) (o : Option ℕ) (s : State) → EachPlace (PoolFitsAt t) (settled_at t o s).pools → EachPlace (PoolFitsAt t) s.pools
+unsettled t None s each = each
+unsettled t (Some i) s each = λ j pool at.
+    elim (same_or_other j i) [
+      | inl same ↦ (
+          let there : at_place s.pools i ≡ Some pool = subst (λ k. at_place s.pools k ≡ Some pool) same at in
+          settled-back t pool (each i (settled t pool) (at_place-change_at i (settled t) s.pools (place_below s.pools i pool there) ∙ ap (option_map (settled t)) there)))
+      | inr other ↦ each j pool (at_place-change_at_other i j (settled t) s.pools other ∙ at)
+    ]
+
+-- the state after an accepted command
+pub command-state : (m : Machine) (s : State) (t : ℕ) (line : CommandLine) (p : Plan) → slice_get m.work.commands s.next_command ≡ Some line → verdict m s line ≡ Ok p
+    → settled_at t (pool_of_plan s p) (carried_out m t p (record s { next_command = suc s.next_command })) ≡ after m s t Xl
+command-state m s t line p is accepted =
+    let next : State = record s { next_command = suc s.next_command } in
+    let done : State = settled_at t (pool_of_plan s p) (carried_out m t p next) in
+    let of_verdict : Result Plan Refusal → State = λ r. elim r as (λ _. State) [ Err fault ↦ next | Ok q ↦ settled_at t (pool_of_plan s q) (carried_out m t q next) ] in
+    let of_line : Option CommandLine → State = λ o. elim o as (λ _. State) [ None ↦ s | Some x ↦ after_command m t x s ] in
+    sym (ap of_line is ∙ ap of_verdict accepted)
+
+pub carried-fits : (m : Machine) (s : State) (line : CommandLine) (p : Plan) → Stands m s → is_enabled m s s.now Xl ≡ true → slice_get m.work.commands s.next_command ≡ Some line → verdict m s line ≡ Ok p
+    → EachPlace (PoolFitsAt s.now) (carried_out m s.now p (record s { next_command = suc s.next_command })).pools
+carried-fits m s line p stands enabled is accepted =
+    let next : State = carried_out m s.now p (record s { next_command = suc s.next_command }) in
+    let done : State = settled_at s.now (pool_of_plan s p) next in
+    let there : Stands m done = subst (Stands m) (sym (command-state m s s.now line p is accepted)) (stands-after m s Xl stands enabled) in
+    let now : done.now ≡ s.now = settled-now s.now (pool_of_plan s p) next ∙ carried-now m s.now p (record s { next_command = suc s.next_command }) in
+    unsettled s.now (pool_of_plan s p) next (subst (λ n. EachPlace (PoolFitsAt n) done.pools) now (stands-pool m done there))

@@ -1,0 +1,12 @@
+use Rattle.std.proofs.Common.{arith}
+use Rattle.sched_model.specs.Machine.{joined_by}
+use Rattle.sched_plain.specs.Fits.{PoolFitsAt}
+use Rattle.sched_plain.proofs.Moving.{each-item, changed-item}
+use Rattle.sched_plain.proofs.dom_moves.join_at.Goals as goal
+
+pub join-requires-clause-before : goal.join-requires-clause-before
+join-requires-clause-before c = each-item (PoolFitsAt c.args.t) c.args.pools.now c.args.i c.item_mut.result.now c.in-Some.pool c.requires.before (omega arith) c.item_mut.ensures.value c.in-Some.is
+
+pub join-requires-clause-after : goal.join-requires-clause-after
+join-requires-clause-after c =
+    changed-item (PoolFitsAt c.args.t) (joined_by c.args.g c.args.t c.args.d c.args.joining) c.args.pools.now c.args.i c.item_mut.result.now c.in-Some.pool c.requires.after (omega arith) c.item_mut.ensures.value c.in-Some.is

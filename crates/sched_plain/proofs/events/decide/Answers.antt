@@ -1,7 +1,0 @@
-use Rattle.sched_plain.proofs.Deciding.{decide-parts}
-use Rattle.sched_plain.proofs.events.decide.Goals as goal
-
-pub returns-clause-pool : goal.returns-clause-pool
-returns-clause-pool c =
-    decide-parts c.args.g c.args.t c.args.r c.args.pool.now c.in-Some.c.now c.decide-answer.result c.ask_of-ask.result _ _
-    (rw c.as_slice.ensures at c.in-Some.ensures) c.ask_of-ask.ensures c.decide-answer.ensures.decided c.decide-answer.ensures.scheduler c.set_decided_at.ensures

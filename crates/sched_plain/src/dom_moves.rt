@@ -1,0 +1,127 @@
+//! Domains that move from one pool to another. g is the number of a core's processors, t the moment.
+
+ghost use Rattle.std.specs.Prelude.{◌≡◌, ◌<◌, ◌≤◌, length, true};
+ghost use Rattle.sched_model.specs.declared.action.Action.TheVariants as actions;
+ghost use Rattle.sched_model.specs.Machine.{is_enabled, event_of, after, left_by, joined_by};
+ghost use Rattle.sched_model.specs.Places.{at_place, change_at};
+ghost use Rattle.sched_laws.specs.Each.{EachPlace};
+ghost use Rattle.sched_plain.specs.Fits.{PoolFitsAt};
+ghost use Rattle.sched_plain.specs.Moves.{domain_in, target_in as target_in_spec};
+ghost use Rattle.sched_plain.specs.Reached.{Stands};
+
+use crate::homes::{home_of_domain, pool_at};
+use plain_policy::params::default_dom_params;
+use plain_policy::records::is_null;
+use plain_pool::domains::{with_domain, without_domain};
+use plain_pool::settle::settle;
+use sched_base::{DomId, PoolId};
+use sched_model::event::Event;
+use sched_model::machine::Machine;
+use sched_model::row::Row;
+use sched_model::state::{Domain, Pool, State};
+
+/// The pool to which the domain is moving, where the pool with this number has it.
+fn target_in(s: &State, i: usize, d: u8) -> Option<PoolId>
+    ensures { result ≡ target_in_spec d i s.entry.now.pools }
+{
+    let pool = pool_at(s, i)?;
+    let domains = pool.domains.as_slice();
+    let place = d as usize;
+    if place >= domains.len() {
+        return None;
+    }
+    match &domains[place] {
+        None => None,
+        Some(domain) => domain.moving,
+    }
+}
+
+/// The domain leaves the pool; a null pool's cores are looked at, since one of them may have become free for a waiting unit.
+fn leave(t: u64, d: u8, pool: &mut Pool) -> Option<Domain>
+    requires early { t ≤ 10000000000000 }
+    requires fits { PoolFitsAt t pool.old }
+    ensures domain { result ≡ at_place pool.old.domains d }
+    ensures pool { pool.new ≡ left_by t d pool.old }
+{
+    let looks = is_null(&pool.scheduler.records);
+    let domain = without_domain(d, pool);
+    if looks {
+        settle(t, pool);
+    }
+    domain
+}
+
+/// The same in the pool with this number.
+fn leave_at(t: u64, d: u8, i: usize, pools: &mut Row<Option<Pool>>) -> Option<Domain>
+    requires early { t ≤ 10000000000000 }
+    requires fits { EachPlace (PoolFitsAt t) pools.old }
+    ensures domain { result ≡ domain_in d i pools.old }
+    ensures pools { pools.new ≡ change_at i (left_by t d) pools.old }
+{
+    if i >= pools.len() {
+        return None;
+    }
+    match pools.item_mut(i) {
+        None => None,
+        Some(pool) => leave(t, d, pool),
+    }
+}
+
+/// The domain joins the pool with its scheduler's default parameters, and the pool's cores are looked at.
+fn join(g: u8, t: u64, d: u8, joining: Domain, pool: &mut Pool)
+    requires some { 0 < g }
+    requires few { g ≤ 4 }
+    requires early { t ≤ 10000000000000 }
+    requires vcpus { length joining.vcpus ≤ 32 }
+    requires before { PoolFitsAt t pool.old }
+    requires after { PoolFitsAt t (joined_by g t d joining pool.old) }
+    ensures { pool.new ≡ joined_by g t d joining pool.old }
+{
+    let params = default_dom_params(&pool.scheduler.records);
+    let domain = Domain {
+        paused: joining.paused,
+        moving: None,
+        vcpus: joining.vcpus,
+    };
+    with_domain(g, t, d, domain, &params, pool);
+    settle(t, pool);
+}
+
+/// The same in the pool with this number.
+fn join_at(g: u8, t: u64, d: u8, joining: Domain, i: usize, pools: &mut Row<Option<Pool>>)
+    requires some { 0 < g }
+    requires few { g ≤ 4 }
+    requires early { t ≤ 10000000000000 }
+    requires vcpus { length joining.vcpus ≤ 32 }
+    requires before { EachPlace (PoolFitsAt t) pools.old }
+    requires after { EachPlace (PoolFitsAt t) (change_at i (joined_by g t d joining) pools.old) }
+    ensures { pools.new ≡ change_at i (joined_by g t d joining) pools.old }
+{
+    if i < pools.len() {
+        if let Some(pool) = pools.item_mut(i) {
+            join(g, t, d, joining, pool);
+        }
+    }
+}
+
+/// The domain leaves its pool and joins the one to which it is moving.
+pub fn move_domain(m: &Machine, d: u8, s: &mut State) -> Event
+    requires stands { Stands m.now s.old }
+    requires enabled { is_enabled m.now s.old s.old.now (actions.DomMoved d) ≡ true }
+    ensures event { result ≡ event_of m.now s.old s.old.now (actions.DomMoved d) }
+    ensures state { s.new ≡ after m.now s.old s.old.now (actions.DomMoved d) }
+{
+    let g = m.config.granularity;
+    let t = s.now;
+    let Some(from) = home_of_domain(s, d) else {
+        unreachable!();
+    };
+    let Some(to) = target_in(s, from, d) else {
+        unreachable!();
+    };
+    let Some(domain) = leave_at(t, d, from, &mut s.pools) else {
+        unreachable!();
+    };
+    join_at(g, t, d, domain, to.0 as usize, &mut s.pools);
+    Event::DomMoved { d: DomId(d), to }
+}

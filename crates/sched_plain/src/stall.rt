@@ -1,0 +1,146 @@
+//! The stalls of the workload. g is the number of a core's processors.
+
+ghost use Rattle.std.specs.Prelude.{◌≡◌, ◌<◌, ◌≤◌, ◌^◌, length, true};
+ghost use Rattle.sched_model.specs.declared.action.Action.TheVariants as actions;
+ghost use Rattle.sched_model.specs.declared.work.StallLine.{StallLine as StallRecord};
+ghost use Rattle.sched_model.specs.Machine.{is_enabled, event_of, after, stall_end_of as stall_end_of_spec, stalled as stalled_spec};
+ghost use Rattle.sched_model.specs.Places.{at_place, change_at};
+ghost use Rattle.sched_model.specs.Pool.{change_processor};
+ghost use Rattle.plain_pool.specs.Cores.{stalled_to};
+ghost use Rattle.sched_plain.specs.Reached.{Stands};
+ghost use Rattle.sched_plain.specs.Stalls.{end_in_pool as end_in_pool_spec, end_at_home as end_at_home_spec, end_among as end_among_spec, end_in_free as end_in_free_spec, ends_to, free_to};
+
+use crate::homes::{home_of_core, pool_at};
+use plain_pool::leaving::set_stall_end;
+use plain_pool::pool::processor_of;
+use sched_base::Moment;
+use sched_model::event::Event;
+use sched_model::facts::StallEnds;
+use sched_model::machine::Machine;
+use sched_model::row::Row;
+use sched_model::state::{FreeCore, Pool, State};
+
+/// The later of the end and that of the processor's stall, where the pool has the processor.
+fn end_in_pool(g: u8, pool: &Pool, p: u8, end: u64) -> u64
+    requires { 0 < g }
+    ensures { result ≡ end_in_pool_spec g pool.now p end }
+{
+    match processor_of(g, pool, p) {
+        None => end,
+        Some(q) => q.stall_end.0.max(end),
+    }
+}
+
+/// The same of the pool with this number.
+fn end_at_home(g: u8, s: &State, i: usize, p: u8, end: u64) -> u64
+    requires { 0 < g }
+    ensures { result ≡ end_at_home_spec g (at_place s.entry.now.pools i) p end }
+{
+    match pool_at(s, i) {
+        None => end,
+        Some(pool) => end_in_pool(g, pool, p, end),
+    }
+}
+
+/// The later of the end and that at this place.
+fn end_among(ends: &[Moment], i: usize, end: u64) -> u64
+    ensures { result ≡ end_among_spec ends.now i end }
+{
+    match ends.get(i) {
+        None => end,
+        Some(old) => old.0.max(end),
+    }
+}
+
+/// The same of a processor of a core of no pool.
+fn end_in_free(g: u8, free: &[Option<FreeCore>], p: u8, end: u64) -> u64
+    requires { 0 < g }
+    ensures { result ≡ end_in_free_spec g free.now p end }
+{
+    let r = (p / g) as usize;
+    if r >= free.len() {
+        return end;
+    }
+    match &free[r] {
+        None => end,
+        Some(c) => end_among(c.stall_ends.as_slice(), (p % g) as usize, end),
+    }
+}
+
+/// The later of the end and that of the stall of the processor.
+fn stall_end_of(g: u8, s: &State, p: u8, end: u64) -> u64
+    requires some { 0 < g }
+    requires few { length s.now.pools ≤ 16 }
+    ensures { result ≡ stall_end_of_spec g s.entry.now p end }
+{
+    match home_of_core(s, p / g) {
+        None => end_in_free(g, s.free.as_slice(), p, end),
+        Some(i) => end_at_home(g, s, i, p, end),
+    }
+}
+
+/// The end at this place set.
+fn set_end_among(ends: &mut StallEnds, i: usize, end: u64)
+    ensures { ends.new ≡ ends_to i end ends.old }
+{
+    if let Some(old) = ends.get_mut(i) {
+        *old = Moment(end);
+    }
+}
+
+/// The same of a processor of a core of no pool.
+fn set_end_in_free(g: u8, p: u8, end: u64, free: &mut Row<Option<FreeCore>>)
+    requires { 0 < g }
+    ensures { free.new ≡ free_to g p end free.old }
+{
+    let r = (p / g) as usize;
+    if r < free.len() {
+        if let Some(c) = free.item_mut(r) {
+            set_end_among(&mut c.stall_ends, (p % g) as usize, end);
+        }
+    }
+}
+
+/// The same of a processor of the pool with this number.
+fn set_end_at_home(g: u8, p: u8, end: u64, i: usize, pools: &mut Row<Option<Pool>>)
+    requires { 0 < g }
+    ensures { pools.new ≡ change_at i (change_processor g p (stalled_to end)) pools.old }
+{
+    if i < pools.len() {
+        if let Some(pool) = pools.item_mut(i) {
+            set_stall_end(g, p, end, pool);
+        }
+    }
+}
+
+/// The processor stalls up to a moment.
+fn stalled(g: u8, p: u8, end: u64, s: &mut State)
+    requires some { 0 < g }
+    requires few { length s.old.pools ≤ 16 }
+    ensures { s.new ≡ stalled_spec g p end s.old }
+{
+    match home_of_core(s, p / g) {
+        None => set_end_in_free(g, p, end, &mut s.free),
+        Some(i) => set_end_at_home(g, p, end, i, &mut s.pools),
+    }
+}
+
+/// The next stall of the workload, whose moment has come.
+pub fn stall(m: &Machine, s: &mut State) -> Event
+    requires stands { Stands m.now s.old }
+    requires enabled { is_enabled m.now s.old s.old.now actions.Stall ≡ true }
+    ensures event { result ≡ event_of m.now s.old s.old.now actions.Stall }
+    ensures state { s.new ≡ after m.now s.old s.old.now actions.Stall }
+{
+    let g = m.config.granularity;
+    let Some(line) = m.work.stalls.as_slice().get(s.next_stall as usize) else {
+        unreachable!();
+    };
+    let until = stall_end_of(g, s, line.cpu.0, s.now + line.span.0);
+    stalled(g, line.cpu.0, until, s);
+    s.next_stall += 1;
+    Event::Stall {
+        p: line.cpu,
+        until: Moment(until),
+    }
+}
