@@ -3,5 +3,5 @@ mod Awaits
 mod Rows
 mod Moments
 mod First
-mod Grows
-mod Ordered
+pub mod Grows
+pub mod Ordered

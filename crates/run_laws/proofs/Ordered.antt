@@ -170,3 +170,7 @@ run_by-is_ordered m entries e = record {
   run = subst (IsRun m) (sym e) (ordered_run-IsRunFrom (length entries) m (opening m));
   ordered = subst (IsOrderedFrom m (begun m)) (sym e) (ordered_run-IsOrderedFrom (length entries) m (opening m));
 }
+
+-- the ordered run is an ordered run, however many entries it is allowed
+pub ordered_run-is_ordered : (most : ℕ) (m : Machine) → IsOrderedRun m (ordered_run most m (opening m))
+ordered_run-is_ordered most m = record { run = ordered_run-IsRunFrom most m (opening m); ordered = ordered_run-IsOrderedFrom most m (opening m) }

@@ -1,4 +1,7 @@
-pub mod FirstPasses
-pub mod WithoutWork
 pub mod OrderedLemmas
 pub mod WriteLemmas
+pub mod FilesLemmas
+pub mod ScheduleLemmas
+pub mod WritesLemmas
+pub mod TopLemmas
+pub mod SureLemmas

@@ -1,5 +1,5 @@
 -- How the ordered run grows by one entry at its end, and how it ends.
-use Rattle.std.proofs.Common.{◌≡◌, ℕ, zero, suc, ◌+◌, ◌<◌, ◌≤◌, Bool, true, false, List, [], ◌∷◌, ◌++◌, refl, ap, sym, ◌∙◌, arith}
+use Rattle.std.proofs.Common.{◌≡◌, ℕ, zero, suc, ◌+◌, Bool, true, false, List, [], ◌∷◌, ◌++◌, refl, ap, sym, ◌∙◌, arith}
 use Rattle.std.specs.Prelude.{Option, Some, None, not, ◌&&◌}
 use Rattle.sched_base.specs.Numbers.{moment}
 use Rattle.sched_model.specs.declared.event.Event.TheVariants as event
@@ -40,24 +40,29 @@ run_last_by n m s None (Some next) ends = absurd (cc)
 run_last_by n m s None None ends = refl
 
 -- the ordered run of one entry more, where the first is not the last
-run_more : (n : ℕ) (m : Machine) (s : State) → is_last m s ≡ false → ordered_run (suc n) m s ≡ next_entry m s ∷ ordered_run n m (next_state m s)
+pub run_more : (n : ℕ) (m : Machine) (s : State) → is_last m s ≡ false → ordered_run (suc n) m s ≡ next_entry m s ∷ ordered_run n m (next_state m s)
 run_more n m s going = run_more_by n m s (first_enabled m s s.now) (next_in_horizon m s) going
 
 -- the ordered run where the first entry is the last
-run_last : (n : ℕ) (m : Machine) (s : State) → is_last m s ≡ true → ordered_run (suc n) m s ≡ next_entry m s ∷ []
+pub run_last : (n : ℕ) (m : Machine) (s : State) → is_last m s ≡ true → ordered_run (suc n) m s ≡ next_entry m s ∷ []
 run_last n m s ends = run_last_by n m s (first_enabled m s s.now) (next_in_horizon m s) ends
 
-goes-first : (a b : Bool) → (not a && b) ≡ true → a ≡ false
+pub goes-first : (a b : Bool) → (not a && b) ≡ true → a ≡ false
 goes-first true b h = absurd (cc)
 goes-first false b h = refl
 
-goes-second : (a b : Bool) → (not a && b) ≡ true → b ≡ true
+pub goes-second : (a b : Bool) → (not a && b) ≡ true → b ≡ true
 goes-second true b h = absurd (cc)
 goes-second false b h = h
 
 goes-both : (a b : Bool) → a ≡ false → b ≡ true → (not a && b) ≡ true
 goes-both true b h k = absurd (cc)
 goes-both false b h k = k
+
+-- both cases of a test
+pub last_cases : (b : Bool) → {P : Type 0} → (b ≡ true → P) → (b ≡ false → P) → P
+last_cases true h k = h refl
+last_cases false h k = k refl
 
 stops-first : (a b : Bool) → a ≡ true → (not a && b) ≡ false
 stops-first true b h = refl

@@ -1,7 +1,5 @@
 -- What is written of the ordered run after n of its entries.
-use Rattle.std.proofs.Common.{◌≡◌, ℕ, zero, suc, ◌+◌, ◌-◌, ◌<◌, ◌≤◌, Bool, true, false, List, [], ◌∷◌, ◌++◌, Option, refl, ap, sym, subst, ◌∙◌, arith, append_assoc, add-one}
-use Rattle.std.specs.Prelude.{not, ◌&&◌}
-use Rattle.std.specs.List.{flat_map}
+use Rattle.std.proofs.Common.{◌≡◌, ℕ, suc, ◌+◌, ◌-◌, ◌<◌, ◌≤◌, true, false, List, [], ◌∷◌, ◌++◌, Option, refl, ap, sym, subst, ◌∙◌, arith, append_assoc, add-one}
 use Rattle.std.proofs.lemmas.Grind.{flat_map-append}
 use Rattle.std.proofs.lemmas.List.Concat.{flat_map-cons}
 use Rattle.std.proofs.lemmas.List.{append-nil}
@@ -13,7 +11,7 @@ use Rattle.sched_model.specs.declared.state.State.{State}
 use Rattle.sched_model.specs.Machine.{ordered_run}
 use Rattle.sched_print.specs.Line.{line, text}
 use Rattle.xensched.specs.Ordered.{next_entry, next_state, is_last, reached, goes_on}
-use Rattle.xensched.proofs.OrderedLemmas.{run_splits, run_ends, goes_on_more, goes_on_stops, reached_more}
+use Rattle.xensched.proofs.OrderedLemmas.{last_cases, run_splits, run_ends, goes_on_more, goes_on_stops, reached_more}
 
 pub text_more : (entries : List Entry) (e : Entry) (rest : List Entry) → text (entries ++ e ∷ rest) ≡ (text entries ++ line e) ++ text rest
 text_more entries e rest =
@@ -39,10 +37,6 @@ so_far_starts m s before count = record { machine_kept = refl; state_reached = r
 
 rest_of : (limit n : ℕ) → n < limit → limit ≡ n + suc (limit - (n + 1))
 rest_of limit n below = omega (arith, below)
-
-last_cases : (b : Bool) → {P : Type 0} → (b ≡ true → P) → (b ≡ false → P) → P
-last_cases true h k = h refl
-last_cases false h k = k refl
 
 -- the text of the whole begins with the text so far and the next line
 pub begins_with : (m : Machine) (s : State) (limit n : ℕ) → n < limit → goes_on n m s ≡ true →

@@ -3,6 +3,7 @@
 
 pub mod run;
 pub mod status;
+pub mod sure;
 #[cfg(test)]
 mod tests;
 pub mod top;
@@ -11,7 +12,7 @@ pub mod words;
 use sched_io::{FileStore, OutSink};
 use status::Status;
 use std::process::ExitCode;
-use top::xensched;
+use top::{MOST_ENTRIES, xensched};
 
 /// Reads the words behind the program's own name, does what they say, prints the status's line where it is not 0, and ends
 /// with the status's number.
@@ -21,7 +22,13 @@ fn main(rt: HostRuntime) -> ExitCode {
         Ok(()) => {
             let mut store = FileStore::new(&rt);
             let mut sink = OutSink::new(&rt);
-            xensched(rt.alloc(), words.as_slice(), &mut store, &mut sink)
+            xensched(
+                rt.alloc(),
+                words.as_slice(),
+                MOST_ENTRIES,
+                &mut store,
+                &mut sink,
+            )
         }
         Err(e) => e,
     };

@@ -30,7 +30,6 @@ struct Step {
 }
 
 /// The entry that the machine gives next: the first event that may come, else the next moment, else the end.
-#[tactic(auto, using(crate::proofs::FirstPasses::first_may_come))]
 fn go_on(plain: &mut Plain) -> Step
     ensures entry { result.entry ≡ next_entry plain.old.machine plain.old.state }
     ensures last { result.last ≡ is_last plain.old.machine plain.old.state }

@@ -5,21 +5,17 @@ ghost use Rattle.xensched.specs.Numbers.{number_of};
 
 use dom_file::DomFault;
 use thiserror::Error;
+use work_file::WorkFault;
 
-/// Why a work file is refused: the number of the line, from 1, and the cause.
+/// Why a work file is refused.
 #[derive(Clone, Copy, Debug, PartialEq, Eq, Error)]
-pub enum WorkCause {
-    /// The words are not those of a line.
-    #[error("Word")]
-    Word,
-}
-
-/// The first fault of a work file.
-#[derive(Clone, Copy, Debug, PartialEq, Eq, Error)]
-#[error("line {line} {cause}")]
-pub struct WorkFault {
-    pub line: u32,
-    pub cause: WorkCause,
+pub enum WorkRefusal {
+    /// The first line that has a fault, and its first fault.
+    #[error("{0}")]
+    Line(WorkFault),
+    /// It has commands, which the program does not run yet.
+    #[error("commands Unbuilt")]
+    Commands,
 }
 
 /// How a call ends. Each is printed as its line on standard error; there is none for `Ok`.
@@ -37,12 +33,12 @@ pub enum Status {
     /// The domain file is no TOML document.
     #[error("xensched: not TOML")]
     BadToml,
-    /// The domain file describes no machine, or none of the form that is built so far.
+    /// The domain file describes no machine.
     #[error("xensched: domains: {0}")]
     BadDomains(DomFault),
-    /// The work file is refused. So far it has to be empty.
+    /// The work file is refused. So far it may have no commands.
     #[error("xensched: work: {0}")]
-    BadWork(WorkFault),
+    BadWork(WorkRefusal),
     /// The output could not be written.
     #[error("xensched: cannot write")]
     WriteFault,

@@ -1,9 +1,16 @@
 //! The statuses and what is written with them, over a store and a sink in memory.
 
+mod arinc;
+mod cores;
+mod credit2;
+mod rtds;
+
 use crate::status::Status;
-use crate::top::xensched;
-use sched_io::{MemSink, MemStore};
+use crate::sure::xensched_surely;
+use crate::top::{MOST_ENTRIES, xensched};
+use sched_io::{MOST_BYTES, MemSink, MemStore, SureSink, SureStore};
 use std::alloc::Global;
+use std::process::Abort;
 use std::test::Fail;
 
 /// Two domains that take turns on one core: 4 ms and the second run of each frame.
@@ -62,7 +69,13 @@ fn each_status_with_what_it_writes(rt: HostRuntime) -> Result<(), Fail> {
         store.set(alloc, "domains.toml", domains(alloc, run)?.as_bytes())?;
         store.set(alloc, "work.txt", work.as_bytes())?;
         let mut sink = MemSink::room(alloc, 4096, &[fails])?;
-        let answer = xensched(alloc, words(alloc, line)?.as_slice(), &mut store, &mut sink);
+        let answer = xensched(
+            alloc,
+            words(alloc, line)?.as_slice(),
+            MOST_ENTRIES,
+            &mut store,
+            &mut sink,
+        );
         assert_eq!(rt; answer.number(), status, "{line} {run}");
         assert_eq!(rt; sink.bytes(), output.as_bytes(), "{line} {run}");
     }
@@ -77,8 +90,74 @@ fn a_byte_that_is_no_text_is_no_toml(rt: HostRuntime) -> Result<(), Fail> {
     store.set(alloc, "work.txt", b"")?;
     let mut sink = MemSink::room(alloc, 4096, &[])?;
     let line = words(alloc, "run --ordered domains.toml work.txt")?;
-    let answer = xensched(alloc, line.as_slice(), &mut store, &mut sink);
+    let answer = xensched(alloc, line.as_slice(), MOST_ENTRIES, &mut store, &mut sink);
     assert!(rt; matches!(answer, Status::BadToml));
     assert_eq!(rt; sink.bytes(), b"".as_slice());
+    Ok(())
+}
+
+#[test]
+fn a_run_that_fills_its_limit_is_whole(rt: HostRuntime) -> Result<(), Fail> {
+    let alloc = rt.alloc();
+    let line = words(alloc, "run --ordered domains.toml work.txt")?;
+    let last = "20000000 finish\n";
+    let first_entries = FULL_FRAME.len() - last.len();
+    for (limit, status, written) in [(28, 0, FULL_FRAME.len()), (27, 7, first_entries), (0, 7, 0)] {
+        let mut store = MemStore::room(alloc, &[])?;
+        store.set(alloc, "domains.toml", domains(alloc, "6000000")?.as_bytes())?;
+        store.set(alloc, "work.txt", b"")?;
+        let mut sink = MemSink::room(alloc, 4096, &[])?;
+        let answer = xensched(alloc, line.as_slice(), limit, &mut store, &mut sink);
+        assert_eq!(rt; answer.number(), status, "{limit}");
+        assert_eq!(rt; sink.bytes(), &FULL_FRAME.as_bytes()[..written], "{limit}");
+    }
+    Ok(())
+}
+
+#[test]
+fn nothing_fails_where_store_and_sink_never_do(rt: HostRuntime) -> Result<(), Fail> {
+    let alloc = rt.alloc();
+    // A name that was never set holds no byte, and an empty domain file has no format.
+    for (line, status, output) in [
+        ("run --ordered domains.toml work.txt", 0, FULL_FRAME),
+        ("run --ordered domains.toml domains.toml", 5, ""),
+        ("run --ordered work.txt domains.toml", 4, ""),
+        ("run domains.toml work.txt", 1, ""),
+    ] {
+        let mut store = SureStore::room(alloc)?;
+        let file = domains(alloc, "6000000")?;
+        let bytes = file.as_bytes();
+        assert!(rt; bytes.len() <= MOST_BYTES);
+        store.set(alloc, "domains.toml", bytes)?;
+        let mut sink = SureSink::room(alloc, 4096)?;
+        let answer = xensched_surely(
+            alloc,
+            words(alloc, line)?.as_slice(),
+            MOST_ENTRIES,
+            &mut store,
+            &mut sink,
+        );
+        assert_eq!(rt; answer.number(), status, "{line}");
+        assert_eq!(rt; sink.bytes(), output.as_bytes(), "{line}");
+    }
+    Ok(())
+}
+
+/// The program writes this schedule of these two files.
+fn expect_schedule(
+    rt: &impl Abort,
+    alloc: Global,
+    domains: &str,
+    work: &str,
+    schedule: &str,
+) -> Result<(), Fail> {
+    let mut store = MemStore::room(alloc, &[])?;
+    store.set(alloc, "domains.toml", domains.as_bytes())?;
+    store.set(alloc, "work.txt", work.as_bytes())?;
+    let mut sink = MemSink::room(alloc, 8192, &[])?;
+    let line = words(alloc, "run --ordered domains.toml work.txt")?;
+    let answer = xensched(alloc, line.as_slice(), MOST_ENTRIES, &mut store, &mut sink);
+    assert_eq!(rt; answer.number(), 0);
+    assert_eq!(rt; sink.bytes(), schedule.as_bytes());
     Ok(())
 }

@@ -1,4 +1,4 @@
-use Rattle.std.proofs.Common.{◌≡◌, ℕ, ◌<◌, ◌≤◌, true, false, rules, arith, subst, sym, ◌+◌}
+use Rattle.std.proofs.Common.{◌≡◌, ◌<◌, true, false, rules, arith, subst, sym, ◌+◌}
 use Rattle.sched_io.specs.Puts.{Adds, AddsPart}
 use Rattle.sched_model.specs.Machine.{ordered_run}
 use Rattle.sched_print.specs.Line.{line, text}
