@@ -1,0 +1,13 @@
+use Rattle.std.proofs.Common.{arith}
+use Rattle.sched_model.specs.Pool.{unpause}
+use Rattle.plain_pool.specs.Fits.{PoolFits}
+use Rattle.plain_commands.specs.Carried.{FewWait}
+use Rattle.plain_commands.proofs.Items.{each-item, changed-item}
+use Rattle.plain_commands.proofs.pools.unpause_at.Goals as goal
+
+pub unpause-requires-clause-fits : goal.unpause-requires-clause-fits
+unpause-requires-clause-fits c = each-item PoolFits c.args.pools.now c.args.i c.item_mut.result.now c.in-Some.pool c.requires.fits (omega arith) c.item_mut.ensures.value c.in-Some.is
+
+pub unpause-requires-clause-room : goal.unpause-requires-clause-room
+unpause-requires-clause-room c =
+    changed-item FewWait (unpause c.args.g c.args.d) c.args.pools.now c.args.i c.item_mut.result.now c.in-Some.pool c.requires.room (omega arith) c.item_mut.ensures.value c.in-Some.is

@@ -1,0 +1,138 @@
+//! What a command is judged by besides the tool's own state.
+
+ghost use Rattle.std.specs.Prelude.{◌≡◌, ◌+◌, ◌≤◌, ◌<◌, ◌++◌, [], length, Some, None};
+ghost use Rattle.std.specs.Option.{option_copied};
+ghost use Rattle.sched_model.specs.Places.{at_place};
+ghost use Rattle.cpupool.specs.Facts.{stored_of as stored_of_spec, stored_from, stored_in, rate_at as rate_at_spec, units_at as units_at_spec};
+ghost use Rattle.sched_laws.specs.Each.{EachPlace};
+ghost use Rattle.plain_pool.specs.Fits.{PoolFits};
+
+use plain_policy::records::{credit2_record, rate_of, rtds_record};
+use plain_pool::domains::unit_count;
+use sched_base::{DomId, Span, UnitId};
+use sched_model::facts::{Facts, Stored, StoredList, Subject};
+use sched_model::short::Short;
+use sched_model::state::{Domain, Pool, Records, State};
+
+/// The set values that the scheduler keeps for the unit n of the domain d; for RTDS the newest ones.
+fn stored_of(records: &Records, d: u8, n: u8) -> Option<Stored>
+    ensures { result ≡ stored_of_spec records.now d n }
+{
+    match records {
+        Records::Credit2Pool(_) => {
+            let x = credit2_record(records, d)?;
+            Some(Stored::Credit2 {
+                weight: x.weight,
+                cap: x.cap,
+            })
+        }
+        Records::RtdsPool(_) => {
+            let u = UnitId { dom: DomId(d), n };
+            let x = rtds_record(records, u)?;
+            Some(Stored::Rtds {
+                period: Span(x.next_period),
+                budget: Span(x.next_budget),
+                extra: x.next_extra,
+            })
+        }
+        Records::ArincPool(_) => Some(Stored::Arinc653),
+        Records::NullPool(_) => Some(Stored::Null),
+    }
+}
+
+/// Adds the values of count units of the domain d from first on, up to the first without any.
+fn push_stored(records: &Records, d: u8, first: u8, count: u8, values: &mut StoredList)
+    requires room { length values.old + count ≤ 32 }
+    requires few { first + count ≤ 32 }
+    ensures { values.new ≡ values.old ++ stored_from records.now d first count }
+{
+    if count == 0 {
+        return;
+    }
+    if let Some(value) = stored_of(records, d, first) {
+        values.push(value);
+        push_stored(records, d, first + 1, count - 1, values);
+    }
+}
+
+/// The domain of the pool.
+fn domain_at(domains: &[Option<Domain>], d: u8) -> Option<&Domain>
+    ensures { option_copied result ≡ at_place domains.now d }
+{
+    let place = d as usize;
+    if place < domains.len() {
+        domains[place].as_ref()
+    } else {
+        None
+    }
+}
+
+/// The values of all units of the domain d of the pool.
+fn push_stored_in(g: u8, pool: &Pool, d: u8, values: &mut StoredList)
+    requires some { 0 < g }
+    requires few { g ≤ 4 }
+    requires fits { PoolFits pool.now }
+    requires empty { values.old ≡ [] }
+    ensures { values.new ≡ stored_in g pool.now d }
+{
+    if let Some(domain) = domain_at(pool.domains.as_slice(), d) {
+        let count = unit_count(g, domain);
+        push_stored(&pool.scheduler.records, d, 0, count, values);
+    }
+}
+
+/// The pool with this number.
+fn pool_at(pools: &[Option<Pool>], i: u8) -> Option<&Pool>
+    ensures { option_copied result ≡ at_place pools.now i }
+{
+    let place = i as usize;
+    if place < pools.len() {
+        pools[place].as_ref()
+    } else {
+        None
+    }
+}
+
+/// The rate limit of the subject's pool, in microseconds, or 0 where there is none.
+fn rate_at(s: &State, subject: Subject) -> u32
+    ensures { result ≡ rate_at_spec s.entry.now subject }
+{
+    match subject.pool {
+        None => 0,
+        Some(i) => match pool_at(s.pools.as_slice(), i.0) {
+            None => 0,
+            Some(pool) => rate_of(&pool.scheduler.records),
+        },
+    }
+}
+
+/// The set values of the units of the subject's domain, or none where there is no domain.
+fn units_at(g: u8, s: &State, subject: Subject) -> StoredList
+    requires some { 0 < g }
+    requires few { g ≤ 4 }
+    requires fits { EachPlace PoolFits s.now.pools }
+    ensures { result ≡ units_at_spec g s.entry.now subject }
+{
+    let mut values = Short::new();
+    if let Some(d) = subject.dom {
+        if let Some(i) = subject.pool {
+            if let Some(pool) = pool_at(s.pools.as_slice(), i.0) {
+                push_stored_in(g, pool, d.0, &mut values);
+            }
+        }
+    }
+    values
+}
+
+/// The rate limit of the subject's pool and the set values of the units of its domain.
+pub fn facts_at(g: u8, s: &State, subject: Subject) -> Facts
+    requires some { 0 < g }
+    requires few { g ≤ 4 }
+    requires fits { EachPlace PoolFits s.now.pools }
+    ensures { result ≡ record { rate = rate_at_spec s.entry.now subject; units = units_at_spec g s.entry.now subject } }
+{
+    Facts {
+        rate: rate_at(s, subject),
+        units: units_at(g, s, subject),
+    }
+}

@@ -1,0 +1,138 @@
+//! What an accepted command does to the pool that it names. Each changes the pool i, where there is one.
+
+ghost use Rattle.std.specs.Prelude.{◌≡◌, ◌≤◌, ◌<◌, ◌+◌, ℕ, length};
+ghost use Rattle.sched_laws.specs.Each.{EachPlace};
+ghost use Rattle.sched_model.specs.Places.{change_at, numbers_from};
+ghost use Rattle.sched_model.specs.Pool as pool_spec;
+ghost use Rattle.sched_model.specs.Commands.{set_rtds as set_rtds_spec, set_rtds_unit as set_rtds_unit_spec};
+ghost use Rattle.plain_policy.specs.Parameters.{ChangeFits};
+ghost use Rattle.plain_pool.specs.Fits.{PoolFits};
+ghost use Rattle.plain_commands.specs.Carried.{FitsAt, FewWait};
+
+use plain_policy::rtds::{rtds_unit, set_next};
+use plain_pool::leaving::set_leaving;
+use plain_pool::params::set_params;
+use plain_pool::pausing::{pause, set_moving, unpause};
+use sched_base::{DomId, Span, UnitId};
+use sched_model::config::ParamChange;
+use sched_model::row::Row;
+use sched_model::state::{Pool, Records};
+
+/// The core is leaving the pool.
+pub fn set_leaving_at(i: usize, core: u8, pools: &mut Row<Option<Pool>>)
+    ensures { pools.new ≡ change_at i (pool_spec.set_leaving core) pools.old }
+{
+    if i < pools.len() {
+        if let Some(pool) = pools.item_mut(i) {
+            set_leaving(core, pool);
+        }
+    }
+}
+
+/// The domain is moving to the pool j.
+pub fn set_moving_at(i: usize, d: u8, j: u8, pools: &mut Row<Option<Pool>>)
+    ensures { pools.new ≡ change_at i (pool_spec.set_moving d j) pools.old }
+{
+    if i < pools.len() {
+        if let Some(pool) = pools.item_mut(i) {
+            set_moving(d, j, pool);
+        }
+    }
+}
+
+/// The domain is paused.
+pub fn pause_at(i: usize, d: u8, pools: &mut Row<Option<Pool>>)
+    ensures { pools.new ≡ change_at i (pool_spec.pause d) pools.old }
+{
+    if i < pools.len() {
+        if let Some(pool) = pools.item_mut(i) {
+            pause(d, pool);
+        }
+    }
+}
+
+/// The domain is no longer paused. A core has g processors.
+pub fn unpause_at(g: u8, i: usize, d: u8, pools: &mut Row<Option<Pool>>)
+    requires some { 0 < g }
+    requires few { g ≤ 4 }
+    requires fits { EachPlace PoolFits pools.old }
+    requires room { EachPlace FewWait (change_at i (pool_spec.unpause g d) pools.old) }
+    ensures { pools.new ≡ change_at i (pool_spec.unpause g d) pools.old }
+{
+    if i < pools.len() {
+        if let Some(pool) = pools.item_mut(i) {
+            unpause(g, d, pool);
+        }
+    }
+}
+
+/// The scheduler's parameters change at t.
+pub fn set_params_at(i: usize, change: ParamChange, t: u64, pools: &mut Row<Option<Pool>>)
+    requires change { ChangeFits change }
+    requires early { t ≤ 10000000000000 }
+    requires fits { EachPlace (FitsAt t) pools.old }
+    ensures { pools.new ≡ change_at i (pool_spec.set_params change t) pools.old }
+{
+    if i < pools.len() {
+        if let Some(pool) = pools.item_mut(i) {
+            set_params(change, t, pool);
+        }
+    }
+}
+
+/// The RTDS parameters that a command gives; what it does not give stays.
+#[derive(Clone, Copy)]
+pub struct RtdsGiven {
+    pub period: Option<Span>,
+    pub budget: Option<Span>,
+    pub extra: Option<bool>,
+}
+
+/// The unit has the new parameters from its next replenishment on. Another scheduler keeps what it has.
+fn set_rtds_unit(given: RtdsGiven, u: UnitId, pool: &mut Pool)
+    ensures { (t : ℕ) → pool.new ≡ set_rtds_unit_spec t given.period given.budget given.extra u pool.old }
+{
+    if let Records::RtdsPool(domains) = &mut pool.scheduler.records {
+        if let Some(x) = rtds_unit(domains.as_slice(), u) {
+            let period = given.period.unwrap_or(Span(x.next_period));
+            let budget = given.budget.unwrap_or(Span(x.next_budget));
+            let extra = given.extra.unwrap_or(x.next_extra);
+            set_next(u, period, budget, extra, domains);
+        }
+    }
+}
+
+/// The same of count units of the domain from first on.
+fn set_rtds(d: u8, first: u8, count: u8, given: RtdsGiven, pool: &mut Pool)
+    requires few { first + count ≤ 255 }
+    ensures { (t : ℕ) → pool.new ≡ set_rtds_spec t d given.period given.budget given.extra (numbers_from first count) pool.old }
+{
+    if count == 0 {
+        return;
+    }
+    let u = UnitId {
+        dom: DomId(d),
+        n: first,
+    };
+    set_rtds_unit(given, u, pool);
+    set_rtds(d, first + 1, count - 1, given, pool);
+}
+
+/// The same in the pool i.
+pub fn set_rtds_at(
+    i: usize,
+    d: u8,
+    first: u8,
+    count: u8,
+    given: RtdsGiven,
+    pools: &mut Row<Option<Pool>>,
+)
+    requires few { first + count ≤ 255 }
+    ensures { (t : ℕ) → pools.new ≡ change_at i (set_rtds_spec t d given.period given.budget given.extra (numbers_from first count)) pools.old }
+{
+    if i < pools.len() {
+        if let Some(pool) = pools.item_mut(i) {
+            set_rtds(d, first, count, given, pool);
+        }
+    }
+}
