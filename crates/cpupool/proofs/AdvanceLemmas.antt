@@ -100,7 +100,7 @@ abbrev answer_else : {Y : Type 0} → Option Y → Option Y → Option Y
 answer_else o rest = elim o [ Some y ↦ Some y | None ↦ rest ]
 
 -- no place answers, and one is changed so that it does
-first_none : {X Y : Type 0} (h : ℕ → X → Option Y) (n : ℕ) (x : X) (places : List (Option X)) → first_answer h n (Some x ∷ places) ≡ None → (h n x ≡ None) × (first_answer h (suc n) places ≡ None)
+pub first_none : {X Y : Type 0} (h : ℕ → X → Option Y) (n : ℕ) (x : X) (places : List (Option X)) → first_answer h n (Some x ∷ places) ≡ None → (h n x ≡ None) × (first_answer h (suc n) places ≡ None)
 first_none {X} {Y} h n x places none = split (h n x) none
   where
     split : (o : Option Y) → answer_else o (first_answer h (suc n) places) ≡ None → (o ≡ None) × (first_answer h (suc n) places ≡ None)
@@ -131,7 +131,7 @@ answer_put {X} {Y} h f (suc i) n (Some x ∷ places) none =
     let next : suc n + i ≡ n + suc i = omega arith in
     ap answer split.0 ∙ answer_put h f i (suc n) places split.1 ∙ ap (λ k. changed_answer (λ x. h k (f x)) (at_place places i)) next
 
-none_at : {X Y : Type 0} (h : ℕ → X → Option Y) (i n : ℕ) (places : List (Option X)) (x : X) → first_answer h n places ≡ None → at_place places i ≡ Some x → h (n + i) x ≡ None
+pub none_at : {X Y : Type 0} (h : ℕ → X → Option Y) (i n : ℕ) (places : List (Option X)) (x : X) → first_answer h n places ≡ None → at_place places i ≡ Some x → h (n + i) x ≡ None
 none_at h i n [] x none there = cc
 none_at h zero n (None ∷ places) x none there = cc
 none_at h zero n (Some y ∷ places) x none there =
@@ -163,10 +163,10 @@ clear_none {X} {Y} h (suc i) n (Some z ∷ places) none =
     ap (λ (o : Option Y). elim o [ Some y ↦ Some y | None ↦ first_answer h (suc n) (clear_at i places) ]) (first_none h n z places none).0 ∙ clear_none h i (suc n) places (first_none h n z places none).1
 
 -- nothing is on its way from the pools, nor from the cores of none
-abbrev or_else : Option UnderWay → Option UnderWay → Option UnderWay
+abbrev pub or_else : Option UnderWay → Option UnderWay → Option UnderWay
 or_else a b = elim a [ Some way ↦ Some way | None ↦ b ]
 
-none_either : (a b : Option UnderWay) → or_else a b ≡ None → (a ≡ None) × (b ≡ None)
+pub none_either : (a b : Option UnderWay) → or_else a b ≡ None → (a ≡ None) × (b ≡ None)
 none_either None b none = (refl, none)
 none_either (Some way) b none = cc
 

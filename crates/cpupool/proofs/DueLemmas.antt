@@ -58,7 +58,7 @@ soonest_come tool t =
     ∙ ap (λ c. stall_comes tool t || (command_comes tool t || c)) (joining_come tool.part t way)
     ∙ or_assoc (stall_comes tool t) (command_comes tool t) (joining_ready tool.part t way)
 
-same_least : (t : ℕ) (p q : ℕ → Bool) → ((later : ℕ) → p later ≡ q later) → (o : Option Moment) → IsLeastLater t p o → IsLeastLater t q o
+pub same_least : (t : ℕ) (p q : ℕ → Bool) → ((later : ℕ) → p later ≡ q later) → (o : Option Moment) → IsLeastLater t p o → IsLeastLater t q o
 same_least t p q same None none = λ later after. sym (same later) ∙ none later after
 same_least t p q same (Some least) found = (found.0, sym (same least.0) ∙ found.1, λ later after before. sym (same later) ∙ found.2 later after before)
 

@@ -16,3 +16,5 @@ pub mod OpenedLemmas
 pub mod AdvanceLemmas
 pub mod StallLemmas
 pub mod DueLemmas
+pub mod ArrivedLemmas
+pub mod ComingLemmas

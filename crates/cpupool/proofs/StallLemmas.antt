@@ -17,7 +17,7 @@ use Rattle.cpupool.proofs.SubjectLemmas.{at_place-map}
 use Rattle.cpupool.proofs.AdvanceLemmas.{answer_change}
 
 -- a place changed, seen through g
-map_changed : {X Y : Type 0} (g : X → Y) (f : X → X) (h : Y → Y) → ((x : X) → g (f x) ≡ h (g x)) → (i : ℕ) (places : List (Option X)) → map (option_map g) (change_at i f places) ≡ change_at i h (map (option_map g) places)
+pub map_changed : {X Y : Type 0} (g : X → Y) (f : X → X) (h : Y → Y) → ((x : X) → g (f x) ≡ h (g x)) → (i : ℕ) (places : List (Option X)) → map (option_map g) (change_at i f places) ≡ change_at i h (map (option_map g) places)
 map_changed g f h same i [] = refl
 map_changed g f h same zero (None ∷ places) = refl
 map_changed g f h same zero (Some x ∷ places) = ap (λ y. Some y ∷ map (option_map g) places) (same x)

@@ -65,7 +65,7 @@ not_some (Some x) = refl
 idle : (s : State) → is_none (under_way_of s) ≡ not (is_move_under_way s)
 idle s = not_some (under_way_of s) ∙ ap not (under_way-seen s)
 
-command-seen : (m : Machine) (s : State) (t : ℕ) → command_comes (tool_of m s) t ≡ is_enabled m s t Xl
+pub command-seen : (m : Machine) (s : State) (t : ℕ) → command_comes (tool_of m s) t ≡ is_enabled m s t Xl
 command-seen m s t =
     let comes : Bool → Option CommandLine → Bool = λ b o. elim o [ None ↦ false | Some line ↦ nat_le line.at.0 t && b ] in
     ap (λ b. comes b (slice_get m.work.commands s.next_command)) (idle s)

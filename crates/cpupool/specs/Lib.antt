@@ -8,3 +8,5 @@ pub mod OpenedTool
 pub mod Steps
 pub mod Advanced
 pub mod Dues
+pub mod Arrived
+pub mod Coming

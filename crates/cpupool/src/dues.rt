@@ -47,13 +47,18 @@ fn first_end(free: &[Option<StallEnds>], r: usize) -> Option<u64>
 
 impl ToolState {
     ghost use Rattle.std.specs.Prelude.{◌≡◌, ◌^◌, ◌<◌};
+    ghost use Rattle.sched_model.specs.declared.machine.Machine.{Machine};
+    ghost use Rattle.sched_model.specs.declared.state.State.{State};
+    ghost use Rattle.cpupool.specs.Tool.{tool_of};
+    ghost use Rattle.cpupool.specs.Coming.{tool_may_act};
     ghost use Rattle.cpupool.specs.Dues.{IsLeastLater, is_anything_due, stall_at as stall_at_spec, command_at as command_at_spec, joining_at as joining_at_spec, soonest, later_than as later_than_spec};
 
     /// The least moment after t at which a stall or a command may come, or a core of no pool may join one; `None` where
     /// none of them may at any later moment.
     pub fn next_due(&self, t: Moment) -> Option<Moment>
         requires { t.0 < 2 ^ 63 }
-        ensures { IsLeastLater t.0 (is_anything_due self.now) result }
+        ensures part { IsLeastLater t.0 (is_anything_due self.now) result }
+        ensures state { (m : Machine) → (s : State) → tool_of m s ≡ self.now → IsLeastLater t.0 (tool_may_act m s) result }
     {
         self.soonest_after(t.0)
     }

@@ -2,6 +2,7 @@
 #![tactic(auto)]
 
 pub mod advance;
+pub mod arrivals;
 pub mod copies;
 pub mod dues;
 pub mod judge;

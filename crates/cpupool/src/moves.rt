@@ -90,6 +90,7 @@ impl ToolState {
     ghost use Rattle.sched_model.specs.Machine.{is_move_under_way};
     ghost use Rattle.cpupool.specs.Tool.{tool_of};
     ghost use Rattle.cpupool.specs.Steps.{kind_at as kind_at_spec, move_of, joining_ready};
+    ghost use Rattle.cpupool.specs.Coming.{may_join};
 
     /// The scheduler of the pool i.
     fn kind_at(&self, i: u8) -> SchedKind
@@ -129,11 +130,19 @@ impl ToolState {
 
     /// Whether a core of no pool is to join one, and its first processor is up at t.
     pub fn free_ready(&self, t: Moment) -> bool
-        ensures { result ≡ joining_ready self.now.part t.0 self.now.part.under_way }
+        ensures part { result ≡ joining_ready self.now.part t.0 self.now.part.under_way }
+        ensures state { (m : Machine) → (s : State) → tool_of m s ≡ self.now → result ≡ may_join s t.0 }
+    {
+        self.joins(t.0)
+    }
+
+    /// The same, by what the tool keeps.
+    fn joins(&self, t: u64) -> bool
+        ensures { result ≡ joining_ready self.now.part t self.now.part.under_way }
     {
         match self.under_way {
             Some(Way::Core { r, to: Some(_) }) => {
-                is_first_up(t.0, self.free.as_slice(), r as usize)
+                is_first_up(t, self.free.as_slice(), r as usize)
             }
             _ => false,
         }
