@@ -1,6 +1,6 @@
 -- What is computed of the example.
-use Rattle.std.proofs.Common.{◌≡◌, ℕ, zero, suc, ◌<◌, Bool, true, false, true≢false, eqb, List, [], ◌∷◌, take, ◌++◌, ◌≤◌, length, sym, refl, ap, ◌∙◌, arith}
-use Rattle.std.specs.Prelude.{◌&&◌}
+use Rattle.std.proofs.Common.{◌≡◌, ℕ, zero, suc, ◌<◌, ◌≢◌, Bool, true, false, true≢false, eqb, List, [], ◌∷◌, take, ◌++◌, ◌≤◌, length, sym, refl, ap, ◌∙◌, arith, ne_eqb, eqb-true}
+use Rattle.std.specs.Prelude.{◌&&◌, ◌||◌}
 use mathlib.Core.Logic.{dite}
 use mathlib.Core.Option.{some, some-injective, some-ne-none}
 use native.Mathlib.Decide.{ℕ_discrete, dec_lt}
@@ -9,10 +9,11 @@ use Rattle.sched_model.specs.declared.config.Config.{Config}
 use Rattle.sched_model.specs.declared.state.State.{State}
 use Rattle.sched_model.specs.declared.event.Entry.{Entry}
 use Rattle.journal_core.specs.Parts.{StatePart, part_of, lists, home_in}
-use Rattle.journal_core.specs.Histories.{part_at, home_at, state_at, NamesStandOnce}
+use Rattle.sched_model.specs.Runs.{IsNext}
+use Rattle.journal_core.specs.Histories.{part_at, home_at, now_at, decides_at, state_at, reached_by, NamesStandOnce}
 use Rattle.lock_moves.specs.declared.names.Names.{Names}
 use Rattle.lock_moves.specs.NameSets.{in_names, AreNamesOf}
-use Rattle.lock_example.specs.Example.{adding, two_entries, part_after, names_after, new_book}
+use Rattle.lock_example.specs.Example.{adding, two_entries, is_added, has_moved, part_after, names_after, new_book}
 use Rattle.lock_example.specs.declared.counter.Counter.{Counter}
 use Rattle.lock_example.specs.Counters.{AreNew}
 use Rattle.lock_moves.specs.Opened.{AreParts}
@@ -99,3 +100,52 @@ new-snoc counters x len none new k y at = dite (dec_lt k (length counters))
 -- the new counters are the parts of the book before the run
 pub new-parts : (counters : List Counter) → length counters ≡ 17 → AreNew counters → AreParts (λ (c : Counter). part_after c.lock c.count) new_book counters
 new-parts counters len new = record { all = len; each = λ k x at. let is = new k x at in λ i. part_after (is.0 i) (is.1 i) }
+
+-- each of the two entries may come next
+pub first_next : IsNext adding (reached_by adding []) is_added
+first_next = record { goes_on = refl; moment = refl; event = (refl, refl) }
+
+pub second_next : IsNext adding (reached_by adding (take 1 two_entries)) has_moved
+second_next = record { goes_on = refl; moment = refl; event = (refl, refl) }
+
+-- the first entry leaves all homes as they are, and the second all but that of core 1
+same_homes : State → State → ℕ → Bool
+same_homes s next n = eqb (home_in adding.config s n) (home_in adding.config next n)
+
+pub homes_first : (n : ℕ) → n < 128 → home_at adding [] n ≡ home_at adding (take 1 two_entries) n
+unfolding home_at same_homes
+homes_first n small = let test : ℕ → Bool = same_homes (state_at adding []) (state_at adding (take 1 two_entries)) in
+    let all : all_below test 128 ≡ true = refl in
+    eqb-true (home_in adding.config (state_at adding []) n) (home_in adding.config (state_at adding (take 1 two_entries)) n) (at_each test 128 n all small)
+
+pub homes_second : (n : ℕ) → n < 128 → n ≢ 1 → home_at adding (take 1 two_entries) n ≡ home_at adding two_entries n
+unfolding home_at same_homes
+homes_second n small other = let test : ℕ → Bool = λ k. eqb k 1 || same_homes (state_at adding (take 1 two_entries)) (state_at adding two_entries) k in
+    let all : all_below test 128 ≡ true = refl in
+    eqb-true (home_in adding.config (state_at adding (take 1 two_entries)) n) (home_in adding.config (state_at adding two_entries) n)
+    (sym (ap (λ b. b || same_homes (state_at adding (take 1 two_entries)) (state_at adding two_entries) n) (ne_eqb n 1 other)) ∙ at_each test 128 n all small)
+
+pub home_before : home_at adding (take 1 two_entries) 1 ≡ 16
+unfolding home_at
+home_before = refl
+
+pub home_after : home_at adding two_entries 1 ≡ 0
+unfolding home_at
+home_after = refl
+
+pub now_first : now_at adding [] ≡ now_at adding (take 1 two_entries)
+unfolding now_at
+now_first = refl
+
+pub now_second : now_at adding (take 1 two_entries) ≡ now_at adding two_entries
+unfolding now_at
+now_second = refl
+
+-- neither is a decision
+pub decides_first : (r : ℕ) → r < 64 → decides_at (take 1 two_entries) r ≡ decides_at [] r
+unfolding decides_at
+decides_first r small = refl
+
+pub decides_second : (r : ℕ) → r < 64 → decides_at two_entries r ≡ decides_at (take 1 two_entries) r
+unfolding decides_at
+decides_second r small = refl

@@ -1,2 +1,3 @@
 pub mod Checks
 pub mod Visiting
+pub mod Holding

@@ -35,3 +35,22 @@ fn two_seats_take_turns(rt: HostRuntime) -> Result<(), Fail> {
     assert_eq!(rt; (book.len(), book.limit()), (0, 2));
     Ok(())
 }
+
+#[test]
+fn a_core_joins_the_pool(rt: HostRuntime) -> Result<(), Fail> {
+    let room = Vec::with_capacity(rt.alloc(), 16)?;
+    let (set, mut a) = opened(rt.alloc())?;
+    let mut b = set.split(&mut a);
+    let core = WordId::Name(NameId::Res(ResId(1)));
+    assert_eq!(rt; set.read_word(&mut b, core), 16);
+    let mut a = add_core(&rt, &set, a, room).ok_or("the history is empty")?;
+    assert_eq!(rt; set.read_word(&mut b, core), 0);
+    assert_eq!(rt; visit(&rt, &set, &mut b, NameId::Res(ResId(1))), (0, 2));
+    set.join(&mut a, b);
+    let book = set.close(a);
+    assert_eq!(rt;
+        (book.len(), book.get(0), book.get(1)),
+        (2, command_done(), core_moved())
+    );
+    Ok(())
+}

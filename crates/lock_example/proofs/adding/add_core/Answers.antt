@@ -1,0 +1,44 @@
+use Rattle.std.proofs.Common.{◌≡◌, ◌+◌, ℕ, [], ◌∷◌, length, length-append, refl, ap, ◌∙◌, subst, arith}
+use Rattle.lock_moves.specs.Sets.{Taken}
+use Rattle.lock_example.specs.declared.counter.Counter.{Counter}
+use Rattle.lock_example.specs.Example.{two_entries}
+use Rattle.lock_example.specs.Holding.{AreFrom, KnowsBelow}
+use Rattle.lock_example.proofs.Holding.{from_front, none_held}
+use Rattle.lock_example.proofs.adding.add_core.Goals as goal
+
+pub add_second-requires-clause-tool : goal.add_second-requires-clause-tool
+add_second-requires-clause-tool g c =
+    let f = from_front 1 c.pop.new.self.items c.in_ok-tool.tool (subst (AreFrom 1) c.in_ok-tool.ensures.items c.take_rest.ensures.order) in
+    let len = ap length c.in_ok-tool.ensures.items ∙ length-append c.pop.new.self.items (c.in_ok-tool.tool ∷ []) in
+    let all = c.take_rest.ensures.all in omega (arith, f.1, len, all)
+
+pub put_last-requires-clause-number : goal.put_last-requires-clause-number
+put_last-requires-clause-number g c =
+    let f = from_front 1 c.pop.new.self.items c.in_ok-tool.tool (subst (AreFrom 1) c.in_ok-tool.ensures.items c.take_rest.ensures.order) in
+    let len = ap length c.in_ok-tool.ensures.items ∙ length-append c.pop.new.self.items (c.in_ok-tool.tool ∷ []) in
+    let all = c.take_rest.ensures.all in
+    let same = ap (λ (x : Taken Counter). x.lock) c.add_second.ensures.tool in omega (arith, f.1, len, all, same)
+
+pub put_last-requires-clause-below : goal.put_last-requires-clause-below
+put_last-requires-clause-below g c =
+    let f = from_front 1 c.pop.new.self.items c.in_ok-tool.tool (subst (AreFrom 1) c.in_ok-tool.ensures.items c.take_rest.ensures.order) in
+    let len = ap length c.in_ok-tool.ensures.items ∙ length-append c.pop.new.self.items (c.in_ok-tool.tool ∷ []) in
+    let all = c.take_rest.ensures.all in
+    let same = ap (λ (x : Taken Counter). x.lock) c.add_second.ensures.tool in
+    let e : 17 ≡ c.add_second.new.tool.lock + 1 = omega (arith, f.1, len, all, same) in
+    subst (λ (n : ℕ). KnowsBelow n two_entries c.add_second.new.seat.view) e (c.if-not-add_second.ensures.below refl)
+
+pub put_rest-requires-clause-order : goal.put_rest-requires-clause-order
+put_rest-requires-clause-order g c = (from_front 1 c.pop.new.self.items c.in_ok-tool.tool (subst (AreFrom 1) c.in_ok-tool.ensures.items c.take_rest.ensures.order)).0
+
+pub put_rest-requires-clause-below : goal.put_rest-requires-clause-below
+put_rest-requires-clause-below g c =
+    let f = from_front 1 c.pop.new.self.items c.in_ok-tool.tool (subst (AreFrom 1) c.in_ok-tool.ensures.items c.take_rest.ensures.order) in
+    let same = ap (λ (x : Taken Counter). x.lock) c.add_second.ensures.tool in
+    subst (λ (n : ℕ). KnowsBelow n two_entries c.put_last.new.seat.view) (same ∙ f.1) c.put_last.ensures.below
+
+pub returns-clause-nothing : goal.returns-clause-nothing
+returns-clause-nothing g c =
+    let same = ap (λ (x : Taken Counter). x.lock) c.add_second.ensures.pool in
+    let first = c.take_next-pool.ensures.lock in
+    none_held c.put_last-2.new.seat.view.held (λ k. c.put_last-2.ensures.below.others k (omega (arith, same, first)))
