@@ -1,5 +1,5 @@
 -- What the changes of a pool need of it, and what carrying out a plan needs.
-use Rattle.std.specs.Prelude.{◌≡◌, ◌≤◌, ◌+◌, ℕ, List, Option, Some, length}
+use Rattle.std.specs.Prelude.{◌≡◌, ◌≤◌, ◌+◌, ℕ, List, Option, Some}
 use Rattle.sched_model.specs.declared.machine.Machine.{Machine}
 use Rattle.sched_model.specs.declared.plan.Plan.{Plan}
 use Rattle.sched_model.specs.declared.plan.Plan.TheVariants as plan
@@ -15,10 +15,6 @@ use Rattle.plain_pool.specs.Fits.{PoolFits}
 pub record FitsAt (t : ℕ) (pool : Pool) : Type 0 where
   pub fits : PoolFits pool
   pub records : RecordsFit t pool.scheduler.records
-
--- at most 256 units wait in the pool
-abbrev pub FewWait : Pool → Type 0
-FewWait pool = length pool.scheduler.queue ≤ 256
 
 -- the weight and the cap that the plan gives are in range, and its units have numbers of one byte
 abbrev pub PlanFits : Plan → Type 0

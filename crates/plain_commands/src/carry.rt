@@ -11,7 +11,8 @@ ghost use Rattle.sched_model.specs.Places.{at_place, put_at, clear_at, change_at
 ghost use Rattle.sched_model.specs.Pool as pool_spec;
 ghost use Rattle.plain_policy.specs.Parameters.{ChangeFits};
 ghost use Rattle.plain_pool.specs.Fits.{PoolFits};
-ghost use Rattle.plain_commands.specs.Carried.{FitsAt, FewWait, PlanFits, HasSpare, spares_after};
+ghost use Rattle.plain_opening.specs.Opened.{FewWait};
+ghost use Rattle.plain_commands.specs.Carried.{FitsAt, PlanFits, HasSpare, spares_after};
 
 use crate::pools::{
     RtdsGiven, pause_at, set_leaving_at, set_moving_at, set_params_at, set_rtds_at, unpause_at,

@@ -7,7 +7,8 @@ ghost use Rattle.sched_model.specs.Pool as pool_spec;
 ghost use Rattle.sched_model.specs.Commands.{set_rtds as set_rtds_spec, set_rtds_unit as set_rtds_unit_spec};
 ghost use Rattle.plain_policy.specs.Parameters.{ChangeFits};
 ghost use Rattle.plain_pool.specs.Fits.{PoolFits};
-ghost use Rattle.plain_commands.specs.Carried.{FitsAt, FewWait};
+ghost use Rattle.plain_opening.specs.Opened.{FewWait};
+ghost use Rattle.plain_commands.specs.Carried.{FitsAt};
 
 use plain_policy::rtds::{rtds_unit, set_next};
 use plain_pool::leaving::set_leaving;

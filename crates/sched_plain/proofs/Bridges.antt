@@ -44,7 +44,7 @@ all-items P [] each = tt
 all-items P (x ∷ xs) each = (each 0 x refl, all-items P xs (λ n y at. each (suc n) y at))
 
 -- a place within a list has an item
-item_below : {X : Type 0} (xs : List X) (n : ℕ) → n < length xs → (y : X) × (slice_get xs n ≡ Some y)
+pub item_below : {X : Type 0} (xs : List X) (n : ℕ) → n < length xs → (y : X) × (slice_get xs n ≡ Some y)
 item_below [] n low = absurd (omega (arith, low))
 item_below (y ∷ xs) zero low = (y, refl)
 item_below (y ∷ xs) (suc n) low = item_below xs n (omega (arith, low))

@@ -1,5 +1,5 @@
 -- What is in range after an accepted command is carried out, before the cores of its pool are looked at.
-use Rattle.std.proofs.Common.{◌≡◌, ◌≢◌, ◌∙◌, ◌⊎◌, ℕ, zero, suc, true, inl, inr, refl, sym, ap, subst, arith}
+use Rattle.std.proofs.Common.{◌≡◌, ◌≢◌, ◌+◌, ◌∙◌, ◌⊎◌, ℕ, zero, suc, true, inl, inr, refl, sym, ap, subst, arith}
 use Rattle.std.specs.Prelude.{Option, Some, None, Result, Ok, Err, option_map, slice_get}
 use Rattle.sched_model.specs.declared.action.Action.TheVariants.{Xl}
 use Rattle.sched_model.specs.declared.event.Refusal.{Refusal}
@@ -17,36 +17,40 @@ use Rattle.sched_model.specs.Pool.{settled}
 use Rattle.sched_model.proofs.PlaceLemmas.{at_place-change_at, at_place-change_at_other}
 use Rattle.sched_laws.specs.Each.{EachPlace}
 use Rattle.sched_laws.proofs.EachPlace.{by_cond, by_option, place_below}
+use Rattle.sched_plain.specs.Commanding.{IsAccepted}
 use Rattle.sched_plain.specs.Fits.{PoolFitsAt}
 use Rattle.sched_plain.specs.Reached.{Stands}
 use Rattle.sched_plain.proofs.Reaching.{stands-after}
 use Rattle.sched_plain.proofs.Bridges.{stands-pool}
 use Rattle.sched_plain.proofs.Performing.{settled-back}
 
--- no command changes the moment
-home-now : (d : ℕ) (f : Pool → Pool) (s : State) → (change_home d f s).now ≡ s.now
-home-now d f s = by_option (λ (x : State). x.now ≡ s.now) (home_of_domain s d) _ _ (λ none. refl) (λ i is. refl)
+-- no command changes the moment, nor how many commands are over
+abbrev SameClock : State → State → Type 0
+SameClock a b = (a.now ≡ b.now) × (a.next_command ≡ b.next_command)
 
-carried-now : (m : Machine) (t : ℕ) (p : Plan) (s : State) → (carried_out m t p s).now ≡ s.now
-carried-now m t (plan.PoolList pool answer) s = refl
-carried-now m t (plan.PoolCreate i name kind answer) s = refl
-carried-now m t (plan.PoolDestroy i answer) s = refl
-carried-now m t (plan.PoolRename i name answer) s = refl
-carried-now m t (plan.CpuAdd i core answer) s = refl
-carried-now m t (plan.CpuRemove i core answer) s = refl
-carried-now m t (plan.Migrate d i j answer) s = by_cond (λ (x : State). x.now ≡ s.now) _ _ _ (λ same. refl) (λ other. refl)
-carried-now m t (plan.Credit2Dom d weight percent answer) s = home-now d.0 _ s
-carried-now m t (plan.Credit2Pool i None answer) s = refl
-carried-now m t (plan.Credit2Pool i (Some us) answer) s = refl
-carried-now m t (plan.RtdsDom d first count period budget extra answer) s = home-now d.0 _ s
-carried-now m t (plan.Pause d answer) s = home-now d.0 _ s
-carried-now m t (plan.Unpause d answer) s = home-now d.0 _ s
-carried-now m t (plan.ArincSet i frame answer) s = refl
-carried-now m t (plan.Pin d unit cores answer) s = home-now d.0 _ s
+home-clock : (d : ℕ) (f : Pool → Pool) (s : State) → SameClock (change_home d f s) s
+home-clock d f s = by_option (λ (x : State). SameClock x s) (home_of_domain s d) _ _ (λ none. (refl, refl)) (λ i is. (refl, refl))
 
-settled-now : (t : ℕ) (o : Option ℕ) (s : State) → (settled_at t o s).now ≡ s.now
-settled-now t None s = refl
-settled-now t (Some i) s = refl
+carried-clock : (m : Machine) (t : ℕ) (p : Plan) (s : State) → SameClock (carried_out m t p s) s
+carried-clock m t (plan.PoolList pool answer) s = (refl, refl)
+carried-clock m t (plan.PoolCreate i name kind answer) s = (refl, refl)
+carried-clock m t (plan.PoolDestroy i answer) s = (refl, refl)
+carried-clock m t (plan.PoolRename i name answer) s = (refl, refl)
+carried-clock m t (plan.CpuAdd i core answer) s = (refl, refl)
+carried-clock m t (plan.CpuRemove i core answer) s = (refl, refl)
+carried-clock m t (plan.Migrate d i j answer) s = by_cond (λ (x : State). SameClock x s) _ _ _ (λ same. (refl, refl)) (λ other. (refl, refl))
+carried-clock m t (plan.Credit2Dom d weight percent answer) s = home-clock d.0 _ s
+carried-clock m t (plan.Credit2Pool i None answer) s = (refl, refl)
+carried-clock m t (plan.Credit2Pool i (Some us) answer) s = (refl, refl)
+carried-clock m t (plan.RtdsDom d first count period budget extra answer) s = home-clock d.0 _ s
+carried-clock m t (plan.Pause d answer) s = home-clock d.0 _ s
+carried-clock m t (plan.Unpause d answer) s = home-clock d.0 _ s
+carried-clock m t (plan.ArincSet i frame answer) s = (refl, refl)
+carried-clock m t (plan.Pin d unit cores answer) s = home-clock d.0 _ s
+
+settled-clock : (t : ℕ) (o : Option ℕ) (s : State) → SameClock (settled_at t o s) s
+settled-clock t None s = (refl, refl)
+settled-clock t (Some i) s = (refl, refl)
 
 -- two numbers are one or two
 same_or_other : (j i : ℕ) → (j ≡ i) ⊎ (j ≢ i)
@@ -82,5 +86,31 @@ carried-fits m s line p stands enabled is accepted =
     let next : State = carried_out m s.now p (record s { next_command = suc s.next_command }) in
     let done : State = settled_at s.now (pool_of_plan s p) next in
     let there : Stands m done = subst (Stands m) (sym (command-state m s s.now line p is accepted)) (stands-after m s Xl stands enabled) in
-    let now : done.now ≡ s.now = settled-now s.now (pool_of_plan s p) next ∙ carried-now m s.now p (record s { next_command = suc s.next_command }) in
+    let now : done.now ≡ s.now = (settled-clock s.now (pool_of_plan s p) next).0 ∙ (carried-clock m s.now p (record s { next_command = suc s.next_command })).0 in
     unsettled s.now (pool_of_plan s p) next (subst (λ n. EachPlace (PoolFitsAt n) done.pools) now (stands-pool m done there))
+
+-- the command is over
+pub command-over : (m : Machine) (s : State) (t : ℕ) (line : CommandLine) (p : Plan) → slice_get m.work.commands s.next_command ≡ Some line → verdict m s line ≡ Ok p → (after m s t Xl).next_command ≡ suc s.next_command
+command-over m s t line p is accepted =
+    let first : State = record s { next_command = suc s.next_command } in
+    let next : State = carried_out m t p first in
+    ap (λ (x : State). x.next_command) (sym (command-state m s t line p is accepted)) ∙ (settled-clock t (pool_of_plan s p) next).1 ∙ (carried-clock m t p first).1
+
+-- the state with one command more over
+abbrev pub one_over : State → State
+one_over s = record s { next_command = s.next_command + 1 }
+
+-- the same of an accepted command, in the words of the code
+module _ (m : Machine) (s : State) (p : Plan) (stands : Stands m s) (enabled : is_enabled m s s.now Xl ≡ true) (accepted : IsAccepted m s p) where
+  more : s.next_command + 1 ≡ suc s.next_command
+  more = omega arith
+
+  next-same : one_over s ≡ record s { next_command = suc s.next_command }
+  next-same = ap (λ n. let next : State = record s { next_command = n } in next) more
+
+  pub carried-fit : EachPlace (PoolFitsAt s.now) (carried_out m s.now p (one_over s)).pools
+  carried-fit = subst (λ (x : State). EachPlace (PoolFitsAt s.now) (carried_out m s.now p x).pools) (sym next-same) (carried-fits m s accepted.line p stands enabled accepted.next accepted.accepted)
+
+  pub accepted-state : (done left : State) → done ≡ carried_out m s.now p (one_over s) → left ≡ settled_at s.now (pool_of_plan s p) done → left ≡ after m s s.now Xl
+  accepted-state done left carried settles =
+      settles ∙ ap (settled_at s.now (pool_of_plan s p)) (carried ∙ ap (carried_out m s.now p) next-same) ∙ command-state m s s.now accepted.line p accepted.next accepted.accepted

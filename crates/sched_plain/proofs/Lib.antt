@@ -5,6 +5,9 @@ pub mod Moving
 pub mod Stalling
 pub mod DomMoving
 pub mod Commanding
+pub mod Counting
+pub mod Judging
+pub mod Spares
 pub mod Searching
 pub mod Domains
 pub mod SoonestLemmas

@@ -47,7 +47,7 @@ module _ (m : Machine) (s : State) (t : ℕ) where
   enabled-home (Leave p) own = refl
   enabled-home (Save r) own = refl
 
-  after-home : (action : Action) → IsOfPool action → after m s t action ≡ after_at_home m.config.granularity s t action
+  pub after-home : (action : Action) → IsOfPool action → after m s t action ≡ after_at_home m.config.granularity s t action
   after-home Stall own = absurd own
   after-home Xl own = absurd own
   after-home (Moved r) own = absurd own

@@ -1,5 +1,6 @@
 pub mod Reached
 pub mod Fits
+pub mod Commanding
 pub mod Moves
 pub mod Search
 pub mod Soonest

@@ -1,6 +1,7 @@
 //! A machine that keeps the state of the definitions plainly, and scans it.
 #![tactic(auto)]
 
+pub mod command;
 pub mod dom_moves;
 pub mod enabled;
 pub mod homes;

@@ -1,22 +1,26 @@
 //! Doing an action that may come, in the pool of its subject.
 
-ghost use Rattle.std.specs.Prelude.{◌≡◌, ◌<◌, ◌≤◌, [], true, Some};
+ghost use Rattle.std.specs.Prelude.{◌≡◌, ◌<◌, ◌≤◌, true, Some};
 ghost use Rattle.sched_model.specs.Pool.{enabled_in, event_in, after_in, settled};
 ghost use Rattle.sched_model.specs.Actions.{home_of as home_of_spec};
 ghost use Rattle.sched_model.specs.Machine.{is_enabled, event_of, after};
 ghost use Rattle.plain_pool.specs.Own.{IsOfPool};
+ghost use Rattle.sched_plain.specs.Commanding.{HasSpares, KnowsMachine};
 ghost use Rattle.sched_plain.specs.Fits.{PoolFitsAt};
 ghost use Rattle.sched_plain.specs.Reached.{Stands};
 
+use crate::command::command;
 use crate::dom_moves::move_domain;
 use crate::homes::home_of;
 use crate::moves::move_core;
 use crate::stall::stall;
+use cpupool::ToolState;
 use plain_pool::events::happen;
 use plain_pool::settle::settle;
 use sched_model::action::Action;
 use sched_model::event::Event;
 use sched_model::machine::Machine;
+use sched_model::row::Row;
 use sched_model::state::{Pool, State};
 
 /// The event in its pool, and then the pool's cores that are to decide anew.
@@ -71,16 +75,25 @@ fn perform_at_home(m: &Machine, s: &mut State, action: Action) -> Event
 }
 
 /// The event of an action that may come now, which is done.
-pub fn perform(m: &Machine, s: &mut State, action: Action) -> Event
+pub fn perform(
+    m: &Machine,
+    s: &mut State,
+    tool: &mut ToolState,
+    spares: &mut Row<Option<Pool>>,
+    action: Action,
+) -> Event
     requires stands { Stands m.now s.old }
     requires enabled { is_enabled m.now s.old s.old.now action ≡ true }
-    requires no_commands { m.now.work.commands ≡ [] }
+    requires tool { KnowsMachine m.now tool.old }
+    requires spares { HasSpares m.now s.old.next_command spares.old }
     ensures event { result ≡ event_of m.now s.old s.old.now action }
     ensures state { s.new ≡ after m.now s.old s.old.now action }
+    ensures tool { KnowsMachine m.now tool.new }
+    ensures spares { HasSpares m.now s.new.next_command spares.new }
 {
     match action {
         Action::Stall => stall(m, s),
-        Action::Xl => unreachable!(),
+        Action::Xl => command(m, s, tool, spares),
         Action::Moved(r) => move_core(m, r, s),
         Action::DomMoved(d) => move_domain(m, d, s),
         _ => perform_at_home(m, s, action),

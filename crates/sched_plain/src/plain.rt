@@ -4,22 +4,28 @@ use crate::enabled::is_enabled;
 use crate::next::next_moment;
 use crate::perform::perform;
 use crate::scan::first_enabled;
+use cpupool::ToolState;
 use plain_opening::opening::open_state;
+use plain_opening::spare::open_spares;
 use sched_base::{Moment, NoMemory};
 use sched_model::action::Action;
 use sched_model::event::Event;
 use sched_model::machine::Machine;
-use sched_model::state::State;
+use sched_model::row::Row;
+use sched_model::state::{Pool, State};
 use std::alloc::Global;
 use std::marker::Model;
 
 /// A machine, and the state that it stands in. Contracts see both.
 ///
-/// It keeps the state as the definitions have it and scans it at each call. All memory is taken when it is opened.
+/// It keeps the state as the definitions have it and scans it at each call. All memory is taken when it is opened, that of the
+/// pools that commands make too: each of these is among the spares, at its command's place, until the command is accepted.
 #[derive(Drop)]
 pub struct Plain {
     machine: Machine,
     state: State,
+    tool: ToolState,
+    spares: Row<Option<Pool>>,
 }
 
 impl Model for Plain {
@@ -27,29 +33,35 @@ impl Model for Plain {
 
     ghost Value = { Standing };
 
-    ghost use Rattle.std.specs.Prelude.{◌≡◌, []};
+    ghost use Rattle.sched_plain.specs.Commanding.{HasSpares, KnowsMachine};
     ghost use Rattle.sched_plain.specs.Reached.{Stands};
 
     ghost view = { λ p. record { machine = p.machine; state = p.state } };
 
-    ghost invariant = { λ p. Stands p.machine p.state × (p.machine.work.commands ≡ []) };
+    ghost invariant = { λ p. Stands p.machine p.state × KnowsMachine p.machine p.tool × HasSpares p.machine p.state.next_command p.spares };
 }
 
 impl Plain {
-    ghost use Rattle.std.specs.Prelude.{◌≡◌, [], true, None, Some, IfOk, option_map};
+    ghost use Rattle.std.specs.Prelude.{◌≡◌, true, None, Some, IfOk, option_map};
     ghost use Rattle.sched_base.specs.Numbers.{moment};
     ghost use Rattle.sched_model.specs.Opening.{opening};
     ghost use Rattle.sched_model.specs.Checked.{IsChecked};
     ghost use Rattle.sched_model.specs.Machine.{is_enabled as is_enabled_spec, first_enabled as first_enabled_spec, next_in_horizon, event_of, after};
 
-    /// The machine at its opening. Its values have passed the checks of the domain file, and so far it has no commands.
+    /// The machine at its opening. Its values have passed the checks of the domain file and of the work file.
     pub fn open(alloc: Global, machine: Machine) -> Result<Plain, NoMemory>
-        requires checked { IsChecked machine }
-        requires no_commands { machine.work.commands ≡ [] }
+        requires { IsChecked machine }
         ensures { IfOk result (λ p. p ≡ record { machine = machine; state = opening machine }) }
     {
         let state = open_state(alloc, &machine)?;
-        Ok(Plain { machine, state })
+        let tool = ToolState::open(alloc, &machine.config, &machine.work)?;
+        let spares = open_spares(alloc, &machine)?;
+        Ok(Plain {
+            machine,
+            state,
+            tool,
+            spares,
+        })
     }
 
     /// The moment that the state has come to.
@@ -79,7 +91,13 @@ impl Plain {
         ensures event { result ≡ event_of self.old.machine self.old.state self.old.state.now action }
         ensures state { self.new ≡ record self.old { state = after self.old.machine self.old.state self.old.state.now action } }
     {
-        perform(&self.machine, &mut self.state, action)
+        perform(
+            &self.machine,
+            &mut self.state,
+            &mut self.tool,
+            &mut self.spares,
+            action,
+        )
     }
 
     /// The least later moment at which something may happen, where it is at most the horizon.

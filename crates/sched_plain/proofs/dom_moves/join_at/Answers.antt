@@ -1,7 +1,7 @@
 use Rattle.std.proofs.Common.{arith}
 use Rattle.sched_model.specs.Machine.{joined_by}
 use Rattle.sched_plain.specs.Fits.{PoolFitsAt}
-use Rattle.sched_plain.proofs.Moving.{each-item, changed-item}
+use Rattle.plain_commands.proofs.Items.{each-item, changed-item}
 use Rattle.sched_plain.proofs.dom_moves.join_at.Goals as goal
 
 pub join-requires-clause-before : goal.join-requires-clause-before

@@ -1,6 +1,6 @@
 use Rattle.std.proofs.Common.{arith}
 use Rattle.sched_plain.specs.Fits.{PoolFitsAt}
-use Rattle.sched_plain.proofs.Moving.{each-item}
+use Rattle.plain_commands.proofs.Items.{each-item}
 use Rattle.sched_plain.proofs.dom_moves.leave_at.Goals as goal
 
 pub leave-requires-clause-fits : goal.leave-requires-clause-fits

@@ -1,6 +1,6 @@
 use Rattle.std.proofs.Common.{arith}
 use Rattle.sched_plain.specs.Fits.{PoolFitsAt}
-use Rattle.sched_plain.proofs.Moving.{each-item}
+use Rattle.plain_commands.proofs.Items.{each-item}
 use Rattle.sched_plain.proofs.moves.join_core_at.Goals as goal
 
 pub join_core-requires-clause-fits : goal.join_core-requires-clause-fits

@@ -1,7 +1,12 @@
-use Rattle.std.proofs.Common.{subst, sym}
+use Rattle.std.proofs.Common.{subst, sym, refl}
+use Rattle.sched_plain.specs.Commanding.{HasSpares, KnowsMachine}
 use Rattle.sched_plain.specs.Reached.{Stands}
 use Rattle.sched_plain.proofs.Reaching.{stands-opening}
 use Rattle.sched_plain.proofs.plain.Plain.open.Goals as goal
 
 pub invariant_of-result : goal.invariant_of-result
-invariant_of-result c = (subst (Stands c.args.machine) (sym c.in_ok-state.ensures) (stands-opening c.args.machine c.requires.checked), c.requires.no_commands)
+invariant_of-result c = (
+  subst (Stands c.args.machine) (sym c.in_ok-state.ensures) (stands-opening c.args.machine c.requires),
+  subst (KnowsMachine c.args.machine) (sym c.in_ok-tool.ensures) (λ s. refl),
+  subst (HasSpares c.args.machine c.in_ok-state.state.next_command) (sym c.in_ok-spares.ensures) (λ k later. refl),
+)
