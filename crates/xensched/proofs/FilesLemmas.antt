@@ -9,12 +9,9 @@ use Rattle.sched_model.specs.declared.machine.Machine.{Machine}
 use Rattle.sched_model.specs.declared.work.Work.{Work}
 use Rattle.xensched.specs.declared.status.Status.{Status}
 use Rattle.xensched.specs.declared.status.Status.TheVariants as status
-use Rattle.xensched.specs.declared.status.WorkRefusal.{WorkRefusal}
-use Rattle.xensched.specs.Answers.{Held, Counts, Names, IsMade, Refuses, RefusesName, RefusesTable, RefusesWork}
-use Rattle.work_file.specs.Lines as lines
 use Rattle.work_file.specs.declared.fault.WorkFault.{WorkFault}
-use Rattle.xensched.specs.declared.status.WorkRefusal.TheVariants as refusal
-use Rattle.xensched.specs.Files.{config_of, domains_refused, machine_of, with_work, without_commands, work_of}
+use Rattle.xensched.specs.Answers.{Held, Counts, Names, IsMade, Refuses, RefusesName, RefusesTable, RefusesWork}
+use Rattle.xensched.specs.Files.{config_of, domains_refused, machine_of, with_work, work_of}
 
 -- what holds of the bytes that were read holds of those that the store tells
 told : (tells : Option (List ℕ)) (bytes : List ℕ) (P : List ℕ → Type 0) → IfSome tells (λ all. bytes ≡ all) → P bytes → IfSome tells P
@@ -71,7 +68,7 @@ refuses_second held old middle new names (status.Full n) bytes config is e le h 
 refuses_second held old middle new names status.NoMemory bytes config is e le h = h
 
 -- the domain file is accepted, and the work file is refused
-refuses_by : (held : Held) (old new : Counts) (names : Names) (fault : WorkRefusal) (bytes lines : List ℕ) (config : Config) →
+refuses_by : (held : Held) (old new : Counts) (names : Names) (fault : WorkFault) (bytes lines : List ℕ) (config : Config) →
     IfSome (held names.0) (λ all. bytes ≡ all) → config_of bytes ≡ Ok config → IfSome (held names.1) (λ all. lines ≡ all) → work_of config lines ≡ Err fault →
     Refuses held old new names (status.BadWork fault)
 unfolding Refuses
@@ -107,14 +104,6 @@ makes held names bytes lines config work is e also accepted checked =
       by_files = told (held names.0) bytes (λ d. IfSome (held names.1) (λ w. machine_of d w ≡ Ok (record { config = config; work = work }))) is
           (told (held names.1) lines (λ w. machine_of bytes w ≡ Ok (record { config = config; work = work })) also made);
     }
-
--- the workload that was read, where it has no commands
-pub work_read : (config : Config) (bytes : List ℕ) (work : Work) (r : Result Work WorkRefusal) → lines.work_of config bytes ≡ Ok work → r ≡ without_commands work → work_of config bytes ≡ r
-work_read config bytes work r e is = ap (λ (read : Result Work WorkFault). let made : Result Work WorkRefusal = elim read [ Err fault ↦ Err (refusal.Line fault) | Ok w ↦ without_commands w ] in made) e ∙ sym is
-
--- the fault that was read
-pub fault_read : (config : Config) (bytes : List ℕ) (fault : WorkFault) → lines.work_of config bytes ≡ Err fault → work_of config bytes ≡ Err (refusal.Line fault)
-fault_read config bytes fault e = ap (λ (read : Result Work WorkFault). let made : Result Work WorkRefusal = elim read [ Err f ↦ Err (refusal.Line f) | Ok w ↦ without_commands w ] in made) e
 
 -- what the store tells of a name stays
 pub told_before : (now before : Option (List ℕ)) (bytes : List ℕ) → now ≡ before → IfSome now (λ all. bytes ≡ all) → IfSome before (λ all. bytes ≡ all)

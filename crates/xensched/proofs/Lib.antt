@@ -3,5 +3,6 @@ pub mod WriteLemmas
 pub mod FilesLemmas
 pub mod ScheduleLemmas
 pub mod WritesLemmas
+pub mod ReportLemmas
 pub mod TopLemmas
 pub mod SureLemmas

@@ -12,9 +12,9 @@ use Rattle.sched_model.specs.Machine.{first_enabled, next_in_horizon, ordered_ru
 use Rattle.sched_model.specs.Opening.{opening}
 use Rattle.sched_model.specs.Runs.{Reached, IsRun, after_entry, after_entries}
 use Rattle.sched_model.proofs.RunLemmas.{after_entry-action, ordered_run-IsRunFrom}
-use Rattle.sched_print.specs.Line.{text}
 use Rattle.xensched.specs.Ordered.{entry_by, state_by, last_by, next_entry, next_state, is_last, reached, goes_on}
-use Rattle.xensched.specs.Schedules.{schedule, is_whole, PutsRun, PutsFirst, PutsPart}
+use Rattle.command_line.specs.declared.command.Form.{Form}
+use Rattle.xensched.specs.Schedules.{schedule, output, is_whole, PutsRun, PutsFirst, PutsPart}
 use Rattle.xensched.proofs.OrderedLemmas.{last_cases, goes-first, goes-second, run_more, run_last, run_splits, run_ends}
 
 -- a run that is not over stands here
@@ -62,7 +62,7 @@ over-goes_on (suc n) m s = last_cases (is_last m s)
     ∙ goes_goes_on (is_last m s) (goes_on n m (next_state m s)) more)
 
 -- a run that goes on has as many entries as are allowed
-length-goes_on : (n : ℕ) (m : Machine) (s : State) → goes_on n m s ≡ true → length (ordered_run n m s) ≡ n
+pub length-goes_on : (n : ℕ) (m : Machine) (s : State) → goes_on n m s ≡ true → length (ordered_run n m s) ≡ n
 length-goes_on zero m s going = refl
 length-goes_on (suc n) m s going =
     ap length (run_more n m s (goes-first (is_last m s) (goes_on n m (next_state m s)) going))
@@ -82,20 +82,20 @@ unfolding is_whole schedule
 is_whole-goes_on limit m = over-goes_on limit m (opening m)
 
 -- the run is over, and was put whole
-pub puts_run : (limit : ℕ) (m : Machine) (before after : Option (List ℕ)) → goes_on limit m (opening m) ≡ false → Adds before after (text (ordered_run limit m (opening m))) →
-    PutsRun limit m before after
+pub puts_run : (f : Form) (limit : ℕ) (m : Machine) (before after : Option (List ℕ)) → goes_on limit m (opening m) ≡ false → Adds before after (output f m (ordered_run limit m (opening m))) →
+    PutsRun f limit m before after
 unfolding schedule
-puts_run limit m before after stops written = record {
+puts_run f limit m before after stops written = record {
   ordered = ordered_run-is_ordered limit m;
   whole = (ordered_run-IsRunFrom limit m (opening m), over-goes_on limit m (opening m) ∙ ap not stops);
   written = written;
 }
 
 -- the run goes on, and its first entries were put
-pub puts_first : (limit : ℕ) (m : Machine) (before after : Option (List ℕ)) → goes_on limit m (opening m) ≡ true → Adds before after (text (ordered_run limit m (opening m))) →
-    PutsFirst limit m before after
+pub puts_first : (f : Form) (limit : ℕ) (m : Machine) (before after : Option (List ℕ)) → goes_on limit m (opening m) ≡ true → Adds before after (output f m (ordered_run limit m (opening m))) →
+    PutsFirst f limit m before after
 unfolding schedule
-puts_first limit m before after going written = record {
+puts_first f limit m before after going written = record {
   ordered = ordered_run-is_ordered limit m;
   count = length-goes_on limit m (opening m) going;
   further = next_entry m (reached limit m (opening m));
@@ -104,16 +104,16 @@ puts_first limit m before after going written = record {
   written = written;
 }
 
-pub puts_part : (limit : ℕ) (m : Machine) (before after : Option (List ℕ)) → AddsPart before after (text (ordered_run limit m (opening m))) → PutsPart limit m before after
+pub puts_part : (f : Form) (limit : ℕ) (m : Machine) (before after : Option (List ℕ)) → AddsPart before after (output f m (ordered_run limit m (opening m))) → PutsPart f limit m before after
 unfolding schedule
-puts_part limit m before after part = part
+puts_part f limit m before after part = part
 
 -- a run that was put whole is over
-pub is_whole-puts_run : (limit : ℕ) (m : Machine) (before after : Option (List ℕ)) → PutsRun limit m before after → is_whole limit m ≡ true
+pub is_whole-puts_run : (f : Form) (limit : ℕ) (m : Machine) (before after : Option (List ℕ)) → PutsRun f limit m before after → is_whole limit m ≡ true
 unfolding is_whole
-is_whole-puts_run limit m before after h = h.whole.1
+is_whole-puts_run f limit m before after h = h.whole.1
 
 -- one of which a further entry is due goes on
-pub is_whole-puts_first : (limit : ℕ) (m : Machine) (before after : Option (List ℕ)) → PutsFirst limit m before after → is_whole limit m ≡ false
+pub is_whole-puts_first : (f : Form) (limit : ℕ) (m : Machine) (before after : Option (List ℕ)) → PutsFirst f limit m before after → is_whole limit m ≡ false
 unfolding is_whole
-is_whole-puts_first limit m before after h = h.due.next.goes_on
+is_whole-puts_first f limit m before after h = h.due.next.goes_on

@@ -8,7 +8,7 @@ use Rattle.xensched.specs.declared.status.Status.{Status}
 use Rattle.xensched.specs.declared.status.Status.TheVariants as status
 use Rattle.xensched.specs.Answers.{Names, Held, Counts, IsAnswer, IsUnread, SomethingFails, UnlessNoMemory}
 use Rattle.xensched.specs.Sure.{answer_by, sure_answer}
-use Rattle.xensched.specs.Words.{files_of}
+use Rattle.xensched.specs.Words.{Request, request_of}
 
 -- what the store tells, and its counts
 abbrev pub sure_held : List (List ℕ × List ℕ) → Held
@@ -20,22 +20,22 @@ no_counts = λ name. 0
 nothing_fails : (names : Names) → ¬ SomethingFails no_counts no_counts 0 0 names
 nothing_fails names h = elim h [ inl rose ↦ never_rose rose | inr later ↦ elim later [ inl rose ↦ never_rose rose | inr rose ↦ never_rose rose ] ]
 
-sure_by : (limit : ℕ) (files : List (List ℕ × List ℕ)) (named : Option Names) (answer : Status) → (named ≡ None → UnlessNoMemory status.Usage answer) →
-    IfSome named (λ names. ¬ SomethingFails no_counts no_counts 0 0 names → IsAnswer limit (sure_held files) answer names) → UnlessNoMemory (answer_by limit files named) answer
+sure_by : (files : List (List ℕ × List ℕ)) (asked : Option Request) (answer : Status) → (asked ≡ None → UnlessNoMemory status.Usage answer) →
+    IfSome asked (λ r. ¬ SomethingFails no_counts no_counts 0 0 r.names → IsAnswer r.limit (sure_held files) answer r.names) → UnlessNoMemory (answer_by files asked) answer
 unfolding IsAnswer
-sure_by limit files None answer usage h = usage refl
-sure_by limit files (Some names) answer usage h = h (nothing_fails names)
+sure_by files None answer usage h = usage refl
+sure_by files (Some r) answer usage h = h (nothing_fails r.names)
 
--- the answer is the one that the words, the files and the limit give
-pub is_sure : (limit : ℕ) (files : List (List ℕ × List ℕ)) (words : List (String Global)) (answer : Status) → (files_of words ≡ None → UnlessNoMemory status.Usage answer) →
-    IfSome (files_of words) (λ names. ¬ SomethingFails no_counts no_counts 0 0 names → IsAnswer limit (sure_held files) answer names) → UnlessNoMemory (sure_answer limit files words) answer
+-- the answer is the one that the words and the files give
+pub is_sure : (files : List (List ℕ × List ℕ)) (words : List (String Global)) (answer : Status) → (request_of words ≡ None → UnlessNoMemory status.Usage answer) →
+    IfSome (request_of words) (λ r. ¬ SomethingFails no_counts no_counts 0 0 r.names → IsAnswer r.limit (sure_held files) answer r.names) → UnlessNoMemory (sure_answer files words) answer
 unfolding sure_answer
-is_sure limit files words answer usage h = sure_by limit files (files_of words) answer usage h
+is_sure files words answer usage h = sure_by files (request_of words) answer usage h
 
-unread : (held : Held) (named : Option Names) → IsSomeAnd named (IsUnread held no_counts no_counts) → ⊥
+unread : (held : Held) (asked : Option Request) → IsSomeAnd asked (λ r. IsUnread held no_counts no_counts r.names) → ⊥
 unread held None h = absurd h
-unread held (Some names) h = elim h [ inl rose ↦ never_rose rose | inr later ↦ never_rose later.1 ]
+unread held (Some r) h = elim h [ inl rose ↦ never_rose rose | inr later ↦ never_rose later.1 ]
 
 -- nothing is left unread
-pub never_unread : (held : Held) (words : List (String Global)) → IsSomeAnd (files_of words) (IsUnread held no_counts no_counts) → ⊥
-never_unread held words h = unread held (files_of words) h
+pub never_unread : (held : Held) (words : List (String Global)) → IsSomeAnd (request_of words) (λ r. IsUnread held no_counts no_counts r.names) → ⊥
+never_unread held words h = unread held (request_of words) h

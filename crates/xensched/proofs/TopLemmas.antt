@@ -1,6 +1,5 @@
 -- What the top call's answer says, from what its parts say.
 use Rattle.std.proofs.Common.{◌≡◌, ℕ, true, false, List, Option, Some, None, Result, Ok, Err, IfSome, IsSomeAnd, IsOkAnd, refl, sym, ap, subst, ◌∙◌, inl, inr}
-use Rattle.std.specs.Prelude.{if◌then◌else◌}
 use Rattle.dom_file.specs.Configs.{document, domains_of}
 use Rattle.dom_file.specs.declared.fault.DomFault.{DomFault}
 use Rattle.dom_file.specs.declared.fault.DomFault.TheVariants as dom_fault
@@ -8,32 +7,34 @@ use Rattle.sched_model.specs.declared.config.Config.{Config}
 use Rattle.sched_model.specs.declared.machine.Machine.{Machine}
 use Rattle.xensched.specs.declared.status.Status.{Status}
 use Rattle.xensched.specs.declared.status.Status.TheVariants as status
-use Rattle.xensched.specs.declared.status.WorkRefusal.{WorkRefusal}
+use Rattle.work_file.specs.declared.fault.WorkFault.{WorkFault}
+use Rattle.command_line.specs.declared.command.Form.{Form}
+use Rattle.xensched.specs.Words.{Request}
 use Rattle.xensched.specs.Answers.{Held, Counts, Names, IsMade, OfMachine, Refuses, Writes, answer_of, UnlessNoMemory, SomethingFails, IsAnswer, IsOfTable}
 use Rattle.xensched.specs.Files.{config_of, domains_refused, machine_of, with_work, work_of}
 use Rattle.xensched.specs.Schedules.{is_whole}
 use Rattle.xensched.proofs.ScheduleLemmas.{is_whole-puts_run, is_whole-puts_first}
 
--- what holds of the two names holds of the command's
-pub of_names : (files : Option Names) (names : Names) (P : Names → Type 0) → Some names ≡ files → P names → IsSomeAnd files P
-of_names files names P known h = subst (λ o. IsSomeAnd o P) known h
+-- what holds of the request holds of the command's
+pub of_request : (asked : Option Request) (r : Request) (P : Request → Type 0) → Some r ≡ asked → P r → IsSomeAnd asked P
+of_request asked r P known h = subst (λ o. IsSomeAnd o P) known h
 
-pub if_names : (files : Option Names) (names : Names) (P : Names → Type 0) → Some names ≡ files → P names → IfSome files P
-if_names files names P known h = subst (λ o. IfSome o P) known h
+pub if_request : (asked : Option Request) (r : Request) (P : Request → Type 0) → Some r ≡ asked → P r → IfSome asked P
+if_request asked r P known h = subst (λ o. IfSome o P) known h
 
-pub no_names : {P : Type 0} (files : Option Names) (names : Names) → Some names ≡ files → files ≡ None → P
-no_names files names known none = absurd (cc (known, none))
+pub no_request : {P : Type 0} (asked : Option Request) (r : Request) → Some r ≡ asked → asked ≡ None → P
+no_request asked r known none = absurd (cc (known, none))
 
-pub of_machine : (held : Held) (files : Option Names) (names : Names) (m : Machine) (P : Machine → Type 0) → Some names ≡ files → IsMade held names m → P m → OfMachine held files P
-of_machine held files names m P known made h = of_names files names (λ n. (m : Machine) × IsMade held n m × P m) known (m, made, h)
+pub of_machine : (held : Held) (asked : Option Request) (r : Request) (m : Machine) (P : Request → Machine → Type 0) → Some r ≡ asked → IsMade held r.names m → P r m → OfMachine held asked P
+of_machine held asked r m P known made h = of_request asked r (λ q. (m : Machine) × IsMade held q.names m × P q m) known (m, made, h)
 
 -- what is said of an answer, where it is this one
 pub refused_as : (held : Held) (old new : Counts) (names : Names) (answer this : Status) → Refuses held old new names answer → answer ≡ this → Refuses held old new names this
 refused_as held old new names answer this h is = subst (λ a. Refuses held old new names a) is h
 
-pub wrote_as : (limit : ℕ) (m : Machine) (before after : Option (List ℕ)) (old new : ℕ) (answer this : Status) → Writes limit m before after old new answer → answer ≡ this →
-    Writes limit m before after old new this
-wrote_as limit m before after old new answer this h is = subst (λ a. Writes limit m before after old new a) is h
+pub wrote_as : (f : Form) (limit : ℕ) (m : Machine) (before after : Option (List ℕ)) (old new : ℕ) (answer this : Status) → Writes f limit m before after old new answer → answer ≡ this →
+    Writes f limit m before after old new this
+wrote_as f limit m before after old new answer this h is = subst (λ a. Writes f limit m before after old new a) is h
 
 -- bytes that are no document describe no machine
 no_domains : (bytes : List ℕ) → document bytes ≡ None → domains_of bytes ≡ Err dom_fault.BadToml
@@ -51,7 +52,7 @@ refused_machine bytes lines fault e =
     ap (λ (read : Result Config DomFault). let made : Result Machine Status = elim read [ Err f ↦ Err (domains_refused f) | Ok c ↦ with_work c (work_of c lines) ] in made) e
 
 -- nor does a refused work file
-refused_lines : (bytes lines : List ℕ) (config : Config) (fault : WorkRefusal) → config_of bytes ≡ Ok config → work_of config lines ≡ Err fault → machine_of bytes lines ≡ Err (status.BadWork fault)
+refused_lines : (bytes lines : List ℕ) (config : Config) (fault : WorkFault) → config_of bytes ≡ Ok config → work_of config lines ≡ Err fault → machine_of bytes lines ≡ Err (status.BadWork fault)
 unfolding machine_of
 refused_lines bytes lines config fault e refused =
     ap (λ (read : Result Config DomFault). let made : Result Machine Status = elim read [ Err f ↦ Err (domains_refused f) | Ok c ↦ with_work c (work_of c lines) ] in made) e ∙ ap (with_work config) refused
@@ -91,7 +92,7 @@ table_answer limit bytes lines dom_fault.NoMemory bad e = absurd bad
 table_answer limit bytes lines dom_fault.BadToml bad e = absurd bad
 table_answer limit bytes lines (dom_fault.Bad table index key cause) bad e = answers_refusal limit bytes lines _ (refused_machine bytes lines (dom_fault.Bad table index key cause) e)
 
-work_answer : (limit : ℕ) (bytes lines : List ℕ) (fault : WorkRefusal) (read : Result Config DomFault) → config_of bytes ≡ read → IsOkAnd read (λ config. work_of config lines ≡ Err fault) →
+work_answer : (limit : ℕ) (bytes lines : List ℕ) (fault : WorkFault) (read : Result Config DomFault) → config_of bytes ≡ read → IsOkAnd read (λ config. work_of config lines ≡ Err fault) →
     UnlessNoMemory (answer_of limit (machine_of bytes lines)) (status.BadWork fault)
 work_answer limit bytes lines fault (Ok config) e h = answers_refusal limit bytes lines _ (refused_lines bytes lines config fault e h)
 work_answer limit bytes lines fault (Err other) e h = absurd h
@@ -132,20 +133,20 @@ made_answer : (limit : ℕ) (m : Machine) (bytes lines : List ℕ) (answer : Sta
 made_answer limit m bytes lines answer is made = inr (sym (ap (answer_of limit) made ∙ is))
 
 -- the run was to be written, and no put failed
-pub wrote_answer : (limit : ℕ) (held : Held) (old new : Counts) (sink_old sink_new : ℕ) (names : Names) (m : Machine) (before after : Option (List ℕ)) (answer : Status) →
-    IsMade held names m → Writes limit m before after sink_old sink_new answer → ¬ SomethingFails old new sink_old sink_new names → IsAnswer limit held answer names
+pub wrote_answer : (f : Form) (limit : ℕ) (held : Held) (old new : Counts) (sink_old sink_new : ℕ) (names : Names) (m : Machine) (before after : Option (List ℕ)) (answer : Status) →
+    IsMade held names m → Writes f limit m before after sink_old sink_new answer → ¬ SomethingFails old new sink_old sink_new names → IsAnswer limit held answer names
 unfolding Writes IsAnswer
-wrote_answer limit held old new sink_old sink_new names m before after status.Ok made h fine =
+wrote_answer f limit held old new sink_old sink_new names m before after status.Ok made h fine =
     both_told held names (λ d w. machine_of d w ≡ Ok m) (λ d w. UnlessNoMemory (answer_of limit (machine_of d w)) status.Ok)
-    (λ d w e. made_answer limit m d w status.Ok (answers_ok limit m (is_whole-puts_run limit m before after h)) e) made.by_files
-wrote_answer limit held old new sink_old sink_new names m before after status.Usage made h fine = absurd h
-wrote_answer limit held old new sink_old sink_new names m before after status.ReadFault made h fine = absurd h
-wrote_answer limit held old new sink_old sink_new names m before after status.BadToml made h fine = absurd h
-wrote_answer limit held old new sink_old sink_new names m before after (status.BadDomains fault) made h fine = absurd h
-wrote_answer limit held old new sink_old sink_new names m before after (status.BadWork fault) made h fine = absurd h
-wrote_answer limit held old new sink_old sink_new names m before after status.WriteFault made h fine = absurd (fine (inr (inr h.1)))
-wrote_answer limit held old new sink_old sink_new names m before after (status.Full n) made h fine =
+    (λ d w e. made_answer limit m d w status.Ok (answers_ok limit m (is_whole-puts_run f limit m before after h)) e) made.by_files
+wrote_answer f limit held old new sink_old sink_new names m before after status.Usage made h fine = absurd h
+wrote_answer f limit held old new sink_old sink_new names m before after status.ReadFault made h fine = absurd h
+wrote_answer f limit held old new sink_old sink_new names m before after status.BadToml made h fine = absurd h
+wrote_answer f limit held old new sink_old sink_new names m before after (status.BadDomains fault) made h fine = absurd h
+wrote_answer f limit held old new sink_old sink_new names m before after (status.BadWork fault) made h fine = absurd h
+wrote_answer f limit held old new sink_old sink_new names m before after status.WriteFault made h fine = absurd (fine (inr (inr h.1)))
+wrote_answer f limit held old new sink_old sink_new names m before after (status.Full n) made h fine =
     both_told held names (λ d w. machine_of d w ≡ Ok m) (λ d w. UnlessNoMemory (answer_of limit (machine_of d w)) (status.Full n))
-    (λ d w e. made_answer limit m d w (status.Full n) (answers_full limit m (is_whole-puts_first limit m before after h.1) ∙ ap status.Full (sym h.0)) e) made.by_files
-wrote_answer limit held old new sink_old sink_new names m before after status.NoMemory made h fine =
+    (λ d w e. made_answer limit m d w (status.Full n) (answers_full limit m (is_whole-puts_first f limit m before after h.1) ∙ ap status.Full (sym h.0)) e) made.by_files
+wrote_answer f limit held old new sink_old sink_new names m before after status.NoMemory made h fine =
     both_told held names (λ d w. machine_of d w ≡ Ok m) (λ d w. UnlessNoMemory (answer_of limit (machine_of d w)) status.NoMemory) (λ d w e. inl refl) made.by_files

@@ -29,13 +29,13 @@ pub record SoFar (m : Machine) (s : State) (before now : Option (List ℕ)) (old
   pub counts : old ≤ new
 
 -- what holds of the machine and the state holds of the values that they have
-there : {machine m : Machine} {state t : State} (P : Machine → State → Type 0) → machine ≡ m → state ≡ t → P machine state → P m t
+pub there : {machine m : Machine} {state t : State} (P : Machine → State → Type 0) → machine ≡ m → state ≡ t → P machine state → P m t
 there {machine} {m} {state} {t} P e f h = subst (λ (a : Machine). P a t) e (subst (λ (b : State). P machine b) f h)
 
 pub so_far_starts : (m : Machine) (s : State) (before : Option (List ℕ)) (count : ℕ) → SoFar m s before before count count 0 m s
 so_far_starts m s before count = record { machine_kept = refl; state_reached = refl; going = refl; adds = adds_nothing before; counts = omega arith }
 
-rest_of : (limit n : ℕ) → n < limit → limit ≡ n + suc (limit - (n + 1))
+pub rest_of : (limit n : ℕ) → n < limit → limit ≡ n + suc (limit - (n + 1))
 rest_of limit n below = omega (arith, below)
 
 -- the text of the whole begins with the text so far and the next line

@@ -9,8 +9,10 @@ use Rattle.sched_model.specs.declared.machine.Machine.{Machine}
 use Rattle.sched_model.specs.Checked.{IsChecked}
 use Rattle.xensched.specs.declared.status.Status.{Status}
 use Rattle.xensched.specs.declared.status.Status.TheVariants as status
-use Rattle.xensched.specs.declared.status.WorkRefusal.{WorkRefusal}
+use Rattle.work_file.specs.declared.fault.WorkFault.{WorkFault}
 use Rattle.xensched.specs.Files.{config_of, work_of, machine_of}
+use Rattle.command_line.specs.declared.command.Form.{Form}
+use Rattle.xensched.specs.Words.{Request}
 use Rattle.xensched.specs.Schedules.{is_whole, PutsRun, PutsFirst, PutsPart}
 
 -- the names of the domain file and of the work file
@@ -30,9 +32,9 @@ pub record IsMade (held : Held) (names : Names) (m : Machine) : Type 0 where
   pub checked : IsChecked m
   pub by_files : IfSome (held names.0) (λ domains. IfSome (held names.1) (λ work. machine_of domains work ≡ Ok m))
 
--- the words name files that make a machine, and of that machine this holds
-abbrev pub OfMachine : Held → Option Names → (Machine → Type 0) → Type 0
-OfMachine held files P = IsSomeAnd files (λ names. (m : Machine) × IsMade held names m × P m)
+-- the words ask for a run on files that make a machine, and of that request and that machine this holds
+abbrev pub OfMachine : Held → Option Request → (Request → Machine → Type 0) → Type 0
+OfMachine held request P = IsSomeAnd request (λ r. (m : Machine) × IsMade held r.names m × P r m)
 
 -- the domain file could not be read; or it was accepted, and the work file could not
 abbrev pub IsUnread : Held → Counts → Counts → Names → Type 0
@@ -52,7 +54,7 @@ abbrev pub IsBadTable : Held → DomFault → Names → Type 0
 IsBadTable held fault names = IsOfTable fault × IfSome (held names.0) (λ domains. config_of domains ≡ Err fault)
 
 -- the domain file is accepted, and the work file is refused with this fault
-abbrev pub IsBadWork : Held → WorkRefusal → Names → Type 0
+abbrev pub IsBadWork : Held → WorkFault → Names → Type 0
 IsBadWork held fault names = IfSome (held names.0) (λ domains. IfSome (held names.1) (λ work. IsOkAnd (config_of domains) (λ config. work_of config work ≡ Err fault)))
 
 -- why a file gives no bytes, by the status that is answered then: its count of faults before and after
@@ -84,16 +86,16 @@ Refuses held old new names status.NoMemory = ⊤
 Refuses held old new names answer = ⊥
 
 -- the limit is this many entries, and a machine's run goes on behind them
-abbrev pub IsFull : ℕ → ℕ → Machine → Option (List ℕ) → Option (List ℕ) → Type 0
-IsFull n limit m before after = (n ≡ limit) × PutsFirst limit m before after
+abbrev pub IsFull : ℕ → Form → ℕ → Machine → Option (List ℕ) → Option (List ℕ) → Type 0
+IsFull n f limit m before after = (n ≡ limit) × PutsFirst f limit m before after
 
 -- how the writing of a machine's run ends, by the status that is answered then: what was put, and whether the sink's count of faults rose
-unfoldable pub Writes : ℕ → Machine → Option (List ℕ) → Option (List ℕ) → ℕ → ℕ → Status → Type 0
-Writes limit m before after old new status.Ok = PutsRun limit m before after
-Writes limit m before after old new (status.Full n) = IsFull n limit m before after
-Writes limit m before after old new status.WriteFault = PutsPart limit m before after × Rose old new
-Writes limit m before after old new status.NoMemory = ⊤
-Writes limit m before after old new answer = ⊥
+unfoldable pub Writes : Form → ℕ → Machine → Option (List ℕ) → Option (List ℕ) → ℕ → ℕ → Status → Type 0
+Writes f limit m before after old new status.Ok = PutsRun f limit m before after
+Writes f limit m before after old new (status.Full n) = IsFull n f limit m before after
+Writes f limit m before after old new status.WriteFault = PutsPart f limit m before after × Rose old new
+Writes f limit m before after old new status.NoMemory = ⊤
+Writes f limit m before after old new answer = ⊥
 
 -- nothing is put with this status
 abbrev pub PutsNothing : Status → Type 0

@@ -1,5 +1,5 @@
 -- The machine that the two files make.
-use Rattle.std.specs.Prelude.{ℕ, List, [], ◌∷◌, Result, Ok, Err}
+use Rattle.std.specs.Prelude.{ℕ, List, Result, Ok, Err}
 use Rattle.dom_file.specs.declared.fault.DomFault.{DomFault}
 use Rattle.dom_file.specs.declared.fault.DomFault.TheVariants as dom_fault
 use Rattle.dom_file.specs.Configs.{domains_of}
@@ -9,20 +9,15 @@ use Rattle.sched_model.specs.declared.machine.Machine.{Machine}
 use Rattle.work_file.specs.Lines as lines
 use Rattle.xensched.specs.declared.status.Status.{Status}
 use Rattle.xensched.specs.declared.status.Status.TheVariants as status
-use Rattle.xensched.specs.declared.status.WorkRefusal.{WorkRefusal}
-use Rattle.xensched.specs.declared.status.WorkRefusal.TheVariants as refusal
+use Rattle.work_file.specs.declared.fault.WorkFault.{WorkFault}
 
 -- the machine of the domain file, or its first fault
 abbrev pub config_of : List ℕ → Result Config DomFault
 config_of bytes = domains_of bytes
 
--- the workload, where it has no commands; so far it may have none
-abbrev pub without_commands : Work → Result Work WorkRefusal
-without_commands work = elim work.commands [ [] ↦ Ok work | line ∷ lines ↦ Err refusal.Commands ]
-
--- the workload of the work file, or why it is refused
-abbrev pub work_of : Config → List ℕ → Result Work WorkRefusal
-work_of config bytes = elim (lines.work_of config bytes) [ Err fault ↦ Err (refusal.Line fault) | Ok work ↦ without_commands work ]
+-- the workload of the work file, or its first faulty line
+abbrev pub work_of : Config → List ℕ → Result Work WorkFault
+work_of config bytes = lines.work_of config bytes
 
 -- the status of a domain file with this fault
 abbrev pub domains_refused : DomFault → Status
@@ -31,7 +26,7 @@ domains_refused dom_fault.BadToml = status.BadToml
 domains_refused (dom_fault.Bad table index key cause) = status.BadDomains (dom_fault.Bad table index key cause)
 
 -- the machine of this domain file and the bytes of the work file, or the status that refuses the work file
-abbrev pub with_work : Config → Result Work WorkRefusal → Result Machine Status
+abbrev pub with_work : Config → Result Work WorkFault → Result Machine Status
 with_work config (Err fault) = Err (status.BadWork fault)
 with_work config (Ok work) = Ok (record { config = config; work = work })
 

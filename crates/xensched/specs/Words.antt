@@ -1,15 +1,30 @@
--- The words of the command line.
-use Rattle.std.specs.Prelude.{ℕ, ◌==◌, ◌&&◌, Bool, false, not, List, [], ◌∷◌, Option, Some, None, String, string_bytes, bytes_eq, codes, if◌then◌else◌}
+-- The run that the words of the command line ask for.
+use Rattle.std.specs.Prelude.{ℕ, List, Option, Some, None, String}
 use Rattle.std.specs.declared.alloc.Global.{Global}
+use Rattle.command_line.specs.declared.command.Form.{Form}
+use Rattle.command_line.specs.Commands.{Asked, run, make, load, command_of}
+use Rattle.xensched.specs.declared.words.Request.{Request as RequestWords}
 
--- a file's name is not empty and does not begin with a hyphen
-abbrev pub is_file_name : List ℕ → Bool
-is_file_name [] = false
-is_file_name (b ∷ bytes) = not (b == 45)
+-- a run on two files: what is written of it, the most entries, and the names of the domain file and of the work file
+pub record Request : Type 0 where
+  pub form : Form
+  pub limit : ℕ
+  pub names : List ℕ × List ℕ
 
--- the names of the domain file and of the work file, where the words are the command
-abbrev pub files_of : List (String Global) → Option (List ℕ × List ℕ)
-files_of (run ∷ ordered ∷ domains ∷ work ∷ []) =
-    (if bytes_eq (string_bytes run) (codes "run") && bytes_eq (string_bytes ordered) (codes "--ordered") && is_file_name (string_bytes domains) && is_file_name (string_bytes work)
-    then Some (string_bytes domains, string_bytes work) else None)
-files_of words = None
+-- what a request of the code asks for
+abbrev pub requested : RequestWords → Request
+requested r = record { form = r.form; limit = r.limit; names = (r.domains.now, r.work.now) }
+
+-- the run that a command asks for; the commands that make their texts are not built yet
+abbrev pub run_in : Asked → Option Request
+run_in (run form limit domains work) = Some (record { form = form; limit = limit; names = (domains, work) })
+run_in (make seed processors domains text) = None
+run_in (load seed processors domains) = None
+
+abbrev pub run_asked : Option Asked → Option Request
+run_asked None = None
+run_asked (Some asked) = run_in asked
+
+-- the run that the words ask for, where they are a command
+unfoldable pub request_of : List (String Global) → Option Request
+request_of words = run_asked (command_of words)

@@ -1,6 +1,7 @@
 //! `xensched`: runs a scheduler of simulated processors on a domain file and a workload, and prints the schedule, one line a step.
 #![tactic(auto)]
 
+pub mod report;
 pub mod run;
 pub mod status;
 pub mod sure;
@@ -12,7 +13,7 @@ pub mod words;
 use sched_io::{FileStore, OutSink};
 use status::Status;
 use std::process::ExitCode;
-use top::{MOST_ENTRIES, xensched};
+use top::xensched;
 
 /// Reads the words behind the program's own name, does what they say, prints the status's line where it is not 0, and ends
 /// with the status's number.
@@ -22,13 +23,7 @@ fn main(rt: HostRuntime) -> ExitCode {
         Ok(()) => {
             let mut store = FileStore::new(&rt);
             let mut sink = OutSink::new(&rt);
-            xensched(
-                rt.alloc(),
-                words.as_slice(),
-                MOST_ENTRIES,
-                &mut store,
-                &mut sink,
-            )
+            xensched(rt.alloc(), words.as_slice(), &mut store, &mut sink)
         }
         Err(e) => e,
     };

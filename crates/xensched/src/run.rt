@@ -24,13 +24,13 @@ pub enum RunEnd {
 
 /// An entry, and whether it is the last.
 #[derive(Drop)]
-struct Step {
-    entry: Entry,
-    last: bool,
+pub(crate) struct Step {
+    pub entry: Entry,
+    pub last: bool,
 }
 
 /// The entry that the machine gives next: the first event that may come, else the next moment, else the end.
-fn go_on(plain: &mut Plain) -> Step
+pub(crate) fn go_on(plain: &mut Plain) -> Step
     ensures entry { result.entry ≡ next_entry plain.old.machine plain.old.state }
     ensures last { result.last ≡ is_last plain.old.machine plain.old.state }
     ensures after { plain.new ≡ record plain.old { state = next_state plain.old.machine plain.old.state } }
@@ -65,7 +65,7 @@ fn go_on(plain: &mut Plain) -> Step
 }
 
 /// Writes the ordered run, one put a line, with at most this many entries.
-pub fn write_run<K: Sink>(plain: &mut Plain, limit: u64, sink: &mut K) -> Result<RunEnd, Failed>
+pub fn write_run<K: Sink>(plain: &mut Plain, limit: u32, sink: &mut K) -> Result<RunEnd, Failed>
     ensures whole { OnOk result (Adds (K.told sink.old) (K.told sink.new) (text (ordered_run limit plain.old.machine plain.old.state))) }
     ensures part { OnErr result (AddsPart (K.told sink.old) (K.told sink.new) (text (ordered_run limit plain.old.machine plain.old.state))) }
     ensures finished { result ≡ Ok RunEnd.Finished → goes_on limit plain.old.machine plain.old.state ≡ false }

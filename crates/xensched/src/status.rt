@@ -7,17 +7,6 @@ use dom_file::DomFault;
 use thiserror::Error;
 use work_file::WorkFault;
 
-/// Why a work file is refused.
-#[derive(Clone, Copy, Debug, PartialEq, Eq, Error)]
-pub enum WorkRefusal {
-    /// The first line that has a fault, and its first fault.
-    #[error("{0}")]
-    Line(WorkFault),
-    /// It has commands, which the program does not run yet.
-    #[error("commands Unbuilt")]
-    Commands,
-}
-
 /// How a call ends. Each is printed as its line on standard error; there is none for `Ok`.
 #[derive(Debug, Drop, Error)]
 pub enum Status {
@@ -36,9 +25,9 @@ pub enum Status {
     /// The domain file describes no machine.
     #[error("xensched: domains: {0}")]
     BadDomains(DomFault),
-    /// The work file is refused. So far it may have no commands.
+    /// The work file is refused: its first line with a fault, and the first fault of that line.
     #[error("xensched: work: {0}")]
-    BadWork(WorkRefusal),
+    BadWork(WorkFault),
     /// The output could not be written.
     #[error("xensched: cannot write")]
     WriteFault,

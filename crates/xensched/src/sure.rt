@@ -9,18 +9,17 @@ use crate::top::xensched;
 use sched_io::{SureSink, SureStore};
 use std::alloc::Global;
 
-/// Does all that the program does, over a store and a sink that never fail. The words, the two files and the limit alone
+/// Does all that the program does, over a store and a sink that never fail. The words and the two files alone
 /// determine the answer, unless memory was wanted.
 pub fn xensched_surely(
     alloc: Global,
     words: &[String],
-    limit: u64,
     store: &mut SureStore,
     sink: &mut SureSink,
 ) -> Status
-    ensures answer { UnlessNoMemory (sure_answer limit store.old words.now) result }
+    ensures answer { UnlessNoMemory (sure_answer store.old words.now) result }
     ensures no_read_fault { result ≢ Status.ReadFault }
     ensures no_write_fault { result ≢ Status.WriteFault }
 {
-    xensched(alloc, words, limit, store, sink)
+    xensched(alloc, words, store, sink)
 }

@@ -1,13 +1,18 @@
 //! The statuses and what is written with them, over a store and a sink in memory.
 
 mod arinc;
+mod bounds;
 mod cores;
 mod credit2;
+mod limits;
+mod parameters;
+mod pools;
+mod refusals;
 mod rtds;
 
 use crate::status::Status;
 use crate::sure::xensched_surely;
-use crate::top::{MOST_ENTRIES, xensched};
+use crate::top::xensched;
 use sched_io::{MOST_BYTES, MemSink, MemStore, SureSink, SureStore};
 use std::alloc::Global;
 use std::process::Abort;
@@ -51,7 +56,7 @@ fn each_status_with_what_it_writes(rt: HostRuntime) -> Result<(), Fail> {
         (accepted, "6000000", "", 0, 0, FULL_FRAME),
         (accepted, "6000000", "", 3, 6, TWO_LINES),
         (accepted, "6000001", "", 0, 4, ""),
-        (accepted, "6000000", "0 xl cpupool-list\n", 0, 5, ""),
+        (accepted, "6000000", "0 stall 0\n", 0, 5, ""),
         ("run --ordered other.toml work.txt", "6000000", "", 0, 2, ""),
         (
             "run --ordered domains.toml other.txt",
@@ -62,6 +67,8 @@ fn each_status_with_what_it_writes(rt: HostRuntime) -> Result<(), Fail> {
             "",
         ),
         ("run a", "6000000", "", 0, 1, ""),
+        ("make 1 1 1 work", "6000000", "", 0, 1, ""),
+        ("load 1 8 40", "6000000", "", 0, 1, ""),
         ("run --ordered domains.toml", "6000000", "", 0, 1, ""),
         ("run --ordered domains.toml -work", "6000000", "", 0, 1, ""),
     ] {
@@ -69,13 +76,7 @@ fn each_status_with_what_it_writes(rt: HostRuntime) -> Result<(), Fail> {
         store.set(alloc, "domains.toml", domains(alloc, run)?.as_bytes())?;
         store.set(alloc, "work.txt", work.as_bytes())?;
         let mut sink = MemSink::room(alloc, 4096, &[fails])?;
-        let answer = xensched(
-            alloc,
-            words(alloc, line)?.as_slice(),
-            MOST_ENTRIES,
-            &mut store,
-            &mut sink,
-        );
+        let answer = xensched(alloc, words(alloc, line)?.as_slice(), &mut store, &mut sink);
         assert_eq!(rt; answer.number(), status, "{line} {run}");
         assert_eq!(rt; sink.bytes(), output.as_bytes(), "{line} {run}");
     }
@@ -90,7 +91,7 @@ fn a_byte_that_is_no_text_is_no_toml(rt: HostRuntime) -> Result<(), Fail> {
     store.set(alloc, "work.txt", b"")?;
     let mut sink = MemSink::room(alloc, 4096, &[])?;
     let line = words(alloc, "run --ordered domains.toml work.txt")?;
-    let answer = xensched(alloc, line.as_slice(), MOST_ENTRIES, &mut store, &mut sink);
+    let answer = xensched(alloc, line.as_slice(), &mut store, &mut sink);
     assert!(rt; matches!(answer, Status::BadToml));
     assert_eq!(rt; sink.bytes(), b"".as_slice());
     Ok(())
@@ -99,18 +100,102 @@ fn a_byte_that_is_no_text_is_no_toml(rt: HostRuntime) -> Result<(), Fail> {
 #[test]
 fn a_run_that_fills_its_limit_is_whole(rt: HostRuntime) -> Result<(), Fail> {
     let alloc = rt.alloc();
-    let line = words(alloc, "run --ordered domains.toml work.txt")?;
-    let last = "20000000 finish\n";
-    let first_entries = FULL_FRAME.len() - last.len();
-    for (limit, status, written) in [(28, 0, FULL_FRAME.len()), (27, 7, first_entries), (0, 7, 0)] {
+    let mut all_but_one = String::new(alloc);
+    for line in FULL_FRAME.lines() {
+        if line != "20000000 finish" {
+            all_but_one.push_str(line)?;
+            all_but_one.push('\n')?;
+        }
+    }
+    for (line, status, output) in [
+        (
+            "run --ordered --events 28 domains.toml work.txt",
+            0,
+            FULL_FRAME,
+        ),
+        (
+            "run domains.toml work.txt --events=27 --ordered",
+            7,
+            all_but_one.as_str(),
+        ),
+        ("run --ordered --events 0 domains.toml work.txt", 1, ""),
+    ] {
         let mut store = MemStore::room(alloc, &[])?;
         store.set(alloc, "domains.toml", domains(alloc, "6000000")?.as_bytes())?;
         store.set(alloc, "work.txt", b"")?;
         let mut sink = MemSink::room(alloc, 4096, &[])?;
-        let answer = xensched(alloc, line.as_slice(), limit, &mut store, &mut sink);
-        assert_eq!(rt; answer.number(), status, "{limit}");
-        assert_eq!(rt; sink.bytes(), &FULL_FRAME.as_bytes()[..written], "{limit}");
+        let words = words(alloc, line)?;
+        let answer = xensched(alloc, words.as_slice(), &mut store, &mut sink);
+        assert_eq!(rt; answer.number(), status, "{line}");
+        assert_eq!(rt; sink.bytes(), output.as_bytes(), "{line}");
     }
+    Ok(())
+}
+
+const FULL_FRAME_REPORT: &str =
+    "unit d0u0 run 8000000 picks 3 repl 0 late 0\nunit d1u0 run 12000000 picks 2 repl 0 late 0\ncore c0 run 20000000 idle 0 decides 5\nentries 28 end 20000000\n";
+
+const REPORT_OF_ALL_BUT_ONE: &str =
+    "unit d0u0 run 8000000 picks 3 repl 0 late 0\nunit d1u0 run 12000000 picks 2 repl 0 late 0\ncore c0 run 20000000 idle 0 decides 5\nentries 27 end 20000000\n";
+
+const REPORT_LINES: &str =
+    "unit d0u0 run 8000000 picks 3 repl 0 late 0\nunit d1u0 run 12000000 picks 2 repl 0 late 0\n";
+
+#[test]
+fn a_report_is_written_in_place_of_the_entries(rt: HostRuntime) -> Result<(), Fail> {
+    let alloc = rt.alloc();
+    for (line, fails, status, output) in [
+        (
+            "report --ordered domains.toml work.txt",
+            0,
+            0,
+            FULL_FRAME_REPORT,
+        ),
+        (
+            "report --ordered --events 28 domains.toml work.txt",
+            0,
+            0,
+            FULL_FRAME_REPORT,
+        ),
+        (
+            "report --ordered --events 27 domains.toml work.txt",
+            0,
+            7,
+            REPORT_OF_ALL_BUT_ONE,
+        ),
+        ("report --ordered domains.toml work.txt", 3, 6, REPORT_LINES),
+        ("report domains.toml work.txt", 0, 1, ""),
+        ("report --ordered other.toml work.txt", 0, 2, ""),
+    ] {
+        let mut store = MemStore::room(alloc, &[])?;
+        store.set(alloc, "domains.toml", domains(alloc, "6000000")?.as_bytes())?;
+        store.set(alloc, "work.txt", b"")?;
+        let mut sink = MemSink::room(alloc, 4096, &[fails])?;
+        let words = words(alloc, line)?;
+        let answer = xensched(alloc, words.as_slice(), &mut store, &mut sink);
+        assert_eq!(rt; answer.number(), status, "{line}");
+        assert_eq!(rt; sink.bytes(), output.as_bytes(), "{line}");
+    }
+    Ok(())
+}
+
+const TWO_PERIODS: &str =
+    "format = 1\nprocessors = 1\nhorizon_ns = 20000000\n[[pool]]\nname = \"Pool-0\"\nsched = \"rtds\"\ncpus = [0]\n[[domain]]\nname = \"a\"\nperiod_us = 10000\nbudget_us = 4000\nextratime = false\nguests = [[]]\n[[domain]]\nname = \"b\"\nperiod_us = 20000\nbudget_us = 5000\nextratime = false\nguests = [[]]\n";
+
+const REPORT_OF_TWO_PERIODS: &str =
+    "unit d0u0 run 8000000 picks 3 repl 2 late 0\nunit d1u0 run 5000000 picks 1 repl 1 late 0\ncore c0 run 13000000 idle 7000000 decides 6\nentries 33 end 20000000\n";
+
+#[test]
+fn a_report_counts_replenishments_and_idle_time(rt: HostRuntime) -> Result<(), Fail> {
+    let alloc = rt.alloc();
+    let mut store = MemStore::room(alloc, &[])?;
+    store.set(alloc, "domains.toml", TWO_PERIODS.as_bytes())?;
+    store.set(alloc, "work.txt", b"")?;
+    let mut sink = MemSink::room(alloc, 4096, &[])?;
+    let words = words(alloc, "report --ordered domains.toml work.txt")?;
+    let answer = xensched(alloc, words.as_slice(), &mut store, &mut sink);
+    assert_eq!(rt; answer.number(), 0);
+    assert_eq!(rt; sink.bytes(), REPORT_OF_TWO_PERIODS.as_bytes());
     Ok(())
 }
 
@@ -130,16 +215,31 @@ fn nothing_fails_where_store_and_sink_never_do(rt: HostRuntime) -> Result<(), Fa
         assert!(rt; bytes.len() <= MOST_BYTES);
         store.set(alloc, "domains.toml", bytes)?;
         let mut sink = SureSink::room(alloc, 4096)?;
-        let answer = xensched_surely(
-            alloc,
-            words(alloc, line)?.as_slice(),
-            MOST_ENTRIES,
-            &mut store,
-            &mut sink,
-        );
+        let answer = xensched_surely(alloc, words(alloc, line)?.as_slice(), &mut store, &mut sink);
         assert_eq!(rt; answer.number(), status, "{line}");
         assert_eq!(rt; sink.bytes(), output.as_bytes(), "{line}");
     }
+    Ok(())
+}
+
+/// The program answers these words with this number where these are the two files, and writes this.
+fn expect_answer(
+    rt: &impl Abort,
+    alloc: Global,
+    line: &str,
+    domains: &str,
+    work: &str,
+    status: u8,
+    output: &str,
+) -> Result<(), Fail> {
+    let mut store = MemStore::room(alloc, &[])?;
+    store.set(alloc, "domains.toml", domains.as_bytes())?;
+    store.set(alloc, "work.txt", work.as_bytes())?;
+    let mut sink = MemSink::room(alloc, 8192, &[])?;
+    let line = words(alloc, line)?;
+    let answer = xensched(alloc, line.as_slice(), &mut store, &mut sink);
+    assert_eq!(rt; answer.number(), status);
+    assert_eq!(rt; sink.bytes(), output.as_bytes());
     Ok(())
 }
 
@@ -151,13 +251,18 @@ fn expect_schedule(
     work: &str,
     schedule: &str,
 ) -> Result<(), Fail> {
-    let mut store = MemStore::room(alloc, &[])?;
-    store.set(alloc, "domains.toml", domains.as_bytes())?;
-    store.set(alloc, "work.txt", work.as_bytes())?;
-    let mut sink = MemSink::room(alloc, 8192, &[])?;
-    let line = words(alloc, "run --ordered domains.toml work.txt")?;
-    let answer = xensched(alloc, line.as_slice(), MOST_ENTRIES, &mut store, &mut sink);
-    assert_eq!(rt; answer.number(), 0);
-    assert_eq!(rt; sink.bytes(), schedule.as_bytes());
-    Ok(())
+    let line = "run --ordered domains.toml work.txt";
+    expect_answer(rt, alloc, line, domains, work, 0, schedule)
+}
+
+/// The program refuses one of these two files with this number, and writes nothing.
+fn expect_refusal(
+    rt: &impl Abort,
+    alloc: Global,
+    domains: &str,
+    work: &str,
+    status: u8,
+) -> Result<(), Fail> {
+    let line = "run --ordered domains.toml work.txt";
+    expect_answer(rt, alloc, line, domains, work, status, "")
 }

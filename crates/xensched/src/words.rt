@@ -1,44 +1,42 @@
 //! The words of the command line.
 
 ghost use Rattle.std.specs.Prelude.{◌≡◌, option_map};
-ghost use Rattle.xensched.specs.Words.{is_file_name as is_file_name_spec, files_of as files_of_spec};
+ghost use Rattle.xensched.specs.Words.{requested, request_of as request_of_spec};
 
-/// The files that the words name.
+use command_line::{Command, Form, command_of};
+
+/// A run on two files.
 #[derive(Clone, Copy)]
-pub struct Files<'a> {
+pub struct Request<'a> {
+    /// What is written of it.
+    pub form: Form,
+    /// The most entries that it may have, 1 to 4,000,000.
+    pub limit: u32,
+    /// The name of the domain file.
     pub domains: &'a str,
+    /// The name of the work file.
     pub work: &'a str,
 }
 
-/// Whether the word may be a file's name: it is not empty and does not begin with a hyphen.
-fn is_file_name(word: &str) -> bool
-    ensures { result ≡ is_file_name_spec word.now }
+/// The run that the words ask for, or none where they are no command. The commands that make their texts are not built yet.
+#[tactic(auto, unfolding(crate::specs::Words::request_of))]
+pub fn request_of(words: &[String]) -> Option<Request<'_>>
+    ensures { option_map requested result ≡ request_of_spec words.now }
 {
-    match word.as_bytes() {
-        [] => false,
-        [first, ..] => *first != b'-',
-    }
-}
-
-/// The files that `run --ordered DOMAINS WORK` names, or none where the words are no command.
-pub fn files_of(words: &[String]) -> Option<Files<'_>>
-    ensures { option_map (λ f. (f.domains.now, f.work.now)) result ≡ files_of_spec words.now }
-{
-    match words {
-        [run, ordered, domains, work] => {
-            if run.as_str() == "run"
-                && ordered.as_str() == "--ordered"
-                && is_file_name(domains.as_str())
-                && is_file_name(work.as_str())
-            {
-                Some(Files {
-                    domains: domains.as_str(),
-                    work: work.as_str(),
-                })
-            } else {
-                None
-            }
-        }
+    match command_of(words) {
+        Some(
+            Command::Run {
+                form,
+                limit,
+                domains,
+                work,
+            },
+        ) => Some(Request {
+            form,
+            limit,
+            domains,
+            work,
+        }),
         _ => None,
     }
 }

@@ -1,0 +1,44 @@
+//! The commands.
+
+/// What is written of a run.
+#[derive(Clone, Copy, Debug, PartialEq, Eq)]
+pub enum Form {
+    /// Its entries, one a line.
+    Schedule,
+    /// What each unit and each core did.
+    Report,
+}
+
+/// Which of the two texts that are made from a number.
+#[derive(Clone, Copy, Debug, PartialEq, Eq)]
+pub enum Made {
+    /// The domain file.
+    Domains,
+    /// The work file.
+    Work,
+}
+
+/// A command.
+#[derive(Clone, Copy, Debug, PartialEq, Eq)]
+pub enum Command<'a> {
+    /// The ordered run on two files, with at most `limit` entries, 1 to 4,000,000.
+    Run {
+        form: Form,
+        limit: u32,
+        domains: &'a str,
+        work: &'a str,
+    },
+    /// One text of those that are made from a number: a seed below 2^31, and 1 to 64 processors and domains.
+    Make {
+        seed: u32,
+        processors: u32,
+        domains: u32,
+        text: Made,
+    },
+    /// The report of the ordered run on both texts that are made from these.
+    Load {
+        seed: u32,
+        processors: u32,
+        domains: u32,
+    },
+}
