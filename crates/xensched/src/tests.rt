@@ -7,6 +7,7 @@ mod credit2;
 mod limits;
 mod parameters;
 mod pools;
+mod realistic;
 mod refusals;
 mod rtds;
 
