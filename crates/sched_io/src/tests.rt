@@ -91,7 +91,7 @@ fn sure_ones_never_fail(rt: HostRuntime) -> Result<(), Fail> {
 #[test]
 fn files_are_read_whole(rt: HostRuntime) -> Result<(), Fail> {
     let alloc = rt.alloc();
-    let name = format!(in alloc; "/tmp/sched_io_{}", process::id(rt.process()))?;
+    let name = format!(in alloc; "sched_io_{}", process::id(rt.process()))?;
     // It takes two reads, and a third that finds the end.
     let long = vec![in alloc; 7u8; 70_000]?;
     fs::write(&rt, name.as_str(), &long)?;

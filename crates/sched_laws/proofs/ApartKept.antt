@@ -50,8 +50,8 @@ module _ (C D : ℕ → ℕ → Type 0) (s : State) (only : AllOnly C D s) where
       let x = some_is (at_place p.0.domains d) p.2 in
       (only i p.0 p.1).domains d x.0 x.1
 
-only_map : (C D C2 D2 : ℕ → Type 0) (pool : Pool) → ((r : ℕ) → C r → C2 r) → ((d : ℕ) → D d → D2 d) → HasOnly C D pool → HasOnly C2 D2 pool
-only_map C D C2 D2 pool cores domains only = record { cores = λ r c at. cores r (only.cores r c at); domains = λ d x at. domains d (only.domains d x at) }
+only_map : (C D CoreAfter DomainAfter : ℕ → Type 0) (pool : Pool) → ((r : ℕ) → C r → CoreAfter r) → ((d : ℕ) → D d → DomainAfter d) → HasOnly C D pool → HasOnly CoreAfter DomainAfter pool
+only_map C D CoreAfter DomainAfter pool cores domains only = record { cores = λ r c at. cores r (only.cores r c at); domains = λ d x at. domains d (only.domains d x at) }
 
 -- the cores that are free were free before
 abbrev FreeOf : State → State → Type 0

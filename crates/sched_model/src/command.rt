@@ -12,6 +12,11 @@ pub enum Which {
 }
 
 impl Default for Which {
+    ghost use Rattle.std.specs.Prelude.{◌≡◌};
+    ghost use Rattle.sched_model.specs.declared.command.Which.TheVariants.{Number};
+
+    ghost is_default = { λ w. w ≡ Number 0 };
+
     fn default() -> Which {
         Which::Number(0)
     }

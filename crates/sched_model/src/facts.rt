@@ -20,6 +20,11 @@ pub enum Stored {
 }
 
 impl Default for Stored {
+    ghost use Rattle.std.specs.Prelude.{◌≡◌};
+    ghost use Rattle.sched_model.specs.declared.facts.Stored.TheVariants.{Null};
+
+    ghost is_default = { λ s. s ≡ Null };
+
     fn default() -> Stored {
         Stored::Null
     }

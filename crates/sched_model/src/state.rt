@@ -26,6 +26,12 @@ pub struct Processor {
 }
 
 impl Default for Processor {
+    ghost use Rattle.std.specs.Prelude.{◌≡◌};
+    ghost use Rattle.sched_base.specs.Numbers.{moment};
+    ghost use Rattle.sched_model.specs.declared.state.Doing.TheVariants.{Idle};
+
+    ghost is_default = { λ p. p ≡ record { doing = Idle; stall_end = moment 0 } };
+
     fn default() -> Processor {
         Processor {
             doing: Doing::Idle,

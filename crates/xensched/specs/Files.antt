@@ -1,5 +1,7 @@
 -- The machine that the two files make.
 use Rattle.std.specs.Prelude.{ℕ, List, Result, Ok, Err}
+use Rattle.std_io.specs.declared.io.kind.ErrorKind.{ErrorKind}
+use Rattle.std_io.specs.declared.io.kind.ErrorKind.TheVariants as kind
 use Rattle.dom_file.specs.declared.fault.DomFault.{DomFault}
 use Rattle.dom_file.specs.declared.fault.DomFault.TheVariants as dom_fault
 use Rattle.dom_file.specs.Configs.{domains_of}
@@ -18,6 +20,11 @@ config_of bytes = domains_of bytes
 -- the workload of the work file, or its first faulty line
 abbrev pub work_of : Config → List ℕ → Result Work WorkFault
 work_of config bytes = lines.work_of config bytes
+
+-- the status where the words themselves cannot be read: one that is no UTF-8 is as wrong as any other
+abbrev pub words_refused : ErrorKind → Status
+words_refused kind.OutOfMemory = status.NoMemory
+words_refused _ = status.Usage
 
 -- the status of a domain file with this fault
 abbrev pub domains_refused : DomFault → Status

@@ -1,6 +1,9 @@
 //! `xensched`: runs a scheduler of simulated processors on a domain file and a workload, and prints the schedule, one line a step.
 #![tactic(auto)]
 
+ghost use Rattle.std.specs.Prelude.{◌≡◌};
+ghost use Rattle.xensched.specs.Files.{words_refused};
+
 pub mod report;
 pub mod run;
 pub mod status;
@@ -12,6 +15,7 @@ pub mod words;
 
 use sched_io::{FileStore, OutSink};
 use status::Status;
+use std::io::ErrorKind;
 use std::process::ExitCode;
 use top::xensched;
 
@@ -37,7 +41,7 @@ fn main(rt: HostRuntime) -> ExitCode {
 fn words_of(rt: &HostRuntime, words: &mut Vec<String>) -> Result<(), Status> {
     let args = match std::env::args(rt) {
         Ok(args) => args,
-        Err(_) => return Err(Status::NoMemory),
+        Err(e) => return Err(refused_words(e.kind())),
     };
     for word in args.skip(1) {
         if words.push(word).is_err() {
@@ -45,4 +49,14 @@ fn words_of(rt: &HostRuntime, words: &mut Vec<String>) -> Result<(), Status> {
         }
     }
     Ok(())
+}
+
+/// The status of words that cannot be read: a word that is no UTF-8 is as wrong as any other.
+fn refused_words(kind: ErrorKind) -> Status
+    ensures { result ≡ words_refused kind }
+{
+    match kind {
+        ErrorKind::OutOfMemory => Status::NoMemory,
+        _ => Status::Usage,
+    }
 }
