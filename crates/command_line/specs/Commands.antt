@@ -1,52 +1,50 @@
 -- Which command the words of the command line are.
-use Rattle.std.specs.Prelude.{ℕ, ◌&&◌, Bool, not, is_some, List, [], ◌∷◌, Option, Some, None, String, string_bytes, bytes_eq, codes, unwrap_or, option_and_then, option_map, if◌then◌else◌}
+use Rattle.std.specs.Prelude.{ℕ, Bool, List, [], ◌∷◌, map, Option, Some, None, String, string_bytes, bytes_eq, codes, option_and_then, option_map, ◌≤◌, ⊤, if◌then◌else◌}
 use Rattle.std.specs.declared.alloc.Global.{Global}
+use Rattle.clap.specs.Words.{Kinds, Row, Text, fault_of, first_of, subcommand_of}
 use Rattle.command_line.specs.declared.command.Form.{Form}
 use Rattle.command_line.specs.declared.command.Form.TheVariants as form
 use Rattle.command_line.specs.declared.command.Made.{Made}
 use Rattle.command_line.specs.declared.command.Made.TheVariants as made
 use Rattle.command_line.specs.declared.command.Command.{Command}
 use Rattle.command_line.specs.declared.command.Command.TheVariants as command
-use Rattle.command_line.specs.declared.said.Place.TheVariants as place
-use Rattle.command_line.specs.Numbers.{number_in}
-use Rattle.command_line.specs.Words.{Said, nothing_said, read}
+use Rattle.command_line.specs.Entries.{flag_in, number_in}
+use Rattle.command_line.specs.Tree.{tree}
 
 -- a command: a run on two named files, of which the schedule or the report is written, with at most so many entries; one of the two texts
--- that are made from a number; or the report of a run on both of them
+-- that are made from a number; the report of a run on both of them; or whether a schedule, the third file, is a run on two files
 pub data Asked : Type 0 where
   run : Form → ℕ → List ℕ → List ℕ → Asked
   make : ℕ → ℕ → ℕ → Made → Asked
   load : ℕ → ℕ → ℕ → Asked
+  check : Bool → List ℕ → List ℕ → List ℕ → Asked
 
 -- what a command asks for
 abbrev pub asked : Command → Asked
 asked (command.Run form limit domains work) = run form limit domains.now work.now
 asked (command.Make seed processors domains text) = make seed processors domains text
 asked (command.Load seed processors domains) = load seed processors domains
+asked (command.Check ordered domains work schedule) = check ordered domains.now work.now schedule.now
 
--- the entries of a run that asks for no number of them
-abbrev pub usual_entries : ℕ
-usual_entries = 1000000
+-- the names of the domain file and of the work file
+abbrev pub files_in : List Row → Option (List ℕ × List ℕ)
+files_in rows = option_and_then (λ domains. option_map (λ work. (domains, work)) (first_of (codes "work") rows)) (first_of (codes "domains") rows)
 
 -- a run on two named files, in the order that is written down; there is no other yet
-abbrev pub run_files : Form → ℕ → List (List ℕ) → Option Asked
-run_files form limit (domains ∷ work ∷ []) = Some (run form limit domains work)
-run_files form limit names = None
-
-abbrev pub run_of : Form → Said → Option Asked
-run_of form said = if said.ordered then run_files form (unwrap_or said.events usual_entries) said.names else None
-
--- no option is given
-abbrev pub has_no_option : Said → Bool
-has_no_option said = not said.ordered && not (is_some said.events)
+abbrev pub run_in : Form → List Row → Option Asked
+run_in form rows =
+    if flag_in (codes "ordered") rows
+    then option_and_then (λ limit. option_map (λ files. run form limit files.0 files.1) (files_in rows)) (number_in 1 4000000 (codes "events") rows)
+    else None
 
 -- the numbers that a text is made from: seed, processors and domains
 abbrev pub Numbers : Type 0
 Numbers = ℕ × (ℕ × ℕ)
 
-abbrev pub numbers_of : List ℕ → List ℕ → List ℕ → Option Numbers
-numbers_of seed processors domains =
-    option_and_then (λ s. option_and_then (λ p. option_map (λ d. (s, (p, d))) (number_in 1 64 domains)) (number_in 1 64 processors)) (number_in 0 2147483647 seed)
+abbrev pub numbers_in : List Row → Option Numbers
+numbers_in rows =
+    option_and_then (λ s. option_and_then (λ p. option_map (λ d. (s, (p, d))) (number_in 1 64 (codes "domains") rows))
+    (number_in 1 64 (codes "processors") rows)) (number_in 0 2147483647 (codes "seed") rows)
 
 -- the text that the word names
 abbrev pub made_of : List ℕ → Option Made
@@ -55,31 +53,42 @@ made_of word =
     else if bytes_eq word (codes "work") then Some made.Work
     else None
 
-abbrev pub make_files : List (List ℕ) → Option Asked
-make_files (seed ∷ processors ∷ domains ∷ text ∷ []) =
-    option_and_then (λ (n : Numbers). option_map (λ t. make n.0 n.1.0 n.1.1 t) (made_of text)) (numbers_of seed processors domains)
-make_files names = None
+abbrev pub make_in : List Row → Option Asked
+make_in rows =
+    option_and_then (λ (n : Numbers). option_map (make n.0 n.1.0 n.1.1) (option_and_then made_of (first_of (codes "text") rows))) (numbers_in rows)
 
-abbrev pub make_of : Said → Option Asked
-make_of said = if has_no_option said then make_files said.names else None
+abbrev pub load_in : List Row → Option Asked
+load_in rows = option_map (λ (n : Numbers). load n.0 n.1.0 n.1.1) (numbers_in rows)
 
-abbrev pub load_files : List (List ℕ) → Option Asked
-load_files (seed ∷ processors ∷ domains ∷ []) = option_map (λ (n : Numbers). load n.0 n.1.0 n.1.1) (numbers_of seed processors domains)
-load_files names = None
+abbrev pub check_in : List Row → Option Asked
+check_in rows =
+    option_and_then (λ files. option_map (check (flag_in (codes "ordered") rows) files.0 files.1) (first_of (codes "schedule") rows)) (files_in rows)
 
-abbrev pub load_of : Said → Option Asked
-load_of said = if has_no_option said then load_files said.names else None
-
--- the command of this name, with what the words behind it say
-abbrev pub command_named : List ℕ → Said → Option Asked
-command_named name said =
-    if bytes_eq name (codes "run") then run_of form.Schedule said
-    else if bytes_eq name (codes "report") then run_of form.Report said
-    else if bytes_eq name (codes "make") then make_of said
-    else if bytes_eq name (codes "load") then load_of said
+-- the command of this name, with the entries that it has
+abbrev pub named_in : Text → List Row → Option Asked
+named_in name rows =
+    if bytes_eq name (codes "run") then run_in form.Schedule rows
+    else if bytes_eq name (codes "report") then run_in form.Report rows
+    else if bytes_eq name (codes "make") then make_in rows
+    else if bytes_eq name (codes "load") then load_in rows
+    else if bytes_eq name (codes "check") then check_in rows
     else None
 
--- the command that the words are, where they are one
+abbrev pub command_in : Option (Text × List Row) → Option Asked
+command_in entered = option_and_then (λ e. named_in e.0 e.1) entered
+
+-- the command of what was entered, where nothing refuses the words
+abbrev pub unless_refused : Kinds → Option (Text × List Row) → Option Asked
+unless_refused [] entered = command_in entered
+unless_refused (kind ∷ kinds) entered = None
+
+-- the command that the words are, where they are one: `clap` finds no fault in them, and the entries of the command that they name make it
 unfoldable pub command_of : List (String Global) → Option Asked
-command_of [] = None
-command_of (name ∷ words) = option_and_then (command_named (string_bytes name)) (read place.Open nothing_said words)
+command_of words = unless_refused (fault_of tree (map string_bytes words)) (subcommand_of tree (map string_bytes words))
+
+-- the numbers of a command are in their ranges
+abbrev pub HasNumbersInRange : Command → Type 0
+HasNumbersInRange (command.Run form limit domains work) = (1 ≤ limit) × (limit ≤ 4000000)
+HasNumbersInRange (command.Make seed processors domains text) = (seed ≤ 2147483647) × (1 ≤ processors) × (processors ≤ 64) × (1 ≤ domains) × (domains ≤ 64)
+HasNumbersInRange (command.Load seed processors domains) = (seed ≤ 2147483647) × (1 ≤ processors) × (processors ≤ 64) × (1 ≤ domains) × (domains ≤ 64)
+HasNumbersInRange (command.Check ordered domains work schedule) = ⊤

@@ -1,3 +1,3 @@
-pub mod Numbers
-pub mod Words
+pub mod Tree
+pub mod Entries
 pub mod Commands

@@ -31,14 +31,21 @@ pub enum Command<'a> {
     /// One text of those that are made from a number: a seed below 2^31, and 1 to 64 processors and domains.
     Make {
         seed: u32,
-        processors: u32,
-        domains: u32,
+        processors: u8,
+        domains: u8,
         text: Made,
     },
     /// The report of the ordered run on both texts that are made from these.
     Load {
         seed: u32,
-        processors: u32,
-        domains: u32,
+        processors: u8,
+        domains: u8,
+    },
+    /// Whether the schedule is a run on two files, in the order that is written down or in any.
+    Check {
+        ordered: bool,
+        domains: &'a str,
+        work: &'a str,
+        schedule: &'a str,
     },
 }

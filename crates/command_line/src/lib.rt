@@ -1,32 +1,35 @@
 //! The words of the command line, and the command that they are.
 //!
 //! `run --ordered [--events N] DOMAINS WORK`, `report --ordered [--events N] DOMAINS WORK`,
-//! `make SEED PROCESSORS DOMAINS domains|work`, `load SEED PROCESSORS DOMAINS`. The options stand anywhere behind the
-//! command's name, each once; `--` ends them. A number is decimal digits, with a plus before them or none.
+//! `make SEED PROCESSORS DOMAINS domains|work`, `load SEED PROCESSORS DOMAINS`, `check [--ordered] DOMAINS WORK SCHEDULE`.
+//! The words are read with `clap`: the options stand anywhere behind the command's name, each once; `--` ends them.
+//! A number is decimal digits, with a plus before them or none.
 #![tactic(auto)]
 
-ghost use Rattle.std.specs.Prelude.{◌≡◌, option_map};
-ghost use Rattle.command_line.specs.Commands.{asked, command_of as command_of_spec};
+ghost use Rattle.std.specs.Prelude.{◌≡◌, IfOk, IfSome, option_map};
+ghost use Rattle.command_line.specs.Commands.{asked, HasNumbersInRange, command_of as command_of_spec};
 
 pub mod command;
-mod named;
-mod number;
-mod said;
+mod entries;
+mod tree;
 
+use clap::error::ErrorKind;
 pub use command::{Command, Form, Made};
-use named::command_named;
-use said::{Place, nothing_said, read};
+use entries::command_in;
+use sched_base::NoMemory;
+use std::alloc::Global;
+use tree::tree;
 
-/// The command that the words behind the program's own name are, or none where they are no command.
-#[tactic(auto, unfolding(crate::specs::Commands::command_of))]
-pub fn command_of(words: &[String]) -> Option<Command<'_>>
-    ensures { option_map asked result ≡ command_of_spec words.now }
+/// The command that the words behind the program's own name are, or none where they are no command. An error says that memory was wanted.
+pub fn command_of(alloc: Global, words: &[String]) -> Result<Option<Command<'_>>, NoMemory>
+    ensures value { IfOk result (λ command. option_map asked command ≡ command_of_spec words.now) }
+    ensures ranges { IfOk result (λ command. IfSome command HasNumbersInRange) }
 {
-    match words {
-        [] => None,
-        [name, rest @ ..] => match read(Place::Open, nothing_said(), rest) {
-            Some(said) => command_named(name.as_str(), said),
-            None => None,
+    match tree(alloc)?.try_get_matches_from(words) {
+        Ok(matches) => Ok(command_in(&matches)),
+        Err(error) => match error.kind() {
+            ErrorKind::OutOfMemory => Err(NoMemory),
+            _ => Ok(None),
         },
     }
 }

@@ -1,5 +1,0 @@
-use Rattle.std.proofs.Common.{length}
-use Rattle.command_line.proofs.said.+read.Given as goal
-
-abbrev pub decreases-read : goal.decreases-read
-decreases-read l = length l.words.now

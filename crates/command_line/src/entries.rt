@@ -1,0 +1,172 @@
+//! The command of the entries that `clap` found.
+
+ghost use Rattle.std.specs.Prelude.{◌≡◌, ◌≤◌, IfSome, option_map};
+ghost use Rattle.clap.specs.Words.{first_of, found_of, rows_of, subcommand_rows_of};
+ghost use Rattle.command_line.specs.Entries.{flag_in as flag_in_spec, number_in as number_in_spec, within as within_spec};
+ghost use Rattle.command_line.specs.Commands.{asked, files_in as files_in_spec, run_in as run_in_spec, numbers_in as numbers_in_spec, made_of as made_of_spec, make_in as make_in_spec, load_in as load_in_spec, check_in as check_in_spec, named_in as named_in_spec, command_in as command_in_spec, HasNumbersInRange};
+
+use crate::command::{Command, Form, Made};
+use clap::ArgMatches;
+
+/// The text of an entry.
+fn text_in<'a>(found: &ArgMatches<'a>, id: &str) -> Option<&'a str>
+    ensures { option_map (λ s. s.now) result ≡ first_of id.now (rows_of (found_of found.now)) }
+{
+    found.get_str(id)
+}
+
+/// Whether the flag was given.
+fn flag_in(found: &ArgMatches<'_>, id: &str) -> bool
+    ensures { result ≡ flag_in_spec id.now (rows_of (found_of found.now)) }
+{
+    found.get_one::<bool>(id).unwrap_or(false)
+}
+
+/// The number, where it is one from `low` to `high`.
+fn within(low: u32, high: u32, n: u32) -> Option<u32>
+    ensures value { result ≡ within_spec low high n }
+    ensures range { IfSome result (λ m. (low ≤ m) × (m ≤ high)) }
+{
+    if low <= n && n <= high { Some(n) } else { None }
+}
+
+/// The number of an entry, where it is one from `low` to `high`. `clap` has refused all others, but says so of the program's own arguments alone,
+/// and not of a command's.
+fn number_in(found: &ArgMatches<'_>, id: &str, low: u32, high: u32) -> Option<u32>
+    ensures value { result ≡ number_in_spec low high id.now (rows_of (found_of found.now)) }
+    ensures range { IfSome result (λ n. (low ≤ n) × (n ≤ high)) }
+{
+    match found.get_one::<u32>(id) {
+        Some(n) => within(low, high, n),
+        None => None,
+    }
+}
+
+/// A number of processors or domains.
+fn count_in(found: &ArgMatches<'_>, id: &str) -> Option<u8>
+    ensures value { result ≡ number_in_spec 1 64 id.now (rows_of (found_of found.now)) }
+    ensures range { IfSome result (λ n. (1 ≤ n) × (n ≤ 64)) }
+{
+    Some(number_in(found, id, 1, 64)? as u8)
+}
+
+/// The names of the domain file and of the work file.
+fn files_in<'a>(found: &ArgMatches<'a>) -> Option<(&'a str, &'a str)>
+    ensures { option_map (λ f. (f.0.now, f.1.now)) result ≡ files_in_spec (rows_of (found_of found.now)) }
+{
+    Some((text_in(found, "domains")?, text_in(found, "work")?))
+}
+
+/// A run on two named files. So far there is the ordered one alone.
+fn run_in<'a>(form: Form, found: &ArgMatches<'a>) -> Option<Command<'a>>
+    ensures value { option_map asked result ≡ run_in_spec form (rows_of (found_of found.now)) }
+    ensures ranges { IfSome result HasNumbersInRange }
+{
+    if !flag_in(found, "ordered") {
+        return None;
+    }
+    let limit = number_in(found, "events", 1, 4_000_000)?;
+    let (domains, work) = files_in(found)?;
+    Some(Command::Run {
+        form,
+        limit,
+        domains,
+        work,
+    })
+}
+
+/// Seed, processors and domains.
+fn numbers_in(found: &ArgMatches<'_>) -> Option<(u32, (u8, u8))>
+    ensures value { result ≡ numbers_in_spec (rows_of (found_of found.now)) }
+    ensures ranges { IfSome result (λ n. (n.0 ≤ 2147483647) × (1 ≤ n.1.0) × (n.1.0 ≤ 64) × (1 ≤ n.1.1) × (n.1.1 ≤ 64)) }
+{
+    let seed = number_in(found, "seed", 0, 0x7FFF_FFFF)?;
+    let processors = count_in(found, "processors")?;
+    let domains = count_in(found, "domains")?;
+    Some((seed, (processors, domains)))
+}
+
+/// The text that the word names.
+fn made_of(word: &str) -> Option<Made>
+    ensures { result ≡ made_of_spec word.now }
+{
+    if word == "domains" {
+        Some(Made::Domains)
+    } else if word == "work" {
+        Some(Made::Work)
+    } else {
+        None
+    }
+}
+
+/// One of the two texts that are made from a number.
+fn make_in<'a>(found: &ArgMatches<'a>) -> Option<Command<'a>>
+    ensures value { option_map asked result ≡ make_in_spec (rows_of (found_of found.now)) }
+    ensures ranges { IfSome result HasNumbersInRange }
+{
+    let (seed, (processors, domains)) = numbers_in(found)?;
+    Some(Command::Make {
+        seed,
+        processors,
+        domains,
+        text: made_of(text_in(found, "text")?)?,
+    })
+}
+
+/// The report of the run on both.
+fn load_in<'a>(found: &ArgMatches<'a>) -> Option<Command<'a>>
+    ensures value { option_map asked result ≡ load_in_spec (rows_of (found_of found.now)) }
+    ensures ranges { IfSome result HasNumbersInRange }
+{
+    let (seed, (processors, domains)) = numbers_in(found)?;
+    Some(Command::Load {
+        seed,
+        processors,
+        domains,
+    })
+}
+
+/// Whether a schedule is a run on two files.
+fn check_in<'a>(found: &ArgMatches<'a>) -> Option<Command<'a>>
+    ensures value { option_map asked result ≡ check_in_spec (rows_of (found_of found.now)) }
+    ensures ranges { IfSome result HasNumbersInRange }
+{
+    let (domains, work) = files_in(found)?;
+    let schedule = text_in(found, "schedule")?;
+    let ordered = flag_in(found, "ordered");
+    Some(Command::Check {
+        ordered,
+        domains,
+        work,
+        schedule,
+    })
+}
+
+/// The command of this name.
+fn named_in<'a>(name: &str, found: &ArgMatches<'a>) -> Option<Command<'a>>
+    ensures value { option_map asked result ≡ named_in_spec name.now (rows_of (found_of found.now)) }
+    ensures ranges { IfSome result HasNumbersInRange }
+{
+    if name == "run" {
+        run_in(Form::Schedule, found)
+    } else if name == "report" {
+        run_in(Form::Report, found)
+    } else if name == "make" {
+        make_in(found)
+    } else if name == "load" {
+        load_in(found)
+    } else if name == "check" {
+        check_in(found)
+    } else {
+        None
+    }
+}
+
+/// The command that the words named, with what they said of it.
+pub fn command_in<'a>(matches: &ArgMatches<'a>) -> Option<Command<'a>>
+    ensures value { option_map asked result ≡ command_in_spec (subcommand_rows_of matches.now) }
+    ensures ranges { IfSome result HasNumbersInRange }
+{
+    let (name, found) = matches.subcommand()?;
+    named_in(name, found)
+}

@@ -1,0 +1,116 @@
+//! The words that commands have, as `clap` is told of them.
+
+ghost use Rattle.std.specs.Prelude.{◌≡◌, IfOk, false};
+ghost use Rattle.clap.specs.Words.{rule_of};
+ghost use Rattle.command_line.specs.Tree.{IsTree, ordered_rule, events_rule, name_rule, number_rule, run_app, numbers_app, make_app, check_app, program_app, tree as tree_spec};
+
+use clap::builder::ValueParser;
+use clap::{Arg, ArgAction, Command};
+use sched_base::NoMemory;
+use std::alloc::Global;
+
+/// A word that must stand.
+fn name<'a>(alloc: Global, id: &'a str) -> Arg<'a>
+    ensures rule { rule_of result ≡ name_rule id.now }
+    ensures local { result.global ≡ false }
+{
+    Arg::new(alloc, id).required(true)
+}
+
+/// A number that must stand.
+fn number<'a>(alloc: Global, id: &'a str, parser: ValueParser<'a>) -> Arg<'a>
+    ensures rule { rule_of result ≡ number_rule id.now parser.entry }
+    ensures local { result.global ≡ false }
+{
+    name(alloc, id).value_parser(parser)
+}
+
+/// The flag `--ordered`.
+fn ordered<'a>(alloc: Global) -> Arg<'a>
+    ensures rule { rule_of result ≡ ordered_rule }
+    ensures local { result.global ≡ false }
+{
+    Arg::new(alloc, "ordered")
+        .long("ordered")
+        .action(ArgAction::SetTrue)
+}
+
+/// The most entries of a run, `--events`.
+fn events<'a>(alloc: Global) -> Arg<'a>
+    ensures rule { rule_of result ≡ events_rule }
+    ensures local { result.global ≡ false }
+{
+    Arg::new(alloc, "events")
+        .long("events")
+        .value_parser(clap::value_parser!(u32).range(1..=4_000_000))
+        .default_value("1000000")
+}
+
+/// A run on two files: `run` or `report`.
+fn run<'a>(alloc: Global, command: &'a str) -> Result<Command<'a>, NoMemory>
+    ensures { IfOk result (IsTree (run_app command.now)) }
+{
+    let command = Command::new(alloc, command)
+        .arg(ordered(alloc))?
+        .arg(events(alloc))?
+        .arg(name(alloc, "domains"))?
+        .arg(name(alloc, "work"))?;
+    Ok(command)
+}
+
+/// A command with the numbers that texts are made from: seed, processors and domains.
+fn numbers<'a>(alloc: Global, command: &'a str) -> Result<Command<'a>, NoMemory>
+    ensures { IfOk result (IsTree (numbers_app command.now)) }
+{
+    let seeds = clap::value_parser!(u32).range(0..=2_147_483_647);
+    let counts = clap::value_parser!(u8).range(1..=64);
+    let command = Command::new(alloc, command)
+        .arg(number(alloc, "seed", seeds))?
+        .arg(number(alloc, "processors", counts))?
+        .arg(number(alloc, "domains", counts))?;
+    Ok(command)
+}
+
+/// One of the two texts that are made from a number.
+fn make<'a>(alloc: Global) -> Result<Command<'a>, NoMemory>
+    ensures { IfOk result (IsTree make_app) }
+{
+    let command = numbers(alloc, "make")?.arg(name(alloc, "text"))?;
+    Ok(command)
+}
+
+/// Whether a schedule is a run on two files.
+fn check<'a>(alloc: Global) -> Result<Command<'a>, NoMemory>
+    ensures { IfOk result (IsTree check_app) }
+{
+    let command = Command::new(alloc, "check")
+        .arg(ordered(alloc))?
+        .arg(name(alloc, "domains"))?
+        .arg(name(alloc, "work"))?
+        .arg(name(alloc, "schedule"))?;
+    Ok(command)
+}
+
+/// The program, of which one command must stand. It has no help and no version.
+fn program<'a>(alloc: Global) -> Command<'a>
+    ensures { IsTree program_app result }
+{
+    Command::new(alloc, "xensched")
+        .no_binary_name(true)
+        .subcommand_required(true)
+        .disable_help_flag(true)
+        .disable_help_subcommand(true)
+}
+
+/// All commands.
+pub fn tree<'a>(alloc: Global) -> Result<Command<'a>, NoMemory>
+    ensures { IfOk result (IsTree tree_spec) }
+{
+    let program = program(alloc)
+        .subcommand(run(alloc, "run")?)?
+        .subcommand(run(alloc, "report")?)?
+        .subcommand(make(alloc)?)?
+        .subcommand(numbers(alloc, "load")?)?
+        .subcommand(check(alloc)?)?;
+    Ok(program)
+}
