@@ -12,9 +12,12 @@ pub enum ToolEvent {
 }
 
 impl ToolState {
-    ghost use Rattle.std.specs.Prelude.{◌≡◌, ◌<◌, Some, None, suc, length, slice_get};
+    ghost use Rattle.std.specs.Prelude.{◌≡◌, ◌<◌, ℕ, Some, None, Err, suc, length, slice_get};
     ghost use Rattle.sched_model.specs.declared.machine.Machine.{Machine};
     ghost use Rattle.sched_model.specs.declared.state.State.{State};
+    ghost use Rattle.sched_model.specs.declared.event.Refusal.{Refusal};
+    ghost use Rattle.sched_model.specs.declared.work.CommandLine.{CommandLine as Line};
+    ghost use Rattle.sched_model.specs.Machine.{verdict, after_command};
     ghost use Rattle.cpupool.specs.Tool.{tool_of};
     ghost use Rattle.cpupool.specs.Steps.{enabled_event, stall_comes as stall_comes_spec, command_comes as command_comes_spec, next_event};
 
@@ -73,6 +76,7 @@ impl ToolState {
         requires { self.old.part.next_stall < length self.old.stalls }
         ensures line { slice_get self.old.stalls self.old.part.next_stall ≡ Some result }
         ensures next { self.new ≡ record self.old { part = record self.old.part { next_stall = suc self.old.part.next_stall } } }
+        ensures state { (m : Machine) → (s : State) → tool_of m s ≡ self.old → self.new ≡ tool_of m (record s { next_stall = suc s.next_stall }) }
     {
         let line = self.stalls.as_slice()[self.next_stall as usize];
         self.next_stall += 1;
@@ -83,7 +87,9 @@ impl ToolState {
     pub fn refuse(&mut self)
         requires left { self.old.part.next_command < length self.old.commands }
         requires idle { self.old.part.under_way ≡ None }
-        ensures { self.new ≡ record self.old { part = record self.old.part { next_command = suc self.old.part.next_command } } }
+        ensures next { self.new ≡ record self.old { part = record self.old.part { next_command = suc self.old.part.next_command } } }
+        ensures state { (m : Machine) → (s : State) → (t : ℕ) → (line : Line) → (refusal : Refusal) → tool_of m s ≡ self.old → verdict m s line ≡ Err refusal
+            → self.new ≡ tool_of m (after_command m t line s) }
     {
         self.next_command += 1;
     }

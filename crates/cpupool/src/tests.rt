@@ -1,5 +1,10 @@
 //! Commands and their refusals, by hand.
 
+mod answer;
+mod cores_of_two;
+mod moves;
+mod replies;
+
 ghost use Rattle.sched_model.specs.Checked.{IsCheckedCommand};
 
 use crate::ToolState;
@@ -14,7 +19,7 @@ use sched_model::short::Short;
 use std::alloc::Global;
 use std::test::Fail;
 
-fn pool(kind: SchedKind, first: bool, second: bool, domain: Option<u8>) -> Outline {
+pub(crate) fn pool(kind: SchedKind, first: bool, second: bool, domain: Option<u8>) -> Outline {
     let mut cores = Short::new();
     cores.push(first);
     cores.push(second);
