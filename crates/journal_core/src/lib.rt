@@ -13,7 +13,11 @@ use sched_model::event::{Entry, Event};
 use sched_model::work::Work;
 use std::alloc::Global;
 use std::marker::Model;
+use std::mem::size_of;
 use std::snapshot::Snapshot;
+
+// An entry takes at most 64 bytes.
+const _: () = prove!(size_of::<Entry>() <= 64);
 
 /// The history of a run. It keeps of its input no more than which one it is, and takes all its memory when it is made.
 #[derive(Drop)]

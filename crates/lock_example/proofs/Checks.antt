@@ -1,6 +1,7 @@
 -- What is computed of the example.
 use Rattle.std.proofs.Common.{◌≡◌, ℕ, zero, suc, ◌<◌, ◌≢◌, Bool, true, false, true≢false, eqb, List, [], ◌∷◌, take, ◌++◌, ◌≤◌, length, sym, refl, ap, ◌∙◌, arith, ne_eqb, eqb-true}
-use Rattle.std.specs.Prelude.{◌&&◌, ◌||◌}
+use Rattle.std.specs.Prelude.{◌&&◌, ◌||◌, if◌then◌else◌}
+use Rattle.sched_model.specs.Places.{at_place}
 use mathlib.Core.Logic.{dite}
 use mathlib.Core.Option.{some, some-injective, some-ne-none}
 use native.Mathlib.Decide.{ℕ_discrete, dec_lt}
@@ -8,7 +9,7 @@ use lib.ListN.{get_elem?}
 use Rattle.sched_model.specs.declared.config.Config.{Config}
 use Rattle.sched_model.specs.declared.state.State.{State}
 use Rattle.sched_model.specs.declared.event.Entry.{Entry}
-use Rattle.journal_core.specs.Parts.{StatePart, part_of, lists, home_in}
+use Rattle.journal_core.specs.Parts.{StatePart, pool_part, tool_part, tool_of, part_of, lists, home_in}
 use Rattle.sched_model.specs.Runs.{IsNext}
 use Rattle.journal_core.specs.Histories.{part_at, home_at, now_at, decides_at, state_at, reached_by, NamesStandOnce}
 use Rattle.lock_moves.specs.declared.names.Names.{Names}
@@ -124,6 +125,13 @@ homes_second n small other = let test : ℕ → Bool = λ k. eqb k 1 || same_hom
     let all : all_below test 128 ≡ true = refl in
     eqb-true (home_in adding.config (state_at adding (take 1 two_entries)) n) (home_in adding.config (state_at adding two_entries) n)
     (sym (ap (λ b. b || same_homes (state_at adding (take 1 two_entries)) (state_at adding two_entries) n) (ne_eqb n 1 other)) ∙ at_each test 128 n all small)
+
+-- the first entry changes the tool's part alone
+pub parts_first : (k : ℕ) → k ≢ 16 → part_at adding (take 1 two_entries) k ≡ part_at adding [] k
+unfolding part_at
+parts_first k other = let old = state_at adding [] in let new = state_at adding (take 1 two_entries) in
+    ap (λ b. if b then tool_part (tool_of new) else pool_part (at_place new.pools k)) (ne_eqb k 16 other)
+    ∙ sym (ap (λ b. if b then tool_part (tool_of old) else pool_part (at_place old.pools k)) (ne_eqb k 16 other))
 
 pub home_before : home_at adding (take 1 two_entries) 1 ≡ 16
 unfolding home_at

@@ -1,9 +1,11 @@
 -- What a seat of the example has while it holds the first locks.
-use Rattle.std.specs.Prelude.{◌≡◌, ◌+◌, ◌<◌, ◌≤◌, ℕ, eqb, List, None, Some}
+use Rattle.std.specs.Prelude.{◌≡◌, ◌≢◌, ◌⊎◌, ◌+◌, ◌<◌, ◌≤◌, ℕ, eqb, List, None, Some, length}
+use mathlib.Core.List.{IsPrefix}
 use mathlib.Core.Option.{some}
 use lib.ListN.{get_elem?}
 use Rattle.sched_model.specs.declared.event.Entry.{Entry}
 use Rattle.journal_core.specs.Histories.{part_at, home_at}
+use Rattle.journal_core.specs.Books.{Chronicle}
 use Rattle.lock_moves.specs.Sight.{Known, Seen, Sitting, find_lock, has_place, Holds}
 use Rattle.lock_moves.specs.Sets.{LockTable, Taken}
 use Rattle.lock_example.specs.declared.counter.Counter.{Counter}
@@ -34,3 +36,15 @@ pub record KnowsBelow (n : ℕ) (h : List Entry) (v : Seen) : Type 0 where
 -- the values are those of the locks from `first` on, in order
 abbrev pub AreFrom : ℕ → List (Taken Counter) → Type 0
 AreFrom first values = (i : ℕ) (x : Taken Counter) → get_elem? values i ≡ some x → x.lock ≡ first + i
+
+-- the book's history is not h, or the book has no room for a further entry
+abbrev pub Differs : List Entry → Chronicle → Type 0
+Differs h b = (b.history ≢ h) ⊎ (b.limit ≤ length b.history)
+
+-- the seat has taken the book b and knows its limit and its history, which begins with h; and it is not h, or the book has no room for a further entry
+pub record StopsAt (set : LockTable) (h : List Entry) (n : ℕ) (b : Chronicle) (s : Sitting) : Type 0 where
+  pub stands : Stands set b.history n s
+  pub input : b.input ≡ adding
+  pub limit : b.limit ≡ s.view.limit
+  pub begins : IsPrefix h b.history
+  pub cause : Differs h b

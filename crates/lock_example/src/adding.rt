@@ -1,12 +1,12 @@
 //! The run of the example: under all locks, the command is done, and the core moves.
 
-ghost use Rattle.std.specs.Prelude.{◌≡◌, ◌+◌, ◌<◌, ◌≤◌, [], IsTrue, IfSome, MatchBool, length, take, vec_capacity};
+ghost use Rattle.std.specs.Prelude.{◌≡◌, ◌+◌, ◌<◌, ◌≤◌, ◌⊎◌, [], IsFalse, IfOk, IfErr, OnOk, MatchBool, length, take, vec_capacity};
 ghost use mathlib.Core.List.{IsPrefix};
 ghost use Rattle.lock_example.specs.Example.{adding, has_moved, is_added, two_entries};
-ghost use Rattle.lock_example.specs.Holding.{AreFrom, HoldsBelow, KnowsBelow, Stands};
+ghost use Rattle.lock_example.specs.Holding.{AreFrom, HoldsBelow, KnowsBelow, Stands, Differs, StopsAt};
 
 use crate::counter::Counter;
-use lock_moves::{Held, HeldBook, LockId, LockSeat, LockSet, NameId};
+use lock_moves::{Held, HeldBook, LockId, LockSeat, LockSet, NameId, WordId};
 use sched_base::{Moment, PoolId, ResId};
 use sched_model::event::{Entry, Event, Reply};
 use std::sync::Wait;
@@ -69,10 +69,12 @@ fn put_last(set: &LockSet<Counter>, seat: &mut LockSeat, held: Held<Counter>)
 }
 
 // Adds the first entry, where the history is empty and has room.
-fn write_first(book: &mut HeldBook) -> bool
+pub(crate) fn write_first(book: &mut HeldBook) -> bool
     requires input { book.old.input ≡ adding }
     ensures input { book.new.input ≡ book.old.input }
+    ensures limit { book.new.limit ≡ book.old.limit }
     ensures written { MatchBool result ((book.old.history ≡ []) × (book.new.history ≡ take 1 two_entries)) (book.new ≡ book.old) }
+    ensures refused { IsFalse result → Differs [] book.old }
 {
     if book.get().len() != 0 || !book.get().room_left() {
         return false;
@@ -86,7 +88,9 @@ fn write_second(book: &mut HeldBook) -> bool
     requires input { book.old.input ≡ adding }
     requires begins { IsPrefix (take 1 two_entries) book.old.history }
     ensures input { book.new.input ≡ book.old.input }
+    ensures limit { book.new.limit ≡ book.old.limit }
     ensures written { MatchBool result ((book.old.history ≡ take 1 two_entries) × (book.new.history ≡ two_entries)) (book.new ≡ book.old) }
+    ensures refused { IsFalse result → Differs (take 1 two_entries) book.old }
 {
     if book.get().len() != 1 || !book.get().room_left() {
         return false;
@@ -95,46 +99,58 @@ fn write_second(book: &mut HeldBook) -> bool
     true
 }
 
-// Takes the book and adds the first entry, where the history is empty and has room. Otherwise the book stays taken.
-fn add_first<R: Wait>(rt: &R, set: &LockSet<Counter>, seat: &mut LockSeat) -> bool
+// Takes the book and adds the first entry, where the history is empty and has room. Otherwise the answer is the book, which stays taken.
+fn add_first<R: Wait>(rt: &R, set: &LockSet<Counter>, seat: &mut LockSeat) -> Result<(), HeldBook>
     requires stands { Stands set.now [] seat.old.view.shares seat.old }
     requires below { HoldsBelow 17 seat.old.view }
-    ensures stands { IsTrue result → Stands set.now (take 1 two_entries) seat.old.view.shares seat.new }
-    ensures below { IsTrue result → KnowsBelow 17 (take 1 two_entries) seat.new.view }
+    ensures stands { OnOk result (Stands set.now (take 1 two_entries) seat.old.view.shares seat.new) }
+    ensures below { OnOk result (KnowsBelow 17 (take 1 two_entries) seat.new.view) }
+    ensures refused { IfErr result (λ b. StopsAt set.now [] seat.old.view.shares b seat.new) }
 {
     let mut book = set.take_book(rt, seat);
     if !write_first(&mut book) {
-        return false;
+        return Err(book);
     }
     set.commit(seat, book);
-    true
+    Ok(())
 }
 
 // Takes the book, moves core 1 from the tool's part to that of the pool, and adds the second entry, where the history has the first alone
-// and has room. Otherwise the book stays taken.
+// and has room. Otherwise the answer is the book, which stays taken.
 fn add_second<R: Wait>(
     rt: &R,
     set: &LockSet<Counter>,
     seat: &mut LockSeat,
     tool: &mut Held<Counter>,
     pool: &mut Held<Counter>,
-) -> bool
+) -> Result<(), HeldBook>
     requires tool { tool.old.lock ≡ 16 }
     requires pool { pool.old.lock ≡ 0 }
     requires stands { Stands set.now (take 1 two_entries) seat.old.view.shares seat.old }
     requires below { KnowsBelow 17 (take 1 two_entries) seat.old.view }
     ensures tool { tool.new ≡ tool.old }
     ensures pool { pool.new ≡ pool.old }
-    ensures stands { IsTrue result → Stands set.now two_entries seat.old.view.shares seat.new }
-    ensures below { IsTrue result → KnowsBelow 17 two_entries seat.new.view }
+    ensures stands { OnOk result (Stands set.now two_entries seat.old.view.shares seat.new) }
+    ensures below { OnOk result (KnowsBelow 17 two_entries seat.new.view) }
+    ensures refused { IfErr result (λ b. StopsAt set.now (take 1 two_entries) seat.old.view.shares b seat.new) }
 {
     let mut book = set.take_book(rt, seat);
     if !write_second(&mut book) {
-        return false;
+        return Err(book);
     }
     set.move_name(seat, NameId::Res(ResId(1)), tool, pool);
     set.commit(seat, book);
-    true
+    Ok(())
+}
+
+// The lock of core 1 after the run, by its word.
+fn new_home(set: &LockSet<Counter>, seat: &mut LockSeat) -> u64
+    requires stands { Stands set.now two_entries seat.old.view.shares seat.old }
+    requires below { KnowsBelow 17 two_entries seat.old.view }
+    ensures pool { result ≡ 0 }
+    ensures same { seat.new ≡ seat.old }
+{
+    set.read_word(seat, WordId::Name(NameId::Res(ResId(1))))
 }
 
 // Takes the locks after the first, in order.
@@ -173,34 +189,39 @@ fn put_rest(set: &LockSet<Counter>, seat: &mut LockSeat, held: Vec<Held<Counter>
     }
 }
 
-/// Takes all locks in order, does the two entries of the run, and puts all locks back. `room` is empty, with room for 16 values.
-/// The answer is none where the history was not the run's before, or had no room for the two; then what was taken stays taken.
+/// Takes all locks in order, does the two entries of the run, reads the word of core 1, and puts all locks back. The answer is what the word was.
+/// `room` is empty, with room for 16 values. Where the book had other entries, or no room for a further one, the answer is the book,
+/// and what was taken stays taken.
 pub fn add_core<R: Wait>(
     rt: &R,
     set: &LockSet<Counter>,
-    seat: LockSeat,
+    seat: &mut LockSeat,
     room: Vec<Held<Counter>>,
-) -> Option<LockSeat>
-    requires stands { Stands set.now [] seat.view.shares seat }
-    requires nothing { seat.view.held ≡ [] }
+) -> Result<u64, HeldBook>
+    requires stands { Stands set.now [] seat.old.view.shares seat.old }
+    requires nothing { seat.old.view.held ≡ [] }
     requires empty { room.items ≡ [] }
     requires room { 16 ≤ vec_capacity room }
-    ensures stands { IfSome result (λ s. Stands set.now two_entries seat.view.shares s) }
-    ensures nothing { IfSome result (λ s. s.view.held ≡ []) }
+    ensures home { IfOk result (λ lock. lock ≡ 0) }
+    ensures stands { OnOk result (Stands set.now two_entries seat.old.view.shares seat.new) }
+    ensures nothing { OnOk result (seat.new.view.held ≡ []) }
+    ensures refused { IfErr result (λ b. StopsAt set.now [] seat.old.view.shares b seat.new ⊎ StopsAt set.now (take 1 two_entries) seat.old.view.shares b seat.new) }
 {
-    let mut seat = seat;
     let mut held = room;
-    let mut pool = take_next(rt, set, &mut seat, 0);
-    take_rest(rt, set, &mut seat, &mut held);
-    if !add_first(rt, set, &mut seat) {
-        return None;
+    let mut pool = take_next(rt, set, seat, 0);
+    take_rest(rt, set, seat, &mut held);
+    if let Err(book) = add_first(rt, set, seat) {
+        return Err(book);
     }
-    let mut tool = held.pop()?;
-    if !add_second(rt, set, &mut seat, &mut tool, &mut pool) {
-        return None;
+    let Some(mut tool) = held.pop() else {
+        unreachable!()
+    };
+    if let Err(book) = add_second(rt, set, seat, &mut tool, &mut pool) {
+        return Err(book);
     }
-    put_last(set, &mut seat, tool);
-    put_rest(set, &mut seat, held);
-    put_last(set, &mut seat, pool);
-    Some(seat)
+    let home = new_home(set, seat);
+    put_last(set, seat, tool);
+    put_rest(set, seat, held);
+    put_last(set, seat, pool);
+    Ok(home)
 }

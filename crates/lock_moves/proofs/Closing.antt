@@ -27,16 +27,16 @@ two_of (x ∷ xs) zero (suc j) v u ne e f = let is = ap (λ (u : View). u.seen.s
 two_of (x ∷ xs) (suc i) zero v u ne e f = let is = ap (λ (u : View). u.seen.shares) (some-injective x u f) in let r = at_least xs i v e in omega (arith, is, r)
 two_of (x ∷ xs) (suc i) (suc j) v u ne e f = let r = two_of xs i j v u (λ q. ne (ap suc q)) e f in omega (arith, r)
 
-module _ {V : Type 0} (part : V → StatePart) (m : Machine) (base : ℕ) where
+module _ {V : Type 0} (part : V → StatePart) (m : Machine) (limit base : ℕ) where
   abbrev pub Leaves : View → List (Content V) → Type 0
-  Leaves v xs = (b : Chronicle) × (get_elem? xs 17 ≡ some (Ledger b)) × (b.input ≡ v.seen.input) × (b.history ≡ v.seen.front) × ((p : ℕ) → base ≤ p → p < length v.seen.front → has_place p v.seen.own ≡ true)
+  Leaves v xs = (b : Chronicle) × (get_elem? xs 17 ≡ some (Ledger b)) × (b.input ≡ v.seen.input) × (b.history ≡ v.seen.front) × (b.limit ≡ v.seen.limit) × ((p : ℕ) → base ≤ p → p < length v.seen.front → has_place p v.seen.own ≡ true)
 
-  ledger_there : (h : List Entry) (y : Content V) → Fits part m h 17 y → (b : Chronicle) × (y ≡ Ledger b) × (b.input ≡ m) × (b.history ≡ h)
+  ledger_there : (h : List Entry) (y : Content V) → Fits part m limit h 17 y → (b : Chronicle) × (y ≡ Ledger b) × (b.input ≡ m) × (b.history ≡ h) × (b.limit ≡ limit)
   ledger_there h Out fits = absurd fits
   ledger_there h (Value x) fits = absurd (lt_irrefl 17 fits.0)
-  ledger_there h (Ledger b) fits = (b, refl, fits.1, fits.2)
+  ledger_there h (Ledger b) fits = (b, refl, fits.1, fits.2, fits.3)
 
-  pub leaves : (words : List ℕ) (xs : List (Content V)) (id : ℕ) (v : View) → Final (Seen (Agrees part m base) id v) words xs → v.seen.shares ≡ 1024 → v.seen.held ≡ [] → Leaves v xs
+  pub leaves : (words : List ℕ) (xs : List (Content V)) (id : ℕ) (v : View) → Final (Seen (Agrees part m limit base) id v) words xs → v.seen.shares ≡ 1024 → v.seen.held ≡ [] → Leaves v xs
   leaves words xs id v f whole none_held = let s = f.0 in let r = f.1.0 in let at = f.1.1 in
       let single : (j : ℕ) (u : View) → get_elem? s.views j ≡ some u → 0 < u.seen.shares → j ≡ id = λ j u e left. dite (ℕ_discrete id j)
       (λ is. sym is)
@@ -52,6 +52,7 @@ module _ {V : Type 0} (part : V → StatePart) (m : Machine) (base : ℕ) where
         f.4 17 (Ledger b.0) (y.1 ∙ ap (λ (z : Content V). some (some z)) b.1),
         b.2 ∙ sym is_m,
         b.3 ∙ sym front,
+        b.4 ∙ sym (r.fronts.limits id v at (omega (arith, whole))),
         λ p l g. let c = r.fronts.covers p l (subst (λ (z : List Entry). p < length z) front g) in dite (ℕ_discrete c.0.seen.shares 0)
             (λ spent. absurd (true≢false (sym (sym (ap (has_place p) (r.fronts.spent (r.keeper p) c.0 c.1 spent).0) ∙ c.2))))
             (λ left. ap (λ (u : View). has_place p u.seen.own) (sym (same (r.keeper p) c.0 c.1 (single (r.keeper p) c.0 c.1 (omega (arith, left))))) ∙ c.2),

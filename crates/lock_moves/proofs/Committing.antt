@@ -27,11 +27,12 @@ use Rattle.lock_moves.proofs.Prefix.{prefix_refl, prefix_more, prefix_length, le
 use Rattle.lock_moves.proofs.Taking.{owned_by, owned_here, owned_else, still}
 
 -- the seat id adds the entry e
-fronts_extended : (m : Machine) (base : ℕ) (views : List View) (h : List Entry) (keeper : ℕ → ℕ) (latest id : ℕ) (v w : View) (e : Entry) → Fronts m base views h keeper latest → get_elem? views id ≡ some v
-    → v.seen.front ≡ h → w.seen.input ≡ v.seen.input → w.seen.front ≡ h ++ e ∷ [] → w.seen.own ≡ v.seen.own ++ length h ∷ [] → 0 < v.seen.shares → 0 < w.seen.shares
-    → Fronts m base (set views id w) (h ++ e ∷ []) (owned_by keeper (length h) id) id
-fronts_extended m base views h keeper latest id v w e f at whole input front own old_left some_left = let n : ℕ = length h in let more = length_one_more h e in record {
+fronts_extended : (m : Machine) (limit base : ℕ) (views : List View) (h : List Entry) (keeper : ℕ → ℕ) (latest id : ℕ) (v w : View) (e : Entry) → Fronts m limit base views h keeper latest → get_elem? views id ≡ some v
+    → v.seen.front ≡ h → w.seen.input ≡ v.seen.input → w.seen.limit ≡ v.seen.limit → w.seen.front ≡ h ++ e ∷ [] → w.seen.own ≡ v.seen.own ++ length h ∷ [] → 0 < v.seen.shares → 0 < w.seen.shares
+    → Fronts m limit base (set views id w) (h ++ e ∷ []) (owned_by keeper (length h) id) id
+fronts_extended m limit base views h keeper latest id v w e f at whole input limited front own old_left some_left = let n : ℕ = length h in let more = length_one_more h e in record {
   same = set_all (λ _ u. 0 < u.seen.shares → u.seen.input ≡ m) views id w (λ _. input ∙ f.same id v at old_left) (λ j u _ e. f.same j u e);
+  limits = set_all (λ _ u. 0 < u.seen.shares → u.seen.limit ≡ limit) views id w (λ _. limited ∙ f.limits id v at old_left) (λ j u _ e. f.limits j u e);
   begins = set_all (λ _ u. Begins (h ++ e ∷ []) u) views id w (subst (λ z. IsPrefix z (h ++ e ∷ [])) (sym front) (prefix_refl (h ++ e ∷ []))) (λ j u _ q. prefix_more u.seen.front h e (f.begins j u q));
   own = λ j u p q. set_all (λ j u. (p : ℕ) → has_place p u.seen.own ≡ true → (owned_by keeper n id p ≡ j) × (p < length u.seen.front)) views id w
       (λ p is. dite (ℕ_discrete p n)
@@ -49,22 +50,22 @@ fronts_extended m base views h keeper latest id v w e f at whole input front own
   spent = set_all (λ _ u. u.seen.shares ≡ 0 → (u.seen.own ≡ []) × (u.seen.held ≡ [])) views id w (λ none_left. absurd (lt_irrefl 0 (subst (λ (z : ℕ). 0 < z) none_left some_left))) (λ j u _ q. f.spent j u q);
 }
 
-recorded : (m : Machine) (base : ℕ) (views : List View) (h : List Entry) (keeper : ℕ → ℕ) (latest id : ℕ) (v : View) (h' : List Entry) → Fronts m base views h keeper latest → get_elem? views id ≡ some v
-    → v.seen.front ≡ h → 0 < v.seen.shares → Next v.seen.front h' → (keeper' : ℕ → ℕ) × (latest' : ℕ) × Fronts m base (set views id (view_committed h' v)) h' keeper' latest'
-recorded m base views h keeper latest id v h' f at whole left (inl none_new) = (
+recorded : (m : Machine) (limit base : ℕ) (views : List View) (h : List Entry) (keeper : ℕ → ℕ) (latest id : ℕ) (v : View) (h' : List Entry) → Fronts m limit base views h keeper latest → get_elem? views id ≡ some v
+    → v.seen.front ≡ h → 0 < v.seen.shares → Next v.seen.front h' → (keeper' : ℕ → ℕ) × (latest' : ℕ) × Fronts m limit base (set views id (view_committed h' v)) h' keeper' latest'
+recorded m limit base views h keeper latest id v h' f at whole left (inl none_new) = (
   keeper,
   latest,
-  subst (λ z. Fronts m base (set views id (view_committed h' v)) z keeper latest) (sym whole' ∙ sym none_new)
-      (fronts_same m base views h keeper latest id v (view_committed h' v) f at refl none_new (ap (λ b. cond b v.seen.own (v.seen.own ++ length v.seen.front ∷ [])) (eq-eqb (length h') (length v.seen.front) (ap length none_new))) left left),
+  subst (λ z. Fronts m limit base (set views id (view_committed h' v)) z keeper latest) (sym whole' ∙ sym none_new)
+      (fronts_same m limit base views h keeper latest id v (view_committed h' v) f at refl refl none_new (ap (λ b. cond b v.seen.own (v.seen.own ++ length v.seen.front ∷ [])) (eq-eqb (length h') (length v.seen.front) (ap length none_new))) left left),
 )
   where
     whole' : v.seen.front ≡ h
     whole' = whole
-recorded m base views h keeper latest id v h' f at whole left (inr new) = let more = length_one_more v.seen.front new.0 in let len = ap length new.1 in (
+recorded m limit base views h keeper latest id v h' f at whole left (inr new) = let more = length_one_more v.seen.front new.0 in let len = ap length new.1 in (
   owned_by keeper (length h) id,
   id,
-  subst (λ z. Fronts m base (set views id (view_committed h' v)) z (owned_by keeper (length h) id) id) (sym is)
-      (fronts_extended m base views h keeper latest id v (view_committed h' v) new.0 f at whole refl is
+  subst (λ z. Fronts m limit base (set views id (view_committed h' v)) z (owned_by keeper (length h) id) id) (sym is)
+      (fronts_extended m limit base views h keeper latest id v (view_committed h' v) new.0 f at whole refl refl is
       (ap (λ b. cond b v.seen.own (v.seen.own ++ length v.seen.front ∷ [])) (ne_eqb (length h') (length v.seen.front) (λ e. absurd (omega (arith, e, more, len)))) ∙ ap (λ (z : List Entry). v.seen.own ++ length z ∷ []) whole) left left),
 )
   where
@@ -81,11 +82,11 @@ option_case : (P : Option Known → Type 0) (o : Option Known) → P None → ((
 option_case P None none_is some_is = none_is
 option_case P (Some x) none_is some_is = some_is x
 
-module _ {V : Type 0} (part : V → StatePart) (m : Machine) (base : ℕ) where
+module _ {V : Type 0} (part : V → StatePart) (m : Machine) (limit base : ℕ) where
   abbrev Mine : Type 0
   Mine = Me (Content V) View
 
-  still_fits : (h h' : List Entry) (j : ℕ) (y : Content V) → j ≢ 17 → (j < 17 → part_at m h' j ≡ part_at m h j) → Fits part m h j y → Fits part m h' j y
+  still_fits : (h h' : List Entry) (j : ℕ) (y : Content V) → j ≢ 17 → (j < 17 → part_at m h' j ≡ part_at m h j) → Fits part m limit h j y → Fits part m limit h' j y
   still_fits h h' j Out ne same fits = absurd fits
   still_fits h h' j (Value x) ne same fits = (fits.0, fits.1 ∙ sym (same fits.0))
   still_fits h h' j (Ledger b) ne same fits = absurd (ne fits.0)
@@ -98,9 +99,9 @@ module _ {V : Type 0} (part : V → StatePart) (m : Machine) (base : ℕ) where
   first_ledger d [] = d
   first_ledger d (x ∷ xs) = ledger_or d x.1
 
-  commits : (slots id : ℕ) (v : View) (b : Chronicle) (z : Known) → v.out ≡ 18 → find_lock 17 v.seen.held ≡ Some z → 0 < v.seen.shares → b.input ≡ v.seen.input → Next v.seen.front b.history → Kept v.seen b.history → Placed v.seen b.history → Decided v.seen b.history → IsSound v.seen.input b.history
-      → Allows (Agrees part m base) slots id (v, (17, Ledger b) ∷ []) 17 (λ _. 0) (λ _. committed (step slots 17 0 0 none) (v, (17, Ledger b) ∷ []) 0)
-  commits slots id v b z away found left input next kept placed decided sound' s r deep at small =
+  commits : (slots id : ℕ) (v : View) (b : Chronicle) (z : Known) → v.out ≡ 18 → find_lock 17 v.seen.held ≡ Some z → 0 < v.seen.shares → b.input ≡ v.seen.input → b.limit ≡ v.seen.limit → Next v.seen.front b.history → Kept v.seen b.history → Placed v.seen b.history → Decided v.seen b.history → IsSound v.seen.input b.history
+      → Allows (Agrees part m limit base) slots id (v, (17, Ledger b) ∷ []) 17 (λ _. 0) (λ _. committed (step slots 17 0 0 none) (v, (17, Ledger b) ∷ []) 0)
+  commits slots id v b z away found left input limited next kept placed decided sound' s r deep at small =
       let h : List Entry = r.history in let h' : List Entry = b.history in let w : View = view_committed h' v in let wide = r.wide in
       let words' : List ℕ = set s.words 17 0 in let homes' = set s.homes 17 (some (Ledger b)) in
       let old = r.locks.held id v 17 z at found in let is_m : v.seen.input ≡ m = r.fronts.same id v at left in let whole : v.seen.front ≡ h = old.book refl in let sound : IsSound m h' = subst (λ (q : Machine). IsSound q h') is_m sound' in
@@ -124,7 +125,7 @@ module _ {V : Type 0} (part : V → StatePart) (m : Machine) (base : ℕ) where
       (λ y e. let t = find-refreshed v.seen.input h' 17 (without 17 v.seen.held) y e in never t.0 (sym (find-without-same 17 v.seen.held) ∙ t.1))
       (λ i u other e x q. other (sym (r.locks.held i u 17 x e q).owned ∙ old.owned))
       i u e x q in
-      let f = recorded m base s.views h r.keeper r.latest id v h' r.fronts at whole left next in (
+      let f = recorded m limit base s.views h r.keeper r.latest id v h' r.fronts at whole left next in (
         w,
         gives,
         tt,
@@ -138,7 +139,7 @@ module _ {V : Type 0} (part : V → StatePart) (m : Machine) (base : ℕ) where
           deep = length-set s.homes 17 (some (Ledger b)) ∙ r.deep;
           locks = record {
             free = λ j l e. dite (ℕ_discrete j 17)
-                (λ is. (Ledger b, ap (get_elem? homes') is ∙ set_here s.homes 17 (some (Ledger b)) (omega (arith, r.deep)), (is, input ∙ is_m, refl)))
+                (λ is. (Ledger b, ap (get_elem? homes') is ∙ set_here s.homes 17 (some (Ledger b)) (omega (arith, r.deep)), (is, input ∙ is_m, refl, limited ∙ r.fronts.limits id v at left)))
                 (λ ne. let e' : get_or s.words j 0 ≡ 0 = sym (get_or-set_other s.words 17 j 0 0 ne) ∙ e in let t = r.locks.free j l e' in (
                   t.0,
                   set_else s.homes 17 j (some (Ledger b)) ne ∙ t.1,
@@ -202,7 +203,7 @@ module _ {V : Type 0} (part : V → StatePart) (m : Machine) (base : ℕ) where
         λ b' is. ap (λ (q : Chronicle). (view_committed q.history v, [])) (ap (first_ledger b) is),
       )
 
-  pub commits_at : (slots id : ℕ) (me : Mine) (v : View) (b : Chronicle) (z : Known) → me ≡ (v, (17, Ledger b) ∷ []) → v.out ≡ 18 → find_lock 17 v.seen.held ≡ Some z → 0 < v.seen.shares → b.input ≡ v.seen.input → Next v.seen.front b.history
-      → Kept v.seen b.history → Placed v.seen b.history → Decided v.seen b.history → IsSound v.seen.input b.history → Allows (Agrees part m base) slots id me 17 (λ _. 0) (λ _. committed (step slots 17 0 0 none) me 0)
-  commits_at slots id me v b z is away found left input next kept placed decided sound' =
-      subst (λ (q : Mine). Allows (Agrees part m base) slots id q 17 (λ _. 0) (λ _. committed (step slots 17 0 0 none) q 0)) (sym is) (commits slots id v b z away found left input next kept placed decided sound')
+  pub commits_at : (slots id : ℕ) (me : Mine) (v : View) (b : Chronicle) (z : Known) → me ≡ (v, (17, Ledger b) ∷ []) → v.out ≡ 18 → find_lock 17 v.seen.held ≡ Some z → 0 < v.seen.shares → b.input ≡ v.seen.input → b.limit ≡ v.seen.limit → Next v.seen.front b.history
+      → Kept v.seen b.history → Placed v.seen b.history → Decided v.seen b.history → IsSound v.seen.input b.history → Allows (Agrees part m limit base) slots id me 17 (λ _. 0) (λ _. committed (step slots 17 0 0 none) me 0)
+  commits_at slots id me v b z is away found left input limited next kept placed decided sound' =
+      subst (λ (q : Mine). Allows (Agrees part m limit base) slots id q 17 (λ _. 0) (λ _. committed (step slots 17 0 0 none) q 0)) (sym is) (commits slots id v b z away found left input limited next kept placed decided sound')

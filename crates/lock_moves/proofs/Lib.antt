@@ -11,3 +11,4 @@ pub mod Naming
 pub mod Opening
 pub mod Closing
 pub mod Staging
+pub mod Crossing

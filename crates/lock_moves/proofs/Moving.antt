@@ -26,10 +26,11 @@ abbrev pub Begins : List Entry → View → Type 0
 Begins h u = IsPrefix u.seen.front h
 
 -- a seat whose front stays or becomes the history, and whose places stay
-pub fronts_grown : (m : Machine) (base : ℕ) (views : List View) (h : List Entry) (keeper : ℕ → ℕ) (latest id : ℕ) (v w : View) → Fronts m base views h keeper latest → get_elem? views id ≡ some v
-    → w.seen.input ≡ v.seen.input → IsPrefix w.seen.front h → length v.seen.front ≤ length w.seen.front → (v.seen.front ≡ h → w.seen.front ≡ h) → w.seen.own ≡ v.seen.own → 0 < v.seen.shares → 0 < w.seen.shares → Fronts m base (set views id w) h keeper latest
-fronts_grown m base views h keeper latest id v w f at input pre longer whole own old_left some_left = record {
+pub fronts_grown : (m : Machine) (limit base : ℕ) (views : List View) (h : List Entry) (keeper : ℕ → ℕ) (latest id : ℕ) (v w : View) → Fronts m limit base views h keeper latest → get_elem? views id ≡ some v
+    → w.seen.input ≡ v.seen.input → w.seen.limit ≡ v.seen.limit → IsPrefix w.seen.front h → length v.seen.front ≤ length w.seen.front → (v.seen.front ≡ h → w.seen.front ≡ h) → w.seen.own ≡ v.seen.own → 0 < v.seen.shares → 0 < w.seen.shares → Fronts m limit base (set views id w) h keeper latest
+fronts_grown m limit base views h keeper latest id v w f at input limited pre longer whole own old_left some_left = record {
   same = set_all (λ _ u. 0 < u.seen.shares → u.seen.input ≡ m) views id w (λ _. input ∙ f.same id v at old_left) (λ j u _ e. f.same j u e);
+  limits = set_all (λ _ u. 0 < u.seen.shares → u.seen.limit ≡ limit) views id w (λ _. limited ∙ f.limits id v at old_left) (λ j u _ e. f.limits j u e);
   begins = set_all (λ _ u. Begins h u) views id w pre (λ j u _ e. f.begins j u e);
   own = λ j u p e. set_all (λ j u. (p : ℕ) → has_place p u.seen.own ≡ true → (keeper p ≡ j) × (p < length u.seen.front)) views id w
       (λ p is. let t = f.own id v p at (ap (has_place p) (sym own) ∙ is) in (t.0, omega (arith, t.1, longer)))
@@ -41,9 +42,9 @@ fronts_grown m base views h keeper latest id v w f at input pre longer whole own
 }
 
 -- a seat whose front and places stay
-pub fronts_same : (m : Machine) (base : ℕ) (views : List View) (h : List Entry) (keeper : ℕ → ℕ) (latest id : ℕ) (v w : View) → Fronts m base views h keeper latest → get_elem? views id ≡ some v
-    → w.seen.input ≡ v.seen.input → w.seen.front ≡ v.seen.front → w.seen.own ≡ v.seen.own → 0 < v.seen.shares → 0 < w.seen.shares → Fronts m base (set views id w) h keeper latest
-fronts_same m base views h keeper latest id v w f at input front own old_left some_left = fronts_grown m base views h keeper latest id v w f at input
+pub fronts_same : (m : Machine) (limit base : ℕ) (views : List View) (h : List Entry) (keeper : ℕ → ℕ) (latest id : ℕ) (v w : View) → Fronts m limit base views h keeper latest → get_elem? views id ≡ some v
+    → w.seen.input ≡ v.seen.input → w.seen.limit ≡ v.seen.limit → w.seen.front ≡ v.seen.front → w.seen.own ≡ v.seen.own → 0 < v.seen.shares → 0 < w.seen.shares → Fronts m limit base (set views id w) h keeper latest
+fronts_same m limit base views h keeper latest id v w f at input limited front own old_left some_left = fronts_grown m limit base views h keeper latest id v w f at input limited
     (subst (λ z. IsPrefix z h) (sym front) (f.begins id v at)) (le_of_eq (ap length (sym front))) (λ e. front ∙ e) own old_left some_left
 
 pub shares_same : (l : List View) (i : ℕ) (v w : View) → get_elem? l i ≡ some v → w.seen.shares ≡ v.seen.shares → shares_of l ≡ 1024 → shares_of (set l i w) ≡ 1024
@@ -88,17 +89,17 @@ module _ {V : Type 0} (part : V → StatePart) (m : Machine) (h : List Entry) wh
   }
 
   -- the lock k, the seat id and its view change, and no other lock
-  pub locks_step : (words words' : List ℕ) (homes homes' : Slots) (views : List View) (owner owner' : ℕ → ℕ) (k id : ℕ) (v w : View) → Locks part m words homes views h owner
+  pub locks_step : (limit : ℕ) (words words' : List ℕ) (homes homes' : Slots) (views : List View) (owner owner' : ℕ → ℕ) (k id : ℕ) (v w : View) → Locks part m limit words homes views h owner
       → get_elem? views id ≡ some v
       → ((j : ℕ) → j ≢ k → (get_or words' j 0 ≡ get_or words j 0) × (get_elem? homes' j ≡ get_elem? homes j) × (owner' j ≡ owner j) × (find_lock j w.seen.held ≡ find_lock j v.seen.held) × (j ≡ 17 → w.seen.front ≡ v.seen.front) × (v.out ≢ suc j))
       → ((j : ℕ) (u : View) (x : Known) → j ≢ id → get_elem? views j ≡ some u → find_lock k u.seen.held ≡ Some x → ⊥)
-      → (k < 18 → get_or words' k 0 ≡ 0 → (y : Content V) × (get_elem? homes' k ≡ some (some y)) × Fits part m h k y)
+      → (k < 18 → get_or words' k 0 ≡ 0 → (y : Content V) × (get_elem? homes' k ≡ some (some y)) × Fits part m limit h k y)
       → (k < 18 → get_or words' k 0 ≢ 0 → (owner' k ≡ id) × Holds k w.seen)
       → ((x : Known) → find_lock k w.seen.held ≡ Some x → Has part m words' homes' h owner' id w k x)
-      → Locks part m words' homes' (set views id w) h owner'
-  locks_step words words' homes homes' views owner owner' k id v w r at others nobody free taken here = record {
+      → Locks part m limit words' homes' (set views id w) h owner'
+  locks_step limit words words' homes homes' views owner owner' k id v w r at others nobody free taken here = record {
     free = λ j l z. dite (ℕ_discrete j k)
-        (λ is. subst (λ (n : ℕ). (y : Content V) × (get_elem? homes' n ≡ some (some y)) × Fits part m h n y) (sym is) (free (subst (λ (n : ℕ). n < 18) is l) (ap (λ (n : ℕ). get_or words' n 0) (sym is) ∙ z)))
+        (λ is. subst (λ (n : ℕ). (y : Content V) × (get_elem? homes' n ≡ some (some y)) × Fits part m limit h n y) (sym is) (free (subst (λ (n : ℕ). n < 18) is l) (ap (λ (n : ℕ). get_or words' n 0) (sym is) ∙ z)))
         (λ ne. let o = others j ne in let t = r.free j l (sym o.0 ∙ z) in (t.0, o.1 ∙ t.1, t.2));
     taken = λ j l nz. dite (ℕ_discrete j k)
         (λ is. let t = taken (subst (λ (n : ℕ). n < 18) is l) (λ z. nz (ap (λ (n : ℕ). get_or words' n 0) is ∙ z)) in (

@@ -37,7 +37,7 @@ module _ {V : Type 0} (part : V → StatePart) (b : Chronicle) (values : List V)
   abbrev slots : List (Content V)
   slots = map Value values ++ Ledger b ∷ []
 
-  pub agrees_first : AreParts part b values → IsSound b.input b.history → IsOpening b words → Agrees part b.input (length b.history) (opening words slots (view_opening b))
+  pub agrees_first : AreParts part b values → IsSound b.input b.history → IsOpening b words → Agrees part b.input b.limit (length b.history) (opening words slots (view_opening b))
   agrees_first m sound o = let v : View = view_opening b in let h : List Entry = b.history in
       let len : length (map Value values) ≡ 17 = length-map values Value ∙ m.all in
       let value : (k : ℕ) → k < 17 → (x : V) × (get_elem? values k ≡ some x) × (get_elem? (map some slots) k ≡ some (some (Value x))) = λ k low. let t = there_is values k (omega (arith, low, m.all)) in
@@ -52,7 +52,7 @@ module _ {V : Type 0} (part : V → StatePart) (b : Chronicle) (values : List V)
         deep = length-map slots some ∙ (length-append (map Value values) (Ledger b ∷ []) ∙ omega (arith, len));
         locks = record {
           free = λ k low _. dite (ℕ_discrete k 17)
-              (λ is. (Ledger b, (λ i. get_elem? (map some slots) (is i)) ∙ at_map some slots 17 (Ledger b) (at_last (map Value values) (Ledger b) 17 len), (is, refl, refl)))
+              (λ is. (Ledger b, (λ i. get_elem? (map some slots) (is i)) ∙ at_map some slots 17 (Ledger b) (at_last (map Value values) (Ledger b) 17 len), (is, refl, refl, refl)))
               (λ ne. let low' : k < 17 = omega (arith, low, ne) in let t = value k low' in (Value t.0, t.2, (low', m.each k t.0 t.1)));
           taken = λ k low nz. absurd (nz (o.free k low));
           held = λ id u k x e f. absurd (nothing id u k x e f);
@@ -73,6 +73,7 @@ module _ {V : Type 0} (part : V → StatePart) (b : Chronicle) (values : List V)
         };
         fronts = record {
           same = alone (λ _ u. 0 < u.seen.shares → u.seen.input ≡ b.input) v (λ _. refl);
+          limits = alone (λ _ u. 0 < u.seen.shares → u.seen.limit ≡ b.limit) v (λ _. refl);
           begins = alone (λ _ u. IsPrefix u.seen.front h) v (prefix_refl h);
           own = λ id u p e q. absurd (alone (λ _ u. has_place p u.seen.own ≡ true → ⊥) v (λ q. true≢false (sym q)) id u e q);
           covers = λ p l g. absurd (omega (arith, l, g));

@@ -59,10 +59,10 @@ passed_on keeper other id p e = ap (λ b. cond b id (keeper p)) (eq-eqb (keeper 
 passed_by : (keeper : ℕ → ℕ) (other id p : ℕ) → keeper p ≢ other → passed keeper other id p ≡ keeper p
 passed_by keeper other id p ne = ap (λ b. cond b id (keeper p)) (ne_eqb (keeper p) other ne)
 
-module _ {V : Type 0} (part : V → StatePart) (m : Machine) (base : ℕ) where
-  pub splits : (id : ℕ) (v : View) → 1 < v.seen.shares → Splits (Agrees part m base) id v (view_lessened v) (view_newcomer v)
+module _ {V : Type 0} (part : V → StatePart) (m : Machine) (limit base : ℕ) where
+  pub splits : (id : ℕ) (v : View) → 1 < v.seen.shares → Splits (Agrees part m limit base) id v (view_lessened v) (view_newcomer v)
   splits id v two s r at = let f = r.fronts in let w : View = view_lessened v in let n : View = view_newcomer v in let l = set s.views id w in let left : 0 < v.seen.shares = omega (arith, two) in
-      let g = fronts_same m base s.views r.history r.keeper r.latest id v w f at refl refl refl left (omega (arith, two)) in record {
+      let g = fronts_same m limit base s.views r.history r.keeper r.latest id v w f at refl refl refl refl left (omega (arith, two)) in record {
         history = r.history;
         owner = r.owner;
         keeper = r.keeper;
@@ -87,6 +87,7 @@ module _ {V : Type 0} (part : V → StatePart) (m : Machine) (base : ℕ) where
             (λ _. ((λ x _ f _. absurd (never x f)), λ _. refl)));
         fronts = record {
           same = snoc_all (λ _ u. 0 < u.seen.shares → u.seen.input ≡ m) l n g.same (λ _ _. f.same id v at left);
+          limits = snoc_all (λ _ u. 0 < u.seen.shares → u.seen.limit ≡ limit) l n g.limits (λ _ _. f.limits id v at left);
           begins = snoc_all (λ _ u. Begins r.history u) l n g.begins (λ _. f.begins id v at);
           own = λ j u p e q. snoc_all (λ j u. (p : ℕ) → has_place p u.seen.own ≡ true → (r.keeper p ≡ j) × (p < length u.seen.front)) l n (λ j u e p. g.own j u p e) (λ _ _ q. absurd (true≢false (sym q))) j u e p q;
           rising = snoc_all (λ _ u. Rising u.seen.own) l n g.rising (λ _. tt);
@@ -97,7 +98,7 @@ module _ {V : Type 0} (part : V → StatePart) (m : Machine) (base : ℕ) where
         all_shares = let a = shares-snoc l n in let b = shares-set s.views id v w at in let d = r.all_shares in omega (arith, a, b, d, two);
       }
 
-  pub joins : (id : ℕ) (v : View) (other : ℕ) (w : View) → w.seen.held ≡ [] → 0 < v.seen.shares → 0 < w.seen.shares → Joins (Agrees part m base) id v other w (view_joined v w) spent_view
+  pub joins : (id : ℕ) (v : View) (other : ℕ) (w : View) → w.seen.held ≡ [] → 0 < v.seen.shares → 0 < w.seen.shares → Joins (Agrees part m limit base) id v other w (view_joined v w) spent_view
   joins id v other w none_held left some_left s r at ne seen =
       let both : View = view_joined v w in let l1 = set s.views id both in let l2 = set l1 other spent_view in let f = r.fronts in let h : List Entry = r.history in
       let there : get_elem? s.views other ≡ some w = sym (set_else s.views id other both ne) ∙ seen in
@@ -133,6 +134,7 @@ module _ {V : Type 0} (part : V → StatePart) (m : Machine) (base : ℕ) where
             (λ j u _ e. set_all (λ _ u. Stages_of h s.words u) s.views id both (stages_of h s.words s.views r.stages id v at) (λ j u _ e. stages_of h s.words s.views r.stages j u e) j u e));
         fronts = record {
           same = set_all (λ _ u. 0 < u.seen.shares → u.seen.input ≡ m) l1 other spent_view (λ z. absurd (lt_irrefl 0 z)) (λ j u _ e. set_all (λ _ u. 0 < u.seen.shares → u.seen.input ≡ m) s.views id both (λ _. f.same id v at left) (λ j u _ e. f.same j u e) j u e);
+          limits = set_all (λ _ u. 0 < u.seen.shares → u.seen.limit ≡ limit) l1 other spent_view (λ z. absurd (lt_irrefl 0 z)) (λ j u _ e. set_all (λ _ u. 0 < u.seen.shares → u.seen.limit ≡ limit) s.views id both (λ _. f.limits id v at left) (λ j u _ e. f.limits j u e) j u e);
           begins = set_all (λ _ u. Begins h u) l1 other spent_view (h, refl) (λ j u _ e. set_all (λ _ u. Begins h u) s.views id both (longer_case (λ z. IsPrefix z h) v.seen.front w.seen.front (λ _. pv) (λ _. pw)) (λ j u _ e. f.begins j u e) j u e);
           own = λ j u p e q. set_all (λ j u. (p : ℕ) → has_place p u.seen.own ≡ true → (passed r.keeper other id p ≡ j) × (p < length u.seen.front)) l1 other spent_view
               (λ p q. absurd (true≢false (sym q)))

@@ -52,7 +52,7 @@ module _ {V : Type 0} where
   pub value_same : (x y : V) → some (some (Value x)) ≡ some (some (Value y)) → x ≡ y
   value_same x y e = ap (value_in x) e
 
-module _ {V : Type 0} (part : V → StatePart) (m : Machine) (base : ℕ) where
+module _ {V : Type 0} (part : V → StatePart) (m : Machine) (limit base : ℕ) where
   abbrev St : Type 0
   St = State (Content V) View
 
@@ -61,10 +61,10 @@ module _ {V : Type 0} (part : V → StatePart) (m : Machine) (base : ℕ) where
 
   -- what a step answers
   abbrev Goes : St → ℕ → ℕ → ℕ → Mine → (Mine → Type 0) → Type 0
-  Goes s k n id me then = (w : View) × (a : Act (Content V)) × Valid s.homes me.1 a × Agrees part m base (stepped s k n id me.1 w a) × then (w, carried_after me.1 a)
+  Goes s k n id me then = (w : View) × (a : Act (Content V)) × Valid s.homes me.1 a × Agrees part m limit base (stepped s k n id me.1 w a) × then (w, carried_after me.1 a)
 
-  gains : (s : St) (r : Agrees part m base s) (id : ℕ) (me : Mine) (k : ℕ) (y : Content V) → k < 17 → AllBelow k me.0.seen.held → me.0.out ≡ 0 → 0 < me.0.seen.shares
-      → get_elem? s.views id ≡ some me.0 → get_or s.words k 0 ≡ 0 → get_elem? s.homes k ≡ some (some y) → Fits part m r.history k y
+  gains : (s : St) (r : Agrees part m limit base s) (id : ℕ) (me : Mine) (k : ℕ) (y : Content V) → k < 17 → AllBelow k me.0.seen.held → me.0.out ≡ 0 → 0 < me.0.seen.shares
+      → get_elem? s.views id ≡ some me.0 → get_or s.words k 0 ≡ 0 → get_elem? s.homes k ≡ some (some y) → Fits part m limit r.history k y
       → Goes s k 1 id me (λ m'. (x : V) × (names : List ℕ) × (t : ℕ) × (m' ≡ (view_took k (part x) names t me.0, (k, Value x) ∷ me.1)) × Lists (part x) names)
   gains s r id me k Out low above rest left at zero_there there fits = absurd fits
   gains s r id me k (Ledger b) low above rest left at zero_there there fits = absurd (omega (arith, fits.0, low))
@@ -81,7 +81,7 @@ module _ {V : Type 0} (part : V → StatePart) (m : Machine) (base : ℕ) where
           sound = r.sound;
           wide = length-set s.words k 1 ∙ r.wide;
           deep = length-set s.homes k none ∙ r.deep;
-          locks = locks_step part m r.history s.words (set s.words k 1) s.homes (set s.homes k none) s.views r.owner (owned_by r.owner k id) k id v w r.locks at
+          locks = locks_step part m r.history limit s.words (set s.words k 1) s.homes (set s.homes k none) s.views r.owner (owned_by r.owner k id) k id v w r.locks at
               (λ j ne. (get_or-set_other s.words k j 1 0 ne, set_else s.homes k j none ne, owned_else r.owner k id j ne, find-tail j k z' v.seen.held ne, (λ _. refl), λ e. absurd (omega (arith, rest, e))))
               (λ j u z other e f. absurd (omega (arith, zero_there, (r.locks.held j u k z e f).shut)))
               (λ _ z. absurd (omega (arith, shut, z)))
@@ -107,17 +107,17 @@ module _ {V : Type 0} (part : V → StatePart) (m : Machine) (base : ℕ) where
                 (λ z q f l. let below = above 17 z (sym (find-tail 17 k z' v.seen.held (λ e. absurd (omega (arith, e, low)))) ∙ f) in absurd (omega (arith, below, low))),
                 λ f. r.stages.nobody id v at (sym (find-tail 17 k z' v.seen.held (λ e. absurd (omega (arith, e, low)))) ∙ f),
               );
-          fronts = fronts_same m base s.views r.history r.keeper r.latest id v w r.fronts at refl refl refl left left;
+          fronts = fronts_same m limit base s.views r.history r.keeper r.latest id v w r.fronts at refl refl refl refl left left;
           all_shares = shares_same s.views id v w at refl r.all_shares;
         },
         (x, names, now, refl, λ n l. sym (listed-has (lists (part x)) 128 n l)),
       )
 
   -- a step that finds a word, whatever it is, and leaves it: the view changes only in what no lock and no front depends on
-  pub unmoved : (s : St) (r : Agrees part m base s) (id : ℕ) (v w : View) (i : ℕ) (carried : List (ℕ × Content V)) → get_elem? s.views id ≡ some v → 0 < v.seen.shares
-      → w.seen.input ≡ v.seen.input → w.seen.front ≡ v.seen.front → w.seen.own ≡ v.seen.own → w.seen.shares ≡ v.seen.shares → w.seen.held ≡ v.seen.held → w.out ≡ v.out → w.seen.now ≡ v.seen.now → w.seen.named ≡ v.seen.named
-      → Agrees part m base (stepped s i (get_or s.words i 0) id carried w keeps)
-  unmoved s r id v w i carried at left input front own shares held out now named = record {
+  pub unmoved : (s : St) (r : Agrees part m limit base s) (id : ℕ) (v w : View) (i : ℕ) (carried : List (ℕ × Content V)) → get_elem? s.views id ≡ some v → 0 < v.seen.shares
+      → w.seen.input ≡ v.seen.input → w.seen.limit ≡ v.seen.limit → w.seen.front ≡ v.seen.front → w.seen.own ≡ v.seen.own → w.seen.shares ≡ v.seen.shares → w.seen.held ≡ v.seen.held → w.out ≡ v.out → w.seen.now ≡ v.seen.now → w.seen.named ≡ v.seen.named
+      → Agrees part m limit base (stepped s i (get_or s.words i 0) id carried w keeps)
+  unmoved s r id v w i carried at left input limited front own shares held out now named = record {
     history = r.history;
     owner = r.owner;
     keeper = r.keeper;
@@ -143,7 +143,7 @@ module _ {V : Type 0} (part : V → StatePart) (m : Machine) (base : ℕ) where
         (λ x j n f q l. r.names.moving id v x j n at (ap (find_lock 17) (sym held) ∙ f) (ap (find_lock j) (sym held) ∙ q) l);
     stages = stages_step r.history s.words (set s.words i (get_or s.words i 0)) s.views id w r.stages (λ q _. same (147 + q)) (λ z. sym (same 17) ∙ z)
         ((λ x q f l. r.stages.raised id v x q at (ap (find_lock 17) (sym held) ∙ f) l ∙ ap (λ (n : ℕ). decides_at r.history q + cond (eqb (suc q) n) 1 0) (sym named)), λ f. named ∙ r.stages.nobody id v at (ap (find_lock 17) (sym held) ∙ f));
-    fronts = fronts_same m base s.views r.history r.keeper r.latest id v w r.fronts at input front own left (subst (λ (z : ℕ). 0 < z) (sym shares) left);
+    fronts = fronts_same m limit base s.views r.history r.keeper r.latest id v w r.fronts at input limited front own left (subst (λ (z : ℕ). 0 < z) (sym shares) left);
     all_shares = shares_same s.views id v w at shares r.all_shares;
   }
     where
@@ -151,26 +151,26 @@ module _ {V : Type 0} (part : V → StatePart) (m : Machine) (base : ℕ) where
       same j = set_found s.words i j
 
   pub tries : (slots id : ℕ) (me : Mine) (k : ℕ) → k < 17 → AllBelow k me.0.seen.held → me.0.out ≡ 0 → 0 < me.0.seen.shares
-      → Allows (Agrees part m base) slots id me k (λ n. either (eqb n 0) 1 n) (tried part (step slots k 0 1 none) me)
+      → Allows (Agrees part m limit base) slots id me k (λ n. either (eqb n 0) 1 n) (tried part (step slots k 0 1 none) me)
   tries slots id me k low above rest left s r deep at small = let x : ℕ = get_or s.words k 0 in dite (ℕ_discrete x 0)
       (λ e. let f = r.locks.free k (omega arith) e in let t = gains s r id me k f.0 low above rest left at e f.1 f.2 in (
         t.0,
         t.1,
         t.2,
-        subst (λ b. Agrees part m base (stepped s k (either b 1 x) id me.1 t.0 t.1)) (sym (eq-eqb x 0 e)) t.3,
+        subst (λ b. Agrees part m limit base (stepped s k (either b 1 x) id me.1 t.0 t.1)) (sym (eq-eqb x 0 e)) t.3,
         ((λ _. t.4), λ ne. absurd (ne e)),
       ))
       (λ ne. let w : View = view_turned_away k me.0 in (
         w,
         keeps,
         tt,
-        subst (λ b. Agrees part m base (stepped s k (either b 1 x) id me.1 w keeps)) (sym (ne_eqb x 0 ne)) (unmoved s r id me.0 w k me.1 at left refl refl refl refl refl refl refl refl),
+        subst (λ b. Agrees part m limit base (stepped s k (either b 1 x) id me.1 w keeps)) (sym (ne_eqb x 0 ne)) (unmoved s r id me.0 w k me.1 at left refl refl refl refl refl refl refl refl refl),
         ((λ e. absurd (ne e)), λ _. refl),
       ))
 
   -- the empty slot of a lock that the seat holds goes home
   pub settles : (slots id : ℕ) (v : View) (k : ℕ) → v.out ≡ suc k → Holds k v.seen → 0 < v.seen.shares
-      → Allows (Agrees part m base) slots id (v, (k, Out) ∷ []) k (λ n. n) (settled (step slots k 0 0 none) (v, (k, Out) ∷ []))
+      → Allows (Agrees part m limit base) slots id (v, (k, Out) ∷ []) k (λ n. n) (settled (step slots k 0 0 none) (v, (k, Out) ∷ []))
   settles slots id v k away holds left s r deep at small = let x : ℕ = get_or s.words k 0 in let w : View = with_out 0 v in let old = r.locks.held id v k holds.0 at holds.1 in let wide = r.wide in
       let here : get_or (set s.words k x) k 0 ≡ 1 = get_or-set_same s.words k x 0 (omega (arith, old.below)) ∙ old.shut in (
         w,
@@ -184,7 +184,7 @@ module _ {V : Type 0} (part : V → StatePart) (m : Machine) (base : ℕ) where
           sound = r.sound;
           wide = length-set s.words k x ∙ r.wide;
           deep = length-set s.homes k (some Out) ∙ r.deep;
-          locks = locks_step part m r.history s.words (set s.words k x) s.homes (set s.homes k (some Out)) s.views r.owner r.owner k id v w r.locks at
+          locks = locks_step part m r.history limit s.words (set s.words k x) s.homes (set s.homes k (some Out)) s.views r.owner r.owner k id v w r.locks at
               (λ j ne. (get_or-set_other s.words k j x 0 ne, set_else s.homes k j (some Out) ne, refl, refl, (λ _. refl), λ e. ne (omega (arith, away, e))))
               (λ j u z other e f. other (sym (r.locks.held j u k z e f).owned ∙ old.owned))
               (λ _ z. absurd (omega (arith, here, z)))
@@ -206,7 +206,7 @@ module _ {V : Type 0} (part : V → StatePart) (m : Machine) (base : ℕ) where
               (λ z. sym (set_found s.words k 17) ∙ z)
               (λ z j n f q l. r.names.moving id v z j n at f q l);
           stages = stages_step r.history s.words (set s.words k x) s.views id w r.stages (λ q _. set_found s.words k (147 + q)) (λ z. sym (set_found s.words k 17) ∙ z) (stages_of r.history s.words s.views r.stages id v at);
-          fronts = fronts_same m base s.views r.history r.keeper r.latest id v w r.fronts at refl refl refl left left;
+          fronts = fronts_same m limit base s.views r.history r.keeper r.latest id v w r.fronts at refl refl refl refl left left;
           all_shares = shares_same s.views id v w at refl r.all_shares;
         },
         refl,
@@ -214,7 +214,7 @@ module _ {V : Type 0} (part : V → StatePart) (m : Machine) (base : ℕ) where
 
   -- it comes out again
   pub fetches : (slots id : ℕ) (v : View) (k : ℕ) → v.out ≡ 0 → Holds k v.seen → 0 < v.seen.shares
-      → Allows (Agrees part m base) slots id (v, []) k (λ n. n) (fetched (step slots k 0 0 none) (v, []))
+      → Allows (Agrees part m limit base) slots id (v, []) k (λ n. n) (fetched (step slots k 0 0 none) (v, []))
   fetches slots id v k rest holds left s r deep at small = let x : ℕ = get_or s.words k 0 in let w : View = with_out (suc k) v in let old = r.locks.held id v k holds.0 at holds.1 in let wide = r.wide in
       let here : get_or (set s.words k x) k 0 ≡ 1 = get_or-set_same s.words k x 0 (omega (arith, old.below)) ∙ old.shut in (
         w,
@@ -228,7 +228,7 @@ module _ {V : Type 0} (part : V → StatePart) (m : Machine) (base : ℕ) where
           sound = r.sound;
           wide = length-set s.words k x ∙ r.wide;
           deep = length-set s.homes k none ∙ r.deep;
-          locks = locks_step part m r.history s.words (set s.words k x) s.homes (set s.homes k none) s.views r.owner r.owner k id v w r.locks at
+          locks = locks_step part m r.history limit s.words (set s.words k x) s.homes (set s.homes k none) s.views r.owner r.owner k id v w r.locks at
               (λ j ne. (get_or-set_other s.words k j x 0 ne, set_else s.homes k j none ne, refl, refl, (λ _. refl), λ e. absurd (omega (arith, rest, e))))
               (λ j u z other e f. other (sym (r.locks.held j u k z e f).owned ∙ old.owned))
               (λ _ z. absurd (omega (arith, here, z)))
@@ -250,7 +250,7 @@ module _ {V : Type 0} (part : V → StatePart) (m : Machine) (base : ℕ) where
               (λ z. sym (set_found s.words k 17) ∙ z)
               (λ z j n f q l. r.names.moving id v z j n at f q l);
           stages = stages_step r.history s.words (set s.words k x) s.views id w r.stages (λ q _. set_found s.words k (147 + q)) (λ z. sym (set_found s.words k 17) ∙ z) (stages_of r.history s.words s.views r.stages id v at);
-          fronts = fronts_same m base s.views r.history r.keeper r.latest id v w r.fronts at refl refl refl left left;
+          fronts = fronts_same m limit base s.views r.history r.keeper r.latest id v w r.fronts at refl refl refl refl left left;
           all_shares = shares_same s.views id v w at refl r.all_shares;
         },
         refl,
@@ -258,7 +258,7 @@ module _ {V : Type 0} (part : V → StatePart) (m : Machine) (base : ℕ) where
 
   -- a value that is the part which the view has goes home, and the lock is free
   pub puts : (slots id : ℕ) (v : View) (k : ℕ) (y : V) (z : Known) → k < 17 → v.out ≡ suc k → find_lock k v.seen.held ≡ Some z → part y ≡ z.part → Lists z.part z.names → 0 < v.seen.shares
-      → Allows (Agrees part m base) slots id (v, (k, Value y) ∷ []) k (λ _. 0) (λ _. put_back (step slots k 0 0 none) (v, (k, Value y) ∷ []) 0)
+      → Allows (Agrees part m limit base) slots id (v, (k, Value y) ∷ []) k (λ _. 0) (λ _. put_back (step slots k 0 0 none) (v, (k, Value y) ∷ []) 0)
   puts slots id v k y z low away found is same left s r deep at small = let w : View = view_gave k v in let old = r.locks.held id v k z at found in let wide = r.wide in
       let here : get_or (set s.words k 0) k 0 ≡ 0 = get_or-set_same s.words k 0 0 (omega (arith, old.below)) in (
         w,
@@ -272,7 +272,7 @@ module _ {V : Type 0} (part : V → StatePart) (m : Machine) (base : ℕ) where
           sound = r.sound;
           wide = length-set s.words k 0 ∙ r.wide;
           deep = length-set s.homes k (some (Value y)) ∙ r.deep;
-          locks = locks_step part m r.history s.words (set s.words k 0) s.homes (set s.homes k (some (Value y))) s.views r.owner r.owner k id v w r.locks at
+          locks = locks_step part m r.history limit s.words (set s.words k 0) s.homes (set s.homes k (some (Value y))) s.views r.owner r.owner k id v w r.locks at
               (λ j ne. (get_or-set_other s.words k j 0 0 ne, set_else s.homes k j (some (Value y)) ne, refl, find-without-other k j v.seen.held ne, (λ _. refl), λ e. ne (omega (arith, away, e))))
               (λ j u z other e f. other (sym (r.locks.held j u k z e f).owned ∙ old.owned))
               (λ _ _. (Value y, set_here s.homes k (some (Value y)) (omega (arith, r.deep, low)), (low, is ∙ old.agrees low)))
@@ -292,7 +292,7 @@ module _ {V : Type 0} (part : V → StatePart) (m : Machine) (base : ℕ) where
           stages = stages_step r.history s.words (set s.words k 0) s.views id w r.stages (λ q l. get_or-set_other s.words k (147 + q) 0 0 (λ e. absurd (omega (arith, e, low))))
               (λ e. sym (get_or-set_other s.words k 17 0 0 (λ e. absurd (omega (arith, e, low)))) ∙ e)
               ((λ x q f l. r.stages.raised id v x q at (still k 17 v.seen.held x f) l), λ f. r.stages.nobody id v at (sym (find-without-other k 17 v.seen.held (λ e. absurd (omega (arith, e, low)))) ∙ f));
-          fronts = fronts_same m base s.views r.history r.keeper r.latest id v w r.fronts at refl refl refl left left;
+          fronts = fronts_same m limit base s.views r.history r.keeper r.latest id v w r.fronts at refl refl refl refl left left;
           all_shares = shares_same s.views id v w at refl r.all_shares;
         },
         refl,
@@ -300,14 +300,14 @@ module _ {V : Type 0} (part : V → StatePart) (m : Machine) (base : ℕ) where
 
   -- the same of a seat that is known by an equation
   pub settles_at : (slots id : ℕ) (me : Mine) (v : View) (k : ℕ) → me ≡ (v, (k, Out) ∷ []) → v.out ≡ suc k → Holds k v.seen → 0 < v.seen.shares
-      → Allows (Agrees part m base) slots id me k (λ n. n) (settled (step slots k 0 0 none) me)
-  settles_at slots id me v k is away holds left = subst (λ (z : Mine). Allows (Agrees part m base) slots id z k (λ n. n) (settled (step slots k 0 0 none) z)) (sym is) (settles slots id v k away holds left)
+      → Allows (Agrees part m limit base) slots id me k (λ n. n) (settled (step slots k 0 0 none) me)
+  settles_at slots id me v k is away holds left = subst (λ (z : Mine). Allows (Agrees part m limit base) slots id z k (λ n. n) (settled (step slots k 0 0 none) z)) (sym is) (settles slots id v k away holds left)
 
   pub fetches_at : (slots id : ℕ) (me : Mine) (v : View) (k : ℕ) → me ≡ (v, []) → v.out ≡ 0 → Holds k v.seen → 0 < v.seen.shares
-      → Allows (Agrees part m base) slots id me k (λ n. n) (fetched (step slots k 0 0 none) me)
-  fetches_at slots id me v k is rest holds left = subst (λ (z : Mine). Allows (Agrees part m base) slots id z k (λ n. n) (fetched (step slots k 0 0 none) z)) (sym is) (fetches slots id v k rest holds left)
+      → Allows (Agrees part m limit base) slots id me k (λ n. n) (fetched (step slots k 0 0 none) me)
+  fetches_at slots id me v k is rest holds left = subst (λ (z : Mine). Allows (Agrees part m limit base) slots id z k (λ n. n) (fetched (step slots k 0 0 none) z)) (sym is) (fetches slots id v k rest holds left)
 
   pub puts_at : (slots id : ℕ) (me : Mine) (v : View) (k : ℕ) (y : V) (z : Known) → me ≡ (v, (k, Value y) ∷ []) → k < 17 → v.out ≡ suc k → find_lock k v.seen.held ≡ Some z → part y ≡ z.part → Lists z.part z.names → 0 < v.seen.shares
-      → Allows (Agrees part m base) slots id me k (λ _. 0) (λ _. put_back (step slots k 0 0 none) me 0)
+      → Allows (Agrees part m limit base) slots id me k (λ _. 0) (λ _. put_back (step slots k 0 0 none) me 0)
   puts_at slots id me v k y z is low away found same lists left =
-      subst (λ (q : Mine). Allows (Agrees part m base) slots id q k (λ _. 0) (λ _. put_back (step slots k 0 0 none) q 0)) (sym is) (puts slots id v k y z low away found same lists left)
+      subst (λ (q : Mine). Allows (Agrees part m limit base) slots id q k (λ _. 0) (λ _. put_back (step slots k 0 0 none) q 0)) (sym is) (puts slots id v k y z low away found same lists left)

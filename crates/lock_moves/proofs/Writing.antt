@@ -23,7 +23,7 @@ use Rattle.lock_moves.proofs.Moving.{fronts_grown, shares_same, locks_step, name
 use Rattle.lock_moves.proofs.Prefix.{prefix_refl, prefix_length}
 use Rattle.lock_moves.proofs.Taking.{owned_by, owned_here, owned_else, unmoved}
 
-module _ {V : Type 0} (part : V → StatePart) (m : Machine) (base : ℕ) where
+module _ {V : Type 0} (part : V → StatePart) (m : Machine) (limit base : ℕ) where
   abbrev St : Type 0
   St = State (Content V) View
 
@@ -31,11 +31,11 @@ module _ {V : Type 0} (part : V → StatePart) (m : Machine) (base : ℕ) where
   Mine = Me (Content V) View
 
   abbrev Tells : Mine → Mine → Type 0
-  Tells me m' = (b : Chronicle) × (t : ℕ) × (m' ≡ (view_took_book b.history t me.0, (17, Ledger b) ∷ me.1)) × (b.input ≡ me.0.seen.input) × IsPrefix me.0.seen.front b.history × Current m'.0.seen
+  Tells me m' = (b : Chronicle) × (t : ℕ) × (m' ≡ (view_took_book b.history t me.0, (17, Ledger b) ∷ me.1)) × (b.input ≡ me.0.seen.input) × (b.limit ≡ me.0.seen.limit) × IsPrefix me.0.seen.front b.history × Current m'.0.seen
 
-  opens : (s : St) (r : Agrees part m base s) (id : ℕ) (me : Mine) (y : Content V) → AllBelow 17 me.0.seen.held → me.0.out ≡ 0 → 0 < me.0.seen.shares
-      → get_elem? s.views id ≡ some me.0 → get_or s.words 17 0 ≡ 0 → get_elem? s.homes 17 ≡ some (some y) → Fits part m r.history 17 y
-      → (w : View) × (a : Act (Content V)) × Valid s.homes me.1 a × Agrees part m base (stepped s 17 1 id me.1 w a) × Tells me (w, carried_after me.1 a)
+  opens : (s : St) (r : Agrees part m limit base s) (id : ℕ) (me : Mine) (y : Content V) → AllBelow 17 me.0.seen.held → me.0.out ≡ 0 → 0 < me.0.seen.shares
+      → get_elem? s.views id ≡ some me.0 → get_or s.words 17 0 ≡ 0 → get_elem? s.homes 17 ≡ some (some y) → Fits part m limit r.history 17 y
+      → (w : View) × (a : Act (Content V)) × Valid s.homes me.1 a × Agrees part m limit base (stepped s 17 1 id me.1 w a) × Tells me (w, carried_after me.1 a)
   opens s r id me Out above rest left at zero_there there fits = absurd fits
   opens s r id me (Value x) above rest left at zero_there there fits = absurd (lt_irrefl 17 fits.0)
   opens s r id me (Ledger b) above rest left at zero_there there fits = let v : View = me.0 in let now : ℕ = get_or s.words 146 0 in let w : View = view_took_book b.history now v in let wide = r.wide in
@@ -54,7 +54,7 @@ module _ {V : Type 0} (part : V → StatePart) (m : Machine) (base : ℕ) where
           sound = r.sound;
           wide = length-set s.words 17 1 ∙ r.wide;
           deep = length-set s.homes 17 none ∙ r.deep;
-          locks = locks_step part m r.history s.words (set s.words 17 1) s.homes (set s.homes 17 none) s.views r.owner (owned_by r.owner 17 id) 17 id v w r.locks at
+          locks = locks_step part m r.history limit s.words (set s.words 17 1) s.homes (set s.homes 17 none) s.views r.owner (owned_by r.owner 17 id) 17 id v w r.locks at
               (λ j ne. (get_or-set_other s.words 17 j 1 0 ne, set_else s.homes 17 j none ne, owned_else r.owner 17 id j ne, find-tail j 17 (book_known) v.seen.held ne, (λ e. absurd (ne e)), λ e. absurd (omega (arith, rest, e))))
               (λ j u z other e f. absurd (omega (arith, zero_there, (r.locks.held j u 17 z e f).shut)))
               (λ _ z. absurd (omega (arith, shut, z)))
@@ -83,7 +83,7 @@ module _ {V : Type 0} (part : V → StatePart) (m : Machine) (base : ℕ) where
                 i u e x f;
             nobody = λ i u e f. set_all (λ _ u. find_lock 17 u.seen.held ≡ None → u.seen.named ≡ 0) s.views id w (λ _. unnamed) (λ j u _ e f. r.stages.nobody j u e f) i u e f;
           };
-          fronts = fronts_grown m base s.views r.history r.keeper r.latest id v w r.fronts at refl
+          fronts = fronts_grown m limit base s.views r.history r.keeper r.latest id v w r.fronts at refl refl
               (subst (λ z. IsPrefix z r.history) (sym fits.2) (prefix_refl r.history)) (omega (arith, long, len)) (λ _. fits.2) refl left left;
           all_shares = shares_same s.views id v w at refl r.all_shares;
         },
@@ -92,6 +92,7 @@ module _ {V : Type 0} (part : V → StatePart) (m : Machine) (base : ℕ) where
           now,
           refl,
           fits.1 ∙ sym is_m,
+          fits.3 ∙ sym (r.fronts.limits id v at left),
           subst (λ z. IsPrefix v.seen.front z) (sym fits.2) begins,
           (
             (λ k x low f. let g : find_lock k v.seen.held ≡ Some x = sym (find-tail k 17 book_known v.seen.held (λ e. absurd (omega (arith, low, e)))) ∙ f in (
@@ -106,19 +107,19 @@ module _ {V : Type 0} (part : V → StatePart) (m : Machine) (base : ℕ) where
       )
 
   pub tries_book : (slots id : ℕ) (me : Mine) → AllBelow 17 me.0.seen.held → me.0.out ≡ 0 → 0 < me.0.seen.shares
-      → Allows (Agrees part m base) slots id me 17 (λ n. either (eqb n 0) 1 n) (tried_book (step slots 17 0 1 none) me)
+      → Allows (Agrees part m limit base) slots id me 17 (λ n. either (eqb n 0) 1 n) (tried_book (step slots 17 0 1 none) me)
   tries_book slots id me above rest left s r deep at small = let x : ℕ = get_or s.words 17 0 in dite (ℕ_discrete x 0)
       (λ e. let f = r.locks.free 17 (omega arith) e in let t = opens s r id me f.0 above rest left at e f.1 f.2 in (
         t.0,
         t.1,
         t.2,
-        subst (λ b. Agrees part m base (stepped s 17 (either b 1 x) id me.1 t.0 t.1)) (sym (eq-eqb x 0 e)) t.3,
+        subst (λ b. Agrees part m limit base (stepped s 17 (either b 1 x) id me.1 t.0 t.1)) (sym (eq-eqb x 0 e)) t.3,
         ((λ _. t.4), λ ne. absurd (ne e)),
       ))
       (λ ne. let w : View = view_turned_away 17 me.0 in (
         w,
         keeps,
         tt,
-        subst (λ b. Agrees part m base (stepped s 17 (either b 1 x) id me.1 w keeps)) (sym (ne_eqb x 0 ne)) (unmoved part m base s r id me.0 w 17 me.1 at left refl refl refl refl refl refl refl refl),
+        subst (λ b. Agrees part m limit base (stepped s 17 (either b 1 x) id me.1 w keeps)) (sym (ne_eqb x 0 ne)) (unmoved part m limit base s r id me.0 w 17 me.1 at left refl refl refl refl refl refl refl refl refl),
         ((λ e. absurd (ne e)), λ _. refl),
       ))

@@ -18,8 +18,9 @@ shares_of [] = 0
 shares_of (v ∷ vs) = v.seen.shares + shares_of vs
 
 -- what the seats have seen of the history h: each front begins it, each added place is an own place of the seat `keeper p` alone, and the front of the seat `latest` is h
-pub record Fronts (m : Machine) (base : ℕ) (views : List View) (h : List Entry) (keeper : ℕ → ℕ) (latest : ℕ) : Type 0 where
+pub record Fronts (m : Machine) (limit base : ℕ) (views : List View) (h : List Entry) (keeper : ℕ → ℕ) (latest : ℕ) : Type 0 where
   pub same : (id : ℕ) (v : View) → get_elem? views id ≡ some v → 0 < v.seen.shares → v.seen.input ≡ m
+  pub limits : (id : ℕ) (v : View) → get_elem? views id ≡ some v → 0 < v.seen.shares → v.seen.limit ≡ limit
   pub begins : (id : ℕ) (v : View) → get_elem? views id ≡ some v → IsPrefix v.seen.front h
   pub own : (id : ℕ) (v : View) (p : ℕ) → get_elem? views id ≡ some v → has_place p v.seen.own ≡ true → (keeper p ≡ id) × (p < length v.seen.front)
   pub rising : (id : ℕ) (v : View) → get_elem? views id ≡ some v → Rising v.seen.own
@@ -28,12 +29,6 @@ pub record Fronts (m : Machine) (base : ℕ) (views : List View) (h : List Entry
   pub spent : (id : ℕ) (v : View) → get_elem? views id ≡ some v → v.seen.shares ≡ 0 → (v.seen.own ≡ []) × (v.seen.held ≡ [])
 
 module _ {V : Type 0} (part : V → StatePart) (m : Machine) where
-  -- what lies in the slot of the free lock k
-  abbrev pub Fits : List Entry → ℕ → Content V → Type 0
-  Fits h k Out = ⊥
-  Fits h k (Value x) = (k < 17) × (part x ≡ part_at m h k)
-  Fits h k (Ledger b) = (k ≡ 17) × (b.input ≡ m) × (b.history ≡ h)
-
   -- what is true of a lock k that the seat id holds, with the view v
   pub record Has (words : List ℕ) (homes : List (maybe.Option (Content V))) (h : List Entry) (owner : ℕ → ℕ) (id : ℕ) (v : View) (k : ℕ) (x : Known) : Type 0 where
     pub below : k < 18
@@ -42,12 +37,6 @@ module _ {V : Type 0} (part : V → StatePart) (m : Machine) where
     pub agrees : k < 17 → x.part ≡ part_at m h k
     pub book : k ≡ 17 → v.seen.front ≡ h
     pub slot : v.out ≢ suc k → get_elem? homes k ≡ some (some Out)
-
-  -- the locks: a lock's word is taken exactly where some seat holds the lock, a free lock's value is its part of the state, and so is what the holder knows
-  pub record Locks (words : List ℕ) (homes : List (maybe.Option (Content V))) (views : List View) (h : List Entry) (owner : ℕ → ℕ) : Type 0 where
-    pub free : (k : ℕ) → k < 18 → slice_index words k ≡ 0 → (y : Content V) × (get_elem? homes k ≡ some (some y)) × Fits h k y
-    pub taken : (k : ℕ) → k < 18 → slice_index words k ≢ 0 → (v : View) × (get_elem? views (owner k) ≡ some v) × Holds k v.seen
-    pub held : (id : ℕ) (v : View) (k : ℕ) (x : Known) → get_elem? views id ≡ some v → find_lock k v.seen.held ≡ Some x → Has words homes h owner id v k x
 
   -- the names: a lock's names, in the value or in the holder's view, are those whose word is the lock; where the book is free each word is the name's home;
   -- a seat that holds a lock has the moment. The word of the name n is word 18 + n
@@ -60,6 +49,19 @@ module _ {V : Type 0} (part : V → StatePart) (m : Machine) where
     -- the holder of the book has moved no name of a lock that it does not hold
     pub moving : (id : ℕ) (v : View) (x : Known) (j n : ℕ) → get_elem? views id ≡ some v → find_lock 17 v.seen.held ≡ Some x → find_lock j v.seen.held ≡ None → n < 128 → eqb (slice_index words (18 + n)) j ≡ eqb (home_at m h n) j
 
+module _ {V : Type 0} (part : V → StatePart) (m : Machine) (limit : ℕ) where
+  -- what lies in the slot of the free lock k
+  abbrev pub Fits : List Entry → ℕ → Content V → Type 0
+  Fits h k Out = ⊥
+  Fits h k (Value x) = (k < 17) × (part x ≡ part_at m h k)
+  Fits h k (Ledger b) = (k ≡ 17) × (b.input ≡ m) × (b.history ≡ h) × (b.limit ≡ limit)
+
+  -- the locks: a lock's word is taken exactly where some seat holds the lock, a free lock's value is its part of the state, and so is what the holder knows
+  pub record Locks (words : List ℕ) (homes : List (maybe.Option (Content V))) (views : List View) (h : List Entry) (owner : ℕ → ℕ) : Type 0 where
+    pub free : (k : ℕ) → k < 18 → slice_index words k ≡ 0 → (y : Content V) × (get_elem? homes k ≡ some (some y)) × Fits h k y
+    pub taken : (k : ℕ) → k < 18 → slice_index words k ≢ 0 → (v : View) × (get_elem? views (owner k) ≡ some v) × Holds k v.seen
+    pub held : (id : ℕ) (v : View) (k : ℕ) (x : Known) → get_elem? views id ≡ some v → find_lock k v.seen.held ≡ Some x → Has part m words homes h owner id v k x
+
 -- the stage words: each counts the decisions of its core in the history, and one more where the holder of the book names the core. The word of the core r is word 147 + r
 pub record Stages (words : List ℕ) (views : List View) (h : List Entry) : Type 0 where
   pub settled : slice_index words 17 ≡ 0 → (r : ℕ) → r < 64 → slice_index words (147 + r) ≡ decides_at h r
@@ -67,7 +69,7 @@ pub record Stages (words : List ℕ) (views : List View) (h : List Entry) : Type
   pub nobody : (id : ℕ) (v : View) → get_elem? views id ≡ some v → find_lock 17 v.seen.held ≡ None → v.seen.named ≡ 0
 
 -- the rule: there is one history, a sound one, with which all of this agrees
-pub record Agrees {V : Type 0} (part : V → StatePart) (m : Machine) (base : ℕ) (s : State (Content V) View) : Type 0 where
+pub record Agrees {V : Type 0} (part : V → StatePart) (m : Machine) (limit base : ℕ) (s : State (Content V) View) : Type 0 where
   pub history : List Entry
   pub owner : ℕ → ℕ
   pub keeper : ℕ → ℕ
@@ -75,8 +77,8 @@ pub record Agrees {V : Type 0} (part : V → StatePart) (m : Machine) (base : �
   pub sound : IsSound m history
   pub wide : length s.words ≡ 211
   pub deep : length s.homes ≡ 18
-  pub locks : Locks part m s.words s.homes s.views history owner
+  pub locks : Locks part m limit s.words s.homes s.views history owner
   pub names : Names part m s.words s.homes s.views history
   pub stages : Stages s.words s.views history
-  pub fronts : Fronts m base s.views history keeper latest
+  pub fronts : Fronts m limit base s.views history keeper latest
   pub all_shares : shares_of s.views ≡ 1024

@@ -54,7 +54,7 @@ module _ {V : Type 0} where
 
   -- the same of the book, whose history begins with the front
   abbrev pub tried_book : Step (Content V) → Sat V → ℕ → Sat V → Type 0
-  tried_book st m r m' = (r ≡ 0 → (b : Chronicle) × (t : ℕ) × (m' ≡ (view_took_book b.history t m.0, (17, Ledger b) ∷ m.1)) × (b.input ≡ m.0.seen.input) × IsPrefix m.0.seen.front b.history × Current m'.0.seen)
+  tried_book st m r m' = (r ≡ 0 → (b : Chronicle) × (t : ℕ) × (m' ≡ (view_took_book b.history t m.0, (17, Ledger b) ∷ m.1)) × (b.input ≡ m.0.seen.input) × (b.limit ≡ m.0.seen.limit) × IsPrefix m.0.seen.front b.history × Current m'.0.seen)
       × (r ≢ 0 → m' ≡ (view_turned_away 17 m.0, m.1))
 
   -- the slot goes home empty

@@ -14,12 +14,13 @@ pub record Known : Type 0 where
   pub names : List ℕ
 
 -- What a seat knows and holds:
--- the input; the front, a beginning of the book's history; its own places, at which it added an entry; its parts of the 1024;
+-- the input; the most entries that the book may have; the front, a beginning of the book's history; its own places, at which it added an entry; its parts of the 1024;
 -- how often it took the book; the locks at which it was turned away, one for each time; the locks that it holds;
 -- the moment, where it holds a lock; 0, or 1 more than the core whose stage word it has raised under the book;
 -- and the core and the number of its last load of a stage word, and how many such loads it made
 pub record Seen : Type 0 where
   pub input : Machine
+  pub limit : ℕ
   pub front : List Entry
   pub own : List ℕ
   pub shares : ℕ
@@ -154,19 +155,19 @@ abbrev pub committed_view : List Entry → Seen → Seen
 committed_view h v = record v { front = h; own = places_after v h; held = refreshed v.input h (without 17 v.held); named = 0 }
 
 -- a seat that has done nothing yet
-abbrev pub fresh : Machine → List Entry → ℕ → Seen
-fresh m h shares = record { input = m; front = h; own = []; shares = shares; takes = 0; refused = []; held = []; now = 0; named = 0; loaded = (0, 0); loads = 0 }
+abbrev pub fresh : Machine → ℕ → List Entry → ℕ → Seen
+fresh m limit h shares = record { input = m; limit = limit; front = h; own = []; shares = shares; takes = 0; refused = []; held = []; now = 0; named = 0; loaded = (0, 0); loads = 0 }
 
 -- the first seat of a set
 abbrev pub opening_view : Chronicle → Seen
-opening_view b = fresh b.input b.history 1024
+opening_view b = fresh b.input b.limit b.history 1024
 
 -- one part was given to a new seat; the new seat
 abbrev pub lessened : Seen → Seen
 lessened v = record v { shares = v.shares - 1 }
 
 abbrev pub newcomer : Seen → Seen
-newcomer v = fresh v.input v.front 1
+newcomer v = fresh v.input v.limit v.front 1
 
 -- another seat was taken in
 abbrev pub joined : Seen → Seen → Seen
@@ -195,7 +196,7 @@ no_machine = record { config = record { granularity = 0; processors = 0; horizon
 
 -- a seat that was joined away
 abbrev pub spent_view : View
-spent_view = at_rest (fresh no_machine [] 0)
+spent_view = at_rest (fresh no_machine 0 [] 0)
 
 -- how the steps change what the table keeps
 abbrev pub view_took : ℕ → StatePart → List ℕ → ℕ → View → View

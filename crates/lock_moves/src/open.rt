@@ -89,6 +89,7 @@ impl<V: Part> LockSet<V> {
         requires only { seat.view.shares ≡ 1024 }
         requires nothing { seat.view.held ≡ [] }
         ensures input { result.input ≡ seat.view.input }
+        ensures limit { result.limit ≡ seat.view.limit }
         ensures history { result.history ≡ seat.view.front }
         ensures own { (p : ℕ) → length self.opened.history ≤ p → p < length seat.view.front → has_place p seat.view.own ≡ true }
     {

@@ -8,6 +8,9 @@ use atomic_table::{Badge, Seat};
 use std::marker::Model;
 use std::mem;
 
+// A seat has no bytes.
+const _: () = prove!(mem::size_of::<LockSeat>() == 0);
+
 /// A seat at a set of locks: what a thread that works with it knows and holds. It has no bytes.
 #[derive(Drop)]
 pub struct LockSeat {

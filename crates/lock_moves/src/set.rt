@@ -94,7 +94,7 @@ impl<V: Part> LockSet<V> {
     fn try_book(&self, seat: &mut LockSeat) -> Option<HeldBook>
         requires set { seat.old.table ≡ self.now.table }
         requires order { AllBelow 17 seat.old.view.held }
-        ensures { MatchOption result (seat.new ≡ seeing seat.old (turned_away 17 seat.old.view)) (λ b. ((now : ℕ) × (seat.new ≡ seeing seat.old (took_book b.history now seat.old.view))) × (b.input ≡ seat.old.view.input) × IsPrefix seat.old.view.front b.history × Current seat.new.view) }
+        ensures { MatchOption result (seat.new ≡ seeing seat.old (turned_away 17 seat.old.view)) (λ b. ((now : ℕ) × (seat.new ≡ seeing seat.old (took_book b.history now seat.old.view))) × (b.input ≡ seat.old.view.input) × (b.limit ≡ seat.old.view.limit) × IsPrefix seat.old.view.front b.history × Current seat.new.view) }
     {
         let mut me = seated::<V>(&mut seat.badge);
         let found = self
@@ -119,6 +119,7 @@ impl<V: Part> LockSet<V> {
         requires set { seat.old.table ≡ self.now.table }
         requires held { Holds 17 seat.old.view }
         requires input { b.input ≡ seat.old.view.input }
+        requires limit { b.limit ≡ seat.old.view.limit }
         requires next { Next seat.old.view.front b.history }
         requires kept { Kept seat.old.view b.history }
         requires placed { Placed seat.old.view b.history }
@@ -235,6 +236,7 @@ impl<V: Part> LockSet<V> {
         requires order { AllBelow 17 seat.old.view.held }
         ensures taken { (n : ℕ) × (now : ℕ) × (seat.new ≡ seeing seat.old (took_book result.history now (tried_again n 17 seat.old.view))) }
         ensures input { result.input ≡ seat.old.view.input }
+        ensures limit { result.limit ≡ seat.old.view.limit }
         ensures begins { IsPrefix seat.old.view.front result.history }
         ensures current { Current seat.new.view }
     {

@@ -30,7 +30,7 @@ commit-requires-clause-names g c =
     once_of c.write_first.new.book.input c.write_first.new.book.history (take 1 two_entries) (c.write_first.ensures.input ∙ (c.take_book-book.ensures.input ∙ c.requires.stands.input)) c.if-not-write_first.ensures.written.1 once-second
 
 pub returns-clause-below : goal.returns-clause-below
-returns-clause-below g c is_done = let t = c.take_book-book.ensures.taken in let v : Seen = c.take_book-book.new.seat.view in let w = c.if-not-write_first.ensures.written in
+returns-clause-below g c = let t = c.take_book-book.ensures.taken in let v : Seen = c.take_book-book.new.seat.view in let w = c.if-not-write_first.ensures.written in
     let input : v.input ≡ adding = ap (λ (s : Sitting). s.view.input) t.2 ∙ c.requires.stands.input in
     let all : HoldsBook v = book_below t.0 t.1 c.take_book-book.result.history c.args.seat.now c.take_book-book.new.seat t.2 c.requires.below in
     knows_of c.write_first.new.book.history (take 1 two_entries) c.take_book-book.new.seat c.commit.new.seat c.commit.ensures w.1 input all

@@ -58,7 +58,7 @@ commit-requires-clause-names g c =
     once_of c.write_second.new.book.input c.write_second.new.book.history two_entries (c.write_second.ensures.input ∙ (c.take_book-book.ensures.input ∙ c.requires.stands.input)) c.if-not-write_second.ensures.written.1 once-third
 
 pub returns-clause-below : goal.returns-clause-below
-returns-clause-below g c is_done = let t = c.take_book-book.ensures.taken in let v : Seen = c.take_book-book.new.seat.view in let w = c.if-not-write_second.ensures.written in
+returns-clause-below g c = let t = c.take_book-book.ensures.taken in let v : Seen = c.take_book-book.new.seat.view in let w = c.if-not-write_second.ensures.written in
     let input : v.input ≡ adding = ap (λ (s : Sitting). s.view.input) t.2 ∙ c.requires.stands.input in
     let all : HoldsBook v = book_below t.0 t.1 c.take_book-book.result.history c.args.seat.now c.take_book-book.new.seat t.2 (holds_known 17 (take 1 two_entries) c.args.seat.now.view c.requires.below) in
     let is : c.move_name.new.seat ≡ seeing c.take_book-book.new.seat (moved_name 1 0 v) = c.move_name.ensures.view ∙ ap (λ (k : ℕ). seeing c.take_book-book.new.seat (moved_name 1 k v)) c.requires.pool in

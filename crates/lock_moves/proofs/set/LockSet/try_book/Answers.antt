@@ -16,7 +16,7 @@ pub compare_exchange-found-requires : goal.compare_exchange-found-requires
 compare_exchange-found-requires g c = let at = c.seat.view_is in let rests = c.seat.invariant in let is = c.seated-me.ensures.2 in (
   search rules,
   search rules,
-  tries_book g.V.Part.part _ _ _ _ _
+  tries_book g.V.Part.part _ _ _ _ _ _
       (subst (λ (z : List (ℕ × Known)). AllBelow 17 z) (sym (ap (λ z. z.view.held) at) ∙ sym (ap (λ z. z.0.seen.held) is)) c.requires.order)
       (ap (λ z. z.0.out) is ∙ rests.1)
       (subst (λ (z : ℕ). 0 < z) (sym (ap (λ z. z.0.seen.shares) is)) rests.2),
@@ -35,7 +35,7 @@ load-requires g c = let t = c.compare_exchange-found.ensures.2.0 c.if-found-ne0.
     let slots : rest c.compare_exchange-found.new.seat.me.1 ≡ [] = ap (λ z. rest z.1) t.2 ∙ ap (λ z. z.1) is in (
       search rules,
       search rules,
-      settles_at g.V.Part.part _ _ _ _ _ w 17 (c.exchange-content.ensures.3 ∙ (λ i. (view i, (17, Out) ∷ slots i))) refl (book_known, find-head 17 (book_known) v.seen.held) rests.2,
+      settles_at g.V.Part.part _ _ _ _ _ _ w 17 (c.exchange-content.ensures.3 ∙ (λ i. (view i, (17, Out) ∷ slots i))) refl (book_known, find-head 17 (book_known) v.seen.held) rests.2,
     )
 
 pub returns : goal.returns
@@ -44,6 +44,7 @@ returns g c = let t = c.compare_exchange-found.ensures.2.0 c.if-found-ne0.false 
     let after : with_out 0 c.compare_exchange-found.new.seat.me.0 ≡ first_of_views c.into_badge-2.result.views = sym (ap first_of_views c.into_badge-2.ensures.2 ∙ (ap (λ z. z.0) c.load.ensures.2 ∙ ap (λ (z : Me (Content g.row.V.Denot) View). with_out 0 z.0) c.exchange-content.ensures.3)) in (
       (t.1, search rules),
       ap (λ (b : Chronicle). b.input) same ∙ (t.3 ∙ ap (λ (v : Seen). v.input) was),
-      subst (λ (z : Seen × Chronicle). IsPrefix z.0.front z.1.history) (λ i. (was i, sym same i)) t.4,
-      subst (λ (z : View). Current z.seen) after t.5,
+      ap (λ (b : Chronicle). b.limit) same ∙ (t.4 ∙ ap (λ (v : Seen). v.limit) was),
+      subst (λ (z : Seen × Chronicle). IsPrefix z.0.front z.1.history) (λ i. (was i, sym same i)) t.5,
+      subst (λ (z : View). Current z.seen) after t.6,
     )

@@ -13,7 +13,7 @@ pub compare_exchange-found-requires : goal.compare_exchange-found-requires
 compare_exchange-found-requires g c = let at = c.seat.view_is in let rests = c.seat.invariant in let is = c.seated-me.ensures.2 in (
   search rules,
   search rules,
-  tries g.V.Part.part _ _ _ _ _ _ c.requires.number
+  tries g.V.Part.part _ _ _ _ _ _ _ c.requires.number
       (subst (λ (z : List (ℕ × Known)). AllBelow c.args.lock.0 z) (sym (ap (λ z. z.view.held) at) ∙ sym (ap (λ z. z.0.seen.held) is)) c.requires.order)
       (ap (λ z. z.0.out) is ∙ rests.1)
       (subst (λ (z : ℕ). 0 < z) (sym (ap (λ z. z.0.seen.shares) is)) rests.2),
@@ -32,7 +32,7 @@ load-requires g c = let t = c.compare_exchange-found.ensures.2.0 c.if-found-ne0.
     let slots : rest c.compare_exchange-found.new.seat.me.1 ≡ [] = ap (λ z. rest z.1) t.3 ∙ ap (λ z. z.1) is in (
       search rules,
       search rules,
-      settles_at g.V.Part.part _ _ _ _ _ w k (c.exchange-content.ensures.3 ∙ (λ i. (view i, (k, Out) ∷ slots i))) refl (known (g.V.Part.part t.0) t.1, find-head k (known (g.V.Part.part t.0) t.1) v.seen.held) rests.2,
+      settles_at g.V.Part.part _ _ _ _ _ _ w k (c.exchange-content.ensures.3 ∙ (λ i. (view i, (k, Out) ∷ slots i))) refl (known (g.V.Part.part t.0) t.1, find-head k (known (g.V.Part.part t.0) t.1) v.seen.held) rests.2,
     )
 
 pub returns : goal.returns
