@@ -76,7 +76,7 @@ has_places : (m : Machine) → IsChecked m → (entries : List Entry) → IsRun 
 has_places m checked entries run = let ranges : StateInRange m (state_after m entries) = in_range m checked entries run in
     record { free = ranges.free_places; cores = λ i pool at. (ranges.pools i pool at).core_places; domains = λ i pool at. (ranges.pools i pool at).domain_places }
 
-housed_from : (m : Machine) → IsChecked m → (done rest : List Entry) (from : Reached) → after_entries m (begun m) done ≡ from → IsRun m done → IsRunFrom m from rest → Housed m from.state → Housed m (after_entries m from rest).state
+pub housed_from : (m : Machine) → IsChecked m → (done rest : List Entry) (from : Reached) → after_entries m (begun m) done ≡ from → IsRun m done → IsRunFrom m from rest → Housed m from.state → Housed m (after_entries m from rest).state
 housed_from m checked done [] from is run goes h = h
 housed_from m checked done (e ∷ rest) from is run goes h =
     housed_from m checked (done ++ e ∷ []) rest (after_entry m from e) (sym (after_more m (begun m) done e) ∙ ap (λ r. after_entry m r e) is)

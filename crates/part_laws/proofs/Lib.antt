@@ -1,8 +1,8 @@
-mod Places
-mod Looks
-mod Alike
-mod Meets
-mod Housed
-mod Moves
-mod Begun
-mod Law
+pub mod Places
+pub mod Looks
+pub mod Alike
+pub mod Meets
+pub mod Housed
+pub mod Moves
+pub mod Begun
+pub mod Law

@@ -1,0 +1,161 @@
+-- The opening: no core has a unit, and the records of RTDS units are as they begin their first terms.
+use Rattle.std.proofs.Common.{◌≡◌, ◌<◌, ◌+◌, ◌-◌, ℕ, zero, suc, Bool, true, false, List, [], ◌∷◌, length, refl, arith, ap, subst, sym, ◌∙◌, inl, inr, cond, replicate}
+use Rattle.std.specs.Prelude.{Option, Some, None, option_map, is_some, map, slice_get, ◌==◌, ◌&&◌}
+use Rattle.sched_base.specs.Numbers.{moment, domain as domain_number}
+use Rattle.sched_base.specs.declared.UnitId.{UnitId}
+use Rattle.sched_base.specs.declared.Cores.{Cores}
+use Rattle.sched_model.specs.declared.config.DomConfig.{DomConfig}
+use Rattle.sched_model.specs.declared.config.PoolParams.{PoolParams}
+use Rattle.sched_model.specs.declared.config.PoolParams.TheVariants as pool_params
+use Rattle.sched_model.specs.declared.config.DomParams.{DomParams}
+use Rattle.sched_model.specs.declared.config.DomParams.TheVariants as dom_params
+use Rattle.sched_model.specs.declared.config.ParamChange.TheVariants as changes
+use Rattle.sched_model.specs.declared.machine.Machine.{Machine}
+use Rattle.sched_model.specs.declared.state.Pool.{Pool}
+use Rattle.sched_model.specs.declared.state.Domain.{Domain}
+use Rattle.sched_model.specs.declared.state.Resource.{Resource}
+use Rattle.sched_model.specs.declared.state.RtdsUnit.{RtdsUnit}
+use Rattle.sched_model.specs.declared.state.Records.{Records}
+use Rattle.sched_model.specs.declared.state.Records.TheVariants.{Credit2Pool, RtdsPool, ArincPool, NullPool}
+use Rattle.sched_model.specs.Places.{at_place, put_at, test_at, numbers_from}
+use Rattle.sched_model.specs.State.{is_runnable, has_core}
+use Rattle.sched_model.specs.Eligible.{rtds_unit}
+use Rattle.sched_model.specs.Policy as policy
+use Rattle.sched_model.specs.Policy.{kind_of, rtds_record, joined_records, changed_records, fresh_records}
+use Rattle.sched_model.specs.Rtds as rtds
+use Rattle.sched_model.specs.Pool.{queue_units, queue_if_off, with_domain, is_off, set_params, unit_count}
+use Rattle.sched_model.specs.Opening.{opening, with_domains, with_configured, with_pins, most_pools, core_count, fresh_core, empty_pool, fresh_vcpu}
+use Rattle.sched_model.specs.Checked.{IsChecked}
+use Rattle.sched_laws.proofs.EachPlace.{by_cond, read_put_at, EachPlace-empty}
+use Rattle.sched_laws.proofs.Lists.{test_at-some}
+use Rattle.sched_laws.proofs.Opened.{read_pools, read_map, with_configured-resources}
+use Rattle.sched_laws.proofs.Records.{same_joined}
+use Rattle.part_laws.proofs.Begun.{housed_opening}
+use Rattle.part_laws.proofs.Alike.{mover_of}
+use Rattle.term_laws.proofs.SamePool.{cur_in}
+use Rattle.term_laws.proofs.Track.{is_rtds_pool, rtds_same}
+use Rattle.term_laws.proofs.Deciding.{Tracks, cur_core}
+
+-- the cores of a pool do not change as domains join
+domains_keep_cores : (g i d : ℕ) (domains : List DomConfig) (pool : Pool) → (with_domains g i d domains pool).resources ≡ pool.resources
+domains_keep_cores g i d [] pool = refl
+domains_keep_cores g i d (joining ∷ domains) pool =
+    domains_keep_cores g i (suc d) domains (cond (joining.home.0 == i) (with_configured g d joining pool) pool)
+    ∙ by_cond (λ (p : Pool). p.resources ≡ pool.resources) (joining.home.0 == i) (with_configured g d joining pool) pool (λ is. with_configured-resources g d joining pool) (λ is. refl)
+
+-- no core has a unit at the opening
+pub nobody_runs : (m : Machine) (i : ℕ) (p : Pool) → at_place (opening m).pools i ≡ Some p → (r : ℕ) (u : UnitId) → cur_in (at_place p.resources r) ≡ Some u → ⊥
+nobody_runs m i p at r u is =
+    let q = read_pools m.config 0 (most_pools - length m.config.pools) m.config.pools i p at in
+    let f : ℕ → Option Resource = λ n. cond (has_core q.0.cores n) (Some (fresh_core (replicate m.config.granularity (moment 0)))) None in
+    let cores = ap (λ (x : Pool). x.resources) q.2 ∙ domains_keep_cores m.config.granularity (0 + i) 0 m.config.domains (record (empty_pool m.config q.0.params) { resources = map f (numbers_from 0 (core_count m.config)) }) in
+    let c = cur_core (at_place p.resources r) u is in
+    let there = read_map f 0 (core_count m.config) r c.0 (sym (ap (λ (l : List (Option Resource)). at_place l r) cores) ∙ c.1) in
+    by_cond (λ (o : Option Resource). o ≡ Some c.0 → ⊥) (has_core q.0.cores (0 + r)) _ _ (λ yes_core e. (let none : c.0.cur ≡ None = fresh_cur c.0 (some_same e) in let e2 : None ≡ Some u = sym none ∙ c.2 in cc)) (λ no_core e. cc) there
+  where
+    some_same : {X : Type 0} {x y : X} → Some x ≡ Some y → x ≡ y
+    some_same e = cc
+
+    fresh_cur : (c : Resource) → fresh_core (replicate m.config.granularity (moment 0)) ≡ c → c.cur ≡ None
+    fresh_cur c e = sym (ap (λ (x : Resource). x.cur) e)
+
+-- the pool that has the domain
+home_pool_of : (o : Option Pool) (d : ℕ) → is_some (mover_of o d) ≡ true → (p : Pool) × (o ≡ Some p) × (test_at p.domains d (λ x. true) ≡ true)
+home_pool_of None d is = absurd (cc)
+home_pool_of (Some p) d is = (p, refl, by_domain (at_place p.domains d) refl is)
+  where
+    by_domain : (o2 : Option Domain) → at_place p.domains d ≡ o2 → is_some (option_map (λ (x : Domain). x.moving) o2) ≡ true → test_at p.domains d (λ x. true) ≡ true
+    by_domain None is2 e2 = absurd (cc)
+    by_domain (Some x) is2 e2 = test_at-some p.domains d (λ x. true) x is2 refl
+
+pub tracks_opening : (m : Machine) → IsChecked m → (u : UnitId) → u.dom.0 < length m.config.domains → Tracks u None (opening m)
+tracks_opening m checked u low =
+    let h = (housed_opening m checked).domains u.dom.0 low in
+    let p = home_pool_of (at_place (opening m).pools h.0) u.dom.0 h.1 in
+    record { home = h.0; pool = p.0; at = p.1; has = record { there = p.2; none = λ r is. nobody_runs m h.0 p.0 p.1 r u is } }
+
+-- a record of a unit that has just joined at 0: its budget is full, and its deadline is one period ahead
+pub record IsFull (x : RtdsUnit) : Type 0 where
+  pub left : x.left ≡ x.budget
+  pub deadline : x.deadline ≡ x.period
+
+abbrev pub AllFull : Records → Type 0
+AllFull records = (domains : List (Option (List RtdsUnit))) → records ≡ RtdsPool domains → (u : UnitId) (x : RtdsUnit) → rtds_unit domains u ≡ Some x → IsFull x
+
+get_replicate : (n i : ℕ) (y x : RtdsUnit) → slice_get (replicate n y) i ≡ Some x → y ≡ x
+get_replicate zero i y x at = absurd (cc)
+get_replicate (suc n) zero y x at = cc
+get_replicate (suc n) (suc i) y x at = get_replicate n i y x at
+
+-- the units of a domain that joins
+full_put : (d count : ℕ) (period budget : ℕ) (extra : Bool) (domains : List (Option (List RtdsUnit))) → ((u : UnitId) (x : RtdsUnit) → rtds_unit domains u ≡ Some x → IsFull x)
+    → (u : UnitId) (x : RtdsUnit) → rtds_unit (put_at d (rtds.fresh_units period budget extra count 0) domains) u ≡ Some x → IsFull x
+full_put d count period budget extra domains full u x at = go (at_place (put_at d (rtds.fresh_units period budget extra count 0) domains) u.dom.0) refl at
+  where
+    go : (o : Option (List RtdsUnit)) → at_place (put_at d (rtds.fresh_units period budget extra count 0) domains) u.dom.0 ≡ o → elim o as (λ _. Option RtdsUnit) [ None ↦ None | Some units ↦ slice_get units u.n ] ≡ Some x → IsFull x
+    go None is at2 = absurd (cc)
+    go (Some units) is at2 =
+        elim (read_put_at d u.dom.0 (rtds.fresh_units period budget extra count 0) domains units is) [
+          | inl was ↦ full u x (ap (λ (o : Option (List RtdsUnit)). elim o as (λ _. Option RtdsUnit) [ None ↦ None | Some us ↦ slice_get us u.n ]) was ∙ at2)
+          | inr new ↦ (
+              let y : RtdsUnit = record { period = period; budget = budget; extra = extra; next_period = period; next_budget = budget; next_extra = extra; deadline = 0 + period; left = budget; level = 0; burned = None } in
+              let at3 : slice_get (replicate count y) u.n ≡ Some x = subst (λ (us : List RtdsUnit). slice_get us u.n ≡ Some x) (sym new.1) at2 in
+              let e = get_replicate count u.n y x at3 in
+              subst IsFull e (record { left = refl; deadline = omega arith }))
+        ]
+
+full_joined : (records : Records) (params : DomParams) (d count : ℕ) → AllFull records → AllFull (joined_records records params d count 0)
+full_joined records params d count full domains is =
+    let k = is_rtds_pool records (sym (same_joined kind_of (λ a b. refl) (λ a b. refl) records params d count 0) ∙ ap kind_of is) in
+    by_params params k.0 (full k.0 k.1) (sym (ap (λ (x : Records). joined_records x params d count 0) k.1) ∙ is)
+  where
+    by_params : (params2 : DomParams) (old : List (Option (List RtdsUnit))) → ((u : UnitId) (x : RtdsUnit) → rtds_unit old u ≡ Some x → IsFull x) → joined_records (RtdsPool old) params2 d count 0 ≡ RtdsPool domains → (u : UnitId) (x : RtdsUnit) → rtds_unit domains u ≡ Some x → IsFull x
+    by_params (dom_params.Credit2 weight percent) old was e u x at = was u x (subst (λ ds. rtds_unit ds u ≡ Some x) (sym (rtds_same old domains e)) at)
+    by_params (dom_params.Rtds period budget extra) old was e u x at = full_put d count period.0 budget.0 extra old was u x (subst (λ ds. rtds_unit ds u ≡ Some x) (sym (rtds_same (put_at d (rtds.fresh_units period.0 budget.0 extra count 0) old) domains e)) at)
+    by_params dom_params.Arinc653 old was e u x at = was u x (subst (λ ds. rtds_unit ds u ≡ Some x) (sym (rtds_same old domains e)) at)
+    by_params dom_params.Null old was e u x at = was u x (subst (λ ds. rtds_unit ds u ≡ Some x) (sym (rtds_same old domains e)) at)
+
+queue_keeps : (g d : ℕ) (ns : List ℕ) (pool : Pool) → (queue_units g d ns pool).scheduler.records ≡ pool.scheduler.records
+queue_keeps g d [] pool = refl
+queue_keeps g d (n ∷ ns) pool =
+    let u : UnitId = record { dom = domain_number d; n = n } in
+    queue_keeps g d ns (queue_if_off g u pool) ∙ by_cond (λ (q : Pool). q.scheduler.records ≡ pool.scheduler.records) (is_runnable g pool u && is_off pool u) _ _ (λ is. refl) (λ is. refl)
+
+pin_keeps : (records : Records) (d : ℕ) (n : ℕ) (cores : Cores) → changed_records records (changes.Pin (domain_number d) (Some n) cores) 0 ≡ records
+pin_keeps (Credit2Pool records) d n cores = refl
+pin_keeps (RtdsPool domains) d n cores = refl
+pin_keeps (ArincPool records) d n cores = refl
+pin_keeps (NullPool kept) d n cores = refl
+
+pins_keep : (d n : ℕ) (pins : List Cores) (pool : Pool) → (with_pins d n pins pool).scheduler.records ≡ pool.scheduler.records
+pins_keep d n [] pool = refl
+pins_keep d n (cores ∷ pins) pool = pins_keep d (suc n) pins (set_params (changes.Pin (domain_number d) (Some n) cores) 0 pool) ∙ pin_keeps pool.scheduler.records d n cores
+
+full_configured : (g d : ℕ) (joining : DomConfig) (pool : Pool) → AllFull pool.scheduler.records → AllFull (with_configured g d joining pool).scheduler.records
+full_configured g d joining pool full =
+    let x : Domain = record { paused = false; moving = None; vcpus = map fresh_vcpu joining.guests } in
+    let put : Pool = record pool { domains = put_at d x pool.domains; scheduler = policy.join d (unit_count g x) joining.params 0 pool.scheduler } in
+    subst AllFull (sym (pins_keep d 0 joining.pins (with_domain g 0 d x joining.params pool) ∙ queue_keeps g d (numbers_from 0 (unit_count g x)) put))
+    (full_joined pool.scheduler.records joining.params d (unit_count g x) full)
+
+full_domains : (g i d : ℕ) (domains : List DomConfig) (pool : Pool) → AllFull pool.scheduler.records → AllFull (with_domains g i d domains pool).scheduler.records
+full_domains g i d [] pool full = full
+full_domains g i d (joining ∷ domains) pool full =
+    full_domains g i (suc d) domains (cond (joining.home.0 == i) (with_configured g d joining pool) pool)
+    (by_cond (λ (p : Pool). AllFull p.scheduler.records) (joining.home.0 == i) (with_configured g d joining pool) pool (λ is. full_configured g d joining pool full) (λ is. full))
+
+full_fresh : (params : PoolParams) (domains cores : ℕ) → AllFull (fresh_records params domains cores)
+full_fresh (pool_params.Credit2 limit) n cores domains is u x at = absurd (cc)
+full_fresh pool_params.Rtds n cores domains is u x at = absurd (none (at_place domains u.dom.0) refl at)
+  where
+    none : (o : Option (List RtdsUnit)) → at_place domains u.dom.0 ≡ o → elim o as (λ _. Option RtdsUnit) [ None ↦ None | Some units ↦ slice_get units u.n ] ≡ Some x → ⊥
+    none None e at2 = cc
+    none (Some units) e at2 = EachPlace-empty {X = List RtdsUnit} (λ y. ⊥) n u.dom.0 units (subst (λ ds. at_place ds u.dom.0 ≡ Some units) (sym (rtds_same (replicate n None) domains is)) e)
+full_fresh (pool_params.Arinc653 frame) n cores domains is u x at = absurd (cc)
+full_fresh pool_params.Null n cores domains is u x at = absurd (cc)
+
+-- each RTDS record at the opening
+pub full_opening : (m : Machine) (i : ℕ) (p : Pool) → at_place (opening m).pools i ≡ Some p → AllFull p.scheduler.records
+full_opening m i p at =
+    let q = read_pools m.config 0 (most_pools - length m.config.pools) m.config.pools i p at in
+    subst (λ (x : Pool). AllFull x.scheduler.records) (sym q.2) (full_domains m.config.granularity (0 + i) 0 m.config.domains _ (full_fresh q.0.params (length m.config.domains) (core_count m.config)))

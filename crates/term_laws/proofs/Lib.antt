@@ -1,0 +1,21 @@
+pub mod RtdsSteps
+pub mod SamePool
+pub mod Plans
+pub mod SameAt
+pub mod TermPool
+pub mod Time
+pub mod TermSums
+pub mod TermState
+pub mod SameMoved
+pub mod TermsOfRuns
+pub mod Track
+pub mod ReachedStates
+pub mod ActsIn
+pub mod Deciding
+pub mod DecidedSteps
+pub mod Replenishing
+pub mod Moving
+pub mod TermLaw
+pub mod Beginning
+pub mod TermsKept
+mod ExamplesComputed

@@ -1,0 +1,201 @@
+-- What the decisions of an RTDS pool do to a unit's record.
+use Rattle.std.proofs.Common.{◌≡◌, ◌≢◌, ◌≤◌, ◌+◌, ◌-◌, ℕ, zero, suc, true, false, List, [], ◌∷◌, refl, arith, ap, subst, sym, ◌∙◌, ◌⊎◌, inl, inr, nat_lt}
+use Rattle.std.proofs.Math.Decide.{ℕ_discrete}
+use Rattle.std.specs.Prelude.{Option, Some, None, slice_get, slice_set, option_map}
+use Rattle.sched_base.specs.Numbers.{moment}
+use Rattle.sched_base.specs.declared.UnitId.{UnitId}
+use Rattle.sched_base.specs.RtdsNumbers.{burned_left}
+use Rattle.sched_model.specs.Places.{at_place, change_at, change_item, same_unit, is_unit}
+use Rattle.sched_model.specs.declared.state.Scheduler.{Scheduler}
+use Rattle.sched_model.specs.declared.state.RtdsUnit.{RtdsUnit}
+use Rattle.sched_model.specs.declared.state.Records.TheVariants.{RtdsPool}
+use Rattle.sched_model.specs.declared.ask.Ask.{Ask}
+use Rattle.sched_model.specs.Eligible.{Decision, rtds_unit}
+use Rattle.sched_model.specs.Rtds.{burn, burn_to, change_unit, set_running, switch_off, burn_cur, budget_left, choose_rt, choice, decide}
+use Rattle.sched_laws.proofs.EachPlace.{by_cond}
+use Rattle.sched_laws.proofs.Choices.{same_unit_same}
+
+slice_get-change_item : {X : Type 0} (i : ℕ) (f : X → X) (xs : List X) (x : X) → slice_get xs i ≡ Some x → slice_get (change_item i f xs) i ≡ Some (f x)
+slice_get-change_item i f [] x at = absurd (cc)
+slice_get-change_item zero f (y ∷ xs) x at = (let e : y ≡ x = cc in ap (λ (z : _). Some (f z)) e)
+slice_get-change_item (suc i) f (y ∷ xs) x at = slice_get-change_item i f xs x at
+
+slice_get-change_item_other : {X : Type 0} (i j : ℕ) (f : X → X) (xs : List X) → i ≢ j → slice_get (change_item i f xs) j ≡ slice_get xs j
+slice_get-change_item_other i j f [] other = refl
+slice_get-change_item_other zero zero f (y ∷ xs) other = absurd (other refl)
+slice_get-change_item_other zero (suc j) f (y ∷ xs) other = refl
+slice_get-change_item_other (suc i) zero f (y ∷ xs) other = refl
+slice_get-change_item_other (suc i) (suc j) f (y ∷ xs) other = slice_get-change_item_other i j f xs (λ e. other (ap suc e))
+
+pub at_place-change_at : {X : Type 0} (i : ℕ) (f : X → X) (places : List (Option X)) → at_place (change_at i f places) i ≡ option_map f (at_place places i)
+at_place-change_at zero f [] = refl
+at_place-change_at (suc i) f [] = refl
+at_place-change_at zero f (p ∷ places) = refl
+at_place-change_at (suc i) f (p ∷ places) = at_place-change_at i f places
+
+pub at_place-change_at_other : {X : Type 0} (i j : ℕ) (f : X → X) (places : List (Option X)) → i ≢ j → at_place (change_at i f places) j ≡ at_place places j
+at_place-change_at_other zero j f [] other = refl
+at_place-change_at_other (suc i) j f [] other = refl
+at_place-change_at_other zero zero f (p ∷ places) other = absurd (other refl)
+at_place-change_at_other zero (suc j) f (p ∷ places) other = refl
+at_place-change_at_other (suc i) zero f (p ∷ places) other = refl
+at_place-change_at_other (suc i) (suc j) f (p ∷ places) other = at_place-change_at_other i j f places (λ e. other (ap suc e))
+
+-- the unit's record after a change of it
+pub rtds_unit-same : (u : UnitId) (f : RtdsUnit → RtdsUnit) (domains : List (Option (List RtdsUnit))) (x : RtdsUnit) → rtds_unit domains u ≡ Some x → rtds_unit (change_unit u f domains) u ≡ Some (f x)
+rtds_unit-same u f domains x at =
+    ap (λ (o : Option (List RtdsUnit)). elim o as (λ _. Option RtdsUnit) [ None ↦ None | Some units ↦ slice_get units u.n ]) (at_place-change_at u.dom.0 (change_item u.n f) domains)
+    ∙ there (at_place domains u.dom.0) at
+  where
+    there : (o : Option (List RtdsUnit)) → elim o as (λ _. Option RtdsUnit) [ None ↦ None | Some units ↦ slice_get units u.n ] ≡ Some x
+        → elim (option_map (change_item u.n f) o) as (λ _. Option RtdsUnit) [ None ↦ None | Some units ↦ slice_get units u.n ] ≡ Some (f x)
+    there None is = absurd (cc)
+    there (Some units) is = slice_get-change_item u.n f units x is
+
+slice_get-change_item_none : {X : Type 0} (i : ℕ) (f : X → X) (xs : List X) → slice_get xs i ≡ None → slice_get (change_item i f xs) i ≡ None
+slice_get-change_item_none i f [] at = at
+slice_get-change_item_none zero f (y ∷ xs) at = absurd (cc)
+slice_get-change_item_none (suc i) f (y ∷ xs) at = slice_get-change_item_none i f xs at
+
+pub rtds_unit-none : (u : UnitId) (f : RtdsUnit → RtdsUnit) (domains : List (Option (List RtdsUnit))) → rtds_unit domains u ≡ None → rtds_unit (change_unit u f domains) u ≡ None
+rtds_unit-none u f domains at =
+    ap (λ (o : Option (List RtdsUnit)). elim o as (λ _. Option RtdsUnit) [ None ↦ None | Some units ↦ slice_get units u.n ]) (at_place-change_at u.dom.0 (change_item u.n f) domains)
+    ∙ there (at_place domains u.dom.0) at
+  where
+    there : (o : Option (List RtdsUnit)) → elim o as (λ _. Option RtdsUnit) [ None ↦ None | Some units ↦ slice_get units u.n ] ≡ None
+        → elim (option_map (change_item u.n f) o) as (λ _. Option RtdsUnit) [ None ↦ None | Some units ↦ slice_get units u.n ] ≡ None
+    there None is = refl
+    there (Some units) is = slice_get-change_item_none u.n f units is
+
+-- what stands at another place than the one that is set
+pub at_place-set_other : {X : Type 0} (i j : ℕ) (o : Option X) (places : List (Option X)) → i ≢ j → at_place (slice_set places i o) j ≡ at_place places j
+at_place-set_other zero j o [] other = refl
+at_place-set_other (suc i) j o [] other = refl
+at_place-set_other zero zero o (p ∷ places) other = absurd (other refl)
+at_place-set_other zero (suc j) o (p ∷ places) other = refl
+at_place-set_other (suc i) zero o (p ∷ places) other = refl
+at_place-set_other (suc i) (suc j) o (p ∷ places) other = at_place-set_other i j o places (λ e. other (ap suc e))
+
+-- and after one of another unit
+pub rtds_unit-other : (w u : UnitId) (f : RtdsUnit → RtdsUnit) (domains : List (Option (List RtdsUnit))) → same_unit w u ≡ false → rtds_unit (change_unit w f domains) u ≡ rtds_unit domains u
+rtds_unit-other w u f domains other =
+    elim (ℕ_discrete w.dom.0 u.dom.0) [
+      | yes e ↦ (
+          let n : w.n ≢ u.n = λ e2. (grind (arith, e, e2, other)) in
+          subst (λ (d : ℕ). elim (at_place (change_at w.dom.0 (change_item w.n f) domains) d) as (λ _. Option RtdsUnit) [ None ↦ None | Some units ↦ slice_get units u.n ] ≡ elim (at_place domains d) as (λ _. Option RtdsUnit) [ None ↦ None | Some units ↦ slice_get units u.n ]) e
+          (ap (λ (o : Option (List RtdsUnit)). elim o as (λ _. Option RtdsUnit) [ None ↦ None | Some units ↦ slice_get units u.n ]) (at_place-change_at w.dom.0 (change_item w.n f) domains)
+          ∙ there (at_place domains w.dom.0) n))
+      | no ne ↦ ap (λ (o : Option (List RtdsUnit)). elim o as (λ _. Option RtdsUnit) [ None ↦ None | Some units ↦ slice_get units u.n ]) (at_place-change_at_other w.dom.0 u.dom.0 (change_item w.n f) domains ne)
+    ]
+  where
+    there : (o : Option (List RtdsUnit)) → w.n ≢ u.n → elim (option_map (change_item w.n f) o) as (λ _. Option RtdsUnit) [ None ↦ None | Some units ↦ slice_get units u.n ] ≡ elim o as (λ _. Option RtdsUnit) [ None ↦ None | Some units ↦ slice_get units u.n ]
+    there None n = refl
+    there (Some units) n = slice_get-change_item_other w.n u.n f units n
+
+-- a record of a unit without extra time: so much is left at most, up to this deadline
+pub record Has (left deadline : ℕ) (x : RtdsUnit) : Type 0 where
+  pub few : x.left ≤ left
+  pub plain : x.extra ≡ false
+  pub ends : x.deadline ≡ deadline
+
+less_left : (left n : ℕ) (x : RtdsUnit) → x.left ≤ left → x.extra ≡ false → burned_left x.left x.budget x.extra n ≤ left - n
+less_left left n x few plain =
+    by_cond (λ y. y ≤ left - n) (nat_lt n x.left) _ _
+    (λ is. omega (arith, few))
+    (λ is. by_cond (λ y. y ≤ left - n) x.extra _ _ (λ extra. absurd (cc)) (λ e. omega arith))
+
+has_less : (left deadline n : ℕ) (x : RtdsUnit) → Has left deadline x → Has (left - n) deadline (burn n x)
+has_less left deadline n x has = record { few = less_left left n x has.few has.plain; plain = has.plain; ends = has.ends }
+
+pub burned_kept : (n : ℕ) (x : RtdsUnit) → (burn n x).burned ≡ x.burned
+burned_kept n x = refl
+
+-- charged up to t
+has_burned : (left deadline b t : ℕ) (x : RtdsUnit) → x.burned ≡ Some b → Has left deadline x → Has (left - (t - b)) deadline (burn_to t x)
+has_burned left deadline b t x is has =
+    subst (λ (o : Option ℕ). Has (left - (t - b)) deadline (elim o as (λ _. RtdsUnit) [ None ↦ x | Some from ↦ burn (t - from) (record x { burned = Some t }) ])) (sym is)
+    (has_less left deadline (t - b) (record x { burned = Some t }) (record { few = has.few; plain = has.plain; ends = has.ends }))
+
+-- the record of a unit among these, with that at most left
+pub record Recorded (u : UnitId) (left deadline : ℕ) (burned : Option ℕ) (domains : List (Option (List RtdsUnit))) : Type 0 where
+  pub unit : RtdsUnit
+  pub at : rtds_unit domains u ≡ Some unit
+  pub has : Has left deadline unit
+  pub burned_is : unit.burned ≡ burned
+
+module _ (u : UnitId) (left deadline : ℕ) where
+  pub recorded_running : (from burned : Option ℕ) (domains : List (Option (List RtdsUnit))) → Recorded u left deadline burned domains → Recorded u left deadline from (set_running from u domains)
+  recorded_running from burned domains r =
+      record {
+        unit = record r.unit { burned = from };
+        at = rtds_unit-same u (λ x. record x { burned = from }) domains r.unit r.at;
+        has = (let h = r.has in record { few = h.few; plain = h.plain; ends = h.ends });
+        burned_is = refl;
+      }
+
+  pub recorded_other : (w : UnitId) (f : RtdsUnit → RtdsUnit) (burned : Option ℕ) (domains : List (Option (List RtdsUnit))) → same_unit w u ≡ false → Recorded u left deadline burned domains → Recorded u left deadline burned (change_unit w f domains)
+  recorded_other w f burned domains other r = record { unit = r.unit; at = rtds_unit-other w u f domains other ∙ r.at; has = r.has; burned_is = r.burned_is }
+
+  pub recorded_burned : (b t : ℕ) (domains : List (Option (List RtdsUnit))) → Recorded u left deadline (Some b) domains → Recorded u (left - (t - b)) deadline (Some t) (change_unit u (burn_to t) domains)
+  recorded_burned b t domains r =
+      record {
+        unit = burn_to t r.unit;
+        at = rtds_unit-same u (burn_to t) domains r.unit r.at;
+        has = has_burned left deadline b t r.unit r.burned_is r.has;
+        burned_is = subst (λ (o : Option ℕ). (elim o as (λ _. RtdsUnit) [ None ↦ r.unit | Some from ↦ burn (t - from) (record r.unit { burned = Some t }) ]).burned ≡ Some t) (sym r.burned_is) (burned_kept (t - b) (record r.unit { burned = Some t }));
+      }
+
+  -- what is left of the budget
+  pub recorded_left : (burned : Option ℕ) (domains : List (Option (List RtdsUnit))) → Recorded u left deadline burned domains → budget_left domains u ≤ left
+  recorded_left burned domains r = (let e : budget_left domains u ≡ r.unit.left = ap (λ (o : Option RtdsUnit). elim o as (λ _. ℕ) [ None ↦ 0 | Some x ↦ x.left ]) r.at in let h = r.has.few in omega (arith, e, h))
+
+  -- the unit is chosen, and is due within what is left
+  abbrev pub Chosen : ℕ → Decision → Type 0
+  Chosen at d = (d.unit ≡ Some u) × (n : ℕ) × (d.due ≡ Some (moment n)) × (n ≤ at + left) × (domains : List (Option (List RtdsUnit))) × (d.records ≡ RtdsPool domains) × Recorded u left deadline (Some at) domains
+
+  -- the unit is not chosen
+  abbrev pub Passed : Option ℕ → Decision → Type 0
+  Passed burned d = (is_unit d.unit u ≡ false) × (domains : List (Option (List RtdsUnit))) × (d.records ≡ RtdsPool domains) × Recorded u left deadline burned domains
+
+  switched_own : (burned : Option ℕ) (cur : Option UnitId) (domains : List (Option (List RtdsUnit))) → cur ≡ Some u → Recorded u left deadline burned domains → Recorded u left deadline None (switch_off cur domains)
+  switched_own burned cur domains is r = subst (λ o. Recorded u left deadline None (switch_off o domains)) (sym is) (recorded_running None burned domains r)
+
+  switched_other : (burned : Option ℕ) (cur : Option UnitId) (domains : List (Option (List RtdsUnit))) → is_unit cur u ≡ false → Recorded u left deadline burned domains → Recorded u left deadline burned (switch_off cur domains)
+  switched_other burned None domains other r = r
+  switched_other burned (Some w) domains other r = recorded_other w _ burned domains other r
+
+  -- the decision for a choice, where the core's own unit was charged and is then switched off
+  decide_gives : (ask : Ask) (domains : List (Option (List RtdsUnit))) (burned off : Option ℕ) (c : Option UnitId) → Recorded u left deadline burned domains → Recorded u left deadline off (switch_off ask.cur domains)
+      → Chosen ask.at (decide ask domains c) ⊎ Passed off (decide ask domains c)
+  decide_gives ask domains burned off None r switched = inr (refl, switch_off ask.cur domains, refl, switched)
+  decide_gives ask domains burned off (Some w) r switched =
+      elim (same_unit w u) as (λ b. same_unit w u ≡ b → Chosen ask.at (decide ask domains (Some w)) ⊎ Passed off (decide ask domains (Some w))) [
+        | true ↦ λ is. (
+            let e : u ≡ w = sym (same_unit_same w u is) in
+            subst (λ x. Chosen ask.at (decide ask domains (Some x)) ⊎ Passed off (decide ask domains (Some x))) e
+            (inl (refl, ask.at + budget_left domains u, refl, (let l = recorded_left burned domains r in omega (arith, l)), set_running (Some ask.at) u (switch_off ask.cur domains), refl, recorded_running (Some ask.at) off (switch_off ask.cur domains) switched)))
+        | false ↦ λ is. inr (is, set_running (Some ask.at) w (switch_off ask.cur domains), refl, recorded_other w _ off (switch_off ask.cur domains) is switched)
+      ] refl
+
+  -- a core that does not have the unit
+  pub decides_off : (ask : Ask) (scheduler : Scheduler) (domains : List (Option (List RtdsUnit))) (burned : Option ℕ) → is_unit ask.cur u ≡ false → Recorded u left deadline burned domains
+      → Chosen ask.at (choose_rt ask scheduler domains) ⊎ Passed burned (choose_rt ask scheduler domains)
+  decides_off ask scheduler domains burned other r =
+      decide_gives ask (burn_cur ask.cur ask.at domains) burned burned (choice ask scheduler (burn_cur ask.cur ask.at domains)) charged (switched_other burned ask.cur _ other charged)
+    where
+      charge : (cur : Option UnitId) → is_unit cur u ≡ false → Recorded u left deadline burned (burn_cur cur ask.at domains)
+      charge None is = r
+      charge (Some w) is = recorded_other w (burn_to ask.at) burned domains is r
+
+      charged : Recorded u left deadline burned (burn_cur ask.cur ask.at domains)
+      charged = charge ask.cur other
+
+-- a core that has it: it is charged first
+pub decides_on : (u : UnitId) (left deadline b : ℕ) (ask : Ask) (scheduler : Scheduler) (domains : List (Option (List RtdsUnit))) → ask.cur ≡ Some u → Recorded u left deadline (Some b) domains
+    → Chosen u (left - (ask.at - b)) deadline ask.at (choose_rt ask scheduler domains) ⊎ Passed u (left - (ask.at - b)) deadline None (choose_rt ask scheduler domains)
+decides_on u left deadline b ask scheduler domains is r =
+    decide_gives u (left - (ask.at - b)) deadline ask (burn_cur ask.cur ask.at domains) (Some ask.at) None (choice ask scheduler (burn_cur ask.cur ask.at domains)) charged
+    (switched_own u (left - (ask.at - b)) deadline (Some ask.at) ask.cur _ is charged)
+  where
+    charged : Recorded u (left - (ask.at - b)) deadline (Some ask.at) (burn_cur ask.cur ask.at domains)
+    charged = subst (λ o. Recorded u (left - (ask.at - b)) deadline (Some ask.at) (burn_cur o ask.at domains)) (sym is) (recorded_burned u left deadline b ask.at domains r)

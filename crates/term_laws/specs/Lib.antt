@@ -1,0 +1,2 @@
+pub mod RtdsTerm
+pub mod Examples
