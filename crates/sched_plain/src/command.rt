@@ -26,7 +26,7 @@ use sched_model::state::{Pool, State};
 use sched_model::work::CommandLine;
 
 /// The answer to an accepted command.
-fn reply_of(plan: &Plan) -> Reply
+pub(crate) fn reply_of(plan: &Plan) -> Reply
     ensures { result ≡ reply_of_spec plan.now }
 {
     match plan {
@@ -86,7 +86,7 @@ fn judged(m: &Machine, s: &State, c: &Command, tool: &mut ToolState) -> Result<P
 }
 
 /// What is answered to the next line with a command.
-fn verdict(
+pub(crate) fn verdict(
     m: &Machine,
     s: &State,
     line: &CommandLine,

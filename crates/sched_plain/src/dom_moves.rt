@@ -21,7 +21,7 @@ use sched_model::row::Row;
 use sched_model::state::{Domain, Pool, State};
 
 /// The pool to which the domain is moving, where the pool with this number has it.
-fn target_in(s: &State, i: usize, d: u8) -> Option<PoolId>
+pub(crate) fn target_in(s: &State, i: usize, d: u8) -> Option<PoolId>
     ensures { result ≡ target_in_spec d i s.entry.now.pools }
 {
     let pool = pool_at(s, i)?;

@@ -11,3 +11,4 @@ pub mod perform;
 pub mod plain;
 pub mod scan;
 pub mod stall;
+pub mod tell;

@@ -24,7 +24,7 @@ use sched_model::row::Row;
 use sched_model::state::{FreeCore, Pool, State};
 
 /// The pool to which the core of no pool is leaving.
-fn target_at(free: &[Option<FreeCore>], r: u8) -> Option<u8>
+pub(crate) fn target_at(free: &[Option<FreeCore>], r: u8) -> Option<u8>
     ensures { result ≡ target_at_spec free.now r }
 {
     let place = r as usize;

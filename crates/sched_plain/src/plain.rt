@@ -4,9 +4,11 @@ use crate::enabled::is_enabled;
 use crate::next::next_moment;
 use crate::perform::perform;
 use crate::scan::first_enabled;
+use crate::tell::tell;
 use cpupool::ToolState;
 use plain_opening::opening::open_state;
-use plain_opening::spare::open_spares;
+use plain_opening::spare::{core_count, open_spares};
+use plain_telling::scratch::Scratch;
 use sched_base::{Moment, NoMemory};
 use sched_model::action::Action;
 use sched_model::event::Event;
@@ -26,6 +28,7 @@ pub struct Plain {
     state: State,
     tool: ToolState,
     spares: Row<Option<Pool>>,
+    scratch: Scratch,
 }
 
 impl Model for Plain {
@@ -33,12 +36,15 @@ impl Model for Plain {
 
     ghost Value = { Standing };
 
+    ghost use Rattle.std.specs.Prelude.{length};
+    ghost use Rattle.sched_model.specs.Opening.{core_count};
+    ghost use Rattle.plain_telling.specs.Rooms.{HasPlaces};
     ghost use Rattle.sched_plain.specs.Commanding.{HasSpares, KnowsMachine};
     ghost use Rattle.sched_plain.specs.Reached.{Stands};
 
     ghost view = { λ p. record { machine = p.machine; state = p.state } };
 
-    ghost invariant = { λ p. Stands p.machine p.state × KnowsMachine p.machine p.tool × HasSpares p.machine p.state.next_command p.spares };
+    ghost invariant = { λ p. Stands p.machine p.state × KnowsMachine p.machine p.tool × HasSpares p.machine p.state.next_command p.spares × HasPlaces (length p.machine.config.domains) (core_count p.machine.config) p.scratch };
 }
 
 impl Plain {
@@ -56,11 +62,14 @@ impl Plain {
         let state = open_state(alloc, &machine)?;
         let tool = ToolState::open(alloc, &machine.config, &machine.work)?;
         let spares = open_spares(alloc, &machine)?;
+        let cores = core_count(&machine.config) as usize;
+        let scratch = Scratch::open(alloc, machine.config.domains.len(), cores)?;
         Ok(Plain {
             machine,
             state,
             tool,
             spares,
+            scratch,
         })
     }
 
@@ -83,6 +92,21 @@ impl Plain {
         ensures { result ≡ first_enabled_spec self.now.machine self.now.state self.now.state.now }
     {
         first_enabled(&self.machine, &self.state, self.state.now)
+    }
+
+    /// The event of an action that may come now, with the fields that its line prints. Nothing is done.
+    pub fn event_of(&mut self, action: Action) -> Event
+        requires { is_enabled_spec self.old.machine self.old.state self.old.state.now action ≡ true }
+        ensures event { result ≡ event_of self.old.machine self.old.state self.old.state.now action }
+        ensures unchanged { self.new ≡ self.old }
+    {
+        tell(
+            &self.machine,
+            &self.state,
+            &mut self.tool,
+            &mut self.scratch,
+            action,
+        )
     }
 
     /// Does the event of an action that may come now, and answers it with the fields that its line prints.

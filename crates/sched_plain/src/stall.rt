@@ -68,7 +68,7 @@ fn end_in_free(g: u8, free: &[Option<FreeCore>], p: u8, end: u64) -> u64
 }
 
 /// The later of the end and that of the stall of the processor.
-fn stall_end_of(g: u8, s: &State, p: u8, end: u64) -> u64
+pub(crate) fn stall_end_of(g: u8, s: &State, p: u8, end: u64) -> u64
     requires some { 0 < g }
     requires few { length s.now.pools ≤ 16 }
     ensures { result ≡ stall_end_of_spec g s.entry.now p end }

@@ -1,0 +1,74 @@
+//! The same once more, with no memory taken.
+
+ghost use Rattle.std.specs.Prelude.{◌≡◌, ◌<◌, length, slice_index_or};
+ghost use Rattle.sched_model.specs.declared.state.Credit2Unit.{Credit2Unit as Credit2Record};
+ghost use Rattle.sched_model.specs.declared.state.Credit2Domain.{Credit2Domain as DomainRecord};
+ghost use Rattle.sched_model.specs.declared.state.RtdsUnit.{RtdsUnit as RtdsRecord};
+
+use sched_base::UnitId;
+use sched_model::row::Row;
+use sched_model::short::Short;
+use sched_model::state::{Credit2Domain, RtdsUnits};
+
+/// What can be had once more with no memory taken.
+pub trait Again {
+    /// The same once more.
+    fn again(&self) -> Self
+        ensures { result ≡ self.now };
+}
+
+/// The units once more.
+fn same_units<T: Copy + Default + Drop>(units: &Short<T, 32>) -> Short<T, 32>
+    ensures { result ≡ units.now }
+{
+    let mut all = Short::new();
+    for u in units.as_slice() {
+        all.push(*u);
+    }
+    all
+}
+
+impl Again for Credit2Domain {
+    fn again(&self) -> Credit2Domain {
+        Credit2Domain {
+            weight: self.weight,
+            cap: self.cap,
+            budget: self.budget,
+            refill: self.refill,
+            units: same_units(&self.units),
+        }
+    }
+}
+
+impl Again for RtdsUnits {
+    fn again(&self) -> RtdsUnits {
+        same_units(self)
+    }
+}
+
+impl Again for UnitId {
+    fn again(&self) -> UnitId {
+        *self
+    }
+}
+
+/// What stands at the place i, once more.
+fn again_at<T: Again + Drop>(from: &[Option<T>], i: usize) -> Option<T>
+    requires { i < length from.now }
+    ensures { result ≡ slice_index_or from.now i result }
+{
+    match &from[i] {
+        None => None,
+        Some(x) => Some(x.again()),
+    }
+}
+
+/// The places are those of the other list from now on, which is as long.
+pub fn copy_places<T: Again + Drop>(from: &[Option<T>], to: &mut Row<Option<T>>)
+    requires { length to.old ≡ length from.now }
+    ensures { to.new ≡ from.now }
+{
+    for i in 0..from.len() {
+        to.replace(i, again_at(from, i));
+    }
+}

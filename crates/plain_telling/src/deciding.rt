@@ -1,0 +1,216 @@
+//! What a scheduler would decide, with its records left as they are.
+
+ghost use Rattle.std.specs.Prelude.{◌≡◌, ◌<◌, ◌≤◌, length, Some};
+ghost use Rattle.sched_base.specs.Numbers.{span};
+ghost use Rattle.sched_model.specs.Credit2.{choose2};
+ghost use Rattle.sched_model.specs.Rtds.{choose_rt};
+ghost use Rattle.sched_model.specs.NullScheduler.{choose_null};
+ghost use Rattle.sched_model.specs.Policy.{decision_by, decision_of};
+ghost use Rattle.sched_model.specs.Pool.{ask_of as ask_of_spec, lateness, event_in};
+ghost use Rattle.sched_model.specs.Places.{at_place};
+ghost use Rattle.sched_model.specs.declared.action.Action.TheVariants.{Decide};
+ghost use Rattle.sched_model.specs.declared.state.Records.TheVariants.{RtdsPool, NullPool};
+ghost use Rattle.plain_units.specs.Fits.{Credit2Fits, RtdsFits, RecordsFit};
+ghost use Rattle.plain_units.specs.Tells.{Tells};
+ghost use Rattle.plain_credit2.specs.Waiting.{scheduler_of as credit2_scheduler};
+ghost use Rattle.plain_policy.specs.Parts.{scheduler_of};
+ghost use Rattle.plain_pool.specs.Fits.{PoolFits};
+ghost use Rattle.plain_telling.specs.Rooms.{AsLarge, HasRoom};
+
+use crate::copies::copy_places;
+use crate::scratch::Scratch;
+use plain_credit2::credit2;
+use plain_policy::{arinc, null, rtds};
+use plain_pool::cores::{core_at, home_cores};
+use plain_pool::runnable::is_runnable;
+use plain_units::decided::Decided;
+use sched_base::{ResId, Span, UnitId};
+use sched_model::ask::Ask;
+use sched_model::config::Pins;
+use sched_model::event::Event;
+use sched_model::row::Row;
+use sched_model::state::{Credit2Records, Pool, Records, Resource, RtdsUnits, Scheduler};
+
+/// The records are those of the other pool from now on, which has as many places.
+pub fn copy_credit2(from: &Credit2Records, to: &mut Credit2Records)
+    requires { length to.old.domains ≡ length from.now.domains }
+    ensures { to.new ≡ from.now }
+{
+    to.limit = from.limit;
+    to.last_reset = from.last_reset;
+    copy_places(from.domains.as_slice(), &mut to.domains);
+}
+
+/// What Credit2 would decide with these records.
+fn by_credit2(
+    records: &Credit2Records,
+    queue: &[UnitId],
+    affinity: &[Option<Pins>],
+    ask: &Ask,
+    scratch: &mut Credit2Records,
+) -> Decided
+    requires fits { Credit2Fits ask.now.at records.now }
+    requires early { ask.now.at ≤ 10000000000000 }
+    requires core { ask.now.core < 64 }
+    requires room { length scratch.old.domains ≡ length records.now.domains }
+    ensures decided { Tells result (choose2 ask.now (credit2_scheduler queue.now affinity.now records.now) records.now) }
+    ensures room { length scratch.new.domains ≡ length scratch.old.domains }
+{
+    copy_credit2(records, scratch);
+    credit2::choose(scratch, queue, affinity, ask)
+}
+
+/// What RTDS would decide with the records of these domains.
+fn by_rtds(
+    domains: &[Option<RtdsUnits>],
+    queue: &[UnitId],
+    affinity: &[Option<Pins>],
+    ask: &Ask,
+    scratch: &mut Row<Option<RtdsUnits>>,
+) -> Decided
+    requires fits { RtdsFits ask.now.at domains.now }
+    requires early { ask.now.at ≤ 10000000000000 }
+    requires core { ask.now.core < 64 }
+    requires room { length scratch.old ≡ length domains.now }
+    ensures decided { Tells result (choose_rt ask.now (scheduler_of queue.now affinity.now (RtdsPool domains.now)) domains.now) }
+    ensures room { length scratch.new ≡ length scratch.old }
+{
+    copy_places(domains, scratch);
+    rtds::choose(scratch, queue, affinity, ask)
+}
+
+/// What the null scheduler would decide, which keeps these units.
+fn by_null(
+    kept: &[Option<UnitId>],
+    queue: &[UnitId],
+    affinity: &[Option<Pins>],
+    ask: &Ask,
+    scratch: &mut Row<Option<UnitId>>,
+) -> Decided
+    requires core { ask.now.core < 64 }
+    requires few { length kept.now ≤ 64 }
+    requires room { length scratch.old ≡ length kept.now }
+    ensures decided { Tells result (choose_null ask.now (scheduler_of queue.now affinity.now (NullPool kept.now)) kept.now) }
+    ensures room { length scratch.new ≡ length scratch.old }
+{
+    copy_places(kept, scratch);
+    null::choose(scratch, queue, affinity, ask)
+}
+
+/// What the scheduler of these parts would decide.
+fn decision_by_parts(
+    records: &Records,
+    queue: &[UnitId],
+    affinity: &[Option<Pins>],
+    ask: &Ask,
+    scratch: &mut Scratch,
+) -> Decided
+    requires fits { RecordsFit ask.now.at records.now }
+    requires early { ask.now.at ≤ 10000000000000 }
+    requires core { ask.now.core < 64 }
+    requires room { HasRoom records.now scratch.old }
+    ensures decided { Tells result (decision_by records.now ask.now (scheduler_of queue.now affinity.now records.now)) }
+    ensures room { AsLarge scratch.new scratch.old }
+{
+    match records {
+        Records::Credit2Pool(own) => by_credit2(own, queue, affinity, ask, &mut scratch.credit2),
+        Records::RtdsPool(domains) => {
+            by_rtds(domains.as_slice(), queue, affinity, ask, &mut scratch.rtds)
+        }
+        Records::ArincPool(own) => arinc::choose(own, queue, affinity, ask),
+        Records::NullPool(kept) => {
+            by_null(kept.as_slice(), queue, affinity, ask, &mut scratch.kept)
+        }
+    }
+}
+
+/// What the scheduler would decide for a core.
+pub fn decision(scheduler: &Scheduler, ask: &Ask, scratch: &mut Scratch) -> Decided
+    requires fits { RecordsFit ask.now.at scheduler.now.records }
+    requires early { ask.now.at ≤ 10000000000000 }
+    requires core { ask.now.core < 64 }
+    requires room { HasRoom scheduler.now.records scratch.old }
+    ensures decided { Tells result (decision_of ask.now scheduler.now) }
+    ensures room { AsLarge scratch.new scratch.old }
+{
+    decision_by_parts(
+        &scheduler.records,
+        scheduler.queue.as_slice(),
+        scheduler.affinity.as_slice(),
+        ask,
+        scratch,
+    )
+}
+
+/// What the core asks its scheduler.
+fn ask_of(g: u8, t: u64, pool: &Pool, r: u8, c: &Resource) -> Ask
+    requires { length pool.now.resources ≤ 64 }
+    ensures { result ≡ ask_of_spec g t pool.now r c.now }
+{
+    let runnable = match c.cur {
+        None => false,
+        Some(u) => is_runnable(g, pool.domains.as_slice(), u),
+    };
+    Ask {
+        cur: c.cur,
+        runnable,
+        since: c.since.0,
+        leaving: c.leaving,
+        at: t,
+        core: r,
+        home: home_cores(pool.resources.as_slice()),
+    }
+}
+
+/// How much later than its due the core decides.
+fn lateness_of(t: u64, c: &Resource) -> Span
+    ensures { result ≡ span (lateness t c.now) }
+{
+    match c.due {
+        None => Span(0),
+        Some(due) => Span(t.saturating_sub(due.0)),
+    }
+}
+
+/// What the core, which has this number, would decide.
+fn decide_at(g: u8, t: u64, r: u8, pool: &Pool, c: &Resource, scratch: &mut Scratch) -> Event
+    requires there { at_place pool.now.resources r ≡ Some c.now }
+    requires core { r < 64 }
+    requires early { t ≤ 10000000000000 }
+    requires fits { PoolFits pool.now }
+    requires records { RecordsFit t pool.now.scheduler.records }
+    requires room { HasRoom pool.now.scheduler.records scratch.old }
+    ensures event { result ≡ event_in g t pool.now (Decide r) }
+    ensures room { AsLarge scratch.new scratch.old }
+{
+    let ask = ask_of(g, t, pool, r, c);
+    let answer = decision(&pool.scheduler, &ask, scratch);
+    Event::Decide {
+        r: ResId(r),
+        unit: answer.unit,
+        due: answer.due,
+        late: lateness_of(t, c),
+        reset: answer.reset,
+    }
+}
+
+/// What the core would decide. A core that is not there decides to idle.
+pub fn decide(g: u8, t: u64, r: u8, pool: &Pool, scratch: &mut Scratch) -> Event
+    requires early { t ≤ 10000000000000 }
+    requires fits { PoolFits pool.now }
+    requires records { RecordsFit t pool.now.scheduler.records }
+    requires room { HasRoom pool.now.scheduler.records scratch.old }
+    ensures event { result ≡ event_in g t pool.now (Decide r) }
+    ensures room { AsLarge scratch.new scratch.old }
+{
+    match core_at(pool.resources.as_slice(), r as usize) {
+        None => Event::Decide {
+            r: ResId(r),
+            unit: None,
+            due: None,
+            late: Span(0),
+            reset: 0,
+        },
+        Some(c) => decide_at(g, t, r, pool, c, scratch),
+    }
+}

@@ -1,0 +1,4 @@
+pub mod Same
+pub mod Verdicts
+pub mod Taken
+pub mod Reaching

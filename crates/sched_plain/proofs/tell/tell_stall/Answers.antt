@@ -1,0 +1,22 @@
+use Rattle.std.proofs.Common.{◌≡◌, arith}
+use Rattle.std.specs.Prelude.{Some, slice_get}
+use Rattle.sched_plain.proofs.Bridges.{stands-early, stands-state}
+use Rattle.sched_plain.proofs.Stalling.{slice_get-read, stall-span, stall-event}
+use Rattle.sched_plain.proofs.tell.tell_stall.Goals as goal
+use Rattle.sched_plain.proofs.tell.tell_stall.Goals.{In-Some}
+
+-- the line that was read is the next one
+next_line : (c : In-Some) → slice_get c.args.m.now.work.stalls c.args.s.now.next_stall ≡ Some c.in-Some.line.now
+next_line c = rw c.as_slice.ensures at (slice_get-read c.as_slice.result.now c.args.s.now.next_stall c.in-Some.line.now c.in-Some.ensures.lookup.3.0 (c.in-Some.ensures.lookup.3.1 c.in-Some.line.now))
+
+pub overflow_add-s : goal.overflow_add-s
+overflow_add-s c = (
+    let early = stands-early c.args.m.now c.args.s.now c.requires.stands in
+    let low = stall-span c.args.m.now c.args.s.now c.in-Some.line.now c.requires.stands (next_line (goal.at.overflow_add-s c).In-Some) in
+    omega (arith, early, low))
+
+pub stall_end_of-until-requires-clause-few : goal.stall_end_of-until-requires-clause-few
+stall_end_of-until-requires-clause-few c = (stands-state c.args.m.now c.args.s.now c.requires.stands).few_pools
+
+pub returns : goal.returns
+returns c = stall-event c.args.m.now c.args.s.now c.in-Some.line.now (next_line (goal.at.returns c).In-Some) c.stall_end_of-until.result c.stall_end_of-until.ensures

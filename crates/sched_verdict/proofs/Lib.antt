@@ -1,0 +1,4 @@
+pub mod Newlines
+pub mod NoRun
+pub mod SoFarLemmas
+pub mod OneVerdict
