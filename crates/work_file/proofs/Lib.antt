@@ -1,3 +1,4 @@
 pub mod OrderLemmas
 pub mod CheckedLemmas
 pub mod LastLemmas
+pub mod LengthLemmas

@@ -1,6 +1,6 @@
 //! Texts that are made from a number: a domain file and a work file of any size.
 
-ghost use Rattle.std.specs.Prelude.{◌≡◌, ◌+◌, ◌-◌, ◌<◌, ◌≤◌, ◌^◌, ◌++◌, Bool, IfOk, OnOk};
+ghost use Rattle.std.specs.Prelude.{◌≡◌, ◌+◌, ◌-◌, ◌<◌, ◌≤◌, ◌^◌, ◌++◌, Bool, length, IfOk, OnOk};
 ghost use Rattle.work_file.specs.Load.{after_draw, drawn, script_text, after_script, guests_text, after_guests, is_rt as rt, params_text, name_text, home_text, domain_text, after_domain, domains_text, after_domains, next_number_text, numbers_text, top_text, second_pool_text, pools_text, stall_text, after_stalls, stalls_text, load_domains, load_work};
 ghost use Rattle.sched_model.specs.Checked.{IsWithin};
 
@@ -262,6 +262,7 @@ fn put_stalls(
 
 /// The domain file and the work file that are made from the number: a machine with these many processors and domains,
 /// and ten stalls. docs/FORMATS.md has the rule. The one answer beside them is for want of memory.
+#[tactic(auto, using(crate::proofs::LengthLemmas::short_domains))]
 pub fn make_load(
     alloc: Global,
     seed: u32,
@@ -273,6 +274,7 @@ pub fn make_load(
     requires domains { IsWithin 1 64 domains }
     ensures domains { IfOk result (λ texts. texts.0.items ≡ load_domains seed processors domains) }
     ensures work { IfOk result (λ texts. texts.1.items ≡ load_work seed processors domains) }
+    ensures short { IfOk result (λ texts. length texts.0.items ≤ 65536) }
 {
     let mut draws = Draws { state: seed };
     let mut machine = Vec::new(alloc);

@@ -14,3 +14,4 @@ number_of (status.BadWork fault) = 5
 number_of status.WriteFault = 6
 number_of (status.Full entries) = 7
 number_of status.NoMemory = 8
+number_of (status.NotRun line) = 9

@@ -4,14 +4,16 @@
 ghost use Rattle.std.specs.Prelude.{◌≡◌};
 ghost use Rattle.xensched.specs.Files.{words_refused};
 
+pub mod machine;
 pub mod report;
 pub mod run;
 pub mod status;
 pub mod sure;
 #[cfg(test)]
 mod tests;
+pub mod text;
 pub mod top;
-pub mod words;
+pub mod verdict;
 
 use sched_io::{FileStore, OutSink};
 use status::Status;

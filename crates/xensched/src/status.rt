@@ -37,6 +37,9 @@ pub enum Status {
     /// Memory was wanted and not found, before the first byte was written.
     #[error("xensched: no memory")]
     NoMemory,
+    /// The schedule is no run of the machine, or not the ordered one that was asked for: the first line at which that shows.
+    #[error("xensched: not a run")]
+    NotRun(u32),
 }
 
 impl Status {
@@ -54,6 +57,7 @@ impl Status {
             Status::WriteFault => 6,
             Status::Full(_) => 7,
             Status::NoMemory => 8,
+            Status::NotRun(_) => 9,
         }
     }
 }

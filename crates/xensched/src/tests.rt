@@ -2,9 +2,11 @@
 
 mod arinc;
 mod bounds;
+mod checks;
 mod cores;
 mod credit2;
 mod limits;
+mod made;
 mod parameters;
 mod pools;
 mod realistic;
@@ -68,8 +70,24 @@ fn each_status_with_what_it_writes(rt: HostRuntime) -> Result<(), Fail> {
             "",
         ),
         ("run a", "6000000", "", 0, 1, ""),
-        ("make 1 1 1 work", "6000000", "", 0, 1, ""),
-        ("load 1 8 40", "6000000", "", 0, 1, ""),
+        ("make 2147483648 1 1 work", "6000000", "", 0, 1, ""),
+        ("load 1 8 65", "6000000", "", 0, 1, ""),
+        (
+            "check domains.toml work.txt other.txt",
+            "6000000",
+            "",
+            0,
+            2,
+            "",
+        ),
+        (
+            "check domains.toml work.txt work.txt",
+            "6000001",
+            "",
+            0,
+            4,
+            "",
+        ),
         ("run --ordered domains.toml", "6000000", "", 0, 1, ""),
         ("run --ordered domains.toml -work", "6000000", "", 0, 1, ""),
     ] {
@@ -236,6 +254,28 @@ fn expect_answer(
     let mut store = MemStore::room(alloc, &[])?;
     store.set(alloc, "domains.toml", domains.as_bytes())?;
     store.set(alloc, "work.txt", work.as_bytes())?;
+    let mut sink = MemSink::room(alloc, 8192, &[])?;
+    let line = words(alloc, line)?;
+    let answer = xensched(alloc, line.as_slice(), &mut store, &mut sink);
+    assert_eq!(rt; answer.number(), status);
+    assert_eq!(rt; sink.bytes(), output.as_bytes());
+    Ok(())
+}
+
+/// The program answers these words with this number where these are the domain file, the work file and the schedule, and writes this.
+fn expect_verdict(
+    rt: &impl Abort,
+    alloc: Global,
+    line: &str,
+    files: [&str; 3],
+    status: u8,
+    output: &str,
+) -> Result<(), Fail> {
+    let [domains, work, schedule] = files;
+    let mut store = MemStore::room(alloc, &[])?;
+    store.set(alloc, "domains.toml", domains.as_bytes())?;
+    store.set(alloc, "work.txt", work.as_bytes())?;
+    store.set(alloc, "schedule.txt", schedule.as_bytes())?;
     let mut sink = MemSink::room(alloc, 8192, &[])?;
     let line = words(alloc, line)?;
     let answer = xensched(alloc, line.as_slice(), &mut store, &mut sink);

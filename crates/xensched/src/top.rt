@@ -1,93 +1,34 @@
 //! The top call: all that the program does, over any store and sink.
 
-ghost use Rattle.std.specs.Prelude.{◌≡◌, ◌≤◌, ℕ, List, None, Ok, Err, [], true, length, IfOk, IfErr, IfSome, IsSomeAnd};
+ghost use Rattle.std.specs.Prelude.{◌≡◌, ◌≤◌, ◌<◌, ◌^◌, ℕ, List, None, [], length, IfOk, IfErr, IfSome, IsSomeAnd};
+ghost use Rattle.command_line.specs.Commands.{asked, HasNumbersInRange};
 ghost use Rattle.dom_file.specs.declared.fault.DomFault.{DomFault};
 ghost use Rattle.sched_io.specs.Faults.{Rose};
 ghost use Rattle.sched_io.specs.Held.{most_bytes};
-ghost use Rattle.sched_model.specs.Checked.{IsChecked, IsCheckedConfig, IsCheckedWork};
-ghost use Rattle.sched_model.specs.declared.config.Config.{Config};
+ghost use Rattle.sched_model.specs.Checked.{IsChecked, IsCheckedConfig, IsWithin};
 ghost use Rattle.work_file.specs.declared.fault.WorkFault.{WorkFault};
-ghost use Rattle.xensched.specs.Answers.{OfMachine, IsMade, IsUnread, IsNoToml, IsBadTable, IsBadWork, IsFull, IsAnswer, PutsNothing, Refuses, RefusesName, RefusesTable, RefusesWork, SomethingFails, UnlessNoMemory, Writes};
-ghost use Rattle.xensched.specs.Files.{config_of as config_of_spec, work_of as work_of_spec};
-ghost use Rattle.xensched.specs.Schedules.{PutsPart, PutsRun};
-ghost use Rattle.xensched.specs.Words.{request_of as request_of_spec};
+ghost use Rattle.xensched.specs.Answers.{Answers, Counts, Held, IsBadTable, IsBadWork, IsNoToml, LeavesUnread, OfTexts, Outcome, PutsAll, PutsLimit, PutsNothing, PutsRefusal, PutsSome, SomethingFails, UnlessNoMemory, Writes, WritesVerdict};
+ghost use Rattle.xensched.specs.Words.{judges, most_entries, made_text as made_text_spec, of_files, of_seed, runs, task_in, task_of, writes};
 
+use crate::machine::{machine_of, made_machine, made_text, read_file};
 use crate::report::{add_run, put_report};
 use crate::run::{RunEnd, write_run};
 use crate::status::Status;
-use crate::words::request_of;
-use command_line::Form;
-use dom_file::{DomFault, read_domains};
-use sched_io::{ReadErr, Sink, Store};
+use crate::text::put_lines;
+use crate::verdict::put_verdict;
+use command_line::{Command, Form, Made, command_of};
+use sched_io::{Sink, Store};
 use sched_model::config::Config;
 use sched_model::machine::Machine;
-use sched_model::work::Work;
 use sched_plain::plain::Plain;
 use sched_report::Report;
+use sched_verdict::judge::judge;
+use sched_verdict::laws::no_is_no_run;
+use sched_verdict::verdict::Verdict;
 use std::alloc::Global;
-use work_file::{WorkFault, read_work};
 
-/// Reads a file that the words name.
-fn read_file<S: Store>(alloc: Global, name: &str, store: &mut S) -> Result<Vec<u8>, Status>
-    ensures bytes { IfOk result (λ bytes. IfSome (S.held store.old name.now) (λ all. bytes.items ≡ all)) }
-    ensures bound { IfOk result (λ bytes. length bytes.items ≤ most_bytes) }
-    ensures refused { IfErr result (RefusesName (S.faults store.old name.now) (S.faults store.new name.now)) }
-    ensures same { (other : List ℕ) → S.held store.new other ≡ S.held store.old other }
-    ensures counts { (other : List ℕ) → S.faults store.old other ≤ S.faults store.new other }
-{
-    match store.read_all(alloc, name) {
-        Ok(bytes) => Ok(bytes),
-        Err(ReadErr::Failed) => Err(Status::ReadFault),
-        Err(ReadErr::NoMemory) => Err(Status::NoMemory),
-    }
-}
-
-/// The machine that the bytes of the domain file describe.
-fn config_of(alloc: Global, bytes: &[u8]) -> Result<Config, Status>
-    requires { length bytes.now ≤ most_bytes }
-    ensures described { IfOk result (λ config. config_of_spec bytes.now ≡ Ok config) }
-    ensures checked { IfOk result IsCheckedConfig }
-    ensures refused { IfErr result (RefusesTable bytes.now) }
-{
-    match read_domains(alloc, bytes) {
-        Ok(config) => Ok(config),
-        Err(DomFault::NoMemory) => Err(Status::NoMemory),
-        Err(DomFault::BadToml) => Err(Status::BadToml),
-        Err(fault) => Err(Status::BadDomains(fault)),
-    }
-}
-
-/// The workload that the bytes of the work file describe.
-fn work_of(alloc: Global, config: &Config, bytes: &[u8]) -> Result<Work, Status>
-    ensures work { IfOk result (λ work. work_of_spec config.now bytes.now ≡ Ok work) }
-    ensures checked { IfOk result (IsCheckedWork config.now) }
-    ensures refused { IfErr result (RefusesWork config.now bytes.now) }
-{
-    match read_work(alloc, bytes, config) {
-        Ok(work) => Ok(work),
-        Err(WorkFault::NoMemory) => Err(Status::NoMemory),
-        Err(fault) => Err(Status::BadWork(fault)),
-    }
-}
-
-/// Reads both files, the domain file first: the machine that they make, or the status that refuses them.
-fn machine_of<S: Store>(
-    alloc: Global,
-    domains: &str,
-    work: &str,
-    store: &mut S,
-) -> Result<Machine, Status>
-    ensures made { IfOk result (IsMade (S.held store.old) (domains.now, work.now)) }
-    ensures refused { IfErr result (Refuses (S.held store.old) (S.faults store.old) (S.faults store.new) (domains.now, work.now)) }
-    ensures same { (other : List ℕ) → S.held store.new other ≡ S.held store.old other }
-    ensures counts { (other : List ℕ) → S.faults store.old other ≤ S.faults store.new other }
-{
-    let bytes = read_file(alloc, domains, store)?;
-    let config = config_of(alloc, bytes.as_slice())?;
-    let lines = read_file(alloc, work, store)?;
-    let work = work_of(alloc, &config, lines.as_slice())?;
-    Ok(Machine { config, work })
-}
+/// The entries that a run on made texts may have.
+const MOST_ENTRIES: u32 = 4_000_000;
 
 /// Opens the machine and writes its ordered run, with at most this many entries.
 fn write_schedule<K: Sink>(alloc: Global, machine: Machine, limit: u32, sink: &mut K) -> Status
@@ -164,13 +105,179 @@ fn run_machine<K: Sink>(
     }
 }
 
-/// Does all that the program does, over the words behind the program's own name. `run --ordered [--events N] DOMAINS WORK`
-/// writes the ordered schedule of the machine that the two files make, one put a line, with at most N entries;
-/// `report --ordered [--events N] DOMAINS WORK` makes the same run and writes its report.
+/// Writes what is asked of the ordered run on two files.
+fn run_files<S: Store, K: Sink>(
+    alloc: Global,
+    form: Form,
+    limit: u32,
+    domains: &str,
+    work: &str,
+    store: &mut S,
+    sink: &mut K,
+) -> Status
+    ensures outcome { Outcome (S.held store.old) (S.faults store.old) (S.faults store.new) (K.told sink.old) (K.told sink.new) (K.faults sink.old) (K.faults sink.new)
+        (runs (record { form = form; limit = limit; source = of_files (domains.now, work.now) })) result }
+    ensures nothing { PutsNothing result → sink.new ≡ sink.old }
+    ensures same { (other : List ℕ) → S.held store.new other ≡ S.held store.old other }
+    ensures store_counts { (other : List ℕ) → S.faults store.old other ≤ S.faults store.new other }
+    ensures sink_count { K.faults sink.old ≤ K.faults sink.new }
+{
+    match machine_of(alloc, domains, work, store) {
+        Ok(machine) => run_machine(alloc, machine, form, limit, sink),
+        Err(status) => status,
+    }
+}
+
+/// Writes the report of the ordered run on both texts that are made from the seed.
+fn run_made<K: Sink>(alloc: Global, seed: u32, processors: u8, domains: u8, sink: &mut K) -> Status
+    requires seed { seed < 2 ^ 31 }
+    requires processors { IsWithin 1 64 processors }
+    requires domains { IsWithin 1 64 domains }
+    ensures outcome { (held : Held) → (old new : Counts) → Outcome held old new (K.told sink.old) (K.told sink.new) (K.faults sink.old) (K.faults sink.new)
+        (runs (record { form = Form.Report; limit = most_entries; source = of_seed seed processors domains })) result }
+    ensures nothing { PutsNothing result → sink.new ≡ sink.old }
+    ensures sink_count { K.faults sink.old ≤ K.faults sink.new }
+{
+    match made_machine(alloc, seed, processors, domains) {
+        Ok(machine) => run_machine(alloc, machine, Form::Report, MOST_ENTRIES, sink),
+        Err(status) => status,
+    }
+}
+
+/// Writes one of the two texts that are made from the seed, one put a line.
+fn write_made<K: Sink>(
+    alloc: Global,
+    seed: u32,
+    processors: u8,
+    domains: u8,
+    text: Made,
+    sink: &mut K,
+) -> Status
+    requires seed { seed < 2 ^ 31 }
+    requires processors { IsWithin 1 64 processors }
+    requires domains { IsWithin 1 64 domains }
+    ensures outcome { (held : Held) → (old new : Counts) → Outcome held old new (K.told sink.old) (K.told sink.new) (K.faults sink.old) (K.faults sink.new)
+        (writes (made_text_spec text seed processors domains)) result }
+    ensures nothing { PutsNothing result → sink.new ≡ sink.old }
+    ensures sink_count { K.faults sink.old ≤ K.faults sink.new }
+{
+    match made_text(alloc, seed, processors, domains, text) {
+        Ok(bytes) => match put_lines(bytes.as_slice(), sink) {
+            Ok(()) => Status::Ok,
+            Err(_) => Status::WriteFault,
+        },
+        Err(status) => status,
+    }
+}
+
+/// Judges the schedule, whose bytes are these, and writes the verdict.
+fn write_verdict<K: Sink>(
+    alloc: Global,
+    machine: Machine,
+    ordered: bool,
+    schedule: &[u8],
+    sink: &mut K,
+) -> Status
+    requires checked { IsChecked machine }
+    requires bound { length schedule.now ≤ most_bytes }
+    ensures written { WritesVerdict ordered machine schedule.now (K.told sink.old) (K.told sink.new) (K.faults sink.old) (K.faults sink.new) result }
+    ensures nothing { PutsNothing result → sink.new ≡ sink.old }
+    ensures counts { K.faults sink.old ≤ K.faults sink.new }
+{
+    no_is_no_run();
+    let verdict = match judge(alloc, machine, ordered, schedule) {
+        Ok(verdict) => verdict,
+        Err(_) => return Status::NoMemory,
+    };
+    match put_verdict(&verdict, sink) {
+        Ok(()) => match verdict {
+            Verdict::Yes { .. } => Status::Ok,
+            Verdict::No { line, .. } => Status::NotRun(line),
+        },
+        Err(_) => Status::WriteFault,
+    }
+}
+
+/// Judges whether the schedule is a run of the machine that the two files make, and the ordered one where that is asked.
+fn check_files<S: Store, K: Sink>(
+    alloc: Global,
+    ordered: bool,
+    domains: &str,
+    work: &str,
+    schedule: &str,
+    store: &mut S,
+    sink: &mut K,
+) -> Status
+    ensures outcome { Outcome (S.held store.old) (S.faults store.old) (S.faults store.new) (K.told sink.old) (K.told sink.new) (K.faults sink.old) (K.faults sink.new)
+        (judges ordered (domains.now, work.now) schedule.now) result }
+    ensures nothing { PutsNothing result → sink.new ≡ sink.old }
+    ensures same { (other : List ℕ) → S.held store.new other ≡ S.held store.old other }
+    ensures store_counts { (other : List ℕ) → S.faults store.old other ≤ S.faults store.new other }
+    ensures sink_count { K.faults sink.old ≤ K.faults sink.new }
+{
+    let machine = match machine_of(alloc, domains, work, store) {
+        Ok(machine) => machine,
+        Err(status) => return status,
+    };
+    match read_file(alloc, schedule, store) {
+        Ok(bytes) => write_verdict(alloc, machine, ordered, bytes.as_slice(), sink),
+        Err(status) => status,
+    }
+}
+
+/// Does what the command asks for.
+fn carry_out<S: Store, K: Sink>(
+    alloc: Global,
+    command: Command<'_>,
+    store: &mut S,
+    sink: &mut K,
+) -> Status
+    requires ranges { HasNumbersInRange command }
+    ensures outcome { Outcome (S.held store.old) (S.faults store.old) (S.faults store.new) (K.told sink.old) (K.told sink.new) (K.faults sink.old) (K.faults sink.new)
+        (task_in (asked command.entry)) result }
+    ensures nothing { PutsNothing result → sink.new ≡ sink.old }
+    ensures same { (other : List ℕ) → S.held store.new other ≡ S.held store.old other }
+    ensures store_counts { (other : List ℕ) → S.faults store.old other ≤ S.faults store.new other }
+    ensures sink_count { K.faults sink.old ≤ K.faults sink.new }
+{
+    match command {
+        Command::Run {
+            form,
+            limit,
+            domains,
+            work,
+        } => run_files(alloc, form, limit, domains, work, store, sink),
+        Command::Make {
+            seed,
+            processors,
+            domains,
+            text,
+        } => write_made(alloc, seed, processors, domains, text, sink),
+        Command::Load {
+            seed,
+            processors,
+            domains,
+        } => run_made(alloc, seed, processors, domains, sink),
+        Command::Check {
+            ordered,
+            domains,
+            work,
+            schedule,
+        } => check_files(alloc, ordered, domains, work, schedule, store, sink),
+    }
+}
+
+/// Does all that the program does, over the words behind the program's own name.
 ///
-/// Where the status is `Ok` the whole run was written, where it is `Full` its first entries, and where it is `WriteFault` a
-/// beginning of one of them. With every other status nothing was put. `NoMemory` may come in place of every answer that
-/// comes before the first put.
+/// `run --ordered [--events N] DOMAINS WORK` writes the ordered schedule of the machine that the two files make, one put a
+/// line, with at most N entries; `report --ordered [--events N] DOMAINS WORK` makes the same run and writes its report.
+/// `make SEED PROCESSORS DOMAINS domains|work` writes the domain file or the work file that is made from the seed, and
+/// `load SEED PROCESSORS DOMAINS` the report of the ordered run on both, with at most 4,000,000 entries.
+/// `check [--ordered] DOMAINS WORK SCHEDULE` writes whether the schedule is a run of the machine that the two files make.
+///
+/// Where the status is `Ok` all of it was written, where it is `Full` what is asked of the first entries, where it is `NotRun`
+/// the line at which a schedule is refused, and where it is `WriteFault` a beginning of one of them. With every other status nothing was put. `NoMemory` may come in place of every
+/// answer that comes before the first put.
 pub fn xensched<S: Store, K: Sink>(
     alloc: Global,
     words: &[String],
@@ -178,42 +285,34 @@ pub fn xensched<S: Store, K: Sink>(
     sink: &mut K,
 ) -> Status
     // What is put.
-    ensures ok { result ≡ Status.Ok → OfMachine (S.held store.old) (request_of_spec words.now)
-        (λ r m. PutsRun r.form r.limit m (K.told sink.old) (K.told sink.new)) }
-    ensures full { (n : ℕ) → result ≡ Status.Full n → OfMachine (S.held store.old) (request_of_spec words.now)
-        (λ r m. IsFull n r.form r.limit m (K.told sink.old) (K.told sink.new)) }
-    ensures part { result ≡ Status.WriteFault → OfMachine (S.held store.old) (request_of_spec words.now)
-        (λ r m. PutsPart r.form r.limit m (K.told sink.old) (K.told sink.new)) }
+    ensures ok { result ≡ Status.Ok → IsSomeAnd (task_of words.now) (PutsAll (S.held store.old) (K.told sink.old) (K.told sink.new)) }
+    ensures full { (n : ℕ) → result ≡ Status.Full n → IsSomeAnd (task_of words.now) (PutsLimit n (S.held store.old) (K.told sink.old) (K.told sink.new)) }
+    ensures refusal { (k : ℕ) → result ≡ Status.NotRun k → IsSomeAnd (task_of words.now) (PutsRefusal k (S.held store.old) (K.told sink.old) (K.told sink.new)) }
+    ensures part { result ≡ Status.WriteFault → IsSomeAnd (task_of words.now) (PutsSome (S.held store.old) (K.told sink.old) (K.told sink.new)) }
     ensures nothing { PutsNothing result → sink.new ≡ sink.old }
 
     // Why the other answers come.
-    ensures usage { result ≡ Status.Usage → request_of_spec words.now ≡ None }
-    ensures read_fault { result ≡ Status.ReadFault → IsSomeAnd (request_of_spec words.now)
-        (λ r. IsUnread (S.held store.old) (S.faults store.old) (S.faults store.new) r.names) }
-    ensures bad_toml { result ≡ Status.BadToml → IsSomeAnd (request_of_spec words.now)
-        (λ r. IsNoToml (S.held store.old) r.names) }
-    ensures bad_domains { (fault : DomFault) → result ≡ Status.BadDomains fault → IsSomeAnd (request_of_spec words.now)
-        (λ r. IsBadTable (S.held store.old) fault r.names) }
-    ensures bad_work { (fault : WorkFault) → result ≡ Status.BadWork fault → IsSomeAnd (request_of_spec words.now)
-        (λ r. IsBadWork (S.held store.old) fault r.names) }
+    ensures usage { result ≡ Status.Usage → task_of words.now ≡ None }
+    ensures read_fault { result ≡ Status.ReadFault → IsSomeAnd (task_of words.now) (LeavesUnread (S.held store.old) (S.faults store.old) (S.faults store.new)) }
+    ensures bad_toml { result ≡ Status.BadToml → IsSomeAnd (task_of words.now) (OfTexts (IsNoToml (S.held store.old))) }
+    ensures bad_domains { (fault : DomFault) → result ≡ Status.BadDomains fault → IsSomeAnd (task_of words.now) (OfTexts (IsBadTable (S.held store.old) fault)) }
+    ensures bad_work { (fault : WorkFault) → result ≡ Status.BadWork fault → IsSomeAnd (task_of words.now) (OfTexts (IsBadWork (S.held store.old) fault)) }
     ensures write_fault { result ≡ Status.WriteFault → Rose (K.faults sink.old) (K.faults sink.new) }
 
     // Which answer comes where nothing fails.
-    ensures no_command { request_of_spec words.now ≡ None → UnlessNoMemory Status.Usage result }
-    ensures answer { IfSome (request_of_spec words.now) (λ r.
-        ¬ SomethingFails (S.faults store.old) (S.faults store.new) (K.faults sink.old) (K.faults sink.new) r.names
-        → IsAnswer r.limit (S.held store.old) result r.names) }
+    ensures no_command { task_of words.now ≡ None → UnlessNoMemory Status.Usage result }
+    ensures answer { IfSome (task_of words.now) (λ task.
+        ¬ SomethingFails (S.faults store.old) (S.faults store.new) (K.faults sink.old) (K.faults sink.new) task
+        → Answers (S.held store.old) result task) }
 
     // What the files hold stays, and no count falls.
     ensures same { (other : List ℕ) → S.held store.new other ≡ S.held store.old other }
     ensures store_counts { (other : List ℕ) → S.faults store.old other ≤ S.faults store.new other }
     ensures sink_count { K.faults sink.old ≤ K.faults sink.new }
 {
-    let Some(request) = request_of(words) else {
-        return Status::Usage;
-    };
-    match machine_of(alloc, request.domains, request.work, store) {
-        Ok(machine) => run_machine(alloc, machine, request.form, request.limit, sink),
-        Err(status) => status,
+    match command_of(alloc, words) {
+        Ok(Some(command)) => carry_out(alloc, command, store, sink),
+        Ok(None) => Status::Usage,
+        Err(_) => Status::NoMemory,
     }
 }
