@@ -1,5 +1,5 @@
 -- What the reading of the two files comes to.
-use Rattle.std.proofs.Common.{◌≡◌, ℕ, ◌≤◌, List, [], ◌∷◌, Option, Some, None, Result, Ok, Err, IfSome, IsOk, IsOkAnd, sym, ap, subst, ◌∙◌, inl, inr, rules}
+use Rattle.std.proofs.Common.{◌≡◌, ℕ, ◌≤◌, List, Option, Some, None, Result, Ok, Err, IfSome, IsOk, IsOkAnd, sym, ap, subst, ◌∙◌, inl, inr, rules}
 use Rattle.dom_file.specs.Configs.{document}
 use Rattle.dom_file.specs.declared.fault.DomFault.{DomFault}
 use Rattle.sched_io.proofs.FaultLemmas.{rose_after}

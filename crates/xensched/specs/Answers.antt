@@ -1,5 +1,5 @@
 -- What each answer of the program says of the files, the store and the sink.
-use Rattle.std.specs.Prelude.{◌≡◌, ℕ, List, Option, Some, None, Result, Ok, Err, Bool, IfSome, IsSomeAnd, IsOk, IsOkAnd, ◌⊎◌, ⊤, if◌then◌else◌}
+use Rattle.std.specs.Prelude.{◌≡◌, ℕ, List, Option, Some, None, Result, Ok, Err, Bool, IfSome, IsOk, IsOkAnd, ◌⊎◌, ⊤, if◌then◌else◌}
 use Rattle.dom_file.specs.Configs.{document}
 use Rattle.dom_file.specs.declared.fault.DomFault.{DomFault}
 use Rattle.dom_file.specs.declared.fault.DomFault.TheVariants as dom_fault

@@ -153,26 +153,18 @@ fn each_cause_at_its_line(rt: HostRuntime) -> Result<(), Fail> {
     Ok(())
 }
 
+/// Their schedule with the finish once more.
+const FINISHED_TWICE: &str =
+    "0 arrive p0\n0 decide c0 d0u0 due 4000000 late 0 reset 0\n0 leave p0 d0v0\n0 end 4000000\n4000000 slice c0\n4000000 arrive p0\n4000000 decide c0 d1u0 due 7000000 late 0 reset 0\n4000000 leave p0 d1v0\n4000000 save c0 d0u0 queued\n4000000 end 7000000\n7000000 slice c0\n7000000 arrive p0\n7000000 decide c0 idle due 10000000 late 0 reset 0\n7000000 leave p0 idle\n7000000 save c0 d1u0 queued\n7000000 end 10000000\n10000000 slice c0\n10000000 arrive p0\n10000000 decide c0 d0u0 due 14000000 late 0 reset 0\n10000000 leave p0 d0v0\n10000000 end 14000000\n14000000 slice c0\n14000000 arrive p0\n14000000 decide c0 d1u0 due 17000000 late 0 reset 0\n14000000 leave p0 d1v0\n14000000 save c0 d0u0 queued\n14000000 end 17000000\n17000000 slice c0\n17000000 arrive p0\n17000000 decide c0 idle due 20000000 late 0 reset 0\n17000000 leave p0 idle\n17000000 save c0 d1u0 queued\n17000000 end 20000000\n20000000 slice c0\n20000000 arrive p0\n20000000 decide c0 d0u0 due 24000000 late 0 reset 0\n20000000 leave p0 d0v0\n20000000 finish\n20000000 finish\n";
+
 #[test]
 fn nothing_comes_after_the_finish(rt: HostRuntime) -> Result<(), Fail> {
-    let alloc = rt.alloc();
     let line = "check --ordered domains.toml work.txt schedule.txt";
-    let mut schedule = String::from_str(alloc, SCHEDULE)?;
-    expect_verdict(
-        &rt,
-        alloc,
-        line,
-        [TURNS, "", schedule.as_str()],
-        0,
-        "yes 38\n",
-    )?;
-    schedule.push_str("20000000 finish\n")?;
-    expect_verdict(
-        &rt,
-        alloc,
-        line,
-        [TURNS, "", schedule.as_str()],
-        9,
-        "no 39 AfterFinish\n",
-    )
+    for (schedule, status, output) in [
+        (SCHEDULE, 0, "yes 38\n"),
+        (FINISHED_TWICE, 9, "no 39 AfterFinish\n"),
+    ] {
+        expect_verdict(&rt, rt.alloc(), line, [TURNS, "", schedule], status, output)?;
+    }
+    Ok(())
 }

@@ -1,5 +1,5 @@
-use Rattle.std.proofs.Common.{rules, arith}
-use Rattle.xensched.proofs.TextLemmas.{PutFront, front_starts, front_more, front_part, front_ends}
+use Rattle.std.proofs.Common.{rules}
+use Rattle.xensched.proofs.TextLemmas.{front_starts, front_more, front_part}
 use Rattle.xensched.proofs.text.put_lines.Goals as goal
 
 pub loop-rest-init : goal.loop-rest-init

@@ -1,5 +1,5 @@
-use Rattle.std.proofs.Common.{◌≡◌, None, IfSome, inr, refl, rules, subst, sym}
-use Rattle.command_line.specs.Commands.{asked, command_of}
+use Rattle.std.proofs.Common.{IfSome, inr, refl, rules, subst, sym}
+use Rattle.command_line.specs.Commands.{asked}
 use Rattle.xensched.specs.Answers.{Answers, IsBadTable, IsBadWork, IsNoToml, LeavesUnread, OfTexts, PutsAll, PutsLimit, PutsRefusal, PutsSome, SomethingFails}
 use Rattle.xensched.specs.Words.{task_in, task_of}
 use Rattle.xensched.specs.declared.status.Status.TheVariants as status
