@@ -1,0 +1,4 @@
+pub mod Seen
+pub mod Conditions
+pub mod Timers
+pub mod Told

@@ -1,0 +1,53 @@
+-- What callers see of a scheduler, and what its calls make of that.
+use Rattle.std.specs.Prelude.{ℕ, ◌≡◌, [], Some, None, length, replicate}
+use Rattle.sched_base.specs.declared.UnitId.{UnitId}
+use Rattle.sched_model.specs.declared.config.PoolParams.{PoolParams}
+use Rattle.sched_model.specs.declared.state.Records.{Records}
+use Rattle.sched_model.specs.declared.state.Records.TheVariants.{Credit2Pool, RtdsPool, ArincPool, NullPool}
+use Rattle.sched_model.specs.declared.state.Scheduler.{Scheduler}
+use Rattle.sched_model.specs.Places.{at_place, without_unit}
+use Rattle.sched_model.specs.Eligible.{Decision}
+use Rattle.sched_model.specs.Policy.{fresh_records}
+use Rattle.sched_ops.specs.declared.choice.Choice.{Choice}
+
+-- the waiting units in order of arrival, the sets of cores and the records; how many units may still join; and the greatest moment that was given
+pub record Seen : Type 0 where
+  pub scheduler : Scheduler
+  pub spare : ℕ
+  pub latest : ℕ
+
+-- a scheduler with these parameters and no domain, on a machine of so many domains and cores
+abbrev pub vacant : PoolParams → ℕ → ℕ → Scheduler
+vacant params domains cores = record { queue = []; affinity = replicate domains None; records = fresh_records params domains cores }
+
+-- the places for cores of a scheduler that has some
+abbrev pub core_places : Records → ℕ
+core_places (Credit2Pool records) = 0
+core_places (RtdsPool domains) = 0
+core_places (ArincPool records) = 0
+core_places (NullPool kept) = length kept
+
+-- the scheduler with new parameters and no domain; its places stay
+abbrev pub restarted : PoolParams → Scheduler → Scheduler
+restarted params scheduler = vacant params (length scheduler.affinity) (core_places scheduler.records)
+
+-- the scheduler without the unit in its queue
+abbrev pub dequeue : UnitId → Scheduler → Scheduler
+dequeue u scheduler = record scheduler { queue = without_unit u scheduler.queue }
+
+-- how many units the domain joined with
+abbrev pub units_of : Scheduler → ℕ → ℕ
+units_of scheduler d = elim (at_place scheduler.affinity d) [ None ↦ 0 | Some sets ↦ length sets ]
+
+-- the same with another scheduler; the same at t
+abbrev pub with_scheduler : Scheduler → Seen → Seen
+with_scheduler scheduler seen = record seen { scheduler = scheduler }
+
+abbrev pub seen_at : ℕ → Scheduler → Seen → Seen
+seen_at t scheduler seen = record seen { scheduler = scheduler; latest = t }
+
+-- the answer is the decision's unit, due and number of resets
+pub record Tells (answer : Choice) (decision : Decision) : Type 0 where
+  pub unit : answer.unit ≡ decision.unit
+  pub due : answer.due ≡ decision.due
+  pub reset : answer.reset ≡ decision.reset

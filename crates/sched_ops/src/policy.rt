@@ -1,0 +1,142 @@
+//! The calls of a scheduler.
+
+use crate::choice::Choice;
+use crate::timer::Timer;
+use sched_base::{Cores, DomId, Moment, NoMemory, ResId, UnitId};
+use sched_model::ask::Ask;
+use sched_model::config::{DomParams, ParamChange, PoolParams};
+use sched_model::event::Event;
+use sched_model::facts::Stored;
+use std::alloc::Global;
+
+/// How many domains and cores a machine has: at most 64 of each.
+#[derive(Clone, Copy, Debug, PartialEq, Eq)]
+pub struct Places {
+    pub domains: u8,
+    pub cores: u8,
+}
+
+/// A scheduler of one pool. Contracts see its waiting units in order of arrival, the sets of cores of all units and its records,
+/// as the machine has them; how many units may still join; and the greatest moment that it was given.
+///
+/// A unit that was chosen is on, until the core that has it chooses otherwise. All moments are in nanoseconds, each at least the
+/// greatest one given before and at most 10^13. No call but `reserve` takes memory.
+pub trait Policy: Drop {
+    ghost use Rattle.std.specs.Prelude.{◌≡◌, ◌≤◌, ◌<◌, ◌-◌, ◌+◌, true, false, OnOk, OnErr, length, None, Some};
+    ghost use Rattle.sched_model.specs.declared.config.SchedKind.{SchedKind};
+    ghost use Rattle.sched_model.specs.Places.{at_place, has_unit};
+    ghost use Rattle.sched_model.specs.Policy.{decision_of, after_decision, better_waits as better_waits_spec, enqueue as enqueue_spec, join as join_spec, part as part_spec, set_params as set_params_spec, rate_of, default_pool_params};
+    ghost use Rattle.sched_ops.specs.Seen.{Seen, Tells, vacant, restarted, dequeue as dequeue_spec, units_of, with_scheduler, seen_at};
+    ghost use Rattle.sched_ops.specs.Conditions.{IsNow, IsAsked, IsOwnOf, IsAway, HasNoneBusy, ArePoolParams, AreDomParams, IsChange, Keeps, is_member, is_vacant, has_joined};
+    ghost use Rattle.sched_ops.specs.Timers.{timer_at, is_due, timer_event, after_timer};
+    ghost use Rattle.sched_ops.specs.Told.{stored_of};
+
+    /// Which scheduler it is.
+    ghost kind: { SchedKind };
+
+    /// What callers see.
+    ghost seen: { Self → Seen };
+
+    /// Takes the memory for a pool of a machine with these places, of which so many units may join. It has the default
+    /// parameters then, and no domain. Where memory is wanted, it is as before.
+    fn reserve(&mut self, alloc: Global, places: Places, units: usize) -> Result<(), NoMemory>
+        requires domains { places.domains ≤ 64 }
+        requires cores { places.cores ≤ 64 }
+        requires units { units ≤ 256 }
+        requires vacant { is_vacant (seen self.old).scheduler ≡ true }
+        ensures scheduler { OnOk result ((seen self.new).scheduler ≡ vacant (default_pool_params kind) places.domains places.cores) }
+        ensures room { OnOk result (units ≤ (seen self.new).spare) }
+        ensures latest { OnOk result ((seen self.new).latest ≡ (seen self.old).latest) }
+        ensures as_before { OnErr result (seen self.new ≡ seen self.old) };
+
+    /// Begins anew with these parameters and fresh records: no reset yet, and a frame, where there is one, installed at 0.
+    fn restart(&mut self, params: &PoolParams)
+        requires vacant { is_vacant (seen self.old).scheduler ≡ true }
+        requires params { ArePoolParams kind params.now }
+        ensures { seen self.new ≡ with_scheduler (restarted params.now (seen self.old).scheduler) (seen self.old) };
+
+    /// The domain joins at t, with so many units, 1 to 32. Its units may have all cores; none of them waits yet.
+    fn join(&mut self, d: DomId, units: u8, params: &DomParams, t: Moment)
+        requires place { d.0 < length (seen self.old).scheduler.affinity }
+        requires absent { at_place (seen self.old).scheduler.affinity d.0 ≡ None }
+        requires some { 1 ≤ units }
+        requires few { units ≤ 32 }
+        requires room { units ≤ (seen self.old).spare }
+        requires params { AreDomParams kind params.now }
+        requires now { IsNow (seen self.old) t.0 }
+        ensures scheduler { (seen self.new).scheduler ≡ join_spec d.0 units params.now t.0 (seen self.old).scheduler }
+        ensures spare { (seen self.new).spare ≡ (seen self.old).spare - units }
+        ensures latest { (seen self.new).latest ≡ t.0 };
+
+    /// The domain parts. None of its units waits or is on.
+    fn part(&mut self, d: DomId)
+        requires joined { has_joined (seen self.old).scheduler d.0 ≡ true }
+        requires idle { HasNoneBusy (seen self.old).scheduler d.0 }
+        ensures scheduler { (seen self.new).scheduler ≡ part_spec d.0 (seen self.old).scheduler }
+        ensures spare { (seen self.new).spare ≡ (seen self.old).spare + units_of (seen self.old).scheduler d.0 }
+        ensures latest { (seen self.new).latest ≡ (seen self.old).latest };
+
+    /// The unit, which neither waits nor is on, waits behind all others.
+    fn enqueue(&mut self, u: UnitId)
+        requires away { IsAway (seen self.old).scheduler u }
+        ensures { seen self.new ≡ with_scheduler (enqueue_spec u (seen self.old).scheduler) (seen self.old) };
+
+    /// The unit, which waits, waits no more.
+    fn dequeue(&mut self, u: UnitId)
+        requires waits { has_unit (seen self.old).scheduler.queue u ≡ true }
+        ensures { seen self.new ≡ with_scheduler (dequeue_spec u (seen self.old).scheduler) (seen self.old) };
+
+    /// Decides for a core. The chosen unit is on then and waits no more; the core's own, where it is another, is not on.
+    fn choose(&mut self, ask: &Ask) -> Choice
+        requires asked { IsAsked (seen self.old) ask.now }
+        ensures answer { Tells result (decision_of ask.now (seen self.old).scheduler) }
+        ensures after { seen self.new ≡ seen_at ask.now.at (after_decision (decision_of ask.now (seen self.old).scheduler) (seen self.old).scheduler) (seen self.old) };
+
+    /// Whether a core is to decide anew at t: a unit waits for it while it has none, or its own is not allowed on it, or a
+    /// better one waits. The core's own unit is on since a moment not after t.
+    fn better_waits(
+        &self,
+        cur: Option<UnitId>,
+        since: Moment,
+        t: Moment,
+        core: ResId,
+        home: Cores,
+    ) -> bool
+        requires now { IsNow (seen self.now) t.0 }
+        requires since { since.0 ≤ t.0 }
+        requires core { core.0 < 64 }
+        requires own { IsOwnOf (seen self.now).scheduler cur }
+        ensures { result ≡ better_waits_spec cur since.0 t.0 core.0 home.0 (seen self.now).scheduler };
+
+    /// The first timer, by domain and unit, whose moment has come at t; where there is none, the one of the least moment. `None`
+    /// where no timer is armed. A replenishment is armed while its unit waits or is on.
+    fn timer_due(&self, t: Moment) -> Option<(Moment, Timer)>
+        ensures { result ≡ timer_at t.0 (seen self.now).scheduler };
+
+    /// Carries out a timer whose moment has come at t, and answers its event.
+    fn timer(&mut self, which: Timer, t: Moment) -> Event
+        requires now { IsNow (seen self.old) t.0 }
+        requires due { is_due t.0 (seen self.old).scheduler which ≡ true }
+        ensures event { result ≡ timer_event t.0 (seen self.old).scheduler which }
+        ensures after { seen self.new ≡ seen_at t.0 (after_timer t.0 (seen self.old).scheduler which) (seen self.old) };
+
+    /// Changes parameters at t. Those of an RTDS unit wait for its next replenishment.
+    fn set_params(&mut self, change: &ParamChange, t: Moment)
+        requires now { IsNow (seen self.old) t.0 }
+        requires change { IsChange kind (seen self.old).scheduler change.now }
+        ensures { seen self.new ≡ seen_at t.0 (set_params_spec change.now t.0 (seen self.old).scheduler) (seen self.old) };
+
+    /// The set values of a unit; for RTDS the newest ones.
+    fn stored(&self, u: UnitId) -> Stored
+        requires member { is_member (seen self.now).scheduler u ≡ true }
+        ensures { stored_of (seen self.now).scheduler.records u ≡ Some result };
+
+    /// The rate limit in microseconds, 0 for a scheduler that has none.
+    fn rate(&self) -> u32
+        ensures { result ≡ rate_of (seen self.now).scheduler.records };
+
+    /// Does nothing, and tells what every scheduler keeps: no unit waits twice, those that wait have joined and are not on, and
+    /// the records are of this kind.
+    fn keeps(&self)
+        ensures { Keeps kind (seen self.now) };
+}
