@@ -196,19 +196,26 @@ mod tests {
         Ok(())
     }
 
+    /// The least id of four whose moment has come.
+    fn least_come(heap: &DueHeap, t: u64) -> Option<u16>
+        requires { length heap.now ≡ 4 }
+    {
+        heap.first_due(Moment(t))
+    }
+
     #[test]
     fn the_least_id_that_has_come(rt: HostRuntime) -> Result<(), Fail> {
         let mut heap = DueHeap::room(rt.alloc(), 4)?;
-        assert_eq!(rt; heap.first_due(Moment(50)), None);
+        assert_eq!(rt; least_come(&heap, 50), None);
         heap.arm(3, Moment(10));
         heap.arm(1, Moment(30));
         heap.arm(2, Moment(20));
-        assert_eq!(rt; heap.first_due(Moment(9)), None);
-        assert_eq!(rt; heap.first_due(Moment(10)), Some(3));
-        assert_eq!(rt; heap.first_due(Moment(25)), Some(2));
-        assert_eq!(rt; heap.first_due(Moment(30)), Some(1));
+        assert_eq!(rt; least_come(&heap, 9), None);
+        assert_eq!(rt; least_come(&heap, 10), Some(3));
+        assert_eq!(rt; least_come(&heap, 25), Some(2));
+        assert_eq!(rt; least_come(&heap, 30), Some(1));
         heap.disarm(1);
-        assert_eq!(rt; heap.first_due(Moment(30)), Some(2));
+        assert_eq!(rt; least_come(&heap, 30), Some(2));
         Ok(())
     }
 

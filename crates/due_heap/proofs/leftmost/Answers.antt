@@ -1,5 +1,5 @@
-use Rattle.std.proofs.Common.{◌≡◌, ℕ, subst, sym}
-use Rattle.due_heap.proofs.Descent.{IsOnWay, way_begins, way_down, way_ends}
+use Rattle.std.proofs.Common.{ℕ, subst, sym}
+use Rattle.due_heap.proofs.Descent.{IsOnWay, way_begins, way_down}
 use Rattle.due_heap.proofs.leftmost.Goals as goal
 
 pub loop-k-init : goal.loop-k-init
