@@ -4,3 +4,5 @@ pub mod Fences
 pub mod ItemLists
 pub mod Operations
 pub mod Calls
+pub mod Walked
+pub mod Memory

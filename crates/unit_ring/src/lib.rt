@@ -8,6 +8,7 @@ ghost use Rattle.std.specs.Prelude.{◌≡◌, ◌≢◌, ◌-◌, ◌<◌, ◌�
 ghost use Rattle.unit_ring.specs.Chains.{IsChain, Has, as_node, chain, fenced, nodes_up_to, without, put_before};
 
 mod links;
+mod nodes;
 
 use sched_base::{DomId, NoMemory, Steps, UnitId};
 use std::alloc::Global;
