@@ -10,7 +10,7 @@ pub use mir.Val.{Val, vunit, vint, vptr, vstruct, vcons, vnil}
 pub use contract.Monad.{fact}
 pub use contract.Running.{tables}
 pub use types.Logic.{Logic, sem}
-pub use types.Kit.{‵, raw, ⋆, ◌⊛◌, some, given, later, prop, at_ret, ◌$◌, ◌∵◌, !, qed, by, done, move, keep, drop, use0, use1, use2, use3, split, join, fsplit, fsplit3, fjoin, feq_i, feq_l, flt_l, flt_i, pick, learn, await, rewrite, regoal, suffices, frame, group, Seq, Step, step, Item, Goal, Soaks}
+pub use types.Kit.{‵, raw, ⋆, ◌⊛◌, some, given, later, prop, at_ret, ◌$◌, ◌∵◌, !, qed, by, done, move, keep, drop, use0, use1, use2, use3, split, join, fsplit, fsplit3, fjoin, fjoin3, feq_i, feq_l, flt_l, flt_i, pick, learn, await, rewrite, regoal, suffices, frame, group, Seq, Step, step, Item, Goal, Soaks}
 pub use types.Part.{whole, sub, look_in, store_in, agg}
 pub use types.Run.{enter, of_opd, lit, unit_lit, bin, un, addr, load, look, store, stop, fld, hop, from, no_more, and_then, assigns, assigns_last, first, blocks, exec, returns, well_typed}
 pub use types.ByLocal.{alloc_all, pass_all, free_all, look_at, take_at, give_at, get, get_in, through, sets, sets_last, is, env}
