@@ -6,3 +6,4 @@ pub mod Operations
 pub mod Calls
 pub mod Walked
 pub mod Memory
+pub mod Raw

@@ -18,6 +18,7 @@ use Rattle.sched_base.specs.declared.UnitId.{UnitId}
 use Rattle.sched_base.specs.contracts.UnitId.{the_row as Unit_}
 use Rattle.sched_base.proofs.UnitId.TheLaws as unit
 use mir.Syntax.{w8}
+use base.Logic.{emp}
 
 -- the type of a node, as the row's lemmas take it
 abbrev pub E : El
@@ -83,6 +84,9 @@ node_fits x vs p = record { dom = p.1.1.1.1.0.1.1.0.1.1.0.1; n = p.1.1.1.1.0.1.1
 
 place_is : (a : Address) → Is Place a (address.lowered a ∷ [])
 place_is a = ((ptr_val a.ptr ∷ [], tt), (refl, (refl, tt)))
+
+pub place_made : {M : Type 1} {𝓤 : Ura M} (𝓛 : Logic 𝓤) (a : Address) → ent 𝓤 (emp 𝓤) (sem 𝓛 (Place.own_val a (address.lowered a ∷ [])))
+place_made 𝓛 a = makes_shadow 𝓛 (Place.own_val a (address.lowered a ∷ [])) (address.the_row_plain a (address.lowered a ∷ [])) (place_is a)
 
 unit_is : (u : UnitId) → u.dom.0 < 256 → u.n < 256 → Is Unit_ u (unit.lowered u ∷ [])
 unit_is u dom n = (

@@ -1,7 +1,7 @@
 //! The nodes of a ring in raw memory, with pointers from each to the one after it and the one before it.
 
 ghost use Rattle.std.specs.Prelude.{◌≡◌, ℕ, ◌<◌, length, slice_index_or, slice_set};
-ghost use Rattle.core.specs.Mem.Slots.{slots_items, slots_ptr, slots_len, IsFull, SamePlaces};
+ghost use Rattle.core.specs.Mem.Slots.{slots_items, slots_ptr, slots_len, slots_filled, IsFull, SamePlaces};
 ghost use Rattle.unit_ring.specs.Nodes.{node_at, place, with_after, with_before};
 
 use core::slots::Slots;
@@ -20,6 +20,19 @@ pub struct NodeRecord {
     pub before: Address,
     pub unit: UnitId,
     pub number: u32,
+}
+
+/// A row of nodes, with the place of the first.
+pub fn based(row: Slots<NodeRecord>) -> (Slots<NodeRecord>, Address)
+    ensures base { result.1.ptr ≡ slots_ptr row }
+    ensures places { SamePlaces row result.0 }
+    ensures items { slots_items result.0 ≡ slots_items row }
+    ensures filled { slots_filled result.0 ≡ slots_filled row }
+{
+    unsafe {
+        let (ptr, len) = row.into_raw_parts();
+        (Slots::from_raw_parts(ptr, len), Address { ptr })
+    }
 }
 
 /// The number of the node after one.
