@@ -7,3 +7,4 @@ pub mod Calls
 pub mod Walked
 pub mod Memory
 pub mod Raw
+pub mod Linked

@@ -2,6 +2,7 @@
 
 ghost use Rattle.std.specs.Prelude.{◌≡◌, ℕ, ◌<◌, length, slice_index_or, slice_set};
 ghost use Rattle.core.specs.Mem.Slots.{slots_items, slots_ptr, slots_len, slots_filled, IsFull, SamePlaces};
+ghost use denote.RawPtr.{InBlock};
 ghost use Rattle.unit_ring.specs.Nodes.{node_at, place, with_after, with_before};
 
 use core::slots::Slots;
@@ -25,6 +26,7 @@ pub struct NodeRecord {
 /// A row of nodes, with the place of the first.
 pub fn based(row: Slots<NodeRecord>) -> (Slots<NodeRecord>, Address)
     ensures base { result.1.ptr ≡ slots_ptr row }
+    ensures block { InBlock result.1.ptr }
     ensures places { SamePlaces row result.0 }
     ensures items { slots_items result.0 ≡ slots_items row }
     ensures filled { slots_filled result.0 ≡ slots_filled row }

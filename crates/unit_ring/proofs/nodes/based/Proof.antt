@@ -17,6 +17,7 @@ use Rattle.unit_ring.proofs.nodes.NodeRecord.TheLaws as node
 use Rattle.unit_ring.proofs.Memory.{E, place_made}
 use Rattle.unit_ring.proofs.Raw.{Passed, passed_laws, row_seen, From, at_from, Made, from_goes, from_gives, Into, at_into, Into-goes, Into-gives, pair_val, pair_of}
 use types.Tokens.{lft_new}
+use denote.RawPtr.{InBlock}
 use contract.Monad.{fact_i}
 use base.Logic.{emp}
 use denote.Struct.Tuple.{Tuple}
@@ -62,7 +63,7 @@ based_spec 𝓤 𝓛 𝓜 𝓡 wired =
     use1 𝓛 (later (some (λ (d : Slots NodeRecord). given ((w ≡ row_val b o k) × Made 𝓛 𝓜.mem 𝓡.returns κ full_share b o k xs fs d) (‵ ((Sr E).own_val d (row_val b o k ∷ [])) ⊛ ‵ (flft κ full_share)))))
     (from_gives 𝓛 𝓜.mem 𝓡.returns κ full_share b o k xs fs w) $ await ! tt $ pick ! (λ d. learn ! (λ got. split ! $
     let made = got.1 in let first_at : Address = record { ptr = block_ptr b o } in let first : Val = vstruct (vcons (vptr b o) vnil) in
-    let A : Type 0 = first_at.ptr ≡ slots_ptr r in let P : Type 0 = SamePlaces r d in let I : Type 0 = slots_items d ≡ xs in let F : Type 0 = slots_filled d ≡ fs in
+    let A : Type 0 = first_at.ptr ≡ slots_ptr r in let B : Type 0 = InBlock first_at.ptr in let P : Type 0 = SamePlaces r d in let I : Type 0 = slots_items d ≡ xs in let F : Type 0 = slots_filled d ≡ fs in
     lands_as ! got.0 refl (tt, words) $
     sets ! (agg ! (and_then ! (get ! refl) (no_more !))) refl (tt, (tt, tt)) $
     sets_last ! (agg ! (and_then ! (get ! refl) (and_then ! (get ! refl) (no_more !)))) refl (tt, (words, ((tt, tt), tt))) $
@@ -73,5 +74,5 @@ based_spec 𝓤 𝓛 𝓜 𝓡 wired =
     use0 𝓛 (‵ (Place.own_val first_at (first ∷ []))) (place_made 𝓛 first_at) $ move ! (1 ∷ 0 ∷ []) $
     use2 𝓛 (‵ ((Tuple (Row ∷ Place ∷ [])).own_val (d, first_at) (pair_val (row_val b o k) first ∷ []))) (pair_of 𝓛 Row Place d first_at (row_val b o k) first) $
     use0 𝓛 (raw (fact 𝓤 F)) (fact_i 𝓤 F (emp 𝓤) made.3) $ use0 𝓛 (raw (fact 𝓤 I)) (fact_i 𝓤 I (emp 𝓤) made.2) $
-    use0 𝓛 (raw (fact 𝓤 P)) (fact_i 𝓤 P (emp 𝓤) (record { start = made.0 ∙ sym at; count = made.1 })) $ use0 𝓛 (raw (fact 𝓤 A)) (fact_i 𝓤 A (emp 𝓤) (sym at)) $
-    move ! (4 ∷ []) $ nothing ! $ nothing ! $ fjoin ! $ nothing ! $ group ! 3 $ done !)))))))))
+    use0 𝓛 (raw (fact 𝓤 P)) (fact_i 𝓤 P (emp 𝓤) (record { start = made.0 ∙ sym at; count = made.1 })) $ use0 𝓛 (raw (fact 𝓤 B)) (fact_i 𝓤 B (emp 𝓤) tt) $ use0 𝓛 (raw (fact 𝓤 A)) (fact_i 𝓤 A (emp 𝓤) (sym at)) $
+    move ! (5 ∷ []) $ nothing ! $ nothing ! $ fjoin ! $ nothing ! $ group ! 3 $ done !)))))))))
