@@ -159,7 +159,7 @@ back base xs = (links_of base xs).before
 pub unlinked : (row new : Slots NodeRecord) (base : Address) (n a b : ℕ) → IsRow row base → a ≡ link (back base (slots_items row)) n → b ≡ link (then base (slots_items row)) n
     → slots_items new ≡ with_before (with_after (slots_items row) a (place base b)) b (place base a) → SamePlaces row new → IsFull new
     → Seen new base (after_without (then base (slots_items row)) (back base (slots_items row)) n) (before_without (then base (slots_items row)) (back base (slots_items row)) n)
-      (links_of base (slots_items row)).units
+    (links_of base (slots_items row)).units
 unlinked row new base n a b is a_is b_is e same full =
     let xs = slots_items row in let f = then base xs in let g = back base xs in let us = (links_of base xs).units in
     let first : Now base xs f g us = record { linked = is.linked; after = refl; before = refl; units = refl } in
@@ -173,7 +173,7 @@ pub inserted : (row new : Slots NodeRecord) (base : Address) (at n last : ℕ) �
     → slots_items new ≡ with_before (with_before (with_after (with_after (slots_items row) last (place base n)) n (place base at)) n (place base last)) at (place base n)
     → SamePlaces row new → IsFull new
     → Seen new base (after_with (then base (slots_items row)) (back base (slots_items row)) at n) (before_with (then base (slots_items row)) (back base (slots_items row)) at n)
-      (links_of base (slots_items row)).units
+    (links_of base (slots_items row)).units
 inserted row new base at n last is last_is e same full =
     let xs = slots_items row in let f = then base xs in let g = back base xs in let us = (links_of base xs).units in
     let first : Now base xs f g us = record { linked = is.linked; after = refl; before = refl; units = refl } in

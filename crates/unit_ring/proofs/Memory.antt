@@ -113,7 +113,7 @@ module _ {M : Type 1} {𝓤 : Ura M} {𝓛 : Logic 𝓤} {K : Type 0} {Γ : List
 module _ {M : Type 1} {𝓤 : Ura M} (𝓛 : Logic 𝓤) (b o : ℕ) (xs : List NodeRecord) (fs : List Bool) (i : ℕ) (l : i < length xs) (m : i < length fs) (held : get_or fs i false ≡ true) where
   pub cell_back : (a c : Address)
       → ent 𝓤 (sep 𝓤 (sem 𝓛 (Cell 𝓛 b o xs fs i l m held (record (node_at xs i) { after = a; before = c })))
-          (sep 𝓤 (sem 𝓛 (Node.own_val (node_at xs i) (lowered (node_at xs i) ∷ []))) (sem 𝓛 (besides E b o xs fs i))))
+      (sep 𝓤 (sem 𝓛 (Node.own_val (node_at xs i) (lowered (node_at xs i) ∷ []))) (sem 𝓛 (besides E b o xs fs i))))
       (sem 𝓛 (slots Node (block_ptr b o) (set xs i (record (node_at xs i) { after = a; before = c })) fs))
   cell_back a c =
       let x : NodeRecord = node_at xs i in let y : NodeRecord = record x { after = a; before = c } in

@@ -40,7 +40,7 @@ insert_before_spec 𝓤 𝓛 𝓜 𝓡 wired =
     let small_at : at < 2 ^ 32 = are.1.1.0.1 in let small : n < 2 ^ 32 = are.1.1.1.0.1 in let counts = slots_counts h in
     let y : W.Ghost = ((κs, qs, bounds, a, (mut_vals a.0, (address.lowered base ∷ [], (vint w32 at ∷ [], (vint w32 n ∷ [], tt))))), last) in
     qed 𝓛 (((‵ (flft κ q) ⊛ ‵ ftrue) ⊛ ‵ (owns (types_at f.ended.signature.params κs) a y.0.4)) ∷ (raw (fact 𝓤 (slots_ptr h ≡ base.ptr)) ⊛ raw (fact 𝓤 (IsFull h)) ⊛ raw (fact 𝓤 (n < slots_len h))
-        ⊛ raw (fact 𝓤 (at < slots_len h)) ⊛ raw (fact 𝓤 (x.before ≡ place base last)) ⊛ raw (fact 𝓤 (last < slots_len h))) ∷ []) ∵
+    ⊛ raw (fact 𝓤 (at < slots_len h)) ⊛ raw (fact 𝓤 (x.before ≡ place base last)) ⊛ raw (fact 𝓤 (last < slots_len h))) ∷ []) ∵
     move ! (1 ∷ []) $ split ! $ heard ! _ (λ is_base. split ! $ heard ! _ (λ full. split ! $ heard ! _ (λ below. split ! $ heard ! _ (λ at_low. split ! $ heard ! _ (λ back. heard ! _ (λ last_low.
     split ! $ split ! $ move ! (2 ∷ []) $ fsplit ! $ fsplit3 ! $ keep ! (1 ∷ 2 ∷ 4 ∷ []) $
     enter ! _ _ _ _ _ $ alloc_all ! (λ l. pass_all ! refl ((tt, tt), (((address.the_row_laws.lawful 𝓛).typed base _ are.1.0).0, ((tt, record { fits = small_at }), ((tt, record { fits = small }), tt)))) $
