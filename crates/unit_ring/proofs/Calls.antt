@@ -6,11 +6,12 @@ use Rattle.std.proofs.lemmas.List.{get_or-set_same, get_or_default}
 use Rattle.sched_base.specs.declared.UnitId.{UnitId}
 use Rattle.unit_ring.specs.Lists as l
 use Rattle.unit_ring.specs.Lists.{Item, Lists, item, no_unit, has_node, is_live, unit_of, unit_in, list_of, first_in, next_in, next_of, taken, given, appended, room_of}
-use Rattle.unit_ring.specs.Chains.{Lacks, Has, Distinct, IsChain, IsRing, chain, fenced, nodes_of, second_of, free_of, without, put_before, unit_at, items, lists_of, link, as_node, nodes_up_to, after_with, before_with}
+use Rattle.unit_ring.specs.Chains.{Lacks, Has, Path, Below, Distinct, IsChain, IsRing, chain, fenced, nodes_of, second_of, free_of, without, put_before, unit_at, items, lists_of, link, as_node, nodes_up_to, after_with, before_with}
 use Rattle.unit_ring.proofs.Linking.{IsChain-put_before, chain-is, length-chain, without-same, without-lacks, put_before-lacks, Lacks-Has, Below-Has, Lacks-without}
 use Rattle.unit_ring.proofs.Fences.{Has-right, Lacks-append, Plain, Parted, parted, high, fenced-without, fenced-put_before, fenced-first_end, fenced-second_end, fenced-free_end}
 use Rattle.unit_ring.proofs.ItemLists.{items-append, items-set, items-without, items-put_before, has_node-lacks, Has-has_node, unit_in-items, first_in-items, next_in-items}
-use Rattle.unit_ring.proofs.Operations.{ring_parted, live_in, live_high, live_below, FirstFree, Made, made, chain_has_free, chain_has_1, chain_has_2, ring_path, second_path}
+use Rattle.unit_ring.proofs.Operations.{ring_parted, live_in, live_high, live_below, FirstFree, Made, made, chain_has_free, chain_has_1, chain_has_2, ring_path, second_path, live_has}
+use Rattle.unit_ring.proofs.Shifting.{below, after_below}
 
 Plain-tail : (n : ℕ) (xs : List ℕ) → Plain (n ∷ xs) → Plain xs
 Plain-tail n xs p = record { no_0 = p.no_0.1; no_1 = p.no_1.1; no_2 = p.no_2.1; no_3 = p.no_3.1 }
@@ -298,12 +299,10 @@ next_is f g us n ring live =
 
 -- what is read at a live node
 pub read_unit : (f g : List ℕ) (us : List UnitId) (lists : Lists) (n : ℕ) (u : UnitId) → IsRing f g us → lists_of f us ≡ lists
-    → is_live lists n ≡ true → u ≡ get_or us n u → u ≡ unit_of lists n
+    → is_live lists n ≡ true → u ≡ unit_at us n → u ≡ unit_of lists n
 read_unit f g us lists n u ring view live read =
     let live_here : is_live (lists_of f us) n ≡ true = subst (λ (ls : Lists). is_live ls n ≡ true) (sym view) live in
-    let low : n < length us = subst (λ (k : ℕ). n < k) (sym ring.places) (live_below f g us n ring live_here) in
     read
-    ∙ get_or_default us n u no_unit low
     ∙ sym (unit_of_live f g us n ring live_here)
     ∙ ap (λ (ls : Lists). unit_of ls n) view
 
@@ -378,3 +377,36 @@ pub free_number : (f g : List ℕ) (us : List UnitId) (lists : Lists) (n : ℕ) 
     → n < room_of lists + 4
 free_number f g us lists n ring view first =
     subst (λ (ls : Lists). n < room_of ls + 4) view (omega (arith, free_below f g us n ring first, room_is f g us ring))
+
+-- where the links of a ring lead is within it
+first_below : (f g ys : List ℕ) (m : ℕ) → Path f g 0 ys → Below m ys → Has 1 ys → link f 0 < m
+first_below f g [] m path low has = absurd has
+first_below f g (y ∷ ys) m path low has = omega (arith, path.0, low.0)
+
+pub list_low : (f g : List ℕ) (us : List UnitId) (k : ℕ) → IsRing f g us → k ≤ 1 → k < length f
+list_low f g us k ring either =
+    let one = below f g (chain f) ring.whole 1 (chain_has_1 f g us ring) in omega (arith, either, one)
+
+pub list_below : (f g : List ℕ) (us : List UnitId) (k : ℕ) → IsRing f g us → k ≤ 1 → link f k < length f
+list_below f g us zero ring either = first_below f g (chain f) (length f) ring.whole.path ring.whole.below.1 (chain_has_1 f g us ring)
+list_below f g us (suc zero) ring either = after_below f g (chain f) ring.whole 1 (chain_has_1 f g us ring) (λ e. omega (arith, e))
+list_below f g us (suc (suc k)) ring either = absurd (omega (arith, either))
+
+pub free_low : (f g : List ℕ) (us : List UnitId) → IsRing f g us → 2 < length f
+free_low f g us ring = below f g (chain f) ring.whole 2 (chain_has_2 f g us ring)
+
+pub free_next : (f g : List ℕ) (us : List UnitId) → IsRing f g us → link f 2 < length f
+free_next f g us ring = after_below f g (chain f) ring.whole 2 (chain_has_2 f g us ring) (λ e. omega (arith, e))
+
+pub live_next : (f g : List ℕ) (us : List UnitId) (n : ℕ) → IsRing f g us → is_live (lists_of f us) n ≡ true → link f n < length f
+live_next f g us n ring live =
+    let more = live_high f g us n ring live in
+    after_below f g (chain f) ring.whole n (live_has f g us n ring live) (λ e. omega (arith, e, more))
+
+-- the same ring, by other names of its lists
+pub carried : (f g f2 g2 : List ℕ) (us us2 : List UnitId) (ls : Lists) → IsRing f g us × (lists_of f us ≡ ls) → f2 ≡ f → g2 ≡ g → us2 ≡ us
+    → IsRing f2 g2 us2 × (lists_of f2 us2 ≡ ls)
+carried f g f2 g2 us us2 ls both e h u = (
+  subst (λ (p : List ℕ × (List ℕ × List UnitId)). IsRing p.0 p.1.0 p.1.1) (λ i. (sym e i, (sym h i, sym u i))) both.0,
+  ap (λ (p : List ℕ × List UnitId). lists_of p.0 p.1) (λ i. (e i, u i)) ∙ both.1,
+)

@@ -4,3 +4,7 @@ pub mod Fences
 pub mod ItemLists
 pub mod Operations
 pub mod Calls
+pub mod Walked
+pub mod Memory
+pub mod Raw
+pub mod Linked

@@ -1,15 +1,18 @@
 //! Two lists of schedule units on one ring of nodes. A node goes from one place to another in one step.
 //!
-//! The nodes lie in memory that `room` takes once. All of them stand in one chain of links, the free ones too: from
-//! fence 0 go the nodes of list 0, from fence 1 those of list 1, and from fence 2 the free ones up to fence 3.
+//! The nodes lie in one block, which `room` takes and the ring gives back at its end, and each has pointers to the one
+//! after it and the one before it. All of them stand in one chain, the free ones too: from fence 0 go the nodes of list
+//! 0, from fence 1 those of list 1, and from fence 2 the free ones up to fence 3.
 #![tactic(auto)]
 
-ghost use Rattle.std.specs.Prelude.{◌≡◌, ◌≢◌, ◌-◌, ◌<◌, ◌≤◌, [], length};
-ghost use Rattle.unit_ring.specs.Chains.{IsChain, Has, as_node, chain, fenced, nodes_up_to, without, put_before};
+ghost use Rattle.std.specs.Prelude.{◌≡◌};
+ghost use Rattle.unit_ring.specs.Chains.{as_node};
 
 mod links;
+mod nodes;
 
-use sched_base::{DomId, NoMemory, Steps, UnitId};
+use links::Nodes;
+use sched_base::{NoMemory, Steps, UnitId};
 use std::alloc::Global;
 use std::marker::Model;
 use std::sync::ledger::Ledger;
@@ -19,12 +22,6 @@ const FENCES: u32 = 4;
 
 /// The most nodes that their numbers allow.
 const NODES_MOST: usize = 0xffff_fff0;
-
-/// What stands for the unit of a number that has none.
-const NO_UNIT: UnitId = UnitId {
-    dom: DomId(0),
-    n: 0,
-};
 
 /// The fence before the free nodes, and the one after them.
 const FREE: u32 = 2;
@@ -38,9 +35,7 @@ pub struct Node(pub u32);
 /// The ring. Contracts see its two lists, of nodes with their units, and the number of free nodes.
 #[derive(Drop)]
 pub struct Ring {
-    after: Vec<u32>,
-    before: Vec<u32>,
-    units: Vec<UnitId>,
+    nodes: Nodes,
 }
 
 impl Model for Ring {
@@ -49,20 +44,9 @@ impl Model for Ring {
 
     ghost Value = { Lists };
 
-    ghost view = { λ a. lists_of a.after.items a.units.items };
+    ghost view = { λ a. lists_of a.nodes.after a.nodes.units };
 
-    ghost invariant = { λ a. IsRing a.after.items a.before.items a.units.items };
-}
-
-/// Links along the fences and all other numbers.
-fn link_all(after: &mut Vec<u32>, before: &mut Vec<u32>)
-    requires lengths { length before.old.items ≡ length after.old.items }
-    requires some { 4 ≤ length after.old.items }
-    requires few { length after.old.items < 4294967296 }
-    ensures whole { IsChain after.new.items before.new.items (fenced [] [] (nodes_up_to (length after.old.items - 4))) }
-    ensures size { length after.new.items ≡ length after.old.items }
-{
-    links::link_all(after.as_mut_slice(), before.as_mut_slice());
+    ghost invariant = { λ a. IsRing a.nodes.after a.nodes.before a.nodes.units };
 }
 
 /// The node of a number of the chain, where it is no fence.
@@ -70,20 +54,6 @@ fn node_at(n: u32) -> Option<Node>
     ensures { result ≡ as_node n }
 {
     if n < FENCES { None } else { Some(Node(n)) }
-}
-
-/// Moves a number of the chain before another.
-fn shift(after: &mut Vec<u32>, before: &mut Vec<u32>, n: u32, at: u32)
-    requires whole { IsChain after.old.items before.old.items (chain after.old.items) }
-    requires number { Has n (chain after.old.items) }
-    requires inner { n ≢ 3 }
-    requires place { Has at (chain after.old.items) }
-    requires apart { at ≢ n }
-    ensures whole { IsChain after.new.items before.new.items (chain after.new.items) }
-    ensures moved { chain after.new.items ≡ put_before at n (without n (chain after.old.items)) }
-    ensures size { length after.new.items ≡ length after.old.items }
-{
-    links::shift(after.as_mut_slice(), before.as_mut_slice(), n, at);
 }
 
 impl Ring {
@@ -98,15 +68,8 @@ impl Ring {
             return Err(NoMemory);
         }
         let all = nodes + FENCES as usize;
-        let mut after = vec![in alloc; 0; all]?;
-        let mut before = vec![in alloc; 0; all]?;
-        let units = vec![in alloc; NO_UNIT; all]?;
-        link_all(&mut after, &mut before);
-        Ok(Ring {
-            after,
-            before,
-            units,
-        })
+        let nodes = Nodes::room(alloc, all)?;
+        Ok(Ring { nodes })
     }
 
     /// Puts a unit at the end of a list, on a free node. A list is 0 or 1.
@@ -119,9 +82,9 @@ impl Ring {
         ensures step { steps.new ≡ steps.old + 1 }
     {
         steps.tick();
-        let n = links::next(self.after.as_slice(), FREE);
-        shift(&mut self.after, &mut self.before, n, list as u32 + 1);
-        self.units[n as usize] = u;
+        let n = self.nodes.next(FREE);
+        self.nodes.shift(n, list as u32 + 1);
+        self.nodes.set_unit(n, u);
         Node(n)
     }
 
@@ -135,9 +98,9 @@ impl Ring {
         ensures step { steps.new ≡ steps.old + 1 }
     {
         steps.tick();
-        let n = links::next(self.after.as_slice(), FREE);
-        shift(&mut self.after, &mut self.before, n, at.0);
-        self.units[n as usize] = u;
+        let n = self.nodes.next(FREE);
+        self.nodes.shift(n, at.0);
+        self.nodes.set_unit(n, u);
         Node(n)
     }
 
@@ -149,8 +112,8 @@ impl Ring {
         ensures step { steps.new ≡ steps.old + 1 }
     {
         steps.tick();
-        shift(&mut self.after, &mut self.before, n.0, FREE_END);
-        self.units[n.0 as usize]
+        self.nodes.shift(n.0, FREE_END);
+        self.nodes.unit(n.0)
     }
 
     /// Moves a live node with its unit to the end of a list.
@@ -161,7 +124,7 @@ impl Ring {
         ensures step { steps.new ≡ steps.old + 1 }
     {
         steps.tick();
-        shift(&mut self.after, &mut self.before, n.0, list as u32 + 1);
+        self.nodes.shift(n.0, list as u32 + 1);
     }
 
     /// The first node of a list, or `None` where it is empty.
@@ -171,7 +134,7 @@ impl Ring {
         ensures step { steps.new ≡ steps.old + 1 }
     {
         steps.tick();
-        node_at(links::next(self.after.as_slice(), list as u32))
+        node_at(self.nodes.next(list as u32))
     }
 
     /// The node after a live one in its list, or `None` where it is the last.
@@ -181,7 +144,7 @@ impl Ring {
         ensures step { steps.new ≡ steps.old + 1 }
     {
         steps.tick();
-        node_at(links::next(self.after.as_slice(), n.0))
+        node_at(self.nodes.next(n.0))
     }
 
     /// The unit of a live node.
@@ -189,13 +152,14 @@ impl Ring {
         requires live { is_live self.now n.0 ≡ true }
         ensures { result ≡ unit_of self.now n.0 }
     {
-        self.units[n.0 as usize]
+        self.nodes.unit(n.0)
     }
 }
 
 #[cfg(test)]
 mod tests {
     use super::*;
+    use sched_base::DomId;
     use std::marker::Brand;
     use std::process::Abort;
     use std::sync::ledger::Blank;

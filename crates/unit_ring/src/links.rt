@@ -1,84 +1,229 @@
-//! The links of a chain of numbers: for each number the one after it and the one before it.
+//! The links of a chain of numbers: for each number the one after it and the one before it. They lie with the nodes in
+//! one block, which is taken once and given back at the end.
 
-ghost use Rattle.std.specs.Prelude.{◌≡◌, ◌≢◌, ◌-◌, ◌<◌, ◌≤◌, [], ◌∷◌, length};
-ghost use Rattle.unit_ring.specs.Chains.{link, after_without, before_without, after_with, before_with, IsChain, Has, chain, fenced, nodes_up_to, without, put_before};
+ghost use Rattle.std.specs.Prelude.{ℕ, ◌≡◌, ◌≢◌, ◌-◌, ◌<◌, ◌≤◌, [], ◌∷◌, length, slice_set, replicate, IfOk};
+ghost use Rattle.core.specs.Mem.Slots.{slots_items, slots_len, IsFull, SamePlaces};
+ghost use Rattle.unit_ring.specs.Chains.{link, unit_at, after_without, before_without, after_with, before_with, IsChain, Has, chain, fenced, nodes_up_to, without, put_before};
+ghost use Rattle.unit_ring.specs.Nodes.{first_node, node_at};
 
-/// The number after one.
-pub fn next(after: &[u32], n: u32) -> u32
-    requires { n < length after.now }
-    ensures { result ≡ link after.now n }
-{
-    after[n as usize]
+use crate::nodes;
+use crate::nodes::{Address, NodeRecord, based};
+use core::slots::{Lease, Slots, release, reserve};
+use sched_base::{DomId, NoMemory, UnitId};
+use std::alloc::Global;
+use std::marker::Model;
+use std::ptr;
+
+/// What stands for the unit of a number that has none.
+const NO_UNIT: UnitId = UnitId {
+    dom: DomId(0),
+    n: 0,
+};
+
+/// A node before it has a number.
+fn blank_node() -> NodeRecord {
+    NodeRecord {
+        after: Address {
+            ptr: ptr::null_mut(),
+        },
+        before: Address {
+            ptr: ptr::null_mut(),
+        },
+        unit: NO_UNIT,
+        number: 0,
+    }
 }
 
-/// Takes a number out of its place.
-pub fn unlink(after: &mut [u32], before: &mut [u32], n: u32)
-    requires lengths { length before.old ≡ length after.old }
-    requires below { n < length after.old }
-    requires next { link after.old n < length after.old }
-    requires last { link before.old n < length after.old }
-    ensures after { after.new ≡ after_without after.old before.old n }
-    ensures before { before.new ≡ before_without after.old before.old n }
+/// Fills a row with nodes that lead to the first, each with its number.
+fn fill(row: &mut Slots<NodeRecord>, base: Address)
+    requires few { slots_len row.old < 4294967296 }
+    ensures places { SamePlaces row.old row.new }
+    ensures full { IsFull row.new }
+    ensures nodes { (k : ℕ) → k < slots_len row.new → node_at (slots_items row.new) k ≡ first_node base k }
 {
-    let next = after[n as usize];
-    let last = before[n as usize];
-    after[last as usize] = next;
-    before[next as usize] = last;
+    for k in 0..row.len() {
+        row.put(
+            k,
+            NodeRecord {
+                after: base,
+                before: base,
+                unit: NO_UNIT,
+                number: k as u32,
+            },
+        );
+    }
 }
 
-/// Puts a number that has no place before another.
-pub fn insert_before(after: &mut [u32], before: &mut [u32], at: u32, n: u32)
-    requires lengths { length before.old ≡ length after.old }
-    requires below { n < length after.old }
-    requires at { at < length after.old }
-    requires last { link before.old at < length after.old }
-    ensures after { after.new ≡ after_with after.old before.old at n }
-    ensures before { before.new ≡ before_with after.old before.old at n }
-{
-    let last = before[at as usize];
-    after[last as usize] = n;
-    after[n as usize] = at;
-    before[n as usize] = last;
-    before[at as usize] = n;
+/// The nodes: the block in which they lie, where it begins, and the right to give it back.
+pub struct Nodes {
+    row: Slots<NodeRecord>,
+    base: Address,
+    lease: Lease<NodeRecord, Global>,
+    alloc: Global,
 }
 
-/// Moves a number of the chain before another.
-pub fn shift(after: &mut [u32], before: &mut [u32], n: u32, at: u32)
-    requires whole { IsChain after.old before.old (chain after.old) }
-    requires number { Has n (chain after.old) }
-    requires inner { n ≢ 3 }
-    requires place { Has at (chain after.old) }
-    requires apart { at ≢ n }
-    ensures whole { IsChain after.new before.new (chain after.new) }
-    ensures moved { chain after.new ≡ put_before at n (without n (chain after.old)) }
-{
-    unlink(after, before, n);
-    insert_before(after, before, at, n);
+impl Model for Nodes {
+    ghost use Rattle.std.specs.Prelude.{◌≡◌};
+    ghost use Rattle.unit_ring.specs.Nodes.{Links};
+
+    ghost Value = { Links };
+
+    ghost use Rattle.core.specs.Mem.Slots.{slots_items, slots_ptr, slots_len, lease_ptr, lease_len, lease_heap};
+    ghost use Rattle.unit_ring.specs.Nodes.{IsRow, links_of};
+
+    ghost view = { λ a. links_of a.base (slots_items a.row) };
+
+    ghost invariant = { λ a. IsRow a.row a.base × (lease_ptr a.lease ≡ slots_ptr a.row) × (lease_len a.lease ≡ slots_len a.row) × (lease_heap a.lease ≡ a.alloc) };
 }
 
-/// Links along the fences alone.
-fn link_fences(after: &mut [u32], before: &mut [u32])
-    requires lengths { length before.old ≡ length after.old }
-    requires some { 4 ≤ length after.old }
-    ensures { IsChain after.new before.new (1 ∷ 2 ∷ 3 ∷ []) }
-{
-    after[0] = 1;
-    after[1] = 2;
-    after[2] = 3;
-    before[1] = 0;
-    before[2] = 1;
-    before[3] = 2;
+impl Drop for Nodes {
+    fn drop(self) {
+        let Nodes {
+            row,
+            base: _,
+            lease,
+            alloc,
+        } = self;
+        release(&alloc, row, lease);
+    }
 }
 
-/// Links along the fences and all other numbers, which come before the last fence.
-pub fn link_all(after: &mut [u32], before: &mut [u32])
-    requires lengths { length before.old ≡ length after.old }
-    requires some { 4 ≤ length after.old }
-    requires few { length after.old < 4294967296 }
-    ensures { IsChain after.new before.new (fenced [] [] (nodes_up_to (length after.old - 4))) }
-{
-    link_fences(after, before);
-    for n in 4..after.len() {
-        insert_before(after, before, 3, n as u32);
+impl Nodes {
+    /// So many nodes in a block of their own, which all lead to the first.
+    fn fresh(alloc: Global, all: usize) -> Result<Nodes, NoMemory>
+        requires few { all < 4294967296 }
+        ensures size { IfOk result (λ nodes. length nodes.after ≡ all) }
+        ensures same { IfOk result (λ nodes. length nodes.before ≡ all) }
+        ensures places { IfOk result (λ nodes. length nodes.units ≡ all) }
+        ensures start { IfOk result (λ nodes. (k : ℕ) → k < all → link nodes.before k ≡ 0) }
+    {
+        let like = vec![in alloc; blank_node(); all]?;
+        let (row, lease) = unsafe { reserve(&alloc, like.as_slice())? };
+        let (mut row, base) = based(row);
+        fill(&mut row, base);
+        Ok(Nodes {
+            row,
+            base,
+            lease,
+            alloc,
+        })
+    }
+
+    /// So many nodes in a block of their own, linked along the fences and all other numbers.
+    pub fn room(alloc: Global, all: usize) -> Result<Nodes, NoMemory>
+        requires some { 4 ≤ all }
+        requires few { all < 4294967296 }
+        ensures whole { IfOk result (λ nodes. IsChain nodes.after nodes.before (fenced [] [] (nodes_up_to (all - 4)))) }
+        ensures size { IfOk result (λ nodes. length nodes.after ≡ all) }
+        ensures places { IfOk result (λ nodes. length nodes.units ≡ all) }
+    {
+        let mut nodes = Nodes::fresh(alloc, all)?;
+        nodes.link_all(all as u32);
+        Ok(nodes)
+    }
+
+    /// The number after one.
+    pub fn next(&self, n: u32) -> u32
+        requires below { n < length self.now.after }
+        requires next { link self.now.after n < length self.now.after }
+        ensures { result ≡ link self.now.after n }
+    {
+        nodes::next(&self.row, self.base, n)
+    }
+
+    /// Takes a number out of its place.
+    pub fn unlink(&mut self, n: u32)
+        requires below { n < length self.old.after }
+        requires next { link self.old.after n < length self.old.after }
+        requires last { link self.old.before n < length self.old.after }
+        ensures after { self.new.after ≡ after_without self.old.after self.old.before n }
+        ensures before { self.new.before ≡ before_without self.old.after self.old.before n }
+        ensures units { self.new.units ≡ self.old.units }
+    {
+        nodes::unlink(&mut self.row, self.base, n);
+    }
+
+    /// Puts a number that has no place before another.
+    pub fn insert_before(&mut self, at: u32, n: u32)
+        requires below { n < length self.old.after }
+        requires at { at < length self.old.after }
+        requires last { link self.old.before at < length self.old.after }
+        ensures after { self.new.after ≡ after_with self.old.after self.old.before at n }
+        ensures before { self.new.before ≡ before_with self.old.after self.old.before at n }
+        ensures units { self.new.units ≡ self.old.units }
+    {
+        nodes::insert_before(&mut self.row, self.base, at, n);
+    }
+
+    /// Moves a number of the chain before another.
+    pub fn shift(&mut self, n: u32, at: u32)
+        requires whole { IsChain self.old.after self.old.before (chain self.old.after) }
+        requires number { Has n (chain self.old.after) }
+        requires inner { n ≢ 3 }
+        requires place { Has at (chain self.old.after) }
+        requires apart { at ≢ n }
+        ensures whole { IsChain self.new.after self.new.before (chain self.new.after) }
+        ensures moved { chain self.new.after ≡ put_before at n (without n (chain self.old.after)) }
+        ensures size { length self.new.after ≡ length self.old.after }
+        ensures units { self.new.units ≡ self.old.units }
+    {
+        self.unlink(n);
+        self.insert_before(at, n);
+    }
+
+    /// Links along the fences alone.
+    fn link_fences(&mut self)
+        requires some { 4 ≤ length self.old.after }
+        requires lengths { length self.old.before ≡ length self.old.after }
+        requires start { link self.old.before 3 ≡ 0 }
+        ensures whole { IsChain self.new.after self.new.before (1 ∷ 2 ∷ 3 ∷ []) }
+        ensures size { length self.new.after ≡ length self.old.after }
+        ensures units { self.new.units ≡ self.old.units }
+    {
+        self.insert_before(3, 1);
+        self.insert_before(3, 2);
+    }
+
+    /// Links along the fences and all other numbers, which come before the last fence.
+    fn link_all(&mut self, all: u32)
+        requires all { all ≡ length self.old.after }
+        requires some { 4 ≤ length self.old.after }
+        requires lengths { length self.old.before ≡ length self.old.after }
+        requires start { link self.old.before 3 ≡ 0 }
+        ensures whole { IsChain self.new.after self.new.before (fenced [] [] (nodes_up_to (length self.old.after - 4))) }
+        ensures size { length self.new.after ≡ length self.old.after }
+        ensures units { self.new.units ≡ self.old.units }
+    {
+        self.link_fences();
+        for n in 4..all {
+            self.insert_before(3, n);
+        }
+    }
+
+    /// Writes the unit of a number.
+    pub fn set_unit(&mut self, n: u32, u: UnitId)
+        requires { n < length self.old.units }
+        ensures after { self.new.after ≡ self.old.after }
+        ensures before { self.new.before ≡ self.old.before }
+        ensures units { self.new.units ≡ slice_set self.old.units n u }
+    {
+        let node = *self.row.get(n as usize);
+        self.row.put(
+            n as usize,
+            NodeRecord {
+                after: node.after,
+                before: node.before,
+                unit: u,
+                number: node.number,
+            },
+        );
+    }
+
+    /// The unit of a number.
+    pub fn unit(&self, n: u32) -> UnitId
+        requires { n < length self.now.units }
+        ensures { result ≡ unit_at self.now.units n }
+    {
+        self.row.get(n as usize).unit
     }
 }

@@ -1,9 +1,10 @@
-use Rattle.std.proofs.Common.{◌≡◌, ◌⊎◌, ℕ, ◌+◌, ◌<◌, ◌≤◌, List, ◌∷◌, ◌++◌, true, false, length, refl, sym, ◌∙◌, ap, subst, inl, inr, arith, rules, vec_len}
+use Rattle.std.proofs.Common.{◌≡◌, ◌⊎◌, ℕ, ◌+◌, ◌<◌, ◌≤◌, List, ◌∷◌, ◌++◌, true, false, length, refl, sym, ◌∙◌, ap, subst, inl, inr, arith, rules, set}
 use Rattle.sched_base.specs.declared.UnitId.{UnitId}
 use Rattle.unit_ring.specs.Lists.{Lists, item, is_live, unit_of, taken, given, appended, first_in, next_of, list_of, without as lists_without, put_before as lists_with}
 use Rattle.unit_ring.specs.Chains.{link, Has, IsRing, chain, free_of, lists_of, unit_at, as_node}
 use Rattle.unit_ring.proofs.Operations.{live_has, live_high, live_below, FirstFree, first_free, chain_has_free, chain_has_3}
-use Rattle.unit_ring.proofs.Calls.{free_high, free_below, free_fresh, live_not_free, pushed, inserted, unlinked, shifted, unit_of_live, chain_has_end, first_is, next_is, read_unit, free_number}
+use Rattle.unit_ring.proofs.Calls.{free_high, free_below, free_fresh, live_not_free, pushed, inserted, unlinked, shifted, unit_of_live, chain_has_end, first_is, next_is, read_unit, free_number, carried, list_low, list_below, free_low, free_next, live_next}
+use Rattle.unit_ring.proofs.Ring.insert_before.Given.{Over}
 use Rattle.unit_ring.proofs.Ring.insert_before.Goals as goal
 
 -- the node that the call takes is the first free one
@@ -15,52 +16,64 @@ taken_node f g us lists f2 n ring view room same is =
 
 pub shift-requires-clause-number : goal.shift-requires-clause-number
 shift-requires-clause-number g c =
-    let first : FirstFree c.self.inside.after.items c.next-n.result = taken_node c.self.inside.after.items c.self.inside.before.items c.self.inside.units.items c.args.self.now c.as_slice.result.now c.next-n.result c.self.invariant c.self.view_is c.requires.room c.as_slice.ensures.value c.next-n.ensures in
-    chain_has_free c.self.inside.after.items c.self.inside.before.items c.self.inside.units.items c.next-n.result c.self.invariant first.has
+    let first : FirstFree c.self.inside.nodes.after c.next-n.result = taken_node c.self.inside.nodes.after c.self.inside.nodes.before c.self.inside.nodes.units c.args.self.now c.self.inside.nodes.after c.next-n.result c.self.invariant c.self.view_is c.requires.room refl c.next-n.ensures in
+    chain_has_free c.self.inside.nodes.after c.self.inside.nodes.before c.self.inside.nodes.units c.next-n.result c.self.invariant first.has
 
 pub shift-requires-clause-inner : goal.shift-requires-clause-inner
 shift-requires-clause-inner g c =
-    let first : FirstFree c.self.inside.after.items c.next-n.result = taken_node c.self.inside.after.items c.self.inside.before.items c.self.inside.units.items c.args.self.now c.as_slice.result.now c.next-n.result c.self.invariant c.self.view_is c.requires.room c.as_slice.ensures.value c.next-n.ensures in
-    let high = free_high c.self.inside.after.items c.self.inside.before.items c.self.inside.units.items c.next-n.result c.self.invariant first in
+    let first : FirstFree c.self.inside.nodes.after c.next-n.result = taken_node c.self.inside.nodes.after c.self.inside.nodes.before c.self.inside.nodes.units c.args.self.now c.self.inside.nodes.after c.next-n.result c.self.invariant c.self.view_is c.requires.room refl c.next-n.ensures in
+    let high = free_high c.self.inside.nodes.after c.self.inside.nodes.before c.self.inside.nodes.units c.next-n.result c.self.invariant first in
     λ e. omega (arith, e, high)
 
-pub index_mut-requires : goal.index_mut-requires
-index_mut-requires g c =
-    let first : FirstFree c.self.inside.after.items c.next-n.result = taken_node c.self.inside.after.items c.self.inside.before.items c.self.inside.units.items c.args.self.now c.as_slice.result.now c.next-n.result c.self.invariant c.self.view_is c.requires.room c.as_slice.ensures.value c.next-n.ensures in
-    let low = free_below c.self.inside.after.items c.self.inside.before.items c.self.inside.units.items c.next-n.result c.self.invariant first in
-    let count : length c.self.inside.units.items ≡ vec_len c.self.inside.units = search rules in
-    omega (arith, low, count, c.self.invariant.places)
+pub set_unit-requires : goal.set_unit-requires
+set_unit-requires g c =
+    let first : FirstFree c.self.inside.nodes.after c.next-n.result = taken_node c.self.inside.nodes.after c.self.inside.nodes.before c.self.inside.nodes.units c.args.self.now c.self.inside.nodes.after c.next-n.result c.self.invariant c.self.view_is c.requires.room refl c.next-n.ensures in
+    let low = free_below c.self.inside.nodes.after c.self.inside.nodes.before c.self.inside.nodes.units c.next-n.result c.self.invariant first in
+    let same : length c.shift.new.self.units ≡ length c.self.inside.nodes.units = ap (λ (us : List UnitId). length us) c.shift.ensures.units in
+    omega (arith, low, same, c.self.invariant.places)
 
 pub shift-requires-clause-place : goal.shift-requires-clause-place
 shift-requires-clause-place g c =
-    let live : is_live (lists_of c.self.inside.after.items c.self.inside.units.items) c.args.at.0 ≡ true = subst (λ (ls : Lists). is_live ls c.args.at.0 ≡ true) (sym c.self.view_is) c.requires.live in
-    live_has c.self.inside.after.items c.self.inside.before.items c.self.inside.units.items c.args.at.0 c.self.invariant live
+    let live : is_live (lists_of c.self.inside.nodes.after c.self.inside.nodes.units) c.args.at.0 ≡ true = subst (λ (ls : Lists). is_live ls c.args.at.0 ≡ true) (sym c.self.view_is) c.requires.live in
+    live_has c.self.inside.nodes.after c.self.inside.nodes.before c.self.inside.nodes.units c.args.at.0 c.self.invariant live
 
 pub shift-requires-clause-apart : goal.shift-requires-clause-apart
 shift-requires-clause-apart g c =
-    let first : FirstFree c.self.inside.after.items c.next-n.result = taken_node c.self.inside.after.items c.self.inside.before.items c.self.inside.units.items c.args.self.now c.as_slice.result.now c.next-n.result c.self.invariant c.self.view_is c.requires.room c.as_slice.ensures.value c.next-n.ensures in
-    let live : is_live (lists_of c.self.inside.after.items c.self.inside.units.items) c.args.at.0 ≡ true = subst (λ (ls : Lists). is_live ls c.args.at.0 ≡ true) (sym c.self.view_is) c.requires.live in
-    live_not_free c.self.inside.after.items c.self.inside.before.items c.self.inside.units.items c.next-n.result c.args.at.0 c.self.invariant first live
+    let first : FirstFree c.self.inside.nodes.after c.next-n.result = taken_node c.self.inside.nodes.after c.self.inside.nodes.before c.self.inside.nodes.units c.args.self.now c.self.inside.nodes.after c.next-n.result c.self.invariant c.self.view_is c.requires.room refl c.next-n.ensures in
+    let live : is_live (lists_of c.self.inside.nodes.after c.self.inside.nodes.units) c.args.at.0 ≡ true = subst (λ (ls : Lists). is_live ls c.args.at.0 ≡ true) (sym c.self.view_is) c.requires.live in
+    live_not_free c.self.inside.nodes.after c.self.inside.nodes.before c.self.inside.nodes.units c.next-n.result c.args.at.0 c.self.invariant first live
+
+-- the ring after the unit is written, and what is seen of it
+made : (g : Over) (c : goal.After-set_unit g) → IsRing c.set_unit.new.self.after c.set_unit.new.self.before c.set_unit.new.self.units
+    × (lists_of c.set_unit.new.self.after c.set_unit.new.self.units ≡ taken (lists_with (lists_of c.self.inside.nodes.after c.self.inside.nodes.units) c.args.at.0 (item c.next-n.result c.args.u)))
+made g c =
+    let first : FirstFree c.self.inside.nodes.after c.next-n.result = taken_node c.self.inside.nodes.after c.self.inside.nodes.before c.self.inside.nodes.units c.args.self.now c.self.inside.nodes.after c.next-n.result c.self.invariant c.self.view_is c.requires.room refl c.next-n.ensures in
+    let live : is_live (lists_of c.self.inside.nodes.after c.self.inside.nodes.units) c.args.at.0 ≡ true = subst (λ (ls : Lists). is_live ls c.args.at.0 ≡ true) (sym c.self.view_is) c.requires.live in
+    carried c.shift.new.self.after c.shift.new.self.before c.set_unit.new.self.after c.set_unit.new.self.before (set c.self.inside.nodes.units c.next-n.result c.args.u) c.set_unit.new.self.units
+    (taken (lists_with (lists_of c.self.inside.nodes.after c.self.inside.nodes.units) c.args.at.0 (item c.next-n.result c.args.u)))
+    (inserted c.self.inside.nodes.after c.self.inside.nodes.before c.shift.new.self.after c.shift.new.self.before c.self.inside.nodes.units c.next-n.result c.args.u c.self.invariant first c.shift.ensures.whole c.shift.ensures.size c.args.at.0 live c.shift.ensures.moved)
+    c.set_unit.ensures.after c.set_unit.ensures.before (c.set_unit.ensures.units ∙ ap (λ (us : List UnitId). set us c.next-n.result c.args.u) c.shift.ensures.units)
 
 pub invariant_of-self : goal.invariant_of-self
-invariant_of-self g c =
-    let first : FirstFree c.self.inside.after.items c.next-n.result = taken_node c.self.inside.after.items c.self.inside.before.items c.self.inside.units.items c.args.self.now c.as_slice.result.now c.next-n.result c.self.invariant c.self.view_is c.requires.room c.as_slice.ensures.value c.next-n.ensures in
-    let live : is_live (lists_of c.self.inside.after.items c.self.inside.units.items) c.args.at.0 ≡ true = subst (λ (ls : Lists). is_live ls c.args.at.0 ≡ true) (sym c.self.view_is) c.requires.live in
-    (inserted c.self.inside.after.items c.self.inside.before.items c.shift.new.after.items c.shift.new.before.items c.self.inside.units.items c.next-n.result c.args.u c.self.invariant first c.shift.ensures.whole c.shift.ensures.size c.args.at.0 live c.shift.ensures.moved).0
+invariant_of-self g c = (made g c).0
 
 pub returns-clause-after : goal.returns-clause-after
 returns-clause-after g c =
-    let first : FirstFree c.self.inside.after.items c.next-n.result = taken_node c.self.inside.after.items c.self.inside.before.items c.self.inside.units.items c.args.self.now c.as_slice.result.now c.next-n.result c.self.invariant c.self.view_is c.requires.room c.as_slice.ensures.value c.next-n.ensures in
-    let live : is_live (lists_of c.self.inside.after.items c.self.inside.units.items) c.args.at.0 ≡ true = subst (λ (ls : Lists). is_live ls c.args.at.0 ≡ true) (sym c.self.view_is) c.requires.live in
-    (inserted c.self.inside.after.items c.self.inside.before.items c.shift.new.after.items c.shift.new.before.items c.self.inside.units.items c.next-n.result c.args.u c.self.invariant first c.shift.ensures.whole c.shift.ensures.size c.args.at.0 live c.shift.ensures.moved).1
+    (made g c).1
     ∙ ap (λ (ls : Lists). taken (lists_with ls c.args.at.0 (item c.next-n.result c.args.u))) c.self.view_is
 
 pub returns-clause-fresh : goal.returns-clause-fresh
 returns-clause-fresh g c =
-    let first : FirstFree c.self.inside.after.items c.next-n.result = taken_node c.self.inside.after.items c.self.inside.before.items c.self.inside.units.items c.args.self.now c.as_slice.result.now c.next-n.result c.self.invariant c.self.view_is c.requires.room c.as_slice.ensures.value c.next-n.ensures in
-    subst (λ (ls : Lists). is_live ls c.next-n.result ≡ false) c.self.view_is (free_fresh c.self.inside.after.items c.self.inside.before.items c.self.inside.units.items c.next-n.result c.self.invariant first)
+    let first : FirstFree c.self.inside.nodes.after c.next-n.result = taken_node c.self.inside.nodes.after c.self.inside.nodes.before c.self.inside.nodes.units c.args.self.now c.self.inside.nodes.after c.next-n.result c.self.invariant c.self.view_is c.requires.room refl c.next-n.ensures in
+    subst (λ (ls : Lists). is_live ls c.next-n.result ≡ false) c.self.view_is (free_fresh c.self.inside.nodes.after c.self.inside.nodes.before c.self.inside.nodes.units c.next-n.result c.self.invariant first)
 
 pub returns-clause-number : goal.returns-clause-number
 returns-clause-number g c =
-    let first : FirstFree c.self.inside.after.items c.next-n.result = taken_node c.self.inside.after.items c.self.inside.before.items c.self.inside.units.items c.args.self.now c.as_slice.result.now c.next-n.result c.self.invariant c.self.view_is c.requires.room c.as_slice.ensures.value c.next-n.ensures in
-    free_number c.self.inside.after.items c.self.inside.before.items c.self.inside.units.items c.args.self.now c.next-n.result c.self.invariant c.self.view_is first
+    let first : FirstFree c.self.inside.nodes.after c.next-n.result = taken_node c.self.inside.nodes.after c.self.inside.nodes.before c.self.inside.nodes.units c.args.self.now c.self.inside.nodes.after c.next-n.result c.self.invariant c.self.view_is c.requires.room refl c.next-n.ensures in
+    free_number c.self.inside.nodes.after c.self.inside.nodes.before c.self.inside.nodes.units c.args.self.now c.next-n.result c.self.invariant c.self.view_is first
+
+pub next-n-requires-clause-below : goal.next-n-requires-clause-below
+next-n-requires-clause-below g c = free_low c.self.inside.nodes.after c.self.inside.nodes.before c.self.inside.nodes.units c.self.invariant
+
+pub next-n-requires-clause-next : goal.next-n-requires-clause-next
+next-n-requires-clause-next g c = free_next c.self.inside.nodes.after c.self.inside.nodes.before c.self.inside.nodes.units c.self.invariant

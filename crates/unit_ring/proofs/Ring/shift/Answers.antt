@@ -1,40 +1,48 @@
-use Rattle.std.proofs.Common.{◌≡◌, ◌⊎◌, ℕ, ◌+◌, ◌<◌, ◌≤◌, List, ◌∷◌, ◌++◌, true, false, length, refl, sym, ◌∙◌, ap, subst, inl, inr, arith, rules, vec_len}
+use Rattle.std.proofs.Common.{◌≡◌, ◌⊎◌, ℕ, ◌+◌, ◌<◌, ◌≤◌, List, ◌∷◌, ◌++◌, true, false, length, refl, sym, ◌∙◌, ap, subst, inl, inr, arith, rules}
 use Rattle.sched_base.specs.declared.UnitId.{UnitId}
 use Rattle.unit_ring.specs.Lists.{Lists, item, is_live, unit_of, taken, given, appended, first_in, next_of, list_of, without as lists_without, put_before as lists_with}
 use Rattle.unit_ring.specs.Chains.{link, Has, IsRing, chain, free_of, lists_of, unit_at, as_node}
 use Rattle.unit_ring.proofs.Operations.{live_has, live_high, live_below, FirstFree, first_free, chain_has_free, chain_has_3}
-use Rattle.unit_ring.proofs.Calls.{free_high, free_below, free_fresh, live_not_free, pushed, inserted, unlinked, shifted, unit_of_live, chain_has_end, first_is, next_is, read_unit, free_number}
+use Rattle.unit_ring.proofs.Calls.{free_high, free_below, free_fresh, live_not_free, pushed, inserted, unlinked, shifted, unit_of_live, chain_has_end, first_is, next_is, read_unit, free_number, carried, list_low, list_below, free_low, free_next, live_next}
+use Rattle.unit_ring.proofs.Ring.shift.Given.{Over}
 use Rattle.unit_ring.proofs.Ring.shift.Goals as goal
 
 pub shift-requires-clause-number : goal.shift-requires-clause-number
 shift-requires-clause-number g c =
-    let live : is_live (lists_of c.self.inside.after.items c.self.inside.units.items) c.args.n.0 ≡ true = subst (λ (ls : Lists). is_live ls c.args.n.0 ≡ true) (sym c.self.view_is) c.requires.live in
-    live_has c.self.inside.after.items c.self.inside.before.items c.self.inside.units.items c.args.n.0 c.self.invariant live
+    let live : is_live (lists_of c.self.inside.nodes.after c.self.inside.nodes.units) c.args.n.0 ≡ true = subst (λ (ls : Lists). is_live ls c.args.n.0 ≡ true) (sym c.self.view_is) c.requires.live in
+    live_has c.self.inside.nodes.after c.self.inside.nodes.before c.self.inside.nodes.units c.args.n.0 c.self.invariant live
 
 pub shift-requires-clause-inner : goal.shift-requires-clause-inner
 shift-requires-clause-inner g c =
-    let live : is_live (lists_of c.self.inside.after.items c.self.inside.units.items) c.args.n.0 ≡ true = subst (λ (ls : Lists). is_live ls c.args.n.0 ≡ true) (sym c.self.view_is) c.requires.live in
-    let high = live_high c.self.inside.after.items c.self.inside.before.items c.self.inside.units.items c.args.n.0 c.self.invariant live in
+    let live : is_live (lists_of c.self.inside.nodes.after c.self.inside.nodes.units) c.args.n.0 ≡ true = subst (λ (ls : Lists). is_live ls c.args.n.0 ≡ true) (sym c.self.view_is) c.requires.live in
+    let high = live_high c.self.inside.nodes.after c.self.inside.nodes.before c.self.inside.nodes.units c.args.n.0 c.self.invariant live in
     λ e. omega (arith, e, high)
 
 pub shift-requires-clause-place : goal.shift-requires-clause-place
 shift-requires-clause-place g c =
-    chain_has_end c.self.inside.after.items c.self.inside.before.items c.self.inside.units.items c.args.list c.self.invariant c.requires.list
+    chain_has_end c.self.inside.nodes.after c.self.inside.nodes.before c.self.inside.nodes.units c.args.list c.self.invariant c.requires.list
 
 pub shift-requires-clause-apart : goal.shift-requires-clause-apart
 shift-requires-clause-apart g c =
-    let live : is_live (lists_of c.self.inside.after.items c.self.inside.units.items) c.args.n.0 ≡ true = subst (λ (ls : Lists). is_live ls c.args.n.0 ≡ true) (sym c.self.view_is) c.requires.live in
-    let high = live_high c.self.inside.after.items c.self.inside.before.items c.self.inside.units.items c.args.n.0 c.self.invariant live in
+    let live : is_live (lists_of c.self.inside.nodes.after c.self.inside.nodes.units) c.args.n.0 ≡ true = subst (λ (ls : Lists). is_live ls c.args.n.0 ≡ true) (sym c.self.view_is) c.requires.live in
+    let high = live_high c.self.inside.nodes.after c.self.inside.nodes.before c.self.inside.nodes.units c.args.n.0 c.self.invariant live in
     let either = c.requires.list in
     λ e. omega (arith, e, high, either)
 
+-- the ring after the move, and what is seen of it
+made : (g : Over) (c : goal.After-shift g) → IsRing c.shift.new.self.after c.shift.new.self.before c.shift.new.self.units
+    × (lists_of c.shift.new.self.after c.shift.new.self.units ≡ appended (lists_without (lists_of c.self.inside.nodes.after c.self.inside.nodes.units) c.args.n.0) c.args.list (item c.args.n.0 (unit_of (lists_of c.self.inside.nodes.after c.self.inside.nodes.units) c.args.n.0)))
+made g c =
+    let live : is_live (lists_of c.self.inside.nodes.after c.self.inside.nodes.units) c.args.n.0 ≡ true = subst (λ (ls : Lists). is_live ls c.args.n.0 ≡ true) (sym c.self.view_is) c.requires.live in
+    carried c.shift.new.self.after c.shift.new.self.before c.shift.new.self.after c.shift.new.self.before c.self.inside.nodes.units c.shift.new.self.units
+    (appended (lists_without (lists_of c.self.inside.nodes.after c.self.inside.nodes.units) c.args.n.0) c.args.list (item c.args.n.0 (unit_of (lists_of c.self.inside.nodes.after c.self.inside.nodes.units) c.args.n.0)))
+    (shifted c.self.inside.nodes.after c.self.inside.nodes.before c.shift.new.self.after c.shift.new.self.before c.self.inside.nodes.units c.args.n.0 c.self.invariant live c.shift.ensures.whole c.shift.ensures.size c.args.list c.requires.list c.shift.ensures.moved)
+    refl refl c.shift.ensures.units
+
 pub invariant_of-self : goal.invariant_of-self
-invariant_of-self g c =
-    let live : is_live (lists_of c.self.inside.after.items c.self.inside.units.items) c.args.n.0 ≡ true = subst (λ (ls : Lists). is_live ls c.args.n.0 ≡ true) (sym c.self.view_is) c.requires.live in
-    (shifted c.self.inside.after.items c.self.inside.before.items c.shift.new.after.items c.shift.new.before.items c.self.inside.units.items c.args.n.0 c.self.invariant live c.shift.ensures.whole c.shift.ensures.size c.args.list c.requires.list c.shift.ensures.moved).0
+invariant_of-self g c = (made g c).0
 
 pub returns-clause-after : goal.returns-clause-after
 returns-clause-after g c =
-    let live : is_live (lists_of c.self.inside.after.items c.self.inside.units.items) c.args.n.0 ≡ true = subst (λ (ls : Lists). is_live ls c.args.n.0 ≡ true) (sym c.self.view_is) c.requires.live in
-    (shifted c.self.inside.after.items c.self.inside.before.items c.shift.new.after.items c.shift.new.before.items c.self.inside.units.items c.args.n.0 c.self.invariant live c.shift.ensures.whole c.shift.ensures.size c.args.list c.requires.list c.shift.ensures.moved).1
+    (made g c).1
     ∙ ap (λ (ls : Lists). appended (lists_without ls c.args.n.0) c.args.list (item c.args.n.0 (unit_of ls c.args.n.0))) c.self.view_is

@@ -1,50 +1,58 @@
-use Rattle.std.proofs.Common.{◌≡◌, ◌⊎◌, ℕ, ◌+◌, ◌<◌, ◌≤◌, List, ◌∷◌, ◌++◌, true, false, length, refl, sym, ◌∙◌, ap, subst, inl, inr, arith, rules, vec_len}
+use Rattle.std.proofs.Common.{◌≡◌, ◌⊎◌, ℕ, ◌+◌, ◌<◌, ◌≤◌, List, ◌∷◌, ◌++◌, true, false, length, refl, sym, ◌∙◌, ap, subst, inl, inr, arith, rules}
 use Rattle.sched_base.specs.declared.UnitId.{UnitId}
 use Rattle.unit_ring.specs.Lists.{Lists, item, is_live, unit_of, taken, given, appended, first_in, next_of, list_of, without as lists_without, put_before as lists_with}
 use Rattle.unit_ring.specs.Chains.{link, Has, IsRing, chain, free_of, lists_of, unit_at, as_node}
 use Rattle.unit_ring.proofs.Operations.{live_has, live_high, live_below, FirstFree, first_free, chain_has_free, chain_has_3}
-use Rattle.unit_ring.proofs.Calls.{free_high, free_below, free_fresh, live_not_free, pushed, inserted, unlinked, shifted, unit_of_live, chain_has_end, first_is, next_is, read_unit, free_number}
+use Rattle.unit_ring.proofs.Calls.{free_high, free_below, free_fresh, live_not_free, pushed, inserted, unlinked, shifted, unit_of_live, chain_has_end, first_is, next_is, read_unit, free_number, carried, list_low, list_below, free_low, free_next, live_next}
+use Rattle.unit_ring.proofs.Ring.unlink.Given.{Over}
 use Rattle.unit_ring.proofs.Ring.unlink.Goals as goal
 
 pub shift-requires-clause-number : goal.shift-requires-clause-number
 shift-requires-clause-number g c =
-    let live : is_live (lists_of c.self.inside.after.items c.self.inside.units.items) c.args.n.0 ≡ true = subst (λ (ls : Lists). is_live ls c.args.n.0 ≡ true) (sym c.self.view_is) c.requires.live in
-    live_has c.self.inside.after.items c.self.inside.before.items c.self.inside.units.items c.args.n.0 c.self.invariant live
+    let live : is_live (lists_of c.self.inside.nodes.after c.self.inside.nodes.units) c.args.n.0 ≡ true = subst (λ (ls : Lists). is_live ls c.args.n.0 ≡ true) (sym c.self.view_is) c.requires.live in
+    live_has c.self.inside.nodes.after c.self.inside.nodes.before c.self.inside.nodes.units c.args.n.0 c.self.invariant live
 
 pub shift-requires-clause-inner : goal.shift-requires-clause-inner
 shift-requires-clause-inner g c =
-    let live : is_live (lists_of c.self.inside.after.items c.self.inside.units.items) c.args.n.0 ≡ true = subst (λ (ls : Lists). is_live ls c.args.n.0 ≡ true) (sym c.self.view_is) c.requires.live in
-    let high = live_high c.self.inside.after.items c.self.inside.before.items c.self.inside.units.items c.args.n.0 c.self.invariant live in
+    let live : is_live (lists_of c.self.inside.nodes.after c.self.inside.nodes.units) c.args.n.0 ≡ true = subst (λ (ls : Lists). is_live ls c.args.n.0 ≡ true) (sym c.self.view_is) c.requires.live in
+    let high = live_high c.self.inside.nodes.after c.self.inside.nodes.before c.self.inside.nodes.units c.args.n.0 c.self.invariant live in
     λ e. omega (arith, e, high)
 
 pub shift-requires-clause-place : goal.shift-requires-clause-place
 shift-requires-clause-place g c =
-    chain_has_3 c.self.inside.after.items c.self.inside.before.items c.self.inside.units.items c.self.invariant
+    chain_has_3 c.self.inside.nodes.after c.self.inside.nodes.before c.self.inside.nodes.units c.self.invariant
 
 pub shift-requires-clause-apart : goal.shift-requires-clause-apart
 shift-requires-clause-apart g c =
-    let live : is_live (lists_of c.self.inside.after.items c.self.inside.units.items) c.args.n.0 ≡ true = subst (λ (ls : Lists). is_live ls c.args.n.0 ≡ true) (sym c.self.view_is) c.requires.live in
-    let high = live_high c.self.inside.after.items c.self.inside.before.items c.self.inside.units.items c.args.n.0 c.self.invariant live in
+    let live : is_live (lists_of c.self.inside.nodes.after c.self.inside.nodes.units) c.args.n.0 ≡ true = subst (λ (ls : Lists). is_live ls c.args.n.0 ≡ true) (sym c.self.view_is) c.requires.live in
+    let high = live_high c.self.inside.nodes.after c.self.inside.nodes.before c.self.inside.nodes.units c.args.n.0 c.self.invariant live in
     λ e. omega (arith, e, high)
 
-pub index-requires : goal.index-requires
-index-requires g c =
-    let live : is_live (lists_of c.self.inside.after.items c.self.inside.units.items) c.args.n.0 ≡ true = subst (λ (ls : Lists). is_live ls c.args.n.0 ≡ true) (sym c.self.view_is) c.requires.live in
-    let low = live_below c.self.inside.after.items c.self.inside.before.items c.self.inside.units.items c.args.n.0 c.self.invariant live in
-    let count : length c.self.inside.units.items ≡ vec_len c.self.inside.units = search rules in
-    omega (arith, low, count, c.self.invariant.places)
+pub unit-requires : goal.unit-requires
+unit-requires g c =
+    let live : is_live (lists_of c.self.inside.nodes.after c.self.inside.nodes.units) c.args.n.0 ≡ true = subst (λ (ls : Lists). is_live ls c.args.n.0 ≡ true) (sym c.self.view_is) c.requires.live in
+    let low = live_below c.self.inside.nodes.after c.self.inside.nodes.before c.self.inside.nodes.units c.args.n.0 c.self.invariant live in
+    let same : length c.shift.new.self.units ≡ length c.self.inside.nodes.units = ap (λ (us : List UnitId). length us) c.shift.ensures.units in
+    omega (arith, low, same, c.self.invariant.places)
+
+-- the ring after the move, and what is seen of it
+made : (g : Over) (c : goal.After-unit g) → IsRing c.shift.new.self.after c.shift.new.self.before c.shift.new.self.units
+    × (lists_of c.shift.new.self.after c.shift.new.self.units ≡ given (lists_without (lists_of c.self.inside.nodes.after c.self.inside.nodes.units) c.args.n.0))
+made g c =
+    let live : is_live (lists_of c.self.inside.nodes.after c.self.inside.nodes.units) c.args.n.0 ≡ true = subst (λ (ls : Lists). is_live ls c.args.n.0 ≡ true) (sym c.self.view_is) c.requires.live in
+    carried c.shift.new.self.after c.shift.new.self.before c.shift.new.self.after c.shift.new.self.before c.self.inside.nodes.units c.shift.new.self.units
+    (given (lists_without (lists_of c.self.inside.nodes.after c.self.inside.nodes.units) c.args.n.0))
+    (unlinked c.self.inside.nodes.after c.self.inside.nodes.before c.shift.new.self.after c.shift.new.self.before c.self.inside.nodes.units c.args.n.0 c.self.invariant live c.shift.ensures.whole c.shift.ensures.size c.shift.ensures.moved)
+    refl refl c.shift.ensures.units
 
 pub invariant_of-self : goal.invariant_of-self
-invariant_of-self g c =
-    let live : is_live (lists_of c.self.inside.after.items c.self.inside.units.items) c.args.n.0 ≡ true = subst (λ (ls : Lists). is_live ls c.args.n.0 ≡ true) (sym c.self.view_is) c.requires.live in
-    (unlinked c.self.inside.after.items c.self.inside.before.items c.shift.new.after.items c.shift.new.before.items c.self.inside.units.items c.args.n.0 c.self.invariant live c.shift.ensures.whole c.shift.ensures.size c.shift.ensures.moved).0
+invariant_of-self g c = (made g c).0
 
 pub returns-clause-after : goal.returns-clause-after
 returns-clause-after g c =
-    let live : is_live (lists_of c.self.inside.after.items c.self.inside.units.items) c.args.n.0 ≡ true = subst (λ (ls : Lists). is_live ls c.args.n.0 ≡ true) (sym c.self.view_is) c.requires.live in
-    (unlinked c.self.inside.after.items c.self.inside.before.items c.shift.new.after.items c.shift.new.before.items c.self.inside.units.items c.args.n.0 c.self.invariant live c.shift.ensures.whole c.shift.ensures.size c.shift.ensures.moved).1
+    (made g c).1
     ∙ ap (λ (ls : Lists). given (lists_without ls c.args.n.0)) c.self.view_is
 
 pub returns-clause-unit : goal.returns-clause-unit
 returns-clause-unit g c =
-    read_unit c.self.inside.after.items c.self.inside.before.items c.self.inside.units.items c.args.self.now c.args.n.0 c.index.result.now c.self.invariant c.self.view_is c.requires.live c.index.ensures
+    read_unit c.self.inside.nodes.after c.self.inside.nodes.before c.self.inside.nodes.units c.args.self.now c.args.n.0 c.unit.result c.self.invariant c.self.view_is c.requires.live (c.unit.ensures ∙ ap (λ (us : List UnitId). unit_at us c.args.n.0) c.shift.ensures.units)

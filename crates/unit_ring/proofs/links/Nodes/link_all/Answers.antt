@@ -1,15 +1,15 @@
-use Rattle.std.proofs.Common.{◌≡◌, ℕ, ◌+◌, ◌-◌, ◌<◌, ◌≤◌, suc, [], ◌∷◌, List, length, refl, sym, ◌∙◌, ap, subst, inl, inr, arith}
-use Rattle.unit_ring.specs.Chains.{IsChain, Has, fenced, nodes_up_to, after_with, before_with}
+use Rattle.std.proofs.Common.{◌≡◌, ℕ, ◌+◌, ◌-◌, ◌<◌, ◌≤◌, suc, [], ◌∷◌, List, length, refl, sym, ◌∙◌, ap, subst, inl, inr, arith, set, length-set}
+use Rattle.unit_ring.specs.Chains.{IsChain, Has, fenced, nodes_up_to, after_with, before_with, link}
 use Rattle.unit_ring.proofs.Shifting.{before_below}
 use Rattle.unit_ring.proofs.Fences.{Has-right}
 use Rattle.unit_ring.proofs.Calls.{with_next}
-use Rattle.unit_ring.proofs.links.link_all.Goals as goal
+use Rattle.unit_ring.proofs.links.Nodes.link_all.Goals as goal
 
 pub insert_before-requires-clause-last : goal.insert_before-requires-clause-last
 insert_before-requires-clause-last c =
     let so_far : List ℕ = nodes_up_to (c.loop-n.n - 4) in
     let has : Has 3 (fenced [] [] so_far) = inr (inr (Has-right 3 so_far (3 ∷ []) (inl refl))) in
-    before_below c.loop-n.after c.loop-n.before (fenced [] [] so_far) c.loop-n.invariant 3 has
+    before_below c.loop-n.self.after c.loop-n.self.before (fenced [] [] so_far) c.loop-n.invariant.0 3 has
 
 -- the loop's number, which begins at 4, as the number of nodes so far
 next_number : (f g f2 g2 : List ℕ) (n : ℕ) → 4 ≤ n → n < length f → IsChain f g (fenced [] [] (nodes_up_to (n - 4)))
@@ -25,5 +25,10 @@ next_number f g f2 g2 n from low c e h =
 
 pub loop-n-preserved : goal.loop-n-preserved
 loop-n-preserved c =
-    let low : c.loop-n.n < length c.loop-n.after = search arith in
-    next_number c.loop-n.after c.loop-n.before c.insert_before.new.after c.insert_before.new.before c.loop-n.n (search arith) low c.loop-n.invariant c.insert_before.ensures.after c.insert_before.ensures.before
+    let low : c.loop-n.n < length c.loop-n.self.after = search arith in
+    let f = c.loop-n.self.after in let g = c.loop-n.self.before in
+    let size : length (after_with f g 3 c.loop-n.n) ≡ length f = length-set (set f (link g 3) c.loop-n.n) c.loop-n.n 3 ∙ length-set f (link g 3) c.loop-n.n in (
+      next_number f g c.insert_before.new.self.after c.insert_before.new.self.before c.loop-n.n (search arith) low c.loop-n.invariant.0 c.insert_before.ensures.after c.insert_before.ensures.before,
+      ap (λ (h : List ℕ). length h) c.insert_before.ensures.after ∙ size ∙ c.loop-n.invariant.1,
+      c.insert_before.ensures.units ∙ c.loop-n.invariant.2,
+    )
