@@ -1,1 +1,2 @@
 pub mod CapTracks
+mod ExamplesComputed

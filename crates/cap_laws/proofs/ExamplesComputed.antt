@@ -1,0 +1,19 @@
+-- The worked examples of terms, computed.
+use Rattle.std.proofs.Common.{◌≡◌, [], ◌∷◌, refl, true, false}
+use Rattle.cap_laws.specs.Examples.{terms_of, term, shared_cap, stall_past_the_budget, set_after_overrun, set_after_refill}
+
+pub both_share : terms_of shared_cap 0 ≡ (term 0 10000000 2500000 2500000 0 true ∷ term 10000000 10000000 2500000 0 0 true ∷ [])
+unfolding shared_cap
+both_share = refl
+
+pub overruns : terms_of stall_past_the_budget 0 ≡ (term 0 10000000 2500000 4000000 1500000 true ∷ term 10000000 10000000 2500000 0 0 true ∷ [])
+unfolding stall_past_the_budget
+overruns = refl
+
+pub set_late : terms_of set_after_overrun 0 ≡ (term 0 10000000 3300000 10000000 0 false ∷ term 10000000 10000000 3300000 0 0 true ∷ [])
+unfolding set_after_overrun
+set_late = refl
+
+pub refilled_first : terms_of set_after_refill 1 ≡ (term 0 10000000 3300000 10000000 0 false ∷ term 10000000 20000000 3300000 10000000 0 false ∷ term 20000000 20000000 3300000 0 0 true ∷ [])
+unfolding set_after_refill
+refilled_first = refl
