@@ -2,4 +2,7 @@ pub mod CapTracks
 pub mod CoreSums
 pub mod CapLegs
 pub mod CapStep
+pub mod HeldBy
+pub mod CapEnd
+pub mod CapWithin
 mod ExamplesComputed
