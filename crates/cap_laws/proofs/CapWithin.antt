@@ -48,7 +48,7 @@ term_lasts m d (entry ∷ entries) from percent t0 n run =
     ]).until) [ true ↦ omega (arith, moment_is) | false ↦ omega (arith, later, follow) ]
 
 -- an event that ends a term decides for no core
-refill_quiet : (d : ℕ) (e : Event) → refills d e ≡ true → DecidesNone d e
+pub refill_quiet : (d : ℕ) (e : Event) → refills d e ≡ true → DecidesNone d e
 refill_quiet d (event.Refill domain periods budget) is = record { none = λ r. refl; taken = refl }
 refill_quiet d _ is = absurd (cc)
 
@@ -56,7 +56,7 @@ move_quiet : (d : ℕ) (e : Event) → moves d e ≡ true → DecidesNone d e
 move_quiet d (event.DomMoved domain to) is = record { none = λ r. refl; taken = refl }
 move_quiet d _ is = absurd (cc)
 
-set_quiet : (m : Machine) (d : ℕ) (e : Event) (percent : ℕ) → cap_set m d e ≡ Some percent → DecidesNone d e
+pub set_quiet : (m : Machine) (d : ℕ) (e : Event) (percent : ℕ) → cap_set m d e ≡ Some percent → DecidesNone d e
 set_quiet m d (event.Xl k answer) percent is = record { none = λ r. refl; taken = refl }
 set_quiet m d _ percent is = absurd (cc)
 

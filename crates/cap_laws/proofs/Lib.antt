@@ -5,4 +5,6 @@ pub mod CapStep
 pub mod HeldBy
 pub mod CapEnd
 pub mod CapWithin
+pub mod CapFunded
+pub mod CapLaw
 mod ExamplesComputed
