@@ -1,23 +1,22 @@
 -- The end of a term: what its open legs still add, and what follows adds nothing.
-use Rattle.std.proofs.Common.{◌≡◌, ◌≢◌, ◌≤◌, ◌<◌, ◌+◌, ◌-◌, ℕ, zero, suc, Bool, true, false, List, [], ◌∷◌, refl, arith, ap, subst, sym, ◌∙◌, ◌⊎◌, inl, inr, cond, nat_lt}
-use Rattle.std.specs.Prelude.{Option, Some, None, option_map, min, max, is_some, sum_by, ◌&&◌, ◌||◌, ℤ, pos, ◌+ℤ◌, ◌-ℤ◌, ◌≤ℤ◌}
+use Rattle.std.proofs.Common.{◌≡◌, ◌≢◌, ◌≤◌, ◌<◌, ◌+◌, ℕ, zero, suc, Bool, true, false, List, [], ◌∷◌, refl, arith, ap, subst, ◌∙◌, ◌⊎◌, inl, inr, cond, nat_lt}
+use Rattle.std.specs.Prelude.{Option, Some, None, max, is_some, sum_by, ◌&&◌, ◌||◌, ℤ, pos, ◌+ℤ◌, ◌-ℤ◌, ◌≤ℤ◌}
 use Rattle.std.specs.List.{list_any}
 use Rattle.std.proofs.lemmas.Int.{ints}
 use Rattle.std.proofs.lemmas.List.Sums.{sum_by-cons}
 use Rattle.sched_base.specs.Credit2Numbers.{above_zero}
 use Rattle.sched_model.specs.declared.event.Event.{Event}
-use Rattle.sched_model.specs.declared.event.Event.TheVariants as event
 use Rattle.sched_model.specs.declared.event.Entry.{Entry}
 use Rattle.sched_model.specs.declared.machine.Machine.{Machine}
 use Rattle.sched_model.specs.declared.state.State.{State}
 use Rattle.sched_model.specs.declared.state.Credit2Domain.{Credit2Domain}
-use Rattle.sched_model.specs.Runs.{Reached, IsNext, IsRunFrom, after_entry, after_entries}
+use Rattle.sched_model.specs.Runs.{Reached, IsRunFrom, after_entry, after_entries}
 use Rattle.sched_laws.proofs.Bools.{or_left, or_right, both}
-use Rattle.term_laws.specs.RtdsTerm.{Leg, late_now, late_of, leg_from, moves}
+use Rattle.term_laws.specs.RtdsTerm.{Leg, late_of, leg_from, moves}
 use Rattle.term_laws.proofs.Time.{time_goes_on}
-use Rattle.cap_laws.specs.CapTerm.{PlacedLeg, CapTerm, next_decision, taken_for, domain_legs, cap_set, settings, refills, ends_term, credit2_in, shared, meets, is_set_after}
+use Rattle.cap_laws.specs.CapTerm.{PlacedLeg, CapTerm, next_decision, taken_for, domain_legs, cap_set, settings, refills, credit2_in, shared, meets, is_set_after}
 use Rattle.cap_laws.proofs.CapTracks.{cap_at, on_core, Stops, EventTracks, CapTracks}
-use Rattle.cap_laws.proofs.CoreSums.{over, total_over, total_none, total_two, above_most}
+use Rattle.cap_laws.proofs.CoreSums.{over, total_over, total_two, above_most}
 use Rattle.cap_laws.proofs.CapLegs.{OpenLeg, Opens, to_close, rest, DecidesNone, DecidesOne, decides}
 use Rattle.cap_laws.proofs.CapStep.{left_over, cap_there, cap_of, cap_stays, late_enough}
 

@@ -1,22 +1,21 @@
 -- The budget and what the running units hold are together at most the total of the cap, wherever a term may begin.
-use Rattle.std.proofs.Common.{◌≡◌, ◌≤◌, ◌<◌, ◌+◌, ◌-◌, ℕ, zero, suc, Bool, true, false, List, refl, arith, ap, subst, sym, ◌∙◌, ◌⊎◌, inl, inr, cond}
+use Rattle.std.proofs.Common.{◌≡◌, ◌≤◌, ◌<◌, ℕ, suc, Bool, true, false, refl, arith, ap, subst, sym, ◌∙◌, inl, inr, cond}
 use Rattle.std.specs.Prelude.{Option, Some, None, option_map, max, is_some, ◌||◌, ℤ, pos, ◌+ℤ◌, ◌-ℤ◌, ◌≤ℤ◌}
 use Rattle.std.proofs.lemmas.Int.{ints}
 use Rattle.sched_base.specs.Credit2Numbers.{above_zero, total}
-use Rattle.sched_model.specs.declared.event.Event.{Event}
 use Rattle.sched_model.specs.declared.event.Entry.{Entry}
 use Rattle.sched_model.specs.declared.machine.Machine.{Machine}
 use Rattle.sched_model.specs.declared.state.State.{State}
 use Rattle.sched_model.specs.declared.state.Credit2Domain.{Credit2Domain}
 use Rattle.sched_model.specs.Credit2.{held_by_running}
-use Rattle.term_laws.specs.RtdsTerm.{late_of, moves}
-use Rattle.cap_laws.specs.CapTerm.{PlacedLeg, cap_set, refills, ends_term, cap_after, credit2_in}
-use Rattle.cap_laws.proofs.CapTracks.{cap_at, on_core, Stops, Refills, EventTracks, CapTracks}
-use Rattle.cap_laws.proofs.CoreSums.{over, total_over, total_same, total_le, total_none, above, above_most, above_least, above_rises}
-use Rattle.cap_laws.proofs.CapLegs.{OpenLeg, Opens, opens_after, DecidesNone, decides, Tracked, Closes, late_is}
-use Rattle.cap_laws.proofs.CapStep.{left_over, budgeted, part, late_part, Within, InTerm, closed_by, closes_here, in_term, cap_there, cap_of, cap_stays, cores}
-use Rattle.cap_laws.proofs.HeldBy.{held_running, Holds, held_at_least}
-use Rattle.cap_laws.proofs.CapWithin.{refill_quiet, set_quiet}
+use Rattle.term_laws.specs.RtdsTerm.{moves}
+use Rattle.cap_laws.specs.CapTerm.{PlacedLeg, cap_set, refills, ends_term, credit2_in}
+use Rattle.cap_laws.proofs.CapTracks.{cap_at, Stops, EventTracks, CapTracks}
+use Rattle.cap_laws.proofs.CoreSums.{over, total_over, total_same, total_le, total_none, above, above_least, above_rises}
+use Rattle.cap_laws.proofs.CapLegs.{OpenLeg, Opens, opens_after, decides, Tracked, late_is}
+use Rattle.cap_laws.proofs.CapStep.{left_over, budgeted, part, late_part, Within, closed_by, closes_here, in_term, cap_there, cap_of, cap_stays, cores}
+use Rattle.cap_laws.proofs.HeldBy.{held_at_least}
+use Rattle.cap_laws.proofs.CapWithin.{refill_quiet}
 
 -- the domain's budget, with what its running units have left from t on, is at most the total
 pub record Funded (cores t : ℕ) (s : State) (d : ℕ) (x : Credit2Domain) (opens : Opens) : Type 0 where

@@ -1,6 +1,6 @@
 -- The law of the terms of caps, of each run, from what each of its entries does.
-use Rattle.std.proofs.Common.{◌≡◌, ◌≤◌, ◌<◌, ◌+◌, ◌-◌, ℕ, zero, suc, Bool, true, false, not, List, [], ◌∷◌, refl, arith, ap, subst, sym, ◌∙◌, ◌⊎◌, inl, inr, cond, nat_lt}
-use Rattle.std.specs.Prelude.{Option, Some, None, option_map, min, max, is_some, sum_by, ◌&&◌, ◌||◌, ℤ, pos, ◌-ℤ◌}
+use Rattle.std.proofs.Common.{◌≡◌, ◌≤◌, ◌<◌, ◌+◌, ℕ, suc, Bool, true, false, not, List, [], ◌∷◌, refl, arith, ap, subst, sym, ◌∙◌, cond, nat_lt}
+use Rattle.std.specs.Prelude.{Option, Some, None, is_some, sum_by, ◌&&◌, ◌||◌, pos}
 use Rattle.std.specs.List.{All, AllByRecursion, list_any}
 use Rattle.std.proofs.lemmas.List.Elements.{All-from_recursion}
 use Rattle.std.proofs.lemmas.List.Sums.{sum_by-cons}
@@ -11,17 +11,16 @@ use Rattle.sched_model.specs.declared.machine.Machine.{Machine}
 use Rattle.sched_model.specs.declared.state.State.{State}
 use Rattle.sched_model.specs.declared.state.Credit2Domain.{Credit2Domain}
 use Rattle.sched_model.specs.Opening.{opening}
-use Rattle.sched_model.specs.Runs.{Reached, begun, IsNext, IsRunFrom, IsRun, after_entry, after_entries}
+use Rattle.sched_model.specs.Runs.{Reached, begun, IsRunFrom, IsRun, after_entry, after_entries}
 use Rattle.sched_laws.specs.StateLaws.{state_after}
 use Rattle.sched_laws.proofs.Lists.{AllByRecursion-map}
 use Rattle.sched_laws.proofs.Bools.{and_left, and_right, not_true, or_left, or_right}
-use Rattle.term_laws.specs.RtdsTerm.{moves}
 use Rattle.term_laws.proofs.Time.{time_goes_on}
-use Rattle.cap_laws.specs.CapTerm.{PlacedLeg, CapTerm, domain_legs, cap_set, settings, refills, ends_term, cap_after, begins_term, term_from, terms_begun, credit2_in, first_cap, cap_terms, shared, meets, is_set_after, is_undisturbed, time_on, late_within, KeepsCap}
-use Rattle.cap_laws.proofs.CapTracks.{cap_at, EventTracks, CapTracks}
-use Rattle.cap_laws.proofs.CoreSums.{over, total_over, total_none}
-use Rattle.cap_laws.proofs.CapLegs.{OpenLeg, Opens, rest, opens_after, decides, Tracked, Closes, tracked_after}
-use Rattle.cap_laws.proofs.CapStep.{left_over, budgeted, Within, closed_by, closes_here, cap_there, cap_of, cores}
+use Rattle.cap_laws.specs.CapTerm.{PlacedLeg, CapTerm, domain_legs, cap_set, settings, refills, cap_after, begins_term, term_from, terms_begun, credit2_in, first_cap, cap_terms, shared, meets, is_set_after, KeepsCap}
+use Rattle.cap_laws.proofs.CapTracks.{cap_at, CapTracks}
+use Rattle.cap_laws.proofs.CoreSums.{over, total_none}
+use Rattle.cap_laws.proofs.CapLegs.{Opens, rest, opens_after, decides, Tracked, Closes, tracked_after}
+use Rattle.cap_laws.proofs.CapStep.{left_over, budgeted, closed_by, closes_here, cap_there, cores}
 use Rattle.cap_laws.proofs.CapEnd.{late_of_met, disturbs, HasSettings, settings_follow}
 use Rattle.cap_laws.proofs.CapWithin.{term_starts, term_budget, time_rest, late_rest, disturbed_rest, kept_within}
 use Rattle.cap_laws.proofs.CapFunded.{Funded, funded_later, funded_after}
@@ -94,7 +93,7 @@ module _ (m : Machine) (d : ℕ) (K : State → Type 0) (tracks : CapTracks m d 
             let here : Kept from.state.now opens2 last (suc n) entries term = (
               omega (arith, starts, at),
               λ plain none. kept_within m d K tracks set entries next (suc n) opens2 f.stop y.0 percent2 entry.at.0 term.budget term run.1 known2 tracked2 f.within (omega (arith, at, later))
-              (subst (λ t. budgeted high opens2 f.stop y.0.budget t ≤ term.budget) (sym at) (omega (arith, fits, totals, budget))) has2 refl plain none,
+                  (subst (λ t. budgeted high opens2 f.stop y.0.budget t ≤ term.budget) (sym at) (omega (arith, fits, totals, budget))) has2 refl plain none,
             ) in
             (kept_before n entry entries last opens opens2 closed from.state.now from.state.now term closes at (omega arith) here, follow))
         | false ↦ λ begin. follow

@@ -1,17 +1,14 @@
 -- The legs of a domain that are open and those that follow, and what an entry does to them.
-use Rattle.std.proofs.Common.{◌≡◌, ◌≢◌, ◌≤◌, ◌<◌, ◌+◌, ◌-◌, ℕ, zero, suc, Bool, true, false, List, [], ◌∷◌, refl, arith, ap, subst, sym, ◌∙◌, ◌⊎◌, inl, inr, cond, ◌==◌}
+use Rattle.std.proofs.Common.{◌≡◌, ◌≢◌, ◌≤◌, ◌<◌, ◌+◌, ℕ, suc, Bool, true, false, List, ◌∷◌, refl, arith, ap, sym, ◌∙◌, ◌⊎◌, inl, inr, cond, ◌==◌}
 use Rattle.std.specs.Prelude.{Option, Some, None, option_map, sum_by}
 use Rattle.std.proofs.lemmas.List.Sums.{sum_by-cons}
-use Rattle.std.proofs.Math.Decide.{ℕ_discrete}
 use Rattle.sched_base.specs.declared.UnitId.{UnitId}
 use Rattle.sched_model.specs.declared.event.Event.{Event}
 use Rattle.sched_model.specs.declared.event.Event.TheVariants as event
 use Rattle.sched_model.specs.declared.event.Entry.{Entry}
 use Rattle.sched_model.specs.declared.machine.Machine.{Machine}
 use Rattle.sched_model.specs.declared.state.State.{State}
-use Rattle.sched_model.specs.Runs.{Reached, IsNext, after_entry}
 use Rattle.term_laws.specs.RtdsTerm.{Leg, late_of, leg_from}
-use Rattle.term_laws.proofs.TermSums.{leg_from-open, leg_from-closed}
 use Rattle.cap_laws.specs.CapTerm.{PlacedLeg, next_decision, taken_for, domain_legs}
 use Rattle.cap_laws.proofs.CapTracks.{number_in, decided_for, on_core, EventTracks}
 use Rattle.cap_laws.proofs.CoreSums.{over, total_over, total_same, total_changed}

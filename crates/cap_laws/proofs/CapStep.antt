@@ -1,6 +1,6 @@
 -- What an entry within a term does to the budget of a capped domain and to what its running units hold, taken together.
-use Rattle.std.proofs.Common.{◌≡◌, ◌≢◌, ◌≤◌, ◌<◌, ◌+◌, ◌-◌, ℕ, zero, suc, Bool, true, false, List, [], ◌∷◌, refl, arith, ap, subst, sym, ◌∙◌, ◌⊎◌, inl, inr, cond, ◌==◌, nat_lt}
-use Rattle.std.specs.Prelude.{Option, Some, None, option_map, max, slice_get, is_some, ◌||◌, ℤ, pos, ◌+ℤ◌, ◌-ℤ◌, ◌≤ℤ◌}
+use Rattle.std.proofs.Common.{◌≡◌, ◌≢◌, ◌≤◌, ◌<◌, ◌+◌, ◌-◌, ℕ, zero, suc, Bool, true, false, refl, arith, ap, subst, sym, ◌∙◌, ◌⊎◌, inl, inr, cond, ◌==◌, nat_lt}
+use Rattle.std.specs.Prelude.{Option, Some, None, option_map, max, is_some, ◌||◌, ℤ, pos, ◌+ℤ◌, ◌-ℤ◌, ◌≤ℤ◌}
 use Rattle.std.proofs.Math.Decide.{ℕ_discrete}
 use Rattle.std.proofs.lemmas.Int.{ints}
 use Rattle.sched_base.specs.Numbers.{moment}
@@ -15,13 +15,11 @@ use Rattle.sched_model.specs.declared.state.Credit2Unit.{Credit2Unit}
 use Rattle.sched_model.specs.declared.state.Credit2Domain.{Credit2Domain}
 use Rattle.sched_model.specs.Opening.{core_count}
 use Rattle.sched_model.specs.Pool.{lateness}
-use Rattle.sched_model.specs.Runs.{Reached, IsNext, after_entry}
-use Rattle.term_laws.specs.RtdsTerm.{core_in, late_now, late_of, moves}
-use Rattle.term_laws.proofs.Time.{time_goes_on}
+use Rattle.term_laws.specs.RtdsTerm.{core_in, late_now, moves}
 use Rattle.cap_laws.specs.CapTerm.{PlacedLeg, cap_set, refills, ends_term, cap_after, credit2_in}
 use Rattle.cap_laws.proofs.CapTracks.{cap_at, decided_for, on_core, due_at, Stops, GivesBack, Takes, Decides, EventTracks, CapTracks}
-use Rattle.cap_laws.proofs.CoreSums.{over, total_over, total_same, total_changed, above_most, above_least, above_rises, given_back, given_now}
-use Rattle.cap_laws.proofs.CapLegs.{OpenLeg, Opens, opens_after, closed_at, begun_at, DecidesNone, DecidesOne, decides, Tracked, Closes, the_closed, closes_none, closes_one, tracked_after, late_is}
+use Rattle.cap_laws.proofs.CoreSums.{over, total_over, total_same, total_changed, above_rises, given_back, given_now}
+use Rattle.cap_laws.proofs.CapLegs.{OpenLeg, Opens, opens_after, closed_at, begun_at, DecidesNone, DecidesOne, decides, Tracked, Closes, closes_none, closes_one, late_is}
 
 -- the budget, and what is left to the open legs of what they hold, counted from t0 on or from where they begin
 abbrev pub left_over : ℕ → Opens → (ℕ → ℤ) → ℕ → ℕ → ℕ

@@ -1,5 +1,5 @@
 -- What each entry of a run does to a capped domain: to its budget, to its units that run, and to the cores that run them.
-use Rattle.std.specs.Prelude.{ℕ, ◌+◌, ◌==◌, ◌≡◌, ◌≤◌, ◌<◌, Bool, true, false, List, Option, Some, None, slice_get, ℤ, pos, ◌+ℤ◌, ◌-ℤ◌, ◌≤ℤ◌, if◌then◌else◌}
+use Rattle.std.specs.Prelude.{ℕ, ◌+◌, ◌==◌, ◌≡◌, ◌≤◌, ◌<◌, true, false, Option, Some, None, slice_get, ℤ, pos, ◌+ℤ◌, ◌-ℤ◌, ◌≤ℤ◌, if◌then◌else◌}
 use Rattle.sched_base.specs.Numbers.{moment}
 use Rattle.sched_base.specs.Credit2Numbers.{above_zero, total}
 use Rattle.sched_base.specs.declared.Moment.{Moment}

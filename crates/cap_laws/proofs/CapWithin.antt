@@ -1,7 +1,6 @@
 -- The bound of one term, by the entries that follow its beginning.
-use Rattle.std.proofs.Common.{◌≡◌, ◌≢◌, ◌≤◌, ◌<◌, ◌+◌, ◌-◌, ℕ, zero, suc, Bool, true, false, List, [], ◌∷◌, refl, arith, ap, subst, sym, ◌∙◌, ◌⊎◌, inl, inr, cond, nat_lt}
-use Rattle.std.specs.Prelude.{Option, Some, None, option_map, min, max, is_some, sum_by, ◌&&◌, ◌||◌, ℤ, pos, ◌+ℤ◌, ◌-ℤ◌, ◌≤ℤ◌}
-use Rattle.std.proofs.lemmas.Int.{ints}
+use Rattle.std.proofs.Common.{◌≡◌, ◌≤◌, ◌<◌, ◌+◌, ◌-◌, ℕ, suc, Bool, true, false, List, [], ◌∷◌, refl, arith, ap, subst, sym, ◌∙◌, ◌⊎◌, inl, inr, cond, nat_lt}
+use Rattle.std.specs.Prelude.{Option, Some, None, option_map, max, is_some, ◌&&◌, ◌||◌, ℤ, pos, ◌-ℤ◌}
 use Rattle.sched_base.specs.Credit2Numbers.{above_zero, total}
 use Rattle.sched_model.specs.declared.event.Event.{Event}
 use Rattle.sched_model.specs.declared.event.Event.TheVariants as event
@@ -9,14 +8,14 @@ use Rattle.sched_model.specs.declared.event.Entry.{Entry}
 use Rattle.sched_model.specs.declared.machine.Machine.{Machine}
 use Rattle.sched_model.specs.declared.state.State.{State}
 use Rattle.sched_model.specs.declared.state.Credit2Domain.{Credit2Domain}
-use Rattle.sched_model.specs.Runs.{Reached, IsNext, IsRunFrom, after_entry, after_entries}
-use Rattle.term_laws.specs.RtdsTerm.{Leg, late_of, leg_from, moves}
+use Rattle.sched_model.specs.Runs.{Reached, IsRunFrom, after_entry, after_entries}
+use Rattle.term_laws.specs.RtdsTerm.{moves}
 use Rattle.term_laws.proofs.Time.{time_goes_on}
-use Rattle.cap_laws.specs.CapTerm.{PlacedLeg, CapTerm, next_decision, domain_legs, cap_set, refills, ends_term, term_from, credit2_in, shared, meets, is_set_after}
-use Rattle.cap_laws.proofs.CapTracks.{cap_at, on_core, Stops, EventTracks, CapTracks}
+use Rattle.cap_laws.specs.CapTerm.{PlacedLeg, CapTerm, next_decision, cap_set, refills, ends_term, term_from, credit2_in, shared, meets, is_set_after}
+use Rattle.cap_laws.proofs.CapTracks.{cap_at, on_core, Stops, CapTracks}
 use Rattle.cap_laws.proofs.CoreSums.{over, total_over, total_same, total_one}
-use Rattle.cap_laws.proofs.CapLegs.{OpenLeg, Opens, to_close, rest, opens_after, DecidesNone, DecidesOne, decides, Tracked, Closes, closes_none, tracked_after, late_is}
-use Rattle.cap_laws.proofs.CapStep.{left_over, budgeted, part, late_part, Within, InTerm, closed_by, closes_here, in_term, cap_there, cap_of, cap_stays, cores}
+use Rattle.cap_laws.proofs.CapLegs.{OpenLeg, Opens, to_close, rest, opens_after, DecidesNone, decides, Tracked, closes_none, tracked_after, late_is}
+use Rattle.cap_laws.proofs.CapStep.{left_over, budgeted, part, late_part, Within, closed_by, closes_here, in_term, cap_there, cap_of, cap_stays, cores}
 use Rattle.cap_laws.proofs.CapEnd.{late_of_met, disturbs, later_none, EndsLate, open_fits, Calm, calm_by, HasSettings, settings_follow, ends_late, some_clash}
 
 -- a term begins where it is said to, and does not end before the moment from which it is followed

@@ -1,5 +1,5 @@
 -- What the units on cores hold is no more than what all running units of their domain hold.
-use Rattle.std.proofs.Common.{◌≡◌, ◌≢◌, ◌≤◌, ◌<◌, ◌+◌, ℕ, zero, suc, Bool, true, false, List, [], ◌∷◌, refl, arith, ap, subst, sym, ◌∙◌, cond}
+use Rattle.std.proofs.Common.{◌≡◌, ◌≢◌, ◌≤◌, ◌<◌, ◌+◌, ℕ, zero, suc, List, [], ◌∷◌, refl, arith, ap, ◌∙◌, cond}
 use Rattle.std.specs.Prelude.{Option, Some, None, is_some, slice_get, sum_by}
 use Rattle.std.proofs.lemmas.List.Sums.{sum_by-cons}
 use Rattle.sched_base.specs.Credit2Numbers.{above_zero}

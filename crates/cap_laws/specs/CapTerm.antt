@@ -155,5 +155,3 @@ is_undisturbed set placed term = not term.ends_by_setting && not (list_any (λ l
 -- the domain's units together are on cores within the term for the budget of the cap at most, and for what was late: the ends of the legs that meet it
 abbrev pub KeepsCap : List ℕ → List PlacedLeg → CapTerm → Type 0
 KeepsCap set placed term = is_undisturbed set placed term ≡ true → time_on term placed ≤ term.budget + late_within term placed
-
-

@@ -1,5 +1,5 @@
 -- Worked examples of terms of caps: small machines, and the terms and legs of a domain in the ordered run of each.
-use Rattle.std.specs.Prelude.{ℕ, Bool, List, [], ◌∷◌, None, Some, codes, map, true, false}
+use Rattle.std.specs.Prelude.{ℕ, Bool, List, [], ◌∷◌, None, Some, codes, map}
 use Rattle.sched_base.specs.Numbers.{moment, pool as pool_number}
 use Rattle.sched_base.specs.declared.Span.{Span}
 use Rattle.sched_model.specs.declared.config.PoolConfig.{PoolConfig}
