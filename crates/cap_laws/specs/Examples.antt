@@ -11,6 +11,7 @@ use Rattle.sched_model.specs.declared.command.Command.TheVariants as command
 use Rattle.sched_model.specs.declared.command.Which.TheVariants as which
 use Rattle.sched_model.specs.declared.machine.Machine.{Machine}
 use Rattle.sched_laws.specs.StateLaws.{state_after}
+use Rattle.term_laws.specs.RtdsTerm.{Leg}
 use Rattle.term_laws.specs.Examples.{forever, stall, xl, run_of}
 use Rattle.cap_laws.specs.CapTerm.{CapTerm, PlacedLeg, domain_legs, settings, cap_terms, time_on, late_within, is_undisturbed}
 
@@ -26,10 +27,15 @@ pub record CapSums : Type 0 where
 abbrev pub term : ℕ → ℕ → ℕ → ℕ → ℕ → Bool → CapSums
 term from until budget time_on late spoken = record { from = from; until = until; budget = budget; time_on = time_on; late = late; spoken = spoken }
 
--- the domain's legs in the ordered run; its terms there, with their sums
+-- the domain's legs in the ordered run
 abbrev pub legs_of : Machine → ℕ → List PlacedLeg
 legs_of m d = domain_legs (state_after m (run_of m)) d 0 (run_of m)
 
+-- the spans of the legs, and what was late of each
+abbrev pub spans_of : Machine → ℕ → List Leg
+spans_of m d = map (λ (placed : PlacedLeg). placed.leg) (legs_of m d)
+
+-- its terms there, with their sums
 abbrev pub terms_of : Machine → ℕ → List CapSums
 terms_of m d =
     let placed = legs_of m d in
@@ -107,5 +113,21 @@ set_after_refill = record {
   work = record {
     stalls = stall 100000 1 19900000 ∷ [];
     commands = xl 20000000 (command.Credit2Dom (which.Name (codes "a")) None (Some 33)) ∷ [];
+  };
+}
+
+-- a domain with a cap that moves to another pool, where it has none
+unfoldable pub moved_domain : Machine
+moved_domain = record {
+  config = record {
+    granularity = 1;
+    processors = 2;
+    horizon = moment 12000000;
+    pools = credit2_pool (codes "Pool-0") 1 ∷ credit2_pool (codes "other") 2 ∷ [];
+    domains = credit2_domain (codes "a") 25 (forever ∷ []) ∷ [];
+  };
+  work = record {
+    stalls = [];
+    commands = xl 1000000 (command.Migrate (which.Name (codes "a")) (which.Name (codes "other"))) ∷ [];
   };
 }

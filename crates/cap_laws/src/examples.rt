@@ -1,7 +1,8 @@
 //! Terms of capped domains in the ordered runs of small machines.
 
 ghost use Rattle.std.specs.Prelude.{◌≡◌, [], ◌∷◌, true, false};
-ghost use Rattle.cap_laws.specs.Examples.{terms_of, term, shared_cap, stall_past_the_budget, set_after_overrun, set_after_refill};
+ghost use Rattle.term_laws.specs.Examples.{leg};
+ghost use Rattle.cap_laws.specs.Examples.{terms_of, spans_of, term, shared_cap, stall_past_the_budget, set_after_overrun, set_after_refill, moved_domain};
 
 /// Two units of a domain are together on the cores for the budget of its cap.
 pub fn budget_is_shared()
@@ -21,4 +22,10 @@ pub fn ended_by_a_setting()
 /// Nor is anything said of a term where the cap is set after its end, and still within a leg that meets it.
 pub fn set_after_its_end()
     ensures { terms_of set_after_refill 1 ≡ term 0 10000000 3300000 10000000 0 false ∷ term 10000000 20000000 3300000 10000000 0 false ∷ term 20000000 20000000 3300000 0 0 true ∷ [] }
+{}
+
+/// A domain that moves has no cap any more: its term ends there, and what it runs in the other pool is in no term.
+pub fn ended_by_a_move()
+    ensures terms { terms_of moved_domain 0 ≡ term 0 1000000 2500000 1000000 0 true ∷ [] }
+    ensures legs { spans_of moved_domain 0 ≡ leg 0 1000000 0 ∷ leg 1000000 11000000 0 ∷ leg 11000000 11000000 0 ∷ [] }
 {}
