@@ -1,11 +1,15 @@
 -- The worked examples of terms, computed.
 use Rattle.std.proofs.Common.{◌≡◌, [], ◌∷◌, refl, true, false}
 use Rattle.term_laws.specs.Examples.{leg}
-use Rattle.cap_laws.specs.Examples.{terms_of, spans_of, term, shared_cap, stall_past_the_budget, set_after_overrun, set_after_refill, moved_domain}
+use Rattle.cap_laws.specs.Examples.{terms_of, spans_of, term, shared_cap, refill_while_running, stall_past_the_budget, set_after_overrun, set_after_refill, moved_domain}
 
 pub both_share : terms_of shared_cap 0 ≡ (term 0 10000000 2500000 2500000 0 true ∷ term 10000000 10000000 2500000 0 0 true ∷ [])
 unfolding shared_cap
 both_share = refl
+
+pub held_at_refill : terms_of refill_while_running 0 ≡ (term 0 10000000 10000000 7000000 0 true ∷ term 10000000 20000000 10000000 10000000 0 true ∷ term 20000000 20000000 10000000 0 0 true ∷ [])
+unfolding refill_while_running
+held_at_refill = refl
 
 pub overruns : terms_of stall_past_the_budget 0 ≡ (term 0 10000000 2500000 4000000 1500000 true ∷ term 10000000 10000000 2500000 0 0 true ∷ [])
 unfolding stall_past_the_budget

@@ -1,6 +1,6 @@
 -- Worked examples of terms of caps: small machines, and the terms and legs of a domain in the ordered run of each.
 use Rattle.std.specs.Prelude.{ℕ, Bool, List, [], ◌∷◌, None, Some, codes, map}
-use Rattle.sched_base.specs.Numbers.{moment, pool as pool_number}
+use Rattle.sched_base.specs.Numbers.{moment, span, pool as pool_number}
 use Rattle.sched_base.specs.declared.Span.{Span}
 use Rattle.sched_model.specs.declared.config.PoolConfig.{PoolConfig}
 use Rattle.sched_model.specs.declared.config.DomConfig.{DomConfig}
@@ -58,6 +58,24 @@ shared_cap = record {
     horizon = moment 10000000;
     pools = credit2_pool (codes "Pool-0") 3 ∷ [];
     domains = credit2_domain (codes "a") 25 (forever ∷ forever ∷ []) ∷ [];
+  };
+  work = record {
+    stalls = [];
+    commands = [];
+  };
+}
+
+-- two units that sleep for a while; one of them runs, and holds a part of the budget, when that is refilled
+unfoldable pub refill_while_running : Machine
+refill_while_running = record {
+  config = record {
+    granularity = 1;
+    processors = 2;
+    horizon = moment 20000000;
+    pools = credit2_pool (codes "Pool-0") 3 ∷ [];
+    domains =
+        credit2_domain (codes "a") 100 ((span 3000000 ∷ span 5000000 ∷ span 20000000 ∷ span 1000000 ∷ []) ∷ (span 1000000 ∷ span 7000000 ∷ span 20000000 ∷ span 1000000 ∷ []) ∷ []) ∷
+        [];
   };
   work = record {
     stalls = [];

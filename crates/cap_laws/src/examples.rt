@@ -2,11 +2,16 @@
 
 ghost use Rattle.std.specs.Prelude.{◌≡◌, [], ◌∷◌, true, false};
 ghost use Rattle.term_laws.specs.Examples.{leg};
-ghost use Rattle.cap_laws.specs.Examples.{terms_of, spans_of, term, shared_cap, stall_past_the_budget, set_after_overrun, set_after_refill, moved_domain};
+ghost use Rattle.cap_laws.specs.Examples.{terms_of, spans_of, term, shared_cap, refill_while_running, stall_past_the_budget, set_after_overrun, set_after_refill, moved_domain};
 
 /// Two units of a domain are together on the cores for the budget of its cap.
 pub fn budget_is_shared()
     ensures { terms_of shared_cap 0 ≡ term 0 10000000 2500000 2500000 0 true ∷ term 10000000 10000000 2500000 0 0 true ∷ [] }
+{}
+
+/// What a running unit holds when the budget is refilled is a part of the new term's budget.
+pub fn held_over_a_refill()
+    ensures { terms_of refill_while_running 0 ≡ term 0 10000000 10000000 7000000 0 true ∷ term 10000000 20000000 10000000 10000000 0 true ∷ term 20000000 20000000 10000000 0 0 true ∷ [] }
 {}
 
 /// A unit that a stall lets run beyond the budget is on the core for as much longer as the decision was late.
