@@ -67,12 +67,12 @@ met_or_not term placed = elim (shared term placed) as (λ k. (k ≡ 0) ⊎ ((0 <
 
 -- the open legs add no more than what is left to them, and what is late of them
 pub open_fits : (cores d : ℕ) (term : CapTerm) (opens : Opens) (stop : ℕ → ℤ) (s : State) (n allowed : ℕ) (entries : List Entry)
-    → total_over cores (left_over cores opens stop term.from) ≤ allowed
+    → total_over cores (left_over opens stop term.from) ≤ allowed
     → ((r : ℕ) (o : OpenLeg) → opens r ≡ Some o → EndsLate term (stop r) (to_close s r n entries o))
     → sum_by (shared term) (domain_legs s d n entries) ≡ 0
     → rest cores d (shared term) opens s n entries ≤ allowed + rest cores d (late_of_met term) opens s n entries
 open_fits cores d term opens stop s n allowed entries few late none =
-    let sums = total_two cores (λ r. over (λ o. shared term (to_close s r n entries o)) (opens r)) (left_over cores opens stop term.from) (λ r. over (λ o. late_of_met term (to_close s r n entries o)) (opens r)) (λ r low. one r (opens r) refl) in
+    let sums = total_two cores (λ r. over (λ o. shared term (to_close s r n entries o)) (opens r)) (left_over opens stop term.from) (λ r. over (λ o. late_of_met term (to_close s r n entries o)) (opens r)) (λ r low. one r (opens r) refl) in
     omega (arith, sums, few, none)
   where
     leg : (r : ℕ) (o : OpenLeg) → EndsLate term (stop r) (to_close s r n entries o) → shared term (to_close s r n entries o) ≤ above_zero (stop r -ℤ pos (max o.from term.from)) + late_of_met term (to_close s r n entries o)

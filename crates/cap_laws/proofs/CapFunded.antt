@@ -7,13 +7,14 @@ use Rattle.sched_model.specs.declared.event.Entry.{Entry}
 use Rattle.sched_model.specs.declared.machine.Machine.{Machine}
 use Rattle.sched_model.specs.declared.state.State.{State}
 use Rattle.sched_model.specs.declared.state.Credit2Domain.{Credit2Domain}
+use Rattle.sched_model.specs.Opening.{core_count}
 use Rattle.sched_model.specs.Credit2.{held_by_running}
 use Rattle.term_laws.specs.RtdsTerm.{moves}
 use Rattle.cap_laws.specs.CapTerm.{PlacedLeg, cap_set, refills, ends_term, credit2_in}
 use Rattle.cap_laws.proofs.CapTracks.{cap_at, Stops, EventTracks, CapTracks}
 use Rattle.cap_laws.proofs.CoreSums.{over, total_over, total_same, total_le, total_none, above, above_least, above_rises}
 use Rattle.cap_laws.proofs.CapLegs.{OpenLeg, Opens, opens_after, decides, Tracked, late_is}
-use Rattle.cap_laws.proofs.CapStep.{left_over, budgeted, part, late_part, Within, closed_by, closes_here, in_term, cap_there, cap_of, cap_stays, cores}
+use Rattle.cap_laws.proofs.CapStep.{left_over, budgeted, part, late_part, Within, closed_by, closes_here, in_term, cap_there, cap_of, cap_stays}
 use Rattle.cap_laws.proofs.HeldBy.{held_at_least}
 use Rattle.cap_laws.proofs.CapWithin.{refill_quiet}
 
@@ -26,7 +27,7 @@ pub record Funded (cores t : ℕ) (s : State) (d : ℕ) (x : Credit2Domain) (ope
 pub funded_later : (cores t t2 : ℕ) (s : State) (d : ℕ) (x : Credit2Domain) (opens : Opens) → t ≤ t2 → Funded cores t s d x opens → Funded cores t2 s d x opens
 funded_later cores t t2 s d x opens later f = (
     let fits = f.fits in
-    let falls = total_le cores (left_over cores opens f.stop t2) (left_over cores opens f.stop t) (λ r low. less r (opens r)) in
+    let falls = total_le cores (left_over opens f.stop t2) (left_over opens f.stop t) (λ r low. less r (opens r)) in
     record { stop = f.stop; within = f.within; fits = omega (arith, fits, falls) })
   where
     less : (r : ℕ) (o : Option OpenLeg) → over (λ z. above_zero (f.stop r -ℤ pos (max z.from t2))) o ≤ over (λ z. above_zero (f.stop r -ℤ pos (max z.from t))) o
@@ -39,7 +40,7 @@ some_same e = cc
 module _ (m : Machine) (d : ℕ) (K : State → Type 0) (tracks : CapTracks m d K) (n : ℕ) (entry : Entry) (s s2 : State) (opens : Opens) (at : entry.at.0 ≡ s.now) (known : K s) (known2 : K s2)
     (step : EventTracks m d entry.event s s2) (tracked : Tracked d opens n s) (tracked2 : Tracked d (opens_after d n entry opens) (suc n) s2) where
   abbrev high : ℕ
-  high = cores m d K tracks
+  high = core_count m.config
 
   abbrev after : Opens
   after = opens_after d n entry opens
@@ -47,7 +48,7 @@ module _ (m : Machine) (d : ℕ) (K : State → Type 0) (tracks : CapTracks m d 
   -- where the cap is set
   funded_set : (percent : ℕ) (y : Credit2Domain) → cap_set m d entry.event ≡ Some percent → credit2_in s2 d ≡ Some y → 0 < y.cap → Funded high s.now s2 d y after
   funded_set percent y is at2 capped =
-      let sums = total_none high (left_over high after (λ r. pos s.now) s.now) (λ r low. nothing (after r)) in
+      let sums = total_none high (left_over after (λ r. pos s.now) s.now) (λ r low. nothing (after r)) in
       let budget = ap above_zero (step.set_budget percent y is at2) in
       let percent_is : y.cap ≡ percent = sym (cap_of s2 d y at2) ∙ step.cap ∙ ap (λ (o : Option ℕ). elim o as (λ _. ℕ) [ Some given ↦ given | None ↦ cond (moves d entry.event) 0 (cap_at s d) ]) is in
       let same = ap total percent_is in
@@ -71,8 +72,8 @@ module _ (m : Machine) (d : ℕ) (K : State → Type 0) (tracks : CapTracks m d 
       let refilled = step.refilled x y is at1 capped at2 in
       let unchanged : (r : ℕ) → after r ≡ opens r = λ r. late_is d n entry opens r None ((refill_quiet d entry.event is).none r) in
       let stops : (r : ℕ) (o : OpenLeg) → after r ≡ Some o → Stops y o.unit (f.stop r) = λ r o there. refilled.others o.unit (f.stop r) (f.within.stops r o (sym (unchanged r) ∙ there)) in
-      let sums = total_same high (left_over high after f.stop s.now) (left_over high opens f.stop s.now) (λ r low. ap (over (λ o. above_zero (f.stop r -ℤ pos (max o.from s.now)))) (unchanged r)) in
-      let held : total_over high (left_over high after f.stop s.now) ≤ held_by_running y = held_at_least high after (λ r o. above_zero (f.stop r -ℤ pos (max o.from s.now))) y.units
+      let sums = total_same high (left_over after f.stop s.now) (left_over opens f.stop s.now) (λ r low. ap (over (λ o. above_zero (f.stop r -ℤ pos (max o.from s.now)))) (unchanged r)) in
+      let held : total_over high (left_over after f.stop s.now) ≤ held_by_running y = held_at_least high after (λ r o. above_zero (f.stop r -ℤ pos (max o.from s.now))) y.units
       (λ r o low there. (
       let st = stops r o there in
       let charged = refilled.charged o.unit st.from st.unit st.at st.burned in

@@ -10,7 +10,7 @@ use Rattle.sched_model.specs.declared.event.Entry.{Entry}
 use Rattle.sched_model.specs.declared.machine.Machine.{Machine}
 use Rattle.sched_model.specs.declared.state.State.{State}
 use Rattle.sched_model.specs.declared.state.Credit2Domain.{Credit2Domain}
-use Rattle.sched_model.specs.Opening.{opening}
+use Rattle.sched_model.specs.Opening.{opening, core_count}
 use Rattle.sched_model.specs.Runs.{Reached, begun, IsRunFrom, IsRun, after_entry, after_entries}
 use Rattle.sched_laws.specs.StateLaws.{state_after}
 use Rattle.sched_laws.proofs.Lists.{AllByRecursion-map}
@@ -20,14 +20,14 @@ use Rattle.cap_laws.specs.CapTerm.{PlacedLeg, CapTerm, domain_legs, cap_set, set
 use Rattle.cap_laws.proofs.CapTracks.{cap_at, CapTracks}
 use Rattle.cap_laws.proofs.CoreSums.{over, total_none}
 use Rattle.cap_laws.proofs.CapLegs.{Opens, rest, opens_after, decides, Tracked, Closes, tracked_after}
-use Rattle.cap_laws.proofs.CapStep.{left_over, budgeted, closed_by, closes_here, cap_there, cores}
+use Rattle.cap_laws.proofs.CapStep.{left_over, budgeted, closed_by, closes_here, cap_there}
 use Rattle.cap_laws.proofs.CapEnd.{late_of_met, disturbs, HasSettings, settings_follow}
 use Rattle.cap_laws.proofs.CapWithin.{term_starts, term_budget, time_rest, late_rest, disturbed_rest, kept_within}
 use Rattle.cap_laws.proofs.CapFunded.{Funded, funded_later, funded_after}
 
 module _ (m : Machine) (d : ℕ) (K : State → Type 0) (tracks : CapTracks m d K) (set : List ℕ) where
   abbrev high : ℕ
-  high = cores m d K tracks
+  high = core_count m.config
 
   -- the term is kept, counted from a moment from which it may begin
   abbrev Kept : ℕ → Opens → State → ℕ → List Entry → CapTerm → Type 0
@@ -128,9 +128,9 @@ module _ (m : Machine) (d : ℕ) (K : State → Type 0) (tracks : CapTracks m d 
   nobody_tracked : Tracked d nobody 0 (opening m)
   nobody_tracked = record { on = λ r. tracks.nobody r; begun = λ r o is. absurd (cc); earlier = λ r o is. absurd (cc) }
 
-  funded_opening : (x : Credit2Domain) → credit2_in (opening m) d ≡ Some x → 0 < x.cap → Funded (cores m d K tracks) (opening m).now (opening m) d x nobody
+  funded_opening : (x : Credit2Domain) → credit2_in (opening m) d ≡ Some x → 0 < x.cap → Funded (core_count m.config) (opening m).now (opening m) d x nobody
   funded_opening x at capped =
-      let none = total_none (cores m d K tracks) (left_over (cores m d K tracks) nobody (λ r. pos 0) (opening m).now) (λ r low. refl) in
+      let none = total_none (core_count m.config) (left_over nobody (λ r. pos 0) (opening m).now) (λ r low. refl) in
       let budget = ap above_zero (tracks.full x at) in
       record { stop = λ r. pos 0; within = record { at = at; capped = capped; stops = λ r o is. absurd (cc) }; fits = omega (arith, none, budget) }
 
@@ -140,9 +140,9 @@ module _ (m : Machine) (d : ℕ) (K : State → Type 0) (tracks : CapTracks m d 
       let plain : term.ends_by_setting ≡ false = not_true term.ends_by_setting (and_left (not term.ends_by_setting) (not (list_any (λ leg. meets term leg && is_set_after set term leg) placed)) spoken) in
       let clear = not_true (list_any (λ leg. meets term leg && is_set_after set term leg) placed) (and_right (not term.ends_by_setting) (not (list_any (λ leg. meets term leg && is_set_after set term leg) placed)) spoken) in
       let none = none_disturbs set term placed clear in
-      let times = whole_sum (cores m d K tracks) d (shared term) last entries in
-      let lates = whole_sum (cores m d K tracks) d (late_of_met term) last entries in
-      let disturbed = whole_sum (cores m d K tracks) d (disturbs set term) last entries in
+      let times = whole_sum (core_count m.config) d (shared term) last entries in
+      let lates = whole_sum (core_count m.config) d (late_of_met term) last entries in
+      let disturbed = whole_sum (core_count m.config) d (disturbs set term) last entries in
       let fits = kept plain (omega (arith, none, disturbed)) in
       omega (arith, times, lates, fits)
 

@@ -22,11 +22,11 @@ use Rattle.cap_laws.proofs.CoreSums.{over, total_over, total_same, total_changed
 use Rattle.cap_laws.proofs.CapLegs.{OpenLeg, Opens, opens_after, closed_at, begun_at, DecidesNone, DecidesOne, decides, Tracked, Closes, closes_none, closes_one, late_is}
 
 -- the budget, and what is left to the open legs of what they hold, counted from t0 on or from where they begin
-abbrev pub left_over : ℕ → Opens → (ℕ → ℤ) → ℕ → ℕ → ℕ
-left_over cores opens stop t0 r = over (λ o. above_zero (stop r -ℤ pos (max o.from t0))) (opens r)
+abbrev pub left_over : Opens → (ℕ → ℤ) → ℕ → ℕ → ℕ
+left_over opens stop t0 r = over (λ o. above_zero (stop r -ℤ pos (max o.from t0))) (opens r)
 
 abbrev pub budgeted : ℕ → Opens → (ℕ → ℤ) → ℤ → ℕ → ℕ
-budgeted cores opens stop budget t0 = above_zero budget + total_over cores (left_over cores opens stop t0)
+budgeted cores opens stop budget t0 = above_zero budget + total_over cores (left_over opens stop t0)
 
 -- how long a leg is from t0 on, and what is late of it where that is some time
 abbrev pub part : ℕ → PlacedLeg → ℕ
@@ -104,7 +104,7 @@ late_part_is : (t0 : ℕ) (placed : PlacedLeg) → (part t0 placed ≡ 0) ⊎ (l
 late_part_is t0 placed = elim (part t0 placed) as (λ k. (k ≡ 0) ⊎ (cond (nat_lt 0 k) placed.leg.late 0 ≡ placed.leg.late)) [ zero ↦ inl refl | suc k ↦ inr (let e : nat_lt 0 (suc k) ≡ true = grind arith in ap (λ (b : Bool). cond b placed.leg.late 0) e) ]
 
 module _ (m : Machine) (d : ℕ) (K : State → Type 0) (tracks : CapTracks m d K) where
-  abbrev pub cores : ℕ
+  abbrev cores : ℕ
   cores = core_count m.config
 
   -- a core that decides now is late by as much as its unit overran, or more
@@ -160,7 +160,7 @@ module _ (m : Machine) (d : ℕ) (K : State → Type 0) (tracks : CapTracks m d 
             same_cap = same;
             pays = λ t0 le. (
                 let e = ap above_zero goes.budget in
-                let sums = total_same cores (left_over cores after stop t0) (left_over cores opens stop t0) (λ r low. ap (over (λ o. above_zero (stop r -ℤ pos (max o.from t0)))) (unchanged r)) in
+                let sums = total_same cores (left_over after stop t0) (left_over opens stop t0) (λ r low. ap (over (λ o. above_zero (stop r -ℤ pos (max o.from t0)))) (unchanged r)) in
                 omega (arith, e, sums));
           }
 
@@ -208,7 +208,7 @@ module _ (m : Machine) (d : ℕ) (K : State → Type 0) (tracks : CapTracks m d 
             go (Some k) is2 = (let e : begun_at entry.at.0 n k ≡ o = cc in sym (ap (λ (z : OpenLeg). z.from) e))
 
         -- what the unit has that the core decided for
-        takes : (t0 : ℕ) → t0 ≤ s.now → left_over cores after stop2 t0 r0 ≤ above_zero decided.taken
+        takes : (t0 : ℕ) → t0 ≤ s.now → left_over after stop2 t0 r0 ≤ above_zero decided.taken
         takes t0 le = go (after r0) refl
           where
             go : (o : Option OpenLeg) → after r0 ≡ o → over (λ z. above_zero (stop2 r0 -ℤ pos (max z.from t0))) o ≤ above_zero decided.taken
@@ -249,7 +249,7 @@ module _ (m : Machine) (d : ℕ) (K : State → Type 0) (tracks : CapTracks m d 
               let a = ends t0 le (opens r0) refl in
               let b = takes t0 le in
               let c = decided.budget in
-              let changed = total_changed cores r0 (left_over cores opens stop t0) (left_over cores after stop2 t0)
+              let changed = total_changed cores r0 (left_over opens stop t0) (left_over after stop2 t0)
               (λ r other. ap (λ (z : ℤ). over (λ (o : OpenLeg). above_zero (z -ℤ pos (max o.from t0))) (opens r)) (sym (stop2_other r other)) ∙ ap (over (λ o. above_zero (stop2 r -ℤ pos (max o.from t0)))) (sym (unchanged r other)))
               (λ high. ap (over (λ o. above_zero (stop r0 -ℤ pos (max o.from t0)))) (none_high s opens n r0 known tracked high) ∙ sym (ap (over (λ o. above_zero (stop2 r0 -ℤ pos (max o.from t0)))) (none_high s2 after (suc n) r0 known2 tracked2 high))) in
               omega (arith, a, b, c, changed));

@@ -8,6 +8,7 @@ use Rattle.sched_model.specs.declared.event.Entry.{Entry}
 use Rattle.sched_model.specs.declared.machine.Machine.{Machine}
 use Rattle.sched_model.specs.declared.state.State.{State}
 use Rattle.sched_model.specs.declared.state.Credit2Domain.{Credit2Domain}
+use Rattle.sched_model.specs.Opening.{core_count}
 use Rattle.sched_model.specs.Runs.{Reached, IsRunFrom, after_entry, after_entries}
 use Rattle.term_laws.specs.RtdsTerm.{moves}
 use Rattle.term_laws.proofs.Time.{time_goes_on}
@@ -15,7 +16,7 @@ use Rattle.cap_laws.specs.CapTerm.{PlacedLeg, CapTerm, next_decision, cap_set, r
 use Rattle.cap_laws.proofs.CapTracks.{cap_at, on_core, Stops, CapTracks}
 use Rattle.cap_laws.proofs.CoreSums.{over, total_over, total_same, total_one}
 use Rattle.cap_laws.proofs.CapLegs.{OpenLeg, Opens, to_close, rest, opens_after, DecidesNone, decides, Tracked, closes_none, tracked_after, late_is}
-use Rattle.cap_laws.proofs.CapStep.{left_over, budgeted, part, late_part, Within, closed_by, closes_here, in_term, cap_there, cap_of, cap_stays, cores}
+use Rattle.cap_laws.proofs.CapStep.{left_over, budgeted, part, late_part, Within, closed_by, closes_here, in_term, cap_there, cap_of, cap_stays}
 use Rattle.cap_laws.proofs.CapEnd.{late_of_met, disturbs, later_none, EndsLate, open_fits, Calm, calm_by, HasSettings, settings_follow, ends_late, some_clash}
 
 -- a term begins where it is said to, and does not end before the moment from which it is followed
@@ -84,7 +85,7 @@ counted b = cond b 1 0
 
 module _ (m : Machine) (d : ℕ) (K : State → Type 0) (tracks : CapTracks m d K) (set : List ℕ) where
   abbrev high : ℕ
-  high = cores m d K tracks
+  high = core_count m.config
 
   -- the sums over the open legs and those that follow
   abbrev pub time_rest : CapTerm → Opens → State → ℕ → List Entry → ℕ
@@ -110,15 +111,12 @@ module _ (m : Machine) (d : ℕ) (K : State → Type 0) (tracks : CapTracks m d 
   over_fits : (entries : List Entry) (from : Reached) (n : ℕ) (opens : Opens) (stop : ℕ → ℤ) (term : CapTerm) (allowed : ℕ) → IsRunFrom m from entries → K from.state → Tracked d opens n from.state
       → ((r : ℕ) (o : OpenLeg) → opens r ≡ Some o → (x : Credit2Domain) × (credit2_in from.state d ≡ Some x) × (0 < x.cap) × Stops x o.unit (stop r))
       → term.until ≤ from.state.now → (entries ≡ [] ⊎ (term.last < n)) → HasSettings m d set n entries
-      → total_over high (left_over high opens stop term.from) ≤ allowed → disturbed_rest term opens (after_entries m from entries).state n entries ≡ 0
+      → total_over high (left_over opens stop term.from) ≤ allowed → disturbed_rest term opens (after_entries m from entries).state n entries ≡ 0
       → time_rest term opens (after_entries m from entries).state n entries ≤ allowed + late_rest term opens (after_entries m from entries).state n entries
   over_fits entries from n opens stop term allowed run known tracked runs over_it past has few none =
       open_fits high d term opens stop (after_entries m from entries).state n allowed entries few ends
       (later_none m d term.until (shared term) (λ placed starts. omega (arith, starts)) entries from (after_entries m from entries).state n run over_it)
     where
-      last : State
-      last = (after_entries m from entries).state
-
       calm : (r : ℕ) (o : OpenLeg) → opens r ≡ Some o → 0 < shared term (to_close (after_entries m from entries).state r n entries o) → (entries ≡ [] ⊎ (term.last < n)) → Calm m d r entries
       calm r o is met (inl empty) = subst (Calm m d r) (sym empty) tt
       calm r o is met (inr later) =
@@ -153,7 +151,7 @@ module _ (m : Machine) (d : ℕ) (K : State → Type 0) (tracks : CapTracks m d 
       let starts : term.from ≡ t0 = sym (ap (λ (z : CapTerm). z.from) is) in
       let until : term.until ≡ from.state.now = sym (ap (λ (z : CapTerm). z.until) is) in
       over_fits [] from n opens stop term allowed run known tracked (λ r o there. (x, within.at, within.capped, within.stops r o there)) (omega (arith, until)) (inl refl) has
-      (subst (λ t. total_over high (left_over high opens stop t) ≤ allowed) (sym starts) (omega (arith, few))) none
+      (subst (λ t. total_over high (left_over opens stop t) ≤ allowed) (sym starts) (omega (arith, few))) none
   kept_within (entry ∷ entries) from n opens stop x percent t0 allowed term run known tracked within begun few has is plain none =
       elim (ends_term m d entry.event) as (λ b. ends_term m d entry.event ≡ b → time_rest term opens (after_entries m from (entry ∷ entries)).state n (entry ∷ entries) ≤ allowed + late_rest term opens (after_entries m from (entry ∷ entries)).state n (entry ∷ entries)) [
         | true ↦ λ ends. ended ends
@@ -210,10 +208,10 @@ module _ (m : Machine) (d : ℕ) (K : State → Type 0) (tracks : CapTracks m d 
           let lates = closes.parts (late_of_met term) last entries in
           let disturbed = closes.parts (disturbs set term) last entries in
           let unchanged : (r : ℕ) → opens_after d n entry opens r ≡ opens r = λ r. late_is d n entry opens r None (by.0.none r) in
-          let sums = total_same high (left_over high (opens_after d n entry opens) stop t0) (left_over high opens stop t0) (λ r low. ap (over (λ o. above_zero (stop r -ℤ pos (max o.from t0)))) (unchanged r)) in
+          let sums = total_same high (left_over (opens_after d n entry opens) stop t0) (left_over opens stop t0) (λ r low. ap (over (λ o. above_zero (stop r -ℤ pos (max o.from t0)))) (unchanged r)) in
           let follow = over_fits entries next (suc n) (opens_after d n entry opens) stop term allowed run.1 known2 tracked2
           (λ r o there. runs_on by.1 not_set r o (sym (unchanged r) ∙ there)) (omega (arith, until, at, later)) (inr (omega (arith, last_is))) (settings_follow m d set n entry entries has)
-          (subst (λ t. total_over high (left_over high (opens_after d n entry opens) stop t) ≤ allowed) starts (omega (arith, sums, few))) (omega (arith, disturbed, none)) in
+          (subst (λ t. total_over high (left_over (opens_after d n entry opens) stop t) ≤ allowed) starts (omega (arith, sums, few))) (omega (arith, disturbed, none)) in
           omega (arith, times, lates, follow)
         where
           runs_on : ((refills d entry.event ≡ true) × (moves d entry.event ≡ false) ⊎ (moves d entry.event ≡ true)) → cap_set m d entry.event ≡ None → (r : ℕ) (o : OpenLeg) → opens r ≡ Some o
