@@ -1,29 +1,26 @@
 -- What each entry of a run does to a domain's cap is as the law wants it.
-use Rattle.std.proofs.Common.{◌≡◌, ◌<◌, ℕ, suc, Bool, true, false, length, refl, arith, ap, subst, sym, ◌∙◌}
-use Rattle.std.specs.Prelude.{Option, Some, None, ℤ, pos, ◌≤ℤ◌}
+use Rattle.std.proofs.Common.{◌≡◌, ◌<◌, ℕ, suc, true, length, refl, arith, subst, sym, ◌∙◌}
+use Rattle.std.specs.Prelude.{Option, Some, None}
 use Rattle.std.proofs.Math.Decide.{dec_le}
-use Rattle.sched_base.specs.Numbers.{moment}
 use Rattle.sched_model.specs.declared.action.Action.{Action}
 use Rattle.sched_model.specs.declared.action.Action.TheVariants.{Stall, Xl, Moved, DomMoved, Wake, Block, Slice, Repl, Refill, Arrive, Decide, Leave, Save}
 use Rattle.sched_model.specs.declared.event.Event.{Event}
 use Rattle.sched_model.specs.declared.event.Entry.{Entry}
 use Rattle.sched_model.specs.declared.machine.Machine.{Machine}
 use Rattle.sched_model.specs.declared.state.State.{State}
-use Rattle.sched_model.specs.declared.state.Credit2Domain.{Credit2Domain}
 use Rattle.sched_model.specs.Checked.{IsChecked}
-use Rattle.sched_model.specs.Opening.{opening, core_count}
+use Rattle.sched_model.specs.Opening.{core_count}
 use Rattle.sched_model.specs.Machine.{is_enabled, event_of, after}
 use Rattle.sched_model.specs.Runs.{Reached, action_of, end_of, after_quiet, after_event, after_entry, IsNext, IsNextEvent}
 use Rattle.term_laws.specs.RtdsTerm.{late_of, late_now}
 use Rattle.term_laws.proofs.Deciding.{decides}
 use Rattle.term_laws.proofs.ReachedStates.{IsReached, reached_opening, reached_next}
-use Rattle.cap_laws.specs.CapTerm.{credit2_in}
-use Rattle.cap_laws.proofs.CapTracks.{Stops, EventTracks, CapTracks, on_core, due_at, decided_for}
-use Rattle.cap_laws.proofs.StepsState.{Stands, stands, HomeOf, home_here, on_is, on_one, on_low}
+use Rattle.cap_laws.proofs.CapTracks.{CapTracks, on_core, decided_for}
+use Rattle.cap_laws.proofs.StepsState.{stands, HomeOf, home_here, on_is, on_one, on_low}
 use Rattle.cap_laws.proofs.StepsHolds.{StateHolds, StepGives}
 use Rattle.cap_laws.proofs.StepsDecide.{decides_here}
 use Rattle.cap_laws.proofs.StepsActions.{action_gives}
-use Rattle.cap_laws.proofs.StepsStill.{quiet_none, still_tracks, no_record, no_core, high_tracks}
+use Rattle.cap_laws.proofs.StepsStill.{quiet_none, still_tracks, no_core, high_tracks}
 use Rattle.cap_laws.proofs.StepsBegun.{nobody_at_first, full_at_first}
 
 -- what is known of the states of runs

@@ -1,5 +1,5 @@
 -- Each action, and what becomes of a domain that a pool has.
-use Rattle.std.proofs.Common.{◌≡◌, ◌≢◌, ℕ, true, refl, subst, sym, ◌∙◌}
+use Rattle.std.proofs.Common.{◌≡◌, ℕ, true, refl, subst, sym, ◌∙◌}
 use Rattle.std.specs.Prelude.{Option, Some, None, slice_get}
 use Rattle.std.proofs.Math.Decide.{ℕ_discrete}
 use Rattle.sched_model.specs.declared.action.Action.{Action}
@@ -7,13 +7,12 @@ use Rattle.sched_model.specs.declared.action.Action.TheVariants.{Stall, Xl, Move
 use Rattle.sched_model.specs.declared.machine.Machine.{Machine}
 use Rattle.sched_model.specs.declared.work.CommandLine.{CommandLine}
 use Rattle.sched_model.specs.declared.state.State.{State}
-use Rattle.sched_model.specs.declared.state.Pool.{Pool}
 use Rattle.sched_model.specs.Checked.{IsChecked}
 use Rattle.sched_model.specs.Machine.{is_enabled, event_of, after, verdict}
 use Rattle.term_laws.proofs.Plans.{IfOk}
 use Rattle.term_laws.proofs.ActsIn.{acts_in}
 use Rattle.term_laws.proofs.Deciding.{decides, same_no}
-use Rattle.cap_laws.proofs.StepsSame.{Same, same_refl}
+use Rattle.cap_laws.proofs.StepsSame.{same_refl}
 use Rattle.cap_laws.proofs.StepsSameAt.{SameAt, LeavesIt, PlanLeaves, sat_after}
 use Rattle.cap_laws.proofs.StepsSameMoved.{sat_dom_moved}
 use Rattle.cap_laws.proofs.StepsState.{Stands, HomeOf}

@@ -1,6 +1,6 @@
 -- The opening: no core has a unit, and each budget is that of the cap.
-use Rattle.std.proofs.Common.{◌≡◌, ◌+◌, ◌-◌, ℕ, zero, suc, Bool, true, false, List, [], ◌∷◌, length, refl, ap, subst, sym, ◌∙◌, inl, inr, cond, replicate}
-use Rattle.std.specs.Prelude.{Option, Some, None, is_some, map, ◌==◌, ◌&&◌, ℤ, pos}
+use Rattle.std.proofs.Common.{◌≡◌, ◌+◌, ◌-◌, ℕ, suc, false, List, [], ◌∷◌, length, refl, subst, sym, ◌∙◌, inl, inr, cond}
+use Rattle.std.specs.Prelude.{Option, Some, None, map, ◌==◌, ◌&&◌, pos}
 use Rattle.sched_base.specs.Numbers.{domain as domain_number}
 use Rattle.sched_base.specs.Credit2Numbers.{total}
 use Rattle.sched_base.specs.declared.UnitId.{UnitId}
@@ -26,9 +26,8 @@ use Rattle.sched_model.specs.Policy.{credit2_record, joined_records, changed_rec
 use Rattle.sched_model.specs.Pool.{queue_units, queue_if_off, with_domain, is_off, set_params, unit_count}
 use Rattle.sched_model.specs.Opening.{opening, with_domains, with_configured, with_pins, most_pools, core_count, fresh_vcpu}
 use Rattle.sched_model.specs.Actions.{home_of_core, home_of_domain}
-use Rattle.sched_laws.proofs.EachPlace.{by_option, by_cond, found_at, is_empty, read_put_at, EachPlace-empty}
+use Rattle.sched_laws.proofs.EachPlace.{by_option, by_cond, is_empty, read_put_at, EachPlace-empty}
 use Rattle.sched_laws.proofs.Opened.{read_pools}
-use Rattle.term_laws.specs.RtdsTerm.{core_in}
 use Rattle.term_laws.proofs.SamePool.{cur_in}
 use Rattle.term_laws.proofs.Beginning.{nobody_runs}
 use Rattle.cap_laws.specs.CapTerm.{credit2_in}

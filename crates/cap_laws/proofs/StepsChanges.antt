@@ -1,6 +1,6 @@
 -- Changes of parameters that set no cap of the domain leave it as it is.
-use Rattle.std.proofs.Common.{◌≡◌, ◌≢◌, ◌<◌, ℕ, zero, suc, Bool, true, false, List, [], ◌∷◌, refl, arith, ap, subst, sym, ◌∙◌, cond}
-use Rattle.std.specs.Prelude.{Option, Some, None, option_map, slice_get, slice_set, map, ◌==◌, ◌%◌}
+use Rattle.std.proofs.Common.{◌≡◌, ◌≢◌, ℕ, Bool, true, false, List, refl, arith, ap, subst, sym, cond}
+use Rattle.std.specs.Prelude.{Option, Some, None, option_map, ◌==◌, ◌%◌}
 use Rattle.std.proofs.Math.Decide.{ℕ_discrete}
 use Rattle.sched_base.specs.Numbers.{moment}
 use Rattle.sched_base.specs.declared.UnitId.{UnitId}
@@ -13,17 +13,16 @@ use Rattle.sched_model.specs.declared.state.Credit2Unit.{Credit2Unit}
 use Rattle.sched_model.specs.declared.state.Credit2Domain.{Credit2Domain}
 use Rattle.sched_model.specs.declared.state.Credit2Records.{Credit2Records}
 use Rattle.sched_model.specs.declared.state.Records.TheVariants.{Credit2Pool, RtdsPool, ArincPool, NullPool}
-use Rattle.sched_model.specs.Places.{at_place, change_at, change_each}
+use Rattle.sched_model.specs.Places.{at_place, change_at}
 use Rattle.sched_model.specs.Credit2.{max_weight, set_weight, set_cap, change_domain}
 use Rattle.sched_model.specs.Policy as policy
 use Rattle.sched_model.specs.Policy.{credit2_record, changed_records}
 use Rattle.sched_model.specs.Pool.{set_params, set_pending, is_of_domain}
 use Rattle.sched_laws.proofs.EachPlace.{by_cond}
 use Rattle.term_laws.proofs.RtdsSteps.{at_place-change_at, at_place-change_at_other}
-use Rattle.term_laws.proofs.SamePool.{cur_in}
 use Rattle.cap_laws.proofs.CapTracks.{number_in}
 use Rattle.cap_laws.proofs.StepsDomain.{kept_map}
-use Rattle.cap_laws.proofs.StepsSame.{RecordGoes, record_same, record_trans, SameRecord, same_record, SameCore, core_refl, Same, same_of, same_as, same_refl, same_change_each, each_changed}
+use Rattle.cap_laws.proofs.StepsSame.{RecordGoes, record_same, record_trans, SameRecord, same_record, SameCore, core_refl, Same, same_of, same_change_each}
 
 -- a record that is changed, and goes on
 pub record_map : (f : Credit2Domain → Credit2Domain) (o : Option Credit2Domain) → ((x : Credit2Domain) → RecordGoes x (f x)) → SameRecord o (option_map f o)

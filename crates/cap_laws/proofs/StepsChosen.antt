@@ -1,8 +1,7 @@
 -- What a decision does to the record of one domain: its unit that the core had gives back what it holds, and the one that the core takes has a part of the budget.
-use Rattle.std.proofs.Common.{◌≡◌, ◌≢◌, ◌<◌, ◌≤◌, ◌+◌, ◌-◌, ℕ, zero, suc, Bool, true, false, List, [], ◌∷◌, refl, arith, ap, subst, sym, ◌∙◌, cond, inl, inr}
+use Rattle.std.proofs.Common.{◌≡◌, ◌≢◌, ◌<◌, ◌≤◌, ◌+◌, ◌-◌, ℕ, zero, suc, Bool, true, List, refl, arith, ap, subst, sym, ◌∙◌, cond, inl, inr}
 use Rattle.std.specs.Prelude.{Option, Some, None, slice_get, map, length, ◌==◌, ◌||◌, ℤ, pos, negsuc, ◌+ℤ◌, ◌-ℤ◌, ◌≤ℤ◌, int_lt}
 use Rattle.std.proofs.lemmas.Int.{ints, clamps}
-use Rattle.std.proofs.Math.Decide.{ℕ_discrete}
 use Rattle.sched_base.specs.Credit2Numbers.{above_zero, raise, take, quota, total}
 use Rattle.sched_model.specs.declared.state.Credit2Unit.{Credit2Unit}
 use Rattle.sched_model.specs.declared.state.Credit2Domain.{Credit2Domain}
@@ -11,8 +10,7 @@ use Rattle.sched_model.specs.Eligible.{has_budget}
 use Rattle.sched_model.specs.Credit2.{burn_unit, burn_units, give_back, take_budget}
 use Rattle.sched_laws.proofs.EachPlace.{by_cond}
 use Rattle.sched_laws.proofs.Sound.{read_change_item}
-use Rattle.cap_laws.proofs.CapTracks.{Stops, GivesBack}
-use Rattle.cap_laws.proofs.StepsDomain.{item_at, item_other, ArePast, past_item, burn_some, burned_now, held_after, is_capped, Kept, kept_same, kept_trans, kept_map, kept_burned, past_burned}
+use Rattle.cap_laws.proofs.StepsDomain.{item_at, item_other, ArePast, past_item, burned_now, held_after, is_capped, Kept, kept_same, kept_trans, kept_map, kept_burned}
 
 -- the core's own unit is charged and gives back
 abbrev pub own_charged : ℕ → ℕ → Option ℕ → Credit2Domain → Credit2Domain

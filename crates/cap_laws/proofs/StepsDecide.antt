@@ -1,11 +1,10 @@
 -- A core decides: what becomes of a domain, in its pool and in the state.
-use Rattle.std.proofs.Common.{◌≡◌, ◌≢◌, ◌<◌, ℕ, Bool, true, false, refl, arith, ap, subst, sym, ◌∙◌}
-use Rattle.std.specs.Prelude.{Option, Some, None, option_map, is_some, slice_get, ℤ, pos, ◌+ℤ◌}
+use Rattle.std.proofs.Common.{◌≡◌, ◌≢◌, ◌<◌, ℕ, true, refl, arith, ap, subst, sym, ◌∙◌}
+use Rattle.std.specs.Prelude.{Option, Some, None, option_map, is_some, slice_get, pos, ◌+ℤ◌}
 use Rattle.std.proofs.lemmas.Int.{ints}
 use Rattle.std.proofs.Math.Decide.{ℕ_discrete}
 use Rattle.sched_base.specs.Credit2Numbers.{above_zero}
 use Rattle.sched_model.specs.declared.action.Action.TheVariants.{Decide}
-use Rattle.sched_model.specs.declared.event.Event.{Event}
 use Rattle.sched_model.specs.declared.machine.Machine.{Machine}
 use Rattle.sched_model.specs.declared.state.State.{State}
 use Rattle.sched_model.specs.declared.state.Pool.{Pool}
@@ -20,7 +19,7 @@ use Rattle.sched_model.specs.Pool.{after_in, settled, lateness}
 use Rattle.sched_model.specs.Machine.{after, event_of}
 use Rattle.sched_laws.proofs.EachPlace.{is_empty}
 use Rattle.sched_laws.proofs.Lists.{test_at-some, is_some_at}
-use Rattle.term_laws.specs.RtdsTerm.{late_of, late_now, core_in}
+use Rattle.term_laws.specs.RtdsTerm.{late_of, late_now}
 use Rattle.term_laws.proofs.RtdsSteps.{at_place-change_at, at_place-change_at_other}
 use Rattle.term_laws.proofs.SamePool.{cur_in}
 use Rattle.term_laws.proofs.TermState.{core_is_in}
@@ -28,11 +27,11 @@ use Rattle.term_laws.proofs.ActsIn.{home_pools_same}
 use Rattle.term_laws.proofs.Deciding as deciding
 use Rattle.term_laws.proofs.Deciding.{late_other}
 use Rattle.cap_laws.specs.CapTerm.{credit2_in}
-use Rattle.cap_laws.proofs.CapTracks.{Stops, Decides, EventTracks, cap_at, number_in, on_core, decided_for}
+use Rattle.cap_laws.proofs.CapTracks.{Decides, cap_at, number_in, on_core, decided_for}
 use Rattle.cap_laws.proofs.StepsDomain.{ArePast}
 use Rattle.cap_laws.proofs.StepsSame.{same_record}
 use Rattle.cap_laws.proofs.StepsState.{Stands, HomeOf, credit2_is, on_is, on_one, on_core_cur, are_past, is_recorded}
-use Rattle.cap_laws.proofs.StepsHolds.{StepGives, OnIt, PoolHolds, StateHolds, holds_in, holds_out, cap_of, on_before, on_after, was, is_now, caps_same}
+use Rattle.cap_laws.proofs.StepsHolds.{StepGives, PoolHolds, StateHolds, holds_in, holds_out, cap_of, on_before, on_after, was, is_now, caps_same}
 use Rattle.cap_laws.proofs.StepsDeciding.{the_decision, next_pool, core_next, cur_here, cur_there, none_after, some_after, holds_decided, capped_decides}
 
 module _ (m : Machine) (checked : IsChecked m) (d : ℕ) (s : State) (n : ℕ) (k : Stands m s) (k2 : Stands m (after m s s.now (Decide n))) (dec : deciding.Decides m s s.now n) where
@@ -82,10 +81,10 @@ module _ (m : Machine) (checked : IsChecked m) (d : ℕ) (s : State) (n : ℕ) (
       let e = is_core r late is in
       subst (λ j. (late ≡ late_now s j) × (on_core s2 d j ≡ decided_for d (event_of m s s.now (Decide n)))) e (
         (
-          let is_n : late_of n (event_of m s s.now (Decide n)) ≡ Some late = subst (λ j. late_of j (event_of m s s.now (Decide n)) ≡ Some late) (sym e) is in
-          let e2 : Some late ≡ Some (lateness s.now dec.core) = sym is_n ∙ dec.late in
-          let e3 : late ≡ lateness s.now dec.core = cc in
-          e3 ∙ sym late_is),
+            let is_n : late_of n (event_of m s s.now (Decide n)) ≡ Some late = subst (λ j. late_of j (event_of m s s.now (Decide n)) ≡ Some late) (sym e) is in
+            let e2 : Some late ≡ Some (lateness s.now dec.core) = sym is_n ∙ dec.late in
+            let e3 : late ≡ lateness s.now dec.core = cc in
+            e3 ∙ sym late_is),
         on_next ∙ prints,
       )
 

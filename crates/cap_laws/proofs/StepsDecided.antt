@@ -8,7 +8,7 @@ use Rattle.sched_model.specs.declared.state.Credit2Domain.{Credit2Domain}
 use Rattle.sched_model.specs.Eligible.{has_budget}
 use Rattle.cap_laws.proofs.CapTracks.{Stops, GivesBack}
 use Rattle.cap_laws.proofs.StepsDomain.{ArePast, Kept, kept_same, kept_trans}
-use Rattle.cap_laws.proofs.StepsChosen.{own_charged, was_reset, has_taken, now_from, chosen_domain, part_of, HoldsIt, given_by, own_cap, own_is, own_other, own_past, reset_cap, reset_budget, reset_kept, taken_cap, taken_is, taken_other, holds_taken, from_cap, from_budget, from_other, from_holds, from_burned, part_low, split_budget, budget_above}
+use Rattle.cap_laws.proofs.StepsChosen.{own_charged, was_reset, has_taken, now_from, chosen_domain, part_of, given_by, own_cap, own_is, own_other, own_past, reset_cap, reset_budget, reset_kept, taken_cap, taken_is, taken_other, holds_taken, from_cap, from_budget, from_other, from_holds, from_burned, part_low, split_budget, budget_above}
 
 -- a core decides at t: it had this unit of the domain, and now has that; the domain's record x becomes y, and the unit takes so much
 pub record DomainDecides (t : ℕ) (had has : Option ℕ) (taken : ℤ) (x y : Credit2Domain) : Type 0 where

@@ -1,10 +1,8 @@
 -- A core of the pool that has a domain decides: what becomes of the domain there.
-use Rattle.std.proofs.Common.{◌≡◌, ◌≢◌, ◌<◌, ◌+◌, ℕ, Bool, true, false, List, refl, ap, subst, sym, ◌∙◌}
+use Rattle.std.proofs.Common.{◌≡◌, ◌≢◌, ◌<◌, ◌+◌, ℕ, false, refl, ap, subst, sym, ◌∙◌}
 use Rattle.std.specs.Prelude.{Option, Some, None, option_map, slice_get, ℤ, pos, ◌+ℤ◌, ◌≤ℤ◌}
 use Rattle.std.proofs.Math.Decide.{ℕ_discrete}
 use Rattle.sched_base.specs.Numbers.{moment}
-use Rattle.sched_base.specs.declared.Moment.{Moment}
-use Rattle.sched_base.specs.declared.UnitId.{UnitId}
 use Rattle.sched_model.specs.declared.ask.Ask.{Ask}
 use Rattle.sched_model.specs.declared.config.SchedKind.{SchedKind}
 use Rattle.sched_model.specs.declared.config.SchedKind.TheVariants as kinds
@@ -26,8 +24,7 @@ use Rattle.term_laws.proofs.SamePool.{cur_in}
 use Rattle.term_laws.proofs.TermPool.{at_place-put_at}
 use Rattle.term_laws.proofs.Track.{cur_decided, kind_decided}
 use Rattle.cap_laws.proofs.CapTracks.{Stops, Takes, Decides, number_in}
-use Rattle.cap_laws.proofs.StepsDomain.{ArePast, Kept}
-use Rattle.cap_laws.proofs.StepsDecided.{DomainDecides}
+use Rattle.cap_laws.proofs.StepsDomain.{ArePast}
 use Rattle.cap_laws.proofs.StepsRecords.{RecordDecides, PoolDecides, pool_decides}
 use Rattle.cap_laws.proofs.StepsSame.{due_in, Same, same_refl, same_settled}
 use Rattle.cap_laws.proofs.StepsState.{credit2_pool}

@@ -1,6 +1,6 @@
 -- What a charge, a reset, a choice and a refill do to the record of one domain.
-use Rattle.std.proofs.Common.{◌≡◌, ◌≢◌, ◌<◌, ◌≤◌, ◌+◌, ◌-◌, ℕ, zero, suc, Bool, true, false, List, [], ◌∷◌, refl, arith, ap, subst, sym, ◌∙◌, cond, inl, inr}
-use Rattle.std.specs.Prelude.{Option, Some, None, option_map, slice_get, map, is_some, ◌==◌, ℤ, pos, ◌+ℤ◌, ◌-ℤ◌}
+use Rattle.std.proofs.Common.{◌≡◌, ◌≢◌, ◌<◌, ◌≤◌, ◌-◌, ℕ, zero, suc, Bool, false, List, [], ◌∷◌, refl, arith, ap, subst, sym, ◌∙◌, cond, inl, inr}
+use Rattle.std.specs.Prelude.{Option, Some, None, slice_get, map, ◌==◌, ℤ, pos, ◌+ℤ◌, ◌-ℤ◌}
 use Rattle.std.proofs.lemmas.Int.{ints}
 use Rattle.sched_base.specs.Credit2Numbers.{burned_credit, burned_residual}
 use Rattle.sched_model.specs.declared.state.Credit2Unit.{Credit2Unit}

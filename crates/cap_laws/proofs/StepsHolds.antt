@@ -18,7 +18,7 @@ use Rattle.cap_laws.specs.CapTerm.{cap_set, refills, cap_after, credit2_in}
 use Rattle.cap_laws.proofs.CapTracks.{Stops, GoesOn, EventTracks, cap_at, number_in, on_core, due_at}
 use Rattle.cap_laws.proofs.StepsDomain.{Kept}
 use Rattle.cap_laws.proofs.StepsSame.{due_in, RecordGoes, SameRecord, Same}
-use Rattle.cap_laws.proofs.StepsState.{HomeOf, credit2_is, on_is, due_is}
+use Rattle.cap_laws.proofs.StepsState.{credit2_is, on_is, due_is}
 
 -- the unit runs, and a core that has it is due in time
 pub record OnIt (x : Credit2Domain) (n : ℕ) (o : Option Moment) : Type 0 where

@@ -1,5 +1,5 @@
 -- The domain itself moves: no core has a unit of it, and it has no cap then.
-use Rattle.std.proofs.Common.{◌≡◌, ◌≢◌, ◌<◌, ◌+◌, ℕ, Bool, true, false, List, [], ◌∷◌, length, refl, ap, subst, sym, ◌∙◌, cond, inl, inr}
+use Rattle.std.proofs.Common.{◌≡◌, ◌+◌, ℕ, Bool, true, false, List, [], ◌∷◌, refl, ap, subst, sym, ◌∙◌, cond, inl, inr}
 use Rattle.std.specs.Prelude.{Option, Some, None, option_map, is_some, ◌==◌, ◌||◌, ◌&&◌}
 use Rattle.std.specs.List.{list_any}
 use Rattle.std.proofs.Math.Decide.{ℕ_discrete}
@@ -15,27 +15,23 @@ use Rattle.sched_model.specs.declared.state.Resource.{Resource}
 use Rattle.sched_model.specs.declared.state.Records.{Records}
 use Rattle.sched_model.specs.declared.state.Records.TheVariants.{Credit2Pool, RtdsPool, ArincPool, NullPool}
 use Rattle.sched_model.specs.declared.state.Credit2Domain.{Credit2Domain}
-use Rattle.sched_model.specs.Places.{at_place, put_at, clear_at, test_at, change_at, numbered, numbers_from}
+use Rattle.sched_model.specs.Places.{at_place, put_at, test_at, change_at, numbered, numbers_from}
 use Rattle.sched_model.specs.State.{is_runnable}
 use Rattle.sched_model.specs.Credit2.{fresh_domain}
 use Rattle.sched_model.specs.Policy.{default_dom_params, joined_records, credit2_record}
 use Rattle.sched_model.specs.Policy as policy
 use Rattle.sched_model.specs.Pool.{settled, without_domain, with_domain, is_of_domain, is_off, queue_units, queue_if_off, unit_count, reconsidered, home_cores}
-use Rattle.sched_model.specs.Actions.{home_of_domain, change_pool}
-use Rattle.sched_model.specs.Machine.{after, event_of, after_dom_moved, left_by, joined_by, is_null}
-use Rattle.sched_laws.proofs.EachPlace.{by_option, by_cond, at_place-change_each, at_place-put_at, read_change_at, read_put_at, place_below, is_empty}
+use Rattle.sched_model.specs.Actions.{change_pool}
+use Rattle.sched_model.specs.Machine.{after, event_of, left_by, joined_by, is_null}
+use Rattle.sched_laws.proofs.EachPlace.{by_cond, at_place-change_each, at_place-put_at, read_change_at, read_put_at, place_below}
 use Rattle.sched_laws.proofs.Bools.{and_left, and_right, not_true, or_left, or_right, is_same, clash}
 use Rattle.sched_laws.proofs.Lists.{test_at-some, some-test_at, none_passes, at_numbered, is_some_at, some_is, test_at-clear_at_false}
 use Rattle.sched_laws.proofs.Opened.{with_domain-resources}
-use Rattle.sched_laws.proofs.OwnUnits.{IsThere}
-use Rattle.sched_laws.proofs.Choices.{IfUnit}
-use Rattle.term_laws.specs.RtdsTerm.{moves}
 use Rattle.term_laws.proofs.SamePool.{cur_in}
-use Rattle.term_laws.proofs.RtdsSteps.{at_place-change_at, at_place-change_at_other}
 use Rattle.term_laws.proofs.ActsIn.{ActsIn, home_pools_same}
 use Rattle.cap_laws.specs.CapTerm.{refills, cap_set}
-use Rattle.cap_laws.proofs.CapTracks.{EventTracks, cap_at, number_in, on_core}
-use Rattle.cap_laws.proofs.StepsState.{Stands, HomeOf, home_is, credit2_is, on_is, unit_of_number, no_unit_there}
+use Rattle.cap_laws.proofs.CapTracks.{cap_at, number_in, on_core}
+use Rattle.cap_laws.proofs.StepsState.{Stands, HomeOf, home_is, credit2_is, on_is, no_unit_there}
 use Rattle.cap_laws.proofs.StepsHolds.{StepGives, cap_of}
 
 -- the cores of a pool keep their units

@@ -1,5 +1,5 @@
 -- The plan of a command sets a cap exactly where the command does.
-use Rattle.std.proofs.Common.{◌≡◌, ◌≢◌, ℕ, suc, Bool, true, false, not, List, refl, arith, ap, subst, sym, ◌∙◌, cond}
+use Rattle.std.proofs.Common.{◌≡◌, ℕ, suc, Bool, true, false, not, List, refl, arith, ap, subst, sym, ◌∙◌, cond}
 use Rattle.std.specs.Prelude.{Option, Some, None, Result, Ok, Err, nat_le, nat_lt, sum_by, option_map, is_some, slice_get, ◌/◌, ◌-◌, ◌&&◌, ◌||◌, ◌==◌}
 use Rattle.sched_base.specs.Numbers.{span, pool as pool_number, domain as domain_number}
 use Rattle.sched_model.specs.declared.command.Command.{Command}

@@ -1,5 +1,5 @@
 -- The decision of a Credit2 pool, and what becomes of one domain of it.
-use Rattle.std.proofs.Common.{◌≡◌, ◌≢◌, ◌<◌, ◌≤◌, ◌+◌, ◌*◌, ℕ, zero, suc, Bool, true, false, List, [], ◌∷◌, refl, arith, ap, subst, sym, ◌∙◌, cond}
+use Rattle.std.proofs.Common.{◌≡◌, ◌≢◌, ◌<◌, ◌≤◌, ◌+◌, ◌*◌, ℕ, zero, suc, Bool, true, false, List, refl, arith, ap, subst, sym, ◌∙◌, cond}
 use Rattle.std.specs.Prelude.{Option, Some, None, option_map, slice_get, map, min, ◌==◌, ℤ, pos, negsuc, ◌+ℤ◌, ◌≤ℤ◌}
 use Rattle.std.proofs.lemmas.Int.{ints}
 use Rattle.std.proofs.Math.Decide.{ℕ_discrete}
@@ -13,7 +13,7 @@ use Rattle.sched_model.specs.declared.state.Credit2Unit.{Credit2Unit}
 use Rattle.sched_model.specs.declared.state.Credit2Domain.{Credit2Domain}
 use Rattle.sched_model.specs.declared.state.Credit2Records.{Credit2Records}
 use Rattle.sched_model.specs.declared.state.Records.TheVariants.{Credit2Pool}
-use Rattle.sched_model.specs.Places.{at_place, change_at, change_each, change_item}
+use Rattle.sched_model.specs.Places.{at_place, change_at, change_item}
 use Rattle.sched_model.specs.Eligible.{Decision, has_budget}
 use Rattle.sched_model.specs.Credit2.{max_weight, burn_unit, burn_units, burn_all, change_domain, give_back, burn_cur, choice, domain_has_budget, reset, resets_for, take_budget, best_other, slice_of, set_running, switch_off, decide, choose2}
 use Rattle.sched_laws.proofs.EachPlace.{at_place-change_each}

@@ -1,6 +1,6 @@
 -- A domain is refilled: what becomes of it.
-use Rattle.std.proofs.Common.{◌≡◌, ◌<◌, ◌+◌, ◌*◌, ℕ, Bool, true, false, refl, arith, ap, subst, sym, ◌∙◌}
-use Rattle.std.specs.Prelude.{Option, Some, None, option_map, is_some, slice_get, ◌==◌, ℤ, pos, ◌+ℤ◌, ◌-ℤ◌, ◌≤ℤ◌}
+use Rattle.std.proofs.Common.{◌≡◌, ◌<◌, ◌*◌, ℕ, true, false, refl, arith, ap, subst, sym, ◌∙◌}
+use Rattle.std.specs.Prelude.{Option, Some, None, option_map, ◌==◌, ℤ, pos, ◌+ℤ◌, ◌-ℤ◌, ◌≤ℤ◌}
 use Rattle.std.specs.Int.{int_min}
 use Rattle.std.proofs.lemmas.Int.{ints, clamps}
 use Rattle.sched_base.specs.Credit2Numbers.{total}
@@ -13,8 +13,8 @@ use Rattle.sched_model.specs.declared.state.Records.TheVariants.{Credit2Pool, Rt
 use Rattle.sched_model.specs.declared.state.Credit2Unit.{Credit2Unit}
 use Rattle.sched_model.specs.declared.state.Credit2Domain.{Credit2Domain}
 use Rattle.sched_model.specs.Checked.{IsChecked}
-use Rattle.sched_model.specs.Places.{at_place, test_at, change_at}
-use Rattle.sched_model.specs.Credit2.{max_weight, burn_unit, burn_units, periods, held_by_running, refill_domain, refilled}
+use Rattle.sched_model.specs.Places.{at_place, test_at}
+use Rattle.sched_model.specs.Credit2.{max_weight, burn_unit, burn_units, periods, held_by_running, refill_domain}
 use Rattle.sched_model.specs.Policy as policy
 use Rattle.sched_model.specs.Policy.{credit2_record}
 use Rattle.sched_model.specs.Pool.{after_in, settled, with_records}
@@ -25,11 +25,11 @@ use Rattle.term_laws.proofs.RtdsSteps.{at_place-change_at}
 use Rattle.term_laws.proofs.SamePool.{cur_in}
 use Rattle.term_laws.proofs.ActsIn.{ActsIn, home_pools_same}
 use Rattle.cap_laws.specs.CapTerm.{ends_term}
-use Rattle.cap_laws.proofs.CapTracks.{Stops, Refills, EventTracks, number_in}
+use Rattle.cap_laws.proofs.CapTracks.{Stops, Refills, number_in}
 use Rattle.cap_laws.proofs.StepsDomain.{ArePast, Kept, kept_burned, burned_now}
 use Rattle.cap_laws.proofs.StepsSame.{due_in, Same, same_refl, same_settled}
-use Rattle.cap_laws.proofs.StepsState.{Stands, HomeOf, home_is, credit2_is, credit2_pool, are_past}
-use Rattle.cap_laws.proofs.StepsHolds.{StepGives, OnIt, PoolHolds, StateHolds, on_it_kept, holds_in, holds_out, cap_of, on_before, on_after, was, is_now}
+use Rattle.cap_laws.proofs.StepsState.{Stands, HomeOf, home_is, credit2_is, are_past}
+use Rattle.cap_laws.proofs.StepsHolds.{StepGives, PoolHolds, StateHolds, on_it_kept, holds_in, holds_out, cap_of, on_before, on_after, was, is_now}
 
 min_right : (a b : ℤ) → int_min a b ≤ℤ b
 min_right a b = omega (arith, ints, clamps)

@@ -1,6 +1,6 @@
 -- The events of a pool that leave one domain of it as it is: the cores that have its units, their dues, and its Credit2 record.
-use Rattle.std.proofs.Common.{◌≡◌, ◌≢◌, ◌<◌, ◌+◌, ◌*◌, ℕ, Bool, true, false, List, [], ◌∷◌, refl, ap, subst, sym, ◌∙◌, cond}
-use Rattle.std.specs.Prelude.{Option, Some, None, option_map, slice_get, map, ◌/◌, ◌%◌, ◌&&◌, ◌==◌, ℤ, pos}
+use Rattle.std.proofs.Common.{◌≡◌, ◌≢◌, ◌+◌, ◌*◌, ℕ, true, false, List, [], ◌∷◌, refl, ap, subst, sym, ◌∙◌, cond}
+use Rattle.std.specs.Prelude.{Option, Some, None, option_map, ◌/◌, ◌%◌, ◌&&◌}
 use Rattle.std.proofs.Math.Decide.{ℕ_discrete}
 use Rattle.sched_base.specs.Numbers.{moment, domain as domain_number}
 use Rattle.sched_base.specs.declared.Moment.{Moment}
@@ -29,7 +29,7 @@ use Rattle.sched_laws.proofs.EachPlace.{by_option, by_test, by_cond, at_place-ch
 use Rattle.sched_laws.proofs.Lists.{test_at-change_at}
 use Rattle.term_laws.proofs.RtdsSteps.{at_place-change_at, at_place-change_at_other}
 use Rattle.term_laws.proofs.SamePool.{cur_in}
-use Rattle.cap_laws.proofs.CapTracks.{Stops, number_in}
+use Rattle.cap_laws.proofs.CapTracks.{number_in}
 use Rattle.cap_laws.proofs.StepsDomain.{Kept, kept_same, kept_trans}
 
 -- the due of a core

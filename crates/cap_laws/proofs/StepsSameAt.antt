@@ -1,5 +1,5 @@
 -- The actions that leave a domain as it is, in the pool that has it.
-use Rattle.std.proofs.Common.{◌≡◌, ◌≢◌, ◌+◌, ℕ, zero, suc, Bool, true, false, not, List, [], ◌∷◌, refl, arith, ap, subst, sym, ◌∙◌, cond, length}
+use Rattle.std.proofs.Common.{◌≡◌, ◌≢◌, ℕ, zero, suc, Bool, true, false, not, List, [], ◌∷◌, refl, arith, ap, subst, sym, ◌∙◌, length}
 use Rattle.std.specs.Prelude.{Option, Some, None, Ok, Err, Result, option_map, unwrap_or, slice_get, slice_set, ◌/◌, ◌==◌, ◌&&◌, is_some, is_none}
 use Rattle.std.proofs.Math.Decide.{ℕ_discrete}
 use Rattle.sched_base.specs.Numbers.{moment, span, domain as domain_number}

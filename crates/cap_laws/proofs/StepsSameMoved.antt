@@ -1,7 +1,6 @@
 -- The move of another domain leaves a domain as it is, in the pool that has it.
 use Rattle.std.proofs.Common.{◌≡◌, ◌≢◌, ℕ, Bool, true, false, List, refl, ap}
 use Rattle.std.specs.Prelude.{Option, Some, None, slice_set}
-use Rattle.sched_base.specs.declared.Span.{Span}
 use Rattle.sched_model.specs.declared.config.DomParams.{DomParams}
 use Rattle.sched_model.specs.declared.config.DomParams.TheVariants as dom_params
 use Rattle.sched_model.specs.declared.state.Domain.{Domain}

@@ -1,28 +1,20 @@
 -- The cap of a domain is set: what becomes of it.
-use Rattle.std.proofs.Common.{◌≡◌, ◌≢◌, ◌<◌, ◌+◌, ◌-◌, ℕ, suc, Bool, true, false, List, refl, arith, ap, subst, sym, ◌∙◌, cond}
-use Rattle.std.specs.Prelude.{Option, Some, None, Result, Ok, Err, option_map, is_some, slice_get, map, ◌==◌, ◌%◌, ℤ, pos, ◌+ℤ◌, ◌≤ℤ◌}
+use Rattle.std.proofs.Common.{◌≡◌, ◌+◌, ℕ, Bool, true, refl, arith, ap, subst, sym, ◌∙◌, cond}
+use Rattle.std.specs.Prelude.{Option, Some, None, option_map, is_some, ℤ, pos, ◌+ℤ◌}
 use Rattle.std.proofs.lemmas.Int.{ints}
 use Rattle.sched_base.specs.Numbers.{moment, domain as domain_number}
 use Rattle.sched_base.specs.Credit2Numbers.{total}
 use Rattle.sched_base.specs.declared.UnitId.{UnitId}
 use Rattle.sched_model.specs.declared.config.ParamChange.TheVariants as changes
-use Rattle.sched_model.specs.declared.config.SchedKind.TheVariants as kinds
-use Rattle.sched_model.specs.declared.event.Refusal.{Refusal}
-use Rattle.sched_model.specs.declared.event.Reply.{Reply}
-use Rattle.sched_model.specs.declared.plan.Plan.{Plan}
-use Rattle.sched_model.specs.declared.plan.Plan.TheVariants as plan
 use Rattle.sched_model.specs.declared.state.Resource.{Resource}
 use Rattle.sched_model.specs.declared.state.Pool.{Pool}
-use Rattle.sched_model.specs.declared.state.State.{State}
 use Rattle.sched_model.specs.declared.state.Records.{Records}
 use Rattle.sched_model.specs.declared.state.Records.TheVariants.{Credit2Pool, RtdsPool, ArincPool, NullPool}
 use Rattle.sched_model.specs.declared.state.Credit2Unit.{Credit2Unit}
 use Rattle.sched_model.specs.declared.state.Credit2Domain.{Credit2Domain}
-use Rattle.sched_model.specs.declared.state.Credit2Records.{Credit2Records}
-use Rattle.sched_model.specs.Places.{at_place, change_at, change_each}
+use Rattle.sched_model.specs.Places.{at_place, change_at}
 use Rattle.sched_model.specs.Credit2.{max_weight, burn_unit, burn_units, set_weight, set_cap, change_domain}
-use Rattle.sched_model.specs.Policy as policy
-use Rattle.sched_model.specs.Policy.{kind_of, credit2_record, changed_records}
+use Rattle.sched_model.specs.Policy.{credit2_record, changed_records}
 use Rattle.sched_model.specs.Pool.{set_params, settled, is_of_domain}
 use Rattle.sched_laws.proofs.EachPlace.{by_cond, at_place-change_each}
 use Rattle.sched_laws.proofs.Bools.{is_same}
@@ -30,11 +22,11 @@ use Rattle.sched_ranges.proofs.Budget.{get_map}
 use Rattle.term_laws.proofs.RtdsSteps.{at_place-change_at}
 use Rattle.term_laws.proofs.SamePool.{cur_in}
 use Rattle.cap_laws.proofs.CapTracks.{Stops, number_in}
-use Rattle.cap_laws.proofs.StepsDomain.{ArePast, Kept, get_of_map, burn_some, burned_now}
-use Rattle.cap_laws.proofs.StepsSame.{due_in, RecordGoes, Same, same_refl, same_settled}
+use Rattle.cap_laws.proofs.StepsDomain.{get_of_map, burn_some, burned_now}
+use Rattle.cap_laws.proofs.StepsSame.{due_in, Same, same_refl, same_settled}
 use Rattle.cap_laws.proofs.StepsChanges.{weight_goes}
 use Rattle.cap_laws.proofs.StepsState.{unit_of_number}
-use Rattle.cap_laws.proofs.StepsHolds.{OnIt, PoolHolds}
+use Rattle.cap_laws.proofs.StepsHolds.{PoolHolds}
 
 -- a unit after the cap is set
 abbrev pub emptied : Credit2Unit → Credit2Unit

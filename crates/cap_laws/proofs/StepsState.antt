@@ -5,7 +5,6 @@ use Rattle.std.proofs.Math.Decide.{ℕ_discrete}
 use Rattle.std.proofs.lemmas.Nat.{le-div}
 use Rattle.sched_base.specs.declared.Moment.{Moment}
 use Rattle.sched_base.specs.declared.UnitId.{UnitId}
-use Rattle.sched_model.specs.declared.config.DomConfig.{DomConfig}
 use Rattle.sched_model.specs.declared.machine.Machine.{Machine}
 use Rattle.sched_model.specs.declared.state.State.{State}
 use Rattle.sched_model.specs.declared.state.Pool.{Pool}
@@ -16,12 +15,12 @@ use Rattle.sched_model.specs.declared.state.Credit2Domain.{Credit2Domain}
 use Rattle.sched_model.specs.declared.state.Credit2Records.{Credit2Records}
 use Rattle.sched_model.specs.declared.state.Records.{Records}
 use Rattle.sched_model.specs.declared.state.Records.TheVariants.{Credit2Pool, RtdsPool, ArincPool, NullPool}
-use Rattle.sched_model.specs.Places.{at_place, test_at, same_unit}
+use Rattle.sched_model.specs.Places.{at_place, test_at}
 use Rattle.sched_model.specs.Checked.{IsChecked}
 use Rattle.sched_model.specs.Opening.{core_count}
 use Rattle.sched_model.specs.Policy.{credit2_record}
 use Rattle.sched_model.specs.Actions.{home_of_core, home_of_domain}
-use Rattle.sched_model.specs.Runs.{Reached, begun, after_entries}
+use Rattle.sched_model.specs.Runs.{Reached}
 use Rattle.sched_laws.specs.Each.{EachPlace}
 use Rattle.sched_laws.proofs.Bools.{both, is_same}
 use Rattle.sched_laws.proofs.Choices.{IfUnit, same_unit_same}
@@ -29,12 +28,12 @@ use Rattle.sched_laws.proofs.Counts.{total_two, one_at}
 use Rattle.sched_laws.proofs.EachPlace.{found_at, none_found, by_option, place_below, is_empty}
 use Rattle.sched_laws.proofs.Kept.{IsApart}
 use Rattle.sched_laws.proofs.Lists.{test_at-some, some-test_at, is_some_at}
-use Rattle.sched_laws.proofs.OnePlace.{core_places, places, one_same, OnePlace}
+use Rattle.sched_laws.proofs.OnePlace.{core_places, one_same}
 use Rattle.sched_laws.proofs.OwnUnits.{UnitsAreOwn, IsThere}
 use Rattle.sched_laws.proofs.SiblingsLaw.{some_processor}
 use Rattle.sched_ranges.specs.Ranges.{IsUnitOf}
 use Rattle.sched_ranges.proofs.Budget.{BudgetFits, Nobody}
-use Rattle.sched_ranges.proofs.BudgetWalk.{CountIs, CreditFits}
+use Rattle.sched_ranges.proofs.BudgetWalk.{CountIs}
 use Rattle.sched_ranges.proofs.Law.{StateFits, fits_in_runs}
 use Rattle.sched_records.specs.Records.{HasRecords}
 use Rattle.sched_records.proofs.Law.{has_records}
@@ -150,11 +149,11 @@ module _ (m : Machine) (s : State) (k : Known m s) (d i : ℕ) (p : Pool) (at : 
       elsewhere none j q at_j None is = refl
       elsewhere none j q at_j (Some c) is =
           no_unit_there s d i j r p q c k.apart at there at_j (k.own j q at_j) is (λ e. (
-              let at2 : at_place s.pools i ≡ Some q = subst (λ n. at_place s.pools n ≡ Some q) e at_j in
-              let same : Some p ≡ Some q = sym at ∙ at2 in
-              let e2 : p ≡ q = cc in
-              let e3 : None ≡ Some c = sym none ∙ ap (λ (x : Pool). at_place x.resources r) e2 ∙ is in
-              cc))
+          let at2 : at_place s.pools i ≡ Some q = subst (λ n. at_place s.pools n ≡ Some q) e at_j in
+          let same : Some p ≡ Some q = sym at ∙ at2 in
+          let e2 : p ≡ q = cc in
+          let e3 : None ≡ Some c = sym none ∙ ap (λ (x : Pool). at_place x.resources r) e2 ∙ is in
+          cc))
 
   pub on_is : (r : ℕ) → on_core s d r ≡ number_in d (cur_in (at_place p.resources r))
   on_is r = on_core_cur s d r ∙ cur_is r

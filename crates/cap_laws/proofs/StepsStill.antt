@@ -1,7 +1,6 @@
 -- Entries without an action, and a number that is of no domain.
-use Rattle.std.proofs.Common.{◌≡◌, ◌≢◌, ◌<◌, ◌+◌, ℕ, zero, suc, Bool, true, false, List, [], ◌∷◌, length, refl, arith, ap, subst, sym, ◌∙◌, cond}
+use Rattle.std.proofs.Common.{◌≡◌, ◌<◌, ◌+◌, ℕ, zero, suc, Bool, true, false, List, [], ◌∷◌, length, refl, arith, ap, subst, sym, ◌∙◌, cond}
 use Rattle.std.specs.Prelude.{Option, Some, None, Result, Ok, Err, is_some, slice_get, nat_lt, bytes_eq, ◌==◌, ◌-◌}
-use Rattle.sched_base.specs.declared.UnitId.{UnitId}
 use Rattle.sched_model.specs.declared.command.Command.{Command}
 use Rattle.sched_model.specs.declared.command.Command.TheVariants as command
 use Rattle.sched_model.specs.declared.command.Syntax.{Syntax}
@@ -17,7 +16,6 @@ use Rattle.sched_model.specs.declared.state.Pool.{Pool}
 use Rattle.sched_model.specs.declared.state.Resource.{Resource}
 use Rattle.sched_model.specs.declared.state.Credit2Domain.{Credit2Domain}
 use Rattle.sched_model.specs.Places.{at_place, test_at}
-use Rattle.sched_model.specs.Policy.{credit2_record}
 use Rattle.sched_model.specs.Actions.{home_of_core, home_of_domain}
 use Rattle.sched_model.specs.Commands.{domain_of, domain_named}
 use Rattle.sched_model.specs.Runs.{action_of}
@@ -26,7 +24,7 @@ use Rattle.sched_laws.proofs.Choices.{IfUnit}
 use Rattle.sched_laws.proofs.EachPlace.{by_option, by_cond, found_at, is_empty}
 use Rattle.sched_laws.proofs.Lists.{test_at-some, some-test_at, some_is}
 use Rattle.sched_laws.proofs.OwnUnits.{IsThere}
-use Rattle.term_laws.specs.RtdsTerm.{late_of, late_now, core_in, moves}
+use Rattle.term_laws.specs.RtdsTerm.{late_of, late_now, moves}
 use Rattle.term_laws.proofs.SamePool.{cur_in}
 use Rattle.term_laws.proofs.ReachedStates.{Known}
 use Rattle.cap_laws.specs.CapTerm.{credit2_in, cap_set, cap_in_command, cap_in_line, refills}

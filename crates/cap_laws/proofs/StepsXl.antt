@@ -1,6 +1,6 @@
 -- A line with a command: it sets the cap of the domain, or leaves the domain as it is.
-use Rattle.std.proofs.Common.{◌≡◌, ◌≢◌, ◌<◌, ℕ, suc, Bool, true, false, refl, ap, subst, sym, ◌∙◌, cond}
-use Rattle.std.specs.Prelude.{Option, Some, None, Result, Ok, Err, option_map, is_some, slice_get, nat_le, not, ◌&&◌, ◌==◌, ℤ, pos}
+use Rattle.std.proofs.Common.{◌≡◌, ℕ, suc, Bool, true, false, refl, ap, subst, sym, ◌∙◌, cond}
+use Rattle.std.specs.Prelude.{Option, Some, None, Result, Ok, Err, option_map, is_some, slice_get, nat_le, not, ◌&&◌, ◌==◌, pos}
 use Rattle.sched_base.specs.Numbers.{domain as domain_number}
 use Rattle.sched_base.specs.Credit2Numbers.{total}
 use Rattle.sched_model.specs.declared.action.Action.TheVariants.{Xl}
@@ -20,22 +20,21 @@ use Rattle.sched_model.specs.declared.state.Credit2Domain.{Credit2Domain}
 use Rattle.sched_model.specs.Places.{at_place, change_at, test_at}
 use Rattle.sched_model.specs.Policy.{kind_of, credit2_record}
 use Rattle.sched_model.specs.Pool.{settled, set_params, unit_count}
-use Rattle.sched_model.specs.Actions.{home_of_domain, change_pool}
-use Rattle.sched_model.specs.Commands.{is_kind, carried_out, pool_of_plan, change_home}
+use Rattle.sched_model.specs.Actions.{change_pool}
+use Rattle.sched_model.specs.Commands.{is_kind, carried_out, pool_of_plan}
 use Rattle.sched_model.specs.Machine.{after, after_command, event_of, verdict, settled_at, is_enabled, is_move_under_way}
 use Rattle.sched_laws.proofs.Bools.{clash, is_same, or_left, or_right}
-use Rattle.sched_laws.proofs.Lists.{some-test_at, is_some_at}
+use Rattle.sched_laws.proofs.Lists.{some-test_at}
 use Rattle.sched_records.specs.Records.{IsRecorded}
 use Rattle.term_laws.specs.RtdsTerm.{moves}
 use Rattle.term_laws.proofs.Plans.{PlanFits, IfOk}
 use Rattle.term_laws.proofs.RtdsSteps.{at_place-change_at}
-use Rattle.term_laws.proofs.SamePool.{cur_in}
 use Rattle.cap_laws.specs.CapTerm.{cap_set, ends_term, refills, credit2_in}
-use Rattle.cap_laws.proofs.CapTracks.{Stops, EventTracks, cap_at, number_in}
+use Rattle.cap_laws.proofs.CapTracks.{cap_at, number_in}
 use Rattle.cap_laws.proofs.StepsSameAt.{verdict_fits}
 use Rattle.cap_laws.proofs.StepsState.{Stands, HomeOf, home_is, credit2_is}
-use Rattle.cap_laws.proofs.StepsHolds.{StepGives, PoolHolds, StateHolds, holds_in, holds_out, cap_of, on_before, on_after, is_now}
-use Rattle.cap_laws.proofs.StepsPlans.{verdict_cap, event_sets, sets_it}
+use Rattle.cap_laws.proofs.StepsHolds.{StepGives, StateHolds, holds_in, holds_out, cap_of, on_before, on_after, is_now}
+use Rattle.cap_laws.proofs.StepsPlans.{verdict_cap, event_sets}
 use Rattle.cap_laws.proofs.StepsSet.{set_pool, set_curs, set_is, set_budget, set_stops, holds_set}
 
 -- a Credit2 pool has a record of its domain
