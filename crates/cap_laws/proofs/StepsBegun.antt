@@ -1,9 +1,8 @@
 -- The opening: no core has a unit, and each budget is that of the cap.
 use Rattle.std.proofs.Common.{◌≡◌, ◌+◌, ◌-◌, ℕ, suc, false, List, [], ◌∷◌, length, refl, subst, sym, ◌∙◌, inl, inr, cond}
-use Rattle.std.specs.Prelude.{Option, Some, None, map, ◌==◌, ◌&&◌, pos}
+use Rattle.std.specs.Prelude.{Option, Some, None, map, ◌==◌, pos}
 use Rattle.sched_base.specs.Numbers.{domain as domain_number}
 use Rattle.sched_base.specs.Credit2Numbers.{total}
-use Rattle.sched_base.specs.declared.UnitId.{UnitId}
 use Rattle.sched_base.specs.declared.Cores.{Cores}
 use Rattle.sched_model.specs.declared.config.DomConfig.{DomConfig}
 use Rattle.sched_model.specs.declared.config.PoolParams.{PoolParams}
@@ -19,11 +18,10 @@ use Rattle.sched_model.specs.declared.state.Credit2Domain.{Credit2Domain}
 use Rattle.sched_model.specs.declared.state.Records.{Records}
 use Rattle.sched_model.specs.declared.state.Records.TheVariants.{Credit2Pool, RtdsPool, ArincPool, NullPool}
 use Rattle.sched_model.specs.Places.{at_place, put_at, numbers_from}
-use Rattle.sched_model.specs.State.{is_runnable}
 use Rattle.sched_model.specs.Credit2.{fresh_domain}
 use Rattle.sched_model.specs.Policy as policy
 use Rattle.sched_model.specs.Policy.{credit2_record, joined_records, changed_records, fresh_records}
-use Rattle.sched_model.specs.Pool.{queue_units, queue_if_off, with_domain, is_off, set_params, unit_count}
+use Rattle.sched_model.specs.Pool.{with_domain, set_params, unit_count}
 use Rattle.sched_model.specs.Opening.{opening, with_domains, with_configured, with_pins, most_pools, core_count, fresh_vcpu}
 use Rattle.sched_model.specs.Actions.{home_of_core, home_of_domain}
 use Rattle.sched_laws.proofs.EachPlace.{by_option, by_cond, is_empty, read_put_at, EachPlace-empty}
@@ -32,6 +30,7 @@ use Rattle.term_laws.proofs.SamePool.{cur_in}
 use Rattle.term_laws.proofs.Beginning.{nobody_runs}
 use Rattle.cap_laws.specs.CapTerm.{credit2_in}
 use Rattle.cap_laws.proofs.CapTracks.{number_in, on_core}
+use Rattle.cap_laws.proofs.StepsMoved.{queue_keeps}
 use Rattle.cap_laws.proofs.StepsState.{unit_of_number, on_core_cur}
 
 -- no core has a unit
@@ -66,12 +65,6 @@ full_joined (NullPool kept) (dom_params.Credit2 weight percent) d count full = f
 full_joined (NullPool kept) (dom_params.Rtds period budget extra) d count full = full
 full_joined (NullPool kept) dom_params.Arinc653 d count full = full
 full_joined (NullPool kept) dom_params.Null d count full = full
-
-queue_keeps : (g d : ℕ) (ns : List ℕ) (pool : Pool) → (queue_units g d ns pool).scheduler.records ≡ pool.scheduler.records
-queue_keeps g d [] pool = refl
-queue_keeps g d (n ∷ ns) pool =
-    let u : UnitId = record { dom = domain_number d; n = n } in
-    queue_keeps g d ns (queue_if_off g u pool) ∙ by_cond (λ (q : Pool). q.scheduler.records ≡ pool.scheduler.records) (is_runnable g pool u && is_off pool u) _ _ (λ is. refl) (λ is. refl)
 
 pin_keeps : (records : Records) (d : ℕ) (n : ℕ) (cores : Cores) → changed_records records (changes.Pin (domain_number d) (Some n) cores) 0 ≡ records
 pin_keeps (Credit2Pool records) d n cores = refl

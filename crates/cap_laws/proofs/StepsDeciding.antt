@@ -28,7 +28,7 @@ use Rattle.cap_laws.proofs.StepsDomain.{ArePast}
 use Rattle.cap_laws.proofs.StepsRecords.{RecordDecides, PoolDecides, pool_decides}
 use Rattle.cap_laws.proofs.StepsSame.{due_in, Same, same_refl, same_settled}
 use Rattle.cap_laws.proofs.StepsState.{credit2_pool}
-use Rattle.cap_laws.proofs.StepsHolds.{OnIt, PoolHolds}
+use Rattle.cap_laws.proofs.StepsHolds.{OnIt, PoolHolds, on_it_kept}
 
 -- the due of a core after its decision
 due_decided : (t : ℕ) (d : Decision) (c : Resource) → (decided t d c).due ≡ d.due
@@ -113,17 +113,20 @@ module _ (g t : ℕ) (n : ℕ) (c : Resource) (p : Pool) (at : at_place p.resour
       (recorded : (y : Credit2Domain) → credit2_record the_decision.records d ≡ Some y → (r j : ℕ) → number_in d (cur_in (at_place next_pool.resources r)) ≡ Some j → (z : Credit2Unit) × (slice_get y.units j ≡ Some z))
       (one : (r k j : ℕ) → number_in d (cur_in (at_place p.resources r)) ≡ Some j → number_in d (cur_in (at_place p.resources k)) ≡ Some j → r ≡ k)
       (one_next : (r k j : ℕ) → number_in d (cur_in (at_place next_pool.resources r)) ≡ Some j → number_in d (cur_in (at_place next_pool.resources k)) ≡ Some j → r ≡ k) where
-    -- the record that is there now, and the one before
+    -- the records before and now
+    decides_known : (x y : Credit2Domain) → credit2_record p.scheduler.records d ≡ Some x → credit2_record the_decision.records d ≡ Some y → RecordDecides d t had has the_decision.due x y
+    decides_known x y is_x is =
+        let z = some_after x is_x (past x is_x) holds in
+        let e1 : Some z.0 ≡ Some y = sym z.1 ∙ is in
+        let e2 : z.0 ≡ y = cc in
+        subst (RecordDecides d t had has the_decision.due x) e2 z.2
+
     pub before : (y : Credit2Domain) → credit2_record the_decision.records d ≡ Some y → (x : Credit2Domain) × (credit2_record p.scheduler.records d ≡ Some x) × RecordDecides d t had has the_decision.due x y
     before y is = go (credit2_record p.scheduler.records d) refl
       where
         go : (o : Option Credit2Domain) → credit2_record p.scheduler.records d ≡ o → (x : Credit2Domain) × (credit2_record p.scheduler.records d ≡ Some x) × RecordDecides d t had has the_decision.due x y
         go None none = absurd (let e : None ≡ Some y = sym (none_after none) ∙ is in cc)
-        go (Some x) some =
-            let z = some_after x some (past x some) holds in
-            let e1 : Some z.0 ≡ Some y = sym z.1 ∙ is in
-            let e2 : z.0 ≡ y = cc in
-            (x, some, subst (RecordDecides d t had has the_decision.due x) e2 z.2)
+        go (Some x) some = (x, some, decides_known x y some is)
 
     on_here : (j : ℕ) → has ≡ Some j → number_in d (cur_in (at_place next_pool.resources n)) ≡ Some j
     on_here j is = ap (number_in d) cur_here ∙ is
@@ -149,14 +152,7 @@ module _ (g t : ℕ) (n : ℕ) (c : Resource) (p : Pool) (at : at_place p.resour
         let on_p : number_in d (cur_in (at_place p.resources r)) ≡ Some j = sym (ap (number_in d) (cur_there r ne)) ∙ on in
         let a = holds x is_x r j on_p in
         let kept = dec.decides.others j (λ own. ne (one n r j (ap (λ (o : Option Resource). number_in d (cur_in o)) at ∙ own) on_p)) (λ own. ne (one_next n r j (on_here j own) on)) in
-        let b = kept.goes a.stop a.stops in
-        record {
-          stop = b.0;
-          stops = b.1;
-          due = a.due;
-          is = due_there y r j is ne on_p ∙ a.is;
-          low = λ some. (let some_x : 0 < x.cap = subst (λ (k : ℕ). 0 < k) dec.decides.cap some in subst (λ (z : ℤ). pos a.due ≤ℤ z) (sym (b.2 some_x)) (a.low some_x));
-        }
+        on_it_kept x y j (due_in (at_place p.resources r)) (due_in (at_place next_pool.resources r)) dec.decides.cap kept (due_there y r j is ne on_p) a
 
     pub holds_decided : PoolHolds d next_pool
     holds_decided y is r j on =
@@ -171,10 +167,7 @@ module _ (g t : ℕ) (n : ℕ) (c : Resource) (p : Pool) (at : at_place p.resour
     -- the record of a capped domain
     pub capped_decides : (x y : Credit2Domain) → credit2_record p.scheduler.records d ≡ Some x → 0 < x.cap → credit2_record the_decision.records d ≡ Some y → Decides t had has x y
     capped_decides x y is_x some is =
-        let b = before y is in
-        let e1 : Some b.0 ≡ Some x = sym b.1 ∙ is_x in
-        let e2 : b.0 ≡ x = cc in
-        let dec : RecordDecides d t had has the_decision.due x y = subst (λ (z : Credit2Domain). RecordDecides d t had has the_decision.due z y) e2 b.2 in
+        let dec = decides_known x y is_x is in
         record {
           given = dec.decides.given;
           taken = dec.taken;

@@ -79,7 +79,8 @@ joined_cap (RtdsPool domains) d count t y is = absurd (cc)
 joined_cap (ArincPool records) d count t y is = absurd (cc)
 joined_cap (NullPool kept) d count t y is = absurd (cc)
 
-queue_keeps : (g d : ℕ) (ns : List ℕ) (pool : Pool) → (queue_units g d ns pool).scheduler.records ≡ pool.scheduler.records
+-- a domain's units that wait change no record
+pub queue_keeps : (g d : ℕ) (ns : List ℕ) (pool : Pool) → (queue_units g d ns pool).scheduler.records ≡ pool.scheduler.records
 queue_keeps g d [] pool = refl
 queue_keeps g d (n ∷ ns) pool =
     let u : UnitId = record { dom = domain_number d; n = n } in
