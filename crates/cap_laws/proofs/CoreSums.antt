@@ -1,0 +1,101 @@
+-- Sums over the cores, and numbers above and below 0.
+use Rattle.std.proofs.Common.{◌≡◌, ◌≢◌, ◌≤◌, ◌<◌, ◌+◌, ◌-◌, ℕ, zero, suc, refl, arith, ap, ◌⊎◌, inl, inr}
+use Rattle.std.specs.Prelude.{Option, Some, None, ℤ, pos, negsuc, ◌+ℤ◌, ◌-ℤ◌, ◌≤ℤ◌}
+use Rattle.std.proofs.Math.Decide.{ℕ_discrete}
+use Rattle.std.proofs.lemmas.Int.{ints}
+use Rattle.sched_base.specs.Credit2Numbers.{above_zero}
+
+-- what f makes of it, where there is one
+abbrev pub over : {X : Type 0} → (X → ℕ) → Option X → ℕ
+over f None = 0
+over f (Some x) = f x
+
+-- what f makes of the numbers below n, added up
+abbrev pub total_over : ℕ → (ℕ → ℕ) → ℕ
+total_over zero f = 0
+total_over (suc n) f = total_over n f + f n
+
+pub total_same : (n : ℕ) (f g : ℕ → ℕ) → ((r : ℕ) → r < n → f r ≡ g r) → total_over n f ≡ total_over n g
+total_same zero f g same = refl
+total_same (suc n) f g same =
+    let a = total_same n f g (λ r low. same r (omega (arith, low))) in
+    let b = same n (omega arith) in
+    omega (arith, a, b)
+
+pub total_le : (n : ℕ) (f g : ℕ → ℕ) → ((r : ℕ) → r < n → f r ≤ g r) → total_over n f ≤ total_over n g
+total_le zero f g below = omega arith
+total_le (suc n) f g below =
+    let a = total_le n f g (λ r low. below r (omega (arith, low))) in
+    let b = below n (omega arith) in
+    omega (arith, a, b)
+
+-- each is at most two others together
+pub total_two : (n : ℕ) (f g h : ℕ → ℕ) → ((r : ℕ) → r < n → f r ≤ g r + h r) → total_over n f ≤ total_over n g + total_over n h
+total_two zero f g h below = omega arith
+total_two (suc n) f g h below =
+    let a = total_two n f g h (λ r low. below r (omega (arith, low))) in
+    let b = below n (omega arith) in
+    omega (arith, a, b)
+
+pub total_none : (n : ℕ) (f : ℕ → ℕ) → ((r : ℕ) → r < n → f r ≡ 0) → total_over n f ≡ 0
+total_none zero f none = refl
+total_none (suc n) f none =
+    let a = total_none n f (λ r low. none r (omega (arith, low))) in
+    let b = none n (omega arith) in
+    omega (arith, a, b)
+
+pub total_one : (n r : ℕ) (f : ℕ → ℕ) → r < n → f r ≤ total_over n f
+total_one zero r f low = absurd (omega (arith, low))
+total_one (suc n) r f low =
+    elim (ℕ_discrete r n) [
+      | yes e ↦ (let same : f r ≡ f n = ap f e in omega (arith, same))
+      | no ne ↦ (let a = total_one n r f (omega (arith, low, ne)) in omega (arith, a))
+    ]
+
+-- one of them is changed
+pub total_changed : (n i : ℕ) (f g : ℕ → ℕ) → ((r : ℕ) → r ≢ i → f r ≡ g r) → (n ≤ i → f i ≡ g i) → total_over n f + g i ≡ total_over n g + f i
+total_changed zero i f g same high = (let h = high (omega arith) in omega (arith, h))
+total_changed (suc n) i f g same high =
+    elim (ℕ_discrete n i) [
+      | yes e ↦ (
+          let a = total_same n f g (λ r low. same r (λ e2. omega (arith, e, e2, low))) in
+          let b : f n ≡ f i = ap f e in
+          let c : g n ≡ g i = ap g e in
+          omega (arith, a, b, c))
+      | no ne ↦ (
+          let a = total_changed n i f g same (λ le. high (omega (arith, le, ne))) in
+          let b = same n ne in
+          omega (arith, a, b))
+    ]
+
+-- a number is not above 0, or it is what is above 0 of it
+pub above : (z : ℤ) → ((above_zero z ≡ 0) × (z ≤ℤ pos 0)) ⊎ (z ≡ pos (above_zero z))
+above (pos n) = inr refl
+above (negsuc n) = inl (refl, omega (arith, ints))
+
+pub above_most : (z : ℤ) → z ≤ℤ pos (above_zero z)
+above_most z = elim (above z) [ inl low ↦ (let e = low.0 in let l = low.1 in omega (arith, ints, e, l)) | inr is ↦ (let e = is in omega (arith, ints, e)) ]
+
+-- it is at most each number that is at least it and 0
+pub above_least : (z : ℤ) (n : ℕ) → z ≤ℤ pos n → above_zero z ≤ n
+above_least z n le = elim (above z) [ inl low ↦ (let e = low.0 in omega (arith, e)) | inr is ↦ omega (arith, ints, is, le) ]
+
+pub above_rises : (a b : ℤ) → a ≤ℤ b → above_zero a ≤ above_zero b
+above_rises a b le = above_least a (above_zero b) (let h = above_most b in omega (arith, ints, le, h))
+
+-- a core that had a unit decides at t: what the unit held is used up at stop, and given back; it was on the core from a, and so late
+pub given_back : (budget given stop : ℤ) (t a late : ℕ) → stop ≡ pos t +ℤ given → a ≤ t → pos t ≤ℤ (stop +ℤ pos late)
+    → above_zero (budget +ℤ given) + (t - a) ≤ above_zero budget + above_zero (stop -ℤ pos a) + late
+given_back budget given stop t a late is begun enough =
+    let b = above_most budget in
+    let s = above_most (stop -ℤ pos a) in
+    elim (above (budget +ℤ given)) [
+      | inl low ↦ (let e = low.0 in omega (arith, ints, e, is, begun, enough, s))
+      | inr high ↦ omega (arith, ints, high, is, begun, enough, s, b)
+    ]
+
+pub given_now : (budget given stop : ℤ) (t a : ℕ) → stop ≡ pos t +ℤ given → a ≡ t → above_zero (budget +ℤ given) ≤ above_zero budget + above_zero (stop -ℤ pos a)
+given_now budget given stop t a is e =
+    let b = above_most budget in
+    let s = above_most (stop -ℤ pos a) in
+    above_least (budget +ℤ given) (above_zero budget + above_zero (stop -ℤ pos a)) (omega (arith, ints, is, e, b, s))

@@ -1,0 +1,2 @@
+pub mod CapTerm
+pub mod Examples
