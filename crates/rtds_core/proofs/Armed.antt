@@ -1,0 +1,2 @@
+-- The timers of the ids.
+use Rattle.std.proofs.Common.{◌≡◌, ℕ, refl}
