@@ -1,0 +1,4 @@
+pub mod Arrivals
+pub mod Removed
+pub mod Keys
+pub mod Scan
