@@ -1,6 +1,6 @@
 //! The moments at which units are replenished: a heap of them, and beside it each unit's own.
 
-ghost use Rattle.std.specs.Prelude.{◌≡◌, ◌≤◌, ◌<◌, length};
+ghost use Rattle.std.specs.Prelude.{◌≡◌, ◌≤◌, ◌<◌, length, replicate, IfOk};
 ghost use Rattle.sched_ops.specs.Timers.{first_due};
 ghost use Rattle.rtds_core.specs.Alarms.{id_of, unit_of as unit_of_id, armed};
 
@@ -31,6 +31,13 @@ impl Model for Alarms {
     ghost view = { λ a. a.dues.items };
 
     ghost invariant = { λ a. (a.heap ≡ a.dues.items) × (length a.dues.items ≡ 2048) };
+}
+
+/// No moment, so many times.
+fn none_times(alloc: Global, times: usize) -> Result<Vec<Option<Moment>>, NoMemory>
+    ensures { IfOk result (λ all. all.items ≡ replicate times None) }
+{
+    Ok(vec![in alloc; None; times]?)
 }
 
 /// The id of a unit.
@@ -76,7 +83,7 @@ impl Alarms {
         ensures { IfOk result (λ alarms. alarms ≡ replicate 2048 None) }
     {
         let heap = DueHeap::room(alloc, ID_COUNT)?;
-        let dues = vec![in alloc; None; ID_COUNT]?;
+        let dues = none_times(alloc, ID_COUNT)?;
         Ok(Alarms { heap, dues })
     }
 

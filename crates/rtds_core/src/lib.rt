@@ -6,3 +6,4 @@
 #![tactic(auto)]
 
 pub mod alarms;
+pub mod records;

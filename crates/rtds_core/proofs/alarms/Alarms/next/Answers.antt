@@ -1,0 +1,34 @@
+use Rattle.std.proofs.Common.{◌≡◌, ◌≤◌, ◌<◌, ◌∙◌, [], ℕ, List, Option, Some, None, ap, sym, subst, arith, length}
+use Rattle.sched_base.specs.declared.Moment.{Moment}
+use Rattle.sched_base.specs.declared.UnitId.{UnitId}
+use Rattle.sched_ops.specs.declared.timer.Timer.TheVariants.{Repl}
+use Rattle.sched_ops.specs.Timers.{Armed, first_due}
+use Rattle.due_heap.specs.Dues.{IsArmed, GoesFirst}
+use Rattle.rtds_core.specs.Alarms.{armed, next_of}
+use Rattle.rtds_core.proofs.Armed.{none_armed, next_later, next_due, armed_below, IsLeast}
+use Rattle.rtds_core.proofs.alarms.Alarms.next.Goals as goal
+
+pub returns-in_err-at : goal.returns-in_err-at
+returns-in_err-at c =
+    let empty : armed 0 c.args.self.now ≡ [] = none_armed 0 c.args.self.now (λ id at is. c.in_err-at.ensures.none id at (subst (λ (dues : List (Option Moment)). IsArmed dues id at) (sym c.self.view_is ∙ sym c.self.invariant.0) is)) in
+    c.from_residual.ensures ∙ sym (ap (next_of c.args.t.0) empty)
+
+pub unit_of-requires : goal.unit_of-requires
+unit_of-requires c = (let below = armed_below c.self.inside.heap c.in_ok-at.id c.in_ok-at.at c.in_ok-at.ensures.armed in let long : length c.self.inside.heap ≡ 2048 = ap (λ (xs : List (Option Moment)). length xs) c.self.invariant.0 ∙ c.self.invariant.1 in omega (arith, below, long))
+
+pub returns-then-t-at : goal.returns-then-t-at
+returns-then-t-at c =
+    let same : c.self.inside.heap ≡ c.args.self.now = c.self.invariant.0 ∙ c.self.view_is in
+    let is : IsLeast c.args.self.now c.in_ok-at.id c.in_ok-at.at =
+    record {
+      there = subst (λ (dues : List (Option Moment)). IsArmed dues c.in_ok-at.id c.in_ok-at.at) same c.in_ok-at.ensures.armed;
+      least = λ other m has. c.in_ok-at.ensures.first other m (subst (λ (dues : List (Option Moment)). IsArmed dues other m) (sym same) has);
+    } in
+    ap (λ (u : UnitId). Some (c.in_ok-at.at, Repl u)) c.unit_of.ensures ∙ sym (next_later c.args.t.0 c.args.self.now c.in_ok-at.id c.in_ok-at.at is c.if-t-at.true)
+
+pub returns-else-t-at : goal.returns-else-t-at
+returns-else-t-at c =
+    let same : c.self.inside.heap ≡ c.args.self.now = c.self.invariant.0 ∙ c.self.view_is in
+    let there : IsArmed c.args.self.now c.in_ok-at.id c.in_ok-at.at = subst (λ (dues : List (Option Moment)). IsArmed dues c.in_ok-at.id c.in_ok-at.at) same c.in_ok-at.ensures.armed in
+    c.first_come.ensures ∙ ap (λ (dues : List (Option Moment)). first_due c.args.t.0 (armed 0 dues)) (c.as_slice.ensures.value ∙ c.self.view_is)
+    ∙ next_due c.args.t.0 c.args.self.now c.in_ok-at.id c.in_ok-at.at there c.if-t-at.false
