@@ -6,4 +6,5 @@
 #![tactic(auto)]
 
 pub mod alarms;
+pub mod best;
 pub mod records;
