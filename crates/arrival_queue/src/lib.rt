@@ -107,6 +107,13 @@ impl ArrivalQueue {
         }
     }
 
+    /// Whether a unit is in one of the lists.
+    pub fn has(&self, u: UnitId) -> bool
+        ensures { result ≡ holds self.now u }
+    {
+        find(&self.tables, u).is_some()
+    }
+
     /// The first of the units in order of their keys.
     pub fn first_counted<L: Ledger>(&self, steps: &mut Steps<L>) -> Option<UnitId>
         ensures first { result ≡ first_of self.now.sorted }

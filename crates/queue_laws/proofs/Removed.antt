@@ -49,7 +49,8 @@ ins_first : (e : Queued) (xs : List Queued) → AllByRecursion (λ (y : Queued).
 ins_first e [] below = refl
 ins_first e (x ∷ xs) below = let e1 = less_test e.rank x.rank below.0 in simp e1 refl
 
-each_without : (P : Queued → Type 0) (u : UnitId) (xs : List Queued) → AllByRecursion P xs → AllByRecursion P (without u xs)
+-- a fact of each item stays where a unit goes
+pub each_without : (P : Queued → Type 0) (u : UnitId) (xs : List Queued) → AllByRecursion P xs → AllByRecursion P (without u xs)
 each_without P u [] each = tt
 each_without P u (x ∷ xs) each =
     elim (is_of u x) as (λ t. AllByRecursion P (if t then without u xs else x ∷ without u xs)) [

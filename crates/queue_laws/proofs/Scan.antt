@@ -8,7 +8,8 @@ use Rattle.arrival_queue.specs.declared.key.Key.{Key}
 use Rattle.arrival_queue.specs.Queues.{Queued, is_less, goes_before}
 use Rattle.arrival_queue.specs.Filters.{first_that}
 use Rattle.arrival_queue.proofs.Ranks.{less_test, not_less_test}
-use Rattle.queue_laws.specs.Arrivals.{arrived, arrivals, IsSorted, LeadsAll, HasKeys, least_by, own_or}
+use Rattle.arrival_queue.specs.Order.{GoesBeforeAll, IsInOrder}
+use Rattle.queue_laws.specs.Arrivals.{arrived, arrivals, HasKeys, least_by, own_or}
 use Rattle.queue_laws.proofs.Arrivals.{ins, each_arrived, test_cases}
 use Rattle.queue_laws.proofs.Keys.{less_asym, less_trans, less_back}
 
@@ -78,7 +79,7 @@ module _ (key : UnitId → Key) (p : UnitId → Bool) (e : Queued) (own_key : e.
   ]
 
   -- the item, which goes before all others and passes, is found wherever its arrival puts it
-  found : (passes : p e.unit ≡ true) (best : Option UnitId) (xs : List Queued) → HasKeys key xs → LeadsAll e xs → Beats best
+  found : (passes : p e.unit ≡ true) (best : Option UnitId) (xs : List Queued) → HasKeys key xs → AllByRecursion (λ (x : Queued). goes_before e x ≡ true) xs → Beats best
       → least_by key best (passing p (ins e xs)) ≡ Some e.unit
   found passes best [] keys leads beats =
       ap (λ (t : Bool). least_by key best (if t then e.unit ∷ [] else [])) passes ∙ taken best [] beats
@@ -102,7 +103,7 @@ module _ (key : UnitId → Key) (p : UnitId → Bool) (e : Queued) (own_key : e.
             ]
       ]
     where
-      none_less : (ys : List Queued) → LeadsAll e ys → AllByRecursion (λ (y : Queued). is_less y.key e.key ≡ false) ys
+      none_less : (ys : List Queued) → AllByRecursion (λ (y : Queued). goes_before e y ≡ true) ys → AllByRecursion (λ (y : Queued). is_less y.key e.key ≡ false) ys
       none_less [] each = tt
       none_less (y ∷ ys) each = (not_after e y each.0, none_less ys each.1)
 
@@ -118,15 +119,19 @@ module _ (key : UnitId → Key) (p : UnitId → Bool) (e : Queued) (own_key : e.
         ]
       ]
 
+leads : (e : Queued) (es : List Queued) → GoesBeforeAll e es → AllByRecursion (λ (x : Queued). goes_before e x ≡ true) es
+leads e [] all = tt
+leads e (x ∷ es) all = (all.0, leads e es all.1)
+
 -- the first of a sorted queue that passes is the unit of the least key among those that pass, and among equals the earliest
-pub first_is_least : (key : UnitId → Key) (p : UnitId → Bool) (es : List Queued) → IsSorted es → HasKeys key es → first_that p es ≡ least_by key None (filter p (arrivals es))
+pub first_is_least : (key : UnitId → Key) (p : UnitId → Bool) (es : List Queued) → IsInOrder es → HasKeys key es → first_that p es ≡ least_by key None (filter p (arrivals es))
 first_is_least key p [] sorted keys = refl
 first_is_least key p (e ∷ es) sorted keys =
     let rest = first_is_least key p es sorted.1 keys.1 in
     elim (test_cases (p e.unit)) [
       | inl passes ↦
           ap (λ (t : Bool). if t then Some e.unit else first_that p es) passes
-          ∙ sym (found key p e keys.0 passes None (arrived es) (each_arrived (λ (x : Queued). x.key ≡ key x.unit) es keys.1) (each_arrived (λ (x : Queued). goes_before e x ≡ true) es sorted.0) tt)
+          ∙ sym (found key p e keys.0 passes None (arrived es) (each_arrived (λ (x : Queued). x.key ≡ key x.unit) es keys.1) (each_arrived (λ (x : Queued). goes_before e x ≡ true) es (leads e es sorted.0)) tt)
       | inr fails ↦
           ap (λ (t : Bool). if t then Some e.unit else first_that p es) fails
           ∙ rest ∙ ap (least_by key None) (sym (passed_over key p e keys.0 fails (arrived es)))

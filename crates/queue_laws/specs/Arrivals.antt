@@ -1,9 +1,9 @@
 -- The order of arrival of the units of a sorted queue, and the scan that such a queue spares.
-use Rattle.std.specs.Prelude.{ℕ, ◌≡◌, ◌≢◌, ◌<◌, true, false, if◌then◌else◌, List, [], ◌∷◌, Option, Some, None, map, nat_lt}
+use Rattle.std.specs.Prelude.{ℕ, ◌≡◌, ◌≢◌, ◌<◌, false, if◌then◌else◌, List, [], ◌∷◌, Option, Some, None, map, nat_lt}
 use Rattle.std.specs.List.{AllByRecursion}
 use Rattle.sched_base.specs.declared.UnitId.{UnitId}
 use Rattle.arrival_queue.specs.declared.key.Key.{Key}
-use Rattle.arrival_queue.specs.Queues.{Queued, is_less, goes_before, is_of, put_first}
+use Rattle.arrival_queue.specs.Queues.{Queued, is_less, is_of, put_first}
 
 -- the queued units, that of the least rank first
 abbrev pub arrived : List Queued → List Queued
@@ -39,15 +39,6 @@ HasUnits (e ∷ es) = LacksUnit e.unit es × HasUnits es
 -- each unit's index is below 256
 abbrev pub HasIndices : List Queued → Type 0
 HasIndices es = AllByRecursion (λ e. e.unit.n < 256) es
-
--- an item goes before each of the list
-abbrev pub LeadsAll : Queued → List Queued → Type 0
-LeadsAll x es = AllByRecursion (λ e. goes_before x e ≡ true) es
-
--- each item goes before those that follow it
-abbrev pub IsSorted : List Queued → Type 0
-IsSorted [] = Unit {0}
-IsSorted (e ∷ es) = LeadsAll e es × IsSorted es
 
 -- each item has the key of its unit
 abbrev pub HasKeys : (UnitId → Key) → List Queued → Type 0

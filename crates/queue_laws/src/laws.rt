@@ -5,14 +5,15 @@ ghost use Rattle.sched_base.specs.declared.UnitId.{UnitId};
 ghost use Rattle.sched_model.specs.Places.{without_unit};
 ghost use Rattle.arrival_queue.specs.declared.key.Key.{Key};
 ghost use Rattle.arrival_queue.specs.Queues.{Queued, queued, placed, without, rank_in, closed_up, has_unit};
+ghost use Rattle.arrival_queue.specs.Order.{IsInOrder};
 ghost use Rattle.arrival_queue.specs.Filters.{first_that};
-ghost use Rattle.queue_laws.specs.Arrivals.{arrivals, HasRanks, RanksBelow, HasUnits, HasIndices, IsSorted, HasKeys, least_by, own_or};
+ghost use Rattle.queue_laws.specs.Arrivals.{arrivals, HasRanks, RanksBelow, HasUnits, HasIndices, HasKeys, least_by, own_or};
 
 /// The first of a sorted queue that passes a test is the unit that a scan in order of arrival would choose: that of the least key
 /// among those that pass, and among equals the earliest. A scan that begins with a core's own unit chooses that one, where no unit
 /// that waits has a lesser key.
 pub fn law_first_is_least()
-    ensures first { (key : UnitId → Key) → (passes : UnitId → Bool) → (es : List Queued) → IsSorted es → HasKeys key es → first_that passes es ≡ least_by key None (filter passes (arrivals es)) }
+    ensures first { (key : UnitId → Key) → (passes : UnitId → Bool) → (es : List Queued) → IsInOrder es → HasKeys key es → first_that passes es ≡ least_by key None (filter passes (arrivals es)) }
     ensures own { (key : UnitId → Key) → (u : UnitId) → (units : List UnitId) → least_by key (Some u) units ≡ Some (own_or key u (least_by key None units)) }
 {}
 

@@ -72,6 +72,13 @@ impl RtdsQueues {
         put_from::<Brand>(self, u, key, spent, Blank::new(1))
     }
 
+    /// Whether a unit is in one of the lists.
+    pub fn has(&self, u: UnitId) -> bool
+        ensures { result ≡ holds self.now u }
+    {
+        self.queue.has(u)
+    }
+
     /// Takes a unit of either list away. False where it is in neither, and then nothing changes.
     pub fn remove(&mut self, u: UnitId) -> bool
         ensures answer { result ≡ holds self.old u }

@@ -98,6 +98,13 @@ impl Runq {
         self.queue.remove_counted(u, steps)
     }
 
+    /// Whether a unit is in the queue.
+    pub fn has(&self, u: UnitId) -> bool
+        ensures { result ≡ has_unit u self.now.units }
+    {
+        self.queue.has(u)
+    }
+
     /// Puts a unit of the queue at its place by another key. Its arrival stays, and counts among equal keys.
     pub fn rekey(&mut self, u: UnitId, key: i128)
         requires { has_unit u self.old.units ≡ true }
