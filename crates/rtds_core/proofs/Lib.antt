@@ -1,1 +1,5 @@
 pub mod Armed
+pub mod Queues
+pub mod First
+pub mod Reads
+pub mod Replicate

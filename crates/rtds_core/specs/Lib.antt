@@ -1,2 +1,4 @@
 pub mod Alarms
 pub mod Best
+pub mod Kept
+pub mod Masks

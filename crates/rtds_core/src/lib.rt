@@ -7,4 +7,6 @@
 
 pub mod alarms;
 pub mod best;
+mod held;
+pub mod masks;
 pub mod records;
