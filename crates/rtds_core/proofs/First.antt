@@ -45,9 +45,18 @@ same_order a b c d = grind (arith, ints, nat_tests)
 before_is_less : (a b : RtdsUnit) → is_before a b ≡ is_less (key_of (key_by a)) (key_of (key_by b))
 before_is_less a b = same_order a.level b.level a.deadline b.deadline
 
+-- the key of a unit that has a record
+pub key_is : (domains : List (Option (List RtdsUnit))) (u : UnitId) (x : RtdsUnit) → rtds_unit domains u ≡ Some x → key_in domains u ≡ key_of (key_by x)
+key_is domains u x at = ap (λ (o : Option RtdsUnit). elim o as (λ _. Key) [ None ↦ key_of (rtds_key 0 0) | Some y ↦ key_of (key_by y) ]) at
+
 -- a unit goes before another where its key is less
 pub before_by_key : (domains : List (Option (List RtdsUnit))) (u w : UnitId) → IsKnown domains u → IsKnown domains w → unit_before domains u w ≡ is_less (key_in domains u) (key_in domains w)
-before_by_key domains u w a b = rw (unit_before, a.at, b.at) (before_is_less a.unit b.unit)
+before_by_key domains u w a b =
+    ap (λ (o : Option RtdsUnit). elim o as (λ _. Bool) [ None ↦ false | Some x ↦ elim (rtds_unit domains w) as (λ _. Bool) [ None ↦ false | Some y ↦ is_before x y ] ]) a.at
+    ∙ ap (λ (o : Option RtdsUnit). elim o as (λ _. Bool) [ None ↦ false | Some y ↦ is_before a.unit y ]) b.at
+    ∙ before_is_less a.unit b.unit
+    ∙ sym (ap (λ (k : Key). is_less k (key_of (key_by b.unit))) (key_is domains u a.unit a.at))
+    ∙ sym (ap (is_less (key_in domains u)) (key_is domains w b.unit b.at))
 
 -- the foremost of units with records is that of the least key
 foremost_is_least : (domains : List (Option (List RtdsUnit))) (best : Option UnitId) (units : List UnitId) → IfSome best (IsKnown domains) → AllByRecursion (IsKnown domains) units → foremost domains best units ≡ least_by (key_in domains) best units
@@ -72,8 +81,10 @@ module _ (domains : List (Option (List RtdsUnit))) (affinity : List (Option (Lis
   pub known_passes : (u : UnitId) → test u ≡ true → IsKnown domains u
   known_passes u is =
       let passes = and_right (is_allowed_by affinity home core u) _ is in
-      by_option (λ (o : Option RtdsUnit). rtds_unit domains u ≡ o → (elim o as (λ _. Bool) [ None ↦ false | Some x ↦ nat_lt 0 x.left ]) ≡ true → IsKnown domains u) (rtds_unit domains u)
-      (λ is2 e. absurd (cc)) (λ x is2 e. record { unit = x; at = is2 }) (λ none. λ is2 e. absurd (cc)) (λ x there. λ is2 e. record { unit = x; at = there }) refl passes
+      elim (rtds_unit domains u) as (λ o. rtds_unit domains u ≡ o → (elim o as (λ _. Bool) [ None ↦ false | Some x ↦ nat_lt 0 x.left ]) ≡ true → IsKnown domains u) [
+        | None ↦ λ is2 e. absurd (cc)
+        | Some x ↦ λ is2 e. record { unit = x; at = is2 }
+      ] refl passes
 
   known_filter : (units : List UnitId) → AllByRecursion (IsKnown domains) (filter test units)
   known_filter [] = tt
@@ -83,11 +94,14 @@ module _ (domains : List (Option (List RtdsUnit))) (affinity : List (Option (Lis
         | false ↦ λ is. known_filter units
       ] refl
 
+  with_record : (u : UnitId) (x : RtdsUnit) → rtds_unit domains u ≡ Some x → test u ≡ (is_allowed_by affinity home core u && nat_lt 0 x.left)
+  with_record u x at = ap (λ (o : Option RtdsUnit). is_allowed_by affinity home core u && (elim o as (λ _. Bool) [ None ↦ false | Some y ↦ nat_lt 0 y.left ])) at
+
   -- a spent unit may not have the core
   spent_fails : (e : Queued) → IsSpent domains e → test e.unit ≡ false
   spent_fails e is =
       let none : nat_lt 0 is.unit.left ≡ false = (let l = is.left in grind (arith, nat_tests, l)) in
-      rw is.at (ap (λ (b : Bool). is_allowed_by affinity home core e.unit && b) none ∙ and_false (is_allowed_by affinity home core e.unit))
+      with_record e.unit is.unit is.at ∙ ap (λ (b : Bool). is_allowed_by affinity home core e.unit && b) none ∙ and_false (is_allowed_by affinity home core e.unit)
     where
       and_false : (b : Bool) → (b && false) ≡ false
       and_false true = refl
@@ -119,13 +133,13 @@ module _ (domains : List (Option (List RtdsUnit))) (affinity : List (Option (Lis
       let some : nat_lt 0 each.0.unit.left ≡ true = (let l = each.0.left in grind (arith, nat_tests, l)) in
       let and_true : (b : Bool) → (b && true) ≡ b = λ b. elim b as (λ b. (b && true) ≡ b) [ true ↦ refl | false ↦ refl ] in
       let same : test e.unit ≡ may_run masks (record { 0 = core }) (record { 0 = home }) e.unit =
-      rw each.0.at (ap (λ (b : Bool). is_allowed_by affinity home core e.unit && b) some ∙ and_true (is_allowed_by affinity home core e.unit) ∙ sym (ap (λ (k : ℕ). allowed k core home) sets.0)) in
+      with_record e.unit each.0.unit each.0.at ∙ ap (λ (b : Bool). is_allowed_by affinity home core e.unit && b) some ∙ and_true (is_allowed_by affinity home core e.unit) ∙ sym (ap (λ (k : ℕ). allowed k core home) sets.0) in
       ap (λ (b : Bool). if b then Some e.unit else first_that test es) same
       ∙ ap (λ (o : Option UnitId). if may_run masks (record { 0 = core }) (record { 0 = home }) e.unit then Some e.unit else o) (first_by_mask masks are es each.1 sets.1)
 
   keys_of : (es : List Queued) → AllByRecursion (IsEligible domains) es → HasKeys (key_in domains) es
   keys_of [] each = tt
-  keys_of (e ∷ es) each = ((let at = each.0.at in rw at each.0.key), keys_of es each.1)
+  keys_of (e ∷ es) each = (each.0.key ∙ sym (key_is domains e.unit each.0.unit each.0.at), keys_of es each.1)
 
   -- the first of the queue that may have the core is the one of the least key of all that may
   pub first_waits : (q : Lists) (masks : List Cores) → AreQueued domains q → IsInOrder q.eligible → HasRanks (q.eligible ++ q.spent) → AreMasks affinity masks → AllByRecursion (λ e. (mask_of masks e.unit).0 ≡ cores_of affinity e.unit) q.eligible

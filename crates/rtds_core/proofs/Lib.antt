@@ -1,5 +1,10 @@
 pub mod Armed
 pub mod Queues
 pub mod First
-pub mod Reads
+pub mod Changed
+pub mod Units
+pub mod Timing
+pub mod Keeping
+pub mod Steps
+pub mod Chosen
 pub mod Replicate

@@ -55,7 +55,7 @@ pub record IsKept (domains : List (Option (List RtdsUnit))) (affinity : List (Op
   pub queued : AreQueued domains q
   pub room : q.spare + count q ≡ spare + total domains
   pub few : spare + total domains ≤ 256
-  pub masks : AreMasks affinity masks
+  pub sets : AreMasks affinity masks
   pub armed : AreArmed (queue_of q) domains dues
 
 -- what callers see of them

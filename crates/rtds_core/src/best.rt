@@ -1,6 +1,6 @@
 //! The unit that a core takes: its own, or the first of the queue that may have the core.
 
-ghost use Rattle.std.specs.Prelude.{◌≡◌, ◌+◌, ◌<◌, ◌≤◌, Some};
+ghost use Rattle.std.specs.Prelude.{◌≡◌, ◌+◌, ◌<◌, ◌≤◌, Some, []};
 ghost use Rattle.std.specs.Option.{ForSome};
 ghost use Rattle.sched_base.specs.declared.UnitId.{UnitId as UnitName};
 ghost use Rattle.sched_model.specs.declared.state.Records.TheVariants.{RtdsPool};

@@ -101,7 +101,7 @@ fn replenishment(u: UnitId, unit: Option<RtdsUnit>) -> Event
 }
 
 impl Held {
-    ghost use Rattle.std.specs.Prelude.{◌≡◌, ◌≤◌, ◌<◌, ◌+◌, ◌-◌, true, false, IfOk, None, Some};
+    ghost use Rattle.std.specs.Prelude.{◌≡◌, ◌≤◌, ◌<◌, ◌+◌, ◌-◌, true, false, IfOk, None, Some, length};
     ghost use Rattle.sched_model.specs.declared.config.PoolParams.TheVariants as pool_params;
     ghost use Rattle.sched_model.specs.declared.config.SchedKind.{SchedKind};
     ghost use Rattle.sched_model.specs.Places.{at_place, has_unit};

@@ -102,13 +102,13 @@ shape_changed u f domains affinity is = record {
 }
 
 pub total_changed : {X : Type 0} (i : ℕ) (f : List X → List X) (places : List (Option (List X))) → ((xs : List X) → length (f xs) ≡ length xs) → total (change_at i f places) ≡ total places
-total_changed i f [] keeps = refl
-total_changed zero f (o ∷ places) keeps = ap (λ (n : ℕ). n + total places) (there o)
+total_changed {X} i f [] keeps = refl
+total_changed {X} zero f (o ∷ places) keeps = ap (λ (n : ℕ). n + total places) (there o)
   where
     there : (o : Option (List X)) → size (option_map f o) ≡ size o
     there None = refl
     there (Some xs) = keeps xs
-total_changed (suc i) f (o ∷ places) keeps = ap (λ (n : ℕ). size o + n) (total_changed i f places keeps)
+total_changed {X} (suc i) f (o ∷ places) keeps = ap (λ (n : ℕ). size o + n) (total_changed i f places keeps)
 
 pub total_set : {X : Type 0} (i : ℕ) (o : Option (List X)) (places : List (Option (List X))) → i < length places → total (slice_set places i o) + size (at_place places i) ≡ total places + size o
 total_set i o [] inside = absurd (omega (arith, inside))
@@ -202,7 +202,7 @@ record_member domains affinity u x is at =
 
 -- the ranges that the plain machine asks for
 spread : (level budget rest : ℕ) → budget ≡ 10000 + rest → level * budget ≡ level * 10000 + level * rest
-spread level budget rest e = grind arith
+spread level budget rest e = subst (λ (z : ℕ). level * z ≡ level * 10000 + level * rest) (sym e) (grind arith)
 
 in_range : (t : ℕ) (x : RtdsUnit) → RtdsFits t x → RtdsInRange t x
 in_range t x fits = record {
