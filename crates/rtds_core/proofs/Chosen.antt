@@ -79,7 +79,7 @@ burned_on t x = by_option (λ (y : RtdsUnit). is_some y.burned ≡ is_some x.bur
 
 module _ (affinity : List (Option (List Cores))) (q : Lists) (masks : List Cores) (spare t : ℕ) where
   -- the core's own unit is charged
-  kept_charged : (cur : Option UnitId) (domains : List (Option (List RtdsUnit))) (dues : List (Option Moment)) → IfSome cur (IsOwnUnit domains q) → IsKept domains affinity q masks dues spare t → IsKept (burn_cur cur t domains) affinity q masks dues spare t
+  pub kept_charged : (cur : Option UnitId) (domains : List (Option (List RtdsUnit))) (dues : List (Option Moment)) → IfSome cur (IsOwnUnit domains q) → IsKept domains affinity q masks dues spare t → IsKept (burn_cur cur t domains) affinity q masks dues spare t
   kept_charged None domains dues own kept = kept
   kept_charged (Some u) domains dues own kept =
       kept_like domains affinity q masks dues spare t u (burn_to t) (rtds_burned t) (burned_deadline t) (burned_on t)
@@ -216,3 +216,13 @@ module _ (domains : List (Option (List RtdsUnit))) (affinity : List (Option (Lis
             where
               some_same : (a b : RtdsUnit) → ◌≡◌ {A = Option RtdsUnit} (Some a) (Some b) → a ≡ b
               some_same a b e = cc
+
+  pub queue_replenished : (u : UnitId) (is : IsReplenished u) → IsOrdered q → IsKept domains affinity q masks dues spare t → queue_of (renewed_if (Some (replenish t is.unit)) u q) ≡ queue_of q
+  queue_replenished u is order kept = by_on (replenish t is.unit).burned refl
+    where
+      by_on : (o : Option ℕ) → (replenish t is.unit).burned ≡ o → queue_of (if is_some (replenish t is.unit).burned then q else renewed q u (key_by (replenish t is.unit))) ≡ queue_of q
+      by_on None off =
+          ap (λ (o : Option ℕ). queue_of (if is_some o then q else renewed q u (key_by (replenish t is.unit)))) off
+          ∙ queue_renewed q u (key_by (replenish t is.unit)) order (low_unit domains affinity u is.unit kept.shape is.at).byte (low_queued domains affinity q kept.shape kept.queued)
+          (sym (tells_waiting domains affinity q masks dues spare t u is.unit kept is.at) ∙ replenished_holds u is kept off)
+      by_on (Some b) on = ap (λ (o : Option ℕ). queue_of (if is_some o then q else renewed q u (key_by (replenish t is.unit)))) on

@@ -67,7 +67,7 @@ waiting_known domains q w queued has = arrived_known (q.eligible ++ q.spent)
 item_other : (u : UnitId) (e : Queued) → is_of u e ≡ false → same_unit u e.unit ≡ false
 item_other u e other = elim (either (same_unit u e.unit)) [
   | inl same ↦ absurd (clash (is_of u e) (subst (λ (v : UnitId). (number_of e.unit == number_of v) ≡ true) (sym (same_unit_same u e.unit same)) (is_same (number_of e.unit) (number_of e.unit) refl)) other)
-  | inr no ↦ no
+  | inr not_so ↦ not_so
 ]
 
 module _ (u : UnitId) (f : RtdsUnit → RtdsUnit) (domains : List (Option (List RtdsUnit))) where

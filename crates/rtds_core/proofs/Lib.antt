@@ -7,4 +7,6 @@ pub mod Timing
 pub mod Keeping
 pub mod Steps
 pub mod Chosen
+pub mod Joining
+pub mod Calls
 pub mod Replicate

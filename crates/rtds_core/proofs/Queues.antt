@@ -39,7 +39,7 @@ arrivals_swap [] others ranks = ap arrived (append-nil others)
 arrivals_swap (e ∷ es) others ranks =
     arrived_split others es e (right_part (λ (x : Queued). x.rank ≢ e.rank) es others ranks.0) ∙ ap (ins e) (arrivals_swap es others ranks.1)
 
-has_unit-append : (u : UnitId) (l r : List Queued) → has_unit u (l ++ r) ≡ (has_unit u l || has_unit u r)
+pub has_unit-append : (u : UnitId) (l r : List Queued) → has_unit u (l ++ r) ≡ (has_unit u l || has_unit u r)
 has_unit-append u [] r = refl
 has_unit-append u (e ∷ l) r = ap (λ (t : Bool). is_of u e || t) (has_unit-append u l r) ∙ sym (or_assoc (is_of u e) (has_unit u l) (has_unit u r))
   where
@@ -55,7 +55,7 @@ rank_in-append u (e ∷ l) r =
       | inr other ↦ simp other (rank_in-append u l r)
     ]
 
-without-append : (u : UnitId) (l r : List Queued) → without u (l ++ r) ≡ without u l ++ without u r
+pub without-append : (u : UnitId) (l r : List Queued) → without u (l ++ r) ≡ without u l ++ without u r
 without-append u [] r = refl
 without-append u (x ∷ l) r =
     let rest = without-append u l r in

@@ -1,14 +1,15 @@
 //! The unit that a core takes: its own, or the first of the queue that may have the core.
 
-ghost use Rattle.std.specs.Prelude.{◌≡◌, ◌+◌, ◌<◌, ◌≤◌, Some, []};
+ghost use Rattle.std.specs.Prelude.{◌≡◌, ◌+◌, ◌<◌, ◌≤◌, ◌++◌, Some, []};
 ghost use Rattle.std.specs.Option.{ForSome};
 ghost use Rattle.sched_base.specs.declared.UnitId.{UnitId as UnitName};
 ghost use Rattle.sched_model.specs.declared.state.Records.TheVariants.{RtdsPool};
 ghost use Rattle.sched_model.specs.Rtds.{budget_left as budget_left_spec, own_candidate as own_candidate_spec, foremost, choice, switch_off};
-ghost use Rattle.arrival_queue.specs.Order.{IsInOrder};
+ghost use Rattle.arrival_queue.specs.Order.{IsInOrder, EachRankOnce, EachUnitOnce};
 ghost use Rattle.plain_policy.specs.Parts.{scheduler_of};
 ghost use Rattle.rtds_core.specs.Alarms.{id_of};
 ghost use Rattle.rtds_core.specs.Best.{queue_of, key_by, AreQueued, AreMasks, listed, goes_first as goes_first_spec, due_at, deadline_in, run_from, taken, started, stopped};
+ghost use Rattle.rtds_core.specs.Kept.{IsShaped};
 
 use crate::alarms::Alarms;
 use crate::records::set_running;
@@ -103,6 +104,9 @@ pub fn pick(
     requires core { ask.now.core < 64 }
     requires queues { AreQueued domains.now queues.now }
     requires order { IsInOrder queues.now.eligible }
+    requires ranks { EachRankOnce (queues.now.eligible ++ queues.now.spent) }
+    requires units { EachUnitOnce (queues.now.eligible ++ queues.now.spent) }
+    requires shape { IsShaped domains.now affinity.now }
     requires masks { AreMasks affinity.now masks.now }
     ensures { result ≡ choice ask.now (scheduler_of (queue_of queues.now) affinity.now (RtdsPool domains.now)) domains.now }
 {
