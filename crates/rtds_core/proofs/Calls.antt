@@ -215,9 +215,9 @@ on_record domains u x at off = sym (ap on_in at) ∙ off
 -- the same parts, under other names
 pub kept_as : (domains domains2 : List (Option (List RtdsUnit))) (affinity affinity2 : List (Option (List Cores))) (q q2 : Lists) (masks : List Cores) (dues dues2 : List (Option Moment)) (spare latest : ℕ)
     → domains2 ≡ domains → affinity2 ≡ affinity → q2 ≡ q → dues2 ≡ dues → IsKept domains affinity q masks dues spare latest → IsKept domains2 affinity2 q2 masks dues2 spare latest
-kept_as domains domains2 affinity affinity2 q q2 masks dues dues2 spare latest ds as qs us kept =
+kept_as domains domains2 affinity affinity2 q q2 masks dues dues2 spare latest ds sets qs us kept =
     subst (λ (x : List (Option (List RtdsUnit))). IsKept x affinity2 q2 masks dues2 spare latest) (sym ds)
-    (subst (λ (x : List (Option (List Cores))). IsKept domains x q2 masks dues2 spare latest) (sym as)
+    (subst (λ (x : List (Option (List Cores))). IsKept domains x q2 masks dues2 spare latest) (sym sets)
     (subst (λ (x : Lists). IsKept domains affinity x masks dues2 spare latest) (sym qs)
     (subst (λ (x : List (Option Moment)). IsKept domains affinity q masks x spare latest) (sym us) kept)))
 

@@ -95,10 +95,10 @@ sizes_set (suc d) a b (x ∷ xs) (y ∷ ys) long size same zero = same 0
 sizes_set (suc d) a b (x ∷ xs) (y ∷ ys) long size same (suc k) = sizes_set d a b xs ys (omega (arith, long)) size (λ j. same (suc j)) k
 
 -- what stands at a place that has no records
-no_record : (domains : List (Option (List RtdsUnit))) (u : UnitId) → at_place domains u.dom.0 ≡ None → rtds_unit domains u ≡ None
+pub no_record : (domains : List (Option (List RtdsUnit))) (u : UnitId) → at_place domains u.dom.0 ≡ None → rtds_unit domains u ≡ None
 no_record domains u none = ap (λ (o : Option (List RtdsUnit)). unit_in o u.n) none
 
-absent_size : (a : Option (List RtdsUnit)) (b : Option (List Cores)) → option_map length a ≡ option_map length b → b ≡ None → a ≡ None
+pub absent_size : (a : Option (List RtdsUnit)) (b : Option (List Cores)) → option_map length a ≡ option_map length b → b ≡ None → a ≡ None
 absent_size None b same none = refl
 absent_size (Some xs) None same none = absurd (cc)
 absent_size (Some xs) (Some ys) same none = absurd (cc)

@@ -9,4 +9,5 @@ pub mod Steps
 pub mod Chosen
 pub mod Joining
 pub mod Calls
+pub mod Vacant
 pub mod Replicate

@@ -2,3 +2,4 @@ pub mod Alarms
 pub mod Best
 pub mod Kept
 pub mod Masks
+pub mod Outside

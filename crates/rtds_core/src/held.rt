@@ -103,11 +103,10 @@ fn replenishment(u: UnitId, unit: Option<RtdsUnit>) -> Event
 impl Held {
     ghost use Rattle.std.specs.Prelude.{◌≡◌, ◌≤◌, ◌<◌, ◌+◌, ◌-◌, true, false, IfOk, None, Some, length};
     ghost use Rattle.sched_model.specs.declared.config.PoolParams.TheVariants as pool_params;
-    ghost use Rattle.sched_model.specs.declared.config.SchedKind.{SchedKind};
     ghost use Rattle.sched_model.specs.Places.{at_place, has_unit};
-    ghost use Rattle.sched_model.specs.Policy.{decision_of, after_decision, better_waits as better_waits_spec, enqueue as enqueue_spec, join as join_spec, part as part_spec, set_params as set_params_spec, rate_of};
+    ghost use Rattle.sched_model.specs.Policy.{decision_of, after_decision, better_waits as better_waits_spec, enqueue as enqueue_spec, join as join_spec, part as part_spec, set_params as set_params_spec, rate_of, kind_of};
     ghost use Rattle.sched_ops.specs.declared.timer.Timer.TheVariants.{Repl};
-    ghost use Rattle.sched_ops.specs.Seen.{Tells, vacant, dequeue as dequeue_spec, units_of, with_scheduler, seen_at};
+    ghost use Rattle.sched_ops.specs.Seen.{Tells, vacant, restarted, dequeue as dequeue_spec, units_of, with_scheduler, seen_at};
     ghost use Rattle.sched_ops.specs.Conditions.{IsNow, IsAsked, IsOwnOf, IsAway, HasNoneBusy, AreDomParams, IsChange, Keeps, is_member, is_vacant, has_joined};
     ghost use Rattle.sched_ops.specs.Timers.{timer_at, is_due, timer_event, after_timer};
     ghost use Rattle.sched_ops.specs.Told.{stored_of};
@@ -141,13 +140,21 @@ impl Held {
         })
     }
 
+    /// The greatest moment that was given, in nanoseconds.
+    pub fn latest(&self) -> u64
+        ensures latest { result ≡ self.now.latest }
+        ensures early { result ≤ 10000000000000 }
+    {
+        self.latest
+    }
+
     /// The domain joins at t, with so many units. They may have all cores, and none of them waits yet.
     pub fn join(&mut self, d: DomId, units: u8, params: &DomParams, t: Moment)
         requires place { d.0 < length self.old.scheduler.affinity }
         requires absent { at_place self.old.scheduler.affinity d.0 ≡ None }
         requires few { units ≤ 32 }
         requires room { units ≤ self.old.spare }
-        requires params { AreDomParams SchedKind.Rtds params.now }
+        requires params { AreDomParams (kind_of self.old.scheduler.records) params.now }
         requires now { IsNow self.old t.0 }
         ensures scheduler { self.new.scheduler ≡ join_spec d.0 units params.now t.0 self.old.scheduler }
         ensures spare { self.new.spare ≡ self.old.spare - units }
@@ -286,7 +293,7 @@ impl Held {
     /// Changes parameters at t: those of a unit wait for its next replenishment, and sets of cores are in force at once.
     pub fn set_params(&mut self, change: &ParamChange, t: Moment)
         requires now { IsNow self.old t.0 }
-        requires change { IsChange SchedKind.Rtds self.old.scheduler change.now }
+        requires change { IsChange (kind_of self.old.scheduler.records) self.old.scheduler change.now }
         ensures { self.new ≡ seen_at t.0 (set_params_spec change.now t.0 self.old.scheduler) self.old }
     {
         self.latest = t.0;
@@ -318,6 +325,22 @@ impl Held {
                 extra: x.next_extra,
             },
         }
+    }
+
+    /// The rate limit, of which RTDS has none.
+    pub fn rate(&self) -> u32
+        ensures { result ≡ rate_of self.now.scheduler.records }
+    {
+        let _ = &self.latest;
+        0
+    }
+
+    /// Does nothing, and tells that a scheduler that no domain has joined is as a fresh one.
+    pub fn law_vacant(&self)
+        requires { is_vacant self.now.scheduler ≡ true }
+        ensures { restarted pool_params.Rtds self.now.scheduler ≡ self.now.scheduler }
+    {
+        let _ = &self.latest;
     }
 
     /// Does nothing, and tells that no unit waits twice, that those that wait have joined and are not on, and that the records

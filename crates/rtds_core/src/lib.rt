@@ -10,3 +10,6 @@ pub mod best;
 mod held;
 pub mod masks;
 pub mod records;
+pub mod rtds;
+
+pub use rtds::Rtds;
