@@ -1,43 +1,19 @@
 -- The timers of the ids, and the first of them.
 use Rattle.std.proofs.Common.{◌≡◌, ◌≢◌, ◌≤◌, ◌<◌, ◌+◌, ◌*◌, ℕ, zero, suc, Bool, true, false, List, [], ◌∷◌, ◌++◌, length, drop, get_or, refl, sym, ◌∙◌, ap, subst, arith, add-one, inl, inr}
 use Rattle.std.specs.Prelude.{Option, Some, None, nat_le, nat_lt, if◌then◌else◌}
-use Rattle.std.proofs.lemmas.List.{at_drop_more, at_drop_all}
-use Rattle.std.proofs.lemmas.Bool.{cases_eq}
+use Rattle.std.proofs.lemmas.Bool.{cases_eq, cases_lt}
 use Rattle.std.proofs.lemmas.Bool.Decides.{nat_tests}
 use Rattle.sched_base.specs.declared.Moment.{Moment}
 use Rattle.sched_ops.specs.declared.timer.Timer.TheVariants.{Repl}
 use Rattle.sched_ops.specs.Timers.{Armed, first_due, soonest}
 use Rattle.due_heap.specs.Dues.{due_of, IsArmed, GoesFirst}
-use Rattle.rtds_core.specs.Alarms.{armed, unit_of, next_of}
+use Rattle.rtds_core.specs.Alarms.{armed, unit_of, next_of, timer_of}
 
 is_late : (t a : ℕ) → t < a → nat_le a t ≡ false
 is_late t a late = grind (arith, nat_tests, late)
 
 has_come : (t a : ℕ) → a ≤ t → nat_le a t ≡ true
 has_come t a come = grind (arith, nat_tests, come)
-
--- the walk past an id that has no due, past one whose due has not come, and to one whose due has
-pub walk_none : (t i : ℕ) (dues : List (Option Moment)) → i < length dues → get_or dues i None ≡ None → first_due t (armed i (drop i dues)) ≡ first_due t (armed (i + 1) (drop (i + 1) dues))
-walk_none t i dues inside none =
-    let e = at_drop_more (λ (xs : List (Option Moment)). first_due t (armed i xs)) dues i None inside in
-    e ∙ ap (λ (o : Option Moment). first_due t (armed i (o ∷ drop (i + 1) dues))) none ∙ ap (λ (k : ℕ). first_due t (armed k (drop (i + 1) dues))) (sym (add-one i))
-
-pub walk_later : (t i : ℕ) (dues : List (Option Moment)) (at : Moment) → i < length dues → get_or dues i None ≡ Some at → t < at.0
-    → first_due t (armed i (drop i dues)) ≡ first_due t (armed (i + 1) (drop (i + 1) dues))
-walk_later t i dues at inside there late =
-    let e = at_drop_more (λ (xs : List (Option Moment)). first_due t (armed i xs)) dues i None inside in
-    e ∙ ap (λ (o : Option Moment). first_due t (armed i (o ∷ drop (i + 1) dues))) there
-    ∙ ap (λ (b : Bool). if b then Some (at, Repl (unit_of i)) else first_due t (armed (suc i) (drop (i + 1) dues))) (is_late t at.0 late)
-    ∙ ap (λ (k : ℕ). first_due t (armed k (drop (i + 1) dues))) (sym (add-one i))
-
-pub walk_found : (t i : ℕ) (dues : List (Option Moment)) (at : Moment) → i < length dues → get_or dues i None ≡ Some at → at.0 ≤ t → first_due t (armed i (drop i dues)) ≡ Some (at, Repl (unit_of i))
-walk_found t i dues at inside there come =
-    let e = at_drop_more (λ (xs : List (Option Moment)). first_due t (armed i xs)) dues i None inside in
-    e ∙ ap (λ (o : Option Moment). first_due t (armed i (o ∷ drop (i + 1) dues))) there
-    ∙ ap (λ (b : Bool). if b then Some (at, Repl (unit_of i)) else first_due t (armed (suc i) (drop (i + 1) dues))) (has_come t at.0 come)
-
-pub walk_end : (t i : ℕ) (dues : List (Option Moment)) → length dues ≤ i → first_due t (armed i (drop i dues)) ≡ None
-walk_end t i dues past = at_drop_all (λ (xs : List (Option Moment)). first_due t (armed i xs)) dues i past
 
 -- where no id has a due, there is no timer
 pub none_armed : (n : ℕ) (dues : List (Option Moment)) → ((id : ℕ) (at : Moment) → IsArmed dues id at → ⊥) → armed n dues ≡ []
@@ -129,32 +105,41 @@ soonest_is_least n (Some m ∷ dues) (suc id) at is =
     let e : suc n + id ≡ n + suc id = omega arith in
     overtakes (suc n) dues id at (m, Repl (unit_of n)) (head_later m dues id at is) (later_least (Some m) dues id at is) ∙ ap (λ (k : ℕ). Some (at, Repl (unit_of k))) e
 
--- where the least due has not come, it is the next timer
-pub next_later : (t : ℕ) (dues : List (Option Moment)) (id : ℕ) (at : Moment) → IsLeast dues id at → t < at.0 → next_of t (armed 0 dues) ≡ Some (at, Repl (unit_of id))
-next_later t dues id at is late =
-    let none : first_due t (armed 0 dues) ≡ None = none_due t 0 dues (λ other m has. (let g = is.least other m has in let by = g.by_moment in omega (arith, by, late))) in
+-- where no due has come, the least is the next timer
+pub next_later : (t : ℕ) (dues : List (Option Moment)) (id : ℕ) (at : Moment) → ((other : ℕ) (m : Moment) → IsArmed dues other m → t < m.0) → IsLeast dues id at → next_of t (armed 0 dues) ≡ Some (at, Repl (unit_of id))
+next_later t dues id at late is =
     let e : 0 + id ≡ id = omega arith in
-    ap (λ (o : Option Armed). elim o as (λ _. Option Armed) [ Some x ↦ Some x | None ↦ soonest None (armed 0 dues) ]) none
+    ap (λ (o : Option Armed). elim o as (λ _. Option Armed) [ Some x ↦ Some x | None ↦ soonest None (armed 0 dues) ]) (none_due t 0 dues late)
     ∙ soonest_is_least 0 dues id at is ∙ ap (λ (k : ℕ). Some (at, Repl (unit_of k))) e
 
--- where it has come, the first that has come is the next timer
-pub next_due : (t : ℕ) (dues : List (Option Moment)) (id : ℕ) (at : Moment) → IsArmed dues id at → at.0 ≤ t → first_due t (armed 0 dues) ≡ next_of t (armed 0 dues)
-next_due t dues id at there come =
-    let f = found 0 dues id at there come in
-    f.1 ∙ sym (ap (λ (o : Option Armed). elim o as (λ _. Option Armed) [ Some x ↦ Some x | None ↦ soonest None (armed 0 dues) ]) f.1)
-  where
-    found : (n : ℕ) (dues : List (Option Moment)) (id : ℕ) (at : Moment) → IsArmed dues id at → at.0 ≤ t → (x : Armed) × (first_due t (armed n dues) ≡ Some x)
-    found n [] id at there come = absurd (cc)
-    found n (None ∷ dues) zero at there come = absurd (cc)
-    found n (None ∷ dues) (suc id) at there come = found (suc n) dues id at there come
-    found n (Some m ∷ dues) zero at there come =
-        let same : m ≡ at = cc in
-        ((m, Repl (unit_of n)), ap (λ (b : Bool). if b then Some (m, Repl (unit_of n)) else first_due t (armed (suc n) dues)) (has_come t m.0 (subst (λ (k : Moment). k.0 ≤ t) (sym same) come)))
-    found n (Some m ∷ dues) (suc id) at there come =
-        elim (nat_le m.0 t) as (λ b. (x : Armed) × ((if b then Some (m, Repl (unit_of n)) else first_due t (armed (suc n) dues)) ≡ Some x)) [
-          | true ↦ ((m, Repl (unit_of n)), refl)
-          | false ↦ found (suc n) dues id at there come
-        ]
+-- the least id whose due has come is the next timer
+first_come : (t n : ℕ) (dues : List (Option Moment)) (id : ℕ) (at : Moment) → IsArmed dues id at → at.0 ≤ t → ((other : ℕ) (m : Moment) → IsArmed dues other m → m.0 ≤ t → id ≤ other) → first_due t (armed n dues) ≡ Some (at, Repl (unit_of (n + id)))
+first_come t n [] id at there come first = absurd (cc)
+first_come t n (None ∷ dues) zero at there come first = absurd (cc)
+first_come t n (None ∷ dues) (suc id) at there come first =
+    let e : suc n + id ≡ n + suc id = omega arith in
+    first_come t (suc n) dues id at there come (λ other m is low. (let f = first (suc other) m is low in omega (arith, f))) ∙ ap (λ (k : ℕ). Some (at, Repl (unit_of k))) e
+first_come t n (Some m ∷ dues) zero at there come first =
+    let same : m ≡ at = cc in
+    let e : n ≡ n + 0 = omega arith in
+    ap (λ (b : Bool). if b then Some (m, Repl (unit_of n)) else first_due t (armed (suc n) dues)) (has_come t m.0 (subst (λ (k : Moment). k.0 ≤ t) (sym same) come))
+    ∙ ap (λ (x : Moment). Some (x, Repl (unit_of n))) same ∙ ap (λ (k : ℕ). Some (at, Repl (unit_of k))) e
+first_come t n (Some m ∷ dues) (suc id) at there come first =
+    let e : suc n + id ≡ n + suc id = omega arith in
+    let late : t < m.0 = elim (cases_lt t m.0) [
+      | inl less ↦ less
+      | inr low ↦ absurd (let f = first 0 m refl low in omega (arith, f))
+    ] in
+    ap (λ (b : Bool). if b then Some (m, Repl (unit_of n)) else first_due t (armed (suc n) dues)) (is_late t m.0 late)
+    ∙ first_come t (suc n) dues id at there come (λ other k is low. (let f = first (suc other) k is low in omega (arith, f)))
+    ∙ ap (λ (k : ℕ). Some (at, Repl (unit_of k))) e
+
+pub next_due : (t : ℕ) (dues : List (Option Moment)) (id : ℕ) (at : Moment) → IsArmed dues id at → at.0 ≤ t → ((other : ℕ) (m : Moment) → IsArmed dues other m → m.0 ≤ t → id ≤ other) → timer_of dues id ≡ next_of t (armed 0 dues)
+next_due t dues id at there come first =
+    let e : 0 + id ≡ id = omega arith in
+    let found : first_due t (armed 0 dues) ≡ Some (at, Repl (unit_of id)) = first_come t 0 dues id at there come first ∙ ap (λ (k : ℕ). Some (at, Repl (unit_of k))) e in
+    ap (λ (o : Option Moment). elim o as (λ _. Option Armed) [ None ↦ None | Some m ↦ Some (m, Repl (unit_of id)) ]) there
+    ∙ sym (ap (λ (o : Option Armed). elim o as (λ _. Option Armed) [ Some x ↦ Some x | None ↦ soonest None (armed 0 dues) ]) found)
 
 -- an id that has a due is below the count of the dues
 pub armed_below : (dues : List (Option Moment)) (id : ℕ) (at : Moment) → IsArmed dues id at → id < length dues

@@ -161,7 +161,7 @@ own_known domains ask scheduler = by_cur ask.cur
     by_cur : (cur : Option UnitId) → IfSome (elim cur as (λ _. Option UnitId) [ None ↦ None | Some u ↦ (if ask.runnable && is_allowed scheduler ask.home ask.core u && nat_lt 0 (budget_left domains u) then Some u else None) ]) (IsKnown domains)
     by_cur None = tt
     by_cur (Some u) = elim (either (ask.runnable && is_allowed scheduler ask.home ask.core u && nat_lt 0 (budget_left domains u))) [
-      | inl yes ↦ subst (λ (b : Bool). IfSome (if b then Some u else None) (IsKnown domains)) (sym yes) (with_budget u (rtds_unit domains u) refl (last ask.runnable (is_allowed scheduler ask.home ask.core u) (nat_lt 0 (budget_left domains u)) yes))
+      | inl is_so ↦ subst (λ (b : Bool). IfSome (if b then Some u else None) (IsKnown domains)) (sym is_so) (with_budget u (rtds_unit domains u) refl (last ask.runnable (is_allowed scheduler ask.home ask.core u) (nat_lt 0 (budget_left domains u)) is_so))
       | inr not_so ↦ subst (λ (b : Bool). IfSome (if b then Some u else None) (IsKnown domains)) (sym not_so) tt
     ]
       where
@@ -194,19 +194,21 @@ choice_known domains ask scheduler = elim (either ask.leaving) [
     may : UnitId → Bool
     may u = is_eligible (record scheduler { records = RtdsPool domains }) ask.home ask.core ask.at u
 
+    next : (best : Option UnitId) (u : UnitId) (units : List UnitId) → IsKnown domains u → IfSome best (IsKnown domains) → ((b : Option UnitId) → IfSome b (IsKnown domains) → IfSome (foremost domains b units) (IsKnown domains)) → IfSome (foremost domains best (u ∷ units)) (IsKnown domains)
+    next None u units mine known rest = rest (Some u) mine
+    next (Some b) u units mine known rest = elim (unit_before domains u b) as (λ t. IfSome (foremost domains (Some (if t then u else b)) units) (IsKnown domains)) [
+      | true ↦ rest (Some u) mine
+      | false ↦ rest (Some b) known
+    ]
+
     walk : (best : Option UnitId) (units : List UnitId) → IfSome best (IsKnown domains) → IfSome (foremost domains best (filter may units)) (IsKnown domains)
     walk best [] known = known
     walk best (u ∷ units) known = elim (either (may u)) [
-      | inl passes ↦ subst (λ (b : Bool). IfSome (foremost domains best (if b then u ∷ filter may units else filter may units)) (IsKnown domains)) (sym passes) (taken_up best (known_passes domains scheduler.affinity ask.home ask.core ask.at u passes) known)
+      | inl passes ↦
+          subst (λ (b : Bool). IfSome (foremost domains best (if b then u ∷ filter may units else filter may units)) (IsKnown domains)) (sym passes)
+          (next best u (filter may units) (known_passes domains scheduler.affinity ask.home ask.core ask.at u passes) known (λ b k. walk b units k))
       | inr fails ↦ subst (λ (b : Bool). IfSome (foremost domains best (if b then u ∷ filter may units else filter may units)) (IsKnown domains)) (sym fails) (walk best units known)
     ]
-      where
-        taken_up : (best : Option UnitId) → IsKnown domains u → IfSome best (IsKnown domains) → IfSome (foremost domains best (u ∷ filter may units)) (IsKnown domains)
-        taken_up None mine known = walk (Some u) units mine
-        taken_up (Some b) mine known = elim (unit_before domains u b) as (λ t. IfSome (foremost domains (Some (if t then u else b)) (filter may units)) (IsKnown domains)) [
-          | true ↦ walk (Some u) units mine
-          | false ↦ walk (Some b) units known
-        ]
 
 -- a unit that is not on, by its record
 pub on_record : (domains : List (Option (List RtdsUnit))) (u : UnitId) (x : RtdsUnit) → rtds_unit domains u ≡ Some x → is_on (RtdsPool domains) u ≡ false → is_some x.burned ≡ false

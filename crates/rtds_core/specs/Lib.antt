@@ -3,3 +3,4 @@ pub mod Best
 pub mod Kept
 pub mod Masks
 pub mod Outside
+pub mod Driven

@@ -1,8 +1,7 @@
 //! The moments at which units are replenished: a heap of them, and beside it each unit's own.
 
 ghost use Rattle.std.specs.Prelude.{◌≡◌, ◌≤◌, ◌<◌, length, replicate, IfOk};
-ghost use Rattle.sched_ops.specs.Timers.{first_due};
-ghost use Rattle.rtds_core.specs.Alarms.{id_of, unit_of as unit_of_id, armed};
+ghost use Rattle.rtds_core.specs.Alarms.{id_of, unit_of as unit_of_id, timer_of};
 
 use due_heap::DueHeap;
 use sched_base::{DomId, Moment, NoMemory, UnitId};
@@ -58,19 +57,16 @@ fn unit_of(id: u16) -> UnitId
     }
 }
 
-/// The first unit whose moment has come at t, in order of domain and unit.
-fn first_come(dues: &[Option<Moment>], t: Moment) -> Option<(Moment, Timer)>
-    requires { length dues.now ≤ 2048 }
-    ensures { result ≡ first_due t.0 (armed 0 dues.now) }
+/// The timer of an id that has a moment.
+fn timer_at(dues: &[Option<Moment>], id: u16) -> Option<(Moment, Timer)>
+    requires length { length dues.now ≡ 2048 }
+    requires inside { id < 2048 }
+    ensures { result ≡ timer_of dues.now id }
 {
-    for id in 0..dues.len() {
-        if let Some(at) = dues[id]
-            && at.0 <= t.0
-        {
-            return Some((at, Timer::Repl(unit_of(id as u16))));
-        }
+    match dues[id as usize] {
+        None => None,
+        Some(at) => Some((at, Timer::Repl(unit_of(id)))),
     }
-    None
 }
 
 impl Alarms {
@@ -108,15 +104,16 @@ impl Alarms {
     }
 
     /// The first timer whose moment has come at t, in order of domain and unit; where there is none, the one of the least
-    /// moment. Only where a moment has come is it looked for among all.
+    /// moment. The heap knows both.
     pub fn next(&self, t: Moment) -> Option<(Moment, Timer)>
         ensures { result ≡ next_of t.0 (armed 0 self.now) }
     {
-        let (at, id) = self.heap.least()?;
-        if t.0 < at.0 {
-            Some((at, Timer::Repl(unit_of(id))))
-        } else {
-            first_come(self.dues.as_slice(), t)
+        match self.heap.first_due(t) {
+            Some(id) => timer_at(self.dues.as_slice(), id),
+            None => {
+                let (at, id) = self.heap.least()?;
+                Some((at, Timer::Repl(unit_of(id))))
+            }
         }
     }
 }

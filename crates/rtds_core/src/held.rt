@@ -192,7 +192,8 @@ impl Held {
     {
         self.queues.law_order();
         if let Some(x) = rtds_unit(self.domains.as_slice(), u) {
-            self.alarms.arm(u, Moment(x.deadline));
+            let deadline = Moment(x.deadline);
+            self.alarms.arm(u, deadline);
             self.queues.put(u, key_of(x), x.left == 0);
         }
     }

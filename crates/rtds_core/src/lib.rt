@@ -11,5 +11,7 @@ mod held;
 pub mod masks;
 pub mod records;
 pub mod rtds;
+#[cfg(test)]
+mod tests;
 
 pub use rtds::Rtds;

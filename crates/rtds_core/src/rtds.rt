@@ -50,6 +50,16 @@ fn latest_of(held: &Option<Held>, early: u64) -> u64
     }
 }
 
+/// Does nothing, and tells that the records are of RTDS.
+fn law_kind(held: &Option<Held>, early: u64)
+    ensures { kind_of (seen_by held.now early).scheduler.records ≡ SchedKind.Rtds }
+{
+    match held {
+        None => {}
+        Some(held) => held.keeps(),
+    }
+}
+
 /// Stands where there is no unit to replenish.
 fn no_event(u: UnitId) -> Event {
     Event::Repl {
@@ -163,7 +173,10 @@ impl Policy for Rtds {
                 None => no_event(u),
                 Some(held) => held.replenish(u, t),
             },
-            Timer::Refill(d) => no_event(UnitId { dom: d, n: 0 }),
+            Timer::Refill(d) => {
+                law_kind(&self.held, self.early);
+                no_event(UnitId { dom: d, n: 0 })
+            }
         }
     }
 
