@@ -5,12 +5,12 @@
 //! replenishments stand in a heap.
 #![tactic(auto)]
 
-pub mod alarms;
-pub mod best;
+mod alarms;
+mod best;
 mod held;
-pub mod masks;
-pub mod records;
-pub mod rtds;
+mod masks;
+mod records;
+mod rtds;
 #[cfg(test)]
 mod tests;
 

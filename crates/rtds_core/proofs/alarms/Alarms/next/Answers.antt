@@ -8,7 +8,7 @@ use Rattle.rtds_core.proofs.Armed.{none_armed, next_later, next_due, armed_below
 use Rattle.rtds_core.proofs.alarms.Alarms.next.Goals as goal
 
 pub first_due-requires : goal.first_due-requires
-first_due-requires c = record { exponent = 11; is = ap (λ (xs : List (Option Moment)). length xs) c.self.invariant.0 ∙ c.self.invariant.1 }
+first_due-requires c = record { power = record { exponent = 11; is = ap (λ (xs : List (Option Moment)). length xs) c.self.invariant.0 ∙ c.self.invariant.1 } }
 
 pub timer_at-requires-clause-inside : goal.timer_at-requires-clause-inside
 timer_at-requires-clause-inside c =
@@ -25,21 +25,21 @@ returns-in-Some c =
     ∙ next_due c.args.t.0 c.args.self.now c.in-Some.id come.at come.armed come.come
     (λ other m is low. c.in-Some.ensures.first other (record { at = m; armed = subst (λ (dues : List (Option Moment)). IsArmed dues other m) (sym same) is; come = low }))
 
-pub returns-in_err-at : goal.returns-in_err-at
-returns-in_err-at c =
-    let empty : armed 0 c.args.self.now ≡ [] = none_armed 0 c.args.self.now (λ id at is. c.in_err-at.ensures.none id at (subst (λ (dues : List (Option Moment)). IsArmed dues id at) (sym c.self.view_is ∙ sym c.self.invariant.0) is)) in
+pub returns-in_err-at-in-None : goal.returns-in_err-at-in-None
+returns-in_err-at-in-None c =
+    let empty : armed 0 c.args.self.now ≡ [] = none_armed 0 c.args.self.now (λ id at is. c.in_err-at-in-None.ensures.none id at (subst (λ (dues : List (Option Moment)). IsArmed dues id at) (sym c.self.view_is ∙ sym c.self.invariant.0) is)) in
     c.from_residual.ensures ∙ sym (ap (next_of c.args.t.0) empty)
 
 pub unit_of-requires : goal.unit_of-requires
-unit_of-requires c = (let below = armed_below c.self.inside.heap c.in_ok-at.id c.in_ok-at.at c.in_ok-at.ensures.armed in let long : length c.self.inside.heap ≡ 2048 = ap (λ (xs : List (Option Moment)). length xs) c.self.invariant.0 ∙ c.self.invariant.1 in omega (arith, below, long))
+unit_of-requires c = (let below = armed_below c.self.inside.heap c.in_ok-at-in-None.id c.in_ok-at-in-None.at c.in_ok-at-in-None.ensures.armed in let long : length c.self.inside.heap ≡ 2048 = ap (λ (xs : List (Option Moment)). length xs) c.self.invariant.0 ∙ c.self.invariant.1 in omega (arith, below, long))
 
-pub returns-in-None : goal.returns-in-None
-returns-in-None c =
+pub returns-in_ok-at-in-None : goal.returns-in_ok-at-in-None
+returns-in_ok-at-in-None c =
     let same : c.self.inside.heap ≡ c.args.self.now = c.self.invariant.0 ∙ c.self.view_is in
-    let is : IsLeast c.args.self.now c.in_ok-at.id c.in_ok-at.at =
+    let is : IsLeast c.args.self.now c.in_ok-at-in-None.id c.in_ok-at-in-None.at =
     record {
-      there = subst (λ (dues : List (Option Moment)). IsArmed dues c.in_ok-at.id c.in_ok-at.at) same c.in_ok-at.ensures.armed;
-      least = λ other m has. c.in_ok-at.ensures.first other m (subst (λ (dues : List (Option Moment)). IsArmed dues other m) (sym same) has);
+      there = subst (λ (dues : List (Option Moment)). IsArmed dues c.in_ok-at-in-None.id c.in_ok-at-in-None.at) same c.in_ok-at-in-None.ensures.armed;
+      least = λ other m has. c.in_ok-at-in-None.ensures.first other m (subst (λ (dues : List (Option Moment)). IsArmed dues other m) (sym same) has);
     } in
-    ap (λ (u : UnitId). Some (c.in_ok-at.at, Repl u)) c.unit_of.ensures
-    ∙ sym (next_later c.args.t.0 c.args.self.now c.in_ok-at.id c.in_ok-at.at (λ other m has. c.in-None.ensures.none other m (subst (λ (dues : List (Option Moment)). IsArmed dues other m) (sym same) has)) is)
+    ap (λ (u : UnitId). Some (c.in_ok-at-in-None.at, Repl u)) c.unit_of.ensures
+    ∙ sym (next_later c.args.t.0 c.args.self.now c.in_ok-at-in-None.id c.in_ok-at-in-None.at (λ other m has. c.in-None.ensures.none other m (subst (λ (dues : List (Option Moment)). IsArmed dues other m) (sym same) has)) is)
