@@ -1,0 +1,239 @@
+-- What the conditions of the calls tell of the parts.
+use Rattle.std.proofs.Common.{◌≡◌, ◌≢◌, ◌≤◌, ◌<◌, ◌+◌, ◌-◌, ◌*◌, ℕ, zero, suc, Bool, true, false, List, [], ◌∷◌, ◌++◌, refl, arith, ap, subst, sym, ◌∙◌, ◌⊎◌, inl, inr, length, map, length-append}
+use Rattle.std.specs.Prelude.{Option, Some, None, slice_get, slice_set, is_some, ◌||◌, ◌&&◌, ◌==◌, not, if◌then◌else◌, nat_lt, nat_le, replicate, option_map, filter}
+use Rattle.std.specs.List.{AllByRecursion}
+use Rattle.std.specs.Option.{IfSome, ForSome}
+use Rattle.std.proofs.lemmas.Bool.Decides.{nat_tests}
+use Rattle.sched_base.specs.Numbers.{moment, domain}
+use Rattle.sched_base.specs.Units.{number_of}
+use Rattle.sched_base.specs.CoreSets.{mask_of}
+use Rattle.sched_base.specs.declared.Cores.{Cores}
+use Rattle.sched_base.specs.declared.Moment.{Moment}
+use Rattle.sched_base.specs.declared.UnitId.{UnitId}
+use Rattle.sched_model.specs.Checked.{IsWithin, most_span}
+use Rattle.sched_model.specs.Places.{at_place, has_unit, same_unit, without_unit, change_item}
+use Rattle.sched_model.specs.declared.state.RtdsUnit.{RtdsUnit}
+use Rattle.sched_model.specs.Eligible.{rtds_unit, cores_of}
+use Rattle.sched_model.specs.Rtds.{burn_to, renew, replenish, change_unit, burn_cur, set_running, switch_off}
+use Rattle.sched_laws.specs.Each.{EachPlace}
+use Rattle.sched_laws.proofs.Bools.{either, clash, one_of, or_left, or_right, both, is_same}
+use Rattle.sched_laws.proofs.Choices.{same_unit_same}
+use Rattle.sched_laws.proofs.Counts.{same_unit_refl}
+use Rattle.sched_laws.proofs.Lists.{AllByRecursion-map, AllByRecursion-push, length_change_item}
+use Rattle.sched_laws.proofs.EachPlace.{by_option, length_set}
+use Rattle.sched_ranges.proofs.Rtds.{RtdsFits, RtdsFit, rtds_later, rtds_burned, rtds_running, rtds_off, rtds_set, rtds_replenished, fit_change_unit}
+use Rattle.due_heap.specs.Dues.{due_of}
+use Rattle.arrival_queue.specs.declared.key.Key.{Key}
+use Rattle.arrival_queue.specs.Queues.{Queued, queued, is_of, put_first, goes_before, placed, without, closed_up}
+use Rattle.arrival_queue.specs.Queues.{has_unit as has_queued}
+use Rattle.rtds_queue.specs.Lists.{Lists, key_of, holds, count, rank_of, put, removed, renewed}
+use Rattle.queue_laws.specs.Arrivals.{arrived, arrivals, HasUnits, HasIndices}
+use Rattle.queue_laws.proofs.Arrivals.{test_cases, each_arrived}
+use Rattle.queue_laws.proofs.Removed.{each_without, stands}
+use Rattle.queue_laws.proofs.Once.{once_units, each_placed, each_closed}
+use Rattle.rtds_core.specs.Alarms.{id_of, with_due}
+use Rattle.rtds_core.specs.Best.{queue_of, key_by, IsEligible, IsSpent, AreQueued, AreMasks, taken, started, stopped, run_from, deadline_in}
+use Rattle.rtds_core.specs.Kept.{IsShaped, IsKept, AreArmed, due_for, total, renewed_if, rearmed}
+use Rattle.rtds_core.proofs.Queues.{IsOrdered, each-append, waits, queue_put, queue_removed, queue_renewed, without-append, has_unit-append}
+use Rattle.rtds_core.proofs.Changed.{IsLow, low_unit, read_same, read_other, shape_changed, total_changed}
+use Rattle.rtds_core.proofs.Units.{has_pushed, has_without, few_units, all_names, count_names, known_named, apart_arrivals, length_arrivals}
+use Rattle.rtds_core.proofs.Timing.{due_alike, due_of_record, armed_changed, armed_alike}
+use Rattle.sched_base.specs.declared.Span.{Span}
+use Rattle.sched_model.specs.declared.ask.Ask.{Ask}
+use Rattle.sched_model.specs.declared.config.DomParams.{DomParams}
+use Rattle.sched_model.specs.declared.config.DomParams.TheVariants as dom_params
+use Rattle.sched_model.specs.declared.config.SchedKind.TheVariants as kinds
+use Rattle.sched_model.specs.declared.state.Scheduler.{Scheduler}
+use Rattle.sched_model.specs.declared.state.Records.{Records}
+use Rattle.sched_model.specs.declared.state.Records.TheVariants.{RtdsPool}
+use Rattle.sched_model.specs.Policy.{replenish_due, joined_records, all_cores}
+use Rattle.sched_model.specs.Places.{put_at}
+use Rattle.sched_model.specs.Rtds.{own_candidate, choice, foremost, budget_left, unit_before, fresh_units}
+use Rattle.sched_model.specs.Eligible.{eligible, is_allowed, is_eligible}
+use Rattle.sched_ops.specs.Seen.{Seen}
+use Rattle.rtds_core.proofs.Steps.{kept_later}
+use Rattle.sched_ops.specs.Conditions.{IsAsked, IsOwn, IsOwnOf, IsAway, AreDomParams, IsTerm, Keeps, IsApart, is_on, is_member}
+use Rattle.arrival_queue.specs.Filters.{first_that, may_run}
+use Rattle.plain_policy.specs.Parts.{scheduler_of}
+use Rattle.sched_base.specs.declared.ResId.{ResId}
+use Rattle.queue_laws.specs.Arrivals.{least_by}
+use Rattle.queue_laws.proofs.Once.{once_ranks}
+use Rattle.rtds_core.specs.Kept.{seen_of}
+use Rattle.rtds_core.specs.Best.{listed}
+use Rattle.rtds_core.proofs.Changed.{member_record, record_member, sets_of}
+use Rattle.rtds_core.proofs.First.{IsKnown, test, key_in, first_waits, scan_of_first, known_passes}
+use Rattle.rtds_core.proofs.Keeping.{low_queued, waiting_known}
+use Rattle.rtds_core.proofs.Chosen.{IsOwnUnit, IsReplenished}
+use Rattle.rtds_core.proofs.Joining.{Sets, kept_joined}
+
+-- what callers see of the parts, with this queue
+abbrev pub seen_queue : List (Option (List RtdsUnit)) → List (Option (List Cores)) → ℕ → ℕ → List UnitId → Seen
+seen_queue domains affinity spare latest us = record { scheduler = record { queue = us; affinity = affinity; records = RtdsPool domains }; spare = spare; latest = latest }
+
+abbrev on_in : Option RtdsUnit → Bool
+on_in o = elim o as (λ _. Bool) [ None ↦ false | Some x ↦ is_some x.burned ]
+
+none_burned : (o : Option ℕ) → is_some o ≡ false → o ≡ None
+none_burned None e = refl
+none_burned (Some b) e = absurd (cc)
+
+-- a unit that is not on by the records
+pub off_record : (domains : List (Option (List RtdsUnit))) (u : UnitId) (x : RtdsUnit) → rtds_unit domains u ≡ Some x → is_on (RtdsPool domains) u ≡ false → x.burned ≡ None
+off_record domains u x at off = none_burned x.burned (sym (ap on_in at) ∙ off)
+
+-- a core's own unit
+pub own_unit : (domains : List (Option (List RtdsUnit))) (affinity : List (Option (List Cores))) (q : Lists) (spare latest : ℕ) (cur : Option UnitId) → IsShaped domains affinity → IsOwnOf (seen_of domains affinity q spare latest).scheduler cur → IfSome cur (IsOwnUnit domains q)
+own_unit domains affinity q spare latest None is own = tt
+own_unit domains affinity q spare latest (Some u) is own =
+    let o : IsOwn (seen_of domains affinity q spare latest).scheduler u = own u refl in
+    let r = member_record domains affinity u is o.member in
+    record { unit = r.0; at = r.1; waits_not = o.waits_not }
+
+-- the queues after a charge of the core's own
+pub own_low : (domains : List (Option (List RtdsUnit))) (affinity : List (Option (List Cores))) (q : Lists) (cur : Option UnitId) → IsShaped domains affinity → IfSome cur (IsOwnUnit domains q) → (u : UnitId) → cur ≡ Some u → IsLow u
+own_low domains affinity q None is own u at = absurd (cc)
+own_low domains affinity q (Some w) is own u at = (let e : w ≡ u = cc in subst IsLow e (low_unit domains affinity w own.unit is own.at))
+
+-- the unit that is due at t
+pub replenished_of : (domains : List (Option (List RtdsUnit))) (affinity : List (Option (List Cores))) (q : Lists) (masks : List Cores) (dues : List (Option Moment)) (spare t : ℕ) (u : UnitId)
+    → ((has_unit (queue_of q) u || is_on (RtdsPool domains) u) && replenish_due (RtdsPool domains) t u) ≡ true → IsReplenished domains affinity q masks dues spare t u
+replenished_of domains affinity q masks dues spare t u due = by_record (rtds_unit domains u) refl due
+  where
+    by_record : (o : Option RtdsUnit) → rtds_unit domains u ≡ o → ((has_unit (queue_of q) u || on_in o) && (elim o as (λ _. Bool) [ None ↦ false | Some x ↦ nat_le x.deadline t ])) ≡ true → IsReplenished domains affinity q masks dues spare t u
+    by_record None at e = absurd (clash ((has_unit (queue_of q) u || false) && false) e (and_false (has_unit (queue_of q) u || false)))
+      where
+        and_false : (b : Bool) → (b && false) ≡ false
+        and_false true = refl
+        and_false false = refl
+    by_record (Some x) at e = record {
+      unit = x;
+      at = at;
+      come = (let c : nat_le x.deadline t ≡ true = right (has_unit (queue_of q) u || is_some x.burned) (nat_le x.deadline t) e in grind (arith, nat_tests, c));
+      busy = left (has_unit (queue_of q) u || is_some x.burned) (nat_le x.deadline t) e;
+    }
+      where
+        left : (a b : Bool) → (a && b) ≡ true → a ≡ true
+        left true b e = refl
+        left false b e = absurd (cc)
+
+        right : (a b : Bool) → (a && b) ≡ true → b ≡ true
+        right true b e = e
+        right false b e = absurd (cc)
+
+pub term_budget : (period budget : ℕ) → IsTerm period budget → IsWithin 10000 1000000000000 budget
+term_budget period budget is = (let l = is.within.least in let m = is.within.most in let p = is.long.most in record { least = l; most = omega (arith, m, p) })
+
+-- a domain joins with parameters of RTDS
+pub kept_with : (domains domains2 : List (Option (List RtdsUnit))) (affinity : List (Option (List Cores))) (q : Lists) (masks masks2 : List Cores) (dues : List (Option Moment)) (spare t d count : ℕ) (params : DomParams) → AreDomParams kinds.Rtds params → RtdsPool domains2 ≡ joined_records (RtdsPool domains) params d count t
+    → d < length affinity → at_place affinity d ≡ None → count ≤ 32 → count ≤ spare → Sets masks masks2 d None all_cores → IsKept domains affinity q masks dues spare t
+    → IsKept domains2 (put_at d (replicate count all_cores) affinity) q masks2 dues (spare - count) t
+kept_with domains domains2 affinity q masks masks2 dues spare t d count (dom_params.Credit2 weight percent) are joined place absent few room set kept = absurd are
+kept_with domains domains2 affinity q masks masks2 dues spare t d count dom_params.Arinc653 are joined place absent few room set kept = absurd are
+kept_with domains domains2 affinity q masks masks2 dues spare t d count dom_params.Null are joined place absent few room set kept = absurd are
+kept_with domains domains2 affinity q masks masks2 dues spare t d count (dom_params.Rtds period budget extra) are joined place absent few room set kept =
+    subst (λ (ds : List (Option (List RtdsUnit))). IsKept ds (put_at d (replicate count all_cores) affinity) q masks2 dues (spare - count) t) (same_domains (put_at d (fresh_units period.0 budget.0 extra count t) domains) domains2 (sym joined))
+    (kept_joined domains affinity q masks masks2 dues spare t d count period.0 budget.0 extra place absent few room are.long (term_budget period.0 budget.0 are) set kept)
+  where
+    same_domains : (a b : List (Option (List RtdsUnit))) → RtdsPool a ≡ RtdsPool b → a ≡ b
+    same_domains a b e = cc
+
+-- what every scheduler keeps
+pub keeps_of : (domains : List (Option (List RtdsUnit))) (affinity : List (Option (List Cores))) (q : Lists) (masks : List Cores) (dues : List (Option Moment)) (spare latest : ℕ) → IsOrdered q → IsKept domains affinity q masks dues spare latest → Keeps (seen_of domains affinity q spare latest)
+keeps_of domains affinity q masks dues spare latest order kept = record {
+  apart = apart_arrivals (q.eligible ++ q.spent) (once_units (q.eligible ++ q.spent) order.units) (low_queued domains affinity q kept.shape kept.queued);
+  members = λ u waiting. (let k = waiting_known domains q u kept.queued waiting in record_member domains affinity u k.0 kept.shape k.1);
+  off = λ u waiting. (let k = waiting_known domains q u kept.queued waiting in ap on_in k.1 ∙ ap (λ (o : Option ℕ). is_some o) k.2);
+}
+
+-- the first of the queues that may have the core, as a scan finds it
+eligible_sets : (domains : List (Option (List RtdsUnit))) (affinity : List (Option (List Cores))) (masks : List Cores) (es : List Queued) → IsShaped domains affinity → AreMasks affinity masks → AllByRecursion (IsEligible domains) es → AllByRecursion (λ e. (mask_of masks e.unit).0 ≡ cores_of affinity e.unit) es
+eligible_sets domains affinity masks es is are each = AllByRecursion-map (IsEligible domains) (λ e. (mask_of masks e.unit).0 ≡ cores_of affinity e.unit) (λ e el. (let s = sets_of domains affinity e.unit el.unit is el.at in are.each e.unit s.sets s.at s.inside)) es each
+
+pub first_is : (domains : List (Option (List RtdsUnit))) (affinity : List (Option (List Cores))) (q : Lists) (masks : List Cores) (home core t : ℕ) → IsOrdered q → IsShaped domains affinity → AreQueued domains q → AreMasks affinity masks
+    → first_that (λ u. may_run masks (record { 0 = core }) (record { 0 = home }) u) q.eligible ≡ least_by (key_in domains) None (filter (test domains affinity home core t) (queue_of q))
+first_is domains affinity q masks home core t order is queued are =
+    first_waits domains affinity home core t q masks queued order.order (once_ranks (q.eligible ++ q.spent) order.ranks) are (eligible_sets domains affinity masks q.eligible is are queued.eligible)
+
+-- the core's own unit, where it may go on, has a record
+own_known : (domains : List (Option (List RtdsUnit))) (ask : Ask) (scheduler : Scheduler) → IfSome (own_candidate ask scheduler domains) (IsKnown domains)
+own_known domains ask scheduler = by_cur ask.cur
+  where
+    by_cur : (cur : Option UnitId) → IfSome (elim cur as (λ _. Option UnitId) [ None ↦ None | Some u ↦ (if ask.runnable && is_allowed scheduler ask.home ask.core u && nat_lt 0 (budget_left domains u) then Some u else None) ]) (IsKnown domains)
+    by_cur None = tt
+    by_cur (Some u) = elim (either (ask.runnable && is_allowed scheduler ask.home ask.core u && nat_lt 0 (budget_left domains u))) [
+      | inl is_so ↦ subst (λ (b : Bool). IfSome (if b then Some u else None) (IsKnown domains)) (sym is_so) (with_budget u (rtds_unit domains u) refl (last ask.runnable (is_allowed scheduler ask.home ask.core u) (nat_lt 0 (budget_left domains u)) is_so))
+      | inr not_so ↦ subst (λ (b : Bool). IfSome (if b then Some u else None) (IsKnown domains)) (sym not_so) tt
+    ]
+      where
+        last : (a b c : Bool) → (a && b && c) ≡ true → c ≡ true
+        last true true c e = e
+        last true false c e = absurd (cc)
+        last false b c e = absurd (cc)
+
+        with_budget : (u : UnitId) (o : Option RtdsUnit) → rtds_unit domains u ≡ o → nat_lt 0 (elim o as (λ _. ℕ) [ None ↦ 0 | Some x ↦ x.left ]) ≡ true → IsKnown domains u
+        with_budget u None at e = absurd (grind (arith, nat_tests, e))
+        with_budget u (Some x) at e = record { unit = x; at = at }
+
+-- the choice among the core's own and the first is that of a scan
+pub choice_of_first : (domains : List (Option (List RtdsUnit))) (affinity : List (Option (List Cores))) (q : Lists) (masks : List Cores) (ask : Ask) → ask.leaving ≡ false → IsOrdered q → IsShaped domains affinity → AreQueued domains q → AreMasks affinity masks
+    → foremost domains (own_candidate ask (scheduler_of [] affinity (RtdsPool domains)) domains) (listed (first_that (λ u. may_run masks (record { 0 = ask.core }) (record { 0 = ask.home }) u) q.eligible))
+      ≡ choice ask (scheduler_of (queue_of q) affinity (RtdsPool domains)) domains
+choice_of_first domains affinity q masks ask stays order is queued are =
+    scan_of_first domains affinity ask.home ask.core ask.at (own_candidate ask (scheduler_of [] affinity (RtdsPool domains)) domains) (queue_of q)
+    (first_that (λ u. may_run masks (record { 0 = ask.core }) (record { 0 = ask.home }) u) q.eligible) (own_known domains ask (scheduler_of [] affinity (RtdsPool domains)))
+    (first_is domains affinity q masks ask.home ask.core ask.at order is queued are)
+    ∙ sym (ap (λ (b : Bool). if b then None else foremost domains (own_candidate ask (scheduler_of [] affinity (RtdsPool domains)) domains) (eligible (scheduler_of (queue_of q) affinity (RtdsPool domains)) ask.home ask.core ask.at)) stays)
+
+-- the chosen unit has a record
+pub choice_known : (domains : List (Option (List RtdsUnit))) (ask : Ask) (scheduler : Scheduler) → IfSome (choice ask scheduler domains) (IsKnown domains)
+choice_known domains ask scheduler = elim (either ask.leaving) [
+  | inl leaves ↦ subst (λ (b : Bool). IfSome (if b then None else foremost domains (own_candidate ask scheduler domains) (filter may (scheduler.queue))) (IsKnown domains)) (sym leaves) tt
+  | inr stays ↦ subst (λ (b : Bool). IfSome (if b then None else foremost domains (own_candidate ask scheduler domains) (filter may (scheduler.queue))) (IsKnown domains)) (sym stays) (walk (own_candidate ask scheduler domains) scheduler.queue (own_known domains ask scheduler))
+]
+  where
+    may : UnitId → Bool
+    may u = is_eligible (record scheduler { records = RtdsPool domains }) ask.home ask.core ask.at u
+
+    next : (best : Option UnitId) (u : UnitId) (units : List UnitId) → IsKnown domains u → IfSome best (IsKnown domains) → ((b : Option UnitId) → IfSome b (IsKnown domains) → IfSome (foremost domains b units) (IsKnown domains)) → IfSome (foremost domains best (u ∷ units)) (IsKnown domains)
+    next None u units mine known rest = rest (Some u) mine
+    next (Some b) u units mine known rest = elim (unit_before domains u b) as (λ t. IfSome (foremost domains (Some (if t then u else b)) units) (IsKnown domains)) [
+      | true ↦ rest (Some u) mine
+      | false ↦ rest (Some b) known
+    ]
+
+    walk : (best : Option UnitId) (units : List UnitId) → IfSome best (IsKnown domains) → IfSome (foremost domains best (filter may units)) (IsKnown domains)
+    walk best [] known = known
+    walk best (u ∷ units) known = elim (either (may u)) [
+      | inl passes ↦
+          subst (λ (b : Bool). IfSome (foremost domains best (if b then u ∷ filter may units else filter may units)) (IsKnown domains)) (sym passes)
+          (next best u (filter may units) (known_passes domains scheduler.affinity ask.home ask.core ask.at u passes) known (λ b k. walk b units k))
+      | inr fails ↦ subst (λ (b : Bool). IfSome (foremost domains best (if b then u ∷ filter may units else filter may units)) (IsKnown domains)) (sym fails) (walk best units known)
+    ]
+
+-- a unit that is not on, by its record
+pub on_record : (domains : List (Option (List RtdsUnit))) (u : UnitId) (x : RtdsUnit) → rtds_unit domains u ≡ Some x → is_on (RtdsPool domains) u ≡ false → is_some x.burned ≡ false
+on_record domains u x at off = sym (ap on_in at) ∙ off
+
+-- the same parts, under other names
+pub kept_as : (domains domains2 : List (Option (List RtdsUnit))) (affinity affinity2 : List (Option (List Cores))) (q q2 : Lists) (masks : List Cores) (dues dues2 : List (Option Moment)) (spare latest : ℕ)
+    → domains2 ≡ domains → affinity2 ≡ affinity → q2 ≡ q → dues2 ≡ dues → IsKept domains affinity q masks dues spare latest → IsKept domains2 affinity2 q2 masks dues2 spare latest
+kept_as domains domains2 affinity affinity2 q q2 masks dues dues2 spare latest ds sets qs us kept =
+    subst (λ (x : List (Option (List RtdsUnit))). IsKept x affinity2 q2 masks dues2 spare latest) (sym ds)
+    (subst (λ (x : List (Option (List Cores))). IsKept domains x q2 masks dues2 spare latest) (sym sets)
+    (subst (λ (x : Lists). IsKept domains affinity x masks dues2 spare latest) (sym qs)
+    (subst (λ (x : List (Option Moment)). IsKept domains affinity q masks x spare latest) (sym us) kept)))
+
+-- the parts at the moment of a question, and its own unit
+pub kept_asked : (domains : List (Option (List RtdsUnit))) (affinity : List (Option (List Cores))) (q : Lists) (masks : List Cores) (dues : List (Option Moment)) (spare latest : ℕ) (ask : Ask) (seen : Seen) → seen_of domains affinity q spare latest ≡ seen → IsAsked seen ask
+    → IsKept domains affinity q masks dues spare latest → IsKept domains affinity q masks dues spare ask.at
+kept_asked domains affinity q masks dues spare latest ask seen view asked kept =
+    kept_later domains affinity q masks dues spare latest ask.at (subst (λ (s : Seen). s.latest ≤ ask.at) (sym view) asked.now.after) asked.now.early kept
+
+pub own_asked : (domains : List (Option (List RtdsUnit))) (affinity : List (Option (List Cores))) (q : Lists) (spare latest : ℕ) (ask : Ask) (seen : Seen) → seen_of domains affinity q spare latest ≡ seen → IsAsked seen ask → IsShaped domains affinity → IfSome ask.cur (IsOwnUnit domains q)
+own_asked domains affinity q spare latest ask seen view asked is =
+    own_unit domains affinity q spare latest ask.cur is (subst (λ (s : Seen). IsOwnOf s.scheduler ask.cur) (sym view) asked.own)
+
+-- a unit with a record has a small number
+pub known_low : (domains : List (Option (List RtdsUnit))) (affinity : List (Option (List Cores))) (o : Option UnitId) → IsShaped domains affinity → IfSome o (IsKnown domains) → (u : UnitId) → o ≡ Some u → IsLow u
+known_low domains affinity None is known u at = absurd (cc)
+known_low domains affinity (Some w) is known u at = (let e : w ≡ u = cc in subst IsLow e (low_unit domains affinity w known.unit is known.at))

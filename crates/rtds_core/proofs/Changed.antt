@@ -1,0 +1,230 @@
+-- The records after a change of one unit, and what they have in common with the sets of cores.
+use Rattle.std.proofs.Common.{◌≡◌, ◌≢◌, ◌≤◌, ◌<◌, ◌+◌, ◌*◌, ℕ, zero, suc, Bool, true, false, List, [], ◌∷◌, refl, arith, ap, subst, sym, ◌∙◌, ◌⊎◌, inl, inr, length, nat_lt}
+use Rattle.std.proofs.Math.Decide.{ℕ_discrete}
+use Rattle.std.specs.Prelude.{Option, Some, None, slice_get, slice_set, option_map, unwrap_or, ◌-◌}
+use Rattle.std.specs.Option.{IfSome}
+use Rattle.std.specs.List.{AllByRecursion}
+use Rattle.std.proofs.lemmas.Bool.Decides.{nat_tests}
+use Rattle.std.proofs.lemmas.List.Elements.{All-from_recursion}
+use Rattle.sched_base.specs.declared.Cores.{Cores}
+use Rattle.sched_base.specs.declared.UnitId.{UnitId}
+use Rattle.sched_model.specs.Checked.{most_span}
+use Rattle.sched_model.specs.Places.{at_place, change_at, change_item, same_unit, put_at, clear_at}
+use Rattle.sched_model.specs.declared.state.RtdsUnit.{RtdsUnit}
+use Rattle.sched_model.specs.Eligible.{rtds_unit}
+use Rattle.sched_model.specs.Rtds.{change_unit}
+use Rattle.sched_laws.specs.Each.{EachPlace}
+use Rattle.sched_laws.proofs.EachPlace.{by_option, place_below, length_set, EachPlace-change_at}
+use Rattle.sched_laws.proofs.Lists.{AllByRecursion-map, length_change_item}
+use Rattle.sched_ranges.specs.Ranges.{RtdsInRange}
+use Rattle.sched_ranges.proofs.Rtds.{RtdsFits, RtdsFit}
+use Rattle.plain_units.specs.Fits as plain
+use Rattle.rtds_core.specs.Alarms.{id_of}
+use Rattle.rtds_core.specs.Kept.{IsShaped, size, total}
+
+slice_get-change_item : {X : Type 0} (i : ℕ) (f : X → X) (xs : List X) (x : X) → slice_get xs i ≡ Some x → slice_get (change_item i f xs) i ≡ Some (f x)
+slice_get-change_item i f [] x at = absurd (cc)
+slice_get-change_item zero f (y ∷ xs) x at = (let e : y ≡ x = cc in ap (λ (z : _). Some (f z)) e)
+slice_get-change_item (suc i) f (y ∷ xs) x at = slice_get-change_item i f xs x at
+
+slice_get-change_item_other : {X : Type 0} (i j : ℕ) (f : X → X) (xs : List X) → i ≢ j → slice_get (change_item i f xs) j ≡ slice_get xs j
+slice_get-change_item_other i j f [] other = refl
+slice_get-change_item_other zero zero f (y ∷ xs) other = absurd (other refl)
+slice_get-change_item_other zero (suc j) f (y ∷ xs) other = refl
+slice_get-change_item_other (suc i) zero f (y ∷ xs) other = refl
+slice_get-change_item_other (suc i) (suc j) f (y ∷ xs) other = slice_get-change_item_other i j f xs (λ e. other (ap suc e))
+
+pub at_place-set : {X : Type 0} (i : ℕ) (o : Option X) (places : List (Option X)) → i < length places → at_place (slice_set places i o) i ≡ o
+at_place-set i o [] inside = absurd (omega (arith, inside))
+at_place-set zero o (p ∷ places) inside = refl
+at_place-set (suc i) o (p ∷ places) inside = at_place-set i o places (omega (arith, inside))
+
+pub at_place-set_other : {X : Type 0} (i j : ℕ) (o : Option X) (places : List (Option X)) → i ≢ j → at_place (slice_set places i o) j ≡ at_place places j
+at_place-set_other zero j o [] other = refl
+at_place-set_other (suc i) j o [] other = refl
+at_place-set_other zero zero o (p ∷ places) other = absurd (other refl)
+at_place-set_other zero (suc j) o (p ∷ places) other = refl
+at_place-set_other (suc i) zero o (p ∷ places) other = refl
+at_place-set_other (suc i) (suc j) o (p ∷ places) other = at_place-set_other i j o places (λ e. other (ap suc e))
+
+pub at_place-change_at : {X : Type 0} (i : ℕ) (f : X → X) (places : List (Option X)) → at_place (change_at i f places) i ≡ option_map f (at_place places i)
+at_place-change_at zero f [] = refl
+at_place-change_at (suc i) f [] = refl
+at_place-change_at zero f (p ∷ places) = refl
+at_place-change_at (suc i) f (p ∷ places) = at_place-change_at i f places
+
+-- the record that is there after a change of its unit, and after one of another
+abbrev pub unit_in : Option (List RtdsUnit) → ℕ → Option RtdsUnit
+unit_in o n = elim o as (λ _. Option RtdsUnit) [ None ↦ None | Some units ↦ slice_get units n ]
+
+pub read_same : (u : UnitId) (f : RtdsUnit → RtdsUnit) (domains : List (Option (List RtdsUnit))) (x : RtdsUnit) → rtds_unit domains u ≡ Some x → rtds_unit (change_unit u f domains) u ≡ Some (f x)
+read_same u f domains x at = ap (λ (o : Option (List RtdsUnit)). unit_in o u.n) (at_place-change_at u.dom.0 (change_item u.n f) domains) ∙ there (at_place domains u.dom.0) at
+  where
+    there : (o : Option (List RtdsUnit)) → unit_in o u.n ≡ Some x → unit_in (option_map (change_item u.n f) o) u.n ≡ Some (f x)
+    there None is = absurd (cc)
+    there (Some units) is = slice_get-change_item u.n f units x is
+
+pub read_other : (w u : UnitId) (f : RtdsUnit → RtdsUnit) (domains : List (Option (List RtdsUnit))) → same_unit w u ≡ false → rtds_unit (change_unit w f domains) u ≡ rtds_unit domains u
+read_other w u f domains other =
+    elim (ℕ_discrete w.dom.0 u.dom.0) [
+      | yes e ↦ (
+          let n : w.n ≢ u.n = λ e2. (grind (arith, e, e2, other)) in
+          subst (λ (d : ℕ). unit_in (at_place (change_at w.dom.0 (change_item w.n f) domains) d) u.n ≡ unit_in (at_place domains d) u.n) e
+          (ap (λ (o : Option (List RtdsUnit)). unit_in o u.n) (at_place-change_at w.dom.0 (change_item w.n f) domains)
+          ∙ there (at_place domains w.dom.0) n))
+      | no ne ↦ ap (λ (o : Option (List RtdsUnit)). unit_in o u.n) (at_place-set_other w.dom.0 u.dom.0 _ domains ne)
+    ]
+  where
+    there : (o : Option (List RtdsUnit)) → w.n ≢ u.n → unit_in (option_map (change_item w.n f) o) u.n ≡ unit_in o u.n
+    there None n = refl
+    there (Some units) n = slice_get-change_item_other w.n u.n f units n
+
+-- the counts of the units stay
+sizes_changed : (u : UnitId) (f : RtdsUnit → RtdsUnit) (domains : List (Option (List RtdsUnit))) (d : ℕ) → option_map length (at_place (change_unit u f domains) d) ≡ option_map length (at_place domains d)
+sizes_changed u f domains d =
+    elim (ℕ_discrete u.dom.0 d) [
+      | yes e ↦
+          subst (λ (k : ℕ). option_map length (at_place (change_unit u f domains) k) ≡ option_map length (at_place domains k)) e
+          (ap (option_map length) (at_place-change_at u.dom.0 (change_item u.n f) domains) ∙ there (at_place domains u.dom.0))
+      | no ne ↦ ap (option_map length) (at_place-set_other u.dom.0 d _ domains ne)
+    ]
+  where
+    there : (o : Option (List RtdsUnit)) → option_map length (option_map (change_item u.n f) o) ≡ option_map length o
+    there None = refl
+    there (Some units) = ap Some (length_change_item u.n f units)
+
+pub shape_changed : (u : UnitId) (f : RtdsUnit → RtdsUnit) (domains : List (Option (List RtdsUnit))) (affinity : List (Option (List Cores))) → IsShaped domains affinity → IsShaped (change_unit u f domains) affinity
+shape_changed u f domains affinity is = record {
+  places = length_set u.dom.0 _ domains ∙ is.places;
+  few = is.few;
+  same = λ d. sizes_changed u f domains d ∙ is.same d;
+  small = EachPlace-change_at (λ (units : List RtdsUnit). length units ≤ 32) u.dom.0 (change_item u.n f) domains is.small (λ units at few. (let e = length_change_item u.n f units in omega (arith, few, e)));
+}
+
+pub total_changed : {X : Type 0} (i : ℕ) (f : List X → List X) (places : List (Option (List X))) → ((xs : List X) → length (f xs) ≡ length xs) → total (change_at i f places) ≡ total places
+total_changed {X} i f [] keeps = refl
+total_changed {X} zero f (o ∷ places) keeps = ap (λ (n : ℕ). n + total places) (there o)
+  where
+    there : (o : Option (List X)) → size (option_map f o) ≡ size o
+    there None = refl
+    there (Some xs) = keeps xs
+total_changed {X} (suc i) f (o ∷ places) keeps = ap (λ (n : ℕ). size o + n) (total_changed i f places keeps)
+
+pub total_set : {X : Type 0} (i : ℕ) (o : Option (List X)) (places : List (Option (List X))) → i < length places → total (slice_set places i o) + size (at_place places i) ≡ total places + size o
+total_set i o [] inside = absurd (omega (arith, inside))
+total_set zero o (p ∷ places) inside = omega arith
+total_set (suc i) o (p ∷ places) inside = (let r = total_set i o places (omega (arith, inside)) in omega (arith, r))
+
+-- a unit of the records has a small number
+get_below : {X : Type 0} (xs : List X) (n : ℕ) (x : X) → slice_get xs n ≡ Some x → n < length xs
+get_below [] n x at = absurd (cc)
+get_below (y ∷ xs) zero x at = omega arith
+get_below (y ∷ xs) (suc n) x at = (let r = get_below xs n x at in omega (arith, r))
+
+pub get_there : {X : Type 0} (xs : List X) (n : ℕ) → n < length xs → (x : X) × (slice_get xs n ≡ Some x)
+get_there [] n inside = absurd (omega (arith, inside))
+get_there (x ∷ xs) zero inside = (x, refl)
+get_there (x ∷ xs) (suc n) inside = get_there xs n (omega (arith, inside))
+
+-- the units of the domain of a unit that has a record
+pub record Home (domains : List (Option (List RtdsUnit))) (u : UnitId) : Type 0 where
+  pub units : List RtdsUnit
+  pub at : at_place domains u.dom.0 ≡ Some units
+  pub inside : u.n < length units
+
+pub home_of : (domains : List (Option (List RtdsUnit))) (u : UnitId) (x : RtdsUnit) → rtds_unit domains u ≡ Some x → Home domains u
+home_of domains u x at =
+    by_option (λ (o : Option RtdsUnit). o ≡ Some x → Home domains u) (at_place domains u.dom.0) _ _ (λ none e. absurd (cc))
+    (λ units there e. record { units = units; at = there; inside = get_below units u.n x e }) at
+
+pub record IsLow (u : UnitId) : Type 0 where
+  pub dom : u.dom.0 < 64
+  pub index : u.n < 32
+  pub byte : u.n < 256
+  pub id : id_of u < 2048
+
+pub low_unit : (domains : List (Option (List RtdsUnit))) (affinity : List (Option (List Cores))) (u : UnitId) (x : RtdsUnit) → IsShaped domains affinity → rtds_unit domains u ≡ Some x → IsLow u
+low_unit domains affinity u x is at =
+    let home = home_of domains u x at in
+    let few : length home.units ≤ 32 = is.small u.dom.0 home.units home.at in
+    let below : u.dom.0 < length domains = place_below domains u.dom.0 home.units home.at in
+    let inside = home.inside in
+    let places = is.places in
+    let most = is.few in
+    let d : u.dom.0 < 64 = omega (arith, below, places, most) in
+    let n : u.n < 32 = omega (arith, inside, few) in
+    record { dom = d; index = n; byte = omega (arith, n); id = omega (arith, d, n) }
+
+-- a unit that has a record has a set of cores, and the other way round
+pub record Sets (affinity : List (Option (List Cores))) (u : UnitId) : Type 0 where
+  pub sets : List Cores
+  pub at : at_place affinity u.dom.0 ≡ Some sets
+  pub inside : u.n < length sets
+
+same_size : {X Y : Type 0} (a : Option (List X)) (b : Option (List Y)) (xs : List X) → option_map length a ≡ option_map length b → a ≡ Some xs → (ys : List Y) × (b ≡ Some ys) × (length xs ≡ length ys)
+same_size None b xs same is = absurd (cc)
+same_size (Some zs) None xs same is = absurd (cc)
+same_size {X} (Some zs) (Some ys) xs same is =
+    let e : zs ≡ xs = cc in
+    let l : length zs ≡ length ys = cc in
+    (ys, refl, ap (λ (k : List X). length k) (sym e) ∙ l)
+
+pub sets_of : (domains : List (Option (List RtdsUnit))) (affinity : List (Option (List Cores))) (u : UnitId) (x : RtdsUnit) → IsShaped domains affinity → rtds_unit domains u ≡ Some x → Sets affinity u
+sets_of domains affinity u x is at =
+    let home = home_of domains u x at in
+    let s = same_size (at_place domains u.dom.0) (at_place affinity u.dom.0) home.units (is.same u.dom.0) home.at in
+    let inside = home.inside in
+    let long = s.2 in
+    record { sets = s.0; at = s.1; inside = omega (arith, inside, long) }
+
+pub record_of : (domains : List (Option (List RtdsUnit))) (affinity : List (Option (List Cores))) (u : UnitId) (sets : List Cores) → IsShaped domains affinity → at_place affinity u.dom.0 ≡ Some sets → u.n < length sets → (x : RtdsUnit) × (rtds_unit domains u ≡ Some x)
+record_of domains affinity u sets is at inside =
+    let s = same_size (at_place affinity u.dom.0) (at_place domains u.dom.0) sets (sym (is.same u.dom.0)) at in
+    let long = s.2 in
+    let there = get_there s.0 u.n (omega (arith, inside, long)) in
+    (there.0, ap (λ (o : Option (List RtdsUnit)). unit_in o u.n) s.1 ∙ there.1)
+
+abbrev pub count_in : Option (List Cores) → ℕ
+count_in o = elim o as (λ _. ℕ) [ None ↦ 0 | Some sets ↦ length sets ]
+
+-- a member has a record, and the other way round
+pub member_record : (domains : List (Option (List RtdsUnit))) (affinity : List (Option (List Cores))) (u : UnitId) → IsShaped domains affinity → nat_lt u.n (count_in (at_place affinity u.dom.0)) ≡ true → (x : RtdsUnit) × (rtds_unit domains u ≡ Some x)
+member_record domains affinity u is member = there (at_place affinity u.dom.0) refl member
+  where
+    there : (o : Option (List Cores)) → at_place affinity u.dom.0 ≡ o → nat_lt u.n (count_in o) ≡ true → (x : RtdsUnit) × (rtds_unit domains u ≡ Some x)
+    there None at e = absurd (grind (arith, nat_tests, e))
+    there (Some sets) at e = record_of domains affinity u sets is at (grind (arith, nat_tests, e))
+
+pub record_member : (domains : List (Option (List RtdsUnit))) (affinity : List (Option (List Cores))) (u : UnitId) (x : RtdsUnit) → IsShaped domains affinity → rtds_unit domains u ≡ Some x → nat_lt u.n (count_in (at_place affinity u.dom.0)) ≡ true
+record_member domains affinity u x is at =
+    let s = sets_of domains affinity u x is at in
+    ap (λ (o : Option (List Cores)). nat_lt u.n (count_in o)) s.at ∙ (let i = s.inside in grind (arith, nat_tests, i))
+
+-- the ranges that the plain machine asks for
+spread : (level budget rest : ℕ) → budget ≡ 10000 + rest → level * budget ≡ level * 10000 + level * rest
+spread level budget rest e = subst (λ (z : ℕ). level * z ≡ level * 10000 + level * rest) (sym e) (grind arith)
+
+in_range : (t : ℕ) (x : RtdsUnit) → RtdsFits t x → RtdsInRange t x
+in_range t x fits = record {
+  period = fits.period;
+  budget = fits.budget;
+  next_period = fits.next_period;
+  next_budget = fits.next_budget;
+  left = fits.left;
+  level = (
+      let least = fits.budget.least in
+      let split : x.budget ≡ 10000 + (x.budget - 10000) = omega (arith, least) in
+      let product : x.level * x.budget ≡ x.level * 10000 + x.level * (x.budget - 10000) = spread x.level x.budget (x.budget - 10000) split in
+      let spent = fits.spent in
+      let last = fits.last in
+      omega (arith, product, spent, last));
+  deadline = fits.deadline;
+  burned = by_last x.burned fits.last;
+}
+  where
+    by_last : (o : Option ℕ) → unwrap_or o t ≤ t → IfSome o (λ (b : ℕ). b ≤ t)
+    by_last None low = tt
+    by_last (Some b) low = low
+
+pub plain_fits : (t : ℕ) (domains : List (Option (List RtdsUnit))) → length domains ≤ 64 → RtdsFit t domains → plain.RtdsFits t domains
+plain_fits t domains few fit = record { few_domains = few; domains = λ d units at. All-from_recursion (RtdsInRange t) units (AllByRecursion-map (RtdsFits t) (RtdsInRange t) (in_range t) units (fit d units at)) }

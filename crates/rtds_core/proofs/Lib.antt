@@ -1,0 +1,13 @@
+pub mod Armed
+pub mod Queues
+pub mod First
+pub mod Changed
+pub mod Units
+pub mod Timing
+pub mod Keeping
+pub mod Steps
+pub mod Chosen
+pub mod Joining
+pub mod Calls
+pub mod Vacant
+pub mod Replicate

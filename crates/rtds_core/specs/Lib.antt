@@ -1,0 +1,6 @@
+pub mod Alarms
+pub mod Best
+pub mod Kept
+pub mod Masks
+pub mod Outside
+pub mod Driven

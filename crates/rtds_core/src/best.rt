@@ -1,0 +1,163 @@
+//! The unit that a core takes: its own, or the first of the queue that may have the core.
+
+ghost use Rattle.std.specs.Prelude.{◌≡◌, ◌+◌, ◌<◌, ◌≤◌, ◌++◌, Some, []};
+ghost use Rattle.std.specs.Option.{ForSome};
+ghost use Rattle.sched_base.specs.declared.UnitId.{UnitId as UnitName};
+ghost use Rattle.sched_model.specs.declared.state.Records.TheVariants.{RtdsPool};
+ghost use Rattle.sched_model.specs.Rtds.{budget_left as budget_left_spec, own_candidate as own_candidate_spec, foremost, choice, switch_off};
+ghost use Rattle.arrival_queue.specs.Order.{IsInOrder, EachRankOnce, EachUnitOnce};
+ghost use Rattle.plain_policy.specs.Parts.{scheduler_of};
+ghost use Rattle.rtds_core.specs.Alarms.{id_of};
+ghost use Rattle.rtds_core.specs.Best.{queue_of, key_by, AreQueued, AreMasks, listed, goes_first as goes_first_spec, due_at, deadline_in, run_from, taken, started, stopped};
+ghost use Rattle.rtds_core.specs.Kept.{IsShaped};
+
+use crate::alarms::Alarms;
+use crate::records::set_running;
+use plain_policy::rtds::{rtds_unit, unit_before};
+use plain_units::eligible::is_allowed;
+use rtds_queue::{RtdsKey, RtdsQueues};
+use sched_base::{Cores, Masks, Moment, ResId, UnitId};
+use sched_model::ask::Ask;
+use sched_model::config::Pins;
+use sched_model::row::Row;
+use sched_model::state::{RtdsUnit, RtdsUnits};
+
+/// The level and the deadline of a unit.
+pub fn key_of(x: &RtdsUnit) -> RtdsKey
+    ensures { result ≡ key_by x.now }
+{
+    RtdsKey {
+        level: x.level,
+        deadline: Moment(x.deadline),
+    }
+}
+
+/// The budget that is left to the unit, in nanoseconds.
+fn budget_left(domains: &[Option<RtdsUnits>], u: UnitId) -> u64
+    ensures { result ≡ budget_left_spec domains.now u }
+{
+    match rtds_unit(domains, u) {
+        None => 0,
+        Some(unit) => unit.left,
+    }
+}
+
+/// The unit's deadline, and 0 where there is no such unit.
+fn deadline_of(domains: &[Option<RtdsUnits>], u: UnitId) -> u64
+    ensures { result ≡ deadline_in domains.now u }
+{
+    match rtds_unit(domains, u) {
+        None => 0,
+        Some(unit) => unit.deadline,
+    }
+}
+
+/// The core's own unit, where it may go on.
+fn own_candidate(
+    domains: &[Option<RtdsUnits>],
+    affinity: &[Option<Pins>],
+    ask: &Ask,
+) -> Option<UnitId>
+    requires { ask.now.core < 64 }
+    ensures { result ≡ own_candidate_spec ask.now (scheduler_of [] affinity.now (RtdsPool domains.now)) domains.now }
+{
+    let u = ask.cur?;
+    if ask.runnable && is_allowed(affinity, ask.home, ask.core, u) && 0 < budget_left(domains, u) {
+        Some(u)
+    } else {
+        None
+    }
+}
+
+/// Whether the first that waits, if one does, goes before the core's own.
+pub fn goes_first(domains: &[Option<RtdsUnits>], first: Option<UnitId>, own: UnitId) -> bool
+    ensures { result ≡ goes_first_spec domains.now first own }
+{
+    match first {
+        None => false,
+        Some(u) => unit_before(domains, u, own),
+    }
+}
+
+/// The core's own unit, unless the first that waits goes before it.
+fn better_of(
+    domains: &[Option<RtdsUnits>],
+    own: Option<UnitId>,
+    first: Option<UnitId>,
+) -> Option<UnitId>
+    ensures { result ≡ foremost domains.now own (listed first) }
+{
+    match own {
+        None => first,
+        Some(u) => { if goes_first(domains, first, u) { first } else { own } }
+    }
+}
+
+/// The choice, after the core's own unit was charged.
+pub fn pick(
+    domains: &[Option<RtdsUnits>],
+    affinity: &[Option<Pins>],
+    queues: &RtdsQueues,
+    masks: &Masks,
+    ask: &Ask,
+) -> Option<UnitId>
+    requires core { ask.now.core < 64 }
+    requires queues { AreQueued domains.now queues.now }
+    requires order { IsInOrder queues.now.eligible }
+    requires ranks { EachRankOnce (queues.now.eligible ++ queues.now.spent) }
+    requires units { EachUnitOnce (queues.now.eligible ++ queues.now.spent) }
+    requires shape { IsShaped domains.now affinity.now }
+    requires masks { AreMasks affinity.now masks.now }
+    ensures { result ≡ choice ask.now (scheduler_of (queue_of queues.now) affinity.now (RtdsPool domains.now)) domains.now }
+{
+    if ask.leaving {
+        return None;
+    }
+    let first = queues.first_on(masks, ResId(ask.core), Cores(ask.home));
+    better_of(domains, own_candidate(domains, affinity, ask), first)
+}
+
+/// The moment at which the budget of the chosen unit is used up.
+pub fn due_of(domains: &[Option<RtdsUnits>], at: u64, chosen: Option<UnitId>) -> Option<Moment>
+    requires early { at ≤ 10000000000000 }
+    requires left { (u : UnitName) → budget_left_spec domains.now u ≤ 1000000000000 }
+    ensures { result ≡ due_at domains.now at chosen }
+{
+    match chosen {
+        None => None,
+        Some(u) => Some(Moment(at + budget_left(domains, u))),
+    }
+}
+
+/// The core's own unit runs no more, and as it does not wait, it is not armed.
+pub fn stop(cur: Option<UnitId>, domains: &mut Row<Option<RtdsUnits>>, alarms: &mut Alarms)
+    requires known { ForSome cur (λ u. id_of u < 2048) }
+    ensures domains { domains.new ≡ switch_off cur domains.old }
+    ensures alarms { alarms.new ≡ stopped cur alarms.old }
+{
+    if let Some(u) = cur {
+        set_running(None, u, domains);
+        alarms.disarm(u);
+    }
+}
+
+/// The chosen unit runs from a moment on. It waits no more, and its deadline is armed.
+pub fn start(
+    at: u64,
+    chosen: Option<UnitId>,
+    domains: &mut Row<Option<RtdsUnits>>,
+    queues: &mut RtdsQueues,
+    alarms: &mut Alarms,
+)
+    requires known { ForSome chosen (λ u. id_of u < 2048) }
+    ensures domains { domains.new ≡ run_from at chosen domains.old }
+    ensures queues { queues.new ≡ taken chosen queues.old }
+    ensures alarms { alarms.new ≡ started domains.old chosen alarms.old }
+{
+    if let Some(u) = chosen {
+        let deadline = deadline_of(domains.as_slice(), u);
+        set_running(Some(at), u, domains);
+        let _ = queues.remove(u);
+        alarms.arm(u, Moment(deadline));
+    }
+}

@@ -1,0 +1,210 @@
+//! RTDS as a scheduler of a pool.
+
+ghost use Rattle.std.specs.Prelude.{◌≡◌, ◌≤◌};
+ghost use Rattle.sched_model.specs.Policy.{kind_of};
+ghost use Rattle.sched_model.specs.declared.config.SchedKind.{SchedKind};
+ghost use Rattle.rtds_core.specs.Outside.{seen_by};
+
+use crate::held::Held;
+use sched_base::{Cores, DomId, Moment, NoMemory, ResId, Span, UnitId};
+use sched_model::ask::Ask;
+use sched_model::config::{DomParams, ParamChange, PoolParams};
+use sched_model::event::Event;
+use sched_model::facts::Stored;
+use sched_ops::{Choice, Places, Policy, Timer};
+use std::alloc::Global;
+use std::marker::Model;
+
+/// The RTDS scheduler. It holds no memory until the first `reserve`, and has no place for a domain then.
+#[derive(Drop)]
+pub struct Rtds {
+    held: Option<Held>,
+    early: u64,
+}
+
+impl Model for Rtds {
+    ghost use Rattle.sched_ops.specs.Seen.{Seen};
+
+    ghost Value = { Seen };
+
+    ghost use Rattle.rtds_core.specs.Outside.{seen_by, IsInside};
+
+    ghost view = { λ a. seen_by a.held a.early };
+
+    ghost invariant = { λ a. IsInside a.held a.early };
+}
+
+/// The greatest moment that was given, in nanoseconds.
+fn latest_of(held: &Option<Held>, early: u64) -> u64
+    requires { early ≤ 10000000000000 }
+    ensures latest { result ≡ (seen_by held.now early).latest }
+    ensures early { result ≤ 10000000000000 }
+    ensures kind { kind_of (seen_by held.now early).scheduler.records ≡ SchedKind.Rtds }
+{
+    match held {
+        None => early,
+        Some(held) => {
+            held.keeps();
+            held.latest()
+        }
+    }
+}
+
+/// Does nothing, and tells that the records are of RTDS.
+fn law_kind(held: &Option<Held>, early: u64)
+    ensures { kind_of (seen_by held.now early).scheduler.records ≡ SchedKind.Rtds }
+{
+    match held {
+        None => {}
+        Some(held) => held.keeps(),
+    }
+}
+
+/// Stands where there is no unit to replenish.
+fn no_event(u: UnitId) -> Event {
+    Event::Repl {
+        u,
+        start: Moment(0),
+        deadline: Moment(0),
+        budget: Span(0),
+        extra: false,
+    }
+}
+
+impl Rtds {
+    ghost use Rattle.std.specs.Prelude.{◌≡◌};
+    ghost use Rattle.rtds_core.specs.Kept.{bare};
+
+    /// A scheduler without memory.
+    pub fn empty() -> Self
+        ensures { result ≡ bare 0 }
+    {
+        Rtds {
+            held: None,
+            early: 0,
+        }
+    }
+}
+
+impl Policy for Rtds {
+    ghost seen = { λ s. s };
+
+    fn reserve(&mut self, alloc: Global, places: Places, units: usize) -> Result<(), NoMemory> {
+        let latest = latest_of(&self.held, self.early);
+        let held = Held::room(alloc, places, units, latest)?;
+        self.held = Some(held);
+        Ok(())
+    }
+
+    /// Does nothing, since RTDS has no parameters of a pool, and without domains its records are fresh.
+    fn restart(&mut self, _params: &PoolParams) {
+        match &self.held {
+            None => {}
+            Some(held) => held.law_vacant(),
+        }
+    }
+
+    fn join(&mut self, d: DomId, units: u8, params: &DomParams, t: Moment) {
+        match &mut self.held {
+            None => {}
+            Some(held) => held.join(d, units, params, t),
+        }
+    }
+
+    fn part(&mut self, d: DomId) {
+        match &mut self.held {
+            None => {}
+            Some(held) => held.part(d),
+        }
+    }
+
+    fn enqueue(&mut self, u: UnitId) {
+        match &mut self.held {
+            None => {}
+            Some(held) => held.enqueue(u),
+        }
+    }
+
+    fn dequeue(&mut self, u: UnitId) {
+        match &mut self.held {
+            None => {}
+            Some(held) => held.dequeue(u),
+        }
+    }
+
+    fn choose(&mut self, ask: &Ask) -> Choice {
+        match &mut self.held {
+            None => {
+                self.early = ask.at;
+                Choice {
+                    unit: None,
+                    due: None,
+                    reset: 0,
+                }
+            }
+            Some(held) => held.choose(ask),
+        }
+    }
+
+    fn better_waits(
+        &self,
+        cur: Option<UnitId>,
+        since: Moment,
+        t: Moment,
+        core: ResId,
+        home: Cores,
+    ) -> bool {
+        match &self.held {
+            None => false,
+            Some(held) => held.better_waits(cur, since, t, core, home),
+        }
+    }
+
+    fn timer_due(&self, t: Moment) -> Option<(Moment, Timer)> {
+        match &self.held {
+            None => None,
+            Some(held) => held.timer_due(t),
+        }
+    }
+
+    fn timer(&mut self, which: Timer, t: Moment) -> Event {
+        match which {
+            Timer::Repl(u) => match &mut self.held {
+                None => no_event(u),
+                Some(held) => held.replenish(u, t),
+            },
+            Timer::Refill(d) => {
+                law_kind(&self.held, self.early);
+                no_event(UnitId { dom: d, n: 0 })
+            }
+        }
+    }
+
+    fn set_params(&mut self, change: &ParamChange, t: Moment) {
+        match &mut self.held {
+            None => {}
+            Some(held) => held.set_params(change, t),
+        }
+    }
+
+    fn stored(&self, u: UnitId) -> Stored {
+        match &self.held {
+            None => Stored::Null,
+            Some(held) => held.stored(u),
+        }
+    }
+
+    fn rate(&self) -> u32 {
+        match &self.held {
+            None => 0,
+            Some(held) => held.rate(),
+        }
+    }
+
+    fn keeps(&self) {
+        match &self.held {
+            None => {}
+            Some(held) => held.keeps(),
+        }
+    }
+}
