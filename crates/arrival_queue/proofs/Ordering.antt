@@ -110,9 +110,6 @@ before_other a b neither other =
     ]
 
 -- ranks that close up keep their order
-pub closed_rank : ℕ → ℕ → ℕ
-closed_rank r n = (if nat_lt r n then n - 1 else n)
-
 pub closed-test : (r a b : ℕ) → (a ≡ r → ⊥) → (b ≡ r → ⊥) → nat_lt (if nat_lt r a then a - 1 else a) (if nat_lt r b then b - 1 else b) ≡ nat_lt a b
 closed-test r a b other_a other_b =
     elim (cases_lt r a) [
