@@ -169,10 +169,6 @@ impl Arinc {
 }
 
 impl Policy for Arinc {
-    ghost use Rattle.sched_model.specs.declared.config.SchedKind.TheVariants.{Arinc653};
-
-    ghost kind = { Arinc653 };
-
     ghost seen = { λ a. a };
 
     fn reserve(&mut self, alloc: Global, places: Places, units: usize) -> Result<(), NoMemory> {
