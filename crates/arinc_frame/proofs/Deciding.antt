@@ -1,0 +1,82 @@
+-- What an ARINC 653 pool decides, by the unit of the present window alone.
+use Rattle.std.proofs.Common.{◌≡◌, ℕ, Bool, true, false, ◌||◌, ◌&&◌, List, [], ◌∷◌, refl, subst, sym, ◌∙◌, ap, cond}
+use Rattle.std.specs.Prelude.{Option, Some, None, not, is_some, if◌then◌else◌}
+use Rattle.std.specs.List.{list_any}
+use Rattle.sched_base.specs.Numbers.{moment}
+use Rattle.sched_base.specs.declared.UnitId.{UnitId}
+use Rattle.sched_base.specs.declared.Cores.{Cores}
+use Rattle.sched_model.specs.declared.ask.Ask.{Ask}
+use Rattle.sched_model.specs.declared.state.ArincRecords.{ArincRecords}
+use Rattle.sched_model.specs.declared.state.Records.TheVariants.{ArincPool}
+use Rattle.sched_model.specs.Arinc.{Window, present_window, window_unit}
+use Rattle.sched_model.specs.Places.{has_unit, is_unit, same_unit}
+use Rattle.sched_model.specs.Eligible.{is_allowed_by, is_eligible}
+use Rattle.sched_model.specs.Policy.{choice_of_window, better_waits, is_better}
+use Rattle.sched_laws.proofs.Choices.{same_unit_same}
+use Rattle.sched_laws.proofs.Counts.{same_unit_refl}
+use Rattle.plain_policy.specs.Parts.{scheduler_of}
+use Rattle.pool_units.specs.Units.{Units}
+use Rattle.pool_units.proofs.Waiting.{any_of_one, any_of_none}
+use Rattle.arinc_frame.specs.Waiting.{awaited, is_other}
+
+and_true : (b : Bool) → (b && true) ≡ b
+and_true true = refl
+and_true false = refl
+
+and_false : (b : Bool) → (b && false) ≡ false
+and_false true = refl
+and_false false = refl
+
+right_of : (a b : Bool) → (a && b) ≡ true → b ≡ true
+right_of true b both = both
+right_of false b both = absurd (cc)
+
+left_of : (a b : Bool) → (a && b) ≡ true → a ≡ true
+left_of true b both = refl
+left_of false b both = absurd (cc)
+
+is_some_cond : (b : Bool) (u : UnitId) → is_some (cond b (Some u) None) ≡ b
+is_some_cond true u = refl
+is_some_cond false u = refl
+
+is_other_cond : (b : Bool) (u own : UnitId) → (b && not (same_unit u own)) ≡ is_other (cond b (Some u) None) own
+is_other_cond true u own = refl
+is_other_cond false u own = refl
+
+and_assoc : (a b c : Bool) → (a && (b && c)) ≡ ((a && b) && c)
+and_assoc true b c = refl
+and_assoc false b c = refl
+
+-- the test of a waiting unit, at a window with this unit
+abbrev passes_window : Units → ℕ → ℕ → Option UnitId → UnitId → Bool
+passes_window units home core window u = is_allowed_by units.affinity home core u && is_unit window u
+
+passes_own : (units : Units) (home core : ℕ) (w : UnitId) → passes_window units home core (Some w) w ≡ is_allowed_by units.affinity home core w
+passes_own units home core w = ap (λ b. is_allowed_by units.affinity home core w && b) (same_unit_refl w) ∙ and_true (is_allowed_by units.affinity home core w)
+
+is_window_unit : (units : Units) (home core : ℕ) (w u : UnitId) → passes_window units home core (Some w) u ≡ true → u ≡ w
+is_window_unit units home core w u passes = sym (same_unit_same w u (right_of (is_allowed_by units.affinity home core u) (same_unit w u) passes))
+
+-- some unit is eligible where the window's unit waits and may have the core
+pub some_eligible : (units : Units) (records : ArincRecords) (t home core : ℕ) → list_any (is_eligible (scheduler_of units.queue units.affinity (ArincPool records)) home core t) units.queue ≡ is_some (awaited units (window_unit records t) home core)
+some_eligible units records t home core =
+    elim (window_unit records t) as (λ o. list_any (passes_window units home core o) units.queue ≡ is_some (awaited units o home core)) [
+      | None ↦ any_of_none (passes_window units home core None) units.queue (λ u. and_false (is_allowed_by units.affinity home core u))
+      | Some w ↦
+        any_of_one w (passes_window units home core (Some w)) units.queue (is_window_unit units home core w)
+        ∙ ap (λ b. has_unit units.queue w && b) (passes_own units home core w)
+        ∙ sym (is_some_cond (has_unit units.queue w && is_allowed_by units.affinity home core w) w)
+    ]
+
+-- some unit is eligible and better than the core's own where the window's unit is another, waits and may have the core
+pub some_better : (units : Units) (records : ArincRecords) (t home core : ℕ) (own : UnitId)
+    → list_any (λ u. is_eligible (scheduler_of units.queue units.affinity (ArincPool records)) home core t u && not (same_unit u own)) units.queue ≡ is_other (awaited units (window_unit records t) home core) own
+some_better units records t home core own =
+    elim (window_unit records t) as (λ o. list_any (λ u. passes_window units home core o u && not (same_unit u own)) units.queue ≡ is_other (awaited units o home core) own) [
+      | None ↦ any_of_none (λ u. passes_window units home core None u && not (same_unit u own)) units.queue (λ u. ap (λ b. b && not (same_unit u own)) (and_false (is_allowed_by units.affinity home core u)))
+      | Some w ↦
+        any_of_one w (λ u. passes_window units home core (Some w) u && not (same_unit u own)) units.queue (λ u passes. is_window_unit units home core w u (left_of (passes_window units home core (Some w) u) (not (same_unit u own)) passes))
+        ∙ ap (λ b. has_unit units.queue w && (b && not (same_unit w own))) (passes_own units home core w)
+        ∙ and_assoc (has_unit units.queue w) (is_allowed_by units.affinity home core w) (not (same_unit w own))
+        ∙ is_other_cond (has_unit units.queue w && is_allowed_by units.affinity home core w) w own
+    ]

@@ -1,0 +1,83 @@
+-- A window stays the same, with its end, until that end.
+use Rattle.std.proofs.Common.{◌≡◌, ◌<◌, ◌≤◌, ◌+◌, ◌-◌, ◌*◌, ◌/◌, ◌%◌, ℕ, Bool, true, false, List, [], ◌∷◌, refl, arith, subst, sym, ◌∙◌, ap}
+use Rattle.std.specs.Prelude.{Option, Some, None, nat_lt}
+use Rattle.std.specs.Option.{ForSome}
+use Rattle.std.proofs.lemmas.Nat.{mod-mul-add, div-add-mod'}
+use Rattle.sched_model.specs.declared.config.Frame.{Frame}
+use Rattle.sched_model.specs.declared.config.FrameEntry.{FrameEntry}
+use Rattle.sched_model.specs.declared.state.ArincRecords.{ArincRecords}
+use Rattle.sched_model.specs.Arinc.{Window, window_from, window_at, present_window}
+use Rattle.sched_laws.proofs.Window.{until_last}
+use Rattle.sched_ranges.specs.Ranges.{IsFrame}
+use Rattle.plain_policy.specs.Frames.{window_of}
+use Rattle.arinc_frame.specs.declared.window.Present.{Present}
+use Rattle.arinc_frame.specs.Frames.{IsPresent}
+
+is_lt : (a b : ℕ) → a < b → nat_lt a b ≡ true
+is_lt a b is = grind arith
+
+is_ge : (a b : ℕ) → b ≤ a → nat_lt a b ≡ false
+is_ge a b is = grind arith
+
+ge_of : (a b : ℕ) → nat_lt a b ≡ false → b ≤ a
+ge_of a b is = grind arith
+
+abbrev cons_window : FrameEntry → ℕ → ℕ → ℕ → List FrameEntry → Bool → Window
+cons_window e start ahead last entries b = elim b as (λ _. Window) [ true ↦ record { unit = Some (record { dom = e.dom; n = e.unit }); until = start + e.run.0 } | false ↦ window_from (start + e.run.0) (ahead - e.run.0) last entries ]
+
+-- a later place of the frame that is before the window's end
+same_window : (start ahead more last : ℕ) (entries : List FrameEntry) → start + ahead + more < (window_from start ahead last entries).until → window_from start (ahead + more) last entries ≡ window_from start ahead last entries
+same_window start ahead more last [] low = refl
+same_window start ahead more last (e ∷ entries) low =
+    elim (nat_lt ahead e.run.0) as (λ b. nat_lt ahead e.run.0 ≡ b → start + ahead + more < (cons_window e start ahead last entries b).until → window_from start (ahead + more) last (e ∷ entries) ≡ cons_window e start ahead last entries b) [
+      | true ↦ λ is below. (let there : nat_lt (ahead + more) e.run.0 ≡ true = is_lt (ahead + more) e.run.0 (omega (arith, below)) in ap (cons_window e start (ahead + more) last entries) there)
+      | false ↦ λ is below. (
+          let g = ge_of ahead e.run.0 is in
+          let there : nat_lt (ahead + more) e.run.0 ≡ false = is_ge (ahead + more) e.run.0 (omega (arith, g)) in
+          let shift : ahead + more - e.run.0 ≡ (ahead - e.run.0) + more = omega (arith, g) in
+          let at : start + e.run.0 + (ahead - e.run.0) + more ≡ start + ahead + more = omega (arith, g) in
+          ap (cons_window e start (ahead + more) last entries) there
+          ∙ ap (λ a. window_from (start + e.run.0) a last entries) shift
+          ∙ same_window (start + e.run.0) (ahead - e.run.0) more last entries (subst (λ k. k < (window_from (start + e.run.0) (ahead - e.run.0) last entries).until) (sym at) below))
+    ] refl low
+
+mod_more : (x more k : ℕ) → x % k + more < k → (x + more) % k ≡ x % k + more
+mod_more x more k low =
+    let d : x / k * k + x % k ≡ x = div-add-mod' x k in
+    let e : x + more ≡ x / k * k + (x % k + more) = omega (arith, d) in
+    ap (λ y. y % k) e ∙ mod-mul-add (x / k) k (x % k + more) low
+
+mod_self : (x k : ℕ) → x % k ≤ x
+mod_self x k = (let d : x / k * k + x % k ≡ x = div-add-mod' x k in omega (arith, d))
+
+-- the window of a moment after the installation is that of each moment up to its end
+window_steady : (installed : ℕ) (frame : Frame) (from t : ℕ) → IsFrame frame → installed ≤ from → from ≤ t → t < (window_at installed frame from).until → window_at installed frame t ≡ window_at installed frame from
+window_steady installed frame from t in_range since past low =
+    let major : ℕ = frame.major.0 in
+    let x : ℕ = from - installed in
+    let more : ℕ = t - from in
+    let ahead : ℕ = x % major in
+    let split : t - installed ≡ x + more = omega (arith, past, since) in
+    let self : ahead ≤ x = mod_self x major in
+    let fits = in_range.fits in
+    let last = until_last (from - ahead) ahead (from - ahead + major) frame.entries (omega (arith, fits)) in
+    let inside : ahead + more < major = omega (arith, self, last, low, past, since) in
+    let rest : (t - installed) % major ≡ ahead + more = ap (λ y. y % major) split ∙ mod_more x more major inside in
+    let start : t - (ahead + more) ≡ from - ahead = omega (arith, self, past, since) in
+    let there : from - ahead + ahead + more ≡ t = omega (arith, self, past, since) in
+    ap (λ a. window_from (t - a) a (t - a + major) frame.entries) rest
+    ∙ ap (λ s. window_from s (ahead + more) (s + major) frame.entries) start
+    ∙ same_window (from - ahead) ahead more (from - ahead + major) frame.entries (subst (λ k. k < (window_at installed frame from).until) (sym there) low)
+
+-- the window that was found last, up to its end
+pub present_still : (records : ArincRecords) (present : Present) (t : ℕ) → ForSome records.frame IsFrame → IsPresent records present → present.from ≤ t → t < present.window.until → Some (window_of present.window) ≡ present_window records t
+present_still records present t in_range is past low =
+    elim records.frame as (λ o. records.frame ≡ o
+    → elim o as (λ _. Option Window) [ None ↦ None | Some frame ↦ Some (window_at records.installed frame present.from) ] ≡ Some (window_of present.window)
+    → Some (window_of present.window) ≡ elim o as (λ _. Option Window) [ None ↦ None | Some frame ↦ Some (window_at records.installed frame t) ]) [
+      | None ↦ λ e found. absurd (cc)
+      | Some frame ↦ λ e found. (
+          let same : window_at records.installed frame present.from ≡ window_of present.window = cc in
+          let before : t < (window_at records.installed frame present.from).until = subst (λ (w : Window). t < w.until) (sym same) low in
+          ap Some (sym same ∙ sym (window_steady records.installed frame present.from t (in_range frame e) is.installed past before)))
+    ] refl is.found

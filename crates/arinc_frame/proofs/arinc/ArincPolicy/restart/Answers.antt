@@ -1,0 +1,11 @@
+use Rattle.std.proofs.Common.{◌≡◌, ap}
+use Rattle.sched_model.specs.declared.state.Scheduler.{Scheduler}
+use Rattle.sched_ops.specs.Seen.{Seen}
+use Rattle.arinc_frame.proofs.Ready.{begun_anew}
+use Rattle.arinc_frame.proofs.arinc.ArincPolicy.restart.Goals as goal
+
+pub returns : goal.returns
+returns c =
+    let r = rw (← c.self.view_is) at c.requires in
+    let i = c.self.inside in
+    rw (← c.self.view_is) (ap (λ (s : Scheduler). record { scheduler = s; spare = i.units.spare; latest = i.latest }) (begun_anew i.units.queue i.units.affinity i.records c.args.params.now c.frame_of.result c.keeps.ensures.members r.vacant c.frame_of.ensures.records))

@@ -1,0 +1,22 @@
+-- The unit of a window, among the units of a pool.
+use Rattle.std.specs.Prelude.{ℕ, ◌&&◌, Bool, false, not, Option, Some, None, if◌then◌else◌}
+use Rattle.sched_base.specs.declared.UnitId.{UnitId}
+use Rattle.sched_model.specs.declared.ask.Ask.{Ask}
+use Rattle.sched_model.specs.Places.{has_unit, is_unit, same_unit}
+use Rattle.sched_model.specs.Eligible.{is_allowed_by}
+use Rattle.pool_units.specs.Units.{Units}
+
+-- the window's unit, where it waits and may have the core
+abbrev pub awaited : Units → Option UnitId → ℕ → ℕ → Option UnitId
+awaited units None home core = None
+awaited units (Some u) home core = (if has_unit units.queue u && is_allowed_by units.affinity home core u then Some u else None)
+
+-- the window's unit, where it is the core's own and may go on, or waits
+abbrev pub chosen : Units → Option UnitId → Ask → Option UnitId
+chosen units None ask = None
+chosen units (Some u) ask = (if is_unit ask.cur u && ask.runnable then Some u else awaited units (Some u) ask.home ask.core)
+
+-- a unit that is another than the core's own
+abbrev pub is_other : Option UnitId → UnitId → Bool
+is_other None own = false
+is_other (Some u) own = not (same_unit u own)

@@ -1,0 +1,274 @@
+//! ARINC 653 as a scheduler of a pool.
+
+ghost use Rattle.std.specs.Prelude.{◌≡◌, ◌≤◌, ◌<◌, ℕ};
+ghost use Rattle.std.specs.Option.{ForSome};
+ghost use Rattle.sched_model.specs.declared.state.Records.TheVariants.{ArincPool};
+ghost use Rattle.sched_model.specs.declared.config.SchedKind.TheVariants.{Arinc653};
+ghost use Rattle.sched_model.specs.Arinc.{window_unit};
+ghost use Rattle.sched_model.specs.Policy.{decision_of, fresh_records};
+ghost use Rattle.sched_ranges.specs.Ranges.{IsFrame};
+ghost use Rattle.plain_policy.specs.Parts.{scheduler_of};
+ghost use Rattle.sched_ops.specs.Conditions.{ArePoolParams};
+ghost use Rattle.sched_ops.specs.Seen.{Tells};
+ghost use Rattle.arinc_frame.specs.Frames.{IsPresent};
+ghost use Rattle.arinc_frame.specs.Waiting.{awaited as awaited_spec, chosen as chosen_spec, is_other as is_other_spec};
+
+use crate::window::{Present, copy_frame, copy_of, found_at, window_now};
+use plain_units::units::{is_same, is_there};
+use pool_units::PoolUnits;
+use sched_base::{Cores, DomId, Moment, NoMemory, ResId, UnitId};
+use sched_model::ask::Ask;
+use sched_model::config::{DomParams, Frame, ParamChange, PoolParams};
+use sched_model::event::Event;
+use sched_model::facts::Stored;
+use sched_model::state::ArincRecords;
+use sched_ops::{Choice, Places, Policy, Timer};
+use std::alloc::Global;
+use std::marker::Model;
+
+/// The scheduler ARINC 653 of one pool. Contracts see what they see of every scheduler: the waiting units, the sets of cores,
+/// the frame with the moment of its installation, how many units may still join, and the greatest moment given.
+#[derive(Drop)]
+pub struct Arinc {
+    units: PoolUnits,
+    records: ArincRecords,
+    present: Option<Present>,
+    latest: u64,
+}
+
+impl Model for Arinc {
+    ghost use Rattle.sched_model.specs.declared.state.Records.TheVariants.{ArincPool};
+    ghost use Rattle.plain_policy.specs.Parts.{scheduler_of};
+    ghost use Rattle.sched_ops.specs.Seen.{Seen};
+    ghost use Rattle.arinc_frame.specs.Frames.{IsReady};
+
+    ghost Value = { Seen };
+
+    ghost view = { λ a. record { scheduler = scheduler_of a.units.queue a.units.affinity (ArincPool a.records); spare = a.units.spare; latest = a.latest } };
+
+    ghost invariant = { λ a. IsReady a.records a.present a.latest };
+}
+
+/// The unit of the present window.
+fn unit_now(records: &ArincRecords, present: Option<Present>, t: u64) -> Option<UnitId>
+    requires frame { ForSome records.now.frame IsFrame }
+    requires present { ForSome present (IsPresent records.now) }
+    requires early { t ≤ 10000000000000 }
+    ensures { result ≡ window_unit records.now t }
+{
+    match window_now(records, present, t) {
+        None => None,
+        Some(window) => window.unit,
+    }
+}
+
+/// Whether there is a unit, and another one than the core's own.
+fn is_other(unit: Option<UnitId>, own: UnitId) -> bool
+    ensures { result ≡ is_other_spec unit own }
+{
+    match unit {
+        None => false,
+        Some(u) => !is_same(u, own),
+    }
+}
+
+/// The window's unit, where it waits and may have the core.
+fn awaited(
+    units: &PoolUnits,
+    unit: Option<UnitId>,
+    home: Cores,
+    core: ResId,
+) -> Option<UnitId>
+    requires { core.0 < 64 }
+    ensures { result ≡ awaited_spec units.now unit home.0 core.0 }
+{
+    let u = unit?;
+    if units.waits(u) && units.is_allowed(home, core, u) {
+        Some(u)
+    } else {
+        None
+    }
+}
+
+/// The window's unit, where it is the core's own and may go on, or waits.
+fn chosen(units: &PoolUnits, unit: Option<UnitId>, ask: &Ask) -> Option<UnitId>
+    requires { ask.now.core < 64 }
+    ensures { result ≡ chosen_spec units.now unit ask.now }
+{
+    let u = unit?;
+    if is_there(ask.cur, u) && ask.runnable {
+        return Some(u);
+    }
+    awaited(units, unit, Cores(ask.home), ResId(ask.core))
+}
+
+/// The frame of the parameters, where they have one.
+fn frame_of(params: &PoolParams) -> Option<Frame>
+    requires { ArePoolParams Arinc653 params.now }
+    ensures frame { ForSome result IsFrame }
+    ensures records { (domains cores : ℕ) → fresh_records params.now domains cores ≡ ArincPool (record { frame = result; installed = 0 }) }
+{
+    match params {
+        PoolParams::Arinc653 { frame } => copy_of(frame),
+        _ => None,
+    }
+}
+
+/// The decision for a core.
+fn decide(
+    units: &PoolUnits,
+    records: &ArincRecords,
+    present: Option<Present>,
+    ask: &Ask,
+) -> Choice
+    requires frame { ForSome records.now.frame IsFrame }
+    requires present { ForSome present (IsPresent records.now) }
+    requires early { ask.now.at ≤ 10000000000000 }
+    requires core { ask.now.core < 64 }
+    ensures { Tells result (decision_of ask.now (scheduler_of units.now.queue units.now.affinity (ArincPool records.now))) }
+{
+    let window = if ask.leaving {
+        None
+    } else {
+        window_now(records, present, ask.at)
+    };
+    match window {
+        None => Choice {
+            unit: None,
+            due: None,
+            reset: 0,
+        },
+        Some(window) => Choice {
+            unit: chosen(units, window.unit, ask),
+            due: Some(Moment(window.until)),
+            reset: 0,
+        },
+    }
+}
+
+impl Arinc {
+    ghost use Rattle.std.specs.Prelude.{◌≡◌};
+    ghost use Rattle.sched_model.specs.declared.config.SchedKind.TheVariants as kinds;
+    ghost use Rattle.sched_model.specs.Policy.{default_pool_params};
+    ghost use Rattle.sched_ops.specs.Seen.{vacant};
+
+    /// No domain, no place for one and no frame. It has no memory.
+    pub fn empty() -> Self
+        ensures { result ≡ record { scheduler = vacant (default_pool_params kinds.Arinc653) 0 0; spare = 0; latest = 0 } }
+    {
+        Arinc {
+            units: PoolUnits::empty(),
+            records: ArincRecords {
+                frame: None,
+                installed: 0,
+            },
+            present: None,
+            latest: 0,
+        }
+    }
+}
+
+impl Policy for Arinc {
+    ghost seen = { λ a. a };
+
+    fn reserve(&mut self, alloc: Global, places: Places, units: usize) -> Result<(), NoMemory> {
+        self.units = PoolUnits::room(alloc, places.domains, units)?;
+        self.records = ArincRecords {
+            frame: None,
+            installed: 0,
+        };
+        self.present = None;
+        Ok(())
+    }
+
+    fn restart(&mut self, params: &PoolParams) {
+        self.units.keeps();
+        self.records = ArincRecords {
+            frame: frame_of(params),
+            installed: 0,
+        };
+        self.present = None;
+    }
+
+    fn join(&mut self, d: DomId, units: u8, params: &DomParams, t: Moment) {
+        self.units.join(d, units);
+        self.latest = t.0;
+    }
+
+    fn part(&mut self, d: DomId) {
+        self.units.part(d);
+    }
+
+    fn enqueue(&mut self, u: UnitId) {
+        self.units.enqueue(u);
+    }
+
+    fn dequeue(&mut self, u: UnitId) {
+        self.units.dequeue(u);
+    }
+
+    fn choose(&mut self, ask: &Ask) -> Choice {
+        self.latest = ask.at;
+        self.present = found_at(&self.records, self.present, ask.at);
+        let choice = decide(&self.units, &self.records, self.present, ask);
+        if let Some(u) = choice.unit {
+            self.units.dequeue(u);
+        }
+        choice
+    }
+
+    fn better_waits(
+        &self,
+        cur: Option<UnitId>,
+        since: Moment,
+        t: Moment,
+        core: ResId,
+        home: Cores,
+    ) -> bool {
+        let unit = unit_now(&self.records, self.present, t.0);
+        let waiting = awaited(&self.units, unit, home, core);
+        match cur {
+            None => waiting.is_some(),
+            Some(own) => !self.units.is_allowed(home, core, own) || is_other(waiting, own),
+        }
+    }
+
+    fn timer_due(&self, t: Moment) -> Option<(Moment, Timer)> {
+        let _ = &self.records;
+        None
+    }
+
+    fn timer(&mut self, which: Timer, t: Moment) -> Event {
+        let _ = &self.records;
+        unreachable!()
+    }
+
+    fn set_params(&mut self, change: &ParamChange, t: Moment) {
+        match change {
+            ParamChange::Frame { frame } => {
+                self.records = ArincRecords {
+                    frame: Some(copy_frame(frame)),
+                    installed: t.0,
+                };
+                self.present = None;
+            }
+            ParamChange::Pin { dom, unit, cores } => self.units.pin(*dom, *unit, *cores),
+            _ => {}
+        }
+        self.latest = t.0;
+    }
+
+    fn stored(&self, u: UnitId) -> Stored {
+        let _ = &self.records;
+        Stored::Arinc653
+    }
+
+    fn rate(&self) -> u32 {
+        let _ = &self.records;
+        0
+    }
+
+    fn keeps(&self) {
+        self.units.keeps();
+    }
+}

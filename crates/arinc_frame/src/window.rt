@@ -1,0 +1,82 @@
+//! The window of a frame at a moment, kept from one question to the next.
+
+ghost use Rattle.std.specs.Prelude.{◌≡◌, ◌≤◌, option_map};
+ghost use Rattle.std.specs.Option.{ForSome};
+ghost use Rattle.sched_model.specs.Arinc.{present_window as present_window_spec};
+ghost use Rattle.sched_ranges.specs.Ranges.{IsFrame};
+ghost use Rattle.plain_policy.specs.Frames.{window_of};
+ghost use Rattle.arinc_frame.specs.Frames.{IsPresent};
+
+use plain_policy::arinc::{Window, present_window};
+use sched_base::Span;
+use sched_model::config::{Frame, FrameList};
+use sched_model::short::Short;
+use sched_model::state::ArincRecords;
+
+/// A window, and the moment at which it was found, in nanoseconds.
+#[derive(Clone, Copy, Debug, PartialEq, Eq)]
+pub struct Present {
+    pub from: u64,
+    pub window: Window,
+}
+
+/// The present window, where there is a frame: the one that was found last, up to its end.
+pub fn window_now(records: &ArincRecords, present: Option<Present>, t: u64) -> Option<Window>
+    requires frame { ForSome records.now.frame IsFrame }
+    requires present { ForSome present (IsPresent records.now) }
+    requires early { t ≤ 10000000000000 }
+    ensures { option_map window_of result ≡ present_window_spec records.now t }
+{
+    if let Some(last) = present
+        && last.from <= t
+        && t < last.window.until
+    {
+        return Some(last.window);
+    }
+    present_window(records, t)
+}
+
+/// The window of the moment t, to be kept.
+pub fn found_at(records: &ArincRecords, present: Option<Present>, t: u64) -> Option<Present>
+    requires frame { ForSome records.now.frame IsFrame }
+    requires present { ForSome present (IsPresent records.now) }
+    requires installed { records.now.installed ≤ t }
+    requires early { t ≤ 10000000000000 }
+    ensures { ForSome result (IsPresent records.now) }
+{
+    match window_now(records, present, t) {
+        None => None,
+        Some(window) => Some(Present { from: t, window }),
+    }
+}
+
+/// The same entries.
+fn copy_entries(entries: &FrameList) -> FrameList
+    ensures { result ≡ entries.now }
+{
+    let mut copy = Short::new();
+    for e in entries.as_slice() {
+        copy.push(*e);
+    }
+    copy
+}
+
+/// The same frame. It takes no memory.
+pub fn copy_frame(frame: &Frame) -> Frame
+    ensures { result ≡ frame.now }
+{
+    Frame {
+        major: Span(frame.major.0),
+        entries: copy_entries(&frame.entries),
+    }
+}
+
+/// The same frame, where there is one.
+pub fn copy_of(frame: &Option<Frame>) -> Option<Frame>
+    ensures { result ≡ frame.now }
+{
+    match frame {
+        None => None,
+        Some(frame) => Some(copy_frame(frame)),
+    }
+}

@@ -1,0 +1,68 @@
+-- What is asked of all waiting units, where one unit alone can answer it.
+use Rattle.std.proofs.Common.{◌≡◌, ◌≢◌, ℕ, Bool, true, false, ◌||◌, ◌&&◌, List, [], ◌∷◌, refl, subst, sym, ◌∙◌, ap, cond}
+use Rattle.std.specs.Prelude.{Option, Some, None, not, filter}
+use Rattle.std.specs.List.{list_any}
+use Rattle.sched_base.specs.declared.UnitId.{UnitId}
+use Rattle.sched_model.specs.Places.{has_unit, same_unit, without_unit}
+use Rattle.sched_model.specs.NullScheduler.{earliest}
+use Rattle.sched_laws.proofs.Choices.{same_unit_same}
+use Rattle.sched_laws.proofs.Counts.{same_unit_refl}
+
+and_false : (b : Bool) → (b && false) ≡ false
+and_false true = refl
+and_false false = refl
+
+-- where only the unit w can pass a test, some unit passes it if w is there and passes
+pub any_of_one : (w : UnitId) (test : UnitId → Bool) (units : List UnitId) → ((u : UnitId) → test u ≡ true → u ≡ w) → list_any test units ≡ (has_unit units w && test w)
+any_of_one w test [] only = refl
+any_of_one w test (x ∷ units) only =
+    elim (test x) as (λ b. test x ≡ b → (b || list_any test units) ≡ ((same_unit w x || has_unit units w) && test w)) [
+      | true ↦ λ is. (
+          let e : x ≡ w = only x is in
+          let passes : test w ≡ true = subst (λ (u : UnitId). test u ≡ true) e is in
+          let same : same_unit w x ≡ true = subst (λ (u : UnitId). same_unit w u ≡ true) (sym e) (same_unit_refl w) in
+          rw (same, passes) refl)
+      | false ↦ λ is. (
+          let rest = any_of_one w test units only in
+          elim (same_unit w x) as (λ b. same_unit w x ≡ b → list_any test units ≡ ((b || has_unit units w) && test w)) [
+            | true ↦ λ same. (
+                let fails : test w ≡ false = subst (λ (u : UnitId). test u ≡ false) (sym (same_unit_same w x same)) is in
+                rest ∙ ap (λ b. has_unit units w && b) fails ∙ and_false (has_unit units w) ∙ sym fails)
+            | false ↦ λ same. rest
+          ] refl)
+    ] refl
+
+-- and the first that passes it is w
+pub first_of_one : (w : UnitId) (test : UnitId → Bool) (units : List UnitId) → ((u : UnitId) → test u ≡ true → u ≡ w) → earliest (filter test units) ≡ cond (has_unit units w && test w) (Some w) None
+first_of_one w test [] only = refl
+first_of_one w test (x ∷ units) only =
+    elim (test x) as (λ b. test x ≡ b → earliest (cond b (x ∷ filter test units) (filter test units)) ≡ cond ((same_unit w x || has_unit units w) && test w) (Some w) None) [
+      | true ↦ λ is. (
+          let e : x ≡ w = only x is in
+          let passes : test w ≡ true = subst (λ (u : UnitId). test u ≡ true) e is in
+          let same : same_unit w x ≡ true = subst (λ (u : UnitId). same_unit w u ≡ true) (sym e) (same_unit_refl w) in
+          rw (same, passes) (ap Some e))
+      | false ↦ λ is. (
+          let rest = first_of_one w test units only in
+          elim (same_unit w x) as (λ b. same_unit w x ≡ b → earliest (filter test units) ≡ cond ((b || has_unit units w) && test w) (Some w) None) [
+            | true ↦ λ same. (
+                let fails : test w ≡ false = subst (λ (u : UnitId). test u ≡ false) (sym (same_unit_same w x same)) is in
+                let none : (has_unit units w && test w) ≡ false = ap (λ b. has_unit units w && b) fails ∙ and_false (has_unit units w) in
+                rest ∙ ap (λ b. cond b (Some w) None) (none ∙ sym fails))
+            | false ↦ λ same. rest
+          ] refl)
+    ] refl
+
+-- where no unit passes a test, none is found
+pub any_of_none : (test : UnitId → Bool) (units : List UnitId) → ((u : UnitId) → test u ≡ false) → list_any test units ≡ false
+any_of_none test [] none = refl
+any_of_none test (x ∷ units) none = (let fails = none x in rw fails (any_of_none test units none))
+
+-- a unit that is not there is not taken out
+pub without_absent : (u : UnitId) (units : List UnitId) → has_unit units u ≡ false → without_unit u units ≡ units
+without_absent u [] absent = refl
+without_absent u (w ∷ units) absent =
+    elim (same_unit u w) as (λ b. (b || has_unit units u) ≡ false → cond (not b) (w ∷ without_unit u units) (without_unit u units) ≡ w ∷ units) [
+      | true ↦ λ e. absurd (let f : ◌≡◌ {A = Bool} true false = e in cc)
+      | false ↦ λ e. ap (λ us. w ∷ us) (without_absent u units e)
+    ] absent

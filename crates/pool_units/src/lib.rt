@@ -1,0 +1,202 @@
+//! The units of a pool: those of the domains that joined, with their sets of cores, and those that wait, in order of arrival.
+//!
+//! It is what the schedulers without keys have in common: nothing but the order of arrival tells their waiting units apart.
+#![tactic(auto)]
+
+ghost use Rattle.std.specs.Prelude.{◌≡◌, ◌≤◌, ◌<◌, Some, None, true, false, is_some, not, length, OnOk, OnErr, IfOk, replicate, unwrap_or, [], slice_set};
+ghost use Rattle.std.specs.List.{list_any};
+ghost use Rattle.sched_model.specs.Places.{at_place, change_at, has_unit};
+ghost use Rattle.sched_model.specs.Policy.{pinned};
+ghost use Rattle.sched_model.specs.Eligible.{is_allowed_by};
+ghost use Rattle.sched_ops.specs.Conditions.{IsApart};
+
+use plain_policy::params::pin;
+use plain_policy::places::{copies, set_place};
+use plain_units::eligible::is_allowed;
+use plain_units::units::{drop_unit, has_unit};
+use sched_base::{Cores, DomId, NoMemory, ResId, UnitId};
+use sched_model::config::Pins;
+use sched_model::row::Row;
+use sched_model::short::Short;
+use sched_model::state::Queue;
+use std::alloc::Global;
+use std::marker::Model;
+
+/// The units of a pool. Contracts see those that wait, in order of arrival, the sets of cores of each domain's units, and how
+/// many units may still join. At most 256 units join.
+#[derive(Drop)]
+pub struct PoolUnits {
+    queue: Queue,
+    affinity: Option<Row<Option<Pins>>>,
+    spare: usize,
+}
+
+impl Model for PoolUnits {
+    ghost use Rattle.std.specs.Prelude.{[], unwrap_or};
+    ghost use Rattle.pool_units.specs.Units.{Units, IsWhole};
+
+    ghost Value = { Units };
+
+    ghost view = { λ a. record { queue = a.queue; affinity = unwrap_or a.affinity []; spare = a.spare } };
+
+    ghost invariant = { λ a. IsWhole (record { queue = a.queue; affinity = unwrap_or a.affinity []; spare = a.spare }) };
+}
+
+/// So many places, all of them empty.
+fn empty_places(alloc: Global, count: u8) -> Result<Row<Option<Pins>>, NoMemory>
+    ensures { IfOk result (λ places. places ≡ replicate count None) }
+{
+    let mut places = Row::from_vec(Vec::new(alloc));
+    for _d in 0..count {
+        places.push(None)?;
+    }
+    Ok(places)
+}
+
+/// The domain's units have these sets of cores from now on, where there is a place for the domain.
+fn set_sets(affinity: &mut Option<Row<Option<Pins>>>, d: DomId, sets: Option<Pins>)
+    ensures { unwrap_or affinity.new [] ≡ slice_set (unwrap_or affinity.old []) d.0 sets }
+{
+    if let Some(places) = affinity {
+        set_place(places, d.0, sets);
+    }
+}
+
+/// One of the domain's units, or all of them, have this set of cores from now on.
+fn pin_sets(affinity: &mut Option<Row<Option<Pins>>>, d: DomId, unit: Option<u8>, cores: Cores)
+    ensures { unwrap_or affinity.new [] ≡ change_at d.0 (pinned unit cores) (unwrap_or affinity.old []) }
+{
+    if let Some(places) = affinity {
+        pin(d.0, unit, cores, places);
+    }
+}
+
+impl PoolUnits {
+    ghost use Rattle.std.specs.Prelude.{◌≡◌, ◌≤◌, ◌<◌, Some, None, true, false, is_some, not, length, OnOk, OnErr, IfOk, replicate};
+    ghost use Rattle.pool_units.specs.Units.{vacant, units_in, is_member, HasNoneWaiting, joined, parted, enqueued, dequeued, pinned_in};
+
+    /// No unit, no place for a domain and no room. It has no memory.
+    pub fn empty() -> Self
+        ensures { result ≡ vacant 0 0 }
+    {
+        PoolUnits {
+            queue: Short::new(),
+            affinity: None,
+            spare: 0,
+        }
+    }
+
+    /// No unit, with so many places for domains and room for so many units.
+    pub fn room(alloc: Global, domains: u8, units: usize) -> Result<Self, NoMemory>
+        requires { units ≤ 256 }
+        ensures { IfOk result (λ all. all ≡ vacant domains units) }
+    {
+        let affinity = empty_places(alloc, domains)?;
+        Ok(PoolUnits {
+            queue: Short::new(),
+            affinity: Some(affinity),
+            spare: units,
+        })
+    }
+
+    /// The domain joins with so many units, 1 to 32. Its units may have all cores; none of them waits.
+    pub fn join(&mut self, d: DomId, units: u8)
+        requires place { d.0 < length self.old.affinity }
+        requires absent { at_place self.old.affinity d.0 ≡ None }
+        requires few { units ≤ 32 }
+        requires room { units ≤ self.old.spare }
+        ensures { self.new ≡ joined d.0 units self.old }
+    {
+        let sets = copies(Cores(u64::MAX), units);
+        set_sets(&mut self.affinity, d, Some(sets));
+        self.spare -= units as usize;
+    }
+
+    /// How many units the domain has: none where it has not joined.
+    pub fn count(&self, d: DomId) -> usize
+        ensures { result ≡ units_in self.now.affinity d.0 }
+    {
+        let affinity = self.affinity();
+        let d = d.0 as usize;
+        if d >= affinity.len() {
+            return 0;
+        }
+        match &affinity[d] {
+            None => 0,
+            Some(sets) => sets.len(),
+        }
+    }
+
+    /// The domain parts. None of its units waits.
+    pub fn part(&mut self, d: DomId)
+        requires { HasNoneWaiting self.old d.0 }
+        ensures { self.new ≡ parted d.0 self.old }
+    {
+        let units = self.count(d);
+        set_sets(&mut self.affinity, d, None);
+        self.spare += units;
+    }
+
+    /// The unit, which has joined and does not wait, waits behind all others.
+    pub fn enqueue(&mut self, u: UnitId)
+        requires member { is_member self.old.affinity u ≡ true }
+        requires waits_not { has_unit self.old.queue u ≡ false }
+        ensures { self.new ≡ enqueued u self.old }
+    {
+        self.queue.push(u);
+    }
+
+    /// The unit waits no more.
+    pub fn dequeue(&mut self, u: UnitId)
+        ensures { self.new ≡ dequeued u self.old }
+    {
+        drop_unit(&mut self.queue, u);
+    }
+
+    /// Whether the unit waits.
+    pub fn waits(&self, u: UnitId) -> bool
+        ensures { result ≡ has_unit self.now.queue u }
+    {
+        has_unit(self.queue.as_slice(), u)
+    }
+
+    /// Whether the unit may be on a core of the pool: its set has the core, or has none of the pool's cores.
+    pub fn is_allowed(&self, home: Cores, core: ResId, u: UnitId) -> bool
+        requires { core.0 < 64 }
+        ensures { result ≡ is_allowed_by self.now.affinity home.0 core.0 u }
+    {
+        is_allowed(self.affinity(), home.0, core.0, u)
+    }
+
+    /// Gives one of the domain's units, or all of them, a set of cores.
+    pub fn pin(&mut self, d: DomId, unit: Option<u8>, cores: Cores)
+        ensures { self.new ≡ pinned_in d.0 unit cores self.old }
+    {
+        pin_sets(&mut self.affinity, d, unit, cores);
+    }
+
+    /// The units that wait, in order of arrival.
+    pub fn waiting(&self) -> &[UnitId]
+        ensures { result.now ≡ self.now.queue }
+    {
+        self.queue.as_slice()
+    }
+
+    /// The sets of cores of each domain's units.
+    pub fn affinity(&self) -> &[Option<Pins>]
+        ensures { result.now ≡ self.now.affinity }
+    {
+        match &self.affinity {
+            None => &[],
+            Some(affinity) => affinity.as_slice(),
+        }
+    }
+
+    /// Does nothing, and tells what is always so: no unit waits twice, and those that wait have joined.
+    pub fn keeps(&self)
+        ensures apart { IsApart self.now.queue }
+        ensures members { (u : UnitId) → has_unit self.now.queue u ≡ true → is_member self.now.affinity u ≡ true }
+    {
+        let _ = &self.queue;
+    }
+}

@@ -1,0 +1,181 @@
+//! The units for which the cores are kept.
+
+ghost use Rattle.std.specs.Prelude.{◌≡◌, [], None, replicate, unwrap_or, slice_set, length, IfOk, ◌==◌};
+ghost use Rattle.sched_model.specs.Places.{same_unit};
+ghost use Rattle.sched_model.specs.NullScheduler.{released};
+
+use plain_policy::null::release_domain;
+use plain_policy::places::set_place;
+use plain_units::units::{is_same, is_there};
+use sched_base::{DomId, NoMemory, ResId, UnitId};
+use sched_model::row::Row;
+use std::alloc::Global;
+use std::marker::Model;
+
+/// A unit, or none, for each core: no unit for two of them. Contracts see the list of them, by the numbers of the cores.
+#[derive(Drop)]
+pub struct Kept {
+    places: Option<Row<Option<UnitId>>>,
+}
+
+impl Model for Kept {
+    ghost use Rattle.std.specs.Prelude.{List, Option, [], unwrap_or};
+    ghost use Rattle.sched_base.specs.declared.UnitId.{UnitId as UnitName};
+    ghost use Rattle.sched_null.specs.Keeping.{IsKept};
+
+    ghost Value = { List (Option UnitName) };
+
+    ghost view = { λ a. unwrap_or a.places [] };
+
+    ghost invariant = { λ a. IsKept (unwrap_or a.places []) };
+}
+
+/// So many cores, kept for no unit.
+fn empty_places(alloc: Global, count: u8) -> Result<Row<Option<UnitId>>, NoMemory>
+    ensures { IfOk result (λ places. places ≡ replicate count None) }
+{
+    let mut places = Row::from_vec(Vec::new(alloc));
+    for _core in 0..count {
+        places.push(None)?;
+    }
+    Ok(places)
+}
+
+/// What the core is kept for from now on, where there is such a core.
+fn set_kept(places: &mut Option<Row<Option<UnitId>>>, core: ResId, unit: Option<UnitId>)
+    ensures { unwrap_or places.new [] ≡ slice_set (unwrap_or places.old []) core.0 unit }
+{
+    if let Some(kept) = places {
+        set_place(kept, core.0, unit);
+    }
+}
+
+/// No core is kept for the unit any more.
+fn release(u: UnitId, kept: &mut Row<Option<UnitId>>)
+    ensures { kept.new ≡ released (same_unit u) kept.old }
+{
+    for r in 0..kept.len() {
+        let there = kept.item_mut(r);
+        if let Some(w) = *there
+            && is_same(u, w)
+        {
+            *there = None;
+        }
+    }
+}
+
+/// The same, where there are cores.
+fn release_unit(places: &mut Option<Row<Option<UnitId>>>, u: UnitId)
+    ensures { unwrap_or places.new [] ≡ released (same_unit u) (unwrap_or places.old []) }
+{
+    if let Some(kept) = places {
+        release(u, kept);
+    }
+}
+
+/// No core is kept for a unit of the domain any more.
+fn release_units(places: &mut Option<Row<Option<UnitId>>>, d: DomId)
+    ensures { unwrap_or places.new [] ≡ released (λ u. u.dom.0 == d.0) (unwrap_or places.old []) }
+{
+    if let Some(kept) = places {
+        release_domain(d.0, kept);
+    }
+}
+
+/// No core is kept.
+fn empty_all(kept: &mut Row<Option<UnitId>>)
+    ensures { kept.new ≡ replicate (length kept.old) None }
+{
+    for r in 0..kept.len() {
+        kept.replace(r, None);
+    }
+}
+
+/// The same, where there are cores.
+fn release_all(places: &mut Option<Row<Option<UnitId>>>)
+    ensures { unwrap_or places.new [] ≡ replicate (length (unwrap_or places.old [])) None }
+{
+    if let Some(kept) = places {
+        empty_all(kept);
+    }
+}
+
+impl Kept {
+    ghost use Rattle.std.specs.Prelude.{◌≡◌, ◌≤◌, [], None, replicate, length, IfOk, ◌==◌};
+    ghost use Rattle.sched_model.specs.Places.{at_place, clear_at};
+    ghost use Rattle.sched_model.specs.NullScheduler.{released, kept_for};
+
+    /// No core. It has no memory.
+    pub fn empty() -> Self
+        ensures { result ≡ [] }
+    {
+        Kept { places: None }
+    }
+
+    /// So many cores, kept for no unit.
+    pub fn room(alloc: Global, cores: u8) -> Result<Self, NoMemory>
+        requires { cores ≤ 64 }
+        ensures { IfOk result (λ kept. kept ≡ replicate cores None) }
+    {
+        let places = empty_places(alloc, cores)?;
+        Ok(Kept {
+            places: Some(places),
+        })
+    }
+
+    /// The units by the numbers of their cores.
+    pub fn as_slice(&self) -> &[Option<UnitId>]
+        ensures units { result.now ≡ self.now }
+        ensures few { length result.now ≤ 64 }
+    {
+        match &self.places {
+            None => &[],
+            Some(kept) => kept.as_slice(),
+        }
+    }
+
+    /// The unit that the core is kept for.
+    pub fn at(&self, core: ResId) -> Option<UnitId>
+        ensures { result ≡ at_place self.now core.0 }
+    {
+        let kept = self.as_slice();
+        let place = core.0 as usize;
+        if place < kept.len() {
+            kept[place]
+        } else {
+            None
+        }
+    }
+
+    /// The core is kept for the unit, and no other core is.
+    pub fn keep(&mut self, core: ResId, u: UnitId)
+        ensures { self.new ≡ kept_for core.0 u self.old }
+    {
+        if is_there(self.at(core), u) {
+            return;
+        }
+        release_unit(&mut self.places, u);
+        set_kept(&mut self.places, core, Some(u));
+    }
+
+    /// The core is kept for no unit.
+    pub fn leave(&mut self, core: ResId)
+        ensures { self.new ≡ clear_at core.0 self.old }
+    {
+        set_kept(&mut self.places, core, None);
+    }
+
+    /// No core is kept for a unit of the domain.
+    pub fn part(&mut self, d: DomId)
+        ensures { self.new ≡ released (λ u. u.dom.0 == d.0) self.old }
+    {
+        release_units(&mut self.places, d);
+    }
+
+    /// No core is kept for any unit.
+    pub fn clear(&mut self)
+        ensures { self.new ≡ replicate (length self.old) None }
+    {
+        release_all(&mut self.places);
+    }
+}

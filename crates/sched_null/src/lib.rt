@@ -1,0 +1,12 @@
+//! The null scheduler: each core is given to one unit for good.
+//!
+//! A core that is given to a unit is asked about that unit alone; the other units that wait are looked through only for a core
+//! that is given to none.
+#![tactic(auto)]
+
+pub mod kept;
+pub mod null;
+#[cfg(test)]
+mod tests;
+
+pub use null::Null;

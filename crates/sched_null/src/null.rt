@@ -1,0 +1,241 @@
+//! The null scheduler as a scheduler of a pool.
+
+ghost use Rattle.std.specs.Prelude.{◌≡◌, ◌≤◌, ◌<◌, Some, None, if◌then◌else◌, length};
+ghost use Rattle.sched_model.specs.Places.{has_unit};
+ghost use Rattle.sched_model.specs.declared.state.Records.TheVariants.{NullPool};
+ghost use Rattle.sched_model.specs.Eligible.{is_placed as is_placed_spec, eligible};
+ghost use Rattle.sched_model.specs.NullScheduler.{earliest, choice as choice_spec, choose_null};
+ghost use Rattle.plain_policy.specs.Parts.{scheduler_of};
+ghost use Rattle.sched_ops.specs.Seen.{Tells};
+
+use crate::kept::Kept;
+use plain_policy::null::passes;
+use plain_units::eligible::is_allowed;
+use plain_units::units::is_there;
+use pool_units::PoolUnits;
+use sched_base::{Cores, DomId, Moment, NoMemory, ResId, UnitId, has_core};
+use sched_model::ask::Ask;
+use sched_model::config::{DomParams, ParamChange, Pins, PoolParams};
+use sched_model::event::Event;
+use sched_model::facts::Stored;
+use sched_ops::{Choice, Places, Policy, Timer};
+use std::alloc::Global;
+use std::marker::Model;
+
+/// The null scheduler of one pool. Contracts see what they see of every scheduler: the waiting units, the sets of cores, the unit
+/// or none that each core is kept for, how many units may still join, and the greatest moment given.
+#[derive(Drop)]
+pub struct Null {
+    units: PoolUnits,
+    kept: Kept,
+    latest: u64,
+}
+
+impl Model for Null {
+    ghost use Rattle.sched_model.specs.declared.state.Records.TheVariants.{NullPool};
+    ghost use Rattle.plain_policy.specs.Parts.{scheduler_of};
+    ghost use Rattle.sched_ops.specs.Seen.{Seen};
+
+    ghost Value = { Seen };
+
+    ghost view = { λ a. record { scheduler = scheduler_of a.units.queue a.units.affinity (NullPool a.kept); spare = a.units.spare; latest = a.latest } };
+}
+
+/// Whether the core is given to the unit: it is kept for it, is one of the pool's, and is allowed.
+fn is_placed(units: &PoolUnits, kept: &Kept, home: Cores, core: ResId, u: UnitId) -> bool
+    requires { core.0 < 64 }
+    ensures { result ≡ is_placed_spec (scheduler_of units.now.queue units.now.affinity (NullPool kept.now)) kept.now home.0 core.0 u }
+{
+    is_there(kept.at(core), u) && has_core(home, core) && units.is_allowed(home, core, u)
+}
+
+/// The first waiting unit that may have the core, by a look at each of them.
+fn first_waiting(
+    waiting: &[UnitId],
+    affinity: &[Option<Pins>],
+    kept: &[Option<UnitId>],
+    home: Cores,
+    core: ResId,
+) -> Option<UnitId>
+    requires core { core.0 < 64 }
+    requires few { length kept.now ≤ 64 }
+    ensures { result ≡ earliest (eligible (scheduler_of waiting.now affinity.now (NullPool kept.now)) home.0 core.0 0) }
+{
+    for u in waiting {
+        if is_allowed(affinity, home.0, core.0, *u) && passes(kept, affinity, home.0, core.0, *u) {
+            return Some(*u);
+        }
+    }
+    None
+}
+
+/// The unit, where it waits.
+fn if_waits(units: &PoolUnits, u: UnitId) -> Option<UnitId>
+    ensures { result ≡ (if has_unit units.now.queue u then Some u else None) }
+{
+    if units.waits(u) { Some(u) } else { None }
+}
+
+/// The first waiting unit that may have the core: the one that it is given to, where it is given to any.
+fn first_eligible(units: &PoolUnits, kept: &Kept, home: Cores, core: ResId) -> Option<UnitId>
+    requires { core.0 < 64 }
+    ensures { result ≡ earliest (eligible (scheduler_of units.now.queue units.now.affinity (NullPool kept.now)) home.0 core.0 0) }
+{
+    if let Some(w) = kept.at(core)
+        && is_placed(units, kept, home, core, w)
+    {
+        return if_waits(units, w);
+    }
+    first_waiting(
+        units.waiting(),
+        units.affinity(),
+        kept.as_slice(),
+        home,
+        core,
+    )
+}
+
+/// The core's own unit, where it was given the core and may go on, and else one that waits.
+fn choice(units: &PoolUnits, kept: &Kept, ask: &Ask) -> Option<UnitId>
+    requires { ask.now.core < 64 }
+    ensures { result ≡ choice_spec ask.now (scheduler_of units.now.queue units.now.affinity (NullPool kept.now)) kept.now }
+{
+    let home = Cores(ask.home);
+    let core = ResId(ask.core);
+    if let Some(u) = ask.cur
+        && ask.runnable
+        && is_placed(units, kept, home, core, u)
+    {
+        return Some(u);
+    }
+    first_eligible(units, kept, home, core)
+}
+
+/// The decision for a core: the chosen unit keeps it, and a core that is leaving keeps none.
+fn decide(units: &PoolUnits, kept: &mut Kept, ask: &Ask) -> Choice
+    requires { ask.now.core < 64 }
+    ensures decided { Tells result (choose_null ask.now (scheduler_of units.now.queue units.now.affinity (NullPool kept.old)) kept.old) }
+    ensures records { NullPool kept.new ≡ (choose_null ask.now (scheduler_of units.now.queue units.now.affinity (NullPool kept.old)) kept.old).records }
+{
+    let core = ResId(ask.core);
+    let unit = if ask.leaving {
+        kept.leave(core);
+        None
+    } else {
+        choice(units, kept, ask)
+    };
+    if let Some(u) = unit {
+        kept.keep(core, u);
+    }
+    Choice {
+        unit,
+        due: None,
+        reset: 0,
+    }
+}
+
+impl Null {
+    ghost use Rattle.std.specs.Prelude.{◌≡◌};
+    ghost use Rattle.sched_model.specs.declared.config.SchedKind.TheVariants as kinds;
+    ghost use Rattle.sched_model.specs.Policy.{default_pool_params};
+    ghost use Rattle.sched_ops.specs.Seen.{vacant};
+
+    /// No domain and no place for one, and no core. It has no memory.
+    pub fn empty() -> Self
+        ensures { result ≡ record { scheduler = vacant (default_pool_params kinds.Null) 0 0; spare = 0; latest = 0 } }
+    {
+        Null {
+            units: PoolUnits::empty(),
+            kept: Kept::empty(),
+            latest: 0,
+        }
+    }
+}
+
+impl Policy for Null {
+    ghost seen = { λ a. a };
+
+    fn reserve(&mut self, alloc: Global, places: Places, units: usize) -> Result<(), NoMemory> {
+        let units = PoolUnits::room(alloc, places.domains, units)?;
+        self.kept = Kept::room(alloc, places.cores)?;
+        self.units = units;
+        Ok(())
+    }
+
+    fn restart(&mut self, params: &PoolParams) {
+        self.units.keeps();
+        self.kept.clear();
+    }
+
+    fn join(&mut self, d: DomId, units: u8, params: &DomParams, t: Moment) {
+        self.units.join(d, units);
+        self.latest = t.0;
+    }
+
+    fn part(&mut self, d: DomId) {
+        self.units.part(d);
+        self.kept.part(d);
+    }
+
+    fn enqueue(&mut self, u: UnitId) {
+        self.units.enqueue(u);
+    }
+
+    fn dequeue(&mut self, u: UnitId) {
+        self.units.dequeue(u);
+    }
+
+    fn choose(&mut self, ask: &Ask) -> Choice {
+        self.latest = ask.at;
+        let choice = decide(&self.units, &mut self.kept, ask);
+        if let Some(u) = choice.unit {
+            self.units.dequeue(u);
+        }
+        choice
+    }
+
+    fn better_waits(
+        &self,
+        cur: Option<UnitId>,
+        since: Moment,
+        t: Moment,
+        core: ResId,
+        home: Cores,
+    ) -> bool {
+        match cur {
+            None => first_eligible(&self.units, &self.kept, home, core).is_some(),
+            Some(own) => !self.units.is_allowed(home, core, own),
+        }
+    }
+
+    fn timer_due(&self, t: Moment) -> Option<(Moment, Timer)> {
+        let _ = &self.kept;
+        None
+    }
+
+    fn timer(&mut self, which: Timer, t: Moment) -> Event {
+        let _ = &self.kept;
+        unreachable!()
+    }
+
+    fn set_params(&mut self, change: &ParamChange, t: Moment) {
+        if let ParamChange::Pin { dom, unit, cores } = change {
+            self.units.pin(*dom, *unit, *cores);
+        }
+        self.latest = t.0;
+    }
+
+    fn stored(&self, u: UnitId) -> Stored {
+        let _ = &self.kept;
+        Stored::Null
+    }
+
+    fn rate(&self) -> u32 {
+        let _ = &self.kept;
+        0
+    }
+
+    fn keeps(&self) {
+        self.units.keeps();
+    }
+}
