@@ -1,0 +1,5 @@
+pub mod Lists
+pub mod Waiting
+pub mod Tables
+pub mod Rekeying
+pub mod Rooms

@@ -1,0 +1,20 @@
+-- What the first unit of the run queue is to a scan.
+use Rattle.std.specs.Prelude.{ℕ, ℤ, pos, ◌&&◌, Bool, List, Option, Some, None, filter}
+use Rattle.sched_base.specs.declared.UnitId.{UnitId}
+use Rattle.sched_base.specs.declared.Cores.{Cores}
+use Rattle.sched_model.specs.declared.state.Credit2Records.{Credit2Records}
+use Rattle.sched_model.specs.Eligible.{is_allowed_by}
+use Rattle.sched_model.specs.Credit2.{domain_has_budget, greatest, credit_of}
+
+-- the unit may be on the core, and its domain's cap lets it run
+abbrev pub may_take : List (Option (List Cores)) → ℕ → ℕ → Credit2Records → UnitId → Bool
+may_take affinity home core records u = is_allowed_by affinity home core u && domain_has_budget records u
+
+-- the unit of greatest credit of those that may take the core
+abbrev pub best_of : List UnitId → List (Option (List Cores)) → ℕ → ℕ → Credit2Records → Option UnitId
+best_of queue affinity home core records = greatest records None (filter (may_take affinity home core records) queue)
+
+-- the credit of the unit, or 0 where there is none
+abbrev pub credit_or_0 : Credit2Records → Option UnitId → ℤ
+credit_or_0 records None = pos 0
+credit_or_0 records (Some u) = credit_of records u

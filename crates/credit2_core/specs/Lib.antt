@@ -1,0 +1,6 @@
+pub mod Order
+pub mod Keys
+pub mod Places
+pub mod Domains
+pub mod Choice
+pub mod Held

@@ -1,0 +1,8 @@
+//! Credit2 behind the calls of a scheduler: the run queue finds the unit of greatest credit.
+#![tactic(auto)]
+
+mod domains;
+mod held;
+mod line;
+mod small;
+mod stub;
