@@ -158,7 +158,7 @@ without-agree u n keys ns all (x ∷ xs) agree =
     ]
 
 -- what a search finds in one list and then in the other is what it finds in both
-rank_in-append : (u : UnitId) (es ds : List Queued) → rank_in u (es ++ ds) ≡ (if has_unit u es then rank_in u es else rank_in u ds)
+pub rank_in-append : (u : UnitId) (es ds : List Queued) → rank_in u (es ++ ds) ≡ (if has_unit u es then rank_in u es else rank_in u ds)
 rank_in-append u [] ds = refl
 rank_in-append u (e ∷ es) ds =
     elim (q.is_of u e) as (λ t. (if t then e.rank else rank_in u (es ++ ds)) ≡ (if t || has_unit u es then (if t then e.rank else rank_in u es) else rank_in u ds)) [

@@ -7,3 +7,6 @@ pub mod Numbering
 pub mod Steps
 pub mod Changes
 pub mod Lengths
+pub mod Counting
+pub mod Ordering
+pub mod Ordered

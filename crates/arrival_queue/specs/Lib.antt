@@ -1,4 +1,5 @@
 pub mod Queues
+pub mod Order
 pub mod Filters
 pub mod Tables
 pub mod Whole

@@ -1,6 +1,7 @@
 -- The tables of a queue as one value.
 use Rattle.arrival_queue.specs.declared.tables.Tables.{Tables}
 use Rattle.arrival_queue.specs.Queues.{Queues}
+use Rattle.arrival_queue.specs.Order.{IsOrdered}
 use Rattle.arrival_queue.specs.Tables.{IsQueue, queues_of}
 
 -- they are those of their ring
@@ -10,3 +11,8 @@ IsTables t = IsQueue t.ring t.nodes.items t.keys.items t.arrivals.items t.fresh.
 -- what callers see of them
 abbrev pub seen : Tables → Queues
 seen t = queues_of t.ring t.keys.items t.arrivals.items
+
+-- they are those of their ring, and what callers see of them is in order
+pub record IsWhole (t : Tables) : Type 0 where
+  pub tables : IsTables t
+  pub ordered : IsOrdered (seen t)

@@ -31,16 +31,17 @@ impl Model for ArrivalQueue {
 
     ghost Value = { Queues };
 
-    ghost use Rattle.arrival_queue.specs.Whole.{seen, IsTables};
+    ghost use Rattle.arrival_queue.specs.Whole.{seen, IsWhole};
 
     ghost view = { λ a. seen a.tables };
 
-    ghost invariant = { λ a. IsTables a.tables };
+    ghost invariant = { λ a. IsWhole a.tables };
 }
 
 impl ArrivalQueue {
     ghost use Rattle.std.specs.Prelude.{◌≡◌, ◌+◌, ◌<◌, ◌≤◌, ◌&&◌, true, false, length, map, IfOk};
     ghost use Rattle.arrival_queue.specs.Queues.{holds, inserted, appended, removed, moved, without, empty};
+    ghost use Rattle.arrival_queue.specs.Order.{IsOrdered};
     ghost use Rattle.std.specs.Bool.{OnTrue, OnFalse};
     ghost use Rattle.arrival_queue.specs.Filters.{first_of, first_that, has_domain as domain_in, in_domains, may_run};
 
@@ -106,6 +107,13 @@ impl ArrivalQueue {
         }
     }
 
+    /// Whether a unit is in one of the lists.
+    pub fn has(&self, u: UnitId) -> bool
+        ensures { result ≡ holds self.now u }
+    {
+        find(&self.tables, u).is_some()
+    }
+
     /// The first of the units in order of their keys.
     pub fn first_counted<L: Ledger>(&self, steps: &mut Steps<L>) -> Option<UnitId>
         ensures first { result ≡ first_of self.now.sorted }
@@ -140,6 +148,14 @@ impl ArrivalQueue {
         ensures { result ≡ first_that (λ u. in_domains domains u && may_run masks.now core home u) self.now.sorted }
     {
         walks::first_on(&self.tables.ring, domains, masks, core, home, steps)
+    }
+
+    /// The units are in order of key, then of arrival, and the others in order of arrival. No unit is there twice, and
+    /// the numbers below the count of all units are their ranks.
+    pub fn law_order(&self)
+        ensures { IsOrdered self.now }
+    {
+        let _ = &self.tables;
     }
 
     /// The ring on which the units stand.

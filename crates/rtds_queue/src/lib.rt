@@ -49,7 +49,9 @@ fn sort_key(key: RtdsKey) -> Key
 
 impl RtdsQueues {
     ghost use Rattle.std.specs.Prelude.{◌≡◌, ◌+◌, ◌<◌, ◌≤◌, true, false, length, map, IfOk};
+    ghost use Rattle.std.specs.Prelude.{◌++◌};
     ghost use Rattle.std.specs.Bool.{OnTrue, OnFalse};
+    ghost use Rattle.arrival_queue.specs.Order.{IsInOrder, IsInArrival, EachRankOnce, EachUnitOnce};
     ghost use Rattle.arrival_queue.specs.Filters.{first_of, first_that, may_run};
     ghost use Rattle.rtds_queue.specs.Lists.{holds, put as put_in, removed, renewed, empty};
 
@@ -68,6 +70,13 @@ impl RtdsQueues {
         ensures { self.new ≡ put_in self.old u key spent }
     {
         put_from::<Brand>(self, u, key, spent, Blank::new(1))
+    }
+
+    /// Whether a unit is in one of the lists.
+    pub fn has(&self, u: UnitId) -> bool
+        ensures { result ≡ holds self.now u }
+    {
+        self.queue.has(u)
     }
 
     /// Takes a unit of either list away. False where it is in neither, and then nothing changes.
@@ -118,6 +127,17 @@ impl RtdsQueues {
         ensures cost { steps.new ≤ steps.old + length self.old.eligible + 3 }
     {
         self.queue.move_counted(u, sort_key(key), steps);
+    }
+
+    /// The eligible units are in order of level, deadline and arrival, and the spent ones in order of arrival. No unit is
+    /// there twice, and the numbers below the count of all units are their ranks.
+    pub fn law_order(&self)
+        ensures order { IsInOrder self.now.eligible }
+        ensures arrival { IsInArrival self.now.spent }
+        ensures ranks { EachRankOnce (self.now.eligible ++ self.now.spent) }
+        ensures units { EachUnitOnce (self.now.eligible ++ self.now.spent) }
+    {
+        self.queue.law_order();
     }
 
     /// The ring, whose list 0 has exactly the eligible units and whose list 1 exactly the spent ones, in their orders.

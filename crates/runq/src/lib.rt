@@ -47,6 +47,7 @@ fn plain(key: i128) -> Key
 impl Runq {
     ghost use Rattle.std.specs.Prelude.{◌≡◌, ◌+◌, ◌<◌, ◌≤◌, ◌&&◌, [], true, false, length, map, IfOk};
     ghost use Rattle.std.specs.Bool.{OnTrue, OnFalse};
+    ghost use Rattle.arrival_queue.specs.Order.{IsInOrder, EachRankOnce, EachUnitOnce};
     ghost use Rattle.arrival_queue.specs.Queues.{has_unit};
     ghost use Rattle.arrival_queue.specs.Filters.{first_of, first_that, has_domain as domain_in, may_run};
     ghost use Rattle.runq.specs.Queue.{inserted, removed, rekeyed, empty};
@@ -95,6 +96,13 @@ impl Runq {
         ensures cost { steps.new ≤ steps.old + 1 }
     {
         self.queue.remove_counted(u, steps)
+    }
+
+    /// Whether a unit is in the queue.
+    pub fn has(&self, u: UnitId) -> bool
+        ensures { result ≡ has_unit u self.now.units }
+    {
+        self.queue.has(u)
     }
 
     /// Puts a unit of the queue at its place by another key. Its arrival stays, and counts among equal keys.
@@ -147,6 +155,16 @@ impl Runq {
         ensures { result ≡ first_that (λ u. domain_in allowed.now.0 u.dom.0 && may_run masks.now core home u) self.now.units }
     {
         first_on_from::<Brand>(self, *allowed, masks, core, home, Blank::new(1))
+    }
+
+    /// The units are in order of key, then of arrival. No unit is there twice, and the numbers below the count of the
+    /// units are their ranks.
+    pub fn law_order(&self)
+        ensures order { IsInOrder self.now.units }
+        ensures ranks { EachRankOnce self.now.units }
+        ensures units { EachUnitOnce self.now.units }
+    {
+        self.queue.law_order();
     }
 
     /// The ring, whose list 0 has exactly these units in this order.

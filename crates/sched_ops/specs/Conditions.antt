@@ -19,7 +19,6 @@ use Rattle.sched_model.specs.Places.{at_place, has_unit}
 use Rattle.sched_model.specs.Eligible.{rtds_unit}
 use Rattle.sched_model.specs.Checked.{IsWithin, most_span}
 use Rattle.sched_ranges.specs.Ranges.{IsFrame}
-use Rattle.sched_model.specs.Policy.{kind_of}
 use Rattle.sched_ops.specs.Seen.{Seen, units_of}
 
 -- the domain has joined
@@ -124,9 +123,8 @@ abbrev pub IsApart : List UnitId → Type 0
 IsApart [] = Unit {0}
 IsApart (u ∷ units) = (has_unit units u ≡ false) × IsApart units
 
--- what every scheduler keeps: it is of its kind, no unit waits twice, and those that wait have joined and are not on
-pub record Keeps (kind : SchedKind) (seen : Seen) : Type 0 where
-  pub own_kind : kind_of seen.scheduler.records ≡ kind
+-- what every scheduler keeps: no unit waits twice, and those that wait have joined and are not on
+pub record Keeps (seen : Seen) : Type 0 where
   pub apart : IsApart seen.scheduler.queue
   pub members : (u : UnitId) → has_unit seen.scheduler.queue u ≡ true → is_member seen.scheduler u ≡ true
   pub off : (u : UnitId) → has_unit seen.scheduler.queue u ≡ true → is_on seen.scheduler.records u ≡ false

@@ -23,16 +23,12 @@ pub struct Places {
 /// greatest one given before and at most 10^13. No call but `reserve` takes memory.
 pub trait Policy: Drop {
     ghost use Rattle.std.specs.Prelude.{◌≡◌, ◌≤◌, ◌<◌, ◌-◌, ◌+◌, true, false, OnOk, OnErr, length, None, Some};
-    ghost use Rattle.sched_model.specs.declared.config.SchedKind.{SchedKind};
     ghost use Rattle.sched_model.specs.Places.{at_place, has_unit};
-    ghost use Rattle.sched_model.specs.Policy.{decision_of, after_decision, better_waits as better_waits_spec, enqueue as enqueue_spec, join as join_spec, part as part_spec, set_params as set_params_spec, rate_of, default_pool_params};
+    ghost use Rattle.sched_model.specs.Policy.{decision_of, after_decision, better_waits as better_waits_spec, enqueue as enqueue_spec, join as join_spec, part as part_spec, set_params as set_params_spec, rate_of, kind_of, default_pool_params};
     ghost use Rattle.sched_ops.specs.Seen.{Seen, Tells, vacant, restarted, dequeue as dequeue_spec, units_of, with_scheduler, seen_at};
     ghost use Rattle.sched_ops.specs.Conditions.{IsNow, IsAsked, IsOwnOf, IsAway, HasNoneBusy, ArePoolParams, AreDomParams, IsChange, Keeps, is_member, is_vacant, has_joined};
     ghost use Rattle.sched_ops.specs.Timers.{timer_at, is_due, timer_event, after_timer};
     ghost use Rattle.sched_ops.specs.Told.{stored_of};
-
-    /// Which scheduler it is.
-    ghost kind: { SchedKind };
 
     /// What callers see.
     ghost seen: { Self → Seen };
@@ -44,7 +40,7 @@ pub trait Policy: Drop {
         requires cores { places.cores ≤ 64 }
         requires units { units ≤ 256 }
         requires vacant { is_vacant (seen self.old).scheduler ≡ true }
-        ensures scheduler { OnOk result ((seen self.new).scheduler ≡ vacant (default_pool_params kind) places.domains places.cores) }
+        ensures scheduler { OnOk result ((seen self.new).scheduler ≡ vacant (default_pool_params (kind_of (seen self.old).scheduler.records)) places.domains places.cores) }
         ensures room { OnOk result (units ≤ (seen self.new).spare) }
         ensures latest { OnOk result ((seen self.new).latest ≡ (seen self.old).latest) }
         ensures as_before { OnErr result (seen self.new ≡ seen self.old) };
@@ -52,7 +48,7 @@ pub trait Policy: Drop {
     /// Begins anew with these parameters and fresh records: no reset yet, and a frame, where there is one, installed at 0.
     fn restart(&mut self, params: &PoolParams)
         requires vacant { is_vacant (seen self.old).scheduler ≡ true }
-        requires params { ArePoolParams kind params.now }
+        requires params { ArePoolParams (kind_of (seen self.old).scheduler.records) params.now }
         ensures { seen self.new ≡ with_scheduler (restarted params.now (seen self.old).scheduler) (seen self.old) };
 
     /// The domain joins at t, with so many units, 1 to 32. Its units may have all cores; none of them waits yet.
@@ -62,7 +58,7 @@ pub trait Policy: Drop {
         requires some { 1 ≤ units }
         requires few { units ≤ 32 }
         requires room { units ≤ (seen self.old).spare }
-        requires params { AreDomParams kind params.now }
+        requires params { AreDomParams (kind_of (seen self.old).scheduler.records) params.now }
         requires now { IsNow (seen self.old) t.0 }
         ensures scheduler { (seen self.new).scheduler ≡ join_spec d.0 units params.now t.0 (seen self.old).scheduler }
         ensures spare { (seen self.new).spare ≡ (seen self.old).spare - units }
@@ -123,7 +119,7 @@ pub trait Policy: Drop {
     /// Changes parameters at t. Those of an RTDS unit wait for its next replenishment.
     fn set_params(&mut self, change: &ParamChange, t: Moment)
         requires now { IsNow (seen self.old) t.0 }
-        requires change { IsChange kind (seen self.old).scheduler change.now }
+        requires change { IsChange (kind_of (seen self.old).scheduler.records) (seen self.old).scheduler change.now }
         ensures { seen self.new ≡ seen_at t.0 (set_params_spec change.now t.0 (seen self.old).scheduler) (seen self.old) };
 
     /// The set values of a unit; for RTDS the newest ones.
@@ -135,8 +131,7 @@ pub trait Policy: Drop {
     fn rate(&self) -> u32
         ensures { result ≡ rate_of (seen self.now).scheduler.records };
 
-    /// Does nothing, and tells what every scheduler keeps: no unit waits twice, those that wait have joined and are not on, and
-    /// the records are of this kind.
+    /// Does nothing, and tells what every scheduler keeps: no unit waits twice, and those that wait have joined and are not on.
     fn keeps(&self)
-        ensures { Keeps kind (seen self.now) };
+        ensures { Keeps (seen self.now) };
 }

@@ -10,28 +10,43 @@ use Rattle.arrival_queue.specs.Filters.{has_domain as domain_in, in_domains, may
 use Rattle.arrival_queue.specs.Tables.{IsQueue, Tabled, all_items, arrival_at, has_number, comes_before, put_ring, shown, queues_of}
 use Rattle.arrival_queue.proofs.Steps.{Found, found}
 use Rattle.arrival_queue.proofs.Changes.{holds-is, seen_is, absent_is, insert_seen, append_seen, remove_seen, moved_seen, units-shown, first_that-shown, some_number, none_number, found_low, length-left}
+use Rattle.arrival_queue.specs.Order.{IsOrdered}
+use Rattle.arrival_queue.specs.Whole.{seen}
+use Rattle.arrival_queue.proofs.Ordered.{ordered-moved}
+use Rattle.arrival_queue.proofs.ArrivalQueue.move_counted.Given.{Over}
 use Rattle.arrival_queue.proofs.ArrivalQueue.move_counted.Goals as goal
 
 pub arrival_of-arrival-requires : goal.arrival_of-arrival-requires
 arrival_of-arrival-requires g c =
-    (found_low (length c.self.inside.tables.arrivals.items) c.self.inside.tables.next c.self.inside.tables.arrivals.items c.self.inside.tables.ring c.args.u c.in-Some.n (found c.self.inside.tables.ring c.args.u c.in-Some.n c.self.invariant.apart (sym c.find.ensures ∙ c.in-Some.is)) c.self.invariant.tabled).0
+    (found_low (length c.self.inside.tables.arrivals.items) c.self.inside.tables.next c.self.inside.tables.arrivals.items c.self.inside.tables.ring c.args.u c.in-Some.n (found c.self.inside.tables.ring c.args.u c.in-Some.n c.self.invariant.tables.apart (sym c.find.ensures ∙ c.in-Some.is)) c.self.invariant.tables.tabled).0
 
 pub put-requires-clause-arrived : goal.put-requires-clause-arrived
 put-requires-clause-arrived g c =
-    let low = (found_low (length c.self.inside.tables.arrivals.items) c.self.inside.tables.next c.self.inside.tables.arrivals.items c.self.inside.tables.ring c.args.u c.in-Some.n (found c.self.inside.tables.ring c.args.u c.in-Some.n c.self.invariant.apart (sym c.find.ensures ∙ c.in-Some.is)) c.self.invariant.tabled).1 in
+    let low = (found_low (length c.self.inside.tables.arrivals.items) c.self.inside.tables.next c.self.inside.tables.arrivals.items c.self.inside.tables.ring c.args.u c.in-Some.n (found c.self.inside.tables.ring c.args.u c.in-Some.n c.self.invariant.tables.apart (sym c.find.ensures ∙ c.in-Some.is)) c.self.invariant.tables.tabled).1 in
     omega (arith, low, c.arrival_of-arrival.ensures, c.take.ensures.next)
 
-pub returns-in-Some-clause-after : goal.returns-in-Some-clause-after
-returns-in-Some-clause-after g c =
-    moved_seen c.self.inside.tables.ring c.self.inside.tables.keys.items c.self.inside.tables.arrivals.items c.args.u c.in-Some.n (found c.self.inside.tables.ring c.args.u c.in-Some.n c.self.invariant.apart (sym c.find.ensures ∙ c.in-Some.is))
+after_is : (g : Over) (c : goal.After-put g) → seen c.put.new.tables ≡ moved c.args.self.now c.args.u c.args.key
+after_is g c =
+    moved_seen c.self.inside.tables.ring c.self.inside.tables.keys.items c.self.inside.tables.arrivals.items c.args.u c.in-Some.n (found c.self.inside.tables.ring c.args.u c.in-Some.n c.self.invariant.tables.apart (sym c.find.ensures ∙ c.in-Some.is))
     c.take.new.tables.ring c.put.new.tables.ring c.take.new.tables.nodes.items c.take.new.tables.keys.items c.put.new.tables.keys.items c.take.new.tables.arrivals.items c.put.new.tables.arrivals.items c.take.new.tables.fresh.items c.take.new.tables.next c.put.result.0 c.arrival_of-arrival.result c.args.key
     c.take.ensures.ring c.take.ensures.keys c.take.ensures.arrivals c.take.ensures.tables
     c.arrival_of-arrival.ensures c.put.ensures.fresh c.put.ensures.number c.put.ensures.ring c.put.ensures.keys c.put.ensures.arrivals
     ∙ ap (λ (qs : Queues). moved qs c.args.u c.args.key) c.self.view_is
 
+pub invariant_of-self : goal.invariant_of-self
+invariant_of-self g c = record {
+  tables = c.put.ensures.tables;
+  ordered =
+      subst IsOrdered (sym (after_is g c))
+      (ordered-moved c.args.self.now c.args.u c.requires (subst IsOrdered c.self.view_is c.self.invariant.ordered) c.args.key);
+}
+
+pub returns-in-Some-clause-after : goal.returns-in-Some-clause-after
+returns-in-Some-clause-after g c = after_is g c
+
 pub returns-in-Some-clause-cost : goal.returns-in-Some-clause-cost
 returns-in-Some-clause-cost g c =
-    let left = length-left c.self.inside.tables.ring c.self.inside.tables.keys.items c.self.inside.tables.arrivals.items c.args.u c.in-Some.n (found c.self.inside.tables.ring c.args.u c.in-Some.n c.self.invariant.apart (sym c.find.ensures ∙ c.in-Some.is)) in
+    let left = length-left c.self.inside.tables.ring c.self.inside.tables.keys.items c.self.inside.tables.arrivals.items c.args.u c.in-Some.n (found c.self.inside.tables.ring c.args.u c.in-Some.n c.self.invariant.tables.apart (sym c.find.ensures ∙ c.in-Some.is)) in
     let kept : length c.take.new.tables.ring.first ≡ length (l.without_in c.in-Some.n.0 c.self.inside.tables.ring.first) = ap (λ (r : Lists). length r.first) c.take.ensures.ring in
     let seen : length (q.without c.args.u (map (shown c.self.inside.tables.keys.items c.self.inside.tables.arrivals.items (all_items c.self.inside.tables.ring)) c.self.inside.tables.ring.first)) ≡ length (q.without c.args.u c.args.self.now.sorted) =
     ap (λ (qs : Queues). length (q.without c.args.u qs.sorted)) c.self.view_is

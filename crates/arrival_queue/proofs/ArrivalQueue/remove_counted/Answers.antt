@@ -10,13 +10,34 @@ use Rattle.arrival_queue.specs.Filters.{has_domain as domain_in, in_domains, may
 use Rattle.arrival_queue.specs.Tables.{IsQueue, Tabled, all_items, arrival_at, has_number, comes_before, put_ring, shown, queues_of}
 use Rattle.arrival_queue.proofs.Steps.{Found, found}
 use Rattle.arrival_queue.proofs.Changes.{holds-is, seen_is, absent_is, insert_seen, append_seen, remove_seen, move_seen, units-shown, first_that-shown, some_number, none_number, found_low, length-left}
+use Rattle.arrival_queue.specs.Order.{IsOrdered}
+use Rattle.arrival_queue.specs.Whole.{seen}
+use Rattle.arrival_queue.proofs.Ordered.{ordered-removed}
+use Rattle.arrival_queue.proofs.ArrivalQueue.remove_counted.Given.{Over}
 use Rattle.arrival_queue.proofs.ArrivalQueue.remove_counted.Goals as goal
 
-pub returns-in-Some-clause-answer : goal.returns-in-Some-clause-answer
-returns-in-Some-clause-answer g c =
+here : (g : Over) (c : goal.After-take g) → true ≡ holds c.args.self.now c.args.u
+here g c =
     sym (some_number (number_of c.args.u) c.in-Some.n (all_items c.self.inside.tables.ring) (sym c.find.ensures ∙ c.in-Some.is))
     ∙ sym (holds-is c.args.u c.self.inside.tables.ring c.self.inside.tables.keys.items c.self.inside.tables.arrivals.items)
     ∙ ap (λ (qs : Queues). holds qs c.args.u) c.self.view_is
+
+after_is : (g : Over) (c : goal.After-take g) → seen c.take.new.tables ≡ removed c.args.self.now c.args.u
+after_is g c =
+    seen_is (given (l.without c.self.inside.tables.ring c.in-Some.n.0)) c.take.new.tables.ring c.self.inside.tables.keys.items c.take.new.tables.keys.items c.self.inside.tables.arrivals.items c.take.new.tables.arrivals.items c.take.ensures.ring c.take.ensures.keys c.take.ensures.arrivals
+    ∙ remove_seen c.self.inside.tables.ring c.self.inside.tables.keys.items c.self.inside.tables.arrivals.items c.args.u c.in-Some.n (found c.self.inside.tables.ring c.args.u c.in-Some.n c.self.invariant.tables.apart (sym c.find.ensures ∙ c.in-Some.is))
+    ∙ ap (λ (qs : Queues). removed qs c.args.u) c.self.view_is
+
+pub invariant_of-self : goal.invariant_of-self
+invariant_of-self g c = record {
+  tables = c.take.ensures.tables;
+  ordered =
+      subst IsOrdered (sym (after_is g c))
+      (ordered-removed c.args.self.now c.args.u (sym (here g c)) (subst IsOrdered c.self.view_is c.self.invariant.ordered));
+}
+
+pub returns-in-Some-clause-answer : goal.returns-in-Some-clause-answer
+returns-in-Some-clause-answer g c = here g c
 
 pub returns-in-None-clause-answer : goal.returns-in-None-clause-answer
 returns-in-None-clause-answer g c =
@@ -25,7 +46,4 @@ returns-in-None-clause-answer g c =
     ∙ ap (λ (qs : Queues). holds qs c.args.u) c.self.view_is
 
 pub returns-in-Some-clause-gone : goal.returns-in-Some-clause-gone
-returns-in-Some-clause-gone g c =
-    seen_is (given (l.without c.self.inside.tables.ring c.in-Some.n.0)) c.take.new.tables.ring c.self.inside.tables.keys.items c.take.new.tables.keys.items c.self.inside.tables.arrivals.items c.take.new.tables.arrivals.items c.take.ensures.ring c.take.ensures.keys c.take.ensures.arrivals
-    ∙ remove_seen c.self.inside.tables.ring c.self.inside.tables.keys.items c.self.inside.tables.arrivals.items c.args.u c.in-Some.n (found c.self.inside.tables.ring c.args.u c.in-Some.n c.self.invariant.apart (sym c.find.ensures ∙ c.in-Some.is))
-    ∙ ap (λ (qs : Queues). removed qs c.args.u) c.self.view_is
+returns-in-Some-clause-gone g c = after_is g c
