@@ -10,9 +10,8 @@ use Rattle.sched_base.specs.Numbers.{domain}
 use Rattle.sched_base.specs.declared.Cores.{Cores}
 use Rattle.sched_base.specs.declared.UnitId.{UnitId}
 use Rattle.sched_model.specs.Places.{at_place, numbers_from, has_unit, same_unit, put_at, clear_at}
-use Rattle.sched_laws.proofs.Bools.{or_left, or_right}
 use Rattle.sched_laws.proofs.Choices.{same_unit_same}
-use Rattle.sched_laws.proofs.Counts.{one, times, same_unit_refl}
+use Rattle.sched_laws.proofs.Counts.{one, times, same_unit_refl, times_none}
 use Rattle.sched_ranges.proofs.Queue.{no_longer}
 use Rattle.sched_ops.specs.Conditions.{IsApart}
 use Rattle.arrival_queue.proofs.Ranks.{not_less_test}
@@ -21,15 +20,11 @@ use Rattle.credit2_core.specs.Places.{count_all, count_at, has_joined}
 pub less_true : (a b : ℕ) → nat_lt a b ≡ true → a < b
 less_true a b is = elim (cases_lt a b) [ inl low ↦ low | inr high ↦ absurd (let e = not_less_test a b high in cc) ]
 
-times-absent : (u : UnitId) (units : List UnitId) → has_unit units u ≡ false → times u units ≡ 0
-times-absent u [] absent = refl
-times-absent u (x ∷ units) absent = (let e : same_unit u x ≡ false = or_left _ _ absent in rw e (times-absent u units (or_right (same_unit u x) _ absent)))
-
 times-apart : (u : UnitId) (units : List UnitId) → IsApart units → times u units ≤ 1
 times-apart u [] apart = omega arith
 times-apart u (x ∷ units) apart =
     elim (same_unit u x) as (λ b. same_unit u x ≡ b → cond b 1 0 + times u units ≤ 1) [
-      | true ↦ λ is. (let none = times-absent u units (subst (λ (w : UnitId). has_unit units w ≡ false) (sym (same_unit_same u x is)) apart.0) in omega (arith, none))
+      | true ↦ λ is. (let none = times_none u units (subst (λ (w : UnitId). has_unit units w ≡ false) (sym (same_unit_same u x is)) apart.0) in omega (arith, none))
       | false ↦ λ is. (let rest = times-apart u units apart.1 in omega (arith, rest))
     ] refl
 

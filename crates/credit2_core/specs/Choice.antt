@@ -1,5 +1,5 @@
 -- What the first unit of the run queue is to a scan.
-use Rattle.std.specs.Prelude.{ℕ, ℤ, pos, ◌&&◌, Bool, List, Option, Some, None, filter}
+use Rattle.std.specs.Prelude.{ℕ, ℤ, pos, ◌&&◌, Bool, List, Option, Some, None, filter, int_lt, if◌then◌else◌}
 use Rattle.sched_base.specs.declared.UnitId.{UnitId}
 use Rattle.sched_base.specs.declared.Cores.{Cores}
 use Rattle.sched_model.specs.declared.state.Credit2Records.{Credit2Records}
@@ -18,3 +18,8 @@ best_of queue affinity home core records = greatest records None (filter (may_ta
 abbrev pub credit_or_0 : Credit2Records → Option UnitId → ℤ
 credit_or_0 records None = pos 0
 credit_or_0 records (Some u) = credit_of records u
+
+-- the unit, or the one that waits where it has more credit
+abbrev pub richer_of : Credit2Records → UnitId → Option UnitId → Option UnitId
+richer_of records own None = Some own
+richer_of records own (Some u) = Some (if int_lt (credit_of records own) (credit_of records u) then u else own)

@@ -1,4 +1,3 @@
-pub mod Order
 pub mod Keys
 pub mod Places
 pub mod Domains

@@ -5,4 +5,3 @@ mod domains;
 mod held;
 mod line;
 mod small;
-mod stub;

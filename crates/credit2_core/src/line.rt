@@ -2,6 +2,7 @@
 
 ghost use Rattle.std.specs.Prelude.{◌≡◌, ◌≤◌, ◌<◌, ◌+◌, neg_ℤ, length, true};
 ghost use Rattle.std.specs.List.{AllByRecursion};
+ghost use Rattle.sched_base.specs.declared.UnitId.{UnitId as Unit};
 ghost use Rattle.queue_laws.specs.Arrivals.{arrivals};
 ghost use Rattle.sched_model.specs.Credit2.{credit_of as credit_of_spec};
 ghost use Rattle.credit2_core.specs.Keys.{HasCredits, KeysWhere, is_passed};
@@ -11,7 +12,6 @@ ghost use Rattle.credit2_core.specs.Choice.{best_of};
 
 use crate::domains::{count_at, runnable_domains};
 use crate::held::Held;
-use crate::stub::{has, law_order};
 use plain_credit2::running::credit_of;
 use runq::{Allowed, Runq};
 use sched_base::{Cores, DomId, ResId, UnitId};
@@ -27,19 +27,21 @@ pub fn key_of(records: &Credit2Records, u: UnitId) -> i128
 
 /// The unit is put at its place by its credit, where it waits.
 fn rekey(queue: &mut Runq, records: &Credit2Records, u: UnitId)
-    requires { KeysWhere (is_passed u.dom.0 u.n) records.now queue.old.units }
+    requires indices { AllByRecursion (λ (w : Unit). w.n < 256) (arrivals queue.old.units) }
+    requires keys { KeysWhere (is_passed u.dom.0 u.n) records.now queue.old.units }
     ensures keys { KeysWhere (is_passed u.dom.0 (u.n + 1)) records.now queue.new.units }
     ensures same { IsSameLine queue.old queue.new }
 {
-    law_order(queue);
-    if has(queue, u) {
+    queue.law_order();
+    if queue.has(u) {
         queue.rekey(u, key_of(records, u));
     }
 }
 
 /// The domain's units that wait are put at their places.
 fn rekey_domain(queue: &mut Runq, records: &Credit2Records, d: DomId, count: u8)
-    requires { KeysWhere (is_passed d.0 0) records.now queue.old.units }
+    requires indices { AllByRecursion (λ (w : Unit). w.n < 256) (arrivals queue.old.units) }
+    requires keys { KeysWhere (is_passed d.0 0) records.now queue.old.units }
     ensures keys { KeysWhere (is_passed d.0 count) records.now queue.new.units }
     ensures same { IsSameLine queue.old queue.new }
 {
@@ -52,6 +54,7 @@ fn rekey_domain(queue: &mut Runq, records: &Credit2Records, d: DomId, count: u8)
 /// All units that wait are put at their places by their credits, which a reset has changed.
 pub fn rekey_all(queue: &mut Runq, records: &Credit2Records, affinity: &[Option<Pins>])
     requires few { length affinity.now ≤ 64 }
+    requires indices { AllByRecursion (λ (w : Unit). w.n < 256) (arrivals queue.old.units) }
     requires joined { AllByRecursion (λ u. has_joined affinity.now u ≡ true) (arrivals queue.old.units) }
     ensures keys { HasCredits records.now queue.new.units }
     ensures same { IsSameLine queue.old queue.new }
@@ -72,7 +75,7 @@ pub fn best_waiting(held: &Held, core: u8, home: u64) -> Option<UnitId>
     requires masks { AreMasks held.now.affinity held.now.masks }
     ensures { result ≡ best_of (arrivals held.now.queue.units) held.now.affinity home core held.now.records }
 {
-    law_order(&held.queue);
+    held.queue.law_order();
     let allowed = Allowed(runnable_domains(held.records.domains.as_slice()));
     held.queue
         .first_on(&allowed, &held.masks, ResId(core), Cores(home))
