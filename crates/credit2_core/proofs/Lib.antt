@@ -3,3 +3,5 @@ pub mod Waiting
 pub mod Tables
 pub mod Rekeying
 pub mod Rooms
+pub mod Members
+pub mod Idle

@@ -4,7 +4,7 @@ use Rattle.std.specs.Prelude.{◌||◌, ◌&&◌, filter, if◌then◌else◌, n
 use Rattle.std.specs.List.{AllByRecursion}
 use Rattle.sched_base.specs.declared.UnitId.{UnitId}
 use Rattle.sched_model.specs.Places.{has_unit, without_unit, same_unit}
-use Rattle.sched_laws.proofs.Bools.{or_left, or_right, either}
+use Rattle.sched_laws.proofs.Bools.{or_left, or_right, or_more, either}
 use Rattle.sched_laws.proofs.Choices.{same_unit_same}
 use Rattle.sched_laws.proofs.Counts.{same_unit_refl}
 use Rattle.sched_ops.specs.Conditions.{IsApart}
@@ -131,3 +131,15 @@ length-arrivals es = length-units (arrived es) ∙ length-arrived es
 
 pub length-placed : (e : Queued) (es : List Queued) → length (placed e es) ≡ length es + 1
 length-placed e es = length-put _ e es
+
+-- what holds of whatever is in the list holds of each
+pub each_has : (units : List UnitId) (P : UnitId → Type 0) → ((u : UnitId) → has_unit units u ≡ true → P u) → AllByRecursion P units
+each_has [] P has = tt
+each_has (u ∷ units) P has = (has u (or_more (same_unit u u) (has_unit units u) (same_unit_refl u)), each_has units P (λ w there. has w (later w there)))
+  where
+    or_true : (b : Bool) → (b || true) ≡ true
+    or_true true = refl
+    or_true false = refl
+
+    later : (w : UnitId) → has_unit units w ≡ true → has_unit (u ∷ units) w ≡ true
+    later w there = rw there (or_true (same_unit w u))

@@ -1,5 +1,5 @@
 -- What a pool's Credit2 keeps, what callers see of it, and what always holds of it.
-use Rattle.std.specs.Prelude.{◌≡◌, ◌≤◌, ◌+◌, ℕ, true, false, List, Option, length}
+use Rattle.std.specs.Prelude.{◌≡◌, ◌≤◌, ◌<◌, ◌+◌, ℕ, true, false, List, Option, length}
 use Rattle.std.specs.List.{AllByRecursion}
 use Rattle.sched_base.specs.Numbers.{core_set, domain}
 use Rattle.sched_base.specs.CoreSets.{mask_of}
@@ -12,6 +12,7 @@ use Rattle.sched_model.specs.Eligible.{cores_of}
 use Rattle.sched_ranges.proofs.Credit2.{Credit2Fits}
 use Rattle.sched_ranges.proofs.Decided.{Budgets, None2, AllRunOnly}
 use Rattle.plain_credit2.specs.Waiting.{scheduler_of}
+use Rattle.arrival_queue.specs.Queues.{Queued}
 use Rattle.runq.specs.Queue.{Queue}
 use Rattle.queue_laws.specs.Arrivals.{arrivals}
 use Rattle.sched_ops.specs.Seen.{Seen}
@@ -27,17 +28,26 @@ pub record InRange (t : ℕ) (records : Credit2Records) : Type 0 where
   pub budgets : Budgets t (λ d k. k ≤ 32) None2 None2 records
 
 -- the units that wait: no unit is there twice, each has joined, has its key and is not on
-pub record IsLine (h : Held) : Type 0 where
-  pub apart : IsApart (arrivals h.queue.units)
-  pub joined : AllByRecursion (λ u. has_joined h.affinity u ≡ true) (arrivals h.queue.units)
-  pub keys : HasCredits h.records h.queue.units
-  pub off : AllRunOnly (λ d n. has_unit (arrivals h.queue.units) (record { dom = domain d; n = n }) ≡ false) h.records
+pub record IsLineOf (affinity : List (Option (List Cores))) (records : Credit2Records) (es : List Queued) : Type 0 where
+  pub apart : IsApart (arrivals es)
+  pub joined : AllByRecursion (λ u. has_joined affinity u ≡ true) (arrivals es)
+  pub indices : AllByRecursion (λ (u : UnitId). u.n < 256) (arrivals es)
+  pub keys : HasCredits records es
+  pub off : AllRunOnly (λ d n. has_unit (arrivals es) (record { dom = domain d; n = n }) ≡ false) records
+
+-- the same of all that is kept
+abbrev pub IsLine : Held → Type 0
+IsLine h = IsLineOf h.affinity h.records h.queue.units
 
 -- the same units wait, in the same order of arrival
 pub record IsSameLine (old new : Queue) : Type 0 where
   pub order : arrivals new.units ≡ arrivals old.units
   pub count : length new.units ≡ length old.units
   pub spare : new.spare ≡ old.spare
+
+-- the queue has as many nodes
+pub record IsSameRoom (old new : Queue) : Type 0 where
+  pub room : length new.units + new.spare ≡ length old.units + old.spare
 
 -- the table of masks has the sets of cores of the units that have joined
 abbrev pub AreMasks : List (Option (List Cores)) → List Cores → Type 0

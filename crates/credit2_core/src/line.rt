@@ -7,7 +7,7 @@ ghost use Rattle.queue_laws.specs.Arrivals.{arrivals};
 ghost use Rattle.sched_model.specs.Credit2.{credit_of as credit_of_spec};
 ghost use Rattle.credit2_core.specs.Keys.{HasCredits, KeysWhere, is_passed};
 ghost use Rattle.credit2_core.specs.Places.{has_joined};
-ghost use Rattle.credit2_core.specs.Held.{AreMasks, IsSameLine};
+ghost use Rattle.credit2_core.specs.Held.{AreMasks, IsLine, IsSameLine};
 ghost use Rattle.credit2_core.specs.Choice.{best_of};
 
 use crate::domains::{count_at, runnable_domains};
@@ -70,8 +70,7 @@ pub fn rekey_all(queue: &mut Runq, records: &Credit2Records, affinity: &[Option<
 pub fn best_waiting(held: &Held, core: u8, home: u64) -> Option<UnitId>
     requires core { core < 64 }
     requires few { length held.now.records.domains ≤ 64 }
-    requires joined { AllByRecursion (λ u. has_joined held.now.affinity u ≡ true) (arrivals held.now.queue.units) }
-    requires keys { HasCredits held.now.records held.now.queue.units }
+    requires line { IsLine held.now }
     requires masks { AreMasks held.now.affinity held.now.masks }
     ensures { result ≡ best_of (arrivals held.now.queue.units) held.now.affinity home core held.now.records }
 {

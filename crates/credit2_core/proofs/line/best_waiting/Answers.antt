@@ -23,5 +23,5 @@ returns c =
     let set : c.runnable_domains.result ≡ set_of records.domains = c.runnable_domains.ensures.exact ∙ ap set_of c.as_slice.ensures in
     found
     ∙ ap (λ (k : ℕ). first_that (p k) es) set
-    ∙ first_greatest records (p (set_of records.domains)) es (record { order = c.law_order.ensures.order; ranks = c.law_order.ensures.ranks; units = c.law_order.ensures.units }) c.requires.keys
-    ∙ ap (greatest records None) (filter-same (p (set_of records.domains)) (may_take held.affinity c.args.home c.args.core records) (arrivals es) (passes_each held.affinity held.masks records c.args.core c.args.home (arrivals es) c.requires.masks c.requires.joined))
+    ∙ first_greatest records (p (set_of records.domains)) es (record { order = c.law_order.ensures.order; ranks = c.law_order.ensures.ranks; units = c.law_order.ensures.units }) c.requires.line.keys
+    ∙ ap (greatest records None) (filter-same (p (set_of records.domains)) (may_take held.affinity c.args.home c.args.core records) (arrivals es) (passes_each held.affinity held.masks records c.args.core c.args.home (arrivals es) c.requires.masks c.requires.line.joined))
