@@ -1,9 +1,9 @@
 -- No more units wait than have joined.
 use Rattle.std.proofs.Common.{◌≡◌, ◌≢◌, ◌<◌, ◌≤◌, ◌+◌, ℕ, zero, suc, Bool, true, false, List, [], ◌∷◌, ◌++◌, length, map, refl, ap, subst, sym, ◌∙◌, cond, arith, inl, inr}
-use Rattle.std.specs.Prelude.{Option, Some, None, nat_lt, slice_set}
+use Rattle.std.specs.Prelude.{Option, Some, None, nat_lt, slice_set, replicate}
 use Rattle.std.specs.List.{AllByRecursion}
 use Rattle.std.proofs.Math.Decide.{ℕ_discrete}
-use Rattle.std.proofs.lemmas.List.{length-map}
+use Rattle.std.proofs.lemmas.List.{length-map, replicate-append-replicate}
 use Rattle.std.proofs.Common.{length-append}
 use Rattle.std.proofs.lemmas.Bool.{cases_lt}
 use Rattle.sched_base.specs.Numbers.{domain}
@@ -103,3 +103,7 @@ count_all-clear zero (None ∷ affinity) = omega arith
 count_all-clear zero (Some x ∷ affinity) = omega arith
 count_all-clear (suc d) (None ∷ affinity) = count_all-clear d affinity
 count_all-clear (suc d) (Some x ∷ affinity) = (let r = count_all-clear d affinity in omega (arith, r))
+
+-- one more of the same
+pub replicate_one_more : {X : Type 0} (n : ℕ) (x : X) → replicate n x ++ x ∷ [] ≡ replicate (n + 1) x
+replicate_one_more n x = replicate-append-replicate n 1 x

@@ -5,6 +5,7 @@ use Rattle.sched_base.specs.CoreSets.{mask_of}
 use Rattle.sched_base.specs.declared.Cores.{Cores}
 use Rattle.sched_base.specs.declared.UnitId.{UnitId}
 use Rattle.sched_model.specs.declared.state.Credit2Domain.{Credit2Domain}
+use Rattle.sched_model.specs.Places.{at_place}
 use Rattle.sched_model.specs.Eligible.{has_budget}
 
 -- 1 where the cap lets the domain run
@@ -20,3 +21,7 @@ set_of (place ∷ domains) = may_run_bit place + 2 * set_of domains
 -- the unit's mask, once those of the first k of the domain's units are written into the table
 abbrev pub masked : List Cores → ℕ → List Cores → ℕ → UnitId → Cores
 masked masks d sets k u = (if u.dom.0 == d && nat_lt u.n k then slice_index_or sets u.n (core_set 0) else mask_of masks u)
+
+-- the unit's mask, once the domain's are those of its sets of cores
+abbrev pub refreshed : List Cores → List (Option (List Cores)) → ℕ → UnitId → Cores
+refreshed masks affinity d u = elim (at_place affinity d) [ None ↦ mask_of masks u | Some sets ↦ masked masks d sets (length sets) u ]

@@ -2,4 +2,6 @@ pub mod Keys
 pub mod Places
 pub mod Domains
 pub mod Choice
+pub mod Timing
 pub mod Held
+pub mod Room

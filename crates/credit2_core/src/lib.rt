@@ -2,7 +2,12 @@
 #![tactic(auto)]
 
 mod choice;
+mod decide;
 mod domains;
 mod held;
 mod line;
+mod params;
+mod room;
+mod slice;
 mod small;
+mod timers;
