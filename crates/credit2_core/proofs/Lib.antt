@@ -5,3 +5,5 @@ pub mod Rekeying
 pub mod Rooms
 pub mod Members
 pub mod Idle
+pub mod Ranges
+pub mod Same

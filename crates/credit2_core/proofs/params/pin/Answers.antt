@@ -1,0 +1,4 @@
+use Rattle.credit2_core.proofs.params.pin.Goals as goal
+
+pub returns-clause-held : goal.returns-clause-held
+returns-clause-held c = ?
