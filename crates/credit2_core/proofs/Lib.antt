@@ -7,3 +7,6 @@ pub mod Members
 pub mod Idle
 pub mod Ranges
 pub mod Same
+pub mod Lines
+pub mod Choosing
+pub mod Deciding

@@ -82,7 +82,7 @@ pub fn leave(held: &mut Held, u: UnitId)
     ensures rest { held.new ≡ record held.old { queue = held.new.queue } }
 {
     held.queue.law_order();
-    let _waited = held.queue.remove(u);
+    let _ = held.queue.remove(u);
 }
 
 /// The pool after m resets at t. The keys of the units that wait follow their credits.
