@@ -10,6 +10,8 @@ use Rattle.sched_model.specs.declared.state.Credit2Records.{Credit2Records}
 use Rattle.sched_model.specs.Places.{at_place, change_at, change_item, has_unit}
 use Rattle.sched_model.specs.Credit2.{max_weight, burn_unit, burn_units, change_domain, change_unit, give_back, burn_cur, take_budget, set_running, switch_off, refill_domain, refilled, set_weight, set_cap, set_domain, credit_of}
 use Rattle.sched_laws.proofs.EachPlace.{by_option, by_cond}
+use Rattle.sched_laws.proofs.Sound.{change_at-twice}
+use Rattle.sched_ranges.proofs.Budget.{get_map}
 use Rattle.sched_ranges.proofs.Decided.{unit_rec, AllRunOnly}
 use Rattle.plain_credit2.specs.Bounds.{own_charged, credit_at}
 use Rattle.plain_credit2.proofs.Items.{at_place-change_at}
@@ -119,8 +121,21 @@ idle_switch_off (Some w) records u off = idle_set_running None w records u off
 pub idle_refilled : (t d : ℕ) (records : Credit2Records) → KeepsIdle records (refilled t d records)
 idle_refilled t d records u off = domain_keeps d (refill_domain (max_weight records) t) records u (λ x n still. burns_keep (max_weight records) t x n still) off
 
+-- a new weight keeps which units run
+still_weighed : (weight : Option ℕ) (x : Credit2Domain) (n : ℕ) → IsStill x.units n → IsStill (set_weight weight x).units n
+still_weighed None x n still = λ y at. still y at
+still_weighed (Some weight) x n still = λ y at. (let r = get_map (λ (z : Credit2Unit). record z { residual = z.residual % weight }) x.units n y at in subst (λ (z : Credit2Unit). z.burned ≡ None) r.2 (still r.0 r.1))
+
+pub idle_set_domain : (t d : ℕ) (weight percent : Option ℕ) (records : Credit2Records) → KeepsIdle records (set_domain t d weight percent records)
+idle_set_domain t d weight percent records u off =
+    let most : ℕ = max_weight (change_domain d (set_weight weight) records) in
+    let f : Credit2Domain → Credit2Domain = λ x. set_cap most t percent (set_weight weight x) in
+    let one : set_domain t d weight percent records ≡ change_domain d f records = ap (λ (ds : List (Option Credit2Domain)). record records { domains = ds }) (change_at-twice d (set_cap most t percent) (set_weight weight) records.domains) in
+    subst (λ (r : Credit2Records). credit_of r u ≡ credit_of records u) (sym one)
+    (domain_keeps d f records u (λ x n still. cap_keeps most t percent (set_weight weight x) n (still_weighed weight x n still) ∙ weight_keeps weight x n still) off)
+
 -- the keys of units that wait stay right
-each_keeps : (records next : Credit2Records) (es : List Queued) → AllByRecursion (λ (e : Queued). credit_of next e.unit ≡ credit_of records e.unit) es → HasCredits records es → HasCredits next es
+pub each_keeps : (records next : Credit2Records) (es : List Queued) → AllByRecursion (λ (e : Queued). credit_of next e.unit ≡ credit_of records e.unit) es → HasCredits records es → HasCredits next es
 each_keeps records next [] same keys = tt
 each_keeps records next (e ∷ es) same keys = (keys.0 ∙ ap (λ (z : ℤ). record { first = neg_ℤ z; second = 0 }) (sym same.0), each_keeps records next es same.1 keys.1)
 

@@ -10,3 +10,5 @@ pub mod Same
 pub mod Lines
 pub mod Choosing
 pub mod Deciding
+pub mod Keeping
+pub mod Refills

@@ -16,10 +16,14 @@ use Rattle.sched_model.specs.Checked.{IsWithin}
 use Rattle.sched_model.specs.Credit2.{burn_cur, switch_off, set_domain, refilled, fresh_domain, domain_has_budget, reset}
 use Rattle.sched_laws.proofs.EachPlace.{EachPlace-put_at, EachPlace-clear_at, EachAt-put_at, EachAt-clear_at, length_set, length_change_each}
 use Rattle.sched_ranges.specs.Ranges.{Credit2UnitInRange, Credit2InRange}
-use Rattle.sched_ranges.proofs.Credit2.{Credit2DomainFits, Credit2Fits, UnitFits, c_burn_cur, c_reset, c_take, c_switch_off, c_set_running, c_refilled, c_fresh, c_set_domain, c_later}
+use Rattle.sched_ranges.proofs.Credit2.{Credit2DomainFits, Credit2Fits, UnitFits, c_burn_cur, c_reset, c_take, c_switch_off, c_set_running, c_fresh, c_set_domain, c_later}
 use Rattle.sched_ranges.proofs.Budget.{HeldFits, BudgetFits, Nobody, helds, lasts}
 use Rattle.sched_ranges.proofs.Budgets.{b_later, b_fresh}
 use Rattle.sched_ranges.proofs.Decided.{Budgets, None2, s_refilled, s_set_domain, decides_unit, decides_idle, unit_rec}
+use Rattle.sched_ranges.proofs.Records.{refill_fits}
+use Rattle.sched_model.specs.State.{has_come}
+use Rattle.sched_model.specs.Policy.{next_refill}
+use Rattle.sched_model.specs.declared.state.Records.TheVariants.{Credit2Pool}
 use Rattle.plain_units.specs.Fits as plain
 use Rattle.credit2_core.specs.Choice.{ran}
 use Rattle.credit2_core.specs.Held.{InRange}
@@ -95,9 +99,9 @@ ranged t n records few credits budgets = record {
   budgets = budgets;
 }
 
-pub range_refilled : (t d : ℕ) (records : Credit2Records) → ((x : Credit2Domain) (r : ℕ) → at_place records.domains d ≡ Some x → x.refill ≡ Some r → r ≤ t) → InRange t records → InRange t (refilled t d records)
+pub range_refilled : (t d : ℕ) (records : Credit2Records) → has_come t (next_refill (Credit2Pool records) d) ≡ true → InRange t records → InRange t (refilled t d records)
 range_refilled t d records come range =
-    ranged t (length records.domains) (refilled t d records) range.few (c_refilled (length records.domains) t d records come range.credits) (s_refilled t Few d records range.budgets)
+    ranged t (length records.domains) (refilled t d records) range.few (refill_fits (length records.domains) 0 t (Credit2Pool records) d come range.credits) (s_refilled t Few d records range.budgets)
 
 pub range_set_domain : (t d : ℕ) (weight percent : Option ℕ) (records : Credit2Records) → IfSome weight (IsWithin 1 65535) → IfSome percent (λ (c : ℕ). c ≤ 6400) → InRange t records → InRange t (set_domain t d weight percent records)
 range_set_domain t d weight percent records weighs caps range =

@@ -24,7 +24,7 @@ module _ {X Y : Type 0} (h : Option X → Y) where
   map-set zero o (p ∷ places) = refl
   map-set (suc i) o (p ∷ places) = ap (λ ys. h p ∷ ys) (map-set i o places)
 
-  map-change_at : (i : ℕ) (f : X → X) (places : List (Option X)) → ((x : X) → at_place places i ≡ Some x → h (Some (f x)) ≡ h (Some x)) → map h (change_at i f places) ≡ map h places
+  pub map-change_at : (i : ℕ) (f : X → X) (places : List (Option X)) → ((x : X) → at_place places i ≡ Some x → h (Some (f x)) ≡ h (Some x)) → map h (change_at i f places) ≡ map h places
   map-change_at i f [] same = refl
   map-change_at zero f (None ∷ places) same = refl
   map-change_at zero f (Some x ∷ places) same = ap (λ y. y ∷ map h places) (same x refl)

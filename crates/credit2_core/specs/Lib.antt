@@ -5,3 +5,4 @@ pub mod Choice
 pub mod Timing
 pub mod Held
 pub mod Room
+pub mod Whole

@@ -2,6 +2,7 @@
 #![tactic(auto)]
 
 mod choice;
+pub mod credit2;
 mod decide;
 mod domains;
 mod held;
@@ -11,3 +12,5 @@ mod room;
 mod slice;
 mod small;
 mod timers;
+
+pub use credit2::Credit2;

@@ -4,12 +4,13 @@ ghost use Rattle.std.specs.Prelude.{◌≡◌, ◌≤◌, ◌<◌, ◌+◌, ◌-
 ghost use Rattle.std.specs.Option.{ForSome};
 ghost use Rattle.sched_base.specs.declared.UnitId.{UnitId as Unit};
 ghost use Rattle.sched_base.specs.CoreSets.{mask_of};
+ghost use Rattle.sched_model.specs.declared.config.SchedKind.TheVariants as kinds;
 ghost use Rattle.sched_model.specs.declared.config.DomParams.TheVariants as dom_params;
 ghost use Rattle.sched_model.specs.declared.config.ParamChange.TheVariants as changes;
 ghost use Rattle.sched_model.specs.Places.{at_place};
 ghost use Rattle.sched_model.specs.Policy.{join as join_spec, part as part_spec, set_params as set_params_spec};
 ghost use Rattle.sched_ops.specs.Seen.{Seen, seen_at, units_of};
-ghost use Rattle.sched_ops.specs.Conditions.{IsNow, IsWeight, IsCap, HasNoneBusy, has_joined as joined_spec};
+ghost use Rattle.sched_ops.specs.Conditions.{IsNow, IsWeight, IsCap, HasNoneBusy, IsChange, has_joined as joined_spec};
 ghost use Rattle.credit2_core.specs.Held.{IsHeld, scheduler_in, seen_in};
 ghost use Rattle.credit2_core.specs.Domains.{refreshed};
 
@@ -19,7 +20,7 @@ use plain_credit2::credit2;
 use plain_policy::params;
 use plain_policy::places::{copies, set_place};
 use sched_base::{Cores, DomId, Masks};
-use sched_model::config::Pins;
+use sched_model::config::{ParamChange, Pins};
 
 /// The table of masks has the sets of cores of the domain's units again.
 fn refresh(masks: &mut Masks, affinity: &[Option<Pins>], d: DomId)
@@ -113,4 +114,20 @@ pub fn pin(held: &mut Held, d: DomId, unit: Option<u8>, cores: Cores, t: u64)
     params::pin(d.0, unit, cores, &mut held.affinity);
     refresh(&mut held.masks, held.affinity.as_slice(), d);
     held.latest = t;
+}
+
+/// The parameters change at t.
+pub fn set_params(held: &mut Held, change: &ParamChange, t: u64)
+    requires held { IsHeld held.old }
+    requires now { IsNow (seen_in held.old) t }
+    requires change { IsChange kinds.Credit2 (scheduler_in held.old) change.now }
+    ensures seen { seen_in held.new ≡ seen_at t (set_params_spec change.now t (scheduler_in held.old)) (seen_in held.old) }
+    ensures held { IsHeld held.new }
+{
+    match change {
+        ParamChange::Dom { dom, weight, cap } => set_domain(held, *dom, *weight, *cap, t),
+        ParamChange::Rate { limit } => set_rate(held, *limit, t),
+        ParamChange::Pin { dom, unit, cores } => pin(held, *dom, *unit, *cores, t),
+        _ => {}
+    }
 }
