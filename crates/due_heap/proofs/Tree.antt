@@ -127,13 +127,13 @@ dues_of-none room nodes none =
     ∙ map-none room
 
 -- an id's due is the moment of its leaf
-due_of-dues_of : (room : ℕ) (nodes : List (Option Due)) (id : ℕ)
+pub due_of-dues_of : (room : ℕ) (nodes : List (Option Due)) (id : ℕ)
     → due_of (dues_of room nodes) id ≡ moment_of (node nodes (room + id))
 due_of-dues_of room nodes id =
     get_or-map moment_of (drop room nodes) id None ∙ ap moment_of (get_or-drop room nodes id None)
 
 -- a node that has a due is within the tree
-within : (nodes : List (Option Due)) (k : ℕ) (d : Due) → node nodes k ≡ Some d → k < length nodes
+pub within : (nodes : List (Option Due)) (k : ℕ) (d : Due) → node nodes k ≡ Some d → k < length nodes
 within nodes k d e =
     elim (cases_lt k (length nodes)) [
       | inl lt ↦ lt
@@ -141,12 +141,12 @@ within nodes k d e =
     ]
 
 -- a leaf that has a moment has a due at it
-due_of_moment : (x : Option Due) (at : Moment) → moment_of x ≡ Some at → (d : Due) × (x ≡ Some d) × (d.at ≡ at)
+pub due_of_moment : (x : Option Due) (at : Moment) → moment_of x ≡ Some at → (d : Due) × (x ≡ Some d) × (d.at ≡ at)
 due_of_moment None at e = absurd (cc)
 due_of_moment (Some d) at e = (d, refl, (cc))
 
 -- where a leaf has a due, its id is the leaf's
-id_of_leaf : (room : ℕ) (nodes : List (Option Due)) → IsTree room nodes
+pub id_of_leaf : (room : ℕ) (nodes : List (Option Due)) → IsTree room nodes
     → (id : ℕ) (d : Due) → id < room → node nodes (room + id) ≡ Some d → d.id ≡ id
 id_of_leaf room nodes tree id d below e = subst (λ (x : Option Due). IfSome x (λ due. due.id ≡ id)) e (tree.leaves id below)
 
@@ -163,7 +163,7 @@ root_armed room nodes tree d root =
     (due_of-dues_of room nodes leaf.0 ∙ ap moment_of at_leaf)
 
 -- what an armed id has in the tree, and that the root is no later
-armed_leaf : (room : ℕ) (nodes : List (Option Due)) → IsTree room nodes
+pub armed_leaf : (room : ℕ) (nodes : List (Option Due)) → IsTree room nodes
     → (id : ℕ) (at : Moment) → IsArmed (dues_of room nodes) id at
     → (d : Due) × (d.at ≡ at) × (d.id ≡ id) × NotLater (node nodes 1) (Some d)
 armed_leaf room nodes tree id at armed =

@@ -1,5 +1,5 @@
 -- The dues of a heap: for each id in turn its moment, where it is armed.
-use Rattle.std.specs.Prelude.{ℕ, ◌≤◌, ◌≡◌, Option, Some, None, List, slice_index_or}
+use Rattle.std.specs.Prelude.{ℕ, ◌≤◌, ◌≡◌, ◌^◌, Option, Some, None, List, slice_index_or}
 use Rattle.sched_base.specs.declared.Moment.{Moment}
 
 -- the moment at which an id is due, or none where it is not armed
@@ -14,3 +14,14 @@ IsArmed dues id at = due_of dues id ≡ Some at
 pub record GoesFirst (at : Moment) (id : ℕ) (other : Moment) (other_id : ℕ) : Type 0 where
   pub by_moment : at.0 ≤ other.0
   pub then_by_id : at.0 ≡ other.0 → id ≤ other_id
+
+-- the id is armed with a moment that has come at t
+pub record HasCome (dues : List (Option Moment)) (t id : ℕ) : Type 0 where
+  pub at : Moment
+  pub armed : IsArmed dues id at
+  pub come : at.0 ≤ t
+
+-- the number is a power of two
+pub record IsPowerOfTwo (n : ℕ) : Type 0 where
+  pub exponent : ℕ
+  pub is : n ≡ 2 ^ exponent

@@ -1,5 +1,5 @@
 -- The tree of winners: its leaves are the ids, and each other node is the sooner one of the two nodes below it.
-use Rattle.std.specs.Prelude.{ℕ, ◌+◌, ◌*◌, ◌≤◌, ◌<◌, ◌==◌, ◌≡◌, ◌≢◌, nat_lt, ◌||◌, ◌&&◌, Bool, if◌then◌else◌, Option, Some, None, List, length, map, drop, slice_index_or, IfSome}
+use Rattle.std.specs.Prelude.{ℕ, ◌+◌, ◌*◌, ◌≤◌, ◌<◌, ◌==◌, ◌≡◌, ◌≢◌, nat_lt, nat_le, ◌||◌, ◌&&◌, Bool, false, if◌then◌else◌, Option, Some, None, List, length, map, drop, slice_index_or, IfSome}
 use Rattle.sched_base.specs.declared.Moment.{Moment}
 use Rattle.due_heap.specs.declared.due.Due.{Due}
 
@@ -12,6 +12,11 @@ abbrev pub sooner : Option Due → Option Due → Option Due
 sooner None b = b
 sooner (Some a) None = Some a
 sooner (Some a) (Some b) = (if is_before b a then Some b else Some a)
+
+-- whether there is a due and its moment has come at t
+abbrev pub is_due_at : ℕ → Option Due → Bool
+is_due_at t None = false
+is_due_at t (Some d) = nat_le d.at.0 t
 
 -- the node with that number; the root is 1, and below k are 2k and 2k + 1
 abbrev pub node : List (Option Due) → ℕ → Option Due

@@ -19,6 +19,16 @@ fn is_before(a: Due, b: Due) -> bool
     a.at.0 < b.at.0 || (a.at.0 == b.at.0 && a.id < b.id)
 }
 
+/// Whether there is a due and its moment has come at t.
+pub fn is_due(due: Option<Due>, t: Moment) -> bool
+    ensures { result ≡ winners.is_due_at t.0 due }
+{
+    match due {
+        None => false,
+        Some(d) => d.at.0 <= t.0,
+    }
+}
+
 /// The due that goes first, where there is one.
 pub fn sooner(a: Option<Due>, b: Option<Due>) -> Option<Due>
     ensures { result ≡ winners.sooner a b }

@@ -5,11 +5,13 @@
 #![tactic(auto)]
 
 ghost use Rattle.std.specs.Prelude.{◌≡◌, ◌+◌, ◌*◌, ◌/◌, ◌<◌, ◌≤◌, length, drop};
-ghost use Rattle.due_heap.specs.Winners.{IsSettledBut, node};
+ghost use Rattle.std.specs.Prelude.{ℕ, true, false, if◌then◌else◌};
+ghost use Rattle.due_heap.specs.Dues.{IsPowerOfTwo};
+ghost use Rattle.due_heap.specs.Winners.{IsSettledBut, node, is_due_at};
 
 mod due;
 
-use due::{Due, sooner};
+use due::{Due, is_due, sooner};
 use sched_base::{Moment, NoMemory};
 use std::alloc::Global;
 use std::marker::Model;
@@ -60,9 +62,40 @@ fn settle(nodes: &mut [Option<Due>], room: usize, leaf: usize)
     }
 }
 
+/// The one of the two nodes below that comes first from the left and is due at t, where one is.
+fn below(nodes: &[Option<Due>], room: usize, k: usize, t: Moment) -> usize
+    requires length { length nodes.now ≡ 2 * room }
+    requires inner { k < room }
+    ensures { result ≡ (if is_due_at t.0 (node nodes.now (2 * k)) then 2 * k else 2 * k + 1) }
+{
+    if is_due(nodes[2 * k], t) {
+        2 * k
+    } else {
+        2 * k + 1
+    }
+}
+
+/// Goes from the root down to the first leaf, from the left, whose moment has come at t.
+fn leftmost(nodes: &[Option<Due>], room: usize, t: Moment) -> usize
+    requires length { length nodes.now ≡ 2 * room }
+    requires power { IsPowerOfTwo room }
+    requires settled { IsSettledBut room nodes.now 0 }
+    requires root { is_due_at t.0 (node nodes.now 1) ≡ true }
+    ensures leaf { room ≤ result }
+    ensures below { result < 2 * room }
+    ensures due { is_due_at t.0 (node nodes.now result) ≡ true }
+    ensures first { (k : ℕ) → room ≤ k → k < result → is_due_at t.0 (node nodes.now k) ≡ false }
+{
+    let mut k = 1;
+    while k < room {
+        k = below(nodes, room, k, t);
+    }
+    k
+}
+
 impl DueHeap {
-    ghost use Rattle.std.specs.Prelude.{ℕ, ◌≡◌, ◌<◌, Some, None, IfOk, IfSome, IfNone, length, replicate, slice_set};
-    ghost use Rattle.due_heap.specs.Dues.{IsArmed, GoesFirst};
+    ghost use Rattle.std.specs.Prelude.{ℕ, ◌≡◌, ◌<◌, ◌≤◌, Some, None, IfOk, IfSome, IfNone, length, replicate, slice_set};
+    ghost use Rattle.due_heap.specs.Dues.{IsArmed, GoesFirst, HasCome, IsPowerOfTwo};
 
     /// A heap for the ids below n, none of them armed.
     pub fn room(alloc: Global, n: usize) -> Result<DueHeap, NoMemory>
@@ -91,6 +124,24 @@ impl DueHeap {
             let leaf = self.room + id as usize;
             self.nodes[leaf] = None;
             settle(self.nodes.as_mut_slice(), self.room, leaf);
+        }
+    }
+
+    /// The least of the ids whose moment has come at t, in steps by the logarithm of the room. `None` where none has come. The room is
+    /// a power of two.
+    pub fn first_due(&self, t: Moment) -> Option<u16>
+        requires power { IsPowerOfTwo (length self.now) }
+        ensures none { IfNone result ((id : ℕ) (at : Moment) → IsArmed self.now id at → t.0 < at.0) }
+        ensures come { IfSome result (λ id. HasCome self.now t.0 id) }
+        ensures first { IfSome result (λ id. (other : ℕ) → HasCome self.now t.0 other → id ≤ other) }
+    {
+        if !is_due(root(self.nodes.as_slice()), t) {
+            return None;
+        }
+        let leaf = leftmost(self.nodes.as_slice(), self.room, t);
+        match self.nodes[leaf] {
+            Some(due) => Some(due.id),
+            None => None,
         }
     }
 
@@ -142,6 +193,29 @@ mod tests {
         heap.disarm(4);
         heap.disarm(0);
         assert_eq!(rt; first(&heap), None);
+        Ok(())
+    }
+
+    /// The least id of four whose moment has come.
+    fn least_come(heap: &DueHeap, t: u64) -> Option<u16>
+        requires { length heap.now ≡ 4 }
+    {
+        heap.first_due(Moment(t))
+    }
+
+    #[test]
+    fn the_least_id_that_has_come(rt: HostRuntime) -> Result<(), Fail> {
+        let mut heap = DueHeap::room(rt.alloc(), 4)?;
+        assert_eq!(rt; least_come(&heap, 50), None);
+        heap.arm(3, Moment(10));
+        heap.arm(1, Moment(30));
+        heap.arm(2, Moment(20));
+        assert_eq!(rt; least_come(&heap, 9), None);
+        assert_eq!(rt; least_come(&heap, 10), Some(3));
+        assert_eq!(rt; least_come(&heap, 25), Some(2));
+        assert_eq!(rt; least_come(&heap, 30), Some(1));
+        heap.disarm(1);
+        assert_eq!(rt; least_come(&heap, 30), Some(2));
         Ok(())
     }
 

@@ -1,0 +1,13 @@
+-- Which cores of a pool have to be looked at after an event.
+use Rattle.std.specs.Prelude.{ℕ, ◌≡◌}
+use Rattle.sched_model.specs.declared.state.Resource.{Resource}
+use Rattle.sched_model.specs.declared.state.Pool.{Pool}
+use Rattle.sched_model.specs.Pool.{settled, reconsidered, change_core, home_cores}
+
+-- each core that is to decide anew at t is pending
+abbrev pub IsSettled : ℕ → Pool → Type 0
+IsSettled t pool = settled t pool ≡ pool
+
+-- a core changed by f, and looked at alone
+abbrev pub settled_core : ℕ → ℕ → (Resource → Resource) → Pool → Pool
+settled_core t r f pool = change_core r (λ c. reconsidered t (home_cores pool) pool.scheduler r (f c)) pool
