@@ -85,16 +85,18 @@ held_pushed h u held away ordered =
     let few = no_more_wait h.affinity (arrivals (inserted h.queue u (neg_ℤ (credit_of h.records u))).units) line.apart line.joined in
     let all = length-arrivals (inserted h.queue u (neg_ℤ (credit_of h.records u))).units in
     let room = held.room in
-    let spare : 0 < h.queue.spare = omega (arith, grown, few, all, room) in
-    (record {
-      range = held.range;
-      counts = held.counts;
-      line = line;
-      masks = held.masks;
-      refills = held.refills;
-      room = omega (arith, room, grown, spare);
-      small = held.small;
-    }, spare)
+    let spare : 0 < h.queue.spare = omega (arith, grown, few, all, room) in (
+      record {
+        range = held.range;
+        counts = held.counts;
+        line = line;
+        masks = held.masks;
+        refills = held.refills;
+        room = omega (arith, room, grown, spare);
+        small = held.small;
+      },
+      spare,
+    )
 
 -- the domain is refilled
 pub held_refilled : (h : Held) (d t : ℕ) → IsHeld h → h.latest ≤ t → has_come t (next_refill (Credit2Pool h.records) d) ≡ true

@@ -102,11 +102,7 @@ pub fn reset_pool(held: &mut Held, t: u64, m: u64)
         return;
     }
     reset(t, m, &mut held.records);
-    rekey_all(
-        &mut held.queue,
-        &held.records,
-        held.affinity.as_slice(),
-    );
+    rekey_all(&mut held.queue, &held.records, held.affinity.as_slice());
 }
 
 /// The greatest credit of those that wait and may take the core, or 0.

@@ -43,10 +43,7 @@ pub fn set_masks(masks: &mut Masks, d: DomId, sets: &[Cores])
     ensures { (u : Unit) → u.n < 256 → mask_of masks.new u ≡ masked masks.old d.0 sets.now (length sets.now) u }
 {
     for (n, cores) in sets.iter().enumerate() {
-        let u = UnitId {
-            dom: d,
-            n: n as u8,
-        };
+        let u = UnitId { dom: d, n: n as u8 };
         masks.set(u, *cores);
     }
 }
