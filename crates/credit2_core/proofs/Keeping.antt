@@ -1,0 +1,386 @@
+-- All that always holds, after each call but the decision.
+use Rattle.std.proofs.Common.{◌≡◌, ◌≢◌, ◌≤◌, ◌<◌, ◌+◌, ◌-◌, ℕ, zero, suc, Bool, true, false, not, List, [], ◌∷◌, ◌++◌, length, map, refl, ap, subst, sym, ◌∙◌, arith, cond, inl, inr, ◌⊎◌, length-append}
+use Rattle.std.specs.Prelude.{Option, Some, None, option_map, is_some, slice_get, slice_set, slice_index_or, replicate, nat_lt, ℤ, pos, neg_ℤ, ◌==◌, ◌&&◌}
+use Rattle.std.specs.List.{AllByRecursion, list_any}
+use Rattle.std.specs.Option.{ForSome}
+use Rattle.std.proofs.Math.Decide.{ℕ_discrete}
+use Rattle.std.proofs.lemmas.List.{length-replicate, length-map}
+use Rattle.sched_base.specs.Numbers.{core_set, domain}
+use Rattle.sched_base.specs.CoreSets.{mask_of}
+use Rattle.sched_base.specs.declared.Cores.{Cores}
+use Rattle.sched_base.specs.declared.Moment.{Moment}
+use Rattle.sched_base.specs.declared.UnitId.{UnitId}
+use Rattle.sched_base.specs.Credit2Numbers.{start_credit}
+use Rattle.sched_model.specs.declared.state.Credit2Unit.{Credit2Unit}
+use Rattle.sched_model.specs.declared.state.Credit2Domain.{Credit2Domain}
+use Rattle.sched_model.specs.declared.state.Credit2Records.{Credit2Records}
+use Rattle.sched_model.specs.declared.state.Records.TheVariants.{Credit2Pool}
+use Rattle.sched_model.specs.Places.{at_place, put_at, clear_at, change_at, change_item, has_unit}
+use Rattle.sched_model.specs.Checked.{IsWithin}
+use Rattle.sched_model.specs.Eligible.{cores_of}
+use Rattle.sched_model.specs.State.{has_come}
+use Rattle.sched_model.specs.Policy.{next_refill, pinned}
+use Rattle.sched_model.specs.Credit2.{max_weight, credit_of, refill_domain, refilled, set_weight, set_cap, set_domain, change_domain, fresh_domain}
+use Rattle.sched_laws.proofs.Bools.{clash, not_true, or_left, or_right, is_same, either}
+use Rattle.sched_laws.proofs.Choices.{at_unit}
+use Rattle.sched_laws.proofs.EachPlace.{at_place-put_at_other, at_place-clear_at_other, at_place-clear_at, EachAt-put_at, EachAt-clear_at, EachPlace-empty, by_option}
+use Rattle.sched_laws.proofs.Lists.{length_change_item}
+use Rattle.sched_ranges.proofs.Budget.{BudgetFits, Nobody}
+use Rattle.sched_ranges.proofs.Credit2.{Credit2Fits, Credit2DomainFits}
+use Rattle.sched_ranges.proofs.Decided.{AllRunOnly, RunsOnly, unit_rec, r_refilled, r_set_domain}
+use Rattle.sched_ops.specs.Conditions.{is_on, is_vacant, IsAway, HasNoneBusy, Keeps, IsWeight, IsCap}
+use Rattle.sched_ops.specs.Seen.{Seen, with_scheduler, restarted}
+use Rattle.sched_model.specs.declared.config.PoolParams.TheVariants as pool_params
+use Rattle.plain_credit2.specs.Waiting.{scheduler_of}
+use Rattle.arrival_queue.specs.Queues.{Queued}
+use Rattle.runq.specs.Queue.{Queue, inserted, empty}
+use Rattle.queue_laws.specs.Arrivals.{arrivals}
+use Rattle.arrival_queue.proofs.Ranks.{less_test}
+use Rattle.credit2_core.specs.declared.held.Held.{Held}
+use Rattle.credit2_core.specs.Keys.{HasCredits, key_in}
+use Rattle.credit2_core.specs.Places.{set_counts, unit_counts, count_all, count_at, has_joined, refill_of, refills_of}
+use Rattle.credit2_core.specs.Domains.{masked, refreshed}
+use Rattle.credit2_core.specs.Held.{InRange, IsHeld, IsLineOf, AreMasks, scheduler_in, seen_in}
+use Rattle.credit2_core.proofs.Lists.{each_has, queued_have, length-arrivals, length-placed, apart_push}
+use Rattle.credit2_core.proofs.Waiting.{IsOrdered, placed_arrivals}
+use Rattle.credit2_core.proofs.Rooms.{less_true, no_more_wait, count_all-put, count_all-clear}
+use Rattle.credit2_core.proofs.Members.{IsElsewhere, counts_at, count_there, joined_record, joined_small, all_small, record_of, waits_off}
+use Rattle.credit2_core.proofs.Idle.{IsOff, each_keeps, idle_refilled, idle_set_domain}
+use Rattle.credit2_core.proofs.Ranges.{Few, if_some, range_later, range_refilled, range_set_domain, range_limit, range_joined, range_parted}
+use Rattle.credit2_core.proofs.Same.{map-set, map-change_at, counts_refilled, counts_set_domain, refills_changed, refills_written, refills_put}
+use Rattle.credit2_core.proofs.Lines.{line_records, line_refilled, line_pushed}
+
+-- whether a unit is on, and whether its record says that it runs
+off_on : (records : Credit2Records) (u : UnitId) → IsOff records u → is_on (Credit2Pool records) u ≡ false
+off_on records u off =
+    by_option (λ (b : Bool). b ≡ false) (at_place records.domains u.dom.0) false _ (λ none. refl)
+    (λ x at. by_option (λ (b : Bool). b ≡ false) (slice_get x.units u.n) false (λ y. is_some y.burned) (λ none. refl) (λ y has. ap is_some (off y (let here : unit_rec records u ≡ Some y = rw (unit_rec, at) has in here))))
+
+on_off : (records : Credit2Records) (u : UnitId) → is_on (Credit2Pool records) u ≡ false → IsOff records u
+on_off records u off y is = (
+    let r = record_of records u y is in
+    let place = r.1 in
+    let has = r.2 in
+    let there : is_on (Credit2Pool records) u ≡ is_some y.burned = rw (is_on, place) (rw has refl) in
+    by_burned y.burned (sym there ∙ off))
+  where
+    by_burned : (o : Option ℕ) → is_some o ≡ false → o ≡ None
+    by_burned None e = refl
+    by_burned (Some b) e = absurd cc
+
+pub keeps_line : (h : Held) → IsHeld h → Keeps (seen_in h)
+keeps_line h held = record {
+  apart = held.line.apart;
+  members = λ u there. at_unit (λ w. has_joined h.affinity w ≡ true) u (arrivals h.queue.units) there held.line.joined;
+  off = λ u there. off_on h.records u (waits_off (arrivals h.queue.units) h.records u held.line.off there);
+}
+
+-- one more waits
+pub held_pushed : (h : Held) (u : UnitId) → IsHeld h → IsAway (scheduler_in h) u → IsOrdered h.queue.units → IsHeld (record h { queue = inserted h.queue u (neg_ℤ (credit_of h.records u)) }) × (0 < h.queue.spare)
+held_pushed h u held away ordered =
+    let es : List Queued = h.queue.units in
+    let small = joined_small h.latest h.records h.affinity u held.range held.counts away.member in
+    let line = line_pushed h.affinity h.records u es ordered (omega (arith, small)) away.waits_not away.member (on_off h.records u away.off) held.line in
+    let grown = length-placed (record { unit = u; key = key_in h.records u; rank = length es }) es in
+    let few = no_more_wait h.affinity (arrivals (inserted h.queue u (neg_ℤ (credit_of h.records u))).units) line.apart line.joined in
+    let all = length-arrivals (inserted h.queue u (neg_ℤ (credit_of h.records u))).units in
+    let room = held.room in
+    let spare : 0 < h.queue.spare = omega (arith, grown, few, all, room) in (
+      record {
+        range = held.range;
+        counts = held.counts;
+        line = line;
+        masks = held.masks;
+        refills = held.refills;
+        room = omega (arith, room, grown, spare);
+        small = held.small;
+      },
+      spare,
+    )
+
+-- the domain is refilled
+pub held_refilled : (h : Held) (d t : ℕ) → IsHeld h → h.latest ≤ t → has_come t (next_refill (Credit2Pool h.records) d) ≡ true
+    → IsHeld (record h { records = refilled t d h.records; refills = slice_set h.refills d (refill_of (at_place (refilled t d h.records).domains d)); latest = t })
+held_refilled h d t held past come = record {
+  range = range_refilled t d h.records come (range_later h.latest t h.records past held.range);
+  counts = held.counts ∙ sym (counts_refilled t d h.records);
+  line = line_refilled h.affinity t d h.records h.queue.units held.line;
+  masks = held.masks;
+  refills = ap (λ (rs : List (Option Moment)). slice_set rs d (refill_of (at_place (refilled t d h.records).domains d))) held.refills ∙ refills_written d (refill_domain (max_weight h.records) t) h.records.domains;
+  room = held.room;
+  small = held.small;
+}
+
+-- the domain has a new weight or cap
+pub held_set_domain : (h : Held) (d t : ℕ) (weight percent : Option ℕ) → IsHeld h → h.latest ≤ t → ForSome weight IsWeight → ForSome percent IsCap
+    → IsHeld (record h { records = set_domain t d weight percent h.records; refills = slice_set h.refills d (refill_of (at_place (set_domain t d weight percent h.records).domains d)); latest = t })
+held_set_domain h d t weight percent held past weighs caps =
+    let weighted : Credit2Records = change_domain d (set_weight weight) h.records in
+    let last : List (Option Credit2Domain) = (set_domain t d weight percent h.records).domains in
+    record {
+      range = range_set_domain t d weight percent h.records (if_some weight (IsWithin 1 65535) weighs) (if_some percent (λ (c : ℕ). c ≤ 6400) caps) (range_later h.latest t h.records past held.range);
+      counts = held.counts ∙ sym (counts_set_domain t d weight percent h.records);
+      line = line_records h.affinity h.records (set_domain t d weight percent h.records) h.queue.units (idle_set_domain t d weight percent h.records) (r_set_domain t (IsElsewhere (arrivals h.queue.units)) d weight percent h.records held.line.off) held.line;
+      masks = held.masks;
+      refills = ap (λ (rs : List (Option Moment)). slice_set rs d (refill_of (at_place last d))) (held.refills ∙ sym (refills_changed d (set_weight weight) h.records (weight_refill weight))) ∙ refills_written d (set_cap (max_weight weighted) t percent) weighted.domains;
+      room = held.room;
+      small = held.small;
+    }
+  where
+    weight_refill : (weight : Option ℕ) (x : Credit2Domain) → (set_weight weight x).refill ≡ x.refill
+    weight_refill None x = refl
+    weight_refill (Some w) x = refl
+
+-- the pool has a new rate limit, and perhaps another last reset
+pub held_limit : (h : Held) (limit t : ℕ) (last : Option ℕ) → IsHeld h → h.latest ≤ t → limit ≤ 500000 → IsHeld (record h { records = record h.records { limit = limit; last_reset = last }; latest = t })
+held_limit h limit t last held past low = record {
+  range = range_limit t limit last h.records low (range_later h.latest t h.records past held.range);
+  counts = held.counts;
+  line = record { apart = held.line.apart; joined = held.line.joined; indices = held.line.indices; keys = held.line.keys; off = held.line.off };
+  masks = held.masks;
+  refills = held.refills;
+  room = held.room;
+  small = held.small;
+}
+
+-- tables of as many units have as many units
+count_same : (a b : List (Option (List Cores))) (i : ℕ) → set_counts a ≡ set_counts b → count_at a i ≡ count_at b i
+count_same [] [] i same = refl
+count_same [] (y ∷ b) i same = absurd cc
+count_same (x ∷ a) [] i same = absurd cc
+count_same (x ∷ a) (y ∷ b) zero same = by_sets x y cc
+  where
+    by_sets : (o p : Option (List Cores)) → option_map length o ≡ option_map length p → elim o as (λ _. ℕ) [ None ↦ 0 | Some sets ↦ length sets ] ≡ elim p as (λ _. ℕ) [ None ↦ 0 | Some sets ↦ length sets ]
+    by_sets None None e = refl
+    by_sets None (Some s) e = absurd cc
+    by_sets (Some s) None e = absurd cc
+    by_sets (Some s) (Some z) e = cc
+count_same (x ∷ a) (y ∷ b) (suc i) same = count_same a b i cc
+
+count_all_same : (a b : List (Option (List Cores))) → set_counts a ≡ set_counts b → count_all a ≡ count_all b
+count_all_same [] [] same = refl
+count_all_same [] (y ∷ b) same = absurd cc
+count_all_same (x ∷ a) [] same = absurd cc
+count_all_same (None ∷ a) (None ∷ b) same = count_all_same a b cc
+count_all_same (None ∷ a) (Some y ∷ b) same = absurd cc
+count_all_same (Some x ∷ a) (None ∷ b) same = absurd cc
+count_all_same (Some x ∷ a) (Some y ∷ b) same = (let r = count_all_same a b cc in let e : length x ≡ length y = cc in omega (arith, r, e))
+
+-- the masks, once those of a domain are written anew
+masks_refreshed : (affinity next : List (Option (List Cores))) (masks now : List Cores) (d : ℕ) → ((e : ℕ) → e ≢ d → at_place next e ≡ at_place affinity e) → ((u : UnitId) → u.n < 256 → mask_of now u ≡ refreshed masks next d u)
+    → ((u : UnitId) → has_joined next u ≡ true → u.n < 256) → AreMasks affinity masks → AreMasks next now
+masks_refreshed affinity next masks now d same written low are u joined =
+    written u (low u joined) ∙ elim (ℕ_discrete u.dom.0 d) [
+      | yes here ↦ by_sets (at_place next d) (subst (λ k. at_place next k ≡ at_place next d) (sym here) refl) joined here
+      | no other ↦ (
+          let place : at_place next u.dom.0 ≡ at_place affinity u.dom.0 = same u.dom.0 other in
+          let before : has_joined affinity u ≡ true = subst (λ (o : Option (List Cores)). nat_lt u.n (elim o as (λ _. ℕ) [ None ↦ 0 | Some sets ↦ length sets ]) ≡ true) place joined in
+          elsewhere (at_place next d) other ∙ are u before ∙ ap (λ (o : Option (List Cores)). core_set (elim o as (λ _. ℕ) [ None ↦ 0 | Some sets ↦ (slice_index_or sets u.n (core_set 0)).0 ])) (sym place))
+    ]
+  where
+    elsewhere : (o : Option (List Cores)) → u.dom.0 ≢ d → elim o as (λ _. Cores) [ None ↦ mask_of masks u | Some sets ↦ masked masks d sets (length sets) u ] ≡ mask_of masks u
+    elsewhere None other = refl
+    elsewhere (Some sets) other = (let e : (u.dom.0 == d) ≡ false = elim (either (u.dom.0 == d)) [ inl is ↦ absurd (other (grind (arith, is))) | inr is ↦ is ] in rw e refl)
+
+    by_sets : (o : Option (List Cores)) → at_place next u.dom.0 ≡ o → has_joined next u ≡ true → u.dom.0 ≡ d → elim o as (λ _. Cores) [ None ↦ mask_of masks u | Some sets ↦ masked masks d sets (length sets) u ] ≡ core_set (cores_of next u)
+    by_sets None is joined here = absurd (
+        let l = less_true u.n (count_at next u.dom.0) joined in
+        let z : count_at next u.dom.0 ≡ 0 = ap (λ (p : Option (List Cores)). elim p as (λ _. ℕ) [ None ↦ 0 | Some sets ↦ length sets ]) is in
+        omega (arith, l, z))
+    by_sets (Some sets) is joined here =
+        let a : (u.dom.0 == d) ≡ true = is_same u.dom.0 d here in
+        let b : nat_lt u.n (length sets) ≡ true = subst (λ (p : Option (List Cores)). nat_lt u.n (elim p as (λ _. ℕ) [ None ↦ 0 | Some s ↦ length s ]) ≡ true) is joined in
+        let left : masked masks d sets (length sets) u ≡ slice_index_or sets u.n (core_set 0) = rw (a, b) refl in
+        left ∙ ap (λ (p : Option (List Cores)). core_set (elim p as (λ _. ℕ) [ None ↦ 0 | Some s ↦ (slice_index_or s u.n (core_set 0)).0 ])) (sym is)
+
+-- the sets of cores change
+length_pinned : (unit : Option ℕ) (cores : Cores) (sets : List Cores) → length (pinned unit cores sets) ≡ length sets
+length_pinned None cores sets = length-map sets _
+length_pinned (Some n) cores sets = length_change_item n _ sets
+
+change_at_other : {X : Type 0} (i j : ℕ) (f : X → X) (places : List (Option X)) → j ≢ i → at_place (change_at i f places) j ≡ at_place places j
+change_at_other i j f [] other = refl
+change_at_other zero zero f (p ∷ places) other = absurd (other refl)
+change_at_other zero (suc j) f (p ∷ places) other = refl
+change_at_other (suc i) zero f (p ∷ places) other = refl
+change_at_other (suc i) (suc j) f (p ∷ places) other = change_at_other i j f places (λ e. other (ap suc e))
+
+pub held_pinned : (h : Held) (d t : ℕ) (unit : Option ℕ) (cores : Cores) (now : List Cores) → IsHeld h → h.latest ≤ t → ((u : UnitId) → u.n < 256 → mask_of now u ≡ refreshed h.masks (change_at d (pinned unit cores) h.affinity) d u)
+    → IsHeld (record h { affinity = change_at d (pinned unit cores) h.affinity; masks = now; latest = t })
+held_pinned h d t unit cores now held past written =
+    let next : List (Option (List Cores)) = change_at d (pinned unit cores) h.affinity in
+    let same : set_counts next ≡ set_counts h.affinity = map-change_at (λ (o : Option (List Cores)). option_map length o) d (pinned unit cores) h.affinity (λ x at. ap (λ k. Some k) (length_pinned unit cores x)) in
+    let all = count_all_same next h.affinity same in
+    let stays : (u : UnitId) → has_joined h.affinity u ≡ true → has_joined next u ≡ true = λ u joined. subst (λ k. nat_lt u.n k ≡ true) (sym (count_same next h.affinity u.dom.0 same)) joined in
+    let back : (u : UnitId) → has_joined next u ≡ true → has_joined h.affinity u ≡ true = λ u joined. subst (λ k. nat_lt u.n k ≡ true) (count_same next h.affinity u.dom.0 same) joined in
+    let room = held.room in
+    let small = held.small in
+    record {
+      range = range_later h.latest t h.records past held.range;
+      counts = same ∙ held.counts;
+      line = record {
+        apart = held.line.apart;
+        joined = each_has (arrivals h.queue.units) (λ u. has_joined next u ≡ true) (λ u there. stays u (at_unit (λ w. has_joined h.affinity w ≡ true) u (arrivals h.queue.units) there held.line.joined));
+        indices = held.line.indices;
+        keys = held.line.keys;
+        off = held.line.off;
+      };
+      masks = masks_refreshed h.affinity next h.masks now d (λ e other. change_at_other d e (pinned unit cores) h.affinity other) written (λ u joined. (let l = joined_small h.latest h.records h.affinity u held.range held.counts (back u joined) in omega (arith, l))) held.masks;
+      refills = held.refills;
+      room = omega (arith, room, all);
+      small = omega (arith, small, all);
+    }
+
+-- one place changes, of which no unit waits
+line_elsewhere : (affinity next : List (Option (List Cores))) (records after : Credit2Records) (d : ℕ) (es : List Queued) → ((e : ℕ) → e ≢ d → at_place next e ≡ at_place affinity e) → ((e : ℕ) → e ≢ d → at_place after.domains e ≡ at_place records.domains e)
+    → ((u : UnitId) → has_unit (arrivals es) u ≡ true → u.dom.0 ≢ d) → AllRunOnly (IsElsewhere (arrivals es)) after → IsLineOf affinity records es → IsLineOf next after es
+line_elsewhere affinity next records after d es sets places other only line = record {
+  apart = line.apart;
+  joined = each_has (arrivals es) (λ u. has_joined next u ≡ true)
+      (λ u there. subst (λ (o : Option (List Cores)). nat_lt u.n (elim o as (λ _. ℕ) [ None ↦ 0 | Some s ↦ length s ]) ≡ true) (sym (sets u.dom.0 (other u there))) (at_unit (λ w. has_joined affinity w ≡ true) u (arrivals es) there line.joined));
+  indices = line.indices;
+  keys = each_keeps records after es (queued_have (λ (u : UnitId). credit_of after u ≡ credit_of records u) es (each_has (arrivals es) (λ u. credit_of after u ≡ credit_of records u)
+      (λ u there. ap (λ (o : Option Credit2Domain). elim o as (λ _. ℤ) [ None ↦ pos 0 | Some x ↦ elim (slice_get x.units u.n) as (λ _. ℤ) [ None ↦ pos 0 | Some y ↦ y.credit ] ]) (places u.dom.0 (other u there))))) line.keys;
+  off = only;
+}
+
+-- the domain parts
+pub held_parted : (h : Held) (d k : ℕ) → IsHeld h → HasNoneBusy (scheduler_in h) d → k ≡ count_at h.affinity d
+    → IsHeld (record h { records = record h.records { domains = clear_at d h.records.domains }; affinity = clear_at d h.affinity; refills = slice_set h.refills d (refill_of (at_place (clear_at d h.records.domains) d)); spare = h.spare + k })
+held_parted h d k held idle is =
+    let after : Credit2Records = record h.records { domains = clear_at d h.records.domains } in
+    let all = count_all-clear d h.affinity in
+    let room = held.room in
+    let small = held.small in
+    record {
+      range = range_parted h.latest d h.records held.range;
+      counts = map-set (λ (o : Option (List Cores)). option_map length o) d None h.affinity ∙ ap (λ (ks : List (Option ℕ)). slice_set ks d None) held.counts ∙ sym (map-set (λ (o : Option Credit2Domain). option_map (λ (x : Credit2Domain). length x.units) o) d None h.records.domains);
+      line = line_elsewhere h.affinity (clear_at d h.affinity) h.records after d h.queue.units (λ e other. at_place-clear_at_other d e h.affinity other) (λ e other. at_place-clear_at_other d e h.records.domains other)
+          (λ u there same. clash (has_unit (arrivals h.queue.units) u) there (idle.waiting u same)) (EachAt-clear_at (λ e (x : Credit2Domain). RunsOnly (IsElsewhere (arrivals h.queue.units) e) x.units) d h.records.domains held.line.off) held.line;
+      masks = λ u joined. (
+          let other : u.dom.0 ≢ d = λ e. (let l = less_true u.n (count_at (clear_at d h.affinity) u.dom.0) joined in let z : count_at (clear_at d h.affinity) u.dom.0 ≡ 0 = ap (λ (p : Option (List Cores)). elim p as (λ _. ℕ) [ None ↦ 0 | Some s ↦ length s ]) (subst (λ j. at_place (clear_at d h.affinity) j ≡ None) (sym e) (at_place-clear_at d h.affinity)) in omega (arith, l, z)) in
+          let place : at_place (clear_at d h.affinity) u.dom.0 ≡ at_place h.affinity u.dom.0 = at_place-clear_at_other d u.dom.0 h.affinity other in
+          held.masks u (subst (λ (o : Option (List Cores)). nat_lt u.n (elim o as (λ _. ℕ) [ None ↦ 0 | Some s ↦ length s ]) ≡ true) place joined)
+          ∙ ap (λ (o : Option (List Cores)). core_set (elim o as (λ _. ℕ) [ None ↦ 0 | Some s ↦ (slice_index_or s u.n (core_set 0)).0 ])) (sym place));
+      refills = ap (λ (rs : List (Option Moment)). slice_set rs d (refill_of (at_place (clear_at d h.records.domains) d))) held.refills ∙ refills_put d None h.records.domains;
+      room = omega (arith, room, all, is);
+      small = omega (arith, small, all, is);
+    }
+
+-- a domain joins
+replicate_get : {X : Type 0} (k n : ℕ) (x y : X) → slice_get (replicate k x) n ≡ Some y → x ≡ y
+replicate_get zero n x y at = absurd cc
+replicate_get (suc k) zero x y at = cc
+replicate_get (suc k) (suc n) x y at = replicate_get k n x y at
+
+pub held_joined : (h : Held) (d weight percent count t : ℕ) (sets now : List Cores) → IsHeld h → d < length h.affinity → at_place h.affinity d ≡ None → count ≤ 32 → count ≤ h.spare → IsWithin 1 65535 weight → percent ≤ 6400 → h.latest ≤ t
+    → length sets ≡ count → ((u : UnitId) → u.n < 256 → mask_of now u ≡ refreshed h.masks (put_at d sets h.affinity) d u)
+    → IsHeld (record {
+      records = record h.records { domains = put_at d (fresh_domain weight percent count t) h.records.domains };
+      affinity = put_at d sets h.affinity;
+      queue = h.queue;
+      masks = now;
+      refills = slice_set h.refills d (refill_of (at_place (put_at d (fresh_domain weight percent count t) h.records.domains) d));
+      spare = h.spare - count;
+      latest = t;
+    })
+held_joined h d weight percent count t sets now held inside absent few fits within low past long written =
+    let fresh : Credit2Domain = fresh_domain weight percent count t in
+    let new : Credit2Unit = record { credit = pos start_credit; residual = 0; held = pos 0; burned = None } in
+    let after : Credit2Records = record h.records { domains = put_at d fresh h.records.domains } in
+    let next : List (Option (List Cores)) = put_at d sets h.affinity in
+    let all = count_all-put d sets h.affinity inside absent in
+    let room = held.room in
+    let small = held.small in
+    let range : InRange t after = range_joined t d weight percent count h.records within low few (range_later h.latest t h.records past held.range) in
+    let counts : set_counts next ≡ unit_counts after.domains =
+    map-set (λ (o : Option (List Cores)). option_map length o) d (Some sets) h.affinity
+    ∙ ap (λ k. slice_set (set_counts h.affinity) d (Some k)) (long ∙ sym (length-replicate count new))
+    ∙ ap (λ (ks : List (Option ℕ)). slice_set ks d (Some (length fresh.units))) held.counts
+    ∙ sym (map-set (λ (o : Option Credit2Domain). option_map (λ (x : Credit2Domain). length x.units) o) d (Some fresh) h.records.domains)
+    in
+    record {
+      range = range;
+      counts = counts;
+      line = line_elsewhere h.affinity next h.records after d h.queue.units (λ e other. at_place-put_at_other d e sets h.affinity other) (λ e other. at_place-put_at_other d e fresh h.records.domains other)
+          (λ u there same. (
+          let joined = at_unit (λ w. has_joined h.affinity w ≡ true) u (arrivals h.queue.units) there held.line.joined in
+          let l = less_true u.n (count_at h.affinity u.dom.0) joined in
+          let z : count_at h.affinity u.dom.0 ≡ 0 = ap (λ (p : Option (List Cores)). elim p as (λ _. ℕ) [ None ↦ 0 | Some s ↦ length s ]) (subst (λ j. at_place h.affinity j ≡ None) (sym same) absent) in
+          omega (arith, l, z)))
+          (EachAt-put_at (λ e (x : Credit2Domain). RunsOnly (IsElsewhere (arrivals h.queue.units) e) x.units) d fresh h.records.domains held.line.off (λ n y at. inl (subst (λ (z : Credit2Unit). z.burned ≡ None) (replicate_get count n new y at) refl))) held.line;
+      masks = masks_refreshed h.affinity next h.masks now d (λ e other. at_place-put_at_other d e sets h.affinity other) written (λ u joined. (let l = joined_small t after next u range counts joined in omega (arith, l))) held.masks;
+      refills = ap (λ (rs : List (Option Moment)). slice_set rs d (refill_of (at_place (put_at d fresh h.records.domains) d))) held.refills ∙ refills_put d (Some fresh) h.records.domains;
+      room = omega (arith, room, all, long, fits);
+      small = omega (arith, small, all, long, fits);
+    }
+
+-- a pool that no domain has joined
+all_empty : {X : Type 0} (places : List (Option X)) → list_any is_some places ≡ false → places ≡ replicate (length places) None
+all_empty [] none = refl
+all_empty (None ∷ places) none = ap (λ ps. None ∷ ps) (all_empty places none)
+all_empty (Some x ∷ places) none = absurd cc
+
+all_empty_too : (affinity : List (Option (List Cores))) (domains : List (Option Credit2Domain)) → set_counts affinity ≡ unit_counts domains → list_any is_some affinity ≡ false → domains ≡ replicate (length affinity) None
+all_empty_too [] [] same none = refl
+all_empty_too [] (d ∷ domains) same none = absurd cc
+all_empty_too (a ∷ affinity) [] same none = absurd cc
+all_empty_too (Some x ∷ affinity) (d ∷ domains) same none = absurd cc
+all_empty_too (None ∷ affinity) (None ∷ domains) same none = (let rest : set_counts affinity ≡ unit_counts domains = cc in ap (λ (ps : List (Option Credit2Domain)). None ∷ ps) (all_empty_too affinity domains rest none))
+all_empty_too (None ∷ affinity) (Some d ∷ domains) same none = absurd cc
+
+count_empty : (n i : ℕ) → count_at (replicate n None) i ≡ 0
+count_empty zero i = refl
+count_empty (suc n) zero = refl
+count_empty (suc n) (suc i) = count_empty n i
+
+nobody_waits : (affinity : List (Option (List Cores))) (units : List UnitId) → affinity ≡ replicate (length affinity) None → AllByRecursion (λ u. has_joined affinity u ≡ true) units → units ≡ []
+nobody_waits affinity [] empty joined = refl
+nobody_waits affinity (u ∷ units) empty joined = absurd (
+    let l = less_true u.n (count_at affinity u.dom.0) joined.0 in
+    let z : count_at affinity u.dom.0 ≡ 0 = ap (λ (a : List (Option (List Cores))). count_at a u.dom.0) empty ∙ count_empty (length affinity) u.dom.0 in
+    omega (arith, l, z))
+
+-- a pool that no domain has joined begins anew
+pub restarted_is : (h : Held) (limit : ℕ) → IsHeld h → is_vacant (scheduler_in h) ≡ true → seen_in (record h { records = record h.records { limit = limit; last_reset = None } }) ≡ with_scheduler (restarted (pool_params.Credit2 limit) (scheduler_in h)) (seen_in h)
+restarted_is h limit held vacant =
+    let none : list_any is_some h.affinity ≡ false = not_true (list_any is_some h.affinity) vacant in
+    let sets : h.affinity ≡ replicate (length h.affinity) None = all_empty h.affinity none in
+    let places : h.records.domains ≡ replicate (length h.affinity) None = all_empty_too h.affinity h.records.domains held.counts none in
+    let nobody : arrivals h.queue.units ≡ [] = nobody_waits h.affinity (arrivals h.queue.units) sets held.line.joined in
+    let seen : List UnitId → List (Option (List Cores)) → List (Option Credit2Domain) → Seen = λ units affinity domains.
+    record { scheduler = scheduler_of units affinity (record { limit = limit; last_reset = None; domains = domains }); spare = h.spare; latest = h.latest }
+    in
+    ap (λ (units : List UnitId). seen units h.affinity h.records.domains) nobody ∙ ap (λ (affinity : List (Option (List Cores))). seen [] affinity h.records.domains) sets ∙ ap (seen [] (replicate (length h.affinity) None)) places
+
+empty_counts : (n : ℕ) → set_counts (replicate n None) ≡ unit_counts (replicate n None)
+empty_counts zero = refl
+empty_counts (suc n) = ap (λ ks. None ∷ ks) (empty_counts n)
+
+empty_refills : (n : ℕ) → ◌≡◌ {A = List (Option Moment)} (replicate n None) (refills_of (replicate n None))
+empty_refills zero = refl
+empty_refills (suc n) = ap (λ ks. None ∷ ks) (empty_refills n)
+
+empty_count : (n : ℕ) → count_all (replicate n None) ≡ 0
+empty_count zero = refl
+empty_count (suc n) = empty_count n
+
+pub held_fresh : (domains units latest : ℕ) (masks : List Cores) → domains ≤ 64 → units ≤ 256
+    → IsHeld (record { records = record { limit = 1000; last_reset = None; domains = replicate domains None }; affinity = replicate domains None; queue = empty units; masks = masks; refills = replicate domains None; spare = units; latest = latest })
+held_fresh n units latest masks few small =
+    let records : Credit2Records = record { limit = 1000; last_reset = None; domains = replicate n None } in
+    let long : length records.domains ≡ n = length-replicate n None in
+    let all = empty_count n in
+    record {
+      range = record {
+        few = omega (arith, long, few);
+        credits = record { places = refl; limit = omega arith; domains = EachPlace-empty (Credit2DomainFits latest) n };
+        budgets = λ d x at. EachPlace-empty (λ (y : Credit2Domain). BudgetFits latest (λ k. k ≤ 32) Nobody Nobody y) n d x at;
+      };
+      counts = empty_counts n;
+      line = record { apart = tt; joined = tt; indices = tt; keys = tt; off = λ d x at. EachPlace-empty (λ (y : Credit2Domain). RunsOnly (IsElsewhere [] d) y.units) n d x at };
+      masks = λ u joined. absurd (let l = less_true u.n (count_at (replicate n None) u.dom.0) joined in let z = count_empty n u.dom.0 in omega (arith, l, z));
+      refills = empty_refills n;
+      room = omega (arith, all);
+      small = omega (arith, all, small);
+    }

@@ -1,0 +1,14 @@
+pub mod Lists
+pub mod Waiting
+pub mod Tables
+pub mod Rekeying
+pub mod Rooms
+pub mod Members
+pub mod Idle
+pub mod Ranges
+pub mod Same
+pub mod Lines
+pub mod Choosing
+pub mod Deciding
+pub mod Keeping
+pub mod Refills

@@ -1,0 +1,145 @@
+-- Lists of units, with one more or one less, and what holds of each unit that is queued.
+use Rattle.std.proofs.Common.{◌≡◌, ◌+◌, ℕ, Bool, true, false, not, List, [], ◌∷◌, ◌++◌, length, map, refl, ap, subst, sym, ◌∙◌, cond, arith, inl, inr}
+use Rattle.std.specs.Prelude.{◌||◌, ◌&&◌, filter, if◌then◌else◌, nat_lt}
+use Rattle.std.specs.List.{AllByRecursion}
+use Rattle.sched_base.specs.declared.UnitId.{UnitId}
+use Rattle.sched_model.specs.Places.{has_unit, without_unit, same_unit}
+use Rattle.sched_laws.proofs.Bools.{or_left, or_right, or_more, either}
+use Rattle.sched_laws.proofs.Choices.{same_unit_same}
+use Rattle.sched_laws.proofs.Counts.{same_unit_refl}
+use Rattle.sched_ops.specs.Conditions.{IsApart}
+use Rattle.arrival_queue.specs.Queues.{Queued, queued, put_first, placed, without, is_of, closed_up}
+use Rattle.queue_laws.specs.Arrivals.{arrived, arrivals}
+
+-- one of two tests fails
+neither : (a b : Bool) → a ≡ false → b ≡ false → (a || b) ≡ false
+neither false false x y = refl
+neither true b x y = absurd cc
+neither false true x y = absurd cc
+
+pub has_unit-push : (w u : UnitId) (units : List UnitId) → has_unit units w ≡ false → same_unit w u ≡ false → has_unit (units ++ u ∷ []) w ≡ false
+has_unit-push w u [] absent other = neither (same_unit w u) false other refl
+has_unit-push w u (x ∷ units) absent other = neither (same_unit w x) (has_unit (units ++ u ∷ []) w) (or_left _ _ absent) (has_unit-push w u units (or_right (same_unit w x) _ absent) other)
+
+same_unit-swap : (u w : UnitId) → same_unit u w ≡ false → same_unit w u ≡ false
+same_unit-swap u w other = elim (either (same_unit w u)) [
+  | inl is ↦ (let e = same_unit_same w u is in absurd (let r = same_unit_refl w in let f : same_unit w w ≡ false = subst (λ (x : UnitId). same_unit x w ≡ false) (sym e) other in cc))
+  | inr is ↦ is
+]
+
+pub apart_push : (u : UnitId) (units : List UnitId) → IsApart units → has_unit units u ≡ false → IsApart (units ++ u ∷ [])
+apart_push u [] apart absent = (refl, tt)
+apart_push u (x ∷ units) apart absent = (
+  has_unit-push x u units apart.0 (same_unit-swap u x (or_left _ _ absent)),
+  apart_push u units apart.1 (or_right (same_unit u x) _ absent),
+)
+
+pub has_unit-without : (w u : UnitId) (units : List UnitId) → has_unit units w ≡ false → has_unit (without_unit u units) w ≡ false
+has_unit-without w u [] absent = refl
+has_unit-without w u (x ∷ units) absent =
+    elim (not (same_unit u x)) as (λ b. has_unit (cond b (x ∷ without_unit u units) (without_unit u units)) w ≡ false) [
+      | true ↦ neither (same_unit w x) (has_unit (without_unit u units) w) (or_left _ _ absent) (has_unit-without w u units (or_right (same_unit w x) _ absent))
+      | false ↦ has_unit-without w u units (or_right (same_unit w x) _ absent)
+    ]
+
+pub gone_without : (u : UnitId) (units : List UnitId) → has_unit (without_unit u units) u ≡ false
+gone_without u [] = refl
+gone_without u (x ∷ units) =
+    elim (same_unit u x) as (λ b. same_unit u x ≡ b → has_unit (cond (not b) (x ∷ without_unit u units) (without_unit u units)) u ≡ false) [
+      | true ↦ λ is. gone_without u units
+      | false ↦ λ is. neither (same_unit u x) (has_unit (without_unit u units) u) is (gone_without u units)
+    ] refl
+
+pub apart_without : (u : UnitId) (units : List UnitId) → IsApart units → IsApart (without_unit u units)
+apart_without u [] apart = tt
+apart_without u (x ∷ units) apart =
+    elim (not (same_unit u x)) as (λ b. IsApart (cond b (x ∷ without_unit u units) (without_unit u units))) [
+      | true ↦ (has_unit-without x u units apart.0, apart_without u units apart.1)
+      | false ↦ apart_without u units apart.1
+    ]
+
+pub without-absent : (u : UnitId) (units : List UnitId) → has_unit units u ≡ false → without_unit u units ≡ units
+without-absent u [] absent = refl
+without-absent u (x ∷ units) absent =
+    let e : same_unit u x ≡ false = or_left _ _ absent in
+    rw e (ap (λ (xs : List UnitId). x ∷ xs) (without-absent u units (or_right (same_unit u x) _ absent)))
+
+-- what holds of each item holds after one is put, and of the new one too
+pub All-put : {X : Type 0} (P : X → Type 0) (t : X → Bool) (x : X) (xs : List X) → P x → AllByRecursion P xs → AllByRecursion P (put_first t x xs)
+All-put P t x [] here all = (here, tt)
+All-put P t x (y ∷ xs) here all =
+    elim (t y) as (λ b. AllByRecursion P (if b then x ∷ y ∷ xs else y ∷ put_first t x xs)) [
+      | true ↦ (here, (all.0, all.1))
+      | false ↦ (all.0, All-put P t x xs here all.1)
+    ]
+
+pub put-All : {X : Type 0} (P : X → Type 0) (t : X → Bool) (x : X) (xs : List X) → AllByRecursion P (put_first t x xs) → P x × AllByRecursion P xs
+put-All P t x [] all = all
+put-All P t x (y ∷ xs) all =
+    elim (t y) as (λ b. AllByRecursion P (if b then x ∷ y ∷ xs else y ∷ put_first t x xs) → P x × AllByRecursion P (y ∷ xs)) [
+      | true ↦ λ a. (a.0, (a.1.0, a.1.1))
+      | false ↦ λ a. (let r = put-All P t x xs a.1 in (r.0, (a.0, r.1)))
+    ] all
+
+pub All-gone : (P : Queued → Type 0) (u : UnitId) (es : List Queued) → AllByRecursion P es → AllByRecursion P (without u es)
+All-gone P u [] all = tt
+All-gone P u (e ∷ es) all =
+    elim (is_of u e) as (λ b. AllByRecursion P (if b then without u es else e ∷ without u es)) [
+      | true ↦ All-gone P u es all.1
+      | false ↦ (all.0, All-gone P u es all.1)
+    ]
+
+-- the same where ranks change, of a property that does not speak of them
+pub All-closed : (P : Queued → Type 0) (r : ℕ) (es : List Queued) → ((e : Queued) → P e → P (closed_up r e)) → AllByRecursion P es → AllByRecursion P (map (closed_up r) es)
+All-closed P r [] keeps all = tt
+All-closed P r (e ∷ es) keeps all = (keeps e all.0, All-closed P r es keeps all.1)
+
+-- what holds of each unit that waits, by the queue and by the order of arrival
+All-arrived : (P : Queued → Type 0) (es : List Queued) → AllByRecursion P es → AllByRecursion P (arrived es)
+All-arrived P [] all = tt
+All-arrived P (e ∷ es) all = All-put P (λ x. nat_lt e.rank x.rank) e (arrived es) all.0 (All-arrived P es all.1)
+
+arrived-All : (P : Queued → Type 0) (es : List Queued) → AllByRecursion P (arrived es) → AllByRecursion P es
+arrived-All P [] all = tt
+arrived-All P (e ∷ es) all = (let r = put-All P (λ x. nat_lt e.rank x.rank) e (arrived es) all in (r.0, arrived-All P es r.1))
+
+map-All : (P : UnitId → Type 0) (es : List Queued) → AllByRecursion P (map (λ e. e.unit) es) → AllByRecursion (λ (e : Queued). P e.unit) es
+map-All P [] all = tt
+map-All P (e ∷ es) all = (all.0, map-All P es all.1)
+
+pub queued_have : (P : UnitId → Type 0) (es : List Queued) → AllByRecursion P (arrivals es) → AllByRecursion (λ (e : Queued). P e.unit) es
+queued_have P es all = arrived-All (λ e. P e.unit) es (map-All P (arrived es) all)
+
+length-put : {X : Type 0} (t : X → Bool) (x : X) (xs : List X) → length (put_first t x xs) ≡ length xs + 1
+length-put t x [] = refl
+length-put t x (y ∷ xs) =
+    elim (t y) as (λ b. length (if b then x ∷ y ∷ xs else y ∷ put_first t x xs) ≡ length (y ∷ xs) + 1) [
+      | true ↦ omega arith
+      | false ↦ (let r = length-put t x xs in omega (arith, r))
+    ]
+
+length-arrived : (es : List Queued) → length (arrived es) ≡ length es
+length-arrived [] = refl
+length-arrived (e ∷ es) = (let r = length-put (λ (x : Queued). nat_lt e.rank x.rank) e (arrived es) in let q = length-arrived es in omega (arith, r, q))
+
+length-units : (es : List Queued) → length (map (λ (e : Queued). e.unit) es) ≡ length es
+length-units [] = refl
+length-units (e ∷ es) = (let r = length-units es in omega (arith, r))
+
+pub length-arrivals : (es : List Queued) → length (arrivals es) ≡ length es
+length-arrivals es = length-units (arrived es) ∙ length-arrived es
+
+pub length-placed : (e : Queued) (es : List Queued) → length (placed e es) ≡ length es + 1
+length-placed e es = length-put _ e es
+
+-- what holds of whatever is in the list holds of each
+pub each_has : (units : List UnitId) (P : UnitId → Type 0) → ((u : UnitId) → has_unit units u ≡ true → P u) → AllByRecursion P units
+each_has [] P has = tt
+each_has (u ∷ units) P has = (has u (or_more (same_unit u u) (has_unit units u) (same_unit_refl u)), each_has units P (λ w there. has w (later w there)))
+  where
+    or_true : (b : Bool) → (b || true) ≡ true
+    or_true true = refl
+    or_true false = refl
+
+    later : (w : UnitId) → has_unit units w ≡ true → has_unit (u ∷ units) w ≡ true
+    later w there = rw there (or_true (same_unit w u))

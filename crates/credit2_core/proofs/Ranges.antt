@@ -1,0 +1,152 @@
+-- The numbers of the records stay in range.
+use Rattle.std.proofs.Common.{◌≡◌, ◌<◌, ◌≤◌, ◌+◌, ◌-◌, ◌*◌, ℕ, zero, suc, Bool, true, false, List, [], ◌∷◌, length, refl, ap, subst, sym, ◌∙◌, arith, ◌⊎◌, inl, inr}
+use Rattle.std.specs.Prelude.{Option, Some, None, slice_get, unwrap_or, ℤ, pos, neg_ℤ, ◌+ℤ◌, ◌≤ℤ◌}
+use Rattle.std.specs.List.{AllByRecursion}
+use Rattle.std.specs.Option.{IfSome, ForSome}
+use Rattle.std.proofs.lemmas.Int.{ints}
+use Rattle.std.proofs.lemmas.List.Elements.{All-from_recursion}
+use Rattle.sched_base.specs.declared.UnitId.{UnitId}
+use Rattle.sched_model.specs.declared.ask.Ask.{Ask}
+use Rattle.sched_model.specs.declared.state.Credit2Unit.{Credit2Unit}
+use Rattle.sched_model.specs.declared.state.Credit2Domain.{Credit2Domain}
+use Rattle.sched_model.specs.declared.state.Credit2Records.{Credit2Records}
+use Rattle.sched_model.specs.declared.state.Scheduler.{Scheduler}
+use Rattle.sched_model.specs.Places.{at_place, put_at, clear_at}
+use Rattle.sched_model.specs.Checked.{IsWithin}
+use Rattle.sched_model.specs.Credit2.{burn_cur, switch_off, set_domain, refilled, fresh_domain, domain_has_budget, reset}
+use Rattle.sched_laws.proofs.EachPlace.{EachPlace-put_at, EachPlace-clear_at, EachAt-put_at, EachAt-clear_at, length_set, length_change_each}
+use Rattle.sched_ranges.specs.Ranges.{Credit2UnitInRange, Credit2InRange}
+use Rattle.sched_ranges.proofs.Credit2.{Credit2DomainFits, Credit2Fits, UnitFits, c_burn_cur, c_reset, c_take, c_switch_off, c_set_running, c_fresh, c_set_domain, c_later}
+use Rattle.sched_ranges.proofs.Budget.{HeldFits, BudgetFits, Nobody, helds, lasts}
+use Rattle.sched_ranges.proofs.Budgets.{b_later, b_fresh}
+use Rattle.sched_ranges.proofs.Decided.{Budgets, None2, s_refilled, s_set_domain, decides_unit, decides_idle, unit_rec}
+use Rattle.sched_ranges.proofs.Records.{refill_fits}
+use Rattle.sched_model.specs.State.{has_come}
+use Rattle.sched_model.specs.Policy.{next_refill}
+use Rattle.sched_model.specs.declared.state.Records.TheVariants.{Credit2Pool}
+use Rattle.plain_units.specs.Fits as plain
+use Rattle.credit2_core.specs.Choice.{ran}
+use Rattle.credit2_core.specs.Held.{InRange}
+
+-- a domain has 32 units at most
+abbrev pub Few : ℕ → ℕ → Type 0
+Few d k = k ≤ 32
+
+pub if_some : {X : Type 0} (o : Option X) (P : X → Type 0) → ForSome o P → IfSome o P
+if_some None P all = tt
+if_some (Some x) P all = all x refl
+
+helds_most : (t cap : ℕ) (ys : List Credit2Unit) → ((n : ℕ) (y : Credit2Unit) → slice_get ys n ≡ Some y → HeldFits t cap ⊥ ⊥ y) → helds ys ≤ℤ pos (640000000 * length ys)
+helds_most t cap [] fits = omega (arith, ints)
+helds_most t cap (y ∷ ys) fits = (let a = (fits 0 y refl).most in let b = helds_most t cap ys (λ n z at. fits (suc n) z at) in omega (arith, ints, a, b))
+
+helds_least : (t cap : ℕ) (ys : List Credit2Unit) → ((n : ℕ) (y : Credit2Unit) → slice_get ys n ≡ Some y → HeldFits t cap ⊥ ⊥ y) → neg_ℤ (pos (lasts t ys)) ≤ℤ helds ys
+helds_least t cap [] fits = omega (arith, ints)
+helds_least t cap (y ∷ ys) fits = (let a = (fits 0 y refl).least in let b = helds_least t cap ys (λ n z at. fits (suc n) z at) in omega (arith, ints, a, b))
+
+lasts_most : (t cap : ℕ) (ys : List Credit2Unit) → ((n : ℕ) (y : Credit2Unit) → slice_get ys n ≡ Some y → HeldFits t cap ⊥ ⊥ y) → lasts t ys ≤ length ys * t
+lasts_most t cap [] fits = omega arith
+lasts_most t cap (y ∷ ys) fits = (let a = (fits 0 y refl).last in let b = lasts_most t cap ys (λ n z at. fits (suc n) z at) in let r : suc (length ys) * t ≡ t + length ys * t = grind arith in omega (arith, a, b, r))
+
+times_few : (n t : ℕ) → n ≤ 32 → n * t ≤ 32 * t
+times_few n t low = (let split : 32 ≡ n + (32 - n) = omega (arith, low) in subst (λ (z : ℕ). n * t ≤ z * t) (sym split) (let r : (n + (32 - n)) * t ≡ n * t + (32 - n) * t = grind arith in omega (arith, r)))
+
+units_in_range : (t weight cap : ℕ) (ys : List Credit2Unit) → weight ≤ 65535 → AllByRecursion (UnitFits t weight) ys → ((n : ℕ) (y : Credit2Unit) → slice_get ys n ≡ Some y → HeldFits t cap ⊥ ⊥ y) → AllByRecursion (Credit2UnitInRange t) ys
+units_in_range t weight cap [] low each held = tt
+units_in_range t weight cap (y ∷ ys) low each held = (
+  record {
+    residual = (let r = each.0.residual in omega (arith, r, low));
+    burned = if_some y.burned (λ (b : ℕ). b ≤ t) (λ b is. subst (λ (o : Option ℕ). unwrap_or o t ≤ t) is each.0.last);
+    most = each.0.most;
+    least = (let l = each.0.least in let k = each.0.last in omega (arith, ints, l, k));
+    held_most = (held 0 y refl).most;
+    held_least = (let l = (held 0 y refl).least in let k = (held 0 y refl).last in omega (arith, ints, l, k));
+  },
+  units_in_range t weight cap ys low each.1 (λ n z at. held (suc n) z at),
+)
+
+domain_in_range : (t : ℕ) (d : Credit2Domain) → Credit2DomainFits t d → BudgetFits t (λ k. k ≤ 32) Nobody Nobody d → Credit2InRange t d
+domain_in_range t d fits budget = record {
+  weight = fits.weight;
+  cap = fits.cap;
+  refill = if_some d.refill (λ (r : ℕ). r ≤ t + 10000000) fits.refill;
+  count = budget.count;
+  units = All-from_recursion (Credit2UnitInRange t) d.units (units_in_range t d.weight d.cap d.units fits.weight.most fits.units budget.units);
+  budget_most = (let few = budget.count in let h = budget.high in let l = helds_least t d.cap d.units budget.units in let k = lasts_most t d.cap d.units budget.units in let n = times_few (length d.units) t few in omega (arith, ints, h, l, k, n));
+  budget_least = (let few = budget.count in let h = budget.low in let l = helds_most t d.cap d.units budget.units in let k = lasts_most t d.cap d.units budget.units in let n = times_few (length d.units) t few in omega (arith, ints, h, l, k, n, few));
+}
+
+-- the ranges that the plain machine asks
+pub plain_fits : (t : ℕ) (records : Credit2Records) → InRange t records → plain.Credit2Fits t records
+plain_fits t records range = record {
+  few_domains = range.few;
+  limit = range.credits.limit;
+  domains = λ d x at. domain_in_range t x (range.credits.domains d x at) (range.budgets d x at);
+}
+
+pub range_later : (t next : ℕ) (records : Credit2Records) → t ≤ next → InRange t records → InRange next records
+range_later t next records past range = record {
+  few = range.few;
+  credits = c_later (length records.domains) t next records past range.credits;
+  budgets = λ d x at. b_later t next (Few d) x past (range.budgets d x at);
+}
+
+-- records with as many places
+ranged : (t n : ℕ) (records : Credit2Records) → n ≤ 64 → Credit2Fits n t records → Budgets t Few None2 None2 records → InRange t records
+ranged t n records few credits budgets = record {
+  few = (let e = credits.places in omega (arith, e, few));
+  credits = subst (λ k. Credit2Fits k t records) (sym credits.places) credits;
+  budgets = budgets;
+}
+
+pub range_refilled : (t d : ℕ) (records : Credit2Records) → has_come t (next_refill (Credit2Pool records) d) ≡ true → InRange t records → InRange t (refilled t d records)
+range_refilled t d records come range =
+    ranged t (length records.domains) (refilled t d records) range.few (refill_fits (length records.domains) 0 t (Credit2Pool records) d come range.credits) (s_refilled t Few d records range.budgets)
+
+pub range_set_domain : (t d : ℕ) (weight percent : Option ℕ) (records : Credit2Records) → IfSome weight (IsWithin 1 65535) → IfSome percent (λ (c : ℕ). c ≤ 6400) → InRange t records → InRange t (set_domain t d weight percent records)
+range_set_domain t d weight percent records weighs caps range =
+    ranged t (length records.domains) (set_domain t d weight percent records) range.few (c_set_domain (length records.domains) t d weight percent records weighs caps range.credits) (s_set_domain t Few d weight percent records caps range.budgets)
+
+pub range_limit : (t limit : ℕ) (last : Option ℕ) (records : Credit2Records) → limit ≤ 500000 → InRange t records → InRange t (record records { limit = limit; last_reset = last })
+range_limit t limit last records low range = record { few = range.few; credits = record { places = range.credits.places; limit = low; domains = range.credits.domains }; budgets = range.budgets }
+
+pub range_joined : (t d weight percent count : ℕ) (records : Credit2Records) → IsWithin 1 65535 weight → percent ≤ 6400 → count ≤ 32 → InRange t records → InRange t (record records { domains = put_at d (fresh_domain weight percent count t) records.domains })
+range_joined t d weight percent count records within low few range =
+    ranged t (length records.domains) (record records { domains = put_at d (fresh_domain weight percent count t) records.domains }) range.few
+    (record {
+      places = length_set d _ records.domains;
+      limit = range.credits.limit;
+      domains = EachPlace-put_at (Credit2DomainFits t) d (fresh_domain weight percent count t) records.domains range.credits.domains (c_fresh (length records.domains) t weight percent count within low);
+    })
+    (EachAt-put_at (λ e. BudgetFits t (Few e) Nobody Nobody) d (fresh_domain weight percent count t) records.domains range.budgets (b_fresh t (Few d) weight percent count low few))
+
+pub range_parted : (t d : ℕ) (records : Credit2Records) → InRange t records → InRange t (record records { domains = clear_at d records.domains })
+range_parted t d records range =
+    ranged t (length records.domains) (record records { domains = clear_at d records.domains }) range.few
+    (record { places = length_set d None records.domains; limit = range.credits.limit; domains = EachPlace-clear_at (Credit2DomainFits t) d records.domains range.credits.domains })
+    (EachAt-clear_at (λ e. BudgetFits t (Few e) Nobody Nobody) d records.domains range.budgets)
+
+-- the core idles
+pub range_idle : (ask : Ask) (scheduler : Scheduler) (records : Credit2Records) → InRange ask.at records → InRange ask.at (switch_off ask.cur (burn_cur ask.cur ask.at records))
+range_idle ask scheduler records range =
+    let n : ℕ = length records.domains in
+    let burned : Credit2Records = burn_cur ask.cur ask.at records in
+    ranged ask.at n (switch_off ask.cur burned) range.few (c_switch_off n ask.at ask.cur burned (c_burn_cur n ask.at ask.cur records range.credits)) (decides_idle ask.at Few ask scheduler records refl range.budgets)
+
+-- with another count of units
+recount : (t : ℕ) (C D : ℕ → ℕ → Type 0) (records : Credit2Records) → ((d : ℕ) (x : Credit2Domain) → at_place records.domains d ≡ Some x → C d (length x.units) → D d (length x.units)) → Budgets t C None2 None2 records → Budgets t D None2 None2 records
+recount t C D records same fits d x at = (let here = fits d x at in record { cap = here.cap; count = same d x at here.count; units = here.units; low = here.low; high = here.high })
+
+-- the core runs the unit, which is its own or did not run
+pub range_ran : (ask : Ask) (scheduler : Scheduler) (records : Credit2Records) (u : UnitId) (k : ℕ) → domain_has_budget (burn_cur ask.cur ask.at records) u ≡ true → ((x : Credit2Domain) → at_place records.domains u.dom.0 ≡ Some x → u.n < length x.units)
+    → (ask.cur ≡ Some u) ⊎ ((y : Credit2Unit) → unit_rec records u ≡ Some y → y.burned ≡ None) → InRange ask.at records → InRange ask.at (ran ask.cur ask.at k u (burn_cur ask.cur ask.at records))
+range_ran ask scheduler records u k pays inside off range =
+    let n : ℕ = length records.domains in
+    let t : ℕ = ask.at in
+    let burned : Credit2Records = burn_cur ask.cur t records in
+    let Inside : ℕ → ℕ → Type 0 = λ d j. (j ≤ 32) × (d ≡ u.dom.0 → u.n < j) in
+    let counted : Budgets t Inside None2 None2 records = recount t Few Inside records (λ d x at few. (few, λ same. inside x (subst (λ e. at_place records.domains e ≡ Some x) same at))) range.budgets in
+    let after : Budgets t Inside None2 None2 (ran ask.cur t k u burned) = decides_unit t Inside ask scheduler records refl counted u pays (λ j here. here.1 refl) off k in
+    ranged t n (ran ask.cur t k u burned) range.few
+    (c_set_running n t u _ (c_switch_off n t ask.cur _ (c_take n t u _ (c_reset n t k burned (c_burn_cur n t ask.cur records range.credits)))))
+    (recount t Inside Few (ran ask.cur t k u burned) (λ d x at here. here.0) after)

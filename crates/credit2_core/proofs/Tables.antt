@@ -1,0 +1,129 @@
+-- The set of the domains that may run, and the table of the sets of cores by unit.
+use Rattle.std.proofs.Common.{◌≡◌, ◌≢◌, ◌<◌, ◌≤◌, ◌+◌, ◌*◌, ◌/◌, ◌%◌, ◌^◌, ℕ, zero, suc, Bool, true, false, List, [], ◌∷◌, length, refl, ap, subst, sym, ◌∙◌, cond, arith, ◌⊎◌, inl, inr}
+use Rattle.std.specs.Prelude.{Option, Some, None, ◌==◌, ◌&&◌, ◌||◌, if◌then◌else◌, filter, nat_lt, slice_index_or, slice_set}
+use Rattle.std.specs.List.{AllByRecursion}
+use Rattle.std.proofs.Math.Nat.{div-div-eq-div-mul}
+use Rattle.std.proofs.lemmas.Bool.{cases_eq, cases_lt}
+use Rattle.std.proofs.lemmas.List.{get_or-set_other}
+use Rattle.sched_base.specs.Numbers.{core_set, domain}
+use Rattle.sched_base.specs.CoreSets.{mask_of, every_core}
+use Rattle.sched_base.specs.Units.{number_of}
+use Rattle.sched_base.specs.CoreSets as sets
+use Rattle.sched_base.specs.declared.Cores.{Cores}
+use Rattle.sched_base.specs.declared.ResId.{ResId}
+use Rattle.sched_base.specs.declared.UnitId.{UnitId}
+use Rattle.sched_model.specs.declared.state.Credit2Domain.{Credit2Domain}
+use Rattle.sched_model.specs.declared.state.Credit2Records.{Credit2Records}
+use Rattle.sched_model.specs.Places.{at_place}
+use Rattle.sched_model.specs.Eligible.{has_budget, cores_of, is_allowed_by}
+use Rattle.sched_model.specs.Credit2.{domain_has_budget}
+use Rattle.sched_laws.proofs.Bools.{either, is_same}
+use Rattle.arrival_queue.proofs.Ranks.{less_test, not_less_test}
+use Rattle.arrival_queue.specs.Filters.{has_domain, may_run}
+use Rattle.credit2_core.specs.Places.{has_joined}
+use Rattle.credit2_core.specs.Domains.{may_run_bit, set_of, masked}
+use Rattle.credit2_core.specs.Choice.{may_take}
+use Rattle.credit2_core.specs.Held.{AreMasks}
+
+-- whether the cap of the domain at the place lets it run
+abbrev may_run_at : Option Credit2Domain → Bool
+may_run_at place = elim place [ None ↦ false | Some d ↦ has_budget d ]
+
+-- the lowest bit of a number, and the others
+low_bit : (place : Option Credit2Domain) (r : ℕ) → ((may_run_bit place + 2 * r) % 2 == 1) ≡ may_run_at place
+low_bit None r = (let e : (0 + 2 * r) % 2 ≡ 0 = omega arith in rw e refl)
+low_bit (Some d) r =
+    elim (has_budget d) as (λ b. (((if b then 1 else 0) + 2 * r) % 2 == 1) ≡ b) [
+      | true ↦ (let e : (1 + 2 * r) % 2 ≡ 1 = omega arith in rw e refl)
+      | false ↦ (let e : (0 + 2 * r) % 2 ≡ 0 = omega arith in rw e refl)
+    ]
+
+half : (place : Option Credit2Domain) (r : ℕ) → (may_run_bit place + 2 * r) / 2 ≡ r
+half None r = omega arith
+half (Some d) r = elim (has_budget d) as (λ b. ((if b then 1 else 0) + 2 * r) / 2 ≡ r) [ true ↦ omega arith | false ↦ omega arith ]
+
+power : (i : ℕ) → 2 ^ suc i ≡ 2 * 2 ^ i
+power i = grind arith
+
+pub set_has : (domains : List (Option Credit2Domain)) (i : ℕ) → has_domain (set_of domains) i ≡ may_run_at (at_place domains i)
+set_has [] i = (let e : 0 / 2 ^ i ≡ 0 = none (2 ^ i) in rw e refl)
+  where
+    none : (k : ℕ) → 0 / k ≡ 0
+    none zero = refl
+    none (suc k) = grind arith
+set_has (place ∷ domains) zero = (let e : (may_run_bit place + 2 * set_of domains) / 2 ^ 0 ≡ may_run_bit place + 2 * set_of domains = omega arith in rw e (low_bit place (set_of domains)))
+set_has (place ∷ domains) (suc i) =
+    let e : (may_run_bit place + 2 * set_of domains) / 2 ^ suc i ≡ set_of domains / 2 ^ i =
+    ap (λ (k : ℕ). (may_run_bit place + 2 * set_of domains) / k) (power i) ∙ sym (div-div-eq-div-mul (may_run_bit place + 2 * set_of domains) 2 (2 ^ i)) ∙ ap (λ (k : ℕ). k / 2 ^ i) (half place (set_of domains))
+    in
+    rw e (set_has domains i)
+
+and-swap : (a b : Bool) → (a && b) ≡ (b && a)
+and-swap true true = refl
+and-swap true false = refl
+and-swap false true = refl
+and-swap false false = refl
+
+pub filter-same : {X : Type 0} (p q : X → Bool) (xs : List X) → AllByRecursion (λ x. p x ≡ q x) xs → filter p xs ≡ filter q xs
+filter-same p q [] same = refl
+filter-same p q (x ∷ xs) same =
+    ap (λ (b : Bool). cond b (x ∷ filter p xs) (filter p xs)) same.0 ∙ ap (λ (ys : List _). cond (q x) (x ∷ ys) ys) (filter-same p q xs same.1)
+
+-- a unit that has joined passes the search of the run queue just where it may take the core
+pub passes_same : (affinity : List (Option (List Cores))) (masks : List Cores) (records : Credit2Records) (core home : ℕ) (u : UnitId) → AreMasks affinity masks → has_joined affinity u ≡ true
+    → (has_domain (set_of records.domains) u.dom.0 && may_run masks (record { 0 = core }) (record { 0 = home }) u) ≡ may_take affinity home core records u
+passes_same affinity masks records core home u are joined =
+    let set : has_domain (set_of records.domains) u.dom.0 ≡ domain_has_budget records u = set_has records.domains u.dom.0 in
+    let mask : mask_of masks u ≡ core_set (cores_of affinity u) = are u joined in
+    let may : may_run masks (record { 0 = core }) (record { 0 = home }) u ≡ is_allowed_by affinity home core u = ap (λ (m : Cores). sets.is_allowed m.0 core home) mask in
+    ap (λ (b : Bool). b && may_run masks (record { 0 = core }) (record { 0 = home }) u) set ∙ ap (λ (b : Bool). domain_has_budget records u && b) may ∙ and-swap (domain_has_budget records u) (is_allowed_by affinity home core u)
+
+pub passes_each : (affinity : List (Option (List Cores))) (masks : List Cores) (records : Credit2Records) (core home : ℕ) (units : List UnitId) → AreMasks affinity masks → AllByRecursion (λ u. has_joined affinity u ≡ true) units
+    → AllByRecursion (λ u. (has_domain (set_of records.domains) u.dom.0 && may_run masks (record { 0 = core }) (record { 0 = home }) u) ≡ may_take affinity home core records u) units
+passes_each affinity masks records core home [] are joined = tt
+passes_each affinity masks records core home (u ∷ units) are joined = (passes_same affinity masks records core home u are joined.0, passes_each affinity masks records core home units are joined.1)
+
+-- the masks, once one more is written
+pub masked_more : (masks now : List Cores) (d k : ℕ) (sets : List Cores) (x : Cores) (u : UnitId) → u.n < 256 → k < 256 → slice_index_or sets k (core_set 0) ≡ x
+    → mask_of (slice_set now (d * 256 + k) x) (record { dom = domain d; n = k }) ≡ x → mask_of now u ≡ masked masks d sets k u → mask_of (slice_set now (d * 256 + k) x) u ≡ masked masks d sets (k + 1) u
+masked_more masks now d k sets x u low low_k is here before =
+    elim (cases_eq u.dom.0 d) [
+      | inl dom ↦ elim (cases_eq u.n k) [
+        | inl n ↦ (
+            let e : ◌≡◌ {A = UnitId} u (record { dom = domain d; n = k }) = ap (λ (i : ℕ). record { dom = domain i; n = u.n }) dom ∙ ap (λ (i : ℕ). record { dom = domain d; n = i }) n in
+            let a : (u.dom.0 == d) ≡ true = is_same u.dom.0 d dom in
+            let b : nat_lt u.n (k + 1) ≡ true = less_test u.n (k + 1) (omega (arith, n)) in
+            let right : masked masks d sets (k + 1) u ≡ slice_index_or sets u.n (core_set 0) = rw (a, b) refl in
+            ap (λ (w : UnitId). mask_of (slice_set now (d * 256 + k) x) w) e ∙ here ∙ sym is ∙ ap (λ (i : ℕ). slice_index_or sets i (core_set 0)) (sym n) ∙ sym right)
+        | inr n ↦ (
+            let other : number_of u ≢ d * 256 + k = λ e. n (omega (arith, e, dom)) in
+            get_or-set_other now (d * 256 + k) (number_of u) x every_core other ∙ before
+            ∙ ap (λ (b : Bool). if u.dom.0 == d && b then slice_index_or sets u.n (core_set 0) else mask_of masks u) (one_more u.n k n))
+      ]
+      | inr dom ↦ (
+          let other : number_of u ≢ d * 256 + k = λ e. dom (omega (arith, e, low, low_k)) in
+          let a : (u.dom.0 == d) ≡ false = not_same u.dom.0 d dom in
+          let left : masked masks d sets k u ≡ mask_of masks u = rw a refl in
+          let right : masked masks d sets (k + 1) u ≡ mask_of masks u = rw a refl in
+          get_or-set_other now (d * 256 + k) (number_of u) x every_core other ∙ before ∙ left ∙ sym right)
+    ]
+  where
+    one_more : (n k : ℕ) → n ≢ k → nat_lt n k ≡ nat_lt n (k + 1)
+    one_more n k other = elim (cases_lt n k) [
+      | inl low ↦ less_test n k low ∙ sym (less_test n (k + 1) (omega arith))
+      | inr high ↦ not_less_test n k high ∙ sym (not_less_test n (k + 1) (omega (arith, high, other)))
+    ]
+
+    not_same : (a b : ℕ) → a ≢ b → (a == b) ≡ false
+    not_same a b other = elim (either (a == b)) [ inl is ↦ absurd (other (grind (arith, is))) | inr is ↦ is ]
+
+pub masked_none : (masks : List Cores) (d : ℕ) (sets : List Cores) (u : UnitId) → mask_of masks u ≡ masked masks d sets 0 u
+masked_none masks d sets u =
+    let e : nat_lt u.n 0 ≡ false = not_less_test u.n 0 (omega arith) in
+    elim (u.dom.0 == d) as (λ b. mask_of masks u ≡ (if b && nat_lt u.n 0 then slice_index_or sets u.n (core_set 0) else mask_of masks u)) [ true ↦ rw e refl | false ↦ refl ]
+
+-- what is read of a place that is there
+pub same_read : {X : Type 0} (xs : List X) (k : ℕ) (a b : X) → k < length xs → slice_index_or xs k a ≡ slice_index_or xs k b
+same_read [] k a b inside = absurd (omega (arith, inside))
+same_read (x ∷ xs) zero a b inside = refl
+same_read (x ∷ xs) (suc k) a b inside = same_read xs k a b (omega (arith, inside))

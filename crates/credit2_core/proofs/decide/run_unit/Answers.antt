@@ -1,0 +1,73 @@
+use Rattle.std.proofs.Common.{◌≡◌, ◌∙◌, ◌+◌, sym, ap, refl, subst, ℕ, length, arith, false}
+use Rattle.std.specs.Prelude.{List, Option, Some, ℤ}
+use Rattle.sched_base.specs.Numbers.{moment}
+use Rattle.sched_base.specs.declared.UnitId.{UnitId}
+use Rattle.sched_base.specs.declared.Cores.{Cores}
+use Rattle.sched_model.specs.declared.ask.Ask.{Ask}
+use Rattle.sched_model.specs.declared.state.Credit2Records.{Credit2Records}
+use Rattle.sched_model.specs.Places.{has_unit, without_unit}
+use Rattle.sched_model.specs.Credit2.{reset, change_domain, take_budget, resets_for, slice_of, best_other}
+use Rattle.plain_credit2.specs.Bounds.{PoolParamsFit}
+use Rattle.plain_credit2.proofs.Steps.{reset_params, taken_params}
+use Rattle.queue_laws.specs.Arrivals.{arrivals}
+use Rattle.credit2_core.specs.declared.held.Held.{Held}
+use Rattle.credit2_core.specs.Held.{scheduler_in}
+use Rattle.credit2_core.specs.Choice.{slice_beside, credit_or_0, best_of}
+use Rattle.credit2_core.proofs.Lists.{gone_without}
+use Rattle.credit2_core.proofs.Choosing.{other_best}
+use Rattle.credit2_core.proofs.Deciding.{length_reset}
+use Rattle.credit2_core.proofs.decide.run_unit.Goals as goal
+
+pub take_slice-long-requires-clause-few : goal.take_slice-long-requires-clause-few
+take_slice-long-requires-clause-few c =
+    let first : c.leave.new.held.records ≡ c.args.held.now.records = ap (λ (h : Held). h.records) c.leave.ensures.rest in
+    let e = ap (λ (r : Credit2Records). length r.domains) (c.reset_pool.ensures.records ∙ ap (reset c.args.ask.now.at c.resets_for-resets.result) first) in
+    let l = length_reset c.args.ask.now.at c.resets_for-resets.result c.args.held.now.records in
+    let f = c.requires.few in
+    omega (arith, e, l, f)
+
+pub take_slice-long-requires-clause-params : goal.take_slice-long-requires-clause-params
+take_slice-long-requires-clause-params c =
+    let first : c.leave.new.held.records ≡ c.args.held.now.records = ap (λ (h : Held). h.records) c.leave.ensures.rest in
+    let e : c.reset_pool.new.held.records ≡ reset c.args.ask.now.at c.resets_for-resets.result c.args.held.now.records = c.reset_pool.ensures.records ∙ ap (reset c.args.ask.now.at c.resets_for-resets.result) first in
+    subst PoolParamsFit (sym e) (reset_params c.args.ask.now.at c.resets_for-resets.result c.args.held.now.records c.requires.fits)
+
+pub take_slice-long-requires-clause-taken : goal.take_slice-long-requires-clause-taken
+take_slice-long-requires-clause-taken c =
+    let first : c.leave.new.held.records ≡ c.args.held.now.records = ap (λ (h : Held). h.records) c.leave.ensures.rest in
+    let e : c.reset_pool.new.held.records ≡ reset c.args.ask.now.at c.resets_for-resets.result c.args.held.now.records = c.reset_pool.ensures.records ∙ ap (reset c.args.ask.now.at c.resets_for-resets.result) first in
+    subst (λ (r : Credit2Records). PoolParamsFit (change_domain c.args.u.dom.0 (take_budget c.args.u.n) r)) (sym e) (taken_params c.args.ask.now.at c.resets_for-resets.result c.args.u c.args.held.now.records c.requires.fits)
+
+pub start-requires-clause-waits_not : goal.start-requires-clause-waits_not
+start-requires-clause-waits_not c =
+    let left : c.stop_own.new.held.queue ≡ c.reset_pool.new.held.queue = ap (λ (h : Held). h.queue) c.stop_own.ensures.rest ∙ ap (λ (h : Held). h.queue) c.take_slice-long.ensures.rest in
+    let order : arrivals c.stop_own.new.held.queue.units ≡ without_unit c.args.u (arrivals c.args.held.now.queue.units) = ap (λ q. arrivals q.units) left ∙ c.reset_pool.ensures.order ∙ c.leave.ensures.order in
+    subst (λ (units : List UnitId). has_unit units c.args.u ≡ false) (sym order) (gone_without c.args.u (arrivals c.args.held.now.queue.units))
+
+pub returns-clause-tells : goal.returns-clause-tells
+returns-clause-tells c =
+    let h : Held = c.args.held.now in
+    let ask : Ask = c.args.ask.now in
+    let u : UnitId = c.args.u in
+    let q : List UnitId = arrivals h.queue.units in
+    let m : ℕ = resets_for ask.at u h.records in
+    let taken : Credit2Records = change_domain u.dom.0 (take_budget u.n) (reset ask.at m h.records) in
+    let first : c.leave.new.held.records ≡ h.records = ap (λ (x : Held). x.records) c.leave.ensures.rest in
+    let resets : c.resets_for-resets.result ≡ m = c.resets_for-resets.ensures.exact ∙ ap (resets_for ask.at u) first in
+    let begun : c.reset_pool.new.held.records ≡ reset ask.at m h.records = c.reset_pool.ensures.records ∙ ap (λ (k : ℕ). reset ask.at k c.leave.new.held.records) resets ∙ ap (reset ask.at m) first in
+    let records : c.take_slice-long.new.held.records ≡ taken = c.take_slice-long.ensures.records ∙ ap (change_domain u.dom.0 (take_budget u.n)) begun in
+    let order : arrivals c.take_slice-long.new.held.queue.units ≡ without_unit u q = ap (λ (x : Held). arrivals x.queue.units) c.take_slice-long.ensures.rest ∙ c.reset_pool.ensures.order ∙ c.leave.ensures.order in
+    let sets : c.take_slice-long.new.held.affinity ≡ h.affinity = ap (λ (x : Held). x.affinity) c.take_slice-long.ensures.rest ∙ ap (λ (x : Held). x.affinity) c.reset_pool.ensures.rest ∙ ap (λ (x : Held). x.affinity) c.leave.ensures.rest in
+    let best : List UnitId → List (Option (List Cores)) → Credit2Records → ℤ = λ units affinity r. credit_or_0 r (best_of units affinity ask.home ask.core r) in
+    let other : best (arrivals c.take_slice-long.new.held.queue.units) c.take_slice-long.new.held.affinity c.take_slice-long.new.held.records ≡ best_other ask (scheduler_in h) taken u =
+    ap (λ (units : List UnitId). best units c.take_slice-long.new.held.affinity c.take_slice-long.new.held.records) order
+    ∙ ap (λ (affinity : List (Option (List Cores))). best (without_unit u q) affinity c.take_slice-long.new.held.records) sets
+    ∙ ap (best (without_unit u q) h.affinity) records
+    ∙ other_best ask q h.affinity h.records taken u
+    in
+    let long : c.take_slice-long.result ≡ slice_of ask (scheduler_in h) taken u =
+    c.take_slice-long.ensures.slice
+    ∙ ap (λ (w : ℤ). slice_beside c.take_slice-long.new.held.records u w) other
+    ∙ ap (λ (r : Credit2Records). slice_beside r u (best_other ask (scheduler_in h) taken u)) records
+    in
+    record { unit = refl; due = ap (λ (k : ℕ). Some (moment (ask.at + k))) long; reset = resets }

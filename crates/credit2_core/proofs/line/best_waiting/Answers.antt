@@ -1,0 +1,27 @@
+use Rattle.std.proofs.Common.{◌≡◌, ◌∙◌, sym, ap, subst, ℕ}
+use Rattle.std.specs.Prelude.{List, Option, Bool, None, ◌&&◌}
+use Rattle.sched_base.specs.declared.UnitId.{UnitId}
+use Rattle.sched_model.specs.Credit2.{greatest}
+use Rattle.sched_model.specs.declared.state.Credit2Domain.{Credit2Domain}
+use Rattle.sched_model.specs.declared.state.Credit2Records.{Credit2Records}
+use Rattle.arrival_queue.specs.Filters.{has_domain, may_run, first_that}
+use Rattle.arrival_queue.specs.Queues.{Queued}
+use Rattle.queue_laws.specs.Arrivals.{arrivals}
+use Rattle.credit2_core.specs.Domains.{set_of}
+use Rattle.credit2_core.specs.Choice.{may_take}
+use Rattle.credit2_core.proofs.Tables.{filter-same, passes_each}
+use Rattle.credit2_core.proofs.Waiting.{first_greatest}
+use Rattle.credit2_core.proofs.line.best_waiting.Goals as goal
+
+pub returns : goal.returns
+returns c =
+    let held = c.args.held.now in
+    let records : Credit2Records = held.records in
+    let es : List Queued = held.queue.units in
+    let p : ℕ → UnitId → Bool = λ k u. has_domain k u.dom.0 && may_run held.masks (record { 0 = c.args.core }) (record { 0 = c.args.home }) u in
+    let found : c.first_on.result ≡ first_that (p c.runnable_domains.result) es = c.first_on.ensures in
+    let set : c.runnable_domains.result ≡ set_of records.domains = c.runnable_domains.ensures.exact ∙ ap set_of c.as_slice.ensures in
+    found
+    ∙ ap (λ (k : ℕ). first_that (p k) es) set
+    ∙ first_greatest records (p (set_of records.domains)) es (record { order = c.law_order.ensures.order; ranks = c.law_order.ensures.ranks; units = c.law_order.ensures.units }) c.requires.line.keys
+    ∙ ap (greatest records None) (filter-same (p (set_of records.domains)) (may_take held.affinity c.args.home c.args.core records) (arrivals es) (passes_each held.affinity held.masks records c.args.core c.args.home (arrivals es) c.requires.masks c.requires.line.joined))

@@ -1,0 +1,22 @@
+use Rattle.std.proofs.Common.{◌≡◌, ◌<◌, ◌∙◌, sym, ap, subst}
+use Rattle.std.specs.Prelude.{List, Option}
+use Rattle.sched_base.specs.CoreSets.{mask_of}
+use Rattle.sched_base.specs.declared.Cores.{Cores}
+use Rattle.sched_base.specs.declared.UnitId.{UnitId}
+use Rattle.sched_model.specs.Places.{change_at}
+use Rattle.sched_model.specs.Policy.{pinned}
+use Rattle.credit2_core.specs.declared.held.Held.{Held}
+use Rattle.credit2_core.specs.Domains.{refreshed}
+use Rattle.credit2_core.specs.Held.{IsHeld}
+use Rattle.credit2_core.proofs.Keeping.{held_pinned}
+use Rattle.credit2_core.proofs.params.pin.Goals as goal
+
+pub returns-clause-held : goal.returns-clause-held
+returns-clause-held c =
+    let h : Held = c.args.held.now in
+    let next : List (Option (List Cores)) = change_at c.args.d.0 (pinned c.args.unit c.args.cores) h.affinity in
+    let written : (u : UnitId) → u.n < 256 → mask_of c.refresh.new.masks u ≡ refreshed h.masks next c.args.d.0 u =
+    λ u low. c.refresh.ensures u low ∙ ap (λ (a : List (Option (List Cores))). refreshed h.masks a c.args.d.0 u) (c.as_slice.ensures ∙ c.pin.ensures)
+    in
+    subst (λ (a : List (Option (List Cores))). IsHeld (record h { affinity = a; masks = c.refresh.new.masks; latest = c.args.t })) (sym c.pin.ensures)
+    (held_pinned h c.args.d.0 c.args.t c.args.unit c.args.cores c.refresh.new.masks c.requires.held c.requires.now.after written)

@@ -1,0 +1,19 @@
+use Rattle.std.proofs.Common.{sym, subst}
+use Rattle.sched_model.specs.declared.state.Credit2Records.{Credit2Records}
+use Rattle.plain_credit2.specs.Bounds.{PoolParamsFit}
+use Rattle.credit2_core.specs.Held.{IsLineOf}
+use Rattle.credit2_core.proofs.Lines.{line_take}
+use Rattle.credit2_core.proofs.slice.take_slice.Goals as goal
+
+pub other_credit-other-requires-clause-line : goal.other_credit-other-requires-clause-line
+other_credit-other-requires-clause-line c =
+    subst (λ (r : Credit2Records). IsLineOf c.args.held.now.affinity r c.args.held.now.queue.units) (sym c.take_at.ensures)
+    (line_take c.args.held.now.affinity c.args.u c.args.held.now.records c.args.held.now.queue.units c.requires.line)
+
+pub slice_beside-requires-clause-params : goal.slice_beside-requires-clause-params
+slice_beside-requires-clause-params c = subst PoolParamsFit (sym c.take_at.ensures) c.requires.taken
+
+pub returns-clause-line : goal.returns-clause-line
+returns-clause-line c =
+    subst (λ (r : Credit2Records). IsLineOf c.args.held.now.affinity r c.args.held.now.queue.units) (sym c.take_at.ensures)
+    (line_take c.args.held.now.affinity c.args.u c.args.held.now.records c.args.held.now.queue.units c.requires.line)

@@ -1,0 +1,12 @@
+use Rattle.std.proofs.Common.{◌≡◌, ◌∙◌, sym}
+use Rattle.std.specs.Prelude.{Some, None, Option}
+use Rattle.sched_model.specs.declared.state.Credit2Domain.{Credit2Domain}
+use Rattle.sched_model.specs.Places.{at_place}
+use Rattle.credit2_core.proofs.Members.{joined_record}
+use Rattle.credit2_core.proofs.small.stored.Goals as goal
+
+pub returns-in-None : goal.returns-in-None
+returns-in-None c =
+    let none : at_place c.args.held.now.records.domains c.args.u.dom.0 ≡ None = rw c.as_slice.ensures at (sym c.in-None.ensures) in
+    let r = joined_record c.args.held.now.affinity c.args.held.now.records.domains c.args.u c.requires.held.counts c.requires.member in
+    absurd (let e : None ≡ Some r.0 = sym none ∙ r.1 in cc)

@@ -1,0 +1,27 @@
+use Rattle.std.proofs.Common.{◌≡◌, ◌∙◌, sym, ap, subst}
+use Rattle.std.specs.Prelude.{List, Option, slice_set}
+use Rattle.sched_base.specs.declared.Moment.{Moment}
+use Rattle.sched_model.specs.declared.state.Credit2Records.{Credit2Records}
+use Rattle.sched_model.specs.declared.state.Credit2Domain.{Credit2Domain}
+use Rattle.sched_model.specs.Places.{at_place}
+use Rattle.sched_model.specs.Credit2.{refilled}
+use Rattle.credit2_core.specs.declared.held.Held.{Held}
+use Rattle.credit2_core.specs.Places.{refill_of}
+use Rattle.credit2_core.specs.Held.{IsHeld}
+use Rattle.credit2_core.proofs.Keeping.{held_refilled}
+use Rattle.credit2_core.proofs.Ranges.{plain_fits, range_later}
+use Rattle.credit2_core.proofs.timers.refill.Goals as goal
+
+pub refill-requires-clause-fits : goal.refill-requires-clause-fits
+refill-requires-clause-fits c = plain_fits c.args.t c.args.held.now.records (range_later c.args.held.now.latest c.args.t c.args.held.now.records c.requires.now.after c.requires.held.range)
+
+pub returns-clause-held : goal.returns-clause-held
+returns-clause-held c =
+    let h : Held = c.args.held.now in
+    let next : Credit2Records = refilled c.args.t c.args.d.0 h.records in
+    let refills : c.rearm.new.refills ≡ slice_set h.refills c.args.d.0 (refill_of (at_place next.domains c.args.d.0)) =
+    c.rearm.ensures ∙ ap (λ (ds : List (Option Credit2Domain)). slice_set h.refills c.args.d.0 (refill_of (at_place ds c.args.d.0))) (c.as_slice.ensures ∙ ap (λ (r : Credit2Records). r.domains) c.refill.ensures)
+    in
+    subst (λ (r : Credit2Records). IsHeld (record h { records = r; refills = c.rearm.new.refills; latest = c.args.t })) (sym c.refill.ensures)
+    (subst (λ (rs : List (Option Moment)). IsHeld (record h { records = next; refills = rs; latest = c.args.t })) (sym refills)
+    (held_refilled h c.args.d.0 c.args.t c.requires.held c.requires.now.after c.requires.due))

@@ -1,0 +1,27 @@
+-- Tables by domain.
+use Rattle.std.specs.Prelude.{ℕ, ◌+◌, ◌*◌, ◌==◌, ◌&&◌, List, [], ◌∷◌, Option, Some, None, length, nat_lt, if◌then◌else◌, slice_index_or}
+use Rattle.sched_base.specs.Numbers.{core_set}
+use Rattle.sched_base.specs.CoreSets.{mask_of}
+use Rattle.sched_base.specs.declared.Cores.{Cores}
+use Rattle.sched_base.specs.declared.UnitId.{UnitId}
+use Rattle.sched_model.specs.declared.state.Credit2Domain.{Credit2Domain}
+use Rattle.sched_model.specs.Places.{at_place}
+use Rattle.sched_model.specs.Eligible.{has_budget}
+
+-- 1 where the cap lets the domain run
+abbrev pub may_run_bit : Option Credit2Domain → ℕ
+may_run_bit None = 0
+may_run_bit (Some d) = (if has_budget d then 1 else 0)
+
+-- the set of the domains that may run, with bit d for the domain d
+abbrev pub set_of : List (Option Credit2Domain) → ℕ
+set_of [] = 0
+set_of (place ∷ domains) = may_run_bit place + 2 * set_of domains
+
+-- the unit's mask, once those of the first k of the domain's units are written into the table
+abbrev pub masked : List Cores → ℕ → List Cores → ℕ → UnitId → Cores
+masked masks d sets k u = (if u.dom.0 == d && nat_lt u.n k then slice_index_or sets u.n (core_set 0) else mask_of masks u)
+
+-- the unit's mask, once the domain's are those of its sets of cores
+abbrev pub refreshed : List Cores → List (Option (List Cores)) → ℕ → UnitId → Cores
+refreshed masks affinity d u = elim (at_place affinity d) [ None ↦ mask_of masks u | Some sets ↦ masked masks d sets (length sets) u ]

@@ -1,0 +1,158 @@
+//! Which unit a core is to run. Moments are in nanoseconds.
+
+ghost use Rattle.std.specs.Prelude.{◌≡◌, ◌≤◌, ◌<◌, ◌+◌, length};
+ghost use Rattle.queue_laws.specs.Arrivals.{arrivals};
+ghost use Rattle.sched_model.specs.Places.{without_unit};
+ghost use Rattle.sched_model.specs.Policy.{better_waits as better_waits_spec};
+ghost use Rattle.sched_model.specs.Credit2.{own_candidate as own_candidate_spec, choice as choice_spec, reset as reset_spec, is_within_limit as is_within_limit_spec};
+ghost use Rattle.sched_ops.specs.Conditions.{IsNow, IsOwnOf};
+ghost use Rattle.plain_credit2.specs.Bounds.{PoolFits};
+ghost use Rattle.credit2_core.specs.Held.{IsHeld, IsLine, IsSameRoom, AreMasks, scheduler_in, seen_in};
+ghost use Rattle.credit2_core.specs.Choice.{best_of, credit_or_0, richer_of, is_better_of};
+
+use crate::held::Held;
+use crate::line::{best_waiting, rekey_all};
+use plain_credit2::choice::{domain_has_budget, is_within_limit};
+use plain_credit2::running::{burned_credit_of, credit_of, reset};
+use plain_units::eligible::is_allowed;
+use sched_base::UnitId;
+use sched_model::ask::Ask;
+use sched_model::state::Credit2Records;
+
+/// The core's own unit, where it may go on.
+fn own_candidate(held: &Held, ask: &Ask) -> Option<UnitId>
+    requires { ask.now.core < 64 }
+    ensures { result ≡ own_candidate_spec ask.now (scheduler_in held.now) held.now.records }
+{
+    let u = ask.cur?;
+    if ask.runnable
+        && is_allowed(held.affinity.as_slice(), ask.home, ask.core, u)
+        && domain_has_budget(&held.records, u)
+    {
+        Some(u)
+    } else {
+        None
+    }
+}
+
+/// The unit, or the one that waits where it has more credit.
+fn richer(records: &Credit2Records, own: UnitId, waiting: Option<UnitId>) -> Option<UnitId>
+    ensures { result ≡ richer_of records.now own waiting }
+{
+    match waiting {
+        None => Some(own),
+        Some(u) => {
+            if credit_of(records, own) < credit_of(records, u) {
+                Some(u)
+            } else {
+                Some(own)
+            }
+        }
+    }
+}
+
+/// The choice, after the core's own unit was charged.
+pub fn choice(held: &Held, ask: &Ask) -> Option<UnitId>
+    requires core { ask.now.core < 64 }
+    requires few { length held.now.records.domains ≤ 64 }
+    requires line { IsLine held.now }
+    requires masks { AreMasks held.now.affinity held.now.masks }
+    ensures { result ≡ choice_spec ask.now (scheduler_in held.now) held.now.records }
+{
+    if ask.leaving {
+        return None;
+    }
+    let own = own_candidate(held, ask);
+    if own.is_some() && is_within_limit(&held.records, ask.since, ask.at) {
+        return own;
+    }
+    let waiting = best_waiting(held, ask.core, ask.home);
+    match own {
+        None => waiting,
+        Some(u) => richer(&held.records, u, waiting),
+    }
+}
+
+/// The unit, where it waits, waits no more.
+pub fn leave(held: &mut Held, u: UnitId)
+    requires { IsLine held.old }
+    ensures order { arrivals held.new.queue.units ≡ without_unit u (arrivals held.old.queue.units) }
+    ensures line { IsLine held.new }
+    ensures room { IsSameRoom held.old.queue held.new.queue }
+    ensures rest { held.new ≡ record held.old { queue = held.new.queue } }
+{
+    held.queue.law_order();
+    let _ = held.queue.remove(u);
+}
+
+/// The pool after m resets at t. The keys of the units that wait follow their credits.
+pub fn reset_pool(held: &mut Held, t: u64, m: u64)
+    requires early { t ≤ 10000000000000 }
+    requires few { m ≤ 1000000000000 }
+    requires fits { PoolFits t held.old.records }
+    requires places { length held.old.affinity ≤ 64 }
+    requires line { IsLine held.old }
+    ensures records { held.new.records ≡ reset_spec t m held.old.records }
+    ensures order { arrivals held.new.queue.units ≡ arrivals held.old.queue.units }
+    ensures line { IsLine held.new }
+    ensures room { IsSameRoom held.old.queue held.new.queue }
+    ensures rest { held.new ≡ record held.old { records = held.new.records; queue = held.new.queue } }
+{
+    if m == 0 {
+        return;
+    }
+    reset(t, m, &mut held.records);
+    rekey_all(&mut held.queue, &held.records, held.affinity.as_slice());
+}
+
+/// The greatest credit of those that wait and may take the core, or 0.
+pub fn other_credit(held: &Held, ask: &Ask) -> i64
+    requires core { ask.now.core < 64 }
+    requires few { length held.now.records.domains ≤ 64 }
+    requires line { IsLine held.now }
+    requires masks { AreMasks held.now.affinity held.now.masks }
+    ensures { result ≡ credit_or_0 held.now.records (best_of (arrivals held.now.queue.units) held.now.affinity ask.now.home ask.now.core held.now.records) }
+{
+    match best_waiting(held, ask.core, ask.home) {
+        None => 0,
+        Some(u) => credit_of(&held.records, u),
+    }
+}
+
+/// Whether one that waits is better than the core's own unit, which runs since a moment, at t.
+fn better_than(held: &Held, own: UnitId, since: u64, t: u64, waiting: Option<UnitId>) -> bool
+    requires held { IsHeld held.now }
+    requires now { IsNow (seen_in held.now) t }
+    ensures { result ≡ is_better_of held.now.records own since t waiting }
+{
+    match waiting {
+        None => false,
+        Some(u) => {
+            !is_within_limit(&held.records, since, t)
+                && burned_credit_of(&held.records, t, own) < credit_of(&held.records, u)
+        }
+    }
+}
+
+/// Whether a core is to decide anew at t.
+pub fn better_waits(
+    held: &Held,
+    cur: Option<UnitId>,
+    since: u64,
+    t: u64,
+    core: u8,
+    home: u64,
+) -> bool
+    requires held { IsHeld held.now }
+    requires now { IsNow (seen_in held.now) t }
+    requires core { core < 64 }
+    ensures { result ≡ better_waits_spec cur since t core home (scheduler_in held.now) }
+{
+    match cur {
+        None => best_waiting(held, core, home).is_some(),
+        Some(own) => {
+            !is_allowed(held.affinity.as_slice(), home, core, own)
+                || better_than(held, own, since, t, best_waiting(held, core, home))
+        }
+    }
+}

@@ -1,0 +1,203 @@
+//! Credit2 as a scheduler of a pool.
+
+ghost use Rattle.std.specs.Prelude.{◌≡◌, ◌≤◌};
+ghost use Rattle.credit2_core.specs.Whole.{seen_by};
+
+use crate::held::Held;
+use crate::room::DEFAULT_LIMIT;
+use crate::{choice, decide, params, room, small, timers};
+use sched_base::{Cores, DomId, Moment, NoMemory, ResId, UnitId};
+use sched_model::ask::Ask;
+use sched_model::config::{DomParams, ParamChange, PoolParams};
+use sched_model::event::Event;
+use sched_model::facts::Stored;
+use sched_ops::{Choice, Places, Policy, Timer};
+use std::alloc::Global;
+use std::marker::Model;
+
+/// The Credit2 scheduler of one pool. It holds no memory until the first `reserve`, and has no place for a domain then.
+///
+/// Contracts see what they see of every scheduler: the waiting units in order of arrival, the sets of cores of all units, and
+/// the records, with the rate limit in microseconds.
+#[derive(Drop)]
+pub struct Credit2 {
+    held: Option<Held>,
+    limit: u32,
+    early: u64,
+}
+
+impl Model for Credit2 {
+    ghost use Rattle.sched_ops.specs.Seen.{Seen};
+
+    ghost Value = { Seen };
+
+    ghost use Rattle.credit2_core.specs.Whole.{seen_by, IsWhole};
+
+    ghost view = { λ a. seen_by a.held a.limit a.early };
+
+    ghost invariant = { λ a. IsWhole a.held };
+}
+
+/// The greatest moment that was given, in nanoseconds.
+fn latest_of(held: &Option<Held>, early: u64) -> u64
+    ensures { result ≡ (seen_by held.now 0 early).latest }
+{
+    match held {
+        None => early,
+        Some(held) => held.latest,
+    }
+}
+
+/// Stands where there is nothing to refill.
+fn no_event(d: DomId) -> Event {
+    Event::Refill {
+        d,
+        periods: 0,
+        budget: 0,
+    }
+}
+
+impl Credit2 {
+    ghost use Rattle.std.specs.Prelude.{◌≡◌};
+    ghost use Rattle.credit2_core.specs.Whole.{bare};
+
+    /// A scheduler without memory, with the rate limit of 1000 microseconds.
+    pub fn empty() -> Self
+        ensures { result ≡ bare 1000 0 }
+    {
+        Credit2 {
+            held: None,
+            limit: DEFAULT_LIMIT,
+            early: 0,
+        }
+    }
+}
+
+impl Policy for Credit2 {
+    ghost seen = { λ s. s };
+
+    fn reserve(&mut self, alloc: Global, places: Places, units: usize) -> Result<(), NoMemory> {
+        let latest = latest_of(&self.held, self.early);
+        let held = room::reserve(alloc, places.domains, units, latest)?;
+        self.held = Some(held);
+        Ok(())
+    }
+
+    fn restart(&mut self, params: &PoolParams) {
+        if let PoolParams::Credit2 { limit } = params {
+            let limit = *limit;
+            match &mut self.held {
+                None => self.limit = limit,
+                Some(held) => small::restart(held, limit),
+            }
+        }
+    }
+
+    fn join(&mut self, d: DomId, units: u8, params: &DomParams, t: Moment) {
+        if let DomParams::Credit2 { weight, cap } = *params {
+            match &mut self.held {
+                None => {}
+                Some(held) => params::join(held, d, units, weight, cap, t.0),
+            }
+        }
+    }
+
+    fn part(&mut self, d: DomId) {
+        match &mut self.held {
+            None => {}
+            Some(held) => params::part(held, d),
+        }
+    }
+
+    fn enqueue(&mut self, u: UnitId) {
+        match &mut self.held {
+            None => {}
+            Some(held) => small::enqueue(held, u),
+        }
+    }
+
+    fn dequeue(&mut self, u: UnitId) {
+        match &mut self.held {
+            None => {}
+            Some(held) => small::dequeue(held, u),
+        }
+    }
+
+    fn choose(&mut self, ask: &Ask) -> Choice {
+        match &mut self.held {
+            None => {
+                self.early = ask.at;
+                Choice {
+                    unit: None,
+                    due: None,
+                    reset: 0,
+                }
+            }
+            Some(held) => decide::choose(held, ask),
+        }
+    }
+
+    fn better_waits(
+        &self,
+        cur: Option<UnitId>,
+        since: Moment,
+        t: Moment,
+        core: ResId,
+        home: Cores,
+    ) -> bool {
+        match &self.held {
+            None => false,
+            Some(held) => choice::better_waits(held, cur, since.0, t.0, core.0, home.0),
+        }
+    }
+
+    fn timer_due(&self, t: Moment) -> Option<(Moment, Timer)> {
+        match &self.held {
+            None => None,
+            Some(held) => timers::timer_due(held, t.0),
+        }
+    }
+
+    fn timer(&mut self, which: Timer, t: Moment) -> Event {
+        match which {
+            Timer::Repl(u) => no_event(u.dom),
+            Timer::Refill(d) => match &mut self.held {
+                None => no_event(d),
+                Some(held) => timers::refill(held, d, t.0),
+            },
+        }
+    }
+
+    fn set_params(&mut self, change: &ParamChange, t: Moment) {
+        match &mut self.held {
+            None => {
+                if let ParamChange::Rate { limit } = change {
+                    self.limit = *limit;
+                }
+                self.early = t.0;
+            }
+            Some(held) => params::set_params(held, change, t.0),
+        }
+    }
+
+    fn stored(&self, u: UnitId) -> Stored {
+        match &self.held {
+            None => Stored::Null,
+            Some(held) => small::stored(held, u),
+        }
+    }
+
+    fn rate(&self) -> u32 {
+        match &self.held {
+            None => self.limit,
+            Some(held) => held.records.limit,
+        }
+    }
+
+    fn keeps(&self) {
+        match &self.held {
+            None => {}
+            Some(held) => small::keeps(held),
+        }
+    }
+}

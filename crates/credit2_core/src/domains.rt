@@ -1,0 +1,79 @@
+//! Tables by domain: which domains may run, the sets of cores by unit, and the moments of the refills.
+
+ghost use Rattle.std.specs.Prelude.{◌≡◌, ◌<◌, ◌≤◌, ◌^◌, ◌==◌, ◌&&◌, if◌then◌else◌, ℕ, length, slice_index_or, slice_set};
+ghost use Rattle.sched_base.specs.declared.UnitId.{UnitId as Unit};
+ghost use Rattle.sched_base.specs.CoreSets.{mask_of};
+ghost use Rattle.sched_base.specs.Numbers.{core_set};
+ghost use Rattle.sched_model.specs.Places.{at_place};
+ghost use Rattle.credit2_core.specs.Places.{refill_of, count_at as count_at_spec};
+ghost use Rattle.credit2_core.specs.Domains.{may_run_bit, set_of, masked};
+
+use due_heap::DueHeap;
+use plain_credit2::running::domain_at;
+use sched_base::{Cores, DomId, Masks, Moment, UnitId};
+use sched_model::config::Pins;
+use sched_model::state::Credit2Domain;
+
+/// 1 where the cap lets the domain run, and 0 where it does not or there is no domain.
+fn bit_of(place: &Option<Credit2Domain>) -> u64
+    ensures exact { result ≡ may_run_bit place.now }
+    ensures bit { result ≤ 1 }
+{
+    match place {
+        None => 0,
+        Some(d) => (d.cap == 0 || d.budget > 0) as u64,
+    }
+}
+
+/// The set of the domains that may run, with bit d for the domain d.
+pub fn runnable_domains(domains: &[Option<Credit2Domain>]) -> u64
+    requires { length domains.now ≤ 64 }
+    ensures exact { result ≡ set_of domains.now }
+    ensures below { result < 2 ^ length domains.now }
+{
+    match domains {
+        [] => 0,
+        [place, rest @ ..] => bit_of(place) + 2 * runnable_domains(rest),
+    }
+}
+
+/// Writes the sets of cores of a domain's units into the table.
+pub fn set_masks(masks: &mut Masks, d: DomId, sets: &[Cores])
+    requires { length sets.now ≤ 32 }
+    ensures { (u : Unit) → u.n < 256 → mask_of masks.new u ≡ masked masks.old d.0 sets.now (length sets.now) u }
+{
+    for (n, cores) in sets.iter().enumerate() {
+        let u = UnitId { dom: d, n: n as u8 };
+        masks.set(u, *cores);
+    }
+}
+
+/// The heap has the moment of the domain's refill, or none where it has no refill.
+pub fn rearm(refills: &mut DueHeap, domains: &[Option<Credit2Domain>], d: u8)
+    requires { d < length refills.old }
+    ensures { refills.new ≡ slice_set refills.old d (refill_of (at_place domains.now d)) }
+{
+    let refill = match domain_at(domains, d) {
+        None => None,
+        Some(domain) => domain.refill,
+    };
+    match refill {
+        None => refills.disarm(d as u16),
+        Some(at) => refills.arm(d as u16, Moment(at)),
+    }
+}
+
+/// How many units the domain has.
+pub fn count_at(affinity: &[Option<Pins>], d: u8) -> u8
+    ensures exact { result ≡ count_at_spec affinity.now d }
+    ensures few { result ≤ 32 }
+{
+    let place = d as usize;
+    if place >= affinity.len() {
+        return 0;
+    }
+    match &affinity[place] {
+        None => 0,
+        Some(sets) => sets.len() as u8,
+    }
+}

@@ -1,0 +1,16 @@
+//! Credit2 behind the calls of a scheduler: the run queue finds the unit of greatest credit.
+#![tactic(auto)]
+
+mod choice;
+pub mod credit2;
+mod decide;
+mod domains;
+mod held;
+mod line;
+mod params;
+mod room;
+mod slice;
+mod small;
+mod timers;
+
+pub use credit2::Credit2;

@@ -1,0 +1,133 @@
+//! Domains that join and part, and changes of parameters. Moments are in nanoseconds.
+
+ghost use Rattle.std.specs.Prelude.{◌≡◌, ◌≤◌, ◌<◌, ◌+◌, ◌-◌, length, Some, None, true, ℕ};
+ghost use Rattle.std.specs.Option.{ForSome};
+ghost use Rattle.sched_base.specs.declared.UnitId.{UnitId as Unit};
+ghost use Rattle.sched_base.specs.CoreSets.{mask_of};
+ghost use Rattle.sched_model.specs.declared.config.SchedKind.TheVariants as kinds;
+ghost use Rattle.sched_model.specs.declared.config.DomParams.TheVariants as dom_params;
+ghost use Rattle.sched_model.specs.declared.config.ParamChange.TheVariants as changes;
+ghost use Rattle.sched_model.specs.Places.{at_place};
+ghost use Rattle.sched_model.specs.Policy.{join as join_spec, part as part_spec, set_params as set_params_spec};
+ghost use Rattle.sched_ops.specs.Seen.{Seen, seen_at, units_of};
+ghost use Rattle.sched_ops.specs.Conditions.{IsNow, IsWeight, IsCap, HasNoneBusy, IsChange, has_joined as joined_spec};
+ghost use Rattle.credit2_core.specs.Held.{IsHeld, scheduler_in, seen_in};
+ghost use Rattle.credit2_core.specs.Domains.{refreshed};
+
+use crate::domains::{count_at, rearm, set_masks};
+use crate::held::Held;
+use plain_credit2::credit2;
+use plain_policy::params;
+use plain_policy::places::{copies, set_place};
+use sched_base::{Cores, DomId, Masks};
+use sched_model::config::{ParamChange, Pins};
+
+/// The table of masks has the sets of cores of the domain's units again.
+fn refresh(masks: &mut Masks, affinity: &[Option<Pins>], d: DomId)
+    ensures { (u : Unit) → u.n < 256 → mask_of masks.new u ≡ refreshed masks.old affinity.now d.0 u }
+{
+    let place = d.0 as usize;
+    if place < affinity.len() {
+        if let Some(sets) = &affinity[place] {
+            set_masks(masks, d, sets.as_slice());
+        }
+    }
+}
+
+/// The domain joins at t, with so many units, 1 to 32. Its units may have all cores.
+pub fn join(held: &mut Held, d: DomId, units: u8, weight: u32, cap: u32, t: u64)
+    requires held { IsHeld held.old }
+    requires place { d.0 < length held.old.affinity }
+    requires absent { at_place held.old.affinity d.0 ≡ None }
+    requires few { units ≤ 32 }
+    requires room { units ≤ held.old.spare }
+    requires weight { IsWeight weight }
+    requires cap { IsCap cap }
+    requires now { IsNow (seen_in held.old) t }
+    ensures scheduler { scheduler_in held.new ≡ join_spec d.0 units (dom_params.Credit2 weight cap) t (scheduler_in held.old) }
+    ensures spare { held.new.spare ≡ held.old.spare - units }
+    ensures latest { held.new.latest ≡ t }
+    ensures held { IsHeld held.new }
+{
+    let sets = copies(Cores(u64::MAX), units);
+    set_place(&mut held.affinity, d.0, Some(sets));
+    refresh(&mut held.masks, held.affinity.as_slice(), d);
+    let domain = credit2::fresh_domain(weight, cap, units, t);
+    set_place(&mut held.records.domains, d.0, Some(domain));
+    rearm(&mut held.refills, held.records.domains.as_slice(), d.0);
+    held.spare -= units as usize;
+    held.latest = t;
+}
+
+/// The domain parts. None of its units waits or is on.
+pub fn part(held: &mut Held, d: DomId)
+    requires held { IsHeld held.old }
+    requires joined { joined_spec (scheduler_in held.old) d.0 ≡ true }
+    requires idle { HasNoneBusy (scheduler_in held.old) d.0 }
+    ensures scheduler { scheduler_in held.new ≡ part_spec d.0 (scheduler_in held.old) }
+    ensures spare { held.new.spare ≡ held.old.spare + units_of (scheduler_in held.old) d.0 }
+    ensures latest { held.new.latest ≡ held.old.latest }
+    ensures held { IsHeld held.new }
+{
+    let units = count_at(held.affinity.as_slice(), d.0);
+    set_place(&mut held.affinity, d.0, None);
+    set_place(&mut held.records.domains, d.0, None);
+    rearm(&mut held.refills, held.records.domains.as_slice(), d.0);
+    held.spare += units as usize;
+}
+
+/// The domain's weight and cap change at t, where they are given.
+pub fn set_domain(held: &mut Held, d: DomId, weight: Option<u32>, cap: Option<u32>, t: u64)
+    requires held { IsHeld held.old }
+    requires joined { joined_spec (scheduler_in held.old) d.0 ≡ true }
+    requires weight { ForSome weight IsWeight }
+    requires cap { ForSome cap IsCap }
+    requires now { IsNow (seen_in held.old) t }
+    ensures seen { seen_in held.new ≡ seen_at t (set_params_spec (changes.Dom d weight cap) t (scheduler_in held.old)) (seen_in held.old) }
+    ensures held { IsHeld held.new }
+{
+    credit2::set_domain(t, d.0, weight, cap, &mut held.records);
+    rearm(&mut held.refills, held.records.domains.as_slice(), d.0);
+    held.latest = t;
+}
+
+/// The rate limit, in microseconds, changes at t.
+pub fn set_rate(held: &mut Held, limit: u32, t: u64)
+    requires held { IsHeld held.old }
+    requires limit { limit ≤ 500000 }
+    requires now { IsNow (seen_in held.old) t }
+    ensures seen { seen_in held.new ≡ seen_at t (set_params_spec (changes.Rate limit) t (scheduler_in held.old)) (seen_in held.old) }
+    ensures held { IsHeld held.new }
+{
+    held.records.limit = limit;
+    held.latest = t;
+}
+
+/// The set of cores of one of the domain's units, or of all of them, changes at t.
+pub fn pin(held: &mut Held, d: DomId, unit: Option<u8>, cores: Cores, t: u64)
+    requires held { IsHeld held.old }
+    requires joined { joined_spec (scheduler_in held.old) d.0 ≡ true }
+    requires now { IsNow (seen_in held.old) t }
+    ensures seen { seen_in held.new ≡ seen_at t (set_params_spec (changes.Pin d unit cores) t (scheduler_in held.old)) (seen_in held.old) }
+    ensures held { IsHeld held.new }
+{
+    params::pin(d.0, unit, cores, &mut held.affinity);
+    refresh(&mut held.masks, held.affinity.as_slice(), d);
+    held.latest = t;
+}
+
+/// The parameters change at t.
+pub fn set_params(held: &mut Held, change: &ParamChange, t: u64)
+    requires held { IsHeld held.old }
+    requires now { IsNow (seen_in held.old) t }
+    requires change { IsChange kinds.Credit2 (scheduler_in held.old) change.now }
+    ensures seen { seen_in held.new ≡ seen_at t (set_params_spec change.now t (scheduler_in held.old)) (seen_in held.old) }
+    ensures held { IsHeld held.new }
+{
+    match change {
+        ParamChange::Dom { dom, weight, cap } => set_domain(held, *dom, *weight, *cap, t),
+        ParamChange::Rate { limit } => set_rate(held, *limit, t),
+        ParamChange::Pin { dom, unit, cores } => pin(held, *dom, *unit, *cores, t),
+        _ => {}
+    }
+}

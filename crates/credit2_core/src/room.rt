@@ -1,0 +1,53 @@
+//! The memory for a pool.
+
+ghost use Rattle.std.specs.Prelude.{◌≡◌, ◌≤◌, IfOk, replicate, None};
+ghost use Rattle.sched_model.specs.declared.config.PoolParams.TheVariants as pool_params;
+ghost use Rattle.sched_ops.specs.Seen.{Seen, vacant};
+ghost use Rattle.credit2_core.specs.Held.{IsHeld, seen_in};
+ghost use Rattle.credit2_core.specs.Room.{IsFresh};
+
+use crate::held::Held;
+use due_heap::DueHeap;
+use runq::Runq;
+use sched_base::{Masks, NoMemory};
+use sched_model::row::Row;
+use sched_model::state::Credit2Records;
+use std::alloc::Global;
+
+/// The rate limit of a pool where none is given, in microseconds.
+pub const DEFAULT_LIMIT: u32 = 1000;
+
+/// So many places, all empty.
+#[tactic(auto, using(crate::proofs::Rooms::replicate_one_more))]
+fn empty_places<T: Drop>(alloc: Global, count: usize) -> Result<Row<Option<T>>, NoMemory>
+    ensures { IfOk result (λ row. row ≡ replicate count None) }
+{
+    let mut places = Vec::new(alloc);
+    for i in 0..count {
+        places.push(None)?;
+    }
+    Ok(Row::from_vec(places))
+}
+
+/// The memory for so many domains, at most 64, and so many units, at most 256. No domain has joined. The greatest moment given
+/// is latest.
+pub fn reserve(alloc: Global, domains: u8, units: usize, latest: u64) -> Result<Held, NoMemory>
+    requires domains { domains ≤ 64 }
+    requires units { units ≤ 256 }
+    ensures { IfOk result (IsFresh domains units latest) }
+{
+    let places = domains as usize;
+    Ok(Held {
+        records: Credit2Records {
+            limit: DEFAULT_LIMIT,
+            last_reset: None,
+            domains: empty_places(alloc, places)?,
+        },
+        affinity: empty_places(alloc, places)?,
+        queue: Runq::room(alloc, units)?,
+        masks: Masks::room(alloc)?,
+        refills: DueHeap::room(alloc, places)?,
+        spare: units,
+        latest,
+    })
+}

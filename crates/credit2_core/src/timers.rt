@@ -1,0 +1,104 @@
+//! The refills of capped domains. Moments are in nanoseconds.
+
+ghost use Rattle.std.specs.Prelude.{◌≡◌, ◌≤◌, ◌<◌, ◌+◌, length, true, Some, None};
+ghost use Rattle.sched_model.specs.Places.{numbered};
+ghost use Rattle.sched_ops.specs.declared.timer.Timer.TheVariants as timers;
+ghost use Rattle.sched_ops.specs.Seen.{seen_at};
+ghost use Rattle.sched_ops.specs.Conditions.{IsNow};
+ghost use Rattle.sched_ops.specs.Timers.{timer_at, is_due, timer_event, after_timer, first_due as first_due_spec, refills};
+ghost use Rattle.credit2_core.specs.Held.{IsHeld, scheduler_in, seen_in};
+ghost use Rattle.credit2_core.specs.Timing.{come_at, periods_at as periods_at_spec, budget_at as budget_at_spec};
+
+use crate::domains::rearm;
+use crate::held::Held;
+use plain_credit2::credit2;
+use plain_credit2::domain::periods;
+use plain_credit2::running::domain_at;
+use sched_base::{DomId, Moment};
+use sched_model::event::Event;
+use sched_model::state::{Credit2Domain, Credit2Records};
+use sched_ops::Timer;
+
+/// The moment of the domain's refill, where it has come at t.
+fn come(place: &Option<Credit2Domain>, t: u64) -> Option<u64>
+    ensures { result ≡ come_at t place.now }
+{
+    match place {
+        None => None,
+        Some(d) => match d.refill {
+            None => None,
+            Some(at) => if at <= t { Some(at) } else { None },
+        },
+    }
+}
+
+/// The first refill, by domain, that has come at t. The first of the domains has the number n.
+fn first_due(n: u8, t: u64, domains: &[Option<Credit2Domain>]) -> Option<(Moment, Timer)>
+    requires { n + length domains.now ≤ 64 }
+    ensures { result ≡ first_due_spec t (refills (numbered n domains.now)) }
+{
+    match domains {
+        [] => None,
+        [place, rest @ ..] => match come(place, t) {
+            Some(at) => Some((Moment(at), Timer::Refill(DomId(n)))),
+            None => first_due(n + 1, t, rest),
+        },
+    }
+}
+
+/// The first refill, by domain, that has come at t; where there is none, the one of the least moment.
+pub fn timer_due(held: &Held, t: u64) -> Option<(Moment, Timer)>
+    requires { IsHeld held.now }
+    ensures { result ≡ timer_at t (scheduler_in held.now) }
+{
+    match held.refills.least() {
+        None => None,
+        Some((at, d)) => {
+            if at.0 > t {
+                Some((at, Timer::Refill(DomId(d as u8))))
+            } else {
+                first_due(0, t, held.records.domains.as_slice())
+            }
+        }
+    }
+}
+
+/// How many of the domain's periods have come at t since its refill was due.
+fn periods_at(records: &Credit2Records, d: u8, t: u64) -> u64
+    ensures { result ≡ periods_at_spec records.now d t }
+{
+    match domain_at(records.domains.as_slice(), d) {
+        None => 0,
+        Some(domain) => periods(domain, t),
+    }
+}
+
+/// The budget that is left to the domain.
+fn budget_at(records: &Credit2Records, d: u8) -> i64
+    ensures { result ≡ budget_at_spec records.now d }
+{
+    match domain_at(records.domains.as_slice(), d) {
+        None => 0,
+        Some(domain) => domain.budget,
+    }
+}
+
+/// The domain's refill, which has come at t: its budget is filled, and the next refill is armed.
+pub fn refill(held: &mut Held, d: DomId, t: u64) -> Event
+    requires held { IsHeld held.old }
+    requires now { IsNow (seen_in held.old) t }
+    requires due { is_due t (scheduler_in held.old) (timers.Refill d) ≡ true }
+    ensures event { result ≡ timer_event t (scheduler_in held.old) (timers.Refill d) }
+    ensures after { seen_in held.new ≡ seen_at t (after_timer t (scheduler_in held.old) (timers.Refill d)) (seen_in held.old) }
+    ensures held { IsHeld held.new }
+{
+    let periods = periods_at(&held.records, d.0, t);
+    credit2::refill(t, d.0, &mut held.records);
+    rearm(&mut held.refills, held.records.domains.as_slice(), d.0);
+    held.latest = t;
+    Event::Refill {
+        d,
+        periods,
+        budget: budget_at(&held.records, d.0),
+    }
+}
