@@ -1,11 +1,12 @@
 //! The domains of one pool, and their vCPUs.
 
-ghost use Rattle.std.specs.Prelude.{◌≡◌, ◌<◌, ◌≤◌, ◌+◌, IfOk, None, Some, length, replicate};
+ghost use Rattle.std.specs.Prelude.{◌≡◌, true, is_some, IfOk, None, Some, replicate};
 ghost use Rattle.std.specs.Option.{option_copied};
-ghost use Rattle.sched_model.specs.Places.{at_place};
+ghost use Rattle.sched_model.specs.declared.state.Domain.{Domain as DomainRecord};
+ghost use Rattle.sched_model.specs.Places.{at_place, change_at, clear_at};
 
 use crate::part::DomPart;
-use crate::sleepers::{IDS, rearm, rearm_domain, wake_moment};
+use crate::sleepers::{IDS, rearm, rearm_domain, vcpu_with, wake_moment};
 use due_heap::DueHeap;
 use plain_pool::domains::unit_count;
 use plain_pool::runnable::is_runnable;
@@ -46,7 +47,7 @@ fn empty_places(alloc: Global, places: u8) -> Result<Row<Option<Domain>>, NoMemo
     ensures { IfOk result (λ row. row ≡ replicate places None) }
 {
     let mut row = Row::from_vec(Vec::new(alloc));
-    for _n in 0..places {
+    for n in 0..places {
         row.push(None)?;
     }
     Ok(row)
@@ -64,8 +65,44 @@ fn domain_of(domains: &[Option<Domain>], d: DomId) -> Option<&Domain>
     }
 }
 
+/// The domain is paused, or no longer.
+fn pause_at(domains: &mut Row<Option<Domain>>, d: DomId, yes: bool)
+    ensures { domains.new ≡ change_at d.0 (λ (x : DomainRecord). record x { paused = yes }) domains.old }
+{
+    let place = d.0 as usize;
+    if place < domains.len() {
+        if let Some(domain) = domains.item_mut(place) {
+            domain.paused = yes;
+        }
+    }
+}
+
+/// The domain is moving to a pool, or no longer.
+fn aim_at(domains: &mut Row<Option<Domain>>, d: DomId, to: Option<PoolId>)
+    ensures { domains.new ≡ change_at d.0 (λ (x : DomainRecord). record x { moving = to }) domains.old }
+{
+    let place = d.0 as usize;
+    if place < domains.len() {
+        if let Some(domain) = domains.item_mut(place) {
+            domain.moving = to;
+        }
+    }
+}
+
+/// The domain, which is there, is taken out of its place.
+fn take_out(domains: &mut Row<Option<Domain>>, d: DomId) -> Domain
+    requires { is_some (at_place domains.old d.0) ≡ true }
+    ensures domain { at_place domains.old d.0 ≡ Some result }
+    ensures domains { domains.new ≡ clear_at d.0 domains.old }
+{
+    match domains.replace(d.0 as usize, None) {
+        Some(domain) => domain,
+        None => unreachable!(),
+    }
+}
+
 impl Guests {
-    ghost use Rattle.std.specs.Prelude.{◌≡◌, ◌≤◌, ◌<◌, ◌+◌, ◌-◌, false, true, IfOk, IfSome, IfNone, length, None, Some};
+    ghost use Rattle.std.specs.Prelude.{◌≡◌, ◌≤◌, ◌<◌, ◌+◌, ◌-◌, false, true, is_some, IfOk, IfSome, IfNone, length, None, Some};
     ghost use Rattle.std.specs.Option.{ForSome};
     ghost use Rattle.sched_base.specs.Numbers.{moment};
     ghost use Rattle.sched_base.specs.declared.VcpuId.{VcpuId};
@@ -155,5 +192,135 @@ impl Guests {
         sleep_vcpu(&mut self.domains, v, t.0);
         rearm(&mut self.sleepers, self.domains.as_slice(), v);
         self.latest = t;
+    }
+
+    /// A domain is paused, or no longer. Where it is not there, nothing changes.
+    pub fn set_paused(&mut self, d: DomId, yes: bool)
+        ensures { self.new ≡ record self.old { domains = change_at d.0 (λ (x : DomainRecord). record x { paused = yes }) self.old.domains } }
+    {
+        pause_at(&mut self.domains, d, yes);
+    }
+
+    /// A domain is moving to a pool, or no longer. Where it is not there, nothing changes.
+    pub fn set_moving(&mut self, d: DomId, to: Option<PoolId>)
+        ensures { self.new ≡ record self.old { domains = change_at d.0 (λ (x : DomainRecord). record x { moving = to }) self.old.domains } }
+    {
+        aim_at(&mut self.domains, d, to);
+    }
+
+    /// A domain goes out, and its units leave their room. None of its vCPUs is started.
+    pub fn take(&mut self, d: DomId) -> DomPart
+        requires here { is_some (at_place self.old.domains d.0) ≡ true }
+        requires still { ForSome (at_place self.old.domains d.0) IsStill }
+        ensures number { result.d ≡ d }
+        ensures granularity { result.granularity ≡ self.old.granularity }
+        ensures domain { at_place self.old.domains d.0 ≡ Some result.domain }
+        ensures part { IsPart result }
+        ensures after { self.new ≡ record self.old { domains = clear_at d.0 self.old.domains; spare = self.old.spare + unit_count_spec result.granularity result.domain } }
+    {
+        let granularity = self.granularity;
+        let domain = take_out(&mut self.domains, d);
+        self.spare += unit_count(granularity, &domain) as usize;
+        rearm_domain(&mut self.sleepers, self.domains.as_slice(), d);
+        DomPart {
+            d,
+            granularity,
+            domain,
+        }
+    }
+
+    /// Whether some vCPU of the unit is awake, and its domain is here and neither paused nor moving.
+    pub fn runnable(&self, u: UnitId) -> bool
+        ensures { result ≡ runnable_among self.now.granularity self.now.domains u }
+    {
+        is_runnable(self.granularity, self.domains.as_slice(), u)
+    }
+
+    /// Whether the vCPU is here and awake.
+    pub fn awake(&self, v: VcpuId) -> bool
+        ensures { result ≡ is_awake_among self.now.domains v }
+    {
+        match vcpu_of(self.domains.as_slice(), v) {
+            Some(x) => x.asleep_until.is_none(),
+            None => false,
+        }
+    }
+
+    /// The moment at which the vCPU's work is done. `None` where it is not started, its work has no end, or it is not here.
+    pub fn done_at(&self, v: VcpuId) -> Option<Moment>
+        ensures { result ≡ done_among self.now.domains v }
+    {
+        match vcpu_of(self.domains.as_slice(), v) {
+            Some(x) => done_at(x),
+            None => None,
+        }
+    }
+
+    /// The moment at which the vCPU wakes. `None` where it is awake or not here.
+    pub fn wakes_at(&self, v: VcpuId) -> Option<Moment>
+        ensures { result ≡ wake_among self.now.domains v }
+    {
+        wake_moment(self.domains.as_slice(), v)
+    }
+
+    /// How many units the domain has, at most 32, and 0 where it is not here.
+    pub fn unit_count(&self, d: DomId) -> u8
+        ensures { result ≡ units_at self.now.granularity (at_place self.now.domains d.0) }
+    {
+        match domain_of(self.domains.as_slice(), d) {
+            Some(domain) => unit_count(self.granularity, domain),
+            None => 0,
+        }
+    }
+
+    /// Whether the domain is here and paused.
+    pub fn is_paused(&self, d: DomId) -> bool
+        ensures { result ≡ is_paused_among self.now.domains d.0 }
+    {
+        match domain_of(self.domains.as_slice(), d) {
+            Some(domain) => domain.paused,
+            None => false,
+        }
+    }
+
+    /// The pool to which the domain is moving. `None` where it is not moving or not here.
+    pub fn moving(&self, d: DomId) -> Option<PoolId>
+        ensures { result ≡ target_among self.now.domains d.0 }
+    {
+        match domain_of(self.domains.as_slice(), d) {
+            Some(domain) => domain.moving,
+            None => None,
+        }
+    }
+
+    /// The first vCPU, by domain, then by index, that sleeps and whose wake moment has come at t.
+    pub fn first_wake(&self, t: Moment) -> Option<VcpuId>
+        ensures none { IfNone result ((v : VcpuId) → is_due_among t.0 self.now.domains v ≡ false) }
+        ensures due { IfSome result (λ v. is_due_among t.0 self.now.domains v ≡ true) }
+        ensures first { IfSome result (λ v. (w : VcpuId) → is_due_among t.0 self.now.domains w ≡ true → IsNotAfter v w) }
+    {
+        match self.sleepers.first_due(t) {
+            Some(id) => Some(vcpu_with(id)),
+            None => None,
+        }
+    }
+
+    /// The least moment at which a vCPU wakes. `None` where none sleeps.
+    pub fn next_wake(&self) -> Option<Moment>
+        ensures none { IfNone result ((v : VcpuId) → wake_among self.now.domains v ≡ None) }
+        ensures some { IfSome result (λ at. (v : VcpuId) × (wake_among self.now.domains v ≡ Some at)) }
+        ensures least { IfSome result (λ at. (v : VcpuId) (other : Moment) → wake_among self.now.domains v ≡ Some other → at.0 ≤ other.0) }
+    {
+        match self.sleepers.least() {
+            Some((at, _)) => Some(at),
+            None => None,
+        }
+    }
+
+    /// Does nothing, and tells what the guests keep: the ranges of all numbers.
+    pub fn keeps(&self)
+        ensures { KeepsGuests self.now }
+    {
+        let _ = &self.granularity;
     }
 }

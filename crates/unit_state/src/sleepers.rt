@@ -1,6 +1,6 @@
 //! The heap of the vCPUs that sleep.
 
-ghost use Rattle.std.specs.Prelude.{◌≡◌, ◌≢◌, ◌+◌, ◌*◌, ◌<◌, ℕ, length, slice_set};
+ghost use Rattle.std.specs.Prelude.{◌≡◌, ◌≢◌, ◌+◌, ◌*◌, ◌/◌, ◌%◌, ◌<◌, ℕ, length, slice_set};
 ghost use Rattle.due_heap.specs.Dues.{due_of};
 ghost use Rattle.unit_state.specs.Seen.{wake_among};
 ghost use Rattle.unit_state.specs.Kept.{vcpu_id};
@@ -18,6 +18,17 @@ pub fn id_of(v: VcpuId) -> u16
     ensures { result ≡ v.dom.0 * 32 + v.n }
 {
     v.dom.0 as u16 * 32 + v.n as u16
+}
+
+/// The vCPU with this id.
+pub fn vcpu_with(id: u16) -> VcpuId
+    requires { id < 2048 }
+    ensures { result ≡ vcpu_id (id / 32) (id % 32) }
+{
+    VcpuId {
+        dom: DomId((id / 32) as u8),
+        n: (id % 32) as u8,
+    }
 }
 
 /// The moment at which the vCPU wakes, where it is there and sleeps.
