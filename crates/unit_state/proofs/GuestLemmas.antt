@@ -1,6 +1,6 @@
 -- What the guests of a pool keep: after a change of one vCPU, or of one domain, and as time passes.
 use Rattle.std.proofs.Common.{◌≡◌, ◌≢◌, ◌≤◌, ◌<◌, ◌+◌, ◌-◌, ◌*◌, ◌/◌, ◌%◌, ◌⊎◌, ℕ, zero, suc, Bool, true, false, List, [], ◌∷◌, ◌∙◌, refl, sym, ap, subst, arith, length, inl, inr}
-use Rattle.std.specs.Prelude.{Option, Some, None, option_map, is_none, slice_get, nat_le, replicate}
+use Rattle.std.specs.Prelude.{Option, Some, None, option_map, is_none, is_some, slice_get, nat_le, replicate}
 use Rattle.std.specs.List.{All, AllByRecursion}
 use Rattle.std.proofs.lemmas.Bool.Decides.{nat_tests}
 use Rattle.sched_base.specs.Numbers.{moment, span}
@@ -12,10 +12,12 @@ use Rattle.sched_model.specs.declared.state.Domain.{Domain}
 use Rattle.sched_model.specs.Checked.{IsCheckedScript, IsGranularity, most_span}
 use Rattle.sched_model.specs.Places.{at_place, put_at, clear_at, change_at, change_item}
 use Rattle.sched_model.specs.State.{has_come}
+use Rattle.sched_model.specs.Opening.{fresh_vcpu}
 use Rattle.sched_model.specs.Pool.{woken, put_to_sleep, stopped, done_at, unit_count}
 use Rattle.sched_laws.specs.Each.{EachAt, EachPlace}
 use Rattle.sched_laws.proofs.EachPlace.{EachAt-change_to, EachPlace-change_at, EachPlace-put_at, EachPlace-clear_at, EachPlace-empty, place_below, length_set}
-use Rattle.sched_ranges.proofs.Vcpus.{VcpuFits as VcpuStands, get_inside, vcpu_woken, vcpu_slept, vcpu_stopped, vcpu_started}
+use Rattle.sched_laws.proofs.Lists.{some_is}
+use Rattle.sched_ranges.proofs.Vcpus.{VcpuFits as VcpuStands, get_inside, vcpu_fresh, vcpu_woken, vcpu_slept, vcpu_stopped, vcpu_started}
 use Rattle.plain_pool.specs.Fits.{AllPlaces, DomainFits, VcpuFits, vcpu_among}
 use Rattle.unit_state.specs.Seen.{Seen, IsNow, vacant, change_among, start_among, done_among, wake_among, is_awake_among, is_due_among}
 use Rattle.unit_state.specs.Parts.{IsGuest, HasGuests, IsStill, IsRunPlace, IsSleepPlace}
@@ -86,6 +88,10 @@ started_if_done t x done = by_started x.started refl done
     by_started None is e = absurd (cc)
     by_started (Some from) is e = (from, is)
 
+-- a vCPU at the opening
+pub guest_fresh : (script : List Span) → IsCheckedScript script → IsGuest 0 (fresh_vcpu script)
+guest_fresh script checked = guest_stands 0 0 script (fresh_vcpu script) (omega arith) checked (λ from e. absurd (cc)) (vcpu_fresh script checked)
+
 guest_woken : (t : ℕ) (x : Vcpu) → t ≤ most_span → has_come t x.asleep_until ≡ true → IsGuest t x → IsGuest t (woken x)
 guest_woken t x early come guest =
     let there = come_there t x.asleep_until come in
@@ -101,9 +107,9 @@ guest_slept t x early done guest =
     (λ from e. absurd (cc))
     (vcpu_slept t x.script x guest.script done (awake_stands t x (awake_if_started t x from.0 from.1 guest) guest))
 
-guest_stopped : (t : ℕ) (x : Vcpu) → t ≤ most_span → has_come t x.started ≡ true → IsGuest t x → IsGuest t (stopped t x)
-guest_stopped t x early come guest =
-    let from = come_there t x.started come in
+guest_stopped : (t : ℕ) (x : Vcpu) → t ≤ most_span → is_some x.started ≡ true → IsGuest t x → IsGuest t (stopped t x)
+guest_stopped t x early some guest =
+    let from = some_is x.started some in
     let stands = vcpu_stopped t x.script x (awake_stands t x (awake_if_started t x from.0 from.1 guest) guest) in
     guest_stands t t x.script (stopped t x) early guest.script stands.started stands
 
@@ -183,8 +189,8 @@ keeps_woken seen t v now due = keeps_changed seen t v woken now (λ x there gues
 pub keeps_slept : (seen : Seen) (t : ℕ) (v : VcpuId) → IsNow seen t → has_come t (done_among seen.domains v) ≡ true → KeepsGuests seen → KeepsGuests (record seen { domains = change_among v (put_to_sleep t) seen.domains; latest = t })
 keeps_slept seen t v now done = keeps_changed seen t v (put_to_sleep t) now (λ x there guest. guest_slept t x now.early (subst (λ (o : Option Moment). has_come t o ≡ true) (among_some done_at (vcpu_among seen.domains v) x there) done) guest)
 
-pub keeps_stopped : (seen : Seen) (t : ℕ) (v : VcpuId) → IsNow seen t → has_come t (start_among seen.domains v) ≡ true → KeepsGuests seen → KeepsGuests (record seen { domains = change_among v (stopped t) seen.domains; latest = t })
-keeps_stopped seen t v now started = keeps_changed seen t v (stopped t) now (λ x there guest. guest_stopped t x now.early (subst (λ (o : Option Moment). has_come t o ≡ true) (among_some (λ (y : Vcpu). y.started) (vcpu_among seen.domains v) x there) started) guest)
+pub keeps_stopped : (seen : Seen) (t : ℕ) (v : VcpuId) → IsNow seen t → is_some (start_among seen.domains v) ≡ true → KeepsGuests seen → KeepsGuests (record seen { domains = change_among v (stopped t) seen.domains; latest = t })
+keeps_stopped seen t v now started = keeps_changed seen t v (stopped t) now (λ x there guest. guest_stopped t x now.early (subst (λ (o : Option Moment). is_some o ≡ true) (among_some (λ (y : Vcpu). y.started) (vcpu_among seen.domains v) x there) started) guest)
 
 -- a vCPU that is awake does not sleep
 sleeps_not : (domains : List (Option Domain)) (v : VcpuId) (x : Vcpu) → vcpu_among domains v ≡ Some x → is_awake_among domains v ≡ true → x.asleep_until ≡ None

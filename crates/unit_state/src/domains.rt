@@ -176,7 +176,7 @@ impl Guests {
     /// A vCPU that is started is stopped: the work left to it falls by the span since it was started, and not below 0.
     pub fn stop(&mut self, v: VcpuId, t: Moment)
         requires now { IsNow self.old t.0 }
-        requires started { has_come t.0 (start_among self.old.domains v) ≡ true }
+        requires started { is_some (start_among self.old.domains v) ≡ true }
         ensures { self.new ≡ record self.old { domains = change_among v (stopped t.0) self.old.domains; latest = t.0 } }
     {
         stop_vcpu(&mut self.domains, v, t.0);
@@ -263,6 +263,16 @@ impl Guests {
         wake_moment(self.domains.as_slice(), v)
     }
 
+    /// The moment from which the vCPU's work is counted. `None` where it is not started or not here.
+    pub fn started_at(&self, v: VcpuId) -> Option<Moment>
+        ensures { result ≡ start_among self.now.domains v }
+    {
+        match vcpu_of(self.domains.as_slice(), v) {
+            Some(x) => x.started,
+            None => None,
+        }
+    }
+
     /// How many units the domain has, at most 32, and 0 where it is not here.
     pub fn unit_count(&self, d: DomId) -> u8
         ensures { result ≡ units_at self.now.granularity (at_place self.now.domains d.0) }
@@ -315,6 +325,13 @@ impl Guests {
             Some((at, _)) => Some(at),
             None => None,
         }
+    }
+
+    /// The greatest moment that was given, 0 at first.
+    pub fn latest(&self) -> Moment
+        ensures { result.0 ≡ self.now.latest }
+    {
+        self.latest
     }
 
     /// Does nothing, and tells what the guests keep: the ranges of all numbers.
