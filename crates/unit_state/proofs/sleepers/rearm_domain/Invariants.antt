@@ -1,0 +1,12 @@
+use Rattle.std.proofs.Common.{◌≡◌, ◌≢◌, ◌+◌, ◌*◌, ◌<◌, ℕ, length}
+use Rattle.due_heap.specs.Dues.{due_of}
+use Rattle.unit_state.specs.Seen.{wake_among}
+use Rattle.unit_state.specs.Kept.{vcpu_id}
+use Rattle.unit_state.proofs.sleepers.rearm_domain.Given as goal
+
+abbrev pub invariant-loop-n : goal.invariant-loop-n
+invariant-loop-n l = record {
+  ids : length l.sleepers ≡ 2048;
+  own : (k : ℕ) → k < l.n → due_of l.sleepers (l.d.0 * 32 + k) ≡ wake_among l.domains (vcpu_id l.d.0 k);
+  others : (e k : ℕ) → e ≢ l.d.0 → k < 32 → due_of l.sleepers (e * 32 + k) ≡ due_of l.initial.sleepers (e * 32 + k);
+}

@@ -1,0 +1,4 @@
+pub mod Examples
+pub mod Kept
+pub mod Parts
+pub mod Seen
