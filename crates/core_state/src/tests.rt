@@ -1,0 +1,1 @@
+//! Cores by hand.
