@@ -1,10 +1,10 @@
 -- What a change of one core makes of what a pool's cores keep.
 use Rattle.std.proofs.Common.{◌≡◌, ◌≢◌, ◌≤◌, ◌<◌, ◌+◌, ◌*◌, ◌/◌, ◌%◌, ◌^◌, ◌⊎◌, ℕ, zero, suc, List, [], ◌∷◌, ◌∙◌, refl, sym, ap, subst, arith, length, inl, inr}
-use Rattle.std.specs.Prelude.{Bool, not, true, false, Option, Some, None, option_map, slice_set, if◌then◌else◌}
+use Rattle.std.specs.Prelude.{Bool, not, true, false, Option, Some, None, option_map, replicate, slice_set, if◌then◌else◌}
 use Rattle.std.specs.List.{list_any}
 use Rattle.std.proofs.Math.Decide.{ℕ_discrete}
 use Rattle.std.proofs.lemmas.Bool.{cases_lt}
-use Rattle.std.proofs.lemmas.List.{get_or-set_same, get_or-set_other, get_or_past, length-set}
+use Rattle.std.proofs.lemmas.List.{get_or-set_same, get_or-set_other, get_or_past, length-set, length-replicate}
 use Rattle.sched_base.specs.Numbers.{moment}
 use Rattle.sched_base.specs.declared.Moment.{Moment}
 use Rattle.sched_base.specs.declared.UnitId.{UnitId}
@@ -18,12 +18,13 @@ use Rattle.sched_model.specs.Pool.{cores_from, is_held, open_if_left, same_choic
 use Rattle.sched_model.proofs.PlaceLemmas.{at_place-change_at_other}
 use Rattle.plain_credit2.proofs.Items.{at_place-change_at}
 use Rattle.sched_laws.specs.Each.{EachPlace}
+use Rattle.due_heap.specs.Dues.{due_of}
 use Rattle.pool_laws.specs.Ready.{later, end_of, end_where, slice_end, may_move, gathers}
 use Rattle.core_state.specs.declared.heaps.Heaps.{Heaps}
 use Rattle.core_state.specs.Seen.{Seen, chosen, processor_among, with_sibling, without_works}
 use Rattle.core_state.specs.Ends.{may_decide, may_save, parts, ready_among}
-use Rattle.core_state.specs.Kept.{AreArmed, AreArmedBut, IsKept, KeepsCores}
-use Rattle.core_state.proofs.Arming.{but, other_core, sibling_same, processor_same}
+use Rattle.core_state.specs.Kept.{AgreesBut, AreArmed, AreArmedBut, AreEmpty, IsKept, KeepsCores}
+use Rattle.core_state.proofs.Arming.{block_past, but, other_core, processor_same, sibling_past, sibling_same}
 
 -- what is seen of these cores and works
 abbrev pub seen_of : ℕ → List (Option Resource) → List (Option Moment) → Seen
@@ -229,3 +230,145 @@ chosen_keeps t unit due c =
 
 pub open_sibling_keeps : (i : ℕ) (f : Processor → Processor) → KeepsSiblings (λ c. open_if_left (with_sibling i f c))
 open_sibling_keeps i f c = open_keeps (with_sibling i f c) ∙ sibling_keeps i f c
+
+-- what the function that arms a core asks, and what is kept after it, where the cores and works in hand are those of a change
+pub places_after : (g r : ℕ) (cores next now : List (Option Resource)) (works after : List (Option Moment)) → IsChange g r cores next works after → now ≡ next → length cores * g ≤ 64 → length now * g ≤ 64
+places_after g r cores next now works after change is few = subst (λ (n : ℕ). n * g ≤ 64) (sym (ap length is ∙ change.places)) few
+
+pub others_after : (g r home : ℕ) (first : Option ℕ) (cores next now : List (Option Resource)) (works after so : List (Option Moment)) (heaps : Heaps)
+    → IsKept (seen_of g cores works) home first heaps → IsChange g r cores next works after → now ≡ next → so ≡ after
+    → AreArmedBut r (r + 1) (r * g) (r * g + g) (seen_of g now so) heaps
+others_after g r home first cores next now works after so heaps kept change is is_so =
+    subst (λ (xs : List (Option Resource)). AreArmedBut r (r + 1) (r * g) (r * g + g) (seen_of g xs so) heaps) (sym is)
+    (subst (λ (ws : List (Option Moment)). AreArmedBut r (r + 1) (r * g) (r * g + g) (seen_of g next ws) heaps) (sym is_so)
+    (armed_but g r cores next works after heaps kept.cores.granularity change kept.armed))
+
+armed_is : (g : ℕ) (now next : List (Option Resource)) (so after : List (Option Moment)) (heaps : Heaps) → now ≡ next → so ≡ after → AreArmed (seen_of g now so) heaps → AreArmed (seen_of g next after) heaps
+armed_is g now next so after heaps is is_so armed =
+    subst (λ (xs : List (Option Resource)). AreArmed (seen_of g xs after) heaps) is (subst (λ (ws : List (Option Moment)). AreArmed (seen_of g now ws) heaps) is_so armed)
+
+kept_is : (g home : ℕ) (first : Option ℕ) (now next : List (Option Resource)) (so after : List (Option Moment)) (heaps : Heaps) → now ≡ next → so ≡ after → IsKept (seen_of g next after) home first heaps → IsKept (seen_of g now so) home first heaps
+kept_is g home first now next so after heaps is is_so kept =
+    subst (λ (xs : List (Option Resource)). IsKept (seen_of g xs so) home first heaps) (sym is) (subst (λ (ws : List (Option Moment)). IsKept (seen_of g next ws) home first heaps) (sym is_so) kept)
+
+-- a core that is there changes
+pub core_places : (g r home : ℕ) (first : Option ℕ) (cores now : List (Option Resource)) (works : List (Option Moment)) (heaps : Heaps) (f : Resource → Resource)
+    → KeepsSiblings f → IsKept (seen_of g cores works) home first heaps → now ≡ change_at r f cores → length now * g ≤ 64
+core_places g r home first cores now works heaps f keeps kept is = places_after g r cores (change_at r f cores) now works works (core_change g r f cores works keeps kept.cores.cores) is kept.cores.places
+
+pub core_others : (g r home : ℕ) (first : Option ℕ) (cores now : List (Option Resource)) (works so : List (Option Moment)) (heaps : Heaps) (f : Resource → Resource)
+    → KeepsSiblings f → IsKept (seen_of g cores works) home first heaps → now ≡ change_at r f cores → so ≡ works
+    → AreArmedBut r (r + 1) (r * g) (r * g + g) (seen_of g now so) heaps
+core_others g r home first cores now works so heaps f keeps kept is is_so =
+    others_after g r home first cores (change_at r f cores) now works works so heaps kept (core_change g r f cores works keeps kept.cores.cores) is is_so
+
+pub core_kept : (g r home : ℕ) (first : Option ℕ) (cores now read : List (Option Resource)) (works so : List (Option Moment)) (heaps heaps' : Heaps) (f : Resource → Resource)
+    → KeepsSiblings f → IsKept (seen_of g cores works) home first heaps → now ≡ change_at r f cores → read ≡ now → so ≡ works → AreArmed (seen_of g read so) heaps'
+    → IsKept (seen_of g now works) home first heaps'
+core_kept g r home first cores now read works so heaps heaps' f keeps kept is is_read is_so armed =
+    kept_is g home first now (change_at r f cores) works works heaps' is refl
+    (kept_changed g r r home f first cores works works heaps heaps' kept (core_change g r f cores works keeps kept.cores.cores)
+    (armed_is g read (change_at r f cores) so works heaps' (is_read ∙ is) is_so armed))
+
+-- the core of a processor changes, and its work
+pub worked_places : (g p home : ℕ) (first : Option ℕ) (cores now : List (Option Resource)) (works : List (Option Moment)) (work : Option Moment) (heaps : Heaps) (f : Resource → Resource)
+    → KeepsSiblings f → IsKept (seen_of g cores works) home first heaps → now ≡ change_at (p / g) f cores → length now * g ≤ 64
+worked_places g p home first cores now works work heaps f keeps kept is =
+    places_after g (p / g) cores (change_at (p / g) f cores) now works (slice_set works p work) (worked_change g p work f cores works keeps kept.cores.cores) is kept.cores.places
+
+pub worked_others : (g p home : ℕ) (first : Option ℕ) (cores now : List (Option Resource)) (works so : List (Option Moment)) (work : Option Moment) (heaps : Heaps) (f : Resource → Resource)
+    → KeepsSiblings f → IsKept (seen_of g cores works) home first heaps → now ≡ change_at (p / g) f cores → so ≡ slice_set works p work
+    → AreArmedBut (p / g) (p / g + 1) (p / g * g) (p / g * g + g) (seen_of g now so) heaps
+worked_others g p home first cores now works so work heaps f keeps kept is is_so =
+    others_after g (p / g) home first cores (change_at (p / g) f cores) now works (slice_set works p work) so heaps kept (worked_change g p work f cores works keeps kept.cores.cores) is is_so
+
+pub worked_kept : (g p home : ℕ) (first : Option ℕ) (cores now read : List (Option Resource)) (works after so : List (Option Moment)) (work : Option Moment) (heaps heaps' : Heaps) (f : Resource → Resource)
+    → KeepsSiblings f → IsKept (seen_of g cores works) home first heaps → now ≡ change_at (p / g) f cores → after ≡ slice_set works p work → read ≡ now → so ≡ after → AreArmed (seen_of g read so) heaps'
+    → IsKept (seen_of g now after) home first heaps'
+worked_kept g p home first cores now read works after so work heaps heaps' f keeps kept is is_after is_read is_so armed =
+    kept_is g home first now (change_at (p / g) f cores) after (slice_set works p work) heaps' is is_after
+    (kept_changed g (p / g) (p / g) home f first cores works (slice_set works p work) heaps heaps' kept (worked_change g p work f cores works keeps kept.cores.cores)
+    (armed_is g read (change_at (p / g) f cores) so (slice_set works p work) heaps' (is_read ∙ is) (is_so ∙ is_after) armed))
+
+-- a core comes in or goes out
+pub placed_places : (g r home : ℕ) (first : Option ℕ) (cores now : List (Option Resource)) (works : List (Option Moment)) (heaps : Heaps) (x : Option Resource)
+    → ((c : Resource) → x ≡ Some c → length c.processors ≡ g) → IsKept (seen_of g cores works) home first heaps → now ≡ slice_set cores r x → length now * g ≤ 64
+placed_places g r home first cores now works heaps x has kept is =
+    places_after g r cores (slice_set cores r x) now works (without_works (r * g) g works) (placed_change g r x cores works kept.cores.granularity has) is kept.cores.places
+
+pub placed_others : (g r home : ℕ) (first : Option ℕ) (cores now : List (Option Resource)) (works so : List (Option Moment)) (heaps : Heaps) (x : Option Resource)
+    → ((c : Resource) → x ≡ Some c → length c.processors ≡ g) → IsKept (seen_of g cores works) home first heaps → now ≡ slice_set cores r x → so ≡ without_works (r * g) g works
+    → AreArmedBut r (r + 1) (r * g) (r * g + g) (seen_of g now so) heaps
+placed_others g r home first cores now works so heaps x has kept is is_so =
+    others_after g r home first cores (slice_set cores r x) now works (without_works (r * g) g works) so heaps kept (placed_change g r x cores works kept.cores.granularity has) is is_so
+
+pub placed_kept : (g r home home' : ℕ) (first first' : Option ℕ) (cores now read : List (Option Resource)) (works after so : List (Option Moment)) (heaps heaps' : Heaps) (x : Option Resource)
+    → ((c : Resource) → x ≡ Some c → length c.processors ≡ g) → IsKept (seen_of g cores works) home first heaps → now ≡ slice_set cores r x → after ≡ without_works (r * g) g works
+    → home' ≡ cores_from 0 now → first' ≡ first_place 0 (λ (c : Resource). true) now → read ≡ now → so ≡ after → AreArmed (seen_of g read so) heaps'
+    → IsKept (seen_of g now after) home' first' heaps'
+placed_kept g r home home' first first' cores now read works after so heaps heaps' x has kept is is_after is_home is_first is_read is_so armed =
+    kept_is g home' first' now (slice_set cores r x) after (without_works (r * g) g works) heaps' is is_after
+    (kept_after g r home home' first first' cores (slice_set cores r x) works (without_works (r * g) g works) heaps heaps' kept (placed_change g r x cores works kept.cores.granularity has)
+    (is_home ∙ ap (cores_from 0) is) (is_first ∙ ap (first_place 0 (λ (c : Resource). true)) is)
+    (armed_is g read (slice_set cores r x) so (without_works (r * g) g works) heaps' (is_read ∙ is) (is_so ∙ is_after) armed))
+
+pub some_has : (g : ℕ) (core : Resource) → length core.processors ≡ g → (c : Resource) → Some core ≡ Some c → length c.processors ≡ g
+some_has g core has c is = let same : core ≡ c = cc in ap (λ (x : Resource). length x.processors) (sym same) ∙ has
+
+pub none_has : (g : ℕ) (c : Resource) → None ≡ Some c → length c.processors ≡ g
+none_has g c is = absurd (cc)
+
+-- what is seen after it
+pub seen_is : (g : ℕ) (now next : List (Option Resource)) (so after : List (Option Moment)) → now ≡ next → so ≡ after → seen_of g now so ≡ seen_of g next after
+seen_is g now next so after is is_so = ap (λ (xs : List (Option Resource)). seen_of g xs so) is ∙ ap (λ (ws : List (Option Moment)). seen_of g next ws) is_so
+
+pub some_siblings : (g : ℕ) → IsGranularity g → 0 < g
+some_siblings g (inl e) = omega (arith, e)
+some_siblings g (inr (inl e)) = omega (arith, e)
+some_siblings g (inr (inr e)) = omega (arith, e)
+
+-- nothing is there at first
+none_there : {X : Type 0} (n i : ℕ) → at_place {X = X} (replicate n None) i ≡ None
+none_there zero i = refl
+none_there (suc n) zero = refl
+none_there (suc n) (suc i) = none_there n i
+
+no_cores : (r n : ℕ) → cores_from r (replicate n None) ≡ 0
+no_cores r zero = refl
+no_cores r (suc n) = let rest = no_cores (suc r) n in omega (arith, rest)
+
+no_first : (r n : ℕ) → first_place {X = Resource} r (λ c. true) (replicate n None) ≡ None
+no_first r zero = refl
+no_first r (suc n) = no_first (suc r) n
+
+agrees : (dues : List (Option Moment)) (ends : ℕ → Option Moment) → dues ≡ replicate 64 None → ((i : ℕ) → ends i ≡ None) → AgreesBut 0 0 dues ends
+agrees dues ends is none = record {
+  ids = ap length is;
+  below = λ i h. absurd (omega (arith, h));
+  above = λ i h. ap (λ (ds : List (Option Moment)). due_of ds i) is ∙ none_there 64 i ∙ sym (none i);
+}
+
+pub vacant_kept : (g n : ℕ) (cores : List (Option Resource)) (works : List (Option Moment)) (heaps : Heaps) → IsGranularity g → n * g ≤ 64 → cores ≡ replicate n None → works ≡ replicate 64 None → AreEmpty heaps
+    → IsKept (seen_of g cores works) 0 None heaps
+vacant_kept g n cores works heaps granularity few is is_works empty =
+    kept_is g 0 None cores (replicate n None) works (replicate 64 None) heaps is is_works (record {
+      cores = record {
+        granularity = granularity;
+        places = subst (λ (k : ℕ). k * g ≤ 64) (sym (length-replicate n None)) few;
+        works = refl;
+        cores = λ i c there. let none = none_there {X = Resource} n i in absurd (cc);
+      };
+      is_home = sym (no_cores 0 n);
+      is_first = sym (no_first 0 n);
+      armed =
+          let seen : Seen = seen_of g (replicate n None) (replicate 64 None) in
+          record {
+            moves = agrees heaps.moves (λ i. ready_among seen (Moved i)) empty.moves (λ i. ap (λ (o : Option Resource). end_where may_move o) (none_there n i));
+            slices = agrees heaps.slices (λ i. ready_among seen (Slice i)) empty.slices (λ i. ap slice_end (none_there n i));
+            decides = agrees heaps.decides (λ i. ready_among seen (Decide i)) empty.decides (λ i. ap (λ (o : Option Resource). end_where may_decide o) (none_there n i));
+            saves = agrees heaps.saves (λ i. ready_among seen (Save i)) empty.saves (λ i. ap (λ (o : Option Resource). end_where may_save o) (none_there n i));
+            blocks = agrees heaps.blocks (λ i. ready_among seen (Block i)) empty.blocks (λ i. block_past seen i (none_there n (i / g)));
+            arrives = agrees heaps.arrives (λ i. ready_among seen (Arrive i)) empty.arrives (λ i. sibling_past g i gathers (λ q. not (is_held q)) (replicate n None) (none_there n (i / g)));
+            leaves = agrees heaps.leaves (λ i. ready_among seen (Leave i)) empty.leaves (λ i. sibling_past g i parts is_held (replicate n None) (none_there n (i / g)));
+          };
+    })

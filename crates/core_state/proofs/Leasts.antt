@@ -114,6 +114,10 @@ least_both {X} {Y} f h a b of_a of_b =
       | inr e ↦ let y = of_b.one m (sym e ∙ is) in (inr y.0, y.1)
     ]
 
+-- the same, of a moment that is that
+pub least_earlier : {X Y : Type 0} (f : X → Option Moment) (h : Y → Option Moment) (a b at : Option Moment) → at ≡ earlier a b → IsLeast f a → IsLeast h b → IsLeast (both f h) at
+least_earlier {X} {Y} f h a b at is of_a of_b = subst (λ (o : Option Moment). IsLeast (both f h) o) (sym is) (least_both f h a b of_a of_b)
+
 -- the least of moments is that of others, where these are the same moments
 least_same : {X Y : Type 0} (f : X → Option Moment) (h : Y → Option Moment) (at : Option Moment)
     → ((x : X) → (y : Y) × (h y ≡ f x)) → ((y : Y) → (h y ≡ None) ⊎ ((x : X) × (f x ≡ h y)))
@@ -136,6 +140,17 @@ least_same {X} {Y} f h at among from least = record { first = first; one = one }
 -- the moments of six heaps
 abbrev pub six : Heaps → ((ℕ ⊎ ℕ) ⊎ ℕ) ⊎ ((ℕ ⊎ ℕ) ⊎ ℕ) → Option Moment
 six heaps = both (both (both (due_of heaps.slices) (due_of heaps.decides)) (due_of heaps.saves)) (both (both (due_of heaps.blocks) (due_of heaps.arrives)) (due_of heaps.leaves))
+
+pub least_six : (heaps : Heaps) (a b c d e f ab abc de def all : Option Moment)
+    → IsLeast (due_of heaps.slices) a → IsLeast (due_of heaps.decides) b → IsLeast (due_of heaps.saves) c
+    → IsLeast (due_of heaps.blocks) d → IsLeast (due_of heaps.arrives) e → IsLeast (due_of heaps.leaves) f
+    → ab ≡ earlier a b → abc ≡ earlier ab c → de ≡ earlier d e → def ≡ earlier de f → all ≡ earlier abc def → IsLeast (six heaps) all
+least_six heaps a b c d e f ab abc de def all of_a of_b of_c of_d of_e of_f is_ab is_abc is_de is_def is_all =
+    least_earlier (both (both (due_of heaps.slices) (due_of heaps.decides)) (due_of heaps.saves)) (both (both (due_of heaps.blocks) (due_of heaps.arrives)) (due_of heaps.leaves)) abc def all is_all
+    (least_earlier (both (due_of heaps.slices) (due_of heaps.decides)) (due_of heaps.saves) ab c abc is_abc
+        (least_earlier (due_of heaps.slices) (due_of heaps.decides) a b ab is_ab of_a of_b) of_c)
+    (least_earlier (both (due_of heaps.blocks) (due_of heaps.arrives)) (due_of heaps.leaves) de f def is_def
+        (least_earlier (due_of heaps.blocks) (due_of heaps.arrives) d e de is_de of_d of_e) of_f)
 
 pub least_within : (seen : Seen) (heaps : Heaps) (at : Option Moment) → AreArmed seen heaps → IsLeast (six heaps) at → IsLeast (ready_within seen) at
 least_within seen heaps at armed = least_same (six heaps) (ready_within seen) at among from

@@ -218,9 +218,10 @@ impl CoreState {
         ensures { self.new ≡ with_work p work (changed_processor p (does doing) self.old) }
     {
         let g = self.granularity;
+        let r = p / g;
         change_doing(g, p, doing, &mut self.cores);
         set_place(&mut self.works, p, work);
-        rearm(&mut self.heaps, g, p / g, self.cores.as_slice(), self.works.as_slice());
+        rearm(&mut self.heaps, g, r, self.cores.as_slice(), self.works.as_slice());
     }
 
     /// The processor is held: it waits for its siblings.
@@ -249,10 +250,11 @@ impl CoreState {
         ensures { self.new ≡ with_work p work (changed_core (p / self.old.granularity) open_if_left_spec (changed_processor p (does doing) self.old)) }
     {
         let g = self.granularity;
+        let r = p / g;
         change_doing(g, p, doing, &mut self.cores);
-        open_if_left(p / g, &mut self.cores);
+        open_if_left(r, &mut self.cores);
         set_place(&mut self.works, p, work);
-        rearm(&mut self.heaps, g, p / g, self.cores.as_slice(), self.works.as_slice());
+        rearm(&mut self.heaps, g, r, self.cores.as_slice(), self.works.as_slice());
     }
 
     /// The processor is stalled up to this moment, if it is not yet for longer: the end of its stall.
@@ -261,9 +263,10 @@ impl CoreState {
         ensures after { self.new ≡ changed_processor p (stalled_to result) self.old }
     {
         let g = self.granularity;
+        let r = p / g;
         let end = later_end(processor_at(g, self.cores.as_slice(), p as usize), until);
         set_stall_end(g, p, end, &mut self.cores);
-        rearm(&mut self.heaps, g, p / g, self.cores.as_slice(), self.works.as_slice());
+        rearm(&mut self.heaps, g, r, self.cores.as_slice(), self.works.as_slice());
         end
     }
 
@@ -328,8 +331,14 @@ impl CoreState {
         ensures { IsLeast (ready_within self.now) result }
     {
         let heaps = &self.heaps;
-        let of_cores = earlier(earlier(least_of(&heaps.slices), least_of(&heaps.decides)), least_of(&heaps.saves));
-        let of_processors = earlier(earlier(least_of(&heaps.blocks), least_of(&heaps.arrives)), least_of(&heaps.leaves));
+        let slices = least_of(&heaps.slices);
+        let decides = least_of(&heaps.decides);
+        let saves = least_of(&heaps.saves);
+        let blocks = least_of(&heaps.blocks);
+        let arrives = least_of(&heaps.arrives);
+        let leaves = least_of(&heaps.leaves);
+        let of_cores = earlier(earlier(slices, decides), saves);
+        let of_processors = earlier(earlier(blocks, arrives), leaves);
         earlier(of_cores, of_processors)
     }
 
