@@ -1,5 +1,5 @@
 -- What a change of one core makes of what a pool's cores keep.
-use Rattle.std.proofs.Common.{◌≡◌, ◌≢◌, ◌≤◌, ◌<◌, ◌+◌, ◌*◌, ◌/◌, ◌%◌, ◌^◌, ◌⊎◌, ℕ, zero, suc, List, [], ◌∷◌, ◌∙◌, refl, sym, ap, subst, arith, length, inl, inr}
+use Rattle.std.proofs.Common.{◌≡◌, ◌≢◌, ◌≤◌, ◌<◌, ◌+◌, ◌-◌, ◌*◌, ◌/◌, ◌%◌, ◌^◌, ◌⊎◌, ℕ, zero, suc, List, [], ◌∷◌, ◌∙◌, refl, sym, ap, subst, arith, length, inl, inr}
 use Rattle.std.specs.Prelude.{Bool, not, true, false, Option, Some, None, option_map, replicate, slice_set, if◌then◌else◌}
 use Rattle.std.specs.List.{list_any}
 use Rattle.std.proofs.Math.Decide.{ℕ_discrete}
@@ -372,3 +372,16 @@ vacant_kept g n cores works heaps granularity few is is_works empty =
             leaves = agrees heaps.leaves (λ i. ready_among seen (Leave i)) empty.leaves (λ i. sibling_past g i parts is_held (replicate n None) (none_there n (i / g)));
           };
     })
+
+-- one work after another
+pub without_works-turn : (p i count : ℕ) (works : List (Option Moment)) → i < count
+    → without_works (p + (i + 1)) (count - (i + 1)) (clear_at (p + i) works) ≡ without_works (p + i) (count - i) works
+without_works-turn p i count works below =
+    let e : count - i ≡ suc (count - (i + 1)) = omega arith in
+    let f : p + (i + 1) ≡ suc (p + i) = omega arith in
+    rw e (ap (λ (m : ℕ). without_works m (count - (i + 1)) (clear_at (p + i) works)) f)
+
+pub without_works-done : (p i count : ℕ) (works : List (Option Moment)) → count ≤ i → works ≡ without_works (p + i) (count - i) works
+without_works-done p i count works past =
+    let e : count - i ≡ 0 = omega arith in
+    rw e refl
