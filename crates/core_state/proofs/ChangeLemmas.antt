@@ -385,3 +385,9 @@ pub without_works-done : (p i count : ℕ) (works : List (Option Moment)) → co
 without_works-done p i count works past =
     let e : count - i ≡ 0 = omega arith in
     rw e refl
+
+-- the first core is one of the places
+pub first_below : (n : ℕ) (cores : List (Option Resource)) (r : ℕ) → first_place n (λ (c : Resource). true) cores ≡ Some r → r < n + length cores
+first_below n [] r is = absurd (cc)
+first_below n (None ∷ cores) r is = let rest = first_below (suc n) cores r is in omega (arith, rest)
+first_below n (Some c ∷ cores) r is = let same : n ≡ r = cc in omega (arith, same)

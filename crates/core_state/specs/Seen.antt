@@ -3,6 +3,7 @@ use Rattle.std.specs.Prelude.{ℕ, zero, suc, ◌/◌, ◌%◌, ◌||◌, true, 
 use Rattle.sched_base.specs.Numbers.{moment}
 use Rattle.sched_base.specs.declared.Moment.{Moment}
 use Rattle.sched_base.specs.declared.UnitId.{UnitId}
+use Rattle.sched_model.specs.declared.state.Pool.{Pool}
 use Rattle.sched_model.specs.declared.state.Processor.{Processor}
 use Rattle.sched_model.specs.declared.state.Records.TheVariants.{NullPool}
 use Rattle.sched_model.specs.declared.state.Resource.{Resource}
@@ -65,3 +66,7 @@ stall_until (Some q) end = moment (max q.stall_end.0 end.0)
 -- the processor's stall ends then
 abbrev pub stalled_to : Moment → Processor → Processor
 stalled_to end q = record q { stall_end = end }
+
+-- what is seen of the cores of a pool
+abbrev pub seen_in : ℕ → List (Option Moment) → Pool → Seen
+seen_in g works pool = record { resources = pool.resources; works = works; granularity = g }

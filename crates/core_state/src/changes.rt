@@ -1,6 +1,7 @@
 //! Changes of one core among those of a pool.
 
-ghost use Rattle.std.specs.Prelude.{◌≡◌, ◌+◌, ◌/◌, ◌%◌, ◌^◌, ◌<◌};
+ghost use Rattle.std.specs.Prelude.{◌≡◌, ◌+◌, ◌/◌, ◌%◌, ◌^◌, ◌<◌, min};
+ghost use Rattle.sched_base.specs.Numbers.{moment};
 ghost use Rattle.sched_model.specs.Places.{at_place, change_at, change_item, clear_at};
 ghost use Rattle.sched_model.specs.Pool.{due_within, open_if_left as open_if_left_spec, saved, saving_among};
 ghost use Rattle.core_state.specs.Seen.{chosen, leaving_core, pending_by, stalled_to, with_sibling, without_works as without_works_spec};
@@ -109,12 +110,19 @@ pub fn open_if_left(r: u8, cores: &mut Row<Option<Resource>>)
     }
 }
 
+/// The due, or the moment at which the budget is used up, if that is earlier.
+fn sooner(t: Moment, budget: u64, due: Moment) -> Moment
+    ensures { result ≡ moment (min (t.0 + budget) due.0) }
+{
+    Moment(t.0.saturating_add(budget).min(due.0))
+}
+
 /// The core asks again after the budget at the latest, where it is to ask again at all.
 fn bring_due(t: Moment, budget: u64, c: &mut Resource)
     ensures { c.new ≡ due_within t.0 budget c.old }
 {
     if let Some(due) = c.due {
-        c.due = Some(Moment(t.0.saturating_add(budget).min(due.0)));
+        c.due = Some(sooner(t, budget, due));
     }
 }
 

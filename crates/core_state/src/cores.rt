@@ -44,14 +44,15 @@ impl Model for CoreState {
 }
 
 /// So many places, all empty.
-fn empty_places<T: Drop>(alloc: Global, places: usize) -> Result<Row<Option<T>>, NoMemory>
-    ensures { IfOk result (λ row. row ≡ replicate places None) }
+#[tactic(auto, using(crate::proofs::Replicate::replicate_one_more))]
+fn empty_places<T: Drop>(alloc: Global, count: usize) -> Result<Row<Option<T>>, NoMemory>
+    ensures { IfOk result (λ row. row ≡ replicate count None) }
 {
-    let mut row = Row::from_vec(Vec::new(alloc));
-    for _n in 0..places {
-        row.push(None)?;
+    let mut places = Vec::new(alloc);
+    for i in 0..count {
+        places.push(None)?;
     }
-    Ok(row)
+    Ok(Row::from_vec(places))
 }
 
 /// The number of the first core, where there are few places.

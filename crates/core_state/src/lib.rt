@@ -8,6 +8,7 @@ mod changes;
 pub mod cores;
 mod ends;
 mod heaps;
+pub mod laws;
 
 pub use cores::CoreState;
 
