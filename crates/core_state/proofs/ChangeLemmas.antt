@@ -58,8 +58,8 @@ armed_but g r cores next works after heaps granularity change are =
       blocks =
           but (r * g) (r * g + g) heaps.blocks (λ i. ready_among before (Block i)) (λ i. ready_among now (Block i))
           (λ p h.
-              ap (λ (w : Option Moment). later w (end_of (processor_among g next p))) (change.other_works p (other_core g r p granularity h))
-              ∙ ap (λ (q : Option Processor). later (at_place works p) (end_of q)) (processor_same g p cores next (of_processor p h))) are.blocks;
+          ap (λ (w : Option Moment). later w (end_of (processor_among g next p))) (change.other_works p (other_core g r p granularity h))
+          ∙ ap (λ (q : Option Processor). later (at_place works p) (end_of q)) (processor_same g p cores next (of_processor p h))) are.blocks;
       arrives =
           but (r * g) (r * g + g) heaps.arrives (λ i. ready_among before (Arrive i)) (λ i. ready_among now (Arrive i))
           (λ p h. sibling_same g p gathers (λ q. not (is_held q)) cores next (of_processor p h)) are.arrives;
@@ -220,10 +220,10 @@ open_keeps c = elim (list_any is_held c.processors) as (λ b. length (if b then 
 pub chosen_keeps : (t : ℕ) (unit : Option UnitId) (due : Option Moment) → KeepsSiblings (chosen t unit due)
 chosen_keeps t unit due c =
     elim (same_choice unit c.cur) as (λ b.
-        length (elim b as (λ _. Resource) [
-          | true ↦ record c { due = due; pending = false; stage = Decided }
-          | false ↦ record c { saving = c.cur; cur = unit; since = moment t; due = due; pending = false; stage = Decided }
-        ]).processors ≡ length c.processors) [
+    length (elim b as (λ _. Resource) [
+      | true ↦ record c { due = due; pending = false; stage = Decided }
+      | false ↦ record c { saving = c.cur; cur = unit; since = moment t; due = due; pending = false; stage = Decided }
+    ]).processors ≡ length c.processors) [
       | true ↦ refl
       | false ↦ refl
     ]

@@ -148,9 +148,9 @@ pub least_six : (heaps : Heaps) (a b c d e f ab abc de def all : Option Moment)
 least_six heaps a b c d e f ab abc de def all of_a of_b of_c of_d of_e of_f is_ab is_abc is_de is_def is_all =
     least_earlier (both (both (due_of heaps.slices) (due_of heaps.decides)) (due_of heaps.saves)) (both (both (due_of heaps.blocks) (due_of heaps.arrives)) (due_of heaps.leaves)) abc def all is_all
     (least_earlier (both (due_of heaps.slices) (due_of heaps.decides)) (due_of heaps.saves) ab c abc is_abc
-        (least_earlier (due_of heaps.slices) (due_of heaps.decides) a b ab is_ab of_a of_b) of_c)
+    (least_earlier (due_of heaps.slices) (due_of heaps.decides) a b ab is_ab of_a of_b) of_c)
     (least_earlier (both (due_of heaps.blocks) (due_of heaps.arrives)) (due_of heaps.leaves) de f def is_def
-        (least_earlier (due_of heaps.blocks) (due_of heaps.arrives) d e de is_de of_d of_e) of_f)
+    (least_earlier (due_of heaps.blocks) (due_of heaps.arrives) d e de is_de of_d of_e) of_f)
 
 pub least_within : (seen : Seen) (heaps : Heaps) (at : Option Moment) → AreArmed seen heaps → IsLeast (six heaps) at → IsLeast (ready_within seen) at
 least_within seen heaps at armed = least_same (six heaps) (ready_within seen) at among from

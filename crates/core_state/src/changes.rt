@@ -66,7 +66,13 @@ fn choose(t: Moment, unit: Option<UnitId>, due: Option<Moment>, c: &mut Resource
 }
 
 /// The core at this place takes what was decided.
-pub fn choose_at(r: u8, t: Moment, unit: Option<UnitId>, due: Option<Moment>, cores: &mut Row<Option<Resource>>)
+pub fn choose_at(
+    r: u8,
+    t: Moment,
+    unit: Option<UnitId>,
+    due: Option<Moment>,
+    cores: &mut Row<Option<Resource>>,
+)
     ensures { cores.new ≡ change_at r (chosen t.0 unit due) cores.old }
 {
     let place = r as usize;

@@ -5,7 +5,10 @@ ghost use Rattle.std.specs.Option.{option_copied};
 ghost use Rattle.sched_model.specs.Places.{first_place};
 ghost use Rattle.core_state.specs.Seen.{stall_until as stall_until_spec};
 
-use crate::changes::{bring_due_at, choose_at, clear_works, open_if_left, set_leaving, set_pending_by, set_stall_end, take_place, take_saved};
+use crate::changes::{
+    bring_due_at, choose_at, clear_works, open_if_left, set_leaving, set_pending_by, set_stall_end,
+    take_place, take_saved,
+};
 use crate::ends::{lowest_end, move_end, processor_at};
 use crate::heaps::{Heaps, IDS, earlier, empty_heaps, first_come, least_of, rearm};
 use plain_policy::places::set_place;
@@ -147,7 +150,13 @@ impl CoreState {
         clear_works(r as u16 * g as u16, g, &mut self.works);
         self.home = home_cores(self.cores.as_slice());
         self.first = first_number(self.cores.as_slice());
-        rearm(&mut self.heaps, g, r, self.cores.as_slice(), self.works.as_slice());
+        rearm(
+            &mut self.heaps,
+            g,
+            r,
+            self.cores.as_slice(),
+            self.works.as_slice(),
+        );
     }
 
     /// The core goes out, and its place is empty. None of its processors has work whose end is known.
@@ -160,7 +169,13 @@ impl CoreState {
         clear_works(r as u16 * g as u16, g, &mut self.works);
         self.home = home_cores(self.cores.as_slice());
         self.first = first_number(self.cores.as_slice());
-        rearm(&mut self.heaps, g, r, self.cores.as_slice(), self.works.as_slice());
+        rearm(
+            &mut self.heaps,
+            g,
+            r,
+            self.cores.as_slice(),
+            self.works.as_slice(),
+        );
         core
     }
 
@@ -169,7 +184,13 @@ impl CoreState {
         ensures { self.new ≡ changed_core r set_pending_spec self.old }
     {
         set_pending(r, &mut self.cores);
-        rearm(&mut self.heaps, self.granularity, r, self.cores.as_slice(), self.works.as_slice());
+        rearm(
+            &mut self.heaps,
+            self.granularity,
+            r,
+            self.cores.as_slice(),
+            self.works.as_slice(),
+        );
     }
 
     /// The core is to decide anew, and has this due.
@@ -177,7 +198,13 @@ impl CoreState {
         ensures { self.new ≡ changed_core r (pending_by due) self.old }
     {
         set_pending_by(r, due, &mut self.cores);
-        rearm(&mut self.heaps, self.granularity, r, self.cores.as_slice(), self.works.as_slice());
+        rearm(
+            &mut self.heaps,
+            self.granularity,
+            r,
+            self.cores.as_slice(),
+            self.works.as_slice(),
+        );
     }
 
     /// The core is leaving; it is to decide where it has a unit.
@@ -185,7 +212,13 @@ impl CoreState {
         ensures { self.new ≡ changed_core r leaving_core self.old }
     {
         set_leaving(r, &mut self.cores);
-        rearm(&mut self.heaps, self.granularity, r, self.cores.as_slice(), self.works.as_slice());
+        rearm(
+            &mut self.heaps,
+            self.granularity,
+            r,
+            self.cores.as_slice(),
+            self.works.as_slice(),
+        );
     }
 
     /// The core decides at t: it runs the unit up to the due, and saves the one that it ran, where that is another.
@@ -193,7 +226,13 @@ impl CoreState {
         ensures { self.new ≡ changed_core r (chosen t.0 unit due) self.old }
     {
         choose_at(r, t, unit, due, &mut self.cores);
-        rearm(&mut self.heaps, self.granularity, r, self.cores.as_slice(), self.works.as_slice());
+        rearm(
+            &mut self.heaps,
+            self.granularity,
+            r,
+            self.cores.as_slice(),
+            self.works.as_slice(),
+        );
     }
 
     /// The core puts away the unit that it saves.
@@ -202,7 +241,13 @@ impl CoreState {
         ensures after { self.new ≡ changed_core r saved self.old }
     {
         let unit = take_saved(r, &mut self.cores);
-        rearm(&mut self.heaps, self.granularity, r, self.cores.as_slice(), self.works.as_slice());
+        rearm(
+            &mut self.heaps,
+            self.granularity,
+            r,
+            self.cores.as_slice(),
+            self.works.as_slice(),
+        );
         unit
     }
 
@@ -211,7 +256,13 @@ impl CoreState {
         ensures { self.new ≡ changed_core r (due_within t.0 budget) self.old }
     {
         bring_due_at(r, t, budget, &mut self.cores);
-        rearm(&mut self.heaps, self.granularity, r, self.cores.as_slice(), self.works.as_slice());
+        rearm(
+            &mut self.heaps,
+            self.granularity,
+            r,
+            self.cores.as_slice(),
+            self.works.as_slice(),
+        );
     }
 
     /// The processor does this, and the work of the vCPU that it runs is done then.
@@ -222,7 +273,13 @@ impl CoreState {
         let r = p / g;
         change_doing(g, p, doing, &mut self.cores);
         set_place(&mut self.works, p, work);
-        rearm(&mut self.heaps, g, r, self.cores.as_slice(), self.works.as_slice());
+        rearm(
+            &mut self.heaps,
+            g,
+            r,
+            self.cores.as_slice(),
+            self.works.as_slice(),
+        );
     }
 
     /// The processor is held: it waits for its siblings.
@@ -255,7 +312,13 @@ impl CoreState {
         change_doing(g, p, doing, &mut self.cores);
         open_if_left(r, &mut self.cores);
         set_place(&mut self.works, p, work);
-        rearm(&mut self.heaps, g, r, self.cores.as_slice(), self.works.as_slice());
+        rearm(
+            &mut self.heaps,
+            g,
+            r,
+            self.cores.as_slice(),
+            self.works.as_slice(),
+        );
     }
 
     /// The processor is stalled up to this moment, if it is not yet for longer: the end of its stall.
@@ -267,7 +330,13 @@ impl CoreState {
         let r = p / g;
         let end = later_end(processor_at(g, self.cores.as_slice(), p as usize), until);
         set_stall_end(g, p, end, &mut self.cores);
-        rearm(&mut self.heaps, g, r, self.cores.as_slice(), self.works.as_slice());
+        rearm(
+            &mut self.heaps,
+            g,
+            r,
+            self.cores.as_slice(),
+            self.works.as_slice(),
+        );
         end
     }
 

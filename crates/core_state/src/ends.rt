@@ -177,7 +177,12 @@ fn work_at(works: &[Option<Moment>], p: usize) -> Option<Moment>
 }
 
 /// From when on the vCPU that the processor runs may block, where these are the moments at which the works are done.
-pub fn block_end(g: u8, cores: &[Option<Resource>], works: &[Option<Moment>], p: usize) -> Option<Moment>
+pub fn block_end(
+    g: u8,
+    cores: &[Option<Resource>],
+    works: &[Option<Moment>],
+    p: usize,
+) -> Option<Moment>
     requires { 0 < g }
     ensures { result ≡ later_spec (at_place works.now p) (end_of (processor_among g cores.now p)) }
 {

@@ -82,7 +82,13 @@ fn rearm_core(heaps: &mut Heaps, r: u16, cores: &[Option<Resource>])
 }
 
 /// Arms the processor with its moments.
-fn rearm_processor(heaps: &mut Heaps, g: u8, p: u16, cores: &[Option<Resource>], works: &[Option<Moment>])
+fn rearm_processor(
+    heaps: &mut Heaps,
+    g: u8,
+    p: u16,
+    cores: &[Option<Resource>],
+    works: &[Option<Moment>],
+)
     requires granularity { IsGranularity g }
     requires places { length cores.now * g ≤ 64 }
     requires blocks { length heaps.old.blocks ≡ 64 }

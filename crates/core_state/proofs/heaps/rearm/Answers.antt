@@ -17,7 +17,7 @@ loop-p-init c =
     let seen : Seen = record { resources = c.args.cores.now; works = c.args.works.now; granularity = c.args.g } in
     rw c.rearm_core.ensures
     (core_armed c.args.r (c.args.r * c.args.g) (c.args.r * c.args.g + c.args.g) seen c.args.heaps.now
-        (few_places c.args.g (length c.args.cores.now) c.requires.granularity c.requires.places) c.requires.others)
+    (few_places c.args.g (length c.args.cores.now) c.requires.granularity c.requires.places) c.requires.others)
 
 pub rearm_processor-requires : goal.rearm_processor-requires
 rearm_processor-requires c = record {
