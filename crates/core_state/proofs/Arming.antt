@@ -1,0 +1,153 @@
+-- Heaps of moments: one number armed anew, and what a change of one core leaves as it was.
+use Rattle.std.proofs.Common.{◌≡◌, ◌≢◌, ◌≤◌, ◌<◌, ◌+◌, ◌*◌, ◌/◌, ◌%◌, ◌⊎◌, ℕ, List, ◌∙◌, refl, sym, ap, subst, arith, length, inl, inr}
+use Rattle.std.specs.Prelude.{Bool, not, Option, Some, None, slice_set, slice_get}
+use Rattle.std.proofs.Math.Decide.{ℕ_discrete}
+use Rattle.std.proofs.lemmas.Bool.{cases_lt}
+use Rattle.std.proofs.lemmas.List.{get_or-set_same, get_or-set_other, get_or_past, length-set}
+use Rattle.sched_base.specs.declared.Moment.{Moment}
+use Rattle.sched_model.specs.declared.action.Action.TheVariants.{Moved, Block, Slice, Arrive, Decide, Leave, Save}
+use Rattle.sched_model.specs.declared.state.Resource.{Resource}
+use Rattle.sched_model.specs.declared.state.Processor.{Processor}
+use Rattle.sched_model.specs.Checked.{IsGranularity}
+use Rattle.sched_model.specs.Places.{at_place}
+use Rattle.sched_model.specs.Pool.{is_held}
+use Rattle.due_heap.specs.Dues.{due_of}
+use Rattle.pool_laws.specs.Ready.{when, later, end_of, end_where, slice_end, may_move, gathers}
+use Rattle.core_state.specs.declared.heaps.Heaps.{Heaps}
+use Rattle.core_state.specs.Seen.{Seen, processor_among}
+use Rattle.core_state.specs.Ends.{may_decide, may_save, parts, ready_among, sibling_among}
+use Rattle.core_state.specs.Kept.{AgreesBut, AreArmedBut, AreArmed, with_core_ends, with_processor_ends}
+
+-- a number armed with its moment has it, and each other number has what it had
+armed_at : (from i : ℕ) (dues : List (Option Moment)) (ends : ℕ → Option Moment) → length dues ≡ 64 → (64 ≤ from → ends from ≡ None)
+    → (i ≢ from → due_of dues i ≡ ends i) → due_of (slice_set dues from (ends from)) i ≡ ends i
+armed_at from i dues ends ids past others =
+    elim (ℕ_discrete i from) [
+      | no ne ↦ get_or-set_other dues from i (ends from) None ne ∙ others ne
+      | yes e ↦ subst (λ (k : ℕ). due_of (slice_set dues from (ends from)) k ≡ ends k) (sym e) here
+    ]
+  where
+    here : due_of (slice_set dues from (ends from)) from ≡ ends from
+    here = elim (cases_lt from 64) [
+      | inl inside ↦ get_or-set_same dues from (ends from) None (omega (arith, ids, inside))
+      | inr out ↦ get_or_past (slice_set dues from (ends from)) from None (omega (arith, ids, out, length-set dues from (ends from))) ∙ sym (past out)
+    ]
+
+-- one number more has its moment
+next : (from to : ℕ) (dues : List (Option Moment)) (ends : ℕ → Option Moment) → (64 ≤ from → ends from ≡ None)
+    → AgreesBut from to dues ends → AgreesBut (from + 1) to (slice_set dues from (ends from)) ends
+next from to dues ends past are = record {
+  ids = length-set dues from (ends from) ∙ are.ids;
+  below = λ i h. armed_at from i dues ends are.ids past (λ ne. are.below i (omega (arith, h, ne)));
+  above = λ i h. armed_at from i dues ends are.ids past (λ ne. are.above i h);
+}
+
+-- where no number is left, each has its moment
+pub all : (n m : ℕ) (dues : List (Option Moment)) (ends : ℕ → Option Moment) → m ≤ n → AgreesBut n m dues ends → AgreesBut 0 0 dues ends
+all n m dues ends few are = record {
+  ids = are.ids;
+  below = λ i h. absurd (omega (arith, h));
+  above = λ i h. elim (cases_lt i n) [ inl lt ↦ are.below i lt | inr ge ↦ are.above i (omega (arith, ge, few)) ];
+}
+
+-- where the moments of other numbers stay, each of these has its moment still
+pub but : (from to : ℕ) (dues : List (Option Moment)) (old new : ℕ → Option Moment) → ((i : ℕ) → (i < from) ⊎ (to ≤ i) → new i ≡ old i)
+    → AgreesBut 0 0 dues old → AgreesBut from to dues new
+but from to dues old new same are = record {
+  ids = are.ids;
+  below = λ i h. are.above i (omega arith) ∙ sym (same i (inl h));
+  above = λ i h. are.above i (omega arith) ∙ sym (same i (inr h));
+}
+
+-- past the places there is nothing
+pub core_past : (cores : List (Option Resource)) (r : ℕ) → length cores ≤ 64 → 64 ≤ r → at_place cores r ≡ None
+core_past cores r few past = get_or_past cores r None (omega (arith, few, past))
+
+pub few_places : (g n : ℕ) → IsGranularity g → n * g ≤ 64 → n ≤ 64
+few_places g n (inl e) few = let h = rw e at few in omega (arith, h)
+few_places g n (inr (inl e)) few = let h = rw e at few in omega (arith, h)
+few_places g n (inr (inr e)) few = let h = rw e at few in omega (arith, h)
+
+quotient_past : (g n p : ℕ) → IsGranularity g → n * g ≤ 64 → 64 ≤ p → n ≤ p / g
+quotient_past g n p (inl e) few past = subst (λ (k : ℕ). n ≤ p / k) (sym e) (let h = rw e at few in omega (arith, h, past))
+quotient_past g n p (inr (inl e)) few past = subst (λ (k : ℕ). n ≤ p / k) (sym e) (let h = rw e at few in omega (arith, h, past))
+quotient_past g n p (inr (inr e)) few past = subst (λ (k : ℕ). n ≤ p / k) (sym e) (let h = rw e at few in omega (arith, h, past))
+
+pub core_of_past : (g : ℕ) (cores : List (Option Resource)) (p : ℕ) → IsGranularity g → length cores * g ≤ 64 → 64 ≤ p → at_place cores (p / g) ≡ None
+core_of_past g cores p granularity few past = get_or_past cores (p / g) None (quotient_past g (length cores) p granularity few past)
+
+-- the processors of other cores
+pub other_core : (g r p : ℕ) → IsGranularity g → (p < r * g) ⊎ (r * g + g ≤ p) → p / g ≢ r
+other_core g r p (inl e) (inl h) = subst (λ (k : ℕ). p / k ≢ r) (sym e) (let k = rw e at h in λ same. omega (arith, k, same))
+other_core g r p (inl e) (inr h) = subst (λ (k : ℕ). p / k ≢ r) (sym e) (let k = rw e at h in λ same. omega (arith, k, same))
+other_core g r p (inr (inl e)) (inl h) = subst (λ (k : ℕ). p / k ≢ r) (sym e) (let k = rw e at h in λ same. omega (arith, k, same))
+other_core g r p (inr (inl e)) (inr h) = subst (λ (k : ℕ). p / k ≢ r) (sym e) (let k = rw e at h in λ same. omega (arith, k, same))
+other_core g r p (inr (inr e)) (inl h) = subst (λ (k : ℕ). p / k ≢ r) (sym e) (let k = rw e at h in λ same. omega (arith, k, same))
+other_core g r p (inr (inr e)) (inr h) = subst (λ (k : ℕ). p / k ≢ r) (sym e) (let k = rw e at h in λ same. omega (arith, k, same))
+
+-- the processor of a core that may be there, and the end of its stall under tests
+abbrev sibling_in : ℕ → Option Resource → Option Processor
+sibling_in i o = elim o as (λ _. Option Processor) [ None ↦ None | Some c ↦ slice_get c.processors i ]
+
+abbrev end_in : ℕ → (Resource → Bool) → (Processor → Bool) → Option Resource → Option Moment
+end_in i a b o = elim o as (λ _. Option Moment) [ None ↦ None | Some c ↦ when (a c) (elim (sibling_in i o) as (λ _. Option Moment) [ None ↦ None | Some q ↦ when (b q) (Some q.stall_end) ]) ]
+
+pub sibling_same : (g p : ℕ) (a : Resource → Bool) (b : Processor → Bool) (cores next : List (Option Resource)) → at_place next (p / g) ≡ at_place cores (p / g)
+    → sibling_among g next p a b ≡ sibling_among g cores p a b
+sibling_same g p a b cores next same = ap (end_in (p % g) a b) same
+
+pub processor_same : (g p : ℕ) (cores next : List (Option Resource)) → at_place next (p / g) ≡ at_place cores (p / g) → processor_among g next p ≡ processor_among g cores p
+processor_same g p cores next same = ap (sibling_in (p % g)) same
+
+pub sibling_past : (g p : ℕ) (a : Resource → Bool) (b : Processor → Bool) (cores : List (Option Resource)) → at_place cores (p / g) ≡ None → sibling_among g cores p a b ≡ None
+sibling_past g p a b cores none = ap (end_in (p % g) a b) none
+
+later_none : (a : Option Moment) → later a None ≡ None
+later_none None = refl
+later_none (Some a) = refl
+
+pub block_past : (seen : Seen) (p : ℕ) → at_place seen.resources (p / seen.granularity) ≡ None → ready_among seen (Block p) ≡ None
+block_past seen p none =
+    ap (λ (o : Option Resource). later (at_place seen.works p) (end_of (sibling_in (p % seen.granularity) o))) none ∙ later_none (at_place seen.works p)
+
+-- the core armed anew
+pub core_armed : (r q q' : ℕ) (seen : Seen) (heaps : Heaps) → length seen.resources ≤ 64 → AreArmedBut r (r + 1) q q' seen heaps
+    → AreArmedBut (r + 1) (r + 1) q q' seen (with_core_ends r seen.resources heaps)
+core_armed r q q' seen heaps few are =
+    let none : 64 ≤ r → at_place seen.resources r ≡ None = core_past seen.resources r few in
+    record {
+      moves = next r (r + 1) heaps.moves (λ i. ready_among seen (Moved i)) (λ past. ap (λ (o : Option Resource). end_where may_move o) (none past)) are.moves;
+      slices = next r (r + 1) heaps.slices (λ i. ready_among seen (Slice i)) (λ past. ap slice_end (none past)) are.slices;
+      decides = next r (r + 1) heaps.decides (λ i. ready_among seen (Decide i)) (λ past. ap (λ (o : Option Resource). end_where may_decide o) (none past)) are.decides;
+      saves = next r (r + 1) heaps.saves (λ i. ready_among seen (Save i)) (λ past. ap (λ (o : Option Resource). end_where may_save o) (none past)) are.saves;
+      blocks = are.blocks;
+      arrives = are.arrives;
+      leaves = are.leaves;
+    }
+
+-- one processor more armed anew
+pub processor_armed : (r r' p q : ℕ) (seen : Seen) (heaps : Heaps) → IsGranularity seen.granularity → length seen.resources * seen.granularity ≤ 64
+    → AreArmedBut r r' p q seen heaps → AreArmedBut r r' (p + 1) q seen (with_processor_ends p seen heaps)
+processor_armed r r' p q seen heaps granularity few are =
+    let none : 64 ≤ p → at_place seen.resources (p / seen.granularity) ≡ None = core_of_past seen.granularity seen.resources p granularity few in
+    record {
+      moves = are.moves;
+      slices = are.slices;
+      decides = are.decides;
+      saves = are.saves;
+      blocks = next p q heaps.blocks (λ i. ready_among seen (Block i)) (λ past. block_past seen p (none past)) are.blocks;
+      arrives = next p q heaps.arrives (λ i. ready_among seen (Arrive i)) (λ past. sibling_past seen.granularity p gathers (λ q. not (is_held q)) seen.resources (none past)) are.arrives;
+      leaves = next p q heaps.leaves (λ i. ready_among seen (Leave i)) (λ past. sibling_past seen.granularity p parts is_held seen.resources (none past)) are.leaves;
+    }
+
+-- where none is left, all are armed
+pub all_armed : (r p q : ℕ) (seen : Seen) (heaps : Heaps) → q ≤ p → AreArmedBut r r p q seen heaps → AreArmed seen heaps
+all_armed r p q seen heaps few are = record {
+  moves = all r r heaps.moves (λ i. ready_among seen (Moved i)) (omega arith) are.moves;
+  slices = all r r heaps.slices (λ i. ready_among seen (Slice i)) (omega arith) are.slices;
+  decides = all r r heaps.decides (λ i. ready_among seen (Decide i)) (omega arith) are.decides;
+  saves = all r r heaps.saves (λ i. ready_among seen (Save i)) (omega arith) are.saves;
+  blocks = all p q heaps.blocks (λ i. ready_among seen (Block i)) few are.blocks;
+  arrives = all p q heaps.arrives (λ i. ready_among seen (Arrive i)) few are.arrives;
+  leaves = all p q heaps.leaves (λ i. ready_among seen (Leave i)) few are.leaves;
+}

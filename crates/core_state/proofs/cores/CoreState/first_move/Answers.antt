@@ -1,0 +1,15 @@
+use Rattle.std.proofs.Common.{◌∙◌, ap, arith}
+use Rattle.sched_model.specs.declared.action.Action.TheVariants.{Moved}
+use Rattle.due_heap.specs.Dues.{due_of}
+use Rattle.core_state.specs.Seen.{Seen}
+use Rattle.core_state.specs.Ends.{ready_among}
+use Rattle.core_state.proofs.Leasts.{first_same}
+use Rattle.core_state.proofs.cores.CoreState.first_move.Goals as goal
+
+pub first_come-requires : goal.first_come-requires
+first_come-requires c = c.self.invariant.armed.moves.ids
+
+pub returns : goal.returns
+returns c =
+    first_same (due_of c.self.inside.heaps.moves) (λ i. ready_among c.args.self.now (Moved i)) c.args.t.0 c.first_come.result
+    (λ i. c.self.invariant.armed.moves.above i (omega arith) ∙ ap (λ (seen : Seen). ready_among seen (Moved i)) c.self.view_is) c.first_come.ensures

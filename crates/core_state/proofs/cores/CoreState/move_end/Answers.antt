@@ -1,0 +1,13 @@
+use Rattle.std.proofs.Common.{◌∙◌, List, ap}
+use Rattle.std.specs.Prelude.{Option}
+use Rattle.sched_model.specs.declared.action.Action.TheVariants.{Moved}
+use Rattle.sched_model.specs.declared.state.Resource.{Resource}
+use Rattle.sched_model.specs.Places.{at_place}
+use Rattle.pool_laws.specs.Ready.{end_where, may_move}
+use Rattle.core_state.specs.Seen.{Seen}
+use Rattle.core_state.specs.Ends.{ready_among}
+use Rattle.core_state.proofs.cores.CoreState.move_end.Goals as goal
+
+pub returns : goal.returns
+returns c =
+    c.move_end.ensures ∙ ap (λ (xs : List (Option Resource)). end_where may_move (at_place xs c.args.r)) c.as_slice.ensures ∙ ap (λ (seen : Seen). ready_among seen (Moved c.args.r)) c.self.view_is

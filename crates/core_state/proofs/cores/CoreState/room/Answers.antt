@@ -1,0 +1,11 @@
+use Rattle.std.proofs.Common.{replicate}
+use Rattle.std.specs.Prelude.{None}
+use Rattle.core_state.proofs.ChangeLemmas.{seen_is, vacant_kept}
+use Rattle.core_state.proofs.cores.CoreState.room.Goals as goal
+
+pub invariant_of-result : goal.invariant_of-result
+invariant_of-result c =
+    vacant_kept c.args.granularity c.args.places c.in_ok-cores.cores c.in_ok-works.works c.in_ok-heaps.heaps c.requires.granularity c.requires.places c.in_ok-cores.ensures c.in_ok-works.ensures c.in_ok-heaps.ensures
+
+pub returns : goal.returns
+returns c = seen_is c.args.granularity c.in_ok-cores.cores (replicate c.args.places None) c.in_ok-works.works (replicate 64 None) c.in_ok-cores.ensures c.in_ok-works.ensures

@@ -1,0 +1,6 @@
+use Rattle.std.proofs.Common.{◌+◌, ◌*◌}
+use Rattle.core_state.specs.Kept.{AreArmedBut}
+use Rattle.core_state.proofs.heaps.rearm.Given as goal
+
+abbrev pub invariant-loop-p : goal.invariant-loop-p
+invariant-loop-p l = AreArmedBut (l.r + 1) (l.r + 1) l.p (l.r * l.g + l.g) (record { resources = l.cores; works = l.works; granularity = l.g }) l.heaps

@@ -1,0 +1,52 @@
+-- From which moment on an event of a pool's cores may come: what the laws of a pool's events say, of the cores alone.
+use Rattle.std.specs.Prelude.{ℕ, ◌/◌, ◌&&◌, not, true, Bool, List, Option, Some, None, is_some}
+use Rattle.std.specs.List.{list_any, list_all}
+use Rattle.sched_base.specs.declared.Moment.{Moment}
+use Rattle.sched_model.specs.declared.action.Action.{Action}
+use Rattle.sched_model.specs.declared.action.Action.TheVariants.{Moved, Block, Slice, Arrive, Decide, Leave, Save}
+use Rattle.sched_model.specs.declared.state.Processor.{Processor}
+use Rattle.sched_model.specs.declared.state.Resource.{Resource}
+use Rattle.sched_model.specs.Places.{at_place, first_place}
+use Rattle.sched_model.specs.Pool.{is_held, is_open}
+use Rattle.pool_laws.specs.Ready.{when, later, end_of, end_where, slice_end, may_move, gathers}
+use Rattle.core_state.specs.Seen.{Seen, processor_among}
+
+-- the end of the stall of the pool's lowest processor, where these are the cores
+abbrev pub lowest_among : List (Option Resource) → Option Moment
+lowest_among cores = elim (first_place 0 (λ c. true) cores) [ None ↦ None | Some r ↦ end_where (λ c. true) (at_place cores r) ]
+
+-- the end of the stall of a processor of a core that passes a test, where the processor passes another and these are the cores
+abbrev pub sibling_among : ℕ → List (Option Resource) → ℕ → (Resource → Bool) → (Processor → Bool) → Option Moment
+sibling_among g cores p of_core of_processor =
+    elim (at_place cores (p / g)) [
+      | None ↦ None
+      | Some c ↦ when (of_core c) (elim (processor_among g cores p) [ None ↦ None | Some q ↦ when (of_processor q) (Some q.stall_end) ])
+    ]
+
+-- whether the core may decide
+abbrev pub may_decide : Resource → Bool
+may_decide c = list_all is_held c.processors && is_open c
+
+-- whether the core may put away the unit that it saves
+abbrev pub may_save : Resource → Bool
+may_save c = is_some c.saving && not (list_any is_held c.processors)
+
+-- whether the core's processors may leave
+abbrev pub parts : Resource → Bool
+parts c = not (is_open c)
+
+-- from when on the action, if it is one of a core or a processor, may come
+abbrev pub ready_among : Seen → Action → Option Moment
+ready_among seen (Moved r) = end_where may_move (at_place seen.resources r)
+ready_among seen (Block p) = later (at_place seen.works p) (end_of (processor_among seen.granularity seen.resources p))
+ready_among seen (Slice r) = slice_end (at_place seen.resources r)
+ready_among seen (Arrive p) = sibling_among seen.granularity seen.resources p gathers (λ q. not (is_held q))
+ready_among seen (Decide r) = end_where may_decide (at_place seen.resources r)
+ready_among seen (Leave p) = sibling_among seen.granularity seen.resources p parts is_held
+ready_among seen (Save r) = end_where may_save (at_place seen.resources r)
+ready_among seen _ = None
+
+-- the same, but for a core that leaves the pool
+abbrev pub ready_within : Seen → Action → Option Moment
+ready_within seen (Moved r) = None
+ready_within seen action = ready_among seen action

@@ -1,0 +1,4 @@
+pub mod Ends
+pub mod Firsts
+pub mod Kept
+pub mod Seen

@@ -1,0 +1,187 @@
+//! Changes of one core among those of a pool.
+
+ghost use Rattle.std.specs.Prelude.{◌≡◌, ◌+◌, ◌/◌, ◌%◌, ◌^◌, ◌<◌, min};
+ghost use Rattle.sched_base.specs.Numbers.{moment};
+ghost use Rattle.sched_model.specs.Places.{at_place, change_at, change_item, clear_at};
+ghost use Rattle.sched_model.specs.Pool.{due_within, open_if_left as open_if_left_spec, saved, saving_among};
+ghost use Rattle.core_state.specs.Seen.{chosen, leaving_core, pending_by, stalled_to, with_sibling, without_works as without_works_spec};
+
+use plain_pool::cores::any_held;
+use plain_units::units::is_same_choice;
+use sched_base::{Moment, UnitId};
+use sched_model::row::Row;
+use sched_model::state::{Processors, Resource, Stage};
+
+/// What stands at the core's place is taken out.
+pub fn take_place(r: u8, cores: &mut Row<Option<Resource>>) -> Option<Resource>
+    ensures core { result ≡ at_place cores.old r }
+    ensures cores { cores.new ≡ clear_at r cores.old }
+{
+    let place = r as usize;
+    if place < cores.len() {
+        cores.replace(place, None)
+    } else {
+        None
+    }
+}
+
+/// The core is to decide anew, at this moment at the latest.
+pub fn set_pending_by(r: u8, due: Moment, cores: &mut Row<Option<Resource>>)
+    ensures { cores.new ≡ change_at r (pending_by due) cores.old }
+{
+    let place = r as usize;
+    if place < cores.len() {
+        if let Some(c) = cores.item_mut(place) {
+            c.pending = true;
+            c.due = Some(due);
+        }
+    }
+}
+
+/// The core is leaving; it is to decide where it has a unit.
+pub fn set_leaving(r: u8, cores: &mut Row<Option<Resource>>)
+    ensures { cores.new ≡ change_at r leaving_core cores.old }
+{
+    let place = r as usize;
+    if place < cores.len() {
+        if let Some(c) = cores.item_mut(place) {
+            c.leaving = true;
+            c.pending = c.pending || c.cur.is_some();
+        }
+    }
+}
+
+/// The core takes what was decided.
+fn choose(t: Moment, unit: Option<UnitId>, due: Option<Moment>, c: &mut Resource)
+    ensures { c.new ≡ chosen t.0 unit due c.old }
+{
+    if !is_same_choice(unit, c.cur) {
+        c.saving = c.cur;
+        c.cur = unit;
+        c.since = t;
+    }
+    c.due = due;
+    c.pending = false;
+    c.stage = Stage::Decided;
+}
+
+/// The core at this place takes what was decided.
+pub fn choose_at(
+    r: u8,
+    t: Moment,
+    unit: Option<UnitId>,
+    due: Option<Moment>,
+    cores: &mut Row<Option<Resource>>,
+)
+    ensures { cores.new ≡ change_at r (chosen t.0 unit due) cores.old }
+{
+    let place = r as usize;
+    if place < cores.len() {
+        if let Some(c) = cores.item_mut(place) {
+            choose(t, unit, due, c);
+        }
+    }
+}
+
+/// The unit that the core is saving is taken out.
+pub fn take_saved(r: u8, cores: &mut Row<Option<Resource>>) -> Option<UnitId>
+    ensures unit { result ≡ saving_among cores.old r }
+    ensures cores { cores.new ≡ change_at r saved cores.old }
+{
+    let place = r as usize;
+    if place >= cores.len() {
+        return None;
+    }
+    match cores.item_mut(place) {
+        None => None,
+        Some(c) => {
+            let unit = c.saving;
+            c.saving = None;
+            unit
+        }
+    }
+}
+
+/// The core's stage is open again once nobody is held.
+pub fn open_if_left(r: u8, cores: &mut Row<Option<Resource>>)
+    ensures { cores.new ≡ change_at r open_if_left_spec cores.old }
+{
+    let place = r as usize;
+    if place < cores.len() {
+        if let Some(c) = cores.item_mut(place) {
+            if !any_held(c.processors.as_slice()) {
+                c.stage = Stage::Open;
+            }
+        }
+    }
+}
+
+/// The due, or the moment at which the budget is used up, if that is earlier.
+fn sooner(t: Moment, budget: u64, due: Moment) -> Moment
+    ensures { result ≡ moment (min (t.0 + budget) due.0) }
+{
+    Moment(t.0.saturating_add(budget).min(due.0))
+}
+
+/// The core asks again after the budget at the latest, where it is to ask again at all.
+fn bring_due(t: Moment, budget: u64, c: &mut Resource)
+    ensures { c.new ≡ due_within t.0 budget c.old }
+{
+    if let Some(due) = c.due {
+        c.due = Some(sooner(t, budget, due));
+    }
+}
+
+/// The same of the core at this place.
+pub fn bring_due_at(r: u8, t: Moment, budget: u64, cores: &mut Row<Option<Resource>>)
+    ensures { cores.new ≡ change_at r (due_within t.0 budget) cores.old }
+{
+    let place = r as usize;
+    if place < cores.len() {
+        if let Some(c) = cores.item_mut(place) {
+            bring_due(t, budget, c);
+        }
+    }
+}
+
+/// The stall of the processor at this place ends then.
+fn set_end(processors: &mut Processors, i: usize, end: Moment)
+    ensures { processors.new ≡ change_item i (stalled_to end) processors.old }
+{
+    if let Some(p) = processors.get_mut(i) {
+        p.stall_end = end;
+    }
+}
+
+/// The processor's stall ends then.
+pub fn set_stall_end(g: u8, p: u8, end: Moment, cores: &mut Row<Option<Resource>>)
+    requires { 0 < g }
+    ensures { cores.new ≡ change_at (p / g) (with_sibling (p % g) (stalled_to end)) cores.old }
+{
+    let r = (p / g) as usize;
+    if r < cores.len() {
+        if let Some(c) = cores.item_mut(r) {
+            set_end(&mut c.processors, (p % g) as usize, end);
+        }
+    }
+}
+
+/// So many processors from p on have no work whose end is known.
+pub fn clear_works(p: u16, count: u8, works: &mut Row<Option<Moment>>)
+    requires { p + count < 2 ^ 16 }
+    ensures { works.new ≡ without_works_spec p count works.old }
+{
+    for i in 0..count {
+        clear_work(p + i as u16, works);
+    }
+}
+
+/// The processor has no work whose end is known.
+fn clear_work(p: u16, works: &mut Row<Option<Moment>>)
+    ensures { works.new ≡ clear_at p works.old }
+{
+    let place = p as usize;
+    if place < works.len() {
+        works.replace(place, None);
+    }
+}

@@ -1,0 +1,421 @@
+//! The cores of one pool.
+
+ghost use Rattle.std.specs.Prelude.{◌≡◌, ◌≤◌, true, IfOk, None, length, replicate};
+ghost use Rattle.std.specs.Option.{option_copied};
+ghost use Rattle.sched_model.specs.Places.{first_place};
+ghost use Rattle.core_state.specs.Seen.{stall_until as stall_until_spec};
+
+use crate::changes::{
+    bring_due_at, choose_at, clear_works, open_if_left, set_leaving, set_pending_by, set_stall_end,
+    take_place, take_saved,
+};
+use crate::ends::{lowest_end, move_end, processor_at};
+use crate::heaps::{Heaps, IDS, earlier, empty_heaps, first_come, least_of, rearm};
+use plain_policy::places::set_place;
+use plain_pool::cores::{core_at, first_core, home_cores};
+use plain_pool::doing::{change_doing, set_pending};
+use sched_base::{Moment, NoMemory, UnitId, VcpuId};
+use sched_model::row::Row;
+use sched_model::state::{Doing, Processor, Resource};
+use std::alloc::Global;
+use std::marker::Model;
+
+/// The cores of one pool. Contracts see the cores by number, for each of 64 processors the moment at which the work of the vCPU that it
+/// runs is done, as its caller told it, and how many processors a core has.
+///
+/// The processors of the core r are those from r times that number on. All moments are in nanoseconds. No call but `room` takes memory.
+#[derive(Drop)]
+pub struct CoreState {
+    granularity: u8,
+    home: u64,
+    first: Option<u8>,
+    cores: Row<Option<Resource>>,
+    works: Row<Option<Moment>>,
+    heaps: Heaps,
+}
+
+impl Model for CoreState {
+    ghost use Rattle.core_state.specs.Seen.{Seen};
+
+    ghost Value = { Seen };
+
+    ghost use Rattle.core_state.specs.Kept.{IsKept};
+
+    ghost view = { λ a. record { resources = a.cores; works = a.works; granularity = a.granularity } };
+
+    ghost invariant = { λ a. IsKept (record { resources = a.cores; works = a.works; granularity = a.granularity }) a.home a.first a.heaps };
+}
+
+/// So many places, all empty.
+#[tactic(auto, using(crate::proofs::Replicate::replicate_one_more))]
+fn empty_places<T: Drop>(alloc: Global, count: usize) -> Result<Row<Option<T>>, NoMemory>
+    ensures { IfOk result (λ row. row ≡ replicate count None) }
+{
+    let mut places = Vec::new(alloc);
+    for i in 0..count {
+        places.push(None)?;
+    }
+    Ok(Row::from_vec(places))
+}
+
+/// The number of the first core, where there are few places.
+fn first_number(cores: &[Option<Resource>]) -> Option<u8>
+    requires { length cores.now ≤ 64 }
+    ensures { result ≡ first_place 0 (λ c. true) cores.now }
+{
+    match first_core(cores) {
+        None => None,
+        Some(r) => Some(r as u8),
+    }
+}
+
+/// The end of a stall of the processor up to this moment: no earlier than that of the stall that it has.
+fn later_end(p: Option<&Processor>, until: Moment) -> Moment
+    ensures { result ≡ stall_until_spec (option_copied p.entry) until }
+{
+    match p {
+        None => until,
+        Some(q) => Moment(q.stall_end.0.max(until.0)),
+    }
+}
+
+impl CoreState {
+    ghost use Rattle.std.specs.Prelude.{◌≡◌, ◌≤◌, ◌<◌, ◌+◌, ◌*◌, ◌/◌, ℕ, true, IfOk, length, None, Some};
+    ghost use Rattle.std.specs.Option.{option_copied};
+    ghost use Rattle.sched_model.specs.declared.action.Action.TheVariants.{Moved, Block, Slice, Arrive, Decide, Leave, Save};
+    ghost use Rattle.sched_model.specs.declared.state.Doing.TheVariants as doing;
+    ghost use Rattle.sched_model.specs.Checked.{IsGranularity};
+    ghost use Rattle.sched_model.specs.Places.{at_place, clear_at, first_place, put_at};
+    ghost use Rattle.sched_model.specs.Pool.{cores_from, does, due_within, open_if_left as open_if_left_spec, saved, saving_among, set_pending as set_pending_spec};
+    ghost use Rattle.core_state.specs.Seen.{changed_core, changed_processor, chosen, leaving_core, pending_by, processor_among, stall_until, stalled_to, vacant, with_work, without_works};
+    ghost use Rattle.core_state.specs.Ends.{lowest_among, ready_among, ready_within};
+    ghost use Rattle.core_state.specs.Firsts.{IsFirstCome, IsLeast};
+    ghost use Rattle.core_state.specs.Kept.{KeepsCores};
+
+    /// No core yet, with so many places for cores of 1, 2 or 4 processors each, at most 64 processors in all.
+    pub fn room(alloc: Global, granularity: u8, places: u8) -> Result<CoreState, NoMemory>
+        requires granularity { IsGranularity granularity }
+        requires places { places * granularity ≤ 64 }
+        ensures { IfOk result (λ cores. cores ≡ vacant granularity places) }
+    {
+        let cores = empty_places(alloc, places as usize)?;
+        let works = empty_places(alloc, IDS)?;
+        let heaps = empty_heaps(alloc)?;
+        Ok(CoreState {
+            granularity,
+            home: 0,
+            first: None,
+            cores,
+            works,
+            heaps,
+        })
+    }
+
+    /// The core with this number.
+    pub fn core(&self, r: u8) -> Option<&Resource>
+        ensures { option_copied result ≡ at_place self.now.resources r }
+    {
+        core_at(self.cores.as_slice(), r as usize)
+    }
+
+    /// The set of the cores.
+    pub fn home(&self) -> u64
+        ensures { result ≡ cores_from 0 self.now.resources }
+    {
+        self.home
+    }
+
+    /// The first core.
+    pub fn first(&self) -> Option<u8>
+        ensures { result ≡ first_place 0 (λ c. true) self.now.resources }
+    {
+        self.first
+    }
+
+    /// The end of the stall of the lowest processor.
+    pub fn lowest_end(&self) -> Option<Moment>
+        ensures { result ≡ lowest_among self.now.resources }
+    {
+        lowest_end(self.cores.as_slice(), self.first)
+    }
+
+    /// A core comes in at its place, in place of what stands there. None of its processors has work whose end is known.
+    pub fn put(&mut self, r: u8, core: Resource)
+        requires place { r < length self.old.resources }
+        requires siblings { length core.processors ≡ self.old.granularity }
+        ensures { self.new ≡ record self.old { resources = put_at r core self.old.resources; works = without_works (r * self.old.granularity) self.old.granularity self.old.works } }
+    {
+        let g = self.granularity;
+        set_place(&mut self.cores, r, Some(core));
+        clear_works(r as u16 * g as u16, g, &mut self.works);
+        self.home = home_cores(self.cores.as_slice());
+        self.first = first_number(self.cores.as_slice());
+        rearm(
+            &mut self.heaps,
+            g,
+            r,
+            self.cores.as_slice(),
+            self.works.as_slice(),
+        );
+    }
+
+    /// The core goes out, and its place is empty. None of its processors has work whose end is known.
+    pub fn take(&mut self, r: u8) -> Option<Resource>
+        ensures core { result ≡ at_place self.old.resources r }
+        ensures after { self.new ≡ record self.old { resources = clear_at r self.old.resources; works = without_works (r * self.old.granularity) self.old.granularity self.old.works } }
+    {
+        let g = self.granularity;
+        let core = take_place(r, &mut self.cores);
+        clear_works(r as u16 * g as u16, g, &mut self.works);
+        self.home = home_cores(self.cores.as_slice());
+        self.first = first_number(self.cores.as_slice());
+        rearm(
+            &mut self.heaps,
+            g,
+            r,
+            self.cores.as_slice(),
+            self.works.as_slice(),
+        );
+        core
+    }
+
+    /// The core is to decide anew.
+    pub fn set_pending(&mut self, r: u8)
+        ensures { self.new ≡ changed_core r set_pending_spec self.old }
+    {
+        set_pending(r, &mut self.cores);
+        rearm(
+            &mut self.heaps,
+            self.granularity,
+            r,
+            self.cores.as_slice(),
+            self.works.as_slice(),
+        );
+    }
+
+    /// The core is to decide anew, and has this due.
+    pub fn set_pending_due(&mut self, r: u8, due: Moment)
+        ensures { self.new ≡ changed_core r (pending_by due) self.old }
+    {
+        set_pending_by(r, due, &mut self.cores);
+        rearm(
+            &mut self.heaps,
+            self.granularity,
+            r,
+            self.cores.as_slice(),
+            self.works.as_slice(),
+        );
+    }
+
+    /// The core is leaving; it is to decide where it has a unit.
+    pub fn set_leaving(&mut self, r: u8)
+        ensures { self.new ≡ changed_core r leaving_core self.old }
+    {
+        set_leaving(r, &mut self.cores);
+        rearm(
+            &mut self.heaps,
+            self.granularity,
+            r,
+            self.cores.as_slice(),
+            self.works.as_slice(),
+        );
+    }
+
+    /// The core decides at t: it runs the unit up to the due, and saves the one that it ran, where that is another.
+    pub fn decide(&mut self, r: u8, t: Moment, unit: Option<UnitId>, due: Option<Moment>)
+        ensures { self.new ≡ changed_core r (chosen t.0 unit due) self.old }
+    {
+        choose_at(r, t, unit, due, &mut self.cores);
+        rearm(
+            &mut self.heaps,
+            self.granularity,
+            r,
+            self.cores.as_slice(),
+            self.works.as_slice(),
+        );
+    }
+
+    /// The core puts away the unit that it saves.
+    pub fn save(&mut self, r: u8) -> Option<UnitId>
+        ensures unit { result ≡ saving_among self.old.resources r }
+        ensures after { self.new ≡ changed_core r saved self.old }
+    {
+        let unit = take_saved(r, &mut self.cores);
+        rearm(
+            &mut self.heaps,
+            self.granularity,
+            r,
+            self.cores.as_slice(),
+            self.works.as_slice(),
+        );
+        unit
+    }
+
+    /// The core's due is moved to the span after t, where it is later.
+    pub fn shorten_due(&mut self, r: u8, t: Moment, budget: u64)
+        ensures { self.new ≡ changed_core r (due_within t.0 budget) self.old }
+    {
+        bring_due_at(r, t, budget, &mut self.cores);
+        rearm(
+            &mut self.heaps,
+            self.granularity,
+            r,
+            self.cores.as_slice(),
+            self.works.as_slice(),
+        );
+    }
+
+    /// The processor does this, and the work of the vCPU that it runs is done then.
+    fn set_doing(&mut self, p: u8, doing: Doing, work: Option<Moment>)
+        ensures { self.new ≡ with_work p work (changed_processor p (does doing) self.old) }
+    {
+        let g = self.granularity;
+        let r = p / g;
+        change_doing(g, p, doing, &mut self.cores);
+        set_place(&mut self.works, p, work);
+        rearm(
+            &mut self.heaps,
+            g,
+            r,
+            self.cores.as_slice(),
+            self.works.as_slice(),
+        );
+    }
+
+    /// The processor is held: it waits for its siblings.
+    pub fn hold(&mut self, p: u8)
+        ensures { self.new ≡ with_work p None (changed_processor p (does doing.Held) self.old) }
+    {
+        self.set_doing(p, Doing::Held, None);
+    }
+
+    /// The processor runs the vCPU, whose work is done then: `None` where it has no end.
+    pub fn run(&mut self, p: u8, v: VcpuId, work: Option<Moment>)
+        ensures { self.new ≡ with_work p work (changed_processor p (does (doing.Guest v)) self.old) }
+    {
+        self.set_doing(p, Doing::Guest(v), work);
+    }
+
+    /// The processor idles.
+    pub fn idle(&mut self, p: u8)
+        ensures { self.new ≡ with_work p None (changed_processor p (does doing.Idle) self.old) }
+    {
+        self.set_doing(p, Doing::Idle, None);
+    }
+
+    /// The processor leaves its siblings and does this; the last one that is held opens the core's stage.
+    pub fn leave(&mut self, p: u8, doing: Doing, work: Option<Moment>)
+        ensures { self.new ≡ with_work p work (changed_core (p / self.old.granularity) open_if_left_spec (changed_processor p (does doing) self.old)) }
+    {
+        let g = self.granularity;
+        let r = p / g;
+        change_doing(g, p, doing, &mut self.cores);
+        open_if_left(r, &mut self.cores);
+        set_place(&mut self.works, p, work);
+        rearm(
+            &mut self.heaps,
+            g,
+            r,
+            self.cores.as_slice(),
+            self.works.as_slice(),
+        );
+    }
+
+    /// The processor is stalled up to this moment, if it is not yet for longer: the end of its stall.
+    pub fn stall(&mut self, p: u8, until: Moment) -> Moment
+        ensures end { result ≡ stall_until (processor_among self.old.granularity self.old.resources p) until }
+        ensures after { self.new ≡ changed_processor p (stalled_to result) self.old }
+    {
+        let g = self.granularity;
+        let r = p / g;
+        let end = later_end(processor_at(g, self.cores.as_slice(), p as usize), until);
+        set_stall_end(g, p, end, &mut self.cores);
+        rearm(
+            &mut self.heaps,
+            g,
+            r,
+            self.cores.as_slice(),
+            self.works.as_slice(),
+        );
+        end
+    }
+
+    /// From when on the core may leave the pool.
+    pub fn move_end(&self, r: u8) -> Option<Moment>
+        ensures { result ≡ ready_among self.now (Moved r) }
+    {
+        move_end(self.cores.as_slice(), r as usize)
+    }
+
+    /// The first core that may leave the pool at t.
+    pub fn first_move(&self, t: Moment) -> Option<u8>
+        ensures { IsFirstCome (λ r. ready_among self.now (Moved r)) t.0 result }
+    {
+        first_come(&self.heaps.moves, t)
+    }
+
+    /// The first core whose due has come at t.
+    pub fn first_slice(&self, t: Moment) -> Option<u8>
+        ensures { IsFirstCome (λ r. ready_among self.now (Slice r)) t.0 result }
+    {
+        first_come(&self.heaps.slices, t)
+    }
+
+    /// The first core that may decide at t.
+    pub fn first_decide(&self, t: Moment) -> Option<u8>
+        ensures { IsFirstCome (λ r. ready_among self.now (Decide r)) t.0 result }
+    {
+        first_come(&self.heaps.decides, t)
+    }
+
+    /// The first core that may put away at t the unit that it saves.
+    pub fn first_save(&self, t: Moment) -> Option<u8>
+        ensures { IsFirstCome (λ r. ready_among self.now (Save r)) t.0 result }
+    {
+        first_come(&self.heaps.saves, t)
+    }
+
+    /// The first processor whose vCPU may block at t.
+    pub fn first_block(&self, t: Moment) -> Option<u8>
+        ensures { IsFirstCome (λ p. ready_among self.now (Block p)) t.0 result }
+    {
+        first_come(&self.heaps.blocks, t)
+    }
+
+    /// The first processor that may arrive at t.
+    pub fn first_arrive(&self, t: Moment) -> Option<u8>
+        ensures { IsFirstCome (λ p. ready_among self.now (Arrive p)) t.0 result }
+    {
+        first_come(&self.heaps.arrives, t)
+    }
+
+    /// The first processor that may leave at t.
+    pub fn first_leave(&self, t: Moment) -> Option<u8>
+        ensures { IsFirstCome (λ p. ready_among self.now (Leave p)) t.0 result }
+    {
+        first_come(&self.heaps.leaves, t)
+    }
+
+    /// The least moment from which on an event of a core or a processor may come, but for a core that leaves the pool.
+    pub fn least(&self) -> Option<Moment>
+        ensures { IsLeast (ready_within self.now) result }
+    {
+        let heaps = &self.heaps;
+        let slices = least_of(&heaps.slices);
+        let decides = least_of(&heaps.decides);
+        let saves = least_of(&heaps.saves);
+        let blocks = least_of(&heaps.blocks);
+        let arrives = least_of(&heaps.arrives);
+        let leaves = least_of(&heaps.leaves);
+        let of_cores = earlier(earlier(slices, decides), saves);
+        let of_processors = earlier(earlier(blocks, arrives), leaves);
+        earlier(of_cores, of_processors)
+    }
+
+    /// Does nothing, and tells what the cores keep.
+    pub fn keeps(&self)
+        ensures { KeepsCores self.now }
+    {
+        let _ = &self.granularity;
+    }
+}

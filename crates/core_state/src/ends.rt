@@ -1,0 +1,204 @@
+//! From when on the events of one core and of one processor may come. g is the number of a core's processors.
+
+ghost use Rattle.std.specs.Prelude.{◌≡◌, ◌<◌, not, true, None, Some};
+ghost use Rattle.std.specs.Option.{option_copied};
+ghost use Rattle.sched_model.specs.declared.state.Processor.{Processor as ProcessorRecord};
+ghost use Rattle.sched_model.specs.Places.{at_place, first_place};
+ghost use Rattle.sched_model.specs.Pool.{is_held as is_held_spec};
+ghost use Rattle.pool_laws.specs.Ready.{when as when_spec, later as later_spec, end_of, end_where, first_end as first_end_spec, may_move as may_move_spec, gathers as gathers_spec, slice_end as slice_end_spec};
+ghost use Rattle.core_state.specs.Seen.{processor_among};
+ghost use Rattle.core_state.specs.Ends.{may_decide as may_decide_spec, may_save as may_save_spec, parts as parts_spec, sibling_among, lowest_among};
+
+use plain_pool::cores::{all_held, any_held, core_at, is_held, is_open};
+use sched_base::Moment;
+use sched_model::state::{Processor, Resource};
+
+/// The moment, under a condition.
+fn when(condition: bool, at: Option<Moment>) -> Option<Moment>
+    ensures { result ≡ when_spec condition at }
+{
+    if condition { at } else { None }
+}
+
+/// The later of two moments, where both are there.
+fn later(a: Option<Moment>, b: Option<Moment>) -> Option<Moment>
+    ensures { result ≡ later_spec a b }
+{
+    match (a, b) {
+        (Some(x), Some(y)) => Some(Moment(x.0.max(y.0))),
+        _ => None,
+    }
+}
+
+/// The end of the stall of the core's first processor.
+fn first_end(c: &Resource) -> Option<Moment>
+    ensures { result ≡ first_end_spec c.now }
+{
+    match c.processors.as_slice() {
+        [] => None,
+        [p, ..] => Some(p.stall_end),
+    }
+}
+
+/// Whether the core may leave the pool.
+fn may_move(c: &Resource) -> bool
+    ensures { result ≡ may_move_spec c.now }
+{
+    c.leaving && c.cur.is_none() && c.saving.is_none() && !c.pending && is_open(c)
+}
+
+/// Whether the core's processors may arrive.
+fn gathers(c: &Resource) -> bool
+    ensures { result ≡ gathers_spec c.now }
+{
+    c.pending && is_open(c) && c.saving.is_none()
+}
+
+/// Whether the core may decide.
+fn may_decide(c: &Resource) -> bool
+    ensures { result ≡ may_decide_spec c.now }
+{
+    all_held(c.processors.as_slice()) && is_open(c)
+}
+
+/// Whether the core may put away the unit that it saves.
+fn may_save(c: &Resource) -> bool
+    ensures { result ≡ may_save_spec c.now }
+{
+    c.saving.is_some() && !any_held(c.processors.as_slice())
+}
+
+/// From when on the core may leave the pool.
+pub fn move_end(cores: &[Option<Resource>], r: usize) -> Option<Moment>
+    ensures { result ≡ end_where may_move_spec (at_place cores.now r) }
+{
+    match core_at(cores, r) {
+        None => None,
+        Some(c) => when(may_move(c), first_end(c)),
+    }
+}
+
+/// From when on the core is to decide anew, since its due has come.
+pub fn slice_end(cores: &[Option<Resource>], r: usize) -> Option<Moment>
+    ensures { result ≡ slice_end_spec (at_place cores.now r) }
+{
+    match core_at(cores, r) {
+        None => None,
+        Some(c) => when(!c.pending, later(c.due, first_end(c))),
+    }
+}
+
+/// From when on the core may decide.
+pub fn decide_end(cores: &[Option<Resource>], r: usize) -> Option<Moment>
+    ensures { result ≡ end_where may_decide_spec (at_place cores.now r) }
+{
+    match core_at(cores, r) {
+        None => None,
+        Some(c) => when(may_decide(c), first_end(c)),
+    }
+}
+
+/// From when on the core may put away the unit that it saves.
+pub fn save_end(cores: &[Option<Resource>], r: usize) -> Option<Moment>
+    ensures { result ≡ end_where may_save_spec (at_place cores.now r) }
+{
+    match core_at(cores, r) {
+        None => None,
+        Some(c) => when(may_save(c), first_end(c)),
+    }
+}
+
+/// The processor.
+pub fn processor_at(g: u8, cores: &[Option<Resource>], p: usize) -> Option<&Processor>
+    requires { 0 < g }
+    ensures { option_copied result ≡ processor_among g cores.now p }
+{
+    let c = core_at(cores, p / g as usize)?;
+    c.processors.as_slice().get(p % g as usize)
+}
+
+/// The end of the stall of the processor, if there is one.
+fn stall_end(p: Option<&Processor>) -> Option<Moment>
+    ensures { result ≡ end_of (option_copied p.entry) }
+{
+    match p {
+        None => None,
+        Some(q) => Some(q.stall_end),
+    }
+}
+
+/// The same of a processor that is held.
+fn held_end(p: Option<&Processor>) -> Option<Moment>
+    ensures { result ≡ elim (option_copied p.entry) [ None ↦ None | Some q ↦ when_spec (is_held_spec q) (Some q.stall_end) ] }
+{
+    match p {
+        None => None,
+        Some(q) => when(is_held(q), Some(q.stall_end)),
+    }
+}
+
+/// The same of a processor that is not held.
+fn free_end(p: Option<&Processor>) -> Option<Moment>
+    ensures { result ≡ elim (option_copied p.entry) [ None ↦ None | Some q ↦ when_spec (not (is_held_spec q)) (Some q.stall_end) ] }
+{
+    match p {
+        None => None,
+        Some(q) => when(!is_held(q), Some(q.stall_end)),
+    }
+}
+
+/// From when on the processor may arrive.
+pub fn arrive_end(g: u8, cores: &[Option<Resource>], p: usize) -> Option<Moment>
+    requires { 0 < g }
+    ensures { result ≡ sibling_among g cores.now p gathers_spec (λ (q : ProcessorRecord). not (is_held_spec q)) }
+{
+    match core_at(cores, p / g as usize) {
+        None => None,
+        Some(c) => when(gathers(c), free_end(processor_at(g, cores, p))),
+    }
+}
+
+/// From when on the processor may leave.
+pub fn leave_end(g: u8, cores: &[Option<Resource>], p: usize) -> Option<Moment>
+    requires { 0 < g }
+    ensures { result ≡ sibling_among g cores.now p parts_spec is_held_spec }
+{
+    match core_at(cores, p / g as usize) {
+        None => None,
+        Some(c) => when(!is_open(c), held_end(processor_at(g, cores, p))),
+    }
+}
+
+/// What stands at the place, where there is such a place.
+fn work_at(works: &[Option<Moment>], p: usize) -> Option<Moment>
+    ensures { result ≡ at_place works.now p }
+{
+    if p < works.len() { works[p] } else { None }
+}
+
+/// From when on the vCPU that the processor runs may block, where these are the moments at which the works are done.
+pub fn block_end(
+    g: u8,
+    cores: &[Option<Resource>],
+    works: &[Option<Moment>],
+    p: usize,
+) -> Option<Moment>
+    requires { 0 < g }
+    ensures { result ≡ later_spec (at_place works.now p) (end_of (processor_among g cores.now p)) }
+{
+    later(work_at(works, p), stall_end(processor_at(g, cores, p)))
+}
+
+/// The end of the stall of the pool's lowest processor.
+pub fn lowest_end(cores: &[Option<Resource>], first: Option<u8>) -> Option<Moment>
+    requires { first ≡ first_place 0 (λ c. true) cores.now }
+    ensures { result ≡ lowest_among cores.now }
+{
+    match first {
+        None => None,
+        Some(r) => match core_at(cores, r as usize) {
+            None => None,
+            Some(c) => first_end(c),
+        },
+    }
+}
