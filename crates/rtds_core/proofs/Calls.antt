@@ -177,7 +177,7 @@ own_known domains ask scheduler = by_cur ask.cur
 -- the choice among the core's own and the first is that of a scan
 pub choice_of_first : (domains : List (Option (List RtdsUnit))) (affinity : List (Option (List Cores))) (q : Lists) (masks : List Cores) (ask : Ask) → ask.leaving ≡ false → IsOrdered q → IsShaped domains affinity → AreQueued domains q → AreMasks affinity masks
     → foremost domains (own_candidate ask (scheduler_of [] affinity (RtdsPool domains)) domains) (listed (first_that (λ u. may_run masks (record { 0 = ask.core }) (record { 0 = ask.home }) u) q.eligible))
-      ≡ choice ask (scheduler_of (queue_of q) affinity (RtdsPool domains)) domains
+    ≡ choice ask (scheduler_of (queue_of q) affinity (RtdsPool domains)) domains
 choice_of_first domains affinity q masks ask stays order is queued are =
     scan_of_first domains affinity ask.home ask.core ask.at (own_candidate ask (scheduler_of [] affinity (RtdsPool domains)) domains) (queue_of q)
     (first_that (λ u. may_run masks (record { 0 = ask.core }) (record { 0 = ask.home }) u) q.eligible) (own_known domains ask (scheduler_of [] affinity (RtdsPool domains)))

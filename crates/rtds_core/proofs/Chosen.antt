@@ -151,14 +151,14 @@ module _ (affinity : List (Option (List Cores))) (q : Lists) (masks : List Cores
   pub seen_chosen : (ask : Ask) (chosen : Option UnitId) (domains : List (Option (List RtdsUnit))) (dues : List (Option Moment)) (latest : ℕ) → ask.at ≡ t → IfSome ask.cur (IsOwnUnit domains q) → IfSome chosen (IsKnown (burn_cur ask.cur t domains)) → IsOrdered q → IsKept domains affinity q masks dues spare t
       → chosen ≡ choice ask (seen_of domains affinity q spare latest).scheduler (burn_cur ask.cur ask.at domains)
       → seen_of (run_from ask.at chosen (switch_off ask.cur (burn_cur ask.cur ask.at domains))) affinity (taken chosen q) spare ask.at
-        ≡ seen_at ask.at (after_decision (decision_of ask (seen_of domains affinity q spare latest).scheduler) (seen_of domains affinity q spare latest).scheduler) (seen_of domains affinity q spare latest)
+      ≡ seen_at ask.at (after_decision (decision_of ask (seen_of domains affinity q spare latest).scheduler) (seen_of domains affinity q spare latest).scheduler) (seen_of domains affinity q spare latest)
   seen_chosen ask chosen domains dues latest now own known order kept is =
       of_choice chosen known
       ∙ ap (λ (o : Option UnitId). seen_at ask.at (after_decision (decide ask (burn_cur ask.cur ask.at domains) o) (seen_of domains affinity q spare latest).scheduler) (seen_of domains affinity q spare latest)) is
     where
       of_choice : (chosen : Option UnitId) → IfSome chosen (IsKnown (burn_cur ask.cur t domains))
           → seen_of (run_from ask.at chosen (switch_off ask.cur (burn_cur ask.cur ask.at domains))) affinity (taken chosen q) spare ask.at
-            ≡ seen_at ask.at (after_decision (decide ask (burn_cur ask.cur ask.at domains) chosen) (seen_of domains affinity q spare latest).scheduler) (seen_of domains affinity q spare latest)
+          ≡ seen_at ask.at (after_decision (decide ask (burn_cur ask.cur ask.at domains) chosen) (seen_of domains affinity q spare latest).scheduler) (seen_of domains affinity q spare latest)
       of_choice None known = refl
       of_choice (Some u) known =
           let charged = kept_charged ask.cur domains dues own kept in

@@ -259,10 +259,12 @@ module _ (domains : List (Option (List RtdsUnit))) (affinity : List (Option (Lis
             ap (λ (o : Option (List RtdsUnit)). unit_in o e.unit.n) (at_place-set_other d e.unit.dom.0 None domains ne) ∙ at)) kept.queued;
         room = omega (arith, old_room, sum, sizes);
         few = omega (arith, old_few, sum, sizes);
-        sets = record { each = λ u sets at n. elim (ℕ_discrete d u.dom.0) [
-          | yes e ↦ (let f : ◌≡◌ {A = Option (List Cores)} None (Some sets) = sym (subst (λ (k : ℕ). at_place (clear_at d affinity) k ≡ None) e (at_place-set d None affinity place)) ∙ at in absurd (cc))
-          | no ne ↦ kept.sets.each u sets (sym (at_place-set_other d u.dom.0 None affinity ne) ∙ at) n ∙ sym (ap (λ (o : Option (List Cores)). sets_in o u.n) (at_place-set_other d u.dom.0 None affinity ne))
-        ] };
+        sets = record {
+          each = λ u sets at n. elim (ℕ_discrete d u.dom.0) [
+            | yes e ↦ (let f : ◌≡◌ {A = Option (List Cores)} None (Some sets) = sym (subst (λ (k : ℕ). at_place (clear_at d affinity) k ≡ None) e (at_place-set d None affinity place)) ∙ at in absurd (cc))
+            | no ne ↦ kept.sets.each u sets (sym (at_place-set_other d u.dom.0 None affinity ne) ∙ at) n ∙ sym (ap (λ (o : Option (List Cores)). sets_in o u.n) (at_place-set_other d u.dom.0 None affinity ne))
+          ];
+        };
         armed = armed_alike (queue_of q) (queue_of q) domains domains2 dues kept.armed (λ w. elim (ℕ_discrete d w.dom.0) [
           | yes e ↦
               let gone : rtds_unit domains2 w ≡ None = no_record domains2 w (subst (λ (k : ℕ). at_place domains2 k ≡ None) e (at_place-set d None domains inside)) in
@@ -342,17 +344,19 @@ kept_pinned domains affinity q masks masks2 dues spare t d unit cores set kept =
   queued = kept.queued;
   room = kept.room;
   few = kept.few;
-  sets = record { each = λ u sets at inside. elim (ℕ_discrete d u.dom.0) [
-    | yes e ↦
-        let here : at_place (change_at d (pinned unit cores) affinity) u.dom.0 ≡ option_map (pinned unit cores) (at_place affinity u.dom.0) = subst (λ (k : ℕ). at_place (change_at d (pinned unit cores) affinity) k ≡ option_map (pinned unit cores) (at_place affinity k)) e (at_place-change_at d (pinned unit cores) affinity) in
-        named u sets e inside (at_place affinity u.dom.0) refl (sym here ∙ at)
-        ∙ sym (ap (λ (o : Option (List Cores)). sets_in o u.n) here)
-    | no ne ↦
-        let was : at_place affinity u.dom.0 ≡ Some sets = sym (at_place-set_other d u.dom.0 _ affinity ne) ∙ at in
-        let low : length sets ≤ 32 = small_sets domains affinity kept.shape u.dom.0 sets was in
-        ap (λ (c : Cores). c.0) (set u (omega (arith, inside, low)) ∙ ap (λ (b : Bool). if b then cores else mask_of masks u) (not_named d unit u ne))
-        ∙ kept.sets.each u sets was inside ∙ sym (ap (λ (o : Option (List Cores)). sets_in o u.n) (at_place-set_other d u.dom.0 _ affinity ne))
-  ] };
+  sets = record {
+    each = λ u sets at inside. elim (ℕ_discrete d u.dom.0) [
+      | yes e ↦
+          let here : at_place (change_at d (pinned unit cores) affinity) u.dom.0 ≡ option_map (pinned unit cores) (at_place affinity u.dom.0) = subst (λ (k : ℕ). at_place (change_at d (pinned unit cores) affinity) k ≡ option_map (pinned unit cores) (at_place affinity k)) e (at_place-change_at d (pinned unit cores) affinity) in
+          named u sets e inside (at_place affinity u.dom.0) refl (sym here ∙ at)
+          ∙ sym (ap (λ (o : Option (List Cores)). sets_in o u.n) here)
+      | no ne ↦
+          let was : at_place affinity u.dom.0 ≡ Some sets = sym (at_place-set_other d u.dom.0 _ affinity ne) ∙ at in
+          let low : length sets ≤ 32 = small_sets domains affinity kept.shape u.dom.0 sets was in
+          ap (λ (c : Cores). c.0) (set u (omega (arith, inside, low)) ∙ ap (λ (b : Bool). if b then cores else mask_of masks u) (not_named d unit u ne))
+          ∙ kept.sets.each u sets was inside ∙ sym (ap (λ (o : Option (List Cores)). sets_in o u.n) (at_place-set_other d u.dom.0 _ affinity ne))
+    ];
+  };
   armed = kept.armed;
 }
   where

@@ -135,8 +135,8 @@ none_without u (e ∷ es) = elim (test_cases (is_of u e)) [
 pub queued_renewed : (domains : List (Option (List RtdsUnit))) (q : Lists) (u : UnitId) (f : RtdsUnit → RtdsUnit) (x : RtdsUnit) → rtds_unit domains u ≡ Some x → (f x).burned ≡ None → 0 < (f x).left → AreQueued domains q → AreQueued (change_unit u f domains) (renewed q u (key_by (f x)))
 queued_renewed domains q u f x at off left is = record {
   eligible = each_placed (IsEligible (change_unit u f domains)) (queued u (key_of (key_by (f x))) (rank_of q u)) (without u q.eligible)
-  (record { unit = f x; at = read_same u f domains x at; off = off; left = left; key = refl })
-  (eligible_other u f domains (without u q.eligible) (none_without u q.eligible) (each_without (IsEligible domains) u q.eligible is.eligible));
+      (record { unit = f x; at = read_same u f domains x at; off = off; left = left; key = refl })
+      (eligible_other u f domains (without u q.eligible) (none_without u q.eligible) (each_without (IsEligible domains) u q.eligible is.eligible));
   spent = spent_other u f domains (without u q.spent) (none_without u q.spent) (each_without (IsSpent domains) u q.spent is.spent);
 }
 

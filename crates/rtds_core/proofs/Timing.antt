@@ -144,9 +144,9 @@ module _ (queue : List UnitId) where
       ap (λ (n : ℕ). armed n (drop 32 dues)) up
       ∙ blocks (suc k) domains (drop 32 dues) (let l = long_drop 32 dues in omega (arith, long, l)) (λ d units at. small (suc d) units at)
       (λ d n low. (
-          let at : 32 + (d * 32 + n) ≡ suc d * 32 + n = omega arith in
-          let e : k + suc d ≡ suc k + d = omega arith in
-          get_drop 32 (d * 32 + n) dues ∙ ap (λ (i : ℕ). due_of dues i) at ∙ each (suc d) n low ∙ ap (λ (i : ℕ). due_if (record { dom = domain i; n = n }) (unit_in (at_place domains d) n)) e)) in
+      let at : 32 + (d * 32 + n) ≡ suc d * 32 + n = omega arith in
+      let e : k + suc d ≡ suc k + d = omega arith in
+      get_drop 32 (d * 32 + n) dues ∙ ap (λ (i : ℕ). due_of dues i) at ∙ each (suc d) n low ∙ ap (λ (i : ℕ). due_if (record { dom = domain i; n = n }) (unit_in (at_place domains d) n)) e)) in
       armed_parts 32 (k * 32) dues ∙ ap (λ (xs : List Armed). armed (k * 32) (take 32 dues) ++ xs) rest ∙ first o small each
     where
       first : (o : Option (List RtdsUnit)) → EachPlace (λ (units : List RtdsUnit). length units ≤ 32) (o ∷ domains)
@@ -172,13 +172,13 @@ module _ (queue : List UnitId) where
           ((let z : k * 32 ≡ k * 32 + 0 = omega arith in ap (λ (n : ℕ). armed n (take 32 dues)) z)
           ∙ block k 0 units (take 32 dues) (let l = long_take 32 dues (omega (arith, long)) in omega (arith, l)) (let l = small 0 units refl in omega (arith, l))
           (λ i low. (
-              let inside : i < 32 = omega (arith, low) in
-              let z : 0 * 32 + i ≡ i = omega arith in
-              let a : k + 0 ≡ k = omega arith in
-              let b : i ≡ i + 0 = omega arith in
-              get_take 32 i dues inside ∙ sym (ap (λ (n : ℕ). due_of dues n) z) ∙ each 0 i inside
-              ∙ ap (λ (d : ℕ). due_if (record { dom = domain d; n = i }) (slice_get units i)) a
-              ∙ ap (λ (n : ℕ). due_if (record { dom = domain k; n = n }) (slice_get units i)) b)))
+          let inside : i < 32 = omega (arith, low) in
+          let z : 0 * 32 + i ≡ i = omega arith in
+          let a : k + 0 ≡ k = omega arith in
+          let b : i ≡ i + 0 = omega arith in
+          get_take 32 i dues inside ∙ sym (ap (λ (n : ℕ). due_of dues n) z) ∙ each 0 i inside
+          ∙ ap (λ (d : ℕ). due_if (record { dom = domain d; n = i }) (slice_get units i)) a
+          ∙ ap (λ (n : ℕ). due_if (record { dom = domain k; n = n }) (slice_get units i)) b)))
 
   -- the timers are those of the armed moments
   pub timers_armed : (domains : List (Option (List RtdsUnit))) (dues : List (Option Moment)) → length domains ≤ 64 → EachPlace (λ (units : List RtdsUnit). length units ≤ 32) domains → AreArmed queue domains dues

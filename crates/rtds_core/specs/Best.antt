@@ -67,20 +67,22 @@ due_at domains at (Some u) = Some (moment (at + budget_left domains u))
 abbrev pub deadline_in : List (Option (List RtdsUnit)) → UnitId → ℕ
 deadline_in domains u = elim (rtds_unit domains u) [ None ↦ 0 | Some x ↦ x.deadline ]
 
--- the chosen unit runs from a moment; it waits no more; its deadline is armed
+-- the records where the chosen unit runs from a moment
 abbrev pub run_from : ℕ → Option UnitId → List (Option (List RtdsUnit)) → List (Option (List RtdsUnit))
 run_from at None domains = domains
 run_from at (Some u) domains = set_running (Some at) u domains
 
+-- the queues without the chosen unit, which may wait or be on already
 abbrev pub taken : Option UnitId → Lists → Lists
 taken None q = q
 taken (Some u) q = (if holds q u then removed q u else q)
 
+-- the dues where the chosen unit's deadline is armed
 abbrev pub started : List (Option (List RtdsUnit)) → Option UnitId → List (Option Moment) → List (Option Moment)
 started domains None dues = dues
 started domains (Some u) dues = with_due u (Some (moment (deadline_in domains u))) dues
 
--- the core's own unit is not armed
+-- the dues where the core's own unit is not armed
 abbrev pub stopped : Option UnitId → List (Option Moment) → List (Option Moment)
 stopped None dues = dues
 stopped (Some u) dues = with_due u None dues

@@ -29,11 +29,12 @@ pub record IsShaped (domains : List (Option (List RtdsUnit))) (affinity : List (
   pub same : (d : ℕ) → option_map length (at_place domains d) ≡ option_map length (at_place affinity d)
   pub small : EachPlace (λ (units : List RtdsUnit). length units ≤ 32) domains
 
--- how many units of a domain there are, and of all domains
+-- how many units there are at a place
 abbrev pub size : {X : Type 0} → Option (List X) → ℕ
 size None = 0
 size (Some units) = length units
 
+-- how many units there are at all places
 abbrev pub total : {X : Type 0} → List (Option (List X)) → ℕ
 total [] = 0
 total (o ∷ domains) = size o + total domains
@@ -75,11 +76,12 @@ told u unit =
     (elim unit [ None ↦ span 0 | Some x ↦ span x.budget ])
     (elim unit [ None ↦ false | Some x ↦ x.extra ])
 
--- the queues and the armed moments after the unit was replenished: one that is not on is eligible
+-- the queues after the unit was replenished: one that is not on is eligible
 abbrev pub renewed_if : Option RtdsUnit → UnitId → Lists → Lists
 renewed_if None u q = q
 renewed_if (Some x) u q = (if is_some x.burned then q else renewed q u (key_by x))
 
+-- the dues after the unit was replenished
 abbrev pub rearmed : Option RtdsUnit → UnitId → List (Option Moment) → List (Option Moment)
 rearmed None u dues = dues
 rearmed (Some x) u dues = with_due u (Some (moment x.deadline)) dues

@@ -1,6 +1,5 @@
 -- What callers see of an RTDS scheduler, with or without its memory.
-use Rattle.std.specs.Prelude.{ℕ, ◌≤◌, ◌≡◌, Option, Some, None}
-use Rattle.std.specs.Option.{IfSome}
+use Rattle.std.specs.Prelude.{ℕ, ◌≤◌, Option, Some, None}
 use Rattle.sched_model.specs.Checked.{most_span}
 use Rattle.sched_ops.specs.Seen.{Seen}
 use Rattle.rtds_core.specs.Kept.{bare}
@@ -11,5 +10,5 @@ seen_by None early = bare early
 seen_by (Some seen) early = seen
 
 -- the greatest moment that was given without memory is not past a longest span
-pub record IsInside (held : Option Seen) (t : ℕ) : Type 0 where
+pub record IsEarly (t : ℕ) : Type 0 where
   pub early : t ≤ most_span

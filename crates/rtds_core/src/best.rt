@@ -89,7 +89,13 @@ fn better_of(
 {
     match own {
         None => first,
-        Some(u) => { if goes_first(domains, first, u) { first } else { own } }
+        Some(u) => {
+            if goes_first(domains, first, u) {
+                first
+            } else {
+                own
+            }
+        }
     }
 }
 

@@ -113,12 +113,7 @@ impl Held {
     ghost use Rattle.rtds_core.specs.Kept.{IsRtds};
 
     /// The memory for a pool of a machine with these places, of which so many units may join.
-    pub fn room(
-        alloc: Global,
-        places: Places,
-        units: usize,
-        latest: u64,
-    ) -> Result<Held, NoMemory>
+    pub fn room(alloc: Global, places: Places, units: usize, latest: u64) -> Result<Held, NoMemory>
         requires domains { places.domains ≤ 64 }
         requires units { units ≤ 256 }
         requires early { latest ≤ 10000000000000 }

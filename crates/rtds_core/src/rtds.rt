@@ -27,11 +27,11 @@ impl Model for Rtds {
 
     ghost Value = { Seen };
 
-    ghost use Rattle.rtds_core.specs.Outside.{seen_by, IsInside};
+    ghost use Rattle.rtds_core.specs.Outside.{seen_by, IsEarly};
 
     ghost view = { λ a. seen_by a.held a.early };
 
-    ghost invariant = { λ a. IsInside a.held a.early };
+    ghost invariant = { λ a. IsEarly a.early };
 }
 
 /// The greatest moment that was given, in nanoseconds.

@@ -6,7 +6,7 @@ ghost use Rattle.sched_laws.specs.Each.{EachPlace};
 ghost use Rattle.sched_model.specs.Places.{at_place};
 ghost use Rattle.sched_model.specs.Policy.{kind_of};
 ghost use Rattle.sched_model.specs.declared.config.SchedKind.{SchedKind};
-ghost use Rattle.sched_ops.specs.Conditions.{is_member as is_member_spec, is_on as is_on_spec, is_vacant, has_joined, IsAway, IsOwnOf};
+ghost use Rattle.sched_ops.specs.Conditions.{is_member as is_member_spec, is_on as is_on_spec, is_vacant, has_joined, IsAway, IsAsked, IsOwnOf};
 ghost use Rattle.sched_ops.specs.Timers.{is_due as is_due_spec};
 ghost use Rattle.sched_ops.specs.declared.timer.Timer.TheVariants.{Repl};
 ghost use Rattle.sched_model.specs.declared.state.Records.TheVariants.{RtdsPool};
@@ -20,6 +20,7 @@ use plain_policy::policy::{better_waits, decide, replenish};
 use plain_policy::queue::enqueue;
 use plain_policy::records::replenish_due;
 use plain_policy::rtds::rtds_unit;
+use plain_units::decided::Decided;
 use plain_units::units::{drop_unit, has_unit};
 use sched_base::{Cores, DomId, Moment, NoMemory, ResId, Span, UnitId};
 use sched_model::ask::Ask;
@@ -28,7 +29,7 @@ use sched_model::event::Event;
 use sched_model::row::Row;
 use sched_model::short::Short;
 use sched_model::state::{Records, RtdsUnit, RtdsUnits, Scheduler};
-use sched_ops::{Places, Policy, Timer};
+use sched_ops::{Choice, Places, Policy, Timer};
 use std::alloc::Global;
 use std::process::Abort;
 use std::test::Fail;
@@ -120,9 +121,7 @@ fn is_own(scheduler: &Scheduler, cur: Option<UnitId>) -> bool
     };
     match &scheduler.records {
         Records::RtdsPool(domains) => {
-            is_member(scheduler, u)
-                && !has_unit(scheduler.queue.as_slice(), u)
-                && is_on(domains, u)
+            is_member(scheduler, u) && !has_unit(scheduler.queue.as_slice(), u) && is_on(domains, u)
         }
         _ => false,
     }
@@ -215,13 +214,36 @@ fn wait<P: Policy, R: Abort>(rt: &R, u: UnitId, policy: &mut P, plain: &mut Sche
 }
 
 /// The unit waits no more.
-fn wait_no_more<P: Policy, R: Abort>(rt: &R, u: UnitId, policy: &mut P, plain: &mut Scheduler, last: u64)
+fn wait_no_more<P: Policy, R: Abort>(
+    rt: &R,
+    u: UnitId,
+    policy: &mut P,
+    plain: &mut Scheduler,
+    last: u64,
+)
     requires { Agree (P.seen policy.old) plain.old last }
     ensures { Agree (P.seen policy.new) plain.new last }
 {
     assert!(rt; has_unit(plain.queue.as_slice(), u));
     policy.dequeue(u);
     drop_unit(&mut plain.queue, u);
+}
+
+/// Both decide for the core.
+fn decide_both<P: Policy>(
+    ask: &Ask,
+    last: u64,
+    policy: &mut P,
+    plain: &mut Scheduler,
+) -> (Choice, Decided)
+    requires agree { Agree (P.seen policy.old) plain.old last }
+    requires asked { IsAsked (P.seen policy.old) ask.now }
+    requires fits { RecordsFit ask.now.at plain.old.records }
+    ensures { Agree (P.seen policy.new) plain.new ask.now.at }
+{
+    let choice = policy.choose(ask);
+    let decided = decide(plain, ask);
+    (choice, decided)
 }
 
 /// Both decide for the core, and answer the same.
@@ -231,25 +253,18 @@ fn decides<P: Policy, R: Abort>(
     last: u64,
     policy: &mut P,
     plain: &mut Scheduler,
-) -> Option<(UnitId, Moment)>
+) -> Choice
     requires { Agree (P.seen policy.old) plain.old last }
     ensures { Agree (P.seen policy.new) plain.new ask.now.at }
 {
     assert!(rt; last <= ask.at && ask.since <= ask.at && ask.core < 64);
     assert!(rt; fits(ask.at, &plain.records));
     assert!(rt; is_own(plain, ask.cur));
-    let choice = policy.choose(ask);
-    let decided = decide(plain, ask);
+    let (choice, decided) = decide_both(ask, last, policy, plain);
     assert_eq!(rt; choice.unit, decided.unit, "at {}", ask.at);
     assert_eq!(rt; choice.due, decided.due, "at {}", ask.at);
     assert_eq!(rt; choice.reset, decided.reset, "at {}", ask.at);
-    match choice.unit {
-        None => None,
-        Some(u) => match choice.due {
-            None => None,
-            Some(due) => Some((u, due)),
-        },
-    }
+    choice
 }
 
 /// Whether a better one waits: both say the same.
@@ -417,7 +432,13 @@ fn open<P: Policy>(alloc: Global, policy: &mut P) -> Result<Scheduler, NoMemory>
 }
 
 /// The old unit of the core waits, where it is another than the new one and runnable.
-fn put_back<P: Policy, R: Abort>(rt: &R, old: Option<u8>, runnable: bool, policy: &mut P, seat: &mut Seat)
+fn put_back<P: Policy, R: Abort>(
+    rt: &R,
+    old: Option<u8>,
+    runnable: bool,
+    policy: &mut P,
+    seat: &mut Seat,
+)
     requires { Agree (P.seen policy.old) seat.old.scheduler seat.old.last }
     ensures { Agree (P.seen policy.new) seat.new.scheduler seat.new.last }
 {
@@ -451,7 +472,12 @@ fn runs<P: Policy, R: Abort>(
         home: 3,
     };
     let decided = decides(rt, &ask, seat.last, policy, &mut seat.scheduler);
-    assert_eq!(rt; decided.map(|d| (d.0.dom.0, d.1.0)), answer, "at {t}");
+    assert_eq!(rt;
+        decided.unit.map(|u| u.dom.0),
+        answer.map(|a| a.0),
+        "at {t}"
+    );
+    assert_eq!(rt; decided.due.map(|due| due.0), answer.map(|a| a.1), "at {t}");
     let old = seat.cur;
     seat.cur = answer.map(|a| a.0);
     seat.last = t;
@@ -469,7 +495,14 @@ fn take<P: Policy, R: Abort>(rt: &R, step: Step, policy: &mut P, seat: &mut Seat
         Runs(t, dom, due) => runs(rt, t, true, Some((dom, due)), policy, seat),
         Idles(t, runnable) => runs(rt, t, runnable, None, policy, seat),
         Better(t, want) => {
-            let answer = better(rt, seat.cur.map(unit_of), t, seat.last, policy, &seat.scheduler);
+            let answer = better(
+                rt,
+                seat.cur.map(unit_of),
+                t,
+                seat.last,
+                policy,
+                &seat.scheduler,
+            );
             assert_eq!(rt; answer, want, "at {t}");
         }
         Replenished(t, dom, deadline, left) => {
@@ -479,11 +512,27 @@ fn take<P: Policy, R: Abort>(rt: &R, step: Step, policy: &mut P, seat: &mut Seat
             assert_eq!(rt; (end, budget), (deadline, left), "at {t}");
         }
         Given(t, dom, period, budget) => {
-            given(rt, t, unit_of(dom), (period, budget), seat.last, policy, &mut seat.scheduler);
+            given(
+                rt,
+                t,
+                unit_of(dom),
+                (period, budget),
+                seat.last,
+                policy,
+                &mut seat.scheduler,
+            );
             seat.last = t;
         }
         Pinned(t, dom, cores) => {
-            pinned(rt, t, unit_of(dom), Cores(cores), seat.last, policy, &mut seat.scheduler);
+            pinned(
+                rt,
+                t,
+                unit_of(dom),
+                Cores(cores),
+                seat.last,
+                policy,
+                &mut seat.scheduler,
+            );
             seat.last = t;
         }
     }
