@@ -63,9 +63,9 @@ some_eligible units records t home core =
     elim (window_unit records t) as (λ o. list_any (passes_window units home core o) units.queue ≡ is_some (awaited units o home core)) [
       | None ↦ any_of_none (passes_window units home core None) units.queue (λ u. and_false (is_allowed_by units.affinity home core u))
       | Some w ↦
-        any_of_one w (passes_window units home core (Some w)) units.queue (is_window_unit units home core w)
-        ∙ ap (λ b. has_unit units.queue w && b) (passes_own units home core w)
-        ∙ sym (is_some_cond (has_unit units.queue w && is_allowed_by units.affinity home core w) w)
+          any_of_one w (passes_window units home core (Some w)) units.queue (is_window_unit units home core w)
+          ∙ ap (λ b. has_unit units.queue w && b) (passes_own units home core w)
+          ∙ sym (is_some_cond (has_unit units.queue w && is_allowed_by units.affinity home core w) w)
     ]
 
 -- some unit is eligible and better than the core's own where the window's unit is another, waits and may have the core
@@ -75,8 +75,8 @@ some_better units records t home core own =
     elim (window_unit records t) as (λ o. list_any (λ u. passes_window units home core o u && not (same_unit u own)) units.queue ≡ is_other (awaited units o home core) own) [
       | None ↦ any_of_none (λ u. passes_window units home core None u && not (same_unit u own)) units.queue (λ u. ap (λ b. b && not (same_unit u own)) (and_false (is_allowed_by units.affinity home core u)))
       | Some w ↦
-        any_of_one w (λ u. passes_window units home core (Some w) u && not (same_unit u own)) units.queue (λ u passes. is_window_unit units home core w u (left_of (passes_window units home core (Some w) u) (not (same_unit u own)) passes))
-        ∙ ap (λ b. has_unit units.queue w && (b && not (same_unit w own))) (passes_own units home core w)
-        ∙ and_assoc (has_unit units.queue w) (is_allowed_by units.affinity home core w) (not (same_unit w own))
-        ∙ is_other_cond (has_unit units.queue w && is_allowed_by units.affinity home core w) w own
+          any_of_one w (λ u. passes_window units home core (Some w) u && not (same_unit u own)) units.queue (λ u passes. is_window_unit units home core w u (left_of (passes_window units home core (Some w) u) (not (same_unit u own)) passes))
+          ∙ ap (λ b. has_unit units.queue w && (b && not (same_unit w own))) (passes_own units home core w)
+          ∙ and_assoc (has_unit units.queue w) (is_allowed_by units.affinity home core w) (not (same_unit w own))
+          ∙ is_other_cond (has_unit units.queue w && is_allowed_by units.affinity home core w) w own
     ]

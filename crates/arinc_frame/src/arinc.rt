@@ -73,12 +73,7 @@ fn is_other(unit: Option<UnitId>, own: UnitId) -> bool
 }
 
 /// The window's unit, where it waits and may have the core.
-fn awaited(
-    units: &PoolUnits,
-    unit: Option<UnitId>,
-    home: Cores,
-    core: ResId,
-) -> Option<UnitId>
+fn awaited(units: &PoolUnits, unit: Option<UnitId>, home: Cores, core: ResId) -> Option<UnitId>
     requires { core.0 < 64 }
     ensures { result ≡ awaited_spec units.now unit home.0 core.0 }
 {
@@ -115,12 +110,7 @@ fn frame_of(params: &PoolParams) -> Option<Frame>
 }
 
 /// The decision for a core.
-fn decide(
-    units: &PoolUnits,
-    records: &ArincRecords,
-    present: Option<Present>,
-    ask: &Ask,
-) -> Choice
+fn decide(units: &PoolUnits, records: &ArincRecords, present: Option<Present>, ask: &Ask) -> Choice
     requires frame { ForSome records.now.frame IsFrame }
     requires present { ForSome present (IsPresent records.now) }
     requires early { ask.now.at ≤ 10000000000000 }

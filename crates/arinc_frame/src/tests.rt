@@ -84,7 +84,11 @@ fn decides<P: Policy, R: Abort>(
     let (choice, decided) = trial.decide(rt, &ask);
     assert_eq!(rt; choice.unit.map(|u| u.dom.0), answer.0, "at {t}");
     assert_eq!(rt; choice.due.map(|due| due.0), Some(answer.1), "at {t}");
-    assert_eq!(rt; (choice.unit, choice.due, choice.reset), (decided.unit, decided.due, decided.reset), "at {t}");
+    assert_eq!(rt;
+        (choice.unit, choice.due, choice.reset),
+        (decided.unit, decided.due, decided.reset),
+        "at {t}"
+    );
 }
 
 /// Whether the core is to decide anew at t, by both.

@@ -40,7 +40,8 @@ fn is_own(scheduler: &Scheduler, u: UnitId) -> bool
     ensures { IsTrue result → IsOwn scheduler.now u }
 {
     match &scheduler.records {
-        Records::ArincPool(_) => is_member(scheduler, u) && !has_unit(scheduler.queue.as_slice(), u),
+        Records::ArincPool(_) => is_member(scheduler, u)
+            && !has_unit(scheduler.queue.as_slice(), u),
         Records::NullPool(_) => is_member(scheduler, u) && !has_unit(scheduler.queue.as_slice(), u),
         _ => false,
     }

@@ -69,11 +69,20 @@ impl<P: Policy> Trial<P> {
     }
 
     /// Whether a core is to decide anew, by both.
-    pub fn better_waits<R: Abort>(&self, rt: &R, cur: Option<UnitId>, t: u64, core: u8, home: u64) -> (bool, bool) {
+    pub fn better_waits<R: Abort>(
+        &self,
+        rt: &R,
+        cur: Option<UnitId>,
+        t: u64,
+        core: u8,
+        home: u64,
+    ) -> (bool, bool) {
         assert!(rt; self.latest <= t && t <= 10_000_000_000_000);
         assert!(rt; core < 64 && may_have(&self.plain, cur));
         assert!(rt; are_in_range(&self.plain.records, t));
-        let fast = self.policy.better_waits(cur, Moment(0), Moment(t), ResId(core), Cores(home));
+        let fast = self
+            .policy
+            .better_waits(cur, Moment(0), Moment(t), ResId(core), Cores(home));
         let plain = policy::better_waits(cur, 0, t, core, home, &self.plain);
         (fast, plain)
     }

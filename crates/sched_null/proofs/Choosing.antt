@@ -58,10 +58,13 @@ first_of_placed units kept home core w at placed =
   where
     allowed : is_allowed_by units.affinity home core w ≡ true
     allowed = right_of (is_unit (at_place kept core) w && has_core home core) (is_allowed_by units.affinity home core w) placed
+
     taken : is_taken (scheduler_of units.queue units.affinity (NullPool kept)) kept home core ≡ true
     taken = ap (λ (o : Option UnitId). elim o as (λ _. Bool) [ None ↦ false | Some u ↦ is_placed (scheduler_of units.queue units.affinity (NullPool kept)) kept home core u ]) at ∙ placed
+
     passes : is_eligible (scheduler_of units.queue units.affinity (NullPool kept)) home core 0 w ≡ true
     passes = ap (λ b. b && own_rule units kept home core w) allowed ∙ ap (λ b. b || (not (has_place (scheduler_of units.queue units.affinity (NullPool kept)) kept home w) && not (is_taken (scheduler_of units.queue units.affinity (NullPool kept)) kept home core))) placed
+
     only : (u : UnitId) → is_eligible (scheduler_of units.queue units.affinity (NullPool kept)) home core 0 u ≡ true → u ≡ w
     only u is =
         let given : Bool = is_placed (scheduler_of units.queue units.affinity (NullPool kept)) kept home core u in

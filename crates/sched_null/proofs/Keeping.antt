@@ -32,16 +32,16 @@ kept_keep core u kept is =
     record {
       few = (let same = length_set core (Some u) (released (same_unit u) kept) in let same2 = length_released (same_unit u) kept in let few = is.few in omega (arith, same, same2, few));
       once = λ q r w at_q at_r.
-        elim (read_put_at core q u (released (same_unit u) kept) w at_q) [
-          | inl was_q ↦ elim (read_put_at core r u (released (same_unit u) kept) w at_r) [
-            | inl was_r ↦ is.once q r w (read_released (same_unit u) kept q w was_q).0 (read_released (same_unit u) kept r w was_r).0
-            | inr is_r ↦ absurd (not_released u w is_r.1 (read_released (same_unit u) kept q w was_q).1)
-          ]
-          | inr is_q ↦ elim (read_put_at core r u (released (same_unit u) kept) w at_r) [
-            | inl was_r ↦ absurd (not_released u w is_q.1 (read_released (same_unit u) kept r w was_r).1)
-            | inr is_r ↦ is_q.0 ∙ sym is_r.0
-          ]
-        ];
+          elim (read_put_at core q u (released (same_unit u) kept) w at_q) [
+            | inl was_q ↦ elim (read_put_at core r u (released (same_unit u) kept) w at_r) [
+              | inl was_r ↦ is.once q r w (read_released (same_unit u) kept q w was_q).0 (read_released (same_unit u) kept r w was_r).0
+              | inr is_r ↦ absurd (not_released u w is_r.1 (read_released (same_unit u) kept q w was_q).1)
+            ]
+            | inr is_q ↦ elim (read_put_at core r u (released (same_unit u) kept) w at_r) [
+              | inl was_r ↦ absurd (not_released u w is_q.1 (read_released (same_unit u) kept r w was_r).1)
+              | inr is_r ↦ is_q.0 ∙ sym is_r.0
+            ]
+          ];
     }
 
 released_none : (u : UnitId) (kept : List (Option UnitId)) → ((q : ℕ) → at_place kept q ≡ Some u → ⊥) → released (same_unit u) kept ≡ kept

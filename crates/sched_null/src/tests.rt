@@ -60,7 +60,12 @@ fn decides<P: Policy, R: Abort>(rt: &R, trial: &mut Trial<P>, asked: Asked, answ
     let (choice, decided) = trial.decide(rt, &ask);
     assert_eq!(rt; choice.unit.map(|u| u.dom.0), answer, "at {}", asked.at);
     assert_eq!(rt; choice.due, None, "at {}", asked.at);
-    assert_eq!(rt; (choice.unit, choice.due, choice.reset), (decided.unit, decided.due, decided.reset), "at {}", asked.at);
+    assert_eq!(rt;
+        (choice.unit, choice.due, choice.reset),
+        (decided.unit, decided.due, decided.reset),
+        "at {}",
+        asked.at
+    );
 }
 
 /// Whether the core without a unit is to decide anew at t, by both.
