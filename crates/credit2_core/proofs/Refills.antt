@@ -67,7 +67,7 @@ stays n best (Some x ∷ domains) low = by_refill (stays (suc n) best domains (�
   where
     by_refill : soonest (Some best) (refills (numbered (suc n) domains)) ≡ Some best → (o : Option ℕ) → x.refill ≡ o → soonest (Some best) (elim o as (λ _. List Armed) [ None ↦ refills (numbered (suc n) domains) | Some at ↦ (moment at, Refill (domain n)) ∷ refills (numbered (suc n) domains) ]) ≡ Some best
     by_refill rest None is = rest
-    by_refill rest (Some r) is = (let e = not_less_test r best.0.0 (low 0 (moment r) (ap (option_map moment) is)) in rw e rest)
+    by_refill rest (Some r) is = ap (λ (b : Bool). soonest (Some (cond b (moment r, Refill (domain n)) best)) (refills (numbered (suc n) domains))) (not_less_test r best.0.0 (low 0 (moment r) (ap (option_map moment) is))) ∙ rest
 
 -- the best so far, where there is one, is later
 abbrev IsLater : Moment → Option Armed → Type 0
@@ -86,18 +86,21 @@ soonest_is n best (Some x ∷ domains) zero at is first later = by_refill x.refi
     rest : (i : ℕ) (b : Moment) → refill_of (at_place domains i) ≡ Some b → at.0 ≤ b.0
     rest i b here = (first (suc i) b here).by_moment
 
-    chosen : (r : ℕ) (best : Option Armed) → moment r ≡ at → IsLater at best → soonest best ((moment r, Refill (domain n)) ∷ refills (numbered (suc n) domains)) ≡ Some (at, Refill (domain (n + 0)))
-    chosen r None same later =
+    alone : (r : ℕ) → moment r ≡ at → soonest (Some (moment r, Refill (domain n))) (refills (numbered (suc n) domains)) ≡ Some (at, Refill (domain (n + 0)))
+    alone r same =
         stays (suc n) (moment r, Refill (domain n)) domains (λ i b here. subst (λ (m : Moment). m.0 ≤ b.0) (sym same) (rest i b here))
         ∙ ap (λ (m : Moment). Some (m, Refill (domain n))) same ∙ ap (λ (k : ℕ). Some (at, Refill (domain k))) (omega arith)
+
+    chosen : (r : ℕ) (best : Option Armed) → moment r ≡ at → IsLater at best → soonest best ((moment r, Refill (domain n)) ∷ refills (numbered (suc n) domains)) ≡ Some (at, Refill (domain (n + 0)))
+    chosen r None same later = alone r same
     chosen r (Some b) same later =
         let low : r < b.0.0 = subst (λ (m : Moment). m.0 < b.0.0) (sym same) later in
         let e = less_test r b.0.0 low in
-        rw e (chosen r None same tt)
+        ap (λ (z : Bool). soonest (Some (cond z (moment r, Refill (domain n)) b)) (refills (numbered (suc n) domains))) e ∙ alone r same
 
     by_refill : (o : Option ℕ) → x.refill ≡ o → option_map moment o ≡ Some at → soonest best (elim o as (λ _. List Armed) [ None ↦ refills (numbered (suc n) domains) | Some at ↦ (moment at, Refill (domain n)) ∷ refills (numbered (suc n) domains) ]) ≡ Some (at, Refill (domain (n + 0)))
     by_refill None has e = absurd cc
-    by_refill (Some r) has e = chosen r best cc later
+    by_refill (Some r) has e = chosen r best (cc) later
 soonest_is n best (Some x ∷ domains) (suc i) at is first later =
     by_refill
     (λ next after.
