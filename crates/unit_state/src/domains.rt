@@ -119,7 +119,12 @@ impl Guests {
 
     /// Guests of no domain yet, with places for so many domains, at most 64, and room for so many units, at most 256, of 1, 2 or 4
     /// vCPUs each.
-    pub fn room(alloc: Global, granularity: u8, places: u8, units: usize) -> Result<Guests, NoMemory>
+    pub fn room(
+        alloc: Global,
+        granularity: u8,
+        places: u8,
+        units: usize,
+    ) -> Result<Guests, NoMemory>
         requires granularity { IsGranularity granularity }
         requires places { places ≤ 64 }
         requires units { units ≤ 256 }
@@ -145,7 +150,11 @@ impl Guests {
         requires room { unit_count_spec part.granularity part.domain ≤ self.old.spare }
         ensures { self.new ≡ record self.old { domains = put_at part.d.0 part.domain self.old.domains; spare = self.old.spare - unit_count_spec part.granularity part.domain } }
     {
-        let DomPart { d, granularity, domain } = part;
+        let DomPart {
+            d,
+            granularity,
+            domain,
+        } = part;
         self.spare -= unit_count(granularity, &domain) as usize;
         let _empty = self.domains.replace(d.0 as usize, Some(domain));
         rearm_domain(&mut self.sleepers, self.domains.as_slice(), d);

@@ -223,7 +223,9 @@ fn two_units_of_three_vcpus(rt: HostRuntime) -> Result<(), Fail> {
     assert!(rt; guests.unit_count(DomId(3)) == 2 && guests.unit_count(DomId(2)) == 0);
     assert!(rt; start(&mut guests, vcpu_id(3, 2), 0) && block(&mut guests, vcpu_id(3, 2), 1000000));
     assert!(rt; guests.runnable(unit(3, 0)) && !guests.runnable(unit(3, 1)));
-    assert!(rt; start(&mut guests, vcpu_id(3, 0), 1000000) && block(&mut guests, vcpu_id(3, 0), 2500000));
+    assert!(rt;
+        start(&mut guests, vcpu_id(3, 0), 1000000) && block(&mut guests, vcpu_id(3, 0), 2500000)
+    );
     assert!(rt; !guests.awake(vcpu_id(3, 0)) && guests.runnable(unit(3, 0)));
     assert_eq!(rt; guests.next_wake(), Some(Moment(3000000)));
     assert_eq!(rt; guests.first_wake(Moment(3000000)), Some(vcpu_id(3, 2)));

@@ -17,7 +17,7 @@ invariant_of-self c =
     let domain = c.args.part.domain in
     let next = put_at d domain seen.domains in
     let own : (n : ℕ) → n < 32 → due_of c.rearm_domain.new.sleepers (d * 32 + n) ≡ wake_among next (vcpu_id d n) =
-        subst (λ (ds : List (Option Domain)). (n : ℕ) → n < 32 → due_of c.rearm_domain.new.sleepers (d * 32 + n) ≡ wake_among ds (vcpu_id d n)) (c.as_slice.ensures ∙ c.replace-empty.ensures.new) c.rearm_domain.ensures.own
+    subst (λ (ds : List (Option Domain)). (n : ℕ) → n < 32 → due_of c.rearm_domain.new.sleepers (d * 32 + n) ≡ wake_among ds (vcpu_id d n)) (c.as_slice.ensures ∙ c.replace-empty.ensures.new) c.rearm_domain.ensures.own
     in
     let inside : d < length seen.domains = subst (λ (s : Seen). d < length s.domains) (sym c.self.view_is) c.requires.place in
     let absent : at_place seen.domains d ≡ None = subst (λ (s : Seen). at_place s.domains d ≡ None) (sym c.self.view_is) c.requires.absent in
@@ -26,6 +26,7 @@ invariant_of-self c =
     let spare : unit_count c.args.part.granularity domain ≤ seen.spare = subst (λ (s : Seen). unit_count c.args.part.granularity domain ≤ s.spare) (sym c.self.view_is) c.requires.room in
     let room : unit_count seen.granularity domain ≤ seen.spare = subst (λ (g : ℕ). unit_count g domain ≤ seen.spare) same spare in
     subst (λ (k : ℕ). KeepsGuests (record seen { domains = c.replace-empty.new.self; spare = seen.spare - k }) × AreSleepers c.replace-empty.new.self c.rearm_domain.new.sleepers) (sym count)
-    (subst (λ (ds : List (Option Domain)). KeepsGuests (record seen { domains = ds; spare = seen.spare - unit_count seen.granularity domain }) × AreSleepers ds c.rearm_domain.new.sleepers) (sym c.replace-empty.ensures.new)
-    (keeps_added seen d domain inside absent room (guests_later 0 seen.latest domain (omega arith) c.requires.part.guests) c.self.invariant.0,
-     sleepers_replaced seen.domains next c.self.inside.sleepers c.rearm_domain.new.sleepers d c.rearm_domain.ensures.ids own c.rearm_domain.ensures.others (λ w other. wake_among-put_at_other d domain w seen.domains other) c.self.invariant.1))
+    (subst (λ (ds : List (Option Domain)). KeepsGuests (record seen { domains = ds; spare = seen.spare - unit_count seen.granularity domain }) × AreSleepers ds c.rearm_domain.new.sleepers) (sym c.replace-empty.ensures.new) (
+      keeps_added seen d domain inside absent room (guests_later 0 seen.latest domain (omega arith) c.requires.part.guests) c.self.invariant.0,
+      sleepers_replaced seen.domains next c.self.inside.sleepers c.rearm_domain.new.sleepers d c.rearm_domain.ensures.ids own c.rearm_domain.ensures.others (λ w other. wake_among-put_at_other d domain w seen.domains other) c.self.invariant.1,
+    ))

@@ -20,12 +20,13 @@ invariant_of-self c =
     let domain = c.take_out-domain.result in
     let next = clear_at d seen.domains in
     let own : (n : ℕ) → n < 32 → due_of c.rearm_domain.new.sleepers (d * 32 + n) ≡ wake_among next (vcpu_id d n) =
-        subst (λ (ds : List (Option Domain)). (n : ℕ) → n < 32 → due_of c.rearm_domain.new.sleepers (d * 32 + n) ≡ wake_among ds (vcpu_id d n)) (c.as_slice.ensures ∙ c.take_out-domain.ensures.domains) c.rearm_domain.ensures.own
+    subst (λ (ds : List (Option Domain)). (n : ℕ) → n < 32 → due_of c.rearm_domain.new.sleepers (d * 32 + n) ≡ wake_among ds (vcpu_id d n)) (c.as_slice.ensures ∙ c.take_out-domain.ensures.domains) c.rearm_domain.ensures.own
     in
     subst (λ (k : ℕ). KeepsGuests (record seen { domains = c.take_out-domain.new.domains; spare = seen.spare + k }) × AreSleepers c.take_out-domain.new.domains c.rearm_domain.new.sleepers) (sym c.unit_count.ensures.count)
-    (subst (λ (ds : List (Option Domain)). KeepsGuests (record seen { domains = ds; spare = seen.spare + unit_count seen.granularity domain }) × AreSleepers ds c.rearm_domain.new.sleepers) (sym c.take_out-domain.ensures.domains)
-    (keeps_taken seen d domain c.take_out-domain.ensures.domain c.self.invariant.0,
-     sleepers_replaced seen.domains next c.self.inside.sleepers c.rearm_domain.new.sleepers d c.rearm_domain.ensures.ids own c.rearm_domain.ensures.others (λ w other. wake_among-clear_at_other d w seen.domains other) c.self.invariant.1))
+    (subst (λ (ds : List (Option Domain)). KeepsGuests (record seen { domains = ds; spare = seen.spare + unit_count seen.granularity domain }) × AreSleepers ds c.rearm_domain.new.sleepers) (sym c.take_out-domain.ensures.domains) (
+      keeps_taken seen d domain c.take_out-domain.ensures.domain c.self.invariant.0,
+      sleepers_replaced seen.domains next c.self.inside.sleepers c.rearm_domain.new.sleepers d c.rearm_domain.ensures.ids own c.rearm_domain.ensures.others (λ w other. wake_among-clear_at_other d w seen.domains other) c.self.invariant.1,
+    ))
 
 pub returns-clause-part : goal.returns-clause-part
 returns-clause-part c =
