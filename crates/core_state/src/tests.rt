@@ -149,43 +149,213 @@ fn right(cores: &mut CoreState, cases: &[Case]) -> usize {
 }
 
 const TWO_SIBLINGS: [Case; 24] = [
-    Case { step: Step::Wait, t: 9, firsts: [None, None, None, None, None, None, None], least: Some(10) },
-    Case { step: Step::Wait, t: 10, firsts: [None, None, None, None, None, Some(2), None], least: Some(10) },
-    Case { step: Step::Hold(2), t: 19, firsts: [None, None, None, None, None, None, None], least: Some(20) },
-    Case { step: Step::Stall(2, 50), t: 90, firsts: [None, None, None, None, None, Some(3), None], least: Some(20) },
-    Case { step: Step::Stall(2, 30), t: 90, firsts: [None, None, None, None, None, Some(3), None], least: Some(20) },
-    Case { step: Step::Hold(3), t: 49, firsts: [None, None, None, None, None, None, None], least: Some(50) },
-    Case { step: Step::Wait, t: 50, firsts: [None, None, Some(1), None, None, None, None], least: Some(50) },
-    Case { step: Step::Decide(1, 50, Some(1000)), t: 20, firsts: [None, None, None, None, None, None, Some(3)], least: Some(20) },
-    Case { step: Step::Wait, t: 1000, firsts: [None, Some(1), None, None, None, None, Some(2)], least: Some(20) },
-    Case { step: Step::Leave(3, Some(70)), t: 70, firsts: [None, None, None, None, Some(3), None, Some(2)], least: Some(50) },
-    Case { step: Step::Stall(3, 80), t: 79, firsts: [None, None, None, None, None, None, Some(2)], least: Some(50) },
-    Case { step: Step::Leave(2, None), t: 79, firsts: [None, None, None, None, None, None, None], least: Some(80) },
-    Case { step: Step::Wait, t: 80, firsts: [None, None, None, None, Some(3), None, None], least: Some(80) },
-    Case { step: Step::Stall(2, 1500), t: 1499, firsts: [None, None, None, None, Some(3), None, None], least: Some(80) },
-    Case { step: Step::Wait, t: 1500, firsts: [None, Some(1), None, None, Some(3), None, None], least: Some(80) },
-    Case { step: Step::Pending(1), t: 1499, firsts: [None, None, None, None, Some(3), Some(3), None], least: Some(80) },
-    Case { step: Step::Hold(3), t: 1500, firsts: [None, None, None, None, None, Some(2), None], least: Some(1500) },
-    Case { step: Step::Hold(2), t: 1500, firsts: [None, None, Some(1), None, None, None, None], least: Some(1500) },
-    Case { step: Step::Decide(1, 1500, None), t: 9000, firsts: [None, None, None, None, None, None, Some(2)], least: Some(80) },
-    Case { step: Step::Leave(2, None), t: 9000, firsts: [None, None, None, None, None, None, Some(3)], least: Some(80) },
-    Case { step: Step::Leave(3, None), t: 1499, firsts: [None, None, None, None, None, None, None], least: Some(1500) },
-    Case { step: Step::Wait, t: 1500, firsts: [None, None, None, Some(1), None, None, None], least: Some(1500) },
-    Case { step: Step::Save(1), t: 9000, firsts: [None, None, None, None, None, None, None], least: None },
-    Case { step: Step::Leaving(1), t: 1500, firsts: [Some(1), None, None, None, None, None, None], least: None },
+    Case {
+        step: Step::Wait,
+        t: 9,
+        firsts: [None, None, None, None, None, None, None],
+        least: Some(10),
+    },
+    Case {
+        step: Step::Wait,
+        t: 10,
+        firsts: [None, None, None, None, None, Some(2), None],
+        least: Some(10),
+    },
+    Case {
+        step: Step::Hold(2),
+        t: 19,
+        firsts: [None, None, None, None, None, None, None],
+        least: Some(20),
+    },
+    Case {
+        step: Step::Stall(2, 50),
+        t: 90,
+        firsts: [None, None, None, None, None, Some(3), None],
+        least: Some(20),
+    },
+    Case {
+        step: Step::Stall(2, 30),
+        t: 90,
+        firsts: [None, None, None, None, None, Some(3), None],
+        least: Some(20),
+    },
+    Case {
+        step: Step::Hold(3),
+        t: 49,
+        firsts: [None, None, None, None, None, None, None],
+        least: Some(50),
+    },
+    Case {
+        step: Step::Wait,
+        t: 50,
+        firsts: [None, None, Some(1), None, None, None, None],
+        least: Some(50),
+    },
+    Case {
+        step: Step::Decide(1, 50, Some(1000)),
+        t: 20,
+        firsts: [None, None, None, None, None, None, Some(3)],
+        least: Some(20),
+    },
+    Case {
+        step: Step::Wait,
+        t: 1000,
+        firsts: [None, Some(1), None, None, None, None, Some(2)],
+        least: Some(20),
+    },
+    Case {
+        step: Step::Leave(3, Some(70)),
+        t: 70,
+        firsts: [None, None, None, None, Some(3), None, Some(2)],
+        least: Some(50),
+    },
+    Case {
+        step: Step::Stall(3, 80),
+        t: 79,
+        firsts: [None, None, None, None, None, None, Some(2)],
+        least: Some(50),
+    },
+    Case {
+        step: Step::Leave(2, None),
+        t: 79,
+        firsts: [None, None, None, None, None, None, None],
+        least: Some(80),
+    },
+    Case {
+        step: Step::Wait,
+        t: 80,
+        firsts: [None, None, None, None, Some(3), None, None],
+        least: Some(80),
+    },
+    Case {
+        step: Step::Stall(2, 1500),
+        t: 1499,
+        firsts: [None, None, None, None, Some(3), None, None],
+        least: Some(80),
+    },
+    Case {
+        step: Step::Wait,
+        t: 1500,
+        firsts: [None, Some(1), None, None, Some(3), None, None],
+        least: Some(80),
+    },
+    Case {
+        step: Step::Pending(1),
+        t: 1499,
+        firsts: [None, None, None, None, Some(3), Some(3), None],
+        least: Some(80),
+    },
+    Case {
+        step: Step::Hold(3),
+        t: 1500,
+        firsts: [None, None, None, None, None, Some(2), None],
+        least: Some(1500),
+    },
+    Case {
+        step: Step::Hold(2),
+        t: 1500,
+        firsts: [None, None, Some(1), None, None, None, None],
+        least: Some(1500),
+    },
+    Case {
+        step: Step::Decide(1, 1500, None),
+        t: 9000,
+        firsts: [None, None, None, None, None, None, Some(2)],
+        least: Some(80),
+    },
+    Case {
+        step: Step::Leave(2, None),
+        t: 9000,
+        firsts: [None, None, None, None, None, None, Some(3)],
+        least: Some(80),
+    },
+    Case {
+        step: Step::Leave(3, None),
+        t: 1499,
+        firsts: [None, None, None, None, None, None, None],
+        least: Some(1500),
+    },
+    Case {
+        step: Step::Wait,
+        t: 1500,
+        firsts: [None, None, None, Some(1), None, None, None],
+        least: Some(1500),
+    },
+    Case {
+        step: Step::Save(1),
+        t: 9000,
+        firsts: [None, None, None, None, None, None, None],
+        least: None,
+    },
+    Case {
+        step: Step::Leaving(1),
+        t: 1500,
+        firsts: [Some(1), None, None, None, None, None, None],
+        least: None,
+    },
 ];
 
 const DUES_AND_WORKS: [Case; 10] = [
-    Case { step: Step::Hold(2), t: 3, firsts: [None, None, Some(2), None, None, None, None], least: Some(3) },
-    Case { step: Step::Decide(2, 4, Some(100)), t: 3, firsts: [None, None, None, None, None, None, Some(2)], least: Some(3) },
-    Case { step: Step::Leave(2, Some(60)), t: 60, firsts: [None, None, None, None, Some(2), None, None], least: Some(60) },
-    Case { step: Step::Shorten(2, 10, 40), t: 49, firsts: [None, None, None, None, None, None, None], least: Some(50) },
-    Case { step: Step::Wait, t: 50, firsts: [None, Some(2), None, None, None, None, None], least: Some(50) },
-    Case { step: Step::Shorten(2, 20, 40), t: 50, firsts: [None, Some(2), None, None, None, None, None], least: Some(50) },
-    Case { step: Step::Idle(2), t: 99, firsts: [None, Some(2), None, None, None, None, None], least: Some(50) },
-    Case { step: Step::Run(2, 7), t: 7, firsts: [None, None, None, None, Some(2), None, None], least: Some(7) },
-    Case { step: Step::Stall(2, 8), t: 7, firsts: [None, None, None, None, None, None, None], least: Some(8) },
-    Case { step: Step::PendingDue(2, 30), t: 8, firsts: [None, None, None, None, Some(2), Some(2), None], least: Some(8) },
+    Case {
+        step: Step::Hold(2),
+        t: 3,
+        firsts: [None, None, Some(2), None, None, None, None],
+        least: Some(3),
+    },
+    Case {
+        step: Step::Decide(2, 4, Some(100)),
+        t: 3,
+        firsts: [None, None, None, None, None, None, Some(2)],
+        least: Some(3),
+    },
+    Case {
+        step: Step::Leave(2, Some(60)),
+        t: 60,
+        firsts: [None, None, None, None, Some(2), None, None],
+        least: Some(60),
+    },
+    Case {
+        step: Step::Shorten(2, 10, 40),
+        t: 49,
+        firsts: [None, None, None, None, None, None, None],
+        least: Some(50),
+    },
+    Case {
+        step: Step::Wait,
+        t: 50,
+        firsts: [None, Some(2), None, None, None, None, None],
+        least: Some(50),
+    },
+    Case {
+        step: Step::Shorten(2, 20, 40),
+        t: 50,
+        firsts: [None, Some(2), None, None, None, None, None],
+        least: Some(50),
+    },
+    Case {
+        step: Step::Idle(2),
+        t: 99,
+        firsts: [None, Some(2), None, None, None, None, None],
+        least: Some(50),
+    },
+    Case {
+        step: Step::Run(2, 7),
+        t: 7,
+        firsts: [None, None, None, None, Some(2), None, None],
+        least: Some(7),
+    },
+    Case {
+        step: Step::Stall(2, 8),
+        t: 7,
+        firsts: [None, None, None, None, None, None, None],
+        least: Some(8),
+    },
+    Case {
+        step: Step::PendingDue(2, 30),
+        t: 8,
+        firsts: [None, None, None, None, Some(2), Some(2), None],
+        least: Some(8),
+    },
 ];
 
 #[test]
@@ -215,8 +385,14 @@ fn cores_come_and_go(rt: HostRuntime) -> Result<(), Fail> {
     cores.put(0, fresh_core(&one(5)));
     cores.put(2, fresh_core(&one(3)));
     assert_eq!(rt; told(&cores), (5, Some(0), Some(5)));
-    assert_eq!(rt; (cores.core(1).is_some(), cores.core(2).is_some()), (false, true));
-    assert_eq!(rt; (cores.first_arrive(Moment(4)), cores.first_arrive(Moment(5))), (Some(2), Some(0)));
+    assert_eq!(rt;
+        (cores.core(1).is_some(), cores.core(2).is_some()),
+        (false, true)
+    );
+    assert_eq!(rt;
+        (cores.first_arrive(Moment(4)), cores.first_arrive(Moment(5))),
+        (Some(2), Some(0))
+    );
     assert_eq!(rt; at(cores.move_end(0)), None);
     assert!(rt; cores.take(0).is_some());
     assert!(rt; cores.take(0).is_none());
