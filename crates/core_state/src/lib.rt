@@ -11,6 +11,3 @@ mod heaps;
 pub mod laws;
 
 pub use cores::CoreState;
-
-#[cfg(test)]
-mod tests;

@@ -1,4 +1,3 @@
-pub mod ExampleLemmas
 pub mod GuestLemmas
 pub mod PlaceLemmas
 pub mod SleeperLemmas

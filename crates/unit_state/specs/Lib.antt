@@ -1,4 +1,3 @@
-pub mod Examples
 pub mod Kept
 pub mod Parts
 pub mod Seen

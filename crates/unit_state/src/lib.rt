@@ -9,6 +9,3 @@ mod sleepers;
 
 pub use domains::Guests;
 pub use part::DomPart;
-
-#[cfg(test)]
-mod tests;
