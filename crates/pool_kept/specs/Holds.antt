@@ -1,5 +1,5 @@
 -- What holds of one pool between its events.
-use Rattle.std.specs.Prelude.{◌≡◌, ◌≤◌, ◌<◌, ℕ, true, Option, Some, is_some, option_map, length}
+use Rattle.std.specs.Prelude.{◌≡◌, ◌≤◌, ◌<◌, ℕ, true, Some, is_some, option_map, length}
 use Rattle.std.specs.Option.{ForSome}
 use Rattle.sched_base.specs.declared.Moment.{Moment}
 use Rattle.sched_base.specs.declared.UnitId.{UnitId}
