@@ -10,7 +10,7 @@ ghost use Rattle.timer_laws.specs.Armed.{armed_at, IsNotAfter};
 
 /// Of all schedulers, reached or not: the timer at t is one that is armed, and is told with its moment. It is the first by domain and
 /// unit of those whose moment has come, and where no moment has come it has the least. There is none only where no timer is armed.
-/// A timer is due exactly where it is armed and its moment has come. So a scheduler may keep its timers in any form that tells these.
+/// Which one of several that have the least is left open. A timer is due exactly where it is armed and its moment has come.
 pub fn law_timers()
     // No timer.
     ensures none { (t : ℕ) → (scheduler : Scheduler) → timer_at t scheduler ≡ None → (timer : Timer) → armed_at scheduler timer ≡ None }
