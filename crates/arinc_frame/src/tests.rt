@@ -509,6 +509,39 @@ fn unit_that_sleeps_has_the_rest_of_its_window(rt: HostRuntime) -> Result<(), Fa
 }
 
 #[test]
+fn unit_that_wakes_with_its_window_has_all_of_it(rt: HostRuntime) -> Result<(), Fail> {
+    let windows = [(A, 20_000_000), (B, 10_000_000)];
+    let steps = [
+        Joins(0, 0, 1),
+        Joins(0, 1, 1),
+        Wakes(A),
+        Wakes(B),
+        Runs(0, A, 20_000_000),
+        Runs(20_000_000, B, 30_000_000),
+        Blocks(26_000_000, None, 30_000_000),
+        Idles(30_000_000, Some(50_000_000)),
+        Runs(50_000_000, A, 70_000_000),
+        Better(70_000_000, false),
+        Wakes(B),
+        Better(70_000_000, true),
+        Runs(70_000_000, B, 80_000_000),
+        Blocks(76_000_000, None, 80_000_000),
+        Idles(80_000_000, Some(100_000_000)),
+        Runs(100_000_000, A, 120_000_000),
+        Wakes(B),
+        Runs(120_000_000, B, 130_000_000),
+    ];
+    drive(
+        &rt,
+        rt.alloc(),
+        ONE,
+        Some((50_000_000, windows.as_slice())),
+        &steps,
+    )?;
+    Ok(())
+}
+
+#[test]
 fn core_that_is_back_late_has_the_window_of_that_moment(rt: HostRuntime) -> Result<(), Fail> {
     let steps = [
         Joins(0, 0, 1),
