@@ -1,17 +1,13 @@
 -- What an ARINC 653 pool decides, by the unit of the present window alone.
-use Rattle.std.proofs.Common.{◌≡◌, ℕ, Bool, true, false, ◌||◌, ◌&&◌, List, [], ◌∷◌, refl, subst, sym, ◌∙◌, ap, cond}
-use Rattle.std.specs.Prelude.{Option, Some, None, not, is_some, if◌then◌else◌}
+use Rattle.std.proofs.Common.{◌≡◌, ℕ, Bool, true, false, ◌&&◌, refl, sym, ◌∙◌, ap, cond}
+use Rattle.std.specs.Prelude.{Option, Some, None, not, is_some}
 use Rattle.std.specs.List.{list_any}
-use Rattle.sched_base.specs.Numbers.{moment}
 use Rattle.sched_base.specs.declared.UnitId.{UnitId}
-use Rattle.sched_base.specs.declared.Cores.{Cores}
-use Rattle.sched_model.specs.declared.ask.Ask.{Ask}
 use Rattle.sched_model.specs.declared.state.ArincRecords.{ArincRecords}
 use Rattle.sched_model.specs.declared.state.Records.TheVariants.{ArincPool}
-use Rattle.sched_model.specs.Arinc.{Window, present_window, window_unit}
+use Rattle.sched_model.specs.Arinc.{window_unit}
 use Rattle.sched_model.specs.Places.{has_unit, is_unit, same_unit}
 use Rattle.sched_model.specs.Eligible.{is_allowed_by, is_eligible}
-use Rattle.sched_model.specs.Policy.{choice_of_window, better_waits, is_better}
 use Rattle.sched_laws.proofs.Choices.{same_unit_same}
 use Rattle.sched_laws.proofs.Counts.{same_unit_refl}
 use Rattle.plain_policy.specs.Parts.{scheduler_of}

@@ -1,5 +1,5 @@
 -- What is kept of a frame, and the scheduler that begins anew with it.
-use Rattle.std.proofs.Common.{◌≡◌, ◌≤◌, ℕ, Bool, true, List, [], refl, arith, sym, ◌∙◌, ap, length}
+use Rattle.std.proofs.Common.{◌≡◌, ◌≤◌, ℕ, true, List, [], arith, sym, ◌∙◌, ap, length}
 use Rattle.std.specs.Prelude.{Option, Some, None, replicate}
 use Rattle.sched_base.specs.declared.UnitId.{UnitId}
 use Rattle.sched_base.specs.declared.Cores.{Cores}

@@ -5,6 +5,8 @@
 #![tactic(auto)]
 
 pub mod arinc;
+#[cfg(test)]
+mod tests;
 pub mod window;
 
 pub use arinc::Arinc;

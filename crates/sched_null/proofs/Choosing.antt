@@ -1,5 +1,5 @@
 -- What a null pool decides, where its core is given to a unit.
-use Rattle.std.proofs.Common.{◌≡◌, ℕ, Bool, true, false, ◌||◌, ◌&&◌, List, [], ◌∷◌, refl, subst, sym, ◌∙◌, ap, cond, length}
+use Rattle.std.proofs.Common.{◌≡◌, ℕ, Bool, true, false, ◌||◌, ◌&&◌, List, [], ◌∷◌, refl, sym, ◌∙◌, ap, cond, length}
 use Rattle.std.specs.Prelude.{Option, Some, None, not, is_some, filter, replicate}
 use Rattle.std.specs.List.{list_any}
 use Rattle.sched_base.specs.declared.UnitId.{UnitId}

@@ -6,5 +6,7 @@
 
 pub mod kept;
 pub mod null;
+#[cfg(test)]
+mod tests;
 
 pub use null::Null;

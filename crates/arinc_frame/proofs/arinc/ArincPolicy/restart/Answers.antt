@@ -1,6 +1,5 @@
-use Rattle.std.proofs.Common.{◌≡◌, ap}
+use Rattle.std.proofs.Common.{ap}
 use Rattle.sched_model.specs.declared.state.Scheduler.{Scheduler}
-use Rattle.sched_ops.specs.Seen.{Seen}
 use Rattle.arinc_frame.proofs.Ready.{begun_anew}
 use Rattle.arinc_frame.proofs.arinc.ArincPolicy.restart.Goals as goal
 
