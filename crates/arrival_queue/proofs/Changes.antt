@@ -1,5 +1,5 @@
 -- Each call as what callers see of it.
-use Rattle.std.proofs.Common.{◌≡◌, ◌⊎◌, ℕ, ◌+◌, ◌-◌, ◌<◌, ◌≤◌, List, [], ◌∷◌, ◌++◌, length, map, set, Bool, true, false, refl, sym, ◌∙◌, ap, subst, inl, inr, arith, append_assoc, length-append}
+use Rattle.std.proofs.Common.{◌≡◌, ℕ, ◌+◌, ◌-◌, ◌<◌, List, [], ◌∷◌, ◌++◌, length, map, set, Bool, true, false, refl, sym, ◌∙◌, ap, subst, inl, inr, arith, append_assoc, length-append}
 use Rattle.std.specs.Prelude.{◌==◌, ◌||◌, if◌then◌else◌, Option, Some, None, nat_lt}
 use Rattle.std.proofs.lemmas.List.{append-nil, length-map, map-append}
 use Rattle.sched_base.specs.declared.UnitId.{UnitId}
@@ -10,13 +10,13 @@ use Rattle.unit_ring.specs.Lists.{Item, Lists, item, has_node, taken, given, app
 use Rattle.arrival_queue.specs.declared.key.Key.{Key}
 use Rattle.arrival_queue.specs.Queues as q
 use Rattle.arrival_queue.specs.Queues.{Queued, Queues, queued, goes_before, put_first, placed, has_unit, holds, without, rank_in, rank_of, count, inserted, closed_up, removed, moved}
-use Rattle.arrival_queue.specs.Tables.{Apart, Tabled, IsQueue, all_items, has_number, key_at, arrival_at, rank, shown, queues_of, comes_before, put_ring, node_of, first_unit}
+use Rattle.arrival_queue.specs.Tables.{Tabled, IsQueue, all_items, has_number, arrival_at, rank, shown, queues_of, comes_before, put_ring, node_of, first_unit}
 use Rattle.arrival_queue.specs.Filters.{first_that}
 use Rattle.std.proofs.lemmas.Bool.{cases_eq}
-use Rattle.arrival_queue.proofs.Splits.{Tabled-mine, same_test, other_test, or_left, or_right, TakenOut}
-use Rattle.arrival_queue.proofs.Ranks.{rank-in, rank-out, rank-test, rank-all, rank-most, less_test, not_less_test, one_if}
-use Rattle.arrival_queue.proofs.Views.{map_kept, map_put, alike, shown_new, map_closed, has_unit-shown, without-none, rank_in-split, PutSplit, put_split}
-use Rattle.arrival_queue.proofs.Walking.{Tabled-left, Tabled-right, has_left, number_left, live-append, or_group}
+use Rattle.arrival_queue.proofs.Splits.{Tabled-mine, same_test, other_test, or_left, or_right}
+use Rattle.arrival_queue.proofs.Ranks.{rank-in, rank-out, rank-test, rank-all, rank-most, not_less_test, one_if}
+use Rattle.arrival_queue.proofs.Views.{map_kept, map_put, alike, shown_new, map_closed, has_unit-shown, rank_in-split, PutSplit, put_split}
+use Rattle.arrival_queue.proofs.Walking.{Tabled-left, Tabled-right, has_left, live-append, or_group}
 use Rattle.arrival_queue.proofs.Steps.{Found}
 
 number-append : (k : ℕ) (xs ys : List Item) → has_number k (xs ++ ys) ≡ (has_number k xs || has_number k ys)

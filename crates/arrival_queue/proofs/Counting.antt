@@ -1,12 +1,11 @@
 -- How many units of a list pass a test: with one put at its place, without one, and after a change of each.
-use Rattle.std.proofs.Common.{◌≡◌, ◌⊎◌, ℕ, ◌+◌, ◌-◌, ◌<◌, ◌≤◌, List, [], ◌∷◌, ◌++◌, length, map, Bool, true, false, refl, sym, ◌∙◌, ap, subst, inl, inr, arith}
-use Rattle.std.specs.Prelude.{◌==◌, ◌||◌, ◌&&◌, if◌then◌else◌, count_by, nat_lt}
+use Rattle.std.proofs.Common.{◌≡◌, ℕ, ◌+◌, ◌≤◌, List, [], ◌∷◌, ◌++◌, length, map, Bool, true, false, refl, ap, arith}
+use Rattle.std.specs.Prelude.{◌==◌, ◌||◌, ◌&&◌, if◌then◌else◌, count_by}
 use Rattle.std.proofs.lemmas.List.Sums.{sum_by-cons, sum_by-append}
 use Rattle.sched_base.specs.declared.UnitId.{UnitId}
-use Rattle.sched_base.specs.Units.{number_of}
-use Rattle.arrival_queue.specs.Queues.{Queued, goes_before, put_first, placed, is_of, has_unit, without, rank_in, closed_up}
+use Rattle.arrival_queue.specs.Queues.{Queued, put_first, is_of, has_unit, without, rank_in}
 use Rattle.arrival_queue.specs.Order.{has_rank}
-use Rattle.arrival_queue.proofs.Splits.{same_test, other_test, not_same, or_left, or_right}
+use Rattle.arrival_queue.proofs.Splits.{or_left, or_right}
 
 -- 1 where the test passes
 abbrev pub one_if : Bool → ℕ

@@ -1,6 +1,6 @@
 -- The tables stay those of the ring, with one item more and with one less.
-use Rattle.std.proofs.Common.{◌≡◌, ◌⊎◌, ℕ, ◌+◌, ◌-◌, ◌<◌, ◌≤◌, List, [], ◌∷◌, ◌++◌, length, set, Bool, true, false, refl, sym, ◌∙◌, ap, subst, inl, inr, arith, length-set, append_assoc, length-append}
-use Rattle.std.specs.Prelude.{◌==◌, ◌||◌, if◌then◌else◌, Option, Some, None, slice_index_or}
+use Rattle.std.proofs.Common.{◌≡◌, ℕ, ◌+◌, ◌<◌, ◌≤◌, List, ◌∷◌, ◌++◌, length, set, false, sym, ◌∙◌, ap, subst, inl, inr, arith, length-set, length-append}
+use Rattle.std.specs.Prelude.{Option, Some, None, slice_index_or}
 use Rattle.std.proofs.lemmas.Bool.{cases_eq}
 use Rattle.std.proofs.lemmas.List.{get_or-set_same, get_or-set_other}
 use Rattle.sched_base.specs.Units.{number_of}
@@ -8,7 +8,7 @@ use Rattle.unit_ring.specs.declared.Node.{Node}
 use Rattle.unit_ring.specs.Lists.{Item, Lists, has_node, room_of}
 use Rattle.arrival_queue.specs.declared.key.Key.{Key}
 use Rattle.arrival_queue.specs.Tables.{Apart, Tabled, IsQueue, has_number, node_of, arrival_at, all_items}
-use Rattle.arrival_queue.proofs.Splits.{Apart-in, Apart-out, TakenOut, has_node-split, has_number-split, node_of-none, node_of-other, node_of-mine, Tabled-in, Tabled-out, Tabled-mine, Tabled-set, length-split}
+use Rattle.arrival_queue.proofs.Splits.{Apart-in, Apart-out, TakenOut, node_of-none, node_of-other, node_of-mine, Tabled-in, Tabled-out, Tabled-mine, Tabled-set, length-split}
 
 -- a ring's items are others with a new one among them
 pub record Holds (ring : Lists) (l r : List Item) (new : Item) : Type 0 where

@@ -1,15 +1,15 @@
 -- Each call keeps the order of the lists, each unit once, and the ranks.
-use Rattle.std.proofs.Common.{◌≡◌, ◌⊎◌, ℕ, ◌+◌, ◌-◌, ◌<◌, ◌≤◌, List, [], ◌∷◌, ◌++◌, length, map, Bool, true, false, refl, sym, ◌∙◌, ap, subst, inl, inr, arith, append_assoc, length-append}
-use Rattle.std.specs.Prelude.{◌==◌, ◌||◌, ◌&&◌, if◌then◌else◌, count_by, nat_lt}
+use Rattle.std.proofs.Common.{◌≡◌, ℕ, ◌+◌, ◌-◌, ◌<◌, ◌≤◌, List, [], ◌∷◌, ◌++◌, length, map, Bool, true, false, refl, sym, ◌∙◌, ap, subst, inl, inr, arith, append_assoc, length-append}
+use Rattle.std.specs.Prelude.{◌==◌, ◌&&◌, if◌then◌else◌, count_by, nat_lt}
 use Rattle.std.proofs.lemmas.Bool.{cases_lt, cases_eq}
 use Rattle.std.proofs.lemmas.List.{length-map, map-append}
 use Rattle.sched_base.specs.declared.UnitId.{UnitId}
 use Rattle.sched_base.specs.Units.{number_of}
 use Rattle.arrival_queue.specs.declared.key.Key.{Key}
-use Rattle.arrival_queue.specs.Queues.{Queued, Queues, queued, goes_before, put_first, placed, is_of, has_unit, holds, without, rank_in, rank_of, count, inserted, appended, closed_up, removed, moved}
+use Rattle.arrival_queue.specs.Queues.{Queued, Queues, queued, goes_before, placed, is_of, has_unit, holds, without, rank_in, rank_of, count, inserted, appended, closed_up, removed, moved}
 use Rattle.arrival_queue.specs.Order.{GoesBeforeAll, IsInOrder, ArrivedBeforeAll, IsInArrival, has_rank, EachRankOnce, EachUnitOnce, IsOrdered}
 use Rattle.arrival_queue.proofs.Ranks.{less_test, not_less_test}
-use Rattle.arrival_queue.proofs.Splits.{same_test, other_test, or_right}
+use Rattle.arrival_queue.proofs.Splits.{same_test, other_test}
 use Rattle.arrival_queue.proofs.Changes.{rank_in-append}
 use Rattle.arrival_queue.proofs.Counting.{one_if, one-most, count-cons, count-append, count-put, length-put, count-map, count-alike, count-same, count-without, length-without, without-append, count-absent, count-here, has_unit-append, count-rank}
 use Rattle.arrival_queue.proofs.Ordering.{before_trans, before_other, closed-test, closed_before}

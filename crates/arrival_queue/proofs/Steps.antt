@@ -1,5 +1,5 @@
 -- The tables after each step on the ring.
-use Rattle.std.proofs.Common.{◌≡◌, ◌⊎◌, ℕ, ◌+◌, ◌-◌, ◌<◌, ◌≤◌, List, [], ◌∷◌, ◌++◌, length, set, Bool, true, false, refl, sym, ◌∙◌, ap, subst, inl, inr, arith, append_assoc}
+use Rattle.std.proofs.Common.{◌≡◌, ℕ, ◌+◌, ◌-◌, ◌<◌, List, [], ◌∷◌, ◌++◌, set, Bool, true, false, refl, sym, ◌∙◌, ap, subst, inl, inr, arith, append_assoc}
 use Rattle.std.specs.Prelude.{◌==◌, ◌||◌, if◌then◌else◌, Option, Some, None}
 use Rattle.std.proofs.lemmas.Bool.{cases_eq}
 use Rattle.std.proofs.lemmas.List.{append-nil}
@@ -10,10 +10,10 @@ use Rattle.unit_ring.specs.Lists as l
 use Rattle.unit_ring.specs.Lists.{Item, Lists, item, has_node, is_live, room_of, taken, given, appended, without_in}
 use Rattle.arrival_queue.specs.declared.key.Key.{Key}
 use Rattle.arrival_queue.specs.Queues.{put_first}
-use Rattle.arrival_queue.specs.Tables.{Apart, IsQueue, all_items, has_number, node_of, first_node, put_ring, ring_with, comes_before}
-use Rattle.arrival_queue.proofs.Splits.{same_test, other_test, or_left, or_right, has_node-split, has_number-split, node_of-none, node_of-mine, Apart-out, TakenOut}
+use Rattle.arrival_queue.specs.Tables.{Apart, IsQueue, all_items, has_number, node_of, first_node, put_ring, ring_with}
+use Rattle.arrival_queue.proofs.Splits.{same_test, other_test, or_right, has_node-split, node_of-mine, Apart-out, TakenOut}
 use Rattle.arrival_queue.proofs.Keeping.{kept_in, kept_out}
-use Rattle.arrival_queue.proofs.Views.{FoundNode, found_node, found_none, PutSplit, put_split, UnitSplit, unit_split, put_before_in-none, without_in-none, without_in-split}
+use Rattle.arrival_queue.proofs.Views.{found_node, found_none, put_split, UnitSplit, unit_split, put_before_in-none, without_in-split}
 use Rattle.arrival_queue.proofs.Walking.{Apart-left, live-append}
 
 -- the same tables under other names

@@ -1,18 +1,18 @@
 -- What callers see, with one item more, with one less, and with one moved.
-use Rattle.std.proofs.Common.{◌≡◌, ◌⊎◌, ℕ, ◌+◌, ◌-◌, ◌<◌, ◌≤◌, List, [], ◌∷◌, ◌++◌, length, map, set, Bool, true, false, refl, sym, ◌∙◌, ap, subst, inl, inr, arith}
+use Rattle.std.proofs.Common.{◌≡◌, ◌⊎◌, ℕ, ◌-◌, ◌<◌, List, [], ◌∷◌, ◌++◌, length, map, set, Bool, true, false, refl, sym, ◌∙◌, ap, subst, inl, inr, arith}
 use Rattle.std.specs.Prelude.{◌==◌, ◌&&◌, ◌||◌, not, if◌then◌else◌, Option, Some, None, nat_lt, pos}
 use Rattle.std.proofs.lemmas.Bool.{cases_eq, cases_lt}
-use Rattle.std.proofs.lemmas.List.{get_or-set_same, get_or-set_other, map-append}
+use Rattle.std.proofs.lemmas.List.{get_or-set_same, get_or-set_other}
 use Rattle.sched_base.specs.declared.UnitId.{UnitId}
 use Rattle.sched_base.specs.Units.{number_of}
 use Rattle.unit_ring.specs.declared.Node.{Node}
 use Rattle.unit_ring.specs.Lists as l
 use Rattle.unit_ring.specs.Lists.{Item, Lists, item, has_node}
 use Rattle.arrival_queue.specs.declared.key.Key.{Key}
-use Rattle.arrival_queue.specs.Queues.{Queued, queued, is_less, goes_before, put_first, placed, is_of, has_unit, without, rank_in, closed_up}
-use Rattle.arrival_queue.specs.Tables.{Apart, Tabled, has_number, node_of, key_at, arrival_at, rank, shown, comes_before, first_node}
-use Rattle.arrival_queue.proofs.Splits.{same_test, other_test, not_same, or_left, or_right, or_false}
-use Rattle.arrival_queue.proofs.Ranks.{arrival-set, rank-in, rank-out, rank-test, rank-most, less_test, not_less_test, one_if}
+use Rattle.arrival_queue.specs.Queues.{Queued, queued, is_less, goes_before, put_first, has_unit, without, rank_in, closed_up}
+use Rattle.arrival_queue.specs.Tables.{Apart, Tabled, has_number, key_at, arrival_at, rank, shown, comes_before, first_node}
+use Rattle.arrival_queue.proofs.Splits.{same_test, other_test, not_same, or_left, or_right}
+use Rattle.arrival_queue.proofs.Ranks.{arrival-set, rank-out, rank-test, less_test, not_less_test, one_if}
 
 key-set : (keys : List Key) (n m : ℕ) (key : Key) → (m == n) ≡ false → key_at (set keys n key) m ≡ key_at keys m
 key-set keys n m key other = get_or-set_other keys n m key (record { first = pos 0; second = 0 }) (not_same m n other)

@@ -1,5 +1,5 @@
 -- A walk along a list, from its first node to the next.
-use Rattle.std.proofs.Common.{◌≡◌, ◌⊎◌, ℕ, zero, suc, ◌+◌, ◌-◌, ◌<◌, ◌≤◌, List, [], ◌∷◌, ◌++◌, length, drop, Bool, true, false, refl, sym, ◌∙◌, ap, subst, inl, inr, arith}
+use Rattle.std.proofs.Common.{◌≡◌, ℕ, zero, suc, ◌+◌, ◌<◌, List, [], ◌∷◌, ◌++◌, length, drop, Bool, true, false, refl, sym, ◌∙◌, ap, subst, inl, inr, arith}
 use Rattle.std.proofs.lemmas.Bool.{cases_eq}
 use Rattle.std.specs.Prelude.{◌==◌, ◌||◌, if◌then◌else◌, Option, Some, None}
 use Rattle.unit_ring.specs.declared.Node.{Node}
@@ -7,7 +7,7 @@ use Rattle.unit_ring.specs.Lists.{Item, Lists, has_node, is_live, first_in, next
 use Rattle.arrival_queue.specs.Tables.{Apart, Tabled, all_items, has_number, first_node, first_unit}
 use Rattle.sched_base.specs.declared.UnitId.{UnitId}
 use Rattle.sched_base.specs.Units.{number_of}
-use Rattle.arrival_queue.proofs.Splits.{same_test, other_test, not_same, or_left, or_right}
+use Rattle.arrival_queue.proofs.Splits.{same_test, other_test, or_left, or_right}
 
 pub has_left : (m : ℕ) (xs ys : List Item) → has_node m (xs ++ ys) ≡ false → has_node m xs ≡ false
 has_left m [] ys none = refl

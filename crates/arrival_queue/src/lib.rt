@@ -125,18 +125,20 @@ impl ArrivalQueue {
         }
     }
 
-    /// The first of them whose domain is in the set.
+    /// The first of them whose domain is in the set, in at most n + 1 steps, n their number.
     pub fn first_where_counted<L: Ledger>(
         &self,
         allowed: Allowed,
         steps: &mut Steps<L>,
     ) -> Option<UnitId>
-        ensures { result ≡ first_that (λ u. domain_in allowed.0 u.dom.0) self.now.sorted }
+        ensures first { result ≡ first_that (λ u. domain_in allowed.0 u.dom.0) self.now.sorted }
+        ensures cost { steps.new ≤ steps.old + length self.now.sorted + 1 }
     {
         walks::first_where(&self.tables.ring, allowed, steps)
     }
 
     /// The first of them whose domain is in the set, where there is one, and whose cores let it run on a core of a pool.
+    /// At most n + 1 steps, n their number.
     pub fn first_on_counted<L: Ledger>(
         &self,
         domains: Option<Allowed>,
@@ -145,7 +147,8 @@ impl ArrivalQueue {
         home: Cores,
         steps: &mut Steps<L>,
     ) -> Option<UnitId>
-        ensures { result ≡ first_that (λ u. in_domains domains u && may_run masks.now core home u) self.now.sorted }
+        ensures first { result ≡ first_that (λ u. in_domains domains u && may_run masks.now core home u) self.now.sorted }
+        ensures cost { steps.new ≤ steps.old + length self.now.sorted + 1 }
     {
         walks::first_on(&self.tables.ring, domains, masks, core, home, steps)
     }

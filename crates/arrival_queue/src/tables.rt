@@ -3,7 +3,7 @@
 ghost use Rattle.std.specs.Prelude.{◌≡◌, ℕ, ◌+◌, ◌<◌, ◌≤◌, false, true, length, map, slice_set, slice_index_or, Some, None, IfOk};
 ghost use Rattle.std.specs.Option.{ForSome};
 ghost use Rattle.sched_base.specs.Units.{number_of};
-ghost use Rattle.unit_ring.specs.Lists.{Lists, item, no_unit, has_node, is_live, without as ring_without, given, taken as ring_taken, appended as ring_appended, empty, room_of};
+ghost use Rattle.unit_ring.specs.Lists.{item, no_unit, has_node, is_live, without as ring_without, given, taken as ring_taken, appended as ring_appended, empty, room_of};
 ghost use Rattle.arrival_queue.specs.Tables.{all_items, arrival_at, below, comes_before, first_node, has_number, node_of, put_ring, ring_with, Tabled};
 ghost use Rattle.arrival_queue.specs.Whole.{IsTables, seen};
 
@@ -159,6 +159,7 @@ pub fn put<L: Ledger>(
     ensures ring { tables.new.ring ≡ put_ring (comes_before tables.old.keys.items tables.old.arrivals.items key arrival) (item result.0 u) tables.old.ring }
     ensures keys { tables.new.keys.items ≡ slice_set tables.old.keys.items result.0 key }
     ensures arrivals { tables.new.arrivals.items ≡ slice_set tables.old.arrivals.items result.0 arrival }
+    ensures next { tables.new.next ≡ tables.old.next }
     ensures cost { steps.new ≤ steps.old + length tables.old.ring.first + 2 }
 {
     let at = place_of(tables, key, arrival, steps);
@@ -185,6 +186,7 @@ pub fn append<L: Ledger>(
     ensures ring { tables.new.ring ≡ ring_taken (ring_appended tables.old.ring 1 (item result.0 u)) }
     ensures keys { tables.new.keys.items ≡ slice_set tables.old.keys.items result.0 key }
     ensures arrivals { tables.new.arrivals.items ≡ slice_set tables.old.arrivals.items result.0 arrival }
+    ensures next { tables.new.next ≡ tables.old.next }
     ensures cost { steps.new ≡ steps.old + 1 }
 {
     let n = tables.ring.push_back(1, u, steps);

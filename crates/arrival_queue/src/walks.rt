@@ -1,6 +1,6 @@
 //! Searches along list 0 of a ring.
 
-ghost use Rattle.std.specs.Prelude.{◌≡◌, ◌&&◌};
+ghost use Rattle.std.specs.Prelude.{◌≡◌, ◌+◌, ◌≤◌, ◌&&◌, length};
 ghost use Rattle.arrival_queue.specs.Filters.{has_domain as domain_in, in_domains, may_run};
 ghost use Rattle.arrival_queue.specs.Tables.{Apart, all_items, first_unit};
 
@@ -30,10 +30,11 @@ fn passes(domains: Option<Allowed>, masks: &Masks, core: ResId, home: Cores, u: 
     is_in && is_allowed(masks.get(u), core, home)
 }
 
-/// The first unit whose domain is in the set.
+/// The first unit whose domain is in the set, in at most n + 1 steps, n the length of list 0.
 pub fn first_where<L: Ledger>(ring: &Ring, allowed: Allowed, steps: &mut Steps<L>) -> Option<UnitId>
     requires { Apart (all_items ring.now) }
-    ensures { result ≡ first_unit (λ u. domain_in allowed.0 u.dom.0) ring.now.first }
+    ensures unit { result ≡ first_unit (λ u. domain_in allowed.0 u.dom.0) ring.now.first }
+    ensures cost { steps.new ≤ steps.old + length ring.now.first + 1 }
 {
     let mut at = ring.first(0, steps);
     while let Some(n) = at {
@@ -46,7 +47,7 @@ pub fn first_where<L: Ledger>(ring: &Ring, allowed: Allowed, steps: &mut Steps<L
     None
 }
 
-/// The first unit that passes.
+/// The first unit that passes, in at most n + 1 steps, n the length of list 0.
 pub fn first_on<L: Ledger>(
     ring: &Ring,
     domains: Option<Allowed>,
@@ -56,7 +57,8 @@ pub fn first_on<L: Ledger>(
     steps: &mut Steps<L>,
 ) -> Option<UnitId>
     requires { Apart (all_items ring.now) }
-    ensures { result ≡ first_unit (λ u. in_domains domains u && may_run masks.now core home u) ring.now.first }
+    ensures unit { result ≡ first_unit (λ u. in_domains domains u && may_run masks.now core home u) ring.now.first }
+    ensures cost { steps.new ≤ steps.old + length ring.now.first + 1 }
 {
     let mut at = ring.first(0, steps);
     while let Some(n) = at {

@@ -1,6 +1,6 @@
 //! The order of arrival, and the unit that a scan of it would choose.
 
-ghost use Rattle.std.specs.Prelude.{◌≡◌, ◌+◌, ◌++◌, ◌∷◌, ◌<◌, [], ℕ, true, false, Bool, List, Option, None, Some, filter, map};
+ghost use Rattle.std.specs.Prelude.{◌≡◌, ◌+◌, ◌++◌, ◌∷◌, ◌<◌, [], ℕ, true, Bool, List, None, Some, filter, map};
 ghost use Rattle.sched_base.specs.declared.UnitId.{UnitId};
 ghost use Rattle.sched_model.specs.Places.{without_unit};
 ghost use Rattle.arrival_queue.specs.declared.key.Key.{Key};

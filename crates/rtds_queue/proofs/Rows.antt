@@ -1,5 +1,5 @@
 -- Queues that are known, call by call.
-use Rattle.std.proofs.Common.{◌≡◌, ℕ, Bool, true, false, refl, sym, ◌∙◌, ap}
+use Rattle.std.proofs.Common.{◌≡◌, Bool, ◌∙◌, ap}
 use Rattle.sched_base.specs.declared.UnitId.{UnitId}
 use Rattle.rtds_queue.specs.declared.RtdsKey.{RtdsKey}
 use Rattle.rtds_queue.specs.Lists.{Lists, holds, put, renewed}

@@ -1,16 +1,16 @@
 -- The calls that move a node, each as what callers see of it.
-use Rattle.std.proofs.Common.{◌≡◌, ◌⊎◌, ℕ, zero, suc, ◌+◌, ◌-◌, ◌<◌, ◌≤◌, List, [], ◌∷◌, ◌++◌, length, set, get_or, Bool, true, false, refl, sym, ◌∙◌, ap, subst, inl, inr, arith, length-set, length-append}
+use Rattle.std.proofs.Common.{◌≡◌, ℕ, zero, suc, ◌+◌, ◌-◌, ◌<◌, ◌≤◌, List, [], ◌∷◌, ◌++◌, length, set, Bool, true, false, refl, sym, ◌∙◌, ap, subst, inl, inr, arith, length-set, length-append}
 use Rattle.std.specs.Prelude.{◌||◌, if◌then◌else◌}
 use Rattle.std.proofs.lemmas.Bool.{cases_eq}
-use Rattle.std.proofs.lemmas.List.{get_or-set_same, get_or_default}
+use Rattle.std.proofs.lemmas.List.{get_or-set_same}
 use Rattle.sched_base.specs.declared.UnitId.{UnitId}
 use Rattle.unit_ring.specs.Lists as l
 use Rattle.unit_ring.specs.Lists.{Item, Lists, item, no_unit, has_node, is_live, unit_of, unit_in, list_of, first_in, next_in, next_of, taken, given, appended, room_of}
 use Rattle.unit_ring.specs.Chains.{Lacks, Has, Path, Below, Distinct, IsChain, IsRing, chain, fenced, nodes_of, second_of, free_of, without, put_before, unit_at, items, lists_of, link, as_node, nodes_up_to, after_with, before_with}
 use Rattle.unit_ring.proofs.Linking.{IsChain-put_before, chain-is, length-chain, without-same, without-lacks, put_before-lacks, Lacks-Has, Below-Has, Lacks-without}
-use Rattle.unit_ring.proofs.Fences.{Has-right, Lacks-append, Plain, Parted, parted, high, fenced-without, fenced-put_before, fenced-first_end, fenced-second_end, fenced-free_end}
+use Rattle.unit_ring.proofs.Fences.{Has-right, Lacks-append, Plain, high, fenced-without, fenced-put_before, fenced-first_end, fenced-second_end, fenced-free_end}
 use Rattle.unit_ring.proofs.ItemLists.{items-append, items-set, items-without, items-put_before, has_node-lacks, Has-has_node, unit_in-items, first_in-items, next_in-items}
-use Rattle.unit_ring.proofs.Operations.{ring_parted, live_in, live_high, live_below, FirstFree, Made, made, chain_has_free, chain_has_1, chain_has_2, ring_path, second_path, live_has}
+use Rattle.unit_ring.proofs.Operations.{ring_parted, live_in, live_high, FirstFree, Made, made, chain_has_free, chain_has_1, chain_has_2, ring_path, second_path, live_has}
 use Rattle.unit_ring.proofs.Shifting.{below, after_below}
 
 Plain-tail : (n : ℕ) (xs : List ℕ) → Plain (n ∷ xs) → Plain xs

@@ -1,9 +1,9 @@
 -- The three lists between the fences of a chain.
-use Rattle.std.proofs.Common.{◌≡◌, ◌⊎◌, ℕ, ◌+◌, ◌<◌, ◌≤◌, List, [], ◌∷◌, ◌++◌, length, Bool, refl, sym, ◌∙◌, ap, subst, inl, inr, arith, append_assoc}
-use Rattle.std.specs.Prelude.{◌==◌, if◌then◌else◌}
+use Rattle.std.proofs.Common.{◌≡◌, ◌⊎◌, ℕ, ◌≤◌, List, [], ◌∷◌, ◌++◌, Bool, refl, sym, ◌∙◌, ap, subst, inl, inr, arith, append_assoc}
+use Rattle.std.specs.Prelude.{if◌then◌else◌}
 use Rattle.std.proofs.lemmas.Bool.{cases_eq}
-use Rattle.unit_ring.specs.Chains.{link, Path, Lacks, Has, Distinct, IsChain, chain, until, past, fenced, nodes_of, second_of, free_of, without, put_before}
-use Rattle.unit_ring.proofs.Linking.{same_test, other_test, without-same, without-other, without-lacks, put_before-same, put_before-other, put_before-lacks, Lacks-Has}
+use Rattle.unit_ring.specs.Chains.{Path, Lacks, Has, Distinct, chain, until, past, fenced, nodes_of, second_of, free_of, without, put_before}
+use Rattle.unit_ring.proofs.Linking.{same_test, other_test, without-same, without-other, put_before-same, put_before-other, put_before-lacks, Lacks-Has}
 
 pub Has-left : (m : ℕ) (xs ws : List ℕ) → Has m xs → Has m (xs ++ ws)
 Has-left m [] ws has = absurd has

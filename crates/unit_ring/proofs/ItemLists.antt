@@ -1,14 +1,13 @@
 -- The nodes of a list with their units.
-use Rattle.std.proofs.Common.{◌≡◌, ◌⊎◌, ℕ, ◌+◌, ◌<◌, ◌≤◌, List, [], ◌∷◌, ◌++◌, length, set, Bool, true, false, refl, sym, ◌∙◌, ap, subst, inl, inr, arith}
-use Rattle.std.specs.Prelude.{◌==◌, ◌||◌, if◌then◌else◌, Option, Some, None, nat_lt}
+use Rattle.std.proofs.Common.{◌≡◌, ◌⊎◌, ℕ, ◌<◌, ◌≤◌, List, [], ◌∷◌, ◌++◌, length, set, Bool, true, false, refl, sym, ◌∙◌, ap, inl, inr, arith}
+use Rattle.std.specs.Prelude.{◌==◌, ◌||◌, if◌then◌else◌, Some, None, nat_lt}
 use Rattle.std.proofs.lemmas.Bool.{cases_eq}
 use Rattle.std.proofs.lemmas.Bool.Decides.{nat_tests}
 use Rattle.std.proofs.lemmas.List.{get_or-set_same, get_or-set_other}
 use Rattle.sched_base.specs.declared.UnitId.{UnitId}
-use Rattle.unit_ring.specs.declared.Node.{Node}
 use Rattle.unit_ring.specs.Lists.{Item, item, node, no_unit, has_node, unit_in, first_in, next_in, without_in, put_before_in}
 use Rattle.unit_ring.specs.Chains.{link, Path, Lacks, Has, Distinct, unit_at, items, as_node, without, put_before}
-use Rattle.unit_ring.proofs.Linking.{same_test, other_test, Lacks-Has}
+use Rattle.unit_ring.proofs.Linking.{same_test, other_test}
 
 pub items-append : (us : List UnitId) (xs ys : List ℕ) → items us (xs ++ ys) ≡ items us xs ++ items us ys
 items-append us [] ys = refl

@@ -1,5 +1,5 @@
 -- What a written link makes of the numbers that contracts see.
-use Rattle.std.proofs.Common.{◌≡◌, ◌⊎◌, ℕ, zero, suc, ◌+◌, ◌-◌, ◌*◌, ◌<◌, List, [], ◌∷◌, length, map, set, get_or, refl, sym, ◌∙◌, ap, subst, inl, inr, arith, length-set}
+use Rattle.std.proofs.Common.{◌≡◌, ℕ, zero, suc, ◌+◌, ◌-◌, ◌*◌, ◌<◌, List, [], ◌∷◌, length, map, set, get_or, refl, sym, ◌∙◌, ap, subst, inl, inr, arith, length-set}
 use Rattle.std.specs.Prelude.{◌/◌}
 use Rattle.std.proofs.lemmas.Bool.{cases_eq}
 use Rattle.std.proofs.lemmas.List.{get_or-set_same, get_or-set_other, get_or_default, length-map}
@@ -11,7 +11,7 @@ use Rattle.core.specs.Mem.Slots.{slots_items, IsFull, SamePlaces}
 use Rattle.unit_ring.specs.Chains.{link, after_without, before_without, after_with, before_with}
 use Rattle.unit_ring.specs.declared.nodes.Address.{Address}
 use Rattle.unit_ring.specs.declared.nodes.NodeRecord.{NodeRecord}
-use Rattle.unit_ring.specs.Nodes.{place, number_at, blank, node_at, with_after, with_before, Links, links_of, first_node, IsLinked, IsRow}
+use Rattle.unit_ring.specs.Nodes.{place, number_at, blank, node_at, with_after, with_before, links_of, first_node, IsLinked, IsRow}
 
 pub map-set : {X Y : Type 0} (f : X → Y) (xs : List X) (k : ℕ) (v : X) → map f (set xs k v) ≡ set (map f xs) k (f v)
 map-set f [] k v = refl

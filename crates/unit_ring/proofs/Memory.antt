@@ -1,5 +1,5 @@
 -- The nodes' memory in walks: a node that a `&` lends is read, and one is taken out of the row and put back.
-use Rattle.unit_ring.proofs.Walked.{◌≡◌, ℕ, ◌+◌, ◌*◌, ◌<◌, List, [], ◌∷◌, length, Bool, true, false, refl, sym, ap, subst, ◌∙◌, SProp, ent, sep, Lft, GName, Share, Fml, fat, flft, full_share, Ura, Val, vint, vptr, vstruct, vcons, vnil, ptr_val, w32, ◌^◌, Logic, sem, ‵, ◌⊛◌, ◌$◌, ◌∵◌, !, qed, by, done, move, keep, drop, use0, use1, use2, split, fsplit, fjoin, rewrite, some, pick, Seq, Step, step, Item, Goal, Soaks, shows, Is, Ptr, RawPtr, block_ptr, RattleType, RowLaws, cell_at, part_at, hidden_shr, Shut, ShrLaws, nothing_shr_laws, beside_shr_laws, lent_at_shr_laws, looks, shuts, peeks, only, ◌+ₚ◌}
+use Rattle.unit_ring.proofs.Walked.{◌≡◌, ℕ, ◌+◌, ◌*◌, ◌<◌, List, [], ◌∷◌, length, Bool, true, false, refl, ap, ent, sep, Lft, Share, Fml, fat, flft, full_share, Ura, Val, vint, vstruct, vcons, vnil, ptr_val, w32, ◌^◌, Logic, sem, ‵, ◌⊛◌, ◌$◌, ◌∵◌, !, qed, by, done, move, drop, use0, use1, use2, split, rewrite, some, pick, Seq, Step, step, Item, Goal, Soaks, shows, Is, Ptr, block_ptr, cell_at, part_at, hidden_shr, Shut, ShrLaws, nothing_shr_laws, beside_shr_laws, lent_at_shr_laws, looks, shuts, peeks, only, ◌+ₚ◌}
 use Rattle.core.proofs.mem.Param.{El}
 use Rattle.core.proofs.slots.Places.{besides, item_out, item_in}
 use lib.ListN.{get_or, set}

@@ -1,15 +1,12 @@
 -- What each call makes of the lists that callers see.
-use Rattle.std.proofs.Common.{◌≡◌, ◌⊎◌, ℕ, zero, suc, ◌+◌, ◌-◌, ◌<◌, ◌≤◌, List, [], ◌∷◌, ◌++◌, length, set, Bool, true, false, refl, sym, ◌∙◌, ap, subst, inl, inr, arith, length-set, length-append}
-use Rattle.std.specs.Prelude.{◌==◌, ◌||◌, if◌then◌else◌, Option}
-use Rattle.std.proofs.lemmas.Bool.{cases_eq}
+use Rattle.std.proofs.Common.{◌≡◌, ◌⊎◌, ℕ, ◌<◌, ◌≤◌, List, [], ◌∷◌, ◌++◌, length, Bool, true, false, refl, sym, ◌∙◌, ap, subst, inl, inr, arith}
+use Rattle.std.specs.Prelude.{◌||◌}
 use Rattle.sched_base.specs.declared.UnitId.{UnitId}
-use Rattle.unit_ring.specs.declared.Node.{Node}
-use Rattle.unit_ring.specs.Lists as l
-use Rattle.unit_ring.specs.Lists.{Item, Lists, item, has_node, is_live, unit_of, first_in, next_in, list_of, next_of, unit_in, taken, given, appended}
-use Rattle.unit_ring.specs.Chains.{link, Path, Lacks, Has, Distinct, IsChain, IsRing, chain, fenced, nodes_of, second_of, free_of, without, put_before, unit_at, items, lists_of, as_node}
-use Rattle.unit_ring.proofs.Linking.{other_test, without-same, without-lacks, put_before-lacks, Lacks-Has, Below-Has, Lacks-without, length-without}
-use Rattle.unit_ring.proofs.Fences.{Plain, Parted, parted, high, Has-left, Has-right, Path-right, nodes_of-is, second_of-is, free_of-is, fenced-without, fenced-put_before, fenced-first_end, fenced-second_end, fenced-free_end}
-use Rattle.unit_ring.proofs.ItemLists.{items-append, items-set, items-without, items-put_before, has_node-Has, has_node-lacks, Has-has_node, unit_in-items, first_in-items, next_in-items}
+use Rattle.unit_ring.specs.Lists.{has_node, is_live}
+use Rattle.unit_ring.specs.Chains.{link, Path, Has, Distinct, IsChain, IsRing, chain, fenced, nodes_of, second_of, free_of, items, lists_of}
+use Rattle.unit_ring.proofs.Linking.{Below-Has}
+use Rattle.unit_ring.proofs.Fences.{Parted, parted, high, Has-left, Has-right, Path-right, nodes_of-is, second_of-is, free_of-is}
+use Rattle.unit_ring.proofs.ItemLists.{has_node-Has}
 
 -- what is known of a ring: its path, and how its lists stand apart
 pub ring_path : (f g : List ℕ) (us : List UnitId) → IsRing f g us → Path f g 0 (fenced (nodes_of f) (second_of f) (free_of f))

@@ -7,7 +7,7 @@ use lib.ListN.{length}
 use seplogic.Ra.Ura.{Ura}
 use mir.Val.{Val, vint, vptr, vstruct, vcons, vnil, of_list}
 use base.Logic.{SProp, ent, sep, ex, guard, emp, id⊢}
-use base.Fml.{Fml, Lft, Share, ftrue, fsep, flft}
+use base.Fml.{Lft, Share, ftrue, fsep, flft}
 use prog.Memory.{Memory}
 use prog.Routine.{Routine}
 use types.Logic.{Logic, sem}

@@ -1,5 +1,5 @@
 -- A number of the chain goes before another, in two steps: it is taken out, and put in.
-use Rattle.std.proofs.Common.{◌≡◌, ℕ, ◌<◌, ◌+◌, List, ◌∷◌, length, set, sym, ◌∙◌, arith, length-set, subst}
+use Rattle.std.proofs.Common.{◌≡◌, ℕ, ◌<◌, List, ◌∷◌, length, set, sym, ◌∙◌, arith, length-set}
 use Rattle.unit_ring.specs.Chains.{IsChain, Has, Lacks, chain, link, without, put_before, after_without, before_without, after_with, before_with}
 use Rattle.unit_ring.proofs.Linking.{Below-Has, before-Has, after-Has, IsChain-without, IsChain-put_before, Has-without, Lacks-Has, Lacks-without_self, length-without, length-put_before, length-chain, chain-is}
 

@@ -1,6 +1,6 @@
 -- The nodes of a ring as they lie in memory: each is known by its place, which is so many records from the first.
-use Rattle.std.specs.Prelude.{ℕ, ◌+◌, ◌-◌, ◌*◌, ◌/◌, ◌<◌, ◌≡◌, List, map, length, slice_index_or, slice_set}
-use denote.RawPtr.{Ptr, null_ptr, count_of, InBlock, ◌+ₚ◌}
+use Rattle.std.specs.Prelude.{ℕ, ◌-◌, ◌*◌, ◌/◌, ◌<◌, ◌≡◌, List, map, length, slice_index_or, slice_set}
+use denote.RawPtr.{null_ptr, count_of, InBlock, ◌+ₚ◌}
 use Rattle.core.specs.declared.slots.Slots.{Slots}
 use Rattle.core.specs.Mem.Slots.{slots_items, slots_ptr, IsFull}
 use Rattle.sched_base.specs.declared.UnitId.{UnitId}

@@ -1,10 +1,10 @@
 //! The links of a chain of numbers: for each number the one after it and the one before it. They lie with the nodes in
 //! one block, which is taken once and given back at the end.
 
-ghost use Rattle.std.specs.Prelude.{ℕ, ◌≡◌, ◌≢◌, ◌-◌, ◌<◌, ◌≤◌, [], ◌∷◌, length, slice_set, replicate, IfOk};
+ghost use Rattle.std.specs.Prelude.{ℕ, ◌≡◌, ◌≢◌, ◌-◌, ◌<◌, ◌≤◌, [], ◌∷◌, length, slice_set, IfOk};
 ghost use Rattle.core.specs.Mem.Slots.{slots_items, slots_len, IsFull, SamePlaces};
 ghost use Rattle.unit_ring.specs.Chains.{link, unit_at, after_without, before_without, after_with, before_with, IsChain, Has, chain, fenced, nodes_up_to, without, put_before};
-ghost use Rattle.unit_ring.specs.Nodes.{first_node, node_at};
+ghost use Rattle.unit_ring.specs.Nodes.{blank, first_node, node_at};
 
 use crate::nodes;
 use crate::nodes::{Address, NodeRecord, based};
@@ -21,7 +21,9 @@ const NO_UNIT: UnitId = UnitId {
 };
 
 /// A node before it has a number.
-fn blank_node() -> NodeRecord {
+fn blank_node() -> NodeRecord
+    ensures { result ≡ blank }
+{
     NodeRecord {
         after: Address {
             ptr: ptr::null_mut(),

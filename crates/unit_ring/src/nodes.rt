@@ -1,6 +1,6 @@
 //! The nodes of a ring in raw memory, with pointers from each to the one after it and the one before it.
 
-ghost use Rattle.std.specs.Prelude.{◌≡◌, ℕ, ◌<◌, length, slice_index_or, slice_set};
+ghost use Rattle.std.specs.Prelude.{◌≡◌, ℕ, ◌<◌};
 ghost use Rattle.core.specs.Mem.Slots.{slots_items, slots_ptr, slots_len, slots_filled, IsFull, SamePlaces};
 ghost use denote.RawPtr.{InBlock};
 ghost use Rattle.unit_ring.specs.Nodes.{node_at, place, with_after, with_before};

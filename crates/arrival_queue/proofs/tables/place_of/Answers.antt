@@ -1,9 +1,8 @@
-use Rattle.std.proofs.Common.{◌≡◌, ℕ, ◌+◌, ◌-◌, ◌<◌, ◌≤◌, List, ◌++◌, Bool, true, false, length, drop, refl, sym, ◌∙◌, ap, subst, arith, rules}
+use Rattle.std.proofs.Common.{◌≡◌, ℕ, ◌+◌, ◌-◌, ◌<◌, Bool, true, false, length, drop, sym, ◌∙◌, ap, subst, arith}
 use Rattle.unit_ring.specs.declared.Node.{Node}
-use Rattle.unit_ring.specs.Lists.{Item, Lists, has_node, is_live, first_in, item, next_of, node, no_unit}
+use Rattle.unit_ring.specs.Lists.{Item, Lists, is_live, first_in, item, next_of, no_unit}
 use Rattle.std.specs.Prelude.{Option, Some}
-use Rattle.arrival_queue.specs.declared.key.Key.{Key}
-use Rattle.arrival_queue.specs.Tables.{Apart, Tabled, all_items, comes_before, first_node}
+use Rattle.arrival_queue.specs.Tables.{Apart, all_items, comes_before, first_node}
 use Rattle.arrival_queue.proofs.Walking.{At, at_node, at_live, at_next, Apart-left, Tabled-left, Tabled-has, passed_more}
 use Rattle.arrival_queue.proofs.tables.place_of.Goals as goal
 

@@ -1,4 +1,4 @@
-use Rattle.std.proofs.Common.{◌≡◌, ◌+◌, ◌-◌, ◌≤◌, length, drop}
+use Rattle.std.proofs.Common.{◌≡◌, ◌-◌, ◌≤◌, length, drop}
 use Rattle.unit_ring.specs.Lists.{first_in}
 use Rattle.arrival_queue.specs.Tables.{comes_before, first_node}
 use Rattle.arrival_queue.proofs.tables.place_of.Given as goal

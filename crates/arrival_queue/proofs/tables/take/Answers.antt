@@ -1,13 +1,10 @@
-use Rattle.std.proofs.Common.{◌≡◌, ℕ, ◌+◌, ◌-◌, ◌<◌, ◌≤◌, List, ◌++◌, Bool, true, false, length, map, set, refl, sym, ◌∙◌, ap, subst, arith, rules}
-use Rattle.std.specs.Prelude.{Option, Some, None}
+use Rattle.std.proofs.Common.{ℕ, set, refl, ◌∙◌, ap}
+use Rattle.std.specs.Prelude.{None}
 use Rattle.sched_base.specs.Units.{number_of}
-use Rattle.unit_ring.specs.declared.Node.{Node}
 use Rattle.unit_ring.specs.Lists as l
 use Rattle.unit_ring.specs.Lists.{Item, Lists, item, has_node, is_live, room_of, taken, given, appended}
-use Rattle.arrival_queue.specs.declared.key.Key.{Key}
-use Rattle.arrival_queue.specs.Tables.{IsQueue, all_items, below, comes_before, put_ring, ring_with, has_number, queues_of}
-use Rattle.arrival_queue.proofs.Numbering.{renumbered, seen_anew, with_later}
-use Rattle.arrival_queue.proofs.Steps.{same_queue, fresh_items, found_live, found_ring, put_kept, append_kept, Found, found, take_kept}
+use Rattle.arrival_queue.specs.Tables.{all_items, has_number}
+use Rattle.arrival_queue.proofs.Steps.{same_queue, found, take_kept}
 use Rattle.arrival_queue.proofs.tables.take.Goals as goal
 
 pub unlink-requires : goal.unlink-requires

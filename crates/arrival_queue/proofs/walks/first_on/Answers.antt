@@ -1,10 +1,10 @@
-use Rattle.std.proofs.Common.{◌≡◌, ℕ, ◌+◌, ◌-◌, ◌<◌, ◌≤◌, List, Bool, true, false, length, drop, refl, sym, ◌∙◌, ap, subst, arith, rules}
-use Rattle.std.specs.Prelude.{◌&&◌, Option, Some}
+use Rattle.std.proofs.Common.{◌≡◌, ℕ, ◌+◌, ◌-◌, Bool, true, false, drop, sym, ◌∙◌, ap, subst, arith}
+use Rattle.std.specs.Prelude.{◌&&◌, Some}
 use Rattle.sched_base.specs.declared.UnitId.{UnitId}
 use Rattle.unit_ring.specs.Lists.{first_in}
-use Rattle.arrival_queue.specs.Filters.{has_domain as domain_in, in_domains, may_run}
+use Rattle.arrival_queue.specs.Filters.{in_domains, may_run}
 use Rattle.arrival_queue.specs.Tables.{first_unit}
-use Rattle.arrival_queue.proofs.Walking.{At, stand, stand_live, stand_next, stand_unit, unit_more, unit_found}
+use Rattle.arrival_queue.proofs.Walking.{stand, stand_live, stand_next, stand_unit, unit_more, unit_found}
 use Rattle.arrival_queue.proofs.walks.first_on.Goals as goal
 
 pub unit-u-requires : goal.unit-u-requires
@@ -17,8 +17,8 @@ next-at-requires g c =
     let k = c.loop-at.steps - c.first-at.new.steps in
     record { live = stand_live c.args.ring.now k c.in-Some.n (stand c.args.ring.now k c.loop-at.at c.in-Some.n c.requires c.loop-at.invariant.stands c.in-Some.is) }
 
-pub returns-then-passes : goal.returns-then-passes
-returns-then-passes g c =
+pub returns-then-passes-clause-unit : goal.returns-then-passes-clause-unit
+returns-then-passes-clause-unit g c =
     let k = c.loop-at.steps - c.first-at.new.steps in
     let p : UnitId → Bool = λ u. in_domains c.args.domains u && may_run c.args.masks.now c.args.core c.args.home u in
     let there = stand c.args.ring.now k c.loop-at.at c.in-Some.n c.requires c.loop-at.invariant.stands c.in-Some.is in

@@ -1,10 +1,10 @@
-use Rattle.std.proofs.Common.{◌≡◌, ℕ, ◌+◌, ◌-◌, ◌<◌, ◌≤◌, List, Bool, true, false, length, drop, refl, sym, ◌∙◌, ap, subst, arith, rules}
-use Rattle.std.specs.Prelude.{◌&&◌, Option, Some}
+use Rattle.std.proofs.Common.{◌≡◌, ℕ, ◌+◌, ◌-◌, Bool, true, false, drop, sym, ◌∙◌, ap, subst, arith}
+use Rattle.std.specs.Prelude.{Some}
 use Rattle.sched_base.specs.declared.UnitId.{UnitId}
 use Rattle.unit_ring.specs.Lists.{first_in}
-use Rattle.arrival_queue.specs.Filters.{has_domain as domain_in, in_domains, may_run}
+use Rattle.arrival_queue.specs.Filters.{has_domain as domain_in}
 use Rattle.arrival_queue.specs.Tables.{first_unit}
-use Rattle.arrival_queue.proofs.Walking.{At, stand, stand_live, stand_next, stand_unit, unit_more, unit_found}
+use Rattle.arrival_queue.proofs.Walking.{stand, stand_live, stand_next, stand_unit, unit_more, unit_found}
 use Rattle.arrival_queue.proofs.walks.first_where.Goals as goal
 
 pub unit-u-requires : goal.unit-u-requires
@@ -17,8 +17,8 @@ next-at-requires g c =
     let k = c.loop-at.steps - c.first-at.new.steps in
     record { live = stand_live c.args.ring.now k c.in-Some.n (stand c.args.ring.now k c.loop-at.at c.in-Some.n c.requires c.loop-at.invariant.stands c.in-Some.is) }
 
-pub returns-then-has_domain : goal.returns-then-has_domain
-returns-then-has_domain g c =
+pub returns-then-has_domain-clause-unit : goal.returns-then-has_domain-clause-unit
+returns-then-has_domain-clause-unit g c =
     let k = c.loop-at.steps - c.first-at.new.steps in
     let p : UnitId → Bool = λ u. domain_in c.args.allowed.0 u.dom.0 in
     let there = stand c.args.ring.now k c.loop-at.at c.in-Some.n c.requires c.loop-at.invariant.stands c.in-Some.is in

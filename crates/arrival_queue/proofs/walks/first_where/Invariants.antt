@@ -1,7 +1,6 @@
-use Rattle.std.proofs.Common.{◌≡◌, ◌+◌, ◌-◌, ◌≤◌, length, drop}
-use Rattle.std.specs.Prelude.{◌&&◌}
+use Rattle.std.proofs.Common.{◌≡◌, ◌-◌, ◌≤◌, length, drop}
 use Rattle.unit_ring.specs.Lists.{first_in}
-use Rattle.arrival_queue.specs.Filters.{has_domain as domain_in, in_domains, may_run}
+use Rattle.arrival_queue.specs.Filters.{has_domain as domain_in}
 use Rattle.arrival_queue.specs.Tables.{first_unit}
 use Rattle.arrival_queue.proofs.walks.first_where.Given as goal
 

@@ -1,5 +1,4 @@
-use Rattle.std.proofs.Common.{◌≡◌, ℕ, ◌≤◌, List, ◌++◌, subst, ap}
-use Rattle.arrival_queue.specs.Queues.{Queued}
+use Rattle.std.proofs.Common.{◌++◌, subst}
 use Rattle.arrival_queue.specs.Order.{EachUnitOnce}
 use Rattle.rtds_queue.specs.Lists.{Lists}
 use Rattle.rtds_queue.proofs.RtdsQueues.law_order.Goals as goal

@@ -1,4 +1,4 @@
-use Rattle.std.proofs.Common.{◌≡◌, ◌+◌, ◌≤◌, List, length, ap, arith}
+use Rattle.std.proofs.Common.{◌≡◌, List, length, ap, arith}
 use Rattle.arrival_queue.specs.Queues.{Queued, without}
 use Rattle.arrival_queue.proofs.Lengths.{without-most}
 use Rattle.rtds_queue.specs.Lists.{Lists}

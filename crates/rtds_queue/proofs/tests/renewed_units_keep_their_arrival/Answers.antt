@@ -1,7 +1,5 @@
-use Rattle.std.proofs.Common.{◌≡◌, ℕ, Bool, true, false, refl, sym, ◌∙◌, ap}
-use Rattle.sched_base.specs.declared.UnitId.{UnitId}
-use Rattle.rtds_queue.specs.declared.RtdsKey.{RtdsKey}
-use Rattle.rtds_queue.specs.Lists.{Lists, empty, holds, put, renewed, unit_id, rtds_key}
+use Rattle.std.proofs.Common.{true, false, refl}
+use Rattle.rtds_queue.specs.Lists.{Lists, empty, put, renewed, unit_id, rtds_key}
 use Rattle.rtds_queue.proofs.Rows.{put_is, renewed_is, holds_is}
 use Rattle.rtds_queue.proofs.tests.renewed_units_keep_their_arrival.Goals as goal
 

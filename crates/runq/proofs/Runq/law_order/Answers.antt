@@ -1,4 +1,4 @@
-use Rattle.std.proofs.Common.{◌≡◌, ℕ, ◌≤◌, List, [], ◌++◌, subst, sym, ◌∙◌, ap}
+use Rattle.std.proofs.Common.{◌≡◌, List, ◌++◌, subst, ◌∙◌, ap}
 use Rattle.std.proofs.lemmas.List.{append-nil}
 use Rattle.arrival_queue.specs.Queues.{Queued}
 use Rattle.arrival_queue.specs.Order.{EachUnitOnce}

@@ -1,5 +1,4 @@
-use Rattle.std.proofs.Common.{◌≡◌, ◌⊎◌, ℕ, ◌+◌, ◌≤◌, List, [], ◌∷◌, Bool, true, false, length, sym, ◌∙◌, ap, inl, inr, subst, arith, rules}
-use Rattle.sched_base.specs.declared.UnitId.{UnitId}
+use Rattle.std.proofs.Common.{◌≡◌, List, length, ap, arith}
 use Rattle.arrival_queue.specs.Queues.{Queued, without}
 use Rattle.arrival_queue.proofs.Lengths.{without-less}
 use Rattle.runq.specs.Queue.{Queue}

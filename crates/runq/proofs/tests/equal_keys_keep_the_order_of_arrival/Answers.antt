@@ -1,4 +1,4 @@
-use Rattle.std.proofs.Common.{◌≡◌, ℕ, Bool, true, false, refl, sym, ◌∙◌, ap}
+use Rattle.std.proofs.Common.{◌≡◌, Bool, true, false, refl, ◌∙◌, ap}
 use Rattle.std.specs.Prelude.{ℤ, pos, negsuc}
 use Rattle.sched_base.specs.declared.UnitId.{UnitId}
 use Rattle.arrival_queue.specs.Queues.{has_unit}

@@ -1,9 +1,9 @@
-use Rattle.std.proofs.Common.{◌≡◌, ◌⊎◌, ℕ, ◌+◌, ◌<◌, ◌≤◌, List, ◌∷◌, ◌++◌, true, false, length, refl, sym, ◌∙◌, ap, subst, inl, inr, arith, rules, set}
+use Rattle.std.proofs.Common.{◌≡◌, ℕ, ◌<◌, List, true, false, length, refl, sym, ◌∙◌, ap, subst, arith, set}
 use Rattle.sched_base.specs.declared.UnitId.{UnitId}
-use Rattle.unit_ring.specs.Lists.{Lists, item, is_live, unit_of, taken, given, appended, first_in, next_of, list_of, without as lists_without, put_before as lists_with}
-use Rattle.unit_ring.specs.Chains.{link, Has, IsRing, chain, free_of, lists_of, unit_at, as_node}
-use Rattle.unit_ring.proofs.Operations.{live_has, live_high, live_below, FirstFree, first_free, chain_has_free, chain_has_3}
-use Rattle.unit_ring.proofs.Calls.{free_high, free_below, free_fresh, live_not_free, pushed, inserted, unlinked, shifted, unit_of_live, chain_has_end, first_is, next_is, read_unit, free_number, carried, list_low, list_below, free_low, free_next, live_next}
+use Rattle.unit_ring.specs.Lists.{Lists, item, is_live, taken, put_before as lists_with}
+use Rattle.unit_ring.specs.Chains.{link, IsRing, free_of, lists_of}
+use Rattle.unit_ring.proofs.Operations.{live_has, FirstFree, first_free, chain_has_free}
+use Rattle.unit_ring.proofs.Calls.{free_high, free_below, free_fresh, live_not_free, inserted, free_number, carried, free_low, free_next}
 use Rattle.unit_ring.proofs.Ring.insert_before.Given.{Over}
 use Rattle.unit_ring.proofs.Ring.insert_before.Goals as goal
 

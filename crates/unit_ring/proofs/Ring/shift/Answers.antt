@@ -1,9 +1,8 @@
-use Rattle.std.proofs.Common.{◌≡◌, ◌⊎◌, ℕ, ◌+◌, ◌<◌, ◌≤◌, List, ◌∷◌, ◌++◌, true, false, length, refl, sym, ◌∙◌, ap, subst, inl, inr, arith, rules}
-use Rattle.sched_base.specs.declared.UnitId.{UnitId}
-use Rattle.unit_ring.specs.Lists.{Lists, item, is_live, unit_of, taken, given, appended, first_in, next_of, list_of, without as lists_without, put_before as lists_with}
-use Rattle.unit_ring.specs.Chains.{link, Has, IsRing, chain, free_of, lists_of, unit_at, as_node}
-use Rattle.unit_ring.proofs.Operations.{live_has, live_high, live_below, FirstFree, first_free, chain_has_free, chain_has_3}
-use Rattle.unit_ring.proofs.Calls.{free_high, free_below, free_fresh, live_not_free, pushed, inserted, unlinked, shifted, unit_of_live, chain_has_end, first_is, next_is, read_unit, free_number, carried, list_low, list_below, free_low, free_next, live_next}
+use Rattle.std.proofs.Common.{◌≡◌, true, refl, sym, ◌∙◌, ap, subst, arith}
+use Rattle.unit_ring.specs.Lists.{Lists, item, is_live, unit_of, appended, without as lists_without}
+use Rattle.unit_ring.specs.Chains.{IsRing, lists_of}
+use Rattle.unit_ring.proofs.Operations.{live_has, live_high}
+use Rattle.unit_ring.proofs.Calls.{shifted, chain_has_end, carried}
 use Rattle.unit_ring.proofs.Ring.shift.Given.{Over}
 use Rattle.unit_ring.proofs.Ring.shift.Goals as goal
 

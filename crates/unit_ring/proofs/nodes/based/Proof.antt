@@ -1,5 +1,5 @@
 -- `based` takes the row apart and makes it again, and keeps the pointer.
-use Rattle.unit_ring.proofs.Walked.{◌≡◌, ℕ, ◌+◌, ◌*◌, ◌^◌, ◌<◌, List, [], ◌∷◌, length, Bool, true, false, refl, sym, ap, subst, ◌∙◌, w64, id⊢, ftrue, flft, full_share, Lft, Val, vint, vptr, vstruct, vcons, vnil, fact, tables, ‵, raw, ◌⊛◌, some, given, later, prop, regoal, SProp, at_ret, ◌$◌, ◌∵◌, !, qed, by, done, move, keep, drop, use0, use1, use2, split, join, fsplit, fjoin, pick, learn, await, suffices, frame, group, whole, sub, agg, enter, of_opd, stop, fld, no_more, and_then, first, blocks, exec, returns, alloc_all, pass_all, free_all, look_at, get, get_in, sets, sets_last, is, env, yes, Ptr, block_ptr, owns, plain, types_at, nothing, owned, on_entry, Stays, walk_of, stay_dropped, Goes-dropped, ends_at, arith}
+use Rattle.unit_ring.proofs.Walked.{◌≡◌, ℕ, List, [], ◌∷◌, Bool, refl, sym, ◌∙◌, ftrue, flft, full_share, Lft, Val, vptr, vstruct, vcons, vnil, fact, tables, ‵, raw, ◌⊛◌, some, given, later, prop, regoal, SProp, at_ret, ◌$◌, ◌∵◌, !, qed, done, move, keep, use0, use1, use2, split, fsplit, fjoin, pick, learn, await, suffices, group, whole, sub, agg, enter, of_opd, stop, fld, no_more, and_then, first, blocks, exec, returns, alloc_all, pass_all, free_all, look_at, get, get_in, sets, sets_last, env, yes, block_ptr, owns, plain, types_at, nothing, Stays, walk_of, stay_dropped, Goes-dropped, ends_at}
 use Rattle.std.proofs.raw_atomic.Walks.{proved_at}
 use Rattle.core.specs.Mem.Slots.{slots_items, slots_ptr, slots_len, slots_filled, slots_counts, SamePlaces}
 use Rattle.core.specs.Mem.Slots.Ownership.{slots}
@@ -12,7 +12,6 @@ use Rattle.unit_ring.specs.declared.nodes.NodeRecord.{NodeRecord}
 use Rattle.unit_ring.specs.declared.nodes.Address.{Address}
 use Rattle.unit_ring.specs.contracts.nodes.NodeRecord.{the_row as Node}
 use Rattle.unit_ring.specs.contracts.nodes.Address.{the_row as Place}
-use Rattle.unit_ring.proofs.nodes.Address.TheLaws as address
 use Rattle.unit_ring.proofs.nodes.NodeRecord.TheLaws as node
 use Rattle.unit_ring.proofs.Memory.{E, place_made}
 use Rattle.unit_ring.proofs.Raw.{Passed, passed_laws, row_seen, From, at_from, Made, from_goes, from_gives, Into, at_into, Into-goes, Into-gives, pair_val, pair_of}

@@ -1,6 +1,6 @@
 -- `insert_before` writes two links into the node, one into the node before and one into the node after.
-use Rattle.unit_ring.proofs.Walked.{◌≡◌, ℕ, ◌+◌, ◌*◌, ◌^◌, ◌<◌, List, [], ◌∷◌, length, Bool, true, false, refl, sym, ap, subst, ◌∙◌, w32, w64, proved, never, id⊢, ftrue, fat, flft, full_share, named, Val, vunit, vint, vptr, vstruct, vcons, vnil, fact, tables, ‵, raw, ◌⊛◌, at_ret, ◌$◌, ◌∵◌, !, qed, by, done, move, keep, drop, use1, use2, use3, split, join, fsplit, fsplit3, fjoin, fjoin3, feq_i, rewrite, suffices, frame, whole, sub, look_in, store_in, enter, of_opd, lit, unit_lit, bin, un, load, stop, fld, hop, from, assigns, assigns_last, agg, and_then, no_more, first, blocks, exec, returns, alloc_all, pass_all, free_all, look_at, take_at, give_at, get, get_in, through, sets, is, env, u32, yes, uint_vals, uint_Tells, Ptr, block_ptr, ptr_val, ◌+ₚ◌, owns, mut_vals, mut_Tells, plain, types_at, nothing, heard, on_entry, Stays, walk_of, stay_dropped, Goes-dropped, stay_ref, Goes-ref, ends_at, arith, MutBor}
-use Rattle.core.specs.Mem.Slots.{slots_items, slots_ptr, slots_len, slots_filled, slots_counts, slots_with, IsFull, SamePlaces}
+use Rattle.unit_ring.proofs.Walked.{◌≡◌, ℕ, ◌+◌, ◌*◌, ◌^◌, ◌<◌, List, [], ◌∷◌, length, Bool, true, false, refl, sym, ap, ◌∙◌, w32, proved, ftrue, fat, flft, full_share, named, Val, vunit, vint, vptr, vstruct, vcons, vnil, fact, tables, ‵, raw, ◌⊛◌, at_ret, ◌$◌, ◌∵◌, !, qed, done, move, keep, use1, use2, split, join, fsplit, fsplit3, fjoin, fjoin3, feq_i, rewrite, suffices, frame, whole, sub, look_in, store_in, enter, of_opd, lit, unit_lit, bin, un, load, stop, fld, hop, from, assigns, assigns_last, agg, and_then, no_more, first, blocks, exec, returns, alloc_all, pass_all, free_all, look_at, take_at, give_at, get, get_in, through, sets, is, env, u32, yes, uint_vals, uint_Tells, Ptr, block_ptr, ptr_val, ◌+ₚ◌, owns, mut_vals, mut_Tells, plain, types_at, nothing, heard, Stays, walk_of, stay_dropped, Goes-dropped, stay_ref, Goes-ref, ends_at, arith}
+use Rattle.core.specs.Mem.Slots.{slots_items, slots_ptr, slots_len, slots_filled, slots_counts, slots_with, IsFull}
 use Rattle.core.specs.Mem.Slots.Ownership.{slots}
 use Rattle.core.specs.declared.slots.Slots.{Slots}
 use Rattle.core.specs.contracts.slots.Slots as S

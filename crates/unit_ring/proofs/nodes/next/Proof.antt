@@ -1,5 +1,5 @@
 -- `next` reads the link of a node, and the number of the node to which it leads.
-use Rattle.unit_ring.proofs.Walked.{◌≡◌, ℕ, ◌+◌, ◌*◌, ◌^◌, ◌<◌, List, [], ◌∷◌, length, Bool, true, false, refl, sym, ap, subst, ◌∙◌, w32, w64, proved, never, id⊢, ftrue, fat, flft, named, Val, vint, fact, tables, ‵, raw, ◌⊛◌, at_ret, ◌$◌, ◌∵◌, !, qed, by, done, move, keep, drop, use1, split, join, fsplit, fjoin, rewrite, suffices, frame, whole, sub, look_in, enter, of_opd, lit, bin, un, load, stop, fld, first, blocks, exec, returns, well_typed, alloc_all, pass_all, free_all, look_at, take_at, give_at, get, get_in, through, sets, sets_last, is, env, u32, RefOf, yes, uint_Makes, uint_vals, uint_Tells, Ptr, block_ptr, ◌+ₚ◌, vptr, vstruct, vcons, vnil, ptr_val, in_a_block, owns, shr_vals, shr_Tells, plain, types_at, hidden_shr, RawPtr, usize, flt, prop, regoal, hide, unhide, laws_dup, nothing, owned, heard, on_entry, Stays, walk_of, says, stay_dropped, Goes-dropped, ends_at, arith}
+use Rattle.unit_ring.proofs.Walked.{◌≡◌, ℕ, ◌+◌, ◌*◌, ◌^◌, ◌<◌, List, [], ◌∷◌, length, Bool, true, false, refl, sym, ap, ◌∙◌, w32, proved, ftrue, flft, named, vint, fact, tables, ‵, raw, ◌⊛◌, at_ret, ◌$◌, ◌∵◌, !, qed, done, move, keep, drop, use1, split, join, fsplit, fjoin, suffices, frame, whole, sub, look_in, enter, of_opd, lit, bin, un, load, stop, fld, first, blocks, exec, returns, well_typed, alloc_all, pass_all, free_all, look_at, get, get_in, through, sets, sets_last, is, env, u32, RefOf, yes, uint_Makes, uint_vals, uint_Tells, Ptr, block_ptr, ◌+ₚ◌, vptr, vstruct, vcons, vnil, ptr_val, in_a_block, owns, shr_vals, shr_Tells, plain, types_at, hidden_shr, RawPtr, usize, flt, prop, regoal, hide, unhide, laws_dup, nothing, owned, heard, Stays, walk_of, says, stay_dropped, Goes-dropped, ends_at, arith}
 use Rattle.core.specs.Mem.Slots.{slots_items, slots_ptr, slots_len, slots_filled, slots_counts, IsFull}
 use Rattle.core.specs.Mem.Slots.Ownership.{slots_lent}
 use Rattle.core.specs.contracts.slots.Slots as S

@@ -1,6 +1,5 @@
-use Rattle.std.proofs.Common.{◌≡◌, ℕ, ◌<◌, length, refl, sym, ◌∙◌, ap, subst, arith}
-use Rattle.core.specs.Mem.Slots.{slots_items, slots_ptr, slots_len, slots_counts}
-use Rattle.unit_ring.specs.Nodes.{node_at, first_node}
+use Rattle.std.proofs.Common.{◌<◌, length, sym, ◌∙◌, arith}
+use Rattle.core.specs.Mem.Slots.{slots_items, slots_counts}
 use Rattle.unit_ring.proofs.Linked.{all_first, first_linked}
 use Rattle.unit_ring.proofs.links.Nodes.fresh.Goals as goal
 

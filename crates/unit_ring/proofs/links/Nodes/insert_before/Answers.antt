@@ -1,4 +1,4 @@
-use Rattle.std.proofs.Common.{◌≡◌, ℕ, List, refl, sym, ◌∙◌, ap}
+use Rattle.std.proofs.Common.{refl, sym, ◌∙◌, ap}
 use Rattle.core.specs.Mem.Slots.{slots_items}
 use Rattle.unit_ring.specs.Chains.{after_with, before_with}
 use Rattle.unit_ring.specs.Nodes.{Links, links_of}

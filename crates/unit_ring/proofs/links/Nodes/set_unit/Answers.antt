@@ -1,5 +1,5 @@
-use Rattle.std.proofs.Common.{◌≡◌, ℕ, ◌<◌, List, length, set, refl, sym, ◌∙◌, ap, arith, rules}
-use Rattle.core.specs.Mem.Slots.{slots_items, slots_counts}
+use Rattle.std.proofs.Common.{◌≡◌, List, length, set, ◌∙◌, ap, arith}
+use Rattle.core.specs.Mem.Slots.{slots_items}
 use Rattle.std.proofs.lemmas.List.{length-map}
 use Rattle.unit_ring.specs.declared.nodes.NodeRecord.{NodeRecord}
 use Rattle.unit_ring.specs.Nodes.{Links, links_of, node_at}

@@ -1,6 +1,6 @@
 use Rattle.std.proofs.Common.{◌≡◌, ℕ, ◌<◌, List, length, sym, ◌∙◌, ap, subst}
-use Rattle.unit_ring.specs.Chains.{IsChain, chain, link, without, put_before, after_without, before_without, after_with, before_with}
-use Rattle.unit_ring.proofs.Shifting.{below, before_below, after_below, after_shift, before_shift, Shifted, shifted, shifted_chain}
+use Rattle.unit_ring.specs.Chains.{IsChain, chain, link, without, after_without, before_without, after_with, before_with}
+use Rattle.unit_ring.proofs.Shifting.{below, before_below, after_below, after_shift, before_shift, shifted, shifted_chain}
 use Rattle.unit_ring.proofs.links.Nodes.shift.Goals as goal
 
 pub unlink-requires-clause-below : goal.unlink-requires-clause-below
