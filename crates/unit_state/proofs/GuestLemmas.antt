@@ -107,11 +107,14 @@ guest_slept t x early done guest =
     (λ from e. absurd (cc))
     (vcpu_slept t x.script x guest.script done (awake_stands t x (awake_if_started t x from.0 from.1 guest) guest))
 
-guest_stopped : (t : ℕ) (x : Vcpu) → t ≤ most_span → is_some x.started ≡ true → IsGuest t x → IsGuest t (stopped t x)
-guest_stopped t x early some guest =
-    let from = some_is x.started some in
-    let stands = vcpu_stopped t x.script x (awake_stands t x (awake_if_started t x from.0 from.1 guest) guest) in
-    guest_stands t t x.script (stopped t x) early guest.script stands.started stands
+guest_stopped : (t : ℕ) (x : Vcpu) → t ≤ most_span → IsGuest t x → IsGuest t (stopped t x)
+guest_stopped t x early guest = by_start x.started refl
+  where
+    by_start : (o : Option Moment) → x.started ≡ o → IsGuest t (stopped t x)
+    by_start None is = subst (IsGuest t) (let same : x ≡ stopped t x = rw (is, stopped) refl in same) guest
+    by_start (Some from) is =
+        let stands = vcpu_stopped t x.script x (awake_stands t x (awake_if_started t x from is guest) guest) in
+        guest_stands t t x.script (stopped t x) early guest.script stands.started stands
 
 guest_started : (t : ℕ) (x : Vcpu) → t ≤ most_span → x.asleep_until ≡ None → IsGuest t x → IsGuest t (record x { started = Some (moment t) })
 guest_started t x early awake guest =
@@ -189,8 +192,8 @@ keeps_woken seen t v now due = keeps_changed seen t v woken now (λ x there gues
 pub keeps_slept : (seen : Seen) (t : ℕ) (v : VcpuId) → IsNow seen t → has_come t (done_among seen.domains v) ≡ true → KeepsGuests seen → KeepsGuests (record seen { domains = change_among v (put_to_sleep t) seen.domains; latest = t })
 keeps_slept seen t v now done = keeps_changed seen t v (put_to_sleep t) now (λ x there guest. guest_slept t x now.early (subst (λ (o : Option Moment). has_come t o ≡ true) (among_some done_at (vcpu_among seen.domains v) x there) done) guest)
 
-pub keeps_stopped : (seen : Seen) (t : ℕ) (v : VcpuId) → IsNow seen t → is_some (start_among seen.domains v) ≡ true → KeepsGuests seen → KeepsGuests (record seen { domains = change_among v (stopped t) seen.domains; latest = t })
-keeps_stopped seen t v now started = keeps_changed seen t v (stopped t) now (λ x there guest. guest_stopped t x now.early (subst (λ (o : Option Moment). is_some o ≡ true) (among_some (λ (y : Vcpu). y.started) (vcpu_among seen.domains v) x there) started) guest)
+pub keeps_stopped : (seen : Seen) (t : ℕ) (v : VcpuId) → IsNow seen t → KeepsGuests seen → KeepsGuests (record seen { domains = change_among v (stopped t) seen.domains; latest = t })
+keeps_stopped seen t v now = keeps_changed seen t v (stopped t) now (λ x there guest. guest_stopped t x now.early guest)
 
 -- a vCPU that is awake does not sleep
 sleeps_not : (domains : List (Option Domain)) (v : VcpuId) (x : Vcpu) → vcpu_among domains v ≡ Some x → is_awake_among domains v ≡ true → x.asleep_until ≡ None
