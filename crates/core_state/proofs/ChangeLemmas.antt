@@ -390,8 +390,8 @@ without_works-done p i count works past =
 pub first_below : (n : ℕ) (test : Resource → Bool) (cores : List (Option Resource)) (r : ℕ) → first_place n test cores ≡ Some r → r < n + length cores
 first_below n test [] r is = absurd (cc)
 first_below n test (None ∷ cores) r is = let rest = first_below (suc n) test cores r is in omega (arith, rest)
-first_below n test (Some c ∷ cores) r is = by_test (test c) is
+first_below n test (Some c ∷ cores) r is = by_test (test c) (first_below (suc n) test cores r) is
   where
-    by_test : (b : Bool) → elim b as (λ _. Option ℕ) [ true ↦ Some n | false ↦ first_place (suc n) test cores ] ≡ Some r → r < n + suc (length cores)
-    by_test true found = let same : n ≡ r = cc in omega (arith, same)
-    by_test false found = let rest = first_below (suc n) test cores r found in omega (arith, rest)
+    by_test : (b : Bool) → (first_place (suc n) test cores ≡ Some r → r < suc n + length cores) → elim b as (λ _. Option ℕ) [ true ↦ Some n | false ↦ first_place (suc n) test cores ] ≡ Some r → r < n + suc (length cores)
+    by_test true later found = let same : n ≡ r = cc in omega (arith, same)
+    by_test false later found = let rest = later found in omega (arith, rest)

@@ -19,7 +19,7 @@ use Rattle.sched_laws.proofs.EachPlace.{EachAt-change_to, EachPlace-change_at, E
 use Rattle.sched_laws.proofs.Lists.{some_is}
 use Rattle.sched_ranges.proofs.Vcpus.{VcpuFits as VcpuStands, get_inside, vcpu_fresh, vcpu_woken, vcpu_slept, vcpu_stopped, vcpu_started}
 use Rattle.plain_pool.specs.Fits.{AllPlaces, DomainFits, VcpuFits, vcpu_among}
-use Rattle.unit_state.specs.Seen.{Seen, IsNow, vacant, change_among, start_among, done_among, wake_among, is_awake_among, is_due_among}
+use Rattle.unit_state.specs.Seen.{Seen, IsNow, vacant, change_among, done_among, wake_among, is_awake_among, is_due_among}
 use Rattle.unit_state.specs.Parts.{IsGuest, HasGuests, IsStill, IsRunPlace, IsSleepPlace}
 use Rattle.unit_state.specs.Kept.{KeepsGuests, units_in}
 use Rattle.unit_state.proofs.PlaceLemmas.{read_change_item, length-change_item, vcpu_there, vcpu_in, units_in-put_at, units_in-clear_at, units_in-change_at}
@@ -111,7 +111,9 @@ guest_stopped : (t : ℕ) (x : Vcpu) → t ≤ most_span → IsGuest t x → IsG
 guest_stopped t x early guest = by_start x.started refl
   where
     by_start : (o : Option Moment) → x.started ≡ o → IsGuest t (stopped t x)
-    by_start None is = subst (IsGuest t) (let same : x ≡ stopped t x = rw (is, stopped) refl in same) guest
+    by_start None is =
+        let same : x ≡ stopped t x = subst (λ (o : Option Moment). x ≡ elim o as (λ _. Vcpu) [ None ↦ x | Some from ↦ record x { work_left = option_map (λ work. span (work.0 - (t - from.0))) x.work_left; started = None } ]) (sym is) refl in
+        subst (IsGuest t) same guest
     by_start (Some from) is =
         let stands = vcpu_stopped t x.script x (awake_stands t x (awake_if_started t x from is guest) guest) in
         guest_stands t t x.script (stopped t x) early guest.script stands.started stands
