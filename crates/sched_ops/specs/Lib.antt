@@ -2,3 +2,4 @@ pub mod Seen
 pub mod Conditions
 pub mod Timers
 pub mod Told
+pub mod Examples

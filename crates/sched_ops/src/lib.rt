@@ -4,6 +4,7 @@
 #![tactic(auto)]
 
 pub mod choice;
+pub mod examples;
 pub mod policy;
 pub mod timer;
 

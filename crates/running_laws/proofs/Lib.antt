@@ -1,0 +1,5 @@
+pub mod OneUnit
+pub mod Credit2Units
+pub mod RtdsUnits
+pub mod Words
+pub mod Law

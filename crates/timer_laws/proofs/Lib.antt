@@ -1,0 +1,4 @@
+pub mod Scan
+pub mod Listed
+pub mod Order
+pub mod Law
