@@ -1,0 +1,9 @@
+pub mod Processors
+pub mod Works
+pub mod Asking
+pub mod Settled
+pub mod ActedWorks
+pub mod Joining
+pub mod Waking
+pub mod Acting
+pub mod Replenishing

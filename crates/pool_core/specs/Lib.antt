@@ -1,0 +1,5 @@
+pub mod Seen
+pub mod Kept
+pub mod Settling
+pub mod Doing
+pub mod Waking
