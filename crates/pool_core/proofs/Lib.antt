@@ -4,6 +4,6 @@ pub mod Asking
 pub mod Settled
 pub mod ActedWorks
 pub mod Joining
-pub mod Waking
+pub mod Woken
 pub mod Acting
 pub mod Replenishing
