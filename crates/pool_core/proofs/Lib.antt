@@ -5,5 +5,6 @@ pub mod Settled
 pub mod ActedWorks
 pub mod Joining
 pub mod Woken
+pub mod Coming
 pub mod Acting
 pub mod Replenishing

@@ -21,7 +21,7 @@ woken_awake t v domains due =
     ap (λ (o : Option Vcpu). elim o as (λ _. Bool) [ None ↦ false | Some x ↦ is_none x.asleep_until ]) (vcpu_among-change_among v woken domains ∙ ap (option_map woken) there.1)
 
 module _ (g t : ℕ) (v : VcpuId) (pool : Pool) (runs : is_runnable g (change_vcpu v woken pool) (unit_of g v) ≡ true) where
-  next : Pool
+  abbrev pub next : Pool
   next = change_vcpu v woken pool
 
   -- its unit has a place

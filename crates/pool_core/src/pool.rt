@@ -5,9 +5,13 @@ use crate::doing::{arrive, block, guest_of, leave};
 use crate::settling::settle;
 use crate::waking::{save, wake};
 use core_state::CoreState;
-use sched_base::{DomId, Moment, ProcId, ResId, UnitId, VcpuId};
+use plain_pool::leaving::fresh_core;
+use sched_base::{DomId, Moment, NoMemory, ProcId, ResId, UnitId, VcpuId};
+use sched_model::config::PoolParams;
 use sched_model::event::Event;
-use sched_ops::{Policy, Timer};
+use sched_model::facts::ResPart;
+use sched_ops::{Places, Policy, Timer};
+use std::alloc::Global;
 use std::marker::Model;
 use unit_state::Guests;
 
@@ -36,10 +40,83 @@ impl<P: Policy> Model for PoolState<P> {
 }
 
 impl<P: Policy> PoolState<P> {
-    ghost use Rattle.std.specs.Prelude.{◌≡◌, true};
+    ghost use Rattle.std.specs.Prelude.{◌≡◌, ◌≤◌, ◌<◌, ◌*◌, true, IfOk, None, length};
+    ghost use Rattle.sched_model.specs.Checked.{IsGranularity};
+    ghost use Rattle.sched_model.specs.Places.{at_place};
+    ghost use Rattle.sched_model.specs.Policy.{default_pool_params, kind_of};
+    ghost use Rattle.sched_ops.specs.Conditions.{ArePoolParams, is_vacant};
+    ghost use Rattle.sched_ops.specs.Seen.{restarted};
+    ghost use Rattle.core_state.specs.Seen.{stall_until};
     ghost use Rattle.sched_model.specs.declared.action.Action.TheVariants.{Arrive, Block, Decide, Leave, Refill, Repl, Save, Slice, Wake};
-    ghost use Rattle.sched_model.specs.Pool.{enabled_in, event_in, settled};
-    ghost use Rattle.pool_core.specs.Seen.{IsNow, happened, seen_at};
+    ghost use Rattle.sched_model.specs.Pool.{enabled_in, event_in, processor_of, set_leaving, settled};
+    ghost use Rattle.pool_core.specs.Seen.{IsEmpty, IsNow, happened, seen_at, vacant, with_core, with_stall};
+
+    /// A pool with so many places for domains and for cores of 1, 2 or 4 processors each, at most 64 domains and 64 processors, and room
+    /// for so many units, at most 256. Its scheduler, which has no domain, takes its default parameters.
+    pub fn room(
+        alloc: Global,
+        granularity: u8,
+        places: Places,
+        units: usize,
+        policy: P,
+    ) -> Result<PoolState<P>, NoMemory>
+        requires granularity { IsGranularity granularity }
+        requires domains { places.domains ≤ 64 }
+        requires cores { places.cores * granularity ≤ 64 }
+        requires units { units ≤ 256 }
+        requires vacant { is_vacant (P.seen policy).scheduler ≡ true }
+        requires early { (P.seen policy).latest ≡ 0 }
+        ensures { IfOk result (λ pool. pool ≡ vacant (default_pool_params (kind_of (P.seen policy).scheduler.records)) granularity places.domains places.cores units) }
+    {
+        let mut policy = policy;
+        policy.reserve(alloc, places, units)?;
+        let guests = Guests::room(alloc, granularity, places.domains, units)?;
+        let cores = CoreState::room(alloc, granularity, places.cores)?;
+        Ok(PoolState {
+            guests,
+            cores,
+            policy,
+            latest: Moment(0),
+        })
+    }
+
+    /// The pool, which has neither a domain nor a core, begins anew with these parameters.
+    pub fn open(&mut self, params: &PoolParams)
+        requires empty { IsEmpty self.old.pool }
+        requires params { ArePoolParams (kind_of self.old.pool.scheduler.records) params.now }
+        ensures { self.new ≡ record self.old { pool = record self.old.pool { scheduler = restarted params.now self.old.pool.scheduler } } }
+    {
+        self.policy.restart(params);
+    }
+
+    /// A core comes in, whose processors are stalled up to these moments. It is to decide.
+    pub fn attach(&mut self, core: &ResPart, t: Moment)
+        requires now { IsNow self.old t.0 }
+        requires place { core.now.r.0 < length self.old.pool.resources }
+        requires absent { at_place self.old.pool.resources core.now.r.0 ≡ None }
+        requires siblings { length core.now.stall_ends ≡ self.old.granularity }
+        ensures { self.new ≡ seen_at t.0 (settled t.0 (with_core core.now.r.0 core.now.stall_ends self.old.pool)) self.old }
+    {
+        self.cores.keeps();
+        self.cores.put(core.r.0, fresh_core(&core.stall_ends));
+        self.latest = t;
+        self.look();
+    }
+
+    /// A core is leaving; it is to decide where it has a unit.
+    pub fn set_leaving(&mut self, r: ResId)
+        ensures { self.new ≡ record self.old { pool = set_leaving r.0 self.old.pool } }
+    {
+        self.cores.set_leaving(r.0);
+    }
+
+    /// A processor is stalled up to this moment, if it is not yet for longer: the end of its stall.
+    pub fn stall(&mut self, p: ProcId, until: Moment) -> Moment
+        ensures end { result ≡ stall_until (processor_of self.old.granularity self.old.pool p.0) until }
+        ensures after { self.new ≡ record self.old { pool = with_stall self.old.granularity p.0 result self.old.pool } }
+    {
+        self.cores.stall(p.0, until)
+    }
 
     /// Each core is looked at, at the greatest moment given.
     fn look(&mut self)
