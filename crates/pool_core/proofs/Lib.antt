@@ -7,3 +7,4 @@ pub mod Joining
 pub mod Woken
 pub mod Acting
 pub mod Replenishing
+pub mod Queueing
