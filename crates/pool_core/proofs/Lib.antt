@@ -8,3 +8,4 @@ pub mod Woken
 pub mod Acting
 pub mod Replenishing
 pub mod Queueing
+pub mod Comers
