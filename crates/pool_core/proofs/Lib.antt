@@ -8,3 +8,5 @@ pub mod Woken
 pub mod Coming
 pub mod Acting
 pub mod Replenishing
+pub mod Queueing
+pub mod Comers

@@ -3,3 +3,4 @@ pub mod Kept
 pub mod Settling
 pub mod Doing
 pub mod Waking
+pub mod Domains

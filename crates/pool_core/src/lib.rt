@@ -6,6 +6,7 @@
 
 mod deciding;
 mod doing;
+pub mod domains;
 pub mod pool;
 mod settling;
 mod waking;
