@@ -113,14 +113,14 @@ pub happened_is : (t : ℕ) (guests next : GuestsSeen) (cores after : CoresSeen)
     → ◌≡◌ {A = Seen} (record { pool = settled t (pool_of next after s2); granularity = next.granularity; spare = next.spare; latest = t }) (happened t action before)
 happened_is t guests next cores after s s2 latest action before pool moved is =
     let a : ◌≡◌ {A = Seen} (record { pool = settled t (pool_of next after s2); granularity = next.granularity; spare = next.spare; latest = t })
-        (record { pool = settled t (after_in guests.granularity t (pool_of guests cores s) action); granularity = next.granularity; spare = next.spare; latest = t }) =
-        ap (λ (p : Pool). record { pool = settled t p; granularity = next.granularity; spare = next.spare; latest = t }) pool in
+    (record { pool = settled t (after_in guests.granularity t (pool_of guests cores s) action); granularity = next.granularity; spare = next.spare; latest = t }) =
+    ap (λ (p : Pool). record { pool = settled t p; granularity = next.granularity; spare = next.spare; latest = t }) pool in
     let b : ◌≡◌ {A = Seen} (record { pool = settled t (after_in guests.granularity t (pool_of guests cores s) action); granularity = next.granularity; spare = next.spare; latest = t })
-        (record { pool = settled t (after_in guests.granularity t (pool_of guests cores s) action); granularity = guests.granularity; spare = next.spare; latest = t }) =
-        ap (λ (k : ℕ). record { pool = settled t (after_in guests.granularity t (pool_of guests cores s) action); granularity = k; spare = next.spare; latest = t }) moved.granularity in
+    (record { pool = settled t (after_in guests.granularity t (pool_of guests cores s) action); granularity = guests.granularity; spare = next.spare; latest = t }) =
+    ap (λ (k : ℕ). record { pool = settled t (after_in guests.granularity t (pool_of guests cores s) action); granularity = k; spare = next.spare; latest = t }) moved.granularity in
     let d : ◌≡◌ {A = Seen} (record { pool = settled t (after_in guests.granularity t (pool_of guests cores s) action); granularity = guests.granularity; spare = next.spare; latest = t })
-        (record { pool = settled t (after_in guests.granularity t (pool_of guests cores s) action); granularity = guests.granularity; spare = guests.spare; latest = t }) =
-        ap (λ (k : ℕ). record { pool = settled t (after_in guests.granularity t (pool_of guests cores s) action); granularity = guests.granularity; spare = k; latest = t }) moved.spare in
+    (record { pool = settled t (after_in guests.granularity t (pool_of guests cores s) action); granularity = guests.granularity; spare = guests.spare; latest = t }) =
+    ap (λ (k : ℕ). record { pool = settled t (after_in guests.granularity t (pool_of guests cores s) action); granularity = guests.granularity; spare = k; latest = t }) moved.spare in
     a ∙ b ∙ d ∙ ap (λ (x : Seen). happened t action x) is
 
 -- a processor that arrives, where it ran nothing and where it ran a vCPU

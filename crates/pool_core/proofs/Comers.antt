@@ -59,8 +59,8 @@ module _ (g t d : ℕ) (pool : Pool) (holds : Holds g t pool) (absent : at_place
   comers_may n domain params low below = record {
     member =
         let count : units_of (join d (unit_count g domain) params t pool.scheduler) d ≡ unit_count g domain =
-            ap (λ (o : Option (List Cores)). elim o as (λ _. ℕ) [ None ↦ 0 | Some sets ↦ length sets ]) (at_place-put_at d (replicate (unit_count g domain) all_cores) pool.scheduler.affinity (subst (λ (k : ℕ). d < k) (sym holds.members.places) low))
-            ∙ length-replicate (unit_count g domain) all_cores in
+        ap (λ (o : Option (List Cores)). elim o as (λ _. ℕ) [ None ↦ 0 | Some sets ↦ length sets ]) (at_place-put_at d (replicate (unit_count g domain) all_cores) pool.scheduler.affinity (subst (λ (k : ℕ). d < k) (sym holds.members.places) low))
+        ∙ length-replicate (unit_count g domain) all_cores in
         lt-ltb n (units_of (join d (unit_count g domain) params t pool.scheduler) d) (subst (λ (k : ℕ). n < k) (sym count) below);
     waits_not = absent_waits_not n;
     off = λ none. by_on (is_on (join d (unit_count g domain) params t pool.scheduler).records (unit_id d n)) refl;

@@ -5,6 +5,7 @@ pub mod Settled
 pub mod ActedWorks
 pub mod Joining
 pub mod Woken
+pub mod Giving
 pub mod Coming
 pub mod Acting
 pub mod Replenishing

@@ -37,6 +37,10 @@ pub record IsNow (seen : Seen) (t : ℕ) : Type 0 where
 abbrev pub seen_at : ℕ → Pool → Seen → Seen
 seen_at t pool seen = record seen { pool = pool; latest = t }
 
+-- the same with another number of units that may still join
+abbrev pub with_spare : ℕ → Seen → Seen
+with_spare spare seen = record seen { spare = spare }
+
 -- after an event at t, and after the cores were looked at
 abbrev pub happened : ℕ → Action → Seen → Seen
 happened t action seen = seen_at t (settled t (after_in seen.granularity t seen.pool action)) seen

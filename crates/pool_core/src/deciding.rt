@@ -48,7 +48,13 @@ fn lateness_of(t: Moment, c: &Resource) -> Span
 }
 
 /// The core decides: its scheduler chooses, and its old unit, where it is another, is to be saved.
-pub fn decide<P: Policy>(guests: &Guests, cores: &mut CoreState, policy: &mut P, r: u8, t: Moment) -> Event
+pub fn decide<P: Policy>(
+    guests: &Guests,
+    cores: &mut CoreState,
+    policy: &mut P,
+    r: u8,
+    t: Moment,
+) -> Event
     requires now { IsNow (P.seen policy.old) t.0 }
     requires same { cores.old.granularity ≡ guests.now.granularity }
     requires enabled { enabled_in guests.now.granularity t.0 (pool_of guests.now cores.old (P.seen policy.old)) (Decide r) ≡ true }
@@ -77,7 +83,13 @@ pub fn decide<P: Policy>(guests: &Guests, cores: &mut CoreState, policy: &mut P,
 }
 
 /// The unit's deadline has come: it has its budget anew, and a core that runs it asks again when that is used up, if not before.
-pub fn replenish<P: Policy>(guests: &Guests, cores: &mut CoreState, policy: &mut P, u: UnitId, t: Moment) -> Event
+pub fn replenish<P: Policy>(
+    guests: &Guests,
+    cores: &mut CoreState,
+    policy: &mut P,
+    u: UnitId,
+    t: Moment,
+) -> Event
     requires now { IsNow (P.seen policy.old) t.0 }
     requires same { cores.old.granularity ≡ guests.now.granularity }
     requires enabled { enabled_in guests.now.granularity t.0 (pool_of guests.now cores.old (P.seen policy.old)) (Repl u) ≡ true }

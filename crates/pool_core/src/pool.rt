@@ -2,18 +2,19 @@
 
 use crate::deciding::{decide, replenish};
 use crate::doing::{arrive, block, guest_of, leave};
+use crate::domains::join;
 use crate::settling::settle;
 use crate::waking::{save, wake};
 use core_state::CoreState;
 use plain_pool::leaving::fresh_core;
 use sched_base::{DomId, Moment, NoMemory, ProcId, ResId, UnitId, VcpuId};
-use sched_model::config::PoolParams;
+use sched_model::config::{DomParams, PoolParams};
 use sched_model::event::Event;
 use sched_model::facts::ResPart;
 use sched_ops::{Places, Policy, Timer};
 use std::alloc::Global;
 use std::marker::Model;
-use unit_state::Guests;
+use unit_state::{DomPart, Guests};
 
 /// A pool: its domains, its cores and its scheduler. Contracts see the pool as the machine has it, how many processors a core has, how
 /// many units may still join, and the greatest moment that was given.
@@ -40,16 +41,17 @@ impl<P: Policy> Model for PoolState<P> {
 }
 
 impl<P: Policy> PoolState<P> {
-    ghost use Rattle.std.specs.Prelude.{◌≡◌, ◌≤◌, ◌<◌, ◌*◌, true, IfOk, None, length};
+    ghost use Rattle.std.specs.Prelude.{◌≡◌, ◌≤◌, ◌<◌, ◌-◌, ◌*◌, true, IfOk, None, length};
     ghost use Rattle.sched_model.specs.Checked.{IsGranularity};
     ghost use Rattle.sched_model.specs.Places.{at_place};
     ghost use Rattle.sched_model.specs.Policy.{default_pool_params, kind_of};
-    ghost use Rattle.sched_ops.specs.Conditions.{ArePoolParams, is_vacant};
+    ghost use Rattle.sched_ops.specs.Conditions.{AreDomParams, ArePoolParams, is_vacant};
     ghost use Rattle.sched_ops.specs.Seen.{restarted};
     ghost use Rattle.core_state.specs.Seen.{stall_until};
+    ghost use Rattle.unit_state.specs.Parts.{IsPart};
     ghost use Rattle.sched_model.specs.declared.action.Action.TheVariants.{Arrive, Block, Decide, Leave, Refill, Repl, Save, Slice, Wake};
-    ghost use Rattle.sched_model.specs.Pool.{enabled_in, event_in, processor_of, set_leaving, settled};
-    ghost use Rattle.pool_core.specs.Seen.{IsEmpty, IsNow, happened, seen_at, vacant, with_core, with_stall};
+    ghost use Rattle.sched_model.specs.Pool.{enabled_in, event_in, processor_of, set_leaving, settled, unit_count, with_domain};
+    ghost use Rattle.pool_core.specs.Seen.{IsEmpty, IsNow, happened, seen_at, vacant, with_core, with_spare, with_stall};
 
     /// A pool with so many places for domains and for cores of 1, 2 or 4 processors each, at most 64 domains and 64 processors, and room
     /// for so many units, at most 256. Its scheduler, which has no domain, takes its default parameters.
@@ -99,6 +101,30 @@ impl<P: Policy> PoolState<P> {
     {
         self.cores.keeps();
         self.cores.put(core.r.0, fresh_core(&core.stall_ends));
+        self.latest = t;
+        self.look();
+    }
+
+    /// A domain, none of whose vCPUs is started, comes in with these parameters. Its units that are runnable wait.
+    pub fn give_domain(&mut self, part: DomPart, params: &DomParams, t: Moment)
+        requires now { IsNow self.old t.0 }
+        requires part { IsPart part }
+        requires stays { part.domain.moving ≡ None }
+        requires place { part.d.0 < length self.old.pool.domains }
+        requires absent { at_place self.old.pool.domains part.d.0 ≡ None }
+        requires granularity { part.granularity ≡ self.old.granularity }
+        requires room { unit_count part.granularity part.domain ≤ self.old.spare }
+        requires params { AreDomParams (kind_of self.old.pool.scheduler.records) params.now }
+        ensures { self.new ≡ with_spare (self.old.spare - unit_count part.granularity part.domain) (seen_at t.0 (settled t.0 (with_domain self.old.granularity t.0 part.d.0 part.domain params.now self.old.pool)) self.old) }
+    {
+        join(
+            &mut self.guests,
+            &self.cores,
+            &mut self.policy,
+            part,
+            params,
+            t,
+        );
         self.latest = t;
         self.look();
     }

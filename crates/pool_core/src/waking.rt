@@ -89,7 +89,13 @@ pub fn wake<P: Policy>(
 }
 
 /// The core puts away the unit that it saves, which waits again where it is runnable.
-pub fn save<P: Policy>(guests: &Guests, cores: &mut CoreState, policy: &mut P, r: u8, t: Moment) -> Event
+pub fn save<P: Policy>(
+    guests: &Guests,
+    cores: &mut CoreState,
+    policy: &mut P,
+    r: u8,
+    t: Moment,
+) -> Event
     requires same { cores.old.granularity ≡ guests.now.granularity }
     requires enabled { enabled_in guests.now.granularity t.0 (pool_of guests.now cores.old (P.seen policy.old)) (Save r) ≡ true }
     requires holds { Holds guests.now.granularity t.0 (pool_of guests.now cores.old (P.seen policy.old)) }
