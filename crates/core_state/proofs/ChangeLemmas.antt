@@ -386,8 +386,12 @@ without_works-done p i count works past =
     let e : count - i ≡ 0 = omega arith in
     rw e refl
 
--- the first core is one of the places
-pub first_below : (n : ℕ) (cores : List (Option Resource)) (r : ℕ) → first_place n (λ (c : Resource). true) cores ≡ Some r → r < n + length cores
-first_below n [] r is = absurd (cc)
-first_below n (None ∷ cores) r is = let rest = first_below (suc n) cores r is in omega (arith, rest)
-first_below n (Some c ∷ cores) r is = let same : n ≡ r = cc in omega (arith, same)
+-- the first core that passes a test is one of the places
+pub first_below : (n : ℕ) (test : Resource → Bool) (cores : List (Option Resource)) (r : ℕ) → first_place n test cores ≡ Some r → r < n + length cores
+first_below n test [] r is = absurd (cc)
+first_below n test (None ∷ cores) r is = let rest = first_below (suc n) test cores r is in omega (arith, rest)
+first_below n test (Some c ∷ cores) r is = by_test (test c) (first_below (suc n) test cores r) is
+  where
+    by_test : (b : Bool) → (first_place (suc n) test cores ≡ Some r → r < suc n + length cores) → elim b as (λ _. Option ℕ) [ true ↦ Some n | false ↦ first_place (suc n) test cores ] ≡ Some r → r < n + suc (length cores)
+    by_test true later found = let same : n ≡ r = cc in omega (arith, same)
+    by_test false later found = let rest = later found in omega (arith, rest)

@@ -2,7 +2,7 @@
 
 ghost use Rattle.std.specs.Prelude.{◌≡◌, ◌≤◌, true, IfOk, None, length, replicate};
 ghost use Rattle.std.specs.Option.{option_copied};
-ghost use Rattle.sched_model.specs.Places.{first_place};
+ghost use Rattle.sched_model.specs.Places.{first_place, is_unit};
 ghost use Rattle.core_state.specs.Seen.{stall_until as stall_until_spec};
 
 use crate::changes::{
@@ -12,9 +12,9 @@ use crate::changes::{
 use crate::ends::{lowest_end, move_end, processor_at};
 use crate::heaps::{Heaps, IDS, earlier, empty_heaps, first_come, least_of, rearm};
 use plain_policy::places::set_place;
-use plain_pool::cores::{core_at, first_core, home_cores};
+use plain_pool::cores::{core_at, core_of, first_core, has_domain, home_cores, is_on_core};
 use plain_pool::doing::{change_doing, set_pending};
-use sched_base::{Moment, NoMemory, UnitId, VcpuId};
+use sched_base::{DomId, Moment, NoMemory, UnitId, VcpuId};
 use sched_model::row::Row;
 use sched_model::state::{Doing, Processor, Resource};
 use std::alloc::Global;
@@ -69,6 +69,17 @@ fn first_number(cores: &[Option<Resource>]) -> Option<u8>
     }
 }
 
+/// The number of the core that has the unit as its own, where there are few places.
+fn number_with(cores: &[Option<Resource>], u: UnitId) -> Option<u8>
+    requires { length cores.now ≤ 64 }
+    ensures { result ≡ first_place 0 (λ c. is_unit c.cur u) cores.now }
+{
+    match core_of(cores, u) {
+        None => None,
+        Some(r) => Some(r as u8),
+    }
+}
+
 /// The end of a stall of the processor up to this moment: no earlier than that of the stall that it has.
 fn later_end(p: Option<&Processor>, until: Moment) -> Moment
     ensures { result ≡ stall_until_spec (option_copied p.entry) until }
@@ -80,13 +91,15 @@ fn later_end(p: Option<&Processor>, until: Moment) -> Moment
 }
 
 impl CoreState {
-    ghost use Rattle.std.specs.Prelude.{◌≡◌, ◌≤◌, ◌<◌, ◌+◌, ◌*◌, ◌/◌, ℕ, true, IfOk, length, None, Some};
+    ghost use Rattle.std.specs.Prelude.{◌≡◌, ◌≤◌, ◌<◌, ◌+◌, ◌*◌, ◌/◌, ◌||◌, ℕ, true, IfOk, length, None, Some};
+    ghost use Rattle.std.specs.List.{list_any};
     ghost use Rattle.std.specs.Option.{option_copied};
     ghost use Rattle.sched_model.specs.declared.action.Action.TheVariants.{Moved, Block, Slice, Arrive, Decide, Leave, Save};
     ghost use Rattle.sched_model.specs.declared.state.Doing.TheVariants as doing;
     ghost use Rattle.sched_model.specs.Checked.{IsGranularity};
-    ghost use Rattle.sched_model.specs.Places.{at_place, clear_at, first_place, put_at};
-    ghost use Rattle.sched_model.specs.Pool.{cores_from, does, due_within, open_if_left as open_if_left_spec, saved, saving_among, set_pending as set_pending_spec};
+    ghost use Rattle.sched_model.specs.declared.state.Resource.{Resource as ResourceRecord};
+    ghost use Rattle.sched_model.specs.Places.{at_place, clear_at, first_place, is_unit, numbered, put_at};
+    ghost use Rattle.sched_model.specs.Pool.{cores_from, is_of_domain, does, due_within, open_if_left as open_if_left_spec, saved, saving_among, set_pending as set_pending_spec};
     ghost use Rattle.core_state.specs.Seen.{changed_core, changed_processor, chosen, leaving_core, pending_by, processor_among, stall_until, stalled_to, vacant, with_work, without_works};
     ghost use Rattle.core_state.specs.Ends.{lowest_among, ready_among, ready_within};
     ghost use Rattle.core_state.specs.Firsts.{IsFirstCome, IsLeast};
@@ -116,6 +129,48 @@ impl CoreState {
         ensures { option_copied result ≡ at_place self.now.resources r }
     {
         core_at(self.cores.as_slice(), r as usize)
+    }
+
+    /// How many processors a core has: 1, 2 or 4.
+    pub fn granularity(&self) -> u8
+        ensures { result ≡ self.now.granularity }
+    {
+        self.granularity
+    }
+
+    /// How many places for cores there are, at most 64.
+    pub fn places(&self) -> u8
+        ensures { result ≡ length self.now.resources }
+    {
+        self.cores.len() as u8
+    }
+
+    /// The processor with this number.
+    pub fn processor(&self, p: u8) -> Option<&Processor>
+        ensures { option_copied result ≡ processor_among self.now.granularity self.now.resources p }
+    {
+        processor_at(self.granularity, self.cores.as_slice(), p as usize)
+    }
+
+    /// The core that has the unit as its own, the first if there are several.
+    pub fn core_with(&self, u: UnitId) -> Option<u8>
+        ensures { result ≡ first_place 0 (λ c. is_unit c.cur u) self.now.resources }
+    {
+        number_with(self.cores.as_slice(), u)
+    }
+
+    /// Whether a core has the unit as its own or saves it.
+    pub fn has_unit(&self, u: UnitId) -> bool
+        ensures { result ≡ list_any (λ (e : ℕ × ResourceRecord). is_unit e.1.cur u || is_unit e.1.saving u) (numbered 0 self.now.resources) }
+    {
+        is_on_core(0, self.cores.as_slice(), u)
+    }
+
+    /// Whether a core has a unit of the domain as its own or saves one.
+    pub fn has_domain(&self, d: DomId) -> bool
+        ensures { result ≡ list_any (λ (e : ℕ × ResourceRecord). is_of_domain d.0 e.1.cur || is_of_domain d.0 e.1.saving) (numbered 0 self.now.resources) }
+    {
+        has_domain(0, self.cores.as_slice(), d.0)
     }
 
     /// The set of the cores.

@@ -19,7 +19,7 @@ use Rattle.sched_laws.proofs.EachPlace.{EachAt-change_to, EachPlace-change_at, E
 use Rattle.sched_laws.proofs.Lists.{some_is}
 use Rattle.sched_ranges.proofs.Vcpus.{VcpuFits as VcpuStands, get_inside, vcpu_fresh, vcpu_woken, vcpu_slept, vcpu_stopped, vcpu_started}
 use Rattle.plain_pool.specs.Fits.{AllPlaces, DomainFits, VcpuFits, vcpu_among}
-use Rattle.unit_state.specs.Seen.{Seen, IsNow, vacant, change_among, start_among, done_among, wake_among, is_awake_among, is_due_among}
+use Rattle.unit_state.specs.Seen.{Seen, IsNow, vacant, change_among, done_among, wake_among, is_awake_among, is_due_among}
 use Rattle.unit_state.specs.Parts.{IsGuest, HasGuests, IsStill, IsRunPlace, IsSleepPlace}
 use Rattle.unit_state.specs.Kept.{KeepsGuests, units_in}
 use Rattle.unit_state.proofs.PlaceLemmas.{read_change_item, length-change_item, vcpu_there, vcpu_in, units_in-put_at, units_in-clear_at, units_in-change_at}
@@ -107,11 +107,16 @@ guest_slept t x early done guest =
     (λ from e. absurd (cc))
     (vcpu_slept t x.script x guest.script done (awake_stands t x (awake_if_started t x from.0 from.1 guest) guest))
 
-guest_stopped : (t : ℕ) (x : Vcpu) → t ≤ most_span → is_some x.started ≡ true → IsGuest t x → IsGuest t (stopped t x)
-guest_stopped t x early some guest =
-    let from = some_is x.started some in
-    let stands = vcpu_stopped t x.script x (awake_stands t x (awake_if_started t x from.0 from.1 guest) guest) in
-    guest_stands t t x.script (stopped t x) early guest.script stands.started stands
+guest_stopped : (t : ℕ) (x : Vcpu) → t ≤ most_span → IsGuest t x → IsGuest t (stopped t x)
+guest_stopped t x early guest = by_start x.started refl
+  where
+    by_start : (o : Option Moment) → x.started ≡ o → IsGuest t (stopped t x)
+    by_start None is =
+        let same : x ≡ stopped t x = subst (λ (o : Option Moment). x ≡ elim o as (λ _. Vcpu) [ None ↦ x | Some from ↦ record x { work_left = option_map (λ work. span (work.0 - (t - from.0))) x.work_left; started = None } ]) (sym is) refl in
+        subst (IsGuest t) same guest
+    by_start (Some from) is =
+        let stands = vcpu_stopped t x.script x (awake_stands t x (awake_if_started t x from is guest) guest) in
+        guest_stands t t x.script (stopped t x) early guest.script stands.started stands
 
 guest_started : (t : ℕ) (x : Vcpu) → t ≤ most_span → x.asleep_until ≡ None → IsGuest t x → IsGuest t (record x { started = Some (moment t) })
 guest_started t x early awake guest =
@@ -189,8 +194,8 @@ keeps_woken seen t v now due = keeps_changed seen t v woken now (λ x there gues
 pub keeps_slept : (seen : Seen) (t : ℕ) (v : VcpuId) → IsNow seen t → has_come t (done_among seen.domains v) ≡ true → KeepsGuests seen → KeepsGuests (record seen { domains = change_among v (put_to_sleep t) seen.domains; latest = t })
 keeps_slept seen t v now done = keeps_changed seen t v (put_to_sleep t) now (λ x there guest. guest_slept t x now.early (subst (λ (o : Option Moment). has_come t o ≡ true) (among_some done_at (vcpu_among seen.domains v) x there) done) guest)
 
-pub keeps_stopped : (seen : Seen) (t : ℕ) (v : VcpuId) → IsNow seen t → is_some (start_among seen.domains v) ≡ true → KeepsGuests seen → KeepsGuests (record seen { domains = change_among v (stopped t) seen.domains; latest = t })
-keeps_stopped seen t v now started = keeps_changed seen t v (stopped t) now (λ x there guest. guest_stopped t x now.early (subst (λ (o : Option Moment). is_some o ≡ true) (among_some (λ (y : Vcpu). y.started) (vcpu_among seen.domains v) x there) started) guest)
+pub keeps_stopped : (seen : Seen) (t : ℕ) (v : VcpuId) → IsNow seen t → KeepsGuests seen → KeepsGuests (record seen { domains = change_among v (stopped t) seen.domains; latest = t })
+keeps_stopped seen t v now = keeps_changed seen t v (stopped t) now (λ x there guest. guest_stopped t x now.early guest)
 
 -- a vCPU that is awake does not sleep
 sleeps_not : (domains : List (Option Domain)) (v : VcpuId) (x : Vcpu) → vcpu_among domains v ≡ Some x → is_awake_among domains v ≡ true → x.asleep_until ≡ None

@@ -171,21 +171,20 @@ impl Guests {
         self.latest = t;
     }
 
-    /// A vCPU that is awake and not started is started: its work is counted from t on.
+    /// A vCPU that is awake is started: its work is counted from t on.
     pub fn start(&mut self, v: VcpuId, t: Moment)
         requires now { IsNow self.old t.0 }
         requires awake { is_awake_among self.old.domains v ≡ true }
-        requires still { start_among self.old.domains v ≡ None }
         ensures { self.new ≡ record self.old { domains = change_among v (λ (x : VcpuRecord). record x { started = Some (moment t.0) }) self.old.domains; latest = t.0 } }
     {
         start_vcpu(&mut self.domains, v, t.0);
         self.latest = t;
     }
 
-    /// A vCPU that is started is stopped: the work left to it falls by the span since it was started, and not below 0.
+    /// A vCPU is stopped: the work left to it falls by the span since it was started, and not below 0. Where it is not started, it
+    /// stays as it is.
     pub fn stop(&mut self, v: VcpuId, t: Moment)
         requires now { IsNow self.old t.0 }
-        requires started { is_some (start_among self.old.domains v) ≡ true }
         ensures { self.new ≡ record self.old { domains = change_among v (stopped t.0) self.old.domains; latest = t.0 } }
     {
         stop_vcpu(&mut self.domains, v, t.0);
@@ -334,6 +333,13 @@ impl Guests {
             Some((at, _)) => Some(at),
             None => None,
         }
+    }
+
+    /// How many vCPUs a unit has: 1, 2 or 4.
+    pub fn granularity(&self) -> u8
+        ensures { result ≡ self.now.granularity }
+    {
+        self.granularity
     }
 
     /// The greatest moment that was given, 0 at first.

@@ -1,0 +1,131 @@
+-- What a pool's state keeps after an event, and after its cores were looked at.
+use Rattle.std.proofs.Common.{◌≡◌, ◌≤◌, ◌<◌, ◌*◌, ℕ, Bool, true, false, List, refl, sym, ap, subst, ◌∙◌, cond, arith, length}
+use Rattle.std.specs.Prelude.{Option, Some, None, ◌&&◌, slice_get}
+use Rattle.sched_base.specs.declared.Moment.{Moment}
+use Rattle.sched_base.specs.declared.VcpuId.{VcpuId}
+use Rattle.sched_model.specs.declared.action.Action.{Action}
+use Rattle.sched_model.specs.declared.action.Action.TheVariants.{Block, Wake}
+use Rattle.sched_model.specs.declared.state.Domain.{Domain}
+use Rattle.sched_model.specs.declared.state.Pool.{Pool}
+use Rattle.sched_model.specs.declared.state.Resource.{Resource}
+use Rattle.sched_model.specs.declared.state.Vcpu.{Vcpu}
+use Rattle.sched_model.specs.Checked.{most_span}
+use Rattle.sched_model.specs.Places.{at_place, change_each}
+use Rattle.sched_model.specs.declared.state.Doing.TheVariants.{Held}
+use Rattle.sched_model.specs.Pool.{after_arrive, after_block, after_in, change_processor, change_vcpu, does, stopped, cores_from, done_at, enabled_in, guest_of, processor_of, reconsidered, settled, vcpu_of}
+use Rattle.sched_model.specs.State.{has_come, is_up}
+use Rattle.sched_laws.proofs.Bools.{and_left}
+use Rattle.sched_laws.proofs.EachPlace.{by_cond}
+use Rattle.plain_pool.specs.Fits.{vcpu_among}
+use Rattle.pool_kept.specs.Holds.{Holds}
+use Rattle.pool_kept.proofs.Kept as kept
+use Rattle.unit_state.specs.Kept.{KeepsGuests}
+use Rattle.unit_state.specs.Seen.{Seen as GuestsSeen, done_among, is_due_among, wake_among}
+use Rattle.unit_state.proofs.GuestLemmas.{come_there}
+use Rattle.unit_state.proofs.PlaceLemmas.{vcpu_there}
+use Rattle.core_state.specs.Seen.{Seen as CoresSeen}
+use Rattle.sched_ops.specs.Seen.{Seen as SchedulerSeen}
+use Rattle.pool_core.specs.Doing.{IsMoved}
+use Rattle.pool_core.specs.Kept.{AreWorks, IsKept}
+use Rattle.pool_core.specs.Seen.{Seen, happened, pool_of}
+use Rattle.pool_core.proofs.Works.{works_each}
+
+-- a core that is looked at keeps its processors
+looked_same : (t home : ℕ) (s : SchedulerSeen) (r : ℕ) (c : Resource) → (reconsidered t home s.scheduler r c).processors ≡ c.processors
+looked_same t home s r c = by_cond (λ (x : Resource). x.processors ≡ c.processors) c.leaving _ _ (λ is. refl) (λ is. refl)
+
+-- after the cores were looked at
+pub settled_kept : (t : ℕ) (guests : GuestsSeen) (cores after : CoresSeen) (s : SchedulerSeen) → IsKept t guests cores s
+    → after ≡ record cores { resources = change_each 0 (reconsidered t (cores_from 0 cores.resources) s.scheduler) cores.resources } → IsKept t guests after s
+settled_kept t guests cores after s keeps is =
+    subst (λ (x : CoresSeen). IsKept t guests x s) (sym is) (record {
+      linked = record {
+        granularity = keeps.linked.granularity;
+        guests_latest = keeps.linked.guests_latest;
+        scheduler_latest = keeps.linked.scheduler_latest;
+        early = keeps.linked.early;
+        spare = keeps.linked.spare;
+        works = works_each guests.granularity (reconsidered t (cores_from 0 cores.resources) s.scheduler) cores.works (pool_of guests cores s) (looked_same t (cores_from 0 cores.resources) s) keeps.linked.works;
+      };
+      pool = kept.settles guests.granularity t (pool_of guests cores s) keeps.pool;
+    })
+
+-- after an event at t
+pub acted : (t0 t : ℕ) (guests next : GuestsSeen) (cores after : CoresSeen) (s s2 : SchedulerSeen) (action : Action) (works : List (Option Moment))
+    → IsKept t0 guests cores s → t0 ≤ t → t ≤ most_span → enabled_in guests.granularity t (pool_of guests cores s) action ≡ true
+    → pool_of next after s2 ≡ after_in guests.granularity t (pool_of guests cores s) action
+    → IsMoved t guests next cores after → s2.latest ≤ t → s2.spare ≡ s.spare → after.works ≡ works
+    → AreWorks guests.granularity works (after_in guests.granularity t (pool_of guests cores s) action) → IsKept t next after s2
+acted t0 t guests next cores after s s2 action works keeps past early on pool moved latest spare is are = record {
+  linked = record {
+    granularity = moved.processors ∙ keeps.linked.granularity ∙ sym moved.granularity;
+    guests_latest = moved.latest;
+    scheduler_latest = latest;
+    early = early;
+    spare = (let a = moved.spare in let b = keeps.linked.spare in omega (arith, a, b, spare));
+    works = subst (λ (g : ℕ). AreWorks g after.works (pool_of next after s2)) (sym moved.granularity)
+        (subst (λ (p : Pool). AreWorks guests.granularity after.works p) (sym pool) (subst (λ (ws : List (Option Moment)). AreWorks guests.granularity ws (after_in guests.granularity t (pool_of guests cores s) action)) (sym is) are));
+  };
+  pool = subst (λ (g : ℕ). Holds g t (pool_of next after s2)) (sym moved.granularity)
+      (subst (λ (p : Pool). Holds guests.granularity t p) (sym pool)
+      (kept.acts guests.granularity t (pool_of guests cores s) action on (kept.later guests.granularity t0 t (pool_of guests cores s) past keeps.pool)));
+}
+
+-- the guests as they are, and cores with as many processors
+pub unmoved : (t0 t : ℕ) (guests : GuestsSeen) (cores after : CoresSeen) (s : SchedulerSeen) → IsKept t0 guests cores s → t0 ≤ t → after.granularity ≡ cores.granularity → IsMoved t guests guests cores after
+unmoved t0 t guests cores after s keeps past same = record { granularity = refl; spare = refl; latest = (let l = keeps.linked.guests_latest in omega (arith, l, past)); processors = same }
+
+-- a vCPU that may block has done its work
+pub block_done : (g t p : ℕ) (v : VcpuId) (pool : Pool) → enabled_in g t pool (Block p) ≡ true → guest_of g pool p ≡ Some v → has_come t (done_among pool.domains v) ≡ true
+block_done g t p v pool on guest =
+    by_vcpu (vcpu_of pool v)
+    (subst (λ (o : Option VcpuId). elim o as (λ _. Bool) [ None ↦ false | Some w ↦ elim (vcpu_of pool w) as (λ _. Bool) [ None ↦ false | Some x ↦ has_come t (done_at x) ] ] ≡ true) guest
+    (and_left (elim (guest_of g pool p) as (λ _. Bool) [ None ↦ false | Some w ↦ elim (vcpu_of pool w) as (λ _. Bool) [ None ↦ false | Some x ↦ has_come t (done_at x) ] ]) _ on))
+  where
+    by_vcpu : (o : Option Vcpu) → elim o as (λ _. Bool) [ None ↦ false | Some x ↦ has_come t (done_at x) ] ≡ true → has_come t (elim o as (λ _. Option Moment) [ None ↦ None | Some x ↦ done_at x ]) ≡ true
+    by_vcpu None e = absurd (cc)
+    by_vcpu (Some x) e = e
+
+-- a vCPU that may wake sleeps, and its wake moment has come
+pub wake_due : (g t : ℕ) (v : VcpuId) (pool : Pool) → enabled_in g t pool (Wake v) ≡ true → is_due_among t pool.domains v ≡ true
+wake_due g t v pool on = by_vcpu (vcpu_of pool v) on
+  where
+    by_vcpu : (o : Option Vcpu) → elim o as (λ _. Bool) [ None ↦ false | Some x ↦ has_come t x.asleep_until ] ≡ true → has_come t (elim o as (λ _. Option Moment) [ None ↦ None | Some x ↦ x.asleep_until ]) ≡ true
+    by_vcpu None e = absurd (cc)
+    by_vcpu (Some x) e = e
+
+-- it is not started
+pub wake_still : (t : ℕ) (v : VcpuId) (guests : GuestsSeen) → KeepsGuests guests → is_due_among t guests.domains v ≡ true → (x : Vcpu) → vcpu_among guests.domains v ≡ Some x → x.started ≡ None
+wake_still t v guests keeps due x there =
+    let at = vcpu_there guests.domains v x there in
+    let sleeps : has_come t x.asleep_until ≡ true = subst (λ (o : Option Vcpu). has_come t (elim o as (λ _. Option Moment) [ None ↦ None | Some y ↦ y.asleep_until ]) ≡ true) there due in
+    let until = come_there t x.asleep_until sleeps in
+    ((keeps.guests v.dom.0 at.0 at.1).vcpus v.n x at.2).still until.0 until.1
+
+-- the event of a processor that runs the vCPU
+pub block_happens : (g t p : ℕ) (v : VcpuId) (pool : Pool) → guest_of g pool p ≡ Some v → after_block g t p v pool ≡ after_in g t pool (Block p)
+block_happens g t p v pool guest = ap (λ (o : Option VcpuId). elim o as (λ _. Pool) [ None ↦ pool | Some w ↦ after_block g t p w pool ]) (sym guest)
+
+-- what is seen after an event and after the cores were looked at
+pub happened_is : (t : ℕ) (guests next : GuestsSeen) (cores after : CoresSeen) (s s2 : SchedulerSeen) (latest : ℕ) (action : Action) (before : Seen)
+    → pool_of next after s2 ≡ after_in guests.granularity t (pool_of guests cores s) action → IsMoved t guests next cores after
+    → ◌≡◌ {A = Seen} (record { pool = pool_of guests cores s; granularity = guests.granularity; spare = guests.spare; latest = latest }) before
+    → ◌≡◌ {A = Seen} (record { pool = settled t (pool_of next after s2); granularity = next.granularity; spare = next.spare; latest = t }) (happened t action before)
+happened_is t guests next cores after s s2 latest action before pool moved is =
+    let a : ◌≡◌ {A = Seen} (record { pool = settled t (pool_of next after s2); granularity = next.granularity; spare = next.spare; latest = t })
+    (record { pool = settled t (after_in guests.granularity t (pool_of guests cores s) action); granularity = next.granularity; spare = next.spare; latest = t }) =
+    ap (λ (p : Pool). record { pool = settled t p; granularity = next.granularity; spare = next.spare; latest = t }) pool in
+    let b : ◌≡◌ {A = Seen} (record { pool = settled t (after_in guests.granularity t (pool_of guests cores s) action); granularity = next.granularity; spare = next.spare; latest = t })
+    (record { pool = settled t (after_in guests.granularity t (pool_of guests cores s) action); granularity = guests.granularity; spare = next.spare; latest = t }) =
+    ap (λ (k : ℕ). record { pool = settled t (after_in guests.granularity t (pool_of guests cores s) action); granularity = k; spare = next.spare; latest = t }) moved.granularity in
+    let d : ◌≡◌ {A = Seen} (record { pool = settled t (after_in guests.granularity t (pool_of guests cores s) action); granularity = guests.granularity; spare = next.spare; latest = t })
+    (record { pool = settled t (after_in guests.granularity t (pool_of guests cores s) action); granularity = guests.granularity; spare = guests.spare; latest = t }) =
+    ap (λ (k : ℕ). record { pool = settled t (after_in guests.granularity t (pool_of guests cores s) action); granularity = guests.granularity; spare = k; latest = t }) moved.spare in
+    a ∙ b ∙ d ∙ ap (λ (x : Seen). happened t action x) is
+
+-- a processor that arrives, where it ran nothing and where it ran a vCPU
+pub arrived_alone : (g t p : ℕ) (pool : Pool) → guest_of g pool p ≡ None → change_processor g p (does Held) pool ≡ after_arrive g t p pool
+arrived_alone g t p pool guest = ap (λ (o : Option VcpuId). change_processor g p (does Held) (elim o as (λ _. Pool) [ None ↦ pool | Some w ↦ change_vcpu w (stopped t) pool ])) (sym guest)
+
+pub arrived_with : (g t p : ℕ) (v : VcpuId) (pool : Pool) → guest_of g pool p ≡ Some v → change_processor g p (does Held) (change_vcpu v (stopped t) pool) ≡ after_arrive g t p pool
+arrived_with g t p v pool guest = ap (λ (o : Option VcpuId). change_processor g p (does Held) (elim o as (λ _. Pool) [ None ↦ pool | Some w ↦ change_vcpu w (stopped t) pool ])) (sym guest)

@@ -1,0 +1,13 @@
+pub mod Processors
+pub mod Works
+pub mod Asking
+pub mod Settled
+pub mod ActedWorks
+pub mod Joining
+pub mod Woken
+pub mod Giving
+pub mod Coming
+pub mod Acting
+pub mod Replenishing
+pub mod Queueing
+pub mod Comers

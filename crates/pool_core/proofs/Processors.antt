@@ -1,0 +1,90 @@
+-- What a processor does after a change of a core or of a processor.
+use Rattle.std.proofs.Common.{◌≡◌, ◌≢◌, ◌<◌, ◌+◌, ◌*◌, ◌/◌, ◌%◌, ◌⊎◌, ℕ, zero, suc, Bool, true, false, List, [], ◌∷◌, refl, sym, ap, subst, ◌∙◌, cond, inl, inr, arith}
+use Rattle.std.specs.Prelude.{Option, Some, None, option_map, slice_get}
+use Rattle.std.proofs.Math.Decide.{ℕ_discrete}
+use Rattle.std.proofs.lemmas.Nat.{div-add-mod'}
+use Rattle.sched_base.specs.declared.VcpuId.{VcpuId}
+use Rattle.sched_model.specs.declared.state.Doing.{Doing}
+use Rattle.sched_model.specs.declared.state.Doing.TheVariants.{Guest, Idle, Held}
+use Rattle.sched_model.specs.declared.state.Processor.{Processor}
+use Rattle.sched_model.specs.declared.state.Resource.{Resource}
+use Rattle.sched_model.specs.Places.{at_place, change_at, change_each, change_item}
+use Rattle.sched_model.specs.Pool.{does}
+use Rattle.sched_model.proofs.PlaceLemmas.{at_place-change_at_other}
+use Rattle.sched_laws.proofs.EachPlace.{at_place-change_each}
+use Rattle.plain_credit2.proofs.Items.{at_place-change_at}
+use Rattle.core_state.specs.Seen.{processor_among, with_sibling}
+use Rattle.pool_core.specs.Seen.{guest_among}
+
+-- what a processor runs
+abbrev pub run_by : Option Processor → Option VcpuId
+run_by o = elim o [ None ↦ None | Some q ↦ elim q.doing [ Guest v ↦ Some v | Idle ↦ None | Held ↦ None ] ]
+
+sibling_kept : (i : ℕ) (f : Resource → Resource) (o : Option Resource) → ((c : Resource) → o ≡ Some c → (f c).processors ≡ c.processors)
+    → elim (option_map f o) as (λ _. Option Processor) [ None ↦ None | Some c ↦ slice_get c.processors i ] ≡ elim o as (λ _. Option Processor) [ None ↦ None | Some c ↦ slice_get c.processors i ]
+sibling_kept i f None same = refl
+sibling_kept i f (Some c) same = ap (λ ps. slice_get ps i) (same c refl)
+
+-- a change of a core that keeps its processors
+pub processor_kept : (g p r : ℕ) (f : Resource → Resource) (cores : List (Option Resource)) → ((c : Resource) → at_place cores r ≡ Some c → (f c).processors ≡ c.processors) → processor_among g (change_at r f cores) p ≡ processor_among g cores p
+processor_kept g p r f cores same = elim (ℕ_discrete (p / g) r) [
+  | yes e ↦
+      let at : at_place (change_at r f cores) (p / g) ≡ option_map f (at_place cores (p / g)) = subst (λ (k : ℕ). at_place (change_at r f cores) k ≡ option_map f (at_place cores k)) (sym e) (at_place-change_at r f cores) in
+      ap (λ (o : Option Resource). elim o as (λ _. Option Processor) [ None ↦ None | Some c ↦ slice_get c.processors (p % g) ]) at
+      ∙ sibling_kept (p % g) f (at_place cores (p / g)) (λ c is. same c (subst (λ (k : ℕ). at_place cores k ≡ Some c) e is))
+  | no other ↦ ap (λ (o : Option Resource). elim o as (λ _. Option Processor) [ None ↦ None | Some c ↦ slice_get c.processors (p % g) ]) (at_place-change_at_other r (p / g) f cores other)
+]
+
+-- the same of a change of each core
+pub processor_each : (g p : ℕ) (f : ℕ → Resource → Resource) (cores : List (Option Resource)) → ((r : ℕ) (c : Resource) → (f r c).processors ≡ c.processors) → processor_among g (change_each 0 f cores) p ≡ processor_among g cores p
+processor_each g p f cores same =
+    ap (λ (o : Option Resource). elim o as (λ _. Option Processor) [ None ↦ None | Some c ↦ slice_get c.processors (p % g) ]) (at_place-change_each 0 (p / g) f cores)
+    ∙ sibling_kept (p % g) (f (0 + p / g)) (at_place cores (p / g)) (λ c is. same (0 + p / g) c)
+
+changed_item : {X : Type 0} (i : ℕ) (f : X → X) (xs : List X) → slice_get (change_item i f xs) i ≡ option_map f (slice_get xs i)
+changed_item i f [] = refl
+changed_item zero f (x ∷ xs) = refl
+changed_item (suc i) f (x ∷ xs) = changed_item i f xs
+
+other_item : {X : Type 0} (i j : ℕ) (f : X → X) (xs : List X) → j ≢ i → slice_get (change_item i f xs) j ≡ slice_get xs j
+other_item i j f [] other = refl
+other_item zero zero f (x ∷ xs) other = absurd (other refl)
+other_item zero (suc j) f (x ∷ xs) other = refl
+other_item (suc i) zero f (x ∷ xs) other = refl
+other_item (suc i) (suc j) f (x ∷ xs) other = other_item i j f xs (λ e. other (ap suc e))
+
+-- a processor changed
+pub processor_changed : (g p : ℕ) (f : Processor → Processor) (cores : List (Option Resource)) → processor_among g (change_at (p / g) (with_sibling (p % g) f) cores) p ≡ option_map f (processor_among g cores p)
+processor_changed g p f cores =
+    ap (λ (o : Option Resource). elim o as (λ _. Option Processor) [ None ↦ None | Some c ↦ slice_get c.processors (p % g) ]) (at_place-change_at (p / g) (with_sibling (p % g) f) cores)
+    ∙ by_core (at_place cores (p / g))
+  where
+    by_core : (o : Option Resource) → elim (option_map (with_sibling (p % g) f) o) as (λ _. Option Processor) [ None ↦ None | Some c ↦ slice_get c.processors (p % g) ] ≡ option_map f (elim o as (λ _. Option Processor) [ None ↦ None | Some c ↦ slice_get c.processors (p % g) ])
+    by_core None = refl
+    by_core (Some c) = changed_item (p % g) f c.processors
+
+pub same_number : (g p q : ℕ) → p / g ≡ q / g → p % g ≡ q % g → p ≡ q
+same_number g p q core place = sym (div-add-mod' p g) ∙ ap (λ (k : ℕ). k * g + p % g) core ∙ ap (λ (k : ℕ). q / g * g + k) place ∙ div-add-mod' q g
+
+-- another processor
+pub processor_other : (g p q : ℕ) (f : Processor → Processor) (cores : List (Option Resource)) → q ≢ p → processor_among g (change_at (p / g) (with_sibling (p % g) f) cores) q ≡ processor_among g cores q
+processor_other g p q f cores other = elim (ℕ_discrete (q / g) (p / g)) [
+  | yes core ↦
+      let at : at_place (change_at (p / g) (with_sibling (p % g) f) cores) (q / g) ≡ option_map (with_sibling (p % g) f) (at_place cores (q / g)) =
+      subst (λ (k : ℕ). at_place (change_at (p / g) (with_sibling (p % g) f) cores) k ≡ option_map (with_sibling (p % g) f) (at_place cores k)) (sym core) (at_place-change_at (p / g) (with_sibling (p % g) f) cores) in
+      ap (λ (o : Option Resource). elim o as (λ _. Option Processor) [ None ↦ None | Some c ↦ slice_get c.processors (q % g) ]) at ∙ by_core (at_place cores (q / g)) (λ e. other (same_number g q p core e))
+  | no apart ↦ ap (λ (o : Option Resource). elim o as (λ _. Option Processor) [ None ↦ None | Some c ↦ slice_get c.processors (q % g) ]) (at_place-change_at_other (p / g) (q / g) (with_sibling (p % g) f) cores apart)
+]
+  where
+    by_core : (o : Option Resource) → q % g ≢ p % g → elim (option_map (with_sibling (p % g) f) o) as (λ _. Option Processor) [ None ↦ None | Some c ↦ slice_get c.processors (q % g) ] ≡ elim o as (λ _. Option Processor) [ None ↦ None | Some c ↦ slice_get c.processors (q % g) ]
+    by_core None apart = refl
+    by_core (Some c) apart = other_item (p % g) (q % g) f c.processors apart
+
+-- a processor that runs nothing
+pub idle_runs_none : (o : Option Processor) → run_by (option_map (does Idle) o) ≡ None
+idle_runs_none None = refl
+idle_runs_none (Some q) = refl
+
+pub held_runs_none : (o : Option Processor) → run_by (option_map (does Held) o) ≡ None
+held_runs_none None = refl
+held_runs_none (Some q) = refl

@@ -1,0 +1,61 @@
+-- The replenishment of a unit, as its scheduler carries it out.
+use Rattle.std.proofs.Common.{◌≡◌, ◌≤◌, ℕ, Bool, true, false, refl, sym, ap, subst, ◌∙◌, cond}
+use Rattle.std.specs.Prelude.{Option, Some, None, is_some, ◌&&◌, ◌||◌}
+use Rattle.sched_base.specs.declared.Span.{Span}
+use Rattle.sched_base.specs.declared.UnitId.{UnitId}
+use Rattle.sched_model.specs.declared.action.Action.TheVariants.{Repl}
+use Rattle.sched_model.specs.declared.event.Event.{Event}
+use Rattle.sched_model.specs.declared.event.Event.TheVariants as event
+use Rattle.sched_model.specs.declared.state.Pool.{Pool}
+use Rattle.sched_model.specs.declared.state.Records.{Records}
+use Rattle.sched_model.specs.declared.state.Records.TheVariants.{Credit2Pool, RtdsPool, ArincPool, NullPool}
+use Rattle.sched_model.specs.declared.state.RtdsUnit.{RtdsUnit}
+use Rattle.sched_model.specs.Places.{has_unit}
+use Rattle.sched_model.specs.Policy.{replenish, replenish_due, rtds_record}
+use Rattle.sched_model.specs.Pool.{after_replenish, change_core, core_of, due_within, enabled_in, lowest_up, with_records}
+use Rattle.sched_laws.proofs.Bools.{and_left, and_right}
+use Rattle.sched_ops.specs.Conditions.{is_on, may_be_on}
+use Rattle.plain_pool.proofs.Replenished.{replenished-there}
+use Rattle.pool_kept.specs.Holds.{Holds}
+use Rattle.pool_kept.proofs.Alike.{found_core}
+
+-- where a unit's deadline comes, the records tell whether it is on
+on_told : (records : Records) (t : ℕ) (u : UnitId) → replenish_due records t u ≡ true → may_be_on records u ≡ is_on records u
+on_told (Credit2Pool records) t u due = refl
+on_told (RtdsPool domains) t u due = refl
+on_told (ArincPool records) t u due = absurd (cc)
+on_told (NullPool kept) t u due = absurd (cc)
+
+-- the timer of a unit whose replenishment may come is due
+pub timer_is_due : (g t : ℕ) (pool : Pool) (u : UnitId) → Holds g t pool → enabled_in g t pool (Repl u) ≡ true → ((has_unit pool.scheduler.queue u || is_on pool.scheduler.records u) && replenish_due pool.scheduler.records t u) ≡ true
+timer_is_due g t pool u holds on =
+    let both = and_left ((has_unit pool.scheduler.queue u || is_some (core_of pool u)) && replenish_due pool.scheduler.records t u) (lowest_up t pool) on in
+    let due = and_right (has_unit pool.scheduler.queue u || is_some (core_of pool u)) (replenish_due pool.scheduler.records t u) both in
+    let there = and_left (has_unit pool.scheduler.queue u || is_some (core_of pool u)) (replenish_due pool.scheduler.records t u) both in
+    ap (λ (b : Bool). b && replenish_due pool.scheduler.records t u) (by_queue (has_unit pool.scheduler.queue u) there due) ∙ due
+  where
+    by_queue : (b : Bool) → (b || is_some (core_of pool u)) ≡ true → replenish_due pool.scheduler.records t u ≡ true → (b || is_on pool.scheduler.records u) ≡ true
+    by_queue true there due = refl
+    by_queue false there due =
+        let found = found_core pool u there in
+        sym (on_told pool.scheduler.records t u due) ∙ holds.on.own found.0 found.1 found.2 u found.3
+
+-- the budget of the event
+abbrev pub budget_of : Event → ℕ
+budget_of (event.Repl u start deadline budget extra) = budget.0
+budget_of _ = 0
+
+-- the pool whose core is brought in by the budget of the replenished unit
+pub is_replenished : (t r budget : ℕ) (u : UnitId) (pool : Pool) → replenish_due pool.scheduler.records t u ≡ true → core_of pool u ≡ Some r
+    → budget ≡ elim (rtds_record (replenish pool.scheduler.records t u) u) as (λ _. ℕ) [ None ↦ 0 | Some x ↦ x.budget ]
+    → change_core r (due_within t budget) (with_records (replenish pool.scheduler.records t u) pool) ≡ after_replenish t u pool
+is_replenished t r budget u pool due own is =
+    let next : Pool = with_records (replenish pool.scheduler.records t u) pool in
+    subst (λ (o : Option ℕ). change_core r (due_within t budget) next ≡ elim o as (λ _. Pool) [ None ↦ next | Some k ↦ elim (rtds_record next.scheduler.records u) as (λ _. Pool) [ None ↦ next | Some x ↦ change_core k (due_within t x.budget) next ] ]) (sym own)
+    (by_record (rtds_record (replenish pool.scheduler.records t u) u) refl is)
+  where
+    by_record : (o : Option RtdsUnit) → rtds_record (replenish pool.scheduler.records t u) u ≡ o → budget ≡ elim o as (λ _. ℕ) [ None ↦ 0 | Some x ↦ x.budget ]
+        → change_core r (due_within t budget) (with_records (replenish pool.scheduler.records t u) pool)
+        ≡ elim o as (λ _. Pool) [ None ↦ with_records (replenish pool.scheduler.records t u) pool | Some x ↦ change_core r (due_within t x.budget) (with_records (replenish pool.scheduler.records t u) pool) ]
+    by_record None none e = absurd (replenished-there pool.scheduler.records t u due none)
+    by_record (Some x) there e = ap (λ (b : ℕ). change_core r (due_within t b) (with_records (replenish pool.scheduler.records t u) pool)) e

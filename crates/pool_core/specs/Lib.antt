@@ -1,0 +1,6 @@
+pub mod Seen
+pub mod Kept
+pub mod Settling
+pub mod Doing
+pub mod Waking
+pub mod Domains

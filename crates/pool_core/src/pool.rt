@@ -1,0 +1,290 @@
+//! One pool.
+
+use crate::deciding::{decide, replenish};
+use crate::doing::{arrive, block, guest_of, leave};
+use crate::domains::join;
+use crate::settling::settle;
+use crate::waking::{save, wake};
+use core_state::CoreState;
+use plain_pool::leaving::fresh_core;
+use sched_base::{DomId, Moment, NoMemory, ProcId, ResId, UnitId, VcpuId};
+use sched_model::config::{DomParams, PoolParams};
+use sched_model::event::Event;
+use sched_model::facts::ResPart;
+use sched_ops::{Places, Policy, Timer};
+use std::alloc::Global;
+use std::marker::Model;
+use unit_state::{DomPart, Guests};
+
+/// A pool: its domains, its cores and its scheduler. Contracts see the pool as the machine has it, how many processors a core has, how
+/// many units may still join, and the greatest moment that was given.
+///
+/// All moments are in nanoseconds, each at least the greatest one given before and at most 10^13. No call but `room` takes memory.
+#[derive(Drop)]
+pub struct PoolState<P: Policy> {
+    guests: Guests,
+    cores: CoreState,
+    policy: P,
+    latest: Moment,
+}
+
+impl<P: Policy> Model for PoolState<P> {
+    ghost use Rattle.pool_core.specs.Seen.{Seen, pool_of};
+
+    ghost Value = { Seen };
+
+    ghost use Rattle.pool_core.specs.Kept.{IsKept};
+
+    ghost view = { λ a. record { pool = pool_of a.guests a.cores (P.seen a.policy); granularity = a.guests.granularity; spare = a.guests.spare; latest = a.latest.0 } };
+
+    ghost invariant = { λ a. IsKept a.latest.0 a.guests a.cores (P.seen a.policy) };
+}
+
+impl<P: Policy> PoolState<P> {
+    ghost use Rattle.std.specs.Prelude.{◌≡◌, ◌≤◌, ◌<◌, ◌-◌, ◌*◌, true, IfOk, None, length};
+    ghost use Rattle.sched_model.specs.Checked.{IsGranularity};
+    ghost use Rattle.sched_model.specs.Places.{at_place};
+    ghost use Rattle.sched_model.specs.Policy.{default_pool_params, kind_of};
+    ghost use Rattle.sched_ops.specs.Conditions.{AreDomParams, ArePoolParams, is_vacant};
+    ghost use Rattle.sched_ops.specs.Seen.{restarted};
+    ghost use Rattle.core_state.specs.Seen.{stall_until};
+    ghost use Rattle.unit_state.specs.Parts.{IsPart};
+    ghost use Rattle.sched_model.specs.declared.action.Action.TheVariants.{Arrive, Block, Decide, Leave, Refill, Repl, Save, Slice, Wake};
+    ghost use Rattle.sched_model.specs.Pool.{enabled_in, event_in, processor_of, set_leaving, settled, unit_count, with_domain};
+    ghost use Rattle.pool_core.specs.Seen.{IsEmpty, IsNow, happened, seen_at, vacant, with_core, with_spare, with_stall};
+
+    /// A pool with so many places for domains and for cores of 1, 2 or 4 processors each, at most 64 domains and 64 processors, and room
+    /// for so many units, at most 256. Its scheduler, which has no domain, takes its default parameters.
+    pub fn room(
+        alloc: Global,
+        granularity: u8,
+        places: Places,
+        units: usize,
+        policy: P,
+    ) -> Result<PoolState<P>, NoMemory>
+        requires granularity { IsGranularity granularity }
+        requires domains { places.domains ≤ 64 }
+        requires cores { places.cores * granularity ≤ 64 }
+        requires units { units ≤ 256 }
+        requires vacant { is_vacant (P.seen policy).scheduler ≡ true }
+        requires early { (P.seen policy).latest ≡ 0 }
+        ensures { IfOk result (λ pool. pool ≡ vacant (default_pool_params (kind_of (P.seen policy).scheduler.records)) granularity places.domains places.cores units) }
+    {
+        let mut policy = policy;
+        policy.reserve(alloc, places, units)?;
+        let guests = Guests::room(alloc, granularity, places.domains, units)?;
+        let cores = CoreState::room(alloc, granularity, places.cores)?;
+        Ok(PoolState {
+            guests,
+            cores,
+            policy,
+            latest: Moment(0),
+        })
+    }
+
+    /// The pool, which has neither a domain nor a core, begins anew with these parameters.
+    pub fn open(&mut self, params: &PoolParams)
+        requires empty { IsEmpty self.old.pool }
+        requires params { ArePoolParams (kind_of self.old.pool.scheduler.records) params.now }
+        ensures { self.new ≡ record self.old { pool = record self.old.pool { scheduler = restarted params.now self.old.pool.scheduler } } }
+    {
+        self.policy.restart(params);
+    }
+
+    /// A core comes in, whose processors are stalled up to these moments. It is to decide.
+    pub fn attach(&mut self, core: &ResPart, t: Moment)
+        requires now { IsNow self.old t.0 }
+        requires place { core.now.r.0 < length self.old.pool.resources }
+        requires absent { at_place self.old.pool.resources core.now.r.0 ≡ None }
+        requires siblings { length core.now.stall_ends ≡ self.old.granularity }
+        ensures { self.new ≡ seen_at t.0 (settled t.0 (with_core core.now.r.0 core.now.stall_ends self.old.pool)) self.old }
+    {
+        self.cores.keeps();
+        self.cores.put(core.r.0, fresh_core(&core.stall_ends));
+        self.latest = t;
+        self.look();
+    }
+
+    /// A domain, none of whose vCPUs is started, comes in with these parameters. Its units that are runnable wait.
+    pub fn give_domain(&mut self, part: DomPart, params: &DomParams, t: Moment)
+        requires now { IsNow self.old t.0 }
+        requires part { IsPart part }
+        requires stays { part.domain.moving ≡ None }
+        requires place { part.d.0 < length self.old.pool.domains }
+        requires absent { at_place self.old.pool.domains part.d.0 ≡ None }
+        requires granularity { part.granularity ≡ self.old.granularity }
+        requires room { unit_count part.granularity part.domain ≤ self.old.spare }
+        requires params { AreDomParams (kind_of self.old.pool.scheduler.records) params.now }
+        ensures { self.new ≡ with_spare (self.old.spare - unit_count part.granularity part.domain) (seen_at t.0 (settled t.0 (with_domain self.old.granularity t.0 part.d.0 part.domain params.now self.old.pool)) self.old) }
+    {
+        join(
+            &mut self.guests,
+            &self.cores,
+            &mut self.policy,
+            part,
+            params,
+            t,
+        );
+        self.latest = t;
+        self.look();
+    }
+
+    /// A core is leaving; it is to decide where it has a unit.
+    pub fn set_leaving(&mut self, r: ResId)
+        ensures { self.new ≡ record self.old { pool = set_leaving r.0 self.old.pool } }
+    {
+        self.cores.set_leaving(r.0);
+    }
+
+    /// A processor is stalled up to this moment, if it is not yet for longer: the end of its stall.
+    pub fn stall(&mut self, p: ProcId, until: Moment) -> Moment
+        ensures end { result ≡ stall_until (processor_of self.old.granularity self.old.pool p.0) until }
+        ensures after { self.new ≡ record self.old { pool = with_stall self.old.granularity p.0 result self.old.pool } }
+    {
+        self.cores.stall(p.0, until)
+    }
+
+    /// Each core is looked at, at the greatest moment given.
+    fn look(&mut self)
+        ensures { self.new ≡ seen_at self.old.latest (settled self.old.latest self.old.pool) self.old }
+    {
+        settle(&mut self.cores, &self.policy, self.latest);
+    }
+
+    /// The closure alone: each core that is to decide anew at t is pending.
+    pub fn settle(&mut self, t: Moment)
+        requires now { IsNow self.old t.0 }
+        ensures { self.new ≡ seen_at t.0 (settled t.0 self.old.pool) self.old }
+    {
+        self.latest = t;
+        self.look();
+    }
+
+    /// A vCPU that sleeps, and whose wake moment has come at t, wakes. Its unit waits, where it is runnable now and was nowhere; where
+    /// it is a core's own, its own processor runs the vCPU, if that idles.
+    pub fn wake(&mut self, v: VcpuId, t: Moment) -> Event
+        requires now { IsNow self.old t.0 }
+        requires enabled { enabled_in self.old.granularity t.0 self.old.pool (Wake v) ≡ true }
+        ensures event { result ≡ event_in self.old.granularity t.0 self.old.pool (Wake v) }
+        ensures after { self.new ≡ happened t.0 (Wake v) self.old }
+    {
+        self.guests.keeps();
+        self.cores.keeps();
+        wake(&mut self.guests, &mut self.cores, &mut self.policy, v, t);
+        self.latest = t;
+        self.look();
+        Event::Wake { v }
+    }
+
+    /// A vCPU that a processor runs, and whose work is done at t, sleeps. Its core is to decide anew, where its unit is no longer
+    /// runnable.
+    pub fn block(&mut self, p: ProcId, t: Moment) -> Event
+        requires now { IsNow self.old t.0 }
+        requires enabled { enabled_in self.old.granularity t.0 self.old.pool (Block p.0) ≡ true }
+        ensures event { result ≡ event_in self.old.granularity t.0 self.old.pool (Block p.0) }
+        ensures after { self.new ≡ happened t.0 (Block p.0) self.old }
+    {
+        let Some(v) = guest_of(&self.cores, p.0) else {
+            unreachable!();
+        };
+        block(&mut self.guests, &mut self.cores, p.0, v, t);
+        self.latest = t;
+        self.look();
+        Event::Block { p, v }
+    }
+
+    /// A core whose due has come at t is to decide anew.
+    pub fn slice(&mut self, r: ResId, t: Moment) -> Event
+        requires now { IsNow self.old t.0 }
+        requires enabled { enabled_in self.old.granularity t.0 self.old.pool (Slice r.0) ≡ true }
+        ensures event { result ≡ event_in self.old.granularity t.0 self.old.pool (Slice r.0) }
+        ensures after { self.new ≡ happened t.0 (Slice r.0) self.old }
+    {
+        self.cores.set_pending(r.0);
+        self.latest = t;
+        self.look();
+        Event::Slice { r }
+    }
+
+    /// An RTDS unit whose deadline has come at t has its budget anew. A core that runs it asks again when that is used up, if not
+    /// before.
+    pub fn replenish(&mut self, u: UnitId, t: Moment) -> Event
+        requires now { IsNow self.old t.0 }
+        requires enabled { enabled_in self.old.granularity t.0 self.old.pool (Repl u) ≡ true }
+        ensures event { result ≡ event_in self.old.granularity t.0 self.old.pool (Repl u) }
+        ensures after { self.new ≡ happened t.0 (Repl u) self.old }
+    {
+        let event = replenish(&self.guests, &mut self.cores, &mut self.policy, u, t);
+        self.latest = t;
+        self.look();
+        event
+    }
+
+    /// The budget of a capped Credit2 domain, whose refill has come at t, is filled.
+    pub fn refill(&mut self, d: DomId, t: Moment) -> Event
+        requires now { IsNow self.old t.0 }
+        requires enabled { enabled_in self.old.granularity t.0 self.old.pool (Refill d.0) ≡ true }
+        ensures event { result ≡ event_in self.old.granularity t.0 self.old.pool (Refill d.0) }
+        ensures after { self.new ≡ happened t.0 (Refill d.0) self.old }
+    {
+        let event = self.policy.timer(Timer::Refill(d), t);
+        self.latest = t;
+        self.look();
+        event
+    }
+
+    /// A processor of a core that is to decide anew waits for its siblings. A vCPU that it ran is stopped.
+    pub fn arrive(&mut self, p: ProcId, t: Moment) -> Event
+        requires now { IsNow self.old t.0 }
+        requires enabled { enabled_in self.old.granularity t.0 self.old.pool (Arrive p.0) ≡ true }
+        ensures event { result ≡ event_in self.old.granularity t.0 self.old.pool (Arrive p.0) }
+        ensures after { self.new ≡ happened t.0 (Arrive p.0) self.old }
+    {
+        arrive(&mut self.guests, &mut self.cores, p.0, t);
+        self.latest = t;
+        self.look();
+        Event::Arrive { p }
+    }
+
+    /// A core, all of whose processors wait, decides: its scheduler chooses its unit, and its old one, where that is another, is to
+    /// be saved.
+    pub fn decide(&mut self, r: ResId, t: Moment) -> Event
+        requires now { IsNow self.old t.0 }
+        requires enabled { enabled_in self.old.granularity t.0 self.old.pool (Decide r.0) ≡ true }
+        ensures event { result ≡ event_in self.old.granularity t.0 self.old.pool (Decide r.0) }
+        ensures after { self.new ≡ happened t.0 (Decide r.0) self.old }
+    {
+        let event = decide(&self.guests, &mut self.cores, &mut self.policy, r.0, t);
+        self.latest = t;
+        self.look();
+        event
+    }
+
+    /// A processor leaves its siblings after their core decided, and runs the vCPU of the core's unit at its place, where that is
+    /// awake.
+    pub fn leave(&mut self, p: ProcId, t: Moment) -> Event
+        requires now { IsNow self.old t.0 }
+        requires enabled { enabled_in self.old.granularity t.0 self.old.pool (Leave p.0) ≡ true }
+        ensures event { result ≡ event_in self.old.granularity t.0 self.old.pool (Leave p.0) }
+        ensures after { self.new ≡ happened t.0 (Leave p.0) self.old }
+    {
+        self.cores.keeps();
+        let v = leave(&mut self.guests, &mut self.cores, p.0, t);
+        self.latest = t;
+        self.look();
+        Event::Leave { p, v }
+    }
+
+    /// A core, none of whose processors waits any more, puts away the unit that it saves, which waits again where it is runnable.
+    pub fn save(&mut self, r: ResId, t: Moment) -> Event
+        requires now { IsNow self.old t.0 }
+        requires enabled { enabled_in self.old.granularity t.0 self.old.pool (Save r.0) ≡ true }
+        ensures event { result ≡ event_in self.old.granularity t.0 self.old.pool (Save r.0) }
+        ensures after { self.new ≡ happened t.0 (Save r.0) self.old }
+    {
+        let event = save(&self.guests, &mut self.cores, &mut self.policy, r.0, t);
+        self.latest = t;
+        self.look();
+        event
+    }
+}

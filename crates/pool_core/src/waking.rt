@@ -1,0 +1,119 @@
+//! Units that come to wait: that of a vCPU that wakes, and one that a core puts away. g is the number of a core's processors.
+
+ghost use Rattle.std.specs.Prelude.{◌≡◌, ◌<◌, ◌||◌, true, ℕ};
+ghost use Rattle.sched_model.specs.State.{runnable_among};
+ghost use Rattle.sched_model.specs.declared.action.Action.TheVariants.{Save, Wake};
+ghost use Rattle.sched_model.specs.Pool.{after_wake, after_in, enabled_in, event_in, joined_siblings};
+ghost use Rattle.pool_kept.specs.Holds.{Holds};
+ghost use Rattle.sched_ops.specs.Seen.{Seen as SchedulerSeen};
+ghost use Rattle.unit_state.specs.Seen.{IsNow, is_awake_among, is_due_among};
+ghost use Rattle.pool_core.specs.Seen.{pool_of};
+ghost use Rattle.pool_core.specs.Doing.{IsMoved};
+ghost use Rattle.pool_core.specs.Waking.{done_started, idles_among, is_held_among, joined_works, woken_works, KeepsRoom};
+
+use crate::doing::unit_of;
+use core_state::CoreState;
+use plain_pool::cores::is_idle;
+use sched_base::{Moment, ResId, UnitId, VcpuId};
+use sched_model::event::Event;
+use sched_ops::Policy;
+use unit_state::Guests;
+
+/// Whether the processor is there and idles.
+fn is_idle_at(cores: &CoreState, p: u8) -> bool
+    ensures { result ≡ idles_among cores.now.granularity cores.now.resources p }
+{
+    match cores.processor(p) {
+        None => false,
+        Some(q) => is_idle(q),
+    }
+}
+
+/// The vCPU, which is awake, is started on its own processor, where its unit is a core's own and that processor idles.
+fn join_siblings(guests: &mut Guests, cores: &mut CoreState, v: VcpuId, t: Moment)
+    requires now { IsNow guests.old t.0 }
+    requires same { cores.old.granularity ≡ guests.old.granularity }
+    requires some { 0 < guests.old.granularity }
+    requires awake { is_awake_among guests.old.domains v ≡ true }
+    ensures pool { (s : SchedulerSeen) → pool_of guests.new cores.new s ≡ joined_siblings guests.old.granularity t.0 v (pool_of guests.old cores.old s) }
+    ensures works { cores.new.works ≡ joined_works guests.old.granularity v (done_started t.0 v guests.old.domains) cores.old.resources cores.old.works }
+    ensures rest { IsMoved t.0 guests.old guests.new cores.old cores.new }
+{
+    cores.keeps();
+    let g = guests.granularity();
+    if let Some(r) = cores.core_with(unit_of(g, v)) {
+        let p = r * g + v.n % g;
+        if is_idle_at(cores, p) {
+            guests.start(v, t);
+            let work = guests.done_at(v);
+            cores.run(p, v, work);
+        }
+    }
+}
+
+/// Whether the unit, where each runnable one waits or is on a core, does so.
+fn has_place(guests: &Guests, cores: &CoreState, u: UnitId) -> bool
+    ensures { result ≡ (runnable_among guests.now.granularity guests.now.domains u || is_held_among cores.now.resources u) }
+{
+    guests.runnable(u) || cores.has_unit(u)
+}
+
+/// The vCPU, whose wake moment has come, wakes. Its unit waits, where it is runnable now and was nowhere; where it is a core's own,
+/// the vCPU is started on its own processor, if that idles.
+pub fn wake<P: Policy>(
+    guests: &mut Guests,
+    cores: &mut CoreState,
+    policy: &mut P,
+    v: VcpuId,
+    t: Moment,
+)
+    requires now { IsNow guests.old t.0 }
+    requires same { cores.old.granularity ≡ guests.old.granularity }
+    requires due { is_due_among t.0 guests.old.domains v ≡ true }
+    requires holds { Holds guests.old.granularity t.0 (pool_of guests.old cores.old (P.seen policy.old)) }
+    ensures pool { pool_of guests.new cores.new (P.seen policy.new) ≡ after_wake guests.old.granularity t.0 v (pool_of guests.old cores.old (P.seen policy.old)) }
+    ensures works { cores.new.works ≡ woken_works guests.old.granularity t.0 v (pool_of guests.old cores.old (P.seen policy.old)) cores.old.works }
+    ensures rest { IsMoved t.0 guests.old guests.new cores.old cores.new }
+    ensures room { KeepsRoom (P.seen policy.old) (P.seen policy.new) }
+{
+    let u = unit_of(guests.granularity(), v);
+    let had_place = has_place(guests, cores, u);
+    guests.wake(v, t);
+    if guests.runnable(u) {
+        if had_place {
+            join_siblings(guests, cores, v, t);
+        } else {
+            policy.enqueue(u);
+        }
+    }
+}
+
+/// The core puts away the unit that it saves, which waits again where it is runnable.
+pub fn save<P: Policy>(
+    guests: &Guests,
+    cores: &mut CoreState,
+    policy: &mut P,
+    r: u8,
+    t: Moment,
+) -> Event
+    requires same { cores.old.granularity ≡ guests.now.granularity }
+    requires enabled { enabled_in guests.now.granularity t.0 (pool_of guests.now cores.old (P.seen policy.old)) (Save r) ≡ true }
+    requires holds { Holds guests.now.granularity t.0 (pool_of guests.now cores.old (P.seen policy.old)) }
+    ensures event { result ≡ event_in guests.now.granularity t.0 (pool_of guests.now cores.old (P.seen policy.old)) (Save r) }
+    ensures pool { pool_of guests.now cores.new (P.seen policy.new) ≡ after_in guests.now.granularity t.0 (pool_of guests.now cores.old (P.seen policy.old)) (Save r) }
+    ensures cores { cores.new ≡ record cores.old { resources = cores.new.resources } }
+    ensures room { KeepsRoom (P.seen policy.old) (P.seen policy.new) }
+{
+    let Some(u) = cores.save(r) else {
+        unreachable!();
+    };
+    let queued = guests.runnable(u);
+    if queued {
+        policy.enqueue(u);
+    }
+    Event::Save {
+        r: ResId(r),
+        u,
+        queued,
+    }
+}
