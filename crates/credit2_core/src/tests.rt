@@ -312,33 +312,33 @@ fn arrival_decides_where_a_reset_makes_credits_equal(rt: HostRuntime) -> Result<
             Joins(0, 0, 1, 256, 0),
             Joins(0, 1, 1, 256, 0),
             Joins(0, 2, 1, 256, 0),
-            PinAll(0, 0, 1),
+            PinAll(0, 0, 2),
             PinAll(0, 1, 2),
-            PinAll(0, 2, 2),
-            Wake(C),
+            PinAll(0, 2, 1),
+            Wake(A),
             Better(0, 0, false),
-            Runs(1, 0, C, 10_000_000),
+            Runs(1, 0, A, 10_000_000),
             Block(1),
             Idles(1, 2_000_000),
             Wake(B),
             Runs(1, 2_000_000, B, 12_000_000),
             Block(1),
             Idles(1, 3_000_000),
-            Wake(A),
-            Runs(0, 3_000_000, A, 13_000_000),
-            // C has 8,000,000 and comes first, B has 9,000,000.
             Wake(C),
+            Runs(0, 3_000_000, C, 13_000_000),
+            // A has 8,000,000 and comes first, B has 9,000,000.
+            Wake(A),
             Wake(B),
             Runs(1, 3_000_000, B, 4_000_000),
             Block(1),
-            Runs(1, 3_500_000, C, 11_500_000),
+            Runs(1, 3_500_000, A, 11_500_000),
             Block(1),
             Idles(1, 4_000_000),
             // The same with 7,500,000 and 8,500,000; the reset gives 10,500,000 to each.
-            Wake(C),
+            Wake(A),
             Wake(B),
-            Resets(0, 13_000_000, A, 23_000_000, 1),
-            Runs(1, 13_000_000, C, 14_000_000),
+            Resets(0, 13_000_000, C, 23_000_000, 1),
+            Runs(1, 13_000_000, A, 14_000_000),
         ],
     )?;
     Ok(())
@@ -504,6 +504,34 @@ fn what_is_held_is_not_refilled_and_is_given_back(rt: HostRuntime) -> Result<(),
             Idles(0, 11_000_000),
             // It has given 1,000,000 back to 500,000.
             Runs(1, 11_000_000, A, 12_250_000),
+        ],
+    )?;
+    Ok(())
+}
+
+#[test]
+fn each_takes_of_its_own_domains_budget(rt: HostRuntime) -> Result<(), Fail> {
+    drive(
+        &rt,
+        rt.alloc(),
+        &[
+            Joins(0, 0, 1, 256, 25),
+            Joins(0, 1, 1, 256, 50),
+            Wake(A),
+            Runs(0, 0, A, 2_500_000),
+            Wake(B),
+            // A gives 1,500,000 back, and B takes 5,000,000.
+            Runs(0, 1_000_000, B, 6_000_000),
+            Runs(0, 2_000_000, B, 3_000_000),
+            Runs(0, 3_000_000, A, 4_500_000),
+            Runs(0, 4_500_000, B, 7_500_000),
+            Idles(0, 7_500_000),
+            NextTimer(10_000_000, Some((10_000_000, 0))),
+            Refilled(10_000_000, 0, 1, 2_500_000),
+            NextTimer(10_000_000, Some((10_000_000, 1))),
+            Refilled(10_000_000, 1, 1, 5_000_000),
+            NextTimer(10_000_000, Some((20_000_000, 0))),
+            Runs(0, 10_000_000, A, 12_500_000),
         ],
     )?;
     Ok(())
