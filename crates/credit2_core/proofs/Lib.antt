@@ -12,3 +12,4 @@ pub mod Choosing
 pub mod Deciding
 pub mod Keeping
 pub mod Refills
+pub mod Driving

@@ -6,3 +6,4 @@ pub mod Timing
 pub mod Held
 pub mod Room
 pub mod Whole
+pub mod Driven

@@ -58,7 +58,8 @@ fn no_event(d: DomId) -> Event {
 }
 
 impl Credit2 {
-    ghost use Rattle.std.specs.Prelude.{◌≡◌};
+    ghost use Rattle.std.specs.Prelude.{◌≡◌, ◌≤◌, ◌<◌, length};
+    ghost use Rattle.plain_units.specs.Fits.{RecordsFit};
     ghost use Rattle.credit2_core.specs.Whole.{bare};
 
     /// A scheduler without memory, with the rate limit of 1000 microseconds.
@@ -70,6 +71,16 @@ impl Credit2 {
             limit: DEFAULT_LIMIT,
             early: 0,
         }
+    }
+
+    /// Does nothing, and tells that the numbers of the records are in range from the greatest moment given on, where there is a
+    /// place for a domain.
+    pub fn law_range(&self, t: Moment)
+        requires places { 0 < length self.now.scheduler.affinity }
+        requires late { self.now.latest ≤ t.0 }
+        ensures { RecordsFit t.0 self.now.scheduler.records }
+    {
+        let _ = &self.held;
     }
 }
 

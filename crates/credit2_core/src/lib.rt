@@ -11,6 +11,8 @@ mod params;
 mod room;
 mod slice;
 mod small;
+#[cfg(test)]
+mod tests;
 mod timers;
 
 pub use credit2::Credit2;
