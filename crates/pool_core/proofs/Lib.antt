@@ -7,3 +7,5 @@ pub mod Joining
 pub mod Woken
 pub mod Acting
 pub mod Replenishing
+pub mod Order
+pub mod Moments

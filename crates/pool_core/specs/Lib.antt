@@ -2,4 +2,5 @@ pub mod Seen
 pub mod Kept
 pub mod Settling
 pub mod Doing
+pub mod Order
 pub mod Waking

@@ -6,6 +6,7 @@
 
 mod deciding;
 mod doing;
+mod due;
 pub mod pool;
 mod settling;
 mod waking;
