@@ -11,3 +11,5 @@ pub mod Acting
 pub mod Replenishing
 pub mod Queueing
 pub mod Comers
+pub mod Order
+pub mod Moments
