@@ -9,3 +9,4 @@ pub mod Acting
 pub mod Replenishing
 pub mod Queueing
 pub mod Comers
+pub mod Withdrawing
