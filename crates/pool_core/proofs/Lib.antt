@@ -10,3 +10,4 @@ pub mod Replenishing
 pub mod Queueing
 pub mod Comers
 pub mod Withdrawing
+pub mod Goers

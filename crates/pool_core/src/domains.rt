@@ -1,18 +1,19 @@
 //! Domains that join a pool, pause, go on and part. g is the number of a core's processors.
 
-ghost use Rattle.std.specs.Prelude.{◌≡◌, ◌≤◌, ◌<◌, ◌-◌, ◌&&◌, not, ℕ, None, length};
+ghost use Rattle.std.specs.Prelude.{◌≡◌, ◌≤◌, ◌<◌, ◌+◌, ◌-◌, ◌&&◌, not, true, is_some, ℕ, None, Some, length};
+ghost use Rattle.std.specs.Option.{ForSome};
 ghost use Rattle.sched_model.specs.declared.state.Resource.{Resource};
-ghost use Rattle.sched_model.specs.Places.{at_place, change_each, has_unit, numbers_from, put_at, test_at};
+ghost use Rattle.sched_model.specs.Places.{at_place, change_each, clear_at, has_unit, numbers_from, put_at, test_at};
 ghost use Rattle.sched_model.specs.Policy.{dequeue_domain as dequeue_domain_spec, kind_of};
-ghost use Rattle.sched_model.specs.Pool.{is_of_domain as is_of_domain_spec, pause as pause_spec, queue_if_off as queue_if_off_spec, queue_units as queue_units_spec, set_moving as set_moving_spec, unit_count as unit_count_spec, with_domain};
+ghost use Rattle.sched_model.specs.Pool.{is_of_domain as is_of_domain_spec, pause as pause_spec, queue_if_off as queue_if_off_spec, queue_units as queue_units_spec, set_moving as set_moving_spec, unit_count as unit_count_spec, unpause as unpause_spec, with_domain, without_domain};
 ghost use Rattle.sched_model.specs.State.{runnable_among};
 ghost use Rattle.sched_laws.proofs.OnePlace.{OnePlace};
-ghost use Rattle.sched_ops.specs.Seen.{dequeue as dequeue_spec, with_scheduler};
-ghost use Rattle.core_state.specs.Seen.{changed_core};
+ghost use Rattle.sched_ops.specs.Seen.{dequeue as dequeue_spec, units_of, with_scheduler};
+ghost use Rattle.core_state.specs.Seen.{Seen as CoresSeen, changed_core};
 ghost use Rattle.plain_pool.specs.Marks.{pending_of};
-ghost use Rattle.sched_ops.specs.Conditions.{AreDomParams, IsNow};
-ghost use Rattle.unit_state.specs.Parts.{IsPart};
-ghost use Rattle.pool_kept.specs.Holds.{HasMembers, Holds};
+ghost use Rattle.sched_ops.specs.Conditions.{AreDomParams, HasNoneBusy, IsNow, has_joined};
+ghost use Rattle.unit_state.specs.Parts.{IsPart, IsStill};
+ghost use Rattle.pool_kept.specs.Holds.{AreOn, HasMembers, Holds};
 ghost use Rattle.pool_core.specs.Seen.{pool_of};
 ghost use Rattle.pool_core.specs.Domains.{MayQueue, unit_id};
 ghost use Rattle.pool_core.specs.Waking.{is_held_among, KeepsRoom};
@@ -179,4 +180,39 @@ pub fn set_moving<P: Policy>(
     dequeue_domain(guests, cores, policy, d);
     guests.set_moving(d, Some(to));
     mark_cores_of(cores, d);
+}
+
+/// A domain that is paused is so no longer: its units wait that are runnable and that no core has.
+pub fn unpause<P: Policy>(guests: &mut Guests, cores: &CoreState, policy: &mut P, d: DomId)
+    requires one { OnePlace guests.old.granularity (pool_of guests.old cores.now (P.seen policy.old)) }
+    requires members { HasMembers guests.old.granularity (pool_of guests.old cores.now (P.seen policy.old)) }
+    requires on { AreOn (pool_of guests.old cores.now (P.seen policy.old)) }
+    ensures pool { pool_of guests.new cores.now (P.seen policy.new) ≡ unpause_spec guests.old.granularity d.0 (pool_of guests.old cores.now (P.seen policy.old)) }
+    ensures guests { guests.new ≡ record guests.old { domains = guests.new.domains } }
+    ensures room { KeepsRoom (P.seen policy.old) (P.seen policy.new) }
+{
+    if guests.is_paused(d) {
+        let count = guests.unit_count(d);
+        guests.set_paused(d, false);
+        queue_units(guests, cores, policy, d, count);
+    }
+}
+
+/// The domain parts from the pool. None of its units waits or is on, and none of its vCPUs is started.
+pub fn take<P: Policy>(guests: &mut Guests, policy: &mut P, d: DomId) -> DomPart
+    requires here { is_some (at_place guests.old.domains d.0) ≡ true }
+    requires still { ForSome (at_place guests.old.domains d.0) IsStill }
+    requires joined { has_joined (P.seen policy.old).scheduler d.0 ≡ true }
+    requires idle { HasNoneBusy (P.seen policy.old).scheduler d.0 }
+    ensures pool { (cores : CoresSeen) → pool_of guests.new cores (P.seen policy.new) ≡ without_domain d.0 (pool_of guests.old cores (P.seen policy.old)) }
+    ensures number { result.d ≡ d }
+    ensures granularity { result.granularity ≡ guests.old.granularity }
+    ensures domain { at_place guests.old.domains d.0 ≡ Some result.domain }
+    ensures part { IsPart result }
+    ensures guests { guests.new ≡ record guests.old { domains = clear_at d.0 guests.old.domains; spare = guests.old.spare + unit_count_spec result.granularity result.domain } }
+    ensures spare { (P.seen policy.new).spare ≡ (P.seen policy.old).spare + units_of (P.seen policy.old).scheduler d.0 }
+    ensures latest { (P.seen policy.new).latest ≡ (P.seen policy.old).latest }
+{
+    policy.part(d);
+    guests.take(d)
 }
