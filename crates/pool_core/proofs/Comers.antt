@@ -1,15 +1,14 @@
 -- A domain that joins a pool: its units may come to wait.
-use Rattle.std.proofs.Common.{◌≡◌, ◌<◌, ◌≤◌, ◌+◌, ◌-◌, ◌*◌, ◌/◌, ℕ, Bool, true, false, List, refl, sym, ap, subst, ◌∙◌, arith, length}
+use Rattle.std.proofs.Common.{◌≡◌, ◌<◌, ◌≤◌, ◌+◌, ◌-◌, ℕ, Bool, true, false, List, refl, sym, ap, subst, ◌∙◌, arith, length}
 use Rattle.std.specs.Prelude.{Option, Some, None, option_map, replicate}
 use Rattle.std.proofs.lemmas.Bool.{lt-ltb}
 use Rattle.std.proofs.lemmas.List.{length-replicate}
 use Rattle.std.proofs.lemmas.Nat.{le-div}
 use Rattle.sched_base.specs.declared.Cores.{Cores}
-use Rattle.sched_base.specs.declared.UnitId.{UnitId}
 use Rattle.sched_model.specs.declared.config.DomParams.{DomParams}
 use Rattle.sched_model.specs.declared.state.Domain.{Domain}
 use Rattle.sched_model.specs.declared.state.Pool.{Pool}
-use Rattle.sched_model.specs.Places.{at_place, has_unit, put_at}
+use Rattle.sched_model.specs.Places.{at_place, has_unit}
 use Rattle.sched_model.specs.Policy.{all_cores, join}
 use Rattle.sched_model.specs.Pool.{unit_count}
 use Rattle.sched_laws.proofs.Counts.{times_has, times_some}
@@ -59,8 +58,8 @@ module _ (g t d : ℕ) (pool : Pool) (holds : Holds g t pool) (absent : at_place
   comers_may n domain params low below = record {
     member =
         let count : units_of (join d (unit_count g domain) params t pool.scheduler) d ≡ unit_count g domain =
-            ap (λ (o : Option (List Cores)). elim o as (λ _. ℕ) [ None ↦ 0 | Some sets ↦ length sets ]) (at_place-put_at d (replicate (unit_count g domain) all_cores) pool.scheduler.affinity (subst (λ (k : ℕ). d < k) (sym holds.members.places) low))
-            ∙ length-replicate (unit_count g domain) all_cores in
+        ap (λ (o : Option (List Cores)). elim o as (λ _. ℕ) [ None ↦ 0 | Some sets ↦ length sets ]) (at_place-put_at d (replicate (unit_count g domain) all_cores) pool.scheduler.affinity (subst (λ (k : ℕ). d < k) (sym holds.members.places) low))
+        ∙ length-replicate (unit_count g domain) all_cores in
         lt-ltb n (units_of (join d (unit_count g domain) params t pool.scheduler) d) (subst (λ (k : ℕ). n < k) (sym count) below);
     waits_not = absent_waits_not n;
     off = λ none. by_on (is_on (join d (unit_count g domain) params t pool.scheduler).records (unit_id d n)) refl;

@@ -1,6 +1,6 @@
 -- A domain that goes on after a pause, and one that parts.
-use Rattle.std.proofs.Common.{◌≡◌, ◌≢◌, ◌<◌, ◌≤◌, ◌+◌, ◌/◌, ℕ, Bool, true, false, List, refl, sym, ap, subst, ◌∙◌, cond, arith, length}
-use Rattle.std.specs.Prelude.{Option, Some, None, option_map, is_none, is_some, not, slice_get, nat_lt, ◌&&◌, ◌||◌}
+use Rattle.std.proofs.Common.{◌≡◌, ◌<◌, ◌/◌, ℕ, Bool, true, false, List, refl, sym, ap, subst, ◌∙◌, cond, arith, length}
+use Rattle.std.specs.Prelude.{Option, Some, None, option_map, is_none, is_some, not, slice_get, ◌&&◌}
 use Rattle.std.specs.List.{list_any}
 use Rattle.std.specs.Option.{ForSome}
 use Rattle.std.proofs.lemmas.Bool.{lt-ltb}
@@ -16,7 +16,7 @@ use Rattle.sched_model.specs.declared.state.Vcpu.{Vcpu}
 use Rattle.sched_model.specs.Places.{at_place, has_unit, numbers_from, test_at}
 use Rattle.sched_model.specs.Pool.{change_domain, enabled_in, is_of_domain, is_off, queue_units, unit_count, unit_of, unpause, vcpu_of}
 use Rattle.sched_model.specs.State.{is_awake, is_runnable, unit_runnable, vcpus_of_unit}
-use Rattle.sched_laws.proofs.Bools.{and_left, both, clash, or_left}
+use Rattle.sched_laws.proofs.Bools.{and_left, both, or_left}
 use Rattle.sched_laws.proofs.Counts.{one_at, times_has, times_some, total_at}
 use Rattle.sched_laws.proofs.Lists.{is_some_at, some-test_at}
 use Rattle.sched_laws.proofs.OnePlace.{OnePlace, core_places, off_is, one_same}

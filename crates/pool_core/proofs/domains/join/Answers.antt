@@ -16,10 +16,10 @@ queue_units-requires g c =
     let before : Pool = pool_of c.args.guests.now c.args.cores.now (g.P.Policy.seen c.args.policy.now) in
     let count : c.unit_count-count.result ≡ unit_count c.args.guests.now.granularity c.args.part.domain = c.unit_count-count.ensures.count ∙ ap (λ (k : ℕ). unit_count k c.args.part.domain) c.requires.granularity in
     let scheduler : (g.P.Policy.seen c.join.new.self).scheduler ≡ policy.join c.args.part.d.0 (unit_count c.args.guests.now.granularity c.args.part.domain) c.args.params.now c.args.t.0 (g.P.Policy.seen c.args.policy.now).scheduler =
-        c.join.ensures.scheduler ∙ ap (λ (k : ℕ). policy.join c.args.part.d.0 k c.args.params.now c.args.t.0 (g.P.Policy.seen c.args.policy.now).scheduler) count in
+    c.join.ensures.scheduler ∙ ap (λ (k : ℕ). policy.join c.args.part.d.0 k c.args.params.now c.args.t.0 (g.P.Policy.seen c.args.policy.now).scheduler) count in
     let after : pool_of c.add.new.self c.args.cores.now (g.P.Policy.seen c.join.new.self) ≡ joined c.args.guests.now.granularity c.args.t.0 c.args.part.d.0 c.args.part.domain c.args.params.now before =
-        ap (λ (x : guests.Seen). pool_of x c.args.cores.now (g.P.Policy.seen c.join.new.self)) c.add.ensures
-        ∙ ap (λ (s : Scheduler). record before { domains = put_at c.args.part.d.0 c.args.part.domain c.args.guests.now.domains; scheduler = s }) scheduler in
+    ap (λ (x : guests.Seen). pool_of x c.args.cores.now (g.P.Policy.seen c.join.new.self)) c.add.ensures
+    ∙ ap (λ (s : Scheduler). record before { domains = put_at c.args.part.d.0 c.args.part.domain c.args.guests.now.domains; scheduler = s }) scheduler in
     record {
       may = λ n low. subst (λ (pool : Pool). MayQueue pool (unit_id c.args.part.d.0 n)) (sym after)
           (comers_may c.args.guests.now.granularity c.args.t.0 c.args.part.d.0 before c.requires.holds c.requires.absent n c.args.part.domain c.args.params.now c.requires.place (subst (λ (k : ℕ). n < k) count low));
