@@ -13,3 +13,5 @@ pub mod Queueing
 pub mod Comers
 pub mod Order
 pub mod Moments
+pub mod Withdrawing
+pub mod Goers
