@@ -47,7 +47,7 @@ pub has_unit : (g : ℕ) (domain : Domain) → 0 < g → 1 ≤ length domain.vcp
 has_unit g domain some vcpus = le-div 1 (length domain.vcpus + g - 1) g some (let e : 1 * g ≡ g = grind arith in omega (arith, e, vcpus))
 
 -- what is queued changes neither domains nor cores
-queued_same : (P : Pool → Type 0) → ((a b : Pool) → b.domains ≡ a.domains → b.resources ≡ a.resources → P a → P b) → (g d : ℕ) (ns : List ℕ) (pool : Pool) → P pool → P (pools.queue_units g d ns pool)
+pub queued_same : (P : Pool → Type 0) → ((a b : Pool) → b.domains ≡ a.domains → b.resources ≡ a.resources → P a → P b) → (g d : ℕ) (ns : List ℕ) (pool : Pool) → P pool → P (pools.queue_units g d ns pool)
 queued_same P same g d [] pool here = here
 queued_same P same g d (n ∷ ns) pool here =
     let u : UnitId = record { dom = domain_number d; n = n } in

@@ -6,6 +6,7 @@ pub mod ActedWorks
 pub mod Joining
 pub mod Woken
 pub mod Giving
+pub mod Commanding
 pub mod Coming
 pub mod Acting
 pub mod Replenishing
@@ -15,3 +16,4 @@ pub mod Order
 pub mod Moments
 pub mod Withdrawing
 pub mod Goers
+pub mod Parting

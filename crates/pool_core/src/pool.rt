@@ -2,7 +2,7 @@
 
 use crate::deciding::{decide, replenish};
 use crate::doing::{arrive, block, guest_of, leave};
-use crate::domains::{join, pause, set_moving, unpause};
+use crate::domains::{join, pause, set_moving, take, unpause};
 use crate::due::{first_enabled, next_moment};
 use crate::settling::settle;
 use crate::waking::{save, wake};
@@ -43,7 +43,7 @@ impl<P: Policy> Model for PoolState<P> {
 }
 
 impl<P: Policy> PoolState<P> {
-    ghost use Rattle.std.specs.Prelude.{◌≡◌, ◌≤◌, ◌<◌, ◌-◌, ◌*◌, true, IfOk, None, length};
+    ghost use Rattle.std.specs.Prelude.{◌≡◌, ◌≤◌, ◌<◌, ◌+◌, ◌-◌, ◌*◌, true, IfOk, None, Some, length};
     ghost use Rattle.sched_model.specs.Checked.{IsGranularity};
     ghost use Rattle.sched_model.specs.Places.{at_place};
     ghost use Rattle.sched_model.specs.Policy.{default_pool_params, kind_of};
@@ -53,8 +53,8 @@ impl<P: Policy> PoolState<P> {
     ghost use Rattle.plain_pool.specs.Own.{IsOfPool};
     ghost use Rattle.unit_state.specs.Parts.{IsPart};
     ghost use Rattle.pool_core.specs.Order.{IsFirstEnabled, IsNextMoment};
-    ghost use Rattle.sched_model.specs.declared.action.Action.TheVariants.{Arrive, Block, Decide, Leave, Refill, Repl, Save, Slice, Wake};
-    ghost use Rattle.sched_model.specs.Pool.{enabled_in, event_in, pause as pause_spec, processor_of, set_leaving, set_moving as set_moving_spec, settled, unit_count, unpause as unpause_spec, with_domain};
+    ghost use Rattle.sched_model.specs.declared.action.Action.TheVariants.{Arrive, Block, Decide, DomMoved, Leave, Refill, Repl, Save, Slice, Wake};
+    ghost use Rattle.sched_model.specs.Pool.{enabled_in, event_in, pause as pause_spec, processor_of, set_leaving, set_moving as set_moving_spec, settled, unit_count, unpause as unpause_spec, with_domain, without_domain};
     ghost use Rattle.pool_core.specs.Seen.{IsEmpty, IsNow, happened, seen_at, vacant, with_core, with_spare, with_stall};
 
     /// A pool with so many places for domains and for cores of 1, 2 or 4 processors each, at most 64 domains and 64 processors, and room
@@ -131,6 +131,18 @@ impl<P: Policy> PoolState<P> {
         );
         self.latest = t;
         self.look();
+    }
+
+    /// A domain that is moving, and no unit of which a core has, goes out.
+    pub fn take_domain(&mut self, d: DomId) -> DomPart
+        requires ready { enabled_in self.old.granularity self.old.latest self.old.pool (DomMoved d.0) ≡ true }
+        ensures number { result.d ≡ d }
+        ensures granularity { result.granularity ≡ self.old.granularity }
+        ensures domain { at_place self.old.pool.domains d.0 ≡ Some result.domain }
+        ensures part { IsPart result }
+        ensures after { self.new ≡ with_spare (self.old.spare + unit_count result.granularity result.domain) (record self.old { pool = without_domain d.0 self.old.pool }) }
+    {
+        take(&mut self.guests, &mut self.policy, d)
     }
 
     /// A core is leaving; it is to decide where it has a unit.
