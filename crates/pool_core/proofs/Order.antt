@@ -1,5 +1,5 @@
 -- The first event of a pool, from the first of each kind.
-use Rattle.std.proofs.Common.{◌≡◌, ◌≤◌, ◌<◌, ℕ, suc, List, Bool, true, false, refl, sym, ap, subst, ◌∙◌, cond, inl, inr, arith}
+use Rattle.std.proofs.Common.{◌≡◌, ◌≤◌, ◌<◌, ℕ, suc, List, Bool, true, false, refl, sym, ap, subst, ◌∙◌, inl, inr, arith}
 use Rattle.std.specs.Prelude.{Option, Some, None, option_map, ◌==◌, ◌&&◌, ◌||◌, is_some, nat_le, max, if◌then◌else◌}
 use Rattle.std.proofs.Math.Decide.{ℕ_discrete}
 use Rattle.std.proofs.lemmas.Bool.{cases_lt}
@@ -38,7 +38,7 @@ use Rattle.core_state.specs.Firsts.{IsFirstCome}
 use Rattle.core_state.specs.Seen.{Seen as CoresSeen, processor_among}
 use Rattle.pool_core.specs.Kept.{AreWorks}
 use Rattle.pool_core.specs.Seen.{pool_of}
-use Rattle.pool_core.specs.Order.{IsFirst, IsFirstEnabled, IsFirstIn, IsFirstOf, IsNotAfter, index_place, kind_place, subject_place}
+use Rattle.pool_core.specs.Order.{IsFirstEnabled, IsFirstIn, IsNotAfter, index_place, kind_place, subject_place}
 
 never : (b : Bool) → (b ≡ true → ⊥) → b ≡ false
 never true not_so = absurd (not_so refl)
@@ -250,8 +250,8 @@ module _ (g t : ℕ) (pool : Pool) where
   of_numbers k make ends None made kind subject index may none = empty_kind k (λ i n. ap (enabled_in g t pool) (made i n) ∙ may i ∙ none i)
   of_numbers k make ends (Some i) made kind subject index may first =
       one_kind k (make i) (kind i) (may i ∙ first.0) (λ j n on.
-          let e = made j n in
-          subst (IsNotAfter (make i)) (sym e) (after j (subst (λ (a : Action). enabled_in g t pool a ≡ true) e on)))
+      let e = made j n in
+      subst (IsNotAfter (make i)) (sym e) (after j (subst (λ (a : Action). enabled_in g t pool a ≡ true) e on)))
     where
       after : (j : ℕ) → enabled_in g t pool (make j) ≡ true → IsNotAfter (make i) (make j)
       after j on = record {
@@ -315,11 +315,11 @@ module _ (g t : ℕ) (pool : Pool) where
       record { by_kind = omega arith; then_by_subject = λ same. order.by_domain; then_by_index = λ same also. order.then_by_unit also }))
   first_timer on (timer.Refill d) due up first = joined 7 8 9 (Some (Refill d.0)) (omega arith)
       (empty_kind 7 (λ i n.
-          let w : UnitId = record { dom = domain i; n = n } in
-          never _ (λ may. never_both t pool.scheduler w d.0 (and_left _ _ (sym (timer_may on (timer.Repl w)) ∙ may)) due)))
+      let w : UnitId = record { dom = domain i; n = n } in
+      never _ (λ may. never_both t pool.scheduler w d.0 (and_left _ _ (sym (timer_may on (timer.Repl w)) ∙ may)) due)))
       (one_kind 8 (Refill d.0) refl (timer_may on (timer.Refill d) ∙ and_both _ _ due up) (λ i n may.
-          let order = first (timer.Refill (domain i)) (and_left _ _ (sym (timer_may on (timer.Refill (domain i))) ∙ may)) in
-          record { by_kind = omega arith; then_by_subject = λ same. order.by_domain; then_by_index = λ same also. omega arith }))
+      let order = first (timer.Refill (domain i)) (and_left _ _ (sym (timer_may on (timer.Refill (domain i))) ∙ may)) in
+      record { by_kind = omega arith; then_by_subject = λ same. order.by_domain; then_by_index = λ same also. omega arith }))
 
 -- a moment that has come
 pub come_at : (t : ℕ) (o : Option Moment) → has_come t o ≡ true → (at : Moment) × (o ≡ Some at) × (at.0 ≤ t)

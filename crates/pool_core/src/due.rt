@@ -49,17 +49,16 @@ fn first_timer<P: Policy>(cores: &CoreState, policy: &P, t: Moment) -> Option<Ac
     }
     match policy.timer_due(t) {
         None => None,
-        Some((at, timer)) => if at.0 <= t.0 { Some(action_of(timer)) } else { None },
+        Some((at, timer)) => if at.0 <= t.0 {
+            Some(action_of(timer))
+        } else {
+            None
+        },
     }
 }
 
 /// The first event that may come at t, of those that come at a moment of their own: wakes, blocks, slices and timers.
-fn first_due<P: Policy>(
-    guests: &Guests,
-    cores: &CoreState,
-    policy: &P,
-    t: Moment,
-) -> Option<Action>
+fn first_due<P: Policy>(guests: &Guests, cores: &CoreState, policy: &P, t: Moment) -> Option<Action>
     requires same { cores.now.granularity ≡ guests.now.granularity }
     requires works { AreWorks guests.now.granularity cores.now.works (pool_of guests.now cores.now (P.seen policy.now)) }
     requires on { AreOn (pool_of guests.now cores.now (P.seen policy.now)) }
