@@ -1,5 +1,5 @@
 -- The least moment at which an event of a pool may come, from those of its guests, of its cores and of its timers.
-use Rattle.std.proofs.Common.{◌≡◌, ◌≤◌, ◌⊎◌, ℕ, Bool, true, false, List, refl, sym, ap, subst, ◌∙◌, inl, inr, arith}
+use Rattle.std.proofs.Common.{◌≡◌, ◌≤◌, ◌⊎◌, ℕ, true, false, List, refl, sym, ap, subst, ◌∙◌, inl, inr, arith}
 use Rattle.std.specs.Prelude.{IfNone, IfSome, Option, Some, None, nat_le, option_map}
 use Rattle.std.proofs.lemmas.Bool.Decides.{nat_tests}
 use Rattle.sched_base.specs.Numbers.{domain}
@@ -11,7 +11,6 @@ use Rattle.sched_model.specs.declared.action.Action.TheVariants.{Stall, Xl, Move
 use Rattle.sched_model.specs.declared.state.Domain.{Domain}
 use Rattle.sched_model.specs.declared.state.Pool.{Pool}
 use Rattle.sched_model.specs.declared.state.Scheduler.{Scheduler}
-use Rattle.sched_model.specs.Pool.{enabled_in}
 use Rattle.plain_pool.specs.Own.{IsOfPool}
 use Rattle.pool_laws.specs.Ready.{end_of, later, lowest_end, ready_in, work_end}
 use Rattle.pool_laws.proofs.Readiness.{ready}

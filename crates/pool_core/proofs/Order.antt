@@ -1,5 +1,5 @@
 -- The first event of a pool, from the first of each kind.
-use Rattle.std.proofs.Common.{◌≡◌, ◌≤◌, ◌<◌, ℕ, suc, List, Bool, true, false, refl, sym, ap, subst, ◌∙◌, cond, inl, inr, arith}
+use Rattle.std.proofs.Common.{◌≡◌, ◌≤◌, ◌<◌, ℕ, suc, List, Bool, true, false, refl, sym, ap, subst, ◌∙◌, inl, inr, arith}
 use Rattle.std.specs.Prelude.{Option, Some, None, option_map, ◌==◌, ◌&&◌, ◌||◌, is_some, nat_le, max, if◌then◌else◌}
 use Rattle.std.proofs.Math.Decide.{ℕ_discrete}
 use Rattle.std.proofs.lemmas.Bool.{cases_lt}
@@ -38,7 +38,7 @@ use Rattle.core_state.specs.Firsts.{IsFirstCome}
 use Rattle.core_state.specs.Seen.{Seen as CoresSeen, processor_among}
 use Rattle.pool_core.specs.Kept.{AreWorks}
 use Rattle.pool_core.specs.Seen.{pool_of}
-use Rattle.pool_core.specs.Order.{IsFirst, IsFirstEnabled, IsFirstIn, IsFirstOf, IsNotAfter, index_place, kind_place, subject_place}
+use Rattle.pool_core.specs.Order.{IsFirstEnabled, IsFirstIn, IsNotAfter, index_place, kind_place, subject_place}
 
 never : (b : Bool) → (b ≡ true → ⊥) → b ≡ false
 never true not_so = absurd (not_so refl)

@@ -1,4 +1,4 @@
-use Rattle.std.proofs.Common.{◌≡◌, ℕ, subst, arith}
+use Rattle.std.proofs.Common.{ℕ, subst, arith}
 use Rattle.std.specs.Prelude.{Some}
 use Rattle.sched_model.specs.declared.state.Pool.{Pool}
 use Rattle.pool_core.specs.Order.{IsFirstIn}
