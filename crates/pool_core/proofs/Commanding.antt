@@ -1,5 +1,5 @@
 -- What a pool's state keeps after its domains pause, go on or begin to move.
-use Rattle.std.proofs.Common.{◌≡◌, ◌≤◌, ℕ, Bool, true, false, List, refl, sym, ap, subst, ◌∙◌, cond, arith}
+use Rattle.std.proofs.Common.{◌≡◌, ◌≤◌, ℕ, true, false, List, refl, sym, ap, subst, ◌∙◌, cond, arith}
 use Rattle.std.specs.Prelude.{Option, Some, None, option_map, slice_get}
 use Rattle.std.proofs.Math.Decide.{ℕ_discrete}
 use Rattle.sched_base.specs.Numbers.{pool as pool_number}
@@ -16,7 +16,7 @@ use Rattle.sched_model.specs.Pool.{change_domain, done_at, is_of_domain, pause, 
 use Rattle.sched_model.proofs.PlaceLemmas.{at_place-change_at_other}
 use Rattle.sched_laws.proofs.EachPlace.{by_cond, by_option}
 use Rattle.plain_credit2.proofs.Items.{at_place-change_at}
-use Rattle.unit_state.specs.Seen.{Seen as GuestsSeen, done_among}
+use Rattle.unit_state.specs.Seen.{Seen as GuestsSeen}
 use Rattle.core_state.specs.Seen.{Seen as CoresSeen}
 use Rattle.sched_ops.specs.Seen.{Seen as SchedulerSeen}
 use Rattle.pool_kept.specs.Holds.{Holds}

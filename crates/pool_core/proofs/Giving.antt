@@ -1,5 +1,5 @@
 -- A domain that comes into a pool.
-use Rattle.std.proofs.Common.{◌≡◌, ◌≢◌, ◌≤◌, ◌<◌, ◌+◌, ◌-◌, ◌*◌, ◌/◌, ℕ, zero, suc, Bool, true, false, List, [], ◌∷◌, refl, sym, ap, subst, ◌∙◌, cond, inl, inr, arith, length}
+use Rattle.std.proofs.Common.{◌≡◌, ◌≤◌, ◌<◌, ◌+◌, ◌-◌, ◌*◌, ℕ, List, [], ◌∷◌, refl, sym, ap, subst, ◌∙◌, inl, inr, arith, length}
 use Rattle.std.specs.Prelude.{Option, Some, None, slice_get, ◌&&◌}
 use Rattle.std.proofs.Math.Decide.{ℕ_discrete}
 use Rattle.std.proofs.lemmas.Nat.{le-div}
@@ -24,7 +24,6 @@ use Rattle.sched_laws.proofs.EachPlace.{at_place-put_at_other, by_cond, read_put
 use Rattle.sched_records.proofs.Counts.{Matches}
 use Rattle.sched_ops.specs.Conditions.{AreDomParams}
 use Rattle.unit_state.specs.Seen.{done_among}
-use Rattle.plain_pool.specs.Fits.{vcpu_among}
 use Rattle.pool_core.specs.Kept.{AreWorks}
 use Rattle.pool_core.specs.Seen.{guest_among}
 use Rattle.pool_core.proofs.Works.{done_by}

@@ -1,6 +1,6 @@
 -- A domain that goes out of a pool.
-use Rattle.std.proofs.Common.{◌≡◌, ◌≢◌, ◌≤◌, ◌+◌, ◌/◌, ℕ, Bool, true, false, List, refl, sym, ap, subst, ◌∙◌, arith}
-use Rattle.std.specs.Prelude.{Option, Some, None, slice_get, ◌||◌}
+use Rattle.std.proofs.Common.{◌≡◌, ◌≢◌, ◌+◌, ◌/◌, ℕ, true, List, refl, sym, ap, subst, ◌∙◌, arith}
+use Rattle.std.specs.Prelude.{Option, Some, None, slice_get}
 use Rattle.sched_base.specs.declared.Moment.{Moment}
 use Rattle.sched_base.specs.declared.VcpuId.{VcpuId}
 use Rattle.sched_model.specs.declared.action.Action.TheVariants.{DomMoved}
@@ -8,7 +8,7 @@ use Rattle.sched_model.specs.declared.state.Domain.{Domain}
 use Rattle.sched_model.specs.declared.state.Pool.{Pool}
 use Rattle.sched_model.specs.declared.state.Vcpu.{Vcpu}
 use Rattle.sched_model.specs.Places.{at_place, clear_at}
-use Rattle.sched_model.specs.Pool.{done_at, enabled_in, guest_of, is_of_domain, unit_count, unit_of, without_domain}
+use Rattle.sched_model.specs.Pool.{done_at, enabled_in, is_of_domain, unit_count, unit_of, without_domain}
 use Rattle.sched_laws.proofs.Bools.{or_left}
 use Rattle.sched_laws.proofs.EachPlace.{at_place-clear_at_other}
 use Rattle.sched_laws.proofs.Known.{IsKnownPool}
@@ -19,7 +19,7 @@ use Rattle.pool_kept.specs.Holds.{Holds}
 use Rattle.pool_kept.proofs.Kept.{domain_goes}
 use Rattle.pool_kept.proofs.Units.{none_of_domain, other_domain}
 use Rattle.pool_core.specs.Kept.{AreWorks, IsKept}
-use Rattle.pool_core.specs.Seen.{guest_among, pool_of}
+use Rattle.pool_core.specs.Seen.{Seen, guest_among, pool_of, with_spare}
 use Rattle.pool_core.proofs.Asking.{guest_at}
 use Rattle.pool_core.proofs.Withdrawing.{units_known}
 use Rattle.pool_core.proofs.Works.{done_by}
@@ -59,3 +59,17 @@ taken_kept t d guests next cores s s2 domain keeps on at is guests_are spare lat
       };
       pool = subst (λ (g : ℕ). Holds g t (pool_of next cores s2)) (sym same) (subst (λ (p : Pool). Holds guests.granularity t p) (sym is) (domain_goes guests.granularity t d pool on keeps.pool));
     }
+
+-- what is seen of it
+pub parted_seen : (d k latest : ℕ) (guests next : GuestsSeen) (cores : CoresSeen) (s s2 : SchedulerSeen) (domain : Domain) (before : Seen) → pool_of next cores s2 ≡ without_domain d (pool_of guests cores s)
+    → next ≡ record guests { domains = clear_at d guests.domains; spare = guests.spare + unit_count k domain }
+    → ◌≡◌ {A = Seen} (record { pool = pool_of guests cores s; granularity = guests.granularity; spare = guests.spare; latest = latest }) before
+    → ◌≡◌ {A = Seen} (record { pool = pool_of next cores s2; granularity = next.granularity; spare = next.spare; latest = latest }) (with_spare (before.spare + unit_count k domain) (record before { pool = without_domain d before.pool }))
+parted_seen d k latest guests next cores s s2 domain before pool guests_are is =
+    let a : ◌≡◌ {A = Seen} (record { pool = pool_of next cores s2; granularity = next.granularity; spare = next.spare; latest = latest })
+    (record { pool = without_domain d (pool_of guests cores s); granularity = next.granularity; spare = next.spare; latest = latest }) =
+    ap (λ (p : Pool). record { pool = p; granularity = next.granularity; spare = next.spare; latest = latest }) pool in
+    let b : ◌≡◌ {A = Seen} (record { pool = without_domain d (pool_of guests cores s); granularity = next.granularity; spare = next.spare; latest = latest })
+    (record { pool = without_domain d (pool_of guests cores s); granularity = guests.granularity; spare = guests.spare + unit_count k domain; latest = latest }) =
+    ap (λ (x : GuestsSeen). record { pool = without_domain d (pool_of guests cores s); granularity = x.granularity; spare = x.spare; latest = latest }) guests_are in
+    a ∙ b ∙ ap (λ (x : Seen). with_spare (x.spare + unit_count k domain) (record x { pool = without_domain d x.pool })) is

@@ -1,4 +1,4 @@
-use Rattle.std.proofs.Common.{◌≡◌, ◌≤◌, ℕ, refl, sym, subst}
+use Rattle.std.proofs.Common.{sym, subst}
 use Rattle.sched_model.specs.declared.state.Pool.{Pool}
 use Rattle.sched_model.specs.Pool.{pause}
 use Rattle.pool_kept.proofs.Kept.{later, pauses}
