@@ -1,21 +1,20 @@
 -- The moments at which the works in hand are done, after each event of a pool.
-use Rattle.std.proofs.Common.{◌≡◌, ◌<◌, ◌≤◌, ◌+◌, ◌*◌, ◌/◌, ◌%◌, ◌⊎◌, ℕ, Bool, true, false, List, refl, sym, ap, subst, ◌∙◌, cond, inl, inr, arith, length}
+use Rattle.std.proofs.Common.{◌≡◌, ◌<◌, ◌≤◌, ◌+◌, ◌*◌, ◌/◌, ◌%◌, ℕ, Bool, true, false, List, refl, sym, ap, subst, ◌∙◌, cond, inl, inr, arith, length}
 use Rattle.std.specs.Prelude.{Option, Some, None, option_map, slice_set, not, ◌&&◌}
 use Rattle.std.specs.List.{list_any}
 use Rattle.std.proofs.lemmas.Bool.{cases_lt}
 use Rattle.std.proofs.lemmas.Nat.{div-mul-add, mod-mul-add, mod_below}
-use Rattle.sched_base.specs.Numbers.{moment}
 use Rattle.sched_base.specs.declared.Moment.{Moment}
 use Rattle.sched_base.specs.declared.UnitId.{UnitId}
 use Rattle.sched_base.specs.declared.VcpuId.{VcpuId}
-use Rattle.sched_model.specs.declared.action.Action.TheVariants.{Arrive, Block, Decide, Leave, Refill, Repl, Save, Slice, Wake}
-use Rattle.sched_model.specs.declared.state.Doing.TheVariants.{Guest, Idle, Held}
+use Rattle.sched_model.specs.declared.action.Action.TheVariants.{Arrive, Block, Decide, Leave, Repl, Save, Slice, Wake}
+use Rattle.sched_model.specs.declared.state.Doing.TheVariants.{Idle, Held}
 use Rattle.sched_model.specs.declared.state.Pool.{Pool}
 use Rattle.sched_model.specs.declared.state.Processor.{Processor}
 use Rattle.sched_model.specs.declared.state.Resource.{Resource}
 use Rattle.sched_model.specs.declared.state.Vcpu.{Vcpu}
 use Rattle.sched_model.specs.Checked.{IsGranularity}
-use Rattle.sched_model.specs.Places.{at_place, change_at, first_place, is_unit, put_at, test_at}
+use Rattle.sched_model.specs.Places.{at_place, change_at, is_unit, put_at, test_at}
 use Rattle.sched_model.specs.Policy.{decision_of, replenish, rtds_record}
 use Rattle.sched_model.specs.Eligible.{Decision}
 use Rattle.sched_model.specs.Pool as pools
@@ -30,7 +29,6 @@ use Rattle.plain_pool.specs.Fits.{vcpu_among}
 use Rattle.core_state.specs.Seen.{processor_among}
 use Rattle.core_state.proofs.Arming.{core_of_past}
 use Rattle.unit_state.specs.Seen.{done_among}
-use Rattle.pool_kept.specs.Holds.{Holds}
 use Rattle.pool_core.specs.Doing.{parted_with, work_of}
 use Rattle.pool_core.specs.Kept.{AreWorks}
 use Rattle.pool_core.specs.Waking.{done_started, idles_among, joined_works, woken_works}

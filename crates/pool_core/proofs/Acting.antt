@@ -1,26 +1,25 @@
 -- What a pool's state keeps after an event, and after its cores were looked at.
-use Rattle.std.proofs.Common.{◌≡◌, ◌≤◌, ◌<◌, ◌*◌, ℕ, Bool, true, false, List, refl, sym, ap, subst, ◌∙◌, cond, arith, length}
-use Rattle.std.specs.Prelude.{Option, Some, None, ◌&&◌, slice_get}
+use Rattle.std.proofs.Common.{◌≡◌, ◌≤◌, ℕ, Bool, true, false, List, refl, sym, ap, subst, ◌∙◌, arith}
+use Rattle.std.specs.Prelude.{Option, Some, None}
 use Rattle.sched_base.specs.declared.Moment.{Moment}
 use Rattle.sched_base.specs.declared.VcpuId.{VcpuId}
 use Rattle.sched_model.specs.declared.action.Action.{Action}
 use Rattle.sched_model.specs.declared.action.Action.TheVariants.{Block, Wake}
-use Rattle.sched_model.specs.declared.state.Domain.{Domain}
 use Rattle.sched_model.specs.declared.state.Pool.{Pool}
 use Rattle.sched_model.specs.declared.state.Resource.{Resource}
 use Rattle.sched_model.specs.declared.state.Vcpu.{Vcpu}
 use Rattle.sched_model.specs.Checked.{most_span}
-use Rattle.sched_model.specs.Places.{at_place, change_each}
+use Rattle.sched_model.specs.Places.{change_each}
 use Rattle.sched_model.specs.declared.state.Doing.TheVariants.{Held}
-use Rattle.sched_model.specs.Pool.{after_arrive, after_block, after_in, change_processor, change_vcpu, does, stopped, cores_from, done_at, enabled_in, guest_of, processor_of, reconsidered, settled, vcpu_of}
-use Rattle.sched_model.specs.State.{has_come, is_up}
+use Rattle.sched_model.specs.Pool.{after_arrive, after_block, after_in, change_processor, change_vcpu, does, stopped, cores_from, done_at, enabled_in, guest_of, reconsidered, settled, vcpu_of}
+use Rattle.sched_model.specs.State.{has_come}
 use Rattle.sched_laws.proofs.Bools.{and_left}
 use Rattle.sched_laws.proofs.EachPlace.{by_cond}
 use Rattle.plain_pool.specs.Fits.{vcpu_among}
 use Rattle.pool_kept.specs.Holds.{Holds}
 use Rattle.pool_kept.proofs.Kept as kept
 use Rattle.unit_state.specs.Kept.{KeepsGuests}
-use Rattle.unit_state.specs.Seen.{Seen as GuestsSeen, done_among, is_due_among, wake_among}
+use Rattle.unit_state.specs.Seen.{Seen as GuestsSeen, done_among, is_due_among}
 use Rattle.unit_state.proofs.GuestLemmas.{come_there}
 use Rattle.unit_state.proofs.PlaceLemmas.{vcpu_there}
 use Rattle.core_state.specs.Seen.{Seen as CoresSeen}

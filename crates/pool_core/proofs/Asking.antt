@@ -1,29 +1,24 @@
 -- What is known of the units of a pool's cores: they may be asked for, and each is the own unit of one core.
-use Rattle.std.proofs.Common.{◌≡◌, ◌≢◌, ◌<◌, ◌≤◌, ◌+◌, ◌*◌, ◌/◌, ◌%◌, ◌⊎◌, ℕ, Bool, true, false, List, refl, sym, ap, subst, ◌∙◌, cond, inl, inr, arith, length}
-use Rattle.std.specs.Prelude.{Option, Some, None, slice_get, is_some, nat_lt, option_map, not, ◌&&◌, ◌||◌, ◌-◌}
-use Rattle.std.specs.List.{list_any}
-use Rattle.std.specs.Option.{ForSome}
+use Rattle.std.proofs.Common.{◌≡◌, ◌≤◌, ◌+◌, ◌/◌, ◌%◌, ℕ, Bool, true, false, List, refl, sym, ap, subst, ◌∙◌, inl, inr, arith, length}
+use Rattle.std.specs.Prelude.{Option, Some, None, not, ◌&&◌, ◌||◌, ◌-◌}
 use Rattle.std.proofs.Math.Decide.{ℕ_discrete}
 use Rattle.sched_base.specs.declared.UnitId.{UnitId}
 use Rattle.sched_base.specs.declared.VcpuId.{VcpuId}
-use Rattle.sched_model.specs.declared.state.Doing.TheVariants.{Guest}
 use Rattle.sched_model.specs.declared.state.Pool.{Pool}
-use Rattle.sched_model.specs.declared.state.Processor.{Processor}
 use Rattle.sched_model.specs.declared.state.Resource.{Resource}
-use Rattle.sched_model.specs.declared.state.Scheduler.{Scheduler}
 use Rattle.sched_model.specs.declared.state.Domain.{Domain}
 use Rattle.sched_model.specs.declared.state.Vcpu.{Vcpu}
-use Rattle.sched_model.specs.Places.{at_place, change_item, has_unit, is_unit, numbered}
+use Rattle.sched_model.specs.Places.{at_place, change_item, has_unit, is_unit}
 use Rattle.sched_model.specs.Pool.{change_vcpu, guest_of, is_off, saving_among, unit_count, unit_of}
 use Rattle.sched_model.specs.State.{is_runnable}
 use Rattle.sched_laws.specs.Each.{EachPlace}
 use Rattle.sched_laws.proofs.Bools.{or_left}
-use Rattle.sched_laws.proofs.Counts.{total, total_at, total_two, times, times_has, times_some, one_at, same_unit_refl}
+use Rattle.sched_laws.proofs.Counts.{total_at, total_two, times_has, times_some, one_at, same_unit_refl}
 use Rattle.sched_laws.proofs.Lists.{at_numbered, length_change_item, none_passes}
-use Rattle.sched_laws.proofs.OnePlace.{OnePlace, core_places, off_is, places, one_same}
+use Rattle.sched_laws.proofs.OnePlace.{OnePlace, core_places, off_is, one_same}
 use Rattle.sched_laws.proofs.Known.{IsKnownPool}
 use Rattle.sched_laws.proofs.Sound.{guest_of_is}
-use Rattle.sched_ops.specs.Conditions.{IsAway, IsOwn, IsOwnOf, is_member, is_on, may_be_on}
+use Rattle.sched_ops.specs.Conditions.{IsAway, is_on}
 use Rattle.pool_kept.proofs.Alike.{Alike, alike_change_at, alike_members, alike_refl, core_face, found_core}
 use Rattle.pool_kept.proofs.Members.{runnable_member}
 use Rattle.pool_kept.specs.Holds.{Holds}

@@ -1,5 +1,5 @@
 -- A domain that comes into a pool.
-use Rattle.std.proofs.Common.{◌≡◌, ◌≢◌, ◌≤◌, ◌<◌, ◌+◌, ◌-◌, ◌*◌, ◌/◌, ℕ, zero, suc, Bool, true, false, List, [], ◌∷◌, refl, sym, ap, subst, ◌∙◌, cond, inl, inr, arith, length}
+use Rattle.std.proofs.Common.{◌≡◌, ◌≤◌, ◌<◌, ◌+◌, ◌-◌, ◌*◌, ℕ, List, [], ◌∷◌, refl, sym, ap, subst, ◌∙◌, inl, inr, arith, length}
 use Rattle.std.specs.Prelude.{Option, Some, None, slice_get, ◌&&◌}
 use Rattle.std.proofs.Math.Decide.{ℕ_discrete}
 use Rattle.std.proofs.lemmas.Nat.{le-div}
@@ -24,7 +24,6 @@ use Rattle.sched_laws.proofs.EachPlace.{at_place-put_at_other, by_cond, read_put
 use Rattle.sched_records.proofs.Counts.{Matches}
 use Rattle.sched_ops.specs.Conditions.{AreDomParams}
 use Rattle.unit_state.specs.Seen.{done_among}
-use Rattle.plain_pool.specs.Fits.{vcpu_among}
 use Rattle.pool_core.specs.Kept.{AreWorks}
 use Rattle.pool_core.specs.Seen.{guest_among}
 use Rattle.pool_core.proofs.Works.{done_by}
@@ -47,7 +46,7 @@ pub has_unit : (g : ℕ) (domain : Domain) → 0 < g → 1 ≤ length domain.vcp
 has_unit g domain some vcpus = le-div 1 (length domain.vcpus + g - 1) g some (let e : 1 * g ≡ g = grind arith in omega (arith, e, vcpus))
 
 -- what is queued changes neither domains nor cores
-queued_same : (P : Pool → Type 0) → ((a b : Pool) → b.domains ≡ a.domains → b.resources ≡ a.resources → P a → P b) → (g d : ℕ) (ns : List ℕ) (pool : Pool) → P pool → P (pools.queue_units g d ns pool)
+pub queued_same : (P : Pool → Type 0) → ((a b : Pool) → b.domains ≡ a.domains → b.resources ≡ a.resources → P a → P b) → (g d : ℕ) (ns : List ℕ) (pool : Pool) → P pool → P (pools.queue_units g d ns pool)
 queued_same P same g d [] pool here = here
 queued_same P same g d (n ∷ ns) pool here =
     let u : UnitId = record { dom = domain_number d; n = n } in

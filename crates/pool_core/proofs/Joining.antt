@@ -1,11 +1,10 @@
 -- The processor of a vCPU that wakes, among its siblings.
-use Rattle.std.proofs.Common.{◌≡◌, ◌<◌, ◌≤◌, ◌+◌, ◌*◌, ◌/◌, ◌%◌, ℕ, suc, Bool, true, false, List, refl, sym, ap, subst, ◌∙◌, cond, arith, length}
+use Rattle.std.proofs.Common.{◌≡◌, ◌<◌, ◌≤◌, ◌+◌, ◌*◌, ◌%◌, ℕ, suc, Bool, true, false, refl, sym, subst, cond, arith}
 use Rattle.std.specs.Prelude.{Option, Some, None}
 use Rattle.std.proofs.lemmas.Nat.{mod_below, mul-le}
 use Rattle.sched_base.specs.declared.VcpuId.{VcpuId}
 use Rattle.sched_model.specs.declared.state.Pool.{Pool}
 use Rattle.sched_model.specs.declared.state.Processor.{Processor}
-use Rattle.sched_model.specs.declared.state.Resource.{Resource}
 use Rattle.sched_model.specs.Pool as pools
 use Rattle.sched_model.specs.Pool.{core_of, joined_siblings, processor_of, started_on, unit_of}
 use Rattle.pool_core.specs.Waking.{idles_among}

@@ -6,8 +6,14 @@ pub mod ActedWorks
 pub mod Joining
 pub mod Woken
 pub mod Giving
+pub mod Commanding
 pub mod Coming
 pub mod Acting
 pub mod Replenishing
 pub mod Queueing
 pub mod Comers
+pub mod Order
+pub mod Moments
+pub mod Withdrawing
+pub mod Goers
+pub mod Parting

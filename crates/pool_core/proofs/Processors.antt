@@ -1,10 +1,9 @@
 -- What a processor does after a change of a core or of a processor.
-use Rattle.std.proofs.Common.{◌≡◌, ◌≢◌, ◌<◌, ◌+◌, ◌*◌, ◌/◌, ◌%◌, ◌⊎◌, ℕ, zero, suc, Bool, true, false, List, [], ◌∷◌, refl, sym, ap, subst, ◌∙◌, cond, inl, inr, arith}
+use Rattle.std.proofs.Common.{◌≡◌, ◌≢◌, ◌+◌, ◌*◌, ◌/◌, ◌%◌, ℕ, zero, suc, List, [], ◌∷◌, refl, sym, ap, subst, ◌∙◌}
 use Rattle.std.specs.Prelude.{Option, Some, None, option_map, slice_get}
 use Rattle.std.proofs.Math.Decide.{ℕ_discrete}
 use Rattle.std.proofs.lemmas.Nat.{div-add-mod'}
 use Rattle.sched_base.specs.declared.VcpuId.{VcpuId}
-use Rattle.sched_model.specs.declared.state.Doing.{Doing}
 use Rattle.sched_model.specs.declared.state.Doing.TheVariants.{Guest, Idle, Held}
 use Rattle.sched_model.specs.declared.state.Processor.{Processor}
 use Rattle.sched_model.specs.declared.state.Resource.{Resource}
@@ -14,7 +13,6 @@ use Rattle.sched_model.proofs.PlaceLemmas.{at_place-change_at_other}
 use Rattle.sched_laws.proofs.EachPlace.{at_place-change_each}
 use Rattle.plain_credit2.proofs.Items.{at_place-change_at}
 use Rattle.core_state.specs.Seen.{processor_among, with_sibling}
-use Rattle.pool_core.specs.Seen.{guest_among}
 
 -- what a processor runs
 abbrev pub run_by : Option Processor → Option VcpuId

@@ -1,13 +1,13 @@
 -- A vCPU wakes, and its unit finds its place.
-use Rattle.std.proofs.Common.{◌≡◌, ◌<◌, ◌/◌, ℕ, Bool, true, false, List, refl, sym, ap, subst, ◌∙◌, cond}
-use Rattle.std.specs.Prelude.{Option, Some, None, is_none, ◌||◌, option_map}
+use Rattle.std.proofs.Common.{◌≡◌, ℕ, Bool, true, false, List, sym, ap, subst, ◌∙◌, cond}
+use Rattle.std.specs.Prelude.{Option, Some, None, is_none, option_map}
 use Rattle.sched_base.specs.declared.Moment.{Moment}
 use Rattle.sched_base.specs.declared.VcpuId.{VcpuId}
 use Rattle.sched_model.specs.declared.state.Domain.{Domain}
 use Rattle.sched_model.specs.declared.state.Pool.{Pool}
 use Rattle.sched_model.specs.declared.state.Vcpu.{Vcpu}
 use Rattle.sched_model.specs.Pool.{after_wake, change_vcpu, is_off, joined_siblings, queue_unit, unit_of, woken}
-use Rattle.sched_model.specs.State.{has_come, is_runnable}
+use Rattle.sched_model.specs.State.{is_runnable}
 use Rattle.plain_pool.specs.Fits.{vcpu_among}
 use Rattle.unit_state.specs.Seen.{change_among, is_awake_among, is_due_among}
 use Rattle.unit_state.proofs.GuestLemmas.{come_among}

@@ -1,24 +1,24 @@
 -- The moments at which the works in hand are done, after a change of a core, a processor or a vCPU.
-use Rattle.std.proofs.Common.{◌≡◌, ◌≢◌, ◌<◌, ◌/◌, ◌%◌, ◌⊎◌, ℕ, Bool, true, false, List, refl, sym, ap, subst, ◌∙◌, cond, inl, inr, arith, length}
-use Rattle.std.specs.Prelude.{Option, Some, None, option_map, slice_get, slice_set, ◌*◌, ◌+◌}
+use Rattle.std.proofs.Common.{◌≡◌, ◌≢◌, ◌<◌, ◌⊎◌, ℕ, List, refl, sym, ap, subst, ◌∙◌, inl, inr, length}
+use Rattle.std.specs.Prelude.{Option, Some, None, option_map, slice_set}
 use Rattle.std.proofs.Math.Decide.{ℕ_discrete}
 use Rattle.std.proofs.lemmas.List.{get_or-set_same, get_or-set_other}
 use Rattle.sched_base.specs.Numbers.{moment, domain as domain_number}
 use Rattle.sched_base.specs.declared.Moment.{Moment}
 use Rattle.sched_base.specs.declared.VcpuId.{VcpuId}
 use Rattle.sched_model.specs.declared.state.Doing.{Doing}
-use Rattle.sched_model.specs.declared.state.Doing.TheVariants.{Guest, Idle, Held}
+use Rattle.sched_model.specs.declared.state.Doing.TheVariants.{Guest}
 use Rattle.sched_model.specs.declared.state.Domain.{Domain}
 use Rattle.sched_model.specs.declared.state.Pool.{Pool}
 use Rattle.sched_model.specs.declared.state.Processor.{Processor}
 use Rattle.sched_model.specs.declared.state.Resource.{Resource}
 use Rattle.sched_model.specs.declared.state.Vcpu.{Vcpu}
-use Rattle.sched_model.specs.Places.{at_place, change_at, change_each, clear_at}
+use Rattle.sched_model.specs.Places.{at_place, change_each}
 use Rattle.sched_model.specs.Pool.{change_core, change_processor, change_vcpu, does, done_at, guest_of, processor_of, started_on, woken}
 use Rattle.pool_laws.specs.Ready.{work_end}
 use Rattle.sched_laws.proofs.EachPlace.{at_place-clear_at, at_place-clear_at_other}
 use Rattle.plain_pool.specs.Fits.{vcpu_among}
-use Rattle.core_state.specs.Seen.{processor_among, with_sibling}
+use Rattle.core_state.specs.Seen.{processor_among}
 use Rattle.unit_state.specs.Seen.{change_among, done_among}
 use Rattle.unit_state.proofs.PlaceLemmas.{AreOthers, vcpu_among-change_among, vcpu_among-change_among_other}
 use Rattle.pool_core.specs.Kept.{AreWorks}

@@ -1,5 +1,5 @@
 -- What a domain asks of its pool that joins it, pauses, goes on or parts.
-use Rattle.std.specs.Prelude.{ℕ, ◌≡◌, false, true, List, Option}
+use Rattle.std.specs.Prelude.{ℕ, ◌≡◌, false, true}
 use Rattle.sched_base.specs.Numbers.{domain}
 use Rattle.sched_base.specs.declared.UnitId.{UnitId}
 use Rattle.sched_model.specs.declared.state.Pool.{Pool}

@@ -1,19 +1,27 @@
 //! Domains that join a pool, pause, go on and part. g is the number of a core's processors.
 
-ghost use Rattle.std.specs.Prelude.{◌≡◌, ◌≤◌, ◌<◌, ◌-◌, ℕ, None, length};
-ghost use Rattle.sched_model.specs.Places.{at_place, numbers_from, put_at};
-ghost use Rattle.sched_model.specs.Policy.{kind_of};
-ghost use Rattle.sched_model.specs.Pool.{queue_if_off as queue_if_off_spec, queue_units as queue_units_spec, unit_count as unit_count_spec, with_domain};
-ghost use Rattle.sched_ops.specs.Conditions.{AreDomParams, IsNow};
-ghost use Rattle.unit_state.specs.Parts.{IsPart};
-ghost use Rattle.pool_kept.specs.Holds.{Holds};
+ghost use Rattle.std.specs.Prelude.{◌≡◌, ◌≤◌, ◌<◌, ◌+◌, ◌-◌, ◌&&◌, not, true, is_some, ℕ, None, Some, length};
+ghost use Rattle.std.specs.Option.{ForSome};
+ghost use Rattle.sched_model.specs.declared.state.Resource.{Resource};
+ghost use Rattle.sched_model.specs.Places.{at_place, change_each, clear_at, has_unit, numbers_from, put_at, test_at};
+ghost use Rattle.sched_model.specs.Policy.{dequeue_domain as dequeue_domain_spec, kind_of};
+ghost use Rattle.sched_model.specs.Pool.{is_of_domain as is_of_domain_spec, pause as pause_spec, queue_if_off as queue_if_off_spec, queue_units as queue_units_spec, set_moving as set_moving_spec, unit_count as unit_count_spec, unpause as unpause_spec, with_domain, without_domain};
+ghost use Rattle.sched_model.specs.State.{runnable_among};
+ghost use Rattle.sched_laws.proofs.OnePlace.{OnePlace};
+ghost use Rattle.sched_ops.specs.Seen.{dequeue as dequeue_spec, units_of, with_scheduler};
+ghost use Rattle.core_state.specs.Seen.{Seen as CoresSeen, changed_core};
+ghost use Rattle.plain_pool.specs.Marks.{pending_of};
+ghost use Rattle.sched_ops.specs.Conditions.{AreDomParams, HasNoneBusy, IsNow, has_joined};
+ghost use Rattle.unit_state.specs.Parts.{IsPart, IsStill};
+ghost use Rattle.pool_kept.specs.Holds.{AreOn, HasMembers, Holds};
 ghost use Rattle.pool_core.specs.Seen.{pool_of};
 ghost use Rattle.pool_core.specs.Domains.{MayQueue, unit_id};
-ghost use Rattle.pool_core.specs.Waking.{KeepsRoom};
+ghost use Rattle.pool_core.specs.Waking.{is_held_among, KeepsRoom};
 
 use core_state::CoreState;
 use plain_pool::domains::unit_count;
-use sched_base::{DomId, Moment, UnitId};
+use plain_units::units::is_of_domain;
+use sched_base::{DomId, Moment, PoolId, UnitId};
 use sched_model::config::DomParams;
 use sched_ops::Policy;
 use unit_state::{DomPart, Guests};
@@ -76,4 +84,135 @@ pub fn join<P: Policy>(
     guests.add(part);
     policy.join(d, count, params, t);
     queue_units(guests, cores, policy, d, count);
+}
+
+/// Whether the unit, which waits exactly where it is runnable and no core has it, does so.
+fn is_waiting(guests: &Guests, cores: &CoreState, u: UnitId) -> bool
+    ensures { result ≡ (runnable_among guests.now.granularity guests.now.domains u && not (is_held_among cores.now.resources u)) }
+{
+    guests.runnable(u) && !cores.has_unit(u)
+}
+
+/// The unit, which waits exactly where it is runnable and no core has it, waits no more.
+fn dequeue<P: Policy>(guests: &Guests, cores: &CoreState, policy: &mut P, u: UnitId)
+    requires waits { has_unit (P.seen policy.old).scheduler.queue u ≡ (runnable_among guests.now.granularity guests.now.domains u && not (is_held_among cores.now.resources u)) }
+    ensures { P.seen policy.new ≡ with_scheduler (dequeue_spec u (P.seen policy.old).scheduler) (P.seen policy.old) }
+{
+    if is_waiting(guests, cores, u) {
+        policy.dequeue(u);
+    }
+}
+
+/// None of the domain's units waits any more.
+fn dequeue_domain<P: Policy>(guests: &Guests, cores: &CoreState, policy: &mut P, d: DomId)
+    requires some { 0 < guests.now.granularity }
+    requires one { OnePlace guests.now.granularity (pool_of guests.now cores.now (P.seen policy.old)) }
+    requires members { HasMembers guests.now.granularity (pool_of guests.now cores.now (P.seen policy.old)) }
+    ensures { P.seen policy.new ≡ with_scheduler (dequeue_domain_spec d.0 (P.seen policy.old).scheduler) (P.seen policy.old) }
+{
+    for n in 0..guests.unit_count(d) {
+        dequeue(guests, cores, policy, UnitId { dom: d, n });
+    }
+}
+
+/// Whether the core's own unit is one of the domain.
+fn runs_one_of(cores: &CoreState, d: DomId, r: u8) -> bool
+    ensures { result ≡ test_at cores.now.resources r (λ (c : Resource). is_of_domain_spec d.0 c.cur) }
+{
+    match cores.core(r) {
+        None => false,
+        Some(c) => is_of_domain(d.0, c.cur),
+    }
+}
+
+/// The core is to decide anew where its own unit is one of the domain.
+fn mark_core(cores: &mut CoreState, d: DomId, r: u8)
+    ensures { cores.new ≡ changed_core r (pending_of d.0 r) cores.old }
+{
+    if runs_one_of(cores, d, r) {
+        cores.set_pending(r);
+    }
+}
+
+/// The cores whose own unit is one of the domain are to decide anew.
+fn mark_cores_of(cores: &mut CoreState, d: DomId)
+    ensures { cores.new ≡ record cores.old { resources = change_each 0 (pending_of d.0) cores.old.resources } }
+{
+    for r in 0..cores.places() {
+        mark_core(cores, d, r);
+    }
+}
+
+/// A domain that is not paused is paused: none of its units waits any more, and the cores that have one as their own are to decide
+/// anew.
+pub fn pause<P: Policy>(guests: &mut Guests, cores: &mut CoreState, policy: &mut P, d: DomId)
+    requires one { OnePlace guests.old.granularity (pool_of guests.old cores.old (P.seen policy.old)) }
+    requires members { HasMembers guests.old.granularity (pool_of guests.old cores.old (P.seen policy.old)) }
+    ensures pool { pool_of guests.new cores.new (P.seen policy.new) ≡ pause_spec d.0 (pool_of guests.old cores.old (P.seen policy.old)) }
+    ensures guests { guests.new ≡ record guests.old { domains = guests.new.domains } }
+    ensures cores { cores.new ≡ record cores.old { resources = cores.new.resources } }
+    ensures room { KeepsRoom (P.seen policy.old) (P.seen policy.new) }
+{
+    if !guests.is_paused(d) {
+        guests.keeps();
+        dequeue_domain(guests, cores, policy, d);
+        guests.set_paused(d, true);
+        mark_cores_of(cores, d);
+    }
+}
+
+/// The domain is moving to the pool: none of its units waits any more, and the cores that have one as their own are to decide anew.
+pub fn set_moving<P: Policy>(
+    guests: &mut Guests,
+    cores: &mut CoreState,
+    policy: &mut P,
+    d: DomId,
+    to: PoolId,
+)
+    requires one { OnePlace guests.old.granularity (pool_of guests.old cores.old (P.seen policy.old)) }
+    requires members { HasMembers guests.old.granularity (pool_of guests.old cores.old (P.seen policy.old)) }
+    ensures pool { pool_of guests.new cores.new (P.seen policy.new) ≡ set_moving_spec d.0 to.0 (pool_of guests.old cores.old (P.seen policy.old)) }
+    ensures guests { guests.new ≡ record guests.old { domains = guests.new.domains } }
+    ensures cores { cores.new ≡ record cores.old { resources = cores.new.resources } }
+    ensures room { KeepsRoom (P.seen policy.old) (P.seen policy.new) }
+{
+    guests.keeps();
+    dequeue_domain(guests, cores, policy, d);
+    guests.set_moving(d, Some(to));
+    mark_cores_of(cores, d);
+}
+
+/// A domain that is paused is so no longer: its units wait that are runnable and that no core has.
+pub fn unpause<P: Policy>(guests: &mut Guests, cores: &CoreState, policy: &mut P, d: DomId)
+    requires one { OnePlace guests.old.granularity (pool_of guests.old cores.now (P.seen policy.old)) }
+    requires members { HasMembers guests.old.granularity (pool_of guests.old cores.now (P.seen policy.old)) }
+    requires on { AreOn (pool_of guests.old cores.now (P.seen policy.old)) }
+    ensures pool { pool_of guests.new cores.now (P.seen policy.new) ≡ unpause_spec guests.old.granularity d.0 (pool_of guests.old cores.now (P.seen policy.old)) }
+    ensures guests { guests.new ≡ record guests.old { domains = guests.new.domains } }
+    ensures room { KeepsRoom (P.seen policy.old) (P.seen policy.new) }
+{
+    if guests.is_paused(d) {
+        let count = guests.unit_count(d);
+        guests.set_paused(d, false);
+        queue_units(guests, cores, policy, d, count);
+    }
+}
+
+/// The domain parts from the pool. None of its units waits or is on, and none of its vCPUs is started.
+pub fn take<P: Policy>(guests: &mut Guests, policy: &mut P, d: DomId) -> DomPart
+    requires here { is_some (at_place guests.old.domains d.0) ≡ true }
+    requires still { ForSome (at_place guests.old.domains d.0) IsStill }
+    requires joined { has_joined (P.seen policy.old).scheduler d.0 ≡ true }
+    requires idle { HasNoneBusy (P.seen policy.old).scheduler d.0 }
+    ensures pool { (cores : CoresSeen) → pool_of guests.new cores (P.seen policy.new) ≡ without_domain d.0 (pool_of guests.old cores (P.seen policy.old)) }
+    ensures number { result.d ≡ d }
+    ensures granularity { result.granularity ≡ guests.old.granularity }
+    ensures domain { at_place guests.old.domains d.0 ≡ Some result.domain }
+    ensures part { IsPart result }
+    ensures guests { guests.new ≡ record guests.old { domains = clear_at d.0 guests.old.domains; spare = guests.old.spare + unit_count_spec result.granularity result.domain } }
+    ensures spare { (P.seen policy.new).spare ≡ (P.seen policy.old).spare + units_of (P.seen policy.old).scheduler d.0 }
+    ensures latest { (P.seen policy.new).latest ≡ (P.seen policy.old).latest }
+{
+    policy.part(d);
+    guests.take(d)
 }

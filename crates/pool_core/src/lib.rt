@@ -7,6 +7,7 @@
 mod deciding;
 mod doing;
 pub mod domains;
+mod due;
 pub mod pool;
 mod settling;
 mod waking;

@@ -2,12 +2,14 @@
 
 use crate::deciding::{decide, replenish};
 use crate::doing::{arrive, block, guest_of, leave};
-use crate::domains::join;
+use crate::domains::{join, pause, set_moving, take, unpause};
+use crate::due::{first_enabled, next_moment};
 use crate::settling::settle;
 use crate::waking::{save, wake};
 use core_state::CoreState;
 use plain_pool::leaving::fresh_core;
-use sched_base::{DomId, Moment, NoMemory, ProcId, ResId, UnitId, VcpuId};
+use sched_base::{DomId, Moment, NoMemory, PoolId, ProcId, ResId, UnitId, VcpuId};
+use sched_model::action::Action;
 use sched_model::config::{DomParams, PoolParams};
 use sched_model::event::Event;
 use sched_model::facts::ResPart;
@@ -41,16 +43,18 @@ impl<P: Policy> Model for PoolState<P> {
 }
 
 impl<P: Policy> PoolState<P> {
-    ghost use Rattle.std.specs.Prelude.{◌≡◌, ◌≤◌, ◌<◌, ◌-◌, ◌*◌, true, IfOk, None, length};
+    ghost use Rattle.std.specs.Prelude.{◌≡◌, ◌≤◌, ◌<◌, ◌+◌, ◌-◌, ◌*◌, true, IfOk, None, Some, length};
     ghost use Rattle.sched_model.specs.Checked.{IsGranularity};
     ghost use Rattle.sched_model.specs.Places.{at_place};
     ghost use Rattle.sched_model.specs.Policy.{default_pool_params, kind_of};
     ghost use Rattle.sched_ops.specs.Conditions.{AreDomParams, ArePoolParams, is_vacant};
     ghost use Rattle.sched_ops.specs.Seen.{restarted};
     ghost use Rattle.core_state.specs.Seen.{stall_until};
+    ghost use Rattle.plain_pool.specs.Own.{IsOfPool};
     ghost use Rattle.unit_state.specs.Parts.{IsPart};
-    ghost use Rattle.sched_model.specs.declared.action.Action.TheVariants.{Arrive, Block, Decide, Leave, Refill, Repl, Save, Slice, Wake};
-    ghost use Rattle.sched_model.specs.Pool.{enabled_in, event_in, processor_of, set_leaving, settled, unit_count, with_domain};
+    ghost use Rattle.pool_core.specs.Order.{IsFirstEnabled, IsNextMoment};
+    ghost use Rattle.sched_model.specs.declared.action.Action.TheVariants.{Arrive, Block, Decide, DomMoved, Leave, Refill, Repl, Save, Slice, Wake};
+    ghost use Rattle.sched_model.specs.Pool.{enabled_in, event_in, pause as pause_spec, processor_of, set_leaving, set_moving as set_moving_spec, settled, unit_count, unpause as unpause_spec, with_domain, without_domain};
     ghost use Rattle.pool_core.specs.Seen.{IsEmpty, IsNow, happened, seen_at, vacant, with_core, with_spare, with_stall};
 
     /// A pool with so many places for domains and for cores of 1, 2 or 4 processors each, at most 64 domains and 64 processors, and room
@@ -129,6 +133,18 @@ impl<P: Policy> PoolState<P> {
         self.look();
     }
 
+    /// A domain that is moving, and no unit of which a core has, goes out.
+    pub fn take_domain(&mut self, d: DomId) -> DomPart
+        requires ready { enabled_in self.old.granularity self.old.latest self.old.pool (DomMoved d.0) ≡ true }
+        ensures number { result.d ≡ d }
+        ensures granularity { result.granularity ≡ self.old.granularity }
+        ensures domain { at_place self.old.pool.domains d.0 ≡ Some result.domain }
+        ensures part { IsPart result }
+        ensures after { self.new ≡ with_spare (self.old.spare + unit_count result.granularity result.domain) (record self.old { pool = without_domain d.0 self.old.pool }) }
+    {
+        take(&mut self.guests, &mut self.policy, d)
+    }
+
     /// A core is leaving; it is to decide where it has a unit.
     pub fn set_leaving(&mut self, r: ResId)
         ensures { self.new ≡ record self.old { pool = set_leaving r.0 self.old.pool } }
@@ -156,6 +172,74 @@ impl<P: Policy> PoolState<P> {
         requires now { IsNow self.old t.0 }
         ensures { self.new ≡ seen_at t.0 (settled t.0 self.old.pool) self.old }
     {
+        self.latest = t;
+        self.look();
+    }
+
+    /// The first event of the pool that may come at t: by kind, then by number and index. `None` where none may.
+    pub fn first_enabled(&self, t: Moment) -> Option<Action>
+        ensures { IsFirstEnabled self.now.granularity t.0 self.now.pool result }
+    {
+        first_enabled(&self.guests, &self.cores, &self.policy, t)
+    }
+
+    /// The least moment at which an event of the pool may come. `None` where none may ever, while nothing else happens.
+    pub fn next_moment(&self) -> Option<Moment>
+        ensures { IsNextMoment self.now.granularity self.now.pool result }
+    {
+        next_moment(&self.guests, &self.cores, &self.policy)
+    }
+
+    /// An event of the pool that may come at t.
+    pub fn perform(&mut self, action: Action, t: Moment) -> Event
+        requires now { IsNow self.old t.0 }
+        requires own { IsOfPool action }
+        requires enabled { enabled_in self.old.granularity t.0 self.old.pool action ≡ true }
+        ensures event { result ≡ event_in self.old.granularity t.0 self.old.pool action }
+        ensures after { self.new ≡ happened t.0 action self.old }
+    {
+        match action {
+            Action::Wake(v) => self.wake(v, t),
+            Action::Block(p) => self.block(ProcId(p), t),
+            Action::Slice(r) => self.slice(ResId(r), t),
+            Action::Repl(u) => self.replenish(u, t),
+            Action::Refill(d) => self.refill(DomId(d), t),
+            Action::Arrive(p) => self.arrive(ProcId(p), t),
+            Action::Decide(r) => self.decide(ResId(r), t),
+            Action::Leave(p) => self.leave(ProcId(p), t),
+            Action::Save(r) => self.save(ResId(r), t),
+            Action::Stall | Action::Xl | Action::Moved(_) | Action::DomMoved(_) => unreachable!(),
+        }
+    }
+
+    /// A domain is paused: its units stop waiting, and the cores that run one are to decide anew. Where it is not here or paused
+    /// already, nothing changes but by the look at the cores.
+    pub fn pause(&mut self, d: DomId, t: Moment)
+        requires now { IsNow self.old t.0 }
+        ensures { self.new ≡ seen_at t.0 (settled t.0 (pause_spec d.0 self.old.pool)) self.old }
+    {
+        pause(&mut self.guests, &mut self.cores, &mut self.policy, d);
+        self.latest = t;
+        self.look();
+    }
+
+    /// A domain goes on: its units that are runnable wait. Where it is not here or not paused, nothing changes but by the look at
+    /// the cores.
+    pub fn unpause(&mut self, d: DomId, t: Moment)
+        requires now { IsNow self.old t.0 }
+        ensures { self.new ≡ seen_at t.0 (settled t.0 (unpause_spec self.old.granularity d.0 self.old.pool)) self.old }
+    {
+        unpause(&mut self.guests, &self.cores, &mut self.policy, d);
+        self.latest = t;
+        self.look();
+    }
+
+    /// A domain is moving to a pool: its units stop waiting, and the cores that run one are to decide anew.
+    pub fn set_moving(&mut self, d: DomId, to: PoolId, t: Moment)
+        requires now { IsNow self.old t.0 }
+        ensures { self.new ≡ seen_at t.0 (settled t.0 (set_moving_spec d.0 to.0 self.old.pool)) self.old }
+    {
+        set_moving(&mut self.guests, &mut self.cores, &mut self.policy, d, to);
         self.latest = t;
         self.look();
     }

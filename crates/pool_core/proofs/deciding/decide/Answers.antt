@@ -1,4 +1,4 @@
-use Rattle.std.proofs.Common.{◌≡◌, ◌<◌, ◌≤◌, ◌*◌, length, sym, subst, arith}
+use Rattle.std.proofs.Common.{◌<◌, length, sym, subst, arith}
 use Rattle.sched_laws.proofs.EachPlace.{place_below}
 use Rattle.sched_ops.specs.Conditions.{IsAsked}
 use Rattle.core_state.proofs.Arming.{few_places}

@@ -1,4 +1,4 @@
-use Rattle.std.proofs.Common.{refl, ◌≤◌, arith}
+use Rattle.std.proofs.Common.{arith}
 use Rattle.pool_core.proofs.Queueing.{queued_all, queued_first, queued_next}
 use Rattle.pool_core.proofs.domains.queue_units.Goals as goal
 

@@ -1,11 +1,10 @@
-use Rattle.std.proofs.Common.{◌≡◌, ◌≤◌, ◌<◌, ◌+◌, ◌*◌, length, ℕ, suc, List, refl, sym, ap, subst, ◌∙◌, arith}
+use Rattle.std.proofs.Common.{length, ℕ, List, refl, sym, ap, ◌∙◌, arith}
 use Rattle.std.specs.Prelude.{Option}
 use Rattle.sched_model.specs.declared.state.Resource.{Resource}
-use Rattle.sched_model.specs.Places.{at_place, change_at, change_each}
-use Rattle.sched_model.specs.Pool.{cores_from, reconsidered}
+use Rattle.sched_model.specs.Places.{at_place, change_each}
+use Rattle.sched_model.specs.Pool.{reconsidered}
 use Rattle.core_state.specs.Seen.{Seen, changed_core}
 use Rattle.core_state.proofs.Arming.{few_places}
-use Rattle.pool_core.specs.Settling.{MayAsk, change_first}
 use Rattle.pool_core.proofs.Settled.{first-next, first-all, first-rest}
 use Rattle.pool_core.proofs.settling.settle.Goals as goal
 

@@ -1,4 +1,4 @@
-use Rattle.std.proofs.Common.{◌≤◌, arith}
+use Rattle.std.proofs.Common.{arith}
 use Rattle.sched_model.specs.Policy.{default_pool_params, kind_of}
 use Rattle.core_state.proofs.ChangeLemmas.{some_siblings}
 use Rattle.pool_core.proofs.Coming.{room_kept}

@@ -1,12 +1,9 @@
-use Rattle.std.proofs.Common.{◌≡◌, ◌≤◌, ◌*◌, ℕ, true, List, refl, sym, ap, subst, ◌∙◌, arith, length}
-use Rattle.std.specs.Prelude.{Option}
-use Rattle.sched_base.specs.declared.Moment.{Moment}
+use Rattle.std.proofs.Common.{◌≡◌, ◌≤◌, ◌*◌, ℕ, true, sym, subst, arith, length}
 use Rattle.sched_model.specs.declared.action.Action.TheVariants.{Wake}
 use Rattle.sched_model.specs.declared.state.Pool.{Pool}
 use Rattle.sched_model.specs.Checked.{IsGranularity}
 use Rattle.sched_model.specs.Pool.{enabled_in}
 use Rattle.unit_state.specs.Seen.{is_due_among}
-use Rattle.pool_kept.proofs.Kept.{later}
 use Rattle.pool_core.specs.Seen.{IsNow, Seen, pool_of}
 use Rattle.pool_core.specs.Waking.{woken_works}
 use Rattle.pool_core.proofs.Acting.{acted, wake_due, wake_still}

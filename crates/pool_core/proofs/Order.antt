@@ -1,0 +1,345 @@
+-- The first event of a pool, from the first of each kind.
+use Rattle.std.proofs.Common.{◌≡◌, ◌≤◌, ◌<◌, ℕ, suc, List, Bool, true, false, refl, sym, ap, subst, ◌∙◌, inl, inr, arith}
+use Rattle.std.specs.Prelude.{Option, Some, None, option_map, ◌==◌, ◌&&◌, ◌||◌, is_some, nat_le, max, if◌then◌else◌}
+use Rattle.std.proofs.Math.Decide.{ℕ_discrete}
+use Rattle.std.proofs.lemmas.Bool.{cases_lt}
+use Rattle.std.proofs.lemmas.Bool.Decides.{nat_tests}
+use Rattle.sched_base.specs.Numbers.{domain, moment}
+use Rattle.sched_base.specs.declared.Moment.{Moment}
+use Rattle.sched_base.specs.declared.UnitId.{UnitId}
+use Rattle.sched_base.specs.declared.VcpuId.{VcpuId}
+use Rattle.sched_model.specs.State.{has_come}
+use Rattle.sched_model.specs.declared.action.Action.{Action}
+use Rattle.sched_model.specs.declared.action.Action.TheVariants.{Stall, Xl, Moved, DomMoved, Wake, Block, Slice, Repl, Refill, Arrive, Decide, Leave, Save}
+use Rattle.sched_model.specs.declared.state.Pool.{Pool}
+use Rattle.sched_model.specs.declared.state.Records.{Records}
+use Rattle.sched_model.specs.declared.state.Records.TheVariants.{Credit2Pool, RtdsPool, ArincPool, NullPool}
+use Rattle.sched_model.specs.declared.state.RtdsUnit.{RtdsUnit}
+use Rattle.sched_model.specs.declared.state.Scheduler.{Scheduler}
+use Rattle.sched_model.specs.Places.{has_unit}
+use Rattle.sched_model.specs.Policy.{next_refill, rtds_record}
+use Rattle.sched_model.specs.Pool.{core_of, enabled_in}
+use Rattle.sched_laws.proofs.Bools.{and_left, both as and_both, clash}
+use Rattle.plain_pool.specs.Own.{IsOfPool}
+use Rattle.pool_laws.specs.Ready.{deadline_of, end_of, later, lowest_end, ready_in, when, work_end}
+use Rattle.pool_laws.proofs.Readiness.{ready}
+use Rattle.pool_kept.specs.Holds.{AreOn}
+use Rattle.pool_kept.proofs.Alike.{found_core}
+use Rattle.sched_ops.specs.Conditions.{is_on, may_be_on}
+use Rattle.sched_ops.specs.Seen.{Seen as SchedulerSeen}
+use Rattle.sched_ops.specs.Timers.{Armed, action_of, timer_at}
+use Rattle.sched_ops.specs.declared.timer.Timer.{Timer}
+use Rattle.sched_ops.specs.declared.timer.Timer.TheVariants as timer
+use Rattle.timer_laws.specs.Armed.{armed_at, IsNotAfter as IsTimerNotAfter}
+use Rattle.timer_laws.proofs.Law as law
+use Rattle.unit_state.specs.Seen.{Seen as GuestsSeen, is_due_among, IsNotAfter as IsVcpuNotAfter}
+use Rattle.core_state.specs.Ends.{ready_among}
+use Rattle.core_state.specs.Firsts.{IsFirstCome}
+use Rattle.core_state.specs.Seen.{Seen as CoresSeen, processor_among}
+use Rattle.pool_core.specs.Kept.{AreWorks}
+use Rattle.pool_core.specs.Seen.{pool_of}
+use Rattle.pool_core.specs.Order.{IsFirstEnabled, IsFirstIn, IsNotAfter, index_place, kind_place, subject_place}
+
+never : (b : Bool) → (b ≡ true → ⊥) → b ≡ false
+never true not_so = absurd (not_so refl)
+never false not_so = refl
+
+-- the action of the kind at a place, by the number and the index of its subject
+abbrev action_at : ℕ → ℕ → ℕ → Action
+action_at k i n =
+    let v : VcpuId = record { dom = domain i; n = n } in
+    let u : UnitId = record { dom = domain i; n = n } in
+    if k == 0
+    then Stall
+    else if k == 1 then Xl
+    else if k == 2 then Moved i
+    else if k == 3 then DomMoved i
+    else if k == 4 then Wake v
+    else if k == 5 then Block i
+    else if k == 6 then Slice i
+    else if k == 7 then Repl u
+    else if k == 8 then Refill i
+    else if k == 9 then Arrive i
+    else if k == 10 then Decide i
+    else if k == 11 then Leave i
+    else Save i
+
+at_own : (a : Action) → action_at (kind_place a) (subject_place a) (index_place a) ≡ a
+at_own Stall = refl
+at_own Xl = refl
+at_own (Moved r) = refl
+at_own (DomMoved d) = refl
+at_own (Wake v) = refl
+at_own (Block p) = refl
+at_own (Slice r) = refl
+at_own (Repl u) = refl
+at_own (Refill d) = refl
+at_own (Arrive p) = refl
+at_own (Decide r) = refl
+at_own (Leave p) = refl
+at_own (Save r) = refl
+
+-- an action of a kind
+of_kind : (k : ℕ) (a : Action) → kind_place a ≡ k → action_at k (subject_place a) (index_place a) ≡ a
+of_kind k a is = subst (λ (j : ℕ). action_at j (subject_place a) (index_place a) ≡ a) is (at_own a)
+
+-- the events of a pool are those from the wakes on
+pub from_wakes : (a : Action) → IsOfPool a → 4 ≤ kind_place a
+from_wakes Stall of = absurd of
+from_wakes Xl of = absurd of
+from_wakes (Moved r) of = absurd of
+from_wakes (DomMoved d) of = absurd of
+from_wakes (Wake v) of = omega arith
+from_wakes (Block p) of = omega arith
+from_wakes (Slice r) of = omega arith
+from_wakes (Repl u) of = omega arith
+from_wakes (Refill d) of = omega arith
+from_wakes (Arrive p) of = omega arith
+from_wakes (Decide r) of = omega arith
+from_wakes (Leave p) of = omega arith
+from_wakes (Save r) of = omega arith
+
+to_saves : (a : Action) → kind_place a < 13
+to_saves Stall = omega arith
+to_saves Xl = omega arith
+to_saves (Moved r) = omega arith
+to_saves (DomMoved d) = omega arith
+to_saves (Wake v) = omega arith
+to_saves (Block p) = omega arith
+to_saves (Slice r) = omega arith
+to_saves (Repl u) = omega arith
+to_saves (Refill d) = omega arith
+to_saves (Arrive p) = omega arith
+to_saves (Decide r) = omega arith
+to_saves (Leave p) = omega arith
+to_saves (Save r) = omega arith
+
+is_of_pool : (a : Action) → 4 ≤ kind_place a → IsOfPool a
+is_of_pool Stall from = absurd (omega (arith, from))
+is_of_pool Xl from = absurd (omega (arith, from))
+is_of_pool (Moved r) from = absurd (omega (arith, from))
+is_of_pool (DomMoved d) from = absurd (omega (arith, from))
+is_of_pool (Wake v) from = tt
+is_of_pool (Block p) from = tt
+is_of_pool (Slice r) from = tt
+is_of_pool (Repl u) from = tt
+is_of_pool (Refill d) from = tt
+is_of_pool (Arrive p) from = tt
+is_of_pool (Decide r) from = tt
+is_of_pool (Leave p) from = tt
+is_of_pool (Save r) from = tt
+
+-- an action of a later kind
+later_kind : (a b : Action) → kind_place a < kind_place b → IsNotAfter a b
+later_kind a b before = record {
+  by_kind = omega (arith, before);
+  then_by_subject = λ same. absurd (omega (arith, before, same));
+  then_by_index = λ same also. absurd (omega (arith, before, same));
+}
+
+-- whether a replenishment or a refill is armed, by the records
+armed_none : (t : ℕ) (b : Bool) → has_come t (if b then None else None) ≡ false
+armed_none t true = refl
+armed_none t false = refl
+
+-- a scheduler has replenishments or refills, and never both
+never_both : (t : ℕ) (s : Scheduler) (u : UnitId) (d : ℕ) → has_come t (armed_at s (timer.Repl u)) ≡ true → has_come t (armed_at s (timer.Refill (domain d))) ≡ true → ⊥
+never_both t s u d = by s.records
+  where
+    by : (records : Records) → has_come t (if has_unit s.queue u || is_on records u then (elim (rtds_record records u) as (λ _. Option Moment) [ None ↦ None | Some x ↦ Some (moment x.deadline) ]) else None) ≡ true → has_come t (next_refill records d) ≡ true → ⊥
+    by (Credit2Pool records) one other = clash _ one (armed_none t (has_unit s.queue u || is_on (Credit2Pool records) u))
+    by (RtdsPool domains) one other = absurd (cc)
+    by (ArincPool records) one other = absurd (cc)
+    by (NullPool kept) one other = absurd (cc)
+
+if_none : (a b : Bool) → ◌≡◌ {A = Option Moment} (if a then None else None) (if b then None else None)
+if_none true true = refl
+if_none true false = refl
+if_none false true = refl
+if_none false false = refl
+
+-- where the records tell, a unit is on exactly where a core has it
+on_core : (pool : Pool) (domains : List (Option (List RtdsUnit))) (u : UnitId) → AreOn pool → pool.scheduler.records ≡ RtdsPool domains → is_on (RtdsPool domains) u ≡ is_some (core_of pool u)
+on_core pool domains u on is = by (is_on (RtdsPool domains) u) (is_some (core_of pool u)) refl refl
+  where
+    by : (a b : Bool) → is_on (RtdsPool domains) u ≡ a → is_some (core_of pool u) ≡ b → a ≡ b
+    by true true told found = refl
+    by false false told found = refl
+    by true false told found = absurd (clash _ (on.off u (ap (λ (rs : Records). is_on rs u) is ∙ told)) found)
+    by false true told found =
+        let core = found_core pool u found in
+        absurd (clash _ (sym (ap (λ (rs : Records). may_be_on rs u) is) ∙ on.own core.0 core.1 core.2 u core.3) told)
+
+-- a replenishment is armed at the deadline of the unit
+pub deadline_is : (pool : Pool) (u : UnitId) → AreOn pool → armed_at pool.scheduler (timer.Repl u) ≡ deadline_of pool u
+deadline_is pool u on = by pool.scheduler.records refl
+  where
+    by : (records : Records) → pool.scheduler.records ≡ records
+        → (if has_unit pool.scheduler.queue u || is_on records u then (elim (rtds_record records u) as (λ _. Option Moment) [ None ↦ None | Some x ↦ Some (moment x.deadline) ]) else None)
+        ≡ when (has_unit pool.scheduler.queue u || is_some (core_of pool u)) (elim (rtds_record records u) as (λ _. Option Moment) [ None ↦ None | Some x ↦ Some (moment x.deadline) ])
+    by (Credit2Pool records) is = if_none (has_unit pool.scheduler.queue u || is_on (Credit2Pool records) u) (has_unit pool.scheduler.queue u || is_some (core_of pool u))
+    by (RtdsPool domains) is =
+        ap (λ (b : Bool). when (has_unit pool.scheduler.queue u || b) (elim (rtds_record (RtdsPool domains) u) as (λ _. Option Moment) [ None ↦ None | Some x ↦ Some (moment x.deadline) ]))
+        (on_core pool domains u on is)
+    by (ArincPool records) is = if_none (has_unit pool.scheduler.queue u || is_on (ArincPool records) u) (has_unit pool.scheduler.queue u || is_some (core_of pool u))
+    by (NullPool kept) is = if_none (has_unit pool.scheduler.queue u || is_on (NullPool kept) u) (has_unit pool.scheduler.queue u || is_some (core_of pool u))
+
+-- from when on the event of a timer may come
+pub timer_ready : (g : ℕ) (pool : Pool) → AreOn pool → (x : Timer) → ready_in g pool (action_of x) ≡ later (armed_at pool.scheduler x) (lowest_end pool)
+timer_ready g pool on (timer.Repl u) = ap (λ (a : Option Moment). later a (lowest_end pool)) (sym (deadline_is pool u on))
+timer_ready g pool on (timer.Refill d) = refl
+
+and_none : (a : Bool) → (a && false) ≡ false
+and_none true = refl
+and_none false = refl
+
+both_come : (t : ℕ) (a b : Option Moment) → has_come t (later a b) ≡ (has_come t a && has_come t b)
+both_come t None b = refl
+both_come t (Some a) None = sym (and_none (nat_le a.0 t))
+both_come t (Some a) (Some b) = greater a.0 b.0
+  where
+    greater : (m n : ℕ) → nat_le (max m n) t ≡ (nat_le m t && nat_le n t)
+    greater m n = grind (arith, nat_tests)
+
+module _ (g t : ℕ) (pool : Pool) where
+  -- no event of a kind
+  empty_kind : (k : ℕ) → ((i n : ℕ) → enabled_in g t pool (action_at k i n) ≡ false) → IsFirstIn k (suc k) g t pool None
+  empty_kind k none action from below = subst (λ (a : Action). enabled_in g t pool a ≡ false) (of_kind k action (omega (arith, from, below))) (none (subject_place action) (index_place action))
+
+  -- the first event of a kind
+  one_kind : (k : ℕ) (event : Action) → kind_place event ≡ k → enabled_in g t pool event ≡ true → ((i n : ℕ) → enabled_in g t pool (action_at k i n) ≡ true → IsNotAfter event (action_at k i n)) → IsFirstIn k (suc k) g t pool (Some event)
+  one_kind k event is on first = record {
+    kind = omega (arith, is);
+    kind_below = omega (arith, is);
+    enabled = on;
+    first = λ action from may. elim (ℕ_discrete (kind_place action) k) [
+      | yes same ↦ (let e = of_kind k action same in subst (IsNotAfter event) e (first (subject_place action) (index_place action) (subst (λ (a : Action). enabled_in g t pool a ≡ true) (sym e) may)))
+      | no other ↦ later_kind event action (omega (arith, is, from, other))
+    ];
+  }
+
+  -- some kinds of which no event may come, and those after them
+  pub joined : (a b c : ℕ) (o : Option Action) → a ≤ b → IsFirstIn a b g t pool None → IsFirstIn b c g t pool o → IsFirstIn a c g t pool o
+  joined a b c None order none others = λ action from below. elim (cases_lt (kind_place action) b) [
+    | inl before ↦ none action from before
+    | inr after ↦ others action after below
+  ]
+  joined a b c (Some event) order none others = record {
+    kind = (let kind = others.kind in omega (arith, order, kind));
+    kind_below = others.kind_below;
+    enabled = others.enabled;
+    first = λ action from may. elim (cases_lt (kind_place action) b) [
+      | inl before ↦ absurd (clash _ may (none action from before))
+      | inr after ↦ others.first action after may
+    ];
+  }
+
+  -- the first event, and further kinds
+  pub widened : (a b c : ℕ) (event : Action) → b ≤ c → IsFirstIn a b g t pool (Some event) → IsFirstIn a c g t pool (Some event)
+  widened a b c event order is = record { kind = is.kind; kind_below = (let below = is.kind_below in omega (arith, order, below)); enabled = is.enabled; first = is.first }
+
+  -- of all the kinds of a pool
+  pub of_all : (o : Option Action) → IsFirstIn 4 13 g t pool o → IsFirstEnabled g t pool o
+  of_all None none = λ action of. none action (from_wakes action of) (to_saves action)
+  of_all (Some event) is = record { of_pool = is_of_pool event is.kind; enabled = is.enabled; first = λ action of may. is.first action (from_wakes action of) may }
+
+  -- the first event of a kind whose subjects are numbers
+  of_numbers : (k : ℕ) (make : ℕ → Action) (ends : ℕ → Option Moment) (o : Option ℕ)
+      → ((i n : ℕ) → action_at k i n ≡ make i) → ((i : ℕ) → kind_place (make i) ≡ k) → ((i : ℕ) → subject_place (make i) ≡ i) → ((i : ℕ) → index_place (make i) ≡ 0)
+      → ((i : ℕ) → enabled_in g t pool (make i) ≡ has_come t (ends i)) → IsFirstCome ends t o → IsFirstIn k (suc k) g t pool (option_map make o)
+  of_numbers k make ends None made kind subject index may none = empty_kind k (λ i n. ap (enabled_in g t pool) (made i n) ∙ may i ∙ none i)
+  of_numbers k make ends (Some i) made kind subject index may first =
+      one_kind k (make i) (kind i) (may i ∙ first.0) (λ j n on.
+      let e = made j n in
+      subst (IsNotAfter (make i)) (sym e) (after j (subst (λ (a : Action). enabled_in g t pool a ≡ true) e on)))
+    where
+      after : (j : ℕ) → enabled_in g t pool (make j) ≡ true → IsNotAfter (make i) (make j)
+      after j on = record {
+        by_kind = (let a = kind i in let b = kind j in omega (arith, a, b));
+        then_by_subject = λ same. (let a = subject i in let b = subject j in elim (cases_lt j i) [
+          | inl before ↦ absurd (clash _ (sym (may j) ∙ on) (first.1 j before))
+          | inr past ↦ omega (arith, a, b, past)
+        ]);
+        then_by_index = λ same also. (let a = index i in let b = index j in omega (arith, a, b));
+      }
+
+  pub slices : (o : Option ℕ) → IsFirstCome (λ r. ready_in g pool (Slice r)) t o → IsFirstIn 6 7 g t pool (option_map Slice o)
+  slices o = of_numbers 6 Slice (λ r. ready_in g pool (Slice r)) o (λ i n. refl) (λ i. refl) (λ i. refl) (λ i. refl) (λ i. ready g t pool (Slice i))
+
+  pub decides : (o : Option ℕ) → IsFirstCome (λ r. ready_in g pool (Decide r)) t o → IsFirstIn 10 11 g t pool (option_map Decide o)
+  decides o = of_numbers 10 Decide (λ r. ready_in g pool (Decide r)) o (λ i n. refl) (λ i. refl) (λ i. refl) (λ i. refl) (λ i. ready g t pool (Decide i))
+
+  pub saves : (o : Option ℕ) → IsFirstCome (λ r. ready_in g pool (Save r)) t o → IsFirstIn 12 13 g t pool (option_map Save o)
+  saves o = of_numbers 12 Save (λ r. ready_in g pool (Save r)) o (λ i n. refl) (λ i. refl) (λ i. refl) (λ i. refl) (λ i. ready g t pool (Save i))
+
+  pub arrives : (o : Option ℕ) → IsFirstCome (λ p. ready_in g pool (Arrive p)) t o → IsFirstIn 9 10 g t pool (option_map Arrive o)
+  arrives o = of_numbers 9 Arrive (λ p. ready_in g pool (Arrive p)) o (λ i n. refl) (λ i. refl) (λ i. refl) (λ i. refl) (λ i. ready g t pool (Arrive i))
+
+  pub leaves : (o : Option ℕ) → IsFirstCome (λ p. ready_in g pool (Leave p)) t o → IsFirstIn 11 12 g t pool (option_map Leave o)
+  leaves o = of_numbers 11 Leave (λ p. ready_in g pool (Leave p)) o (λ i n. refl) (λ i. refl) (λ i. refl) (λ i. refl) (λ i. ready g t pool (Leave i))
+
+  -- of the blocks, where their moments are told
+  pub blocks : (ends : ℕ → Option Moment) (o : Option ℕ) → ((p : ℕ) → ends p ≡ ready_in g pool (Block p)) → IsFirstCome ends t o → IsFirstIn 5 6 g t pool (option_map Block o)
+  blocks ends o are = of_numbers 5 Block ends o (λ i n. refl) (λ i. refl) (λ i. refl) (λ i. refl) (λ i. ready g t pool (Block i) ∙ sym (ap (has_come t) (are i)))
+
+  -- of the wakes
+  pub no_wake : ((v : VcpuId) → is_due_among t pool.domains v ≡ false) → IsFirstIn 4 5 g t pool None
+  no_wake none = empty_kind 4 (λ i n. let v : VcpuId = record { dom = domain i; n = n } in ready g t pool (Wake v) ∙ none v)
+
+  pub first_wake : (v : VcpuId) → is_due_among t pool.domains v ≡ true → ((w : VcpuId) → is_due_among t pool.domains w ≡ true → IsVcpuNotAfter v w) → IsFirstIn 4 5 g t pool (Some (Wake v))
+  first_wake v due first = one_kind 4 (Wake v) refl (ready g t pool (Wake v) ∙ due) (λ i n on.
+      let w : VcpuId = record { dom = domain i; n = n } in
+      let order = first w (sym (ready g t pool (Wake w)) ∙ on) in
+      record { by_kind = omega arith; then_by_subject = λ same. order.by_domain; then_by_index = λ same also. order.then_by_index also })
+
+  -- of the timers
+  pub timer_may : AreOn pool → (x : Timer) → enabled_in g t pool (action_of x) ≡ (has_come t (armed_at pool.scheduler x) && has_come t (lowest_end pool))
+  timer_may on x = ready g t pool (action_of x) ∙ ap (has_come t) (timer_ready g pool on x) ∙ both_come t (armed_at pool.scheduler x) (lowest_end pool)
+
+  pub no_timer : ((x : Timer) → enabled_in g t pool (action_of x) ≡ false) → IsFirstIn 7 9 g t pool None
+  no_timer none = joined 7 8 9 None (omega arith)
+      (empty_kind 7 (λ i n. let u : UnitId = record { dom = domain i; n = n } in none (timer.Repl u)))
+      (empty_kind 8 (λ i n. none (timer.Refill (domain i))))
+
+  pub no_timer_up : AreOn pool → has_come t (lowest_end pool) ≡ false → IsFirstIn 7 9 g t pool None
+  no_timer_up on stalled = no_timer (λ x. timer_may on x ∙ ap (λ (b : Bool). has_come t (armed_at pool.scheduler x) && b) stalled ∙ and_none _)
+
+  pub no_timer_due : AreOn pool → ((x : Timer) → has_come t (armed_at pool.scheduler x) ≡ false) → IsFirstIn 7 9 g t pool None
+  no_timer_due on none = no_timer (λ x. timer_may on x ∙ ap (λ (b : Bool). b && has_come t (lowest_end pool)) (none x))
+
+  pub first_timer : AreOn pool → (x : Timer) → has_come t (armed_at pool.scheduler x) ≡ true → has_come t (lowest_end pool) ≡ true
+      → ((other : Timer) → has_come t (armed_at pool.scheduler other) ≡ true → IsTimerNotAfter x other) → IsFirstIn 7 9 g t pool (Some (action_of x))
+  first_timer on (timer.Repl u) due up first = widened 7 8 9 (Repl u) (omega arith) (one_kind 7 (Repl u) refl (timer_may on (timer.Repl u) ∙ and_both _ _ due up) (λ i n may.
+      let w : UnitId = record { dom = domain i; n = n } in
+      let order = first (timer.Repl w) (and_left _ _ (sym (timer_may on (timer.Repl w)) ∙ may)) in
+      record { by_kind = omega arith; then_by_subject = λ same. order.by_domain; then_by_index = λ same also. order.then_by_unit also }))
+  first_timer on (timer.Refill d) due up first = joined 7 8 9 (Some (Refill d.0)) (omega arith)
+      (empty_kind 7 (λ i n.
+      let w : UnitId = record { dom = domain i; n = n } in
+      never _ (λ may. never_both t pool.scheduler w d.0 (and_left _ _ (sym (timer_may on (timer.Repl w)) ∙ may)) due)))
+      (one_kind 8 (Refill d.0) refl (timer_may on (timer.Refill d) ∙ and_both _ _ due up) (λ i n may.
+      let order = first (timer.Refill (domain i)) (and_left _ _ (sym (timer_may on (timer.Refill (domain i))) ∙ may)) in
+      record { by_kind = omega arith; then_by_subject = λ same. order.by_domain; then_by_index = λ same also. omega arith }))
+
+-- a moment that has come
+pub come_at : (t : ℕ) (o : Option Moment) → has_come t o ≡ true → (at : Moment) × (o ≡ Some at) × (at.0 ≤ t)
+come_at t None come = absurd (cc)
+come_at t (Some at) come = (at, refl, (let e : nat_le at.0 t ≡ true = come in grind (arith, nat_tests, e)))
+
+-- the timer at t, where its moment has not come: none has come
+pub timers_late : (t : ℕ) (s : Scheduler) (x : Armed) → timer_at t s ≡ Some x → t < x.0.0 → (other : Timer) → has_come t (armed_at s other) ≡ false
+timers_late t s x is late other = never _ (λ may. let at = come_at t (armed_at s other) may in let first = law.first t s x is other at.0 at.1 at.2 in let come = first.0 in omega (arith, late, come))
+
+-- where its moment has come: it is the first of those that have
+pub timer_come : (t : ℕ) (s : Scheduler) (x : Armed) → timer_at t s ≡ Some x → x.0.0 ≤ t → has_come t (armed_at s x.1) ≡ true
+timer_come t s x is come = ap (has_come t) (law.armed t s x is) ∙ (let e : nat_le x.0.0 t ≡ true = grind (arith, nat_tests, come) in e)
+
+pub timers_first : (t : ℕ) (s : Scheduler) (x : Armed) → timer_at t s ≡ Some x → (other : Timer) → has_come t (armed_at s other) ≡ true → IsTimerNotAfter x.1 other
+timers_first t s x is other may = let at = come_at t (armed_at s other) may in (law.first t s x is other at.0 at.1 at.2).1
+
+-- from when on a block may come
+pub block_is : (guests : GuestsSeen) (cores : CoresSeen) (s : SchedulerSeen) → cores.granularity ≡ guests.granularity → AreWorks guests.granularity cores.works (pool_of guests cores s)
+    → (p : ℕ) → ready_among cores (Block p) ≡ ready_in guests.granularity (pool_of guests cores s) (Block p)
+block_is guests cores s same works p =
+    ap (λ (o : Option Moment). later o (end_of (processor_among cores.granularity cores.resources p))) (works p)
+    ∙ ap (λ (k : ℕ). later (work_end guests.granularity (pool_of guests cores s) p) (end_of (processor_among k cores.resources p))) same
