@@ -15,3 +15,4 @@ pub mod Order
 pub mod Moments
 pub mod Withdrawing
 pub mod Goers
+pub mod Telling
