@@ -15,9 +15,9 @@ use Rattle.sched_model.specs.declared.state.Processor.{Processor}
 use Rattle.sched_model.specs.declared.state.Resource.{Resource}
 use Rattle.sched_model.specs.Checked.{most_span}
 use Rattle.sched_model.specs.Opening.{fresh_core}
-use Rattle.sched_model.specs.Places.{at_place, put_at}
+use Rattle.sched_model.specs.Places.{at_place, clear_at, put_at}
 use Rattle.sched_model.specs.Pool.{unit_count}
-use Rattle.sched_laws.proofs.EachPlace.{at_place-put_at, at_place-put_at_other}
+use Rattle.sched_laws.proofs.EachPlace.{at_place-clear_at, at_place-clear_at_other, at_place-put_at, at_place-put_at_other}
 use Rattle.plain_pool.specs.Cores.{fresh_processor}
 use Rattle.core_state.specs.Seen.{Seen as CoresSeen, processor_among, stalled_to, vacant as vacant_cores, without_works}
 use Rattle.core_state.proofs.ChangeLemmas.{without_works-other, without_works-own}
@@ -28,7 +28,7 @@ use Rattle.sched_ops.specs.Conditions.{is_vacant}
 use Rattle.sched_ops.specs.Seen.{Seen as SchedulerSeen, core_places, restarted, vacant as vacant_scheduler}
 use Rattle.unit_state.specs.Seen.{Seen as GuestsSeen, vacant as vacant_guests}
 use Rattle.pool_core.specs.Kept.{AreWorks, IsKept}
-use Rattle.pool_core.specs.Seen.{IsEmpty, guest_among, pool_of, with_core, with_stall}
+use Rattle.pool_core.specs.Seen.{IsEmpty, guest_among, pool_of, with_core, with_stall, without_core}
 use Rattle.pool_core.proofs.Processors.{processor_changed, processor_other, run_by}
 use Rattle.pool_core.proofs.Works.{done_by}
 
@@ -74,6 +74,21 @@ works_come g r ends works pool some inside are q = elim (ℕ_discrete (q / g) r)
   | no other ↦
       without_works-other (r * g) g q works (in_core g r q other) ∙ are q
       ∙ sym (ap (λ (o : Option Resource). done_by pool.domains (run_by (elim o as (λ _. Option Processor) [ None ↦ None | Some c ↦ slice_get c.processors (q % g) ]))) (at_place-put_at_other r (q / g) (fresh_core ends) pool.resources other))
+]
+
+-- after a core went
+pub works_go : (g r : ℕ) (works : List (Option Moment)) (pool : Pool) → 0 < g → AreWorks g works pool → AreWorks g (without_works (r * g) g works) (without_core r pool)
+works_go g r works pool some are q = elim (ℕ_discrete (q / g) r) [
+  | yes core ↦
+      let e : q / g * g + q % g ≡ q = div-add-mod' q g in
+      let low : q % g < g = mod_below q g some in
+      let place : r * g + q % g ≡ q = ap (λ (k : ℕ). k * g + q % g) (sym core) ∙ e in
+      let at : at_place (clear_at r pool.resources) (q / g) ≡ None = subst (λ (k : ℕ). at_place (clear_at r pool.resources) k ≡ None) (sym core) (at_place-clear_at r pool.resources) in
+      let runs : guest_among g (without_core r pool).resources q ≡ None = ap (λ (o : Option Resource). run_by (elim o as (λ _. Option Processor) [ None ↦ None | Some c ↦ slice_get c.processors (q % g) ])) at in
+      without_works-own (r * g) g q works (omega (arith, place)) (omega (arith, place, low)) ∙ sym (ap (done_by pool.domains) runs)
+  | no other ↦
+      without_works-other (r * g) g q works (in_core g r q other) ∙ are q
+      ∙ sym (ap (λ (o : Option Resource). done_by pool.domains (run_by (elim o as (λ _. Option Processor) [ None ↦ None | Some c ↦ slice_get c.processors (q % g) ]))) (at_place-clear_at_other r (q / g) pool.resources other))
 ]
 
 -- and after a processor is stalled

@@ -2,7 +2,9 @@
 use Rattle.std.proofs.Common.{◌≡◌, ◌≤◌, ℕ, true, false, List, refl, sym, ap, subst, ◌∙◌, cond, arith}
 use Rattle.std.specs.Prelude.{Option, Some, None, option_map, slice_get}
 use Rattle.std.proofs.Math.Decide.{ℕ_discrete}
-use Rattle.sched_base.specs.Numbers.{pool as pool_number}
+use Rattle.sched_base.specs.Numbers.{moment, pool as pool_number}
+use Rattle.sched_model.specs.declared.config.ParamChange.{ParamChange}
+use Rattle.sched_model.specs.declared.config.ParamChange.TheVariants as changes
 use Rattle.sched_base.specs.declared.Moment.{Moment}
 use Rattle.sched_base.specs.declared.VcpuId.{VcpuId}
 use Rattle.sched_model.specs.declared.state.Domain.{Domain}
@@ -12,7 +14,7 @@ use Rattle.sched_model.specs.declared.state.Vcpu.{Vcpu}
 use Rattle.sched_model.specs.Checked.{most_span}
 use Rattle.sched_model.specs.Places.{at_place, change_at, numbers_from, test_at}
 use Rattle.sched_model.specs.Policy as policy
-use Rattle.sched_model.specs.Pool.{change_domain, done_at, is_of_domain, pause, set_moving, set_pending, unit_count, unpause, withdrawn}
+use Rattle.sched_model.specs.Pool.{change_domain, done_at, is_of_domain, pause, set_moving, set_params, set_pending, unit_count, unpause, withdrawn}
 use Rattle.sched_model.proofs.PlaceLemmas.{at_place-change_at_other}
 use Rattle.sched_laws.proofs.EachPlace.{by_cond, by_option}
 use Rattle.plain_credit2.proofs.Items.{at_place-change_at}
@@ -20,6 +22,7 @@ use Rattle.unit_state.specs.Seen.{Seen as GuestsSeen}
 use Rattle.core_state.specs.Seen.{Seen as CoresSeen}
 use Rattle.sched_ops.specs.Seen.{Seen as SchedulerSeen}
 use Rattle.pool_kept.specs.Holds.{Holds}
+use Rattle.pool_kept.proofs.Kept.{changes as kept_changes, later}
 use Rattle.pool_core.specs.Kept.{AreWorks, IsKept}
 use Rattle.pool_core.specs.Seen.{guest_among, pool_of}
 use Rattle.pool_core.specs.Waking.{KeepsRoom}
@@ -85,3 +88,30 @@ works_unpause g d works pool are =
     (λ paused. queued_same (AreWorks g works) (λ a b domains cores here q. here q ∙ ap (λ rs. done_by a.domains (guest_among g rs q)) (sym cores) ∙ ap (λ ds. done_by ds (guest_among g b.resources q)) (sym domains)) g d (numbers_from 0 (unit_count g domain))
     (change_domain d (λ x. record x { paused = false }) pool) (works_domain g d (λ x. record x { paused = false }) works pool (λ x. refl) are))
     (λ paused. are))
+
+-- the cores that a change of parameters makes decide anew keep their processors
+pub works_changed : (g t : ℕ) (change : ParamChange) (works : List (Option Moment)) (pool : Pool) → AreWorks g works pool → AreWorks g works (set_params change t pool)
+works_changed g t (changes.Dom d weight None) works pool are = are
+works_changed g t (changes.Dom d weight (Some cap)) works pool are =
+    works_each g (λ (r : ℕ) (c : Resource). cond (is_of_domain d.0 c.cur) (record c { pending = true; due = Some (moment t) }) c) works (record pool { scheduler = policy.set_params (changes.Dom d weight (Some cap)) t pool.scheduler })
+    (λ r c. by_cond (λ (x : Resource). x.processors ≡ c.processors) (is_of_domain d.0 c.cur) (record c { pending = true; due = Some (moment t) }) c (λ is. refl) (λ is. refl)) are
+works_changed g t (changes.Rate limit) works pool are = are
+works_changed g t (changes.«Unit» u period budget extra) works pool are = are
+works_changed g t (changes.Frame frame) works pool are =
+    works_each g (λ (r : ℕ) (c : Resource). set_pending c) works (record pool { scheduler = policy.set_params (changes.Frame frame) t pool.scheduler }) (λ r c. refl) are
+works_changed g t (changes.Pin d unit cores) works pool are = are
+
+-- the state after such a change at t
+pub changed_kept : (t0 t : ℕ) (guests : GuestsSeen) (cores after : CoresSeen) (s s2 : SchedulerSeen) (change : ParamChange) → IsKept t0 guests cores s → t0 ≤ t → t ≤ most_span → pool_of guests after s2 ≡ set_params change t (pool_of guests cores s)
+    → after ≡ record cores { resources = after.resources } → s2.spare ≡ s.spare → s2.latest ≡ t → IsKept t guests after s2
+changed_kept t0 t guests cores after s s2 change keeps past early is cores_are spare latest = record {
+  linked = record {
+    granularity = ap (λ (x : CoresSeen). x.granularity) cores_are ∙ keeps.linked.granularity;
+    guests_latest = (let l = keeps.linked.guests_latest in omega (arith, l, past));
+    scheduler_latest = omega (arith, latest);
+    early = early;
+    spare = (let a = keeps.linked.spare in omega (arith, a, spare));
+    works = subst (λ (p : Pool). AreWorks guests.granularity after.works p) (sym is) (subst (λ (ws : List (Option Moment)). AreWorks guests.granularity ws (set_params change t (pool_of guests cores s))) (sym (ap (λ (x : CoresSeen). x.works) cores_are)) (works_changed guests.granularity t change cores.works (pool_of guests cores s) keeps.linked.works));
+  };
+  pool = subst (λ (p : Pool). Holds guests.granularity t p) (sym is) (kept_changes guests.granularity t change (pool_of guests cores s) (later guests.granularity t0 t (pool_of guests cores s) past keeps.pool));
+}

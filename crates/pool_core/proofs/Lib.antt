@@ -17,3 +17,4 @@ pub mod Moments
 pub mod Withdrawing
 pub mod Goers
 pub mod Parting
+pub mod Telling

@@ -5,3 +5,4 @@ pub mod Doing
 pub mod Order
 pub mod Waking
 pub mod Domains
+pub mod Params

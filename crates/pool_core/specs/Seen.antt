@@ -8,7 +8,7 @@ use Rattle.sched_model.specs.declared.state.Doing.TheVariants.{Guest, Idle, Held
 use Rattle.sched_model.specs.declared.state.Pool.{Pool}
 use Rattle.sched_model.specs.declared.state.Resource.{Resource}
 use Rattle.sched_model.specs.Opening.{fresh_core}
-use Rattle.sched_model.specs.Places.{at_place, put_at}
+use Rattle.sched_model.specs.Places.{at_place, clear_at, put_at}
 use Rattle.sched_model.specs.Pool.{after_in, change_processor, settled}
 use Rattle.sched_model.specs.Checked.{most_span}
 use Rattle.unit_state.specs.Seen as guests
@@ -67,6 +67,10 @@ pub record IsEmpty (pool : Pool) : Type 0 where
 -- the pool with a core that has just come, whose processors are stalled up to these moments
 abbrev pub with_core : ℕ → List Moment → Pool → Pool
 with_core r ends pool = record pool { resources = put_at r (fresh_core ends) pool.resources }
+
+-- the pool without the core
+abbrev pub without_core : ℕ → Pool → Pool
+without_core r pool = record pool { resources = clear_at r pool.resources }
 
 -- the pool with another end of the processor's stall
 abbrev pub with_stall : ℕ → ℕ → Moment → Pool → Pool

@@ -116,7 +116,7 @@ fn dequeue_domain<P: Policy>(guests: &Guests, cores: &CoreState, policy: &mut P,
 }
 
 /// Whether the core's own unit is one of the domain.
-fn runs_one_of(cores: &CoreState, d: DomId, r: u8) -> bool
+pub(crate) fn runs_one_of(cores: &CoreState, d: DomId, r: u8) -> bool
     ensures { result ≡ test_at cores.now.resources r (λ (c : Resource). is_of_domain_spec d.0 c.cur) }
 {
     match cores.core(r) {

@@ -8,6 +8,7 @@ mod deciding;
 mod doing;
 pub mod domains;
 mod due;
+mod params;
 pub mod pool;
 mod settling;
 mod waking;

@@ -4,15 +4,16 @@ use crate::deciding::{decide, replenish};
 use crate::doing::{arrive, block, guest_of, leave};
 use crate::domains::{join, pause, set_moving, take, unpause};
 use crate::due::{first_enabled, next_moment};
+use crate::params::{facts, part_of, set_params};
 use crate::settling::settle;
 use crate::waking::{save, wake};
 use core_state::CoreState;
 use plain_pool::leaving::fresh_core;
 use sched_base::{DomId, Moment, NoMemory, PoolId, ProcId, ResId, UnitId, VcpuId};
 use sched_model::action::Action;
-use sched_model::config::{DomParams, PoolParams};
+use sched_model::config::{DomParams, ParamChange, PoolParams};
 use sched_model::event::Event;
-use sched_model::facts::ResPart;
+use sched_model::facts::{Facts, ResPart};
 use sched_ops::{Places, Policy, Timer};
 use std::alloc::Global;
 use std::marker::Model;
@@ -43,19 +44,21 @@ impl<P: Policy> Model for PoolState<P> {
 }
 
 impl<P: Policy> PoolState<P> {
-    ghost use Rattle.std.specs.Prelude.{◌≡◌, ◌≤◌, ◌<◌, ◌+◌, ◌-◌, ◌*◌, true, IfOk, None, Some, length};
+    ghost use Rattle.std.specs.Prelude.{◌≡◌, ◌≤◌, ◌<◌, ◌+◌, ◌-◌, ◌*◌, true, IfOk, None, Some, length, map, option_map};
     ghost use Rattle.sched_model.specs.Checked.{IsGranularity};
     ghost use Rattle.sched_model.specs.Places.{at_place};
-    ghost use Rattle.sched_model.specs.Policy.{default_pool_params, kind_of};
-    ghost use Rattle.sched_ops.specs.Conditions.{AreDomParams, ArePoolParams, is_vacant};
+    ghost use Rattle.sched_model.specs.Policy.{default_pool_params, kind_of, rate_of};
+    ghost use Rattle.sched_ops.specs.Conditions.{AreDomParams, ArePoolParams, IsChange, is_vacant};
     ghost use Rattle.sched_ops.specs.Seen.{restarted};
     ghost use Rattle.core_state.specs.Seen.{stall_until};
+    ghost use Rattle.plain_pool.specs.Cores.{ends_of};
     ghost use Rattle.plain_pool.specs.Own.{IsOfPool};
+    ghost use Rattle.pool_core.specs.Params.{stored_in};
     ghost use Rattle.unit_state.specs.Parts.{IsPart};
     ghost use Rattle.pool_core.specs.Order.{IsFirstEnabled, IsNextMoment};
-    ghost use Rattle.sched_model.specs.declared.action.Action.TheVariants.{Arrive, Block, Decide, DomMoved, Leave, Refill, Repl, Save, Slice, Wake};
-    ghost use Rattle.sched_model.specs.Pool.{enabled_in, event_in, pause as pause_spec, processor_of, set_leaving, set_moving as set_moving_spec, settled, unit_count, unpause as unpause_spec, with_domain, without_domain};
-    ghost use Rattle.pool_core.specs.Seen.{IsEmpty, IsNow, happened, seen_at, vacant, with_core, with_spare, with_stall};
+    ghost use Rattle.sched_model.specs.declared.action.Action.TheVariants.{Arrive, Block, Decide, DomMoved, Leave, Moved, Refill, Repl, Save, Slice, Wake};
+    ghost use Rattle.sched_model.specs.Pool.{enabled_in, event_in, pause as pause_spec, processor_of, set_leaving, set_moving as set_moving_spec, set_params as set_params_spec, settled, unit_count, unpause as unpause_spec, with_domain, without_domain};
+    ghost use Rattle.pool_core.specs.Seen.{IsEmpty, IsNow, happened, seen_at, vacant, with_core, with_spare, with_stall, without_core};
 
     /// A pool with so many places for domains and for cores of 1, 2 or 4 processors each, at most 64 domains and 64 processors, and room
     /// for so many units, at most 256. Its scheduler, which has no domain, takes its default parameters.
@@ -107,6 +110,43 @@ impl<P: Policy> PoolState<P> {
         self.cores.put(core.r.0, fresh_core(&core.stall_ends));
         self.latest = t;
         self.look();
+    }
+
+    /// A core that is leaving, and whose part in this is done, goes out: its number and the ends of its processors' stalls.
+    pub fn detach(&mut self, r: ResId, t: Moment) -> ResPart
+        requires now { IsNow self.old t.0 }
+        requires ready { enabled_in self.old.granularity t.0 self.old.pool (Moved r.0) ≡ true }
+        ensures number { result.r ≡ r }
+        ensures ends { option_map ends_of (at_place self.old.pool.resources r.0) ≡ Some result.stall_ends }
+        ensures after { self.new ≡ seen_at t.0 (settled t.0 (without_core r.0 self.old.pool)) self.old }
+    {
+        let Some(core) = self.cores.take(r.0) else {
+            unreachable!();
+        };
+        let part = part_of(r, &core);
+        self.latest = t;
+        self.look();
+        part
+    }
+
+    /// The parameters of the scheduler, or of a domain or a unit of it, change. The cores that this concerns are to decide anew.
+    pub fn set_params(&mut self, change: &ParamChange, t: Moment)
+        requires now { IsNow self.old t.0 }
+        requires change { IsChange (kind_of self.old.pool.scheduler.records) self.old.pool.scheduler change.now }
+        ensures { self.new ≡ seen_at t.0 (settled t.0 (set_params_spec change.now t.0 self.old.pool)) self.old }
+    {
+        set_params(&self.guests, &mut self.cores, &mut self.policy, change, t);
+        self.latest = t;
+        self.look();
+    }
+
+    /// The rate limit in microseconds, 0 where the scheduler has none, and the set values of the units of the domain, where one is
+    /// named: in order, at most 32, and none where the domain is not here.
+    pub fn facts(&self, d: Option<DomId>) -> Facts
+        ensures rate { result.rate ≡ rate_of self.now.pool.scheduler.records }
+        ensures units { map Some result.units ≡ stored_in self.now.granularity self.now.pool.domains self.now.pool.scheduler.records d }
+    {
+        facts(&self.guests, &self.policy, d)
     }
 
     /// A domain, none of whose vCPUs is started, comes in with these parameters. Its units that are runnable wait.

@@ -1,0 +1,22 @@
+use Rattle.std.proofs.Common.{List, refl, ap, ◌∙◌, arith}
+use Rattle.std.specs.Prelude.{Option}
+use Rattle.sched_model.specs.declared.state.Resource.{Resource}
+use Rattle.core_state.specs.Seen.{Seen, changed_core}
+use Rattle.plain_pool.specs.Marks.{due_now_of}
+use Rattle.pool_core.proofs.Settled.{first-all, first-next}
+use Rattle.pool_core.proofs.params.make_cores_due.Goals as goal
+
+pub loop-r-init : goal.loop-r-init
+loop-r-init c = refl
+
+pub loop-r-preserved : goal.loop-r-preserved
+loop-r-preserved c =
+    c.make_due.ensures ∙ ap (λ (s : Seen). changed_core c.loop-r.r (due_now_of c.args.d.0 c.args.t.0 c.loop-r.r) s) c.loop-r.invariant
+    ∙ ap (λ (cores : List (Option Resource)). record c.args.cores.now { resources = cores }) (first-next c.loop-r.r (due_now_of c.args.d.0 c.args.t.0) c.args.cores.now.resources)
+
+pub returns : goal.returns
+returns c =
+    let over = c.loop-r-test.false in
+    let count = c.places-r-end.ensures in
+    c.loop-r.invariant
+    ∙ ap (λ (cores : List (Option Resource)). record c.args.cores.now { resources = cores }) (first-all c.loop-r.r 0 (due_now_of c.args.d.0 c.args.t.0) c.args.cores.now.resources (omega (arith, over, count)))

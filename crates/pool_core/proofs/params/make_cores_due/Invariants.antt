@@ -1,0 +1,7 @@
+use Rattle.std.proofs.Common.{◌≡◌}
+use Rattle.plain_pool.specs.Marks.{due_now_of}
+use Rattle.pool_core.specs.Settling.{change_first}
+use Rattle.pool_core.proofs.params.make_cores_due.Given as goal
+
+abbrev pub invariant-loop-r : goal.invariant-loop-r
+invariant-loop-r l = l.cores ≡ record l.initial.cores { resources = change_first l.r 0 (due_now_of l.d.0 l.t.0) l.initial.cores.resources }

@@ -1,0 +1,7 @@
+use Rattle.std.proofs.Common.{◌≡◌}
+use Rattle.plain_pool.specs.Marks.{pending_each}
+use Rattle.pool_core.specs.Settling.{change_first}
+use Rattle.pool_core.proofs.params.mark_all.Given as goal
+
+abbrev pub invariant-loop-r : goal.invariant-loop-r
+invariant-loop-r l = l.cores ≡ record l.initial.cores { resources = change_first l.r 0 pending_each l.initial.cores.resources }
