@@ -18,3 +18,4 @@ pub mod Withdrawing
 pub mod Goers
 pub mod Parting
 pub mod Telling
+pub mod ByActor

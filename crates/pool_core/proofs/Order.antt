@@ -40,12 +40,12 @@ use Rattle.pool_core.specs.Kept.{AreWorks}
 use Rattle.pool_core.specs.Seen.{pool_of}
 use Rattle.pool_core.specs.Order.{IsFirstEnabled, IsFirstIn, IsNotAfter, index_place, kind_place, subject_place}
 
-never : (b : Bool) → (b ≡ true → ⊥) → b ≡ false
+pub never : (b : Bool) → (b ≡ true → ⊥) → b ≡ false
 never true not_so = absurd (not_so refl)
 never false not_so = refl
 
 -- the action of the kind at a place, by the number and the index of its subject
-abbrev action_at : ℕ → ℕ → ℕ → Action
+abbrev pub action_at : ℕ → ℕ → ℕ → Action
 action_at k i n =
     let v : VcpuId = record { dom = domain i; n = n } in
     let u : UnitId = record { dom = domain i; n = n } in
@@ -80,7 +80,7 @@ at_own (Leave p) = refl
 at_own (Save r) = refl
 
 -- an action of a kind
-of_kind : (k : ℕ) (a : Action) → kind_place a ≡ k → action_at k (subject_place a) (index_place a) ≡ a
+pub of_kind : (k : ℕ) (a : Action) → kind_place a ≡ k → action_at k (subject_place a) (index_place a) ≡ a
 of_kind k a is = subst (λ (j : ℕ). action_at j (subject_place a) (index_place a) ≡ a) is (at_own a)
 
 -- the events of a pool are those from the wakes on
@@ -99,7 +99,7 @@ from_wakes (Decide r) of = omega arith
 from_wakes (Leave p) of = omega arith
 from_wakes (Save r) of = omega arith
 
-to_saves : (a : Action) → kind_place a < 13
+pub to_saves : (a : Action) → kind_place a < 13
 to_saves Stall = omega arith
 to_saves Xl = omega arith
 to_saves (Moved r) = omega arith
@@ -114,7 +114,7 @@ to_saves (Decide r) = omega arith
 to_saves (Leave p) = omega arith
 to_saves (Save r) = omega arith
 
-is_of_pool : (a : Action) → 4 ≤ kind_place a → IsOfPool a
+pub is_of_pool : (a : Action) → 4 ≤ kind_place a → IsOfPool a
 is_of_pool Stall from = absurd (omega (arith, from))
 is_of_pool Xl from = absurd (omega (arith, from))
 is_of_pool (Moved r) from = absurd (omega (arith, from))
@@ -130,7 +130,7 @@ is_of_pool (Leave p) from = tt
 is_of_pool (Save r) from = tt
 
 -- an action of a later kind
-later_kind : (a b : Action) → kind_place a < kind_place b → IsNotAfter a b
+pub later_kind : (a b : Action) → kind_place a < kind_place b → IsNotAfter a b
 later_kind a b before = record {
   by_kind = omega (arith, before);
   then_by_subject = λ same. absurd (omega (arith, before, same));

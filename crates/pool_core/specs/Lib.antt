@@ -6,3 +6,4 @@ pub mod Order
 pub mod Waking
 pub mod Domains
 pub mod Params
+pub mod Actors

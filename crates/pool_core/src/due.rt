@@ -41,7 +41,7 @@ fn action_of(timer: Timer) -> Action
 }
 
 /// The first replenishment or refill that may come at t: none does before the end of the stall of the lowest processor.
-fn first_timer<P: Policy>(cores: &CoreState, policy: &P, t: Moment) -> Option<Action>
+pub(crate) fn first_timer<P: Policy>(cores: &CoreState, policy: &P, t: Moment) -> Option<Action>
     ensures { (g : ℕ) → (guests : GuestsSeen) → AreOn (pool_of guests cores.now (P.seen policy.now)) → IsFirstIn 7 9 g t.0 (pool_of guests cores.now (P.seen policy.now)) result }
 {
     if !has_come(t.0, cores.lowest_end()) {

@@ -4,6 +4,7 @@
 //! definitions say, with the cores looked at; which event comes first is read from heaps of moments.
 #![tactic(auto)]
 
+mod actors;
 mod deciding;
 mod doing;
 pub mod domains;

@@ -1,5 +1,6 @@
 //! One pool.
 
+use crate::actors::enabled_for;
 use crate::deciding::{decide, replenish};
 use crate::doing::{arrive, block, guest_of, leave};
 use crate::domains::{join, pause, set_moving, take, unpause};
@@ -11,7 +12,7 @@ use core_state::CoreState;
 use plain_pool::cores::has_come;
 use plain_pool::leaving::fresh_core;
 use sched_base::{DomId, Moment, NoMemory, PoolId, ProcId, ResId, UnitId, VcpuId};
-use sched_model::action::Action;
+use sched_model::action::{Action, Actor};
 use sched_model::config::{DomParams, ParamChange, PoolParams};
 use sched_model::event::Event;
 use sched_model::facts::{Facts, ResPart};
@@ -57,6 +58,7 @@ impl<P: Policy> PoolState<P> {
     ghost use Rattle.plain_pool.specs.Own.{IsOfPool};
     ghost use Rattle.pool_core.specs.Params.{stored_in};
     ghost use Rattle.unit_state.specs.Parts.{IsPart};
+    ghost use Rattle.pool_core.specs.Actors.{IsFirstBy};
     ghost use Rattle.pool_core.specs.Order.{IsFirstEnabled, IsNextMoment};
     ghost use Rattle.sched_model.specs.declared.action.Action.TheVariants.{Arrive, Block, Decide, DomMoved, Leave, Moved, Refill, Repl, Save, Slice, Wake};
     ghost use Rattle.sched_model.specs.Pool.{enabled_in, event_in, pause as pause_spec, processor_of, set_leaving, set_moving as set_moving_spec, set_params as set_params_spec, settled, unit_count, unpause as unpause_spec, with_domain, without_domain};
@@ -223,6 +225,13 @@ impl<P: Policy> PoolState<P> {
         ensures { IsFirstEnabled self.now.granularity t.0 self.now.pool result }
     {
         first_enabled(&self.guests, &self.cores, &self.policy, t)
+    }
+
+    /// The first event of the pool by the actor that may come at t: by kind, then by number and index. `None` where none may.
+    pub fn enabled_for(&self, actor: Actor, t: Moment) -> Option<Action>
+        ensures { IsFirstBy self.now.granularity t.0 self.now.pool actor result }
+    {
+        enabled_for(&self.guests, &self.cores, &self.policy, actor, t)
     }
 
     /// The least moment at which an event of the pool may come. `None` where none may ever, while nothing else happens.

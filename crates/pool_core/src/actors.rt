@@ -1,0 +1,285 @@
+//! Which event of one actor comes first. t is the moment.
+
+ghost use Rattle.std.specs.Prelude.{◌≡◌, ◌≢◌, ◌*◌, ◌%◌, ◌&&◌, ℕ, false, not, None, Some};
+ghost use Rattle.sched_model.specs.declared.action.Action.TheVariants.{Arrive, Block, Decide, Leave, Save, Slice};
+ghost use Rattle.sched_model.specs.declared.action.Actor.TheVariants.{Dom, Proc};
+ghost use Rattle.sched_model.specs.Places.{test_at};
+ghost use Rattle.sched_model.specs.Pool.{enabled_in, is_held as is_held_spec};
+ghost use Rattle.sched_model.specs.State.{is_up as is_up_spec};
+ghost use Rattle.pool_laws.specs.Ready.{gathers as gathers_spec};
+ghost use Rattle.pool_kept.specs.Holds.{AreOn};
+ghost use Rattle.unit_state.specs.Seen.{Seen as GuestsSeen};
+ghost use Rattle.core_state.specs.Ends.{parts as parts_spec};
+ghost use Rattle.core_state.specs.Seen.{Seen as CoresSeen, processor_among};
+ghost use Rattle.sched_ops.specs.Seen.{Seen as SchedulerSeen};
+ghost use Rattle.pool_core.specs.Actors.{IsFirstBy, IsFirstByIn};
+ghost use Rattle.pool_core.specs.Seen.{pool_of};
+
+use crate::doing::guest_of;
+use crate::due::first_timer;
+use core_state::CoreState;
+use plain_pool::cores::{all_held, any_held, first_up, has_come, is_held, is_open, is_up};
+use sched_base::{DomId, Moment, ProcId, VcpuId};
+use sched_model::action::{Action, Actor};
+use sched_ops::Policy;
+use unit_state::Guests;
+
+/// Whether the processor is there and not stalled.
+fn is_up_at(cores: &CoreState, p: u8, t: Moment) -> bool
+    ensures { result ≡ elim (processor_among cores.now.granularity cores.now.resources p) [ None ↦ false | Some q ↦ is_up_spec t.0 q ] }
+{
+    match cores.processor(p) {
+        None => false,
+        Some(q) => is_up(t.0, q),
+    }
+}
+
+/// Whether the vCPU that the processor runs may block.
+fn may_block(guests: &Guests, cores: &CoreState, p: u8, t: Moment) -> bool
+    requires same { cores.now.granularity ≡ guests.now.granularity }
+    ensures { (s : SchedulerSeen) → result ≡ enabled_in guests.now.granularity t.0 (pool_of guests.now cores.now s) (Block p) }
+{
+    match guest_of(cores, p) {
+        None => false,
+        Some(v) => has_come(t.0, guests.done_at(v)) && is_up_at(cores, p, t),
+    }
+}
+
+/// Whether the core's due may come.
+fn may_slice(cores: &CoreState, r: u8, t: Moment) -> bool
+    ensures { (g : ℕ) (guests : GuestsSeen) (s : SchedulerSeen) → result ≡ enabled_in g t.0 (pool_of guests cores.now s) (Slice r) }
+{
+    match cores.core(r) {
+        None => false,
+        Some(c) => has_come(t.0, c.due) && !c.pending && first_up(t.0, c),
+    }
+}
+
+/// Whether the core's processors may arrive.
+fn gathers(cores: &CoreState, r: u8) -> bool
+    ensures { result ≡ test_at cores.now.resources r gathers_spec }
+{
+    match cores.core(r) {
+        None => false,
+        Some(c) => c.pending && is_open(c) && c.saving.is_none(),
+    }
+}
+
+/// Whether the processor is there, does not wait for its siblings, and is not stalled.
+fn is_free_at(cores: &CoreState, p: u8, t: Moment) -> bool
+    ensures { result ≡ elim (processor_among cores.now.granularity cores.now.resources p) [ None ↦ false | Some q ↦ not (is_held_spec q) && is_up_spec t.0 q ] }
+{
+    match cores.processor(p) {
+        None => false,
+        Some(q) => !is_held(q) && is_up(t.0, q),
+    }
+}
+
+/// Whether the processor may arrive.
+fn may_arrive(cores: &CoreState, p: u8, t: Moment) -> bool
+    ensures { (guests : GuestsSeen) (s : SchedulerSeen) → result ≡ enabled_in cores.now.granularity t.0 (pool_of guests cores.now s) (Arrive p) }
+{
+    cores.keeps();
+    gathers(cores, p / cores.granularity()) && is_free_at(cores, p, t)
+}
+
+/// Whether the core may decide.
+fn may_decide(cores: &CoreState, r: u8, t: Moment) -> bool
+    ensures { (g : ℕ) (guests : GuestsSeen) (s : SchedulerSeen) → result ≡ enabled_in g t.0 (pool_of guests cores.now s) (Decide r) }
+{
+    match cores.core(r) {
+        None => false,
+        Some(c) => all_held(c.processors.as_slice()) && is_open(c) && first_up(t.0, c),
+    }
+}
+
+/// Whether the core's processors may leave.
+fn parts(cores: &CoreState, r: u8) -> bool
+    ensures { result ≡ test_at cores.now.resources r parts_spec }
+{
+    match cores.core(r) {
+        None => false,
+        Some(c) => !is_open(c),
+    }
+}
+
+/// Whether the processor is there, waits for its siblings, and is not stalled.
+fn is_held_at(cores: &CoreState, p: u8, t: Moment) -> bool
+    ensures { result ≡ elim (processor_among cores.now.granularity cores.now.resources p) [ None ↦ false | Some q ↦ is_held_spec q && is_up_spec t.0 q ] }
+{
+    match cores.processor(p) {
+        None => false,
+        Some(q) => is_held(q) && is_up(t.0, q),
+    }
+}
+
+/// Whether the processor may leave.
+fn may_leave(cores: &CoreState, p: u8, t: Moment) -> bool
+    ensures { (guests : GuestsSeen) (s : SchedulerSeen) → result ≡ enabled_in cores.now.granularity t.0 (pool_of guests cores.now s) (Leave p) }
+{
+    cores.keeps();
+    parts(cores, p / cores.granularity()) && is_held_at(cores, p, t)
+}
+
+/// Whether the core may put away the unit that it saves.
+fn may_save(cores: &CoreState, r: u8, t: Moment) -> bool
+    ensures { (g : ℕ) (guests : GuestsSeen) (s : SchedulerSeen) → result ≡ enabled_in g t.0 (pool_of guests cores.now s) (Save r) }
+{
+    match cores.core(r) {
+        None => false,
+        Some(c) => c.saving.is_some() && !any_held(c.processors.as_slice()) && first_up(t.0, c),
+    }
+}
+
+/// The first replenishment or refill that may come, by the first processor p of the core r: the pool's lowest processor does these.
+fn timer_by<P: Policy>(cores: &CoreState, policy: &P, r: u8, p: ProcId, t: Moment) -> Option<Action>
+    requires number { p.0 ≡ r * cores.now.granularity }
+    ensures { (guests : GuestsSeen) → AreOn (pool_of guests cores.now (P.seen policy.now)) → IsFirstByIn 7 9 cores.now.granularity t.0 (pool_of guests cores.now (P.seen policy.now)) (Proc p) result }
+{
+    cores.keeps();
+    match cores.first() {
+        None => None,
+        Some(first) => if first == r {
+            first_timer(cores, policy, t)
+        } else {
+            None
+        },
+    }
+}
+
+/// The first event by the first processor p of the core r that may come, of those that come at a moment of their own.
+fn leader_due<P: Policy>(
+    guests: &Guests,
+    cores: &CoreState,
+    policy: &P,
+    r: u8,
+    p: ProcId,
+    t: Moment,
+) -> Option<Action>
+    requires same { cores.now.granularity ≡ guests.now.granularity }
+    requires on { AreOn (pool_of guests.now cores.now (P.seen policy.now)) }
+    requires number { p.0 ≡ r * cores.now.granularity }
+    ensures { IsFirstByIn 4 9 guests.now.granularity t.0 (pool_of guests.now cores.now (P.seen policy.now)) (Proc p) result }
+{
+    cores.keeps();
+    if may_block(guests, cores, p.0, t) {
+        return Some(Action::Block(p.0));
+    }
+    if may_slice(cores, r, t) {
+        return Some(Action::Slice(r));
+    }
+    timer_by(cores, policy, r, p, t)
+}
+
+/// The first event by the first processor p of the core r that may come, of those by which a core decides anew.
+fn leader_step(cores: &CoreState, r: u8, p: ProcId, t: Moment) -> Option<Action>
+    requires number { p.0 ≡ r * cores.now.granularity }
+    ensures { (guests : GuestsSeen) (s : SchedulerSeen) → IsFirstByIn 9 13 cores.now.granularity t.0 (pool_of guests cores.now s) (Proc p) result }
+{
+    cores.keeps();
+    if may_arrive(cores, p.0, t) {
+        return Some(Action::Arrive(p.0));
+    }
+    if may_decide(cores, r, t) {
+        return Some(Action::Decide(r));
+    }
+    if may_leave(cores, p.0, t) {
+        return Some(Action::Leave(p.0));
+    }
+    if may_save(cores, r, t) {
+        return Some(Action::Save(r));
+    }
+    None
+}
+
+/// The first event by the first processor p of the core r that may come.
+fn first_of_leader<P: Policy>(
+    guests: &Guests,
+    cores: &CoreState,
+    policy: &P,
+    r: u8,
+    p: ProcId,
+    t: Moment,
+) -> Option<Action>
+    requires same { cores.now.granularity ≡ guests.now.granularity }
+    requires on { AreOn (pool_of guests.now cores.now (P.seen policy.now)) }
+    requires number { p.0 ≡ r * cores.now.granularity }
+    ensures { IsFirstBy guests.now.granularity t.0 (pool_of guests.now cores.now (P.seen policy.now)) (Proc p) result }
+{
+    match leader_due(guests, cores, policy, r, p, t) {
+        Some(action) => Some(action),
+        None => leader_step(cores, r, p, t),
+    }
+}
+
+/// The first event that may come by a processor that is not the first of its core.
+fn first_of_sibling(guests: &Guests, cores: &CoreState, p: ProcId, t: Moment) -> Option<Action>
+    requires same { cores.now.granularity ≡ guests.now.granularity }
+    requires number { p.0 % cores.now.granularity ≢ 0 }
+    ensures { (s : SchedulerSeen) → IsFirstBy guests.now.granularity t.0 (pool_of guests.now cores.now s) (Proc p) result }
+{
+    if may_block(guests, cores, p.0, t) {
+        return Some(Action::Block(p.0));
+    }
+    if may_arrive(cores, p.0, t) {
+        return Some(Action::Arrive(p.0));
+    }
+    if may_leave(cores, p.0, t) {
+        return Some(Action::Leave(p.0));
+    }
+    None
+}
+
+/// The first event by the processor that may come.
+fn first_of_processor<P: Policy>(
+    guests: &Guests,
+    cores: &CoreState,
+    policy: &P,
+    p: ProcId,
+    t: Moment,
+) -> Option<Action>
+    requires same { cores.now.granularity ≡ guests.now.granularity }
+    requires on { AreOn (pool_of guests.now cores.now (P.seen policy.now)) }
+    ensures { IsFirstBy guests.now.granularity t.0 (pool_of guests.now cores.now (P.seen policy.now)) (Proc p) result }
+{
+    cores.keeps();
+    let g = cores.granularity();
+    if p.0 % g == 0 {
+        first_of_leader(guests, cores, policy, p.0 / g, p, t)
+    } else {
+        first_of_sibling(guests, cores, p, t)
+    }
+}
+
+/// The wake of the domain's first vCPU that may wake.
+fn first_of_domain(guests: &Guests, d: DomId, t: Moment) -> Option<Action>
+    ensures { (cores : CoresSeen) (s : SchedulerSeen) → IsFirstBy guests.now.granularity t.0 (pool_of guests.now cores s) (Dom d) result }
+{
+    guests.keeps();
+    for n in 0..32u8 {
+        let v = VcpuId { dom: d, n };
+        if has_come(t.0, guests.wakes_at(v)) {
+            return Some(Action::Wake(v));
+        }
+    }
+    None
+}
+
+/// The first event of the pool by the actor that may come at t, by kind, then by number and index. `None` where none may.
+pub fn enabled_for<P: Policy>(
+    guests: &Guests,
+    cores: &CoreState,
+    policy: &P,
+    actor: Actor,
+    t: Moment,
+) -> Option<Action>
+    requires same { cores.now.granularity ≡ guests.now.granularity }
+    requires on { AreOn (pool_of guests.now cores.now (P.seen policy.now)) }
+    ensures { IsFirstBy guests.now.granularity t.0 (pool_of guests.now cores.now (P.seen policy.now)) actor result }
+{
+    match actor {
+        Actor::Proc(p) => first_of_processor(guests, cores, policy, p, t),
+        Actor::Dom(d) => first_of_domain(guests, d, t),
+        Actor::Tool => None,
+    }
+}
