@@ -1,8 +1,18 @@
 -- What a pool keeps while its cores and domains come in.
-use Rattle.std.proofs.Common.{◌≡◌, ◌≤◌, ◌<◌, ◌+◌, ℕ, zero, suc, List, [], ◌∷◌, refl, sym, ap, subst, ◌∙◌, arith, length}
+use Rattle.std.proofs.Common.{inl, inr, ◌≡◌, ◌≤◌, ◌<◌, ◌+◌, ℕ, zero, suc, List, [], ◌∷◌, refl, sym, ap, subst, ◌∙◌, arith, length}
 use Rattle.std.specs.Prelude.{Option, Some, None, option_map, slice_get, map, replicate}
 use Rattle.std.specs.List.{All, AllByRecursion}
-use Rattle.std.proofs.lemmas.List.{length-replicate, length-map, recursion_from_All}
+use Rattle.std.specs.Option.{ForSome, IfSome}
+use Rattle.sched_model.specs.declared.config.Config.{Config}
+use Rattle.sched_model.specs.declared.config.Frame.{Frame}
+use Rattle.sched_model.specs.declared.config.PoolParams.{PoolParams}
+use Rattle.sched_model.specs.declared.config.PoolParams.TheVariants as pool_params
+use Rattle.sched_model.specs.declared.config.SchedKind.{SchedKind}
+use Rattle.sched_model.specs.declared.config.SchedKind.TheVariants as kinds
+use Rattle.sched_ops.specs.Conditions.{ArePoolParams}
+use Rattle.sched_ranges.specs.Ranges.{IsFrame}
+use Rattle.std.proofs.lemmas.List.{length-replicate, length-map}
+use Rattle.std.proofs.lemmas.List.Elements.{recursion_from_All}
 use Rattle.sched_base.specs.declared.Moment.{Moment}
 use Rattle.sched_base.specs.declared.Span.{Span}
 use Rattle.sched_model.specs.declared.config.DomParams.{DomParams}
@@ -12,7 +22,7 @@ use Rattle.sched_model.specs.declared.state.Pool.{Pool}
 use Rattle.sched_model.specs.declared.state.Records.{Records}
 use Rattle.sched_model.specs.declared.state.Records.TheVariants.{Credit2Pool, RtdsPool, ArincPool, NullPool}
 use Rattle.sched_model.specs.declared.state.Vcpu.{Vcpu}
-use Rattle.sched_model.specs.Checked.{IsCheckedScript}
+use Rattle.sched_model.specs.Checked.{IsCheckedFrame, IsCheckedScript, PoolParamsPass}
 use Rattle.sched_model.specs.Opening.{fresh_vcpu}
 use Rattle.sched_model.specs.Places.{at_place, put_at, change_each, numbers_from}
 use Rattle.sched_model.specs.Policy.{join, joined_records, kind_of}
@@ -22,7 +32,7 @@ use Rattle.cpupool.proofs.AlikeLemmas.{IsAlike, queued_alike}
 use Rattle.pool_kept.proofs.Members.{at_empty}
 use Rattle.unit_state.specs.Parts.{HasGuests, IsGuest}
 use Rattle.unit_state.proofs.GuestLemmas.{guest_fresh}
-use Rattle.pool_core.specs.Seen.{with_core}
+use Rattle.pool_core.specs.Seen.{IsEmpty, vacant, with_core}
 use Rattle.pool_trials.specs.Awaiting.{Awaits}
 
 -- no place of a list of empty ones is taken
@@ -41,6 +51,36 @@ module _ {X : Type 0} (next places : ℕ) (list : List (Option X)) (awaits : Awa
     count = length_change_each 0 f list ∙ awaits.count;
     empty = λ n later. at_place-change_each 0 n f list ∙ ap (option_map (f (0 + n))) (awaits.empty n later);
   }
+
+-- where all places are empty, nothing is there
+pub none_there : (params : PoolParams) (g domains cores units : ℕ) → IsEmpty (vacant params g domains cores units).pool
+none_there params g domains cores units = record { domains = λ d. at_empty domains d; cores = λ r. at_empty cores r }
+
+-- the parameters of a checked pool are in range
+frame_fits : (config : Config) (frame : Option Frame) → IfSome frame (IsCheckedFrame config) → ForSome frame IsFrame
+frame_fits config None fits = λ x e. absurd (cc)
+frame_fits config (Some frame) fits = λ x e. (
+    let same : frame ≡ x = cc in
+    subst IsFrame same (record { some_span = fits.major.least; fits = fits.fits; bounded = fits.major.most }))
+
+pub params_fit : (config : Config) (kind : SchedKind) (params : PoolParams) → PoolParamsPass config kind params → ArePoolParams kind params
+params_fit config kinds.Credit2 (pool_params.Credit2 limit) (inl off) = omega (arith, off)
+params_fit config kinds.Credit2 (pool_params.Credit2 limit) (inr within) = within.most
+params_fit config kinds.Rtds pool_params.Rtds passes = tt
+params_fit config kinds.Arinc653 (pool_params.Arinc653 frame) passes = frame_fits config frame passes
+params_fit config kinds.Null pool_params.Null passes = tt
+params_fit config kinds.Credit2 pool_params.Rtds passes = elim passes [ ]
+params_fit config kinds.Credit2 (pool_params.Arinc653 frame) passes = elim passes [ ]
+params_fit config kinds.Credit2 pool_params.Null passes = elim passes [ ]
+params_fit config kinds.Rtds (pool_params.Credit2 limit) passes = elim passes [ ]
+params_fit config kinds.Rtds (pool_params.Arinc653 frame) passes = elim passes [ ]
+params_fit config kinds.Rtds pool_params.Null passes = elim passes [ ]
+params_fit config kinds.Arinc653 (pool_params.Credit2 limit) passes = elim passes [ ]
+params_fit config kinds.Arinc653 pool_params.Rtds passes = elim passes [ ]
+params_fit config kinds.Arinc653 pool_params.Null passes = elim passes [ ]
+params_fit config kinds.Null (pool_params.Credit2 limit) passes = elim passes [ ]
+params_fit config kinds.Null pool_params.Rtds passes = elim passes [ ]
+params_fit config kinds.Null (pool_params.Arinc653 frame) passes = elim passes [ ]
 
 -- the next core comes in
 pub core_comes : (t r places : ℕ) (ends : List Moment) (pool : Pool) → Awaits r places pool.resources → Awaits (r + 1) places (settled t (with_core r ends pool)).resources
@@ -61,7 +101,7 @@ kind_joined (ArincPool records) params d count t = refl
 kind_joined (NullPool kept) params d count t = refl
 
 module _ (g t d : ℕ) (joining : Domain) (params : DomParams) (pool : Pool) where
-  joined : Pool
+  abbrev joined : Pool
   joined = record pool { domains = put_at d joining pool.domains; scheduler = join d (unit_count g joining) params t pool.scheduler }
 
   alike : IsAlike (with_domain g t d joining params pool) joined
@@ -99,7 +139,7 @@ module _ (guests : List (List Span)) (scripts : All IsCheckedScript guests) wher
   }
     where
       count : length domain.vcpus ≡ length guests
-      count = ap length e ∙ length-map fresh_vcpu guests
+      count = ap length e ∙ length-map guests fresh_vcpu
 
   pub fresh_still : (domain : Domain) → domain.vcpus ≡ map fresh_vcpu guests → (n : ℕ) (x : Vcpu) → slice_get domain.vcpus n ≡ Some x → x.started ≡ None
   fresh_still domain e n x at = (fresh_at guests (recursion_from_All IsCheckedScript guests scripts) n x (subst (λ (xs : List Vcpu). slice_get xs n ≡ Some x) e at)).1

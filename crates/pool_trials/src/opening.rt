@@ -32,7 +32,7 @@ struct Opening<P: Policy> {
     cores: u8,
     domains: u8,
     ghost of_granularity: { pool.granularity ≡ granularity },
-    ghost few_processors: { IsGranularity granularity },
+    ghost few_processors: { granularity ≤ 4 },
     ghost early: { pool.latest ≡ 0 },
     ghost core_places: { Awaits cores places.cores pool.pool.resources },
     ghost domain_places: { Awaits domains places.domains pool.pool.domains },
@@ -50,10 +50,17 @@ fn no_stalls(granularity: u8) -> StallEnds
     ensures { length result ≡ granularity }
 {
     let mut ends = Short::new();
-    for _ in 0..granularity {
+    for i in 0..granularity {
         ends.push(Moment(0));
     }
     ends
+}
+
+/// Whether a core may have so many processors.
+fn is_granularity(g: u8) -> bool
+    ensures { IsTrue result → IsGranularity g }
+{
+    g == 1 || g == 2 || g == 4
 }
 
 /// Whether the parameters are of this scheduler, and in range.
@@ -80,6 +87,7 @@ fn are_params(kind: SchedKind, params: &DomParams) -> bool
 
 impl<P: Policy> Opening<P> {
     /// The next core comes in.
+    #[tactic(auto, using(crate::proofs::Coming::core_comes))]
     fn attach<R: Abort>(&mut self, rt: &R) {
         assert!(rt; self.cores < self.places.cores);
         let core = ResPart {
@@ -91,6 +99,7 @@ impl<P: Policy> Opening<P> {
     }
 
     /// The next domain comes in, all of whose vCPUs are awake.
+    #[tactic(auto, using(crate::proofs::Coming::domain_comes, crate::proofs::Coming::cores_stay, crate::proofs::Coming::kind_stays, crate::proofs::Coming::fresh_guests, crate::proofs::Coming::fresh_still))]
     fn give<R: Abort>(
         &mut self,
         rt: &R,
@@ -101,6 +110,7 @@ impl<P: Policy> Opening<P> {
         requires { IsCheckedDomain config.now joining.now }
     {
         assert!(rt; self.domains < self.places.domains && are_params(self.kind, &joining.params));
+        assert!(rt; is_granularity(self.granularity));
         let domain = Domain {
             paused: false,
             moving: None,
@@ -121,6 +131,7 @@ impl<P: Policy> Opening<P> {
 }
 
 /// The parameters of the machine's only pool, which has this scheduler.
+#[tactic(auto, using(crate::proofs::Coming::params_fit))]
 fn params_of<'a, R: Abort>(rt: &R, config: &'a Config, kind: SchedKind) -> &'a PoolParams
     requires { IsCheckedConfig config.now }
     ensures { ArePoolParams kind result.now }
@@ -132,6 +143,7 @@ fn params_of<'a, R: Abort>(rt: &R, config: &'a Config, kind: SchedKind) -> &'a P
 }
 
 /// The machine's only pool, with all cores and domains, at 0. Its scheduler has no domain yet.
+#[tactic(auto, using(crate::proofs::Coming::all_awaited, crate::proofs::Coming::none_there))]
 pub fn opened<P: Policy, R: Abort>(
     rt: &R,
     alloc: Global,
