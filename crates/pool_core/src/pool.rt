@@ -8,6 +8,7 @@ use crate::params::{facts, part_of, set_params};
 use crate::settling::settle;
 use crate::waking::{save, wake};
 use core_state::CoreState;
+use plain_pool::cores::has_come;
 use plain_pool::leaving::fresh_core;
 use sched_base::{DomId, Moment, NoMemory, PoolId, ProcId, ResId, UnitId, VcpuId};
 use sched_model::action::Action;
@@ -44,7 +45,7 @@ impl<P: Policy> Model for PoolState<P> {
 }
 
 impl<P: Policy> PoolState<P> {
-    ghost use Rattle.std.specs.Prelude.{◌≡◌, ◌≤◌, ◌<◌, ◌+◌, ◌-◌, ◌*◌, true, IfOk, None, Some, length, map, option_map};
+    ghost use Rattle.std.specs.Prelude.{◌≡◌, ℕ, ◌≤◌, ◌<◌, ◌+◌, ◌-◌, ◌*◌, true, IfOk, None, Some, length, map, option_map};
     ghost use Rattle.sched_model.specs.Checked.{IsGranularity};
     ghost use Rattle.sched_model.specs.Places.{at_place};
     ghost use Rattle.sched_model.specs.Policy.{default_pool_params, kind_of, rate_of};
@@ -52,6 +53,7 @@ impl<P: Policy> PoolState<P> {
     ghost use Rattle.sched_ops.specs.Seen.{restarted};
     ghost use Rattle.core_state.specs.Seen.{stall_until};
     ghost use Rattle.plain_pool.specs.Cores.{ends_of};
+    ghost use Rattle.pool_laws.specs.Ready.{ready_in};
     ghost use Rattle.plain_pool.specs.Own.{IsOfPool};
     ghost use Rattle.pool_core.specs.Params.{stored_in};
     ghost use Rattle.unit_state.specs.Parts.{IsPart};
@@ -228,6 +230,27 @@ impl<P: Policy> PoolState<P> {
         ensures { IsNextMoment self.now.granularity self.now.pool result }
     {
         next_moment(&self.guests, &self.cores, &self.policy)
+    }
+
+    /// From when on the core may leave the pool. `None` where it may not, while nothing else happens.
+    pub fn moved_next(&self, r: ResId) -> Option<Moment>
+        ensures { result ≡ ready_in self.now.granularity self.now.pool (Moved r.0) }
+    {
+        self.cores.move_end(r.0)
+    }
+
+    /// Whether the core may leave the pool at t.
+    pub fn moved_ready(&self, r: ResId, t: Moment) -> bool
+        ensures { result ≡ enabled_in self.now.granularity t.0 self.now.pool (Moved r.0) }
+    {
+        has_come(t.0, self.cores.move_end(r.0))
+    }
+
+    /// Whether the domain may leave the pool: it is moving, and no core has a unit of it. That does not depend on the moment.
+    pub fn dom_ready(&self, d: DomId) -> bool
+        ensures { (t : ℕ) → result ≡ enabled_in self.now.granularity t self.now.pool (DomMoved d.0) }
+    {
+        self.guests.moving(d).is_some() && !self.cores.has_domain(d)
     }
 
     /// An event of the pool that may come at t.
