@@ -9,9 +9,10 @@ ghost use Rattle.sched_ops.specs.Conditions.{IsNow, IsOwnOf};
 ghost use Rattle.plain_credit2.specs.Bounds.{PoolFits};
 ghost use Rattle.credit2_core.specs.Held.{IsHeld, IsLine, IsSameRoom, AreMasks, scheduler_in, seen_in};
 ghost use Rattle.credit2_core.specs.Choice.{best_of, credit_or_0, richer_of, is_better_of};
+ghost use Rattle.credit2_core.specs.Domains.{set_of};
 
 use crate::held::Held;
-use crate::line::{best_waiting, rekey_all};
+use crate::line::{best_waiting, rekey_all, runnable_in};
 use plain_credit2::choice::{domain_has_budget, is_within_limit};
 use plain_credit2::running::{burned_credit_of, credit_of, reset};
 use plain_units::eligible::is_allowed;
@@ -66,7 +67,7 @@ pub fn choice(held: &Held, ask: &Ask) -> Option<UnitId>
     if own.is_some() && is_within_limit(&held.records, ask.since, ask.at) {
         return own;
     }
-    let waiting = best_waiting(held, ask.core, ask.home);
+    let waiting = best_waiting(held, runnable_in(held), ask.core, ask.home);
     match own {
         None => waiting,
         Some(u) => richer(&held.records, u, waiting),
@@ -113,7 +114,7 @@ pub fn other_credit(held: &Held, ask: &Ask) -> i64
     requires masks { AreMasks held.now.affinity held.now.masks }
     ensures { result ≡ credit_or_0 held.now.records (best_of (arrivals held.now.queue.units) held.now.affinity ask.now.home ask.now.core held.now.records) }
 {
-    match best_waiting(held, ask.core, ask.home) {
+    match best_waiting(held, runnable_in(held), ask.core, ask.home) {
         None => 0,
         Some(u) => credit_of(&held.records, u),
     }
@@ -134,9 +135,10 @@ fn better_than(held: &Held, own: UnitId, since: u64, t: u64, waiting: Option<Uni
     }
 }
 
-/// Whether a core is to decide anew at t.
+/// Whether a core is to decide anew at t. The set is that of the domains that may run.
 pub fn better_waits(
     held: &Held,
+    runnable: u64,
     cur: Option<UnitId>,
     since: u64,
     t: u64,
@@ -145,14 +147,21 @@ pub fn better_waits(
 ) -> bool
     requires held { IsHeld held.now }
     requires now { IsNow (seen_in held.now) t }
+    requires set { runnable ≡ set_of held.now.records.domains }
     requires core { core < 64 }
     ensures { result ≡ better_waits_spec cur since t core home (scheduler_in held.now) }
 {
     match cur {
-        None => best_waiting(held, core, home).is_some(),
+        None => best_waiting(held, runnable, core, home).is_some(),
         Some(own) => {
             !is_allowed(held.affinity.as_slice(), home, core, own)
-                || better_than(held, own, since, t, best_waiting(held, core, home))
+                || better_than(
+                    held,
+                    own,
+                    since,
+                    t,
+                    best_waiting(held, runnable, core, home),
+                )
         }
     }
 }

@@ -4,6 +4,7 @@ ghost use Rattle.std.specs.Prelude.{◌≡◌, ◌≤◌};
 ghost use Rattle.credit2_core.specs.Whole.{seen_by};
 
 use crate::held::Held;
+use crate::line::runnable_in;
 use crate::room::DEFAULT_LIMIT;
 use crate::{choice, decide, params, room, small, timers};
 use sched_base::{Cores, DomId, Moment, NoMemory, ResId, UnitId};
@@ -24,6 +25,8 @@ pub struct Credit2 {
     held: Option<Held>,
     limit: u32,
     early: u64,
+    /// The set of the domains that may run, which each change makes anew, so that no question does.
+    runnable: u64,
 }
 
 impl Model for Credit2 {
@@ -31,11 +34,11 @@ impl Model for Credit2 {
 
     ghost Value = { Seen };
 
-    ghost use Rattle.credit2_core.specs.Whole.{seen_by, IsWhole};
+    ghost use Rattle.credit2_core.specs.Whole.{seen_by, IsReady};
 
     ghost view = { λ a. seen_by a.held a.limit a.early };
 
-    ghost invariant = { λ a. IsWhole a.held };
+    ghost invariant = { λ a. IsReady a.held a.runnable };
 }
 
 /// The greatest moment that was given, in nanoseconds.
@@ -70,6 +73,7 @@ impl Credit2 {
             held: None,
             limit: DEFAULT_LIMIT,
             early: 0,
+            runnable: 0,
         }
     }
 
@@ -90,6 +94,7 @@ impl Policy for Credit2 {
     fn reserve(&mut self, alloc: Global, places: Places, units: usize) -> Result<(), NoMemory> {
         let latest = latest_of(&self.held, self.early);
         let held = room::reserve(alloc, places.domains, units, latest)?;
+        self.runnable = runnable_in(&held);
         self.held = Some(held);
         Ok(())
     }
@@ -99,7 +104,10 @@ impl Policy for Credit2 {
             let limit = *limit;
             match &mut self.held {
                 None => self.limit = limit,
-                Some(held) => small::restart(held, limit),
+                Some(held) => {
+                    small::restart(held, limit);
+                    self.runnable = runnable_in(held);
+                }
             }
         }
     }
@@ -108,7 +116,10 @@ impl Policy for Credit2 {
         if let DomParams::Credit2 { weight, cap } = *params {
             match &mut self.held {
                 None => {}
-                Some(held) => params::join(held, d, units, weight, cap, t.0),
+                Some(held) => {
+                    params::join(held, d, units, weight, cap, t.0);
+                    self.runnable = runnable_in(held);
+                }
             }
         }
     }
@@ -116,21 +127,30 @@ impl Policy for Credit2 {
     fn part(&mut self, d: DomId) {
         match &mut self.held {
             None => {}
-            Some(held) => params::part(held, d),
+            Some(held) => {
+                params::part(held, d);
+                self.runnable = runnable_in(held);
+            }
         }
     }
 
     fn enqueue(&mut self, u: UnitId) {
         match &mut self.held {
             None => {}
-            Some(held) => small::enqueue(held, u),
+            Some(held) => {
+                small::enqueue(held, u);
+                self.runnable = runnable_in(held);
+            }
         }
     }
 
     fn dequeue(&mut self, u: UnitId) {
         match &mut self.held {
             None => {}
-            Some(held) => small::dequeue(held, u),
+            Some(held) => {
+                small::dequeue(held, u);
+                self.runnable = runnable_in(held);
+            }
         }
     }
 
@@ -144,7 +164,11 @@ impl Policy for Credit2 {
                     reset: 0,
                 }
             }
-            Some(held) => decide::choose(held, ask),
+            Some(held) => {
+                let choice = decide::choose(held, ask);
+                self.runnable = runnable_in(held);
+                choice
+            }
         }
     }
 
@@ -158,7 +182,10 @@ impl Policy for Credit2 {
     ) -> bool {
         match &self.held {
             None => false,
-            Some(held) => choice::better_waits(held, cur, since.0, t.0, core.0, home.0),
+            Some(held) => {
+                let runnable = self.runnable;
+                choice::better_waits(held, runnable, cur, since.0, t.0, core.0, home.0)
+            }
         }
     }
 
@@ -174,7 +201,11 @@ impl Policy for Credit2 {
             Timer::Repl(u) => no_event(u.dom),
             Timer::Refill(d) => match &mut self.held {
                 None => no_event(d),
-                Some(held) => timers::refill(held, d, t.0),
+                Some(held) => {
+                    let event = timers::refill(held, d, t.0);
+                    self.runnable = runnable_in(held);
+                    event
+                }
             },
         }
     }
@@ -187,7 +218,10 @@ impl Policy for Credit2 {
                 }
                 self.early = t.0;
             }
-            Some(held) => params::set_params(held, change, t.0),
+            Some(held) => {
+                params::set_params(held, change, t.0);
+                self.runnable = runnable_in(held);
+            }
         }
     }
 

@@ -9,6 +9,7 @@ ghost use Rattle.credit2_core.specs.Keys.{HasCredits, KeysWhere, is_passed};
 ghost use Rattle.credit2_core.specs.Places.{has_joined};
 ghost use Rattle.credit2_core.specs.Held.{AreMasks, IsLine, IsSameLine};
 ghost use Rattle.credit2_core.specs.Choice.{best_of};
+ghost use Rattle.credit2_core.specs.Domains.{set_of};
 
 use crate::domains::{count_at, runnable_domains};
 use crate::held::Held;
@@ -66,16 +67,25 @@ pub fn rekey_all(queue: &mut Runq, records: &Credit2Records, affinity: &[Option<
     }
 }
 
-/// The unit of greatest credit of those that wait and may take the core; among equals the earlier.
-pub fn best_waiting(held: &Held, core: u8, home: u64) -> Option<UnitId>
+/// The set of the domains that may run, with bit d for the domain d.
+pub fn runnable_in(held: &Held) -> u64
+    requires { length held.now.records.domains ≤ 64 }
+    ensures { result ≡ set_of held.now.records.domains }
+{
+    runnable_domains(held.records.domains.as_slice())
+}
+
+/// The unit of greatest credit of those that wait and may take the core; among equals the earlier. The set is that of the domains
+/// that may run.
+pub fn best_waiting(held: &Held, runnable: u64, core: u8, home: u64) -> Option<UnitId>
+    requires set { runnable ≡ set_of held.now.records.domains }
     requires core { core < 64 }
-    requires few { length held.now.records.domains ≤ 64 }
     requires line { IsLine held.now }
     requires masks { AreMasks held.now.affinity held.now.masks }
     ensures { result ≡ best_of (arrivals held.now.queue.units) held.now.affinity home core held.now.records }
 {
     held.queue.law_order();
-    let allowed = Allowed(runnable_domains(held.records.domains.as_slice()));
+    let allowed = Allowed(runnable);
     held.queue
         .first_on(&allowed, &held.masks, ResId(core), Cores(home))
 }

@@ -49,6 +49,20 @@ settled_kept t guests cores after s keeps is =
       pool = kept.settles guests.granularity t (pool_of guests cores s) keeps.pool;
     })
 
+-- at a later moment
+pub kept_later : (t0 t : ℕ) (guests : GuestsSeen) (cores : CoresSeen) (s : SchedulerSeen) → t0 ≤ t → t ≤ most_span → IsKept t0 guests cores s → IsKept t guests cores s
+kept_later t0 t guests cores s past early keeps = record {
+  linked = record {
+    granularity = keeps.linked.granularity;
+    guests_latest = (let l = keeps.linked.guests_latest in omega (arith, l, past));
+    scheduler_latest = (let l = keeps.linked.scheduler_latest in omega (arith, l, past));
+    early = early;
+    spare = keeps.linked.spare;
+    works = keeps.linked.works;
+  };
+  pool = kept.later guests.granularity t0 t (pool_of guests cores s) past keeps.pool;
+}
+
 -- after an event at t
 pub acted : (t0 t : ℕ) (guests next : GuestsSeen) (cores after : CoresSeen) (s s2 : SchedulerSeen) (action : Action) (works : List (Option Moment))
     → IsKept t0 guests cores s → t0 ≤ t → t ≤ most_span → enabled_in guests.granularity t (pool_of guests cores s) action ≡ true

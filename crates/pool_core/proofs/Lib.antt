@@ -19,3 +19,4 @@ pub mod Goers
 pub mod Parting
 pub mod Telling
 pub mod ByActor
+pub mod Spared

@@ -1,10 +1,11 @@
 -- What a pool's state keeps of its parts.
-use Rattle.std.specs.Prelude.{ℕ, ◌≡◌, ◌≤◌, List, Option}
+use Rattle.std.specs.Prelude.{ℕ, ◌≡◌, ◌≤◌, Bool, true, List, Option}
 use Rattle.sched_base.specs.declared.Moment.{Moment}
 use Rattle.sched_model.specs.declared.state.Pool.{Pool}
 use Rattle.sched_model.specs.Checked.{most_span}
 use Rattle.sched_model.specs.Places.{at_place}
 use Rattle.pool_laws.specs.Ready.{work_end}
+use Rattle.pool_laws.specs.Settling.{IsSettled}
 use Rattle.pool_kept.specs.Holds.{Holds}
 use Rattle.unit_state.specs.Seen as guests
 use Rattle.core_state.specs.Seen as cores
@@ -29,3 +30,8 @@ pub record AreLinked (t : ℕ) (guests : guests.Seen) (cores : cores.Seen) (sche
 pub record IsKept (t : ℕ) (guests : guests.Seen) (cores : cores.Seen) (scheduler : schedulers.Seen) : Type 0 where
   pub linked : AreLinked t guests cores scheduler
   pub pool : Holds guests.granularity t (pool_of guests cores scheduler)
+
+-- and where the mark says so, looking at the cores changes nothing
+pub record IsAtRest (looked : Bool) (t : ℕ) (guests : guests.Seen) (cores : cores.Seen) (scheduler : schedulers.Seen) : Type 0 where
+  pub kept : IsKept t guests cores scheduler
+  pub settled : looked ≡ true → IsSettled t (pool_of guests cores scheduler)

@@ -31,6 +31,8 @@ pub struct PoolState<P: Policy> {
     cores: CoreState,
     policy: P,
     latest: Moment,
+    /// Whether the cores were looked at, at the greatest moment given, and nothing changed since that a look depends on.
+    settled: bool,
 }
 
 impl<P: Policy> Model for PoolState<P> {
@@ -38,15 +40,15 @@ impl<P: Policy> Model for PoolState<P> {
 
     ghost Value = { Seen };
 
-    ghost use Rattle.pool_core.specs.Kept.{IsKept};
+    ghost use Rattle.pool_core.specs.Kept.{IsAtRest};
 
     ghost view = { λ a. record { pool = pool_of a.guests a.cores (P.seen a.policy); granularity = a.guests.granularity; spare = a.guests.spare; latest = a.latest.0 } };
 
-    ghost invariant = { λ a. IsKept a.latest.0 a.guests a.cores (P.seen a.policy) };
+    ghost invariant = { λ a. IsAtRest a.settled a.latest.0 a.guests a.cores (P.seen a.policy) };
 }
 
 impl<P: Policy> PoolState<P> {
-    ghost use Rattle.std.specs.Prelude.{◌≡◌, ℕ, ◌≤◌, ◌<◌, ◌+◌, ◌-◌, ◌*◌, true, IfOk, None, Some, length, map, option_map};
+    ghost use Rattle.std.specs.Prelude.{◌≡◌, ℕ, ◌≤◌, ◌<◌, ◌+◌, ◌-◌, ◌*◌, true, IsTrue, IfOk, None, Some, length, map, option_map};
     ghost use Rattle.sched_model.specs.Checked.{IsGranularity};
     ghost use Rattle.sched_model.specs.Places.{at_place};
     ghost use Rattle.sched_model.specs.Policy.{default_pool_params, kind_of, rate_of};
@@ -55,6 +57,8 @@ impl<P: Policy> PoolState<P> {
     ghost use Rattle.core_state.specs.Seen.{stall_until};
     ghost use Rattle.plain_pool.specs.Cores.{ends_of};
     ghost use Rattle.pool_laws.specs.Ready.{ready_in};
+    ghost use Rattle.pool_laws.specs.Settling.{IsSettled};
+    ghost use Rattle.pool_kept.specs.Holds.{Holds};
     ghost use Rattle.plain_pool.specs.Own.{IsOfPool};
     ghost use Rattle.pool_core.specs.Params.{stored_in};
     ghost use Rattle.unit_state.specs.Parts.{IsPart};
@@ -90,6 +94,7 @@ impl<P: Policy> PoolState<P> {
             cores,
             policy,
             latest: Moment(0),
+            settled: false,
         })
     }
 
@@ -99,6 +104,7 @@ impl<P: Policy> PoolState<P> {
         requires params { ArePoolParams (kind_of self.old.pool.scheduler.records) params.now }
         ensures { self.new ≡ record self.old { pool = record self.old.pool { scheduler = restarted params.now self.old.pool.scheduler } } }
     {
+        self.settled = false;
         self.policy.restart(params);
     }
 
@@ -113,6 +119,7 @@ impl<P: Policy> PoolState<P> {
         self.cores.keeps();
         self.cores.put(core.r.0, fresh_core(&core.stall_ends));
         self.latest = t;
+        self.settled = false;
         self.look();
     }
 
@@ -129,6 +136,7 @@ impl<P: Policy> PoolState<P> {
         };
         let part = part_of(r, &core);
         self.latest = t;
+        self.settled = false;
         self.look();
         part
     }
@@ -141,6 +149,7 @@ impl<P: Policy> PoolState<P> {
     {
         set_params(&self.guests, &mut self.cores, &mut self.policy, change, t);
         self.latest = t;
+        self.settled = false;
         self.look();
     }
 
@@ -174,6 +183,7 @@ impl<P: Policy> PoolState<P> {
             t,
         );
         self.latest = t;
+        self.settled = false;
         self.look();
     }
 
@@ -186,6 +196,7 @@ impl<P: Policy> PoolState<P> {
         ensures part { IsPart result }
         ensures after { self.new ≡ with_spare (self.old.spare + unit_count result.granularity result.domain) (record self.old { pool = without_domain d.0 self.old.pool }) }
     {
+        self.settled = false;
         take(&mut self.guests, &mut self.policy, d)
     }
 
@@ -193,6 +204,7 @@ impl<P: Policy> PoolState<P> {
     pub fn set_leaving(&mut self, r: ResId)
         ensures { self.new ≡ record self.old { pool = set_leaving r.0 self.old.pool } }
     {
+        self.settled = false;
         self.cores.set_leaving(r.0);
     }
 
@@ -201,14 +213,25 @@ impl<P: Policy> PoolState<P> {
         ensures end { result ≡ stall_until (processor_of self.old.granularity self.old.pool p.0) until }
         ensures after { self.new ≡ record self.old { pool = with_stall self.old.granularity p.0 result self.old.pool } }
     {
+        self.settled = false;
         self.cores.stall(p.0, until)
     }
 
-    /// Each core is looked at, at the greatest moment given.
+    /// Whether a look at the cores, at t, was taken and would change nothing now.
+    fn is_settled(&self, t: Moment) -> bool
+        ensures { IsTrue result → IsSettled t.0 self.now.pool }
+    {
+        self.settled && self.latest.0 == t.0
+    }
+
+    /// Each core is looked at, at the greatest moment given, unless that would change nothing.
     fn look(&mut self)
         ensures { self.new ≡ seen_at self.old.latest (settled self.old.latest self.old.pool) self.old }
     {
-        settle(&mut self.cores, &self.policy, self.latest);
+        if !self.settled {
+            settle(&mut self.cores, &self.policy, self.latest);
+            self.settled = true;
+        }
     }
 
     /// The closure alone: each core that is to decide anew at t is pending.
@@ -216,7 +239,9 @@ impl<P: Policy> PoolState<P> {
         requires now { IsNow self.old t.0 }
         ensures { self.new ≡ seen_at t.0 (settled t.0 self.old.pool) self.old }
     {
+        let settled = self.is_settled(t);
         self.latest = t;
+        self.settled = settled;
         self.look();
     }
 
@@ -262,6 +287,14 @@ impl<P: Policy> PoolState<P> {
         self.guests.moving(d).is_some() && !self.cores.has_domain(d)
     }
 
+    /// Does nothing, and tells what every pool keeps: each unit in one place, siblings of one unit, records of all units, a core's own
+    /// unit on in the records and no other, a started vCPU on a processor.
+    pub fn keeps(&self)
+        ensures { Holds self.now.granularity self.now.latest self.now.pool }
+    {
+        let _ = &self.latest;
+    }
+
     /// An event of the pool that may come at t.
     pub fn perform(&mut self, action: Action, t: Moment) -> Event
         requires now { IsNow self.old t.0 }
@@ -292,6 +325,7 @@ impl<P: Policy> PoolState<P> {
     {
         pause(&mut self.guests, &mut self.cores, &mut self.policy, d);
         self.latest = t;
+        self.settled = false;
         self.look();
     }
 
@@ -303,6 +337,7 @@ impl<P: Policy> PoolState<P> {
     {
         unpause(&mut self.guests, &self.cores, &mut self.policy, d);
         self.latest = t;
+        self.settled = false;
         self.look();
     }
 
@@ -313,6 +348,7 @@ impl<P: Policy> PoolState<P> {
     {
         set_moving(&mut self.guests, &mut self.cores, &mut self.policy, d, to);
         self.latest = t;
+        self.settled = false;
         self.look();
     }
 
@@ -328,6 +364,7 @@ impl<P: Policy> PoolState<P> {
         self.cores.keeps();
         wake(&mut self.guests, &mut self.cores, &mut self.policy, v, t);
         self.latest = t;
+        self.settled = false;
         self.look();
         Event::Wake { v }
     }
@@ -340,11 +377,13 @@ impl<P: Policy> PoolState<P> {
         ensures event { result ≡ event_in self.old.granularity t.0 self.old.pool (Block p.0) }
         ensures after { self.new ≡ happened t.0 (Block p.0) self.old }
     {
+        let settled = self.is_settled(t);
         let Some(v) = guest_of(&self.cores, p.0) else {
             unreachable!();
         };
         block(&mut self.guests, &mut self.cores, p.0, v, t);
         self.latest = t;
+        self.settled = settled;
         self.look();
         Event::Block { p, v }
     }
@@ -356,8 +395,10 @@ impl<P: Policy> PoolState<P> {
         ensures event { result ≡ event_in self.old.granularity t.0 self.old.pool (Slice r.0) }
         ensures after { self.new ≡ happened t.0 (Slice r.0) self.old }
     {
+        let settled = self.is_settled(t);
         self.cores.set_pending(r.0);
         self.latest = t;
+        self.settled = settled;
         self.look();
         Event::Slice { r }
     }
@@ -372,6 +413,7 @@ impl<P: Policy> PoolState<P> {
     {
         let event = replenish(&self.guests, &mut self.cores, &mut self.policy, u, t);
         self.latest = t;
+        self.settled = false;
         self.look();
         event
     }
@@ -385,6 +427,7 @@ impl<P: Policy> PoolState<P> {
     {
         let event = self.policy.timer(Timer::Refill(d), t);
         self.latest = t;
+        self.settled = false;
         self.look();
         event
     }
@@ -396,8 +439,10 @@ impl<P: Policy> PoolState<P> {
         ensures event { result ≡ event_in self.old.granularity t.0 self.old.pool (Arrive p.0) }
         ensures after { self.new ≡ happened t.0 (Arrive p.0) self.old }
     {
+        let settled = self.is_settled(t);
         arrive(&mut self.guests, &mut self.cores, p.0, t);
         self.latest = t;
+        self.settled = settled;
         self.look();
         Event::Arrive { p }
     }
@@ -412,6 +457,7 @@ impl<P: Policy> PoolState<P> {
     {
         let event = decide(&self.guests, &mut self.cores, &mut self.policy, r.0, t);
         self.latest = t;
+        self.settled = false;
         self.look();
         event
     }
@@ -424,9 +470,11 @@ impl<P: Policy> PoolState<P> {
         ensures event { result ≡ event_in self.old.granularity t.0 self.old.pool (Leave p.0) }
         ensures after { self.new ≡ happened t.0 (Leave p.0) self.old }
     {
+        let settled = self.is_settled(t);
         self.cores.keeps();
         let v = leave(&mut self.guests, &mut self.cores, p.0, t);
         self.latest = t;
+        self.settled = settled;
         self.look();
         Event::Leave { p, v }
     }
@@ -440,6 +488,7 @@ impl<P: Policy> PoolState<P> {
     {
         let event = save(&self.guests, &mut self.cores, &mut self.policy, r.0, t);
         self.latest = t;
+        self.settled = false;
         self.look();
         event
     }

@@ -19,9 +19,8 @@ returns c =
     let records : Credit2Records = held.records in
     let es : List Queued = held.queue.units in
     let p : ℕ → UnitId → Bool = λ k u. has_domain k u.dom.0 && may_run held.masks (record { 0 = c.args.core }) (record { 0 = c.args.home }) u in
-    let found : c.first_on.result ≡ first_that (p c.runnable_domains.result) es = c.first_on.ensures in
-    let set : c.runnable_domains.result ≡ set_of records.domains = c.runnable_domains.ensures.exact ∙ ap set_of c.as_slice.ensures in
+    let found : c.first_on.result ≡ first_that (p c.args.runnable) es = c.first_on.ensures in
     found
-    ∙ ap (λ (k : ℕ). first_that (p k) es) set
+    ∙ ap (λ (k : ℕ). first_that (p k) es) c.requires.set
     ∙ first_greatest records (p (set_of records.domains)) es (record { order = c.law_order.ensures.order; ranks = c.law_order.ensures.ranks; units = c.law_order.ensures.units }) c.requires.line.keys
     ∙ ap (greatest records None) (filter-same (p (set_of records.domains)) (may_take held.affinity c.args.home c.args.core records) (arrivals es) (passes_each held.affinity held.masks records c.args.core c.args.home (arrivals es) c.requires.masks c.requires.line.joined))

@@ -8,10 +8,11 @@ use Rattle.core_state.specs.Seen.{Seen as CoresSeen, without_works}
 use Rattle.pool_kept.proofs.Kept.{core_comes, later}
 use Rattle.pool_core.specs.Seen.{IsNow, Seen, pool_of}
 use Rattle.pool_core.proofs.Coming.{cores_kept, works_come}
+use Rattle.pool_core.proofs.Spared.{unsettled}
 use Rattle.pool_core.proofs.pool.PoolState.attach.Goals as goal
 
 pub invariant_of-self : goal.invariant_of-self
-invariant_of-self g c =
+invariant_of-self g c = unsettled (
     let s = g.P.Policy.seen c.self.inside.policy in
     let pool : Pool = pool_of c.self.inside.guests c.self.inside.cores s in
     let k = c.self.inside.guests.granularity in
@@ -23,7 +24,7 @@ invariant_of-self g c =
     let cores : CoresSeen = c.self.inside.cores in
     let after : c.put.new.self ≡ record cores { resources = put_at r (fresh_core ends) cores.resources; works = without_works (r * k) k cores.works } =
     c.put.ensures ∙ ap (λ (x : Resource). record cores { resources = put_at r x cores.resources; works = without_works (r * cores.granularity) cores.granularity cores.works }) c.fresh_core.ensures
-    ∙ ap (λ (i : ℕ). record cores { resources = put_at r (fresh_core ends) cores.resources; works = without_works (r * i) i cores.works }) c.self.invariant.linked.granularity in
-    cores_kept c.self.inside.latest.0 c.args.t.0 c.self.inside.guests cores c.put.new.self s (without_works (r * k) k cores.works) (put_at r (fresh_core ends) cores.resources) c.self.invariant now.after now.early after
-    (works_come k r ends cores.works pool c.self.invariant.pool.some place c.self.invariant.linked.works)
-    (core_comes k c.args.t.0 r ends pool absent (later k c.self.inside.latest.0 c.args.t.0 pool now.after c.self.invariant.pool))
+    ∙ ap (λ (i : ℕ). record cores { resources = put_at r (fresh_core ends) cores.resources; works = without_works (r * i) i cores.works }) c.self.invariant.kept.linked.granularity in
+    cores_kept c.self.inside.latest.0 c.args.t.0 c.self.inside.guests cores c.put.new.self s (without_works (r * k) k cores.works) (put_at r (fresh_core ends) cores.resources) c.self.invariant.kept now.after now.early after
+    (works_come k r ends cores.works pool c.self.invariant.kept.pool.some place c.self.invariant.kept.linked.works)
+    (core_comes k c.args.t.0 r ends pool absent (later k c.self.inside.latest.0 c.args.t.0 pool now.after c.self.invariant.kept.pool)))

@@ -7,10 +7,11 @@ use Rattle.core_state.specs.Seen.{Seen as CoresSeen, without_works}
 use Rattle.pool_kept.proofs.Kept.{core_goes, later}
 use Rattle.pool_core.specs.Seen.{IsNow, Seen, pool_of}
 use Rattle.pool_core.proofs.Coming.{cores_kept, works_go}
+use Rattle.pool_core.proofs.Spared.{unsettled}
 use Rattle.pool_core.proofs.pool.PoolState.detach.Goals as goal
 
 pub invariant_of-self : goal.invariant_of-self
-invariant_of-self g c =
+invariant_of-self g c = unsettled (
     let s = g.P.Policy.seen c.self.inside.policy in
     let pool : Pool = pool_of c.self.inside.guests c.self.inside.cores s in
     let k = c.self.inside.guests.granularity in
@@ -19,7 +20,7 @@ invariant_of-self g c =
     let on : enabled_in k c.args.t.0 pool (Moved r) ≡ true = subst (λ (x : Seen). enabled_in x.granularity c.args.t.0 x.pool (Moved r) ≡ true) (sym c.self.view_is) c.requires.ready in
     let cores : CoresSeen = c.self.inside.cores in
     let after : c.take.new.self ≡ record cores { resources = clear_at r cores.resources; works = without_works (r * k) k cores.works } =
-    c.in-Some.ensures.after ∙ ap (λ (i : ℕ). record cores { resources = clear_at r cores.resources; works = without_works (r * i) i cores.works }) c.self.invariant.linked.granularity in
-    cores_kept c.self.inside.latest.0 c.args.t.0 c.self.inside.guests cores c.take.new.self s (without_works (r * k) k cores.works) (clear_at r cores.resources) c.self.invariant now.after now.early after
-    (works_go k r cores.works pool c.self.invariant.pool.some c.self.invariant.linked.works)
-    (core_goes k c.args.t.0 r pool on (later k c.self.inside.latest.0 c.args.t.0 pool now.after c.self.invariant.pool))
+    c.in-Some.ensures.after ∙ ap (λ (i : ℕ). record cores { resources = clear_at r cores.resources; works = without_works (r * i) i cores.works }) c.self.invariant.kept.linked.granularity in
+    cores_kept c.self.inside.latest.0 c.args.t.0 c.self.inside.guests cores c.take.new.self s (without_works (r * k) k cores.works) (clear_at r cores.resources) c.self.invariant.kept now.after now.early after
+    (works_go k r cores.works pool c.self.invariant.kept.pool.some c.self.invariant.kept.linked.works)
+    (core_goes k c.args.t.0 r pool on (later k c.self.inside.latest.0 c.args.t.0 pool now.after c.self.invariant.kept.pool)))

@@ -11,10 +11,11 @@ use Rattle.pool_kept.proofs.Kept.{domain_comes, later}
 use Rattle.pool_core.specs.Kept.{AreWorks}
 use Rattle.pool_core.specs.Seen.{IsNow, Seen, pool_of}
 use Rattle.pool_core.proofs.Giving.{has_unit, matches, works_given}
+use Rattle.pool_core.proofs.Spared.{unsettled}
 use Rattle.pool_core.proofs.pool.PoolState.give_domain.Goals as goal
 
 pub invariant_of-self : goal.invariant_of-self
-invariant_of-self g c =
+invariant_of-self g c = unsettled (
     let s = g.P.Policy.seen c.self.inside.policy in
     let guests : GuestsSeen = c.self.inside.guests in
     let pool : Pool = pool_of guests c.self.inside.cores s in
@@ -25,13 +26,13 @@ invariant_of-self g c =
     let place : d < length pool.domains = subst (λ (x : Seen). d < length x.pool.domains) (sym c.self.view_is) c.requires.place in
     let absent : at_place pool.domains d ≡ None = subst (λ (x : Seen). at_place x.pool.domains d ≡ None) (sym c.self.view_is) c.requires.absent in
     let params : AreDomParams (kind_of s.scheduler.records) c.args.params.now = subst (λ (x : Seen). AreDomParams (kind_of x.pool.scheduler.records) c.args.params.now) (sym c.self.view_is) c.requires.params in
-    let linked = c.self.invariant.linked in
+    let linked = c.self.invariant.kept.linked in
     let next : Pool = with_domain k c.args.t.0 d domain c.args.params.now pool in
     let is : pool_of c.join.new.guests c.self.inside.cores (g.P.Policy.seen c.join.new.policy) ≡ next = c.join.ensures.pool in
     let same : c.join.new.guests.granularity ≡ k = ap (λ (x : GuestsSeen). x.granularity) c.join.ensures.guests in
     let spare : c.join.new.guests.spare ≡ guests.spare - unit_count c.args.part.granularity domain = ap (λ (x : GuestsSeen). x.spare) c.join.ensures.guests in
     let latest : c.join.new.guests.latest ≡ guests.latest = ap (λ (x : GuestsSeen). x.latest) c.join.ensures.guests in
-    let holds : Holds k c.args.t.0 next = domain_comes k c.args.t.0 d domain c.args.params.now pool c.requires.stays c.requires.part.still absent place (has_unit k domain c.self.invariant.pool.some c.requires.part.guests.some) (matches s.scheduler.records c.args.params.now params) (later k c.self.inside.latest.0 c.args.t.0 pool now.after c.self.invariant.pool) in
+    let holds : Holds k c.args.t.0 next = domain_comes k c.args.t.0 d domain c.args.params.now pool c.requires.stays c.requires.part.still absent place (has_unit k domain c.self.invariant.kept.pool.some c.requires.part.guests.some) (matches s.scheduler.records c.args.params.now params) (later k c.self.inside.latest.0 c.args.t.0 pool now.after c.self.invariant.kept.pool) in
     let works : AreWorks k c.self.inside.cores.works next = works_given k c.args.t.0 d domain c.args.params.now c.self.inside.cores.works pool absent c.requires.part.still linked.works in
     record {
       linked = record {
@@ -43,4 +44,4 @@ invariant_of-self g c =
         works = subst (λ (i : ℕ). AreWorks i c.self.inside.cores.works (pool_of c.join.new.guests c.self.inside.cores (g.P.Policy.seen c.join.new.policy))) (sym same) (subst (AreWorks k c.self.inside.cores.works) (sym is) works);
       };
       pool = subst (λ (i : ℕ). Holds i c.args.t.0 (pool_of c.join.new.guests c.self.inside.cores (g.P.Policy.seen c.join.new.policy))) (sym same) (subst (Holds k c.args.t.0) (sym is) holds);
-    }
+    })

@@ -6,18 +6,19 @@ use Rattle.core_state.specs.Seen.{Seen as CoresSeen}
 use Rattle.pool_core.specs.Seen.{IsNow, Seen, pool_of}
 use Rattle.pool_core.proofs.Acting.{acted, unmoved}
 use Rattle.pool_core.proofs.ActedWorks.{works_save}
+use Rattle.pool_core.proofs.Spared.{unsettled}
 use Rattle.pool_core.proofs.pool.PoolState.save.Goals as goal
 
 pub invariant_of-self : goal.invariant_of-self
-invariant_of-self g c =
+invariant_of-self g c = unsettled (
     let s = g.P.Policy.seen c.self.inside.policy in
     let pool : Pool = pool_of c.self.inside.guests c.self.inside.cores s in
     let k = c.self.inside.guests.granularity in
     let now : IsNow (record { pool = pool; granularity = k; spare = c.self.inside.guests.spare; latest = c.self.inside.latest.0 }) c.args.t.0 = subst (λ (x : Seen). IsNow x c.args.t.0) (sym c.self.view_is) c.requires.now in
     let on : enabled_in k c.args.t.0 pool (Save c.args.r.0) ≡ true = subst (λ (x : Seen). enabled_in x.granularity c.args.t.0 x.pool (Save c.args.r.0) ≡ true) (sym c.self.view_is) c.requires.enabled in
-    let latest : (g.P.Policy.seen c.save-event.new.policy).latest ≤ c.args.t.0 = (let l = c.self.invariant.linked.scheduler_latest in let a = now.after in let same = c.save-event.ensures.room.latest in omega (arith, l, a, same)) in
+    let latest : (g.P.Policy.seen c.save-event.new.policy).latest ≤ c.args.t.0 = (let l = c.self.invariant.kept.linked.scheduler_latest in let a = now.after in let same = c.save-event.ensures.room.latest in omega (arith, l, a, same)) in
     acted c.self.inside.latest.0 c.args.t.0 c.self.inside.guests c.self.inside.guests c.self.inside.cores c.save-event.new.cores s (g.P.Policy.seen c.save-event.new.policy) (Save c.args.r.0) c.self.inside.cores.works
-    c.self.invariant now.after now.early on c.save-event.ensures.pool
-    (unmoved c.self.inside.latest.0 c.args.t.0 c.self.inside.guests c.self.inside.cores c.save-event.new.cores s c.self.invariant now.after (ap (λ (x : CoresSeen). x.granularity) c.save-event.ensures.cores))
+    c.self.invariant.kept now.after now.early on c.save-event.ensures.pool
+    (unmoved c.self.inside.latest.0 c.args.t.0 c.self.inside.guests c.self.inside.cores c.save-event.new.cores s c.self.invariant.kept now.after (ap (λ (x : CoresSeen). x.granularity) c.save-event.ensures.cores))
     latest c.save-event.ensures.room.spare (ap (λ (x : CoresSeen). x.works) c.save-event.ensures.cores)
-    (works_save k c.args.t.0 c.self.inside.cores.works pool c.self.invariant.pool.known c.self.invariant.linked.works c.args.r.0)
+    (works_save k c.args.t.0 c.self.inside.cores.works pool c.self.invariant.kept.pool.known c.self.invariant.kept.linked.works c.args.r.0))

@@ -5,10 +5,11 @@ use Rattle.core_state.specs.Seen.{Seen as CoresSeen, stalled_to, with_sibling}
 use Rattle.pool_kept.proofs.Kept.{stalls}
 use Rattle.pool_core.specs.Seen.{pool_of}
 use Rattle.pool_core.proofs.Coming.{cores_kept, works_stalled}
+use Rattle.pool_core.proofs.Spared.{unsettled}
 use Rattle.pool_core.proofs.pool.PoolState.stall.Goals as goal
 
 pub invariant_of-self : goal.invariant_of-self
-invariant_of-self g c =
+invariant_of-self g c = unsettled (
     let s = g.P.Policy.seen c.self.inside.policy in
     let pool : Pool = pool_of c.self.inside.guests c.self.inside.cores s in
     let k = c.self.inside.guests.granularity in
@@ -16,7 +17,7 @@ invariant_of-self g c =
     let p = c.args.p.0 in
     let end = c.stall.result in
     cores_kept c.self.inside.latest.0 c.self.inside.latest.0 c.self.inside.guests cores c.stall.new.self s cores.works (change_at (p / k) (with_sibling (p % k) (stalled_to end)) cores.resources)
-    c.self.invariant (omega arith) c.self.invariant.linked.early
-    (c.stall.ensures.after ∙ ap (λ (i : ℕ). record cores { resources = change_at (p / i) (with_sibling (p % i) (stalled_to end)) cores.resources }) c.self.invariant.linked.granularity)
-    (works_stalled k p end cores.works pool c.self.invariant.linked.works)
-    (stalls k c.self.inside.latest.0 p end.0 pool c.self.invariant.pool)
+    c.self.invariant.kept (omega arith) c.self.invariant.kept.linked.early
+    (c.stall.ensures.after ∙ ap (λ (i : ℕ). record cores { resources = change_at (p / i) (with_sibling (p % i) (stalled_to end)) cores.resources }) c.self.invariant.kept.linked.granularity)
+    (works_stalled k p end cores.works pool c.self.invariant.kept.linked.works)
+    (stalls k c.self.inside.latest.0 p end.0 pool c.self.invariant.kept.pool))
