@@ -1,0 +1,193 @@
+-- The domains come in one after another.
+use Rattle.std.proofs.Common.{◌≡◌, ◌≤◌, ◌<◌, ◌+◌, ◌-◌, ◌/◌, ℕ, zero, suc, true, false, List, [], ◌∷◌, refl, sym, ap, subst, ◌∙◌, cond, arith, length, inl, inr}
+use Rattle.std.specs.Prelude.{Option, Some, None, drop, map, slice_get, ◌==◌}
+use Rattle.std.proofs.lemmas.List.{length-append, length-map}
+use Rattle.sched_base.specs.Numbers.{domain}
+use Rattle.sched_base.specs.declared.Cores.{Cores}
+use Rattle.sched_model.specs.declared.config.Config.{Config}
+use Rattle.sched_model.specs.declared.config.DomConfig.{DomConfig}
+use Rattle.sched_model.specs.declared.config.PoolConfig.{PoolConfig}
+use Rattle.sched_model.specs.declared.state.Pool.{Pool}
+use Rattle.sched_model.specs.declared.state.Domain.{Domain}
+use Rattle.sched_model.specs.declared.state.Vcpu.{Vcpu}
+use Rattle.sched_model.specs.declared.config.ParamChange.TheVariants as changes
+use Rattle.sched_model.specs.Actions.{units_from}
+use Rattle.sched_model.specs.Checked.{IsCheckedConfig, IsCheckedDomain, IsGranularity}
+use Rattle.sched_model.specs.Opening.{fresh_vcpu, with_configured, with_domains, with_pins}
+use Rattle.sched_model.specs.Places.{numbers_from, put_at}
+use Rattle.sched_model.specs.Pool.{set_params, settled, unit_count, with_domain}
+use Rattle.sched_laws.proofs.EachPlace.{at_place-put_at_other, length_set}
+use Rattle.sched_laws.proofs.Opened.{length_map_numbers, with_configured-resources, with_domain-domains, with_domain-resources}
+use Rattle.sched_ops.specs.Conditions.{has_joined}
+use Rattle.sched_ops.specs.Seen.{units_of}
+use Rattle.unit_state.specs.Parts.{IsPart}
+use Rattle.pool_core.specs.Seen.{Seen, seen_at, with_spare}
+use Rattle.pool_opening.specs.Opened.{IsOpening, IsStill, configured, fresh_domain, joined, unit_total, units_in_all, with_all, with_pool}
+use Rattle.pool_opening.proofs.Guests.{fresh_guests, fresh_still}
+use Rattle.pool_opening.proofs.Parameters.{home_first}
+use Rattle.pool_opening.proofs.Pinning.{domains_pinned, has_come_in, kind_joined, kind_pinned, sets_joined, sets_pinned, units_come_in}
+use Rattle.pool_opening.proofs.Steady.{stays}
+
+-- the units of the first domain, and those of the others
+pub units_split : (g d : ℕ) (joining : DomConfig) (rest : List DomConfig) → units_in_all g d (joining ∷ rest) ≡ unit_total g joining + units_in_all g (suc d) rest
+units_split g d joining rest =
+    length-append (map (λ (n : ℕ). _) (numbers_from 0 (unit_total g joining))) (units_from g (suc d) rest)
+    ∙ ap (λ (k : ℕ). k + units_in_all g (suc d) rest) (length_map_numbers _ 0 (unit_total g joining))
+
+-- there is room for the first of them, and for the others then
+pub room_of_first : (g d : ℕ) (joining : DomConfig) (rest : List DomConfig) (room : ℕ) → units_in_all g d (joining ∷ rest) ≤ room → unit_total g joining ≤ room
+room_of_first g d joining rest room fit = let split = units_split g d joining rest in omega (arith, split, fit)
+
+pub room_of_rest : (g d : ℕ) (joining : DomConfig) (rest : List DomConfig) (room : ℕ) → units_in_all g d (joining ∷ rest) ≤ room → units_in_all g (d + 1) rest ≤ room - unit_total g joining
+room_of_rest g d joining rest room fit =
+    let split = units_split g d joining rest in
+    let next : d + 1 ≡ suc d = omega arith in
+    subst (λ (k : ℕ). units_in_all g k rest ≤ room - unit_total g joining) (sym next) (omega (arith, split, fit))
+
+-- a domain at the opening has as many units as the file says
+pub count_fresh : (g : ℕ) (joining : DomConfig) → unit_count g (fresh_domain joining) ≡ unit_total g joining
+count_fresh g joining = ap (λ (k : ℕ). (k + g - 1) / g) (length-map joining.guests fresh_vcpu)
+
+-- there are as many sets of cores as units, or none
+pub pins_fit : (config : Config) (joining : DomConfig) → IsCheckedDomain config joining → length joining.pins ≤ unit_total config.granularity joining
+pins_fit config joining checked = elim checked.pins.count [
+  | inl none ↦ rw none (omega arith)
+  | inr all ↦ let one : units_in_all config.granularity 0 (joining ∷ []) ≡ unit_total config.granularity joining + 0 = units_split config.granularity 0 joining [] in omega (arith, all, one)
+]
+
+module _ (config : Config) (home : PoolConfig) (d : ℕ) (joining : DomConfig) (seen : Seen) (opening : IsOpening config home d seen) where
+  abbrev after : Pool
+  after = with_configured config.granularity d joining seen.pool
+
+  abbrev before_pins : Pool
+  before_pins = with_domain config.granularity 0 d (fresh_domain joining) joining.params seen.pool
+
+  pub still_joined_in : IsStill (joined config.granularity d joining seen)
+  still_joined_in = record {
+    early = opening.still.early;
+    pending = rw (with_domain-resources config.granularity 0 d (fresh_domain joining) joining.params seen.pool) opening.still.pending;
+  }
+
+  domains_after : after.domains ≡ put_at d (fresh_domain joining) seen.pool.domains
+  domains_after = domains_pinned d 0 joining.pins before_pins ∙ with_domain-domains config.granularity 0 d (fresh_domain joining) joining.params seen.pool
+
+  -- the next domain may come
+  pub goes_on : IsOpening config home (d + 1) (configured config.granularity d joining seen)
+  goes_on = record {
+    still = record { early = opening.still.early; pending = rw (with_configured-resources config.granularity d joining seen.pool) opening.still.pending };
+    granularity = opening.granularity;
+    kind = kind_pinned d 0 joining.pins before_pins ∙ kind_joined config.granularity d (fresh_domain joining) joining.params seen.pool ∙ opening.kind;
+    places = ap (λ (list : List (Option Domain)). length list) domains_after ∙ length_set d (Some (fresh_domain joining)) seen.pool.domains ∙ opening.places;
+    sets = sets_pinned d 0 joining.pins before_pins ∙ sets_joined config.granularity d (fresh_domain joining) joining.params seen.pool ∙ opening.sets;
+    absent = λ n later. rw domains_after (at_place-put_at_other d n (fresh_domain joining) seen.pool.domains (λ e. omega (arith, e, later)) ∙ opening.absent n (omega (arith, later)));
+  }
+
+-- the first domain and then the others are all of them
+pub first_and_rest : (config : Config) (home : PoolConfig) (d : ℕ) (joining : DomConfig) (rest : List DomConfig) (seen : Seen) → config.pools ≡ home ∷ [] → IsCheckedDomain config joining
+    → with_all config.granularity (d + 1) rest (configured config.granularity d joining seen) ≡ with_all config.granularity d (joining ∷ rest) seen
+first_and_rest config home d joining rest seen alone checked =
+    let g : ℕ = config.granularity in
+    let next : d + 1 ≡ suc d = omega arith in
+    let first : joining.home.0 ≡ 0 = home_first config home alone joining checked in
+    let spare : seen.spare - unit_total g joining - units_in_all g (suc d) rest ≡ seen.spare - units_in_all g d (joining ∷ rest) = (let split = units_split g d joining rest in omega (arith, split)) in
+    ap (λ (k : ℕ). with_all g k rest (configured g d joining seen)) next
+    ∙ ap (λ (k : ℕ). record seen { pool = with_domains g 0 (suc d) rest (with_configured g d joining seen.pool); spare = k }) spare
+    ∙ ap (λ (k : ℕ). record seen { pool = with_domains g 0 (suc d) rest (cond (k == 0) (with_configured g d joining seen.pool) seen.pool); spare = seen.spare - units_in_all g d (joining ∷ rest) }) (sym first)
+
+-- a domain at the opening may come in
+pub part_fits : (config : Config) (d : ℕ) (joining : DomConfig) (vcpus : List Vcpu) → vcpus ≡ map fresh_vcpu joining.guests → d < length config.domains → IsCheckedConfig config → IsCheckedDomain config joining
+    → IsPart (record { d = domain d; granularity = config.granularity; domain = record { paused = false; moving = None; vcpus = vcpus } })
+part_fits config d joining vcpus same inside checked domain_checked =
+    subst (λ (list : List Vcpu). IsPart (record { d = domain d; granularity = config.granularity; domain = record { paused = false; moving = None; vcpus = list } })) (sym same) (record {
+      number = (let few = checked.few_domains in omega (arith, inside, few));
+      granularity = checked.granularity;
+      guests = fresh_guests joining domain_checked.scripts domain_checked.some_guest domain_checked.few_guests;
+      still = fresh_still joining domain_checked.scripts;
+    })
+
+-- it came in
+pub given : (config : Config) (home : PoolConfig) (d : ℕ) (joining : DomConfig) (seen : Seen) (vcpus : List Vcpu) → IsOpening config home d seen → vcpus ≡ map fresh_vcpu joining.guests
+    → let fresh : Domain = record { paused = false; moving = None; vcpus = vcpus } in
+    with_spare (seen.spare - unit_count config.granularity fresh) (seen_at 0 (settled 0 (with_domain seen.granularity 0 d fresh joining.params seen.pool)) seen) ≡ joined config.granularity d joining seen
+given config home d joining seen vcpus opening same =
+    let g : ℕ = config.granularity in
+    let next : Pool = with_domain g 0 d (fresh_domain joining) joining.params seen.pool in
+    let told : ℕ → Domain → Seen = λ k fresh. with_spare (seen.spare - unit_count g fresh) (seen_at 0 (settled 0 (with_domain k 0 d fresh joining.params seen.pool)) seen) in
+    ap (λ (list : List Vcpu). told seen.granularity (record { paused = false; moving = None; vcpus = list })) same
+    ∙ ap (λ (k : ℕ). told k (fresh_domain joining)) opening.granularity
+    ∙ ap (λ (s : Seen). with_spare (seen.spare - unit_count g (fresh_domain joining)) s) (stays next seen opening.still.early (rw (with_domain-resources g 0 d (fresh_domain joining) joining.params seen.pool) opening.still.pending))
+    ∙ ap (λ (k : ℕ). with_spare (seen.spare - k) (with_pool next seen)) (count_fresh g joining)
+
+-- a unit got its set of cores
+pub pinned_still : (d n : ℕ) (cores : Cores) (seen : Seen) → IsStill seen → seen_at 0 (settled 0 (set_params (changes.Pin (domain d) (Some n) cores) 0 seen.pool)) seen ≡ with_pool (with_pins d n (cores ∷ []) seen.pool) seen
+pinned_still d n cores seen still = stays (set_params (changes.Pin (domain d) (Some n) cores) 0 seen.pool) seen still.early still.pending
+
+-- a domain has at most 32 units
+pub few_units : (g : ℕ) (joining : DomConfig) → IsGranularity g → length joining.guests ≤ 32 → unit_total g joining ≤ 32
+few_units g joining one_of few = elim one_of [
+  | inl one ↦ rw one (omega (arith, few))
+  | inr more ↦ elim more [ inl two ↦ rw two (omega (arith, few)) | inr four ↦ rw four (omega (arith, few)) ]
+]
+
+module _ (config : Config) (home : PoolConfig) (d : ℕ) (joining : DomConfig) (seen : Seen) (opening : IsOpening config home d seen) (inside : d < length config.domains) where
+  set_place : d < length seen.pool.scheduler.affinity
+  set_place = let all = opening.sets in omega (arith, all, inside)
+
+  -- the domain that came in may have its sets of cores
+  pub joined_came : has_joined (joined config.granularity d joining seen).pool.scheduler d ≡ true
+  joined_came = has_come_in config.granularity d (fresh_domain joining) joining.params seen.pool set_place
+
+  pub units_came : units_of (joined config.granularity d joining seen).pool.scheduler d ≡ unit_total config.granularity joining
+  units_came = units_come_in config.granularity d (fresh_domain joining) joining.params seen.pool set_place ∙ count_fresh config.granularity joining
+
+first_left : {X : Type 0} (i : ℕ) (xs : List X) (x : X) → slice_get xs i ≡ Some x → drop i xs ≡ x ∷ drop (suc i) xs
+first_left i [] x at = absurd (cc)
+first_left zero (y ∷ xs) x at = let same : y ≡ x = cc in ap (λ (z : _). z ∷ xs) same
+first_left (suc i) (y ∷ xs) x at = first_left i xs x at
+
+first_and_left : {X : Type 0} (i : ℕ) (xs : List X) (x : X) → slice_get xs i ≡ Some x → drop i xs ≡ x ∷ drop (i + 1) xs
+first_and_left i xs x at = let next : suc i ≡ i + 1 = omega arith in first_left i xs x at ∙ ap (λ (k : ℕ). x ∷ drop k xs) next
+
+none_left : {X : Type 0} (i : ℕ) (xs : List X) → length xs ≤ i → drop i xs ≡ []
+none_left zero [] past = refl
+none_left (suc i) [] past = refl
+none_left zero (x ∷ xs) past = absurd (omega (arith, past))
+none_left (suc i) (x ∷ xs) past = none_left i xs (omega (arith, past))
+
+-- the domains below d came in, and there is room for the others
+pub record IsBetween (config : Config) (home : PoolConfig) (d : ℕ) (first now : Seen) : Type 0 where
+  pub opening : IsOpening config home d now
+  pub rest : with_all config.granularity d (drop d config.domains) now ≡ with_all config.granularity 0 config.domains first
+  pub room : units_in_all config.granularity d (drop d config.domains) ≤ now.spare
+
+module _ (config : Config) (home : PoolConfig) (first : Seen) where
+  pub between_first : IsOpening config home 0 first → units_in_all config.granularity 0 config.domains ≤ first.spare → IsBetween config home 0 first first
+  between_first opening room = record { opening = opening; rest = refl; room = room }
+
+  module _ (d : ℕ) (now : Seen) (between : IsBetween config home d first now) where
+    pub next_fits : (joining : DomConfig) → slice_get config.domains d ≡ Some joining → unit_total config.granularity joining ≤ now.spare
+    next_fits joining at =
+        room_of_first config.granularity d joining (drop (d + 1) config.domains) now.spare
+        (subst (λ (list : List DomConfig). units_in_all config.granularity d list ≤ now.spare) (first_and_left d config.domains joining at) between.room)
+
+    -- the next came in
+    pub between_next : (joining : DomConfig) (next : Seen) → slice_get config.domains d ≡ Some joining → config.pools ≡ home ∷ [] → IsCheckedDomain config joining
+        → next ≡ configured config.granularity d joining now → IsOpening config home (d + 1) next → IsBetween config home (d + 1) first next
+    between_next joining next at alone checked came opening =
+        let g : ℕ = config.granularity in
+        let left = first_and_left d config.domains joining at in
+        record {
+          opening = opening;
+          rest =
+              ap (λ (s : Seen). with_all g (d + 1) (drop (d + 1) config.domains) s) came ∙ first_and_rest config home d joining (drop (d + 1) config.domains) now alone checked
+              ∙ ap (λ (list : List DomConfig). with_all g d list now) (sym left) ∙ between.rest;
+          room =
+              subst (λ (s : Seen). units_in_all g (d + 1) (drop (d + 1) config.domains) ≤ s.spare) (sym came)
+              (room_of_rest g d joining (drop (d + 1) config.domains) now.spare (subst (λ (list : List DomConfig). units_in_all g d list ≤ now.spare) left between.room));
+        }
+
+    -- all came in
+    pub between_last : length config.domains ≤ d → now ≡ with_all config.granularity 0 config.domains first
+    between_last past =
+        let same : now.spare ≡ now.spare - 0 = omega arith in
+        ap (λ (k : ℕ). record now { spare = k }) same ∙ ap (λ (list : List DomConfig). with_all config.granularity d list now) (sym (none_left d config.domains past)) ∙ between.rest

@@ -1,0 +1,122 @@
+-- What the scheduler keeps while a domain comes in and its units get their sets of cores.
+use Rattle.std.proofs.Common.{◌≡◌, ◌<◌, ℕ, zero, suc, true, ◌&&◌, List, [], ◌∷◌, refl, ap, ◌∙◌, length}
+use Rattle.std.specs.Prelude.{Option, Some, None, option_map, is_some, replicate}
+use Rattle.std.proofs.lemmas.List.{length-replicate}
+use Rattle.sched_base.specs.Numbers.{domain}
+use Rattle.sched_base.specs.declared.Cores.{Cores}
+use Rattle.sched_base.specs.declared.UnitId.{UnitId}
+use Rattle.sched_model.specs.declared.config.DomParams.{DomParams}
+use Rattle.sched_model.specs.declared.config.DomParams.TheVariants as dom_params
+use Rattle.sched_model.specs.declared.config.ParamChange.TheVariants as changes
+use Rattle.sched_model.specs.declared.state.Domain.{Domain}
+use Rattle.sched_model.specs.declared.state.Pool.{Pool}
+use Rattle.sched_model.specs.declared.state.Records.{Records}
+use Rattle.sched_model.specs.declared.state.Records.TheVariants.{Credit2Pool, RtdsPool, ArincPool, NullPool}
+use Rattle.sched_model.specs.declared.state.Scheduler.{Scheduler}
+use Rattle.sched_model.specs.Opening.{with_pins}
+use Rattle.sched_model.specs.Places.{at_place, change_at, change_item, numbers_from}
+use Rattle.sched_model.specs.Policy.{all_cores, changed_records, join, joined_records, kind_of, pinned}
+use Rattle.sched_model.specs.Pool.{is_off, queue_if_off, queue_units, set_params, unit_count, with_domain}
+use Rattle.sched_model.specs.State.{is_runnable}
+use Rattle.sched_laws.proofs.EachPlace.{at_place-put_at, by_cond, length_set}
+use Rattle.sched_ops.specs.Conditions.{has_joined}
+use Rattle.sched_ops.specs.Seen.{units_of}
+
+-- the schedulers have the same sets of cores, and records of the same kind
+record IsLike (a b : Scheduler) : Type 0 where
+  sets : a.affinity ≡ b.affinity
+  kind : kind_of a.records ≡ kind_of b.records
+
+-- the queue says nothing of either
+queued_like : (g d : ℕ) (ns : List ℕ) (pool : Pool) → IsLike (queue_units g d ns pool).scheduler pool.scheduler
+queued_like g d [] pool = record { sets = refl; kind = refl }
+queued_like g d (n ∷ ns) pool =
+    let u : UnitId = record { dom = domain d; n = n } in
+    let first : IsLike (queue_if_off g u pool).scheduler pool.scheduler = by_cond (λ (p : Pool). IsLike p.scheduler pool.scheduler) (is_runnable g pool u && is_off pool u) _ _ (λ is. record { sets = refl; kind = refl }) (λ is. record { sets = refl; kind = refl }) in
+    let rest = queued_like g d ns (queue_if_off g u pool) in
+    record { sets = rest.sets ∙ first.sets; kind = rest.kind ∙ first.kind }
+
+joined_kind : (records : Records) (params : DomParams) (d count t : ℕ) → kind_of (joined_records records params d count t) ≡ kind_of records
+joined_kind (Credit2Pool records) (dom_params.Credit2 weight cap) d count t = refl
+joined_kind (Credit2Pool records) (dom_params.Rtds period budget extra) d count t = refl
+joined_kind (Credit2Pool records) dom_params.Arinc653 d count t = refl
+joined_kind (Credit2Pool records) dom_params.Null d count t = refl
+joined_kind (RtdsPool domains) (dom_params.Credit2 weight cap) d count t = refl
+joined_kind (RtdsPool domains) (dom_params.Rtds period budget extra) d count t = refl
+joined_kind (RtdsPool domains) dom_params.Arinc653 d count t = refl
+joined_kind (RtdsPool domains) dom_params.Null d count t = refl
+joined_kind (ArincPool records) params d count t = refl
+joined_kind (NullPool kept) params d count t = refl
+
+module _ (g d : ℕ) (x : Domain) (params : DomParams) (pool : Pool) where
+  came : IsLike (with_domain g 0 d x params pool).scheduler (join d (unit_count g x) params 0 pool.scheduler)
+  came = queued_like g d (numbers_from 0 (unit_count g x)) _
+
+  -- the scheduler stays of its kind, with as many places
+  pub kind_joined : kind_of (with_domain g 0 d x params pool).scheduler.records ≡ kind_of pool.scheduler.records
+  kind_joined = came.kind ∙ joined_kind pool.scheduler.records params d (unit_count g x) 0
+
+  pub sets_joined : length (with_domain g 0 d x params pool).scheduler.affinity ≡ length pool.scheduler.affinity
+  sets_joined = ap (λ (sets : List (Option (List Cores))). length sets) came.sets ∙ length_set d (Some (replicate (unit_count g x) all_cores)) pool.scheduler.affinity
+
+  -- the domain's sets of cores are there, one for each unit
+  has_sets : d < length pool.scheduler.affinity → at_place (with_domain g 0 d x params pool).scheduler.affinity d ≡ Some (replicate (unit_count g x) all_cores)
+  has_sets inside = rw came.sets (at_place-put_at d (replicate (unit_count g x) all_cores) pool.scheduler.affinity inside)
+
+  pub has_come_in : d < length pool.scheduler.affinity → has_joined (with_domain g 0 d x params pool).scheduler d ≡ true
+  has_come_in inside = rw (has_sets inside) refl
+
+  pub units_come_in : d < length pool.scheduler.affinity → units_of (with_domain g 0 d x params pool).scheduler d ≡ unit_count g x
+  units_come_in inside = rw (units_of, has_sets inside) (length-replicate (unit_count g x) all_cores)
+
+-- a set of cores leaves the records as they are
+kept_records : (records : Records) (d n : ℕ) (cores : Cores) → changed_records records (changes.Pin (domain d) (Some n) cores) 0 ≡ records
+kept_records (Credit2Pool records) d n cores = refl
+kept_records (RtdsPool domains) d n cores = refl
+kept_records (ArincPool records) d n cores = refl
+kept_records (NullPool kept) d n cores = refl
+
+same_count : {X : Type 0} (n : ℕ) (f : X → X) (xs : List X) → length (change_item n f xs) ≡ length xs
+same_count n f [] = refl
+same_count zero f (x ∷ xs) = refl
+same_count (suc n) f (x ∷ xs) = ap suc (same_count n f xs)
+
+change_there : {X : Type 0} (d : ℕ) (f : X → X) (places : List (Option X)) → at_place (change_at d f places) d ≡ option_map f (at_place places d)
+change_there d f [] = refl
+change_there zero f (x ∷ places) = refl
+change_there (suc d) f (x ∷ places) = change_there d f places
+
+module _ (d n : ℕ) (cores : Cores) (pool : Pool) where
+  abbrev pin_set : Pool
+  pin_set = set_params (changes.Pin (domain d) (Some n) cores) 0 pool
+
+  there : at_place pin_set.scheduler.affinity d ≡ option_map (pinned (Some n) cores) (at_place pool.scheduler.affinity d)
+  there = change_there d (pinned (Some n) cores) pool.scheduler.affinity
+
+  -- the domain has as many units as before
+  pub still_joined : has_joined pin_set.scheduler d ≡ has_joined pool.scheduler d
+  still_joined = rw there (by_sets (at_place pool.scheduler.affinity d))
+    where
+      by_sets : (o : Option (List Cores)) → is_some (option_map (pinned (Some n) cores) o) ≡ is_some o
+      by_sets None = refl
+      by_sets (Some sets) = refl
+
+  pub still_units : units_of pin_set.scheduler d ≡ units_of pool.scheduler d
+  still_units = rw (units_of, there) (by_sets (at_place pool.scheduler.affinity d))
+    where
+      by_sets : (o : Option (List Cores)) → elim (option_map (pinned (Some n) cores) o) as (λ _. ℕ) [ None ↦ 0 | Some sets ↦ length sets ] ≡ elim o as (λ _. ℕ) [ None ↦ 0 | Some sets ↦ length sets ]
+      by_sets None = refl
+      by_sets (Some sets) = same_count n (λ old. cores) sets
+
+-- the same after all sets of cores of a domain
+pub kind_pinned : (d n : ℕ) (pins : List Cores) (pool : Pool) → kind_of (with_pins d n pins pool).scheduler.records ≡ kind_of pool.scheduler.records
+kind_pinned d n [] pool = refl
+kind_pinned d n (cores ∷ pins) pool = kind_pinned d (suc n) pins (pin_set d n cores pool) ∙ ap kind_of (kept_records pool.scheduler.records d n cores)
+
+pub sets_pinned : (d n : ℕ) (pins : List Cores) (pool : Pool) → length (with_pins d n pins pool).scheduler.affinity ≡ length pool.scheduler.affinity
+sets_pinned d n [] pool = refl
+sets_pinned d n (cores ∷ pins) pool = sets_pinned d (suc n) pins (pin_set d n cores pool) ∙ length_set d (option_map (pinned (Some n) cores) (at_place pool.scheduler.affinity d)) pool.scheduler.affinity
+
+pub domains_pinned : (d n : ℕ) (pins : List Cores) (pool : Pool) → (with_pins d n pins pool).domains ≡ pool.domains
+domains_pinned d n [] pool = refl
+domains_pinned d n (cores ∷ pins) pool = domains_pinned d (suc n) pins (pin_set d n cores pool)

@@ -1,0 +1,8 @@
+use Rattle.std.proofs.Common.{◌≡◌, ◌-◌}
+use Rattle.plain_opening.specs.Opened.{opening_core}
+use Rattle.pool_opening.specs.Opened.{with_cores}
+use Rattle.pool_opening.proofs.Attaching.{places_to}
+use Rattle.pool_opening.proofs.cores.attach_all.Given as goal
+
+abbrev pub invariant-loop-r : goal.invariant-loop-r
+invariant-loop-r g l = l.pool ≡ with_cores (places_to (opening_core l.g l.cores) l.r (l.count - l.r)) l.initial.pool

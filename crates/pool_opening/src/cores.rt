@@ -1,0 +1,70 @@
+//! The cores come in.
+
+ghost use Rattle.std.specs.Prelude.{◌≡◌, ◌≤◌, ◌<◌, None, replicate, length, map, slice_set};
+ghost use Rattle.sched_base.specs.Numbers.{moment};
+ghost use Rattle.sched_model.specs.Checked.{IsGranularity};
+ghost use Rattle.sched_model.specs.Places.{at_place, numbers_from};
+ghost use Rattle.sched_model.specs.State.{has_core as has_core_spec};
+ghost use Rattle.plain_opening.specs.Opened.{opening_core};
+ghost use Rattle.pool_opening.specs.Opened.{IsStill, with_cores};
+
+use pool_core::pool::PoolState;
+use sched_base::{Moment, ResId};
+use sched_model::facts::{ResPart, StallEnds};
+use sched_model::short::Short;
+use sched_ops::Policy;
+
+/// Whether the core is in the set.
+fn has_core(cores: u64, r: u8) -> bool
+    requires { r < 64 }
+    ensures { result ≡ has_core_spec cores r }
+{
+    cores / (1u64 << r) % 2 == 1
+}
+
+/// The ends of the stalls of g processors that were never stalled.
+#[tactic(auto, using(crate::proofs::Attaching::one_more))]
+fn no_stalls(g: u8) -> StallEnds
+    requires { g ≤ 4 }
+    ensures { result ≡ replicate g (moment 0) }
+{
+    let mut ends = Short::new();
+    for i in 0..g {
+        ends.push(Moment(0));
+    }
+    ends
+}
+
+/// The core r comes in, where it is in the set.
+#[tactic(auto, using(crate::proofs::Attaching::core_came, crate::proofs::Attaching::no_core_came))]
+fn attach<P: Policy>(cores: u64, g: u8, r: u8, pool: &mut PoolState<P>)
+    requires few { g ≤ 4 }
+    requires core { r < 64 }
+    requires granularity { pool.old.granularity ≡ g }
+    requires still { IsStill pool.old }
+    requires place { r < length pool.old.pool.resources }
+    requires absent { at_place pool.old.pool.resources r ≡ None }
+    ensures { pool.new ≡ with_cores (slice_set pool.old.pool.resources r (opening_core g cores r)) pool.old }
+{
+    if has_core(cores, r) {
+        let core = ResPart {
+            r: ResId(r),
+            stall_ends: no_stalls(g),
+        };
+        pool.attach(&core, Moment(0));
+    }
+}
+
+/// The cores of the set come into a pool that has none, in order of their numbers.
+pub fn attach_all<P: Policy>(cores: u64, g: u8, count: u8, pool: &mut PoolState<P>)
+    requires few { g ≤ 4 }
+    requires count { count ≤ 64 }
+    requires granularity { pool.old.granularity ≡ g }
+    requires early { pool.old.latest ≡ 0 }
+    requires none { pool.old.pool.resources ≡ replicate count None }
+    ensures { pool.new ≡ with_cores (map (opening_core g cores) (numbers_from 0 count)) pool.old }
+{
+    for r in 0..count {
+        attach(cores, g, r, pool);
+    }
+}

@@ -1,0 +1,129 @@
+//! The domains come in, each with the sets of cores of its units.
+
+ghost use Rattle.std.specs.Prelude.{◌≡◌, ◌≤◌, ◌<◌, ◌+◌, ◌∷◌, [], true, OnOk, length};
+ghost use Rattle.sched_model.specs.Checked.{IsCheckedConfig, IsCheckedDomain};
+ghost use Rattle.sched_model.specs.Opening.{with_pins};
+ghost use Rattle.sched_ops.specs.Conditions.{has_joined};
+ghost use Rattle.sched_ops.specs.Seen.{units_of};
+ghost use Rattle.pool_opening.specs.Opened.{IsOpening, IsStill, configured, joined, unit_total, units_in_all, with_all, with_pool};
+
+use plain_opening::rows::fresh_vcpus;
+use pool_core::pool::PoolState;
+use sched_base::{Cores, DomId, Moment, NoMemory};
+use sched_model::config::{Config, DomConfig, ParamChange, PoolConfig};
+use sched_model::state::Domain;
+use sched_ops::Policy;
+use std::alloc::Global;
+use unit_state::DomPart;
+
+/// The domain d of the file comes in, all of whose vCPUs are awake.
+fn give<P: Policy>(
+    alloc: Global,
+    config: &Config,
+    home: &PoolConfig,
+    d: u8,
+    joining: &DomConfig,
+    pool: &mut PoolState<P>,
+) -> Result<(), NoMemory>
+    requires checked { IsCheckedConfig config.now }
+    requires alone { config.now.pools ≡ home.now ∷ [] }
+    requires domain { IsCheckedDomain config.now joining.now }
+    requires place { d < length config.now.domains }
+    requires opening { IsOpening config.now home.now d pool.old }
+    requires room { unit_total config.now.granularity joining.now ≤ pool.old.spare }
+    ensures after { OnOk result (pool.new ≡ joined config.now.granularity d joining.now pool.old) }
+    ensures still { OnOk result (IsStill pool.new) }
+    ensures joined { OnOk result (has_joined pool.new.pool.scheduler d ≡ true) }
+    ensures units { OnOk result (units_of pool.new.pool.scheduler d ≡ unit_total config.now.granularity joining.now) }
+{
+    let domain = Domain {
+        paused: false,
+        moving: None,
+        vcpus: fresh_vcpus(alloc, joining.guests.as_slice())?,
+    };
+    let part = DomPart {
+        d: DomId(d),
+        granularity: config.granularity,
+        domain,
+    };
+    pool.give_domain(part, &joining.params, Moment(0));
+    Ok(())
+}
+
+/// The unit n of the domain may run on these cores alone.
+fn pin<P: Policy>(d: u8, n: u8, cores: Cores, pool: &mut PoolState<P>)
+    requires still { IsStill pool.old }
+    requires joined { has_joined pool.old.pool.scheduler d ≡ true }
+    requires units { n < units_of pool.old.pool.scheduler d }
+    ensures after { pool.new ≡ with_pool (with_pins d n (cores ∷ []) pool.old.pool) pool.old }
+    ensures still { IsStill pool.new }
+    ensures joined { has_joined pool.new.pool.scheduler d ≡ true }
+    ensures units { units_of pool.new.pool.scheduler d ≡ units_of pool.old.pool.scheduler d }
+{
+    let change = ParamChange::Pin {
+        dom: DomId(d),
+        unit: Some(n),
+        cores,
+    };
+    pool.set_params(&change, Moment(0));
+}
+
+/// The sets of cores of the domain's units, the first of them that of unit n.
+fn pin_all<P: Policy>(d: u8, n: u8, pins: &[Cores], pool: &mut PoolState<P>)
+    requires few { n + length pins.now ≤ 32 }
+    requires still { IsStill pool.old }
+    requires joined { has_joined pool.old.pool.scheduler d ≡ true }
+    requires units { n + length pins.now ≤ units_of pool.old.pool.scheduler d }
+    ensures { pool.new ≡ with_pool (with_pins d n pins.now pool.old.pool) pool.old }
+{
+    match pins {
+        [] => {}
+        [cores, rest @ ..] => {
+            pin(d, n, *cores, pool);
+            pin_all(d, n + 1, rest, pool);
+        }
+    }
+}
+
+/// The domain d of the file comes in, with the sets of cores of its units.
+fn join<P: Policy>(
+    alloc: Global,
+    config: &Config,
+    home: &PoolConfig,
+    d: u8,
+    joining: &DomConfig,
+    pool: &mut PoolState<P>,
+) -> Result<(), NoMemory>
+    requires checked { IsCheckedConfig config.now }
+    requires alone { config.now.pools ≡ home.now ∷ [] }
+    requires domain { IsCheckedDomain config.now joining.now }
+    requires place { d < length config.now.domains }
+    requires opening { IsOpening config.now home.now d pool.old }
+    requires room { unit_total config.now.granularity joining.now ≤ pool.old.spare }
+    ensures after { OnOk result (pool.new ≡ configured config.now.granularity d joining.now pool.old) }
+    ensures opening { OnOk result (IsOpening config.now home.now (d + 1) pool.new) }
+{
+    give(alloc, config, home, d, joining, pool)?;
+    pin_all(d, 0, joining.pins.as_slice(), pool);
+    Ok(())
+}
+
+/// The domains of the file come in one after another.
+pub fn join_all<P: Policy>(
+    alloc: Global,
+    config: &Config,
+    home: &PoolConfig,
+    pool: &mut PoolState<P>,
+) -> Result<(), NoMemory>
+    requires checked { IsCheckedConfig config.now }
+    requires alone { config.now.pools ≡ home.now ∷ [] }
+    requires opening { IsOpening config.now home.now 0 pool.old }
+    requires room { units_in_all config.now.granularity 0 config.now.domains ≤ pool.old.spare }
+    ensures { OnOk result (pool.new ≡ with_all config.now.granularity 0 config.now.domains pool.old) }
+{
+    let domains = config.domains.as_slice();
+    for d in 0..domains.len() {
+        join(alloc, config, home, d as u8, &domains[d], pool)?;
+    }
+    Ok(())
+}
