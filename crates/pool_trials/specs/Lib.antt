@@ -1,1 +1,1 @@
-pub mod Awaiting
+pub mod Kinds

@@ -1,20 +1,16 @@
 //! A pool and the plain machine, event by event.
 
-ghost use Rattle.std.specs.Prelude.{◌≡◌, ◌≤◌, IfOk, length, true};
-ghost use Rattle.sched_model.specs.Policy.{kind_of};
-ghost use Rattle.sched_ops.specs.Conditions.{is_vacant};
+ghost use Rattle.std.specs.List.{All};
+ghost use Rattle.sched_model.specs.Checked.{IsChecked, IsCheckedCommandLine};
 
-use crate::opening::opened;
+use crate::driven::{Driven, MOST_SPAN};
+use cpupool::ToolState;
 use dom_file::read_domains;
-use pool_core::pool::PoolState;
-use sched_base::{DomId, Moment};
+use sched_base::{Moment, NoMemory};
 use sched_model::action::Action;
-use sched_model::command::Command;
-use sched_model::config::SchedKind;
-use sched_model::event::{Entry, Event, Reply};
+use sched_model::event::{Entry, Event, Refusal, Reply};
 use sched_model::machine::Machine;
 use sched_model::work::Work;
-use sched_ops::Policy;
 use sched_plain::plain::Plain;
 use sched_print::{LineBuf, put_entry};
 use std::alloc::Global;
@@ -22,31 +18,25 @@ use std::process::Abort;
 use std::test::Fail;
 use work_file::read_work;
 
-/// The latest moment of any file, in nanoseconds.
-const MOST_SPAN: u64 = 10_000_000_000_000;
-
-/// A machine as its two files describe it, and its ordered run, worked out by hand. It has one pool, with all cores; the commands
-/// pause its first domain and let it go on.
+/// A machine as its two files describe it, and its ordered run, worked out by hand. It has one pool; no command moves a core or a
+/// domain.
 #[derive(Clone, Copy)]
 pub struct Example {
-    pub kind: SchedKind,
     pub domains: &'static str,
     pub work: &'static str,
     pub lines: &'static str,
 }
 
-/// A pool, and the plain machine whose only pool it is; the workload, how many of its stalls and commands were done, and the latest
-/// moment given to the pool.
+/// A pool, and the plain machine whose only pool it is; what the tool knows of that machine; and how many stalls and commands of the
+/// workload were done.
 #[derive(Drop)]
-struct Trial<P: Policy> {
-    pool: PoolState<P>,
+struct Trial {
+    driven: Driven,
     plain: Plain,
-    work: Work,
+    tool: ToolState,
     stalls: usize,
     commands: usize,
     horizon: Moment,
-    latest: Moment,
-    ghost has_come: { pool.latest ≤ latest.0 },
 }
 
 /// The entry is printed as the line, which has no newline.
@@ -68,14 +58,72 @@ fn earlier(a: Option<Moment>, b: Option<Moment>) -> Option<Moment> {
     }
 }
 
-impl<P: Policy> Trial<P> {
+/// What the tool knows of the machine at its opening.
+fn tool_of(alloc: Global, machine: &Machine) -> Result<ToolState, NoMemory>
+    requires { IsChecked machine.now }
+{
+    ToolState::open(alloc, &machine.config, &machine.work)
+}
+
+/// The plain machine at its opening.
+fn plain_of(alloc: Global, machine: Machine) -> Result<Plain, NoMemory>
+    requires { IsChecked machine }
+{
+    Plain::open(alloc, machine)
+}
+
+/// The answer to the command k of the workload. The tool judges it by what the pool tells, and the pool does what is accepted.
+#[tactic(auto, using(crate::proofs::Checking::command_checked))]
+fn answer<R: Abort>(
+    rt: &R,
+    driven: &mut Driven,
+    tool: &ToolState,
+    work: &Work,
+    k: usize,
+    t: Moment,
+) -> Result<Reply, Refusal>
+    requires { All IsCheckedCommandLine work.now.commands }
+{
+    assert!(rt; k < work.commands.len());
+    match &work.commands.as_slice()[k].command {
+        Err(fault) => Err(Refusal::Syntax {
+            place: u64::from(fault.place),
+        }),
+        Ok(command) => {
+            let subject = tool.subject(command);
+            let facts = driven.pool.facts(subject.dom);
+            let plan = tool.judge(command, &facts)?;
+            Ok(driven.carry_out(rt, plan, t))
+        }
+    }
+}
+
+impl Trial {
+    /// The machine at its opening.
+    fn open<R: Abort>(rt: &R, alloc: Global, machine: Machine) -> Result<Trial, NoMemory>
+        requires { IsChecked machine }
+    {
+        let tool = tool_of(alloc, &machine)?;
+        let driven = Driven::open(rt, alloc, &machine.config)?;
+        let horizon = machine.config.horizon;
+        let plain = plain_of(alloc, machine)?;
+        Ok(Trial {
+            driven,
+            plain,
+            tool,
+            stalls: 0,
+            commands: 0,
+            horizon,
+        })
+    }
+
     /// The moment of the next line of the work file.
-    fn next_line(&self) -> Option<Moment> {
-        let stall = match self.work.stalls.as_slice().get(self.stalls) {
+    fn next_line(&self, work: &Work) -> Option<Moment> {
+        let stall = match work.stalls.as_slice().get(self.stalls) {
             Some(line) => Some(line.at),
             None => None,
         };
-        let command = match self.work.commands.as_slice().get(self.commands) {
+        let command = match work.commands.as_slice().get(self.commands) {
             Some(line) => Some(line.at),
             None => None,
         };
@@ -83,15 +131,15 @@ impl<P: Policy> Trial<P> {
     }
 
     /// The next stall is done.
-    fn stall<R: Abort>(&mut self, rt: &R, line: &str) {
+    fn stall<R: Abort>(&mut self, rt: &R, work: &Work, line: &str) {
         let t = self.plain.now();
         assert!(rt;
-            self.plain.is_enabled(Action::Stall) && self.stalls < self.work.stalls.len(),
+            self.plain.is_enabled(Action::Stall) && self.stalls < work.stalls.len(),
             "{line}"
         );
-        let stall = self.work.stalls.as_slice()[self.stalls];
+        let stall = work.stalls.as_slice()[self.stalls];
         assert!(rt; t.0 <= MOST_SPAN && stall.span.0 <= MOST_SPAN, "{line}");
-        let until = self.pool.stall(stall.cpu, Moment(t.0 + stall.span.0));
+        let until = self.driven.stall(stall.cpu, Moment(t.0 + stall.span.0));
         let event = self.plain.perform(Action::Stall);
         self.stalls += 1;
         assert_eq!(rt;
@@ -105,22 +153,26 @@ impl<P: Policy> Trial<P> {
         is_line(rt, t, event, line);
     }
 
-    /// The next command is done, which pauses the first domain or lets it go on.
-    fn command<R: Abort>(&mut self, rt: &R, line: &str) {
+    /// The next command is done.
+    fn command<R: Abort>(&mut self, rt: &R, work: &Work, line: &str)
+        requires { All IsCheckedCommandLine work.now.commands }
+    {
         let t = self.plain.now();
         assert!(rt;
-            self.plain.is_enabled(Action::Xl) && self.commands < self.work.commands.len(),
+            self.plain.is_enabled(Action::Xl) && self.commands < 4096,
             "{line}"
         );
-        assert!(rt; self.latest.0 <= t.0 && t.0 <= MOST_SPAN, "{line}");
-        match &self.work.commands.as_slice()[self.commands].command {
-            Ok(Command::Pause { dom: _ }) => self.pool.pause(DomId(0), t),
-            Ok(Command::Unpause { dom: _ }) => self.pool.unpause(DomId(0), t),
-            _ => panic!(rt; "{line}"),
-        }
-        self.latest = t;
+        let reply = answer(rt, &mut self.driven, &self.tool, work, self.commands, t);
         let event = self.plain.perform(Action::Xl);
         self.commands += 1;
+        assert_eq!(rt;
+            event,
+            Event::Xl {
+                k: self.commands as u32,
+                reply
+            },
+            "{line}"
+        );
         is_line(rt, t, event, line);
     }
 
@@ -128,23 +180,17 @@ impl<P: Policy> Trial<P> {
     fn perform<R: Abort>(&mut self, rt: &R, first: Action, line: &str) {
         let t = self.plain.now();
         assert!(rt; self.plain.is_enabled(first), "{line}");
-        assert!(rt; self.latest.0 <= t.0 && t.0 <= MOST_SPAN, "{line}");
-        let Some(action) = self.pool.first_enabled(t) else {
-            panic!(rt; "{line}");
-        };
-        assert_eq!(rt; action, first, "{line}");
-        let event = self.pool.perform(action, t);
-        self.latest = t;
+        let event = self.driven.perform(rt, first, t, line);
         assert_eq!(rt; event, self.plain.perform(first), "{line}");
         is_line(rt, t, event, line);
     }
 
     /// Nothing may come now: both know the same next moment, or that there is none up to the horizon.
-    fn pass<R: Abort>(&mut self, rt: &R, line: &str) {
+    fn pass<R: Abort>(&mut self, rt: &R, work: &Work, line: &str) {
         let t = self.plain.now();
         assert!(rt; self.plain.first_enabled().is_none(), "{line}");
-        assert_eq!(rt; self.pool.first_enabled(t), None, "{line}");
-        let soonest = earlier(self.pool.next_moment(), self.next_line());
+        assert_eq!(rt; self.driven.pool.first_enabled(t), None, "{line}");
+        let soonest = earlier(self.driven.pool.next_moment(), self.next_line(work));
         match self.plain.next_moment() {
             Some(next) => {
                 assert_eq!(rt; soonest, Some(next), "{line}");
@@ -159,44 +205,34 @@ impl<P: Policy> Trial<P> {
     }
 
     /// Both do what comes first, or go on to the next moment where nothing may come, and print this line.
-    fn go_on<R: Abort>(&mut self, rt: &R, line: &str) {
+    fn go_on<R: Abort>(&mut self, rt: &R, work: &Work, line: &str)
+        requires { All IsCheckedCommandLine work.now.commands }
+    {
         match self.plain.first_enabled() {
-            Some(Action::Stall) => self.stall(rt, line),
-            Some(Action::Xl) => self.command(rt, line),
+            Some(Action::Stall) => self.stall(rt, work, line),
+            Some(Action::Xl) => self.command(rt, work, line),
             Some(action) => self.perform(rt, action, line),
-            None => self.pass(rt, line),
+            None => self.pass(rt, work, line),
+        }
+    }
+
+    /// Both print these lines.
+    fn follow<R: Abort>(&mut self, rt: &R, work: &Work, lines: &str)
+        requires { All IsCheckedCommandLine work.now.commands }
+    {
+        for line in lines.lines() {
+            self.go_on(rt, work, line);
         }
     }
 }
 
-/// A pool with this scheduler, which has no domain yet, and the plain machine go through the example's run and print its lines.
-pub fn goes_through<P: Policy, R: Abort>(
-    rt: &R,
-    alloc: Global,
-    policy: P,
-    example: &Example,
-) -> Result<(), Fail>
-    requires kind { kind_of (P.seen policy).scheduler.records ≡ example.now.kind }
-    requires vacant { is_vacant (P.seen policy).scheduler ≡ true }
-    requires early { (P.seen policy).latest ≡ 0 }
-{
+/// The machine's only pool and the plain machine go through the example's run and print its lines.
+pub fn goes_through<R: Abort>(rt: &R, alloc: Global, example: &Example) -> Result<(), Fail> {
     assert!(rt; example.domains.len() <= 536_870_912);
     let config = read_domains(alloc, example.domains.as_bytes())?;
     let work = read_work(alloc, example.work.as_bytes(), &config)?;
     let same_work = read_work(alloc, example.work.as_bytes(), &config)?;
-    let pool = opened(rt, alloc, &config, example.kind, policy)?;
-    let horizon = config.horizon;
-    let mut trial = Trial {
-        pool,
-        plain: Plain::open(alloc, Machine { config, work })?,
-        work: same_work,
-        stalls: 0,
-        commands: 0,
-        horizon,
-        latest: Moment(0),
-    };
-    for line in example.lines.lines() {
-        trial.go_on(rt, line);
-    }
+    let mut trial = Trial::open(rt, alloc, Machine { config, work })?;
+    trial.follow(rt, &same_work, example.lines);
     Ok(())
 }

@@ -3,8 +3,12 @@
 #![tactic(auto)]
 
 #[cfg(test)]
+mod carrying;
+#[cfg(test)]
 mod drive;
 #[cfg(test)]
-mod opening;
+mod driven;
+#[cfg(test)]
+mod ranges;
 #[cfg(test)]
 mod tests;
