@@ -120,20 +120,20 @@ pub block_happens : (g t p : ℕ) (v : VcpuId) (pool : Pool) → guest_of g pool
 block_happens g t p v pool guest = ap (λ (o : Option VcpuId). elim o as (λ _. Pool) [ None ↦ pool | Some w ↦ after_block g t p w pool ]) (sym guest)
 
 -- what is seen after an event and after the cores were looked at
-pub happened_is : (t : ℕ) (guests next : GuestsSeen) (cores after : CoresSeen) (s s2 : SchedulerSeen) (latest : ℕ) (action : Action) (before : Seen)
+pub happened_is : (t : ℕ) (guests next : GuestsSeen) (cores after : CoresSeen) (s s2 : SchedulerSeen) (latest : ℕ) (used : Bool) (action : Action) (before : Seen)
     → pool_of next after s2 ≡ after_in guests.granularity t (pool_of guests cores s) action → IsMoved t guests next cores after
-    → ◌≡◌ {A = Seen} (record { pool = pool_of guests cores s; granularity = guests.granularity; spare = guests.spare; latest = latest }) before
-    → ◌≡◌ {A = Seen} (record { pool = settled t (pool_of next after s2); granularity = next.granularity; spare = next.spare; latest = t }) (happened t action before)
-happened_is t guests next cores after s s2 latest action before pool moved is =
-    let a : ◌≡◌ {A = Seen} (record { pool = settled t (pool_of next after s2); granularity = next.granularity; spare = next.spare; latest = t })
-    (record { pool = settled t (after_in guests.granularity t (pool_of guests cores s) action); granularity = next.granularity; spare = next.spare; latest = t }) =
-    ap (λ (p : Pool). record { pool = settled t p; granularity = next.granularity; spare = next.spare; latest = t }) pool in
-    let b : ◌≡◌ {A = Seen} (record { pool = settled t (after_in guests.granularity t (pool_of guests cores s) action); granularity = next.granularity; spare = next.spare; latest = t })
-    (record { pool = settled t (after_in guests.granularity t (pool_of guests cores s) action); granularity = guests.granularity; spare = next.spare; latest = t }) =
-    ap (λ (k : ℕ). record { pool = settled t (after_in guests.granularity t (pool_of guests cores s) action); granularity = k; spare = next.spare; latest = t }) moved.granularity in
-    let d : ◌≡◌ {A = Seen} (record { pool = settled t (after_in guests.granularity t (pool_of guests cores s) action); granularity = guests.granularity; spare = next.spare; latest = t })
-    (record { pool = settled t (after_in guests.granularity t (pool_of guests cores s) action); granularity = guests.granularity; spare = guests.spare; latest = t }) =
-    ap (λ (k : ℕ). record { pool = settled t (after_in guests.granularity t (pool_of guests cores s) action); granularity = guests.granularity; spare = k; latest = t }) moved.spare in
+    → ◌≡◌ {A = Seen} (record { pool = pool_of guests cores s; granularity = guests.granularity; spare = guests.spare; latest = latest; in_use = used }) before
+    → ◌≡◌ {A = Seen} (record { pool = settled t (pool_of next after s2); granularity = next.granularity; spare = next.spare; latest = t; in_use = used }) (happened t action before)
+happened_is t guests next cores after s s2 latest used action before pool moved is =
+    let a : ◌≡◌ {A = Seen} (record { pool = settled t (pool_of next after s2); granularity = next.granularity; spare = next.spare; latest = t; in_use = used })
+    (record { pool = settled t (after_in guests.granularity t (pool_of guests cores s) action); granularity = next.granularity; spare = next.spare; latest = t; in_use = used }) =
+    ap (λ (p : Pool). record { pool = settled t p; granularity = next.granularity; spare = next.spare; latest = t; in_use = used }) pool in
+    let b : ◌≡◌ {A = Seen} (record { pool = settled t (after_in guests.granularity t (pool_of guests cores s) action); granularity = next.granularity; spare = next.spare; latest = t; in_use = used })
+    (record { pool = settled t (after_in guests.granularity t (pool_of guests cores s) action); granularity = guests.granularity; spare = next.spare; latest = t; in_use = used }) =
+    ap (λ (k : ℕ). record { pool = settled t (after_in guests.granularity t (pool_of guests cores s) action); granularity = k; spare = next.spare; latest = t; in_use = used }) moved.granularity in
+    let d : ◌≡◌ {A = Seen} (record { pool = settled t (after_in guests.granularity t (pool_of guests cores s) action); granularity = guests.granularity; spare = next.spare; latest = t; in_use = used })
+    (record { pool = settled t (after_in guests.granularity t (pool_of guests cores s) action); granularity = guests.granularity; spare = guests.spare; latest = t; in_use = used }) =
+    ap (λ (k : ℕ). record { pool = settled t (after_in guests.granularity t (pool_of guests cores s) action); granularity = guests.granularity; spare = k; latest = t; in_use = used }) moved.spare in
     a ∙ b ∙ d ∙ ap (λ (x : Seen). happened t action x) is
 
 -- a processor that arrives, where it ran nothing and where it ran a vCPU

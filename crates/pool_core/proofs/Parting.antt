@@ -1,5 +1,5 @@
 -- A domain that goes out of a pool.
-use Rattle.std.proofs.Common.{◌≡◌, ◌≢◌, ◌+◌, ◌/◌, ℕ, true, List, refl, sym, ap, subst, ◌∙◌, arith}
+use Rattle.std.proofs.Common.{◌≡◌, ◌≢◌, ◌+◌, ◌/◌, ℕ, Bool, true, List, refl, sym, ap, subst, ◌∙◌, arith}
 use Rattle.std.specs.Prelude.{Option, Some, None, slice_get}
 use Rattle.sched_base.specs.declared.Moment.{Moment}
 use Rattle.sched_base.specs.declared.VcpuId.{VcpuId}
@@ -61,15 +61,15 @@ taken_kept t d guests next cores s s2 domain keeps on at is guests_are spare lat
     }
 
 -- what is seen of it
-pub parted_seen : (d k latest : ℕ) (guests next : GuestsSeen) (cores : CoresSeen) (s s2 : SchedulerSeen) (domain : Domain) (before : Seen) → pool_of next cores s2 ≡ without_domain d (pool_of guests cores s)
+pub parted_seen : (d k latest : ℕ) (used : Bool) (guests next : GuestsSeen) (cores : CoresSeen) (s s2 : SchedulerSeen) (domain : Domain) (before : Seen) → pool_of next cores s2 ≡ without_domain d (pool_of guests cores s)
     → next ≡ record guests { domains = clear_at d guests.domains; spare = guests.spare + unit_count k domain }
-    → ◌≡◌ {A = Seen} (record { pool = pool_of guests cores s; granularity = guests.granularity; spare = guests.spare; latest = latest }) before
-    → ◌≡◌ {A = Seen} (record { pool = pool_of next cores s2; granularity = next.granularity; spare = next.spare; latest = latest }) (with_spare (before.spare + unit_count k domain) (record before { pool = without_domain d before.pool }))
-parted_seen d k latest guests next cores s s2 domain before pool guests_are is =
-    let a : ◌≡◌ {A = Seen} (record { pool = pool_of next cores s2; granularity = next.granularity; spare = next.spare; latest = latest })
-    (record { pool = without_domain d (pool_of guests cores s); granularity = next.granularity; spare = next.spare; latest = latest }) =
-    ap (λ (p : Pool). record { pool = p; granularity = next.granularity; spare = next.spare; latest = latest }) pool in
-    let b : ◌≡◌ {A = Seen} (record { pool = without_domain d (pool_of guests cores s); granularity = next.granularity; spare = next.spare; latest = latest })
-    (record { pool = without_domain d (pool_of guests cores s); granularity = guests.granularity; spare = guests.spare + unit_count k domain; latest = latest }) =
-    ap (λ (x : GuestsSeen). record { pool = without_domain d (pool_of guests cores s); granularity = x.granularity; spare = x.spare; latest = latest }) guests_are in
+    → ◌≡◌ {A = Seen} (record { pool = pool_of guests cores s; granularity = guests.granularity; spare = guests.spare; latest = latest; in_use = used }) before
+    → ◌≡◌ {A = Seen} (record { pool = pool_of next cores s2; granularity = next.granularity; spare = next.spare; latest = latest; in_use = used }) (with_spare (before.spare + unit_count k domain) (record before { pool = without_domain d before.pool }))
+parted_seen d k latest used guests next cores s s2 domain before pool guests_are is =
+    let a : ◌≡◌ {A = Seen} (record { pool = pool_of next cores s2; granularity = next.granularity; spare = next.spare; latest = latest; in_use = used })
+    (record { pool = without_domain d (pool_of guests cores s); granularity = next.granularity; spare = next.spare; latest = latest; in_use = used }) =
+    ap (λ (p : Pool). record { pool = p; granularity = next.granularity; spare = next.spare; latest = latest; in_use = used }) pool in
+    let b : ◌≡◌ {A = Seen} (record { pool = without_domain d (pool_of guests cores s); granularity = next.granularity; spare = next.spare; latest = latest; in_use = used })
+    (record { pool = without_domain d (pool_of guests cores s); granularity = guests.granularity; spare = guests.spare + unit_count k domain; latest = latest; in_use = used }) =
+    ap (λ (x : GuestsSeen). record { pool = without_domain d (pool_of guests cores s); granularity = x.granularity; spare = x.spare; latest = latest; in_use = used }) guests_are in
     a ∙ b ∙ ap (λ (x : Seen). with_spare (x.spare + unit_count k domain) (record x { pool = without_domain d x.pool })) is

@@ -1,5 +1,5 @@
 -- What callers see of a pool's state, and what its calls ask.
-use Rattle.std.specs.Prelude.{ℕ, ◌≡◌, ◌≤◌, List, Option, Some, None, replicate}
+use Rattle.std.specs.Prelude.{ℕ, ◌≡◌, ◌≤◌, Bool, false, List, Option, Some, None, replicate}
 use Rattle.sched_base.specs.declared.Moment.{Moment}
 use Rattle.sched_base.specs.declared.VcpuId.{VcpuId}
 use Rattle.sched_model.specs.declared.config.PoolParams.{PoolParams}
@@ -17,12 +17,13 @@ use Rattle.core_state.specs.Seen.{processor_among, stalled_to}
 use Rattle.sched_ops.specs.Seen as schedulers
 use Rattle.sched_ops.specs.Seen.{vacant as vacant_scheduler}
 
--- the pool, how many processors a core has, how many units may still join, and the greatest moment that was given
+-- the pool, how many processors a core has, how many units may still join, the greatest moment that was given, and whether the pool is in use
 pub record Seen : Type 0 where
   pub pool : Pool
   pub granularity : ℕ
   pub spare : ℕ
   pub latest : ℕ
+  pub in_use : Bool
 
 -- the pool of these guests, these cores and this scheduler
 abbrev pub pool_of : guests.Seen → cores.Seen → schedulers.Seen → Pool
@@ -49,7 +50,7 @@ happened t action seen = seen_at t (settled t (after_in seen.granularity t seen.
 abbrev pub guest_among : ℕ → List (Option Resource) → ℕ → Option VcpuId
 guest_among g cores p = elim (processor_among g cores p) [ None ↦ None | Some q ↦ elim q.doing [ Guest v ↦ Some v | Idle ↦ None | Held ↦ None ] ]
 
--- a pool of the scheduler's own parameters, with so many places for domains and for cores of g processors each, and room for so many units
+-- a pool of the scheduler's own parameters that is not in use, with so many places for domains and for cores of g processors each, and room for so many units
 abbrev pub vacant : PoolParams → ℕ → ℕ → ℕ → ℕ → Seen
 vacant params g domains cores units =
     record {
@@ -57,6 +58,7 @@ vacant params g domains cores units =
       granularity = g;
       spare = units;
       latest = 0;
+      in_use = false;
     }
 
 -- the pool has neither a domain nor a core

@@ -22,7 +22,7 @@ use std::marker::Model;
 use unit_state::{DomPart, Guests};
 
 /// A pool: its domains, its cores and its scheduler. Contracts see the pool as the machine has it, how many processors a core has, how
-/// many units may still join, and the greatest moment that was given.
+/// many units may still join, the greatest moment that was given, and whether the pool is in use.
 ///
 /// All moments are in nanoseconds, each at least the greatest one given before and at most 10^13. No call but `room` takes memory.
 #[derive(Drop)]
@@ -31,6 +31,7 @@ pub struct PoolState<P: Policy> {
     cores: CoreState,
     policy: P,
     latest: Moment,
+    in_use: bool,
     /// Whether the cores were looked at, at the greatest moment given, and nothing changed since that a look depends on.
     settled: bool,
 }
@@ -42,13 +43,13 @@ impl<P: Policy> Model for PoolState<P> {
 
     ghost use Rattle.pool_core.specs.Kept.{IsAtRest};
 
-    ghost view = { λ a. record { pool = pool_of a.guests a.cores (P.seen a.policy); granularity = a.guests.granularity; spare = a.guests.spare; latest = a.latest.0 } };
+    ghost view = { λ a. record { pool = pool_of a.guests a.cores (P.seen a.policy); granularity = a.guests.granularity; spare = a.guests.spare; latest = a.latest.0; in_use = a.in_use } };
 
     ghost invariant = { λ a. IsAtRest a.settled a.latest.0 a.guests a.cores (P.seen a.policy) };
 }
 
 impl<P: Policy> PoolState<P> {
-    ghost use Rattle.std.specs.Prelude.{◌≡◌, ℕ, ◌≤◌, ◌<◌, ◌+◌, ◌-◌, ◌*◌, true, IsTrue, IfOk, None, Some, length, map, option_map};
+    ghost use Rattle.std.specs.Prelude.{◌≡◌, ℕ, ◌≤◌, ◌<◌, ◌+◌, ◌-◌, ◌*◌, true, false, IsTrue, IfOk, None, Some, length, map, option_map};
     ghost use Rattle.sched_model.specs.Checked.{IsGranularity};
     ghost use Rattle.sched_model.specs.Places.{at_place};
     ghost use Rattle.sched_model.specs.Policy.{default_pool_params, kind_of, rate_of};
@@ -69,7 +70,7 @@ impl<P: Policy> PoolState<P> {
     ghost use Rattle.pool_core.specs.Seen.{IsEmpty, IsNow, happened, seen_at, vacant, with_core, with_spare, with_stall, without_core};
 
     /// A pool with so many places for domains and for cores of 1, 2 or 4 processors each, at most 64 domains and 64 processors, and room
-    /// for so many units, at most 256. Its scheduler, which has no domain, takes its default parameters.
+    /// for so many units, at most 256. It is not in use. Its scheduler, which has no domain, takes its default parameters.
     pub fn room(
         alloc: Global,
         granularity: u8,
@@ -94,22 +95,43 @@ impl<P: Policy> PoolState<P> {
             cores,
             policy,
             latest: Moment(0),
+            in_use: false,
             settled: false,
         })
     }
 
-    /// The pool, which has neither a domain nor a core, begins anew with these parameters.
+    /// A pool that is not in use, and has neither a domain nor a core, begins anew with these parameters, and is in use.
     pub fn open(&mut self, params: &PoolParams)
+        requires unused { self.old.in_use ≡ false }
         requires empty { IsEmpty self.old.pool }
         requires params { ArePoolParams (kind_of self.old.pool.scheduler.records) params.now }
-        ensures { self.new ≡ record self.old { pool = record self.old.pool { scheduler = restarted params.now self.old.pool.scheduler } } }
+        ensures { self.new ≡ record self.old { pool = record self.old.pool { scheduler = restarted params.now self.old.pool.scheduler }; in_use = true } }
     {
         self.settled = false;
         self.policy.restart(params);
+        self.in_use = true;
     }
 
-    /// A core comes in, whose processors are stalled up to these moments. It is to decide.
+    /// A pool that is in use, and has neither a domain nor a core any more, is in use no longer. Its memory stays, and it may be opened
+    /// anew.
+    pub fn shut(&mut self)
+        requires used { self.old.in_use ≡ true }
+        requires empty { IsEmpty self.old.pool }
+        ensures { self.new ≡ record self.old { in_use = false } }
+    {
+        self.in_use = false;
+    }
+
+    /// Whether the pool is in use: opened, and not shut since.
+    pub fn in_use(&self) -> bool
+        ensures { result ≡ self.now.in_use }
+    {
+        self.in_use
+    }
+
+    /// A core comes into a pool that is in use. Its processors are stalled up to these moments, and it is to decide.
     pub fn attach(&mut self, core: &ResPart, t: Moment)
+        requires used { self.old.in_use ≡ true }
         requires now { IsNow self.old t.0 }
         requires place { core.now.r.0 < length self.old.pool.resources }
         requires absent { at_place self.old.pool.resources core.now.r.0 ≡ None }
@@ -162,8 +184,10 @@ impl<P: Policy> PoolState<P> {
         facts(&self.guests, &self.policy, d)
     }
 
-    /// A domain, none of whose vCPUs is started, comes in with these parameters. Its units that are runnable wait.
+    /// A domain, none of whose vCPUs is started, comes into a pool that is in use, with these parameters. Its units that are runnable
+    /// wait.
     pub fn give_domain(&mut self, part: DomPart, params: &DomParams, t: Moment)
+        requires used { self.old.in_use ≡ true }
         requires now { IsNow self.old t.0 }
         requires part { IsPart part }
         requires stays { part.domain.moving ≡ None }

@@ -87,8 +87,8 @@ all_pending g cores k (suc n) rest (suc i) c at = all_pending g cores (suc k) n 
 
 module _ (g cores r count : ℕ) (before now : Seen) (is : now ≡ with_cores (places_to (opening_core g cores) r (count - r)) before) where
   -- another core may come
-  pub still_so_far : before.latest ≡ 0 → IsStill now
-  still_so_far early = subst IsStill (sym is) (record { early = early; pending = all_pending g cores 0 r (count - r) })
+  pub still_so_far : before.in_use ≡ true → before.latest ≡ 0 → IsStill now
+  still_so_far used early = subst IsStill (sym is) (record { used = used; early = early; pending = all_pending g cores 0 r (count - r) })
 
   pub place_left : r < count → r < length now.pool.resources
   place_left inside =

@@ -64,6 +64,7 @@ module _ (config : Config) (home : PoolConfig) (d : ℕ) (joining : DomConfig) (
 
   pub still_joined_in : IsStill (joined config.granularity d joining seen)
   still_joined_in = record {
+    used = opening.still.used;
     early = opening.still.early;
     pending = rw (with_domain-resources config.granularity 0 d (fresh_domain joining) joining.params seen.pool) opening.still.pending;
   }
@@ -74,7 +75,7 @@ module _ (config : Config) (home : PoolConfig) (d : ℕ) (joining : DomConfig) (
   -- the next domain may come
   pub goes_on : IsOpening config home (d + 1) (configured config.granularity d joining seen)
   goes_on = record {
-    still = record { early = opening.still.early; pending = rw (with_configured-resources config.granularity d joining seen.pool) opening.still.pending };
+    still = record { used = opening.still.used; early = opening.still.early; pending = rw (with_configured-resources config.granularity d joining seen.pool) opening.still.pending };
     granularity = opening.granularity;
     kind = kind_pinned d 0 joining.pins before_pins ∙ kind_joined config.granularity d (fresh_domain joining) joining.params seen.pool ∙ opening.kind;
     places = ap (λ (list : List (Option Domain)). length list) domains_after ∙ length_set d (Some (fresh_domain joining)) seen.pool.domains ∙ opening.places;

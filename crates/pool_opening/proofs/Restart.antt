@@ -1,5 +1,5 @@
 -- A pool that opens with the parameters of the file.
-use Rattle.std.proofs.Common.{◌≡◌, ℕ, refl, ap, subst, ◌∙◌, length}
+use Rattle.std.proofs.Common.{◌≡◌, ℕ, true, refl, ap, subst, ◌∙◌, length}
 use Rattle.std.specs.Prelude.{Option, None, map, replicate}
 use Rattle.std.proofs.lemmas.List.{append-nil, length-replicate}
 use Rattle.sched_base.specs.declared.UnitId.{UnitId}
@@ -78,19 +78,20 @@ begun config home =
       granularity = config.granularity;
       spare = most_units;
       latest = 0;
+      in_use = true;
     }
 
 -- the calls that make it
 pub begins : (config : Config) (home : PoolConfig) (kind : SchedKind) (domains cores : ℕ) (room next now : Seen) → kind ≡ home.kind → ArePoolParams home.kind home.params → domains ≡ length config.domains
     → cores ≡ core_count config → room ≡ vacant_pool (default_pool_params kind) config.granularity domains cores most_units
-    → next ≡ record room { pool = record room.pool { scheduler = restarted home.params room.pool.scheduler } }
+    → next ≡ record room { pool = record room.pool { scheduler = restarted home.params room.pool.scheduler }; in_use = true }
     → now ≡ with_cores (map (opening_core config.granularity home.cores) (numbers_from 0 cores)) next → now ≡ begun config home
 begins config home kind domains cores room next now same fits of_domains of_cores is_room is_next is_now =
     let g : ℕ = config.granularity in
     let made : ℕ → Seen → Seen = λ count s. with_cores (map (opening_core g home.cores) (numbers_from 0 count)) s in
-    let with_scheduler : ℕ → ℕ → Scheduler → Seen = λ n count s. made count (record (vacant_pool (default_pool_params kind) g n count most_units) { pool = record (vacant_pool (default_pool_params kind) g n count most_units).pool { scheduler = s } }) in
+    let with_scheduler : ℕ → ℕ → Scheduler → Seen = λ n count s. made count (record (vacant_pool (default_pool_params kind) g n count most_units) { pool = record (vacant_pool (default_pool_params kind) g n count most_units).pool { scheduler = s }; in_use = true }) in
     let passes : ArePoolParams kind home.params = rw same fits in
-    is_now ∙ ap (made cores) is_next ∙ ap (λ (s : Seen). made cores (record s { pool = record s.pool { scheduler = restarted home.params s.pool.scheduler } })) is_room
+    is_now ∙ ap (made cores) is_next ∙ ap (λ (s : Seen). made cores (record s { pool = record s.pool { scheduler = restarted home.params s.pool.scheduler }; in_use = true })) is_room
     ∙ ap (with_scheduler domains cores) (restart kind home.params domains cores passes)
     ∙ ap (λ (n : ℕ). with_scheduler n cores (vacant home.params n cores)) of_domains
     ∙ ap (λ (count : ℕ). with_scheduler (length config.domains) count (vacant home.params (length config.domains) count)) of_cores
@@ -98,7 +99,7 @@ begins config home kind domains cores room next now same fits of_domains of_core
 -- its domains may come in
 pub opens : (config : Config) (home : PoolConfig) → ArePoolParams home.kind home.params → IsOpening config home 0 (begun config home)
 opens config home fits = record {
-  still = record { early = refl; pending = subst (EachPlace IsPending) (append-nil (map (opening_core config.granularity home.cores) (numbers_from 0 (core_count config)))) (all_pending config.granularity home.cores 0 (core_count config) 0) };
+  still = record { used = refl; early = refl; pending = subst (EachPlace IsPending) (append-nil (map (opening_core config.granularity home.cores) (numbers_from 0 (core_count config)))) (all_pending config.granularity home.cores 0 (core_count config) 0) };
   granularity = refl;
   kind = kind_given home.kind home.params (length config.domains) (core_count config) fits;
   places = length-replicate (length config.domains) _;

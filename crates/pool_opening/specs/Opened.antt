@@ -59,14 +59,16 @@ opening_seen config home =
       granularity = config.granularity;
       spare = most_units - units_in_all config.granularity 0 config.domains;
       latest = 0;
+      in_use = true;
     }
 
 -- the core is to decide
 abbrev pub IsPending : Resource → Type 0
 IsPending c = c.pending ≡ true
 
--- nothing happened yet, and all cores are to decide
+-- the pool is in use, nothing happened yet, and all cores are to decide
 pub record IsStill (seen : Seen) : Type 0 where
+  pub used : seen.in_use ≡ true
   pub early : seen.latest ≡ 0
   pub pending : EachPlace IsPending seen.pool.resources
 

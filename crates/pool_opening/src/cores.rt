@@ -1,6 +1,6 @@
 //! The cores come in.
 
-ghost use Rattle.std.specs.Prelude.{◌≡◌, ◌≤◌, ◌<◌, None, replicate, length, map, slice_set};
+ghost use Rattle.std.specs.Prelude.{◌≡◌, ◌≤◌, ◌<◌, true, None, replicate, length, map, slice_set};
 ghost use Rattle.sched_base.specs.Numbers.{moment};
 ghost use Rattle.sched_model.specs.Checked.{IsGranularity};
 ghost use Rattle.sched_model.specs.Places.{at_place, numbers_from};
@@ -60,6 +60,7 @@ pub fn attach_all<P: Policy>(cores: u64, g: u8, count: u8, pool: &mut PoolState<
     requires few { g ≤ 4 }
     requires count { count ≤ 64 }
     requires granularity { pool.old.granularity ≡ g }
+    requires used { pool.old.in_use ≡ true }
     requires early { pool.old.latest ≡ 0 }
     requires none { pool.old.pool.resources ≡ replicate count None }
     ensures { pool.new ≡ with_cores (map (opening_core g cores) (numbers_from 0 count)) pool.old }

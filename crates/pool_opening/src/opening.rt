@@ -60,6 +60,7 @@ pub fn opened<P: Policy>(
     ensures granularity { IfOk result (λ opened. opened.granularity ≡ config.now.granularity) }
     ensures spare { IfOk result (λ opened. opened.spare ≡ most_units - units_in_all config.now.granularity 0 config.now.domains) }
     ensures latest { IfOk result (λ opened. opened.latest ≡ 0) }
+    ensures used { IfOk result (λ opened. opened.in_use ≡ true) }
 {
     match config.pools.as_slice() {
         [home] => open_home(alloc, config, home, policy),

@@ -61,14 +61,14 @@ at_most_one : (n : ℕ) → one_if_some n ≤ 1
 at_most_one zero = omega arith
 at_most_one (suc n) = omega arith
 
-module _ (h n t before moments_before count events moments : ℕ) (a b c : Seen) (way : IsUnderWay h n t before moments_before a b) (happens : Happens t count b c) (over : IsFirstEnabled c.granularity t c.pool None)
+module _ (h n t before moments_before count events moments most : ℕ) (a b c : Seen) (way : IsUnderWay h n t before moments_before a b) (happens : Happens t count b c) (over : IsFirstEnabled c.granularity t c.pool None)
     (more : events ≡ before + count) (one_more : moments ≡ moments_before + one_if_some count) where
   visit : IsVisit t before moments_before events moments b c
   visit = record { count = count; happens = happens; over = over; all_events = more; all_moments = one_more }
 
   -- the next moment
-  pub goes_on : (next : Moment) → IsNow c t → count < 2147483648 → IsNextMoment c.granularity c.pool (Some next) → next.0 ≤ h → h ≤ most_span → IsUnderWay h (n + 1) next.0 events moments a c
-  goes_on next now few is inside early =
+  pub goes_on : (next : Moment) → IsNow c t → count < most → most ≤ 2147483648 → IsNextMoment c.granularity c.pool (Some next) → next.0 ≤ h → h ≤ most_span → IsUnderWay h (n + 1) next.0 events moments a c
+  goes_on next now few bound is inside early =
       let one : suc n ≡ n + 1 = omega arith in
       let later = is_later c.granularity t c.pool next over is in
       let come = now.after in
@@ -78,7 +78,7 @@ module _ (h n t before moments_before count events moments : ℕ) (a b c : Seen)
       record {
         comes = subst (λ (k : ℕ). Comes h k next.0 events moments a c) one (b, t, before, moments_before, way.comes, visit, is, inside);
         now = record { after = omega (arith, come, later); early = omega (arith, inside, early) };
-        few_events = omega (arith, more, few, few_before);
+        few_events = omega (arith, more, few, bound, few_before);
         few_moments = omega (arith, one_more, at_most, few_moments_before);
       }
 

@@ -1,5 +1,5 @@
 -- What it is to drive a pool.
-use Rattle.std.specs.Prelude.{ℕ, zero, suc, ◌≡◌, ◌≤◌, ◌<◌, ◌+◌, List, [], ◌∷◌, Option, Some, None, Ok}
+use Rattle.std.specs.Prelude.{ℕ, zero, suc, ◌≡◌, ◌≤◌, ◌<◌, ◌+◌, ◌⊎◌, List, [], ◌∷◌, Option, Some, None, Ok}
 use Rattle.std.specs.Option.{ForSome}
 use Rattle.dom_file.specs.Configs.{domains_of}
 use Rattle.sched_base.specs.Numbers.{moment}
@@ -44,15 +44,30 @@ abbrev pub IsDriven : ℕ → ℕ → ℕ → Seen → Seen → Type 0
 IsDriven h events moments a c =
     (n : ℕ) × (b : Seen) × (t before moments_before : ℕ) × Comes h n t before moments_before a b × IsVisit t before moments_before events moments b c × IsEnd h c
 
--- so many events, at so many moments, of the machine's only pool from its opening to the horizon
+-- from the moment 0 on, and not past the horizon h: at one moment so many events happened as are counted at most, or so many moments passed
+abbrev pub IsFull : ℕ → ℕ → Seen → Seen → Type 0
+IsFull most h a c = (n : ℕ) × (b : Seen) × (t events moments : ℕ) × Comes h n t events moments a b × (((n ≡ most) × (b ≡ c)) ⊎ Happens t most b c)
+
+-- the machine's only pool at its opening
+pub record IsOpened (config : Config) (seen : Seen) : Type 0 where
+  pub alone : opening_pools config 0 config.pools ≡ Some seen.pool ∷ []
+  pub granularity : seen.granularity ≡ config.granularity
+  pub early : seen.latest ≡ 0
+
+-- so many events, at so many moments, of that pool from its opening to the horizon
 pub record IsTally (config : Config) (events moments : ℕ) : Type 0 where
-  pub opened : Seen
+  pub first : Seen
   pub last : Seen
-  pub alone : opening_pools config 0 config.pools ≡ Some opened.pool ∷ []
-  pub granularity : opened.granularity ≡ config.granularity
-  pub early : opened.latest ≡ 0
-  pub driven : IsDriven config.horizon.0 events moments opened last
+  pub opened : IsOpened config first
+  pub driven : IsDriven config.horizon.0 events moments first last
 
 -- the same of the machine that the bytes of a domain file describe
 abbrev pub IsTallyOf : List ℕ → ℕ → ℕ → Type 0
 IsTallyOf bytes events moments = (config : Config) × (domains_of bytes ≡ Ok config) × IsTally config events moments
+
+-- more came of the machine's only pool than is counted
+pub record IsMore (most : ℕ) (config : Config) : Type 0 where
+  pub first : Seen
+  pub last : Seen
+  pub opened : IsOpened config first
+  pub full : IsFull most config.horizon.0 first last

@@ -4,14 +4,11 @@ ghost use Rattle.std.specs.Prelude.{◌≡◌, ◌≤◌, ◌<◌, IfSome, None}
 ghost use Rattle.sched_model.specs.Checked.{most_span};
 ghost use Rattle.pool_core.specs.Order.{IsFirstEnabled};
 ghost use Rattle.pool_core.specs.Seen.{IsNow};
-ghost use Rattle.pool_speed.specs.Driven.{IsDriven, Happens};
+ghost use Rattle.pool_speed.specs.Driven.{Happens, IsDriven, IsFull};
 
 use pool_core::pool::PoolState;
 use sched_base::Moment;
 use sched_ops::Policy;
-
-/// The most events that are counted at one moment, and the most moments.
-const MOST: u64 = 2_147_483_648;
 
 /// How many events happened, and at how many moments.
 #[derive(Clone, Copy, Debug, PartialEq, Eq)]
@@ -39,16 +36,17 @@ impl Tally {
     }
 }
 
-/// The events that may come at t happen, each time the first of them, until none may: how many. `None` where they are more than
-/// are counted.
-fn exhaust<P: Policy>(pool: &mut PoolState<P>, t: Moment) -> Option<u64>
+/// The events that may come at t happen, each time the first of them, until none may: how many. `None` where so many happened as are
+/// counted at most.
+fn exhaust<P: Policy>(pool: &mut PoolState<P>, t: Moment, most: u64) -> Option<u64>
     requires now { IsNow pool.old t.0 }
     ensures happened { IfSome result (λ count. Happens t.0 count pool.old pool.new) }
     ensures over { IfSome result (λ count. IsFirstEnabled pool.new.granularity t.0 pool.new.pool None) }
     ensures now { IsNow pool.new t.0 }
-    ensures few { IfSome result (λ count. count < 2147483648) }
+    ensures few { IfSome result (λ count. count < most) }
+    ensures full { result ≡ None → Happens t.0 most pool.old pool.new }
 {
-    for done in 0..MOST {
+    for done in 0..most {
         match pool.first_enabled(t) {
             None => return Some(done),
             Some(action) => {
@@ -59,19 +57,22 @@ fn exhaust<P: Policy>(pool: &mut PoolState<P>, t: Moment) -> Option<u64>
     None
 }
 
-/// The pool, to which nothing happened yet, is driven to the horizon: what was counted. `None` where more comes than is counted.
-pub fn drive<P: Policy>(pool: &mut PoolState<P>, horizon: Moment) -> Option<Tally>
+/// The pool, to which nothing happened yet, is driven to the horizon: what was counted. `None` where so many events happened at one
+/// moment as are counted at most, 2^31 or fewer, or the pool came to as many moments.
+pub fn drive<P: Policy>(pool: &mut PoolState<P>, horizon: Moment, most: u64) -> Option<Tally>
     requires early { pool.old.latest ≡ 0 }
     requires horizon { horizon.0 ≤ most_span }
-    ensures { IfSome result (λ tally. IsDriven horizon.0 tally.events tally.moments pool.old pool.new) }
+    requires most { most ≤ 2147483648 }
+    ensures driven { IfSome result (λ tally. IsDriven horizon.0 tally.events tally.moments pool.old pool.new) }
+    ensures full { result ≡ None → IsFull most horizon.0 pool.old pool.new }
 {
     let mut tally = Tally {
         events: 0,
         moments: 0,
     };
     let mut at = Moment(0);
-    for passed in 0..MOST {
-        let count = exhaust(pool, at)?;
+    for passed in 0..most {
+        let count = exhaust(pool, at, most)?;
         tally = tally.and(count);
         match pool.next_moment() {
             None => return Some(tally),

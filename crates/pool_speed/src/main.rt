@@ -15,6 +15,9 @@ use speed::tally_of_file;
 use std::process::ExitCode;
 use stop::Stop;
 
+/// The most events that are counted at one moment, and the most moments.
+const MOST: u64 = 2_147_483_648;
+
 /// Drives the pool of the file that the program's only word names, and prints the tally.
 fn measure(rt: &HostRuntime) -> Result<(), Stop> {
     let mut words: Vec<String> = Vec::new(rt.alloc());
@@ -23,7 +26,7 @@ fn measure(rt: &HostRuntime) -> Result<(), Stop> {
         return Err(Stop::Usage);
     };
     let mut store = FileStore::new(rt);
-    let tally = tally_of_file(rt.alloc(), name.as_str(), &mut store)?;
+    let tally = tally_of_file(rt.alloc(), name.as_str(), &mut store, MOST)?;
     match println!(rt; "events {} moments {}", tally.events, tally.moments) {
         Ok(()) => Ok(()),
         Err(_) => Err(Stop::WriteFault),

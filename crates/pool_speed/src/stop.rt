@@ -22,7 +22,7 @@ pub enum Stop {
     /// Memory was wanted and not found, before the run began.
     #[error("pool_speed: no memory")]
     NoMemory,
-    /// More events came than are counted.
+    /// As many events came at one moment as are counted at most, or as many moments.
     #[error("pool_speed: more events than are counted")]
     Full,
     /// The output could not be written.

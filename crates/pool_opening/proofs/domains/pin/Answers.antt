@@ -11,7 +11,7 @@ pub returns-clause-after : goal.returns-clause-after
 returns-clause-after g c = c.set_params.ensures ∙ pinned_still c.args.d c.args.n c.args.cores c.args.pool.now c.requires.still
 
 pub returns-clause-still : goal.returns-clause-still
-returns-clause-still g c = subst IsStill (sym (returns-clause-after g c)) (record { early = c.requires.still.early; pending = c.requires.still.pending })
+returns-clause-still g c = subst IsStill (sym (returns-clause-after g c)) (record { used = c.requires.still.used; early = c.requires.still.early; pending = c.requires.still.pending })
 
 pub returns-clause-joined : goal.returns-clause-joined
 returns-clause-joined g c =

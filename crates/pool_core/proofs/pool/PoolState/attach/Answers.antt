@@ -18,7 +18,7 @@ invariant_of-self g c = unsettled (
     let k = c.self.inside.guests.granularity in
     let r = c.args.core.now.r.0 in
     let ends = c.args.core.now.stall_ends in
-    let now : IsNow (record { pool = pool; granularity = k; spare = c.self.inside.guests.spare; latest = c.self.inside.latest.0 }) c.args.t.0 = subst (λ (x : Seen). IsNow x c.args.t.0) (sym c.self.view_is) c.requires.now in
+    let now : IsNow (record { pool = pool; granularity = k; spare = c.self.inside.guests.spare; latest = c.self.inside.latest.0; in_use = c.self.inside.in_use }) c.args.t.0 = subst (λ (x : Seen). IsNow x c.args.t.0) (sym c.self.view_is) c.requires.now in
     let place : r < length pool.resources = subst (λ (x : Seen). r < length x.pool.resources) (sym c.self.view_is) c.requires.place in
     let absent : at_place pool.resources r ≡ None = subst (λ (x : Seen). at_place x.pool.resources r ≡ None) (sym c.self.view_is) c.requires.absent in
     let cores : CoresSeen = c.self.inside.cores in

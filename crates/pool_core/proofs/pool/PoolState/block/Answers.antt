@@ -22,7 +22,7 @@ invariant_of-self g c =
     let s = g.P.Policy.seen c.self.inside.policy in
     let pool : Pool = pool_of c.self.inside.guests c.self.inside.cores s in
     let k = c.self.inside.guests.granularity in
-    let now : IsNow (record { pool = pool; granularity = k; spare = c.self.inside.guests.spare; latest = c.self.inside.latest.0 }) c.args.t.0 = subst (λ (x : Seen). IsNow x c.args.t.0) (sym c.self.view_is) c.requires.now in
+    let now : IsNow (record { pool = pool; granularity = k; spare = c.self.inside.guests.spare; latest = c.self.inside.latest.0; in_use = c.self.inside.in_use }) c.args.t.0 = subst (λ (x : Seen). IsNow x c.args.t.0) (sym c.self.view_is) c.requires.now in
     let on : enabled_in k c.args.t.0 pool (Block c.args.p.0) ≡ true = subst (λ (x : Seen). enabled_in x.granularity c.args.t.0 x.pool (Block c.args.p.0) ≡ true) (sym c.self.view_is) c.requires.enabled in
     let guest : guest_of k pool c.args.p.0 ≡ Some c.in-Some.v = ap (λ (i : ℕ). guest_among i c.self.inside.cores.resources c.args.p.0) (sym c.self.invariant.kept.linked.granularity) ∙ sym c.in-Some.ensures in
     let latest : s.latest ≤ c.args.t.0 = (let l = c.self.invariant.kept.linked.scheduler_latest in let a = now.after in omega (arith, l, a)) in

@@ -15,7 +15,7 @@ invariant_of-self g c = unsettled (
     let s = g.P.Policy.seen c.self.inside.policy in
     let pool : Pool = pool_of c.self.inside.guests c.self.inside.cores s in
     let k = c.self.inside.guests.granularity in
-    let now : IsNow (record { pool = pool; granularity = k; spare = c.self.inside.guests.spare; latest = c.self.inside.latest.0 }) c.args.t.0 = subst (λ (x : Seen). IsNow x c.args.t.0) (sym c.self.view_is) c.requires.now in
+    let now : IsNow (record { pool = pool; granularity = k; spare = c.self.inside.guests.spare; latest = c.self.inside.latest.0; in_use = c.self.inside.in_use }) c.args.t.0 = subst (λ (x : Seen). IsNow x c.args.t.0) (sym c.self.view_is) c.requires.now in
     let r = c.args.r.0 in
     let on : enabled_in k c.args.t.0 pool (Moved r) ≡ true = subst (λ (x : Seen). enabled_in x.granularity c.args.t.0 x.pool (Moved r) ≡ true) (sym c.self.view_is) c.requires.ready in
     let cores : CoresSeen = c.self.inside.cores in

@@ -22,7 +22,7 @@ invariant_of-self g c = unsettled (
     let k = guests.granularity in
     let d = c.args.part.d.0 in
     let domain = c.args.part.domain in
-    let now : IsNow (record { pool = pool; granularity = k; spare = guests.spare; latest = c.self.inside.latest.0 }) c.args.t.0 = subst (λ (x : Seen). IsNow x c.args.t.0) (sym c.self.view_is) c.requires.now in
+    let now : IsNow (record { pool = pool; granularity = k; spare = guests.spare; latest = c.self.inside.latest.0; in_use = c.self.inside.in_use }) c.args.t.0 = subst (λ (x : Seen). IsNow x c.args.t.0) (sym c.self.view_is) c.requires.now in
     let place : d < length pool.domains = subst (λ (x : Seen). d < length x.pool.domains) (sym c.self.view_is) c.requires.place in
     let absent : at_place pool.domains d ≡ None = subst (λ (x : Seen). at_place x.pool.domains d ≡ None) (sym c.self.view_is) c.requires.absent in
     let params : AreDomParams (kind_of s.scheduler.records) c.args.params.now = subst (λ (x : Seen). AreDomParams (kind_of x.pool.scheduler.records) c.args.params.now) (sym c.self.view_is) c.requires.params in

@@ -20,7 +20,7 @@ invariant_of-self g c =
     let pool : Pool = pool_of c.self.inside.guests c.self.inside.cores s in
     let k = c.self.inside.guests.granularity in
     let p = c.args.p.0 in
-    let now : IsNow (record { pool = pool; granularity = k; spare = c.self.inside.guests.spare; latest = c.self.inside.latest.0 }) c.args.t.0 = subst (λ (x : Seen). IsNow x c.args.t.0) (sym c.self.view_is) c.requires.now in
+    let now : IsNow (record { pool = pool; granularity = k; spare = c.self.inside.guests.spare; latest = c.self.inside.latest.0; in_use = c.self.inside.in_use }) c.args.t.0 = subst (λ (x : Seen). IsNow x c.args.t.0) (sym c.self.view_is) c.requires.now in
     let on : enabled_in k c.args.t.0 pool (Leave p) ≡ true = subst (λ (x : Seen). enabled_in x.granularity c.args.t.0 x.pool (Leave p) ≡ true) (sym c.self.view_is) c.requires.enabled in
     let latest : s.latest ≤ c.args.t.0 = (let l = c.self.invariant.kept.linked.scheduler_latest in let a = now.after in omega (arith, l, a)) in
     let leaves = may_leave k c.args.t.0 p pool c.self.invariant.kept.pool.some c.self.invariant.kept.pool.known on in
@@ -54,4 +54,4 @@ returns-clause-after g c =
     let taken : c.leave-v.result ≡ taken_at k pool p = c.leave-v.ensures.taken s in
     let parted : pool_of c.leave-v.new.guests c.leave-v.new.cores s ≡ parted_with k c.args.t.0 p (taken_at k pool p) pool = c.leave-v.ensures.pool s ∙ ap (λ (o : Option VcpuId). parted_with k c.args.t.0 p o pool) taken in
     c.look.ensures
-    ∙ happened_is c.args.t.0 c.self.inside.guests c.leave-v.new.guests c.self.inside.cores c.leave-v.new.cores s s c.self.inside.latest.0 (Leave p) c.args.self.now (parted ∙ leaves.after) c.leave-v.ensures.rest c.self.view_is
+    ∙ happened_is c.args.t.0 c.self.inside.guests c.leave-v.new.guests c.self.inside.cores c.leave-v.new.cores s s c.self.inside.latest.0 c.self.inside.in_use (Leave p) c.args.self.now (parted ∙ leaves.after) c.leave-v.ensures.rest c.self.view_is

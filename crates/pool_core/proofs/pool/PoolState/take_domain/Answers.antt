@@ -45,4 +45,4 @@ invariant_of-self g c = unsettled (
 pub returns-clause-after : goal.returns-clause-after
 returns-clause-after g c =
     let s = g.P.Policy.seen c.self.inside.policy in
-    parted_seen c.args.d.0 c.take.result.granularity c.self.inside.latest.0 c.self.inside.guests c.take.new.guests c.self.inside.cores s (g.P.Policy.seen c.take.new.policy) c.take.result.domain c.args.self.now (c.take.ensures.pool c.self.inside.cores) c.take.ensures.guests c.self.view_is
+    parted_seen c.args.d.0 c.take.result.granularity c.self.inside.latest.0 c.self.inside.in_use c.self.inside.guests c.take.new.guests c.self.inside.cores s (g.P.Policy.seen c.take.new.policy) c.take.result.domain c.args.self.now (c.take.ensures.pool c.self.inside.cores) c.take.ensures.guests c.self.view_is
