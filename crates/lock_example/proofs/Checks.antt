@@ -99,8 +99,8 @@ new-snoc counters x len none new k y at = dite (dec_lt k (length counters))
     at_back (z ∷ zs) (suc j) y high e = let t = at_back zs j y (omega (arith, high)) e in (ap suc t.0, t.1)
 
 -- the new counters are the parts of the book before the run
-pub new-parts : (counters : List Counter) → length counters ≡ 17 → AreNew counters → AreParts (λ (c : Counter). part_after c.lock c.count) new_book counters
-new-parts counters len new = record { all = len; each = λ k x at. let is = new k x at in λ i. part_after (is.0 i) (is.1 i) }
+pub new-parts : (counters : List Counter) → length counters ≡ 17 → AreNew counters → AreParts (λ (c : Counter). part_after c.lock c.count) (λ m now c. Unit {0}) new_book counters
+new-parts counters len new = record { all = len; each = λ k x at. let is = new k x at in λ i. part_after (is.0 i) (is.1 i); suited = λ k x at. tt }
 
 -- each of the two entries may come next
 pub first_next : IsNext adding (reached_by adding []) is_added

@@ -46,6 +46,8 @@ impl Part for Counter {
 
     ghost part = { λ c. part_after c.lock c.count };
 
+    ghost suits = { λ m now c. Unit {0} };
+
     fn names(&self) -> Names {
         names_of(self.lock, self.count)
     }

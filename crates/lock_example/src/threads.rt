@@ -1,6 +1,7 @@
 //! Two seats that work side by side, each in a thread of its own.
 
-ghost use Rattle.std.specs.Prelude.{◌≡◌, ◌≤◌, ◌⊎◌, [], true, IfOk, IfErr, OnOk, take, vec_capacity};
+ghost use Rattle.std.specs.Prelude.{◌≡◌, ◌≤◌, ◌<◌, ◌⊎◌, [], true, IfOk, IfErr, OnOk, take, length, vec_capacity};
+ghost use Rattle.std.specs.List.{All};
 ghost use Rattle.journal_core.specs.Parts.{lists};
 ghost use Rattle.lock_moves.specs.Words.{name_number};
 ghost use Rattle.lock_example.specs.Example.{part_after, two_entries};
@@ -12,6 +13,7 @@ use crate::counter::Counter;
 use crate::visits::visit;
 use lock_moves::{Held, HeldBook, LockSeat, LockSet, NameId};
 use std::sync::Wait;
+use std::thread;
 use std::thread::{Threads, join, join_mut};
 
 /// Lets two seats visit the lock of a name side by side. The answers are what each saw: a lock's number and a count, whose part lists the name.
@@ -42,6 +44,37 @@ pub fn visit_both<R: Threads + Wait + Sync>(
             ensures lists { lists (part_after result.0 result.1) (name_number name) ≡ true }
         { visit(rt, set, b, name) },
     )
+}
+
+// One seat visits the lock of the name.
+fn turn<R: Wait>(rt: &R, set: &LockSet<Counter>, seat: &mut LockSeat, name: NameId)
+    requires { CanVisit set.now name seat.old }
+    ensures { CanVisit set.now name seat.new }
+{
+    visit(rt, set, seat, name);
+}
+
+/// Lets all seats visit the lock of a name side by side.
+pub fn visit_all<R: Threads + Wait + Sync>(
+    rt: &R,
+    set: &LockSet<Counter>,
+    seats: &mut [LockSeat],
+    name: NameId,
+)
+    requires some { 0 < length seats.old }
+    requires all { All (CanVisit set.now name) seats.old }
+    ensures all { All (CanVisit set.now name) seats.new }
+{
+    let count = seats.len();
+    thread::for_each_mut(
+        rt,
+        seats,
+        count,
+        &|_i, seat|
+            requires { CanVisit set.now name seat.now }
+            ensures { CanVisit set.entry.now name seat.exit.now }
+        { turn(rt, set, seat, name) },
+    );
 }
 
 // Adds the core, and gives the seat back beside the answer.

@@ -20,14 +20,14 @@ at_least [] i v e = absurd (some-ne-none v (sym e))
 at_least (x ∷ xs) zero v e = let is = ap (λ (u : View). u.seen.shares) (some-injective x v e) in omega (arith, is)
 at_least (x ∷ xs) (suc i) v e = let r = at_least xs i v e in omega (arith, r)
 
-two_of : (l : List View) (i j : ℕ) (v u : View) → i ≢ j → get_elem? l i ≡ some v → get_elem? l j ≡ some u → v.seen.shares + u.seen.shares ≤ shares_of l
+pub two_of : (l : List View) (i j : ℕ) (v u : View) → i ≢ j → get_elem? l i ≡ some v → get_elem? l j ≡ some u → v.seen.shares + u.seen.shares ≤ shares_of l
 two_of [] i j v u ne e f = absurd (some-ne-none v (sym e))
 two_of (x ∷ xs) zero zero v u ne e f = absurd (ne refl)
 two_of (x ∷ xs) zero (suc j) v u ne e f = let is = ap (λ (u : View). u.seen.shares) (some-injective x v e) in let r = at_least xs j u f in omega (arith, is, r)
 two_of (x ∷ xs) (suc i) zero v u ne e f = let is = ap (λ (u : View). u.seen.shares) (some-injective x u f) in let r = at_least xs i v e in omega (arith, is, r)
 two_of (x ∷ xs) (suc i) (suc j) v u ne e f = let r = two_of xs i j v u (λ q. ne (ap suc q)) e f in omega (arith, r)
 
-module _ {V : Type 0} (part : V → StatePart) (m : Machine) (limit base : ℕ) where
+module _ {V : Type 0} (part : V → StatePart) (suits : Machine → ℕ → V → Type 0) (m : Machine) (limit base : ℕ) where
   abbrev pub Leaves : View → List (Content V) → Type 0
   Leaves v xs = (b : Chronicle) × (get_elem? xs 17 ≡ some (Ledger b)) × (b.input ≡ v.seen.input) × (b.history ≡ v.seen.front) × (b.limit ≡ v.seen.limit) × ((p : ℕ) → base ≤ p → p < length v.seen.front → has_place p v.seen.own ≡ true)
 
@@ -36,7 +36,7 @@ module _ {V : Type 0} (part : V → StatePart) (m : Machine) (limit base : ℕ) 
   ledger_there h (Value x) fits = absurd (lt_irrefl 17 fits.0)
   ledger_there h (Ledger b) fits = (b, refl, fits.1, fits.2, fits.3)
 
-  pub leaves : (words : List ℕ) (xs : List (Content V)) (id : ℕ) (v : View) → Final (Seen (Agrees part m limit base) id v) words xs → v.seen.shares ≡ 1024 → v.seen.held ≡ [] → Leaves v xs
+  pub leaves : (words : List ℕ) (xs : List (Content V)) (id : ℕ) (v : View) → Final (Seen (Agrees part suits m limit base) id v) words xs → v.seen.shares ≡ 1024 → v.seen.held ≡ [] → Leaves v xs
   leaves words xs id v f whole none_held = let s = f.0 in let r = f.1.0 in let at = f.1.1 in
       let single : (j : ℕ) (u : View) → get_elem? s.views j ≡ some u → 0 < u.seen.shares → j ≡ id = λ j u e left. dite (ℕ_discrete id j)
       (λ is. sym is)

@@ -21,7 +21,7 @@ use Rattle.lock_moves.specs.Sight.{Known, View, known, find_lock, without, refre
 use Rattle.lock_moves.specs.Agrees.{Fronts, Fits, Has, Agrees}
 use Rattle.lock_moves.specs.Plays.{Next, Kept, Placed, Decided, committed}
 use Rattle.lock_moves.proofs.Finding.{find-tail, find-without-same, find-without-other, find-refreshed, never, none_or, set_there, set_all, set_some}
-use Rattle.lock_moves.proofs.Moving.{Begins, fronts_same, shares_same}
+use Rattle.lock_moves.proofs.Moving.{suited_step, Begins, fronts_same, shares_same}
 use Rattle.lock_moves.proofs.Places.{place_there, place_last, place_either, place_one, rising-snoc}
 use Rattle.lock_moves.proofs.Prefix.{prefix_refl, prefix_more, prefix_length, length_one_more}
 use Rattle.lock_moves.proofs.Taking.{owned_by, owned_here, owned_else, still}
@@ -82,7 +82,7 @@ option_case : (P : Option Known → Type 0) (o : Option Known) → P None → ((
 option_case P None none_is some_is = none_is
 option_case P (Some x) none_is some_is = some_is x
 
-module _ {V : Type 0} (part : V → StatePart) (m : Machine) (limit base : ℕ) where
+module _ {V : Type 0} (part : V → StatePart) (suits : Machine → ℕ → V → Type 0) (m : Machine) (limit base : ℕ) where
   abbrev Mine : Type 0
   Mine = Me (Content V) View
 
@@ -100,7 +100,7 @@ module _ {V : Type 0} (part : V → StatePart) (m : Machine) (limit base : ℕ) 
   first_ledger d (x ∷ xs) = ledger_or d x.1
 
   commits : (slots id : ℕ) (v : View) (b : Chronicle) (z : Known) → v.out ≡ 18 → find_lock 17 v.seen.held ≡ Some z → 0 < v.seen.shares → b.input ≡ v.seen.input → b.limit ≡ v.seen.limit → Next v.seen.front b.history → Kept v.seen b.history → Placed v.seen b.history → Decided v.seen b.history → IsSound v.seen.input b.history
-      → Allows (Agrees part m limit base) slots id (v, (17, Ledger b) ∷ []) 17 (λ _. 0) (λ _. committed (step slots 17 0 0 none) (v, (17, Ledger b) ∷ []) 0)
+      → Allows (Agrees part suits m limit base) slots id (v, (17, Ledger b) ∷ []) 17 (λ _. 0) (λ _. committed (step slots 17 0 0 none) (v, (17, Ledger b) ∷ []) 0)
   commits slots id v b z away found left input limited next kept placed decided sound' s r deep at small =
       let h : List Entry = r.history in let h' : List Entry = b.history in let w : View = view_committed h' v in let wide = r.wide in
       let words' : List ℕ = set s.words 17 0 in let homes' = set s.homes 17 (some (Ledger b)) in
@@ -137,6 +137,7 @@ module _ {V : Type 0} (part : V → StatePart) (m : Machine) (limit base : ℕ) 
           sound = sound;
           wide = length-set s.words 17 0 ∙ r.wide;
           deep = length-set s.homes 17 (some (Ledger b)) ∙ r.deep;
+          suited = suited_step suits m s.words words' s.homes homes' 17 r.suited (λ j ne. (get_or-set_other s.words 17 j 0 0 ne, set_else s.homes 17 j (some (Ledger b)) ne)) clock (λ y low. absurd (lt_irrefl 17 low));
           locks = record {
             free = λ j l e. dite (ℕ_discrete j 17)
                 (λ is. (Ledger b, ap (get_elem? homes') is ∙ set_here s.homes 17 (some (Ledger b)) (omega (arith, r.deep)), (is, input ∙ is_m, refl, limited ∙ r.fronts.limits id v at left)))
@@ -204,6 +205,6 @@ module _ {V : Type 0} (part : V → StatePart) (m : Machine) (limit base : ℕ) 
       )
 
   pub commits_at : (slots id : ℕ) (me : Mine) (v : View) (b : Chronicle) (z : Known) → me ≡ (v, (17, Ledger b) ∷ []) → v.out ≡ 18 → find_lock 17 v.seen.held ≡ Some z → 0 < v.seen.shares → b.input ≡ v.seen.input → b.limit ≡ v.seen.limit → Next v.seen.front b.history
-      → Kept v.seen b.history → Placed v.seen b.history → Decided v.seen b.history → IsSound v.seen.input b.history → Allows (Agrees part m limit base) slots id me 17 (λ _. 0) (λ _. committed (step slots 17 0 0 none) me 0)
+      → Kept v.seen b.history → Placed v.seen b.history → Decided v.seen b.history → IsSound v.seen.input b.history → Allows (Agrees part suits m limit base) slots id me 17 (λ _. 0) (λ _. committed (step slots 17 0 0 none) me 0)
   commits_at slots id me v b z is away found left input limited next kept placed decided sound' =
-      subst (λ (q : Mine). Allows (Agrees part m limit base) slots id q 17 (λ _. 0) (λ _. committed (step slots 17 0 0 none) q 0)) (sym is) (commits slots id v b z away found left input limited next kept placed decided sound')
+      subst (λ (q : Mine). Allows (Agrees part suits m limit base) slots id q 17 (λ _. 0) (λ _. committed (step slots 17 0 0 none) q 0)) (sym is) (commits slots id v b z away found left input limited next kept placed decided sound')

@@ -14,7 +14,7 @@ use Rattle.sched_model.specs.declared.machine.Machine.{Machine}
 use Rattle.lock_moves.specs.declared.content.Content.{Content}
 use Rattle.lock_moves.specs.declared.content.Content.TheVariants.{Value}
 use Rattle.lock_moves.specs.Sight.{Known, View, find_lock, Holds, has_place, Rising, raise}
-use Rattle.lock_moves.specs.Agrees.{shares_of, Fronts, Fits, Has, Locks, Names, Stages}
+use Rattle.lock_moves.specs.Agrees.{shares_of, Fronts, Fits, Has, Locks, Names, Stages, Suited}
 use Rattle.lock_moves.proofs.Finding.{never, set_there, set_all, set_some}
 
 pub shares-set : (l : List View) (i : ℕ) (v w : View) → get_elem? l i ≡ some v → shares_of (set l i w) + v.seen.shares ≡ shares_of l + w.seen.shares
@@ -71,6 +71,16 @@ stages_step h words words' views id w s same shut mine = record {
 
 pub same_or : (j k : ℕ) → (j ≡ k) ⊎ (j ≢ k)
 same_or j k = dite (ℕ_discrete j k) (λ e. inl e) (λ ne. inr ne)
+
+-- a step that changes no lock but k, and not the moment
+pub suited_step : {V : Type 0} (suits : Machine → ℕ → V → Type 0) (m : Machine) (words words' : List ℕ) (homes homes' : List (maybe.Option (Content V))) (k : ℕ) → Suited suits m words homes
+    → ((j : ℕ) → j ≢ k → (get_or words' j 0 ≡ get_or words j 0) × (get_elem? homes' j ≡ get_elem? homes j)) → get_or words' 146 0 ≡ get_or words 146 0
+    → ((y : V) → k < 17 → get_or words' k 0 ≡ 0 → get_elem? homes' k ≡ some (some (Value y)) → suits m (get_or words' 146 0) y)
+    → Suited suits m words' homes'
+suited_step {V} suits m words words' homes homes' k r others clock here = λ j y low z home. ⊎_elim
+    (λ (is : j ≡ k). here y (subst (λ (q : ℕ). q < 17) is low) (ap (λ (q : ℕ). get_or words' q 0) (sym is) ∙ z) (ap (get_elem? homes') (sym is) ∙ home))
+    (λ ne. let o = others j ne in subst (λ (t : ℕ). suits m t y) (sym clock) (r j y low (sym o.0 ∙ z) (sym o.1 ∙ home)))
+    (same_or j k)
 
 module _ {V : Type 0} (part : V → StatePart) (m : Machine) (h : List Entry) where
   abbrev Slots : Type 0

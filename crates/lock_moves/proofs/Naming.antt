@@ -67,12 +67,12 @@ after_else n to j p x ne = elim (eqb to j) as (λ b. has_place p (cond b (n ∷ 
   | false ↦ stays n p x.names ne
 ]
 
-module _ {V : Type 0} (part : V → StatePart) (m : Machine) (limit base : ℕ) where
+module _ {V : Type 0} (part : V → StatePart) (suits : Machine → ℕ → V → Type 0) (m : Machine) (limit base : ℕ) where
   abbrev Mine : Type 0
   Mine = Me (Content V) View
 
   pub moves : (slots id : ℕ) (v : View) (n from to : ℕ) (z : Known) → n < 128 → to < 17 → v.out ≡ 0 → Holds 17 v.seen → Holds to v.seen → find_lock from v.seen.held ≡ Some z → has_place n z.names ≡ true → 0 < v.seen.shares
-      → Allows (Agrees part m limit base) slots id (v, []) (18 + n) (λ _. to) (λ _. named (step slots (18 + n) to 0 none) (v, []) to)
+      → Allows (Agrees part suits m limit base) slots id (v, []) (18 + n) (λ _. to) (λ _. named (step slots (18 + n) to 0 none) (v, []) to)
   moves slots id v n from to z l low rest book there found lists_n left s r deep at small = let i : ℕ = 18 + n in let w : View = view_moved_name n to v in let wide = r.wide in let h : List Entry = r.history in
       let words' : List ℕ = set s.words i to in
       let lock : (j : ℕ) → j < 18 → get_or words' j 0 ≡ get_or s.words j 0 = λ j q. get_or-set_other s.words i j to 0 (λ e. absurd (omega (arith, e, q))) in
@@ -94,6 +94,7 @@ module _ {V : Type 0} (part : V → StatePart) (m : Machine) (limit base : ℕ) 
           sound = r.sound;
           wide = length-set s.words i to ∙ r.wide;
           deep = r.deep;
+          suited = λ j y q e home. subst (λ (t : ℕ). suits m t y) (sym clock) (r.suited j y q (sym (lock j (omega (arith, q))) ∙ e) home);
           locks = record {
             free = λ j q e. r.locks.free j q (sym (lock j q) ∙ e);
             taken = λ j q nz. set_some (λ u. Holds j u.seen) s.views id v w at (λ p. find-renamed-some n to j v.seen.held p.0 p.1) (r.owner j) (r.locks.taken j q (λ e. nz (lock j q ∙ e)));
@@ -156,7 +157,7 @@ module _ {V : Type 0} (part : V → StatePart) (m : Machine) (limit base : ℕ) 
       )
 
   pub sets_now : (slots id : ℕ) (v : View) (t : ℕ) → v.out ≡ 0 → ((k : ℕ) → k < 18 → Holds k v.seen) → 0 < v.seen.shares
-      → Allows (Agrees part m limit base) slots id (v, []) 146 (λ _. t) (λ _. timed (step slots 146 t 0 none) (v, []) t)
+      → Allows (Agrees part suits m limit base) slots id (v, []) 146 (λ _. t) (λ _. timed (step slots 146 t 0 none) (v, []) t)
   sets_now slots id v t rest all left s r deep at small = let w : View = view_with_now t v in let wide = r.wide in let h : List Entry = r.history in let words' : List ℕ = set s.words 146 t in
       let same : (j : ℕ) → j ≢ 146 → get_or words' j 0 ≡ get_or s.words j 0 = λ j ne. get_or-set_other s.words 146 j t 0 ne in
       let word : (n : ℕ) → n < 128 → get_or words' (18 + n) 0 ≡ get_or s.words (18 + n) 0 = λ n l. same (18 + n) (λ e. absurd (omega (arith, e, l))) in
@@ -173,6 +174,7 @@ module _ {V : Type 0} (part : V → StatePart) (m : Machine) (limit base : ℕ) 
           sound = r.sound;
           wide = length-set s.words 146 t ∙ r.wide;
           deep = r.deep;
+          suited = λ j y q e home. let shut = (mine j (omega (arith, q))).shut in absurd (omega (arith, shut, sym (same j (λ e. absurd (omega (arith, e, q)))) ∙ e));
           locks = locks_step part m h limit s.words words' s.homes s.homes s.views r.owner r.owner 146 id v w r.locks at
               (λ j ne. (same j ne, refl, refl, refl, (λ _. refl), λ e. absurd (omega (arith, rest, e))))
               (λ j u x other e q. alone j u 146 x other e q)
@@ -204,12 +206,12 @@ module _ {V : Type 0} (part : V → StatePart) (m : Machine) (limit base : ℕ) 
         refl,
       )
 
-  pub looks : (slots id : ℕ) (me : Mine) (i : ℕ) → 0 < me.0.seen.shares → Allows (Agrees part m limit base) slots id me i (λ n. n) (looked (step slots i 0 0 none) me)
+  pub looks : (slots id : ℕ) (me : Mine) (i : ℕ) → 0 < me.0.seen.shares → Allows (Agrees part suits m limit base) slots id me i (λ n. n) (looked (step slots i 0 0 none) me)
   looks slots id me i left s r deep at small = (
     me.0,
     keeps,
     tt,
-    unmoved part m limit base s r id me.0 me.0 i me.1 at left refl refl refl refl refl refl refl refl refl,
+    unmoved part suits m limit base s r id me.0 me.0 i me.1 at left refl refl refl refl refl refl refl refl refl,
     (
       refl,
       (
@@ -222,10 +224,10 @@ module _ {V : Type 0} (part : V → StatePart) (m : Machine) (limit base : ℕ) 
   )
 
   pub sets_now_at : (slots id : ℕ) (me : Mine) (v : View) (t : ℕ) → me ≡ (v, []) → v.out ≡ 0 → ((k : ℕ) → k < 18 → Holds k v.seen) → 0 < v.seen.shares
-      → Allows (Agrees part m limit base) slots id me 146 (λ _. t) (λ _. timed (step slots 146 t 0 none) me t)
-  sets_now_at slots id me v t is rest all left = subst (λ (z : Mine). Allows (Agrees part m limit base) slots id z 146 (λ _. t) (λ _. timed (step slots 146 t 0 none) z t)) (sym is) (sets_now slots id v t rest all left)
+      → Allows (Agrees part suits m limit base) slots id me 146 (λ _. t) (λ _. timed (step slots 146 t 0 none) me t)
+  sets_now_at slots id me v t is rest all left = subst (λ (z : Mine). Allows (Agrees part suits m limit base) slots id z 146 (λ _. t) (λ _. timed (step slots 146 t 0 none) z t)) (sym is) (sets_now slots id v t rest all left)
 
   pub moves_at : (slots id : ℕ) (me : Mine) (v : View) (n from to : ℕ) (z : Known) (i : ℕ) → i ≡ 18 + n → me ≡ (v, []) → n < 128 → to < 17 → v.out ≡ 0 → Holds 17 v.seen → Holds to v.seen → find_lock from v.seen.held ≡ Some z → has_place n z.names ≡ true → 0 < v.seen.shares
-      → Allows (Agrees part m limit base) slots id me i (λ _. to) (λ _. named (step slots i to 0 none) me to)
+      → Allows (Agrees part suits m limit base) slots id me i (λ _. to) (λ _. named (step slots i to 0 none) me to)
   moves_at slots id me v n from to z i at is l low rest book there found lists_n left =
-      subst (λ (q : ℕ × Mine). Allows (Agrees part m limit base) slots id q.1 q.0 (λ _. to) (λ _. named (step slots q.0 to 0 none) q.1 to)) (λ j. (sym at j, sym is j)) (moves slots id v n from to z l low rest book there found lists_n left)
+      subst (λ (q : ℕ × Mine). Allows (Agrees part suits m limit base) slots id q.1 q.0 (λ _. to) (λ _. named (step slots q.0 to 0 none) q.1 to)) (λ j. (sym at j, sym is j)) (moves slots id v n from to z l low rest book there found lists_n left)

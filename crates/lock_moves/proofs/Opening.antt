@@ -13,6 +13,7 @@ use Rattle.journal_core.specs.Parts.{lists}
 use Rattle.journal_core.specs.Histories.{home_at, IsSound, NamesStandOnce}
 use Rattle.journal_core.proofs.Homes.{home-apart}
 use Rattle.sched_model.specs.declared.event.Entry.{Entry}
+use Rattle.sched_model.specs.declared.machine.Machine.{Machine}
 use Rattle.lock_moves.proofs.Finding.{lists-part}
 use Rattle.lock_moves.specs.declared.content.Content.{Content}
 use Rattle.lock_moves.specs.declared.content.Content.TheVariants.{Value, Ledger}
@@ -33,11 +34,11 @@ module _ {A : Type 0} where
   there_is (x ∷ xs) zero h = (x, refl)
   there_is (x ∷ xs) (suc i) h = there_is xs i (omega (arith, h))
 
-module _ {V : Type 0} (part : V → StatePart) (b : Chronicle) (values : List V) (words : List ℕ) where
+module _ {V : Type 0} (part : V → StatePart) (suits : Machine → ℕ → V → Type 0) (b : Chronicle) (values : List V) (words : List ℕ) where
   abbrev slots : List (Content V)
   slots = map Value values ++ Ledger b ∷ []
 
-  pub agrees_first : AreParts part b values → IsSound b.input b.history → IsOpening b words → Agrees part b.input b.limit (length b.history) (opening words slots (view_opening b))
+  pub agrees_first : AreParts part suits b values → IsSound b.input b.history → IsOpening b words → Agrees part suits b.input b.limit (length b.history) (opening words slots (view_opening b))
   agrees_first m sound o = let v : View = view_opening b in let h : List Entry = b.history in
       let len : length (map Value values) ≡ 17 = length-map values Value ∙ m.all in
       let value : (k : ℕ) → k < 17 → (x : V) × (get_elem? values k ≡ some x) × (get_elem? (map some slots) k ≡ some (some (Value x))) = λ k low. let t = there_is values k (omega (arith, low, m.all)) in
@@ -50,6 +51,8 @@ module _ {V : Type 0} (part : V → StatePart) (b : Chronicle) (values : List V)
         sound = sound;
         wide = o.wide;
         deep = length-map slots some ∙ (length-append (map Value values) (Ledger b ∷ []) ∙ omega (arith, len));
+        suited = λ k y low _ home. let t = value k low in let same : t.0 ≡ y = value_same t.0 y (sym t.2 ∙ home) in
+            subst (λ (q : V). suits b.input (get_or words 146 0) q) same (subst (λ (n : ℕ). suits b.input n t.0) (sym o.moment) (m.suited k t.0 t.1));
         locks = record {
           free = λ k low _. dite (ℕ_discrete k 17)
               (λ is. (Ledger b, (λ i. get_elem? (map some slots) (is i)) ∙ at_map some slots 17 (Ledger b) (at_last (map Value values) (Ledger b) 17 len), (is, refl, refl, refl)))
@@ -84,7 +87,7 @@ module _ {V : Type 0} (part : V → StatePart) (b : Chronicle) (values : List V)
         all_shares = refl;
       }
 
-module _ {V : Type 0} (part : V → StatePart) (b : Chronicle) (values : List V) where
+module _ {V : Type 0} (part : V → StatePart) (suits : Machine → ℕ → V → Type 0) (b : Chronicle) (values : List V) where
   -- what the value k says of the name n
-  pub says : (k n : ℕ) (x : V) (c : Bool) → AreParts part b values → NamesStandOnce b.input b.history → k < 17 → n < 128 → x ≡ get_or values k x → c ≡ lists (part x) n → eqb (home_at b.input b.history n) k ≡ c
+  pub says : (k n : ℕ) (x : V) (c : Bool) → AreParts part suits b values → NamesStandOnce b.input b.history → k < 17 → n < 128 → x ≡ get_or values k x → c ≡ lists (part x) n → eqb (home_at b.input b.history n) k ≡ c
   says k n x c m once low l is e = sym (e ∙ (ap (λ (p : StatePart). lists p n) (m.each k x (at_index values k x (omega (arith, low, m.all)) is)) ∙ lists-part b.input b.history k n low l once))

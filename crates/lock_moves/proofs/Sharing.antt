@@ -59,8 +59,8 @@ passed_on keeper other id p e = ap (λ b. cond b id (keeper p)) (eq-eqb (keeper 
 passed_by : (keeper : ℕ → ℕ) (other id p : ℕ) → keeper p ≢ other → passed keeper other id p ≡ keeper p
 passed_by keeper other id p ne = ap (λ b. cond b id (keeper p)) (ne_eqb (keeper p) other ne)
 
-module _ {V : Type 0} (part : V → StatePart) (m : Machine) (limit base : ℕ) where
-  pub splits : (id : ℕ) (v : View) → 1 < v.seen.shares → Splits (Agrees part m limit base) id v (view_lessened v) (view_newcomer v)
+module _ {V : Type 0} (part : V → StatePart) (suits : Machine → ℕ → V → Type 0) (m : Machine) (limit base : ℕ) where
+  pub splits : (id : ℕ) (v : View) → 1 < v.seen.shares → Splits (Agrees part suits m limit base) id v (view_lessened v) (view_newcomer v)
   splits id v two s r at = let f = r.fronts in let w : View = view_lessened v in let n : View = view_newcomer v in let l = set s.views id w in let left : 0 < v.seen.shares = omega (arith, two) in
       let g = fronts_same m limit base s.views r.history r.keeper r.latest id v w f at refl refl refl refl left (omega (arith, two)) in record {
         history = r.history;
@@ -70,6 +70,7 @@ module _ {V : Type 0} (part : V → StatePart) (m : Machine) (limit base : ℕ) 
         sound = r.sound;
         wide = r.wide;
         deep = r.deep;
+        suited = r.suited;
         locks = record {
           free = r.locks.free;
           taken = λ k low nz. let t = set_some (λ u. Holds k u.seen) s.views id v w at (λ p. p) (r.owner k) (r.locks.taken k low nz) in (t.0, at_longer l (n ∷ []) (r.owner k) t.0 t.1, t.2);
@@ -98,7 +99,7 @@ module _ {V : Type 0} (part : V → StatePart) (m : Machine) (limit base : ℕ) 
         all_shares = let a = shares-snoc l n in let b = shares-set s.views id v w at in let d = r.all_shares in omega (arith, a, b, d, two);
       }
 
-  pub joins : (id : ℕ) (v : View) (other : ℕ) (w : View) → w.seen.held ≡ [] → 0 < v.seen.shares → 0 < w.seen.shares → Joins (Agrees part m limit base) id v other w (view_joined v w) spent_view
+  pub joins : (id : ℕ) (v : View) (other : ℕ) (w : View) → w.seen.held ≡ [] → 0 < v.seen.shares → 0 < w.seen.shares → Joins (Agrees part suits m limit base) id v other w (view_joined v w) spent_view
   joins id v other w none_held left some_left s r at ne seen =
       let both : View = view_joined v w in let l1 = set s.views id both in let l2 = set l1 other spent_view in let f = r.fronts in let h : List Entry = r.history in
       let there : get_elem? s.views other ≡ some w = sym (set_else s.views id other both ne) ∙ seen in
@@ -116,6 +117,7 @@ module _ {V : Type 0} (part : V → StatePart) (m : Machine) (limit base : ℕ) 
         sound = r.sound;
         wide = r.wide;
         deep = r.deep;
+        suited = r.suited;
         locks = record {
           free = r.locks.free;
           taken = λ k low nz. set_some (λ u. Holds k u.seen) l1 other w spent_view seen (λ p. absurd (never p.0 (sym (ap (find_lock k) none_held) ∙ p.1))) (r.owner k)

@@ -26,12 +26,12 @@ stage_fits front h r limit next fits few = let most = decides_at-few front r in 
     (λ (e : (e : Entry) × (h ≡ front ++ e ∷ [])). let len = ap length e.1 ∙ length_one_more front e.0 in omega (arith, most, len, fits, few))
     next
 
-module _ {V : Type 0} (part : V → StatePart) (m : Machine) (limit base : ℕ) where
+module _ {V : Type 0} (part : V → StatePart) (suits : Machine → ℕ → V → Type 0) (m : Machine) (limit base : ℕ) where
   abbrev Mine : Type 0
   Mine = Me (Content V) View
 
   pub stages_raised : (slots id : ℕ) (v : View) (q : ℕ) → q < 64 → v.out ≡ 0 → v.seen.named ≡ 0 → Holds 17 v.seen → decides_at v.seen.front q + 1 < 2 ^ 64 → 0 < v.seen.shares
-      → Allows (Agrees part m limit base) slots id (v, []) (147 + q) (λ n. (n + 1) % 2 ^ 64) (raised (step slots (147 + q) 1 0 none) (v, []))
+      → Allows (Agrees part suits m limit base) slots id (v, []) (147 + q) (λ n. (n + 1) % 2 ^ 64) (raised (step slots (147 + q) 1 0 none) (v, []))
   stages_raised slots id v q l rest unnamed book fits left s r deep at small = let i : ℕ = 147 + q in let w : View = view_naming q v in let wide = r.wide in let h : List Entry = r.history in
       let x : ℕ = get_or s.words i 0 in let y : ℕ = (x + 1) % 2 ^ 64 in let words' : List ℕ = set s.words i y in
       let mine = r.locks.held id v 17 book.0 at book.1 in let is_m : v.seen.input ≡ m = r.fronts.same id v at left in let whole : v.seen.front ≡ h = mine.book refl in
@@ -52,6 +52,7 @@ module _ {V : Type 0} (part : V → StatePart) (m : Machine) (limit base : ℕ) 
           sound = r.sound;
           wide = length-set s.words i y ∙ r.wide;
           deep = r.deep;
+          suited = λ j y low e home. subst (λ (t : ℕ). suits m t y) (sym (same 146 (λ e. absurd (omega (arith, e))))) (r.suited j y low (sym (same j (λ e. absurd (omega (arith, e, low)))) ∙ e) home);
           locks = locks_step part m h limit s.words words' s.homes s.homes s.views r.owner r.owner i id v w r.locks at
               (λ j ne. (same j ne, refl, refl, refl, (λ _. refl), λ e. absurd (omega (arith, rest, e))))
               (λ j u x other e f. let below = (r.locks.held j u i x e f).below in absurd (omega (arith, below)))
@@ -83,11 +84,11 @@ module _ {V : Type 0} (part : V → StatePart) (m : Machine) (limit base : ℕ) 
       )
 
   pub stages_raised_at : (slots id : ℕ) (me : Mine) (v : View) (q i : ℕ) → i ≡ 147 + q → me ≡ (v, []) → q < 64 → v.out ≡ 0 → v.seen.named ≡ 0 → Holds 17 v.seen → decides_at v.seen.front q + 1 < 2 ^ 64 → 0 < v.seen.shares
-      → Allows (Agrees part m limit base) slots id me i (λ n. (n + 1) % 2 ^ 64) (raised (step slots i 1 0 none) me)
+      → Allows (Agrees part suits m limit base) slots id me i (λ n. (n + 1) % 2 ^ 64) (raised (step slots i 1 0 none) me)
   stages_raised_at slots id me v q i at is l rest unnamed book fits left =
-      subst (λ (z : ℕ × Mine). Allows (Agrees part m limit base) slots id z.1 z.0 (λ n. (n + 1) % 2 ^ 64) (raised (step slots z.0 1 0 none) z.1)) (λ j. (sym at j, sym is j)) (stages_raised slots id v q l rest unnamed book fits left)
+      subst (λ (z : ℕ × Mine). Allows (Agrees part suits m limit base) slots id z.1 z.0 (λ n. (n + 1) % 2 ^ 64) (raised (step slots z.0 1 0 none) z.1)) (λ j. (sym at j, sym is j)) (stages_raised slots id v q l rest unnamed book fits left)
 
-  pub loads_stage : (slots id : ℕ) (me : Mine) (i : ℕ) → 0 < me.0.seen.shares → (q : ℕ) → i ≡ 147 + q → q < 64 → Allows (Agrees part m limit base) slots id me i (λ n. n) (loaded (step slots i 0 0 none) me)
+  pub loads_stage : (slots id : ℕ) (me : Mine) (i : ℕ) → 0 < me.0.seen.shares → (q : ℕ) → i ≡ 147 + q → q < 64 → Allows (Agrees part suits m limit base) slots id me i (λ n. n) (loaded (step slots i 0 0 none) me)
   loads_stage slots id me i left q is l s r deep at small = let v : View = me.0 in let w : View = view_has_loaded q (get_or s.words i 0) v in let h : List Entry = r.history in let is_m : v.seen.input ≡ m = r.fronts.same id v at left in
       let word : get_or s.words (147 + q) 0 ≡ get_or s.words i 0 = ap (λ (n : ℕ). get_or s.words n 0) (sym is) in
       let least : decides_at h q ≤ get_or s.words (147 + q) 0 = dite (ℕ_discrete (get_or s.words 17 0) 0)
@@ -96,7 +97,7 @@ module _ {V : Type 0} (part : V → StatePart) (m : Machine) (limit base : ℕ) 
         w,
         keeps,
         tt,
-        unmoved part m limit base s r id v w i me.1 at left refl refl refl refl refl refl refl refl refl,
+        unmoved part suits m limit base s r id v w i me.1 at left refl refl refl refl refl refl refl refl refl,
         λ p e _. let same : q ≡ p = omega (arith, is, e) in (
           (λ j. (view_has_loaded (same j) (get_or s.words i 0) v, me.1)),
           (h, r.fronts.begins id v at, subst (λ (z : ℕ). decides_at h z ≤ get_or s.words i 0) same (subst (λ (n : ℕ). decides_at h q ≤ n) word least)),

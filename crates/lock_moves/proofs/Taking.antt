@@ -19,7 +19,7 @@ use Rattle.lock_moves.specs.Sight.{Known, View, known, has_place, find_lock, Hol
 use Rattle.lock_moves.specs.Agrees.{Fits, Has, Agrees}
 use Rattle.lock_moves.specs.Plays.{Lists, tried, settled, fetched, put_back}
 use Rattle.lock_moves.proofs.Finding.{find-head, find-tail, find-without-same, find-without-other, some_same, never, set_all, set_some, listed, listed-has}
-use Rattle.lock_moves.proofs.Moving.{fronts_same, shares_same, has_moved, locks_step, names_step, same_or, stages_step, stages_of}
+use Rattle.lock_moves.proofs.Moving.{suited_step, fronts_same, shares_same, has_moved, locks_step, names_step, same_or, stages_step, stages_of}
 
 abbrev pub owned_by : (ℕ → ℕ) → ℕ → ℕ → ℕ → ℕ
 owned_by owner k id j = cond (eqb j k) id (owner j)
@@ -52,7 +52,7 @@ module _ {V : Type 0} where
   pub value_same : (x y : V) → some (some (Value x)) ≡ some (some (Value y)) → x ≡ y
   value_same x y e = ap (value_in x) e
 
-module _ {V : Type 0} (part : V → StatePart) (m : Machine) (limit base : ℕ) where
+module _ {V : Type 0} (part : V → StatePart) (suits : Machine → ℕ → V → Type 0) (m : Machine) (limit base : ℕ) where
   abbrev St : Type 0
   St = State (Content V) View
 
@@ -61,11 +61,11 @@ module _ {V : Type 0} (part : V → StatePart) (m : Machine) (limit base : ℕ) 
 
   -- what a step answers
   abbrev Goes : St → ℕ → ℕ → ℕ → Mine → (Mine → Type 0) → Type 0
-  Goes s k n id me then = (w : View) × (a : Act (Content V)) × Valid s.homes me.1 a × Agrees part m limit base (stepped s k n id me.1 w a) × then (w, carried_after me.1 a)
+  Goes s k n id me then = (w : View) × (a : Act (Content V)) × Valid s.homes me.1 a × Agrees part suits m limit base (stepped s k n id me.1 w a) × then (w, carried_after me.1 a)
 
-  gains : (s : St) (r : Agrees part m limit base s) (id : ℕ) (me : Mine) (k : ℕ) (y : Content V) → k < 17 → AllBelow k me.0.seen.held → me.0.out ≡ 0 → 0 < me.0.seen.shares
+  gains : (s : St) (r : Agrees part suits m limit base s) (id : ℕ) (me : Mine) (k : ℕ) (y : Content V) → k < 17 → AllBelow k me.0.seen.held → me.0.out ≡ 0 → 0 < me.0.seen.shares
       → get_elem? s.views id ≡ some me.0 → get_or s.words k 0 ≡ 0 → get_elem? s.homes k ≡ some (some y) → Fits part m limit r.history k y
-      → Goes s k 1 id me (λ m'. (x : V) × (names : List ℕ) × (t : ℕ) × (m' ≡ (view_took k (part x) names t me.0, (k, Value x) ∷ me.1)) × Lists (part x) names)
+      → Goes s k 1 id me (λ m'. (x : V) × (names : List ℕ) × (t : ℕ) × (m' ≡ (view_took k (part x) names t me.0, (k, Value x) ∷ me.1)) × Lists (part x) names × suits me.0.seen.input t x × ((j : ℕ) (y : Known) → find_lock j me.0.seen.held ≡ Some y → t ≡ me.0.seen.now))
   gains s r id me k Out low above rest left at zero_there there fits = absurd fits
   gains s r id me k (Ledger b) low above rest left at zero_there there fits = absurd (omega (arith, fits.0, low))
   gains s r id me k (Value x) low above rest left at zero_there there fits = let v : View = me.0 in let names : List ℕ = listed (lists (part x)) 128 in let now : ℕ = get_or s.words 146 0 in let w : View = view_took k (part x) names now v in let z' : Known = known (part x) names in let wide = r.wide in
@@ -81,6 +81,7 @@ module _ {V : Type 0} (part : V → StatePart) (m : Machine) (limit base : ℕ) 
           sound = r.sound;
           wide = length-set s.words k 1 ∙ r.wide;
           deep = length-set s.homes k none ∙ r.deep;
+          suited = suited_step suits m s.words (set s.words k 1) s.homes (set s.homes k none) k r.suited (λ j ne. (get_or-set_other s.words k j 1 0 ne, set_else s.homes k j none ne)) (get_or-set_other s.words k 146 1 0 (λ e. absurd (omega (arith, e, low)))) (λ y _ z _. absurd (omega (arith, shut, z)));
           locks = locks_step part m r.history limit s.words (set s.words k 1) s.homes (set s.homes k none) s.views r.owner (owned_by r.owner k id) k id v w r.locks at
               (λ j ne. (get_or-set_other s.words k j 1 0 ne, set_else s.homes k j none ne, owned_else r.owner k id j ne, find-tail j k z' v.seen.held ne, (λ _. refl), λ e. absurd (omega (arith, rest, e))))
               (λ j u z other e f. absurd (omega (arith, zero_there, (r.locks.held j u k z e f).shut)))
@@ -110,13 +111,13 @@ module _ {V : Type 0} (part : V → StatePart) (m : Machine) (limit base : ℕ) 
           fronts = fronts_same m limit base s.views r.history r.keeper r.latest id v w r.fronts at refl refl refl refl left left;
           all_shares = shares_same s.views id v w at refl r.all_shares;
         },
-        (x, names, now, refl, λ n l. sym (listed-has (lists (part x)) 128 n l)),
+        (x, names, now, refl, (λ n l. sym (listed-has (lists (part x)) 128 n l)), subst (λ (q : Machine). suits q now x) (sym (r.fronts.same id v at left)) (r.suited k x low zero_there there), λ j y f. sym (r.names.moment id v j y at f)),
       )
 
   -- a step that finds a word, whatever it is, and leaves it: the view changes only in what no lock and no front depends on
-  pub unmoved : (s : St) (r : Agrees part m limit base s) (id : ℕ) (v w : View) (i : ℕ) (carried : List (ℕ × Content V)) → get_elem? s.views id ≡ some v → 0 < v.seen.shares
+  pub unmoved : (s : St) (r : Agrees part suits m limit base s) (id : ℕ) (v w : View) (i : ℕ) (carried : List (ℕ × Content V)) → get_elem? s.views id ≡ some v → 0 < v.seen.shares
       → w.seen.input ≡ v.seen.input → w.seen.limit ≡ v.seen.limit → w.seen.front ≡ v.seen.front → w.seen.own ≡ v.seen.own → w.seen.shares ≡ v.seen.shares → w.seen.held ≡ v.seen.held → w.out ≡ v.out → w.seen.now ≡ v.seen.now → w.seen.named ≡ v.seen.named
-      → Agrees part m limit base (stepped s i (get_or s.words i 0) id carried w keeps)
+      → Agrees part suits m limit base (stepped s i (get_or s.words i 0) id carried w keeps)
   unmoved s r id v w i carried at left input limited front own shares held out now named = record {
     history = r.history;
     owner = r.owner;
@@ -125,6 +126,7 @@ module _ {V : Type 0} (part : V → StatePart) (m : Machine) (limit base : ℕ) 
     sound = r.sound;
     wide = length-set s.words i (get_or s.words i 0) ∙ r.wide;
     deep = r.deep;
+    suited = λ j y low z home. subst (λ (t : ℕ). suits m t y) (sym (same 146)) (r.suited j y low (sym (same j) ∙ z) home);
     locks = record {
       free = λ j l z. r.locks.free j l (sym (same j) ∙ z);
       taken = λ j l nz. set_some (λ u. Holds j u.seen) s.views id v w at (λ p. (p.0, ap (find_lock j) held ∙ p.1)) (r.owner j) (r.locks.taken j l (λ z. nz (same j ∙ z)));
@@ -151,26 +153,26 @@ module _ {V : Type 0} (part : V → StatePart) (m : Machine) (limit base : ℕ) 
       same j = set_found s.words i j
 
   pub tries : (slots id : ℕ) (me : Mine) (k : ℕ) → k < 17 → AllBelow k me.0.seen.held → me.0.out ≡ 0 → 0 < me.0.seen.shares
-      → Allows (Agrees part m limit base) slots id me k (λ n. either (eqb n 0) 1 n) (tried part (step slots k 0 1 none) me)
+      → Allows (Agrees part suits m limit base) slots id me k (λ n. either (eqb n 0) 1 n) (tried part suits (step slots k 0 1 none) me)
   tries slots id me k low above rest left s r deep at small = let x : ℕ = get_or s.words k 0 in dite (ℕ_discrete x 0)
       (λ e. let f = r.locks.free k (omega arith) e in let t = gains s r id me k f.0 low above rest left at e f.1 f.2 in (
         t.0,
         t.1,
         t.2,
-        subst (λ b. Agrees part m limit base (stepped s k (either b 1 x) id me.1 t.0 t.1)) (sym (eq-eqb x 0 e)) t.3,
+        subst (λ b. Agrees part suits m limit base (stepped s k (either b 1 x) id me.1 t.0 t.1)) (sym (eq-eqb x 0 e)) t.3,
         ((λ _. t.4), λ ne. absurd (ne e)),
       ))
       (λ ne. let w : View = view_turned_away k me.0 in (
         w,
         keeps,
         tt,
-        subst (λ b. Agrees part m limit base (stepped s k (either b 1 x) id me.1 w keeps)) (sym (ne_eqb x 0 ne)) (unmoved s r id me.0 w k me.1 at left refl refl refl refl refl refl refl refl refl),
+        subst (λ b. Agrees part suits m limit base (stepped s k (either b 1 x) id me.1 w keeps)) (sym (ne_eqb x 0 ne)) (unmoved s r id me.0 w k me.1 at left refl refl refl refl refl refl refl refl refl),
         ((λ e. absurd (ne e)), λ _. refl),
       ))
 
   -- the empty slot of a lock that the seat holds goes home
   pub settles : (slots id : ℕ) (v : View) (k : ℕ) → v.out ≡ suc k → Holds k v.seen → 0 < v.seen.shares
-      → Allows (Agrees part m limit base) slots id (v, (k, Out) ∷ []) k (λ n. n) (settled (step slots k 0 0 none) (v, (k, Out) ∷ []))
+      → Allows (Agrees part suits m limit base) slots id (v, (k, Out) ∷ []) k (λ n. n) (settled (step slots k 0 0 none) (v, (k, Out) ∷ []))
   settles slots id v k away holds left s r deep at small = let x : ℕ = get_or s.words k 0 in let w : View = with_out 0 v in let old = r.locks.held id v k holds.0 at holds.1 in let wide = r.wide in
       let here : get_or (set s.words k x) k 0 ≡ 1 = get_or-set_same s.words k x 0 (omega (arith, old.below)) ∙ old.shut in (
         w,
@@ -184,6 +186,7 @@ module _ {V : Type 0} (part : V → StatePart) (m : Machine) (limit base : ℕ) 
           sound = r.sound;
           wide = length-set s.words k x ∙ r.wide;
           deep = length-set s.homes k (some Out) ∙ r.deep;
+          suited = suited_step suits m s.words (set s.words k x) s.homes (set s.homes k (some Out)) k r.suited (λ j ne. (get_or-set_other s.words k j x 0 ne, set_else s.homes k j (some Out) ne)) (set_found s.words k 146) (λ y _ z _. absurd (omega (arith, here, z)));
           locks = locks_step part m r.history limit s.words (set s.words k x) s.homes (set s.homes k (some Out)) s.views r.owner r.owner k id v w r.locks at
               (λ j ne. (get_or-set_other s.words k j x 0 ne, set_else s.homes k j (some Out) ne, refl, refl, (λ _. refl), λ e. ne (omega (arith, away, e))))
               (λ j u z other e f. other (sym (r.locks.held j u k z e f).owned ∙ old.owned))
@@ -214,7 +217,7 @@ module _ {V : Type 0} (part : V → StatePart) (m : Machine) (limit base : ℕ) 
 
   -- it comes out again
   pub fetches : (slots id : ℕ) (v : View) (k : ℕ) → v.out ≡ 0 → Holds k v.seen → 0 < v.seen.shares
-      → Allows (Agrees part m limit base) slots id (v, []) k (λ n. n) (fetched (step slots k 0 0 none) (v, []))
+      → Allows (Agrees part suits m limit base) slots id (v, []) k (λ n. n) (fetched (step slots k 0 0 none) (v, []))
   fetches slots id v k rest holds left s r deep at small = let x : ℕ = get_or s.words k 0 in let w : View = with_out (suc k) v in let old = r.locks.held id v k holds.0 at holds.1 in let wide = r.wide in
       let here : get_or (set s.words k x) k 0 ≡ 1 = get_or-set_same s.words k x 0 (omega (arith, old.below)) ∙ old.shut in (
         w,
@@ -228,6 +231,7 @@ module _ {V : Type 0} (part : V → StatePart) (m : Machine) (limit base : ℕ) 
           sound = r.sound;
           wide = length-set s.words k x ∙ r.wide;
           deep = length-set s.homes k none ∙ r.deep;
+          suited = suited_step suits m s.words (set s.words k x) s.homes (set s.homes k none) k r.suited (λ j ne. (get_or-set_other s.words k j x 0 ne, set_else s.homes k j none ne)) (set_found s.words k 146) (λ y _ z _. absurd (omega (arith, here, z)));
           locks = locks_step part m r.history limit s.words (set s.words k x) s.homes (set s.homes k none) s.views r.owner r.owner k id v w r.locks at
               (λ j ne. (get_or-set_other s.words k j x 0 ne, set_else s.homes k j none ne, refl, refl, (λ _. refl), λ e. absurd (omega (arith, rest, e))))
               (λ j u z other e f. other (sym (r.locks.held j u k z e f).owned ∙ old.owned))
@@ -257,9 +261,9 @@ module _ {V : Type 0} (part : V → StatePart) (m : Machine) (limit base : ℕ) 
       )
 
   -- a value that is the part which the view has goes home, and the lock is free
-  pub puts : (slots id : ℕ) (v : View) (k : ℕ) (y : V) (z : Known) → k < 17 → v.out ≡ suc k → find_lock k v.seen.held ≡ Some z → part y ≡ z.part → Lists z.part z.names → 0 < v.seen.shares
-      → Allows (Agrees part m limit base) slots id (v, (k, Value y) ∷ []) k (λ _. 0) (λ _. put_back (step slots k 0 0 none) (v, (k, Value y) ∷ []) 0)
-  puts slots id v k y z low away found is same left s r deep at small = let w : View = view_gave k v in let old = r.locks.held id v k z at found in let wide = r.wide in
+  pub puts : (slots id : ℕ) (v : View) (k : ℕ) (y : V) (z : Known) → k < 17 → v.out ≡ suc k → find_lock k v.seen.held ≡ Some z → part y ≡ z.part → Lists z.part z.names → suits v.seen.input v.seen.now y → 0 < v.seen.shares
+      → Allows (Agrees part suits m limit base) slots id (v, (k, Value y) ∷ []) k (λ _. 0) (λ _. put_back (step slots k 0 0 none) (v, (k, Value y) ∷ []) 0)
+  puts slots id v k y z low away found is same fit left s r deep at small = let w : View = view_gave k v in let old = r.locks.held id v k z at found in let wide = r.wide in
       let here : get_or (set s.words k 0) k 0 ≡ 0 = get_or-set_same s.words k 0 0 (omega (arith, old.below)) in (
         w,
         gives,
@@ -272,6 +276,10 @@ module _ {V : Type 0} (part : V → StatePart) (m : Machine) (limit base : ℕ) 
           sound = r.sound;
           wide = length-set s.words k 0 ∙ r.wide;
           deep = length-set s.homes k (some (Value y)) ∙ r.deep;
+          suited = let clock : get_or (set s.words k 0) 146 0 ≡ get_or s.words 146 0 = get_or-set_other s.words k 146 0 0 (λ e. absurd (omega (arith, e, low))) in
+              suited_step suits m s.words (set s.words k 0) s.homes (set s.homes k (some (Value y))) k r.suited (λ j ne. (get_or-set_other s.words k j 0 0 ne, set_else s.homes k j (some (Value y)) ne)) clock
+              (λ y' _ _ q. subst (λ (e : V). suits m (get_or (set s.words k 0) 146 0) e) (sym (value_same y' y (sym q ∙ set_here s.homes k (some (Value y)) (omega (arith, r.deep, low)))))
+              (subst (λ (t : ℕ). suits m t y) (r.names.moment id v k z at found ∙ sym clock) (subst (λ (q : Machine). suits q v.seen.now y) (r.fronts.same id v at left) fit)));
           locks = locks_step part m r.history limit s.words (set s.words k 0) s.homes (set s.homes k (some (Value y))) s.views r.owner r.owner k id v w r.locks at
               (λ j ne. (get_or-set_other s.words k j 0 0 ne, set_else s.homes k j (some (Value y)) ne, refl, find-without-other k j v.seen.held ne, (λ _. refl), λ e. ne (omega (arith, away, e))))
               (λ j u z other e f. other (sym (r.locks.held j u k z e f).owned ∙ old.owned))
@@ -300,14 +308,14 @@ module _ {V : Type 0} (part : V → StatePart) (m : Machine) (limit base : ℕ) 
 
   -- the same of a seat that is known by an equation
   pub settles_at : (slots id : ℕ) (me : Mine) (v : View) (k : ℕ) → me ≡ (v, (k, Out) ∷ []) → v.out ≡ suc k → Holds k v.seen → 0 < v.seen.shares
-      → Allows (Agrees part m limit base) slots id me k (λ n. n) (settled (step slots k 0 0 none) me)
-  settles_at slots id me v k is away holds left = subst (λ (z : Mine). Allows (Agrees part m limit base) slots id z k (λ n. n) (settled (step slots k 0 0 none) z)) (sym is) (settles slots id v k away holds left)
+      → Allows (Agrees part suits m limit base) slots id me k (λ n. n) (settled (step slots k 0 0 none) me)
+  settles_at slots id me v k is away holds left = subst (λ (z : Mine). Allows (Agrees part suits m limit base) slots id z k (λ n. n) (settled (step slots k 0 0 none) z)) (sym is) (settles slots id v k away holds left)
 
   pub fetches_at : (slots id : ℕ) (me : Mine) (v : View) (k : ℕ) → me ≡ (v, []) → v.out ≡ 0 → Holds k v.seen → 0 < v.seen.shares
-      → Allows (Agrees part m limit base) slots id me k (λ n. n) (fetched (step slots k 0 0 none) me)
-  fetches_at slots id me v k is rest holds left = subst (λ (z : Mine). Allows (Agrees part m limit base) slots id z k (λ n. n) (fetched (step slots k 0 0 none) z)) (sym is) (fetches slots id v k rest holds left)
+      → Allows (Agrees part suits m limit base) slots id me k (λ n. n) (fetched (step slots k 0 0 none) me)
+  fetches_at slots id me v k is rest holds left = subst (λ (z : Mine). Allows (Agrees part suits m limit base) slots id z k (λ n. n) (fetched (step slots k 0 0 none) z)) (sym is) (fetches slots id v k rest holds left)
 
-  pub puts_at : (slots id : ℕ) (me : Mine) (v : View) (k : ℕ) (y : V) (z : Known) → me ≡ (v, (k, Value y) ∷ []) → k < 17 → v.out ≡ suc k → find_lock k v.seen.held ≡ Some z → part y ≡ z.part → Lists z.part z.names → 0 < v.seen.shares
-      → Allows (Agrees part m limit base) slots id me k (λ _. 0) (λ _. put_back (step slots k 0 0 none) me 0)
-  puts_at slots id me v k y z is low away found same lists left =
-      subst (λ (q : Mine). Allows (Agrees part m limit base) slots id q k (λ _. 0) (λ _. put_back (step slots k 0 0 none) q 0)) (sym is) (puts slots id v k y z low away found same lists left)
+  pub puts_at : (slots id : ℕ) (me : Mine) (v : View) (k : ℕ) (y : V) (z : Known) → me ≡ (v, (k, Value y) ∷ []) → k < 17 → v.out ≡ suc k → find_lock k v.seen.held ≡ Some z → part y ≡ z.part → Lists z.part z.names → suits v.seen.input v.seen.now y → 0 < v.seen.shares
+      → Allows (Agrees part suits m limit base) slots id me k (λ _. 0) (λ _. put_back (step slots k 0 0 none) me 0)
+  puts_at slots id me v k y z is low away found same lists fit left =
+      subst (λ (q : Mine). Allows (Agrees part suits m limit base) slots id q k (λ _. 0) (λ _. put_back (step slots k 0 0 none) q 0)) (sym is) (puts slots id v k y z low away found same lists fit left)

@@ -1,7 +1,7 @@
 -- Taking the book, and putting it back with one entry more or none.
 use Rattle.std.proofs.Common.{◌≡◌, ℕ, suc, ◌+◌, ◌<◌, cond, eqb, List, ◌∷◌, length, get_or, set, Some, None, sym, refl, ap, ◌∙◌, subst, eq-eqb, ne_eqb, arith, lt_irrefl, length-set, get_or-set_same, get_or-set_other}
 use mathlib.Core.Logic.{dite}
-use mathlib.Core.Option.{some, none}
+use mathlib.Core.Option.{some, none, some-injective}
 use native.Mathlib.Decide.{ℕ_discrete}
 use mathlib.Core.List.{IsPrefix}
 use lib.ListN.{get_elem?}
@@ -19,11 +19,12 @@ use Rattle.lock_moves.specs.Sight.{Known, View, book_known, find_lock, AllBelow,
 use Rattle.lock_moves.specs.Agrees.{Fits, Agrees}
 use Rattle.lock_moves.specs.Plays.{Current, tried_book}
 use Rattle.lock_moves.proofs.Finding.{find-head, find-tail, some_same, none_or, set_all}
-use Rattle.lock_moves.proofs.Moving.{fronts_grown, shares_same, locks_step, names_step}
+use Rattle.lock_moves.proofs.Moving.{suited_step, fronts_grown, shares_same, locks_step, names_step}
+use Rattle.lock_moves.proofs.Closing.{two_of}
 use Rattle.lock_moves.proofs.Prefix.{prefix_refl, prefix_length}
 use Rattle.lock_moves.proofs.Taking.{owned_by, owned_here, owned_else, unmoved}
 
-module _ {V : Type 0} (part : V → StatePart) (m : Machine) (limit base : ℕ) where
+module _ {V : Type 0} (part : V → StatePart) (suits : Machine → ℕ → V → Type 0) (m : Machine) (limit base : ℕ) where
   abbrev St : Type 0
   St = State (Content V) View
 
@@ -32,10 +33,11 @@ module _ {V : Type 0} (part : V → StatePart) (m : Machine) (limit base : ℕ) 
 
   abbrev Tells : Mine → Mine → Type 0
   Tells me m' = (b : Chronicle) × (t : ℕ) × (m' ≡ (view_took_book b.history t me.0, (17, Ledger b) ∷ me.1)) × (b.input ≡ me.0.seen.input) × (b.limit ≡ me.0.seen.limit) × IsPrefix me.0.seen.front b.history × Current m'.0.seen
+      × ((k : ℕ) (x : Known) → find_lock k me.0.seen.held ≡ Some x → t ≡ me.0.seen.now) × (me.0.seen.shares ≡ 1024 → b.history ≡ me.0.seen.front)
 
-  opens : (s : St) (r : Agrees part m limit base s) (id : ℕ) (me : Mine) (y : Content V) → AllBelow 17 me.0.seen.held → me.0.out ≡ 0 → 0 < me.0.seen.shares
+  opens : (s : St) (r : Agrees part suits m limit base s) (id : ℕ) (me : Mine) (y : Content V) → AllBelow 17 me.0.seen.held → me.0.out ≡ 0 → 0 < me.0.seen.shares
       → get_elem? s.views id ≡ some me.0 → get_or s.words 17 0 ≡ 0 → get_elem? s.homes 17 ≡ some (some y) → Fits part m limit r.history 17 y
-      → (w : View) × (a : Act (Content V)) × Valid s.homes me.1 a × Agrees part m limit base (stepped s 17 1 id me.1 w a) × Tells me (w, carried_after me.1 a)
+      → (w : View) × (a : Act (Content V)) × Valid s.homes me.1 a × Agrees part suits m limit base (stepped s 17 1 id me.1 w a) × Tells me (w, carried_after me.1 a)
   opens s r id me Out above rest left at zero_there there fits = absurd fits
   opens s r id me (Value x) above rest left at zero_there there fits = absurd (lt_irrefl 17 fits.0)
   opens s r id me (Ledger b) above rest left at zero_there there fits = let v : View = me.0 in let now : ℕ = get_or s.words 146 0 in let w : View = view_took_book b.history now v in let wide = r.wide in
@@ -54,6 +56,7 @@ module _ {V : Type 0} (part : V → StatePart) (m : Machine) (limit base : ℕ) 
           sound = r.sound;
           wide = length-set s.words 17 1 ∙ r.wide;
           deep = length-set s.homes 17 none ∙ r.deep;
+          suited = suited_step suits m s.words (set s.words 17 1) s.homes (set s.homes 17 none) 17 r.suited (λ j ne. (get_or-set_other s.words 17 j 1 0 ne, set_else s.homes 17 j none ne)) (get_or-set_other s.words 17 146 1 0 (λ e. absurd (omega (arith, e)))) (λ y low. absurd (lt_irrefl 17 low));
           locks = locks_step part m r.history limit s.words (set s.words 17 1) s.homes (set s.homes 17 none) s.views r.owner (owned_by r.owner 17 id) 17 id v w r.locks at
               (λ j ne. (get_or-set_other s.words 17 j 1 0 ne, set_else s.homes 17 j none ne, owned_else r.owner 17 id j ne, find-tail j 17 (book_known) v.seen.held ne, (λ e. absurd (ne e)), λ e. absurd (omega (arith, rest, e))))
               (λ j u z other e f. absurd (omega (arith, zero_there, (r.locks.held j u 17 z e f).shut)))
@@ -103,23 +106,28 @@ module _ {V : Type 0} (part : V → StatePart) (m : Machine) (limit base : ℕ) 
             unnamed,
             subst (λ (z : Machine × List Entry). IsSound z.0 z.1) (λ i. (sym is_m i, sym fits.2 i)) r.sound,
           ),
+          (λ k x f. sym (r.names.moment id v k x at f)),
+          λ whole. let n = r.fronts.newest in
+              let is : r.latest ≡ id = dite (ℕ_discrete id r.latest) (λ e. sym e) (λ ne. let two = two_of s.views id r.latest v n.0 ne at n.1 in let all = r.all_shares in absurd (omega (arith, two, all, whole, n.3))) in
+              let same : n.0 ≡ v = some-injective n.0 v (sym n.1 ∙ (ap (get_elem? s.views) is ∙ at)) in
+              fits.2 ∙ (sym n.2 ∙ ap (λ (u : View). u.seen.front) same),
         ),
       )
 
   pub tries_book : (slots id : ℕ) (me : Mine) → AllBelow 17 me.0.seen.held → me.0.out ≡ 0 → 0 < me.0.seen.shares
-      → Allows (Agrees part m limit base) slots id me 17 (λ n. either (eqb n 0) 1 n) (tried_book (step slots 17 0 1 none) me)
+      → Allows (Agrees part suits m limit base) slots id me 17 (λ n. either (eqb n 0) 1 n) (tried_book (step slots 17 0 1 none) me)
   tries_book slots id me above rest left s r deep at small = let x : ℕ = get_or s.words 17 0 in dite (ℕ_discrete x 0)
       (λ e. let f = r.locks.free 17 (omega arith) e in let t = opens s r id me f.0 above rest left at e f.1 f.2 in (
         t.0,
         t.1,
         t.2,
-        subst (λ b. Agrees part m limit base (stepped s 17 (either b 1 x) id me.1 t.0 t.1)) (sym (eq-eqb x 0 e)) t.3,
+        subst (λ b. Agrees part suits m limit base (stepped s 17 (either b 1 x) id me.1 t.0 t.1)) (sym (eq-eqb x 0 e)) t.3,
         ((λ _. t.4), λ ne. absurd (ne e)),
       ))
       (λ ne. let w : View = view_turned_away 17 me.0 in (
         w,
         keeps,
         tt,
-        subst (λ b. Agrees part m limit base (stepped s 17 (either b 1 x) id me.1 w keeps)) (sym (ne_eqb x 0 ne)) (unmoved part m limit base s r id me.0 w 17 me.1 at left refl refl refl refl refl refl refl refl refl),
+        subst (λ b. Agrees part suits m limit base (stepped s 17 (either b 1 x) id me.1 w keeps)) (sym (ne_eqb x 0 ne)) (unmoved part suits m limit base s r id me.0 w 17 me.1 at left refl refl refl refl refl refl refl refl refl),
         ((λ e. absurd (ne e)), λ _. refl),
       ))

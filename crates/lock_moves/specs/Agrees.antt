@@ -28,6 +28,10 @@ pub record Fronts (m : Machine) (limit base : ℕ) (views : List View) (h : List
   pub newest : (v : View) × (get_elem? views latest ≡ some v) × (v.seen.front ≡ h) × (0 < v.seen.shares)
   pub spent : (id : ℕ) (v : View) → get_elem? views id ≡ some v → v.seen.shares ≡ 0 → (v.seen.own ≡ []) × (v.seen.held ≡ [])
 
+-- each free value suits the machine at the moment that the moment word has
+abbrev pub Suited : {V : Type 0} → (Machine → ℕ → V → Type 0) → Machine → List ℕ → List (maybe.Option (Content V)) → Type 0
+Suited suits m words homes = (k : ℕ) (y : _) → k < 17 → slice_index words k ≡ 0 → get_elem? homes k ≡ some (some (Value y)) → suits m (slice_index words 146) y
+
 module _ {V : Type 0} (part : V → StatePart) (m : Machine) where
   -- what is true of a lock k that the seat id holds, with the view v
   pub record Has (words : List ℕ) (homes : List (maybe.Option (Content V))) (h : List Entry) (owner : ℕ → ℕ) (id : ℕ) (v : View) (k : ℕ) (x : Known) : Type 0 where
@@ -69,7 +73,7 @@ pub record Stages (words : List ℕ) (views : List View) (h : List Entry) : Type
   pub nobody : (id : ℕ) (v : View) → get_elem? views id ≡ some v → find_lock 17 v.seen.held ≡ None → v.seen.named ≡ 0
 
 -- the rule: there is one history, a sound one, with which all of this agrees
-pub record Agrees {V : Type 0} (part : V → StatePart) (m : Machine) (limit base : ℕ) (s : State (Content V) View) : Type 0 where
+pub record Agrees {V : Type 0} (part : V → StatePart) (suits : Machine → ℕ → V → Type 0) (m : Machine) (limit base : ℕ) (s : State (Content V) View) : Type 0 where
   pub history : List Entry
   pub owner : ℕ → ℕ
   pub keeper : ℕ → ℕ
@@ -79,6 +83,7 @@ pub record Agrees {V : Type 0} (part : V → StatePart) (m : Machine) (limit bas
   pub deep : length s.homes ≡ 18
   pub locks : Locks part m limit s.words s.homes s.views history owner
   pub names : Names part m s.words s.homes s.views history
+  pub suited : Suited suits m s.words s.homes
   pub stages : Stages s.words s.views history
   pub fronts : Fronts m limit base s.views history keeper latest
   pub all_shares : shares_of s.views ≡ 1024

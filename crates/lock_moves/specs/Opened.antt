@@ -3,13 +3,15 @@ use Rattle.std.specs.Prelude.{◌≡◌, ℕ, ◌+◌, ◌<◌, List, length, sl
 use mathlib.Core.Option.{some}
 use lib.ListN.{get_elem?}
 use Rattle.journal_core.specs.Parts.{StatePart}
+use Rattle.sched_model.specs.declared.machine.Machine.{Machine}
 use Rattle.journal_core.specs.Histories.{part_at, home_at, now_at, decides_at}
 use Rattle.journal_core.specs.Books.{Chronicle}
 
 -- the values are the 17 parts of the book's state, in the order of their locks
-pub record AreParts {V : Type 0} (part : V → StatePart) (b : Chronicle) (values : List V) : Type 0 where
+pub record AreParts {V : Type 0} (part : V → StatePart) (suits : Machine → ℕ → V → Type 0) (b : Chronicle) (values : List V) : Type 0 where
   pub all : length values ≡ 17
   pub each : (k : ℕ) (x : V) → get_elem? values k ≡ some x → part x ≡ part_at b.input b.history k
+  pub suited : (k : ℕ) (x : V) → get_elem? values k ≡ some x → suits b.input (now_at b.input b.history) x
 
 -- the words at the opening: the locks are free, and the names, the moment and the stages are those of the book's state
 pub record IsOpening (b : Chronicle) (words : List ℕ) : Type 0 where

@@ -3,6 +3,7 @@ use Rattle.std.specs.Prelude.{◌≡◌, ◌≢◌, ◌⊎◌, ℕ, suc, ◌+◌
 use mathlib.Core.List.{IsPrefix}
 use Rattle.atomic_table.specs.Table.{Me, Step}
 use Rattle.sched_model.specs.declared.event.Entry.{Entry}
+use Rattle.sched_model.specs.declared.machine.Machine.{Machine}
 use Rattle.journal_core.specs.Parts.{StatePart, lists}
 use Rattle.journal_core.specs.Histories.{part_at, home_at, now_at, decides_at, IsSound}
 use Rattle.journal_core.specs.Books.{Chronicle}
@@ -49,12 +50,13 @@ Sat V = Me (Content V) View
 
 module _ {V : Type 0} where
   -- the lock's word was free, and the value is out with the seat; or it was taken
-  abbrev pub tried : (V → StatePart) → Step (Content V) → Sat V → ℕ → Sat V → Type 0
-  tried part st m r m' = (r ≡ 0 → (x : V) × (names : List ℕ) × (t : ℕ) × (m' ≡ (view_took st.word (part x) names t m.0, (st.word, Value x) ∷ m.1)) × Lists (part x) names) × (r ≢ 0 → m' ≡ (view_turned_away st.word m.0, m.1))
+  abbrev pub tried : (V → StatePart) → (Machine → ℕ → V → Type 0) → Step (Content V) → Sat V → ℕ → Sat V → Type 0
+  tried part suits st m r m' = (r ≡ 0 → (x : V) × (names : List ℕ) × (t : ℕ) × (m' ≡ (view_took st.word (part x) names t m.0, (st.word, Value x) ∷ m.1)) × Lists (part x) names × suits m.0.seen.input t x × ((j : ℕ) (y : Known) → find_lock j m.0.seen.held ≡ Some y → t ≡ m.0.seen.now)) × (r ≢ 0 → m' ≡ (view_turned_away st.word m.0, m.1))
 
   -- the same of the book, whose history begins with the front
   abbrev pub tried_book : Step (Content V) → Sat V → ℕ → Sat V → Type 0
-  tried_book st m r m' = (r ≡ 0 → (b : Chronicle) × (t : ℕ) × (m' ≡ (view_took_book b.history t m.0, (17, Ledger b) ∷ m.1)) × (b.input ≡ m.0.seen.input) × (b.limit ≡ m.0.seen.limit) × IsPrefix m.0.seen.front b.history × Current m'.0.seen)
+  tried_book st m r m' = (r ≡ 0 → (b : Chronicle) × (t : ℕ) × (m' ≡ (view_took_book b.history t m.0, (17, Ledger b) ∷ m.1)) × (b.input ≡ m.0.seen.input) × (b.limit ≡ m.0.seen.limit) × IsPrefix m.0.seen.front b.history × Current m'.0.seen
+      × ((k : ℕ) (x : Known) → find_lock k m.0.seen.held ≡ Some x → t ≡ m.0.seen.now) × (m.0.seen.shares ≡ 1024 → b.history ≡ m.0.seen.front))
       × (r ≢ 0 → m' ≡ (view_turned_away 17 m.0, m.1))
 
   -- the slot goes home empty

@@ -59,10 +59,15 @@ impl WordId {
 
 /// A value that is a part of the machine's state.
 pub trait Part: Drop {
+    ghost use Rattle.std.specs.Prelude.{ℕ};
+    ghost use Rattle.sched_model.specs.declared.machine.Machine.{Machine};
     ghost use Rattle.journal_core.specs.Parts.{StatePart};
     ghost use Rattle.lock_moves.specs.NameSets.{AreNamesOf};
 
     ghost part: { Self → StatePart };
+
+    /// What else holds of a value of this machine at a moment.
+    ghost suits: { Machine → ℕ → Self → Type 0 };
 
     /// The cores and domains that the part lists.
     fn names(&self) -> Names

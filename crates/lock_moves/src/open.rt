@@ -17,7 +17,7 @@ use std::snapshot::Snapshot;
 
 // The lock whose value lists the name, or 255.
 fn lock_listing<V: Part>(values: &[V], book: &Book, name: usize) -> u64
-    requires parts { AreParts V.part book.now values.now }
+    requires parts { AreParts V.part V.suits book.now values.now }
     requires once { NamesStandOnce book.now.input book.now.history }
     requires name { name < 128 }
     ensures { result ≡ home_at book.now.input book.now.history name }
@@ -32,7 +32,7 @@ fn lock_listing<V: Part>(values: &[V], book: &Book, name: usize) -> u64
 
 // The words of the table at the opening.
 fn words_of<V: Part>(values: &[V], book: &Book) -> [u64; 211]
-    requires parts { AreParts V.part book.now values.now }
+    requires parts { AreParts V.part V.suits book.now values.now }
     requires once { NamesStandOnce book.now.input book.now.history }
     ensures { IsOpening book.now result }
 {
@@ -67,7 +67,7 @@ impl<V: Part> LockSet<V> {
         values: Vec<V>,
         book: Book,
     ) -> Result<(LockSet<V>, LockSeat), NoMemory>
-        requires parts { AreParts V.part book values.items }
+        requires parts { AreParts V.part V.suits book values.items }
         requires once { NamesStandOnce book.input book.history }
         ensures seat { IfOk result (λ r. (r.1.table ≡ r.0.table) × (r.1.view ≡ opening_view book)) }
         ensures opened { IfOk result (λ r. r.0.opened ≡ book) }

@@ -12,7 +12,7 @@ impl<V: Part> TableRule<Content<V>, View, Snapshot<Book>> for Agreement {
     ghost use Rattle.lock_moves.specs.Agrees.{Agrees};
     ghost use Rattle.lock_moves.specs.Sight.{view_opening};
 
-    ghost holds = { λ key. Agrees V.part key.value.input key.value.limit (length key.value.history) };
+    ghost holds = { λ key. Agrees V.part V.suits key.value.input key.value.limit (length key.value.history) };
 
     ghost first = { λ key. view_opening key.value };
 }
@@ -22,7 +22,7 @@ pub(crate) struct Take;
 impl<V: Part> Play<Content<V>, View> for Take {
     ghost use Rattle.lock_moves.specs.Plays.{tried};
 
-    ghost then = { tried V.part };
+    ghost then = { tried V.part V.suits };
 }
 
 pub(crate) struct TakeBook;

@@ -6,7 +6,7 @@ ghost use Rattle.sched_model.specs.declared.event.Entry.{Entry};
 ghost use Rattle.sched_model.specs.Runs.{IsRun};
 ghost use Rattle.journal_core.specs.Parts.{lists};
 ghost use Rattle.journal_core.specs.Histories.{decides_at, NamesStandOnce};
-ghost use Rattle.lock_moves.specs.Sight.{find_lock, Holds, AllBelow, took_book, turned_away, gave, committed_view, lessened, newcomer, joined, moved_name, with_now, tried_again, searched, naming, has_loaded};
+ghost use Rattle.lock_moves.specs.Sight.{Known, find_lock, Holds, AllBelow, took_book, turned_away, gave, committed_view, lessened, newcomer, joined, moved_name, with_now, tried_again, searched, naming, has_loaded};
 ghost use Rattle.lock_moves.specs.Plays.{Current, Next, Kept, Placed, Decided, Tells};
 ghost use Rattle.lock_moves.specs.Sets.{seeing, HasTaken, IsAsKnown, HasName};
 ghost use Rattle.lock_moves.specs.Words.{name_number, has_name, has_core, has_word, word_index};
@@ -49,7 +49,7 @@ impl<V: Part> LockSet<V> {
         requires set { seat.old.table ≡ self.now.table }
         requires number { lock.0 < 17 }
         requires order { AllBelow lock.0 seat.old.view.held }
-        ensures { MatchOption result (seat.new ≡ seeing seat.old (turned_away lock.0 seat.old.view)) (λ h. (h.lock ≡ lock.0) × HasTaken lock.0 (V.part h.value) seat.old.view seat.old seat.new) }
+        ensures { MatchOption result (seat.new ≡ seeing seat.old (turned_away lock.0 seat.old.view)) (λ h. (h.lock ≡ lock.0) × HasTaken lock.0 (V.part h.value) seat.old.view seat.old seat.new × V.suits seat.old.view.input seat.new.view.now h.value × ((j : ℕ) (x : Known) → find_lock j seat.old.view.held ≡ Some x → seat.new.view.now ≡ seat.old.view.now)) }
     {
         let number = lock.0 as usize;
         let mut me = seated::<V>(&mut seat.badge);
@@ -75,6 +75,7 @@ impl<V: Part> LockSet<V> {
         requires set { seat.old.table ≡ self.now.table }
         requires number { h.lock < 17 }
         requires known { IsAsKnown h.lock (V.part h.value) seat.old.view }
+        requires suits { V.suits seat.old.view.input seat.old.view.now h.value }
         ensures { seat.new ≡ seeing seat.old (gave h.lock seat.old.view) }
     {
         let Held { lock, value } = h;
@@ -94,7 +95,7 @@ impl<V: Part> LockSet<V> {
     fn try_book(&self, seat: &mut LockSeat) -> Option<HeldBook>
         requires set { seat.old.table ≡ self.now.table }
         requires order { AllBelow 17 seat.old.view.held }
-        ensures { MatchOption result (seat.new ≡ seeing seat.old (turned_away 17 seat.old.view)) (λ b. ((now : ℕ) × (seat.new ≡ seeing seat.old (took_book b.history now seat.old.view))) × (b.input ≡ seat.old.view.input) × (b.limit ≡ seat.old.view.limit) × IsPrefix seat.old.view.front b.history × Current seat.new.view) }
+        ensures { MatchOption result (seat.new ≡ seeing seat.old (turned_away 17 seat.old.view)) (λ b. ((now : ℕ) × (seat.new ≡ seeing seat.old (took_book b.history now seat.old.view))) × (b.input ≡ seat.old.view.input) × (b.limit ≡ seat.old.view.limit) × IsPrefix seat.old.view.front b.history × Current seat.new.view × ((k : ℕ) (x : Known) → find_lock k seat.old.view.held ≡ Some x → seat.new.view.now ≡ seat.old.view.now) × (seat.old.view.shares ≡ 1024 → b.history ≡ seat.old.view.front)) }
     {
         let mut me = seated::<V>(&mut seat.badge);
         let found = self
@@ -221,6 +222,8 @@ impl<V: Part> LockSet<V> {
         requires order { AllBelow lock.0 seat.old.view.held }
         ensures lock { result.lock ≡ lock.0 }
         ensures taken { (n : ℕ) × HasTaken lock.0 (V.part result.value) (tried_again n lock.0 seat.old.view) seat.old seat.new }
+        ensures suits { V.suits seat.old.view.input seat.new.view.now result.value }
+        ensures still { (j : ℕ) (x : Known) → find_lock j seat.old.view.held ≡ Some x → seat.new.view.now ≡ seat.old.view.now }
     {
         for _ in rt.forever() {
             if let Some(held) = self.try_lock(seat, lock) {
@@ -239,6 +242,8 @@ impl<V: Part> LockSet<V> {
         ensures limit { result.limit ≡ seat.old.view.limit }
         ensures begins { IsPrefix seat.old.view.front result.history }
         ensures current { Current seat.new.view }
+        ensures still { (k : ℕ) (x : Known) → find_lock k seat.old.view.held ≡ Some x → seat.new.view.now ≡ seat.old.view.now }
+        ensures alone { seat.old.view.shares ≡ 1024 → result.history ≡ seat.old.view.front }
     {
         for _ in rt.forever() {
             if let Some(held) = self.try_book(seat) {
@@ -254,6 +259,7 @@ impl<V: Part> LockSet<V> {
         requires name { has_name seat.old.view.input name ≡ true }
         requires nothing { seat.old.view.held ≡ [] }
         ensures taken { (refused : List ℕ) × (t : ℕ) × HasTaken result.lock (V.part result.value) (searched refused t seat.old.view) seat.old seat.new }
+        ensures suits { V.suits seat.old.view.input seat.new.view.now result.value }
         ensures number { result.lock < 17 }
         ensures lists { lists (V.part result.value) (name_number name) ≡ true }
         ensures has { HasName result.lock (name_number name) seat.new.view }

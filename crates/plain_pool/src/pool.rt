@@ -148,9 +148,10 @@ fn is_repl(g: u8, t: u64, pool: &Pool, u: UnitId) -> bool
     requires { PoolFits pool.now }
     ensures { result ≡ enabled_in g t pool.now (Repl u) }
 {
-    let stands = has_unit(pool.scheduler.queue.as_slice(), u)
-        || core_of(pool.resources.as_slice(), u).is_some();
-    stands && replenish_due(&pool.scheduler.records, t, u) && lowest_up(t, pool)
+    replenish_due(&pool.scheduler.records, t, u)
+        && lowest_up(t, pool)
+        && (has_unit(pool.scheduler.queue.as_slice(), u)
+            || core_of(pool.resources.as_slice(), u).is_some())
 }
 
 /// Whether the domain's refill has come, and the pool's lowest processor is up.

@@ -1,5 +1,5 @@
 -- The domains of a pool fit what its scheduler keeps of them, and the changes of domains that keep that.
-use Rattle.std.proofs.Common.{◌≡◌, ◌≤◌, ◌+◌, ◌-◌, ◌/◌, ℕ, List, refl, arith, subst, sym, ◌∙◌, ap, length}
+use Rattle.std.proofs.Common.{◌≡◌, ◌≤◌, ◌+◌, ◌-◌, ◌/◌, ℕ, zero, suc, List, [], ◌∷◌, refl, arith, subst, sym, ◌∙◌, ap, length}
 use Rattle.std.specs.Prelude.{Option, Some, None}
 use Rattle.std.proofs.Math.Decide.{ℕ_discrete}
 use Rattle.sched_model.specs.declared.config.DomParams.{DomParams}
@@ -16,14 +16,15 @@ use Rattle.sched_model.specs.Credit2 as credit2
 use Rattle.sched_model.specs.Rtds as rtds
 use Rattle.std.proofs.lemmas.List.{length-replicate}
 use Rattle.sched_laws.specs.Each.{EachAt, EachPlace}
-use Rattle.sched_laws.proofs.EachPlace.{EachAt-change_at, EachPlace-change_at, EachPlace-put_at, EachPlace-clear_at, read_clear_at, at_place-put_at, at_place-put_at_other, at_place-clear_at_other, place_below, length_set}
+use Rattle.sched_laws.proofs.EachPlace.{EachAt-change_at, EachPlace-change_at, EachPlace-put_at, EachPlace-clear_at, read_clear_at, at_place-put_at, at_place-put_at_other, at_place-clear_at, at_place-clear_at_other, is_empty, place_below, length_set}
 use Rattle.sched_records.proofs.Measured.{measured, measured_put_at, measured_clear_at}
 use Rattle.sched_records.proofs.Shape.{shape, units_in}
 
--- there is a place for each domain, and at it the count of its units
+-- there is a place for each domain, and at it the count of its units; there is no count where no domain is
 pub record HasCounts (g : ℕ) (domains : List (Option Domain)) (counts : List (Option ℕ)) : Type 0 where
   pub places : length counts ≡ length domains
   pub counts_are : EachAt (λ d (x : Domain). at_place counts d ≡ Some (unit_count g x)) domains
+  pub others : (d : ℕ) → at_place domains d ≡ None → at_place counts d ≡ None
 
 abbrev pub CountsFit : ℕ → List (Option Domain) → Option (List (Option ℕ)) → Type 0
 CountsFit g domains None = Unit {0}
@@ -45,11 +46,22 @@ keeps_shape g domains old next same keeps = subst (Keeps g domains) (sym same) k
 same_count : (g : ℕ) (x y : Domain) → length y.vcpus ≡ length x.vcpus → unit_count g y ≡ unit_count g x
 same_count g x y same = ap (λ (n : ℕ). (n + g - 1) / g) same
 
+-- what is empty after a change was so before
+none_before : {X : Type 0} (i j : ℕ) (f : X → X) (places : List (Option X)) → at_place (change_at i f places) j ≡ None → at_place places j ≡ None
+none_before zero j f [] none = none
+none_before (suc i) j f [] none = none
+none_before zero zero f (None ∷ places) none = refl
+none_before zero zero f (Some x ∷ places) none = absurd (cc)
+none_before zero (suc j) f (p ∷ places) none = none
+none_before (suc i) zero f (p ∷ places) none = none
+none_before (suc i) (suc j) f (p ∷ places) none = none_before i j f places none
+
 fit_change_at : (g d : ℕ) (f : Domain → Domain) (domains : List (Option Domain)) (counts : Option (List (Option ℕ))) → ((x : Domain) → length (f x).vcpus ≡ length x.vcpus) → CountsFit g domains counts → CountsFit g (change_at d f domains) counts
 fit_change_at g d f domains None same fit = tt
 fit_change_at g d f domains (Some counts) same fit = record {
   places = fit.places ∙ sym (length_set d _ domains);
   counts_are = EachAt-change_at (λ e (x : Domain). at_place counts e ≡ Some (unit_count g x)) d f domains fit.counts_are (λ x at here. here ∙ ap (λ (n : ℕ). Some n) (sym (same_count g x (f x) (same x))));
+  others = λ e none. fit.others e (none_before d e f domains none);
 }
 
 pub keeps_change_at : (g d : ℕ) (f : Domain → Domain) (domains : List (Option Domain)) (counts : Option (List (Option ℕ))) → ((x : Domain) → length (f x).vcpus ≡ length x.vcpus) → Keeps g domains counts → Keeps g (change_at d f domains) counts
@@ -63,6 +75,7 @@ has_counts_put_at : (g d : ℕ) (x : Domain) (domains : List (Option Domain)) (c
 has_counts_put_at g d x domains counts has = record {
   places = length_set d _ counts ∙ has.places ∙ sym (length_set d _ domains);
   counts_are = λ e y at. elim (ℕ_discrete e d) [ yes same ↦ here e y same at | no other ↦ at_place-put_at_other d e (unit_count g x) counts other ∙ has.counts_are e y (sym (at_place-put_at_other d e x domains other) ∙ at) ];
+  others = λ e none. elim (ℕ_discrete e d) [ yes same ↦ past e same none | no other ↦ at_place-put_at_other d e (unit_count g x) counts other ∙ has.others e (sym (at_place-put_at_other d e x domains other) ∙ none) ];
 }
   where
     here : (e : ℕ) (y : Domain) → e ≡ d → at_place (put_at d x domains) e ≡ Some y → at_place (put_at d (unit_count g x) counts) e ≡ Some (unit_count g y)
@@ -76,11 +89,26 @@ has_counts_put_at g d x domains counts has = record {
         let count : at_place (put_at d (unit_count g x) counts) d ≡ Some (unit_count g x) = at_place-put_at d (unit_count g x) counts (omega (arith, low, whole, places, same)) in
         subst (λ (k : ℕ). at_place (put_at d (unit_count g x) counts) k ≡ Some (unit_count g y)) (sym same) (count ∙ ap (λ (z : Domain). Some (unit_count g z)) is_x)
 
+    -- there is no such place
+    past : (e : ℕ) → e ≡ d → at_place (put_at d x domains) e ≡ None → at_place (put_at d (unit_count g x) counts) e ≡ None
+    past e same none =
+        is_empty (at_place (put_at d (unit_count g x) counts) e) (λ n at.
+        let low = place_below (put_at d (unit_count g x) counts) e n at in
+        let whole = length_set d (Some (unit_count g x)) counts in
+        let places = has.places in
+        let put : at_place (put_at d x domains) d ≡ Some x = at_place-put_at d x domains (omega (arith, low, whole, places, same)) in
+        let nothing : at_place (put_at d x domains) d ≡ None = subst (λ (k : ℕ). at_place (put_at d x domains) k ≡ None) same none in
+        absurd (cc))
+
 -- a domain goes, together with its count
 has_counts_clear_at : (g d : ℕ) (domains : List (Option Domain)) (counts : List (Option ℕ)) → HasCounts g domains counts → HasCounts g (clear_at d domains) (clear_at d counts)
 has_counts_clear_at g d domains counts has = record {
   places = length_set d _ counts ∙ has.places ∙ sym (length_set d _ domains);
   counts_are = λ e y at. (let was = read_clear_at d e domains y at in at_place-clear_at_other d e counts was.0 ∙ has.counts_are e y was.1);
+  others = λ e none. elim (ℕ_discrete e d) [
+    | yes same ↦ subst (λ (k : ℕ). at_place (clear_at d counts) k ≡ None) (sym same) (at_place-clear_at d counts)
+    | no other ↦ at_place-clear_at_other d e counts other ∙ has.others e (sym (at_place-clear_at_other d e domains other) ∙ none)
+  ];
 }
 
 -- the parameters of a domain are those of the scheduler, where it keeps records

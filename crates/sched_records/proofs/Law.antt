@@ -1,6 +1,6 @@
 -- The law of records, from what is kept.
 use Rattle.std.proofs.Common.{◌≡◌, ℕ, List}
-use Rattle.std.specs.Prelude.{Option, Some, length}
+use Rattle.std.specs.Prelude.{Option, Some, None, length}
 use Rattle.sched_model.specs.declared.event.Entry.{Entry}
 use Rattle.sched_model.specs.declared.machine.Machine.{Machine}
 use Rattle.sched_model.specs.declared.state.Domain.{Domain}
@@ -18,8 +18,8 @@ use Rattle.sched_laws.proofs.Induction.{kept_by_runs}
 use Rattle.sched_laws.proofs.Opened.{apart_opening}
 use Rattle.sched_laws.proofs.PoolsLaw.{IsKnown}
 use Rattle.sched_laws.proofs.Steps.{step_after}
-use Rattle.sched_records.specs.Records.{IsRecorded, HasRecords}
-use Rattle.sched_records.proofs.Measured.{read_measured}
+use Rattle.sched_records.specs.Records.{IsRecorded, IsUnrecorded, HasRecords}
+use Rattle.sched_records.proofs.Measured.{read_measured, none_measured}
 use Rattle.sched_records.proofs.Shape.{shape, units_in}
 use Rattle.sched_records.proofs.Counts.{CountsFit, KeepsPool}
 use Rattle.sched_records.proofs.Walk.{AnyEnd, AnyEnds, SomeUnit, records_steps}
@@ -43,7 +43,18 @@ recorded g domains (RtdsPool units) fit d x at = (let r = read_measured length d
 recorded g domains (ArincPool records) fit d x at = tt
 recorded g domains (NullPool kept) fit d x at = tt
 
+-- and of no other domain
+unrecorded : (g : ℕ) (domains : List (Option Domain)) (records : Records) → CountsFit g domains (shape records) → (d : ℕ) → at_place domains d ≡ None → IsUnrecorded records d
+unrecorded g domains (Credit2Pool records) fit d none = none_measured units_in d records.domains (fit.others d none)
+unrecorded g domains (RtdsPool units) fit d none = none_measured length d units (fit.others d none)
+unrecorded g domains (ArincPool records) fit d none = tt
+unrecorded g domains (NullPool kept) fit d none = tt
+
 pub has_records : (m : Machine) → IsChecked m → (entries : List Entry) → IsRun m entries → EachPlace (HasRecords m.config.granularity) (state_after m entries).pools
 has_records m checked entries run i pool at =
     let keeps : KeepsPool m.config.granularity pool = (keeps_in_runs m checked entries run).pools i pool at in
-    record { some_unit = keeps.some_unit; recorded = recorded m.config.granularity pool.domains pool.scheduler.records keeps.fit }
+    record {
+      some_unit = keeps.some_unit;
+      recorded = recorded m.config.granularity pool.domains pool.scheduler.records keeps.fit;
+      others = unrecorded m.config.granularity pool.domains pool.scheduler.records keeps.fit;
+    }

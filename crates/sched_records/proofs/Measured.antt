@@ -45,3 +45,11 @@ read_measured measure i n [] at = absurd (cc)
 read_measured measure zero n (None ∷ places) at = absurd (cc)
 read_measured measure zero n (Some x ∷ places) at = (x, refl, cc)
 read_measured measure (suc i) n (o ∷ places) at = read_measured measure i n places at
+
+-- where no number stands, nothing does
+pub none_measured : {X : Type 0} (measure : X → ℕ) (i : ℕ) (places : List (Option X)) → at_place (measured measure places) i ≡ None → at_place places i ≡ None
+none_measured measure zero [] none = refl
+none_measured measure (suc i) [] none = refl
+none_measured measure zero (None ∷ places) none = refl
+none_measured measure zero (Some x ∷ places) none = absurd (cc)
+none_measured measure (suc i) (o ∷ places) none = none_measured measure i places none

@@ -30,10 +30,10 @@ use Rattle.sched_model.specs.Policy as policy
 use Rattle.sched_model.specs.Policy.{rtds_record, default_dom_params, default_pool_params, changed_records, fresh_records, kind_of}
 use Rattle.sched_model.specs.Pool as pools
 use Rattle.sched_model.specs.Pool.{after_in, change_domain, change_vcpu, ask_of, guest_of, pause, unpause, set_params, unit_count, with_domain}
-use Rattle.sched_laws.proofs.EachPlace.{EachPlace-empty, by_option, by_test, by_cond}
+use Rattle.sched_laws.proofs.EachPlace.{EachPlace-empty, is_empty, by_option, by_test, by_cond}
 use Rattle.sched_laws.proofs.Lists.{length_change_item}
 use Rattle.sched_laws.proofs.Steps.{IsKeptAt}
-use Rattle.sched_records.proofs.Measured.{measured, length_measured}
+use Rattle.sched_records.proofs.Measured.{measured, length_measured, read_measured}
 use Rattle.sched_records.proofs.Shape.{shape, units_in, shape_decision, shape_replenished, shape_refilled, shape_changed}
 use Rattle.sched_records.proofs.Counts.{Keeps, KeepsPool, CountsFit, Matches, keeps_shape, keeps_change_at, keeps_joined, keeps_parted}
 
@@ -68,9 +68,12 @@ keeps_empty g n cores params = record { some_unit = EachPlace-empty (λ (x : Dom
     same_length : {X : Type 0} (measure : X → ℕ) → length (measured measure (replicate n None)) ≡ length {A = Option Domain} (replicate n None)
     same_length measure = length_measured measure (replicate n None) ∙ length-replicate n None ∙ sym (length-replicate n None)
 
+    no_counts : {X : Type 0} (measure : X → ℕ) (d : ℕ) → at_place (measured measure (replicate n None)) d ≡ None
+    no_counts {X} measure d = is_empty (at_place (measured measure (replicate n None)) d) (λ k at. (let r = read_measured measure d k (replicate n None) at in EachPlace-empty {X = X} (λ y. ⊥) n d r.0 r.1))
+
     none : (params : PoolParams) → CountsFit g (replicate n None) (shape (fresh_records params n cores))
-    none (pool_params.Credit2 limit) = record { places = same_length units_in; counts_are = λ d x at. absurd (EachPlace-empty {X = Domain} (λ y. ⊥) n d x at) }
-    none pool_params.Rtds = record { places = same_length {X = List RtdsUnit} length; counts_are = λ d x at. absurd (EachPlace-empty {X = Domain} (λ y. ⊥) n d x at) }
+    none (pool_params.Credit2 limit) = record { places = same_length units_in; counts_are = λ d x at. absurd (EachPlace-empty {X = Domain} (λ y. ⊥) n d x at); others = λ d no. no_counts units_in d }
+    none pool_params.Rtds = record { places = same_length {X = List RtdsUnit} length; counts_are = λ d x at. absurd (EachPlace-empty {X = Domain} (λ y. ⊥) n d x at); others = λ d no. no_counts {X = List RtdsUnit} length d }
     none (pool_params.Arinc653 frame) = tt
     none pool_params.Null = tt
 

@@ -1,5 +1,5 @@
 -- What the scheduler of a pool keeps of the domains that the pool has.
-use Rattle.std.specs.Prelude.{◌≡◌, ◌≤◌, ℕ, List, Option, Some, length, ⊤}
+use Rattle.std.specs.Prelude.{◌≡◌, ◌≤◌, ℕ, List, Option, Some, None, length, ⊤}
 use Rattle.sched_model.specs.declared.state.Domain.{Domain}
 use Rattle.sched_model.specs.declared.state.Credit2Records.{Credit2Records}
 use Rattle.sched_model.specs.declared.state.Credit2Domain.{Credit2Domain}
@@ -30,7 +30,16 @@ IsRecorded (RtdsPool domains) d count = HasRtdsRecords domains d count
 IsRecorded (ArincPool records) d count = ⊤
 IsRecorded (NullPool kept) d count = ⊤
 
--- each domain of the pool has a unit, and the pool's scheduler keeps records of all its units; g is the number of a core's processors
+-- the scheduler keeps nothing of the domain d
+abbrev pub IsUnrecorded : Records → ℕ → Type 0
+IsUnrecorded (Credit2Pool records) d = at_place records.domains d ≡ None
+IsUnrecorded (RtdsPool domains) d = at_place domains d ≡ None
+IsUnrecorded (ArincPool records) d = ⊤
+IsUnrecorded (NullPool kept) d = ⊤
+
+-- each domain of the pool has a unit, and the pool's scheduler keeps records of all its units, and of no other domain; g is the number of a
+-- core's processors
 pub record HasRecords (g : ℕ) (pool : Pool) : Type 0 where
   pub some_unit : EachPlace (λ (domain : Domain). 1 ≤ unit_count g domain) pool.domains
   pub recorded : EachAt (λ d (domain : Domain). IsRecorded pool.scheduler.records d (unit_count g domain)) pool.domains
+  pub others : (d : ℕ) → at_place pool.domains d ≡ None → IsUnrecorded pool.scheduler.records d

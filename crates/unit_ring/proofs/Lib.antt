@@ -8,3 +8,4 @@ pub mod Walked
 pub mod Memory
 pub mod Raw
 pub mod Linked
+pub mod Crossing

@@ -78,6 +78,9 @@ impl Model for Nodes {
     ghost invariant = { λ a. IsRow a.row a.base × (lease_ptr a.lease ≡ slots_ptr a.row) × (lease_len a.lease ≡ slots_len a.row) × (lease_heap a.lease ≡ a.alloc) };
 }
 
+// A mark for the type checker: `proofs/Crossing.antt` has the proof.
+unsafe impl Send for Nodes {}
+
 impl Drop for Nodes {
     fn drop(self) {
         let Nodes {

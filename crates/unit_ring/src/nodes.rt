@@ -14,6 +14,11 @@ pub struct Address {
     pub ptr: *mut NodeRecord,
 }
 
+// An address owns nothing.
+unsafe impl Send for Address {}
+
+unsafe impl Sync for Address {}
+
 /// A node: the nodes after and before it, its unit and its number.
 #[derive(Clone, Copy)]
 pub struct NodeRecord {

@@ -15,7 +15,7 @@ pub load-requires : goal.load-requires
 load-requires g c = let h = subst (Holds 17) (ap (λ z. z.view) (sym c.seat.view_is)) c.requires.held in (
   search rules,
   search rules,
-  fetches_at g.V.Part.part _ _ _ _ _ _ (first_of_views c.seat.inside.badge.views) 17 c.seated-me.ensures.2 c.seat.invariant.1 h c.seat.invariant.2,
+  fetches_at g.V.Part.part g.V.Part.suits _ _ _ _ _ _ (first_of_views c.seat.inside.badge.views) 17 c.seated-me.ensures.2 c.seat.invariant.1 h c.seat.invariant.2,
 )
 
 pub exchange-empty-requires : goal.exchange-empty-requires
@@ -33,7 +33,7 @@ store-requires g c = let v : View = first_of_views c.seat.inside.badge.views in 
     let input = subst (λ (z : Seen × Chronicle). z.1.input ≡ z.0.input) both c.requires.input in let limited = subst (λ (z : Seen × Chronicle). z.1.limit ≡ z.0.limit) both c.requires.limit in (
       search rules,
       search rules,
-      commits_at g.V.Part.part _ _ _ _ _ _ (with_out 18 v) book h.0 (c.exchange-empty.ensures.3 ∙ (λ i. (view i, (17, Ledger book) ∷ slots i))) refl h.1 c.seat.invariant.2 input limited
+      commits_at g.V.Part.part g.V.Part.suits _ _ _ _ _ _ (with_out 18 v) book h.0 (c.exchange-empty.ensures.3 ∙ (λ i. (view i, (17, Ledger book) ∷ slots i))) refl h.1 c.seat.invariant.2 input limited
           (subst (λ (z : Seen × Chronicle). Next z.0.front z.1.history) both c.requires.next)
           (subst (λ (z : Seen × Chronicle). Kept z.0 z.1.history) both c.requires.kept)
           (subst (λ (z : Seen × Chronicle). Placed z.0 z.1.history) both c.requires.placed)

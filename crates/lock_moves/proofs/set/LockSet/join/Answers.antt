@@ -10,7 +10,7 @@ join_seat-requires g c = let is : first_of_views c.seat.inside.badge.views ≡ c
   search rules,
   search rules,
   search rules,
-  joins g.V.Part.part _ _ _ _ _ _ _ (sym (ap (λ (z : View). z.seen.held) is) ∙ (ap (λ z. z.view.held) c.seat.view_is ∙ c.requires.nothing))
+  joins g.V.Part.part g.V.Part.suits _ _ _ _ _ _ _ (sym (ap (λ (z : View). z.seen.held) is) ∙ (ap (λ z. z.view.held) c.seat.view_is ∙ c.requires.nothing))
       (subst (λ (z : ℕ). 0 < z) (sym (ap (λ z. z.0.seen.shares) c.seated-me.ensures.2)) c.into.invariant.2)
       (subst (λ (z : ℕ). 0 < z) (ap (λ (z : View). z.seen.shares) is) c.seat.invariant.2),
 )

@@ -12,7 +12,7 @@ store-requires g c = let at = ap (λ z. z.view) (sym c.seat.view_is) in let n : 
     let z = subst (λ (v : Seen). HasName c.args.from.now.lock n v) at c.requires.from in let to : ℕ = c.to.inside.lock.0 in (
       search rules,
       search rules,
-      moves_at g.V.Part.part _ _ _ _ _ _ (first_of_views c.seat.inside.badge.views) n c.args.from.now.lock to z.0 _ (search rules) c.seated-me.ensures.2 low (search rules) c.seat.invariant.1
+      moves_at g.V.Part.part g.V.Part.suits _ _ _ _ _ _ (first_of_views c.seat.inside.badge.views) n c.args.from.now.lock to z.0 _ (search rules) c.seated-me.ensures.2 low (search rules) c.seat.invariant.1
           (subst (Holds 17) at c.requires.book) (subst (λ (q : ℕ × Seen). Holds q.0 q.1) (λ i. (ap (λ (t : Taken g.row.V.Denot). t.lock) (sym c.to.view_is) i, at i)) c.requires.to)
           z.1 z.2 c.seat.invariant.2,
     )

@@ -10,7 +10,7 @@ pub load-found-requires : goal.load-found-requires
 load-found-requires g c = let low = core_below c.args.seat.now.view.input c.args.r.0 c.requires.core in (
   search rules,
   search rules,
-  loads_stage g.V.Part.part _ _ _ _ _ _ _ (subst (λ (z : ℕ). 0 < z) (sym (ap (λ z. z.0.seen.shares) c.seated-me.ensures.2)) c.seat.invariant.2) c.args.r.0 (search rules) low,
+  loads_stage g.V.Part.part g.V.Part.suits _ _ _ _ _ _ _ (subst (λ (z : ℕ). 0 < z) (sym (ap (λ z. z.0.seen.shares) c.seated-me.ensures.2)) c.seat.invariant.2) c.args.r.0 (search rules) low,
 )
 
 pub into_badge-requires : goal.into_badge-requires

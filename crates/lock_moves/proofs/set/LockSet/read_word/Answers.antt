@@ -6,5 +6,5 @@ pub load-found-requires : goal.load-found-requires
 load-found-requires g c = (
   search rules,
   search rules,
-  looks g.V.Part.part _ _ _ _ _ _ _ (subst (λ (z : ℕ). 0 < z) (sym (ap (λ z. z.0.seen.shares) c.seated-me.ensures.2)) c.seat.invariant.2),
+  looks g.V.Part.part g.V.Part.suits _ _ _ _ _ _ _ (subst (λ (z : ℕ). 0 < z) (sym (ap (λ z. z.0.seen.shares) c.seated-me.ensures.2)) c.seat.invariant.2),
 )

@@ -8,6 +8,6 @@ pub store-requires : goal.store-requires
 store-requires g c = (
   search rules,
   search rules,
-  sets_now_at g.V.Part.part _ _ _ _ _ _ (first_of_views c.seat.inside.badge.views) c.args.t.0 c.seated-me.ensures.2 c.seat.invariant.1
+  sets_now_at g.V.Part.part g.V.Part.suits _ _ _ _ _ _ (first_of_views c.seat.inside.badge.views) c.args.t.0 c.seated-me.ensures.2 c.seat.invariant.1
       (subst (λ (z : Seen). (k : ℕ) → k < 18 → Holds k z) (sym (ap (λ z. z.view) c.seat.view_is)) c.requires.all) c.seat.invariant.2,
 )

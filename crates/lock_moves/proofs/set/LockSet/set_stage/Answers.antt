@@ -12,7 +12,7 @@ fetch_add-requires g c = let at = ap (λ z. z.view) (sym c.seat.view_is) in let 
     let next = subst (λ (z : Seen × Chronicle). Next z.0.front z.1.history) (λ i. (at i, sym c.b.view_is i)) c.requires.held in (
       search rules,
       search rules,
-      stages_raised_at g.V.Part.part _ _ _ _ _ _ (first_of_views c.seat.inside.badge.views) c.args.r.0 _ (search rules) c.seated-me.ensures.2 low c.seat.invariant.1 (ap (λ (v : Seen). v.named) (sym at) ∙ c.requires.nobody)
+      stages_raised_at g.V.Part.part g.V.Part.suits _ _ _ _ _ _ (first_of_views c.seat.inside.badge.views) c.args.r.0 _ (search rules) c.seated-me.ensures.2 low c.seat.invariant.1 (ap (λ (v : Seen). v.named) (sym at) ∙ c.requires.nobody)
           (subst (Holds 17) at c.requires.book) (stage_fits _ _ c.args.r.0 _ next c.tell.ensures.fits c.tell.ensures.few) c.seat.invariant.2,
     )
 

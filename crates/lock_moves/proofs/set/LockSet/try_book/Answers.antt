@@ -2,7 +2,7 @@ use Rattle.std.proofs.Common.{rules, ◌≡◌, ◌<◌, ℕ, List, [], ◌∷�
 use Rattle.atomic_table.specs.Table.{Me, rest}
 use Rattle.lock_moves.specs.declared.content.Content.{Content}
 use Rattle.lock_moves.specs.declared.content.Content.TheVariants.{Out, Ledger}
-use Rattle.lock_moves.specs.Sight.{Known, View, AllBelow, book_known, view_took_book, with_out, Seen}
+use Rattle.lock_moves.specs.Sight.{Known, View, AllBelow, book_known, view_took_book, with_out, Seen, find_lock}
 use mathlib.Core.List.{IsPrefix}
 use Rattle.journal_core.specs.Books.{Chronicle}
 use Rattle.lock_moves.specs.Plays.{Current}
@@ -16,7 +16,7 @@ pub compare_exchange-found-requires : goal.compare_exchange-found-requires
 compare_exchange-found-requires g c = let at = c.seat.view_is in let rests = c.seat.invariant in let is = c.seated-me.ensures.2 in (
   search rules,
   search rules,
-  tries_book g.V.Part.part _ _ _ _ _ _
+  tries_book g.V.Part.part g.V.Part.suits _ _ _ _ _ _
       (subst (λ (z : List (ℕ × Known)). AllBelow 17 z) (sym (ap (λ z. z.view.held) at) ∙ sym (ap (λ z. z.0.seen.held) is)) c.requires.order)
       (ap (λ z. z.0.out) is ∙ rests.1)
       (subst (λ (z : ℕ). 0 < z) (sym (ap (λ z. z.0.seen.shares) is)) rests.2),
@@ -35,7 +35,7 @@ load-requires g c = let t = c.compare_exchange-found.ensures.2.0 c.if-found-ne0.
     let slots : rest c.compare_exchange-found.new.seat.me.1 ≡ [] = ap (λ z. rest z.1) t.2 ∙ ap (λ z. z.1) is in (
       search rules,
       search rules,
-      settles_at g.V.Part.part _ _ _ _ _ _ w 17 (c.exchange-content.ensures.3 ∙ (λ i. (view i, (17, Out) ∷ slots i))) refl (book_known, find-head 17 (book_known) v.seen.held) rests.2,
+      settles_at g.V.Part.part g.V.Part.suits _ _ _ _ _ _ w 17 (c.exchange-content.ensures.3 ∙ (λ i. (view i, (17, Out) ∷ slots i))) refl (book_known, find-head 17 (book_known) v.seen.held) rests.2,
     )
 
 pub returns : goal.returns
@@ -47,4 +47,6 @@ returns g c = let t = c.compare_exchange-found.ensures.2.0 c.if-found-ne0.false 
       ap (λ (b : Chronicle). b.limit) same ∙ (t.4 ∙ ap (λ (v : Seen). v.limit) was),
       subst (λ (z : Seen × Chronicle). IsPrefix z.0.front z.1.history) (λ i. (was i, sym same i)) t.5,
       subst (λ (z : View). Current z.seen) after t.6,
+      (λ k x f. sym (ap (λ (z : View). z.seen.now) after) ∙ ap (λ z. z.0.seen.now) t.2 ∙ t.7 k x (ap (λ (v : Seen). find_lock k v.held) was ∙ f) ∙ ap (λ (v : Seen). v.now) was),
+      λ whole. ap (λ (b : Chronicle). b.history) same ∙ t.8 (ap (λ (v : Seen). v.shares) was ∙ whole) ∙ ap (λ (v : Seen). v.front) was,
     )
