@@ -10,12 +10,8 @@ mod dues;
 #[cfg(test)]
 mod histories;
 #[cfg(test)]
-mod meetings;
-#[cfg(test)]
 mod queues;
 #[cfg(test)]
 mod resets;
 #[cfg(test)]
 mod rings;
-#[cfg(test)]
-mod terms;
