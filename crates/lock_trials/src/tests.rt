@@ -1,6 +1,9 @@
 //! Two seats at the locks of the example.
 
-use super::*;
+use lock_example::{
+    add_beside_visit, add_core, command_done, core_moved, do_command, opened, visit, visit_all,
+    visit_both,
+};
 use lock_moves::{LockId, NameId, WordId};
 use sched_base::ResId;
 use std::test::Fail;
@@ -112,5 +115,19 @@ fn the_command_is_done_beside_a_held_lock(rt: HostRuntime) -> Result<(), Fail> {
     set.join(&mut a, b);
     let book = set.close(a);
     assert_eq!(rt; (book.len(), book.get(0)), (1, command_done()));
+    Ok(())
+}
+
+#[test]
+fn four_threads_visit_a_lock(rt: HostRuntime) -> Result<(), Fail> {
+    let (set, mut a) = opened(rt.alloc())?;
+    let b = set.split(&mut a);
+    let c = set.split(&mut a);
+    let d = set.split(&mut a);
+    let mut seats = [a, b, c, d];
+    let core = NameId::Res(ResId(1));
+    visit_all(&rt, &set, &mut seats, core);
+    // Each has put the lock back, and one of them finds it free.
+    assert_eq!(rt; visit(&rt, &set, &mut seats[3], core), (16, 0));
     Ok(())
 }

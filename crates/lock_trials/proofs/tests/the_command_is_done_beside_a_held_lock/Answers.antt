@@ -2,7 +2,7 @@ use Rattle.std.proofs.Common.{ℕ, sym, subst}
 use Rattle.lock_moves.specs.Sets.{IsAsKnown}
 use Rattle.lock_example.specs.Example.{part_after}
 use Rattle.lock_example.proofs.Visiting.{taken-known}
-use Rattle.lock_example.proofs.tests.the_command_is_done_beside_a_held_lock.Goals as goal
+use Rattle.lock_trials.proofs.tests.the_command_is_done_beside_a_held_lock.Goals as goal
 
 pub unlock-requires-clause-known : goal.unlock-requires-clause-known
 unlock-requires-clause-known g c = let held = c.in-Some.held in let e = c.in-Some.ensures in let part = part_after held.value.lock held.value.count in
