@@ -4,7 +4,5 @@
 #![tactic(auto)]
 
 pub mod any;
-#[cfg(test)]
-mod tests;
 
 pub use any::AnyPolicy;

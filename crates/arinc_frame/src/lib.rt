@@ -5,8 +5,6 @@
 #![tactic(auto)]
 
 pub mod arinc;
-#[cfg(test)]
-mod tests;
 pub mod window;
 
 pub use arinc::Arinc;

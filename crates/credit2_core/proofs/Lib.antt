@@ -12,4 +12,3 @@ pub mod Choosing
 pub mod Deciding
 pub mod Keeping
 pub mod Refills
-pub mod Driving

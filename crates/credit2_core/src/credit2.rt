@@ -61,8 +61,7 @@ fn no_event(d: DomId) -> Event {
 }
 
 impl Credit2 {
-    ghost use Rattle.std.specs.Prelude.{◌≡◌, ◌≤◌, ◌<◌, length};
-    ghost use Rattle.plain_units.specs.Fits.{RecordsFit};
+    ghost use Rattle.std.specs.Prelude.{◌≡◌, ◌≤◌, ◌<◌};
     ghost use Rattle.credit2_core.specs.Whole.{bare};
 
     /// A scheduler without memory, with the rate limit of 1000 microseconds.
@@ -75,16 +74,6 @@ impl Credit2 {
             early: 0,
             runnable: 0,
         }
-    }
-
-    /// Does nothing, and tells that the numbers of the records are in range from the greatest moment given on, where there is a
-    /// place for a domain.
-    pub fn law_range(&self, t: Moment)
-        requires places { 0 < length self.now.scheduler.affinity }
-        requires late { self.now.latest ≤ t.0 }
-        ensures { RecordsFit t.0 self.now.scheduler.records }
-    {
-        let _ = &self.held;
     }
 }
 

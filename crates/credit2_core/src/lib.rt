@@ -11,8 +11,6 @@ mod params;
 mod room;
 mod slice;
 mod small;
-#[cfg(test)]
-mod tests;
 mod timers;
 
 pub use credit2::Credit2;

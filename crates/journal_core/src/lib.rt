@@ -158,6 +158,3 @@ impl Book {
         let _limit = self.limit;
     }
 }
-
-#[cfg(test)]
-mod tests;

@@ -6,6 +6,4 @@ pub mod credit2;
 pub mod domain;
 pub mod params;
 pub mod running;
-#[cfg(test)]
-mod tests;
 pub mod units;

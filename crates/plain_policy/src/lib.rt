@@ -9,5 +9,3 @@ pub mod policy;
 pub mod queue;
 pub mod records;
 pub mod rtds;
-#[cfg(test)]
-mod tests;

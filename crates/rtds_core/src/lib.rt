@@ -11,7 +11,5 @@ mod held;
 mod masks;
 mod records;
 mod rtds;
-#[cfg(test)]
-mod tests;
 
 pub use rtds::Rtds;

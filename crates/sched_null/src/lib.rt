@@ -6,7 +6,5 @@
 
 pub mod kept;
 pub mod null;
-#[cfg(test)]
-mod tests;
 
 pub use null::Null;

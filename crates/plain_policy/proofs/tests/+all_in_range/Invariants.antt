@@ -1,5 +1,0 @@
-use Rattle.std.proofs.Common.{length}
-use Rattle.plain_policy.proofs.tests.+all_in_range.Given as goal
-
-abbrev pub decreases-all_in_range : goal.decreases-all_in_range
-decreases-all_in_range l = length l.domains.now

@@ -1,5 +1,0 @@
-use Rattle.std.proofs.Common.{length}
-use Rattle.rtds_core.proofs.tests.+are_in_range.Given as goal
-
-abbrev pub decreases-are_in_range : goal.decreases-are_in_range
-decreases-are_in_range l = length l.units.now
