@@ -7,7 +7,7 @@
 ghost use Rattle.std.specs.Prelude.{◌≡◌, ◌+◌, ◌<◌, ◌≤◌, true, false, length, map, IfOk};
 ghost use Rattle.std.specs.Bool.{OnTrue, OnFalse};
 ghost use Rattle.arrival_queue.specs.Filters.{first_of, first_that, may_run};
-ghost use Rattle.rtds_queue.specs.Lists.{holds, key_of, put as put_in, removed, renewed, rtds_key, unit_id};
+ghost use Rattle.rtds_queue.specs.Lists.{holds, key_of, put as put_in, removed, renewed};
 
 use arrival_queue::{ArrivalQueue, Key};
 use sched_base::{Cores, Masks, Moment, NoMemory, ResId, Steps, UnitId};

@@ -7,7 +7,7 @@ ghost use Rattle.std.specs.Prelude.{◌≡◌, ◌+◌, ◌<◌, ◌≤◌, ◌&
 ghost use Rattle.std.specs.Bool.{OnTrue, OnFalse};
 ghost use Rattle.arrival_queue.specs.Queues.{has_unit};
 ghost use Rattle.arrival_queue.specs.Filters.{first_of, first_that, has_domain as domain_in, may_run};
-ghost use Rattle.runq.specs.Queue.{inserted, removed, rekeyed, unit_id, plain as plain_key};
+ghost use Rattle.runq.specs.Queue.{inserted, removed, rekeyed, plain as plain_key};
 
 pub use arrival_queue::Allowed;
 use arrival_queue::{ArrivalQueue, Key};
