@@ -7,7 +7,7 @@ use Rattle.term_laws.specs.Grid.{IsTermAround}
 pub term_around : (deadline period t : ℕ) → 1 ≤ period → deadline ≤ t → IsTermAround deadline period t (next_deadline deadline period t)
 term_around deadline period t some late =
     let passed = mul-div-le (t - deadline) period in
-    let not_yet = lt-mul-div-succ (t - deadline) {period} some in
+    let not_yet = lt-mul-div-succ (t - deadline) {b = period} some in
     let e : period * ((t - deadline) / period + 1) ≡ period * ((t - deadline) / period) + period = grind arith in
     record {
       begun = omega (arith, passed, not_yet, e, late);
