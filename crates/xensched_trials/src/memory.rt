@@ -1,7 +1,9 @@
 //! Calls over stores and sinks in memory, which fail where they are told to, or never.
 
 use sched_base::NoMemory;
-use sched_io::{FileStore, MOST_BYTES, MemSink, MemStore, OutSink, Sink, Store, SureSink, SureStore};
+use sched_io::{
+    FileStore, MOST_BYTES, MemSink, MemStore, OutSink, Sink, Store, SureSink, SureStore,
+};
 use xensched_top::status::Status;
 use xensched_top::sure::xensched_surely;
 use xensched_top::top::xensched;
