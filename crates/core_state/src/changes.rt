@@ -2,28 +2,14 @@
 
 ghost use Rattle.std.specs.Prelude.{◌≡◌, ◌+◌, ◌/◌, ◌%◌, ◌^◌, ◌<◌, min};
 ghost use Rattle.sched_base.specs.Numbers.{moment};
-ghost use Rattle.sched_model.specs.Places.{at_place, change_at, change_item, clear_at};
-ghost use Rattle.sched_model.specs.Pool.{due_within, open_if_left as open_if_left_spec, saved, saving_among};
+ghost use Rattle.sched_model.specs.Places.{change_at, change_item, clear_at};
+ghost use Rattle.sched_model.specs.Pool.{due_within};
 ghost use Rattle.core_state.specs.Seen.{chosen, leaving_core, pending_by, stalled_to, with_sibling, without_works as without_works_spec};
 
-use plain_pool::cores::any_held;
 use plain_units::units::is_same_choice;
 use sched_base::{Moment, UnitId};
 use sched_model::row::Row;
 use sched_model::state::{Processors, Resource, Stage};
-
-/// What stands at the core's place is taken out.
-pub fn take_place(r: u8, cores: &mut Row<Option<Resource>>) -> Option<Resource>
-    ensures core { result ≡ at_place cores.old r }
-    ensures cores { cores.new ≡ clear_at r cores.old }
-{
-    let place = r as usize;
-    if place < cores.len() {
-        cores.replace(place, None)
-    } else {
-        None
-    }
-}
 
 /// The core is to decide anew, at this moment at the latest.
 pub fn set_pending_by(r: u8, due: Moment, cores: &mut Row<Option<Resource>>)
@@ -79,39 +65,6 @@ pub fn choose_at(
     if place < cores.len() {
         if let Some(c) = cores.item_mut(place) {
             choose(t, unit, due, c);
-        }
-    }
-}
-
-/// The unit that the core is saving is taken out.
-pub fn take_saved(r: u8, cores: &mut Row<Option<Resource>>) -> Option<UnitId>
-    ensures unit { result ≡ saving_among cores.old r }
-    ensures cores { cores.new ≡ change_at r saved cores.old }
-{
-    let place = r as usize;
-    if place >= cores.len() {
-        return None;
-    }
-    match cores.item_mut(place) {
-        None => None,
-        Some(c) => {
-            let unit = c.saving;
-            c.saving = None;
-            unit
-        }
-    }
-}
-
-/// The core's stage is open again once nobody is held.
-pub fn open_if_left(r: u8, cores: &mut Row<Option<Resource>>)
-    ensures { cores.new ≡ change_at r open_if_left_spec cores.old }
-{
-    let place = r as usize;
-    if place < cores.len() {
-        if let Some(c) = cores.item_mut(place) {
-            if !any_held(c.processors.as_slice()) {
-                c.stage = Stage::Open;
-            }
         }
     }
 }

@@ -6,14 +6,15 @@ ghost use Rattle.sched_model.specs.Places.{first_place, is_unit};
 ghost use Rattle.core_state.specs.Seen.{stall_until as stall_until_spec};
 
 use crate::changes::{
-    bring_due_at, choose_at, clear_works, open_if_left, set_leaving, set_pending_by, set_stall_end,
-    take_place, take_saved,
+    bring_due_at, choose_at, clear_works, set_leaving, set_pending_by, set_stall_end,
 };
 use crate::ends::{lowest_end, move_end, processor_at};
 use crate::heaps::{Heaps, IDS, earlier, empty_heaps, first_come, least_of, rearm};
 use plain_policy::places::set_place;
 use plain_pool::cores::{core_at, core_of, first_core, has_domain, home_cores, is_on_core};
 use plain_pool::doing::{change_doing, set_pending};
+use plain_pool::events::{open_if_left, take_saved};
+use plain_pool::leaving::take_place;
 use sched_base::{DomId, Moment, NoMemory, UnitId, VcpuId};
 use sched_model::row::Row;
 use sched_model::state::{Doing, Processor, Resource};

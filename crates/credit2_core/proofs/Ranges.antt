@@ -21,6 +21,7 @@ use Rattle.sched_ranges.proofs.Budget.{HeldFits, BudgetFits, Nobody, helds, last
 use Rattle.sched_ranges.proofs.Budgets.{b_later, b_fresh}
 use Rattle.sched_ranges.proofs.Decided.{Budgets, None2, s_refilled, s_set_domain, decides_unit, decides_idle, unit_rec}
 use Rattle.sched_ranges.proofs.Records.{refill_fits}
+use Rattle.sched_ranges.proofs.Done.{helds_most, helds_least, lasts_most, times_few, units_in_range}
 use Rattle.sched_model.specs.State.{has_come}
 use Rattle.sched_model.specs.Policy.{next_refill}
 use Rattle.sched_model.specs.declared.state.Records.TheVariants.{Credit2Pool}
@@ -35,35 +36,6 @@ Few d k = k ≤ 32
 pub if_some : {X : Type 0} (o : Option X) (P : X → Type 0) → ForSome o P → IfSome o P
 if_some None P all = tt
 if_some (Some x) P all = all x refl
-
-helds_most : (t cap : ℕ) (ys : List Credit2Unit) → ((n : ℕ) (y : Credit2Unit) → slice_get ys n ≡ Some y → HeldFits t cap ⊥ ⊥ y) → helds ys ≤ℤ pos (640000000 * length ys)
-helds_most t cap [] fits = omega (arith, ints)
-helds_most t cap (y ∷ ys) fits = (let a = (fits 0 y refl).most in let b = helds_most t cap ys (λ n z at. fits (suc n) z at) in omega (arith, ints, a, b))
-
-helds_least : (t cap : ℕ) (ys : List Credit2Unit) → ((n : ℕ) (y : Credit2Unit) → slice_get ys n ≡ Some y → HeldFits t cap ⊥ ⊥ y) → neg_ℤ (pos (lasts t ys)) ≤ℤ helds ys
-helds_least t cap [] fits = omega (arith, ints)
-helds_least t cap (y ∷ ys) fits = (let a = (fits 0 y refl).least in let b = helds_least t cap ys (λ n z at. fits (suc n) z at) in omega (arith, ints, a, b))
-
-lasts_most : (t cap : ℕ) (ys : List Credit2Unit) → ((n : ℕ) (y : Credit2Unit) → slice_get ys n ≡ Some y → HeldFits t cap ⊥ ⊥ y) → lasts t ys ≤ length ys * t
-lasts_most t cap [] fits = omega arith
-lasts_most t cap (y ∷ ys) fits = (let a = (fits 0 y refl).last in let b = lasts_most t cap ys (λ n z at. fits (suc n) z at) in let r : suc (length ys) * t ≡ t + length ys * t = grind arith in omega (arith, a, b, r))
-
-times_few : (n t : ℕ) → n ≤ 32 → n * t ≤ 32 * t
-times_few n t low = (let split : 32 ≡ n + (32 - n) = omega (arith, low) in subst (λ (z : ℕ). n * t ≤ z * t) (sym split) (let r : (n + (32 - n)) * t ≡ n * t + (32 - n) * t = grind arith in omega (arith, r)))
-
-units_in_range : (t weight cap : ℕ) (ys : List Credit2Unit) → weight ≤ 65535 → AllByRecursion (UnitFits t weight) ys → ((n : ℕ) (y : Credit2Unit) → slice_get ys n ≡ Some y → HeldFits t cap ⊥ ⊥ y) → AllByRecursion (Credit2UnitInRange t) ys
-units_in_range t weight cap [] low each held = tt
-units_in_range t weight cap (y ∷ ys) low each held = (
-  record {
-    residual = (let r = each.0.residual in omega (arith, r, low));
-    burned = if_some y.burned (λ (b : ℕ). b ≤ t) (λ b is. subst (λ (o : Option ℕ). unwrap_or o t ≤ t) is each.0.last);
-    most = each.0.most;
-    least = (let l = each.0.least in let k = each.0.last in omega (arith, ints, l, k));
-    held_most = (held 0 y refl).most;
-    held_least = (let l = (held 0 y refl).least in let k = (held 0 y refl).last in omega (arith, ints, l, k));
-  },
-  units_in_range t weight cap ys low each.1 (λ n z at. held (suc n) z at),
-)
 
 domain_in_range : (t : ℕ) (d : Credit2Domain) → Credit2DomainFits t d → BudgetFits t (λ k. k ≤ 32) Nobody Nobody d → Credit2InRange t d
 domain_in_range t d fits budget = record {

@@ -42,9 +42,6 @@ pub enum DomCause {
     /// The table has no such key.
     #[error("Unknown")]
     Unknown,
-    /// The key or its value is not read yet. No file gets this answer.
-    #[error("Unbuilt")]
-    Unbuilt,
 }
 
 /// A text. Contracts see the list of its bytes.

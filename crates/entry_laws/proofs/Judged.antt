@@ -293,11 +293,11 @@ module _ (m : Machine) (checked : IsChecked m) (s : State) (known : Known m s) w
       (by_refused (cpu_fault m.config.processors cpus) _ (cpus_say m.config.processors cpus checked.config.processors.most ranges) (by_refused (elsewhere_fault m.config pool cpus) _ (elsewhere_says m pool cpus ranges) tt)))
 
   -- the answer to a line
-  pub answered : (line : CommandLine) → IfOk line.command IsCheckedCommand → IfErr line.command (λ (fault : Syntax). fault.place < 2 ^ 63) → SaysAnswer (answer_of m s line)
+  pub answered : (line : CommandLine) → IfOk line.command IsCheckedCommand → IfErr line.command (λ (fault : Syntax). fault.place < 2 ^ 32) → SaysAnswer (answer_of m s line)
   answered line good place = of_verdict (verdict m s line) (of_line line.command good place)
     where
-      of_line : (r : Result Command Syntax) → IfOk r IsCheckedCommand → IfErr r (λ (fault : Syntax). fault.place < 2 ^ 63) → Says (elim r as (λ _. Result Plan Refusal) [ Err fault ↦ Err (refusal.Syntax fault.place) | Ok c ↦ judge m s c ])
-      of_line (Err fault) checked place = place
+      of_line : (r : Result Command Syntax) → IfOk r IsCheckedCommand → IfErr r (λ (fault : Syntax). fault.place < 2 ^ 32) → Says (elim r as (λ _. Result Plan Refusal) [ Err fault ↦ Err (refusal.Syntax fault.place) | Ok c ↦ judge m s c ])
+      of_line (Err fault) checked place = omega (arith, place)
       of_line (Ok c) checked place = judged c checked
 
       of_verdict : (r : Result Plan Refusal) → Says r → SaysAnswer (elim r as (λ _. Result Reply Refusal) [ Err fault ↦ Err fault | Ok p ↦ Ok (reply_of p) ])

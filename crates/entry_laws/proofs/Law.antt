@@ -42,7 +42,6 @@ use Rattle.sched_ranges.proofs.Done.{in_range}
 use Rattle.part_laws.proofs.Begun.{housed_opening}
 use Rattle.part_laws.proofs.Law.{housed_from}
 use Rattle.sched_print.specs.Ranges.{IsPrintable, IsPrintableEvent, IsCommandNumber, IsPool}
-use Rattle.entry_laws.specs.Faults.{HasFaultPlace, HasFaultPlaces}
 use Rattle.entry_laws.proofs.Numbers.{Known, cores_few, now_low, target_low, mover_low}
 use Rattle.entry_laws.proofs.Judged.{SaysAnswer, answered}
 use Rattle.entry_laws.proofs.Events.{pool_printable}
@@ -51,7 +50,7 @@ answer_printable : (k : ℕ) (answer : Result Reply Refusal) → IsCommandNumber
 answer_printable k (Ok r) number says = (number, says)
 answer_printable k (Err fault) number says = (number, says)
 
-module _ (m : Machine) (checked : IsChecked m) (places : HasFaultPlaces m) where
+module _ (m : Machine) (checked : IsChecked m) where
   knows : (entries : List Entry) → IsRun m entries → Known m (after_entries m (begun m) entries).state
   knows entries run = record {
     range = in_range m checked entries run;
@@ -126,8 +125,7 @@ module _ (m : Machine) (checked : IsChecked m) (places : HasFaultPlaces m) where
             let inside = get_inside m.work.commands s.next_command line at in
             let few = checked.work.few_commands in
             let good = each_get IsCheckedCommandLine m.work.commands s.next_command line (recursion_from_All IsCheckedCommandLine m.work.commands checked.work.commands) at in
-            let place = each_get HasFaultPlace m.work.commands s.next_command line (recursion_from_All HasFaultPlace m.work.commands places) at in
-            answer_printable (suc s.next_command) (answer_of m s line) (omega arith, omega (arith, inside, few)) (answered m checked s known line good.command place)
+            answer_printable (suc s.next_command) (answer_of m s line) (omega arith, omega (arith, inside, few)) (answered m checked s known line good.command good.place)
 
     moved_printable : (r : ℕ) → is_enabled m s t (Moved r) ≡ true → IsPrintableEvent (event_of m s t (Moved r))
     moved_printable r on = (

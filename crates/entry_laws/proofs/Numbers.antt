@@ -26,6 +26,7 @@ use Rattle.sched_ranges.proofs.Vcpus.{get_inside}
 use Rattle.sched_ranges.proofs.Law.{StateFits}
 use Rattle.part_laws.proofs.Housed.{Housed}
 use Rattle.sched_print.specs.Ranges.{IsUnit, IsVcpu, IsPool}
+use Rattle.sched_laws.proofs.Granularity.{by_granularity}
 
 -- what is known of a state that a run leads to
 pub record Known (m : Machine) (s : State) : Type 0 where
@@ -37,14 +38,6 @@ pub numbered_few : {X : Type 0} (n : ℕ) (places : List (Option X)) → length 
 numbered_few n [] = omega arith
 numbered_few n (None ∷ places) = (let r = numbered_few (suc n) places in omega (arith, r))
 numbered_few n (Some x ∷ places) = (let r = numbered_few (suc n) places in omega (arith, r))
-
--- what holds of the granularities holds of this one
-pub by_granularity : (Q : ℕ → Type 0) (g : ℕ) → IsGranularity g → Q 1 → Q 2 → Q 4 → Q g
-by_granularity Q g is one two four = elim is [
-  | inl e ↦ subst Q (sym e) one
-  | inr (inl e) ↦ subst Q (sym e) two
-  | inr (inr e) ↦ subst Q (sym e) four
-]
 
 pub some_there : {X : Type 0} (o : Option X) → is_some o ≡ true → (x : X) × (o ≡ Some x)
 some_there None is = absurd (cc)

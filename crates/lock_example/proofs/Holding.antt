@@ -12,6 +12,7 @@ use Rattle.journal_core.specs.Histories.{part_at, home_at, now_at, decides_at, N
 use Rattle.lock_moves.specs.Sight.{Known, Seen, Sitting, known, find_lock, has_place, without, without_name, refreshed, renamed, Holds, AllBelow, took, took_book, book_known, gave, moved_name, committed_view, tried_again, raise}
 use Rattle.lock_moves.specs.Plays.{Current, Kept, Placed, Decided}
 use Rattle.lock_moves.specs.Sets.{Taken, seeing, HasTaken, IsAsKnown, HasName}
+use Rattle.lock_moves.proofs.Naming.{gone, stays}
 use Rattle.lock_moves.proofs.Finding.{some_same, never, find-head, find-tail, find-without-same, find-without-other}
 use Rattle.lock_example.specs.Example.{adding}
 use Rattle.lock_example.specs.declared.counter.Counter.{Counter}
@@ -115,18 +116,6 @@ decided_none f h v front nobody same r low =
     let none : raise r v ≡ 0 = ap (λ b. cond b 1 0) (ne_eqb (suc r) v.named (λ e. absurd (omega (arith, e, nobody)))) in
     same r low ∙ (ap (λ (l : List Entry). decides_at l r) (sym front) ∙ omega (arith, none))
 
-has_gone : (n : ℕ) (xs : List ℕ) → has_place n (without_name n xs) ≡ false
-has_gone n [] = refl
-has_gone n (x ∷ xs) = dite (ℕ_discrete n x)
-    (λ e. ap (λ b. has_place n (cond b (without_name n xs) (x ∷ without_name n xs))) (eq-eqb n x e) ∙ has_gone n xs)
-    (λ ne. ap (λ b. has_place n (cond b (without_name n xs) (x ∷ without_name n xs))) (ne_eqb n x ne) ∙ (ap (λ b. b || has_place n (without_name n xs)) (ne_eqb n x ne) ∙ has_gone n xs))
-
-has_stayed : (n p : ℕ) (xs : List ℕ) → p ≢ n → has_place p (without_name n xs) ≡ has_place p xs
-has_stayed n p [] away = refl
-has_stayed n p (x ∷ xs) away = dite (ℕ_discrete n x)
-    (λ e. ap (λ b. has_place p (cond b (without_name n xs) (x ∷ without_name n xs))) (eq-eqb n x e) ∙ (has_stayed n p xs away ∙ sym (ap (λ b. b || has_place p xs) (ne_eqb p x (λ is. away (is ∙ sym e))))))
-    (λ ne. ap (λ b. has_place p (cond b (without_name n xs) (x ∷ without_name n xs))) (ne_eqb n x ne) ∙ ap (λ b. eqb p x || b) (has_stayed n p xs away))
-
 -- the names of the lock j once the name n was moved to the lock `to`
 abbrev pub names_moved : ℕ → ℕ → ℕ → List ℕ → List ℕ
 names_moved n to j names = cond (eqb to j) (n ∷ names) (without_name n names)
@@ -134,12 +123,12 @@ names_moved n to j names = cond (eqb to j) (n ∷ names) (without_name n names)
 moved_itself : (n to j : ℕ) (names : List ℕ) → has_place n (names_moved n to j names) ≡ eqb to j
 moved_itself n to j names = dite (ℕ_discrete to j)
     (λ e. ap (λ b. has_place n (cond b (n ∷ names) (without_name n names))) (eq-eqb to j e) ∙ (ap (λ b. b || has_place n names) (eq-eqb n n refl) ∙ sym (eq-eqb to j e)))
-    (λ ne. ap (λ b. has_place n (cond b (n ∷ names) (without_name n names))) (ne_eqb to j ne) ∙ (has_gone n names ∙ sym (ne_eqb to j ne)))
+    (λ ne. ap (λ b. has_place n (cond b (n ∷ names) (without_name n names))) (ne_eqb to j ne) ∙ (gone n names ∙ sym (ne_eqb to j ne)))
 
 moved_others : (n to j p : ℕ) (names : List ℕ) → p ≢ n → has_place p (names_moved n to j names) ≡ has_place p names
 moved_others n to j p names ne = elim (eqb to j) as (λ b. has_place p (cond b (n ∷ names) (without_name n names)) ≡ has_place p names) [
   | true ↦ ap (λ b. b || has_place p names) (ne_eqb p n ne)
-  | false ↦ has_stayed n p names ne
+  | false ↦ stays n p names ne
 ]
 
 find-renamed-is : (n to k : ℕ) (xs : List (ℕ × Known)) (x : Known) → find_lock k xs ≡ Some x → find_lock k (renamed n to xs) ≡ Some (known x.part (names_moved n to k x.names))

@@ -43,13 +43,13 @@ find-renamed-none n to k (q ∷ xs) e = let z : Known = known q.1.part (names_af
     (λ is. absurd (never z (sym e ∙ ap (λ b. cond b (Some z) (find_lock k (renamed n to xs))) (eq-eqb k q.0 is))))
     (λ ne. find-tail k q.0 q.1 xs ne ∙ find-renamed-none n to k xs (sym (find-tail k q.0 z (renamed n to xs) ne) ∙ e))
 
-gone : (n : ℕ) (xs : List ℕ) → has_place n (without_name n xs) ≡ false
+pub gone : (n : ℕ) (xs : List ℕ) → has_place n (without_name n xs) ≡ false
 gone n [] = refl
 gone n (x ∷ xs) = dite (ℕ_discrete n x)
     (λ e. ap (λ b. has_place n (cond b (without_name n xs) (x ∷ without_name n xs))) (eq-eqb n x e) ∙ gone n xs)
     (λ ne. ap (λ b. has_place n (cond b (without_name n xs) (x ∷ without_name n xs))) (ne_eqb n x ne) ∙ (ap (λ b. b || has_place n (without_name n xs)) (ne_eqb n x ne) ∙ gone n xs))
 
-stays : (n p : ℕ) (xs : List ℕ) → p ≢ n → has_place p (without_name n xs) ≡ has_place p xs
+pub stays : (n p : ℕ) (xs : List ℕ) → p ≢ n → has_place p (without_name n xs) ≡ has_place p xs
 stays n p [] away = refl
 stays n p (x ∷ xs) away = dite (ℕ_discrete n x)
     (λ e. ap (λ b. has_place p (cond b (without_name n xs) (x ∷ without_name n xs))) (eq-eqb n x e) ∙ (stays n p xs away ∙ sym (ap (λ b. b || has_place p xs) (ne_eqb p x (λ is. away (is ∙ sym e))))))

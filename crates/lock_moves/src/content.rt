@@ -98,6 +98,21 @@ impl<V> Model for Held<V> {
 }
 
 impl<V> Held<V> {
+    /// A lock that was taken, with its value.
+    pub fn new(lock: LockId, value: V) -> Held<V>
+        ensures lock { result.lock ≡ lock.0 }
+        ensures value { result.value ≡ value }
+    {
+        Held { lock, value }
+    }
+
+    /// The value, without its lock.
+    pub fn into_value(self) -> V
+        ensures { result ≡ self.value }
+    {
+        self.value
+    }
+
     /// The lock.
     pub fn lock(&self) -> LockId
         ensures { result.0 ≡ self.now.lock }

@@ -25,6 +25,7 @@ use std::alloc::Global;
 use std::marker::Model;
 use std::snapshot::Snapshot;
 use std::sync::Wait;
+use std::thread::yield_now;
 
 /// A set of 18 locks: one for each of 16 pools, the tool's and the book's. Contracts see which table it is, and the book that it was opened with.
 #[derive(Drop)]
@@ -196,11 +197,23 @@ impl<V: Part> LockSet<V> {
         ensures from { from.new ≡ from.old }
         ensures to { to.new ≡ to.old }
     {
-        let lock = to.lock.0 as u64;
+        self.rename(seat, name, from.lock, to.lock);
+    }
+
+    /// The same, where the caller keeps the values of the two locks apart from them.
+    pub fn rename(&self, seat: &mut LockSeat, name: NameId, from: LockId, to: LockId)
+        requires set { seat.old.table ≡ self.now.table }
+        requires name { has_name seat.old.view.input name ≡ true }
+        requires book { Holds 17 seat.old.view }
+        requires from { HasName from.0 (name_number name) seat.old.view }
+        requires number { to.0 < 17 }
+        requires to { Holds to.0 seat.old.view }
+        ensures { seat.new ≡ seeing seat.old (moved_name (name_number name) to.0 seat.old.view) }
+    {
         let mut me = seated::<V>(&mut seat.badge);
         self.table
             .shared
-            .store::<Name>(&mut me, 18 + name.number(), lock);
+            .store::<Name>(&mut me, 18 + name.number(), to.0 as u64);
         seat.badge = me.into_badge();
     }
 
@@ -229,6 +242,7 @@ impl<V: Part> LockSet<V> {
             if let Some(held) = self.try_lock(seat, lock) {
                 return held;
             }
+            yield_now();
         }
         unreachable!()
     }
@@ -249,6 +263,7 @@ impl<V: Part> LockSet<V> {
             if let Some(held) = self.try_book(seat) {
                 return held;
             }
+            yield_now();
         }
         unreachable!()
     }
@@ -275,6 +290,7 @@ impl<V: Part> LockSet<V> {
                 self.unlock(seat, held);
                 word = found;
             } else {
+                yield_now();
                 word = self.read_word(seat, WordId::Name(name));
             }
         }

@@ -95,7 +95,7 @@ take_whole zero (x ∷ xs) few = absurd (omega (arith, few))
 take_whole (suc n) [] few = refl
 take_whole (suc n) (x ∷ xs) few = ap (λ l. x ∷ l) (take_whole n xs (omega (arith, few)))
 
-some_mapped : {X Y : Type 0} (f : X → Y) (n : ℕ) (places : List (Option X)) → is_some (at_place (map (option_map f) places) n) ≡ is_some (at_place places n)
+pub some_mapped : {X Y : Type 0} (f : X → Y) (n : ℕ) (places : List (Option X)) → is_some (at_place (map (option_map f) places) n) ≡ is_some (at_place places n)
 some_mapped f n [] = refl
 some_mapped f zero (None ∷ places) = refl
 some_mapped f zero (Some x ∷ places) = refl

@@ -149,7 +149,7 @@ left_keeps t d = record {
 left_gone : (t d : ℕ) (pool : Pool) → at_place (left_by t d pool).domains d ≡ None
 left_gone t d pool = by_cond (λ (p : Pool). at_place p.domains d ≡ None) (is_null pool.scheduler.records) (settled t (without_domain d pool)) (without_domain d pool) (λ is. at_place-clear_at d pool.domains) (λ is. at_place-clear_at d pool.domains)
 
-left_length : (t d : ℕ) (pool : Pool) → length (left_by t d pool).domains ≡ length pool.domains
+pub left_length : (t d : ℕ) (pool : Pool) → length (left_by t d pool).domains ≡ length pool.domains
 left_length t d pool = by_cond (λ (p : Pool). length p.domains ≡ length pool.domains) (is_null pool.scheduler.records) (settled t (without_domain d pool)) (without_domain d pool) (λ is. length_set d None pool.domains) (λ is. length_set d None pool.domains)
 
 module _ (g t d : ℕ) (x : Domain) where

@@ -189,7 +189,7 @@ fn slice(credit: i64, other: i64, weight: u32, most: u32, limit: u64) -> u64
 }
 
 /// How long the unit with this index of the domain runs; under a cap for no longer than the budget that it holds.
-fn slice_in(d: &Credit2Domain, n: u8, other: i64, most: u32, limit: u64) -> u64
+pub fn slice_in(d: &Credit2Domain, n: u8, other: i64, most: u32, limit: u64) -> u64
     requires params { ParamsFit most d.now }
     requires short { limit ≤ 500000000 }
     ensures exact { result ≡ slice_in_spec d.now n other most limit }

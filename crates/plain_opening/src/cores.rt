@@ -19,7 +19,7 @@ use sched_model::state::{FreeCore, Resource};
 use std::alloc::Global;
 
 /// Whether the core is in the set.
-fn has_core(cores: u64, r: u8) -> bool
+pub fn has_core(cores: u64, r: u8) -> bool
     requires { r < 64 }
     ensures { result ≡ has_core_spec cores r }
 {
@@ -28,7 +28,7 @@ fn has_core(cores: u64, r: u8) -> bool
 
 /// The ends of the stalls of g processors that were never stalled.
 #[tactic(auto, using(crate::proofs::Replicate::replicate_one_more))]
-fn no_stalls(g: u8) -> StallEnds
+pub fn no_stalls(g: u8) -> StallEnds
     requires { g ≤ 4 }
     ensures { result ≡ replicate g (moment 0) }
 {

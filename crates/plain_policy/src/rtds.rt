@@ -76,7 +76,7 @@ fn put_item(n: u8, unit: RtdsUnit, units: &mut RtdsUnits)
 }
 
 /// The unit's record is this one.
-fn put_unit(u: UnitId, unit: RtdsUnit, domains: &mut Row<Option<RtdsUnits>>)
+pub fn put_unit(u: UnitId, unit: RtdsUnit, domains: &mut Row<Option<RtdsUnits>>)
     ensures { domains.new ≡ change_unit u (λ x. unit) domains.old }
 {
     let place = u.dom.0 as usize;
@@ -126,7 +126,7 @@ fn burn(elapsed: u64, x: RtdsUnit) -> RtdsUnit
 }
 
 /// A running unit after a charge up to t.
-fn burn_to(t: u64, x: RtdsUnit) -> RtdsUnit
+pub fn burn_to(t: u64, x: RtdsUnit) -> RtdsUnit
     requires { x.level + 1 < 2 ^ 32 }
     ensures { result ≡ burn_to_spec t x }
 {
@@ -264,7 +264,7 @@ fn foremost(
 }
 
 /// The core's own unit, where it may go on.
-fn own_candidate(
+pub fn own_candidate(
     domains: &[Option<RtdsUnits>],
     affinity: &[Option<Pins>],
     ask: &Ask,

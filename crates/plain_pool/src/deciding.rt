@@ -22,7 +22,7 @@ use sched_model::row::Row;
 use sched_model::state::{Pool, Resource, Stage};
 
 /// What the core asks its scheduler.
-fn ask_of(g: u8, t: u64, pool: &Pool, r: u8, c: &Resource) -> Ask
+pub fn ask_of(g: u8, t: u64, pool: &Pool, r: u8, c: &Resource) -> Ask
     requires { length pool.now.resources ≤ 64 }
     ensures { result ≡ ask_of_spec g t pool.now r c.now }
 {
@@ -42,7 +42,7 @@ fn ask_of(g: u8, t: u64, pool: &Pool, r: u8, c: &Resource) -> Ask
 }
 
 /// How much later than its due the core decides.
-fn lateness_of(t: u64, c: &Resource) -> Span
+pub fn lateness_of(t: u64, c: &Resource) -> Span
     ensures { result ≡ span (lateness t c.now) }
 {
     match c.due {

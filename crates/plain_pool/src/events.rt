@@ -46,7 +46,7 @@ pub fn arrive(g: u8, t: u64, p: u8, pool: &mut Pool) -> Event
 }
 
 /// The vCPU of the core's cur that belongs on the core's i-th processor, where cur is runnable and that vCPU is there and awake.
-fn vcpu_for(g: u8, pool: &Pool, c: &Resource, i: u8) -> Option<VcpuId>
+pub fn vcpu_for(g: u8, pool: &Pool, c: &Resource, i: u8) -> Option<VcpuId>
     requires few { g ≤ 4 }
     requires place { i < 4 }
     requires fits { PoolFits pool.now }
@@ -70,7 +70,7 @@ fn vcpu_for(g: u8, pool: &Pool, c: &Resource, i: u8) -> Option<VcpuId>
 }
 
 /// The stage is open again once nobody is held.
-fn open_if_left(r: u8, cores: &mut Row<Option<Resource>>)
+pub fn open_if_left(r: u8, cores: &mut Row<Option<Resource>>)
     ensures { cores.new ≡ change_at r open_if_left_spec cores.old }
 {
     let place = r as usize;
@@ -84,7 +84,7 @@ fn open_if_left(r: u8, cores: &mut Row<Option<Resource>>)
 }
 
 /// The unit that the core is saving is taken out.
-fn take_saved(r: u8, cores: &mut Row<Option<Resource>>) -> Option<UnitId>
+pub fn take_saved(r: u8, cores: &mut Row<Option<Resource>>) -> Option<UnitId>
     ensures unit { result ≡ saving_among cores.old r }
     ensures cores { cores.new ≡ change_at r saved cores.old }
 {

@@ -66,7 +66,7 @@ fn stall_ends_of(c: &Resource) -> StallEnds
 }
 
 /// The core is taken out of its place.
-fn take_place(r: u8, cores: &mut Row<Option<Resource>>) -> Option<Resource>
+pub fn take_place(r: u8, cores: &mut Row<Option<Resource>>) -> Option<Resource>
     ensures core { result ≡ at_place cores.old r }
     ensures cores { cores.new ≡ clear_at r cores.old }
 {

@@ -1,12 +1,11 @@
 //! What a scheduler would decide, with its records left as they are.
 
 ghost use Rattle.std.specs.Prelude.{◌≡◌, ◌<◌, ◌≤◌, length, Some};
-ghost use Rattle.sched_base.specs.Numbers.{span};
 ghost use Rattle.sched_model.specs.Credit2.{choose2};
 ghost use Rattle.sched_model.specs.Rtds.{choose_rt};
 ghost use Rattle.sched_model.specs.NullScheduler.{choose_null};
 ghost use Rattle.sched_model.specs.Policy.{decision_by, decision_of};
-ghost use Rattle.sched_model.specs.Pool.{ask_of as ask_of_spec, lateness, event_in};
+ghost use Rattle.sched_model.specs.Pool.{event_in};
 ghost use Rattle.sched_model.specs.Places.{at_place};
 ghost use Rattle.sched_model.specs.declared.action.Action.TheVariants.{Decide};
 ghost use Rattle.sched_model.specs.declared.state.Records.TheVariants.{RtdsPool, NullPool};
@@ -21,8 +20,8 @@ use crate::copies::copy_places;
 use crate::scratch::Scratch;
 use plain_credit2::credit2;
 use plain_policy::{arinc, null, rtds};
-use plain_pool::cores::{core_at, home_cores};
-use plain_pool::runnable::is_runnable;
+use plain_pool::cores::core_at;
+use plain_pool::deciding::{ask_of, lateness_of};
 use plain_units::decided::Decided;
 use sched_base::{ResId, Span, UnitId};
 use sched_model::ask::Ask;
@@ -140,36 +139,6 @@ pub fn decision(scheduler: &Scheduler, ask: &Ask, scratch: &mut Scratch) -> Deci
         ask,
         scratch,
     )
-}
-
-/// What the core asks its scheduler.
-fn ask_of(g: u8, t: u64, pool: &Pool, r: u8, c: &Resource) -> Ask
-    requires { length pool.now.resources ≤ 64 }
-    ensures { result ≡ ask_of_spec g t pool.now r c.now }
-{
-    let runnable = match c.cur {
-        None => false,
-        Some(u) => is_runnable(g, pool.domains.as_slice(), u),
-    };
-    Ask {
-        cur: c.cur,
-        runnable,
-        since: c.since.0,
-        leaving: c.leaving,
-        at: t,
-        core: r,
-        home: home_cores(pool.resources.as_slice()),
-    }
-}
-
-/// How much later than its due the core decides.
-fn lateness_of(t: u64, c: &Resource) -> Span
-    ensures { result ≡ span (lateness t c.now) }
-{
-    match c.due {
-        None => Span(0),
-        Some(due) => Span(t.saturating_sub(due.0)),
-    }
 }
 
 /// What the core, which has this number, would decide.

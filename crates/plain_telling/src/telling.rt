@@ -1,8 +1,8 @@
 //! What an event of one pool would print. g is the number of a core's processors, t the moment.
 
-ghost use Rattle.std.specs.Prelude.{◌≡◌, ◌+◌, ◌*◌, ◌<◌, ◌≤◌, ◌/◌, ◌%◌, IsTrue, length, true};
+ghost use Rattle.std.specs.Prelude.{◌≡◌, ◌<◌, ◌≤◌, ◌/◌, ◌%◌, IsTrue, true};
 ghost use Rattle.sched_model.specs.declared.action.Action.TheVariants.{Block, Leave, Save};
-ghost use Rattle.sched_model.specs.Pool.{enabled_in, event_in, vcpu_for as vcpu_for_spec};
+ghost use Rattle.sched_model.specs.Pool.{enabled_in, event_in};
 ghost use Rattle.plain_units.specs.Fits.{RecordsFit};
 ghost use Rattle.plain_pool.specs.Fits.{PoolFits};
 ghost use Rattle.plain_pool.specs.Own.{IsOfPool};
@@ -12,13 +12,13 @@ use crate::deciding::decide;
 use crate::replenishing::{refill, replenish};
 use crate::scratch::Scratch;
 use plain_pool::cores::core_at;
+use plain_pool::events::vcpu_for;
 use plain_pool::pool::guest_of;
 use plain_pool::runnable::is_runnable;
-use plain_pool::vcpus::vcpu_of;
-use sched_base::{ProcId, ResId, VcpuId};
+use sched_base::{ProcId, ResId};
 use sched_model::action::Action;
 use sched_model::event::Event;
-use sched_model::state::{Pool, Resource};
+use sched_model::state::Pool;
 
 /// The vCPU that the processor runs sleeps.
 fn block(g: u8, t: u64, p: u8, pool: &Pool) -> Event
@@ -30,30 +30,6 @@ fn block(g: u8, t: u64, p: u8, pool: &Pool) -> Event
         unreachable!();
     };
     Event::Block { p: ProcId(p), v }
-}
-
-/// The vCPU of the core's cur that belongs on the core's i-th processor, where cur is runnable and that vCPU is there and awake.
-fn vcpu_for(g: u8, pool: &Pool, c: &Resource, i: u8) -> Option<VcpuId>
-    requires few { g ≤ 4 }
-    requires place { i < 4 }
-    requires fits { PoolFits pool.now }
-    ensures { result ≡ vcpu_for_spec g pool.now c.now i }
-{
-    let u = c.cur?;
-    let n = u.n as usize * g as usize + i as usize;
-    if n >= 32 {
-        return None;
-    }
-    let v = VcpuId {
-        dom: u.dom,
-        n: n as u8,
-    };
-    let x = vcpu_of(pool.domains.as_slice(), v)?;
-    if is_runnable(g, pool.domains.as_slice(), u) && x.asleep_until.is_none() {
-        Some(v)
-    } else {
-        None
-    }
 }
 
 /// The processor leaves the meeting.

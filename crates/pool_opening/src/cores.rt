@@ -1,39 +1,15 @@
 //! The cores come in.
 
 ghost use Rattle.std.specs.Prelude.{◌≡◌, ◌≤◌, ◌<◌, true, None, replicate, length, map, slice_set};
-ghost use Rattle.sched_base.specs.Numbers.{moment};
-ghost use Rattle.sched_model.specs.Checked.{IsGranularity};
 ghost use Rattle.sched_model.specs.Places.{at_place, numbers_from};
-ghost use Rattle.sched_model.specs.State.{has_core as has_core_spec};
 ghost use Rattle.plain_opening.specs.Opened.{opening_core};
 ghost use Rattle.pool_opening.specs.Opened.{IsStill, with_cores};
 
+use plain_opening::cores::{has_core, no_stalls};
 use pool_core::pool::PoolState;
 use sched_base::{Moment, ResId};
-use sched_model::facts::{ResPart, StallEnds};
-use sched_model::short::Short;
+use sched_model::facts::ResPart;
 use sched_ops::Policy;
-
-/// Whether the core is in the set.
-fn has_core(cores: u64, r: u8) -> bool
-    requires { r < 64 }
-    ensures { result ≡ has_core_spec cores r }
-{
-    cores / (1u64 << r) % 2 == 1
-}
-
-/// The ends of the stalls of g processors that were never stalled.
-#[tactic(auto, using(crate::proofs::Attaching::one_more))]
-fn no_stalls(g: u8) -> StallEnds
-    requires { g ≤ 4 }
-    ensures { result ≡ replicate g (moment 0) }
-{
-    let mut ends = Short::new();
-    for i in 0..g {
-        ends.push(Moment(0));
-    }
-    ends
-}
 
 /// The core r comes in, where it is in the set.
 #[tactic(auto, using(crate::proofs::Attaching::core_came, crate::proofs::Attaching::no_core_came))]

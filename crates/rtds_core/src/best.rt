@@ -1,10 +1,10 @@
 //! The unit that a core takes: its own, or the first of the queue that may have the core.
 
-ghost use Rattle.std.specs.Prelude.{◌≡◌, ◌+◌, ◌<◌, ◌≤◌, ◌++◌, Some, []};
+ghost use Rattle.std.specs.Prelude.{◌≡◌, ◌+◌, ◌<◌, ◌≤◌, ◌++◌, Some};
 ghost use Rattle.std.specs.Option.{ForSome};
 ghost use Rattle.sched_base.specs.declared.UnitId.{UnitId as UnitName};
 ghost use Rattle.sched_model.specs.declared.state.Records.TheVariants.{RtdsPool};
-ghost use Rattle.sched_model.specs.Rtds.{budget_left as budget_left_spec, own_candidate as own_candidate_spec, foremost, choice, switch_off};
+ghost use Rattle.sched_model.specs.Rtds.{budget_left as budget_left_spec, foremost, choice, switch_off};
 ghost use Rattle.arrival_queue.specs.Order.{IsInOrder, EachRankOnce, EachUnitOnce};
 ghost use Rattle.plain_policy.specs.Parts.{scheduler_of};
 ghost use Rattle.rtds_core.specs.Alarms.{id_of};
@@ -13,8 +13,7 @@ ghost use Rattle.rtds_core.specs.Kept.{IsShaped};
 
 use crate::alarms::Alarms;
 use crate::records::set_running;
-use plain_policy::rtds::{rtds_unit, unit_before};
-use plain_units::eligible::is_allowed;
+use plain_policy::rtds::{own_candidate, rtds_unit, unit_before};
 use rtds_queue::{RtdsKey, RtdsQueues};
 use sched_base::{Cores, Masks, Moment, ResId, UnitId};
 use sched_model::ask::Ask;
@@ -49,23 +48,6 @@ fn deadline_of(domains: &[Option<RtdsUnits>], u: UnitId) -> u64
     match rtds_unit(domains, u) {
         None => 0,
         Some(unit) => unit.deadline,
-    }
-}
-
-/// The core's own unit, where it may go on.
-fn own_candidate(
-    domains: &[Option<RtdsUnits>],
-    affinity: &[Option<Pins>],
-    ask: &Ask,
-) -> Option<UnitId>
-    requires { ask.now.core < 64 }
-    ensures { result ≡ own_candidate_spec ask.now (scheduler_of [] affinity.now (RtdsPool domains.now)) domains.now }
-{
-    let u = ask.cur?;
-    if ask.runnable && is_allowed(affinity, ask.home, ask.core, u) && 0 < budget_left(domains, u) {
-        Some(u)
-    } else {
-        None
     }
 }
 

@@ -1,77 +1,19 @@
 //! The records of the units: read, and put back changed.
 
-ghost use Rattle.std.specs.Prelude.{◌≡◌, ◌+◌, ◌<◌, ◌≤◌, ◌^◌, Some, None};
-ghost use Rattle.sched_model.specs.declared.state.RtdsUnit.{RtdsUnit as RtdsRecord};
+ghost use Rattle.std.specs.Prelude.{◌≡◌, ◌<◌, ◌≤◌, Some};
 ghost use Rattle.sched_model.specs.declared.state.Records.TheVariants.{RtdsPool};
-ghost use Rattle.sched_model.specs.Places.{change_item};
 ghost use Rattle.sched_model.specs.Policy.{joined_records};
-ghost use Rattle.sched_model.specs.Rtds.{burn as burn_spec, burn_to as burn_to_spec, change_unit, burn_cur, set_running as set_running_spec};
+ghost use Rattle.sched_model.specs.Rtds.{burn_to as burn_to_spec, change_unit, burn_cur, set_running as set_running_spec};
 ghost use Rattle.plain_units.specs.Fits.{RtdsFits};
 ghost use Rattle.sched_ops.specs.Conditions.{AreDomParams};
 ghost use Rattle.sched_model.specs.declared.config.SchedKind.{SchedKind};
 
 use plain_policy::places::set_place;
-use plain_policy::rtds::{fresh_units, rtds_unit};
+use plain_policy::rtds::{burn_to, fresh_units, put_unit, rtds_unit};
 use sched_base::{Moment, UnitId};
 use sched_model::config::DomParams;
 use sched_model::row::Row;
 use sched_model::state::{RtdsUnit, RtdsUnits};
-
-/// The record at this place of the domain's units.
-fn put_item(n: u8, unit: RtdsUnit, units: &mut RtdsUnits)
-    ensures { units.new ≡ change_item n (λ x. unit) units.old }
-{
-    if let Some(there) = units.get_mut(n as usize) {
-        *there = unit;
-    }
-}
-
-/// The unit's record is this one.
-fn put_unit(u: UnitId, unit: RtdsUnit, domains: &mut Row<Option<RtdsUnits>>)
-    ensures { domains.new ≡ change_unit u (λ x. unit) domains.old }
-{
-    let place = u.dom.0 as usize;
-    if place < domains.len()
-        && let Some(units) = domains.item_mut(place)
-    {
-        put_item(u.n, unit, units);
-    }
-}
-
-/// The unit after a charge for a span: its budget falls by the span. A budget that is used up is full again one level
-/// higher where the unit has extra time, and else stays empty until the next term.
-fn burn(elapsed: u64, x: RtdsUnit) -> RtdsUnit
-    requires { x.level + 1 < 2 ^ 32 }
-    ensures { result ≡ burn_spec elapsed x }
-{
-    let mut unit = x;
-    if elapsed < x.left {
-        unit.left = x.left - elapsed;
-    } else if x.extra {
-        unit.left = x.budget;
-        unit.level = x.level + 1;
-    } else {
-        unit.left = 0;
-    }
-    unit
-}
-
-/// A unit that runs, after a charge up to t.
-fn burn_to(t: u64, x: RtdsUnit) -> RtdsUnit
-    requires { x.level + 1 < 2 ^ 32 }
-    ensures { result ≡ burn_to_spec t x }
-{
-    match x.burned {
-        None => x,
-        Some(from) => {
-            let running = RtdsUnit {
-                burned: Some(t),
-                ..x
-            };
-            burn(t.saturating_sub(from), running)
-        }
-    }
-}
 
 /// The unit is charged up to t.
 fn charge(t: u64, u: UnitId, domains: &mut Row<Option<RtdsUnits>>)

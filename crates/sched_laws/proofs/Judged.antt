@@ -52,10 +52,10 @@ pub record FitsIfOk (s : State) (r : Result Plan Refusal) : Type 0 where
 of_ok : (s : State) (p : Plan) → Fits s p → FitsIfOk s (Ok p)
 of_ok s p fits = record { fits = λ q is. (let e : p ≡ q = cc in subst (Fits s) e fits) }
 
-is_le : (a b : ℕ) → nat_le a b ≡ true → a ≤ b
+pub is_le : (a b : ℕ) → nat_le a b ≡ true → a ≤ b
 is_le a b is = grind arith
 
-is_within : (low high n : ℕ) → in_range low high n ≡ true → IsWithin low high n
+pub is_within : (low high n : ℕ) → in_range low high n ≡ true → IsWithin low high n
 is_within low high n is = record { least = is_le low n (and_left (nat_le low n) (nat_le n high) is); most = is_le n high (and_right (nat_le low n) (nat_le n high) is) }
 
 of_err : (s : State) (fault : Refusal) → FitsIfOk s (Err fault)
@@ -74,7 +74,7 @@ at_most : (low high : ℕ) (n : Option ℕ) → IfSome n (IsWithin low high) →
 at_most low high None within = tt
 at_most low high (Some n) within = within.most
 
-rate_fits : (us : ℕ) → (us == 0 || in_range 100 500000 us) ≡ true → us ≤ 500000
+pub rate_fits : (us : ℕ) → (us == 0 || in_range 100 500000 us) ≡ true → us ≤ 500000
 rate_fits us is = elim (one_of (us == 0) (in_range 100 500000 us) is) [ inl none ↦ (let e : us ≡ 0 = grind (arith, none) in omega (arith, e)) | inr some ↦ (is_within 100 500000 us some).most ]
 
 -- the parameters in range, in nanoseconds

@@ -33,3 +33,4 @@ pub mod NullWalk
 pub mod NullLaw
 pub mod Bools
 pub mod Reached
+pub mod Granularity

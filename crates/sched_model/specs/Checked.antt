@@ -2,7 +2,7 @@
 use Rattle.std.specs.Prelude.{◌≡◌, ◌≤◌, ◌<◌, ◌⊎◌, ◌*◌, ◌%◌, ◌^◌, ℕ, true, List, [], ◌∷◌, ◌-◌, Option, Some, slice_get, length, sum_by, ⊤}
 use Rattle.std.specs.List.{All}
 use Rattle.std.specs.Option.{IfSome}
-use Rattle.std.specs.Result.{IfOk}
+use Rattle.std.specs.Result.{IfOk, IfErr}
 use Rattle.sched_base.specs.Names.{is_name}
 use Rattle.sched_base.specs.declared.Span.{Span}
 use Rattle.sched_base.specs.declared.Cores.{Cores}
@@ -18,6 +18,7 @@ use Rattle.sched_model.specs.declared.config.PoolParams.TheVariants as pool_para
 use Rattle.sched_model.specs.declared.config.DomParams.{DomParams}
 use Rattle.sched_model.specs.declared.config.DomParams.TheVariants as dom_params
 use Rattle.sched_model.specs.declared.command.ArincEntry.{ArincEntry}
+use Rattle.sched_model.specs.declared.command.Syntax.{Syntax}
 use Rattle.sched_model.specs.declared.command.Command.{Command}
 use Rattle.sched_model.specs.declared.command.Command.TheVariants as command
 use Rattle.sched_model.specs.declared.command.Which.{Which}
@@ -161,10 +162,11 @@ pub record IsCheckedStall (config : Config) (line : StallLine) : Type 0 where
   pub cpu : line.cpu.0 < config.processors
   pub span : IsWithin 1 most_span line.span.0
 
--- a line with a command
+-- a line with a command; where its words are none, the place of their fault is a number of 32 bits
 pub record IsCheckedCommandLine (line : CommandLine) : Type 0 where
   pub at : line.at.0 ≤ most_span
   pub command : IfOk line.command IsCheckedCommand
+  pub place : IfErr line.command (λ (fault : Syntax). fault.place < 2 ^ 32)
 
 -- all values of the work file: at most 4096 lines of each kind, in order of their moments
 pub record IsCheckedWork (config : Config) (work : Work) : Type 0 where

@@ -85,22 +85,22 @@ rtds_in_range t x fits = record {
     spread l b k e = subst (λ (z : ℕ). l * z ≡ l * 10000 + l * k) (sym e) (grind arith)
 
 -- what the units of a domain hold, and the moments of their last charges, added up
-helds_most : (t cap : ℕ) (ys : List Credit2Unit) → ((n : ℕ) (y : Credit2Unit) → slice_get ys n ≡ Some y → HeldFits t cap ⊥ ⊥ y) → helds ys ≤ℤ pos (640000000 * length ys)
+pub helds_most : (t cap : ℕ) (ys : List Credit2Unit) → ((n : ℕ) (y : Credit2Unit) → slice_get ys n ≡ Some y → HeldFits t cap ⊥ ⊥ y) → helds ys ≤ℤ pos (640000000 * length ys)
 helds_most t cap [] fits = omega (arith, ints)
 helds_most t cap (y ∷ ys) fits = (let a = (fits 0 y refl).most in let b = helds_most t cap ys (λ n z at. fits (suc n) z at) in omega (arith, ints, a, b))
 
-helds_least : (t cap : ℕ) (ys : List Credit2Unit) → ((n : ℕ) (y : Credit2Unit) → slice_get ys n ≡ Some y → HeldFits t cap ⊥ ⊥ y) → neg_ℤ (pos (lasts t ys)) ≤ℤ helds ys
+pub helds_least : (t cap : ℕ) (ys : List Credit2Unit) → ((n : ℕ) (y : Credit2Unit) → slice_get ys n ≡ Some y → HeldFits t cap ⊥ ⊥ y) → neg_ℤ (pos (lasts t ys)) ≤ℤ helds ys
 helds_least t cap [] fits = omega (arith, ints)
 helds_least t cap (y ∷ ys) fits = (let a = (fits 0 y refl).least in let b = helds_least t cap ys (λ n z at. fits (suc n) z at) in omega (arith, ints, a, b))
 
-lasts_most : (t cap : ℕ) (ys : List Credit2Unit) → ((n : ℕ) (y : Credit2Unit) → slice_get ys n ≡ Some y → HeldFits t cap ⊥ ⊥ y) → lasts t ys ≤ length ys * t
+pub lasts_most : (t cap : ℕ) (ys : List Credit2Unit) → ((n : ℕ) (y : Credit2Unit) → slice_get ys n ≡ Some y → HeldFits t cap ⊥ ⊥ y) → lasts t ys ≤ length ys * t
 lasts_most t cap [] fits = omega arith
 lasts_most t cap (y ∷ ys) fits = (let a = (fits 0 y refl).last in let b = lasts_most t cap ys (λ n z at. fits (suc n) z at) in let r : suc (length ys) * t ≡ t + length ys * t = grind arith in omega (arith, a, b, r))
 
-times_few : (n t : ℕ) → n ≤ 32 → n * t ≤ 32 * t
+pub times_few : (n t : ℕ) → n ≤ 32 → n * t ≤ 32 * t
 times_few n t low = (let split : 32 ≡ n + (32 - n) = omega (arith, low) in subst (λ (z : ℕ). n * t ≤ z * t) (sym split) (let r : (n + (32 - n)) * t ≡ n * t + (32 - n) * t = grind arith in omega (arith, r)))
 
-units_in_range : (t weight cap : ℕ) (ys : List Credit2Unit) → weight ≤ 65535 → AllByRecursion (UnitFits t weight) ys → ((n : ℕ) (y : Credit2Unit) → slice_get ys n ≡ Some y → HeldFits t cap ⊥ ⊥ y) → AllByRecursion (Credit2UnitInRange t) ys
+pub units_in_range : (t weight cap : ℕ) (ys : List Credit2Unit) → weight ≤ 65535 → AllByRecursion (UnitFits t weight) ys → ((n : ℕ) (y : Credit2Unit) → slice_get ys n ≡ Some y → HeldFits t cap ⊥ ⊥ y) → AllByRecursion (Credit2UnitInRange t) ys
 units_in_range t weight cap [] low each held = tt
 units_in_range t weight cap (y ∷ ys) low each held = (
   record {

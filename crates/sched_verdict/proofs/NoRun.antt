@@ -11,10 +11,11 @@ use Rattle.sched_print.specs.Line.{words, line, text}
 use Rattle.sched_print.specs.Ranges.{IsPrintable}
 use Rattle.sched_print.proofs.Texts.{words_same, lines_are_lines}
 use Rattle.sched_check.specs.Taken.{IsTaken}
+use Rattle.entry_laws.proofs.Law.{printable_entries}
 use Rattle.sched_verdict.specs.declared.verdict.Cause.{Cause}
 use Rattle.sched_verdict.specs.declared.verdict.Cause.TheVariants as cause
 use Rattle.sched_verdict.specs.Lines.{HasNone, IsParted}
-use Rattle.sched_verdict.specs.Judged.{HoldsAt}
+use Rattle.sched_verdict.specs.Judged.{HoldsAt, IsNo, IsSchedule}
 use Rattle.sched_verdict.specs.Laws.{NoIsNoRun}
 use Rattle.sched_verdict.proofs.Newlines.{none_is_no_line, nothing_is_no_line, line_then, parted_line}
 
@@ -78,8 +79,14 @@ not_behind m ordered from (d ∷ ds) rest why (e ∷ es) printable h is same =
     not_behind m ordered (after_entry m from d) ds rest why es (All-tail IsPrintable d ds printable) h
     (subst (λ (z : Entry). IsRest m ordered (after_entry m from z) es) (sym same_entry) (rest_after m ordered from e es is)) parts.1
 
-pub no_is_no_run : NoIsNoRun
-no_is_no_run m ordered bytes k why h entries is =
+-- where the verdict is no, the bytes are no schedule
+pub no_is_no_schedule : (m : Machine) (ordered : Bool) (bytes : List ℕ) (k : ℕ) (why : Cause) → IsNo m ordered bytes k why → (entries : List Entry) → IsSchedule m ordered bytes entries → ⊥
+no_is_no_schedule m ordered bytes k why h entries is =
     not_behind m ordered (begun m) h.front h.rest why entries h.begins.printable h.holds
-    (record { printable = is.printable; run = is.whole.0; first = λ asked. (is.first asked).ordered; over = is.whole.1 })
-    (sym h.begins.text ∙ is.text)
+    (record { printable = is.printable; run = is.run.whole.0; first = λ asked. (is.run.first asked).ordered; over = is.run.whole.1 })
+    (sym h.begins.text ∙ is.run.text)
+
+-- the numbers of every run of a checked machine are in their ranges
+pub no_is_no_run : NoIsNoRun
+no_is_no_run m checked ordered bytes k why h entries is =
+    no_is_no_schedule m ordered bytes k why h entries (record { printable = printable_entries m checked entries is.whole.0; run = is })

@@ -21,7 +21,7 @@ use Rattle.sched_verdict.specs.Lines.{IsParted}
 use Rattle.sched_verdict.specs.Judged.{HoldsAt, IsNoEntry, IsNoStep, IsNo, IsYes}
 use Rattle.sched_verdict.specs.Laws.{OneVerdict}
 use Rattle.sched_verdict.proofs.Newlines.{same_parts, line_then, parted_line}
-use Rattle.sched_verdict.proofs.NoRun.{no_is_no_run, not_before_taken, parted_not_cut, parted_not_empty}
+use Rattle.sched_verdict.proofs.NoRun.{no_is_no_schedule, not_before_taken, parted_not_cut, parted_not_empty}
 
 parted_same : (rest a x b y : List ℕ) → IsParted rest a x → IsParted rest b y → a ≡ b
 parted_same rest a x b y h k = (same_parts a b x y h.inner k.inner (sym h.parts ∙ k.parts)).0
@@ -109,13 +109,13 @@ same_no m ordered bytes k l a b h g =
 
 same_yes : (m : Machine) (ordered : Bool) (bytes : List ℕ) (n k : ℕ) → IsYes m ordered bytes n → IsYes m ordered bytes k → n ≡ k
 same_yes m ordered bytes n k h g =
-    let same : h.entries ≡ g.entries = texts_tell h.entries g.entries h.schedule.printable g.schedule.printable (sym h.schedule.text ∙ g.schedule.text) in
+    let same : h.entries ≡ g.entries = texts_tell h.entries g.entries h.schedule.printable g.schedule.printable (sym h.schedule.run.text ∙ g.schedule.run.text) in
     sym h.count ∙ ap length same ∙ g.count
 
 pub one_verdict : OneVerdict
 one_verdict m ordered bytes (verdict.Yes n) (verdict.Yes k) h g = ap (λ (z : ℕ). verdict.Yes z) (same_yes m ordered bytes n k h g)
-one_verdict m ordered bytes (verdict.Yes n) (verdict.No k b) h g = absurd (no_is_no_run m ordered bytes k b g h.entries h.schedule)
-one_verdict m ordered bytes (verdict.No k a) (verdict.Yes n) h g = absurd (no_is_no_run m ordered bytes k a h g.entries g.schedule)
+one_verdict m ordered bytes (verdict.Yes n) (verdict.No k b) h g = absurd (no_is_no_schedule m ordered bytes k b g h.entries h.schedule)
+one_verdict m ordered bytes (verdict.No k a) (verdict.Yes n) h g = absurd (no_is_no_schedule m ordered bytes k a h g.entries g.schedule)
 one_verdict m ordered bytes (verdict.No k a) (verdict.No l b) h g =
     let both = same_no m ordered bytes k l a b h g in
     ap (λ (z : ℕ). verdict.No z a) both.0 ∙ ap (λ (z : Cause). verdict.No l z) both.1

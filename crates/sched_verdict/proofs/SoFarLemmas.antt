@@ -95,9 +95,11 @@ so_far_yes {start} {now} {bytes} {rest} {passed} far none over = record {
   entries = far.front;
   schedule = record {
     printable = far.begins.printable;
-    text = far.begins.text ∙ ap (λ (z : List ℕ). text far.front ++ z) none ∙ append-nil (text far.front);
-    whole = (far.begins.run, sym (ap (λ (z : Checking). z.reached.over) far.here) ∙ over);
-    first = λ asked. record { run = far.begins.run; ordered = far.begins.first asked };
+    run = record {
+      text = far.begins.text ∙ ap (λ (z : List ℕ). text far.front ++ z) none ∙ append-nil (text far.front);
+      whole = (far.begins.run, sym (ap (λ (z : Checking). z.reached.over) far.here) ∙ over);
+      first = λ asked. record { run = far.begins.run; ordered = far.begins.first asked };
+    };
   };
   count = far.count;
 }

@@ -17,12 +17,16 @@ use Rattle.sched_verdict.specs.declared.verdict.Verdict.{Verdict}
 use Rattle.sched_verdict.specs.declared.verdict.Verdict.TheVariants as verdict
 use Rattle.sched_verdict.specs.Lines.{HasNone, IsParted}
 
--- the bytes are the text of these entries, whose numbers are in their ranges, and these are a whole run, where it is asked the ordered one
-pub record IsSchedule (m : Machine) (ordered : Bool) (bytes : List ℕ) (entries : List Entry) : Type 0 where
-  pub printable : All IsPrintable entries
+-- the bytes are the text of these entries, and these are a whole run, where it is asked the ordered one
+pub record IsTextOfRun (m : Machine) (ordered : Bool) (bytes : List ℕ) (entries : List Entry) : Type 0 where
   pub text : bytes ≡ text entries
   pub whole : IsWholeRun m entries
   pub first : ordered ≡ true → IsOrderedRun m entries
+
+-- the same of entries whose numbers are in their ranges
+pub record IsSchedule (m : Machine) (ordered : Bool) (bytes : List ℕ) (entries : List Entry) : Type 0 where
+  pub printable : All IsPrintable entries
+  pub run : IsTextOfRun m ordered bytes entries
 
 -- the bytes are the text of a whole run with n entries
 pub record IsYes (m : Machine) (ordered : Bool) (bytes : List ℕ) (n : ℕ) : Type 0 where

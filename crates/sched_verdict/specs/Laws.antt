@@ -2,13 +2,15 @@
 use Rattle.std.specs.Prelude.{◌≡◌, ℕ, Bool, List}
 use Rattle.sched_model.specs.declared.event.Entry.{Entry}
 use Rattle.sched_model.specs.declared.machine.Machine.{Machine}
+use Rattle.sched_model.specs.Checked.{IsChecked}
 use Rattle.sched_verdict.specs.declared.verdict.Cause.{Cause}
 use Rattle.sched_verdict.specs.declared.verdict.Verdict.{Verdict}
-use Rattle.sched_verdict.specs.Judged.{IsNo, IsSchedule, IsVerdict}
+use Rattle.sched_verdict.specs.Judged.{IsNo, IsTextOfRun, IsVerdict}
 
--- where the verdict is no, the bytes are the text of no whole run, or of none that is ordered where that was asked
+-- where the verdict on a schedule of a checked machine is no, the bytes are the text of no whole run, or of none that is ordered where
+-- that was asked
 abbrev pub NoIsNoRun : Type 0
-NoIsNoRun = (m : Machine) (ordered : Bool) (bytes : List ℕ) (k : ℕ) (cause : Cause) → IsNo m ordered bytes k cause → (entries : List Entry) → IsSchedule m ordered bytes entries → ⊥
+NoIsNoRun = (m : Machine) → IsChecked m → (ordered : Bool) (bytes : List ℕ) (k : ℕ) (cause : Cause) → IsNo m ordered bytes k cause → (entries : List Entry) → IsTextOfRun m ordered bytes entries → ⊥
 
 -- one verdict alone holds of the bytes: the line and the cause are determined
 abbrev pub OneVerdict : Type 0

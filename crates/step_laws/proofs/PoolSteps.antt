@@ -75,13 +75,13 @@ lists_is n pool =
     ∙ ap (λ (b : Bool). if nat_lt n 64 then is_some (at_place (face_of pool).cores n) else b) (is_some-seen domain_face (at_place pool.domains (n - 64)) ∙ ap is_some (sym (at_place-seen domain_face pool.domains (n - 64))))
 
 -- one place changed by what keeps what is seen of it
-map-change_at : {X Y : Type 0} (see : X → Y) (i : ℕ) (f : X → X) (places : List (Option X)) → ((x : X) → see (f x) ≡ see x) → map (option_map see) (change_at i f places) ≡ map (option_map see) places
+pub map-change_at : {X Y : Type 0} (see : X → Y) (i : ℕ) (f : X → X) (places : List (Option X)) → ((x : X) → see (f x) ≡ see x) → map (option_map see) (change_at i f places) ≡ map (option_map see) places
 map-change_at see i f [] keeps = refl
 map-change_at see zero f (None ∷ places) keeps = refl
 map-change_at see zero f (Some x ∷ places) keeps = ap (λ y. Some y ∷ map (option_map see) places) (keeps x)
 map-change_at see (suc i) f (p ∷ places) keeps = ap (λ ys. option_map see p ∷ ys) (map-change_at see i f places keeps)
 
-first_answer-change_at : {X Z : Type 0} (ask : ℕ → X → Option Z) (n i : ℕ) (f : X → X) (places : List (Option X)) → ((k : ℕ) (x : X) → ask k (f x) ≡ ask k x)
+pub first_answer-change_at : {X Z : Type 0} (ask : ℕ → X → Option Z) (n i : ℕ) (f : X → X) (places : List (Option X)) → ((k : ℕ) (x : X) → ask k (f x) ≡ ask k x)
     → first_answer ask n (change_at i f places) ≡ first_answer ask n places
 first_answer-change_at ask n i f [] keeps = refl
 first_answer-change_at ask n zero f (None ∷ places) keeps = refl

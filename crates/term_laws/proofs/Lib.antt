@@ -1,3 +1,4 @@
+pub mod Grid
 pub mod RtdsSteps
 pub mod SamePool
 pub mod Plans

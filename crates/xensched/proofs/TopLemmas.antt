@@ -17,7 +17,8 @@ use Rattle.sched_io.specs.Puts.{Adds, AddsPart}
 use Rattle.sched_io.proofs.FaultLemmas.{rose_after}
 use Rattle.sched_verdict.specs.declared.verdict.Verdict.{Verdict}
 use Rattle.sched_verdict.specs.declared.verdict.Verdict.TheVariants as verdict
-use Rattle.sched_verdict.specs.Judged.{IsSchedule, IsVerdict}
+use Rattle.sched_verdict.specs.Judged.{IsTextOfRun, IsVerdict}
+use Rattle.sched_model.specs.Checked.{IsChecked}
 use Rattle.sched_verdict.specs.Laws.{NoIsNoRun}
 use Rattle.sched_model.specs.declared.event.Entry.{Entry}
 use Rattle.sched_verdict.specs.Printed.{text_of_verdict}
@@ -423,13 +424,13 @@ unread_outcome held old middle new before after sink_old sink_new ordered names 
 unread_outcome held old middle new before after sink_old sink_new ordered names schedule m status.NoMemory made le h = tt
 
 -- a verdict that holds, by the law that a schedule that is refused is no run
-judges-no_run : NoIsNoRun → (m : Machine) (ordered : Bool) (bytes : List ℕ) (v : Verdict) → IsVerdict m ordered bytes v →
-    (k : ℕ) → IsRefusedAt k v → (entries : List Entry) → IsSchedule m ordered bytes entries → ⊥
-judges-no_run law m ordered bytes (verdict.Yes n) h k refused entries schedule = absurd refused
-judges-no_run law m ordered bytes (verdict.No line cause) h k refused entries schedule = law m ordered bytes line cause h entries schedule
+judges-no_run : NoIsNoRun → (m : Machine) → IsChecked m → (ordered : Bool) (bytes : List ℕ) (v : Verdict) → IsVerdict m ordered bytes v →
+    (k : ℕ) → IsRefusedAt k v → (entries : List Entry) → IsTextOfRun m ordered bytes entries → ⊥
+judges-no_run law m checked ordered bytes (verdict.Yes n) h k refused entries schedule = absurd refused
+judges-no_run law m checked ordered bytes (verdict.No line cause) h k refused entries schedule = law m checked ordered bytes line cause h entries schedule
 
-pub judges_it : NoIsNoRun → (m : Machine) (ordered : Bool) (bytes : List ℕ) (v : Verdict) → IsVerdict m ordered bytes v → Judges m ordered bytes v
-judges_it law m ordered bytes v h = record { is = h; no_run = judges-no_run law m ordered bytes v h }
+pub judges_it : NoIsNoRun → (m : Machine) → IsChecked m → (ordered : Bool) (bytes : List ℕ) (v : Verdict) → IsVerdict m ordered bytes v → Judges m ordered bytes v
+judges_it law m checked ordered bytes v h = record { is = h; no_run = judges-no_run law m checked ordered bytes v h }
 
 -- what is written of a verdict
 pub writes_verdict : (ordered : Bool) (m : Machine) (bytes : List ℕ) (before after : Option (List ℕ)) (old new : ℕ) (v : Verdict) (answer : Status) → answer ≡ answer_to v → Judges m ordered bytes v →

@@ -17,7 +17,7 @@ use Rattle.command_line.specs.declared.command.Form.{Form}
 use Rattle.work_file.specs.Load.{load_domains, load_work}
 use Rattle.sched_verdict.specs.declared.verdict.Verdict.{Verdict}
 use Rattle.sched_verdict.specs.declared.verdict.Verdict.TheVariants as verdict
-use Rattle.sched_verdict.specs.Judged.{IsSchedule, IsVerdict}
+use Rattle.sched_verdict.specs.Judged.{IsTextOfRun, IsVerdict}
 use Rattle.sched_verdict.specs.Printed.{text_of_verdict}
 use Rattle.xensched.specs.Words.{Source, of_files, of_seed, Request, Task, runs, writes, judges}
 use Rattle.xensched.specs.Schedules.{is_whole, PutsRun, PutsFirst, PutsPart}
@@ -124,7 +124,7 @@ IsRefusedAt k (verdict.No line cause) = line ≡ k
 -- the verdict holds of the schedule's bytes; where it is no, they are the text of no whole run, or of none that is ordered where that is asked
 pub record Judges (m : Machine) (ordered : Bool) (bytes : List ℕ) (v : Verdict) : Type 0 where
   pub is : IsVerdict m ordered bytes v
-  pub no_run : (k : ℕ) → IsRefusedAt k v → (entries : List Entry) → IsSchedule m ordered bytes entries → ⊥
+  pub no_run : (k : ℕ) → IsRefusedAt k v → (entries : List Entry) → IsTextOfRun m ordered bytes entries → ⊥
 
 -- how the writing of a verdict on a schedule ends, by the status that is answered then
 unfoldable pub WritesVerdict : Bool → Machine → List ℕ → Option (List ℕ) → Option (List ℕ) → ℕ → ℕ → Status → Type 0
