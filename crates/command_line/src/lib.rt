@@ -33,6 +33,3 @@ pub fn command_of(alloc: Global, words: &[String]) -> Result<Option<Command<'_>>
         },
     }
 }
-
-#[cfg(test)]
-mod tests;

@@ -22,6 +22,3 @@ pub mod tool;
 pub use moves::Move;
 pub use steps::ToolEvent;
 pub use tool::ToolState;
-
-#[cfg(test)]
-mod tests;

@@ -18,6 +18,3 @@ mod values;
 
 pub use fault::{DomCause, DomFault, TableName, Text};
 pub use read::read_domains;
-
-#[cfg(test)]
-mod tests;

@@ -12,8 +12,5 @@ pub use adding::{add_core, command_done, core_moved};
 pub use alone::do_command;
 pub use counter::Counter;
 pub use input::{book, opened};
-pub use threads::{add_beside_visit, visit_both};
+pub use threads::{add_beside_visit, visit_all, visit_both};
 pub use visits::visit;
-
-#[cfg(test)]
-mod tests;

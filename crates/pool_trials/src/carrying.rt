@@ -1,12 +1,12 @@
 //! A command, as the tool judges it, carried out on the pool.
 
 use crate::driven::Driven;
+use crate::stop::Stop;
 use sched_base::{DomId, Moment, Span, UnitId};
 use sched_model::config::ParamChange;
-use sched_model::event::Reply;
+use sched_model::event::{Refusal, Reply};
 use sched_model::facts::Stored;
 use sched_model::plan::Plan;
-use std::process::Abort;
 
 /// The RTDS parameters that a command gives; what it does not give stays.
 #[derive(Clone, Copy)]
@@ -45,31 +45,39 @@ impl Driven {
     }
 
     /// The RTDS parameters of a unit change at t.
-    fn set_unit<R: Abort>(&mut self, rt: &R, u: UnitId, given: Given, t: Moment) {
-        let Some(change) = self.unit_change(u, given) else {
-            panic!(rt; "no unit of RTDS");
-        };
-        self.change(rt, &change, t);
+    fn set_unit(&mut self, u: UnitId, given: Given, t: Moment) -> Result<(), Stop> {
+        match self.unit_change(u, given) {
+            None => Err(Stop::Beyond),
+            Some(change) => self.change(&change, t),
+        }
     }
 
     /// The same of count units of the domain from first on.
-    fn set_units<R: Abort>(
+    fn set_units(
         &mut self,
-        rt: &R,
         dom: DomId,
         first: u8,
         count: u8,
         given: Given,
         t: Moment,
-    ) {
-        assert!(rt; first < 32 && count <= 32);
-        for n in first..first + count {
-            self.set_unit(rt, UnitId { dom, n }, given, t);
+    ) -> Result<(), Stop> {
+        if first >= 32 || count > 32 {
+            return Err(Stop::Beyond);
         }
+        for n in first..first + count {
+            self.set_unit(UnitId { dom, n }, given, t)?;
+        }
+        Ok(())
     }
 
-    /// The accepted command is carried out at t: its reply. It is one that moves no core and no domain.
-    pub fn carry_out<R: Abort>(&mut self, rt: &R, plan: Plan, t: Moment) -> Reply {
+    /// The accepted command is carried out at t: its answer. It is one that moves no core and no domain.
+    pub fn answer(&mut self, plan: Plan, t: Moment) -> Result<Result<Reply, Refusal>, Stop> {
+        let reply = self.carry_out(plan, t)?;
+        Ok(Ok(reply))
+    }
+
+    /// The accepted command is carried out at t: its reply.
+    fn carry_out(&mut self, plan: Plan, t: Moment) -> Result<Reply, Stop> {
         match plan {
             Plan::Credit2Dom {
                 dom,
@@ -77,8 +85,8 @@ impl Driven {
                 cap,
                 reply,
             } => {
-                self.change(rt, &ParamChange::Dom { dom, weight, cap }, t);
-                reply
+                self.change(&ParamChange::Dom { dom, weight, cap }, t)?;
+                Ok(reply)
             }
             Plan::RtdsDom {
                 dom,
@@ -94,24 +102,24 @@ impl Driven {
                     budget,
                     extra,
                 };
-                self.set_units(rt, dom, first, count, given, t);
-                reply
+                self.set_units(dom, first, count, given, t)?;
+                Ok(reply)
             }
             Plan::Pause { dom, reply } => {
-                self.pause(rt, dom, t);
-                reply
+                self.pause(dom, t)?;
+                Ok(reply)
             }
             Plan::Unpause { dom, reply } => {
-                self.unpause(rt, dom, t);
-                reply
+                self.unpause(dom, t)?;
+                Ok(reply)
             }
             Plan::ArincSet {
                 pool: _,
                 frame,
                 reply,
             } => {
-                self.change(rt, &ParamChange::Frame { frame }, t);
-                reply
+                self.change(&ParamChange::Frame { frame }, t)?;
+                Ok(reply)
             }
             Plan::Pin {
                 dom,
@@ -119,10 +127,10 @@ impl Driven {
                 cores,
                 reply,
             } => {
-                self.change(rt, &ParamChange::Pin { dom, unit, cores }, t);
-                reply
+                self.change(&ParamChange::Pin { dom, unit, cores }, t)?;
+                Ok(reply)
             }
-            _ => panic!(rt; "a command of more than one pool"),
+            _ => Err(Stop::Beyond),
         }
     }
 }

@@ -9,15 +9,15 @@ ghost use Rattle.sched_ops.specs.Seen.{units_of};
 ghost use Rattle.pool_core.specs.Seen.{IsNow};
 
 use crate::ranges::{is_cap, is_frame, is_rate, is_term, is_weight, kind_told};
+use crate::stop::Stop;
 use any_policy::AnyPolicy;
 use pool_core::pool::PoolState;
 use pool_opening::opened;
-use sched_base::{DomId, Moment, NoMemory, ProcId, UnitId};
+use sched_base::{DomId, Moment, ProcId, UnitId};
 use sched_model::action::Action;
 use sched_model::config::{Config, ParamChange, SchedKind};
 use sched_model::event::Event;
 use std::alloc::Global;
-use std::process::Abort;
 
 /// The latest moment of any file, in nanoseconds.
 pub const MOST_SPAN: u64 = 10_000_000_000_000;
@@ -32,13 +32,15 @@ pub struct Driven {
 
 impl Driven {
     /// The machine's only pool, as it is at the opening.
-    pub fn open<R: Abort>(rt: &R, alloc: Global, config: &Config) -> Result<Driven, NoMemory>
+    pub fn open(alloc: Global, config: &Config) -> Result<Driven, Stop>
         requires { IsCheckedConfig config.now }
     {
         let [only] = config.pools.as_slice() else {
-            panic!(rt; "more than one pool");
+            return Err(Stop::Beyond);
         };
-        let pool = opened(alloc, config, AnyPolicy::empty(only.kind))?;
+        let Ok(pool) = opened(alloc, config, AnyPolicy::empty(only.kind)) else {
+            return Err(Stop::NoMemory);
+        };
         Ok(Driven {
             pool,
             latest: Moment(0),
@@ -133,25 +135,33 @@ impl Driven {
     }
 
     /// A parameter changes at t.
-    pub fn change<R: Abort>(&mut self, rt: &R, change: &ParamChange, t: Moment) {
-        assert!(rt; self.is_now(t));
-        assert!(rt; self.is_change(change));
+    pub fn change(&mut self, change: &ParamChange, t: Moment) -> Result<(), Stop> {
+        if !self.is_now(t) || !self.is_change(change) {
+            return Err(Stop::Beyond);
+        }
         self.pool.set_params(change, t);
         self.latest = t;
+        Ok(())
     }
 
     /// A domain is paused at t.
-    pub fn pause<R: Abort>(&mut self, rt: &R, d: DomId, t: Moment) {
-        assert!(rt; self.is_now(t));
+    pub fn pause(&mut self, d: DomId, t: Moment) -> Result<(), Stop> {
+        if !self.is_now(t) {
+            return Err(Stop::Beyond);
+        }
         self.pool.pause(d, t);
         self.latest = t;
+        Ok(())
     }
 
     /// A domain goes on at t.
-    pub fn unpause<R: Abort>(&mut self, rt: &R, d: DomId, t: Moment) {
-        assert!(rt; self.is_now(t));
+    pub fn unpause(&mut self, d: DomId, t: Moment) -> Result<(), Stop> {
+        if !self.is_now(t) {
+            return Err(Stop::Beyond);
+        }
         self.pool.unpause(d, t);
         self.latest = t;
+        Ok(())
     }
 
     /// A processor is stalled up to this moment, if it is not yet for longer: the end of its stall.
@@ -159,15 +169,18 @@ impl Driven {
         self.pool.stall(p, until)
     }
 
-    /// The first event that may come at t is this one, as the line says, and it is done.
-    pub fn perform<R: Abort>(&mut self, rt: &R, first: Action, t: Moment, line: &str) -> Event {
-        assert!(rt; self.is_now(t), "{line}");
-        let Some(action) = self.pool.first_enabled(t) else {
-            panic!(rt; "{line}");
-        };
-        assert_eq!(rt; action, first, "{line}");
-        let event = self.pool.perform(action, t);
-        self.latest = t;
-        event
+    /// The first event that may come at t is this one, and it is done.
+    pub fn perform(&mut self, first: Action, t: Moment) -> Result<Event, Stop> {
+        if !self.is_now(t) {
+            return Err(Stop::Beyond);
+        }
+        match self.pool.first_enabled(t) {
+            Some(action) if action == first => {
+                let event = self.pool.perform(action, t);
+                self.latest = t;
+                Ok(event)
+            }
+            _ => Err(Stop::Differ),
+        }
     }
 }

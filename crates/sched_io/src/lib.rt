@@ -27,6 +27,3 @@ pub use sink::Sink;
 pub use store::{MOST_BYTES, ReadErr, Store};
 pub use sure_sink::SureSink;
 pub use sure_store::SureStore;
-
-#[cfg(test)]
-mod tests;

@@ -14,6 +14,3 @@ mod words;
 pub use line_buf::LineBuf;
 pub use put::put_entry;
 pub use read_line::{NotEntry, read_entry};
-
-#[cfg(test)]
-mod tests;

@@ -124,6 +124,3 @@ impl Report {
         }
     }
 }
-
-#[cfg(test)]
-mod tests;

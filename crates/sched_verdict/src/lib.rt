@@ -4,6 +4,4 @@
 pub mod judge;
 pub mod laws;
 pub mod print;
-#[cfg(test)]
-mod tests;
 pub mod verdict;

@@ -57,6 +57,3 @@ pub fn read_work(alloc: Global, bytes: &[u8], config: &Config) -> Result<Work, W
         }
     }
 }
-
-#[cfg(test)]
-mod tests;

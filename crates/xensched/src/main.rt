@@ -2,24 +2,13 @@
 #![tactic(auto)]
 
 ghost use Rattle.std.specs.Prelude.{◌≡◌};
-ghost use Rattle.xensched.specs.Files.{words_refused};
-
-pub mod machine;
-pub mod report;
-pub mod run;
-pub mod status;
-pub mod sure;
-#[cfg(test)]
-mod tests;
-pub mod text;
-pub mod top;
-pub mod verdict;
+ghost use Rattle.xensched_top.specs.Files.{words_refused};
 
 use sched_io::{FileStore, OutSink};
-use status::Status;
 use std::io::ErrorKind;
 use std::process::ExitCode;
-use top::xensched;
+use xensched_top::status::Status;
+use xensched_top::top::xensched;
 
 /// Reads the words behind the program's own name, does what they say, prints the status's line where it is not 0, and ends
 /// with the status's number.

@@ -58,6 +58,3 @@ pub fn read_command(words: &[u8]) -> Result<Command, Syntax>
         Err(Syntax { place: 0 })
     }
 }
-
-#[cfg(test)]
-mod tests;

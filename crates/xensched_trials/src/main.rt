@@ -1,0 +1,67 @@
+//! Cases of the program, as data. Does what each line of the standard input says, and prints the line, what is put, and how the
+//! call ends: the status's number, and the line that `xensched` prints on standard error where that is not 0.
+//!
+//! A line is the words of one call, parted by single spaces; an empty line has no words. The files that the words name stand in
+//! `data/`. Before the words may stand `fail-read N` or `fail-put N`, where the Nth read or put of the call fails, or `sure`, for a
+//! store and a sink that never fail. These calls have the files in memory, and what they put there is printed.
+#![tactic(auto)]
+
+mod memory;
+
+use memory::{try_failing, try_surely};
+use sched_io::{FileStore, OutSink};
+use std::alloc::Global;
+use std::io;
+use xensched_top::status::Status;
+use xensched_top::top::xensched;
+
+/// The words of a line.
+fn words_of(alloc: Global, line: &str) -> io::Result<Vec<String>> {
+    let mut words = Vec::new(alloc);
+    if line.is_empty() {
+        return Ok(words);
+    }
+    for word in line.split(' ') {
+        words.push(String::from_str(alloc, word)?)?;
+    }
+    Ok(words)
+}
+
+/// The call on the files of the system.
+fn try_files(rt: &HostRuntime, words: &[String]) -> Status {
+    let mut store = FileStore::new(rt);
+    let mut sink = OutSink::new(rt);
+    xensched(rt.alloc(), words, &mut store, &mut sink)
+}
+
+/// The call that a line asks for.
+fn try_words(rt: &HostRuntime, words: &[String]) -> Status {
+    match words {
+        [way, n, words @ ..] if way.as_str() == "fail-read" => {
+            try_failing(rt, words, n.parse().unwrap_or(0), 0)
+        }
+        [way, n, words @ ..] if way.as_str() == "fail-put" => {
+            try_failing(rt, words, 0, n.parse().unwrap_or(0))
+        }
+        [way, words @ ..] if way.as_str() == "sure" => try_surely(rt, words),
+        _ => try_files(rt, words),
+    }
+}
+
+/// One line: itself, what is put, and how the call ends.
+fn try_line(rt: &HostRuntime, line: &str) -> io::Result<()> {
+    println!(rt; "== {line}")?;
+    let words = words_of(rt.alloc(), line)?;
+    let status = try_words(rt, words.as_slice());
+    match status.number() {
+        0 => println!(rt; "-- 0"),
+        number => println!(rt; "-- {number} {status}"),
+    }
+}
+
+fn main(rt: HostRuntime) -> io::Result<()> {
+    for line in rt.lines(rt.alloc()) {
+        try_line(&rt, line?.as_str())?;
+    }
+    Ok(())
+}

@@ -1,0 +1,72 @@
+//! Calls over stores and sinks in memory, which fail where they are told to, or never.
+
+use sched_base::NoMemory;
+use sched_io::{FileStore, MOST_BYTES, MemSink, MemStore, OutSink, Sink, Store, SureSink, SureStore};
+use xensched_top::status::Status;
+use xensched_top::sure::xensched_surely;
+use xensched_top::top::xensched;
+
+/// The room of a sink.
+const ROOM: usize = 65_536;
+
+/// The bytes of a file, or `None` where there is none.
+fn bytes_of(rt: &HostRuntime, name: &str) -> Option<Vec<u8>> {
+    FileStore::new(rt).read_all(rt.alloc(), name).ok()
+}
+
+/// A store of the files that the words name, whose read with this number fails.
+fn failing_store(rt: &HostRuntime, words: &[String], read: u32) -> Result<MemStore, NoMemory> {
+    let mut store = MemStore::room(rt.alloc(), &[read])?;
+    for word in words {
+        if let Some(bytes) = bytes_of(rt, word.as_str()) {
+            store.set(rt.alloc(), word.as_str(), bytes.as_slice())?;
+        }
+    }
+    Ok(store)
+}
+
+/// A store of the files that the words name.
+fn sure_store(rt: &HostRuntime, words: &[String]) -> Result<SureStore, NoMemory> {
+    let mut store = SureStore::room(rt.alloc())?;
+    for word in words {
+        match bytes_of(rt, word.as_str()) {
+            Some(bytes) if bytes.len() <= MOST_BYTES => {
+                store.set(rt.alloc(), word.as_str(), bytes.as_slice())?;
+            }
+            _ => {}
+        }
+    }
+    Ok(store)
+}
+
+/// Prints what was put; a status of its own where that fails.
+fn printed(rt: &HostRuntime, bytes: &[u8], status: Status) -> Status {
+    match OutSink::new(rt).put(bytes) {
+        Ok(()) => status,
+        Err(_) => Status::WriteFault,
+    }
+}
+
+/// The call with the files in memory, where the read and the put with these numbers fail; none has the number 0.
+pub fn try_failing(rt: &HostRuntime, words: &[String], read: u32, put: u32) -> Status {
+    let Ok(mut store) = failing_store(rt, words, read) else {
+        return Status::NoMemory;
+    };
+    let Ok(mut sink) = MemSink::room(rt.alloc(), ROOM, &[put]) else {
+        return Status::NoMemory;
+    };
+    let status = xensched(rt.alloc(), words, &mut store, &mut sink);
+    printed(rt, sink.bytes(), status)
+}
+
+/// The call with the files in memory, where nothing fails.
+pub fn try_surely(rt: &HostRuntime, words: &[String]) -> Status {
+    let Ok(mut store) = sure_store(rt, words) else {
+        return Status::NoMemory;
+    };
+    let Ok(mut sink) = SureSink::room(rt.alloc(), ROOM) else {
+        return Status::NoMemory;
+    };
+    let status = xensched_surely(rt.alloc(), words, &mut store, &mut sink);
+    printed(rt, sink.bytes(), status)
+}
