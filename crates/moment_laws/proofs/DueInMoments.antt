@@ -52,6 +52,8 @@ use Rattle.moment_laws.specs.Moments.{is_cause, is_line, are_at}
 use Rattle.moment_laws.proofs.DueInPools.{takes}
 use Rattle.moment_laws.proofs.DueInStates.{of_pools, IsReadyPool, command_less, stall_less, moved_less, dom_moved_less, home_lowers}
 use Rattle.turn_laws.proofs.Tests.{is_number}
+use Rattle.credit2_turns.specs.Credit2Turns.{HasUnit}
+use Rattle.stretch_laws.proofs.ReachedDecisions.{PoolOf, cur_unit, cur_there, has_record, waiting_unit, waiting_there}
 
 -- the pools of a reached state are such that decisions are late enough
 module _ (m : Machine) (checked : IsChecked m) (before : List Entry) (run : IsRun m before) (i : ℕ) (pool : Pool) (at : at_place (state_after m before).pools i ≡ Some pool) where
@@ -64,32 +66,16 @@ module _ (m : Machine) (checked : IsChecked m) (before : List Entry) (run : IsRu
   ranges : PoolInRange m s.now pool
   ranges = (in_range m checked before run).pools i pool at
 
-  -- a unit of a domain of the pool has a record
-  has_record : (rs : Credit2Records) → pool.scheduler.records ≡ Credit2Pool rs → (u : UnitId) → IsUnitOf m u → test_at pool.domains u.dom.0 (λ d. true) ≡ true → Has (λ d. is_some (slice_get d.units u.n) ≡ true) rs.domains u.dom.0
-  has_record rs is u unit there =
-      let d = some-test_at pool.domains u.dom.0 (λ d. true) there in
-      let recorded = (has_records m checked before run i pool at).recorded u.dom.0 d.0 d.1 in
-      let has : HasCredit2Record rs u.dom.0 (unit_count g d.0) = subst (λ (y : Records). IsRecorded y u.dom.0 (unit_count g d.0)) is recorded in
-      let range = ranges.domains u.dom.0 d.0 d.1 in
-      let same : range.config ≡ unit.config = (let a = range.at in let b = unit.at in cc) in
-      let guests : length range.config.guests ≡ length unit.config.guests = ap (λ (x : DomConfig). length x.guests) same in
-      let count = range.count in
-      let within = unit.inside in
-      let spread : suc u.n * g ≡ u.n * g + g = grind arith in
-      let low : suc u.n ≤ unit_count g d.0 = le-div (suc u.n) (length d.0.vcpus + g - 1) g (some_processor g checked.config.granularity) (omega (arith, within, spread, guests, count)) in
-      let size = has.units in
-      elim (slice_get_cases has.domain.units u.n).1 [
-        | inl x ↦ record { domain = has.domain; at = has.at; fact = is_some_at (slice_get has.domain.units u.n) x.0 x.2 }
-        | inr past ↦ absurd (let p = past.0 in omega (arith, p, low, size))
-      ]
+  -- the core's own unit has a record, and so have those that wait
+  of : PoolOf m before pool
+  of = record { run = run; i = i; at = at }
+
+  in_domain : (rs : Credit2Records) (u : UnitId) → HasUnit rs u → Has (λ d. is_some (slice_get d.units u.n) ≡ true) rs.domains u.dom.0
+  in_domain rs u has = record { domain = has.domain; at = has.at; fact = is_some_at (slice_get has.domain.units u.n) has.record_of has.get }
 
   has_units : (rs : Credit2Records) → pool.scheduler.records ≡ Credit2Pool rs → (r : ℕ) (c : Resource) → at_place pool.resources r ≡ Some c → (w : UnitId) → (c.cur ≡ Some w) ⊎ (has_unit pool.scheduler.queue w ≡ true) → Has (λ d. is_some (slice_get d.units w.n) ≡ true) rs.domains w.dom.0
-  has_units rs is r c at_r w (inl cur) =
-      has_record rs is w (subst (λ (o : Option UnitId). IfSome o (IsUnitOf m)) cur (ranges.cores r c at_r).cur)
-      (subst (λ (o : Option UnitId). IfSome o (λ u. test_at pool.domains u.dom.0 (λ d. true) ≡ true)) cur ((units_are_own m checked before run i pool at).cores r c at_r).cur)
-  has_units rs is r c at_r w (inr waits) =
-      has_record rs is w (at_unit (IsUnitOf m) w pool.scheduler.queue waits (recursion_from_All (IsUnitOf m) pool.scheduler.queue ranges.queue))
-      (there_if_staying pool.domains w (at_unit (IsStaying pool.domains) w pool.scheduler.queue waits (units_are_own m checked before run i pool at).queue))
+  has_units rs is r c at_r w (inl cur) = in_domain rs w (has_record m checked before pool of rs is w (cur_unit m checked before pool of r c w at_r cur) (cur_there m checked before pool of r c w at_r cur))
+  has_units rs is r c at_r w (inr waits) = in_domain rs w (has_record m checked before pool of rs is w (waiting_unit m checked before pool of w waits) (waiting_there m checked before pool of w waits))
 
   some_major : (arinc : ArincRecords) (frame : Frame) → pool.scheduler.records ≡ ArincPool arinc → arinc.frame ≡ Some frame → 0 < frame.major.0
   some_major arinc frame is has =

@@ -47,6 +47,7 @@ use Rattle.moment_laws.proofs.NumberedSums.{of_place, over_none, over_sum, over_
 use Rattle.move_laws.specs.Moves.{HasOneMove}
 use Rattle.move_laws.proofs.Counted.{in_all_is}
 use Rattle.move_laws.proofs.Law.{has_one_move}
+use Rattle.stretch_laws.proofs.RecordCounts.{units_length}
 
 -- what is to come of the domain d in the records
 abbrev of_record : ℕ → Records → ℕ → ℕ
@@ -81,13 +82,6 @@ vcpus_length k config configs =
     let here : List VcpuId = map (λ n. record { dom = domain_number k; n = n }) (numbers_from 0 (length config.guests)) in
     let a = length-append here (vcpus_from (suc k) configs) in
     let b = length_map_numbers {X = VcpuId} (λ n. record { dom = domain_number k; n = n }) 0 (length config.guests) in
-    omega (arith, a, b)
-
-units_length : (g k : ℕ) (config : DomConfig) (configs : List DomConfig) → length (units_from g k (config ∷ configs)) ≡ units_of g config + length (units_from g (suc k) configs)
-units_length g k config configs =
-    let here : List UnitId = map (λ n. record { dom = domain_number k; n = n }) (numbers_from 0 (units_of g config)) in
-    let a = length-append here (units_from g (suc k) configs) in
-    let b = length_map_numbers {X = UnitId} (λ n. record { dom = domain_number k; n = n }) 0 (units_of g config) in
     omega (arith, a, b)
 
 limits : (m : Machine) → total_over (domains m) (limit m) ≡ (vcpus m + units m) + domains m

@@ -54,6 +54,7 @@ use Rattle.stretch_laws.proofs.CoresByRecords.{IsKeptTest, last_of, Counted, cou
 use Rattle.moment_laws.specs.Moments.{is_cause, are_at}
 use Rattle.moment_laws.proofs.MomentParts.{is_reset, resets, ResetsFew}
 use Rattle.turn_laws.proofs.Tests.{is_number, no_true, or_later}
+use Rattle.stretch_laws.proofs.ReachedDecisions.{reset_of, printed_reset}
 
 -- the last reset was at the moment
 abbrev was_at : ℕ → Option ℕ → Bool
@@ -188,11 +189,6 @@ rises (suc n) i f h own others =
           omega (arith, a, c))
     ]
 
--- the resets that a decision prints
-abbrev reset_in : Event → ℕ
-reset_in (event.Decide core unit due late reset) = reset
-reset_in _ = 0
-
 module _ (m : Machine) (s : State) (apart : IsApart s) (places : (i : ℕ) (pool : Pool) → at_place s.pools i ≡ Some pool → length pool.resources ≡ core_count m.config) where
   abbrev g : ℕ
   g = m.config.granularity
@@ -222,7 +218,7 @@ module _ (m : Machine) (s : State) (apart : IsApart s) (places : (i : ℕ) (pool
       moved a b e = cc
 
   -- a reset of the core r: its pool may have no other at this moment
-  reset_lowers : (e : Event) (r : ℕ) → is_enabled m s s.now (Decide r) ≡ true → e ≡ event_of m s s.now (Decide r) → reset_in e ≢ 0 → left (after m s s.now (Decide r)) + 1 ≤ left s
+  reset_lowers : (e : Event) (r : ℕ) → is_enabled m s s.now (Decide r) ≡ true → e ≡ event_of m s s.now (Decide r) → reset_of e ≢ 0 → left (after m s s.now (Decide r)) + 1 ≤ left s
   reset_lowers e r on is some = by_home (home_of_core s r) refl
     where
       by_home : (home : Option ℕ) → home_of_core s r ≡ home → left (after m s s.now (Decide r)) + 1 ≤ left s
@@ -232,10 +228,7 @@ module _ (m : Machine) (s : State) (apart : IsApart s) (places : (i : ℕ) (pool
           let p = some-test_at s.pools i (λ pool. enabled_in g s.now pool (Decide r)) on_i in
           let pool : Pool = p.0 in
           let c = some-test_at pool.resources r (λ x. list_all is_held x.processors && is_open x && first_up s.now x) p.2 in
-          let home_is : home_pool m s (Decide r) ≡ pool = ap (λ (o : Option ℕ). elim o as (λ _. Pool) [ None ↦ no_pool m.config | Some j ↦ unwrap_or (at_place s.pools j) (no_pool m.config) ]) home ∙ ap (λ (o : Option Pool). unwrap_or o (no_pool m.config)) p.1 in
-          let asks : decision_at g s.now pool r ≡ decision m s.now pool r c.0 =
-          ap (λ (o : Option Resource). elim o as (λ _. Decision) [ None ↦ record { unit = None; due = None; reset = 0; records = pool.scheduler.records } | Some x ↦ decision_of (ask_of g s.now pool r x) pool.scheduler ]) c.1 in
-          let printed : reset_in e ≡ (decision m s.now pool r c.0).reset = ap reset_in is ∙ ap (λ (x : Pool). (decision_at g s.now x r).reset) home_is ∙ ap (λ (d : Decision). d.reset) asks in
+          let printed : reset_of e ≡ (decision m s.now pool r c.0).reset = printed_reset m s e i pool r c.0 is home p.1 c.1 in
           let does = (resets_of_scheduler (ask_of g s.now pool r c.0) pool.scheduler).some (λ none. some (printed ∙ none)) in
           let f : Pool → Pool = λ x. settled s.now (after_in g s.now x (Decide r)) in
           let next : State = change_pool i f s in

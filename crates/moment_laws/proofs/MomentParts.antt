@@ -17,13 +17,14 @@ use Rattle.sched_laws.proofs.Bools.{and_left, and_right, both}
 use Rattle.sched_laws.proofs.EachPlace.{at_place-put_at, at_place-put_at_other, at_place-clear_at, at_place-clear_at_other, length_set}
 use Rattle.sched_laws.proofs.StillWaits.{split_run}
 use Rattle.turn_laws.specs.Stretches.{Legs, cores, units, legs_with, legs_after, leg_of, open_legs, has_no_older_leg, is_in_stretch, is_stretch, most_in_stretch}
-use Rattle.turn_laws.specs.Turns.{total_over, how_many, one}
+use Rattle.turn_laws.specs.Turns.{total_over, how_many, one, most_turns}
 use Rattle.turn_laws.proofs.Sums.{many, many_is, many_none, total_at_most, grows, falls, one_most}
 use Rattle.turn_laws.proofs.StretchFalls.{legs_push, push_assoc}
-use Rattle.moment_laws.specs.Moments.{is_cause, causes, are_at, most_in_moment}
+use Rattle.moment_laws.specs.Moments.{is_cause, is_end, causes, are_at, most_in_moment, most_turns_in_moment}
 use Rattle.turn_laws.proofs.Tests.{is_number}
+use Rattle.turn_laws.proofs.TurnsBound.{most_turns_fit}
 
--- a decision that ends a leg of another moment; one that resets credits; an end
+-- a decision that ends a leg of another moment; one that resets credits
 abbrev pub is_old : ℕ → Legs → Event → Bool
 is_old t legs (event.Decide r unit due late reset) = not (has_no_older_leg t legs r.0)
 is_old t legs _ = false
@@ -31,11 +32,6 @@ is_old t legs _ = false
 abbrev pub is_reset : Event → Bool
 is_reset (event.Decide r unit due late reset) = not (reset == 0)
 is_reset _ = false
-
-abbrev pub is_end : Event → Bool
-is_end (event.End next) = true
-is_end event.Finish = true
-is_end _ = false
 
 -- how many entries are in no stretch, and how many end a leg of another moment
 abbrev pub between : Legs → List Entry → ℕ
@@ -52,12 +48,13 @@ resets entries = how_many (λ (e : Entry). is_reset e.event) entries
 abbrev pub ends : List Entry → ℕ
 ends entries = how_many (λ (e : Entry). is_end e.event) entries
 
-abbrev all_causes : List Entry → ℕ
-all_causes entries = how_many (λ (e : Entry). is_cause e.event) entries
+-- how many of the entries have such an event
+pub counted_events : (test : Event → Bool) (entries : List Entry) → count_by (λ (e : Entry). test e.event) entries ≡ how_many (λ (e : Entry). test e.event) entries
+counted_events test [] = refl
+counted_events test (e ∷ entries) = sum_by-cons (λ (x : Entry). cond (test x.event) 1 0) e entries ∙ ap (λ k. one (test e.event) + k) (counted_events test entries)
 
 pub causes_are : (entries : List Entry) → causes entries ≡ how_many (λ (e : Entry). is_cause e.event) entries
-causes_are [] = refl
-causes_are (e ∷ entries) = sum_by-cons (λ (x : Entry). cond (is_cause x.event) 1 0) e entries ∙ ap (λ k. one (is_cause e.event) + k) (causes_are entries)
+causes_are entries = counted_events is_cause entries
 
 -- an entry in no stretch is a cause, ends an old leg, resets, or ends the moment
 decide_low : (a b : Bool) → one (not (a && b)) ≤ one (not b) + one (not a)
@@ -210,11 +207,11 @@ legs_both : (legs : Legs) (a b : List Entry) → legs_after legs (a ++ b) ≡ le
 legs_both legs [] b = refl
 legs_both legs (x ∷ a) b = legs_both (legs_with x.at.0 x.event legs) a b
 
-append_none : (xs : List Entry) → xs ++ [] ≡ xs
+pub append_none : (xs : List Entry) → xs ++ [] ≡ xs
 append_none [] = refl
 append_none (x ∷ xs) = ap (λ ys. x ∷ ys) (append_none xs)
 
-append_all : (a b c : List Entry) → (a ++ b) ++ c ≡ a ++ (b ++ c)
+pub append_all : (a b c : List Entry) → (a ++ b) ++ c ≡ a ++ (b ++ c)
 append_all [] b c = refl
 append_all (x ∷ a) b c = ap (λ ys. x ∷ ys) (append_all a b c)
 
@@ -268,16 +265,20 @@ module _ (m : Machine) (most : ℕ) (end : StretchesEnd m most) where
       let b = subst (λ xs. 0 + length entries ≤ most + between (open_legs m xs) entries * (most + 1)) nil a in
       omega (arith, b)
 
--- on numbers: g processors of a core, n cores, c causes, x the number of changes and saves of a stretch, and k entries between stretches
-moment_fits : (g n c x k len : ℕ) → k ≤ 2 * c + 2 * n + 1 → len ≤ 2 * (g + 1) * x + k * (2 * (g + 1) * x + 1) → len ≤ 4 * (g + 1) * (c + n + 1) * (x + 1)
-moment_fits g n c x k len few most =
-    let b : ℕ = 2 * (g + 1) * x in
+-- on numbers: b entries of a stretch at most, and k entries between stretches
+pieces_fit : (b c n k len : ℕ) → k ≤ 2 * c + 2 * n + 1 → len ≤ b + k * (b + 1) → len + 1 ≤ 2 * (c + n + 1) * (b + 1)
+pieces_fit b c n k len few most =
     let a = mul-le-mul_right (b + 1) few in
     let e : b + (2 * c + 2 * n + 1) * (b + 1) + 1 ≡ 2 * (c + n + 1) * (b + 1) = grind arith in
-    let f : b + 1 ≤ 2 * (g + 1) * (x + 1) = (let h : 2 * (g + 1) * (x + 1) ≡ 2 * (g + 1) * x + 2 * (g + 1) = grind arith in omega (arith, h)) in
+    omega (arith, most, a, e)
+
+-- where a stretch has 2 (g + 1) x entries at most
+moment_fits : (g c n x b : ℕ) → b ≤ 2 * (g + 1) * x → 2 * (c + n + 1) * (b + 1) ≤ 4 * (g + 1) * (c + n + 1) * (x + 1)
+moment_fits g c n x b low =
+    let f : b + 1 ≤ 2 * (g + 1) * (x + 1) = (let h : 2 * (g + 1) * (x + 1) ≡ 2 * (g + 1) * x + 2 * (g + 1) = grind arith in omega (arith, h, low)) in
     let d = mul-le-mul_left (2 * (c + n + 1)) f in
     let i : 2 * (c + n + 1) * (2 * (g + 1) * (x + 1)) ≡ 4 * (g + 1) * (c + n + 1) * (x + 1) = grind arith in
-    omega (arith, most, a, e, d, i)
+    omega (arith, d, i)
 
 legs_length : (entries : List Entry) (legs : Legs) → length (legs_after legs entries) ≡ length legs
 legs_length [] legs = refl
@@ -290,15 +291,18 @@ EndsOnce m = (before moment : List Entry) (t : ℕ) → IsRun m (before ++ momen
 abbrev pub ResetsFew : Machine → Type 0
 ResetsFew m = (before moment : List Entry) (t : ℕ) → IsRun m (before ++ moment) → are_at t moment ≡ true → resets moment ≤ how_many (λ (e : Entry). is_cause e.event) moment + cores m
 
--- the law of moments, from the law of stretches and these facts
-pub moment_ends : (m : Machine) → EndsOnce m → ResetsFew m → StretchesEnd m (most_in_stretch m) → (before moment : List Entry) (t : ℕ) → IsRun m (before ++ moment) → are_at t moment ≡ true → length moment ≤ most_in_moment m (causes moment)
-moment_ends m one_end resets_few end before moment t run at =
+-- a moment, from the law of stretches and these facts
+pub moment_turns : (m : Machine) → EndsOnce m → ResetsFew m → StretchesEnd m (most_turns m) → (before moment : List Entry) (t : ℕ) → IsRun m (before ++ moment) → are_at t moment ≡ true → length moment + 1 ≤ most_turns_in_moment m (causes moment)
+moment_turns m one_end resets_few end before moment t run at =
     let legs : Legs = open_legs m before in
     let size : length legs ≡ cores m = legs_length before (replicate (cores m) None) ∙ length-replicate (cores m) None in
-    let all = moment_pieces m (most_in_stretch m) end before moment run in
+    let all = moment_pieces m (most_turns m) end before moment run in
     let few = between_few legs moment in
     let old = olds_few t (cores m) moment legs (omega (arith, size)) at in
     let last = one_end before moment t run at in
     let reset = resets_few before moment t run at in
     let count = causes_are moment in
-    moment_fits m.config.granularity (cores m) (causes moment) (cores m * cores m * (2 * units m + 5)) (between legs moment) (length moment) (omega (arith, few, old, last, reset, count)) all
+    pieces_fit (most_turns m) (causes moment) (cores m) (between legs moment) (length moment) (omega (arith, few, old, last, reset, count)) all
+
+pub most_turns_in_moment_fit : (m : Machine) (count : ℕ) → most_turns_in_moment m count ≤ most_in_moment m count
+most_turns_in_moment_fit m count = moment_fits m.config.granularity count (cores m) (cores m * cores m * (2 * units m + 5)) (most_turns m) (most_turns_fit m)

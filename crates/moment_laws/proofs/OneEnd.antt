@@ -14,8 +14,8 @@ use Rattle.sched_laws.proofs.Bools.{and_left, and_right}
 use Rattle.sched_laws.proofs.EachPlace.{by_option, by_cond}
 use Rattle.sched_laws.proofs.StillWaits.{split_run}
 use Rattle.turn_laws.specs.Turns.{how_many, one}
-use Rattle.moment_laws.specs.Moments.{are_at}
-use Rattle.moment_laws.proofs.MomentParts.{is_end, ends}
+use Rattle.moment_laws.specs.Moments.{are_at, is_end}
+use Rattle.moment_laws.proofs.MomentParts.{ends}
 use Rattle.turn_laws.proofs.Tests.{is_number}
 
 -- the least of the numbers that pass a test passes it

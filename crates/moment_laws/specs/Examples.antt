@@ -13,8 +13,8 @@ use Rattle.sched_model.specs.declared.event.Entry.{Entry}
 use Rattle.sched_model.specs.declared.machine.Machine.{Machine}
 use Rattle.sched_model.specs.Machine.{ordered_run}
 use Rattle.sched_model.specs.Opening.{opening}
-use Rattle.turn_laws.specs.Stretches.{Legs, cores, legs_with, is_in_stretch, most_in_stretch}
-use Rattle.moment_laws.specs.Moments.{causes, lines, most_in_moment, most_causes}
+use Rattle.turn_laws.specs.Stretches.{Legs, cores, legs_with, is_in_stretch}
+use Rattle.moment_laws.specs.Moments.{causes, lines, whole_moments}
 
 -- the entries of the ordered run, which are fewer than a hundred
 abbrev pub run_of : Machine → List Entry

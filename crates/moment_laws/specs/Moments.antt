@@ -59,7 +59,7 @@ are_at t entries = list_all (λ (e : Entry). e.at.0 == t) entries
 -- the entries after those before are all of the moment t of a run, however it goes on
 pub record IsOfMoment (m : Machine) (t : ℕ) (before moment : List Entry) : Type 0 where
   pub run : IsRun m (before ++ moment)
-  pub moment : are_at t moment ≡ true
+  pub at : are_at t moment ≡ true
 
 -- how many of the entries are causes; how many are lines of the workload; how many moments end with them
 abbrev pub causes : List Entry → ℕ

@@ -170,10 +170,10 @@ module _ (m : Machine) (checked : IsChecked m) (before : List Entry) (pool : Poo
   counted : (u : UnitId) → IsUnitOf m u → 1 ≤ units m
   counted u is = (let a = unit_is_there m some u is in let b = times_most u (units_from m.config.granularity 0 m.config.domains) in omega (arith, a, b))
 
-  cur_unit : (k : ℕ) (x : Resource) (u : UnitId) → at_place pool.resources k ≡ Some x → x.cur ≡ Some u → IsUnitOf m u
+  pub cur_unit : (k : ℕ) (x : Resource) (u : UnitId) → at_place pool.resources k ≡ Some x → x.cur ≡ Some u → IsUnitOf m u
   cur_unit k x u at cur = subst (λ (o : Option UnitId). IfSome o (IsUnitOf m)) cur (ranges.cores k x at).cur
 
-  waiting_unit : (u : UnitId) → has_unit pool.scheduler.queue u ≡ true → IsUnitOf m u
+  pub waiting_unit : (u : UnitId) → has_unit pool.scheduler.queue u ≡ true → IsUnitOf m u
   waiting_unit u waits = at_unit (IsUnitOf m) u pool.scheduler.queue waits (recursion_from_All (IsUnitOf m) pool.scheduler.queue ranges.queue)
 
   -- a unit on a core waits nowhere
@@ -203,7 +203,7 @@ module _ (m : Machine) (checked : IsChecked m) (before : List Entry) (pool : Poo
   }
 
   -- a unit of a domain of the pool has a record
-  has_record : (rs : Credit2Records) → pool.scheduler.records ≡ Credit2Pool rs → (u : UnitId) → IsUnitOf m u → test_at pool.domains u.dom.0 (λ d. true) ≡ true → HasUnit rs u
+  pub has_record : (rs : Credit2Records) → pool.scheduler.records ≡ Credit2Pool rs → (u : UnitId) → IsUnitOf m u → test_at pool.domains u.dom.0 (λ d. true) ≡ true → HasUnit rs u
   has_record rs is u unit there =
       let d = some-test_at pool.domains u.dom.0 (λ d. true) there in
       let recorded = (has_records m checked before of.run of.i pool of.at).recorded u.dom.0 d.0 d.1 in
@@ -221,10 +221,10 @@ module _ (m : Machine) (checked : IsChecked m) (before : List Entry) (pool : Poo
         | inr past ↦ absurd (let p = past.0 in omega (arith, p, low, size))
       ]
 
-  cur_there : (k : ℕ) (x : Resource) (u : UnitId) → at_place pool.resources k ≡ Some x → x.cur ≡ Some u → test_at pool.domains u.dom.0 (λ d. true) ≡ true
+  pub cur_there : (k : ℕ) (x : Resource) (u : UnitId) → at_place pool.resources k ≡ Some x → x.cur ≡ Some u → test_at pool.domains u.dom.0 (λ d. true) ≡ true
   cur_there k x u at cur = subst (λ (o : Option UnitId). IfSome o (λ w. test_at pool.domains w.dom.0 (λ d. true) ≡ true)) cur ((units_are_own m checked before of.run of.i pool of.at).cores k x at).cur
 
-  waiting_there : (u : UnitId) → has_unit pool.scheduler.queue u ≡ true → test_at pool.domains u.dom.0 (λ d. true) ≡ true
+  pub waiting_there : (u : UnitId) → has_unit pool.scheduler.queue u ≡ true → test_at pool.domains u.dom.0 (λ d. true) ≡ true
   waiting_there u waits = there_if_staying pool.domains u (at_unit (IsStaying pool.domains) u pool.scheduler.queue waits (units_are_own m checked before of.run of.i pool of.at).queue)
 
   -- the pool's domain has as many units as that of the file
@@ -294,7 +294,7 @@ module _ (m : Machine) (checked : IsChecked m) (before : List Entry) (pool : Poo
     decides_well r c at legs reset = decides_by m s.now pool.scheduler.queue pool.scheduler.affinity pool.scheduler.records pool.domains pool.resources r c (decision_facts r c at legs reset)
 
 -- the resets that a decision prints
-abbrev reset_of : Event → ℕ
+abbrev pub reset_of : Event → ℕ
 reset_of (event.Decide core unit due late reset) = reset
 reset_of _ = 0
 
@@ -319,7 +319,7 @@ decide_event t legs r (event.End n) on is = absurd (cc)
 decide_event t legs r event.Finish on is = absurd (cc)
 
 -- the resets that a decision prints are those that it makes
-printed_reset : (m : Machine) (s : State) (e : Event) (i : ℕ) (pool : Pool) (r : ℕ) (c : Resource) → e ≡ event_of m s s.now (Decide r) → home_of_core s r ≡ Some i → at_place s.pools i ≡ Some pool → at_place pool.resources r ≡ Some c → reset_of e ≡ (decision m s.now pool r c).reset
+pub printed_reset : (m : Machine) (s : State) (e : Event) (i : ℕ) (pool : Pool) (r : ℕ) (c : Resource) → e ≡ event_of m s s.now (Decide r) → home_of_core s r ≡ Some i → at_place s.pools i ≡ Some pool → at_place pool.resources r ≡ Some c → reset_of e ≡ (decision m s.now pool r c).reset
 printed_reset m s e i pool r c is home at has =
     let home_is : home_pool m s (Decide r) ≡ pool = ap (λ (o : Option ℕ). elim o as (λ _. Pool) [ None ↦ no_pool m.config | Some j ↦ unwrap_or (at_place s.pools j) (no_pool m.config) ]) home ∙ ap (λ (o : Option Pool). unwrap_or o (no_pool m.config)) at in
     let asks : decision_at m.config.granularity s.now pool r ≡ decision m s.now pool r c =

@@ -18,15 +18,11 @@ use Rattle.credit2_turns.specs.Credit2Turns.{Face, face, faces}
 use Rattle.stretch_laws.proofs.RtdsKeys.{Key, key, keys}
 use Rattle.turn_laws.specs.Stretches.{units}
 
--- how many units the domain of the file has
-abbrev pub file_units : ℕ → DomConfig → ℕ
-file_units g config = (length config.guests + g - 1) / g
-
 -- at each place stands something for a domain of the file, that counts for its units at most
 abbrev pub CountsFor : {X : Type 0} → ℕ → (X → ℕ) → List DomConfig → List (Option X) → Type 0
 CountsFor {X} g f configs places = (d : ℕ) (x : X) → at_place places d ≡ Some x → (config : DomConfig) × (slice_get configs d ≡ Some config) × (f x ≤ (length config.guests + g - 1) / g)
 
-units_length : (g k : ℕ) (config : DomConfig) (configs : List DomConfig) → length (units_from g k (config ∷ configs)) ≡ (length config.guests + g - 1) / g + length (units_from g (suc k) configs)
+pub units_length : (g k : ℕ) (config : DomConfig) (configs : List DomConfig) → length (units_from g k (config ∷ configs)) ≡ (length config.guests + g - 1) / g + length (units_from g (suc k) configs)
 units_length g k config configs =
     let units : List UnitId = map (λ n. record { dom = domain_number k; n = n }) (numbers_from 0 ((length config.guests + g - 1) / g)) in
     let a = length-append units (units_from g (suc k) configs) in

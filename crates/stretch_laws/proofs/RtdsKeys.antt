@@ -15,7 +15,7 @@ use Rattle.sched_laws.proofs.Choices.{same_unit_same}
 use Rattle.sched_laws.proofs.Counts.{total, same_unit_refl}
 use Rattle.sched_laws.proofs.EachPlace.{by_option, by_cond}
 use Rattle.turn_laws.specs.Turns.{how_many, one, goes_before, ahead}
-use Rattle.turn_laws.proofs.Sums.{how_many_most, count_no_more, count_less, total_no_more}
+use Rattle.turn_laws.proofs.Sums.{how_many_most, count_no_more, count_less, total_no_more, total_less}
 use Rattle.turn_laws.proofs.Tests.{or_later}
 use Rattle.turn_laws.specs.Stretches.{units}
 

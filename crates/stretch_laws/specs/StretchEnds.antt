@@ -8,4 +8,4 @@ use Rattle.turn_laws.specs.Stretches.{open_legs, is_stretch}
 -- the entries after those before are a stretch of a run, however it goes on
 pub record IsStretchOf (m : Machine) (before stretch : List Entry) : Type 0 where
   pub run : IsRun m (before ++ stretch)
-  pub stretch : is_stretch (open_legs m before) stretch ≡ true
+  pub goes_on : is_stretch (open_legs m before) stretch ≡ true
