@@ -101,21 +101,22 @@ moved_clock t r s = by_free (at_place s.free r)
     by_free (Some c) = by_option (λ (x : State). SameClock x s) c.target _ _ (λ none. kept s) (λ i is. (refl, refl, refl))
     by_free None = by_home (home_of_core s r)
 
+-- the state after a move of the domain from the pool i
+abbrev moved_to : ℕ → ℕ → ℕ → ℕ → State → Domain → State
+moved_to g t d i s domain = elim domain.moving as (λ _. State) [ None ↦ s | Some j ↦ actions.change_pool j.0 (machines.joined_by g t d domain) (actions.change_pool i (machines.left_by t d) s) ]
+
 dom_moved_clock : (g t d : ℕ) (s : State) → SameClock (after_dom_moved g t d s) s
 dom_moved_clock g t d s = by_home (home_of_domain s d)
   where
-    abbrev goes : ℕ → Domain → State
-    goes i domain = elim domain.moving as (λ _. State) [ None ↦ s | Some j ↦ actions.change_pool j.0 (machines.joined_by g t d domain) (actions.change_pool i (machines.left_by t d) s) ]
-
-    by_domain : (i : ℕ) (o : Option Domain) → SameClock (elim o as (λ _. State) [ None ↦ s | Some domain ↦ goes i domain ]) s
+    by_domain : (i : ℕ) (o : Option Domain) → SameClock (elim o as (λ _. State) [ None ↦ s | Some domain ↦ moved_to g t d i s domain ]) s
     by_domain i None = kept s
     by_domain i (Some domain) = by_option (λ (x : State). SameClock x s) domain.moving _ _ (λ none. kept s) (λ j is. (refl, refl, refl))
 
-    by_pool : (i : ℕ) (o : Option Pool) → SameClock (elim o as (λ _. State) [ None ↦ s | Some pool ↦ elim (at_place pool.domains d) as (λ _. State) [ None ↦ s | Some domain ↦ goes i domain ] ]) s
+    by_pool : (i : ℕ) (o : Option Pool) → SameClock (elim o as (λ _. State) [ None ↦ s | Some pool ↦ elim (at_place pool.domains d) as (λ _. State) [ None ↦ s | Some domain ↦ moved_to g t d i s domain ] ]) s
     by_pool i None = kept s
     by_pool i (Some pool) = by_domain i (at_place pool.domains d)
 
-    by_home : (o : Option ℕ) → SameClock (elim o as (λ _. State) [ None ↦ s | Some i ↦ elim (at_place s.pools i) as (λ _. State) [ None ↦ s | Some pool ↦ elim (at_place pool.domains d) as (λ _. State) [ None ↦ s | Some domain ↦ goes i domain ] ] ]) s
+    by_home : (o : Option ℕ) → SameClock (elim o as (λ _. State) [ None ↦ s | Some i ↦ elim (at_place s.pools i) as (λ _. State) [ None ↦ s | Some pool ↦ elim (at_place pool.domains d) as (λ _. State) [ None ↦ s | Some domain ↦ moved_to g t d i s domain ] ] ]) s
     by_home None = kept s
     by_home (Some i) = by_pool i (at_place s.pools i)
 
@@ -166,21 +167,30 @@ command_goes m s t on = by_line (slice_get m.work.commands s.next_command) refl 
         let y : length m.work.commands - (after_command m t line s).next_command ≡ length m.work.commands - suc s.next_command = ap (λ n. length m.work.commands - n) same.2 in
         (same.0, omega (arith, x, y, low)))
 
+inside_goes : (m : Machine) (s : State) (action : Action) → Goes m s (after_at_home m.config.granularity s s.now action) 0
+inside_goes m s action = same_left m (after_at_home m.config.granularity s s.now action) s (inside_clock m.config.granularity s.now s action)
+
+moved_goes : (m : Machine) (s : State) (r : ℕ) → Goes m s (after_moved s.now r s) 0
+moved_goes m s r = same_left m (after_moved s.now r s) s (moved_clock s.now r s)
+
+dom_moved_goes : (m : Machine) (s : State) (d : ℕ) → Goes m s (after_dom_moved m.config.granularity s.now d s) 0
+dom_moved_goes m s d = same_left m (after_dom_moved m.config.granularity s.now d s) s (dom_moved_clock m.config.granularity s.now d s)
+
 -- after an event that may come and ends no moment, the moment is the same; and each line takes one of those that are left
 pub event_goes : (m : Machine) (from : Reached) (ev : Event) → IsNextEvent m from.state ev (action_of ev) → (is_end ev ≡ false → (after_event m ev (action_of ev) from).state.now ≡ from.state.now) × (lines_left m (after_event m ev (action_of ev) from).state + one (is_line ev) ≤ lines_left m from.state)
 event_goes m from (event.Stall p until) next = (let a = stall_goes m from.state from.state.now next.0 in (λ e. a.0, a.1))
 event_goes m from (event.Xl k answer) next = (let a = command_goes m from.state from.state.now next.0 in (λ e. a.0, a.1))
-event_goes m from (event.Moved r to) next = (let a = same_left m _ from.state (moved_clock from.state.now r.0 from.state) in (λ e. a.0, a.1))
-event_goes m from (event.DomMoved d to) next = (let a = same_left m _ from.state (dom_moved_clock m.config.granularity from.state.now d.0 from.state) in (λ e. a.0, a.1))
-event_goes m from (event.Wake v) next = (let a = same_left m _ from.state (inside_clock m.config.granularity from.state.now from.state (Wake v)) in (λ e. a.0, a.1))
-event_goes m from (event.Block p v) next = (let a = same_left m _ from.state (inside_clock m.config.granularity from.state.now from.state (Block p.0)) in (λ e. a.0, a.1))
-event_goes m from (event.Slice r) next = (let a = same_left m _ from.state (inside_clock m.config.granularity from.state.now from.state (Slice r.0)) in (λ e. a.0, a.1))
-event_goes m from (event.Repl u start deadline budget extra) next = (let a = same_left m _ from.state (inside_clock m.config.granularity from.state.now from.state (Repl u)) in (λ e. a.0, a.1))
-event_goes m from (event.Refill d periods budget) next = (let a = same_left m _ from.state (inside_clock m.config.granularity from.state.now from.state (Refill d.0)) in (λ e. a.0, a.1))
-event_goes m from (event.Arrive p) next = (let a = same_left m _ from.state (inside_clock m.config.granularity from.state.now from.state (Arrive p.0)) in (λ e. a.0, a.1))
-event_goes m from (event.Decide r unit due late reset) next = (let a = same_left m _ from.state (inside_clock m.config.granularity from.state.now from.state (Decide r.0)) in (λ e. a.0, a.1))
-event_goes m from (event.Leave p v) next = (let a = same_left m _ from.state (inside_clock m.config.granularity from.state.now from.state (Leave p.0)) in (λ e. a.0, a.1))
-event_goes m from (event.Save r u queued) next = (let a = same_left m _ from.state (inside_clock m.config.granularity from.state.now from.state (Save r.0)) in (λ e. a.0, a.1))
+event_goes m from (event.Moved r to) next = (let a = moved_goes m from.state r.0 in (λ e. a.0, a.1))
+event_goes m from (event.DomMoved d to) next = (let a = dom_moved_goes m from.state d.0 in (λ e. a.0, a.1))
+event_goes m from (event.Wake v) next = (let a = inside_goes m from.state (Wake v) in (λ e. a.0, a.1))
+event_goes m from (event.Block p v) next = (let a = inside_goes m from.state (Block p.0) in (λ e. a.0, a.1))
+event_goes m from (event.Slice r) next = (let a = inside_goes m from.state (Slice r.0) in (λ e. a.0, a.1))
+event_goes m from (event.Repl u start deadline budget extra) next = (let a = inside_goes m from.state (Repl u) in (λ e. a.0, a.1))
+event_goes m from (event.Refill d periods budget) next = (let a = inside_goes m from.state (Refill d.0) in (λ e. a.0, a.1))
+event_goes m from (event.Arrive p) next = (let a = inside_goes m from.state (Arrive p.0) in (λ e. a.0, a.1))
+event_goes m from (event.Decide r unit due late reset) next = (let a = inside_goes m from.state (Decide r.0) in (λ e. a.0, a.1))
+event_goes m from (event.Leave p v) next = (let a = inside_goes m from.state (Leave p.0) in (λ e. a.0, a.1))
+event_goes m from (event.Save r u queued) next = (let a = inside_goes m from.state (Save r.0) in (λ e. a.0, a.1))
 event_goes m from (event.End k) next = (λ e. absurd (cc), omega arith)
 event_goes m from event.Finish next = (λ e. absurd (cc), omega arith)
 

@@ -65,7 +65,10 @@ module _ (m : Machine) (p q : Entry → Bool) (a b : ℕ) (each : EachMoment m p
       ] refl
 
   pub moments_together : (entries : List Entry) → IsRun m entries → how_many p entries ≤ a * how_many q entries + (ends entries + 1) * b
-  moments_together entries run = pieces entries [] [] run refl
+  moments_together entries run =
+      let all = pieces entries [] [] run refl in
+      let sum : a * (0 + how_many q entries) ≡ a * how_many q entries = grind arith in
+      omega (arith, all, sum)
 
 all_pass : (entries : List Entry) → how_many (λ (e : Entry). true) entries ≡ length entries
 all_pass [] = grind arith

@@ -1,4 +1,4 @@
--- What is left to do in a stretch: a number that each entry of a stretch lowers.
+-- Looking at the cores of a pool, as is done after each event of it, changes nothing of what is left to them.
 use Rattle.std.proofs.Common.{◌≡◌, ◌+◌, ◌*◌, ℕ, suc, Bool, true, false, not, refl, arith, ap, cond, ◌∙◌}
 use Rattle.std.specs.Prelude.{Option, Some, None, is_some, ◌&&◌, ◌||◌, option_map}
 use Rattle.sched_base.specs.declared.UnitId.{UnitId}
