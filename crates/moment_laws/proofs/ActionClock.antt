@@ -2,7 +2,7 @@
 use Rattle.std.proofs.Common.{◌≡◌, ◌≤◌, ◌<◌, ◌+◌, ◌-◌, ◌/◌, ◌∙◌, ℕ, zero, suc, Bool, true, false, List, [], ◌∷◌, refl, arith, ap, length}
 use Rattle.std.specs.Prelude.{Option, Some, None, Result, Ok, Err, slice_get, nat_le, ◌&&◌, not}
 use Rattle.sched_model.specs.declared.action.Action.{Action}
-use Rattle.sched_model.specs.declared.action.Action.TheVariants.{Stall, Xl, Moved, DomMoved, Wake, Block, Slice, Repl, Refill, Arrive, Decide, Leave, Save}
+use Rattle.sched_model.specs.declared.action.Action.TheVariants.{Stall, Xl, Wake, Block, Slice, Repl, Refill, Arrive, Decide, Leave, Save}
 use Rattle.sched_model.specs.declared.event.Event.{Event}
 use Rattle.sched_model.specs.declared.event.Event.TheVariants as event
 use Rattle.sched_model.specs.declared.event.Entry.{Entry}
@@ -13,18 +13,16 @@ use Rattle.sched_model.specs.declared.plan.Plan.TheVariants as plan
 use Rattle.sched_model.specs.declared.state.Domain.{Domain}
 use Rattle.sched_model.specs.declared.state.FreeCore.{FreeCore}
 use Rattle.sched_model.specs.declared.state.Pool.{Pool}
-use Rattle.sched_model.specs.declared.state.Resource.{Resource}
 use Rattle.sched_model.specs.declared.state.State.{State}
 use Rattle.sched_model.specs.declared.work.CommandLine.{CommandLine}
 use Rattle.sched_model.specs.declared.work.StallLine.{StallLine}
-use Rattle.sched_base.specs.declared.PoolId.{PoolId}
 use Rattle.sched_model.specs.Actions as actions
 use Rattle.sched_model.specs.Actions.{home_of, home_of_core, home_of_domain}
 use Rattle.sched_model.specs.Machine as machines
 use Rattle.sched_model.specs.Commands.{carried_out, change_home, pool_of_plan}
 use Rattle.sched_model.specs.Machine.{is_enabled, is_move_under_way, after, after_at_home, after_command, after_dom_moved, after_moved, after_stall, settled_at, stall_end_of, stalled, verdict}
 use Rattle.sched_model.specs.Places.{at_place}
-use Rattle.sched_model.specs.Runs.{Reached, IsNextEvent, IsRunFrom, action_of, after_entries, after_entry, after_event}
+use Rattle.sched_model.specs.Runs.{Reached, IsNextEvent, IsRunFrom, action_of, after_entry, after_event}
 use Rattle.sched_laws.proofs.EachPlace.{by_cond, by_option}
 use Rattle.turn_laws.specs.Turns.{how_many, one}
 use Rattle.moment_laws.specs.Moments.{is_end, is_line}
@@ -93,11 +91,11 @@ moved_clock t r s = by_free (at_place s.free r)
 
     by_free : (o : Option FreeCore)
         → SameClock
-          (elim o as (λ _. State) [
+        (elim o as (λ _. State) [
           | Some c ↦ elim c.target as (λ _. State) [ None ↦ s | Some i ↦ machines.attached t r i c s ]
           | None ↦ elim (home_of_core s r) as (λ _. State) [ None ↦ s | Some i ↦ elim (at_place s.pools i) as (λ _. State) [ None ↦ s | Some pool ↦ elim (at_place pool.resources r) as (λ _. State) [ None ↦ s | Some c ↦ machines.detached t r i c s ] ] ]
         ])
-          s
+        s
     by_free (Some c) = by_option (λ (x : State). SameClock x s) c.target _ _ (λ none. kept s) (λ i is. (refl, refl, refl))
     by_free None = by_home (home_of_core s r)
 
@@ -134,10 +132,13 @@ get_below (y ∷ xs) (suc n) x at = (let r = get_below xs n x at in grind (arith
 
 -- the same clock has as many lines left
 same_left : (m : Machine) (a b : State) → SameClock a b → (a.now ≡ b.now) × (lines_left m a + 0 ≤ lines_left m b)
-same_left m a b same = (same.0, (
-    let x : length m.work.stalls - a.next_stall ≡ length m.work.stalls - b.next_stall = ap (λ n. length m.work.stalls - n) same.1 in
-    let y : length m.work.commands - a.next_command ≡ length m.work.commands - b.next_command = ap (λ n. length m.work.commands - n) same.2 in
-    omega (arith, x, y)))
+same_left m a b same = (
+  same.0,
+  (
+      let x : length m.work.stalls - a.next_stall ≡ length m.work.stalls - b.next_stall = ap (λ n. length m.work.stalls - n) same.1 in
+      let y : length m.work.commands - a.next_command ≡ length m.work.commands - b.next_command = ap (λ n. length m.work.commands - n) same.2 in
+      omega (arith, x, y)),
+)
 
 -- an action that may come leaves the moment, and a line takes one from those that are left
 abbrev Goes : Machine → State → State → ℕ → Type 0

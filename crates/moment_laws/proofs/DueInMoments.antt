@@ -1,14 +1,10 @@
 -- In a moment each cause but a line takes one away of what is to come at its first state, and a command adds one at most.
-use Rattle.std.proofs.Common.{◌≡◌, ◌≤◌, ◌<◌, ◌+◌, ◌-◌, ◌*◌, ℕ, suc, Bool, true, List, [], ◌∷◌, ◌++◌, refl, arith, ap, subst, sym, ◌∙◌, ◌⊎◌, inl, inr, length}
+use Rattle.std.proofs.Common.{◌≡◌, ◌≤◌, ◌<◌, ◌+◌, ◌*◌, ℕ, Bool, true, List, [], ◌∷◌, ◌++◌, refl, arith, ap, subst, sym, ◌∙◌, ◌⊎◌, inl, inr}
 use Rattle.std.specs.Prelude.{Option, Some, is_some, slice_get, ◌==◌}
 use Rattle.std.specs.Option.{IfSome}
-use Rattle.std.proofs.lemmas.List.Elements.{recursion_from_All}
-use Rattle.std.proofs.lemmas.Option.{slice_get_cases}
-use Rattle.std.proofs.lemmas.Nat.{le-div}
 use Rattle.sched_base.specs.declared.UnitId.{UnitId}
 use Rattle.sched_model.specs.declared.action.Action.{Action}
 use Rattle.sched_model.specs.declared.action.Action.TheVariants.{Stall, Xl, Moved, DomMoved, Wake, Block, Slice, Repl, Refill, Arrive, Decide, Leave, Save}
-use Rattle.sched_model.specs.declared.config.DomConfig.{DomConfig}
 use Rattle.sched_model.specs.declared.config.Frame.{Frame}
 use Rattle.sched_model.specs.declared.event.Entry.{Entry}
 use Rattle.sched_model.specs.declared.event.Event.{Event}
@@ -17,31 +13,24 @@ use Rattle.sched_model.specs.declared.machine.Machine.{Machine}
 use Rattle.sched_model.specs.declared.state.ArincRecords.{ArincRecords}
 use Rattle.sched_model.specs.declared.state.Credit2Records.{Credit2Records}
 use Rattle.sched_model.specs.declared.state.Pool.{Pool}
-use Rattle.sched_model.specs.declared.state.Records.{Records}
 use Rattle.sched_model.specs.declared.state.Records.TheVariants.{Credit2Pool, ArincPool}
 use Rattle.sched_model.specs.declared.state.Resource.{Resource}
 use Rattle.sched_model.specs.declared.state.State.{State}
-use Rattle.sched_model.specs.Places.{at_place, has_unit, test_at}
-use Rattle.sched_model.specs.Pool.{unit_count}
+use Rattle.sched_model.specs.Places.{at_place, has_unit}
 use Rattle.sched_model.specs.Machine.{is_enabled, after, after_at_home, enabled_at_home}
 use Rattle.sched_model.specs.Runs.{Reached, IsRun, IsNextEvent, action_of, begun, after_entry, after_event, after_entries}
 use Rattle.sched_model.specs.Checked.{IsChecked}
 use Rattle.sched_laws.specs.Each.{EachPlace}
 use Rattle.sched_laws.specs.StateLaws.{state_after}
 use Rattle.sched_laws.proofs.Bools.{and_left, and_right}
-use Rattle.sched_laws.proofs.Choices.{at_unit}
 use Rattle.sched_laws.proofs.EachPlace.{by_option}
 use Rattle.sched_laws.proofs.Kept.{IsApart}
-use Rattle.sched_laws.proofs.Lists.{some-test_at, is_some_at}
-use Rattle.sched_laws.proofs.OwnUnits.{IsStaying, there_if_staying}
-use Rattle.sched_laws.proofs.Reached.{is_apart, units_are_own}
-use Rattle.sched_laws.proofs.SiblingsLaw.{some_processor}
+use Rattle.sched_laws.proofs.Lists.{is_some_at}
+use Rattle.sched_laws.proofs.Reached.{is_apart}
 use Rattle.sched_laws.proofs.StillWaits.{split_run}
-use Rattle.sched_ranges.specs.Ranges.{IsFrame, IsUnitOf, PoolInRange, RecordsInRange}
+use Rattle.sched_ranges.specs.Ranges.{IsFrame, PoolInRange, RecordsInRange}
 use Rattle.sched_ranges.proofs.Done.{in_range}
 use Rattle.sched_ranges.proofs.Law.{fits_in_runs}
-use Rattle.sched_records.specs.Records.{HasCredit2Record, IsRecorded}
-use Rattle.sched_records.proofs.Law.{has_records}
 use Rattle.move_laws.proofs.Counted.{in_all}
 use Rattle.move_laws.proofs.Staying.{same_home, same_stall, adds_line}
 use Rattle.move_laws.proofs.Ending.{moved_ends, dom_moved_ends}

@@ -48,8 +48,6 @@ use Rattle.turn_laws.proofs.Sums.{how_many_changed}
 use Rattle.moment_laws.proofs.DueEvents.{of_pool, of_core, of_domain, of_credit2, of_rtds, of_records, is_overdue, is_ripe, ends_by, is_deadline_due, is_refill_due, less_core, less_processor, less_settled, less_started_on, less_stopped, pending_none}
 use Rattle.moment_laws.proofs.LaterDues.{DecidesLater, IsReady, decides_later, burned_deadline}
 use Rattle.turn_laws.proofs.Tests.{or_later}
-use Rattle.turn_laws.specs.Stretches.{units}
-use Rattle.turn_laws.specs.GoodDecisions.{decision}
 
 -- what an event takes away at least
 abbrev pub takes : Action → ℕ

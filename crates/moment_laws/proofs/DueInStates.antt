@@ -45,7 +45,7 @@ use Rattle.turn_laws.specs.Turns.{one, how_many}
 use Rattle.moment_laws.proofs.DueEvents.{IsLess, of_pool, of_core, of_domain, of_credit2, of_rtds, of_records, is_overdue, is_ripe, is_deadline_due, is_refill_due, one_less, total-change_at_less, less_core, less_each, less_domain, less_processor, less_settled, less_cores_of, pending_none}
 use Rattle.moment_laws.proofs.LaterDues.{IsReady, same_deadlines}
 use Rattle.moment_laws.proofs.DueInPools.{takes, acts_settled}
-use Rattle.turn_laws.specs.Stretches.{cores, units}
+use Rattle.turn_laws.specs.Stretches.{cores}
 
 module _ (t : ℕ) where
   -- a command's changes of a pool

@@ -1,6 +1,6 @@
 -- In a moment there are no more resets than causes and cores: a reset is of a core whose Credit2 pool had none at this moment, and only a move brings such a core.
 use Rattle.std.proofs.Common.{◌≡◌, ◌≢◌, ◌≤◌, ◌+◌, ℕ, zero, suc, Bool, true, false, not, List, [], ◌∷◌, ◌++◌, refl, arith, ap, subst, sym, ◌∙◌, length, inl, inr}
-use Rattle.std.specs.Prelude.{Option, Some, None, is_some, unwrap_or, int_lt, pos, cond, ◌&&◌, ◌||◌, ◌==◌}
+use Rattle.std.specs.Prelude.{Option, Some, None, is_some, int_lt, pos, cond, ◌&&◌, ◌||◌, ◌==◌}
 use Rattle.std.specs.List.{list_any, list_all}
 use Rattle.std.proofs.Math.Decide.{ℕ_discrete}
 use Rattle.sched_base.specs.Credit2Numbers.{resets as resets_of}
@@ -28,13 +28,13 @@ use Rattle.sched_model.specs.Eligible.{Decision}
 use Rattle.sched_model.specs.Credit2 as credit2
 use Rattle.sched_model.specs.Rtds as rtds
 use Rattle.sched_model.specs.NullScheduler as null
-use Rattle.sched_model.specs.Opening.{no_pool, core_count}
+use Rattle.sched_model.specs.Opening.{core_count}
 use Rattle.sched_model.specs.Commands.{is_kind}
 use Rattle.sched_model.specs.Policy as policy
 use Rattle.sched_model.specs.Policy.{decision_of, kind_of}
-use Rattle.sched_model.specs.Pool.{enabled_in, after_in, after_decide, settled, ask_of, decision_at, is_held, is_open, first_up}
+use Rattle.sched_model.specs.Pool.{enabled_in, after_in, after_decide, settled, ask_of, is_held, is_open, first_up}
 use Rattle.sched_model.specs.Actions.{home_of_core, change_pool}
-use Rattle.sched_model.specs.Machine.{is_enabled, after, event_of, home_pool}
+use Rattle.sched_model.specs.Machine.{is_enabled, after, event_of}
 use Rattle.sched_model.specs.Runs.{Reached, IsRun, IsNextEvent, action_of, begun, after_entry, after_event, after_entries}
 use Rattle.sched_model.specs.Checked.{IsChecked}
 use Rattle.sched_laws.specs.StateLaws.{state_after, has_core_at}

@@ -1,7 +1,6 @@
 -- A moment is made of stretches and of the entries between them, which are few.
-use Rattle.std.proofs.Common.{◌≡◌, ◌≢◌, ◌≤◌, ◌<◌, ◌+◌, ◌-◌, ◌*◌, ℕ, zero, suc, Bool, true, false, not, List, [], ◌∷◌, ◌++◌, refl, arith, ap, cond, subst, sym, ◌∙◌, length}
-use Rattle.std.specs.Prelude.{Option, Some, None, count_by, replicate, ◌&&◌, ◌||◌, ◌==◌}
-use Rattle.std.specs.List.{list_all}
+use Rattle.std.proofs.Common.{◌≡◌, ◌≢◌, ◌≤◌, ◌<◌, ◌+◌, ◌*◌, ℕ, zero, suc, Bool, true, false, not, List, [], ◌∷◌, ◌++◌, refl, arith, ap, cond, subst, sym, ◌∙◌, length}
+use Rattle.std.specs.Prelude.{Option, Some, None, count_by, replicate, ◌&&◌, ◌==◌}
 use Rattle.std.proofs.lemmas.List.{length-replicate}
 use Rattle.std.proofs.lemmas.List.Sums.{sum_by-cons}
 use Rattle.std.proofs.Math.Decide.{dec_lt}
@@ -11,14 +10,14 @@ use Rattle.sched_model.specs.declared.event.Event.{Event}
 use Rattle.sched_model.specs.declared.event.Event.TheVariants as event
 use Rattle.sched_model.specs.declared.event.Entry.{Entry}
 use Rattle.sched_model.specs.declared.machine.Machine.{Machine}
-use Rattle.sched_model.specs.Places.{at_place, put_at, clear_at}
+use Rattle.sched_model.specs.Places.{put_at, clear_at}
 use Rattle.sched_model.specs.Runs.{IsRun, begun}
 use Rattle.sched_laws.proofs.Bools.{and_left, and_right, both}
-use Rattle.sched_laws.proofs.EachPlace.{at_place-put_at, at_place-put_at_other, at_place-clear_at, at_place-clear_at_other, length_set}
+use Rattle.sched_laws.proofs.EachPlace.{at_place-put_at_other, at_place-clear_at, at_place-clear_at_other, length_set}
 use Rattle.sched_laws.proofs.StillWaits.{split_run}
-use Rattle.turn_laws.specs.Stretches.{Legs, cores, units, legs_with, legs_after, leg_of, open_legs, has_no_older_leg, is_in_stretch, is_stretch, most_in_stretch}
+use Rattle.turn_laws.specs.Stretches.{Legs, cores, units, legs_with, legs_after, leg_of, open_legs, has_no_older_leg, is_in_stretch, is_stretch}
 use Rattle.turn_laws.specs.Turns.{total_over, how_many, one, most_turns}
-use Rattle.turn_laws.proofs.Sums.{many, many_is, many_none, total_at_most, grows, falls, one_most}
+use Rattle.turn_laws.proofs.Sums.{many_is, many_none, total_at_most, grows, falls, one_most}
 use Rattle.turn_laws.proofs.StretchFalls.{legs_push, push_assoc}
 use Rattle.moment_laws.specs.Moments.{is_cause, is_end, causes, are_at, most_in_moment, most_turns_in_moment}
 use Rattle.turn_laws.proofs.Tests.{is_number}

@@ -1,5 +1,5 @@
 -- A moment ends once: after an End the moment is a later one, and after Finish nothing comes.
-use Rattle.std.proofs.Common.{◌≡◌, ◌≢◌, ◌≤◌, ◌<◌, ◌+◌, ℕ, zero, suc, Bool, true, false, List, [], ◌∷◌, ◌++◌, refl, arith, ap, cond, subst, sym, ◌∙◌}
+use Rattle.std.proofs.Common.{◌≡◌, ◌≤◌, ◌<◌, ◌+◌, ℕ, Bool, true, false, List, [], ◌∷◌, ◌++◌, refl, arith, ap, cond, subst, sym, ◌∙◌}
 use Rattle.std.specs.Prelude.{Option, Some, None, is_some, filter, min, nat_le, nat_lt, ◌&&◌, ◌==◌}
 use Rattle.std.proofs.Math.Decide.{dec_le}
 use Rattle.sched_model.specs.declared.event.Event.{Event}
@@ -9,11 +9,11 @@ use Rattle.sched_model.specs.declared.machine.Machine.{Machine}
 use Rattle.sched_model.specs.declared.state.State.{State}
 use Rattle.sched_model.specs.Machine.{first_enabled, moments, next_moment, next_in_horizon}
 use Rattle.sched_model.specs.Places.{least}
-use Rattle.sched_model.specs.Runs.{Reached, IsRun, IsRunFrom, IsNext, IsNextEvent, action_of, end_of, begun, after_entry, after_entries, after_event}
+use Rattle.sched_model.specs.Runs.{Reached, IsRun, IsRunFrom, IsNextEvent, action_of, begun, after_entry, after_entries, after_event}
 use Rattle.sched_laws.proofs.Bools.{and_left, and_right}
 use Rattle.sched_laws.proofs.EachPlace.{by_option, by_cond}
 use Rattle.sched_laws.proofs.StillWaits.{split_run}
-use Rattle.turn_laws.specs.Turns.{how_many, one}
+use Rattle.turn_laws.specs.Turns.{one}
 use Rattle.moment_laws.specs.Moments.{are_at, is_end}
 use Rattle.moment_laws.proofs.MomentParts.{ends}
 use Rattle.turn_laws.proofs.Tests.{is_number}

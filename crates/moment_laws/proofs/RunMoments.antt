@@ -1,6 +1,6 @@
 -- A run is made of its moments: what each of them has few of, the run has few of.
-use Rattle.std.proofs.Common.{◌≡◌, ◌≤◌, ◌+◌, ◌*◌, ℕ, zero, suc, Bool, true, false, List, [], ◌∷◌, ◌++◌, refl, arith, ap, subst, sym, ◌∙◌, length}
-use Rattle.std.specs.Prelude.{◌&&◌, ◌==◌}
+use Rattle.std.proofs.Common.{◌≡◌, ◌≤◌, ◌+◌, ◌*◌, ℕ, Bool, true, false, List, [], ◌∷◌, ◌++◌, refl, arith, ap, subst, sym, ◌∙◌, length}
+use Rattle.std.specs.Prelude.{◌==◌}
 use Rattle.std.proofs.Math.Nat.{mul-le-mul_left}
 use Rattle.sched_model.specs.declared.event.Entry.{Entry}
 use Rattle.sched_model.specs.declared.machine.Machine.{Machine}
@@ -13,7 +13,7 @@ use Rattle.sched_laws.proofs.StillWaits.{split_run}
 use Rattle.turn_laws.specs.Stretches.{cores, units}
 use Rattle.turn_laws.specs.Turns.{how_many, one}
 use Rattle.turn_laws.proofs.StretchFalls.{after_push, push_assoc}
-use Rattle.moment_laws.specs.Moments.{are_at, causes, domains, is_cause, is_end, is_line, lines, most_causes, most_due, most_in_any_moment, most_in_moment, most_in_moments, vcpus, whole_moments, work_lines}
+use Rattle.moment_laws.specs.Moments.{are_at, causes, is_cause, is_end, is_line, most_causes, most_due, most_in_any_moment, most_in_moments, whole_moments, work_lines}
 use Rattle.moment_laws.proofs.ActionClock.{event_goes, lines_few}
 use Rattle.moment_laws.proofs.FewCauses.{causes_few}
 use Rattle.moment_laws.proofs.MomentLaw.{moment_ends}
@@ -90,11 +90,11 @@ run_by_causes m checked entries run =
     let a : ℕ = 4 * (g + 1) * (x + 1) in
     let b : ℕ = 4 * (g + 1) * (r + 1) * (x + 1) in
     let each : EachMoment m (λ e. true) (λ e. is_cause e.event) a b = λ before moment t run2 at. (
-        let h = moment_ends m checked before moment t run2 at in
-        let n = all_pass moment in
-        let c : a * causes moment ≡ a * how_many (λ (e : Entry). is_cause e.event) moment = ap (λ k. a * k) (causes_are moment) in
-        let s = spread_moment g (causes moment) r x in
-        omega (arith, h, n, c, s)) in
+    let h = moment_ends m checked before moment t run2 at in
+    let n = all_pass moment in
+    let c : a * causes moment ≡ a * how_many (λ (e : Entry). is_cause e.event) moment = ap (λ k. a * k) (causes_are moment) in
+    let s = spread_moment g (causes moment) r x in
+    omega (arith, h, n, c, s)) in
     let all = moments_together m (λ e. true) (λ e. is_cause e.event) a b each entries run in
     let n = all_pass entries in
     let c : a * causes entries ≡ a * how_many (λ (e : Entry). is_cause e.event) entries = ap (λ k. a * k) (causes_are entries) in
@@ -106,10 +106,10 @@ run_by_causes m checked entries run =
 pub causes_by_lines : (m : Machine) → IsChecked m → (entries : List Entry) → IsRun m entries → causes entries ≤ 2 * work_lines m + (whole_moments entries + 1) * most_due m
 causes_by_lines m checked entries run =
     let each : EachMoment m (λ e. is_cause e.event) (λ e. is_line e.event) 2 (most_due m) = λ before moment t run2 at. (
-        let h = causes_few m checked before moment t run2 at in
-        let c = causes_are moment in
-        let l = counted_events is_line moment in
-        omega (arith, h, c, l)) in
+    let h = causes_few m checked before moment t run2 at in
+    let c = causes_are moment in
+    let l = counted_events is_line moment in
+    omega (arith, h, c, l)) in
     let all = moments_together m (λ e. is_cause e.event) (λ e. is_line e.event) 2 (most_due m) each entries run in
     let c = causes_are entries in
     let w : (whole_moments entries + 1) * most_due m ≡ (ends entries + 1) * most_due m = ap (λ k. (k + 1) * most_due m) (counted_events is_end entries) in
@@ -123,8 +123,8 @@ together : (g c k l r x n : ℕ) → c ≤ 2 * l + (n + 1) * k → 4 * (g + 1) *
 together g c k l r x n few =
     let a : ℕ = 4 * (g + 1) * (x + 1) in
     let more : c + (n + 1) * (r + 1) ≤ (n + 1) * ((2 * l + k) + r + 1) = (
-        let e : (n + 1) * ((2 * l + k) + r + 1) ≡ 2 * l + n * (2 * l) + (n + 1) * k + (n + 1) * (r + 1) = grind arith in
-        omega (arith, few, e)) in
+    let e : (n + 1) * ((2 * l + k) + r + 1) ≡ 2 * l + n * (2 * l) + (n + 1) * k + (n + 1) * (r + 1) = grind arith in
+    omega (arith, few, e)) in
     let d = mul-le-mul_left a more in
     let i : a * (c + (n + 1) * (r + 1)) ≡ 4 * (g + 1) * (c + (n + 1) * (r + 1)) * (x + 1) = grind arith in
     let j : a * ((n + 1) * ((2 * l + k) + r + 1)) ≡ (n + 1) * (4 * (g + 1) * ((2 * l + k) + r + 1) * (x + 1)) = grind arith in

@@ -1,9 +1,7 @@
 -- Worked examples of stretches and moments: small machines, and the stretches and moments of the ordered run of each.
-use Rattle.std.specs.Prelude.{ℕ, suc, ◌==◌, Bool, true, false, List, [], ◌∷◌, None, Some, Ok, codes, filter, map, length, replicate}
+use Rattle.std.specs.Prelude.{ℕ, suc, ◌==◌, true, false, List, [], ◌∷◌, None, Some, Ok, codes, filter, length, replicate}
 use Rattle.sched_base.specs.Numbers.{moment, span, processor, domain as domain_number, pool as pool_number}
 use Rattle.sched_base.specs.declared.Span.{Span}
-use Rattle.sched_model.specs.declared.config.PoolConfig.{PoolConfig}
-use Rattle.sched_model.specs.declared.config.DomConfig.{DomConfig}
 use Rattle.sched_model.specs.declared.config.SchedKind.TheVariants as kinds
 use Rattle.sched_model.specs.declared.config.PoolParams.TheVariants as pool_params
 use Rattle.sched_model.specs.declared.config.DomParams.TheVariants as dom_params

@@ -90,7 +90,6 @@ most_due m = 1 + vcpus m + units m + domains m + cores m
 abbrev pub most_causes : Machine → ℕ → ℕ
 most_causes m count = 2 * count + 1 + vcpus m + units m + domains m + cores m
 
-
 -- the most entries of any moment: of one in which all lines of the workload are done
 abbrev pub most_in_any_moment : Machine → ℕ
 most_in_any_moment m = most_in_moment m (most_causes m (work_lines m))

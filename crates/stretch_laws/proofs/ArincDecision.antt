@@ -1,7 +1,7 @@
 -- A decision in an ARINC 653 pool: the window's unit stays, and no other comes.
-use Rattle.std.proofs.Common.{◌≡◌, ◌≢◌, ◌≤◌, ◌+◌, ℕ, zero, suc, Bool, true, false, not, List, [], ◌∷◌, refl, arith, ap, cond, subst, sym, ◌∙◌, ◌⊎◌, inl, inr}
+use Rattle.std.proofs.Common.{◌≡◌, ◌≤◌, ℕ, Bool, true, false, not, List, refl, arith, ap, cond, subst, sym, ◌∙◌, inl, inr}
 use Rattle.std.specs.Prelude.{Option, Some, None, ◌&&◌, ◌||◌}
-use Rattle.std.specs.List.{list_any, AllByRecursion}
+use Rattle.std.specs.List.{list_any}
 use Rattle.sched_base.specs.declared.UnitId.{UnitId}
 use Rattle.sched_base.specs.declared.Cores.{Cores}
 use Rattle.sched_model.specs.declared.machine.Machine.{Machine}
@@ -13,20 +13,19 @@ use Rattle.sched_model.specs.declared.state.Records.{Records}
 use Rattle.sched_model.specs.declared.state.ArincRecords.{ArincRecords}
 use Rattle.sched_model.specs.declared.state.Records.TheVariants.{ArincPool}
 use Rattle.sched_model.specs.declared.ask.Ask.{Ask}
-use Rattle.sched_model.specs.Places.{at_place, has_unit, is_unit, same_unit}
+use Rattle.sched_model.specs.Places.{has_unit, is_unit, same_unit}
 use Rattle.sched_model.specs.State.{is_runnable}
 use Rattle.sched_model.specs.Arinc.{Window, present_window, window_unit}
-use Rattle.sched_model.specs.Eligible.{Decision, is_allowed, is_eligible}
+use Rattle.sched_model.specs.Eligible.{is_allowed, is_eligible}
 use Rattle.sched_model.specs.Policy.{choose_window, choice_of_window}
 use Rattle.sched_model.specs.Pool.{home_cores, ask_of}
-use Rattle.sched_laws.proofs.Bools.{and_left, and_right, both, one_of, either, or_more, clash}
+use Rattle.sched_laws.proofs.Bools.{and_left, and_right, both, one_of, or_more, clash}
 use Rattle.sched_laws.proofs.Choices.{is_unit_same, at_unit}
 use Rattle.sched_laws.proofs.Counts.{same_unit_refl}
-use Rattle.sched_laws.proofs.EachPlace.{by_option, by_cond}
 use Rattle.turn_laws.specs.Stretches.{units}
-use Rattle.turn_laws.specs.Turns.{is_secure, keeps, ahead, one}
-use Rattle.turn_laws.specs.GoodDecisions.{DecidesWell, StirsNone, Secure, SecureThen, decision, next, Standing}
-use Rattle.turn_laws.proofs.Waiting.{any_after, any_has, has_any, less_waits}
+use Rattle.turn_laws.specs.Turns.{keeps, ahead}
+use Rattle.turn_laws.specs.GoodDecisions.{DecidesWell, SecureThen, decision, next, Standing}
+use Rattle.turn_laws.proofs.Waiting.{any_after, any_has, less_waits}
 use Rattle.sched_model.specs.Policy.{is_better, better_waits}
 use Rattle.sched_model.specs.Eligible.{passes}
 use Rattle.turn_laws.proofs.Tests.{no_true, or_later}

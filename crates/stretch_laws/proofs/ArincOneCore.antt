@@ -56,7 +56,7 @@ use Rattle.sched_model.specs.NullScheduler as null
 use Rattle.sched_model.specs.Policy as policy
 use Rattle.sched_model.specs.Policy.{decision_of, kind_of, fresh_records}
 use Rattle.sched_model.specs.Opening.{opening, opening_free, with_domains, with_configured, with_pins, core_count, most_pools}
-use Rattle.sched_model.specs.Pool.{unit_count, with_domain}
+use Rattle.sched_model.specs.Pool.{unit_count}
 use Rattle.sched_model.specs.Actions.{home_of, home_of_core, home_of_domain}
 use Rattle.sched_model.specs.Commands as commands
 use Rattle.sched_model.specs.Commands.{judge, with_pool, demand, demand_kind, demand_range, refused_by, judge_frame, judge_rtds, frame_entries, rtds_fault, rtds_units, last_core_fault, name_fault, cpu_fault, elsewhere_fault, has_vcpu, is_kind, cores_in, domains_in, in_range, pool_of, domain_of, carried_out, change_home, pool_of_plan}

@@ -41,7 +41,6 @@ use Rattle.sched_laws.proofs.Apart.{HasOnly, only_inside, only_with_domain}
 use Rattle.sched_laws.proofs.EachPlace.{EachAt-change_at, EachAt-put_at, EachAt-clear_at, EachPlace-empty, by_option, by_test, by_cond}
 use Rattle.sched_laws.proofs.Kept.{passes_at}
 use Rattle.sched_laws.proofs.Lists.{some_is, is_some_at, test_at-some, some-test_at}
-use Rattle.turn_laws.specs.Stretches.{units}
 use Rattle.turn_laws.specs.Turns.{keeps}
 
 -- the moment of a Credit2 pool's last reset

@@ -1,6 +1,6 @@
 -- What a decision keeps of a pool whose cores' open legs are given: the chosen unit's leg begins now, and it has some budget left, or holds what it took.
 use Rattle.std.proofs.Common.{◌≡◌, ◌≢◌, ◌≤◌, ◌<◌, ℕ, zero, suc, Bool, true, false, List, [], ◌∷◌, refl, arith, ap, cond, subst, sym, ◌∙◌, length, ◌⊎◌, inl, inr}
-use Rattle.std.specs.Prelude.{Option, Some, None, slice_get, map, nat_lt, int_lt, ◌&&◌, ◌||◌, ◌==◌, ℤ, pos, ◌-ℤ◌, ◌≤ℤ◌}
+use Rattle.std.specs.Prelude.{Option, Some, None, slice_get, map, nat_lt, int_lt, ◌&&◌, ◌==◌, ℤ, pos, ◌-ℤ◌, ◌≤ℤ◌}
 use Rattle.std.specs.List.{AllByRecursion}
 use Rattle.std.proofs.lemmas.Int.{ints, clamps}
 use Rattle.std.proofs.Math.Decide.{ℕ_discrete}

@@ -38,7 +38,7 @@ use Rattle.sched_model.specs.Pool as pools
 use Rattle.sched_model.specs.Pool.{ask_of, decision_at, enabled_in, after_in, settled, is_held, is_open, first_up}
 use Rattle.sched_model.specs.Actions.{home_of_core, change_pool}
 use Rattle.sched_model.specs.Machine.{after, is_enabled, event_of, home_pool}
-use Rattle.sched_model.specs.Runs.{Reached, IsRun, IsNextEvent, action_of, begun, after_event, after_entry, after_entries}
+use Rattle.sched_model.specs.Runs.{Reached, IsRun, IsNextEvent, action_of, begun, after_event, after_entries}
 use Rattle.sched_model.specs.Checked.{IsChecked}
 use Rattle.sched_laws.specs.Each.{EachPlace}
 use Rattle.sched_laws.specs.StateLaws.{state_after}

@@ -31,7 +31,7 @@ use Rattle.sched_laws.specs.Each.{EachPlace}
 use Rattle.sched_laws.proofs.EachPlace.{EachAt-change_at, EachAt-put_at, EachAt-clear_at, read_change_at, at_place-clear_at, is_empty, by_option, by_cond}
 use Rattle.sched_laws.proofs.Lists.{test_at-some, is_some_at}
 use Rattle.sched_laws.proofs.Kept.{IsApart, passes_at}
-use Rattle.turn_laws.specs.Stretches.{cores, units}
+use Rattle.turn_laws.specs.Stretches.{cores}
 use Rattle.turn_laws.specs.Turns.{keeps}
 
 -- all but the decisions

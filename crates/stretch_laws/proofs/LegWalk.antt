@@ -41,7 +41,7 @@ use Rattle.sched_model.specs.Pool as pools
 use Rattle.sched_model.specs.Pool.{after_in, settled, home_cores, reconsidered, change_core, change_processor, change_vcpu, change_domain, change_cores_of, does, started_on, set_leaving, set_moving, set_pending, pause, unpause, set_params, without_domain, with_domain, is_of_domain, is_held, processor_of, guest_of}
 use Rattle.sched_laws.specs.Each.{EachAt}
 use Rattle.sched_laws.proofs.EachPlace.{EachAt-put_at, EachAt-clear_at, EachPlace-empty, read_change_at, read_change_each, read_put_at, read_clear_at, by_option, by_test, by_cond}
-use Rattle.turn_laws.specs.Stretches.{Legs, cores, units}
+use Rattle.turn_laws.specs.Stretches.{Legs, cores}
 use Rattle.stretch_laws.proofs.LegCharges.{Lasts, lasts_later, EachItem, RtdsUnitKept, RtdsKept, rtds_change, UnitKept, DomainKept, Credit2Kept, c_refilled, c_set_domain}
 
 -- the unit is a core's own, and the core's leg began at b

@@ -1,7 +1,7 @@
 -- A decision in a null pool: a unit that was given the core stays, and one that comes is given the core.
-use Rattle.std.proofs.Common.{◌≡◌, ◌≢◌, ◌≤◌, ◌<◌, ◌+◌, ℕ, zero, suc, Bool, true, false, not, List, [], ◌∷◌, refl, arith, ap, cond, subst, sym, ◌∙◌, ◌⊎◌, inl, inr, length}
-use Rattle.std.specs.Prelude.{Option, Some, None, is_some, filter, ◌&&◌, ◌||◌}
-use Rattle.std.specs.List.{list_any, AllByRecursion}
+use Rattle.std.proofs.Common.{◌≡◌, ◌≢◌, ◌≤◌, ◌<◌, ℕ, zero, suc, Bool, true, false, not, List, [], ◌∷◌, refl, arith, ap, cond, subst, sym, ◌∙◌, ◌⊎◌, inl, inr, length}
+use Rattle.std.specs.Prelude.{Option, Some, None, filter, ◌&&◌, ◌||◌}
+use Rattle.std.specs.List.{list_any}
 use Rattle.sched_base.specs.declared.UnitId.{UnitId}
 use Rattle.sched_base.specs.declared.Cores.{Cores}
 use Rattle.sched_model.specs.declared.machine.Machine.{Machine}
@@ -12,23 +12,23 @@ use Rattle.sched_model.specs.declared.state.Scheduler.{Scheduler}
 use Rattle.sched_model.specs.declared.state.Records.{Records}
 use Rattle.sched_model.specs.declared.state.Records.TheVariants.{NullPool}
 use Rattle.sched_model.specs.declared.ask.Ask.{Ask}
-use Rattle.sched_model.specs.Places.{at_place, put_at, clear_at, has_unit, is_unit, same_unit, without_unit}
+use Rattle.sched_model.specs.Places.{at_place, put_at, clear_at, has_unit, is_unit, same_unit}
 use Rattle.sched_model.specs.State.{is_runnable, has_core}
-use Rattle.sched_model.specs.Eligible.{Decision, is_allowed, is_eligible, is_placed, passes, eligible}
+use Rattle.sched_model.specs.Eligible.{is_allowed, is_eligible, is_placed, passes, eligible}
 use Rattle.sched_model.specs.NullScheduler as null
 use Rattle.sched_model.specs.Policy.{is_better, better_waits}
 use Rattle.sched_model.specs.Pool.{home_cores, ask_of}
 use Rattle.sched_laws.proofs.Bools.{and_left, and_right, both, one_of, either, or_more, clash}
 use Rattle.sched_laws.proofs.Choices.{is_unit_same, same_unit_same, at_unit}
-use Rattle.sched_laws.proofs.Counts.{same_unit_refl, same_unit_other}
-use Rattle.sched_laws.proofs.EachPlace.{by_option, by_cond, place_below, at_place-put_at, at_place-put_at_other, at_place-clear_at_other}
+use Rattle.sched_laws.proofs.Counts.{same_unit_refl}
+use Rattle.sched_laws.proofs.EachPlace.{place_below, at_place-put_at, at_place-put_at_other, at_place-clear_at_other}
 use Rattle.sched_laws.proofs.HomeCores.{home_has}
 use Rattle.sched_laws.proofs.Lists.{is_some_at}
 use Rattle.sched_laws.proofs.NullKept.{KeptFits, at_released, length_released}
 use Rattle.turn_laws.specs.Stretches.{units}
-use Rattle.turn_laws.specs.Turns.{is_secure, keeps, ahead, one}
-use Rattle.turn_laws.specs.GoodDecisions.{DecidesWell, StirsNone, Secure, SecureThen, decision, next, Standing}
-use Rattle.turn_laws.proofs.Waiting.{any_after, any_has, has_any, less_waits}
+use Rattle.turn_laws.specs.Turns.{keeps, ahead}
+use Rattle.turn_laws.specs.GoodDecisions.{DecidesWell, StirsNone, SecureThen, decision, next, Standing}
+use Rattle.turn_laws.proofs.Waiting.{any_after, any_has, less_waits}
 use Rattle.turn_laws.proofs.Tests.{no_true, or_later}
 
 -- a core is kept for a unit for which it is kept: nothing changes

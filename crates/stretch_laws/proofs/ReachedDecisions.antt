@@ -1,7 +1,7 @@
 -- In the states of runs the decisions of stretches are good ones, and what is left to the machine is bounded: from what the laws of states say, and three
 -- facts of the cores' own units.
-use Rattle.std.proofs.Common.{◌≡◌, ◌≢◌, ◌≤◌, ◌<◌, ◌+◌, ◌-◌, ◌*◌, ◌/◌, ℕ, zero, suc, Bool, true, false, not, List, [], ◌∷◌, ◌++◌, refl, arith, ap, cond, subst, sym, ◌∙◌, length, ◌⊎◌, inl, inr}
-use Rattle.std.specs.Prelude.{Option, Some, None, is_some, slice_get, unwrap_or, map, nat_lt, int_lt, pos, ◌&&◌, ◌==◌}
+use Rattle.std.proofs.Common.{◌≡◌, ◌≤◌, ◌<◌, ◌+◌, ◌-◌, ◌*◌, ◌/◌, ℕ, suc, Bool, true, false, List, [], ◌∷◌, refl, arith, ap, cond, subst, sym, ◌∙◌, length, inl, inr}
+use Rattle.std.specs.Prelude.{Option, Some, None, is_some, slice_get, unwrap_or, nat_lt, int_lt, pos, ◌==◌}
 use Rattle.sched_base.specs.RtdsNumbers.{burned_left, burned_level}
 use Rattle.sched_base.specs.Credit2Numbers.{quota, total as credit2_total}
 use Rattle.sched_model.specs.Opening.{core_count}
@@ -9,7 +9,6 @@ use Rattle.sched_laws.proofs.Opened.{each_get}
 use Rattle.sched_ranges.proofs.Credit2.{UnitFits}
 use Rattle.sched_ranges.proofs.Records.{RecordsFit}
 use Rattle.sched_ranges.proofs.Law.{fits_in_runs}
-use Rattle.std.specs.List.{list_any, AllByRecursion}
 use Rattle.std.proofs.lemmas.List.Elements.{recursion_from_All}
 use Rattle.std.proofs.lemmas.Option.{slice_get_cases}
 use Rattle.std.proofs.lemmas.Nat.{le-div}
@@ -18,7 +17,6 @@ use Rattle.sched_base.specs.declared.Cores.{Cores}
 use Rattle.sched_model.specs.declared.event.Event.{Event}
 use Rattle.sched_model.specs.declared.event.Event.TheVariants as event
 use Rattle.sched_model.specs.declared.event.Entry.{Entry}
-use Rattle.sched_model.specs.declared.action.Action.{Action}
 use Rattle.sched_model.specs.declared.action.Action.TheVariants.{Decide}
 use Rattle.sched_model.specs.declared.machine.Machine.{Machine}
 use Rattle.sched_model.specs.declared.state.State.{State}
@@ -36,7 +34,6 @@ use Rattle.sched_model.specs.declared.state.Credit2Domain.{Credit2Domain}
 use Rattle.sched_model.specs.declared.state.Credit2Unit.{Credit2Unit}
 use Rattle.sched_model.specs.Places.{at_place, has_unit, same_unit, test_at}
 use Rattle.sched_model.specs.Opening.{no_pool}
-use Rattle.sched_model.specs.State.{is_runnable}
 use Rattle.sched_model.specs.Eligible.{Decision, is_allowed, rtds_unit}
 use Rattle.sched_model.specs.Rtds.{burn_to}
 use Rattle.sched_model.specs.Policy.{decision_of}
@@ -45,12 +42,10 @@ use Rattle.sched_model.specs.Actions.{home_of_core, units_from}
 use Rattle.sched_model.specs.Machine.{event_of, home_pool}
 use Rattle.sched_model.specs.Runs.{IsRun, IsNextEvent, action_of, begun}
 use Rattle.sched_model.specs.Checked.{IsChecked}
-use Rattle.sched_laws.specs.Each.{EachPlace}
 use Rattle.sched_laws.specs.StateLaws.{state_after}
-use Rattle.sched_laws.proofs.Bools.{and_left, and_right, is_same, clash}
+use Rattle.sched_laws.proofs.Bools.{and_left, and_right}
 use Rattle.sched_laws.proofs.Choices.{at_unit}
 use Rattle.sched_laws.proofs.Counts.{total, times, one_at, times_some, total_at, total_two, same_unit_refl}
-use Rattle.sched_laws.proofs.EachPlace.{place_below}
 use Rattle.sched_laws.proofs.Lists.{some-test_at, some_is, is_some_at, test_at-some}
 use Rattle.sched_laws.proofs.NullKept.{KeptFits, kept_of}
 use Rattle.sched_laws.proofs.OwnUnits.{IsStaying, there_if_staying}
@@ -61,14 +56,12 @@ use Rattle.sched_laws.proofs.StillWaits.{core_home, split_run}
 use Rattle.sched_ranges.specs.Ranges.{IsUnitOf, PoolInRange}
 use Rattle.sched_ranges.proofs.Done.{in_range}
 use Rattle.sched_ranges.proofs.Queue.{unit_is_there}
-use Rattle.sched_records.specs.Records.{HasRecords, HasCredit2Record, HasRtdsRecords, IsRecorded}
+use Rattle.sched_records.specs.Records.{HasCredit2Record, HasRtdsRecords, IsRecorded}
 use Rattle.sched_records.proofs.Law.{has_records}
-use Rattle.turn_laws.specs.Stretches.{Legs, units, open_legs, is_in_stretch, has_no_older_leg, is_stretch, most_in_stretch}
-use Rattle.turn_laws.specs.Turns.{how_many, turns_left, ahead, IsBounded}
+use Rattle.turn_laws.specs.Stretches.{Legs, units, open_legs, is_in_stretch, has_no_older_leg}
+use Rattle.turn_laws.specs.Turns.{how_many, ahead, IsBounded}
 use Rattle.turn_laws.specs.GoodDecisions.{DecidesWell, decision, Standing, DecidesWellNext}
-use Rattle.turn_laws.proofs.StretchFalls.{stretch_falls}
-use Rattle.turn_laws.proofs.TurnsBound.{turns_left_most}
-use Rattle.credit2_turns.specs.Credit2Turns.{Face, faces, unit_total, HasUnit, IsFresh, IsStill}
+use Rattle.credit2_turns.specs.Credit2Turns.{Face, faces, unit_total, HasUnit, IsFresh}
 use Rattle.credit2_turns.proofs.Credit2Faces.{above_most, credit_at}
 use Rattle.credit2_turns.proofs.Credit2Decision.{credit2_well}
 use Rattle.stretch_laws.proofs.OwnDomains.{has_own_rtds, has_own_credit2}

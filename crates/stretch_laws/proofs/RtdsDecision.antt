@@ -1,7 +1,7 @@
 -- A decision in an RTDS pool whose core ends no leg of an earlier moment: every unit keeps its key, and the core's own unit is lost to a better one alone.
-use Rattle.std.proofs.Common.{◌≡◌, ◌≢◌, ◌≤◌, ◌<◌, ◌+◌, ℕ, zero, suc, Bool, true, false, not, List, [], ◌∷◌, refl, arith, ap, cond, subst, sym, ◌∙◌, ◌⊎◌, inl, inr, length}
-use Rattle.std.specs.Prelude.{Option, Some, None, filter, ◌&&◌, ◌||◌, nat_lt}
-use Rattle.std.specs.List.{list_any, AllByRecursion}
+use Rattle.std.proofs.Common.{◌≡◌, ◌≤◌, ◌+◌, ℕ, Bool, true, false, not, List, [], refl, arith, ap, cond, subst, sym, ◌∙◌, ◌⊎◌, inl, inr}
+use Rattle.std.specs.Prelude.{Option, Some, None, ◌&&◌, ◌||◌, nat_lt}
+use Rattle.std.specs.List.{list_any}
 use Rattle.sched_base.specs.declared.UnitId.{UnitId}
 use Rattle.sched_base.specs.declared.Cores.{Cores}
 use Rattle.sched_model.specs.declared.machine.Machine.{Machine}
@@ -13,22 +13,21 @@ use Rattle.sched_model.specs.declared.state.Scheduler.{Scheduler}
 use Rattle.sched_model.specs.declared.state.Records.{Records}
 use Rattle.sched_model.specs.declared.state.Records.TheVariants.{RtdsPool}
 use Rattle.sched_model.specs.declared.ask.Ask.{Ask}
-use Rattle.sched_model.specs.Places.{at_place, has_unit, is_unit, same_unit}
+use Rattle.sched_model.specs.Places.{has_unit}
 use Rattle.sched_model.specs.State.{is_runnable}
-use Rattle.sched_model.specs.Eligible.{Decision, is_allowed, is_eligible, passes, eligible, rtds_unit}
+use Rattle.sched_model.specs.Eligible.{is_allowed, is_eligible, passes, eligible, rtds_unit}
 use Rattle.sched_model.specs.Rtds as rtds
 use Rattle.sched_model.specs.Rtds.{unit_before, budget_left, foremost, burn_to}
 use Rattle.sched_model.specs.Policy.{is_better, better_waits}
 use Rattle.sched_model.specs.Pool.{home_cores, ask_of}
-use Rattle.sched_laws.proofs.Bools.{and_left, and_right, both, one_of, either, or_more, clash}
-use Rattle.sched_laws.proofs.Choices.{at_unit, same_unit_same}
-use Rattle.sched_laws.proofs.Counts.{total, same_unit_refl}
-use Rattle.sched_laws.proofs.EachPlace.{by_option, by_cond}
+use Rattle.sched_laws.proofs.Bools.{and_left, and_right, both, one_of, clash}
+use Rattle.sched_laws.proofs.Choices.{at_unit}
+use Rattle.sched_laws.proofs.Counts.{total}
 use Rattle.turn_laws.specs.Stretches.{units}
 use Rattle.turn_laws.specs.Turns.{how_many, is_secure, ahead}
 use Rattle.turn_laws.specs.GoodDecisions.{DecidesWell, StirsNone, Secure, SecureThen, decision, next, Standing}
 use Rattle.turn_laws.proofs.Waiting.{any_after, any_has, less_waits, filter_has, has_filter}
-use Rattle.stretch_laws.proofs.RtdsKeys.{Key, key, keys, Keys, key_at, keys_change, both_before, before_is, left_is, passes_is, ahead_is, keys_before, fewer_before, some_behind, before_most, IsForemost, is_foremost, foremost_none}
+use Rattle.stretch_laws.proofs.RtdsKeys.{Key, key, keys, Keys, key_at, keys_change, both_before, before_is, left_is, passes_is, ahead_is, keys_before, fewer_before, some_behind, before_most, is_foremost, foremost_none}
 use Rattle.turn_laws.specs.Turns as turns
 use Rattle.turn_laws.proofs.Tests.{no_true}
 

@@ -1,21 +1,19 @@
 -- The keys of RTDS units, which alone decide which of them comes first.
-use Rattle.std.proofs.Common.{◌≡◌, ◌≢◌, ◌≤◌, ◌<◌, ◌+◌, ◌-◌, ℕ, zero, suc, Bool, true, false, not, List, [], ◌∷◌, refl, arith, ap, cond, subst, sym, ◌∙◌, ◌⊎◌, inl, inr, length}
+use Rattle.std.proofs.Common.{◌≡◌, ◌≤◌, ◌+◌, ℕ, zero, suc, Bool, true, false, not, List, [], ◌∷◌, refl, arith, ap, cond, subst, sym, ◌∙◌, ◌⊎◌, inl, inr}
 use Rattle.std.specs.Prelude.{Option, Some, None, map, option_map, slice_get, nat_lt, ◌&&◌, ◌||◌, ◌==◌}
-use Rattle.std.specs.List.{list_any}
 use Rattle.sched_base.specs.declared.UnitId.{UnitId}
-use Rattle.sched_base.specs.RtdsNumbers.{burned_left, burned_level}
 use Rattle.sched_model.specs.declared.state.RtdsUnit.{RtdsUnit}
 use Rattle.sched_model.specs.declared.state.Scheduler.{Scheduler}
 use Rattle.sched_model.specs.declared.state.Records.TheVariants.{RtdsPool}
 use Rattle.sched_model.specs.Places.{at_place, change_at, change_item, has_unit, same_unit}
 use Rattle.sched_model.specs.Eligible.{rtds_unit, passes}
-use Rattle.sched_model.specs.Rtds.{is_before, unit_before, budget_left, foremost, change_unit, burn_to}
+use Rattle.sched_model.specs.Rtds.{is_before, unit_before, budget_left, foremost, change_unit}
 use Rattle.sched_laws.proofs.Bools.{one_of, or_more, either, clash}
 use Rattle.sched_laws.proofs.Choices.{same_unit_same}
 use Rattle.sched_laws.proofs.Counts.{total, same_unit_refl}
-use Rattle.sched_laws.proofs.EachPlace.{by_option, by_cond}
+use Rattle.sched_laws.proofs.EachPlace.{by_option}
 use Rattle.turn_laws.specs.Turns.{how_many, one, goes_before, ahead}
-use Rattle.turn_laws.proofs.Sums.{how_many_most, count_no_more, count_less, total_no_more, total_less}
+use Rattle.turn_laws.proofs.Sums.{count_no_more, count_less, total_no_more, total_less}
 use Rattle.turn_laws.proofs.Tests.{or_later}
 use Rattle.turn_laws.specs.Stretches.{units}
 

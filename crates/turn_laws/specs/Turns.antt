@@ -115,7 +115,7 @@ turns_left m s = total_over (cores m) (core_turns m s)
 abbrev pub most_turns : Machine → ℕ
 most_turns m = cores m * (weight_of m * (2 * units m + 3) + (3 * m.config.granularity + 1))
 
--- before no unit run more than the machine has, and each core has all its processors
+-- no unit of the pool has more units before it than the machine has, and each core has all its processors
 pub record IsBounded (m : Machine) (pool : Pool) : Type 0 where
   pub few : (u : UnitId) → ahead pool.scheduler.records u ≤ units m
   pub whole : EachPlace (λ (c : Resource). length c.processors ≡ m.config.granularity) pool.resources

@@ -13,7 +13,7 @@ ghost use Rattle.turn_laws.specs.Turns.{IsBounded, most_turns, turns_left};
 ghost use Rattle.turn_laws.specs.GoodDecisions.{DecidesWellNext};
 
 /// Where the decisions of stretches are good ones, each entry of a stretch of a run takes one turn at least of those that are left
-/// to the cores. Where before no unit of a pool run more units than the machine has, `most_turns` of them are left at most, and these
+/// to the cores. Where no unit of a pool has more units before it than the machine has, `most_turns` turns are left at most, and these
 /// are no more than `most_in_stretch`: with g processors a core, R cores and U units at most `2 (g + 1) R R (2 U + 5)`.
 pub fn law_turns_left()
     ensures falls { (m : Machine) → IsChecked m → DecidesWellNext m → (before : List Entry) → (entry : Entry) → IsRun m (before ++ entry ∷ []) → is_in_stretch entry.at.0 (open_legs m before) entry.event ≡ true → turns_left m (state_after m (before ++ entry ∷ [])) + 1 ≤ turns_left m (state_after m before) }
