@@ -1,0 +1,16 @@
+pub mod AllowedAlone
+pub mod ArincDecision
+pub mod NullDecision
+pub mod RtdsKeys
+pub mod RtdsDecision
+pub mod RecordCounts
+pub mod OwnDomains
+pub mod ReachedDecisions
+pub mod CoresByRecords
+pub mod ArincOneCore
+pub mod LegCharges
+pub mod LegSteps
+pub mod LegWalk
+pub mod LegDecides
+pub mod LegRuns
+pub mod StretchLaw

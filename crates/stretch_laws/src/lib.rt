@@ -1,0 +1,4 @@
+//! The law of stretches: how many entries they have at most.
+#![tactic(auto)]
+
+pub mod laws;

@@ -1,0 +1,10 @@
+pub mod Tests
+pub mod Sums
+pub mod Looking
+pub mod Changed
+pub mod Meetings
+pub mod Waiting
+pub mod Decisions
+pub mod CoreEvents
+pub mod StretchFalls
+pub mod TurnsBound

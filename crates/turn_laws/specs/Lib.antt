@@ -1,0 +1,3 @@
+pub mod Stretches
+pub mod Turns
+pub mod GoodDecisions
