@@ -10,9 +10,20 @@ use std::sync::ledger::{Blank, Ledger};
 use std::test::Fail;
 use unit_ring::Ring;
 
-const A: UnitId = UnitId { dom: DomId(1), n: 0 };
-const B: UnitId = UnitId { dom: DomId(2), n: 0 };
-const C: UnitId = UnitId { dom: DomId(3), n: 0 };
+const A: UnitId = UnitId {
+    dom: DomId(1),
+    n: 0,
+};
+
+const B: UnitId = UnitId {
+    dom: DomId(2),
+    n: 0,
+};
+
+const C: UnitId = UnitId {
+    dom: DomId(3),
+    n: 0,
+};
 
 fn counted<L: Ledger, R: Abort>(rt: &R, alloc: Global, blank: Blank) -> Result<(), Fail>
     requires name { blank.name ≡ L.name }
