@@ -1,5 +1,6 @@
 -- A step that only adds to the published entries keeps the rule.
-use Rattle.std.proofs.Common.{◌≡◌, ◌≢◌, ℕ, List, [], ◌∷◌, ◌++◌, fold, set, refl, sym, subst, ap, ◌∙◌, ⊎_elim, append_assoc, append-nil}
+use Rattle.std.proofs.Common.{◌≡◌, ◌≢◌, ℕ, List, [], ◌∷◌, ◌++◌, fold, set, refl, sym, subst, ap, ◌∙◌, ⊎_elim, append_assoc, append-nil, true≢false}
+use Rattle.std.specs.Prelude.{Result, Ok, Err, IsOk, MatchResult}
 use mathlib.Core.List.{IsPrefix}
 use mathlib.Core.Option.{some}
 use lib.ListN.{get_elem?}
@@ -40,3 +41,8 @@ merges seat v other w x views h at apart there =
 pub taken_in : (xs ys : List Entry) → fold (λ (entries : List Entry) (e : Entry). entries ++ e ∷ []) xs ys ≡ xs ++ ys
 taken_in xs [] = sym (append-nil xs)
 taken_in xs (y ∷ ys) = taken_in (xs ++ y ∷ []) ys ∙ append_assoc xs (y ∷ []) ys
+
+-- what holds of an answer that is given
+pub given : {X E : Type 0} {P : X → Type 0} {Q : E → Type 0} (r : Result X E) → IsOk r → MatchResult r P Q → (x : X) × P x
+given (Ok x) ok m = (x, m)
+given (Err e) ok m = absurd (true≢false (sym ok))

@@ -1,4 +1,4 @@
 pub mod Boards
 pub mod Counts
-pub mod Pasts
+pub mod Sums
 pub mod Totals

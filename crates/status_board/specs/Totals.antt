@@ -1,10 +1,29 @@
--- The totals of a list of entries.
-use Rattle.std.specs.Prelude.{ℕ, List, [], length}
-use Rattle.sched_base.specs.Numbers.{moment}
+-- The totals of a list of entries: of each core what a report of these entries says, as far as 64 bits hold it.
+use Rattle.std.specs.Prelude.{ℕ, List, map}
+use Rattle.sched_base.specs.Numbers.{moment, span}
 use Rattle.sched_model.specs.declared.event.Entry.{Entry}
+use Rattle.sched_model.specs.Places.{numbers_from}
+use Rattle.sched_report.specs.declared.line.CoreLine.{CoreLine}
+use Rattle.sched_report.specs.Reports.{core_line}
+use Rattle.sched_report.specs.Stays.{last_moment}
 use Rattle.status_board.specs.declared.totals.Totals.{Totals}
-use Rattle.status_board.specs.Counts.{counted}
+use Rattle.status_board.specs.declared.totals.CoreTotals.{CoreTotals}
+use Rattle.status_board.specs.Counts.{capped, counted}
 
--- the totals of the entries on a board of so many cores
+-- what the report's line of a core says
+abbrev pub of_line : CoreLine → CoreTotals
+of_line line = record { run = span (capped line.run); idle = span line.idle; decides = capped line.decides }
+
+-- the totals of the core r
+abbrev pub core_totals : List Entry → ℕ → CoreTotals
+core_totals entries r = of_line (core_line entries r)
+
+-- the totals of the entries on a board of so many cores: how many entries, the moment of the last one, 0 where there is none, and
+-- what each core did; an entry of another core counts as an entry alone
 abbrev pub totals_of : ℕ → List Entry → Totals
-totals_of cores entries = record { entries = counted entries; moment = moment 0; cores = record { items = [] } }
+totals_of cores entries =
+    record {
+      entries = counted entries;
+      moment = moment (last_moment entries);
+      cores = record { items = map (core_totals entries) (numbers_from 0 cores) };
+    }

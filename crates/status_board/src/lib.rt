@@ -2,7 +2,7 @@
 #![tactic(auto)]
 
 mod opening;
-mod past;
+mod core_sums;
 mod reader;
 mod rule;
 mod sums;

@@ -1,6 +1,6 @@
 //! The rule of a board, and what its steps tell.
 
-use crate::past::Past;
+use sched_report::Past;
 use crate::sums::Sums;
 use atomic_table::{Join, Split};
 use crossbeam_utils::rule::{Outcome, Protocol};

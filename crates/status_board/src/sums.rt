@@ -1,11 +1,15 @@
 //! What the board keeps of the entries that it was told.
 
-use crate::past::Past;
-use crate::totals::Totals;
+ghost use Rattle.std.specs.Prelude.{◌≡◌, ◌≤◌, length, map};
+ghost use Rattle.status_board.specs.Sums.{totals_in};
+
+use crate::core_sums::{CoreSums, count_decision};
+use crate::totals::{CoreTotals, Totals};
 use arrayvec::ArrayVec;
 use left_right::Absorb;
 use sched_base::Moment;
 use sched_model::event::Entry;
+use sched_report::Past;
 use std::alloc::AllocError;
 use std::marker::Model;
 use std::snapshot::Snapshot;
@@ -15,20 +19,32 @@ use std::snapshot::Snapshot;
 pub(crate) struct Sums {
     past: Snapshot<Past>,
     entries: u64,
+    last: Moment,
+    cores: [CoreSums; 64],
 }
 
 impl Model for Sums {
     ghost use Rattle.std.specs.Prelude.{List};
     ghost use Rattle.sched_model.specs.declared.event.Entry.{Entry};
+    ghost use Rattle.status_board.specs.Sums.{AreSums};
 
     ghost Value = { List Entry };
 
-    ghost use Rattle.std.specs.Prelude.{◌≡◌};
-    ghost use Rattle.status_board.specs.Counts.{counted};
-
     ghost view = { λ s. s.past.value };
 
-    ghost invariant = { λ s. s.entries ≡ counted s.past.value };
+    ghost invariant = { λ s. AreSums s.past.value s.entries s.last.0 s.cores };
+}
+
+/// What the first so many cores did up to the last moment.
+fn core_totals(cores: &[CoreSums], last: Moment) -> ArrayVec<CoreTotals, 64>
+    requires { length cores.now ≤ 64 }
+    ensures { result.items ≡ map (totals_in last.0) cores.now }
+{
+    let mut all = ArrayVec::new();
+    for core in cores {
+        all.push(core.totals(last));
+    }
+    all
 }
 
 impl Sums {
@@ -42,6 +58,8 @@ impl Sums {
         Sums {
             past: Past::nothing(),
             entries: 0,
+            last: Moment(0),
+            cores: [CoreSums::NONE; 64],
         }
     }
 
@@ -50,7 +68,9 @@ impl Sums {
         ensures { self.new ≡ self.old ++ e.now ∷ [] }
     {
         Past::push(&mut self.past, e);
+        count_decision(&mut self.cores, e);
         self.entries = self.entries.saturating_add(1);
+        self.last = e.at;
     }
 
     /// The totals of the entries, of so many cores.
@@ -60,8 +80,8 @@ impl Sums {
     {
         Totals {
             entries: self.entries,
-            moment: Moment(0),
-            cores: ArrayVec::new(),
+            moment: self.last,
+            cores: core_totals(&self.cores[..cores as usize], self.last),
         }
     }
 }
