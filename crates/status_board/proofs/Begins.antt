@@ -43,6 +43,6 @@ taken_in xs [] = sym (append-nil xs)
 taken_in xs (y ∷ ys) = taken_in (xs ++ y ∷ []) ys ∙ append_assoc xs (y ∷ []) ys
 
 -- what holds of an answer that is given
-pub given : {X E : Type 0} {P : X → Type 0} {Q : E → Type 0} (r : Result X E) → IsOk r → MatchResult r P Q → (x : X) × P x
-given (Ok x) ok m = (x, m)
-given (Err e) ok m = absurd (true≢false (sym ok))
+pub given : {X E : Type 0} (A B : Type 0) (r : Result X E) → IsOk r → MatchResult r (λ _. A) (λ _. B) → A
+given A B (Ok x) ok m = m
+given A B (Err e) ok m = absurd (true≢false (sym ok))

@@ -1,5 +1,5 @@
 -- What the board keeps of the entries: of each core the tally of a report, as far as 64 bits hold it.
-use Rattle.std.specs.Prelude.{◌≡◌, ℕ, ◌+◌, ◌-◌, ◌^◌, ◌<◌, true, List, Option, Some, None, length, slice_index_or, slice_set}
+use Rattle.std.specs.Prelude.{◌≡◌, ℕ, ◌+◌, ◌-◌, ◌<◌, true, List, Option, Some, None, length, slice_index_or, slice_set}
 use Rattle.sched_base.specs.Numbers.{moment, span, core as core_number}
 use Rattle.sched_base.specs.declared.Moment.{Moment}
 use Rattle.sched_base.specs.declared.UnitId.{UnitId}
@@ -47,6 +47,5 @@ totals_in last s =
 pub record AreSums (entries : List Entry) (count last : ℕ) (cores : List CoreSums) : Type 0 where
   pub count_is : count ≡ counted entries
   pub last_is : last ≡ last_moment entries
-  pub short : last < 2 ^ 64
   pub all : length cores ≡ 64
   pub cores_are : (r : ℕ) → r < 64 → slice_index_or cores r no_sums ≡ kept_of (core_tally entries r)

@@ -1,10 +1,9 @@
 //! What the board keeps of each core, and how an entry changes it.
 
-ghost use Rattle.std.specs.Prelude.{◌≡◌};
-ghost use Rattle.sched_model.specs.Places.{same_unit};
+ghost use Rattle.std.specs.Prelude.{◌≡◌, ℕ, ◌<◌, length, slice_index_or};
 ghost use Rattle.sched_model.specs.Pool.{same_choice};
 ghost use Rattle.sched_report.specs.Stays.{choice_in};
-ghost use Rattle.status_board.specs.Sums.{cores_after};
+ghost use Rattle.status_board.specs.Sums.{cores_after, no_sums};
 
 use crate::totals::CoreTotals;
 use sched_base::{Moment, Span, UnitId};
@@ -35,7 +34,7 @@ fn is_kept(cur: Option<UnitId>, chosen: Option<UnitId>) -> bool
 impl CoreSums {
     ghost use Rattle.std.specs.Prelude.{◌≡◌, true};
     ghost use Rattle.sched_report.specs.Tallies as tallies;
-    ghost use Rattle.status_board.specs.Sums.{no_sums, chosen, sums_after, tally_in, totals_in};
+    ghost use Rattle.status_board.specs.Sums.{chosen, sums_after, tally_in, totals_in};
 
     /// A core that has not decided.
     pub(crate) const NONE: CoreSums = CoreSums {
@@ -90,6 +89,14 @@ impl CoreSums {
             decides: self.decides,
         }
     }
+}
+
+/// No core has decided.
+pub(crate) fn none_decided() -> [CoreSums; 64]
+    ensures cores { length result ≡ 64 }
+    ensures none { (r : ℕ) → r < 64 → slice_index_or result r no_sums ≡ no_sums }
+{
+    [CoreSums::NONE; 64]
 }
 
 /// Counts the entry, where it is a decision of a core that is there.

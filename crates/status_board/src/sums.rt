@@ -3,7 +3,7 @@
 ghost use Rattle.std.specs.Prelude.{◌≡◌, ◌≤◌, length, map};
 ghost use Rattle.status_board.specs.Sums.{totals_in};
 
-use crate::core_sums::{CoreSums, count_decision};
+use crate::core_sums::{CoreSums, count_decision, none_decided};
 use crate::totals::{CoreTotals, Totals};
 use arrayvec::ArrayVec;
 use left_right::Absorb;
@@ -59,7 +59,7 @@ impl Sums {
             past: Past::nothing(),
             entries: 0,
             last: Moment(0),
-            cores: [CoreSums::NONE; 64],
+            cores: none_decided(),
         }
     }
 

@@ -10,5 +10,5 @@ publish_as-author-requires g c next is =
 
 pub returns-clause-shown : goal.returns-clause-shown
 returns-clause-shown g c =
-    (given c.publish_as-author.result.1 (c.publish_as-author.ensures.succeeds tt) c.publish_as-author.ensures.values).1.0
+    (given _ _ c.publish_as-author.result.1 (c.publish_as-author.ensures.succeeds tt) c.publish_as-author.ensures.values).0
     ∙ taken_in c.args.author.desk.shown.value (drop c.args.author.behind c.args.author.log.items)
