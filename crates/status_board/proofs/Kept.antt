@@ -1,5 +1,5 @@
 -- What the board keeps is that of the entries: at first, and after one entry more. The totals are read from it.
-use Rattle.std.proofs.Common.{◌≡◌, ◌≢◌, ℕ, zero, suc, ◌+◌, ◌-◌, ◌≤◌, ◌<◌, Bool, true, false, cond, List, [], ◌∷◌, ◌++◌, refl, sym, ap, ◌∙◌, subst, arith, length, map, get_or, set, take, inl, inr, length-append, zero-add}
+use Rattle.std.proofs.Common.{◌≡◌, ℕ, zero, suc, ◌+◌, ◌-◌, ◌≤◌, ◌<◌, true, cond, List, [], ◌∷◌, ◌++◌, refl, sym, ap, ◌∙◌, subst, arith, length, map, get_or, set, take, inl, inr, length-append, zero-add}
 use Rattle.std.specs.Prelude.{Option, Some, None, fold}
 use Rattle.arrayvec.specs.ArrayVec.{ArrayVec}
 use Rattle.std.proofs.lemmas.Bool.{cases_eq, eq-eqb, ne_eqb}
@@ -17,7 +17,7 @@ use Rattle.sched_report.proofs.Tells.{core-told}
 use Rattle.status_board.specs.declared.core_sums.CoreSums.{CoreSums}
 use Rattle.status_board.specs.declared.totals.CoreTotals.{CoreTotals}
 use Rattle.status_board.specs.declared.totals.Totals.{Totals}
-use Rattle.status_board.specs.Counts.{capped, counted}
+use Rattle.status_board.specs.Counts.{capped}
 use Rattle.status_board.specs.Sums.{AreSums, kept_of, sums_after, no_sums, cores_after, totals_in}
 use Rattle.status_board.specs.Totals.{of_line, core_totals, totals_of}
 

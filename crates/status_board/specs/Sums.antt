@@ -1,6 +1,6 @@
 -- What the board keeps of the entries: of each core the tally of a report, as far as 64 bits hold it.
 use Rattle.std.specs.Prelude.{◌≡◌, ℕ, ◌+◌, ◌-◌, ◌<◌, true, List, Option, Some, None, length, slice_index_or, slice_set}
-use Rattle.sched_base.specs.Numbers.{moment, span, core as core_number}
+use Rattle.sched_base.specs.Numbers.{span, core as core_number}
 use Rattle.sched_base.specs.declared.Moment.{Moment}
 use Rattle.sched_base.specs.declared.UnitId.{UnitId}
 use Rattle.sched_model.specs.declared.event.Entry.{Entry}

@@ -1,8 +1,8 @@
 //! A status board: a writer publishes the entries of a run, and readers that never wait see the totals of what was published.
 #![tactic(auto)]
 
-mod opening;
 mod core_sums;
+mod opening;
 mod reader;
 mod rule;
 mod sums;

@@ -1,12 +1,12 @@
 //! The rule of a board, and what its steps tell.
 
-use sched_report::Past;
 use crate::sums::Sums;
 use atomic_table::{Join, Split};
 use crossbeam_utils::rule::{Outcome, Protocol};
 use left_right::reader::Reader;
 use left_right::writer::Writer;
 use sched_model::event::Entry;
+use sched_report::Past;
 
 /// What each thread has seen begins the published entries.
 pub(crate) struct Shown;

@@ -1,4 +1,4 @@
-use Rattle.std.proofs.Common.{◌≡◌, ◌++◌, ◌-◌, ◌+◌, ◌≤◌, length, replicate}
+use Rattle.std.proofs.Common.{◌≡◌, ◌++◌, ◌+◌, length, replicate}
 use Rattle.std.specs.Prelude.{vec_capacity}
 use Rattle.status_board.specs.Boards.{nothing_seen}
 use Rattle.status_board.proofs.opening.seat_readers.Given as goal

@@ -1,4 +1,4 @@
-use Rattle.std.proofs.Common.{◌≡◌, ◌∙◌, drop, sym}
+use Rattle.std.proofs.Common.{◌∙◌, drop, sym}
 use Rattle.status_board.proofs.Begins.{given, taken_in, turns}
 use Rattle.status_board.proofs.writer.published.Goals as goal
 

@@ -1,4 +1,4 @@
-use Rattle.std.proofs.Common.{◌∙◌, ap, sym}
+use Rattle.std.proofs.Common.{◌∙◌, ap}
 use Rattle.status_board.specs.Totals.{totals_of}
 use Rattle.status_board.proofs.Kept.{shown}
 use Rattle.status_board.proofs.sums.Sums.totals.Goals as goal
