@@ -1,8 +1,8 @@
-mod Folds
+pub mod Folds
 mod Sums
 mod Bounds
 mod InOrder
-mod Grows
+pub mod Grows
 mod Steps
 mod Keeps
-mod Tells
+pub mod Tells

@@ -66,7 +66,7 @@ module _ (config : Config) (es : List Entry) (u : UnitId) where
     late = (ap (λ (t : UnitTally). t.late) tally ∙ sym late-told) i;
   }
 
-core-told : (es : List Entry) (r : ℕ) → core_line_by (core_tally es r) (last_moment es) r ≡ core_line es r
+pub core-told : (es : List Entry) (r : ℕ) → core_line_by (core_tally es r) (last_moment es) r ≡ core_line es r
 core-told es r =
     let time : (core_tally es r).run + open_time (λ w. true) (last_moment es) (core_tally es r) ≡ sum_by span (stays r es) =
     omega (arith, stays-time (λ w. true) es r, run-is_ended undecided (choices r es)) in

@@ -1,0 +1,4 @@
+pub mod Boards
+pub mod Counts
+pub mod Sums
+pub mod Totals
