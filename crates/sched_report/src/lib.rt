@@ -16,10 +16,9 @@ mod past;
 mod put;
 mod tally;
 
-pub use past::Past;
-
 use figures::{core_line, unit_line};
 use names::push_names;
+pub use past::Past;
 use put::{put_core_line, put_last_line, put_unit_line};
 use sched_base::{Moment, NoMemory, ResId, UnitId};
 use sched_model::config::Config;

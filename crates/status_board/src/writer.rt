@@ -1,6 +1,6 @@
 //! The writer of a board.
 
-ghost use Rattle.std.specs.Prelude.{◌≡◌, ◌≤◌, ◌++◌, ◌∷◌, [], drop, IfOk, IfSome, MatchResult};
+ghost use Rattle.std.specs.Prelude.{◌≡◌, ◌≤◌, ◌++◌, ◌∷◌, [], drop, IfSome, OnOk, OnErr};
 ghost use Rattle.left_right.specs.Sides.{view};
 
 use crate::reader::{BoardReader, Told};
@@ -64,10 +64,10 @@ impl BoardWriter {
         BoardWriter { author, cores }
     }
 
-    /// Adds an entry to those that wait to be published. Nothing is changed where memory is wanted.
+    /// Adds an entry to those that wait to be published. Its one error is want of memory, and then nothing is changed.
     pub fn add(&mut self, _alloc: Global, e: &Entry) -> Result<(), NoMemory>
-        ensures added { IfOk result (λ _. self.new ≡ record self.old { pending = self.old.pending ++ e.now ∷ [] }) }
-        ensures unchanged { MatchResult result (λ _. Unit {0}) (λ _. self.new ≡ self.old) }
+        ensures added { OnOk result (self.new ≡ record self.old { pending = self.old.pending ++ e.now ∷ [] }) }
+        ensures unchanged { OnErr result (self.new ≡ self.old) }
     {
         self.author.append(*e).map_err(|_| NoMemory)
     }
@@ -79,7 +79,8 @@ impl BoardWriter {
         replace_with(&mut self.author, rt, published)
     }
 
-    /// Tells what is published, for one reader to learn.
+    /// Tells what is published, for one reader of this board to learn. A board has two places for each of its readers, and a `Told`
+    /// that waits takes one: where none is free, the reader that learns it shows these totals until it learns again.
     pub fn tell(&mut self) -> Told
         ensures told { result ≡ record { cores = self.old.cores; list = self.old.published } }
         ensures kept { self.new ≡ self.old }
