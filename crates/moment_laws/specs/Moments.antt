@@ -78,7 +78,8 @@ most_in_moments m count moments = 4 * (m.config.granularity + 1) * (count + mome
 abbrev pub most_in_moment : Machine → ℕ → ℕ
 most_in_moment m count = 4 * (m.config.granularity + 1) * (count + cores m + 1) * (cores m * cores m * (2 * units m + 5) + 1)
 
--- twice a stretch of the cores' turns, with the entry that follows it, for each cause and each core, and once more
+-- more than the most entries of a moment with so many causes: two stretches of the cores' turns for each cause and each core, and two more, with an
+-- entry after each
 abbrev pub most_turns_in_moment : Machine → ℕ → ℕ
 most_turns_in_moment m count = 2 * (count + cores m + 1) * (most_turns m + 1)
 
