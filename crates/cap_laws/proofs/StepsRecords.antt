@@ -17,7 +17,7 @@ use Rattle.sched_model.specs.Places.{at_place, change_at, change_item}
 use Rattle.sched_model.specs.Eligible.{Decision, has_budget}
 use Rattle.sched_model.specs.Credit2.{max_weight, burn_unit, burn_units, burn_all, change_domain, give_back, burn_cur, choice, domain_has_budget, reset, resets_for, take_budget, best_other, slice_of, set_running, switch_off, decide, choose2}
 use Rattle.sched_laws.proofs.EachPlace.{at_place-change_each}
-use Rattle.sched_laws.proofs.Choices.{IfUnit}
+use Rattle.sched_laws.specs.Known.{IfUnit}
 use Rattle.sched_laws.proofs.Sound.{change_at-twice}
 use Rattle.sched_ranges.proofs.Decided.{choice_pays}
 use Rattle.term_laws.proofs.RtdsSteps.{at_place-change_at, at_place-change_at_other}

@@ -23,16 +23,19 @@ use Rattle.sched_model.specs.Actions.{home_of_core, home_of_domain}
 use Rattle.sched_model.specs.Runs.{Reached}
 use Rattle.sched_laws.specs.Each.{EachPlace}
 use Rattle.sched_laws.proofs.Bools.{both, is_same}
-use Rattle.sched_laws.proofs.Choices.{IfUnit, same_unit_same}
-use Rattle.sched_laws.proofs.Counts.{total_two, one_at}
+use Rattle.sched_laws.proofs.Choices.{same_unit_same}
+use Rattle.sched_laws.specs.Known.{IfUnit}
+use Rattle.sched_laws.proofs.Counts.{total_two}
+use Rattle.sched_laws.specs.Counts.{one_at}
 use Rattle.sched_laws.proofs.EachPlace.{found_at, none_found, by_option, place_below, is_empty}
 use Rattle.sched_laws.proofs.Kept.{IsApart}
 use Rattle.sched_laws.proofs.Lists.{test_at-some, some-test_at, is_some_at}
-use Rattle.sched_laws.proofs.OnePlace.{core_places, one_same}
-use Rattle.sched_laws.proofs.OwnUnits.{UnitsAreOwn, IsThere}
+use Rattle.sched_laws.proofs.OnePlace.{one_same}
+use Rattle.sched_laws.specs.Known.{core_places}
+use Rattle.sched_laws.specs.Known.{UnitsAreOwn, IsThere}
 use Rattle.sched_laws.proofs.SiblingsLaw.{some_processor}
 use Rattle.sched_ranges.specs.Ranges.{IsUnitOf}
-use Rattle.sched_ranges.proofs.Budget.{BudgetFits, Nobody}
+use Rattle.sched_ranges.specs.Budgets.{BudgetFits, Nobody}
 use Rattle.sched_ranges.proofs.BudgetWalk.{CountIs}
 use Rattle.sched_ranges.proofs.Law.{StateFits, fits_in_runs}
 use Rattle.sched_records.specs.Records.{HasRecords}

@@ -55,7 +55,7 @@ impl ToolState {
         ensures { option_map named_domain_spec result ≡ seen_size self.now which.now }
     {
         let d = self.domain_of(which)?;
-        let i = self.home_of_domain(d)?;
+        let i = self.domain_home(d)?;
         self.domain_in(d, i)
     }
 }

@@ -3,9 +3,9 @@
 use crate::copies::{same_commands, same_stalls};
 use crate::opening::{opened_entries, opened_free, opened_names, opened_outlines};
 use crate::outline::{DomainEntry, FreeCores, Outlines, PoolNames, Way};
-use crate::pools::{domain_home, domain_named, outline_at, place_named};
+use crate::pools::{core_home, domain_home, domain_named, outline_at, place_named};
 use crate::reading::{read_free, read_names, read_pools, under_way_of};
-use sched_base::{DomId, NoMemory, PoolId};
+use sched_base::{DomId, NoMemory, PoolId, ResId};
 use sched_model::command::{Command, Which};
 use sched_model::config::Config;
 use sched_model::facts::Subject;
@@ -57,7 +57,9 @@ impl Model for ToolState {
 }
 
 impl ToolState {
-    ghost use Rattle.std.specs.Prelude.{◌≡◌, IfOk};
+    ghost use Rattle.std.specs.Prelude.{◌≡◌, IfOk, option_map};
+    ghost use Rattle.sched_base.specs.Numbers.{pool as pool_number};
+    ghost use Rattle.sched_model.specs.Actions.{home_of_core as home_of_core_in, home_of_domain as home_of_domain_in};
     ghost use Rattle.sched_model.specs.declared.machine.Machine.{Machine};
     ghost use Rattle.sched_model.specs.declared.state.State.{State as StateRecord};
     ghost use Rattle.journal_core.specs.Parts.{tool_of as part_of_tool};
@@ -67,7 +69,7 @@ impl ToolState {
     ghost use Rattle.cpupool.specs.OpenedTool.{opened_tool};
     ghost use Rattle.sched_model.specs.Checked.{IsChecked, IsCheckedConfig, IsCheckedWork};
     ghost use Rattle.sched_model.specs.Opening.{opening};
-    ghost use Rattle.cpupool.specs.Judging.{seen_pool, seen_domain, seen_subject, seen_pool_subject, seen_domain_subject, home_of_domain as home_of_domain_spec};
+    ghost use Rattle.cpupool.specs.Judging.{seen_pool, seen_domain, seen_subject, seen_pool_subject, seen_domain_subject, home_of_core as home_of_core_spec, home_of_domain as home_of_domain_spec};
 
     /// What the tool keeps of the machine at its opening. All memory is taken here.
     pub fn open(alloc: Global, config: &Config, work: &Work) -> Result<ToolState, NoMemory>
@@ -149,8 +151,32 @@ impl ToolState {
         }
     }
 
-    /// The pool that has the domain.
-    pub(crate) fn home_of_domain(&self, d: u8) -> Option<u8>
+    /// The pool that has the core, where one has it.
+    #[tactic(auto, using(crate::proofs::SubjectLemmas::core_home_told))]
+    pub fn home_of_core(&self, r: ResId) -> Option<PoolId>
+        ensures part { result ≡ option_map pool_number (home_of_core_spec self.now.part r.0) }
+        ensures state { (m : Machine) → (s : StateRecord) → tool_of m s ≡ self.now → result ≡ option_map pool_number (home_of_core_in s r.0) }
+    {
+        match core_home(0, self.pools.as_slice(), r.0 as usize) {
+            None => None,
+            Some(i) => Some(PoolId(i)),
+        }
+    }
+
+    /// The pool that has the domain, where one has it.
+    #[tactic(auto, using(crate::proofs::SubjectLemmas::domain_home_told))]
+    pub fn home_of_domain(&self, d: DomId) -> Option<PoolId>
+        ensures part { result ≡ option_map pool_number (home_of_domain_spec self.now.part d.0) }
+        ensures state { (m : Machine) → (s : StateRecord) → tool_of m s ≡ self.now → result ≡ option_map pool_number (home_of_domain_in s d.0) }
+    {
+        match self.domain_home(d.0) {
+            None => None,
+            Some(i) => Some(PoolId(i)),
+        }
+    }
+
+    /// The number of the pool that has the domain.
+    pub(crate) fn domain_home(&self, d: u8) -> Option<u8>
         ensures { result ≡ home_of_domain_spec self.now.part d }
     {
         domain_home(0, self.pools.as_slice(), d as usize)
@@ -179,7 +205,7 @@ impl ToolState {
         match self.domain_of(which) {
             None => otherwise,
             Some(d) => Subject {
-                pool: match self.home_of_domain(d) {
+                pool: match self.domain_home(d) {
                     None => None,
                     Some(i) => Some(PoolId(i)),
                 },

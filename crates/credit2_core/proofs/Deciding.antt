@@ -16,7 +16,8 @@ use Rattle.sched_model.specs.Credit2.{burn_all, burn_cur, reset, switch_off, cho
 use Rattle.sched_model.specs.Policy.{decision_by}
 use Rattle.plain_credit2.specs.Waiting.{scheduler_of}
 use Rattle.sched_laws.proofs.EachPlace.{length_change_each}
-use Rattle.sched_laws.proofs.Choices.{IfUnit, decision_has, at_unit}
+use Rattle.sched_laws.proofs.Choices.{decision_has, at_unit}
+use Rattle.sched_laws.specs.Known.{IfUnit}
 use Rattle.sched_ranges.proofs.Decided.{choice_pays, unit_rec}
 use Rattle.sched_ops.specs.Conditions.{IsOwnOf}
 use Rattle.runq.specs.Queue.{Queue}

@@ -12,7 +12,8 @@ use Rattle.sched_model.specs.Credit2.{max_weight, burn_unit, burn_units, change_
 use Rattle.sched_laws.proofs.EachPlace.{by_option, by_cond}
 use Rattle.sched_laws.proofs.Sound.{change_at-twice}
 use Rattle.sched_ranges.proofs.Budget.{get_map}
-use Rattle.sched_ranges.proofs.Decided.{unit_rec, AllRunOnly}
+use Rattle.sched_ranges.proofs.Decided.{unit_rec}
+use Rattle.sched_ranges.specs.Budgets.{AllRunOnly}
 use Rattle.plain_credit2.specs.Bounds.{own_charged, credit_at}
 use Rattle.plain_credit2.proofs.Items.{at_place-change_at}
 use Rattle.plain_credit2.proofs.Steps.{burn_cur-own}

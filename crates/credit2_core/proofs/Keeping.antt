@@ -25,9 +25,10 @@ use Rattle.sched_laws.proofs.Bools.{clash, not_true, or_left, or_right, is_same,
 use Rattle.sched_laws.proofs.Choices.{at_unit}
 use Rattle.sched_laws.proofs.EachPlace.{at_place-put_at_other, at_place-clear_at_other, at_place-clear_at, EachAt-put_at, EachAt-clear_at, EachPlace-empty, by_option}
 use Rattle.sched_laws.proofs.Lists.{length_change_item}
-use Rattle.sched_ranges.proofs.Budget.{BudgetFits, Nobody}
-use Rattle.sched_ranges.proofs.Credit2.{Credit2Fits, Credit2DomainFits}
-use Rattle.sched_ranges.proofs.Decided.{AllRunOnly, RunsOnly, unit_rec, r_refilled, r_set_domain}
+use Rattle.sched_ranges.specs.Budgets.{BudgetFits, Nobody}
+use Rattle.sched_ranges.specs.Fits.{Credit2Fits, Credit2DomainFits}
+use Rattle.sched_ranges.proofs.Decided.{unit_rec, r_refilled, r_set_domain}
+use Rattle.sched_ranges.specs.Budgets.{AllRunOnly, RunsOnly}
 use Rattle.sched_ops.specs.Conditions.{is_on, is_vacant, IsAway, HasNoneBusy, Keeps, IsWeight, IsCap}
 use Rattle.sched_ops.specs.Seen.{Seen, with_scheduler, restarted}
 use Rattle.sched_model.specs.declared.config.PoolParams.TheVariants as pool_params

@@ -13,7 +13,8 @@ use Rattle.sched_model.specs.Places.{at_place, has_unit, without_unit, same_unit
 use Rattle.sched_model.specs.Credit2.{burn_cur, reset, take_budget, change_domain, set_running, switch_off, refilled, set_domain}
 use Rattle.sched_laws.proofs.Lists.{AllByRecursion-filter, AllByRecursion-push, AllByRecursion-map}
 use Rattle.sched_laws.proofs.Choices.{same_unit_same}
-use Rattle.sched_ranges.proofs.Decided.{AllRunOnly, IsCur, r_burn_cur, r_reset, r_take, r_refilled, r_set_domain, r_switch_off, r_set_running, unit_rec}
+use Rattle.sched_ranges.proofs.Decided.{IsCur, r_burn_cur, r_reset, r_take, r_refilled, r_set_domain, r_switch_off, r_set_running, unit_rec}
+use Rattle.sched_ranges.specs.Budgets.{AllRunOnly}
 use Rattle.sched_ops.specs.Conditions.{IsApart}
 use Rattle.arrival_queue.specs.Queues as queues
 use Rattle.arrival_queue.specs.Queues.{Queued, queued, placed, without, closed_up, rank_in}

@@ -12,7 +12,8 @@ use Rattle.sched_model.specs.Places.{at_place, has_unit}
 use Rattle.sched_laws.proofs.Bools.{clash}
 use Rattle.sched_laws.proofs.Choices.{at_unit}
 use Rattle.sched_laws.proofs.Counts.{same_unit_refl}
-use Rattle.sched_ranges.proofs.Decided.{unit_rec, AllRunOnly}
+use Rattle.sched_ranges.proofs.Decided.{unit_rec}
+use Rattle.sched_ranges.specs.Budgets.{AllRunOnly}
 use Rattle.credit2_core.specs.Places.{set_counts, unit_counts, count_at, has_joined}
 use Rattle.credit2_core.specs.Held.{InRange}
 use Rattle.credit2_core.proofs.Rooms.{less_true}

@@ -16,10 +16,12 @@ use Rattle.sched_model.specs.Checked.{IsWithin}
 use Rattle.sched_model.specs.Credit2.{burn_cur, switch_off, set_domain, refilled, fresh_domain, domain_has_budget, reset}
 use Rattle.sched_laws.proofs.EachPlace.{EachPlace-put_at, EachPlace-clear_at, EachAt-put_at, EachAt-clear_at, length_set, length_change_each}
 use Rattle.sched_ranges.specs.Ranges.{Credit2UnitInRange, Credit2InRange}
-use Rattle.sched_ranges.proofs.Credit2.{Credit2DomainFits, Credit2Fits, UnitFits, c_burn_cur, c_reset, c_take, c_switch_off, c_set_running, c_fresh, c_set_domain, c_later}
-use Rattle.sched_ranges.proofs.Budget.{HeldFits, BudgetFits, Nobody, helds, lasts}
+use Rattle.sched_ranges.proofs.Credit2.{c_burn_cur, c_reset, c_take, c_switch_off, c_set_running, c_fresh, c_set_domain, c_later}
+use Rattle.sched_ranges.specs.Fits.{Credit2DomainFits, Credit2Fits, UnitFits}
+use Rattle.sched_ranges.specs.Budgets.{HeldFits, BudgetFits, Nobody, helds, lasts}
 use Rattle.sched_ranges.proofs.Budgets.{b_later, b_fresh}
-use Rattle.sched_ranges.proofs.Decided.{Budgets, None2, s_refilled, s_set_domain, decides_unit, decides_idle, unit_rec}
+use Rattle.sched_ranges.proofs.Decided.{s_refilled, s_set_domain, decides_unit, decides_idle, unit_rec}
+use Rattle.sched_ranges.specs.Budgets.{Budgets, None2}
 use Rattle.sched_ranges.proofs.Records.{refill_fits}
 use Rattle.sched_ranges.proofs.Done.{helds_most, helds_least, lasts_most, times_few, units_in_range}
 use Rattle.sched_model.specs.State.{has_come}

@@ -11,7 +11,8 @@ use Rattle.sched_base.specs.declared.Cores.{Cores}
 use Rattle.sched_base.specs.declared.UnitId.{UnitId}
 use Rattle.sched_model.specs.Places.{at_place, numbers_from, has_unit, same_unit, put_at, clear_at}
 use Rattle.sched_laws.proofs.Choices.{same_unit_same}
-use Rattle.sched_laws.proofs.Counts.{one, times, same_unit_refl, times_none}
+use Rattle.sched_laws.proofs.Counts.{same_unit_refl, times_none}
+use Rattle.sched_laws.specs.Counts.{one, times}
 use Rattle.sched_ranges.proofs.Queue.{no_longer}
 use Rattle.sched_ops.specs.Conditions.{IsApart}
 use Rattle.arrival_queue.proofs.Ranks.{not_less_test}

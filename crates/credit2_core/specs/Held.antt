@@ -9,8 +9,8 @@ use Rattle.sched_model.specs.declared.state.Credit2Records.{Credit2Records}
 use Rattle.sched_model.specs.declared.state.Scheduler.{Scheduler}
 use Rattle.sched_model.specs.Places.{has_unit}
 use Rattle.sched_model.specs.Eligible.{cores_of}
-use Rattle.sched_ranges.proofs.Credit2.{Credit2Fits}
-use Rattle.sched_ranges.proofs.Decided.{Budgets, None2, AllRunOnly}
+use Rattle.sched_ranges.specs.Fits.{Credit2Fits}
+use Rattle.sched_ranges.specs.Budgets.{Budgets, None2, AllRunOnly}
 use Rattle.plain_credit2.specs.Waiting.{scheduler_of}
 use Rattle.arrival_queue.specs.Queues.{Queued}
 use Rattle.runq.specs.Queue.{Queue}

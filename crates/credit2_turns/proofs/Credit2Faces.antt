@@ -10,7 +10,8 @@ use Rattle.sched_model.specs.Places.{at_place, change_at, change_item, numbered,
 use Rattle.sched_model.specs.Credit2.{credit_of, greatest}
 use Rattle.sched_laws.proofs.Bools.{one_of, or_more}
 use Rattle.sched_laws.proofs.Choices.{same_unit_same}
-use Rattle.sched_laws.proofs.Counts.{total, same_unit_refl}
+use Rattle.sched_laws.proofs.Counts.{same_unit_refl}
+use Rattle.sched_laws.specs.Counts.{total}
 use Rattle.turn_laws.specs.Turns.{how_many, one, ahead}
 use Rattle.turn_laws.proofs.Sums.{count_no_more, count_less, total_no_more, total_less}
 use Rattle.credit2_turns.proofs.Credit2Numbers.{lt_irrefl, lt_least, lt_trans}

@@ -9,7 +9,7 @@ use Rattle.sched_model.specs.declared.state.Credit2Unit.{Credit2Unit}
 use Rattle.sched_model.specs.declared.state.Pool.{Pool}
 use Rattle.sched_model.specs.declared.state.Resource.{Resource}
 use Rattle.sched_model.specs.Places.{at_place, has_unit}
-use Rattle.sched_laws.proofs.Counts.{total}
+use Rattle.sched_laws.specs.Counts.{total}
 use Rattle.turn_laws.specs.Stretches.{units}
 use Rattle.turn_laws.specs.Turns.{how_many}
 use Rattle.turn_laws.specs.GoodDecisions.{decision}

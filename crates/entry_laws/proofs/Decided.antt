@@ -31,7 +31,8 @@ use Rattle.sched_model.specs.Checked.{IsChecked, most_span}
 use Rattle.sched_laws.proofs.EachPlace.{by_option, by_cond, place_below, read_change_at}
 use Rattle.sched_laws.proofs.Opened.{each_get}
 use Rattle.sched_ranges.specs.Ranges.{Credit2UnitInRange, Credit2InRange, RecordsInRange}
-use Rattle.sched_ranges.proofs.Credit2.{Credit2Fits, UnitFits, c_burn_cur}
+use Rattle.sched_ranges.proofs.Credit2.{c_burn_cur}
+use Rattle.sched_ranges.specs.Fits.{Credit2Fits, UnitFits}
 use Rattle.sched_ranges.proofs.Records.{RecordsFit}
 use Rattle.sched_print.specs.Ranges.{IsSigned}
 

@@ -32,9 +32,10 @@ use Rattle.sched_model.specs.Checked.{IsChecked, most_span}
 use Rattle.sched_laws.proofs.Bools.{and_left, and_right, one_of}
 use Rattle.sched_laws.proofs.EachPlace.{by_option, by_cond, found_at}
 use Rattle.sched_laws.proofs.Lists.{some-test_at}
-use Rattle.sched_laws.proofs.Choices.{IfUnit, at_unit, is_unit_same, decision_has}
+use Rattle.sched_laws.proofs.Choices.{at_unit, is_unit_same, decision_has}
+use Rattle.sched_laws.specs.Known.{IfUnit}
 use Rattle.sched_ranges.specs.Ranges.{IsUnitOf, PoolInRange}
-use Rattle.sched_ranges.proofs.Rtds.{RtdsFits}
+use Rattle.sched_ranges.specs.Fits.{RtdsFits}
 use Rattle.sched_ranges.proofs.Records.{DecisionFits, decision_fits, replenish_fits}
 use Rattle.sched_ranges.proofs.Walk.{CoreFits, PoolFits}
 use Rattle.sched_print.specs.Ranges.{IsMoment, IsPool, IsUnit, IsVcpu, IsPrintableEvent}

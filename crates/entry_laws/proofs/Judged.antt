@@ -43,7 +43,8 @@ use Rattle.sched_model.specs.Commands.{in_range, is_kind, name_fault, pool_named
 use Rattle.sched_laws.proofs.EachPlace.{by_option, by_cond, found_at, place_below}
 use Rattle.sched_laws.proofs.Opened.{each_get}
 use Rattle.sched_ranges.specs.Ranges.{RecordsInRange}
-use Rattle.sched_ranges.proofs.Rtds.{RtdsFits, fit_unit}
+use Rattle.sched_ranges.proofs.Rtds.{fit_unit}
+use Rattle.sched_ranges.specs.Fits.{RtdsFits}
 use Rattle.sched_ranges.proofs.Records.{RecordsFit}
 use Rattle.sched_print.specs.Ranges.{IsPrintableReply, IsPrintableRefusal}
 use Rattle.entry_laws.proofs.Numbers.{Known, numbered_few, times_few, cores_few, domain_low, pool_low, home_low}

@@ -19,7 +19,7 @@ use Rattle.sched_model.specs.Places.{at_place, change_at, change_each, change_it
 use Rattle.sched_model.specs.State.{has_come}
 use Rattle.sched_model.specs.Pool.{change_core, change_processor, change_vcpu, change_cores_of, does, started_on, settled, reconsidered, home_cores, is_of_domain, stopped}
 use Rattle.sched_laws.proofs.Bools.{and_left, and_right, both, or_more, clash}
-use Rattle.sched_laws.proofs.Counts.{total}
+use Rattle.sched_laws.specs.Counts.{total}
 use Rattle.sched_laws.proofs.EachPlace.{by_cond}
 use Rattle.turn_laws.specs.Turns.{one, how_many}
 use Rattle.turn_laws.specs.Stretches.{units}

@@ -35,11 +35,13 @@ use Rattle.sched_model.specs.Policy.{decision_of, rtds_record}
 use Rattle.sched_model.specs.Pool as pools
 use Rattle.sched_model.specs.Pool.{enabled_in, after_in, settled, change_core, change_processor, change_vcpu, does, is_held, first_up, vcpu_of, guest_of, processor_of, done_at, ask_of, decided, same_choice}
 use Rattle.sched_laws.proofs.Bools.{and_left, and_right, both, clash}
-use Rattle.sched_laws.proofs.Counts.{total, total-change_at, total-put_at}
+use Rattle.sched_laws.proofs.Counts.{total-change_at, total-put_at}
+use Rattle.sched_laws.specs.Counts.{total}
 use Rattle.sched_laws.proofs.EachPlace.{by_cond, by_option, by_test}
 use Rattle.sched_laws.proofs.Lists.{some-test_at}
 use Rattle.sched_laws.proofs.Opened.{each_get}
-use Rattle.sched_ranges.proofs.Rtds.{RtdsFits, fit_unit}
+use Rattle.sched_ranges.proofs.Rtds.{fit_unit}
+use Rattle.sched_ranges.specs.Fits.{RtdsFits}
 use Rattle.sched_ranges.proofs.Records.{RecordsFit, replenish_fits}
 use Rattle.sched_ranges.proofs.Vcpus.{VcpuFits}
 use Rattle.sched_ranges.proofs.Walk.{DomFits, PoolFits}

@@ -36,7 +36,8 @@ use Rattle.sched_model.specs.Commands.{carried_out, change_home, set_rtds, set_r
 use Rattle.sched_model.specs.Machine.{after, after_command, after_moved, after_dom_moved, after_at_home, enabled_at_home, verdict, settled_at, stall_end_of, left_by, joined_by, is_null}
 use Rattle.sched_laws.specs.Each.{EachPlace}
 use Rattle.sched_laws.proofs.Bools.{and_left, and_right, both, clash}
-use Rattle.sched_laws.proofs.Counts.{total, total-change_at, total-clear_at}
+use Rattle.sched_laws.proofs.Counts.{total-change_at, total-clear_at}
+use Rattle.sched_laws.specs.Counts.{total}
 use Rattle.sched_laws.proofs.EachPlace.{by_cond, by_option}
 use Rattle.sched_laws.proofs.Lists.{some-test_at}
 use Rattle.sched_ranges.proofs.Walk.{PoolFits}

@@ -23,7 +23,7 @@ use Rattle.sched_model.specs.Pool.{unit_count}
 use Rattle.sched_model.specs.Runs.{IsRun, begun}
 use Rattle.sched_laws.specs.StateLaws.{state_after}
 use Rattle.sched_laws.proofs.Bools.{either}
-use Rattle.sched_laws.proofs.Counts.{total}
+use Rattle.sched_laws.specs.Counts.{total}
 use Rattle.sched_laws.proofs.Kept.{IsApart}
 use Rattle.sched_laws.proofs.Lists.{some_is, test_at-some}
 use Rattle.sched_laws.proofs.Opened.{length_map_numbers}

@@ -26,7 +26,7 @@ use Rattle.sched_model.specs.NullScheduler as null
 use Rattle.sched_model.specs.Policy as policy
 use Rattle.sched_model.specs.Policy.{decision_of}
 use Rattle.sched_laws.proofs.Bools.{and_right}
-use Rattle.sched_laws.proofs.Counts.{total}
+use Rattle.sched_laws.specs.Counts.{total}
 use Rattle.sched_laws.proofs.EachPlace.{by_cond, by_option}
 use Rattle.turn_laws.specs.Turns.{is_funded, ahead}
 use Rattle.turn_laws.proofs.Waiting.{has_filter}

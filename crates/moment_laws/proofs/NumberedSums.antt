@@ -3,7 +3,8 @@ use Rattle.std.proofs.Common.{◌≡◌, ◌≤◌, ◌<◌, ◌+◌, ℕ, zero,
 use Rattle.std.specs.Prelude.{Option, Some, None, is_some, slice_get}
 use Rattle.std.proofs.Math.Decide.{dec_le}
 use Rattle.sched_model.specs.Places.{at_place}
-use Rattle.sched_laws.proofs.Counts.{total, total_none}
+use Rattle.sched_laws.proofs.Counts.{total_none}
+use Rattle.sched_laws.specs.Counts.{total}
 use Rattle.turn_laws.specs.Turns.{total_over}
 
 -- what f makes of what stands at a place, or 0

@@ -23,7 +23,7 @@ use Rattle.sched_model.specs.State.{is_awake, is_runnable, is_up}
 use Rattle.sched_laws.proofs.Choices.{is_unit_same}
 use Rattle.sched_laws.proofs.EachPlace.{by_option, by_test, by_cond, found_at}
 use Rattle.sched_laws.proofs.Bools.{and_left, and_right}
-use Rattle.sched_laws.proofs.Known.{IsKnownPool}
+use Rattle.sched_laws.specs.Known.{IsKnownPool}
 use Rattle.sched_laws.proofs.Lists.{some-test_at}
 use Rattle.plain_pool.specs.Fits.{vcpu_among}
 use Rattle.core_state.specs.Seen.{processor_among}

@@ -13,10 +13,12 @@ use Rattle.sched_model.specs.Pool.{change_vcpu, guest_of, is_off, saving_among, 
 use Rattle.sched_model.specs.State.{is_runnable}
 use Rattle.sched_laws.specs.Each.{EachPlace}
 use Rattle.sched_laws.proofs.Bools.{or_left}
-use Rattle.sched_laws.proofs.Counts.{total_at, total_two, times_has, times_some, one_at, same_unit_refl}
+use Rattle.sched_laws.proofs.Counts.{total_at, total_two, times_has, times_some, same_unit_refl}
+use Rattle.sched_laws.specs.Counts.{one_at}
 use Rattle.sched_laws.proofs.Lists.{at_numbered, length_change_item, none_passes}
-use Rattle.sched_laws.proofs.OnePlace.{OnePlace, core_places, off_is, one_same}
-use Rattle.sched_laws.proofs.Known.{IsKnownPool}
+use Rattle.sched_laws.proofs.OnePlace.{off_is, one_same}
+use Rattle.sched_laws.specs.Known.{OnePlace, core_places}
+use Rattle.sched_laws.specs.Known.{IsKnownPool}
 use Rattle.sched_laws.proofs.Sound.{guest_of_is}
 use Rattle.sched_ops.specs.Conditions.{IsAway, is_on}
 use Rattle.pool_kept.proofs.Alike.{Alike, alike_change_at, alike_members, alike_refl, core_face, found_core}

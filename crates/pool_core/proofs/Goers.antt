@@ -17,10 +17,13 @@ use Rattle.sched_model.specs.Places.{at_place, has_unit, numbers_from, test_at}
 use Rattle.sched_model.specs.Pool.{change_domain, enabled_in, is_of_domain, is_off, queue_units, unit_count, unit_of, unpause, vcpu_of}
 use Rattle.sched_model.specs.State.{is_awake, is_runnable, unit_runnable, vcpus_of_unit}
 use Rattle.sched_laws.proofs.Bools.{and_left, both, or_left}
-use Rattle.sched_laws.proofs.Counts.{one_at, times_has, times_some, total_at}
+use Rattle.sched_laws.proofs.Counts.{times_has, times_some, total_at}
+use Rattle.sched_laws.specs.Counts.{one_at}
 use Rattle.sched_laws.proofs.Lists.{is_some_at, some-test_at}
-use Rattle.sched_laws.proofs.OnePlace.{OnePlace, core_places, off_is, one_same}
-use Rattle.sched_laws.proofs.OwnUnits.{IsStaying, moving_not_staying}
+use Rattle.sched_laws.proofs.OnePlace.{off_is, one_same}
+use Rattle.sched_laws.specs.Known.{OnePlace, core_places}
+use Rattle.sched_laws.proofs.OwnUnits.{moving_not_staying}
+use Rattle.sched_laws.specs.Known.{IsStaying}
 use Rattle.sched_ops.specs.Conditions.{HasNoneBusy, has_joined, is_on}
 use Rattle.sched_ops.specs.Seen.{units_of}
 use Rattle.unit_state.specs.Parts.{IsStill}

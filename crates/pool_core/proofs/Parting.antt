@@ -11,7 +11,7 @@ use Rattle.sched_model.specs.Places.{at_place, clear_at}
 use Rattle.sched_model.specs.Pool.{done_at, enabled_in, is_of_domain, unit_count, unit_of, without_domain}
 use Rattle.sched_laws.proofs.Bools.{or_left}
 use Rattle.sched_laws.proofs.EachPlace.{at_place-clear_at_other}
-use Rattle.sched_laws.proofs.Known.{IsKnownPool}
+use Rattle.sched_laws.specs.Known.{IsKnownPool}
 use Rattle.sched_ops.specs.Seen.{Seen as SchedulerSeen, units_of}
 use Rattle.unit_state.specs.Seen.{Seen as GuestsSeen}
 use Rattle.core_state.specs.Seen.{Seen as CoresSeen}

@@ -7,7 +7,8 @@ use Rattle.sched_model.specs.Places.{has_unit, numbers_from, same_unit}
 use Rattle.sched_model.specs.State.{is_runnable}
 use Rattle.sched_model.specs.Pool.{is_off, queue_if_off, queue_unit, queue_units}
 use Rattle.sched_laws.proofs.Choices.{same_unit_same}
-use Rattle.sched_laws.proofs.Counts.{one, times, times-push, times_none, times_some}
+use Rattle.sched_laws.proofs.Counts.{times-push, times_none, times_some}
+use Rattle.sched_laws.specs.Counts.{one, times}
 use Rattle.sched_laws.proofs.EachPlace.{by_cond}
 use Rattle.sched_ops.specs.Seen as schedulers
 use Rattle.unit_state.specs.Seen as guests

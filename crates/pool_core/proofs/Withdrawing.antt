@@ -14,9 +14,10 @@ use Rattle.sched_model.specs.Policy.{dequeue_domain}
 use Rattle.sched_model.specs.Pool.{is_of_domain, is_off, set_pending, unit_count}
 use Rattle.sched_model.specs.State.{is_runnable}
 use Rattle.sched_laws.proofs.Bools.{and_left, not_true, or_left, or_right}
-use Rattle.sched_laws.proofs.Counts.{some_numbered, times, times-filter_yes, times_none, times_some}
+use Rattle.sched_laws.proofs.Counts.{some_numbered, times-filter_yes, times_none, times_some}
+use Rattle.sched_laws.specs.Counts.{times}
 use Rattle.sched_laws.proofs.Lists.{AllByRecursion-map}
-use Rattle.sched_laws.proofs.OnePlace.{OnePlace, core_places}
+use Rattle.sched_laws.specs.Known.{OnePlace, core_places}
 use Rattle.sched_ops.specs.Seen.{Seen as SchedulerSeen, dequeue, units_of, with_scheduler}
 use Rattle.plain_pool.specs.Marks.{pending_of}
 use Rattle.pool_kept.specs.Holds.{HasMembers}

@@ -7,7 +7,7 @@ ghost use Rattle.sched_model.specs.Places.{at_place, change_each, clear_at, has_
 ghost use Rattle.sched_model.specs.Policy.{dequeue_domain as dequeue_domain_spec, kind_of};
 ghost use Rattle.sched_model.specs.Pool.{is_of_domain as is_of_domain_spec, pause as pause_spec, queue_if_off as queue_if_off_spec, queue_units as queue_units_spec, set_moving as set_moving_spec, unit_count as unit_count_spec, unpause as unpause_spec, with_domain, without_domain};
 ghost use Rattle.sched_model.specs.State.{runnable_among};
-ghost use Rattle.sched_laws.proofs.OnePlace.{OnePlace};
+ghost use Rattle.sched_laws.specs.Known.{OnePlace};
 ghost use Rattle.sched_ops.specs.Seen.{dequeue as dequeue_spec, units_of, with_scheduler};
 ghost use Rattle.core_state.specs.Seen.{Seen as CoresSeen, changed_core};
 ghost use Rattle.plain_pool.specs.Marks.{pending_of};

@@ -28,14 +28,16 @@ use Rattle.sched_model.specs.Pool.{after_in, ask_of, change_processor, decided, 
 use Rattle.sched_laws.specs.Each.{EachPlace}
 use Rattle.sched_laws.proofs.EachPlace.{EachPlace-empty, EachPlace-change_at, EachPlace-put_at, EachPlace-clear_at, by_option, by_test, by_cond}
 use Rattle.sched_laws.proofs.Kept.{IsKept}
-use Rattle.sched_laws.proofs.Known.{IsKnownPool, known_pools}
+use Rattle.sched_laws.proofs.Known.{known_pools}
+use Rattle.sched_laws.specs.Known.{IsKnownPool}
 use Rattle.sched_laws.proofs.Counts.{total_none}
 use Rattle.sched_laws.proofs.Lists.{some-test_at}
-use Rattle.sched_laws.proofs.OnePlace.{CurRuns, core_places}
-use Rattle.sched_laws.proofs.OwnUnits.{CoreIsOwn}
-use Rattle.sched_laws.proofs.Sound.{CoreIsSound}
+use Rattle.sched_laws.specs.Known.{CurRuns, core_places}
+use Rattle.sched_laws.specs.Known.{CoreIsOwn}
+use Rattle.sched_laws.specs.Known.{CoreIsSound}
 use Rattle.sched_laws.proofs.Steps.{IsKeptAt}
-use Rattle.sched_records.proofs.Counts.{KeepsPool, Matches, keeps_parted}
+use Rattle.sched_records.proofs.Counts.{Matches, keeps_parted}
+use Rattle.sched_records.specs.Counts.{KeepsPool}
 use Rattle.sched_records.proofs.Walk.{AnyEnd, AnyEnds, SomeUnit, k_set_params, k_with_domain, keeps_empty, records_steps}
 use Rattle.sched_ops.specs.Conditions.{may_be_on}
 use Rattle.pool_kept.specs.Holds.{Holds, HasMembers, HasMember, AreOn, HaveProcessors}

@@ -26,8 +26,8 @@ use Rattle.sched_laws.proofs.EachPlace.{EachPlace-empty, is_empty, at_place-put_
 use Rattle.sched_laws.proofs.Lists.{some-test_at}
 use Rattle.sched_records.specs.Records.{IsRecorded}
 use Rattle.sched_records.proofs.Measured.{read_measured}
-use Rattle.sched_records.proofs.Shape.{shape, units_in as units_in_record}
-use Rattle.sched_records.proofs.Counts.{CountsFit, KeepsPool}
+use Rattle.sched_records.specs.Counts.{shape, units_in as units_in_record}
+use Rattle.sched_records.specs.Counts.{CountsFit, KeepsPool}
 use Rattle.sched_ops.specs.Conditions.{is_member}
 use Rattle.sched_ops.specs.Seen.{units_of}
 use Rattle.pool_kept.specs.Holds.{HasMembers}

@@ -26,10 +26,12 @@ use Rattle.sched_model.specs.Pool.{ask_of, change_core, core_of, decided, enable
 use Rattle.sched_laws.specs.Each.{EachPlace}
 use Rattle.sched_laws.proofs.EachPlace.{EachPlace-change_at, EachPlace-put_at, EachPlace-clear_at, place_below, at_place-put_at, at_place-put_at_other, at_place-clear_at_other, by_cond}
 use Rattle.sched_laws.proofs.Choices.{is_unit_same}
-use Rattle.sched_laws.proofs.Counts.{same_unit_refl, total_two, one_at}
-use Rattle.sched_laws.proofs.OnePlace.{core_places, places, one_same}
+use Rattle.sched_laws.proofs.Counts.{same_unit_refl, total_two}
+use Rattle.sched_laws.specs.Counts.{one_at}
+use Rattle.sched_laws.proofs.OnePlace.{one_same}
+use Rattle.sched_laws.specs.Known.{core_places, places}
 use Rattle.sched_laws.proofs.Bools.{and_left, and_right, both, clash, not_true, one_of, or_left, or_more}
-use Rattle.sched_records.proofs.Counts.{KeepsPool}
+use Rattle.sched_records.specs.Counts.{KeepsPool}
 use Rattle.sched_ops.specs.Conditions.{is_member, is_on, may_be_on}
 use Rattle.pool_kept.specs.Holds.{HasMembers, HasMember, AreOn}
 use Rattle.running_laws.proofs.Law as running

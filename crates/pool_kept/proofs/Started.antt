@@ -30,10 +30,13 @@ use Rattle.sched_model.specs.Policy.{decision_of, rtds_record}
 use Rattle.sched_model.specs.Pool as pools
 use Rattle.sched_model.specs.Pool.{after_in, ask_of, change_core, change_cores_of, change_domain, change_processor, change_vcpu, decided, does, enabled_in, guest_of, home_cores, is_of_domain, pause, reconsidered, same_choice, set_leaving, set_moving, set_params, set_pending, settled, started_on, unit_count, unpause, with_domain, without_domain}
 use Rattle.sched_laws.proofs.EachPlace.{read_change_at, read_clear_at, read_put_at, at_place-put_at, place_below, at_place-put_at_other, at_place-clear_at_other, by_option, by_test, by_cond}
-use Rattle.sched_laws.proofs.Known.{IsKnownPool}
-use Rattle.sched_laws.proofs.Sound.{AreSound, read_change_item, processor_of_is, guest_of_is}
-use Rattle.sched_laws.proofs.Counts.{one_at, total_two}
-use Rattle.sched_laws.proofs.OnePlace.{core_places, one_same}
+use Rattle.sched_laws.specs.Known.{IsKnownPool}
+use Rattle.sched_laws.proofs.Sound.{read_change_item, processor_of_is, guest_of_is}
+use Rattle.sched_laws.specs.Known.{AreSound}
+use Rattle.sched_laws.proofs.Counts.{total_two}
+use Rattle.sched_laws.specs.Counts.{one_at}
+use Rattle.sched_laws.proofs.OnePlace.{one_same}
+use Rattle.sched_laws.specs.Known.{core_places}
 use Rattle.sched_laws.proofs.Bools.{and_left, and_right}
 use Rattle.pool_kept.specs.Holds.{HaveProcessors}
 use Rattle.pool_kept.proofs.Alike.{AreAlike, alike_change_at, alike_change_each}

@@ -21,7 +21,8 @@ use Rattle.sched_model.specs.Pool.{ask_of, change_core, decided, enabled_in, is_
 use Rattle.sched_laws.specs.Each.{EachPlace}
 use Rattle.sched_laws.proofs.EachPlace.{EachPlace-change_at, EachPlace-put_at, EachPlace-clear_at, at_place-put_at_other, at_place-clear_at_other, by_cond, by_test}
 use Rattle.sched_laws.proofs.Lists.{AllByRecursion-map, none_passes, at_numbered, some-test_at}
-use Rattle.sched_laws.proofs.Choices.{IfUnit, decision_has}
+use Rattle.sched_laws.proofs.Choices.{decision_has}
+use Rattle.sched_laws.specs.Known.{IfUnit}
 use Rattle.sched_laws.proofs.Sound.{none_is}
 use Rattle.sched_laws.proofs.OnePlace.{same_choice_same}
 use Rattle.sched_laws.proofs.Bools.{and_left, and_right, clash, is_same, not_true, or_left, or_right}

@@ -11,7 +11,8 @@ use Rattle.sched_model.specs.Places.{at_place, put_at, clear_at, change_at, chan
 use Rattle.sched_model.specs.Policy.{pinned}
 use Rattle.sched_ops.specs.Conditions.{IsApart}
 use Rattle.sched_laws.proofs.Choices.{same_unit_same}
-use Rattle.sched_laws.proofs.Counts.{one, times, times_none, same_unit_refl}
+use Rattle.sched_laws.proofs.Counts.{times_none, same_unit_refl}
+use Rattle.sched_laws.specs.Counts.{one, times}
 use Rattle.sched_ranges.proofs.Queue.{no_longer}
 use Rattle.pool_units.specs.Units.{units_in, unit_count, is_member}
 

@@ -17,7 +17,7 @@ use Rattle.sched_laws.specs.Each.{EachPlace}
 use Rattle.sched_laws.proofs.EachPlace.{by_option, place_below, length_set, EachPlace-change_at}
 use Rattle.sched_laws.proofs.Lists.{AllByRecursion-map, length_change_item}
 use Rattle.sched_ranges.specs.Ranges.{RtdsInRange}
-use Rattle.sched_ranges.proofs.Rtds.{RtdsFits, RtdsFit}
+use Rattle.sched_ranges.specs.Fits.{RtdsFits, RtdsFit}
 use Rattle.plain_units.specs.Fits as plain
 use Rattle.rtds_core.specs.Alarms.{id_of}
 use Rattle.rtds_core.specs.Kept.{IsShaped, size, total}

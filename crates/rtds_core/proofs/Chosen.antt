@@ -21,7 +21,8 @@ use Rattle.sched_laws.proofs.Choices.{same_unit_same}
 use Rattle.sched_laws.proofs.Counts.{same_unit_refl}
 use Rattle.sched_laws.proofs.Lists.{AllByRecursion-map, AllByRecursion-push, length_change_item}
 use Rattle.sched_laws.proofs.EachPlace.{by_option, length_set}
-use Rattle.sched_ranges.proofs.Rtds.{RtdsFits, RtdsFit, rtds_later, rtds_burned, rtds_running, rtds_off, rtds_set, rtds_replenished, fit_change_unit, fit_unit}
+use Rattle.sched_ranges.proofs.Rtds.{rtds_later, rtds_burned, rtds_running, rtds_off, rtds_set, rtds_replenished, fit_change_unit, fit_unit}
+use Rattle.sched_ranges.specs.Fits.{RtdsFits, RtdsFit}
 use Rattle.due_heap.specs.Dues.{due_of}
 use Rattle.arrival_queue.specs.declared.key.Key.{Key}
 use Rattle.arrival_queue.specs.Queues.{Queued, queued, is_of, put_first, goes_before, placed, without, closed_up}

@@ -15,7 +15,7 @@ use Rattle.sched_model.specs.Places.{at_place, has_unit}
 use Rattle.sched_model.specs.Checked.{most_span}
 use Rattle.sched_model.specs.Eligible.{rtds_unit}
 use Rattle.sched_laws.specs.Each.{EachPlace}
-use Rattle.sched_ranges.proofs.Rtds.{RtdsFit}
+use Rattle.sched_ranges.specs.Fits.{RtdsFit}
 use Rattle.due_heap.specs.Dues.{due_of}
 use Rattle.rtds_queue.specs.Lists.{Lists, count, renewed}
 use Rattle.sched_ops.specs.Seen.{Seen, vacant}

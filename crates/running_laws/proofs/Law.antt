@@ -18,7 +18,8 @@ use Rattle.sched_laws.proofs.Bools.{clash}
 use Rattle.sched_laws.proofs.EachPlace.{read_put_at, read_clear_at}
 use Rattle.sched_laws.proofs.Lists.{test_at-some, some-test_at}
 use Rattle.sched_records.specs.Records.{IsRecorded}
-use Rattle.sched_records.proofs.Shape.{shape, shape_decision, shape_replenished, shape_refilled, shape_changed}
+use Rattle.sched_records.proofs.Shape.{shape_decision, shape_replenished, shape_refilled, shape_changed}
+use Rattle.sched_records.specs.Counts.{shape}
 use Rattle.sched_ops.specs.Conditions.{is_on}
 use Rattle.running_laws.specs.Running.{keeps_records, has_record, is_on_after}
 use Rattle.running_laws.proofs.OneUnit.{cond_same, test_item, test_item-replicate, test_item_low}

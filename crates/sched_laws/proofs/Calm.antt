@@ -25,7 +25,8 @@ use Rattle.sched_model.specs.Laws.{is_more_urgent}
 use Rattle.sched_laws.specs.Each.{EachAt, EachPlace}
 use Rattle.sched_laws.proofs.EachPlace.{EachAt-change_at, read_change_each, by_cond}
 use Rattle.sched_laws.proofs.Lists.{AllByRecursion-map, none_passes, at_numbered}
-use Rattle.sched_laws.proofs.OwnUnits.{UnitsAreOwn, IsStaying, moving_not_staying}
+use Rattle.sched_laws.proofs.OwnUnits.{moving_not_staying}
+use Rattle.sched_laws.specs.Known.{UnitsAreOwn, IsStaying}
 use Rattle.sched_laws.proofs.Due.{window_of}
 use Rattle.sched_laws.proofs.Bools.{and_left, and_right, both, not_true, not_false, or_left, or_right, is_same}
 use Rattle.sched_laws.proofs.EachPlace.{at_place-clear_at_other}

@@ -20,10 +20,7 @@ use Rattle.sched_model.specs.NullScheduler as null
 use Rattle.sched_laws.proofs.Lists.{AllByRecursion-filter}
 use Rattle.sched_laws.proofs.EachPlace.{by_option, by_cond}
 use Rattle.sched_laws.proofs.Bools.{and_left, and_right, one_of}
-
--- the unit, if there is one, has the property
-abbrev pub IfUnit : (UnitId → Type 0) → Option UnitId → Type 0
-IfUnit P o = IfSome o P
+use Rattle.sched_laws.specs.Known.{IfUnit}
 
 -- one of two tests passes
 -- the test of sameness

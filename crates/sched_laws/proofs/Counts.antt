@@ -8,12 +8,7 @@ use Rattle.sched_base.specs.declared.UnitId.{UnitId}
 use Rattle.sched_model.specs.Places.{at_place, put_at, clear_at, change_at, change_each, numbered, is_unit, has_unit, same_unit}
 use Rattle.sched_laws.specs.Each.{EachPlace}
 use Rattle.sched_laws.proofs.Choices.{same_unit_same}
-
--- the sum of f over what stands at a place
-abbrev pub total : {X : Type 0} → (X → ℕ) → List (Option X) → ℕ
-total f [] = 0
-total f (None ∷ places) = total f places
-total f (Some x ∷ places) = f x + total f places
+use Rattle.sched_laws.specs.Counts.{total, one, one_at, times}
 
 pub total_is : {X : Type 0} (f : X → ℕ) (n : ℕ) (places : List (Option X)) → sum_by (λ (e : ℕ × X). f e.1) (numbered n places) ≡ total f places
 total_is f n [] = refl
@@ -122,23 +117,11 @@ some_numbered {X} test n (Some y ∷ places) found =
       | false ↦ λ is e. (let r = some_numbered test (suc n) places e in (suc r.0, r.1, r.2, r.3))
     ] refl found
 
--- one where the units are the same
-abbrev pub one : UnitId → UnitId → ℕ
-one u w = cond (same_unit u w) 1 0
-
-abbrev pub one_at : UnitId → Option UnitId → ℕ
-one_at u o = cond (is_unit o u) 1 0
-
 pub same_unit_refl : (u : UnitId) → same_unit u u ≡ true
 same_unit_refl u = grind arith
 
 pub same_unit_other : (u w : UnitId) → same_unit u w ≡ false → u ≢ w
 same_unit_other u w other e = (let same : same_unit u w ≡ true = subst (λ (x : UnitId). same_unit u x ≡ true) e (same_unit_refl u) in cc)
-
--- how often the unit is in the list
-abbrev pub times : UnitId → List UnitId → ℕ
-times u [] = 0
-times u (w ∷ units) = one u w + times u units
 
 pub times_is : (u : UnitId) (units : List UnitId) → count_by (same_unit u) units ≡ times u units
 times_is u [] = refl

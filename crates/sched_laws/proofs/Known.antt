@@ -23,10 +23,11 @@ use Rattle.sched_model.specs.declared.action.Action.TheVariants.{Stall, Xl, Move
 use Rattle.sched_laws.specs.Each.{EachPlace}
 use Rattle.sched_laws.proofs.EachPlace.{EachPlace-put_at, EachPlace-clear_at, EachPlace-empty, read_change_each, read_change_at, by_option, by_cond}
 use Rattle.sched_laws.proofs.Lists.{AllByRecursion-map, AllByRecursion-filter, none_passes, at_numbered, some-test_at, test_at-change_at_other, test_at-clear_at}
-use Rattle.sched_laws.proofs.Counts.{total, one, total-change_each, total-put_at_empty, total-clear_at, total_none, times-filter_yes, times-filter_no}
+use Rattle.sched_laws.proofs.Counts.{total-change_each, total-put_at_empty, total-clear_at, total_none, times-filter_yes, times-filter_no}
+use Rattle.sched_laws.specs.Counts.{total, one}
 use Rattle.sched_laws.proofs.Awake.{part_past}
-use Rattle.sched_laws.proofs.Sound.{AreSound}
-use Rattle.sched_laws.proofs.OwnUnits.{UnitsAreOwn, IsStaying}
+use Rattle.sched_laws.specs.Known.{AreSound}
+use Rattle.sched_laws.specs.Known.{UnitsAreOwn, IsStaying}
 use Rattle.sched_laws.proofs.Kept.{IsKept, IsFresh, passes_at}
 use Rattle.std.proofs.Math.Decide.{ℕ_discrete}
 use Rattle.std.proofs.lemmas.Nat.{le-div}
@@ -34,14 +35,10 @@ use Rattle.sched_laws.proofs.EachPlace.{read_put_at}
 use Rattle.sched_laws.proofs.Lists.{test_at-put_at_other, test_at-change_at_false, test_at-change_at_more, test_at-clear_at_false}
 use Rattle.sched_laws.proofs.OwnUnits.{units_are_own, moving_not_staying}
 use Rattle.sched_laws.proofs.Sound.{cores_are_sound, some_if_all, none_is}
-use Rattle.sched_laws.proofs.OnePlace.{core_places, CurRuns, OneBut, OnePlace, off_is, on_is, both_of, one_settled, one_change_core, one_change_processor, one_scheduler, one_marked, one_queue_unit, one_less, one_after_wake, one_after_block, one_after_arrive, one_after_leave, one_after_save, one_after_replenish, one_after_decide}
+use Rattle.sched_laws.proofs.OnePlace.{off_is, on_is, both_of, one_settled, one_change_core, one_change_processor, one_scheduler, one_marked, one_queue_unit, one_less, one_after_wake, one_after_block, one_after_arrive, one_after_leave, one_after_save, one_after_replenish, one_after_decide}
+use Rattle.sched_laws.specs.Known.{core_places, CurRuns, OneBut, OnePlace}
 use Rattle.sched_laws.proofs.Bools.{and_left, and_right, not_true, or_left, or_more, is_same}
-
--- what is kept of a pool
-pub record IsKnownPool (g : ℕ) (pool : Pool) : Type 0 where
-  pub own : UnitsAreOwn pool
-  pub sound : AreSound g pool
-  pub one : OnePlace g pool
+use Rattle.sched_laws.specs.Known.{IsKnownPool}
 
 -- the number is one of the list
 abbrev pub Member : ℕ → List ℕ → Type 0

@@ -25,9 +25,12 @@ use Rattle.sched_model.specs.Pool.{ask_of, decided, same_choice}
 use Rattle.sched_laws.specs.Each.{EachAt}
 use Rattle.sched_laws.proofs.EachPlace.{read_put_at, read_clear_at, by_test, by_cond}
 use Rattle.sched_laws.proofs.Lists.{AllByRecursion-map}
-use Rattle.sched_laws.proofs.Choices.{IfUnit, null_has}
-use Rattle.sched_laws.proofs.Counts.{total_at, total_two, times, one_at, same_unit_other}
-use Rattle.sched_laws.proofs.OnePlace.{OnePlace, core_places, one_same, same_choice_same, there_each}
+use Rattle.sched_laws.proofs.Choices.{null_has}
+use Rattle.sched_laws.specs.Known.{IfUnit}
+use Rattle.sched_laws.proofs.Counts.{total_at, total_two, same_unit_other}
+use Rattle.sched_laws.specs.Counts.{times, one_at}
+use Rattle.sched_laws.proofs.OnePlace.{one_same, same_choice_same, there_each}
+use Rattle.sched_laws.specs.Known.{OnePlace, core_places}
 use Rattle.sched_laws.proofs.EachPlace.{at_place-put_at, at_place-put_at_other, at_place-clear_at_other, place_below, length_set}
 
 -- the units for which the cores are kept, where the pool is a null pool

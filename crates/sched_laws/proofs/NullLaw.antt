@@ -30,8 +30,10 @@ use Rattle.sched_laws.specs.StateLaws.{state_after}
 use Rattle.sched_laws.specs.NullLaws.{Keeps, IsGiven, NoUnitHasTwoCores, chosen_by, DecidesIn, StayEndsWithCause, GivenUnitsGoNowhereElse, RunsUnlessHindered, GivenUnitsRun}
 use Rattle.sched_laws.proofs.Lists.{none_passes, some_is, is_some_at, test_at-some}
 use Rattle.sched_laws.proofs.Choices.{is_unit_same}
-use Rattle.sched_laws.proofs.Counts.{total_some, times, times_has, one_at, same_unit_refl}
-use Rattle.sched_laws.proofs.OnePlace.{core_places, one_at_some}
+use Rattle.sched_laws.proofs.Counts.{total_some, times_has, same_unit_refl}
+use Rattle.sched_laws.specs.Counts.{times, one_at}
+use Rattle.sched_laws.proofs.OnePlace.{one_at_some}
+use Rattle.sched_laws.specs.Known.{core_places}
 use Rattle.sched_laws.proofs.PoolsLaw.{IsKnown, known_in_runs}
 use Rattle.sched_laws.proofs.SiblingsLaw.{some_processor}
 use Rattle.sched_laws.proofs.StillWaits.{core_home, split_run}

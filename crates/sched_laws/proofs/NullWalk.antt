@@ -37,7 +37,8 @@ use Rattle.sched_laws.proofs.EachPlace.{read_change_at, read_put_at, read_clear_
 use Rattle.sched_laws.proofs.Lists.{none_passes, at_numbered}
 use Rattle.sched_laws.proofs.Kept.{IsKept, IsFresh, passes_at}
 use Rattle.sched_laws.proofs.Sound.{some_if_all}
-use Rattle.sched_laws.proofs.Known.{IsKnownPool, known_pools}
+use Rattle.sched_laws.proofs.Known.{known_pools}
+use Rattle.sched_laws.specs.Known.{IsKnownPool}
 use Rattle.sched_laws.proofs.Records as records_lemmas
 use Rattle.sched_laws.proofs.Records.{IsNoFrame}
 use Rattle.sched_laws.proofs.NullKept.{kept_of, KeptFits, NullFits, null_fits, fits_none, read_released, at_released, length_released, fits_after_decide}

@@ -27,33 +27,15 @@ use Rattle.sched_model.specs.Pool.{enabled_in, after_in, settled, home_cores, re
 use Rattle.sched_laws.specs.Each.{EachPlace}
 use Rattle.sched_laws.proofs.EachPlace.{EachAt-change_to, EachPlace-change_at, EachPlace-put_at, EachPlace-change_each, by_option, by_test, by_cond}
 use Rattle.sched_laws.proofs.Lists.{AllByRecursion-map, AllByRecursion-push, AllByRecursion-filter, none_passes, at_numbered}
-use Rattle.sched_laws.proofs.Choices.{IfUnit, is_unit_same, same_unit_same, decision_has}
-use Rattle.sched_laws.proofs.Counts.{total, one, one_at, times, same_unit_refl, same_unit_other, total-change_at, total-change_at_same, total-change_each, total-put_at, total_at, total_two, total_none, times-push, times-filter_yes, times-filter_no, times_none, times_some}
+use Rattle.sched_laws.proofs.Choices.{is_unit_same, same_unit_same, decision_has}
+use Rattle.sched_laws.specs.Known.{IfUnit}
+use Rattle.sched_laws.proofs.Counts.{same_unit_refl, same_unit_other, total-change_at, total-change_at_same, total-change_each, total-put_at, total_at, total_two, total_none, times-push, times-filter_yes, times-filter_no, times_none, times_some}
+use Rattle.sched_laws.specs.Counts.{total, one, one_at, times}
 use Rattle.sched_laws.proofs.Awake.{runnable-same, runnable-other, runnable-more}
-use Rattle.sched_laws.proofs.Sound.{AreSound, guest_of_is, change_at-twice}
+use Rattle.sched_laws.proofs.Sound.{guest_of_is, change_at-twice}
+use Rattle.sched_laws.specs.Known.{AreSound}
 use Rattle.sched_laws.proofs.Bools.{and_left, and_right, not_true, not_false, or_left, or_right, or_more}
-
--- how many places the core gives the unit
-abbrev pub core_places : UnitId → Resource → ℕ
-core_places u c = one_at u c.cur + one_at u c.saving
-
--- how often the unit stands in the pool's queue, in a cur and in a saving
-abbrev pub places : Pool → UnitId → ℕ
-places pool u = times u pool.scheduler.queue + total (core_places u) pool.resources
-
--- the core's own unit is runnable, or the core is to decide anew
-abbrev pub CurRuns : ℕ → List (Option Domain) → Resource → Type 0
-CurRuns g domains c = (u : UnitId) → c.cur ≡ Some u → (runnable_among g domains u ≡ true) ⊎ (c.pending ≡ true)
-
--- each unit has at most one place; a runnable one has a place, or is one of those that are yet to get one; those that wait are runnable
-pub record OneBut (g : ℕ) (Rest : UnitId → Type 0) (pool : Pool) : Type 0 where
-  pub most : (u : UnitId) → places pool u ≤ 1
-  pub runs : (u : UnitId) → is_runnable g pool u ≡ true → (1 ≤ places pool u) ⊎ Rest u
-  pub waits : AllByRecursion (λ u. is_runnable g pool u ≡ true) pool.scheduler.queue
-  pub cur : EachPlace (CurRuns g pool.domains) pool.resources
-
-abbrev pub OnePlace : ℕ → Pool → Type 0
-OnePlace g pool = OneBut g (λ u. ⊥) pool
+use Rattle.sched_laws.specs.Known.{core_places, places, CurRuns, OneBut, OnePlace}
 
 -- the core keeps its units, and stays pending
 abbrev pub KeepsUnits : Resource → Resource → Type 0

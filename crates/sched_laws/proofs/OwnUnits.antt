@@ -28,28 +28,14 @@ use Rattle.sched_model.specs.declared.action.Action.TheVariants.{Stall, Xl, Move
 use Rattle.sched_laws.specs.Each.{EachPlace}
 use Rattle.sched_laws.proofs.EachPlace.{EachPlace-change_at, EachPlace-put_at, EachPlace-clear_at, EachPlace-change_each, EachPlace-empty, by_option, by_test, by_cond}
 use Rattle.sched_laws.proofs.Lists.{AllByRecursion-map, AllByRecursion-push, AllByRecursion-filter, none_passes, at_numbered, test_at-some, some-test_at, test_at-change_at, test_at-change_at_other, test_at-put_at, test_at-clear_at}
-use Rattle.sched_laws.proofs.Choices.{IfUnit, decision_has}
+use Rattle.sched_laws.proofs.Choices.{decision_has}
+use Rattle.sched_laws.specs.Known.{IfUnit}
 use Rattle.sched_laws.proofs.Kept.{IsKept, IsFresh}
 use Rattle.sched_laws.proofs.Bools.{and_left, and_right, not_true, or_left, or_right}
-
--- the unit is one of these domains'; and its domain is not moving
-abbrev pub IsThere : List (Option Domain) → UnitId → Type 0
-IsThere domains u = test_at domains u.dom.0 (λ d. true) ≡ true
-
-abbrev pub IsStaying : List (Option Domain) → UnitId → Type 0
-IsStaying domains u = test_at domains u.dom.0 (λ d. is_none d.moving) ≡ true
+use Rattle.sched_laws.specs.Known.{IsThere, IsStaying, CoreIsOwn, UnitsAreOwn}
 
 pub there_if_staying : (domains : List (Option Domain)) (u : UnitId) → IsStaying domains u → IsThere domains u
 there_if_staying domains u staying = let r = some-test_at domains u.dom.0 (λ d. is_none d.moving) staying in test_at-some domains u.dom.0 (λ d. true) r.0 r.1 refl
-
--- the core's units are of these domains
-pub record CoreIsOwn (domains : List (Option Domain)) (c : Resource) : Type 0 where
-  pub cur : IfUnit (IsThere domains) c.cur
-  pub saving : IfUnit (IsThere domains) c.saving
-
-pub record UnitsAreOwn (pool : Pool) : Type 0 where
-  pub queue : AllByRecursion (IsStaying pool.domains) pool.scheduler.queue
-  pub cores : EachPlace (CoreIsOwn pool.domains) pool.resources
 
 -- a change of the cores that keeps what each core has
 own_cores : (cores : List (Option Resource)) (pool : Pool) → EachPlace (CoreIsOwn pool.domains) cores → UnitsAreOwn pool → UnitsAreOwn (record pool { resources = cores })

@@ -21,7 +21,8 @@ use Rattle.sched_laws.proofs.Kept.{IsApart, IsKept, kept_after}
 use Rattle.sched_laws.specs.StateLaws.{has_domain_at}
 use Rattle.sched_laws.proofs.ApartKept.{apart_after}
 use Rattle.sched_laws.proofs.Opened.{kept_opening, apart_opening}
-use Rattle.sched_laws.proofs.OwnUnits.{UnitsAreOwn, IsThere, IsStaying, there_if_staying, units_are_own, if_unit}
+use Rattle.sched_laws.proofs.OwnUnits.{there_if_staying, units_are_own, if_unit}
+use Rattle.sched_laws.specs.Known.{UnitsAreOwn, IsThere, IsStaying}
 
 -- a pool that has the domain is its home
 pub home_is : (s : State) (i d : ℕ) → IsApart s → has_domain_at s i d ≡ true → home_of_domain s d ≡ Some i

@@ -17,11 +17,12 @@ use Rattle.sched_model.specs.Runs.{IsRun}
 use Rattle.sched_model.specs.Checked.{IsChecked}
 use Rattle.sched_laws.specs.StateLaws.{state_after, has_core_at, has_domain_at}
 use Rattle.sched_laws.proofs.Lists.{test_at-some, is_some_at}
-use Rattle.sched_laws.proofs.Counts.{times, times_is, same_unit_refl}
+use Rattle.sched_laws.proofs.Counts.{times_is, same_unit_refl}
+use Rattle.sched_laws.specs.Counts.{times}
 use Rattle.sched_laws.proofs.Kept.{IsApart}
-use Rattle.sched_laws.proofs.OwnUnits.{UnitsAreOwn}
-use Rattle.sched_laws.proofs.OnePlace.{OnePlace}
-use Rattle.sched_laws.proofs.Sound.{CoreIsSound}
+use Rattle.sched_laws.specs.Known.{UnitsAreOwn}
+use Rattle.sched_laws.specs.Known.{OnePlace}
+use Rattle.sched_laws.specs.Known.{CoreIsSound}
 use Rattle.sched_laws.proofs.PoolsLaw.{home_is}
 use Rattle.sched_laws.proofs.StillWaits.{core_home}
 use Rattle.sched_laws.proofs.Due.{FrameFits}

@@ -34,7 +34,8 @@ use Rattle.sched_laws.proofs.EachPlace.{EachPlace-change_at, EachPlace-put_at, E
 use Rattle.std.proofs.Math.Decide.{dec_le}
 use Rattle.sched_laws.proofs.Kept.{IsApart}
 use Rattle.sched_laws.proofs.ApartKept.{apart_after}
-use Rattle.sched_laws.proofs.OwnUnits.{UnitsAreOwn, units_are_own}
+use Rattle.sched_laws.proofs.OwnUnits.{units_are_own}
+use Rattle.sched_laws.specs.Known.{UnitsAreOwn}
 use Rattle.sched_laws.proofs.Opened.{length_map_numbers, joining_domain, each_get, kept_opening, apart_opening, with_configured-resources, read_map, read_pools}
 use Rattle.std.proofs.lemmas.List.Elements.{recursion_from_All}
 use Rattle.sched_base.specs.declared.UnitId.{UnitId}

@@ -6,7 +6,8 @@ use Rattle.sched_model.specs.Runs.{IsRun}
 use Rattle.sched_model.specs.Checked.{IsChecked, IsGranularity}
 use Rattle.sched_laws.specs.StateLaws.{state_after, SiblingsRunOneUnit}
 use Rattle.sched_laws.proofs.PoolsLaw.{known_in_runs}
-use Rattle.sched_laws.proofs.Sound.{AreSound, cores_are_sound}
+use Rattle.sched_laws.proofs.Sound.{cores_are_sound}
+use Rattle.sched_laws.specs.Known.{AreSound}
 
 pub some_processor : (g : ℕ) → IsGranularity g → 0 < g
 some_processor g is = grind arith

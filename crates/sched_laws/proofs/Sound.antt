@@ -30,6 +30,7 @@ use Rattle.sched_laws.proofs.EachPlace.{EachPlace-change_at, EachPlace-put_at, E
 use Rattle.sched_laws.proofs.Choices.{is_unit_same}
 use Rattle.sched_laws.proofs.Kept.{IsKept, IsFresh, passes_at}
 use Rattle.sched_laws.proofs.Bools.{and_left, and_right, not_true}
+use Rattle.sched_laws.specs.Known.{CoreIsSound, AreSound}
 
 -- a place of a list after a change of one
 pub read_change_item : {X : Type 0} (i j : ℕ) (f : X → X) (xs : List X) (y : X) → slice_get (change_item i f xs) j ≡ Some y → ((j ≢ i) × (slice_get xs j ≡ Some y)) ⊎ ((x : X) × (slice_get xs i ≡ Some x) × (j ≡ i) × (f x ≡ y))
@@ -85,15 +86,6 @@ guest_of_is g pool p v found =
     guest_is (Guest w) e = cc
     guest_is Idle e = absurd (cc)
     guest_is Held e = absurd (cc)
-
--- the processors of a core, and its stage
-pub record CoreIsSound (g : ℕ) (c : Resource) : Type 0 where
-  pub guests : (i : ℕ) (p : Processor) (v : VcpuId) → slice_get c.processors i ≡ Some p → p.doing ≡ Guest v → (c.cur ≡ Some (pools.unit_of g v)) × (v.n % g ≡ i)
-  pub decided : pools.is_open c ≡ false → list_any pools.is_held c.processors ≡ true
-  pub gathers : pools.is_open c ≡ true → list_any pools.is_held c.processors ≡ true → (c.pending ≡ true) × (c.saving ≡ None)
-
-abbrev pub AreSound : ℕ → Pool → Type 0
-AreSound g pool = EachPlace (CoreIsSound g) pool.resources
 
 guest_not_held : (p : Processor) (v : VcpuId) → p.doing ≡ Guest v → pools.is_held p ≡ false
 guest_not_held p v is = rw (is, pools.is_held) refl

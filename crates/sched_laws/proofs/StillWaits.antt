@@ -39,7 +39,8 @@ use Rattle.sched_laws.proofs.Lists.{test_at-some, some-test_at, test_at-put_at_o
 use Rattle.sched_laws.proofs.Kept.{IsApart, passes_at, kept_after}
 use Rattle.sched_laws.specs.StateLaws.{has_core_at}
 use Rattle.sched_laws.proofs.ApartKept.{apart_after}
-use Rattle.sched_laws.proofs.Sound.{AreSound, cores_are_sound, list_any_get, processor_of_is}
+use Rattle.sched_laws.proofs.Sound.{cores_are_sound, list_any_get, processor_of_is}
+use Rattle.sched_laws.specs.Known.{AreSound}
 use Rattle.sched_laws.proofs.PoolsLaw.{IsKnown, known_in_runs}
 use Rattle.sched_laws.proofs.SiblingsLaw.{some_processor}
 use Rattle.sched_laws.proofs.Judged.{Fits, verdict_fits, fits_next}

@@ -24,7 +24,8 @@ use Rattle.sched_model.specs.Checked.{IsChecked}
 use Rattle.sched_laws.specs.StateLaws.{state_after}
 use Rattle.sched_laws.specs.RunLaws.{NobodyWaits}
 use Rattle.sched_laws.proofs.Lists.{test_at-some, is_some_at}
-use Rattle.sched_laws.proofs.Sound.{AreSound, CoreIsSound, cores_are_sound}
+use Rattle.sched_laws.proofs.Sound.{cores_are_sound}
+use Rattle.sched_laws.specs.Known.{AreSound, CoreIsSound}
 use Rattle.sched_laws.proofs.SiblingsLaw.{some_processor}
 use Rattle.sched_laws.proofs.PoolsLaw.{known_in_runs}
 use Rattle.sched_laws.proofs.StillWaits.{core_home, split_run}

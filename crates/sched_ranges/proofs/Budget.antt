@@ -11,34 +11,7 @@ use Rattle.sched_model.specs.Credit2.{burn_unit, burn_units, give_back}
 use Rattle.sched_laws.proofs.EachPlace.{by_option, by_cond}
 use Rattle.sched_laws.proofs.Lists.{length_change_item}
 use Rattle.sched_laws.proofs.Sound.{read_change_item}
-
--- the moments of the units' last charges, added up, and what they hold
-abbrev pub lasts : ℕ → List Credit2Unit → ℕ
-lasts t [] = 0
-lasts t (y ∷ ys) = unwrap_or y.burned t + lasts t ys
-
-abbrev pub helds : List Credit2Unit → ℤ
-helds [] = pos 0
-helds (y ∷ ys) = y.held +ℤ helds ys
-
--- a unit of a domain with this cap: one that does not run holds nothing, but for one that is about to run; one whose budget was given back holds nothing
-pub record HeldFits (t cap : ℕ) (Ex Zr : Type 0) (y : Credit2Unit) : Type 0 where
-  pub last : unwrap_or y.burned t ≤ t
-  pub idle : y.burned ≡ None → (y.held ≡ pos 0) ⊎ Ex
-  pub free : cap ≡ 0 → y.held ≡ pos 0
-  pub zero : Zr → (y.held ≡ pos 0) × (unwrap_or y.burned t ≡ t)
-  pub most : y.held ≤ℤ pos 640000000
-  pub least : neg_ℤ (pos (unwrap_or y.burned t)) ≤ℤ y.held
-
-pub record BudgetFits (t : ℕ) (IsCount Ex Zr : ℕ → Type 0) (x : Credit2Domain) : Type 0 where
-  pub cap : x.cap ≤ 6400
-  pub count : IsCount (length x.units)
-  pub units : (n : ℕ) (y : Credit2Unit) → slice_get x.units n ≡ Some y → HeldFits t x.cap (Ex n) (Zr n) y
-  pub low : neg_ℤ (pos (lasts t x.units)) ≤ℤ (x.budget +ℤ helds x.units)
-  pub high : (x.budget +ℤ helds x.units) ≤ℤ pos 640000000
-
-abbrev pub Nobody : ℕ → Type 0
-Nobody n = ⊥
+use Rattle.sched_ranges.specs.Budgets.{lasts, helds, HeldFits, BudgetFits, Nobody}
 
 -- a unit after a step in which it lost no more than the moment of its last charge moved on
 pub record Grows (t : ℕ) (x y : Credit2Unit) : Type 0 where

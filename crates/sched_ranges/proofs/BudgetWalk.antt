@@ -38,7 +38,8 @@ use Rattle.sched_laws.proofs.EachPlace.{EachPlace-empty, by_option, by_test, by_
 use Rattle.sched_laws.proofs.Lists.{AllByRecursion-map, some-test_at}
 use Rattle.sched_laws.proofs.Kept.{IsKept}
 use Rattle.sched_laws.proofs.Sound.{none_is}
-use Rattle.sched_laws.proofs.Known.{IsKnownPool, known_pools}
+use Rattle.sched_laws.proofs.Known.{known_pools}
+use Rattle.sched_laws.specs.Known.{IsKnownPool}
 use Rattle.sched_laws.proofs.Bools.{and_left, and_right}
 use Rattle.std.proofs.lemmas.Nat.{le-div}
 use Rattle.sched_base.specs.declared.Span.{Span}
@@ -54,17 +55,21 @@ use Rattle.sched_model.specs.Eligible.{Decision}
 use Rattle.sched_model.specs.Checked.{IsChecked}
 use Rattle.sched_model.specs.Commands.{set_rtds_unit}
 use Rattle.sched_model.specs.Credit2.{domain_has_budget}
-use Rattle.sched_laws.proofs.Choices.{IfUnit, decision_has}
-use Rattle.sched_laws.proofs.Counts.{times, total_at, one_at}
-use Rattle.sched_laws.proofs.OnePlace.{OnePlace, core_places, one_same, both_of, there_each, same_choice_same}
+use Rattle.sched_laws.proofs.Choices.{decision_has}
+use Rattle.sched_laws.specs.Known.{IfUnit}
+use Rattle.sched_laws.proofs.Counts.{total_at}
+use Rattle.sched_laws.specs.Counts.{times, one_at}
+use Rattle.sched_laws.proofs.OnePlace.{one_same, both_of, there_each, same_choice_same}
+use Rattle.sched_laws.specs.Known.{OnePlace, core_places}
 use Rattle.sched_laws.proofs.Fits.{ChangeFits}
 use Rattle.sched_laws.proofs.Steps.{IsKeptAt}
 use Rattle.sched_ranges.specs.Ranges.{IsUnitOf}
 use Rattle.sched_ranges.proofs.Records.{ParamsFit, default_fits}
 use Rattle.sched_ranges.proofs.Walk.{DomFits, NearEnd, EndsFit, PoolFits, range_steps}
-use Rattle.sched_ranges.proofs.Budget.{BudgetFits, Nobody}
+use Rattle.sched_ranges.specs.Budgets.{BudgetFits, Nobody}
 use Rattle.sched_ranges.proofs.Budgets.{b_fresh, b_later}
-use Rattle.sched_ranges.proofs.Decided.{unit_rec, IsCur, None2, Budgets, RunsOnly, AllRunOnly, choice_pays, decides_unit, decides_idle, s_refilled, s_set_domain, r_burn_cur, r_reset, r_take, r_switch_off, r_set_running, r_refilled, r_set_domain}
+use Rattle.sched_ranges.proofs.Decided.{unit_rec, IsCur, choice_pays, decides_unit, decides_idle, s_refilled, s_set_domain, r_burn_cur, r_reset, r_take, r_switch_off, r_set_running, r_refilled, r_set_domain}
+use Rattle.sched_ranges.specs.Budgets.{None2, Budgets, RunsOnly, AllRunOnly}
 
 -- the domain has as many units as its vCPUs make
 abbrev pub CountIs : Machine → ℕ → ℕ → Type 0

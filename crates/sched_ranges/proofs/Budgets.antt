@@ -15,7 +15,8 @@ use Rattle.sched_model.specs.Credit2.{burn_units, take_budget, periods, held_by_
 use Rattle.sched_laws.proofs.EachPlace.{by_cond}
 use Rattle.sched_laws.proofs.Lists.{length_change_item}
 use Rattle.sched_laws.proofs.Sound.{read_change_item}
-use Rattle.sched_ranges.proofs.Budget.{lasts, helds, HeldFits, BudgetFits, Nobody, get_map, helds_item, lasts_item, held_weaker, b_weaker, b_burn_units, b_same, IsIt}
+use Rattle.sched_ranges.proofs.Budget.{get_map, helds_item, lasts_item, held_weaker, b_weaker, b_burn_units, b_same, IsIt}
+use Rattle.sched_ranges.specs.Budgets.{lasts, helds, HeldFits, BudgetFits, Nobody}
 
 -- the part that a unit takes of a budget above 0
 div_small : (a b : ℕ) → a / b ≤ a

@@ -18,24 +18,7 @@ use Rattle.sched_model.specs.Credit2.{max_weight, burn_unit, burn_units, burn_al
 use Rattle.sched_laws.specs.Each.{EachPlace}
 use Rattle.sched_laws.proofs.EachPlace.{EachPlace-change_at, EachPlace-change_each, by_option, by_cond, length_set, length_change_each}
 use Rattle.sched_ranges.proofs.Rtds.{AllByRecursion-change_item}
-
--- a unit of a domain of this weight
-pub record UnitFits (t weight : ℕ) (x : Credit2Unit) : Type 0 where
-  pub residual : x.residual < weight
-  pub last : unwrap_or x.burned t ≤ t
-  pub most : x.credit ≤ℤ pos 10500000
-  pub least : neg_ℤ (pos (65536 * unwrap_or x.burned t)) ≤ℤ x.credit
-
-pub record Credit2DomainFits (t : ℕ) (d : Credit2Domain) : Type 0 where
-  pub weight : IsWithin 1 65535 d.weight
-  pub cap : d.cap ≤ 6400
-  pub refill : (r : ℕ) → d.refill ≡ Some r → r ≤ t + 10000000
-  pub units : AllByRecursion (UnitFits t d.weight) d.units
-
-pub record Credit2Fits (count t : ℕ) (records : Credit2Records) : Type 0 where
-  pub places : length records.domains ≡ count
-  pub limit : records.limit ≤ 500000
-  pub domains : EachPlace (Credit2DomainFits t) records.domains
+use Rattle.sched_ranges.specs.Fits.{UnitFits, Credit2DomainFits, Credit2Fits}
 
 -- the greatest weight is one
 max_small : (a b : ℕ) → a ≤ 65535 → b ≤ 65535 → max a b ≤ 65535

@@ -20,10 +20,13 @@ use Rattle.sched_laws.specs.Each.{EachAt}
 use Rattle.sched_laws.proofs.Bools.{and_right, one_of}
 use Rattle.sched_laws.proofs.EachPlace.{EachAt-change_to, EachAt-change_at, EachAt-change_each, read_change_each, by_option, by_cond}
 use Rattle.sched_laws.proofs.Lists.{AllByRecursion-filter}
-use Rattle.sched_laws.proofs.Choices.{IfUnit, greatest_has}
+use Rattle.sched_laws.proofs.Choices.{greatest_has}
+use Rattle.sched_laws.specs.Known.{IfUnit}
 use Rattle.sched_laws.proofs.Sound.{read_change_item, change_at-twice}
-use Rattle.sched_ranges.proofs.Budget.{BudgetFits, Nobody, get_map, b_weaker, b_burn_units, b_same, b_running, b_own, own_domain}
+use Rattle.sched_ranges.proofs.Budget.{get_map, b_weaker, b_burn_units, b_same, b_running, b_own, own_domain}
+use Rattle.sched_ranges.specs.Budgets.{BudgetFits, Nobody}
 use Rattle.sched_ranges.proofs.Budgets.{b_taken, b_refilled, b_weighed, b_capped}
+use Rattle.sched_ranges.specs.Budgets.{None2, Budgets, RunsOnly, AllRunOnly}
 
 -- the unit's record, and whether it is the unit with this index of this domain
 abbrev pub unit_rec : Credit2Records → UnitId → Option Credit2Unit
@@ -35,13 +38,6 @@ Is u d n = (d ≡ u.dom.0) × (n ≡ u.n)
 abbrev pub IsCur : Option UnitId → ℕ → ℕ → Type 0
 IsCur None d n = ⊥
 IsCur (Some u) d n = Is u d n
-
-abbrev pub None2 : ℕ → ℕ → Type 0
-None2 d n = ⊥
-
--- budgets of all domains
-abbrev pub Budgets : ℕ → (ℕ → ℕ → Type 0) → (ℕ → ℕ → Type 0) → (ℕ → ℕ → Type 0) → Credit2Records → Type 0
-Budgets t C Ex Zr records = EachAt (λ d. BudgetFits t (C d) (Ex d) (Zr d)) records.domains
 
 module _ (t : ℕ) (C : ℕ → ℕ → Type 0) where
   s_weaker : (Ex Zr Ex2 Zr2 : ℕ → ℕ → Type 0) (records : Credit2Records) → ((d n : ℕ) → Ex d n → Ex2 d n) → ((d n : ℕ) → Zr2 d n → Zr d n) → Budgets t C Ex Zr records → Budgets t C Ex2 Zr2 records
@@ -204,13 +200,6 @@ module _ (t : ℕ) (C : ℕ → ℕ → Type 0) where
     pub decides_idle : Budgets t C None2 None2 (switch_off ask.cur burned)
     decides_idle =
         s_switch_off None2 (λ d n. ⊥ ⊎ IsCur ask.cur d n) ask.cur burned (λ w is. inl (inr (subst (λ (o : Option UnitId). IsCur o w.dom.0 w.n) (sym is) (refl, refl)))) (s_burn_cur None2 ask.cur records fits)
-
--- the units that run are those for which On says so
-abbrev pub RunsOnly : (ℕ → Type 0) → List Credit2Unit → Type 0
-RunsOnly On ys = (n : ℕ) (y : Credit2Unit) → slice_get ys n ≡ Some y → (y.burned ≡ None) ⊎ On n
-
-abbrev pub AllRunOnly : (ℕ → ℕ → Type 0) → Credit2Records → Type 0
-AllRunOnly On records = EachAt (λ d (x : Credit2Domain). RunsOnly (On d) x.units) records.domains
 
 module _ (On : ℕ → Type 0) where
   l_map : (f : Credit2Unit → Credit2Unit) (ys : List Credit2Unit) → ((y : Credit2Unit) → y.burned ≡ None → (f y).burned ≡ None) → RunsOnly On ys → RunsOnly On (map f ys)

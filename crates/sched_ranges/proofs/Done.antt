@@ -29,8 +29,8 @@ use Rattle.sched_ranges.proofs.Vcpus.{VcpuFits}
 use Rattle.std.proofs.lemmas.Int.{ints}
 use Rattle.sched_model.specs.declared.state.Credit2Unit.{Credit2Unit}
 use Rattle.sched_model.specs.declared.state.Credit2Domain.{Credit2Domain}
-use Rattle.sched_ranges.proofs.Credit2.{UnitFits, Credit2DomainFits}
-use Rattle.sched_ranges.proofs.Rtds.{RtdsFits}
+use Rattle.sched_ranges.specs.Fits.{UnitFits, Credit2DomainFits}
+use Rattle.sched_ranges.specs.Fits.{RtdsFits}
 use Rattle.sched_ranges.proofs.Records.{RecordsFit}
 use Rattle.sched_ranges.proofs.Walk.{DomFits, CoreFits, PoolFits}
 use Rattle.sched_ranges.proofs.Queue.{no_longer, unit_is_there}
@@ -40,7 +40,7 @@ use Rattle.std.proofs.lemmas.Nat.{div-add-mod'}
 use Rattle.std.proofs.Math.Decide.{dec_le}
 use Rattle.sched_model.specs.declared.state.Credit2Records.{Credit2Records}
 use Rattle.sched_laws.proofs.EachPlace.{place_below}
-use Rattle.sched_ranges.proofs.Budget.{lasts, helds, HeldFits, BudgetFits, Nobody}
+use Rattle.sched_ranges.specs.Budgets.{lasts, helds, HeldFits, BudgetFits, Nobody}
 use Rattle.sched_ranges.proofs.BudgetWalk.{CountIs, CreditFits}
 use Rattle.std.specs.List.{AllByRecursion}
 use Rattle.sched_model.specs.declared.config.DomConfig.{DomConfig}

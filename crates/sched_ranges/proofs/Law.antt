@@ -48,7 +48,8 @@ use Rattle.sched_ranges.proofs.Vcpus.{VcpuFits, vcpu_fresh, vcpu_later}
 use Rattle.sched_ranges.proofs.Records.{ParamsFit, opened_fits, later_fits}
 use Rattle.sched_ranges.proofs.Walk.{DomFits, NearEnd, NearProcessor, CoreFits, PoolFits, EndsFit, r_set_params, r_with_domain, fresh_core_fits}
 use Rattle.sched_laws.proofs.SiblingsLaw.{some_processor}
-use Rattle.sched_laws.proofs.Known.{IsKnownPool, known_pools}
+use Rattle.sched_laws.proofs.Known.{known_pools}
+use Rattle.sched_laws.specs.Known.{IsKnownPool}
 use Rattle.sched_ranges.proofs.BudgetWalk.{WholePool, CreditFits, whole_steps, n_later, n_fresh, n_set_params, n_with_domain}
 
 -- what is kept of every state

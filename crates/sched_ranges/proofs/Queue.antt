@@ -12,7 +12,8 @@ use Rattle.sched_model.specs.Places.{numbers_from, same_unit}
 use Rattle.sched_model.specs.Actions.{units_from}
 use Rattle.sched_laws.proofs.Lists.{AllByRecursion-map}
 use Rattle.sched_laws.proofs.Choices.{same_unit_same}
-use Rattle.sched_laws.proofs.Counts.{one, times, same_unit_refl}
+use Rattle.sched_laws.proofs.Counts.{same_unit_refl}
+use Rattle.sched_laws.specs.Counts.{one, times}
 use Rattle.sched_laws.proofs.OnePlace.{both_of, there_each}
 use Rattle.sched_ranges.specs.Ranges.{IsUnitOf}
 

@@ -41,9 +41,11 @@ use Rattle.sched_laws.proofs.Window.{FitsMajor, until_last}
 use Rattle.sched_laws.proofs.Fits.{ChangeFits}
 use Rattle.sched_laws.proofs.NullKept.{length_released}
 use Rattle.sched_model.specs.State.{has_come}
-use Rattle.sched_ranges.proofs.Credit2.{Credit2DomainFits, Credit2Fits, c_burn_cur, c_reset, c_take, c_switch_off, c_set_running, c_refilled, c_fresh, c_set_domain, c_later}
+use Rattle.sched_ranges.proofs.Credit2.{c_burn_cur, c_reset, c_take, c_switch_off, c_set_running, c_refilled, c_fresh, c_set_domain, c_later}
+use Rattle.sched_ranges.specs.Fits.{Credit2DomainFits, Credit2Fits}
 use Rattle.sched_ranges.proofs.Rtds as rtds_lemmas
-use Rattle.sched_ranges.proofs.Rtds.{RtdsFits, RtdsFit, rtds_chooses, rtds_replenished, rtds_set, rtds_fresh, rtds_later, fit_unit, fit_change_unit}
+use Rattle.sched_ranges.proofs.Rtds.{rtds_chooses, rtds_replenished, rtds_set, rtds_fresh, rtds_later, fit_unit, fit_change_unit}
+use Rattle.sched_ranges.specs.Fits.{RtdsFits, RtdsFit}
 
 pub record ArincFits (t : ℕ) (records : ArincRecords) : Type 0 where
   pub installed : records.installed ≤ t

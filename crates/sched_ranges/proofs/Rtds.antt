@@ -18,24 +18,7 @@ use Rattle.sched_model.specs.Rtds.{burn, burn_to, replenish, change_unit, budget
 use Rattle.sched_laws.specs.Each.{EachPlace}
 use Rattle.sched_laws.proofs.EachPlace.{EachPlace-change_at, by_option, by_cond, length_set}
 use Rattle.sched_laws.proofs.Opened.{each_get}
-
--- what a unit used since its budget was last filled, or since its level was 0
-abbrev pub used : RtdsUnit → ℕ
-used x = x.level * x.budget + (x.budget - x.left)
-
--- the moment up to which it was charged
-abbrev pub last_of : ℕ → RtdsUnit → ℕ
-last_of t x = unwrap_or x.burned t
-
-pub record RtdsFits (t : ℕ) (x : RtdsUnit) : Type 0 where
-  pub period : IsWithin 10000 1000000000000 x.period
-  pub budget : IsWithin 10000 1000000000000 x.budget
-  pub next_period : IsWithin 10000 1000000000000 x.next_period
-  pub next_budget : IsWithin 10000 1000000000000 x.next_budget
-  pub left : x.left ≤ x.budget
-  pub spent : used x ≤ last_of t x
-  pub last : last_of t x ≤ t
-  pub deadline : x.deadline ≤ t + 1000000000000
+use Rattle.sched_ranges.specs.Fits.{used, last_of, RtdsFits, RtdsFit}
 
 pub rtds_later : (t next : ℕ) (x : RtdsUnit) → t ≤ next → RtdsFits t x → RtdsFits next x
 rtds_later t next x past fits = record {
@@ -176,10 +159,6 @@ pub AllByRecursion-change_item : {X : Type 0} (P : X → Type 0) (i : ℕ) (f : 
 AllByRecursion-change_item P i f [] keeps each = tt
 AllByRecursion-change_item P zero f (x ∷ xs) keeps each = (keeps x refl each.0, each.1)
 AllByRecursion-change_item P (suc i) f (x ∷ xs) keeps each = (each.0, AllByRecursion-change_item P i f xs keeps each.1)
-
--- the records of all domains of a pool
-abbrev pub RtdsFit : ℕ → List (Option (List RtdsUnit)) → Type 0
-RtdsFit t domains = EachPlace (AllByRecursion (RtdsFits t)) domains
 
 pub fit_unit : (t : ℕ) (domains : List (Option (List RtdsUnit))) (u : UnitId) (x : RtdsUnit) → rtds_unit domains u ≡ Some x → RtdsFit t domains → RtdsFits t x
 fit_unit t domains u x is fit =

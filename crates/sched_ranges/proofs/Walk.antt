@@ -42,7 +42,8 @@ use Rattle.sched_laws.proofs.Bools.{and_left, and_right}
 use Rattle.sched_laws.proofs.EachPlace.{EachAt-change_at, EachAt-put_at, EachAt-clear_at, EachPlace-change_at, EachPlace-put_at, EachPlace-clear_at, EachPlace-change_each, EachPlace-empty, read_change_at, by_option, by_test, by_cond, length_set, length_change_each}
 use Rattle.sched_laws.proofs.Lists.{AllByRecursion-push, AllByRecursion-filter, some-test_at, length_change_item}
 use Rattle.sched_laws.proofs.Opened.{each_get}
-use Rattle.sched_laws.proofs.Choices.{IfUnit, decision_has}
+use Rattle.sched_laws.proofs.Choices.{decision_has}
+use Rattle.sched_laws.specs.Known.{IfUnit}
 use Rattle.sched_laws.proofs.Awake.{part_past}
 use Rattle.sched_laws.proofs.Sound.{read_change_item}
 use Rattle.sched_laws.proofs.Fits.{ChangeFits, RtdsFits}

@@ -17,26 +17,10 @@ use Rattle.sched_model.specs.Rtds as rtds
 use Rattle.std.proofs.lemmas.List.{length-replicate}
 use Rattle.sched_laws.specs.Each.{EachAt, EachPlace}
 use Rattle.sched_laws.proofs.EachPlace.{EachAt-change_at, EachPlace-change_at, EachPlace-put_at, EachPlace-clear_at, read_clear_at, at_place-put_at, at_place-put_at_other, at_place-clear_at, at_place-clear_at_other, is_empty, place_below, length_set}
-use Rattle.sched_records.proofs.Measured.{measured, measured_put_at, measured_clear_at}
-use Rattle.sched_records.proofs.Shape.{shape, units_in}
-
--- there is a place for each domain, and at it the count of its units; there is no count where no domain is
-pub record HasCounts (g : ℕ) (domains : List (Option Domain)) (counts : List (Option ℕ)) : Type 0 where
-  pub places : length counts ≡ length domains
-  pub counts_are : EachAt (λ d (x : Domain). at_place counts d ≡ Some (unit_count g x)) domains
-  pub others : (d : ℕ) → at_place domains d ≡ None → at_place counts d ≡ None
-
-abbrev pub CountsFit : ℕ → List (Option Domain) → Option (List (Option ℕ)) → Type 0
-CountsFit g domains None = Unit {0}
-CountsFit g domains (Some counts) = HasCounts g domains counts
-
--- the same, and each domain has a unit
-pub record Keeps (g : ℕ) (domains : List (Option Domain)) (counts : Option (List (Option ℕ))) : Type 0 where
-  pub some_unit : EachPlace (λ (x : Domain). 1 ≤ unit_count g x) domains
-  pub fit : CountsFit g domains counts
-
-abbrev pub KeepsPool : ℕ → Pool → Type 0
-KeepsPool g pool = Keeps g pool.domains (shape pool.scheduler.records)
+use Rattle.sched_records.proofs.Measured.{measured_put_at, measured_clear_at}
+use Rattle.sched_records.specs.Counts.{measured}
+use Rattle.sched_records.specs.Counts.{shape, units_in}
+use Rattle.sched_records.specs.Counts.{HasCounts, CountsFit, Keeps, KeepsPool}
 
 -- the records change, and have as many units of each domain as before
 pub keeps_shape : (g : ℕ) (domains : List (Option Domain)) (old next : Records) → shape next ≡ shape old → Keeps g domains (shape old) → Keeps g domains (shape next)

@@ -20,8 +20,8 @@ use Rattle.sched_laws.proofs.PoolsLaw.{IsKnown}
 use Rattle.sched_laws.proofs.Steps.{step_after}
 use Rattle.sched_records.specs.Records.{IsRecorded, IsUnrecorded, HasRecords}
 use Rattle.sched_records.proofs.Measured.{read_measured, none_measured}
-use Rattle.sched_records.proofs.Shape.{shape, units_in}
-use Rattle.sched_records.proofs.Counts.{CountsFit, KeepsPool}
+use Rattle.sched_records.specs.Counts.{shape, units_in}
+use Rattle.sched_records.specs.Counts.{CountsFit, KeepsPool}
 use Rattle.sched_records.proofs.Walk.{AnyEnd, AnyEnds, SomeUnit, records_steps}
 use Rattle.sched_records.proofs.Opening.{opening_keeps}
 

@@ -2,10 +2,7 @@
 use Rattle.std.proofs.Common.{◌≡◌, ℕ, zero, suc, List, [], ◌∷◌, refl, arith, ap, ◌∙◌, length}
 use Rattle.std.specs.Prelude.{Option, Some, None, option_map}
 use Rattle.sched_model.specs.Places.{at_place, put_at, clear_at, change_at, change_each}
-
-abbrev pub measured : {X : Type 0} → (X → ℕ) → List (Option X) → List (Option ℕ)
-measured measure [] = []
-measured measure (o ∷ places) = option_map measure o ∷ measured measure places
+use Rattle.sched_records.specs.Counts.{measured}
 
 pub length_measured : {X : Type 0} (measure : X → ℕ) (places : List (Option X)) → length (measured measure places) ≡ length places
 length_measured measure [] = refl

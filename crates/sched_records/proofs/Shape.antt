@@ -23,22 +23,9 @@ use Rattle.sched_model.specs.Rtds as rtds
 use Rattle.sched_model.specs.NullScheduler as null
 use Rattle.sched_laws.proofs.EachPlace.{by_option, by_cond}
 use Rattle.sched_laws.proofs.Lists.{length_change_item}
-use Rattle.sched_records.proofs.Measured.{measured, measured_change_at, measured_change_each}
-
-abbrev pub units_in : Credit2Domain → ℕ
-units_in d = length d.units
-
-abbrev pub credit2_counts : Credit2Records → List (Option ℕ)
-credit2_counts records = measured units_in records.domains
-
-abbrev pub rtds_counts : List (Option (List RtdsUnit)) → List (Option ℕ)
-rtds_counts domains = measured length domains
-
-abbrev pub shape : Records → Option (List (Option ℕ))
-shape (Credit2Pool records) = Some (credit2_counts records)
-shape (RtdsPool domains) = Some (rtds_counts domains)
-shape (ArincPool records) = None
-shape (NullPool kept) = None
+use Rattle.sched_records.proofs.Measured.{measured_change_at, measured_change_each}
+use Rattle.sched_records.specs.Counts.{measured}
+use Rattle.sched_records.specs.Counts.{units_in, credit2_counts, rtds_counts, shape}
 
 abbrev some_counts : List (Option ℕ) → Option (List (Option ℕ))
 some_counts counts = Some counts

@@ -33,9 +33,12 @@ use Rattle.sched_model.specs.Pool.{after_in, change_domain, change_vcpu, ask_of,
 use Rattle.sched_laws.proofs.EachPlace.{EachPlace-empty, is_empty, by_option, by_test, by_cond}
 use Rattle.sched_laws.proofs.Lists.{length_change_item}
 use Rattle.sched_laws.proofs.Steps.{IsKeptAt}
-use Rattle.sched_records.proofs.Measured.{measured, length_measured, read_measured}
-use Rattle.sched_records.proofs.Shape.{shape, units_in, shape_decision, shape_replenished, shape_refilled, shape_changed}
-use Rattle.sched_records.proofs.Counts.{Keeps, KeepsPool, CountsFit, Matches, keeps_shape, keeps_change_at, keeps_joined, keeps_parted}
+use Rattle.sched_records.proofs.Measured.{length_measured, read_measured}
+use Rattle.sched_records.specs.Counts.{measured}
+use Rattle.sched_records.proofs.Shape.{shape_decision, shape_replenished, shape_refilled, shape_changed}
+use Rattle.sched_records.specs.Counts.{shape, units_in}
+use Rattle.sched_records.proofs.Counts.{Matches, keeps_shape, keeps_change_at, keeps_joined, keeps_parted}
+use Rattle.sched_records.specs.Counts.{Keeps, KeepsPool, CountsFit}
 
 -- all that is needed of the ends of stalls is nothing; a domain that comes has a unit
 abbrev pub AnyEnd : ℕ → Type 0

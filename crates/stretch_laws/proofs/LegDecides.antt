@@ -30,7 +30,8 @@ use Rattle.sched_model.specs.Pool.{ask_of, decided, same_choice}
 use Rattle.sched_laws.specs.Each.{EachAt}
 use Rattle.sched_laws.proofs.Bools.{and_right, one_of, or_more}
 use Rattle.sched_laws.proofs.Counts.{same_unit_refl}
-use Rattle.sched_laws.proofs.Choices.{IfUnit, decision_has}
+use Rattle.sched_laws.proofs.Choices.{decision_has}
+use Rattle.sched_laws.specs.Known.{IfUnit}
 use Rattle.sched_laws.proofs.EachPlace.{EachAt-change_to, EachAt-change_at, EachAt-change_each, at_place-put_at, at_place-put_at_other, at_place-clear_at_other, place_below, by_option, by_test, by_cond}
 use Rattle.sched_laws.proofs.Lists.{AllByRecursion-filter}
 use Rattle.sched_laws.proofs.OnePlace.{same_choice_same}

@@ -47,7 +47,8 @@ use Rattle.sched_laws.proofs.Free.{free_after}
 use Rattle.sched_laws.proofs.Kept.{IsKept}
 use Rattle.sched_laws.proofs.Lists.{some-test_at, test_at-some, is_some_at}
 use Rattle.sched_laws.proofs.Opened.{each_get, read_map, read_pools, with_configured-resources}
-use Rattle.sched_laws.proofs.OwnUnits.{UnitsAreOwn, units_are_own}
+use Rattle.sched_laws.proofs.OwnUnits.{units_are_own}
+use Rattle.sched_laws.specs.Known.{UnitsAreOwn}
 use Rattle.sched_laws.proofs.Reached as reached
 use Rattle.sched_laws.proofs.Ready.{next_later}
 use Rattle.sched_laws.proofs.Steps.{IsKeptAt}
@@ -55,7 +56,7 @@ use Rattle.sched_laws.proofs.StillWaits.{split_run}
 use Rattle.sched_ranges.proofs.BudgetWalk.{CreditFits, n_fresh}
 use Rattle.sched_ranges.proofs.Law.{StateFits, fits_in_runs}
 use Rattle.sched_ranges.proofs.Records.{RecordsFit}
-use Rattle.sched_ranges.proofs.Rtds.{RtdsFits}
+use Rattle.sched_ranges.specs.Fits.{RtdsFits}
 use Rattle.turn_laws.specs.Stretches.{Legs, cores, open_legs, legs_after, legs_with, leg_of, has_no_older_leg, units}
 use Rattle.turn_laws.proofs.Changed.{at_place-change_at}
 use Rattle.turn_laws.proofs.StretchFalls.{legs_push, push_assoc, after_push}

@@ -6,7 +6,7 @@ use Rattle.sched_base.specs.RtdsNumbers.{burned_left, burned_level}
 use Rattle.sched_base.specs.Credit2Numbers.{quota, total as credit2_total}
 use Rattle.sched_model.specs.Opening.{core_count}
 use Rattle.sched_laws.proofs.Opened.{each_get}
-use Rattle.sched_ranges.proofs.Credit2.{UnitFits}
+use Rattle.sched_ranges.specs.Fits.{UnitFits}
 use Rattle.sched_ranges.proofs.Records.{RecordsFit}
 use Rattle.sched_ranges.proofs.Law.{fits_in_runs}
 use Rattle.std.proofs.lemmas.List.Elements.{recursion_from_All}
@@ -45,11 +45,13 @@ use Rattle.sched_model.specs.Checked.{IsChecked}
 use Rattle.sched_laws.specs.StateLaws.{state_after}
 use Rattle.sched_laws.proofs.Bools.{and_left, and_right}
 use Rattle.sched_laws.proofs.Choices.{at_unit}
-use Rattle.sched_laws.proofs.Counts.{total, times, one_at, times_some, total_at, total_two, same_unit_refl}
+use Rattle.sched_laws.proofs.Counts.{times_some, total_at, total_two, same_unit_refl}
+use Rattle.sched_laws.specs.Counts.{total, times, one_at}
 use Rattle.sched_laws.proofs.Lists.{some-test_at, some_is, is_some_at, test_at-some}
 use Rattle.sched_laws.proofs.NullKept.{KeptFits, kept_of}
-use Rattle.sched_laws.proofs.OwnUnits.{IsStaying, there_if_staying}
-use Rattle.sched_laws.proofs.OnePlace.{OnePlace, core_places}
+use Rattle.sched_laws.proofs.OwnUnits.{there_if_staying}
+use Rattle.sched_laws.specs.Known.{IsStaying}
+use Rattle.sched_laws.specs.Known.{OnePlace, core_places}
 use Rattle.sched_laws.proofs.Reached.{one_place, null_fits, units_are_own, core_is_whole, is_apart}
 use Rattle.sched_laws.proofs.SiblingsLaw.{some_processor}
 use Rattle.sched_laws.proofs.StillWaits.{core_home, split_run}

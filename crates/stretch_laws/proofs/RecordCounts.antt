@@ -10,7 +10,7 @@ use Rattle.sched_model.specs.declared.state.Credit2Domain.{Credit2Domain}
 use Rattle.sched_model.specs.declared.state.Credit2Unit.{Credit2Unit}
 use Rattle.sched_model.specs.Places.{at_place, numbers_from}
 use Rattle.sched_model.specs.Actions.{units_from}
-use Rattle.sched_laws.proofs.Counts.{total}
+use Rattle.sched_laws.specs.Counts.{total}
 use Rattle.sched_laws.proofs.Opened.{length_map_numbers}
 use Rattle.turn_laws.specs.Turns.{how_many}
 use Rattle.turn_laws.proofs.Sums.{how_many_most}

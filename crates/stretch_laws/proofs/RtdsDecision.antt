@@ -22,7 +22,7 @@ use Rattle.sched_model.specs.Policy.{is_better, better_waits}
 use Rattle.sched_model.specs.Pool.{home_cores, ask_of}
 use Rattle.sched_laws.proofs.Bools.{and_left, and_right, both, one_of, clash}
 use Rattle.sched_laws.proofs.Choices.{at_unit}
-use Rattle.sched_laws.proofs.Counts.{total}
+use Rattle.sched_laws.specs.Counts.{total}
 use Rattle.turn_laws.specs.Stretches.{units}
 use Rattle.turn_laws.specs.Turns.{how_many, is_secure, ahead}
 use Rattle.turn_laws.specs.GoodDecisions.{DecidesWell, StirsNone, Secure, SecureThen, decision, next, Standing}

@@ -10,7 +10,8 @@ use Rattle.sched_model.specs.Eligible.{rtds_unit, passes}
 use Rattle.sched_model.specs.Rtds.{is_before, unit_before, budget_left, foremost, change_unit}
 use Rattle.sched_laws.proofs.Bools.{one_of, or_more, either, clash}
 use Rattle.sched_laws.proofs.Choices.{same_unit_same}
-use Rattle.sched_laws.proofs.Counts.{total, same_unit_refl}
+use Rattle.sched_laws.proofs.Counts.{same_unit_refl}
+use Rattle.sched_laws.specs.Counts.{total}
 use Rattle.sched_laws.proofs.EachPlace.{by_option}
 use Rattle.turn_laws.specs.Turns.{how_many, one, goes_before, ahead}
 use Rattle.turn_laws.proofs.Sums.{count_no_more, count_less, total_no_more, total_less}

@@ -20,7 +20,7 @@ use Rattle.sched_model.specs.Machine.{after, event_of, after_dom_moved, left_by,
 use Rattle.sched_laws.proofs.EachPlace.{by_option, by_cond, at_place-change_each}
 use Rattle.sched_laws.proofs.Bools.{and_left, and_right, not_true, or_left, is_same}
 use Rattle.sched_laws.proofs.Lists.{test_at-some, some-test_at, none_passes, at_numbered}
-use Rattle.sched_laws.proofs.OwnUnits.{IsThere}
+use Rattle.sched_laws.specs.Known.{IsThere}
 use Rattle.sched_laws.proofs.Opened.{with_domain-resources}
 use Rattle.part_laws.proofs.Alike.{mover_of}
 use Rattle.term_laws.specs.RtdsTerm.{moves}

@@ -11,8 +11,8 @@ use Rattle.sched_model.specs.Checked.{IsChecked}
 use Rattle.sched_model.specs.Machine.{after}
 use Rattle.sched_model.specs.Runs.{Reached, action_of, end_of, after_quiet, after_event, after_entry, after_entries, begun, IsNext, IsRunFrom, IsRun}
 use Rattle.sched_laws.proofs.Kept.{IsApart}
-use Rattle.sched_laws.proofs.OwnUnits.{UnitsAreOwn}
-use Rattle.sched_laws.proofs.OnePlace.{OnePlace}
+use Rattle.sched_laws.specs.Known.{UnitsAreOwn}
+use Rattle.sched_laws.specs.Known.{OnePlace}
 use Rattle.sched_laws.proofs.Reached.{is_apart, units_are_own, one_place}
 use Rattle.sched_ranges.specs.Ranges.{StateInRange}
 use Rattle.sched_ranges.proofs.Done.{in_range}

@@ -23,10 +23,12 @@ use Rattle.sched_model.specs.Policy.{rtds_record}
 use Rattle.sched_model.specs.Pool.{core_of, after_replenish, due_within, with_records}
 use Rattle.std.specs.Prelude.{min}
 use Rattle.sched_laws.proofs.EachPlace.{by_option, none_found, found_at}
-use Rattle.sched_laws.proofs.Choices.{same_unit_same, is_unit_same, IfUnit, decision_has}
+use Rattle.sched_laws.proofs.Choices.{same_unit_same, is_unit_same, decision_has}
+use Rattle.sched_laws.specs.Known.{IfUnit}
 use Rattle.std.specs.List.{AllByRecursion}
-use Rattle.sched_laws.proofs.OnePlace.{places, core_places}
-use Rattle.sched_laws.proofs.Counts.{same_unit_refl, times, one, total_at, one_at}
+use Rattle.sched_laws.specs.Known.{places, core_places}
+use Rattle.sched_laws.proofs.Counts.{same_unit_refl, total_at}
+use Rattle.sched_laws.specs.Counts.{times, one, one_at}
 use Rattle.term_laws.proofs.RtdsSteps.{Recorded, recorded_other, Chosen, Passed, decides_on, decides_off, at_place-set_other, at_place-change_at, at_place-change_at_other, burned_kept, rtds_unit-same}
 use Rattle.term_laws.proofs.SamePool.{Same, seen, charged}
 

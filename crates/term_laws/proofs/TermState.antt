@@ -22,15 +22,17 @@ use Rattle.sched_model.specs.Machine.{is_enabled, after}
 use Rattle.term_laws.specs.RtdsTerm.{core_in}
 use Rattle.sched_laws.proofs.EachPlace.{found_at, none_found, by_option}
 use Rattle.sched_laws.proofs.Lists.{test_at-some, some-test_at, is_some_at, AllByRecursion-map}
-use Rattle.sched_laws.proofs.OwnUnits.{UnitsAreOwn, IsThere, IsStaying, there_if_staying}
-use Rattle.sched_laws.proofs.Choices.{IfUnit, decision_has, same_unit_same}
+use Rattle.sched_laws.proofs.OwnUnits.{there_if_staying}
+use Rattle.sched_laws.specs.Known.{UnitsAreOwn, IsThere, IsStaying}
+use Rattle.sched_laws.proofs.Choices.{decision_has, same_unit_same}
+use Rattle.sched_laws.specs.Known.{IfUnit}
 use Rattle.std.proofs.Math.Decide.{ℕ_discrete}
 use Rattle.sched_laws.proofs.Kept.{IsApart}
 use Rattle.term_laws.proofs.SamePool.{same_refl, same_settled, seen}
 use Rattle.sched_base.specs.declared.Moment.{Moment}
 use Rattle.term_laws.proofs.SameAt.{LeavesIt, sat_after}
 use Rattle.term_laws.proofs.TermPool.{OffPool, OnPool, off_same, on_same, on_decides, off_decides, other_decides, not_chosen, core_seen}
-use Rattle.sched_laws.proofs.OnePlace.{places}
+use Rattle.sched_laws.specs.Known.{places}
 use Rattle.term_laws.proofs.TermSums.{Within, IsOn}
 
 -- the pool that has the unit, with what holds of it

@@ -21,7 +21,7 @@ use Rattle.sched_model.specs.Eligible.{is_allowed, is_placed, rtds_unit}
 use Rattle.sched_model.specs.Policy.{better_waits}
 use Rattle.sched_model.specs.Pool.{home_cores, is_held, is_open}
 use Rattle.sched_laws.specs.Each.{EachPlace}
-use Rattle.sched_laws.proofs.Counts.{total}
+use Rattle.sched_laws.specs.Counts.{total}
 use Rattle.turn_laws.specs.Stretches.{cores, units}
 
 -- what f makes of the numbers below n, added up
