@@ -2,13 +2,14 @@
 //! call ends: the status's number, and the line that `xensched` prints on standard error where that is not 0.
 //!
 //! A line is the words of one call, parted by single spaces; an empty line has no words. The files that the words name stand in
-//! `data/`. Before the words may stand `fail-read N` or `fail-put N`, where the Nth read or put of the call fails, or `sure`, for a
-//! store and a sink that never fail. These calls have the files in memory, and what they put there is printed.
+//! `data/`. Before the words may stand `fail-read N` or `fail-put N`, where the Nth read or put of the call fails, `sure`, for a
+//! store and a sink that never fail, or `no-memory`, for a store that has no memory for any file. These calls have the files in
+//! memory, and what they put there is printed.
 #![tactic(auto)]
 
 mod memory;
 
-use memory::{try_failing, try_surely};
+use memory::{try_failing, try_scantly, try_surely};
 use sched_io::{FileStore, OutSink};
 use std::alloc::Global;
 use std::io;
@@ -44,6 +45,7 @@ fn try_words(rt: &HostRuntime, words: &[String]) -> Status {
             try_failing(rt, words, 0, n.parse().unwrap_or(0))
         }
         [way, words @ ..] if way.as_str() == "sure" => try_surely(rt, words),
+        [way, words @ ..] if way.as_str() == "no-memory" => try_scantly(rt, words),
         _ => try_files(rt, words),
     }
 }

@@ -2,8 +2,9 @@
 
 use sched_base::NoMemory;
 use sched_io::{
-    FileStore, MOST_BYTES, MemSink, MemStore, OutSink, Sink, Store, SureSink, SureStore,
+    FileStore, MOST_BYTES, MemSink, MemStore, OutSink, ReadErr, Sink, Store, SureSink, SureStore,
 };
+use std::alloc::Global;
 use xensched_top::status::Status;
 use xensched_top::sure::xensched_surely;
 use xensched_top::top::xensched;
@@ -41,6 +42,21 @@ fn sure_store(rt: &HostRuntime, words: &[String]) -> Result<SureStore, NoMemory>
     Ok(store)
 }
 
+/// A store that has no memory for what a name holds.
+struct ScantStore {}
+
+impl Store for ScantStore {
+    ghost use Rattle.std.specs.Prelude.{None};
+
+    ghost held = { λ _ _. None };
+
+    ghost faults = { λ _ _. 0 };
+
+    fn read_all(&mut self, _alloc: Global, _name: &str) -> Result<Vec<u8>, ReadErr> {
+        Err(ReadErr::NoMemory)
+    }
+}
+
 /// Prints what was put; a status of its own where that fails.
 fn printed(rt: &HostRuntime, bytes: &[u8], status: Status) -> Status {
     match OutSink::new(rt).put(bytes) {
@@ -70,5 +86,14 @@ pub fn try_surely(rt: &HostRuntime, words: &[String]) -> Status {
         return Status::NoMemory;
     };
     let status = xensched_surely(rt.alloc(), words, &mut store, &mut sink);
+    printed(rt, sink.bytes(), status)
+}
+
+/// The call where no file can be read for want of memory.
+pub fn try_scantly(rt: &HostRuntime, words: &[String]) -> Status {
+    let Ok(mut sink) = MemSink::room(rt.alloc(), ROOM, &[]) else {
+        return Status::NoMemory;
+    };
+    let status = xensched(rt.alloc(), words, &mut ScantStore {}, &mut sink);
     printed(rt, sink.bytes(), status)
 }
