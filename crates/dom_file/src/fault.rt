@@ -78,9 +78,25 @@ impl Text {
     }
 }
 
+/// As many bytes of a text are shown at most.
+const MOST_SHOWN: usize = 64;
+
+/// The text is shown on one line, whatever it holds: a byte that is no printable ASCII character, and each backslash, as `\x` and
+/// two digits, and of a text with more than 64 bytes the first 64, with `..` behind them.
 impl fmt::Display for Text {
     fn fmt<W: fmt::Write>(&self, f: &mut fmt::Formatter<W>) -> fmt::Result {
-        write!(f, "{}", self.text.as_str())
+        let bytes = self.text.as_bytes();
+        for byte in bytes.iter().take(MOST_SHOWN) {
+            if byte.is_ascii_graphic() && *byte != b'\\' {
+                write!(f, "{}", char::from(*byte))?;
+            } else {
+                write!(f, "\\x{:02x}", byte)?;
+            }
+        }
+        if bytes.len() > MOST_SHOWN {
+            write!(f, "..")?;
+        }
+        Ok(())
     }
 }
 
