@@ -1,6 +1,6 @@
 -- What the tool finds by what it knows is what the definitions find in the state.
 use Rattle.sched_base.specs.Numbers.{domain as domain_number, pool as pool_number}
-use Rattle.std.proofs.Common.{◌≡◌, ℕ, zero, suc, Bool, true, false, List, [], ◌∷◌, length, map, refl, ◌∙◌, ap, subst, nat_lt}
+use Rattle.std.proofs.Common.{◌≡◌, ℕ, zero, suc, Bool, true, false, List, [], ◌∷◌, length, map, refl, ◌∙◌, ap, nat_lt}
 use Rattle.std.specs.Prelude.{Option, Some, None, is_some, option_map, slice_index_or, bytes_eq, cond}
 use Rattle.sched_model.specs.declared.config.DomConfig.{DomConfig}
 use Rattle.sched_model.specs.declared.command.Command.{Command}
@@ -15,9 +15,9 @@ use Rattle.sched_model.specs.Places.{at_place, first_place}
 use Rattle.sched_model.specs.Actions as actions
 use Rattle.sched_model.specs.Commands.{pool_of, domain_of, domain_named}
 use Rattle.journal_core.specs.Parts.{outline_of}
-use Rattle.cpupool.specs.Tool.{Tool, tool_of, entry_of}
+use Rattle.cpupool.specs.Tool.{tool_of, entry_of}
 use Rattle.cpupool.specs.Facts.{subject_of, pool_subject, domain_subject}
-use Rattle.cpupool.specs.Judging.{seen_pool, seen_domain, seen_subject, seen_pool_subject, seen_domain_subject, entry_named, has_core, home_of_core, home_of_domain}
+use Rattle.cpupool.specs.Judging.{seen_pool, seen_domain, seen_subject, seen_pool_subject, seen_domain_subject, entry_named, has_core, home_of_core, home_of_domain, seen_core_pool, seen_domain_pool}
 
 -- what stands at a place, each place changed
 pub at_place-map : {X Y : Type 0} (f : X → Y) (places : List (Option X)) (n : ℕ) → at_place (map (option_map f) places) n ≡ option_map f (at_place places n)
@@ -91,9 +91,9 @@ core_home-seen m s r =
     first_place-map outline_of (λ o. has_core o r) 0 s.pools
     ∙ first_place-same (λ (pool : Pool). has_core (outline_of pool) r) (λ (pool : Pool). is_some (at_place pool.resources r)) 0 s.pools (λ pool. flag-there pool.resources r)
 
--- the pool of a core, as it is answered
-pub core_home_told : (tool : Tool) (r : ℕ) (m : Machine) (s : State) → tool_of m s ≡ tool → option_map pool_number (home_of_core tool.part r) ≡ option_map pool_number (actions.home_of_core s r)
-core_home_told tool r m s is = subst (λ (t : Tool). option_map pool_number (home_of_core t.part r) ≡ option_map pool_number (actions.home_of_core s r)) is (ap (option_map pool_number) (core_home-seen m s r))
+-- the pool of a core
+pub core_pool_seen : (m : Machine) (s : State) (r : ℕ) → seen_core_pool (tool_of m s) r ≡ option_map pool_number (actions.home_of_core s r)
+core_pool_seen m s r = ap (option_map pool_number) (core_home-seen m s r)
 
 -- the home of a domain
 pub domain_home-seen : (m : Machine) (s : State) (d : ℕ) → home_of_domain (tool_of m s).part d ≡ actions.home_of_domain s d
@@ -101,9 +101,9 @@ domain_home-seen m s d =
     first_place-map outline_of (λ o. is_some (at_place o.domains d)) 0 s.pools
     ∙ first_place-same (λ (pool : Pool). is_some (at_place (outline_of pool).domains d)) (λ (pool : Pool). is_some (at_place pool.domains d)) 0 s.pools (λ pool. there-map _ pool.domains d)
 
--- the pool of a domain, as it is answered
-pub domain_home_told : (tool : Tool) (d : ℕ) (m : Machine) (s : State) → tool_of m s ≡ tool → option_map pool_number (home_of_domain tool.part d) ≡ option_map pool_number (actions.home_of_domain s d)
-domain_home_told tool d m s is = subst (λ (t : Tool). option_map pool_number (home_of_domain t.part d) ≡ option_map pool_number (actions.home_of_domain s d)) is (ap (option_map pool_number) (domain_home-seen m s d))
+-- the pool of a domain
+pub domain_pool_seen : (m : Machine) (s : State) (d : ℕ) → seen_domain_pool (tool_of m s) d ≡ option_map pool_number (actions.home_of_domain s d)
+domain_pool_seen m s d = ap (option_map pool_number) (domain_home-seen m s d)
 
 pub pool_subject-seen : (m : Machine) (s : State) (which : Which) → seen_pool_subject (tool_of m s) which ≡ pool_subject s which
 pool_subject-seen m s which = ap (λ i. record { pool = option_map pool_number i; dom = None }) (pool-seen m s which)

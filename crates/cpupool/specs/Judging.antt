@@ -3,6 +3,7 @@ use Rattle.sched_base.specs.Numbers.{span, core as core_number, domain as domain
 use Rattle.std.specs.Prelude.{ℕ, suc, ◌+◌, ◌-◌, ◌*◌, ◌/◌, ◌^◌, ◌==◌, ◌&&◌, ◌||◌, Bool, true, false, not, List, [], ◌∷◌, ◌++◌, Option, Some, None, Result, Ok, Err, is_none, is_some, option_map, unwrap_or, slice_get, slice_index_or, length, sum_by, count_by, take, drop, bit_and, bytes_eq, nat_lt, nat_le, if◌then◌else◌}
 use Rattle.std.specs.List.{list_any}
 use Rattle.sched_base.specs.declared.Cores.{Cores}
+use Rattle.sched_base.specs.declared.PoolId.{PoolId}
 use Rattle.sched_model.specs.declared.config.FrameEntry.{FrameEntry}
 use Rattle.sched_model.specs.declared.config.SchedKind.{SchedKind}
 use Rattle.sched_model.specs.declared.config.SchedKind.TheVariants as kinds
@@ -50,13 +51,20 @@ seen_domain tool (Number d) = (if nat_lt d (length tool.domains) then Some d els
 abbrev pub has_core : Outline → ℕ → Bool
 has_core o r = slice_index_or o.cores r false
 
--- the pool that has the core; the pool that has the domain
+-- the pool that has the core
 abbrev pub home_of_core : ToolPart → ℕ → Option ℕ
 home_of_core part r = first_place 0 (λ o. has_core o r) part.pools
 
 -- the pool that has the domain
 abbrev pub home_of_domain : ToolPart → ℕ → Option ℕ
 home_of_domain part d = first_place 0 (λ o. is_some (at_place o.domains d)) part.pools
+
+-- the pool that has a core, and the one that has a domain
+abbrev pub seen_core_pool : Tool → ℕ → Option PoolId
+seen_core_pool tool r = option_map pool_number (home_of_core tool.part r)
+
+abbrev pub seen_domain_pool : Tool → ℕ → Option PoolId
+seen_domain_pool tool d = option_map pool_number (home_of_domain tool.part d)
 
 -- a command that names this pool
 abbrev pub seen_pool_subject : Tool → Which → Subject

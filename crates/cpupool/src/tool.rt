@@ -59,7 +59,7 @@ impl Model for ToolState {
 impl ToolState {
     ghost use Rattle.std.specs.Prelude.{◌≡◌, IfOk, option_map};
     ghost use Rattle.sched_base.specs.Numbers.{pool as pool_number};
-    ghost use Rattle.sched_model.specs.Actions.{home_of_core as home_of_core_in, home_of_domain as home_of_domain_in};
+    ghost use Rattle.sched_model.specs.Actions.{home_of_core, home_of_domain};
     ghost use Rattle.sched_model.specs.declared.machine.Machine.{Machine};
     ghost use Rattle.sched_model.specs.declared.state.State.{State as StateRecord};
     ghost use Rattle.journal_core.specs.Parts.{tool_of as part_of_tool};
@@ -69,7 +69,7 @@ impl ToolState {
     ghost use Rattle.cpupool.specs.OpenedTool.{opened_tool};
     ghost use Rattle.sched_model.specs.Checked.{IsChecked, IsCheckedConfig, IsCheckedWork};
     ghost use Rattle.sched_model.specs.Opening.{opening};
-    ghost use Rattle.cpupool.specs.Judging.{seen_pool, seen_domain, seen_subject, seen_pool_subject, seen_domain_subject, home_of_core as home_of_core_spec, home_of_domain as home_of_domain_spec};
+    ghost use Rattle.cpupool.specs.Judging.{seen_pool, seen_domain, seen_subject, seen_pool_subject, seen_domain_subject, seen_core_pool, seen_domain_pool, home_of_domain as home_of_domain_spec};
 
     /// What the tool keeps of the machine at its opening. All memory is taken here.
     pub fn open(alloc: Global, config: &Config, work: &Work) -> Result<ToolState, NoMemory>
@@ -152,10 +152,15 @@ impl ToolState {
     }
 
     /// The pool that has the core, where one has it.
-    #[tactic(auto, using(crate::proofs::SubjectLemmas::core_home_told))]
     pub fn home_of_core(&self, r: ResId) -> Option<PoolId>
-        ensures part { result ≡ option_map pool_number (home_of_core_spec self.now.part r.0) }
-        ensures state { (m : Machine) → (s : StateRecord) → tool_of m s ≡ self.now → result ≡ option_map pool_number (home_of_core_in s r.0) }
+        ensures { (m : Machine) → (s : StateRecord) → tool_of m s ≡ self.now → result ≡ option_map pool_number (home_of_core s r.0) }
+    {
+        self.core_pool(r)
+    }
+
+    /// The same, by what the tool keeps.
+    fn core_pool(&self, r: ResId) -> Option<PoolId>
+        ensures { result ≡ seen_core_pool self.now r.0 }
     {
         match core_home(0, self.pools.as_slice(), r.0 as usize) {
             None => None,
@@ -164,10 +169,15 @@ impl ToolState {
     }
 
     /// The pool that has the domain, where one has it.
-    #[tactic(auto, using(crate::proofs::SubjectLemmas::domain_home_told))]
     pub fn home_of_domain(&self, d: DomId) -> Option<PoolId>
-        ensures part { result ≡ option_map pool_number (home_of_domain_spec self.now.part d.0) }
-        ensures state { (m : Machine) → (s : StateRecord) → tool_of m s ≡ self.now → result ≡ option_map pool_number (home_of_domain_in s d.0) }
+        ensures { (m : Machine) → (s : StateRecord) → tool_of m s ≡ self.now → result ≡ option_map pool_number (home_of_domain s d.0) }
+    {
+        self.domain_pool(d)
+    }
+
+    /// The same, by what the tool keeps.
+    fn domain_pool(&self, d: DomId) -> Option<PoolId>
+        ensures { result ≡ seen_domain_pool self.now d.0 }
     {
         match self.domain_home(d.0) {
             None => None,
