@@ -204,6 +204,7 @@ impl<P: Policy> PoolState<P> {
     }
 
     /// The cores and the domains that are here: core r is bit r of the first number, domain d is bit d of the second.
+    #[tactic(auto, using(sched_laws::proofs::HomeCores::home_has))]
     pub fn members(&self) -> (u64, u64)
         ensures cores { (r : ℕ) → has_bit result.0 r ≡ is_some (at_place self.now.pool.resources r) }
         ensures domains { (d : ℕ) → has_bit result.1 d ≡ is_some (at_place self.now.pool.domains d) }
