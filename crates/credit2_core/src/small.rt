@@ -6,7 +6,7 @@ ghost use Rattle.sched_model.specs.Places.{has_unit};
 ghost use Rattle.sched_model.specs.Policy.{enqueue as enqueue_spec, rate_of};
 ghost use Rattle.sched_ops.specs.Seen.{with_scheduler, restarted, dequeue as dequeue_spec};
 ghost use Rattle.sched_ops.specs.Conditions.{IsAway, Keeps, is_member, is_vacant};
-ghost use Rattle.sched_ops.specs.Told.{stored_of};
+ghost use Rattle.sched_ops.specs.Told.{IsInRange, stored_of};
 ghost use Rattle.credit2_core.specs.Held.{IsHeld, scheduler_in, seen_in};
 
 use crate::choice::leave;
@@ -53,7 +53,8 @@ pub fn restart(held: &mut Held, limit: u32)
 pub fn stored(held: &Held, u: UnitId) -> Stored
     requires held { IsHeld held.now }
     requires member { is_member (scheduler_in held.now) u ≡ true }
-    ensures { stored_of (scheduler_in held.now).records u ≡ Some result }
+    ensures value { stored_of (scheduler_in held.now).records u ≡ Some result }
+    ensures range { IsInRange result }
 {
     match domain_at(held.records.domains.as_slice(), u.dom.0) {
         None => Stored::Null,

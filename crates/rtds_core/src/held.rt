@@ -109,7 +109,7 @@ impl Held {
     ghost use Rattle.sched_ops.specs.Seen.{Tells, vacant, restarted, dequeue as dequeue_spec, units_of, with_scheduler, seen_at};
     ghost use Rattle.sched_ops.specs.Conditions.{IsNow, IsAsked, IsOwnOf, IsAway, HasNoneBusy, AreDomParams, IsChange, Keeps, is_member, is_vacant, has_joined};
     ghost use Rattle.sched_ops.specs.Timers.{timer_at, is_due, timer_event, after_timer};
-    ghost use Rattle.sched_ops.specs.Told.{stored_of};
+    ghost use Rattle.sched_ops.specs.Told.{IsInRange, stored_of};
     ghost use Rattle.rtds_core.specs.Kept.{IsRtds};
 
     /// The memory for a pool of a machine with these places, of which so many units may join.
@@ -311,7 +311,8 @@ impl Held {
     /// The newest values that are set of a unit.
     pub fn stored(&self, u: UnitId) -> Stored
         requires member { is_member self.now.scheduler u ≡ true }
-        ensures { stored_of self.now.scheduler.records u ≡ Some result }
+        ensures value { stored_of self.now.scheduler.records u ≡ Some result }
+        ensures range { IsInRange result }
     {
         match rtds_unit(self.domains.as_slice(), u) {
             None => Stored::Null,

@@ -93,6 +93,12 @@ pub record IsTerm (period budget : ℕ) : Type 0 where
   pub long : IsWithin 10000 1000000000000 period
   pub within : IsWithin 10000 period budget
 
+-- a period and a budget as a change may set them, each of 10 microseconds to 1000 seconds. Commands compare the two in whole microseconds, so
+-- the budget may be longer than the period by less than one
+pub record IsSetTerm (period budget : ℕ) : Type 0 where
+  pub long : IsWithin 10000 1000000000000 period
+  pub share : IsWithin 10000 1000000000000 budget
+
 -- the pool's parameters are of this scheduler, and in range
 abbrev pub ArePoolParams : SchedKind → PoolParams → Type 0
 ArePoolParams kinds.Credit2 (pool_params.Credit2 limit) = limit ≤ 500000
@@ -113,7 +119,7 @@ AreDomParams _ _ = ⊥
 abbrev pub IsChange : SchedKind → Scheduler → ParamChange → Type 0
 IsChange kinds.Credit2 scheduler (changes.Dom d weight cap) = (has_joined scheduler d.0 ≡ true) × ForSome weight IsWeight × ForSome cap IsCap
 IsChange kinds.Credit2 scheduler (changes.Rate limit) = limit ≤ 500000
-IsChange kinds.Rtds scheduler (changes.«Unit» u period budget extra) = (is_member scheduler u ≡ true) × IsTerm period.0 budget.0
+IsChange kinds.Rtds scheduler (changes.«Unit» u period budget extra) = (is_member scheduler u ≡ true) × IsSetTerm period.0 budget.0
 IsChange kinds.Arinc653 scheduler (changes.Frame frame) = IsFrame frame
 IsChange _ scheduler (changes.Pin d unit cores) = (has_joined scheduler d.0 ≡ true) × ForSome unit (λ (n : ℕ). n < units_of scheduler d.0)
 IsChange _ scheduler _ = ⊥

@@ -28,7 +28,7 @@ pub trait Policy: Drop {
     ghost use Rattle.sched_ops.specs.Seen.{Seen, Tells, vacant, restarted, dequeue as dequeue_spec, units_of, with_scheduler, seen_at};
     ghost use Rattle.sched_ops.specs.Conditions.{IsNow, IsAsked, IsOwnOf, IsAway, HasNoneBusy, ArePoolParams, AreDomParams, IsChange, Keeps, is_member, is_vacant, has_joined};
     ghost use Rattle.sched_ops.specs.Timers.{timer_at, is_due, timer_event, after_timer};
-    ghost use Rattle.sched_ops.specs.Told.{stored_of};
+    ghost use Rattle.sched_ops.specs.Told.{IsInRange, stored_of};
 
     /// What callers see.
     ghost seen: { Self → Seen };
@@ -125,7 +125,8 @@ pub trait Policy: Drop {
     /// The set values of a unit; for RTDS the newest ones.
     fn stored(&self, u: UnitId) -> Stored
         requires member { is_member (seen self.now).scheduler u ≡ true }
-        ensures { stored_of (seen self.now).scheduler.records u ≡ Some result };
+        ensures value { stored_of (seen self.now).scheduler.records u ≡ Some result }
+        ensures range { IsInRange result };
 
     /// The rate limit in microseconds, 0 for a scheduler that has none.
     fn rate(&self) -> u32

@@ -11,7 +11,6 @@ use Rattle.sched_ranges.proofs.Rtds.{rtds_set}
 use Rattle.rtds_core.specs.Kept.{IsKept, seen_of}
 use Rattle.rtds_core.proofs.Keeping.{queued_like}
 use Rattle.rtds_core.proofs.Steps.{kept_later, kept_like}
-use Rattle.rtds_core.proofs.Calls.{term_budget}
 use Rattle.rtds_core.proofs.Joining.{kept_pinned}
 use Rattle.rtds_core.proofs.held.Held.set_params.Goals as goal
 
@@ -26,7 +25,7 @@ invariant_of-self c =
     let f : RtdsUnit → RtdsUnit = λ x. record x { next_period = c.in-Unit.period.0; next_budget = c.in-Unit.budget.0; next_extra = c.in-Unit.extra } in
     subst (λ (ds : List (Option (List RtdsUnit))). IsKept ds i.affinity i.queues i.masks i.alarms i.spare c.args.t.0) (sym c.set_next.ensures)
     (kept_like i.domains i.affinity i.queues i.masks i.alarms i.spare c.args.t.0 c.in-Unit.unit f
-    (λ x fit. rtds_set c.args.t.0 x c.in-Unit.period.0 c.in-Unit.budget.0 c.in-Unit.extra term.long (term_budget c.in-Unit.period.0 c.in-Unit.budget.0 term) fit)
+    (λ x fit. rtds_set c.args.t.0 x c.in-Unit.period.0 c.in-Unit.budget.0 c.in-Unit.extra term.long term.share fit)
     (λ x. refl) (λ x. refl) (queued_like c.in-Unit.unit f i.domains (λ x. refl) (λ x. refl) (λ x. refl) i.queues later.queued) later)
 
 pub invariant_of-self-in-Pin : goal.invariant_of-self-in-Pin
