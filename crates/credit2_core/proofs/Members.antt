@@ -2,9 +2,12 @@
 use Rattle.std.proofs.Common.{◌≡◌, ◌<◌, ◌≤◌, ◌+◌, ℕ, zero, suc, Bool, true, false, List, [], ◌∷◌, length, map, refl, ap, subst, sym, ◌∙◌, arith, inl, inr, ◌⊎◌}
 use Rattle.std.specs.Prelude.{Option, Some, None, option_map, slice_get, nat_lt}
 use Rattle.std.specs.List.{AllByRecursion}
+use Rattle.std.proofs.lemmas.List.{length-map}
 use Rattle.sched_base.specs.Numbers.{domain}
 use Rattle.sched_base.specs.declared.Cores.{Cores}
 use Rattle.sched_base.specs.declared.UnitId.{UnitId}
+use Rattle.unit_places.specs.Places.{has_place}
+use Rattle.unit_places.proofs.Placed.{placed}
 use Rattle.sched_model.specs.declared.state.Credit2Unit.{Credit2Unit}
 use Rattle.sched_model.specs.declared.state.Credit2Domain.{Credit2Domain}
 use Rattle.sched_model.specs.declared.state.Credit2Records.{Credit2Records}
@@ -12,6 +15,7 @@ use Rattle.sched_model.specs.Places.{at_place, has_unit}
 use Rattle.sched_laws.proofs.Bools.{clash}
 use Rattle.sched_laws.proofs.Choices.{at_unit}
 use Rattle.sched_laws.proofs.Counts.{same_unit_refl}
+use Rattle.sched_laws.proofs.EachPlace.{place_below}
 use Rattle.sched_ranges.proofs.Decided.{unit_rec}
 use Rattle.sched_ranges.specs.Budgets.{AllRunOnly}
 use Rattle.credit2_core.specs.Places.{set_counts, unit_counts, count_at, has_joined}
@@ -62,6 +66,23 @@ joined_small t records affinity u range same joined =
     let few = (range.budgets u.dom.0 r.0 r.1).count in
     let inside = r.2 in
     omega (arith, few, inside)
+
+-- there are at most 64 places for domains
+pub few_sets : (t : ℕ) (records : Credit2Records) (affinity : List (Option (List Cores))) → InRange t records → set_counts affinity ≡ unit_counts records.domains → length affinity ≤ 64
+few_sets t records affinity range same =
+    let sets : length (set_counts affinity) ≡ length affinity = length-map affinity _ in
+    let units : length (unit_counts records.domains) ≡ length records.domains = length-map records.domains _ in
+    let e : length (set_counts affinity) ≡ length (unit_counts records.domains) = ap (λ (ks : List (Option ℕ)). length ks) same in
+    let few = range.few in
+    omega (arith, sets, units, e, few)
+
+-- a unit that has joined has a place in tables
+pub joined_place : (t : ℕ) (records : Credit2Records) (affinity : List (Option (List Cores))) (u : UnitId) → InRange t records → set_counts affinity ≡ unit_counts records.domains → has_joined affinity u ≡ true → has_place u ≡ true
+joined_place t records affinity u range same joined =
+    let r = joined_record affinity records.domains u same joined in
+    let below = place_below records.domains u.dom.0 r.0 r.1 in
+    let few = range.few in
+    placed u (omega (arith, below, few)) (joined_small t records affinity u range same joined)
 
 pub all_small : (t : ℕ) (records : Credit2Records) (affinity : List (Option (List Cores))) (units : List UnitId) → InRange t records → set_counts affinity ≡ unit_counts records.domains → AllByRecursion (λ u. has_joined affinity u ≡ true) units
     → AllByRecursion (λ (u : UnitId). u.n < 256) units

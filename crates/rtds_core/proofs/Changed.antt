@@ -8,6 +8,8 @@ use Rattle.std.proofs.lemmas.Bool.Decides.{nat_tests}
 use Rattle.std.proofs.lemmas.List.Elements.{All-from_recursion}
 use Rattle.sched_base.specs.declared.Cores.{Cores}
 use Rattle.sched_base.specs.declared.UnitId.{UnitId}
+use Rattle.unit_places.specs.Places.{has_place}
+use Rattle.unit_places.proofs.Placed.{placed}
 use Rattle.sched_model.specs.Checked.{most_span}
 use Rattle.sched_model.specs.Places.{at_place, change_at, change_item, same_unit, put_at, clear_at}
 use Rattle.sched_model.specs.declared.state.RtdsUnit.{RtdsUnit}
@@ -141,6 +143,7 @@ pub record IsLow (u : UnitId) : Type 0 where
   pub dom : u.dom.0 < 64
   pub index : u.n < 32
   pub byte : u.n < 256
+  pub place : has_place u ≡ true
   pub id : id_of u < 2048
 
 pub low_unit : (domains : List (Option (List RtdsUnit))) (affinity : List (Option (List Cores))) (u : UnitId) (x : RtdsUnit) → IsShaped domains affinity → rtds_unit domains u ≡ Some x → IsLow u
@@ -153,7 +156,7 @@ low_unit domains affinity u x is at =
     let most = is.few in
     let d : u.dom.0 < 64 = omega (arith, below, places, most) in
     let n : u.n < 32 = omega (arith, inside, few) in
-    record { dom = d; index = n; byte = omega (arith, n); id = omega (arith, d, n) }
+    record { dom = d; index = n; byte = omega (arith, n); place = placed u d n; id = omega (arith, d, n) }
 
 -- a unit that has a record has a set of cores, and the other way round
 pub record Sets (affinity : List (Option (List Cores))) (u : UnitId) : Type 0 where

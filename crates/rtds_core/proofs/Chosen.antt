@@ -6,7 +6,7 @@ use Rattle.std.specs.Option.{IfSome, ForSome}
 use Rattle.std.proofs.lemmas.Bool.Decides.{nat_tests}
 use Rattle.sched_base.specs.Numbers.{moment, domain}
 use Rattle.sched_base.specs.Units.{number_of}
-use Rattle.sched_base.specs.CoreSets.{mask_of}
+use Rattle.unit_places.specs.Masks.{mask_of}
 use Rattle.sched_base.specs.declared.Cores.{Cores}
 use Rattle.sched_base.specs.declared.Moment.{Moment}
 use Rattle.sched_base.specs.declared.UnitId.{UnitId}

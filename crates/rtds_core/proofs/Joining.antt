@@ -6,7 +6,7 @@ use Rattle.std.specs.Option.{IfSome, ForSome}
 use Rattle.std.proofs.lemmas.Bool.Decides.{nat_tests}
 use Rattle.sched_base.specs.Numbers.{moment, domain}
 use Rattle.sched_base.specs.Units.{number_of}
-use Rattle.sched_base.specs.CoreSets.{mask_of}
+use Rattle.unit_places.specs.Masks.{mask_of}
 use Rattle.sched_base.specs.declared.Cores.{Cores}
 use Rattle.sched_base.specs.declared.Moment.{Moment}
 use Rattle.sched_base.specs.declared.UnitId.{UnitId}
@@ -20,7 +20,7 @@ use Rattle.sched_laws.proofs.Bools.{either, clash, one_of, or_left, or_right, bo
 use Rattle.sched_laws.proofs.Choices.{same_unit_same}
 use Rattle.sched_laws.proofs.Counts.{same_unit_refl}
 use Rattle.sched_laws.proofs.Lists.{AllByRecursion-map, AllByRecursion-push, length_change_item}
-use Rattle.sched_laws.proofs.EachPlace.{by_option, length_set}
+use Rattle.sched_laws.proofs.EachPlace.{by_option, place_below, length_set}
 use Rattle.sched_ranges.proofs.Rtds.{rtds_later, rtds_burned, rtds_running, rtds_off, rtds_set, rtds_replenished, fit_change_unit}
 use Rattle.sched_ranges.specs.Fits.{RtdsFits, RtdsFit}
 use Rattle.due_heap.specs.Dues.{due_of}
@@ -380,6 +380,21 @@ kept_pinned domains affinity q masks masks2 dues spare t d unit cores set kept =
         let n : u.n < length old = omega (arith, inside, l, k) in
         pinned_set masks masks2 d unit cores u old set e n (small_sets domains affinity kept.shape u.dom.0 old at)
         (kept.sets.each u old at n ∙ ap (λ (o : Option (List Cores)). sets_in o u.n) at)
+
+-- a domain that has joined is one of 64, and has at most 32 units
+pub joined_low : (domains : List (Option (List RtdsUnit))) (affinity : List (Option (List Cores))) (d : ℕ) → IsShaped domains affinity → is_some (at_place affinity d) ≡ true → d < 64
+joined_low domains affinity d is joined = by_place (at_place affinity d) refl joined
+  where
+    by_place : (o : Option (List Cores)) → at_place affinity d ≡ o → is_some o ≡ true → d < 64
+    by_place None at some = absurd (cc)
+    by_place (Some sets) at some = (let below = place_below affinity d sets at in let few = is.few in omega (arith, below, few))
+
+pub unit_low : (domains : List (Option (List RtdsUnit))) (affinity : List (Option (List Cores))) (d n : ℕ) → IsShaped domains affinity → n < size (at_place affinity d) → n < 32
+unit_low domains affinity d n is inside = by_place (at_place affinity d) refl inside
+  where
+    by_place : (o : Option (List Cores)) → at_place affinity d ≡ o → n < size o → n < 32
+    by_place None at low = absurd (omega (arith, low))
+    by_place (Some sets) at low = (let few : length sets ≤ 32 = small_sets domains affinity is d sets at in omega (arith, low, few))
 
 -- no domain has joined yet
 get_none : (n d : ℕ) → at_place (let places : List (Option (List RtdsUnit)) = replicate n None in places) d ≡ None

@@ -1,4 +1,4 @@
-use Rattle.std.proofs.Common.{◌≡◌, ◌∙◌, List, length, replicate, get_or, ap, inl, inr, rules}
+use Rattle.std.proofs.Common.{◌≡◌, ◌∙◌, List, replicate, get_or, ap, inl, inr, rules}
 use Rattle.std.specs.Prelude.{ℕ}
 use Rattle.std.proofs.lemmas.Bool.{cases_lt}
 use Rattle.std.proofs.lemmas.List.{get_or-replicate, get_or_past, length-replicate}

@@ -27,6 +27,12 @@ arm-requires c =
     let at : rtds_unit i.domains c.args.u ≡ Some c.in-Some.x.now = rw c.as_slice.ensures at (sym c.in-Some.ensures) in
     (low_unit i.domains i.affinity c.args.u c.in-Some.x.now c.self.invariant.shape at).id
 
+pub put-requires-clause-place : goal.put-requires-clause-place
+put-requires-clause-place c =
+    let i = c.self.inside in
+    let at : rtds_unit i.domains c.args.u ≡ Some c.in-Some.x.now = rw c.as_slice.ensures at (sym c.in-Some.ensures) in
+    (low_unit i.domains i.affinity c.args.u c.in-Some.x.now c.self.invariant.shape at).place
+
 pub put-requires-clause-absent : goal.put-requires-clause-absent
 put-requires-clause-absent c =
     let i = c.self.inside in

@@ -1,0 +1,8 @@
+use Rattle.std.proofs.Common.{◌≡◌, ◌<◌}
+use Rattle.unit_places.specs.Masks.{mask_of}
+use Rattle.unit_places.proofs.Written.{written_one}
+use Rattle.rtds_core.proofs.masks.set_masks.Goals as goal
+
+pub returns-in-Some : goal.returns-in-Some
+returns-in-Some c = λ u low.
+    written_one (mask_of c.args.masks.now) (mask_of c.set.new.self) c.args.dom.0 c.in-Some.n u c.set.ensures.others c.args.cores c.set.ensures.mask
