@@ -1,8 +1,7 @@
 -- The units of the domains that have joined, by their sets of cores and by their records.
-use Rattle.std.proofs.Common.{◌≡◌, ◌<◌, ◌≤◌, ◌+◌, ℕ, zero, suc, Bool, true, false, List, [], ◌∷◌, length, map, refl, ap, subst, sym, ◌∙◌, arith, inl, inr, ◌⊎◌}
-use Rattle.std.specs.Prelude.{Option, Some, None, option_map, slice_get, nat_lt}
+use Rattle.std.proofs.Common.{◌≡◌, ◌<◌, ℕ, zero, suc, true, false, List, [], ◌∷◌, length, refl, ap, ◌∙◌, arith, inl, inr}
+use Rattle.std.specs.Prelude.{Option, Some, None, option_map, slice_get}
 use Rattle.std.specs.List.{AllByRecursion}
-use Rattle.std.proofs.lemmas.List.{length-map}
 use Rattle.sched_base.specs.Numbers.{domain}
 use Rattle.sched_base.specs.declared.Cores.{Cores}
 use Rattle.sched_base.specs.declared.UnitId.{UnitId}
@@ -13,8 +12,6 @@ use Rattle.sched_model.specs.declared.state.Credit2Domain.{Credit2Domain}
 use Rattle.sched_model.specs.declared.state.Credit2Records.{Credit2Records}
 use Rattle.sched_model.specs.Places.{at_place, has_unit}
 use Rattle.sched_laws.proofs.Bools.{clash}
-use Rattle.sched_laws.proofs.Choices.{at_unit}
-use Rattle.sched_laws.proofs.Counts.{same_unit_refl}
 use Rattle.sched_laws.proofs.EachPlace.{place_below}
 use Rattle.sched_ranges.proofs.Decided.{unit_rec}
 use Rattle.sched_ranges.specs.Budgets.{AllRunOnly}
@@ -66,15 +63,6 @@ joined_small t records affinity u range same joined =
     let few = (range.budgets u.dom.0 r.0 r.1).count in
     let inside = r.2 in
     omega (arith, few, inside)
-
--- there are at most 64 places for domains
-pub few_sets : (t : ℕ) (records : Credit2Records) (affinity : List (Option (List Cores))) → InRange t records → set_counts affinity ≡ unit_counts records.domains → length affinity ≤ 64
-few_sets t records affinity range same =
-    let sets : length (set_counts affinity) ≡ length affinity = length-map affinity _ in
-    let units : length (unit_counts records.domains) ≡ length records.domains = length-map records.domains _ in
-    let e : length (set_counts affinity) ≡ length (unit_counts records.domains) = ap (λ (ks : List (Option ℕ)). length ks) same in
-    let few = range.few in
-    omega (arith, sets, units, e, few)
 
 -- a unit that has joined has a place in tables
 pub joined_place : (t : ℕ) (records : Credit2Records) (affinity : List (Option (List Cores))) (u : UnitId) → InRange t records → set_counts affinity ≡ unit_counts records.domains → has_joined affinity u ≡ true → has_place u ≡ true

@@ -1,23 +1,19 @@
 -- The set of the domains that may run, and the table of the sets of cores by unit.
-use Rattle.std.proofs.Common.{◌≡◌, ◌≢◌, ◌<◌, ◌≤◌, ◌+◌, ◌*◌, ◌/◌, ◌%◌, ◌^◌, ℕ, zero, suc, Bool, true, false, List, [], ◌∷◌, length, refl, ap, subst, sym, ◌∙◌, cond, arith, ◌⊎◌, inl, inr}
-use Rattle.std.specs.Prelude.{Option, Some, None, ◌==◌, ◌&&◌, ◌||◌, if◌then◌else◌, filter, nat_lt, slice_index_or, slice_set}
+use Rattle.std.proofs.Common.{◌≡◌, ◌<◌, ◌+◌, ◌*◌, ◌/◌, ◌%◌, ◌^◌, ℕ, zero, suc, Bool, true, false, List, [], ◌∷◌, length, refl, ap, sym, ◌∙◌, cond, arith}
+use Rattle.std.specs.Prelude.{Option, Some, None, ◌==◌, ◌&&◌, if◌then◌else◌, filter, nat_lt, slice_index_or}
 use Rattle.std.specs.List.{AllByRecursion}
 use Rattle.std.proofs.Math.Nat.{div-div-eq-div-mul}
-use Rattle.std.proofs.lemmas.Bool.{cases_eq, cases_lt}
-use Rattle.std.proofs.lemmas.List.{get_or-set_other}
-use Rattle.sched_base.specs.Numbers.{core_set, domain}
+use Rattle.sched_base.specs.Numbers.{core_set}
 use Rattle.unit_places.specs.Masks.{mask_of}
 use Rattle.sched_base.specs.CoreSets as sets
 use Rattle.sched_base.specs.declared.Cores.{Cores}
-use Rattle.sched_base.specs.declared.ResId.{ResId}
 use Rattle.sched_base.specs.declared.UnitId.{UnitId}
 use Rattle.sched_model.specs.declared.state.Credit2Domain.{Credit2Domain}
 use Rattle.sched_model.specs.declared.state.Credit2Records.{Credit2Records}
 use Rattle.sched_model.specs.Places.{at_place}
 use Rattle.sched_model.specs.Eligible.{has_budget, cores_of, is_allowed_by}
 use Rattle.sched_model.specs.Credit2.{domain_has_budget}
-use Rattle.sched_laws.proofs.Bools.{either, is_same}
-use Rattle.arrival_queue.proofs.Ranks.{less_test, not_less_test}
+use Rattle.arrival_queue.proofs.Ranks.{not_less_test}
 use Rattle.arrival_queue.specs.Filters.{has_domain, may_run}
 use Rattle.credit2_core.specs.Places.{has_joined}
 use Rattle.credit2_core.specs.Domains.{may_run_bit, set_of, masked}

@@ -1,4 +1,4 @@
-use Rattle.std.proofs.Common.{◌≡◌, ◌<◌, Bool, true, false, length, map, refl, sym, ◌∙◌, ap, subst, arith, rules}
+use Rattle.std.proofs.Common.{◌≡◌, ◌<◌, true, false, length, map, refl, sym, ◌∙◌, ap, subst, arith, rules}
 use Rattle.sched_base.specs.Units.{number_of}
 use Rattle.unit_ring.specs.Lists as l
 use Rattle.unit_ring.specs.Lists.{Lists, item, given, taken}

@@ -1,5 +1,4 @@
-use Rattle.std.proofs.Common.{◌≡◌, ◌<◌, false, length, sym, ◌∙◌, arith, rules}
-use Rattle.std.proofs.lemmas.Bool.Decides.{nat_tests}
+use Rattle.std.proofs.Common.{◌≡◌, ◌<◌, false, length, sym, ◌∙◌, rules}
 use Rattle.sched_base.specs.Units.{number_of}
 use Rattle.unit_places.specs.Places.{has_place}
 use Rattle.arrival_queue.specs.Tables.{all_items}

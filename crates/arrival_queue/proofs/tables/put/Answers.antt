@@ -1,4 +1,4 @@
-use Rattle.std.proofs.Common.{◌<◌, set, sym, ◌∙◌, rules}
+use Rattle.std.proofs.Common.{set, sym, ◌∙◌}
 use Rattle.std.specs.Prelude.{Some}
 use Rattle.unit_places.specs.Places.{index_of}
 use Rattle.unit_ring.specs.Lists.{item}

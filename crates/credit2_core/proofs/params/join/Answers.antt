@@ -1,5 +1,5 @@
 use Rattle.std.proofs.Common.{◌≡◌, ◌<◌, ◌∙◌, ◌-◌, sym, ap, subst, length}
-use Rattle.std.specs.Prelude.{List, Option, slice_set, replicate}
+use Rattle.std.specs.Prelude.{List, Option, slice_set}
 use Rattle.std.proofs.lemmas.List.{length-replicate}
 use Rattle.unit_places.specs.Masks.{mask_of}
 use Rattle.sched_base.specs.declared.Cores.{Cores}

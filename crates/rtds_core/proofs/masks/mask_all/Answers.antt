@@ -1,4 +1,3 @@
-use Rattle.std.proofs.Common.{◌≡◌, ◌<◌}
 use Rattle.unit_places.specs.Masks.{mask_of}
 use Rattle.unit_places.proofs.Written.{written_more}
 use Rattle.rtds_core.proofs.masks.mask_all.Goals as goal

@@ -1,4 +1,4 @@
-use Rattle.std.proofs.Common.{◌≡◌, ◌<◌, ◌∙◌, ℕ, ap, sym}
+use Rattle.std.proofs.Common.{◌∙◌, ℕ, ap, sym}
 use Rattle.std.specs.Prelude.{Option, if◌then◌else◌}
 use Rattle.unit_places.specs.Masks.{mask_of}
 use Rattle.unit_places.proofs.Written.{written_one}

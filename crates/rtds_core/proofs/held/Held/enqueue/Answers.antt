@@ -1,20 +1,17 @@
-use Rattle.std.proofs.Common.{◌≡◌, ◌≤◌, ◌<◌, ◌∙◌, ap, sym, subst, List, [], ◌∷◌, ◌++◌, Option, Some, None, Bool, true, false}
+use Rattle.std.proofs.Common.{◌≡◌, ◌∙◌, ap, sym, subst, List, Option, Some, None}
 use Rattle.std.specs.Prelude.{◌==◌}
-use Rattle.sched_base.specs.Numbers.{moment}
 use Rattle.sched_base.specs.declared.UnitId.{UnitId}
 use Rattle.sched_base.specs.declared.Moment.{Moment}
 use Rattle.sched_model.specs.Eligible.{rtds_unit}
-use Rattle.sched_model.specs.Places.{has_unit}
 use Rattle.sched_model.specs.Policy.{enqueue}
 use Rattle.sched_model.specs.declared.state.RtdsUnit.{RtdsUnit}
 use Rattle.sched_ops.specs.Seen.{Seen, with_scheduler}
 use Rattle.sched_ops.specs.Conditions.{IsAway}
-use Rattle.rtds_queue.specs.Lists.{Lists, put, holds}
+use Rattle.rtds_queue.specs.Lists.{Lists, put}
 use Rattle.rtds_queue.specs.declared.RtdsKey.{RtdsKey}
-use Rattle.rtds_core.specs.Alarms.{with_due}
 use Rattle.rtds_core.specs.Best.{queue_of, key_by}
 use Rattle.rtds_core.specs.Kept.{IsKept, seen_of}
-use Rattle.rtds_core.proofs.Changed.{IsLow, low_unit, member_record}
+use Rattle.rtds_core.proofs.Changed.{low_unit, member_record}
 use Rattle.rtds_core.proofs.Queues.{IsOrdered, queue_put}
 use Rattle.rtds_core.proofs.Keeping.{room_left}
 use Rattle.rtds_core.proofs.Steps.{tells_waiting, kept_put}

@@ -1,9 +1,8 @@
-use Rattle.std.proofs.Common.{◌≡◌, ◌≤◌, ◌∙◌, ap, sym, subst, List, Option, Some, refl}
+use Rattle.std.proofs.Common.{◌≤◌, sym, subst, List, Option, refl}
 use Rattle.sched_base.specs.declared.Cores.{Cores}
 use Rattle.sched_model.specs.declared.config.ParamChange.{ParamChange}
 use Rattle.sched_model.specs.declared.config.SchedKind.TheVariants as kinds
 use Rattle.sched_model.specs.declared.state.RtdsUnit.{RtdsUnit}
-use Rattle.sched_model.specs.Rtds.{change_unit}
 use Rattle.sched_model.specs.Policy.{kind_of}
 use Rattle.sched_ops.specs.Seen.{Seen}
 use Rattle.sched_ops.specs.Conditions.{IsChange}
