@@ -31,7 +31,12 @@ fn each_domain_has_32_places(rt: HostRuntime) -> Result<(), Fail> {
 fn a_set_of_cores_is_one_unit_only(rt: HostRuntime) -> Result<(), Fail> {
     let mut masks = Masks::room(rt.alloc())?;
     masks.set(unit(1, 0), Cores(2));
-    for (d, n, want) in [(1, 0, 2), (0, 31, u64::MAX), (0, 32, u64::MAX), (1, 1, u64::MAX)] {
+    for (d, n, want) in [
+        (1, 0, 2),
+        (0, 31, u64::MAX),
+        (0, 32, u64::MAX),
+        (1, 1, u64::MAX),
+    ] {
         assert_eq!(rt; masks.get(unit(d, n)).0, want);
     }
     Ok(())
