@@ -4,6 +4,8 @@ use Rattle.std.specs.Prelude.{◌==◌, ◌||◌, if◌then◌else◌, Option, S
 use Rattle.std.proofs.lemmas.List.{append-nil, length-map, map-append}
 use Rattle.sched_base.specs.declared.UnitId.{UnitId}
 use Rattle.sched_base.specs.Units.{number_of}
+use Rattle.unit_places.specs.Places.{has_place}
+use Rattle.unit_places.proofs.Placed.{same_number}
 use Rattle.unit_ring.specs.declared.Node.{Node}
 use Rattle.unit_ring.specs.Lists as l
 use Rattle.unit_ring.specs.Lists.{Item, Lists, item, has_node, taken, given, appended, without_in}
@@ -297,6 +299,29 @@ pub found_low : (places next : ℕ) (ns : List ℕ) (ring : Lists) (u : UnitId) 
 found_low places next ns ring u n f t =
     let mine = Tabled-mine places next ns f.lft f.rgt f.x (subst (Tabled places next ns) f.is t) in
     (subst (λ (k : ℕ). k < places) f.node mine.0, subst (λ (k : ℕ). arrival_at ns k < next) f.node mine.1)
+
+-- a unit that has a node has a place
+pub found_place : (places next : ℕ) (ns : List ℕ) (ring : Lists) (u : UnitId) (n : Node) → Found ring u n → Tabled places next ns (all_items ring) → u.n < 256
+    → has_place u ≡ true
+found_place places next ns ring u n f t low =
+    let mine = Tabled-mine places next ns f.lft f.rgt f.x (subst (Tabled places next ns) f.is t) in
+    subst (λ (w : UnitId). has_place w ≡ true) (sym (same_number u f.x.unit low mine.2 f.number)) mine.2
+
+-- no test answers both
+pub none_here : (b : Bool) → b ≡ true → b ≡ false → ⊥
+none_here true yes_here e = cc
+none_here false e no_here = cc
+
+-- a unit without a place is not among the items
+pub no_place : (places next : ℕ) (ns : List ℕ) (u : UnitId) (xs : List Item) → Tabled places next ns xs → u.n < 256 → has_place u ≡ false
+    → has_number (number_of u) xs ≡ false
+no_place places next ns u [] t low none = refl
+no_place places next ns u (x ∷ xs) t low none =
+    let other : number_of x.unit ≡ number_of u → ⊥ = λ e.
+    none_here (has_place u) (subst (λ (w : UnitId). has_place w ≡ true) (sym (same_number u x.unit low t.2 e)) t.2) none
+    in
+    ap (λ (b : Bool). b || has_number (number_of u) xs) (other_test (number_of x.unit) (number_of u) other)
+    ∙ no_place places next ns u xs t.3 low none
 
 -- no more are left than the list without the unit
 pub length-left : (ring : Lists) (keys : List Key) (ns : List ℕ) (u : UnitId) (n : Node) → Found ring u n

@@ -1,9 +1,11 @@
 -- The tables stay those of the ring, with one item more and with one less.
-use Rattle.std.proofs.Common.{◌≡◌, ℕ, ◌+◌, ◌<◌, ◌≤◌, List, ◌∷◌, ◌++◌, length, set, false, sym, ◌∙◌, ap, subst, inl, inr, arith, length-set, length-append}
+use Rattle.std.proofs.Common.{◌≡◌, ℕ, ◌+◌, ◌<◌, ◌≤◌, List, ◌∷◌, ◌++◌, length, set, true, false, sym, ◌∙◌, ap, subst, inl, inr, arith, length-set, length-append}
 use Rattle.std.specs.Prelude.{Option, Some, None, slice_index_or}
 use Rattle.std.proofs.lemmas.Bool.{cases_eq}
 use Rattle.std.proofs.lemmas.List.{get_or-set_same, get_or-set_other}
 use Rattle.sched_base.specs.Units.{number_of}
+use Rattle.unit_places.specs.Places.{has_place, index_of}
+use Rattle.unit_places.proofs.Placed.{low_index, same_index, same_place}
 use Rattle.unit_ring.specs.declared.Node.{Node}
 use Rattle.unit_ring.specs.Lists.{Item, Lists, has_node, room_of}
 use Rattle.arrival_queue.specs.declared.key.Key.{Key}
@@ -30,9 +32,9 @@ pub kept_in : (ring after : Lists) (nodes : List (Option Node)) (keys : List Key
     → IsQueue ring nodes keys arrivals fresh next
     → all_items ring ≡ l ++ r → all_items after ≡ l ++ new ∷ r → ring.spare ≡ after.spare + 1
     → has_node new.node (all_items ring) ≡ false → has_number (number_of new.unit) (all_items ring) ≡ false
-    → new.node < room_of ring + 4 → number_of new.unit < 65536 → a < later → next ≤ later
-    → IsQueue after (set nodes (number_of new.unit) (Some (record { 0 = new.node }))) (set keys new.node key) (set arrivals new.node a) fresh later
-kept_in ring after nodes keys arrivals fresh next later l r new key a q rest is spare no_node no_number low number arrival rise =
+    → new.node < room_of ring + 4 → has_place new.unit ≡ true → a < later → next ≤ later
+    → IsQueue after (set nodes (index_of new.unit) (Some (record { 0 = new.node }))) (set keys new.node key) (set arrivals new.node a) fresh later
+kept_in ring after nodes keys arrivals fresh next later l r new key a q rest is spare no_node no_number low place arrival rise =
     let node_free : has_node new.node (l ++ r) ≡ false = subst (λ (xs : List Item). has_node new.node xs ≡ false) rest no_node in
     let number_free : has_number (number_of new.unit) (l ++ r) ≡ false = subst (λ (xs : List Item). has_number (number_of new.unit) xs ≡ false) rest no_number in
     let size : length (set arrivals new.node a) ≡ length arrivals = length-set arrivals new.node a in
@@ -40,21 +42,27 @@ kept_in ring after nodes keys arrivals fresh next later l r new key a q rest is 
     let mine : arrival_at (set arrivals new.node a) new.node ≡ a = get_or-set_same arrivals new.node a 0 (omega (arith, low, q.room)) in
     let before : Tabled (length arrivals) next arrivals (l ++ r) = subst (Tabled (length arrivals) next arrivals) rest q.tabled in
     let set_before : Tabled (length arrivals) later (set arrivals new.node a) (l ++ r) = Tabled-set (length arrivals) next later arrivals new.node a (l ++ r) before node_free rise in
-    let tabled : Tabled (length arrivals) later (set arrivals new.node a) (l ++ new ∷ r) = Tabled-in (length arrivals) later (set arrivals new.node a) l r new set_before (omega (arith, low, q.room)) (omega (arith, mine, arrival)) number in
+    let tabled : Tabled (length arrivals) later (set arrivals new.node a) (l ++ new ∷ r) = Tabled-in (length arrivals) later (set arrivals new.node a) l r new set_before (omega (arith, low, q.room)) (omega (arith, mine, arrival)) place in
     let entry : Option Node = Some (record { 0 = new.node }) in
-    let k0 = number_of new.unit in
+    let k0 = index_of new.unit in
+    let within = low_index new.unit place in
     record {
       apart = subst Apart (sym is) (Apart-in l r new (subst Apart rest q.apart) node_free number_free);
       tabled = subst (Tabled (length (set arrivals new.node a)) later (set arrivals new.node a)) (sym is) (subst (λ (n : ℕ). Tabled n later (set arrivals new.node a) (l ++ new ∷ r)) (sym size) tabled);
-      listed = λ k.
-          elim (cases_eq k k0) [
+      listed = λ u has.
+          elim (cases_eq (index_of u) k0) [
             | inl e ↦
-                subst (λ (j : ℕ). slice_index_or (set nodes k0 entry) j None ≡ node_of j (all_items after)) (sym e)
-                (get_or-set_same nodes k0 entry None (omega (arith, number, q.numbers)) ∙ sym (ap (node_of k0) is ∙ node_of-mine l r new number_free))
+                ap (λ (j : ℕ). slice_index_or (set nodes k0 entry) j None) e
+                ∙ get_or-set_same nodes k0 entry None (omega (arith, within, q.places))
+                ∙ sym (ap (node_of (number_of new.unit)) is ∙ node_of-mine l r new number_free)
+                ∙ sym (ap (λ (k : ℕ). node_of k (all_items after)) (same_index u new.unit has place e))
             | inr ne ↦
-                get_or-set_other nodes k0 k entry None ne ∙ q.listed k ∙ ap (node_of k) rest ∙ sym (ap (node_of k) is ∙ node_of-other k l r new (λ e. ne (sym e)))
+                get_or-set_other nodes k0 (index_of u) entry None ne
+                ∙ q.listed u has
+                ∙ ap (node_of (number_of u)) rest
+                ∙ sym (ap (node_of (number_of u)) is ∙ node_of-other (number_of u) l r new (λ e. ne (same_place u new.unit has place (sym e))))
           ];
-      numbers = length-set nodes k0 entry ∙ q.numbers;
+      places = length-set nodes k0 entry ∙ q.places;
       room = omega (arith, size, q.room, room_at after ring l r new is rest spare);
       keys_room = keys_size ∙ q.keys_room ∙ sym size;
       fresh_room = q.fresh_room ∙ sym size;
@@ -65,23 +73,30 @@ pub kept_out : (ring after : Lists) (nodes : List (Option Node)) (keys : List Ke
     (l r : List Item) (old : Item)
     → IsQueue ring nodes keys arrivals fresh next
     → all_items ring ≡ l ++ old ∷ r → all_items after ≡ l ++ r → after.spare ≡ ring.spare + 1
-    → IsQueue after (set nodes (number_of old.unit) None) keys arrivals fresh next
+    → IsQueue after (set nodes (index_of old.unit) None) keys arrivals fresh next
 kept_out ring after nodes keys arrivals fresh next l r old q is rest spare =
     let out : TakenOut l r old = Apart-out l r old (subst Apart is q.apart) in
-    let k0 = number_of old.unit in
+    let k0 = index_of old.unit in
     let mine = Tabled-mine (length arrivals) next arrivals l r old (subst (Tabled (length arrivals) next arrivals) is q.tabled) in
+    let within = low_index old.unit mine.2 in
     record {
       apart = subst Apart (sym rest) out.apart;
       tabled = subst (Tabled (length arrivals) next arrivals) (sym rest) (Tabled-out (length arrivals) next arrivals l r old (subst (Tabled (length arrivals) next arrivals) is q.tabled));
-      listed = λ k.
-          elim (cases_eq k k0) [
+      listed = λ u has.
+          elim (cases_eq (index_of u) k0) [
             | inl e ↦
-                subst (λ (j : ℕ). slice_index_or (set nodes k0 None) j None ≡ node_of j (all_items after)) (sym e)
-                (get_or-set_same nodes k0 None None (omega (arith, mine.2, q.numbers)) ∙ sym (ap (node_of k0) rest ∙ node_of-none k0 (l ++ r) out.number))
+                ap (λ (j : ℕ). slice_index_or (set nodes k0 None) j None) e
+                ∙ get_or-set_same nodes k0 None None (omega (arith, within, q.places))
+                ∙ sym (ap (node_of (number_of old.unit)) rest ∙ node_of-none (number_of old.unit) (l ++ r) out.number)
+                ∙ sym (ap (λ (k : ℕ). node_of k (all_items after)) (same_index u old.unit has mine.2 e))
             | inr ne ↦
-                get_or-set_other nodes k0 k None None ne ∙ q.listed k ∙ ap (node_of k) is ∙ node_of-other k l r old (λ e. ne (sym e)) ∙ sym (ap (node_of k) rest)
+                get_or-set_other nodes k0 (index_of u) None None ne
+                ∙ q.listed u has
+                ∙ ap (node_of (number_of u)) is
+                ∙ node_of-other (number_of u) l r old (λ e. ne (same_place u old.unit has mine.2 (sym e)))
+                ∙ sym (ap (node_of (number_of u)) rest)
           ];
-      numbers = length-set nodes k0 None ∙ q.numbers;
+      places = length-set nodes k0 None ∙ q.places;
       room = omega (arith, q.room, room_at ring after l r old is rest spare);
       keys_room = q.keys_room;
       fresh_room = q.fresh_room;

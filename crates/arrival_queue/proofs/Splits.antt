@@ -6,6 +6,7 @@ use Rattle.std.proofs.lemmas.Bool.Decides.{nat_tests}
 use Rattle.std.proofs.lemmas.List.{get_or-set_other}
 use Rattle.std.proofs.lemmas.List.Sums.{sum_by-append}
 use Rattle.sched_base.specs.Units.{number_of}
+use Rattle.unit_places.specs.Places.{has_place}
 use Rattle.unit_ring.specs.declared.Node.{Node}
 use Rattle.unit_ring.specs.Lists.{Item, has_node}
 use Rattle.arrival_queue.specs.Tables.{Apart, Tabled, has_number, node_of, arrival_at}
@@ -127,12 +128,12 @@ Tabled-out places next arrivals [] r new t = t.3
 Tabled-out places next arrivals (x ∷ l) r new t = (t.0, t.1, t.2, Tabled-out places next arrivals l r new t.3)
 
 pub Tabled-mine : (places next : ℕ) (arrivals : List ℕ) (l r : List Item) (new : Item) → Tabled places next arrivals (l ++ new ∷ r)
-    → (new.node < places) × (arrival_at arrivals new.node < next) × (number_of new.unit < 65536)
+    → (new.node < places) × (arrival_at arrivals new.node < next) × (has_place new.unit ≡ true)
 Tabled-mine places next arrivals [] r new t = (t.0, t.1, t.2)
 Tabled-mine places next arrivals (x ∷ l) r new t = Tabled-mine places next arrivals l r new t.3
 
 pub Tabled-in : (places next : ℕ) (arrivals : List ℕ) (l r : List Item) (new : Item) → Tabled places next arrivals (l ++ r)
-    → new.node < places → arrival_at arrivals new.node < next → number_of new.unit < 65536 → Tabled places next arrivals (l ++ new ∷ r)
+    → new.node < places → arrival_at arrivals new.node < next → has_place new.unit ≡ true → Tabled places next arrivals (l ++ new ∷ r)
 Tabled-in places next arrivals [] r new t node arrival number = (node, arrival, number, t)
 Tabled-in places next arrivals (x ∷ l) r new t node arrival number =
     (t.0, t.1, t.2, Tabled-in places next arrivals l r new t.3 node arrival number)

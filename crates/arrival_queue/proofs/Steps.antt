@@ -1,17 +1,19 @@
 -- The tables after each step on the ring.
-use Rattle.std.proofs.Common.{◌≡◌, ℕ, ◌+◌, ◌-◌, ◌<◌, List, [], ◌∷◌, ◌++◌, set, Bool, true, false, refl, sym, ◌∙◌, ap, subst, inl, inr, arith, append_assoc}
+use Rattle.std.proofs.Common.{◌≡◌, ℕ, ◌+◌, ◌-◌, ◌<◌, List, [], ◌∷◌, ◌++◌, length, set, Bool, true, false, refl, sym, ◌∙◌, ap, subst, inl, inr, arith, append_assoc}
 use Rattle.std.specs.Prelude.{◌==◌, ◌||◌, if◌then◌else◌, Option, Some, None}
 use Rattle.std.proofs.lemmas.Bool.{cases_eq}
 use Rattle.std.proofs.lemmas.List.{append-nil}
 use Rattle.sched_base.specs.declared.UnitId.{UnitId}
 use Rattle.sched_base.specs.Units.{number_of}
+use Rattle.unit_places.specs.Places.{has_place, index_of}
+use Rattle.unit_places.proofs.Placed.{same_place}
 use Rattle.unit_ring.specs.declared.Node.{Node}
 use Rattle.unit_ring.specs.Lists as l
 use Rattle.unit_ring.specs.Lists.{Item, Lists, item, has_node, is_live, room_of, taken, given, appended, without_in}
 use Rattle.arrival_queue.specs.declared.key.Key.{Key}
 use Rattle.arrival_queue.specs.Queues.{put_first}
-use Rattle.arrival_queue.specs.Tables.{Apart, IsQueue, all_items, has_number, node_of, first_node, put_ring, ring_with}
-use Rattle.arrival_queue.proofs.Splits.{same_test, other_test, or_right, has_node-split, node_of-mine, Apart-out, TakenOut}
+use Rattle.arrival_queue.specs.Tables.{Apart, Tabled, IsQueue, all_items, has_number, node_of, first_node, put_ring, ring_with}
+use Rattle.arrival_queue.proofs.Splits.{Tabled-mine, same_test, other_test, or_right, has_node-split, node_of-mine, Apart-out, TakenOut}
 use Rattle.arrival_queue.proofs.Keeping.{kept_in, kept_out}
 use Rattle.arrival_queue.proofs.Views.{found_node, found_none, put_split, UnitSplit, unit_split, put_before_in-none, without_in-split}
 use Rattle.arrival_queue.proofs.Walking.{Apart-left, live-append}
@@ -61,11 +63,11 @@ found_ring p new ring (Some at) apart e =
 -- one item more, at its place or at the end of the others
 module _ (ring : Lists) (nodes : List (Option Node)) (keys : List Key) (ns fresh : List ℕ) (next : ℕ) (q : IsQueue ring nodes keys ns fresh next)
     (n : ℕ) (u : UnitId) (key : Key) (a : ℕ) (no_node : has_node n (all_items ring) ≡ false) (no_number : has_number (number_of u) (all_items ring) ≡ false)
-    (low : n < room_of ring + 4) (number : number_of u < 65536) (arrived : a < next) (room : 0 < ring.spare) where
+    (low : n < room_of ring + 4) (place : has_place u ≡ true) (arrived : a < next) (room : 0 < ring.spare) where
   spare_more : ring.spare ≡ (ring.spare - 1) + 1
   spare_more = omega (arith, room)
 
-  pub put_kept : (p : Item → Bool) → IsQueue (put_ring p (item n u) ring) (set nodes (number_of u) (Some (record { 0 = n }))) (set keys n key) (set ns n a) fresh next
+  pub put_kept : (p : Item → Bool) → IsQueue (put_ring p (item n u) ring) (set nodes (index_of u) (Some (record { 0 = n }))) (set keys n key) (set ns n a) fresh next
   put_kept p =
       let s = put_split p (item n u) ring.first in
       let was : all_items ring ≡ s.lft ++ (s.rgt ++ ring.second) =
@@ -74,13 +76,13 @@ module _ (ring : Lists) (nodes : List (Option Node)) (keys : List Key) (ns fresh
       let is : put_first p (item n u) ring.first ++ ring.second ≡ s.lft ++ item n u ∷ (s.rgt ++ ring.second) =
       ap (λ (xs : List Item). xs ++ ring.second) s.is ∙ append_assoc s.lft (item n u ∷ s.rgt) ring.second
       in
-      kept_in ring (put_ring p (item n u) ring) nodes keys ns fresh next next s.lft (s.rgt ++ ring.second) (item n u) key a q was is spare_more no_node no_number low number arrived (omega arith)
+      kept_in ring (put_ring p (item n u) ring) nodes keys ns fresh next next s.lft (s.rgt ++ ring.second) (item n u) key a q was is spare_more no_node no_number low place arrived (omega arith)
 
-  pub append_kept : IsQueue (taken (appended ring 1 (item n u))) (set nodes (number_of u) (Some (record { 0 = n }))) (set keys n key) (set ns n a) fresh next
+  pub append_kept : IsQueue (taken (appended ring 1 (item n u))) (set nodes (index_of u) (Some (record { 0 = n }))) (set keys n key) (set ns n a) fresh next
   append_kept =
       let was : all_items ring ≡ all_items ring ++ [] = sym (append-nil (all_items ring)) in
       let is : ring.first ++ (ring.second ++ item n u ∷ []) ≡ all_items ring ++ item n u ∷ [] = sym (append_assoc ring.first ring.second (item n u ∷ [])) in
-      kept_in ring (taken (appended ring 1 (item n u))) nodes keys ns fresh next next (all_items ring) [] (item n u) key a q was is spare_more no_node no_number low number arrived (omega arith)
+      kept_in ring (taken (appended ring 1 (item n u))) nodes keys ns fresh next next (all_items ring) [] (item n u) key a q was is spare_more no_node no_number low place arrived (omega arith)
 
 -- where a unit stands among all items, and the ring without its node
 without_in-append : (n : ℕ) (xs ys : List Item) → without_in n (xs ++ ys) ≡ without_in n xs ++ without_in n ys
@@ -142,8 +144,9 @@ found ring u n apart e =
     }
 
 pub take_kept : (ring : Lists) (nodes : List (Option Node)) (keys : List Key) (ns fresh : List ℕ) (next : ℕ) (u : UnitId) (n : Node)
-    → IsQueue ring nodes keys ns fresh next → Found ring u n
-    → IsQueue (given (l.without ring n.0)) (set nodes (number_of u) None) keys ns fresh next
-take_kept ring nodes keys ns fresh next u n q f =
-    subst (λ (k : ℕ). IsQueue (given (l.without ring n.0)) (set nodes k None) keys ns fresh next) f.number
+    → IsQueue ring nodes keys ns fresh next → Found ring u n → has_place u ≡ true
+    → IsQueue (given (l.without ring n.0)) (set nodes (index_of u) None) keys ns fresh next
+take_kept ring nodes keys ns fresh next u n q f place =
+    let mine = Tabled-mine (length ns) next ns f.lft f.rgt f.x (subst (Tabled (length ns) next ns) f.is q.tabled) in
+    subst (λ (k : ℕ). IsQueue (given (l.without ring n.0)) (set nodes k None) keys ns fresh next) (same_place f.x.unit u mine.2 place f.number)
     (kept_out ring (given (l.without ring n.0)) nodes keys ns fresh next f.lft f.rgt f.x q f.is f.rest refl)

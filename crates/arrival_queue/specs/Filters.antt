@@ -3,7 +3,8 @@ use Rattle.std.specs.Prelude.{ℕ, ◌/◌, ◌%◌, ◌^◌, ◌==◌, Bool, tr
 use Rattle.sched_base.specs.declared.Cores.{Cores}
 use Rattle.sched_base.specs.declared.ResId.{ResId}
 use Rattle.sched_base.specs.declared.UnitId.{UnitId}
-use Rattle.sched_base.specs.CoreSets.{is_allowed, mask_of}
+use Rattle.sched_base.specs.CoreSets.{is_allowed}
+use Rattle.unit_places.specs.Masks.{mask_of}
 use Rattle.arrival_queue.specs.declared.walks.Allowed.{Allowed}
 use Rattle.arrival_queue.specs.Queues.{Queued}
 

@@ -1,7 +1,8 @@
--- How a queue keeps its units: a ring, and tables by number of unit and by number of node.
-use Rattle.std.specs.Prelude.{ℕ, ◌+◌, ◌-◌, ◌<◌, ◌≡◌, ◌==◌, ◌&&◌, ◌||◌, Bool, false, not, if◌then◌else◌, List, [], ◌∷◌, ◌++◌, Option, Some, None, length, map, count_by, nat_lt, slice_index, slice_index_or, pos}
+-- How a queue keeps its units: a ring, and tables by place of unit and by number of node.
+use Rattle.std.specs.Prelude.{ℕ, ◌+◌, ◌-◌, ◌<◌, ◌≡◌, ◌==◌, ◌&&◌, ◌||◌, Bool, true, false, not, if◌then◌else◌, List, [], ◌∷◌, ◌++◌, Option, Some, None, length, map, count_by, nat_lt, slice_index, slice_index_or, pos}
 use Rattle.sched_base.specs.declared.UnitId.{UnitId}
 use Rattle.sched_base.specs.Units.{number_of}
+use Rattle.unit_places.specs.Places.{has_place, index_of}
 use Rattle.unit_ring.specs.declared.Node.{Node}
 use Rattle.unit_ring.specs.Lists.{Item, Lists, has_node, room_of, taken, appended, put_before}
 use Rattle.arrival_queue.specs.declared.key.Key.{Key}
@@ -55,14 +56,14 @@ node_of k (x ∷ xs) = (if number_of x.unit == k then Some (record { 0 = x.node 
 abbrev pub Tabled : ℕ → ℕ → List ℕ → List Item → Type 0
 Tabled places next arrivals [] = Unit {0}
 Tabled places next arrivals (x ∷ xs) =
-    (x.node < places) × (arrival_at arrivals x.node < next) × (number_of x.unit < 65536) × Tabled places next arrivals xs
+    (x.node < places) × (arrival_at arrivals x.node < next) × (has_place x.unit ≡ true) × Tabled places next arrivals xs
 
 -- the tables are those of the ring
 pub record IsQueue (ring : Lists) (nodes : List (Option Node)) (keys : List Key) (arrivals fresh : List ℕ) (next : ℕ) : Type 0 where
   pub apart : Apart (all_items ring)
   pub tabled : Tabled (length arrivals) next arrivals (all_items ring)
-  pub listed : (k : ℕ) → slice_index_or nodes k None ≡ node_of k (all_items ring)
-  pub numbers : length nodes ≡ 65536
+  pub listed : (u : UnitId) → has_place u ≡ true → slice_index_or nodes (index_of u) None ≡ node_of (number_of u) (all_items ring)
+  pub places : length nodes ≡ 2048
   pub room : length arrivals ≡ room_of ring + 4
   pub keys_room : length keys ≡ length arrivals
   pub fresh_room : length fresh ≡ length arrivals

@@ -1,6 +1,6 @@
 //! Units in order of a key, then of arrival; and beside them others, in order of arrival alone.
 //!
-//! They stand on the two lists of one ring. A table finds a unit's node without a walk, and each node has its key and
+//! They stand on the two lists of one ring. A table of the units' places finds a unit's node without a walk, and each node has its key and
 //! the number of its arrival. The numbers rise, and where they reach their end they are given anew in the same order.
 #![tactic(auto)]
 
@@ -11,11 +11,12 @@ mod tables;
 pub mod walks;
 
 pub use key::{Key, is_less};
-use sched_base::{Cores, Masks, NoMemory, ResId, Steps, UnitId};
+use sched_base::{Cores, NoMemory, ResId, Steps, UnitId};
 use std::alloc::Global;
 use std::marker::Model;
 use std::sync::ledger::Ledger;
 use tables::{Tables, append, arrival_of, arrive, find, make_tables, put, take};
+use unit_places::Masks;
 use unit_ring::Ring;
 pub use walks::{Allowed, has_domain};
 
@@ -43,6 +44,7 @@ impl ArrivalQueue {
     ghost use Rattle.arrival_queue.specs.Queues.{holds, inserted, appended, removed, moved, without, empty};
     ghost use Rattle.arrival_queue.specs.Order.{IsOrdered};
     ghost use Rattle.std.specs.Bool.{OnTrue, OnFalse};
+    ghost use Rattle.unit_places.specs.Places.{has_place};
     ghost use Rattle.arrival_queue.specs.Filters.{first_of, first_that, has_domain as domain_in, in_domains, may_run};
 
     /// A queue with room for so many units.
@@ -53,8 +55,9 @@ impl ArrivalQueue {
         Ok(ArrivalQueue { tables })
     }
 
-    /// A unit that is not here arrives, and is put at its place.
+    /// A unit that is not here, and has a place in tables, arrives, and is put at its place.
     pub fn insert_counted<L: Ledger>(&mut self, u: UnitId, key: Key, steps: &mut Steps<L>)
+        requires place { has_place u ≡ true }
         requires absent { holds self.old u ≡ false }
         requires room { 0 < self.old.spare }
         ensures after { self.new ≡ inserted self.old u key }
@@ -64,8 +67,9 @@ impl ArrivalQueue {
         put(&mut self.tables, u, key, arrival, steps);
     }
 
-    /// A unit that is not here arrives, and is put at the end of the others.
+    /// A unit that is not here, and has a place in tables, arrives, and is put at the end of the others.
     pub fn append_counted<L: Ledger>(&mut self, u: UnitId, key: Key, steps: &mut Steps<L>)
+        requires place { has_place u ≡ true }
         requires absent { holds self.old u ≡ false }
         requires room { 0 < self.old.spare }
         ensures after { self.new ≡ appended self.old u key }

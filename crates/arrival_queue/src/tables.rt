@@ -1,20 +1,22 @@
-//! The ring of a queue with its tables, by number of unit and by number of node.
+//! The ring of a queue with its tables, by place of unit and by number of node.
 
 ghost use Rattle.std.specs.Prelude.{◌≡◌, ℕ, ◌+◌, ◌<◌, ◌≤◌, false, true, length, map, slice_set, slice_index_or, Some, None, IfOk};
 ghost use Rattle.std.specs.Option.{ForSome};
 ghost use Rattle.sched_base.specs.Units.{number_of};
+ghost use Rattle.unit_places.specs.Places.{has_place as placed, index_of as place_index};
 ghost use Rattle.unit_ring.specs.Lists.{item, no_unit, has_node, is_live, without as ring_without, given, taken as ring_taken, appended as ring_appended, empty, room_of};
 ghost use Rattle.arrival_queue.specs.Tables.{all_items, arrival_at, below, comes_before, first_node, has_number, node_of, put_ring, ring_with, Tabled};
 ghost use Rattle.arrival_queue.specs.Whole.{IsTables, seen};
 
 use crate::key::{Key, is_less};
-use sched_base::{NoMemory, Steps, UNIT_NUMBERS, UnitId, unit_number};
+use sched_base::{NoMemory, Steps, UnitId};
 use std::alloc::Global;
 use std::mem::swap;
 use std::sync::ledger::Ledger;
+use unit_places::{PLACES, has_place, index_of};
 use unit_ring::{Node, Ring};
 
-/// The ring, for each number of a unit its node, and for each number of a node its key and the number of its arrival.
+/// The ring, for each place of a unit its node, and for each number of a node its key and the number of its arrival.
 #[derive(Drop)]
 pub struct Tables {
     pub ring: Ring,
@@ -41,7 +43,7 @@ pub fn make_tables(alloc: Global, units: usize) -> Result<Tables, NoMemory>
     let all = units.checked_add(4).ok_or(NoMemory)?;
     Ok(Tables {
         ring: Ring::room(alloc, units)?,
-        nodes: none_times(alloc, UNIT_NUMBERS)?,
+        nodes: none_times(alloc, PLACES)?,
         keys: vec![in alloc; Key {
             first: 0,
             second: 0
@@ -113,9 +115,10 @@ pub fn place_of<L: Ledger>(
 fn enter(tables: &mut Tables, n: Node, u: UnitId, key: Key, arrival: u64)
     requires keys { n.0 < length tables.old.keys.items }
     requires arrivals { n.0 < length tables.old.arrivals.items }
-    requires numbers { length tables.old.nodes.items ≡ 65536 }
+    requires places { length tables.old.nodes.items ≡ 2048 }
+    requires place { placed u ≡ true }
     ensures ring { tables.new.ring ≡ tables.old.ring }
-    ensures nodes { tables.new.nodes.items ≡ slice_set tables.old.nodes.items (number_of u) (Some n) }
+    ensures nodes { tables.new.nodes.items ≡ slice_set tables.old.nodes.items (place_index u) (Some n) }
     ensures keys { tables.new.keys.items ≡ slice_set tables.old.keys.items n.0 key }
     ensures arrivals { tables.new.arrivals.items ≡ slice_set tables.old.arrivals.items n.0 arrival }
     ensures fresh { tables.new.fresh.items ≡ tables.old.fresh.items }
@@ -123,7 +126,7 @@ fn enter(tables: &mut Tables, n: Node, u: UnitId, key: Key, arrival: u64)
 {
     tables.keys[n.0 as usize] = key;
     tables.arrivals[n.0 as usize] = arrival;
-    tables.nodes[unit_number(u)] = Some(n);
+    tables.nodes[index_of(u)] = Some(n);
 }
 
 /// Puts a unit before a node of list 0, or at its end.
@@ -150,6 +153,7 @@ pub fn put<L: Ledger>(
     steps: &mut Steps<L>,
 ) -> Node
     requires tables { IsTables tables.old }
+    requires place { placed u ≡ true }
     requires absent { has_number (number_of u) (all_items tables.old.ring) ≡ false }
     requires room { 0 < tables.old.ring.spare }
     requires arrived { arrival < tables.old.next }
@@ -177,6 +181,7 @@ pub fn append<L: Ledger>(
     steps: &mut Steps<L>,
 ) -> Node
     requires tables { IsTables tables.old }
+    requires place { placed u ≡ true }
     requires absent { has_number (number_of u) (all_items tables.old.ring) ≡ false }
     requires room { 0 < tables.old.ring.spare }
     requires arrived { arrival < tables.old.next }
@@ -199,7 +204,11 @@ pub fn find(tables: &Tables, u: UnitId) -> Option<Node>
     requires { IsTables tables.now }
     ensures { result ≡ node_of (number_of u) (all_items tables.now.ring) }
 {
-    tables.nodes[unit_number(u)]
+    if has_place(u) {
+        tables.nodes[index_of(u)]
+    } else {
+        None
+    }
 }
 
 /// The number of the arrival of a node's unit.
@@ -223,7 +232,7 @@ pub fn take<L: Ledger>(tables: &mut Tables, n: Node, u: UnitId, steps: &mut Step
     ensures cost { steps.new ≡ steps.old + 1 }
 {
     tables.ring.unlink(n, steps);
-    tables.nodes[unit_number(u)] = None;
+    tables.nodes[index_of(u)] = None;
 }
 
 /// Numbers the arrivals anew in the same order, as small as can be.

@@ -4,8 +4,9 @@ ghost use Rattle.std.specs.Prelude.{◌≡◌, ◌+◌, ◌≤◌, ◌&&◌, len
 ghost use Rattle.arrival_queue.specs.Filters.{has_domain as domain_in, in_domains, may_run};
 ghost use Rattle.arrival_queue.specs.Tables.{Apart, all_items, first_unit};
 
-use sched_base::{Cores, DomId, Masks, ResId, Steps, UnitId, has_core, is_allowed};
+use sched_base::{Cores, DomId, ResId, Steps, UnitId, has_core, is_allowed};
 use std::sync::ledger::Ledger;
+use unit_places::Masks;
 use unit_ring::Ring;
 
 /// A set of domains, with bit d for domain d.

@@ -1,5 +1,5 @@
 -- What a scan of the units that wait finds, by the first that may run.
-use Rattle.std.proofs.Common.{◌≡◌, ℕ, zero, suc, Bool, true, false, not, List, [], ◌∷◌, length, map, refl, ap, subst, sym, ◌∙◌, arith, cond, inl, inr, ◌⊎◌}
+use Rattle.std.proofs.Common.{◌≡◌, Bool, true, false, not, List, [], ◌∷◌, refl, ap, sym, ◌∙◌, arith, cond, inl, inr}
 use Rattle.std.specs.Prelude.{Option, Some, None, is_some, filter, ◌&&◌, ◌||◌, int_lt, if◌then◌else◌, ℤ, pos}
 use Rattle.std.specs.List.{list_any}
 use Rattle.std.proofs.lemmas.Int.{ints}
@@ -16,7 +16,6 @@ use Rattle.sched_laws.proofs.Bools.{either}
 use Rattle.plain_credit2.specs.Waiting.{scheduler_of}
 use Rattle.plain_credit2.proofs.Items.{filter-both}
 use Rattle.credit2_core.specs.Choice.{may_take, best_of, credit_or_0}
-use Rattle.credit2_core.proofs.Tables.{filter-same}
 
 or-false : (b : Bool) → b ≡ (b || false)
 or-false true = refl

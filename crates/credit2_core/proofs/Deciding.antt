@@ -1,17 +1,13 @@
 -- What a decision leaves.
-use Rattle.std.proofs.Common.{◌≡◌, ◌≤◌, ◌<◌, ◌+◌, ℕ, zero, suc, Bool, true, false, List, [], ◌∷◌, length, map, refl, ap, subst, sym, ◌∙◌, arith, inl, inr, ◌⊎◌}
-use Rattle.std.specs.Prelude.{Option, Some, None, slice_get, nat_lt}
-use Rattle.std.specs.List.{AllByRecursion}
-use Rattle.std.specs.Option.{IfSome}
+use Rattle.std.proofs.Common.{◌≡◌, ◌≤◌, ℕ, zero, suc, true, length, refl, subst, sym, ◌∙◌, arith, inl, inr, ◌⊎◌}
+use Rattle.std.specs.Prelude.{Option, Some, None}
 use Rattle.sched_base.specs.declared.UnitId.{UnitId}
 use Rattle.sched_model.specs.declared.ask.Ask.{Ask}
 use Rattle.sched_model.specs.declared.state.Scheduler.{Scheduler}
 use Rattle.sched_model.specs.declared.state.Credit2Unit.{Credit2Unit}
-use Rattle.sched_model.specs.declared.state.Credit2Domain.{Credit2Domain}
 use Rattle.sched_model.specs.declared.state.Credit2Records.{Credit2Records}
 use Rattle.sched_model.specs.declared.state.Records.TheVariants.{Credit2Pool}
-use Rattle.sched_model.specs.Eligible.{Decision}
-use Rattle.sched_model.specs.Places.{at_place, has_unit, without_unit}
+use Rattle.sched_model.specs.Places.{has_unit}
 use Rattle.sched_model.specs.Credit2.{burn_all, burn_cur, reset, switch_off, choice, decide, domain_has_budget}
 use Rattle.sched_model.specs.Policy.{decision_by}
 use Rattle.plain_credit2.specs.Waiting.{scheduler_of}
@@ -25,7 +21,7 @@ use Rattle.queue_laws.specs.Arrivals.{arrivals}
 use Rattle.credit2_core.specs.declared.held.Held.{Held}
 use Rattle.credit2_core.specs.Choice.{ran}
 use Rattle.credit2_core.specs.Places.{has_joined, count_at}
-use Rattle.credit2_core.specs.Held.{InRange, IsHeld, IsLineOf, IsSameRoom, scheduler_in}
+use Rattle.credit2_core.specs.Held.{IsHeld, IsLineOf, IsSameRoom, scheduler_in}
 use Rattle.credit2_core.proofs.Lists.{each_has}
 use Rattle.credit2_core.proofs.Rooms.{less_true}
 use Rattle.credit2_core.proofs.Members.{count_there, waits_off}

@@ -1,5 +1,5 @@
 -- The credit of a unit that does not run changes by a reset alone.
-use Rattle.std.proofs.Common.{◌≡◌, ◌≢◌, ◌+◌, ℕ, zero, suc, Bool, true, false, List, [], ◌∷◌, length, map, refl, ap, subst, sym, ◌∙◌, arith, cond, inl, inr, ◌⊎◌}
+use Rattle.std.proofs.Common.{◌≡◌, ◌≢◌, ℕ, zero, suc, List, [], ◌∷◌, map, refl, ap, subst, sym, ◌∙◌, cond}
 use Rattle.std.specs.Prelude.{Option, Some, None, option_map, slice_get, slice_set, ℤ, pos, neg_ℤ, is_some, ◌==◌, ◌%◌}
 use Rattle.std.specs.List.{AllByRecursion}
 use Rattle.std.proofs.Math.Decide.{ℕ_discrete}
@@ -7,8 +7,8 @@ use Rattle.sched_base.specs.declared.UnitId.{UnitId}
 use Rattle.sched_model.specs.declared.state.Credit2Unit.{Credit2Unit}
 use Rattle.sched_model.specs.declared.state.Credit2Domain.{Credit2Domain}
 use Rattle.sched_model.specs.declared.state.Credit2Records.{Credit2Records}
-use Rattle.sched_model.specs.Places.{at_place, change_at, change_item, has_unit}
-use Rattle.sched_model.specs.Credit2.{max_weight, burn_unit, burn_units, change_domain, change_unit, give_back, burn_cur, take_budget, set_running, switch_off, refill_domain, refilled, set_weight, set_cap, set_domain, credit_of}
+use Rattle.sched_model.specs.Places.{at_place, change_at, change_item}
+use Rattle.sched_model.specs.Credit2.{max_weight, burn_unit, burn_units, change_domain, give_back, burn_cur, take_budget, set_running, switch_off, refill_domain, refilled, set_weight, set_cap, set_domain, credit_of}
 use Rattle.sched_laws.proofs.EachPlace.{by_option, by_cond}
 use Rattle.sched_laws.proofs.Sound.{change_at-twice}
 use Rattle.sched_ranges.proofs.Budget.{get_map}
@@ -19,7 +19,7 @@ use Rattle.plain_credit2.proofs.Items.{at_place-change_at}
 use Rattle.plain_credit2.proofs.Steps.{burn_cur-own}
 use Rattle.arrival_queue.specs.Queues.{Queued}
 use Rattle.queue_laws.specs.Arrivals.{arrivals}
-use Rattle.credit2_core.specs.Keys.{HasCredits, key_in}
+use Rattle.credit2_core.specs.Keys.{HasCredits}
 use Rattle.credit2_core.proofs.Lists.{queued_have, each_has}
 use Rattle.credit2_core.proofs.Members.{waits_off, IsElsewhere}
 

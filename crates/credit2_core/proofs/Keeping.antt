@@ -1,12 +1,12 @@
 -- All that always holds, after each call but the decision.
-use Rattle.std.proofs.Common.{◌≡◌, ◌≢◌, ◌≤◌, ◌<◌, ◌+◌, ◌-◌, ℕ, zero, suc, Bool, true, false, not, List, [], ◌∷◌, ◌++◌, length, map, refl, ap, subst, sym, ◌∙◌, arith, cond, inl, inr, ◌⊎◌, length-append}
-use Rattle.std.specs.Prelude.{Option, Some, None, option_map, is_some, slice_get, slice_set, slice_index_or, replicate, nat_lt, ℤ, pos, neg_ℤ, ◌==◌, ◌&&◌}
+use Rattle.std.proofs.Common.{◌≡◌, ◌≢◌, ◌≤◌, ◌<◌, ◌+◌, ◌-◌, ℕ, zero, suc, Bool, true, false, List, [], ◌∷◌, length, refl, ap, subst, sym, ◌∙◌, arith, inl, inr}
+use Rattle.std.specs.Prelude.{Option, Some, None, option_map, is_some, slice_get, slice_set, slice_index_or, replicate, nat_lt, ℤ, pos, neg_ℤ, ◌==◌}
 use Rattle.std.specs.List.{AllByRecursion, list_any}
 use Rattle.std.specs.Option.{ForSome}
 use Rattle.std.proofs.Math.Decide.{ℕ_discrete}
 use Rattle.std.proofs.lemmas.List.{length-replicate, length-map}
-use Rattle.sched_base.specs.Numbers.{core_set, domain}
-use Rattle.sched_base.specs.CoreSets.{mask_of}
+use Rattle.sched_base.specs.Numbers.{core_set}
+use Rattle.unit_places.specs.Masks.{mask_of}
 use Rattle.sched_base.specs.declared.Cores.{Cores}
 use Rattle.sched_base.specs.declared.Moment.{Moment}
 use Rattle.sched_base.specs.declared.UnitId.{UnitId}
@@ -15,39 +15,38 @@ use Rattle.sched_model.specs.declared.state.Credit2Unit.{Credit2Unit}
 use Rattle.sched_model.specs.declared.state.Credit2Domain.{Credit2Domain}
 use Rattle.sched_model.specs.declared.state.Credit2Records.{Credit2Records}
 use Rattle.sched_model.specs.declared.state.Records.TheVariants.{Credit2Pool}
-use Rattle.sched_model.specs.Places.{at_place, put_at, clear_at, change_at, change_item, has_unit}
+use Rattle.sched_model.specs.Places.{at_place, put_at, clear_at, change_at, has_unit}
 use Rattle.sched_model.specs.Checked.{IsWithin}
 use Rattle.sched_model.specs.Eligible.{cores_of}
 use Rattle.sched_model.specs.State.{has_come}
 use Rattle.sched_model.specs.Policy.{next_refill, pinned}
 use Rattle.sched_model.specs.Credit2.{max_weight, credit_of, refill_domain, refilled, set_weight, set_cap, set_domain, change_domain, fresh_domain}
-use Rattle.sched_laws.proofs.Bools.{clash, not_true, or_left, or_right, is_same, either}
+use Rattle.sched_laws.proofs.Bools.{clash, not_true, is_same, either}
 use Rattle.sched_laws.proofs.Choices.{at_unit}
 use Rattle.sched_laws.proofs.EachPlace.{at_place-put_at_other, at_place-clear_at_other, at_place-clear_at, EachAt-put_at, EachAt-clear_at, EachPlace-empty, by_option}
 use Rattle.sched_laws.proofs.Lists.{length_change_item}
 use Rattle.sched_ranges.specs.Budgets.{BudgetFits, Nobody}
-use Rattle.sched_ranges.specs.Fits.{Credit2Fits, Credit2DomainFits}
-use Rattle.sched_ranges.proofs.Decided.{unit_rec, r_refilled, r_set_domain}
+use Rattle.sched_ranges.specs.Fits.{Credit2DomainFits}
+use Rattle.sched_ranges.proofs.Decided.{unit_rec, r_set_domain}
 use Rattle.sched_ranges.specs.Budgets.{AllRunOnly, RunsOnly}
 use Rattle.sched_ops.specs.Conditions.{is_on, is_vacant, IsAway, HasNoneBusy, Keeps, IsWeight, IsCap}
 use Rattle.sched_ops.specs.Seen.{Seen, with_scheduler, restarted}
 use Rattle.sched_model.specs.declared.config.PoolParams.TheVariants as pool_params
 use Rattle.plain_credit2.specs.Waiting.{scheduler_of}
 use Rattle.arrival_queue.specs.Queues.{Queued}
-use Rattle.runq.specs.Queue.{Queue, inserted, empty}
+use Rattle.runq.specs.Queue.{inserted, empty}
 use Rattle.queue_laws.specs.Arrivals.{arrivals}
-use Rattle.arrival_queue.proofs.Ranks.{less_test}
 use Rattle.credit2_core.specs.declared.held.Held.{Held}
-use Rattle.credit2_core.specs.Keys.{HasCredits, key_in}
+use Rattle.credit2_core.specs.Keys.{key_in}
 use Rattle.credit2_core.specs.Places.{set_counts, unit_counts, count_all, count_at, has_joined, refill_of, refills_of}
 use Rattle.credit2_core.specs.Domains.{masked, refreshed}
 use Rattle.credit2_core.specs.Held.{InRange, IsHeld, IsLineOf, AreMasks, scheduler_in, seen_in}
-use Rattle.credit2_core.proofs.Lists.{each_has, queued_have, length-arrivals, length-placed, apart_push}
-use Rattle.credit2_core.proofs.Waiting.{IsOrdered, placed_arrivals}
+use Rattle.credit2_core.proofs.Lists.{each_has, queued_have, length-arrivals, length-placed}
+use Rattle.credit2_core.proofs.Waiting.{IsOrdered}
 use Rattle.credit2_core.proofs.Rooms.{less_true, no_more_wait, count_all-put, count_all-clear}
-use Rattle.credit2_core.proofs.Members.{IsElsewhere, counts_at, count_there, joined_record, joined_small, all_small, record_of, waits_off}
-use Rattle.credit2_core.proofs.Idle.{IsOff, each_keeps, idle_refilled, idle_set_domain}
-use Rattle.credit2_core.proofs.Ranges.{Few, if_some, range_later, range_refilled, range_set_domain, range_limit, range_joined, range_parted}
+use Rattle.credit2_core.proofs.Members.{IsElsewhere, joined_small, record_of, waits_off}
+use Rattle.credit2_core.proofs.Idle.{IsOff, each_keeps, idle_set_domain}
+use Rattle.credit2_core.proofs.Ranges.{if_some, range_later, range_refilled, range_set_domain, range_limit, range_joined, range_parted}
 use Rattle.credit2_core.proofs.Same.{map-set, map-change_at, counts_refilled, counts_set_domain, refills_changed, refills_written, refills_put}
 use Rattle.credit2_core.proofs.Lines.{line_records, line_refilled, line_pushed}
 

@@ -1,19 +1,17 @@
 -- What holds of the units that wait, after each change.
-use Rattle.std.proofs.Common.{◌≡◌, ◌≢◌, ◌<◌, ◌≤◌, ◌+◌, ◌-◌, ℕ, zero, suc, Bool, true, false, List, [], ◌∷◌, ◌++◌, length, map, refl, ap, subst, sym, ◌∙◌, arith, cond, inl, inr, ◌⊎◌}
-use Rattle.std.specs.Prelude.{Option, Some, None, filter, not, ◌&&◌, slice_get}
+use Rattle.std.proofs.Common.{◌≡◌, ◌<◌, ◌+◌, ℕ, Bool, true, false, List, [], ◌∷◌, ◌++◌, length, map, refl, ap, subst, sym, ◌∙◌, arith, cond, inl, inr, ◌⊎◌}
+use Rattle.std.specs.Prelude.{Option, Some, None, not}
 use Rattle.std.specs.Bool.{OnTrue, OnFalse}
 use Rattle.std.specs.List.{AllByRecursion}
 use Rattle.sched_base.specs.Numbers.{domain}
 use Rattle.sched_base.specs.declared.Cores.{Cores}
 use Rattle.sched_base.specs.declared.UnitId.{UnitId}
-use Rattle.sched_model.specs.declared.state.Credit2Unit.{Credit2Unit}
-use Rattle.sched_model.specs.declared.state.Credit2Domain.{Credit2Domain}
 use Rattle.sched_model.specs.declared.state.Credit2Records.{Credit2Records}
-use Rattle.sched_model.specs.Places.{at_place, has_unit, without_unit, same_unit}
-use Rattle.sched_model.specs.Credit2.{burn_cur, reset, take_budget, change_domain, set_running, switch_off, refilled, set_domain}
-use Rattle.sched_laws.proofs.Lists.{AllByRecursion-filter, AllByRecursion-push, AllByRecursion-map}
+use Rattle.sched_model.specs.Places.{has_unit, without_unit, same_unit}
+use Rattle.sched_model.specs.Credit2.{burn_cur, reset, take_budget, change_domain, set_running, switch_off, refilled}
+use Rattle.sched_laws.proofs.Lists.{AllByRecursion-filter, AllByRecursion-push}
 use Rattle.sched_laws.proofs.Choices.{same_unit_same}
-use Rattle.sched_ranges.proofs.Decided.{IsCur, r_burn_cur, r_reset, r_take, r_refilled, r_set_domain, r_switch_off, r_set_running, unit_rec}
+use Rattle.sched_ranges.proofs.Decided.{IsCur, r_burn_cur, r_reset, r_take, r_refilled, r_switch_off, r_set_running, unit_rec}
 use Rattle.sched_ranges.specs.Budgets.{AllRunOnly}
 use Rattle.sched_ops.specs.Conditions.{IsApart}
 use Rattle.arrival_queue.specs.Queues as queues
@@ -24,7 +22,7 @@ use Rattle.queue_laws.proofs.Once.{keys_placed, keys_removed}
 use Rattle.credit2_core.specs.Keys.{HasCredits, key_in}
 use Rattle.credit2_core.specs.Places.{has_joined}
 use Rattle.credit2_core.specs.Held.{IsLineOf, IsSameRoom}
-use Rattle.credit2_core.proofs.Lists.{apart_push, apart_without, has_unit-without, has_unit-push, without-absent, length-arrivals, length-placed}
+use Rattle.credit2_core.proofs.Lists.{apart_push, apart_without, has_unit-without, has_unit-push, without-absent, length-arrivals}
 use Rattle.credit2_core.proofs.Waiting.{IsOrdered, has_arrived, removed_arrivals, placed_arrivals}
 use Rattle.credit2_core.proofs.Members.{IsElsewhere}
 use Rattle.credit2_core.proofs.Idle.{IsOff, KeepsIdle, keys_kept, idle_burn_cur, idle_take, idle_set_running, idle_switch_off, idle_refilled}

@@ -1,6 +1,6 @@
 -- Lists of units, with one more or one less, and what holds of each unit that is queued.
 use Rattle.std.proofs.Common.{◌≡◌, ◌+◌, ℕ, Bool, true, false, not, List, [], ◌∷◌, ◌++◌, length, map, refl, ap, subst, sym, ◌∙◌, cond, arith, inl, inr}
-use Rattle.std.specs.Prelude.{◌||◌, ◌&&◌, filter, if◌then◌else◌, nat_lt}
+use Rattle.std.specs.Prelude.{◌||◌, if◌then◌else◌, nat_lt}
 use Rattle.std.specs.List.{AllByRecursion}
 use Rattle.sched_base.specs.declared.UnitId.{UnitId}
 use Rattle.sched_model.specs.Places.{has_unit, without_unit, same_unit}
@@ -8,7 +8,7 @@ use Rattle.sched_laws.proofs.Bools.{or_left, or_right, or_more, either}
 use Rattle.sched_laws.proofs.Choices.{same_unit_same}
 use Rattle.sched_laws.proofs.Counts.{same_unit_refl}
 use Rattle.sched_ops.specs.Conditions.{IsApart}
-use Rattle.arrival_queue.specs.Queues.{Queued, queued, put_first, placed, without, is_of, closed_up}
+use Rattle.arrival_queue.specs.Queues.{Queued, put_first, placed, without, is_of, closed_up}
 use Rattle.queue_laws.specs.Arrivals.{arrived, arrivals}
 
 -- one of two tests fails

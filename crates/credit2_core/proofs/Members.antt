@@ -1,17 +1,18 @@
 -- The units of the domains that have joined, by their sets of cores and by their records.
-use Rattle.std.proofs.Common.{◌≡◌, ◌<◌, ◌≤◌, ◌+◌, ℕ, zero, suc, Bool, true, false, List, [], ◌∷◌, length, map, refl, ap, subst, sym, ◌∙◌, arith, inl, inr, ◌⊎◌}
-use Rattle.std.specs.Prelude.{Option, Some, None, option_map, slice_get, nat_lt}
+use Rattle.std.proofs.Common.{◌≡◌, ◌<◌, ℕ, zero, suc, true, false, List, [], ◌∷◌, length, refl, ap, ◌∙◌, arith, inl, inr}
+use Rattle.std.specs.Prelude.{Option, Some, None, option_map, slice_get}
 use Rattle.std.specs.List.{AllByRecursion}
 use Rattle.sched_base.specs.Numbers.{domain}
 use Rattle.sched_base.specs.declared.Cores.{Cores}
 use Rattle.sched_base.specs.declared.UnitId.{UnitId}
+use Rattle.unit_places.specs.Places.{has_place}
+use Rattle.unit_places.proofs.Placed.{placed}
 use Rattle.sched_model.specs.declared.state.Credit2Unit.{Credit2Unit}
 use Rattle.sched_model.specs.declared.state.Credit2Domain.{Credit2Domain}
 use Rattle.sched_model.specs.declared.state.Credit2Records.{Credit2Records}
 use Rattle.sched_model.specs.Places.{at_place, has_unit}
 use Rattle.sched_laws.proofs.Bools.{clash}
-use Rattle.sched_laws.proofs.Choices.{at_unit}
-use Rattle.sched_laws.proofs.Counts.{same_unit_refl}
+use Rattle.sched_laws.proofs.EachPlace.{place_below}
 use Rattle.sched_ranges.proofs.Decided.{unit_rec}
 use Rattle.sched_ranges.specs.Budgets.{AllRunOnly}
 use Rattle.credit2_core.specs.Places.{set_counts, unit_counts, count_at, has_joined}
@@ -62,6 +63,14 @@ joined_small t records affinity u range same joined =
     let few = (range.budgets u.dom.0 r.0 r.1).count in
     let inside = r.2 in
     omega (arith, few, inside)
+
+-- a unit that has joined has a place in tables
+pub joined_place : (t : ℕ) (records : Credit2Records) (affinity : List (Option (List Cores))) (u : UnitId) → InRange t records → set_counts affinity ≡ unit_counts records.domains → has_joined affinity u ≡ true → has_place u ≡ true
+joined_place t records affinity u range same joined =
+    let r = joined_record affinity records.domains u same joined in
+    let below = place_below records.domains u.dom.0 r.0 r.1 in
+    let few = range.few in
+    placed u (omega (arith, below, few)) (joined_small t records affinity u range same joined)
 
 pub all_small : (t : ℕ) (records : Credit2Records) (affinity : List (Option (List Cores))) (units : List UnitId) → InRange t records → set_counts affinity ≡ unit_counts records.domains → AllByRecursion (λ u. has_joined affinity u ≡ true) units
     → AllByRecursion (λ (u : UnitId). u.n < 256) units

@@ -1,7 +1,6 @@
 -- The numbers of the records stay in range.
-use Rattle.std.proofs.Common.{◌≡◌, ◌<◌, ◌≤◌, ◌+◌, ◌-◌, ◌*◌, ℕ, zero, suc, Bool, true, false, List, [], ◌∷◌, length, refl, ap, subst, sym, ◌∙◌, arith, ◌⊎◌, inl, inr}
-use Rattle.std.specs.Prelude.{Option, Some, None, slice_get, unwrap_or, ℤ, pos, neg_ℤ, ◌+ℤ◌, ◌≤ℤ◌}
-use Rattle.std.specs.List.{AllByRecursion}
+use Rattle.std.proofs.Common.{◌≡◌, ◌<◌, ◌≤◌, ◌+◌, ℕ, true, length, refl, subst, sym, arith, ◌⊎◌}
+use Rattle.std.specs.Prelude.{Option, Some, None}
 use Rattle.std.specs.Option.{IfSome, ForSome}
 use Rattle.std.proofs.lemmas.Int.{ints}
 use Rattle.std.proofs.lemmas.List.Elements.{All-from_recursion}
@@ -13,12 +12,12 @@ use Rattle.sched_model.specs.declared.state.Credit2Records.{Credit2Records}
 use Rattle.sched_model.specs.declared.state.Scheduler.{Scheduler}
 use Rattle.sched_model.specs.Places.{at_place, put_at, clear_at}
 use Rattle.sched_model.specs.Checked.{IsWithin}
-use Rattle.sched_model.specs.Credit2.{burn_cur, switch_off, set_domain, refilled, fresh_domain, domain_has_budget, reset}
-use Rattle.sched_laws.proofs.EachPlace.{EachPlace-put_at, EachPlace-clear_at, EachAt-put_at, EachAt-clear_at, length_set, length_change_each}
+use Rattle.sched_model.specs.Credit2.{burn_cur, switch_off, set_domain, refilled, fresh_domain, domain_has_budget}
+use Rattle.sched_laws.proofs.EachPlace.{EachPlace-put_at, EachPlace-clear_at, EachAt-put_at, EachAt-clear_at, length_set}
 use Rattle.sched_ranges.specs.Ranges.{Credit2UnitInRange, Credit2InRange}
 use Rattle.sched_ranges.proofs.Credit2.{c_burn_cur, c_reset, c_take, c_switch_off, c_set_running, c_fresh, c_set_domain, c_later}
-use Rattle.sched_ranges.specs.Fits.{Credit2DomainFits, Credit2Fits, UnitFits}
-use Rattle.sched_ranges.specs.Budgets.{HeldFits, BudgetFits, Nobody, helds, lasts}
+use Rattle.sched_ranges.specs.Fits.{Credit2DomainFits, Credit2Fits}
+use Rattle.sched_ranges.specs.Budgets.{BudgetFits, Nobody}
 use Rattle.sched_ranges.proofs.Budgets.{b_later, b_fresh}
 use Rattle.sched_ranges.proofs.Decided.{s_refilled, s_set_domain, decides_unit, decides_idle, unit_rec}
 use Rattle.sched_ranges.specs.Budgets.{Budgets, None2}

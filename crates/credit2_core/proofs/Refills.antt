@@ -1,12 +1,11 @@
 -- The first refill of a pool, by the heap of its domains' refills.
-use Rattle.std.proofs.Common.{◌≡◌, ◌≢◌, ◌≤◌, ◌<◌, ◌+◌, ℕ, zero, suc, Bool, true, false, List, [], ◌∷◌, map, refl, ap, subst, sym, ◌∙◌, arith, cond, inl, inr}
+use Rattle.std.proofs.Common.{◌≡◌, ◌≤◌, ◌<◌, ◌+◌, ℕ, zero, suc, Bool, true, false, List, [], ◌∷◌, refl, ap, subst, sym, ◌∙◌, arith, cond, inl, inr}
 use Rattle.std.specs.Prelude.{Option, Some, None, is_some, option_map, slice_index_or, nat_le, nat_lt}
 use Rattle.std.proofs.lemmas.Bool.{cases_lt}
 use Rattle.sched_base.specs.Numbers.{moment, domain}
 use Rattle.sched_base.specs.declared.Moment.{Moment}
 use Rattle.sched_model.specs.declared.state.Credit2Domain.{Credit2Domain}
 use Rattle.sched_model.specs.Places.{at_place, numbered}
-use Rattle.sched_ops.specs.declared.timer.Timer.{Timer}
 use Rattle.sched_ops.specs.declared.timer.Timer.TheVariants.{Refill}
 use Rattle.sched_ops.specs.Timers.{Armed, refills, first_due, soonest}
 use Rattle.arrival_queue.proofs.Ranks.{less_test, not_less_test}

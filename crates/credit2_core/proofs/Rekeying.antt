@@ -1,15 +1,13 @@
 -- The keys of the run queue while its units are put at their places one after another.
-use Rattle.std.proofs.Common.{◌≡◌, ◌≢◌, ◌<◌, ◌≤◌, ◌+◌, ◌*◌, ℕ, zero, suc, Bool, true, false, List, [], ◌∷◌, length, refl, ap, subst, sym, ◌∙◌, cond, arith, ◌⊎◌, inl, inr}
-use Rattle.std.specs.Prelude.{Option, Some, None, ◌==◌, ◌&&◌, ◌||◌, if◌then◌else◌, nat_lt}
+use Rattle.std.proofs.Common.{◌≡◌, ◌<◌, ◌≤◌, ◌+◌, ℕ, zero, suc, Bool, true, false, List, [], ◌∷◌, length, refl, subst, arith, ◌⊎◌, inl, inr}
+use Rattle.std.specs.Prelude.{Option, ◌==◌, ◌&&◌, ◌||◌, if◌then◌else◌, nat_lt}
 use Rattle.std.specs.List.{AllByRecursion}
-use Rattle.std.proofs.lemmas.Bool.{cases_eq, cases_lt}
+use Rattle.std.proofs.lemmas.Bool.{cases_lt}
 use Rattle.sched_base.specs.Units.{number_of}
 use Rattle.sched_base.specs.declared.Cores.{Cores}
 use Rattle.sched_base.specs.declared.UnitId.{UnitId}
 use Rattle.sched_model.specs.declared.state.Credit2Records.{Credit2Records}
-use Rattle.sched_model.specs.Places.{at_place}
 use Rattle.sched_laws.proofs.Bools.{and_left, and_right, one_of, or_left, or_right, is_same}
-use Rattle.sched_laws.proofs.Lists.{AllByRecursion-map}
 use Rattle.arrival_queue.specs.Queues.{Queued, queued, placed, without, is_of, has_unit}
 use Rattle.arrival_queue.proofs.Ranks.{less_test, not_less_test}
 use Rattle.queue_laws.specs.Arrivals.{arrivals}

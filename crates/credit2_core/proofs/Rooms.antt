@@ -1,6 +1,6 @@
 -- No more units wait than have joined.
-use Rattle.std.proofs.Common.{◌≡◌, ◌≢◌, ◌<◌, ◌≤◌, ◌+◌, ℕ, zero, suc, Bool, true, false, List, [], ◌∷◌, ◌++◌, length, map, refl, ap, subst, sym, ◌∙◌, cond, arith, inl, inr}
-use Rattle.std.specs.Prelude.{Option, Some, None, nat_lt, slice_set, replicate}
+use Rattle.std.proofs.Common.{◌≡◌, ◌<◌, ◌≤◌, ◌+◌, ℕ, zero, suc, true, false, List, [], ◌∷◌, ◌++◌, length, map, refl, ap, subst, sym, ◌∙◌, cond, arith, inl, inr}
+use Rattle.std.specs.Prelude.{Option, Some, None, nat_lt, replicate}
 use Rattle.std.specs.List.{AllByRecursion}
 use Rattle.std.proofs.Math.Decide.{ℕ_discrete}
 use Rattle.std.proofs.lemmas.List.{length-map, replicate-append-replicate}
@@ -12,7 +12,7 @@ use Rattle.sched_base.specs.declared.UnitId.{UnitId}
 use Rattle.sched_model.specs.Places.{at_place, numbers_from, has_unit, same_unit, put_at, clear_at}
 use Rattle.sched_laws.proofs.Choices.{same_unit_same}
 use Rattle.sched_laws.proofs.Counts.{same_unit_refl, times_none}
-use Rattle.sched_laws.specs.Counts.{one, times}
+use Rattle.sched_laws.specs.Counts.{times}
 use Rattle.sched_ranges.proofs.Queue.{no_longer}
 use Rattle.sched_ops.specs.Conditions.{IsApart}
 use Rattle.arrival_queue.proofs.Ranks.{not_less_test}

@@ -1,24 +1,19 @@
 -- The set of the domains that may run, and the table of the sets of cores by unit.
-use Rattle.std.proofs.Common.{◌≡◌, ◌≢◌, ◌<◌, ◌≤◌, ◌+◌, ◌*◌, ◌/◌, ◌%◌, ◌^◌, ℕ, zero, suc, Bool, true, false, List, [], ◌∷◌, length, refl, ap, subst, sym, ◌∙◌, cond, arith, ◌⊎◌, inl, inr}
-use Rattle.std.specs.Prelude.{Option, Some, None, ◌==◌, ◌&&◌, ◌||◌, if◌then◌else◌, filter, nat_lt, slice_index_or, slice_set}
+use Rattle.std.proofs.Common.{◌≡◌, ◌<◌, ◌+◌, ◌*◌, ◌/◌, ◌%◌, ◌^◌, ℕ, zero, suc, Bool, true, false, List, [], ◌∷◌, length, refl, ap, sym, ◌∙◌, cond, arith}
+use Rattle.std.specs.Prelude.{Option, Some, None, ◌==◌, ◌&&◌, if◌then◌else◌, filter, nat_lt, slice_index_or}
 use Rattle.std.specs.List.{AllByRecursion}
 use Rattle.std.proofs.Math.Nat.{div-div-eq-div-mul}
-use Rattle.std.proofs.lemmas.Bool.{cases_eq, cases_lt}
-use Rattle.std.proofs.lemmas.List.{get_or-set_other}
-use Rattle.sched_base.specs.Numbers.{core_set, domain}
-use Rattle.sched_base.specs.CoreSets.{mask_of, every_core}
-use Rattle.sched_base.specs.Units.{number_of}
+use Rattle.sched_base.specs.Numbers.{core_set}
+use Rattle.unit_places.specs.Masks.{mask_of}
 use Rattle.sched_base.specs.CoreSets as sets
 use Rattle.sched_base.specs.declared.Cores.{Cores}
-use Rattle.sched_base.specs.declared.ResId.{ResId}
 use Rattle.sched_base.specs.declared.UnitId.{UnitId}
 use Rattle.sched_model.specs.declared.state.Credit2Domain.{Credit2Domain}
 use Rattle.sched_model.specs.declared.state.Credit2Records.{Credit2Records}
 use Rattle.sched_model.specs.Places.{at_place}
 use Rattle.sched_model.specs.Eligible.{has_budget, cores_of, is_allowed_by}
 use Rattle.sched_model.specs.Credit2.{domain_has_budget}
-use Rattle.sched_laws.proofs.Bools.{either, is_same}
-use Rattle.arrival_queue.proofs.Ranks.{less_test, not_less_test}
+use Rattle.arrival_queue.proofs.Ranks.{not_less_test}
 use Rattle.arrival_queue.specs.Filters.{has_domain, may_run}
 use Rattle.credit2_core.specs.Places.{has_joined}
 use Rattle.credit2_core.specs.Domains.{may_run_bit, set_of, masked}
@@ -83,40 +78,7 @@ pub passes_each : (affinity : List (Option (List Cores))) (masks : List Cores) (
 passes_each affinity masks records core home [] are joined = tt
 passes_each affinity masks records core home (u ∷ units) are joined = (passes_same affinity masks records core home u are joined.0, passes_each affinity masks records core home units are joined.1)
 
--- the masks, once one more is written
-pub masked_more : (masks now : List Cores) (d k : ℕ) (sets : List Cores) (x : Cores) (u : UnitId) → u.n < 256 → k < 256 → slice_index_or sets k (core_set 0) ≡ x
-    → mask_of (slice_set now (d * 256 + k) x) (record { dom = domain d; n = k }) ≡ x → mask_of now u ≡ masked masks d sets k u → mask_of (slice_set now (d * 256 + k) x) u ≡ masked masks d sets (k + 1) u
-masked_more masks now d k sets x u low low_k is here before =
-    elim (cases_eq u.dom.0 d) [
-      | inl dom ↦ elim (cases_eq u.n k) [
-        | inl n ↦ (
-            let e : ◌≡◌ {A = UnitId} u (record { dom = domain d; n = k }) = ap (λ (i : ℕ). record { dom = domain i; n = u.n }) dom ∙ ap (λ (i : ℕ). record { dom = domain d; n = i }) n in
-            let a : (u.dom.0 == d) ≡ true = is_same u.dom.0 d dom in
-            let b : nat_lt u.n (k + 1) ≡ true = less_test u.n (k + 1) (omega (arith, n)) in
-            let right : masked masks d sets (k + 1) u ≡ slice_index_or sets u.n (core_set 0) = rw (a, b) refl in
-            ap (λ (w : UnitId). mask_of (slice_set now (d * 256 + k) x) w) e ∙ here ∙ sym is ∙ ap (λ (i : ℕ). slice_index_or sets i (core_set 0)) (sym n) ∙ sym right)
-        | inr n ↦ (
-            let other : number_of u ≢ d * 256 + k = λ e. n (omega (arith, e, dom)) in
-            get_or-set_other now (d * 256 + k) (number_of u) x every_core other ∙ before
-            ∙ ap (λ (b : Bool). if u.dom.0 == d && b then slice_index_or sets u.n (core_set 0) else mask_of masks u) (one_more u.n k n))
-      ]
-      | inr dom ↦ (
-          let other : number_of u ≢ d * 256 + k = λ e. dom (omega (arith, e, low, low_k)) in
-          let a : (u.dom.0 == d) ≡ false = not_same u.dom.0 d dom in
-          let left : masked masks d sets k u ≡ mask_of masks u = rw a refl in
-          let right : masked masks d sets (k + 1) u ≡ mask_of masks u = rw a refl in
-          get_or-set_other now (d * 256 + k) (number_of u) x every_core other ∙ before ∙ left ∙ sym right)
-    ]
-  where
-    one_more : (n k : ℕ) → n ≢ k → nat_lt n k ≡ nat_lt n (k + 1)
-    one_more n k other = elim (cases_lt n k) [
-      | inl low ↦ less_test n k low ∙ sym (less_test n (k + 1) (omega arith))
-      | inr high ↦ not_less_test n k high ∙ sym (not_less_test n (k + 1) (omega (arith, high, other)))
-    ]
-
-    not_same : (a b : ℕ) → a ≢ b → (a == b) ≡ false
-    not_same a b other = elim (either (a == b)) [ inl is ↦ absurd (other (grind (arith, is))) | inr is ↦ is ]
-
+-- the masks, before one is written
 pub masked_none : (masks : List Cores) (d : ℕ) (sets : List Cores) (u : UnitId) → mask_of masks u ≡ masked masks d sets 0 u
 masked_none masks d sets u =
     let e : nat_lt u.n 0 ≡ false = not_less_test u.n 0 (omega arith) in

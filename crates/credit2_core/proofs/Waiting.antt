@@ -1,6 +1,6 @@
 -- The order of arrival of the units of a run queue after each of its calls, and its first unit.
-use Rattle.std.proofs.Common.{◌≡◌, ◌<◌, ◌+◌, ℕ, Bool, true, false, List, [], ◌∷◌, ◌++◌, length, map, refl, sym, ap, ◌∙◌, subst, arith, cond, inl, inr}
-use Rattle.std.specs.Prelude.{Option, Some, None, filter, not, ◌&&◌, ◌||◌, int_lt, nat_lt, if◌then◌else◌, ℤ, neg_ℤ}
+use Rattle.std.proofs.Common.{◌≡◌, ◌<◌, Bool, true, false, List, [], ◌∷◌, ◌++◌, length, map, refl, sym, ap, ◌∙◌, subst, arith, inl, inr}
+use Rattle.std.specs.Prelude.{Option, Some, None, filter, not, ◌&&◌, int_lt, nat_lt, if◌then◌else◌, ℤ, neg_ℤ}
 use Rattle.std.specs.List.{AllByRecursion}
 use Rattle.std.proofs.lemmas.Int.{ints}
 use Rattle.std.proofs.lemmas.List.{append-nil}

@@ -1,5 +1,5 @@
 -- The keys of a run queue whose first unit has the greatest credit.
-use Rattle.std.specs.Prelude.{◌≡◌, ◌<◌, ◌||◌, ◌&&◌, ◌==◌, ℕ, Bool, true, List, nat_lt, neg_ℤ}
+use Rattle.std.specs.Prelude.{◌≡◌, ◌||◌, ◌&&◌, ◌==◌, ℕ, Bool, true, List, nat_lt, neg_ℤ}
 use Rattle.std.specs.List.{AllByRecursion}
 use Rattle.sched_base.specs.declared.UnitId.{UnitId}
 use Rattle.arrival_queue.specs.declared.key.Key.{Key}

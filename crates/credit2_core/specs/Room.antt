@@ -1,7 +1,7 @@
 -- A pool that no domain has joined.
 use Rattle.std.specs.Prelude.{◌≡◌, ℕ}
 use Rattle.sched_model.specs.declared.config.PoolParams.TheVariants as pool_params
-use Rattle.sched_ops.specs.Seen.{Seen, vacant}
+use Rattle.sched_ops.specs.Seen.{vacant}
 use Rattle.credit2_core.specs.declared.held.Held.{Held}
 use Rattle.credit2_core.specs.Held.{IsHeld, seen_in}
 

@@ -2,7 +2,7 @@
 
 ghost use Rattle.std.specs.Prelude.{◌≡◌, ◌<◌, ◌≤◌, ◌^◌, ◌==◌, ◌&&◌, if◌then◌else◌, ℕ, length, slice_index_or, slice_set};
 ghost use Rattle.sched_base.specs.declared.UnitId.{UnitId as Unit};
-ghost use Rattle.sched_base.specs.CoreSets.{mask_of};
+ghost use Rattle.unit_places.specs.Masks.{mask_of};
 ghost use Rattle.sched_base.specs.Numbers.{core_set};
 ghost use Rattle.sched_model.specs.Places.{at_place};
 ghost use Rattle.credit2_core.specs.Places.{refill_of, count_at as count_at_spec};
@@ -10,9 +10,10 @@ ghost use Rattle.credit2_core.specs.Domains.{may_run_bit, set_of, masked};
 
 use due_heap::DueHeap;
 use plain_credit2::running::domain_at;
-use sched_base::{Cores, DomId, Masks, Moment, UnitId};
+use sched_base::{Cores, DomId, Moment, UnitId};
 use sched_model::config::Pins;
 use sched_model::state::Credit2Domain;
+use unit_places::Masks;
 
 /// 1 where the cap lets the domain run, and 0 where it does not or there is no domain.
 fn bit_of(place: &Option<Credit2Domain>) -> u64
@@ -39,7 +40,8 @@ pub fn runnable_domains(domains: &[Option<Credit2Domain>]) -> u64
 
 /// Writes the sets of cores of a domain's units into the table.
 pub fn set_masks(masks: &mut Masks, d: DomId, sets: &[Cores])
-    requires { length sets.now ≤ 32 }
+    requires domain { d.0 < 64 }
+    requires few { length sets.now ≤ 32 }
     ensures { (u : Unit) → u.n < 256 → mask_of masks.new u ≡ masked masks.old d.0 sets.now (length sets.now) u }
 {
     for (n, cores) in sets.iter().enumerate() {

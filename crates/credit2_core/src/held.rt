@@ -2,10 +2,10 @@
 
 use due_heap::DueHeap;
 use runq::Runq;
-use sched_base::Masks;
 use sched_model::config::Pins;
 use sched_model::row::Row;
 use sched_model::state::Credit2Records;
+use unit_places::Masks;
 
 /// The records and the sets of cores of a pool, the queue of the units that wait, by falling credit, the table of the sets of
 /// cores by unit, the moments of the refills by domain, how many units may still join, and the greatest moment given.

@@ -3,7 +3,7 @@
 ghost use Rattle.std.specs.Prelude.{◌≡◌, ◌≤◌, ◌<◌, ◌+◌, ◌-◌, length, Some, None, true, ℕ};
 ghost use Rattle.std.specs.Option.{ForSome};
 ghost use Rattle.sched_base.specs.declared.UnitId.{UnitId as Unit};
-ghost use Rattle.sched_base.specs.CoreSets.{mask_of};
+ghost use Rattle.unit_places.specs.Masks.{mask_of};
 ghost use Rattle.sched_model.specs.declared.config.SchedKind.TheVariants as kinds;
 ghost use Rattle.sched_model.specs.declared.config.DomParams.TheVariants as dom_params;
 ghost use Rattle.sched_model.specs.declared.config.ParamChange.TheVariants as changes;
@@ -19,11 +19,13 @@ use crate::held::Held;
 use plain_credit2::credit2;
 use plain_policy::params;
 use plain_policy::places::{copies, set_place};
-use sched_base::{Cores, DomId, Masks};
+use sched_base::{Cores, DomId};
 use sched_model::config::{ParamChange, Pins};
+use unit_places::Masks;
 
 /// The table of masks has the sets of cores of the domain's units again.
 fn refresh(masks: &mut Masks, affinity: &[Option<Pins>], d: DomId)
+    requires { length affinity.now ≤ 64 }
     ensures { (u : Unit) → u.n < 256 → mask_of masks.new u ≡ refreshed masks.old affinity.now d.0 u }
 {
     let place = d.0 as usize;

@@ -9,10 +9,11 @@ ghost use Rattle.credit2_core.specs.Room.{IsFresh};
 use crate::held::Held;
 use due_heap::DueHeap;
 use runq::Runq;
-use sched_base::{Masks, NoMemory};
+use sched_base::NoMemory;
 use sched_model::row::Row;
 use sched_model::state::Credit2Records;
 use std::alloc::Global;
+use unit_places::Masks;
 
 /// The rate limit of a pool where none is given, in microseconds.
 pub const DEFAULT_LIMIT: u32 = 1000;

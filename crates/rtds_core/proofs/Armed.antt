@@ -1,12 +1,12 @@
 -- The timers of the ids, and the first of them.
-use Rattle.std.proofs.Common.{◌≡◌, ◌≢◌, ◌≤◌, ◌<◌, ◌+◌, ◌*◌, ℕ, zero, suc, Bool, true, false, List, [], ◌∷◌, ◌++◌, length, drop, get_or, refl, sym, ◌∙◌, ap, subst, arith, add-one, inl, inr}
+use Rattle.std.proofs.Common.{◌≡◌, ◌≤◌, ◌<◌, ◌+◌, ℕ, zero, suc, Bool, true, false, List, [], ◌∷◌, length, refl, sym, ◌∙◌, ap, subst, arith, inl, inr}
 use Rattle.std.specs.Prelude.{Option, Some, None, nat_le, nat_lt, if◌then◌else◌}
 use Rattle.std.proofs.lemmas.Bool.{cases_eq, cases_lt}
 use Rattle.std.proofs.lemmas.Bool.Decides.{nat_tests}
 use Rattle.sched_base.specs.declared.Moment.{Moment}
 use Rattle.sched_ops.specs.declared.timer.Timer.TheVariants.{Repl}
 use Rattle.sched_ops.specs.Timers.{Armed, first_due, soonest}
-use Rattle.due_heap.specs.Dues.{due_of, IsArmed, GoesFirst}
+use Rattle.due_heap.specs.Dues.{IsArmed, GoesFirst}
 use Rattle.rtds_core.specs.Alarms.{armed, unit_of, next_of, timer_of}
 
 is_late : (t a : ℕ) → t < a → nat_le a t ≡ false

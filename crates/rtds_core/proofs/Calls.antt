@@ -1,51 +1,32 @@
 -- What the conditions of the calls tell of the parts.
-use Rattle.std.proofs.Common.{◌≡◌, ◌≢◌, ◌≤◌, ◌<◌, ◌+◌, ◌-◌, ◌*◌, ℕ, zero, suc, Bool, true, false, List, [], ◌∷◌, ◌++◌, refl, arith, ap, subst, sym, ◌∙◌, ◌⊎◌, inl, inr, length, map, length-append}
-use Rattle.std.specs.Prelude.{Option, Some, None, slice_get, slice_set, is_some, ◌||◌, ◌&&◌, ◌==◌, not, if◌then◌else◌, nat_lt, nat_le, replicate, option_map, filter}
+use Rattle.std.proofs.Common.{◌≡◌, ◌≤◌, ◌<◌, ◌-◌, ℕ, Bool, true, false, List, [], ◌∷◌, ◌++◌, refl, arith, ap, subst, sym, ◌∙◌, inl, inr, length}
+use Rattle.std.specs.Prelude.{Option, Some, None, is_some, ◌||◌, ◌&&◌, if◌then◌else◌, nat_lt, nat_le, replicate, filter}
 use Rattle.std.specs.List.{AllByRecursion}
-use Rattle.std.specs.Option.{IfSome, ForSome}
+use Rattle.std.specs.Option.{IfSome}
 use Rattle.std.proofs.lemmas.Bool.Decides.{nat_tests}
-use Rattle.sched_base.specs.Numbers.{moment, domain}
-use Rattle.sched_base.specs.Units.{number_of}
-use Rattle.sched_base.specs.CoreSets.{mask_of}
+use Rattle.unit_places.specs.Masks.{mask_of}
 use Rattle.sched_base.specs.declared.Cores.{Cores}
 use Rattle.sched_base.specs.declared.Moment.{Moment}
 use Rattle.sched_base.specs.declared.UnitId.{UnitId}
-use Rattle.sched_model.specs.Checked.{IsWithin, most_span}
-use Rattle.sched_model.specs.Places.{at_place, has_unit, same_unit, without_unit, change_item}
+use Rattle.sched_model.specs.Checked.{IsWithin}
+use Rattle.sched_model.specs.Places.{at_place, has_unit}
 use Rattle.sched_model.specs.declared.state.RtdsUnit.{RtdsUnit}
 use Rattle.sched_model.specs.Eligible.{rtds_unit, cores_of}
-use Rattle.sched_model.specs.Rtds.{burn_to, renew, replenish, change_unit, burn_cur, set_running, switch_off}
-use Rattle.sched_laws.specs.Each.{EachPlace}
-use Rattle.sched_laws.proofs.Bools.{either, clash, one_of, or_left, or_right, both, is_same}
-use Rattle.sched_laws.proofs.Choices.{same_unit_same}
-use Rattle.sched_laws.proofs.Counts.{same_unit_refl}
-use Rattle.sched_laws.proofs.Lists.{AllByRecursion-map, AllByRecursion-push, length_change_item}
-use Rattle.sched_laws.proofs.EachPlace.{by_option, length_set}
-use Rattle.sched_ranges.proofs.Rtds.{rtds_later, rtds_burned, rtds_running, rtds_off, rtds_set, rtds_replenished, fit_change_unit}
-use Rattle.sched_ranges.specs.Fits.{RtdsFits, RtdsFit}
-use Rattle.due_heap.specs.Dues.{due_of}
-use Rattle.arrival_queue.specs.declared.key.Key.{Key}
-use Rattle.arrival_queue.specs.Queues.{Queued, queued, is_of, put_first, goes_before, placed, without, closed_up}
-use Rattle.arrival_queue.specs.Queues.{has_unit as has_queued}
-use Rattle.rtds_queue.specs.Lists.{Lists, key_of, holds, count, rank_of, put, removed, renewed}
-use Rattle.queue_laws.specs.Arrivals.{arrived, arrivals, HasUnits, HasIndices}
-use Rattle.queue_laws.proofs.Arrivals.{test_cases, each_arrived}
-use Rattle.queue_laws.proofs.Removed.{each_without, stands}
-use Rattle.queue_laws.proofs.Once.{once_units, each_placed, each_closed}
-use Rattle.rtds_core.specs.Alarms.{id_of, with_due}
-use Rattle.rtds_core.specs.Best.{queue_of, key_by, IsEligible, IsSpent, AreQueued, AreMasks, taken, started, stopped, run_from, deadline_in}
-use Rattle.rtds_core.specs.Kept.{IsShaped, IsKept, AreArmed, due_for, total, renewed_if, rearmed}
-use Rattle.rtds_core.proofs.Queues.{IsOrdered, each-append, waits, queue_put, queue_removed, queue_renewed, without-append, has_unit-append}
-use Rattle.rtds_core.proofs.Changed.{IsLow, low_unit, read_same, read_other, shape_changed, total_changed}
-use Rattle.rtds_core.proofs.Units.{has_pushed, has_without, few_units, all_names, count_names, known_named, apart_arrivals, length_arrivals}
-use Rattle.rtds_core.proofs.Timing.{due_alike, due_of_record, armed_changed, armed_alike}
-use Rattle.sched_base.specs.declared.Span.{Span}
+use Rattle.sched_laws.proofs.Bools.{either, clash}
+use Rattle.sched_laws.proofs.Lists.{AllByRecursion-map}
+use Rattle.arrival_queue.specs.Queues.{Queued, queued}
+use Rattle.rtds_queue.specs.Lists.{Lists, count}
+use Rattle.queue_laws.proofs.Once.{once_units}
+use Rattle.rtds_core.specs.Best.{queue_of, IsEligible, AreQueued, AreMasks}
+use Rattle.rtds_core.specs.Kept.{IsShaped, IsKept}
+use Rattle.rtds_core.proofs.Queues.{IsOrdered}
+use Rattle.rtds_core.proofs.Changed.{IsLow, low_unit}
+use Rattle.rtds_core.proofs.Units.{apart_arrivals}
 use Rattle.sched_model.specs.declared.ask.Ask.{Ask}
 use Rattle.sched_model.specs.declared.config.DomParams.{DomParams}
 use Rattle.sched_model.specs.declared.config.DomParams.TheVariants as dom_params
 use Rattle.sched_model.specs.declared.config.SchedKind.TheVariants as kinds
 use Rattle.sched_model.specs.declared.state.Scheduler.{Scheduler}
-use Rattle.sched_model.specs.declared.state.Records.{Records}
 use Rattle.sched_model.specs.declared.state.Records.TheVariants.{RtdsPool}
 use Rattle.sched_model.specs.Policy.{replenish_due, joined_records, all_cores}
 use Rattle.sched_model.specs.Places.{put_at}
@@ -53,10 +34,9 @@ use Rattle.sched_model.specs.Rtds.{own_candidate, choice, foremost, budget_left,
 use Rattle.sched_model.specs.Eligible.{eligible, is_allowed, is_eligible}
 use Rattle.sched_ops.specs.Seen.{Seen}
 use Rattle.rtds_core.proofs.Steps.{kept_later}
-use Rattle.sched_ops.specs.Conditions.{IsAsked, IsOwn, IsOwnOf, IsAway, AreDomParams, IsTerm, Keeps, IsApart, is_on, is_member}
+use Rattle.sched_ops.specs.Conditions.{IsAsked, IsOwn, IsOwnOf, AreDomParams, IsTerm, Keeps, is_on}
 use Rattle.arrival_queue.specs.Filters.{first_that, may_run}
 use Rattle.plain_policy.specs.Parts.{scheduler_of}
-use Rattle.sched_base.specs.declared.ResId.{ResId}
 use Rattle.queue_laws.specs.Arrivals.{least_by}
 use Rattle.queue_laws.proofs.Once.{once_ranks}
 use Rattle.rtds_core.specs.Kept.{seen_of}

@@ -1,19 +1,18 @@
 -- The records after a change of one unit, and what they have in common with the sets of cores.
-use Rattle.std.proofs.Common.{◌≡◌, ◌≢◌, ◌≤◌, ◌<◌, ◌+◌, ◌*◌, ℕ, zero, suc, Bool, true, false, List, [], ◌∷◌, refl, arith, ap, subst, sym, ◌∙◌, ◌⊎◌, inl, inr, length, nat_lt}
+use Rattle.std.proofs.Common.{◌≡◌, ◌≢◌, ◌≤◌, ◌<◌, ◌+◌, ◌*◌, ℕ, zero, suc, true, false, List, [], ◌∷◌, refl, arith, ap, subst, sym, ◌∙◌, length, nat_lt}
 use Rattle.std.proofs.Math.Decide.{ℕ_discrete}
 use Rattle.std.specs.Prelude.{Option, Some, None, slice_get, slice_set, option_map, unwrap_or, ◌-◌}
 use Rattle.std.specs.Option.{IfSome}
-use Rattle.std.specs.List.{AllByRecursion}
 use Rattle.std.proofs.lemmas.Bool.Decides.{nat_tests}
 use Rattle.std.proofs.lemmas.List.Elements.{All-from_recursion}
 use Rattle.sched_base.specs.declared.Cores.{Cores}
 use Rattle.sched_base.specs.declared.UnitId.{UnitId}
-use Rattle.sched_model.specs.Checked.{most_span}
-use Rattle.sched_model.specs.Places.{at_place, change_at, change_item, same_unit, put_at, clear_at}
+use Rattle.unit_places.specs.Places.{has_place}
+use Rattle.unit_places.proofs.Placed.{placed}
+use Rattle.sched_model.specs.Places.{at_place, change_at, change_item, same_unit}
 use Rattle.sched_model.specs.declared.state.RtdsUnit.{RtdsUnit}
 use Rattle.sched_model.specs.Eligible.{rtds_unit}
 use Rattle.sched_model.specs.Rtds.{change_unit}
-use Rattle.sched_laws.specs.Each.{EachPlace}
 use Rattle.sched_laws.proofs.EachPlace.{by_option, place_below, length_set, EachPlace-change_at}
 use Rattle.sched_laws.proofs.Lists.{AllByRecursion-map, length_change_item}
 use Rattle.sched_ranges.specs.Ranges.{RtdsInRange}
@@ -141,6 +140,7 @@ pub record IsLow (u : UnitId) : Type 0 where
   pub dom : u.dom.0 < 64
   pub index : u.n < 32
   pub byte : u.n < 256
+  pub place : has_place u ≡ true
   pub id : id_of u < 2048
 
 pub low_unit : (domains : List (Option (List RtdsUnit))) (affinity : List (Option (List Cores))) (u : UnitId) (x : RtdsUnit) → IsShaped domains affinity → rtds_unit domains u ≡ Some x → IsLow u
@@ -153,7 +153,7 @@ low_unit domains affinity u x is at =
     let most = is.few in
     let d : u.dom.0 < 64 = omega (arith, below, places, most) in
     let n : u.n < 32 = omega (arith, inside, few) in
-    record { dom = d; index = n; byte = omega (arith, n); id = omega (arith, d, n) }
+    record { dom = d; index = n; byte = omega (arith, n); place = placed u d n; id = omega (arith, d, n) }
 
 -- a unit that has a record has a set of cores, and the other way round
 pub record Sets (affinity : List (Option (List Cores))) (u : UnitId) : Type 0 where

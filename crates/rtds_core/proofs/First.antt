@@ -1,28 +1,25 @@
 -- The first of the queue that may have the core is the one that a scan of all would find.
-use Rattle.std.proofs.Common.{◌≡◌, ◌<◌, ◌≤◌, ℕ, Bool, true, false, List, [], ◌∷◌, ◌++◌, length, map, refl, sym, ◌∙◌, ap, subst, arith, inl, inr, ◌⊎◌}
-use Rattle.std.specs.Prelude.{Option, Some, None, ◌||◌, ◌&&◌, ◌==◌, if◌then◌else◌, filter, nat_lt, pos, slice_get, is_some, bit_and, int_lt, not}
+use Rattle.std.proofs.Common.{◌≡◌, ℕ, Bool, true, false, List, [], ◌∷◌, ◌++◌, map, refl, sym, ◌∙◌, ap, arith, inl, inr}
+use Rattle.std.specs.Prelude.{Option, Some, None, ◌||◌, ◌&&◌, ◌==◌, if◌then◌else◌, filter, nat_lt, pos, is_some, int_lt, not}
 use Rattle.std.specs.List.{AllByRecursion, list_any}
 use Rattle.std.specs.Option.{IfSome}
 use Rattle.std.proofs.lemmas.Bool.Decides.{nat_tests}
 use Rattle.std.proofs.lemmas.Int.{ints}
 use Rattle.sched_base.specs.declared.Cores.{Cores}
-use Rattle.sched_base.specs.declared.ResId.{ResId}
 use Rattle.sched_base.specs.declared.UnitId.{UnitId}
-use Rattle.sched_base.specs.CoreSets.{mask_of, is_allowed as allowed}
+use Rattle.sched_base.specs.CoreSets.{is_allowed as allowed}
+use Rattle.unit_places.specs.Masks.{mask_of}
 use Rattle.sched_model.specs.declared.state.RtdsUnit.{RtdsUnit}
 use Rattle.sched_model.specs.declared.state.Records.TheVariants.{RtdsPool}
-use Rattle.sched_model.specs.declared.ask.Ask.{Ask}
-use Rattle.sched_model.specs.Places.{at_place}
-use Rattle.sched_model.specs.Eligible.{rtds_unit, is_eligible, is_allowed_by, cores_of, eligible}
-use Rattle.sched_model.specs.Rtds.{foremost, unit_before, is_before, own_candidate, budget_left}
-use Rattle.sched_laws.proofs.EachPlace.{by_option, by_cond}
-use Rattle.sched_laws.proofs.Bools.{and_right, both}
+use Rattle.sched_model.specs.Eligible.{rtds_unit, is_eligible, is_allowed_by, cores_of}
+use Rattle.sched_model.specs.Rtds.{foremost, unit_before, is_before}
+use Rattle.sched_laws.proofs.Bools.{and_right}
 use Rattle.arrival_queue.specs.declared.key.Key.{Key}
 use Rattle.arrival_queue.specs.Queues.{Queued, is_less}
 use Rattle.arrival_queue.specs.Filters.{first_that, may_run}
 use Rattle.arrival_queue.specs.Order.{IsInOrder}
 use Rattle.rtds_queue.specs.Lists.{Lists, key_of, rtds_key}
-use Rattle.queue_laws.specs.Arrivals.{arrived, arrivals, HasRanks, HasKeys, least_by, own_or}
+use Rattle.queue_laws.specs.Arrivals.{arrived, HasRanks, HasKeys, least_by, own_or}
 use Rattle.queue_laws.proofs.Arrivals.{ins, test_cases}
 use Rattle.queue_laws.proofs.Scan.{first_is_least, least_by_own}
 use Rattle.queue_laws.proofs.Keys.{less_trans, less_back}

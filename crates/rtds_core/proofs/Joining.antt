@@ -1,44 +1,33 @@
 -- What the parts keep where a domain joins or parts, and where sets of cores change.
-use Rattle.std.proofs.Common.{◌≡◌, ◌≢◌, ◌≤◌, ◌<◌, ◌+◌, ◌-◌, ◌*◌, ℕ, zero, suc, Bool, true, false, List, [], ◌∷◌, ◌++◌, refl, arith, ap, subst, sym, ◌∙◌, ◌⊎◌, inl, inr, length, map, length-append}
-use Rattle.std.specs.Prelude.{Option, Some, None, slice_get, slice_set, is_some, ◌||◌, ◌&&◌, ◌==◌, not, if◌then◌else◌, nat_lt, nat_le, replicate, option_map}
+use Rattle.std.proofs.Common.{◌≡◌, ◌≢◌, ◌≤◌, ◌<◌, ◌+◌, ◌-◌, ℕ, zero, suc, Bool, true, false, List, [], ◌∷◌, ◌++◌, refl, arith, ap, subst, sym, ◌∙◌, inl, inr, length, map}
+use Rattle.std.specs.Prelude.{Option, Some, None, slice_get, slice_set, is_some, ◌||◌, ◌&&◌, ◌==◌, if◌then◌else◌, nat_lt, replicate, option_map}
 use Rattle.std.specs.List.{AllByRecursion}
-use Rattle.std.specs.Option.{IfSome, ForSome}
 use Rattle.std.proofs.lemmas.Bool.Decides.{nat_tests}
-use Rattle.sched_base.specs.Numbers.{moment, domain}
+use Rattle.sched_base.specs.Numbers.{moment}
 use Rattle.sched_base.specs.Units.{number_of}
-use Rattle.sched_base.specs.CoreSets.{mask_of}
+use Rattle.unit_places.specs.Masks.{mask_of}
 use Rattle.sched_base.specs.declared.Cores.{Cores}
 use Rattle.sched_base.specs.declared.Moment.{Moment}
 use Rattle.sched_base.specs.declared.UnitId.{UnitId}
 use Rattle.sched_model.specs.Checked.{IsWithin, most_span}
-use Rattle.sched_model.specs.Places.{at_place, has_unit, same_unit, without_unit, change_item}
+use Rattle.sched_model.specs.Places.{at_place, has_unit, change_item}
 use Rattle.sched_model.specs.declared.state.RtdsUnit.{RtdsUnit}
-use Rattle.sched_model.specs.Eligible.{rtds_unit, cores_of}
-use Rattle.sched_model.specs.Rtds.{burn_to, renew, replenish, change_unit, burn_cur, set_running, switch_off}
+use Rattle.sched_model.specs.Eligible.{rtds_unit}
 use Rattle.sched_laws.specs.Each.{EachPlace}
-use Rattle.sched_laws.proofs.Bools.{either, clash, one_of, or_left, or_right, both, is_same}
-use Rattle.sched_laws.proofs.Choices.{same_unit_same}
-use Rattle.sched_laws.proofs.Counts.{same_unit_refl}
-use Rattle.sched_laws.proofs.Lists.{AllByRecursion-map, AllByRecursion-push, length_change_item}
-use Rattle.sched_laws.proofs.EachPlace.{by_option, length_set}
-use Rattle.sched_ranges.proofs.Rtds.{rtds_later, rtds_burned, rtds_running, rtds_off, rtds_set, rtds_replenished, fit_change_unit}
-use Rattle.sched_ranges.specs.Fits.{RtdsFits, RtdsFit}
+use Rattle.sched_laws.proofs.Bools.{either, clash, both, is_same}
+use Rattle.sched_laws.proofs.Lists.{length_change_item}
+use Rattle.sched_laws.proofs.EachPlace.{place_below, length_set}
+use Rattle.sched_ranges.specs.Fits.{RtdsFits}
 use Rattle.due_heap.specs.Dues.{due_of}
-use Rattle.arrival_queue.specs.declared.key.Key.{Key}
-use Rattle.arrival_queue.specs.Queues.{Queued, queued, is_of, put_first, goes_before, placed, without, closed_up}
+use Rattle.arrival_queue.specs.Queues.{Queued, queued, is_of}
 use Rattle.arrival_queue.specs.Queues.{has_unit as has_queued}
-use Rattle.rtds_queue.specs.Lists.{Lists, key_of, holds, count, rank_of, put, removed, renewed}
-use Rattle.queue_laws.specs.Arrivals.{arrived, arrivals, HasUnits, HasIndices}
-use Rattle.queue_laws.proofs.Arrivals.{test_cases, each_arrived}
-use Rattle.queue_laws.proofs.Removed.{each_without, stands}
-use Rattle.queue_laws.proofs.Once.{once_units, each_placed, each_closed}
-use Rattle.rtds_core.specs.Alarms.{id_of, with_due}
-use Rattle.rtds_core.specs.Best.{queue_of, key_by, IsEligible, IsSpent, AreQueued, AreMasks, taken, started, stopped, run_from, deadline_in}
-use Rattle.rtds_core.specs.Kept.{IsShaped, IsKept, AreArmed, due_for, total, renewed_if, rearmed}
-use Rattle.rtds_core.proofs.Queues.{IsOrdered, each-append, waits, queue_put, queue_removed, queue_renewed, without-append, has_unit-append}
-use Rattle.rtds_core.proofs.Changed.{IsLow, low_unit, read_same, read_other, shape_changed, total_changed}
-use Rattle.rtds_core.proofs.Units.{has_pushed, has_without, few_units, all_names, count_names, known_named, apart_arrivals, length_arrivals}
-use Rattle.rtds_core.proofs.Timing.{due_alike, due_of_record, armed_changed, armed_alike}
+use Rattle.rtds_queue.specs.Lists.{Lists, count}
+use Rattle.rtds_core.specs.Alarms.{id_of}
+use Rattle.rtds_core.specs.Best.{queue_of, IsEligible, IsSpent, AreQueued, AreMasks}
+use Rattle.rtds_core.specs.Kept.{IsShaped, IsKept, due_for, total}
+use Rattle.rtds_core.proofs.Queues.{IsOrdered, waits, has_unit-append}
+use Rattle.rtds_core.proofs.Changed.{IsLow, low_unit}
+use Rattle.rtds_core.proofs.Timing.{due_alike, armed_alike}
 use Rattle.std.specs.Prelude.{slice_index_or}
 use Rattle.std.proofs.lemmas.List.{length-replicate}
 use Rattle.sched_base.specs.Numbers.{core_set}
@@ -51,7 +40,7 @@ use Rattle.sched_ranges.proofs.Rtds.{rtds_fresh}
 use Rattle.rtds_queue.specs.Lists.{empty}
 use Rattle.rtds_core.specs.Kept.{size}
 use Rattle.rtds_core.specs.Masks.{is_named}
-use Rattle.rtds_core.proofs.Changed.{at_place-set, at_place-set_other, at_place-change_at, total_set, unit_in, home_of}
+use Rattle.rtds_core.proofs.Changed.{at_place-set, at_place-set_other, at_place-change_at, total_set, unit_in}
 use Rattle.rtds_core.proofs.Keeping.{waiting_known, low_queued}
 use Rattle.std.proofs.Math.Decide.{ℕ_discrete}
 
@@ -380,6 +369,21 @@ kept_pinned domains affinity q masks masks2 dues spare t d unit cores set kept =
         let n : u.n < length old = omega (arith, inside, l, k) in
         pinned_set masks masks2 d unit cores u old set e n (small_sets domains affinity kept.shape u.dom.0 old at)
         (kept.sets.each u old at n ∙ ap (λ (o : Option (List Cores)). sets_in o u.n) at)
+
+-- a domain that has joined is one of 64, and has at most 32 units
+pub joined_low : (domains : List (Option (List RtdsUnit))) (affinity : List (Option (List Cores))) (d : ℕ) → IsShaped domains affinity → is_some (at_place affinity d) ≡ true → d < 64
+joined_low domains affinity d is joined = by_place (at_place affinity d) refl joined
+  where
+    by_place : (o : Option (List Cores)) → at_place affinity d ≡ o → is_some o ≡ true → d < 64
+    by_place None at some = absurd (cc)
+    by_place (Some sets) at some = (let below = place_below affinity d sets at in let few = is.few in omega (arith, below, few))
+
+pub unit_low : (domains : List (Option (List RtdsUnit))) (affinity : List (Option (List Cores))) (d n : ℕ) → IsShaped domains affinity → n < size (at_place affinity d) → n < 32
+unit_low domains affinity d n is inside = by_place (at_place affinity d) refl inside
+  where
+    by_place : (o : Option (List Cores)) → at_place affinity d ≡ o → n < size o → n < 32
+    by_place None at low = absurd (omega (arith, low))
+    by_place (Some sets) at low = (let few : length sets ≤ 32 = small_sets domains affinity is d sets at in omega (arith, low, few))
 
 -- no domain has joined yet
 get_none : (n d : ℕ) → at_place (let places : List (Option (List RtdsUnit)) = replicate n None in places) d ≡ None

@@ -1,15 +1,14 @@
 -- What the calls of the queues make of the order of arrival.
-use Rattle.std.proofs.Common.{◌≡◌, ◌≢◌, ◌≤◌, ◌<◌, ◌+◌, ℕ, Bool, true, false, List, [], ◌∷◌, ◌++◌, length, map, refl, sym, ◌∙◌, ap, subst, arith, inl, inr, append_assoc, length-append}
+use Rattle.std.proofs.Common.{◌≡◌, ◌≢◌, ◌<◌, ℕ, Bool, true, false, List, [], ◌∷◌, ◌++◌, map, refl, sym, ◌∙◌, ap, subst, inl, inr, append_assoc, length-append}
 use Rattle.std.specs.Prelude.{◌||◌, if◌then◌else◌}
 use Rattle.std.specs.List.{AllByRecursion}
 use Rattle.sched_base.specs.declared.UnitId.{UnitId}
 use Rattle.sched_model.specs.Places.{without_unit, has_unit as has}
-use Rattle.arrival_queue.specs.declared.key.Key.{Key}
-use Rattle.arrival_queue.specs.Queues.{Queued, queued, is_of, placed, without, rank_in, closed_up, has_unit}
+use Rattle.arrival_queue.specs.Queues.{Queued, queued, is_of, without, rank_in, closed_up, has_unit}
 use Rattle.arrival_queue.specs.Order.{IsInOrder, EachRankOnce, EachUnitOnce}
 use Rattle.rtds_queue.specs.declared.RtdsKey.{RtdsKey}
 use Rattle.rtds_queue.specs.Lists.{Lists, key_of, holds, count, rank_of, put, removed, renewed}
-use Rattle.queue_laws.specs.Arrivals.{arrived, arrivals, LacksRank, HasRanks, RanksBelow, HasUnits, HasIndices}
+use Rattle.queue_laws.specs.Arrivals.{arrived, arrivals, LacksRank, HasRanks, RanksBelow, HasIndices}
 use Rattle.queue_laws.proofs.Arrivals.{ins, test_cases, arrived_split, arrivals_placed, arrivals_appended}
 use Rattle.queue_laws.proofs.Removed.{arrivals_removed, arrivals_moved, has_arrived, lacks_own}
 use Rattle.queue_laws.proofs.Once.{once_ranks, once_below, once_units}

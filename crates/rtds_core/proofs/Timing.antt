@@ -1,6 +1,6 @@
 -- The armed moments after a change, and the timers that they are.
-use Rattle.std.proofs.Common.{◌≡◌, ◌≢◌, ◌≤◌, ◌<◌, ◌+◌, ◌-◌, ◌*◌, ◌/◌, ◌%◌, ℕ, zero, suc, Bool, true, false, List, [], ◌∷◌, ◌++◌, refl, arith, ap, subst, sym, ◌∙◌, ◌⊎◌, inl, inr, length, take, drop}
-use Rattle.std.specs.Prelude.{Option, Some, None, slice_get, slice_set, is_some, ◌||◌, ◌==◌, if◌then◌else◌, nat_lt}
+use Rattle.std.proofs.Common.{◌≡◌, ◌≤◌, ◌<◌, ◌+◌, ◌-◌, ◌*◌, ◌/◌, ◌%◌, ℕ, zero, suc, Bool, true, false, List, [], ◌∷◌, ◌++◌, refl, arith, ap, subst, sym, ◌∙◌, inl, inr, length, take, drop}
+use Rattle.std.specs.Prelude.{Option, Some, None, slice_get, is_some, ◌||◌, ◌==◌, if◌then◌else◌}
 use Rattle.sched_base.specs.Numbers.{moment, domain}
 use Rattle.sched_base.specs.declared.Moment.{Moment}
 use Rattle.sched_base.specs.declared.UnitId.{UnitId}

@@ -1,23 +1,22 @@
 -- Lists of units: what is in them, and how many there can be.
-use Rattle.std.proofs.Common.{◌≡◌, ◌≢◌, ◌≤◌, ◌<◌, ◌+◌, ℕ, zero, suc, Bool, true, false, List, [], ◌∷◌, ◌++◌, refl, arith, ap, subst, sym, ◌∙◌, ◌⊎◌, inl, inr, length, map, length-append}
+use Rattle.std.proofs.Common.{◌≡◌, ◌≤◌, ◌+◌, ℕ, zero, suc, Bool, true, false, List, [], ◌∷◌, ◌++◌, refl, arith, ap, subst, sym, ◌∙◌, inl, inr, length, map, length-append}
 use Rattle.std.specs.Prelude.{Option, Some, None, slice_get, filter, not, ◌&&◌, ◌||◌, ◌==◌, if◌then◌else◌, nat_lt}
-use Rattle.std.specs.List.{AllByRecursion, list_any}
 use Rattle.sched_base.specs.Numbers.{domain}
 use Rattle.sched_base.specs.declared.UnitId.{UnitId}
 use Rattle.sched_model.specs.Places.{at_place, has_unit, same_unit, without_unit}
 use Rattle.sched_model.specs.declared.state.RtdsUnit.{RtdsUnit}
 use Rattle.sched_model.specs.Eligible.{rtds_unit}
-use Rattle.sched_laws.proofs.Bools.{either, clash, one_of, or_left, or_right, both, is_same}
+use Rattle.sched_laws.proofs.Bools.{either, clash, or_left, or_right, both, is_same}
 use Rattle.sched_laws.proofs.Choices.{same_unit_same}
 use Rattle.sched_laws.proofs.Counts.{same_unit_refl}
 use Rattle.sched_laws.proofs.EachPlace.{by_option}
 use Rattle.sched_ops.specs.Conditions.{IsApart}
-use Rattle.arrival_queue.specs.Queues.{Queued, is_of}
+use Rattle.arrival_queue.specs.Queues.{Queued}
 use Rattle.arrival_queue.specs.Queues.{has_unit as has_queued}
 use Rattle.queue_laws.specs.Arrivals.{arrived, arrivals, LacksUnit, HasUnits, HasIndices}
 use Rattle.queue_laws.proofs.Arrivals.{ins}
-use Rattle.queue_laws.proofs.Removed.{has_arrived, is_of_same}
-use Rattle.rtds_core.specs.Kept.{size, total}
+use Rattle.queue_laws.proofs.Removed.{has_arrived}
+use Rattle.rtds_core.specs.Kept.{total}
 
 pub same_sym : (u w : UnitId) → same_unit u w ≡ same_unit w u
 same_sym u w = grind arith

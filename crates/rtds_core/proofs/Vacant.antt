@@ -1,44 +1,17 @@
 -- A scheduler that no domain has joined.
-use Rattle.std.proofs.Common.{◌≡◌, ◌≢◌, ◌≤◌, ◌<◌, ◌+◌, ◌-◌, ◌*◌, ℕ, zero, suc, Bool, true, false, List, [], ◌∷◌, ◌++◌, refl, arith, ap, subst, sym, ◌∙◌, ◌⊎◌, inl, inr, length, map, length-append}
-use Rattle.std.specs.Prelude.{Option, Some, None, slice_get, slice_set, is_some, ◌||◌, ◌&&◌, ◌==◌, not, if◌then◌else◌, nat_lt, nat_le, replicate, option_map}
+use Rattle.std.proofs.Common.{◌≡◌, ℕ, zero, suc, true, false, List, [], ◌∷◌, ◌++◌, refl, ap, sym, ◌∙◌, length}
+use Rattle.std.specs.Prelude.{Option, Some, None, is_some, replicate}
 use Rattle.std.specs.List.{AllByRecursion}
-use Rattle.std.specs.Option.{IfSome, ForSome}
-use Rattle.std.proofs.lemmas.Bool.Decides.{nat_tests}
-use Rattle.sched_base.specs.Numbers.{moment, domain}
-use Rattle.sched_base.specs.Units.{number_of}
-use Rattle.sched_base.specs.CoreSets.{mask_of}
 use Rattle.sched_base.specs.declared.Cores.{Cores}
 use Rattle.sched_base.specs.declared.Moment.{Moment}
 use Rattle.sched_base.specs.declared.UnitId.{UnitId}
-use Rattle.sched_model.specs.Checked.{IsWithin, most_span}
-use Rattle.sched_model.specs.Places.{at_place, has_unit, same_unit, without_unit, change_item}
+use Rattle.sched_model.specs.Places.{at_place}
 use Rattle.sched_model.specs.declared.state.RtdsUnit.{RtdsUnit}
-use Rattle.sched_model.specs.Eligible.{rtds_unit, cores_of}
-use Rattle.sched_model.specs.Rtds.{burn_to, renew, replenish, change_unit, burn_cur, set_running, switch_off}
-use Rattle.sched_laws.specs.Each.{EachPlace}
-use Rattle.sched_laws.proofs.Bools.{either, clash, one_of, or_left, or_right, both, is_same}
-use Rattle.sched_laws.proofs.Choices.{same_unit_same}
-use Rattle.sched_laws.proofs.Counts.{same_unit_refl}
-use Rattle.sched_laws.proofs.Lists.{AllByRecursion-map, AllByRecursion-push, length_change_item}
-use Rattle.sched_laws.proofs.EachPlace.{by_option, length_set}
-use Rattle.sched_ranges.proofs.Rtds.{rtds_later, rtds_burned, rtds_running, rtds_off, rtds_set, rtds_replenished, fit_change_unit}
-use Rattle.sched_ranges.specs.Fits.{RtdsFits, RtdsFit}
-use Rattle.due_heap.specs.Dues.{due_of}
-use Rattle.arrival_queue.specs.declared.key.Key.{Key}
-use Rattle.arrival_queue.specs.Queues.{Queued, queued, is_of, put_first, goes_before, placed, without, closed_up}
-use Rattle.arrival_queue.specs.Queues.{has_unit as has_queued}
-use Rattle.rtds_queue.specs.Lists.{Lists, key_of, holds, count, rank_of, put, removed, renewed}
-use Rattle.queue_laws.specs.Arrivals.{arrived, arrivals, HasUnits, HasIndices}
-use Rattle.queue_laws.proofs.Arrivals.{test_cases, each_arrived}
-use Rattle.queue_laws.proofs.Removed.{each_without, stands}
-use Rattle.queue_laws.proofs.Once.{once_units, each_placed, each_closed}
-use Rattle.rtds_core.specs.Alarms.{id_of, with_due}
-use Rattle.rtds_core.specs.Best.{queue_of, key_by, IsEligible, IsSpent, AreQueued, AreMasks, taken, started, stopped, run_from, deadline_in}
-use Rattle.rtds_core.specs.Kept.{IsShaped, IsKept, AreArmed, due_for, total, renewed_if, rearmed}
-use Rattle.rtds_core.proofs.Queues.{IsOrdered, each-append, waits, queue_put, queue_removed, queue_renewed, without-append, has_unit-append}
-use Rattle.rtds_core.proofs.Changed.{IsLow, low_unit, read_same, read_other, shape_changed, total_changed}
-use Rattle.rtds_core.proofs.Units.{has_pushed, has_without, few_units, all_names, count_names, known_named, apart_arrivals, length_arrivals}
-use Rattle.rtds_core.proofs.Timing.{due_alike, due_of_record, armed_changed, armed_alike}
+use Rattle.arrival_queue.specs.Queues.{Queued}
+use Rattle.rtds_queue.specs.Lists.{Lists}
+use Rattle.queue_laws.specs.Arrivals.{arrivals}
+use Rattle.rtds_core.specs.Best.{queue_of, IsEligible, IsSpent}
+use Rattle.rtds_core.specs.Kept.{IsKept}
 use Rattle.std.specs.List.{list_any}
 use Rattle.sched_model.specs.declared.config.PoolParams.TheVariants as pool_params
 use Rattle.sched_model.specs.declared.state.Scheduler.{Scheduler}

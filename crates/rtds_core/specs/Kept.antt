@@ -1,5 +1,5 @@
 -- What an RTDS scheduler keeps of its parts.
-use Rattle.std.specs.Prelude.{ℕ, ◌+◌, ◌-◌, false, ◌≡◌, ◌≤◌, ◌<◌, ◌||◌, Bool, List, [], ◌∷◌, Option, Some, None, is_some, length, option_map, if◌then◌else◌}
+use Rattle.std.specs.Prelude.{ℕ, ◌+◌, ◌-◌, false, ◌≡◌, ◌≤◌, ◌<◌, ◌||◌, List, [], ◌∷◌, Option, Some, None, is_some, length, option_map, if◌then◌else◌}
 use Rattle.sched_base.specs.Numbers.{moment, span}
 use Rattle.sched_base.specs.declared.Cores.{Cores}
 use Rattle.sched_base.specs.declared.Moment.{Moment}

@@ -15,11 +15,12 @@ use crate::alarms::Alarms;
 use crate::records::set_running;
 use plain_policy::rtds::{own_candidate, rtds_unit, unit_before};
 use rtds_queue::{RtdsKey, RtdsQueues};
-use sched_base::{Cores, Masks, Moment, ResId, UnitId};
+use sched_base::{Cores, Moment, ResId, UnitId};
 use sched_model::ask::Ask;
 use sched_model::config::Pins;
 use sched_model::row::Row;
 use sched_model::state::{RtdsUnit, RtdsUnits};
+use unit_places::Masks;
 
 /// The level and the deadline of a unit.
 pub fn key_of(x: &RtdsUnit) -> RtdsKey

@@ -16,7 +16,7 @@ use plain_policy::places::{copies, set_place};
 use plain_policy::rtds::{replenish, rtds_unit, set_next};
 use plain_units::eligible::is_allowed;
 use rtds_queue::RtdsQueues;
-use sched_base::{Cores, DomId, Masks, Moment, NoMemory, ResId, Span, UnitId};
+use sched_base::{Cores, DomId, Moment, NoMemory, ResId, Span, UnitId};
 use sched_model::ask::Ask;
 use sched_model::config::{DomParams, ParamChange, Pins};
 use sched_model::event::Event;
@@ -26,9 +26,10 @@ use sched_model::state::{RtdsUnit, RtdsUnits};
 use sched_ops::{Choice, Places, Timer};
 use std::alloc::Global;
 use std::marker::Model;
+use unit_places::Masks;
 
 /// The scheduler's parts: the units' records and their sets of cores, the waiting ones in queues, the sets once more by
-/// number of unit, the moments of the replenishments, how many units may still join, and the greatest moment given.
+/// place of unit, the moments of the replenishments, how many units may still join, and the greatest moment given.
 #[derive(Drop)]
 pub struct Held {
     domains: Row<Option<RtdsUnits>>,

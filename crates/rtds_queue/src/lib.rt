@@ -6,14 +6,16 @@
 
 ghost use Rattle.std.specs.Prelude.{◌≡◌, ◌+◌, ◌<◌, ◌≤◌, true, false, length, map, IfOk};
 ghost use Rattle.std.specs.Bool.{OnTrue, OnFalse};
+ghost use Rattle.unit_places.specs.Places.{has_place};
 ghost use Rattle.arrival_queue.specs.Filters.{first_of, first_that, may_run};
 ghost use Rattle.rtds_queue.specs.Lists.{holds, key_of, put as put_in, removed, renewed};
 
 use arrival_queue::{ArrivalQueue, Key};
-use sched_base::{Cores, Masks, Moment, NoMemory, ResId, Steps, UnitId};
+use sched_base::{Cores, Moment, NoMemory, ResId, Steps, UnitId};
 use std::alloc::Global;
 use std::marker::{Brand, Model};
 use std::sync::ledger::{Blank, Ledger};
+use unit_places::Masks;
 use unit_ring::Ring;
 
 /// What the eligible units are sorted by: the level, then the deadline in nanoseconds.
@@ -51,6 +53,7 @@ impl RtdsQueues {
     ghost use Rattle.std.specs.Prelude.{◌≡◌, ◌+◌, ◌<◌, ◌≤◌, true, false, length, map, IfOk};
     ghost use Rattle.std.specs.Prelude.{◌++◌};
     ghost use Rattle.std.specs.Bool.{OnTrue, OnFalse};
+    ghost use Rattle.unit_places.specs.Places.{has_place};
     ghost use Rattle.arrival_queue.specs.Order.{IsInOrder, IsInArrival, EachRankOnce, EachUnitOnce};
     ghost use Rattle.arrival_queue.specs.Filters.{first_of, first_that, may_run};
     ghost use Rattle.rtds_queue.specs.Lists.{holds, put as put_in, removed, renewed, empty};
@@ -63,8 +66,9 @@ impl RtdsQueues {
         Ok(RtdsQueues { queue })
     }
 
-    /// A unit that is in neither list arrives, among the spent ones or at its place among the eligible.
+    /// A unit that is in neither list, and has a place in tables, arrives, among the spent ones or at its place among the eligible.
     pub fn put(&mut self, u: UnitId, key: RtdsKey, spent: bool)
+        requires place { has_place u ≡ true }
         requires absent { holds self.old u ≡ false }
         requires room { 0 < self.old.spare }
         ensures { self.new ≡ put_in self.old u key spent }
@@ -151,6 +155,7 @@ impl RtdsQueues {
 
 /// As `put`, with a counter of its own.
 fn put_from<L: Ledger>(queues: &mut RtdsQueues, u: UnitId, key: RtdsKey, spent: bool, blank: Blank)
+    requires place { has_place u ≡ true }
     requires absent { holds queues.old u ≡ false }
     requires room { 0 < queues.old.spare }
     requires name { blank.name ≡ L.name }

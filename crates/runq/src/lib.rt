@@ -5,16 +5,18 @@
 
 ghost use Rattle.std.specs.Prelude.{◌≡◌, ◌+◌, ◌<◌, ◌≤◌, ◌&&◌, [], true, false, length, map, IfOk};
 ghost use Rattle.std.specs.Bool.{OnTrue, OnFalse};
+ghost use Rattle.unit_places.specs.Places.{has_place};
 ghost use Rattle.arrival_queue.specs.Queues.{has_unit};
 ghost use Rattle.arrival_queue.specs.Filters.{first_of, first_that, has_domain as domain_in, may_run};
 ghost use Rattle.runq.specs.Queue.{inserted, removed, rekeyed, plain as plain_key};
 
 pub use arrival_queue::Allowed;
 use arrival_queue::{ArrivalQueue, Key};
-use sched_base::{Cores, Masks, NoMemory, ResId, Steps, UnitId};
+use sched_base::{Cores, NoMemory, ResId, Steps, UnitId};
 use std::alloc::Global;
 use std::marker::{Brand, Model};
 use std::sync::ledger::{Blank, Ledger};
+use unit_places::Masks;
 use unit_ring::Ring;
 
 /// The run queue. Contracts see its units in order, and how many more there is room for.
@@ -47,6 +49,7 @@ fn plain(key: i128) -> Key
 impl Runq {
     ghost use Rattle.std.specs.Prelude.{◌≡◌, ◌+◌, ◌<◌, ◌≤◌, ◌&&◌, [], true, false, length, map, IfOk};
     ghost use Rattle.std.specs.Bool.{OnTrue, OnFalse};
+    ghost use Rattle.unit_places.specs.Places.{has_place};
     ghost use Rattle.arrival_queue.specs.Order.{IsInOrder, EachRankOnce, EachUnitOnce};
     ghost use Rattle.arrival_queue.specs.Queues.{has_unit};
     ghost use Rattle.arrival_queue.specs.Filters.{first_of, first_that, has_domain as domain_in, may_run};
@@ -60,8 +63,9 @@ impl Runq {
         Ok(Runq { queue })
     }
 
-    /// A unit that is not in the queue arrives. Among equal keys it goes behind those that arrived earlier.
+    /// A unit that is not in the queue, and has a place in tables, arrives. Among equal keys it goes behind those that arrived earlier.
     pub fn insert(&mut self, u: UnitId, key: i128)
+        requires place { has_place u ≡ true }
         requires absent { has_unit u self.old.units ≡ false }
         requires room { 0 < self.old.spare }
         ensures { self.new ≡ inserted self.old u key }
@@ -71,6 +75,7 @@ impl Runq {
 
     /// As `insert`, in at most n + 2 steps, n the length before.
     pub fn insert_counted<L: Ledger>(&mut self, u: UnitId, key: i128, steps: &mut Steps<L>)
+        requires place { has_place u ≡ true }
         requires absent { has_unit u self.old.units ≡ false }
         requires room { 0 < self.old.spare }
         ensures after { self.new ≡ inserted self.old u key }
@@ -178,6 +183,7 @@ impl Runq {
 
 /// As `insert`, with a counter of its own.
 fn insert_from<L: Ledger>(queue: &mut Runq, u: UnitId, key: i128, blank: Blank)
+    requires place { has_place u ≡ true }
     requires absent { has_unit u queue.old.units ≡ false }
     requires room { 0 < queue.old.spare }
     requires name { blank.name ≡ L.name }

@@ -1,4 +1,4 @@
-use Rattle.std.proofs.Common.{◌≡◌, Bool, true, false, length, map, refl, sym, ◌∙◌, ap, subst, arith}
+use Rattle.std.proofs.Common.{◌≡◌, ◌<◌, true, false, length, map, refl, sym, ◌∙◌, ap, subst, arith, rules}
 use Rattle.sched_base.specs.Units.{number_of}
 use Rattle.unit_ring.specs.Lists as l
 use Rattle.unit_ring.specs.Lists.{Lists, item, given, taken}
@@ -6,7 +6,7 @@ use Rattle.arrival_queue.specs.Queues as q
 use Rattle.arrival_queue.specs.Queues.{Queues, Queued, holds, inserted, removed, moved}
 use Rattle.arrival_queue.specs.Tables.{all_items, has_number, shown}
 use Rattle.arrival_queue.proofs.Steps.{found}
-use Rattle.arrival_queue.proofs.Changes.{absent_is, moved_seen, none_number, found_low, length-left}
+use Rattle.arrival_queue.proofs.Changes.{absent_is, moved_seen, none_number, none_here, found_low, found_place, length-left}
 use Rattle.arrival_queue.specs.Order.{IsOrdered}
 use Rattle.arrival_queue.specs.Whole.{seen}
 use Rattle.arrival_queue.proofs.Ordered.{ordered-moved}
@@ -16,6 +16,13 @@ use Rattle.arrival_queue.proofs.ArrivalQueue.move_counted.Goals as goal
 pub arrival_of-arrival-requires : goal.arrival_of-arrival-requires
 arrival_of-arrival-requires g c =
     (found_low (length c.self.inside.tables.arrivals.items) c.self.inside.tables.next c.self.inside.tables.arrivals.items c.self.inside.tables.ring c.args.u c.in-Some.n (found c.self.inside.tables.ring c.args.u c.in-Some.n c.self.invariant.tables.apart (sym c.find.ensures ∙ c.in-Some.is)) c.self.invariant.tables.tabled).0
+
+pub put-requires-clause-place : goal.put-requires-clause-place
+put-requires-clause-place g c =
+    let t = c.self.inside.tables in
+    let f = found t.ring c.args.u c.in-Some.n c.self.invariant.tables.apart (sym c.find.ensures ∙ c.in-Some.is) in
+    let low : c.args.u.n < 256 = search rules in
+    found_place (length t.arrivals.items) t.next t.arrivals.items t.ring c.args.u c.in-Some.n f c.self.invariant.tables.tabled low
 
 pub put-requires-clause-arrived : goal.put-requires-clause-arrived
 put-requires-clause-arrived g c =
@@ -49,11 +56,6 @@ returns-in-Some-clause-cost g c =
     ap (λ (qs : Queues). length (q.without c.args.u qs.sorted)) c.self.view_is
     in
     omega (arith, left, kept, seen, c.put.ensures.cost, c.take.ensures.cost)
-
--- a unit that is here has a node
-none_here : (b : Bool) → b ≡ true → b ≡ false → ⊥
-none_here true yes_here e = cc
-none_here false e no_here = cc
 
 pub returns-in-None-clause-after : goal.returns-in-None-clause-after
 returns-in-None-clause-after g c =

@@ -1,5 +1,5 @@
-use Rattle.std.proofs.Common.{◌≡◌, ◌∙◌, sym, ap, refl, Bool, true, false, not, ℕ, subst}
-use Rattle.std.specs.Prelude.{List, Option, None, Some, is_some, ◌||◌, ◌&&◌, ℤ}
+use Rattle.std.proofs.Common.{◌≡◌, ◌∙◌, sym, ap, refl, Bool, true, false, not, ℕ}
+use Rattle.std.specs.Prelude.{List, Option, None, Some, is_some, ◌||◌, ◌&&◌}
 use Rattle.std.specs.List.{list_any}
 use Rattle.sched_base.specs.declared.UnitId.{UnitId}
 use Rattle.sched_model.specs.declared.state.Credit2Records.{Credit2Records}

@@ -1,6 +1,5 @@
-use Rattle.std.proofs.Common.{◌≡◌, ◌∙◌, sym, ap, refl, subst, Bool, true, false}
-use Rattle.std.specs.Prelude.{List, Option, Some, None, is_some, ◌&&◌, filter}
-use Rattle.sched_base.specs.declared.UnitId.{UnitId}
+use Rattle.std.proofs.Common.{◌≡◌, ◌∙◌, sym, ap, true, false}
+use Rattle.std.specs.Prelude.{Some, is_some, ◌&&◌, filter}
 use Rattle.sched_model.specs.declared.ask.Ask.{Ask}
 use Rattle.sched_model.specs.Credit2.{own_candidate, is_within_limit}
 use Rattle.queue_laws.specs.Arrivals.{arrivals}

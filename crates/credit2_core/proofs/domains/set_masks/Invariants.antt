@@ -1,5 +1,5 @@
 use Rattle.std.proofs.Common.{◌≡◌, ◌<◌}
-use Rattle.sched_base.specs.CoreSets.{mask_of}
+use Rattle.unit_places.specs.Masks.{mask_of}
 use Rattle.sched_base.specs.declared.UnitId.{UnitId}
 use Rattle.credit2_core.specs.Domains.{masked}
 use Rattle.credit2_core.proofs.domains.set_masks.Given as goal

@@ -1,11 +1,10 @@
-use Rattle.std.proofs.Common.{◌≡◌, ◌∙◌, ◌+◌, true, sym, ap, subst, length, ℕ, arith}
+use Rattle.std.proofs.Common.{◌≡◌, ◌∙◌, true, sym, subst, length, ℕ, arith}
 use Rattle.std.specs.Prelude.{List}
 use Rattle.std.specs.List.{AllByRecursion}
 use Rattle.sched_base.specs.declared.UnitId.{UnitId}
 use Rattle.queue_laws.specs.Arrivals.{arrivals}
 use Rattle.credit2_core.specs.Keys.{KeysWhere, is_passed}
 use Rattle.credit2_core.specs.Places.{has_joined, count_at}
-use Rattle.credit2_core.specs.Held.{IsSameLine}
 use Rattle.credit2_core.proofs.Rekeying.{keys_next, keys_all}
 use Rattle.credit2_core.proofs.line.rekey_all.Goals as goal
 

@@ -1,7 +1,7 @@
 use Rattle.std.proofs.Common.{◌≡◌, ◌<◌, ◌∙◌, ◌-◌, sym, ap, subst, length}
-use Rattle.std.specs.Prelude.{List, Option, slice_set, replicate}
+use Rattle.std.specs.Prelude.{List, Option, slice_set}
 use Rattle.std.proofs.lemmas.List.{length-replicate}
-use Rattle.sched_base.specs.CoreSets.{mask_of}
+use Rattle.unit_places.specs.Masks.{mask_of}
 use Rattle.sched_base.specs.declared.Cores.{Cores}
 use Rattle.sched_base.specs.declared.Moment.{Moment}
 use Rattle.sched_base.specs.declared.UnitId.{UnitId}

@@ -1,4 +1,4 @@
-use Rattle.std.proofs.Common.{◌≡◌, ◌∙◌, ◌++◌, [], ◌∷◌, sym, ap, refl, subst, rules, arith, FitsSigned, neg_ℤ, length}
+use Rattle.std.proofs.Common.{◌≡◌, ◌∙◌, sym, ap, subst, rules, arith, FitsSigned, neg_ℤ}
 use Rattle.std.specs.Int.{w128}
 use Rattle.std.specs.Prelude.{ℤ, List}
 use Rattle.std.proofs.lemmas.Int.{to_z-of_z}
@@ -11,7 +11,7 @@ use Rattle.queue_laws.specs.Arrivals.{arrivals}
 use Rattle.credit2_core.specs.declared.held.Held.{Held}
 use Rattle.credit2_core.specs.Held.{IsHeld}
 use Rattle.credit2_core.proofs.Keeping.{held_pushed}
-use Rattle.credit2_core.proofs.Members.{joined_small}
+use Rattle.credit2_core.proofs.Members.{joined_place, joined_small}
 use Rattle.credit2_core.proofs.Waiting.{has_arrived, placed_arrivals}
 use Rattle.credit2_core.proofs.small.enqueue.Goals as goal
 
@@ -19,6 +19,10 @@ inserted_is : (c : goal.After-insert) → c.insert.new.self ≡ inserted c.args.
 inserted_is c =
     let fits : FitsSigned w128 c.key_of-key.result = search rules in
     c.insert.ensures ∙ ap (λ (k : ℤ). inserted c.args.held.now.queue c.args.u k) (to_z-of_z w128 c.key_of-key.result fits ∙ c.key_of-key.ensures)
+
+pub insert-requires-clause-place : goal.insert-requires-clause-place
+insert-requires-clause-place c =
+    joined_place c.args.held.now.latest c.args.held.now.records c.args.held.now.affinity c.args.u c.requires.held.range c.requires.held.counts c.requires.away.member
 
 pub insert-requires-clause-absent : goal.insert-requires-clause-absent
 insert-requires-clause-absent c =

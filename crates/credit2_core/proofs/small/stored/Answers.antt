@@ -1,6 +1,5 @@
 use Rattle.std.proofs.Common.{◌≡◌, ◌∙◌, sym}
-use Rattle.std.specs.Prelude.{Some, None, Option}
-use Rattle.sched_model.specs.declared.state.Credit2Domain.{Credit2Domain}
+use Rattle.std.specs.Prelude.{Some, None}
 use Rattle.sched_model.specs.Places.{at_place}
 use Rattle.credit2_core.proofs.Members.{joined_record}
 use Rattle.credit2_core.proofs.small.stored.Goals as goal

@@ -1,4 +1,4 @@
-use Rattle.std.proofs.Common.{◌≡◌, ◌<◌, ◌≤◌, ◌+◌, ◌∙◌, ℕ, true, sym, ap, subst, refl, arith}
+use Rattle.std.proofs.Common.{◌≡◌, ◌<◌, ◌≤◌, ◌+◌, ◌∙◌, ℕ, true, sym, ap, refl, arith}
 use Rattle.std.specs.Prelude.{List, [], Option, Some, None, is_some, slice_index_or}
 use Rattle.sched_base.specs.Numbers.{domain}
 use Rattle.sched_base.specs.declared.Moment.{Moment}

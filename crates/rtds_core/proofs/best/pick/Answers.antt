@@ -1,4 +1,4 @@
-use Rattle.std.proofs.Common.{◌≡◌, ◌∙◌, ap, sym, Option, []}
+use Rattle.std.proofs.Common.{◌∙◌, ap, Option, []}
 use Rattle.sched_base.specs.declared.UnitId.{UnitId}
 use Rattle.sched_model.specs.Rtds.{foremost, own_candidate}
 use Rattle.sched_model.specs.declared.state.Records.TheVariants.{RtdsPool}

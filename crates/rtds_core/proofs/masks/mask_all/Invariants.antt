@@ -1,7 +1,7 @@
-use Rattle.std.proofs.Common.{◌≡◌, ℕ, ◌<◌, cond}
+use Rattle.std.proofs.Common.{◌≡◌, ◌<◌}
 use Rattle.std.specs.Prelude.{◌&&◌, ◌==◌, nat_lt, if◌then◌else◌}
 use Rattle.sched_base.specs.declared.UnitId.{UnitId}
-use Rattle.sched_base.specs.CoreSets.{mask_of}
+use Rattle.unit_places.specs.Masks.{mask_of}
 use Rattle.rtds_core.proofs.masks.mask_all.Given as goal
 
 abbrev pub invariant-loop-n : goal.invariant-loop-n

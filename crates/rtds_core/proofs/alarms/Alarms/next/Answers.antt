@@ -1,8 +1,8 @@
-use Rattle.std.proofs.Common.{◌≡◌, ◌≤◌, ◌<◌, ◌^◌, ◌∙◌, [], ℕ, List, Option, Some, None, ap, sym, subst, refl, arith, length}
+use Rattle.std.proofs.Common.{◌≡◌, ◌∙◌, [], List, Option, Some, ap, sym, subst, arith, length}
 use Rattle.sched_base.specs.declared.Moment.{Moment}
 use Rattle.sched_base.specs.declared.UnitId.{UnitId}
 use Rattle.sched_ops.specs.declared.timer.Timer.TheVariants.{Repl}
-use Rattle.due_heap.specs.Dues.{IsArmed, GoesFirst, HasCome, IsPowerOfTwo}
+use Rattle.due_heap.specs.Dues.{IsArmed, HasCome}
 use Rattle.rtds_core.specs.Alarms.{armed, next_of, timer_of}
 use Rattle.rtds_core.proofs.Armed.{none_armed, next_later, next_due, armed_below, IsLeast}
 use Rattle.rtds_core.proofs.alarms.Alarms.next.Goals as goal

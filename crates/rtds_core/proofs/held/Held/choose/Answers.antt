@@ -1,4 +1,4 @@
-use Rattle.std.proofs.Common.{◌≡◌, ◌≤◌, ◌<◌, ◌∙◌, ℕ, ap, sym, subst, List, Option, Some, None, arith, length, refl}
+use Rattle.std.proofs.Common.{◌≡◌, ◌≤◌, ◌∙◌, ap, sym, subst, List, Option, arith, refl}
 use Rattle.std.specs.Option.{IfSome}
 use Rattle.sched_base.specs.declared.Cores.{Cores}
 use Rattle.sched_base.specs.declared.UnitId.{UnitId}
@@ -12,7 +12,7 @@ use Rattle.plain_policy.specs.Parts.{scheduler_of}
 use Rattle.plain_policy.proofs.RtdsLemmas.{left_low}
 use Rattle.rtds_queue.specs.Lists.{Lists}
 use Rattle.rtds_core.specs.Best.{queue_of, AreQueued, taken, started, stopped, run_from}
-use Rattle.rtds_core.specs.Kept.{IsKept, IsShaped, seen_of}
+use Rattle.rtds_core.specs.Kept.{IsShaped, seen_of}
 use Rattle.rtds_core.proofs.Changed.{plain_fits}
 use Rattle.rtds_core.proofs.Queues.{IsOrdered}
 use Rattle.rtds_core.proofs.First.{IsKnown}

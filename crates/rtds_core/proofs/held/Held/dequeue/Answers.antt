@@ -1,13 +1,12 @@
-use Rattle.std.proofs.Common.{◌≡◌, ◌≤◌, ◌<◌, ◌∙◌, ap, sym, subst, List, [], ◌∷◌, ◌++◌, Option, Some, None, Bool, true, false}
+use Rattle.std.proofs.Common.{◌≡◌, ◌∙◌, ap, sym, subst, List, Option, Bool, true}
 use Rattle.std.specs.Bool.{OnTrue}
 use Rattle.sched_base.specs.declared.UnitId.{UnitId}
 use Rattle.sched_base.specs.declared.Moment.{Moment}
 use Rattle.sched_model.specs.Places.{has_unit}
 use Rattle.sched_ops.specs.Seen.{Seen, with_scheduler, dequeue}
 use Rattle.rtds_queue.specs.Lists.{Lists, removed, holds}
-use Rattle.rtds_core.specs.Alarms.{with_due}
 use Rattle.rtds_core.specs.Best.{queue_of}
-use Rattle.rtds_core.specs.Kept.{IsKept, seen_of}
+use Rattle.rtds_core.specs.Kept.{IsKept}
 use Rattle.rtds_core.proofs.Changed.{IsLow, low_unit}
 use Rattle.rtds_core.proofs.Queues.{IsOrdered, queue_removed}
 use Rattle.rtds_core.proofs.Keeping.{waiting_known, low_queued}

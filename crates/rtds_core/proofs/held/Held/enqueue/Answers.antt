@@ -1,20 +1,17 @@
-use Rattle.std.proofs.Common.{◌≡◌, ◌≤◌, ◌<◌, ◌∙◌, ap, sym, subst, List, [], ◌∷◌, ◌++◌, Option, Some, None, Bool, true, false}
+use Rattle.std.proofs.Common.{◌≡◌, ◌∙◌, ap, sym, subst, List, Option, Some, None}
 use Rattle.std.specs.Prelude.{◌==◌}
-use Rattle.sched_base.specs.Numbers.{moment}
 use Rattle.sched_base.specs.declared.UnitId.{UnitId}
 use Rattle.sched_base.specs.declared.Moment.{Moment}
 use Rattle.sched_model.specs.Eligible.{rtds_unit}
-use Rattle.sched_model.specs.Places.{has_unit}
 use Rattle.sched_model.specs.Policy.{enqueue}
 use Rattle.sched_model.specs.declared.state.RtdsUnit.{RtdsUnit}
 use Rattle.sched_ops.specs.Seen.{Seen, with_scheduler}
 use Rattle.sched_ops.specs.Conditions.{IsAway}
-use Rattle.rtds_queue.specs.Lists.{Lists, put, holds}
+use Rattle.rtds_queue.specs.Lists.{Lists, put}
 use Rattle.rtds_queue.specs.declared.RtdsKey.{RtdsKey}
-use Rattle.rtds_core.specs.Alarms.{with_due}
 use Rattle.rtds_core.specs.Best.{queue_of, key_by}
 use Rattle.rtds_core.specs.Kept.{IsKept, seen_of}
-use Rattle.rtds_core.proofs.Changed.{IsLow, low_unit, member_record}
+use Rattle.rtds_core.proofs.Changed.{low_unit, member_record}
 use Rattle.rtds_core.proofs.Queues.{IsOrdered, queue_put}
 use Rattle.rtds_core.proofs.Keeping.{room_left}
 use Rattle.rtds_core.proofs.Steps.{tells_waiting, kept_put}
@@ -26,6 +23,12 @@ arm-requires c =
     let i = c.self.inside in
     let at : rtds_unit i.domains c.args.u ≡ Some c.in-Some.x.now = rw c.as_slice.ensures at (sym c.in-Some.ensures) in
     (low_unit i.domains i.affinity c.args.u c.in-Some.x.now c.self.invariant.shape at).id
+
+pub put-requires-clause-place : goal.put-requires-clause-place
+put-requires-clause-place c =
+    let i = c.self.inside in
+    let at : rtds_unit i.domains c.args.u ≡ Some c.in-Some.x.now = rw c.as_slice.ensures at (sym c.in-Some.ensures) in
+    (low_unit i.domains i.affinity c.args.u c.in-Some.x.now c.self.invariant.shape at).place
 
 pub put-requires-clause-absent : goal.put-requires-clause-absent
 put-requires-clause-absent c =

@@ -24,5 +24,12 @@ invariant_of-self c =
     let sets : c.set_place.new.places ≡ put_at c.args.d.0 (replicate c.args.units all_cores) i.affinity = c.set_place.ensures ∙ ap (λ (xs : List Cores). put_at c.args.d.0 xs i.affinity) c.copies.ensures in
     subst (λ (affinity : List (Option (List Cores))). IsKept c.join_records.new.domains affinity i.queues c.set_masks.new.masks i.alarms (i.spare - c.args.units) c.args.t.0) (sym sets) joined
 
+pub set_masks-requires-clause-domain : goal.set_masks-requires-clause-domain
+set_masks-requires-clause-domain c =
+    let i = c.self.inside in
+    let place : c.args.d.0 < length i.affinity = subst (λ (s : Seen). c.args.d.0 < length s.scheduler.affinity) (sym c.self.view_is) c.requires.place in
+    let few = c.self.invariant.shape.few in
+    omega (arith, place, few)
+
 pub join_records-requires-clause-params : goal.join_records-requires-clause-params
 join_records-requires-clause-params c = subst (λ (s : Seen). AreDomParams (kind_of s.scheduler.records) c.args.params.now) (sym c.self.view_is) c.requires.params

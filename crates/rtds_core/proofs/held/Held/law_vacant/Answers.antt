@@ -1,4 +1,4 @@
-use Rattle.std.proofs.Common.{◌≡◌, ◌∙◌, subst, sym, true}
+use Rattle.std.proofs.Common.{◌≡◌, subst, sym, true}
 use Rattle.sched_model.specs.declared.config.PoolParams.TheVariants as pool_params
 use Rattle.sched_ops.specs.Seen.{Seen, restarted}
 use Rattle.sched_ops.specs.Conditions.{is_vacant}

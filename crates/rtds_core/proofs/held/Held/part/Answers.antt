@@ -1,16 +1,12 @@
-use Rattle.std.proofs.Common.{◌≡◌, ◌≤◌, ◌<◌, ◌+◌, ◌∙◌, ap, sym, subst, List, Option, true, false, length, ℕ}
+use Rattle.std.proofs.Common.{◌≡◌, ◌<◌, ◌+◌, ◌∙◌, ap, sym, subst, List, Option, true, length, ℕ}
 use Rattle.std.specs.Prelude.{is_some}
 use Rattle.sched_base.specs.declared.Cores.{Cores}
-use Rattle.sched_base.specs.declared.UnitId.{UnitId}
 use Rattle.sched_laws.proofs.EachPlace.{place_below}
 use Rattle.sched_laws.proofs.Lists.{some_is}
-use Rattle.sched_model.specs.Places.{at_place, clear_at, has_unit}
-use Rattle.sched_model.specs.Eligible.{rtds_unit}
+use Rattle.sched_model.specs.Places.{at_place, clear_at}
 use Rattle.sched_model.specs.declared.state.RtdsUnit.{RtdsUnit}
-use Rattle.sched_model.specs.declared.state.Records.TheVariants.{RtdsPool}
 use Rattle.sched_ops.specs.Seen.{Seen}
-use Rattle.sched_ops.specs.Conditions.{HasNoneBusy, has_joined, is_on}
-use Rattle.rtds_core.specs.Best.{queue_of}
+use Rattle.sched_ops.specs.Conditions.{HasNoneBusy, has_joined}
 use Rattle.rtds_core.specs.Kept.{IsKept, seen_of, size}
 use Rattle.rtds_core.proofs.Queues.{IsOrdered}
 use Rattle.rtds_core.proofs.Calls.{on_record}

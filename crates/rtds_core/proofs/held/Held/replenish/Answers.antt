@@ -1,6 +1,5 @@
-use Rattle.std.proofs.Common.{◌≡◌, ◌≤◌, ◌<◌, ◌∙◌, ℕ, ap, sym, subst, List, Option, Some, None, arith, length, refl, true}
+use Rattle.std.proofs.Common.{◌≡◌, ◌≤◌, ◌∙◌, ap, sym, subst, List, Option, Some, None, arith, refl, true}
 use Rattle.std.specs.Option.{IfSome}
-use Rattle.sched_base.specs.declared.Moment.{Moment}
 use Rattle.sched_base.specs.declared.UnitId.{UnitId}
 use Rattle.sched_model.specs.declared.state.RtdsUnit.{RtdsUnit}
 use Rattle.sched_model.specs.Eligible.{rtds_unit}
@@ -8,13 +7,13 @@ use Rattle.sched_model.specs.Rtds.{replenish, change_unit}
 use Rattle.sched_ops.specs.Seen.{Seen, seen_at}
 use Rattle.sched_ops.specs.Timers.{is_due, after_timer}
 use Rattle.sched_ops.specs.declared.timer.Timer.TheVariants.{Repl}
-use Rattle.rtds_queue.specs.Lists.{Lists, holds}
+use Rattle.rtds_queue.specs.Lists.{holds}
 use Rattle.rtds_core.specs.Best.{queue_of}
-use Rattle.rtds_core.specs.Kept.{IsKept, seen_of, renewed_if, rearmed}
+use Rattle.rtds_core.specs.Kept.{seen_of, renewed_if, rearmed}
 use Rattle.rtds_core.proofs.Changed.{plain_fits, read_same, low_unit}
 use Rattle.rtds_core.proofs.Queues.{IsOrdered}
 use Rattle.rtds_core.proofs.Steps.{kept_later, tells_waiting}
-use Rattle.rtds_core.proofs.Chosen.{IsReplenished, replenished_holds, kept_replenished, queue_replenished}
+use Rattle.rtds_core.proofs.Chosen.{replenished_holds, kept_replenished, queue_replenished}
 use Rattle.rtds_core.proofs.Calls.{kept_as, replenished_of, seen_queue}
 use Rattle.rtds_core.proofs.held.Held.replenish.Goals as goal
 

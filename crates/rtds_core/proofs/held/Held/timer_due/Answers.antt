@@ -1,4 +1,4 @@
-use Rattle.std.proofs.Common.{◌≡◌, ◌≤◌, ◌∙◌, ap, arith, length, List}
+use Rattle.std.proofs.Common.{◌≤◌, ◌∙◌, ap, arith, length, List}
 use Rattle.sched_ops.specs.Seen.{Seen}
 use Rattle.sched_ops.specs.Timers.{Armed, timer_at}
 use Rattle.rtds_core.specs.Alarms.{next_of}

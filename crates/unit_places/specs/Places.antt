@@ -1,0 +1,15 @@
+-- The places of schedule units in tables: 32 for each of 64 domains.
+use Rattle.std.specs.Prelude.{ℕ, ◌+◌, ◌*◌, ◌&&◌, Bool, Option, Some, None, nat_lt, if◌then◌else◌}
+use Rattle.sched_base.specs.declared.UnitId.{UnitId}
+
+-- whether the unit has a place
+abbrev pub has_place : UnitId → Bool
+has_place u = nat_lt u.dom.0 64 && nat_lt u.n 32
+
+-- the number of the place of a unit that has one
+abbrev pub index_of : UnitId → ℕ
+index_of u = u.dom.0 * 32 + u.n
+
+-- the number of its place, where it has one
+abbrev pub place_of : UnitId → Option ℕ
+place_of u = (if has_place u then Some (index_of u) else None)
