@@ -17,7 +17,7 @@ use Rattle.pool_slots.specs.Told.{Told}
 use Rattle.pool_slots.specs.Places.{GoesOn, StandsAt, state_of}
 use Rattle.pool_slots.specs.Rooms.{IsPlaced, most_units, units_in}
 use Rattle.pool_slots.proofs.Going.{range-of}
-use Rattle.pool_slots.proofs.Slots.{stands-there}
+use Rattle.pool_slots.proofs.Standing.{stands-there}
 
 -- how many units the domain of the file has, and those after it
 units-more : (g d : ℕ) (c : DomConfig) (configs : List DomConfig) → length (units_from g d (c ∷ configs)) ≡ (length c.guests + g - 1) / g + length (units_from g (suc d) configs)

@@ -1,7 +1,8 @@
 pub mod Going
 pub mod AtHome
-pub mod Slots
-pub mod Among
+pub mod Standing
+pub mod Stepping
 pub mod Rooming
-pub mod Spares
+pub mod Shelving
 pub mod Fitting
+pub mod Counting

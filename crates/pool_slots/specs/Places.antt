@@ -1,7 +1,8 @@
 -- What holds of the places of a machine's pools: each is the part of its number in the state that a trail leads to.
-use Rattle.std.specs.Prelude.{ℕ, ◌≡◌, ◌≢◌, ◌≤◌, ◌<◌, false, List, Option, Some, None, length}
+use Rattle.std.specs.Prelude.{ℕ, ◌≡◌, ◌≢◌, ◌≤◌, ◌<◌, false, List, Option, Some, None, length, option_map}
 use Rattle.std.specs.Option.{ForSome}
 use Rattle.sched_model.specs.declared.machine.Machine.{Machine}
+use Rattle.sched_model.specs.declared.state.Pool.{Pool}
 use Rattle.sched_model.specs.declared.state.State.{State}
 use Rattle.sched_model.specs.Checked.{IsChecked}
 use Rattle.sched_model.specs.Places.{at_place}
@@ -30,6 +31,10 @@ slot_part (Some seen) = pool_part (Some seen.pool)
 pub record SlotSuits (m : Machine) (now : ℕ) (seen : Seen) : Type 0 where
   pub granularity : seen.granularity ≡ m.config.granularity
   pub latest : seen.latest ≤ now
+
+-- the place with another pool, where it has one
+abbrev pub with_pool : (Seen → Pool) → Option Seen → Option Seen
+with_pool f slot = option_map (λ (seen : Seen). let next : Seen = record seen { pool = f seen } in next) slot
 
 -- the place is the part i of that state, and its pool, if it has one, suits it
 pub record StandsAt (w : Told) (i : ℕ) (slot : Option Seen) : Type 0 where

@@ -20,7 +20,7 @@ impl PoolSlot {
     ghost use Rattle.plain_pool.specs.Cores.{ends_of};
     ghost use Rattle.unit_state.specs.Parts.{IsPart};
     ghost use Rattle.pool_core.specs.Seen.{IsNow, seen_at, with_core, with_spare, without_core};
-    ghost use Rattle.pool_slots.specs.Places.{GoesOn, StandsAt, state_of};
+    ghost use Rattle.pool_slots.specs.Places.{GoesOn, StandsAt, state_of, with_pool};
 
     /// A core comes into the pool. Its processors are stalled up to these moments, and it is to decide.
     pub fn attach(&mut self, core: &ResPart, t: Moment)
@@ -63,7 +63,7 @@ impl PoolSlot {
 
     /// A core is leaving; it is to decide where it has a unit. The cores are not looked at.
     pub fn set_leaving(&mut self, r: ResId)
-        ensures { self.new ≡ option_map (λ seen. record seen { pool = set_leaving_spec r.0 seen.pool }) self.old }
+        ensures { self.new ≡ with_pool (λ seen. set_leaving_spec r.0 seen.pool) self.old }
     {
         if let Some(pool) = &mut self.state {
             pool.set_leaving(r);

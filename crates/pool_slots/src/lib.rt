@@ -7,6 +7,7 @@
 
 pub mod acts;
 pub mod among;
+pub mod changes;
 pub mod slot;
 pub mod spares;
 pub mod trail;

@@ -48,7 +48,7 @@ impl Default for PoolSlot {
 }
 
 impl PoolSlot {
-    ghost use Rattle.std.specs.Prelude.{◌≡◌, ℕ, ◌×◌, [], true, false, not, None, Some, is_some, option_map, map};
+    ghost use Rattle.std.specs.Prelude.{◌≡◌, ℕ, [], true, false, not, None, Some, is_some, option_map, map};
     ghost use Rattle.std.specs.Option.{ForSome};
     ghost use Rattle.sched_model.specs.Policy.{rate_of};
     ghost use Rattle.sched_model.specs.Pool.{enabled_in, processor_of, settled};
@@ -60,6 +60,7 @@ impl PoolSlot {
     ghost use Rattle.pool_core.specs.Order.{IsFirstEnabled, IsNextMoment};
     ghost use Rattle.pool_core.specs.Params.{stored_in};
     ghost use Rattle.pool_core.specs.Seen.{IsNow, seen_at, with_stall};
+    ghost use Rattle.pool_slots.specs.Places.{with_pool};
     ghost use Rattle.pool_slots.specs.Rooms.{IsPlaced};
 
     /// Whether there is no pool here.
@@ -179,7 +180,7 @@ impl PoolSlot {
     pub fn stall(&mut self, p: ProcId, until: Moment) -> Moment
         ensures pool { ForSome self.old (λ seen. result ≡ stall_until (processor_of seen.granularity seen.pool p.0) until) }
         ensures empty { self.old ≡ None → result ≡ until }
-        ensures after { self.new ≡ option_map (λ seen. record seen { pool = with_stall seen.granularity p.0 result seen.pool }) self.old }
+        ensures after { self.new ≡ with_pool (λ seen. with_stall seen.granularity p.0 result seen.pool) self.old }
     {
         match &mut self.state {
             None => until,

@@ -22,7 +22,7 @@ use Rattle.pool_slots.specs.Told.{Told, told_more}
 use Rattle.pool_slots.specs.Places.{AllStand, GoesOn, HasStepped, StandsAt, state_of}
 use Rattle.pool_slots.proofs.Going.{entry-is, range-of, state-on}
 use Rattle.pool_slots.proofs.AtHome.{comes-there}
-use Rattle.pool_slots.proofs.Slots.{other-on, stepped}
+use Rattle.pool_slots.proofs.Standing.{other-on, stepped}
 
 module _ (w : Told) (goes : GoesOn w) (t : ℕ) (now : t ≡ (state_of w).now) (action : Action) (own : IsOfPool action) (on : is_enabled w.input (state_of w) (state_of w).now action ≡ true) (i : ℕ) (home : home_of w.input.config.granularity (state_of w) action ≡ Some i) where
   -- the pool is one of the 16

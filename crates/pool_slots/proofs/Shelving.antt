@@ -1,5 +1,5 @@
 -- A spare pool that is opened, and a pool that becomes a spare one.
-use Rattle.std.proofs.Common.{◌≡◌, ◌∙◌, ℕ, ◌+◌, ◌≤◌, true, false, List, [], ◌∷◌, length, replicate, refl, sym, ap, ap₂, subst, arith}
+use Rattle.std.proofs.Common.{◌≡◌, ◌∙◌, ℕ, suc, ◌+◌, ◌≤◌, true, false, List, [], ◌∷◌, length, replicate, refl, sym, ap, ap₂, subst, arith}
 use Rattle.std.specs.Prelude.{Option, Some, None}
 use Rattle.sched_model.specs.declared.config.Config.{Config}
 use Rattle.sched_model.specs.declared.config.PoolParams.{PoolParams}
@@ -24,16 +24,16 @@ use Rattle.pool_slots.specs.Places.{GoesOn, StandsAt, state_of}
 use Rattle.pool_slots.specs.Rooms.{IsPlaced, IsRoomy, most_units, units_in}
 use Rattle.pool_slots.specs.Spares.{HasCorePlaces, IsIdle, IsSpare, SpareSuits, made_seen}
 use Rattle.pool_slots.proofs.Going.{range-of}
-use Rattle.pool_slots.proofs.Slots.{pool_at, stands-there}
+use Rattle.pool_slots.proofs.Standing.{pool_at, stands-there}
 
 -- places without anything
 pub empty-places : {X : Type 0} (places : List (Option X)) → ((n : ℕ) → at_place places n ≡ None) → places ≡ replicate (length places) None
 empty-places [] none = refl
-empty-places (x ∷ places) none = ap₂ (λ (y : Option _) (ys : List (Option _)). y ∷ ys) (none 0) (empty-places places (λ n. none (n + 1)))
+empty-places (x ∷ places) none = ap₂ (λ (y : Option _) (ys : List (Option _)). y ∷ ys) (none 0) (empty-places places (λ n. none (suc n)))
 
 pub no-units : (g : ℕ) (places : List (Option Domain)) → ((n : ℕ) → at_place places n ≡ None) → units_in g places ≡ 0
 no-units g [] none = refl
-no-units g (None ∷ places) none = no-units g places (λ n. none (n + 1))
+no-units g (None ∷ places) none = no-units g places (λ n. none (suc n))
 no-units g (Some d ∷ places) none = absurd (let here = none 0 in cc)
 
 -- the records of a pool with new parameters are those of the machine's empty pool
@@ -77,7 +77,7 @@ module _ (m : Machine) (now : ℕ) (params : PoolParams) (seen : Seen) (spare : 
       ∙ ap₂ (λ g n. let x : Seen = record { pool = empty_pool m.config params; granularity = g; spare = n; latest = seen.latest; in_use = true } in x) spare.suits.granularity spare.idle.room
 
   pub opened-placed : IsPlaced opened
-  opened-placed = record { used = refl; roomy = record { room = ap (λ n. n + seen.spare) (no-units seen.granularity seen.pool.domains spare.idle.empty.domains) ∙ spare.idle.room } }
+  opened-placed = record { used = refl; roomy = record { room = (let none = no-units seen.granularity seen.pool.domains spare.idle.empty.domains in let room = spare.idle.room in omega (arith, none, room)) } }
 
 -- a pool of the machine that is in use no longer
 core-places : (m : Machine) (t : ℕ) (records : Records) → RecordsInRange m t records → HasCorePlaces (core_count m.config) records
