@@ -1,6 +1,7 @@
 -- A domain of the machine that a pool has not yet has room there.
-use Rattle.std.proofs.Common.{◌≡◌, ◌∙◌, ◌≤◌, ℕ, zero, suc, ◌+◌, ◌-◌, ◌/◌, true, List, [], ◌∷◌, ◌++◌, length, length-append, map, refl, sym, ap, subst, arith}
+use Rattle.std.proofs.Common.{◌≡◌, ◌∙◌, ◌≤◌, ◌<◌, ℕ, zero, suc, ◌+◌, ◌-◌, ◌/◌, true, List, [], ◌∷◌, ◌++◌, length, length-append, map, refl, sym, ap, subst, arith}
 use Rattle.std.specs.Prelude.{Option, Some, None, slice_get}
+use Rattle.std.proofs.lemmas.Option.{slice_get_within}
 use Rattle.sched_base.specs.Numbers.{domain as domain_number}
 use Rattle.sched_base.specs.declared.UnitId.{UnitId}
 use Rattle.sched_model.specs.declared.config.DomConfig.{DomConfig}
@@ -12,11 +13,11 @@ use Rattle.sched_model.specs.Places.{at_place, numbers_from}
 use Rattle.sched_model.specs.Pool.{unit_count}
 use Rattle.sched_laws.proofs.Opened.{length_map_numbers}
 use Rattle.sched_ranges.specs.Ranges.{DomainInRange, PoolInRange}
-use Rattle.pool_core.specs.Seen.{Seen}
+use Rattle.pool_core.specs.Seen.{Seen, IsNow}
 use Rattle.pool_slots.specs.Told.{Told}
 use Rattle.pool_slots.specs.Places.{GoesOn, StandsAt, state_of}
 use Rattle.pool_slots.specs.Rooms.{IsPlaced, most_units, units_in}
-use Rattle.pool_slots.proofs.Going.{range-of}
+use Rattle.pool_slots.proofs.Going.{early, range-of}
 use Rattle.pool_slots.proofs.Standing.{stands-there}
 
 -- how many units the domain of the file has, and those after it
@@ -95,3 +96,17 @@ room-here w goes i seen stands placed d x absent range =
     let all = placed.roomy.room in
     let fits : unit_count g x ≤ seen.spare = (let here = subst (λ (k : ℕ). units_in k seen.pool.domains + seen.spare ≡ most_units) suits.granularity all in omega (arith, room, few, same, here)) in
     subst (λ (k : ℕ). unit_count k x ≤ seen.spare) (sym suits.granularity) fits
+
+-- there is a place for it, and the moment is not before the latest one given
+pub place-here : (w : Told) → GoesOn w → (i : ℕ) (seen : Seen) → StandsAt w i (Some seen) → (d : ℕ) (x : Domain) → DomainInRange w.input (state_of w).now d x → d < length seen.pool.domains
+place-here w goes i seen stands d x range =
+    let pool : PoolInRange w.input (state_of w).now seen.pool = (range-of w goes).pools i seen.pool (stands-there w i (Some seen) stands) in
+    let places = pool.domain_places in
+    let inside = slice_get_within w.input.config.domains d range.config range.at in
+    omega (arith, places, inside)
+
+pub now-here : (w : Told) → GoesOn w → (i t : ℕ) → t ≡ (state_of w).now → (seen : Seen) → StandsAt w i (Some seen) → IsNow seen t
+now-here w goes i t now seen stands = record {
+  after = (let late = (stands.suits seen refl).latest in omega (arith, late, now));
+  early = (let limit = early w goes in omega (arith, limit, now));
+}

@@ -1,5 +1,5 @@
 -- The room of a pool stays as its domains keep their vCPUs.
-use Rattle.std.proofs.Common.{◌≡◌, ◌≤◌, ◌<◌, ◌∙◌, ℕ, zero, suc, ◌+◌, ◌-◌, ◌/◌, ◌&&◌, true, false, List, [], ◌∷◌, length, map, refl, sym, ap, arith}
+use Rattle.std.proofs.Common.{◌≡◌, ◌≤◌, ◌<◌, ◌∙◌, ℕ, zero, suc, ◌+◌, ◌-◌, ◌/◌, ◌&&◌, true, false, List, [], ◌∷◌, length, map, refl, sym, ap, subst, arith}
 use Rattle.std.specs.Prelude.{Option, Some, None, option_map}
 use Rattle.sched_base.specs.Numbers.{domain as domain_number, pool as pool_number}
 use Rattle.sched_model.specs.declared.action.Action.{Action}
@@ -38,6 +38,19 @@ placed-happened t action seen placed = record {
   used = placed.used;
   roomy = record { room = ap (λ n. n + seen.spare) (units-same seen.granularity _ seen.pool.domains (ap (λ (face : Face). face.domains) (face_kept seen.granularity t seen.pool action))) ∙ placed.roomy.room };
 }
+
+-- what a view by f says of what is inside
+pub view-none : {X Y : Type 0} (f : X → Y) (o : Option X) (v : Option Y) → option_map f o ≡ v → o ≡ None → v ≡ None
+view-none f o v is none = sym is ∙ ap (option_map f) none
+
+pub view-some : {X Y : Type 0} (f : X → Y) (o : Option X) (v : Option Y) → option_map f o ≡ v → (x : X) → o ≡ Some x → v ≡ Some (f x)
+view-some f o v is x at = sym is ∙ ap (option_map f) at
+
+pub some-out : {X : Type 0} (P : X → Type 0) (b x : X) → Some b ≡ Some x → P b → P x
+some-out P b x is holds = (let same : b ≡ x = cc in subst P same holds)
+
+pub same-value : {X Y : Type 0} (f : X → Y) (o : Option X) (v : Option Y) → option_map f o ≡ v → (x : X) → o ≡ Some x → (y : Y) → v ≡ Some y → f x ≡ y
+same-value f o v is x at y there = (let one : v ≡ Some (f x) = view-some f o v is x at in cc)
 
 -- what keeps the pool's domains keeps its room
 pub placed-same : (seen : Seen) (t : ℕ) (pool : Pool) → units_in seen.granularity pool.domains ≡ units_in seen.granularity seen.pool.domains → IsPlaced seen → IsPlaced (seen_at t pool seen)
@@ -101,9 +114,9 @@ units-cleared g zero x (Some y ∷ places) at = (let same : unit_count g y ≡ u
 units-cleared g (suc d) x (None ∷ places) at = units-cleared g d x places at
 units-cleared g (suc d) x (Some y ∷ places) at = (let rest = units-cleared g d x places at in omega (arith, rest))
 
-pub placed-given : (seen : Seen) (t d : ℕ) (x : Domain) (params : DomParams) → d < length seen.pool.domains → at_place seen.pool.domains d ≡ None → unit_count seen.granularity x ≤ seen.spare → IsPlaced seen
+placed-given_here : (seen : Seen) (t d : ℕ) (x : Domain) (params : DomParams) → d < length seen.pool.domains → at_place seen.pool.domains d ≡ None → unit_count seen.granularity x ≤ seen.spare → IsPlaced seen
     → IsPlaced (with_spare (seen.spare - unit_count seen.granularity x) (seen_at t (settled t (with_domain seen.granularity t d x params seen.pool)) seen))
-placed-given seen t d x params inside absent room placed =
+placed-given_here seen t d x params inside absent room placed =
     let g = seen.granularity in
     let queued : units_in g (with_domain g t d x params seen.pool).domains ≡ units_in g (put_at d x seen.pool.domains) =
     ap (units_in g) (domains-queued g d (numbers_from 0 (unit_count g x)) (record seen.pool { domains = put_at d x seen.pool.domains; scheduler = policy.join d (unit_count g x) params t seen.pool.scheduler })) in
@@ -111,9 +124,21 @@ placed-given seen t d x params inside absent room placed =
     let all = placed.roomy.room in
     record { used = placed.used; roomy = record { room = omega (arith, queued, put, all, room) } }
 
-pub placed-taken : (seen : Seen) (d : ℕ) (x : Domain) → at_place seen.pool.domains d ≡ Some x → IsPlaced seen
+placed-taken_here : (seen : Seen) (d : ℕ) (x : Domain) → at_place seen.pool.domains d ≡ Some x → IsPlaced seen
     → IsPlaced (with_spare (seen.spare + unit_count seen.granularity x) (record seen { pool = without_domain d seen.pool }))
-placed-taken seen d x at placed =
+placed-taken_here seen d x at placed =
     let cleared = units-cleared seen.granularity d x seen.pool.domains at in
     let all = placed.roomy.room in
     record { used = placed.used; roomy = record { room = omega (arith, cleared, all) } }
+
+-- the same, where the domain's own number of a unit's vCPUs is the pool's
+pub placed-given : (seen : Seen) (t d k : ℕ) (x : Domain) (params : DomParams) → k ≡ seen.granularity → d < length seen.pool.domains → at_place seen.pool.domains d ≡ None → unit_count k x ≤ seen.spare → IsPlaced seen
+    → IsPlaced (with_spare (seen.spare - unit_count k x) (seen_at t (settled t (with_domain seen.granularity t d x params seen.pool)) seen))
+placed-given seen t d k x params is inside absent room placed =
+    subst (λ (n : ℕ). unit_count n x ≤ seen.spare → IsPlaced (with_spare (seen.spare - unit_count n x) (seen_at t (settled t (with_domain seen.granularity t d x params seen.pool)) seen))) (sym is)
+    (λ fits. placed-given_here seen t d x params inside absent fits placed) room
+
+pub placed-taken : (seen : Seen) (d k : ℕ) (x : Domain) → k ≡ seen.granularity → at_place seen.pool.domains d ≡ Some x → IsPlaced seen
+    → IsPlaced (with_spare (seen.spare + unit_count k x) (record seen { pool = without_domain d seen.pool }))
+placed-taken seen d k x is at placed =
+    subst (λ (n : ℕ). IsPlaced (with_spare (seen.spare + unit_count n x) (record seen { pool = without_domain d seen.pool }))) (sym is) (placed-taken_here seen d x at placed)

@@ -47,6 +47,9 @@ fresh-places cores domains pool_params.Null (ArincPool records) places params = 
 fresh-places cores domains pool_params.Null (NullPool kept) places params = ap (fresh_records pool_params.Null domains) places
 
 -- a spare pool that is opened
+abbrev pub reopened : PoolParams → Seen → Seen
+reopened params seen = record seen { pool = record seen.pool { scheduler = restarted params seen.pool.scheduler }; in_use = true }
+
 module _ (m : Machine) (now : ℕ) (params : PoolParams) (seen : Seen) (spare : IsSpare m now (kind_of seen.pool.scheduler.records) seen) (given : ArePoolParams (kind_of seen.pool.scheduler.records) params) where
   abbrev made : Pool
   made = record seen.pool { scheduler = restarted params seen.pool.scheduler }
@@ -68,15 +71,12 @@ module _ (m : Machine) (now : ℕ) (params : PoolParams) (seen : Seen) (spare : 
       ap (λ (s : Scheduler). let x : Pool = record { scheduler = s; domains = seen.pool.domains; resources = seen.pool.resources } in x) made-scheduler
       ∙ ap₂ (λ ds cs. let x : Pool = record { scheduler = (empty_pool m.config params).scheduler; domains = ds; resources = cs } in x) made-domains made-cores
 
-  abbrev pub opened : Seen
-  opened = record seen { pool = made; in_use = true }
-
-  pub opened-is : opened ≡ made_seen m.config params seen.latest
+  pub opened-is : reopened params seen ≡ made_seen m.config params seen.latest
   opened-is =
       ap (λ (p : Pool). let x : Seen = record { pool = p; granularity = seen.granularity; spare = seen.spare; latest = seen.latest; in_use = true } in x) made-pool
       ∙ ap₂ (λ g n. let x : Seen = record { pool = empty_pool m.config params; granularity = g; spare = n; latest = seen.latest; in_use = true } in x) spare.suits.granularity spare.idle.room
 
-  pub opened-placed : IsPlaced opened
+  pub opened-placed : IsPlaced (reopened params seen)
   opened-placed = record { used = refl; roomy = record { room = (let none = no-units seen.granularity seen.pool.domains spare.idle.empty.domains in let room = spare.idle.room in omega (arith, none, room)) } }
 
 -- a pool of the machine that is in use no longer

@@ -15,13 +15,7 @@ use sched_model::event::Event;
 
 /// An event of the pool i, where each of the 16 places is the part of its number in the machine, which stands where the trail leads. After
 /// it all places stand where the trail leads with the entry added.
-pub fn perform_among(
-    slots: &mut [PoolSlot],
-    at: &Trail,
-    i: u8,
-    action: Action,
-    t: Moment,
-) -> Event
+pub fn perform_among(slots: &mut [PoolSlot], at: &Trail, i: u8, action: Action, t: Moment) -> Event
     requires goes { GoesOn at.now }
     requires now { t.0 ≡ (state_of at.now).now }
     requires stand { AllStand at.now slots.old }

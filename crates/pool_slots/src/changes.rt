@@ -30,9 +30,10 @@ impl PoolSlot {
         requires siblings { ForSome self.old (λ seen. length core.now.stall_ends ≡ seen.granularity) }
         ensures { self.new ≡ option_map (λ seen. seen_at t.0 (settled t.0 (with_core core.now.r.0 core.now.stall_ends seen.pool)) seen) self.old }
     {
-        if let Some(pool) = &mut self.state {
-            pool.attach(core, t);
-        }
+        let Some(pool) = &mut self.state else {
+            return;
+        };
+        pool.attach(core, t);
     }
 
     /// A core that is leaving, and whose part in this is done, goes out: its number and the ends of its processors' stalls.
@@ -56,18 +57,20 @@ impl PoolSlot {
         requires change { ForSome self.old (λ seen. IsChange (kind_of seen.pool.scheduler.records) seen.pool.scheduler change.now) }
         ensures { self.new ≡ option_map (λ seen. seen_at t.0 (settled t.0 (set_params_spec change.now t.0 seen.pool)) seen) self.old }
     {
-        if let Some(pool) = &mut self.state {
-            pool.set_params(change, t);
-        }
+        let Some(pool) = &mut self.state else {
+            return;
+        };
+        pool.set_params(change, t);
     }
 
     /// A core is leaving; it is to decide where it has a unit. The cores are not looked at.
     pub fn set_leaving(&mut self, r: ResId)
         ensures { self.new ≡ with_pool (λ seen. set_leaving_spec r.0 seen.pool) self.old }
     {
-        if let Some(pool) = &mut self.state {
-            pool.set_leaving(r);
-        }
+        let Some(pool) = &mut self.state else {
+            return;
+        };
+        pool.set_leaving(r);
     }
 
     /// A domain is paused: its units stop waiting, and the cores that run one are to decide anew.
@@ -75,9 +78,10 @@ impl PoolSlot {
         requires now { ForSome self.old (λ seen. IsNow seen t.0) }
         ensures { self.new ≡ option_map (λ seen. seen_at t.0 (settled t.0 (pause_spec d.0 seen.pool)) seen) self.old }
     {
-        if let Some(pool) = &mut self.state {
-            pool.pause(d, t);
-        }
+        let Some(pool) = &mut self.state else {
+            return;
+        };
+        pool.pause(d, t);
     }
 
     /// A domain goes on: its units that are runnable wait.
@@ -85,9 +89,10 @@ impl PoolSlot {
         requires now { ForSome self.old (λ seen. IsNow seen t.0) }
         ensures { self.new ≡ option_map (λ seen. seen_at t.0 (settled t.0 (unpause_spec seen.granularity d.0 seen.pool)) seen) self.old }
     {
-        if let Some(pool) = &mut self.state {
-            pool.unpause(d, t);
-        }
+        let Some(pool) = &mut self.state else {
+            return;
+        };
+        pool.unpause(d, t);
     }
 
     /// A domain is moving to a pool: its units stop waiting, and the cores that run one are to decide anew.
@@ -95,9 +100,10 @@ impl PoolSlot {
         requires now { ForSome self.old (λ seen. IsNow seen t.0) }
         ensures { self.new ≡ option_map (λ seen. seen_at t.0 (settled t.0 (set_moving_spec d.0 to.0 seen.pool)) seen) self.old }
     {
-        if let Some(pool) = &mut self.state {
-            pool.set_moving(d, to, t);
-        }
+        let Some(pool) = &mut self.state else {
+            return;
+        };
+        pool.set_moving(d, to, t);
     }
 
     /// A domain that is moving, and no unit of which a core has, goes out. The cores are not looked at.

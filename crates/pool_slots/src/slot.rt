@@ -41,9 +41,7 @@ impl Default for PoolSlot {
 
     /// An empty place.
     fn default() -> PoolSlot {
-        PoolSlot {
-            state: None,
-        }
+        PoolSlot { state: None }
     }
 }
 
@@ -171,9 +169,10 @@ impl PoolSlot {
         requires now { ForSome self.old (λ seen. IsNow seen t.0) }
         ensures { self.new ≡ option_map (λ seen. seen_at t.0 (settled t.0 seen.pool) seen) self.old }
     {
-        if let Some(pool) = &mut self.state {
-            pool.settle(t);
-        }
+        let Some(pool) = &mut self.state else {
+            return;
+        };
+        pool.settle(t);
     }
 
     /// A processor is stalled up to this moment, if it is not yet for longer: the end of its stall. The cores are not looked at.
@@ -182,9 +181,9 @@ impl PoolSlot {
         ensures empty { self.old ≡ None → result ≡ until }
         ensures after { self.new ≡ with_pool (λ seen. with_stall seen.granularity p.0 result seen.pool) self.old }
     {
-        match &mut self.state {
-            None => until,
-            Some(pool) => pool.stall(p, until),
-        }
+        let Some(pool) = &mut self.state else {
+            return until;
+        };
+        pool.stall(p, until)
     }
 }
