@@ -1,0 +1,6 @@
+pub mod Told
+pub mod Ways
+pub mod Places
+pub mod Rooms
+pub mod Spares
+pub mod Counts
