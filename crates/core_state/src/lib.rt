@@ -11,3 +11,4 @@ mod heaps;
 pub mod laws;
 
 pub use cores::CoreState;
+pub use heaps::earlier;

@@ -5,30 +5,19 @@ ghost use Rattle.sched_model.specs.Pool.{enabled_in};
 ghost use Rattle.pool_laws.specs.Ready.{ready_in};
 ghost use Rattle.pool_kept.specs.Holds.{AreOn};
 ghost use Rattle.unit_state.specs.Seen.{Seen as GuestsSeen};
-ghost use Rattle.core_state.specs.Firsts.{IsLeast, earlier as earlier_spec};
+ghost use Rattle.core_state.specs.Firsts.{IsLeast};
 ghost use Rattle.sched_ops.specs.Seen.{Seen as SchedulerSeen};
 ghost use Rattle.sched_ops.specs.Timers.{action_of as action_of_spec};
 ghost use Rattle.pool_core.specs.Kept.{AreWorks};
 ghost use Rattle.pool_core.specs.Order.{IsFirstEnabled, IsFirstIn, IsNextMoment};
 ghost use Rattle.pool_core.specs.Seen.{pool_of};
 
-use core_state::CoreState;
+use core_state::{CoreState, earlier};
 use plain_pool::cores::has_come;
 use sched_base::Moment;
 use sched_model::action::Action;
 use sched_ops::{Policy, Timer};
 use unit_state::Guests;
-
-/// The earlier of two moments.
-fn earlier(a: Option<Moment>, b: Option<Moment>) -> Option<Moment>
-    ensures { result ≡ earlier_spec a b }
-{
-    match (a, b) {
-        (None, _) => b,
-        (_, None) => a,
-        (Some(x), Some(y)) => if x.0 <= y.0 { a } else { b },
-    }
-}
 
 /// The event of a timer.
 fn action_of(timer: Timer) -> Action
