@@ -1,0 +1,33 @@
+-- The firsts and the nexts of the places are those of the machine's pools.
+use Rattle.std.proofs.Common.{◌≡◌, ℕ, List, subst, sym, ap, ◌∙◌}
+use Rattle.std.specs.Prelude.{Option, Some, None}
+use Rattle.sched_base.specs.declared.Moment.{Moment}
+use Rattle.sched_model.specs.declared.action.Action.{Action}
+use Rattle.sched_model.specs.declared.state.Pool.{Pool}
+use Rattle.sched_model.specs.Places.{at_place}
+use Rattle.cpupool.specs.Tool.{Tool}
+use Rattle.pool_core.specs.Order.{IsFirstEnabled, IsNextMoment}
+use Rattle.pool_core.specs.Seen.{Seen}
+use Rattle.actor_laws.specs.First.{ArePoolsFirsts}
+use Rattle.actor_laws.specs.Next.{ArePoolsNexts}
+use Rattle.pool_slots.specs.Told.{Told}
+use Rattle.pool_slots.specs.Places.{state_of}
+use Rattle.machine_parts.specs.Parts.{AreFirsts, AreNexts, AreParts}
+use Rattle.machine_parts.proofs.AtPlaces.{nothing-there, seen-there}
+
+module _ (w : Told) (slots : List (Option Seen)) (tool : Tool) (parts : AreParts w slots tool) where
+  pub pools-firsts : (t : ℕ) (firsts : List (Option Action)) → AreFirsts t slots firsts → ArePoolsFirsts w.input.config.granularity t (state_of w).pools firsts
+  pools-firsts t firsts are = record {
+    pool = λ i pool at.
+        let f = seen-there w slots tool parts i pool at in
+        subst (λ (g : ℕ). IsFirstEnabled g t pool (at_place firsts i)) f.3 (subst (λ (p : Pool). IsFirstEnabled (f.0).granularity t p (at_place firsts i)) f.2 (are.pool i f.0 f.1));
+    nothing = λ i none. are.nothing i (nothing-there w slots tool parts i none);
+  }
+
+  pub pools-nexts : (nexts : List (Option Moment)) → AreNexts slots nexts → ArePoolsNexts w.input.config.granularity (state_of w).pools nexts
+  pools-nexts nexts are = record {
+    pool = λ i pool at.
+        let f = seen-there w slots tool parts i pool at in
+        subst (λ (g : ℕ). IsNextMoment g pool (at_place nexts i)) f.3 (subst (λ (p : Pool). IsNextMoment (f.0).granularity p (at_place nexts i)) f.2 (are.pool i f.0 f.1));
+    nothing = λ i none. are.nothing i (nothing-there w slots tool parts i none);
+  }

@@ -1,0 +1,5 @@
+pub mod Ranking
+pub mod Soonest
+pub mod AtPlaces
+pub mod Moving
+pub mod Firsts

@@ -1,0 +1,90 @@
+//! The first action of the whole machine.
+
+ghost use Rattle.std.specs.Prelude.{◌≡◌, ℕ, Some, None, if◌then◌else◌};
+ghost use Rattle.sched_model.specs.declared.action.Action.TheVariants.{DomMoved, Moved};
+ghost use Rattle.sched_model.specs.Machine.{enabled_at_home, first_enabled};
+ghost use Rattle.journal_core.specs.Parts.{under_way_of};
+ghost use Rattle.actor_laws.specs.First.{move_first as move_first_of, tool_first as tool_first_of};
+ghost use Rattle.pool_slots.specs.Places.{state_of};
+ghost use Rattle.machine_parts.specs.Parts.{AreFirsts, AreParts};
+
+use crate::order::earliest;
+use actor_laws::laws::law_whole_first;
+use cpupool::{Move, ToolEvent, ToolState};
+use pool_slots::{PoolSlot, Trail};
+use sched_base::{DomId, Moment, ResId};
+use sched_model::action::Action;
+
+/// The action, where it may come.
+fn if_ready(ready: bool, action: Action) -> Option<Action>
+    ensures { result ≡ (if ready then Some action else None) }
+{
+    if ready { Some(action) } else { None }
+}
+
+/// Whether a core that is on its way out of its pool may leave it at t.
+fn core_ready(slots: &[PoolSlot], tool: &ToolState, at: &Trail, r: ResId, t: Moment) -> bool
+    requires parts { AreParts at.now slots.now tool.now }
+    ensures { result ≡ enabled_at_home at.now.input (state_of at.now) t.0 (Moved r.0) }
+{
+    match tool.home_of_core(r) {
+        None => false,
+        Some(i) => slots[usize::from(i.0)].moved_ready(r, t),
+    }
+}
+
+/// Whether a domain that is on its way may leave its pool.
+fn domain_ready(slots: &[PoolSlot], tool: &ToolState, at: &Trail, d: DomId) -> bool
+    requires parts { AreParts at.now slots.now tool.now }
+    ensures { (t : ℕ) → result ≡ enabled_at_home at.now.input (state_of at.now) t (DomMoved d.0) }
+{
+    match tool.home_of_domain(d) {
+        None => false,
+        Some(i) => slots[usize::from(i.0)].dom_ready(d),
+    }
+}
+
+/// The move of what is on its way, where it may come at t.
+fn move_first(slots: &[PoolSlot], tool: &ToolState, at: &Trail, t: Moment) -> Option<Action>
+    requires parts { AreParts at.now slots.now tool.now }
+    ensures { result ≡ move_first_of at.now.input (state_of at.now) t.0 (under_way_of (state_of at.now)) }
+{
+    match tool.moving() {
+        None => None,
+        Some(Move::Res { r, to: None }) => if_ready(core_ready(slots, tool, at, r, t), Action::Moved(r.0)),
+        Some(Move::Res { r, to: Some(_) }) => if_ready(tool.free_ready(t), Action::Moved(r.0)),
+        Some(Move::Dom { d, .. }) => if_ready(domain_ready(slots, tool, at, d), Action::DomMoved(d.0)),
+    }
+}
+
+/// The tool's first action that may come at t: the stall, or else the command, or else the move of what is on its way.
+pub fn tool_first(slots: &[PoolSlot], tool: &ToolState, at: &Trail, t: Moment) -> Option<Action>
+    requires parts { AreParts at.now slots.now tool.now }
+    ensures { result ≡ tool_first_of at.now.input (state_of at.now) t.0 }
+{
+    match tool.tool_enabled(t) {
+        Some(ToolEvent::Stall(_)) => Some(Action::Stall),
+        Some(ToolEvent::Command(_)) => Some(Action::Xl),
+        None => move_first(slots, tool, at, t),
+    }
+}
+
+/// The first action of the machine that may come at t, where `firsts` has the first event of each pool that may. `None` where nothing
+/// may come.
+pub fn whole_first(
+    slots: &[PoolSlot],
+    tool: &ToolState,
+    firsts: &[Option<Action>],
+    at: &Trail,
+    t: Moment,
+) -> Option<Action>
+    requires parts { AreParts at.now slots.now tool.now }
+    requires firsts { AreFirsts t.0 slots.now firsts.now }
+    ensures { result ≡ first_enabled at.now.input (state_of at.now) t.0 }
+{
+    law_whole_first();
+    match tool_first(slots, tool, at, t) {
+        Some(action) => Some(action),
+        None => earliest(firsts),
+    }
+}

@@ -1,0 +1,70 @@
+//! The next moment of the whole machine.
+
+ghost use Rattle.std.specs.Prelude.{◌≡◌, None, option_map};
+ghost use Rattle.sched_base.specs.Numbers.{moment};
+ghost use Rattle.sched_model.specs.Machine.{first_enabled, next_in_horizon};
+ghost use Rattle.journal_core.specs.Parts.{under_way_of};
+ghost use Rattle.actor_laws.specs.Next.{leaves_at, leaving_at, within};
+ghost use Rattle.pool_slots.specs.Places.{state_of};
+ghost use Rattle.machine_parts.specs.Parts.{AreNexts, AreParts};
+
+use crate::order::soonest;
+use actor_laws::laws::law_whole_next;
+use core_state::earlier;
+use cpupool::{Move, ToolState};
+use pool_slots::{PoolSlot, Trail};
+use sched_base::{Moment, ResId};
+
+/// From when on a core may leave its pool.
+fn core_next(slots: &[PoolSlot], tool: &ToolState, at: &Trail, r: ResId) -> Option<Moment>
+    requires parts { AreParts at.now slots.now tool.now }
+    ensures { result ≡ leaves_at at.now.input.config.granularity (state_of at.now) r.0 }
+{
+    match tool.home_of_core(r) {
+        None => None,
+        Some(i) => slots[usize::from(i.0)].moved_next(r),
+    }
+}
+
+/// From when on the core that is on its way out of its pool may leave it.
+fn leaving_next(slots: &[PoolSlot], tool: &ToolState, at: &Trail) -> Option<Moment>
+    requires parts { AreParts at.now slots.now tool.now }
+    ensures { result ≡ leaving_at at.now.input.config.granularity (state_of at.now) (under_way_of (state_of at.now)) }
+{
+    match tool.moving() {
+        Some(Move::Res { r, to: None }) => core_next(slots, tool, at, r),
+        _ => None,
+    }
+}
+
+/// The moment, where it is not past the horizon.
+fn up_to(horizon: Moment, next: Option<Moment>) -> Option<Moment>
+    ensures { result ≡ option_map moment (within horizon.0 next) }
+{
+    match next {
+        Some(at) if at.0 <= horizon.0 => next,
+        _ => None,
+    }
+}
+
+/// The next moment of the run after t, where nothing may come at t and `nexts` has the least moment of each pool at which an event of it
+/// may. `None` where the run is over: nothing more may come up to the horizon.
+pub fn whole_next(
+    slots: &[PoolSlot],
+    tool: &ToolState,
+    nexts: &[Option<Moment>],
+    at: &Trail,
+    t: Moment,
+    horizon: Moment,
+) -> Option<Moment>
+    requires parts { AreParts at.now slots.now tool.now }
+    requires now { t.0 ≡ (state_of at.now).now }
+    requires nexts { AreNexts slots.now nexts.now }
+    requires quiet { first_enabled at.now.input (state_of at.now) t.0 ≡ None }
+    requires horizon { horizon.0 ≡ at.now.input.config.horizon.0 }
+    ensures { result ≡ option_map moment (next_in_horizon at.now.input (state_of at.now)) }
+{
+    law_whole_next();
+    let others = earlier(leaving_next(slots, tool, at), soonest(nexts));
+    up_to(horizon, earlier(tool.next_due(t), others))
+}

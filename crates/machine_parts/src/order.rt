@@ -1,0 +1,81 @@
+//! Which of several actions comes first, and which of several moments is the least.
+
+ghost use Rattle.std.specs.Prelude.{◌≡◌, ◌+◌, ◌*◌};
+ghost use Rattle.std.specs.Option.{ForSome};
+ghost use Rattle.actor_laws.specs.First.{IsEarliest};
+ghost use Rattle.actor_laws.specs.Next.{IsSoonest};
+ghost use Rattle.machine_parts.specs.Ranks.{IsSmall, rank_of, earlier_action};
+
+use core_state::earlier;
+use sched_base::{Moment, UnitId, VcpuId};
+use sched_model::action::Action;
+
+/// The rank of a kind, a subject and an index.
+fn rank(kind: u8, subject: u8, index: u8) -> u32
+    ensures { result ≡ kind * 65536 + subject * 256 + index }
+{
+    u32::from(kind) * 65_536 + u32::from(subject) * 256 + u32::from(index)
+}
+
+/// The rank of an action: its kind, then the number of its subject, then the index of a vCPU or a unit in its domain. Of two actions the
+/// one of the lower rank comes first.
+pub fn rank_of_action(action: Action) -> u32
+    ensures rank { result ≡ rank_of action }
+    ensures small { IsSmall action }
+{
+    match action {
+        Action::Stall => rank(0, 0, 0),
+        Action::Xl => rank(1, 0, 0),
+        Action::Moved(r) => rank(2, r, 0),
+        Action::DomMoved(d) => rank(3, d, 0),
+        Action::Wake(VcpuId { dom, n }) => rank(4, dom.0, n),
+        Action::Block(p) => rank(5, p, 0),
+        Action::Slice(r) => rank(6, r, 0),
+        Action::Repl(UnitId { dom, n }) => rank(7, dom.0, n),
+        Action::Refill(d) => rank(8, d, 0),
+        Action::Arrive(p) => rank(9, p, 0),
+        Action::Decide(r) => rank(10, r, 0),
+        Action::Leave(p) => rank(11, p, 0),
+        Action::Save(r) => rank(12, r, 0),
+    }
+}
+
+/// The earlier of two actions that may be none.
+fn earlier_of(a: Option<Action>, b: Option<Action>) -> Option<Action>
+    ensures earlier { result ≡ earlier_action a b }
+    ensures small { ForSome a IsSmall }
+    ensures other { ForSome b IsSmall }
+{
+    match (a, b) {
+        (None, None) => None,
+        (None, Some(y)) => {
+            rank_of_action(y);
+            b
+        }
+        (Some(x), None) => {
+            rank_of_action(x);
+            a
+        }
+        (Some(x), Some(y)) => if rank_of_action(x) <= rank_of_action(y) { a } else { b },
+    }
+}
+
+/// The earliest of the actions, by kind, number and index. `None` where there are none.
+pub fn earliest(firsts: &[Option<Action>]) -> Option<Action>
+    ensures { IsEarliest firsts.now result }
+{
+    match firsts {
+        [] => None,
+        [first, rest @ ..] => earlier_of(*first, earliest(rest)),
+    }
+}
+
+/// The least of the moments. `None` where there are none.
+pub fn soonest(moments: &[Option<Moment>]) -> Option<Moment>
+    ensures { IsSoonest moments.now result }
+{
+    match moments {
+        [] => None,
+        [at, rest @ ..] => earlier(*at, soonest(rest)),
+    }
+}
