@@ -1,6 +1,6 @@
 -- Where a command makes a pool there is a spare one.
-use Rattle.std.proofs.Common.{◌≡◌, ◌≤◌, ◌<◌, ◌∙◌, ℕ, zero, suc, ◌+◌, Bool, true, false, List, [], ◌∷◌, length, refl, sym, ap, arith}
-use Rattle.std.specs.Prelude.{Option, Some, None, filter, min, slice_get, take, cond}
+use Rattle.std.proofs.Common.{◌≡◌, ◌≤◌, ◌<◌, ◌∙◌, ℕ, zero, suc, Bool, true, false, List, [], ◌∷◌, length, ap, arith}
+use Rattle.std.specs.Prelude.{Option, Some, None, filter, slice_get, take, cond}
 use Rattle.sched_model.specs.declared.config.SchedKind.{SchedKind}
 use Rattle.sched_model.specs.declared.machine.Machine.{Machine}
 use Rattle.sched_model.specs.declared.work.CommandLine.{CommandLine}
@@ -10,7 +10,7 @@ use Rattle.sched_model.specs.Places.{at_place}
 use Rattle.sched_laws.proofs.EachPlace.{by_cond}
 use Rattle.journal_core.specs.Parts.{Outline, ToolPart}
 use Rattle.pool_slots.specs.Spares.{Shelf}
-use Rattle.pool_slots.specs.Counts.{HasSpares, configured_of, in_use_of, made_by, makes_at, most_at_once}
+use Rattle.pool_slots.specs.Counts.{HasSpares, in_use_of, made_by, makes_at}
 
 -- no more are in use than there are places, and fewer where one is empty
 in_use-low : (kind : SchedKind) (places : List (Option Outline)) → in_use_of kind places ≤ length places

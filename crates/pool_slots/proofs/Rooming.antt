@@ -10,13 +10,13 @@ use Rattle.sched_model.specs.declared.state.Domain.{Domain}
 use Rattle.sched_model.specs.declared.state.Pool.{Pool}
 use Rattle.sched_model.specs.Places.{at_place, change_at, clear_at, numbers_from, put_at, test_at}
 use Rattle.sched_model.specs.Policy as policy
-use Rattle.sched_model.specs.Pool.{after_in, change_domain, is_off, marked, pause, queue_if_off, queue_units, set_moving, set_params, settled, unit_count, unpause, with_domain, without_domain}
+use Rattle.sched_model.specs.Pool.{change_domain, is_off, marked, pause, queue_if_off, queue_units, set_moving, set_params, settled, unit_count, unpause, with_domain, without_domain}
 use Rattle.sched_model.specs.State.{is_runnable}
 use Rattle.sched_laws.proofs.EachPlace.{by_cond, by_option}
-use Rattle.step_laws.specs.Faces.{DomainFace, Face, domain_face, face_of}
+use Rattle.step_laws.specs.Faces.{DomainFace, Face, domain_face}
 use Rattle.step_laws.proofs.Faces.{face_kept}
 use Rattle.pool_core.specs.Seen.{Seen, happened, seen_at, with_spare}
-use Rattle.pool_slots.specs.Rooms.{IsPlaced, IsRoomy, most_units, units_in}
+use Rattle.pool_slots.specs.Rooms.{IsPlaced, units_in}
 
 -- how many units the domains have that are seen by their faces
 abbrev faces_units : ℕ → List (Option DomainFace) → ℕ

@@ -1,11 +1,8 @@
 -- A spare pool that is opened, and a pool that becomes a spare one.
-use Rattle.std.proofs.Common.{◌≡◌, ◌∙◌, ℕ, suc, ◌+◌, ◌≤◌, true, false, List, [], ◌∷◌, length, replicate, refl, sym, ap, ap₂, subst, arith}
+use Rattle.std.proofs.Common.{◌≡◌, ◌∙◌, ℕ, suc, true, false, List, [], ◌∷◌, length, replicate, refl, ap, ap₂, arith}
 use Rattle.std.specs.Prelude.{Option, Some, None}
-use Rattle.sched_model.specs.declared.config.Config.{Config}
 use Rattle.sched_model.specs.declared.config.PoolParams.{PoolParams}
 use Rattle.sched_model.specs.declared.config.PoolParams.TheVariants as pool_params
-use Rattle.sched_model.specs.declared.config.SchedKind.{SchedKind}
-use Rattle.sched_model.specs.declared.config.SchedKind.TheVariants as kinds
 use Rattle.sched_model.specs.declared.machine.Machine.{Machine}
 use Rattle.sched_model.specs.declared.state.Domain.{Domain}
 use Rattle.sched_model.specs.declared.state.Pool.{Pool}
@@ -21,10 +18,10 @@ use Rattle.sched_ranges.specs.Ranges.{PoolInRange, RecordsInRange}
 use Rattle.pool_core.specs.Seen.{Seen, IsEmpty}
 use Rattle.pool_slots.specs.Told.{Told}
 use Rattle.pool_slots.specs.Places.{GoesOn, StandsAt, state_of}
-use Rattle.pool_slots.specs.Rooms.{IsPlaced, IsRoomy, most_units, units_in}
-use Rattle.pool_slots.specs.Spares.{HasCorePlaces, IsIdle, IsSpare, SpareSuits, made_seen}
+use Rattle.pool_slots.specs.Rooms.{IsPlaced, units_in}
+use Rattle.pool_slots.specs.Spares.{HasCorePlaces, IsSpare, made_seen}
 use Rattle.pool_slots.proofs.Going.{range-of}
-use Rattle.pool_slots.proofs.Standing.{pool_at, stands-there}
+use Rattle.pool_slots.proofs.Standing.{stands-there}
 
 -- places without anything
 pub empty-places : {X : Type 0} (places : List (Option X)) → ((n : ℕ) → at_place places n ≡ None) → places ≡ replicate (length places) None

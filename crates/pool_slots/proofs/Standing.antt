@@ -22,7 +22,7 @@ use Rattle.step_laws.proofs.PoolSteps.{pool_step}
 use Rattle.order_laws.specs.OrderLaws.{ComesInPool}
 use Rattle.pool_slots.specs.Told.{Told, told_more}
 use Rattle.pool_slots.specs.Places.{GoesOn, HasStepped, SlotSuits, StandsAt, slot_part, state_of}
-use Rattle.pool_slots.proofs.Going.{part_of-is, early, goes-on, state-on, entry-is}
+use Rattle.pool_slots.proofs.Going.{part_of-is, early, goes-on, state-on}
 use Rattle.pool_slots.proofs.AtHome.{own-same, event-there, comes-there}
 
 abbrev pool_in : StatePart → Option Pool

@@ -1,18 +1,14 @@
 -- All places of a machine, of which one pool has done an event.
 use mathlib.Core.Logic.{dite}
 use native.Mathlib.Decide.{ℕ_discrete}
-use Rattle.std.proofs.Common.{◌≡◌, ◌∙◌, ℕ, ◌<◌, true, List, length, refl, sym, ap, subst, arith, length-set, get_or-set_other}
+use Rattle.std.proofs.Common.{◌≡◌, ◌∙◌, ℕ, ◌<◌, true, List, length, sym, ap, subst, arith, length-set, get_or-set_other}
 use Rattle.std.specs.Prelude.{Option, Some, None, slice_index_or, slice_set}
-use Rattle.std.specs.Option.{ForSome}
 use Rattle.std.proofs.lemmas.Grind.{get_or-set_at}
 use Rattle.std.proofs.lemmas.Option.{slice_get-get_or}
 use Rattle.sched_base.specs.Numbers.{moment}
 use Rattle.sched_model.specs.declared.action.Action.{Action}
 use Rattle.sched_model.specs.declared.event.Event.{Event}
 use Rattle.sched_model.specs.declared.event.Entry.{Entry}
-use Rattle.sched_model.specs.declared.machine.Machine.{Machine}
-use Rattle.sched_model.specs.declared.state.Pool.{Pool}
-use Rattle.sched_model.specs.declared.state.State.{State}
 use Rattle.sched_model.specs.Actions.{home_of}
 use Rattle.sched_model.specs.Machine.{is_enabled, event_of, after}
 use Rattle.sched_model.specs.Places.{at_place}

@@ -1,5 +1,5 @@
 -- How many spare pools a machine needs.
-use Rattle.std.specs.Prelude.{ℕ, suc, ◌≡◌, ◌≤◌, ◌+◌, Bool, false, List, [], ◌∷◌, Option, Some, None, Result, Ok, Err, filter, unwrap_or, length, min, take, if◌then◌else◌}
+use Rattle.std.specs.Prelude.{ℕ, suc, ◌≡◌, ◌≤◌, ◌+◌, Bool, false, List, [], ◌∷◌, Option, Some, None, Ok, Err, filter, unwrap_or, length, min, take, if◌then◌else◌}
 use Rattle.sched_model.specs.declared.command.Command.{Command}
 use Rattle.sched_model.specs.declared.command.Command.TheVariants as command
 use Rattle.sched_model.specs.declared.config.PoolConfig.{PoolConfig}

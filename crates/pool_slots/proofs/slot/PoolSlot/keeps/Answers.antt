@@ -1,4 +1,4 @@
-use Rattle.std.proofs.Common.{◌≡◌, ◌∙◌, subst}
+use Rattle.std.proofs.Common.{subst}
 use Rattle.pool_slots.specs.Rooms.{IsPlaced}
 use Rattle.pool_slots.proofs.Rooming.{same-value}
 use Rattle.pool_slots.proofs.slot.PoolSlot.keeps.Goals as goal

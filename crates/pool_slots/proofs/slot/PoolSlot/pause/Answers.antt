@@ -1,4 +1,4 @@
-use Rattle.std.proofs.Common.{refl, sym, subst}
+use Rattle.std.proofs.Common.{sym, subst}
 use Rattle.sched_model.specs.Pool.{pause, settled}
 use Rattle.pool_core.specs.Seen.{Seen}
 use Rattle.pool_slots.specs.Rooms.{IsPlaced}
