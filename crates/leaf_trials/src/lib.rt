@@ -10,8 +10,6 @@ mod dues;
 #[cfg(test)]
 mod histories;
 #[cfg(test)]
-mod places;
-#[cfg(test)]
 mod queues;
 #[cfg(test)]
 mod resets;
