@@ -43,6 +43,7 @@ fn sure_store(rt: &HostRuntime, words: &[String]) -> Result<SureStore, NoMemory>
 }
 
 /// A store that has no memory for what a name holds.
+#[derive(Drop)]
 struct ScantStore {}
 
 impl Store for ScantStore {
@@ -94,6 +95,7 @@ pub fn try_scantly(rt: &HostRuntime, words: &[String]) -> Status {
     let Ok(mut sink) = MemSink::room(rt.alloc(), ROOM, &[]) else {
         return Status::NoMemory;
     };
-    let status = xensched(rt.alloc(), words, &mut ScantStore {}, &mut sink);
+    let mut store = ScantStore {};
+    let status = xensched(rt.alloc(), words, &mut store, &mut sink);
     printed(rt, sink.bytes(), status)
 }
