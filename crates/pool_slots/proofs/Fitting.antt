@@ -14,7 +14,8 @@ use Rattle.sched_ranges.specs.Ranges.{DomainInRange, PoolInRange}
 use Rattle.pool_core.specs.Seen.{Seen, IsNow}
 use Rattle.pool_slots.specs.Told.{Told}
 use Rattle.pool_slots.specs.Places.{GoesOn, StandsAt, state_of}
-use Rattle.pool_slots.specs.Rooms.{IsPlaced, most_units, units_in}
+use Rattle.unit_state.specs.Kept.{units_in}
+use Rattle.pool_slots.specs.Rooms.{IsPlaced, most_units}
 use Rattle.pool_slots.proofs.Going.{early, range-of}
 use Rattle.pool_slots.proofs.Standing.{stands-there}
 
@@ -38,7 +39,7 @@ Follows places configs = (k : ℕ) (x : Domain) → at_place places k ≡ Some x
 
 units-low : (g n : ℕ) (places : List (Option Domain)) (configs : List DomConfig) → Follows places configs → units_in g places ≤ length (units_from g n configs)
 units-low g n [] configs follows = omega arith
-units-low g n (None ∷ places) [] follows = units-low g (suc n) places [] (λ k x at. let f = follows (suc k) x at in absurd (let none = f.1 in cc))
+units-low g n (None ∷ places) [] follows = (let rest = units-low g (suc n) places [] (λ k x at. let f = follows (suc k) x at in absurd (let none = f.1 in cc)) in omega (arith, rest))
 units-low g n (Some x ∷ places) [] follows = absurd (let f = follows 0 x refl in let none = f.1 in cc)
 units-low g n (None ∷ places) (c ∷ configs) follows =
     let rest = units-low g (suc n) places configs (λ k x at. follows (suc k) x at) in

@@ -1,5 +1,5 @@
 -- The room of a pool stays as its domains keep their vCPUs.
-use Rattle.std.proofs.Common.{◌≡◌, ◌≤◌, ◌<◌, ◌∙◌, ℕ, zero, suc, ◌+◌, ◌-◌, ◌/◌, ◌&&◌, true, false, List, [], ◌∷◌, length, map, refl, sym, ap, subst, arith}
+use Rattle.std.proofs.Common.{◌≡◌, ◌≤◌, ◌<◌, ◌∙◌, ℕ, ◌+◌, ◌-◌, ◌/◌, ◌&&◌, true, false, List, [], ◌∷◌, length, map, refl, sym, ap, subst, arith}
 use Rattle.std.specs.Prelude.{Option, Some, None, option_map}
 use Rattle.sched_base.specs.Numbers.{domain as domain_number, pool as pool_number}
 use Rattle.sched_model.specs.declared.action.Action.{Action}
@@ -8,26 +8,31 @@ use Rattle.sched_model.specs.declared.config.ParamChange.{ParamChange}
 use Rattle.sched_model.specs.declared.config.ParamChange.TheVariants as changes
 use Rattle.sched_model.specs.declared.state.Domain.{Domain}
 use Rattle.sched_model.specs.declared.state.Pool.{Pool}
-use Rattle.sched_model.specs.Places.{at_place, change_at, clear_at, numbers_from, put_at, test_at}
+use Rattle.sched_model.specs.Places.{at_place, numbers_from, put_at, test_at}
 use Rattle.sched_model.specs.Policy as policy
 use Rattle.sched_model.specs.Pool.{change_domain, is_off, marked, pause, queue_if_off, queue_units, set_moving, set_params, settled, unit_count, unpause, with_domain, without_domain}
 use Rattle.sched_model.specs.State.{is_runnable}
 use Rattle.sched_laws.proofs.EachPlace.{by_cond, by_option}
 use Rattle.step_laws.specs.Faces.{DomainFace, Face, domain_face}
 use Rattle.step_laws.proofs.Faces.{face_kept}
+use Rattle.unit_state.specs.Kept.{units_in}
+use Rattle.unit_state.proofs.PlaceLemmas.{units_in-put_at, units_in-clear_at, units_in-change_at}
 use Rattle.pool_core.specs.Seen.{Seen, happened, seen_at, with_spare}
-use Rattle.pool_slots.specs.Rooms.{IsPlaced, units_in}
+use Rattle.pool_slots.specs.Rooms.{IsPlaced}
 
--- how many units the domains have that are seen by their faces
+-- how many units stand at a place that is seen by its face; at all places
+abbrev face_units : ℕ → Option DomainFace → ℕ
+face_units g None = 0
+face_units g (Some face) = (face.vcpus + g - 1) / g
+
 abbrev faces_units : ℕ → List (Option DomainFace) → ℕ
 faces_units g [] = 0
-faces_units g (None ∷ faces) = faces_units g faces
-faces_units g (Some face ∷ faces) = (face.vcpus + g - 1) / g + faces_units g faces
+faces_units g (face ∷ faces) = face_units g face + faces_units g faces
 
 by-faces : (g : ℕ) (places : List (Option Domain)) → units_in g places ≡ faces_units g (map (option_map domain_face) places)
 by-faces g [] = refl
-by-faces g (None ∷ places) = by-faces g places
-by-faces g (Some d ∷ places) = ap (λ n. unit_count g d + n) (by-faces g places)
+by-faces g (None ∷ places) = ap (λ (n : ℕ). 0 + n) (by-faces g places)
+by-faces g (Some d ∷ places) = ap (λ (n : ℕ). unit_count g d + n) (by-faces g places)
 
 pub units-same : (g : ℕ) (places others : List (Option Domain)) → map (option_map domain_face) places ≡ map (option_map domain_face) others → units_in g places ≡ units_in g others
 units-same g places others same = by-faces g places ∙ ap (faces_units g) same ∙ sym (by-faces g others)
@@ -59,14 +64,6 @@ placed-same seen t pool same placed = record { used = placed.used; roomy = recor
 pub placed-still : (seen : Seen) (pool : Pool) → units_in seen.granularity pool.domains ≡ units_in seen.granularity seen.pool.domains → IsPlaced seen → IsPlaced (record seen { pool = pool })
 placed-still seen pool same placed = record { used = placed.used; roomy = record { room = ap (λ n. n + seen.spare) same ∙ placed.roomy.room } }
 
--- a change of a domain that keeps its vCPUs
-units-changed : (g d : ℕ) (f : Domain → Domain) (places : List (Option Domain)) → ((x : Domain) → length (f x).vcpus ≡ length x.vcpus) → units_in g (change_at d f places) ≡ units_in g places
-units-changed g d f [] keeps = refl
-units-changed g zero f (None ∷ places) keeps = refl
-units-changed g zero f (Some x ∷ places) keeps = ap (λ k. (k + g - 1) / g + units_in g places) (keeps x)
-units-changed g (suc d) f (None ∷ places) keeps = units-changed g d f places keeps
-units-changed g (suc d) f (Some x ∷ places) keeps = ap (λ n. unit_count g x + n) (units-changed g d f places keeps)
-
 -- the units that wait are no matter
 domains-queued : (g d : ℕ) (ns : List ℕ) (pool : Pool) → (queue_units g d ns pool).domains ≡ pool.domains
 domains-queued g d [] pool = refl
@@ -76,16 +73,16 @@ domains-queued g d (n ∷ ns) pool =
 
 pub units-paused : (g d : ℕ) (pool : Pool) → units_in g (pause d pool).domains ≡ units_in g pool.domains
 units-paused g d pool =
-    by_cond (λ (next : Pool). units_in g next.domains ≡ units_in g pool.domains) (test_at pool.domains d (λ domain. domain.paused)) _ _ (λ already. refl) (λ not_yet. units-changed g d (λ domain. record domain { paused = true }) pool.domains (λ x. refl))
+    by_cond (λ (next : Pool). units_in g next.domains ≡ units_in g pool.domains) (test_at pool.domains d (λ domain. domain.paused)) _ _ (λ already. refl) (λ not_yet. units_in-change_at g d (λ domain. record domain { paused = true }) pool.domains (λ x. refl))
 
 pub units-moving : (g d i : ℕ) (pool : Pool) → units_in g (set_moving d i pool).domains ≡ units_in g pool.domains
-units-moving g d i pool = units-changed g d (λ domain. record domain { moving = Some (pool_number i) }) pool.domains (λ x. refl)
+units-moving g d i pool = units_in-change_at g d (λ domain. record domain { moving = Some (pool_number i) }) pool.domains (λ x. refl)
 
 pub units-unpaused : (g d : ℕ) (pool : Pool) → units_in g (unpause g d pool).domains ≡ units_in g pool.domains
 units-unpaused g d pool =
     by_option (λ (next : Pool). units_in g next.domains ≡ units_in g pool.domains) (at_place pool.domains d) _ _ (λ none. refl)
     (λ x at. by_cond (λ (next : Pool). units_in g next.domains ≡ units_in g pool.domains) x.paused _ _
-    (λ is. ap (units_in g) (domains-queued g d (numbers_from 0 (unit_count g x)) (change_domain d (λ y. record y { paused = false }) pool)) ∙ units-changed g d (λ y. record y { paused = false }) pool.domains (λ y. refl))
+    (λ is. ap (units_in g) (domains-queued g d (numbers_from 0 (unit_count g x)) (change_domain d (λ y. record y { paused = false }) pool)) ∙ units_in-change_at g d (λ y. record y { paused = false }) pool.domains (λ y. refl))
     (λ is. refl))
 
 domains-marked : (change : ParamChange) (t : ℕ) (pool : Pool) → (marked change t pool).domains ≡ pool.domains
@@ -100,34 +97,20 @@ pub units-set : (g t : ℕ) (change : ParamChange) (pool : Pool) → units_in g 
 units-set g t change pool = ap (units_in g) (domains-marked change t (record pool { scheduler = policy.set_params change t pool.scheduler }))
 
 -- a domain that comes and one that goes
-units-put : (g d : ℕ) (x : Domain) (places : List (Option Domain)) → d < length places → at_place places d ≡ None → units_in g (put_at d x places) ≡ unit_count g x + units_in g places
-units-put g d x [] inside absent = absurd (omega (arith, inside))
-units-put g zero x (None ∷ places) inside absent = refl
-units-put g zero x (Some y ∷ places) inside absent = absurd (cc)
-units-put g (suc d) x (None ∷ places) inside absent = units-put g d x places (omega (arith, inside)) absent
-units-put g (suc d) x (Some y ∷ places) inside absent = (let rest = units-put g d x places (omega (arith, inside)) absent in omega (arith, rest))
-
-units-cleared : (g d : ℕ) (x : Domain) (places : List (Option Domain)) → at_place places d ≡ Some x → units_in g (clear_at d places) + unit_count g x ≡ units_in g places
-units-cleared g d x [] at = absurd (cc)
-units-cleared g zero x (None ∷ places) at = absurd (cc)
-units-cleared g zero x (Some y ∷ places) at = (let same : unit_count g y ≡ unit_count g x = (let e : y ≡ x = cc in ap (unit_count g) e) in omega (arith, same))
-units-cleared g (suc d) x (None ∷ places) at = units-cleared g d x places at
-units-cleared g (suc d) x (Some y ∷ places) at = (let rest = units-cleared g d x places at in omega (arith, rest))
-
 placed-given_here : (seen : Seen) (t d : ℕ) (x : Domain) (params : DomParams) → d < length seen.pool.domains → at_place seen.pool.domains d ≡ None → unit_count seen.granularity x ≤ seen.spare → IsPlaced seen
     → IsPlaced (with_spare (seen.spare - unit_count seen.granularity x) (seen_at t (settled t (with_domain seen.granularity t d x params seen.pool)) seen))
 placed-given_here seen t d x params inside absent room placed =
     let g = seen.granularity in
     let queued : units_in g (with_domain g t d x params seen.pool).domains ≡ units_in g (put_at d x seen.pool.domains) =
     ap (units_in g) (domains-queued g d (numbers_from 0 (unit_count g x)) (record seen.pool { domains = put_at d x seen.pool.domains; scheduler = policy.join d (unit_count g x) params t seen.pool.scheduler })) in
-    let put = units-put g d x seen.pool.domains inside absent in
+    let put = units_in-put_at g d x seen.pool.domains inside absent in
     let all = placed.roomy.room in
     record { used = placed.used; roomy = record { room = omega (arith, queued, put, all, room) } }
 
 placed-taken_here : (seen : Seen) (d : ℕ) (x : Domain) → at_place seen.pool.domains d ≡ Some x → IsPlaced seen
     → IsPlaced (with_spare (seen.spare + unit_count seen.granularity x) (record seen { pool = without_domain d seen.pool }))
 placed-taken_here seen d x at placed =
-    let cleared = units-cleared seen.granularity d x seen.pool.domains at in
+    let cleared = units_in-clear_at seen.granularity d x seen.pool.domains at in
     let all = placed.roomy.room in
     record { used = placed.used; roomy = record { room = omega (arith, cleared, all) } }
 

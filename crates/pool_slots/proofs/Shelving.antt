@@ -18,7 +18,8 @@ use Rattle.sched_ranges.specs.Ranges.{PoolInRange, RecordsInRange}
 use Rattle.pool_core.specs.Seen.{Seen, IsEmpty}
 use Rattle.pool_slots.specs.Told.{Told}
 use Rattle.pool_slots.specs.Places.{GoesOn, StandsAt, state_of}
-use Rattle.pool_slots.specs.Rooms.{IsPlaced, units_in}
+use Rattle.unit_state.specs.Kept.{units_in}
+use Rattle.pool_slots.specs.Rooms.{IsPlaced}
 use Rattle.pool_slots.specs.Spares.{HasCorePlaces, IsSpare, made_seen}
 use Rattle.pool_slots.proofs.Going.{range-of}
 use Rattle.pool_slots.proofs.Standing.{stands-there}
@@ -30,7 +31,7 @@ empty-places (x ∷ places) none = ap₂ (λ (y : Option _) (ys : List (Option _
 
 pub no-units : (g : ℕ) (places : List (Option Domain)) → ((n : ℕ) → at_place places n ≡ None) → units_in g places ≡ 0
 no-units g [] none = refl
-no-units g (None ∷ places) none = no-units g places (λ n. none (suc n))
+no-units g (None ∷ places) none = (let rest = no-units g places (λ n. none (suc n)) in omega (arith, rest))
 no-units g (Some d ∷ places) none = absurd (let here = none 0 in cc)
 
 -- the records of a pool with new parameters are those of the machine's empty pool
