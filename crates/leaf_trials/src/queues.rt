@@ -2,8 +2,9 @@
 
 use rtds_queue::{RtdsKey, RtdsQueues};
 use runq::{Allowed, Runq};
-use sched_base::{Cores, DomId, Masks, Moment, ResId, UnitId};
+use sched_base::{Cores, DomId, Moment, ResId, UnitId};
 use std::test::Fail;
+use unit_places::Masks;
 
 fn unit(n: u8) -> UnitId {
     UnitId {
