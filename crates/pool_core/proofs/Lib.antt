@@ -19,4 +19,5 @@ pub mod Goers
 pub mod Parting
 pub mod Telling
 pub mod ByActor
+pub mod Setting
 pub mod Spared

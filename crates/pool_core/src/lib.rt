@@ -12,6 +12,8 @@ mod due;
 mod params;
 pub mod pool;
 mod settling;
+pub mod units;
 mod waking;
 
 pub use pool::PoolState;
+pub use units::RtdsGiven;

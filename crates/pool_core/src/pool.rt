@@ -7,6 +7,7 @@ use crate::domains::{join, pause, set_moving, take, unpause};
 use crate::due::{first_enabled, next_moment};
 use crate::params::{facts, part_of, set_params};
 use crate::settling::settle;
+use crate::units::{RtdsGiven, set_units};
 use crate::waking::{save, wake};
 use core_state::CoreState;
 use plain_pool::cores::has_come;
@@ -49,9 +50,11 @@ impl<P: Policy> Model for PoolState<P> {
 }
 
 impl<P: Policy> PoolState<P> {
-    ghost use Rattle.std.specs.Prelude.{◌≡◌, ℕ, ◌≤◌, ◌<◌, ◌+◌, ◌-◌, ◌*◌, true, false, IsTrue, IfOk, None, Some, length, map, option_map};
+    ghost use Rattle.std.specs.Prelude.{◌≡◌, ℕ, ◌≤◌, ◌<◌, ◌+◌, ◌-◌, ◌*◌, true, false, is_some, IsTrue, IfOk, None, Some, length, map, option_map};
     ghost use Rattle.sched_model.specs.Checked.{IsGranularity};
-    ghost use Rattle.sched_model.specs.Places.{at_place};
+    ghost use Rattle.sched_model.specs.State.{has_core as has_bit};
+    ghost use Rattle.sched_model.specs.Commands.{set_rtds};
+    ghost use Rattle.sched_model.specs.Places.{at_place, numbers_from};
     ghost use Rattle.sched_model.specs.Policy.{default_pool_params, kind_of, rate_of};
     ghost use Rattle.sched_ops.specs.Conditions.{AreDomParams, ArePoolParams, IsChange, is_vacant};
     ghost use Rattle.sched_ops.specs.Seen.{restarted};
@@ -61,8 +64,9 @@ impl<P: Policy> PoolState<P> {
     ghost use Rattle.pool_laws.specs.Settling.{IsSettled};
     ghost use Rattle.pool_kept.specs.Holds.{Holds};
     ghost use Rattle.plain_pool.specs.Own.{IsOfPool};
-    ghost use Rattle.pool_core.specs.Params.{stored_in};
+    ghost use Rattle.pool_core.specs.Params.{AreGiven, stored_in};
     ghost use Rattle.unit_state.specs.Parts.{IsPart};
+    ghost use Rattle.unit_state.specs.Seen.{units_at};
     ghost use Rattle.pool_core.specs.Actors.{IsFirstBy};
     ghost use Rattle.pool_core.specs.Order.{IsFirstEnabled, IsNextMoment};
     ghost use Rattle.sched_model.specs.declared.action.Action.TheVariants.{Arrive, Block, Decide, DomMoved, Leave, Moved, Refill, Repl, Save, Slice, Wake};
@@ -175,6 +179,21 @@ impl<P: Policy> PoolState<P> {
         self.look();
     }
 
+    /// So many units of the domain, from the unit first on, get new RTDS parameters; what is not given stays as it was set. They are
+    /// in force from a unit's next replenishment on. Where the scheduler is another, nothing changes but by the look at the cores.
+    pub fn set_units(&mut self, d: DomId, first: u8, count: u8, given: RtdsGiven, t: Moment)
+        requires now { IsNow self.old t.0 }
+        requires units { first + count ≤ units_at self.old.granularity (at_place self.old.pool.domains d.0) }
+        requires given { 0 < count → AreGiven given.period given.budget }
+        ensures { self.new ≡ seen_at t.0 (settled t.0 (set_rtds t.0 d.0 given.period given.budget given.extra (numbers_from first count) self.old.pool)) self.old }
+    {
+        self.guests.keeps();
+        set_units(&mut self.policy, d, first, count, given, t);
+        self.latest = t;
+        self.settled = false;
+        self.look();
+    }
+
     /// The rate limit in microseconds, 0 where the scheduler has none, and the set values of the units of the domain, where one is
     /// named: in order, at most 32, and none where the domain is not here.
     pub fn facts(&self, d: Option<DomId>) -> Facts
@@ -182,6 +201,15 @@ impl<P: Policy> PoolState<P> {
         ensures units { map Some result.units ≡ stored_in self.now.granularity self.now.pool.domains self.now.pool.scheduler.records d }
     {
         facts(&self.guests, &self.policy, d)
+    }
+
+    /// The cores and the domains that are here: core r is bit r of the first number, domain d is bit d of the second.
+    #[tactic(auto, using(sched_laws::proofs::HomeCores::home_has))]
+    pub fn members(&self) -> (u64, u64)
+        ensures cores { (r : ℕ) → has_bit result.0 r ≡ is_some (at_place self.now.pool.resources r) }
+        ensures domains { (d : ℕ) → has_bit result.1 d ≡ is_some (at_place self.now.pool.domains d) }
+    {
+        (self.cores.home(), self.guests.members())
     }
 
     /// A domain, none of whose vCPUs is started, comes into a pool that is in use, with these parameters. Its units that are runnable

@@ -1,3 +1,4 @@
 pub mod GuestLemmas
+pub mod Members
 pub mod PlaceLemmas
 pub mod SleeperLemmas

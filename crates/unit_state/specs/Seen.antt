@@ -1,5 +1,5 @@
 -- What callers see of a pool's guests, what its calls ask, and what a change of one vCPU or one domain makes of it.
-use Rattle.std.specs.Prelude.{ℕ, ◌≡◌, ◌≤◌, Bool, true, false, List, Option, Some, None, replicate, is_some}
+use Rattle.std.specs.Prelude.{ℕ, suc, ◌≡◌, ◌≤◌, ◌+◌, ◌^◌, Bool, true, false, List, [], ◌∷◌, Option, Some, None, replicate, is_some, if◌then◌else◌}
 use Rattle.sched_base.specs.declared.Moment.{Moment}
 use Rattle.sched_base.specs.declared.PoolId.{PoolId}
 use Rattle.sched_base.specs.declared.VcpuId.{VcpuId}
@@ -68,3 +68,8 @@ is_paused_among domains d = test_at domains d (λ x. x.paused)
 -- the pool to which the domain is moving, where it is there and moving
 abbrev pub target_among : List (Option Domain) → ℕ → Option PoolId
 target_among domains d = elim (at_place domains d) [ None ↦ None | Some x ↦ x.moving ]
+
+-- the set of these domains, of which the first has the number d
+abbrev pub domains_from : ℕ → List (Option Domain) → ℕ
+domains_from d [] = 0
+domains_from d (x ∷ domains) = (if is_some x then 2 ^ d else 0) + domains_from (suc d) domains

@@ -1,9 +1,10 @@
 //! The domains of one pool, and their vCPUs.
 
-ghost use Rattle.std.specs.Prelude.{◌≡◌, true, is_some, IfOk, None, Some, replicate};
+ghost use Rattle.std.specs.Prelude.{◌≡◌, ◌≤◌, true, is_some, IfOk, None, Some, length, replicate};
 ghost use Rattle.std.specs.Option.{option_copied};
 ghost use Rattle.sched_model.specs.declared.state.Domain.{Domain as DomainRecord};
 ghost use Rattle.sched_model.specs.Places.{at_place, change_at, clear_at};
+ghost use Rattle.unit_state.specs.Seen.{domains_from};
 
 use crate::part::DomPart;
 use crate::sleepers::{IDS, rearm, rearm_domain, vcpu_with, wake_moment};
@@ -65,6 +66,20 @@ fn domain_of(domains: &[Option<Domain>], d: DomId) -> Option<&Domain>
     }
 }
 
+/// The set of the domains that are there.
+fn home_domains(domains: &[Option<Domain>]) -> u64
+    requires { length domains.now ≤ 64 }
+    ensures { result ≡ domains_from 0 domains.now }
+{
+    let mut set = 0u64;
+    for d in 0..domains.len() {
+        if domains[d].is_some() {
+            set += 1u64 << d;
+        }
+    }
+    set
+}
+
 /// The domain is paused, or no longer.
 fn pause_at(domains: &mut Row<Option<Domain>>, d: DomId, yes: bool)
     ensures { domains.new ≡ change_at d.0 (λ (x : DomainRecord). record x { paused = yes }) domains.old }
@@ -102,7 +117,7 @@ fn take_out(domains: &mut Row<Option<Domain>>, d: DomId) -> Domain
 }
 
 impl Guests {
-    ghost use Rattle.std.specs.Prelude.{◌≡◌, ◌≤◌, ◌<◌, ◌+◌, ◌-◌, false, true, is_some, IfOk, IfSome, IfNone, length, None, Some};
+    ghost use Rattle.std.specs.Prelude.{◌≡◌, ◌≤◌, ◌<◌, ◌+◌, ◌-◌, ℕ, false, true, is_some, IfOk, IfSome, IfNone, length, None, Some};
     ghost use Rattle.std.specs.Option.{ForSome};
     ghost use Rattle.sched_base.specs.Numbers.{moment};
     ghost use Rattle.sched_base.specs.declared.VcpuId.{VcpuId};
@@ -111,7 +126,7 @@ impl Guests {
     ghost use Rattle.sched_model.specs.declared.state.Domain.{Domain as DomainRecord};
     ghost use Rattle.sched_model.specs.Checked.{IsGranularity};
     ghost use Rattle.sched_model.specs.Places.{at_place, change_at, clear_at, put_at};
-    ghost use Rattle.sched_model.specs.State.{has_come, runnable_among};
+    ghost use Rattle.sched_model.specs.State.{has_come, has_core as has_bit, runnable_among};
     ghost use Rattle.sched_model.specs.Pool.{put_to_sleep, stopped, unit_count as unit_count_spec, woken};
     ghost use Rattle.unit_state.specs.Seen.{IsNow, IsNotAfter, change_among, done_among, is_awake_among, is_due_among, is_paused_among, start_among, target_among, units_at, vacant, wake_among};
     ghost use Rattle.unit_state.specs.Parts.{IsPart, IsStill};
@@ -333,6 +348,14 @@ impl Guests {
             Some((at, _)) => Some(at),
             None => None,
         }
+    }
+
+    /// The domains that are here, with bit d for the domain d.
+    #[tactic(auto, using(crate::proofs::Members::has_domain))]
+    pub fn members(&self) -> u64
+        ensures { (d : ℕ) → has_bit result d ≡ is_some (at_place self.now.domains d) }
+    {
+        home_domains(self.domains.as_slice())
     }
 
     /// How many vCPUs a unit has: 1, 2 or 4.
