@@ -91,7 +91,7 @@ pub fn empty_pool(alloc: Global, config: &Config, params: &PoolParams) -> Result
 }
 
 /// The parameters that a pool has where none are given.
-fn default_params(kind: SchedKind) -> PoolParams
+pub fn default_params(kind: SchedKind) -> PoolParams
     ensures { result ≡ default_pool_params_spec kind }
 {
     match kind {

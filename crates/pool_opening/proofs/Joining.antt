@@ -1,5 +1,5 @@
 -- The domains come in one after another.
-use Rattle.std.proofs.Common.{◌≡◌, ◌≤◌, ◌<◌, ◌+◌, ◌-◌, ◌/◌, ℕ, zero, suc, true, false, List, [], ◌∷◌, refl, sym, ap, subst, ◌∙◌, cond, arith, length, inl, inr}
+use Rattle.std.proofs.Common.{◌≡◌, ◌≤◌, ◌<◌, ◌+◌, ◌-◌, ◌/◌, ℕ, zero, suc, Bool, true, false, List, [], ◌∷◌, refl, sym, ap, subst, ◌∙◌, cond, arith, length, inl, inr}
 use Rattle.std.specs.Prelude.{Option, Some, None, drop, map, slice_get, ◌==◌}
 use Rattle.std.proofs.lemmas.List.{length-append, length-map}
 use Rattle.sched_base.specs.Numbers.{domain}
@@ -20,11 +20,12 @@ use Rattle.sched_laws.proofs.EachPlace.{at_place-put_at_other, length_set}
 use Rattle.sched_laws.proofs.Opened.{length_map_numbers, with_configured-resources, with_domain-domains, with_domain-resources}
 use Rattle.sched_ops.specs.Conditions.{has_joined}
 use Rattle.sched_ops.specs.Seen.{units_of}
+use Rattle.unit_state.specs.Kept.{units_in}
 use Rattle.unit_state.specs.Parts.{IsPart}
+use Rattle.unit_state.proofs.PlaceLemmas.{units_in-put_at}
 use Rattle.pool_core.specs.Seen.{Seen, seen_at, with_spare}
-use Rattle.pool_opening.specs.Opened.{IsOpening, IsStill, configured, fresh_domain, joined, unit_total, units_in_all, with_all, with_pool}
+use Rattle.pool_opening.specs.Opened.{IsOpening, IsStill, configured, configured_if, fresh_domain, joined, unit_total, units_at_home, units_if_home, units_in_all, with_all, with_pool}
 use Rattle.pool_opening.proofs.Guests.{fresh_guests, fresh_still}
-use Rattle.pool_opening.proofs.Parameters.{home_first}
 use Rattle.pool_opening.proofs.Pinning.{domains_pinned, has_come_in, kind_joined, kind_pinned, sets_joined, sets_pinned, units_come_in}
 use Rattle.pool_opening.proofs.Steady.{stays}
 
@@ -33,16 +34,6 @@ pub units_split : (g d : ℕ) (joining : DomConfig) (rest : List DomConfig) → 
 units_split g d joining rest =
     length-append (map (λ (n : ℕ). _) (numbers_from 0 (unit_total g joining))) (units_from g (suc d) rest)
     ∙ ap (λ (k : ℕ). k + units_in_all g (suc d) rest) (length_map_numbers _ 0 (unit_total g joining))
-
--- there is room for the first of them, and for the others then
-pub room_of_first : (g d : ℕ) (joining : DomConfig) (rest : List DomConfig) (room : ℕ) → units_in_all g d (joining ∷ rest) ≤ room → unit_total g joining ≤ room
-room_of_first g d joining rest room fit = let split = units_split g d joining rest in omega (arith, split, fit)
-
-pub room_of_rest : (g d : ℕ) (joining : DomConfig) (rest : List DomConfig) (room : ℕ) → units_in_all g d (joining ∷ rest) ≤ room → units_in_all g (d + 1) rest ≤ room - unit_total g joining
-room_of_rest g d joining rest room fit =
-    let split = units_split g d joining rest in
-    let next : d + 1 ≡ suc d = omega arith in
-    subst (λ (k : ℕ). units_in_all g k rest ≤ room - unit_total g joining) (sym next) (omega (arith, split, fit))
 
 -- a domain at the opening has as many units as the file says
 pub count_fresh : (g : ℕ) (joining : DomConfig) → unit_count g (fresh_domain joining) ≡ unit_total g joining
@@ -73,27 +64,72 @@ module _ (config : Config) (home : PoolConfig) (d : ℕ) (joining : DomConfig) (
   domains_after = domains_pinned d 0 joining.pins before_pins ∙ with_domain-domains config.granularity 0 d (fresh_domain joining) joining.params seen.pool
 
   -- the next domain may come
-  pub goes_on : IsOpening config home (d + 1) (configured config.granularity d joining seen)
-  goes_on = record {
+  pub goes_on : d < length config.domains → unit_total config.granularity joining ≤ seen.spare → IsOpening config home (d + 1) (configured config.granularity d joining seen)
+  goes_on inside room = record {
     still = record { used = opening.still.used; early = opening.still.early; pending = rw (with_configured-resources config.granularity d joining seen.pool) opening.still.pending };
     granularity = opening.granularity;
     kind = kind_pinned d 0 joining.pins before_pins ∙ kind_joined config.granularity d (fresh_domain joining) joining.params seen.pool ∙ opening.kind;
     places = ap (λ (list : List (Option Domain)). length list) domains_after ∙ length_set d (Some (fresh_domain joining)) seen.pool.domains ∙ opening.places;
     sets = sets_pinned d 0 joining.pins before_pins ∙ sets_joined config.granularity d (fresh_domain joining) joining.params seen.pool ∙ opening.sets;
     absent = λ n later. rw domains_after (at_place-put_at_other d n (fresh_domain joining) seen.pool.domains (λ e. omega (arith, e, later)) ∙ opening.absent n (omega (arith, later)));
+    room =
+        let place : d < length seen.pool.domains = (let all = opening.places in omega (arith, all, inside)) in
+        let more : units_in seen.granularity (put_at d (fresh_domain joining) seen.pool.domains) ≡ units_in seen.granularity seen.pool.domains + unit_count seen.granularity (fresh_domain joining) =
+        units_in-put_at seen.granularity d (fresh_domain joining) seen.pool.domains place (opening.absent d (omega arith)) in
+        let now : units_in seen.granularity after.domains ≡ units_in seen.granularity (put_at d (fresh_domain joining) seen.pool.domains) = ap (units_in seen.granularity) domains_after in
+        let count : unit_count seen.granularity (fresh_domain joining) ≡ unit_total config.granularity joining = ap (λ (g : ℕ). unit_count g (fresh_domain joining)) opening.granularity ∙ count_fresh config.granularity joining in
+        let before = opening.room in
+        omega (arith, more, now, count, before, room);
+  }
+
+  -- the same where it is passed by
+  pub goes_by : IsOpening config home (d + 1) seen
+  goes_by = record {
+    still = opening.still;
+    granularity = opening.granularity;
+    kind = opening.kind;
+    places = opening.places;
+    sets = opening.sets;
+    absent = λ n later. opening.absent n (omega (arith, later));
+    room = opening.room;
   }
 
 -- the first domain and then the others are all of them
-pub first_and_rest : (config : Config) (home : PoolConfig) (d : ℕ) (joining : DomConfig) (rest : List DomConfig) (seen : Seen) → config.pools ≡ home ∷ [] → IsCheckedDomain config joining
-    → with_all config.granularity (d + 1) rest (configured config.granularity d joining seen) ≡ with_all config.granularity d (joining ∷ rest) seen
-first_and_rest config home d joining rest seen alone checked =
-    let g : ℕ = config.granularity in
-    let next : d + 1 ≡ suc d = omega arith in
-    let first : joining.home.0 ≡ 0 = home_first config home alone joining checked in
-    let spare : seen.spare - unit_total g joining - units_in_all g (suc d) rest ≡ seen.spare - units_in_all g d (joining ∷ rest) = (let split = units_split g d joining rest in omega (arith, split)) in
-    ap (λ (k : ℕ). with_all g k rest (configured g d joining seen)) next
-    ∙ ap (λ (k : ℕ). record seen { pool = with_domains g 0 (suc d) rest (with_configured g d joining seen.pool); spare = k }) spare
-    ∙ ap (λ (k : ℕ). record seen { pool = with_domains g 0 (suc d) rest (cond (k == 0) (with_configured g d joining seen.pool) seen.pool); spare = seen.spare - units_in_all g d (joining ∷ rest) }) (sym first)
+pub first_and_rest : (g i d : ℕ) (joining : DomConfig) (rest : List DomConfig) (seen : Seen) → with_all g i (d + 1) rest (configured_if g i d joining seen) ≡ with_all g i d (joining ∷ rest) seen
+first_and_rest g i d joining rest seen = ap (λ (k : ℕ). with_all g i k rest (configured_if g i d joining seen)) next ∙ by_home (joining.home.0 == i)
+  where
+    next : d + 1 ≡ suc d
+    next = omega arith
+
+    by_home : (b : Bool) → with_all g i (suc d) rest (cond b (configured g d joining seen) seen)
+        ≡ record seen { pool = with_domains g i (suc d) rest (cond b (with_configured g d joining seen.pool) seen.pool); spare = seen.spare - (cond b (unit_total g joining) 0 + units_at_home g i rest) }
+    by_home true =
+        let left : seen.spare - unit_total g joining - units_at_home g i rest ≡ seen.spare - (unit_total g joining + units_at_home g i rest) = omega arith in
+        ap (λ (k : ℕ). record seen { pool = with_domains g i (suc d) rest (with_configured g d joining seen.pool); spare = k }) left
+    by_home false =
+        let left : seen.spare - units_at_home g i rest ≡ seen.spare - (0 + units_at_home g i rest) = omega arith in
+        ap (λ (k : ℕ). record seen { pool = with_domains g i (suc d) rest seen.pool; spare = k }) left
+
+-- room for the domain and for the others is room for the others then
+left_room : (g i d : ℕ) (joining : DomConfig) (rest : List DomConfig) (seen : Seen) → units_at_home g i (joining ∷ rest) ≤ seen.spare → units_at_home g i rest ≤ (configured_if g i d joining seen).spare
+left_room g i d joining rest seen = by_home (joining.home.0 == i)
+  where
+    by_home : (b : Bool) → cond b (unit_total g joining) 0 + units_at_home g i rest ≤ seen.spare → units_at_home g i rest ≤ (cond b (configured g d joining seen) seen).spare
+    by_home true room = omega (arith, room)
+    by_home false room = omega (arith, room)
+
+-- the domains of one home have no more units than all
+pub few_at_home : (g i d : ℕ) (domains : List DomConfig) → units_at_home g i domains ≤ units_in_all g d domains
+few_at_home g i d [] = omega arith
+few_at_home g i d (joining ∷ rest) =
+    let split = units_split g d joining rest in
+    let others = few_at_home g i (suc d) rest in
+    let first : units_if_home g i joining ≤ unit_total g joining = by_home (joining.home.0 == i) in
+    omega (arith, split, others, first)
+  where
+    by_home : (b : Bool) → ◌≤◌ (cond b (unit_total g joining) 0) (unit_total g joining)
+    by_home true = omega arith
+    by_home false = omega arith
 
 -- a domain at the opening may come in
 pub part_fits : (config : Config) (d : ℕ) (joining : DomConfig) (vcpus : List Vcpu) → vcpus ≡ map fresh_vcpu joining.guests → d < length config.domains → IsCheckedConfig config → IsCheckedDomain config joining
@@ -156,39 +192,43 @@ none_left zero (x ∷ xs) past = absurd (omega (arith, past))
 none_left (suc i) (x ∷ xs) past = none_left i xs (omega (arith, past))
 
 -- the domains below d came in, and there is room for the others
-pub record IsBetween (config : Config) (home : PoolConfig) (d : ℕ) (first now : Seen) : Type 0 where
+pub record IsBetween (config : Config) (i : ℕ) (home : PoolConfig) (d : ℕ) (first now : Seen) : Type 0 where
   pub opening : IsOpening config home d now
-  pub rest : with_all config.granularity d (drop d config.domains) now ≡ with_all config.granularity 0 config.domains first
-  pub room : units_in_all config.granularity d (drop d config.domains) ≤ now.spare
+  pub rest : with_all config.granularity i d (drop d config.domains) now ≡ with_all config.granularity i 0 config.domains first
+  pub room : units_at_home config.granularity i (drop d config.domains) ≤ now.spare
+  pub inside : d ≤ length config.domains
 
-module _ (config : Config) (home : PoolConfig) (first : Seen) where
-  pub between_first : IsOpening config home 0 first → units_in_all config.granularity 0 config.domains ≤ first.spare → IsBetween config home 0 first first
-  between_first opening room = record { opening = opening; rest = refl; room = room }
+module _ (config : Config) (i : ℕ) (home : PoolConfig) (first : Seen) where
+  pub between_first : IsOpening config home 0 first → units_at_home config.granularity i config.domains ≤ first.spare → IsBetween config i home 0 first first
+  between_first opening room = record { opening = opening; rest = refl; room = room; inside = omega arith }
 
-  module _ (d : ℕ) (now : Seen) (between : IsBetween config home d first now) where
-    pub next_fits : (joining : DomConfig) → slice_get config.domains d ≡ Some joining → unit_total config.granularity joining ≤ now.spare
+  module _ (d : ℕ) (now : Seen) (between : IsBetween config i home d first now) where
+    pub next_fits : (joining : DomConfig) → slice_get config.domains d ≡ Some joining → units_if_home config.granularity i joining ≤ now.spare
     next_fits joining at =
-        room_of_first config.granularity d joining (drop (d + 1) config.domains) now.spare
-        (subst (λ (list : List DomConfig). units_in_all config.granularity d list ≤ now.spare) (first_and_left d config.domains joining at) between.room)
+        let all : units_at_home config.granularity i (joining ∷ drop (d + 1) config.domains) ≤ now.spare = subst (λ (list : List DomConfig). units_at_home config.granularity i list ≤ now.spare) (first_and_left d config.domains joining at) between.room in
+        omega (arith, all)
 
-    -- the next came in
-    pub between_next : (joining : DomConfig) (next : Seen) → slice_get config.domains d ≡ Some joining → config.pools ≡ home ∷ [] → IsCheckedDomain config joining
-        → next ≡ configured config.granularity d joining now → IsOpening config home (d + 1) next → IsBetween config home (d + 1) first next
-    between_next joining next at alone checked came opening =
+    -- the next came in, or was passed by
+    pub between_next : (joining : DomConfig) (next : Seen) → slice_get config.domains d ≡ Some joining → d < length config.domains → next ≡ configured_if config.granularity i d joining now → IsOpening config home (d + 1) next → IsBetween config i home (d + 1) first next
+    between_next joining next at inside came opening =
         let g : ℕ = config.granularity in
         let left = first_and_left d config.domains joining at in
         record {
           opening = opening;
           rest =
-              ap (λ (s : Seen). with_all g (d + 1) (drop (d + 1) config.domains) s) came ∙ first_and_rest config home d joining (drop (d + 1) config.domains) now alone checked
-              ∙ ap (λ (list : List DomConfig). with_all g d list now) (sym left) ∙ between.rest;
+              ap (λ (s : Seen). with_all g i (d + 1) (drop (d + 1) config.domains) s) came ∙ first_and_rest g i d joining (drop (d + 1) config.domains) now
+              ∙ ap (λ (list : List DomConfig). with_all g i d list now) (sym left) ∙ between.rest;
           room =
-              subst (λ (s : Seen). units_in_all g (d + 1) (drop (d + 1) config.domains) ≤ s.spare) (sym came)
-              (room_of_rest g d joining (drop (d + 1) config.domains) now.spare (subst (λ (list : List DomConfig). units_in_all g d list ≤ now.spare) left between.room));
+              subst (λ (s : Seen). units_at_home g i (drop (d + 1) config.domains) ≤ s.spare) (sym came)
+              (left_room g i d joining (drop (d + 1) config.domains) now (subst (λ (list : List DomConfig). units_at_home g i list ≤ now.spare) left between.room));
+          inside = omega (arith, inside);
         }
 
     -- all came in
-    pub between_last : length config.domains ≤ d → now ≡ with_all config.granularity 0 config.domains first
+    pub between_last : length config.domains ≤ d → now ≡ with_all config.granularity i 0 config.domains first
     between_last past =
         let same : now.spare ≡ now.spare - 0 = omega arith in
-        ap (λ (k : ℕ). record now { spare = k }) same ∙ ap (λ (list : List DomConfig). with_all config.granularity d list now) (sym (none_left d config.domains past)) ∙ between.rest
+        ap (λ (k : ℕ). record now { spare = k }) same ∙ ap (λ (list : List DomConfig). with_all config.granularity i d list now) (sym (none_left d config.domains past)) ∙ between.rest
+
+    pub opened_last : length config.domains ≤ d → IsOpening config home (length config.domains) now
+    opened_last past = (let all = between.inside in let same : d ≡ length config.domains = omega (arith, past, all) in subst (λ (k : ℕ). IsOpening config home k now) same between.opening)

@@ -1,6 +1,6 @@
 -- The parameters of a checked file are in range.
-use Rattle.std.proofs.Common.{inl, inr, ◌≡◌, ◌<◌, List, [], ◌∷◌, refl, subst, arith, length}
-use Rattle.std.proofs.lemmas.List.Elements.{All-head}
+use Rattle.std.proofs.Common.{inl, inr, ◌≡◌, ℕ, subst, arith}
+use Rattle.std.proofs.lemmas.List.Elements.{recursion_from_All}
 use Rattle.std.specs.Prelude.{Option, Some, None, slice_get}
 use Rattle.std.specs.List.{All}
 use Rattle.std.specs.Option.{ForSome, IfSome}
@@ -15,6 +15,7 @@ use Rattle.sched_model.specs.declared.config.PoolParams.TheVariants as pool_para
 use Rattle.sched_model.specs.declared.config.SchedKind.{SchedKind}
 use Rattle.sched_model.specs.declared.config.SchedKind.TheVariants as kinds
 use Rattle.sched_model.specs.Checked.{DomParamsPass, IsCheckedConfig, IsCheckedDomain, IsCheckedFrame, IsCheckedPool, PoolParamsPass}
+use Rattle.sched_laws.proofs.Opened.{each_get}
 use Rattle.sched_ops.specs.Conditions.{AreDomParams, ArePoolParams}
 use Rattle.sched_ranges.specs.Ranges.{IsFrame}
 
@@ -63,19 +64,11 @@ dom_params_fit kinds.Null (dom_params.Credit2 weight cap) passes = elim passes [
 dom_params_fit kinds.Null (dom_params.Rtds period budget extra) passes = elim passes [ ]
 dom_params_fit kinds.Null dom_params.Arinc653 passes = elim passes [ ]
 
-module _ (config : Config) (home : PoolConfig) (alone : config.pools ≡ home ∷ []) where
+module _ (config : Config) (home : PoolConfig) where
   -- the pool's own
-  pub pool_fits : IsCheckedConfig config → ArePoolParams home.kind home.params
-  pool_fits checked = pool_params_fit config home.kind home.params (All-head (IsCheckedPool config) home [] (subst (All (IsCheckedPool config)) alone checked.pools)).params
-
-  -- a domain has no other home
-  pub home_first : (joining : DomConfig) → IsCheckedDomain config joining → joining.home.0 ≡ 0
-  home_first joining checked =
-      let inside : joining.home.0 < 1 = subst (λ (list : List PoolConfig). joining.home.0 < length list) alone checked.home in
-      omega (arith, inside)
+  pub pool_fits : (i : ℕ) → slice_get config.pools i ≡ Some home → IsCheckedConfig config → ArePoolParams home.kind home.params
+  pool_fits i at checked = pool_params_fit config home.kind home.params (each_get (IsCheckedPool config) config.pools i home (recursion_from_All (IsCheckedPool config) config.pools checked.pools) at).params
 
   -- its domain's
-  pub domain_fits : (joining : DomConfig) → IsCheckedDomain config joining → AreDomParams home.kind joining.params
-  domain_fits joining checked =
-      let at : slice_get config.pools joining.home.0 ≡ Some home = rw (home_first joining checked, alone) refl in
-      dom_params_fit home.kind joining.params (checked.home_pool home at).1
+  pub domain_fits : (joining : DomConfig) → slice_get config.pools joining.home.0 ≡ Some home → IsCheckedDomain config joining → AreDomParams home.kind joining.params
+  domain_fits joining at checked = dom_params_fit home.kind joining.params (checked.home_pool home at).1

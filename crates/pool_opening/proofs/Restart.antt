@@ -1,6 +1,6 @@
 -- A pool that opens with the parameters of the file.
-use Rattle.std.proofs.Common.{◌≡◌, ℕ, true, refl, ap, subst, ◌∙◌, length}
-use Rattle.std.specs.Prelude.{Option, None, map, replicate}
+use Rattle.std.proofs.Common.{◌≡◌, ◌+◌, ◌-◌, ℕ, zero, suc, true, List, [], ◌∷◌, ◌++◌, arith, sym, refl, ap, subst, ◌∙◌, length}
+use Rattle.std.specs.Prelude.{Option, Some, None, map, option_map, replicate, slice_get}
 use Rattle.std.proofs.lemmas.List.{append-nil, length-replicate}
 use Rattle.sched_base.specs.declared.UnitId.{UnitId}
 use Rattle.sched_model.specs.declared.config.Config.{Config}
@@ -10,17 +10,20 @@ use Rattle.sched_model.specs.declared.config.PoolParams.TheVariants as pool_para
 use Rattle.sched_model.specs.declared.config.SchedKind.{SchedKind}
 use Rattle.sched_model.specs.declared.config.SchedKind.TheVariants as kinds
 use Rattle.sched_model.specs.declared.state.Domain.{Domain}
+use Rattle.sched_model.specs.declared.state.Pool.{Pool}
 use Rattle.sched_model.specs.declared.state.Scheduler.{Scheduler}
 use Rattle.sched_model.specs.Policy.{default_pool_params, fresh_records, kind_of}
-use Rattle.sched_model.specs.Opening.{core_count, empty_pool}
-use Rattle.sched_model.specs.Places.{numbers_from}
+use Rattle.sched_model.specs.declared.work.Work.{Work}
+use Rattle.sched_model.specs.Opening.{core_count, empty_pool, most_pools, opening, opening_pool, opening_pools}
+use Rattle.sched_model.specs.Places.{at_place, numbers_from}
 use Rattle.sched_laws.specs.Each.{EachPlace}
 use Rattle.sched_laws.proofs.EachPlace.{EachPlace-empty, is_empty}
 use Rattle.sched_ops.specs.Conditions.{ArePoolParams}
 use Rattle.sched_ops.specs.Seen.{restarted, vacant}
 use Rattle.plain_opening.specs.Opened.{opening_core}
+use Rattle.unit_state.specs.Kept.{units_in}
 use Rattle.pool_core.specs.Seen.{Seen, vacant as vacant_pool}
-use Rattle.pool_opening.specs.Opened.{IsOpening, IsPending, most_units, with_cores}
+use Rattle.pool_opening.specs.Opened.{IsOpening, IsPending, kinds_of, most_units, opening_seen, with_cores}
 use Rattle.pool_opening.proofs.Attaching.{all_pending}
 
 -- a scheduler is of the kind whose parameters it has
@@ -96,6 +99,11 @@ begins config home kind domains cores room next now same fits of_domains of_core
     ∙ ap (λ (n : ℕ). with_scheduler n cores (vacant home.params n cores)) of_domains
     ∙ ap (λ (count : ℕ). with_scheduler (length config.domains) count (vacant home.params (length config.domains) count)) of_cores
 
+-- empty places have no units
+no_units : (g n : ℕ) → units_in g (replicate n None) ≡ 0
+no_units g zero = refl
+no_units g (suc n) = (let r = no_units g n in omega (arith, r))
+
 -- its domains may come in
 pub opens : (config : Config) (home : PoolConfig) → ArePoolParams home.kind home.params → IsOpening config home 0 (begun config home)
 opens config home fits = record {
@@ -105,4 +113,36 @@ opens config home fits = record {
   places = length-replicate (length config.domains) _;
   sets = length-replicate (length config.domains) _;
   absent = λ n later. is_empty _ (λ x at. EachPlace-empty (λ (y : Domain). ⊥) (length config.domains) n x at);
+  room = ap (λ (k : ℕ). k + most_units) (no_units config.granularity (length config.domains));
 }
+
+-- what stands at the place i of the machine's opening
+opening_at : (config : Config) (k i : ℕ) (pools : List PoolConfig) (rest : List (Option Pool)) (home : PoolConfig) → slice_get pools i ≡ Some home → at_place (opening_pools config k pools ++ rest) i ≡ Some (opening_pool config (k + i) home)
+opening_at config k i [] rest home at = absurd (cc)
+opening_at config k zero (pool ∷ pools) rest home at =
+    let same : pool ≡ home = cc in
+    let number : k ≡ k + 0 = omega arith in
+    ap (λ (p : PoolConfig). Some (opening_pool config k p)) same ∙ ap (λ (n : ℕ). Some (opening_pool config n home)) number
+opening_at config k (suc i) (pool ∷ pools) rest home at =
+    let number : suc k + i ≡ k + suc i = omega arith in
+    opening_at config (suc k) i pools rest home at ∙ ap (λ (n : ℕ). Some (opening_pool config n home)) number
+
+pub stands_at : (config : Config) (i : ℕ) (home : PoolConfig) (work : Work) (seen : Seen) → slice_get config.pools i ≡ Some home → seen ≡ opening_seen config i home → at_place (opening (record { config = config; work = work })).pools i ≡ Some seen.pool
+stands_at config i home work seen at is =
+    let number : 0 + i ≡ i = omega arith in
+    opening_at config 0 i config.pools _ home at ∙ ap (λ (n : ℕ). Some (opening_pool config n home)) number ∙ ap (λ (s : Seen). Some s.pool) (sym is)
+
+-- the scheduler of the pool i is the one that the file names
+pub kind_at : (i : ℕ) (pools : List PoolConfig) → slice_get (map (λ (pool : PoolConfig). pool.kind) pools) i ≡ option_map (λ (pool : PoolConfig). pool.kind) (slice_get pools i)
+kind_at i [] = refl
+kind_at zero (pool ∷ pools) = refl
+kind_at (suc i) (pool ∷ pools) = kind_at i pools
+
+-- the only pool stands alone
+pub stands_alone : (config : Config) (kind : SchedKind) (pool : Pool) → kinds_of config ≡ kind ∷ [] → ((work : Work) → at_place (opening (record { config = config; work = work })).pools 0 ≡ Some pool) → opening_pools config 0 config.pools ≡ Some pool ∷ []
+stands_alone config kind pool one at = by_pools config.pools one (at (record { stalls = []; commands = [] }))
+  where
+    by_pools : (pools : List PoolConfig) → map (λ (p : PoolConfig). p.kind) pools ≡ kind ∷ [] → at_place (opening_pools config 0 pools ++ replicate (most_pools - length config.pools) None) 0 ≡ Some pool → opening_pools config 0 pools ≡ Some pool ∷ []
+    by_pools [] e is = absurd (cc)
+    by_pools (first ∷ []) e is = ap (λ (o : Option Pool). o ∷ []) is
+    by_pools (first ∷ second ∷ pools) e is = absurd (cc)

@@ -1,5 +1,5 @@
--- The only pool of a machine, while its cores and its domains come in.
-use Rattle.std.specs.Prelude.{ℕ, ◌≡◌, ◌≤◌, ◌+◌, ◌-◌, ◌/◌, true, false, List, Option, None, length, map}
+-- A pool of a machine, while its cores and its domains come in.
+use Rattle.std.specs.Prelude.{ℕ, ◌≡◌, ◌≤◌, ◌+◌, ◌-◌, ◌/◌, ◌==◌, true, false, List, [], ◌∷◌, Option, None, length, map, if◌then◌else◌}
 use Rattle.sched_model.specs.declared.config.Config.{Config}
 use Rattle.sched_model.specs.declared.config.DomConfig.{DomConfig}
 use Rattle.sched_model.specs.declared.config.PoolConfig.{PoolConfig}
@@ -13,6 +13,7 @@ use Rattle.sched_model.specs.Places.{at_place}
 use Rattle.sched_model.specs.Policy.{kind_of}
 use Rattle.sched_model.specs.Pool.{with_domain}
 use Rattle.sched_laws.specs.Each.{EachPlace}
+use Rattle.unit_state.specs.Kept.{units_in}
 use Rattle.pool_core.specs.Seen.{Seen}
 
 -- the schedulers of the machine's pools
@@ -30,34 +31,45 @@ with_pool pool seen = record seen { pool = pool }
 abbrev pub with_cores : List (Option Resource) → Seen → Seen
 with_cores cores seen = with_pool (record seen.pool { resources = cores }) seen
 
--- how many units the domain has; how many the domains have, the first of which is the domain d
+-- how many units the domain has; how many the domains have, the first of which is the domain d; how many those have whose home is the pool i
 abbrev pub unit_total : ℕ → DomConfig → ℕ
 unit_total g joining = (length joining.guests + g - 1) / g
 
 abbrev pub units_in_all : ℕ → ℕ → List DomConfig → ℕ
 units_in_all g d domains = length (units_from g d domains)
 
+abbrev pub units_if_home : ℕ → ℕ → DomConfig → ℕ
+units_if_home g i joining = (if joining.home.0 == i then unit_total g joining else 0)
+
+abbrev pub units_at_home : ℕ → ℕ → List DomConfig → ℕ
+units_at_home g i [] = 0
+units_at_home g i (joining ∷ domains) = units_if_home g i joining + units_at_home g i domains
+
 -- a domain at the opening
 abbrev pub fresh_domain : DomConfig → Domain
 fresh_domain joining = record { paused = false; moving = None; vcpus = map fresh_vcpu joining.guests }
 
--- the pool with the domain d, whose units may run on all cores; with the sets of cores of its units; with the domains from d on
+-- the pool with the domain d, whose units may run on all cores; with the sets of cores of its units; with these where its home is the pool i;
+-- with the domains from d on whose home that is
 abbrev pub joined : ℕ → ℕ → DomConfig → Seen → Seen
 joined g d joining seen = record seen { pool = with_domain g 0 d (fresh_domain joining) joining.params seen.pool; spare = seen.spare - unit_total g joining }
 
 abbrev pub configured : ℕ → ℕ → DomConfig → Seen → Seen
 configured g d joining seen = record seen { pool = with_configured g d joining seen.pool; spare = seen.spare - unit_total g joining }
 
-abbrev pub with_all : ℕ → ℕ → List DomConfig → Seen → Seen
-with_all g d domains seen = record seen { pool = with_domains g 0 d domains seen.pool; spare = seen.spare - units_in_all g d domains }
+abbrev pub configured_if : ℕ → ℕ → ℕ → DomConfig → Seen → Seen
+configured_if g i d joining seen = (if joining.home.0 == i then configured g d joining seen else seen)
 
--- the machine's only pool at its opening
-abbrev pub opening_seen : Config → PoolConfig → Seen
-opening_seen config home =
+abbrev pub with_all : ℕ → ℕ → ℕ → List DomConfig → Seen → Seen
+with_all g i d domains seen = record seen { pool = with_domains g i d domains seen.pool; spare = seen.spare - units_at_home g i domains }
+
+-- the pool i of the machine at its opening
+abbrev pub opening_seen : Config → ℕ → PoolConfig → Seen
+opening_seen config i home =
     record {
-      pool = opening_pool config 0 home;
+      pool = opening_pool config i home;
       granularity = config.granularity;
-      spare = most_units - units_in_all config.granularity 0 config.domains;
+      spare = most_units - units_at_home config.granularity i config.domains;
       latest = 0;
       in_use = true;
     }
@@ -80,3 +92,4 @@ pub record IsOpening (config : Config) (home : PoolConfig) (d : ℕ) (seen : See
   pub places : length seen.pool.domains ≡ length config.domains
   pub sets : length seen.pool.scheduler.affinity ≡ length config.domains
   pub absent : (n : ℕ) → d ≤ n → at_place seen.pool.domains n ≡ None
+  pub room : units_in seen.granularity seen.pool.domains + seen.spare ≡ most_units

@@ -1,11 +1,11 @@
-//! The domains come in, each with the sets of cores of its units.
+//! The domains of a pool come in, each with the sets of cores of its units. Those with another home are passed by.
 
-ghost use Rattle.std.specs.Prelude.{◌≡◌, ◌≤◌, ◌<◌, ◌+◌, ◌∷◌, [], true, OnOk, length};
+ghost use Rattle.std.specs.Prelude.{◌≡◌, ◌≤◌, ◌<◌, ◌+◌, ◌∷◌, [], true, Some, OnOk, length, slice_get};
 ghost use Rattle.sched_model.specs.Checked.{IsCheckedConfig, IsCheckedDomain};
 ghost use Rattle.sched_model.specs.Opening.{with_pins};
 ghost use Rattle.sched_ops.specs.Conditions.{has_joined};
 ghost use Rattle.sched_ops.specs.Seen.{units_of};
-ghost use Rattle.pool_opening.specs.Opened.{IsOpening, IsStill, configured, joined, unit_total, units_in_all, with_all, with_pool};
+ghost use Rattle.pool_opening.specs.Opened.{IsOpening, IsStill, configured, configured_if, joined, unit_total, units_at_home, units_if_home, with_all, with_pool};
 
 use plain_opening::rows::fresh_vcpus;
 use pool_core::pool::PoolState;
@@ -26,7 +26,7 @@ fn give<P: Policy>(
     pool: &mut PoolState<P>,
 ) -> Result<(), NoMemory>
     requires checked { IsCheckedConfig config.now }
-    requires alone { config.now.pools ≡ home.now ∷ [] }
+    requires home { slice_get config.now.pools joining.now.home.0 ≡ Some home.now }
     requires domain { IsCheckedDomain config.now joining.now }
     requires place { d < length config.now.domains }
     requires opening { IsOpening config.now home.now d pool.old }
@@ -95,7 +95,7 @@ fn join<P: Policy>(
     pool: &mut PoolState<P>,
 ) -> Result<(), NoMemory>
     requires checked { IsCheckedConfig config.now }
-    requires alone { config.now.pools ≡ home.now ∷ [] }
+    requires home { slice_get config.now.pools joining.now.home.0 ≡ Some home.now }
     requires domain { IsCheckedDomain config.now joining.now }
     requires place { d < length config.now.domains }
     requires opening { IsOpening config.now home.now d pool.old }
@@ -108,22 +108,50 @@ fn join<P: Policy>(
     Ok(())
 }
 
-/// The domains of the file come in one after another.
+/// The same where the pool i is the home of the domain; another domain is passed by.
+#[tactic(auto, using(crate::proofs::Joining::goes_by))]
+fn join_at_home<P: Policy>(
+    alloc: Global,
+    config: &Config,
+    i: u8,
+    home: &PoolConfig,
+    d: u8,
+    joining: &DomConfig,
+    pool: &mut PoolState<P>,
+) -> Result<(), NoMemory>
+    requires checked { IsCheckedConfig config.now }
+    requires home { slice_get config.now.pools i ≡ Some home.now }
+    requires domain { IsCheckedDomain config.now joining.now }
+    requires place { d < length config.now.domains }
+    requires opening { IsOpening config.now home.now d pool.old }
+    requires room { units_if_home config.now.granularity i joining.now ≤ pool.old.spare }
+    ensures after { OnOk result (pool.new ≡ configured_if config.now.granularity i d joining.now pool.old) }
+    ensures opening { OnOk result (IsOpening config.now home.now (d + 1) pool.new) }
+{
+    if joining.home.0 == i {
+        join(alloc, config, home, d, joining, pool)?;
+    }
+    Ok(())
+}
+
+/// The domains of the file whose home is the pool i come in one after another.
 pub fn join_all<P: Policy>(
     alloc: Global,
     config: &Config,
+    i: u8,
     home: &PoolConfig,
     pool: &mut PoolState<P>,
 ) -> Result<(), NoMemory>
     requires checked { IsCheckedConfig config.now }
-    requires alone { config.now.pools ≡ home.now ∷ [] }
+    requires home { slice_get config.now.pools i ≡ Some home.now }
     requires opening { IsOpening config.now home.now 0 pool.old }
-    requires room { units_in_all config.now.granularity 0 config.now.domains ≤ pool.old.spare }
-    ensures { OnOk result (pool.new ≡ with_all config.now.granularity 0 config.now.domains pool.old) }
+    requires room { units_at_home config.now.granularity i config.now.domains ≤ pool.old.spare }
+    ensures after { OnOk result (pool.new ≡ with_all config.now.granularity i 0 config.now.domains pool.old) }
+    ensures opening { OnOk result (IsOpening config.now home.now (length config.now.domains) pool.new) }
 {
     let domains = config.domains.as_slice();
     for d in 0..domains.len() {
-        join(alloc, config, home, d as u8, &domains[d], pool)?;
+        join_at_home(alloc, config, i, home, d as u8, &domains[d], pool)?;
     }
     Ok(())
 }

@@ -1,9 +1,9 @@
-//! A machine's only pool at its opening, with its own queues and heaps: what a run of it begins with. All memory of the run is taken
-//! here.
+//! The pools of a machine at its opening, with their own queues and heaps, and the pools that commands may open later. All memory of the
+//! run is taken here.
 #![tactic(auto)]
 
 mod cores;
 mod domains;
 pub mod opening;
 
-pub use opening::opened;
+pub use opening::{opened, spare};

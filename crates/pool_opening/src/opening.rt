@@ -1,11 +1,15 @@
-//! The pool at its opening.
+//! A pool at its opening, and one that is not in use.
 
-ghost use Rattle.std.specs.Prelude.{◌≡◌, ◌-◌, ◌∷◌, [], Some, true, IfOk};
+ghost use Rattle.std.specs.Prelude.{◌≡◌, ◌+◌, Some, true, IfOk, length, slice_get};
 ghost use Rattle.sched_model.specs.Checked.{IsCheckedConfig};
-ghost use Rattle.sched_model.specs.Opening.{opening_pools};
-ghost use Rattle.sched_model.specs.Policy.{kind_of};
+ghost use Rattle.sched_model.specs.declared.work.Work.{Work};
+ghost use Rattle.sched_model.specs.Opening.{core_count as core_count_spec, opening};
+ghost use Rattle.sched_model.specs.Places.{at_place};
+ghost use Rattle.sched_model.specs.Policy.{default_pool_params, kind_of};
 ghost use Rattle.sched_ops.specs.Conditions.{is_vacant};
-ghost use Rattle.pool_opening.specs.Opened.{kinds_of, most_units, opening_seen, units_in_all};
+ghost use Rattle.unit_state.specs.Kept.{units_in};
+ghost use Rattle.pool_core.specs.Seen.{vacant};
+ghost use Rattle.pool_opening.specs.Opened.{kinds_of, most_units, opening_seen};
 
 use crate::cores::attach_all;
 use crate::domains::join_all;
@@ -19,51 +23,76 @@ use std::alloc::Global;
 /// The most units that a machine has.
 const MOST_UNITS: usize = 256;
 
-/// The pool with its cores and its domains, which is the machine's only one.
+/// How many domains and cores the machine has.
+fn places_of(config: &Config) -> Places
+    requires { IsCheckedConfig config.now }
+    ensures domains { result.domains ≡ length config.now.domains }
+    ensures cores { result.cores ≡ core_count_spec config.now }
+{
+    Places {
+        domains: config.domains.len() as u8,
+        cores: core_count(config),
+    }
+}
+
+/// The pool i with its cores and its domains.
 fn open_home<P: Policy>(
     alloc: Global,
     config: &Config,
+    i: u8,
     home: &PoolConfig,
     policy: P,
 ) -> Result<PoolState<P>, NoMemory>
     requires config { IsCheckedConfig config.now }
-    requires alone { config.now.pools ≡ home.now ∷ [] }
+    requires home { slice_get config.now.pools i ≡ Some home.now }
     requires kind { kind_of (P.seen policy).scheduler.records ≡ home.now.kind }
     requires vacant { is_vacant (P.seen policy).scheduler ≡ true }
     requires early { (P.seen policy).latest ≡ 0 }
-    ensures { IfOk result (λ opened. opened ≡ opening_seen config.now home.now) }
+    ensures seen { IfOk result (λ opened. opened ≡ opening_seen config.now i home.now) }
+    ensures pool { IfOk result (λ opened. (work : Work) → at_place (opening (record { config = config.now; work = work })).pools i ≡ Some opened.pool) }
+    ensures room { IfOk result (λ opened. units_in opened.granularity opened.pool.domains + opened.spare ≡ most_units) }
 {
     let g = config.granularity;
-    let places = Places {
-        domains: config.domains.len() as u8,
-        cores: core_count(config),
-    };
+    let places = places_of(config);
     let mut pool = PoolState::room(alloc, g, places, MOST_UNITS, policy)?;
     pool.open(&home.params);
     attach_all(home.cores, g, places.cores, &mut pool);
-    join_all(alloc, config, home, &mut pool)?;
+    join_all(alloc, config, i, home, &mut pool)?;
     Ok(pool)
 }
 
-/// The pool of a machine that has one pool alone, of the policy's scheduler: the one that stands at the machine's opening, at 0. Its
-/// scheduler has no domain yet.
+/// The pool i of a machine, of the policy's scheduler: the one that stands at the machine's opening, at 0. The policy has no domain yet.
+/// Units of domains that come later have the room that those here leave of 256.
 pub fn opened<P: Policy>(
     alloc: Global,
     config: &Config,
+    i: u8,
     policy: P,
 ) -> Result<PoolState<P>, NoMemory>
     requires config { IsCheckedConfig config.now }
-    requires alone { kinds_of config.now ≡ kind_of (P.seen policy).scheduler.records ∷ [] }
+    requires kind { slice_get (kinds_of config.now) i ≡ Some (kind_of (P.seen policy).scheduler.records) }
     requires vacant { is_vacant (P.seen policy).scheduler ≡ true }
     requires early { (P.seen policy).latest ≡ 0 }
-    ensures pool { IfOk result (λ opened. opening_pools config.now 0 config.now.pools ≡ Some opened.pool ∷ []) }
+    ensures pool { IfOk result (λ opened. (work : Work) → at_place (opening (record { config = config.now; work = work })).pools i ≡ Some opened.pool) }
     ensures granularity { IfOk result (λ opened. opened.granularity ≡ config.now.granularity) }
-    ensures spare { IfOk result (λ opened. opened.spare ≡ most_units - units_in_all config.now.granularity 0 config.now.domains) }
+    ensures spare { IfOk result (λ opened. units_in opened.granularity opened.pool.domains + opened.spare ≡ most_units) }
     ensures latest { IfOk result (λ opened. opened.latest ≡ 0) }
     ensures used { IfOk result (λ opened. opened.in_use ≡ true) }
 {
-    match config.pools.as_slice() {
-        [home] => open_home(alloc, config, home, policy),
-        _ => unreachable!(),
+    match config.pools.as_slice().get(usize::from(i)) {
+        Some(home) => open_home(alloc, config, i, home, policy),
+        None => unreachable!(),
     }
+}
+
+/// A pool of the policy's scheduler that is not in use, with all the memory of a run: what a command that makes a pool opens. It has the
+/// machine's places for domains and cores, none of which is taken, room for 256 units, and default parameters.
+pub fn spare<P: Policy>(alloc: Global, config: &Config, policy: P) -> Result<PoolState<P>, NoMemory>
+    requires config { IsCheckedConfig config.now }
+    requires vacant { is_vacant (P.seen policy).scheduler ≡ true }
+    requires early { (P.seen policy).latest ≡ 0 }
+    ensures { IfOk result (λ spare. spare ≡ vacant (default_pool_params (kind_of (P.seen policy).scheduler.records)) config.now.granularity (length config.now.domains) (core_count_spec config.now) most_units) }
+{
+    let places = places_of(config);
+    PoolState::room(alloc, config.granularity, places, MOST_UNITS, policy)
 }

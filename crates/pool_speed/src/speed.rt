@@ -19,6 +19,7 @@ use sched_ops::Policy;
 use std::alloc::Global;
 
 /// Opens the machine's only pool with this scheduler, which has no domain yet, and drives it to the horizon.
+#[tactic(auto, using(pool_opening::proofs::Restart::stands_alone))]
 fn tally_with<P: Policy>(
     alloc: Global,
     config: &Config,
@@ -33,7 +34,7 @@ fn tally_with<P: Policy>(
     ensures tally { IfOk result (λ tally. IsTally config.now tally.events tally.moments) }
     ensures cause { IfErr result (Stops most config.now) }
 {
-    let Ok(mut pool) = opened(alloc, config, policy) else {
+    let Ok(mut pool) = opened(alloc, config, 0, policy) else {
         return Err(Stop::NoMemory);
     };
     match drive(&mut pool, config.horizon, most) {

@@ -38,7 +38,7 @@ impl Driven {
         let [only] = config.pools.as_slice() else {
             return Err(Stop::Beyond);
         };
-        let Ok(pool) = opened(alloc, config, AnyPolicy::empty(only.kind)) else {
+        let Ok(pool) = opened(alloc, config, 0, AnyPolicy::empty(only.kind)) else {
             return Err(Stop::NoMemory);
         };
         Ok(Driven {

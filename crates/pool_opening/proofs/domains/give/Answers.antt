@@ -14,7 +14,7 @@ give_domain-requires-clause-part g c =
     part_fits c.args.config.now c.args.d c.args.joining.now c.in_ok-fresh_vcpus.field-0 (c.in_ok-fresh_vcpus.ensures ∙ ap (map fresh_vcpu) c.as_slice.ensures) c.requires.place c.requires.checked c.requires.domain
 
 pub give_domain-requires-clause-params : goal.give_domain-requires-clause-params
-give_domain-requires-clause-params g c = rw c.requires.opening.kind (domain_fits c.args.config.now c.args.home.now c.requires.alone c.args.joining.now c.requires.domain)
+give_domain-requires-clause-params g c = rw c.requires.opening.kind (domain_fits c.args.config.now c.args.home.now c.args.joining.now c.requires.home c.requires.domain)
 
 pub returns-clause-after : goal.returns-clause-after
 returns-clause-after g c =

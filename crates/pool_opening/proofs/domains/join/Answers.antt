@@ -20,4 +20,4 @@ returns-clause-after g c =
 
 pub returns-clause-opening : goal.returns-clause-opening
 returns-clause-opening g c =
-    subst (IsOpening c.args.config.now c.args.home.now (c.args.d + 1)) (sym (returns-clause-after g c)) (goes_on c.args.config.now c.args.home.now c.args.d c.args.joining.now c.args.pool.now c.requires.opening)
+    subst (IsOpening c.args.config.now c.args.home.now (c.args.d + 1)) (sym (returns-clause-after g c)) (goes_on c.args.config.now c.args.home.now c.args.d c.args.joining.now c.args.pool.now c.requires.opening c.requires.place c.requires.room)

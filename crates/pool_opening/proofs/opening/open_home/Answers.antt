@@ -1,26 +1,42 @@
-use Rattle.std.proofs.Common.{◌≡◌, ◌∙◌, ap, sym, subst}
+use Rattle.std.proofs.Common.{◌≡◌, ◌≤◌, ◌∙◌, ap, sym, subst, arith}
 use Rattle.sched_model.specs.Policy.{kind_of}
 use Rattle.pool_core.specs.Seen.{Seen}
+use Rattle.pool_opening.proofs.Joining.{few_at_home}
 use Rattle.pool_opening.proofs.Parameters.{pool_fits}
-use Rattle.pool_opening.proofs.Restart.{begins, kind_default, opens}
-use Rattle.pool_opening.specs.Opened.{IsOpening, with_all}
+use Rattle.pool_opening.proofs.Restart.{begins, kind_default, opens, stands_at}
+use Rattle.pool_opening.specs.Opened.{IsOpening, units_at_home, with_all}
 use Rattle.pool_opening.proofs.opening.open_home.Goals as goal
 
 pub open-requires-clause-params : goal.open-requires-clause-params
 open-requires-clause-params g c =
     let kind : kind_of c.in_ok-pool.pool.pool.scheduler.records ≡ c.args.home.now.kind = ap (λ (s : Seen). kind_of s.pool.scheduler.records) c.in_ok-pool.ensures ∙ kind_default _ _ _ ∙ c.requires.kind in
-    rw kind (pool_fits c.args.config.now c.args.home.now c.requires.alone c.requires.config)
+    rw kind (pool_fits c.args.config.now c.args.home.now c.args.i c.requires.home c.requires.config)
 
 pub join_all-requires-clause-opening : goal.join_all-requires-clause-opening
 join_all-requires-clause-opening g c =
-    let fits = pool_fits c.args.config.now c.args.home.now c.requires.alone c.requires.config in
+    let fits = pool_fits c.args.config.now c.args.home.now c.args.i c.requires.home c.requires.config in
     subst (IsOpening c.args.config.now c.args.home.now 0)
-    (sym (begins c.args.config.now c.args.home.now _ _ _ c.in_ok-pool.pool c.open.new.self c.attach_all.new.pool c.requires.kind fits c.len.ensures c.core_count.ensures c.in_ok-pool.ensures c.open.ensures c.attach_all.ensures))
+    (sym (begins c.args.config.now c.args.home.now _ _ _ c.in_ok-pool.pool c.open.new.self c.attach_all.new.pool c.requires.kind fits c.places_of-places.ensures.domains c.places_of-places.ensures.cores c.in_ok-pool.ensures c.open.ensures c.attach_all.ensures))
     (opens c.args.config.now c.args.home.now fits)
 
-pub returns : goal.returns
-returns g c =
-    let fits = pool_fits c.args.config.now c.args.home.now c.requires.alone c.requires.config in
-    c.in_ok-join_all.ensures
-    ∙ ap (λ (s : Seen). with_all c.args.config.now.granularity 0 c.args.config.now.domains s)
-    (begins c.args.config.now c.args.home.now _ _ _ c.in_ok-pool.pool c.open.new.self c.attach_all.new.pool c.requires.kind fits c.len.ensures c.core_count.ensures c.in_ok-pool.ensures c.open.ensures c.attach_all.ensures)
+pub join_all-requires-clause-room : goal.join_all-requires-clause-room
+join_all-requires-clause-room g c =
+    let fits = pool_fits c.args.config.now c.args.home.now c.args.i c.requires.home c.requires.config in
+    let few = few_at_home c.args.config.now.granularity c.args.i 0 c.args.config.now.domains in
+    let all = c.requires.config.few_units in
+    subst (λ (s : Seen). units_at_home c.args.config.now.granularity c.args.i c.args.config.now.domains ≤ s.spare)
+    (sym (begins c.args.config.now c.args.home.now _ _ _ c.in_ok-pool.pool c.open.new.self c.attach_all.new.pool c.requires.kind fits c.places_of-places.ensures.domains c.places_of-places.ensures.cores c.in_ok-pool.ensures c.open.ensures c.attach_all.ensures))
+    (omega (arith, few, all))
+
+pub returns-clause-seen : goal.returns-clause-seen
+returns-clause-seen g c =
+    let fits = pool_fits c.args.config.now c.args.home.now c.args.i c.requires.home c.requires.config in
+    c.in_ok-join_all.ensures.after
+    ∙ ap (λ (s : Seen). with_all c.args.config.now.granularity c.args.i 0 c.args.config.now.domains s)
+    (begins c.args.config.now c.args.home.now _ _ _ c.in_ok-pool.pool c.open.new.self c.attach_all.new.pool c.requires.kind fits c.places_of-places.ensures.domains c.places_of-places.ensures.cores c.in_ok-pool.ensures c.open.ensures c.attach_all.ensures)
+
+pub returns-clause-room : goal.returns-clause-room
+returns-clause-room g c = c.in_ok-join_all.ensures.opening.room
+
+pub returns-clause-pool : goal.returns-clause-pool
+returns-clause-pool g c = λ work. stands_at c.args.config.now c.args.i c.args.home.now work c.join_all.new.pool c.requires.home (returns-clause-seen g c)
