@@ -2,7 +2,7 @@
 
 ghost use Rattle.std.specs.Prelude.{◌≡◌, ◌≤◌, IsTrue, sum_by};
 ghost use Rattle.std.specs.Option.{ForSome};
-ghost use Rattle.sched_ops.specs.Conditions.{IsCap, IsTerm, IsWeight};
+ghost use Rattle.sched_ops.specs.Conditions.{IsCap, IsSetTerm, IsWeight};
 ghost use Rattle.sched_ranges.specs.Ranges.{IsFrame};
 ghost use Rattle.pool_trials.specs.Kinds.{kind_stored};
 
@@ -39,7 +39,7 @@ pub fn is_rate(limit: u32) -> bool
 
 /// Whether the period and the budget are in range.
 pub fn is_term(period: Span, budget: Span) -> bool
-    ensures { IsTrue result → IsTerm period.0 budget.0 }
+    ensures { IsTrue result → IsSetTerm period.0 budget.0 }
 {
     10_000 <= budget.0 && budget.0 <= period.0 && period.0 <= 1_000_000_000_000
 }
