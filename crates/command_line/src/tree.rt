@@ -1,7 +1,7 @@
 //! The words that commands have, as `clap` is told of them.
 
 ghost use Rattle.std.specs.Prelude.{◌≡◌, IfOk, false};
-ghost use Rattle.clap.specs.Words.{rule_of};
+ghost use Rattle.clap.specs.Words.{App, Rule, rule_of, with_rule, with_subcommand};
 ghost use Rattle.command_line.specs.Tree.{IsTree, ordered_rule, events_rule, name_rule, number_rule, run_app, numbers_app, make_app, check_app, program_app, tree as tree_spec};
 
 use clap::builder::ValueParser;
@@ -46,16 +46,34 @@ fn events<'a>(alloc: Global) -> Arg<'a>
         .default_value("1000000")
 }
 
+/// The command with one more argument, where there is a command.
+fn with_arg<'a>(
+    command: Result<Command<'a>, NoMemory>,
+    arg: Arg<'a>,
+) -> Result<Command<'a>, NoMemory>
+    ensures { (app : App) (rule : Rule) → IfOk command.entry (IsTree app) → rule_of arg.entry ≡ rule → arg.entry.global ≡ false → IfOk result (IsTree (with_rule app rule)) }
+{
+    Ok(command?.arg(arg)?)
+}
+
+/// The program with one more command, where there are both.
+fn with_command<'a>(
+    program: Result<Command<'a>, NoMemory>,
+    command: Result<Command<'a>, NoMemory>,
+) -> Result<Command<'a>, NoMemory>
+    ensures { (app sub : App) → IfOk program.entry (IsTree app) → IfOk command.entry (IsTree sub) → IfOk result (IsTree (with_subcommand app sub.top)) }
+{
+    Ok(program?.subcommand(command?)?)
+}
+
 /// A run on two files: `run` or `report`.
 fn run<'a>(alloc: Global, command: &'a str) -> Result<Command<'a>, NoMemory>
     ensures { IfOk result (IsTree (run_app command.now)) }
 {
-    let command = Command::new(alloc, command)
-        .arg(ordered(alloc))?
-        .arg(events(alloc))?
-        .arg(name(alloc, "domains"))?
-        .arg(name(alloc, "work"))?;
-    Ok(command)
+    let command = with_arg(Ok(Command::new(alloc, command)), ordered(alloc));
+    let command = with_arg(command, events(alloc));
+    let command = with_arg(command, name(alloc, "domains"));
+    with_arg(command, name(alloc, "work"))
 }
 
 /// A command with the numbers that texts are made from: seed, processors and domains.
@@ -64,31 +82,29 @@ fn numbers<'a>(alloc: Global, command: &'a str) -> Result<Command<'a>, NoMemory>
 {
     let seeds = clap::value_parser!(u32).range(0..=2_147_483_647);
     let counts = clap::value_parser!(u8).range(1..=64);
-    let command = Command::new(alloc, command)
-        .arg(number(alloc, "seed", seeds))?
-        .arg(number(alloc, "processors", counts))?
-        .arg(number(alloc, "domains", counts))?;
-    Ok(command)
+    let command = with_arg(
+        Ok(Command::new(alloc, command)),
+        number(alloc, "seed", seeds),
+    );
+    let command = with_arg(command, number(alloc, "processors", counts));
+    with_arg(command, number(alloc, "domains", counts))
 }
 
 /// One of the two texts that are made from a number.
 fn make<'a>(alloc: Global) -> Result<Command<'a>, NoMemory>
     ensures { IfOk result (IsTree make_app) }
 {
-    let command = numbers(alloc, "make")?.arg(name(alloc, "text"))?;
-    Ok(command)
+    with_arg(numbers(alloc, "make"), name(alloc, "text"))
 }
 
 /// Whether a schedule is a run on two files.
 fn check<'a>(alloc: Global) -> Result<Command<'a>, NoMemory>
     ensures { IfOk result (IsTree check_app) }
 {
-    let command = Command::new(alloc, "check")
-        .arg(ordered(alloc))?
-        .arg(name(alloc, "domains"))?
-        .arg(name(alloc, "work"))?
-        .arg(name(alloc, "schedule"))?;
-    Ok(command)
+    let command = with_arg(Ok(Command::new(alloc, "check")), ordered(alloc));
+    let command = with_arg(command, name(alloc, "domains"));
+    let command = with_arg(command, name(alloc, "work"));
+    with_arg(command, name(alloc, "schedule"))
 }
 
 /// The program, of which one command must stand. It has no help and no version.
@@ -106,11 +122,9 @@ fn program<'a>(alloc: Global) -> Command<'a>
 pub fn tree<'a>(alloc: Global) -> Result<Command<'a>, NoMemory>
     ensures { IfOk result (IsTree tree_spec) }
 {
-    let program = program(alloc)
-        .subcommand(run(alloc, "run")?)?
-        .subcommand(run(alloc, "report")?)?
-        .subcommand(make(alloc)?)?
-        .subcommand(numbers(alloc, "load")?)?
-        .subcommand(check(alloc)?)?;
-    Ok(program)
+    let program = with_command(Ok(program(alloc)), run(alloc, "run"));
+    let program = with_command(program, run(alloc, "report"));
+    let program = with_command(program, make(alloc));
+    let program = with_command(program, numbers(alloc, "load"));
+    with_command(program, check(alloc))
 }

@@ -2,7 +2,11 @@
 use Rattle.std.proofs.Common.{◌≡◌, ◌≢◌, ◌+◌, ◌∙◌, ◌⊎◌, ℕ, zero, suc, true, inl, inr, refl, sym, ap, subst, arith}
 use Rattle.std.specs.Prelude.{Option, Some, None, Result, Ok, Err, option_map, slice_get}
 use Rattle.sched_model.specs.declared.action.Action.TheVariants.{Xl}
+use Rattle.sched_model.specs.declared.event.Event.{Event}
+use Rattle.sched_model.specs.declared.event.Event.TheVariants as event
 use Rattle.sched_model.specs.declared.event.Refusal.{Refusal}
+use Rattle.sched_model.specs.declared.event.Reply.{Reply}
+use Rattle.sched_model.specs.declared.event.Reply.TheVariants as reply
 use Rattle.sched_model.specs.declared.machine.Machine.{Machine}
 use Rattle.sched_model.specs.declared.plan.Plan.{Plan}
 use Rattle.sched_model.specs.declared.plan.Plan.TheVariants as plan
@@ -10,8 +14,8 @@ use Rattle.sched_model.specs.declared.state.Pool.{Pool}
 use Rattle.sched_model.specs.declared.state.State.{State}
 use Rattle.sched_model.specs.declared.work.CommandLine.{CommandLine}
 use Rattle.sched_model.specs.Actions.{home_of_domain}
-use Rattle.sched_model.specs.Commands.{carried_out, change_home, pool_of_plan}
-use Rattle.sched_model.specs.Machine.{after, after_command, is_enabled, settled_at, verdict}
+use Rattle.sched_model.specs.Commands.{carried_out, change_home, pool_of_plan, reply_of}
+use Rattle.sched_model.specs.Machine.{after, after_command, answer_of, event_of, is_enabled, settled_at, verdict}
 use Rattle.sched_model.specs.Places.{at_place}
 use Rattle.sched_model.specs.Pool.{settled}
 use Rattle.sched_model.proofs.PlaceLemmas.{at_place-change_at, at_place-change_at_other}
@@ -79,6 +83,31 @@ command-state m s t line p is accepted =
     let of_verdict : Result Plan Refusal → State = λ r. elim r as (λ _. State) [ Err fault ↦ next | Ok q ↦ settled_at t (pool_of_plan s q) (carried_out m t q next) ] in
     let of_line : Option CommandLine → State = λ o. elim o as (λ _. State) [ None ↦ s | Some x ↦ after_command m t x s ] in
     sym (ap of_line is ∙ ap of_verdict accepted)
+
+-- what is printed of the next command, where it is refused
+pub refusal-told : (m : Machine) (s : State) (line : CommandLine) (fault : Refusal) (k : ℕ) → slice_get m.work.commands s.next_command ≡ Some line → verdict m s line ≡ Err fault → k ≡ suc s.next_command
+    → event.Xl k (Err fault) ≡ event_of m s s.now Xl
+refusal-told m s line fault k is refused next =
+    let of_verdict : Result Plan Refusal → Event = λ r. event.Xl (suc s.next_command) (elim r as (λ _. Result Reply Refusal) [ Err f ↦ Err f | Ok q ↦ Ok (reply_of q) ]) in
+    let of_line : Option CommandLine → Event = λ o. event.Xl (suc s.next_command) (elim o as (λ _. Result Reply Refusal) [ None ↦ Ok reply.Done | Some x ↦ answer_of m s x ]) in
+    ap (λ n. event.Xl n (Err fault)) next ∙ sym (ap of_line is ∙ ap of_verdict refused)
+
+-- the same, where it is accepted
+pub reply-told : (m : Machine) (s : State) (line : CommandLine) (p : Plan) (k : ℕ) (answer : Reply) → slice_get m.work.commands s.next_command ≡ Some line → verdict m s line ≡ Ok p → k ≡ suc s.next_command
+    → answer ≡ reply_of p → event.Xl k (Ok answer) ≡ event_of m s s.now Xl
+reply-told m s line p k answer is accepted next replied =
+    let of_verdict : Result Plan Refusal → Event = λ r. event.Xl (suc s.next_command) (elim r as (λ _. Result Reply Refusal) [ Err f ↦ Err f | Ok q ↦ Ok (reply_of q) ]) in
+    let of_line : Option CommandLine → Event = λ o. event.Xl (suc s.next_command) (elim o as (λ _. Result Reply Refusal) [ None ↦ Ok reply.Done | Some x ↦ answer_of m s x ]) in
+    ap (λ n. event.Xl n (Ok answer)) next ∙ ap (λ a. event.Xl (suc s.next_command) (Ok a)) replied ∙ sym (ap of_line is ∙ ap of_verdict accepted)
+
+-- the state after a refused command
+pub refused-state : (m : Machine) (s : State) (line : CommandLine) (fault : Refusal) (k : ℕ) → slice_get m.work.commands s.next_command ≡ Some line → verdict m s line ≡ Err fault → k ≡ suc s.next_command
+    → record s { next_command = k } ≡ after m s s.now Xl
+refused-state m s line fault k is refused next =
+    let over : State = record s { next_command = suc s.next_command } in
+    let of_verdict : Result Plan Refusal → State = λ r. elim r as (λ _. State) [ Err f ↦ over | Ok q ↦ settled_at s.now (pool_of_plan s q) (carried_out m s.now q over) ] in
+    let of_line : Option CommandLine → State = λ o. elim o as (λ _. State) [ None ↦ s | Some x ↦ after_command m s.now x s ] in
+    ap (λ (n : ℕ). record s { next_command = n }) next ∙ sym (ap of_line is ∙ ap of_verdict refused)
 
 pub carried-fits : (m : Machine) (s : State) (line : CommandLine) (p : Plan) → Stands m s → is_enabled m s s.now Xl ≡ true → slice_get m.work.commands s.next_command ≡ Some line → verdict m s line ≡ Ok p
     → EachPlace (PoolFitsAt s.now) (carried_out m s.now p (record s { next_command = suc s.next_command })).pools

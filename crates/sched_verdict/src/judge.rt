@@ -98,5 +98,7 @@ pub fn judge(
     ensures verdict { IfOk result (IsVerdict machine ordered schedule.now) }
 {
     let mut checker = Checker::open(alloc, machine, ordered)?;
-    Ok(judge_lines(&mut checker, schedule))
+    let verdict = judge_lines(&mut checker, schedule);
+    drop(checker);
+    Ok(verdict)
 }
