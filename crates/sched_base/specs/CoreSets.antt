@@ -1,9 +1,7 @@
 -- Sets of cores, as numbers with bit r for core r.
-use Rattle.std.specs.Prelude.{ℕ, ◌-◌, ◌^◌, ◌/◌, ◌%◌, ◌==◌, ◌||◌, Bool, List, bit_and, slice_index_or}
+use Rattle.std.specs.Prelude.{ℕ, ◌-◌, ◌^◌, ◌/◌, ◌%◌, ◌==◌, ◌||◌, Bool, bit_and}
 use Rattle.sched_base.specs.declared.Cores.{Cores}
-use Rattle.sched_base.specs.declared.UnitId.{UnitId}
 use Rattle.sched_base.specs.Numbers.{core_set}
-use Rattle.sched_base.specs.Units.{number_of}
 
 -- whether the core is in the set
 abbrev pub has_core : ℕ → ℕ → Bool
@@ -16,7 +14,3 @@ is_allowed cores r home = has_core cores r || bit_and cores home == 0
 -- all 64 cores
 abbrev pub every_core : Cores
 every_core = core_set (2 ^ 64 - 1)
-
--- the set of a unit, in the list by the units' numbers
-abbrev pub mask_of : List Cores → UnitId → Cores
-mask_of masks u = slice_index_or masks (number_of u) every_core

@@ -11,13 +11,11 @@ pub mod error;
 pub mod masks;
 pub mod name;
 pub mod steps;
-pub mod units;
 
 pub use error::{Failed, NoMemory};
-pub use masks::{Masks, has_core, is_allowed};
+pub use masks::{has_core, is_allowed};
 pub use name::Name;
 pub use steps::Steps;
-pub use units::{UNIT_NUMBERS, unit_number};
 
 /// A moment, in nanoseconds from the start of a run.
 #[derive(Clone, Copy, Debug, Default, PartialEq, Eq)]
