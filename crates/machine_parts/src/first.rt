@@ -51,9 +51,15 @@ fn move_first(slots: &[PoolSlot], tool: &ToolState, at: &Trail, t: Moment) -> Op
 {
     match tool.moving() {
         None => None,
-        Some(Move::Res { r, to: None }) => if_ready(core_ready(slots, tool, at, r, t), Action::Moved(r.0)),
+        Some(Move::Res { r, to: None }) => if_ready(
+            core_ready(slots, tool, at, r, t),
+            Action::Moved(r.0),
+        ),
         Some(Move::Res { r, to: Some(_) }) => if_ready(tool.free_ready(t), Action::Moved(r.0)),
-        Some(Move::Dom { d, .. }) => if_ready(domain_ready(slots, tool, at, d), Action::DomMoved(d.0)),
+        Some(Move::Dom { d, .. }) => if_ready(
+            domain_ready(slots, tool, at, d),
+            Action::DomMoved(d.0),
+        ),
     }
 }
 

@@ -4,8 +4,6 @@
 //! to keep, so that only those of a pool that changed are asked again.
 #![tactic(auto)]
 
-
-
 pub mod first;
 pub mod next;
 pub mod order;

@@ -56,7 +56,11 @@ fn earlier_of(a: Option<Action>, b: Option<Action>) -> Option<Action>
             rank_of_action(x);
             a
         }
-        (Some(x), Some(y)) => if rank_of_action(x) <= rank_of_action(y) { a } else { b },
+        (Some(x), Some(y)) => if rank_of_action(x) <= rank_of_action(y) {
+            a
+        } else {
+            b
+        },
     }
 }
 

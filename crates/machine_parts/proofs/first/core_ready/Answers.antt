@@ -31,7 +31,7 @@ returns-in-Some c =
     let low : c.in-Some.i.0 < length c.args.slots.now = core_below w c.args.slots.now c.args.tool.now c.requires.parts c.args.r.0 c.in-Some.i.0 home in
     let low_read : c.from.result < length c.args.slots.now = subst (λ (k : ℕ). k < length c.args.slots.now) (sym c.from.ensures) low in
     let read : at_place c.args.slots.now c.in-Some.i.0 ≡ c.index-slots-from.result =
-        ap (at_place c.args.slots.now) (sym c.from.ensures) ∙ get_or_default c.args.slots.now c.from.result None c.index-slots-from.result low_read ∙ sym c.index-slots-from.is in
+    ap (at_place c.args.slots.now) (sym c.from.ensures) ∙ get_or_default c.args.slots.now c.from.result None c.index-slots-from.result low_read ∙ sym c.index-slots-from.is in
     let here : (o : Option Seen) → at_place c.args.slots.now c.in-Some.i.0 ≡ o → c.index-slots-from.result ≡ o = λ o is. sym read ∙ is in
     at-home w.input (state_of w) c.args.t.0 (Moved c.args.r.0) c.in-Some.i.0 c.moved_ready.result home
     (told-there w c.args.slots.now c.args.tool.now c.requires.parts c.in-Some.i.0 low c.args.t.0 (Moved c.args.r.0) c.moved_ready.result

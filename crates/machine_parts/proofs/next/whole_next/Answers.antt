@@ -33,14 +33,14 @@ returns c =
     let leaving : Option Moment = c.leaving_next.result in
     let is_next : next ≡ earlier due (earlier leaving c.soonest.result) = c.earlier.ensures ∙ ap (earlier due) c.earlier-others.ensures in
     let least : IsSoonest (due ∷ leaving ∷ nexts) next =
-        subst (λ (o : Option Moment). IsSoonest (due ∷ leaving ∷ nexts) o) (sym is_next)
-        (sooner_more due (leaving ∷ nexts) (earlier leaving c.soonest.result) (sooner_more leaving nexts c.soonest.result c.soonest.ensures)) in
+    subst (λ (o : Option Moment). IsSoonest (due ∷ leaving ∷ nexts) o) (sym is_next)
+    (sooner_more due (leaving ∷ nexts) (earlier leaving c.soonest.result) (sooner_more leaving nexts c.soonest.result c.soonest.ensures)) in
     let least_of : IsSoonest (due ∷ leaving_at g (state_of w) (under_way_of (state_of w)) ∷ nexts) next =
-        subst (λ (o : Option Moment). IsSoonest (due ∷ o ∷ nexts) next) c.leaving_next.ensures least in
+    subst (λ (o : Option Moment). IsSoonest (due ∷ o ∷ nexts) next) c.leaving_next.ensures least in
     let quiet : first_enabled w.input (state_of w) (state_of w).now ≡ None = subst (λ (t : ℕ). first_enabled w.input (state_of w) t ≡ None) c.requires.now c.requires.quiet in
     let later : IsLeastLater (state_of w).now (tool_may_act w.input (state_of w)) due =
-        subst (λ (t : ℕ). IsLeastLater t (tool_may_act w.input (state_of w)) due) c.requires.now (c.next_due.ensures.state w.input (state_of w) c.requires.parts.known) in
+    subst (λ (t : ℕ). IsLeastLater t (tool_may_act w.input (state_of w)) due) c.requires.now (c.next_due.ensures.state w.input (state_of w) c.requires.parts.known) in
     let whole : IsWholeNext w.input (state_of w) next =
-        subst (λ (s : State). first_enabled w.input s s.now ≡ None → ArePoolsNexts g s.pools nexts → IsLeastLater s.now (tool_may_act w.input s) due → IsSoonest (due ∷ leaving_at g s (under_way_of s) ∷ nexts) next → IsWholeNext w.input s next) (sym (state_of-is w))
-        (c.law_whole_next.ensures w.input goes.checked w.history goes.run nexts due next) quiet (pools-nexts w c.args.slots.now c.args.tool.now c.requires.parts nexts c.requires.nexts) later least_of in
+    subst (λ (s : State). first_enabled w.input s s.now ≡ None → ArePoolsNexts g s.pools nexts → IsLeastLater s.now (tool_may_act w.input s) due → IsSoonest (due ∷ leaving_at g s (under_way_of s) ∷ nexts) next → IsWholeNext w.input s next) (sym (state_of-is w))
+    (c.law_whole_next.ensures w.input goes.checked w.history goes.run nexts due next) quiet (pools-nexts w c.args.slots.now c.args.tool.now c.requires.parts nexts c.requires.nexts) later least_of in
     c.up_to.ensures ∙ ap (λ (h : ℕ). option_map moment (within h next)) c.requires.horizon ∙ ap (option_map moment) (sym whole.in_horizon)
