@@ -1,12 +1,19 @@
 //! The queues of Credit2 and of RTDS.
 
+ghost use Rattle.std.specs.Prelude.{◌≡◌, ◌<◌, true};
+ghost use Rattle.unit_places.specs.Places.{has_place};
+
 use rtds_queue::{RtdsKey, RtdsQueues};
 use runq::{Allowed, Runq};
 use sched_base::{Cores, DomId, Moment, ResId, UnitId};
 use std::test::Fail;
 use unit_places::Masks;
 
-fn unit(n: u8) -> UnitId {
+/// The first unit of a domain.
+fn unit(n: u8) -> UnitId
+    requires { n < 64 }
+    ensures { has_place result ≡ true }
+{
     UnitId {
         dom: DomId(n),
         n: 0,
