@@ -19,7 +19,6 @@ use sched_ops::Policy;
 use std::alloc::Global;
 
 /// Opens the machine's only pool with this scheduler, which has no domain yet, and drives it to the horizon.
-#[tactic(auto, using(pool_opening::proofs::Restart::stands_alone))]
 fn tally_with<P: Policy>(
     alloc: Global,
     config: &Config,
