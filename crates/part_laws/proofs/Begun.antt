@@ -183,4 +183,5 @@ module _ (m : Machine) (checked : IsChecked m) where
     domains = domain_opened;
     aims = λ r i is. absurd (aimless r i is);
     movers = λ i d j is. absurd (still i d j is);
+    away = λ i d j is. absurd (still i d j is);
   }

@@ -34,12 +34,13 @@ use Rattle.part_laws.proofs.Looks.{has_core_in, moving_in, looks_change_core, lo
 use Rattle.part_laws.proofs.Alike.{core_of, mover_of, target_of, Alike, at_itself, alike_change, alike_change_home, alike_settled_at, looks_itself, looks_rtds}
 use Rattle.part_laws.proofs.Meets.{Meets, verdict_meets}
 
--- each core is free or in a pool, each domain is in a pool, and what is on its way goes to a pool that is there
+-- each core is free or in a pool, each domain is in a pool, and what is on its way goes to a pool that is there, a domain to another than its own
 pub record Housed (m : Machine) (s : State) : Type 0 where
   pub cores : (r : ℕ) → r < core_count m.config → (is_some (at_place s.free r) ≡ true) ⊎ ((i : ℕ) × (core_of (at_place s.pools i) r ≡ true))
   pub domains : (d : ℕ) → d < length m.config.domains → (i : ℕ) × (is_some (mover_of (at_place s.pools i) d) ≡ true)
   pub aims : (r i : ℕ) → target_of s r ≡ Some (Some i) → is_some (at_place s.pools i) ≡ true
   pub movers : (i d : ℕ) (j : PoolId) → mover_of (at_place s.pools i) d ≡ Some (Some j) → is_some (at_place s.pools j.0) ≡ true
+  pub away : (i d : ℕ) (j : PoolId) → mover_of (at_place s.pools i) d ≡ Some (Some j) → j.0 ≢ i
 
 some_target : (o : Option FreeCore) → is_some (option_map (λ (c : FreeCore). c.target) o) ≡ is_some o
 some_target None = refl
@@ -54,6 +55,7 @@ housed_alike m s next a h = record {
   domains = λ d low. let p = h.domains d low in (p.0, ap is_some ((a.pools p.0).domains d) ∙ p.1);
   aims = λ r i is. (a.pools i).there ∙ h.aims r i (sym (a.free r) ∙ is);
   movers = λ i d j is. (a.pools j.0).there ∙ h.movers i d j (sym ((a.pools i).domains d) ∙ is);
+  away = λ i d j is. h.away i d j (sym ((a.pools i).domains d) ∙ is);
 }
 
 -- nothing is on its way
@@ -133,6 +135,10 @@ housed_created m i params s next pools free none h =
     let other : (k : ℕ) → is_some (at_place s.pools k) ≡ true → at_place next.pools k ≡ at_place s.pools k =
     λ k is. ap (λ (l : List (Option Pool)). at_place l k) pools ∙ at_place-put_at_other i k (empty_pool m.config params) s.pools (λ e. clash (is_some (at_place s.pools k)) is (ap is_some (ap (at_place s.pools) e ∙ none))) in
     let here : (k : ℕ) → is_some (at_place s.pools k) ≡ true → is_some (at_place next.pools k) ≡ true = λ k is. ap is_some (other k is) ∙ is in
+    let moved : (k d : ℕ) (j : PoolId) → mover_of (at_place next.pools k) d ≡ Some (Some j) → mover_of (at_place s.pools k) d ≡ Some (Some j) = λ k d j is. elim (after_put i k (empty_pool m.config params) s.pools) [
+      | inl was ↦ ap (λ o. mover_of o d) (sym was) ∙ ap (λ (l : List (Option Pool)). mover_of (at_place l k) d) (sym pools) ∙ is
+      | inr new ↦ absurd (never (Some j) (sym (in_empty_domain m params d) ∙ ap (λ o. mover_of o d) (sym new.1) ∙ ap (λ (l : List (Option Pool)). mover_of (at_place l k) d) (sym pools) ∙ is))
+    ] in
     record {
       cores = λ r low. elim (h.cores r low) [
         | inl is ↦ inl (ap (λ (l : List (Option FreeCore)). is_some (at_place l r)) free ∙ is)
@@ -140,10 +146,8 @@ housed_created m i params s next pools free none h =
       ];
       domains = λ d low. let p = h.domains d low in (p.0, ap (λ o. is_some (mover_of o d)) (other p.0 (there_by_domain (at_place s.pools p.0) d p.1)) ∙ p.1);
       aims = λ r j is. here j (h.aims r j (ap (λ (l : List (Option FreeCore)). option_map (λ (c : FreeCore). c.target) (at_place l r)) (sym free) ∙ is));
-      movers = λ k d j is. elim (after_put i k (empty_pool m.config params) s.pools) [
-        | inl was ↦ here j.0 (h.movers k d j (ap (λ o. mover_of o d) (sym was) ∙ ap (λ (l : List (Option Pool)). mover_of (at_place l k) d) (sym pools) ∙ is))
-        | inr new ↦ absurd (never (Some j) (sym (in_empty_domain m params d) ∙ ap (λ o. mover_of o d) (sym new.1) ∙ ap (λ (l : List (Option Pool)). mover_of (at_place l k) d) (sym pools) ∙ is))
-      ];
+      movers = λ k d j is. here j.0 (h.movers k d j (moved k d j is));
+      away = λ k d j is. h.away k d j (moved k d j is);
     }
 
 -- a pool without cores and domains is destroyed, where nothing is on its way
@@ -152,6 +156,9 @@ housed_destroyed m i s next pools free none still h =
     let core_away : (k r : ℕ) → core_of (at_place s.pools k) r ≡ true → k ≢ i = λ k r has e. no_core (at_place s.pools i) r (λ pool at. empty_numbered 0 r pool.resources (none pool at).0) (ap (λ (j : ℕ). core_of (at_place s.pools j) r) (sym e) ∙ has) in
     let domain_away : (k d : ℕ) → is_some (mover_of (at_place s.pools k) d) ≡ true → k ≢ i = λ k d has e. no_domain (at_place s.pools i) d (λ pool at. empty_numbered 0 d pool.domains (none pool at).1) (ap (λ (j : ℕ). is_some (mover_of (at_place s.pools j) d)) (sym e) ∙ has) in
     let other : (k : ℕ) → k ≢ i → at_place next.pools k ≡ at_place s.pools k = λ k ne. ap (λ (l : List (Option Pool)). at_place l k) pools ∙ at_place-clear_at_other i k s.pools ne in
+    let stays : (k d : ℕ) (j : PoolId) → mover_of (at_place next.pools k) d ≡ Some (Some j) → ⊥ = λ k d j is. dite (ℕ_discrete k i)
+    (λ e. never (Some j) (sym (ap (λ o. mover_of o d) (ap (λ (n : ℕ). at_place next.pools n) e ∙ ap (λ (l : List (Option Pool)). at_place l i) pools ∙ at_place-clear_at i s.pools)) ∙ is))
+    (λ ne. still.movers k d j (ap (λ o. mover_of o d) (sym (other k ne)) ∙ is)) in
     record {
       cores = λ r low. elim (h.cores r low) [
         | inl is ↦ inl (ap (λ (l : List (Option FreeCore)). is_some (at_place l r)) free ∙ is)
@@ -159,9 +166,8 @@ housed_destroyed m i s next pools free none still h =
       ];
       domains = λ d low. let p = h.domains d low in (p.0, ap (λ o. is_some (mover_of o d)) (other p.0 (domain_away p.0 d p.1)) ∙ p.1);
       aims = λ r j is. absurd (still.aims r j (ap (λ (l : List (Option FreeCore)). option_map (λ (c : FreeCore). c.target) (at_place l r)) (sym free) ∙ is));
-      movers = λ k d j is. dite (ℕ_discrete k i)
-          (λ e. absurd (never (Some j) (sym (ap (λ o. mover_of o d) (ap (λ (n : ℕ). at_place next.pools n) e ∙ ap (λ (l : List (Option Pool)). at_place l i) pools ∙ at_place-clear_at i s.pools)) ∙ is)))
-          (λ ne. absurd (still.movers k d j (ap (λ o. mover_of o d) (sym (other k ne)) ∙ is)));
+      movers = λ k d j is. absurd (stays k d j is);
+      away = λ k d j is. absurd (stays k d j is);
     }
   where
     no_core : (o : Option Pool) (r : ℕ) → ((pool : Pool) → o ≡ Some pool → at_place pool.resources r ≡ None) → core_of o r ≡ true → ⊥
@@ -187,6 +193,7 @@ housed_aimed m i r s there h =
           (λ e. subst (λ (k : ℕ). is_some (at_place s.pools k) ≡ true) (target_set i (at_place s.free r) j (ap (option_map (λ (c : FreeCore). c.target)) (sym (at_place-change_at r f s.free)) ∙ ap (λ (n : ℕ). option_map (λ (c : FreeCore). c.target) (at_place (change_at r f s.free) n)) (sym e) ∙ is)) there)
           (λ ne. h.aims q j (ap (option_map (λ (c : FreeCore). c.target)) (sym (at_place-change_at_other r q f s.free ne)) ∙ is));
       movers = h.movers;
+      away = h.away;
     }
 
 -- what stands where f was applied: as before, or f of it
@@ -216,8 +223,9 @@ some_moving d e i pool =
     some_map None = refl
     some_map (Some x) = refl
 
-housed_moving : (m : Machine) (d i j : ℕ) (s : State) → is_some (at_place s.pools j) ≡ true → Housed m s → Housed m (change_pool i (set_moving d j) s)
-housed_moving m d i j s there h =
+-- a domain of the pool i is to move to another, which is there
+housed_moving : (m : Machine) (d i j : ℕ) (s : State) → is_some (at_place s.pools j) ≡ true → j ≢ i → Housed m s → Housed m (change_pool i (set_moving d j) s)
+housed_moving m d i j s there apart h =
     let f : Pool → Pool = set_moving d j in
     let here : (k : ℕ) → is_some (at_place (change_at i f s.pools) k) ≡ is_some (at_place s.pools k) = λ k. some_change_at i k f s.pools in
     record {
@@ -238,6 +246,13 @@ housed_moving m d i j s there h =
         | inr q ↦ here t.0 ∙ elim (mover_moving (at_place s.pools i) e t (ap (λ o. mover_of o e) (sym q.1) ∙ is)) [
           | inl to ↦ ap (λ (n : ℕ). is_some (at_place s.pools n)) to ∙ there
           | inr was ↦ h.movers i e t was
+        ]
+      ];
+      away = λ k e t is same. elim (at_change i k f s.pools) [
+        | inl was ↦ h.away k e t (ap (λ o. mover_of o e) (sym was) ∙ is) same
+        | inr q ↦ elim (mover_moving (at_place s.pools i) e t (ap (λ o. mover_of o e) (sym q.1) ∙ is)) [
+          | inl to ↦ apart (sym to ∙ same ∙ q.0)
+          | inr was ↦ h.away i e t was (same ∙ q.0)
         ]
       ];
     }
@@ -267,7 +282,7 @@ housed_plan m t (plan.CpuAdd i core answer) s meets still h = housed_aimed m i.0
 housed_plan m t (plan.CpuRemove i core answer) s meets still h =
     housed_alike m s (carried_out m t (plan.CpuRemove i core answer) s) (alike_change i.0 (set_leaving core.0) s (λ pool at. looks_change_core (has_core_in pool) (moving_in pool) core.0 _ pool (looks_itself pool))) h
 housed_plan m t (plan.Migrate d i j answer) s meets still h =
-    by_cond (Housed m) (i.0 == j.0) s (change_pool i.0 (set_moving d.0 j.0) s) (λ is. h) (λ is. housed_moving m d.0 i.0 j.0 s meets h)
+    by_cond (Housed m) (i.0 == j.0) s (change_pool i.0 (set_moving d.0 j.0) s) (λ is. h) (λ is. housed_moving m d.0 i.0 j.0 s meets (λ same. absurd (grind (arith, is, same))) h)
 housed_plan m t (plan.Credit2Dom d weight percent answer) s meets still h = of_params m t d.0 (changes.Dom d weight percent) s h
 housed_plan m t (plan.Credit2Pool i None answer) s meets still h = h
 housed_plan m t (plan.Credit2Pool i (Some us) answer) s meets still h =
@@ -304,7 +319,7 @@ housed_line : (m : Machine) (t : ℕ) (line : CommandLine) (s : State) → NoMov
 housed_line m t line s still h =
     let k : ℕ = suc s.next_command in
     let next : State = record s { next_command = k } in
-    let here : Housed m next = record { cores = h.cores; domains = h.domains; aims = h.aims; movers = h.movers } in
+    let here : Housed m next = record { cores = h.cores; domains = h.domains; aims = h.aims; movers = h.movers; away = h.away } in
     let none : NoMoves next = record { aims = still.aims; movers = still.movers } in
     elim (verdict m s line) as (λ v. verdict m s line ≡ v → Housed m (elim v as (λ _. State) [ Err fault ↦ record s { next_command = suc s.next_command } | Ok p ↦ settled_at t (pool_of_plan s p) (carried_out m t p (record s { next_command = suc s.next_command })) ])) [
       | Err fault ↦ λ is. here

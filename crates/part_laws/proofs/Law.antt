@@ -1,8 +1,9 @@
 -- The law of parts, from what is kept.
-use Rattle.std.proofs.Common.{◌≡◌, ◌<◌, ◌≤◌, ◌-◌, ℕ, zero, suc, Bool, true, false, eqb, List, [], ◌∷◌, ◌++◌, length, refl, arith, ap, subst, sym, ◌∙◌, ◌⊎◌, inl, inr, eq-eqb, eqb-true, ne_eqb, cond}
+use Rattle.std.proofs.Common.{◌≡◌, ◌≢◌, ◌<◌, ◌≤◌, ◌-◌, ℕ, zero, suc, Bool, true, false, eqb, List, [], ◌∷◌, ◌++◌, length, refl, arith, ap, subst, sym, ◌∙◌, ◌⊎◌, inl, inr, eq-eqb, eqb-true, ne_eqb, cond}
 use Rattle.std.specs.Prelude.{Option, Some, None, is_some, option_map, take, slice_get, map, nat_lt, ◌&&◌}
 use mathlib.Core.Logic.{dite}
 use native.Mathlib.Decide.{ℕ_discrete}
+use Rattle.sched_base.specs.declared.PoolId.{PoolId}
 use Rattle.sched_model.specs.declared.event.Event.{Event}
 use Rattle.sched_model.specs.declared.event.Entry.{Entry}
 use Rattle.sched_model.specs.declared.machine.Machine.{Machine}
@@ -58,7 +59,7 @@ housed_after m s t (Save r) on places h = housed_home m t (Save r) s h
 
 housed_quiet : (m : Machine) (end : Option ℕ) (from : Reached) → Housed m from.state → Housed m (after_quiet end from).state
 housed_quiet m None from h = h
-housed_quiet m (Some next) from h = record { cores = h.cores; domains = h.domains; aims = h.aims; movers = h.movers }
+housed_quiet m (Some next) from h = record { cores = h.cores; domains = h.domains; aims = h.aims; movers = h.movers; away = h.away }
 
 housed_event : (m : Machine) (e : Event) (action : Option Action) (from : Reached) → IsNextEvent m from.state e action → HasPlaces m from.state → Housed m from.state → Housed m (after_event m e action from).state
 housed_event m e None from next places h = housed_quiet m (end_of e) from h
@@ -82,6 +83,12 @@ housed_from m checked done (e ∷ rest) from is run goes h =
     housed_from m checked (done ++ e ∷ []) rest (after_entry m from e) (sym (after_more m (begun m) done e) ∙ ap (λ r. after_entry m r e) is)
     (run_more m (begun m) done e run (subst (λ r. IsNext m r e) (sym is) goes.0)) goes.1
     (housed_event m e.event (action_of e.event) from goes.0.event (subst (λ (r : Reached). HasPlaces m r.state) is (has_places m checked done run)) h)
+
+-- a domain that is moving moves to another pool
+pub moves-away : (m : Machine) → IsChecked m → (entries : List Entry) → IsRun m entries → (i d : ℕ) (pool : Pool) (x : Domain) (j : PoolId) → at_place (state_after m entries).pools i ≡ Some pool → at_place pool.domains d ≡ Some x → x.moving ≡ Some j
+    → j.0 ≢ i
+moves-away m checked entries run i d pool x j at has moves =
+    (housed_from m checked [] entries (begun m) refl tt run (housed_opening m checked)).away i d j (ap (λ o. mover_of o d) at ∙ ap (option_map (λ (y : Domain). y.moving)) has ∙ ap (λ o. Some o) moves)
 
 -- from a test to another and back
 same_tests : (a b : Bool) → (a ≡ true → b ≡ true) → (b ≡ true → a ≡ true) → a ≡ b

@@ -69,6 +69,7 @@ housed_core m r i f s next leaves pools free here aimless h =
           (λ e. absurd (aimless j (ap (target_of next) (sym e) ∙ is)))
           (λ ne. there j ∙ h.aims q j (ap (option_map (λ (c : FreeCore). c.target)) (sym (free q ne)) ∙ is));
       movers = λ k d j is. there j.0 ∙ h.movers k d j (sym (mover k d) ∙ is);
+      away = λ k d j is. h.away k d j (sym (mover k d) ∙ is);
     }
 
 -- a free core joins the pool i, which is there
@@ -179,21 +180,23 @@ housed_dom m g t d i j pool x s places at has moves h =
     let target : is_some (at_place s.pools j.0) ≡ true = h.movers i d j (ap (λ o. mover_of o d) at ∙ ap (option_map (λ (y : Domain). y.moving)) has ∙ ap (λ o. Some o) moves) in
     let low : d < length m.config.domains = (let below = place_below pool.domains d x has in let e = places.domains i pool at in omega (arith, below, e)) in
     let came : mover_of (at_place last j.0) d ≡ Some None = ap (λ o. mover_of o d) (at_place-change_at j.0 (joined_by g t d x) mid) ∙ joins (at_place mid j.0) ((a j.0).there ∙ target) (λ q at_q. long low q at_q) in
+    let before : (k e : ℕ) (z : PoolId) → mover_of (at_place last k) e ≡ Some (Some z) → mover_of (at_place s.pools k) e ≡ Some (Some z) = λ k e z is. dite (ℕ_discrete e d)
+    (λ same. dite (ℕ_discrete k j.0)
+    (λ here. let no : Some None ≡ Some (Some z) = sym came ∙ (λ n. mover_of (at_place last (sym here n)) (sym same n)) ∙ is in absurd (cc))
+    (λ ne. let was : mover_of (at_place mid k) d ≡ Some (Some z) = ap (λ o. mover_of o d) (sym (at_place-change_at_other j.0 k (joined_by g t d x) mid ne)) ∙ ap (mover_of (at_place last k)) (sym same) ∙ is in
+    elim (at_change i k (left_by t d) s.pools) [
+      | inl stays ↦ ap (mover_of (at_place s.pools k)) same ∙ ap (λ o. mover_of o d) (sym stays) ∙ was
+      | inr gone ↦ absurd (never (Some z) (sym (goes (at_place s.pools i)) ∙ ap (λ o. mover_of o d) (sym gone.1) ∙ was))
+    ]))
+    (λ ne. sym (mover k e ne) ∙ is) in
     record {
       cores = λ r small. elim (h.cores r small) [ inl is ↦ inl is | inr p ↦ inr (p.0, (b p.0).cores r ∙ (a p.0).cores r ∙ p.1) ];
       domains = λ e small. dite (ℕ_discrete e d)
           (λ is. (j.0, ap (λ (n : ℕ). is_some (mover_of (at_place last j.0) n)) is ∙ ap is_some came))
           (λ ne. let p = h.domains e small in (p.0, ap is_some (mover p.0 e ne) ∙ p.1));
       aims = λ r k is. there k ∙ h.aims r k is;
-      movers = λ k e z is. there z.0 ∙ dite (ℕ_discrete e d)
-          (λ same. dite (ℕ_discrete k j.0)
-          (λ here. let no : Some None ≡ Some (Some z) = sym came ∙ (λ n. mover_of (at_place last (sym here n)) (sym same n)) ∙ is in absurd (cc))
-          (λ ne. let was : mover_of (at_place mid k) d ≡ Some (Some z) = ap (λ o. mover_of o d) (sym (at_place-change_at_other j.0 k (joined_by g t d x) mid ne)) ∙ ap (mover_of (at_place last k)) (sym same) ∙ is in
-          elim (at_change i k (left_by t d) s.pools) [
-            | inl stays ↦ h.movers k d z (ap (λ o. mover_of o d) (sym stays) ∙ was)
-            | inr gone ↦ absurd (never (Some z) (sym (goes (at_place s.pools i)) ∙ ap (λ o. mover_of o d) (sym gone.1) ∙ was))
-          ]))
-          (λ ne. h.movers k e z (sym (mover k e ne) ∙ is));
+      movers = λ k e z is. there z.0 ∙ h.movers k e z (before k e z is);
+      away = λ k e z is. h.away k e z (before k e z is);
     }
   where
     joins : (o : Option Pool) → is_some o ≡ true → ((q : Pool) → o ≡ Some q → d < length q.domains) → mover_of (option_map (joined_by g t d x) o) d ≡ Some None
