@@ -29,7 +29,7 @@ pub now_of-is : (w : Told) → now_at w.input w.history ≡ (state_of w).now
 unfolding state_of now_at
 now_of-is w = refl
 
-abbrev open_at : State → Reached
+abbrev pub open_at : State → Reached
 open_at s = record { state = s; over = false }
 
 -- the run is there, and not over

@@ -6,3 +6,4 @@ pub mod Stepping
 pub mod Shelving
 pub mod Fitting
 pub mod Counting
+pub mod Keeping

@@ -1,13 +1,16 @@
 -- The room of a pool stays as its domains keep their vCPUs.
-use Rattle.std.proofs.Common.{◌≡◌, ◌≤◌, ◌<◌, ◌∙◌, ℕ, ◌+◌, ◌-◌, ◌/◌, ◌&&◌, true, false, List, [], ◌∷◌, length, map, refl, sym, ap, subst, arith}
-use Rattle.std.specs.Prelude.{Option, Some, None, option_map}
-use Rattle.sched_base.specs.Numbers.{domain as domain_number, pool as pool_number}
+use Rattle.std.proofs.Common.{◌≡◌, ◌≤◌, ◌<◌, ◌∙◌, ℕ, ◌+◌, ◌-◌, ◌/◌, ◌&&◌, Bool, true, false, List, [], ◌∷◌, length, map, refl, sym, ap, subst, arith}
+use Rattle.std.specs.Prelude.{Option, Some, None, option_map, unwrap_or}
+use Rattle.sched_base.specs.Numbers.{domain as domain_number, pool as pool_number, span}
+use Rattle.sched_base.specs.declared.Span.{Span}
+use Rattle.sched_base.specs.declared.UnitId.{UnitId}
 use Rattle.sched_model.specs.declared.action.Action.{Action}
 use Rattle.sched_model.specs.declared.config.DomParams.{DomParams}
 use Rattle.sched_model.specs.declared.config.ParamChange.{ParamChange}
 use Rattle.sched_model.specs.declared.config.ParamChange.TheVariants as changes
 use Rattle.sched_model.specs.declared.state.Domain.{Domain}
 use Rattle.sched_model.specs.declared.state.Pool.{Pool}
+use Rattle.sched_model.specs.Commands.{set_rtds, set_rtds_unit}
 use Rattle.sched_model.specs.Places.{at_place, numbers_from, put_at, test_at}
 use Rattle.sched_model.specs.Policy as policy
 use Rattle.sched_model.specs.Pool.{change_domain, is_off, marked, pause, queue_if_off, queue_units, set_moving, set_params, settled, unit_count, unpause, with_domain, without_domain}
@@ -95,6 +98,17 @@ domains-marked (changes.Pin d unit cores) t pool = refl
 
 pub units-set : (g t : ℕ) (change : ParamChange) (pool : Pool) → units_in g (set_params change t pool).domains ≡ units_in g pool.domains
 units-set g t change pool = ap (units_in g) (domains-marked change t (record pool { scheduler = policy.set_params change t pool.scheduler }))
+
+units-rtds_unit : (g t : ℕ) (period budget : Option Span) (extra : Option Bool) (u : UnitId) (pool : Pool) → units_in g (set_rtds_unit t period budget extra u pool).domains ≡ units_in g pool.domains
+units-rtds_unit g t period budget extra u pool =
+    by_option (λ (next : Pool). units_in g next.domains ≡ units_in g pool.domains) (policy.rtds_record pool.scheduler.records u) _ _ (λ none. refl)
+    (λ x at. units-set g t (changes.«Unit» u (unwrap_or period (span x.next_period)) (unwrap_or budget (span x.next_budget)) (unwrap_or extra x.next_extra)) pool)
+
+pub units-rtds : (g t d : ℕ) (period budget : Option Span) (extra : Option Bool) (ns : List ℕ) (pool : Pool) → units_in g (set_rtds t d period budget extra ns pool).domains ≡ units_in g pool.domains
+units-rtds g t d period budget extra [] pool = refl
+units-rtds g t d period budget extra (n ∷ ns) pool =
+    let u : UnitId = record { dom = domain_number d; n = n } in
+    units-rtds g t d period budget extra ns (set_rtds_unit t period budget extra u pool) ∙ units-rtds_unit g t period budget extra u pool
 
 -- a domain that comes and one that goes
 placed-given_here : (seen : Seen) (t d : ℕ) (x : Domain) (params : DomParams) → d < length seen.pool.domains → at_place seen.pool.domains d ≡ None → unit_count seen.granularity x ≤ seen.spare → IsPlaced seen

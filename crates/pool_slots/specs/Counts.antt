@@ -10,7 +10,8 @@ use Rattle.sched_model.specs.declared.work.CommandLine.{CommandLine}
 use Rattle.sched_model.specs.Commands.{is_kind}
 use Rattle.sched_model.specs.Opening.{most_pools}
 use Rattle.journal_core.specs.Parts.{Outline, ToolPart}
-use Rattle.pool_slots.specs.Spares.{Shelf}
+use Rattle.std.specs.List.{All}
+use Rattle.pool_slots.specs.Spares.{IsSpare, Shelf, Shelves, shelf_of}
 
 -- how many pools of the scheduler are in use, as the tool knows them
 abbrev pub in_use_of : SchedKind → List (Option Outline) → ℕ
@@ -44,3 +45,13 @@ pub record HasSpares (m : Machine) (kind : SchedKind) (part : ToolPart) (shelf :
   pub sum : in_use_of kind part.pools + length shelf.pools ≡ most_at_once m kind
   pub made : in_use_of kind part.pools ≤ configured_of kind m.config.pools + made_by kind (take part.next_command m.work.commands)
   pub capacity : most_at_once m kind ≤ shelf.capacity
+
+-- the same of each scheduler, and every spare pool is one that a command of the machine may make
+pub record AreSpares (m : Machine) (now : ℕ) (part : ToolPart) (shelves : Shelves) : Type 0 where
+  pub counts : (kind : SchedKind) → HasSpares m kind part (shelf_of kind shelves)
+  pub suit : (kind : SchedKind) → All (IsSpare m now kind) (shelf_of kind shelves).pools
+
+-- as many pools of each scheduler are in use as before, and as many commands are over
+pub record KeepsCounts (part next : ToolPart) : Type 0 where
+  pub in_use : (kind : SchedKind) → in_use_of kind next.pools ≡ in_use_of kind part.pools
+  pub commands : next.next_command ≡ part.next_command

@@ -3,22 +3,26 @@
 
 use crate::slot::PoolSlot;
 use crate::trail::Trail;
+use pool_core::RtdsGiven;
 use sched_base::{DomId, Moment, PoolId, ResId};
 use sched_model::config::{DomParams, ParamChange};
 use sched_model::facts::ResPart;
 use unit_state::DomPart;
 
 impl PoolSlot {
-    ghost use Rattle.std.specs.Prelude.{◌≡◌, ◌<◌, ◌+◌, ◌-◌, true, None, Some, length, option_map};
+    ghost use Rattle.std.specs.Prelude.{◌≡◌, ◌≤◌, ◌<◌, ◌+◌, ◌-◌, true, None, Some, length, option_map};
     ghost use Rattle.std.specs.Option.{ForSome, IsSome};
     ghost use Rattle.sched_model.specs.declared.action.Action.TheVariants.{DomMoved, Moved};
-    ghost use Rattle.sched_model.specs.Places.{at_place};
+    ghost use Rattle.sched_model.specs.Commands.{set_rtds};
+    ghost use Rattle.sched_model.specs.Places.{at_place, numbers_from};
     ghost use Rattle.sched_model.specs.Policy.{kind_of};
     ghost use Rattle.sched_model.specs.Pool.{enabled_in, pause as pause_spec, set_leaving as set_leaving_spec, set_moving as set_moving_spec, set_params as set_params_spec, settled, unit_count, unpause as unpause_spec, with_domain, without_domain};
     ghost use Rattle.sched_ops.specs.Conditions.{AreDomParams, IsChange};
     ghost use Rattle.sched_ranges.specs.Ranges.{DomainInRange};
     ghost use Rattle.plain_pool.specs.Cores.{ends_of};
     ghost use Rattle.unit_state.specs.Parts.{IsPart};
+    ghost use Rattle.unit_state.specs.Seen.{units_at};
+    ghost use Rattle.pool_core.specs.Params.{AreGiven};
     ghost use Rattle.pool_core.specs.Seen.{IsNow, seen_at, with_core, with_spare, without_core};
     ghost use Rattle.pool_slots.specs.Places.{GoesOn, StandsAt, state_of, with_pool};
 
@@ -61,6 +65,20 @@ impl PoolSlot {
             return;
         };
         pool.set_params(change, t);
+    }
+
+    /// So many units of the domain, from the unit first on, get new RTDS parameters; what is not given stays as it was set. They are
+    /// in force from a unit's next replenishment on. Where the scheduler is another, nothing changes but by the look at the cores.
+    pub fn set_units(&mut self, d: DomId, first: u8, count: u8, given: RtdsGiven, t: Moment)
+        requires now { ForSome self.old (λ seen. IsNow seen t.0) }
+        requires units { ForSome self.old (λ seen. first + count ≤ units_at seen.granularity (at_place seen.pool.domains d.0)) }
+        requires given { 0 < count → AreGiven given.period given.budget }
+        ensures { self.new ≡ option_map (λ seen. seen_at t.0 (settled t.0 (set_rtds t.0 d.0 given.period given.budget given.extra (numbers_from first count) seen.pool)) seen) self.old }
+    {
+        let Some(pool) = &mut self.state else {
+            return;
+        };
+        pool.set_units(d, first, count, given, t);
     }
 
     /// A core is leaving; it is to decide where it has a unit. The cores are not looked at.

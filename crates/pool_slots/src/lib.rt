@@ -8,11 +8,13 @@
 pub mod acts;
 pub mod among;
 pub mod changes;
+pub mod counts;
 pub mod slot;
 pub mod spares;
 pub mod trail;
 
 pub use among::perform_among;
-pub use slot::PoolSlot;
+pub use counts::KindCounts;
+pub use slot::{AnyPool, PoolSlot};
 pub use spares::Spares;
 pub use trail::Trail;

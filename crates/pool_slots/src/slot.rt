@@ -61,6 +61,14 @@ impl PoolSlot {
     ghost use Rattle.pool_slots.specs.Places.{with_pool};
     ghost use Rattle.pool_slots.specs.Rooms.{IsPlaced};
 
+    /// A place with this pool.
+    pub fn of(pool: AnyPool) -> PoolSlot
+        requires placed { IsPlaced pool.value }
+        ensures { result ≡ Some pool.value }
+    {
+        PoolSlot { state: Some(pool) }
+    }
+
     /// Whether there is no pool here.
     pub fn is_empty(&self) -> bool
         ensures { result ≡ not (is_some self.now) }

@@ -1,5 +1,6 @@
 //! Pools that wait for a command that makes a pool.
 
+use crate::counts::KindCounts;
 use crate::slot::AnyPool;
 use sched_base::NoMemory;
 use sched_model::config::SchedKind;
@@ -82,8 +83,24 @@ impl Model for Spares {
 }
 
 impl Spares {
-    ghost use Rattle.std.specs.Prelude.{◌≡◌, ◌<◌, length};
+    ghost use Rattle.std.specs.Prelude.{◌≡◌, ◌<◌, ◌≤◌, [], length, IfOk};
+    ghost use Rattle.sched_model.specs.declared.config.SchedKind.{SchedKind};
+    ghost use Rattle.pool_slots.specs.Kinds.{count_of};
     ghost use Rattle.pool_slots.specs.Spares.{IsIdle, shelf_of, shelves_with};
+
+    /// No spare pool yet, and room for so many of each scheduler, at most 16 of each.
+    pub fn room(alloc: Global, most: KindCounts) -> Result<Spares, NoMemory>
+        requires few { (kind : SchedKind) → count_of kind most ≤ 16 }
+        ensures pools { IfOk result (λ spares. (kind : SchedKind) → (shelf_of kind spares).pools ≡ []) }
+        ensures capacity { IfOk result (λ spares. (kind : SchedKind) → count_of kind most ≤ (shelf_of kind spares).capacity) }
+    {
+        Ok(Spares {
+            credit2: Shelf::room(alloc, usize::from(most.credit2))?,
+            rtds: Shelf::room(alloc, usize::from(most.rtds))?,
+            arinc: Shelf::room(alloc, usize::from(most.arinc))?,
+            null: Shelf::room(alloc, usize::from(most.null))?,
+        })
+    }
 
     /// A spare pool of the scheduler goes out: the one that came last.
     pub fn take(&mut self, kind: SchedKind) -> AnyPool

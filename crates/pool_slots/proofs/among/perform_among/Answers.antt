@@ -1,4 +1,4 @@
-use Rattle.std.proofs.Common.{◌<◌, length, subst, arith}
+use Rattle.std.proofs.Common.{◌<◌, length, subst, arith, get_or-set_other}
 use Rattle.std.specs.Prelude.{None}
 use Rattle.pool_slots.specs.Places.{StandsAt}
 use Rattle.pool_slots.proofs.Stepping.{any-default, few-pools, stand-done, state-done, step-done}
@@ -24,3 +24,6 @@ returns-clause-step c = step-done c.args.at.now c.requires.goes c.args.t.0 c.req
 
 pub returns-clause-stand : goal.returns-clause-stand
 returns-clause-stand c = stand-done c.args.at.now c.requires.goes c.args.t.0 c.requires.now c.args.action c.requires.own c.requires.enabled c.args.i c.requires.home c.perform.result c.perform.ensures.event c.args.slots.now c.perform.new.self c.requires.stand c.perform.ensures.stands
+
+pub returns-clause-others : goal.returns-clause-others
+returns-clause-others c k other = get_or-set_other c.args.slots.now c.args.i k c.perform.new.self None other
