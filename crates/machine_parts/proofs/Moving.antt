@@ -1,12 +1,11 @@
 -- The move of what is on its way, told by the tool and by the pool that it leaves.
 use Rattle.std.proofs.Common.{◌≡◌, ◌≤◌, ℕ, Bool, true, false, List, refl, sym, ap, subst, arith, ◌∙◌, cond}
-use Rattle.std.specs.Prelude.{Option, Some, None, option_map, is_some, ◌&&◌, ◌||◌}
+use Rattle.std.specs.Prelude.{Option, Some, None, option_map, is_some, ◌||◌}
 use Rattle.sched_base.specs.Numbers.{core as core_number, domain as domain_number, pool as pool_number}
 use Rattle.sched_base.specs.declared.DomId.{DomId}
 use Rattle.sched_base.specs.declared.PoolId.{PoolId}
 use Rattle.sched_base.specs.declared.ResId.{ResId}
-use Rattle.sched_model.specs.declared.action.Action.{Action}
-use Rattle.sched_model.specs.declared.action.Action.TheVariants.{Moved, DomMoved}
+use Rattle.sched_model.specs.declared.action.Action.TheVariants.{Moved}
 use Rattle.sched_model.specs.declared.config.SchedKind.{SchedKind}
 use Rattle.sched_model.specs.declared.event.Entry.{Entry}
 use Rattle.sched_model.specs.declared.machine.Machine.{Machine}
@@ -16,23 +15,20 @@ use Rattle.sched_model.specs.Actions.{home_of_core}
 use Rattle.sched_model.specs.Checked.{IsChecked}
 use Rattle.sched_model.specs.Machine.{is_enabled, enabled_at_home, free_ready}
 use Rattle.sched_model.specs.Places.{at_place, test_at}
-use Rattle.sched_model.specs.Pool.{enabled_in}
 use Rattle.sched_model.specs.Runs.{IsRun}
 use Rattle.sched_laws.specs.StateLaws.{state_after}
 use Rattle.sched_laws.proofs.Bools.{and_left}
 use Rattle.sched_laws.proofs.Lists.{some-test_at}
 use Rattle.sched_laws.proofs.PoolsLaw.{pools_keep_their_own}
 use Rattle.journal_core.specs.Parts.{ToolPart, UnderWay, core_to, domain_to, under_way_of}
-use Rattle.cpupool.specs.declared.moves.Move.{Move}
 use Rattle.cpupool.specs.declared.moves.Move.TheVariants as move
 use Rattle.cpupool.specs.Coming.{joins_at, may_join}
-use Rattle.cpupool.specs.Steps.{kind_at, move_of}
+use Rattle.cpupool.specs.Steps.{move_of}
 use Rattle.cpupool.proofs.ArrivedLemmas.{core_joins}
 use Rattle.move_laws.proofs.Counted.{in_all, in_all_is}
-use Rattle.move_laws.proofs.Ending.{Joining}
 use Rattle.move_laws.proofs.Whose.{joining_answers}
 use Rattle.move_laws.proofs.Law.{has_one_move}
-use Rattle.actor_laws.specs.First.{if_enabled, move_first}
+use Rattle.actor_laws.specs.First.{move_first}
 use Rattle.pool_slots.specs.Told.{Told}
 use Rattle.pool_slots.specs.Places.{GoesOn, state_of}
 use Rattle.pool_slots.proofs.Going.{state_of-is}

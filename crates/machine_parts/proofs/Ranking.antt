@@ -1,11 +1,11 @@
 -- The earliest of some actions, one by one.
-use Rattle.std.proofs.Common.{◌≡◌, ◌≤◌, ◌<◌, ℕ, zero, suc, Bool, true, false, List, [], ◌∷◌, length, take, drop, get_or, ◌-◌, ap, refl, arith, subst, sym, cond}
+use Rattle.std.proofs.Common.{◌≡◌, ◌≤◌, ℕ, zero, suc, Bool, true, false, List, [], ◌∷◌, length, take, drop, get_or, ◌-◌, ap, refl, arith, subst, cond}
 use Rattle.std.specs.Prelude.{Option, Some, None, nat_le}
 use Rattle.std.specs.Option.{ForSome}
 use Rattle.std.proofs.lemmas.List.{take_rest}
 use Rattle.sched_model.specs.declared.action.Action.{Action}
 use Rattle.sched_model.specs.Places.{at_place}
-use Rattle.pool_laws.specs.Order.{IsNotAfter, kind_place, subject_place, index_place}
+use Rattle.pool_laws.specs.Order.{IsNotAfter, kind_place, subject_place}
 use Rattle.order_laws.proofs.Stretches.{not_after_itself}
 use Rattle.actor_laws.specs.First.{ComesEarliest, IsEarliest}
 use Rattle.machine_parts.specs.Ranks.{IsSmall, rank_of, earlier_action}

@@ -1,5 +1,5 @@
 -- The least of some moments, one by one.
-use Rattle.std.proofs.Common.{◌≡◌, ◌≤◌, ℕ, zero, suc, Bool, true, false, List, [], ◌∷◌, refl, arith, subst, cond}
+use Rattle.std.proofs.Common.{◌≡◌, ◌≤◌, ℕ, zero, suc, Bool, true, false, List, ◌∷◌, refl, arith, subst, cond}
 use Rattle.std.specs.Prelude.{Option, Some, None, nat_le}
 use Rattle.sched_base.specs.declared.Moment.{Moment}
 use Rattle.sched_model.specs.Places.{at_place}

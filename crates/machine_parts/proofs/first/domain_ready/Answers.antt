@@ -1,7 +1,6 @@
 use Rattle.std.proofs.Common.{◌≡◌, ◌<◌, ℕ, length, subst, sym, ap, ◌∙◌}
 use Rattle.std.proofs.lemmas.List.{get_or_default}
-use Rattle.std.specs.Prelude.{Option, None, Some, option_map}
-use Rattle.sched_base.specs.Numbers.{pool as pool_number}
+use Rattle.std.specs.Prelude.{Option, None, Some}
 use Rattle.sched_model.specs.declared.action.Action.TheVariants.{DomMoved}
 use Rattle.sched_model.specs.Actions.{home_of_domain}
 use Rattle.sched_model.specs.Places.{at_place}

@@ -1,5 +1,5 @@
 use Rattle.std.proofs.Common.{◌≡◌, ◌≤◌, ◌∷◌, ℕ, List, sym, subst, ap, arith, ◌∙◌}
-use Rattle.std.specs.Prelude.{Option, None, Some, option_map}
+use Rattle.std.specs.Prelude.{Option, None, option_map}
 use Rattle.sched_base.specs.Numbers.{moment}
 use Rattle.sched_base.specs.declared.Moment.{Moment}
 use Rattle.sched_model.specs.declared.state.State.{State}

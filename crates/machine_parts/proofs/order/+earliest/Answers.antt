@@ -1,4 +1,4 @@
-use Rattle.std.proofs.Common.{◌≡◌, ◌∷◌, ◌-◌, List, length, take, drop, get_or, subst, sym}
+use Rattle.std.proofs.Common.{◌-◌, List, length, take, drop, get_or, subst, sym}
 use Rattle.std.specs.Prelude.{Option, None}
 use Rattle.sched_model.specs.declared.action.Action.{Action}
 use Rattle.actor_laws.specs.First.{IsEarliest}
