@@ -1,0 +1,124 @@
+-- The parts of the machine after the next command.
+use Rattle.std.proofs.Common.{◌≡◌, ◌∙◌, ◌<◌, ℕ, suc, true, List, refl, sym, ap, subst, arith}
+use Rattle.std.specs.Prelude.{Option, Some, None, Result, Ok, Err, option_map, slice_get, slice_set}
+use Rattle.std.specs.Option.{ForSome}
+use Rattle.sched_model.specs.declared.action.Action.TheVariants.{Xl}
+use Rattle.sched_model.specs.declared.event.Event.{Event}
+use Rattle.sched_model.specs.declared.event.Event.TheVariants as event
+use Rattle.sched_model.specs.declared.event.Refusal.{Refusal}
+use Rattle.sched_model.specs.declared.event.Reply.{Reply}
+use Rattle.sched_model.specs.declared.event.Reply.TheVariants as reply
+use Rattle.sched_model.specs.declared.machine.Machine.{Machine}
+use Rattle.sched_model.specs.declared.plan.Plan.{Plan}
+use Rattle.sched_model.specs.declared.plan.Plan.TheVariants as plan
+use Rattle.sched_model.specs.declared.state.Pool.{Pool}
+use Rattle.sched_model.specs.declared.state.State.{State}
+use Rattle.sched_model.specs.declared.work.CommandLine.{CommandLine}
+use Rattle.sched_model.specs.Commands.{pool_of_plan, reply_of}
+use Rattle.sched_model.specs.Machine.{after, after_command, answer_of, event_of, is_enabled, verdict}
+use Rattle.sched_model.specs.Places.{at_place}
+use Rattle.sched_model.specs.Pool.{settled}
+use Rattle.cpupool.specs.Tool.{Tool, tool_of}
+use Rattle.pool_core.specs.Seen.{Seen, seen_at}
+use Rattle.pool_slots.specs.Told.{Told}
+use Rattle.pool_slots.specs.Places.{SlotSuits, StandsAt, state_of}
+use Rattle.pool_slots.proofs.Standing.{pool_at}
+use Rattle.tool_laws.specs.ToolSteps.{ChangesPlace, CommandSteps, carried_at, changed_by}
+use Rattle.tool_laws.proofs.Steps.{tool_steps}
+use Rattle.machine_parts.specs.Parts.{AreParts}
+use Rattle.tool_acts.specs.Acts.{Begins, told_event}
+use Rattle.tool_acts.specs.Carrying.{HasCarried, KeepsPools, carried_slot, changed_slot, xl_told}
+use Rattle.tool_acts.proofs.Acting.{acted-alone, acted-on, parts-alone, parts-on, stands-changed}
+
+module _ (w : Told) (slots : List (Option Seen)) (tool : Tool) (parts : AreParts w slots tool) (enabled : is_enabled w.input (state_of w) (state_of w).now Xl ≡ true) where
+  abbrev m : Machine
+  m = w.input
+
+  abbrev s : State
+  s = state_of w
+
+  begins : Begins w tool s.now Xl
+  begins = record { goes = parts.goes; now = refl; known = parts.known; enabled = enabled }
+
+  module _ (line : CommandLine) (is : slice_get m.work.commands s.next_command ≡ Some line) where
+    -- the state after the command
+    pub left-is : after_command m s.now line s ≡ after m s s.now Xl
+    left-is = sym (ap (λ (o : Option CommandLine). elim o as (λ _. State) [ None ↦ s | Some x ↦ after_command m s.now x s ]) is)
+
+    known : (new : Tool) → new ≡ tool_of m (after_command m s.now line s) → tool_of m (after m s s.now Xl) ≡ new
+    known new told = sym (told ∙ ap (tool_of m) left-is)
+
+    steps : CommandSteps m s s.now line
+    steps = (tool_steps m s s.now).command line is
+
+    pub parts-refused : (fault : Refusal) (new : Tool) → verdict m s line ≡ Err fault → new ≡ tool_of m (after_command m s.now line s) → AreParts (xl_told w) slots new
+    parts-refused fault new says told = parts-alone w slots parts.stand (xl_told w) new refl (acted-alone w tool s.now Xl begins _ refl new (steps.refused fault says) (known new told))
+
+    pub parts-homeless : (p : Plan) (new : Tool) → verdict m s line ≡ Ok p → pool_of_plan s p ≡ None → new ≡ tool_of m (after_command m s.now line s) → AreParts (xl_told w) slots new
+    parts-homeless p new says home told = parts-alone w slots parts.stand (xl_told w) new refl (acted-alone w tool s.now Xl begins _ refl new (steps.none p says home) (known new told))
+
+    pub parts-carried : (p : Plan) (i : ℕ) (next : List (Option Seen)) (new : Tool) → i < 16 → verdict m s line ≡ Ok p → pool_of_plan s p ≡ Some i → HasCarried w s.now p i slots next → new ≡ tool_of m (after_command m s.now line s)
+        → AreParts (xl_told w) next new
+    parts-carried p i next new low says home carried told =
+        let changes : ChangesPlace s (after m s s.now Xl) i (carried_at m s.now p) = steps.own p i says home in
+        let stands : StandsAt (xl_told w) i carried.slot =
+        stands-changed w tool s.now Xl begins _ refl i (carried_at m s.now p) (at_place slots i) carried.slot changes (parts.stand.each i low) carried.made carried.suits in
+        subst (λ (xs : List (Option Seen)). AreParts (xl_told w) xs new) (sym carried.only)
+        (parts-on w slots parts.stand (xl_told w) new refl i carried.slot (acted-on w tool s.now Xl begins _ refl i (carried_at m s.now p) new changes (known new told)) stands)
+
+-- what is printed of the next command
+module _ (m : Machine) (s : State) (line : CommandLine) (is : slice_get m.work.commands s.next_command ≡ Some line) (k : ℕ) (next : k ≡ suc s.next_command) where
+  pub told-answer : (answer : Result Reply Refusal) → answer ≡ answer_of m s line → event.Xl k answer ≡ event_of m s s.now Xl
+  told-answer answer same =
+      let of_line : Option CommandLine → Event = λ o. event.Xl (suc s.next_command) (elim o as (λ _. Result Reply Refusal) [ None ↦ Ok reply.Done | Some x ↦ answer_of m s x ]) in
+      ap (λ n. event.Xl n answer) next ∙ ap (λ a. event.Xl (suc s.next_command) a) same ∙ sym (ap of_line is)
+
+-- the answer to a line, by its verdict
+pub answer-is : (m : Machine) (s : State) (line : CommandLine) (v : Result Plan Refusal) → verdict m s line ≡ v → answer_of m s line ≡ (elim v as (λ _. Result Reply Refusal) [ Err fault ↦ Err fault | Ok p ↦ Ok (reply_of p) ])
+answer-is m s line v says = ap (λ (r : Result Plan Refusal). elim r as (λ _. Result Reply Refusal) [ Err fault ↦ Err fault | Ok p ↦ Ok (reply_of p) ]) says
+
+-- what a plan that keeps the pools makes of what stands at its place
+carried-keeps : (m : Machine) (t : ℕ) (p : Plan) → KeepsPools p → (o : Option Pool) → carried_at m t p o ≡ option_map (λ (pool : Pool). settled t (changed_by m t p pool)) o
+carried-keeps m t (plan.PoolList pool answer) keeps o = refl
+carried-keeps m t (plan.PoolCreate i name kind answer) keeps o = absurd keeps
+carried-keeps m t (plan.PoolDestroy i answer) keeps o = absurd keeps
+carried-keeps m t (plan.PoolRename i name answer) keeps o = refl
+carried-keeps m t (plan.CpuAdd i core answer) keeps o = refl
+carried-keeps m t (plan.CpuRemove i core answer) keeps o = refl
+carried-keeps m t (plan.Migrate d i j answer) keeps o = refl
+carried-keeps m t (plan.Credit2Dom d weight percent answer) keeps o = refl
+carried-keeps m t (plan.Credit2Pool i limit answer) keeps o = refl
+carried-keeps m t (plan.RtdsDom d first count period budget extra answer) keeps o = refl
+carried-keeps m t (plan.Pause d answer) keeps o = refl
+carried-keeps m t (plan.Unpause d answer) keeps o = refl
+carried-keeps m t (plan.ArincSet i frame answer) keeps o = refl
+carried-keeps m t (plan.Pin d unit cores answer) keeps o = refl
+
+-- a place whose pool was changed and looked at
+looked-pool : (t : ℕ) (f : Pool → Pool) (o : Option Seen) → pool_at (changed_slot t (λ seen. f seen.pool) o) ≡ option_map (λ (pool : Pool). settled t (f pool)) (pool_at o)
+looked-pool t f None = refl
+looked-pool t f (Some seen) = refl
+
+looked-suits : (m : Machine) (now t : ℕ) (f : Seen → Pool) (o : Option Seen) → t ≡ now → ForSome o (SlotSuits m now) → ForSome (changed_slot t f o) (SlotSuits m now)
+looked-suits m now t f None is suits x at = absurd (cc)
+looked-suits m now t f (Some seen) is suits x at =
+    let was : SlotSuits m now seen = suits seen refl in
+    let there : seen_at t (settled t (f seen)) seen ≡ x = cc in
+    subst (SlotSuits m now) there (record { granularity = was.granularity; latest = (omega (arith, is)) })
+
+pub has-carried : (w : Told) (t : ℕ) (p : Plan) (i k : ℕ) (slots : List (Option Seen)) (read new : Option Seen) → KeepsPools p → t ≡ (state_of w).now → at_place slots i ≡ read → k ≡ i → ForSome (at_place slots i) (SlotSuits w.input (state_of w).now)
+    → new ≡ carried_slot w.input t p read → HasCarried w t p i slots (slice_set slots k new)
+has-carried w t p i k slots read new keeps now at is suits made =
+    let same : new ≡ carried_slot w.input t p (at_place slots i) = made ∙ ap (carried_slot w.input t p) (sym at) in
+    record {
+      slot = new;
+      only = ap (λ (n : ℕ). slice_set slots n new) is;
+      made = ap pool_at same ∙ looked-pool t (changed_by w.input t p) (at_place slots i) ∙ sym (carried-keeps w.input t p keeps (pool_at (at_place slots i)));
+      suits = subst (λ (o : Option Seen). ForSome o (SlotSuits w.input (state_of w).now)) (sym same) (looked-suits w.input (state_of w).now t (λ seen. changed_by w.input t p seen.pool) (at_place slots i) now suits);
+    }
+
+-- the same with an entry of that event at that moment
+pub parts-told : (w : Told) (t : ℕ) (e : Event) (slots : List (Option Seen)) (tool : Tool) → t ≡ (state_of w).now → e ≡ event_of w.input (state_of w) (state_of w).now Xl → AreParts (xl_told w) slots tool → AreParts (told_event w t e) slots tool
+parts-told w t e slots tool now is parts =
+    subst (λ (x : Event). AreParts (told_event w t x) slots tool) (sym is)
+    (subst (λ n. AreParts (told_event w n (event_of w.input (state_of w) (state_of w).now Xl)) slots tool) (sym now) parts)

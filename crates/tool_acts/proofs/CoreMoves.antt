@@ -1,0 +1,353 @@
+-- The move of a core: what it makes of the place of its pool, and of what the tool knows.
+use Rattle.std.proofs.Common.{◌≡◌, ◌<◌, ◌∙◌, ℕ, zero, suc, Bool, true, false, List, [], ◌∷◌, length, map, refl, sym, ap, subst, arith, cond}
+use Rattle.std.specs.Prelude.{◌||◌, Option, Some, None, is_some, option_map}
+use Rattle.std.specs.Option.{ForSome, IsSome}
+use Rattle.std.proofs.lemmas.List.{map-set}
+use Rattle.sched_base.specs.Numbers.{core as core_number, pool as pool_number}
+use Rattle.sched_base.specs.declared.Moment.{Moment}
+use Rattle.sched_base.specs.declared.PoolId.{PoolId}
+use Rattle.sched_base.specs.declared.ResId.{ResId}
+use Rattle.sched_model.specs.declared.action.Action.{Action}
+use Rattle.sched_model.specs.declared.action.Action.TheVariants.{Moved}
+use Rattle.sched_model.specs.declared.config.SchedKind.{SchedKind}
+use Rattle.sched_model.specs.declared.event.Event.{Event}
+use Rattle.sched_model.specs.declared.event.Event.TheVariants as event
+use Rattle.sched_model.specs.declared.machine.Machine.{Machine}
+use Rattle.sched_model.specs.declared.state.FreeCore.{FreeCore}
+use Rattle.sched_model.specs.declared.state.Pool.{Pool}
+use Rattle.sched_model.specs.declared.state.Resource.{Resource}
+use Rattle.sched_model.specs.declared.state.State.{State}
+use Rattle.sched_model.specs.Actions.{home_of_core}
+use Rattle.sched_model.specs.Commands.{is_kind}
+use Rattle.sched_model.specs.Machine.{after, enabled_at_home, event_of, free_ready, is_enabled}
+use Rattle.sched_model.specs.Places.{at_place, change_at, clear_at, put_at, test_at}
+use Rattle.sched_model.specs.Pool.{enabled_in, settled}
+use Rattle.sched_laws.specs.StateLaws.{PoolsKeepTheirOwn}
+use Rattle.sched_laws.proofs.EachPlace.{found_at, is_empty, none_found, place_below}
+use Rattle.sched_laws.proofs.Lists.{some_is}
+use Rattle.sched_laws.proofs.PoolsLaw.{pools_keep_their_own}
+use Rattle.journal_core.specs.Parts.{Outline, ToolPart, UnderWay, core_to, domain_to, under_way_of}
+use Rattle.plain_pool.specs.Cores as plain
+use Rattle.cpupool.specs.Arrived.{EndsTheMove, action_of, arrived, but_for_free, core_home, domain_home, pools_after, size_at, with_core as with_core_flag, with_domain, without_domain}
+use Rattle.cpupool.specs.Steps.{move_of}
+use Rattle.cpupool.specs.Tool.{Tool, ends_of, tool_of}
+use Rattle.cpupool.specs.declared.moves.Move.{Move}
+use Rattle.cpupool.specs.declared.moves.Move.TheVariants as move
+use Rattle.cpupool.proofs.ArrivedLemmas.{arrived-seen, core_joins}
+use Rattle.cpupool.proofs.SubjectLemmas.{at_place-map, length-map}
+use Rattle.actor_laws.specs.First.{move_first}
+use Rattle.move_laws.specs.Moves.{HasOneMove}
+use Rattle.move_laws.proofs.Law.{has_one_move}
+use Rattle.tool_laws.specs.ToolSteps as steps
+use Rattle.tool_laws.specs.ToolSteps.{ChangesPlace, JoinSteps, LeaveSteps}
+use Rattle.tool_laws.proofs.Steps.{tool_steps}
+use Rattle.pool_core.specs.Seen as pools
+use Rattle.pool_core.specs.Seen.{IsNow, Seen, seen_at}
+use Rattle.pool_slots.specs.Counts.{KeepsCounts, in_use_of}
+use Rattle.pool_slots.specs.Told.{Told}
+use Rattle.pool_slots.specs.Places.{GoesOn, SlotSuits, StandsAt, state_of}
+use Rattle.pool_slots.proofs.Going.{early, range-of, state_of-is}
+use Rattle.pool_slots.proofs.Standing.{pool_at, stands-there}
+use Rattle.machine_parts.specs.Parts.{AreParts}
+use Rattle.machine_parts.proofs.AtPlaces.{no-home, no-number}
+use Rattle.machine_parts.proofs.Moving.{core-way, leaving-first}
+use Rattle.tool_acts.specs.Acts.{Begins, HasActedOn, told_event}
+use Rattle.tool_acts.proofs.Acting.{acted-on, stands-changed}
+use Rattle.tool_acts.proofs.Stalling.{known-of, place-has}
+
+-- a change that keeps the scheduler of each pool keeps how many pools of a scheduler there are
+in_use-changed : (kind : SchedKind) (i : ℕ) (f : Outline → Outline) (places : List (Option Outline)) → ((o : Outline) → (f o).kind ≡ o.kind) → in_use_of kind (change_at i f places) ≡ in_use_of kind places
+in_use-changed kind i f [] keeps = refl
+in_use-changed kind zero f (None ∷ places) keeps = refl
+in_use-changed kind zero f (Some o ∷ places) keeps = ap (λ (k : SchedKind). cond (is_kind kind k) (suc (in_use_of kind places)) (in_use_of kind places)) (keeps o)
+in_use-changed kind (suc i) f (None ∷ places) keeps = in_use-changed kind i f places keeps
+in_use-changed kind (suc i) f (Some o ∷ places) keeps = ap (λ (n : ℕ). cond (is_kind kind o.kind) (suc n) n) (in_use-changed kind i f places keeps)
+
+-- and so does the end of a move
+in_use-after : (kind : SchedKind) (places : List (Option Outline)) (way : UnderWay) → in_use_of kind (pools_after places way) ≡ in_use_of kind places
+in_use-after kind places (core_to r (Some i)) = in_use-changed kind i (with_core_flag r true) places (λ o. refl)
+in_use-after kind places (core_to r None) = by_home (core_home places r)
+  where
+    by_home : (o : Option ℕ) → in_use_of kind (elim o as (λ _. List (Option Outline)) [ None ↦ places | Some i ↦ change_at i (with_core_flag r false) places ]) ≡ in_use_of kind places
+    by_home None = refl
+    by_home (Some i) = in_use-changed kind i (with_core_flag r false) places (λ o. refl)
+in_use-after kind places (domain_to d j) = by_home (domain_home places d)
+  where
+    by_size : (i : ℕ) (o : Option ℕ) → in_use_of kind (elim o as (λ _. List (Option Outline)) [ None ↦ places | Some vcpus ↦ change_at j (with_domain d vcpus) (change_at i (without_domain d) places) ]) ≡ in_use_of kind places
+    by_size i None = refl
+    by_size i (Some vcpus) = in_use-changed kind j (with_domain d vcpus) (change_at i (without_domain d) places) (λ o. refl) ∙ in_use-changed kind i (without_domain d) places (λ o. refl)
+
+    by_home : (o : Option ℕ)
+        → in_use_of kind (elim o as (λ _. List (Option Outline)) [ None ↦ places | Some i ↦ elim (size_at places i d) as (λ _. List (Option Outline)) [ None ↦ places | Some vcpus ↦ change_at j (with_domain d vcpus) (change_at i (without_domain d) places) ] ]) ≡ in_use_of kind places
+    by_home None = refl
+    by_home (Some i) = by_size i (size_at places i d)
+
+-- what the tool keeps, by what is on its way
+abbrev arrived-by : Tool → Option UnderWay → Tool
+arrived-by tool o = elim o [ None ↦ tool | Some way ↦ record tool { part = record tool.part { pools = pools_after tool.part.pools way; under_way = None } } ]
+
+keeps-arrived : (tool : Tool) (o : Option UnderWay) → tool.part.under_way ≡ o → KeepsCounts tool.part (arrived tool).part
+keeps-arrived tool None is = subst (λ (x : Tool). KeepsCounts tool.part x.part) (sym (ap (arrived-by tool) is)) (record { in_use = λ kind. refl; commands = refl })
+keeps-arrived tool (Some way) is = subst (λ (x : Tool). KeepsCounts tool.part x.part) (sym (ap (arrived-by tool) is)) (record { in_use = λ kind. in_use-after kind tool.part.pools way; commands = refl })
+
+-- the end of a move keeps the counts of the pools, whatever cores of no pool there are
+pub keeps-moved : (m : Machine) (s : State) (t : ℕ) (way : UnderWay) (free : List (Option (List Moment))) (old new : Tool) → under_way_of s ≡ Some way → EndsTheMove m s t (action_of way) → tool_of m s ≡ old
+    → new ≡ but_for_free free (tool_of m (after m s t (action_of way))) → KeepsCounts old.part new.part
+keeps-moved m s t way free old new is ends known left =
+    let tool : Tool = but_for_free free (tool_of m s) in
+    let same : new ≡ arrived tool = left ∙ sym (arrived-seen m s t way free is ends) in
+    let keeps : KeepsCounts tool.part (arrived tool).part = keeps-arrived tool tool.part.under_way refl in
+    subst (λ (x : Tool). KeepsCounts x.part new.part) known (subst (λ (x : Tool). KeepsCounts (tool_of m s).part x.part) (sym same) (record { in_use = keeps.in_use; commands = keeps.commands }))
+
+-- an action that may come begins where the parts stand
+pub parts-begin : (w : Told) (slots : List (Option Seen)) (tool : Tool) → AreParts w slots tool → (t : ℕ) (action : Action) → t ≡ (state_of w).now → is_enabled w.input (state_of w) (state_of w).now action ≡ true → Begins w tool t action
+parts-begin w slots tool parts t action now on = record { goes = parts.goes; now = now; known = parts.known; enabled = on }
+
+-- what is on its way is that core, and goes where the program tells
+pub way-told : (part : ToolPart) (o : Option UnderWay) (r : ℕ) (to : Option ℕ) (k : ResId) (target : Option PoolId) → o ≡ Some (core_to r to) → option_map (move_of part) o ≡ Some (move.Res k target)
+    → o ≡ Some (core_to r (option_map (λ (i : PoolId). i.0) target))
+way-told part o r to k target is told =
+    let goes = core-way part o k target told in
+    let same : k.0 ≡ r = cc in
+    goes ∙ ap (λ (n : ℕ). Some (core_to n (option_map (λ (i : PoolId). i.0) target))) same
+
+-- so the program tells of a core
+pub move-told : (part : ToolPart) (o : Option UnderWay) (r : ℕ) (to : Option ℕ) (told : Option Move) → o ≡ Some (core_to r to) → told ≡ option_map (move_of part) o → told ≡ Some (move.Res (core_number r) (option_map pool_number to))
+move-told part o r to told is tells = tells ∙ ap (option_map (move_of part)) is
+
+-- a core that is to have no pool is in one, where it may move
+pub leaves-some : (w : Told) (goes : GoesOn w) (tool : Tool) → tool_of w.input (state_of w) ≡ tool → (r : ℕ) → is_enabled w.input (state_of w) (state_of w).now (Moved r) ≡ true → tool.part.under_way ≡ Some (core_to r None)
+    → (home : Option PoolId) → home ≡ option_map pool_number (home_of_core (state_of w) r) → home ≡ None → ⊥
+leaves-some w goes tool known r on way home told none =
+    let m : Machine = w.input in
+    let s : State = state_of w in
+    let under : under_way_of s ≡ Some (core_to r None) = ap (λ (x : Tool). x.part.under_way) known ∙ way in
+    let nowhere : home_of_core s r ≡ None = no-number _ (sym told ∙ none) in
+    let first : None ≡ move_first m s s.now (under_way_of s) = leaving-first w goes s.now r false under (no-home m s s.now (Moved r) nowhere) in
+    let moves : move_first m s s.now (under_way_of s) ≡ Some (Moved r) = ap (move_first m s s.now) under ∙ ap (λ (b : Bool). cond b (Some (Moved r)) None) on in
+    let never : None ≡ Some (Moved r) = first ∙ moves in
+    cc
+
+module _ (w : Told) (goes : GoesOn w) where
+  pub one-move-of : HasOneMove w.input (state_of w)
+  one-move-of = subst (HasOneMove w.input) (sym (state_of-is w)) (has_one_move w.input goes.checked w.history goes.run)
+
+  pub own-of : PoolsKeepTheirOwn (state_of w)
+  own-of = subst PoolsKeepTheirOwn (sym (state_of-is w)) (pools_keep_their_own w.input goes.checked w.history goes.run)
+
+none-there : {X : Type 0} (o : Option X) → is_some o ≡ false → o ≡ None
+none-there None none = refl
+none-there (Some x) none = absurd (cc)
+
+mapped-some : {X Y : Type 0} (f : X → Y) (o : Option X) (x : X) (y : Y) → o ≡ Some x → option_map f o ≡ Some y → y ≡ f x
+mapped-some f o x y at is = (let same : Some (f x) ≡ Some y = sym (ap (option_map f) at) ∙ is in cc)
+
+-- a core that may move
+module _ (w : Told) (tool : Tool) (t r : ℕ) (begins : Begins w tool t (Moved r)) where
+  abbrev m : Machine
+  m = w.input
+
+  abbrev s : State
+  s = state_of w
+
+  abbrev left : State
+  left = after w.input (state_of w) (state_of w).now (Moved r)
+
+  pub ends-it : EndsTheMove m s s.now (Moved r)
+  ends-it = record { free = λ k c at. (own-of w begins.goes).free k c at; last = (one-move-of w begins.goes).after_core s.now r begins.enabled }
+
+  -- what is on its way
+  pub way-there : (to : Option ℕ) × (tool.part.under_way ≡ Some (core_to r to))
+  way-there = (let law = (one-move-of w begins.goes).core s.now r begins.enabled in (law.0, ap (λ (x : Tool). x.part.under_way) (sym begins.known) ∙ law.1))
+
+  way-of : (to : Option ℕ) → tool.part.under_way ≡ Some (core_to r to) → under_way_of s ≡ Some (core_to r to)
+  way-of to is = ap (λ (x : Tool). x.part.under_way) begins.known ∙ is
+
+  -- what the tool knows in the end, with the cores that no pool has then
+  knows-left : (free : List (Option (List Moment))) (new : Tool) → new ≡ but_for_free free (tool_of m left) → map (option_map ends_of) left.free ≡ free → tool_of m left ≡ new
+  knows-left free new is same = ap (λ (l : List (Option (List Moment))). but_for_free l (tool_of m left)) same ∙ sym is
+
+  free-of : (k : ℕ) → at_place tool.part.free k ≡ option_map ends_of (at_place s.free k)
+  free-of k = ap (λ (x : Tool). at_place x.part.free k) (sym begins.known) ∙ at_place-map ends_of s.free k
+
+  is-now : (i : ℕ) (slot : Option Seen) → StandsAt w i slot → ForSome slot (λ seen. IsNow seen t)
+  is-now i slot stands seen here =
+      let late = (stands.suits seen here).latest in
+      let limit = early w begins.goes in
+      let now = begins.now in
+      record { after = omega (arith, late, now); early = omega (arith, limit, now) }
+
+  suits-at : (f : Seen → Pool) (o : Option Seen) → ForSome o (SlotSuits m s.now) → ForSome (option_map (λ (seen : Seen). seen_at t (f seen) seen) o) (SlotSuits m s.now)
+  suits-at f None suits x at = absurd (cc)
+  suits-at f (Some seen) suits x at =
+      let old = suits seen refl in
+      let g : x.granularity ≡ seen.granularity = cc in
+      let l : x.latest ≡ t = cc in
+      let now = begins.now in
+      record { granularity = g ∙ old.granularity; latest = omega (arith, l, now) }
+
+  -- to the pool i
+  module _ (i : ℕ) (way : tool.part.under_way ≡ Some (core_to r (Some i))) where
+    joining : (c : FreeCore) × (at_place s.free r ≡ Some c) × (c.target ≡ Some i)
+    joining = core_joins s r i (way-of (Some i) way)
+
+    abbrev coming : FreeCore
+    coming = joining.0
+
+    join-steps : JoinSteps m s s.now r coming i
+    join-steps = (tool_steps m s s.now).joins r coming i joining.1 joining.2
+
+    pub free-there : IsSome (at_place tool.part.free r)
+    free-there = ap is_some (free-of r ∙ ap (option_map ends_of) joining.1)
+
+    pub event-joins : event.Moved (core_number r) (Some (pool_number i)) ≡ event_of m s s.now (Moved r)
+    event-joins =
+        sym (ap (λ (o : Option FreeCore). event.Moved (core_number r) (elim o as (λ _. Option PoolId) [ None ↦ None | Some c ↦ option_map pool_number c.target ])) joining.1
+        ∙ ap (λ (o : Option ℕ). event.Moved (core_number r) (option_map pool_number o)) joining.2)
+
+    -- the pool is there
+    pub target-there : i < 16
+    target-there =
+        let there = some_is (at_place s.pools i) ((known-of w begins.goes).housed.aims r i (ap (option_map (λ (c : FreeCore). c.target)) joining.1 ∙ ap (λ (o : Option ℕ). Some o) joining.2)) in
+        let low = place_below s.pools i there.0 there.1 in
+        let places = (range-of w begins.goes).pool_places in
+        omega (arith, low, places)
+
+    module _ (ends : List Moment) (taken : at_place tool.part.free r ≡ Some ends) where
+      ends-joining : ends ≡ coming.stall_ends
+      ends-joining = mapped-some ends_of (at_place s.free r) coming ends joining.1 (sym (free-of r) ∙ taken)
+
+      module _ (slot : Option Seen) (stands : StandsAt w i slot) where
+        pool-here : (seen : Seen) → slot ≡ Some seen → at_place s.pools i ≡ Some seen.pool
+        pool-here seen here = stands-there w i slot stands ∙ ap pool_at here
+
+        pub joins-now : ForSome slot (λ seen. IsNow seen t)
+        joins-now = is-now i slot stands
+
+        pub joins-place : ForSome slot (λ seen. r < length seen.pool.resources)
+        joins-place seen here =
+            let range = range-of w begins.goes in
+            let places = (range.pools i seen.pool (pool-here seen here)).core_places in
+            let all = range.free_places in
+            let low = place_below s.free r coming joining.1 in
+            omega (arith, places, all, low)
+
+        pub joins-absent : ForSome slot (λ seen. at_place seen.pool.resources r ≡ None)
+        joins-absent seen here = none-there (at_place seen.pool.resources r) (none_found 0 i (λ p. is_some (at_place p.resources r)) s.pools seen.pool ((own-of w begins.goes).free r coming joining.1) (pool-here seen here))
+
+        pub joins-siblings : ForSome slot (λ seen. length ends ≡ seen.granularity)
+        joins-siblings seen here = ap length ends-joining ∙ ((range-of w begins.goes).free r coming joining.1).count ∙ sym (stands.suits seen here).granularity
+
+        module _ (event : Event) (ev : event ≡ event_of m s s.now (Moved r)) (new : Option Seen) (made : new ≡ option_map (λ seen. seen_at t (settled t (pools.with_core r ends seen.pool)) seen) slot) where
+          joined-at : (o : Option Seen) → pool_at (option_map (λ seen. seen_at t (settled t (pools.with_core r ends seen.pool)) seen) o) ≡ option_map (steps.with_core s.now r coming) (pool_at o)
+          joined-at None = refl
+          joined-at (Some seen) =
+              ap (λ (n : ℕ). Some (settled n (pools.with_core r ends seen.pool))) begins.now
+              ∙ ap (λ (l : List Moment). Some (settled s.now (pools.with_core r l seen.pool))) ends-joining
+
+          pub stands-joined : StandsAt (told_event w t event) i new
+          stands-joined =
+              stands-changed w tool t (Moved r) begins event ev i (option_map (steps.with_core s.now r coming)) slot new join-steps.own stands (ap pool_at made ∙ joined-at slot)
+              (subst (λ (o : Option Seen). ForSome o (SlotSuits m s.now)) (sym made) (suits-at (λ seen. settled t (pools.with_core r ends seen.pool)) slot stands.suits))
+
+    -- the tool, which has the core no more
+    module _ (new : Tool) (done : new ≡ but_for_free (clear_at r tool.part.free) (tool_of m left)) where
+      pub acted-joins : (event : Event) → event ≡ event_of m s s.now (Moved r) → HasActedOn w i (told_event w t event) new
+      acted-joins event ev =
+          acted-on w tool t (Moved r) begins event ev i (option_map (steps.with_core s.now r coming)) new join-steps.own
+          (knows-left (clear_at r tool.part.free) new done (ap (map (option_map ends_of)) join-steps.free ∙ map-set (option_map ends_of) s.free r None ∙ ap (λ (x : Tool). clear_at r x.part.free) begins.known))
+
+      pub counts-joins : KeepsCounts tool.part new.part
+      counts-joins = keeps-moved m s s.now (core_to r (Some i)) (clear_at r tool.part.free) tool new (way-of (Some i) way) ends-it begins.known done
+
+  -- out of the pool i
+  module _ (i : ℕ) (way : tool.part.under_way ≡ Some (core_to r None)) (home : home_of_core s r ≡ Some i) (slot : Option Seen) (stands : StandsAt w i slot) where
+    not-free : at_place s.free r ≡ None
+    not-free = is_empty (at_place s.free r) (λ c at. absurd (let none = (own-of w begins.goes).free r c at in cc))
+
+    there : (pool : Pool) × (at_place s.pools i ≡ Some pool) × (is_some (at_place pool.resources r) ≡ true)
+    there = found_at i _ s.pools home
+
+    abbrev pool : Pool
+    pool = there.0
+
+    core-there : (c : Resource) × (at_place pool.resources r ≡ Some c)
+    core-there = some_is (at_place pool.resources r) there.2
+
+    abbrev going : Resource
+    going = core-there.0
+
+    leave-steps : LeaveSteps m s s.now r i going
+    leave-steps = (tool_steps m s s.now).leaves r i pool going not-free home there.1 core-there.1
+
+    seen-here : (seen : Seen) × (slot ≡ Some seen) × (seen.pool ≡ pool)
+    seen-here = place-has w i slot stands pool there.1
+
+    pub has-pool : IsSome slot
+    has-pool = ap is_some seen-here.1
+
+    same-pool : (seen : Seen) → slot ≡ Some seen → seen.pool ≡ pool
+    same-pool seen here = (let known = seen-here in let at = known.1 in let same : known.0 ≡ seen = cc in ap (λ (x : Seen). x.pool) (sym same) ∙ known.2)
+
+    pub event-leaves : event.Moved (core_number r) None ≡ event_of m s s.now (Moved r)
+    event-leaves = sym (ap (λ (o : Option FreeCore). event.Moved (core_number r) (elim o as (λ _. Option PoolId) [ None ↦ None | Some c ↦ option_map pool_number c.target ])) not-free)
+
+    pub leaves-now : ForSome slot (λ seen. IsNow seen t)
+    leaves-now = is-now i slot stands
+
+    may-leave : enabled_in m.config.granularity s.now pool (Moved r) ≡ true
+    may-leave =
+        let may : Pool → Bool = λ p. enabled_in m.config.granularity s.now p (Moved r) in
+        let by_free : Option FreeCore → Bool = λ o. elim o [ None ↦ false | Some c ↦ free_ready s.now c ] in
+        let by_home : Option ℕ → Bool = λ o. elim o [ None ↦ false | Some k ↦ test_at s.pools k may ] in
+        let by_pool : Option Pool → Bool = λ o. elim o [ None ↦ false | Some p ↦ may p ] in
+        sym (ap (λ (o : Option FreeCore). by_free o || enabled_at_home m s s.now (Moved r)) not-free ∙ ap by_home home ∙ ap by_pool there.1) ∙ begins.enabled
+
+    pub leaves-ready : ForSome slot (λ seen. enabled_in seen.granularity t seen.pool (Moved r) ≡ true)
+    leaves-ready seen here =
+        ap (λ (g : ℕ). enabled_in g t seen.pool (Moved r)) (stands.suits seen here).granularity
+        ∙ ap (λ (n : ℕ). enabled_in m.config.granularity n seen.pool (Moved r)) begins.now
+        ∙ ap (λ (p : Pool). enabled_in m.config.granularity s.now p (Moved r)) (same-pool seen here)
+        ∙ may-leave
+
+    -- the tool has a place for the core, and not the core
+    pub place-free : r < length tool.part.free
+    place-free =
+        let range = range-of w begins.goes in
+        let places = (range.pools i pool there.1).core_places in
+        let all = range.free_places in
+        let low = place_below pool.resources r going core-there.1 in
+        let count : length tool.part.free ≡ length s.free = ap (λ (x : Tool). length x.part.free) (sym begins.known) ∙ length-map (option_map ends_of) s.free in
+        omega (arith, places, all, low, count)
+
+    pub none-free : at_place tool.part.free r ≡ None
+    none-free = free-of r ∙ ap (option_map ends_of) not-free
+
+    module _ (event : Event) (ev : event ≡ event_of m s s.now (Moved r)) where
+      module _ (new : Option Seen) (made : new ≡ option_map (λ seen. seen_at t (settled t (pools.without_core r seen.pool)) seen) slot) where
+        left-at : (o : Option Seen) → pool_at (option_map (λ seen. seen_at t (settled t (pools.without_core r seen.pool)) seen) o) ≡ option_map (steps.without_core s.now r) (pool_at o)
+        left-at None = refl
+        left-at (Some seen) = ap (λ (n : ℕ). Some (settled n (pools.without_core r seen.pool))) begins.now
+
+        pub stands-left : StandsAt (told_event w t event) i new
+        stands-left =
+            stands-changed w tool t (Moved r) begins event ev i (option_map (steps.without_core s.now r)) slot new leave-steps.own stands (ap pool_at made ∙ left-at slot)
+            (subst (λ (o : Option Seen). ForSome o (SlotSuits m s.now)) (sym made) (suits-at (λ seen. settled t (pools.without_core r seen.pool)) slot stands.suits))
+
+    -- the tool, which has the core
+    module _ (ends : List Moment) (is : ForSome slot (λ seen. option_map plain.ends_of (at_place seen.pool.resources r) ≡ Some ends)) (new : Tool) (done : new ≡ but_for_free (put_at r ends tool.part.free) (tool_of m left)) where
+      ends-going : ends ≡ plain.ends_of going
+      ends-going =
+          let known = seen-here in
+          mapped-some plain.ends_of (at_place pool.resources r) going ends core-there.1 (ap (λ (p : Pool). option_map plain.ends_of (at_place p.resources r)) (sym known.2) ∙ is known.0 known.1)
+
+      pub acted-leaves : (event : Event) → event ≡ event_of m s s.now (Moved r) → HasActedOn w i (told_event w t event) new
+      acted-leaves event ev =
+          let free : FreeCore = record { target = None; stall_ends = plain.ends_of going } in
+          acted-on w tool t (Moved r) begins event ev i (option_map (steps.without_core s.now r)) new leave-steps.own
+          (knows-left (put_at r ends tool.part.free) new done
+          (ap (map (option_map ends_of)) leave-steps.free ∙ map-set (option_map ends_of) s.free r (Some free)
+          ∙ ap (λ (l : List Moment). put_at r l (map (option_map ends_of) s.free)) (sym ends-going) ∙ ap (λ (x : Tool). put_at r ends x.part.free) begins.known))
+
+      pub counts-leaves : KeepsCounts tool.part new.part
+      counts-leaves = keeps-moved m s s.now (core_to r None) (put_at r ends tool.part.free) tool new (way-of None way) ends-it begins.known done

@@ -1,0 +1,187 @@
+-- What the next command is judged by, as the places of the pools tell it.
+use Rattle.std.proofs.Common.{◌≡◌, ◌∙◌, ◌<◌, ◌+◌, ℕ, zero, suc, List, [], ◌∷◌, length, refl, sym, ap, subst, arith}
+use Rattle.std.specs.Prelude.{Option, Some, None, map, option_map, slice_get}
+use Rattle.std.specs.Option.{ForSome}
+use Rattle.std.proofs.lemmas.List.Elements.{recursion_from_All}
+use Rattle.sched_base.specs.Numbers.{span}
+use Rattle.sched_base.specs.declared.DomId.{DomId}
+use Rattle.sched_base.specs.declared.PoolId.{PoolId}
+use Rattle.sched_model.specs.declared.command.Command.{Command}
+use Rattle.sched_model.specs.declared.facts.Stored.{Stored}
+use Rattle.sched_model.specs.declared.facts.Stored.TheVariants as stored
+use Rattle.sched_model.specs.declared.facts.Subject.{Subject}
+use Rattle.sched_model.specs.declared.state.Credit2Domain.{Credit2Domain}
+use Rattle.sched_model.specs.declared.state.Domain.{Domain}
+use Rattle.sched_model.specs.declared.state.Pool.{Pool}
+use Rattle.sched_model.specs.declared.state.Records.{Records}
+use Rattle.sched_model.specs.declared.state.Records.TheVariants.{Credit2Pool, RtdsPool, ArincPool, NullPool}
+use Rattle.sched_model.specs.declared.state.RtdsUnit.{RtdsUnit}
+use Rattle.sched_model.specs.declared.state.State.{State}
+use Rattle.sched_model.specs.declared.work.CommandLine.{CommandLine}
+use Rattle.sched_model.specs.Checked.{IsCheckedCommandLine}
+use Rattle.sched_model.specs.Places.{at_place, numbers_from}
+use Rattle.sched_model.specs.Policy.{rate_of}
+use Rattle.sched_model.specs.Pool.{unit_count}
+use Rattle.sched_laws.specs.Each.{EachPlace}
+use Rattle.sched_laws.proofs.EachPlace.{place_below}
+use Rattle.sched_laws.proofs.Opened.{each_get}
+use Rattle.sched_records.specs.Records.{HasRecords, IsRecorded}
+use Rattle.sched_records.proofs.Law.{has_records}
+use Rattle.sched_ops.specs.Told as told
+use Rattle.unit_state.specs.Seen as guests
+use Rattle.pool_core.specs.Domains.{unit_id}
+use Rattle.pool_core.specs.Params as params
+use Rattle.pool_core.specs.Seen.{Seen}
+use Rattle.cpupool.specs.Facts.{KeepsFacts, KeepsValues, rate_at, stored_from, stored_in, stored_of, units_at}
+use Rattle.cpupool.specs.Tool.{tool_of}
+use Rattle.pool_slots.specs.Told.{Told}
+use Rattle.pool_slots.specs.Places.{AllStand, GoesOn, SlotSuits, state_of}
+use Rattle.pool_slots.proofs.Going.{state_of-is}
+use Rattle.pool_slots.proofs.Standing.{pool_at}
+use Rattle.machine_parts.specs.Parts.{AreParts}
+use Rattle.machine_parts.proofs.AtPlaces.{pool-anywhere}
+
+-- the set values of a unit, as its scheduler tells them and as commands are judged by them
+stored-same : (records : Records) (d n : ℕ) → told.stored_of records (unit_id d n) ≡ stored_of records d n
+stored-same (Credit2Pool records) d n = refl
+stored-same (RtdsPool domains) d n = refl
+stored-same (ArincPool records) d n = refl
+stored-same (NullPool kept) d n = refl
+
+-- where each of the units has a value, these are all of them
+stored-all : (records : Records) (d first count : ℕ) (values : List Stored) → map Some values ≡ params.stored_units records d (numbers_from first count) → values ≡ stored_from records d first count
+stored-all records d first zero [] is = refl
+stored-all records d first zero (v ∷ values) is = absurd (cc)
+stored-all records d first (suc count) [] is = absurd (cc)
+stored-all records d first (suc count) (v ∷ values) is =
+    let head : Some v ≡ told.stored_of records (unit_id d first) = cc in
+    let rest : map Some values ≡ params.stored_units records d (numbers_from (suc first) count) = cc in
+    let here : stored_of records d first ≡ Some v = sym (head ∙ stored-same records d first) in
+    ap (λ xs. v ∷ xs) (stored-all records d (suc first) count values rest)
+    ∙ sym (ap (λ (o : Option Stored). elim o as (λ _. List Stored) [ None ↦ [] | Some x ↦ x ∷ stored_from records d (suc first) count ]) here)
+
+-- those of a domain that may be there
+stored-here : (g : ℕ) (records : Records) (d : ℕ) (o : Option Domain) (values : List Stored) → map Some values ≡ params.stored_units records d (numbers_from 0 (guests.units_at g o))
+    → values ≡ (elim o as (λ _. List Stored) [ None ↦ [] | Some domain ↦ stored_from records d 0 (unit_count g domain) ])
+stored-here g records d None [] is = refl
+stored-here g records d None (v ∷ values) is = absurd (cc)
+stored-here g records d (Some domain) values is = stored-all records d 0 (unit_count g domain) values is
+
+no-values : (values : List Stored) → map Some values ≡ [] → values ≡ []
+no-values [] is = refl
+no-values (v ∷ values) is = absurd (cc)
+
+-- those of the domain that the subject names, if it names one
+abbrev units_in : ℕ → Pool → Option DomId → List Stored
+units_in g pool d = elim d [ None ↦ [] | Some x ↦ stored_in g pool x.0 ]
+
+stored-in : (g : ℕ) (pool : Pool) (d : Option DomId) (values : List Stored) → map Some values ≡ params.stored_in g pool.domains pool.scheduler.records d → values ≡ units_in g pool d
+stored-in g pool None values is = no-values values is
+stored-in g pool (Some d) values is = stored-here g pool.scheduler.records d.0 (at_place pool.domains d.0) values is
+
+-- what is told of a subject by what stands at the place of its pool
+abbrev rate_by : Option Pool → ℕ
+rate_by o = elim o [ None ↦ 0 | Some pool ↦ rate_of pool.scheduler.records ]
+
+abbrev units_by : ℕ → Option DomId → Option Pool → List Stored
+units_by g d o = elim o [ None ↦ [] | Some pool ↦ units_in g pool d ]
+
+rate-is : (s : State) (i : PoolId) (d : Option DomId) → rate_at s (record { pool = Some i; dom = d }) ≡ rate_by (at_place s.pools i.0)
+rate-is s i d = refl
+
+units-are : (g : ℕ) (s : State) (i : PoolId) (d : Option DomId) → units_at g s (record { pool = Some i; dom = d }) ≡ units_by g d (at_place s.pools i.0)
+units-are g s i None = elim (at_place s.pools i.0) as (λ o. [] ≡ units_by g None o) [ None ↦ refl | Some pool ↦ refl ]
+units-are g s i (Some d) = refl
+
+no-units : (g : ℕ) (s : State) (d : Option DomId) → units_at g s (record { pool = None; dom = d }) ≡ []
+no-units g s None = refl
+no-units g s (Some d) = refl
+
+-- a subject without a pool
+pub rate-nowhere : (s : State) (subject : Subject) → subject.pool ≡ None → 0 ≡ rate_at s subject
+rate-nowhere s subject none = sym (ap (λ (o : Option PoolId). rate_at s (record { pool = o; dom = subject.dom })) none)
+
+pub units-nowhere : (g : ℕ) (s : State) (subject : Subject) → subject.pool ≡ None → [] ≡ units_at g s subject
+units-nowhere g s subject none = sym (ap (λ (o : Option PoolId). units_at g s (record { pool = o; dom = subject.dom })) none ∙ no-units g s subject.dom)
+
+-- a subject with a pool, by its place
+module _ (w : Told) (slots : List (Option Seen)) (goes : GoesOn w) (all : AllStand w slots) (subject : Subject) (i : PoolId) (at : subject.pool ≡ Some i) where
+  abbrev g : ℕ
+  g = w.input.config.granularity
+
+  abbrev s : State
+  s = state_of w
+
+  parts : AreParts w slots (tool_of w.input s)
+  parts = record { goes = goes; stand = all; known = refl }
+
+  there : at_place s.pools i.0 ≡ pool_at (at_place slots i.0)
+  there = pool-anywhere w slots (tool_of w.input s) parts i.0
+
+  rate-there : rate_at s subject ≡ rate_by (pool_at (at_place slots i.0))
+  rate-there = ap (λ (o : Option PoolId). rate_at s (record { pool = o; dom = subject.dom })) at ∙ rate-is s i subject.dom ∙ ap rate_by there
+
+  units-there : units_at g s subject ≡ units_by g subject.dom (pool_at (at_place slots i.0))
+  units-there = ap (λ (o : Option PoolId). units_at g s (record { pool = o; dom = subject.dom })) at ∙ units-are g s i subject.dom ∙ ap (units_by g subject.dom) there
+
+  pub rate-told : (rate : ℕ) → ForSome (at_place slots i.0) (λ seen. rate ≡ rate_of seen.pool.scheduler.records) → (at_place slots i.0 ≡ None → rate ≡ 0) → rate ≡ rate_at s subject
+  rate-told rate some none = by_slot (at_place slots i.0) refl ∙ sym rate-there
+    where
+      by_slot : (o : Option Seen) → at_place slots i.0 ≡ o → rate ≡ rate_by (pool_at (at_place slots i.0))
+      by_slot None is = none is ∙ sym (ap (λ (x : Option Seen). rate_by (pool_at x)) is)
+      by_slot (Some seen) is = some seen is ∙ sym (ap (λ (x : Option Seen). rate_by (pool_at x)) is)
+
+  pub units-told : (values : List Stored) → ForSome (at_place slots i.0) (λ seen. map Some values ≡ params.stored_in seen.granularity seen.pool.domains seen.pool.scheduler.records subject.dom)
+      → (at_place slots i.0 ≡ None → values ≡ []) → values ≡ units_at g s subject
+  units-told values some none = by_slot (at_place slots i.0) refl ∙ sym units-there
+    where
+      by_slot : (o : Option Seen) → at_place slots i.0 ≡ o → values ≡ units_by g subject.dom (pool_at (at_place slots i.0))
+      by_slot None is = none is ∙ sym (ap (λ (x : Option Seen). units_by g subject.dom (pool_at x)) is)
+      by_slot (Some seen) is =
+          let low : i.0 < 16 = (let below = place_below slots i.0 seen is in let count = all.count in omega (arith, below, count)) in
+          let suits : SlotSuits w.input s.now seen = (all.each i.0 low).suits seen is in
+          let given : map Some values ≡ params.stored_in g seen.pool.domains seen.pool.scheduler.records subject.dom =
+          some seen is ∙ ap (λ (k : ℕ). params.stored_in k seen.pool.domains seen.pool.scheduler.records subject.dom) suits.granularity in
+          stored-in g seen.pool subject.dom values given ∙ sym (ap (λ (x : Option Seen). units_by g subject.dom (pool_at x)) is)
+
+-- where each of the units has a value, so many are kept
+stored-count : (records : Records) (d first count : ℕ) → ((n : ℕ) → n < first + count → (x : Stored) × (stored_of records d n ≡ Some x)) → length (stored_from records d first count) ≡ count
+stored-count records d first zero has = refl
+stored-count records d first (suc count) has =
+    let here = has first (omega arith) in
+    let rest = stored-count records d (suc first) count (λ n low. has n (omega (arith, low))) in
+    ap (λ (o : Option Stored). length (elim o as (λ _. List Stored) [ None ↦ [] | Some x ↦ x ∷ stored_from records d (suc first) count ])) here.1 ∙ ap suc rest
+
+pub item_below : {X : Type 0} (xs : List X) (n : ℕ) → n < length xs → (y : X) × (slice_get xs n ≡ Some y)
+item_below [] n low = absurd (omega (arith, low))
+item_below (y ∷ xs) zero low = (y, refl)
+item_below (y ∷ xs) (suc n) low = item_below xs n (omega (arith, low))
+
+stored-each : (records : Records) (d count : ℕ) → IsRecorded records d count → (n : ℕ) → n < 0 + count → (x : Stored) × (stored_of records d n ≡ Some x)
+stored-each (Credit2Pool records) d count kept n low = (stored.Credit2 kept.domain.weight kept.domain.cap, ap (option_map (λ (x : Credit2Domain). stored.Credit2 x.weight x.cap)) kept.at)
+stored-each (RtdsPool domains) d count kept n low =
+    let item = item_below kept.records n (let same = kept.units in omega (arith, low, same)) in
+    let value : RtdsUnit → Stored = λ (x : RtdsUnit). stored.Rtds (span x.next_period) (span x.next_budget) x.next_extra in
+    (value item.0, ap (option_map value) (ap (λ (o : Option (List RtdsUnit)). elim o as (λ _. Option RtdsUnit) [ None ↦ None | Some units ↦ slice_get units n ]) kept.at ∙ item.1))
+stored-each (ArincPool records) d count kept n low = (stored.Arinc653, refl)
+stored-each (NullPool cores) d count kept n low = (stored.Null, refl)
+
+module _ (w : Told) (goes : GoesOn w) where
+  pub recorded : EachPlace (HasRecords w.input.config.granularity) (state_of w).pools
+  recorded = subst (λ (s : State). EachPlace (HasRecords w.input.config.granularity) s.pools) (sym (state_of-is w)) (has_records w.input goes.checked w.history goes.run)
+
+  values-kept : (d : ℕ) → KeepsValues w.input.config.granularity (state_of w) d
+  values-kept d i pool domain home there is =
+      let has = recorded i pool there in
+      let g = w.input.config.granularity in
+      record {
+        some_unit = has.some_unit d domain is;
+        all_units = stored-count pool.scheduler.records d 0 (unit_count g domain) (stored-each pool.scheduler.records d (unit_count g domain) (has.recorded d domain is));
+      }
+
+  pub facts-kept : (c : Command) → KeepsFacts w.input (state_of w) c
+  facts-kept c = λ d is. values-kept d.0
+
+  -- the next line with a command has passed the checks
+  pub line-checked : (line : CommandLine) → slice_get w.input.work.commands (state_of w).next_command ≡ Some line → IsCheckedCommandLine line
+  line-checked line is = each_get IsCheckedCommandLine w.input.work.commands (state_of w).next_command line (recursion_from_All IsCheckedCommandLine w.input.work.commands goes.checked.work.commands) is

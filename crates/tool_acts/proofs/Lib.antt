@@ -1,0 +1,9 @@
+pub mod Acting
+pub mod Judgement
+pub mod Taking
+pub mod Created
+pub mod Carried
+pub mod Spared
+pub mod DomainMoves
+pub mod Stalling
+pub mod CoreMoves

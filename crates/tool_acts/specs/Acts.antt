@@ -1,0 +1,36 @@
+-- An act of the tool: what holds where it begins, and what it leaves as it was.
+use Rattle.std.specs.Prelude.{ℕ, ◌≡◌, ◌≢◌, true}
+use Rattle.sched_base.specs.Numbers.{moment}
+use Rattle.sched_model.specs.declared.action.Action.{Action}
+use Rattle.sched_model.specs.declared.event.Event.{Event}
+use Rattle.sched_model.specs.Machine.{is_enabled}
+use Rattle.journal_core.specs.Parts.{tool_lock}
+use Rattle.journal_core.specs.Histories.{part_at}
+use Rattle.cpupool.specs.Tool.{Tool, tool_of}
+use Rattle.pool_slots.specs.Told.{Told, told_more}
+use Rattle.pool_slots.specs.Places.{GoesOn, state_of}
+
+-- with the entry of that event at t
+abbrev pub told_event : Told → ℕ → Event → Told
+told_event w t event = told_more w (record { at = moment t; event = event })
+
+-- the action may come in the state that the trail leads to, whose moment is t, and the tool knows what is to be known of that state
+pub record Begins (w : Told) (tool : Tool) (t : ℕ) (action : Action) : Type 0 where
+  pub goes : GoesOn w
+  pub now : t ≡ (state_of w).now
+  pub known : tool_of w.input (state_of w) ≡ tool
+  pub enabled : is_enabled w.input (state_of w) (state_of w).now action ≡ true
+
+-- the run has gone on at the same moment; the tool knows the state that it leads to, and every pool but those of these two numbers is as before
+pub record HasActed (w : Told) (i j : ℕ) (next : Told) (tool : Tool) : Type 0 where
+  pub goes : GoesOn next
+  pub now : (state_of next).now ≡ (state_of w).now
+  pub known : tool_of next.input (state_of next) ≡ tool
+  pub others : (k : ℕ) → k ≢ i → k ≢ j → k ≢ tool_lock → part_at next.input next.history k ≡ part_at w.input w.history k
+
+-- the same of one pool; of none
+abbrev pub HasActedOn : Told → ℕ → Told → Tool → Type 0
+HasActedOn w i next tool = HasActed w i i next tool
+
+abbrev pub HasActedAlone : Told → Told → Tool → Type 0
+HasActedAlone w next tool = HasActed w tool_lock tool_lock next tool

@@ -1,0 +1,149 @@
+//! An accepted command, carried out on the place of its pool. After each the cores of the pool are looked at, also where nothing changed.
+
+ghost use Rattle.std.specs.Prelude.{◌≡◌, ◌==◌, None, Some, if◌then◌else◌};
+ghost use Rattle.std.specs.Option.{ForSome, IsSome};
+ghost use Rattle.sched_model.specs.declared.config.ParamChange.TheVariants as changes;
+ghost use Rattle.sched_model.specs.declared.state.Pool.{Pool};
+ghost use Rattle.sched_model.specs.Commands.{pool_of_plan, set_rtds};
+ghost use Rattle.sched_model.specs.Places.{numbers_from};
+ghost use Rattle.sched_model.specs.Pool.{set_leaving, set_moving, set_params, unpause as unpause_spec};
+ghost use Rattle.pool_core.specs.Params.{AreGiven};
+ghost use Rattle.pool_core.specs.Seen.{IsNow};
+ghost use Rattle.pool_slots.specs.Places.{AllStand, GoesOn, SlotSuits, StandsAt, state_of};
+ghost use Rattle.tool_acts.specs.Carrying.{HasCarried, IsAccepted, KeepsPools, Takes, TakesChange, TakesUnits, carried_slot, changed_slot};
+
+use pool_core::RtdsGiven;
+use pool_slots::{PoolSlot, Trail};
+use sched_base::{DomId, Moment, PoolId, ResId};
+use sched_model::config::ParamChange;
+use sched_model::plan::Plan;
+
+/// A core of the pool is leaving.
+fn remove(slot: &mut PoolSlot, r: ResId, t: Moment)
+    requires now { ForSome slot.old (λ seen. IsNow seen t.0) }
+    ensures { slot.new ≡ changed_slot t.0 (λ seen. set_leaving r.0 seen.pool) slot.old }
+{
+    slot.set_leaving(r);
+    slot.settle(t);
+}
+
+/// A domain of the pool is moving to another one.
+fn migrate(slot: &mut PoolSlot, d: DomId, from: PoolId, to: PoolId, t: Moment)
+    requires now { ForSome slot.old (λ seen. IsNow seen t.0) }
+    ensures { slot.new ≡ changed_slot t.0 (λ seen. (if from.0 == to.0 then seen.pool else set_moving d.0 to.0 seen.pool)) slot.old }
+{
+    if from.0 == to.0 {
+        slot.settle(t);
+    } else {
+        slot.set_moving(d, to, t);
+    }
+}
+
+/// The rate limit of the pool, in microseconds, where one is given.
+fn set_rate(slot: &mut PoolSlot, limit: Option<u32>, t: Moment)
+    requires now { ForSome slot.old (λ seen. IsNow seen t.0) }
+    requires change { ForSome slot.old (λ seen. ForSome limit (λ us. TakesChange seen (changes.Rate us))) }
+    ensures { slot.new ≡ changed_slot t.0 (λ seen. elim limit as (λ _. Pool) [ None ↦ seen.pool | Some us ↦ set_params (changes.Rate us) t.0 seen.pool ]) slot.old }
+{
+    match limit {
+        None => slot.settle(t),
+        Some(limit) => slot.set_params(&ParamChange::Rate { limit }, t),
+    }
+}
+
+/// So many units of a domain of the pool, from the unit first on, get new RTDS parameters.
+fn set_units(slot: &mut PoolSlot, d: DomId, first: u8, count: u8, given: RtdsGiven, t: Moment)
+    requires some { IsSome slot.old }
+    requires now { ForSome slot.old (λ seen. IsNow seen t.0) }
+    requires takes { ForSome slot.old (λ seen. TakesUnits seen d.0 first count (AreGiven given.period given.budget)) }
+    ensures { slot.new ≡ changed_slot t.0 (λ seen. set_rtds t.0 d.0 given.period given.budget given.extra (numbers_from first count) seen.pool) slot.old }
+{
+    slot.set_units(d, first, count, given, t);
+}
+
+/// A domain of the pool goes on.
+fn unpause(slot: &mut PoolSlot, at: &Trail, d: DomId, t: Moment)
+    requires now { ForSome slot.old (λ seen. IsNow seen t.0) }
+    requires suits { ForSome slot.old (SlotSuits at.now.input (state_of at.now).now) }
+    ensures { slot.new ≡ changed_slot t.0 (λ seen. unpause_spec at.now.input.config.granularity d.0 seen.pool) slot.old }
+{
+    slot.unpause(d, t);
+}
+
+/// The accepted command with this plan on the place of its pool.
+fn carry(slot: &mut PoolSlot, at: &Trail, plan: Plan, t: Moment)
+    requires some { IsSome slot.old }
+    requires now { ForSome slot.old (λ seen. IsNow seen t.0) }
+    requires suits { ForSome slot.old (SlotSuits at.now.input (state_of at.now).now) }
+    requires takes { ForSome slot.old (λ seen. Takes seen plan) }
+    ensures { slot.new ≡ carried_slot at.now.input t.0 plan slot.old }
+{
+    match plan {
+        Plan::PoolList { .. } => slot.settle(t),
+        Plan::PoolCreate { .. } => slot.settle(t),
+        Plan::PoolDestroy { .. } => slot.settle(t),
+        Plan::PoolRename { .. } => slot.settle(t),
+        Plan::CpuAdd { .. } => slot.settle(t),
+        Plan::CpuRemove { core, .. } => remove(slot, core, t),
+        Plan::Migrate { dom, from, to, .. } => migrate(slot, dom, from, to, t),
+        Plan::Credit2Dom {
+            dom,
+            weight,
+            cap,
+            ..
+        } => slot.set_params(&ParamChange::Dom { dom, weight, cap }, t),
+        Plan::Credit2Pool { limit, .. } => set_rate(slot, limit, t),
+        Plan::RtdsDom {
+            dom,
+            first,
+            count,
+            period,
+            budget,
+            extra,
+            ..
+        } => {
+            let given = RtdsGiven {
+                period,
+                budget,
+                extra,
+            };
+            set_units(slot, dom, first, count, given, t);
+        }
+        Plan::Pause { dom, .. } => slot.pause(dom, t),
+        Plan::Unpause { dom, .. } => unpause(slot, at, dom, t),
+        Plan::ArincSet { frame, .. } => slot.set_params(&ParamChange::Frame { frame }, t),
+        Plan::Pin {
+            dom,
+            unit,
+            cores,
+            ..
+        } => slot.set_params(&ParamChange::Pin { dom, unit, cores }, t),
+    }
+}
+
+/// The same, where the place is the part i of the machine and that is the pool of the plan, which neither makes nor destroys a pool.
+fn carry_kept(slot: &mut PoolSlot, at: &Trail, i: u8, plan: Plan, t: Moment)
+    requires goes { GoesOn at.now }
+    requires now { t.0 ≡ (state_of at.now).now }
+    requires stands { StandsAt at.now i slot.old }
+    requires accepted { IsAccepted at.now plan }
+    requires home { pool_of_plan (state_of at.now) plan ≡ Some i }
+    requires keeps { KeepsPools plan }
+    ensures { slot.new ≡ carried_slot at.now.input t.0 plan slot.old }
+{
+    slot.keeps();
+    carry(slot, at, plan, t);
+}
+
+/// The same among the places of all pools.
+pub(crate) fn carry_among(slots: &mut [PoolSlot], at: &Trail, i: PoolId, plan: Plan, t: Moment)
+    requires goes { GoesOn at.now }
+    requires now { t.0 ≡ (state_of at.now).now }
+    requires stand { AllStand at.now slots.old }
+    requires accepted { IsAccepted at.now plan }
+    requires home { pool_of_plan (state_of at.now) plan ≡ Some i.0 }
+    requires keeps { KeepsPools plan }
+    ensures { HasCarried at.now t.0 plan i.0 slots.old slots.new }
+{
+    carry_kept(&mut slots[usize::from(i.0)], at, i.0, plan, t);
+}

@@ -1,0 +1,242 @@
+//! The next command of the workload: judged by what the tool knows, and carried out on the places of the pools where it is accepted.
+
+ghost use Rattle.std.specs.Prelude.{◌≡◌, None, true, false, option_map, suc};
+ghost use Rattle.std.specs.Option.{ForSome, IsSome};
+ghost use Rattle.sched_base.specs.Numbers.{pool as pool_number};
+ghost use Rattle.sched_model.specs.declared.action.Action.TheVariants.{Stall, Xl};
+ghost use Rattle.sched_model.specs.Commands.{pool_of_plan, reply_of as reply_of_spec};
+ghost use Rattle.sched_model.specs.Machine.{event_of, is_enabled};
+ghost use Rattle.sched_model.specs.Places.{at_place};
+ghost use Rattle.sched_model.specs.Policy.{kind_of as kind_of_spec};
+ghost use Rattle.cpupool.specs.Tool.{tool_of};
+ghost use Rattle.pool_slots.specs.Counts.{AreSpares};
+ghost use Rattle.pool_slots.specs.Places.{state_of};
+ghost use Rattle.machine_parts.specs.Parts.{AreParts};
+ghost use Rattle.tool_acts.specs.Acts.{told_event};
+ghost use Rattle.tool_acts.specs.Carrying.{IsAccepted, KeepsPools, xl_told};
+ghost use Rattle.tool_acts.specs.Making.{DestroysPool, MakesPool};
+
+use crate::carrying::carry_among;
+use crate::making::{create, destroy};
+use crate::verdicts::{judged, verdict_of};
+use cpupool::{ToolEvent, ToolState};
+use pool_slots::{PoolSlot, Spares, Trail};
+use sched_base::{Moment, PoolId};
+use sched_model::command::{Command, Which};
+use sched_model::config::SchedKind;
+use sched_model::event::{Event, Reply};
+use sched_model::plan::Plan;
+
+/// The answer to an accepted command.
+fn reply_of(plan: &Plan) -> Reply
+    ensures { result ≡ reply_of_spec plan.now }
+{
+    match plan {
+        Plan::PoolList { reply, .. } => *reply,
+        Plan::PoolCreate { reply, .. } => *reply,
+        Plan::PoolDestroy { reply, .. } => *reply,
+        Plan::PoolRename { reply, .. } => *reply,
+        Plan::CpuAdd { reply, .. } => *reply,
+        Plan::CpuRemove { reply, .. } => *reply,
+        Plan::Migrate { reply, .. } => *reply,
+        Plan::Credit2Dom { reply, .. } => *reply,
+        Plan::Credit2Pool { reply, .. } => *reply,
+        Plan::RtdsDom { reply, .. } => *reply,
+        Plan::Pause { reply, .. } => *reply,
+        Plan::Unpause { reply, .. } => *reply,
+        Plan::ArincSet { reply, .. } => *reply,
+        Plan::Pin { reply, .. } => *reply,
+    }
+}
+
+/// The pool whose cores are looked at after the command: the one that it names, or the home of the domain that it names.
+fn home_of_plan(tool: &ToolState, at: &Trail, plan: &Plan) -> Option<PoolId>
+    requires known { tool_of at.now.input (state_of at.now) ≡ tool.now }
+    ensures { result ≡ option_map pool_number (pool_of_plan (state_of at.now) plan.now) }
+{
+    match plan {
+        Plan::PoolList { pool, .. } => *pool,
+        Plan::PoolCreate { pool, .. } => Some(*pool),
+        Plan::PoolDestroy { pool, .. } => Some(*pool),
+        Plan::PoolRename { pool, .. } => Some(*pool),
+        Plan::CpuAdd { pool, .. } => Some(*pool),
+        Plan::CpuRemove { pool, .. } => Some(*pool),
+        Plan::Migrate { from, .. } => Some(*from),
+        Plan::Credit2Dom { dom, .. } => tool.home_of_domain(*dom),
+        Plan::Credit2Pool { pool, .. } => Some(*pool),
+        Plan::RtdsDom { dom, .. } => tool.home_of_domain(*dom),
+        Plan::Pause { dom, .. } => tool.home_of_domain(*dom),
+        Plan::Unpause { dom, .. } => tool.home_of_domain(*dom),
+        Plan::ArincSet { pool, .. } => Some(*pool),
+        Plan::Pin { dom, .. } => tool.home_of_domain(*dom),
+    }
+}
+
+/// The scheduler of the pool i, as the command that lists it tells.
+fn kind_of(slots: &[PoolSlot], tool: &ToolState, at: &Trail, i: PoolId) -> SchedKind
+    requires parts { AreParts at.now slots.now tool.now }
+    requires there { IsSome (at_place (state_of at.now).pools i.0) }
+    ensures { ForSome (at_place (state_of at.now).pools i.0) (λ pool. result ≡ kind_of_spec pool.scheduler.records) }
+{
+    let list = Command::PoolList {
+        pool: Some(Which::Number(u64::from(i.0))),
+    };
+    match judged(slots, tool, at, &list) {
+        Ok(
+            Plan::PoolList {
+                reply: Reply::Pool { kind, .. },
+                ..
+            },
+        ) => kind,
+        _ => unreachable!(),
+    }
+}
+
+/// The next command is accepted, and makes a pool of this scheduler at the place i.
+fn accept_new(
+    slots: &mut [PoolSlot],
+    tool: &mut ToolState,
+    spares: &mut Spares,
+    at: &Trail,
+    plan: &Plan,
+    i: PoolId,
+    kind: SchedKind,
+)
+    requires parts { AreParts at.now slots.old tool.old }
+    requires enabled { is_enabled at.now.input (state_of at.now) (state_of at.now).now Xl ≡ true }
+    requires accepted { IsAccepted at.now plan.now }
+    requires makes { MakesPool plan.now i kind }
+    requires spares { AreSpares at.now.input (state_of at.now).now tool.old.part spares.old }
+    ensures parts { AreParts (xl_told at.now) slots.new tool.new }
+    ensures spares { AreSpares at.now.input (state_of at.now).now tool.new.part spares.new }
+{
+    create(&mut slots[usize::from(i.0)], spares, at, kind);
+    tool.advance(plan);
+}
+
+/// The next command is accepted, and destroys the pool of the place i.
+fn accept_end(
+    slots: &mut [PoolSlot],
+    tool: &mut ToolState,
+    spares: &mut Spares,
+    at: &Trail,
+    plan: &Plan,
+    i: PoolId,
+)
+    requires parts { AreParts at.now slots.old tool.old }
+    requires enabled { is_enabled at.now.input (state_of at.now) (state_of at.now).now Xl ≡ true }
+    requires accepted { IsAccepted at.now plan.now }
+    requires destroys { DestroysPool plan.now i }
+    requires spares { AreSpares at.now.input (state_of at.now).now tool.old.part spares.old }
+    ensures parts { AreParts (xl_told at.now) slots.new tool.new }
+    ensures spares { AreSpares at.now.input (state_of at.now).now tool.new.part spares.new }
+{
+    let kind = kind_of(slots, tool, at, i);
+    destroy(&mut slots[usize::from(i.0)], spares, at, i.0, kind);
+    tool.advance(plan);
+}
+
+/// The next command is accepted, and neither makes nor destroys a pool.
+fn accept_change(slots: &mut [PoolSlot], tool: &mut ToolState, at: &Trail, plan: Plan, t: Moment)
+    requires parts { AreParts at.now slots.old tool.old }
+    requires now { t.0 ≡ (state_of at.now).now }
+    requires enabled { is_enabled at.now.input (state_of at.now) (state_of at.now).now Xl ≡ true }
+    requires accepted { IsAccepted at.now plan }
+    requires keeps { KeepsPools plan }
+    ensures parts { AreParts (xl_told at.now) slots.new tool.new }
+    ensures pools { tool.new.part.pools ≡ tool.old.part.pools }
+    ensures over { tool.new.part.next_command ≡ suc tool.old.part.next_command }
+{
+    let home = home_of_plan(tool, at, &plan);
+    tool.advance(&plan);
+    if let Some(i) = home {
+        carry_among(slots, at, i, plan, t);
+    }
+}
+
+/// The next command is accepted, with this plan.
+fn accept(
+    slots: &mut [PoolSlot],
+    tool: &mut ToolState,
+    spares: &mut Spares,
+    at: &Trail,
+    plan: Plan,
+    t: Moment,
+)
+    requires parts { AreParts at.now slots.old tool.old }
+    requires now { t.0 ≡ (state_of at.now).now }
+    requires enabled { is_enabled at.now.input (state_of at.now) (state_of at.now).now Xl ≡ true }
+    requires accepted { IsAccepted at.now plan }
+    requires spares { AreSpares at.now.input (state_of at.now).now tool.old.part spares.old }
+    ensures parts { AreParts (xl_told at.now) slots.new tool.new }
+    ensures spares { AreSpares at.now.input (state_of at.now).now tool.new.part spares.new }
+{
+    match plan {
+        Plan::PoolCreate { pool, kind, .. } => {
+            accept_new(slots, tool, spares, at, &plan, pool, kind);
+        }
+        Plan::PoolDestroy { pool, .. } => accept_end(slots, tool, spares, at, &plan, pool),
+        _ => accept_change(slots, tool, at, plan, t),
+    }
+}
+
+/// The next command of the workload, whose moment has come, and which is the line of this index, from 0: the machine's own event, after
+/// which the parts stand where the trail leads with the entry added. A refused command changes no pool.
+pub fn command_at(
+    slots: &mut [PoolSlot],
+    tool: &mut ToolState,
+    spares: &mut Spares,
+    at: &Trail,
+    k: u32,
+    t: Moment,
+) -> Event
+    requires parts { AreParts at.now slots.old tool.old }
+    requires now { t.0 ≡ (state_of at.now).now }
+    requires enabled { is_enabled at.now.input (state_of at.now) (state_of at.now).now Xl ≡ true }
+    requires number { k ≡ (state_of at.now).next_command }
+    requires spares { AreSpares at.now.input t.0 tool.old.part spares.old }
+    ensures event { result ≡ event_of at.now.input (state_of at.now) (state_of at.now).now Xl }
+    ensures parts { AreParts (told_event at.now t.0 result) slots.new tool.new }
+    ensures spares { AreSpares at.now.input t.0 tool.new.part spares.new }
+{
+    match verdict_of(slots, tool, at, tool.command(k)) {
+        Err(fault) => {
+            tool.refuse();
+            Event::Xl {
+                k: k + 1,
+                reply: Err(fault),
+            }
+        }
+        Ok(plan) => {
+            let reply = reply_of(&plan);
+            accept(slots, tool, spares, at, plan, t);
+            Event::Xl {
+                k: k + 1,
+                reply: Ok(reply),
+            }
+        }
+    }
+}
+
+/// The same, where no stall may come before the command, so that the tool tells which line is the next.
+pub fn command(
+    slots: &mut [PoolSlot],
+    tool: &mut ToolState,
+    spares: &mut Spares,
+    at: &Trail,
+    t: Moment,
+) -> Event
+    requires parts { AreParts at.now slots.old tool.old }
+    requires now { t.0 ≡ (state_of at.now).now }
+    requires enabled { is_enabled at.now.input (state_of at.now) (state_of at.now).now Xl ≡ true }
+    requires first { is_enabled at.now.input (state_of at.now) (state_of at.now).now Stall ≡ false }
+    requires spares { AreSpares at.now.input t.0 tool.old.part spares.old }
+    ensures event { result ≡ event_of at.now.input (state_of at.now) (state_of at.now).now Xl }
+    ensures parts { AreParts (told_event at.now t.0 result) slots.new tool.new }
+    ensures spares { AreSpares at.now.input t.0 tool.new.part spares.new }
+{
+    let Some(ToolEvent::Command(k)) = tool.tool_enabled(t) else {
+        unreachable!();
+    };
+    command_at(slots, tool, spares, at, k, t)
+}

@@ -1,0 +1,116 @@
+//! Cores that move: from no pool to the one to which they are on their way, or from a pool to none. Moments are in nanoseconds.
+
+ghost use Rattle.std.specs.Prelude.{◌≡◌, None, Some, true};
+ghost use Rattle.sched_model.specs.declared.action.Action.TheVariants.{Moved};
+ghost use Rattle.sched_model.specs.Actions.{home_of_core};
+ghost use Rattle.sched_model.specs.Machine.{event_of, is_enabled};
+ghost use Rattle.journal_core.specs.Parts.{core_to};
+ghost use Rattle.pool_slots.specs.Counts.{KeepsCounts};
+ghost use Rattle.pool_slots.specs.Places.{StandsAt, state_of};
+ghost use Rattle.machine_parts.specs.Parts.{AreParts};
+ghost use Rattle.tool_acts.specs.Acts.{Begins, HasActedOn, told_event};
+
+use cpupool::{Move, ToolState};
+use pool_slots::{PoolSlot, Trail};
+use sched_base::{Moment, PoolId, ResId};
+use sched_model::event::Event;
+
+/// A core of no pool joins the pool to which it is on its way, whose place this is. Every other part but the tool's is as before.
+pub fn join_core(
+    slot: &mut PoolSlot,
+    tool: &mut ToolState,
+    at: &Trail,
+    r: ResId,
+    i: PoolId,
+    t: Moment,
+) -> Event
+    requires begins { Begins at.now tool.old t.0 (Moved r.0) }
+    requires way { tool.old.part.under_way ≡ Some (core_to r.0 (Some i.0)) }
+    requires stands { StandsAt at.now i.0 slot.old }
+    ensures event { result ≡ event_of at.now.input (state_of at.now) (state_of at.now).now (Moved r.0) }
+    ensures stands { StandsAt (told_event at.now t.0 result) i.0 slot.new }
+    ensures acted { HasActedOn at.now i.0 (told_event at.now t.0 result) tool.new }
+    ensures counts { KeepsCounts tool.old.part tool.new.part }
+{
+    let core = tool.take_free(r);
+    slot.attach(&core, t);
+    tool.move_done();
+    Event::Moved { r, to: Some(i) }
+}
+
+/// A core leaves the pool i, whose place this is, and is one of no pool then. Every other part but the tool's is as before.
+pub fn leave_core(
+    slot: &mut PoolSlot,
+    tool: &mut ToolState,
+    at: &Trail,
+    r: ResId,
+    i: PoolId,
+    t: Moment,
+) -> Event
+    requires begins { Begins at.now tool.old t.0 (Moved r.0) }
+    requires way { tool.old.part.under_way ≡ Some (core_to r.0 None) }
+    requires home { home_of_core (state_of at.now) r.0 ≡ Some i.0 }
+    requires stands { StandsAt at.now i.0 slot.old }
+    ensures event { result ≡ event_of at.now.input (state_of at.now) (state_of at.now).now (Moved r.0) }
+    ensures stands { StandsAt (told_event at.now t.0 result) i.0 slot.new }
+    ensures acted { HasActedOn at.now i.0 (told_event at.now t.0 result) tool.new }
+    ensures counts { KeepsCounts tool.old.part tool.new.part }
+{
+    let core = slot.detach(r, t);
+    tool.give_free(core);
+    tool.move_done();
+    Event::Moved { r, to: None }
+}
+
+/// The core that is on its way moves, at a moment at which it may: the machine's own event, after which the parts are those of the state
+/// that the trail leads to with the event's entry added.
+pub fn move_core(
+    slots: &mut [PoolSlot],
+    tool: &mut ToolState,
+    at: &Trail,
+    r: ResId,
+    t: Moment,
+) -> Event
+    requires parts { AreParts at.now slots.old tool.old }
+    requires now { t.0 ≡ (state_of at.now).now }
+    requires enabled { is_enabled at.now.input (state_of at.now) (state_of at.now).now (Moved r.0) ≡ true }
+    ensures event { result ≡ event_of at.now.input (state_of at.now) (state_of at.now).now (Moved r.0) }
+    ensures parts { AreParts (told_event at.now t.0 result) slots.new tool.new }
+    ensures counts { KeepsCounts tool.old.part tool.new.part }
+{
+    match tool.moving() {
+        Some(Move::Res { to: Some(i), .. }) => join_core(
+            &mut slots[usize::from(i.0)],
+            tool,
+            at,
+            r,
+            i,
+            t,
+        ),
+        Some(Move::Res { to: None, .. }) => leave_home(slots, tool, at, r, t),
+        Some(Move::Dom { .. }) => unreachable!(),
+        None => unreachable!(),
+    }
+}
+
+/// The core leaves the pool that has it.
+fn leave_home(
+    slots: &mut [PoolSlot],
+    tool: &mut ToolState,
+    at: &Trail,
+    r: ResId,
+    t: Moment,
+) -> Event
+    requires parts { AreParts at.now slots.old tool.old }
+    requires now { t.0 ≡ (state_of at.now).now }
+    requires enabled { is_enabled at.now.input (state_of at.now) (state_of at.now).now (Moved r.0) ≡ true }
+    requires way { tool.old.part.under_way ≡ Some (core_to r.0 None) }
+    ensures event { result ≡ event_of at.now.input (state_of at.now) (state_of at.now).now (Moved r.0) }
+    ensures parts { AreParts (told_event at.now t.0 result) slots.new tool.new }
+    ensures counts { KeepsCounts tool.old.part tool.new.part }
+{
+    let Some(i) = tool.home_of_core(r) else {
+        unreachable!();
+    };
+    leave_core(&mut slots[usize::from(i.0)], tool, at, r, i, t)
+}

@@ -1,0 +1,19 @@
+//! The acts of the tool on the parts of a machine: stalls, moves of cores and of domains, and commands, each over the places of the pools
+//! and what the tool knows.
+//!
+//! A call has a trail as its witness, as those of `pool_slots` have: the input and the history, which contracts alone see. It answers
+//! the event, and leaves the parts of the state that the trail leads to with that event's entry added.
+#![tactic(auto)]
+
+pub mod carrying;
+pub mod commands;
+pub mod cores;
+pub mod domains;
+pub mod making;
+pub mod stalls;
+pub mod verdicts;
+
+pub use commands::{command, command_at};
+pub use cores::move_core;
+pub use domains::move_domain;
+pub use stalls::stall;

@@ -1,0 +1,35 @@
+//! Pools that commands make and destroy.
+
+ghost use Rattle.std.specs.Prelude.{◌≡◌, ◌<◌, None, length};
+ghost use Rattle.std.specs.List.{All};
+ghost use Rattle.std.specs.Option.{ForSome, IsSome};
+ghost use Rattle.pool_slots.specs.Places.{GoesOn, StandsAt, state_of};
+ghost use Rattle.pool_slots.specs.Spares.{IsSpare, shelf_of};
+ghost use Rattle.tool_acts.specs.Making.{HasGone, HasMade, MayGo};
+
+use plain_opening::spare::default_params;
+use pool_slots::{PoolSlot, Spares, Trail};
+use sched_model::config::SchedKind;
+
+/// A spare pool of the scheduler comes to the place, which is empty, with default parameters.
+pub(crate) fn create(slot: &mut PoolSlot, spares: &mut Spares, at: &Trail, kind: SchedKind)
+    requires empty { slot.old ≡ None }
+    requires some { 0 < length (shelf_of kind spares.old).pools }
+    requires suit { All (IsSpare at.now.input (state_of at.now).now kind) (shelf_of kind spares.old).pools }
+    ensures { HasMade at.now.input (state_of at.now).now kind spares.old spares.new slot.new }
+{
+    let spare = spares.take(kind);
+    slot.open_with(at, spare, &default_params(kind));
+}
+
+/// The pool of the place i, which has this scheduler and neither a domain nor a core, becomes a spare one.
+pub(crate) fn destroy(slot: &mut PoolSlot, spares: &mut Spares, at: &Trail, i: u8, kind: SchedKind)
+    requires goes { GoesOn at.now }
+    requires stands { StandsAt at.now i slot.old }
+    requires some { IsSome slot.old }
+    requires goes_out { ForSome slot.old (MayGo kind spares.old) }
+    ensures { HasGone at.now.input (state_of at.now).now kind spares.old spares.new slot.new }
+{
+    let pool = slot.shut(at, i);
+    spares.give(kind, pool);
+}

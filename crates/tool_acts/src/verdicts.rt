@@ -1,0 +1,81 @@
+//! What is answered to the next command, by the tool and by the places of the pools.
+
+ghost use Rattle.std.specs.Prelude.{◌≡◌, [], Some, slice_get};
+ghost use Rattle.sched_model.specs.Checked.{IsCheckedCommand};
+ghost use Rattle.sched_model.specs.Commands.{judge};
+ghost use Rattle.sched_model.specs.Machine.{verdict};
+ghost use Rattle.cpupool.specs.Facts.{rate_at, units_at};
+ghost use Rattle.pool_slots.specs.Places.{AllStand, GoesOn, state_of};
+ghost use Rattle.machine_parts.specs.Parts.{AreParts};
+
+use cpupool::ToolState;
+use pool_slots::{PoolSlot, Trail};
+use sched_model::command::Command;
+use sched_model::event::Refusal;
+use sched_model::facts::{Facts, Subject};
+use sched_model::plan::Plan;
+use sched_model::short::Short;
+use sched_model::work::CommandLine;
+
+/// What is told where there is no pool.
+fn no_facts() -> Facts
+    ensures rate { result.rate ≡ 0 }
+    ensures units { result.units ≡ [] }
+{
+    Facts {
+        rate: 0,
+        units: Short::new(),
+    }
+}
+
+/// The rate limit of the subject's pool, and the set values of the units of its domain.
+fn facts_of(slots: &[PoolSlot], at: &Trail, subject: Subject) -> Facts
+    requires goes { GoesOn at.now }
+    requires stand { AllStand at.now slots.now }
+    ensures rate { result.rate ≡ rate_at (state_of at.now) subject }
+    ensures units { result.units ≡ units_at at.now.input.config.granularity (state_of at.now) subject }
+{
+    let Some(pool) = subject.pool else {
+        return no_facts();
+    };
+    let i = usize::from(pool.0);
+    if i < slots.len() {
+        slots[i].facts(subject.dom)
+    } else {
+        no_facts()
+    }
+}
+
+/// What the command will do, or why it is refused.
+pub(crate) fn judged(
+    slots: &[PoolSlot],
+    tool: &ToolState,
+    at: &Trail,
+    c: &Command,
+) -> Result<Plan, Refusal>
+    requires parts { AreParts at.now slots.now tool.now }
+    requires command { IsCheckedCommand c.now }
+    ensures { result ≡ judge at.now.input (state_of at.now) c.now }
+{
+    let facts = facts_of(slots, at, tool.subject(c));
+    tool.judge(c, &facts)
+}
+
+/// What is answered to the next line with a command.
+pub(crate) fn verdict_of(
+    slots: &[PoolSlot],
+    tool: &ToolState,
+    at: &Trail,
+    line: &CommandLine,
+) -> Result<Plan, Refusal>
+    requires parts { AreParts at.now slots.now tool.now }
+    requires next { slice_get at.now.input.work.commands (state_of at.now).next_command ≡ Some line.now }
+    ensures { result ≡ verdict at.now.input (state_of at.now) line.now }
+{
+    match &line.command {
+        Err(fault) => Err(Refusal::Syntax {
+            place: u64::from(fault.place),
+        }),
+        Ok(c) => judged(slots, tool, at, c),
+    }
+}
