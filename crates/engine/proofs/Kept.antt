@@ -1,0 +1,78 @@
+-- What is kept of each place, taken together.
+use mathlib.Core.Logic.{dite}
+use native.Mathlib.Decide.{ℕ_discrete}
+use Rattle.std.proofs.Common.{◌≡◌, ◌≢◌, ◌≤◌, ◌<◌, ◌∙◌, ℕ, suc, List, length, sym, ap, subst, arith}
+use Rattle.std.proofs.Math.Decide.{dec_le}
+use Rattle.std.proofs.Math.ListN.{get_or-eq_default}
+use Rattle.std.proofs.lemmas.List.{with_items_is}
+use Rattle.std.specs.Prelude.{Option, Some, None, Vec}
+use Rattle.std.specs.Vec.{with_items}
+use Rattle.sched_base.specs.declared.Moment.{Moment}
+use Rattle.sched_model.specs.declared.action.Action.{Action}
+use Rattle.sched_model.specs.Places.{at_place}
+use Rattle.pool_core.specs.Seen.{Seen}
+use Rattle.pool_core.specs.Order.{IsFirstEnabled}
+use Rattle.machine_parts.specs.Parts.{AreFirsts}
+use Rattle.engine.specs.Running.{AreKept, IsFirstOfPlace, IsNextOfPlace}
+
+first-some : (t : ℕ) (slot : Option Seen) (first : Option Action) (seen : Seen) → slot ≡ Some seen → IsFirstOfPlace t slot first → IsFirstEnabled seen.granularity t seen.pool first
+first-some t slot first seen is of = subst (λ (o : Option Seen). IsFirstOfPlace t o first) is of
+
+first-none : (t : ℕ) (slot : Option Seen) (first : Option Action) → slot ≡ None → IsFirstOfPlace t slot first → first ≡ None
+first-none t slot first is of = subst (λ (o : Option Seen). IsFirstOfPlace t o first) is of
+
+-- what is kept of all places is kept of each
+first-at : (t : ℕ) (slots : List (Option Seen)) (firsts : List (Option Action)) → AreFirsts t slots firsts → (k : ℕ) → (o : Option Seen) → at_place slots k ≡ o → IsFirstOfPlace t o (at_place firsts k)
+first-at t slots firsts are k None is = are.nothing k is
+first-at t slots firsts are k (Some seen) is = are.pool k seen is
+
+-- and what is kept of each is kept of all
+pub firsts-all : (t : ℕ) (slots : List (Option Seen)) (firsts : List (Option Action)) → ((k : ℕ) → IsFirstOfPlace t (at_place slots k) (at_place firsts k)) → AreFirsts t slots firsts
+firsts-all t slots firsts each = record { pool = λ k seen is. first-some t (at_place slots k) (at_place firsts k) seen is (each k); nothing = λ k is. first-none t (at_place slots k) (at_place firsts k) is (each k) }
+
+-- past the last place there is nothing
+past-slots : (slots : List (Option Seen)) (k : ℕ) → length slots ≤ k → None ≡ at_place slots k
+past-slots slots k high = sym (get_or-eq_default slots None (omega (arith, high)))
+
+pub firsts-below : (t : ℕ) (slots : List (Option Seen)) (firsts : List (Option Action)) → length firsts ≡ length slots → ((k : ℕ) → k < length slots → IsFirstOfPlace t (at_place slots k) (at_place firsts k)) → AreFirsts t slots firsts
+firsts-below t slots firsts count each = firsts-all t slots firsts (λ k. elim (dec_le (suc k) (length slots)) [
+  | yes low ↦ each k low
+  | no high ↦ past k (omega (arith, high))
+])
+  where
+    past : (k : ℕ) → length slots ≤ k → IsFirstOfPlace t (at_place slots k) (at_place firsts k)
+    past k high = subst (λ (o : Option Seen). IsFirstOfPlace t o (at_place firsts k)) (past-slots slots k high) (get_or-eq_default firsts None (omega (arith, high, count)))
+
+pub nexts-below : (slots : List (Option Seen)) (nexts : List (Option Moment)) (If : ℕ → Type 0) → length nexts ≡ length slots → ((k : ℕ) → k < length slots → If k → IsNextOfPlace (at_place slots k) (at_place nexts k))
+    → (k : ℕ) → If k → IsNextOfPlace (at_place slots k) (at_place nexts k)
+nexts-below slots nexts If count each k holds = elim (dec_le (suc k) (length slots)) [
+  | yes low ↦ each k low holds
+  | no high ↦ past (omega (arith, high))
+]
+  where
+    past : length slots ≤ k → IsNextOfPlace (at_place slots k) (at_place nexts k)
+    past high = subst (λ (o : Option Seen). IsNextOfPlace o (at_place nexts k)) (past-slots slots k high) (get_or-eq_default nexts None (omega (arith, high, count)))
+
+-- one place changed, and what is kept of it was asked again
+module _ (t i : ℕ) (old new : List (Option Seen)) (firsts now_firsts : List (Option Action)) (nexts now_nexts : List (Option Moment)) (kept : AreKept t old firsts nexts) where
+  pub kept-one : length new ≡ length old → length now_firsts ≡ length firsts → length now_nexts ≡ length nexts
+      → ((k : ℕ) → k ≢ i → at_place new k ≡ at_place old k) → ((k : ℕ) → k ≢ i → at_place now_firsts k ≡ at_place firsts k) → ((k : ℕ) → k ≢ i → at_place now_nexts k ≡ at_place nexts k)
+      → IsFirstOfPlace t (at_place new i) (at_place now_firsts i) → (at_place now_firsts i ≡ None → IsNextOfPlace (at_place new i) (at_place now_nexts i)) → AreKept t new now_firsts now_nexts
+  kept-one slots_count firsts_count nexts_count same same_first same_next first next = record {
+    count_firsts = firsts_count ∙ kept.count_firsts ∙ sym slots_count;
+    count_nexts = nexts_count ∙ kept.count_nexts ∙ sym slots_count;
+    firsts_are = firsts-all t new now_firsts (λ k. dite (ℕ_discrete k i)
+        (λ (is : k ≡ i). subst (λ (n : ℕ). IsFirstOfPlace t (at_place new n) (at_place now_firsts n)) (sym is) first)
+        (λ other.
+        subst (λ (o : Option Action). IsFirstOfPlace t (at_place new k) o) (sym (same_first k other))
+        (first-at t old firsts kept.firsts_are k (at_place new k) (sym (same k other)))));
+    nexts_are = λ k none. dite (ℕ_discrete k i)
+        (λ (is : k ≡ i). subst (λ (n : ℕ). IsNextOfPlace (at_place new n) (at_place now_nexts n)) (sym is) (next (ap (at_place now_firsts) (sym is) ∙ none)))
+        (λ other.
+        subst (λ (o : Option Moment). IsNextOfPlace (at_place new k) o) (sym (same_next k other))
+        (subst (λ (o : Option Seen). IsNextOfPlace o (at_place nexts k)) (sym (same k other)) (kept.nexts_are k (sym (same_first k other) ∙ none))));
+  }
+
+-- a vector whose elements are written anew, as many as there were
+pub written : {X Z : Type 0} (v : Vec X Z) (ws : List X) → length ws ≡ length v.items → (with_items v ws).items ≡ ws
+written v ws count = with_items_is v ws (count ∙ sym v.ok.0)

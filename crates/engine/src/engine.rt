@@ -1,0 +1,209 @@
+//! The engine: a machine that steps from one entry of its run to the next.
+
+use crate::acts::act_of_tool;
+use crate::homes::pool_of_event;
+use crate::keeping::{none_times, read_all, read_firsts, read_one};
+use cpupool::ToolState;
+use machine_parts::{whole_first, whole_next};
+use parts_opening::{open_slots, open_spares};
+use pool_slots::{PoolSlot, Spares, Trail, perform_among};
+use run_laws::laws::law_next_moment;
+use sched_base::{Moment, NoMemory};
+use sched_model::action::Action;
+use sched_model::event::{Entry, Event};
+use sched_model::machine::Machine;
+use std::alloc::Global;
+use std::marker::Model;
+
+/// As many pools as a machine has places for.
+const MOST_POOLS: u8 = 16;
+
+/// A machine, and the state that it stands in. Contracts see both.
+///
+/// It owns the places of the pools, what the tool knows, and the spare pools. A trail, of no bytes, tells contracts alone how far the run
+/// has come. All moments are in nanoseconds.
+#[derive(Drop)]
+pub struct Engine {
+    trail: Trail,
+    moment: Moment,
+    horizon: Moment,
+    granularity: u8,
+    slots: Vec<PoolSlot>,
+    tool: ToolState,
+    spares: Spares,
+    firsts: Vec<Option<Action>>,
+    nexts: Vec<Option<Moment>>,
+}
+
+impl Model for Engine {
+    ghost use Rattle.engine.specs.Standing.{Standing, standing_of};
+
+    ghost Value = { Standing };
+
+    ghost use Rattle.engine.specs.Running.{IsRunning};
+
+    ghost view = { λ e. standing_of e.trail };
+
+    ghost invariant = { λ e. IsRunning e.trail e.moment.0 e.horizon.0 e.granularity e.slots.items e.tool e.spares e.firsts.items e.nexts.items };
+}
+
+impl Engine {
+    ghost use Rattle.std.specs.Prelude.{◌≡◌, true, false, None, Some, IfOk, option_map};
+    ghost use Rattle.sched_model.specs.declared.action.Action.TheVariants as actions;
+    ghost use Rattle.sched_base.specs.Numbers.{moment};
+    ghost use Rattle.sched_model.specs.Opening.{opening};
+    ghost use Rattle.sched_model.specs.Checked.{IsChecked};
+    ghost use Rattle.engine.specs.Running.{pool_of_event as pool_of_event_spec};
+    ghost use Rattle.sched_model.specs.Machine.{is_enabled, first_enabled as first_enabled_spec, next_in_horizon, event_of, after};
+
+    /// The machine at its opening. Its values have passed the checks of the domain file and of the work file.
+    pub fn open(alloc: Global, machine: Machine) -> Result<Engine, NoMemory>
+        requires { IsChecked machine }
+        ensures { IfOk result (λ e. e ≡ record { machine = machine; state = opening machine }) }
+    {
+        let places = usize::from(MOST_POOLS);
+        let mut firsts = none_times(alloc, places)?;
+        let mut nexts = none_times(alloc, places)?;
+        let tool = ToolState::open(alloc, &machine.config, &machine.work)?;
+        let spares = open_spares(alloc, &machine.config, &machine.work)?;
+        let slots = open_slots(alloc, &machine.config)?;
+        let now = Moment(0);
+        read_all(
+            slots.as_slice(),
+            now,
+            firsts.as_mut_slice(),
+            nexts.as_mut_slice(),
+        );
+        Ok(Engine {
+            trail: Trail::opened(&machine.config, &machine.work),
+            moment: now,
+            horizon: machine.config.horizon,
+            granularity: machine.config.granularity,
+            slots,
+            tool,
+            spares,
+            firsts,
+            nexts,
+        })
+    }
+
+    /// The moment that the state has come to.
+    pub fn now(&self) -> Moment
+        ensures { result ≡ moment self.now.state.now }
+    {
+        self.moment
+    }
+
+    /// The first action that may come now, or none exactly where none may.
+    pub fn first_enabled(&self) -> Option<Action>
+        ensures { result ≡ first_enabled_spec self.now.machine self.now.state self.now.state.now }
+    {
+        whole_first(
+            self.slots.as_slice(),
+            &self.tool,
+            self.firsts.as_slice(),
+            &self.trail,
+            self.moment,
+        )
+    }
+
+    /// Does the event of the first action that may come now, and answers it with the fields that its line prints.
+    pub fn perform(&mut self, action: Action) -> Event
+        requires { first_enabled_spec self.old.machine self.old.state self.old.state.now ≡ Some action }
+        ensures event { result ≡ event_of self.old.machine self.old.state self.old.state.now action }
+        ensures state { self.new ≡ record self.old { state = after self.old.machine self.old.state self.old.state.now action } }
+    {
+        match pool_of_event(&self.tool, self.granularity, action) {
+            Some(i) => self.perform_in_pool(i.0, action),
+            None => self.perform_by_tool(action),
+        }
+    }
+
+    /// Does the event of an action that may come now, which is one of the pool i.
+    fn perform_in_pool(&mut self, i: u8, action: Action) -> Event
+        requires enabled { is_enabled self.old.machine self.old.state self.old.state.now action ≡ true }
+        requires home { pool_of_event_spec self.old.machine.config.granularity self.old.state action ≡ Some i }
+        ensures event { result ≡ event_of self.old.machine self.old.state self.old.state.now action }
+        ensures state { self.new ≡ record self.old { state = after self.old.machine self.old.state self.old.state.now action } }
+    {
+        let event = perform_among(
+            self.slots.as_mut_slice(),
+            &self.trail,
+            i,
+            action,
+            self.moment,
+        );
+        self.trail.add(&Entry {
+            at: self.moment,
+            event,
+        });
+        read_one(
+            self.slots.as_slice(),
+            i as usize,
+            self.moment,
+            self.firsts.as_mut_slice(),
+            self.nexts.as_mut_slice(),
+        );
+        event
+    }
+
+    /// The same of an action of the tool; of a command where no stall may come.
+    fn perform_by_tool(&mut self, action: Action) -> Event
+        requires enabled { is_enabled self.old.machine self.old.state self.old.state.now action ≡ true }
+        requires no_pool { pool_of_event_spec self.old.machine.config.granularity self.old.state action ≡ None }
+        requires first { action ≡ actions.Xl → is_enabled self.old.machine self.old.state self.old.state.now actions.Stall ≡ false }
+        ensures event { result ≡ event_of self.old.machine self.old.state self.old.state.now action }
+        ensures state { self.new ≡ record self.old { state = after self.old.machine self.old.state self.old.state.now action } }
+    {
+        let event = act_of_tool(
+            self.slots.as_mut_slice(),
+            &mut self.tool,
+            &mut self.spares,
+            &self.trail,
+            self.granularity,
+            action,
+            self.moment,
+        );
+        self.trail.add(&Entry {
+            at: self.moment,
+            event,
+        });
+        read_all(
+            self.slots.as_slice(),
+            self.moment,
+            self.firsts.as_mut_slice(),
+            self.nexts.as_mut_slice(),
+        );
+        event
+    }
+
+    /// The least later moment at which something may happen, where it is at most the horizon. Nothing may come now.
+    pub fn next_moment(&self) -> Option<Moment>
+        requires { first_enabled_spec self.now.machine self.now.state self.now.state.now ≡ None }
+        ensures { result ≡ option_map moment (next_in_horizon self.now.machine self.now.state) }
+    {
+        whole_next(
+            self.slots.as_slice(),
+            &self.tool,
+            self.nexts.as_slice(),
+            &self.trail,
+            self.moment,
+            self.horizon,
+        )
+    }
+
+    /// Goes on to the next moment, where nothing may come now.
+    pub fn pass_to(&mut self, next: Moment)
+        requires nothing { first_enabled_spec self.old.machine self.old.state self.old.state.now ≡ None }
+        requires next { next_in_horizon self.old.machine self.old.state ≡ Some next.0 }
+        ensures { self.new ≡ record self.old { state = record self.old.state { now = next.0 } } }
+    {
+        law_next_moment();
+        self.trail.add(&Entry {
+            at: self.moment,
+            event: Event::End { next },
+        });
+        self.moment = next;
+        read_firsts(self.slots.as_slice(), next, self.firsts.as_mut_slice());
+    }
+}

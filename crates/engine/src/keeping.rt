@@ -1,0 +1,96 @@
+//! What is kept of each pool, so that only a pool that changed is asked again.
+
+ghost use Rattle.std.specs.Prelude.{◌≡◌, ◌≢◌, ◌<◌, ℕ, None, length, IfOk};
+ghost use Rattle.sched_model.specs.Places.{at_place};
+ghost use Rattle.machine_parts.specs.Parts.{AreFirsts};
+ghost use Rattle.engine.specs.Running.{AreKept, IsFirstOfPlace, IsNextOfPlace};
+
+use pool_slots::PoolSlot;
+use sched_base::{Moment, NoMemory};
+use sched_model::action::Action;
+use std::alloc::Global;
+
+/// So many places without anything.
+pub(crate) fn none_times<T: Clone>(alloc: Global, times: usize) -> Result<Vec<Option<T>>, NoMemory>
+    ensures { IfOk result (λ all. length all.items ≡ times) }
+{
+    Ok(vec![in alloc; None; times]?)
+}
+
+/// The first event of the pool that may come at t.
+fn first_of(slot: &PoolSlot, t: Moment) -> Option<Action>
+    ensures { IsFirstOfPlace t.0 slot.now result }
+{
+    slot.first_enabled(t)
+}
+
+/// The least moment at which an event of the pool may come, where `first` says that none may now.
+fn next_of(slot: &PoolSlot, first: Option<Action>) -> Option<Moment>
+    ensures { first ≡ None → IsNextOfPlace slot.now result }
+{
+    match first {
+        Some(_) => None,
+        None => slot.next_moment(),
+    }
+}
+
+/// The first event of each pool that may come at t.
+pub(crate) fn read_firsts(slots: &[PoolSlot], t: Moment, firsts: &mut [Option<Action>])
+    requires count { length firsts.old ≡ length slots.now }
+    ensures count { length firsts.new ≡ length slots.now }
+    ensures firsts { AreFirsts t.0 slots.now firsts.new }
+{
+    for i in 0..slots.len() {
+        firsts[i] = first_of(&slots[i], t);
+    }
+}
+
+/// The next moment of each pool of which no event may come now.
+fn read_nexts(slots: &[PoolSlot], firsts: &[Option<Action>], nexts: &mut [Option<Moment>])
+    requires firsts { length firsts.now ≡ length slots.now }
+    requires nexts { length nexts.old ≡ length slots.now }
+    ensures count { length nexts.new ≡ length slots.now }
+    ensures nexts { (k : ℕ) → at_place firsts.now k ≡ None → IsNextOfPlace (at_place slots.now k) (at_place nexts.new k) }
+{
+    for i in 0..slots.len() {
+        nexts[i] = next_of(&slots[i], firsts[i]);
+    }
+}
+
+/// What is kept of all pools, asked at t.
+pub(crate) fn read_all(
+    slots: &[PoolSlot],
+    t: Moment,
+    firsts: &mut [Option<Action>],
+    nexts: &mut [Option<Moment>],
+)
+    requires firsts { length firsts.old ≡ length slots.now }
+    requires nexts { length nexts.old ≡ length slots.now }
+    ensures { AreKept t.0 slots.now firsts.new nexts.new }
+{
+    read_firsts(slots, t, firsts);
+    read_nexts(slots, firsts, nexts);
+}
+
+/// What is kept of the pool i, which alone has changed, asked at t.
+pub(crate) fn read_one(
+    slots: &[PoolSlot],
+    i: usize,
+    t: Moment,
+    firsts: &mut [Option<Action>],
+    nexts: &mut [Option<Moment>],
+)
+    requires place { i < length slots.now }
+    requires firsts { length firsts.old ≡ length slots.now }
+    requires nexts { length nexts.old ≡ length slots.now }
+    ensures first { IsFirstOfPlace t.0 (at_place slots.now i) (at_place firsts.new i) }
+    ensures next { at_place firsts.new i ≡ None → IsNextOfPlace (at_place slots.now i) (at_place nexts.new i) }
+    ensures firsts { length firsts.new ≡ length firsts.old }
+    ensures nexts { length nexts.new ≡ length nexts.old }
+    ensures other_firsts { (k : ℕ) → k ≢ i → at_place firsts.new k ≡ at_place firsts.old k }
+    ensures other_nexts { (k : ℕ) → k ≢ i → at_place nexts.new k ≡ at_place nexts.old k }
+{
+    let first = first_of(&slots[i], t);
+    firsts[i] = first;
+    nexts[i] = next_of(&slots[i], first);
+}
