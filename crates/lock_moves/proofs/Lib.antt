@@ -12,3 +12,4 @@ pub mod Opening
 pub mod Closing
 pub mod Staging
 pub mod Crossing
+pub mod Deciding

@@ -7,3 +7,4 @@ pub mod Plays
 pub mod Sets
 pub mod Opened
 pub mod Lent
+pub mod Deciding

@@ -1,15 +1,16 @@
 //! How a set is opened and closed.
 
-ghost use Rattle.std.specs.Prelude.{◌≡◌, true, ℕ, ◌+◌, ◌<◌, ◌≤◌, [], ◌∷◌, ◌++◌, map, length, IfOk};
+ghost use Rattle.std.specs.Prelude.{◌≡◌, true, false, ℕ, ◌+◌, ◌<◌, ◌≤◌, [], ◌∷◌, ◌++◌, map, length, slice_index_or, vec_capacity, IfOk};
+ghost use Rattle.std.specs.Slots.{slots_items, slots_filled, slots_len};
 ghost use Rattle.journal_core.specs.Histories.{home_at, NamesStandOnce};
 ghost use Rattle.lock_moves.specs.declared.content.Content.TheVariants.{Value, Ledger};
 ghost use Rattle.lock_moves.specs.Sight.{opening_view, has_place};
-ghost use Rattle.lock_moves.specs.Opened.{AreParts, IsOpening};
+ghost use Rattle.lock_moves.specs.Opened.{AreParts, IsOpening, HaveParts, HaveValues, HasFirst, AreFirst};
 
 use crate::content::{Content, Part};
 use crate::seat::LockSeat;
 use crate::set::LockSet;
-use atomic_table::Table;
+use atomic_table::{Closed, Table};
 use journal_core::Book;
 use sched_base::{NoMemory, ResId};
 use std::alloc::Global;
@@ -59,6 +60,23 @@ fn stowed<V: Part>(alloc: Global, values: Vec<V>, book: Book) -> Result<Vec<Cont
     Ok(slots)
 }
 
+// Takes the values out of their slots, in the order of the locks.
+fn take_out<V: Drop>(closed: &mut Closed<Content<V>, Global>, values: &mut Vec<V>)
+    requires full { (slots_len closed.old.slots ≡ 18) × HasFirst (slots_filled closed.old.slots) }
+    requires values { HaveValues (slots_items closed.old.slots) }
+    requires room { (values.old.items ≡ []) × (17 ≤ vec_capacity values.old) }
+    ensures empty { (k : ℕ) → k < slots_len closed.new.slots → slice_index_or (slots_filled closed.new.slots) k false ≡ false }
+    ensures first { AreFirst 17 (slots_items closed.old.slots) values.new.items }
+    ensures capacity { vec_capacity values.new ≡ vec_capacity values.old }
+{
+    for k in 0..17 {
+        let Content::Value(value) = closed.take(k) else {
+            unreachable!()
+        };
+        values.push_reserved(value);
+    }
+}
+
 impl<V: Part> LockSet<V> {
     /// A set of these values, one for each lock but the book's in the order of the locks, each its part of the book's state;
     /// and its first seat, which has all parts and whose front is the book's history.
@@ -83,7 +101,31 @@ impl<V: Part> LockSet<V> {
         Ok((LockSet { table }, LockSeat { badge }))
     }
 
+    // What lies in the slots of the locks but the book's, and the book, where one seat is left.
+    fn ended(self, seat: LockSeat) -> (Closed<Content<V>, Global>, Book)
+        requires set { seat.table ≡ self.table }
+        requires only { seat.view.shares ≡ 1024 }
+        requires nothing { seat.view.held ≡ [] }
+        ensures full { (slots_len result.0.slots ≡ 18) × HasFirst (slots_filled result.0.slots) }
+        ensures parts { HaveParts V.part V.suits seat.view.input seat.view.front (slots_items result.0.slots) }
+        ensures once { NamesStandOnce seat.view.input seat.view.front }
+        ensures input { result.1.input ≡ seat.view.input }
+        ensures limit { result.1.limit ≡ seat.view.limit }
+        ensures history { result.1.history ≡ seat.view.front }
+        ensures own { (p : ℕ) → length self.opened.history ≤ p → p < length seat.view.front → has_place p seat.view.own ≡ true }
+    {
+        let LockSet { table } = self;
+        let LockSeat { badge } = seat;
+        let mut closed = table.close_with(badge.into_seat());
+        let content = closed.take(17);
+        let Content::Ledger(book) = content else {
+            unreachable!()
+        };
+        (closed, book)
+    }
+
     /// The book, whose history is the front of the one seat that is left. Each place that was added since the opening is one of this seat's own.
+    /// The values are dropped.
     pub fn close(self, seat: LockSeat) -> Book
         requires set { seat.table ≡ self.table }
         requires only { seat.view.shares ≡ 1024 }
@@ -93,17 +135,34 @@ impl<V: Part> LockSet<V> {
         ensures history { result.history ≡ seat.view.front }
         ensures own { (p : ℕ) → length self.opened.history ≤ p → p < length seat.view.front → has_place p seat.view.own ≡ true }
     {
-        let LockSet { table } = self;
-        let LockSeat { badge } = seat;
-        let mut closed = table.close_with(badge.into_seat());
-        let content = closed.take(17);
+        let (mut closed, book) = self.ended(seat);
         for k in 0..17 {
             drop(closed.take(k));
         }
         closed.free();
-        let Content::Ledger(book) = content else {
-            unreachable!()
-        };
         book
+    }
+
+    /// The values that stood under the locks, in the order of their locks, and the book, where one seat is left. They are what `open` asks for:
+    /// each value is its part of the book's state and suits it, and each name stands once. `room` is empty and has place for 17 values, so
+    /// that no memory is taken.
+    pub fn dissolve(self, seat: LockSeat, room: Vec<V>) -> (Vec<V>, Book)
+        requires set { seat.table ≡ self.table }
+        requires only { seat.view.shares ≡ 1024 }
+        requires nothing { seat.view.held ≡ [] }
+        requires room { (room.items ≡ []) × (17 ≤ vec_capacity room) }
+        ensures parts { AreParts V.part V.suits result.1 result.0.items }
+        ensures once { NamesStandOnce result.1.input result.1.history }
+        ensures input { result.1.input ≡ seat.view.input }
+        ensures limit { result.1.limit ≡ seat.view.limit }
+        ensures history { result.1.history ≡ seat.view.front }
+        ensures own { (p : ℕ) → length self.opened.history ≤ p → p < length seat.view.front → has_place p seat.view.own ≡ true }
+        ensures capacity { vec_capacity result.0 ≡ vec_capacity room }
+    {
+        let (mut closed, book) = self.ended(seat);
+        let mut values = room;
+        take_out(&mut closed, &mut values);
+        closed.free();
+        (values, book)
     }
 }

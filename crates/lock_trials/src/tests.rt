@@ -28,14 +28,19 @@ fn a_taken_lock_is_refused(rt: HostRuntime) -> Result<(), Fail> {
 
 #[test]
 fn two_seats_take_turns(rt: HostRuntime) -> Result<(), Fail> {
+    let room = Vec::with_capacity(rt.alloc(), 17)?;
     let (set, mut a) = opened(rt.alloc())?;
     let mut b = set.split(&mut a);
     assert_eq!(rt; visit(&rt, &set, &mut a, NameId::Res(ResId(1))), (16, 0));
     assert_eq!(rt; visit(&rt, &set, &mut b, NameId::Res(ResId(1))), (16, 0));
     assert_eq!(rt; visit(&rt, &set, &mut a, NameId::Res(ResId(0))), (0, 0));
     set.join(&mut a, b);
-    let book = set.close(a);
+    let (values, book) = set.dissolve(a, room);
     assert_eq!(rt; (book.len(), book.limit()), (0, 2));
+    assert_eq!(rt; values.len(), 17);
+    for (k, value) in values.iter().enumerate() {
+        assert_eq!(rt; value.lock as usize, k);
+    }
     Ok(())
 }
 
