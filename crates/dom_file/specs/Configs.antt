@@ -34,17 +34,22 @@ abbrev pub all_pools : Head → Option (List Members) → Result (List PoolDraft
 all_pools head None = Ok (default_pool head ∷ [])
 all_pools head (Some tables) = pools_in head [] tables
 
--- the machine of a table, or the first fault: of the top table, of each pool, of each domain, of the units in all, of the units in the frames
-unfoldable pub config_of : Members → Result Config DomFault
-config_of table = do
-  head ← head_of table
-  pool_tables ← at Top 0 (codes "pool") (pool_tables_in table)
-  domain_tables ← at Top 0 (codes "domain") (domain_tables_in table)
+-- the machine of the tables of the pools and of the domains, or the first fault: of each pool, of each domain, of the units in all, of the units in the frames
+abbrev pub machine_from : Head → Option (List Members) → List Members → Result Config DomFault
+machine_from head pool_tables domain_tables = do
   drafts ← all_pools head pool_tables
   domains ← domains_in head drafts [] domain_tables
   few ← at Top 0 (codes "domain") (few_units head.granularity domains)
   pools ← finished_pools head.granularity domains [] drafts
   Ok (record { granularity = head.granularity; processors = head.processors; horizon = head.horizon; pools = pools; domains = domains })
+
+-- the machine of a table, or the first fault: of the top table, and then of the other tables
+unfoldable pub config_of : Members → Result Config DomFault
+config_of table = do
+  head ← head_of table
+  pool_tables ← at Top 0 (codes "pool") (pool_tables_in table)
+  domain_tables ← at Top 0 (codes "domain") (domain_tables_in table)
+  machine_from head pool_tables domain_tables
 
 -- the table that the bytes spell, if they are a TOML document, which is text in UTF-8
 abbrev pub document : List ℕ → Option Members

@@ -1,11 +1,11 @@
 //! The frame of an ARINC 653 pool, as its table has it.
 
-ghost use Rattle.std.specs.Prelude.{◌≡◌, ◌≤◌, ◌*◌, map, length, IfOk};
+ghost use Rattle.std.specs.Prelude.{◌≡◌, ◌≤◌, ◌*◌, [], ◌∷◌, map, length, IfOk};
 ghost use Rattle.std.specs.List.{All, sum_by};
 ghost use Rattle.sched_model.specs.Checked.{most_span};
 ghost use Rattle.toml.specs.View.{view, table_view};
 ghost use Rattle.dom_file.specs.Steps.{Gives, each};
-ghost use Rattle.dom_file.specs.Frames.{entry_of, entries_of, frame_entries_in, frame_in};
+ghost use Rattle.dom_file.specs.Frames.{entry_in, entry_of, entries_of, frame_entries_in, frame_in};
 
 use crate::draft::{EntryDraft, FrameDraft};
 use crate::fault::{DomCause, DomFault, TableName};
@@ -17,21 +17,27 @@ use sched_model::short::Short;
 use std::alloc::Global;
 use toml::{Table, Value};
 
+/// The entry of a domain, a unit and a run.
+fn entry_from(dom: &Value, unit: &Value, run: &Value) -> Result<EntryDraft, DomCause>
+    ensures value { result ≡ entry_in (view dom.now ∷ view unit.now ∷ view run.now ∷ []) }
+    ensures run { IfOk result (λ e. e.run.0 ≤ most_span) }
+{
+    let dom = integer(dom)?;
+    let unit = integer(unit)?;
+    let run = number(run, 1, MOST_SPAN)?;
+    Ok(EntryDraft {
+        dom,
+        unit,
+        run: Span(run),
+    })
+}
+
 fn entry(value: &Value) -> Result<EntryDraft, DomCause>
     ensures value { result ≡ entry_of (view value.now) }
     ensures run { IfOk result (λ e. e.run.0 ≤ most_span) }
 {
     match elements(value)? {
-        [dom, unit, run] => {
-            let dom = integer(dom)?;
-            let unit = integer(unit)?;
-            let run = number(run, 1, MOST_SPAN)?;
-            Ok(EntryDraft {
-                dom,
-                unit,
-                run: Span(run),
-            })
-        }
+        [dom, unit, run] => entry_from(dom, unit, run),
         others => Err(DomCause::Range(others.len() as i64)),
     }
 }

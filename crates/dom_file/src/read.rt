@@ -9,7 +9,7 @@ ghost use Rattle.dom_file.specs.declared.fault.TableName.TheVariants.{Top};
 ghost use Rattle.dom_file.specs.Steps.{Gives, GivesBy, Stops, at, each};
 ghost use Rattle.dom_file.specs.Values.{table_of};
 ghost use Rattle.dom_file.specs.Heads.{IsHead};
-ghost use Rattle.dom_file.specs.Configs.{all_pools as all_pools_of, config_of, document as document_of, domain_tables_in, domains_of, IsNoTable, pool_tables_in, tables_of};
+ghost use Rattle.dom_file.specs.Configs.{all_pools as all_pools_of, config_of, document as document_of, domain_tables_in, domains_of, IsNoTable, machine_from, pool_tables_in, tables_of};
 
 use crate::domain::domains;
 use crate::draft::PoolDraft;
@@ -100,16 +100,20 @@ fn all_pools(
     }
 }
 
-/// The machine of a table, or the first fault.
-#[tactic(auto, unfolding(crate::specs::Configs::config_of))]
-fn config(alloc: Global, table: &Table) -> Result<Config, DomFault>
-    ensures { Gives result (config_of (table_view table.now)) }
+/// The machine of the tables of the pools and of the domains, or the first fault in them.
+fn machine(
+    alloc: Global,
+    head: &Head,
+    pool_tables: &Option<Vec<&Table>>,
+    domain_tables: &[&Table],
+) -> Result<Config, DomFault>
+    requires head { IsHead head.now }
+    requires few_pools { IfSome pool_tables.now (λ v. length v.items ≤ 16) }
+    requires few_domains { length domain_tables.now ≤ 64 }
+    ensures { Gives result (machine_from head.now (option_map (λ v. map (λ t. table_view t.now) v.items) pool_tables.now) (map (λ t. table_view t.now) domain_tables.now)) }
 {
-    let head = read_head(alloc, table)?;
-    let pool_tables = placed_pool_tables(alloc, table)?;
-    let domain_tables = placed_domain_tables(alloc, table)?;
-    let drafts = all_pools(alloc, &head, &pool_tables)?;
-    let domains = domains(alloc, &head, &drafts, &domain_tables)?;
+    let drafts = all_pools(alloc, head, pool_tables)?;
+    let domains = domains(alloc, head, &drafts, domain_tables)?;
     let few = few_units(head.granularity, &domains);
     placed(alloc, TableName::Top, 0, "domain", few)?;
     let pools = finished(alloc, head.granularity, &domains, &drafts)?;
@@ -120,6 +124,17 @@ fn config(alloc: Global, table: &Table) -> Result<Config, DomFault>
         pools: Row::from_vec(pools),
         domains: Row::from_vec(domains),
     })
+}
+
+/// The machine of a table, or the first fault.
+#[tactic(auto, unfolding(crate::specs::Configs::config_of))]
+fn config(alloc: Global, table: &Table) -> Result<Config, DomFault>
+    ensures { Gives result (config_of (table_view table.now)) }
+{
+    let head = read_head(alloc, table)?;
+    let pool_tables = placed_pool_tables(alloc, table)?;
+    let domain_tables = placed_domain_tables(alloc, table)?;
+    machine(alloc, &head, &pool_tables, &domain_tables)
 }
 
 /// The table that the bytes spell.

@@ -1,5 +1,5 @@
 -- What reading the front of a line says of the line.
-use Rattle.std.proofs.Common.{◌≡◌, ◌+◌, ◌-◌, ◌^◌, ◌<◌, ◌≤◌, inl, inr, ℕ, zero, suc, List, [], ◌∷◌, ◌++◌, length, take, drop, arith, rules, refl, sym, ap, ◌∙◌, length-append, length-drop, subst}
+use Rattle.std.proofs.Common.{◌≡◌, ◌-◌, ◌^◌, ◌<◌, ◌≤◌, inl, inr, ℕ, zero, suc, List, [], ◌∷◌, ◌++◌, length, take, drop, arith, rules, refl, sym, ap, ◌∙◌, length-append, length-drop, subst}
 use Rattle.std.specs.Prelude.{Ok, Err, ⊤, decimal, min}
 use Rattle.std.proofs.lemmas.Fmt.{length-decimal-le}
 use Rattle.std.proofs.lemmas.List.{take-append-drop, take_all, length-take, length-take-le}

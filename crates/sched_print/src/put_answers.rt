@@ -1,11 +1,13 @@
 //! The answer to a command is written behind the command's number.
 
-ghost use Rattle.std.specs.Prelude.{◌≡◌, length, ◌+◌, ◌≤◌};
+ghost use Rattle.std.specs.Prelude.{◌≡◌, length, ◌+◌, ◌++◌, ◌≤◌, decimal};
 ghost use Rattle.sched_print.specs.Line.{with_reply, with_refusal};
 
 use crate::line_buf::LineBuf;
 use crate::words::{kind_word, param_word, put_flag};
-use sched_model::event::{Refusal, Reply};
+use sched_base::PoolId;
+use sched_model::config::SchedKind;
+use sched_model::event::{Param, Refusal, Reply};
 
 /// Adds the answer to an accepted command: at most 110 bytes.
 pub fn put_reply(reply: Reply, out: &mut LineBuf)
@@ -41,6 +43,44 @@ pub fn put_reply(reply: Reply, out: &mut LineBuf)
     }
 }
 
+/// Adds these bytes and then the number of a pool.
+fn put_pool(before: &[u8], pool: PoolId, out: &mut LineBuf)
+    requires { length out.old + length before.now + 20 ≤ 192 }
+    ensures bytes { out.new ≡ out.old ++ before.now ++ decimal pool.0 }
+    ensures length { length out.new ≤ length out.old + length before.now + 20 }
+{
+    out.put_field(before, u64::from(pool.0));
+}
+
+fn put_pool_holds(pool: PoolId, cpus: u64, domains: u64, out: &mut LineBuf)
+    requires { length out.old + 110 ≤ 192 }
+    ensures bytes { out.new ≡ with_refusal out.old (Refusal.PoolHolds pool cpus domains) }
+    ensures length { length out.new ≤ length out.old + 110 }
+{
+    put_pool(b" refused 9 PoolHolds pool ", pool, out);
+    out.put_two_fields(b" cpus ", cpus, b" domains ", domains);
+}
+
+fn put_wrong_sched(pool: PoolId, kind: SchedKind, out: &mut LineBuf)
+    requires { length out.old + 110 ≤ 192 }
+    ensures bytes { out.new ≡ with_refusal out.old (Refusal.WrongSched pool kind) }
+    ensures length { length out.new ≤ length out.old + 110 }
+{
+    put_pool(b" refused 11 WrongSched pool ", pool, out);
+    out.put(b" ");
+    out.put(kind_word(kind));
+}
+
+fn put_range(param: Param, n: u64, out: &mut LineBuf)
+    requires { length out.old + 110 ≤ 192 }
+    ensures bytes { out.new ≡ with_refusal out.old (Refusal.Range param n) }
+    ensures length { length out.new ≤ length out.old + 110 }
+{
+    out.put(b" refused 12 Range ");
+    out.put(param_word(param));
+    out.put_field(b" ", n);
+}
+
 /// Adds the number, the name and the values of a refusal: at most 110 bytes.
 pub fn put_refusal(refusal: Refusal, out: &mut LineBuf)
     requires { length out.old + 110 ≤ 192 }
@@ -50,10 +90,7 @@ pub fn put_refusal(refusal: Refusal, out: &mut LineBuf)
     match refusal {
         Refusal::Syntax { place } => out.put_field(b" refused 1 Syntax place ", place),
         Refusal::NoPool => out.put(b" refused 2 NoPool"),
-        Refusal::NameTaken { pool } => out.put_field(
-            b" refused 3 NameTaken pool ",
-            u64::from(pool.0),
-        ),
+        Refusal::NameTaken { pool } => put_pool(b" refused 3 NameTaken pool ", pool, out),
         Refusal::NoDomain => out.put(b" refused 4 NoDomain"),
         Refusal::NoCpu { cpu } => out.put_field(b" refused 5 NoCpu cpu ", cpu),
         Refusal::CpuTaken { cpu, pool } => out.put_two_fields(
@@ -73,29 +110,12 @@ pub fn put_refusal(refusal: Refusal, out: &mut LineBuf)
             pool,
             cpus,
             domains,
-        } => {
-            out.put_field(b" refused 9 PoolHolds pool ", u64::from(pool.0));
-            out.put_two_fields(b" cpus ", cpus, b" domains ", domains);
-        }
+        } => put_pool_holds(pool, cpus, domains, out),
         Refusal::PoolZero => out.put(b" refused 10 PoolZero"),
-        Refusal::WrongSched { pool, kind } => {
-            out.put_field(b" refused 11 WrongSched pool ", u64::from(pool.0));
-            out.put(b" ");
-            out.put(kind_word(kind));
-        }
-        Refusal::Range { param, n } => {
-            out.put(b" refused 12 Range ");
-            out.put(param_word(param));
-            out.put_field(b" ", n);
-        }
-        Refusal::PoolEmpty { pool } => out.put_field(
-            b" refused 13 PoolEmpty pool ",
-            u64::from(pool.0),
-        ),
-        Refusal::ArincOne { pool } => out.put_field(
-            b" refused 14 ArincOne pool ",
-            u64::from(pool.0),
-        ),
+        Refusal::WrongSched { pool, kind } => put_wrong_sched(pool, kind, out),
+        Refusal::Range { param, n } => put_range(param, n, out),
+        Refusal::PoolEmpty { pool } => put_pool(b" refused 13 PoolEmpty pool ", pool, out),
+        Refusal::ArincOne { pool } => put_pool(b" refused 14 ArincOne pool ", pool, out),
         Refusal::PoolsFull => out.put(b" refused 15 PoolsFull"),
         Refusal::FrameLong { sum, major } => out.put_two_fields(
             b" refused 16 FrameLong sum ",
