@@ -36,8 +36,8 @@ use Rattle.sched_laws.specs.Known.{CurRuns, core_places}
 use Rattle.sched_laws.specs.Known.{CoreIsOwn}
 use Rattle.sched_laws.specs.Known.{CoreIsSound}
 use Rattle.sched_laws.proofs.Steps.{IsKeptAt}
-use Rattle.sched_records.proofs.Counts.{Matches, keeps_parted}
-use Rattle.sched_records.specs.Counts.{KeepsPool}
+use Rattle.sched_records.proofs.Counts.{keeps_parted}
+use Rattle.sched_records.specs.Counts.{Matches, KeepsPool}
 use Rattle.sched_records.proofs.Walk.{AnyEnd, AnyEnds, SomeUnit, k_set_params, k_with_domain, keeps_empty, records_steps}
 use Rattle.sched_ops.specs.Conditions.{may_be_on}
 use Rattle.pool_kept.specs.Holds.{Holds, HasMembers, HasMember, AreOn, HaveProcessors}

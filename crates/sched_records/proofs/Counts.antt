@@ -18,9 +18,7 @@ use Rattle.std.proofs.lemmas.List.{length-replicate}
 use Rattle.sched_laws.specs.Each.{EachAt, EachPlace}
 use Rattle.sched_laws.proofs.EachPlace.{EachAt-change_at, EachPlace-change_at, EachPlace-put_at, EachPlace-clear_at, read_clear_at, at_place-put_at, at_place-put_at_other, at_place-clear_at, at_place-clear_at_other, is_empty, place_below, length_set}
 use Rattle.sched_records.proofs.Measured.{measured_put_at, measured_clear_at}
-use Rattle.sched_records.specs.Counts.{measured}
-use Rattle.sched_records.specs.Counts.{shape, units_in}
-use Rattle.sched_records.specs.Counts.{HasCounts, CountsFit, Keeps, KeepsPool}
+use Rattle.sched_records.specs.Counts.{measured, shape, units_in, HasCounts, CountsFit, Keeps, KeepsPool, Matches}
 
 -- the records change, and have as many units of each domain as before
 pub keeps_shape : (g : ℕ) (domains : List (Option Domain)) (old next : Records) → shape next ≡ shape old → Keeps g domains (shape old) → Keeps g domains (shape next)
@@ -94,19 +92,6 @@ has_counts_clear_at g d domains counts has = record {
     | no other ↦ at_place-clear_at_other d e counts other ∙ has.others e (sym (at_place-clear_at_other d e domains other) ∙ none)
   ];
 }
-
--- the parameters of a domain are those of the scheduler, where it keeps records
-abbrev pub Matches : Records → DomParams → Type 0
-Matches (Credit2Pool records) (dom_params.Credit2 weight percent) = Unit {0}
-Matches (Credit2Pool records) (dom_params.Rtds period budget extra) = ⊥
-Matches (Credit2Pool records) dom_params.Arinc653 = ⊥
-Matches (Credit2Pool records) dom_params.Null = ⊥
-Matches (RtdsPool domains) (dom_params.Credit2 weight percent) = ⊥
-Matches (RtdsPool domains) (dom_params.Rtds period budget extra) = Unit {0}
-Matches (RtdsPool domains) dom_params.Arinc653 = ⊥
-Matches (RtdsPool domains) dom_params.Null = ⊥
-Matches (ArincPool records) params = Unit {0}
-Matches (NullPool kept) params = Unit {0}
 
 -- a domain joins: the records are of the same scheduler, and fit it
 abbrev pub JoinFits : ℕ → ℕ → Domain → List (Option Domain) → Records → Records → Type 0

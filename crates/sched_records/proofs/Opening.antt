@@ -28,8 +28,7 @@ use Rattle.sched_laws.specs.Each.{EachPlace}
 use Rattle.sched_laws.proofs.EachPlace.{by_cond}
 use Rattle.sched_laws.proofs.Opened.{each_get, read_pools, joining_domain}
 use Rattle.sched_laws.proofs.SiblingsLaw.{some_processor}
-use Rattle.sched_records.proofs.Counts.{Matches}
-use Rattle.sched_records.specs.Counts.{KeepsPool}
+use Rattle.sched_records.specs.Counts.{Matches, KeepsPool}
 use Rattle.sched_records.proofs.Walk.{keeps_empty, k_set_params, k_with_domain}
 
 -- the parameters that pass the checks are those of the scheduler

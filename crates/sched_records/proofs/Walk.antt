@@ -34,11 +34,9 @@ use Rattle.sched_laws.proofs.EachPlace.{EachPlace-empty, is_empty, by_option, by
 use Rattle.sched_laws.proofs.Lists.{length_change_item}
 use Rattle.sched_laws.proofs.Steps.{IsKeptAt}
 use Rattle.sched_records.proofs.Measured.{length_measured, read_measured}
-use Rattle.sched_records.specs.Counts.{measured}
 use Rattle.sched_records.proofs.Shape.{shape_decision, shape_replenished, shape_refilled, shape_changed}
-use Rattle.sched_records.specs.Counts.{shape, units_in}
-use Rattle.sched_records.proofs.Counts.{Matches, keeps_shape, keeps_change_at, keeps_joined, keeps_parted}
-use Rattle.sched_records.specs.Counts.{Keeps, KeepsPool, CountsFit}
+use Rattle.sched_records.specs.Counts.{measured, shape, units_in, Matches, Keeps, KeepsPool, CountsFit}
+use Rattle.sched_records.proofs.Counts.{keeps_shape, keeps_change_at, keeps_joined, keeps_parted}
 
 -- all that is needed of the ends of stalls is nothing; a domain that comes has a unit
 abbrev pub AnyEnd : ℕ → Type 0

@@ -2,6 +2,8 @@
 use Rattle.std.proofs.Common.{◌≡◌, ℕ, List, [], ◌∷◌, length, ◌≤◌, ◌-◌}
 use Rattle.std.specs.Prelude.{Option, Some, None, option_map}
 use Rattle.sched_model.specs.Places.{at_place}
+use Rattle.sched_model.specs.declared.config.DomParams.{DomParams}
+use Rattle.sched_model.specs.declared.config.DomParams.TheVariants as dom_params
 use Rattle.sched_model.specs.declared.state.RtdsUnit.{RtdsUnit}
 use Rattle.sched_model.specs.declared.state.Credit2Domain.{Credit2Domain}
 use Rattle.sched_model.specs.declared.state.Credit2Records.{Credit2Records}
@@ -48,3 +50,16 @@ pub record Keeps (g : ℕ) (domains : List (Option Domain)) (counts : Option (Li
 
 abbrev pub KeepsPool : ℕ → Pool → Type 0
 KeepsPool g pool = Keeps g pool.domains (shape pool.scheduler.records)
+
+-- the parameters of a domain are those of the scheduler, where it keeps records
+abbrev pub Matches : Records → DomParams → Type 0
+Matches (Credit2Pool records) (dom_params.Credit2 weight percent) = Unit {0}
+Matches (Credit2Pool records) (dom_params.Rtds period budget extra) = ⊥
+Matches (Credit2Pool records) dom_params.Arinc653 = ⊥
+Matches (Credit2Pool records) dom_params.Null = ⊥
+Matches (RtdsPool domains) (dom_params.Credit2 weight percent) = ⊥
+Matches (RtdsPool domains) (dom_params.Rtds period budget extra) = Unit {0}
+Matches (RtdsPool domains) dom_params.Arinc653 = ⊥
+Matches (RtdsPool domains) dom_params.Null = ⊥
+Matches (ArincPool records) params = Unit {0}
+Matches (NullPool kept) params = Unit {0}
