@@ -18,3 +18,4 @@ pub mod StallLemmas
 pub mod DueLemmas
 pub mod ArrivedLemmas
 pub mod ComingLemmas
+pub mod FreeLemmas

@@ -1,5 +1,5 @@
 -- What the tool knows: of the machine what commands are judged by, its workload, and the tool's part of the state.
-use Rattle.std.specs.Prelude.{◌≤◌, ℕ, List, length, map}
+use Rattle.std.specs.Prelude.{◌≡◌, ◌≤◌, ℕ, List, length, map}
 use Rattle.sched_model.specs.declared.config.DomConfig.{DomConfig}
 use Rattle.sched_model.specs.declared.work.StallLine.{StallLine}
 use Rattle.sched_model.specs.declared.work.CommandLine.{CommandLine}
@@ -38,6 +38,10 @@ tool_of m s =
       commands = m.work.commands;
       part = part_of_tool s;
     }
+
+-- the tool knows this machine: with the tool's part of any state it is all that the tool knows of the machine in that state
+abbrev pub KnowsMachine : Machine → Tool → Type 0
+KnowsMachine m tool = (s : State) → record tool { part = part_of_tool s } ≡ tool_of m s
 
 -- how many vCPUs a domain has; the ends of the stalls of a core's processors
 abbrev pub size_of : Domain → ℕ

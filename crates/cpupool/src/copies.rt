@@ -6,7 +6,7 @@ use sched_base::NoMemory;
 use sched_model::command::{ArincEntry, ArincList, Command, CpuList, Which};
 use sched_model::row::Row;
 use sched_model::short::Short;
-use sched_model::work::{CommandLine, Commands, Stalls};
+use sched_model::work::{CommandLine, Commands, Stalls, Work};
 use std::alloc::Global;
 
 /// The pool or domain that is named, once more.
@@ -146,7 +146,7 @@ fn same_line(line: &CommandLine) -> CommandLine
 }
 
 /// The lines with commands once more.
-pub(crate) fn same_commands(alloc: Global, lines: &Commands) -> Result<Commands, NoMemory>
+fn same_commands(alloc: Global, lines: &Commands) -> Result<Commands, NoMemory>
     ensures { IfOk result (λ all. all ≡ lines.now) }
 {
     let mut all = Vec::new(alloc);
@@ -157,7 +157,7 @@ pub(crate) fn same_commands(alloc: Global, lines: &Commands) -> Result<Commands,
 }
 
 /// The lines with stalls once more.
-pub(crate) fn same_stalls(alloc: Global, lines: &Stalls) -> Result<Stalls, NoMemory>
+fn same_stalls(alloc: Global, lines: &Stalls) -> Result<Stalls, NoMemory>
     ensures { IfOk result (λ all. all ≡ lines.now) }
 {
     let mut all = Vec::new(alloc);
@@ -165,4 +165,14 @@ pub(crate) fn same_stalls(alloc: Global, lines: &Stalls) -> Result<Stalls, NoMem
         all.push(*line)?;
     }
     Ok(Row::from_vec(all))
+}
+
+/// The whole workload once more.
+pub(crate) fn same_work(alloc: Global, work: &Work) -> Result<Work, NoMemory>
+    ensures { IfOk result (λ all. all ≡ work.now) }
+{
+    Ok(Work {
+        stalls: same_stalls(alloc, &work.stalls)?,
+        commands: same_commands(alloc, &work.commands)?,
+    })
 }

@@ -171,7 +171,7 @@ pub(crate) fn core_set(pool: &Outline) -> u64
 }
 
 /// The set of the cores that are there.
-fn set_of(cores: &[bool]) -> u64
+pub(crate) fn set_of(cores: &[bool]) -> u64
     requires { length cores.now ≤ 64 }
     ensures { result ≡ flags_from 0 cores.now }
 {

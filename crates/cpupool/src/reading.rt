@@ -28,7 +28,7 @@ fn kind_of(records: &Records) -> SchedKind
 
 /// Which cores there are.
 #[tactic(auto, using(std::proofs::lemmas::List::map_more))]
-fn read_cores(cores: &[Option<Resource>]) -> CoreFlags
+pub(crate) fn read_cores<T>(cores: &[Option<T>]) -> CoreFlags
     requires { length cores.now ≤ 64 }
     ensures { result ≡ map is_some cores.now }
 {

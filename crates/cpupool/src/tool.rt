@@ -1,10 +1,10 @@
 //! What the tool keeps: the tool's part of the machine's state, and what it judges commands by.
 
-use crate::copies::{same_commands, same_stalls};
+use crate::copies::same_work;
 use crate::opening::{opened_entries, opened_free, opened_names, opened_outlines};
 use crate::outline::{DomainEntry, FreeCores, Outlines, PoolNames, Way};
-use crate::pools::{core_home, domain_home, domain_named, outline_at, place_named};
-use crate::reading::{read_free, read_names, read_pools, under_way_of};
+use crate::pools::{core_home, domain_home, domain_named, outline_at, place_named, set_of};
+use crate::reading::{read_cores, read_free, read_names, read_pools, under_way_of};
 use sched_base::{DomId, NoMemory, PoolId, ResId};
 use sched_model::command::{Command, Which};
 use sched_model::config::Config;
@@ -57,7 +57,7 @@ impl Model for ToolState {
 }
 
 impl ToolState {
-    ghost use Rattle.std.specs.Prelude.{◌≡◌, IfOk, option_map};
+    ghost use Rattle.std.specs.Prelude.{◌≡◌, ℕ, IfOk, is_some, option_map};
     ghost use Rattle.sched_base.specs.Numbers.{pool as pool_number};
     ghost use Rattle.sched_model.specs.Actions.{home_of_core, home_of_domain};
     ghost use Rattle.sched_model.specs.declared.machine.Machine.{Machine};
@@ -69,21 +69,31 @@ impl ToolState {
     ghost use Rattle.cpupool.specs.OpenedTool.{opened_tool};
     ghost use Rattle.sched_model.specs.Checked.{IsChecked, IsCheckedConfig, IsCheckedWork};
     ghost use Rattle.sched_model.specs.Opening.{opening};
+    ghost use Rattle.sched_model.specs.Places.{at_place};
+    ghost use Rattle.sched_model.specs.State.{has_core as has_bit};
     ghost use Rattle.cpupool.specs.Judging.{seen_pool, seen_domain, seen_subject, seen_pool_subject, seen_domain_subject, seen_core_pool, seen_domain_pool, home_of_domain as home_of_domain_spec};
 
-    /// What the tool keeps of the machine at its opening. All memory is taken here.
+    /// What the tool keeps of the machine at its opening. It keeps a copy of the workload. All memory is taken here.
     pub fn open(alloc: Global, config: &Config, work: &Work) -> Result<ToolState, NoMemory>
         requires { IsChecked (record { config = config.now; work = work.now }) }
         ensures { let m : Machine = record { config = config.now; work = work.now } in IfOk result (λ t. t ≡ tool_of m (opening m)) }
+    {
+        ToolState::open_with(alloc, config, same_work(alloc, work)?)
+    }
+
+    /// The same, of a workload that the tool takes over.
+    pub fn open_with(alloc: Global, config: &Config, work: Work) -> Result<ToolState, NoMemory>
+        requires { IsChecked (record { config = config.now; work = work }) }
+        ensures { let m : Machine = record { config = config.now; work = work } in IfOk result (λ t. t ≡ tool_of m (opening m)) }
     {
         ToolState::opened(alloc, config, work)
     }
 
     /// The same, put together.
-    fn opened(alloc: Global, config: &Config, work: &Work) -> Result<ToolState, NoMemory>
+    fn opened(alloc: Global, config: &Config, work: Work) -> Result<ToolState, NoMemory>
         requires config { IsCheckedConfig config.now }
-        requires work { IsCheckedWork config.now work.now }
-        ensures { IfOk result (λ t. t ≡ opened_tool config.now work.now) }
+        requires work { IsCheckedWork config.now work }
+        ensures { IfOk result (λ t. t ≡ opened_tool config.now work) }
     {
         let pools = config.pools.as_slice();
         let domains = config.domains.as_slice();
@@ -92,8 +102,8 @@ impl ToolState {
             granularity: config.granularity,
             processors: config.processors,
             domains: opened_entries(alloc, domains)?,
-            stalls: same_stalls(alloc, &work.stalls)?,
-            commands: same_commands(alloc, &work.commands)?,
+            stalls: work.stalls,
+            commands: work.commands,
             names: opened_names(pools),
             pools: opened_outlines(cores, domains, pools),
             free: opened_free(config.granularity, cores, pools),
@@ -183,6 +193,14 @@ impl ToolState {
             None => None,
             Some(i) => Some(PoolId(i)),
         }
+    }
+
+    /// The cores of no pool, with bit r for the core r.
+    #[tactic(auto, using(crate::proofs::FreeLemmas::has_free))]
+    pub fn free_cores(&self) -> u64
+        ensures { (r : ℕ) → has_bit result r ≡ is_some (at_place self.now.part.free r) }
+    {
+        set_of(read_cores(self.free.as_slice()).as_slice())
     }
 
     /// The number of the pool that has the domain.

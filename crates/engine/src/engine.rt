@@ -64,9 +64,11 @@ impl Engine {
         let places = usize::from(MOST_POOLS);
         let mut firsts = none_times(alloc, places)?;
         let mut nexts = none_times(alloc, places)?;
-        let tool = ToolState::open(alloc, &machine.config, &machine.work)?;
-        let spares = open_spares(alloc, &machine.config, &machine.work)?;
-        let slots = open_slots(alloc, &machine.config)?;
+        let Machine { config, work } = machine;
+        let trail = Trail::opened(&config, &work);
+        let spares = open_spares(alloc, &config, &work)?;
+        let slots = open_slots(alloc, &config)?;
+        let tool = ToolState::open_with(alloc, &config, work)?;
         let now = Moment(0);
         read_all(
             slots.as_slice(),
@@ -75,10 +77,10 @@ impl Engine {
             nexts.as_mut_slice(),
         );
         Ok(Engine {
-            trail: Trail::opened(&machine.config, &machine.work),
+            trail,
             moment: now,
-            horizon: machine.config.horizon,
-            granularity: machine.config.granularity,
+            horizon: config.horizon,
+            granularity: config.granularity,
             slots,
             tool,
             spares,

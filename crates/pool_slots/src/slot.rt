@@ -48,8 +48,10 @@ impl Default for PoolSlot {
 impl PoolSlot {
     ghost use Rattle.std.specs.Prelude.{◌≡◌, ℕ, [], true, false, not, None, Some, is_some, option_map, map};
     ghost use Rattle.std.specs.Option.{ForSome};
+    ghost use Rattle.sched_model.specs.Places.{at_place};
     ghost use Rattle.sched_model.specs.Policy.{rate_of};
     ghost use Rattle.sched_model.specs.Pool.{enabled_in, processor_of, settled};
+    ghost use Rattle.sched_model.specs.State.{has_core as has_bit};
     ghost use Rattle.sched_model.specs.declared.action.Action.TheVariants.{DomMoved, Moved};
     ghost use Rattle.core_state.specs.Seen.{stall_until};
     ghost use Rattle.pool_laws.specs.Ready.{ready_in};
@@ -169,6 +171,18 @@ impl PoolSlot {
                 units: Short::new(),
             },
             Some(pool) => pool.facts(d),
+        }
+    }
+
+    /// The cores and the domains that the pool has, with bit n for the number n. None where there is no pool.
+    pub fn members(&self) -> (u64, u64)
+        ensures cores { ForSome self.now (λ seen. (r : ℕ) → has_bit result.0 r ≡ is_some (at_place seen.pool.resources r)) }
+        ensures domains { ForSome self.now (λ seen. (d : ℕ) → has_bit result.1 d ≡ is_some (at_place seen.pool.domains d)) }
+        ensures empty { self.now ≡ None → result ≡ (0, 0) }
+    {
+        match &self.state {
+            None => (0, 0),
+            Some(pool) => pool.members(),
         }
     }
 

@@ -7,13 +7,7 @@ use Rattle.sched_model.specs.declared.state.State.{State}
 use Rattle.sched_model.specs.declared.work.CommandLine.{CommandLine}
 use Rattle.sched_model.specs.Machine.{verdict}
 use Rattle.sched_model.specs.Places.{at_place}
-use Rattle.journal_core.specs.Parts.{tool_of as part_of_tool}
-use Rattle.cpupool.specs.Tool.{Tool, tool_of}
 use Rattle.plain_opening.specs.Opened.{spares_of}
-
--- the tool knows this machine: with the tool's part of any state it is all that the tool knows of the machine in that state
-abbrev pub KnowsMachine : Machine → Tool → Type 0
-KnowsMachine m tool = (s : State) → record tool { part = part_of_tool s } ≡ tool_of m s
 
 -- the pools that the commands from the place n on make stand at their commands' places
 abbrev pub HasSpares : Machine → ℕ → List (Option Pool) → Type 0

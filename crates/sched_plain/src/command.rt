@@ -8,7 +8,8 @@ ghost use Rattle.sched_model.specs.Commands.{judge, pool_of_plan as pool_of_plan
 ghost use Rattle.sched_model.specs.Machine.{is_enabled, event_of, after, settled_at, verdict as verdict_spec};
 ghost use Rattle.sched_model.specs.Places.{change_at};
 ghost use Rattle.sched_model.specs.Pool.{settled};
-ghost use Rattle.sched_plain.specs.Commanding.{HasSpares, IsAccepted, KnowsMachine};
+ghost use Rattle.cpupool.specs.Tool.{KnowsMachine};
+ghost use Rattle.sched_plain.specs.Commanding.{HasSpares, IsAccepted};
 ghost use Rattle.sched_plain.specs.Fits.{PoolFitsAt};
 ghost use Rattle.sched_plain.specs.Reached.{Stands};
 

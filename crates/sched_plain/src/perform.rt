@@ -5,7 +5,8 @@ ghost use Rattle.sched_model.specs.Pool.{enabled_in, event_in, after_in, settled
 ghost use Rattle.sched_model.specs.Actions.{home_of as home_of_spec};
 ghost use Rattle.sched_model.specs.Machine.{is_enabled, event_of, after};
 ghost use Rattle.plain_pool.specs.Own.{IsOfPool};
-ghost use Rattle.sched_plain.specs.Commanding.{HasSpares, KnowsMachine};
+ghost use Rattle.cpupool.specs.Tool.{KnowsMachine};
+ghost use Rattle.sched_plain.specs.Commanding.{HasSpares};
 ghost use Rattle.sched_plain.specs.Fits.{PoolFitsAt};
 ghost use Rattle.sched_plain.specs.Reached.{Stands};
 

@@ -39,7 +39,8 @@ impl Model for Plain {
     ghost use Rattle.std.specs.Prelude.{length};
     ghost use Rattle.sched_model.specs.Opening.{core_count};
     ghost use Rattle.plain_telling.specs.Rooms.{HasPlaces};
-    ghost use Rattle.sched_plain.specs.Commanding.{HasSpares, KnowsMachine};
+    ghost use Rattle.cpupool.specs.Tool.{KnowsMachine};
+    ghost use Rattle.sched_plain.specs.Commanding.{HasSpares};
     ghost use Rattle.sched_plain.specs.Reached.{Stands};
 
     ghost view = { λ p. record { machine = p.machine; state = p.state } };

@@ -7,7 +7,7 @@ ghost use Rattle.sched_model.specs.Machine.{is_enabled, event_of};
 ghost use Rattle.sched_model.specs.Opening.{core_count};
 ghost use Rattle.plain_pool.specs.Own.{IsOfPool};
 ghost use Rattle.plain_telling.specs.Rooms.{HasPlaces};
-ghost use Rattle.sched_plain.specs.Commanding.{KnowsMachine};
+ghost use Rattle.cpupool.specs.Tool.{KnowsMachine};
 ghost use Rattle.sched_plain.specs.Reached.{Stands};
 
 use crate::command::{reply_of, verdict};

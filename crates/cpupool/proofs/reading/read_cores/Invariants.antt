@@ -3,4 +3,4 @@ use Rattle.std.specs.Prelude.{map, is_some}
 use Rattle.cpupool.proofs.reading.read_cores.Given as goal
 
 abbrev pub invariant-loop-core : goal.invariant-loop-core
-invariant-loop-core l = l.flags ≡ map is_some (take l.core-index l.cores)
+invariant-loop-core g l = l.flags ≡ map is_some (take l.core-index l.cores)

@@ -1,5 +1,6 @@
 use Rattle.std.proofs.Common.{subst, sym, refl}
-use Rattle.sched_plain.specs.Commanding.{HasSpares, KnowsMachine}
+use Rattle.cpupool.specs.Tool.{KnowsMachine}
+use Rattle.sched_plain.specs.Commanding.{HasSpares}
 use Rattle.sched_plain.specs.Reached.{Stands}
 use Rattle.sched_plain.proofs.Reaching.{stands-opening}
 use Rattle.sched_plain.proofs.plain.Plain.open.Goals as goal
