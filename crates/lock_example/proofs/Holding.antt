@@ -1,4 +1,4 @@
--- The values of an example's locks in order, and the tool's lock and the book held alone.
+-- The values of the example's locks in order, and what a seat has that holds the tool's lock and the book alone.
 use Rattle.std.proofs.Common.{◌≡◌, ◌≢◌, ℕ, zero, suc, ◌+◌, ◌<◌, ◌≤◌, eqb, List, [], ◌∷◌, ◌++◌, length, Some, None, sym, refl, ap, ◌∙◌, subst, arith}
 use mathlib.Core.Logic.{dite}
 use mathlib.Core.Option.{some, some-injective, some-ne-none}

@@ -134,7 +134,7 @@ name_at_home m f k n v input front low small home x current = (
   (current.0 k x.0 low x.1).1 n small ∙ eq-eqb (home_at v.input v.front n) k ((λ i. home_at (input i) (front i) n) ∙ home),
 )
 
--- the same of an equal input and an equal history
+-- where names stand once, they do so of an equal input and an equal history
 pub once_of : (m q : Machine) (h f : List Entry) → m ≡ q → h ≡ f → NamesStandOnce q f → NamesStandOnce m h
 once_of m q h f input same once = subst (λ (n : Machine). NamesStandOnce n h) (sym input) (subst (λ (l : List Entry). NamesStandOnce q l) (sym same) once)
 
