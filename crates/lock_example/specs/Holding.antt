@@ -1,12 +1,11 @@
--- What a seat of the example has while it holds the first locks.
-use Rattle.std.specs.Prelude.{◌≡◌, ◌≢◌, ◌⊎◌, ◌+◌, ◌<◌, ◌≤◌, ℕ, eqb, List, None, Some, length}
+-- What a seat of the example has, and what stops it.
+use Rattle.std.specs.Prelude.{◌≡◌, ◌≢◌, ◌⊎◌, ◌+◌, ◌≤◌, ℕ, List, length}
 use mathlib.Core.List.{IsPrefix}
 use mathlib.Core.Option.{some}
 use lib.ListN.{get_elem?}
 use Rattle.sched_model.specs.declared.event.Entry.{Entry}
-use Rattle.journal_core.specs.Histories.{part_at, home_at}
 use Rattle.journal_core.specs.Books.{Chronicle}
-use Rattle.lock_moves.specs.Sight.{Known, Seen, Sitting, find_lock, has_place, Holds}
+use Rattle.lock_moves.specs.Sight.{Sitting}
 use Rattle.lock_moves.specs.Sets.{LockTable, Taken}
 use Rattle.lock_example.specs.declared.counter.Counter.{Counter}
 use Rattle.lock_example.specs.Example.{adding}
@@ -17,21 +16,6 @@ pub record Stands (set : LockTable) (h : List Entry) (n : ℕ) (s : Sitting) : T
   pub input : s.view.input ≡ adding
   pub front : s.view.front ≡ h
   pub shares : s.view.shares ≡ n
-
--- the seat holds the locks below n, and no other
-pub record HoldsBelow (n : ℕ) (v : Seen) : Type 0 where
-  pub holds : (k : ℕ) → k < n → Holds k v
-  pub others : (k : ℕ) → n ≤ k → find_lock k v.held ≡ None
-
--- what is known of the lock k is what the state has to which h leads
-pub record IsCurrent (h : List Entry) (k : ℕ) (x : Known) : Type 0 where
-  pub part : x.part ≡ part_at adding h k
-  pub names : (n : ℕ) → n < 128 → has_place n x.names ≡ eqb (home_at adding h n) k
-
--- the same, and what it has for them is the state to which h leads
-pub record KnowsBelow (n : ℕ) (h : List Entry) (v : Seen) : Type 0 where
-  pub knows : (k : ℕ) → k < n → (x : Known) × (find_lock k v.held ≡ Some x) × IsCurrent h k x
-  pub others : (k : ℕ) → n ≤ k → find_lock k v.held ≡ None
 
 -- the values are those of the locks from `first` on, in order
 abbrev pub AreFrom : ℕ → List (Taken Counter) → Type 0

@@ -2,8 +2,9 @@
 
 ghost use Rattle.std.specs.Prelude.{◌≡◌, ◌+◌, ◌<◌, ◌≤◌, ◌⊎◌, [], IsFalse, IfOk, IfErr, OnOk, MatchBool, length, take, vec_capacity};
 ghost use mathlib.Core.List.{IsPrefix};
+ghost use Rattle.lock_moves.specs.Sight.{HoldsBelow, KnowsBelow};
 ghost use Rattle.lock_example.specs.Example.{adding, has_moved, is_added, two_entries};
-ghost use Rattle.lock_example.specs.Holding.{AreFrom, HoldsBelow, KnowsBelow, Stands, Differs, StopsAt};
+ghost use Rattle.lock_example.specs.Holding.{AreFrom, Stands, Differs, StopsAt};
 
 use crate::counter::Counter;
 use lock_moves::{Held, HeldBook, LockId, LockSeat, LockSet, NameId, WordId};
@@ -58,9 +59,9 @@ fn take_next<R: Wait>(
 fn put_last(set: &LockSet<Counter>, seat: &mut LockSeat, held: Held<Counter>)
     requires number { held.lock < 17 }
     requires stands { Stands set.now two_entries seat.old.view.shares seat.old }
-    requires below { KnowsBelow (held.lock + 1) two_entries seat.old.view }
+    requires below { KnowsBelow adding (held.lock + 1) two_entries seat.old.view }
     ensures stands { Stands set.now two_entries seat.old.view.shares seat.new }
-    ensures below { KnowsBelow held.lock two_entries seat.new.view }
+    ensures below { KnowsBelow adding held.lock two_entries seat.new.view }
 {
     let mut held = held;
     let lock = held.lock().0;
@@ -104,7 +105,7 @@ fn add_first<R: Wait>(rt: &R, set: &LockSet<Counter>, seat: &mut LockSeat) -> Re
     requires stands { Stands set.now [] seat.old.view.shares seat.old }
     requires below { HoldsBelow 17 seat.old.view }
     ensures stands { OnOk result (Stands set.now (take 1 two_entries) seat.old.view.shares seat.new) }
-    ensures below { OnOk result (KnowsBelow 17 (take 1 two_entries) seat.new.view) }
+    ensures below { OnOk result (KnowsBelow adding 17 (take 1 two_entries) seat.new.view) }
     ensures refused { IfErr result (λ b. StopsAt set.now [] seat.old.view.shares b seat.new) }
 {
     let mut book = set.take_book(rt, seat);
@@ -127,11 +128,11 @@ fn add_second<R: Wait>(
     requires tool { tool.old.lock ≡ 16 }
     requires pool { pool.old.lock ≡ 0 }
     requires stands { Stands set.now (take 1 two_entries) seat.old.view.shares seat.old }
-    requires below { KnowsBelow 17 (take 1 two_entries) seat.old.view }
+    requires below { KnowsBelow adding 17 (take 1 two_entries) seat.old.view }
     ensures tool { tool.new ≡ tool.old }
     ensures pool { pool.new ≡ pool.old }
     ensures stands { OnOk result (Stands set.now two_entries seat.old.view.shares seat.new) }
-    ensures below { OnOk result (KnowsBelow 17 two_entries seat.new.view) }
+    ensures below { OnOk result (KnowsBelow adding 17 two_entries seat.new.view) }
     ensures refused { IfErr result (λ b. StopsAt set.now (take 1 two_entries) seat.old.view.shares b seat.new) }
 {
     let mut book = set.take_book(rt, seat);
@@ -146,7 +147,7 @@ fn add_second<R: Wait>(
 // The lock of core 1 after the run, by its word.
 fn new_home(set: &LockSet<Counter>, seat: &mut LockSeat) -> u64
     requires stands { Stands set.now two_entries seat.old.view.shares seat.old }
-    requires below { KnowsBelow 17 two_entries seat.old.view }
+    requires below { KnowsBelow adding 17 two_entries seat.old.view }
     ensures pool { result ≡ 0 }
     ensures same { seat.new ≡ seat.old }
 {
@@ -179,9 +180,9 @@ fn put_rest(set: &LockSet<Counter>, seat: &mut LockSeat, held: Vec<Held<Counter>
     requires stands { Stands set.now two_entries seat.old.view.shares seat.old }
     requires few { length held.items ≤ 16 }
     requires order { AreFrom 1 held.items }
-    requires below { KnowsBelow (1 + length held.items) two_entries seat.old.view }
+    requires below { KnowsBelow adding (1 + length held.items) two_entries seat.old.view }
     ensures stands { Stands set.now two_entries seat.old.view.shares seat.new }
-    ensures below { KnowsBelow 1 two_entries seat.new.view }
+    ensures below { KnowsBelow adding 1 two_entries seat.new.view }
 {
     let mut held = held;
     while let Some(last) = held.pop() {

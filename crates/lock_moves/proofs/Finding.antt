@@ -70,6 +70,24 @@ find-refreshed m h k (x ∷ xs) y e = dite (ℕ_discrete k x.0)
       t.3,
     ))
 
+pub find-refreshed-is : (m : Machine) (h : List Entry) (k : ℕ) (xs : List (ℕ × Known)) (x : Known) → find_lock k xs ≡ Some x → find_lock k (refreshed m h xs) ≡ Some (known (part_at m h k) x.names)
+find-refreshed-is m h k [] x e = absurd (never x e)
+find-refreshed-is m h k (q ∷ xs) x e = dite (ℕ_discrete k q.0)
+    (λ is. let same : q.1 ≡ x = some_same q.1 x (sym (ap (λ b. cond b (Some q.1) (find_lock k xs)) (eq-eqb k q.0 is)) ∙ e) in
+    ap (λ b. cond b (Some (known (part_at m h q.0) q.1.names)) (find_lock k (refreshed m h xs))) (eq-eqb k q.0 is) ∙ (λ i. Some (known (part_at m h (sym is i)) (same i).names)))
+    (λ ne. find-tail k q.0 (known (part_at m h q.0) q.1.names) (refreshed m h xs) ne ∙ find-refreshed-is m h k xs x (sym (find-tail k q.0 q.1 xs ne) ∙ e))
+
+pub find-refreshed-none : (m : Machine) (h : List Entry) (k : ℕ) (xs : List (ℕ × Known)) → find_lock k xs ≡ None → find_lock k (refreshed m h xs) ≡ None
+find-refreshed-none m h k [] e = refl
+find-refreshed-none m h k (q ∷ xs) e = dite (ℕ_discrete k q.0)
+    (λ is. absurd (never q.1 (sym e ∙ ap (λ b. cond b (Some q.1) (find_lock k xs)) (eq-eqb k q.0 is))))
+    (λ ne. find-tail k q.0 (known (part_at m h q.0) q.1.names) (refreshed m h xs) ne ∙ find-refreshed-none m h k xs (sym (find-tail k q.0 q.1 xs ne) ∙ e))
+
+-- a list in which no lock is found is empty
+pub none_held : (xs : List (ℕ × Known)) → ((k : ℕ) → find_lock k xs ≡ None) → xs ≡ []
+none_held [] none = refl
+none_held (x ∷ xs) none = absurd (never x.1 (sym (none x.0) ∙ find-head x.0 x.1 xs))
+
 module _ {A : Type 0} where
   pub set_there : (l : List A) (i : ℕ) (a b : A) → get_elem? l i ≡ some b → get_elem? (set l i a) i ≡ some a
   set_there [] i a b e = absurd (some-ne-none b (sym e))

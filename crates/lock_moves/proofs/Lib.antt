@@ -13,3 +13,4 @@ pub mod Closing
 pub mod Staging
 pub mod Crossing
 pub mod Deciding
+pub mod Holding

@@ -14,14 +14,15 @@ use Rattle.lock_moves.specs.declared.content.Content.{Content}
 use Rattle.lock_moves.specs.Sight.{Known, View, known, find_lock, Holds, has_place, without_name, renamed, raise, view_moved_name, view_with_now}
 use Rattle.lock_moves.specs.Agrees.{Has, Agrees}
 use Rattle.lock_moves.specs.Plays.{named, timed, looked}
-use Rattle.lock_moves.proofs.Finding.{find-tail, some_same, never, set_all, set_some}
+use Rattle.lock_moves.proofs.Finding.{find-tail, some_same, never, none_or, set_all, set_some}
 use Rattle.lock_moves.proofs.Moving.{fronts_same, shares_same, locks_step, stages_step, stages_of}
 use Rattle.lock_moves.proofs.Taking.{unmoved}
 
-abbrev names_after : ℕ → ℕ → ℕ → Known → List ℕ
+-- the names of the lock j once the name n was moved to the lock `to`
+abbrev pub names_after : ℕ → ℕ → ℕ → Known → List ℕ
 names_after n to j x = cond (eqb to j) (n ∷ x.names) (without_name n x.names)
 
-find-renamed : (n to k : ℕ) (xs : List (ℕ × Known)) (y : Known) → find_lock k (renamed n to xs) ≡ Some y → (x : Known) × (find_lock k xs ≡ Some x) × (y ≡ known x.part (names_after n to k x))
+pub find-renamed : (n to k : ℕ) (xs : List (ℕ × Known)) (y : Known) → find_lock k (renamed n to xs) ≡ Some y → (x : Known) × (find_lock k xs ≡ Some x) × (y ≡ known x.part (names_after n to k x))
 find-renamed n to k [] y e = absurd (never y e)
 find-renamed n to k (q ∷ xs) y e = let z : Known = known q.1.part (names_after n to q.0 q.1) in dite (ℕ_discrete k q.0)
     (λ here. (
@@ -31,17 +32,23 @@ find-renamed n to k (q ∷ xs) y e = let z : Known = known q.1.part (names_after
     ))
     (λ other. let t = find-renamed n to k xs y (sym (find-tail k q.0 z (renamed n to xs) other) ∙ e) in (t.0, find-tail k q.0 q.1 xs other ∙ t.1, t.2))
 
-find-renamed-some : (n to k : ℕ) (xs : List (ℕ × Known)) (x : Known) → find_lock k xs ≡ Some x → (y : Known) × (find_lock k (renamed n to xs) ≡ Some y)
-find-renamed-some n to k [] x e = absurd (never x e)
-find-renamed-some n to k (q ∷ xs) x e = let z : Known = known q.1.part (names_after n to q.0 q.1) in dite (ℕ_discrete k q.0)
-    (λ is. (z, ap (λ b. cond b (Some z) (find_lock k (renamed n to xs))) (eq-eqb k q.0 is)))
-    (λ ne. let t = find-renamed-some n to k xs x (sym (find-tail k q.0 q.1 xs ne) ∙ e) in (t.0, find-tail k q.0 z (renamed n to xs) ne ∙ t.1))
+-- what is found once the name n was moved to the lock `to`
+pub find-renamed-is : (n to k : ℕ) (xs : List (ℕ × Known)) (x : Known) → find_lock k xs ≡ Some x → find_lock k (renamed n to xs) ≡ Some (known x.part (names_after n to k x))
+find-renamed-is n to k [] x e = absurd (never x e)
+find-renamed-is n to k (q ∷ xs) x e = let z : Known = known q.1.part (names_after n to q.0 q.1) in dite (ℕ_discrete k q.0)
+    (λ is. let same : q.1 ≡ x = some_same q.1 x (sym (ap (λ b. cond b (Some q.1) (find_lock k xs)) (eq-eqb k q.0 is)) ∙ e) in
+    ap (λ b. cond b (Some z) (find_lock k (renamed n to xs))) (eq-eqb k q.0 is) ∙ (λ i. Some (known (same i).part (names_after n to (sym is i) (same i)))))
+    (λ ne. find-tail k q.0 z (renamed n to xs) ne ∙ find-renamed-is n to k xs x (sym (find-tail k q.0 q.1 xs ne) ∙ e))
 
-find-renamed-none : (n to k : ℕ) (xs : List (ℕ × Known)) → find_lock k (renamed n to xs) ≡ None → find_lock k xs ≡ None
+pub find-renamed-none : (n to k : ℕ) (xs : List (ℕ × Known)) → find_lock k xs ≡ None → find_lock k (renamed n to xs) ≡ None
 find-renamed-none n to k [] e = refl
-find-renamed-none n to k (q ∷ xs) e = let z : Known = known q.1.part (names_after n to q.0 q.1) in dite (ℕ_discrete k q.0)
-    (λ is. absurd (never z (sym e ∙ ap (λ b. cond b (Some z) (find_lock k (renamed n to xs))) (eq-eqb k q.0 is))))
-    (λ ne. find-tail k q.0 q.1 xs ne ∙ find-renamed-none n to k xs (sym (find-tail k q.0 z (renamed n to xs) ne) ∙ e))
+find-renamed-none n to k (q ∷ xs) e = dite (ℕ_discrete k q.0)
+    (λ is. absurd (never q.1 (sym e ∙ ap (λ b. cond b (Some q.1) (find_lock k xs)) (eq-eqb k q.0 is))))
+    (λ ne. find-tail k q.0 (known q.1.part (names_after n to q.0 q.1)) (renamed n to xs) ne ∙ find-renamed-none n to k xs (sym (find-tail k q.0 q.1 xs ne) ∙ e))
+
+-- and what was found before
+was_none : (n to k : ℕ) (xs : List (ℕ × Known)) → find_lock k (renamed n to xs) ≡ None → find_lock k xs ≡ None
+was_none n to k xs e = none_or (find_lock k xs) (λ x f. never (known x.part (names_after n to k x)) (sym e ∙ find-renamed-is n to k xs x f))
 
 pub gone : (n : ℕ) (xs : List ℕ) → has_place n (without_name n xs) ≡ false
 gone n [] = refl
@@ -55,13 +62,13 @@ stays n p (x ∷ xs) away = dite (ℕ_discrete n x)
     (λ e. ap (λ b. has_place p (cond b (without_name n xs) (x ∷ without_name n xs))) (eq-eqb n x e) ∙ (stays n p xs away ∙ sym (ap (λ b. b || has_place p xs) (ne_eqb p x (λ is. away (is ∙ sym e))))))
     (λ ne. ap (λ b. has_place p (cond b (without_name n xs) (x ∷ without_name n xs))) (ne_eqb n x ne) ∙ ap (λ b. eqb p x || b) (stays n p xs away))
 
--- the names of the lock j afterwards
-after_here : (n to j : ℕ) (x : Known) → has_place n (names_after n to j x) ≡ eqb to j
+-- which names these are
+pub after_here : (n to j : ℕ) (x : Known) → has_place n (names_after n to j x) ≡ eqb to j
 after_here n to j x = dite (ℕ_discrete to j)
     (λ e. ap (λ b. has_place n (cond b (n ∷ x.names) (without_name n x.names))) (eq-eqb to j e) ∙ (ap (λ b. b || has_place n x.names) (eq-eqb n n refl) ∙ sym (eq-eqb to j e)))
     (λ ne. ap (λ b. has_place n (cond b (n ∷ x.names) (without_name n x.names))) (ne_eqb to j ne) ∙ (gone n x.names ∙ sym (ne_eqb to j ne)))
 
-after_else : (n to j p : ℕ) (x : Known) → p ≢ n → has_place p (names_after n to j x) ≡ has_place p x.names
+pub after_else : (n to j p : ℕ) (x : Known) → p ≢ n → has_place p (names_after n to j x) ≡ has_place p x.names
 after_else n to j p x ne = elim (eqb to j) as (λ b. has_place p (cond b (n ∷ x.names) (without_name n x.names)) ≡ has_place p x.names) [
   | true ↦ ap (λ b. b || has_place p x.names) (ne_eqb p n ne)
   | false ↦ stays n p x.names ne
@@ -97,7 +104,7 @@ module _ {V : Type 0} (part : V → StatePart) (suits : Machine → ℕ → V �
           suited = λ j y q e home. subst (λ (t : ℕ). suits m t y) (sym clock) (r.suited j y q (sym (lock j (omega (arith, q))) ∙ e) home);
           locks = record {
             free = λ j q e. r.locks.free j q (sym (lock j q) ∙ e);
-            taken = λ j q nz. set_some (λ u. Holds j u.seen) s.views id v w at (λ p. find-renamed-some n to j v.seen.held p.0 p.1) (r.owner j) (r.locks.taken j q (λ e. nz (lock j q ∙ e)));
+            taken = λ j q nz. set_some (λ u. Holds j u.seen) s.views id v w at (λ p. (known p.0.part (names_after n to j p.0), find-renamed-is n to j v.seen.held p.0 p.1)) (r.owner j) (r.locks.taken j q (λ e. nz (lock j q ∙ e)));
             held = λ i u j x e q. set_all (λ i u. (j : ℕ) (x : Known) → find_lock j u.seen.held ≡ Some x → Has part m words' s.homes h r.owner i u j x) s.views id w
                 (λ j y q. let t = find-renamed n to j v.seen.held y q in let o = r.locks.held id v j t.0 at t.1 in record {
                   below = o.below;
@@ -141,7 +148,7 @@ module _ {V : Type 0} (part : V → StatePart) (suits : Machine → ℕ → V �
                 (λ is. omega (arith, low, sym here ∙ (ap (λ (k : ℕ). get_or words' (18 + k) 0) (sym is) ∙ e)))
                 (λ ne. r.names.apart p q (sym (else p ne) ∙ e));
             moving = λ i u x j p e q o f. set_all (λ i u. (x : Known) (j p : ℕ) → find_lock 17 u.seen.held ≡ Some x → find_lock j u.seen.held ≡ None → p < 128 → eqb (get_or words' (18 + p) 0) j ≡ eqb (home_at m h p) j) s.views id w
-                (λ y j p q o f. let t = find-renamed n to 17 v.seen.held y q in let o' = find-renamed-none n to j v.seen.held o in dite (ℕ_discrete p n)
+                (λ y j p q o f. let t = find-renamed n to 17 v.seen.held y q in let o' = was_none n to j v.seen.held o in dite (ℕ_discrete p n)
                 (λ is. (λ i. eqb (get_or words' (18 + is i) 0) j) ∙ ((λ i. eqb (here i) j) ∙ (sym (neither j (λ a. never z (sym o' ∙ (ap (λ (k : ℕ). find_lock k v.seen.held) a ∙ found))) (λ a. never there.0 (sym o' ∙ (ap (λ (k : ℕ). find_lock k v.seen.held) a ∙ there.1))))
                 ∙ (r.names.moving id v t.0 j n at t.1 o' l ∙ (λ i. eqb (home_at m h (sym is i)) j)))))
                 (λ ne. ap (λ (q : ℕ). eqb q j) (else p ne) ∙ r.names.moving id v t.0 j p at t.1 o' f))
@@ -149,7 +156,7 @@ module _ {V : Type 0} (part : V → StatePart) (suits : Machine → ℕ → V �
                 i u e x j p q o f;
           };
           stages = stages_step h s.words words' s.views id w r.stages (λ q f. get_or-set_other s.words i (147 + q) to 0 (λ e. absurd (omega (arith, e, l)))) (λ z. sym (lock 17 (omega arith)) ∙ z)
-              ((λ y q f g. let t = find-renamed n to 17 v.seen.held y f in r.stages.raised id v t.0 q at t.1 g), λ f. r.stages.nobody id v at (find-renamed-none n to 17 v.seen.held f));
+              ((λ y q f g. let t = find-renamed n to 17 v.seen.held y f in r.stages.raised id v t.0 q at t.1 g), λ f. r.stages.nobody id v at (was_none n to 17 v.seen.held f));
           fronts = fronts_same m limit base s.views h r.keeper r.latest id v w r.fronts at refl refl refl refl left left;
           all_shares = shares_same s.views id v w at refl r.all_shares;
         },

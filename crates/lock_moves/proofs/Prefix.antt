@@ -15,6 +15,21 @@ module _ {A : Type 0} where
   pub length_one_more : (xs : List A) (e : A) → length (xs ++ e ∷ []) ≡ suc (length xs)
   length_one_more xs e = let len = length-append xs (e ∷ []) in omega (arith, len)
 
+  -- a beginning of the same length is the whole
+  pub prefix_whole : (xs ys : List A) → IsPrefix xs ys → length ys ≡ length xs → ys ≡ xs
+  prefix_whole [] [] p len = refl
+  prefix_whole [] (y ∷ ys) p len = absurd (omega (arith, len))
+  prefix_whole (x ∷ xs) [] p len = absurd (omega (arith, len))
+  prefix_whole (x ∷ xs) (y ∷ ys) p len = let t = prefix_whole xs ys (p.0, ap tail p.1) (omega (arith, len)) in λ i. first x (sym p.1 i) ∷ t i
+    where
+      first : A → List A → A
+      first d [] = d
+      first d (z ∷ zs) = z
+
+      tail : List A → List A
+      tail [] = []
+      tail (z ∷ zs) = zs
+
   -- of two beginnings of one list the shorter begins the longer
   pub prefix_within : (xs ys zs : List A) → IsPrefix xs zs → IsPrefix ys zs → length xs ≤ length ys → IsPrefix xs ys
   prefix_within [] ys zs p q l = (ys, refl)

@@ -4,20 +4,22 @@ use mathlib.Core.Logic.{dite}
 use mathlib.Core.Option.{some, none, some-injective, some-ne-none}
 use mathlib.Core.Option as maybe
 use native.Mathlib.Decide.{ℕ_discrete}
+use mathlib.Core.List.{IsPrefix}
 use lib.ListN.{get_elem?}
 use prog.Atomic.{either}
 use Rattle.atomic_table.specs.Table.{State, Me, step, Act, keeps, takes, gives, Valid, stepped, carried_after, Allows}
 use Rattle.atomic_table.proofs.Lists.{set_here, set_else}
 use Rattle.journal_core.specs.Parts.{StatePart}
 use Rattle.journal_core.specs.Parts.{lists}
-use Rattle.journal_core.specs.Histories.{home_at, decides_at}
+use Rattle.journal_core.specs.Histories.{part_at, home_at, decides_at, IsSound}
+use Rattle.sched_model.specs.declared.event.Entry.{Entry}
 use Rattle.sched_model.specs.declared.machine.Machine.{Machine}
 use Rattle.lock_moves.proofs.Finding.{lists-part}
 use Rattle.lock_moves.specs.declared.content.Content.{Content}
 use Rattle.lock_moves.specs.declared.content.Content.TheVariants.{Out, Value, Ledger}
 use Rattle.lock_moves.specs.Sight.{Known, View, known, has_place, find_lock, Holds, AllBelow, without, view_took, view_turned_away, with_out, view_gave}
 use Rattle.lock_moves.specs.Agrees.{Fits, Has, Agrees}
-use Rattle.lock_moves.specs.Plays.{Lists, tried, settled, fetched, put_back}
+use Rattle.lock_moves.specs.Plays.{Lists, IsPartOfSome, tried, settled, fetched, put_back}
 use Rattle.lock_moves.proofs.Finding.{find-head, find-tail, find-without-same, find-without-other, some_same, never, set_all, set_some, listed, listed-has}
 use Rattle.lock_moves.proofs.Moving.{suited_step, fronts_same, shares_same, has_moved, locks_step, names_step, same_or, stages_step, stages_of}
 
@@ -65,10 +67,11 @@ module _ {V : Type 0} (part : V → StatePart) (suits : Machine → ℕ → V �
 
   gains : (s : St) (r : Agrees part suits m limit base s) (id : ℕ) (me : Mine) (k : ℕ) (y : Content V) → k < 17 → AllBelow k me.0.seen.held → me.0.out ≡ 0 → 0 < me.0.seen.shares
       → get_elem? s.views id ≡ some me.0 → get_or s.words k 0 ≡ 0 → get_elem? s.homes k ≡ some (some y) → Fits part m limit r.history k y
-      → Goes s k 1 id me (λ m'. (x : V) × (names : List ℕ) × (t : ℕ) × (m' ≡ (view_took k (part x) names t me.0, (k, Value x) ∷ me.1)) × Lists (part x) names × suits me.0.seen.input t x × ((j : ℕ) (y : Known) → find_lock j me.0.seen.held ≡ Some y → t ≡ me.0.seen.now))
+      → Goes s k 1 id me (λ m'. (x : V) × (names : List ℕ) × (t : ℕ) × (m' ≡ (view_took k (part x) names t me.0, (k, Value x) ∷ me.1)) × Lists (part x) names × suits me.0.seen.input t x × ((j : ℕ) (y : Known) → find_lock j me.0.seen.held ≡ Some y → t ≡ me.0.seen.now) × IsPartOfSome k (part x) me.0.seen)
   gains s r id me k Out low above rest left at zero_there there fits = absurd fits
   gains s r id me k (Ledger b) low above rest left at zero_there there fits = absurd (omega (arith, fits.0, low))
   gains s r id me k (Value x) low above rest left at zero_there there fits = let v : View = me.0 in let names : List ℕ = listed (lists (part x)) 128 in let now : ℕ = get_or s.words 146 0 in let w : View = view_took k (part x) names now v in let z' : Known = known (part x) names in let wide = r.wide in
+      let part_of_some : IsPartOfSome k (part x) v.seen = subst (λ (q : Machine). (h : List Entry) × IsPrefix v.seen.front h × (part x ≡ part_at q h k) × IsSound q h) (sym (r.fronts.same id v at left)) (r.history, r.fronts.begins id v at, fits.1, r.sound) in
       let shut : get_or (set s.words k 1) k 0 ≡ 1 = get_or-set_same s.words k 1 0 (omega arith) in (
         w,
         takes k (Value x),
@@ -111,7 +114,7 @@ module _ {V : Type 0} (part : V → StatePart) (suits : Machine → ℕ → V �
           fronts = fronts_same m limit base s.views r.history r.keeper r.latest id v w r.fronts at refl refl refl refl left left;
           all_shares = shares_same s.views id v w at refl r.all_shares;
         },
-        (x, names, now, refl, (λ n l. sym (listed-has (lists (part x)) 128 n l)), subst (λ (q : Machine). suits q now x) (sym (r.fronts.same id v at left)) (r.suited k x low zero_there there), λ j y f. sym (r.names.moment id v j y at f)),
+        (x, names, now, refl, (λ n l. sym (listed-has (lists (part x)) 128 n l)), subst (λ (q : Machine). suits q now x) (sym (r.fronts.same id v at left)) (r.suited k x low zero_there there), (λ j y f. sym (r.names.moment id v j y at f)), part_of_some),
       )
 
   -- a step that finds a word, whatever it is, and leaves it: the view changes only in what no lock and no front depends on

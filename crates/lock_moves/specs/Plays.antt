@@ -16,6 +16,10 @@ abbrev pub Current : Seen → Type 0
 Current v = ((k : ℕ) (x : Known) → k < 17 → find_lock k v.held ≡ Some x → (x.part ≡ part_at v.input v.front k) × ((n : ℕ) → n < 128 → has_place n x.names ≡ eqb (home_at v.input v.front n) k))
     × (v.now ≡ now_at v.input v.front) × (v.named ≡ 0) × IsSound v.input v.front
 
+-- the part is that of the lock k in the state to which some history leads that begins with the front and is a run's beginning
+abbrev pub IsPartOfSome : ℕ → StatePart → Seen → Type 0
+IsPartOfSome k part v = (h : List Entry) × IsPrefix v.front h × (part ≡ part_at v.input h k) × IsSound v.input h
+
 -- the names and the moment of the view are those of the state to which h leads
 abbrev pub Placed : Seen → List Entry → Type 0
 Placed v h = ((k : ℕ) (x : Known) (n : ℕ) → k < 17 → find_lock k v.held ≡ Some x → n < 128 → has_place n x.names ≡ eqb (home_at v.input h n) k) × (v.now ≡ now_at v.input h)
@@ -51,7 +55,7 @@ Sat V = Me (Content V) View
 module _ {V : Type 0} where
   -- the lock's word was free, and the value is out with the seat; or it was taken
   abbrev pub tried : (V → StatePart) → (Machine → ℕ → V → Type 0) → Step (Content V) → Sat V → ℕ → Sat V → Type 0
-  tried part suits st m r m' = (r ≡ 0 → (x : V) × (names : List ℕ) × (t : ℕ) × (m' ≡ (view_took st.word (part x) names t m.0, (st.word, Value x) ∷ m.1)) × Lists (part x) names × suits m.0.seen.input t x × ((j : ℕ) (y : Known) → find_lock j m.0.seen.held ≡ Some y → t ≡ m.0.seen.now)) × (r ≢ 0 → m' ≡ (view_turned_away st.word m.0, m.1))
+  tried part suits st m r m' = (r ≡ 0 → (x : V) × (names : List ℕ) × (t : ℕ) × (m' ≡ (view_took st.word (part x) names t m.0, (st.word, Value x) ∷ m.1)) × Lists (part x) names × suits m.0.seen.input t x × ((j : ℕ) (y : Known) → find_lock j m.0.seen.held ≡ Some y → t ≡ m.0.seen.now) × IsPartOfSome st.word (part x) m.0.seen) × (r ≢ 0 → m' ≡ (view_turned_away st.word m.0, m.1))
 
   -- the same of the book, whose history begins with the front
   abbrev pub tried_book : Step (Content V) → Sat V → ℕ → Sat V → Type 0

@@ -1,11 +1,11 @@
 -- What a seat knows, and how a step changes it.
-use Rattle.std.specs.Prelude.{◌≡◌, ℕ, zero, suc, ◌+◌, ◌-◌, ◌<◌, Bool, false, cond, ◌||◌, eqb, leb, List, [], ◌∷◌, ◌++◌, length, replicate, Option, Some, None, ⊤}
+use Rattle.std.specs.Prelude.{◌≡◌, ℕ, zero, suc, ◌+◌, ◌-◌, ◌<◌, ◌≤◌, Bool, false, cond, ◌||◌, eqb, leb, List, [], ◌∷◌, ◌++◌, length, replicate, Option, Some, None, ⊤}
 use Rattle.atomic_table.specs.Seated.{TableId}
 use Rattle.sched_base.specs.Numbers.{moment}
 use Rattle.sched_model.specs.declared.event.Entry.{Entry}
 use Rattle.sched_model.specs.declared.machine.Machine.{Machine}
 use Rattle.journal_core.specs.Parts.{StatePart, no_part}
-use Rattle.journal_core.specs.Histories.{part_at}
+use Rattle.journal_core.specs.Histories.{part_at, home_at}
 use Rattle.journal_core.specs.Books.{Chronicle}
 
 -- what is known of a lock that is held: the part that it guards, and the names whose word is this lock
@@ -64,6 +64,11 @@ refreshed m h (x ∷ xs) = (x.0, known (part_at m h x.0) x.1.names) ∷ refreshe
 abbrev pub Holds : ℕ → Seen → Type 0
 Holds k v = (x : Known) × (find_lock k v.held ≡ Some x)
 
+-- the seat holds the locks below n, and no other
+pub record HoldsBelow (n : ℕ) (v : Seen) : Type 0 where
+  pub holds : (k : ℕ) → k < n → Holds k v
+  pub others : (k : ℕ) → n ≤ k → find_lock k v.held ≡ None
+
 -- each lock that is held has a smaller number
 abbrev pub AllBelow : ℕ → List (ℕ × Known) → Type 0
 AllBelow k xs = (j : ℕ) (x : Known) → find_lock j xs ≡ Some x → j < k
@@ -72,6 +77,16 @@ AllBelow k xs = (j : ℕ) (x : Known) → find_lock j xs ≡ Some x → j < k
 abbrev pub has_place : ℕ → List ℕ → Bool
 has_place p [] = false
 has_place p (q ∷ qs) = eqb p q || has_place p qs
+
+-- what is known of the lock k is what the state has to which h leads
+pub record IsCurrent (m : Machine) (h : List Entry) (k : ℕ) (x : Known) : Type 0 where
+  pub part : x.part ≡ part_at m h k
+  pub names : (n : ℕ) → n < 128 → has_place n x.names ≡ eqb (home_at m h n) k
+
+-- the seat holds the locks below n, and no other, and what it has for them is the state to which h leads
+pub record KnowsBelow (m : Machine) (n : ℕ) (h : List Entry) (v : Seen) : Type 0 where
+  pub knows : (k : ℕ) → k < n → (x : Known) × (find_lock k v.held ≡ Some x) × IsCurrent m h k x
+  pub others : (k : ℕ) → n ≤ k → find_lock k v.held ≡ None
 
 -- each number of the list is greater than p
 abbrev pub AllAbove : ℕ → List ℕ → Type 0

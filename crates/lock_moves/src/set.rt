@@ -7,7 +7,7 @@ ghost use Rattle.sched_model.specs.Runs.{IsRun};
 ghost use Rattle.journal_core.specs.Parts.{lists};
 ghost use Rattle.journal_core.specs.Histories.{decides_at, NamesStandOnce};
 ghost use Rattle.lock_moves.specs.Sight.{Known, find_lock, Holds, AllBelow, took_book, turned_away, gave, committed_view, lessened, newcomer, joined, moved_name, with_now, tried_again, searched, naming, has_loaded};
-ghost use Rattle.lock_moves.specs.Plays.{Current, Next, Kept, Placed, Decided, Tells};
+ghost use Rattle.lock_moves.specs.Plays.{Current, IsPartOfSome, Next, Kept, Placed, Decided, Tells};
 ghost use Rattle.lock_moves.specs.Sets.{seeing, HasTaken, IsAsKnown, HasName};
 ghost use Rattle.lock_moves.specs.Words.{name_number, has_name, has_core, has_word, word_index};
 
@@ -50,7 +50,7 @@ impl<V: Part> LockSet<V> {
         requires set { seat.old.table ≡ self.now.table }
         requires number { lock.0 < 17 }
         requires order { AllBelow lock.0 seat.old.view.held }
-        ensures { MatchOption result (seat.new ≡ seeing seat.old (turned_away lock.0 seat.old.view)) (λ h. (h.lock ≡ lock.0) × HasTaken lock.0 (V.part h.value) seat.old.view seat.old seat.new × V.suits seat.old.view.input seat.new.view.now h.value × ((j : ℕ) (x : Known) → find_lock j seat.old.view.held ≡ Some x → seat.new.view.now ≡ seat.old.view.now)) }
+        ensures { MatchOption result (seat.new ≡ seeing seat.old (turned_away lock.0 seat.old.view)) (λ h. (h.lock ≡ lock.0) × HasTaken lock.0 (V.part h.value) seat.old.view seat.old seat.new × V.suits seat.old.view.input seat.new.view.now h.value × ((j : ℕ) (x : Known) → find_lock j seat.old.view.held ≡ Some x → seat.new.view.now ≡ seat.old.view.now) × IsPartOfSome lock.0 (V.part h.value) seat.old.view) }
     {
         let number = lock.0 as usize;
         let mut me = seated::<V>(&mut seat.badge);
@@ -237,6 +237,7 @@ impl<V: Part> LockSet<V> {
         ensures taken { (n : ℕ) × HasTaken lock.0 (V.part result.value) (tried_again n lock.0 seat.old.view) seat.old seat.new }
         ensures suits { V.suits seat.old.view.input seat.new.view.now result.value }
         ensures still { (j : ℕ) (x : Known) → find_lock j seat.old.view.held ≡ Some x → seat.new.view.now ≡ seat.old.view.now }
+        ensures state { IsPartOfSome lock.0 (V.part result.value) seat.old.view }
     {
         for _ in rt.forever() {
             if let Some(held) = self.try_lock(seat, lock) {
@@ -278,6 +279,7 @@ impl<V: Part> LockSet<V> {
         ensures number { result.lock < 17 }
         ensures lists { lists (V.part result.value) (name_number name) ≡ true }
         ensures has { HasName result.lock (name_number name) seat.new.view }
+        ensures state { IsPartOfSome result.lock (V.part result.value) seat.old.view }
     {
         let mut word = self.read_word(seat, WordId::Name(name));
         for _ in rt.forever() {

@@ -1,4 +1,4 @@
-use Rattle.lock_example.proofs.Holding.{taken_below}
+use Rattle.lock_moves.proofs.Holding.{taken_below}
 use Rattle.lock_example.proofs.adding.take_next.Goals as goal
 
 pub returns-clause-below : goal.returns-clause-below

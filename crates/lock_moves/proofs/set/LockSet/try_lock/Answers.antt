@@ -4,7 +4,7 @@ use Rattle.lock_moves.specs.declared.content.Content.{Content}
 use Rattle.lock_moves.specs.declared.content.Content.TheVariants.{Out, Value}
 use Rattle.lock_moves.specs.Sight.{Known, Seen, View, AllBelow, find_lock, known, view_took, with_out}
 use Rattle.lock_moves.specs.Rests.{first_of_views}
-use Rattle.lock_moves.specs.Plays.{Lists}
+use Rattle.lock_moves.specs.Plays.{Lists, IsPartOfSome}
 use Rattle.lock_moves.proofs.Finding.{find-head, value_out}
 use Rattle.lock_moves.proofs.Taking.{tries, settles_at}
 use Rattle.lock_moves.proofs.set.LockSet.try_lock.Goals as goal
@@ -44,5 +44,6 @@ returns g c = let t = c.compare_exchange-found.ensures.2.0 c.if-found-ne0.false 
       (t.1, t.2, search rules, subst (λ (y : g.row.V.Denot). Lists (g.V.Part.part y) t.1) (sym same) t.4),
       subst (λ (y : g.row.V.Denot). g.V.Part.suits c.args.seat.now.view.input (first_of_views c.into_badge-2.result.views).seen.now y) (sym same)
           (subst (λ (n : ℕ). g.V.Part.suits c.args.seat.now.view.input n t.0) (sym now) (subst (λ (v : Seen). g.V.Part.suits v.input t.2 t.0) was t.5)),
-      λ j x f. now ∙ (t.6 j x (ap (λ (v : Seen). find_lock j v.held) was ∙ f) ∙ ap (λ (v : Seen). v.now) was),
+      (λ j x f. now ∙ (t.6 j x (ap (λ (v : Seen). find_lock j v.held) was ∙ f) ∙ ap (λ (v : Seen). v.now) was)),
+      subst (λ (y : g.row.V.Denot). IsPartOfSome c.args.lock.0 (g.V.Part.part y) c.args.seat.now.view) (sym same) (subst (IsPartOfSome c.args.lock.0 (g.V.Part.part t.0)) was t.7),
     )
