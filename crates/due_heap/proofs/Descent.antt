@@ -4,9 +4,9 @@ use Rattle.std.specs.Prelude.{if◌then◌else◌}
 use Rattle.std.proofs.lemmas.Bool.{cases_lt}
 use Rattle.std.proofs.lemmas.Bool.Decides.{nat_tests}
 use Rattle.sched_base.specs.declared.Moment.{Moment}
-use Rattle.due_heap.specs.Dues.{IsArmed, HasCome, IsPowerOfTwo, due_of}
+use Rattle.due_heap.specs.Dues.{IsArmed, HasCome, due_of}
 use Rattle.due_heap.specs.Winners.{precedes, is_past, has_come, winner, up, IsAncestor, IsTree}
-use Rattle.due_heap.proofs.Tree.{ancestor-down, right, root_first, armed_below, winner-leaf}
+use Rattle.due_heap.proofs.Tree.{ancestor-down, right, root_first, armed_below}
 
 -- where the moment of the one that goes first has not come, that of the other has not
 not_past : (t : ℕ) (x : Option Moment) (a : ℕ) (y : Option Moment) (b : ℕ) → precedes y b x a ≡ false → is_past t x ≡ false → is_past t y ≡ false
@@ -87,20 +87,6 @@ module _ (t : ℕ) (moments : List (Option Moment)) (winners : List ℕ) (tree :
     pub last : k * 2 ^ depth + 2 ^ depth ≤ 2 * length moments
     pub none : (id : ℕ) → length moments + id < k * 2 ^ depth → has_come moments t id ≡ false
 
-  pub way_begins : IsPowerOfTwo (length moments) → has_come moments t (winner winners 1) ≡ true → IsOnWay 1
-  way_begins power come =
-      let is = power.is in
-      let one = power_some power.exponent in
-      record {
-        some = omega arith;
-        below = omega (arith, is, one);
-        come = come;
-        depth = power.exponent;
-        first = omega (arith, is);
-        last = omega (arith, is);
-        none = λ id low. absurd (omega (arith, is, low));
-      }
-
   pub way_down : (k : ℕ) → IsOnWay k → k < length moments
       → IsOnWay (if has_come moments t (winner winners (2 * k)) then 2 * k else 2 * k + 1)
   way_down k way inner = by way.depth way.first way.last way.none
@@ -153,12 +139,7 @@ module _ (t : ℕ) (moments : List (Option Moment)) (winners : List ℕ) (tree :
           is_more : (2 * k + 1) * 2 ^ i ≡ 2 * (k * 2 ^ i) + 2 ^ i
           is_more = twice_more k (2 ^ i)
 
-  -- the id of a leaf on the way is the first that has come
-  pub way_come : (k : ℕ) → IsOnWay k → length moments ≤ k → has_come moments t (k - length winners) ≡ true
-  way_come k way leaf =
-      let size = tree.size in
-      ap (has_come moments t) (sym (winner-leaf winners k (omega (arith, size, leaf)))) ∙ way.come
-
+  -- no id before that of a leaf on the way has come
   pub way_first : (k : ℕ) → IsOnWay k → length moments ≤ k → (id : ℕ) → id < k - length winners → has_come moments t id ≡ false
   way_first k way leaf id before =
       let size = tree.size in

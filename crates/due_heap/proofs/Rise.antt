@@ -1,7 +1,7 @@
 -- A changed moment is carried up: what is right on the way, and when the rest is.
-use Rattle.std.proofs.Common.{◌≡◌, ◌≢◌, ℕ, ◌+◌, ◌*◌, ◌/◌, ◌^◌, ◌≤◌, ◌<◌, Option, None, List, length, set, false, sym, ◌∙◌, ap, subst, inl, inr, arith}
+use Rattle.std.proofs.Common.{◌≡◌, ◌≢◌, ℕ, ◌+◌, ◌*◌, ◌/◌, ◌^◌, ◌≤◌, ◌<◌, Option, List, length, set, false, sym, ◌∙◌, ap, subst, inl, inr, arith}
 use Rattle.std.proofs.lemmas.Bool.{cases_eq}
-use Rattle.std.proofs.lemmas.List.{get_or-set_other, length-set}
+use Rattle.std.proofs.lemmas.List.{length-set}
 use Rattle.sched_base.specs.declared.Moment.{Moment}
 use Rattle.due_heap.specs.Dues.{due_of}
 use Rattle.due_heap.specs.Winners.{is_before, sooner, winner, IsAncestor, IsFirstUnder, IsTree, IsTreeBut}
@@ -178,13 +178,3 @@ rise_rests id moments before winners k rising some stays other_id = record {
             let id_after : is_before before id w ≡ false = was_k.first id (omega (arith, b, size_before)) (to_before k id (rising.path some)) in
             let v_after : is_before before v w ≡ false = subst (λ (i : ℕ). is_before before i w ≡ false) (sym e) id_after in
             other_id (precedes-either (due_of before w) w (due_of before v) v w_after v_after ∙ e)
-
--- an id's moment changes in a tree
-pub tree_but : (id : ℕ) (moments : List (Option Moment)) (winners : List ℕ) (due : Option Moment) → IsTree moments winners
-    → IsTreeBut id (set moments id due) winners
-tree_but id moments winners due tree = record {
-  before = moments;
-  tree = tree;
-  size = sym (length-set moments id due);
-  same = λ other ne. sym (get_or-set_other moments id other due None ne);
-}
