@@ -1,194 +1,287 @@
--- The tree of winners: its root is one of the leaves, and goes before all of them.
-use Rattle.std.proofs.Common.{◌≡◌, ◌⊎◌, ℕ, zero, suc, ◌+◌, ◌-◌, ◌*◌, ◌/◌, ◌≤◌, ◌<◌, Option, Some, None, List, ◌∷◌, length, map, drop, set, replicate, Bool, true, false, cond, refl, sym, ◌∙◌, ap, subst, inl, inr, arith}
-use Rattle.std.specs.Prelude.{IfSome}
-use Rattle.std.proofs.Math.ListN.{get_or-map}
+-- The order of the ids, and the tree of winners that stands on it.
+use Rattle.std.proofs.Common.{◌≡◌, ◌≢◌, ◌⊎◌, ℕ, zero, suc, ◌+◌, ◌-◌, ◌*◌, ◌/◌, ◌≤◌, ◌<◌, Option, Some, None, List, length, set, Bool, true, false, refl, sym, ◌∙◌, ap, subst, inl, inr, arith}
+use Rattle.std.specs.Prelude.{if◌then◌else◌, nat_lt, slice_index_or}
 use Rattle.std.proofs.lemmas.Bool.{cases_eq, cases_lt}
 use Rattle.std.proofs.lemmas.Bool.Decides.{nat_tests}
-use Rattle.std.proofs.lemmas.List.{get_or-drop, get_or_past, drop-replicate, drop-set-add, map-set}
+use Rattle.std.proofs.lemmas.List.{get_or-set_same, get_or-set_other, get_or_past, length-set}
 use Rattle.sched_base.specs.declared.Moment.{Moment}
-use Rattle.due_heap.specs.declared.due.Due.{Due}
 use Rattle.due_heap.specs.Dues.{IsArmed, GoesFirst, due_of}
-use Rattle.due_heap.specs.Winners.{sooner, is_before, node, moment_of, dues_of, IsSettledBut, IsTree}
+use Rattle.due_heap.specs.Winners.{precedes, is_before, sooner, winner, up, IsAncestor, IsFirstUnder, IsTree}
 
--- a node that goes before another, or is the same; none goes last
-abbrev pub NotLater : Option Due → Option Due → Type 0
-NotLater None None = Unit {0}
-NotLater None (Some b) = ⊥
-NotLater (Some a) None = Unit {0}
-NotLater (Some a) (Some b) = GoesFirst a.at a.id b.at b.id
+-- of three, where the second does not go before the first, nor the third before the second, the third does not go before the first
+precedes-trans : (x : Option Moment) (a : ℕ) (y : Option Moment) (b : ℕ) (z : Option Moment) (c : ℕ)
+    → precedes y b x a ≡ false → precedes z c y b ≡ false → precedes z c x a ≡ false
+precedes-trans (Some x) a (Some y) b (Some z) c p q = grind (arith, nat_tests, p, q)
+precedes-trans (Some x) a (Some y) b None c p q = refl
+precedes-trans (Some x) a None b (Some z) c p q = let e : true ≡ false = q in absurd (cc)
+precedes-trans (Some x) a None b None c p q = refl
+precedes-trans None a (Some y) b z c p q = let e : true ≡ false = p in absurd (cc)
+precedes-trans None a None b (Some z) c p q = let e : true ≡ false = q in absurd (cc)
+precedes-trans None a None b None c p q = grind (arith, nat_tests, p, q)
 
-NotLater-refl : (a : Option Due) → NotLater a a
-NotLater-refl None = tt
-NotLater-refl (Some a) = record { by_moment = omega arith; then_by_id = λ _. omega arith }
+precedes-not_both : (x : Option Moment) (a : ℕ) (y : Option Moment) (b : ℕ) → precedes y b x a ≡ true → precedes x a y b ≡ false
+precedes-not_both (Some x) a (Some y) b p = grind (arith, nat_tests, p)
+precedes-not_both (Some x) a None b p = let e : false ≡ true = p in absurd (cc)
+precedes-not_both None a (Some y) b p = refl
+precedes-not_both None a None b p = grind (arith, nat_tests, p)
 
-NotLater-trans : (a b c : Option Due) → NotLater a b → NotLater b c → NotLater a c
-NotLater-trans None None None p q = tt
-NotLater-trans None None (Some c) p q = q
-NotLater-trans None (Some b) None p q = tt
-NotLater-trans None (Some b) (Some c) p q = p
-NotLater-trans (Some a) b None p q = tt
-NotLater-trans (Some a) None (Some c) p q = absurd q
-NotLater-trans (Some a) (Some b) (Some c) p q =
-    record { by_moment = omega arith; then_by_id = λ (e : a.at.0 ≡ c.at.0). omega arith }
+precedes-same : (x : Option Moment) (a : ℕ) → precedes x a x a ≡ false
+precedes-same (Some x) a = grind (arith, nat_tests)
+precedes-same None a = grind (arith, nat_tests)
 
--- of two dues the sooner goes before both
-sooner-of_test : (test : Bool) (a b : Due) → is_before b a ≡ test
-    → NotLater (cond test (Some b) (Some a)) (Some a) × NotLater (cond test (Some b) (Some a)) (Some b)
-sooner-of_test true a b e = (
-  record { by_moment = grind (arith, nat_tests, e); then_by_id = λ (same : b.at.0 ≡ a.at.0). grind (arith, nat_tests, e) },
-  NotLater-refl (Some b),
-)
-sooner-of_test false a b e = (
-  NotLater-refl (Some a),
-  record { by_moment = grind (arith, nat_tests, e); then_by_id = λ (same : a.at.0 ≡ b.at.0). grind (arith, nat_tests, e) },
-)
+pub precedes-either : (x : Option Moment) (a : ℕ) (y : Option Moment) (b : ℕ) → precedes x a y b ≡ false → precedes y b x a ≡ false → a ≡ b
+precedes-either (Some x) a (Some y) b p q = grind (arith, nat_tests, p, q)
+precedes-either (Some x) a None b p q = let e : true ≡ false = p in absurd (cc)
+precedes-either None a (Some y) b p q = let e : true ≡ false = q in absurd (cc)
+precedes-either None a None b p q = grind (arith, nat_tests, p, q)
 
-sooner-first : (a b : Option Due) → NotLater (sooner a b) a × NotLater (sooner a b) b
-sooner-first None None = (tt, tt)
-sooner-first None (Some b) = (tt, NotLater-refl (Some b))
-sooner-first (Some a) None = (NotLater-refl (Some a), tt)
-sooner-first (Some a) (Some b) = sooner-of_test (is_before b a) a b refl
+-- an id that no other is before
+pub not_before-trans : (moments : List (Option Moment)) (a b c : ℕ)
+    → is_before moments b a ≡ false → is_before moments c b ≡ false → is_before moments c a ≡ false
+not_before-trans moments a b c p q = precedes-trans (due_of moments a) a (due_of moments b) b (due_of moments c) c p q
 
--- the sooner of two is one of them
-sooner-either : (a b : Option Due) → (sooner a b ≡ a) ⊎ (sooner a b ≡ b)
-sooner-either None b = inr refl
-sooner-either (Some a) None = inl refl
-sooner-either (Some a) (Some b) =
-    elim (is_before b a) as (λ t. (cond t (Some b) (Some a) ≡ Some a) ⊎ (cond t (Some b) (Some a) ≡ Some b)) [
-      | true ↦ inr refl
-      | false ↦ inl refl
+-- two ids with the same moments in two lists go as they did
+pub is_before-same : (before moments : List (Option Moment)) (a b : ℕ) → due_of before a ≡ due_of moments a → due_of before b ≡ due_of moments b
+    → is_before before a b ≡ is_before moments a b
+is_before-same before moments a b p q =
+    ap (λ (x : Option Moment). precedes x a (due_of before b) b) p ∙ ap (λ (y : Option Moment). precedes (due_of moments a) a y b) q
+
+-- the node above one that is some steps up
+up-half : (steps node : ℕ) → up steps node / 2 ≡ up (suc steps) node
+up-half zero node = refl
+up-half (suc steps) node = up-half steps (node / 2)
+
+up-add : (a b node : ℕ) → up a (up b node) ≡ up (b + a) node
+up-add a zero node = let e : a ≡ 0 + a = omega arith in ap (λ (n : ℕ). up n node) e
+up-add a (suc b) node =
+    let e : suc (b + a) ≡ suc b + a = omega arith in
+    up-add a b (node / 2) ∙ ap (λ (n : ℕ). up n node) e
+
+up-le : (steps node : ℕ) → up steps node ≤ node
+up-le zero node = omega arith
+up-le (suc steps) node = let le = up-le steps (node / 2) in omega (arith, le)
+
+-- a node is above itself, and above whatever one below it is above
+pub ancestor-self : (k : ℕ) → IsAncestor k k
+ancestor-self k = record { steps = 0; is = refl }
+
+pub ancestor-trans : (j k node : ℕ) → IsAncestor j k → IsAncestor k node → IsAncestor j node
+ancestor-trans j k node high low = record {
+  steps = low.steps + high.steps;
+  is = sym (up-add high.steps low.steps node) ∙ ap (up high.steps) low.is ∙ high.is;
+}
+
+pub ancestor-parent : (k node : ℕ) → IsAncestor k node → IsAncestor (k / 2) node
+ancestor-parent k node low = record { steps = suc low.steps; is = sym (up-half low.steps node) ∙ ap (λ (n : ℕ). n / 2) low.is }
+
+pub ancestor-le : (k node : ℕ) → IsAncestor k node → k ≤ node
+ancestor-le k node a = let le = up-le a.steps node in let is = a.is in omega (arith, le, is)
+
+-- an ancestor is the node itself or one of the node above
+pub ancestor-cases : (k node : ℕ) → IsAncestor k node → (k ≡ node) ⊎ IsAncestor k (node / 2)
+ancestor-cases k node a = by a.steps a.is
+  where
+    by : (steps : ℕ) → up steps node ≡ k → (k ≡ node) ⊎ IsAncestor k (node / 2)
+    by zero is = inl (sym is)
+    by (suc steps) is = inr record { steps = steps; is = is }
+
+-- a node above another is it or is above one of the two below: seen from the ancestor
+pub ancestor-down : (k node : ℕ) → IsAncestor k node → (k ≡ node) ⊎ (IsAncestor (2 * k) node ⊎ IsAncestor (2 * k + 1) node)
+ancestor-down k node a = by a.steps a.is
+  where
+    by : (steps : ℕ) → up steps node ≡ k → (k ≡ node) ⊎ (IsAncestor (2 * k) node ⊎ IsAncestor (2 * k + 1) node)
+    by zero is = inl (sym is)
+    by (suc steps) is =
+        let half = up-half steps node in
+        elim (cases_eq (up steps node) (2 * k)) [
+          | inl e ↦ inr (inl record { steps = steps; is = e })
+          | inr ne ↦ inr (inr record { steps = steps; is = omega (arith, is, half, ne) })
+        ]
+
+-- whether one node is above another can be told
+pub ancestor-told : (n k node : ℕ) → node ≤ n → 1 ≤ k → IsAncestor k node ⊎ (IsAncestor k node → ⊥)
+ancestor-told zero k node most some = inr (λ a. let le = ancestor-le k node a in omega (arith, le, most, some))
+ancestor-told (suc n) k node most some =
+    elim (cases_eq k node) [
+      | inl e ↦ inl record { steps = 0; is = sym e }
+      | inr ne ↦ elim (cases_lt k node) [
+        | inl lt ↦ elim (ancestor-told n k (node / 2) (omega (arith, most, lt)) some) [
+          | inl a ↦ inl record { steps = suc a.steps; is = a.is }
+          | inr away ↦ inr (λ a. elim (ancestor-cases k node a) [
+            | inl e ↦ absurd (ne e)
+            | inr higher ↦ away higher
+          ])
+        ]
+        | inr ge ↦ inr (λ a. let le = ancestor-le k node a in absurd (ne (omega (arith, le, ge))))
+      ]
     ]
 
--- a node goes before those below it
-parent_first : (room : ℕ) (nodes : List (Option Due)) → IsSettledBut room nodes 0 → (k : ℕ) → 2 ≤ k → k < 2 * room
-    → NotLater (node nodes (k / 2)) (node nodes k)
-parent_first room nodes settled k low below =
-    let right = settled.each (k / 2) (omega arith) (omega arith) (λ e. omega arith) in
-    let both = sooner-first (node nodes (2 * (k / 2))) (node nodes (2 * (k / 2) + 1)) in
-    let at_parent : NotLater (sooner (node nodes (2 * (k / 2))) (node nodes (2 * (k / 2) + 1))) (node nodes k) =
-    elim (cases_eq (2 * (k / 2)) k) [
-      | inl e ↦ subst (λ (j : ℕ). NotLater (sooner (node nodes (2 * (k / 2))) (node nodes (2 * (k / 2) + 1))) (node nodes j)) e both.0
+-- the root is above each node
+root_above : (n node : ℕ) → node ≤ n → 1 ≤ node → IsAncestor 1 node
+root_above zero node most some = absurd (omega (arith, most, some))
+root_above (suc n) node most some =
+    elim (cases_eq node 1) [
+      | inl e ↦ record { steps = 0; is = e }
       | inr ne ↦
-          let e : 2 * (k / 2) + 1 ≡ k = omega arith in
-          subst (λ (j : ℕ). NotLater (sooner (node nodes (2 * (k / 2))) (node nodes (2 * (k / 2) + 1))) (node nodes j)) e both.1
-    ]
-    in
-    subst (λ (x : Option Due). NotLater x (node nodes k)) (sym right) at_parent
-
--- the root goes before every node up to n
-root_first : (n room : ℕ) (nodes : List (Option Due)) → IsSettledBut room nodes 0
-    → (k : ℕ) → k ≤ n → 1 ≤ k → k < 2 * room → NotLater (node nodes 1) (node nodes k)
-root_first zero room nodes settled k most some below = absurd (omega arith)
-root_first (suc n) room nodes settled k most some below =
-    elim (cases_eq k 1) [
-      | inl e ↦ subst (λ (j : ℕ). NotLater (node nodes 1) (node nodes j)) (sym e) (NotLater-refl (node nodes 1))
-      | inr ne ↦
-          let low : 2 ≤ k = omega arith in
-          let half = root_first n room nodes settled (k / 2) (omega arith) (omega arith) (omega arith) in
-          NotLater-trans (node nodes 1) (node nodes (k / 2)) (node nodes k) half (parent_first room nodes settled k low below)
+          let a = root_above n (node / 2) (omega (arith, most, ne, some)) (omega (arith, ne, some)) in
+          record { steps = suc a.steps; is = a.is }
     ]
 
--- each node is one of the leaves
-leaf_of : (n room : ℕ) (nodes : List (Option Due)) → IsSettledBut room nodes 0
-    → (k : ℕ) → 2 * room ≤ k + n → 1 ≤ k → k < 2 * room
-    → (id : ℕ) × (id < room) × (node nodes k ≡ node nodes (room + id))
-leaf_of zero room nodes settled k most some below = absurd (omega arith)
-leaf_of (suc n) room nodes settled k most some below =
-    elim (cases_lt k room) [
-      | inl inner ↦
-          let right = settled.each k some inner (λ e. omega arith) in
-          elim (sooner-either (node nodes (2 * k)) (node nodes (2 * k + 1))) [
-            | inl e ↦
-                let leaf = leaf_of n room nodes settled (2 * k) (omega arith) (omega arith) (omega arith) in
-                (leaf.0, leaf.1, right ∙ e ∙ leaf.2)
-            | inr e ↦
-                let leaf = leaf_of n room nodes settled (2 * k + 1) (omega arith) (omega arith) (omega arith) in
-                (leaf.0, leaf.1, right ∙ e ∙ leaf.2)
-          ]
-      | inr leaf ↦ (k - room, omega arith, ap (node nodes) (omega arith))
+-- under a leaf is its own id alone
+leaf_first : (moments : List (Option Moment)) (id : ℕ) → id < length moments → IsFirstUnder moments (length moments + id) id
+leaf_first moments id below = record {
+  below = below;
+  under = ancestor-self (length moments + id);
+  first = λ other inside a. elim (ancestor-cases (length moments + id) (length moments + other) a) [
+    | inl e ↦
+        let same : id ≡ other = omega (arith, e) in
+        subst (λ (o : ℕ). is_before moments o id ≡ false) same (precedes-same (due_of moments id) id)
+    | inr higher ↦ let le = ancestor-le (length moments + id) ((length moments + other) / 2) higher in absurd (omega (arith, le, inside))
+  ];
+}
+
+-- the sooner one of the first two under two nodes is the first under the node above
+sooner_first : (moments : List (Option Moment)) (k a b : ℕ) → k < length moments
+    → IsFirstUnder moments (2 * k) a → IsFirstUnder moments (2 * k + 1) b → IsFirstUnder moments k (sooner moments a b)
+sooner_first moments k a b inner left right =
+    elim (is_before moments b a) as (λ test. is_before moments b a ≡ test → IsFirstUnder moments k (if test then b else a)) [
+      | true ↦ λ e. record {
+        below = right.below;
+        under = subst (λ (j : ℕ). IsAncestor j (length moments + b)) (omega arith) (ancestor-parent (2 * k + 1) (length moments + b) right.under);
+        first = λ other inside under. elim (ancestor-down k (length moments + other) under) [
+          | inl here ↦ absurd (omega (arith, here, inner))
+          | inr (inl l) ↦
+              not_before-trans moments b a other
+              (precedes-not_both (due_of moments a) a (due_of moments b) b e) (left.first other inside l)
+          | inr (inr r) ↦ right.first other inside r
+        ];
+      }
+      | false ↦ λ e. record {
+        below = left.below;
+        under = subst (λ (j : ℕ). IsAncestor j (length moments + a)) (omega arith) (ancestor-parent (2 * k) (length moments + a) left.under);
+        first = λ other inside under. elim (ancestor-down k (length moments + other) under) [
+          | inl here ↦ absurd (omega (arith, here, inner))
+          | inr (inl l) ↦ left.first other inside l
+          | inr (inr r) ↦ not_before-trans moments a b other e (right.first other inside r)
+        ];
+      }
+    ] refl
+
+pub winner-inner : (winners : List ℕ) (k : ℕ) → k < length winners → winner winners k ≡ slice_index_or winners k 0
+winner-inner winners k inner =
+    let test : nat_lt k (length winners) ≡ true = grind (arith, nat_tests, inner) in
+    ap (λ (t : Bool). if t then slice_index_or winners k 0 else k - length winners) test
+
+pub winner-leaf : (winners : List ℕ) (k : ℕ) → length winners ≤ k → winner winners k ≡ k - length winners
+winner-leaf winners k leaf =
+    let test : nat_lt k (length winners) ≡ false = grind (arith, nat_tests, leaf) in
+    ap (λ (t : Bool). if t then slice_index_or winners k 0 else k - length winners) test
+
+-- a winner is written at one node, and elsewhere stands what stood there
+pub winner-set_same : (winners : List ℕ) (k id : ℕ) → k < length winners → winner (set winners k id) k ≡ id
+winner-set_same winners k id inner =
+    let len = length-set winners k id in
+    winner-inner (set winners k id) k (omega (arith, len, inner)) ∙ get_or-set_same winners k id 0 inner
+
+pub winner-set_other : (winners : List ℕ) (k id j : ℕ) → j ≢ k → winner (set winners k id) j ≡ winner winners j
+winner-set_other winners k id j other =
+    ap (λ (n : ℕ). if nat_lt j n then slice_index_or (set winners k id) j 0 else j - n) (length-set winners k id)
+    ∙ ap (λ (x : ℕ). if nat_lt j (length winners) then x else j - length winners) (get_or-set_other winners k j id 0 other)
+
+at_leaf : (moments : List (Option Moment)) (winners : List ℕ) (k : ℕ) → length winners ≡ length moments → length moments ≤ k → k < 2 * length moments
+    → IsFirstUnder moments k (winner winners k)
+at_leaf moments winners k size leaf below =
+    let is : k - length winners ≡ winner winners k = sym (winner-leaf winners k (omega (arith, size, leaf))) in
+    let node : length moments + (k - length winners) ≡ k = omega (arith, size, leaf) in
+    let first = leaf_first moments (k - length winners) (omega (arith, size, leaf, below)) in
+    subst (λ (id : ℕ). IsFirstUnder moments k id) is (subst (λ (j : ℕ). IsFirstUnder moments j (k - length winners)) node first)
+
+-- at each node of a tree, leaf or not, the first of the ids under it
+pub right : (moments : List (Option Moment)) (winners : List ℕ) → IsTree moments winners → (k : ℕ) → 1 ≤ k → k < 2 * length moments
+    → IsFirstUnder moments k (winner winners k)
+right moments winners tree k some below =
+    elim (cases_lt k (length moments)) [
+      | inl inner ↦ tree.each k some inner
+      | inr leaf ↦ at_leaf moments winners k tree.size leaf below
     ]
 
-map-none : (n : ℕ) → map moment_of (replicate n None) ≡ replicate n None
-map-none zero = refl
-map-none (suc n) = ap (λ (dues : List (Option Moment)). None ∷ dues) (map-none n)
+-- where the nodes after k are right, so is what is played at k
+pub played : (moments : List (Option Moment)) (winners : List ℕ) (k : ℕ) → length winners ≡ length moments → 1 ≤ k → k < length moments
+    → ((j : ℕ) → k < j → j < length moments → IsFirstUnder moments j (winner winners j))
+    → IsFirstUnder moments k (sooner moments (winner winners (2 * k)) (winner winners (2 * k + 1)))
+played moments winners k size some inner later =
+    sooner_first moments k (winner winners (2 * k)) (winner winners (2 * k + 1)) inner
+    (child (2 * k) (omega (arith, some)) (omega (arith, inner))) (child (2 * k + 1) (omega (arith, some)) (omega (arith, inner)))
+  where
+    child : (j : ℕ) → k < j → j < 2 * length moments → IsFirstUnder moments j (winner winners j)
+    child j after below =
+        elim (cases_lt j (length moments)) [
+          | inl inside ↦ later j after inside
+          | inr leaf ↦ at_leaf moments winners j size leaf below
+        ]
 
--- a leaf changes, and of the dues that one alone
-pub dues_of-set : (room : ℕ) (nodes : List (Option Due)) (id : ℕ) (due : Option Due)
-    → dues_of room (set nodes (room + id) due) ≡ set (dues_of room nodes) id (moment_of due)
-dues_of-set room nodes id due =
-    ap (map moment_of) (drop-set-add room nodes id due) ∙ map-set moment_of (drop room nodes) id due
+-- the nodes from k on are right
+pub record IsRightFrom (k : ℕ) (moments : List (Option Moment)) (winners : List ℕ) : Type 0 where
+  pub size : length winners ≡ length moments
+  pub each : (j : ℕ) → 1 ≤ j → k ≤ j → j < length moments → IsFirstUnder moments j (winner winners j)
 
--- without any due in the nodes no id has one
-pub dues_of-none : (room : ℕ) (nodes : List (Option Due)) → nodes ≡ replicate (room * 2) None
-    → dues_of room nodes ≡ replicate room None
-dues_of-none room nodes none =
-    ap (dues_of room) none
-    ∙ ap (map moment_of) (drop-replicate room (room * 2) None ∙ ap (λ (n : ℕ). replicate n None) (omega arith))
-    ∙ map-none room
+pub right_from : (k : ℕ) (moments : List (Option Moment)) (winners : List ℕ) → 1 ≤ k → k < length moments → IsRightFrom (suc k) moments winners
+    → IsRightFrom k moments (set winners k (sooner moments (winner winners (2 * k)) (winner winners (2 * k + 1))))
+right_from k moments winners some inner from =
+    let id = sooner moments (winner winners (2 * k)) (winner winners (2 * k + 1)) in
+    let len = length-set winners k id in
+    let size = from.size in
+    record {
+      size = len ∙ size;
+      each = λ j one after inside. elim (cases_eq j k) [
+        | inl e ↦
+            let here = played moments winners k size some inner (λ i low high. from.each i (omega (arith, low)) (omega (arith, low)) high) in
+            subst (λ (i : ℕ). IsFirstUnder moments i (winner (set winners k id) i)) (sym e)
+            (subst (λ (w : ℕ). IsFirstUnder moments k w) (sym (winner-set_same winners k id (omega (arith, size, inner)))) here)
+        | inr ne ↦
+            subst (λ (w : ℕ). IsFirstUnder moments j w) (sym (winner-set_other winners k id j ne))
+            (from.each j one (omega (arith, after, ne)) inside)
+      ];
+    }
 
--- an id's due is the moment of its leaf
-pub due_of-dues_of : (room : ℕ) (nodes : List (Option Due)) (id : ℕ)
-    → due_of (dues_of room nodes) id ≡ moment_of (node nodes (room + id))
-due_of-dues_of room nodes id =
-    get_or-map moment_of (drop room nodes) id None ∙ ap moment_of (get_or-drop room nodes id None)
+-- the first of all, at the root
+pub root_first : (moments : List (Option Moment)) (winners : List ℕ) → IsTree moments winners → (id : ℕ) → id < length moments
+    → is_before moments id (winner winners 1) ≡ false
+root_first moments winners tree id below =
+    (right moments winners tree 1 (omega arith) (omega (arith, below))).first id below
+    (root_above (length moments + id) (length moments + id) (omega arith) (omega (arith, below)))
 
--- a node that has a due is within the tree
-pub within : (nodes : List (Option Due)) (k : ℕ) (d : Due) → node nodes k ≡ Some d → k < length nodes
-within nodes k d e =
-    elim (cases_lt k (length nodes)) [
+-- an id that is armed is below the room
+pub armed_below : (moments : List (Option Moment)) (id : ℕ) (at : Moment) → IsArmed moments id at → id < length moments
+armed_below moments id at armed =
+    elim (cases_lt id (length moments)) [
       | inl lt ↦ lt
-      | inr past ↦ let none : node nodes k ≡ None = get_or_past nodes k None past in absurd (cc)
+      | inr past ↦ let none : due_of moments id ≡ None = get_or_past moments id None past in absurd (cc)
     ]
 
--- a leaf that has a moment has a due at it
-pub due_of_moment : (x : Option Due) (at : Moment) → moment_of x ≡ Some at → (d : Due) × (x ≡ Some d) × (d.at ≡ at)
-due_of_moment None at e = absurd (cc)
-due_of_moment (Some d) at e = (d, refl, (cc))
+precedes-none : (x : Option Moment) (a : ℕ) (at : Moment) (b : ℕ) → x ≡ None → precedes (Some at) b x a ≡ false → ⊥
+precedes-none x a at b none not =
+    let e : true ≡ false = ap (λ (y : Option Moment). precedes (Some at) b y a) (sym none) ∙ not in
+    absurd (cc)
 
--- where a leaf has a due, its id is the leaf's
-pub id_of_leaf : (room : ℕ) (nodes : List (Option Due)) → IsTree room nodes
-    → (id : ℕ) (d : Due) → id < room → node nodes (room + id) ≡ Some d → d.id ≡ id
-id_of_leaf room nodes tree id d below e = subst (λ (x : Option Due). IfSome x (λ due. due.id ≡ id)) e (tree.leaves id below)
+precedes-goes_first : (at : Moment) (a : ℕ) (other : Moment) (b : ℕ) → precedes (Some other) b (Some at) a ≡ false → GoesFirst at a other b
+precedes-goes_first at a other b not =
+    record { by_moment = grind (arith, nat_tests, not); then_by_id = λ (same : at.0 ≡ other.0). grind (arith, nat_tests, not, same) }
 
--- the root's due is that of its id
-pub root_armed : (room : ℕ) (nodes : List (Option Due)) → IsTree room nodes
-    → (d : Due) → node nodes 1 ≡ Some d → IsArmed (dues_of room nodes) d.id d.at
-root_armed room nodes tree d root =
-    let in_tree : 1 < length nodes = within nodes 1 d root in
-    let len = tree.size in
-    let leaf = leaf_of (2 * room) room nodes tree.settled 1 (omega arith) (omega arith) (omega arith) in
-    let at_leaf : node nodes (room + leaf.0) ≡ Some d = sym leaf.2 ∙ root in
-    let id = id_of_leaf room nodes tree leaf.0 d leaf.1 at_leaf in
-    subst (λ (i : ℕ). IsArmed (dues_of room nodes) i d.at) (sym id)
-    (due_of-dues_of room nodes leaf.0 ∙ ap moment_of at_leaf)
+-- with no moment at the root no id is armed
+pub root_none : (moments : List (Option Moment)) (winners : List ℕ) → IsTree moments winners → due_of moments (winner winners 1) ≡ None
+    → (id : ℕ) (at : Moment) → IsArmed moments id at → ⊥
+root_none moments winners tree none id at armed =
+    precedes-none (due_of moments (winner winners 1)) (winner winners 1) at id none
+    (subst (λ (x : Option Moment). precedes x id (due_of moments (winner winners 1)) (winner winners 1) ≡ false) armed
+    (root_first moments winners tree id (armed_below moments id at armed)))
 
--- what an armed id has in the tree, and that the root is no later
-pub armed_leaf : (room : ℕ) (nodes : List (Option Due)) → IsTree room nodes
-    → (id : ℕ) (at : Moment) → IsArmed (dues_of room nodes) id at
-    → (d : Due) × (d.at ≡ at) × (d.id ≡ id) × NotLater (node nodes 1) (Some d)
-armed_leaf room nodes tree id at armed =
-    let due = due_of_moment (node nodes (room + id)) at (sym (due_of-dues_of room nodes id) ∙ armed) in
-    let in_tree : room + id < length nodes = within nodes (room + id) due.0 due.1 in
-    let len = tree.size in
-    let same = id_of_leaf room nodes tree id due.0 (omega arith) due.1 in
-    let first = root_first (room + id) room nodes tree.settled (room + id) (omega arith) (omega arith) (omega arith) in
-    (due.0, due.2, same, subst (λ (x : Option Due). NotLater (node nodes 1) x) due.1 first)
-
--- the root goes before every armed id
-pub root_goes_first : (room : ℕ) (nodes : List (Option Due)) → IsTree room nodes
-    → (d : Due) → node nodes 1 ≡ Some d
-    → (id : ℕ) (at : Moment) → IsArmed (dues_of room nodes) id at → GoesFirst d.at d.id at id
-root_goes_first room nodes tree d root id at armed =
-    let leaf = armed_leaf room nodes tree id at armed in
-    let first : GoesFirst d.at d.id leaf.0.at leaf.0.id =
-    subst (λ (x : Option Due). NotLater x (Some leaf.0)) root leaf.3
-    in
-    let by_moment : GoesFirst d.at d.id at leaf.0.id = subst (λ (m : Moment). GoesFirst d.at d.id m leaf.0.id) leaf.1 first in
-    subst (λ (i : ℕ). GoesFirst d.at d.id at i) leaf.2 by_moment
-
--- with no due at the root no id is armed
-pub root_none : (room : ℕ) (nodes : List (Option Due)) → IsTree room nodes → node nodes 1 ≡ None
-    → (id : ℕ) (at : Moment) → IsArmed (dues_of room nodes) id at → ⊥
-root_none room nodes tree root id at armed =
-    let leaf = armed_leaf room nodes tree id at armed in
-    subst (λ (x : Option Due). NotLater x (Some leaf.0)) root leaf.3
+-- an armed id at the root goes before every armed id
+pub root_goes_first : (moments : List (Option Moment)) (winners : List ℕ) → IsTree moments winners
+    → (root : Moment) → due_of moments (winner winners 1) ≡ Some root
+    → (id : ℕ) (at : Moment) → IsArmed moments id at → GoesFirst root (winner winners 1) at id
+root_goes_first moments winners tree root is id at armed =
+    precedes-goes_first root (winner winners 1) at id
+    (subst (λ (x : Option Moment). precedes (Some at) id x (winner winners 1) ≡ false) is
+    (subst (λ (x : Option Moment). precedes x id (due_of moments (winner winners 1)) (winner winners 1) ≡ false) armed
+    (root_first moments winners tree id (armed_below moments id at armed))))

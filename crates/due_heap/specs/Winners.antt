@@ -1,42 +1,62 @@
--- The tree of winners: its leaves are the ids, and each other node is the sooner one of the two nodes below it.
-use Rattle.std.specs.Prelude.{ℕ, ◌+◌, ◌*◌, ◌≤◌, ◌<◌, ◌==◌, ◌≡◌, ◌≢◌, nat_lt, nat_le, ◌||◌, ◌&&◌, Bool, false, if◌then◌else◌, Option, Some, None, List, length, map, drop, slice_index_or, IfSome}
+-- The tree of winners. Its nodes are numbered: the root is 1, and below k are 2k and 2k + 1. With n ids the nodes below n hold winners,
+-- and the n nodes from n on are the leaves, one an id. The winner at a node is the first of the ids whose leaves are under it.
+use Rattle.std.specs.Prelude.{ℕ, zero, suc, ◌+◌, ◌-◌, ◌/◌, ◌^◌, ◌≤◌, ◌<◌, ◌==◌, ◌≡◌, ◌≢◌, nat_lt, nat_le, ◌||◌, ◌&&◌, Bool, true, false, if◌then◌else◌, Option, Some, None, List, length, slice_index_or}
 use Rattle.sched_base.specs.declared.Moment.{Moment}
-use Rattle.due_heap.specs.declared.due.Due.{Due}
+use Rattle.due_heap.specs.Dues.{due_of}
 
--- whether a due goes before another, by moment, then id
-abbrev pub is_before : Due → Due → Bool
-is_before a b = nat_lt a.at.0 b.at.0 || (a.at.0 == b.at.0 && nat_lt a.id b.id)
+-- whether an id with its moment goes before another with its own: by moment, none after all, then by id
+abbrev pub precedes : Option Moment → ℕ → Option Moment → ℕ → Bool
+precedes (Some x) a (Some y) b = nat_lt x.0 y.0 || (x.0 == y.0 && nat_lt a b)
+precedes (Some x) a None b = true
+precedes None a (Some y) b = false
+precedes None a None b = nat_lt a b
 
--- the due that goes first, where there is one
-abbrev pub sooner : Option Due → Option Due → Option Due
-sooner None b = b
-sooner (Some a) None = Some a
-sooner (Some a) (Some b) = (if is_before b a then Some b else Some a)
+-- whether an id goes before another
+abbrev pub is_before : List (Option Moment) → ℕ → ℕ → Bool
+is_before moments a b = precedes (due_of moments a) a (due_of moments b) b
 
--- whether there is a due and its moment has come at t
-abbrev pub is_due_at : ℕ → Option Due → Bool
-is_due_at t None = false
-is_due_at t (Some d) = nat_le d.at.0 t
+-- of two ids the one that goes first
+abbrev pub sooner : List (Option Moment) → ℕ → ℕ → ℕ
+sooner moments a b = (if is_before moments b a then b else a)
 
--- the node with that number; the root is 1, and below k are 2k and 2k + 1
-abbrev pub node : List (Option Due) → ℕ → Option Due
-node nodes k = slice_index_or nodes k None
+-- whether there is a moment and it has come at t
+abbrev pub is_past : ℕ → Option Moment → Bool
+is_past t None = false
+is_past t (Some at) = nat_le at.0 t
 
--- the moment of a leaf
-abbrev pub moment_of : Option Due → Option Moment
-moment_of None = None
-moment_of (Some d) = Some d.at
+-- whether an id is armed with a moment that has come at t
+abbrev pub has_come : List (Option Moment) → ℕ → ℕ → Bool
+has_come moments t id = is_past t (due_of moments id)
 
--- the moments of the leaves, which come after the other nodes
-abbrev pub dues_of : ℕ → List (Option Due) → List (Option Moment)
-dues_of room nodes = map moment_of (drop room nodes)
+-- the winner at a node: a leaf's is its own id
+abbrev pub winner : List ℕ → ℕ → ℕ
+winner winners k = (if nat_lt k (length winners) then slice_index_or winners k 0 else k - length winners)
 
--- each node that is no leaf is the sooner of the two below it, but for one that may be wrong; with 0, which is no node, all are
-pub record IsSettledBut (room : ℕ) (nodes : List (Option Due)) (but : ℕ) : Type 0 where
-  pub each : (k : ℕ) → 1 ≤ k → k < room → k ≢ but → node nodes k ≡ sooner (node nodes (2 * k)) (node nodes (2 * k + 1))
+-- the node so many steps above another
+abbrev pub up : ℕ → ℕ → ℕ
+up zero node = node
+up (suc steps) node = up steps (node / 2)
 
--- a tree with so many leaves, each with its own id
-pub record IsTree (room : ℕ) (nodes : List (Option Due)) : Type 0 where
-  pub size : length nodes ≡ 2 * room
-  pub leaves : (id : ℕ) → id < room → IfSome (node nodes (room + id)) (λ d. d.id ≡ id)
-  pub settled : IsSettledBut room nodes 0
+-- the node k is the other node or above it
+pub record IsAncestor (k node : ℕ) : Type 0 where
+  pub steps : ℕ
+  pub is : up steps node ≡ k
+
+-- the id is the first of those whose leaves are under the node k
+pub record IsFirstUnder (moments : List (Option Moment)) (k id : ℕ) : Type 0 where
+  pub below : id < length moments
+  pub under : IsAncestor k (length moments + id)
+  pub first : (other : ℕ) → other < length moments → IsAncestor k (length moments + other) → is_before moments other id ≡ false
+
+-- the winners of the ids that have these moments; the ids are numbers of 16 bits
+pub record IsTree (moments : List (Option Moment)) (winners : List ℕ) : Type 0 where
+  pub few : length moments ≤ 2 ^ 16
+  pub size : length winners ≡ length moments
+  pub each : (k : ℕ) → 1 ≤ k → k < length moments → IsFirstUnder moments k (winner winners k)
+
+-- the winners as they were before one id's moment changed
+pub record IsTreeBut (id : ℕ) (moments : List (Option Moment)) (winners : List ℕ) : Type 0 where
+  pub before : List (Option Moment)
+  pub tree : IsTree before winners
+  pub size : length before ≡ length moments
+  pub same : (other : ℕ) → other ≢ id → due_of before other ≡ due_of moments other

@@ -1,26 +1,31 @@
 //! A heap of moments by id: each of a fixed number of ids may be due at a moment, and the first of them is at hand.
 //!
-//! It is a tree of winners: the leaves are the ids in turn, and each other node is the sooner one of the two below it.
-//! So the root is the first of all, and a change of one id is carried up one path, in steps by the logarithm of the room.
+//! It is a tree of winners: the leaves are the ids in turn, and at each other node stands the first of the ids under it.
+//! So the root has the first of all, and a change of one id is carried up one path, in steps by the logarithm of the room.
+//! A node holds no more than the id, whose moment stands in a list of its own: 18 bytes an id.
 #![tactic(auto)]
 
-ghost use Rattle.std.specs.Prelude.{◌≡◌, ◌+◌, ◌*◌, ◌/◌, ◌<◌, ◌≤◌, length, drop};
-ghost use Rattle.std.specs.Prelude.{ℕ, true, false, if◌then◌else◌};
+ghost use Rattle.std.specs.Prelude.{ℕ, ◌≡◌, ◌+◌, ◌*◌, ◌^◌, ◌<◌, ◌≤◌, length, true, false, if◌then◌else◌};
 ghost use Rattle.due_heap.specs.Dues.{IsPowerOfTwo};
-ghost use Rattle.due_heap.specs.Winners.{IsSettledBut, node, is_due_at};
+ghost use Rattle.due_heap.specs.Winners.{IsTree, IsTreeBut};
+ghost use Rattle.due_heap.specs.Winners as tree;
 
-mod due;
+mod order;
 
-use due::{Due, is_due, sooner};
+use order::{due_of, has_come, sooner};
 use sched_base::{Moment, NoMemory};
 use std::alloc::Global;
 use std::marker::Model;
 
+/// The ids that a `u16` can name.
+const IDS: usize = 65_536;
+
 /// The heap. Contracts see it as the list of its ids' moments, with none where an id is not armed.
 #[derive(Drop)]
 pub struct DueHeap {
-    room: usize,
-    nodes: Vec<Option<Due>>,
+    moments: Vec<Option<Moment>>,
+    /// The winner at each node that is no leaf, from 1 on; the entry at 0 stands for no node.
+    winners: Vec<u16>,
 }
 
 impl Model for DueHeap {
@@ -29,81 +34,120 @@ impl Model for DueHeap {
 
     ghost Value = { List (Option Moment) };
 
-    ghost use Rattle.due_heap.specs.Winners.{dues_of, IsTree};
+    ghost use Rattle.due_heap.specs.Winners.{IsTree};
 
-    ghost view = { λ a. dues_of a.room a.nodes.items };
+    ghost view = { λ a. a.moments.items };
 
-    ghost invariant = { λ a. IsTree a.room a.nodes.items };
+    ghost invariant = { λ a. IsTree a.moments.items a.winners.items };
 }
 
-/// The root, which is none where there is no leaf.
-fn root(nodes: &[Option<Due>]) -> Option<Due>
-    ensures { result ≡ node nodes.now 1 }
+/// The winner at a node, which is a leaf's own id.
+fn winner(winners: &[u16], k: usize) -> u16
+    requires fits { k < length winners.now + 2 ^ 16 }
+    ensures { result ≡ tree.winner winners.now k }
 {
-    if nodes.len() > 1 { nodes[1] } else { None }
+    if k < winners.len() {
+        winners[k]
+    } else {
+        (k - winners.len()) as u16
+    }
 }
 
-/// Carries a changed leaf up to the root.
-fn settle(nodes: &mut [Option<Due>], room: usize, leaf: usize)
-    requires length { length nodes.old ≡ 2 * room }
-    requires below { leaf < 2 * room }
-    requires but { IsSettledBut room nodes.old (leaf / 2) }
-    ensures settled { IsSettledBut room nodes.new 0 }
-    ensures leaves { drop room nodes.new ≡ drop room nodes.old }
+/// The sooner one of the winners at the two nodes below.
+fn play(moments: &[Option<Moment>], winners: &[u16], k: usize) -> u16
+    requires few { length winners.now ≤ 2 ^ 16 }
+    requires inner { k < length winners.now }
+    ensures { result ≡ tree.sooner moments.now (tree.winner winners.now (2 * k)) (tree.winner winners.now (2 * k + 1)) }
 {
-    let mut k = leaf / 2;
+    sooner(moments, winner(winners, 2 * k), winner(winners, 2 * k + 1))
+}
+
+/// Writes the winner at each node, from the last to the root.
+fn play_all(moments: &[Option<Moment>], winners: &mut [u16])
+    requires few { length moments.now ≤ 2 ^ 16 }
+    requires size { length winners.old ≡ length moments.now }
+    ensures { IsTree moments.now winners.new }
+{
+    let mut k = winners.len();
+    while k > 1 {
+        k -= 1;
+        winners[k] = play(moments, winners, k);
+    }
+}
+
+/// Carries the changed moment of an id from its leaf up to the root.
+fn settle(moments: &[Option<Moment>], winners: &mut [u16], id: u16)
+    requires id { id < length moments.now }
+    requires but { IsTreeBut id moments.now winners.old }
+    ensures { IsTree moments.now winners.new }
+{
+    let mut k = (winners.len() + id as usize) / 2;
     while k > 0 {
-        let winner = sooner(nodes[2 * k], nodes[2 * k + 1]);
-        if nodes[k] == winner {
+        let first = play(moments, winners, k);
+        // Where the changed id wins, the nodes above that hold it are played again with its new moment.
+        if winners[k] == first && first != id {
             return;
         }
-        nodes[k] = winner;
+        winners[k] = first;
         k /= 2;
     }
 }
 
-/// The one of the two nodes below that comes first from the left and is due at t, where one is.
-fn below(nodes: &[Option<Due>], room: usize, k: usize, t: Moment) -> usize
-    requires length { length nodes.now ≡ 2 * room }
-    requires inner { k < room }
-    ensures { result ≡ (if is_due_at t.0 (node nodes.now (2 * k)) then 2 * k else 2 * k + 1) }
+/// The one of the two nodes below that comes first from the left and whose winner's moment has come at t, where one is.
+fn below(moments: &[Option<Moment>], winners: &[u16], k: usize, t: Moment) -> usize
+    requires few { length winners.now ≤ 2 ^ 16 }
+    requires inner { k < length winners.now }
+    ensures { result ≡ (if tree.has_come moments.now t.0 (tree.winner winners.now (2 * k)) then 2 * k else 2 * k + 1) }
 {
-    if is_due(nodes[2 * k], t) {
+    if has_come(moments, winner(winners, 2 * k), t) {
         2 * k
     } else {
         2 * k + 1
     }
 }
 
-/// Goes from the root down to the first leaf, from the left, whose moment has come at t.
-fn leftmost(nodes: &[Option<Due>], room: usize, t: Moment) -> usize
-    requires length { length nodes.now ≡ 2 * room }
-    requires power { IsPowerOfTwo room }
-    requires settled { IsSettledBut room nodes.now 0 }
-    requires root { is_due_at t.0 (node nodes.now 1) ≡ true }
-    ensures leaf { room ≤ result }
-    ensures below { result < 2 * room }
-    ensures due { is_due_at t.0 (node nodes.now result) ≡ true }
-    ensures first { (k : ℕ) → room ≤ k → k < result → is_due_at t.0 (node nodes.now k) ≡ false }
+/// Goes from the root down to the first leaf, from the left, of an id whose moment has come at t, and gives the id.
+fn leftmost(moments: &[Option<Moment>], winners: &[u16], t: Moment) -> u16
+    requires tree { IsTree moments.now winners.now }
+    requires power { IsPowerOfTwo (length moments.now) }
+    requires root { tree.has_come moments.now t.0 (tree.winner winners.now 1) ≡ true }
+    ensures come { tree.has_come moments.now t.0 result ≡ true }
+    ensures first { (id : ℕ) → id < result → tree.has_come moments.now t.0 id ≡ false }
 {
     let mut k = 1;
-    while k < room {
-        k = below(nodes, room, k, t);
+    while k < winners.len() {
+        k = below(moments, winners, k, t);
     }
-    k
+    (k - winners.len()) as u16
 }
 
 impl DueHeap {
     ghost use Rattle.std.specs.Prelude.{ℕ, ◌≡◌, ◌<◌, ◌≤◌, Some, None, IfOk, IfSome, IfNone, length, replicate, slice_set};
     ghost use Rattle.due_heap.specs.Dues.{IsArmed, GoesFirst, HasCome, IsPowerOfTwo};
 
-    /// A heap for the ids below n, none of them armed.
+    /// A heap for the ids below n, none of them armed. `NoMemory` also where n is above the 65,536 ids that there are.
     pub fn room(alloc: Global, n: usize) -> Result<DueHeap, NoMemory>
         ensures { IfOk result (λ heap. heap ≡ replicate n None) }
     {
-        let all = n.checked_mul(2).ok_or(NoMemory)?;
-        let nodes = vec![in alloc; None; all]?;
-        Ok(DueHeap { room: n, nodes })
+        if n > IDS {
+            return Err(NoMemory);
+        }
+        let moments = vec![in alloc; None; n]?;
+        let mut winners = vec![in alloc; 0; n]?;
+        play_all(moments.as_slice(), winners.as_mut_slice());
+        Ok(DueHeap { moments, winners })
+    }
+
+    /// Gives an id below the room its moment, or none.
+    fn set_due(&mut self, id: u16, due: Option<Moment>)
+        requires { id < length self.old }
+        ensures { self.new ≡ slice_set self.old id due }
+    {
+        if self.moments[id as usize] == due {
+            return;
+        }
+        self.moments[id as usize] = due;
+        settle(self.moments.as_slice(), self.winners.as_mut_slice(), id);
     }
 
     /// Makes an id below the room due at a moment, in place of the moment that it had.
@@ -111,19 +155,15 @@ impl DueHeap {
         requires { id < length self.old }
         ensures { self.new ≡ slice_set self.old id (Some at) }
     {
-        let leaf = self.room + id as usize;
-        self.nodes[leaf] = Some(Due { at, id });
-        settle(self.nodes.as_mut_slice(), self.room, leaf);
+        self.set_due(id, Some(at));
     }
 
     /// Makes an id due at no moment. An id that is not armed, or not below the room, changes nothing.
     pub fn disarm(&mut self, id: u16)
         ensures { self.new ≡ slice_set self.old id None }
     {
-        if (id as usize) < self.room {
-            let leaf = self.room + id as usize;
-            self.nodes[leaf] = None;
-            settle(self.nodes.as_mut_slice(), self.room, leaf);
+        if (id as usize) < self.moments.len() {
+            self.set_due(id, None);
         }
     }
 
@@ -135,14 +175,11 @@ impl DueHeap {
         ensures come { IfSome result (λ id. HasCome self.now t.0 id) }
         ensures first { IfSome result (λ id. (other : ℕ) → HasCome self.now t.0 other → id ≤ other) }
     {
-        if !is_due(root(self.nodes.as_slice()), t) {
+        let root = winner(self.winners.as_slice(), 1);
+        if !has_come(self.moments.as_slice(), root, t) {
             return None;
         }
-        let leaf = leftmost(self.nodes.as_slice(), self.room, t);
-        match self.nodes[leaf] {
-            Some(due) => Some(due.id),
-            None => None,
-        }
+        Some(leftmost(self.moments.as_slice(), self.winners.as_slice(), t))
     }
 
     /// The first of the armed ids with its moment: the least by moment, then by id. `None` where none is armed.
@@ -151,8 +188,9 @@ impl DueHeap {
         ensures armed { IfSome result (λ due. IsArmed self.now due.1 due.0) }
         ensures first { IfSome result (λ due. (id : ℕ) (at : Moment) → IsArmed self.now id at → GoesFirst due.0 due.1 at id) }
     {
-        match root(self.nodes.as_slice()) {
-            Some(due) => Some((due.at, due.id)),
+        let root = winner(self.winners.as_slice(), 1);
+        match due_of(self.moments.as_slice(), root) {
+            Some(at) => Some((at, root)),
             None => None,
         }
     }

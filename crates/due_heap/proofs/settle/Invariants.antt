@@ -1,13 +1,10 @@
-use Rattle.std.proofs.Common.{◌≡◌, ◌<◌, drop}
-use Rattle.due_heap.specs.Winners.{IsSettledBut}
+use Rattle.std.proofs.Common.{List, Option}
+use Rattle.sched_base.specs.declared.Moment.{Moment}
+use Rattle.due_heap.proofs.Rise.{IsRising}
 use Rattle.due_heap.proofs.settle.Given as goal
 
 abbrev pub invariant-loop-k : goal.invariant-loop-k
-invariant-loop-k l = record {
-  below : l.k < l.room;
-  settled : IsSettledBut l.room l.nodes l.k;
-  leaves : drop l.room l.nodes ≡ drop l.room l.initial.nodes;
-}
+invariant-loop-k l = (before : List (Option Moment)) × IsRising l.id l.moments before l.winners l.k
 
 abbrev pub decreases-loop-k : goal.decreases-loop-k
 decreases-loop-k l = l.k
