@@ -17,9 +17,6 @@ use sched_base::{Moment, NoMemory};
 use std::alloc::Global;
 use std::marker::Model;
 
-/// The ids that a `u16` can name.
-const IDS: usize = 65_536;
-
 /// The heap. Contracts see it as the list of its ids' moments, with none where an id is not armed.
 #[derive(Drop)]
 pub struct DueHeap {
@@ -125,13 +122,11 @@ impl DueHeap {
     ghost use Rattle.std.specs.Prelude.{ℕ, ◌≡◌, ◌<◌, ◌≤◌, Some, None, IfOk, IfSome, IfNone, length, replicate, slice_set};
     ghost use Rattle.due_heap.specs.Dues.{IsArmed, GoesFirst, HasCome, IsPowerOfTwo};
 
-    /// A heap for the ids below n, none of them armed. `NoMemory` also where n is above the 65,536 ids that there are.
+    /// A heap for the ids below n, at most 65,536, none of them armed.
     pub fn room(alloc: Global, n: usize) -> Result<DueHeap, NoMemory>
+        requires few { n ≤ 65536 }
         ensures { IfOk result (λ heap. heap ≡ replicate n None) }
     {
-        if n > IDS {
-            return Err(NoMemory);
-        }
         let moments = vec![in alloc; None; n]?;
         let mut winners = vec![in alloc; 0; n]?;
         play_all(moments.as_slice(), winners.as_mut_slice());
