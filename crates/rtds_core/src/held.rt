@@ -3,7 +3,7 @@
 ghost use Rattle.std.specs.Prelude.{◌≡◌, ◌≤◌, ◌<◌, IfOk, replicate, None, true};
 ghost use Rattle.std.specs.Option.{IfSome};
 ghost use Rattle.sched_model.specs.Places.{at_place};
-ghost use Rattle.rtds_queue.specs.Lists.{holds};
+ghost use Rattle.rtds_queue.specs.Lists.{empty, holds};
 ghost use Rattle.rtds_core.specs.Alarms.{id_of};
 ghost use Rattle.rtds_core.specs.Kept.{size, told, renewed_if, rearmed};
 
@@ -65,6 +65,17 @@ fn empty_places<T: Drop>(alloc: Global, count: usize) -> Result<Row<Option<T>>, 
     Ok(Row::from_vec(places))
 }
 
+/// Queues with room for so many units, with the sets of cores and the alarms of each place of a unit.
+fn empty_tables(alloc: Global, units: usize) -> Result<(RtdsQueues, Masks, Alarms), NoMemory>
+    ensures queues { IfOk result (λ tables. tables.0 ≡ empty units) }
+    ensures alarms { IfOk result (λ tables. tables.2 ≡ replicate 2048 None) }
+{
+    let masks = Masks::room(alloc)?;
+    let queues = RtdsQueues::room(alloc, units)?;
+    let alarms = Alarms::room(alloc)?;
+    Ok((queues, masks, alarms))
+}
+
 /// How many units the domain has.
 fn count_units(affinity: &[Option<Pins>], d: DomId) -> usize
     ensures { result ≡ size (at_place affinity.now d.0) }
@@ -122,9 +133,7 @@ impl Held {
     {
         let domains = empty_places(alloc, places.domains as usize)?;
         let affinity = empty_places(alloc, places.domains as usize)?;
-        let queues = RtdsQueues::room(alloc, units)?;
-        let masks = Masks::room(alloc)?;
-        let alarms = Alarms::room(alloc)?;
+        let (queues, masks, alarms) = empty_tables(alloc, units)?;
         Ok(Held {
             domains,
             affinity,
