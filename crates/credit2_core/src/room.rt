@@ -20,7 +20,6 @@ use unit_places::Masks;
 pub const DEFAULT_LIMIT: u32 = 1000;
 
 /// So many places, all empty.
-#[tactic(auto, using(crate::proofs::Rooms::replicate_one_more))]
 fn empty_places<T: Drop>(alloc: Global, count: usize) -> Result<Row<Option<T>>, NoMemory>
     ensures { IfOk result (λ row. row ≡ replicate count None) }
 {
