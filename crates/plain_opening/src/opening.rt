@@ -137,7 +137,6 @@ fn opening_pool(alloc: Global, config: &Config, i: u8, pool: &PoolConfig) -> Res
 }
 
 /// Adds so many empty places.
-#[tactic(auto, using(crate::proofs::Growing::padded_one_more))]
 fn push_empty<T: Drop>(count: usize, places: &mut Vec<Option<T>>) -> Result<(), NoMemory>
     ensures { OnOk result (places.new.items ≡ places.old.items ++ replicate count None) }
 {
