@@ -48,7 +48,6 @@ impl Model for CoreState {
 }
 
 /// So many places, all empty.
-#[tactic(auto, using(crate::proofs::Replicate::replicate_one_more))]
 fn empty_places<T: Drop>(alloc: Global, count: usize) -> Result<Row<Option<T>>, NoMemory>
     ensures { IfOk result (λ row. row ≡ replicate count None) }
 {

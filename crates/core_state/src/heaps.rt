@@ -32,17 +32,34 @@ pub struct Heaps {
     pub leaves: DueHeap,
 }
 
+/// Two heaps without a moment.
+fn two_heaps(alloc: Global) -> Result<(DueHeap, DueHeap), NoMemory>
+    ensures first { IfOk result (λ two. two.0 ≡ replicate 64 None) }
+    ensures second { IfOk result (λ two. two.1 ≡ replicate 64 None) }
+{
+    let first = DueHeap::room(alloc, IDS)?;
+    let second = DueHeap::room(alloc, IDS)?;
+    Ok((first, second))
+}
+
+/// Three heaps without a moment.
+fn three_heaps(alloc: Global) -> Result<(DueHeap, DueHeap, DueHeap), NoMemory>
+    ensures first { IfOk result (λ three. three.0 ≡ replicate 64 None) }
+    ensures second { IfOk result (λ three. three.1 ≡ replicate 64 None) }
+    ensures third { IfOk result (λ three. three.2 ≡ replicate 64 None) }
+{
+    let third = DueHeap::room(alloc, IDS)?;
+    let (first, second) = two_heaps(alloc)?;
+    Ok((first, second, third))
+}
+
 /// Heaps without a moment.
 pub fn empty_heaps(alloc: Global) -> Result<Heaps, NoMemory>
     ensures { IfOk result (λ heaps. AreEmpty heaps) }
 {
-    let moves = DueHeap::room(alloc, IDS)?;
-    let slices = DueHeap::room(alloc, IDS)?;
-    let decides = DueHeap::room(alloc, IDS)?;
-    let saves = DueHeap::room(alloc, IDS)?;
-    let blocks = DueHeap::room(alloc, IDS)?;
-    let arrives = DueHeap::room(alloc, IDS)?;
-    let leaves = DueHeap::room(alloc, IDS)?;
+    let (moves, slices) = two_heaps(alloc)?;
+    let (decides, saves) = two_heaps(alloc)?;
+    let (blocks, arrives, leaves) = three_heaps(alloc)?;
     Ok(Heaps {
         moves,
         slices,

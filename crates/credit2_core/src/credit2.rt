@@ -15,6 +15,7 @@ use sched_model::facts::Stored;
 use sched_ops::{Choice, Places, Policy, Timer};
 use std::alloc::Global;
 use std::marker::Model;
+use std::mem;
 
 /// The Credit2 scheduler of one pool. It holds no memory until the first `reserve`, and has no place for a domain then.
 ///
@@ -84,7 +85,7 @@ impl Policy for Credit2 {
         let latest = latest_of(&self.held, self.early);
         let held = room::reserve(alloc, places.domains, units, latest)?;
         self.runnable = runnable_in(&held);
-        self.held = Some(held);
+        drop(mem::replace(&mut self.held, Some(held)));
         Ok(())
     }
 

@@ -3,6 +3,7 @@
 ghost use Rattle.std.specs.Prelude.{◌≡◌, ◌≤◌, IfOk, replicate, None};
 ghost use Rattle.sched_model.specs.declared.config.PoolParams.TheVariants as pool_params;
 ghost use Rattle.sched_ops.specs.Seen.{Seen, vacant};
+ghost use Rattle.runq.specs.Queue.{empty};
 ghost use Rattle.credit2_core.specs.Held.{IsHeld, seen_in};
 ghost use Rattle.credit2_core.specs.Room.{IsFresh};
 
@@ -19,7 +20,6 @@ use unit_places::Masks;
 pub const DEFAULT_LIMIT: u32 = 1000;
 
 /// So many places, all empty.
-#[tactic(auto, using(crate::proofs::Rooms::replicate_one_more))]
 fn empty_places<T: Drop>(alloc: Global, count: usize) -> Result<Row<Option<T>>, NoMemory>
     ensures { IfOk result (λ row. row ≡ replicate count None) }
 {
@@ -30,6 +30,20 @@ fn empty_places<T: Drop>(alloc: Global, count: usize) -> Result<Row<Option<T>>, 
     Ok(Row::from_vec(places))
 }
 
+/// The queue of a pool with room for so many units, its sets of cores, and the dues of the refills of so many domains.
+fn empty_lists(
+    alloc: Global,
+    domains: usize,
+    units: usize,
+) -> Result<(Runq, Masks, DueHeap), NoMemory>
+    ensures queue { IfOk result (λ lists. lists.0 ≡ empty units) }
+    ensures refills { IfOk result (λ lists. lists.2 ≡ replicate domains None) }
+{
+    let masks = Masks::room(alloc)?;
+    let queue = Runq::room(alloc, units)?;
+    Ok((queue, masks, DueHeap::room(alloc, domains)?))
+}
+
 /// The memory for so many domains, at most 64, and so many units, at most 256. No domain has joined. The greatest moment given
 /// is latest.
 pub fn reserve(alloc: Global, domains: u8, units: usize, latest: u64) -> Result<Held, NoMemory>
@@ -38,16 +52,19 @@ pub fn reserve(alloc: Global, domains: u8, units: usize, latest: u64) -> Result<
     ensures { IfOk result (IsFresh domains units latest) }
 {
     let places = domains as usize;
+    let records = empty_places(alloc, places)?;
+    let affinity = empty_places(alloc, places)?;
+    let (queue, masks, refills) = empty_lists(alloc, places, units)?;
     Ok(Held {
         records: Credit2Records {
             limit: DEFAULT_LIMIT,
             last_reset: None,
-            domains: empty_places(alloc, places)?,
+            domains: records,
         },
-        affinity: empty_places(alloc, places)?,
-        queue: Runq::room(alloc, units)?,
-        masks: Masks::room(alloc)?,
-        refills: DueHeap::room(alloc, places)?,
+        affinity,
+        queue,
+        masks,
+        refills,
         spare: units,
         latest,
     })

@@ -1,5 +1,5 @@
 -- One more number, and one more item that a function makes of it.
-use Rattle.std.proofs.Common.{◌≡◌, ◌∙◌, ◌+◌, ℕ, zero, suc, List, [], ◌∷◌, ◌++◌, length, refl, sym, ap, arith}
+use Rattle.std.proofs.Common.{◌≡◌, ◌∙◌, ◌+◌, ℕ, zero, suc, List, [], ◌∷◌, ◌++◌, length, ap, arith}
 use Rattle.std.specs.Prelude.{Option, None, map, replicate}
 use Rattle.std.proofs.lemmas.List.{append_assoc}
 use Rattle.sched_laws.proofs.Opened.{length_map_numbers}

@@ -1,5 +1,5 @@
 -- The queue of a pool only grows while domains join it.
-use Rattle.std.proofs.Common.{◌≡◌, ◌≤◌, ◌+◌, ℕ, zero, suc, Bool, true, false, ◌&&◌, List, [], ◌∷◌, ◌++◌, ◌∙◌, length, refl, sym, ap, subst, cond, arith}
+use Rattle.std.proofs.Common.{◌≡◌, ◌≤◌, ◌+◌, ℕ, suc, true, false, ◌&&◌, List, [], ◌∷◌, ◌++◌, ◌∙◌, length, refl, sym, ap, subst, cond, arith}
 use Rattle.std.specs.Prelude.{Some, None, map, ◌==◌}
 use Rattle.std.proofs.lemmas.List.{length-append}
 use Rattle.sched_base.specs.Numbers.{domain}

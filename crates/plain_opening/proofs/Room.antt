@@ -1,6 +1,6 @@
 -- The queues of the pools have room at the opening.
-use Rattle.std.proofs.Common.{◌≡◌, ◌≤◌, ℕ, suc, List, [], ◌∷◌, ◌++◌, length, refl}
-use Rattle.std.specs.Prelude.{Option, Some, None, replicate}
+use Rattle.std.proofs.Common.{◌≡◌, ℕ, suc, List, [], ◌∷◌, ◌++◌, refl}
+use Rattle.std.specs.Prelude.{Option, Some}
 use Rattle.sched_model.specs.declared.config.Config.{Config}
 use Rattle.sched_model.specs.declared.config.PoolConfig.{PoolConfig}
 use Rattle.sched_model.specs.declared.machine.Machine.{Machine}

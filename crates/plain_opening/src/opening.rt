@@ -10,7 +10,7 @@ ghost use Rattle.plain_opening.specs.Opened.{FewWait, AllFewWait, JoinFits, conf
 
 use crate::cores::{free_cores, fresh_cores};
 use crate::rows::fresh_vcpus;
-use crate::spare::{core_count, empty_pool};
+use crate::spare::{core_count, pool_of_cores};
 use plain_policy::params::pin;
 use plain_pool::domains::with_domain;
 use sched_base::{Cores, Name, NoMemory};
@@ -125,14 +125,18 @@ fn opening_pool(alloc: Global, config: &Config, i: u8, pool: &PoolConfig) -> Res
     ensures { IfOk result (λ opened. opened ≡ opening_pool_spec config.now i pool.now) }
 {
     let g = config.granularity;
-    let mut opened = empty_pool(alloc, config, &pool.params)?;
-    opened.resources = fresh_cores(alloc, pool.cores, core_count(config), g)?;
-    with_domains(alloc, g, i, 0, config.domains.as_slice(), &mut opened)?;
-    Ok(opened)
+    let cores = fresh_cores(alloc, pool.cores, core_count(config), g)?;
+    let mut opened = pool_of_cores(alloc, config, &pool.params, cores)?;
+    match with_domains(alloc, g, i, 0, config.domains.as_slice(), &mut opened) {
+        Ok(()) => Ok(opened),
+        Err(full) => {
+            drop(opened);
+            Err(full)
+        }
+    }
 }
 
 /// Adds so many empty places.
-#[tactic(auto, using(crate::proofs::Growing::padded_one_more))]
 fn push_empty<T: Drop>(count: usize, places: &mut Vec<Option<T>>) -> Result<(), NoMemory>
     ensures { OnOk result (places.new.items ≡ places.old.items ++ replicate count None) }
 {
@@ -186,17 +190,31 @@ fn push_pools(
     }
 }
 
+/// Adds the pools of the file, and empty places up to the most pools that there may be.
+fn push_all(alloc: Global, config: &Config, places: &mut Vec<Option<Pool>>) -> Result<(), NoMemory>
+    requires checked { IsCheckedConfig config.now }
+    requires room { AllFewWait config.now 0 config.now.pools }
+    ensures { OnOk result (places.new.items ≡ places.old.items ++ (opening_pools_spec config.now 0 config.now.pools ++ replicate (16 - length config.now.pools) None)) }
+{
+    let pools = config.pools.as_slice();
+    push_pools(alloc, config, 0, pools, places)?;
+    push_empty(MOST_POOLS - pools.len(), places)
+}
+
 /// The pools of the file, and empty places up to the most pools that there may be.
 fn opening_pools(alloc: Global, config: &Config) -> Result<Row<Option<Pool>>, NoMemory>
     requires checked { IsCheckedConfig config.now }
     requires room { AllFewWait config.now 0 config.now.pools }
     ensures { IfOk result (λ pools. pools ≡ opening_pools_spec config.now 0 config.now.pools ++ replicate (16 - length config.now.pools) None) }
 {
-    let pools = config.pools.as_slice();
     let mut places = Vec::new(alloc);
-    push_pools(alloc, config, 0, pools, &mut places)?;
-    push_empty(MOST_POOLS - pools.len(), &mut places)?;
-    Ok(Row::from_vec(places))
+    match push_all(alloc, config, &mut places) {
+        Ok(()) => Ok(Row::from_vec(places)),
+        Err(full) => {
+            drop(places);
+            Err(full)
+        }
+    }
 }
 
 /// The state at the opening of a machine whose values have passed the checks of the domain file and of the work file.
@@ -206,11 +224,13 @@ pub fn open_state(alloc: Global, m: &Machine) -> Result<State, NoMemory>
     ensures { IfOk result (λ s. s ≡ opening m.now) }
 {
     let config = &m.config;
+    let names = opening_names(alloc, config.pools.as_slice())?;
+    let free = free_cores(alloc, config, core_count(config))?;
     Ok(State {
         now: 0,
-        names: opening_names(alloc, config.pools.as_slice())?,
+        names,
         pools: opening_pools(alloc, config)?,
-        free: free_cores(alloc, config, core_count(config))?,
+        free,
         next_stall: 0,
         next_command: 0,
     })

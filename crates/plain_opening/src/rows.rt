@@ -10,7 +10,6 @@ use sched_model::state::{Vcpu, Vcpus};
 use std::alloc::Global;
 
 /// So many places, all empty.
-#[tactic(auto, using(crate::proofs::Replicate::replicate_one_more))]
 pub fn empty_places<T: Drop>(alloc: Global, count: usize) -> Result<Row<Option<T>>, NoMemory>
     ensures { IfOk result (λ row. row ≡ replicate count None) }
 {

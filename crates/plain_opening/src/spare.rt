@@ -12,7 +12,7 @@ use sched_model::config::{Config, Frame, FrameList, PoolParams, SchedKind};
 use sched_model::machine::Machine;
 use sched_model::row::Row;
 use sched_model::short::Short;
-use sched_model::state::{ArincRecords, Credit2Records, Pool, Records, Scheduler};
+use sched_model::state::{ArincRecords, Credit2Records, Pool, Records, Resource, Scheduler};
 use sched_model::work::CommandLine;
 use std::alloc::Global;
 
@@ -72,22 +72,49 @@ fn fresh_records(
     }
 }
 
+/// The scheduler of a pool with these parameters and no domain, on a machine of so many domains and cores.
+fn empty_scheduler(
+    alloc: Global,
+    params: &PoolParams,
+    domains: usize,
+    cores: usize,
+) -> Result<Scheduler, NoMemory>
+    ensures { IfOk result (λ scheduler. scheduler ≡ record { queue = []; affinity = replicate domains None; records = fresh_records_spec params.now domains cores }) }
+{
+    let affinity = empty_places(alloc, domains)?;
+    Ok(Scheduler {
+        records: fresh_records(alloc, params, domains, cores)?,
+        affinity,
+        queue: Short::new(),
+    })
+}
+
+/// A pool without domains, which has these cores.
+pub fn pool_of_cores(
+    alloc: Global,
+    config: &Config,
+    params: &PoolParams,
+    resources: Row<Option<Resource>>,
+) -> Result<Pool, NoMemory>
+    requires { 0 < config.now.granularity }
+    ensures { IfOk result (λ pool. pool ≡ record (empty_pool_spec config.now params.now) { resources = resources }) }
+{
+    let count = config.domains.len();
+    let domains = empty_places(alloc, count)?;
+    Ok(Pool {
+        scheduler: empty_scheduler(alloc, params, count, core_count(config) as usize)?,
+        domains,
+        resources,
+    })
+}
+
 /// A pool without domains and cores.
 pub fn empty_pool(alloc: Global, config: &Config, params: &PoolParams) -> Result<Pool, NoMemory>
     requires { 0 < config.now.granularity }
     ensures { IfOk result (λ pool. pool ≡ empty_pool_spec config.now params.now) }
 {
-    let domains = config.domains.len();
-    let cores = core_count(config) as usize;
-    Ok(Pool {
-        scheduler: Scheduler {
-            queue: Short::new(),
-            affinity: empty_places(alloc, domains)?,
-            records: fresh_records(alloc, params, domains, cores)?,
-        },
-        domains: empty_places(alloc, domains)?,
-        resources: empty_places(alloc, cores)?,
-    })
+    let resources = empty_places(alloc, core_count(config) as usize)?;
+    pool_of_cores(alloc, config, params, resources)
 }
 
 /// The parameters that a pool has where none are given.

@@ -2,7 +2,6 @@
 use Rattle.std.proofs.Common.{inl, inr, ◌≡◌, ℕ, subst, arith}
 use Rattle.std.proofs.lemmas.List.Elements.{recursion_from_All}
 use Rattle.std.specs.Prelude.{Option, Some, None, slice_get}
-use Rattle.std.specs.List.{All}
 use Rattle.std.specs.Option.{ForSome, IfSome}
 use Rattle.sched_model.specs.declared.config.Config.{Config}
 use Rattle.sched_model.specs.declared.config.DomConfig.{DomConfig}

@@ -57,8 +57,13 @@ fn open_home<P: Policy>(
     let mut pool = PoolState::room(alloc, g, places, MOST_UNITS, policy)?;
     pool.open(&home.params);
     attach_all(home.cores, g, places.cores, &mut pool);
-    join_all(alloc, config, i, home, &mut pool)?;
-    Ok(pool)
+    match join_all(alloc, config, i, home, &mut pool) {
+        Ok(()) => Ok(pool),
+        Err(full) => {
+            drop(pool);
+            Err(full)
+        }
+    }
 }
 
 /// The pool i of a machine, of the policy's scheduler: the one that stands at the machine's opening, at 0. The policy has no domain yet.

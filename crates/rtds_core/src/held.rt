@@ -3,7 +3,7 @@
 ghost use Rattle.std.specs.Prelude.{◌≡◌, ◌≤◌, ◌<◌, IfOk, replicate, None, true};
 ghost use Rattle.std.specs.Option.{IfSome};
 ghost use Rattle.sched_model.specs.Places.{at_place};
-ghost use Rattle.rtds_queue.specs.Lists.{holds};
+ghost use Rattle.rtds_queue.specs.Lists.{empty, holds};
 ghost use Rattle.rtds_core.specs.Alarms.{id_of};
 ghost use Rattle.rtds_core.specs.Kept.{size, told, renewed_if, rearmed};
 
@@ -54,7 +54,6 @@ impl Model for Held {
 }
 
 /// So many places, all empty.
-#[tactic(auto, using(crate::proofs::Replicate::replicate_one_more))]
 fn empty_places<T: Drop>(alloc: Global, count: usize) -> Result<Row<Option<T>>, NoMemory>
     ensures { IfOk result (λ row. row ≡ replicate count None) }
 {
@@ -63,6 +62,17 @@ fn empty_places<T: Drop>(alloc: Global, count: usize) -> Result<Row<Option<T>>, 
         places.push(None)?;
     }
     Ok(Row::from_vec(places))
+}
+
+/// Queues with room for so many units, with the sets of cores and the alarms of each place of a unit.
+fn empty_tables(alloc: Global, units: usize) -> Result<(RtdsQueues, Masks, Alarms), NoMemory>
+    ensures queues { IfOk result (λ tables. tables.0 ≡ empty units) }
+    ensures alarms { IfOk result (λ tables. tables.2 ≡ replicate 2048 None) }
+{
+    let masks = Masks::room(alloc)?;
+    let queues = RtdsQueues::room(alloc, units)?;
+    let alarms = Alarms::room(alloc)?;
+    Ok((queues, masks, alarms))
 }
 
 /// How many units the domain has.
@@ -122,9 +132,7 @@ impl Held {
     {
         let domains = empty_places(alloc, places.domains as usize)?;
         let affinity = empty_places(alloc, places.domains as usize)?;
-        let queues = RtdsQueues::room(alloc, units)?;
-        let masks = Masks::room(alloc)?;
-        let alarms = Alarms::room(alloc)?;
+        let (queues, masks, alarms) = empty_tables(alloc, units)?;
         Ok(Held {
             domains,
             affinity,

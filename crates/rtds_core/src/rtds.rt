@@ -14,6 +14,7 @@ use sched_model::facts::Stored;
 use sched_ops::{Choice, Places, Policy, Timer};
 use std::alloc::Global;
 use std::marker::Model;
+use std::mem;
 
 /// The RTDS scheduler. It holds no memory until the first `reserve`, and has no place for a domain then.
 #[derive(Drop)]
@@ -92,7 +93,7 @@ impl Policy for Rtds {
     fn reserve(&mut self, alloc: Global, places: Places, units: usize) -> Result<(), NoMemory> {
         let latest = latest_of(&self.held, self.early);
         let held = Held::room(alloc, places, units, latest)?;
-        self.held = Some(held);
+        drop(mem::replace(&mut self.held, Some(held)));
         Ok(())
     }
 

@@ -1,5 +1,12 @@
 //! The plain machine: a machine and the state that it stands in.
 
+ghost use Rattle.std.specs.Prelude.{◌≡◌, ◌<◌, IfOk, length};
+ghost use Rattle.cpupool.specs.Tool.{tool_of};
+ghost use Rattle.plain_opening.specs.Opened.{spares_of};
+ghost use Rattle.plain_telling.specs.Rooms.{HasPlaces};
+ghost use Rattle.sched_model.specs.Checked.{IsChecked};
+ghost use Rattle.sched_model.specs.Opening.{opening, core_count as core_count_spec};
+
 use crate::enabled::is_enabled;
 use crate::next::next_moment;
 use crate::perform::perform;
@@ -48,6 +55,61 @@ impl Model for Plain {
     ghost invariant = { λ p. Stands p.machine p.state × KnowsMachine p.machine p.tool × HasSpares p.machine p.state.next_command p.spares × HasPlaces (length p.machine.config.domains) (core_count p.machine.config) p.scratch };
 }
 
+/// The state of a machine at its opening, and what its tool knows then.
+fn open_states(alloc: Global, m: &Machine) -> Result<(State, ToolState), NoMemory>
+    requires { IsChecked m.now }
+    ensures state { IfOk result (λ r. r.0 ≡ opening m.now) }
+    ensures tool { IfOk result (λ r. r.1 ≡ tool_of m.now (opening m.now)) }
+{
+    let state = open_state(alloc, m)?;
+    match ToolState::open(alloc, &m.config, &m.work) {
+        Ok(tool) => Ok((state, tool)),
+        Err(full) => {
+            drop(state);
+            Err(full)
+        }
+    }
+}
+
+/// The pools that the commands of a machine may make, and the records on which a decision is tried.
+fn open_rooms(alloc: Global, m: &Machine) -> Result<(Row<Option<Pool>>, Scratch), NoMemory>
+    requires { 0 < m.now.config.granularity }
+    ensures spares { IfOk result (λ r. r.0 ≡ spares_of m.now) }
+    ensures scratch { IfOk result (λ r. HasPlaces (length m.now.config.domains) (core_count_spec m.now.config) r.1) }
+{
+    let cores = core_count(&m.config) as usize;
+    let scratch = Scratch::open(alloc, m.config.domains.len(), cores)?;
+    match open_spares(alloc, m) {
+        Ok(spares) => Ok((spares, scratch)),
+        Err(full) => {
+            drop(scratch);
+            Err(full)
+        }
+    }
+}
+
+/// All that stands beside the machine.
+fn open_beside(
+    alloc: Global,
+    m: &Machine,
+) -> Result<(State, ToolState, Row<Option<Pool>>, Scratch), NoMemory>
+    requires { IsChecked m.now }
+    ensures state { IfOk result (λ r. r.0 ≡ opening m.now) }
+    ensures tool { IfOk result (λ r. r.1 ≡ tool_of m.now (opening m.now)) }
+    ensures spares { IfOk result (λ r. r.2 ≡ spares_of m.now) }
+    ensures scratch { IfOk result (λ r. HasPlaces (length m.now.config.domains) (core_count_spec m.now.config) r.3) }
+{
+    let (state, tool) = open_states(alloc, m)?;
+    match open_rooms(alloc, m) {
+        Ok((spares, scratch)) => Ok((state, tool, spares, scratch)),
+        Err(full) => {
+            drop(state);
+            drop(tool);
+            Err(full)
+        }
+    }
+}
+
 impl Plain {
     ghost use Rattle.std.specs.Prelude.{◌≡◌, true, None, Some, IfOk, option_map};
     ghost use Rattle.sched_base.specs.Numbers.{moment};
@@ -60,18 +122,19 @@ impl Plain {
         requires { IsChecked machine }
         ensures { IfOk result (λ p. p ≡ record { machine = machine; state = opening machine }) }
     {
-        let state = open_state(alloc, &machine)?;
-        let tool = ToolState::open(alloc, &machine.config, &machine.work)?;
-        let spares = open_spares(alloc, &machine)?;
-        let cores = core_count(&machine.config) as usize;
-        let scratch = Scratch::open(alloc, machine.config.domains.len(), cores)?;
-        Ok(Plain {
-            machine,
-            state,
-            tool,
-            spares,
-            scratch,
-        })
+        match open_beside(alloc, &machine) {
+            Ok((state, tool, spares, scratch)) => Ok(Plain {
+                machine,
+                state,
+                tool,
+                spares,
+                scratch,
+            }),
+            Err(full) => {
+                drop(machine);
+                Err(full)
+            }
+        }
     }
 
     /// The moment that the state has come to.

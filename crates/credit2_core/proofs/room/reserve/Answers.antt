@@ -11,12 +11,12 @@ use Rattle.credit2_core.proofs.room.reserve.Goals as goal
 pub returns : goal.returns
 returns c =
     let n = c.args.domains in
-    let masks : List Cores = c.in_ok-room-2.field-0 in
+    let masks : List Cores = c.in_ok-queue.masks in
     let Fresh : List (Option Credit2Domain) → List (Option (List Cores)) → Queue → List (Option Moment) → Type 0 = λ domains affinity queue refills.
     IsFresh n c.args.units c.args.latest (record { records = record { limit = 1000; last_reset = None; domains = domains }; affinity = affinity; queue = queue; masks = masks; refills = refills; spare = c.args.units; latest = c.args.latest })
     in
-    subst (λ domains. Fresh domains c.in_ok-empty_places-2.field-0 c.in_ok-room.field-0 c.in_ok-room-3.field-0) (sym c.in_ok-empty_places.ensures)
-    (subst (λ affinity. Fresh (replicate n None) affinity c.in_ok-room.field-0 c.in_ok-room-3.field-0) (sym c.in_ok-empty_places-2.ensures)
-    (subst (λ queue. Fresh (replicate n None) (replicate n None) queue c.in_ok-room-3.field-0) (sym c.in_ok-room.ensures)
-    (subst (λ refills. Fresh (replicate n None) (replicate n None) (empty c.args.units) refills) (sym c.in_ok-room-3.ensures)
+    subst (λ domains. Fresh domains c.in_ok-affinity.affinity c.in_ok-queue.queue c.in_ok-queue.refills) (sym c.in_ok-records.ensures)
+    (subst (λ affinity. Fresh (replicate n None) affinity c.in_ok-queue.queue c.in_ok-queue.refills) (sym c.in_ok-affinity.ensures)
+    (subst (λ queue. Fresh (replicate n None) (replicate n None) queue c.in_ok-queue.refills) (sym c.in_ok-queue.ensures.queue)
+    (subst (λ refills. Fresh (replicate n None) (replicate n None) (empty c.args.units) refills) (sym c.in_ok-queue.ensures.refills)
     (record { held = held_fresh n c.args.units c.args.latest masks c.requires.domains c.requires.units; seen = refl }))))

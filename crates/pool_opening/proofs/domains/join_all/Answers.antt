@@ -1,8 +1,8 @@
-use Rattle.std.proofs.Common.{◌≡◌, ◌≤◌, ◌∙◌, List, ap, sym, arith, length}
+use Rattle.std.proofs.Common.{◌≡◌, ◌∙◌, List, ap, sym, arith, length}
 use Rattle.std.specs.Prelude.{Some, slice_get}
 use Rattle.std.proofs.lemmas.Option.{slice_get-get_or}
 use Rattle.sched_model.specs.declared.config.DomConfig.{DomConfig}
-use Rattle.pool_opening.proofs.Joining.{between_last, between_next, next_fits, opened_last}
+use Rattle.pool_opening.proofs.Joining.{between_next, next_fits}
 use Rattle.pool_opening.proofs.domains.join_all.Goals as goal
 
 pub join_at_home-requires-clause-room : goal.join_at_home-requires-clause-room

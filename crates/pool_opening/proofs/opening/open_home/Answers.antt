@@ -3,7 +3,7 @@ use Rattle.sched_model.specs.Policy.{kind_of}
 use Rattle.pool_core.specs.Seen.{Seen}
 use Rattle.pool_opening.proofs.Joining.{few_at_home}
 use Rattle.pool_opening.proofs.Parameters.{pool_fits}
-use Rattle.pool_opening.proofs.Restart.{begins, kind_default, opens, stands_at}
+use Rattle.pool_opening.proofs.Restart.{begins, begun, kind_default, opens, stands_at}
 use Rattle.pool_opening.specs.Opened.{IsOpening, units_at_home, with_all}
 use Rattle.pool_opening.proofs.opening.open_home.Goals as goal
 
@@ -15,28 +15,29 @@ open-requires-clause-params g c =
 pub join_all-requires-clause-opening : goal.join_all-requires-clause-opening
 join_all-requires-clause-opening g c =
     let fits = pool_fits c.args.config.now c.args.home.now c.args.i c.requires.home c.requires.config in
-    subst (IsOpening c.args.config.now c.args.home.now 0)
-    (sym (begins c.args.config.now c.args.home.now _ _ _ c.in_ok-pool.pool c.open.new.self c.attach_all.new.pool c.requires.kind fits c.places_of-places.ensures.domains c.places_of-places.ensures.cores c.in_ok-pool.ensures c.open.ensures c.attach_all.ensures))
-    (opens c.args.config.now c.args.home.now fits)
+    let began : c.attach_all.new.pool ≡ begun c.args.config.now c.args.home.now =
+    begins c.args.config.now c.args.home.now _ _ _ c.in_ok-pool.pool c.open.new.self c.attach_all.new.pool c.requires.kind fits c.places_of-places.ensures.domains c.places_of-places.ensures.cores c.in_ok-pool.ensures c.open.ensures c.attach_all.ensures in
+    subst (IsOpening c.args.config.now c.args.home.now 0) (sym began) (opens c.args.config.now c.args.home.now fits)
 
 pub join_all-requires-clause-room : goal.join_all-requires-clause-room
 join_all-requires-clause-room g c =
     let fits = pool_fits c.args.config.now c.args.home.now c.args.i c.requires.home c.requires.config in
     let few = few_at_home c.args.config.now.granularity c.args.i 0 c.args.config.now.domains in
     let all = c.requires.config.few_units in
-    subst (λ (s : Seen). units_at_home c.args.config.now.granularity c.args.i c.args.config.now.domains ≤ s.spare)
-    (sym (begins c.args.config.now c.args.home.now _ _ _ c.in_ok-pool.pool c.open.new.self c.attach_all.new.pool c.requires.kind fits c.places_of-places.ensures.domains c.places_of-places.ensures.cores c.in_ok-pool.ensures c.open.ensures c.attach_all.ensures))
-    (omega (arith, few, all))
+    let began : c.attach_all.new.pool ≡ begun c.args.config.now c.args.home.now =
+    begins c.args.config.now c.args.home.now _ _ _ c.in_ok-pool.pool c.open.new.self c.attach_all.new.pool c.requires.kind fits c.places_of-places.ensures.domains c.places_of-places.ensures.cores c.in_ok-pool.ensures c.open.ensures c.attach_all.ensures in
+    subst (λ (s : Seen). units_at_home c.args.config.now.granularity c.args.i c.args.config.now.domains ≤ s.spare) (sym began) (omega (arith, few, all))
 
-pub returns-clause-seen : goal.returns-clause-seen
-returns-clause-seen g c =
+pub returns-in-Ok-clause-seen : goal.returns-in-Ok-clause-seen
+returns-in-Ok-clause-seen g c =
     let fits = pool_fits c.args.config.now c.args.home.now c.args.i c.requires.home c.requires.config in
-    c.in_ok-join_all.ensures.after
-    ∙ ap (λ (s : Seen). with_all c.args.config.now.granularity c.args.i 0 c.args.config.now.domains s)
-    (begins c.args.config.now c.args.home.now _ _ _ c.in_ok-pool.pool c.open.new.self c.attach_all.new.pool c.requires.kind fits c.places_of-places.ensures.domains c.places_of-places.ensures.cores c.in_ok-pool.ensures c.open.ensures c.attach_all.ensures)
+    let all : Seen → Seen = λ s. with_all c.args.config.now.granularity c.args.i 0 c.args.config.now.domains s in
+    let began : c.attach_all.new.pool ≡ begun c.args.config.now c.args.home.now =
+    begins c.args.config.now c.args.home.now _ _ _ c.in_ok-pool.pool c.open.new.self c.attach_all.new.pool c.requires.kind fits c.places_of-places.ensures.domains c.places_of-places.ensures.cores c.in_ok-pool.ensures c.open.ensures c.attach_all.ensures in
+    ◌∙◌ {b = all c.attach_all.new.pool} c.in-Ok.ensures.after (ap all began)
 
-pub returns-clause-room : goal.returns-clause-room
-returns-clause-room g c = c.in_ok-join_all.ensures.opening.room
+pub returns-in-Ok-clause-room : goal.returns-in-Ok-clause-room
+returns-in-Ok-clause-room g c = c.in-Ok.ensures.opening.room
 
-pub returns-clause-pool : goal.returns-clause-pool
-returns-clause-pool g c = λ work. stands_at c.args.config.now c.args.i c.args.home.now work c.join_all.new.pool c.requires.home (returns-clause-seen g c)
+pub returns-in-Ok-clause-pool : goal.returns-in-Ok-clause-pool
+returns-in-Ok-clause-pool g c = λ work. stands_at c.args.config.now c.args.i c.args.home.now work c.join_all.new.pool c.requires.home (returns-in-Ok-clause-seen g c)
