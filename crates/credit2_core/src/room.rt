@@ -30,12 +30,13 @@ fn empty_places<T: Drop>(alloc: Global, count: usize) -> Result<Row<Option<T>>, 
     Ok(Row::from_vec(places))
 }
 
-/// The queue of a pool with room for so many units, its sets of cores, and the dues of the refills of so many domains.
+/// The queue of a pool with room for so many units, its sets of cores, and the dues of the refills of so many domains, at most 64.
 fn empty_lists(
     alloc: Global,
     domains: usize,
     units: usize,
 ) -> Result<(Runq, Masks, DueHeap), NoMemory>
+    requires few { domains ≤ 64 }
     ensures queue { IfOk result (λ lists. lists.0 ≡ empty units) }
     ensures refills { IfOk result (λ lists. lists.2 ≡ replicate domains None) }
 {
