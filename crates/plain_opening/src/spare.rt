@@ -90,7 +90,7 @@ fn empty_scheduler(
 }
 
 /// A pool without domains, which has these cores.
-pub fn pool_of_cores(
+pub(crate) fn pool_of_cores(
     alloc: Global,
     config: &Config,
     params: &PoolParams,

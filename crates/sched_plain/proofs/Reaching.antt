@@ -7,18 +7,12 @@ use Rattle.sched_model.specs.declared.event.Entry.{Entry}
 use Rattle.sched_model.specs.declared.machine.Machine.{Machine}
 use Rattle.sched_model.specs.declared.action.Action.{Action}
 use Rattle.sched_model.specs.declared.state.State.{State}
-use Rattle.sched_model.specs.Checked.{IsChecked}
-use Rattle.sched_model.specs.Opening.{opening}
 use Rattle.sched_model.specs.Machine.{is_enabled, first_enabled, event_of, after, next_in_horizon}
 use Rattle.sched_model.specs.Runs.{Reached, IsNext, begun, after_entry}
 use Rattle.sched_model.proofs.RunLemmas.{after_entries-append, IsRunFrom-append, IsNext-action, after_entry-action}
 use Rattle.sched_ranges.specs.Ranges.{StateInRange}
 use Rattle.sched_ranges.proofs.Done.{in_range}
 use Rattle.sched_plain.specs.Reached.{Reachable, Stands}
-
--- the opening
-pub reach-opening : (m : Machine) → Reachable m (opening m)
-reach-opening m = record { entries = []; run = tt; leads = refl }
 
 -- one more entry
 reach-entry : (m : Machine) (s next : State) (entry : Entry) → Reachable m s → IsNext m (record { state = s; over = false }) entry → after_entry m (record { state = s; over = false }) entry ≡ record { state = next; over = false } → Reachable m next
@@ -46,7 +40,3 @@ stands-after m s action stands on = record { checked = stands.checked; reached =
 
 pub stands-next : (m : Machine) (s : State) (next : ℕ) → Stands m s → first_enabled m s s.now ≡ None → next_in_horizon m s ≡ Some next → Stands m (record s { now = next })
 stands-next m s next stands nothing is = record { checked = stands.checked; reached = reach-next m s next stands.reached nothing is }
-
--- where it stands at the opening
-pub stands-opening : (m : Machine) → IsChecked m → Stands m (opening m)
-stands-opening m checked = record { checked = checked; reached = reach-opening m }

@@ -3,7 +3,7 @@
 ghost use Rattle.std.specs.Prelude.{◌≡◌, ◌<◌, ◌≤◌, true, Some, length, slice_get};
 ghost use Rattle.sched_model.specs.declared.action.Action.TheVariants as actions;
 ghost use Rattle.sched_model.specs.Actions.{home_of as home_of_spec};
-ghost use Rattle.sched_model.specs.Machine.{is_enabled, event_of};
+ghost use Rattle.sched_model.specs.Machine.{is_enabled, answer_of, event_of};
 ghost use Rattle.sched_model.specs.Opening.{core_count};
 ghost use Rattle.plain_pool.specs.Own.{IsOfPool};
 ghost use Rattle.plain_telling.specs.Rooms.{HasPlaces};
@@ -20,9 +20,10 @@ use plain_telling::scratch::Scratch;
 use plain_telling::telling::tell as tell_in;
 use sched_base::{DomId, Moment, PoolId, ResId};
 use sched_model::action::Action;
-use sched_model::event::Event;
+use sched_model::event::{Event, Refusal, Reply};
 use sched_model::machine::Machine;
 use sched_model::state::State;
+use sched_model::work::CommandLine;
 
 /// The next stall of the workload.
 fn tell_stall(m: &Machine, s: &State) -> Event
@@ -40,6 +41,25 @@ fn tell_stall(m: &Machine, s: &State) -> Event
     }
 }
 
+/// What is answered to the next line with a command.
+fn answer(
+    m: &Machine,
+    s: &State,
+    line: &CommandLine,
+    tool: &mut ToolState,
+) -> Result<Reply, Refusal>
+    requires stands { Stands m.now s.now }
+    requires next { slice_get m.now.work.commands s.now.next_command ≡ Some line.now }
+    requires tool { KnowsMachine m.now tool.old }
+    ensures answer { result ≡ answer_of m.now s.entry.now line.now }
+    ensures tool { KnowsMachine m.now tool.new }
+{
+    match verdict(m, s, line, tool) {
+        Err(fault) => Err(fault),
+        Ok(plan) => Ok(reply_of(&plan)),
+    }
+}
+
 /// The next command of the workload, and what is answered to it.
 fn tell_command(m: &Machine, s: &State, tool: &mut ToolState) -> Event
     requires stands { Stands m.now s.now }
@@ -51,13 +71,9 @@ fn tell_command(m: &Machine, s: &State, tool: &mut ToolState) -> Event
     let Some(line) = m.work.commands.as_slice().get(s.next_command as usize) else {
         unreachable!();
     };
-    let reply = match verdict(m, s, line, tool) {
-        Err(fault) => Err(fault),
-        Ok(plan) => Ok(reply_of(&plan)),
-    };
     Event::Xl {
         k: s.next_command + 1,
-        reply,
+        reply: answer(m, s, line, tool),
     }
 }
 
