@@ -35,7 +35,7 @@ fn next_of(slot: &PoolSlot, first: Option<Action>) -> Option<Moment>
 }
 
 /// The first event of each pool that may come at t.
-pub(crate) fn read_firsts(slots: &[PoolSlot], t: Moment, firsts: &mut [Option<Action>])
+pub fn read_firsts(slots: &[PoolSlot], t: Moment, firsts: &mut [Option<Action>])
     requires count { length firsts.old ≡ length slots.now }
     ensures count { length firsts.new ≡ length slots.now }
     ensures firsts { AreFirsts t.0 slots.now firsts.new }
@@ -46,7 +46,7 @@ pub(crate) fn read_firsts(slots: &[PoolSlot], t: Moment, firsts: &mut [Option<Ac
 }
 
 /// The next moment of each pool of which no event may come now.
-fn read_nexts(slots: &[PoolSlot], firsts: &[Option<Action>], nexts: &mut [Option<Moment>])
+pub fn read_nexts(slots: &[PoolSlot], firsts: &[Option<Action>], nexts: &mut [Option<Moment>])
     requires firsts { length firsts.now ≡ length slots.now }
     requires nexts { length nexts.old ≡ length slots.now }
     ensures count { length nexts.new ≡ length slots.now }

@@ -1,0 +1,75 @@
+-- The arrival that a seat keeps is one of a processor of the input.
+use Rattle.std.proofs.Common.{◌≡◌, ◌<◌, ◌∙◌, ◌&&◌, ℕ, Bool, true, false, List, refl, sym, ap, subst, arith}
+use Rattle.std.specs.Prelude.{◌==◌, Option, Some, None, if◌then◌else◌}
+use Rattle.std.specs.Option.{ForSome}
+use Rattle.sched_base.specs.declared.ProcId.{ProcId}
+use Rattle.sched_model.specs.declared.action.Action.{Action}
+use Rattle.sched_model.specs.declared.action.Action.TheVariants.{Arrive}
+use Rattle.sched_model.specs.declared.action.Actor.{Actor}
+use Rattle.sched_model.specs.declared.action.Actor.TheVariants.{Proc, Dom, Tool}
+use Rattle.sched_model.specs.declared.event.Entry.{Entry}
+use Rattle.sched_model.specs.declared.event.Event.{Event}
+use Rattle.sched_model.specs.declared.event.Event.TheVariants as event
+use Rattle.sched_model.specs.declared.machine.Machine.{Machine}
+use Rattle.sched_model.specs.declared.state.Pool.{Pool}
+use Rattle.sched_model.specs.declared.state.State.{State}
+use Rattle.sched_model.specs.Actions.{candidates, home_of}
+use Rattle.sched_model.specs.Machine.{is_enabled}
+use Rattle.sched_model.specs.Places.{test_at}
+use Rattle.sched_model.specs.Runs.{action_of}
+use Rattle.sched_model.proofs.RunLemmas.{action_of-event_of, find_passes}
+use Rattle.sched_laws.proofs.Bools.{and_left}
+use Rattle.sched_laws.proofs.Lists.{some-test_at}
+use Rattle.actor_laws.specs.Actors.{is_by_actor}
+use Rattle.pool_core.specs.Actors.{is_by}
+use Rattle.journal_core.specs.Histories.{state_at}
+use Rattle.lock_moves.specs.Sight.{Seen}
+use Rattle.hall.specs.declared.seat.Arrival.{Arrival}
+use Rattle.hall.specs.Seats.{arrived_after}
+use Rattle.hall.specs.Turns.{HasActed, is_actor}
+
+-- an arrival is by the processor that arrives
+in-pool : (m : Machine) (pool : Pool) (actor : Actor) (p : ℕ) → is_by m.config.granularity pool actor (Arrive p) ≡ true → is_actor m.config actor ≡ true → p < m.config.processors
+in-pool m pool (Proc q) p own there = grind (arith, own, there)
+in-pool m pool (Dom d) p own there = absurd (cc)
+in-pool m pool Tool p own there = absurd (cc)
+
+arrives : (m : Machine) (s : State) (actor : Actor) (p : ℕ) → is_by_actor m s actor (Arrive p) ≡ true → is_actor m.config actor ≡ true → p < m.config.processors
+arrives m s actor p own there = by_home (home_of m.config.granularity s (Arrive p)) own
+  where
+    by_home : (o : Option ℕ) → elim o as (λ _. Bool) [ None ↦ false | Some i ↦ test_at s.pools i (λ pool. is_by m.config.granularity pool actor (Arrive p)) ] ≡ true → p < m.config.processors
+    by_home None is = absurd (cc)
+    by_home (Some i) is = (let x = some-test_at s.pools i (λ pool. is_by m.config.granularity pool actor (Arrive p)) is in in-pool m x.0 actor p x.2 there)
+
+pub arrival-few : (actor : Actor) (place : ℕ) (e : Event) (before : List Entry) (old new : Seen) → HasActed actor place e before old new → is_actor old.input.config actor ≡ true → (p : ProcId) → e ≡ event.Arrive p → p.0 < old.input.config.processors
+arrival-few actor place e before old new acted there p is =
+    let m = old.input in
+    let s : State = state_at m before in
+    let by : is_by_actor m s actor acted.action ≡ true =
+    and_left (is_by_actor m s actor acted.action) (is_enabled m s s.now acted.action)
+    (find_passes (λ a. is_by_actor m s actor a && is_enabled m s s.now a) (candidates m.config) acted.action acted.first) in
+    let told : (let a : Option Action = Some acted.action in a) ≡ Some (Arrive p.0) = sym (action_of-event_of m s s.now acted.action) ∙ ap action_of (sym acted.is_event ∙ is) in
+    let same : acted.action ≡ Arrive p.0 = cc in
+    arrives m s actor p.0 (subst (λ (a : Action). is_by_actor m s actor a ≡ true) same by) there
+
+kept-one : (gone : Bool) (b a : Arrival) → (if gone then None else Some b) ≡ Some a → (let o : Option Arrival = Some b in o) ≡ Some a
+kept-one true b a is = absurd (cc)
+kept-one false b a is = is
+
+pub arrived-few : (g n : ℕ) (before : List Entry) (e : Event) (kept : Option Arrival) → ForSome kept (λ a. a.p.0 < n) → ((p : ProcId) → e ≡ event.Arrive p → p.0 < n) → ForSome (arrived_after g before e kept) (λ a. a.p.0 < n)
+arrived-few g n before (event.Arrive p) kept few here a at = (let low = here p refl in let is : p ≡ a.p = cc in subst (λ (x : ProcId). x.0 < n) is low)
+arrived-few g n before (event.Leave p v) None few here a at = absurd (cc)
+arrived-few g n before (event.Leave p v) (Some b) few here a at = few a (kept-one (b.p.0 == p.0) b a at)
+arrived-few g n before (event.Stall p until) kept few here a at = few a at
+arrived-few g n before (event.Xl k answer) kept few here a at = few a at
+arrived-few g n before (event.Moved r to) kept few here a at = few a at
+arrived-few g n before (event.DomMoved d to) kept few here a at = few a at
+arrived-few g n before (event.Wake v) kept few here a at = few a at
+arrived-few g n before (event.Block p v) kept few here a at = few a at
+arrived-few g n before (event.Slice r) kept few here a at = few a at
+arrived-few g n before (event.Repl u start deadline budget extra) kept few here a at = few a at
+arrived-few g n before (event.Refill d periods budget) kept few here a at = few a at
+arrived-few g n before (event.Decide r unit due late reset) kept few here a at = few a at
+arrived-few g n before (event.Save r u queued) kept few here a at = few a at
+arrived-few g n before (event.End moment) kept few here a at = few a at
+arrived-few g n before event.Finish kept few here a at = few a at

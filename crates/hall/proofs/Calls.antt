@@ -1,0 +1,197 @@
+-- What a whole call of the hall has seen and done, from its steps: locks are taken, the book is taken, something is settled with it, and the locks go back.
+use mathlib.Core.List.{IsPrefix}
+use Rattle.std.proofs.Common.{◌≡◌, ◌∙◌, ◌++◌, ◌&&◌, ℕ, Bool, true, false, List, [], ◌∷◌, length, refl, sym, ap, subst, arith}
+use Rattle.std.specs.Prelude.{Some, None}
+use Rattle.sched_base.specs.Numbers.{moment}
+use Rattle.sched_base.specs.declared.Moment.{Moment}
+use Rattle.sched_model.specs.declared.action.Action.{Action}
+use Rattle.sched_model.specs.declared.action.Actor.{Actor}
+use Rattle.sched_model.specs.declared.event.Entry.{Entry}
+use Rattle.sched_model.specs.declared.event.Event.{Event}
+use Rattle.sched_model.specs.declared.event.Event.TheVariants as event
+use Rattle.sched_model.specs.declared.machine.Machine.{Machine}
+use Rattle.sched_model.specs.declared.state.State.{State}
+use Rattle.sched_model.specs.Actions.{candidates}
+use Rattle.sched_model.specs.Checked.{IsChecked}
+use Rattle.sched_model.specs.Machine.{event_of, first_enabled, is_enabled, next_in_horizon}
+use Rattle.sched_model.specs.Runs.{IsNext, IsRun, IsWholeRun}
+use Rattle.sched_model.proofs.RunLemmas.{find_passes}
+use Rattle.sched_laws.proofs.Bools.{and_right}
+use Rattle.order_laws.proofs.Entries.{rest_when_over}
+use Rattle.actor_laws.specs.Actors.{first_by, is_by_actor}
+use Rattle.actor_laws.proofs.Whole.{none_comes}
+use Rattle.journal_core.specs.Books.{Chronicle}
+use Rattle.journal_core.specs.Histories.{reached_by, state_at}
+use Rattle.engine.proofs.Clock.{first-comes}
+use Rattle.pool_slots.specs.Places.{GoesOn}
+use Rattle.pool_slots.specs.Told.{told_of}
+use Rattle.pool_slots.proofs.Going.{entry-is, goes-on, state_of-is}
+use Rattle.lock_moves.specs.Sight.{Sitting}
+use Rattle.hall.specs.declared.turns.Done.{Done}
+use Rattle.hall.specs.declared.turns.Done.TheVariants as done
+use Rattle.hall.specs.declared.turns.Full.{Full}
+use Rattle.hall.specs.declared.turns.Turn.{Turn}
+use Rattle.hall.specs.declared.turns.Turn.TheVariants as turn
+use Rattle.hall.specs.Seats.{IsCountBefore}
+use Rattle.hall.specs.Settling.{DoneIn, FindsFull, FullWhole, Settles, SettlesEvent, SettlesFull, SettlesNothing, TurnIn, Turns, TurnsClose, TurnsFinish, TurnsOver, TurnsStep, state_in}
+use Rattle.hall.specs.Steps.{HasEntered, KeepsSight, SeesBook}
+use Rattle.hall.specs.Turns.{ActsFull, Added, HasActed, HasClosed, HasFinished, HasStepped, IsFull, IsOverAt, Looked, TurnsFull}
+
+-- the first action of an actor may come
+pub actor-comes : (m : Machine) (s : State) (actor : Actor) (action : Action) → first_by m s actor ≡ Some action → is_enabled m s s.now action ≡ true
+actor-comes m s actor action found =
+    and_right (is_by_actor m s actor action) (is_enabled m s s.now action)
+    (find_passes (λ a. is_by_actor m s actor a && is_enabled m s s.now a) (candidates m.config) action found)
+
+-- where an action may come, the run is not over
+pub goes-where : (b : Chronicle) → IsChecked b.input → IsRun b.input b.history → (action : Action) → is_enabled b.input (state_in b) (state_in b).now action ≡ true → GoesOn (told_of b)
+goes-where b checked run action on =
+    let m = b.input in
+    let h = b.history in
+    let s : State = state_at m h in
+    let same : state_in b ≡ s = state_of-is (told_of b) in
+    let comes : is_enabled m s s.now action ≡ true = subst (λ (x : State). is_enabled m x x.now action ≡ true) same on in
+    let goes : (over : Bool) → (reached_by m h).over ≡ over → over ≡ false = λ over is.
+    elim over as (λ b. (reached_by m h).over ≡ b → b ≡ false) [
+      | true ↦ λ ended. absurd (none_comes m checked h run s.now (rest_when_over m h run ended).now action comes)
+      | false ↦ λ ended. refl
+    ] is in
+    record { checked = checked; run = run; goes = goes (reached_by m h).over refl }
+
+-- the history with the event of an action that may come is a run's beginning
+pub run-with : (b : Chronicle) → IsChecked b.input → IsRun b.input b.history → (action : Action) → is_enabled b.input (state_in b) (state_in b).now action ≡ true → (e : Event) → e ≡ event_of b.input (state_in b) (state_in b).now action
+    → IsRun b.input (b.history ++ record { at = moment (state_in b).now; event = e } ∷ [])
+run-with b checked run action on e is =
+    let entry : Entry = record { at = moment (state_in b).now; event = e } in
+    (goes-on (told_of b) (goes-where b checked run action on) action on entry (entry-is (told_of b) action entry refl is)).run
+
+module _ (b : Chronicle) (s0 s1 s2 s3 s4 : Sitting) (took : KeepsSight s0 s1) (sees : SeesBook b s1 s2) (gave : KeepsSight s3 s4) (input : b.input ≡ s0.view.input) (checked : IsChecked b.input) (run : IsRun b.input b.history) where
+  state-is : state_in b ≡ state_at s0.view.input b.history
+  state-is = state_of-is (told_of b) ∙ ap (λ (m : Machine). state_at m b.history) input
+
+  -- what holds of the machine and the state of the book, holds of the seat's input and that history
+  at-seat : (P : Machine → State → Type 0) → P b.input (state_in b) → P s0.view.input (state_at s0.view.input b.history)
+  at-seat P p = subst (λ (m : Machine). P m (state_at s0.view.input b.history)) input (subst (P b.input) state-is p)
+
+  begins-in : IsPrefix s0.view.front b.history
+  begins-in = subst (λ (f : List Entry). IsPrefix f b.history) took.front sees.begins
+
+  pub looked-in : KeepsSight s2 s3 → Looked s0.view s4.view
+  looked-in keeps =
+      let front : s4.view.front ≡ b.history = gave.front ∙ keeps.front ∙ sees.front in
+      record {
+        begins = subst (IsPrefix s0.view.front) (sym front) begins-in;
+        run = subst (IsRun s0.view.input) (sym front) (subst (λ (m : Machine). IsRun m b.history) input run);
+        own = gave.own ∙ keeps.own ∙ sees.own ∙ took.own;
+        took = (let a = took.takes in let c = sees.takes in let d = keeps.takes in let e = gave.takes in omega (arith, a, c, d, e));
+        alone = λ whole. front ∙ sees.alone (took.shares ∙ whole) ∙ took.front;
+      }
+
+  front-in : KeepsSight s2 s3 → s4.view.front ≡ b.history
+  front-in keeps = gave.front ∙ keeps.front ∙ sees.front
+
+  pub added-in : (place : ℕ) (e : Event) → place ≡ length b.history → HasEntered b (record { at = moment (state_in b).now; event = e }) s2 s3
+      → IsRun b.input (b.history ++ record { at = moment (state_in b).now; event = e } ∷ []) → Added place e b.history s0.view s4.view
+  added-in place e place_is entered grown =
+      let entry : State → Entry = λ (s : State). record { at = moment s.now; event = e } in
+      let front : s4.view.front ≡ b.history ++ entry (state_in b) ∷ [] = gave.front ∙ entered.front in
+      record {
+        begins = begins-in;
+        place_is = place_is;
+        front = front ∙ ap (λ (s : State). b.history ++ entry s ∷ []) state-is;
+        run = subst (IsRun s0.view.input) (sym front) (subst (λ (m : Machine). IsRun m (b.history ++ entry (state_in b) ∷ [])) input grown);
+        own = gave.own ∙ entered.own ∙ ap (λ (xs : List ℕ). xs ++ length b.history ∷ []) (sees.own ∙ took.own) ∙ ap (λ (n : ℕ). s0.view.own ++ n ∷ []) (sym place_is);
+        took = (let a = took.takes in let c = sees.takes in let d = entered.takes in let f = gave.takes in omega (arith, a, c, d, f));
+        alone = λ whole. sees.alone (took.shares ∙ whole) ∙ took.front;
+      }
+
+  count-in : (e : Event) (decides : ℕ) → IsCountBefore b.input.config.granularity b.history e decides → IsCountBefore s0.view.input.config.granularity b.history e decides
+  count-in e decides counted = subst (λ (m : Machine). IsCountBefore m.config.granularity b.history e decides) input counted
+
+  event-in : (actor : Actor) (place : ℕ) (e : Event) (decides : ℕ) → SettlesEvent actor place e decides b s2 s3 → DoneIn actor (done.Event place e) decides s0.view s4.view
+  event-in actor place e decides settled =
+      let on = actor-comes b.input (state_in b) actor settled.action settled.first in
+      let acted : HasActed actor place e b.history s0.view s4.view = record {
+        action = settled.action;
+        first = at-seat (λ m s. first_by m s actor ≡ Some settled.action) settled.first;
+        is_event = at-seat (λ m s. e ≡ event_of m s s.now settled.action) settled.is_event;
+        added = added-in place e settled.adds.place_is settled.adds.entered (run-with b checked run settled.action on e settled.is_event);
+      } in
+      (b.history, acted, count-in e decides settled.adds.counted)
+
+  nothing-in : (actor : Actor) (decides : ℕ) → SettlesNothing actor b s2 s3 → DoneIn actor done.Nothing decides s0.view s4.view
+  nothing-in actor decides settled = record {
+    looked = looked-in settled.keeps;
+    none = subst (λ (h : List Entry). first_by s0.view.input (state_at s0.view.input h) actor ≡ None) (sym (front-in settled.keeps)) (at-seat (λ m s. first_by m s actor ≡ None) settled.none);
+  }
+
+  pub done-in : (actor : Actor) (d : Done) (decides : ℕ) → Settles actor d decides b s2 s3 → DoneIn actor d decides s0.view s4.view
+  done-in actor (done.Event place e) decides settled = event-in actor place e decides settled
+  done-in actor done.Nothing decides settled = nothing-in actor decides settled
+
+  full-is : (full : Full) → b.limit ≡ s2.view.limit → FindsFull full b s2 s3 → IsFull full s4.view
+  full-is full limit finds =
+      let last : b.limit ≡ s4.view.limit = limit ∙ sym finds.keeps.limit ∙ sym gave.limit in
+      record { events = finds.events ∙ last; length_is = ap length (front-in finds.keeps) ∙ finds.length_is ∙ last }
+
+  pub acts-full : (actor : Actor) (full : Full) → b.limit ≡ s2.view.limit → SettlesFull actor full b s2 s3 → ActsFull actor full s0.view s4.view
+  acts-full actor full limit settled = record {
+    looked = looked-in settled.finds.keeps;
+    full_is = full-is full limit settled.finds;
+    due = λ none. settled.due (
+        let there : first_by s0.view.input (state_at s0.view.input b.history) actor ≡ None = subst (λ (h : List Entry). first_by s0.view.input (state_at s0.view.input h) actor ≡ None) (front-in settled.finds.keeps) none in
+        subst (λ (s : State). first_by b.input s actor ≡ None) (sym state-is) (subst (λ (m : Machine). first_by m (state_at s0.view.input b.history) actor ≡ None) (sym input) there)
+        );
+  }
+
+  step-in : (place : ℕ) (e : Event) (decides : ℕ) → TurnsStep place e decides b s2 s3 → TurnIn (turn.Stepped place e) decides s0.view s4.view
+  step-in place e decides settled =
+      let on = first-comes b.input (state_in b) settled.action settled.first in
+      let stepped : HasStepped place e b.history s0.view s4.view = record {
+        action = settled.action;
+        first = at-seat (λ m s. first_enabled m s s.now ≡ Some settled.action) settled.first;
+        is_event = at-seat (λ m s. e ≡ event_of m s s.now settled.action) settled.is_event;
+        added = added-in place e settled.adds.place_is settled.adds.entered (run-with b checked run settled.action on e settled.is_event);
+      } in
+      (b.history, stepped, count-in e decides settled.adds.counted)
+
+  close-in : (place : ℕ) (next : Moment) → TurnsClose place next b s2 s3 → HasClosed place next b.history s0.view s4.view
+  close-in place next settled = record {
+    quiet = at-seat (λ m s. first_enabled m s s.now ≡ None) settled.quiet;
+    next_is = at-seat (λ m s. next_in_horizon m s ≡ Some next.0) settled.next_is;
+    added = added-in place (event.End next) settled.place_is settled.entered settled.grown;
+  }
+
+  finish-in : (place : ℕ) → TurnsFinish place b s2 s3 → HasFinished place b.history s0.view s4.view
+  finish-in place settled = record {
+    quiet = at-seat (λ m s. first_enabled m s s.now ≡ None) settled.quiet;
+    last = at-seat (λ m s. next_in_horizon m s ≡ None) settled.last;
+    added = added-in place event.Finish settled.place_is settled.entered settled.grown;
+  }
+
+  over-in : (place : ℕ) → TurnsOver place b s2 s3 → IsOverAt place s0.view s4.view
+  over-in place settled = record {
+    looked = looked-in settled.keeps;
+    before = settled.before;
+    last = settled.last;
+    front = front-in settled.keeps ∙ settled.history_is;
+    is_finish = settled.is_finish;
+    place_is = settled.place_is;
+    whole = subst (IsWholeRun s0.view.input) (sym (front-in settled.keeps)) (subst (λ (m : Machine). IsWholeRun m b.history) input settled.whole);
+  }
+
+  pub turn-in : (t : Turn) (decides : ℕ) → Turns t decides b s2 s3 → TurnIn t decides s0.view s4.view
+  turn-in (turn.Stepped place e) decides settled = step-in place e decides settled
+  turn-in (turn.Closed place next) decides settled = (b.history, close-in place next settled)
+  turn-in (turn.Finished place) decides settled = (b.history, finish-in place settled)
+  turn-in (turn.Over place) decides settled = over-in place settled
+
+  pub turns-full : (full : Full) → b.limit ≡ s2.view.limit → FullWhole full b s2 s3 → TurnsFull full s0.view s4.view
+  turns-full full limit settled = record {
+    looked = looked-in settled.finds.keeps;
+    full_is = full-is full limit settled.finds;
+    due = (
+      settled.due.0,
+      subst (λ (h : List Entry). IsNext s0.view.input (reached_by s0.view.input h) settled.due.0) (sym (front-in settled.finds.keeps)) (subst (λ (m : Machine). IsNext m (reached_by m b.history) settled.due.0) input settled.due.1),
+    );
+  }

@@ -1,0 +1,282 @@
+-- What a seat settles for an actor of one pool, whose lock it holds beside the book, and what it does before and after.
+use mathlib.Core.Logic.{dite}
+use native.Mathlib.Decide.{ℕ_discrete, dec_lt}
+use Rattle.std.proofs.Common.{◌≡◌, ◌≢◌, ◌∙◌, ◌≤◌, ◌<◌, ◌/◌, ◌+◌, ◌-◌, ◌&&◌, ℕ, true, false, true≢false, cond, List, [], length, refl, sym, ap, subst, arith}
+use Rattle.std.specs.Prelude.{Option, Some, None, Result, Ok, Err, IfOk, IfErr, is_some, nat_lt}
+use Rattle.std.specs.Option.{ForSome, IsSome}
+use Rattle.sched_base.specs.Numbers.{core, moment}
+use Rattle.sched_model.specs.declared.action.Action.{Action}
+use Rattle.sched_model.specs.declared.action.Action.TheVariants.{Arrive}
+use Rattle.sched_model.specs.declared.action.Actor.{Actor}
+use Rattle.sched_model.specs.declared.action.Actor.TheVariants.{Proc, Dom, Tool}
+use Rattle.sched_model.specs.declared.event.Event.{Event}
+use Rattle.sched_model.specs.declared.machine.Machine.{Machine}
+use Rattle.sched_model.specs.declared.state.FreeCore.{FreeCore}
+use Rattle.sched_model.specs.declared.state.Pool.{Pool}
+use Rattle.sched_model.specs.declared.state.State.{State}
+use Rattle.sched_model.specs.Actions.{home_of, home_of_core}
+use Rattle.sched_model.specs.Checked.{IsChecked}
+use Rattle.sched_model.specs.Machine.{event_of, is_enabled}
+use Rattle.sched_model.specs.Places.{at_place}
+use Rattle.sched_model.specs.Runs.{IsRun, action_of}
+use Rattle.sched_model.proofs.RunLemmas.{action_of-event_of}
+use Rattle.sched_laws.proofs.Bools.{and_left, and_right}
+use Rattle.sched_laws.proofs.EachPlace.{found_at, place_below}
+use Rattle.sched_laws.proofs.Lists.{some_is}
+use Rattle.journal_core.specs.Books.{Chronicle}
+use Rattle.journal_core.specs.Histories.{state_at}
+use Rattle.journal_core.specs.Parts.{StatePart, ToolPart, is_name, lists, part_of, pool_lists, tool_lock, tool_of, tool_part}
+use Rattle.order_laws.specs.OrderLaws.{ComesAtHome}
+use Rattle.order_laws.proofs.Home.{pool_is_home}
+use Rattle.part_laws.proofs.Law.{some_mapped}
+use Rattle.actor_laws.specs.Actors.{first_by, has_actor}
+use Rattle.actor_laws.proofs.Actors.{first_in_pool, none_of_free}
+use Rattle.tool_laws.proofs.Moving.{known_in_runs}
+use Rattle.pool_core.specs.Actors.{ComesFirstBy, IsFirstBy}
+use Rattle.pool_core.specs.Seen.{Seen as PoolSeen}
+use Rattle.pool_slots.specs.Places.{GoesOn, SlotSuits, StandsAt, slot_part, state_of}
+use Rattle.pool_slots.specs.Told.{told_of}
+use Rattle.pool_slots.proofs.Going.{part_of-is, range-of, state_of-is}
+use Rattle.pool_slots.proofs.Standing.{pool_at, stands-there}
+use Rattle.lock_moves.specs.declared.content.NameId.{NameId}
+use Rattle.lock_moves.specs.declared.content.NameId.TheVariants as name_id
+use Rattle.lock_moves.specs.Plays.{Current, IsPartOfSome}
+use Rattle.lock_moves.specs.Sets.{HasTaken, IsAsKnown, LockTable, seeing}
+use Rattle.lock_moves.specs.Sight.{Seen, Sitting, find_lock, gave, known, searched, without}
+use Rattle.lock_moves.specs.Words.{has_core, has_name, name_number}
+use Rattle.lock_moves.proofs.Finding.{find-head, find-tail, find-without-other, find-without-same, none_held}
+use Rattle.hall.specs.declared.turns.Done.{Done}
+use Rattle.hall.specs.declared.turns.Done.TheVariants as done
+use Rattle.hall.specs.declared.turns.Full.{Full}
+use Rattle.hall.specs.Knowing.{KnowsPool}
+use Rattle.hall.specs.Seats.{IsCountBefore}
+use Rattle.hall.specs.Settling.{DoneIn, HoldsOnly, IsNamed, Settles, SettlesEvent, SettlesFull, SettlesNothing, state_in}
+use Rattle.hall.specs.Steps.{HasBook, HasEntered, KeepsLocks, KeepsOthers, KeepsSight, SeesBook}
+use Rattle.hall.specs.Turns.{ActsFull}
+use Rattle.hall.proofs.Calls.{acts-full, done-in, goes-where}
+use Rattle.hall.proofs.Locking.{keeps_same, no_place, no_tool}
+use Rattle.hall.proofs.Parting.{now-held, part-held, stands-held}
+
+-- the book's history is a run's beginning
+run-held : (set : LockTable) (b : Chronicle) (s : Sitting) → HasBook set b s → Current s.view → IsRun b.input b.history
+run-held set b s has current = subst (λ (m : Machine). IsRun m b.history) (sym has.input) (subst (IsRun s.view.input) has.front current.3.run)
+
+module _ (set : LockTable) (b : Chronicle) (s : Sitting) (has : HasBook set b s) (current : Current s.view) (of_hall : IsChecked set.opened.input) (input : b.input ≡ set.opened.input)
+    (i : ℕ) (low : i < 16) (slot : Option PoolSeen) (knows : KnowsPool i slot s.view) (some : IsSome slot) (t : ℕ) (now : t ≡ s.view.now)
+    (actor : Actor) (mine : ForSome slot (λ seen. has_actor seen.granularity seen.pool actor ≡ true))
+    (found : Option Action) (first : ForSome slot (λ seen. IsFirstBy seen.granularity t seen.pool actor found)) where
+  abbrev m : Machine
+  m = b.input
+
+  checked : IsChecked m
+  checked = subst IsChecked (sym input) of_hall
+
+  -- where the book leads, by the word of the laws
+  abbrev there : State
+  there = state_at b.input b.history
+
+  run : IsRun m b.history
+  run = run-held set b s has current
+
+  same : state_in b ≡ there
+  same = state_of-is (told_of b)
+
+  here : (seen : PoolSeen) × (slot ≡ Some seen)
+  here = some_is slot some
+
+  abbrev seen : PoolSeen
+  seen = here.0
+
+  stands : StandsAt (told_of b) i slot
+  stands = stands-held set b s has current i slot low knows
+
+  at : at_place there.pools i ≡ Some seen.pool
+  at = subst (λ (x : State). at_place x.pools i ≡ Some seen.pool) same (stands-there (told_of b) i slot stands ∙ ap pool_at here.1)
+
+  granularity : seen.granularity ≡ m.config.granularity
+  granularity = (stands.suits seen here.1).granularity
+
+  time : t ≡ there.now
+  time = now ∙ now-held set b s has current ∙ ap (λ (x : State). x.now) same
+
+  first-there : IsFirstBy m.config.granularity there.now seen.pool actor found
+  first-there = subst (λ (n : ℕ). IsFirstBy m.config.granularity n seen.pool actor found) time (subst (λ (g : ℕ). IsFirstBy g t seen.pool actor found) granularity (first seen here.1))
+
+  -- what was found is the actor's first action of the whole machine
+  first-held : first_by m (state_in b) actor ≡ found
+  first-held =
+      let has_it : has_actor m.config.granularity seen.pool actor ≡ true = subst (λ (g : ℕ). has_actor g seen.pool actor ≡ true) granularity (mine seen here.1) in
+      subst (λ (x : State). first_by m x actor ≡ found) (sym same) (first_in_pool m checked b.history run i seen.pool actor at has_it found first-there)
+
+  pub nothing-held : (new : Sitting) → found ≡ None → KeepsSight s new → SettlesNothing actor b s new
+  nothing-held new none keeps = record { keeps = keeps; none = first-held ∙ none }
+
+  module _ (action : Action) (is : found ≡ Some action) where
+    comes-first : ComesFirstBy m.config.granularity there.now seen.pool actor action
+    comes-first = subst (λ (o : Option Action). IsFirstBy m.config.granularity there.now seen.pool actor o) is first-there
+
+    at-home : ComesAtHome m there there.now i action
+    at-home = (pool_is_home m checked b.history run i there.now action).0 (record { pool = seen.pool; at = at; enabled = comes-first.enabled })
+
+    pub enabled-held : is_enabled m (state_of (told_of b)) (state_of (told_of b)).now action ≡ true
+    enabled-held = subst (λ (x : State). is_enabled m x x.now action ≡ true) (sym same) at-home.enabled
+
+    pub home-held : home_of m.config.granularity (state_of (told_of b)) action ≡ Some i
+    home-held = subst (λ (x : State). home_of m.config.granularity x action ≡ Some i) (sym same) at-home.home
+
+    pub goes-held : GoesOn (told_of b)
+    goes-held = goes-where b checked run action enabled-held
+
+    -- a core that a pool has is one of 64
+    pub few-held : (p : ℕ) → action ≡ Arrive p → p / set.opened.input.config.granularity < 64
+    few-held p arrives =
+        let r : ℕ = p / m.config.granularity in
+        let home : home_of_core (state_of (told_of b)) r ≡ Some i = subst (λ (a : Action). home_of m.config.granularity (state_of (told_of b)) a ≡ Some i) arrives home-held in
+        let f = found_at i (λ (pool : Pool). is_some (at_place pool.resources r)) (state_of (told_of b)).pools home in
+        let c = some_is (at_place f.0.resources r) f.2 in
+        let below = place_below f.0.resources r c.0 c.1 in
+        let cores = ((range-of (told_of b) goes-held).pools i f.0 f.1).core_places in
+        let few = (known_in_runs m checked b.history run).few_cores in
+        let small : r < 64 = omega (arith, below, cores, few) in
+        subst (λ (x : Machine). p / x.config.granularity < 64) input small
+
+    pub full-held : (full : Full) (new : Sitting) → KeepsSight s new → full.events ≡ b.limit → length b.history ≤ b.limit → (length b.history < b.limit → ⊥) → SettlesFull actor full b s new
+    full-held full new keeps events fits no_room = record {
+      finds = record { keeps = keeps; events = events; length_is = omega (arith, fits, no_room) };
+      due = λ none. (let there_is : (let o : Option Action = None in o) ≡ Some action = sym none ∙ first-held ∙ is in absurd (cc));
+    }
+
+    pub event-held : (place : ℕ) (e : Event) (decides : ℕ) (new : Sitting) → place ≡ length b.history → e ≡ event_of m (state_of (told_of b)) (state_of (told_of b)).now action
+        → HasEntered b (record { at = moment t; event = e }) s new → ((x : Event) → action_of x ≡ Some action → IsCountBefore set.opened.input.config.granularity b.history x decides) → SettlesEvent actor place e decides b s new
+    event-held place e decides new place_is e_is entered count = record {
+      action = action;
+      first = first-held ∙ is;
+      is_event = e_is;
+      adds = record {
+        place_is = place_is;
+        entered = subst (λ (n : ℕ). HasEntered b (record { at = moment n; event = e }) s new) (now ∙ now-held set b s has current) entered;
+        counted = subst (λ (x : Machine). IsCountBefore x.config.granularity b.history e decides) (sym input)
+            (count e (ap action_of e_is ∙ action_of-event_of m (state_of (told_of b)) (state_of (told_of b)).now action));
+      };
+    }
+
+-- the lock is put back, and nothing is held
+pub only-gone : (k : ℕ) (s1 s2 s3 s4 : Sitting) → HoldsOnly k s1.view → ((j : ℕ) → j ≢ 17 → find_lock j s2.view.held ≡ find_lock j s1.view.held) → KeepsOthers k s2.view s3.view → s4 ≡ seeing s3 (gave k s3.view) → s4.view.held ≡ []
+only-gone k s1 s2 s3 s4 only locks others is =
+    ap (λ (s : Sitting). s.view.held) is ∙ none_held (without k s3.view.held) (λ j. dite (ℕ_discrete j k)
+    (λ same. ap (λ (n : ℕ). find_lock n (without k s3.view.held)) same ∙ find-without-same k s3.view.held)
+    (λ other. find-without-other k j s3.view.held other ∙ dite (dec_lt j 17)
+    (λ part. others.locks j part other ∙ locks j (λ e. omega (arith, e, part)) ∙ only j other)
+    (λ high. dite (ℕ_discrete j 17)
+    (λ book. ap (λ (n : ℕ). find_lock n s3.view.held) book ∙ others.book)
+    (λ more. others.others j (omega (arith, high, more)) (locks j more ∙ only j other)))))
+
+pub same-sight : (s0 s1 : Sitting) → s1 ≡ s0 → KeepsSight s0 s1
+same-sight s0 s1 same = subst (KeepsSight s0) (sym same) (keeps_same s0)
+
+-- a whole call, from its steps
+module _ (set hall : LockTable) (b : Chronicle) (s0 s1 s2 s3 s4 : Sitting) (took : KeepsSight s0 s1) (sees : SeesBook b s1 s2) (has : HasBook set b s2) (current : Current s2.view) (gave_back : KeepsSight s3 s4)
+    (of_set : s0.view.input ≡ hall.opened.input) (of_hall : IsChecked hall.opened.input) where
+  input-held : b.input ≡ s0.view.input
+  input-held = has.input ∙ sees.input ∙ took.input
+
+  checked-held : IsChecked b.input
+  checked-held = subst IsChecked (sym (input-held ∙ of_set)) of_hall
+
+  pub done-held : (actor : Actor) (r : Result (Done × ℕ) Full) → IfOk r (λ d. Settles actor d.0 d.1 b s2 s3) → IfOk r (λ d. DoneIn actor d.0 d.1 s0.view s4.view)
+  done-held actor (Ok d) settled = done-in b s0 s1 s2 s3 s4 took sees gave_back input-held checked-held (run-held set b s2 has current) actor d.0 d.1 settled
+  done-held actor (Err full) settled = tt
+
+  pub idle-held : (actor : Actor) → SettlesNothing actor b s2 s3 → DoneIn actor done.Nothing 0 s0.view s4.view
+  idle-held actor settled = done-in b s0 s1 s2 s3 s4 took sees gave_back input-held checked-held (run-held set b s2 has current) actor done.Nothing 0 settled
+
+  pub fills-held : (actor : Actor) (r : Result (Done × ℕ) Full) → IfErr r (λ full. SettlesFull actor full b s2 s3) → IfErr r (λ full. ActsFull actor full s0.view s4.view)
+  fills-held actor (Ok d) settled = tt
+  fills-held actor (Err full) settled = acts-full b s0 s1 s2 s3 s4 took sees gave_back input-held checked-held (run-held set b s2 has current) actor full has.limit settled
+
+-- a lock was found and taken by a seat that held none
+module _ (k : ℕ) (part : StatePart) (refused : List ℕ) (t : ℕ) (s0 s1 : Sitting) (taken : HasTaken k part (searched refused t s0.view) s0 s1) where
+  pub sought-keeps : KeepsSight s0 s1
+  sought-keeps = subst (KeepsSight s0) (sym taken.2) (record { table = refl; input = refl; limit = refl; shares = refl; front = refl; own = refl; takes = refl })
+
+  pub sought-known : IsAsKnown k part s1.view
+  sought-known = (known part taken.0, ap (λ (s : Sitting). find_lock k s.view.held) taken.2 ∙ find-head k (known part taken.0) [], refl, taken.3)
+
+  pub sought-only : HoldsOnly k s1.view
+  sought-only j other = ap (λ (s : Sitting). find_lock j s.view.held) taken.2 ∙ find-tail j k (known part taken.0) [] other
+
+-- a pool's place lies under a pool's lock, and what the tool keeps under the tool's
+pub lock-of-pool : (k : ℕ) (slot : Option PoolSeen) (v : Seen) → k < 17 → IsPartOfSome k (slot_part slot) v → k < 16
+lock-of-pool k slot v low some = dite (ℕ_discrete k 16)
+    (λ is. absurd (no_place v slot (subst (λ (n : ℕ). IsPartOfSome n (slot_part slot) v) is some)))
+    (λ other. omega (arith, low, other))
+
+pub lock-of-tool : (k : ℕ) (tool : ToolPart) (v : Seen) → k < 17 → IsPartOfSome k (tool_part tool) v → k ≡ 16
+lock-of-tool k tool v low some = dite (dec_lt k 16)
+    (λ below. absurd (no_tool k v tool below some))
+    (λ high. omega (arith, low, high))
+
+high-name : (d : ℕ) → nat_lt (64 + d) 64 ≡ false
+high-name d = grind arith
+
+same-name : (a b : NameId) → (let o : Option NameId = Some a in o) ≡ Some b → b ≡ a
+same-name a b is = cc
+
+no-name : (b : NameId) → (let o : Option NameId = None in o) ≡ Some b → ⊥
+no-name b is = absurd (cc)
+
+-- a pool that lists the actor's name has the actor
+listed-has : (m : Machine) (actor : Actor) (name : NameId) → IsNamed m actor name → (pool : Pool) → pool_lists (name_number name) pool ≡ true → has_actor m.config.granularity pool actor ≡ true
+listed-has m (Proc p) name named pool listed =
+    let r : ℕ = p.0 / m.config.granularity in
+    let same : name ≡ name_id.Res (core r) = same-name (name_id.Res (core r)) name named.is in
+    let has : has_core m r ≡ true = subst (λ (n : NameId). has_name m n ≡ true) same named.has in
+    let low : nat_lt r 64 ≡ true = and_left (nat_lt r 64) (is_name m.config r) has in
+    let here : pool_lists r pool ≡ true = subst (λ (n : NameId). pool_lists (name_number n) pool ≡ true) same listed in
+    sym (ap (λ b. cond b (is_some (at_place pool.resources r)) (is_some (at_place pool.domains (r - 64)))) low) ∙ here
+listed-has m (Dom d) name named pool listed =
+    let same : name ≡ name_id.Dom d = same-name (name_id.Dom d) name named.is in
+    let here : pool_lists (64 + d.0) pool ≡ true = subst (λ (n : NameId). pool_lists (name_number n) pool ≡ true) same listed in
+    let back : 64 + d.0 - 64 ≡ d.0 = omega arith in
+    subst (λ (n : ℕ). is_some (at_place pool.domains n) ≡ true) back
+    (sym (ap (λ b. cond b (is_some (at_place pool.resources (64 + d.0))) (is_some (at_place pool.domains (64 + d.0 - 64)))) (high-name d.0)) ∙ here)
+listed-has m Tool name named pool listed = absurd (no-name name named.is)
+
+pub actor-there : (m : Machine) (now : ℕ) (actor : Actor) (name : NameId) → IsNamed m actor name → (slot : Option PoolSeen) → ForSome slot (SlotSuits m now) → lists (slot_part slot) (name_number name) ≡ true
+    → ForSome slot (λ seen. has_actor seen.granularity seen.pool actor ≡ true)
+actor-there m now actor name named slot suits listed seen is =
+    subst (λ (g : ℕ). has_actor g seen.pool actor ≡ true) (sym (suits seen is).granularity)
+    (listed-has m actor name named seen.pool (subst (λ (o : Option PoolSeen). lists (slot_part o) (name_number name) ≡ true) is listed))
+
+-- where the tool's part lists the actor's name, its core is free, and nothing of it may come
+module _ (set hall : LockTable) (b : Chronicle) (s : Sitting) (has : HasBook set b s) (current : Current s.view) (of_hall : IsChecked hall.opened.input) (input : b.input ≡ hall.opened.input) (part : ToolPart) (knows : IsAsKnown tool_lock (tool_part part) s.view) where
+  free-listed : (n : ℕ) → lists (tool_part part) n ≡ true → (nat_lt n 64 && is_some (at_place (tool_of (state_in b)).free n)) ≡ true
+  free-listed n listed =
+      let is : (let p : StatePart = tool_part part in p) ≡ part_of (state_of (told_of b)) tool_lock = part-held set b s has current tool_lock (tool_part part) (omega arith) knows ∙ part_of-is (told_of b) tool_lock in
+      subst (λ (p : StatePart). lists p n ≡ true) is listed
+
+  nothing-free : (m : Machine) → m ≡ b.input → (actor : Actor) (name : NameId) → IsNamed m actor name → lists (tool_part part) (name_number name) ≡ true → first_by b.input (state_in b) actor ≡ None
+  nothing-free m is (Proc p) name named listed =
+      let r : ℕ = p.0 / m.config.granularity in
+      let same : name ≡ name_id.Res (core r) = same-name (name_id.Res (core r)) name named.is in
+      let both = free-listed r (subst (λ (n : NameId). lists (tool_part part) (name_number n) ≡ true) same listed) in
+      let ends : is_some (at_place (tool_of (state_in b)).free r) ≡ true = and_right (nat_lt r 64) (is_some (at_place (tool_of (state_in b)).free r)) both in
+      let free : is_some (at_place (state_in b).free r) ≡ true = sym (some_mapped (λ (c : FreeCore). c.stall_ends) r (state_in b).free) ∙ ends in
+      let c = some_is (at_place (state_in b).free r) free in
+      let state : state_in b ≡ state_at b.input b.history = state_of-is (told_of b) in
+      let at : at_place (state_at b.input b.history).free (p.0 / b.input.config.granularity) ≡ Some c.0 =
+      subst (λ (x : Machine). at_place (state_at b.input b.history).free (p.0 / x.config.granularity) ≡ Some c.0) is (subst (λ (x : State). at_place x.free r ≡ Some c.0) state c.1) in
+      subst (λ (x : State). first_by b.input x (Proc p) ≡ None) (sym state) (none_of_free b.input (subst IsChecked (sym input) of_hall) b.history (run-held set b s has current) p c.0 at)
+  nothing-free m is (Dom d) name named listed =
+      let same : name ≡ name_id.Dom d = same-name (name_id.Dom d) name named.is in
+      let both = free-listed (64 + d.0) (subst (λ (n : NameId). lists (tool_part part) (name_number n) ≡ true) same listed) in
+      let low : nat_lt (64 + d.0) 64 ≡ true = and_left (nat_lt (64 + d.0) 64) (is_some (at_place (tool_of (state_in b)).free (64 + d.0))) both in
+      absurd (true≢false (sym low ∙ high-name d.0))
+  nothing-free m is Tool name named listed = absurd (no-name name named.is)
+
+  pub free-settles : (actor : Actor) (name : NameId) → IsNamed hall.opened.input actor name → lists (tool_part part) (name_number name) ≡ true → (new : Sitting) → KeepsSight s new → SettlesNothing actor b s new
+  free-settles actor name named listed new keeps = record { keeps = keeps; none = nothing-free hall.opened.input (sym input) actor name named listed }
+
+-- putting the book back changes of no other lock what is known
+pub keeps-all : (k : ℕ) (old new : Seen) → KeepsLocks old new → KeepsOthers k old new
+keeps-all k old new keeps = record { locks = λ j low other. keeps.locks j low; others = keeps.others; book = keeps.book; moment = keeps.moment }

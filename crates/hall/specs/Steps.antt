@@ -1,0 +1,88 @@
+-- What the steps of a seat change of what it has seen and holds: locks that are taken or given back, the book, and an entry that is added.
+use Rattle.std.specs.Prelude.{ℕ, ◌≡◌, ◌≢◌, ◌<◌, ◌++◌, ◌∷◌, [], List, Some, None, length, true}
+use mathlib.Core.List.{IsPrefix}
+use Rattle.sched_model.specs.declared.event.Entry.{Entry}
+use Rattle.sched_model.specs.declared.event.Event.{Event}
+use Rattle.sched_model.specs.Runs.{action_of}
+use Rattle.journal_core.specs.Books.{Chronicle}
+use Rattle.journal_core.specs.Histories.{part_at}
+use Rattle.lock_moves.specs.Deciding.{who_decides}
+use Rattle.lock_moves.specs.Sets.{HasName, LockTable}
+use Rattle.lock_moves.specs.Sight.{Holds, Known, Seen, Sitting, find_lock, known}
+use Rattle.lock_moves.specs.Words.{has_core}
+
+-- the seat has seen and done no more: it took locks of parts or gave them back
+pub record KeepsSight (old new : Sitting) : Type 0 where
+  pub table : new.table ≡ old.table
+  pub input : new.view.input ≡ old.view.input
+  pub limit : new.view.limit ≡ old.view.limit
+  pub shares : new.view.shares ≡ old.view.shares
+  pub front : new.view.front ≡ old.view.front
+  pub own : new.view.own ≡ old.view.own
+  pub takes : new.view.takes ≡ old.view.takes
+
+-- the seat of the set has the book b, whose history is its front
+pub record HasBook (set : LockTable) (b : Chronicle) (s : Sitting) : Type 0 where
+  pub table : s.table ≡ set.table
+  pub holds : Holds 17 s.view
+  pub input : b.input ≡ s.view.input
+  pub limit : b.limit ≡ s.view.limit
+  pub front : s.view.front ≡ b.history
+  pub nobody : s.view.named ≡ 0
+
+-- the seat has taken the book b, whose history goes on from what the seat had seen
+pub record SeesBook (b : Chronicle) (old new : Sitting) : Type 0 where
+  pub table : new.table ≡ old.table
+  pub input : new.view.input ≡ old.view.input
+  pub limit : new.view.limit ≡ old.view.limit
+  pub shares : new.view.shares ≡ old.view.shares
+  pub own : new.view.own ≡ old.view.own
+  pub front : new.view.front ≡ b.history
+  pub begins : IsPrefix old.view.front b.history
+  pub takes : old.view.takes < new.view.takes
+  pub alone : old.view.shares ≡ 1024 → b.history ≡ old.view.front
+
+-- the seat has added the entry to the book b, and has given the book back
+pub record HasEntered (b : Chronicle) (entry : Entry) (old new : Sitting) : Type 0 where
+  pub table : new.table ≡ old.table
+  pub input : new.view.input ≡ old.view.input
+  pub limit : new.view.limit ≡ old.view.limit
+  pub shares : new.view.shares ≡ old.view.shares
+  pub takes : new.view.takes ≡ old.view.takes
+  pub front : new.view.front ≡ b.history ++ entry ∷ []
+  pub own : new.view.own ≡ old.view.own ++ length b.history ∷ []
+
+-- of each lock of a part the seat knows what it knew; it has this moment
+pub record KeepsLocksAt (now : ℕ) (old new : Seen) : Type 0 where
+  pub locks : (k : ℕ) → k < 17 → find_lock k new.held ≡ find_lock k old.held
+  pub others : (k : ℕ) → 17 < k → find_lock k old.held ≡ None → find_lock k new.held ≡ None
+  pub book : find_lock 17 new.held ≡ None
+  pub moment : new.now ≡ now
+
+-- the same at the moment that it had
+abbrev pub KeepsLocks : Seen → Seen → Type 0
+KeepsLocks old new = KeepsLocksAt old.now old new
+
+-- of each lock of a part that it holds the seat knows the part of the state to which h leads, and has the names that it had for the lock
+pub record KnowsAfter (h : List Entry) (old new : Seen) : Type 0 where
+  pub some : (k : ℕ) (x : Known) → k < 17 → find_lock k old.held ≡ Some x → find_lock k new.held ≡ Some (known (part_at old.input h k) x.names)
+  pub none : (k : ℕ) → find_lock k old.held ≡ None → find_lock k new.held ≡ None
+  pub book : find_lock 17 new.held ≡ None
+  pub now : new.now ≡ old.now
+
+-- of each lock of a part but i the seat knows what it knew, at the same moment
+pub record KeepsOthers (i : ℕ) (old new : Seen) : Type 0 where
+  pub locks : (k : ℕ) → k < 17 → k ≢ i → find_lock k new.held ≡ find_lock k old.held
+  pub others : (k : ℕ) → 17 < k → find_lock k old.held ≡ None → find_lock k new.held ≡ None
+  pub book : find_lock 17 new.held ≡ None
+  pub moment : new.now ≡ old.now
+
+-- the input has the core, and the seat has its name for a lock that it holds
+pub record HasCore (r : ℕ) (v : Seen) : Type 0 where
+  pub core : has_core v.input r ≡ true
+  pub lock : ℕ
+  pub name : HasName lock r v
+
+-- the seat names the core whose decision the event is, or none where it is no decision
+abbrev pub deciding : Event → Seen → Seen
+deciding e v = record v { named = who_decides (action_of e) }

@@ -1,0 +1,116 @@
+//! All values at once, while all their locks are held.
+
+ghost use Rattle.std.specs.Prelude.{◌≡◌, ◌+◌, ◌<◌, None, []};
+ghost use Rattle.lock_moves.specs.Sight.{HoldsBelow, find_lock};
+ghost use Rattle.hall.specs.Knowing.{KnowsAll, KnowsPool, KnowsStill, KnowsTool};
+ghost use Rattle.hall.specs.Steps.{KeepsSight};
+
+use crate::value::{PartState, ToolKept};
+use arrayvec::ArrayVec;
+use lock_moves::{Held, LockId, LockSeat, LockSet};
+use pool_slots::PoolSlot;
+use std::boxed::Box;
+use std::sync::Wait;
+
+/// How many pools have a place.
+const POOLS: u8 = 16;
+
+/// The lock of what the tool keeps.
+const TOOL: LockId = LockId(16);
+
+/// The places of the 16 pools, in the order of their numbers, and what the tool keeps.
+#[derive(Drop)]
+pub struct AllParts {
+    pub slots: ArrayVec<PoolSlot, 16>,
+    pub tool: Box<ToolKept>,
+}
+
+/// Takes the lock of the pool i, 0 to 15, after those of the pools before it, and waits until it is free.
+fn take_pool<R: Wait>(rt: &R, set: &LockSet<PartState>, seat: &mut LockSeat, i: u8) -> PoolSlot
+    requires set { seat.old.table ≡ set.now.table }
+    requires number { i < 16 }
+    requires below { HoldsBelow i seat.old.view }
+    ensures keeps { KeepsSight seat.old seat.new }
+    ensures below { HoldsBelow (i + 1) seat.new.view }
+    ensures still { KnowsStill i seat.old.view seat.new.view }
+    ensures knows { KnowsPool i result seat.new.view }
+{
+    let held = set.lock(rt, seat, LockId(i));
+    let PartState::Pool(slot) = held.into_value() else {
+        unreachable!()
+    };
+    slot
+}
+
+/// Takes the tool's lock after those of all pools, and waits until it is free.
+fn take_tool<R: Wait>(rt: &R, set: &LockSet<PartState>, seat: &mut LockSeat) -> Box<ToolKept>
+    requires set { seat.old.table ≡ set.now.table }
+    requires below { HoldsBelow 16 seat.old.view }
+    ensures keeps { KeepsSight seat.old seat.new }
+    ensures below { HoldsBelow 17 seat.new.view }
+    ensures still { KnowsStill 16 seat.old.view seat.new.view }
+    ensures knows { KnowsTool result.value.tool result.value.spares seat.new.view }
+{
+    let held = set.lock(rt, seat, TOOL);
+    let PartState::Tool(tool) = held.into_value() else {
+        unreachable!()
+    };
+    tool
+}
+
+/// Puts the place of the pool i, 0 to 15, back under its lock, which is the last that is held.
+fn put_pool(set: &LockSet<PartState>, seat: &mut LockSeat, i: u8, slot: PoolSlot)
+    requires set { seat.old.table ≡ set.now.table }
+    requires number { i < 16 }
+    requires below { HoldsBelow (i + 1) seat.old.view }
+    requires knows { KnowsPool i slot seat.old.view }
+    ensures keeps { KeepsSight seat.old seat.new }
+    ensures below { HoldsBelow i seat.new.view }
+    ensures still { KnowsStill i seat.old.view seat.new.view }
+{
+    set.unlock(seat, Held::new(LockId(i), PartState::Pool(slot)));
+}
+
+/// Puts what the tool keeps back under its lock, which is the last that is held.
+fn put_tool(set: &LockSet<PartState>, seat: &mut LockSeat, tool: Box<ToolKept>)
+    requires set { seat.old.table ≡ set.now.table }
+    requires below { HoldsBelow 17 seat.old.view }
+    requires knows { KnowsTool tool.value.tool tool.value.spares seat.old.view }
+    ensures keeps { KeepsSight seat.old seat.new }
+    ensures below { HoldsBelow 16 seat.new.view }
+    ensures still { KnowsStill 16 seat.old.view seat.new.view }
+{
+    set.unlock(seat, Held::new(TOOL, PartState::Tool(tool)));
+}
+
+/// Takes all locks but the book's, in their order, and waits until each is free.
+pub(crate) fn take_all<R: Wait>(rt: &R, set: &LockSet<PartState>, seat: &mut LockSeat) -> AllParts
+    requires set { seat.old.table ≡ set.now.table }
+    requires nothing { seat.old.view.held ≡ [] }
+    ensures keeps { KeepsSight seat.old seat.new }
+    ensures knows { KnowsAll result seat.new.view }
+    ensures book { find_lock 17 seat.new.view.held ≡ None }
+{
+    let mut slots = ArrayVec::new();
+    for i in 0..POOLS {
+        slots.push(take_pool(rt, set, seat, i));
+    }
+    let tool = take_tool(rt, set, seat);
+    AllParts { slots, tool }
+}
+
+/// Puts all values back under their locks, the last one first.
+pub(crate) fn put_all(set: &LockSet<PartState>, seat: &mut LockSeat, all: AllParts)
+    requires set { seat.old.table ≡ set.now.table }
+    requires knows { KnowsAll all seat.old.view }
+    requires book { find_lock 17 seat.old.view.held ≡ None }
+    ensures keeps { KeepsSight seat.old seat.new }
+    ensures nothing { seat.new.view.held ≡ [] }
+{
+    let AllParts { slots, tool } = all;
+    put_tool(set, seat, tool);
+    let mut slots = slots;
+    while let Some(slot) = slots.pop() {
+        put_pool(set, seat, slots.len() as u8, slot);
+    }
+}

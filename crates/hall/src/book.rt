@@ -1,0 +1,74 @@
+//! The book in a seat's hands: taken, put back as it was, or put back with one entry more.
+
+ghost use Rattle.std.specs.Prelude.{◌≡◌, ◌≢◌, ◌<◌, ◌++◌, ◌∷◌, [], ℕ, Some, length};
+ghost use Rattle.sched_model.specs.declared.action.Action.TheVariants.{Decide};
+ghost use Rattle.sched_model.specs.Checked.{IsChecked};
+ghost use Rattle.sched_model.specs.Runs.{IsNext, action_of};
+ghost use Rattle.journal_core.specs.Histories.{reached_by};
+ghost use Rattle.lock_moves.specs.Plays.{Current, Kept, Placed};
+ghost use Rattle.lock_moves.specs.Sight.{AllBelow, Known, find_lock};
+ghost use Rattle.lock_moves.specs.Sets.{seeing};
+ghost use Rattle.hall.specs.Steps.{HasBook, HasCore, HasEntered, KeepsLocks, KeepsSight, KnowsAfter, SeesBook, deciding};
+
+use crate::value::PartState;
+use lock_moves::laws::law_decided;
+use lock_moves::{HeldBook, LockSeat, LockSet};
+use part_laws::laws::law_names_stand_once;
+use sched_model::event::{Entry, Event};
+use std::sync::Wait;
+
+/// Takes the book, and waits until it is free. Of the locks that the seat holds it knows what it knew, at the same moment, where it holds one.
+pub(crate) fn take_book<R: Wait>(rt: &R, set: &LockSet<PartState>, seat: &mut LockSeat) -> HeldBook
+    requires set { seat.old.table ≡ set.now.table }
+    requires order { AllBelow 17 seat.old.view.held }
+    ensures has { HasBook set.now result seat.new }
+    ensures current { Current seat.new.view }
+    ensures sees { SeesBook result seat.old seat.new }
+    ensures locks { (k : ℕ) → k ≢ 17 → find_lock k seat.new.view.held ≡ find_lock k seat.old.view.held }
+    ensures still { (k : ℕ) (x : Known) → find_lock k seat.old.view.held ≡ Some x → seat.new.view.now ≡ seat.old.view.now }
+{
+    set.take_book(rt, seat)
+}
+
+/// Puts the book back as it was.
+pub(crate) fn put_book(set: &LockSet<PartState>, seat: &mut LockSeat, book: HeldBook)
+    requires has { HasBook set.now book seat.old }
+    requires current { Current seat.old.view }
+    ensures keeps { KeepsSight seat.old seat.new }
+    ensures locks { KeepsLocks seat.old.view seat.new.view }
+{
+    law_decided();
+    set.commit(seat, book);
+}
+
+/// Raises the stage word of the core whose decision the event is, where it is one. The seat then names that core, or else none.
+fn raise_stage(set: &LockSet<PartState>, seat: &mut LockSeat, book: &HeldBook, event: Event)
+    requires has { HasBook set.now book.now seat.old }
+    requires core { (r : ℕ) → action_of event ≡ Some (Decide r) → HasCore r seat.old.view }
+    ensures { seat.new ≡ seeing seat.old (deciding event seat.old.view) }
+{
+    if let Event::Decide { r, .. } = event {
+        set.set_stage(seat, r, book);
+    }
+}
+
+/// Adds the next entry of the run to the book, and puts the book back. A decision first raises the stage word of its core.
+pub(crate) fn enter(set: &LockSet<PartState>, seat: &mut LockSeat, book: HeldBook, entry: Entry)
+    requires has { HasBook set.now book seat.old }
+    requires checked { IsChecked book.input }
+    requires next { IsNext book.input (reached_by book.input book.history) entry }
+    requires room { length book.history < book.limit }
+    requires kept { Kept seat.old.view (book.history ++ entry ∷ []) }
+    requires placed { Placed seat.old.view (book.history ++ entry ∷ []) }
+    requires core { (r : ℕ) → action_of entry.event ≡ Some (Decide r) → HasCore r seat.old.view }
+    ensures entered { HasEntered book entry seat.old seat.new }
+    ensures knows { KnowsAfter (book.history ++ entry ∷ []) seat.old.view seat.new.view }
+{
+    law_names_stand_once();
+    law_decided();
+    raise_stage(set, seat, &book, entry.event);
+    let mut book = book;
+    book.get_mut().commit(entry);
+    book.get().tell();
+    set.commit(seat, book);
+}

@@ -1,0 +1,188 @@
+//! The hall: a machine whose parts lie under locks, and the calls that open it, share it out and end it.
+
+ghost use Rattle.std.specs.Prelude.{◌≡◌, ◌++◌, ◌∷◌, [], map, IfOk};
+ghost use Rattle.hall.specs.declared.value.PartState.TheVariants as value;
+
+use crate::book::{put_book, take_book};
+use crate::seat::HallSeat;
+use crate::turns::Waits;
+use crate::value::{PartState, ToolKept};
+use cpupool::ToolState;
+use journal_core::Book;
+use lock_moves::LockSet;
+use part_laws::laws::law_names_stand_once;
+use parts_opening::{open_slots, open_spares};
+use pool_slots::PoolSlot;
+use sched_base::{Moment, NoMemory, ProcId, ResId};
+use sched_model::config::Config;
+use sched_model::event::Entry;
+use sched_model::work::Work;
+use std::alloc::Global;
+use std::boxed::Box;
+use std::marker::Model;
+use std::sync::Wait;
+
+/// A machine for up to 1024 callers, each in a thread of its own. Contracts see which set of locks it is, and the book that it was opened with.
+///
+/// A pool's events are done under the lock of that pool alone, and its entry is added while the book's lock is held too; acts of the tool and
+/// the ends of moments are done under all locks. All moments are in nanoseconds.
+#[derive(Drop)]
+pub struct Hall {
+    pub(crate) set: LockSet<PartState>,
+    pub(crate) granularity: u8,
+    pub(crate) horizon: Moment,
+}
+
+impl Model for Hall {
+    ghost use Rattle.lock_moves.specs.Sets.{LockTable};
+    ghost use Rattle.hall.specs.Seats.{IsHallOf};
+
+    ghost Value = { LockTable };
+
+    ghost view = { λ h. h.set };
+
+    ghost invariant = { λ h. IsHallOf h.set.opened.input h.granularity h.horizon.0 };
+}
+
+/// The values of the locks: the places of the pools in their order, and what the tool keeps.
+fn values_of(
+    alloc: Global,
+    slots: Vec<PoolSlot>,
+    tool: Box<ToolKept>,
+) -> Result<Vec<PartState>, NoMemory>
+    ensures { IfOk result (λ values. values.items ≡ map value.Pool slots.items ++ value.Tool tool ∷ []) }
+{
+    let mut values = Vec::new(alloc);
+    for slot in slots {
+        values.push(PartState::Pool(slot))?;
+    }
+    values.push(PartState::Tool(tool))?;
+    Ok(values)
+}
+
+impl Hall {
+    ghost use Rattle.std.specs.Prelude.{◌≡◌, ◌≤◌, ◌<◌, ℕ, [], true, None, IfOk, length, slice_get};
+    ghost use Rattle.sched_model.specs.Checked.{IsChecked};
+    ghost use Rattle.journal_core.specs.Books.{chronicle};
+    ghost use Rattle.lock_moves.specs.Sight.{joined, lessened, newcomer, opening_view, has_place};
+    ghost use Rattle.lock_moves.specs.Sets.{seeing};
+    ghost use Rattle.hall.specs.Seats.{IsOf, Stays};
+    ghost use Rattle.hall.specs.Turns.{IsWaiting, Looked};
+
+    /// A hall of this machine, at its opening, and its first seat, which has all 1024 parts and whose front is empty. Its book has room for so
+    /// many entries, 1 to 4,000,000. All memory of the run is taken here.
+    pub fn open(
+        alloc: Global,
+        config: &Config,
+        work: &Work,
+        events: u32,
+    ) -> Result<(Hall, HallSeat), NoMemory>
+        requires checked { IsChecked (record { config = config.now; work = work.now }) }
+        requires few { (1 ≤ events) × (events ≤ 4000000) }
+        ensures of { IfOk result (λ r. IsOf r.0 r.1) }
+        ensures opened { IfOk result (λ r. r.0.opened ≡ chronicle config.now work.now [] events) }
+        ensures view { IfOk result (λ r. r.1.sitting.view ≡ opening_view (chronicle config.now work.now [] events)) }
+        ensures arrived { IfOk result (λ r. r.1.arrived ≡ None) }
+    {
+        law_names_stand_once();
+        let book = Book::room(alloc, config, work, events)?;
+        let spares = open_spares(alloc, config, work)?;
+        let tool = ToolState::open(alloc, config, work)?;
+        let slots = open_slots(alloc, config)?;
+        let kept = Box::new(alloc, ToolKept { tool, spares })?;
+        let values = values_of(alloc, slots, kept)?;
+        let (set, seat) = LockSet::open(alloc, values, book)?;
+        let hall = Hall {
+            set,
+            granularity: config.granularity,
+            horizon: config.horizon,
+        };
+        Ok((
+            hall,
+            HallSeat {
+                seat,
+                arrived: None,
+            },
+        ))
+    }
+
+    /// A second seat, with one of the parts of this one and with the same front. It keeps no arrival.
+    pub fn split(&self, seat: &mut HallSeat) -> HallSeat
+        requires of { IsOf self.now seat.old }
+        requires two { 1 < seat.old.sitting.view.shares }
+        ensures kept { seat.new ≡ record seat.old { sitting = seeing seat.old.sitting (lessened seat.old.sitting.view) } }
+        ensures of { IsOf self.now result }
+        ensures new { result.sitting.view ≡ newcomer seat.old.sitting.view }
+        ensures arrived { result.arrived ≡ None }
+    {
+        HallSeat {
+            seat: self.set.split(&mut seat.seat),
+            arrived: None,
+        }
+    }
+
+    /// Takes in another seat: the parts and the own places of both, and the longer front. The arrival that this one keeps stays.
+    pub fn join(&self, into: &mut HallSeat, seat: HallSeat)
+        requires of { IsOf self.now into.old }
+        requires other { IsOf self.now seat }
+        ensures { into.new ≡ record into.old { sitting = seeing into.old.sitting (joined into.old.sitting.view seat.sitting.view) } }
+    {
+        let HallSeat { seat, .. } = seat;
+        self.set.join(&mut into.seat, seat);
+    }
+
+    /// The book, whose history is the front of the one seat that is left. Each of its places is one of this seat's own.
+    pub fn end(self, seat: HallSeat) -> Book
+        requires of { IsOf self seat }
+        requires only { seat.sitting.view.shares ≡ 1024 }
+        ensures input { result.input ≡ seat.sitting.view.input }
+        ensures limit { result.limit ≡ seat.sitting.view.limit }
+        ensures history { result.history ≡ seat.sitting.view.front }
+        ensures own { (p : ℕ) → length self.opened.history ≤ p → p < length seat.sitting.view.front → has_place p seat.sitting.view.own ≡ true }
+    {
+        let Hall { set, .. } = self;
+        let HallSeat { seat, .. } = seat;
+        set.close(seat)
+    }
+
+    /// The entry at the place i of the history, from 0, or none exactly where the history has at most so many entries. It takes the book, and waits
+    /// until it is free.
+    pub fn entry<R: Wait>(&self, rt: &R, seat: &mut HallSeat, i: u32) -> Option<Entry>
+        requires of { IsOf self.now seat.old }
+        ensures stays { Stays seat.old seat.new }
+        ensures looked { Looked seat.old.sitting.view seat.new.sitting.view }
+        ensures arrived { seat.new.arrived ≡ seat.old.arrived }
+        ensures found { result ≡ slice_get seat.new.sitting.view.front i }
+    {
+        let book = take_book(rt, &self.set, &mut seat.seat);
+        let found = if i < book.get().len() {
+            Some(book.get().get(i))
+        } else {
+            None
+        };
+        put_book(&self.set, &mut seat.seat, book);
+        found
+    }
+
+    /// Whether the processor, whose last arrival this seat keeps, still waits for its siblings. That is told by one load of its core's stage
+    /// word, without a lock. A processor that is the first of its core never waits, and then nothing is loaded, nor where no arrival of it
+    /// is kept.
+    pub fn still_waits(&self, seat: &mut HallSeat, p: ProcId) -> Waits
+        requires of { IsOf self.now seat.old }
+        ensures stays { Stays seat.old seat.new }
+        ensures waits { IsWaiting self.now.opened.input.config.granularity p result seat.old seat.new }
+    {
+        let core = p.0 / self.granularity;
+        match seat.arrived {
+            Some(a) if a.p.0 == p.0 && p.0 != core * self.granularity => {
+                let decides = self.set.read_stage(&mut seat.seat, ResId(core));
+                if decides > u64::from(a.decides) {
+                    Waits::Gone { decides }
+                } else {
+                    Waits::Still
+                }
+            }
+            _ => Waits::NotWaiting,
+        }
+    }
+}

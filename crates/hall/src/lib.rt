@@ -1,0 +1,22 @@
+//! The hall: one machine for callers in threads of their own, each with a seat. Whatever the order of their steps, the history is the beginning
+//! of a run.
+//!
+//! The parts of the machine lie under locks, one for each pool, one for what the tool keeps, and one for the book with the history. A call takes
+//! the locks that it needs in the order of their numbers, does its one entry, and gives them back.
+#![tactic(auto)]
+
+mod act;
+mod all;
+mod book;
+mod close;
+mod hall;
+mod pools;
+mod seat;
+mod turns;
+mod value;
+mod whole;
+
+pub use hall::Hall;
+pub use seat::{Arrival, HallSeat};
+pub use turns::{Done, Full, Turn, Waits};
+pub use value::{PartState, ToolKept};

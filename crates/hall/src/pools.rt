@@ -1,0 +1,51 @@
+//! An event of the pool under one lock, while the book is in the seat's hands.
+
+ghost use Rattle.std.specs.Prelude.{◌≡◌, ◌<◌, true, Some, length};
+ghost use Rattle.sched_model.specs.Actions.{home_of};
+ghost use Rattle.sched_model.specs.Machine.{event_of, is_enabled};
+ghost use Rattle.plain_pool.specs.Own.{IsOfPool};
+ghost use Rattle.pool_slots.specs.Places.{GoesOn, state_of};
+ghost use Rattle.pool_slots.specs.Told.{told_of};
+ghost use Rattle.lock_moves.specs.Plays.{Current};
+ghost use Rattle.hall.specs.Knowing.{KnowsPool};
+ghost use Rattle.hall.specs.Steps.{HasBook, HasEntered, KeepsOthers};
+
+use crate::book::enter;
+use crate::value::PartState;
+use lock_moves::{HeldBook, LockSeat, LockSet};
+use pool_slots::{PoolSlot, Trail};
+use sched_base::Moment;
+use sched_model::action::Action;
+use sched_model::event::{Entry, Event};
+
+/// Does an event that may come now of the pool i, whose place this is and whose lock the seat holds, and adds its entry to the book, which
+/// goes back. Of every other lock the seat knows what it knew.
+pub(crate) fn perform_at(
+    set: &LockSet<PartState>,
+    seat: &mut LockSeat,
+    book: HeldBook,
+    slot: &mut PoolSlot,
+    i: u8,
+    action: Action,
+    t: Moment,
+) -> Event
+    requires has { HasBook set.now book seat.old }
+    requires current { Current seat.old.view }
+    requires goes { GoesOn (told_of book) }
+    requires room { length book.history < book.limit }
+    requires now { t.0 ≡ seat.old.view.now }
+    requires number { i < 16 }
+    requires knows { KnowsPool i slot.old seat.old.view }
+    requires own { IsOfPool action }
+    requires enabled { is_enabled book.input (state_of (told_of book)) (state_of (told_of book)).now action ≡ true }
+    requires home { home_of book.input.config.granularity (state_of (told_of book)) action ≡ Some i }
+    ensures event { result ≡ event_of book.input (state_of (told_of book)) (state_of (told_of book)).now action }
+    ensures entered { HasEntered book (record { at = t; event = result }) seat.old seat.new }
+    ensures knows { KnowsPool i slot.new seat.new.view }
+    ensures others { KeepsOthers i seat.old.view seat.new.view }
+{
+    let trail = Trail::of(book.get());
+    let event = slot.perform(&trail, i, action, t);
+    enter(set, seat, book, Entry { at: t, event });
+    event
+}
