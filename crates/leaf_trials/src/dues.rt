@@ -72,7 +72,5 @@ fn small_rooms(rt: HostRuntime) -> Result<(), Fail> {
     assert_eq!(rt; first(&one), Some((5, 0)));
     one.disarm(0);
     assert_eq!(rt; first(&one), None);
-    let too_many = DueHeap::room(rt.alloc(), usize::MAX);
-    assert!(rt; too_many.is_err());
     Ok(())
 }
