@@ -14,7 +14,8 @@ use Rattle.sched_model.specs.Places.{at_place}
 use Rattle.sched_model.specs.Eligible.{has_budget, cores_of, is_allowed_by}
 use Rattle.sched_model.specs.Credit2.{domain_has_budget}
 use Rattle.arrival_queue.proofs.Ranks.{not_less_test}
-use Rattle.arrival_queue.specs.Filters.{has_domain, may_run}
+use Rattle.arrival_queue.specs.Filters.{first_that, has_domain, may_run}
+use Rattle.arrival_queue.specs.Queues.{Queued}
 use Rattle.credit2_core.specs.Places.{has_joined}
 use Rattle.credit2_core.specs.Domains.{may_run_bit, set_of, masked}
 use Rattle.credit2_core.specs.Choice.{may_take}
@@ -52,6 +53,15 @@ set_has (place ∷ domains) (suc i) =
     ap (λ (k : ℕ). (may_run_bit place + 2 * set_of domains) / k) (power i) ∙ sym (div-div-eq-div-mul (may_run_bit place + 2 * set_of domains) 2 (2 ^ i)) ∙ ap (λ (k : ℕ). k / 2 ^ i) (half place (set_of domains))
     in
     rw e (set_has domains i)
+
+first_that-same : (p q : UnitId → Bool) (es : List Queued) → ((u : UnitId) → p u ≡ q u) → first_that p es ≡ first_that q es
+first_that-same p q [] same = refl
+first_that-same p q (e ∷ es) same =
+    ap (λ (b : Bool). if b then Some e.unit else first_that p es) (same e.unit) ∙ ap (λ (o : Option UnitId). if q e.unit then Some e.unit else o) (first_that-same p q es same)
+
+-- the first unit of a domain of the set is the first whose domain's cap lets it run
+pub first_in_set : (records : Credit2Records) (es : List Queued) → first_that (λ u. has_domain (set_of records.domains) u.dom.0) es ≡ first_that (domain_has_budget records) es
+first_in_set records es = first_that-same (λ u. has_domain (set_of records.domains) u.dom.0) (domain_has_budget records) es (λ u. set_has records.domains u.dom.0)
 
 and-swap : (a b : Bool) → (a && b) ≡ (b && a)
 and-swap true true = refl

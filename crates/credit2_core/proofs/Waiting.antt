@@ -1,6 +1,6 @@
 -- The order of arrival of the units of a run queue after each of its calls, and its first unit.
 use Rattle.std.proofs.Common.{◌≡◌, ◌<◌, Bool, true, false, List, [], ◌∷◌, ◌++◌, length, map, refl, sym, ap, ◌∙◌, subst, arith, inl, inr}
-use Rattle.std.specs.Prelude.{Option, Some, None, filter, not, ◌&&◌, int_lt, nat_lt, if◌then◌else◌, ℤ, neg_ℤ}
+use Rattle.std.specs.Prelude.{ℕ, Option, Some, None, filter, not, ◌||◌, ◌&&◌, int_lt, nat_lt, if◌then◌else◌, ℤ, neg_ℤ}
 use Rattle.std.specs.List.{AllByRecursion}
 use Rattle.std.proofs.lemmas.Int.{ints}
 use Rattle.std.proofs.lemmas.List.{append-nil}
@@ -8,12 +8,12 @@ use Rattle.sched_base.specs.declared.UnitId.{UnitId}
 use Rattle.sched_model.specs.declared.state.Credit2Records.{Credit2Records}
 use Rattle.sched_model.specs.Places.{without_unit}
 use Rattle.sched_model.specs.Places as places
-use Rattle.sched_model.specs.Credit2.{greatest, credit_of}
+use Rattle.sched_model.specs.Credit2.{greatest, credit_of, is_within_limit, is_better, change_unit, burn_unit, max_weight}
 use Rattle.sched_laws.proofs.Bools.{either}
 use Rattle.arrival_queue.specs.declared.key.Key.{Key}
-use Rattle.arrival_queue.specs.Queues.{Queued, queued, placed, without, rank_in, closed_up, has_unit, is_less}
+use Rattle.arrival_queue.specs.Queues.{Queued, queued, placed, without, rank_in, closed_up, has_unit, is_less, goes_before}
 use Rattle.arrival_queue.specs.Filters.{first_that}
-use Rattle.arrival_queue.specs.Order.{IsInOrder, EachRankOnce, EachUnitOnce}
+use Rattle.arrival_queue.specs.Order.{GoesBeforeAll, IsInOrder, EachRankOnce, EachUnitOnce}
 use Rattle.queue_laws.specs.Arrivals.{arrivals, HasRanks, RanksBelow, HasUnits, HasIndices, least_by, own_or}
 use Rattle.queue_laws.proofs.Arrivals.{arrivals_placed}
 use Rattle.queue_laws.proofs.Removed.{arrivals_removed, arrivals_moved, lacks_own}
@@ -21,7 +21,7 @@ use Rattle.queue_laws.proofs.Removed as laws
 use Rattle.queue_laws.proofs.Scan.{first_is_least, least_by_own}
 use Rattle.queue_laws.proofs.Once.{once_ranks, once_below, once_units}
 use Rattle.credit2_core.specs.Keys.{HasCredits, key_in}
-use Rattle.credit2_core.specs.Choice.{richer_of}
+use Rattle.credit2_core.specs.Choice.{richer_of, is_better_of}
 use Rattle.credit2_core.proofs.Lists.{queued_have}
 
 -- what the queue tells of its order
@@ -91,3 +91,77 @@ greatest_own records own units =
     by_found : (o : Option UnitId) → ◌≡◌ {A = Option UnitId} (Some (own_or (key_in records) own o)) (richer_of records own o)
     by_found None = refl
     by_found (Some u) = ap (λ (b : Bool). Some (if b then u else own)) (less_key (credit_of records u) (credit_of records own))
+
+-- of two units in the order of the queue the second has no more credit
+no_richer : (records : Credit2Records) (a b : Queued) → a.key ≡ key_in records a.unit → b.key ≡ key_in records b.unit → goes_before a b ≡ true → int_lt (credit_of records a.unit) (credit_of records b.unit) ≡ false
+no_richer records a b own other before = elim (either (int_lt (credit_of records a.unit) (credit_of records b.unit))) [
+  | inl is ↦ (
+      let first : is_less a.key b.key ≡ false =
+      ap (λ (k : Key). is_less k b.key) own ∙ ap (is_less (key_in records a.unit)) other ∙ less_key (credit_of records a.unit) (credit_of records b.unit)
+      ∙ turned (credit_of records a.unit) (credit_of records b.unit) is
+      in
+      let second : is_less b.key a.key ≡ true =
+      ap (λ (k : Key). is_less k a.key) other ∙ ap (is_less (key_in records b.unit)) own ∙ less_key (credit_of records b.unit) (credit_of records a.unit) ∙ is
+      in
+      absurd (no_way (is_less a.key b.key) (is_less b.key a.key) (nat_lt a.rank b.rank) first second before)
+      )
+  | inr is_not ↦ is_not
+]
+  where
+    turned : (a b : ℤ) → int_lt a b ≡ true → int_lt b a ≡ false
+    turned a b is = grind (arith, ints, is)
+
+    no_way : (x y z : Bool) → x ≡ false → y ≡ true → (x || not y && z) ≡ true → ⊥
+    no_way x y z e f before = let g : false ≡ true = sym (ap (λ (b : Bool). b || not y && z) e ∙ ap (λ (b : Bool). not b && z) f) ∙ before in absurd (cc)
+
+-- where no unit passes one test, none passes two
+pub first_of_none : (p q : UnitId → Bool) (es : List Queued) → first_that q es ≡ None → first_that (λ u. p u && q u) es ≡ None
+first_of_none p q [] none = refl
+first_of_none p q (e ∷ es) none =
+    elim (q e.unit) as (λ b. (if b then Some e.unit else first_that q es) ≡ None → (if p e.unit && b then Some e.unit else first_that (λ u. p u && q u) es) ≡ None) [
+      | true ↦ λ some. absurd (cc)
+      | false ↦ λ rest. elim (p e.unit) as (λ a. (if a && false then Some e.unit else first_that (λ u. p u && q u) es) ≡ None) [ true ↦ first_of_none p q es rest | false ↦ first_of_none p q es rest ]
+    ] none
+
+-- the first that passes one test is the first that passes two, where it passes the other
+pub first_of_both : (p q : UnitId → Bool) (es : List Queued) (u : UnitId) → first_that q es ≡ Some u → p u ≡ true → first_that (λ w. p w && q w) es ≡ Some u
+first_of_both p q [] u found passes = found
+first_of_both p q (e ∷ es) u found passes =
+    elim (q e.unit) as (λ b. (if b then Some e.unit else first_that q es) ≡ Some u → (if p e.unit && b then Some e.unit else first_that (λ w. p w && q w) es) ≡ Some u) [
+      | true ↦ λ is. (let own : p e.unit ≡ true = ap p (same_some is) ∙ passes in rw own is)
+      | false ↦ λ rest. elim (p e.unit) as (λ a. (if a && false then Some e.unit else first_that (λ w. p w && q w) es) ≡ Some u) [ true ↦ first_of_both p q es u rest passes | false ↦ first_of_both p q es u rest passes ]
+    ] found
+  where
+    same_some : Some e.unit ≡ Some u → e.unit ≡ u
+    same_some is = cc
+
+-- where the first unit that passes one test is no better than the core's own, no unit is that passes two
+pub none_better : (records : Credit2Records) (own : UnitId) (since t : ℕ) (p q : UnitId → Bool) (es : List Queued) → IsInOrder es → HasCredits records es
+    → is_better_of records own since t (first_that q es) ≡ false → is_better_of records own since t (first_that (λ u. p u && q u) es) ≡ false
+none_better records own since t p q [] order keys worse_first = refl
+none_better records own since t p q (e ∷ es) order keys worse_first =
+    elim (q e.unit) as (λ b. is_better_of records own since t (if b then Some e.unit else first_that q es) ≡ false → is_better_of records own since t (if p e.unit && b then Some e.unit else first_that both es) ≡ false) [
+      | true ↦ λ worse_own. elim (p e.unit) as (λ a. is_better_of records own since t (if a && true then Some e.unit else first_that both es) ≡ false) [ true ↦ worse_own | false ↦ behind worse_own es order.0 keys.1 ]
+      | false ↦ λ worse_rest. elim (p e.unit) as (λ a. is_better_of records own since t (if a && false then Some e.unit else first_that both es) ≡ false) [
+        | true ↦ none_better records own since t p q es order.1 keys.1 worse_rest
+        | false ↦ none_better records own since t p q es order.1 keys.1 worse_rest
+      ]
+    ] worse_first
+  where
+    both : UnitId → Bool
+    both u = p u && q u
+
+    burned : ℤ
+    burned = credit_of (change_unit own (burn_unit (max_weight records) t) records) own
+
+    still : (w : Bool) (b c d : ℤ) → (w && int_lt b c) ≡ false → int_lt c d ≡ false → (w && int_lt b d) ≡ false
+    still false b c d first second = refl
+    still true b c d first second = grind (arith, ints, first, second)
+
+    worse : is_better records own since t e.unit ≡ false → (x : Queued) → goes_before e x ≡ true → x.key ≡ key_in records x.unit → is_better records own since t x.unit ≡ false
+    worse worse_own x before key = still (not (is_within_limit records since t)) burned (credit_of records e.unit) (credit_of records x.unit) worse_own (no_richer records e x keys.0 key before)
+
+    behind : is_better records own since t e.unit ≡ false → (xs : List Queued) → GoesBeforeAll e xs → HasCredits records xs → is_better_of records own since t (first_that both xs) ≡ false
+    behind worse_own [] before each = refl
+    behind worse_own (x ∷ xs) before each =
+        elim (p x.unit && q x.unit) as (λ b. is_better_of records own since t (if b then Some x.unit else first_that both xs) ≡ false) [ true ↦ worse worse_own x before.0 each.0 | false ↦ behind worse_own xs before.1 each.1 ]

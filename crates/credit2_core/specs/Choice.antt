@@ -2,6 +2,8 @@
 use Rattle.std.specs.Prelude.{ℕ, ℤ, pos, false, ◌*◌, ◌&&◌, Bool, List, Option, Some, None, filter, int_lt, if◌then◌else◌}
 use Rattle.sched_base.specs.declared.UnitId.{UnitId}
 use Rattle.sched_base.specs.declared.Cores.{Cores}
+use Rattle.arrival_queue.specs.Filters.{first_that}
+use Rattle.arrival_queue.specs.Queues.{Queued}
 use Rattle.sched_model.specs.declared.state.Credit2Records.{Credit2Records}
 use Rattle.sched_model.specs.Places.{at_place}
 use Rattle.plain_credit2.specs.Waiting.{slice_in}
@@ -11,6 +13,10 @@ use Rattle.sched_model.specs.Credit2.{domain_has_budget, greatest, credit_of, ma
 -- the unit may be on the core, and its domain's cap lets it run
 abbrev pub may_take : List (Option (List Cores)) → ℕ → ℕ → Credit2Records → UnitId → Bool
 may_take affinity home core records u = is_allowed_by affinity home core u && domain_has_budget records u
+
+-- the first unit of a run queue whose domain's cap lets it run
+abbrev pub first_ready : Credit2Records → List Queued → Option UnitId
+first_ready records es = first_that (domain_has_budget records) es
 
 -- the unit of greatest credit of those that may take the core
 abbrev pub best_of : List UnitId → List (Option (List Cores)) → ℕ → ℕ → Credit2Records → Option UnitId

@@ -4,6 +4,8 @@ use Rattle.std.specs.Option.{ForSome}
 use Rattle.sched_model.specs.declared.config.PoolParams.TheVariants as pool_params
 use Rattle.sched_ops.specs.Seen.{Seen, vacant}
 use Rattle.credit2_core.specs.declared.held.Held.{Held}
+use Rattle.credit2_core.specs.declared.line.Ready.{Ready}
+use Rattle.credit2_core.specs.Choice.{first_ready}
 use Rattle.credit2_core.specs.Domains.{set_of}
 use Rattle.credit2_core.specs.Held.{IsHeld, seen_in}
 
@@ -20,7 +22,12 @@ seen_by (Some h) limit early = seen_in h
 abbrev pub IsWhole : Option Held → Type 0
 IsWhole held = ForSome held IsHeld
 
--- and the set is that of its domains that may run
-pub record IsReady (held : Option Held) (runnable : ℕ) : Type 0 where
+-- the set is that of the domains that may run, and the unit the first that waits of one of them
+pub record IsReadyIn (h : Held) (ready : Ready) : Type 0 where
+  pub domains : ready.domains ≡ set_of h.records.domains
+  pub first : ready.first ≡ first_ready h.records h.queue.units
+
+-- and so is what is kept beside it
+pub record IsReady (held : Option Held) (ready : Ready) : Type 0 where
   pub whole : IsWhole held
-  pub set : ForSome held (λ (h : Held). runnable ≡ set_of h.records.domains)
+  pub rest : ForSome held (λ (h : Held). IsReadyIn h ready)

@@ -9,10 +9,10 @@ ghost use Rattle.sched_ops.specs.Conditions.{IsNow, IsOwnOf};
 ghost use Rattle.plain_credit2.specs.Bounds.{PoolFits};
 ghost use Rattle.credit2_core.specs.Held.{IsHeld, IsLine, IsSameRoom, AreMasks, scheduler_in, seen_in};
 ghost use Rattle.credit2_core.specs.Choice.{best_of, credit_or_0, richer_of, is_better_of};
-ghost use Rattle.credit2_core.specs.Domains.{set_of};
+ghost use Rattle.credit2_core.specs.Whole.{IsReadyIn};
 
 use crate::held::Held;
-use crate::line::{best_waiting, rekey_all, runnable_in};
+use crate::line::{Ready, best_ready, best_waiting, rekey_all, runnable_in};
 use plain_credit2::choice::{domain_has_budget, is_within_limit};
 use plain_credit2::running::{burned_credit_of, credit_of, reset};
 use plain_units::eligible::is_allowed;
@@ -135,10 +135,34 @@ fn better_than(held: &Held, own: UnitId, since: u64, t: u64, waiting: Option<Uni
     }
 }
 
-/// Whether a core is to decide anew at t. The set is that of the domains that may run.
+/// Whether the best of those that wait for a core is better than the core's own unit, which runs since a moment, at t. Where the first
+/// of a domain that may run is no better, none is looked for.
+fn one_is_better(
+    held: &Held,
+    ready: Ready,
+    own: UnitId,
+    since: u64,
+    t: u64,
+    core: u8,
+    home: u64,
+) -> bool
+    requires held { IsHeld held.now }
+    requires now { IsNow (seen_in held.now) t }
+    requires ready { IsReadyIn held.now ready }
+    requires core { core < 64 }
+    ensures { result ≡ is_better_of held.now.records own since t (best_of (arrivals held.now.queue.units) held.now.affinity home core held.now.records) }
+{
+    held.queue.law_order();
+    if !better_than(held, own, since, t, ready.first) {
+        return false;
+    }
+    better_than(held, own, since, t, best_ready(held, ready, core, home))
+}
+
+/// Whether a core is to decide anew at t.
 pub fn better_waits(
     held: &Held,
-    runnable: u64,
+    ready: Ready,
     cur: Option<UnitId>,
     since: u64,
     t: u64,
@@ -147,21 +171,15 @@ pub fn better_waits(
 ) -> bool
     requires held { IsHeld held.now }
     requires now { IsNow (seen_in held.now) t }
-    requires set { runnable ≡ set_of held.now.records.domains }
+    requires ready { IsReadyIn held.now ready }
     requires core { core < 64 }
     ensures { result ≡ better_waits_spec cur since t core home (scheduler_in held.now) }
 {
     match cur {
-        None => best_waiting(held, runnable, core, home).is_some(),
+        None => best_ready(held, ready, core, home).is_some(),
         Some(own) => {
             !is_allowed(held.affinity.as_slice(), home, core, own)
-                || better_than(
-                    held,
-                    own,
-                    since,
-                    t,
-                    best_waiting(held, runnable, core, home),
-                )
+                || one_is_better(held, ready, own, since, t, core, home)
         }
     }
 }

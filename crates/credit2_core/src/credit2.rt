@@ -4,7 +4,7 @@ ghost use Rattle.std.specs.Prelude.{◌≡◌, ◌≤◌};
 ghost use Rattle.credit2_core.specs.Whole.{seen_by};
 
 use crate::held::Held;
-use crate::line::runnable_in;
+use crate::line::{Ready, first_ready, ready_in};
 use crate::room::DEFAULT_LIMIT;
 use crate::{choice, decide, params, room, small, timers};
 use sched_base::{Cores, DomId, Moment, NoMemory, ResId, UnitId};
@@ -26,8 +26,7 @@ pub struct Credit2 {
     held: Option<Held>,
     limit: u32,
     early: u64,
-    /// The set of the domains that may run, which each change makes anew, so that no question does.
-    runnable: u64,
+    ready: Ready,
 }
 
 impl Model for Credit2 {
@@ -39,7 +38,7 @@ impl Model for Credit2 {
 
     ghost view = { λ a. seen_by a.held a.limit a.early };
 
-    ghost invariant = { λ a. IsReady a.held a.runnable };
+    ghost invariant = { λ a. IsReady a.held a.ready };
 }
 
 /// The greatest moment that was given, in nanoseconds.
@@ -73,7 +72,10 @@ impl Credit2 {
             held: None,
             limit: DEFAULT_LIMIT,
             early: 0,
-            runnable: 0,
+            ready: Ready {
+                domains: 0,
+                first: None,
+            },
         }
     }
 }
@@ -84,7 +86,7 @@ impl Policy for Credit2 {
     fn reserve(&mut self, alloc: Global, places: Places, units: usize) -> Result<(), NoMemory> {
         let latest = latest_of(&self.held, self.early);
         let held = room::reserve(alloc, places.domains, units, latest)?;
-        self.runnable = runnable_in(&held);
+        self.ready = ready_in(&held);
         drop(mem::replace(&mut self.held, Some(held)));
         Ok(())
     }
@@ -96,7 +98,7 @@ impl Policy for Credit2 {
                 None => self.limit = limit,
                 Some(held) => {
                     small::restart(held, limit);
-                    self.runnable = runnable_in(held);
+                    self.ready = ready_in(held);
                 }
             }
         }
@@ -108,7 +110,7 @@ impl Policy for Credit2 {
                 None => {}
                 Some(held) => {
                     params::join(held, d, units, weight, cap, t.0);
-                    self.runnable = runnable_in(held);
+                    self.ready = ready_in(held);
                 }
             }
         }
@@ -119,7 +121,7 @@ impl Policy for Credit2 {
             None => {}
             Some(held) => {
                 params::part(held, d);
-                self.runnable = runnable_in(held);
+                self.ready = ready_in(held);
             }
         }
     }
@@ -129,7 +131,7 @@ impl Policy for Credit2 {
             None => {}
             Some(held) => {
                 small::enqueue(held, u);
-                self.runnable = runnable_in(held);
+                self.ready.first = first_ready(held, self.ready.domains);
             }
         }
     }
@@ -139,7 +141,7 @@ impl Policy for Credit2 {
             None => {}
             Some(held) => {
                 small::dequeue(held, u);
-                self.runnable = runnable_in(held);
+                self.ready.first = first_ready(held, self.ready.domains);
             }
         }
     }
@@ -156,7 +158,7 @@ impl Policy for Credit2 {
             }
             Some(held) => {
                 let choice = decide::choose(held, ask);
-                self.runnable = runnable_in(held);
+                self.ready = ready_in(held);
                 choice
             }
         }
@@ -173,8 +175,7 @@ impl Policy for Credit2 {
         match &self.held {
             None => false,
             Some(held) => {
-                let runnable = self.runnable;
-                choice::better_waits(held, runnable, cur, since.0, t.0, core.0, home.0)
+                choice::better_waits(held, self.ready, cur, since.0, t.0, core.0, home.0)
             }
         }
     }
@@ -193,7 +194,7 @@ impl Policy for Credit2 {
                 None => no_event(d),
                 Some(held) => {
                     let event = timers::refill(held, d, t.0);
-                    self.runnable = runnable_in(held);
+                    self.ready = ready_in(held);
                     event
                 }
             },
@@ -210,7 +211,7 @@ impl Policy for Credit2 {
             }
             Some(held) => {
                 params::set_params(held, change, t.0);
-                self.runnable = runnable_in(held);
+                self.ready = ready_in(held);
             }
         }
     }

@@ -8,12 +8,14 @@ ghost use Rattle.sched_model.specs.Credit2.{credit_of as credit_of_spec};
 ghost use Rattle.credit2_core.specs.Keys.{HasCredits, KeysWhere, is_passed};
 ghost use Rattle.credit2_core.specs.Places.{has_joined};
 ghost use Rattle.credit2_core.specs.Held.{AreMasks, IsLine, IsSameLine};
-ghost use Rattle.credit2_core.specs.Choice.{best_of};
+ghost use Rattle.credit2_core.specs.Choice.{best_of, first_ready as first_ready_spec};
 ghost use Rattle.credit2_core.specs.Domains.{set_of};
+ghost use Rattle.credit2_core.specs.Whole.{IsReadyIn};
 
 use crate::domains::{count_at, runnable_domains};
 use crate::held::Held;
 use plain_credit2::running::credit_of;
+use plain_units::eligible::is_allowed;
 use runq::{Allowed, Runq};
 use sched_base::{Cores, DomId, ResId, UnitId};
 use sched_model::config::Pins;
@@ -88,4 +90,53 @@ pub fn best_waiting(held: &Held, runnable: u64, core: u8, home: u64) -> Option<U
     let allowed = Allowed(runnable);
     held.queue
         .first_on(&allowed, &held.masks, ResId(core), Cores(home))
+}
+
+/// What each change makes anew, so that no question of a core does: the set of the domains that may run, with bit d for the domain d, and
+/// the first unit that waits of one of them.
+#[derive(Clone, Copy)]
+pub struct Ready {
+    pub domains: u64,
+    pub first: Option<UnitId>,
+}
+
+/// The first unit that waits of a domain that may run. The set is that of these domains.
+pub fn first_ready(held: &Held, domains: u64) -> Option<UnitId>
+    requires { domains ≡ set_of held.now.records.domains }
+    ensures { result ≡ first_ready_spec held.now.records held.now.queue.units }
+{
+    held.queue.first_where(&Allowed(domains))
+}
+
+/// Both of what is kept.
+pub fn ready_in(held: &Held) -> Ready
+    requires { length held.now.records.domains ≤ 64 }
+    ensures { IsReadyIn held.now result }
+{
+    let domains = runnable_in(held);
+    Ready {
+        domains,
+        first: first_ready(held, domains),
+    }
+}
+
+/// As `best_waiting`. Where the first unit of a domain that may run may take the core, no other one is looked for.
+pub fn best_ready(held: &Held, ready: Ready, core: u8, home: u64) -> Option<UnitId>
+    requires ready { IsReadyIn held.now ready }
+    requires core { core < 64 }
+    requires line { IsLine held.now }
+    requires masks { AreMasks held.now.affinity held.now.masks }
+    ensures { result ≡ best_of (arrivals held.now.queue.units) held.now.affinity home core held.now.records }
+{
+    held.queue.law_order();
+    match ready.first {
+        None => None,
+        Some(u) => {
+            if is_allowed(held.affinity.as_slice(), home, core, u) {
+                Some(u)
+            } else {
+                best_waiting(held, ready.domains, core, home)
+            }
+        }
+    }
 }

@@ -22,6 +22,7 @@ pub fn enqueue(held: &mut Held, u: UnitId)
     requires away { IsAway (scheduler_in held.old) u }
     ensures seen { seen_in held.new ≡ with_scheduler (enqueue_spec u (scheduler_in held.old)) (seen_in held.old) }
     ensures held { IsHeld held.new }
+    ensures records { held.new.records ≡ held.old.records }
 {
     let key = key_of(&held.records, u);
     held.queue.law_order();
@@ -33,6 +34,7 @@ pub fn dequeue(held: &mut Held, u: UnitId)
     requires held { IsHeld held.old }
     ensures seen { seen_in held.new ≡ with_scheduler (dequeue_spec u (scheduler_in held.old)) (seen_in held.old) }
     ensures held { IsHeld held.new }
+    ensures records { held.new.records ≡ held.old.records }
 {
     leave(held, u);
 }

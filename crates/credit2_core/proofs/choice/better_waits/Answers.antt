@@ -16,7 +16,7 @@ use Rattle.credit2_core.proofs.choice.better_waits.Goals as goal
 pub returns-in-None : goal.returns-in-None
 returns-in-None c =
     let h = c.args.held.now in
-    c.is_some.ensures ∙ ap is_some c.best_waiting.ensures ∙ some_passes h.records (may_take h.affinity c.args.home c.args.core h.records) (arrivals h.queue.units)
+    c.is_some.ensures ∙ ap is_some c.best_ready.ensures ∙ some_passes h.records (may_take h.affinity c.args.home c.args.core h.records) (arrivals h.queue.units)
     ∙ ap (λ (cur : Option UnitId). better_waits cur c.args.since c.args.t c.args.core c.args.home (scheduler_in h)) (sym c.in-None.is)
 
 same_form : (records : Credit2Records) (own : UnitId) (since t : ℕ) (o : Option UnitId) → is_better_of records own since t o ≡ elim o as (λ _. Bool) [ None ↦ false | Some u ↦ is_better records own since t u ]
@@ -30,7 +30,7 @@ returns-else-not-is_allowed c =
     let p : UnitId → Bool = may_take h.affinity c.args.home c.args.core h.records in
     let allowed : is_allowed_by h.affinity c.args.home c.args.core own ≡ true = ap (λ (a : List (Option (List Cores))). is_allowed_by a c.args.home c.args.core own) (sym c.as_slice.ensures) ∙ sym c.is_allowed.ensures ∙ c.if-not-is_allowed.false in
     let any : Bool = list_any (λ u. p u && is_better h.records own c.args.since c.args.t u) (arrivals h.queue.units) in
-    c.better_than.ensures ∙ ap (is_better_of h.records own c.args.since c.args.t) c.best_waiting-else-not-is_allowed.ensures
+    c.one_is_better.ensures
     ∙ same_form h.records own c.args.since c.args.t (best_of (arrivals h.queue.units) h.affinity c.args.home c.args.core h.records)
     ∙ better_passes h.records (not (is_within_limit h.records c.args.since c.args.t)) (credit_of (change_unit own (burn_unit (max_weight h.records) c.args.t) h.records) own) p (arrivals h.queue.units)
     ∙ ap (λ (b : Bool). not b || any) (sym allowed)

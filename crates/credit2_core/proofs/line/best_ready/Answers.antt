@@ -1,0 +1,37 @@
+use Rattle.std.proofs.Common.{◌≡◌, ◌∙◌, sym, ap, true}
+use Rattle.std.specs.Prelude.{List, Some, None, Option}
+use Rattle.sched_base.specs.declared.Cores.{Cores}
+use Rattle.sched_base.specs.declared.UnitId.{UnitId}
+use Rattle.sched_model.specs.declared.state.Credit2Records.{Credit2Records}
+use Rattle.sched_model.specs.Credit2.{domain_has_budget}
+use Rattle.sched_model.specs.Eligible.{is_allowed_by}
+use Rattle.arrival_queue.specs.Queues.{Queued}
+use Rattle.credit2_core.specs.Choice.{may_take, first_ready}
+use Rattle.credit2_core.proofs.Waiting.{first_greatest, first_of_none, first_of_both}
+use Rattle.credit2_core.proofs.line.best_ready.Goals as goal
+
+pub returns-in-None : goal.returns-in-None
+returns-in-None c =
+    let held = c.args.held.now in
+    let records : Credit2Records = held.records in
+    let es : List Queued = held.queue.units in
+    let none : first_ready records es ≡ None = sym c.requires.ready.first ∙ c.in-None.is in
+    sym (
+    sym (first_greatest records (may_take held.affinity c.args.home c.args.core records) es (record { order = c.law_order.ensures.order; ranks = c.law_order.ensures.ranks; units = c.law_order.ensures.units }) c.requires.line.keys)
+    ∙ first_of_none (is_allowed_by held.affinity c.args.home c.args.core) (domain_has_budget records) es none
+    )
+
+pub returns-then-is_allowed : goal.returns-then-is_allowed
+returns-then-is_allowed c =
+    let held = c.args.held.now in
+    let records : Credit2Records = held.records in
+    let es : List Queued = held.queue.units in
+    let u : UnitId = c.in-Some.u in
+    let found : first_ready records es ≡ Some u = sym c.requires.ready.first ∙ c.in-Some.is in
+    let passes : is_allowed_by held.affinity c.args.home c.args.core u ≡ true =
+    ap (λ (a : List (Option (List Cores))). is_allowed_by a c.args.home c.args.core u) (sym c.as_slice.ensures) ∙ sym c.is_allowed.ensures ∙ c.if-is_allowed.true
+    in
+    sym (
+    sym (first_greatest records (may_take held.affinity c.args.home c.args.core records) es (record { order = c.law_order.ensures.order; ranks = c.law_order.ensures.ranks; units = c.law_order.ensures.units }) c.requires.line.keys)
+    ∙ first_of_both (is_allowed_by held.affinity c.args.home c.args.core) (domain_has_budget records) es u found passes
+    )
