@@ -1,0 +1,16 @@
+//! Runs of a machine under the locks of its hall: the ordered run, and the run in which each processor is a thread of its own.
+//!
+//! No contract says that a thread gets on, or how often it is its turn: what the threads leave undone, the caller does when it ends the moment.
+#![tactic(auto)]
+
+mod closing;
+mod ends;
+mod free;
+mod ordered;
+mod workers;
+
+pub use closing::{close_down, join_all};
+pub use ends::RunEnd;
+pub use free::{run_free, threads_for};
+pub use ordered::run_ordered;
+pub use workers::{split_workers, work_all};

@@ -1,0 +1,8 @@
+pub mod Counting
+pub mod Looking
+pub mod Resting
+pub mod Reading
+pub mod Watching
+pub mod Crewing
+pub mod Closing
+pub mod Crossing

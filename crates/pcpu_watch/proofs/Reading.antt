@@ -1,0 +1,169 @@
+-- What the scribe has read, step by step.
+use mathlib.Core.List.{IsPrefix}
+use Rattle.std.proofs.Common.{◌≡◌, ◌∙◌, ⊎_elim, ◌++◌, ◌+◌, ◌<◌, ◌≤◌, ◌^◌, ℕ, suc, cond, List, [], ◌∷◌, length, take, refl, sym, ap, subst, arith, append_assoc, append-nil, length-append, true, false}
+use Rattle.std.specs.Prelude.{Some, slice_get}
+use Rattle.std.proofs.lemmas.Bool.{cases_lt}
+use Rattle.std.proofs.lemmas.List.{length-take-le, take-take, take_all}
+use Rattle.std.proofs.lemmas.Option.{slice_get_within}
+use Rattle.sched_model.specs.declared.event.Entry.{Entry}
+use Rattle.sched_report.specs.Stays.{last_moment}
+use Rattle.status_board.specs.Boards.{Desk}
+use Rattle.lock_moves.specs.Sets.{LockTable}
+use Rattle.lock_moves.proofs.Prefix.{prefix_refl}
+use Rattle.hall.specs.Seats.{IsOf, Seated, Stays}
+use Rattle.hall.specs.Turns.{Looked}
+use Rattle.pcpu_threads.proofs.Counting.{of-stays}
+use Rattle.pcpu_threads.proofs.Turning.{prefix_trans}
+use Rattle.pcpu_watch.specs.declared.looks.Look.{Look}
+use Rattle.pcpu_watch.specs.declared.scribe.Scribe.{Scribe}
+use Rattle.pcpu_watch.specs.Moments.{ends, is_end, moment_of}
+use Rattle.pcpu_watch.specs.Looks.{ShowsBeginning}
+use Rattle.pcpu_watch.specs.Scribes.{CanWrite, HasWritten, IsScribe, KeepsReading, ReadsBefore, ReadsOn, SeesOn, front_of, has_read}
+use Rattle.pcpu_watch.proofs.Counting.{ends-more, moment-same, one-more, part-same}
+
+abbrev seen_by : Scribe → List Entry
+seen_by s = front_of s.seat
+
+-- a seat that did nothing, and one that looked at the book
+pub sees-same : (hall : LockTable) (s : Seated) → IsOf hall s → SeesOn hall s s
+sees-same hall s of = record { of = of; begins = prefix_refl s.sitting.view.front; shares = refl }
+
+pub sees-looked : (hall : LockTable) (old new : Seated) → IsOf hall old → Stays old new → Looked old.sitting.view new.sitting.view → SeesOn hall old new
+sees-looked hall old new of stays looked = record { of = of-stays hall old new of stays; begins = looked.begins; shares = stays.shares }
+
+pub sees-trans : (hall : LockTable) (a b c : Seated) → SeesOn hall a b → SeesOn hall b c → SeesOn hall a c
+sees-trans hall a b c u v = record {
+  of = v.of;
+  begins = prefix_trans a.sitting.view.front b.sitting.view.front c.sitting.view.front u.begins v.begins;
+  shares = v.shares ∙ u.shares;
+}
+
+pub reads-same : (hall : LockTable) (s : Scribe) → IsScribe hall s → ReadsOn hall s s
+reads-same hall s is = record { is = is; begins = prefix_refl (has_read s); shares = refl; cores = refl }
+
+pub reads-trans : (hall : LockTable) (a b c : Scribe) → ReadsOn hall a b → ReadsOn hall b c → ReadsOn hall a c
+reads-trans hall a b c u v = record {
+  is = v.is;
+  begins = prefix_trans (has_read a) (has_read b) (has_read c) u.begins v.begins;
+  shares = v.shares ∙ u.shares;
+  cores = v.cores ∙ u.cores;
+}
+
+-- the length of what was read
+pub read-length : (hall : LockTable) (s : Scribe) → IsScribe hall s → length (has_read s) ≡ s.read
+read-length hall s is = length-take-le s.read (seen_by s) is.inside
+
+module _ (hall : LockTable) (s t : Scribe) (on : SeesOn hall s.seat t.seat) (is : IsScribe hall s) where
+  part : take s.read (seen_by t) ≡ has_read s
+  part = part-same (seen_by s) (seen_by t) s.read on.begins is.inside
+
+  -- the book was looked at, and nothing was read
+  module _ (read : t.read ≡ s.read) (ended : t.ended ≡ s.ended) (writer : t.writer ≡ s.writer) where
+    same : has_read t ≡ has_read s
+    same = ap (λ (n : ℕ). take n (seen_by t)) read ∙ part
+
+    still : IsScribe hall t
+    still = record {
+      of = on.of;
+      inside = longer is.inside;
+      few = subst (λ (n : ℕ). n ≤ 2 ^ 32) (sym read) is.few;
+      given = ap (λ (w : Desk). w.published ++ w.pending) writer ∙ is.given ∙ sym same;
+      ended = ended ∙ is.ended ∙ ap ends (sym same);
+    }
+      where
+        longer : s.read ≤ length (seen_by s) → t.read ≤ length (seen_by t)
+        longer low = subst (λ (n : ℕ). n ≤ length (seen_by t)) (sym read) (let more = on.begins.1 in let sum = ap length more in let len = length-append (seen_by s) on.begins.0 in omega (arith, low, sum, len))
+
+    pub keeps-reading : KeepsReading hall s t
+    keeps-reading = record {
+      on = record { is = still; begins = subst (IsPrefix (has_read s)) (sym same) (prefix_refl (has_read s)); shares = on.shares; cores = ap (λ (w : Desk). w.cores) writer };
+      same = same;
+      read = read;
+      ended = ended;
+      writer = writer;
+    }
+
+    pub still-can : (k : ℕ) → CanWrite hall k s → CanWrite hall k t
+    still-can k can = record {
+      is = still;
+      before = λ place low. subst (λ (h : List Entry). moment_of h place < k) (sym same) (can.before place (subst (λ (n : ℕ). place < n) read low));
+      ended = subst (λ (n : ℕ). n ≤ k) (sym ended) can.ended;
+    }
+
+  -- one entry more was read and given to the writer
+  module _ (e : Entry) (at : slice_get (seen_by t) s.read ≡ Some e) (few : s.read < 2 ^ 32) (read : t.read ≡ s.read + 1) (ended : t.ended ≡ s.ended + cond (is_end e.event) 1 0)
+      (writer : t.writer ≡ record s.writer { pending = s.writer.pending ++ e ∷ [] }) where
+    more : has_read t ≡ has_read s ++ e ∷ []
+    more = ap (λ (n : ℕ). take n (seen_by t)) next ∙ one-more (seen_by t) s.read e at ∙ ap (λ (h : List Entry). h ++ e ∷ []) part
+      where
+        next : t.read ≡ suc s.read
+        next = omega (arith, read)
+
+    reads : IsScribe hall t
+    reads = record {
+      of = on.of;
+      inside = omega (arith, read, slice_get_within (seen_by t) s.read e at);
+      few = omega (arith, read, few);
+      given = ap (λ (w : Desk). w.published ++ w.pending) writer ∙ sym (append_assoc s.writer.published s.writer.pending (e ∷ [])) ∙ ap (λ (h : List Entry). h ++ e ∷ []) is.given ∙ sym more;
+      ended = ended ∙ ap (λ (n : ℕ). n + cond (is_end e.event) 1 0) is.ended ∙ sym (ap ends more ∙ ends-more (has_read s) e);
+    }
+
+    goes-on : IsPrefix (has_read s) (has_read t)
+    goes-on = (e ∷ [], sym more)
+
+    pub reads-on : ReadsOn hall s t
+    reads-on = record { is = reads; begins = goes-on; shares = on.shares; cores = ap (λ (w : Desk). w.cores) writer }
+
+    pub can-go-on : (k : ℕ) → CanWrite hall k s → s.ended < k → CanWrite hall k t
+    can-go-on k can due = record { is = reads; before = before; ended = at-most (is_end e.event) ended }
+      where
+        at-most : (b : _) → t.ended ≡ s.ended + cond b 1 0 → t.ended ≤ k
+        at-most true is = omega (arith, is, due)
+        at-most false is = omega (arith, is, due)
+
+        len : length (has_read s) ≡ s.read
+        len = read-length hall s is
+
+        before : ReadsBefore k t
+        before place low = ⊎_elim
+            (λ (old : place < s.read). let same = moment-same (has_read s) (has_read t) place goes-on (omega (arith, old, len)) in let was = can.before place old in omega (arith, same, was))
+            (λ (last : s.read ≤ place).
+            let here : place ≡ length (has_read s) = omega (arith, last, low, read, len) in
+            let same = moment-same (has_read s) (has_read t) place goes-on (omega (arith, here)) in
+            let all : moment_of (has_read s) place ≡ s.ended = ap ends (take_all place (has_read s) (omega (arith, here))) ∙ sym is.ended in
+            omega (arith, same, all, due))
+            (cases_lt place s.read)
+
+-- what was given to the writer is published
+module _ (hall : LockTable) (s t : Scribe) (is : IsScribe hall s) (seat : t.seat ≡ s.seat) (read : t.read ≡ s.read) (ended : t.ended ≡ s.ended)
+    (writer : t.writer ≡ record s.writer { published = s.writer.published ++ s.writer.pending; pending = [] }) where
+  published-same : has_read t ≡ has_read s
+  published-same = (λ i. take (read i) (seat i).sitting.view.front)
+
+  pub reads-published : ReadsOn hall s t
+  reads-published = record {
+    is = record {
+      of = subst (IsOf hall) (sym seat) is.of;
+      inside = subst (λ (x : Seated). t.read ≤ length x.sitting.view.front) (sym seat) (subst (λ (n : ℕ). n ≤ length (seen_by s)) (sym read) is.inside);
+      few = subst (λ (n : ℕ). n ≤ 2 ^ 32) (sym read) is.few;
+      given = ap (λ (w : Desk). w.published ++ w.pending) writer ∙ append-nil (s.writer.published ++ s.writer.pending) ∙ is.given ∙ sym published-same;
+      ended = ended ∙ is.ended ∙ ap ends (sym published-same);
+    };
+    begins = subst (IsPrefix (has_read s)) (sym published-same) (prefix_refl (has_read s));
+    shares = ap (λ (x : Seated). x.sitting.view.shares) seat;
+    cores = ap (λ (w : Desk). w.cores) writer;
+  }
+
+  pub has-written : (k : ℕ) → CanWrite hall k s → s.ended ≡ k → HasWritten k t
+  has-written k can all = record {
+    before = λ place low. subst (λ (h : List Entry). moment_of h place < k) (sym published-same) (can.before place (subst (λ (n : ℕ). place < n) read low));
+    ended = ended ∙ all;
+    pending = ap (λ (w : Desk). w.pending) writer;
+  }
+
+-- a look that shows a beginning of the front, and no more than was read, shows a beginning of that
+pub shows-read : (front : List Entry) (read : ℕ) (look : Look) → read ≤ length front → look.entries ≤ read → look.moment.0 ≡ last_moment (take look.entries front) → ShowsBeginning (take read front) look
+shows-read front read look inside low last = record {
+  inside = omega (arith, low, length-take-le read front inside);
+  last = last ∙ ap last_moment (sym (take-take look.entries read front low));
+}

@@ -1,0 +1,8 @@
+pub mod Moments
+pub mod Looks
+pub mod Readers
+pub mod Scribes
+pub mod Watches
+pub mod Crews
+pub mod Seats
+pub mod Watched

@@ -1,0 +1,28 @@
+-- The seats of a watched run.
+use Rattle.std.specs.Prelude.{◌≡◌, ◌+◌, ℕ, List}
+use Rattle.lock_moves.specs.Sets.{LockTable}
+use Rattle.hall.specs.declared.turns.Turn.{Turn}
+use Rattle.hall.specs.declared.turns.Turn.TheVariants as turn
+use Rattle.hall.specs.Seats.{IsOf, Seated}
+use Rattle.pcpu_threads.specs.Workers.{OneEach, shares_of}
+use Rattle.pcpu_watch.specs.Scribes.{shares_in}
+
+-- the caller's seat, one worker for each processor, and the scribe's seat: they are of the hall, and together they have all parts
+pub record AreSeats (hall : LockTable) (seat : Seated) (workers : List Seated) (scribe : Seated) : Type 0 where
+  pub of : IsOf hall seat
+  pub each : OneEach hall workers
+  pub of_scribe : IsOf hall scribe
+  pub shares : (shares_in seat + shares_of workers) + shares_in scribe ≡ 1024
+
+-- the same of the two that are left, once the workers are joined
+pub record AreTwo (hall : LockTable) (seat scribe : Seated) : Type 0 where
+  pub of : IsOf hall seat
+  pub of_scribe : IsOf hall scribe
+  pub shares : shares_in seat + shares_in scribe ≡ 1024
+
+-- the place of the entry that a turn added, or of the last one
+abbrev pub place_of : Turn → ℕ
+place_of (turn.Stepped place e) = place
+place_of (turn.Closed place next) = place
+place_of (turn.Finished place) = place
+place_of (turn.Over place) = place

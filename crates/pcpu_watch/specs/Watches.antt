@@ -1,0 +1,32 @@
+-- What watches a run, from moment to moment.
+use Rattle.std.specs.Prelude.{◌≡◌, ◌<◌, ◌-◌, [], suc, length}
+use Rattle.lock_moves.specs.Sets.{LockTable}
+use Rattle.hall.specs.Seats.{IsOf}
+use Rattle.pcpu_watch.specs.declared.watch.Watcher.{Watcher}
+use Rattle.pcpu_watch.specs.Looks.{EachIsLook}
+use Rattle.pcpu_watch.specs.Scribes.{IsScribe, ReadsBefore, has_read, shares_in}
+
+-- between two moments: there is a look for each moment so far, and what the scribe has read is published: the entries of the moments before the last one
+pub record IsWatch (hall : LockTable) (w : Watcher) : Type 0 where
+  pub scribe : IsScribe hall w.scribe
+  pub cores : w.reader.cores ≡ w.scribe.writer.cores
+  pub pending : w.scribe.writer.pending ≡ []
+  pub ended : w.scribe.ended ≡ length w.looks.items - 1
+  pub before : ReadsBefore (length w.looks.items) w.scribe
+  pub looks : EachIsLook (has_read w.scribe) w.looks.items
+
+-- the same, with room for a look
+pub record CanLook (hall : LockTable) (w : Watcher) : Type 0 where
+  pub is : IsWatch hall w
+  pub room : length w.looks.items < w.looks.room
+
+-- what no turn changes
+pub record StaysWatch (hall : LockTable) (old new : Watcher) : Type 0 where
+  pub of : IsOf hall new.scribe.seat
+  pub shares : shares_in new.scribe.seat ≡ shares_in old.scribe.seat
+  pub room : new.looks.room ≡ old.looks.room
+
+-- there is one look more
+pub record HasLooked (hall : LockTable) (old new : Watcher) : Type 0 where
+  pub is : IsWatch hall new
+  pub one_more : length new.looks.items ≡ suc (length old.looks.items)

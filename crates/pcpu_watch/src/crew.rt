@@ -1,0 +1,58 @@
+//! The workers of a run, and the caller, who ends its moments.
+
+ghost use Rattle.pcpu_watch.specs.Crews.{IsCrew, StaysCrew};
+
+use hall::{Hall, HallSeat, Turn};
+use pcpu_threads::work_all;
+use sched_io::Gate;
+use std::sync::Wait;
+use std::thread::Threads;
+
+/// The caller's seat, a worker for each processor, the number of the domains, and in how many threads the workers are.
+pub(crate) struct Crew {
+    pub seat: HallSeat,
+    pub workers: Vec<HallSeat>,
+    pub domains: u8,
+    pub threads: usize,
+}
+
+/// The workers' part of a moment, side by side.
+pub(crate) fn work<R: Threads + Wait + Sync, G: Gate + Sync>(
+    rt: &R,
+    hall: &Hall,
+    gate: &G,
+    crew: &mut Crew,
+)
+    requires { IsCrew hall.now crew.old }
+    ensures { StaysCrew hall.now crew.old crew.new }
+{
+    work_all(
+        rt,
+        hall,
+        crew.workers.as_mut_slice(),
+        crew.domains,
+        crew.threads,
+        gate,
+    );
+}
+
+/// Ends the moment. As long as something may still come in it, the caller does the first of it, and the workers go on. It answers whether another moment follows: not where
+/// the run is over, or the book is full.
+pub(crate) fn end_moment<R: Threads + Wait + Sync, G: Gate + Sync>(
+    rt: &R,
+    hall: &Hall,
+    gate: &G,
+    crew: &mut Crew,
+) -> bool
+    requires { IsCrew hall.now crew.old }
+    ensures { StaysCrew hall.now crew.old crew.new }
+{
+    for _ in rt.forever() {
+        match hall.close_or_step(rt, &mut crew.seat) {
+            Ok(Turn::Stepped { .. }) => work(rt, hall, gate, crew),
+            Ok(Turn::Closed { .. }) => return true,
+            Ok(Turn::Finished { .. } | Turn::Over { .. }) | Err(_) => return false,
+        }
+    }
+    unreachable!()
+}

@@ -1,0 +1,100 @@
+//! The scribe: it reads the book, entry by entry, for the writer of the board.
+
+ghost use Rattle.std.specs.Prelude.{◌≡◌, ◌≤◌, ◌<◌, ◌⊎◌, OnOk};
+ghost use Rattle.pcpu_watch.specs.Looks.{ShowsBeginning};
+ghost use Rattle.pcpu_watch.specs.Scribes.{CanWrite, HasWritten, IsScribe, KeepsReading, MayKeep, ReadsOn, has_read};
+
+use crate::entries::{entry_at, is_end, moment_at};
+use crate::looks::Look;
+use hall::{Hall, HallSeat};
+use sched_base::NoMemory;
+use status_board::BoardWriter;
+use std::alloc::Global;
+use std::sync::Wait;
+use std::thread::yield_now;
+
+/// A seat that reads the book for the writer of a board: how many entries it has read and given to the writer, and how many moments end with these.
+pub(crate) struct Scribe {
+    pub seat: HallSeat,
+    pub writer: BoardWriter,
+    pub read: u64,
+    pub ended: u32,
+}
+
+impl Scribe {
+    /// A scribe that has read nothing.
+    pub(crate) fn new(seat: HallSeat, writer: BoardWriter) -> Scribe
+        ensures { result ≡ record { seat = seat; writer = writer; read = 0; ended = 0 } }
+    {
+        Scribe {
+            seat,
+            writer,
+            read: 0,
+            ended: 0,
+        }
+    }
+
+    /// Gives the writer the next entry of the book, if it stands there by now.
+    fn add_next<R: Wait>(
+        &mut self,
+        rt: &R,
+        alloc: Global,
+        hall: &Hall,
+        moment: u32,
+    ) -> Result<(), NoMemory>
+        requires can { CanWrite hall.now moment self.old }
+        requires due { self.old.ended < moment }
+        ensures on { ReadsOn hall.now self.old self.new }
+        ensures can { CanWrite hall.now moment self.new }
+    {
+        let Some(entry) = entry_at(rt, hall, &mut self.seat, self.read) else {
+            yield_now();
+            return Ok(());
+        };
+        self.writer.add(alloc, &entry)?;
+        self.read += 1;
+        self.ended += u32::from(is_end(&entry));
+        Ok(())
+    }
+
+    /// The look that is kept of a moment: what was seen, where that is at least what was learned and at most what was read, and has the moment of the last
+    /// of so many entries of the book; or else what was learned.
+    pub(crate) fn kept<R: Wait>(&mut self, rt: &R, hall: &Hall, learned: Look, seen: Look) -> Look
+        requires is { IsScribe hall.now self.old }
+        requires learned { ShowsBeginning (has_read self.old) learned }
+        ensures reading { KeepsReading hall.now self.old self.new }
+        ensures shows { ShowsBeginning (has_read self.new) result }
+        ensures least { learned.entries ≤ result.entries }
+        ensures one { (result ≡ seen) ⊎ (result ≡ learned) }
+        ensures as_seen { MayKeep self.old learned seen → result ≡ seen }
+    {
+        let within = learned.entries <= seen.entries && seen.entries <= self.read;
+        match moment_at(rt, hall, &mut self.seat, seen.entries) {
+            Some(t) if within && t.0 == seen.moment.0 => seen,
+            _ => learned,
+        }
+    }
+}
+
+/// A turn of the writer in the moment with this number, from 0: it adds and publishes the entries of the moments before it. It waits until these stand in the book,
+/// and may wait for readers. Its one error is want of memory, and then nothing more is published.
+pub(crate) fn write_turn<R: Wait>(
+    rt: &R,
+    alloc: Global,
+    hall: &Hall,
+    moment: u32,
+    scribe: &mut Scribe,
+) -> Result<(), NoMemory>
+    requires can { CanWrite hall.now moment scribe.old }
+    ensures on { ReadsOn hall.now scribe.old scribe.new }
+    ensures written { OnOk result (HasWritten moment scribe.new) }
+{
+    for _ in rt.forever() {
+        if scribe.ended == moment {
+            break;
+        }
+        scribe.add_next(rt, alloc, hall, moment)?;
+    }
+    scribe.writer.publish(rt);
+    Ok(())
+}
