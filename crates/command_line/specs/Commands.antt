@@ -11,17 +11,18 @@ use Rattle.command_line.specs.declared.command.Command.TheVariants as command
 use Rattle.command_line.specs.Entries.{flag_in, number_in}
 use Rattle.command_line.specs.Tree.{tree}
 
--- a command: a run on two named files, of which the schedule or the report is written, with at most so many entries; one of the two texts
--- that are made from a number; the report of a run on both of them; or whether a schedule, the third file, is a run on two files
+-- a command: a run on two named files, the ordered one where that is asked, of which the schedule or the report is written, with at most so
+-- many entries; one of the two texts that are made from a number; the report of the ordered run on both of them; or whether a schedule, the
+-- third file, is a run on two files
 pub data Asked : Type 0 where
-  run : Form → ℕ → List ℕ → List ℕ → Asked
+  run : Bool → Form → ℕ → List ℕ → List ℕ → Asked
   make : ℕ → ℕ → ℕ → Made → Asked
   load : ℕ → ℕ → ℕ → Asked
   check : Bool → List ℕ → List ℕ → List ℕ → Asked
 
 -- what a command asks for
 abbrev pub asked : Command → Asked
-asked (command.Run form limit domains work) = run form limit domains.now work.now
+asked (command.Run ordered form limit domains work) = run ordered form limit domains.now work.now
 asked (command.Make seed processors domains text) = make seed processors domains text
 asked (command.Load seed processors domains) = load seed processors domains
 asked (command.Check ordered domains work schedule) = check ordered domains.now work.now schedule.now
@@ -30,12 +31,11 @@ asked (command.Check ordered domains work schedule) = check ordered domains.now 
 abbrev pub files_in : List Row → Option (List ℕ × List ℕ)
 files_in rows = option_and_then (λ domains. option_map (λ work. (domains, work)) (first_of (codes "work") rows)) (first_of (codes "domains") rows)
 
--- a run on two named files, in the order that is written down; there is no other yet
+-- a run on two named files, the ordered one where the flag was given
 abbrev pub run_in : Form → List Row → Option Asked
 run_in form rows =
-    if flag_in (codes "ordered") rows
-    then option_and_then (λ limit. option_map (λ files. run form limit files.0 files.1) (files_in rows)) (number_in 1 4000000 (codes "events") rows)
-    else None
+    option_and_then (λ limit. option_map (λ files. run (flag_in (codes "ordered") rows) form limit files.0 files.1) (files_in rows))
+    (number_in 1 4000000 (codes "events") rows)
 
 -- the numbers that a text is made from: seed, processors and domains
 abbrev pub Numbers : Type 0
@@ -88,7 +88,7 @@ command_of words = unless_refused (fault_of tree (map string_bytes words)) (subc
 
 -- the numbers of a command are in their ranges
 abbrev pub HasNumbersInRange : Command → Type 0
-HasNumbersInRange (command.Run form limit domains work) = (1 ≤ limit) × (limit ≤ 4000000)
+HasNumbersInRange (command.Run ordered form limit domains work) = (1 ≤ limit) × (limit ≤ 4000000)
 HasNumbersInRange (command.Make seed processors domains text) = (seed ≤ 2147483647) × (1 ≤ processors) × (processors ≤ 64) × (1 ≤ domains) × (domains ≤ 64)
 HasNumbersInRange (command.Load seed processors domains) = (seed ≤ 2147483647) × (1 ≤ processors) × (processors ≤ 64) × (1 ≤ domains) × (domains ≤ 64)
 HasNumbersInRange (command.Check ordered domains work schedule) = ⊤

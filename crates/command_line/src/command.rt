@@ -21,8 +21,9 @@ pub enum Made {
 /// A command.
 #[derive(Clone, Copy, Debug, PartialEq, Eq)]
 pub enum Command<'a> {
-    /// The ordered run on two files, with at most `limit` entries, 1 to 4,000,000.
+    /// A run on two files, the ordered one or any, with at most `limit` entries, 1 to 4,000,000.
     Run {
+        ordered: bool,
         form: Form,
         limit: u32,
         domains: &'a str,

@@ -57,17 +57,16 @@ fn files_in<'a>(found: &ArgMatches<'a>) -> Option<(&'a str, &'a str)>
     Some((text_in(found, "domains")?, text_in(found, "work")?))
 }
 
-/// A run on two named files. So far there is the ordered one alone.
+/// A run on two named files, the ordered one where the flag was given.
 fn run_in<'a>(form: Form, found: &ArgMatches<'a>) -> Option<Command<'a>>
     ensures value { option_map asked result ≡ run_in_spec form (rows_of (found_of found.now)) }
     ensures ranges { IfSome result HasNumbersInRange }
 {
-    if !flag_in(found, "ordered") {
-        return None;
-    }
     let limit = number_in(found, "events", 1, 4_000_000)?;
     let (domains, work) = files_in(found)?;
+    let ordered = flag_in(found, "ordered");
     Some(Command::Run {
+        ordered,
         form,
         limit,
         domains,

@@ -1,6 +1,6 @@
 //! The words of the command line, and the command that they are.
 //!
-//! `run --ordered [--events N] DOMAINS WORK`, `report --ordered [--events N] DOMAINS WORK`,
+//! `run [--ordered] [--events N] DOMAINS WORK`, `report [--ordered] [--events N] DOMAINS WORK`,
 //! `make SEED PROCESSORS DOMAINS domains|work`, `load SEED PROCESSORS DOMAINS`, `check [--ordered] DOMAINS WORK SCHEDULE`.
 //! The words are read with `clap`: the options stand anywhere behind the command's name, each once; `--` ends them.
 //! A number is decimal digits, with a plus before them or none.

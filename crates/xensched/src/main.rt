@@ -18,7 +18,7 @@ fn main(rt: HostRuntime) -> ExitCode {
         Ok(()) => {
             let mut store = FileStore::new(&rt);
             let mut sink = OutSink::new(&rt);
-            xensched(rt.alloc(), words.as_slice(), &mut store, &mut sink)
+            xensched(&rt, rt.alloc(), words.as_slice(), &mut store, &mut sink)
         }
         Err(e) => e,
     };

@@ -1,5 +1,5 @@
 -- What the top call's answer says, from what its parts say.
-use Rattle.std.specs.Prelude.{String, option_map, if◌then◌else◌, ⊤}
+use Rattle.std.specs.Prelude.{String, option_map, ⊤, ◌⊎◌}
 use Rattle.std.specs.declared.alloc.Global.{Global}
 use Rattle.std.proofs.Common.{◌≡◌, ℕ, ◌≤◌, Bool, true, false, List, Option, Some, None, Result, Ok, Err, IfSome, IsSomeAnd, IsOk, IsOkAnd, refl, sym, ap, subst, ◌∙◌, inl, inr, rules}
 use Rattle.dom_file.specs.Configs.{document, domains_of}
@@ -24,10 +24,10 @@ use Rattle.sched_model.specs.declared.event.Entry.{Entry}
 use Rattle.sched_verdict.specs.Printed.{text_of_verdict}
 use Rattle.xensched_top.specs.Words.{Source, of_files, of_seed, Request, Task, runs, writes, judges, task_in, task_of}
 use Rattle.xensched_top.proofs.FilesLemmas.{told}
-use Rattle.xensched_top.specs.Answers.{Held, Counts, Names, domain_bytes, work_bytes, IsMade, IsUnread, IsNotRead, IsNoToml, IsBadTable, IsBadWork, IsFull, IsAccepted, IsRefusedAt, IsJudged, Judges, Refuses, RefusesName, Writes, WritesVerdict, Outcome, OfTexts, LeavesUnread, PutsAll, PutsLimit, PutsRefusal, PutsSome, Answers, answer_of, answer_to, UnlessNoMemory, SomethingFails, IsAnswer, IsOfTable}
+use Rattle.xensched_top.specs.Answers.{Held, Counts, Names, domain_bytes, work_bytes, IsMade, IsUnread, IsNotRead, IsNoToml, IsBadTable, IsBadWork, IsAccepted, IsRefusedAt, IsJudged, Judges, Refuses, RefusesName, Writes, WritesVerdict, Outcome, OfTexts, LeavesUnread, PutsAll, PutsLimit, PutsRefusal, PutsSome, Answers, ordered_answer, answer_to, SomethingFails, IsAnswer, IsAnswerOf, IsRunAnswer, IsOfTable}
 use Rattle.xensched_top.specs.Files.{config_of, domains_refused, machine_of, with_work, work_of}
-use Rattle.xensched_top.specs.Schedules.{is_whole, PutsRun}
-use Rattle.xensched_top.proofs.ScheduleLemmas.{is_whole-puts_run, is_whole-puts_first}
+use Rattle.xensched_top.specs.Schedules.{EndsWithin, FillsLimit}
+use Rattle.xensched_top.proofs.ScheduleLemmas.{is_whole-ends, is_whole-fills}
 
 -- what holds of the task holds of the command's
 pub of_task : (asked : Option Task) (task : Task) (P : Task → Type 0) → Some task ≡ asked → P task → IsSomeAnd asked P
@@ -69,7 +69,7 @@ refused_outcome held old new before after sink_old sink_new r status.NoMemory h 
 
 -- the run was to be written
 pub wrote_outcome : (held : Held) (old new : Counts) (before after : Option (List ℕ)) (sink_old sink_new : ℕ) (r : Request) (m : Machine) (answer : Status) →
-    IsMade held r.source m → Writes r.form r.limit m before after sink_old sink_new answer → Outcome held old new before after sink_old sink_new (runs r) answer
+    IsMade held r.source m → Writes r.ordered r.form r.limit m before after sink_old sink_new answer → Outcome held old new before after sink_old sink_new (runs r) answer
 unfolding Writes Outcome
 wrote_outcome held old new before after sink_old sink_new r m status.Ok made h = (m, made, h)
 wrote_outcome held old new before after sink_old sink_new r m status.Usage made h = absurd h
@@ -188,74 +188,87 @@ always_told None second Q f = tt
 always_told (Some d) None Q f = tt
 always_told (Some d) (Some w) Q f = f d w
 
--- a refusal is the answer of these bytes
-answers_refusal : (limit : ℕ) (bytes lines : List ℕ) (refusal : Status) → machine_of bytes lines ≡ Err refusal → UnlessNoMemory (answer_of limit (machine_of bytes lines)) refusal
-unfolding answer_of
-answers_refusal limit bytes lines refusal e = inr (sym (ap (answer_of limit) e))
+-- the texts make no machine, and this answer refuses them, unless memory was wanted
+abbrev IsRefusal : Status → Result Machine Status → Type 0
+IsRefusal answer made = (answer ≡ status.NoMemory) ⊎ (made ≡ Err answer)
 
-table_answer : (limit : ℕ) (bytes lines : List ℕ) (fault : DomFault) → IsOfTable fault → config_of bytes ≡ Err fault → UnlessNoMemory (answer_of limit (machine_of bytes lines)) (status.BadDomains fault)
-table_answer limit bytes lines dom_fault.NoMemory bad e = absurd bad
-table_answer limit bytes lines dom_fault.BadToml bad e = absurd bad
-table_answer limit bytes lines (dom_fault.Bad table index key cause) bad e = answers_refusal limit bytes lines _ (refused_machine bytes lines (dom_fault.Bad table index key cause) e)
+table_refusal : (bytes lines : List ℕ) (fault : DomFault) → IsOfTable fault → config_of bytes ≡ Err fault → IsRefusal (status.BadDomains fault) (machine_of bytes lines)
+table_refusal bytes lines dom_fault.NoMemory bad e = absurd bad
+table_refusal bytes lines dom_fault.BadToml bad e = absurd bad
+table_refusal bytes lines (dom_fault.Bad table index key cause) bad e = inr (refused_machine bytes lines (dom_fault.Bad table index key cause) e)
 
-work_answer : (limit : ℕ) (bytes lines : List ℕ) (fault : WorkFault) (read : Result Config DomFault) → config_of bytes ≡ read → IsOkAnd read (λ config. work_of config lines ≡ Err fault) →
-    UnlessNoMemory (answer_of limit (machine_of bytes lines)) (status.BadWork fault)
-work_answer limit bytes lines fault (Ok config) e h = answers_refusal limit bytes lines _ (refused_lines bytes lines config fault e h)
-work_answer limit bytes lines fault (Err other) e h = absurd h
+work_refusal : (bytes lines : List ℕ) (fault : WorkFault) (read : Result Config DomFault) → config_of bytes ≡ read → IsOkAnd read (λ config. work_of config lines ≡ Err fault) →
+    IsRefusal (status.BadWork fault) (machine_of bytes lines)
+work_refusal bytes lines fault (Ok config) e h = inr (refused_lines bytes lines config fault e h)
+work_refusal bytes lines fault (Err other) e h = absurd h
 
 -- a file that counts as not read was not read
 not_read : (held : Held) (old new : Counts) (source : Source) → IsUnread held old new source → IsNotRead old new source
 not_read held old new (of_files names) h = elim h [ inl rose ↦ inl rose | inr rose ↦ inr rose.1 ]
 not_read held old new (of_seed s processors domains) h = h
 
+-- this holds of what the two texts make, where their bytes are told
+abbrev OfMade : Held → Source → (Result Machine Status → Type 0) → Type 0
+OfMade held source P = IfSome (domain_bytes held source) (λ d. IfSome (work_bytes held source) (λ w. P (machine_of d w)))
+
 -- the texts are refused, and nothing failed
-refused_answer : (limit : ℕ) (held : Held) (old new : Counts) (source : Source) (answer : Status) → Refuses held old new source answer →
-    ¬ IsNotRead old new source → IsAnswer limit held answer source
-unfolding Refuses IsAnswer
-refused_answer limit held old new source status.Ok h fine = absurd h
-refused_answer limit held old new source status.Usage h fine = absurd h
-refused_answer limit held old new source status.ReadFault h fine = absurd (fine (not_read held old new source h))
-refused_answer limit held old new source status.BadToml h fine =
-    both_told (domain_bytes held source) (work_bytes held source) (λ d w. document d ≡ None) (λ d w. UnlessNoMemory (answer_of limit (machine_of d w)) status.BadToml)
-    (λ d w none. answers_refusal limit d w status.BadToml (refused_machine d w dom_fault.BadToml (no_toml d none)))
+refused_texts : (held : Held) (old new : Counts) (source : Source) (answer : Status) → Refuses held old new source answer → ¬ IsNotRead old new source → OfMade held source (IsRefusal answer)
+unfolding Refuses
+refused_texts held old new source status.Ok h fine = absurd h
+refused_texts held old new source status.Usage h fine = absurd h
+refused_texts held old new source status.ReadFault h fine = absurd (fine (not_read held old new source h))
+refused_texts held old new source status.BadToml h fine =
+    both_told (domain_bytes held source) (work_bytes held source) (λ d w. document d ≡ None) (λ d w. IsRefusal status.BadToml (machine_of d w))
+    (λ d w none. inr (refused_machine d w dom_fault.BadToml (no_toml d none)))
     (first_told (domain_bytes held source) (work_bytes held source) (λ d. document d ≡ None) h)
-refused_answer limit held old new source (status.BadDomains fault) h fine =
-    both_told (domain_bytes held source) (work_bytes held source) (λ d w. config_of d ≡ Err fault) (λ d w. UnlessNoMemory (answer_of limit (machine_of d w)) (status.BadDomains fault))
-    (λ d w e. table_answer limit d w fault h.0 e)
+refused_texts held old new source (status.BadDomains fault) h fine =
+    both_told (domain_bytes held source) (work_bytes held source) (λ d w. config_of d ≡ Err fault) (λ d w. IsRefusal (status.BadDomains fault) (machine_of d w))
+    (λ d w e. table_refusal d w fault h.0 e)
     (first_told (domain_bytes held source) (work_bytes held source) (λ d. config_of d ≡ Err fault) h.1)
-refused_answer limit held old new source (status.BadWork fault) h fine =
-    both_told (domain_bytes held source) (work_bytes held source) (λ d w. IsOkAnd (config_of d) (λ config. work_of config w ≡ Err fault)) (λ d w. UnlessNoMemory (answer_of limit (machine_of d w)) (status.BadWork fault))
-    (λ d w bad. work_answer limit d w fault (config_of d) refl bad) h
-refused_answer limit held old new source status.WriteFault h fine = absurd h
-refused_answer limit held old new source (status.Full n) h fine = absurd h
-refused_answer limit held old new source (status.NotRun k) h fine = absurd h
-refused_answer limit held old new source status.NoMemory h fine =
-    always_told (domain_bytes held source) (work_bytes held source) (λ d w. UnlessNoMemory (answer_of limit (machine_of d w)) status.NoMemory) (λ d w. inl refl)
+refused_texts held old new source (status.BadWork fault) h fine =
+    both_told (domain_bytes held source) (work_bytes held source) (λ d w. IsOkAnd (config_of d) (λ config. work_of config w ≡ Err fault)) (λ d w. IsRefusal (status.BadWork fault) (machine_of d w))
+    (λ d w bad. work_refusal d w fault (config_of d) refl bad) h
+refused_texts held old new source status.WriteFault h fine = absurd h
+refused_texts held old new source (status.Full n) h fine = absurd h
+refused_texts held old new source (status.NotRun k) h fine = absurd h
+refused_texts held old new source status.NoMemory h fine =
+    always_told (domain_bytes held source) (work_bytes held source) (λ d w. IsRefusal status.NoMemory (machine_of d w)) (λ d w. inl refl)
 
--- the answer of a machine whose run is over within the limit, and of one whose run goes on
-answers_ok : (limit : ℕ) (m : Machine) → is_whole limit m ≡ true → answer_of limit (Ok m) ≡ status.Ok
-unfolding answer_of
-answers_ok limit m whole = rw whole refl
+-- want of memory is an answer of every run
+memory_answers_run : (ordered : Bool) (limit : ℕ) (made : Result Machine Status) → IsRunAnswer ordered limit status.NoMemory made
+memory_answers_run ordered limit (Err refusal) = inl refl
+memory_answers_run true limit (Ok m) = inl refl
+memory_answers_run false limit (Ok m) = inl (inl refl)
 
-answers_full : (limit : ℕ) (m : Machine) → is_whole limit m ≡ false → answer_of limit (Ok m) ≡ status.Full limit
-unfolding answer_of
-answers_full limit m going = rw going refl
+-- and so is what refuses the files
+refusal_answers_run : (ordered : Bool) (limit : ℕ) (answer : Status) (made : Result Machine Status) → IsRefusal answer made → IsRunAnswer ordered limit answer made
+refusal_answers_run ordered limit answer made (inl none) = subst (λ (a : Status). IsRunAnswer ordered limit a made) (sym none) (memory_answers_run ordered limit made)
+refusal_answers_run ordered limit answer made (inr e) = subst (λ (r : Result Machine Status). IsRunAnswer ordered limit answer r) (sym e) (inr refl)
 
-made_answer : (limit : ℕ) (m : Machine) (bytes lines : List ℕ) (answer : Status) → answer_of limit (Ok m) ≡ answer → machine_of bytes lines ≡ Ok m → UnlessNoMemory (answer_of limit (machine_of bytes lines)) answer
-made_answer limit m bytes lines answer is made = inr (sym (ap (answer_of limit) made ∙ is))
-
--- the run was written whole, or up to the limit
-whole_answer : (held : Held) (r : Request) (before after : Option (List ℕ)) (m : Machine) → IsMade held r.source m → PutsRun r.form r.limit m before after → IsAnswer r.limit held status.Ok r.source
+refused_answer : (ordered : Bool) (limit : ℕ) (held : Held) (old new : Counts) (source : Source) (answer : Status) → Refuses held old new source answer →
+    ¬ IsNotRead old new source → IsAnswer ordered limit held answer source
 unfolding IsAnswer
-whole_answer held r before after m made h =
-    both_told (domain_bytes held r.source) (work_bytes held r.source) (λ d w. machine_of d w ≡ Ok m) (λ d w. UnlessNoMemory (answer_of r.limit (machine_of d w)) status.Ok)
-    (λ d w e. made_answer r.limit m d w status.Ok (answers_ok r.limit m (is_whole-puts_run r.form r.limit m before after h)) e) made.by_texts
+refused_answer ordered limit held old new source answer h fine =
+    both_told (domain_bytes held source) (work_bytes held source) (λ d w. IsRefusal answer (machine_of d w)) (λ d w. IsRunAnswer ordered limit answer (machine_of d w))
+    (λ d w refusal. refusal_answers_run ordered limit answer (machine_of d w) refusal) (refused_texts held old new source answer h fine)
 
-full_answer : (held : Held) (r : Request) (before after : Option (List ℕ)) (n : ℕ) (m : Machine) → IsMade held r.source m → IsFull n r.form r.limit m before after → IsAnswer r.limit held (status.Full n) r.source
+-- the answer of a machine whose run was written whole, and of one of which a further entry is due
+answers_ok : (ordered : Bool) (limit : ℕ) (m : Machine) (entries : List Entry) → EndsWithin ordered limit m entries → IsAnswerOf limit m status.Ok ordered
+unfolding ordered_answer
+answers_ok true limit m entries h = rw (is_whole-ends limit m entries h) (inr refl)
+answers_ok false limit m entries h = inl (inr refl)
+
+answers_full : (ordered : Bool) (limit : ℕ) (m : Machine) (entries : List Entry) (n : ℕ) → n ≡ limit → FillsLimit ordered limit m entries → IsAnswerOf limit m (status.Full n) ordered
+unfolding ordered_answer
+answers_full true limit m entries n is h = rw (is_whole-fills limit m entries h) (inr (ap status.Full is))
+answers_full false limit m entries n is h = inr (ap status.Full is)
+
+-- the answer of a run of a machine that the two texts make
+made_answer : (held : Held) (r : Request) (m : Machine) (answer : Status) → IsMade held r.source m → IsAnswerOf r.limit m answer r.ordered → IsAnswer r.ordered r.limit held answer r.source
 unfolding IsAnswer
-full_answer held r before after n m made h =
-    both_told (domain_bytes held r.source) (work_bytes held r.source) (λ d w. machine_of d w ≡ Ok m) (λ d w. UnlessNoMemory (answer_of r.limit (machine_of d w)) (status.Full n))
-    (λ d w e. made_answer r.limit m d w (status.Full n) (answers_full r.limit m (is_whole-puts_first r.form r.limit m before after h.1) ∙ ap status.Full (sym h.0)) e) made.by_texts
+made_answer held r m answer made h =
+    both_told (domain_bytes held r.source) (work_bytes held r.source) (λ d w. machine_of d w ≡ Ok m) (λ d w. IsRunAnswer r.ordered r.limit answer (machine_of d w))
+    (λ d w e. subst (λ (z : Result Machine Status). IsRunAnswer r.ordered r.limit answer z) (sym e) h) made.by_texts
 
 -- of the bytes of three files, where they are told
 three_told : (first second third : Option (List ℕ)) (P : List ℕ → List ℕ → Type 0) (R : List ℕ → Type 0) (Q : List ℕ → List ℕ → List ℕ → Type 0) → ((d w b : List ℕ) → P d w → R b → Q d w b) →
@@ -281,29 +294,21 @@ refuses_at : (k : ℕ) (v : Verdict) → IsRefusedAt k v → status.NotRun k ≡
 refuses_at k (verdict.Yes n) h = absurd h
 refuses_at k (verdict.No line cause) h = sym (ap status.NotRun h)
 
--- a refusal of the two files is the answer of any schedule
-refusal_judged : (ordered : Bool) (bytes : List ℕ) (answer : Status) (made : Result Machine Status) → (answer ≡ status.Ok → ⊥) → ((n : ℕ) → answer ≡ status.Full n → ⊥) →
-    UnlessNoMemory (answer_of 0 made) answer → IsJudged ordered bytes answer made
-unfolding answer_of
-refusal_judged ordered bytes answer (Err refusal) not_ok not_full h = h
-refusal_judged ordered bytes answer (Ok m) not_ok not_full (inl none) = inl none
-refusal_judged ordered bytes answer (Ok m) not_ok not_full (inr is) =
-    elim (is_whole 0 m) as (λ (b : Bool). answer ≡ (if b then status.Ok else status.Full 0) → IsJudged ordered bytes answer (Ok m)) [
-      | true ↦ λ e. absurd (not_ok e)
-      | false ↦ λ e. absurd (not_full 0 e)
-    ] is
-
-refused_files : (held : Held) (old new : Counts) (ordered : Bool) (names : Names) (schedule : List ℕ) (answer : Status) → (answer ≡ status.Ok → ⊥) → ((n : ℕ) → answer ≡ status.Full n → ⊥) →
-    Refuses held old new (of_files names) answer → ¬ IsNotRead old new (of_files names) → Answers held answer (judges ordered names schedule)
-unfolding IsAnswer
-refused_files held old new ordered names schedule answer not_ok not_full h fine =
-    three_told (held names.0) (held names.1) (held schedule) (λ d w. UnlessNoMemory (answer_of 0 (machine_of d w)) answer) (λ b. ⊤) (λ d w b. IsJudged ordered b answer (machine_of d w))
-    (λ d w b u r. refusal_judged ordered b answer (machine_of d w) not_ok not_full u)
-    (refused_answer 0 held old new (of_files names) answer h fine) (whatever (held schedule))
-
 memory_judged : (ordered : Bool) (bytes : List ℕ) (made : Result Machine Status) → IsJudged ordered bytes status.NoMemory made
 memory_judged ordered bytes (Err refusal) = inl refl
 memory_judged ordered bytes (Ok m) = inl refl
+
+-- a refusal of the two files is the answer of any schedule
+refusal_judged : (ordered : Bool) (bytes : List ℕ) (answer : Status) (made : Result Machine Status) → IsRefusal answer made → IsJudged ordered bytes answer made
+refusal_judged ordered bytes answer made (inl none) = subst (λ (a : Status). IsJudged ordered bytes a made) (sym none) (memory_judged ordered bytes made)
+refusal_judged ordered bytes answer made (inr e) = subst (λ (r : Result Machine Status). IsJudged ordered bytes answer r) (sym e) (inr refl)
+
+refused_files : (held : Held) (old new : Counts) (ordered : Bool) (names : Names) (schedule : List ℕ) (answer : Status) →
+    Refuses held old new (of_files names) answer → ¬ IsNotRead old new (of_files names) → Answers held answer (judges ordered names schedule)
+refused_files held old new ordered names schedule answer h fine =
+    three_told (held names.0) (held names.1) (held schedule) (λ d w. IsRefusal answer (machine_of d w)) (λ b. ⊤) (λ d w b. IsJudged ordered b answer (machine_of d w))
+    (λ d w b refusal r. refusal_judged ordered b answer (machine_of d w) refusal)
+    (refused_texts held old new (of_files names) answer h fine) (whatever (held schedule))
 
 judged : (held : Held) (old new : Counts) (before after : Option (List ℕ)) (sink_old sink_new : ℕ) (ordered : Bool) (names : Names) (schedule : List ℕ) (answer : Status) →
     Outcome held old new before after sink_old sink_new (judges ordered names schedule) answer → ¬ SomethingFails old new sink_old sink_new (judges ordered names schedule) →
@@ -321,11 +326,11 @@ judged held old new before after sink_old sink_new ordered names schedule status
 judged held old new before after sink_old sink_new ordered names schedule status.ReadFault h fine =
     absurd (elim h [ inl unread ↦ fine (inl (not_read held old new (of_files names) unread)) | inr unread ↦ fine (inr (inl unread.1)) ])
 judged held old new before after sink_old sink_new ordered names schedule status.BadToml h fine =
-    refused_files held old new ordered names schedule status.BadToml (λ is. absurd (cc (is))) (λ n is. absurd (cc (is))) h (λ unread. fine (inl unread))
+    refused_files held old new ordered names schedule status.BadToml h (λ unread. fine (inl unread))
 judged held old new before after sink_old sink_new ordered names schedule (status.BadDomains fault) h fine =
-    refused_files held old new ordered names schedule (status.BadDomains fault) (λ is. absurd (cc (is))) (λ n is. absurd (cc (is))) h (λ unread. fine (inl unread))
+    refused_files held old new ordered names schedule (status.BadDomains fault) h (λ unread. fine (inl unread))
 judged held old new before after sink_old sink_new ordered names schedule (status.BadWork fault) h fine =
-    refused_files held old new ordered names schedule (status.BadWork fault) (λ is. absurd (cc (is))) (λ n is. absurd (cc (is))) h (λ unread. fine (inl unread))
+    refused_files held old new ordered names schedule (status.BadWork fault) h (λ unread. fine (inl unread))
 judged held old new before after sink_old sink_new ordered names schedule status.NoMemory h fine =
     three_told (held names.0) (held names.1) (held schedule) (λ d w. ⊤) (λ b. ⊤) (λ d w b. IsJudged ordered b status.NoMemory (machine_of d w))
     (λ d w b x y. memory_judged ordered b (machine_of d w)) (always_told (held names.0) (held names.1) (λ d w. ⊤) (λ d w. tt)) (whatever (held schedule))
@@ -334,16 +339,18 @@ judged held old new before after sink_old sink_new ordered names schedule status
 pub answers : (held : Held) (old new : Counts) (before after : Option (List ℕ)) (sink_old sink_new : ℕ) (task : Task) (answer : Status) →
     Outcome held old new before after sink_old sink_new task answer → ¬ SomethingFails old new sink_old sink_new task → Answers held answer task
 unfolding Outcome Refuses
-answers held old new before after sink_old sink_new (runs r) status.Ok h fine = whole_answer held r before after h.0 h.1 h.2
-answers held old new before after sink_old sink_new (runs r) (status.Full n) h fine = full_answer held r before after n h.0 h.1 h.2
+answers held old new before after sink_old sink_new (runs r) status.Ok h fine =
+    made_answer held r h.0 status.Ok h.1 (answers_ok r.ordered r.limit h.0 h.2.entries h.2.ends)
+answers held old new before after sink_old sink_new (runs r) (status.Full n) h fine =
+    made_answer held r h.0 (status.Full n) h.1 (answers_full r.ordered r.limit h.0 h.2.1.entries n h.2.0 h.2.1.fills)
 answers held old new before after sink_old sink_new (runs r) status.WriteFault h fine = absurd (fine (inr h.1))
 answers held old new before after sink_old sink_new (runs r) status.Usage h fine = absurd h
-answers held old new before after sink_old sink_new (runs r) status.ReadFault h fine = refused_answer r.limit held old new r.source status.ReadFault h (λ unread. fine (inl unread))
-answers held old new before after sink_old sink_new (runs r) status.BadToml h fine = refused_answer r.limit held old new r.source status.BadToml h (λ unread. fine (inl unread))
-answers held old new before after sink_old sink_new (runs r) (status.BadDomains fault) h fine = refused_answer r.limit held old new r.source (status.BadDomains fault) h (λ unread. fine (inl unread))
-answers held old new before after sink_old sink_new (runs r) (status.BadWork fault) h fine = refused_answer r.limit held old new r.source (status.BadWork fault) h (λ unread. fine (inl unread))
+answers held old new before after sink_old sink_new (runs r) status.ReadFault h fine = refused_answer r.ordered r.limit held old new r.source status.ReadFault h (λ unread. fine (inl unread))
+answers held old new before after sink_old sink_new (runs r) status.BadToml h fine = refused_answer r.ordered r.limit held old new r.source status.BadToml h (λ unread. fine (inl unread))
+answers held old new before after sink_old sink_new (runs r) (status.BadDomains fault) h fine = refused_answer r.ordered r.limit held old new r.source (status.BadDomains fault) h (λ unread. fine (inl unread))
+answers held old new before after sink_old sink_new (runs r) (status.BadWork fault) h fine = refused_answer r.ordered r.limit held old new r.source (status.BadWork fault) h (λ unread. fine (inl unread))
 answers held old new before after sink_old sink_new (runs r) (status.NotRun k) h fine = absurd h
-answers held old new before after sink_old sink_new (runs r) status.NoMemory h fine = refused_answer r.limit held old new r.source status.NoMemory h (λ unread. fine (inl unread))
+answers held old new before after sink_old sink_new (runs r) status.NoMemory h fine = refused_answer r.ordered r.limit held old new r.source status.NoMemory h (λ unread. fine (inl unread))
 answers held old new before after sink_old sink_new (writes text) status.Ok h fine = inr refl
 answers held old new before after sink_old sink_new (writes text) (status.Full n) h fine = absurd h
 answers held old new before after sink_old sink_new (writes text) status.WriteFault h fine = absurd (fine h.1)
@@ -360,7 +367,8 @@ answers held old new before after sink_old sink_new (judges ordered names schedu
 pub memory_answers : (held : Held) (task : Task) → Answers held status.NoMemory task
 unfolding IsAnswer
 memory_answers held (runs r) =
-    always_told (domain_bytes held r.source) (work_bytes held r.source) (λ d w. UnlessNoMemory (answer_of r.limit (machine_of d w)) status.NoMemory) (λ d w. inl refl)
+    always_told (domain_bytes held r.source) (work_bytes held r.source) (λ d w. IsRunAnswer r.ordered r.limit status.NoMemory (machine_of d w))
+    (λ d w. memory_answers_run r.ordered r.limit (machine_of d w))
 memory_answers held (writes text) = inl refl
 memory_answers held (judges ordered names schedule) =
     three_told (held names.0) (held names.1) (held schedule) (λ d w. ⊤) (λ b. ⊤) (λ d w b. IsJudged ordered b status.NoMemory (machine_of d w))

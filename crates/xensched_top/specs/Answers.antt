@@ -1,5 +1,5 @@
 -- What each answer of the program says of the files, the store and the sink.
-use Rattle.std.specs.Prelude.{◌≡◌, ℕ, List, Option, Some, None, Result, Ok, Err, Bool, IfSome, IsOk, IsOkAnd, ◌⊎◌, ⊤, if◌then◌else◌}
+use Rattle.std.specs.Prelude.{◌≡◌, ℕ, List, Option, Some, None, Result, Ok, Err, Bool, true, false, IfSome, IsOk, IsOkAnd, ◌⊎◌, ⊤, if◌then◌else◌}
 use Rattle.dom_file.specs.Configs.{document}
 use Rattle.dom_file.specs.declared.fault.DomFault.{DomFault}
 use Rattle.dom_file.specs.declared.fault.DomFault.TheVariants as dom_fault
@@ -101,16 +101,16 @@ Refuses held old new source status.NoMemory = ⊤
 Refuses held old new source answer = ⊥
 
 -- the limit is this many entries, and a machine's run goes on behind them
-abbrev pub IsFull : ℕ → Form → ℕ → Machine → Option (List ℕ) → Option (List ℕ) → Type 0
-IsFull n f limit m before after = (n ≡ limit) × PutsFirst f limit m before after
+abbrev pub IsFull : ℕ → Bool → Form → ℕ → Machine → Option (List ℕ) → Option (List ℕ) → Type 0
+IsFull n ordered f limit m before after = (n ≡ limit) × PutsFirst ordered f limit m before after
 
 -- how the writing of a machine's run ends, by the status that is answered then: what was put, and whether the sink's count of faults rose
-unfoldable pub Writes : Form → ℕ → Machine → Option (List ℕ) → Option (List ℕ) → ℕ → ℕ → Status → Type 0
-Writes f limit m before after old new status.Ok = PutsRun f limit m before after
-Writes f limit m before after old new (status.Full n) = IsFull n f limit m before after
-Writes f limit m before after old new status.WriteFault = PutsPart f limit m before after × Rose old new
-Writes f limit m before after old new status.NoMemory = ⊤
-Writes f limit m before after old new answer = ⊥
+unfoldable pub Writes : Bool → Form → ℕ → Machine → Option (List ℕ) → Option (List ℕ) → ℕ → ℕ → Status → Type 0
+Writes ordered f limit m before after old new status.Ok = PutsRun ordered f limit m before after
+Writes ordered f limit m before after old new (status.Full n) = IsFull n ordered f limit m before after
+Writes ordered f limit m before after old new status.WriteFault = PutsPart ordered f limit m before after × Rose old new
+Writes ordered f limit m before after old new status.NoMemory = ⊤
+Writes ordered f limit m before after old new answer = ⊥
 
 -- the verdict accepts the schedule, or refuses it at line k
 abbrev pub IsAccepted : Verdict → Type 0
@@ -142,23 +142,33 @@ PutsNothing status.WriteFault = ⊥
 PutsNothing (status.NotRun k) = ⊥
 PutsNothing answer = ⊤
 
--- the answer where nothing fails: the one that refuses the files, or whether the run is over within the limit
-unfoldable pub answer_of : ℕ → Result Machine Status → Status
-answer_of limit (Err refusal) = refusal
-answer_of limit (Ok m) = if is_whole limit m then status.Ok else status.Full limit
-
 -- this is answered, unless memory was wanted
 abbrev pub UnlessNoMemory : Status → Status → Type 0
 UnlessNoMemory expected answer = (answer ≡ status.NoMemory) ⊎ (answer ≡ expected)
+
+-- the answer of the machine's ordered run where nothing fails: whether it is over within the limit
+unfoldable pub ordered_answer : ℕ → Machine → Status
+ordered_answer limit m = if is_whole limit m then status.Ok else status.Full limit
+
+-- the answer of a run of the machine, where nothing fails: of another than the ordered one, that it is over or that it is full
+abbrev pub IsAnswerOf : ℕ → Machine → Status → Bool → Type 0
+IsAnswerOf limit m answer true = UnlessNoMemory (ordered_answer limit m) answer
+IsAnswerOf limit m answer false = UnlessNoMemory status.Ok answer ⊎ (answer ≡ status.Full limit)
+
+-- the answer of a run where nothing fails: the one that refuses the files, or one of the run of the machine
+abbrev pub IsRunAnswer : Bool → ℕ → Status → Result Machine Status → Type 0
+IsRunAnswer ordered limit answer (Err refusal) = UnlessNoMemory refusal answer
+IsRunAnswer ordered limit answer (Ok m) = IsAnswerOf limit m answer ordered
 
 -- one of the two files was not read
 abbrev pub IsNotRead : Counts → Counts → Source → Type 0
 IsNotRead old new (of_files names) = Rose (old names.0) (new names.0) ⊎ Rose (old names.1) (new names.1)
 IsNotRead old new (of_seed s processors domains) = ⊥
 
--- the answer of two texts whose bytes are told
-unfoldable pub IsAnswer : ℕ → Held → Status → Source → Type 0
-IsAnswer limit held answer source = IfSome (domain_bytes held source) (λ domains. IfSome (work_bytes held source) (λ work. UnlessNoMemory (answer_of limit (machine_of domains work)) answer))
+-- the answer of a run of two texts whose bytes are told
+unfoldable pub IsAnswer : Bool → ℕ → Held → Status → Source → Type 0
+IsAnswer ordered limit held answer source =
+    IfSome (domain_bytes held source) (λ domains. IfSome (work_bytes held source) (λ work. IsRunAnswer ordered limit answer (machine_of domains work)))
 
 -- the texts of the run's request make a machine, and of both this holds
 abbrev pub OfMachine : Held → (Request → Machine → Type 0) → Request → Type 0
@@ -170,13 +180,13 @@ OfVerdict held P ordered names schedule = (m : Machine) × (verdict : Verdict) �
 
 -- all that the task asks for was put
 abbrev pub PutsAll : Held → Option (List ℕ) → Option (List ℕ) → Task → Type 0
-PutsAll held before after (runs r) = OfMachine held (λ r m. PutsRun r.form r.limit m before after) r
+PutsAll held before after (runs r) = OfMachine held (λ r m. PutsRun r.ordered r.form r.limit m before after) r
 PutsAll held before after (writes text) = Adds before after text
 PutsAll held before after (judges ordered names schedule) = OfVerdict held (λ m verdict. IsAccepted verdict × Adds before after (text_of_verdict verdict)) ordered names schedule
 
--- the run has more entries than the limit, which is n, and what is asked of the first n was put
+-- a run has more entries than the limit, which is n, and what is asked of its first n was put
 abbrev pub PutsLimit : ℕ → Held → Option (List ℕ) → Option (List ℕ) → Task → Type 0
-PutsLimit n held before after (runs r) = OfMachine held (λ r m. IsFull n r.form r.limit m before after) r
+PutsLimit n held before after (runs r) = OfMachine held (λ r m. IsFull n r.ordered r.form r.limit m before after) r
 PutsLimit n held before after (writes text) = ⊥
 PutsLimit n held before after (judges ordered names schedule) = ⊥
 
@@ -188,7 +198,7 @@ PutsRefusal k held before after (judges ordered names schedule) = OfVerdict held
 
 -- a beginning was put of what is put where no put fails
 abbrev pub PutsSome : Held → Option (List ℕ) → Option (List ℕ) → Task → Type 0
-PutsSome held before after (runs r) = OfMachine held (λ r m. PutsPart r.form r.limit m before after) r
+PutsSome held before after (runs r) = OfMachine held (λ r m. PutsPart r.ordered r.form r.limit m before after) r
 PutsSome held before after (writes text) = AddsPart before after text
 PutsSome held before after (judges ordered names schedule) = OfVerdict held (λ m verdict. AddsPart before after (text_of_verdict verdict)) ordered names schedule
 
@@ -226,7 +236,7 @@ IsJudged ordered bytes answer (Ok m) = (answer ≡ status.NoMemory) ⊎ ((verdic
 
 -- the answer of a task where nothing fails
 abbrev pub Answers : Held → Status → Task → Type 0
-Answers held answer (runs r) = IsAnswer r.limit held answer r.source
+Answers held answer (runs r) = IsAnswer r.ordered r.limit held answer r.source
 Answers held answer (writes text) = UnlessNoMemory status.Ok answer
 Answers held answer (judges ordered names schedule) =
     IfSome (held names.0) (λ domains. IfSome (held names.1) (λ work. IfSome (held schedule) (λ bytes. IsJudged ordered bytes answer (machine_of domains work))))

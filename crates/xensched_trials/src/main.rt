@@ -4,15 +4,23 @@
 //! A line is the words of one call, parted by single spaces; an empty line has no words. The files that the words name stand in
 //! `data/`. Before the words may stand `fail-read N` or `fail-put N`, where the Nth read or put of the call fails, `sure`, for a
 //! store and a sink that never fail, or `no-memory`, for a store that has no memory for any file. These calls have the files in
-//! memory, and what they put there is printed.
+//! memory, and what they put there is printed. Or `free` stands there, before the words of a `run`: what a run in threads puts is
+//! not the same each time, so in its place is printed what `check` says of it, `yes` without the number of entries, and the status of
+//! that check.
 #![tactic(auto)]
 
+mod free;
 mod memory;
 
+use free::try_free;
 use memory::{try_failing, try_scantly, try_surely};
 use sched_io::{FileStore, OutSink};
 use std::alloc::Global;
 use std::io;
+use std::io::Print;
+use std::rt::Files;
+use std::sync::Wait;
+use std::thread::Threads;
 use xensched_top::status::Status;
 use xensched_top::top::xensched;
 
@@ -29,32 +37,45 @@ fn words_of(alloc: Global, line: &str) -> io::Result<Vec<String>> {
 }
 
 /// The call on the files of the system.
-fn try_files(rt: &HostRuntime, words: &[String]) -> Status {
+fn try_files<R: Files + Print + Threads + Wait + Sync>(
+    rt: &R,
+    alloc: Global,
+    words: &[String],
+) -> Status {
     let mut store = FileStore::new(rt);
     let mut sink = OutSink::new(rt);
-    xensched(rt.alloc(), words, &mut store, &mut sink)
+    xensched(rt, alloc, words, &mut store, &mut sink)
 }
 
 /// The call that a line asks for.
-fn try_words(rt: &HostRuntime, words: &[String]) -> Status {
+fn try_words<R: Files + Print + Threads + Wait + Sync>(
+    rt: &R,
+    alloc: Global,
+    words: &[String],
+) -> Status {
     match words {
         [way, n, words @ ..] if way.as_str() == "fail-read" => {
-            try_failing(rt, words, n.parse().unwrap_or(0), 0)
+            try_failing(rt, alloc, words, n.parse().unwrap_or(0), 0)
         }
         [way, n, words @ ..] if way.as_str() == "fail-put" => {
-            try_failing(rt, words, 0, n.parse().unwrap_or(0))
+            try_failing(rt, alloc, words, 0, n.parse().unwrap_or(0))
         }
-        [way, words @ ..] if way.as_str() == "sure" => try_surely(rt, words),
-        [way, words @ ..] if way.as_str() == "no-memory" => try_scantly(rt, words),
-        _ => try_files(rt, words),
+        [way, words @ ..] if way.as_str() == "sure" => try_surely(rt, alloc, words),
+        [way, words @ ..] if way.as_str() == "no-memory" => try_scantly(rt, alloc, words),
+        [way, words @ ..] if way.as_str() == "free" => try_free(rt, alloc, words),
+        _ => try_files(rt, alloc, words),
     }
 }
 
 /// One line: itself, what is put, and how the call ends.
-fn try_line(rt: &HostRuntime, line: &str) -> io::Result<()> {
+fn try_line<R: Files + Print + Threads + Wait + Sync>(
+    rt: &R,
+    alloc: Global,
+    line: &str,
+) -> io::Result<()> {
     println!(rt; "== {line}")?;
-    let words = words_of(rt.alloc(), line)?;
-    let status = try_words(rt, words.as_slice());
+    let words = words_of(alloc, line)?;
+    let status = try_words(rt, alloc, words.as_slice());
     match status.number() {
         0 => println!(rt; "-- 0"),
         number => println!(rt; "-- {number} {status}"),
@@ -63,7 +84,7 @@ fn try_line(rt: &HostRuntime, line: &str) -> io::Result<()> {
 
 fn main(rt: HostRuntime) -> io::Result<()> {
     for line in rt.lines(rt.alloc()) {
-        try_line(&rt, line?.as_str())?;
+        try_line(&rt, rt.alloc(), line?.as_str())?;
     }
     Ok(())
 }
