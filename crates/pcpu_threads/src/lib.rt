@@ -1,4 +1,4 @@
-//! Runs of a machine under the locks of its hall: the ordered run, and the run in which each processor is a thread of its own.
+//! Runs of a machine under the locks of its hall: the ordered run, and the run in which each processor is simulated by a worker of its own.
 //!
 //! No contract says that a thread gets on, or how often it is its turn: what the threads leave undone, the caller does when it ends the moment.
 #![tactic(auto)]

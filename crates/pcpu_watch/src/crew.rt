@@ -36,8 +36,8 @@ pub(crate) fn work<R: Threads + Wait + Sync, G: Gate + Sync>(
     );
 }
 
-/// Ends the moment. As long as something may still come in it, the caller does the first of it, and the workers go on. It answers whether another moment follows: not where
-/// the run is over, or the book is full.
+/// Ends the moment. As long as something may still come in it, the caller does the first of it, and the workers go on. It answers whether another moment
+/// follows: not where the run is over, or the book is full.
 pub(crate) fn end_moment<R: Threads + Wait + Sync, G: Gate + Sync>(
     rt: &R,
     hall: &Hall,

@@ -74,7 +74,8 @@ fn join_scribe<R: Wait>(rt: &R, hall: &Hall, seat: &mut HallSeat, scribe: HallSe
     hall.join(seat, scribe);
 }
 
-/// Ends a run whose moments were watched until it was over or its book full. `read` is how many entries the scribe's seat has read; the looks are those up to there.
+/// Ends a run whose moments were watched until it was over or its book full. `read` is how many entries the scribe's seat has read, and the looks are
+/// those up to there.
 pub(crate) fn finish<R: Wait>(
     rt: &R,
     hall: Hall,

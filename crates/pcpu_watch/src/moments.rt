@@ -62,8 +62,7 @@ fn watch_moment<R: Threads + Wait + Sync, G: Gate + Sync>(
     Ok(end_moment(rt, hall, gate, crew))
 }
 
-/// One moment after the other, each with a look, until the run is over or the book is full. It makes no more looks than there is room for. Its one error is want
-/// of memory.
+/// One moment after the other, each with a look, until the run is over or the book is full. Its one error is want of memory.
 pub(crate) fn watch_moments<R: Threads + Wait + Sync, G: Gate + Sync>(
     rt: &R,
     alloc: Global,
@@ -81,6 +80,7 @@ pub(crate) fn watch_moments<R: Threads + Wait + Sync, G: Gate + Sync>(
     ensures watched { OnOk result (IsWatch hall.now watch.new) }
     ensures some { OnOk result (0 < length watch.new.looks.items) }
 {
+    // Each moment but the last adds an entry, its End, so the room for looks is enough for all moments.
     for _ in 0..watch.looks.most() {
         if !watch_moment(rt, alloc, hall, gate, crew, watch)? {
             return Ok(());

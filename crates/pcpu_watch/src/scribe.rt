@@ -76,8 +76,8 @@ impl Scribe {
     }
 }
 
-/// A turn of the writer in the moment with this number, from 0: it adds and publishes the entries of the moments before it. It waits until these stand in the book,
-/// and may wait for readers. Its one error is want of memory, and then nothing more is published.
+/// A turn of the writer in the moment with this number, from 0: it adds and publishes the entries of the moments before it. It waits until these stand in
+/// the book, and may wait for readers. Its one error is want of memory, and then nothing more is published.
 pub(crate) fn write_turn<R: Wait>(
     rt: &R,
     alloc: Global,

@@ -21,13 +21,16 @@ use std::alloc::Global;
 use std::sync::Wait;
 use std::thread::Threads;
 
-/// A run in which each processor is simulated by a worker of its own, as `run_free` makes it. In each moment, beside the workers, one turn of the writer adds and publishes the
-/// entries of all earlier moments, and one turn of the reader learns what was told at the end of the moment before, and looks once. It answers the book, how the run ended, and the looks.
+/// A run in which each processor is simulated by a worker of its own, as `run_free` makes it. In each moment, beside the workers, one turn of the writer
+/// adds and publishes the entries of all earlier moments, and one turn of the reader learns what was told at the end of the moment before, and looks once.
+/// It answers the book, how the run ended, and the looks.
 ///
-/// A look is kept as it was seen where it shows at least what was learned and at most what is published, and has the moment of the last of so many entries of the book; otherwise what was
-/// learned is kept. So there is one look for each moment, and no look goes back. Where memory is wanted, the book's history is the beginning of a run.
+/// A look is kept as it was seen where it shows at least what was learned and at most what is published, and has the moment of the last of so many entries
+/// of the book; otherwise what was learned is kept. So there is one look for each moment, and no look goes back. Where memory is wanted, the book's history
+/// is the beginning of a run.
 ///
-/// `scribe` is the seat from which the book is read, `domains` is how many domains the hall's input has, and there is room for one look more than the book may have entries.
+/// The writer and the reader are of one board, to which nothing was added. `scribe` is the seat from which the book is read; `domains` is how many domains
+/// the hall's input has. There is room for one look more than the book may have entries.
 pub fn run_watched<R: Threads + Wait + Sync, G: Gate + Sync>(
     rt: &R,
     alloc: Global,

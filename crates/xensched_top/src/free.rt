@@ -1,5 +1,5 @@
-//! A free run: each processor of the machine has a worker in a thread of its own, and the events of a moment come in the order in which the workers
-//! find them. What is asked of the run is written once it has ended.
+//! A free run: each processor of the machine has a worker, the workers act side by side in threads, and the events of a moment come in the order in
+//! which the workers find them. What is asked of the run is written once it has ended.
 
 ghost use Rattle.std.specs.Prelude.{◌≡◌, ◌≤◌, [], false, IfOk, OnOk, OnErr};
 ghost use Rattle.sched_io.specs.Faults.{Rose};
