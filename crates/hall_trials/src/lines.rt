@@ -12,9 +12,11 @@ use crate::judged::{Judged, judge};
 use crate::numbering::{Actors, actors_of};
 use crate::serving::{Way, go_to_the_end};
 use crate::side_by_side::run_side_by_side;
+use crate::watched::{are_looks, run_with_looks};
 use crate::workers::{passes_of_one_round, run_by_workers};
 use hall::{Hall, HallSeat};
 use journal_core::Book;
+use pcpu_watch::Looks;
 use sched_base::NoMemory;
 use sched_io::{Gate, OpenGate, Store};
 use sched_model::machine::Machine;
@@ -64,6 +66,7 @@ fn open_hall(
     ensures all { IfOk result (λ r. r.1.sitting.view.shares ≡ 1024) }
     ensures actors { IfOk result (λ r. AreActors r.0.opened.input.config r.2) }
     ensures processors { IfOk result (λ r. (1 ≤ r.2.processors) × (r.2.processors ≤ 64)) }
+    ensures limit { IfOk result (λ r. r.0.opened.limit ≡ events) }
 {
     match Hall::open(alloc, &machine.config, &machine.work, events) {
         Ok((hall, seat)) => Ok((hall, seat, actors_of(&machine.config))),
@@ -357,6 +360,72 @@ fn try_round<R: Threads + Wait + Sync + Print>(
     }
 }
 
+/// The book and the looks of a watched run of the machine.
+fn watch_machine<R: Threads + Wait + Sync>(
+    rt: &R,
+    alloc: Global,
+    machine: &Machine,
+    events: u32,
+) -> Result<(Book, Looks), Status>
+    requires checked { IsChecked machine.now }
+    requires few { (1 ≤ events) × (events ≤ 4000000) }
+{
+    let Ok(looks) = Looks::room(alloc, events + 1) else {
+        return Err(Status::NoMemory);
+    };
+    let (hall, seat, actors) = open_hall(alloc, machine, events)?;
+    match run_with_looks(rt, alloc, hall, seat, actors, looks) {
+        Ok(watched) => Ok(watched),
+        Err(NoMemory) => Err(Status::NoMemory),
+    }
+}
+
+/// Whether a watched run of the machine is whole, and has a look for each moment.
+fn is_watched<R: Threads + Wait + Sync>(
+    rt: &R,
+    alloc: Global,
+    machine: Machine,
+    events: u32,
+) -> Result<bool, Status>
+    requires checked { IsChecked machine }
+    requires few { (1 ≤ events) × (events ≤ 4000000) }
+{
+    match watch_machine(rt, alloc, &machine, events) {
+        Ok((book, looks)) => {
+            let are = are_looks(&book, &looks);
+            match is_whole(alloc, machine, &book) {
+                Ok(is_whole) => Ok(is_whole && are),
+                Err(status) => Err(status),
+            }
+        }
+        Err(status) => {
+            drop(machine);
+            Err(status)
+        }
+    }
+}
+
+/// Goes through so many watched runs, and prints how many were whole and had a look for each moment.
+fn try_watched<R: Threads + Wait + Sync + Print, S: Store>(
+    rt: &R,
+    alloc: Global,
+    store: &mut S,
+    files: Files<'_>,
+    events: u32,
+    times: u32,
+) -> Result<(), Status>
+    requires few { (1 ≤ events) × (events ≤ 4000000) }
+{
+    let mut watched = 0u32;
+    for _ in 0..times {
+        let machine = machine_of(alloc, files.domains, files.work, store)?;
+        if is_watched(rt, alloc, machine, events)? {
+            watched = watched.saturating_add(1);
+        }
+    }
+    printed(println!(rt; "{watched} of {times} are whole runs with a look for each moment"))
+}
+
 /// The way that a word names.
 fn way_of(word: &str) -> Result<Way, Status> {
     Way::named(word).ok_or(Status::Usage)
@@ -409,6 +478,15 @@ fn do_words<R: Threads + Wait + Sync + Print, S: Store>(
                 work: work.as_str(),
             };
             try_crossing(rt, alloc, store, files, events, times)
+        }
+        [word, domains, work, events, times] if word.as_str() == "watched" => {
+            let events = limit_of(events.as_str())?;
+            let times = times.parse().unwrap_or(0);
+            let files = Files {
+                domains: domains.as_str(),
+                work: work.as_str(),
+            };
+            try_watched(rt, alloc, store, files, events, times)
         }
         [word, domains, work, events] if word.as_str() == "round" => {
             let events = limit_of(events.as_str())?;

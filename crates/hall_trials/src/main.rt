@@ -1,5 +1,5 @@
-//! The hall at work, as data: two seats call by call, one seat alone, and four seats in threads of their own. Does what each line of the
-//! standard input says, and prints the line up to its first comma, and what came of it. The files that the words name stand in `data/`.
+//! The hall at work, as data: two seats call by call, one seat alone, four seats in threads of their own, and runs by a worker for each processor. Does
+//! what each line of the standard input says, and prints the line up to its first comma, and what came of it. The files that the words name stand in `data/`.
 //!
 //! `calls DOMAINS WORK EVENTS, CALL, ..` opens a hall of the two files with room for so many entries, and does the calls by two seats. A call is
 //! `A` or `B` and what the seat does: `proc N`, `dom N` or `tool` acts for that actor, `close` takes a turn of the whole machine, `waits N`
@@ -13,6 +13,11 @@
 //! `threads WAY DOMAINS WORK EVENTS TIMES` goes to the end of the run so many times, with four seats in threads of their own, which each go that way,
 //! and prints how many of the histories the checker takes as whole runs. Here a WAY may also be `rounds`: the four act for every fourth actor, until none
 //! of theirs has an event, and then a fifth seat takes a turn, over and over.
+//!
+//! `free DOMAINS WORK EVENTS TIMES` goes to the end of the run so many times with a worker for each processor, and prints how many of the histories the
+//! checker takes as whole runs. `watched DOMAINS WORK EVENTS TIMES` does the same with a board that is written and looked at beside the workers, and
+//! asks for a look for each moment too. `crossing DOMAINS WORK EVENTS TIMES` has a gate at which the processors 0 and 1 wait for each other, and prints
+//! how often both came. `round DOMAINS WORK EVENTS` has the workers act once each, in one thread, and prints how often they passed the gate.
 #![tactic(auto)]
 
 mod answers;
@@ -25,6 +30,7 @@ mod numbering;
 mod seats;
 mod serving;
 mod side_by_side;
+mod watched;
 mod workers;
 
 use lines::try_line;
