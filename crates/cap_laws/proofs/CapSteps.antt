@@ -3,7 +3,7 @@ use Rattle.std.proofs.Common.{◌≡◌, ◌<◌, ℕ, suc, true, length, refl, 
 use Rattle.std.specs.Prelude.{Option, Some, None}
 use Rattle.std.proofs.Math.Decide.{dec_le}
 use Rattle.sched_model.specs.declared.action.Action.{Action}
-use Rattle.sched_model.specs.declared.action.Action.TheVariants.{Stall, Xl, Moved, DomMoved, Wake, Block, Slice, Repl, Refill, Arrive, Decide, Leave, Save}
+use Rattle.sched_model.specs.declared.action.Action.TheVariants.{Decide}
 use Rattle.sched_model.specs.declared.event.Event.{Event}
 use Rattle.sched_model.specs.declared.event.Entry.{Entry}
 use Rattle.sched_model.specs.declared.machine.Machine.{Machine}
@@ -42,18 +42,7 @@ module _ (m : Machine) (checked : IsChecked m) (d : ℕ) where
   prints : (s : State) (action : Action) → IsReached m s → IsReached m (after m s s.now action) → is_enabled m s s.now action ≡ true → (r late : ℕ) → late_of r (event_of m s s.now action) ≡ Some late
       → (late ≡ late_now s r) × (on_core (after m s s.now action) d r ≡ decided_for d (event_of m s s.now action))
   prints s (Decide n) r r2 on core late is = decides_here m checked d s n (stands m checked s r) (stands m checked (after m s s.now (Decide n)) r2) (decides m s s.now n on) core late is
-  prints s Stall r r2 on core late is = absurd (cc)
-  prints s Xl r r2 on core late is = absurd (cc)
-  prints s (Moved n) r r2 on core late is = absurd (cc)
-  prints s (DomMoved e) r r2 on core late is = absurd (cc)
-  prints s (Wake v) r r2 on core late is = absurd (cc)
-  prints s (Block n) r r2 on core late is = absurd (cc)
-  prints s (Slice n) r r2 on core late is = absurd (cc)
-  prints s (Repl u) r r2 on core late is = absurd (cc)
-  prints s (Refill e) r r2 on core late is = absurd (cc)
-  prints s (Arrive n) r r2 on core late is = absurd (cc)
-  prints s (Leave n) r r2 on core late is = absurd (cc)
-  prints s (Save n) r r2 on core late is = absurd (cc)
+  prints s action r r2 on core late is = absurd (cc)
 
   high_gives : (d < length m.config.domains → ⊥) → (s : State) (action : Action) → IsReached m s → IsReached m (after m s s.now action) → is_enabled m s s.now action ≡ true → All s (event_of m s s.now action) (after m s s.now action)
   high_gives high s action r r2 on =

@@ -3,7 +3,7 @@ use Rattle.std.proofs.Common.{◌≡◌, ℕ, true, refl, subst, sym, ◌∙◌}
 use Rattle.std.specs.Prelude.{Option, Some, None, slice_get}
 use Rattle.std.proofs.Math.Decide.{ℕ_discrete}
 use Rattle.sched_model.specs.declared.action.Action.{Action}
-use Rattle.sched_model.specs.declared.action.Action.TheVariants.{Stall, Xl, Moved, DomMoved, Wake, Block, Slice, Repl, Refill, Arrive, Decide, Leave, Save}
+use Rattle.sched_model.specs.declared.action.Action.TheVariants.{Xl, DomMoved, Refill, Decide}
 use Rattle.sched_model.specs.declared.machine.Machine.{Machine}
 use Rattle.sched_model.specs.declared.work.CommandLine.{CommandLine}
 use Rattle.sched_model.specs.declared.state.State.{State}
@@ -68,16 +68,8 @@ module _ (m : Machine) (checked : IsChecked m) (d : ℕ) (s : State) (k : Stands
   ]
 
   pub action_gives : (action : Action) → is_enabled m s s.now action ≡ true → Stands m (after m s s.now action) → HomeOf d (after m s s.now action) → Gives action
-  action_gives Stall on k2 home2 = by_leaving Stall tt on k2 (record { late = λ r. refl; stays = refl; sets = refl; refill = refl })
   action_gives Xl on k2 home2 = xl_gives on k2
-  action_gives (Moved r) on k2 home2 = by_leaving (Moved r) tt on k2 (record { late = λ j. refl; stays = refl; sets = refl; refill = refl })
   action_gives (DomMoved e) on k2 home2 = moved_any e on k2 home2
-  action_gives (Wake v) on k2 home2 = by_leaving (Wake v) tt on k2 (record { late = λ r. refl; stays = refl; sets = refl; refill = refl })
-  action_gives (Block n) on k2 home2 = by_leaving (Block n) tt on k2 (record { late = λ r. refl; stays = refl; sets = refl; refill = refl })
-  action_gives (Slice r) on k2 home2 = by_leaving (Slice r) tt on k2 (record { late = λ j. refl; stays = refl; sets = refl; refill = refl })
-  action_gives (Repl u) on k2 home2 = by_leaving (Repl u) tt on k2 (record { late = λ r. refl; stays = refl; sets = refl; refill = refl })
   action_gives (Refill e) on k2 home2 = refill_any e on k2
-  action_gives (Arrive n) on k2 home2 = by_leaving (Arrive n) tt on k2 (record { late = λ r. refl; stays = refl; sets = refl; refill = refl })
   action_gives (Decide n) on k2 home2 = decide_gives m checked d s n k k2 (decides m s s.now n on) home holds
-  action_gives (Leave n) on k2 home2 = by_leaving (Leave n) tt on k2 (record { late = λ r. refl; stays = refl; sets = refl; refill = refl })
-  action_gives (Save r) on k2 home2 = by_leaving (Save r) tt on k2 (record { late = λ j. refl; stays = refl; sets = refl; refill = refl })
+  action_gives action on k2 home2 = by_leaving action tt on k2 (record { late = λ r. refl; stays = refl; sets = refl; refill = refl })

@@ -1,36 +1,28 @@
 -- The opening: no core has a unit, and each budget is that of the cap.
-use Rattle.std.proofs.Common.{◌≡◌, ◌+◌, ◌-◌, ℕ, suc, false, List, [], ◌∷◌, length, refl, subst, sym, ◌∙◌, inl, inr, cond}
-use Rattle.std.specs.Prelude.{Option, Some, None, map, ◌==◌, pos}
-use Rattle.sched_base.specs.Numbers.{domain as domain_number}
+use Rattle.std.proofs.Common.{◌≡◌, ◌+◌, ◌-◌, ℕ, length, refl, subst, sym, ◌∙◌, inl, inr}
+use Rattle.std.specs.Prelude.{Option, Some, None, pos}
 use Rattle.sched_base.specs.Credit2Numbers.{total}
-use Rattle.sched_base.specs.declared.Cores.{Cores}
-use Rattle.sched_model.specs.declared.config.DomConfig.{DomConfig}
 use Rattle.sched_model.specs.declared.config.PoolParams.{PoolParams}
 use Rattle.sched_model.specs.declared.config.PoolParams.TheVariants as pool_params
 use Rattle.sched_model.specs.declared.config.DomParams.{DomParams}
 use Rattle.sched_model.specs.declared.config.DomParams.TheVariants as dom_params
-use Rattle.sched_model.specs.declared.config.ParamChange.TheVariants as changes
 use Rattle.sched_model.specs.declared.machine.Machine.{Machine}
 use Rattle.sched_model.specs.declared.state.Pool.{Pool}
-use Rattle.sched_model.specs.declared.state.Domain.{Domain}
 use Rattle.sched_model.specs.declared.state.Resource.{Resource}
 use Rattle.sched_model.specs.declared.state.Credit2Domain.{Credit2Domain}
 use Rattle.sched_model.specs.declared.state.Records.{Records}
-use Rattle.sched_model.specs.declared.state.Records.TheVariants.{Credit2Pool, RtdsPool, ArincPool, NullPool}
-use Rattle.sched_model.specs.Places.{at_place, put_at, numbers_from}
+use Rattle.sched_model.specs.declared.state.Records.TheVariants.{Credit2Pool, RtdsPool}
+use Rattle.sched_model.specs.Places.{at_place}
 use Rattle.sched_model.specs.Credit2.{fresh_domain}
-use Rattle.sched_model.specs.Policy as policy
-use Rattle.sched_model.specs.Policy.{credit2_record, joined_records, changed_records, fresh_records}
-use Rattle.sched_model.specs.Pool.{with_domain, set_params, unit_count}
-use Rattle.sched_model.specs.Opening.{opening, with_domains, with_configured, with_pins, most_pools, core_count, fresh_vcpu}
+use Rattle.sched_model.specs.Policy.{credit2_record, joined_records, fresh_records}
+use Rattle.sched_model.specs.Opening.{opening, most_pools, core_count}
 use Rattle.sched_model.specs.Actions.{home_of_core, home_of_domain}
-use Rattle.sched_laws.proofs.EachPlace.{by_option, by_cond, is_empty, read_put_at, EachPlace-empty}
+use Rattle.sched_laws.proofs.EachPlace.{by_option, is_empty, read_put_at, EachPlace-empty}
 use Rattle.sched_laws.proofs.Opened.{read_pools}
 use Rattle.term_laws.proofs.SamePool.{cur_in}
-use Rattle.term_laws.proofs.Beginning.{nobody_runs}
+use Rattle.term_laws.proofs.Beginning.{nobody_runs, domains_keep}
 use Rattle.cap_laws.specs.CapTerm.{credit2_in}
 use Rattle.cap_laws.proofs.CapTracks.{number_in, on_core}
-use Rattle.cap_laws.proofs.StepsMoved.{queue_keeps}
 use Rattle.cap_laws.proofs.StepsState.{unit_of_number, on_core_cur}
 
 -- no core has a unit
@@ -50,44 +42,8 @@ full_joined (Credit2Pool own) (dom_params.Credit2 weight percent) d count full =
   | inl was ↦ full e x was
   | inr new ↦ subst (λ (y : Credit2Domain). y.budget ≡ pos (total y.cap)) new.1 refl
 ]
-full_joined (Credit2Pool own) (dom_params.Rtds period budget extra) d count full = full
-full_joined (Credit2Pool own) dom_params.Arinc653 d count full = full
-full_joined (Credit2Pool own) dom_params.Null d count full = full
-full_joined (RtdsPool domains) (dom_params.Credit2 weight percent) d count full = full
 full_joined (RtdsPool domains) (dom_params.Rtds period budget extra) d count full = λ e x is. absurd (cc)
-full_joined (RtdsPool domains) dom_params.Arinc653 d count full = full
-full_joined (RtdsPool domains) dom_params.Null d count full = full
-full_joined (ArincPool records) (dom_params.Credit2 weight percent) d count full = full
-full_joined (ArincPool records) (dom_params.Rtds period budget extra) d count full = full
-full_joined (ArincPool records) dom_params.Arinc653 d count full = full
-full_joined (ArincPool records) dom_params.Null d count full = full
-full_joined (NullPool kept) (dom_params.Credit2 weight percent) d count full = full
-full_joined (NullPool kept) (dom_params.Rtds period budget extra) d count full = full
-full_joined (NullPool kept) dom_params.Arinc653 d count full = full
-full_joined (NullPool kept) dom_params.Null d count full = full
-
-pin_keeps : (records : Records) (d : ℕ) (n : ℕ) (cores : Cores) → changed_records records (changes.Pin (domain_number d) (Some n) cores) 0 ≡ records
-pin_keeps (Credit2Pool records) d n cores = refl
-pin_keeps (RtdsPool domains) d n cores = refl
-pin_keeps (ArincPool records) d n cores = refl
-pin_keeps (NullPool kept) d n cores = refl
-
-pins_keep : (d n : ℕ) (pins : List Cores) (pool : Pool) → (with_pins d n pins pool).scheduler.records ≡ pool.scheduler.records
-pins_keep d n [] pool = refl
-pins_keep d n (cores ∷ pins) pool = pins_keep d (suc n) pins (set_params (changes.Pin (domain_number d) (Some n) cores) 0 pool) ∙ pin_keeps pool.scheduler.records d n cores
-
-full_configured : (g d : ℕ) (joining : DomConfig) (pool : Pool) → AllFull pool.scheduler.records → AllFull (with_configured g d joining pool).scheduler.records
-full_configured g d joining pool full =
-    let x : Domain = record { paused = false; moving = None; vcpus = map fresh_vcpu joining.guests } in
-    let put : Pool = record pool { domains = put_at d x pool.domains; scheduler = policy.join d (unit_count g x) joining.params 0 pool.scheduler } in
-    subst AllFull (sym (pins_keep d 0 joining.pins (with_domain g 0 d x joining.params pool) ∙ queue_keeps g d (numbers_from 0 (unit_count g x)) put))
-    (full_joined pool.scheduler.records joining.params d (unit_count g x) full)
-
-full_domains : (g i d : ℕ) (domains : List DomConfig) (pool : Pool) → AllFull pool.scheduler.records → AllFull (with_domains g i d domains pool).scheduler.records
-full_domains g i d [] pool full = full
-full_domains g i d (joining ∷ domains) pool full =
-    full_domains g i (suc d) domains (cond (joining.home.0 == i) (with_configured g d joining pool) pool)
-    (by_cond (λ (p : Pool). AllFull p.scheduler.records) (joining.home.0 == i) (with_configured g d joining pool) pool (λ is. full_configured g d joining pool full) (λ is. full))
+full_joined records params d count full = full
 
 full_fresh : (params : PoolParams) (domains cores : ℕ) → AllFull (fresh_records params domains cores)
 full_fresh (pool_params.Credit2 limit) n cores d x is = absurd (EachPlace-empty {X = Credit2Domain} (λ y. ⊥) n d x is)
@@ -101,5 +57,5 @@ full_at_first m d x =
     (λ i found. by_option (λ (o : Option Credit2Domain). o ≡ Some x → x.budget ≡ pos (total x.cap)) (at_place (opening m).pools i) None (λ p. credit2_record p.scheduler.records d) (λ none is. absurd (cc))
     (λ p at is. (
     let q = read_pools m.config 0 (most_pools - length m.config.pools) m.config.pools i p at in
-    let all : AllFull p.scheduler.records = subst (λ (y : Pool). AllFull y.scheduler.records) (sym q.2) (full_domains m.config.granularity (0 + i) 0 m.config.domains _ (full_fresh q.0.params (length m.config.domains) (core_count m.config))) in
+    let all : AllFull p.scheduler.records = subst (λ (y : Pool). AllFull y.scheduler.records) (sym q.2) (domains_keep AllFull full_joined m.config.granularity (0 + i) 0 m.config.domains _ (full_fresh q.0.params (length m.config.domains) (core_count m.config))) in
     all d x is)))

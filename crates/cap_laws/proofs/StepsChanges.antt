@@ -12,7 +12,7 @@ use Rattle.sched_model.specs.declared.state.Records.{Records}
 use Rattle.sched_model.specs.declared.state.Credit2Unit.{Credit2Unit}
 use Rattle.sched_model.specs.declared.state.Credit2Domain.{Credit2Domain}
 use Rattle.sched_model.specs.declared.state.Credit2Records.{Credit2Records}
-use Rattle.sched_model.specs.declared.state.Records.TheVariants.{Credit2Pool, RtdsPool, ArincPool, NullPool}
+use Rattle.sched_model.specs.declared.state.Records.TheVariants.{Credit2Pool}
 use Rattle.sched_model.specs.Places.{at_place, change_at}
 use Rattle.sched_model.specs.Credit2.{max_weight, set_weight, set_cap, change_domain}
 use Rattle.sched_model.specs.Policy as policy
@@ -72,21 +72,8 @@ module _ (d t : ℕ) where
   changed (Credit2Pool own) (changes.«Unit» u period budget extra) none = same_record (at_place own.domains d) (at_place own.domains d) refl
   changed (Credit2Pool own) (changes.Frame frame) none = same_record (at_place own.domains d) (at_place own.domains d) refl
   changed (Credit2Pool own) (changes.Pin e unit cores) none = same_record (at_place own.domains d) (at_place own.domains d) refl
-  changed (RtdsPool domains) (changes.Dom e weight percent) none = same_record None None refl
-  changed (RtdsPool domains) (changes.Rate limit) none = same_record None None refl
-  changed (RtdsPool domains) (changes.«Unit» u period budget extra) none = same_record None None refl
-  changed (RtdsPool domains) (changes.Frame frame) none = same_record None None refl
-  changed (RtdsPool domains) (changes.Pin e unit cores) none = same_record None None refl
-  changed (ArincPool records) (changes.Dom e weight percent) none = same_record None None refl
-  changed (ArincPool records) (changes.Rate limit) none = same_record None None refl
-  changed (ArincPool records) (changes.«Unit» u period budget extra) none = same_record None None refl
-  changed (ArincPool records) (changes.Frame frame) none = same_record None None refl
-  changed (ArincPool records) (changes.Pin e unit cores) none = same_record None None refl
-  changed (NullPool kept) (changes.Dom e weight percent) none = same_record None None refl
-  changed (NullPool kept) (changes.Rate limit) none = same_record None None refl
-  changed (NullPool kept) (changes.«Unit» u period budget extra) none = same_record None None refl
-  changed (NullPool kept) (changes.Frame frame) none = same_record None None refl
-  changed (NullPool kept) (changes.Pin e unit cores) none = same_record None None refl
+  changed records (changes.Frame frame) none = same_record None None refl
+  changed records change none = same_record None None refl
 
   by_scheduler : (change : ParamChange) (p : Pool) → SetsNoCap d change → Same d p (record p { scheduler = policy.set_params change t p.scheduler })
   by_scheduler change p none = same_of d p _ (λ r. core_refl d (at_place p.resources r)) (changed p.scheduler.records change none) refl

@@ -1,9 +1,8 @@
 -- The domain itself moves: no core has a unit of it, and it has no cap then.
-use Rattle.std.proofs.Common.{◌≡◌, ◌+◌, ℕ, Bool, true, false, List, [], ◌∷◌, refl, ap, subst, sym, ◌∙◌, cond, inl, inr}
-use Rattle.std.specs.Prelude.{Option, Some, None, option_map, is_some, ◌==◌, ◌||◌, ◌&&◌}
+use Rattle.std.proofs.Common.{◌≡◌, ℕ, Bool, true, false, List, refl, ap, subst, sym, ◌∙◌, cond, inl, inr}
+use Rattle.std.specs.Prelude.{Option, Some, None, is_some, ◌==◌, ◌||◌}
 use Rattle.std.specs.List.{list_any}
 use Rattle.std.proofs.Math.Decide.{ℕ_discrete}
-use Rattle.sched_base.specs.Numbers.{domain as domain_number}
 use Rattle.sched_base.specs.declared.PoolId.{PoolId}
 use Rattle.sched_base.specs.declared.UnitId.{UnitId}
 use Rattle.sched_model.specs.declared.action.Action.TheVariants.{DomMoved}
@@ -16,43 +15,23 @@ use Rattle.sched_model.specs.declared.state.Records.{Records}
 use Rattle.sched_model.specs.declared.state.Records.TheVariants.{Credit2Pool, RtdsPool, ArincPool, NullPool}
 use Rattle.sched_model.specs.declared.state.Credit2Domain.{Credit2Domain}
 use Rattle.sched_model.specs.Places.{at_place, put_at, test_at, change_at, numbered, numbers_from}
-use Rattle.sched_model.specs.State.{is_runnable}
 use Rattle.sched_model.specs.Credit2.{fresh_domain}
 use Rattle.sched_model.specs.Policy.{default_dom_params, joined_records, credit2_record}
 use Rattle.sched_model.specs.Policy as policy
-use Rattle.sched_model.specs.Pool.{settled, without_domain, with_domain, is_of_domain, is_off, queue_units, queue_if_off, unit_count, reconsidered, home_cores}
+use Rattle.sched_model.specs.Pool.{settled, without_domain, is_of_domain, unit_count}
 use Rattle.sched_model.specs.Actions.{change_pool}
 use Rattle.sched_model.specs.Machine.{after, event_of, left_by, joined_by, is_null}
-use Rattle.sched_laws.proofs.EachPlace.{by_cond, at_place-change_each, at_place-put_at, read_change_at, read_put_at, place_below}
+use Rattle.sched_laws.proofs.EachPlace.{by_cond, at_place-put_at, read_change_at, read_put_at, place_below}
 use Rattle.sched_laws.proofs.Bools.{and_left, and_right, not_true, or_left, or_right, is_same, clash}
 use Rattle.sched_laws.proofs.Lists.{test_at-some, some-test_at, none_passes, at_numbered, is_some_at, some_is, test_at-clear_at_false}
-use Rattle.sched_laws.proofs.Opened.{with_domain-resources}
 use Rattle.term_laws.proofs.SamePool.{cur_in}
 use Rattle.term_laws.proofs.ActsIn.{ActsIn, home_pools_same}
+use Rattle.term_laws.proofs.Moving.{CoresKeep, left_keeps, joined_keeps}
+use Rattle.term_laws.proofs.Beginning.{queue_keeps}
 use Rattle.cap_laws.specs.CapTerm.{refills, cap_set}
 use Rattle.cap_laws.proofs.CapTracks.{cap_at, number_in, on_core}
 use Rattle.cap_laws.proofs.StepsState.{Stands, HomeOf, home_is, credit2_is, on_is, no_unit_there}
 use Rattle.cap_laws.proofs.StepsHolds.{StepGives, cap_of}
-
--- the cores of a pool keep their units
-abbrev CoresKeep : (Pool → Pool) → Type 0
-CoresKeep f = (p : Pool) (r : ℕ) → cur_in (at_place (f p).resources r) ≡ cur_in (at_place p.resources r)
-
-settled_keeps : (t : ℕ) → CoresKeep (settled t)
-settled_keeps t p r = ap cur_in (at_place-change_each 0 r (reconsidered t (home_cores p) p.scheduler) p.resources) ∙ there (at_place p.resources r)
-  where
-    there : (o : Option Resource) → cur_in (option_map (reconsidered t (home_cores p) p.scheduler (0 + r)) o) ≡ cur_in o
-    there None = refl
-    there (Some c) = by_cond (λ (y : Resource). y.cur ≡ c.cur) c.leaving _ _ (λ is. refl) (λ is. refl)
-
-left_keeps : (t d : ℕ) → CoresKeep (left_by t d)
-left_keeps t d p r =
-    by_cond (λ (q : Pool). cur_in (at_place q.resources r) ≡ cur_in (at_place p.resources r)) (is_null p.scheduler.records) (settled t (without_domain d p)) (without_domain d p) (λ is. settled_keeps t (without_domain d p) r) (λ is. refl)
-
-joined_keeps : (g t d : ℕ) (domain : Domain) → CoresKeep (joined_by g t d domain)
-joined_keeps g t d domain p r =
-    settled_keeps t (with_domain g t d (record domain { moving = None }) (default_dom_params p.scheduler.records) p) r
-    ∙ ap (λ (cores : List (Option Resource)). cur_in (at_place cores r)) (with_domain-resources g t d (record domain { moving = None }) (default_dom_params p.scheduler.records) p)
 
 -- a pool after the change of one was there before, with the units on its cores
 pub record Came (pools : List (Option Pool)) (i : ℕ) (q : Pool) : Type 0 where
@@ -80,12 +59,6 @@ joined_cap (ArincPool records) d count t y is = absurd (cc)
 joined_cap (NullPool kept) d count t y is = absurd (cc)
 
 -- a domain's units that wait change no record
-pub queue_keeps : (g d : ℕ) (ns : List ℕ) (pool : Pool) → (queue_units g d ns pool).scheduler.records ≡ pool.scheduler.records
-queue_keeps g d [] pool = refl
-queue_keeps g d (n ∷ ns) pool =
-    let u : UnitId = record { dom = domain_number d; n = n } in
-    queue_keeps g d ns (queue_if_off g u pool) ∙ by_cond (λ (q : Pool). q.scheduler.records ≡ pool.scheduler.records) (is_runnable g pool u && is_off pool u) _ _ (λ is. refl) (λ is. refl)
-
 joined_by_cap : (g t d : ℕ) (domain : Domain) (pool : Pool) (y : Credit2Domain) → credit2_record (joined_by g t d domain pool).scheduler.records d ≡ Some y → y.cap ≡ 0
 joined_by_cap g t d domain pool y is =
     let joining : Domain = record domain { moving = None } in

@@ -31,7 +31,7 @@ use Rattle.term_laws.proofs.Plans.{PlanFits, IfOk}
 use Rattle.term_laws.proofs.RtdsSteps.{at_place-change_at}
 use Rattle.cap_laws.specs.CapTerm.{cap_set, ends_term, refills, credit2_in}
 use Rattle.cap_laws.proofs.CapTracks.{cap_at, number_in}
-use Rattle.cap_laws.proofs.StepsSameAt.{verdict_fits}
+use Rattle.term_laws.proofs.AtHome.{verdict_fits}
 use Rattle.cap_laws.proofs.StepsState.{Stands, HomeOf, home_is, credit2_is}
 use Rattle.cap_laws.proofs.StepsHolds.{StepGives, StateHolds, holds_in, holds_out, cap_of, on_before, on_after, is_now}
 use Rattle.cap_laws.proofs.StepsPlans.{verdict_cap, event_sets}
@@ -88,7 +88,7 @@ module _ (m : Machine) (d : ℕ) (s : State) (k : Stands m s) (k2 : Stands m (af
 
   has_record : (x : Credit2Domain) × (credit2_record p.scheduler.records d ≡ Some x)
   has_record =
-      let fits : PlanFits s (plan.Credit2Dom (domain_number d) weight (Some n) answer) = subst (IfOk (PlanFits s)) is_plan (verdict_fits d home.home home.pool home.there m s line.command) in
+      let fits : PlanFits s (plan.Credit2Dom (domain_number d) weight (Some n) answer) = subst (IfOk (PlanFits s)) is_plan (verdict_fits m s line.command) in
       let x = some-test_at p.domains d (λ x. true) home.there in
       let recorded = (k.records home.home p home.at).recorded d x.0 x.1 in
       record_exists p.scheduler.records d (unit_count m.config.granularity x.0) (fits home.home p (home_is m s k.known d home.home home.pool home.at home.there) home.at) recorded

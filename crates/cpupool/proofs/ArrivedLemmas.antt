@@ -7,7 +7,6 @@ use Rattle.sched_base.specs.declared.Moment.{Moment}
 use Rattle.sched_base.specs.declared.Name.{Name}
 use Rattle.sched_base.specs.declared.PoolId.{PoolId}
 use Rattle.sched_model.specs.declared.config.DomParams.{DomParams}
-use Rattle.sched_model.specs.declared.config.DomParams.TheVariants as dom_params
 use Rattle.sched_model.specs.declared.machine.Machine.{Machine}
 use Rattle.sched_model.specs.declared.state.Domain.{Domain}
 use Rattle.sched_model.specs.declared.state.FreeCore.{FreeCore}
@@ -25,6 +24,7 @@ use Rattle.sched_model.specs.Opening.{fresh_core}
 use Rattle.sched_model.specs.Policy as policy
 use Rattle.sched_model.specs.Machine.{after, after_moved, after_dom_moved, attached, detached, left_by, joined_by, is_null, is_move_under_way}
 use Rattle.journal_core.specs.Parts.{Outline, UnderWay, core_to, domain_to, outline_of, first_answer, leaving_pool, core_leaving, domain_moving, core_joining, under_way_of}
+use Rattle.sched_laws.proofs.Records.{same_joined}
 use Rattle.cpupool.specs.Tool.{Tool, tool_of}
 use Rattle.cpupool.specs.Arrived.{with_core, with_domain, without_domain, size_at, handed_over, core_home, pools_after, arrived, action_of, but_for_free, EndsTheMove}
 use Rattle.cpupool.proofs.AlikeLemmas.{IsAlike, queued_alike}
@@ -225,16 +225,7 @@ parted_kind (ArincPool records) d = refl
 parted_kind (NullPool kept) d = refl
 
 joined_kind : (records : Records) (params : DomParams) (d count t : ℕ) → kind_of (joined_records records params d count t) ≡ kind_of records
-joined_kind (Credit2Pool records) (dom_params.Credit2 weight cap) d count t = refl
-joined_kind (Credit2Pool records) (dom_params.Rtds period budget extra) d count t = refl
-joined_kind (Credit2Pool records) dom_params.Arinc653 d count t = refl
-joined_kind (Credit2Pool records) dom_params.Null d count t = refl
-joined_kind (RtdsPool domains) (dom_params.Credit2 weight cap) d count t = refl
-joined_kind (RtdsPool domains) (dom_params.Rtds period budget extra) d count t = refl
-joined_kind (RtdsPool domains) dom_params.Arinc653 d count t = refl
-joined_kind (RtdsPool domains) dom_params.Null d count t = refl
-joined_kind (ArincPool records) params d count t = refl
-joined_kind (NullPool kept) params d count t = refl
+joined_kind = same_joined kind_of (λ a b. refl) (λ a b. refl)
 
 abbrev size_of : Domain → ℕ
 size_of domain = length domain.vcpus

@@ -9,7 +9,6 @@ use Rattle.sched_base.specs.declared.Moment.{Moment}
 use Rattle.sched_model.specs.declared.config.Config.{Config}
 use Rattle.sched_model.specs.declared.config.DomConfig.{DomConfig}
 use Rattle.sched_model.specs.declared.config.DomParams.{DomParams}
-use Rattle.sched_model.specs.declared.config.DomParams.TheVariants as dom_params
 use Rattle.sched_model.specs.declared.config.ParamChange.TheVariants as changes
 use Rattle.sched_model.specs.declared.config.PoolConfig.{PoolConfig}
 use Rattle.sched_model.specs.declared.config.PoolParams.{PoolParams}
@@ -27,6 +26,7 @@ use Rattle.sched_model.specs.Policy.{kind_of, fresh_records, joined_records, cha
 use Rattle.sched_model.specs.Pool.{with_domain, set_params, queue_units, unit_count}
 use Rattle.sched_model.specs.Opening.{opening, opening_pool, opening_pools, opening_free, empty_pool, with_domains, with_configured, with_pins, fresh_core, fresh_vcpu, core_count}
 use Rattle.journal_core.specs.Parts.{Outline, UnderWay, core_to, outline_of, first_answer, core_leaving, domain_moving, core_joining, leaving_pool, under_way_of}
+use Rattle.sched_laws.proofs.Records.{same_joined}
 use Rattle.cpupool.specs.Tool.{Tool, tool_of, ends_of}
 use Rattle.cpupool.specs.OpenedTool.{opened_tool}
 use Rattle.cpupool.proofs.AlikeLemmas.{IsAlike, alike, chained, queued_alike}
@@ -34,16 +34,7 @@ use Rattle.cpupool.proofs.SubjectLemmas.{length-map as length_map}
 use Rattle.cpupool.specs.Opened.{kind_of_params, size_at_home, opened_outline, opened_outlines, opened_free}
 
 joined_kind : (records : Records) (params : DomParams) (d count t : ℕ) → kind_of (joined_records records params d count t) ≡ kind_of records
-joined_kind (Credit2Pool records) (dom_params.Credit2 weight cap) d count t = refl
-joined_kind (Credit2Pool records) (dom_params.Rtds period budget extra) d count t = refl
-joined_kind (Credit2Pool records) dom_params.Arinc653 d count t = refl
-joined_kind (Credit2Pool records) dom_params.Null d count t = refl
-joined_kind (RtdsPool domains) (dom_params.Credit2 weight cap) d count t = refl
-joined_kind (RtdsPool domains) (dom_params.Rtds period budget extra) d count t = refl
-joined_kind (RtdsPool domains) dom_params.Arinc653 d count t = refl
-joined_kind (RtdsPool domains) dom_params.Null d count t = refl
-joined_kind (ArincPool records) params d count t = refl
-joined_kind (NullPool kept) params d count t = refl
+joined_kind = same_joined kind_of (λ a b. refl) (λ a b. refl)
 
 pinned_records : (records : Records) (d n t : ℕ) (cores : Cores) → changed_records records (changes.Pin (domain_number d) (Some n) cores) t ≡ records
 pinned_records (Credit2Pool records) d n t cores = refl

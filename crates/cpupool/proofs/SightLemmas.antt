@@ -10,7 +10,7 @@ use Rattle.sched_model.specs.declared.config.ParamChange.TheVariants as changes
 use Rattle.sched_model.specs.declared.state.Domain.{Domain}
 use Rattle.sched_model.specs.declared.state.Pool.{Pool}
 use Rattle.sched_model.specs.declared.state.Records.{Records}
-use Rattle.sched_model.specs.declared.state.Records.TheVariants.{Credit2Pool, RtdsPool, ArincPool, NullPool}
+use Rattle.sched_model.specs.declared.state.Records.TheVariants.{Credit2Pool, RtdsPool, ArincPool}
 use Rattle.sched_model.specs.declared.state.Resource.{Resource}
 use Rattle.sched_model.specs.declared.state.RtdsUnit.{RtdsUnit}
 use Rattle.sched_model.specs.Places.{at_place, change_at, change_each, test_at, numbers_from}
@@ -110,30 +110,15 @@ of_domain_still : (d : ℕ) (f : Resource → Resource) (p : Pool) → ((c : Res
 of_domain_still d f p same = cores_still p (λ r c. cond (is_of_domain d c.cur) (f c) c) (λ r c. one_or (is_of_domain d c.cur) c (f c) (same c))
 
 changed_kind : (records : Records) (change : ParamChange) (t : ℕ) → kind_of (changed_records records change t) ≡ kind_of records
-changed_kind (Credit2Pool records) (changes.Dom d weight cap) t = refl
-changed_kind (Credit2Pool records) (changes.Rate limit) t = refl
-changed_kind (Credit2Pool records) (changes.«Unit» u period budget extra) t = refl
 changed_kind (Credit2Pool records) (changes.Frame frame) t = refl
-changed_kind (Credit2Pool records) (changes.Pin d unit cores) t = refl
-changed_kind (RtdsPool domains) (changes.Dom d weight cap) t = refl
-changed_kind (RtdsPool domains) (changes.Rate limit) t = refl
-changed_kind (RtdsPool domains) (changes.«Unit» u period budget extra) t = refl
 changed_kind (RtdsPool domains) (changes.Frame frame) t = refl
-changed_kind (RtdsPool domains) (changes.Pin d unit cores) t = refl
-changed_kind (ArincPool records) (changes.Dom d weight cap) t = refl
-changed_kind (ArincPool records) (changes.Rate limit) t = refl
-changed_kind (ArincPool records) (changes.«Unit» u period budget extra) t = refl
 changed_kind (ArincPool records) (changes.Frame frame) t = refl
-changed_kind (ArincPool records) (changes.Pin d unit cores) t = refl
-changed_kind (NullPool kept) change t = refl
+changed_kind records change t = refl
 
 marked_still : (change : ParamChange) (t : ℕ) (p : Pool) → IsStill (marked change t p) p
-marked_still (changes.Dom d weight None) t p = still p
 marked_still (changes.Dom d weight (Some cap)) t p = of_domain_still d.0 (λ c. record c { pending = true; due = Some (moment t) }) p (λ c. refl)
-marked_still (changes.Rate limit) t p = still p
-marked_still (changes.«Unit» u period budget extra) t p = still p
 marked_still (changes.Frame frame) t p = cores_still p (λ r c. set_pending c) (λ r c. refl)
-marked_still (changes.Pin d unit cores) t p = still p
+marked_still change t p = still p
 
 pub params_still : (change : ParamChange) (t : ℕ) (p : Pool) → IsStill (set_params change t p) p
 params_still change t p =

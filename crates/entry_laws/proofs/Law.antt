@@ -10,7 +10,7 @@ use Rattle.sched_base.specs.declared.ProcId.{ProcId}
 use Rattle.sched_base.specs.declared.PoolId.{PoolId}
 use Rattle.sched_model.specs.declared.machine.Machine.{Machine}
 use Rattle.sched_model.specs.declared.action.Action.{Action}
-use Rattle.sched_model.specs.declared.action.Action.TheVariants.{Stall, Xl, Moved, DomMoved, Wake, Block, Slice, Repl, Refill, Arrive, Decide, Leave, Save}
+use Rattle.sched_model.specs.declared.action.Action.TheVariants.{Stall, Xl, Moved}
 use Rattle.sched_model.specs.declared.event.Entry.{Entry}
 use Rattle.sched_model.specs.declared.event.Event.{Event}
 use Rattle.sched_model.specs.declared.event.Event.TheVariants as event
@@ -144,16 +144,7 @@ module _ (m : Machine) (checked : IsChecked m) where
     action_printable Stall on = stall_printable
     action_printable Xl on = command_printable on
     action_printable (Moved r) on = moved_printable r on
-    action_printable (DomMoved d) on = home_printable (DomMoved d) on
-    action_printable (Wake v) on = home_printable (Wake v) on
-    action_printable (Block p) on = home_printable (Block p) on
-    action_printable (Slice r) on = home_printable (Slice r) on
-    action_printable (Repl u) on = home_printable (Repl u) on
-    action_printable (Refill d) on = home_printable (Refill d) on
-    action_printable (Arrive p) on = home_printable (Arrive p) on
-    action_printable (Decide r) on = home_printable (Decide r) on
-    action_printable (Leave p) on = home_printable (Leave p) on
-    action_printable (Save r) on = home_printable (Save r) on
+    action_printable action on = home_printable action on
 
     -- the next moment that an End names is within the horizon
     next_low : (next : ℕ) → next_in_horizon m s ≡ Some next → next < 2 ^ 63

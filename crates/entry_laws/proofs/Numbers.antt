@@ -1,5 +1,5 @@
 -- What is known of the numbers of a state, as far as entries print them.
-use Rattle.std.proofs.Common.{◌≡◌, ◌<◌, ◌≤◌, ◌*◌, ◌/◌, ℕ, suc, true, List, [], ◌∷◌, refl, arith, subst, sym, ◌∙◌, ap, length, inl, inr}
+use Rattle.std.proofs.Common.{◌≡◌, ◌<◌, ◌≤◌, ◌*◌, ◌/◌, ℕ, suc, true, List, [], ◌∷◌, refl, arith, ◌∙◌, ap, length}
 use Rattle.std.specs.Prelude.{Option, Some, None, is_some, option_map, slice_get}
 use Rattle.std.proofs.lemmas.List.Elements.{recursion_from_All}
 use Rattle.std.specs.Option.{IfSome}
@@ -16,7 +16,7 @@ use Rattle.sched_model.specs.declared.state.FreeCore.{FreeCore}
 use Rattle.sched_model.specs.declared.state.Vcpu.{Vcpu}
 use Rattle.sched_model.specs.Places.{at_place, numbered}
 use Rattle.sched_model.specs.Opening.{core_count}
-use Rattle.sched_model.specs.Checked.{IsChecked, IsCheckedDomain, IsGranularity, most_span}
+use Rattle.sched_model.specs.Checked.{IsChecked, IsCheckedDomain, most_span}
 use Rattle.sched_model.specs.Actions.{home_of_core}
 use Rattle.sched_model.specs.Pool.{vcpu_of}
 use Rattle.sched_laws.proofs.EachPlace.{place_below, found_at, by_option}

@@ -39,11 +39,6 @@ home_clock d f s = by_option (λ (x : State). SameClock x s) (home_of_domain s d
 
 carried_clock : (m : Machine) (t : ℕ) (p : Plan) (s : State) → SameClock (carried_out m t p s) s
 carried_clock m t (plan.PoolList pool answer) s = kept s
-carried_clock m t (plan.PoolCreate i name kind answer) s = (refl, refl, refl)
-carried_clock m t (plan.PoolDestroy i answer) s = (refl, refl, refl)
-carried_clock m t (plan.PoolRename i name answer) s = (refl, refl, refl)
-carried_clock m t (plan.CpuAdd i core answer) s = (refl, refl, refl)
-carried_clock m t (plan.CpuRemove i core answer) s = (refl, refl, refl)
 carried_clock m t (plan.Migrate d i j answer) s = by_cond (λ (x : State). SameClock x s) _ _ _ (λ same. kept s) (λ other. (refl, refl, refl))
 carried_clock m t (plan.Credit2Dom d weight percent answer) s = home_clock d.0 _ s
 carried_clock m t (plan.Credit2Pool i None answer) s = kept s
@@ -51,8 +46,8 @@ carried_clock m t (plan.Credit2Pool i (Some us) answer) s = (refl, refl, refl)
 carried_clock m t (plan.RtdsDom d first count period budget extra answer) s = home_clock d.0 _ s
 carried_clock m t (plan.Pause d answer) s = home_clock d.0 _ s
 carried_clock m t (plan.Unpause d answer) s = home_clock d.0 _ s
-carried_clock m t (plan.ArincSet i frame answer) s = (refl, refl, refl)
 carried_clock m t (plan.Pin d unit cores answer) s = home_clock d.0 _ s
+carried_clock m t p s = (refl, refl, refl)
 
 settled_clock : (t : ℕ) (o : Option ℕ) (s : State) → SameClock (settled_at t o s) s
 settled_clock t None s = kept s

@@ -127,11 +127,8 @@ module _ (t : ℕ) where
     where
       less_marked : (change : ParamChange) (old : Pool) → IsLess t old (pools.marked change t old)
       less_marked (changes.Dom d weight (Some percent)) old = less_cores_of t d.0 (λ c. record c { pending = true; due = Some (moment t) }) old (λ c. refl)
-      less_marked (changes.Dom d weight None) old = omega arith
-      less_marked (changes.Rate limit) old = omega arith
-      less_marked (changes.«Unit» u period budget extra) old = omega arith
       less_marked (changes.Frame frame) old = less_each t (λ r c. pools.set_pending c) old (λ r c e. absurd (clash _ e (pending_none t (pools.set_pending c) refl)))
-      less_marked (changes.Pin d unit cores) old = omega arith
+      less_marked change old = omega arith
 
   less_rtds : (d : ℕ) (period budget : Option Span) (extra : Option Bool) (units : List ℕ) (pool : Pool) → IsLess t pool (set_rtds t d period budget extra units pool)
   less_rtds d period budget extra [] pool = omega arith
@@ -234,24 +231,21 @@ module _ (m : Machine) (t : ℕ) where
   home_less d f s less = by_option (Less s) (home_of_domain s d) _ _ (λ is. omega arith) (λ i is. change_less i f s less)
 
   plan_less : (p : Plan) (s : State) → Less s (carried_out m t p s)
-  plan_less (plan.PoolList pool answer) s = omega arith
   plan_less (plan.PoolCreate i name kind answer) s =
       let a = total-put_at_more (of_pool t) i.0 (empty_pool m.config (default_pool_params kind)) s.pools in
       let none = empty_none t m kind in
       omega (arith, a, none)
   plan_less (plan.PoolDestroy i answer) s = total-clear_at_less (of_pool t) i.0 s.pools
-  plan_less (plan.PoolRename i name answer) s = omega arith
-  plan_less (plan.CpuAdd i core answer) s = omega arith
   plan_less (plan.CpuRemove i core answer) s = change_less i.0 (set_leaving core.0) s (less_leaving t core.0)
   plan_less (plan.Migrate d i j answer) s = by_cond (Less s) (i.0 == j.0) s (change_pool i.0 (set_moving d.0 j.0) s) (λ is. omega arith) (λ is. change_less i.0 (set_moving d.0 j.0) s (less_moving t d.0 j.0))
   plan_less (plan.Credit2Dom d weight percent answer) s = home_less d.0 (set_params (changes.Dom d weight percent) t) s (less_params t (changes.Dom d weight percent))
-  plan_less (plan.Credit2Pool i None answer) s = omega arith
   plan_less (plan.Credit2Pool i (Some us) answer) s = change_less i.0 (set_params (changes.Rate us) t) s (less_params t (changes.Rate us))
   plan_less (plan.RtdsDom d first count period budget extra answer) s = home_less d.0 (set_rtds t d.0 period budget extra (numbers_from first count)) s (less_rtds t d.0 period budget extra (numbers_from first count))
   plan_less (plan.Pause d answer) s = home_less d.0 (pause d.0) s (less_pause t d.0)
   plan_less (plan.Unpause d answer) s = home_less d.0 (unpause g d.0) s (less_unpause t g d.0)
   plan_less (plan.ArincSet i frame answer) s = change_less i.0 (set_params (changes.Frame frame) t) s (less_params t (changes.Frame frame))
   plan_less (plan.Pin d unit cores answer) s = home_less d.0 (set_params (changes.Pin d unit cores) t) s (less_params t (changes.Pin d unit cores))
+  plan_less p s = omega arith
 
   settled_less : (home : Option ℕ) (s : State) → Less s (settled_at t home s)
   settled_less None s = omega arith

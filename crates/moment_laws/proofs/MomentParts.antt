@@ -63,20 +63,7 @@ decide_low false b = (let x = one_most (not b) in omega (arith, x))
 
 one_between : (t : ℕ) (legs : Legs) (e : Event) → one (not (is_in_stretch t legs e)) ≤ one (is_cause e) + one (is_old t legs e) + one (is_reset e) + one (is_end e)
 one_between t legs (event.Decide r unit due late reset) = (let a = decide_low (reset == 0) (has_no_older_leg t legs r.0) in omega (arith, a))
-one_between t legs (event.Arrive p) = omega arith
-one_between t legs (event.Leave p v) = omega arith
-one_between t legs (event.Save r u queued) = omega arith
-one_between t legs (event.Stall p until) = omega arith
-one_between t legs (event.Xl k answer) = omega arith
-one_between t legs (event.Moved r to) = omega arith
-one_between t legs (event.DomMoved d to) = omega arith
-one_between t legs (event.Wake v) = omega arith
-one_between t legs (event.Block p v) = omega arith
-one_between t legs (event.Slice r) = omega arith
-one_between t legs (event.Repl u start deadline budget extra) = omega arith
-one_between t legs (event.Refill d periods budget) = omega arith
-one_between t legs (event.End n) = omega arith
-one_between t legs event.Finish = omega arith
+one_between t legs e = omega arith
 
 pub between_few : (legs : Legs) (entries : List Entry) → between legs entries ≤ how_many (λ (e : Entry). is_cause e.event) entries + olds legs entries + resets entries + ends entries
 between_few legs [] = omega arith
@@ -148,37 +135,11 @@ module _ (t n : ℕ) where
       length_clear zero (x ∷ legs) = grind arith
       length_clear (suc r) (x ∷ legs) = (let a = length_clear r legs in grind (arith, a))
   length_kept (event.Decide r (Some u) due late reset) legs = length_set r.0 (Some t) legs
-  length_kept (event.Arrive p) legs = refl
-  length_kept (event.Leave p v) legs = refl
-  length_kept (event.Save r u queued) legs = refl
-  length_kept (event.Stall p until) legs = refl
-  length_kept (event.Xl k answer) legs = refl
-  length_kept (event.Moved r to) legs = refl
-  length_kept (event.DomMoved d to) legs = refl
-  length_kept (event.Wake v) legs = refl
-  length_kept (event.Block p v) legs = refl
-  length_kept (event.Slice r) legs = refl
-  length_kept (event.Repl u start deadline budget extra) legs = refl
-  length_kept (event.Refill d periods budget) legs = refl
-  length_kept (event.End k) legs = refl
-  length_kept event.Finish legs = refl
+  length_kept e legs = refl
 
   event_lowers : (e : Event) (legs : Legs) → length legs ≤ n → old_total (legs_with t e legs) + one (is_old t legs e) ≤ old_total legs
   event_lowers (event.Decide r unit due late reset) legs low = decide_lowers r.0 unit legs low
-  event_lowers (event.Arrive p) legs low = omega arith
-  event_lowers (event.Leave p v) legs low = omega arith
-  event_lowers (event.Save r u queued) legs low = omega arith
-  event_lowers (event.Stall p until) legs low = omega arith
-  event_lowers (event.Xl k answer) legs low = omega arith
-  event_lowers (event.Moved r to) legs low = omega arith
-  event_lowers (event.DomMoved d to) legs low = omega arith
-  event_lowers (event.Wake v) legs low = omega arith
-  event_lowers (event.Block p v) legs low = omega arith
-  event_lowers (event.Slice r) legs low = omega arith
-  event_lowers (event.Repl u start deadline budget extra) legs low = omega arith
-  event_lowers (event.Refill d periods budget) legs low = omega arith
-  event_lowers (event.End k) legs low = omega arith
-  event_lowers event.Finish legs low = omega arith
+  event_lowers e legs low = omega arith
 
   olds_lower : (entries : List Entry) (legs : Legs) → length legs ≤ n → are_at t entries ≡ true → olds legs entries ≤ old_total legs
   olds_lower [] legs low at = omega arith

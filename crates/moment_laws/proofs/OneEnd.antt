@@ -60,19 +60,7 @@ module _ (m : Machine) (t : ℕ) where
       omega (arith, later, moment, same, now))
   past event.Finish from [] is next now run at = refl
   past event.Finish from (e ∷ entries) is next now run at = absurd (let over : true ≡ false = run.0.goes_on in cc)
-  past (event.Decide r unit due late reset) from entries is next now run at = absurd (cc)
-  past (event.Arrive p) from entries is next now run at = absurd (cc)
-  past (event.Leave p v) from entries is next now run at = absurd (cc)
-  past (event.Save r u queued) from entries is next now run at = absurd (cc)
-  past (event.Stall p until) from entries is next now run at = absurd (cc)
-  past (event.Xl k answer) from entries is next now run at = absurd (cc)
-  past (event.Moved r to) from entries is next now run at = absurd (cc)
-  past (event.DomMoved d to) from entries is next now run at = absurd (cc)
-  past (event.Wake v) from entries is next now run at = absurd (cc)
-  past (event.Block p v) from entries is next now run at = absurd (cc)
-  past (event.Slice r) from entries is next now run at = absurd (cc)
-  past (event.Repl u start deadline budget extra) from entries is next now run at = absurd (cc)
-  past (event.Refill d periods budget) from entries is next now run at = absurd (cc)
+  past e from entries is next now run at = absurd (cc)
 
   one_end_from : (entries : List Entry) (from : Reached) → IsRunFrom m from entries → are_at t entries ≡ true → ends entries ≤ 1
   one_end_from [] from run at = omega arith

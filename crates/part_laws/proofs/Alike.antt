@@ -21,7 +21,8 @@ use Rattle.sched_model.specs.Policy.{rtds_record}
 use Rattle.sched_model.specs.Machine.{after_at_home, after_stall, stalled, stall_end_of, settled_at}
 use Rattle.sched_laws.proofs.EachPlace.{by_option}
 use Rattle.part_laws.proofs.Places.{seen_change_at, at_place-change_at, at_place-change_at_other}
-use Rattle.part_laws.proofs.Looks.{LooksLike, has_core_in, moving_in, looks_change_each, looks_change_processor, looks_acts, looks_set_params}
+use Rattle.part_laws.proofs.Looks.{LooksLike, has_core_in, moving_in, looks_change_each, looks_parts, looks_set_params}
+use Rattle.sched_laws.proofs.Events.{kept_by_parts, kept_processor}
 
 -- what is seen of a place for a pool
 abbrev pub core_of : Option Pool → ℕ → Bool
@@ -85,7 +86,7 @@ alike_settled_at t None s = alike_itself s
 alike_settled_at t (Some i) s = alike_change i (settled t) s (λ pool at. keeps_settled t pool)
 
 keeps_event : (g t : ℕ) (action : Action) (pool : Pool) → Keeps (λ p. settled t (after_in g t p action)) pool
-keeps_event g t action pool = looks_change_each (has_core_in pool) (moving_in pool) _ (after_in g t pool action) (looks_acts (has_core_in pool) (moving_in pool) g t pool action (looks_itself pool))
+keeps_event g t action pool = looks_change_each (has_core_in pool) (moving_in pool) _ (after_in g t pool action) (kept_by_parts (looks_parts (has_core_in pool) (moving_in pool) g t) pool action tt (looks_itself pool))
 
 pub alike_at_home : (g t : ℕ) (action : Action) (s : State) → Alike s (after_at_home g s t action)
 alike_at_home g t action s = by_option (Alike s) (home_of g s action) _ _ (λ is. alike_itself s) (λ i is. alike_change i (λ p. settled t (after_in g t p action)) s (λ pool at. keeps_event g t action pool))
@@ -94,7 +95,7 @@ pub alike_stalled : (g p end : ℕ) (s : State) → Alike s (stalled g p end s)
 alike_stalled g p end s =
     by_option (Alike s) (home_of_core s (p / g)) _ _
     (λ is. record { pools = λ i. at_itself (at_place s.pools i); free = λ r. seen_change_at (p / g) r (λ (c : FreeCore). record c { stall_ends = change_item (p % g) (λ old. moment end) c.stall_ends }) (λ (c : FreeCore). c.target) (λ c. refl) s.free })
-    (λ i is. alike_change i (change_processor g p (λ q. record q { stall_end = moment end })) s (λ pool at. looks_change_processor (has_core_in pool) (moving_in pool) g p _ pool (looks_itself pool)))
+    (λ i is. alike_change i (change_processor g p (λ q. record q { stall_end = moment end })) s (λ pool at. kept_processor (looks_parts (has_core_in pool) (moving_in pool) g 0) p _ pool (looks_itself pool)))
 
 pub alike_stall : (g t : ℕ) (line : StallLine) (s : State) → Alike s (after_stall g t line s)
 alike_stall g t line s = let a = alike_stalled g line.cpu.0 (stall_end_of g s line.cpu.0 (t + line.span.0)) s in record { pools = a.pools; free = a.free }

@@ -299,20 +299,11 @@ housed_plan m t (plan.ArincSet i frame answer) s meets still h =
 housed_plan m t (plan.Pin d unit cores answer) s meets still h = of_params m t d.0 (changes.Pin d unit cores) s h
 
 counted : (s : State) (k : ℕ) (p : Plan) → Meets s p → Meets (record s { next_command = k }) p
-counted s k (plan.PoolList pool answer) meets = tt
 counted s k (plan.PoolCreate i name kind answer) meets = meets
 counted s k (plan.PoolDestroy i answer) meets = meets
-counted s k (plan.PoolRename i name answer) meets = tt
 counted s k (plan.CpuAdd i core answer) meets = meets
-counted s k (plan.CpuRemove i core answer) meets = tt
 counted s k (plan.Migrate d i j answer) meets = meets
-counted s k (plan.Credit2Dom d weight percent answer) meets = tt
-counted s k (plan.Credit2Pool i limit answer) meets = tt
-counted s k (plan.RtdsDom d first count period budget extra answer) meets = tt
-counted s k (plan.Pause d answer) meets = tt
-counted s k (plan.Unpause d answer) meets = tt
-counted s k (plan.ArincSet i frame answer) meets = tt
-counted s k (plan.Pin d unit cores answer) meets = tt
+counted s k p meets = tt
 
 -- a line with a command, where nothing is on its way
 housed_line : (m : Machine) (t : ℕ) (line : CommandLine) (s : State) → NoMoves s → Housed m s → Housed m (after_command m t line s)

@@ -8,7 +8,7 @@ use Rattle.sched_model.specs.declared.event.Event.{Event}
 use Rattle.sched_model.specs.declared.event.Entry.{Entry}
 use Rattle.sched_model.specs.declared.machine.Machine.{Machine}
 use Rattle.sched_model.specs.declared.action.Action.{Action}
-use Rattle.sched_model.specs.declared.action.Action.TheVariants.{Stall, Xl, Moved, DomMoved, Wake, Block, Slice, Repl, Refill, Arrive, Decide, Leave, Save}
+use Rattle.sched_model.specs.declared.action.Action.TheVariants.{Stall, Xl, Moved, DomMoved}
 use Rattle.sched_model.specs.declared.state.Domain.{Domain}
 use Rattle.sched_model.specs.declared.state.FreeCore.{FreeCore}
 use Rattle.sched_model.specs.declared.state.Pool.{Pool}
@@ -47,15 +47,7 @@ housed_after m s t Stall on places h = housed_stall m t (slice_get m.work.stalls
 housed_after m s t Xl on places h = housed_command m t (slice_get m.work.commands s.next_command) s on h
 housed_after m s t (Moved r) on places h = housed_moved m t r s places h
 housed_after m s t (DomMoved d) on places h = housed_dom_moved m m.config.granularity t d s places h
-housed_after m s t (Wake v) on places h = housed_home m t (Wake v) s h
-housed_after m s t (Block p) on places h = housed_home m t (Block p) s h
-housed_after m s t (Slice r) on places h = housed_home m t (Slice r) s h
-housed_after m s t (Repl u) on places h = housed_home m t (Repl u) s h
-housed_after m s t (Refill d) on places h = housed_home m t (Refill d) s h
-housed_after m s t (Arrive p) on places h = housed_home m t (Arrive p) s h
-housed_after m s t (Decide r) on places h = housed_home m t (Decide r) s h
-housed_after m s t (Leave p) on places h = housed_home m t (Leave p) s h
-housed_after m s t (Save r) on places h = housed_home m t (Save r) s h
+housed_after m s t action on places h = housed_home m t action s h
 
 housed_quiet : (m : Machine) (end : Option ℕ) (from : Reached) → Housed m from.state → Housed m (after_quiet end from).state
 housed_quiet m None from h = h

@@ -1,8 +1,9 @@
 -- Which places have something, and what is seen of it, after a change.
-use Rattle.std.proofs.Common.{◌≡◌, ◌≢◌, ◌+◌, ℕ, zero, suc, List, [], ◌∷◌, refl, ap, sym, ◌∙◌}
+use Rattle.std.proofs.Common.{◌≡◌, ◌+◌, ℕ, zero, suc, List, [], ◌∷◌, refl, ap, sym, ◌∙◌}
 use Rattle.std.specs.Prelude.{Option, Some, None, is_some, option_map}
 use Rattle.sched_model.specs.Places.{at_place, put_at, change_at, change_each}
 use Rattle.sched_laws.proofs.EachPlace.{at_place-change_each}
+pub use Rattle.sched_laws.proofs.EachPlace.{at_place-change_at, at_place-change_at_other}
 
 pub some_change_at : {X : Type 0} (i j : ℕ) (f : X → X) (places : List (Option X)) → is_some (at_place (change_at i f places) j) ≡ is_some (at_place places j)
 some_change_at zero j f [] = refl
@@ -37,19 +38,3 @@ some_put_at zero zero x y (p ∷ places) at = sym (ap is_some at)
 some_put_at zero (suc j) x y (p ∷ places) at = refl
 some_put_at (suc i) zero x y (p ∷ places) at = refl
 some_put_at (suc i) (suc j) x y (p ∷ places) at = some_put_at i j x y places at
-
--- a change that is seen at i alone
-pub at_place-change_at_other : {X : Type 0} (i j : ℕ) (f : X → X) (places : List (Option X)) → j ≢ i → at_place (change_at i f places) j ≡ at_place places j
-at_place-change_at_other zero j f [] other = refl
-at_place-change_at_other (suc i) j f [] other = refl
-at_place-change_at_other zero zero f (p ∷ places) other = absurd (other refl)
-at_place-change_at_other zero (suc j) f (p ∷ places) other = refl
-at_place-change_at_other (suc i) zero f (p ∷ places) other = refl
-at_place-change_at_other (suc i) (suc j) f (p ∷ places) other = at_place-change_at_other i j f places (λ e. other (ap suc e))
-
-pub at_place-change_at : {X : Type 0} (i : ℕ) (f : X → X) (places : List (Option X)) → at_place (change_at i f places) i ≡ option_map f (at_place places i)
-at_place-change_at zero f [] = refl
-at_place-change_at (suc i) f [] = refl
-at_place-change_at zero f (None ∷ places) = refl
-at_place-change_at zero f (Some x ∷ places) = refl
-at_place-change_at (suc i) f (p ∷ places) = at_place-change_at i f places

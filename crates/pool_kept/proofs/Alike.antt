@@ -1,5 +1,5 @@
 -- Pools that are alike in what is kept of their schedulers' units, and the changes under which a pool stays so.
-use Rattle.std.proofs.Common.{◌≡◌, ℕ, zero, suc, Bool, true, false, List, [], ◌∷◌, refl, subst, sym, ◌∙◌, ap, length, ◌≤◌}
+use Rattle.std.proofs.Common.{◌≡◌, ℕ, Bool, true, false, List, refl, subst, sym, ◌∙◌, ap, length, ◌≤◌}
 use Rattle.std.specs.Prelude.{Option, Some, None, option_map, is_some, nat_lt}
 use Rattle.sched_base.specs.declared.Cores.{Cores}
 use Rattle.sched_base.specs.declared.Moment.{Moment}
@@ -7,13 +7,14 @@ use Rattle.sched_base.specs.declared.UnitId.{UnitId}
 use Rattle.sched_model.specs.declared.state.Domain.{Domain}
 use Rattle.sched_model.specs.declared.state.Resource.{Resource}
 use Rattle.sched_model.specs.declared.state.Records.{Records}
-use Rattle.sched_model.specs.declared.state.Records.TheVariants.{Credit2Pool, RtdsPool, ArincPool, NullPool}
+use Rattle.sched_model.specs.declared.state.Records.TheVariants.{Credit2Pool}
 use Rattle.sched_model.specs.declared.state.Scheduler.{Scheduler}
 use Rattle.sched_model.specs.declared.state.Pool.{Pool}
-use Rattle.sched_model.specs.Places.{at_place, change_at, change_each, is_unit}
+use Rattle.sched_model.specs.Places.{at_place, change_at, is_unit}
 use Rattle.sched_model.specs.Pool.{core_of, unit_count}
 use Rattle.sched_laws.specs.Each.{EachPlace}
-use Rattle.sched_laws.proofs.EachPlace.{found_at, none_found, length_set, length_change_each}
+use Rattle.sched_laws.proofs.Events.{LikePlaces, like_look, like_change_at}
+use Rattle.sched_laws.proofs.EachPlace.{found_at, none_found}
 use Rattle.sched_laws.proofs.Choices.{is_unit_same}
 use Rattle.sched_laws.proofs.Counts.{same_unit_refl}
 use Rattle.sched_laws.proofs.Bools.{clash}
@@ -34,28 +35,12 @@ module _ {X Y : Type 0} (measure : X → Y) where
   pub alike_trans : (a b c : List (Option X)) → AreAlike measure a b → AreAlike measure b c → AreAlike measure a c
   alike_trans a b c one two = record { places = two.places ∙ one.places; same = λ i. two.same i ∙ one.same i }
 
-  same_map : (f : X → X) (o : Option X) → ((x : X) → measure (f x) ≡ measure x) → option_map measure (option_map f o) ≡ option_map measure o
-  same_map f None same = refl
-  same_map f (Some x) same = ap (λ (y : Y). Some y) (same x)
+  pub alike_like : (R : X → X → Type 0) (old next : List (Option X)) → ((x y : X) → R x y → measure y ≡ measure x) → LikePlaces R old next → AreAlike measure old next
+  alike_like R old next to like = record { places = like.count; same = like_look R (option_map measure) old next (λ x y now. ap (λ (z : Y). Some z) (to x y now)) like }
 
   pub alike_change_at : (i : ℕ) (f : X → X) (places : List (Option X)) → ((x : X) → measure (f x) ≡ measure x) → AreAlike measure places (change_at i f places)
-  alike_change_at i f places same = record { places = length_set i _ places; same = there i places }
-    where
-      there : (i : ℕ) (places : List (Option X)) (j : ℕ) → option_map measure (at_place (change_at i f places) j) ≡ option_map measure (at_place places j)
-      there zero [] j = refl
-      there (suc i) [] j = refl
-      there zero (o ∷ places) zero = same_map f o same
-      there zero (o ∷ places) (suc j) = refl
-      there (suc i) (o ∷ places) zero = refl
-      there (suc i) (o ∷ places) (suc j) = there i places j
-
-  pub alike_change_each : (n : ℕ) (f : ℕ → X → X) (places : List (Option X)) → ((k : ℕ) (x : X) → measure (f k x) ≡ measure x) → AreAlike measure places (change_each n f places)
-  alike_change_each n f places same = record { places = length_change_each n f places; same = there n places }
-    where
-      there : (n : ℕ) (places : List (Option X)) (j : ℕ) → option_map measure (at_place (change_each n f places) j) ≡ option_map measure (at_place places j)
-      there n [] j = refl
-      there n (o ∷ places) zero = same_map (f n) o (same n)
-      there n (o ∷ places) (suc j) = there (suc n) places j
+  alike_change_at i f places same =
+      alike_like (λ x y. measure y ≡ measure x) places (change_at i f places) (λ x y now. now) (like_change_at (λ x y. measure y ≡ measure x) i f places (λ x. refl) (λ x at. same x))
 
   -- what stands at a place stood there alike, and stands there alike after
   pub alike_was : (old next : List (Option X)) (i : ℕ) (y : X) → AreAlike measure old next → at_place next i ≡ Some y → (x : X) × (at_place old i ≡ Some x) × (measure y ≡ measure x)
@@ -95,9 +80,7 @@ Alike g pool next = IsAlike g pool.scheduler.affinity pool.domains pool.schedule
 -- a unit may be on where it is, or nothing is recorded
 pub may_is : (records : Records) (u : UnitId) → may_be_on records u ≡ (elim (keeps_records records) as (λ _. Bool) [ true ↦ is_on records u | false ↦ true ])
 may_is (Credit2Pool records) u = refl
-may_is (RtdsPool domains) u = refl
-may_is (ArincPool records) u = refl
-may_is (NullPool kept) u = refl
+may_is records u = refl
 
 pub may_same : (old next : Records) (u : UnitId) → is_on next u ≡ is_on old u → keeps_records next ≡ keeps_records old → may_be_on next u ≡ may_be_on old u
 may_same old next u on kind =

@@ -8,7 +8,7 @@ use Rattle.sched_base.specs.declared.Cores.{Cores}
 use Rattle.sched_base.specs.declared.Moment.{Moment}
 use Rattle.sched_base.specs.declared.UnitId.{UnitId}
 use Rattle.sched_model.specs.declared.action.Action.{Action}
-use Rattle.sched_model.specs.declared.action.Action.TheVariants.{Stall, Xl, Moved, DomMoved, Wake, Block, Slice, Repl, Refill, Arrive, Decide, Leave, Save}
+use Rattle.sched_model.specs.declared.action.Action.TheVariants.{Moved, DomMoved, Decide, Save}
 use Rattle.sched_model.specs.declared.config.DomParams.{DomParams}
 use Rattle.sched_model.specs.declared.config.ParamChange.{ParamChange}
 use Rattle.sched_model.specs.declared.config.PoolParams.{PoolParams}
@@ -43,6 +43,7 @@ use Rattle.sched_ops.specs.Conditions.{may_be_on}
 use Rattle.pool_kept.specs.Holds.{Holds, HasMembers, HasMember, AreOn, HaveProcessors}
 use Rattle.pool_kept.proofs.Alike.{Alike, is_alike_refl, alike_members, alike_units, alike_on, alike_since}
 use Rattle.pool_kept.proofs.Steps as steps
+use Rattle.sched_laws.proofs.Events.{kept_settled, kept_by_event, kept_processor, kept_set_leaving, kept_pause, kept_unpause, kept_queue_units}
 use Rattle.pool_kept.proofs.Members.{at_empty, joined, members_stay, members_joined, members_parted}
 use Rattle.pool_kept.proofs.Units as units
 use Rattle.pool_kept.proofs.On as on
@@ -100,20 +101,10 @@ rest_save g t r u pool h = record {
 }
 
 rest_acts : (g t : ℕ) (pool : Pool) (action : Action) → Holds g t pool → Rest g t (after_in g t pool action)
-rest_acts g t pool Stall h = rest_of g t pool h
-rest_acts g t pool Xl h = rest_of g t pool h
-rest_acts g t pool (Moved r) h = rest_of g t pool h
-rest_acts g t pool (DomMoved d) h = rest_of g t pool h
 rest_acts g t pool (Decide r) h = by_option (Rest g t) (at_place pool.resources r) _ _ (λ is. rest_of g t pool h) (λ c is. rest_decide g t r c pool is h)
 rest_acts g t pool (Save r) h =
     by_option (Rest g t) (at_place pool.resources r) _ _ (λ is. rest_of g t pool h) (λ c is. by_option (Rest g t) c.saving _ _ (λ is2. rest_of g t pool h) (λ u is2. rest_save g t r u pool h))
-rest_acts g t pool (Wake v) h = rest_alike g t pool (after_in g t pool (Wake v)) (steps.like_acts g t pool (Wake v) tt) (rest_of g t pool h)
-rest_acts g t pool (Block p) h = rest_alike g t pool (after_in g t pool (Block p)) (steps.like_acts g t pool (Block p) tt) (rest_of g t pool h)
-rest_acts g t pool (Slice r) h = rest_alike g t pool (after_in g t pool (Slice r)) (steps.like_acts g t pool (Slice r) tt) (rest_of g t pool h)
-rest_acts g t pool (Repl u) h = rest_alike g t pool (after_in g t pool (Repl u)) (steps.like_acts g t pool (Repl u) tt) (rest_of g t pool h)
-rest_acts g t pool (Refill d) h = rest_alike g t pool (after_in g t pool (Refill d)) (steps.like_acts g t pool (Refill d) tt) (rest_of g t pool h)
-rest_acts g t pool (Arrive p) h = rest_alike g t pool (after_in g t pool (Arrive p)) (steps.like_acts g t pool (Arrive p) tt) (rest_of g t pool h)
-rest_acts g t pool (Leave p) h = rest_alike g t pool (after_in g t pool (Leave p)) (steps.like_acts g t pool (Leave p) tt) (rest_of g t pool h)
+rest_acts g t pool action h = rest_alike g t pool (after_in g t pool action) (steps.like_acts g t pool action tt) (rest_of g t pool h)
 
 -- the records and the places of units, where the other crates prove them of machines
 abbrev machine_of : ℕ → Machine
@@ -134,21 +125,21 @@ module _ (g t : ℕ) where
 
   pub settles : (pool : Pool) → H pool → H (settled t pool)
   settles pool h =
-      join (settled t pool) h.some ((known h.some).inside.settles t pool h.known) h.records (rest_alike g t pool (settled t pool) (steps.like_settled g t pool) (rest_of g t pool h)) (started.started_settled g t pool h.started)
+      join (settled t pool) h.some ((known h.some).inside.settles t pool h.known) h.records (rest_alike g t pool (settled t pool) (kept_settled (steps.like_commands g pool) t pool (is_alike_refl g pool)) (rest_of g t pool h)) (kept_settled (started.started_commands g) t pool h.started)
 
   pub acts : (pool : Pool) (action : Action) → enabled_in g t pool action ≡ true → H pool → H (after_in g t pool action)
   acts pool action on h =
-      join (after_in g t pool action) h.some ((known h.some).inside.acts t pool action on h.known) (records.acts pool action on h.records) (rest_acts g t pool action h) (started.started_acts g t pool action on h.started)
+      join (after_in g t pool action) h.some ((known h.some).inside.acts t pool action on h.known) (records.acts pool action on h.records) (rest_acts g t pool action h) (kept_by_event (started.started_steps g t) pool action on h.started)
 
   pub stalls : (p end : ℕ) (pool : Pool) → H pool → H (change_processor g p (λ q. record q { stall_end = moment end }) pool)
   stalls p end pool h =
       let f : Processor → Processor = λ q. record q { stall_end = moment end } in
-      join (change_processor g p f pool) h.some ((known h.some).inside.stalls p end pool h.known) h.records (rest_alike g t pool (change_processor g p f pool) (steps.like_change_processor g p f pool) (rest_of g t pool h))
+      join (change_processor g p f pool) h.some ((known h.some).inside.stalls p end pool h.known) h.records (rest_alike g t pool (change_processor g p f pool) (kept_processor (steps.like_parts g t pool) p f pool (is_alike_refl g pool)) (rest_of g t pool h))
       (started.started_stalls g p end pool h.started)
 
   pub leaves : (r : ℕ) (pool : Pool) → H pool → H (set_leaving r pool)
   leaves r pool h =
-      join (set_leaving r pool) h.some ((known h.some).inside.leaves r pool h.known) h.records (rest_alike g t pool (set_leaving r pool) (steps.like_set_leaving g r pool) (rest_of g t pool h)) (started.started_set_leaving g r pool h.started)
+      join (set_leaving r pool) h.some ((known h.some).inside.leaves r pool h.known) h.records (rest_alike g t pool (set_leaving r pool) (kept_set_leaving (steps.like_commands g pool) r pool (is_alike_refl g pool)) (rest_of g t pool h)) (kept_set_leaving (started.started_commands g) r pool h.started)
 
   pub moves : (d i : ℕ) (pool : Pool) → H pool → H (set_moving d i pool)
   moves d i pool h =
@@ -157,11 +148,11 @@ module _ (g t : ℕ) where
 
   pub pauses : (d : ℕ) (pool : Pool) → H pool → H (pause d pool)
   pauses d pool h =
-      join (pause d pool) h.some ((known h.some).inside.pauses d pool h.known) (records.pauses d pool h.records) (rest_alike g t pool (pause d pool) (steps.like_pause g d pool) (rest_of g t pool h)) (started.started_pause g d pool h.started)
+      join (pause d pool) h.some ((known h.some).inside.pauses d pool h.known) (records.pauses d pool h.records) (rest_alike g t pool (pause d pool) (kept_pause (steps.like_commands g pool) d pool (is_alike_refl g pool)) (rest_of g t pool h)) (kept_pause (started.started_commands g) d pool h.started)
 
   pub unpauses : (d : ℕ) (pool : Pool) → H pool → H (unpause g d pool)
   unpauses d pool h =
-      join (unpause g d pool) h.some ((known h.some).inside.unpauses d pool h.known) (records.unpauses d pool h.records) (rest_alike g t pool (unpause g d pool) (steps.like_unpause g d pool) (rest_of g t pool h)) (started.started_unpause g d pool h.started)
+      join (unpause g d pool) h.some ((known h.some).inside.unpauses d pool h.known) (records.unpauses d pool h.records) (rest_alike g t pool (unpause g d pool) (kept_unpause (steps.like_commands g pool) d pool (is_alike_refl g pool)) (rest_of g t pool h)) (kept_unpause (started.started_commands g) d pool h.started)
 
   pub changes : (change : ParamChange) (pool : Pool) → H pool → H (set_params change t pool)
   changes change pool h =
@@ -199,7 +190,7 @@ module _ (g t : ℕ) where
       let base : Pool = joined g t d domain params pool in
       let next : Pool = with_domain g t d domain params pool in
       join next h.some ((known h.some).domain_comes t d domain params pool stays none h.known) (k_with_domain g t d domain params pool fits count h.records).0
-      (rest_alike g t base next (steps.like_queue_units g d (numbers_from 0 (unit_count g domain)) base base (is_alike_refl g base))
+      (rest_alike g t base next (kept_queue_units (steps.like_commands g base) d (numbers_from 0 (unit_count g domain)) base (is_alike_refl g base))
       (record {
         members = members_joined g t d domain params pool low h.members;
         units = units.units_joined g t d domain params pool none h.members h.units;

@@ -1,35 +1,31 @@
 -- A vCPU that is started is run by a processor: what each step keeps of that.
-use Rattle.std.proofs.Common.{◌≡◌, ◌≢◌, ◌<◌, ◌⊎◌, ℕ, zero, suc, Bool, true, false, List, [], ◌∷◌, refl, arith, subst, sym, ◌∙◌, ap, cond, inl, inr}
-use Rattle.std.specs.Prelude.{Option, Some, None, option_map, slice_get, is_some, not, ◌+◌, ◌*◌, ◌/◌, ◌%◌, ◌&&◌, ◌||◌}
-use Rattle.std.specs.List.{list_any}
+use Rattle.std.proofs.Common.{◌≡◌, ◌≢◌, ◌<◌, ◌⊎◌, ℕ, zero, suc, Bool, true, false, List, [], ◌∷◌, refl, arith, subst, sym, ◌∙◌, ap, inl, inr}
+use Rattle.std.specs.Prelude.{Option, Some, None, option_map, slice_get, not, ◌+◌, ◌*◌, ◌/◌, ◌%◌, ◌&&◌}
 use Rattle.std.proofs.Math.Decide.{ℕ_discrete}
 use Rattle.std.proofs.Math.Nat.{div-add-mod}
 use Rattle.sched_base.specs.Numbers.{moment, domain as domain_number, pool as pool_number}
 use Rattle.sched_base.specs.declared.Moment.{Moment}
 use Rattle.sched_base.specs.declared.UnitId.{UnitId}
 use Rattle.sched_base.specs.declared.VcpuId.{VcpuId}
-use Rattle.sched_model.specs.declared.action.Action.{Action}
-use Rattle.sched_model.specs.declared.action.Action.TheVariants.{Stall, Xl, Moved, DomMoved, Wake, Block, Slice, Repl, Refill, Arrive, Decide, Leave, Save}
+use Rattle.sched_model.specs.declared.action.Action.TheVariants.{Moved, Leave}
 use Rattle.sched_model.specs.declared.config.DomParams.{DomParams}
 use Rattle.sched_model.specs.declared.config.ParamChange.{ParamChange}
-use Rattle.sched_model.specs.declared.config.ParamChange.TheVariants as changes
 use Rattle.sched_model.specs.declared.state.Doing.{Doing}
 use Rattle.sched_model.specs.declared.state.Doing.TheVariants.{Guest, Idle, Held}
-use Rattle.sched_model.specs.declared.state.Stage.TheVariants.{Open}
 use Rattle.sched_model.specs.declared.state.Domain.{Domain}
 use Rattle.sched_model.specs.declared.state.Vcpu.{Vcpu}
 use Rattle.sched_model.specs.declared.state.Processor.{Processor}
 use Rattle.sched_model.specs.declared.state.Resource.{Resource}
 use Rattle.sched_model.specs.declared.state.Pool.{Pool}
-use Rattle.sched_model.specs.Places.{at_place, put_at, clear_at, change_at, change_each, change_item, numbers_from, test_at}
-use Rattle.sched_model.specs.State.{is_runnable, is_up}
+use Rattle.sched_model.specs.Places.{at_place, put_at, clear_at, change_at, change_item, numbers_from, test_at}
+use Rattle.sched_model.specs.State.{is_up}
 use Rattle.sched_model.specs.Eligible.{Decision}
 use Rattle.sched_model.specs.Opening.{fresh_core}
 use Rattle.sched_model.specs.Policy as policy
 use Rattle.sched_model.specs.Policy.{decision_of, rtds_record}
 use Rattle.sched_model.specs.Pool as pools
 use Rattle.sched_model.specs.Pool.{after_in, ask_of, change_core, change_cores_of, change_domain, change_processor, change_vcpu, decided, does, enabled_in, guest_of, home_cores, is_of_domain, pause, reconsidered, same_choice, set_leaving, set_moving, set_params, set_pending, settled, started_on, unit_count, unpause, with_domain, without_domain}
-use Rattle.sched_laws.proofs.EachPlace.{read_change_at, read_clear_at, read_put_at, at_place-put_at, place_below, at_place-put_at_other, at_place-clear_at_other, by_option, by_test, by_cond}
+use Rattle.sched_laws.proofs.EachPlace.{read_change_at, read_clear_at, read_put_at, at_place-put_at, place_below, at_place-put_at_other, at_place-clear_at_other, by_option, by_test}
 use Rattle.sched_laws.specs.Known.{IsKnownPool}
 use Rattle.sched_laws.proofs.Sound.{read_change_item, processor_of_is, guest_of_is}
 use Rattle.sched_laws.specs.Known.{AreSound}
@@ -39,7 +35,8 @@ use Rattle.sched_laws.proofs.OnePlace.{one_same}
 use Rattle.sched_laws.specs.Known.{core_places}
 use Rattle.sched_laws.proofs.Bools.{and_left, and_right}
 use Rattle.pool_kept.specs.Holds.{HaveProcessors}
-use Rattle.pool_kept.proofs.Alike.{AreAlike, alike_change_at, alike_change_each}
+use Rattle.pool_kept.proofs.Alike.{AreAlike, alike_like, alike_change_at}
+use Rattle.sched_laws.proofs.Events.{LikePlaces, like_change_at, capped, like_of_domain, like_map, IsMarked, Enabled, KeptByCommands, KeptBySteps, kept_opened, kept_withdrawn, kept_marked, kept_queue_units}
 use Rattle.pool_kept.proofs.Members.{joined}
 use Rattle.pool_kept.proofs.Units.{goes_empty}
 
@@ -235,17 +232,15 @@ module _ (g : ℕ) where
   started_alike cores pool alike have =
       from_have (record pool { resources = cores }) (have_cores pool.domains pool.resources cores (λ r i v is. ap flat ((alike i).same r) ∙ is) (to_have pool have))
 
-  pub started_change_core : (r : ℕ) (f : Resource → Resource) (pool : Pool) → ((c : Resource) → (f c).processors ≡ c.processors) → HaveProcessors g pool → HaveProcessors g (change_core r f pool)
-  started_change_core r f pool same have =
-      started_alike (change_at r f pool.resources) pool (λ i. alike_change_at (doing_in i) r f pool.resources (λ c. ap (λ (qs : List Processor). option_map (λ (q : Processor). q.doing) (slice_get qs i)) (same c))) have
+  abbrev SameProcessors : Resource → Resource → Type 0
+  SameProcessors c d = d.processors ≡ c.processors
 
-  started_change_each : (f : ℕ → Resource → Resource) (pool : Pool) → ((r : ℕ) (c : Resource) → (f r c).processors ≡ c.processors) → HaveProcessors g pool → HaveProcessors g (record pool { resources = change_each 0 f pool.resources })
-  started_change_each f pool same have =
-      started_alike (change_each 0 f pool.resources) pool (λ i. alike_change_each (doing_in i) 0 f pool.resources (λ r c. ap (λ (qs : List Processor). option_map (λ (q : Processor). q.doing) (slice_get qs i)) (same r c))) have
+  started_like : (cores : List (Option Resource)) (pool : Pool) → LikePlaces SameProcessors pool.resources cores → HaveProcessors g pool → HaveProcessors g (record pool { resources = cores })
+  started_like cores pool like have =
+      started_alike cores pool (λ i. alike_like (doing_in i) SameProcessors pool.resources cores (λ c d same. ap (λ (qs : List Processor). option_map (λ (q : Processor). q.doing) (slice_get qs i)) same) like) have
 
-  started_change_cores_of : (d : ℕ) (f : Resource → Resource) (pool : Pool) → ((c : Resource) → (f c).processors ≡ c.processors) → HaveProcessors g pool → HaveProcessors g (change_cores_of d f pool)
-  started_change_cores_of d f pool same have =
-      started_change_each (λ r c. cond (is_of_domain d c.cur) (f c) c) pool (λ r c. by_cond (λ (x : Resource). x.processors ≡ c.processors) (is_of_domain d c.cur) (f c) c (λ is. same c) (λ is. refl)) have
+  started_change_core : (r : ℕ) (f : Resource → Resource) (pool : Pool) → ((c : Resource) → (f c).processors ≡ c.processors) → HaveProcessors g pool → HaveProcessors g (change_core r f pool)
+  started_change_core r f pool same have = started_like _ pool (like_change_at SameProcessors r f pool.resources (λ c. refl) (λ c at. same c)) have
 
   pub started_stalls : (p end : ℕ) (pool : Pool) → HaveProcessors g pool → HaveProcessors g (change_processor g p (λ q. record q { stall_end = moment end }) pool)
   started_stalls p end pool have =
@@ -273,21 +268,19 @@ module _ (g : ℕ) where
         )
       ]) (to_have pool have))
 
-  pub started_settled : (t : ℕ) (pool : Pool) → HaveProcessors g pool → HaveProcessors g (settled t pool)
-  started_settled t pool have =
-      started_change_each (reconsidered t (home_cores pool) pool.scheduler) pool (λ r c. by_cond (λ (x : Resource). x.processors ≡ c.processors) c.leaving c _ (λ is. refl) (λ is. refl)) have
+  pub started_commands : KeptByCommands g (HaveProcessors g)
+  started_commands = record {
+    marks = λ cores pool like. started_like cores pool (like_map IsMarked SameProcessors pool.resources cores (λ c d marked. marked.processors) like);
+    queues = λ u pool runs have. have;
+    dequeues = λ d pool have. have;
+    pausing = λ d paused pool. started_change_domain d (λ x. record x { paused = paused }) pool (λ x. refl);
+  }
 
   -- the events
   started_takes : (t p : ℕ) (v : VcpuId) (q : Processor) (pool : Pool) → pools.processor_of g pool p ≡ Some q → ((w : VcpuId) → q.doing ≡ Guest w → ⊥) → HaveProcessors g pool → HaveProcessors g (started_on g t p v pool)
   started_takes t p v q pool is none have =
       let found = processor_of_is g pool p q is in
       from_have (started_on g t p v pool) (have_takes p v (λ x. record x { started = Some (moment t) }) pool.domains pool.resources q.doing (doing_there pool.resources (p / g) (p % g) found.0 q found.1 found.2) none (to_have pool have))
-
-  started_joined_siblings : (t : ℕ) (v : VcpuId) (pool : Pool) → HaveProcessors g pool → HaveProcessors g (pools.joined_siblings g t v pool)
-  started_joined_siblings t v pool have =
-      by_option (HaveProcessors g) (pools.core_of pool (pools.unit_of g v)) _ _ (λ is. have)
-      (λ r is. by_option (HaveProcessors g) (pools.processor_of g pool (r * g + v.n % g)) _ _ (λ is2. have)
-      (λ q is2. by_cond (HaveProcessors g) (pools.is_idle q) _ _ (λ idle. started_takes t (r * g + v.n % g) v q pool is2 (not_guest_if_idle q idle) have) (λ idle. have)))
 
   started_woken : (v : VcpuId) (pool : Pool) → HaveProcessors g pool → HaveProcessors g (change_vcpu v pools.woken pool)
   started_woken v pool have =
@@ -297,13 +290,6 @@ module _ (g : ℕ) where
         | inr r ↦ (r.0, subst (λ (u : VcpuId). vcpu_in pool.domains u ≡ Some r.0) (sym r.1) r.2, ap (λ (y : Vcpu). y.started) r.3 ∙ started)
       ]) (to_have pool have))
 
-  started_after_wake : (t : ℕ) (v : VcpuId) (pool : Pool) → HaveProcessors g pool → HaveProcessors g (pools.after_wake g t v pool)
-  started_after_wake t v pool have =
-      let next : Pool = change_vcpu v pools.woken pool in
-      let here : HaveProcessors g next = started_woken v pool have in
-      by_test (HaveProcessors g) (is_runnable g next (pools.unit_of g v)) _ _
-      (λ runs. by_cond (HaveProcessors g) (pools.is_off next (pools.unit_of g v)) _ _ (λ off. here) (λ off. started_joined_siblings t v next here)) (λ runs. here)
-
   started_frees : (p : ℕ) (v : VcpuId) (f : Vcpu → Vcpu) (doing : Doing) (pool : Pool) → guest_of g pool p ≡ Some v → ((x : Vcpu) → (f x).started ≡ None) → HaveProcessors g pool → HaveProcessors g (change_processor g p (does doing) (change_vcpu v f pool))
   started_frees p v f doing pool guest none have =
       from_have (change_processor g p (does doing) (change_vcpu v f pool)) (have_frees p v f doing pool.domains pool.resources (guest_doing (doing_at pool.resources (p / g) (p % g)) v (sym (guest_is g pool p) ∙ guest)) none (to_have pool have))
@@ -311,12 +297,6 @@ module _ (g : ℕ) where
   started_idle : (p : ℕ) (doing : Doing) (pool : Pool) → ((v : VcpuId) → guest_of g pool p ≡ Some v → ⊥) → HaveProcessors g pool → HaveProcessors g (change_processor g p (does doing) pool)
   started_idle p doing pool none have =
       from_have (change_processor g p (does doing) pool) (have_idle p doing pool.domains pool.resources (λ v is. none v (guest_is g pool p ∙ ap guest_in is)) (to_have pool have))
-
-  started_after_block : (t p : ℕ) (v : VcpuId) (pool : Pool) → guest_of g pool p ≡ Some v → HaveProcessors g pool → HaveProcessors g (pools.after_block g t p v pool)
-  started_after_block t p v pool guest have =
-      let next : Pool = change_processor g p (does Idle) (change_vcpu v (pools.put_to_sleep t) pool) in
-      let here : HaveProcessors g next = started_frees p v (pools.put_to_sleep t) Idle pool guest (λ x. refl) have in
-      by_cond (HaveProcessors g) (is_runnable g next (pools.unit_of g v)) _ _ (λ runs. here) (λ runs. started_change_core (p / g) (λ c. record c { pending = true }) next (λ c. refl) here)
 
   started_after_arrive : (t p : ℕ) (pool : Pool) → HaveProcessors g pool → HaveProcessors g (pools.after_arrive g t p pool)
   started_after_arrive t p pool have =
@@ -328,7 +308,7 @@ module _ (g : ℕ) where
       let held = leaver g t p pool on in
       let none : (v : VcpuId) → held.0.doing ≡ Guest v → ⊥ = not_guest_if_held held.0 held.2 in
       by_option (λ (next : Pool). HaveProcessors g (change_core (p / g) pools.open_if_left next)) (pools.vcpu_for g pool c (p % g)) _ _
-      (λ is. opens (change_processor g p (does Idle) pool) (started_idle p Idle pool (λ v guest.
+      (λ is. kept_opened started_commands (p / g) (change_processor g p (does Idle) pool) (started_idle p Idle pool (λ v guest.
       let found = guest_of_is g pool p v guest in
       let mine = processor_of_is g pool p held.0 held.1 in
       none v (
@@ -336,11 +316,7 @@ module _ (g : ℕ) where
       let get : slice_get mine.0.processors (p % g) ≡ Some found.1 = subst (λ (x : Resource). slice_get x.processors (p % g) ≡ Some found.1) same found.3 in
       let same_q : found.1 ≡ held.0 = cc in
       subst (λ (q : Processor). q.doing ≡ Guest v) same_q found.4)) have))
-      (λ v is. opens (started_on g t p v pool) (started_takes t p v held.0 pool held.1 none have))
-    where
-      opens : (next : Pool) → HaveProcessors g next → HaveProcessors g (change_core (p / g) pools.open_if_left next)
-      opens next here =
-          started_change_core (p / g) pools.open_if_left next (λ x. by_cond (λ (y : Resource). y.processors ≡ x.processors) (list_any pools.is_held x.processors) x (record x { stage = Open }) (λ is. refl) (λ is. refl)) here
+      (λ v is. kept_opened started_commands (p / g) (started_on g t p v pool) (started_takes t p v held.0 pool held.1 none have))
 
   started_after_decide : (t r : ℕ) (c : Resource) (pool : Pool) → at_place pool.resources r ≡ Some c → HaveProcessors g pool → HaveProcessors g (pools.after_decide g t r c pool)
   started_after_decide t r c pool at have =
@@ -360,69 +336,32 @@ module _ (g : ℕ) where
         | no other ↦ ap (λ (o : Option Resource). flat (option_map (doing_in i) o)) (at_place-put_at_other r k now pool.resources other) ∙ is
       ]) (to_have pool have))
 
-  started_after_save : (r : ℕ) (u : UnitId) (pool : Pool) → HaveProcessors g pool → HaveProcessors g (pools.after_save g r u pool)
-  started_after_save r u pool have =
-      let here : HaveProcessors g (change_core r pools.saved pool) = started_change_core r pools.saved pool (λ c. refl) have in
-      by_cond (HaveProcessors g) (is_runnable g pool u) _ _ (λ runs. here) (λ runs. here)
-
-  started_after_replenish : (t : ℕ) (u : UnitId) (pool : Pool) → HaveProcessors g pool → HaveProcessors g (pools.after_replenish t u pool)
-  started_after_replenish t u pool have =
-      by_option (HaveProcessors g) (pools.core_of pool u) _ _ (λ is. have)
-      (λ r is. by_option (HaveProcessors g) (rtds_record (policy.replenish pool.scheduler.records t u) u) _ _ (λ is2. have)
-      (λ x is2. started_change_core r (pools.due_within t x.budget) (pools.with_records (policy.replenish pool.scheduler.records t u) pool) (λ c. refl) have))
-
-  pub started_acts : (t : ℕ) (pool : Pool) (action : Action) → enabled_in g t pool action ≡ true → HaveProcessors g pool → HaveProcessors g (after_in g t pool action)
-  started_acts t pool Stall on have = have
-  started_acts t pool Xl on have = have
-  started_acts t pool (Moved r) on have = have
-  started_acts t pool (DomMoved d) on have = have
-  started_acts t pool (Wake v) on have = started_after_wake t v pool have
-  started_acts t pool (Block p) on have = by_option (HaveProcessors g) (guest_of g pool p) _ _ (λ is. have) (λ v is. started_after_block t p v pool is have)
-  started_acts t pool (Slice r) on have = started_change_core r (λ c. record c { pending = true }) pool (λ c. refl) have
-  started_acts t pool (Repl u) on have = started_after_replenish t u pool have
-  started_acts t pool (Refill d) on have = have
-  started_acts t pool (Arrive p) on have = started_after_arrive t p pool have
-  started_acts t pool (Decide r) on have = by_option (HaveProcessors g) (at_place pool.resources r) _ _ (λ is. have) (λ c is. started_after_decide t r c pool is have)
-  started_acts t pool (Leave p) on have = by_option (HaveProcessors g) (at_place pool.resources (p / g)) _ _ (λ is. have) (λ c is. started_after_leave t p c pool on have)
-  started_acts t pool (Save r) on have = by_option (HaveProcessors g) (at_place pool.resources r) _ _ (λ is. have) (λ c is. by_option (HaveProcessors g) c.saving _ _ (λ is2. have) (λ u is2. started_after_save r u pool have))
+  pub started_steps : (t : ℕ) → KeptBySteps g t (Enabled g t) (HaveProcessors g)
+  started_steps t = record {
+    commands = started_commands;
+    wakes = λ v pool on. started_woken v pool;
+    joins = λ v r q pool is is2 idle awake. started_takes t (r * g + v.n % g) v q pool is2 (not_guest_if_idle q idle);
+    blocks = λ p v pool guest on. started_frees p v (pools.put_to_sleep t) Idle pool guest (λ x. refl);
+    arrives = λ p pool on. started_after_arrive t p pool;
+    decides = λ r c pool at on. started_after_decide t r c pool at;
+    leaves = λ p c pool at on. started_after_leave t p c pool on;
+    saves = λ r c u pool at is on. started_change_core r pools.saved pool (λ x. refl);
+    replenishes = λ u pool on have. have;
+    dues = λ r u x old pool on is. started_change_core r (pools.due_within t x.budget) pool (λ c. refl);
+    refills = λ d pool on have. have;
+  }
 
   -- the commands
-  pub started_set_leaving : (r : ℕ) (pool : Pool) → HaveProcessors g pool → HaveProcessors g (set_leaving r pool)
-  started_set_leaving r pool have = started_change_core r (λ c. record c { leaving = true; pending = c.pending || is_some c.cur }) pool (λ c. refl) have
-
-  started_withdrawn : (d : ℕ) (f : Domain → Domain) (pool : Pool) → ((x : Domain) → (f x).vcpus ≡ x.vcpus) → HaveProcessors g pool → HaveProcessors g (pools.withdrawn d (change_domain d f pool))
-  started_withdrawn d f pool same have =
-      started_change_cores_of d set_pending (record (change_domain d f pool) { scheduler = policy.dequeue_domain d pool.scheduler }) (λ c. refl) (started_change_domain d f pool same have)
-
-  pub started_pause : (d : ℕ) (pool : Pool) → HaveProcessors g pool → HaveProcessors g (pause d pool)
-  started_pause d pool have =
-      by_cond (HaveProcessors g) (test_at pool.domains d (λ domain. domain.paused)) _ _ (λ is. have) (λ is. started_withdrawn d (λ domain. record domain { paused = true }) pool (λ x. refl) have)
-
   pub started_set_moving : (d i : ℕ) (pool : Pool) → HaveProcessors g pool → HaveProcessors g (set_moving d i pool)
-  started_set_moving d i pool have = started_withdrawn d (λ domain. record domain { moving = Some (pool_number i) }) pool (λ x. refl) have
-
-  started_queue_units : (d : ℕ) (units : List ℕ) (pool : Pool) → HaveProcessors g pool → HaveProcessors g (pools.queue_units g d units pool)
-  started_queue_units d [] pool have = have
-  started_queue_units d (n ∷ ns) pool have =
-      let u : UnitId = record { dom = domain_number d; n = n } in
-      started_queue_units d ns (pools.queue_if_off g u pool) (by_cond (HaveProcessors g) (is_runnable g pool u && pools.is_off pool u) (pools.queue_unit u pool) pool (λ is. have) (λ is. have))
-
-  pub started_unpause : (d : ℕ) (pool : Pool) → HaveProcessors g pool → HaveProcessors g (unpause g d pool)
-  started_unpause d pool have =
-      by_option (HaveProcessors g) (at_place pool.domains d) _ _ (λ is. have)
-      (λ domain is. by_cond (HaveProcessors g) domain.paused _ _
-      (λ is2. started_queue_units d (numbers_from 0 (unit_count g domain)) (change_domain d (λ x. record x { paused = false }) pool) (started_change_domain d (λ x. record x { paused = false }) pool (λ x. refl) have)) (λ is2. have))
-
-  started_marked : (change : ParamChange) (t : ℕ) (pool : Pool) → HaveProcessors g pool → HaveProcessors g (pools.marked change t pool)
-  started_marked (changes.Dom d weight (Some percent)) t pool have = started_change_cores_of d.0 (λ c. record c { pending = true; due = Some (moment t) }) pool (λ c. refl) have
-  started_marked (changes.Dom d weight None) t pool have = have
-  started_marked (changes.Rate limit) t pool have = have
-  started_marked (changes.«Unit» u period budget extra) t pool have = have
-  started_marked (changes.Frame frame) t pool have = started_change_each (λ r c. set_pending c) pool (λ r c. refl) have
-  started_marked (changes.Pin d unit cores) t pool have = have
+  started_set_moving d i pool have =
+      let f : Domain → Domain = λ domain. record domain { moving = Some (pool_number i) } in
+      kept_withdrawn started_commands d (change_domain d f pool) (started_change_domain d f pool (λ x. refl) have)
 
   pub started_set_params : (change : ParamChange) (t : ℕ) (pool : Pool) → HaveProcessors g pool → HaveProcessors g (set_params change t pool)
-  started_set_params change t pool have = started_marked change t (record pool { scheduler = policy.set_params change t pool.scheduler }) have
+  started_set_params change t pool have =
+      kept_marked started_commands t
+      (λ d next. started_like _ next (like_of_domain SameProcessors d (capped t) next.resources (λ c. refl) (λ c. refl)))
+      change (record pool { scheduler = policy.set_params change t pool.scheduler }) have
 
   -- what comes and goes
   pub started_core_comes : (r : ℕ) (ends : List Moment) (pool : Pool) → at_place pool.resources r ≡ None → HaveProcessors g pool → HaveProcessors g (record pool { resources = put_at r (fresh_core ends) pool.resources })
@@ -449,7 +388,7 @@ module _ (g : ℕ) where
 
   pub started_with_domain : (t d : ℕ) (domain : Domain) (params : DomParams) (pool : Pool) → ((n : ℕ) (x : Vcpu) → slice_get domain.vcpus n ≡ Some x → x.started ≡ None) → HaveProcessors g pool → HaveProcessors g (with_domain g t d domain params pool)
   started_with_domain t d domain params pool none have =
-      started_queue_units d (numbers_from 0 (unit_count g domain)) (joined g t d domain params pool) (from_have (joined g t d domain params pool) (have_domains pool.domains (put_at d domain pool.domains) pool.resources
+      kept_queue_units started_commands d (numbers_from 0 (unit_count g domain)) (joined g t d domain params pool) (from_have (joined g t d domain params pool) (have_domains pool.domains (put_at d domain pool.domains) pool.resources
       (λ v x from is started.
       let now = vcpu_is (put_at d domain pool.domains) v x is in
       elim (read_put_at d v.dom.0 domain pool.domains now.0 now.1) [

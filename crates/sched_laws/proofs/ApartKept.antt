@@ -15,7 +15,7 @@ use Rattle.sched_model.specs.declared.state.FreeCore.{FreeCore}
 use Rattle.sched_model.specs.Opening.{fresh_core}
 use Rattle.sched_model.specs.declared.action.Action.{Action}
 use Rattle.sched_model.specs.Pool.{settled, without_domain}
-use Rattle.sched_model.specs.declared.action.Action.TheVariants.{Stall, Xl, Moved, DomMoved, Wake, Block, Slice, Repl, Refill, Arrive, Decide, Leave, Save}
+use Rattle.sched_model.specs.declared.action.Action.TheVariants.{Stall, Xl, Moved, DomMoved}
 use Rattle.sched_model.specs.Policy.{default_dom_params}
 use Rattle.sched_model.specs.Actions.{home_of, home_of_core, home_of_domain, change_pool}
 use Rattle.sched_model.specs.Commands.{carried_out, change_home, pool_of_plan}
@@ -70,21 +70,15 @@ free_change_home : (d : ℕ) (f : Pool → Pool) (s : State) → FreeOf s (chang
 free_change_home d f s = by_option (FreeOf s) (home_of_domain s d) _ _ (λ is. free_itself s) (λ i is. free_itself s)
 
 free_carried_out : (m : Machine) (t : ℕ) (p : Plan) (s : State) → FreeOf s (carried_out m t p s)
-free_carried_out m t (plan.PoolList pool answer) s = free_itself s
-free_carried_out m t (plan.PoolCreate i name kind answer) s = free_itself s
-free_carried_out m t (plan.PoolDestroy i answer) s = free_itself s
-free_carried_out m t (plan.PoolRename i name answer) s = free_itself s
 free_carried_out m t (plan.CpuAdd i core answer) s = EachAt-change_at (λ r c. is_some (at_place s.free r) ≡ true) core.0 _ s.free (free_itself s) (λ c at here. here)
-free_carried_out m t (plan.CpuRemove i core answer) s = free_itself s
 free_carried_out m t (plan.Migrate d i j answer) s = by_cond (FreeOf s) (i.0 == j.0) s _ (λ is. free_itself s) (λ is. free_itself s)
 free_carried_out m t (plan.Credit2Dom d weight cap answer) s = free_change_home d.0 _ s
 free_carried_out m t (plan.Credit2Pool i None answer) s = free_itself s
-free_carried_out m t (plan.Credit2Pool i (Some us) answer) s = free_itself s
 free_carried_out m t (plan.RtdsDom d first count period budget extra answer) s = free_change_home d.0 _ s
 free_carried_out m t (plan.Pause d answer) s = free_change_home d.0 _ s
 free_carried_out m t (plan.Unpause d answer) s = free_change_home d.0 _ s
-free_carried_out m t (plan.ArincSet i frame answer) s = free_itself s
 free_carried_out m t (plan.Pin d unit cores answer) s = free_change_home d.0 _ s
+free_carried_out m t p s = free_itself s
 
 free_settled_at : (t : ℕ) (home : Option ℕ) (s next : State) → FreeOf s next → FreeOf s (settled_at t home next)
 free_settled_at t None s next here = here
@@ -109,15 +103,7 @@ free_staying m s t Stall stays = free_stall m.config.granularity t (slice_get m.
 free_staying m s t Xl stays = by_option (FreeOf s) (slice_get m.work.commands s.next_command) _ _ (λ is. free_itself s) (λ line is. free_command m t line s)
 free_staying m s t (Moved r) stays = absurd stays
 free_staying m s t (DomMoved d) stays = absurd stays
-free_staying m s t (Wake v) stays = free_at_home m.config.granularity t (Wake v) s
-free_staying m s t (Block p) stays = free_at_home m.config.granularity t (Block p) s
-free_staying m s t (Slice r) stays = free_at_home m.config.granularity t (Slice r) s
-free_staying m s t (Repl u) stays = free_at_home m.config.granularity t (Repl u) s
-free_staying m s t (Refill d) stays = free_at_home m.config.granularity t (Refill d) s
-free_staying m s t (Arrive p) stays = free_at_home m.config.granularity t (Arrive p) s
-free_staying m s t (Decide r) stays = free_at_home m.config.granularity t (Decide r) s
-free_staying m s t (Leave p) stays = free_at_home m.config.granularity t (Leave p) s
-free_staying m s t (Save r) stays = free_at_home m.config.granularity t (Save r) s
+free_staying m s t action stays = free_at_home m.config.granularity t action s
 
 -- the pools have what they had, and what is free was free
 apart_staying : (m : Machine) (s : State) (t : ℕ) (action : Action) → IsStayingAction action → is_enabled m s t action ≡ true → IsApart s → IsApart (after m s t action)
@@ -236,14 +222,4 @@ apart_domain_moved g t d s apart =
 pub apart_after : (m : Machine) (s : State) (t : ℕ) (action : Action) → is_enabled m s t action ≡ true → IsApart s → IsApart (after m s t action)
 apart_after m s t (Moved r) on apart = apart_moved t r s apart
 apart_after m s t (DomMoved d) on apart = apart_domain_moved m.config.granularity t d s apart
-apart_after m s t Stall on apart = apart_staying m s t Stall tt on apart
-apart_after m s t Xl on apart = apart_staying m s t Xl tt on apart
-apart_after m s t (Wake v) on apart = apart_staying m s t (Wake v) tt on apart
-apart_after m s t (Block p) on apart = apart_staying m s t (Block p) tt on apart
-apart_after m s t (Slice r) on apart = apart_staying m s t (Slice r) tt on apart
-apart_after m s t (Repl u) on apart = apart_staying m s t (Repl u) tt on apart
-apart_after m s t (Refill d) on apart = apart_staying m s t (Refill d) tt on apart
-apart_after m s t (Arrive p) on apart = apart_staying m s t (Arrive p) tt on apart
-apart_after m s t (Decide r) on apart = apart_staying m s t (Decide r) tt on apart
-apart_after m s t (Leave p) on apart = apart_staying m s t (Leave p) tt on apart
-apart_after m s t (Save r) on apart = apart_staying m s t (Save r) tt on apart
+apart_after m s t action on apart = apart_staying m s t action tt on apart

@@ -49,3 +49,8 @@ clash false a b = absurd (cc)
 -- a number is itself, and no other
 pub is_same : (a b : ℕ) → a ≡ b → (a == b) ≡ true
 is_same a b e = grind arith
+
+-- what makes another true is false where that is
+pub false_before : (a b : Bool) → (a ≡ true → b ≡ true) → b ≡ false → a ≡ false
+false_before true b to is = absurd (clash b (to refl) is)
+false_before false b to is = refl

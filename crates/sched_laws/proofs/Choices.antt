@@ -2,7 +2,6 @@
 use Rattle.std.proofs.Common.{◌≡◌, Bool, true, List, [], ◌∷◌, subst, sym, ap, cond, arith, inl, inr}
 use Rattle.std.specs.List.{AllByRecursion}
 use Rattle.std.specs.Prelude.{Option, Some, None, ◌&&◌, ◌||◌, int_lt, nat_lt}
-use Rattle.std.specs.Option.{IfSome}
 use Rattle.sched_base.specs.declared.UnitId.{UnitId}
 use Rattle.sched_model.specs.Places.{is_unit, has_unit, same_unit}
 use Rattle.sched_model.specs.declared.state.Scheduler.{Scheduler}

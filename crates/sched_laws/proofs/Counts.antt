@@ -5,10 +5,10 @@ use Rattle.std.specs.List.{list_any, AllByRecursion}
 use Rattle.std.proofs.lemmas.List.Sums.{sum_by-cons}
 use Rattle.std.proofs.Math.Decide.{dec_le}
 use Rattle.sched_base.specs.declared.UnitId.{UnitId}
-use Rattle.sched_model.specs.Places.{at_place, put_at, clear_at, change_at, change_each, numbered, is_unit, has_unit, same_unit}
+use Rattle.sched_model.specs.Places.{at_place, put_at, clear_at, change_at, change_each, numbered, has_unit, same_unit}
 use Rattle.sched_laws.specs.Each.{EachPlace}
 use Rattle.sched_laws.proofs.Choices.{same_unit_same}
-use Rattle.sched_laws.specs.Counts.{total, one, one_at, times}
+use Rattle.sched_laws.specs.Counts.{total, one, times}
 
 pub total_is : {X : Type 0} (f : X → ℕ) (n : ℕ) (places : List (Option X)) → sum_by (λ (e : ℕ × X). f e.1) (numbered n places) ≡ total f places
 total_is f n [] = refl

@@ -1,28 +1,22 @@
 -- Each core has all its processors, and until the due of a core that is neither leaving nor pending the window of its pool stays the same.
 use Rattle.std.proofs.Common.{◌≡◌, ◌<◌, ◌≤◌, ℕ, true, false, List, [], ◌∷◌, refl, arith, subst, sym, ◌∙◌, ap, cond, Bool}
-use Rattle.std.specs.Prelude.{Option, Some, None, is_some, length, ◌&&◌, ◌||◌, ◌+◌, ◌*◌, ◌/◌, ◌%◌, nat_le}
-use Rattle.std.specs.List.{list_any}
-use Rattle.sched_base.specs.Numbers.{moment, domain as domain_number}
+use Rattle.std.specs.Prelude.{Option, Some, None, length, nat_le}
 use Rattle.sched_base.specs.declared.Moment.{Moment}
 use Rattle.sched_base.specs.declared.UnitId.{UnitId}
-use Rattle.sched_base.specs.declared.VcpuId.{VcpuId}
 use Rattle.sched_model.specs.declared.config.ParamChange.{ParamChange}
 use Rattle.sched_model.specs.declared.config.DomParams.{DomParams}
 use Rattle.sched_model.specs.declared.config.ParamChange.TheVariants as changes
 use Rattle.sched_model.specs.declared.config.Frame.{Frame}
 use Rattle.sched_model.specs.declared.state.Domain.{Domain}
-use Rattle.sched_model.specs.declared.state.Doing.TheVariants.{Guest, Idle, Held}
-use Rattle.sched_model.specs.declared.state.Stage.TheVariants.{Open}
-use Rattle.sched_model.specs.declared.state.Processor.{Processor}
 use Rattle.sched_model.specs.declared.state.Resource.{Resource}
-use Rattle.sched_model.specs.Places.{at_place, put_at, clear_at, change_at, change_each, change_item, test_at, numbers_from}
+use Rattle.sched_model.specs.Places.{at_place, put_at, clear_at, numbers_from}
 use Rattle.sched_model.specs.declared.state.Pool.{Pool}
 use Rattle.sched_model.specs.declared.state.Scheduler.{Scheduler}
 use Rattle.sched_model.specs.declared.state.Records.{Records}
 use Rattle.sched_model.specs.declared.state.Credit2Records.{Credit2Records}
 use Rattle.sched_model.specs.declared.state.ArincRecords.{ArincRecords}
 use Rattle.sched_model.specs.declared.state.RtdsUnit.{RtdsUnit}
-use Rattle.sched_model.specs.State.{is_runnable, has_come}
+use Rattle.sched_model.specs.State.{has_come}
 use Rattle.sched_model.specs.declared.state.Records.TheVariants.{Credit2Pool, RtdsPool, ArincPool, NullPool}
 use Rattle.sched_model.specs.Opening.{fresh_core}
 use Rattle.sched_model.specs.Arinc.{Window, window_at, window_unit, present_window}
@@ -34,11 +28,9 @@ use Rattle.sched_model.specs.Credit2 as credit2
 use Rattle.sched_model.specs.Rtds as rtds
 use Rattle.sched_model.specs.NullScheduler as null
 use Rattle.sched_model.specs.Pool as pools
-use Rattle.sched_model.specs.declared.action.Action.{Action}
 use Rattle.sched_model.specs.Pool.{enabled_in, after_in, settled, home_cores, reconsidered, change_core, change_processor, change_vcpu, change_domain, change_cores_of, does, started_on, decided, same_choice, ask_of, set_leaving, set_moving, set_pending, pause, unpause, set_params, without_domain, with_domain, is_of_domain, is_held, is_open, processor_of, guest_of}
-use Rattle.sched_model.specs.declared.action.Action.TheVariants.{Stall, Xl, Moved, DomMoved, Wake, Block, Slice, Repl, Refill, Arrive, Decide, Leave, Save}
 use Rattle.sched_laws.specs.Each.{EachPlace}
-use Rattle.sched_laws.proofs.EachPlace.{EachPlace-change_at, EachPlace-put_at, EachPlace-clear_at, EachPlace-change_each, read_change_each, by_option, by_test, by_cond}
+use Rattle.sched_laws.proofs.EachPlace.{EachPlace-change_at, EachPlace-put_at, EachPlace-clear_at, read_change_each, by_option, by_test, by_cond}
 use Rattle.sched_base.specs.Numbers.{span}
 use Rattle.sched_base.specs.declared.Span.{Span}
 use Rattle.std.specs.Prelude.{unwrap_or}
@@ -47,9 +39,9 @@ use Rattle.sched_laws.proofs.Fits.{ChangeFits}
 use Rattle.sched_laws.proofs.Records as records_lemmas
 use Rattle.sched_laws.proofs.Records.{IsNoFrame}
 use Rattle.sched_laws.proofs.Window.{FitsMajor, unit_steady}
-use Rattle.sched_laws.proofs.Bools.{or_left}
+use Rattle.sched_laws.proofs.Bools.{false_before}
+use Rattle.sched_laws.proofs.Events.{LikePlaces, EachAt-like, capped, like_of_domain, KeepsCore, Anyway, KeptByCommands, KeptByParts, commands_of, kept_marked, kept_queue_units}
 use Rattle.sched_laws.proofs.EachPlace.{length_set, length_change_each}
-use Rattle.sched_laws.proofs.Lists.{length_change_item}
 
 -- what ARINC 653 keeps of the pool, where the pool has windows
 abbrev pub arinc_of : Records → Option ArincRecords
@@ -82,10 +74,6 @@ pub record PoolFits (n g t : ℕ) (records : Records) (places : List (Option Res
   pub frame : FrameFits records
   pub cores : EachPlace (CoreFits g t records) places
 
--- the core keeps its due
-abbrev KeepsDue : Resource → Resource → Type 0
-KeepsDue c d = (length d.processors ≡ length c.processors) × (d.due ≡ c.due) × (d.leaving ≡ false → c.leaving ≡ false) × (d.pending ≡ false → c.pending ≡ false)
-
 -- only ARINC 653 has windows
 no_credit2 : (a b : Credit2Records) → arinc_of (Credit2Pool a) ≡ arinc_of (Credit2Pool b)
 no_credit2 a b = refl
@@ -101,9 +89,7 @@ same_changed = records_lemmas.same_changed arinc_of no_credit2 no_rtds
 
 pub same_parted : (records : Records) (d : ℕ) → SameWindows records (parted_records records d)
 same_parted (Credit2Pool records) d = refl
-same_parted (RtdsPool domains) d = refl
-same_parted (ArincPool records) d = refl
-same_parted (NullPool kept) d = refl
+same_parted records d = refl
 
 frame_changed : (records : Records) (frame : Frame) (t : ℕ) → FitsMajor frame → FrameFits records → FrameFits (changed_records records (changes.Frame frame) t)
 frame_changed (Credit2Pool records) frame t good fits arinc other is has = absurd (cc)
@@ -167,10 +153,10 @@ module _ (n g t : ℕ) where
   D pool = PoolFits n g t pool.scheduler.records pool.resources
 
   -- a core that keeps its due, or becomes pending
-  fits_kept : (records : Records) (c d : Resource) → KeepsDue c d → CoreFits g t records c → CoreFits g t records d
+  fits_kept : (records : Records) (c d : Resource) → KeepsCore c d → CoreFits g t records c → CoreFits g t records d
   fits_kept records c d keeps fits = record {
-    processors = keeps.0 ∙ fits.processors;
-    due = λ stays decided later past low. fits.due (keeps.2 stays) (keeps.3 decided) later past (ap (has_come later) (sym keeps.1) ∙ low);
+    processors = keeps.count ∙ fits.processors;
+    due = λ stays decided later past low. fits.due (false_before c.leaving d.leaving keeps.leaving stays) (false_before c.pending d.pending keeps.pending decided) later past (ap (has_come later) (sym keeps.due) ∙ low);
   }
 
   fits_pending : (records : Records) (c d : Resource) → length d.processors ≡ length c.processors → d.pending ≡ true → CoreFits g t records c → CoreFits g t records d
@@ -188,69 +174,6 @@ module _ (n g t : ℕ) where
     frame = fits.frame;
     cores = EachPlace-change_at (CoreFits g t pool.scheduler.records) r f pool.resources fits.cores keeps;
   }
-
-  d_change_each : (f : ℕ → Resource → Resource) (pool : Pool) → ((r : ℕ) (c : Resource) → CoreFits g t pool.scheduler.records c → CoreFits g t pool.scheduler.records (f r c)) → D pool → D (record pool { resources = change_each 0 f pool.resources })
-  d_change_each f pool keeps fits = record {
-    count = length_change_each 0 f pool.resources ∙ fits.count;
-    frame = fits.frame;
-    cores = EachPlace-change_each (CoreFits g t pool.scheduler.records) f pool.resources fits.cores (λ r c at. keeps r c);
-  }
-
-  pub d_change_processor : (p : ℕ) (f : Processor → Processor) (pool : Pool) → D pool → D (change_processor g p f pool)
-  d_change_processor p f pool fits =
-      d_change_core (p / g) (λ c. record c { processors = change_item (p % g) f c.processors }) pool
-      (λ c at here. fits_kept pool.scheduler.records c _ (length_change_item (p % g) f c.processors, refl, λ e. e, λ e. e) here) fits
-
-  d_started_on : (p : ℕ) (v : VcpuId) (pool : Pool) → D pool → D (started_on g t p v pool)
-  d_started_on p v pool fits = d_change_processor p (does (Guest v)) (change_vcpu v (λ x. record x { started = Some (moment t) }) pool) fits
-
-  pub d_settled : (pool : Pool) → D pool → D (settled t pool)
-  d_settled pool fits =
-      d_change_each (reconsidered t (home_cores pool) pool.scheduler) pool
-      (λ r c here. by_cond (CoreFits g t pool.scheduler.records) c.leaving c _ (λ is. here) (λ is. fits_kept pool.scheduler.records c _ (refl, refl, λ e. e, λ e. or_left c.pending _ e) here)) fits
-
-  d_joined_siblings : (v : VcpuId) (pool : Pool) → D pool → D (pools.joined_siblings g t v pool)
-  d_joined_siblings v pool fits =
-      by_option D (pools.core_of pool (pools.unit_of g v)) _ _ (λ is. fits)
-      (λ r is. by_option D (processor_of g pool (r * g + v.n % g)) _ _ (λ is2. fits)
-      (λ q is2. by_cond D (pools.is_idle q) _ _ (λ idle. d_started_on (r * g + v.n % g) v pool fits) (λ idle. fits)))
-
-  d_after_wake : (v : VcpuId) (pool : Pool) → D pool → D (pools.after_wake g t v pool)
-  d_after_wake v pool fits =
-      let next : Pool = change_vcpu v pools.woken pool in
-      by_test D (is_runnable g next (pools.unit_of g v)) _ _
-      (λ runs. by_cond D (pools.is_off next (pools.unit_of g v)) _ _ (λ off. fits) (λ off. d_joined_siblings v next fits))
-      (λ runs. fits)
-
-  d_after_block : (q : ℕ) (v : VcpuId) (pool : Pool) → D pool → D (pools.after_block g t q v pool)
-  d_after_block q v pool fits =
-      let next : Pool = change_processor g q (does Idle) (change_vcpu v (pools.put_to_sleep t) pool) in
-      let here : D next = d_change_processor q (does Idle) (change_vcpu v (pools.put_to_sleep t) pool) fits in
-      by_cond D (is_runnable g next (pools.unit_of g v)) _ _ (λ runs. here) (λ runs. d_change_core (q / g) (λ c. record c { pending = true }) next (λ c at old. fits_pending next.scheduler.records c _ refl refl old) here)
-
-  d_after_arrive : (q : ℕ) (pool : Pool) → D pool → D (pools.after_arrive g t q pool)
-  d_after_arrive q pool fits =
-      by_option (λ (next : Pool). D (change_processor g q (does Held) next)) (guest_of g pool q) _ _
-      (λ is. d_change_processor q (does Held) pool fits) (λ v is. d_change_processor q (does Held) (change_vcpu v (pools.stopped t) pool) fits)
-
-  d_open : (q : ℕ) (pool : Pool) → D pool → D (change_core (q / g) pools.open_if_left pool)
-  d_open q pool fits =
-      d_change_core (q / g) pools.open_if_left pool
-      (λ c at here. by_cond (CoreFits g t pool.scheduler.records) (list_any is_held c.processors) c (record c { stage = Open }) (λ is. here) (λ is. fits_kept pool.scheduler.records c _ (refl, refl, λ e. e, λ e. e) here)) fits
-
-  d_after_leave : (q : ℕ) (c : Resource) (pool : Pool) → D pool → D (pools.after_leave g t q c pool)
-  d_after_leave q c pool fits =
-      by_option (λ (next : Pool). D (change_core (q / g) pools.open_if_left next)) (pools.vcpu_for g pool c (q % g)) _ _
-      (λ is. d_open q (change_processor g q (does Idle) pool) (d_change_processor q (does Idle) pool fits)) (λ v is. d_open q (started_on g t q v pool) (d_started_on q v pool fits))
-
-  d_after_replenish : (u : UnitId) (pool : Pool) → D pool → D (pools.after_replenish t u pool)
-  d_after_replenish u pool fits =
-      let records : Records = policy.replenish pool.scheduler.records t u in
-      let next : Pool = pools.with_records records pool in
-      let here : D next = d_records pool.scheduler.records records pool.resources (records_lemmas.same_replenish arinc_of no_credit2 no_rtds pool.scheduler.records t u) fits in
-      by_option D (pools.core_of pool u) _ _ (λ is. here)
-      (λ r is. by_option D (rtds_record records u) _ _ (λ is2. here)
-      (λ x is2. d_change_core r (pools.due_within t x.budget) next (λ c at old. record { processors = old.processors; due = λ stays decided later past low. no_windows records u x is2 later t }) here))
 
   d_after_decide : (r : ℕ) (c : Resource) (pool : Pool) → at_place pool.resources r ≡ Some c → D pool → D (pools.after_decide g t r c pool)
   d_after_decide r c pool at fits =
@@ -271,55 +194,41 @@ module _ (n g t : ℕ) where
             (by_test (CoreFits g t decision.records) (same_choice decision.unit c.cur) _ _ (λ is. now_decided _ refl refl refl) (λ is. now_decided _ refl refl refl));
       }
 
-  d_after_save : (r : ℕ) (u : UnitId) (pool : Pool) → D pool → D (pools.after_save g r u pool)
-  d_after_save r u pool fits =
-      let here : D (change_core r pools.saved pool) = d_change_core r pools.saved pool (λ c at old. fits_kept pool.scheduler.records c _ (refl, refl, λ e. e, λ e. e) old) fits in
-      by_cond D (is_runnable g pool u) _ _ (λ runs. here) (λ runs. here)
+  pub d_parts : KeptByParts g t Anyway D
+  d_parts = record {
+    cores = λ cores pool like fits. record {
+      count = like.count ∙ fits.count;
+      frame = fits.frame;
+      cores = EachAt-like KeepsCore (λ r. CoreFits g t pool.scheduler.records) pool.resources cores like (λ r c d. fits_kept pool.scheduler.records c d) fits.cores;
+    };
+    domains = λ d f pool count moving fits. fits;
+    queues = λ u pool runs fits. fits;
+    dequeues = λ d pool fits. fits;
+    decides = λ r c pool at on. d_after_decide r c pool at;
+    saves = λ r c u pool at is on. d_change_core r pools.saved pool (λ x there old. record { processors = old.processors; due = old.due });
+    replenishes = λ u pool on. d_records pool.scheduler.records (policy.replenish pool.scheduler.records t u) pool.resources (records_lemmas.same_replenish arinc_of no_credit2 no_rtds pool.scheduler.records t u);
+    dues = λ r u x old pool on is. d_change_core r (pools.due_within t x.budget) pool (λ c at here. record { processors = here.processors; due = λ stays decided later past low. no_windows pool.scheduler.records u x is later t });
+    refills = λ d pool on. d_records pool.scheduler.records (policy.refill pool.scheduler.records t d) pool.resources (records_lemmas.same_refill arinc_of no_credit2 no_rtds pool.scheduler.records t d);
+  }
 
-  pub d_acts : (pool : Pool) (action : Action) → D pool → D (after_in g t pool action)
-  d_acts pool Stall fits = fits
-  d_acts pool Xl fits = fits
-  d_acts pool (Moved r) fits = fits
-  d_acts pool (DomMoved d) fits = fits
-  d_acts pool (Wake v) fits = d_after_wake v pool fits
-  d_acts pool (Block q) fits = by_option D (guest_of g pool q) _ _ (λ is. fits) (λ v is. d_after_block q v pool fits)
-  d_acts pool (Slice r) fits = d_change_core r (λ c. record c { pending = true }) pool (λ c at old. fits_pending pool.scheduler.records c _ refl refl old) fits
-  d_acts pool (Repl u) fits = d_after_replenish u pool fits
-  d_acts pool (Refill d) fits = d_records pool.scheduler.records (policy.refill pool.scheduler.records t d) pool.resources (records_lemmas.same_refill arinc_of no_credit2 no_rtds pool.scheduler.records t d) fits
-  d_acts pool (Arrive q) fits = d_after_arrive q pool fits
-  d_acts pool (Decide r) fits = by_option D (at_place pool.resources r) _ _ (λ is. fits) (λ c is. d_after_decide r c pool is fits)
-  d_acts pool (Leave q) fits = by_option D (at_place pool.resources (q / g)) _ _ (λ is. fits) (λ c is. d_after_leave q c pool fits)
-  d_acts pool (Save r) fits = by_option D (at_place pool.resources r) _ _ (λ is. fits) (λ c is. by_option D c.saving _ _ (λ is2. fits) (λ u is2. d_after_save r u pool fits))
+  pub d_commands : KeptByCommands g D
+  d_commands = commands_of d_parts
 
-  d_change_cores_of : (d : ℕ) (f : Resource → Resource) (pool : Pool) → ((c : Resource) → CoreFits g t pool.scheduler.records c → CoreFits g t pool.scheduler.records (f c)) → D pool → D (change_cores_of d f pool)
-  d_change_cores_of d f pool keeps fits = d_change_each (λ r c. cond (is_of_domain d c.cur) (f c) c) pool (λ r c here. by_cond (CoreFits g t pool.scheduler.records) (is_of_domain d c.cur) (f c) c (λ is. keeps c here) (λ is. here)) fits
-
-  d_queue_units : (d : ℕ) (units : List ℕ) (pool : Pool) → D pool → D (pools.queue_units g d units pool)
-  d_queue_units d [] pool fits = fits
-  d_queue_units d (k ∷ ks) pool fits =
-      let u : UnitId = record { dom = domain_number d; n = k } in
-      d_queue_units d ks _ (by_cond D (is_runnable g pool u && pools.is_off pool u) _ _ (λ is. fits) (λ is. fits))
-
-  pub d_withdrawn : (d : ℕ) (f : Domain → Domain) (pool : Pool) → D pool → D (pools.withdrawn d (change_domain d f pool))
-  d_withdrawn d f pool fits = d_change_cores_of d set_pending (record pool { domains = change_at d f pool.domains; scheduler = policy.dequeue_domain d pool.scheduler }) (λ c here. fits_pending pool.scheduler.records c _ refl refl here) fits
-
-  pub d_pause : (d : ℕ) (pool : Pool) → D pool → D (pause d pool)
-  d_pause d pool fits = by_cond D (test_at pool.domains d (λ x. x.paused)) _ _ (λ is. fits) (λ is. d_withdrawn d (λ x. record x { paused = true }) pool fits)
-
-  pub d_unpause : (d : ℕ) (pool : Pool) → D pool → D (unpause g d pool)
-  d_unpause d pool fits =
-      by_option D (at_place pool.domains d) _ _ (λ is. fits)
-      (λ domain is. by_cond D domain.paused _ _ (λ is2. d_queue_units d (numbers_from 0 (pools.unit_count g domain)) (change_domain d (λ x. record x { paused = false }) pool) fits) (λ is2. fits))
+  d_caps : (d : ℕ) (pool : Pool) → D pool → D (change_cores_of d (capped t) pool)
+  d_caps d pool fits =
+      let Fits : Resource → Type 0 = CoreFits g t pool.scheduler.records in
+      let like : LikePlaces (λ c e. Fits c → Fits e) pool.resources (change_cores_of d (capped t) pool).resources = like_of_domain (λ c e. Fits c → Fits e) d (capped t) pool.resources (λ c here. here) (λ c. fits_pending pool.scheduler.records c _ refl refl) in
+      record { count = like.count ∙ fits.count; frame = fits.frame; cores = EachAt-like (λ c e. Fits c → Fits e) (λ r. Fits) pool.resources _ like (λ r c e to. to) fits.cores }
 
   d_changed : (change : ParamChange) (pool : Pool) → IsNoFrame change → D pool → D (record pool { scheduler = policy.set_params change t pool.scheduler })
   d_changed change pool none fits = d_records pool.scheduler.records (changed_records pool.scheduler.records change t) pool.resources (same_changed pool.scheduler.records change t none) fits
 
+  d_marked : (change : ParamChange) (pool : Pool) → IsNoFrame change → D pool → D (set_params change t pool)
+  d_marked change pool none fits = kept_marked d_commands t d_caps change (record pool { scheduler = policy.set_params change t pool.scheduler }) (d_changed change pool none fits)
+
   pub d_set_params : (change : ParamChange) (pool : Pool) → ChangeFits change → D pool → D (set_params change t pool)
-  d_set_params (changes.Dom d weight (Some percent)) pool good fits =
-      d_change_cores_of d.0 (λ c. record c { pending = true; due = Some (moment t) }) (record pool { scheduler = policy.set_params (changes.Dom d weight (Some percent)) t pool.scheduler })
-      (λ c here. fits_pending (changed_records pool.scheduler.records (changes.Dom d weight (Some percent)) t) c _ refl refl here) (d_changed (changes.Dom d weight (Some percent)) pool tt fits)
-  d_set_params (changes.Dom d weight None) pool good fits = d_changed (changes.Dom d weight None) pool tt fits
-  d_set_params (changes.Rate limit) pool good fits = d_changed (changes.Rate limit) pool tt fits
+  d_set_params (changes.Dom d weight percent) pool good fits = d_marked (changes.Dom d weight percent) pool tt fits
+  d_set_params (changes.Rate limit) pool good fits = d_marked (changes.Rate limit) pool tt fits
   d_set_params (changes.«Unit» u period budget extra) pool good fits = absurd good
   d_set_params (changes.Frame frame) pool good fits = record {
     count = length_change_each 0 _ pool.resources ∙ fits.count;
@@ -329,19 +238,16 @@ module _ (n g t : ℕ) where
         subst (CoreFits g t (changed_records pool.scheduler.records (changes.Frame frame) t)) old.2
         (record { processors = (fits.cores r old.0 old.1).processors; due = λ stays decided2 later past low. absurd (cc) }));
   }
-  d_set_params (changes.Pin d unit cores) pool good fits = d_changed (changes.Pin d unit cores) pool tt fits
+  d_set_params (changes.Pin d unit cores) pool good fits = d_marked (changes.Pin d unit cores) pool tt fits
 
   pub d_set_rtds_unit : (period budget : Option Span) (extra : Option Bool) (u : UnitId) (pool : Pool) → D pool → D (set_rtds_unit t period budget extra u pool)
   d_set_rtds_unit period budget extra u pool fits =
       by_option D (rtds_record pool.scheduler.records u) _ _ (λ is. fits)
       (λ x is. d_changed (changes.«Unit» u (unwrap_or period (span x.next_period)) (unwrap_or budget (span x.next_budget)) (unwrap_or extra x.next_extra)) pool tt fits)
 
-  pub d_set_leaving : (r : ℕ) (pool : Pool) → D pool → D (set_leaving r pool)
-  d_set_leaving r pool fits = d_change_core r (λ c. record c { leaving = true; pending = c.pending || is_some c.cur }) pool (λ c at old. record { processors = old.processors; due = λ stays decided2 later past low. absurd (cc) }) fits
-
   pub d_with_domain : (d : ℕ) (domain : Domain) (params : DomParams) (pool : Pool) → D pool → D (with_domain g t d domain params pool)
   d_with_domain d domain params pool fits =
-      d_queue_units d (numbers_from 0 (pools.unit_count g domain)) (record pool { domains = put_at d domain pool.domains; scheduler = policy.join d (pools.unit_count g domain) params t pool.scheduler })
+      kept_queue_units d_commands d (numbers_from 0 (pools.unit_count g domain)) (record pool { domains = put_at d domain pool.domains; scheduler = policy.join d (pools.unit_count g domain) params t pool.scheduler })
       (d_records pool.scheduler.records (joined_records pool.scheduler.records params d (pools.unit_count g domain) t) pool.resources (same_joined pool.scheduler.records params d (pools.unit_count g domain) t) fits)
 
   length_processors : (ends : List Moment) → length (fresh_core ends).processors ≡ length ends

@@ -61,21 +61,30 @@ at_place-put_at i x [] inside = absurd (omega (arith, inside))
 at_place-put_at zero x (p ∷ places) inside = refl
 at_place-put_at (suc i) x (p ∷ places) inside = at_place-put_at i x places (omega (arith, inside))
 
+-- what stands at another place than the one that is set
+pub at_place-set_other : {X : Type 0} (i j : ℕ) (o : Option X) (places : List (Option X)) → i ≢ j → at_place (slice_set places i o) j ≡ at_place places j
+at_place-set_other zero j o [] other = refl
+at_place-set_other (suc i) j o [] other = refl
+at_place-set_other zero zero o (p ∷ places) other = absurd (other refl)
+at_place-set_other zero (suc j) o (p ∷ places) other = refl
+at_place-set_other (suc i) zero o (p ∷ places) other = refl
+at_place-set_other (suc i) (suc j) o (p ∷ places) other = at_place-set_other i j o places (λ e. other (ap suc e))
+
 pub at_place-put_at_other : {X : Type 0} (i j : ℕ) (x : X) (places : List (Option X)) → j ≢ i → at_place (put_at i x places) j ≡ at_place places j
-at_place-put_at_other zero j x [] other = refl
-at_place-put_at_other (suc i) j x [] other = refl
-at_place-put_at_other zero zero x (p ∷ places) other = absurd (other refl)
-at_place-put_at_other zero (suc j) x (p ∷ places) other = refl
-at_place-put_at_other (suc i) zero x (p ∷ places) other = refl
-at_place-put_at_other (suc i) (suc j) x (p ∷ places) other = at_place-put_at_other i j x places (λ e. other (ap suc e))
+at_place-put_at_other i j x places other = at_place-set_other i j (Some x) places (λ e. other (sym e))
 
 pub at_place-clear_at_other : {X : Type 0} (i j : ℕ) (places : List (Option X)) → j ≢ i → at_place (clear_at i places) j ≡ at_place places j
-at_place-clear_at_other zero j [] other = refl
-at_place-clear_at_other (suc i) j [] other = refl
-at_place-clear_at_other zero zero (p ∷ places) other = absurd (other refl)
-at_place-clear_at_other zero (suc j) (p ∷ places) other = refl
-at_place-clear_at_other (suc i) zero (p ∷ places) other = refl
-at_place-clear_at_other (suc i) (suc j) (p ∷ places) other = at_place-clear_at_other i j places (λ e. other (ap suc e))
+at_place-clear_at_other i j places other = at_place-set_other i j None places (λ e. other (sym e))
+
+pub at_place-change_at_other : {X : Type 0} (i j : ℕ) (f : X → X) (places : List (Option X)) → j ≢ i → at_place (change_at i f places) j ≡ at_place places j
+at_place-change_at_other i j f places other = at_place-set_other i j (option_map f (at_place places i)) places (λ e. other (sym e))
+
+-- what stands at a place that is changed
+pub at_place-change_at : {X : Type 0} (i : ℕ) (f : X → X) (places : List (Option X)) → at_place (change_at i f places) i ≡ option_map f (at_place places i)
+at_place-change_at zero f [] = refl
+at_place-change_at (suc i) f [] = refl
+at_place-change_at zero f (p ∷ places) = refl
+at_place-change_at (suc i) f (p ∷ places) = at_place-change_at i f places
 
 pub place_below : {X : Type 0} (places : List (Option X)) (i : ℕ) (x : X) → at_place places i ≡ Some x → i < length places
 place_below [] i x at = absurd (cc)

@@ -1,5 +1,5 @@
 -- The moment and the free cores after an action.
-use Rattle.std.proofs.Common.{◌≡◌, ℕ, suc, List, [], ◌∷◌, refl}
+use Rattle.std.proofs.Common.{◌≡◌, ℕ, suc, List, refl}
 use Rattle.std.specs.Prelude.{Option, Some, None, Ok, Err, slice_get, map, ◌==◌, ◌+◌, ◌/◌, ◌%◌}
 use Rattle.sched_base.specs.Numbers.{moment}
 use Rattle.sched_base.specs.declared.Moment.{Moment}
@@ -15,7 +15,7 @@ use Rattle.sched_model.specs.declared.state.FreeCore.{FreeCore}
 use Rattle.sched_model.specs.declared.state.Processor.{Processor}
 use Rattle.sched_model.specs.declared.state.Resource.{Resource}
 use Rattle.sched_model.specs.declared.action.Action.{Action}
-use Rattle.sched_model.specs.declared.action.Action.TheVariants.{Stall, Xl, Moved, DomMoved, Wake, Block, Slice, Repl, Refill, Arrive, Decide, Leave, Save}
+use Rattle.sched_model.specs.declared.action.Action.TheVariants.{Stall, Xl, Moved, DomMoved}
 use Rattle.sched_model.specs.Places.{at_place, change_item}
 use Rattle.sched_model.specs.Actions.{home_of, home_of_core, home_of_domain}
 use Rattle.sched_model.specs.Commands.{carried_out, change_home, pool_of_plan}
@@ -32,21 +32,15 @@ module _ (g : ℕ) (Ends : List Moment → Type 0) (s : State) (fits : FreeFits 
   free_home d f k = by_option FreeNow (home_of_domain s d) _ _ (λ is. (refl, fits)) (λ i is. (refl, fits))
 
   free_plan : (m : Machine) (t k : ℕ) (p : Plan) → FreeNow (carried_out m t p (record s { next_command = k }))
-  free_plan m t k (plan.PoolList pool answer) = (refl, fits)
-  free_plan m t k (plan.PoolCreate i name kind answer) = (refl, fits)
-  free_plan m t k (plan.PoolDestroy i answer) = (refl, fits)
-  free_plan m t k (plan.PoolRename i name answer) = (refl, fits)
   free_plan m t k (plan.CpuAdd i core answer) = (refl, EachPlace-change_at (λ (c : FreeCore). Ends c.stall_ends) core.0 _ s.free fits (λ c at here. here))
-  free_plan m t k (plan.CpuRemove i core answer) = (refl, fits)
   free_plan m t k (plan.Migrate d i j answer) = by_cond FreeNow (i.0 == j.0) (record s { next_command = k }) _ (λ is. (refl, fits)) (λ is. (refl, fits))
   free_plan m t k (plan.Credit2Dom d weight percent answer) = free_home d.0 _ k
   free_plan m t k (plan.Credit2Pool i None answer) = (refl, fits)
-  free_plan m t k (plan.Credit2Pool i (Some us) answer) = (refl, fits)
   free_plan m t k (plan.RtdsDom d first count period budget extra answer) = free_home d.0 _ k
   free_plan m t k (plan.Pause d answer) = free_home d.0 _ k
   free_plan m t k (plan.Unpause d answer) = free_home d.0 _ k
-  free_plan m t k (plan.ArincSet i frame answer) = (refl, fits)
   free_plan m t k (plan.Pin d unit cores answer) = free_home d.0 _ k
+  free_plan m t k p = (refl, fits)
 
   free_settled : (t : ℕ) (home : Option ℕ) (next : State) → FreeNow next → FreeNow (settled_at t home next)
   free_settled t None next here = here
@@ -92,12 +86,4 @@ module _ (m : Machine) (t : ℕ) (End : ℕ → Type 0) (Ends : List Moment → 
   free_after s Xl fits ends each = by_option (FreeNow m.config.granularity Ends s fits) (slice_get m.work.commands s.next_command) _ _ (λ is. (refl, fits)) (λ line is. free_command m.config.granularity Ends s fits m t line)
   free_after s (Moved r) fits ends each = free_moved m.config.granularity Ends s fits t r (λ i pool at r2 c has. kept.ends_go r2 c pool has (each i pool at))
   free_after s (DomMoved d) fits ends each = free_dom_moved m.config.granularity Ends s fits t d
-  free_after s (Wake v) fits ends each = free_at_home m.config.granularity Ends s fits t (Wake v)
-  free_after s (Block q) fits ends each = free_at_home m.config.granularity Ends s fits t (Block q)
-  free_after s (Slice r) fits ends each = free_at_home m.config.granularity Ends s fits t (Slice r)
-  free_after s (Repl u) fits ends each = free_at_home m.config.granularity Ends s fits t (Repl u)
-  free_after s (Refill d) fits ends each = free_at_home m.config.granularity Ends s fits t (Refill d)
-  free_after s (Arrive q) fits ends each = free_at_home m.config.granularity Ends s fits t (Arrive q)
-  free_after s (Decide r) fits ends each = free_at_home m.config.granularity Ends s fits t (Decide r)
-  free_after s (Leave q) fits ends each = free_at_home m.config.granularity Ends s fits t (Leave q)
-  free_after s (Save r) fits ends each = free_at_home m.config.granularity Ends s fits t (Save r)
+  free_after s action fits ends each = free_at_home m.config.granularity Ends s fits t action

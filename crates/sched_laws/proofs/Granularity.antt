@@ -1,5 +1,5 @@
 -- What holds of each granularity.
-use Rattle.std.proofs.Common.{◌≡◌, ℕ, inl, inr, subst, sym}
+use Rattle.std.proofs.Common.{ℕ, inl, inr, subst, sym}
 use Rattle.sched_model.specs.Checked.{IsGranularity}
 
 -- what holds of 1, 2 and 4 holds of the granularity of a checked machine

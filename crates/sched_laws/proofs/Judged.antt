@@ -1,6 +1,6 @@
 -- What a command that is accepted promises of its plan: a pool is made where there was none, and one is destroyed that has no core.
 use Rattle.std.proofs.Common.{◌≡◌, ◌≤◌, ◌+◌, ℕ, suc, Bool, true, false, not, List, [], ◌∷◌, refl, arith, subst, sym, ◌⊎◌, inl, inr}
-use Rattle.std.specs.Prelude.{nat_le, sum_by, is_some, option_map, length, ◌||◌, Option, Some, None, Result, Ok, Err, ◌&&◌, ◌==◌, nat_lt, ◌/◌, unwrap_or, ◌*◌, slice_get}
+use Rattle.std.specs.Prelude.{nat_le, sum_by, is_some, option_map, length, ◌||◌, Option, Some, None, Result, Ok, Err, ◌&&◌, ◌==◌, nat_lt, ◌/◌, unwrap_or, ◌*◌}
 use Rattle.sched_model.specs.declared.config.SchedKind.{SchedKind}
 use Rattle.sched_model.specs.declared.command.Command.{Command}
 use Rattle.sched_model.specs.declared.command.Command.TheVariants as command
@@ -14,7 +14,6 @@ use Rattle.sched_base.specs.Numbers.{span, pool as pool_number, domain as domain
 use Rattle.sched_model.specs.declared.config.FrameEntry.{FrameEntry}
 use Rattle.sched_model.specs.declared.work.CommandLine.{CommandLine}
 use Rattle.sched_model.specs.Machine.{verdict}
-use Rattle.sched_laws.proofs.Window.{FitsMajor}
 use Rattle.sched_model.specs.declared.plan.Plan.{Plan}
 use Rattle.sched_model.specs.declared.plan.Plan.TheVariants as plan
 use Rattle.sched_model.specs.declared.event.Param.TheVariants as param
@@ -188,15 +187,8 @@ verdict_fits m s line q is =
 pub fits_next : (s : State) (k : ℕ) (q : Plan) → Fits s q → Fits (record s { next_command = k }) q
 fits_next s k (plan.PoolCreate j name kind answer) fits = fits
 fits_next s k (plan.PoolDestroy j answer) fits = fits
-fits_next s k (plan.PoolList pool answer) fits = tt
-fits_next s k (plan.PoolRename j name answer) fits = tt
-fits_next s k (plan.CpuAdd j core answer) fits = tt
-fits_next s k (plan.CpuRemove j core answer) fits = tt
-fits_next s k (plan.Migrate d a b answer) fits = tt
 fits_next s k (plan.Credit2Dom d weight percent answer) fits = fits
 fits_next s k (plan.Credit2Pool j limit answer) fits = fits
 fits_next s k (plan.RtdsDom d first count period budget extra answer) fits = fits
-fits_next s k (plan.Pause d answer) fits = tt
-fits_next s k (plan.Unpause d answer) fits = tt
 fits_next s k (plan.ArincSet j frame answer) fits = fits
-fits_next s k (plan.Pin d unit cores answer) fits = tt
+fits_next s k q fits = tt

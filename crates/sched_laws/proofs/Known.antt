@@ -19,7 +19,7 @@ use Rattle.sched_model.specs.Policy.{decision_of, after_decision, dequeue_domain
 use Rattle.sched_model.specs.Pool as pools
 use Rattle.sched_model.specs.declared.action.Action.{Action}
 use Rattle.sched_model.specs.Pool.{enabled_in, after_in, settled, home_cores, reconsidered, change_core, change_processor, change_vcpu, change_domain, change_cores_of, set_pending, does, queue_unit, started_on, decided, same_choice, ask_of, set_leaving, set_moving, pause, unpause, set_params, without_domain, with_domain, with_records, is_of_domain}
-use Rattle.sched_model.specs.declared.action.Action.TheVariants.{Stall, Xl, Moved, DomMoved, Wake, Block, Slice, Repl, Refill, Arrive, Decide, Leave, Save}
+use Rattle.sched_model.specs.declared.action.Action.TheVariants.{Moved, DomMoved, Wake, Block, Slice, Repl, Refill, Arrive, Decide, Leave, Save}
 use Rattle.sched_laws.specs.Each.{EachPlace}
 use Rattle.sched_laws.proofs.EachPlace.{EachPlace-put_at, EachPlace-clear_at, EachPlace-empty, read_change_each, read_change_at, by_option, by_cond}
 use Rattle.sched_laws.proofs.Lists.{AllByRecursion-map, AllByRecursion-filter, none_passes, at_numbered, some-test_at, test_at-change_at_other, test_at-clear_at}
@@ -70,10 +70,6 @@ module _ (g : ℕ) (some : 0 < g) where
   Nobody u = ⊥
 
   one_acts : (t : ℕ) (pool : Pool) (action : Action) → enabled_in g t pool action ≡ true → IsKnownPool g pool → One0 (after_in g t pool action)
-  one_acts t pool Stall on known = known.one
-  one_acts t pool Xl on known = known.one
-  one_acts t pool (Moved r) on known = known.one
-  one_acts t pool (DomMoved d) on known = known.one
   one_acts t pool (Wake v) on known = one_after_wake g some t v pool known.one
   one_acts t pool (Block p) on known = by_option One0 (pools.guest_of g pool p) _ _ (λ is. known.one) (λ v is. one_after_block g some t p v pool is known.sound known.one)
   one_acts t pool (Slice r) on known = one_change_core g some Nobody r _ pool (λ c. (refl, refl, λ e. refl)) known.one
@@ -89,6 +85,7 @@ module _ (g : ℕ) (some : 0 < g) where
       one_after_decide g t r c pool is ((known.sound r c is).gathers open_c any).1 known.one)
   one_acts t pool (Leave p) on known = by_option One0 (at_place pool.resources (p / g)) _ _ (λ is. known.one) (λ c is. one_after_leave g some t p c pool known.one)
   one_acts t pool (Save r) on known = by_option One0 (at_place pool.resources r) _ _ (λ is. known.one) (λ c is. by_option One0 c.saving _ _ (λ is2. known.one) (λ u is2. one_after_save g some r u c pool is is2 known.one))
+  one_acts t pool action on known = known.one
 
   -- a domain whose units run no more: they leave the queue, and the cores that run one are pending
   one_withdrawn : (d : ℕ) (f : Domain → Domain) (pool : Pool) → ((x : Domain) (n : ℕ) → unit_runnable g (f x) n ≡ false) → One0 pool → One0 (pools.withdrawn d (change_domain d f pool))

@@ -1,5 +1,6 @@
 pub mod EachPlace
 pub mod Induction
+pub mod Events
 pub mod Kept
 pub mod Lists
 pub mod Choices

@@ -1,9 +1,10 @@
 -- What holds of each element of a list, and of what stands at a place.
-use Rattle.std.proofs.Common.{arith, length, ◌≡◌, ◌≢◌, ℕ, zero, suc, Bool, true, false, List, [], ◌∷◌, ◌++◌, refl, subst, ap, cond}
-use Rattle.std.specs.Prelude.{Option, Some, None, is_some, filter, ◌&&◌, ◌||◌, slice_get}
+use Rattle.std.proofs.Common.{arith, length, ◌≡◌, ◌≢◌, ℕ, zero, suc, Bool, true, false, List, [], ◌∷◌, ◌++◌, refl, subst, ap, cond, ◌⊎◌, inl, inr}
+use Rattle.std.specs.Prelude.{Option, Some, None, is_some, option_map, filter, ◌&&◌, ◌||◌, slice_get}
 use Rattle.std.specs.List.{list_any, AllByRecursion}
 use Rattle.sched_model.specs.Places.{at_place, put_at, clear_at, change_at, change_item, test_at, numbered}
 use Rattle.sched_laws.specs.Each.{EachPlace}
+use Rattle.sched_laws.proofs.EachPlace.{at_place-change_at_other, at_place-put_at_other, at_place-clear_at_other, at_place-clear_at}
 use Rattle.sched_laws.proofs.Bools.{both}
 
 pub AllByRecursion-map : {X : Type 0} (P Q : X → Type 0) → ((x : X) → P x → Q x) → (xs : List X) → AllByRecursion P xs → AllByRecursion Q xs
@@ -61,13 +62,12 @@ test_at-change_at zero (suc j) f test (p ∷ places) same = refl
 test_at-change_at (suc i) zero f test (p ∷ places) same = refl
 test_at-change_at (suc i) (suc j) f test (p ∷ places) same = test_at-change_at i j f test places same
 
+-- a change that the place does not see
+test_at-same : {X : Type 0} (old next : List (Option X)) (j : ℕ) (test : X → Bool) → at_place next j ≡ at_place old j → test_at next j test ≡ test_at old j test
+test_at-same {X} old next j test same = ap (λ (o : Option X). elim o as (λ _. Bool) [ None ↦ false | Some x ↦ test x ]) same
+
 pub test_at-change_at_other : {X : Type 0} (i j : ℕ) (f : X → X) (test : X → Bool) (places : List (Option X)) → j ≢ i → test_at (change_at i f places) j test ≡ test_at places j test
-test_at-change_at_other zero j f test [] other = refl
-test_at-change_at_other (suc i) j f test [] other = refl
-test_at-change_at_other zero zero f test (p ∷ places) other = absurd (other refl)
-test_at-change_at_other zero (suc j) f test (p ∷ places) other = refl
-test_at-change_at_other (suc i) zero f test (p ∷ places) other = refl
-test_at-change_at_other (suc i) (suc j) f test (p ∷ places) other = test_at-change_at_other i j f test places (λ e. other (ap suc e))
+test_at-change_at_other i j f test places other = test_at-same places (change_at i f places) j test (at_place-change_at_other i j f places other)
 
 pub test_at-put_at : {X : Type 0} (i j : ℕ) (x : X) (test : X → Bool) (places : List (Option X)) → test x ≡ true → test_at places j test ≡ true → test_at (put_at i x places) j test ≡ true
 test_at-put_at zero j x test [] here passes = passes
@@ -78,15 +78,8 @@ test_at-put_at (suc i) zero x test (p ∷ places) here passes = passes
 test_at-put_at (suc i) (suc j) x test (p ∷ places) here passes = test_at-put_at i j x test places here passes
 
 pub test_at-clear_at : {X : Type 0} (i j : ℕ) (test : X → Bool) (places : List (Option X)) → j ≢ i → test_at (clear_at i places) j test ≡ test_at places j test
-test_at-clear_at zero j test [] other = refl
-test_at-clear_at (suc i) j test [] other = refl
-test_at-clear_at zero zero test (p ∷ places) other = absurd (other refl)
-test_at-clear_at zero (suc j) test (p ∷ places) other = refl
-test_at-clear_at (suc i) zero test (p ∷ places) other = refl
-test_at-clear_at (suc i) (suc j) test (p ∷ places) other = test_at-clear_at i j test places (λ e. other (ap suc e))
+test_at-clear_at i j test places other = test_at-same places (clear_at i places) j test (at_place-clear_at_other i j places other)
 
--- both parts of a test that passes
--- neither part of a test that fails
 -- something is there
 pub some_is : {X : Type 0} (o : Option X) → is_some o ≡ true → (x : X) × (o ≡ Some x)
 some_is None some = absurd (cc)
@@ -95,27 +88,25 @@ some_is (Some x) some = (x, refl)
 pub is_some_at : {X : Type 0} (o : Option X) (x : X) → o ≡ Some x → is_some o ≡ true
 is_some_at o x is = rw is refl
 
--- a change after which the test passes where it did
+-- a change after which what passed passes
+pub test_at-change_at_keeps : {X : Type 0} (i j : ℕ) (f : X → X) (test : X → Bool) (places : List (Option X)) → ((x : X) → i ≡ j → at_place places i ≡ Some x → test x ≡ true → test (f x) ≡ true) → test_at places j test ≡ true → test_at (change_at i f places) j test ≡ true
+test_at-change_at_keeps zero j f test [] keeps passes = passes
+test_at-change_at_keeps (suc i) j f test [] keeps passes = passes
+test_at-change_at_keeps zero zero f test (None ∷ places) keeps passes = passes
+test_at-change_at_keeps zero zero f test (Some x ∷ places) keeps passes = keeps x refl refl passes
+test_at-change_at_keeps zero (suc j) f test (p ∷ places) keeps passes = passes
+test_at-change_at_keeps (suc i) zero f test (p ∷ places) keeps passes = passes
+test_at-change_at_keeps (suc i) (suc j) f test (p ∷ places) keeps passes = test_at-change_at_keeps i j f test places (λ x e at. keeps x (ap suc e) at) passes
+
 pub test_at-change_at_more : {X : Type 0} (i j : ℕ) (f : X → X) (test : X → Bool) (places : List (Option X)) → ((x : X) → test x ≡ true → test (f x) ≡ true) → test_at places j test ≡ true → test_at (change_at i f places) j test ≡ true
-test_at-change_at_more zero j f test [] more passes = passes
-test_at-change_at_more (suc i) j f test [] more passes = passes
-test_at-change_at_more zero zero f test (None ∷ places) more passes = passes
-test_at-change_at_more zero zero f test (Some x ∷ places) more passes = more x passes
-test_at-change_at_more zero (suc j) f test (p ∷ places) more passes = passes
-test_at-change_at_more (suc i) zero f test (p ∷ places) more passes = passes
-test_at-change_at_more (suc i) (suc j) f test (p ∷ places) more passes = test_at-change_at_more i j f test places more passes
+test_at-change_at_more i j f test places more passes = test_at-change_at_keeps i j f test places (λ x e at. more x) passes
 
 pub and_more : (a b c : Bool) → (a && b) ≡ true → (b ≡ true → c ≡ true) → (a && c) ≡ true
 and_more true b c both to = to both
 and_more false b c both to = absurd (cc)
 
 pub test_at-put_at_other : {X : Type 0} (i j : ℕ) (x : X) (test : X → Bool) (places : List (Option X)) → j ≢ i → test_at (put_at i x places) j test ≡ test_at places j test
-test_at-put_at_other zero j x test [] other = refl
-test_at-put_at_other (suc i) j x test [] other = refl
-test_at-put_at_other zero zero x test (p ∷ places) other = absurd (other refl)
-test_at-put_at_other zero (suc j) x test (p ∷ places) other = refl
-test_at-put_at_other (suc i) zero x test (p ∷ places) other = refl
-test_at-put_at_other (suc i) (suc j) x test (p ∷ places) other = test_at-put_at_other i j x test places (λ e. other (ap suc e))
+test_at-put_at_other i j x test places other = test_at-same places (put_at i x places) j test (at_place-put_at_other i j x places other)
 
 -- a change after which the test fails
 pub test_at-change_at_false : {X : Type 0} (i : ℕ) (f : X → X) (test : X → Bool) (places : List (Option X)) → ((x : X) → test (f x) ≡ false) → test_at (change_at i f places) i test ≡ false
@@ -126,10 +117,7 @@ test_at-change_at_false zero f test (Some x ∷ places) fails = fails x
 test_at-change_at_false (suc i) f test (p ∷ places) fails = test_at-change_at_false i f test places fails
 
 pub test_at-clear_at_false : {X : Type 0} (i : ℕ) (test : X → Bool) (places : List (Option X)) → test_at (clear_at i places) i test ≡ false
-test_at-clear_at_false zero test [] = refl
-test_at-clear_at_false (suc i) test [] = refl
-test_at-clear_at_false zero test (p ∷ places) = refl
-test_at-clear_at_false (suc i) test (p ∷ places) = test_at-clear_at_false i test places
+test_at-clear_at_false {X} i test places = ap (λ (o : Option X). elim o as (λ _. Bool) [ None ↦ false | Some x ↦ test x ]) (at_place-clear_at i places)
 
 pub length_change_item : {X : Type 0} (i : ℕ) (f : X → X) (xs : List X) → length (change_item i f xs) ≡ length xs
 length_change_item i f [] = refl
@@ -141,3 +129,27 @@ pub get_later : {X : Type 0} (xs : List X) (n : ℕ) → slice_get xs n ≡ None
 get_later [] n none = grind arith
 get_later (x ∷ xs) zero none = absurd (cc)
 get_later (x ∷ xs) (suc n) none = get_later xs n none
+
+-- a place of a list after a change of one
+pub read_change_item : {X : Type 0} (i j : ℕ) (f : X → X) (xs : List X) (y : X) → slice_get (change_item i f xs) j ≡ Some y → ((j ≢ i) × (slice_get xs j ≡ Some y)) ⊎ ((x : X) × (slice_get xs i ≡ Some x) × (j ≡ i) × (f x ≡ y))
+read_change_item i j f [] y at = absurd (cc)
+read_change_item zero zero f (x ∷ xs) y at = inr (x, refl, refl, cc)
+read_change_item zero (suc j) f (x ∷ xs) y at = inl (λ e. omega arith, at)
+read_change_item (suc i) zero f (x ∷ xs) y at = inl (λ e. omega arith, at)
+read_change_item (suc i) (suc j) f (x ∷ xs) y at = elim (read_change_item i j f xs y at) [
+  | inl was ↦ inl (λ e. was.0 (omega arith), was.1)
+  | inr r ↦ inr (r.0, r.1, ap suc r.2, r.3)
+]
+
+-- the place that is changed, and another
+pub slice_get-change_item : {X : Type 0} (i : ℕ) (f : X → X) (xs : List X) → slice_get (change_item i f xs) i ≡ option_map f (slice_get xs i)
+slice_get-change_item i f [] = refl
+slice_get-change_item zero f (x ∷ xs) = refl
+slice_get-change_item (suc i) f (x ∷ xs) = slice_get-change_item i f xs
+
+pub slice_get-change_item_other : {X : Type 0} (i j : ℕ) (f : X → X) (xs : List X) → i ≢ j → slice_get (change_item i f xs) j ≡ slice_get xs j
+slice_get-change_item_other i j f [] other = refl
+slice_get-change_item_other zero zero f (x ∷ xs) other = absurd (other refl)
+slice_get-change_item_other zero (suc j) f (x ∷ xs) other = refl
+slice_get-change_item_other (suc i) zero f (x ∷ xs) other = refl
+slice_get-change_item_other (suc i) (suc j) f (x ∷ xs) other = slice_get-change_item_other i j f xs (λ e. other (ap suc e))

@@ -1,31 +1,25 @@
 -- What each step of a null pool keeps of the units for which its cores are kept.
-use Rattle.std.proofs.Common.{◌≡◌, ◌<◌, ℕ, true, false, List, [], ◌∷◌, refl, subst, sym, ◌∙◌, ap, cond, ◌⊎◌, inl, inr}
-use Rattle.std.specs.Prelude.{Option, Some, None, is_some, length, replicate, ◌&&◌, ◌||◌, ◌==◌, ◌*◌, ◌+◌, ◌/◌, ◌%◌}
-use Rattle.std.specs.List.{list_any, list_all}
+use Rattle.std.proofs.Common.{◌≡◌, ◌<◌, ℕ, true, false, List, refl, subst, sym, ◌∙◌, ap, ◌⊎◌, inl, inr}
+use Rattle.std.specs.Prelude.{Option, Some, None, is_some, length, replicate, ◌&&◌, ◌||◌, ◌==◌}
+use Rattle.std.specs.List.{list_all}
 use Rattle.std.proofs.lemmas.List.{length-replicate}
-use Rattle.sched_base.specs.Numbers.{moment, domain as domain_number, pool as pool_number}
+use Rattle.sched_base.specs.Numbers.{moment, pool as pool_number}
 use Rattle.sched_base.specs.declared.Moment.{Moment}
 use Rattle.sched_base.specs.declared.UnitId.{UnitId}
-use Rattle.sched_base.specs.declared.VcpuId.{VcpuId}
 use Rattle.sched_model.specs.declared.config.ParamChange.{ParamChange}
 use Rattle.sched_model.specs.declared.config.ParamChange.TheVariants as changes
 use Rattle.sched_model.specs.declared.config.DomParams.{DomParams}
 use Rattle.sched_model.specs.declared.config.PoolParams.{PoolParams}
 use Rattle.sched_model.specs.declared.config.PoolParams.TheVariants as pool_params
 use Rattle.sched_model.specs.declared.state.Domain.{Domain}
-use Rattle.sched_model.specs.declared.state.Doing.TheVariants.{Guest, Idle, Held}
-use Rattle.sched_model.specs.declared.state.Stage.TheVariants.{Open}
-use Rattle.sched_model.specs.declared.state.Processor.{Processor}
 use Rattle.sched_model.specs.declared.state.Resource.{Resource}
 use Rattle.sched_model.specs.declared.state.Pool.{Pool}
 use Rattle.sched_model.specs.declared.state.RtdsUnit.{RtdsUnit}
 use Rattle.sched_model.specs.declared.state.Credit2Records.{Credit2Records}
 use Rattle.sched_model.specs.declared.state.Records.{Records}
 use Rattle.sched_model.specs.declared.state.Records.TheVariants.{Credit2Pool, RtdsPool, ArincPool, NullPool}
-use Rattle.sched_model.specs.declared.action.Action.{Action}
-use Rattle.sched_model.specs.declared.action.Action.TheVariants.{Stall, Xl, Moved, DomMoved, Wake, Block, Slice, Repl, Refill, Arrive, Decide, Leave, Save}
-use Rattle.sched_model.specs.Places.{at_place, put_at, clear_at, change_at, change_each, change_item, test_at, numbers_from}
-use Rattle.sched_model.specs.State.{is_runnable}
+use Rattle.sched_model.specs.declared.action.Action.TheVariants.{DomMoved, Decide}
+use Rattle.sched_model.specs.Places.{at_place, put_at, clear_at, test_at, numbers_from}
 use Rattle.sched_model.specs.Opening.{fresh_core, core_count}
 use Rattle.sched_model.specs.Policy as policy
 use Rattle.sched_model.specs.Policy.{rtds_record, changed_records, joined_records, parted_records, fresh_records}
@@ -33,17 +27,18 @@ use Rattle.sched_model.specs.NullScheduler as null
 use Rattle.sched_model.specs.Pool as pools
 use Rattle.sched_model.specs.Pool.{enabled_in, after_in, settled, home_cores, reconsidered, change_core, change_processor, change_vcpu, change_domain, change_cores_of, does, started_on, set_leaving, set_moving, set_pending, pause, unpause, set_params, without_domain, with_domain, is_of_domain, is_held, is_open, first_up, processor_of, guest_of}
 use Rattle.sched_laws.specs.Each.{EachPlace}
-use Rattle.sched_laws.proofs.EachPlace.{read_change_at, read_put_at, read_clear_at, read_change_each, EachPlace-empty, by_option, by_test, by_cond}
+use Rattle.sched_laws.proofs.EachPlace.{read_put_at, read_clear_at, EachPlace-empty}
 use Rattle.sched_laws.proofs.Lists.{none_passes, at_numbered}
 use Rattle.sched_laws.proofs.Kept.{IsKept, IsFresh, passes_at}
 use Rattle.sched_laws.proofs.Sound.{some_if_all}
+use Rattle.sched_laws.proofs.Events.{LikePlaces, like_change_at, capped, like_of_domain, like_map, like_was, KeepsCore, Enabled, KeptByCommands, KeptByParts, commands_of, kept_settled, kept_processor, kept_by_parts, kept_set_leaving, kept_withdrawn, kept_pause, kept_unpause, kept_marked, kept_queue_units}
 use Rattle.sched_laws.proofs.Known.{known_pools}
 use Rattle.sched_laws.specs.Known.{IsKnownPool}
 use Rattle.sched_laws.proofs.Records as records_lemmas
 use Rattle.sched_laws.proofs.Records.{IsNoFrame}
 use Rattle.sched_laws.proofs.NullKept.{kept_of, KeptFits, NullFits, null_fits, fits_none, read_released, at_released, length_released, fits_after_decide}
 use Rattle.sched_laws.proofs.Bools.{and_left, and_right, not_true, or_left}
-use Rattle.sched_laws.proofs.EachPlace.{length_set, length_change_each}
+use Rattle.sched_laws.proofs.EachPlace.{length_set}
 
 -- the core has the same cur, and saves the same unit or none
 pub record Holds (c d : Resource) : Type 0 where
@@ -99,75 +94,11 @@ module _ (g : ℕ) where
   abbrev pub N : Pool → Type 0
   N pool = NullFits pool.scheduler.records pool.resources
 
+  n_like : (cores : List (Option Resource)) (pool : Pool) → LikePlaces Holds pool.resources cores → N pool → N (record pool { resources = cores })
+  n_like cores pool like fits = fits_come pool.scheduler.records pool.resources cores like.count (λ r d at. like_was Holds pool.resources cores r d like at) fits
+
   n_change_core : (r : ℕ) (f : Resource → Resource) (pool : Pool) → ((c : Resource) → Holds c (f c)) → N pool → N (change_core r f pool)
-  n_change_core r f pool holds fits =
-      fits_come pool.scheduler.records pool.resources (change_at r f pool.resources) (length_set r _ pool.resources)
-      (λ k d at. elim (read_change_at r k f pool.resources d at) [
-        | inl was ↦ (d, was.1, holds_itself d)
-        | inr x ↦ (x.0, subst (λ j. at_place pool.resources j ≡ Some x.0) (sym x.2) x.1, subst (Holds x.0) x.3 (holds x.0))
-      ]) fits
-
-  n_change_each : (f : ℕ → Resource → Resource) (pool : Pool) → ((r : ℕ) (c : Resource) → Holds c (f r c)) → N pool → N (record pool { resources = change_each 0 f pool.resources })
-  n_change_each f pool holds fits =
-      fits_come pool.scheduler.records pool.resources (change_each 0 f pool.resources) (length_change_each 0 f pool.resources)
-      (λ k d at. (let x = read_change_each k f pool.resources d at in (x.0, x.1, subst (Holds x.0) x.2 (holds k x.0)))) fits
-
-  n_change_processor : (p : ℕ) (f : Processor → Processor) (pool : Pool) → N pool → N (change_processor g p f pool)
-  n_change_processor p f pool fits = n_change_core (p / g) (λ c. record c { processors = change_item (p % g) f c.processors }) pool (λ c. holds_same c _ refl refl) fits
-
-  n_started_on : (t p : ℕ) (v : VcpuId) (pool : Pool) → N pool → N (started_on g t p v pool)
-  n_started_on t p v pool fits = n_change_processor p (does (Guest v)) (change_vcpu v (λ x. record x { started = Some (moment t) }) pool) fits
-
-  n_settled : (t : ℕ) (pool : Pool) → N pool → N (settled t pool)
-  n_settled t pool fits = n_change_each (reconsidered t (home_cores pool) pool.scheduler) pool (λ r c. by_cond (Holds c) c.leaving c _ (λ is. holds_itself c) (λ is. holds_same c _ refl refl)) fits
-
-  n_joined_siblings : (t : ℕ) (v : VcpuId) (pool : Pool) → N pool → N (pools.joined_siblings g t v pool)
-  n_joined_siblings t v pool fits =
-      by_option N (pools.core_of pool (pools.unit_of g v)) _ _ (λ is. fits)
-      (λ r is. by_option N (processor_of g pool (r * g + v.n % g)) _ _ (λ is2. fits)
-      (λ q is2. by_cond N (pools.is_idle q) _ _ (λ idle. n_started_on t (r * g + v.n % g) v pool fits) (λ idle. fits)))
-
-  n_after_wake : (t : ℕ) (v : VcpuId) (pool : Pool) → N pool → N (pools.after_wake g t v pool)
-  n_after_wake t v pool fits =
-      let next : Pool = change_vcpu v pools.woken pool in
-      by_test N (is_runnable g next (pools.unit_of g v)) _ _
-      (λ runs. by_cond N (pools.is_off next (pools.unit_of g v)) _ _ (λ off. fits) (λ off. n_joined_siblings t v next fits))
-      (λ runs. fits)
-
-  n_after_block : (t q : ℕ) (v : VcpuId) (pool : Pool) → N pool → N (pools.after_block g t q v pool)
-  n_after_block t q v pool fits =
-      let next : Pool = change_processor g q (does Idle) (change_vcpu v (pools.put_to_sleep t) pool) in
-      let here : N next = n_change_processor q (does Idle) (change_vcpu v (pools.put_to_sleep t) pool) fits in
-      by_cond N (is_runnable g next (pools.unit_of g v)) _ _ (λ runs. here) (λ runs. n_change_core (q / g) (λ c. record c { pending = true }) next (λ c. holds_same c _ refl refl) here)
-
-  n_after_arrive : (t q : ℕ) (pool : Pool) → N pool → N (pools.after_arrive g t q pool)
-  n_after_arrive t q pool fits =
-      by_option (λ (next : Pool). N (change_processor g q (does Held) next)) (guest_of g pool q) _ _
-      (λ is. n_change_processor q (does Held) pool fits) (λ v is. n_change_processor q (does Held) (change_vcpu v (pools.stopped t) pool) fits)
-
-  n_open : (q : ℕ) (pool : Pool) → N pool → N (change_core (q / g) pools.open_if_left pool)
-  n_open q pool fits =
-      n_change_core (q / g) pools.open_if_left pool
-      (λ c. by_cond (Holds c) (list_any is_held c.processors) c (record c { stage = Open }) (λ is. holds_itself c) (λ is. holds_same c _ refl refl)) fits
-
-  n_after_leave : (t q : ℕ) (c : Resource) (pool : Pool) → N pool → N (pools.after_leave g t q c pool)
-  n_after_leave t q c pool fits =
-      by_option (λ (next : Pool). N (change_core (q / g) pools.open_if_left next)) (pools.vcpu_for g pool c (q % g)) _ _
-      (λ is. n_open q (change_processor g q (does Idle) pool) (n_change_processor q (does Idle) pool fits)) (λ v is. n_open q (started_on g t q v pool) (n_started_on t q v pool fits))
-
-  n_after_replenish : (t : ℕ) (u : UnitId) (pool : Pool) → N pool → N (pools.after_replenish t u pool)
-  n_after_replenish t u pool fits =
-      let records : Records = policy.replenish pool.scheduler.records t u in
-      let next : Pool = pools.with_records records pool in
-      let here : N next = fits_records pool.scheduler.records records pool.resources (records_lemmas.same_replenish kept_of no_credit2 no_rtds pool.scheduler.records t u) fits in
-      by_option N (pools.core_of pool u) _ _ (λ is. here)
-      (λ r is. by_option N (rtds_record records u) _ _ (λ is2. here)
-      (λ x is2. n_change_core r (pools.due_within t x.budget) next (λ c. holds_same c _ refl refl) here))
-
-  n_after_save : (r : ℕ) (u : UnitId) (pool : Pool) → N pool → N (pools.after_save g r u pool)
-  n_after_save r u pool fits =
-      let here : N (change_core r pools.saved pool) = n_change_core r pools.saved pool (λ c. record { cur = refl; saving = inr refl }) fits in
-      by_cond N (is_runnable g pool u) _ _ (λ runs. here) (λ runs. here)
+  n_change_core r f pool holds fits = n_like _ pool (like_change_at Holds r f pool.resources holds_itself (λ c at. holds c)) fits
 
   -- a core that decides saves nothing
   n_after_decide : (t r : ℕ) (c : Resource) (pool : Pool) → at_place pool.resources r ≡ Some c → enabled_in g t pool (Decide r) ≡ true → IsKnownPool g pool → N pool → N (pools.after_decide g t r c pool)
@@ -177,57 +108,31 @@ module _ (g : ℕ) where
       let any = some_if_all t c.processors (and_right (list_all is_held c.processors && is_open c) (first_up t c) may) (and_left (list_all is_held c.processors) (is_open c) gathered) in
       fits_after_decide g t r c pool at ((known.sound r c at).gathers (and_right (list_all is_held c.processors) (is_open c) gathered) any).1 known.one fits
 
-  n_acts : (t : ℕ) (pool : Pool) (action : Action) → enabled_in g t pool action ≡ true → IsKnownPool g pool → N pool → N (after_in g t pool action)
-  n_acts t pool Stall on known fits = fits
-  n_acts t pool Xl on known fits = fits
-  n_acts t pool (Moved r) on known fits = fits
-  n_acts t pool (DomMoved d) on known fits = fits
-  n_acts t pool (Wake v) on known fits = n_after_wake t v pool fits
-  n_acts t pool (Block q) on known fits = by_option N (guest_of g pool q) _ _ (λ is. fits) (λ v is. n_after_block t q v pool fits)
-  n_acts t pool (Slice r) on known fits = n_change_core r (λ c. record c { pending = true }) pool (λ c. holds_same c _ refl refl) fits
-  n_acts t pool (Repl u) on known fits = n_after_replenish t u pool fits
-  n_acts t pool (Refill d) on known fits = fits_records pool.scheduler.records (policy.refill pool.scheduler.records t d) pool.resources (records_lemmas.same_refill kept_of no_credit2 no_rtds pool.scheduler.records t d) fits
-  n_acts t pool (Arrive q) on known fits = n_after_arrive t q pool fits
-  n_acts t pool (Decide r) on known fits = by_option N (at_place pool.resources r) _ _ (λ is. fits) (λ c is. n_after_decide t r c pool is on known fits)
-  n_acts t pool (Leave q) on known fits = by_option N (at_place pool.resources (q / g)) _ _ (λ is. fits) (λ c is. n_after_leave t q c pool fits)
-  n_acts t pool (Save r) on known fits = by_option N (at_place pool.resources r) _ _ (λ is. fits) (λ c is. by_option N c.saving _ _ (λ is2. fits) (λ u is2. n_after_save r u pool fits))
+  n_parts : (t : ℕ) → KeptByParts g t (λ pool action. Enabled g t pool action × IsKnownPool g pool) N
+  n_parts t = record {
+    cores = λ cores pool like. n_like cores pool (like_map KeepsCore Holds pool.resources cores (λ c d keeps. holds_same c d keeps.cur keeps.saving) like);
+    domains = λ d f pool count moving fits. fits;
+    queues = λ u pool runs fits. fits;
+    dequeues = λ d pool fits. fits;
+    decides = λ r c pool at on. n_after_decide t r c pool at on.0 on.1;
+    saves = λ r c u pool at is on. n_change_core r pools.saved pool (λ x. record { cur = refl; saving = inr refl });
+    replenishes = λ u pool on. fits_records pool.scheduler.records (policy.replenish pool.scheduler.records t u) pool.resources (records_lemmas.same_replenish kept_of no_credit2 no_rtds pool.scheduler.records t u);
+    dues = λ r u x old pool on is. n_change_core r (pools.due_within t x.budget) pool (λ c. holds_same c _ refl refl);
+    refills = λ d pool on. fits_records pool.scheduler.records (policy.refill pool.scheduler.records t d) pool.resources (records_lemmas.same_refill kept_of no_credit2 no_rtds pool.scheduler.records t d);
+  }
 
-  n_change_cores_of : (d : ℕ) (f : Resource → Resource) (pool : Pool) → ((c : Resource) → Holds c (f c)) → N pool → N (change_cores_of d f pool)
-  n_change_cores_of d f pool holds fits = n_change_each (λ r c. cond (is_of_domain d c.cur) (f c) c) pool (λ r c. by_cond (Holds c) (is_of_domain d c.cur) (f c) c (λ is. holds c) (λ is. holds_itself c)) fits
-
-  n_queue_units : (d : ℕ) (units : List ℕ) (pool : Pool) → N pool → N (pools.queue_units g d units pool)
-  n_queue_units d [] pool fits = fits
-  n_queue_units d (k ∷ ks) pool fits =
-      let u : UnitId = record { dom = domain_number d; n = k } in
-      n_queue_units d ks _ (by_cond N (is_runnable g pool u && pools.is_off pool u) _ _ (λ is. fits) (λ is. fits))
-
-  n_withdrawn : (d : ℕ) (f : Domain → Domain) (pool : Pool) → N pool → N (pools.withdrawn d (change_domain d f pool))
-  n_withdrawn d f pool fits = n_change_cores_of d set_pending (record pool { domains = change_at d f pool.domains; scheduler = policy.dequeue_domain d pool.scheduler }) (λ c. holds_same c _ refl refl) fits
-
-  n_pause : (d : ℕ) (pool : Pool) → N pool → N (pause d pool)
-  n_pause d pool fits = by_cond N (test_at pool.domains d (λ x. x.paused)) _ _ (λ is. fits) (λ is. n_withdrawn d (λ x. record x { paused = true }) pool fits)
-
-  n_unpause : (d : ℕ) (pool : Pool) → N pool → N (unpause g d pool)
-  n_unpause d pool fits =
-      by_option N (at_place pool.domains d) _ _ (λ is. fits)
-      (λ domain is. by_cond N domain.paused _ _ (λ is2. n_queue_units d (numbers_from 0 (pools.unit_count g domain)) (change_domain d (λ x. record x { paused = false }) pool) fits) (λ is2. fits))
-
-  n_marked : (change : ParamChange) (t : ℕ) (pool : Pool) → N pool → N (pools.marked change t pool)
-  n_marked (changes.Dom d weight (Some percent)) t pool fits = n_change_cores_of d.0 (λ c. record c { pending = true; due = Some (moment t) }) pool (λ c. holds_same c _ refl refl) fits
-  n_marked (changes.Dom d weight None) t pool fits = fits
-  n_marked (changes.Rate limit) t pool fits = fits
-  n_marked (changes.«Unit» u period budget extra) t pool fits = fits
-  n_marked (changes.Frame frame) t pool fits = n_change_each (λ r c. set_pending c) pool (λ r c. holds_same c _ refl refl) fits
-  n_marked (changes.Pin d unit cores) t pool fits = fits
+  n_commands : KeptByCommands g N
+  n_commands = commands_of (n_parts 0)
 
   n_set_params : (change : ParamChange) (t : ℕ) (pool : Pool) → N pool → N (set_params change t pool)
   n_set_params change t pool fits =
-      n_marked change t (record pool { scheduler = policy.set_params change t pool.scheduler })
+      kept_marked n_commands t (λ d next. n_like _ next (like_of_domain Holds d (capped t) next.resources holds_itself (λ c. holds_same c _ refl refl)))
+      change (record pool { scheduler = policy.set_params change t pool.scheduler })
       (fits_records pool.scheduler.records (changed_records pool.scheduler.records change t) pool.resources (same_frame pool.scheduler.records change t) fits)
 
   n_with_domain : (t d : ℕ) (domain : Domain) (params : DomParams) (pool : Pool) → N pool → N (with_domain g t d domain params pool)
   n_with_domain t d domain params pool fits =
-      n_queue_units d (numbers_from 0 (pools.unit_count g domain)) (record pool { domains = put_at d domain pool.domains; scheduler = policy.join d (pools.unit_count g domain) params t pool.scheduler })
+      kept_queue_units n_commands d (numbers_from 0 (pools.unit_count g domain)) (record pool { domains = put_at d domain pool.domains; scheduler = policy.join d (pools.unit_count g domain) params t pool.scheduler })
       (fits_records pool.scheduler.records (joined_records pool.scheduler.records params d (pools.unit_count g domain) t) pool.resources (records_lemmas.same_joined kept_of no_credit2 no_rtds pool.scheduler.records params d (pools.unit_count g domain) t) fits)
 
   n_core_comes : (r : ℕ) (ends : List Moment) (pool : Pool) → N pool → N (record pool { resources = put_at r (fresh_core ends) pool.resources })
@@ -302,13 +207,13 @@ null_is_kept g some =
     let known : IsKept g (IsKnownPool g) = known_pools g some in
     record {
       inside = record {
-        settles = λ t pool k. record { known = known.inside.settles t pool k.known; fits = n_settled g t pool k.fits };
-        stalls = λ p end pool k. record { known = known.inside.stalls p end pool k.known; fits = n_change_processor g p (λ q. record q { stall_end = moment end }) pool k.fits };
-        acts = λ t pool action on k. record { known = known.inside.acts t pool action on k.known; fits = n_acts g t pool action on k.known k.fits };
-        leaves = λ r pool k. record { known = known.inside.leaves r pool k.known; fits = n_change_core g r (λ c. record c { leaving = true; pending = c.pending || is_some c.cur }) pool (λ c. holds_same c _ refl refl) k.fits };
-        moves = λ d i pool k. record { known = known.inside.moves d i pool k.known; fits = n_withdrawn g d (λ x. record x { moving = Some (pool_number i) }) pool k.fits };
-        pauses = λ d pool k. record { known = known.inside.pauses d pool k.known; fits = n_pause g d pool k.fits };
-        unpauses = λ d pool k. record { known = known.inside.unpauses d pool k.known; fits = n_unpause g d pool k.fits };
+        settles = λ t pool k. record { known = known.inside.settles t pool k.known; fits = kept_settled (n_commands g) t pool k.fits };
+        stalls = λ p end pool k. record { known = known.inside.stalls p end pool k.known; fits = kept_processor (n_parts g 0) p (λ q. record q { stall_end = moment end }) pool k.fits };
+        acts = λ t pool action on k. record { known = known.inside.acts t pool action on k.known; fits = kept_by_parts (n_parts g t) pool action (on, k.known) k.fits };
+        leaves = λ r pool k. record { known = known.inside.leaves r pool k.known; fits = kept_set_leaving (n_commands g) r pool k.fits };
+        moves = λ d i pool k. record { known = known.inside.moves d i pool k.known; fits = kept_withdrawn (n_commands g) d (change_domain d (λ x. record x { moving = Some (pool_number i) }) pool) k.fits };
+        pauses = λ d pool k. record { known = known.inside.pauses d pool k.known; fits = kept_pause (n_commands g) d pool k.fits };
+        unpauses = λ d pool k. record { known = known.inside.unpauses d pool k.known; fits = kept_unpause (n_commands g) d pool k.fits };
         changes = λ change t pool k. record { known = known.inside.changes change t pool k.known; fits = n_set_params g change t pool k.fits };
       };
       core_comes = λ r ends pool none k. record { known = known.core_comes r ends pool none k.known; fits = n_core_comes g r ends pool k.fits };

@@ -24,7 +24,6 @@ use Rattle.sched_model.specs.Policy as policy
 use Rattle.sched_model.specs.Policy.{decision_of, after_decision, dequeue_domain, rtds_record}
 use Rattle.sched_model.specs.Pool as pools
 use Rattle.sched_model.specs.Pool.{enabled_in, after_in, settled, home_cores, reconsidered, change_core, change_processor, change_vcpu, change_domain, change_cores_of, set_pending, does, queue_unit, started_on, decided, same_choice, ask_of, set_leaving, set_moving, pause, unpause, set_params, without_domain, with_domain, with_records, is_of_domain}
-use Rattle.sched_laws.specs.Each.{EachPlace}
 use Rattle.sched_laws.proofs.EachPlace.{EachAt-change_to, EachPlace-change_at, EachPlace-put_at, EachPlace-change_each, by_option, by_test, by_cond}
 use Rattle.sched_laws.proofs.Lists.{AllByRecursion-map, AllByRecursion-push, AllByRecursion-filter, none_passes, at_numbered}
 use Rattle.sched_laws.proofs.Choices.{is_unit_same, same_unit_same, decision_has}
@@ -218,11 +217,8 @@ module _ (g : ℕ) (some : 0 < g) (Rest : UnitId → Type 0) where
 
   pub one_marked : (change : ParamChange) (t : ℕ) (pool : Pool) → One pool → One (pools.marked change t pool)
   one_marked (changes.Dom d weight (Some cap)) t pool one = one_change_cores_of d.0 _ pool (λ c. (refl, refl, λ e. refl)) one
-  one_marked (changes.Dom d weight None) t pool one = one
-  one_marked (changes.Rate limit) t pool one = one
-  one_marked (changes.«Unit» u period budget extra) t pool one = one
   one_marked (changes.Frame frame) t pool one = one_change_each (λ r c. set_pending c) pool (λ r c. (refl, refl, λ e. refl)) one
-  one_marked (changes.Pin d unit cores) t pool one = one
+  one_marked change t pool one = one
 
 -- an Arrive
 stopped_awake : (t : ℕ) (x : Vcpu) → is_awake (pools.stopped t x) ≡ is_awake x

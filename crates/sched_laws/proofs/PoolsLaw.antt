@@ -17,7 +17,8 @@ use Rattle.sched_laws.specs.StateLaws.{state_after, IsOfPool, PoolsKeepTheirOwn}
 use Rattle.sched_laws.proofs.EachPlace.{found_at, none_found, is_empty}
 use Rattle.sched_laws.proofs.Lists.{AllByRecursion-map, some-test_at, test_at-some, is_some_at}
 use Rattle.sched_laws.proofs.Induction.{kept_by_runs}
-use Rattle.sched_laws.proofs.Kept.{IsApart, IsKept, kept_after}
+use Rattle.sched_laws.proofs.Kept.{IsApart, IsKept}
+use Rattle.sched_laws.proofs.Steps.{kept_after}
 use Rattle.sched_laws.specs.StateLaws.{has_domain_at}
 use Rattle.sched_laws.proofs.ApartKept.{apart_after}
 use Rattle.sched_laws.proofs.Opened.{kept_opening, apart_opening}

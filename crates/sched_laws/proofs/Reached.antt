@@ -1,7 +1,7 @@
 -- What is known of the state that the entries of a run lead to: where to begin, for whoever needs such a fact.
-use Rattle.std.proofs.Common.{◌≡◌, ◌≢◌, ◌<◌, ◌≤◌, ◌+◌, ℕ, zero, suc, true, false, List, [], ◌∷◌, refl, arith, subst, sym, ◌∙◌, inl, inr, length}
-use Rattle.std.specs.Prelude.{Option, Some, None, slice_get, count_by, is_some}
-use Rattle.std.specs.List.{All, AllByRecursion}
+use Rattle.std.proofs.Common.{◌≡◌, ◌≤◌, ℕ, zero, suc, true, List, [], ◌∷◌, refl, arith, subst, sym, length}
+use Rattle.std.specs.Prelude.{Some, slice_get, count_by}
+use Rattle.std.specs.List.{All}
 use Rattle.std.proofs.lemmas.List.Elements.{All-from_recursion}
 use Rattle.sched_base.specs.declared.UnitId.{UnitId}
 use Rattle.sched_model.specs.declared.event.Entry.{Entry}
@@ -16,7 +16,6 @@ use Rattle.sched_model.specs.Actions.{home_of_core, home_of_domain}
 use Rattle.sched_model.specs.Runs.{IsRun}
 use Rattle.sched_model.specs.Checked.{IsChecked}
 use Rattle.sched_laws.specs.StateLaws.{state_after, has_core_at, has_domain_at}
-use Rattle.sched_laws.proofs.Lists.{test_at-some, is_some_at}
 use Rattle.sched_laws.proofs.Counts.{times_is, same_unit_refl}
 use Rattle.sched_laws.specs.Counts.{times}
 use Rattle.sched_laws.proofs.Kept.{IsApart}

@@ -1,17 +1,13 @@
 -- In every state of a run each core has all its processors, and one that is neither leaving nor pending keeps nobody waiting until its due.
 use Rattle.std.proofs.Common.{◌≡◌, ◌≤◌, ℕ, suc, Bool, true, false, List, [], ◌∷◌, refl, arith, subst, sym, ◌∙◌, ap, cond, ◌⊎◌, inl, inr}
-use Rattle.std.specs.Prelude.{Option, Some, None, Ok, Err, is_some, slice_get, length, replicate, map, filter, min, ◌&&◌, ◌==◌, ◌+◌, ◌/◌, ◌%◌, nat_le, nat_lt, unwrap_or}
+use Rattle.std.specs.Prelude.{Option, Some, None, is_some, length, replicate, map, filter, min, ◌&&◌, ◌==◌, ◌+◌, nat_le, nat_lt, unwrap_or}
 use Rattle.std.specs.List.{list_any, AllByRecursion}
 use Rattle.std.proofs.lemmas.List.{length-replicate}
 use Rattle.sched_base.specs.Numbers.{moment, domain as domain_number, pool as pool_number, span}
 use Rattle.sched_base.specs.declared.Moment.{Moment}
 use Rattle.sched_model.specs.declared.config.DomConfig.{DomConfig}
-use Rattle.sched_model.specs.declared.plan.Plan.{Plan}
-use Rattle.sched_model.specs.declared.plan.Plan.TheVariants as plan
 use Rattle.sched_model.specs.declared.event.Event.{Event}
 use Rattle.sched_model.specs.declared.event.Entry.{Entry}
-use Rattle.sched_model.specs.declared.work.CommandLine.{CommandLine}
-use Rattle.sched_model.specs.declared.work.StallLine.{StallLine}
 use Rattle.sched_model.specs.declared.state.Processor.{Processor}
 use Rattle.sched_model.specs.declared.state.Resource.{Resource}
 use Rattle.sched_model.specs.Places.{at_place, put_at, numbers_from, least}
@@ -23,14 +19,12 @@ use Rattle.sched_model.specs.State.{has_core, is_runnable}
 use Rattle.sched_model.specs.Opening.{opening_pool, empty_pool, with_pins, opening, opening_free, with_domains, with_configured, fresh_core, core_count}
 use Rattle.sched_model.specs.declared.action.Action.{Action}
 use Rattle.sched_model.specs.Pool.{home_cores}
-use Rattle.sched_model.specs.declared.action.Action.TheVariants.{Stall, Xl, Moved, DomMoved, Wake, Block, Slice, Repl, Refill, Arrive, Decide, Leave, Save}
-use Rattle.sched_model.specs.Actions.{home_of, home_of_core, home_of_domain}
-use Rattle.sched_model.specs.Commands.{carried_out, change_home, pool_of_plan, set_rtds_unit}
-use Rattle.sched_model.specs.Machine.{is_enabled, first_enabled, moments, next_moment, next_in_horizon, after, after_at_home, after_stall, after_command, after_moved, after_dom_moved, verdict, settled_at}
+use Rattle.sched_model.specs.Commands.{set_rtds_unit}
+use Rattle.sched_model.specs.Machine.{is_enabled, first_enabled, moments, next_moment, next_in_horizon, after}
 use Rattle.sched_model.specs.Runs.{Reached, action_of, end_of, after_quiet, after_event, IsNextEvent, IsRunFrom, IsRun, begun, after_entry, after_entries}
 use Rattle.sched_model.specs.Checked.{IsChecked}
 use Rattle.sched_laws.specs.Each.{EachPlace}
-use Rattle.sched_laws.proofs.EachPlace.{EachPlace-change_at, EachPlace-put_at, EachPlace-clear_at, EachPlace-empty, by_option, by_cond}
+use Rattle.sched_laws.proofs.EachPlace.{EachPlace-empty, by_option, by_cond}
 use Rattle.std.proofs.Math.Decide.{dec_le}
 use Rattle.sched_laws.proofs.Kept.{IsApart}
 use Rattle.sched_laws.proofs.ApartKept.{apart_after}
@@ -51,10 +45,11 @@ use Rattle.sched_model.specs.declared.state.ArincRecords.{ArincRecords}
 use Rattle.sched_model.specs.declared.state.Domain.{Domain}
 use Rattle.sched_model.specs.Checked.{IsCheckedPool, PoolParamsPass}
 use Rattle.sched_model.specs.Policy.{default_pool_params, fresh_records, join, rtds_record, default_dom_params}
-use Rattle.sched_model.specs.Pool.{queue_units, queue_if_off, queue_unit, with_domain, set_params, is_off, unit_count}
+use Rattle.sched_model.specs.Pool.{change_domain, queue_units, queue_if_off, queue_unit, with_domain, set_params, is_off, unit_count}
 use Rattle.sched_laws.proofs.Window.{FitsMajor}
-use Rattle.sched_laws.proofs.Due.{FrameFits, SameWindows, arinc_of, same_changed, same_joined, PoolFits, not_yet, d_change_processor, d_settled, d_acts, d_withdrawn, d_pause, d_unpause, d_set_params, d_set_leaving, d_with_domain, d_core_comes, d_core_goes, d_without_domain, d_later, d_set_rtds_unit}
+use Rattle.sched_laws.proofs.Due.{FrameFits, SameWindows, arinc_of, same_changed, same_joined, PoolFits, not_yet, d_parts, d_commands, d_set_params, d_with_domain, d_core_comes, d_core_goes, d_without_domain, d_later, d_set_rtds_unit}
 use Rattle.sched_laws.proofs.Calm.{IsCalm, calm_settled, calm_change_processor, calm_later, calm_without_domain}
+use Rattle.sched_laws.proofs.Events.{kept_settled, kept_processor, kept_by_parts, kept_set_leaving, kept_withdrawn, kept_pause, kept_unpause}
 use Rattle.sched_laws.proofs.Steps.{IsKeptAt, FreeFits, step_after}
 use Rattle.sched_laws.proofs.Bools.{and_left}
 use Rattle.sched_laws.proofs.Lists.{length_change_item}
@@ -153,13 +148,13 @@ module _ (m : Machine) (t : ℕ) where
       let g : ℕ = m.config.granularity in
       record {
         weakens = λ pool r. r.fit;
-        settles = λ pool f. record { fit = record { own = own.inside.settles t pool f.own; fits = d_settled n g t pool f.fits }; calms = calm_settled t pool };
-        stalls = λ p end pool fits r. record { fit = record { own = own.inside.stalls p end pool r.fit.own; fits = d_change_processor n g t p (λ q. record q { stall_end = moment end }) pool r.fit.fits }; calms = calm_change_processor g t p (λ q. record q { stall_end = moment end }) pool r.calms };
-        acts = λ pool action on r. record { own = own.inside.acts t pool action on r.fit.own; fits = d_acts n g t pool action r.fit.fits };
-        leaves = λ r pool f. record { own = own.inside.leaves r pool f.own; fits = d_set_leaving n g t r pool f.fits };
-        moves = λ d i pool f. record { own = own.inside.moves d i pool f.own; fits = d_withdrawn n g t d (λ x. record x { moving = Some (pool_number i) }) pool f.fits };
-        pauses = λ d pool f. record { own = own.inside.pauses d pool f.own; fits = d_pause n g t d pool f.fits };
-        unpauses = λ d pool f. record { own = own.inside.unpauses d pool f.own; fits = d_unpause n g t d pool f.fits };
+        settles = λ pool f. record { fit = record { own = own.inside.settles t pool f.own; fits = kept_settled (d_commands n g t) t pool f.fits }; calms = calm_settled t pool };
+        stalls = λ p end pool fits r. record { fit = record { own = own.inside.stalls p end pool r.fit.own; fits = kept_processor (d_parts n g t) p (λ q. record q { stall_end = moment end }) pool r.fit.fits }; calms = calm_change_processor g t p (λ q. record q { stall_end = moment end }) pool r.calms };
+        acts = λ pool action on r. record { own = own.inside.acts t pool action on r.fit.own; fits = kept_by_parts (d_parts n g t) pool action tt r.fit.fits };
+        leaves = λ r pool f. record { own = own.inside.leaves r pool f.own; fits = kept_set_leaving (d_commands n g t) r pool f.fits };
+        moves = λ d i pool f. record { own = own.inside.moves d i pool f.own; fits = kept_withdrawn (d_commands n g t) d (change_domain d (λ x. record x { moving = Some (pool_number i) }) pool) f.fits };
+        pauses = λ d pool f. record { own = own.inside.pauses d pool f.own; fits = kept_pause (d_commands n g t) d pool f.fits };
+        unpauses = λ d pool f. record { own = own.inside.unpauses d pool f.own; fits = kept_unpause (d_commands n g t) d pool f.fits };
         changes = λ change pool good f. record { own = own.inside.changes change t pool f.own; fits = d_set_params n g t change pool good f.fits };
         core_comes = λ r ends pool none whole q. record { own = own.core_comes r ends pool none q.fit.own; fits = d_core_comes n g t r ends pool whole q.fit.fits };
         rtds = λ period budget extra u pool good f. record { own = own_set_rtds_unit m.config.granularity t period budget extra u pool f.own; fits = d_set_rtds_unit n g t period budget extra u pool f.fits };

@@ -33,37 +33,12 @@ module _ {X : Type 0} (f : Records → X) (credit2 : (a b : Credit2Records) → 
 
   pub same_joined : (records : Records) (params : DomParams) (d count t : ℕ) → f (joined_records records params d count t) ≡ f records
   same_joined (Credit2Pool records) (dom_params.Credit2 weight percent) d count t = credit2 _ records
-  same_joined (Credit2Pool records) (dom_params.Rtds period budget extra) d count t = refl
-  same_joined (Credit2Pool records) dom_params.Arinc653 d count t = refl
-  same_joined (Credit2Pool records) dom_params.Null d count t = refl
-  same_joined (RtdsPool domains) (dom_params.Credit2 weight percent) d count t = refl
   same_joined (RtdsPool domains) (dom_params.Rtds period budget extra) d count t = rtds _ domains
-  same_joined (RtdsPool domains) dom_params.Arinc653 d count t = refl
-  same_joined (RtdsPool domains) dom_params.Null d count t = refl
-  same_joined (ArincPool records) (dom_params.Credit2 weight percent) d count t = refl
-  same_joined (ArincPool records) (dom_params.Rtds period budget extra) d count t = refl
-  same_joined (ArincPool records) dom_params.Arinc653 d count t = refl
-  same_joined (ArincPool records) dom_params.Null d count t = refl
-  same_joined (NullPool kept) (dom_params.Credit2 weight percent) d count t = refl
-  same_joined (NullPool kept) (dom_params.Rtds period budget extra) d count t = refl
-  same_joined (NullPool kept) dom_params.Arinc653 d count t = refl
-  same_joined (NullPool kept) dom_params.Null d count t = refl
+  same_joined records params d count t = refl
 
   pub same_changed : (records : Records) (change : ParamChange) (t : ℕ) → IsNoFrame change → f (changed_records records change t) ≡ f records
-  same_changed records (changes.Frame frame) t none = absurd none
   same_changed (Credit2Pool records) (changes.Dom d weight percent) t none = credit2 _ records
   same_changed (Credit2Pool records) (changes.Rate limit) t none = credit2 _ records
-  same_changed (Credit2Pool records) (changes.«Unit» u period budget extra) t none = refl
-  same_changed (Credit2Pool records) (changes.Pin d unit cores) t none = refl
-  same_changed (RtdsPool domains) (changes.Dom d weight percent) t none = refl
-  same_changed (RtdsPool domains) (changes.Rate limit) t none = refl
   same_changed (RtdsPool domains) (changes.«Unit» u period budget extra) t none = rtds _ domains
-  same_changed (RtdsPool domains) (changes.Pin d unit cores) t none = refl
-  same_changed (ArincPool records) (changes.Dom d weight percent) t none = refl
-  same_changed (ArincPool records) (changes.Rate limit) t none = refl
-  same_changed (ArincPool records) (changes.«Unit» u period budget extra) t none = refl
-  same_changed (ArincPool records) (changes.Pin d unit cores) t none = refl
-  same_changed (NullPool kept) (changes.Dom d weight percent) t none = refl
-  same_changed (NullPool kept) (changes.Rate limit) t none = refl
-  same_changed (NullPool kept) (changes.«Unit» u period budget extra) t none = refl
-  same_changed (NullPool kept) (changes.Pin d unit cores) t none = refl
+  same_changed records (changes.Frame frame) t none = absurd none
+  same_changed records change t none = refl

@@ -1,20 +1,18 @@
 -- A processor runs a vCPU of its core's unit, at its place; and the stage of a core fits its processors.
-use Rattle.std.proofs.Common.{◌≡◌, ◌≢◌, ◌<◌, ℕ, zero, suc, Bool, true, false, not, List, [], ◌∷◌, refl, arith, subst, sym, ◌∙◌, ap, cond, ◌⊎◌, inl, inr}
+use Rattle.std.proofs.Common.{◌≡◌, ◌<◌, ℕ, zero, suc, Bool, true, false, not, List, [], ◌∷◌, refl, arith, subst, sym, ◌∙◌, ap, inl, inr}
 use Rattle.std.specs.Prelude.{Option, Some, None, is_none, slice_get, ◌&&◌, ◌||◌, ◌+◌, ◌*◌, ◌/◌, ◌%◌}
 use Rattle.std.specs.List.{list_any, list_all}
-use Rattle.sched_base.specs.Numbers.{moment, domain as domain_number, pool as pool_number}
+use Rattle.sched_base.specs.Numbers.{moment, pool as pool_number}
 use Rattle.sched_base.specs.declared.Moment.{Moment}
 use Rattle.sched_base.specs.declared.UnitId.{UnitId}
 use Rattle.sched_base.specs.declared.VcpuId.{VcpuId}
-use Rattle.sched_model.specs.declared.config.ParamChange.{ParamChange}
-use Rattle.sched_model.specs.declared.config.ParamChange.TheVariants as changes
 use Rattle.sched_model.specs.declared.state.Doing.{Doing}
 use Rattle.sched_model.specs.declared.state.Doing.TheVariants.{Guest, Idle, Held}
 use Rattle.sched_model.specs.declared.state.Stage.TheVariants.{Open, Decided}
 use Rattle.std.proofs.lemmas.Nat.{div-mul-add, mod-mul-add}
 use Rattle.sched_model.specs.declared.state.Processor.{Processor}
 use Rattle.sched_model.specs.declared.state.Resource.{Resource}
-use Rattle.sched_model.specs.Places.{at_place, put_at, change_at, change_each, change_item, test_at, numbers_from, is_unit}
+use Rattle.sched_model.specs.Places.{at_place, put_at, change_at, change_item, test_at, numbers_from, is_unit}
 use Rattle.sched_model.specs.declared.state.Pool.{Pool}
 use Rattle.sched_model.specs.State.{is_awake, is_up, is_runnable}
 use Rattle.sched_model.specs.Opening.{fresh_core, core_count}
@@ -22,26 +20,16 @@ use Rattle.sched_model.specs.Eligible.{Decision}
 use Rattle.sched_model.specs.Policy as policy
 use Rattle.sched_model.specs.Policy.{decision_of, dequeue_domain, rtds_record}
 use Rattle.sched_model.specs.Pool as pools
-use Rattle.sched_model.specs.declared.action.Action.{Action}
 use Rattle.sched_model.specs.Pool.{enabled_in, after_in, settled, home_cores, reconsidered, change_core, change_processor, change_vcpu, change_domain, change_cores_of, set_pending, does, queue_unit, started_on, decided, same_choice, ask_of, set_leaving, set_moving, pause, unpause, set_params, without_domain, with_domain, with_records, is_of_domain}
-use Rattle.sched_model.specs.declared.action.Action.TheVariants.{Stall, Xl, Moved, DomMoved, Wake, Block, Slice, Repl, Refill, Arrive, Decide, Leave, Save}
+use Rattle.sched_model.specs.declared.action.Action.TheVariants.{Arrive}
 use Rattle.sched_laws.specs.Each.{EachPlace}
-use Rattle.sched_laws.proofs.EachPlace.{EachPlace-change_at, EachPlace-put_at, EachPlace-clear_at, EachPlace-change_each, EachPlace-empty, found_at, by_option, by_test, by_cond}
+use Rattle.sched_laws.proofs.EachPlace.{EachPlace-change_at, EachPlace-put_at, EachPlace-clear_at, EachPlace-empty, found_at, by_option, by_test, by_cond}
 use Rattle.sched_laws.proofs.Choices.{is_unit_same}
+pub use Rattle.sched_laws.proofs.Lists.{read_change_item}
 use Rattle.sched_laws.proofs.Kept.{IsKept, IsFresh, passes_at}
-use Rattle.sched_laws.proofs.Bools.{and_left, and_right, not_true}
+use Rattle.sched_laws.proofs.Bools.{and_left, and_right, not_true, clash}
+use Rattle.sched_laws.proofs.Events.{EachAt-like, capped, like_of_domain, IsMarked, Enabled, KeptByCommands, KeptBySteps, kept_settled, kept_by_event, kept_set_leaving, kept_withdrawn, kept_pause, kept_unpause, kept_marked, kept_queue_units}
 use Rattle.sched_laws.specs.Known.{CoreIsSound, AreSound}
-
--- a place of a list after a change of one
-pub read_change_item : {X : Type 0} (i j : ℕ) (f : X → X) (xs : List X) (y : X) → slice_get (change_item i f xs) j ≡ Some y → ((j ≢ i) × (slice_get xs j ≡ Some y)) ⊎ ((x : X) × (slice_get xs i ≡ Some x) × (j ≡ i) × (f x ≡ y))
-read_change_item i j f [] y at = absurd (cc)
-read_change_item zero zero f (x ∷ xs) y at = inr (x, refl, refl, cc)
-read_change_item zero (suc j) f (x ∷ xs) y at = inl (λ e. omega arith, at)
-read_change_item (suc i) zero f (x ∷ xs) y at = inl (λ e. omega arith, at)
-read_change_item (suc i) (suc j) f (x ∷ xs) y at = elim (read_change_item i j f xs y at) [
-  | inl was ↦ inl (λ e. was.0 (omega arith), was.1)
-  | inr r ↦ inr (r.0, r.1, ap suc r.2, r.3)
-]
 
 -- a change that the test does not see
 pub list_any-change_item : {X : Type 0} (i : ℕ) (f : X → X) (test : X → Bool) (xs : List X) → ((x : X) → slice_get xs i ≡ Some x → test (f x) ≡ test x) → list_any test (change_item i f xs) ≡ list_any test xs
@@ -155,46 +143,29 @@ module _ (g : ℕ) (some : 0 < g) where
           subst (λ (w : VcpuId). (c.cur ≡ Some (pools.unit_of g w)) × (w.n % g ≡ i)) same (at, mod-mul-add u.n g i inside)
 
   -- a vCPU that is awake joins its siblings
-  sound_joined_siblings : (t : ℕ) (v : VcpuId) (pool : Pool) → AreSound g pool → AreSound g (pools.joined_siblings g t v pool)
-  sound_joined_siblings t v pool sound =
-      by_option (AreSound g) (pools.core_of pool (pools.unit_of g v)) _ _ (λ is. sound)
-      (λ r is. by_option (AreSound g) (pools.processor_of g pool (r * g + v.n % g)) _ _ (λ is2. sound)
-      (λ q is2. by_cond (AreSound g) (pools.is_idle q) _ _ (λ idle. joins r q is is2 idle) (λ idle. sound)))
-    where
-      joins : (r : ℕ) (q : Processor) → pools.core_of pool (pools.unit_of g v) ≡ Some r → pools.processor_of g pool (r * g + v.n % g) ≡ Some q → pools.is_idle q ≡ true → AreSound g (started_on g t (r * g + v.n % g) v pool)
-      joins r q is is2 idle =
-          let low : v.n % g < g = omega arith in
-          let at_r : (r * g + v.n % g) / g ≡ r = div-mul-add r g (v.n % g) low in
-          let at_v : (r * g + v.n % g) % g ≡ v.n % g = mod-mul-add r g (v.n % g) low in
-          let f = found_at r (λ (c : Resource). is_unit c.cur (pools.unit_of g v)) pool.resources is in
-          let p = processor_of_is g pool (r * g + v.n % g) q is2 in
-          sound_change_core ((r * g + v.n % g) / g) _ pool (λ c at here.
-          let same : f.0 ≡ c = (let at2 : at_place pool.resources r ≡ Some c = subst (λ k. at_place pool.resources k ≡ Some c) at_r at in cc) in
-          let q_is : slice_get c.processors ((r * g + v.n % g) % g) ≡ Some q = (let e : p.0 ≡ c = cc in subst (λ (x : Resource). slice_get x.processors ((r * g + v.n % g) % g) ≡ Some q) e p.2) in
-          sound_processor c ((r * g + v.n % g) % g) (does (Guest v))
-          (λ x at3. (let e : q ≡ x = cc in sym (subst (λ (y : Processor). pools.is_held y ≡ false) e (idle_not_held q idle))))
-          (λ x w at3 e. (let e2 : v ≡ w = cc in subst (λ (y : VcpuId). (c.cur ≡ Some (pools.unit_of g y)) × (y.n % g ≡ (r * g + v.n % g) % g)) e2 (subst (λ (y : Resource). y.cur ≡ Some (pools.unit_of g v)) same (is_unit_same f.0.cur _ f.2), sym at_v)))
-          here) sound
+  sound_joins : (t : ℕ) (v : VcpuId) (r : ℕ) (q : Processor) (pool : Pool) → pools.core_of pool (pools.unit_of g v) ≡ Some r → pools.processor_of g pool (r * g + v.n % g) ≡ Some q → pools.is_idle q ≡ true → AreSound g pool → AreSound g (started_on g t (r * g + v.n % g) v pool)
+  sound_joins t v r q pool is is2 idle sound =
+      let low : v.n % g < g = omega arith in
+      let at_r : (r * g + v.n % g) / g ≡ r = div-mul-add r g (v.n % g) low in
+      let at_v : (r * g + v.n % g) % g ≡ v.n % g = mod-mul-add r g (v.n % g) low in
+      let f = found_at r (λ (c : Resource). is_unit c.cur (pools.unit_of g v)) pool.resources is in
+      let p = processor_of_is g pool (r * g + v.n % g) q is2 in
+      sound_change_core ((r * g + v.n % g) / g) _ pool (λ c at here.
+      let same : f.0 ≡ c = (let at2 : at_place pool.resources r ≡ Some c = subst (λ k. at_place pool.resources k ≡ Some c) at_r at in cc) in
+      let q_is : slice_get c.processors ((r * g + v.n % g) % g) ≡ Some q = (let e : p.0 ≡ c = cc in subst (λ (x : Resource). slice_get x.processors ((r * g + v.n % g) % g) ≡ Some q) e p.2) in
+      sound_processor c ((r * g + v.n % g) % g) (does (Guest v))
+      (λ x at3. (let e : q ≡ x = cc in sym (subst (λ (y : Processor). pools.is_held y ≡ false) e (idle_not_held q idle))))
+      (λ x w at3 e. (let e2 : v ≡ w = cc in subst (λ (y : VcpuId). (c.cur ≡ Some (pools.unit_of g y)) × (y.n % g ≡ (r * g + v.n % g) % g)) e2 (subst (λ (y : Resource). y.cur ≡ Some (pools.unit_of g v)) same (is_unit_same f.0.cur _ f.2), sym at_v)))
+      here) sound
 
-  sound_after_wake : (t : ℕ) (v : VcpuId) (pool : Pool) → AreSound g pool → AreSound g (pools.after_wake g t v pool)
-  sound_after_wake t v pool sound =
-      let next : Pool = change_vcpu v pools.woken pool in
-      by_test (AreSound g) (is_runnable g next (pools.unit_of g v)) _ _
-      (λ runs. by_cond (AreSound g) (pools.is_off next (pools.unit_of g v)) _ _ (λ off. sound) (λ off. sound_joined_siblings t v next sound))
-      (λ runs. sound)
-
-  sound_after_block : (t p : ℕ) (v : VcpuId) (pool : Pool) → pools.guest_of g pool p ≡ Some v → AreSound g pool → AreSound g (pools.after_block g t p v pool)
-  sound_after_block t p v pool guest sound =
+  sound_blocks : (t p : ℕ) (v : VcpuId) (pool : Pool) → pools.guest_of g pool p ≡ Some v → AreSound g pool → AreSound g (change_processor g p (does Idle) (change_vcpu v (pools.put_to_sleep t) pool))
+  sound_blocks t p v pool guest sound =
       let found = guest_of_is g pool p v guest in
-      let next : Pool = change_processor g p (does Idle) (change_vcpu v (pools.put_to_sleep t) pool) in
-      let here : AreSound g next =
       sound_change_core (p / g) _ pool (λ c at core.
       sound_processor c (p % g) (does Idle)
       (λ x at2. (let e : found.0 ≡ c = cc in let q_is : slice_get c.processors (p % g) ≡ Some found.1 = subst (λ (y : Resource). slice_get y.processors (p % g) ≡ Some found.1) e found.3 in
       let e2 : found.1 ≡ x = cc in sym (subst (λ (y : Processor). pools.is_held y ≡ false) e2 (guest_not_held found.1 v found.4))))
-      (λ x w at2 e. absurd (cc)) core) sound in
-      by_cond (AreSound g) (is_runnable g next (pools.unit_of g v)) _ _ (λ runs. here)
-      (λ runs. sound_change_core (p / g) _ next (λ c at core. sound_same c _ refl refl refl (λ e. e) (λ e. refl) core) here)
+      (λ x w at2 e. absurd (cc)) core) sound
 
   sound_after_arrive : (t p : ℕ) (pool : Pool) → enabled_in g t pool (Arrive p) ≡ true → AreSound g pool → AreSound g (pools.after_arrive g t p pool)
   sound_after_arrive t p pool on sound =
@@ -259,76 +230,43 @@ module _ (g : ℕ) (some : 0 < g) where
       (λ is. sound_leaves p c Idle pool at closed (λ v e. absurd (cc)) sound)
       (λ v is. sound_leaves p c (Guest v) pool at closed (λ w e. (let same : v ≡ w = cc in subst (λ (x : VcpuId). (c.cur ≡ Some (pools.unit_of g x)) × (x.n % g ≡ p % g)) same (vcpu_for_is pool c (p % g) v (omega arith) is))) sound)
 
-  sound_after_save : (r : ℕ) (u : UnitId) (pool : Pool) → AreSound g pool → AreSound g (pools.after_save g r u pool)
-  sound_after_save r u pool sound =
-      let here : AreSound g (change_core r pools.saved pool) = sound_change_core r pools.saved pool (λ c at core. sound_same c _ refl refl refl (λ e. refl) (λ e. e) core) sound in
-      by_cond (AreSound g) (is_runnable g pool u) _ _ (λ runs. here) (λ runs. here)
+  -- marks that change
+  sound_marked : (c d : Resource) → IsMarked c d → Sound c → Sound d
+  sound_marked c d marked sound = elim marked.stage [
+    | inl same ↦ sound_same c d marked.processors same marked.keeps.cur (λ none. marked.keeps.saving ∙ none) marked.keeps.pending sound
+    | inr opened ↦ record {
+      guests = λ i p v at is. (let r = sound.guests i p v (subst (λ ps. slice_get ps i ≡ Some p) marked.processors at) is in (marked.keeps.cur ∙ r.0, r.1));
+      decided = λ is. absurd (let e : pools.is_open d ≡ true = ap (λ st. elim st as (λ _. Bool) [ Open ↦ true | Decided ↦ false ]) opened.0 in cc);
+      gathers = λ is held. absurd (clash (list_any pools.is_held c.processors) (subst (λ ps. list_any pools.is_held ps ≡ true) marked.processors held) opened.1);
+    }
+  ]
 
-  sound_after_replenish : (t : ℕ) (u : UnitId) (pool : Pool) → AreSound g pool → AreSound g (pools.after_replenish t u pool)
-  sound_after_replenish t u pool sound =
-      by_option (AreSound g) (pools.core_of pool u) _ _ (λ is. sound)
-      (λ r is. by_option (AreSound g) (rtds_record (policy.replenish pool.scheduler.records t u) u) _ _ (λ is2. sound)
-      (λ x is2. sound_change_core r _ pool (λ c at core. sound_same c _ refl refl refl (λ e. e) (λ e. e) core) sound))
+  sound_commands : KeptByCommands g (AreSound g)
+  sound_commands = record {
+    marks = λ cores pool like. EachAt-like IsMarked (λ r. Sound) pool.resources cores like (λ r. sound_marked);
+    queues = λ u pool runs sound. sound;
+    dequeues = λ d pool sound. sound;
+    pausing = λ d paused pool sound. sound;
+  }
 
-  sound_acts : (t : ℕ) (pool : Pool) (action : Action) → enabled_in g t pool action ≡ true → AreSound g pool → AreSound g (after_in g t pool action)
-  sound_acts t pool Stall on sound = sound
-  sound_acts t pool Xl on sound = sound
-  sound_acts t pool (Moved r) on sound = sound
-  sound_acts t pool (DomMoved d) on sound = sound
-  sound_acts t pool (Wake v) on sound = sound_after_wake t v pool sound
-  sound_acts t pool (Block p) on sound = by_option (AreSound g) (pools.guest_of g pool p) _ _ (λ is. sound) (λ v is. sound_after_block t p v pool is sound)
-  sound_acts t pool (Slice r) on sound = sound_change_core r _ pool (λ c at core. sound_same c _ refl refl refl (λ e. e) (λ e. refl) core) sound
-  sound_acts t pool (Repl u) on sound = sound_after_replenish t u pool sound
-  sound_acts t pool (Refill d) on sound = sound
-  sound_acts t pool (Arrive p) on sound = sound_after_arrive t p pool on sound
-  sound_acts t pool (Decide r) on sound = by_option (AreSound g) (at_place pool.resources r) _ _ (λ is. sound) (λ c is. sound_after_decide t r c pool is (passes_at pool.resources r (λ (x : Resource). list_all pools.is_held x.processors && pools.is_open x && pools.first_up t x) c is on) sound)
-  sound_acts t pool (Leave p) on sound = by_option (AreSound g) (at_place pool.resources (p / g)) _ _ (λ is. sound)
-      (λ c is. sound_after_leave t p c pool is (not_true (pools.is_open c) (passes_at pool.resources (p / g) (λ (x : Resource). not (pools.is_open x)) c is (and_left (test_at pool.resources (p / g) (λ (x : Resource). not (pools.is_open x))) _ on))) sound)
-  sound_acts t pool (Save r) on sound = by_option (AreSound g) (at_place pool.resources r) _ _ (λ is. sound) (λ c is. by_option (AreSound g) c.saving _ _ (λ is2. sound) (λ u is2. sound_after_save r u pool sound))
+  sound_steps : (t : ℕ) → KeptBySteps g t (Enabled g t) (AreSound g)
+  sound_steps t = record {
+    commands = sound_commands;
+    wakes = λ v pool on sound. sound;
+    joins = λ v r q pool is is2 idle awake. sound_joins t v r q pool is is2 idle;
+    blocks = λ p v pool guest on. sound_blocks t p v pool guest;
+    arrives = sound_after_arrive t;
+    decides = λ r c pool at on. sound_after_decide t r c pool at (passes_at pool.resources r (λ (x : Resource). list_all pools.is_held x.processors && pools.is_open x && pools.first_up t x) c at on);
+    leaves = λ p c pool at on. sound_after_leave t p c pool at (not_true (pools.is_open c) (passes_at pool.resources (p / g) (λ (x : Resource). not (pools.is_open x)) c at (and_left (test_at pool.resources (p / g) (λ (x : Resource). not (pools.is_open x))) _ on)));
+    saves = λ r c u pool at is on. sound_change_core r pools.saved pool (λ x there core. sound_same x _ refl refl refl (λ e. refl) (λ e. e) core);
+    replenishes = λ u pool on sound. sound;
+    dues = λ r u x old pool on is. sound_change_core r (pools.due_within t x.budget) pool (λ c there core. sound_same c _ refl refl refl (λ e. e) (λ e. e) core);
+    refills = λ d pool on sound. sound;
+  }
 
-  sound_change_each : (f : ℕ → Resource → Resource) (pool : Pool) → ((r : ℕ) (c : Resource) → Sound c → Sound (f r c)) → AreSound g pool → AreSound g (record pool { resources = change_each 0 f pool.resources })
-  sound_change_each f pool keeps sound = EachPlace-change_each Sound f pool.resources sound (λ r c at. keeps r c)
-
-  sound_change_cores_of : (d : ℕ) (f : Resource → Resource) (pool : Pool) → ((c : Resource) → Sound c → Sound (f c)) → AreSound g pool → AreSound g (change_cores_of d f pool)
-  sound_change_cores_of d f pool keeps sound = sound_change_each (λ r c. cond (is_of_domain d c.cur) (f c) c) pool (λ r c here. by_cond Sound (is_of_domain d c.cur) (f c) c (λ is. keeps c here) (λ is. here)) sound
-
-  sound_pending : (c : Resource) → Sound c → Sound (set_pending c)
-  sound_pending c here = sound_same c _ refl refl refl (λ e. e) (λ e. refl) here
-
-  sound_settled : (t : ℕ) (pool : Pool) → AreSound g pool → AreSound g (settled t pool)
-  sound_settled t pool sound =
-      sound_change_each (reconsidered t (home_cores pool) pool.scheduler) pool
-      (λ r c here. by_cond Sound c.leaving c _ (λ is. here) (λ is. sound_same c _ refl refl refl (λ e. e) (λ e. or_of c.pending _ e) here)) sound
-    where
-      or_of : (a b : Bool) → a ≡ true → (a || b) ≡ true
-      or_of true b is = refl
-      or_of false b is = absurd (cc)
-
-  sound_queue_units : (d : ℕ) (units : List ℕ) (pool : Pool) → AreSound g pool → AreSound g (pools.queue_units g d units pool)
-  sound_queue_units d [] pool sound = sound
-  sound_queue_units d (n ∷ ns) pool sound =
-      let u : UnitId = record { dom = domain_number d; n = n } in
-      sound_queue_units d ns _ (by_cond (AreSound g) (is_runnable g pool u && pools.is_off pool u) _ _ (λ is. sound) (λ is. sound))
-
-  sound_unpause : (d : ℕ) (pool : Pool) → AreSound g pool → AreSound g (unpause g d pool)
-  sound_unpause d pool sound =
-      by_option (AreSound g) (at_place pool.domains d) _ _ (λ is. sound)
-      (λ domain is. by_cond (AreSound g) domain.paused _ _ (λ is2. sound_queue_units d (numbers_from 0 (pools.unit_count g domain)) (change_domain d (λ x. record x { paused = false }) pool) sound) (λ is2. sound))
-
-  sound_set_leaving : (r : ℕ) (pool : Pool) → AreSound g pool → AreSound g (set_leaving r pool)
-  sound_set_leaving r pool sound = sound_change_core r _ pool (λ c at core. sound_same c _ refl refl refl (λ e. e) (λ e. or_of c.pending _ e) core) sound
-    where
-      or_of : (a b : Bool) → a ≡ true → (a || b) ≡ true
-      or_of true b is = refl
-      or_of false b is = absurd (cc)
-
-  sound_marked : (change : ParamChange) (t : ℕ) (pool : Pool) → AreSound g pool → AreSound g (pools.marked change t pool)
-  sound_marked (changes.Dom d weight (Some cap)) t pool sound = sound_change_cores_of d.0 _ pool (λ c here. sound_same c _ refl refl refl (λ e. e) (λ e. refl) here) sound
-  sound_marked (changes.Dom d weight None) t pool sound = sound
-  sound_marked (changes.Rate limit) t pool sound = sound
-  sound_marked (changes.«Unit» u period budget extra) t pool sound = sound
-  sound_marked (changes.Frame frame) t pool sound = sound_change_each (λ r c. set_pending c) pool (λ r. sound_pending) sound
-  sound_marked (changes.Pin d unit cores) t pool sound = sound
+  sound_caps : (t d : ℕ) (pool : Pool) → AreSound g pool → AreSound g (change_cores_of d (capped t) pool)
+  sound_caps t d pool sound =
+      EachAt-like (λ c e. Sound c → Sound e) (λ r. Sound) pool.resources _ (like_of_domain (λ c e. Sound c → Sound e) d (capped t) pool.resources (λ c here. here) (λ c. sound_same c _ refl refl refl (λ e. e) (λ e. refl))) (λ r c e to. to) sound
 
   -- a core that joins: all its processors idle
   fresh_is_sound : (c : Resource) → IsFresh c → Sound c
@@ -350,20 +288,19 @@ module _ (g : ℕ) (some : 0 < g) where
   pub cores_are_sound : IsKept g (AreSound g)
   cores_are_sound = record {
     inside = record {
-      settles = sound_settled;
+      settles = kept_settled sound_commands;
       stalls = sound_stalls;
-      acts = sound_acts;
-      leaves = sound_set_leaving;
-      moves = λ d i pool sound. sound_change_cores_of d set_pending (record pool { domains = change_at d (λ domain. record domain { moving = Some (pool_number i) }) pool.domains; scheduler = dequeue_domain d pool.scheduler }) sound_pending sound;
-      pauses = λ d pool sound. by_cond (AreSound g) (test_at pool.domains d (λ domain. domain.paused)) _ _ (λ is. sound)
-          (λ is. sound_change_cores_of d set_pending (record pool { domains = change_at d (λ domain. record domain { paused = true }) pool.domains; scheduler = dequeue_domain d pool.scheduler }) sound_pending sound);
-      unpauses = sound_unpause;
-      changes = λ change t pool sound. sound_marked change t (record pool { scheduler = policy.set_params change t pool.scheduler }) sound;
+      acts = λ t. kept_by_event (sound_steps t);
+      leaves = kept_set_leaving sound_commands;
+      moves = λ d i pool sound. kept_withdrawn sound_commands d (change_domain d (λ domain. record domain { moving = Some (pool_number i) }) pool) sound;
+      pauses = kept_pause sound_commands;
+      unpauses = kept_unpause sound_commands;
+      changes = λ change t pool sound. kept_marked sound_commands t (sound_caps t) change (record pool { scheduler = policy.set_params change t pool.scheduler }) sound;
     };
     core_comes = λ r ends pool none sound. EachPlace-put_at Sound r (fresh_core ends) pool.resources sound (fresh_is_sound _ (ends, refl));
     core_goes = λ t r pool on sound. EachPlace-clear_at Sound r pool.resources sound;
     domain_comes = λ t d domain params pool stays none sound.
-        sound_queue_units d (numbers_from 0 (pools.unit_count g domain)) (record pool { domains = put_at d domain pool.domains; scheduler = policy.join d (pools.unit_count g domain) params t pool.scheduler }) sound;
+        kept_queue_units sound_commands d (numbers_from 0 (pools.unit_count g domain)) (record pool { domains = put_at d domain pool.domains; scheduler = policy.join d (pools.unit_count g domain) params t pool.scheduler }) sound;
     domain_goes = λ t d pool on sound. sound;
     empty = λ config params. EachPlace-empty Sound (core_count config);
     opens = λ config params cores whole fresh r c at. fresh_is_sound c (fresh r c at);

@@ -1,11 +1,10 @@
 -- What holds of each pool after an action, where looking at the cores of a pool makes more of what each step keeps.
 use Rattle.std.proofs.Common.{◌≡◌, ◌≢◌, ℕ, suc, Bool, true, false, List, [], ◌∷◌, refl, arith, subst, inl, inr, ap, sym, zero, ◌⊎◌, ◌∙◌}
-use Rattle.std.specs.Prelude.{Option, Some, None, Ok, Err, ◌==◌, ◌/◌, unwrap_or, slice_get, is_some, length, map, ◌+◌}
+use Rattle.std.specs.Prelude.{unwrap_or, Option, Some, None, Ok, Err, ◌==◌, ◌/◌, slice_get, is_some, map, ◌+◌}
 use Rattle.sched_base.specs.Numbers.{moment, span, domain as domain_number}
 use Rattle.sched_base.specs.declared.Moment.{Moment}
 use Rattle.sched_base.specs.declared.Span.{Span}
 use Rattle.sched_base.specs.declared.UnitId.{UnitId}
-use Rattle.sched_model.specs.declared.config.DomParams.{DomParams}
 use Rattle.sched_model.specs.declared.config.SchedKind.{SchedKind}
 use Rattle.sched_model.specs.declared.config.ParamChange.{ParamChange}
 use Rattle.sched_model.specs.declared.config.ParamChange.TheVariants as changes
@@ -23,14 +22,14 @@ use Rattle.sched_model.specs.Opening.{fresh_core, empty_pool}
 use Rattle.sched_model.specs.Policy.{rtds_record, default_pool_params, default_dom_params}
 use Rattle.sched_model.specs.declared.action.Action.{Action}
 use Rattle.sched_model.specs.Pool.{enabled_in, after_in, settled, change_processor, set_leaving, set_moving, pause, unpause, set_params, without_domain, with_domain}
-use Rattle.sched_model.specs.declared.action.Action.TheVariants.{Stall, Xl, Moved, DomMoved, Wake, Block, Slice, Repl, Refill, Arrive, Decide, Leave, Save}
+use Rattle.sched_model.specs.declared.action.Action.TheVariants.{Stall, Xl, Moved, DomMoved}
 use Rattle.sched_model.specs.Actions.{home_of, home_of_core, home_of_domain, change_pool}
 use Rattle.sched_model.specs.Commands.{carried_out, set_rtds, set_rtds_unit, pool_of_plan, rtds_units}
 use Rattle.sched_model.specs.Machine.{is_enabled, after, after_stall, after_command, after_moved, verdict, settled_at, attached, detached, left_by, joined_by, is_null, stall_end_of}
 use Rattle.sched_laws.specs.Each.{EachAt, EachPlace}
 use Rattle.sched_laws.proofs.EachPlace.{EachAt-change_at, EachAt-change_to, EachAt-put_at, EachAt-clear_at, read_change_at, at_place-clear_at, is_empty, by_option, by_cond}
 use Rattle.sched_laws.proofs.Lists.{test_at-some, is_some_at, get_later}
-use Rattle.sched_laws.proofs.Kept.{IsApart, passes_at}
+use Rattle.sched_laws.proofs.Kept.{IsApart, IsKept, passes_at}
 use Rattle.sched_laws.proofs.Judged.{Fits, verdict_fits, fits_next}
 use Rattle.sched_laws.proofs.Fits.{ChangeFits, RtdsFits}
 use Rattle.sched_model.specs.declared.state.Records.{Records}
@@ -151,19 +150,7 @@ module _ (m : Machine) (t : ℕ) (End : ℕ → Type 0) (Ends : List Moment → 
 
   same_home : (s : State) (k : ℕ) (p : Plan) → pool_of_plan (record s { next_command = k }) p ≡ pool_of_plan s p
   same_home s k (plan.PoolList pool answer) = refl
-  same_home s k (plan.PoolCreate j name kind answer) = refl
-  same_home s k (plan.PoolDestroy j answer) = refl
-  same_home s k (plan.PoolRename j name answer) = refl
-  same_home s k (plan.CpuAdd j core answer) = refl
-  same_home s k (plan.CpuRemove j core answer) = refl
-  same_home s k (plan.Migrate d a b answer) = refl
-  same_home s k (plan.Credit2Dom d weight percent answer) = refl
-  same_home s k (plan.Credit2Pool j limit answer) = refl
-  same_home s k (plan.RtdsDom d first count period budget extra answer) = refl
-  same_home s k (plan.Pause d answer) = refl
-  same_home s k (plan.Unpause d answer) = refl
-  same_home s k (plan.ArincSet j frame answer) = refl
-  same_home s k (plan.Pin d unit cores answer) = refl
+  same_home s k p = refl
 
   step_command : (line : CommandLine) (s : State) → EachPlace I s.pools → EachPlace I (after_command m t line s).pools
   step_command line s each =
@@ -243,12 +230,32 @@ module _ (m : Machine) (t : ℕ) (End : ℕ → Type 0) (Ends : List Moment → 
   step_after s Xl apart fits ends on each = by_option (λ (next : State). EachPlace I next.pools) (slice_get m.work.commands s.next_command) _ _ (λ is. each) (λ line is. step_command line s each)
   step_after s (Moved r) apart fits ends on each = step_moved r s apart fits on each
   step_after s (DomMoved d) apart fits ends on each = step_dom_moved d (home_of_domain s d) s apart on each
-  step_after s (Wake v) apart fits ends on each = step_at s (Wake v) (home_of m.config.granularity s (Wake v)) on each
-  step_after s (Block q) apart fits ends on each = step_at s (Block q) (home_of m.config.granularity s (Block q)) on each
-  step_after s (Slice r) apart fits ends on each = step_at s (Slice r) (home_of m.config.granularity s (Slice r)) on each
-  step_after s (Repl u) apart fits ends on each = step_at s (Repl u) (home_of m.config.granularity s (Repl u)) on each
-  step_after s (Refill d) apart fits ends on each = step_at s (Refill d) (home_of m.config.granularity s (Refill d)) on each
-  step_after s (Arrive q) apart fits ends on each = step_at s (Arrive q) (home_of m.config.granularity s (Arrive q)) on each
-  step_after s (Decide r) apart fits ends on each = step_at s (Decide r) (home_of m.config.granularity s (Decide r)) on each
-  step_after s (Leave q) apart fits ends on each = step_at s (Leave q) (home_of m.config.granularity s (Leave q)) on each
-  step_after s (Save r) apart fits ends on each = step_at s (Save r) (home_of m.config.granularity s (Save r)) on each
+  step_after s action apart fits ends on each = step_at s action (home_of m.config.granularity s action) on each
+
+-- the same of what each step keeps at any moment
+pub kept_after : (m : Machine) (I : Pool → Type 0) → IsKept m.config.granularity I → (s : State) (t : ℕ) (action : Action) → IsApart s → is_enabled m s t action ≡ true → EachPlace I s.pools → EachPlace I (after m s t action).pools
+kept_after m I kept s t action apart on each = step_after m t (λ end. Unit {0}) (λ ends. Unit {0}) (λ d x. Unit {0}) I I at_t s action apart (λ r c at. tt) (λ l is. tt) on each
+  where
+    at_t : IsKeptAt m t (λ end. Unit {0}) (λ ends. Unit {0}) (λ d x. Unit {0}) I I
+    at_t = record {
+      weakens = λ pool here. here;
+      settles = kept.inside.settles t;
+      stalls = λ p end pool any. kept.inside.stalls p end pool;
+      acts = kept.inside.acts t;
+      leaves = kept.inside.leaves;
+      moves = kept.inside.moves;
+      pauses = kept.inside.pauses;
+      unpauses = kept.inside.unpauses;
+      changes = λ change pool good. kept.inside.changes change t pool;
+      core_comes = λ r ends pool none any. kept.core_comes r ends pool none;
+      rtds = λ period budget extra u pool good here. by_option I (rtds_record pool.scheduler.records u) _ _ (λ is. here)
+          (λ x is. kept.inside.changes (changes.«Unit» u (unwrap_or period (span x.next_period)) (unwrap_or budget (span x.next_budget)) (unwrap_or extra x.next_extra)) t pool here);
+      ends_stall = λ k end ends any any2. tt;
+      ends_go = λ r c pool at here. tt;
+      core_goes = kept.core_goes t;
+      domain_is = λ d domain pool at here. tt;
+      domain_comes = λ d domain pool stays none any. kept.domain_comes t d domain (default_dom_params pool.scheduler.records) pool stays none;
+      domain_goes = kept.domain_goes t;
+      domain_leaves = λ d pool null. kept.domain_goes t d pool;
+      empty = λ kind. kept.empty m.config (default_pool_params kind);
+    }

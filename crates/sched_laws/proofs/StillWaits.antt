@@ -25,8 +25,8 @@ use Rattle.sched_model.specs.State.{is_up}
 use Rattle.sched_model.specs.Opening.{fresh_core, empty_pool}
 use Rattle.sched_model.specs.Policy.{rtds_record, default_dom_params}
 use Rattle.sched_model.specs.declared.action.Action.{Action}
-use Rattle.sched_model.specs.Pool.{enabled_in, after_in, settled, change_processor, set_leaving, set_moving, pause, unpause, set_params, without_domain, with_domain, is_held, is_open, first_up, does, processor_of, guest_of}
-use Rattle.sched_model.specs.declared.action.Action.TheVariants.{Stall, Xl, Moved, DomMoved, Wake, Block, Slice, Repl, Refill, Arrive, Decide, Leave, Save}
+use Rattle.sched_model.specs.Pool.{enabled_in, after_in, settled, change_processor, change_domain, set_leaving, set_moving, pause, unpause, set_params, without_domain, with_domain, is_held, is_open, first_up, does, processor_of, guest_of}
+use Rattle.sched_model.specs.declared.action.Action.TheVariants.{Stall, Xl, Moved, DomMoved, Block, Arrive, Decide, Leave}
 use Rattle.sched_model.specs.Actions.{home_of, home_of_core, home_of_domain, change_pool}
 use Rattle.sched_model.specs.Commands.{carried_out, change_home, set_rtds, set_rtds_unit, pool_of_plan}
 use Rattle.sched_model.specs.Machine.{is_enabled, after, after_stall, after_command, after_moved, after_dom_moved, verdict, settled_at, attached, detached, left_by, joined_by, is_null}
@@ -35,8 +35,9 @@ use Rattle.sched_model.specs.Checked.{IsChecked}
 use Rattle.sched_laws.specs.RunLaws.{core_waits, waits_in, waits, IsNoDecideOf, StillWaits}
 use Rattle.sched_laws.specs.StateLaws.{state_after}
 use Rattle.sched_laws.proofs.EachPlace.{by_option, by_cond, none_found, found_at}
-use Rattle.sched_laws.proofs.Lists.{test_at-some, some-test_at, test_at-put_at_other, test_at-clear_at, is_some_at}
-use Rattle.sched_laws.proofs.Kept.{IsApart, passes_at, kept_after}
+use Rattle.sched_laws.proofs.Lists.{test_at-change_at_keeps, test_at-some, some-test_at, test_at-put_at_other, test_at-clear_at, is_some_at}
+use Rattle.sched_laws.proofs.Kept.{IsApart, passes_at}
+use Rattle.sched_laws.proofs.Steps.{kept_after}
 use Rattle.sched_laws.specs.StateLaws.{has_core_at}
 use Rattle.sched_laws.proofs.ApartKept.{apart_after}
 use Rattle.sched_laws.proofs.Sound.{cores_are_sound, list_any_get, processor_of_is}
@@ -44,7 +45,8 @@ use Rattle.sched_laws.specs.Known.{AreSound}
 use Rattle.sched_laws.proofs.PoolsLaw.{IsKnown, known_in_runs}
 use Rattle.sched_laws.proofs.SiblingsLaw.{some_processor}
 use Rattle.sched_laws.proofs.Judged.{Fits, verdict_fits, fits_next}
-use Rattle.sched_laws.proofs.Waits.{test_at-change_at_keeps, w_acts, w_settled, w_change_processor, w_withdrawn, w_pause, w_unpause, w_set_params, w_set_leaving, w_with_domain}
+use Rattle.sched_laws.proofs.Waits.{w_change_processor, w_commands, w_steps, w_set_params, w_with_domain}
+use Rattle.sched_laws.proofs.Events.{kept_settled, kept_by_event, kept_set_leaving, kept_withdrawn, kept_pause, kept_unpause}
 use Rattle.sched_laws.proofs.Bools.{and_left, and_right, both, not_true}
 
 -- a pool with a core has one
@@ -70,7 +72,7 @@ module _ (g p i : ℕ) where
       → WaitsAt s → WaitsAt (elim home as (λ _. State) [ None ↦ s | Some j ↦ change_pool j (λ pool. settled t (after_in g t pool action)) s ])
   wait_at s t action other None on w = w
   wait_at s t action other (Some j) on w =
-      wait_change j (λ pool. settled t (after_in g t pool action)) s (λ pool at here. w_settled g p t (after_in g t pool action) (w_acts g p t pool action other (passes_at s.pools j (λ x. enabled_in g t x action) pool at on) here)) w
+      wait_change j (λ pool. settled t (after_in g t pool action)) s (λ pool at here. kept_settled (w_commands g p) t (after_in g t pool action) (kept_by_event (w_steps g p t) pool action (other, passes_at s.pools j (λ x. enabled_in g t x action) pool at on) here)) w
 
   wait_change_home : (d : ℕ) (f : Pool → Pool) (s : State) → ((pool : Pool) → W pool → W (f pool)) → WaitsAt s → WaitsAt (change_home d f s)
   wait_change_home d f s keeps w = by_option WaitsAt (home_of_domain s d) _ _ (λ is. w) (λ j is. wait_change j f s (λ pool at. keeps pool) w)
@@ -84,7 +86,6 @@ module _ (g p i : ℕ) where
 
   -- the pool of the core is neither made anew nor destroyed
   wait_carried_out : (m : Machine) → m.config.granularity ≡ g → (t : ℕ) (plan : Plan) (s : State) → Fits s plan → WaitsAt s → WaitsAt (carried_out m t plan s)
-  wait_carried_out m same t (plan.PoolList pool answer) s fits w = w
   wait_carried_out m same t (plan.PoolCreate j name kind answer) s fits w =
       test_at-put_at_other j.0 i (empty_pool m.config _) (waits_in g p) s.pools (λ e. (let f = some-test_at s.pools i (waits_in g p) w in let none : at_place s.pools i ≡ None = subst (λ k. at_place s.pools k ≡ None) (sym e) fits in absurd (cc))) ∙ w
   wait_carried_out m same t (plan.PoolDestroy j answer) s fits w =
@@ -92,23 +93,21 @@ module _ (g p i : ℕ) where
       let f = some-test_at s.pools i (waits_in g p) w in
       let c = some-test_at f.0.resources (p / g) (core_waits (p % g)) f.2 in
       some_core 0 (p / g) c.0 f.0.resources c.1 (fits f.0 (subst (λ k. at_place s.pools k ≡ Some f.0) e f.1)))) ∙ w
-  wait_carried_out m same t (plan.PoolRename j name answer) s fits w = w
-  wait_carried_out m same t (plan.CpuAdd j core answer) s fits w = w
-  wait_carried_out m same t (plan.CpuRemove j core answer) s fits w = wait_change j.0 (set_leaving core.0) s (λ pool at. w_set_leaving g p core.0 pool) w
+  wait_carried_out m same t (plan.CpuRemove j core answer) s fits w = wait_change j.0 (set_leaving core.0) s (λ pool at. kept_set_leaving (w_commands g p) core.0 pool) w
   wait_carried_out m same t (plan.Migrate d j k answer) s fits w =
-      by_cond WaitsAt (j.0 == k.0) s _ (λ is. w) (λ is. wait_change j.0 (set_moving d.0 k.0) s (λ pool at here. w_withdrawn g p d.0 (λ x. record x { moving = Some (pool_number k.0) }) pool here) w)
+      by_cond WaitsAt (j.0 == k.0) s _ (λ is. w) (λ is. wait_change j.0 (set_moving d.0 k.0) s (λ pool at here. kept_withdrawn (w_commands g p) d.0 (change_domain d.0 (λ x. record x { moving = Some (pool_number k.0) }) pool) here) w)
   wait_carried_out m same t (plan.Credit2Dom d weight percent answer) s fits w = wait_change_home d.0 (set_params (changes.Dom d weight percent) t) s (w_set_params g p (changes.Dom d weight percent) t) w
-  wait_carried_out m same t (plan.Credit2Pool j None answer) s fits w = w
   wait_carried_out m same t (plan.Credit2Pool j (Some us) answer) s fits w = wait_change j.0 (set_params (changes.Rate us) t) s (λ pool at. w_set_params g p (changes.Rate us) t pool) w
   wait_carried_out m same t (plan.RtdsDom d first count period budget extra answer) s fits w = wait_change_home d.0 (set_rtds t d.0 period budget extra (numbers_from first count)) s (wait_set_rtds t d.0 period budget extra (numbers_from first count)) w
-  wait_carried_out m same t (plan.Pause d answer) s fits w = wait_change_home d.0 (pause d.0) s (w_pause g p d.0) w
-  wait_carried_out m same t (plan.Unpause d answer) s fits w = wait_change_home d.0 (unpause m.config.granularity d.0) s (subst (λ k. (pool : Pool) → W pool → W (unpause k d.0 pool)) (sym same) (w_unpause g p d.0)) w
+  wait_carried_out m same t (plan.Pause d answer) s fits w = wait_change_home d.0 (pause d.0) s (kept_pause (w_commands g p) d.0) w
+  wait_carried_out m same t (plan.Unpause d answer) s fits w = wait_change_home d.0 (unpause m.config.granularity d.0) s (subst (λ k. (pool : Pool) → W pool → W (unpause k d.0 pool)) (sym same) (kept_unpause (w_commands g p) d.0)) w
   wait_carried_out m same t (plan.ArincSet j frame answer) s fits w = wait_change j.0 (set_params (changes.Frame frame) t) s (λ pool at. w_set_params g p (changes.Frame frame) t pool) w
   wait_carried_out m same t (plan.Pin d unit cores answer) s fits w = wait_change_home d.0 (set_params (changes.Pin d unit cores) t) s (w_set_params g p (changes.Pin d unit cores) t) w
+  wait_carried_out m same t pl s fits w = w
 
   wait_settled_at : (t : ℕ) (home : Option ℕ) (s : State) → WaitsAt s → WaitsAt (settled_at t home s)
   wait_settled_at t None s w = w
-  wait_settled_at t (Some j) s w = wait_change j (settled t) s (λ pool at. w_settled g p t pool) w
+  wait_settled_at t (Some j) s w = wait_change j (settled t) s (λ pool at. kept_settled (w_commands g p) t pool) w
 
   wait_command : (m : Machine) → m.config.granularity ≡ g → (t : ℕ) (line : CommandLine) (s : State) → WaitsAt s → WaitsAt (after_command m t line s)
   wait_command m same t line s w =
@@ -158,7 +157,7 @@ module _ (m : Machine) (p : ℕ) where
   wait_detached : (i t r j : ℕ) (c : Resource) (s : State) → Known s → test_at s.pools j (λ pool. enabled_in m.config.granularity t pool (Moved r)) ≡ true → WaitsAt m.config.granularity p i s → WaitsAt m.config.granularity p i (detached t r j c s)
   wait_detached i t r j c s known on w =
       wait_change m.config.granularity p i j (λ pool. settled t (record pool { resources = clear_at r pool.resources })) s
-      (λ pool at here. w_settled m.config.granularity p t (record pool { resources = clear_at r pool.resources })
+      (λ pool at here. kept_settled (w_commands m.config.granularity p) t (record pool { resources = clear_at r pool.resources })
       (test_at-clear_at r (p / m.config.granularity) (core_waits (p % m.config.granularity)) pool.resources (λ e. (
       let here_on = passes_at s.pools j (λ x. enabled_in m.config.granularity t x (Moved r)) pool at on in
       let f = some-test_at pool.resources (p / m.config.granularity) (core_waits (p % m.config.granularity)) here in
@@ -180,7 +179,7 @@ module _ (m : Machine) (p : ℕ) where
   wait_attached : (i t r j : ℕ) (c : FreeCore) (s : State) → at_place s.free r ≡ Some c → IsApart s → WaitsAt m.config.granularity p i s → WaitsAt m.config.granularity p i (attached t r j c s)
   wait_attached i t r j c s is apart w =
       wait_change m.config.granularity p i j (λ pool. settled t (record pool { resources = put_at r (fresh_core c.stall_ends) pool.resources })) (record s { free = clear_at r s.free })
-      (λ pool at here. w_settled m.config.granularity p t (record pool { resources = put_at r (fresh_core c.stall_ends) pool.resources })
+      (λ pool at here. kept_settled (w_commands m.config.granularity p) t (record pool { resources = put_at r (fresh_core c.stall_ends) pool.resources })
       (test_at-put_at_other r (p / m.config.granularity) (fresh_core c.stall_ends) (core_waits (p % m.config.granularity)) pool.resources (λ e. (
       let f = some-test_at pool.resources (p / m.config.granularity) (core_waits (p % m.config.granularity)) here in
       let at_r : at_place pool.resources r ≡ Some f.0 = subst (λ k. at_place pool.resources k ≡ Some f.0) e f.1 in
@@ -207,24 +206,16 @@ module _ (m : Machine) (p : ℕ) where
       (λ pool is2. by_option Q (at_place pool.domains d) _ _ (λ is3. w)
       (λ domain is3. by_option Q domain.moving _ _ (λ is4. w)
       (λ j is4. wait_change m.config.granularity p i j.0 (joined_by m.config.granularity t d domain) (change_pool k (left_by t d) s)
-      (λ x at here. w_settled m.config.granularity p t (with_domain m.config.granularity t d (record domain { moving = None }) (default_dom_params x.scheduler.records) x) (w_with_domain m.config.granularity p t d (record domain { moving = None }) (default_dom_params x.scheduler.records) x here))
+      (λ x at here. kept_settled (w_commands m.config.granularity p) t (with_domain m.config.granularity t d (record domain { moving = None }) (default_dom_params x.scheduler.records) x) (w_with_domain m.config.granularity p t d (record domain { moving = None }) (default_dom_params x.scheduler.records) x here))
       (wait_change m.config.granularity p i k (left_by t d) s
-      (λ x at here. by_cond (λ (y : Pool). waits_in m.config.granularity p y ≡ true) (is_null x.scheduler.records) (settled t (without_domain d x)) (without_domain d x) (λ null. w_settled m.config.granularity p t (without_domain d x) here) (λ null. here)) w)))))
+      (λ x at here. by_cond (λ (y : Pool). waits_in m.config.granularity p y ≡ true) (is_null x.scheduler.records) (settled t (without_domain d x)) (without_domain d x) (λ null. kept_settled (w_commands m.config.granularity p) t (without_domain d x) here) (λ null. here)) w)))))
 
   wait_after : (i t : ℕ) (s : State) (action : Action) → Known s → (action ≡ Decide (p / m.config.granularity) → ⊥) → is_enabled m s t action ≡ true → WaitsAt m.config.granularity p i s → WaitsAt m.config.granularity p i (after m s t action)
   wait_after i t s Stall known other on w = wait_stall m.config.granularity p i t (slice_get m.work.stalls s.next_stall) s w
   wait_after i t s Xl known other on w = by_option (WaitsAt m.config.granularity p i) (slice_get m.work.commands s.next_command) _ _ (λ is. w) (λ line is. wait_command m.config.granularity p i m refl t line s w)
   wait_after i t s (Moved r) known other on w = wait_moved i t r s known on w
   wait_after i t s (DomMoved d) known other on w = wait_dom_moved i t d s w
-  wait_after i t s (Wake v) known other on w = wait_at m.config.granularity p i s t (Wake v) other (home_of m.config.granularity s (Wake v)) on w
-  wait_after i t s (Block q) known other on w = wait_at m.config.granularity p i s t (Block q) other (home_of m.config.granularity s (Block q)) on w
-  wait_after i t s (Slice r) known other on w = wait_at m.config.granularity p i s t (Slice r) other (home_of m.config.granularity s (Slice r)) on w
-  wait_after i t s (Repl u) known other on w = wait_at m.config.granularity p i s t (Repl u) other (home_of m.config.granularity s (Repl u)) on w
-  wait_after i t s (Refill d) known other on w = wait_at m.config.granularity p i s t (Refill d) other (home_of m.config.granularity s (Refill d)) on w
-  wait_after i t s (Arrive q) known other on w = wait_at m.config.granularity p i s t (Arrive q) other (home_of m.config.granularity s (Arrive q)) on w
-  wait_after i t s (Decide r) known other on w = wait_at m.config.granularity p i s t (Decide r) other (home_of m.config.granularity s (Decide r)) on w
-  wait_after i t s (Leave q) known other on w = wait_at m.config.granularity p i s t (Leave q) other (home_of m.config.granularity s (Leave q)) on w
-  wait_after i t s (Save r) known other on w = wait_at m.config.granularity p i s t (Save r) other (home_of m.config.granularity s (Save r)) on w
+  wait_after i t s action known other on w = wait_at m.config.granularity p i s t action other (home_of m.config.granularity s action) on w
 
 -- a run in two parts
 pub split_run : (m : Machine) (from : Reached) (before rest : List Entry) → IsRunFrom m from (before ++ rest) → IsRunFrom m from before × IsRunFrom m (after_entries m from before) rest
@@ -298,7 +289,7 @@ module _ (m : Machine) (checked : IsChecked m) (p : ℕ) where
   arrives_at s t None on = absurd (cc)
   arrives_at s t (Some i) on =
       let f = some-test_at s.pools i (λ pool. enabled_in m.config.granularity t pool (Arrive p)) on in
-      (i, test_at-change_at_here i (λ pool. settled t (after_in m.config.granularity t pool (Arrive p))) (waits_in m.config.granularity p) s.pools f.0 f.1 (w_settled m.config.granularity p t (after_in m.config.granularity t f.0 (Arrive p)) (arrives_in t f.0 f.2)))
+      (i, test_at-change_at_here i (λ pool. settled t (after_in m.config.granularity t pool (Arrive p))) (waits_in m.config.granularity p) s.pools f.0 f.1 (kept_settled (w_commands m.config.granularity p) t (after_in m.config.granularity t f.0 (Arrive p)) (arrives_in t f.0 f.2)))
 
   here_arrived : (e : Event) (action : Option Action) (from : Reached) → action ≡ Some (Arrive p) → IsNextEvent m from.state e action → IsKnown (AreSound m.config.granularity) from.state → Here (after_event m e action from).state
   here_arrived e None from is next known = absurd (cc)

@@ -1,7 +1,7 @@
 -- What is kept of a pool: its units are its domains', its cores are sound, and each unit has one place.
-use Rattle.std.proofs.Common.{◌≡◌, true, List, ℕ, false, not, ◌⊎◌, ◌≤◌}
+use Rattle.std.proofs.Common.{◌≡◌, true, List, ℕ, false, ◌⊎◌, ◌≤◌}
 use Rattle.std.specs.List.{AllByRecursion, list_any}
-use Rattle.std.specs.Prelude.{Option, Some, None, is_none, ◌+◌, ◌%◌, slice_get, ◌-◌}
+use Rattle.std.specs.Prelude.{Option, Some, None, is_none, ◌+◌, ◌%◌, slice_get}
 use Rattle.std.specs.Option.{IfSome}
 use Rattle.sched_base.specs.declared.UnitId.{UnitId}
 use Rattle.sched_model.specs.Places.{test_at}
@@ -15,7 +15,7 @@ use Rattle.sched_model.specs.State.{is_runnable, runnable_among}
 use Rattle.sched_model.specs.Pool as pools
 use Rattle.sched_model.specs.Pool.{decided}
 use Rattle.sched_laws.specs.Each.{EachPlace}
-use Rattle.sched_laws.specs.Counts.{total, one, one_at, times}
+use Rattle.sched_laws.specs.Counts.{total, one_at, times}
 
 -- the unit, if there is one, has the property
 abbrev pub IfUnit : (UnitId → Type 0) → Option UnitId → Type 0

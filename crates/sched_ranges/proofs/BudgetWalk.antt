@@ -1,11 +1,9 @@
 -- What each step of a Credit2 pool keeps of its budgets, and of which units run.
-use Rattle.std.proofs.Common.{◌≡◌, ◌<◌, ℕ, true, false, List, [], ◌∷◌, refl, subst, sym, ◌∙◌, ap, cond, ◌⊎◌, inl, inr, Bool, zero, suc, not, ◌≤◌, ◌+◌, ◌-◌, ◌*◌, ◌/◌, ◌%◌, arith, length}
-use Rattle.std.specs.Prelude.{Option, Some, None, is_some, length, replicate, ◌&&◌, ◌||◌, ◌*◌, ◌+◌, ◌/◌, ◌%◌, option_map, is_none, slice_get, unwrap_or, pos}
-use Rattle.std.specs.List.{list_any}
+use Rattle.std.proofs.Common.{◌≡◌, ◌<◌, ℕ, true, false, List, refl, subst, sym, ◌∙◌, ap, cond, ◌⊎◌, inl, inr, Bool, zero, suc, not, ◌≤◌, ◌+◌, ◌-◌, ◌*◌, ◌/◌, arith, length}
+use Rattle.std.specs.Prelude.{Option, Some, None, length, replicate, ◌&&◌, ◌*◌, ◌+◌, ◌/◌, is_none, slice_get, unwrap_or, pos}
 use Rattle.sched_base.specs.Numbers.{moment, domain as domain_number, pool as pool_number, span}
 use Rattle.sched_base.specs.declared.Moment.{Moment}
 use Rattle.sched_base.specs.declared.UnitId.{UnitId}
-use Rattle.sched_base.specs.declared.VcpuId.{VcpuId}
 use Rattle.sched_model.specs.declared.config.ParamChange.{ParamChange}
 use Rattle.sched_model.specs.declared.config.ParamChange.TheVariants as changes
 use Rattle.sched_model.specs.declared.config.DomParams.{DomParams}
@@ -15,26 +13,21 @@ use Rattle.sched_model.specs.Rtds as rtds
 use Rattle.sched_model.specs.declared.config.PoolParams.{PoolParams}
 use Rattle.sched_model.specs.declared.config.PoolParams.TheVariants as pool_params
 use Rattle.sched_model.specs.declared.state.Domain.{Domain}
-use Rattle.sched_model.specs.declared.state.Doing.TheVariants.{Guest, Idle, Held}
-use Rattle.sched_model.specs.declared.state.Stage.TheVariants.{Open}
-use Rattle.sched_model.specs.declared.state.Processor.{Processor}
 use Rattle.sched_model.specs.declared.state.Resource.{Resource}
 use Rattle.sched_model.specs.declared.state.Pool.{Pool}
 use Rattle.sched_model.specs.declared.state.RtdsUnit.{RtdsUnit}
 use Rattle.sched_model.specs.declared.state.Credit2Records.{Credit2Records}
 use Rattle.sched_model.specs.declared.state.Records.{Records}
 use Rattle.sched_model.specs.declared.state.Records.TheVariants.{Credit2Pool, RtdsPool, ArincPool, NullPool}
-use Rattle.sched_model.specs.declared.action.Action.{Action}
-use Rattle.sched_model.specs.declared.action.Action.TheVariants.{Stall, Xl, Moved, DomMoved, Wake, Block, Slice, Repl, Refill, Arrive, Decide, Leave, Save}
-use Rattle.sched_model.specs.Places.{at_place, put_at, clear_at, change_at, change_each, change_item, test_at, numbers_from}
-use Rattle.sched_model.specs.State.{is_runnable}
+use Rattle.sched_model.specs.declared.action.Action.TheVariants.{Moved}
+use Rattle.sched_model.specs.Places.{at_place, put_at, clear_at, change_at, numbers_from}
 use Rattle.sched_model.specs.Opening.{fresh_core, core_count}
 use Rattle.sched_model.specs.Policy as policy
 use Rattle.sched_model.specs.Policy.{rtds_record, changed_records, joined_records, parted_records, fresh_records, decision_of, decision_by, choose_window, default_dom_params, default_pool_params}
 use Rattle.sched_model.specs.NullScheduler as null
 use Rattle.sched_model.specs.Pool as pools
 use Rattle.sched_model.specs.Pool.{enabled_in, after_in, settled, home_cores, reconsidered, change_core, change_processor, change_vcpu, change_domain, change_cores_of, does, started_on, set_leaving, set_moving, set_pending, pause, unpause, set_params, without_domain, with_domain, is_of_domain, is_held, is_open, first_up, processor_of, guest_of, decided, same_choice, ask_of}
-use Rattle.sched_laws.proofs.EachPlace.{EachPlace-empty, by_option, by_test, by_cond, at_place-change_each, at_place-put_at, at_place-put_at_other, at_place-clear_at_other, place_below, EachAt-clear_at, EachAt-put_at}
+use Rattle.sched_laws.proofs.EachPlace.{EachPlace-empty, by_option, by_test, by_cond, at_place-put_at, at_place-put_at_other, at_place-clear_at_other, place_below, EachAt-clear_at, EachAt-put_at}
 use Rattle.sched_laws.proofs.Lists.{AllByRecursion-map, some-test_at}
 use Rattle.sched_laws.proofs.Kept.{IsKept}
 use Rattle.sched_laws.proofs.Sound.{none_is}
@@ -62,6 +55,8 @@ use Rattle.sched_laws.specs.Counts.{times, one_at}
 use Rattle.sched_laws.proofs.OnePlace.{one_same, both_of, there_each, same_choice_same}
 use Rattle.sched_laws.specs.Known.{OnePlace, core_places}
 use Rattle.sched_laws.proofs.Fits.{ChangeFits}
+use Rattle.sched_laws.proofs.Records.{same_joined}
+use Rattle.sched_laws.proofs.Events.{LikePlaces, like_change_at, capped, like_of_domain, like_is, like_map, KeepsCore, KeptByCommands, KeptByParts, commands_of, kept_settled, kept_processor, kept_by_parts, kept_set_leaving, kept_withdrawn, kept_pause, kept_unpause, kept_marked, kept_queue_units}
 use Rattle.sched_laws.proofs.Steps.{IsKeptAt}
 use Rattle.sched_ranges.specs.Ranges.{IsUnitOf}
 use Rattle.sched_ranges.proofs.Records.{ParamsFit, default_fits}
@@ -105,19 +100,12 @@ fits_stay m t records old new stays fits own is =
       ];
     }
 
-stays_change_at : (i : ℕ) (f : Resource → Resource) (cores : List (Option Resource)) → ((c : Resource) → (f c).cur ≡ c.cur) → Stays cores (change_at i f cores)
-stays_change_at i f [] same r c u at own = absurd (cc)
-stays_change_at zero f (None ∷ cores) same zero c u at own = absurd (cc)
-stays_change_at zero f (Some x ∷ cores) same zero c u at own = (let e : x ≡ c = cc in (f x, refl, same x ∙ ap (λ (z : Resource). z.cur) e ∙ own))
-stays_change_at zero f (x ∷ cores) same (suc r) c u at own = (c, at, own)
-stays_change_at (suc i) f (x ∷ cores) same zero c u at own = (c, at, own)
-stays_change_at (suc i) f (x ∷ cores) same (suc r) c u at own = stays_change_at i f cores same r c u at own
+-- the core has the same cur
+abbrev SameCur : Resource → Resource → Type 0
+SameCur c d = d.cur ≡ c.cur
 
-stays_change_each : (f : ℕ → Resource → Resource) (cores : List (Option Resource)) → ((r : ℕ) (c : Resource) → (f r c).cur ≡ c.cur) → Stays cores (change_each 0 f cores)
-stays_change_each f cores same r c u at own =
-    let e : 0 + r ≡ r = omega arith in
-    let there : at_place (change_each 0 f cores) r ≡ option_map (f (0 + r)) (at_place cores r) = at_place-change_each 0 r f cores in
-    (f (0 + r) c, there ∙ ap (λ (o : Option Resource). option_map (f (0 + r)) o) at, same (0 + r) c ∙ own)
+fits_like : (m : Machine) (t : ℕ) (records : Records) (old new : List (Option Resource)) → LikePlaces SameCur old new → CreditFits m t records old → CreditFits m t records new
+fits_like m t records old new like fits = fits_stay m t records old new (λ r c u at own. (let now = like_is SameCur old new r c like at in (now.0, now.1, now.2 ∙ own))) fits
 
 -- whether it is Credit2
 abbrev is_credit2 : Records → Bool
@@ -125,6 +113,9 @@ is_credit2 (Credit2Pool records) = true
 is_credit2 (RtdsPool domains) = false
 is_credit2 (ArincPool records) = false
 is_credit2 (NullPool kept) = false
+
+joined_kind : (records : Records) (params : DomParams) (d count t : ℕ) → is_credit2 (joined_records records params d count t) ≡ is_credit2 records
+joined_kind = same_joined is_credit2 (λ a b. refl) (λ a b. refl)
 
 not_credit2 : (m : Machine) (t : ℕ) (records : Records) (cores : List (Option Resource)) → is_credit2 records ≡ false → CreditFits m t records cores
 not_credit2 m t records cores other own is = absurd (let e : true ≡ false = sym (ap is_credit2 is) ∙ other in cc)
@@ -223,18 +214,9 @@ module _ (m : Machine) (some : 0 < m.config.granularity) (t : ℕ) where
   n_joined (Credit2Pool own) (dom_params.Rtds period budget extra) d count cores good counted fits = fits
   n_joined (Credit2Pool own) dom_params.Arinc653 d count cores good counted fits = fits
   n_joined (Credit2Pool own) dom_params.Null d count cores good counted fits = fits
-  n_joined (RtdsPool domains) (dom_params.Credit2 weight percent) d count cores good counted fits = not_credit2 m t (joined_records (RtdsPool domains) (dom_params.Credit2 weight percent) d count t) cores refl
-  n_joined (RtdsPool domains) (dom_params.Rtds period budget extra) d count cores good counted fits = not_credit2 m t (joined_records (RtdsPool domains) (dom_params.Rtds period budget extra) d count t) cores refl
-  n_joined (RtdsPool domains) dom_params.Arinc653 d count cores good counted fits = not_credit2 m t (joined_records (RtdsPool domains) dom_params.Arinc653 d count t) cores refl
-  n_joined (RtdsPool domains) dom_params.Null d count cores good counted fits = not_credit2 m t (joined_records (RtdsPool domains) dom_params.Null d count t) cores refl
-  n_joined (ArincPool records) (dom_params.Credit2 weight percent) d count cores good counted fits = not_credit2 m t (joined_records (ArincPool records) (dom_params.Credit2 weight percent) d count t) cores refl
-  n_joined (ArincPool records) (dom_params.Rtds period budget extra) d count cores good counted fits = not_credit2 m t (joined_records (ArincPool records) (dom_params.Rtds period budget extra) d count t) cores refl
-  n_joined (ArincPool records) dom_params.Arinc653 d count cores good counted fits = not_credit2 m t (joined_records (ArincPool records) dom_params.Arinc653 d count t) cores refl
-  n_joined (ArincPool records) dom_params.Null d count cores good counted fits = not_credit2 m t (joined_records (ArincPool records) dom_params.Null d count t) cores refl
-  n_joined (NullPool kept) (dom_params.Credit2 weight percent) d count cores good counted fits = not_credit2 m t (joined_records (NullPool kept) (dom_params.Credit2 weight percent) d count t) cores refl
-  n_joined (NullPool kept) (dom_params.Rtds period budget extra) d count cores good counted fits = not_credit2 m t (joined_records (NullPool kept) (dom_params.Rtds period budget extra) d count t) cores refl
-  n_joined (NullPool kept) dom_params.Arinc653 d count cores good counted fits = not_credit2 m t (joined_records (NullPool kept) dom_params.Arinc653 d count t) cores refl
-  n_joined (NullPool kept) dom_params.Null d count cores good counted fits = not_credit2 m t (joined_records (NullPool kept) dom_params.Null d count t) cores refl
+  n_joined (RtdsPool domains) params d count cores good counted fits = not_credit2 m t (joined_records (RtdsPool domains) params d count t) cores (joined_kind (RtdsPool domains) params d count t)
+  n_joined (ArincPool records) params d count cores good counted fits = not_credit2 m t (joined_records (ArincPool records) params d count t) cores (joined_kind (ArincPool records) params d count t)
+  n_joined (NullPool kept) params d count cores good counted fits = not_credit2 m t (joined_records (NullPool kept) params d count t) cores (joined_kind (NullPool kept) params d count t)
 
   n_changed : (records : Records) (change : ParamChange) (cores : List (Option Resource)) → ChangeFits change → CreditFits m t records cores → CreditFits m t (changed_records records change t) cores
   n_changed (Credit2Pool own) (changes.Dom d weight percent) cores good fits = (let ok = fits own refl in credit_fits m t (credit2.set_domain t d.0 weight percent own) cores (record { budgets = s_set_domain t (CountIs m) d.0 weight percent own good.1 ok.budgets; runs = r_set_domain t (OnCore cores) d.0 weight percent own ok.runs }))
@@ -242,21 +224,8 @@ module _ (m : Machine) (some : 0 < m.config.granularity) (t : ℕ) where
   n_changed (Credit2Pool own) (changes.«Unit» u period budget extra) cores good fits = fits
   n_changed (Credit2Pool own) (changes.Frame frame) cores good fits = fits
   n_changed (Credit2Pool own) (changes.Pin d unit set) cores good fits = fits
-  n_changed (RtdsPool domains) (changes.Dom d weight percent) cores good fits = not_credit2 m t (changed_records (RtdsPool domains) (changes.Dom d weight percent) t) cores refl
-  n_changed (RtdsPool domains) (changes.Rate limit) cores good fits = not_credit2 m t (changed_records (RtdsPool domains) (changes.Rate limit) t) cores refl
-  n_changed (RtdsPool domains) (changes.«Unit» u period budget extra) cores good fits = not_credit2 m t (changed_records (RtdsPool domains) (changes.«Unit» u period budget extra) t) cores refl
-  n_changed (RtdsPool domains) (changes.Frame frame) cores good fits = not_credit2 m t (changed_records (RtdsPool domains) (changes.Frame frame) t) cores refl
-  n_changed (RtdsPool domains) (changes.Pin d unit set) cores good fits = not_credit2 m t (changed_records (RtdsPool domains) (changes.Pin d unit set) t) cores refl
-  n_changed (ArincPool records) (changes.Dom d weight percent) cores good fits = not_credit2 m t (changed_records (ArincPool records) (changes.Dom d weight percent) t) cores refl
-  n_changed (ArincPool records) (changes.Rate limit) cores good fits = not_credit2 m t (changed_records (ArincPool records) (changes.Rate limit) t) cores refl
-  n_changed (ArincPool records) (changes.«Unit» u period budget extra) cores good fits = not_credit2 m t (changed_records (ArincPool records) (changes.«Unit» u period budget extra) t) cores refl
-  n_changed (ArincPool records) (changes.Frame frame) cores good fits = not_credit2 m t (changed_records (ArincPool records) (changes.Frame frame) t) cores refl
-  n_changed (ArincPool records) (changes.Pin d unit set) cores good fits = not_credit2 m t (changed_records (ArincPool records) (changes.Pin d unit set) t) cores refl
-  n_changed (NullPool kept) (changes.Dom d weight percent) cores good fits = not_credit2 m t (changed_records (NullPool kept) (changes.Dom d weight percent) t) cores refl
-  n_changed (NullPool kept) (changes.Rate limit) cores good fits = not_credit2 m t (changed_records (NullPool kept) (changes.Rate limit) t) cores refl
-  n_changed (NullPool kept) (changes.«Unit» u period budget extra) cores good fits = not_credit2 m t (changed_records (NullPool kept) (changes.«Unit» u period budget extra) t) cores refl
-  n_changed (NullPool kept) (changes.Frame frame) cores good fits = not_credit2 m t (changed_records (NullPool kept) (changes.Frame frame) t) cores refl
-  n_changed (NullPool kept) (changes.Pin d unit set) cores good fits = not_credit2 m t (changed_records (NullPool kept) (changes.Pin d unit set) t) cores refl
+  n_changed records (changes.Frame frame) cores good fits = not_credit2 m t (changed_records records (changes.Frame frame) t) cores refl
+  n_changed records change cores good fits = not_credit2 m t (changed_records records change t) cores refl
 
   n_unit_changed : (records : Records) (u : UnitId) (period budget : Span) (extra : Bool) (cores : List (Option Resource)) → CreditFits m t records cores → CreditFits m t (changed_records records (changes.«Unit» u period budget extra) t) cores
   n_unit_changed (Credit2Pool own) u period budget extra cores fits = fits
@@ -264,70 +233,9 @@ module _ (m : Machine) (some : 0 < m.config.granularity) (t : ℕ) where
   n_unit_changed (ArincPool records) u period budget extra cores fits = fits
   n_unit_changed (NullPool kept) u period budget extra cores fits = fits
 
-  n_change_core : (r : ℕ) (f : Resource → Resource) (pool : Pool) → ((c : Resource) → (f c).cur ≡ c.cur) → N pool → N (change_core r f pool)
-  n_change_core r f pool holds fits = fits_stay m t pool.scheduler.records pool.resources (change_at r f pool.resources) (stays_change_at r f pool.resources holds) fits
+  n_change_core : (r : ℕ) (f : Resource → Resource) (pool : Pool) → ((c : Resource) → SameCur c (f c)) → N pool → N (change_core r f pool)
+  n_change_core r f pool same fits = fits_like m t pool.scheduler.records pool.resources (change_at r f pool.resources) (like_change_at SameCur r f pool.resources (λ c. refl) (λ c at. same c)) fits
 
-  n_change_each : (f : ℕ → Resource → Resource) (pool : Pool) → ((r : ℕ) (c : Resource) → (f r c).cur ≡ c.cur) → N pool → N (record pool { resources = change_each 0 f pool.resources })
-  n_change_each f pool holds fits = fits_stay m t pool.scheduler.records pool.resources (change_each 0 f pool.resources) (stays_change_each f pool.resources holds) fits
-
-  n_change_processor : (p : ℕ) (f : Processor → Processor) (pool : Pool) → N pool → N (change_processor m.config.granularity p f pool)
-  n_change_processor p f pool fits = n_change_core (p / m.config.granularity) (λ c. record c { processors = change_item (p % m.config.granularity) f c.processors }) pool (λ c. refl) fits
-
-  n_started_on : (p : ℕ) (v : VcpuId) (pool : Pool) → N pool → N (started_on m.config.granularity t p v pool)
-  n_started_on p v pool fits = n_change_processor p (does (Guest v)) (change_vcpu v (λ x. record x { started = Some (moment t) }) pool) fits
-
-  n_settled : (pool : Pool) → N pool → N (settled t pool)
-  n_settled pool fits = n_change_each (reconsidered t (home_cores pool) pool.scheduler) pool (λ r c. by_cond (λ (d : Resource). d.cur ≡ c.cur) c.leaving c _ (λ is. refl) (λ is. refl)) fits
-
-  n_joined_siblings : (v : VcpuId) (pool : Pool) → N pool → N (pools.joined_siblings m.config.granularity t v pool)
-  n_joined_siblings v pool fits =
-      by_option N (pools.core_of pool (pools.unit_of m.config.granularity v)) _ _ (λ is. fits)
-      (λ r is. by_option N (processor_of m.config.granularity pool (r * m.config.granularity + v.n % m.config.granularity)) _ _ (λ is2. fits)
-      (λ q is2. by_cond N (pools.is_idle q) _ _ (λ idle. n_started_on (r * m.config.granularity + v.n % m.config.granularity) v pool fits) (λ idle. fits)))
-
-  n_after_wake : (v : VcpuId) (pool : Pool) → N pool → N (pools.after_wake m.config.granularity t v pool)
-  n_after_wake v pool fits =
-      let next : Pool = change_vcpu v pools.woken pool in
-      by_test N (is_runnable m.config.granularity next (pools.unit_of m.config.granularity v)) _ _
-      (λ runs. by_cond N (pools.is_off next (pools.unit_of m.config.granularity v)) _ _ (λ off. fits) (λ off. n_joined_siblings v next fits))
-      (λ runs. fits)
-
-  n_after_block : (q : ℕ) (v : VcpuId) (pool : Pool) → N pool → N (pools.after_block m.config.granularity t q v pool)
-  n_after_block q v pool fits =
-      let next : Pool = change_processor m.config.granularity q (does Idle) (change_vcpu v (pools.put_to_sleep t) pool) in
-      let here : N next = n_change_processor q (does Idle) (change_vcpu v (pools.put_to_sleep t) pool) fits in
-      by_cond N (is_runnable m.config.granularity next (pools.unit_of m.config.granularity v)) _ _ (λ runs. here) (λ runs. n_change_core (q / m.config.granularity) (λ c. record c { pending = true }) next (λ c. refl) here)
-
-  n_after_arrive : (q : ℕ) (pool : Pool) → N pool → N (pools.after_arrive m.config.granularity t q pool)
-  n_after_arrive q pool fits =
-      by_option (λ (next : Pool). N (change_processor m.config.granularity q (does Held) next)) (guest_of m.config.granularity pool q) _ _
-      (λ is. n_change_processor q (does Held) pool fits) (λ v is. n_change_processor q (does Held) (change_vcpu v (pools.stopped t) pool) fits)
-
-  n_open : (q : ℕ) (pool : Pool) → N pool → N (change_core (q / m.config.granularity) pools.open_if_left pool)
-  n_open q pool fits =
-      n_change_core (q / m.config.granularity) pools.open_if_left pool
-      (λ c. by_cond (λ (d : Resource). d.cur ≡ c.cur) (list_any is_held c.processors) c (record c { stage = Open }) (λ is. refl) (λ is. refl)) fits
-
-  n_after_leave : (q : ℕ) (c : Resource) (pool : Pool) → N pool → N (pools.after_leave m.config.granularity t q c pool)
-  n_after_leave q c pool fits =
-      by_option (λ (next : Pool). N (change_core (q / m.config.granularity) pools.open_if_left next)) (pools.vcpu_for m.config.granularity pool c (q % m.config.granularity)) _ _
-      (λ is. n_open q (change_processor m.config.granularity q (does Idle) pool) (n_change_processor q (does Idle) pool fits)) (λ v is. n_open q (started_on m.config.granularity t q v pool) (n_started_on q v pool fits))
-
-  n_after_replenish : (u : UnitId) (pool : Pool) → N pool → N (pools.after_replenish t u pool)
-  n_after_replenish u pool fits =
-      let records : Records = policy.replenish pool.scheduler.records t u in
-      let next : Pool = pools.with_records records pool in
-      let here : N next = n_replenish pool.scheduler.records u pool.resources fits in
-      by_option N (pools.core_of pool u) _ _ (λ is. here)
-      (λ r is. by_option N (rtds_record records u) _ _ (λ is2. here)
-      (λ x is2. n_change_core r (pools.due_within t x.budget) next (λ c. refl) here))
-
-  n_after_save : (r : ℕ) (u : UnitId) (pool : Pool) → N pool → N (pools.after_save m.config.granularity r u pool)
-  n_after_save r u pool fits =
-      let here : N (change_core r pools.saved pool) = n_change_core r pools.saved pool (λ c. refl) fits in
-      by_cond N (is_runnable m.config.granularity pool u) _ _ (λ runs. here) (λ runs. here)
-
-  -- a core that decides saves nothing
   -- a decision: the core's own unit stops, and the chosen one runs
   n_decide : (own : Credit2Records) (r : ℕ) (c : Resource) (pool : Pool) → pool.scheduler.records ≡ Credit2Pool own → at_place pool.resources r ≡ Some c → PoolFits m t pool → OnePlace m.config.granularity pool → CreditOk m t own pool.resources
       → (chosen : Option UnitId) → IfUnit (λ u. domain_has_budget (credit2.burn_cur c.cur t own) u ≡ true) chosen → IfUnit (λ u. IsUnitOf m u × ((1 ≤ times u pool.scheduler.queue) ⊎ (c.cur ≡ Some u))) chosen
@@ -395,52 +303,26 @@ module _ (m : Machine) (some : 0 < m.config.granularity) (t : ℕ) where
       by_records (NullPool kept) is = not_credit2 m t (decision_of (ask_of m.config.granularity t pool r c) pool.scheduler).records (put_at r (decided t (decision_of (ask_of m.config.granularity t pool r c) pool.scheduler) c) pool.resources)
           (ap (λ (x : Records). is_credit2 (decision_by x (ask_of m.config.granularity t pool r c) pool.scheduler).records) is ∙ null_kind (ask_of m.config.granularity t pool r c) pool.scheduler kept)
 
-  n_acts : (pool : Pool) (action : Action) → enabled_in m.config.granularity t pool action ≡ true → PoolFits m t pool → IsKnownPool m.config.granularity pool → N pool → N (after_in m.config.granularity t pool action)
-  n_acts pool Stall on ranges known fits = fits
-  n_acts pool Xl on ranges known fits = fits
-  n_acts pool (Moved r) on ranges known fits = fits
-  n_acts pool (DomMoved d) on ranges known fits = fits
-  n_acts pool (Wake v) on ranges known fits = n_after_wake v pool fits
-  n_acts pool (Block q) on ranges known fits = by_option N (guest_of m.config.granularity pool q) _ _ (λ is. fits) (λ v is. n_after_block q v pool fits)
-  n_acts pool (Slice r) on ranges known fits = n_change_core r (λ c. record c { pending = true }) pool (λ c. refl) fits
-  n_acts pool (Repl u) on ranges known fits = n_after_replenish u pool fits
-  n_acts pool (Refill d) on ranges known fits = n_refill pool.scheduler.records d pool.resources fits
-  n_acts pool (Arrive q) on ranges known fits = n_after_arrive q pool fits
-  n_acts pool (Decide r) on ranges known fits = by_option N (at_place pool.resources r) _ _ (λ is. fits) (λ c is. n_after_decide r c pool is ranges known fits)
-  n_acts pool (Leave q) on ranges known fits = by_option N (at_place pool.resources (q / m.config.granularity)) _ _ (λ is. fits) (λ c is. n_after_leave q c pool fits)
-  n_acts pool (Save r) on ranges known fits = by_option N (at_place pool.resources r) _ _ (λ is. fits) (λ c is. by_option N c.saving _ _ (λ is2. fits) (λ u is2. n_after_save r u pool fits))
+  n_parts : KeptByParts m.config.granularity t (λ pool action. PoolFits m t pool × IsKnownPool m.config.granularity pool) N
+  n_parts = record {
+    cores = λ cores pool like. fits_like m t pool.scheduler.records pool.resources cores (like_map KeepsCore SameCur pool.resources cores (λ c d keeps. keeps.cur) like);
+    domains = λ d f pool count moving fits. fits;
+    queues = λ u pool runs fits. fits;
+    dequeues = λ d pool fits. fits;
+    decides = λ r c pool at on. n_after_decide r c pool at on.0 on.1;
+    saves = λ r c u pool at is on. n_change_core r pools.saved pool (λ x. refl);
+    replenishes = λ u pool on. n_replenish pool.scheduler.records u pool.resources;
+    dues = λ r u x old pool on is. n_change_core r (pools.due_within t x.budget) pool (λ c. refl);
+    refills = λ d pool on. n_refill pool.scheduler.records d pool.resources;
+  }
 
-  n_change_cores_of : (d : ℕ) (f : Resource → Resource) (pool : Pool) → ((c : Resource) → (f c).cur ≡ c.cur) → N pool → N (change_cores_of d f pool)
-  n_change_cores_of d f pool holds fits = n_change_each (λ r c. cond (is_of_domain d c.cur) (f c) c) pool (λ r c. by_cond (λ (x : Resource). x.cur ≡ c.cur) (is_of_domain d c.cur) (f c) c (λ is. holds c) (λ is. refl)) fits
-
-  n_queue_units : (d : ℕ) (units : List ℕ) (pool : Pool) → N pool → N (pools.queue_units m.config.granularity d units pool)
-  n_queue_units d [] pool fits = fits
-  n_queue_units d (k ∷ ks) pool fits =
-      let u : UnitId = record { dom = domain_number d; n = k } in
-      n_queue_units d ks _ (by_cond N (is_runnable m.config.granularity pool u && pools.is_off pool u) _ _ (λ is. fits) (λ is. fits))
-
-  n_withdrawn : (d : ℕ) (f : Domain → Domain) (pool : Pool) → N pool → N (pools.withdrawn d (change_domain d f pool))
-  n_withdrawn d f pool fits = n_change_cores_of d set_pending (record pool { domains = change_at d f pool.domains; scheduler = policy.dequeue_domain d pool.scheduler }) (λ c. refl) fits
-
-  n_pause : (d : ℕ) (pool : Pool) → N pool → N (pause d pool)
-  n_pause d pool fits = by_cond N (test_at pool.domains d (λ x. x.paused)) _ _ (λ is. fits) (λ is. n_withdrawn d (λ x. record x { paused = true }) pool fits)
-
-  n_unpause : (d : ℕ) (pool : Pool) → N pool → N (unpause m.config.granularity d pool)
-  n_unpause d pool fits =
-      by_option N (at_place pool.domains d) _ _ (λ is. fits)
-      (λ domain is. by_cond N domain.paused _ _ (λ is2. n_queue_units d (numbers_from 0 (pools.unit_count m.config.granularity domain)) (change_domain d (λ x. record x { paused = false }) pool) fits) (λ is2. fits))
-
-  n_marked : (change : ParamChange) (pool : Pool) → N pool → N (pools.marked change t pool)
-  n_marked (changes.Dom d weight (Some percent)) pool fits = n_change_cores_of d.0 (λ c. record c { pending = true; due = Some (moment t) }) pool (λ c. refl) fits
-  n_marked (changes.Dom d weight None) pool fits = fits
-  n_marked (changes.Rate limit) pool fits = fits
-  n_marked (changes.«Unit» u period budget extra) pool fits = fits
-  n_marked (changes.Frame frame) pool fits = n_change_each (λ r c. set_pending c) pool (λ r c. refl) fits
-  n_marked (changes.Pin d unit cores) pool fits = fits
+  n_commands : KeptByCommands m.config.granularity N
+  n_commands = commands_of n_parts
 
   pub n_set_params : (change : ParamChange) (pool : Pool) → ChangeFits change → N pool → N (set_params change t pool)
   n_set_params change pool good fits =
-      n_marked change (record pool { scheduler = policy.set_params change t pool.scheduler }) (n_changed pool.scheduler.records change pool.resources good fits)
+      kept_marked n_commands t (λ d next. fits_like m t next.scheduler.records next.resources _ (like_of_domain SameCur d (capped t) next.resources (λ c. refl) (λ c. refl)))
+      change (record pool { scheduler = policy.set_params change t pool.scheduler }) (n_changed pool.scheduler.records change pool.resources good fits)
 
   n_set_rtds_unit : (period budget : Option Span) (extra : Option Bool) (u : UnitId) (pool : Pool) → N pool → N (set_rtds_unit t period budget extra u pool)
   n_set_rtds_unit period budget extra u pool fits =
@@ -456,7 +338,7 @@ module _ (m : Machine) (some : 0 < m.config.granularity) (t : ℕ) where
 
   pub n_with_domain : (d : ℕ) (domain : Domain) (params : DomParams) (pool : Pool) → ParamsFit params → DomFits m t d domain → N pool → N (with_domain m.config.granularity t d domain params pool)
   n_with_domain d domain params pool good comes fits =
-      n_queue_units d (numbers_from 0 (pools.unit_count m.config.granularity domain)) (record pool { domains = put_at d domain pool.domains; scheduler = policy.join d (pools.unit_count m.config.granularity domain) params t pool.scheduler })
+      kept_queue_units n_commands d (numbers_from 0 (pools.unit_count m.config.granularity domain)) (record pool { domains = put_at d domain pool.domains; scheduler = policy.join d (pools.unit_count m.config.granularity domain) params t pool.scheduler })
       (n_joined pool.scheduler.records params d (pools.unit_count m.config.granularity domain) pool.resources good (counted d domain comes) fits)
 
   n_without_domain : (d : ℕ) (pool : Pool) → N pool → N (without_domain d pool)
@@ -511,13 +393,13 @@ whole_steps m checked some t =
     let known : IsKept m.config.granularity (IsKnownPool m.config.granularity) = known_pools m.config.granularity some in
     record {
       weakens = λ pool w. w;
-      settles = λ pool w. record { known = known.inside.settles t pool w.known; fits = steps.settles pool w.fits; credit = n_settled m some t pool w.credit };
-      stalls = λ p end pool near w. record { known = known.inside.stalls p end pool w.known; fits = steps.stalls p end pool near w.fits; credit = n_change_processor m some t p (λ q. record q { stall_end = moment end }) pool w.credit };
-      acts = λ pool action on w. record { known = known.inside.acts t pool action on w.known; fits = steps.acts pool action on w.fits; credit = n_acts m some t pool action on w.fits w.known w.credit };
-      leaves = λ r pool w. record { known = known.inside.leaves r pool w.known; fits = steps.leaves r pool w.fits; credit = n_change_core m some t r (λ c. record c { leaving = true; pending = c.pending || is_some c.cur }) pool (λ c. refl) w.credit };
-      moves = λ d i pool w. record { known = known.inside.moves d i pool w.known; fits = steps.moves d i pool w.fits; credit = n_withdrawn m some t d (λ x. record x { moving = Some (pool_number i) }) pool w.credit };
-      pauses = λ d pool w. record { known = known.inside.pauses d pool w.known; fits = steps.pauses d pool w.fits; credit = n_pause m some t d pool w.credit };
-      unpauses = λ d pool w. record { known = known.inside.unpauses d pool w.known; fits = steps.unpauses d pool w.fits; credit = n_unpause m some t d pool w.credit };
+      settles = λ pool w. record { known = known.inside.settles t pool w.known; fits = steps.settles pool w.fits; credit = kept_settled (n_commands m some t) t pool w.credit };
+      stalls = λ p end pool near w. record { known = known.inside.stalls p end pool w.known; fits = steps.stalls p end pool near w.fits; credit = kept_processor (n_parts m some t) p (λ q. record q { stall_end = moment end }) pool w.credit };
+      acts = λ pool action on w. record { known = known.inside.acts t pool action on w.known; fits = steps.acts pool action on w.fits; credit = kept_by_parts (n_parts m some t) pool action (w.fits, w.known) w.credit };
+      leaves = λ r pool w. record { known = known.inside.leaves r pool w.known; fits = steps.leaves r pool w.fits; credit = kept_set_leaving (n_commands m some t) r pool w.credit };
+      moves = λ d i pool w. record { known = known.inside.moves d i pool w.known; fits = steps.moves d i pool w.fits; credit = kept_withdrawn (n_commands m some t) d (change_domain d (λ x. record x { moving = Some (pool_number i) }) pool) w.credit };
+      pauses = λ d pool w. record { known = known.inside.pauses d pool w.known; fits = steps.pauses d pool w.fits; credit = kept_pause (n_commands m some t) d pool w.credit };
+      unpauses = λ d pool w. record { known = known.inside.unpauses d pool w.known; fits = steps.unpauses d pool w.fits; credit = kept_unpause (n_commands m some t) d pool w.credit };
       changes = λ change pool good w. record { known = known.inside.changes change t pool w.known; fits = steps.changes change pool good w.fits; credit = n_set_params m some t change pool good w.credit };
       rtds = λ period budget extra u pool good w. record { known = known_set_rtds m some t period budget extra u pool w.known; fits = steps.rtds period budget extra u pool good w.fits; credit = n_set_rtds_unit m some t period budget extra u pool w.credit };
       core_comes = λ r ends pool none good w. record { known = known.core_comes r ends pool none w.known; fits = steps.core_comes r ends pool none good w.fits; credit = n_core_comes m some t r ends pool none w.credit };

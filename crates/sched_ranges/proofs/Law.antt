@@ -145,20 +145,9 @@ fits_from m checked from (entry ∷ entries) run fits = fits_from m checked (aft
 params_pass : (kind : SchedKind) (params : DomParams) → DomParamsPass kind params → ParamsFit params
 params_pass kinds.Credit2 (dom_params.Credit2 weight percent) passed = passed
 params_pass kinds.Rtds (dom_params.Rtds period budget extra) passed = (passed.0, record { least = passed.1.least; most = (let a = passed.0.most in let b = passed.1.most in omega (arith, a, b)) })
-params_pass kinds.Arinc653 dom_params.Arinc653 passed = tt
-params_pass kinds.Null dom_params.Null passed = tt
-params_pass kinds.Rtds (dom_params.Credit2 weight percent) passed = absurd passed
-params_pass kinds.Arinc653 (dom_params.Credit2 weight percent) passed = absurd passed
-params_pass kinds.Null (dom_params.Credit2 weight percent) passed = absurd passed
-params_pass kinds.Credit2 (dom_params.Rtds period budget extra) passed = absurd passed
-params_pass kinds.Arinc653 (dom_params.Rtds period budget extra) passed = absurd passed
-params_pass kinds.Null (dom_params.Rtds period budget extra) passed = absurd passed
-params_pass kinds.Credit2 dom_params.Arinc653 passed = tt
-params_pass kinds.Rtds dom_params.Arinc653 passed = tt
-params_pass kinds.Null dom_params.Arinc653 passed = tt
-params_pass kinds.Credit2 dom_params.Null passed = tt
-params_pass kinds.Rtds dom_params.Null passed = tt
-params_pass kinds.Arinc653 dom_params.Null passed = tt
+params_pass kind dom_params.Arinc653 passed = tt
+params_pass kind dom_params.Null passed = tt
+params_pass kind params passed = absurd passed
 
 module _ (m : Machine) (checked : IsChecked m) where
   joining_fits : (d : ℕ) (joining : DomConfig) → slice_get m.config.domains d ≡ Some joining → DomFits m 0 d (joining_domain joining)

@@ -12,7 +12,7 @@ use Rattle.sched_model.specs.declared.machine.Machine.{Machine}
 use Rattle.sched_model.specs.declared.state.State.{State}
 use Rattle.sched_model.specs.declared.state.Pool.{Pool}
 use Rattle.sched_model.specs.declared.action.Action.{Action}
-use Rattle.sched_model.specs.declared.action.Action.TheVariants.{Stall, Xl, Moved, DomMoved, Wake, Block, Slice, Repl, Refill, Arrive, Decide, Leave, Save}
+use Rattle.sched_model.specs.declared.action.Action.TheVariants.{Stall, Xl, Moved, DomMoved}
 use Rattle.sched_model.specs.Places.{at_place, change_at}
 use Rattle.sched_model.specs.Opening.{opening, opening_pools, core_count, most_pools}
 use Rattle.sched_model.specs.Actions.{home_of, home_of_core, home_of_domain}
@@ -128,15 +128,7 @@ module _ (m : Machine) where
       (λ line is. places_of s (after_command m s.now line s) s.next_stall (suc s.next_command) (same_command s m s.now line) fits.stalls (let i = get_inside m.work.commands s.next_command line is in omega (arith, i)) fits)
   places_after s (Moved r) on fits = places_of s (after_moved s.now r s) s.next_stall s.next_command (same_moved s s.now r) fits.stalls fits.commands fits
   places_after s (DomMoved d) on fits = places_of s (after_dom_moved m.config.granularity s.now d s) s.next_stall s.next_command (same_dom_moved s m.config.granularity s.now d) fits.stalls fits.commands fits
-  places_after s (Wake v) on fits = places_of s (after_at_home m.config.granularity s s.now (Wake v)) s.next_stall s.next_command (same_at_home s m.config.granularity s.now (Wake v)) fits.stalls fits.commands fits
-  places_after s (Block q) on fits = places_of s (after_at_home m.config.granularity s s.now (Block q)) s.next_stall s.next_command (same_at_home s m.config.granularity s.now (Block q)) fits.stalls fits.commands fits
-  places_after s (Slice r) on fits = places_of s (after_at_home m.config.granularity s s.now (Slice r)) s.next_stall s.next_command (same_at_home s m.config.granularity s.now (Slice r)) fits.stalls fits.commands fits
-  places_after s (Repl u) on fits = places_of s (after_at_home m.config.granularity s s.now (Repl u)) s.next_stall s.next_command (same_at_home s m.config.granularity s.now (Repl u)) fits.stalls fits.commands fits
-  places_after s (Refill d) on fits = places_of s (after_at_home m.config.granularity s s.now (Refill d)) s.next_stall s.next_command (same_at_home s m.config.granularity s.now (Refill d)) fits.stalls fits.commands fits
-  places_after s (Arrive q) on fits = places_of s (after_at_home m.config.granularity s s.now (Arrive q)) s.next_stall s.next_command (same_at_home s m.config.granularity s.now (Arrive q)) fits.stalls fits.commands fits
-  places_after s (Decide r) on fits = places_of s (after_at_home m.config.granularity s s.now (Decide r)) s.next_stall s.next_command (same_at_home s m.config.granularity s.now (Decide r)) fits.stalls fits.commands fits
-  places_after s (Leave q) on fits = places_of s (after_at_home m.config.granularity s s.now (Leave q)) s.next_stall s.next_command (same_at_home s m.config.granularity s.now (Leave q)) fits.stalls fits.commands fits
-  places_after s (Save r) on fits = places_of s (after_at_home m.config.granularity s s.now (Save r)) s.next_stall s.next_command (same_at_home s m.config.granularity s.now (Save r)) fits.stalls fits.commands fits
+  places_after s action on fits = places_of s (after_at_home m.config.granularity s s.now action) s.next_stall s.next_command (same_at_home s m.config.granularity s.now action) fits.stalls fits.commands fits
 
   length_pools : (config : Config) (i : ℕ) (pools : List PoolConfig) → length (opening_pools config i pools) ≡ length pools
   length_pools config i [] = refl

@@ -197,50 +197,23 @@ default_fits (NullPool kept) = tt
 
 pub joined_fits : (n cores t : ℕ) (records : Records) (params : DomParams) (d count : ℕ) → ParamsFit params → RecordsFit n cores t records → RecordsFit n cores t (joined_records records params d count t)
 joined_fits n cores t (Credit2Pool records) (dom_params.Credit2 weight percent) d count good fits = record { places = length_set d _ records.domains ∙ fits.places; limit = fits.limit; domains = EachPlace-put_at (Credit2DomainFits t) d (credit2.fresh_domain weight percent count t) records.domains fits.domains (c_fresh n t weight percent count good.0 good.1) }
-joined_fits n cores t (Credit2Pool records) (dom_params.Rtds period budget extra) d count good fits = fits
-joined_fits n cores t (Credit2Pool records) dom_params.Arinc653 d count good fits = fits
-joined_fits n cores t (Credit2Pool records) dom_params.Null d count good fits = fits
-joined_fits n cores t (RtdsPool domains) (dom_params.Credit2 weight percent) d count good fits = fits
 joined_fits n cores t (RtdsPool domains) (dom_params.Rtds period budget extra) d count good fits = record {
   places = length_set d _ domains ∙ fits.places;
   units = EachPlace-put_at (AllByRecursion (RtdsFits t)) d (rtds.fresh_units period.0 budget.0 extra count t) domains fits.units (rtds_fresh t period.0 budget.0 count extra good.0 good.1);
 }
-joined_fits n cores t (RtdsPool domains) dom_params.Arinc653 d count good fits = fits
-joined_fits n cores t (RtdsPool domains) dom_params.Null d count good fits = fits
-joined_fits n cores t (ArincPool records) (dom_params.Credit2 weight percent) d count good fits = fits
-joined_fits n cores t (ArincPool records) (dom_params.Rtds period budget extra) d count good fits = fits
-joined_fits n cores t (ArincPool records) dom_params.Arinc653 d count good fits = fits
-joined_fits n cores t (ArincPool records) dom_params.Null d count good fits = fits
-joined_fits n cores t (NullPool kept) (dom_params.Credit2 weight percent) d count good fits = fits
-joined_fits n cores t (NullPool kept) (dom_params.Rtds period budget extra) d count good fits = fits
-joined_fits n cores t (NullPool kept) dom_params.Arinc653 d count good fits = fits
-joined_fits n cores t (NullPool kept) dom_params.Null d count good fits = fits
+joined_fits n cores t records params d count good fits = fits
 
 pub changed_fits : (n cores t : ℕ) (records : Records) (change : ParamChange) → ChangeFits change → RecordsFit n cores t records → RecordsFit n cores t (changed_records records change t)
 changed_fits n cores t (Credit2Pool records) (changes.Dom d weight percent) good fits = c_set_domain n t d.0 weight percent records good.0 good.1 fits
 changed_fits n cores t (Credit2Pool records) (changes.Rate limit) good fits = record { places = fits.places; limit = good; domains = fits.domains }
-changed_fits n cores t (Credit2Pool records) (changes.«Unit» u period budget extra) good fits = fits
-changed_fits n cores t (Credit2Pool records) (changes.Frame frame) good fits = fits
-changed_fits n cores t (Credit2Pool records) (changes.Pin d unit cores2) good fits = fits
-changed_fits n cores t (RtdsPool domains) (changes.Dom d weight percent) good fits = fits
-changed_fits n cores t (RtdsPool domains) (changes.Rate limit) good fits = fits
 changed_fits n cores t (RtdsPool domains) (changes.«Unit» u period budget extra) good fits = absurd good
-changed_fits n cores t (RtdsPool domains) (changes.Frame frame) good fits = fits
-changed_fits n cores t (RtdsPool domains) (changes.Pin d unit cores2) good fits = fits
-changed_fits n cores t (ArincPool records) (changes.Dom d weight percent) good fits = fits
-changed_fits n cores t (ArincPool records) (changes.Rate limit) good fits = fits
-changed_fits n cores t (ArincPool records) (changes.«Unit» u period budget extra) good fits = fits
 changed_fits n cores t (ArincPool records) (changes.Frame frame) good fits = record {
   installed = omega arith;
   fits = λ f is. (let e : frame ≡ f = cc in subst FitsMajor e good.0);
   major = λ f is. (let e : frame ≡ f = cc in subst (λ (x : Frame). IsWithin 1 most_span x.major.0) e good.1);
 }
-changed_fits n cores t (ArincPool records) (changes.Pin d unit cores2) good fits = fits
-changed_fits n cores t (NullPool kept) (changes.Dom d weight percent) good fits = fits
-changed_fits n cores t (NullPool kept) (changes.Rate limit) good fits = fits
-changed_fits n cores t (NullPool kept) (changes.«Unit» u period budget extra) good fits = fits
 changed_fits n cores t (NullPool kept) (changes.Frame frame) good fits = fits
-changed_fits n cores t (NullPool kept) (changes.Pin d unit cores2) good fits = fits
+changed_fits n cores t records change good fits = fits
 
 -- new parameters of one RTDS unit; what is not given stays
 pub unit_fits : (n cores t : ℕ) (records : Records) (u : UnitId) (x : RtdsUnit) (period budget : Option Span) (extra : Bool) → rtds_record records u ≡ Some x
@@ -285,9 +258,6 @@ opened_fits config n cores kinds.Credit2 (pool_params.Credit2 limit) passed = re
     of_rate : ((limit ≡ 0) ⊎ IsWithin 100 500000 limit) → limit ≤ 500000
     of_rate (inl none) = omega (arith, none)
     of_rate (inr within) = within.most
-opened_fits config n cores kinds.Rtds (pool_params.Credit2 limit) passed = absurd passed
-opened_fits config n cores kinds.Arinc653 (pool_params.Credit2 limit) passed = absurd passed
-opened_fits config n cores kinds.Null (pool_params.Credit2 limit) passed = absurd passed
 opened_fits config n cores kind pool_params.Rtds passed = record { places = length-replicate n None; units = EachPlace-empty (AllByRecursion (RtdsFits 0)) n }
 opened_fits config n cores kind (pool_params.Arinc653 None) passed = no_frame 0
 opened_fits config n cores kinds.Arinc653 (pool_params.Arinc653 (Some frame)) passed = record {
@@ -295,7 +265,5 @@ opened_fits config n cores kinds.Arinc653 (pool_params.Arinc653 (Some frame)) pa
   fits = λ f is. (let e : frame ≡ f = cc in subst FitsMajor e passed.fits);
   major = λ f is. (let e : frame ≡ f = cc in subst (λ (x : Frame). IsWithin 1 most_span x.major.0) e passed.major);
 }
-opened_fits config n cores kinds.Credit2 (pool_params.Arinc653 (Some frame)) passed = absurd passed
-opened_fits config n cores kinds.Rtds (pool_params.Arinc653 (Some frame)) passed = absurd passed
-opened_fits config n cores kinds.Null (pool_params.Arinc653 (Some frame)) passed = absurd passed
 opened_fits config n cores kind pool_params.Null passed = length-replicate cores None
+opened_fits config n cores kind params passed = absurd passed

@@ -15,10 +15,9 @@ use Rattle.sched_model.specs.Places.{at_place, change_item}
 use Rattle.sched_model.specs.Eligible.{Decision, rtds_unit}
 use Rattle.sched_model.specs.Checked.{IsWithin, most_span}
 use Rattle.sched_model.specs.Rtds.{burn, burn_to, replenish, change_unit, budget_left, burn_cur, set_running, switch_off, choice, decide, choose_rt, fresh_units}
-use Rattle.sched_laws.specs.Each.{EachPlace}
 use Rattle.sched_laws.proofs.EachPlace.{EachPlace-change_at, by_option, by_cond, length_set}
 use Rattle.sched_laws.proofs.Opened.{each_get}
-use Rattle.sched_ranges.specs.Fits.{used, last_of, RtdsFits, RtdsFit}
+use Rattle.sched_ranges.specs.Fits.{used, RtdsFits, RtdsFit}
 
 pub rtds_later : (t next : ℕ) (x : RtdsUnit) → t ≤ next → RtdsFits t x → RtdsFits next x
 rtds_later t next x past fits = record {

@@ -1,10 +1,10 @@
 -- What each step of a pool keeps of the ranges of its numbers.
-use Rattle.std.proofs.Common.{◌≡◌, ◌≤◌, ◌+◌, ◌*◌, ◌/◌, ◌%◌, ℕ, Bool, true, false, not, List, [], ◌∷◌, refl, arith, subst, sym, ◌∙◌, ap, cond, inl, inr, length}
-use Rattle.std.specs.Prelude.{Option, Some, None, is_some, is_none, option_map, unwrap_or, slice_get, map, min, ◌&&◌, ◌||◌, ◌==◌}
-use Rattle.std.specs.List.{AllByRecursion, list_any}
+use Rattle.std.proofs.Common.{◌≡◌, ◌≤◌, ◌+◌, ◌*◌, ◌/◌, ◌%◌, ℕ, Bool, true, false, not, List, [], ◌∷◌, refl, arith, subst, sym, ◌∙◌, ap, inl, inr, length}
+use Rattle.std.specs.Prelude.{Option, Some, None, is_none, option_map, unwrap_or, slice_get, map, min, ◌&&◌, ◌==◌}
+use Rattle.std.specs.List.{AllByRecursion}
 use Rattle.std.proofs.lemmas.List.{length-replicate}
 use Rattle.std.proofs.lemmas.List.Elements.{recursion_from_All}
-use Rattle.sched_base.specs.Numbers.{moment, span, domain as domain_number, pool as pool_number}
+use Rattle.sched_base.specs.Numbers.{moment, span, pool as pool_number}
 use Rattle.sched_base.specs.declared.Moment.{Moment}
 use Rattle.sched_base.specs.declared.Span.{Span}
 use Rattle.sched_base.specs.declared.UnitId.{UnitId}
@@ -16,18 +16,15 @@ use Rattle.sched_model.specs.declared.config.DomParams.{DomParams}
 use Rattle.sched_model.specs.declared.config.ParamChange.{ParamChange}
 use Rattle.sched_model.specs.declared.config.ParamChange.TheVariants as changes
 use Rattle.sched_model.specs.declared.ask.Ask.{Ask}
-use Rattle.sched_model.specs.declared.action.Action.{Action}
-use Rattle.sched_model.specs.declared.action.Action.TheVariants.{Stall, Xl, Moved, DomMoved, Wake, Block, Slice, Repl, Refill, Arrive, Decide, Leave, Save}
+use Rattle.sched_model.specs.declared.action.Action.TheVariants.{Wake, Block}
 use Rattle.sched_model.specs.declared.state.Vcpu.{Vcpu}
 use Rattle.sched_model.specs.declared.state.Domain.{Domain}
 use Rattle.sched_model.specs.declared.state.Doing.TheVariants.{Guest, Idle, Held}
-use Rattle.sched_model.specs.declared.state.Stage.TheVariants.{Open}
 use Rattle.sched_model.specs.declared.state.Processor.{Processor}
 use Rattle.sched_model.specs.declared.state.Resource.{Resource}
-use Rattle.sched_model.specs.declared.state.Records.{Records}
 use Rattle.sched_model.specs.declared.state.Scheduler.{Scheduler}
 use Rattle.sched_model.specs.declared.state.Pool.{Pool}
-use Rattle.sched_model.specs.Places.{at_place, put_at, clear_at, change_at, change_each, change_item, test_at, numbers_from, same_unit}
+use Rattle.sched_model.specs.Places.{at_place, put_at, clear_at, change_at, change_item, numbers_from, same_unit}
 use Rattle.sched_model.specs.State.{is_awake, is_runnable, unit_runnable, has_come}
 use Rattle.sched_model.specs.Opening.{fresh_core, core_count}
 use Rattle.sched_model.specs.Eligible.{Decision}
@@ -39,7 +36,7 @@ use Rattle.sched_model.specs.Pool as pools
 use Rattle.sched_model.specs.Pool.{enabled_in, after_in, settled, home_cores, reconsidered, change_core, change_processor, change_vcpu, change_domain, change_cores_of, does, started_on, decided, same_choice, ask_of, set_leaving, set_moving, set_pending, pause, unpause, set_params, without_domain, with_domain, is_of_domain, is_held, vcpu_of, processor_of, guest_of, vcpu_for}
 use Rattle.sched_laws.specs.Each.{EachAt, EachPlace}
 use Rattle.sched_laws.proofs.Bools.{and_left, and_right}
-use Rattle.sched_laws.proofs.EachPlace.{EachAt-change_at, EachAt-put_at, EachAt-clear_at, EachPlace-change_at, EachPlace-put_at, EachPlace-clear_at, EachPlace-change_each, EachPlace-empty, read_change_at, by_option, by_test, by_cond, length_set, length_change_each}
+use Rattle.sched_laws.proofs.EachPlace.{EachAt-change_at, EachAt-put_at, EachAt-clear_at, EachPlace-change_at, EachPlace-put_at, EachPlace-clear_at, EachPlace-empty, by_option, by_test, by_cond, length_set}
 use Rattle.sched_laws.proofs.Lists.{AllByRecursion-push, AllByRecursion-filter, some-test_at, length_change_item}
 use Rattle.sched_laws.proofs.Opened.{each_get}
 use Rattle.sched_laws.proofs.Choices.{decision_has}
@@ -47,6 +44,7 @@ use Rattle.sched_laws.specs.Known.{IfUnit}
 use Rattle.sched_laws.proofs.Awake.{part_past}
 use Rattle.sched_laws.proofs.Sound.{read_change_item}
 use Rattle.sched_laws.proofs.Fits.{ChangeFits, RtdsFits}
+use Rattle.sched_laws.proofs.Events.{LikePlaces, EachAt-like, capped, like_of_domain, IsMarked, Enabled, KeptByCommands, KeptBySteps, kept_settled, kept_by_event, kept_opened, kept_set_leaving, kept_withdrawn, kept_pause, kept_unpause, kept_marked, kept_queue_units}
 use Rattle.sched_laws.proofs.Steps.{IsKeptAt}
 use Rattle.sched_ranges.specs.Ranges.{IsUnitOf}
 use Rattle.sched_ranges.proofs.Vcpus.{VcpuFits, vcpu_woken, vcpu_slept, vcpu_stopped, vcpu_started}
@@ -88,19 +86,6 @@ pub record PoolFits (m : Machine) (t : ℕ) (pool : Pool) : Type 0 where
 pub record EndsFit (m : Machine) (t : ℕ) (ends : List Moment) : Type 0 where
   pub count : length ends ≡ m.config.granularity
   pub near : AllByRecursion (λ (e : Moment). NearEnd t e.0) ends
-
--- the vCPU after a change of it
-vcpu_after : (v : VcpuId) (f : Vcpu → Vcpu) (pool : Pool) (y : Vcpu) → vcpu_of (change_vcpu v f pool) v ≡ Some y → (x : Vcpu) × (vcpu_of pool v ≡ Some x) × (f x ≡ y)
-vcpu_after v f pool y is =
-    let change : Domain → Domain = λ d. record d { vcpus = change_item v.n f d.vcpus } in
-    by_option (λ (o : Option Vcpu). o ≡ Some y → (x : Vcpu) × (vcpu_of pool v ≡ Some x) × (f x ≡ y)) (at_place (change_at v.dom.0 change pool.domains) v.dom.0) None (λ d. slice_get d.vcpus v.n)
-    (λ none e. absurd (cc))
-    (λ d2 at e. elim (read_change_at v.dom.0 v.dom.0 change pool.domains d2 at) [
-      | inl was ↦ absurd (was.0 refl)
-      | inr r ↦ (
-          let has : slice_get (change_item v.n f r.0.vcpus) v.n ≡ Some y = subst (λ (d : Domain). slice_get d.vcpus v.n ≡ Some y) (sym r.3) e in
-          elim (read_change_item v.n v.n f r.0.vcpus y has) [ inl was ↦ absurd (was.0 refl) | inr x ↦ (x.0, rw (vcpu_of, r.1) x.1, x.3) ])
-    ]) is
 
 is_none_of : {X : Type 0} (o : Option X) → is_none o ≡ true → o ≡ None
 is_none_of None is = refl
@@ -169,18 +154,15 @@ module _ (m : Machine) (checked : IsChecked m) (t : ℕ) where
   r_change_core : (r : ℕ) (f : Resource → Resource) (pool : Pool) → ((c : Resource) → CoreFits m t c → CoreFits m t (f c)) → R pool → R (change_core r f pool)
   r_change_core r f pool keeps fits = r_cores (change_at r f pool.resources) pool (length_set r _ pool.resources) (EachPlace-change_at (CoreFits m t) r f pool.resources fits.cores (λ c at. keeps c)) fits
 
-  r_change_each : (f : ℕ → Resource → Resource) (pool : Pool) → ((r : ℕ) (c : Resource) → CoreFits m t c → CoreFits m t (f r c)) → R pool → R (record pool { resources = change_each 0 f pool.resources })
-  r_change_each f pool keeps fits = r_cores (change_each 0 f pool.resources) pool (length_change_each 0 f pool.resources) (EachPlace-change_each (CoreFits m t) f pool.resources fits.cores (λ r c at. keeps r c)) fits
-
   -- a core of which only marks change
-  marked_core : (c d : Resource) → d.cur ≡ c.cur → d.saving ≡ c.saving → d.since ≡ c.since → d.due ≡ c.due → d.processors ≡ c.processors → CoreFits m t c → CoreFits m t d
-  marked_core c d cur saving since due processors fits = record {
-    cur = subst (IfUnit (IsUnitOf m)) (sym cur) fits.cur;
-    saving = subst (IfUnit (IsUnitOf m)) (sym saving) fits.saving;
-    since = subst (λ (a : Moment). a.0 ≤ t) (sym since) fits.since;
-    due = λ a e. fits.due a (sym due ∙ e);
-    count = ap length processors ∙ fits.count;
-    stalls = subst (AllByRecursion (NearProcessor t)) (sym processors) fits.stalls;
+  marked_core : (c d : Resource) → IsMarked c d → CoreFits m t c → CoreFits m t d
+  marked_core c d marked fits = record {
+    cur = subst (IfUnit (IsUnitOf m)) (sym marked.keeps.cur) fits.cur;
+    saving = subst (IfUnit (IsUnitOf m)) (sym marked.keeps.saving) fits.saving;
+    since = subst (λ (a : Moment). a.0 ≤ t) (sym marked.keeps.since) fits.since;
+    due = λ a e. fits.due a (sym marked.keeps.due ∙ e);
+    count = marked.keeps.count ∙ fits.count;
+    stalls = subst (AllByRecursion (NearProcessor t)) (sym marked.processors) fits.stalls;
   }
 
   r_change_processor : (p : ℕ) (f : Processor → Processor) (pool : Pool) → ((q : Processor) → NearProcessor t q → NearProcessor t (f q)) → R pool → R (change_processor m.config.granularity p f pool)
@@ -240,34 +222,23 @@ module _ (m : Machine) (checked : IsChecked m) (t : ℕ) where
       r_change_processor p (does (Guest v)) (change_vcpu v (λ x. record x { started = Some (moment t) }) pool) (λ q near. near)
       (r_change_vcpu v (λ x. record x { started = Some (moment t) }) pool (λ x script has ok. vcpu_started t script x (awake x has)) fits)
 
-  r_settled : (pool : Pool) → R pool → R (settled t pool)
-  r_settled pool fits = r_change_each (reconsidered t (home_cores pool) pool.scheduler) pool (λ r c here. by_cond (CoreFits m t) c.leaving c _ (λ is. here) (λ is. marked_core c _ refl refl refl refl refl here)) fits
+  r_commands : KeptByCommands m.config.granularity R
+  r_commands = record {
+    marks = λ cores pool like fits. r_cores cores pool like.count (EachAt-like IsMarked (λ r. CoreFits m t) pool.resources cores like (λ r. marked_core) fits.cores) fits;
+    queues = λ u pool runs fits. r_queue_unit u pool (runs_is_unit pool u runs fits) fits;
+    dequeues = λ d pool fits. r_scheduler (policy.dequeue_domain d pool.scheduler) pool refl (AllByRecursion-filter (IsUnitOf m) (IsUnitOf m) (λ u. not (u.dom.0 == d)) (λ u passes ok. ok) pool.scheduler.queue fits.queue) fits.records fits;
+    pausing = λ d paused pool. r_change_domain d (λ x. record x { paused = paused }) pool (λ x. refl);
+  }
 
   -- the events
-  r_joined_siblings : (v : VcpuId) (pool : Pool) → ((x : Vcpu) → vcpu_of pool v ≡ Some x → x.asleep_until ≡ None) → R pool → R (pools.joined_siblings m.config.granularity t v pool)
-  r_joined_siblings v pool awake fits =
-      by_option R (pools.core_of pool (pools.unit_of m.config.granularity v)) _ _ (λ is. fits)
-      (λ r is. by_option R (processor_of m.config.granularity pool (r * m.config.granularity + v.n % m.config.granularity)) _ _ (λ is2. fits)
-      (λ q is2. by_cond R (pools.is_idle q) _ _ (λ idle. r_started_on (r * m.config.granularity + v.n % m.config.granularity) v pool awake fits) (λ idle. fits)))
+  r_wakes : (v : VcpuId) (pool : Pool) → enabled_in m.config.granularity t pool (Wake v) ≡ true → R pool → R (change_vcpu v pools.woken pool)
+  r_wakes v pool on fits = r_change_vcpu v pools.woken pool (λ x script has ok. vcpu_woken t script x ok (subst (λ (o : Option Vcpu). elim o as (λ _. Bool) [ None ↦ false | Some y ↦ has_come t y.asleep_until ] ≡ true) has on)) fits
 
-  r_after_wake : (v : VcpuId) (pool : Pool) → enabled_in m.config.granularity t pool (Wake v) ≡ true → R pool → R (pools.after_wake m.config.granularity t v pool)
-  r_after_wake v pool on fits =
-      let g : ℕ = m.config.granularity in
-      let next : Pool = change_vcpu v pools.woken pool in
-      let here : R next = r_change_vcpu v pools.woken pool (λ x script has ok. vcpu_woken t script x ok (subst (λ (o : Option Vcpu). elim o as (λ _. Bool) [ None ↦ false | Some y ↦ has_come t y.asleep_until ] ≡ true) has on)) fits in
-      by_test R (is_runnable g next (pools.unit_of g v)) _ _
-      (λ runs. by_cond R (pools.is_off next (pools.unit_of g v)) _ _ (λ off. r_queue_unit (pools.unit_of g v) next (runs_is_unit next (pools.unit_of g v) runs here) here)
-      (λ off. r_joined_siblings v next (λ y has. (let x = vcpu_after v pools.woken pool y has in subst (λ (z : Vcpu). z.asleep_until ≡ None) x.2 refl)) here))
-      (λ runs. here)
-
-  r_after_block : (q : ℕ) (v : VcpuId) (pool : Pool) → guest_of m.config.granularity pool q ≡ Some v → enabled_in m.config.granularity t pool (Block q) ≡ true → R pool → R (pools.after_block m.config.granularity t q v pool)
-  r_after_block q v pool is on fits =
-      let g : ℕ = m.config.granularity in
-      let next : Pool = change_processor g q (does Idle) (change_vcpu v (pools.put_to_sleep t) pool) in
-      let first = and_left (elim (guest_of g pool q) as (λ _. Bool) [ None ↦ false | Some w ↦ elim (vcpu_of pool w) as (λ _. Bool) [ None ↦ false | Some x ↦ has_come t (pools.done_at x) ] ]) _ on in
-      let here : R next = r_change_processor q (does Idle) (change_vcpu v (pools.put_to_sleep t) pool) (λ p near. near)
-      (r_change_vcpu v (pools.put_to_sleep t) pool (λ x script has ok. vcpu_slept t script x ok (rw (is, has) at first)) fits) in
-      by_cond R (is_runnable g next (pools.unit_of g v)) _ _ (λ runs. here) (λ runs. r_change_core (q / g) (λ c. record c { pending = true }) next (λ c. marked_core c _ refl refl refl refl refl) here)
+  r_blocks : (q : ℕ) (v : VcpuId) (pool : Pool) → guest_of m.config.granularity pool q ≡ Some v → enabled_in m.config.granularity t pool (Block q) ≡ true → R pool → R (change_processor m.config.granularity q (does Idle) (change_vcpu v (pools.put_to_sleep t) pool))
+  r_blocks q v pool is on fits =
+      let first = and_left (elim (guest_of m.config.granularity pool q) as (λ _. Bool) [ None ↦ false | Some w ↦ elim (vcpu_of pool w) as (λ _. Bool) [ None ↦ false | Some x ↦ has_come t (pools.done_at x) ] ]) _ on in
+      r_change_processor q (does Idle) (change_vcpu v (pools.put_to_sleep t) pool) (λ p near. near)
+      (r_change_vcpu v (pools.put_to_sleep t) pool (λ x script has ok. vcpu_slept t script x ok (rw (is, has) at first)) fits)
 
   r_after_arrive : (q : ℕ) (pool : Pool) → R pool → R (pools.after_arrive m.config.granularity t q pool)
   r_after_arrive q pool fits =
@@ -275,16 +246,11 @@ module _ (m : Machine) (checked : IsChecked m) (t : ℕ) where
       (λ is. r_change_processor q (does Held) pool (λ p near. near) fits)
       (λ v is. r_change_processor q (does Held) (change_vcpu v (pools.stopped t) pool) (λ p near. near) (r_change_vcpu v (pools.stopped t) pool (λ x script has ok. vcpu_stopped t script x) fits))
 
-  r_open : (q : ℕ) (pool : Pool) → R pool → R (change_core (q / m.config.granularity) pools.open_if_left pool)
-  r_open q pool fits =
-      r_change_core (q / m.config.granularity) pools.open_if_left pool
-      (λ c here. by_cond (CoreFits m t) (list_any is_held c.processors) c (record c { stage = Open }) (λ is. here) (λ is. marked_core c _ refl refl refl refl refl here)) fits
-
   r_after_leave : (q : ℕ) (c : Resource) (pool : Pool) → R pool → R (pools.after_leave m.config.granularity t q c pool)
   r_after_leave q c pool fits =
       by_option (λ (next : Pool). R (change_core (q / m.config.granularity) pools.open_if_left next)) (vcpu_for m.config.granularity pool c (q % m.config.granularity)) _ _
-      (λ is. r_open q (change_processor m.config.granularity q (does Idle) pool) (r_change_processor q (does Idle) pool (λ p near. near) fits))
-      (λ v is. r_open q (started_on m.config.granularity t q v pool) (r_started_on q v pool (taken_is_awake m.config.granularity pool c (q % m.config.granularity) v is) fits))
+      (λ is. kept_opened r_commands (q / m.config.granularity) (change_processor m.config.granularity q (does Idle) pool) (r_change_processor q (does Idle) pool (λ p near. near) fits))
+      (λ v is. kept_opened r_commands (q / m.config.granularity) (started_on m.config.granularity t q v pool) (r_started_on q v pool (taken_is_awake m.config.granularity pool c (q % m.config.granularity) v is) fits))
 
   r_after_decide : (r : ℕ) (c : Resource) (pool : Pool) → at_place pool.resources r ≡ Some c → R pool → R (pools.after_decide m.config.granularity t r c pool)
   r_after_decide r c pool at fits =
@@ -306,12 +272,6 @@ module _ (m : Machine) (checked : IsChecked m) (t : ℕ) where
         records = good.records;
       }
 
-  r_after_save : (r : ℕ) (u : UnitId) (pool : Pool) → R pool → R (pools.after_save m.config.granularity r u pool)
-  r_after_save r u pool fits =
-      let next : Pool = change_core r pools.saved pool in
-      let here : R next = r_change_core r pools.saved pool (λ c old. record { cur = old.cur; saving = tt; since = old.since; due = old.due; count = old.count; stalls = old.stalls }) fits in
-      by_cond R (is_runnable m.config.granularity pool u) _ _ (λ runs. r_queue_unit u next (runs_is_unit pool u runs fits) here) (λ runs. here)
-
   due_less : (budget : ℕ) (o : Option Moment) (a : Moment) → option_map (λ (due : Moment). moment (min (t + budget) due.0)) o ≡ Some a → (b : Moment) × (o ≡ Some b) × (a.0 ≤ b.0)
   due_less budget None a e = absurd (cc)
   due_less budget (Some b) a e = (let f : ◌≡◌ {A = Moment} (moment (min (t + budget) b.0)) a = cc in (b, refl, subst (λ (x : Moment). x.0 ≤ b.0) f (min_below (t + budget) b.0)))
@@ -319,75 +279,39 @@ module _ (m : Machine) (checked : IsChecked m) (t : ℕ) where
       min_below : (k n : ℕ) → min k n ≤ n
       min_below k n = grind arith
 
-  r_after_replenish : (u : UnitId) (pool : Pool) → policy.replenish_due pool.scheduler.records t u ≡ true → R pool → R (pools.after_replenish t u pool)
-  r_after_replenish u pool due fits =
-      let records : Records = policy.replenish pool.scheduler.records t u in
-      let next : Pool = pools.with_records records pool in
-      let here : R next = r_scheduler (record pool.scheduler { records = records }) pool refl fits.queue (replenish_fits (length m.config.domains) (core_count m.config) t pool.scheduler.records u due fits.records) fits in
-      by_option R (pools.core_of pool u) _ _ (λ is. here)
-      (λ r is. by_option R (rtds_record records u) _ _ (λ is2. here)
-      (λ x is2. r_change_core r (pools.due_within t x.budget) next
-      (λ c old. record { cur = old.cur; saving = old.saving; since = old.since; due = λ a e. (let b = due_less x.budget c.due a e in let l = old.due b.0 b.1 in let k = b.2 in omega (arith, l, k)); count = old.count; stalls = old.stalls }) here))
-
-  r_acts : (pool : Pool) (action : Action) → enabled_in m.config.granularity t pool action ≡ true → R pool → R (after_in m.config.granularity t pool action)
-  r_acts pool Stall on fits = fits
-  r_acts pool Xl on fits = fits
-  r_acts pool (Moved r) on fits = fits
-  r_acts pool (DomMoved d) on fits = fits
-  r_acts pool (Wake v) on fits = r_after_wake v pool on fits
-  r_acts pool (Block q) on fits = by_option R (guest_of m.config.granularity pool q) _ _ (λ is. fits) (λ v is. r_after_block q v pool is on fits)
-  r_acts pool (Slice r) on fits = r_change_core r (λ c. record c { pending = true }) pool (λ c. marked_core c _ refl refl refl refl refl) fits
-  r_acts pool (Repl u) on fits = r_after_replenish u pool (and_right _ (policy.replenish_due pool.scheduler.records t u) (and_left _ (pools.lowest_up t pool) on)) fits
-  r_acts pool (Refill d) on fits = r_scheduler (record pool.scheduler { records = policy.refill pool.scheduler.records t d }) pool refl fits.queue (refill_fits (length m.config.domains) (core_count m.config) t pool.scheduler.records d (and_left (has_come t (policy.next_refill pool.scheduler.records d)) (pools.lowest_up t pool) on) fits.records) fits
-  r_acts pool (Arrive q) on fits = r_after_arrive q pool fits
-  r_acts pool (Decide r) on fits = by_option R (at_place pool.resources r) _ _ (λ is. fits) (λ c is. r_after_decide r c pool is fits)
-  r_acts pool (Leave q) on fits = by_option R (at_place pool.resources (q / m.config.granularity)) _ _ (λ is. fits) (λ c is. r_after_leave q c pool fits)
-  r_acts pool (Save r) on fits = by_option R (at_place pool.resources r) _ _ (λ is. fits) (λ c is. by_option R c.saving _ _ (λ is2. fits) (λ u is2. r_after_save r u pool fits))
-
-  r_change_cores_of : (d : ℕ) (f : Resource → Resource) (pool : Pool) → ((c : Resource) → CoreFits m t c → CoreFits m t (f c)) → R pool → R (change_cores_of d f pool)
-  r_change_cores_of d f pool keeps fits = r_change_each (λ r c. cond (is_of_domain d c.cur) (f c) c) pool (λ r c here. by_cond (CoreFits m t) (is_of_domain d c.cur) (f c) c (λ is. keeps c here) (λ is. here)) fits
-
-  r_queue_units : (d : ℕ) (units : List ℕ) (pool : Pool) → R pool → R (pools.queue_units m.config.granularity d units pool)
-  r_queue_units d [] pool fits = fits
-  r_queue_units d (k ∷ ks) pool fits =
-      let u : UnitId = record { dom = domain_number d; n = k } in
-      r_queue_units d ks _ (by_cond R (is_runnable m.config.granularity pool u && pools.is_off pool u) _ _ (λ is. r_queue_unit u pool (runs_is_unit pool u (and_left (is_runnable m.config.granularity pool u) _ is) fits) fits) (λ is. fits))
-
-  r_withdrawn : (d : ℕ) (f : Domain → Domain) (pool : Pool) → ((x : Domain) → (f x).vcpus ≡ x.vcpus) → R pool → R (pools.withdrawn d (change_domain d f pool))
-  r_withdrawn d f pool same fits =
-      let changed : R (change_domain d f pool) = r_change_domain d f pool same fits in
-      r_change_cores_of d set_pending (record pool { domains = change_at d f pool.domains; scheduler = policy.dequeue_domain d pool.scheduler }) (λ c. marked_core c _ refl refl refl refl refl)
-      (r_scheduler (policy.dequeue_domain d pool.scheduler) (change_domain d f pool) refl (AllByRecursion-filter (IsUnitOf m) (IsUnitOf m) (λ u. not (u.dom.0 == d)) (λ u passes ok. ok) pool.scheduler.queue fits.queue) fits.records changed)
-
-  r_pause : (d : ℕ) (pool : Pool) → R pool → R (pause d pool)
-  r_pause d pool fits = by_cond R (test_at pool.domains d (λ x. x.paused)) _ _ (λ is. fits) (λ is. r_withdrawn d (λ x. record x { paused = true }) pool (λ x. refl) fits)
-
-  r_unpause : (d : ℕ) (pool : Pool) → R pool → R (unpause m.config.granularity d pool)
-  r_unpause d pool fits =
-      by_option R (at_place pool.domains d) _ _ (λ is. fits)
-      (λ domain is. by_cond R domain.paused _ _
-      (λ is2. r_queue_units d (numbers_from 0 (pools.unit_count m.config.granularity domain)) (change_domain d (λ x. record x { paused = false }) pool) (r_change_domain d (λ x. record x { paused = false }) pool (λ x. refl) fits)) (λ is2. fits))
+  r_steps : KeptBySteps m.config.granularity t (Enabled m.config.granularity t) R
+  r_steps = record {
+    commands = r_commands;
+    wakes = r_wakes;
+    joins = λ v r q pool is is2 idle awake. r_started_on (r * m.config.granularity + v.n % m.config.granularity) v pool awake;
+    blocks = r_blocks;
+    arrives = λ q pool on. r_after_arrive q pool;
+    decides = λ r c pool at on. r_after_decide r c pool at;
+    leaves = λ q c pool at on. r_after_leave q c pool;
+    saves = λ r c u pool at is on. r_change_core r pools.saved pool (λ x old. record { cur = old.cur; saving = tt; since = old.since; due = old.due; count = old.count; stalls = old.stalls });
+    replenishes = λ u pool on fits. r_scheduler (record pool.scheduler { records = policy.replenish pool.scheduler.records t u }) pool refl fits.queue
+        (replenish_fits (length m.config.domains) (core_count m.config) t pool.scheduler.records u (and_right _ (policy.replenish_due pool.scheduler.records t u) (and_left _ (pools.lowest_up t pool) on)) fits.records) fits;
+    dues = λ r u x old pool on is. r_change_core r (pools.due_within t x.budget) pool
+        (λ c here. record { cur = here.cur; saving = here.saving; since = here.since; due = λ a e. (let b = due_less x.budget c.due a e in let l = here.due b.0 b.1 in let k = b.2 in omega (arith, l, k)); count = here.count; stalls = here.stalls });
+    refills = λ d pool on fits. r_scheduler (record pool.scheduler { records = policy.refill pool.scheduler.records t d }) pool refl fits.queue
+        (refill_fits (length m.config.domains) (core_count m.config) t pool.scheduler.records d (and_left (has_come t (policy.next_refill pool.scheduler.records d)) (pools.lowest_up t pool) on) fits.records) fits;
+  }
 
   affinity_kept : (change : ParamChange) (affinity : List (Option (List Cores))) → length (changed_affinity change affinity) ≡ length affinity
-  affinity_kept (changes.Dom d weight percent) affinity = refl
-  affinity_kept (changes.Rate limit) affinity = refl
-  affinity_kept (changes.«Unit» u period budget extra) affinity = refl
-  affinity_kept (changes.Frame frame) affinity = refl
   affinity_kept (changes.Pin d unit cores) affinity = length_set d.0 _ affinity
+  affinity_kept change affinity = refl
 
-  r_marked : (change : ParamChange) (pool : Pool) → R pool → R (pools.marked change t pool)
-  r_marked (changes.Dom d weight (Some percent)) pool fits =
-      r_change_cores_of d.0 (λ c. record c { pending = true; due = Some (moment t) }) pool
-      (λ c old. record { cur = old.cur; saving = old.saving; since = old.since; due = λ a e. (let f : ◌≡◌ {A = Moment} (moment t) a = cc in subst (λ (b : Moment). b.0 ≤ t + most_span) f (omega arith)); count = old.count; stalls = old.stalls }) fits
-  r_marked (changes.Dom d weight None) pool fits = fits
-  r_marked (changes.Rate limit) pool fits = fits
-  r_marked (changes.«Unit» u period budget extra) pool fits = fits
-  r_marked (changes.Frame frame) pool fits = r_change_each (λ r c. set_pending c) pool (λ r c. marked_core c _ refl refl refl refl refl) fits
-  r_marked (changes.Pin d unit cores) pool fits = fits
+  r_caps : (d : ℕ) (pool : Pool) → R pool → R (change_cores_of d (capped t) pool)
+  r_caps d pool fits =
+      let Fits : Resource → Resource → Type 0 = λ c e. CoreFits m t c → CoreFits m t e in
+      let like : LikePlaces Fits pool.resources (change_cores_of d (capped t) pool).resources =
+      like_of_domain Fits d (capped t) pool.resources (λ c old. old)
+      (λ c old. record { cur = old.cur; saving = old.saving; since = old.since; due = λ a e. (let f : ◌≡◌ {A = Moment} (moment t) a = cc in subst (λ (b : Moment). b.0 ≤ t + most_span) f (omega arith)); count = old.count; stalls = old.stalls }) in
+      r_cores _ pool like.count (EachAt-like Fits (λ r. CoreFits m t) pool.resources _ like (λ r c e to. to) fits.cores) fits
 
   pub r_set_params : (change : ParamChange) (pool : Pool) → ChangeFits change → R pool → R (set_params change t pool)
   r_set_params change pool good fits =
-      r_marked change (record pool { scheduler = policy.set_params change t pool.scheduler })
+      kept_marked r_commands t r_caps change (record pool { scheduler = policy.set_params change t pool.scheduler })
       (r_scheduler (policy.set_params change t pool.scheduler) pool (affinity_kept change pool.scheduler.affinity) fits.queue (changed_fits (length m.config.domains) (core_count m.config) t pool.scheduler.records change good fits.records) fits)
 
   r_set_rtds_unit : (period budget : Option Span) (extra : Option Bool) (u : UnitId) (pool : Pool) → RtdsFits period budget → R pool → R (set_rtds_unit t period budget extra u pool)
@@ -399,7 +323,7 @@ module _ (m : Machine) (checked : IsChecked m) (t : ℕ) where
   pub r_with_domain : (d : ℕ) (domain : Domain) (params : DomParams) (pool : Pool) → ParamsFit params → DomFits m t d domain → R pool → R (with_domain m.config.granularity t d domain params pool)
   r_with_domain d domain params pool good comes fits =
       let count : ℕ = pools.unit_count m.config.granularity domain in
-      r_queue_units d (numbers_from 0 count) (record pool { domains = put_at d domain pool.domains; scheduler = policy.join d count params t pool.scheduler })
+      kept_queue_units r_commands d (numbers_from 0 count) (record pool { domains = put_at d domain pool.domains; scheduler = policy.join d count params t pool.scheduler })
       (r_scheduler (policy.join d count params t pool.scheduler) (record pool { domains = put_at d domain pool.domains }) (length_set d _ pool.scheduler.affinity) fits.queue
       (joined_fits (length m.config.domains) (core_count m.config) t pool.scheduler.records params d count good fits.records)
       (r_domains (put_at d domain pool.domains) pool (length_set d _ pool.domains) (EachAt-put_at (DomFits m t) d domain pool.domains fits.domains comes) fits))
@@ -441,13 +365,13 @@ module _ (m : Machine) (checked : IsChecked m) (t : ℕ) where
   pub range_steps : IsKeptAt m t (NearEnd t) (EndsFit m t) (DomFits m t) (PoolFits m t) (PoolFits m t)
   range_steps = record {
     weakens = λ pool fits. fits;
-    settles = r_settled;
+    settles = kept_settled r_commands t;
     stalls = λ p end pool near fits. r_change_processor p (λ q. record q { stall_end = moment end }) pool (λ q old. near) fits;
-    acts = r_acts;
-    leaves = λ r pool fits. r_change_core r (λ c. record c { leaving = true; pending = c.pending || is_some c.cur }) pool (λ c. marked_core c _ refl refl refl refl refl) fits;
-    moves = λ d i pool fits. r_withdrawn d (λ x. record x { moving = Some (pool_number i) }) pool (λ x. refl) fits;
-    pauses = r_pause;
-    unpauses = r_unpause;
+    acts = kept_by_event r_steps;
+    leaves = kept_set_leaving r_commands;
+    moves = λ d i pool fits. kept_withdrawn r_commands d (change_domain d (λ x. record x { moving = Some (pool_number i) }) pool) (r_change_domain d (λ x. record x { moving = Some (pool_number i) }) pool (λ x. refl) fits);
+    pauses = kept_pause r_commands;
+    unpauses = kept_unpause r_commands;
     changes = r_set_params;
     rtds = r_set_rtds_unit;
     core_comes = λ r ends pool none good fits. r_cores (put_at r (fresh_core ends) pool.resources) pool (length_set r _ pool.resources) (EachPlace-put_at (CoreFits m t) r (fresh_core ends) pool.resources fits.cores (fresh_core_fits ends good)) fits;

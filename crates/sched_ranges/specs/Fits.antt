@@ -1,8 +1,7 @@
 -- The ranges of what RTDS and Credit2 keep of their units and domains.
 use Rattle.std.proofs.Common.{◌≡◌, ◌≤◌, ◌+◌, ◌-◌, ◌*◌, ℕ, List, length, ◌<◌}
-use Rattle.std.specs.Prelude.{Option, Some, unwrap_or, ℤ, pos, neg_ℤ, ◌≤ℤ◌}
+use Rattle.std.specs.Prelude.{Option, Some, unwrap_or, pos, neg_ℤ, ◌≤ℤ◌}
 use Rattle.std.specs.List.{AllByRecursion}
-use Rattle.sched_base.specs.Numbers.{moment}
 use Rattle.sched_model.specs.declared.state.RtdsUnit.{RtdsUnit}
 use Rattle.sched_model.specs.Checked.{IsWithin}
 use Rattle.sched_laws.specs.Each.{EachPlace}

@@ -8,17 +8,15 @@ use Rattle.sched_model.specs.declared.state.Domain.{Domain}
 use Rattle.sched_model.specs.declared.state.RtdsUnit.{RtdsUnit}
 use Rattle.sched_model.specs.declared.state.Records.{Records}
 use Rattle.sched_model.specs.declared.state.Records.TheVariants.{Credit2Pool, RtdsPool, ArincPool, NullPool}
-use Rattle.sched_model.specs.declared.state.Pool.{Pool}
 use Rattle.sched_model.specs.Places.{at_place, put_at, clear_at, change_at}
 use Rattle.sched_model.specs.Pool.{unit_count}
 use Rattle.sched_model.specs.Policy.{joined_records, parted_records, kind_of}
 use Rattle.sched_model.specs.Credit2 as credit2
 use Rattle.sched_model.specs.Rtds as rtds
 use Rattle.std.proofs.lemmas.List.{length-replicate}
-use Rattle.sched_laws.specs.Each.{EachAt, EachPlace}
 use Rattle.sched_laws.proofs.EachPlace.{EachAt-change_at, EachPlace-change_at, EachPlace-put_at, EachPlace-clear_at, read_clear_at, at_place-put_at, at_place-put_at_other, at_place-clear_at, at_place-clear_at_other, is_empty, place_below, length_set}
 use Rattle.sched_records.proofs.Measured.{measured_put_at, measured_clear_at}
-use Rattle.sched_records.specs.Counts.{measured, shape, units_in, HasCounts, CountsFit, Keeps, KeepsPool, Matches}
+use Rattle.sched_records.specs.Counts.{measured, shape, units_in, HasCounts, CountsFit, Keeps, Matches}
 
 -- the records change, and have as many units of each domain as before
 pub keeps_shape : (g : ℕ) (domains : List (Option Domain)) (old next : Records) → shape next ≡ shape old → Keeps g domains (shape old) → Keeps g domains (shape next)
@@ -103,25 +101,14 @@ fit_joined g t d x domains (Credit2Pool records) (dom_params.Credit2 weight perc
     let put : measured units_in (put_at d fresh records.domains) ≡ put_at d (unit_count g x) (measured units_in records.domains) =
     measured_put_at units_in d fresh records.domains ∙ ap (λ (n : ℕ). put_at d n (measured units_in records.domains)) (length-replicate (unit_count g x) _) in
     (subst (HasCounts g (put_at d x domains)) (sym put) (has_counts_put_at g d x domains (measured units_in records.domains) fit), refl)
-fit_joined g t d x domains (Credit2Pool records) (dom_params.Rtds period budget extra) good fit = absurd good
-fit_joined g t d x domains (Credit2Pool records) dom_params.Arinc653 good fit = absurd good
-fit_joined g t d x domains (Credit2Pool records) dom_params.Null good fit = absurd good
-fit_joined g t d x domains (RtdsPool units) (dom_params.Credit2 weight percent) good fit = absurd good
 fit_joined g t d x domains (RtdsPool units) (dom_params.Rtds period budget extra) good fit =
     let fresh : List RtdsUnit = rtds.fresh_units period.0 budget.0 extra (unit_count g x) t in
     let put : measured length (put_at d fresh units) ≡ put_at d (unit_count g x) (measured length units) =
     measured_put_at length d fresh units ∙ ap (λ (n : ℕ). put_at d n (measured length units)) (length-replicate (unit_count g x) _) in
     (subst (HasCounts g (put_at d x domains)) (sym put) (has_counts_put_at g d x domains (measured length units) fit), refl)
-fit_joined g t d x domains (RtdsPool units) dom_params.Arinc653 good fit = absurd good
-fit_joined g t d x domains (RtdsPool units) dom_params.Null good fit = absurd good
-fit_joined g t d x domains (ArincPool records) (dom_params.Credit2 weight percent) good fit = (tt, refl)
-fit_joined g t d x domains (ArincPool records) (dom_params.Rtds period budget extra) good fit = (tt, refl)
-fit_joined g t d x domains (ArincPool records) dom_params.Arinc653 good fit = (tt, refl)
-fit_joined g t d x domains (ArincPool records) dom_params.Null good fit = (tt, refl)
-fit_joined g t d x domains (NullPool kept) (dom_params.Credit2 weight percent) good fit = (tt, refl)
-fit_joined g t d x domains (NullPool kept) (dom_params.Rtds period budget extra) good fit = (tt, refl)
-fit_joined g t d x domains (NullPool kept) dom_params.Arinc653 good fit = (tt, refl)
-fit_joined g t d x domains (NullPool kept) dom_params.Null good fit = (tt, refl)
+fit_joined g t d x domains (ArincPool records) params good fit = (tt, refl)
+fit_joined g t d x domains (NullPool kept) params good fit = (tt, refl)
+fit_joined g t d x domains records params good fit = absurd good
 
 pub keeps_joined : (g t d : ℕ) (x : Domain) (domains : List (Option Domain)) (records : Records) (params : DomParams) → Matches records params → 1 ≤ unit_count g x → Keeps g domains (shape records)
     → Keeps g (put_at d x domains) (shape (joined_records records params d (unit_count g x) t)) × (kind_of (joined_records records params d (unit_count g x) t) ≡ kind_of records)

@@ -34,39 +34,21 @@ use Rattle.sched_records.proofs.Walk.{keeps_empty, k_set_params, k_with_domain}
 -- the parameters that pass the checks are those of the scheduler
 passed_match : (records : Records) (params : DomParams) → DomParamsPass (kind_of records) params → Matches records params
 passed_match (Credit2Pool records) (dom_params.Credit2 weight percent) passed = tt
-passed_match (Credit2Pool records) (dom_params.Rtds period budget extra) passed = absurd passed
-passed_match (Credit2Pool records) dom_params.Arinc653 passed = absurd passed
-passed_match (Credit2Pool records) dom_params.Null passed = absurd passed
-passed_match (RtdsPool domains) (dom_params.Credit2 weight percent) passed = absurd passed
 passed_match (RtdsPool domains) (dom_params.Rtds period budget extra) passed = tt
-passed_match (RtdsPool domains) dom_params.Arinc653 passed = absurd passed
-passed_match (RtdsPool domains) dom_params.Null passed = absurd passed
 passed_match (ArincPool records) params passed = tt
 passed_match (NullPool kept) params passed = tt
+passed_match records params passed = absurd passed
 
 fresh_kind : (config : Config) (kind : SchedKind) (params : PoolParams) (n cores : ℕ) → PoolParamsPass config kind params → kind_of (fresh_records params n cores) ≡ kind
 fresh_kind config kinds.Credit2 (pool_params.Credit2 limit) n cores passed = refl
-fresh_kind config kinds.Credit2 pool_params.Rtds n cores passed = absurd passed
-fresh_kind config kinds.Credit2 (pool_params.Arinc653 frame) n cores passed = absurd passed
-fresh_kind config kinds.Credit2 pool_params.Null n cores passed = absurd passed
-fresh_kind config kinds.Rtds (pool_params.Credit2 limit) n cores passed = absurd passed
 fresh_kind config kinds.Rtds pool_params.Rtds n cores passed = refl
-fresh_kind config kinds.Rtds (pool_params.Arinc653 frame) n cores passed = absurd passed
-fresh_kind config kinds.Rtds pool_params.Null n cores passed = absurd passed
-fresh_kind config kinds.Arinc653 (pool_params.Credit2 limit) n cores passed = absurd passed
-fresh_kind config kinds.Arinc653 pool_params.Rtds n cores passed = absurd passed
 fresh_kind config kinds.Arinc653 (pool_params.Arinc653 frame) n cores passed = refl
-fresh_kind config kinds.Arinc653 pool_params.Null n cores passed = absurd passed
-fresh_kind config kinds.Null (pool_params.Credit2 limit) n cores passed = absurd passed
-fresh_kind config kinds.Null pool_params.Rtds n cores passed = absurd passed
-fresh_kind config kinds.Null (pool_params.Arinc653 frame) n cores passed = absurd passed
 fresh_kind config kinds.Null pool_params.Null n cores passed = refl
+fresh_kind config kind params n cores passed = absurd passed
 
 pin_kind : (records : Records) (d n t : ℕ) (cores : Cores) → kind_of (changed_records records (changes.Pin (domain_number d) (Some n) cores) t) ≡ kind_of records
 pin_kind (Credit2Pool records) d n t cores = refl
-pin_kind (RtdsPool domains) d n t cores = refl
-pin_kind (ArincPool records) d n t cores = refl
-pin_kind (NullPool kept) d n t cores = refl
+pin_kind records d n t cores = refl
 
 -- a domain with a vCPU has a unit
 has_unit : (g n : ℕ) → 0 < g → 1 ≤ n → 1 ≤ (n + g - 1) / g

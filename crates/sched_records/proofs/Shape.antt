@@ -24,7 +24,6 @@ use Rattle.sched_model.specs.NullScheduler as null
 use Rattle.sched_laws.proofs.EachPlace.{by_option, by_cond}
 use Rattle.sched_laws.proofs.Lists.{length_change_item}
 use Rattle.sched_records.proofs.Measured.{measured_change_at, measured_change_each}
-use Rattle.sched_records.specs.Counts.{measured}
 use Rattle.sched_records.specs.Counts.{units_in, credit2_counts, rtds_counts, shape}
 
 abbrev some_counts : List (Option ℕ) → Option (List (Option ℕ))
@@ -141,22 +140,7 @@ shape_refilled (NullPool kept) t d = refl
 -- a change of parameters
 pub shape_changed : (records : Records) (change : ParamChange) (t : ℕ) → shape (changed_records records change t) ≡ shape records
 shape_changed (Credit2Pool records) (changes.Dom d weight percent) t = ap some_counts (c_set_domain t d.0 weight percent records)
-shape_changed (Credit2Pool records) (changes.Rate limit) t = refl
-shape_changed (Credit2Pool records) (changes.«Unit» u period budget extra) t = refl
-shape_changed (Credit2Pool records) (changes.Frame frame) t = refl
-shape_changed (Credit2Pool records) (changes.Pin d unit cores) t = refl
-shape_changed (RtdsPool domains) (changes.Dom d weight percent) t = refl
-shape_changed (RtdsPool domains) (changes.Rate limit) t = refl
 shape_changed (RtdsPool domains) (changes.«Unit» u period budget extra) t = ap some_counts (r_unit u (λ x. record x { next_period = period.0; next_budget = budget.0; next_extra = extra }) domains)
-shape_changed (RtdsPool domains) (changes.Frame frame) t = refl
-shape_changed (RtdsPool domains) (changes.Pin d unit cores) t = refl
-shape_changed (ArincPool records) (changes.Dom d weight percent) t = refl
-shape_changed (ArincPool records) (changes.Rate limit) t = refl
-shape_changed (ArincPool records) (changes.«Unit» u period budget extra) t = refl
 shape_changed (ArincPool records) (changes.Frame frame) t = refl
-shape_changed (ArincPool records) (changes.Pin d unit cores) t = refl
-shape_changed (NullPool kept) (changes.Dom d weight percent) t = refl
-shape_changed (NullPool kept) (changes.Rate limit) t = refl
-shape_changed (NullPool kept) (changes.«Unit» u period budget extra) t = refl
 shape_changed (NullPool kept) (changes.Frame frame) t = refl
-shape_changed (NullPool kept) (changes.Pin d unit cores) t = refl
+shape_changed records change t = refl

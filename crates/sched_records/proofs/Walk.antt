@@ -1,14 +1,11 @@
 -- What each step of a pool keeps of the records of its domains.
-use Rattle.std.proofs.Common.{◌≡◌, ◌≤◌, ◌/◌, ◌%◌, ◌+◌, ◌*◌, ℕ, Bool, true, false, List, [], ◌∷◌, refl, sym, ◌∙◌, length}
+use Rattle.std.proofs.Common.{◌≡◌, ◌≤◌, ℕ, Bool, List, [], ◌∷◌, refl, sym, ◌∙◌, length}
 use Rattle.std.specs.Prelude.{Option, Some, None, unwrap_or, replicate, ◌&&◌}
 use Rattle.std.proofs.lemmas.List.{length-replicate}
 use Rattle.sched_base.specs.Numbers.{span, domain as domain_number, pool as pool_number}
 use Rattle.sched_base.specs.declared.Moment.{Moment}
 use Rattle.sched_base.specs.declared.Span.{Span}
 use Rattle.sched_base.specs.declared.UnitId.{UnitId}
-use Rattle.sched_base.specs.declared.VcpuId.{VcpuId}
-use Rattle.sched_model.specs.declared.action.Action.{Action}
-use Rattle.sched_model.specs.declared.action.Action.TheVariants.{Stall, Xl, Moved, DomMoved, Wake, Block, Slice, Repl, Refill, Arrive, Decide, Leave, Save}
 use Rattle.sched_model.specs.declared.config.DomParams.{DomParams}
 use Rattle.sched_model.specs.declared.config.PoolParams.{PoolParams}
 use Rattle.sched_model.specs.declared.config.PoolParams.TheVariants as pool_params
@@ -16,23 +13,21 @@ use Rattle.sched_model.specs.declared.config.ParamChange.{ParamChange}
 use Rattle.sched_model.specs.declared.config.ParamChange.TheVariants as changes
 use Rattle.sched_model.specs.declared.machine.Machine.{Machine}
 use Rattle.sched_model.specs.declared.state.Domain.{Domain}
-use Rattle.sched_model.specs.declared.state.Vcpu.{Vcpu}
-use Rattle.sched_model.specs.declared.state.Resource.{Resource}
 use Rattle.sched_model.specs.declared.state.RtdsUnit.{RtdsUnit}
 use Rattle.sched_model.specs.declared.state.Records.{Records}
-use Rattle.sched_model.specs.declared.state.Records.TheVariants.{Credit2Pool, RtdsPool, ArincPool, NullPool}
+use Rattle.sched_model.specs.declared.state.Records.TheVariants.{Credit2Pool}
 use Rattle.sched_model.specs.declared.state.Pool.{Pool}
 use Rattle.sched_model.specs.Commands.{set_rtds_unit}
 use Rattle.sched_model.specs.Opening.{core_count}
-use Rattle.sched_model.specs.Places.{at_place, put_at, change_item, test_at, numbers_from}
+use Rattle.sched_model.specs.Places.{at_place, put_at, numbers_from}
 use Rattle.sched_model.specs.State.{is_runnable}
 use Rattle.sched_model.specs.Policy as policy
 use Rattle.sched_model.specs.Policy.{rtds_record, default_dom_params, default_pool_params, changed_records, fresh_records, kind_of}
 use Rattle.sched_model.specs.Pool as pools
 use Rattle.sched_model.specs.Pool.{after_in, change_domain, change_vcpu, ask_of, guest_of, pause, unpause, set_params, unit_count, with_domain}
-use Rattle.sched_laws.proofs.EachPlace.{EachPlace-empty, is_empty, by_option, by_test, by_cond}
-use Rattle.sched_laws.proofs.Lists.{length_change_item}
+use Rattle.sched_laws.proofs.EachPlace.{EachPlace-empty, is_empty, by_option, by_cond}
 use Rattle.sched_laws.proofs.Steps.{IsKeptAt}
+use Rattle.sched_laws.proofs.Events.{Anyway, KeptByCommands, KeptByParts, commands_of, kept_by_parts, kept_pause, kept_unpause, kept_marked}
 use Rattle.sched_records.proofs.Measured.{length_measured, read_measured}
 use Rattle.sched_records.proofs.Shape.{shape_decision, shape_replenished, shape_refilled, shape_changed}
 use Rattle.sched_records.specs.Counts.{measured, shape, units_in, Matches, Keeps, KeepsPool, CountsFit}
@@ -58,9 +53,7 @@ queued P g d (n ∷ ns) pool here =
 -- the parameters of a domain that moves to the pool
 pub default_matches : (records : Records) → Matches records (default_dom_params records)
 default_matches (Credit2Pool records) = tt
-default_matches (RtdsPool domains) = tt
-default_matches (ArincPool records) = tt
-default_matches (NullPool kept) = tt
+default_matches records = tt
 
 -- a pool without domains
 pub keeps_empty : (g n cores : ℕ) (params : PoolParams) → Keeps g (replicate n None) (shape (fresh_records params n cores))
@@ -85,86 +78,25 @@ module _ (g : ℕ) where
   k_change_domain : (d : ℕ) (f : Domain → Domain) (pool : Pool) → ((x : Domain) → length (f x).vcpus ≡ length x.vcpus) → K pool → K (change_domain d f pool)
   k_change_domain d f pool same keeps = keeps_change_at g d f pool.domains (shape pool.scheduler.records) same keeps
 
-  k_change_vcpu : (v : VcpuId) (f : Vcpu → Vcpu) (pool : Pool) → K pool → K (change_vcpu v f pool)
-  k_change_vcpu v f pool keeps = k_change_domain v.dom.0 (λ d. record d { vcpus = change_item v.n f d.vcpus }) pool (λ x. length_change_item v.n f x.vcpus) keeps
+  k_parts : (t : ℕ) → KeptByParts g t Anyway K
+  k_parts t = record {
+    cores = λ cores pool like keeps. keeps;
+    domains = λ d f pool count moving. k_change_domain d f pool count;
+    queues = λ u pool runs keeps. keeps;
+    dequeues = λ d pool keeps. keeps;
+    decides = λ r c pool at on. keeps_shape g pool.domains pool.scheduler.records _ (shape_decision pool.scheduler.records (ask_of g t pool r c) pool.scheduler refl);
+    saves = λ r c u pool at is on keeps. keeps;
+    replenishes = λ u pool on. keeps_shape g pool.domains pool.scheduler.records _ (shape_replenished pool.scheduler.records t u);
+    dues = λ r u x old pool on is keeps. keeps;
+    refills = λ d pool on. keeps_shape g pool.domains pool.scheduler.records _ (shape_refilled pool.scheduler.records t d);
+  }
 
-  k_joined_siblings : (t : ℕ) (v : VcpuId) (pool : Pool) → K pool → K (pools.joined_siblings g t v pool)
-  k_joined_siblings t v pool keeps =
-      by_option K (pools.core_of pool (pools.unit_of g v)) _ _ (λ is. keeps)
-      (λ r is. by_option K (pools.processor_of g pool (r * g + v.n % g)) _ _ (λ is2. keeps)
-      (λ q is2. by_cond K (pools.is_idle q) _ _ (λ is3. k_change_vcpu v _ pool keeps) (λ is3. keeps)))
-
-  k_after_wake : (t : ℕ) (v : VcpuId) (pool : Pool) → K pool → K (pools.after_wake g t v pool)
-  k_after_wake t v pool keeps =
-      let next : Pool = change_vcpu v pools.woken pool in
-      let here : K next = k_change_vcpu v pools.woken pool keeps in
-      by_test K (is_runnable g next (pools.unit_of g v)) _ _
-      (λ runs. by_cond K (pools.is_off next (pools.unit_of g v)) _ _ (λ off. here) (λ off. k_joined_siblings t v next here))
-      (λ runs. here)
-
-  k_after_block : (t p : ℕ) (v : VcpuId) (pool : Pool) → K pool → K (pools.after_block g t p v pool)
-  k_after_block t p v pool keeps =
-      let here : K (change_vcpu v (pools.put_to_sleep t) pool) = k_change_vcpu v (pools.put_to_sleep t) pool keeps in
-      by_cond K _ _ _ (λ runs. here) (λ runs. here)
-
-  k_after_arrive : (t p : ℕ) (pool : Pool) → K pool → K (pools.after_arrive g t p pool)
-  k_after_arrive t p pool keeps = by_option K (guest_of g pool p) _ _ (λ is. keeps) (λ v is. k_change_vcpu v (pools.stopped t) pool keeps)
-
-  k_after_decide : (t r : ℕ) (c : Resource) (pool : Pool) → K pool → K (pools.after_decide g t r c pool)
-  k_after_decide t r c pool keeps = keeps_shape g pool.domains pool.scheduler.records _ (shape_decision pool.scheduler.records (ask_of g t pool r c) pool.scheduler refl) keeps
-
-  k_after_leave : (t p : ℕ) (c : Resource) (pool : Pool) → K pool → K (pools.after_leave g t p c pool)
-  k_after_leave t p c pool keeps = by_option K (pools.vcpu_for g pool c (p % g)) _ _ (λ is. keeps) (λ v is. k_change_vcpu v _ pool keeps)
-
-  k_after_save : (r : ℕ) (u : UnitId) (pool : Pool) → K pool → K (pools.after_save g r u pool)
-  k_after_save r u pool keeps = by_cond K (is_runnable g pool u) _ _ (λ runs. keeps) (λ runs. keeps)
-
-  k_after_replenish : (t : ℕ) (u : UnitId) (pool : Pool) → K pool → K (pools.after_replenish t u pool)
-  k_after_replenish t u pool keeps =
-      let records : Records = policy.replenish pool.scheduler.records t u in
-      let here : K (pools.with_records records pool) = keeps_shape g pool.domains pool.scheduler.records records (shape_replenished pool.scheduler.records t u) keeps in
-      by_option K (pools.core_of pool u) _ _ (λ is. here) (λ r is. by_option K (rtds_record records u) _ _ (λ is2. here) (λ x is2. here))
-
-  k_acts : (t : ℕ) (pool : Pool) (action : Action) → K pool → K (after_in g t pool action)
-  k_acts t pool Stall keeps = keeps
-  k_acts t pool Xl keeps = keeps
-  k_acts t pool (Moved r) keeps = keeps
-  k_acts t pool (DomMoved d) keeps = keeps
-  k_acts t pool (Wake v) keeps = k_after_wake t v pool keeps
-  k_acts t pool (Block p) keeps = by_option K (guest_of g pool p) _ _ (λ is. keeps) (λ v is. k_after_block t p v pool keeps)
-  k_acts t pool (Slice r) keeps = keeps
-  k_acts t pool (Repl u) keeps = k_after_replenish t u pool keeps
-  k_acts t pool (Refill d) keeps = keeps_shape g pool.domains pool.scheduler.records _ (shape_refilled pool.scheduler.records t d) keeps
-  k_acts t pool (Arrive p) keeps = k_after_arrive t p pool keeps
-  k_acts t pool (Decide r) keeps = by_option K (at_place pool.resources r) _ _ (λ is. keeps) (λ c is. k_after_decide t r c pool keeps)
-  k_acts t pool (Leave p) keeps = by_option K (at_place pool.resources (p / g)) _ _ (λ is. keeps) (λ c is. k_after_leave t p c pool keeps)
-  k_acts t pool (Save r) keeps = by_option K (at_place pool.resources r) _ _ (λ is. keeps) (λ c is. by_option K c.saving _ _ (λ is2. keeps) (λ u is2. k_after_save r u pool keeps))
-
-  -- the commands
-  k_pause : (d : ℕ) (pool : Pool) → K pool → K (pause d pool)
-  k_pause d pool keeps =
-      by_cond K (test_at pool.domains d (λ domain. domain.paused)) _ _ (λ is. keeps) (λ is. k_change_domain d (λ domain. record domain { paused = true }) pool (λ x. refl) keeps)
-
-  k_queue_units : (d : ℕ) (units : List ℕ) (pool : Pool) → K pool → K (pools.queue_units g d units pool)
-  k_queue_units d units pool keeps = queued (λ domains records. Keeps g domains (shape records)) g d units pool keeps
-
-  k_unpause : (d : ℕ) (pool : Pool) → K pool → K (unpause g d pool)
-  k_unpause d pool keeps =
-      by_option K (at_place pool.domains d) _ _ (λ is. keeps)
-      (λ domain is. by_cond K domain.paused _ _
-      (λ is2. k_queue_units d (numbers_from 0 (unit_count g domain)) (change_domain d (λ x. record x { paused = false }) pool) (k_change_domain d (λ x. record x { paused = false }) pool (λ x. refl) keeps)) (λ is2. keeps))
-
-  k_marked : (change : ParamChange) (t : ℕ) (pool : Pool) → K pool → K (pools.marked change t pool)
-  k_marked (changes.Dom d weight (Some percent)) t pool keeps = keeps
-  k_marked (changes.Dom d weight None) t pool keeps = keeps
-  k_marked (changes.Rate limit) t pool keeps = keeps
-  k_marked (changes.«Unit» u period budget extra) t pool keeps = keeps
-  k_marked (changes.Frame frame) t pool keeps = keeps
-  k_marked (changes.Pin d unit cores) t pool keeps = keeps
+  k_commands : KeptByCommands g K
+  k_commands = commands_of (k_parts 0)
 
   pub k_set_params : (change : ParamChange) (t : ℕ) (pool : Pool) → K pool → K (set_params change t pool)
   k_set_params change t pool keeps =
-      k_marked change t (record pool { scheduler = policy.set_params change t pool.scheduler }) (keeps_shape g pool.domains pool.scheduler.records (changed_records pool.scheduler.records change t) (shape_changed pool.scheduler.records change t) keeps)
+      kept_marked k_commands t (λ d next here. here) change (record pool { scheduler = policy.set_params change t pool.scheduler }) (keeps_shape g pool.domains pool.scheduler.records (changed_records pool.scheduler.records change t) (shape_changed pool.scheduler.records change t) keeps)
 
   k_set_rtds_unit : (t : ℕ) (period budget : Option Span) (extra : Option Bool) (u : UnitId) (pool : Pool) → K pool → K (set_rtds_unit t period budget extra u pool)
   k_set_rtds_unit t period budget extra u pool keeps =
@@ -185,11 +117,11 @@ records_steps m t =
       weakens = λ pool keeps. keeps;
       settles = λ pool keeps. keeps;
       stalls = λ p end pool any keeps. keeps;
-      acts = λ pool action on keeps. k_acts m.config.granularity t pool action keeps;
+      acts = λ pool action on. kept_by_parts (k_parts m.config.granularity t) pool action tt;
       leaves = λ r pool keeps. keeps;
       moves = λ d i pool keeps. k_change_domain m.config.granularity d (λ x. record x { moving = Some (pool_number i) }) pool (λ x. refl) keeps;
-      pauses = k_pause m.config.granularity;
-      unpauses = k_unpause m.config.granularity;
+      pauses = kept_pause (k_commands m.config.granularity);
+      unpauses = kept_unpause (k_commands m.config.granularity);
       changes = λ change pool good keeps. k_set_params m.config.granularity change t pool keeps;
       core_comes = λ r ends pool none any keeps. keeps;
       rtds = λ period budget extra u pool good keeps. k_set_rtds_unit m.config.granularity t period budget extra u pool keeps;

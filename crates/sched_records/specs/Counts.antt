@@ -1,5 +1,5 @@
 -- The domains of a pool fit what its scheduler keeps of them.
-use Rattle.std.proofs.Common.{◌≡◌, ℕ, List, [], ◌∷◌, length, ◌≤◌, ◌-◌}
+use Rattle.std.proofs.Common.{◌≡◌, ℕ, List, [], ◌∷◌, length, ◌≤◌}
 use Rattle.std.specs.Prelude.{Option, Some, None, option_map}
 use Rattle.sched_model.specs.Places.{at_place}
 use Rattle.sched_model.specs.declared.config.DomParams.{DomParams}

@@ -4,7 +4,7 @@ use Rattle.std.specs.Prelude.{Option, Some, None, option_map, if◌then◌else�
 use Rattle.sched_base.specs.declared.UnitId.{UnitId}
 use Rattle.sched_base.specs.declared.VcpuId.{VcpuId}
 use Rattle.sched_model.specs.declared.action.Action.{Action}
-use Rattle.sched_model.specs.declared.action.Action.TheVariants.{Stall, Xl, Moved, DomMoved, Wake, Block, Slice, Repl, Refill, Arrive, Decide, Leave, Save}
+use Rattle.sched_model.specs.declared.action.Action.TheVariants.{Wake, Block, Slice, Repl, Refill, Arrive, Decide, Leave, Save}
 use Rattle.sched_model.specs.declared.config.SchedKind.{SchedKind}
 use Rattle.sched_model.specs.declared.state.Vcpu.{Vcpu}
 use Rattle.sched_model.specs.declared.state.Processor.{Processor}
@@ -33,6 +33,7 @@ use Rattle.std.specs.List.{list_any}
 use Rattle.sched_model.specs.declared.state.Doing.TheVariants.{Guest, Idle, Held}
 use Rattle.sched_laws.proofs.EachPlace.{by_option, by_cond, by_test}
 use Rattle.sched_laws.proofs.Lists.{length_change_item}
+use Rattle.sched_laws.proofs.Records.{same_replenish, same_refill}
 use Rattle.step_laws.specs.Faces.{DomainFace, domain_face, is_leaving, face_of}
 
 -- what is seen of each place stays where a change keeps it
@@ -105,18 +106,6 @@ kind_by (NullPool kept) ask scheduler is =
 kind_decided : (ask : Ask) (scheduler : Scheduler) → kind_of (after_decision (decision_of ask scheduler) scheduler).records ≡ kind_of scheduler.records
 kind_decided ask scheduler = kind_by scheduler.records ask scheduler refl
 
-kind_replenished : (records : Records) (t : ℕ) (u : UnitId) → kind_of (policy.replenish records t u) ≡ kind_of records
-kind_replenished (Credit2Pool records) t u = refl
-kind_replenished (RtdsPool domains) t u = refl
-kind_replenished (ArincPool records) t u = refl
-kind_replenished (NullPool kept) t u = refl
-
-kind_refilled : (records : Records) (t d : ℕ) → kind_of (policy.refill records t d) ≡ kind_of records
-kind_refilled (Credit2Pool records) t d = refl
-kind_refilled (RtdsPool domains) t d = refl
-kind_refilled (ArincPool records) t d = refl
-kind_refilled (NullPool kept) t d = refl
-
 -- looking at the cores
 leaving_kept : (t home : ℕ) (scheduler : Scheduler) (r : ℕ) (c : Resource) → (reconsidered t home scheduler r c).leaving ≡ c.leaving
 leaving_kept t home scheduler r c = by_cond (λ (d : Resource). d.leaving ≡ c.leaving) c.leaving _ _ (λ is. refl) (λ is. refl)
@@ -181,27 +170,24 @@ module _ (g t : ℕ) where
   face_replenish : (u : UnitId) (pool : Pool) → face_of (after_replenish t u pool) ≡ face_of pool
   face_replenish u pool =
       let next : Pool = with_records (policy.replenish pool.scheduler.records t u) pool in
-      let same : face_of next ≡ face_of pool = face_records (policy.replenish pool.scheduler.records t u) pool (kind_replenished pool.scheduler.records t u) in
+      let same : face_of next ≡ face_of pool = face_records (policy.replenish pool.scheduler.records t u) pool (same_replenish kind_of (λ a b. refl) (λ a b. refl) pool.scheduler.records t u) in
       by_option (λ (after : Pool). face_of after ≡ face_of pool) (core_of pool u) _ _ (λ none. same)
       (λ r is. by_option (λ (after : Pool). face_of after ≡ face_of pool) (rtds_record next.scheduler.records u) _ _ (λ none. same)
       (λ x at. face_core r (due_within t x.budget) next (λ c. refl) ∙ same))
 
   face_acts : (pool : Pool) (action : Action) → face_of (after_in g t pool action) ≡ face_of pool
-  face_acts pool Stall = refl
-  face_acts pool Xl = refl
-  face_acts pool (Moved r) = refl
-  face_acts pool (DomMoved d) = refl
   face_acts pool (Wake v) = face_wake v pool
   face_acts pool (Block n) = by_option (λ (after : Pool). face_of after ≡ face_of pool) (guest_of g pool n) _ _ (λ none. refl) (λ v is. face_block n v pool)
   face_acts pool (Slice r) = face_core r (λ c. record c { pending = true }) pool (λ c. refl)
   face_acts pool (Repl u) = face_replenish u pool
-  face_acts pool (Refill d) = face_records (policy.refill pool.scheduler.records t d) pool (kind_refilled pool.scheduler.records t d)
+  face_acts pool (Refill d) = face_records (policy.refill pool.scheduler.records t d) pool (same_refill kind_of (λ a b. refl) (λ a b. refl) pool.scheduler.records t d)
   face_acts pool (Arrive n) = face_arrive n pool
   face_acts pool (Decide r) = by_option (λ (after : Pool). face_of after ≡ face_of pool) (at_place pool.resources r) _ _ (λ none. refl) (λ c at. face_decide r c pool at)
   face_acts pool (Leave n) = by_option (λ (after : Pool). face_of after ≡ face_of pool) (at_place pool.resources (n / g)) _ _ (λ none. refl) (λ c at. face_leave n c pool)
   face_acts pool (Save r) =
       by_option (λ (after : Pool). face_of after ≡ face_of pool) (at_place pool.resources r) _ _ (λ none. refl)
       (λ c at. by_option (λ (after : Pool). face_of after ≡ face_of pool) c.saving _ _ (λ none. refl) (λ u is. face_save r u pool))
+  face_acts pool action = refl
 
   -- an event of a pool, after which its cores are looked at
   pub face_kept : (pool : Pool) (action : Action) → face_of (settled t (after_in g t pool action)) ≡ face_of pool

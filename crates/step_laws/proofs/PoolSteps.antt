@@ -2,7 +2,7 @@
 use Rattle.std.proofs.Common.{◌≡◌, ◌≢◌, ℕ, zero, suc, ◌-◌, List, [], ◌∷◌, map, take, Bool, true, false, refl, sym, ◌∙◌, ap}
 use Rattle.std.specs.Prelude.{Option, Some, None, option_map, is_some, eqb, nat_lt, if◌then◌else◌, length}
 use Rattle.sched_model.specs.declared.action.Action.{Action}
-use Rattle.sched_model.specs.declared.action.Action.TheVariants.{Stall, Xl, Moved, DomMoved, Wake, Block, Slice, Repl, Refill, Arrive, Decide, Leave, Save}
+use Rattle.sched_model.specs.declared.action.Action.TheVariants.{Stall, Xl, Moved, DomMoved}
 use Rattle.sched_model.specs.declared.machine.Machine.{Machine}
 use Rattle.sched_model.specs.declared.state.Domain.{Domain}
 use Rattle.sched_model.specs.declared.state.Pool.{Pool}
@@ -141,15 +141,7 @@ after_is m s t Stall own = absurd own
 after_is m s t Xl own = absurd own
 after_is m s t (Moved r) own = absurd own
 after_is m s t (DomMoved d) own = absurd own
-after_is m s t (Wake v) own = refl
-after_is m s t (Block p) own = refl
-after_is m s t (Slice r) own = refl
-after_is m s t (Repl u) own = refl
-after_is m s t (Refill d) own = refl
-after_is m s t (Arrive p) own = refl
-after_is m s t (Decide r) own = refl
-after_is m s t (Leave p) own = refl
-after_is m s t (Save r) own = refl
+after_is m s t action own = refl
 
 pub pool_step : (m : Machine) (s : State) (t : ℕ) (action : Action) (i : ℕ) → IsOfPool action → home_of m.config.granularity s action ≡ Some i → ChangesPool m s t action i
 pool_step m s t action i own home =

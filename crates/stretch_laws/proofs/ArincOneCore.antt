@@ -44,7 +44,7 @@ use Rattle.sched_model.specs.declared.state.State.{State}
 use Rattle.sched_model.specs.declared.work.CommandLine.{CommandLine}
 use Rattle.sched_model.specs.declared.work.StallLine.{StallLine}
 use Rattle.sched_model.specs.declared.action.Action.{Action}
-use Rattle.sched_model.specs.declared.action.Action.TheVariants.{Stall, Xl, Moved, DomMoved, Wake, Block, Slice, Repl, Refill, Arrive, Decide, Leave, Save}
+use Rattle.sched_model.specs.declared.action.Action.TheVariants.{Stall, Xl, Moved, DomMoved}
 use Rattle.sched_model.specs.Places.{at_place, clear_at, numbered, first_empty}
 use Rattle.sched_model.specs.State.{has_core}
 use Rattle.sched_model.specs.Arinc.{Window, present_window}
@@ -223,22 +223,16 @@ module _ (T : ℕ → ℕ → Type 0) where
   targets_settled t (Some i) s each = each
 
   targets_carried_out : (m : Machine) (t : ℕ) (p : Plan) (s : State) → ((i : PoolId) (core : ResId) (answer : Reply) → p ≡ plan.CpuAdd i core answer → T core.0 i.0) → Targets s → Targets (carried_out m t p s)
-  targets_carried_out m t (plan.PoolList pool answer) s adds each = each
-  targets_carried_out m t (plan.PoolCreate i name kind answer) s adds each = each
-  targets_carried_out m t (plan.PoolDestroy i answer) s adds each = each
-  targets_carried_out m t (plan.PoolRename i name answer) s adds each = each
   targets_carried_out m t (plan.CpuAdd i core answer) s adds each =
       EachAt-change_at (λ r (c : FreeCore). (j : ℕ) → c.target ≡ Some j → T r j) core.0 (λ (c : FreeCore). record c { target = Some i.0 }) s.free each (λ c at here j is. (let e : i.0 ≡ j = cc in subst (T core.0) e (adds i core answer refl)))
-  targets_carried_out m t (plan.CpuRemove i core answer) s adds each = each
   targets_carried_out m t (plan.Migrate d i j answer) s adds each = by_cond Targets (i.0 == j.0) s _ (λ is. each) (λ is. each)
   targets_carried_out m t (plan.Credit2Dom d weight percent answer) s adds each = targets_home d.0 _ s each
   targets_carried_out m t (plan.Credit2Pool i None answer) s adds each = each
-  targets_carried_out m t (plan.Credit2Pool i (Some us) answer) s adds each = each
   targets_carried_out m t (plan.RtdsDom d first count period budget extra answer) s adds each = targets_home d.0 _ s each
   targets_carried_out m t (plan.Pause d answer) s adds each = targets_home d.0 _ s each
   targets_carried_out m t (plan.Unpause d answer) s adds each = targets_home d.0 _ s each
-  targets_carried_out m t (plan.ArincSet i frame answer) s adds each = each
   targets_carried_out m t (plan.Pin d unit cores answer) s adds each = targets_home d.0 _ s each
+  targets_carried_out m t p s adds each = each
 
   targets_stall : (g t : ℕ) (line : Option StallLine) (s : State) → Targets s → Targets (elim line as (λ _. State) [ None ↦ s | Some l ↦ after_stall g t l s ])
   targets_stall g t None s each = each
@@ -371,15 +365,7 @@ one_after m s Xl on one = one_command m s s.now on one
 one_after m s Stall on one =
     one_same s (after m s s.now Stall) (staying m s s.now Stall (λ q e. absurd (cc)) on) (targets_stall (Aims s) m.config.granularity s.now (slice_get m.work.stalls s.next_stall) s (targets_now s)) one
 one_after m s (DomMoved d) on one = one_same s (after m s s.now (DomMoved d)) (staying m s s.now (DomMoved d) (λ q e. absurd (cc)) on) (targets_dom_moved (Aims s) m.config.granularity s.now d s (targets_now s)) one
-one_after m s (Wake v) on one = one_at m s (Wake v) (λ q e. absurd (cc)) on refl one
-one_after m s (Block p) on one = one_at m s (Block p) (λ q e. absurd (cc)) on refl one
-one_after m s (Slice r) on one = one_at m s (Slice r) (λ q e. absurd (cc)) on refl one
-one_after m s (Repl u) on one = one_at m s (Repl u) (λ q e. absurd (cc)) on refl one
-one_after m s (Refill d) on one = one_at m s (Refill d) (λ q e. absurd (cc)) on refl one
-one_after m s (Arrive p) on one = one_at m s (Arrive p) (λ q e. absurd (cc)) on refl one
-one_after m s (Decide r) on one = one_at m s (Decide r) (λ q e. absurd (cc)) on refl one
-one_after m s (Leave p) on one = one_at m s (Leave p) (λ q e. absurd (cc)) on refl one
-one_after m s (Save r) on one = one_at m s (Save r) (λ q e. absurd (cc)) on refl one
+one_after m s action on one = one_at m s action (λ q e. absurd (cc)) on refl one
 
 -- the opening: a pool has the scheduler of the file, and no free core has a target
 module _ (g : ℕ) (A : Type 0) where

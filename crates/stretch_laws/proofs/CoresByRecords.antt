@@ -1,10 +1,9 @@
 -- Which cores are in pools whose records pass a test: each action brings such a pool no core but one that is moved to it.
 use Rattle.std.proofs.Common.{◌≡◌, ℕ, suc, Bool, true, false, List, [], ◌∷◌, refl, ◌⊎◌, inl, inr}
-use Rattle.std.specs.Prelude.{Option, Some, None, Ok, Err, is_some, slice_get, unwrap_or, ◌==◌, ◌&&◌, ◌+◌, ◌*◌, ◌/◌, ◌%◌}
+use Rattle.std.specs.Prelude.{Option, Some, None, Ok, Err, is_some, slice_get, unwrap_or, ◌==◌, ◌&&◌, ◌+◌, ◌/◌}
 use Rattle.sched_base.specs.Numbers.{moment, span, domain as domain_number}
 use Rattle.sched_base.specs.declared.Span.{Span}
 use Rattle.sched_base.specs.declared.UnitId.{UnitId}
-use Rattle.sched_base.specs.declared.VcpuId.{VcpuId}
 use Rattle.sched_model.specs.declared.config.DomParams.{DomParams}
 use Rattle.sched_model.specs.declared.config.DomParams.TheVariants as dom_params
 use Rattle.sched_model.specs.declared.config.ParamChange.{ParamChange}
@@ -23,9 +22,8 @@ use Rattle.sched_model.specs.declared.state.State.{State}
 use Rattle.sched_model.specs.declared.work.CommandLine.{CommandLine}
 use Rattle.sched_model.specs.declared.work.StallLine.{StallLine}
 use Rattle.sched_model.specs.declared.action.Action.{Action}
-use Rattle.sched_model.specs.declared.action.Action.TheVariants.{Stall, Xl, Moved, DomMoved, Wake, Block, Slice, Repl, Refill, Arrive, Decide, Leave, Save}
+use Rattle.sched_model.specs.declared.action.Action.TheVariants.{Stall, Xl, Moved, DomMoved}
 use Rattle.sched_model.specs.Places.{at_place, put_at, clear_at, test_at, numbers_from}
-use Rattle.sched_model.specs.State.{is_runnable}
 use Rattle.sched_model.specs.declared.ask.Ask.{Ask}
 use Rattle.sched_model.specs.Opening.{fresh_core, empty_pool, core_count}
 use Rattle.sched_model.specs.Policy as policy
@@ -37,8 +35,9 @@ use Rattle.sched_model.specs.Commands.{carried_out, change_home, set_rtds, pool_
 use Rattle.sched_model.specs.Machine.{is_enabled, after, after_stall, after_command, after_moved, after_dom_moved, verdict, settled_at, stall_end_of, left_by, joined_by, is_null}
 use Rattle.sched_laws.specs.Each.{EachAt}
 use Rattle.sched_laws.proofs.Bools.{and_left, and_right, both}
+use Rattle.sched_laws.proofs.Events.{Anyway, KeptByParts, commands_of, kept_by_parts, kept_pause, kept_unpause, kept_marked, kept_queue_units}
 use Rattle.sched_laws.proofs.Apart.{HasOnly, only_inside, only_with_domain}
-use Rattle.sched_laws.proofs.EachPlace.{EachAt-change_at, EachAt-put_at, EachAt-clear_at, EachPlace-empty, by_option, by_test, by_cond}
+use Rattle.sched_laws.proofs.EachPlace.{EachAt-change_at, EachAt-put_at, EachAt-clear_at, EachPlace-empty, by_option, by_cond}
 use Rattle.sched_laws.proofs.Kept.{passes_at}
 use Rattle.sched_laws.proofs.Lists.{some_is, is_some_at, test_at-some, some-test_at}
 use Rattle.turn_laws.specs.Turns.{keeps}
@@ -78,84 +77,42 @@ alike_joined t d count params records = record { kind = refl; last = refl }
 
 alike_parted : (d : ℕ) (records : Records) → IsAlike (policy.parted_records records d) records
 alike_parted d (Credit2Pool records) = record { kind = refl; last = refl }
-alike_parted d (RtdsPool domains) = record { kind = refl; last = refl }
-alike_parted d (ArincPool records) = record { kind = refl; last = refl }
-alike_parted d (NullPool kept) = record { kind = refl; last = refl }
+alike_parted d records = record { kind = refl; last = refl }
 
 alike_replenished : (t : ℕ) (u : UnitId) (records : Records) → IsAlike (policy.replenish records t u) records
 alike_replenished t u (Credit2Pool records) = record { kind = refl; last = refl }
-alike_replenished t u (RtdsPool domains) = record { kind = refl; last = refl }
-alike_replenished t u (ArincPool records) = record { kind = refl; last = refl }
-alike_replenished t u (NullPool kept) = record { kind = refl; last = refl }
+alike_replenished t u records = record { kind = refl; last = refl }
 
 alike_refilled : (t d : ℕ) (records : Records) → IsAlike (policy.refill records t d) records
 alike_refilled t d (Credit2Pool records) = record { kind = refl; last = refl }
-alike_refilled t d (RtdsPool domains) = record { kind = refl; last = refl }
-alike_refilled t d (ArincPool records) = record { kind = refl; last = refl }
-alike_refilled t d (NullPool kept) = record { kind = refl; last = refl }
+alike_refilled t d records = record { kind = refl; last = refl }
 
 -- whatever follows from the test of a pool's records follows from it after each step
 module _ (g t : ℕ) (test : Records → Bool) (kept : IsKeptTest t test) (A : Type 0) where
   abbrev Gives : Pool → Type 0
   Gives pool = test pool.scheduler.records ≡ true → A
 
-  gives_joined_siblings : (v : VcpuId) (pool : Pool) → Gives pool → Gives (pools.joined_siblings g t v pool)
-  gives_joined_siblings v pool here =
-      by_option Gives (pools.core_of pool (pools.unit_of g v)) _ _ (λ is. here)
-      (λ r is. by_option Gives (pools.processor_of g pool (r * g + v.n % g)) _ _ (λ is2. here) (λ q is2. by_cond Gives (pools.is_idle q) _ _ (λ is3. here) (λ is3. here)))
-
-  gives_after_wake : (v : VcpuId) (pool : Pool) → Gives pool → Gives (pools.after_wake g t v pool)
-  gives_after_wake v pool here =
-      let next : Pool = change_vcpu v pools.woken pool in
-      by_test Gives (is_runnable g next (pools.unit_of g v)) _ _
-      (λ runs. by_cond Gives (pools.is_off next (pools.unit_of g v)) _ _ (λ off. here) (λ off. gives_joined_siblings v next here)) (λ runs. here)
-
-  gives_after_replenish : (u : UnitId) (pool : Pool) → Gives pool → Gives (pools.after_replenish t u pool)
-  gives_after_replenish u pool here =
-      let next : Gives (pools.with_records (policy.replenish pool.scheduler.records t u) pool) = λ passes. here (kept.sees _ pool.scheduler.records (alike_replenished t u pool.scheduler.records) passes) in
-      by_option Gives (pools.core_of pool u) _ _ (λ is. next) (λ r is. by_option Gives (rtds_record (policy.replenish pool.scheduler.records t u) u) _ _ (λ is2. next) (λ x is2. next))
-
-  gives_acts : (pool : Pool) (action : Action) → Gives pool → Gives (after_in g t pool action)
-  gives_acts pool Stall here = here
-  gives_acts pool Xl here = here
-  gives_acts pool (Moved r) here = here
-  gives_acts pool (DomMoved d) here = here
-  gives_acts pool (Wake v) here = gives_after_wake v pool here
-  gives_acts pool (Block p) here = by_option Gives (pools.guest_of g pool p) _ _ (λ is. here) (λ v is. by_cond Gives _ _ _ (λ runs. here) (λ runs. here))
-  gives_acts pool (Slice r) here = here
-  gives_acts pool (Repl u) here = gives_after_replenish u pool here
-  gives_acts pool (Refill d) here = λ passes. here (kept.sees _ pool.scheduler.records (alike_refilled t d pool.scheduler.records) passes)
-  gives_acts pool (Arrive p) here = by_option Gives (pools.guest_of g pool p) _ _ (λ is. here) (λ v is. here)
-  gives_acts pool (Decide r) here = by_option Gives (at_place pool.resources r) _ _ (λ is. here) (λ c is passes. here (kept.decides (ask_of g t pool r c) pool.scheduler refl passes))
-  gives_acts pool (Leave p) here = by_option Gives (at_place pool.resources (p / g)) _ _ (λ is. here) (λ c is. by_option Gives (pools.vcpu_for g pool c (p % g)) _ _ (λ is2. here) (λ v is2. here))
-  gives_acts pool (Save r) here =
-      by_option Gives (at_place pool.resources r) _ _ (λ is. here) (λ c is. by_option Gives c.saving _ _ (λ is2. here) (λ u is2. by_cond Gives (is_runnable g pool u) _ _ (λ runs. here) (λ runs. here)))
-
-  gives_queue_units : (d : ℕ) (units : List ℕ) (pool : Pool) → Gives pool → Gives (pools.queue_units g d units pool)
-  gives_queue_units d [] pool here = here
-  gives_queue_units d (n ∷ ns) pool here = gives_queue_units d ns _ (by_cond Gives (is_runnable g pool (record { dom = domain_number d; n = n }) && pools.is_off pool (record { dom = domain_number d; n = n })) _ _ (λ is. here) (λ is. here))
-
-  gives_pause : (d : ℕ) (pool : Pool) → Gives pool → Gives (pause d pool)
-  gives_pause d pool here = by_cond Gives (test_at pool.domains d (λ domain. domain.paused)) _ _ (λ is. here) (λ is. here)
-
-  gives_unpause : (d : ℕ) (pool : Pool) → Gives pool → Gives (unpause g d pool)
-  gives_unpause d pool here =
-      by_option Gives (at_place pool.domains d) _ _ (λ is. here)
-      (λ domain is. by_cond Gives domain.paused _ _ (λ is2. gives_queue_units d (numbers_from 0 (pools.unit_count g domain)) _ here) (λ is2. here))
+  gives_parts : KeptByParts g t Anyway Gives
+  gives_parts = record {
+    cores = λ cores pool like here. here;
+    domains = λ d f pool count moving here. here;
+    queues = λ u pool runs here. here;
+    dequeues = λ d pool here. here;
+    decides = λ r c pool at on here passes. here (kept.decides (ask_of g t pool r c) pool.scheduler refl passes);
+    saves = λ r c u pool at is on here. here;
+    replenishes = λ u pool on here passes. here (kept.sees _ pool.scheduler.records (alike_replenished t u pool.scheduler.records) passes);
+    dues = λ r u x old pool on is here. here;
+    refills = λ d pool on here passes. here (kept.sees _ pool.scheduler.records (alike_refilled t d pool.scheduler.records) passes);
+  }
 
   gives_changed : (change : ParamChange) (pool : Pool) → Gives pool → test (policy.changed_records pool.scheduler.records change t) ≡ true → A
   gives_changed change pool here passes = here (kept.sees _ pool.scheduler.records (alike_changed t change pool.scheduler.records) passes)
 
   pub gives_params : (change : ParamChange) (pool : Pool) → Gives pool → Gives (set_params change t pool)
-  gives_params (changes.Dom d weight (Some percent)) pool here = gives_changed (changes.Dom d weight (Some percent)) pool here
-  gives_params (changes.Dom d weight None) pool here = gives_changed (changes.Dom d weight None) pool here
-  gives_params (changes.Rate limit) pool here = gives_changed (changes.Rate limit) pool here
-  gives_params (changes.«Unit» u period budget extra) pool here = gives_changed (changes.«Unit» u period budget extra) pool here
-  gives_params (changes.Frame frame) pool here = gives_changed (changes.Frame frame) pool here
-  gives_params (changes.Pin d unit cores) pool here = gives_changed (changes.Pin d unit cores) pool here
+  gives_params change pool here = kept_marked (commands_of gives_parts) t (λ d next now. now) change (record pool { scheduler = policy.set_params change t pool.scheduler }) (gives_changed change pool here)
 
   pub gives_with_domain : (d : ℕ) (domain : Domain) (params : DomParams) (pool : Pool) → Gives pool → Gives (with_domain g t d domain params pool)
-  gives_with_domain d domain params pool here = gives_queue_units d (numbers_from 0 (pools.unit_count g domain)) _ (λ passes. here (kept.sees _ pool.scheduler.records (alike_joined t d (pools.unit_count g domain) params pool.scheduler.records) passes))
+  gives_with_domain d domain params pool here = kept_queue_units (commands_of gives_parts) d (numbers_from 0 (pools.unit_count g domain)) (record pool { domains = put_at d domain pool.domains; scheduler = policy.join d (pools.unit_count g domain) params t pool.scheduler }) (λ passes. here (kept.sees _ pool.scheduler.records (alike_joined t d (pools.unit_count g domain) params pool.scheduler.records) passes))
 
 -- where the pool's records pass the test, it has no core but these
 pub record HasWhere (test : Records → Bool) (C : ℕ → Type 0) (pool : Pool) : Type 0 where
@@ -183,7 +140,7 @@ module _ (m : Machine) (t : ℕ) (test : Records → Bool) (kept : IsKeptTest t 
   has_stalled i p end pool has = has_next test (C i) pool (change_processor g p (λ q. record q { stall_end = moment end }) pool) has (λ only. (only_inside _ _ g).stalls p end pool only) (λ here. here)
 
   has_acts : (i : ℕ) (pool : Pool) (action : Action) → enabled_in g t pool action ≡ true → Has i pool → Has i (after_in g t pool action)
-  has_acts i pool action on has = has_next test (C i) pool (after_in g t pool action) has (λ only. (only_inside _ _ g).acts t pool action on only) (λ here. gives_acts g t test kept _ pool action here)
+  has_acts i pool action on has = has_next test (C i) pool (after_in g t pool action) has (λ only. (only_inside _ _ g).acts t pool action on only) (kept_by_parts (gives_parts g t test kept (test pool.scheduler.records ≡ true)) pool action tt)
 
   has_leaves : (i r : ℕ) (pool : Pool) → Has i pool → Has i (set_leaving r pool)
   has_leaves i r pool has = has_next test (C i) pool (set_leaving r pool) has (λ only. (only_inside _ _ g).leaves r pool only) (λ here. here)
@@ -192,10 +149,10 @@ module _ (m : Machine) (t : ℕ) (test : Records → Bool) (kept : IsKeptTest t 
   has_moves i d j pool has = has_next test (C i) pool (set_moving d j pool) has (λ only. (only_inside _ _ g).moves d j pool only) (λ here. here)
 
   has_pause : (i d : ℕ) (pool : Pool) → Has i pool → Has i (pause d pool)
-  has_pause i d pool has = has_next test (C i) pool (pause d pool) has (λ only. (only_inside _ _ g).pauses d pool only) (λ here. gives_pause g t test kept _ d pool here)
+  has_pause i d pool has = has_next test (C i) pool (pause d pool) has (λ only. (only_inside _ _ g).pauses d pool only) (kept_pause (commands_of (gives_parts g t test kept (test pool.scheduler.records ≡ true))) d pool)
 
   has_unpause : (i d : ℕ) (pool : Pool) → Has i pool → Has i (unpause g d pool)
-  has_unpause i d pool has = has_next test (C i) pool (unpause g d pool) has (λ only. (only_inside _ _ g).unpauses d pool only) (λ here. gives_unpause g t test kept _ d pool here)
+  has_unpause i d pool has = has_next test (C i) pool (unpause g d pool) has (λ only. (only_inside _ _ g).unpauses d pool only) (kept_unpause (commands_of (gives_parts g t test kept (test pool.scheduler.records ≡ true))) d pool)
 
   has_params : (i : ℕ) (change : ParamChange) (pool : Pool) → Has i pool → Has i (set_params change t pool)
   has_params i change pool has = has_next test (C i) pool (set_params change t pool) has (λ only. (only_inside _ _ g).changes change t pool only) (λ here. gives_params g t test kept _ change pool here)
@@ -242,22 +199,19 @@ module _ (m : Machine) (t : ℕ) (test : Records → Bool) (kept : IsKeptTest t 
   each_settled (Some i) s each = each_change i (settled t) s (λ pool at. has_settled i pool) each
 
   each_carried_out : (p : Plan) (s : State) → EachHas s → EachHas (carried_out m t p s)
-  each_carried_out (plan.PoolList pool answer) s each = each
   each_carried_out (plan.PoolCreate i name kind answer) s each =
       EachAt-put_at (λ j. Has j) i.0 (empty_pool m.config (default_pool_params kind)) s.pools each (record { cores = λ r c at. absurd (EachPlace-empty {X = Resource} (λ y. ⊥) (core_count m.config) r c at) })
   each_carried_out (plan.PoolDestroy i answer) s each = EachAt-clear_at (λ j. Has j) i.0 s.pools each
-  each_carried_out (plan.PoolRename i name answer) s each = each
-  each_carried_out (plan.CpuAdd i core answer) s each = each
   each_carried_out (plan.CpuRemove i core answer) s each = each_change i.0 (set_leaving core.0) s (λ pool at. has_leaves i.0 core.0 pool) each
   each_carried_out (plan.Migrate d i j answer) s each = by_cond EachHas (i.0 == j.0) s _ (λ is. each) (λ is. each_change i.0 (set_moving d.0 j.0) s (λ pool at. has_moves i.0 d.0 j.0 pool) each)
   each_carried_out (plan.Credit2Dom d weight percent answer) s each = each_home d.0 (set_params (changes.Dom d weight percent) t) s (λ i. has_params i (changes.Dom d weight percent)) each
-  each_carried_out (plan.Credit2Pool i None answer) s each = each
   each_carried_out (plan.Credit2Pool i (Some us) answer) s each = each_change i.0 (set_params (changes.Rate us) t) s (λ pool at. has_params i.0 (changes.Rate us) pool) each
   each_carried_out (plan.RtdsDom d first count period budget extra answer) s each = each_home d.0 _ s (λ i. has_rtds i d.0 period budget extra (numbers_from first count)) each
   each_carried_out (plan.Pause d answer) s each = each_home d.0 (pause d.0) s (λ i. has_pause i d.0) each
   each_carried_out (plan.Unpause d answer) s each = each_home d.0 (unpause g d.0) s (λ i. has_unpause i d.0) each
   each_carried_out (plan.ArincSet i frame answer) s each = each_change i.0 (set_params (changes.Frame frame) t) s (λ pool at. has_params i.0 (changes.Frame frame) pool) each
   each_carried_out (plan.Pin d unit cores answer) s each = each_home d.0 (set_params (changes.Pin d unit cores) t) s (λ i. has_params i (changes.Pin d unit cores)) each
+  each_carried_out p s each = each
 
   each_command : (line : CommandLine) (s : State) → EachHas s → EachHas (after_command m t line s)
   each_command line s each =
@@ -298,15 +252,7 @@ module _ (m : Machine) (t : ℕ) (test : Records → Bool) (kept : IsKeptTest t 
   each_after s Xl on comes each = by_option EachHas (slice_get m.work.commands s.next_command) _ _ (λ is. each) (λ line is. each_command line s each)
   each_after s (Moved r) on comes each = each_moved r s (λ c i. comes r c i refl) each
   each_after s (DomMoved d) on comes each = each_dom_moved d s each
-  each_after s (Wake v) on comes each = each_at s (Wake v) (home_of g s (Wake v)) on each
-  each_after s (Block p) on comes each = each_at s (Block p) (home_of g s (Block p)) on each
-  each_after s (Slice r) on comes each = each_at s (Slice r) (home_of g s (Slice r)) on each
-  each_after s (Repl u) on comes each = each_at s (Repl u) (home_of g s (Repl u)) on each
-  each_after s (Refill d) on comes each = each_at s (Refill d) (home_of g s (Refill d)) on each
-  each_after s (Arrive p) on comes each = each_at s (Arrive p) (home_of g s (Arrive p)) on each
-  each_after s (Decide r) on comes each = each_at s (Decide r) (home_of g s (Decide r)) on each
-  each_after s (Leave p) on comes each = each_at s (Leave p) (home_of g s (Leave p)) on each
-  each_after s (Save r) on comes each = each_at s (Save r) (home_of g s (Save r)) on each
+  each_after s action on comes each = each_at s action (home_of g s action) on each
 
 -- whether the pool has the core, and its records pass the test
 abbrev pub counts : (Records → Bool) → ℕ → Pool → Bool

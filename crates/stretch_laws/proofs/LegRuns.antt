@@ -64,7 +64,8 @@ use Rattle.stretch_laws.proofs.ReachedDecisions.{PoolOf, stands}
 use Rattle.stretch_laws.proofs.LegCharges.{Lasts, limit}
 use Rattle.stretch_laws.proofs.LegSteps.{IsKeptFrom, IsNoDecision, step_after}
 use Rattle.stretch_laws.proofs.LegDecides.{FreeHolds, w_after_decide, legs_other}
-use Rattle.stretch_laws.proofs.LegWalk.{OnSince, Charged, charged_less, charged_later, IsLegged, Sound, w_acts, w_change_processor, w_settled, w_set_leaving, w_set_moving, w_pause, w_unpause, w_set_params, w_set_rtds_unit, w_with_domain, w_without_domain, w_core_comes, w_core_goes, w_idle}
+use Rattle.sched_laws.proofs.Events.{kept_settled, kept_processor, kept_by_parts, kept_set_leaving, kept_pause, kept_unpause}
+use Rattle.stretch_laws.proofs.LegWalk.{OnSince, Charged, charged_less, charged_later, IsLegged, Sound, w_parts, w_commands, w_set_moving, w_set_params, w_set_rtds_unit, w_with_domain, w_without_domain, w_core_comes, w_core_goes, w_idle}
 
 -- an action leaves the moment
 nothing : (m : Machine) (t : ℕ) → IsKeptAt m t (λ e. Unit {0}) (λ es. Unit {0}) (λ d x. Unit {0}) (λ p. Unit {0}) (λ p. Unit {0})
@@ -133,20 +134,7 @@ w_later g t next legs pool past w = record { have = w.have; charged = charged_la
 legs_count : (t : ℕ) (e : Event) (legs : Legs) → length (legs_with t e legs) ≡ length legs
 legs_count t (event.Decide r None due late reset) legs = length_set r.0 None legs
 legs_count t (event.Decide r (Some u) due late reset) legs = length_set r.0 (Some t) legs
-legs_count t (event.Arrive p) legs = refl
-legs_count t (event.Leave p v) legs = refl
-legs_count t (event.Save core u queued) legs = refl
-legs_count t (event.Stall p until) legs = refl
-legs_count t (event.Xl k answer) legs = refl
-legs_count t (event.Moved core to) legs = refl
-legs_count t (event.DomMoved d to) legs = refl
-legs_count t (event.Wake v) legs = refl
-legs_count t (event.Block p v) legs = refl
-legs_count t (event.Slice core) legs = refl
-legs_count t (event.Repl u start deadline budget extra) legs = refl
-legs_count t (event.Refill d periods budget) legs = refl
-legs_count t (event.End n) legs = refl
-legs_count t event.Finish legs = refl
+legs_count t e legs = refl
 
 legs_after_count : (entries : List Entry) (legs : Legs) → length (legs_after legs entries) ≡ length legs
 legs_after_count [] legs = refl
@@ -178,13 +166,13 @@ module _ (m : Machine) (checked : IsChecked m) where
   leg_steps s fits legs =
       let own : IsKept g UnitsAreOwn = units_are_own g in
       record {
-        settles = λ pool w. record { own = own.inside.settles s.now pool w.own; legged = w_settled g s.now legs pool w.legged };
-        stalls = λ p end pool w. record { own = own.inside.stalls p end pool w.own; legged = w_change_processor g s.now legs p (λ q. record q { stall_end = moment end }) pool w.legged };
-        acts = λ i pool action at other on w. record { own = own.inside.acts s.now pool action on w.own; legged = w_acts g s.now legs pool action (no_decision action other) (sound i pool at) w.legged };
-        leaves = λ r pool w. record { own = own.inside.leaves r pool w.own; legged = w_set_leaving g s.now legs r pool w.legged };
+        settles = λ pool w. record { own = own.inside.settles s.now pool w.own; legged = kept_settled (w_commands g s.now legs) s.now pool w.legged };
+        stalls = λ p end pool w. record { own = own.inside.stalls p end pool w.own; legged = kept_processor (w_parts g s.now legs) p (λ q. record q { stall_end = moment end }) pool w.legged };
+        acts = λ i pool action at other on w. record { own = own.inside.acts s.now pool action on w.own; legged = kept_by_parts (w_parts g s.now legs) pool action (no_decision action other, sound i pool at) w.legged };
+        leaves = λ r pool w. record { own = own.inside.leaves r pool w.own; legged = kept_set_leaving (w_commands g s.now legs) r pool w.legged };
         moves = λ d i pool w. record { own = own.inside.moves d i pool w.own; legged = w_set_moving g s.now legs d i pool w.legged };
-        pauses = λ d pool w. record { own = own.inside.pauses d pool w.own; legged = w_pause g s.now legs d pool w.legged };
-        unpauses = λ d pool w. record { own = own.inside.unpauses d pool w.own; legged = w_unpause g s.now legs d pool w.legged };
+        pauses = λ d pool w. record { own = own.inside.pauses d pool w.own; legged = kept_pause (w_commands g s.now legs) d pool w.legged };
+        unpauses = λ d pool w. record { own = own.inside.unpauses d pool w.own; legged = kept_unpause (w_commands g s.now legs) d pool w.legged };
         changes = λ change i pool at w. record { own = own.inside.changes change s.now pool w.own; legged = w_set_params g s.now legs change pool (sound i pool at) w.legged };
         core_comes = λ r ends pool none w. record { own = own.core_comes r ends pool none w.own; legged = w_core_comes g s.now legs r ends pool w.legged };
         rtds = λ period budget extra u pool w. record { own = own_rtds period budget extra u pool w.own; legged = w_set_rtds_unit g s.now legs period budget extra u pool w.legged };
@@ -282,7 +270,7 @@ module _ (m : Machine) (checked : IsChecked m) where
         (λ j p other here. w_legs m.config.granularity s.now legs next p (λ k x at_k. legs_other m.config.granularity s.now legs r c pool has unit k (λ same. other (fits.apart.cores j i r
         (test_at-some s.pools j (λ y. is_some (at_place y.resources r)) p here.0 (is_some_at (at_place p.resources r) x (subst (λ n. at_place p.resources n ≡ Some x) same at_k)))
         (test_at-some s.pools i (λ y. is_some (at_place y.resources r)) pool at (is_some_at (at_place pool.resources r) c has))))) here.1)
-        (λ p at_p here. (let e2 : pool ≡ p = cc in subst (λ (x : Pool). IsLegged m.config.granularity s.now next (settled s.now (after_in m.config.granularity s.now x (Decide r)))) e2 (w_settled m.config.granularity s.now next (after_in m.config.granularity s.now pool (Decide r)) after_one)))
+        (λ p at_p here. (let e2 : pool ≡ p = cc in subst (λ (x : Pool). IsLegged m.config.granularity s.now next (settled s.now (after_in m.config.granularity s.now x (Decide r)))) e2 (kept_settled (w_commands m.config.granularity s.now next) s.now (after_in m.config.granularity s.now pool (Decide r)) after_one)))
 
     -- what the event of a decision prints as the unit
     printed_unit : (r i : ℕ) (pool : Pool) (c : Resource) (ev : Event) → ev ≡ event_of m s s.now (Decide r) → home_of_core s r ≡ Some i → at_place s.pools i ≡ Some pool → at_place pool.resources r ≡ Some c

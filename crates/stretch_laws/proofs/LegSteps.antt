@@ -19,7 +19,7 @@ use Rattle.sched_model.specs.declared.state.Pool.{Pool}
 use Rattle.sched_model.specs.declared.state.Domain.{Domain}
 use Rattle.sched_model.specs.declared.state.FreeCore.{FreeCore}
 use Rattle.sched_model.specs.declared.action.Action.{Action}
-use Rattle.sched_model.specs.declared.action.Action.TheVariants.{Stall, Xl, Moved, DomMoved, Wake, Block, Slice, Repl, Refill, Arrive, Decide, Leave, Save}
+use Rattle.sched_model.specs.declared.action.Action.TheVariants.{Stall, Xl, Moved, DomMoved, Decide}
 use Rattle.sched_model.specs.Places.{at_place, put_at, clear_at, test_at, numbers_from}
 use Rattle.sched_model.specs.Opening.{fresh_core, empty_pool}
 use Rattle.sched_model.specs.Policy.{default_pool_params, default_dom_params}
@@ -86,22 +86,19 @@ module _ (m : Machine) (s : State) (I : Pool → Type 0) (kept : IsKeptFrom m s 
 
   -- an accepted command; the pools are still those of the state
   step_plan : (p : Plan) (k : ℕ) → All s → All (carried_out m t p (record s { next_command = k }))
-  step_plan (plan.PoolList pool answer) k each = each
   step_plan (plan.PoolCreate i name kind answer) k each = EachAt-put_at (λ j. I) i.0 (empty_pool m.config (default_pool_params kind)) s.pools each (kept.empty kind)
   step_plan (plan.PoolDestroy i answer) k each = EachAt-clear_at (λ j. I) i.0 s.pools each
-  step_plan (plan.PoolRename i name answer) k each = each
-  step_plan (plan.CpuAdd i core answer) k each = each
   step_plan (plan.CpuRemove i core answer) k each = step_change i.0 (set_leaving core.0) (record s { next_command = k }) (λ pool at. kept.leaves core.0 pool) each
   step_plan (plan.Migrate d i j answer) k each =
       by_cond All (i.0 == j.0) (record s { next_command = k }) (change_pool i.0 (set_moving d.0 j.0) (record s { next_command = k })) (λ is. each) (λ is. step_change i.0 (set_moving d.0 j.0) (record s { next_command = k }) (λ pool at. kept.moves d.0 j.0 pool) each)
   step_plan (plan.Credit2Dom d weight percent answer) k each = step_home d.0 (set_params (changes.Dom d weight percent) t) (record s { next_command = k }) (kept.changes (changes.Dom d weight percent)) each
-  step_plan (plan.Credit2Pool i None answer) k each = each
   step_plan (plan.Credit2Pool i (Some us) answer) k each = step_change i.0 (set_params (changes.Rate us) t) (record s { next_command = k }) (kept.changes (changes.Rate us) i.0) each
   step_plan (plan.RtdsDom d first count period budget extra answer) k each = step_home d.0 (set_rtds t d.0 period budget extra (numbers_from first count)) (record s { next_command = k }) (λ i pool at. step_rtds d.0 period budget extra (numbers_from first count) pool) each
   step_plan (plan.Pause d answer) k each = step_home d.0 (pause d.0) (record s { next_command = k }) (λ i pool at. kept.pauses d.0 pool) each
   step_plan (plan.Unpause d answer) k each = step_home d.0 (unpause m.config.granularity d.0) (record s { next_command = k }) (λ i pool at. kept.unpauses d.0 pool) each
   step_plan (plan.ArincSet i frame answer) k each = step_change i.0 (set_params (changes.Frame frame) t) (record s { next_command = k }) (kept.changes (changes.Frame frame) i.0) each
   step_plan (plan.Pin d unit cores answer) k each = step_home d.0 (set_params (changes.Pin d unit cores) t) (record s { next_command = k }) (kept.changes (changes.Pin d unit cores)) each
+  step_plan p k each = each
 
   step_command : (line : CommandLine) → All s → All (after_command m t line s)
   step_command line each =
@@ -178,12 +175,5 @@ module _ (m : Machine) (s : State) (I : Pool → Type 0) (kept : IsKeptFrom m s 
   step_after Xl other apart on each = by_option All (slice_get m.work.commands s.next_command) _ _ (λ is. each) (λ line is. step_command line each)
   step_after (Moved r) other apart on each = step_moved r apart on each
   step_after (DomMoved d) other apart on each = step_dom_moved d (home_of_domain s d) apart on each
-  step_after (Wake v) other apart on each = step_at (Wake v) (home_of m.config.granularity s (Wake v)) tt on each
-  step_after (Block q) other apart on each = step_at (Block q) (home_of m.config.granularity s (Block q)) tt on each
-  step_after (Slice r) other apart on each = step_at (Slice r) (home_of m.config.granularity s (Slice r)) tt on each
-  step_after (Repl u) other apart on each = step_at (Repl u) (home_of m.config.granularity s (Repl u)) tt on each
-  step_after (Refill d) other apart on each = step_at (Refill d) (home_of m.config.granularity s (Refill d)) tt on each
-  step_after (Arrive q) other apart on each = step_at (Arrive q) (home_of m.config.granularity s (Arrive q)) tt on each
   step_after (Decide r) other apart on each = absurd other
-  step_after (Leave q) other apart on each = step_at (Leave q) (home_of m.config.granularity s (Leave q)) tt on each
-  step_after (Save r) other apart on each = step_at (Save r) (home_of m.config.granularity s (Save r)) tt on each
+  step_after action other apart on each = step_at action (home_of m.config.granularity s action) tt on each

@@ -1,14 +1,12 @@
 -- What each step but a decision keeps of a pool whose cores' open legs are given: each core with a unit has a leg, and the unit was charged since the leg began.
-use Rattle.std.proofs.Common.{◌≡◌, ◌≢◌, ◌≤◌, ◌<◌, ◌+◌, ◌-◌, ◌*◌, ◌/◌, ◌%◌, ℕ, zero, suc, Bool, true, false, List, [], ◌∷◌, refl, arith, ap, cond, subst, sym, ◌∙◌, inl, inr}
-use Rattle.std.specs.Prelude.{Option, Some, None, is_some, slice_get, replicate, unwrap_or, ◌&&◌, ◌||◌, pos, ◌-ℤ◌}
-use Rattle.std.specs.List.{list_any}
+use Rattle.std.proofs.Common.{◌≡◌, ◌≢◌, ◌≤◌, ◌<◌, ◌-◌, ℕ, zero, suc, Bool, List, refl, arith, ap, subst, sym, ◌∙◌, inl, inr}
+use Rattle.std.specs.Prelude.{Option, Some, None, slice_get, replicate, unwrap_or, pos, ◌-ℤ◌}
 use Rattle.std.proofs.lemmas.Int.{ints}
-use Rattle.sched_base.specs.Numbers.{moment, span, domain as domain_number, pool as pool_number}
+use Rattle.sched_base.specs.Numbers.{span, domain as domain_number, pool as pool_number}
 use Rattle.sched_base.specs.Credit2Numbers.{start_credit}
 use Rattle.sched_base.specs.declared.Moment.{Moment}
 use Rattle.sched_base.specs.declared.Span.{Span}
 use Rattle.sched_base.specs.declared.UnitId.{UnitId}
-use Rattle.sched_base.specs.declared.VcpuId.{VcpuId}
 use Rattle.sched_model.specs.declared.config.DomParams.{DomParams}
 use Rattle.sched_model.specs.declared.config.DomParams.TheVariants as dom_params
 use Rattle.sched_model.specs.declared.config.ParamChange.{ParamChange}
@@ -16,9 +14,6 @@ use Rattle.sched_model.specs.declared.config.ParamChange.TheVariants as changes
 use Rattle.sched_model.specs.declared.config.PoolParams.{PoolParams}
 use Rattle.sched_model.specs.declared.config.PoolParams.TheVariants as pool_params
 use Rattle.sched_model.specs.declared.state.Domain.{Domain}
-use Rattle.sched_model.specs.declared.state.Doing.TheVariants.{Guest, Idle, Held}
-use Rattle.sched_model.specs.declared.state.Stage.TheVariants.{Open}
-use Rattle.sched_model.specs.declared.state.Processor.{Processor}
 use Rattle.sched_model.specs.declared.state.Resource.{Resource}
 use Rattle.sched_model.specs.declared.state.Pool.{Pool}
 use Rattle.sched_model.specs.declared.state.RtdsUnit.{RtdsUnit}
@@ -26,10 +21,8 @@ use Rattle.sched_model.specs.declared.state.Credit2Unit.{Credit2Unit}
 use Rattle.sched_model.specs.declared.state.Credit2Domain.{Credit2Domain}
 use Rattle.sched_model.specs.declared.state.Records.{Records}
 use Rattle.sched_model.specs.declared.state.Records.TheVariants.{Credit2Pool, RtdsPool, ArincPool, NullPool}
-use Rattle.sched_model.specs.declared.action.Action.{Action}
-use Rattle.sched_model.specs.declared.action.Action.TheVariants.{Stall, Xl, Moved, DomMoved, Wake, Block, Slice, Repl, Refill, Arrive, Decide, Leave, Save}
-use Rattle.sched_model.specs.Places.{at_place, put_at, clear_at, change_at, change_each, change_item, test_at, numbers_from}
-use Rattle.sched_model.specs.State.{is_runnable}
+use Rattle.sched_model.specs.declared.action.Action.TheVariants.{Decide}
+use Rattle.sched_model.specs.Places.{at_place, put_at, clear_at, numbers_from}
 use Rattle.sched_model.specs.Opening.{fresh_core}
 use Rattle.sched_model.specs.Eligible.{rtds_unit}
 use Rattle.sched_model.specs.Rtds as rtds
@@ -40,7 +33,8 @@ use Rattle.sched_model.specs.Commands.{set_rtds_unit}
 use Rattle.sched_model.specs.Pool as pools
 use Rattle.sched_model.specs.Pool.{after_in, settled, home_cores, reconsidered, change_core, change_processor, change_vcpu, change_domain, change_cores_of, does, started_on, set_leaving, set_moving, set_pending, pause, unpause, set_params, without_domain, with_domain, is_of_domain, is_held, processor_of, guest_of}
 use Rattle.sched_laws.specs.Each.{EachAt}
-use Rattle.sched_laws.proofs.EachPlace.{EachAt-put_at, EachAt-clear_at, EachPlace-empty, read_change_at, read_change_each, read_put_at, read_clear_at, by_option, by_test, by_cond}
+use Rattle.sched_laws.proofs.Events.{LikePlaces, like_was, like_map, like_change_at, like_of_domain, capped, KeepsCore, KeptByCommands, KeptByParts, commands_of, kept_withdrawn, kept_marked, kept_queue_units}
+use Rattle.sched_laws.proofs.EachPlace.{EachAt-put_at, EachAt-clear_at, EachPlace-empty, read_put_at, read_clear_at, by_option}
 use Rattle.turn_laws.specs.Stretches.{Legs, cores}
 use Rattle.stretch_laws.proofs.LegCharges.{Lasts, lasts_later, EachItem, RtdsUnitKept, RtdsKept, rtds_change, UnitKept, DomainKept, Credit2Kept, c_refilled, c_set_domain}
 
@@ -75,14 +69,12 @@ charged_later On t next (NullPool places) past kept = tt
 abbrev pub Had : List (Option Resource) → List (Option Resource) → Type 0
 Had new old = (r : ℕ) (c : Resource) (u : UnitId) → at_place new r ≡ Some c → c.cur ≡ Some u → (d : Resource) × (at_place old r ≡ Some d) × (d.cur ≡ Some u)
 
-had_change_at : (i : ℕ) (f : Resource → Resource) (cores : List (Option Resource)) → ((c : Resource) → (f c).cur ≡ c.cur) → Had (change_at i f cores) cores
-had_change_at i f cores same r c u at own = elim (read_change_at i r f cores c at) [
-  | inl was ↦ (c, was.1, own)
-  | inr x ↦ (x.0, subst (λ k. at_place cores k ≡ Some x.0) (sym x.2) x.1, sym (same x.0) ∙ ap (λ (z : Resource). z.cur) x.3 ∙ own)
-]
+-- the core has the same cur
+abbrev SameCur : Resource → Resource → Type 0
+SameCur c d = d.cur ≡ c.cur
 
-had_change_each : (f : ℕ → Resource → Resource) (cores : List (Option Resource)) → ((r : ℕ) (c : Resource) → (f r c).cur ≡ c.cur) → Had (change_each 0 f cores) cores
-had_change_each f cores same r c u at own = (let x = read_change_each r f cores c at in (x.0, x.1, sym (same r x.0) ∙ ap (λ (z : Resource). z.cur) x.2 ∙ own))
+had_like : (old new : List (Option Resource)) → LikePlaces SameCur old new → Had new old
+had_like old new like r d u at own = (let was = like_was SameCur old new r d like at in (was.0, was.1, sym was.2 ∙ own))
 
 had_come : (r : ℕ) (ends : List Moment) (cores : List (Option Resource)) → Had (put_at r (fresh_core ends) cores) cores
 had_come r ends cores k c u at own = elim (read_put_at r k (fresh_core ends) cores c at) [
@@ -126,58 +118,11 @@ module _ (g t : ℕ) (legs : Legs) where
     charged = subst (λ (x : List (Option Resource)). Charged (OnSince legs x) t next.scheduler.records) (sym cores) charged;
   }
 
-  w_change_core : (r : ℕ) (f : Resource → Resource) (pool : Pool) → ((c : Resource) → (f c).cur ≡ c.cur) → IsLegged pool → IsLegged (change_core r f pool)
-  w_change_core r f pool same w = w_had pool (change_at r f pool.resources) (had_change_at r f pool.resources same) w
+  w_like : (cores : List (Option Resource)) (pool : Pool) → LikePlaces SameCur pool.resources cores → IsLegged pool → IsLegged (record pool { resources = cores })
+  w_like cores pool like w = w_had pool cores (had_like pool.resources cores like) w
 
-  w_change_each : (f : ℕ → Resource → Resource) (pool : Pool) → ((r : ℕ) (c : Resource) → (f r c).cur ≡ c.cur) → IsLegged pool → IsLegged (record pool { resources = change_each 0 f pool.resources })
-  w_change_each f pool same w = w_had pool (change_each 0 f pool.resources) (had_change_each f pool.resources same) w
-
-  pub w_change_processor : (p : ℕ) (f : Processor → Processor) (pool : Pool) → IsLegged pool → IsLegged (change_processor g p f pool)
-  w_change_processor p f pool w = w_change_core (p / g) (λ c. record c { processors = change_item (p % g) f c.processors }) pool (λ c. refl) w
-
-  w_started_on : (p : ℕ) (v : VcpuId) (pool : Pool) → IsLegged pool → IsLegged (started_on g t p v pool)
-  w_started_on p v pool w = w_change_processor p (does (Guest v)) (change_vcpu v (λ x. record x { started = Some (moment t) }) pool) (w_same pool (change_vcpu v (λ x. record x { started = Some (moment t) }) pool) refl refl w)
-
-  pub w_settled : (pool : Pool) → IsLegged pool → IsLegged (settled t pool)
-  w_settled pool w = w_change_each (reconsidered t (home_cores pool) pool.scheduler) pool (λ r c. by_cond (λ (d : Resource). d.cur ≡ c.cur) c.leaving c _ (λ is. refl) (λ is. refl)) w
-
-  w_joined_siblings : (v : VcpuId) (pool : Pool) → IsLegged pool → IsLegged (pools.joined_siblings g t v pool)
-  w_joined_siblings v pool w =
-      by_option IsLegged (pools.core_of pool (pools.unit_of g v)) _ _ (λ is. w)
-      (λ r is. by_option IsLegged (processor_of g pool (r * g + v.n % g)) _ _ (λ is2. w)
-      (λ q is2. by_cond IsLegged (pools.is_idle q) _ _ (λ idle. w_started_on (r * g + v.n % g) v pool w) (λ idle. w)))
-
-  w_after_wake : (v : VcpuId) (pool : Pool) → IsLegged pool → IsLegged (pools.after_wake g t v pool)
-  w_after_wake v pool w =
-      let next : Pool = change_vcpu v pools.woken pool in
-      let here : IsLegged next = w_same pool next refl refl w in
-      by_test IsLegged (is_runnable g next (pools.unit_of g v)) _ _
-      (λ runs. by_cond IsLegged (pools.is_off next (pools.unit_of g v)) _ _ (λ off. w_same pool (pools.queue_unit (pools.unit_of g v) next) refl refl w) (λ off. w_joined_siblings v next here))
-      (λ runs. here)
-
-  w_after_block : (q : ℕ) (v : VcpuId) (pool : Pool) → IsLegged pool → IsLegged (pools.after_block g t q v pool)
-  w_after_block q v pool w =
-      let next : Pool = change_processor g q (does Idle) (change_vcpu v (pools.put_to_sleep t) pool) in
-      let here : IsLegged next = w_change_processor q (does Idle) (change_vcpu v (pools.put_to_sleep t) pool) (w_same pool (change_vcpu v (pools.put_to_sleep t) pool) refl refl w) in
-      by_cond IsLegged (is_runnable g next (pools.unit_of g v)) _ _ (λ runs. here) (λ runs. w_change_core (q / g) (λ c. record c { pending = true }) next (λ c. refl) here)
-
-  w_after_arrive : (q : ℕ) (pool : Pool) → IsLegged pool → IsLegged (pools.after_arrive g t q pool)
-  w_after_arrive q pool w =
-      by_option (λ (next : Pool). IsLegged (change_processor g q (does Held) next)) (guest_of g pool q) _ _
-      (λ is. w_change_processor q (does Held) pool w) (λ v is. w_change_processor q (does Held) (change_vcpu v (pools.stopped t) pool) (w_same pool (change_vcpu v (pools.stopped t) pool) refl refl w))
-
-  w_open : (q : ℕ) (pool : Pool) → IsLegged pool → IsLegged (change_core (q / g) pools.open_if_left pool)
-  w_open q pool w = w_change_core (q / g) pools.open_if_left pool (λ c. by_cond (λ (d : Resource). d.cur ≡ c.cur) (list_any is_held c.processors) c (record c { stage = Open }) (λ is. refl) (λ is. refl)) w
-
-  w_after_leave : (q : ℕ) (c : Resource) (pool : Pool) → IsLegged pool → IsLegged (pools.after_leave g t q c pool)
-  w_after_leave q c pool w =
-      by_option (λ (next : Pool). IsLegged (change_core (q / g) pools.open_if_left next)) (pools.vcpu_for g pool c (q % g)) _ _
-      (λ is. w_open q (change_processor g q (does Idle) pool) (w_change_processor q (does Idle) pool w)) (λ v is. w_open q (started_on g t q v pool) (w_started_on q v pool w))
-
-  w_after_save : (r : ℕ) (u : UnitId) (pool : Pool) → IsLegged pool → IsLegged (pools.after_save g r u pool)
-  w_after_save r u pool w =
-      let here : IsLegged (change_core r pools.saved pool) = w_change_core r pools.saved pool (λ c. refl) w in
-      by_cond IsLegged (is_runnable g pool u) _ _ (λ runs. w_same (change_core r pools.saved pool) (pools.queue_unit u (change_core r pools.saved pool)) refl refl here) (λ runs. here)
+  w_change_core : (r : ℕ) (f : Resource → Resource) (pool : Pool) → ((c : Resource) → SameCur c (f c)) → IsLegged pool → IsLegged (change_core r f pool)
+  w_change_core r f pool same w = w_like _ pool (like_change_at SameCur r f pool.resources (λ c. refl) (λ c at. same c)) w
 
   -- the records
   module _ (On : ℕ → ℕ → ℕ → Type 0) where
@@ -221,22 +166,11 @@ module _ (g t : ℕ) (legs : Legs) where
         let x : Credit2Domain = credit2.fresh_domain weight percent count t in
         let y : Credit2Unit = record { credit = pos start_credit; residual = 0; held = pos 0; burned = None } in
         EachAt-put_at (λ d. DomainKept (On d) t) d x records.domains kept (replicated (λ n (z : Credit2Unit). UnitKept (On d n) t _ z) count y (λ n. record { lasts = λ b on. absurd (off n b on); within = omega (arith, ints) }))
-    r_joined (Credit2Pool records) (dom_params.Rtds period budget extra) d count off kept = kept
-    r_joined (Credit2Pool records) dom_params.Arinc653 d count off kept = kept
-    r_joined (Credit2Pool records) dom_params.Null d count off kept = kept
-    r_joined (RtdsPool domains) (dom_params.Credit2 weight percent) d count off kept = kept
+    r_joined (Credit2Pool records) params d count off kept = kept
     r_joined (RtdsPool domains) (dom_params.Rtds period budget extra) d count off kept =
         EachAt-put_at (λ d (units : List RtdsUnit). EachItem (RtdsUnitKept On t d) units) d (rtds.fresh_units period.0 budget.0 extra count t) domains kept (replicated (RtdsUnitKept On t d) count _ (λ n b on. absurd (off n b on)))
-    r_joined (RtdsPool domains) dom_params.Arinc653 d count off kept = kept
-    r_joined (RtdsPool domains) dom_params.Null d count off kept = kept
-    r_joined (ArincPool records) (dom_params.Credit2 weight percent) d count off kept = tt
-    r_joined (ArincPool records) (dom_params.Rtds period budget extra) d count off kept = tt
-    r_joined (ArincPool records) dom_params.Arinc653 d count off kept = tt
-    r_joined (ArincPool records) dom_params.Null d count off kept = tt
-    r_joined (NullPool places) (dom_params.Credit2 weight percent) d count off kept = tt
-    r_joined (NullPool places) (dom_params.Rtds period budget extra) d count off kept = tt
-    r_joined (NullPool places) dom_params.Arinc653 d count off kept = tt
-    r_joined (NullPool places) dom_params.Null d count off kept = tt
+    r_joined (RtdsPool domains) params d count off kept = kept
+    r_joined records params d count off kept = tt
 
     r_unit : (records : Records) (u : UnitId) (period budget : Span) (extra : Bool) → Charged On t records → Charged On t (changed_records records (changes.«Unit» u period budget extra) t)
     r_unit (Credit2Pool records) u period budget extra kept = kept
@@ -246,25 +180,11 @@ module _ (g t : ℕ) (legs : Legs) where
 
     r_changed : (records : Records) (change : ParamChange) → Sound records → Charged On t records → Charged On t (changed_records records change t)
     r_changed (Credit2Pool records) (changes.Dom d weight percent) sound kept = c_set_domain On t d.0 weight percent records (sound d.0) kept
-    r_changed (Credit2Pool records) (changes.Rate rate) sound kept = kept
-    r_changed (Credit2Pool records) (changes.«Unit» u period budget extra) sound kept = kept
-    r_changed (Credit2Pool records) (changes.Frame frame) sound kept = kept
-    r_changed (Credit2Pool records) (changes.Pin d unit set) sound kept = kept
-    r_changed (RtdsPool domains) (changes.Dom d weight percent) sound kept = kept
-    r_changed (RtdsPool domains) (changes.Rate rate) sound kept = kept
+    r_changed (Credit2Pool records) change sound kept = kept
     r_changed (RtdsPool domains) (changes.«Unit» u period budget extra) sound kept = r_unit (RtdsPool domains) u period budget extra kept
-    r_changed (RtdsPool domains) (changes.Frame frame) sound kept = kept
-    r_changed (RtdsPool domains) (changes.Pin d unit set) sound kept = kept
-    r_changed (ArincPool records) (changes.Dom d weight percent) sound kept = tt
-    r_changed (ArincPool records) (changes.Rate rate) sound kept = tt
-    r_changed (ArincPool records) (changes.«Unit» u period budget extra) sound kept = tt
-    r_changed (ArincPool records) (changes.Frame frame) sound kept = tt
-    r_changed (ArincPool records) (changes.Pin d unit set) sound kept = tt
-    r_changed (NullPool places) (changes.Dom d weight percent) sound kept = tt
-    r_changed (NullPool places) (changes.Rate rate) sound kept = tt
-    r_changed (NullPool places) (changes.«Unit» u period budget extra) sound kept = tt
-    r_changed (NullPool places) (changes.Frame frame) sound kept = tt
-    r_changed (NullPool places) (changes.Pin d unit set) sound kept = tt
+    r_changed (RtdsPool domains) change sound kept = kept
+    r_changed records (changes.Frame frame) sound kept = tt
+    r_changed records change sound kept = tt
 
     r_fresh : (params : PoolParams) (domains count : ℕ) → Charged On t (fresh_records params domains count)
     r_fresh (pool_params.Credit2 rate) domains count = λ d x at. absurd (EachPlace-empty {X = Credit2Domain} (λ y. ⊥) domains d x at)
@@ -272,72 +192,33 @@ module _ (g t : ℕ) (legs : Legs) where
     r_fresh (pool_params.Arinc653 frame) domains count = tt
     r_fresh pool_params.Null domains count = tt
 
-  w_after_replenish : (u : UnitId) (pool : Pool) → Sound pool.scheduler.records → IsLegged pool → IsLegged (pools.after_replenish t u pool)
-  w_after_replenish u pool sound w =
-      let records : Records = policy.replenish pool.scheduler.records t u in
-      let next : Pool = pools.with_records records pool in
-      let here : IsLegged next = w_records pool next refl (r_replenish (OnSince legs pool.resources) pool.scheduler.records u sound w.charged) w in
-      by_option IsLegged (pools.core_of pool u) _ _ (λ is. here)
-      (λ r is. by_option IsLegged (rtds_record records u) _ _ (λ is2. here)
-      (λ x is2. w_change_core r (pools.due_within t x.budget) next (λ c. refl) here))
-
   -- every event but a decision
-  pub w_acts : (pool : Pool) (action : Action) → ((r : ℕ) → action ≡ Decide r → ⊥) → Sound pool.scheduler.records → IsLegged pool → IsLegged (after_in g t pool action)
-  w_acts pool Stall other sound w = w
-  w_acts pool Xl other sound w = w
-  w_acts pool (Moved r) other sound w = w
-  w_acts pool (DomMoved d) other sound w = w
-  w_acts pool (Wake v) other sound w = w_after_wake v pool w
-  w_acts pool (Block q) other sound w = by_option IsLegged (guest_of g pool q) _ _ (λ is. w) (λ v is. w_after_block q v pool w)
-  w_acts pool (Slice r) other sound w = w_change_core r (λ c. record c { pending = true }) pool (λ c. refl) w
-  w_acts pool (Repl u) other sound w = w_after_replenish u pool sound w
-  w_acts pool (Refill d) other sound w = w_records pool (pools.with_records (policy.refill pool.scheduler.records t d) pool) refl (r_refill (OnSince legs pool.resources) pool.scheduler.records d w.charged) w
-  w_acts pool (Arrive q) other sound w = w_after_arrive q pool w
-  w_acts pool (Decide r) other sound w = absurd (other r refl)
-  w_acts pool (Leave q) other sound w = by_option IsLegged (at_place pool.resources (q / g)) _ _ (λ is. w) (λ c is. w_after_leave q c pool w)
-  w_acts pool (Save r) other sound w = by_option IsLegged (at_place pool.resources r) _ _ (λ is. w) (λ c is. by_option IsLegged c.saving _ _ (λ is2. w) (λ u is2. w_after_save r u pool w))
+  pub w_parts : KeptByParts g t (λ pool action. ((r : ℕ) → action ≡ Decide r → ⊥) × Sound pool.scheduler.records) IsLegged
+  w_parts = record {
+    cores = λ cores pool like. w_like cores pool (like_map KeepsCore SameCur pool.resources cores (λ c d keeps. keeps.cur) like);
+    domains = λ d f pool count moving. w_same pool (change_domain d f pool) refl refl;
+    queues = λ u pool runs. w_same pool (pools.queue_unit u pool) refl refl;
+    dequeues = λ d pool. w_same pool (record pool { scheduler = policy.dequeue_domain d pool.scheduler }) refl refl;
+    decides = λ r c pool at on. absurd (on.0 r refl);
+    saves = λ r c u pool at is on. w_change_core r pools.saved pool (λ x. refl);
+    replenishes = λ u pool on w. w_records pool (pools.with_records (policy.replenish pool.scheduler.records t u) pool) refl (r_replenish (OnSince legs pool.resources) pool.scheduler.records u on.1 w.charged) w;
+    dues = λ r u x old pool on is. w_change_core r (pools.due_within t x.budget) pool (λ c. refl);
+    refills = λ d pool on w. w_records pool (pools.with_records (policy.refill pool.scheduler.records t d) pool) refl (r_refill (OnSince legs pool.resources) pool.scheduler.records d w.charged) w;
+  }
+
+  pub w_commands : KeptByCommands g IsLegged
+  w_commands = commands_of w_parts
 
   -- the commands
-  pub w_set_leaving : (r : ℕ) (pool : Pool) → IsLegged pool → IsLegged (set_leaving r pool)
-  w_set_leaving r pool w = w_change_core r (λ c. record c { leaving = true; pending = c.pending || is_some c.cur }) pool (λ c. refl) w
-
-  w_change_cores_of : (d : ℕ) (f : Resource → Resource) (pool : Pool) → ((c : Resource) → (f c).cur ≡ c.cur) → IsLegged pool → IsLegged (change_cores_of d f pool)
-  w_change_cores_of d f pool same w = w_change_each (λ r c. cond (is_of_domain d c.cur) (f c) c) pool (λ r c. by_cond (λ (x : Resource). x.cur ≡ c.cur) (is_of_domain d c.cur) (f c) c (λ is. same c) (λ is. refl)) w
-
-  w_queue_units : (d : ℕ) (units : List ℕ) (pool : Pool) → IsLegged pool → IsLegged (pools.queue_units g d units pool)
-  w_queue_units d [] pool w = w
-  w_queue_units d (k ∷ ks) pool w =
-      let u : UnitId = record { dom = domain_number d; n = k } in
-      w_queue_units d ks _ (by_cond IsLegged (is_runnable g pool u && pools.is_off pool u) _ _ (λ is. w_same pool (pools.queue_unit u pool) refl refl w) (λ is. w))
-
-  w_withdrawn : (d : ℕ) (f : Domain → Domain) (pool : Pool) → IsLegged pool → IsLegged (pools.withdrawn d (change_domain d f pool))
-  w_withdrawn d f pool w =
-      let next : Pool = record pool { domains = change_at d f pool.domains; scheduler = policy.dequeue_domain d pool.scheduler } in
-      w_change_cores_of d set_pending next (λ c. refl) (w_same pool next refl refl w)
-
   pub w_set_moving : (d i : ℕ) (pool : Pool) → IsLegged pool → IsLegged (set_moving d i pool)
-  w_set_moving d i pool w = w_withdrawn d (λ x. record x { moving = Some (pool_number i) }) pool w
-
-  pub w_pause : (d : ℕ) (pool : Pool) → IsLegged pool → IsLegged (pause d pool)
-  w_pause d pool w = by_cond IsLegged (test_at pool.domains d (λ x. x.paused)) _ _ (λ is. w) (λ is. w_withdrawn d (λ x. record x { paused = true }) pool w)
-
-  pub w_unpause : (d : ℕ) (pool : Pool) → IsLegged pool → IsLegged (unpause g d pool)
-  w_unpause d pool w =
-      by_option IsLegged (at_place pool.domains d) _ _ (λ is. w)
-      (λ domain is. by_cond IsLegged domain.paused _ _ (λ is2. w_queue_units d (numbers_from 0 (pools.unit_count g domain)) (change_domain d (λ x. record x { paused = false }) pool) (w_same pool (change_domain d (λ x. record x { paused = false }) pool) refl refl w)) (λ is2. w))
-
-  w_marked : (change : ParamChange) (pool : Pool) → IsLegged pool → IsLegged (pools.marked change t pool)
-  w_marked (changes.Dom d weight (Some percent)) pool w = w_change_cores_of d.0 (λ c. record c { pending = true; due = Some (moment t) }) pool (λ c. refl) w
-  w_marked (changes.Dom d weight None) pool w = w
-  w_marked (changes.Rate rate) pool w = w
-  w_marked (changes.«Unit» u period budget extra) pool w = w
-  w_marked (changes.Frame frame) pool w = w_change_each (λ r c. set_pending c) pool (λ r c. refl) w
-  w_marked (changes.Pin d unit cores) pool w = w
+  w_set_moving d i pool w =
+      let next : Pool = change_domain d (λ x. record x { moving = Some (pool_number i) }) pool in
+      kept_withdrawn w_commands d next (w_same pool next refl refl w)
 
   pub w_set_params : (change : ParamChange) (pool : Pool) → Sound pool.scheduler.records → IsLegged pool → IsLegged (set_params change t pool)
   w_set_params change pool sound w =
       let next : Pool = record pool { scheduler = policy.set_params change t pool.scheduler } in
-      w_marked change next (w_records pool next refl (r_changed (OnSince legs pool.resources) pool.scheduler.records change sound w.charged) w)
+      kept_marked w_commands t (λ d now. w_like _ now (like_of_domain SameCur d (capped t) now.resources (λ c. refl) (λ c. refl))) change next (w_records pool next refl (r_changed (OnSince legs pool.resources) pool.scheduler.records change sound w.charged) w)
 
   pub w_set_rtds_unit : (period budget : Option Span) (extra : Option Bool) (u : UnitId) (pool : Pool) → IsLegged pool → IsLegged (set_rtds_unit t period budget extra u pool)
   w_set_rtds_unit period budget extra u pool w =
@@ -351,7 +232,7 @@ module _ (g t : ℕ) (legs : Legs) where
   w_with_domain d domain params pool other w =
       let count : ℕ = pools.unit_count g domain in
       let next : Pool = record pool { domains = put_at d domain pool.domains; scheduler = policy.join d count params t pool.scheduler } in
-      w_queue_units d (numbers_from 0 count) next
+      kept_queue_units w_commands d (numbers_from 0 count) next
       (w_records pool next refl (r_joined (OnSince legs pool.resources) pool.scheduler.records params d count (λ n b on. other on.0 on.1 (record { dom = domain_number d; n = n }) on.2 on.3 refl) w.charged) w)
 
   pub w_without_domain : (d : ℕ) (pool : Pool) → IsLegged pool → IsLegged (without_domain d pool)

@@ -298,20 +298,7 @@ decide_event : (t : ℕ) (legs : Legs) (r : ℕ) (e : Event) → is_in_stretch t
 decide_event t legs r (event.Decide core unit due late reset) on is =
     let same : core.0 ≡ r = (let e : Decide core.0 ≡ Decide r = cc in cc) in
     (subst (λ k. has_no_older_leg t legs k ≡ true) same (and_right (reset == 0) _ on), is_number reset 0 (and_left (reset == 0) _ on))
-decide_event t legs r (event.Arrive p) on is = absurd (cc)
-decide_event t legs r (event.Leave p v) on is = absurd (cc)
-decide_event t legs r (event.Save core u queued) on is = absurd (cc)
-decide_event t legs r (event.Stall p until) on is = absurd (cc)
-decide_event t legs r (event.Xl k answer) on is = absurd (cc)
-decide_event t legs r (event.Moved core to) on is = absurd (cc)
-decide_event t legs r (event.DomMoved d to) on is = absurd (cc)
-decide_event t legs r (event.Wake v) on is = absurd (cc)
-decide_event t legs r (event.Block p v) on is = absurd (cc)
-decide_event t legs r (event.Slice core) on is = absurd (cc)
-decide_event t legs r (event.Repl u start deadline budget extra) on is = absurd (cc)
-decide_event t legs r (event.Refill d periods budget) on is = absurd (cc)
-decide_event t legs r (event.End n) on is = absurd (cc)
-decide_event t legs r event.Finish on is = absurd (cc)
+decide_event t legs r e on is = absurd (cc)
 
 -- the resets that a decision prints are those that it makes
 pub printed_reset : (m : Machine) (s : State) (e : Event) (i : ℕ) (pool : Pool) (r : ℕ) (c : Resource) → e ≡ event_of m s s.now (Decide r) → home_of_core s r ≡ Some i → at_place s.pools i ≡ Some pool → at_place pool.resources r ≡ Some c → reset_of e ≡ (decision m s.now pool r c).reset

@@ -3,7 +3,7 @@ use Rattle.std.proofs.Common.{◌≡◌, ◌≢◌, ℕ, Bool, true, false, List
 use Rattle.std.specs.Prelude.{Option, Some, None, option_map, unwrap_or, is_some}
 use Rattle.sched_base.specs.declared.UnitId.{UnitId}
 use Rattle.sched_model.specs.declared.action.Action.{Action}
-use Rattle.sched_model.specs.declared.action.Action.TheVariants.{Stall, Xl, Moved, DomMoved, Wake, Block, Slice, Repl, Refill, Arrive, Decide, Leave, Save}
+use Rattle.sched_model.specs.declared.action.Action.TheVariants.{DomMoved, Repl, Decide}
 use Rattle.sched_model.specs.declared.event.Event.{Event}
 use Rattle.sched_model.specs.declared.event.Event.TheVariants as event
 use Rattle.sched_model.specs.declared.machine.Machine.{Machine}
@@ -101,19 +101,10 @@ abbrev pub View : Machine → UnitId → State → ℕ → Action → Type 0
 View m u s t action = IsOrdinary m u s t action ⊎ ((n : ℕ) × (action ≡ Decide n)) ⊎ ((v : UnitId) × (action ≡ Repl v)) ⊎ ((d : ℕ) × (action ≡ DomMoved d))
 
 pub view : (m : Machine) (u : UnitId) (s : State) (t : ℕ) (action : Action) → View m u s t action
-view m u s t Stall = inl (record { leaves = λ i p has. tt; late = λ r. refl; taken = refl; stays = refl; opens = λ at entries. refl })
-view m u s t Xl = inl (record { leaves = λ i p has. tt; late = λ r. refl; taken = refl; stays = refl; opens = λ at entries. refl })
-view m u s t (Moved r) = inl (record { leaves = λ i p has. tt; late = λ r. refl; taken = refl; stays = refl; opens = λ at entries. refl })
 view m u s t (DomMoved d) = inr (inr (inr (d, refl)))
-view m u s t (Wake v) = inl (record { leaves = λ i p has. tt; late = λ r. refl; taken = refl; stays = refl; opens = λ at entries. refl })
-view m u s t (Block n) = inl (record { leaves = λ i p has. tt; late = λ r. refl; taken = refl; stays = refl; opens = λ at entries. refl })
-view m u s t (Slice r) = inl (record { leaves = λ i p has. tt; late = λ r. refl; taken = refl; stays = refl; opens = λ at entries. refl })
 view m u s t (Repl v) = inr (inr (inl (v, refl)))
-view m u s t (Refill d) = inl (record { leaves = λ i p has. tt; late = λ r. refl; taken = refl; stays = refl; opens = λ at entries. refl })
-view m u s t (Arrive n) = inl (record { leaves = λ i p has. tt; late = λ r. refl; taken = refl; stays = refl; opens = λ at entries. refl })
 view m u s t (Decide n) = inr (inl (n, refl))
-view m u s t (Leave n) = inl (record { leaves = λ i p has. tt; late = λ r. refl; taken = refl; stays = refl; opens = λ at entries. refl })
-view m u s t (Save r) = inl (record { leaves = λ i p has. tt; late = λ r. refl; taken = refl; stays = refl; opens = λ at entries. refl })
+view m u s t action = inl (record { leaves = λ i p has. tt; late = λ r. refl; taken = refl; stays = refl; opens = λ at entries. refl })
 
 -- an entry without an action
 pub quiet_event : (u : UnitId) (e : Event) → action_of e ≡ None → ((r : ℕ) → late_of r e ≡ None) × (taken_by u e ≡ None) × (moves u.dom.0 e ≡ false) × ((at : ℕ) (entries : List Entry) → opened_by u at e entries ≡ None)

@@ -16,7 +16,7 @@ use Rattle.sched_model.specs.declared.state.Domain.{Domain}
 use Rattle.sched_model.specs.declared.state.Resource.{Resource}
 use Rattle.sched_model.specs.declared.state.RtdsUnit.{RtdsUnit}
 use Rattle.sched_model.specs.declared.state.Records.{Records}
-use Rattle.sched_model.specs.declared.state.Records.TheVariants.{Credit2Pool, RtdsPool, ArincPool, NullPool}
+use Rattle.sched_model.specs.declared.state.Records.TheVariants.{Credit2Pool, RtdsPool}
 use Rattle.sched_model.specs.Places.{at_place, put_at, test_at, numbers_from}
 use Rattle.sched_model.specs.State.{is_runnable, has_core}
 use Rattle.sched_model.specs.Eligible.{rtds_unit}
@@ -110,12 +110,10 @@ full_joined records params d count full domains is =
     by_params params k.0 (full k.0 k.1) (sym (ap (λ (x : Records). joined_records x params d count 0) k.1) ∙ is)
   where
     by_params : (params2 : DomParams) (old : List (Option (List RtdsUnit))) → ((u : UnitId) (x : RtdsUnit) → rtds_unit old u ≡ Some x → IsFull x) → joined_records (RtdsPool old) params2 d count 0 ≡ RtdsPool domains → (u : UnitId) (x : RtdsUnit) → rtds_unit domains u ≡ Some x → IsFull x
-    by_params (dom_params.Credit2 weight percent) old was e u x at = was u x (subst (λ ds. rtds_unit ds u ≡ Some x) (sym (rtds_same old domains e)) at)
     by_params (dom_params.Rtds period budget extra) old was e u x at = full_put d count period.0 budget.0 extra old was u x (subst (λ ds. rtds_unit ds u ≡ Some x) (sym (rtds_same (put_at d (rtds.fresh_units period.0 budget.0 extra count 0) old) domains e)) at)
-    by_params dom_params.Arinc653 old was e u x at = was u x (subst (λ ds. rtds_unit ds u ≡ Some x) (sym (rtds_same old domains e)) at)
-    by_params dom_params.Null old was e u x at = was u x (subst (λ ds. rtds_unit ds u ≡ Some x) (sym (rtds_same old domains e)) at)
+    by_params params2 old was e u x at = was u x (subst (λ ds. rtds_unit ds u ≡ Some x) (sym (rtds_same old domains e)) at)
 
-queue_keeps : (g d : ℕ) (ns : List ℕ) (pool : Pool) → (queue_units g d ns pool).scheduler.records ≡ pool.scheduler.records
+pub queue_keeps : (g d : ℕ) (ns : List ℕ) (pool : Pool) → (queue_units g d ns pool).scheduler.records ≡ pool.scheduler.records
 queue_keeps g d [] pool = refl
 queue_keeps g d (n ∷ ns) pool =
     let u : UnitId = record { dom = domain_number d; n = n } in
@@ -123,26 +121,26 @@ queue_keeps g d (n ∷ ns) pool =
 
 pin_keeps : (records : Records) (d : ℕ) (n : ℕ) (cores : Cores) → changed_records records (changes.Pin (domain_number d) (Some n) cores) 0 ≡ records
 pin_keeps (Credit2Pool records) d n cores = refl
-pin_keeps (RtdsPool domains) d n cores = refl
-pin_keeps (ArincPool records) d n cores = refl
-pin_keeps (NullPool kept) d n cores = refl
+pin_keeps records d n cores = refl
 
 pins_keep : (d n : ℕ) (pins : List Cores) (pool : Pool) → (with_pins d n pins pool).scheduler.records ≡ pool.scheduler.records
 pins_keep d n [] pool = refl
 pins_keep d n (cores ∷ pins) pool = pins_keep d (suc n) pins (set_params (changes.Pin (domain_number d) (Some n) cores) 0 pool) ∙ pin_keeps pool.scheduler.records d n cores
 
-full_configured : (g d : ℕ) (joining : DomConfig) (pool : Pool) → AllFull pool.scheduler.records → AllFull (with_configured g d joining pool).scheduler.records
-full_configured g d joining pool full =
-    let x : Domain = record { paused = false; moving = None; vcpus = map fresh_vcpu joining.guests } in
-    let put : Pool = record pool { domains = put_at d x pool.domains; scheduler = policy.join d (unit_count g x) joining.params 0 pool.scheduler } in
-    subst AllFull (sym (pins_keep d 0 joining.pins (with_domain g 0 d x joining.params pool) ∙ queue_keeps g d (numbers_from 0 (unit_count g x)) put))
-    (full_joined pool.scheduler.records joining.params d (unit_count g x) full)
+-- what the records keep while a domain joins, they keep while the domains of the file do
+module _ (Q : Records → Type 0) (joined : (records : Records) (params : DomParams) (d count : ℕ) → Q records → Q (joined_records records params d count 0)) where
+  configured_keep : (g d : ℕ) (joining : DomConfig) (pool : Pool) → Q pool.scheduler.records → Q (with_configured g d joining pool).scheduler.records
+  configured_keep g d joining pool here =
+      let x : Domain = record { paused = false; moving = None; vcpus = map fresh_vcpu joining.guests } in
+      let put : Pool = record pool { domains = put_at d x pool.domains; scheduler = policy.join d (unit_count g x) joining.params 0 pool.scheduler } in
+      subst Q (sym (pins_keep d 0 joining.pins (with_domain g 0 d x joining.params pool) ∙ queue_keeps g d (numbers_from 0 (unit_count g x)) put))
+      (joined pool.scheduler.records joining.params d (unit_count g x) here)
 
-full_domains : (g i d : ℕ) (domains : List DomConfig) (pool : Pool) → AllFull pool.scheduler.records → AllFull (with_domains g i d domains pool).scheduler.records
-full_domains g i d [] pool full = full
-full_domains g i d (joining ∷ domains) pool full =
-    full_domains g i (suc d) domains (cond (joining.home.0 == i) (with_configured g d joining pool) pool)
-    (by_cond (λ (p : Pool). AllFull p.scheduler.records) (joining.home.0 == i) (with_configured g d joining pool) pool (λ is. full_configured g d joining pool full) (λ is. full))
+  pub domains_keep : (g i d : ℕ) (domains : List DomConfig) (pool : Pool) → Q pool.scheduler.records → Q (with_domains g i d domains pool).scheduler.records
+  domains_keep g i d [] pool here = here
+  domains_keep g i d (joining ∷ domains) pool here =
+      domains_keep g i (suc d) domains (cond (joining.home.0 == i) (with_configured g d joining pool) pool)
+      (by_cond (λ (p : Pool). Q p.scheduler.records) (joining.home.0 == i) (with_configured g d joining pool) pool (λ is. configured_keep g d joining pool here) (λ is. here))
 
 full_fresh : (params : PoolParams) (domains cores : ℕ) → AllFull (fresh_records params domains cores)
 full_fresh (pool_params.Credit2 limit) n cores domains is u x at = absurd (cc)
@@ -158,4 +156,4 @@ full_fresh pool_params.Null n cores domains is u x at = absurd (cc)
 pub full_opening : (m : Machine) (i : ℕ) (p : Pool) → at_place (opening m).pools i ≡ Some p → AllFull p.scheduler.records
 full_opening m i p at =
     let q = read_pools m.config 0 (most_pools - length m.config.pools) m.config.pools i p at in
-    subst (λ (x : Pool). AllFull x.scheduler.records) (sym q.2) (full_domains m.config.granularity (0 + i) 0 m.config.domains _ (full_fresh q.0.params (length m.config.domains) (core_count m.config)))
+    subst (λ (x : Pool). AllFull x.scheduler.records) (sym q.2) (domains_keep AllFull full_joined m.config.granularity (0 + i) 0 m.config.domains _ (full_fresh q.0.params (length m.config.domains) (core_count m.config)))

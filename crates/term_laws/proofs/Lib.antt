@@ -2,6 +2,7 @@ pub mod Grid
 pub mod RtdsSteps
 pub mod SamePool
 pub mod Plans
+pub mod AtHome
 pub mod SameAt
 pub mod TermPool
 pub mod Time

@@ -37,7 +37,7 @@ use Rattle.term_laws.proofs.ActsIn.{IsStable, ActsIn, home_pools_same, one_home,
 use Rattle.term_laws.proofs.Deciding.{Tracks, OverPool, off_home_stable, on_home_stable, off_pool_stable, on_pool_stable, over_stable, cur_core, cur_of_seen_unit, same_no}
 
 -- the cores of a pool keep their units
-abbrev CoresKeep : (Pool → Pool) → Type 0
+abbrev pub CoresKeep : (Pool → Pool) → Type 0
 CoresKeep f = (p : Pool) (r : ℕ) → cur_in (at_place (f p).resources r) ≡ cur_in (at_place p.resources r)
 
 settled_keeps : (t : ℕ) → CoresKeep (settled t)
@@ -47,11 +47,11 @@ settled_keeps t p r = ap cur_in (at_place-change_each 0 r (reconsidered t (home_
     there None = refl
     there (Some c) = by_cond (λ (y : Resource). y.cur ≡ c.cur) c.leaving _ _ (λ is. refl) (λ is. refl)
 
-left_keeps : (t d : ℕ) → CoresKeep (left_by t d)
+pub left_keeps : (t d : ℕ) → CoresKeep (left_by t d)
 left_keeps t d p r =
     by_cond (λ (q : Pool). cur_in (at_place q.resources r) ≡ cur_in (at_place p.resources r)) (is_null p.scheduler.records) (settled t (without_domain d p)) (without_domain d p) (λ is. settled_keeps t (without_domain d p) r) (λ is. refl)
 
-joined_keeps : (g t d : ℕ) (domain : Domain) → CoresKeep (joined_by g t d domain)
+pub joined_keeps : (g t d : ℕ) (domain : Domain) → CoresKeep (joined_by g t d domain)
 joined_keeps g t d domain p r =
     settled_keeps t (with_domain g t d (record domain { moving = None }) (default_dom_params p.scheduler.records) p) r
     ∙ ap (λ (cores : List (Option Resource)). cur_in (at_place cores r)) (with_domain-resources g t d (record domain { moving = None }) (default_dom_params p.scheduler.records) p)

@@ -1,7 +1,7 @@
 -- What the decisions of an RTDS pool do to a unit's record.
-use Rattle.std.proofs.Common.{◌≡◌, ◌≢◌, ◌≤◌, ◌+◌, ◌-◌, ℕ, zero, suc, true, false, List, [], ◌∷◌, refl, arith, ap, subst, sym, ◌∙◌, ◌⊎◌, inl, inr, nat_lt}
+use Rattle.std.proofs.Common.{◌≡◌, ◌≢◌, ◌≤◌, ◌+◌, ◌-◌, ℕ, true, false, List, refl, arith, ap, subst, sym, ◌∙◌, ◌⊎◌, inl, inr, nat_lt}
 use Rattle.std.proofs.Math.Decide.{ℕ_discrete}
-use Rattle.std.specs.Prelude.{Option, Some, None, slice_get, slice_set, option_map}
+use Rattle.std.specs.Prelude.{Option, Some, None, slice_get, option_map}
 use Rattle.sched_base.specs.Numbers.{moment}
 use Rattle.sched_base.specs.declared.UnitId.{UnitId}
 use Rattle.sched_base.specs.RtdsNumbers.{burned_left}
@@ -13,68 +13,29 @@ use Rattle.sched_model.specs.declared.ask.Ask.{Ask}
 use Rattle.sched_model.specs.Eligible.{Decision, rtds_unit}
 use Rattle.sched_model.specs.Rtds.{burn, burn_to, change_unit, set_running, switch_off, burn_cur, budget_left, choose_rt, choice, decide}
 use Rattle.sched_laws.proofs.EachPlace.{by_cond}
+pub use Rattle.sched_laws.proofs.EachPlace.{at_place-change_at, at_place-set_other}
+use Rattle.sched_laws.proofs.Lists.{slice_get-change_item, slice_get-change_item_other}
 use Rattle.sched_laws.proofs.Choices.{same_unit_same}
 
-slice_get-change_item : {X : Type 0} (i : ℕ) (f : X → X) (xs : List X) (x : X) → slice_get xs i ≡ Some x → slice_get (change_item i f xs) i ≡ Some (f x)
-slice_get-change_item i f [] x at = absurd (cc)
-slice_get-change_item zero f (y ∷ xs) x at = (let e : y ≡ x = cc in ap (λ (z : _). Some (f z)) e)
-slice_get-change_item (suc i) f (y ∷ xs) x at = slice_get-change_item i f xs x at
-
-slice_get-change_item_other : {X : Type 0} (i j : ℕ) (f : X → X) (xs : List X) → i ≢ j → slice_get (change_item i f xs) j ≡ slice_get xs j
-slice_get-change_item_other i j f [] other = refl
-slice_get-change_item_other zero zero f (y ∷ xs) other = absurd (other refl)
-slice_get-change_item_other zero (suc j) f (y ∷ xs) other = refl
-slice_get-change_item_other (suc i) zero f (y ∷ xs) other = refl
-slice_get-change_item_other (suc i) (suc j) f (y ∷ xs) other = slice_get-change_item_other i j f xs (λ e. other (ap suc e))
-
-pub at_place-change_at : {X : Type 0} (i : ℕ) (f : X → X) (places : List (Option X)) → at_place (change_at i f places) i ≡ option_map f (at_place places i)
-at_place-change_at zero f [] = refl
-at_place-change_at (suc i) f [] = refl
-at_place-change_at zero f (p ∷ places) = refl
-at_place-change_at (suc i) f (p ∷ places) = at_place-change_at i f places
-
 pub at_place-change_at_other : {X : Type 0} (i j : ℕ) (f : X → X) (places : List (Option X)) → i ≢ j → at_place (change_at i f places) j ≡ at_place places j
-at_place-change_at_other zero j f [] other = refl
-at_place-change_at_other (suc i) j f [] other = refl
-at_place-change_at_other zero zero f (p ∷ places) other = absurd (other refl)
-at_place-change_at_other zero (suc j) f (p ∷ places) other = refl
-at_place-change_at_other (suc i) zero f (p ∷ places) other = refl
-at_place-change_at_other (suc i) (suc j) f (p ∷ places) other = at_place-change_at_other i j f places (λ e. other (ap suc e))
+at_place-change_at_other i j f places other = at_place-set_other i j (option_map f (at_place places i)) places other
 
 -- the unit's record after a change of it
-pub rtds_unit-same : (u : UnitId) (f : RtdsUnit → RtdsUnit) (domains : List (Option (List RtdsUnit))) (x : RtdsUnit) → rtds_unit domains u ≡ Some x → rtds_unit (change_unit u f domains) u ≡ Some (f x)
-rtds_unit-same u f domains x at =
+rtds_unit-changed : (u : UnitId) (f : RtdsUnit → RtdsUnit) (domains : List (Option (List RtdsUnit))) → rtds_unit (change_unit u f domains) u ≡ option_map f (rtds_unit domains u)
+rtds_unit-changed u f domains =
     ap (λ (o : Option (List RtdsUnit)). elim o as (λ _. Option RtdsUnit) [ None ↦ None | Some units ↦ slice_get units u.n ]) (at_place-change_at u.dom.0 (change_item u.n f) domains)
-    ∙ there (at_place domains u.dom.0) at
+    ∙ there (at_place domains u.dom.0)
   where
-    there : (o : Option (List RtdsUnit)) → elim o as (λ _. Option RtdsUnit) [ None ↦ None | Some units ↦ slice_get units u.n ] ≡ Some x
-        → elim (option_map (change_item u.n f) o) as (λ _. Option RtdsUnit) [ None ↦ None | Some units ↦ slice_get units u.n ] ≡ Some (f x)
-    there None is = absurd (cc)
-    there (Some units) is = slice_get-change_item u.n f units x is
+    there : (o : Option (List RtdsUnit))
+        → elim (option_map (change_item u.n f) o) as (λ _. Option RtdsUnit) [ None ↦ None | Some units ↦ slice_get units u.n ] ≡ option_map f (elim o as (λ _. Option RtdsUnit) [ None ↦ None | Some units ↦ slice_get units u.n ])
+    there None = refl
+    there (Some units) = slice_get-change_item u.n f units
 
-slice_get-change_item_none : {X : Type 0} (i : ℕ) (f : X → X) (xs : List X) → slice_get xs i ≡ None → slice_get (change_item i f xs) i ≡ None
-slice_get-change_item_none i f [] at = at
-slice_get-change_item_none zero f (y ∷ xs) at = absurd (cc)
-slice_get-change_item_none (suc i) f (y ∷ xs) at = slice_get-change_item_none i f xs at
+pub rtds_unit-same : (u : UnitId) (f : RtdsUnit → RtdsUnit) (domains : List (Option (List RtdsUnit))) (x : RtdsUnit) → rtds_unit domains u ≡ Some x → rtds_unit (change_unit u f domains) u ≡ Some (f x)
+rtds_unit-same u f domains x at = rtds_unit-changed u f domains ∙ ap (option_map f) at
 
 pub rtds_unit-none : (u : UnitId) (f : RtdsUnit → RtdsUnit) (domains : List (Option (List RtdsUnit))) → rtds_unit domains u ≡ None → rtds_unit (change_unit u f domains) u ≡ None
-rtds_unit-none u f domains at =
-    ap (λ (o : Option (List RtdsUnit)). elim o as (λ _. Option RtdsUnit) [ None ↦ None | Some units ↦ slice_get units u.n ]) (at_place-change_at u.dom.0 (change_item u.n f) domains)
-    ∙ there (at_place domains u.dom.0) at
-  where
-    there : (o : Option (List RtdsUnit)) → elim o as (λ _. Option RtdsUnit) [ None ↦ None | Some units ↦ slice_get units u.n ] ≡ None
-        → elim (option_map (change_item u.n f) o) as (λ _. Option RtdsUnit) [ None ↦ None | Some units ↦ slice_get units u.n ] ≡ None
-    there None is = refl
-    there (Some units) is = slice_get-change_item_none u.n f units is
-
--- what stands at another place than the one that is set
-pub at_place-set_other : {X : Type 0} (i j : ℕ) (o : Option X) (places : List (Option X)) → i ≢ j → at_place (slice_set places i o) j ≡ at_place places j
-at_place-set_other zero j o [] other = refl
-at_place-set_other (suc i) j o [] other = refl
-at_place-set_other zero zero o (p ∷ places) other = absurd (other refl)
-at_place-set_other zero (suc j) o (p ∷ places) other = refl
-at_place-set_other (suc i) zero o (p ∷ places) other = refl
-at_place-set_other (suc i) (suc j) o (p ∷ places) other = at_place-set_other i j o places (λ e. other (ap suc e))
+rtds_unit-none u f domains at = rtds_unit-changed u f domains ∙ ap (option_map f) at
 
 -- and after one of another unit
 pub rtds_unit-other : (w u : UnitId) (f : RtdsUnit → RtdsUnit) (domains : List (Option (List RtdsUnit))) → same_unit w u ≡ false → rtds_unit (change_unit w f domains) u ≡ rtds_unit domains u

@@ -3,23 +3,23 @@ use Rattle.std.proofs.Common.{◌≡◌, ◌≢◌, ℕ, Bool, true, false, List
 use Rattle.std.specs.Prelude.{Option, Some, None, slice_get, slice_set}
 use Rattle.sched_base.specs.declared.UnitId.{UnitId}
 use Rattle.sched_model.specs.declared.state.Domain.{Domain}
-use Rattle.sched_model.specs.Places.{at_place, put_at, clear_at, test_at, numbers_from}
+use Rattle.sched_model.specs.Places.{put_at, clear_at, test_at, numbers_from}
 use Rattle.sched_model.specs.declared.state.State.{State}
 use Rattle.sched_model.specs.declared.state.Pool.{Pool}
 use Rattle.sched_model.specs.declared.state.Records.{Records}
 use Rattle.sched_model.specs.declared.state.RtdsUnit.{RtdsUnit}
-use Rattle.sched_model.specs.declared.state.Records.TheVariants.{RtdsPool, Credit2Pool, ArincPool, NullPool}
+use Rattle.sched_model.specs.declared.state.Records.TheVariants.{Credit2Pool}
 use Rattle.sched_model.specs.Eligible.{rtds_unit}
 use Rattle.sched_model.specs.Policy as policy
 use Rattle.sched_model.specs.Rtds.{fresh_units}
-use Rattle.sched_model.specs.Pool.{without_domain, unit_count}
-use Rattle.sched_model.specs.Actions.{home_of_domain, change_pool}
-use Rattle.sched_model.specs.Machine.{after_dom_moved, left_by, joined_by, is_null}
-use Rattle.sched_laws.proofs.EachPlace.{by_option, by_cond}
+use Rattle.sched_model.specs.Pool.{with_domain, without_domain, unit_count}
+use Rattle.sched_model.specs.Machine.{after_dom_moved}
 use Rattle.sched_laws.proofs.Records.{same_joined as kinds_joined}
 use Rattle.term_laws.proofs.RtdsSteps.{at_place-set_other}
-use Rattle.term_laws.proofs.SamePool.{Same, same_of, charged, same_trans, same_settled, same_queue_units}
-use Rattle.term_laws.proofs.SameAt.{SameAt, sat_change}
+use Rattle.term_laws.proofs.SamePool.{Same, same_of, charged, same_trans, same_settled, same_commands}
+use Rattle.term_laws.proofs.AtHome.{at_dom_moved}
+use Rattle.sched_laws.proofs.Events.{kept_queue_units}
+use Rattle.term_laws.proofs.SameAt.{SameAt}
 
 module _ (w : UnitId) (d : ℕ) (other : d ≢ w.dom.0) where
   set_other : (o : Option (List RtdsUnit)) (domains : List (Option (List RtdsUnit))) → charged (rtds_unit (slice_set domains d o) w) ≡ charged (rtds_unit domains w)
@@ -30,30 +30,17 @@ module _ (w : UnitId) (d : ℕ) (other : d ≢ w.dom.0) where
 
   kinds_parted : (records : Records) → policy.kind_of (policy.parted_records records d) ≡ policy.kind_of records
   kinds_parted (Credit2Pool records) = refl
-  kinds_parted (RtdsPool domains) = refl
-  kinds_parted (ArincPool records) = refl
-  kinds_parted (NullPool kept) = refl
+  kinds_parted records = refl
 
   same_without : (p q : Pool) → Same w p q → Same w p (without_domain d q)
   same_without p q a = same_trans w p q (without_domain d q) a (same_of w _ _ (λ r. refl) (λ domains is. (clear_at d domains, ap (λ x. policy.parted_records x d) is, set_other None domains)) (there_other None q.domains) (kinds_parted q.scheduler.records))
 
-  same_left : (t : ℕ) (p q : Pool) → Same w p q → Same w p (left_by t d q)
-  same_left t p q a = by_cond (Same w p) (is_null q.scheduler.records) _ _ (λ is. same_settled w t p _ (same_without p q a)) (λ is. same_without p q a)
-
-  same_joined : (g t : ℕ) (domain : Domain) (p q : Pool) → Same w p q → Same w p (joined_by g t d domain q)
-  same_joined g t domain p q a =
-      let joining : Domain = record domain { moving = None } in
+  same_joined : (g t : ℕ) (joining : Domain) (p q : Pool) → Same w p q → Same w p (with_domain g t d joining (policy.default_dom_params q.scheduler.records) q)
+  same_joined g t joining p q a =
       let count = unit_count g joining in
       let with : Pool = record q { domains = put_at d joining q.domains; scheduler = policy.join d count (policy.default_dom_params q.scheduler.records) t q.scheduler } in
-      same_settled w t p _ (same_queue_units w g d (numbers_from 0 count) p with (same_trans w p q with a (same_of w _ _ (λ r. refl) (λ domains is. (put_at d (fresh_units 10000000 4000000 true count t) domains, ap (λ x. policy.joined_records x (policy.default_dom_params x) d count t) is, set_other (Some (fresh_units 10000000 4000000 true count t)) domains)) (there_other (Some joining) q.domains) (kinds_joined policy.kind_of (λ a b. refl) (λ a b. refl) q.scheduler.records (policy.default_dom_params q.scheduler.records) d count t))))
+      kept_queue_units (same_commands w g p) d (numbers_from 0 count) with (same_trans w p q with a (same_of w _ _ (λ r. refl) (λ domains is. (put_at d (fresh_units 10000000 4000000 true count t) domains, ap (λ x. policy.joined_records x (policy.default_dom_params x) d count t) is, set_other (Some (fresh_units 10000000 4000000 true count t)) domains)) (there_other (Some joining) q.domains) (kinds_joined policy.kind_of (λ a b. refl) (λ a b. refl) q.scheduler.records (policy.default_dom_params q.scheduler.records) d count t)))
 
   pub sat_dom_moved : (i : ℕ) (p : Pool) (has : test_at p.domains w.dom.0 (λ x. true) ≡ true) (g t : ℕ) (s : State)
       → SameAt w i p has s → SameAt w i p has (after_dom_moved g t d s)
-  sat_dom_moved i p has g t s a =
-      by_option (SameAt w i p has) (home_of_domain s d) _ _ (λ is. a)
-      (λ j is. by_option (SameAt w i p has) (at_place s.pools j) _ _ (λ is2. a)
-      (λ pool is2. by_option (SameAt w i p has) (at_place pool.domains d) _ _ (λ is3. a)
-      (λ domain is3. by_option (SameAt w i p has) domain.moving _ _ (λ is4. a)
-      (λ k is4. sat_change w i p has k.0 (joined_by g t d domain) (change_pool j (left_by t d) s)
-      (sat_change w i p has j (left_by t d) s a (λ q at e same. same_left t p q same))
-      (λ q at e same. same_joined g t domain p q same)))))
+  sat_dom_moved i p has g t s a = at_dom_moved i g t d s (same_settled w t p) (same_without p) (λ joining. same_joined g t joining p) a

@@ -9,7 +9,7 @@ use Rattle.sched_model.specs.declared.plan.Plan.{Plan}
 use Rattle.sched_model.specs.declared.plan.Plan.TheVariants as plan
 use Rattle.sched_model.specs.Actions.{home_of, home_of_core, home_of_domain}
 use Rattle.sched_model.specs.Commands.{carried_out, pool_of_plan}
-use Rattle.sched_model.specs.declared.action.Action.TheVariants.{Stall, Xl, Moved, DomMoved, Wake, Block, Slice, Repl, Refill, Arrive, Decide, Leave, Save}
+use Rattle.sched_model.specs.declared.action.Action.TheVariants.{Stall, Xl, Moved, DomMoved}
 use Rattle.sched_model.specs.Machine.{after_at_home, settled_at, verdict}
 use Rattle.sched_model.specs.Places.{least, at_place}
 use Rattle.sched_model.specs.declared.machine.Machine.{Machine}
@@ -52,21 +52,14 @@ next_later m s n is =
 
 -- no action changes the moment
 now_carried : (m : Machine) (t : ℕ) (pl : Plan) (s : State) → (carried_out m t pl s).now ≡ s.now
-now_carried m t (plan.PoolList pool answer) s = refl
-now_carried m t (plan.PoolCreate j name kind answer) s = refl
-now_carried m t (plan.PoolDestroy j answer) s = refl
-now_carried m t (plan.PoolRename j name answer) s = refl
-now_carried m t (plan.CpuAdd j core answer) s = refl
-now_carried m t (plan.CpuRemove j core answer) s = refl
 now_carried m t (plan.Migrate d j k answer) s = by_cond (λ (x : State). x.now ≡ s.now) (j.0 == k.0) s _ (λ is. refl) (λ is. refl)
 now_carried m t (plan.Credit2Dom d weight «cap» answer) s = by_option (λ (x : State). x.now ≡ s.now) (home_of_domain s d.0) _ _ (λ is. refl) (λ j is. refl)
 now_carried m t (plan.Credit2Pool j None answer) s = refl
-now_carried m t (plan.Credit2Pool j (Some us) answer) s = refl
 now_carried m t (plan.RtdsDom d first count period budget extra answer) s = by_option (λ (x : State). x.now ≡ s.now) (home_of_domain s d.0) _ _ (λ is. refl) (λ j is. refl)
 now_carried m t (plan.Pause d answer) s = by_option (λ (x : State). x.now ≡ s.now) (home_of_domain s d.0) _ _ (λ is. refl) (λ j is. refl)
 now_carried m t (plan.Unpause d answer) s = by_option (λ (x : State). x.now ≡ s.now) (home_of_domain s d.0) _ _ (λ is. refl) (λ j is. refl)
-now_carried m t (plan.ArincSet j frame answer) s = refl
 now_carried m t (plan.Pin d unit cores answer) s = by_option (λ (x : State). x.now ≡ s.now) (home_of_domain s d.0) _ _ (λ is. refl) (λ j is. refl)
+now_carried m t pl s = refl
 
 now_settled : (t : ℕ) (home : Option ℕ) (s : State) → (settled_at t home s).now ≡ s.now
 now_settled t None s = refl
@@ -96,15 +89,7 @@ now_same m s t (DomMoved d) =
     (λ j is. by_option (λ (x : State). x.now ≡ s.now) (at_place s.pools j) _ _ (λ is2. refl)
     (λ pool is2. by_option (λ (x : State). x.now ≡ s.now) (at_place pool.domains d) _ _ (λ is3. refl)
     (λ domain is3. by_option (λ (x : State). x.now ≡ s.now) domain.moving _ _ (λ is4. refl) (λ k is4. refl))))
-now_same m s t (Wake v) = now_home m.config.granularity s t (Wake v)
-now_same m s t (Block n) = now_home m.config.granularity s t (Block n)
-now_same m s t (Slice r) = now_home m.config.granularity s t (Slice r)
-now_same m s t (Repl u) = now_home m.config.granularity s t (Repl u)
-now_same m s t (Refill d) = now_home m.config.granularity s t (Refill d)
-now_same m s t (Arrive n) = now_home m.config.granularity s t (Arrive n)
-now_same m s t (Decide r) = now_home m.config.granularity s t (Decide r)
-now_same m s t (Leave n) = now_home m.config.granularity s t (Leave n)
-now_same m s t (Save r) = now_home m.config.granularity s t (Save r)
+now_same m s t action = now_home m.config.granularity s t action
 
 quiet_goes : (m : Machine) (end : Option ℕ) (from : Reached) → next_in_horizon m from.state ≡ end → from.state.now ≤ (after_quiet end from).state.now
 quiet_goes m None from is = omega arith

@@ -1,5 +1,5 @@
 -- A pool in which one core is changed: what is left to it falls, if what is left to the others grows by no more than the core's fall pays for.
-use Rattle.std.proofs.Common.{◌≡◌, ◌≢◌, ◌≤◌, ◌+◌, ◌*◌, ℕ, zero, suc, Bool, not, List, [], ◌∷◌, refl, arith, ap, cond, subst, sym, ◌∙◌}
+use Rattle.std.proofs.Common.{◌≡◌, ◌≢◌, ◌≤◌, ◌+◌, ◌*◌, ℕ, suc, Bool, not, List, refl, arith, ap, cond, subst, sym, ◌∙◌}
 use Rattle.std.specs.Prelude.{Option, Some, None, is_some, ◌&&◌, option_map}
 use Rattle.std.proofs.Math.Decide.{ℕ_discrete}
 use Rattle.sched_base.specs.declared.UnitId.{UnitId}
@@ -14,25 +14,11 @@ use Rattle.sched_model.specs.Eligible.{is_allowed}
 use Rattle.sched_model.specs.Pool.{home_cores, settled, reconsidered}
 use Rattle.sched_laws.proofs.HomeCores.{home_change_at}
 use Rattle.sched_laws.proofs.EachPlace.{at_place-change_each}
+pub use Rattle.sched_laws.proofs.EachPlace.{at_place-change_at, at_place-change_at_other}
 use Rattle.turn_laws.specs.Stretches.{cores, units}
 use Rattle.turn_laws.specs.Turns.{one, turns, turns_in, weight_of, meeting, is_stirred, is_secure, keeps, ahead}
 use Rattle.turn_laws.proofs.Sums.{many}
 use Rattle.turn_laws.proofs.Looking.{turns_settled}
-
-pub at_place-change_at_other : {X : Type 0} (i j : ℕ) (f : X → X) (places : List (Option X)) → j ≢ i → at_place (change_at i f places) j ≡ at_place places j
-at_place-change_at_other zero j f [] other = refl
-at_place-change_at_other (suc i) j f [] other = refl
-at_place-change_at_other zero zero f (p ∷ places) other = absurd (other refl)
-at_place-change_at_other zero (suc j) f (p ∷ places) other = refl
-at_place-change_at_other (suc i) zero f (p ∷ places) other = refl
-at_place-change_at_other (suc i) (suc j) f (p ∷ places) other = at_place-change_at_other i j f places (λ e. other (ap suc e))
-
-pub at_place-change_at : {X : Type 0} (i : ℕ) (f : X → X) (places : List (Option X)) → at_place (change_at i f places) i ≡ option_map f (at_place places i)
-at_place-change_at zero f [] = refl
-at_place-change_at (suc i) f [] = refl
-at_place-change_at zero f (None ∷ places) = refl
-at_place-change_at zero f (Some x ∷ places) = refl
-at_place-change_at (suc i) f (p ∷ places) = at_place-change_at i f places
 
 is_some-option_map : {X Y : Type 0} (f : X → Y) (o : Option X) → is_some (option_map f o) ≡ is_some o
 is_some-option_map f None = refl
