@@ -112,7 +112,7 @@ block_past seen p none =
 
 -- the core armed anew
 pub core_armed : (r q q' : ℕ) (seen : Seen) (heaps : Heaps) → length seen.resources ≤ 64 → AreArmedBut r (r + 1) q q' seen heaps
-    → AreArmedBut (r + 1) (r + 1) q q' seen (with_core_ends r seen.resources heaps)
+    → AreArmedBut (r + 1) (r + 1) q q' seen (with_core_ends r (at_place seen.resources r) heaps)
 core_armed r q q' seen heaps few are =
     let none : 64 ≤ r → at_place seen.resources r ≡ None = core_past seen.resources r few in
     record {
@@ -126,8 +126,8 @@ core_armed r q q' seen heaps few are =
     }
 
 -- one processor more armed anew
-pub processor_armed : (r r' p q : ℕ) (seen : Seen) (heaps : Heaps) → IsGranularity seen.granularity → length seen.resources * seen.granularity ≤ 64
-    → AreArmedBut r r' p q seen heaps → AreArmedBut r r' (p + 1) q seen (with_processor_ends p seen heaps)
+processor_armed : (r r' p q : ℕ) (seen : Seen) (heaps : Heaps) → IsGranularity seen.granularity → length seen.resources * seen.granularity ≤ 64
+    → AreArmedBut r r' p q seen heaps → AreArmedBut r r' (p + 1) q seen (with_processor_ends p (at_place seen.resources (p / seen.granularity)) (p % seen.granularity) (at_place seen.works p) heaps)
 processor_armed r r' p q seen heaps granularity few are =
     let none : 64 ≤ p → at_place seen.resources (p / seen.granularity) ≡ None = core_of_past seen.granularity seen.resources p granularity few in
     record {
@@ -139,6 +139,34 @@ processor_armed r r' p q seen heaps granularity few are =
       arrives = next p q heaps.arrives (λ i. ready_among seen (Arrive i)) (λ past. sibling_past seen.granularity p gathers (λ q. not (is_held q)) seen.resources (none past)) are.arrives;
       leaves = next p q heaps.leaves (λ i. ready_among seen (Leave i)) (λ past. sibling_past seen.granularity p parts is_held seen.resources (none past)) are.leaves;
     }
+
+-- the i-th processor of the core r is of that core, and the i-th there
+place_of : (g r i : ℕ) → IsGranularity g → i < g → ((r * g + i) / g ≡ r) × ((r * g + i) % g ≡ i)
+place_of g r i (inl e) lt = subst (λ (k : ℕ). ((r * k + i) / k ≡ r) × ((r * k + i) % k ≡ i)) (sym e) (let h = rw e at lt in (omega (arith, h), omega (arith, h)))
+place_of g r i (inr (inl e)) lt = subst (λ (k : ℕ). ((r * k + i) / k ≡ r) × ((r * k + i) % k ≡ i)) (sym e) (let h = rw e at lt in (omega (arith, h), omega (arith, h)))
+place_of g r i (inr (inr e)) lt = subst (λ (k : ℕ). ((r * k + i) / k ≡ r) × ((r * k + i) % k ≡ i)) (sym e) (let h = rw e at lt in (omega (arith, h), omega (arith, h)))
+
+-- past the 64 processors there is no core
+pub core_of_sibling_past : (g r i : ℕ) (cores : List (Option Resource)) → IsGranularity g → length cores * g ≤ 64 → i < g → 64 ≤ r * g + i → at_place cores r ≡ None
+core_of_sibling_past g r i cores granularity few lt past =
+    ap (at_place cores) (sym (place_of g r i granularity lt).0) ∙ core_of_past g cores (r * g + i) granularity few past
+
+-- the i-th processor of the core armed anew
+pub sibling_armed : (r r' i q : ℕ) (seen : Seen) (heaps : Heaps) (core : Option Resource) (work : Option Moment) → IsGranularity seen.granularity
+    → length seen.resources * seen.granularity ≤ 64 → i < seen.granularity → core ≡ at_place seen.resources r → work ≡ at_place seen.works (r * seen.granularity + i)
+    → AreArmedBut r' r' (r * seen.granularity + i) q seen heaps
+    → AreArmedBut r' r' (r * seen.granularity + (i + 1)) q seen (with_processor_ends (r * seen.granularity + i) core i work heaps)
+sibling_armed r r' i q seen heaps core work granularity few lt core_is work_is are =
+    let p : ℕ = r * seen.granularity + i in
+    let place = place_of seen.granularity r i granularity lt in
+    let more : p + 1 ≡ r * seen.granularity + (i + 1) = omega arith in
+    let ends : with_processor_ends p (at_place seen.resources (p / seen.granularity)) (p % seen.granularity) (at_place seen.works p) heaps ≡ with_processor_ends p core i work heaps =
+    ap (λ (k : ℕ). with_processor_ends p (at_place seen.resources k) (p % seen.granularity) (at_place seen.works p) heaps) place.0
+    ∙ ap (λ (k : ℕ). with_processor_ends p (at_place seen.resources r) k (at_place seen.works p) heaps) place.1
+    ∙ ap (λ (o : Option Resource). with_processor_ends p o i (at_place seen.works p) heaps) (sym core_is)
+    ∙ ap (λ (o : Option Moment). with_processor_ends p core i o heaps) (sym work_is) in
+    subst (λ (k : ℕ). AreArmedBut r' r' k q seen (with_processor_ends p core i work heaps)) more
+    (subst (λ (new : Heaps). AreArmedBut r' r' (p + 1) q seen new) ends (processor_armed r' r' p q seen heaps granularity few are))
 
 -- where none is left, all are armed
 pub all_armed : (r p q : ℕ) (seen : Seen) (heaps : Heaps) → q ≤ p → AreArmedBut r r p q seen heaps → AreArmed seen heaps

@@ -1,5 +1,5 @@
 -- What a change of one core makes of what a pool's cores keep.
-use Rattle.std.proofs.Common.{◌≡◌, ◌≢◌, ◌≤◌, ◌<◌, ◌+◌, ◌-◌, ◌*◌, ◌/◌, ◌%◌, ◌^◌, ◌⊎◌, ℕ, zero, suc, List, [], ◌∷◌, ◌∙◌, refl, sym, ap, subst, arith, length, inl, inr}
+use Rattle.std.proofs.Common.{◌≡◌, ◌≢◌, ◌≤◌, ◌<◌, ◌+◌, ◌-◌, ◌*◌, ◌/◌, ◌^◌, ◌⊎◌, ℕ, zero, suc, List, [], ◌∷◌, ◌∙◌, refl, sym, ap, subst, arith, length, inl, inr}
 use Rattle.std.specs.Prelude.{Bool, not, true, false, Option, Some, None, option_map, replicate, slice_set, if◌then◌else◌}
 use Rattle.std.specs.List.{list_any}
 use Rattle.std.proofs.Math.Decide.{ℕ_discrete}
@@ -23,7 +23,7 @@ use Rattle.pool_laws.specs.Ready.{later, end_of, end_where, slice_end, may_move,
 use Rattle.core_state.specs.declared.heaps.Heaps.{Heaps}
 use Rattle.core_state.specs.Seen.{Seen, chosen, processor_among, with_sibling, without_works}
 use Rattle.core_state.specs.Ends.{may_decide, may_save, parts, ready_among}
-use Rattle.core_state.specs.Kept.{AgreesBut, AreArmed, AreArmedBut, AreEmpty, IsKept, KeepsCores}
+use Rattle.core_state.specs.Kept.{AgreesBut, AreArmed, AreArmedBut, AreEmpty, IsKept}
 use Rattle.core_state.proofs.Arming.{block_past, but, other_core, processor_same, sibling_past, sibling_same}
 
 -- what is seen of these cores and works
@@ -256,19 +256,19 @@ pub core_places : (g r home : ℕ) (first : Option ℕ) (cores now : List (Optio
     → KeepsSiblings f → IsKept (seen_of g cores works) home first heaps → now ≡ change_at r f cores → length now * g ≤ 64
 core_places g r home first cores now works heaps f keeps kept is = places_after g r cores (change_at r f cores) now works works (core_change g r f cores works keeps kept.cores.cores) is kept.cores.places
 
-pub core_others : (g r home : ℕ) (first : Option ℕ) (cores now : List (Option Resource)) (works so : List (Option Moment)) (heaps : Heaps) (f : Resource → Resource)
-    → KeepsSiblings f → IsKept (seen_of g cores works) home first heaps → now ≡ change_at r f cores → so ≡ works
-    → AreArmedBut r (r + 1) (r * g) (r * g + g) (seen_of g now so) heaps
-core_others g r home first cores now works so heaps f keeps kept is is_so =
-    others_after g r home first cores (change_at r f cores) now works works so heaps kept (core_change g r f cores works keeps kept.cores.cores) is is_so
+pub core_others : (g r home : ℕ) (first : Option ℕ) (cores now : List (Option Resource)) (works : List (Option Moment)) (heaps : Heaps) (f : Resource → Resource)
+    → KeepsSiblings f → IsKept (seen_of g cores works) home first heaps → now ≡ change_at r f cores
+    → AreArmedBut r (r + 1) (r * g) (r * g + g) (seen_of g now works) heaps
+core_others g r home first cores now works heaps f keeps kept is =
+    others_after g r home first cores (change_at r f cores) now works works works heaps kept (core_change g r f cores works keeps kept.cores.cores) is refl
 
-pub core_kept : (g r home : ℕ) (first : Option ℕ) (cores now read : List (Option Resource)) (works so : List (Option Moment)) (heaps heaps' : Heaps) (f : Resource → Resource)
-    → KeepsSiblings f → IsKept (seen_of g cores works) home first heaps → now ≡ change_at r f cores → read ≡ now → so ≡ works → AreArmed (seen_of g read so) heaps'
+pub core_kept : (g r home : ℕ) (first : Option ℕ) (cores now : List (Option Resource)) (works : List (Option Moment)) (heaps heaps' : Heaps) (f : Resource → Resource)
+    → KeepsSiblings f → IsKept (seen_of g cores works) home first heaps → now ≡ change_at r f cores → AreArmed (seen_of g now works) heaps'
     → IsKept (seen_of g now works) home first heaps'
-core_kept g r home first cores now read works so heaps heaps' f keeps kept is is_read is_so armed =
+core_kept g r home first cores now works heaps heaps' f keeps kept is armed =
     kept_is g home first now (change_at r f cores) works works heaps' is refl
     (kept_changed g r r home f first cores works works heaps heaps' kept (core_change g r f cores works keeps kept.cores.cores)
-    (armed_is g read (change_at r f cores) so works heaps' (is_read ∙ is) is_so armed))
+    (armed_is g now (change_at r f cores) works works heaps' is refl armed))
 
 -- the core of a processor changes, and its work
 pub worked_places : (g p home : ℕ) (first : Option ℕ) (cores now : List (Option Resource)) (works : List (Option Moment)) (work : Option Moment) (heaps : Heaps) (f : Resource → Resource)
@@ -282,13 +282,13 @@ pub worked_others : (g p home : ℕ) (first : Option ℕ) (cores now : List (Opt
 worked_others g p home first cores now works so work heaps f keeps kept is is_so =
     others_after g (p / g) home first cores (change_at (p / g) f cores) now works (slice_set works p work) so heaps kept (worked_change g p work f cores works keeps kept.cores.cores) is is_so
 
-pub worked_kept : (g p home : ℕ) (first : Option ℕ) (cores now read : List (Option Resource)) (works after so : List (Option Moment)) (work : Option Moment) (heaps heaps' : Heaps) (f : Resource → Resource)
-    → KeepsSiblings f → IsKept (seen_of g cores works) home first heaps → now ≡ change_at (p / g) f cores → after ≡ slice_set works p work → read ≡ now → so ≡ after → AreArmed (seen_of g read so) heaps'
+pub worked_kept : (g p home : ℕ) (first : Option ℕ) (cores now : List (Option Resource)) (works after : List (Option Moment)) (work : Option Moment) (heaps heaps' : Heaps) (f : Resource → Resource)
+    → KeepsSiblings f → IsKept (seen_of g cores works) home first heaps → now ≡ change_at (p / g) f cores → after ≡ slice_set works p work → AreArmed (seen_of g now after) heaps'
     → IsKept (seen_of g now after) home first heaps'
-worked_kept g p home first cores now read works after so work heaps heaps' f keeps kept is is_after is_read is_so armed =
+worked_kept g p home first cores now works after work heaps heaps' f keeps kept is is_after armed =
     kept_is g home first now (change_at (p / g) f cores) after (slice_set works p work) heaps' is is_after
     (kept_changed g (p / g) (p / g) home f first cores works (slice_set works p work) heaps heaps' kept (worked_change g p work f cores works keeps kept.cores.cores)
-    (armed_is g read (change_at (p / g) f cores) so (slice_set works p work) heaps' (is_read ∙ is) (is_so ∙ is_after) armed))
+    (armed_is g now (change_at (p / g) f cores) after (slice_set works p work) heaps' is is_after armed))
 
 -- a core comes in or goes out
 pub placed_places : (g r home : ℕ) (first : Option ℕ) (cores now : List (Option Resource)) (works : List (Option Moment)) (heaps : Heaps) (x : Option Resource)
@@ -302,15 +302,15 @@ pub placed_others : (g r home : ℕ) (first : Option ℕ) (cores now : List (Opt
 placed_others g r home first cores now works so heaps x has kept is is_so =
     others_after g r home first cores (slice_set cores r x) now works (without_works (r * g) g works) so heaps kept (placed_change g r x cores works kept.cores.granularity has) is is_so
 
-pub placed_kept : (g r home home' : ℕ) (first first' : Option ℕ) (cores now read : List (Option Resource)) (works after so : List (Option Moment)) (heaps heaps' : Heaps) (x : Option Resource)
+pub placed_kept : (g r home home' : ℕ) (first first' : Option ℕ) (cores now : List (Option Resource)) (works after : List (Option Moment)) (heaps heaps' : Heaps) (x : Option Resource)
     → ((c : Resource) → x ≡ Some c → length c.processors ≡ g) → IsKept (seen_of g cores works) home first heaps → now ≡ slice_set cores r x → after ≡ without_works (r * g) g works
-    → home' ≡ cores_from 0 now → first' ≡ first_place 0 (λ (c : Resource). true) now → read ≡ now → so ≡ after → AreArmed (seen_of g read so) heaps'
+    → home' ≡ cores_from 0 now → first' ≡ first_place 0 (λ (c : Resource). true) now → AreArmed (seen_of g now after) heaps'
     → IsKept (seen_of g now after) home' first' heaps'
-placed_kept g r home home' first first' cores now read works after so heaps heaps' x has kept is is_after is_home is_first is_read is_so armed =
+placed_kept g r home home' first first' cores now works after heaps heaps' x has kept is is_after is_home is_first armed =
     kept_is g home' first' now (slice_set cores r x) after (without_works (r * g) g works) heaps' is is_after
     (kept_after g r home home' first first' cores (slice_set cores r x) works (without_works (r * g) g works) heaps heaps' kept (placed_change g r x cores works kept.cores.granularity has)
     (is_home ∙ ap (cores_from 0) is) (is_first ∙ ap (first_place 0 (λ (c : Resource). true)) is)
-    (armed_is g read (slice_set cores r x) so (without_works (r * g) g works) heaps' (is_read ∙ is) (is_so ∙ is_after) armed))
+    (armed_is g now (slice_set cores r x) after (without_works (r * g) g works) heaps' is is_after armed))
 
 pub some_has : (g : ℕ) (core : Resource) → length core.processors ≡ g → (c : Resource) → Some core ≡ Some c → length c.processors ≡ g
 some_has g core has c is = let same : core ≡ c = cc in ap (λ (x : Resource). length x.processors) (sym same) ∙ has

@@ -9,7 +9,7 @@ use Rattle.sched_model.specs.declared.action.Action.TheVariants.{Stall, Xl, Move
 use Rattle.due_heap.specs.Dues.{due_of, IsArmed, GoesFirst, HasCome}
 use Rattle.core_state.specs.declared.heaps.Heaps.{Heaps}
 use Rattle.core_state.specs.Seen.{Seen}
-use Rattle.core_state.specs.Ends.{ready_among, ready_within}
+use Rattle.core_state.specs.Ends.{ready_within}
 use Rattle.core_state.specs.Firsts.{IsFirstCome, IsNotLater, IsLeast, earlier}
 use Rattle.core_state.specs.Kept.{AreArmed}
 

@@ -15,13 +15,14 @@ use Rattle.core_state.specs.Seen.{Seen, processor_among}
 abbrev pub lowest_among : List (Option Resource) → Option Moment
 lowest_among cores = elim (first_place 0 (λ c. true) cores) [ None ↦ None | Some r ↦ end_where (λ c. true) (at_place cores r) ]
 
--- the end of the stall of a processor of a core that passes a test, where the processor passes another and these are the cores
+-- the end of the stall of a core's processor, where both are there and each passes its test
+abbrev pub sibling_end : (Resource → Bool) → (Processor → Bool) → Option Resource → Option Processor → Option Moment
+sibling_end of_core of_processor core processor =
+    elim core [ None ↦ None | Some c ↦ when (of_core c) (elim processor [ None ↦ None | Some q ↦ when (of_processor q) (Some q.stall_end) ]) ]
+
+-- the same of a processor, where these are the cores
 abbrev pub sibling_among : ℕ → List (Option Resource) → ℕ → (Resource → Bool) → (Processor → Bool) → Option Moment
-sibling_among g cores p of_core of_processor =
-    elim (at_place cores (p / g)) [
-      | None ↦ None
-      | Some c ↦ when (of_core c) (elim (processor_among g cores p) [ None ↦ None | Some q ↦ when (of_processor q) (Some q.stall_end) ])
-    ]
+sibling_among g cores p of_core of_processor = sibling_end of_core of_processor (at_place cores (p / g)) (processor_among g cores p)
 
 -- whether the core may decide
 abbrev pub may_decide : Resource → Bool

@@ -1,17 +1,17 @@
 -- What a pool's cores keep.
-use Rattle.std.specs.Prelude.{ℕ, ◌≡◌, ◌≤◌, ◌<◌, ◌*◌, true, List, Option, None, length, replicate, slice_set}
+use Rattle.std.specs.Prelude.{ℕ, ◌≡◌, ◌≤◌, ◌<◌, ◌*◌, true, List, Option, None, length, replicate, slice_set, not}
 use Rattle.sched_base.specs.declared.Moment.{Moment}
 use Rattle.sched_model.specs.declared.action.Action.TheVariants.{Moved, Block, Slice, Arrive, Decide, Leave, Save}
 use Rattle.sched_model.specs.declared.state.Resource.{Resource}
 use Rattle.sched_model.specs.Checked.{IsGranularity}
-use Rattle.sched_model.specs.Places.{at_place, first_place}
-use Rattle.sched_model.specs.Pool.{cores_from}
+use Rattle.sched_model.specs.Places.{first_place}
+use Rattle.sched_model.specs.Pool.{cores_from, is_held}
 use Rattle.sched_laws.specs.Each.{EachPlace}
-use Rattle.pool_laws.specs.Ready.{end_where, slice_end, may_move}
+use Rattle.pool_laws.specs.Ready.{end_of, end_where, gathers, later, slice_end, may_move}
 use Rattle.due_heap.specs.Dues.{due_of}
 use Rattle.core_state.specs.declared.heaps.Heaps.{Heaps}
-use Rattle.core_state.specs.Seen.{Seen}
-use Rattle.core_state.specs.Ends.{may_decide, may_save, ready_among}
+use Rattle.core_state.specs.Seen.{Seen, sibling_of}
+use Rattle.core_state.specs.Ends.{may_decide, may_save, parts, ready_among, sibling_end}
 
 -- each core has 1, 2 or 4 processors, and there are places for at most 64 processors
 pub record KeepsCores (seen : Seen) : Type 0 where
@@ -58,20 +58,20 @@ pub record AreEmpty (heaps : Heaps) : Type 0 where
   pub leaves : heaps.leaves ≡ replicate 64 None
 
 -- the heaps with the core's own moments
-abbrev pub with_core_ends : ℕ → List (Option Resource) → Heaps → Heaps
-with_core_ends r cores heaps =
+abbrev pub with_core_ends : ℕ → Option Resource → Heaps → Heaps
+with_core_ends r core heaps =
     record heaps {
-      moves = slice_set heaps.moves r (end_where may_move (at_place cores r));
-      slices = slice_set heaps.slices r (slice_end (at_place cores r));
-      decides = slice_set heaps.decides r (end_where may_decide (at_place cores r));
-      saves = slice_set heaps.saves r (end_where may_save (at_place cores r));
+      moves = slice_set heaps.moves r (end_where may_move core);
+      slices = slice_set heaps.slices r (slice_end core);
+      decides = slice_set heaps.decides r (end_where may_decide core);
+      saves = slice_set heaps.saves r (end_where may_save core);
     }
 
--- the heaps with the processor's own moments
-abbrev pub with_processor_ends : ℕ → Seen → Heaps → Heaps
-with_processor_ends p seen heaps =
+-- the heaps with the own moments of the processor p, which is the i-th of the core, and whose work is done then
+abbrev pub with_processor_ends : ℕ → Option Resource → ℕ → Option Moment → Heaps → Heaps
+with_processor_ends p core i work heaps =
     record heaps {
-      blocks = slice_set heaps.blocks p (ready_among seen (Block p));
-      arrives = slice_set heaps.arrives p (ready_among seen (Arrive p));
-      leaves = slice_set heaps.leaves p (ready_among seen (Leave p));
+      blocks = slice_set heaps.blocks p (later work (end_of (sibling_of core i)));
+      arrives = slice_set heaps.arrives p (sibling_end gathers (λ q. not (is_held q)) core (sibling_of core i));
+      leaves = slice_set heaps.leaves p (sibling_end parts is_held core (sibling_of core i));
     }

@@ -54,9 +54,13 @@ leaving_core c = record c { leaving = true; pending = c.pending || is_some c.cur
 abbrev pub chosen : ℕ → Option UnitId → Option Moment → Resource → Resource
 chosen t unit due c = let decision : Decision = record { unit = unit; due = due; reset = 0; records = NullPool [] } in decided t decision c
 
+-- the i-th processor of a core, if there is a core
+abbrev pub sibling_of : Option Resource → ℕ → Option Processor
+sibling_of core i = elim core [ None ↦ None | Some c ↦ slice_get c.processors i ]
+
 -- the processor, where these are the cores and each has g of them
 abbrev pub processor_among : ℕ → List (Option Resource) → ℕ → Option Processor
-processor_among g cores p = elim (at_place cores (p / g)) [ None ↦ None | Some c ↦ slice_get c.processors (p % g) ]
+processor_among g cores p = sibling_of (at_place cores (p / g)) (p % g)
 
 -- the end of a stall of the processor up to this moment: no earlier than that of the stall that it has
 abbrev pub stall_until : Option Processor → Moment → Moment

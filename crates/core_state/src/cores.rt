@@ -9,7 +9,7 @@ use crate::changes::{
     bring_due_at, choose_at, clear_works, set_leaving, set_pending_by, set_stall_end,
 };
 use crate::ends::{lowest_end, move_end, processor_at};
-use crate::heaps::{Heaps, IDS, earlier, empty_heaps, first_come, least_of, rearm};
+use crate::heaps::{Heaps, IDS, advance, earlier, empty_heaps, first_come, least_of, rearm};
 use plain_policy::places::set_place;
 use plain_pool::cores::{core_at, core_of, first_core, has_domain, home_cores, is_on_core};
 use plain_pool::doing::{change_doing, set_pending};
@@ -33,6 +33,8 @@ pub struct CoreState {
     cores: Row<Option<Resource>>,
     works: Row<Option<Moment>>,
     heaps: Heaps,
+    /// The moment up to which the heaps have been told.
+    told: Moment,
 }
 
 impl Model for CoreState {
@@ -121,6 +123,7 @@ impl CoreState {
             cores,
             works,
             heaps,
+            told: Moment(0),
         })
     }
 
@@ -129,6 +132,13 @@ impl CoreState {
         ensures { option_copied result ≡ at_place self.now.resources r }
     {
         core_at(self.cores.as_slice(), r as usize)
+    }
+
+    /// The cores by number, each at its place.
+    pub fn cores(&self) -> &[Option<Resource>]
+        ensures { result.now ≡ self.now.resources }
+    {
+        self.cores.as_slice()
     }
 
     /// How many processors a core has: 1, 2 or 4.
@@ -205,13 +215,7 @@ impl CoreState {
         clear_works(r as u16 * g as u16, g, &mut self.works);
         self.home = home_cores(self.cores.as_slice());
         self.first = first_number(self.cores.as_slice());
-        rearm(
-            &mut self.heaps,
-            g,
-            r,
-            self.cores.as_slice(),
-            self.works.as_slice(),
-        );
+        rearm(&mut self.heaps, g, r, &self.cores, &self.works);
     }
 
     /// The core goes out, and its place is empty. None of its processors has work whose end is known.
@@ -224,13 +228,7 @@ impl CoreState {
         clear_works(r as u16 * g as u16, g, &mut self.works);
         self.home = home_cores(self.cores.as_slice());
         self.first = first_number(self.cores.as_slice());
-        rearm(
-            &mut self.heaps,
-            g,
-            r,
-            self.cores.as_slice(),
-            self.works.as_slice(),
-        );
+        rearm(&mut self.heaps, g, r, &self.cores, &self.works);
         core
     }
 
@@ -238,56 +236,36 @@ impl CoreState {
     pub fn set_pending(&mut self, r: u8)
         ensures { self.new ≡ changed_core r set_pending_spec self.old }
     {
+        let g = self.granularity;
         set_pending(r, &mut self.cores);
-        rearm(
-            &mut self.heaps,
-            self.granularity,
-            r,
-            self.cores.as_slice(),
-            self.works.as_slice(),
-        );
+        rearm(&mut self.heaps, g, r, &self.cores, &self.works);
     }
 
     /// The core is to decide anew, and has this due.
     pub fn set_pending_due(&mut self, r: u8, due: Moment)
         ensures { self.new ≡ changed_core r (pending_by due) self.old }
     {
+        let g = self.granularity;
         set_pending_by(r, due, &mut self.cores);
-        rearm(
-            &mut self.heaps,
-            self.granularity,
-            r,
-            self.cores.as_slice(),
-            self.works.as_slice(),
-        );
+        rearm(&mut self.heaps, g, r, &self.cores, &self.works);
     }
 
     /// The core is leaving; it is to decide where it has a unit.
     pub fn set_leaving(&mut self, r: u8)
         ensures { self.new ≡ changed_core r leaving_core self.old }
     {
+        let g = self.granularity;
         set_leaving(r, &mut self.cores);
-        rearm(
-            &mut self.heaps,
-            self.granularity,
-            r,
-            self.cores.as_slice(),
-            self.works.as_slice(),
-        );
+        rearm(&mut self.heaps, g, r, &self.cores, &self.works);
     }
 
     /// The core decides at t: it runs the unit up to the due, and saves the one that it ran, where that is another.
     pub fn decide(&mut self, r: u8, t: Moment, unit: Option<UnitId>, due: Option<Moment>)
         ensures { self.new ≡ changed_core r (chosen t.0 unit due) self.old }
     {
+        let g = self.granularity;
         choose_at(r, t, unit, due, &mut self.cores);
-        rearm(
-            &mut self.heaps,
-            self.granularity,
-            r,
-            self.cores.as_slice(),
-            self.works.as_slice(),
-        );
+        rearm(&mut self.heaps, g, r, &self.cores, &self.works);
     }
 
     /// The core puts away the unit that it saves.
@@ -295,14 +273,9 @@ impl CoreState {
         ensures unit { result ≡ saving_among self.old.resources r }
         ensures after { self.new ≡ changed_core r saved self.old }
     {
+        let g = self.granularity;
         let unit = take_saved(r, &mut self.cores);
-        rearm(
-            &mut self.heaps,
-            self.granularity,
-            r,
-            self.cores.as_slice(),
-            self.works.as_slice(),
-        );
+        rearm(&mut self.heaps, g, r, &self.cores, &self.works);
         unit
     }
 
@@ -310,14 +283,9 @@ impl CoreState {
     pub fn shorten_due(&mut self, r: u8, t: Moment, budget: u64)
         ensures { self.new ≡ changed_core r (due_within t.0 budget) self.old }
     {
+        let g = self.granularity;
         bring_due_at(r, t, budget, &mut self.cores);
-        rearm(
-            &mut self.heaps,
-            self.granularity,
-            r,
-            self.cores.as_slice(),
-            self.works.as_slice(),
-        );
+        rearm(&mut self.heaps, g, r, &self.cores, &self.works);
     }
 
     /// The processor does this, and the work of the vCPU that it runs is done then.
@@ -328,13 +296,7 @@ impl CoreState {
         let r = p / g;
         change_doing(g, p, doing, &mut self.cores);
         set_place(&mut self.works, p, work);
-        rearm(
-            &mut self.heaps,
-            g,
-            r,
-            self.cores.as_slice(),
-            self.works.as_slice(),
-        );
+        rearm(&mut self.heaps, g, r, &self.cores, &self.works);
     }
 
     /// The processor is held: it waits for its siblings.
@@ -367,13 +329,7 @@ impl CoreState {
         change_doing(g, p, doing, &mut self.cores);
         open_if_left(r, &mut self.cores);
         set_place(&mut self.works, p, work);
-        rearm(
-            &mut self.heaps,
-            g,
-            r,
-            self.cores.as_slice(),
-            self.works.as_slice(),
-        );
+        rearm(&mut self.heaps, g, r, &self.cores, &self.works);
     }
 
     /// The processor is stalled up to this moment, if it is not yet for longer: the end of its stall.
@@ -385,21 +341,25 @@ impl CoreState {
         let r = p / g;
         let end = later_end(processor_at(g, self.cores.as_slice(), p as usize), until);
         set_stall_end(g, p, end, &mut self.cores);
-        rearm(
-            &mut self.heaps,
-            g,
-            r,
-            self.cores.as_slice(),
-            self.works.as_slice(),
-        );
+        rearm(&mut self.heaps, g, r, &self.cores, &self.works);
         end
+    }
+
+    /// From now on the first core or processor of each kind whose event has come at t is at hand.
+    pub fn advance(&mut self, t: Moment)
+        ensures { self.new ≡ self.old }
+    {
+        if self.told.0 < t.0 {
+            self.told = t;
+            advance(&mut self.heaps, t);
+        }
     }
 
     /// From when on the core may leave the pool.
     pub fn move_end(&self, r: u8) -> Option<Moment>
         ensures { result ≡ ready_among self.now (Moved r) }
     {
-        move_end(self.cores.as_slice(), r as usize)
+        move_end(core_at(self.cores.as_slice(), r as usize))
     }
 
     /// The first core that may leave the pool at t.

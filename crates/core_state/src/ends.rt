@@ -6,8 +6,8 @@ ghost use Rattle.sched_model.specs.declared.state.Processor.{Processor as Proces
 ghost use Rattle.sched_model.specs.Places.{at_place, first_place};
 ghost use Rattle.sched_model.specs.Pool.{is_held as is_held_spec};
 ghost use Rattle.pool_laws.specs.Ready.{when as when_spec, later as later_spec, end_of, end_where, first_end as first_end_spec, may_move as may_move_spec, gathers as gathers_spec, slice_end as slice_end_spec};
-ghost use Rattle.core_state.specs.Seen.{processor_among};
-ghost use Rattle.core_state.specs.Ends.{may_decide as may_decide_spec, may_save as may_save_spec, parts as parts_spec, sibling_among, lowest_among};
+ghost use Rattle.core_state.specs.Seen.{processor_among, sibling_of as sibling_of_spec};
+ghost use Rattle.core_state.specs.Ends.{may_decide as may_decide_spec, may_save as may_save_spec, parts as parts_spec, sibling_end, lowest_among};
 
 use plain_pool::cores::{all_held, any_held, core_at, is_held, is_open};
 use sched_base::Moment;
@@ -68,44 +68,56 @@ fn may_save(c: &Resource) -> bool
     c.saving.is_some() && !any_held(c.processors.as_slice())
 }
 
-/// From when on the core may leave the pool.
-pub fn move_end(cores: &[Option<Resource>], r: usize) -> Option<Moment>
-    ensures { result ≡ end_where may_move_spec (at_place cores.now r) }
+/// From when on the core, if there is one, may leave the pool.
+#[inline]
+pub fn move_end(core: Option<&Resource>) -> Option<Moment>
+    ensures { result ≡ end_where may_move_spec (option_copied core.entry) }
 {
-    match core_at(cores, r) {
+    match core {
         None => None,
         Some(c) => when(may_move(c), first_end(c)),
     }
 }
 
 /// From when on the core is to decide anew, since its due has come.
-pub fn slice_end(cores: &[Option<Resource>], r: usize) -> Option<Moment>
-    ensures { result ≡ slice_end_spec (at_place cores.now r) }
+#[inline]
+pub fn slice_end(core: Option<&Resource>) -> Option<Moment>
+    ensures { result ≡ slice_end_spec (option_copied core.entry) }
 {
-    match core_at(cores, r) {
+    match core {
         None => None,
         Some(c) => when(!c.pending, later(c.due, first_end(c))),
     }
 }
 
 /// From when on the core may decide.
-pub fn decide_end(cores: &[Option<Resource>], r: usize) -> Option<Moment>
-    ensures { result ≡ end_where may_decide_spec (at_place cores.now r) }
+#[inline]
+pub fn decide_end(core: Option<&Resource>) -> Option<Moment>
+    ensures { result ≡ end_where may_decide_spec (option_copied core.entry) }
 {
-    match core_at(cores, r) {
+    match core {
         None => None,
         Some(c) => when(may_decide(c), first_end(c)),
     }
 }
 
 /// From when on the core may put away the unit that it saves.
-pub fn save_end(cores: &[Option<Resource>], r: usize) -> Option<Moment>
-    ensures { result ≡ end_where may_save_spec (at_place cores.now r) }
+#[inline]
+pub fn save_end(core: Option<&Resource>) -> Option<Moment>
+    ensures { result ≡ end_where may_save_spec (option_copied core.entry) }
 {
-    match core_at(cores, r) {
+    match core {
         None => None,
         Some(c) => when(may_save(c), first_end(c)),
     }
+}
+
+/// The i-th processor of the core.
+#[inline]
+pub fn sibling_of(core: Option<&Resource>, i: usize) -> Option<&Processor>
+    ensures { option_copied result ≡ sibling_of_spec (option_copied core.entry) i }
+{
+    core?.processors.as_slice().get(i)
 }
 
 /// The processor.
@@ -113,80 +125,78 @@ pub fn processor_at(g: u8, cores: &[Option<Resource>], p: usize) -> Option<&Proc
     requires { 0 < g }
     ensures { option_copied result ≡ processor_among g cores.now p }
 {
-    let c = core_at(cores, p / g as usize)?;
-    c.processors.as_slice().get(p % g as usize)
+    sibling_of(core_at(cores, p / g as usize), p % g as usize)
 }
 
-/// The end of the stall of the processor, if there is one.
-fn stall_end(p: Option<&Processor>) -> Option<Moment>
-    ensures { result ≡ end_of (option_copied p.entry) }
+/// The end of the stall of a processor, if there is one.
+#[inline]
+fn stall_end(processor: Option<&Processor>) -> Option<Moment>
+    ensures { result ≡ end_of (option_copied processor.entry) }
 {
-    match p {
+    match processor {
         None => None,
         Some(q) => Some(q.stall_end),
     }
 }
 
 /// The same of a processor that is held.
-fn held_end(p: Option<&Processor>) -> Option<Moment>
-    ensures { result ≡ elim (option_copied p.entry) [ None ↦ None | Some q ↦ when_spec (is_held_spec q) (Some q.stall_end) ] }
+#[inline]
+fn held_end(processor: Option<&Processor>) -> Option<Moment>
+    ensures { result ≡ elim (option_copied processor.entry) [ None ↦ None | Some q ↦ when_spec (is_held_spec q) (Some q.stall_end) ] }
 {
-    match p {
+    match processor {
         None => None,
         Some(q) => when(is_held(q), Some(q.stall_end)),
     }
 }
 
 /// The same of a processor that is not held.
-fn free_end(p: Option<&Processor>) -> Option<Moment>
-    ensures { result ≡ elim (option_copied p.entry) [ None ↦ None | Some q ↦ when_spec (not (is_held_spec q)) (Some q.stall_end) ] }
+#[inline]
+fn free_end(processor: Option<&Processor>) -> Option<Moment>
+    ensures { result ≡ elim (option_copied processor.entry) [ None ↦ None | Some q ↦ when_spec (not (is_held_spec q)) (Some q.stall_end) ] }
 {
-    match p {
+    match processor {
         None => None,
         Some(q) => when(!is_held(q), Some(q.stall_end)),
     }
 }
 
-/// From when on the processor may arrive.
-pub fn arrive_end(g: u8, cores: &[Option<Resource>], p: usize) -> Option<Moment>
-    requires { 0 < g }
-    ensures { result ≡ sibling_among g cores.now p gathers_spec (λ (q : ProcessorRecord). not (is_held_spec q)) }
+/// From when on the vCPU that a processor runs may block, where its work is done then.
+#[inline]
+pub fn block_end(work: Option<Moment>, processor: Option<&Processor>) -> Option<Moment>
+    ensures { result ≡ later_spec work (end_of (option_copied processor.entry)) }
 {
-    match core_at(cores, p / g as usize) {
+    later(work, stall_end(processor))
+}
+
+/// From when on a processor of the core may arrive.
+#[inline]
+pub fn arrive_end(core: Option<&Resource>, processor: Option<&Processor>) -> Option<Moment>
+    ensures { result ≡ sibling_end gathers_spec (λ q. not (is_held_spec q)) (option_copied core.entry) (option_copied processor.entry) }
+{
+    match core {
         None => None,
-        Some(c) => when(gathers(c), free_end(processor_at(g, cores, p))),
+        Some(c) => when(gathers(c), free_end(processor)),
     }
 }
 
-/// From when on the processor may leave.
-pub fn leave_end(g: u8, cores: &[Option<Resource>], p: usize) -> Option<Moment>
-    requires { 0 < g }
-    ensures { result ≡ sibling_among g cores.now p parts_spec is_held_spec }
+/// From when on a processor of the core may leave.
+#[inline]
+pub fn leave_end(core: Option<&Resource>, processor: Option<&Processor>) -> Option<Moment>
+    ensures { result ≡ sibling_end parts_spec is_held_spec (option_copied core.entry) (option_copied processor.entry) }
 {
-    match core_at(cores, p / g as usize) {
+    match core {
         None => None,
-        Some(c) => when(!is_open(c), held_end(processor_at(g, cores, p))),
+        Some(c) => when(!is_open(c), held_end(processor)),
     }
 }
 
 /// What stands at the place, where there is such a place.
-fn work_at(works: &[Option<Moment>], p: usize) -> Option<Moment>
+#[inline]
+pub fn work_at(works: &[Option<Moment>], p: usize) -> Option<Moment>
     ensures { result ≡ at_place works.now p }
 {
     if p < works.len() { works[p] } else { None }
-}
-
-/// From when on the vCPU that the processor runs may block, where these are the moments at which the works are done.
-pub fn block_end(
-    g: u8,
-    cores: &[Option<Resource>],
-    works: &[Option<Moment>],
-    p: usize,
-) -> Option<Moment>
-    requires { 0 < g }
-    ensures { result ≡ later_spec (at_place works.now p) (end_of (processor_among g cores.now p)) }
-{
-    later(work_at(works, p), stall_end(processor_at(g, cores, p)))
 }
 
 /// The end of the stall of the pool's lowest processor.

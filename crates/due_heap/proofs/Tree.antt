@@ -3,7 +3,7 @@ use Rattle.std.proofs.Common.{◌≡◌, ◌≢◌, ◌⊎◌, ℕ, zero, suc, �
 use Rattle.std.specs.Prelude.{if◌then◌else◌, nat_lt, slice_index_or}
 use Rattle.std.proofs.lemmas.Bool.{cases_eq, cases_lt}
 use Rattle.std.proofs.lemmas.Bool.Decides.{nat_tests}
-use Rattle.std.proofs.lemmas.List.{get_or-set_same, get_or-set_other, get_or_past, length-set}
+use Rattle.std.proofs.lemmas.List.{set-get_or, get_or_read, get_or-set_same, get_or-set_other, get_or_past, length-set}
 use Rattle.sched_base.specs.declared.Moment.{Moment}
 use Rattle.due_heap.specs.Dues.{IsArmed, GoesFirst, due_of}
 use Rattle.due_heap.specs.Winners.{precedes, is_before, sooner, winner, up, IsAncestor, IsFirstUnder, IsTree}
@@ -264,7 +264,12 @@ precedes-none x a at b none not =
     let e : true ≡ false = ap (λ (y : Option Moment). precedes (Some at) b y a) (sym none) ∙ not in
     absurd (cc)
 
-precedes-goes_first : (at : Moment) (a : ℕ) (other : Moment) (b : ℕ) → precedes (Some other) b (Some at) a ≡ false → GoesFirst at a other b
+-- an id that takes the moment that it has, or none where it has none, changes nothing
+pub set_same : (moments : List (Option Moment)) (id : ℕ) (read due : Option Moment) → id < length moments → read ≡ slice_index_or moments id read → read ≡ due
+    → moments ≡ set moments id due
+set_same moments id read due below read_is same = sym (ap (set moments id) (sym same ∙ get_or_read moments id read below read_is None) ∙ set-get_or moments id None)
+
+pub precedes-goes_first : (at : Moment) (a : ℕ) (other : Moment) (b : ℕ) → precedes (Some other) b (Some at) a ≡ false → GoesFirst at a other b
 precedes-goes_first at a other b not =
     record { by_moment = grind (arith, nat_tests, not); then_by_id = λ (same : at.0 ≡ other.0). grind (arith, nat_tests, not, same) }
 

@@ -1,6 +1,6 @@
-//! A heap of moments by id: each of a fixed number of ids may be due at a moment, and the first of them is at hand.
+//! Moments by id: each of a fixed number of ids may be due at a moment, and the first of them is at hand.
 //!
-//! It is a tree of winners: the leaves are the ids in turn, and at each other node stands the first of the ids under it.
+//! `DueSet` is for at most 64 ids. `DueHeap` is for more, and is a tree of winners: the leaves are the ids in turn, and at each other node stands the first of the ids under it.
 //! So the root has the first of all, and a change of one id is carried up one path, in steps by the logarithm of the room.
 //! A node holds no more than the id, whose moment stands in a list of its own: 18 bytes an id.
 #![tactic(auto)]
@@ -10,10 +10,13 @@ ghost use Rattle.due_heap.specs.Dues.{IsPowerOfTwo};
 ghost use Rattle.due_heap.specs.Winners.{IsTree, IsTreeBut};
 ghost use Rattle.due_heap.specs.Winners as tree;
 
+mod bits;
 mod order;
+mod set;
 
 use order::{due_of, has_come, sooner};
 use sched_base::{Moment, NoMemory};
+pub use set::DueSet;
 use std::alloc::Global;
 use std::marker::Model;
 

@@ -1,4 +1,4 @@
-use Rattle.std.proofs.Common.{◌+◌, ◌-◌, ◌≡◌, ◌≤◌, ◌∙◌, List, ap, arith, zero, sym}
+use Rattle.std.proofs.Common.{◌+◌, ◌-◌, ◌∙◌, List, ap, arith}
 use Rattle.std.specs.Prelude.{Option}
 use Rattle.sched_base.specs.declared.Moment.{Moment}
 use Rattle.core_state.specs.Seen.{without_works}

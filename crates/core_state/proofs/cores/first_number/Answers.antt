@@ -1,4 +1,4 @@
-use Rattle.std.proofs.Common.{◌<◌, ◌+◌, length, arith, sym, ◌∙◌}
+use Rattle.std.proofs.Common.{◌<◌, ◌+◌, length, arith, sym}
 use Rattle.std.specs.Prelude.{true}
 use Rattle.sched_model.specs.declared.state.Resource.{Resource}
 use Rattle.core_state.proofs.ChangeLemmas.{first_below}

@@ -1,9 +1,6 @@
 use Rattle.core_state.proofs.Leasts.{first_none, first_some}
 use Rattle.core_state.proofs.heaps.first_come.Goals as goal
 
-pub first_due-requires : goal.first_due-requires
-first_due-requires c = record { power = record { exponent = 6; is = c.requires } }
-
 pub returns-in-None : goal.returns-in-None
 returns-in-None c = first_none c.args.heap.now c.args.t.0 c.in-None.ensures.none
 

@@ -1,4 +1,4 @@
-use Rattle.core_state.proofs.Leasts.{least_none, least_some}
+use Rattle.core_state.proofs.Leasts.{least_none}
 use Rattle.core_state.proofs.heaps.least_of.Goals as goal
 
 pub returns-in-None : goal.returns-in-None

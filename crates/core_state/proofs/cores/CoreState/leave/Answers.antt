@@ -16,14 +16,14 @@ change_doing-requires c = some_siblings c.self.inside.granularity c.self.invaria
 pub rearm-requires : goal.rearm-requires
 rearm-requires c = record {
   granularity = c.self.invariant.cores.granularity;
-  places = worked_places c.self.inside.granularity c.args.p c.self.inside.home c.self.inside.first c.self.inside.cores c.as_slice.result.now c.self.inside.works c.args.work c.self.inside.heaps (λ (x : Resource). open_if_left (with_sibling (c.args.p % c.self.inside.granularity) (does c.args.doing) x)) (open_sibling_keeps (c.args.p % c.self.inside.granularity) (does c.args.doing)) c.self.invariant (c.as_slice.ensures ∙ (c.open_if_left.ensures ∙ ap (change_at (c.args.p / c.self.inside.granularity) open_if_left) c.change_doing.ensures ∙ change_twice (c.args.p / c.self.inside.granularity) open_if_left (with_sibling (c.args.p % c.self.inside.granularity) (does c.args.doing)) c.self.inside.cores));
-  others = worked_others c.self.inside.granularity c.args.p c.self.inside.home c.self.inside.first c.self.inside.cores c.as_slice.result.now c.self.inside.works c.as_slice-2.result.now c.args.work c.self.inside.heaps (λ (x : Resource). open_if_left (with_sibling (c.args.p % c.self.inside.granularity) (does c.args.doing) x)) (open_sibling_keeps (c.args.p % c.self.inside.granularity) (does c.args.doing)) c.self.invariant (c.as_slice.ensures ∙ (c.open_if_left.ensures ∙ ap (change_at (c.args.p / c.self.inside.granularity) open_if_left) c.change_doing.ensures ∙ change_twice (c.args.p / c.self.inside.granularity) open_if_left (with_sibling (c.args.p % c.self.inside.granularity) (does c.args.doing)) c.self.inside.cores)) (c.as_slice-2.ensures ∙ c.set_place.ensures);
+  places = worked_places c.self.inside.granularity c.args.p c.self.inside.home c.self.inside.first c.self.inside.cores c.open_if_left.new.cores c.self.inside.works c.args.work c.self.inside.heaps (λ (x : Resource). open_if_left (with_sibling (c.args.p % c.self.inside.granularity) (does c.args.doing) x)) (open_sibling_keeps (c.args.p % c.self.inside.granularity) (does c.args.doing)) c.self.invariant (c.open_if_left.ensures ∙ ap (change_at (c.args.p / c.self.inside.granularity) open_if_left) c.change_doing.ensures ∙ change_twice (c.args.p / c.self.inside.granularity) open_if_left (with_sibling (c.args.p % c.self.inside.granularity) (does c.args.doing)) c.self.inside.cores);
+  others = worked_others c.self.inside.granularity c.args.p c.self.inside.home c.self.inside.first c.self.inside.cores c.open_if_left.new.cores c.self.inside.works c.set_place.new.places c.args.work c.self.inside.heaps (λ (x : Resource). open_if_left (with_sibling (c.args.p % c.self.inside.granularity) (does c.args.doing) x)) (open_sibling_keeps (c.args.p % c.self.inside.granularity) (does c.args.doing)) c.self.invariant (c.open_if_left.ensures ∙ ap (change_at (c.args.p / c.self.inside.granularity) open_if_left) c.change_doing.ensures ∙ change_twice (c.args.p / c.self.inside.granularity) open_if_left (with_sibling (c.args.p % c.self.inside.granularity) (does c.args.doing)) c.self.inside.cores) c.set_place.ensures;
 }
 
 pub invariant_of-self : goal.invariant_of-self
 invariant_of-self c =
-    worked_kept c.self.inside.granularity c.args.p c.self.inside.home c.self.inside.first c.self.inside.cores c.open_if_left.new.cores c.as_slice.result.now c.self.inside.works c.set_place.new.places c.as_slice-2.result.now c.args.work c.self.inside.heaps c.rearm.new.heaps (λ (x : Resource). open_if_left (with_sibling (c.args.p % c.self.inside.granularity) (does c.args.doing) x)) (open_sibling_keeps (c.args.p % c.self.inside.granularity) (does c.args.doing))
-    c.self.invariant (c.open_if_left.ensures ∙ ap (change_at (c.args.p / c.self.inside.granularity) open_if_left) c.change_doing.ensures ∙ change_twice (c.args.p / c.self.inside.granularity) open_if_left (with_sibling (c.args.p % c.self.inside.granularity) (does c.args.doing)) c.self.inside.cores) c.set_place.ensures c.as_slice.ensures c.as_slice-2.ensures c.rearm.ensures
+    worked_kept c.self.inside.granularity c.args.p c.self.inside.home c.self.inside.first c.self.inside.cores c.open_if_left.new.cores c.self.inside.works c.set_place.new.places c.args.work c.self.inside.heaps c.rearm.new.heaps (λ (x : Resource). open_if_left (with_sibling (c.args.p % c.self.inside.granularity) (does c.args.doing) x)) (open_sibling_keeps (c.args.p % c.self.inside.granularity) (does c.args.doing))
+    c.self.invariant (c.open_if_left.ensures ∙ ap (change_at (c.args.p / c.self.inside.granularity) open_if_left) c.change_doing.ensures ∙ change_twice (c.args.p / c.self.inside.granularity) open_if_left (with_sibling (c.args.p % c.self.inside.granularity) (does c.args.doing)) c.self.inside.cores) c.set_place.ensures c.rearm.ensures
 
 pub returns : goal.returns
 returns c =

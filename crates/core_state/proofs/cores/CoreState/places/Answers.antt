@@ -1,4 +1,4 @@
-use Rattle.std.proofs.Common.{◌∙◌, ◌<◌, ◌*◌, ap, arith, length}
+use Rattle.std.proofs.Common.{◌∙◌, ap, arith, length}
 use Rattle.core_state.specs.Seen.{Seen}
 use Rattle.core_state.proofs.Arming.{few_places}
 use Rattle.core_state.proofs.cores.CoreState.places.Goals as goal

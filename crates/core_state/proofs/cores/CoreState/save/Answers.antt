@@ -8,14 +8,14 @@ use Rattle.core_state.proofs.cores.CoreState.save.Goals as goal
 pub rearm-requires : goal.rearm-requires
 rearm-requires c = record {
   granularity = c.self.invariant.cores.granularity;
-  places = core_places c.self.inside.granularity c.args.r c.self.inside.home c.self.inside.first c.self.inside.cores c.as_slice.result.now c.self.inside.works c.self.inside.heaps saved (λ x. refl) c.self.invariant (c.as_slice.ensures ∙ c.take_saved-unit.ensures.cores);
-  others = core_others c.self.inside.granularity c.args.r c.self.inside.home c.self.inside.first c.self.inside.cores c.as_slice.result.now c.self.inside.works c.as_slice-2.result.now c.self.inside.heaps saved (λ x. refl) c.self.invariant (c.as_slice.ensures ∙ c.take_saved-unit.ensures.cores) c.as_slice-2.ensures;
+  places = core_places c.self.inside.granularity c.args.r c.self.inside.home c.self.inside.first c.self.inside.cores c.take_saved-unit.new.cores c.self.inside.works c.self.inside.heaps saved (λ x. refl) c.self.invariant c.take_saved-unit.ensures.cores;
+  others = core_others c.self.inside.granularity c.args.r c.self.inside.home c.self.inside.first c.self.inside.cores c.take_saved-unit.new.cores c.self.inside.works c.self.inside.heaps saved (λ x. refl) c.self.invariant c.take_saved-unit.ensures.cores;
 }
 
 pub invariant_of-self : goal.invariant_of-self
 invariant_of-self c =
-    core_kept c.self.inside.granularity c.args.r c.self.inside.home c.self.inside.first c.self.inside.cores c.take_saved-unit.new.cores c.as_slice.result.now c.self.inside.works c.as_slice-2.result.now c.self.inside.heaps c.rearm.new.heaps saved (λ x. refl)
-    c.self.invariant c.take_saved-unit.ensures.cores c.as_slice.ensures c.as_slice-2.ensures c.rearm.ensures
+    core_kept c.self.inside.granularity c.args.r c.self.inside.home c.self.inside.first c.self.inside.cores c.take_saved-unit.new.cores c.self.inside.works c.self.inside.heaps c.rearm.new.heaps saved (λ x. refl)
+    c.self.invariant c.take_saved-unit.ensures.cores c.rearm.ensures
 
 pub returns-clause-after : goal.returns-clause-after
 returns-clause-after c = seen_is c.self.inside.granularity c.take_saved-unit.new.cores (change_at c.args.r saved c.self.inside.cores) c.self.inside.works c.self.inside.works c.take_saved-unit.ensures.cores refl ∙ ap (changed_core c.args.r saved) c.self.view_is

@@ -15,14 +15,14 @@ change_doing-requires c = some_siblings c.self.inside.granularity c.self.invaria
 pub rearm-requires : goal.rearm-requires
 rearm-requires c = record {
   granularity = c.self.invariant.cores.granularity;
-  places = worked_places c.self.inside.granularity c.args.p c.self.inside.home c.self.inside.first c.self.inside.cores c.as_slice.result.now c.self.inside.works c.args.work c.self.inside.heaps (with_sibling (c.args.p % c.self.inside.granularity) (does c.args.doing)) (sibling_keeps (c.args.p % c.self.inside.granularity) (does c.args.doing)) c.self.invariant (c.as_slice.ensures ∙ c.change_doing.ensures);
-  others = worked_others c.self.inside.granularity c.args.p c.self.inside.home c.self.inside.first c.self.inside.cores c.as_slice.result.now c.self.inside.works c.as_slice-2.result.now c.args.work c.self.inside.heaps (with_sibling (c.args.p % c.self.inside.granularity) (does c.args.doing)) (sibling_keeps (c.args.p % c.self.inside.granularity) (does c.args.doing)) c.self.invariant (c.as_slice.ensures ∙ c.change_doing.ensures) (c.as_slice-2.ensures ∙ c.set_place.ensures);
+  places = worked_places c.self.inside.granularity c.args.p c.self.inside.home c.self.inside.first c.self.inside.cores c.change_doing.new.cores c.self.inside.works c.args.work c.self.inside.heaps (with_sibling (c.args.p % c.self.inside.granularity) (does c.args.doing)) (sibling_keeps (c.args.p % c.self.inside.granularity) (does c.args.doing)) c.self.invariant c.change_doing.ensures;
+  others = worked_others c.self.inside.granularity c.args.p c.self.inside.home c.self.inside.first c.self.inside.cores c.change_doing.new.cores c.self.inside.works c.set_place.new.places c.args.work c.self.inside.heaps (with_sibling (c.args.p % c.self.inside.granularity) (does c.args.doing)) (sibling_keeps (c.args.p % c.self.inside.granularity) (does c.args.doing)) c.self.invariant c.change_doing.ensures c.set_place.ensures;
 }
 
 pub invariant_of-self : goal.invariant_of-self
 invariant_of-self c =
-    worked_kept c.self.inside.granularity c.args.p c.self.inside.home c.self.inside.first c.self.inside.cores c.change_doing.new.cores c.as_slice.result.now c.self.inside.works c.set_place.new.places c.as_slice-2.result.now c.args.work c.self.inside.heaps c.rearm.new.heaps (with_sibling (c.args.p % c.self.inside.granularity) (does c.args.doing)) (sibling_keeps (c.args.p % c.self.inside.granularity) (does c.args.doing))
-    c.self.invariant c.change_doing.ensures c.set_place.ensures c.as_slice.ensures c.as_slice-2.ensures c.rearm.ensures
+    worked_kept c.self.inside.granularity c.args.p c.self.inside.home c.self.inside.first c.self.inside.cores c.change_doing.new.cores c.self.inside.works c.set_place.new.places c.args.work c.self.inside.heaps c.rearm.new.heaps (with_sibling (c.args.p % c.self.inside.granularity) (does c.args.doing)) (sibling_keeps (c.args.p % c.self.inside.granularity) (does c.args.doing))
+    c.self.invariant c.change_doing.ensures c.set_place.ensures c.rearm.ensures
 
 pub returns : goal.returns
 returns c =

@@ -8,14 +8,14 @@ use Rattle.core_state.proofs.cores.CoreState.shorten_due.Goals as goal
 pub rearm-requires : goal.rearm-requires
 rearm-requires c = record {
   granularity = c.self.invariant.cores.granularity;
-  places = core_places c.self.inside.granularity c.args.r c.self.inside.home c.self.inside.first c.self.inside.cores c.as_slice.result.now c.self.inside.works c.self.inside.heaps (due_within c.args.t.0 c.args.budget) (λ x. refl) c.self.invariant (c.as_slice.ensures ∙ c.bring_due_at.ensures);
-  others = core_others c.self.inside.granularity c.args.r c.self.inside.home c.self.inside.first c.self.inside.cores c.as_slice.result.now c.self.inside.works c.as_slice-2.result.now c.self.inside.heaps (due_within c.args.t.0 c.args.budget) (λ x. refl) c.self.invariant (c.as_slice.ensures ∙ c.bring_due_at.ensures) c.as_slice-2.ensures;
+  places = core_places c.self.inside.granularity c.args.r c.self.inside.home c.self.inside.first c.self.inside.cores c.bring_due_at.new.cores c.self.inside.works c.self.inside.heaps (due_within c.args.t.0 c.args.budget) (λ x. refl) c.self.invariant c.bring_due_at.ensures;
+  others = core_others c.self.inside.granularity c.args.r c.self.inside.home c.self.inside.first c.self.inside.cores c.bring_due_at.new.cores c.self.inside.works c.self.inside.heaps (due_within c.args.t.0 c.args.budget) (λ x. refl) c.self.invariant c.bring_due_at.ensures;
 }
 
 pub invariant_of-self : goal.invariant_of-self
 invariant_of-self c =
-    core_kept c.self.inside.granularity c.args.r c.self.inside.home c.self.inside.first c.self.inside.cores c.bring_due_at.new.cores c.as_slice.result.now c.self.inside.works c.as_slice-2.result.now c.self.inside.heaps c.rearm.new.heaps (due_within c.args.t.0 c.args.budget) (λ x. refl)
-    c.self.invariant c.bring_due_at.ensures c.as_slice.ensures c.as_slice-2.ensures c.rearm.ensures
+    core_kept c.self.inside.granularity c.args.r c.self.inside.home c.self.inside.first c.self.inside.cores c.bring_due_at.new.cores c.self.inside.works c.self.inside.heaps c.rearm.new.heaps (due_within c.args.t.0 c.args.budget) (λ x. refl)
+    c.self.invariant c.bring_due_at.ensures c.rearm.ensures
 
 pub returns : goal.returns
 returns c = seen_is c.self.inside.granularity c.bring_due_at.new.cores (change_at c.args.r (due_within c.args.t.0 c.args.budget) c.self.inside.cores) c.self.inside.works c.self.inside.works c.bring_due_at.ensures refl ∙ ap (changed_core c.args.r (due_within c.args.t.0 c.args.budget)) c.self.view_is

@@ -19,14 +19,14 @@ set_stall_end-requires c = some_siblings c.self.inside.granularity c.self.invari
 pub rearm-requires : goal.rearm-requires
 rearm-requires c = record {
   granularity = c.self.invariant.cores.granularity;
-  places = core_places c.self.inside.granularity (c.args.p / c.self.inside.granularity) c.self.inside.home c.self.inside.first c.self.inside.cores c.as_slice-2.result.now c.self.inside.works c.self.inside.heaps (with_sibling (c.args.p % c.self.inside.granularity) (stalled_to c.later_end-end.result)) (sibling_keeps (c.args.p % c.self.inside.granularity) (stalled_to c.later_end-end.result)) c.self.invariant (c.as_slice-2.ensures ∙ c.set_stall_end.ensures);
-  others = core_others c.self.inside.granularity (c.args.p / c.self.inside.granularity) c.self.inside.home c.self.inside.first c.self.inside.cores c.as_slice-2.result.now c.self.inside.works c.as_slice-3.result.now c.self.inside.heaps (with_sibling (c.args.p % c.self.inside.granularity) (stalled_to c.later_end-end.result)) (sibling_keeps (c.args.p % c.self.inside.granularity) (stalled_to c.later_end-end.result)) c.self.invariant (c.as_slice-2.ensures ∙ c.set_stall_end.ensures) c.as_slice-3.ensures;
+  places = core_places c.self.inside.granularity (c.args.p / c.self.inside.granularity) c.self.inside.home c.self.inside.first c.self.inside.cores c.set_stall_end.new.cores c.self.inside.works c.self.inside.heaps (with_sibling (c.args.p % c.self.inside.granularity) (stalled_to c.later_end-end.result)) (sibling_keeps (c.args.p % c.self.inside.granularity) (stalled_to c.later_end-end.result)) c.self.invariant c.set_stall_end.ensures;
+  others = core_others c.self.inside.granularity (c.args.p / c.self.inside.granularity) c.self.inside.home c.self.inside.first c.self.inside.cores c.set_stall_end.new.cores c.self.inside.works c.self.inside.heaps (with_sibling (c.args.p % c.self.inside.granularity) (stalled_to c.later_end-end.result)) (sibling_keeps (c.args.p % c.self.inside.granularity) (stalled_to c.later_end-end.result)) c.self.invariant c.set_stall_end.ensures;
 }
 
 pub invariant_of-self : goal.invariant_of-self
 invariant_of-self c =
-    core_kept c.self.inside.granularity (c.args.p / c.self.inside.granularity) c.self.inside.home c.self.inside.first c.self.inside.cores c.set_stall_end.new.cores c.as_slice-2.result.now c.self.inside.works c.as_slice-3.result.now c.self.inside.heaps c.rearm.new.heaps (with_sibling (c.args.p % c.self.inside.granularity) (stalled_to c.later_end-end.result)) (sibling_keeps (c.args.p % c.self.inside.granularity) (stalled_to c.later_end-end.result))
-    c.self.invariant c.set_stall_end.ensures c.as_slice-2.ensures c.as_slice-3.ensures c.rearm.ensures
+    core_kept c.self.inside.granularity (c.args.p / c.self.inside.granularity) c.self.inside.home c.self.inside.first c.self.inside.cores c.set_stall_end.new.cores c.self.inside.works c.self.inside.heaps c.rearm.new.heaps (with_sibling (c.args.p % c.self.inside.granularity) (stalled_to c.later_end-end.result)) (sibling_keeps (c.args.p % c.self.inside.granularity) (stalled_to c.later_end-end.result))
+    c.self.invariant c.set_stall_end.ensures c.rearm.ensures
 
 pub returns-clause-end : goal.returns-clause-end
 returns-clause-end c =

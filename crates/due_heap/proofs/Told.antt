@@ -1,0 +1,279 @@
+-- What the words of a set of moments tell: a change of one id, a later moment told, and the walks over an id after another.
+use Rattle.std.proofs.Common.{◌≡◌, ◌≢◌, ℕ, ◌≤◌, ◌<◌, Option, Some, None, List, length, set, Bool, true, false, refl, sym, ◌∙◌, ap, subst, inl, inr, arith}
+use Rattle.std.specs.Prelude.{IfNone, IfSome, unwrap_or, ◌&&◌, ◌||◌, not, if◌then◌else◌}
+use Rattle.std.proofs.Math.Decide.{ℕ_discrete}
+use Rattle.std.proofs.lemmas.Bool.{cases_lt}
+use Rattle.std.proofs.lemmas.Bool.Decides.{nat_tests}
+use Rattle.std.proofs.lemmas.List.{get_or-set_same, get_or-set_other, get_or_past, length-set}
+use Rattle.sched_base.specs.declared.Moment.{Moment}
+use Rattle.due_heap.specs.declared.set.Words.{Words}
+use Rattle.due_heap.specs.Dues.{IsArmed, GoesFirst, HasCome, due_of}
+use Rattle.due_heap.specs.Winners.{precedes, is_past, has_come}
+use Rattle.due_heap.specs.Words.{AreWords, ChangesId, IsFirstAmong, IsFirstCome, IsLowest, TakesDue, first_with, has_id, is_later}
+use Rattle.due_heap.proofs.Tree.{armed_below, precedes-goes_first}
+use Rattle.due_heap.proofs.Descent.{is_come}
+
+-- ---- the order by moment, then by id
+
+goes_first-same : (at : Moment) (id : ℕ) → GoesFirst at id at id
+goes_first-same at id = record { by_moment = omega arith; then_by_id = λ e. omega arith }
+
+goes_first-trans : (a : Moment) (i : ℕ) (b : Moment) (j : ℕ) (c : Moment) (k : ℕ) → GoesFirst a i b j → GoesFirst b j c k → GoesFirst a i c k
+goes_first-trans a i b j c k p q =
+    let p_at = p.by_moment in
+    let q_at = q.by_moment in
+    record {
+      by_moment = omega (arith, p_at, q_at);
+      then_by_id = λ e.
+          let p_id = p.then_by_id (omega (arith, e, p_at, q_at)) in
+          let q_id = q.then_by_id (omega (arith, e, p_at, q_at)) in
+          omega (arith, p_id, q_id);
+    }
+
+before-goes_first : (a : Moment) (i : ℕ) (b : Moment) (j : ℕ) → precedes (Some a) i (Some b) j ≡ true → GoesFirst a i b j
+before-goes_first a i b j before = record { by_moment = grind (arith, nat_tests, before); then_by_id = λ e. grind (arith, nat_tests, before, e) }
+
+-- an id has one moment
+one_moment : (moments : List (Option Moment)) (id : ℕ) (a b : Moment) → IsArmed moments id a → IsArmed moments id b → a ≡ b
+one_moment moments id a b p q = let e : Some a ≡ Some b = sym p ∙ q in cc
+
+-- ---- the first of a set's armed ids
+
+-- fewer ids, with the same first, and the first of no ids
+pub among_fewer : (moments : List (Option Moment)) (more fewer : ℕ → Bool) (first : Option (Moment × ℕ))
+    → ((id : ℕ) (at : Moment) → IsArmed moments id at → fewer id ≡ true → more id ≡ true) → IsFirstAmong moments more first → IsFirstAmong moments fewer first
+among_fewer moments more fewer None within is = λ id at has armed. is id at (within id at armed has) armed
+among_fewer moments more fewer (Some due) within is = (is.0, λ id at has armed. is.1 id at (within id at armed has) armed)
+
+module _ (moments : List (Option Moment)) (fewer more : ℕ → Bool) (id : ℕ)
+    (within : (other : ℕ) (m : Moment) → IsArmed moments other m → more other ≡ true → other ≢ id → fewer other ≡ true) where
+  -- an armed id goes before whatever moment it has
+  same_id : (at m : Moment) (w : Moment) (i : ℕ) (other : ℕ) → other ≡ id → IsArmed moments id at → IsArmed moments other m → GoesFirst w i at id → GoesFirst w i m other
+  same_id at m w i other e armed be here =
+      let there : IsArmed moments id m = subst (λ (k : ℕ). IsArmed moments k m) e be in
+      subst (λ (k : ℕ). GoesFirst w i m k) (sym e) (subst (λ (x : Moment). GoesFirst w i x id) (one_moment moments id at m armed there) here)
+
+  not_armed : (m : Moment) (other : ℕ) → other ≡ id → due_of moments id ≡ None → IsArmed moments other m → ⊥
+  not_armed m other e none be = let there : IsArmed moments id m = subst (λ (k : ℕ). IsArmed moments k m) e be in absurd (cc)
+
+  -- one id more, with its moment, if it is armed
+  pub among_more : (first : Option (Moment × ℕ)) (due : Option Moment) → due_of moments id ≡ due
+      → IsFirstAmong moments fewer first → IsFirstAmong moments more (first_with first due id)
+  among_more None None armed is = λ other m has be.
+      elim (ℕ_discrete other id) [ yes e ↦ not_armed m other e armed be | no ne ↦ is other m (within other m be has ne) be ]
+  among_more (Some due) None armed is = (
+    is.0,
+    λ other m has be.
+        elim (ℕ_discrete other id) [ yes e ↦ absurd (not_armed m other e armed be) | no ne ↦ is.1 other m (within other m be has ne) be ],
+  )
+  among_more None (Some at) armed is = (
+    armed,
+    λ other m has be.
+        elim (ℕ_discrete other id) [
+          | yes e ↦ same_id at m at id other e armed be (goes_first-same at id)
+          | no ne ↦ absurd (is other m (within other m be has ne) be)
+        ],
+  )
+  among_more (Some due) (Some at) armed is = by (precedes (Some at) id (Some due.0) due.1) refl
+    where
+      first_of_two : (w : Moment) (i : ℕ) → GoesFirst w i at id → GoesFirst w i due.0 due.1 → (other : ℕ) (m : Moment) → more other ≡ true → IsArmed moments other m → GoesFirst w i m other
+      first_of_two w i here rest other m has be =
+          elim (ℕ_discrete other id) [
+            | yes e ↦ same_id at m w i other e armed be here
+            | no ne ↦ goes_first-trans w i due.0 due.1 m other rest (is.1 other m (within other m be has ne) be)
+          ]
+
+      by : (b : Bool) → precedes (Some at) id (Some due.0) due.1 ≡ b → IsFirstAmong moments more (if b then Some (at, id) else Some due)
+      by true before = (armed, first_of_two at id (goes_first-same at id) (before-goes_first at id due.0 due.1 before))
+      by false after = (is.0, first_of_two due.0 due.1 (precedes-goes_first due.0 due.1 at id after) (goes_first-same due.0 due.1))
+
+-- an id that is no longer to be looked at was so before, but for the one looked at now
+pub looked_before : (moments : List (Option Moment)) (among id rest rest_new : ℕ) → length moments ≤ 64 → ChangesId id false rest rest_new
+    → (other : ℕ) (m : Moment) → IsArmed moments other m → (has_id among other && not (has_id rest_new other)) ≡ true → other ≢ id
+    → (has_id among other && not (has_id rest other)) ≡ true
+looked_before moments among id rest rest_new few change other m armed has ne =
+    let lt = armed_below moments other m armed in
+    ap (λ (b : Bool). has_id among other && not b) (sym (change.others other (omega (arith, lt, few)) ne)) ∙ has
+
+-- where none is left to be looked at, each was
+pub all_looked_at : (among rest : ℕ) → ((id : ℕ) → has_id rest id ≡ false) → (id : ℕ) → has_id among id ≡ true → (has_id among id && not (has_id rest id)) ≡ true
+all_looked_at among rest none id has = ap (λ (b : Bool). has_id among id && not b) (none id) ∙ ap (λ (b : Bool). b && true) has
+
+-- ---- the walk that finds which later ids come
+
+-- the set has what has come at t of those that are no longer to be looked at
+pub record AreComeBut (moments : List (Option Moment)) (t among rest come : ℕ) : Type 0 where
+  pub left : (id : ℕ) → id < 64 → has_id rest id ≡ true → has_id among id ≡ true
+  pub come_is : (id : ℕ) → id < 64 → has_id come id ≡ (not (has_id rest id) && (has_id among id && has_come moments t id))
+
+now_looked : (rest among come : Bool) → rest ≡ false → among ≡ true → come ≡ (not rest && (among && come))
+now_looked true among come p q = let wrong : true ≡ false = p in absurd (cc)
+now_looked false false come p q = let wrong : false ≡ true = q in absurd (cc)
+now_looked false true come p q = refl
+
+pub come_more : (moments : List (Option Moment)) (t among id rest rest_new come come_new : ℕ) → IsLowest rest id
+    → ChangesId id false rest rest_new → ChangesId id (has_come moments t id) come come_new
+    → AreComeBut moments t among rest come → AreComeBut moments t among rest_new come_new
+come_more moments t among id rest rest_new come come_new low without put are = record {
+  left = λ other few has. elim (ℕ_discrete other id) [
+    | yes e ↦ subst (λ (k : ℕ). has_id among k ≡ true) (sym e) (are.left id low.few low.has)
+    | no ne ↦ are.left other few (sym (without.others other few ne) ∙ has)
+  ];
+  come_is = λ other few. elim (ℕ_discrete other id) [
+    | yes e ↦ subst (λ (k : ℕ). has_id come_new k ≡ (not (has_id rest_new k) && (has_id among k && has_come moments t k))) (sym e)
+        (put.here ∙ now_looked (has_id rest_new id) (has_id among id) (has_come moments t id) without.here (are.left id low.few low.has))
+    | no ne ↦ put.others other few ne ∙ are.come_is other few ∙ ap (λ (b : Bool). not b && (has_id among other && has_come moments t other)) (sym (without.others other few ne))
+  ];
+}
+
+-- ---- one id takes its moment, or none
+
+pub taken : (moments : List (Option Moment)) (id : ℕ) (due : Option Moment) (old new : Words) → id < length moments → TakesDue id due old new
+    → AreWords moments old → AreWords (set moments id due) new
+taken moments id due old new below takes are = record {
+  few = let len = length-set moments id due in let few = are.few in omega (arith, len, few);
+  come = λ other few. word other few old.come new.come (is_past old.told.0) (is_past new.told.0) (ap (λ (t : Moment). is_past t.0) (sym takes.told)) takes.come (are.come other few);
+  later = λ other few. word other few old.later new.later (is_later old.told.0) (is_later new.told.0) (ap (λ (t : Moment). is_later t.0) (sym takes.told)) takes.later (are.later other few);
+  soon = λ other at armed after.
+      let late : old.told.0 < at.0 = subst (λ (t : Moment). t.0 < at.0) takes.told after in
+      elim (ℕ_discrete other id) [
+        | yes e ↦
+            let here : due ≡ Some at = sym (get_or-set_same moments id due None below) ∙ subst (λ (k : ℕ). IsArmed (set moments id due) k at) e armed in
+            subst (λ (k : ℕ). GoesFirst new.soon new.next at k) (sym e) (takes.soon at here late)
+        | no ne ↦
+            let was : IsArmed moments other at = sym (get_or-set_other moments id other due None ne) ∙ armed in
+            takes.others at other (are.soon other at was late)
+      ];
+}
+  where
+    word : (other : ℕ) → other < 64 → (w v : ℕ) (old_test new_test : Option Moment → Bool) → old_test ≡ new_test → ChangesId id (old_test due) w v
+        → has_id w other ≡ old_test (due_of moments other) → has_id v other ≡ new_test (due_of (set moments id due) other)
+    word other few w v old_test new_test tests change was =
+        elim (ℕ_discrete other id) [
+          | yes e ↦ subst (λ (k : ℕ). has_id v k ≡ new_test (due_of (set moments id due) k)) (sym e)
+              (change.here ∙ ap old_test (sym (get_or-set_same moments id due None below)) ∙ ap (λ (f : Option Moment → Bool). f (due_of (set moments id due) id)) tests)
+          | no ne ↦ change.others other few ne ∙ was ∙ ap old_test (sym (get_or-set_other moments id other due None ne)) ∙ ap (λ (f : Option Moment → Bool). f (due_of (set moments id due) other)) tests
+        ]
+
+-- ---- a later moment told
+
+past_is : (t : ℕ) (at : Moment) → at.0 ≤ t → is_past t (Some at) ≡ true
+past_is t at low = grind (arith, nat_tests, low)
+
+not_past_is : (t : ℕ) (at : Moment) → t < at.0 → is_past t (Some at) ≡ false
+not_past_is t at high = grind (arith, nat_tests, high)
+
+after_of : (t : ℕ) (at : Moment) → is_past t (Some at) ≡ false → t < at.0
+after_of t at e = grind (arith, nat_tests, e)
+
+past_same : (told t : ℕ) (due : Option Moment) → told ≤ t → ((at : Moment) → due ≡ Some at → told < at.0 → t < at.0) → is_past t due ≡ is_past told due
+past_same told t None le none = refl
+past_same told t (Some at) le none =
+    elim (cases_lt told at.0) [
+      | inl lt ↦ not_past_is t at (none at refl lt) ∙ sym (not_past_is told at lt)
+      | inr ge ↦ past_is t at (omega (arith, ge, le)) ∙ sym (past_is told at ge)
+    ]
+
+-- where no id comes up to t, what has come at t had come at the moment told
+pub past_till : (moments : List (Option Moment)) (words : Words) (t : ℕ) → AreWords moments words → words.told.0 ≤ t → (words.told.0 < t → t < words.soon.0)
+    → (id : ℕ) → has_come moments t id ≡ has_come moments words.told.0 id
+past_till moments words t are le till id =
+    past_same words.told.0 t (due_of moments id) le (λ at armed after.
+    let first = (are.soon id at armed after).by_moment in
+    elim (cases_lt words.told.0 t) [
+      | inl lt ↦ let before = till lt in omega (arith, first, before)
+      | inr ge ↦ omega (arith, ge, after)
+    ])
+
+or_more : (p q : Bool) → (p ≡ true → q ≡ true) → (p || (not p && q)) ≡ q
+or_more true q still_is = sym (still_is refl)
+or_more false q still_is = refl
+
+and_less : (p q : Bool) → (p ≡ true → q ≡ true) → (not p && not (not p && q)) ≡ not q
+and_less true q still_is = let e : q ≡ true = still_is refl in ap not (sym e)
+and_less false q still_is = refl
+
+come_of : (t : ℕ) (at : Moment) → is_past t (Some at) ≡ true → at.0 ≤ t
+come_of t at e = grind (arith, nat_tests, e)
+
+still : (told t : ℕ) (at : Moment) → told ≤ t → is_past told (Some at) ≡ true → is_past t (Some at) ≡ true
+still told t at le past = let low = come_of told at past in past_is t at (omega (arith, low, le))
+
+past_more : (told t : ℕ) (due : Option Moment) → told ≤ t → (is_past told due || (is_later told due && is_past t due)) ≡ is_past t due
+past_more told t None le = refl
+past_more told t (Some at) le = or_more (is_past told (Some at)) (is_past t (Some at)) (still told t at le)
+
+later_less : (told t : ℕ) (due : Option Moment) → told ≤ t → (is_later told due && not (is_later told due && is_past t due)) ≡ is_later t due
+later_less told t None le = refl
+later_less told t (Some at) le = and_less (is_past told (Some at)) (is_past t (Some at)) (still told t at le)
+
+later_is : (moments : List (Option Moment)) (t id : ℕ) (at : Moment) → IsArmed moments id at → t < at.0 → is_later t (due_of moments id) ≡ true
+later_is moments t id at armed after = ap (is_later t) armed ∙ ap not (not_past_is t at after)
+
+-- a moment told at which ids may come: those of the later ones that come, those that do not, and the first of these
+pub told_looked : (moments : List (Option Moment)) (words : Words) (t : Moment) (come both later : ℕ) (first : Option (Moment × ℕ)) (bound : Moment × ℕ)
+    → AreWords moments words → words.told.0 ≤ t.0
+    → ((id : ℕ) → id < 64 → has_id come id ≡ (has_id words.later id && has_come moments t.0 id))
+    → ((id : ℕ) → has_id both id ≡ (has_id words.come id || has_id come id))
+    → ((id : ℕ) → id < 64 → has_id later id ≡ (has_id words.later id && not (has_id come id)))
+    → IsFirstAmong moments (has_id later) first → bound ≡ unwrap_or first (words.soon, words.next)
+    → AreWords moments (record { told = t; come = both; later = later; soon = bound.0; next = bound.1 })
+told_looked moments words t come both later first bound are le come_is both_is later_is_of is_first bound_is = record {
+  few = are.few;
+  come = λ id few. both_is id ∙ ap (λ (b : Bool). has_id words.come id || b) (came id few) ∙ ap (λ (b : Bool). b || (is_later words.told.0 (due_of moments id) && has_come moments t.0 id)) (are.come id few)
+      ∙ past_more words.told.0 t.0 (due_of moments id) le;
+  later = is_left;
+  soon = λ id at armed after.
+      let few : id < 64 = (let lt = armed_below moments id at armed in let few = are.few in omega (arith, lt, few)) in
+      by first bound_is is_first id at (is_left id few ∙ later_is moments t.0 id at armed after) armed;
+}
+  where
+    came : (id : ℕ) → id < 64 → has_id come id ≡ (is_later words.told.0 (due_of moments id) && has_come moments t.0 id)
+    came id few = come_is id few ∙ ap (λ (b : Bool). b && has_come moments t.0 id) (are.later id few)
+
+    is_left : (id : ℕ) → id < 64 → has_id later id ≡ is_later t.0 (due_of moments id)
+    is_left id few = later_is_of id few ∙ ap (λ (b : Bool). has_id words.later id && not b) (came id few)
+        ∙ ap (λ (b : Bool). b && not (is_later words.told.0 (due_of moments id) && has_come moments t.0 id)) (are.later id few) ∙ later_less words.told.0 t.0 (due_of moments id) le
+
+    by : (f : Option (Moment × ℕ)) → bound ≡ unwrap_or f (words.soon, words.next) → IsFirstAmong moments (has_id later) f
+        → (id : ℕ) (at : Moment) → has_id later id ≡ true → IsArmed moments id at → GoesFirst bound.0 bound.1 at id
+    by None e is id at has armed = absurd (is id at has armed)
+    by (Some due) e is id at has armed = subst (λ (b : Moment × ℕ). GoesFirst b.0 b.1 at id) (sym e) (is.1 id at has armed)
+
+-- ---- the least id that has come, and the first armed id
+
+pub lowest_come : (moments : List (Option Moment)) (words : Words) (t : ℕ) (first : Option ℕ) → AreWords moments words
+    → ((id : ℕ) → has_come moments t id ≡ has_come moments words.told.0 id)
+    → IfNone first ((id : ℕ) → has_id words.come id ≡ false) → IfSome first (IsLowest words.come) → IsFirstCome moments t first
+lowest_come moments words t None are same none low = λ id.
+    elim (cases_lt id 64) [
+      | inl few ↦ same id ∙ sym (are.come id few) ∙ none id
+      | inr past ↦ let few = are.few in ap (is_past t) (get_or_past moments id None (omega (arith, past, few)))
+    ]
+lowest_come moments words t (Some first) are same none low = (
+  same first ∙ sym (are.come first low.few) ∙ low.has,
+  λ id h.
+      let first_few = low.few in same id ∙ sym (are.come id (omega (arith, h, first_few))) ∙ low.below id h,
+)
+
+not_yet : (t : ℕ) (moments : List (Option Moment)) (id : ℕ) (at : Moment) → has_come moments t id ≡ false → IsArmed moments id at → t < at.0
+not_yet t moments id at not armed = after_of t at (ap (is_past t) (sym armed) ∙ not)
+
+pub come_some : (moments : List (Option Moment)) (t : ℕ) (first : Option ℕ) → IsFirstCome moments t first → IfSome first (λ id. HasCome moments t id)
+come_some moments t None is = tt
+come_some moments t (Some first) is = is_come t moments first is.0
+
+either : (p : Bool) → (p || not p) ≡ true
+either true = refl
+either false = refl
+
+-- an armed id is one of those that have come or are later
+pub all_told : (moments : List (Option Moment)) (words : Words) (both : ℕ) (first : Option (Moment × ℕ)) → AreWords moments words
+    → ((id : ℕ) → has_id both id ≡ (has_id words.come id || has_id words.later id)) → IsFirstAmong moments (has_id both) first → IsFirstAmong moments (λ (_ : ℕ). true) first
+all_told moments words both first are both_is is =
+    among_fewer moments (has_id both) (λ (_ : ℕ). true) first (λ id at armed _.
+    let lt = armed_below moments id at armed in
+    let few = are.few in
+    let in_words : id < 64 = omega (arith, lt, few) in
+    both_is id ∙ ap (λ (b : Bool). b || has_id words.later id) (are.come id in_words) ∙ ap (λ (b : Bool). has_come moments words.told.0 id || b) (are.later id in_words)
+    ∙ ap (λ (due : Option Moment). is_past words.told.0 due || is_later words.told.0 due) armed ∙ either (is_past words.told.0 (Some at))) is

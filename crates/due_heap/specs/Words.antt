@@ -1,0 +1,57 @@
+-- Sets of ids below 64 as words, with a bit an id, and what the words of a set of moments tell.
+use Rattle.std.specs.Prelude.{ℕ, ◌≤◌, ◌<◌, ◌==◌, ◌≡◌, ◌≢◌, ◌&&◌, not, is_some, Bool, true, false, Option, Some, None, List, length, if◌then◌else◌}
+use Rattle.std.specs.Int.{bit_at}
+use Rattle.sched_base.specs.declared.Moment.{Moment}
+use Rattle.due_heap.specs.declared.set.Words.{Words}
+use Rattle.due_heap.specs.Dues.{due_of, IsArmed, GoesFirst}
+use Rattle.due_heap.specs.Winners.{has_come, is_past, precedes}
+
+-- whether the set has the id
+abbrev pub has_id : ℕ → ℕ → Bool
+has_id set id = bit_at set id == 1
+
+-- the new set has the id as wanted, and every other id as the old one
+pub record ChangesId (id : ℕ) (wanted : Bool) (old new : ℕ) : Type 0 where
+  pub here : has_id new id ≡ wanted
+  pub others : (other : ℕ) → other < 64 → other ≢ id → has_id new other ≡ has_id old other
+
+-- the id is the lowest of the set
+pub record IsLowest (set id : ℕ) : Type 0 where
+  pub few : id < 64
+  pub has : has_id set id ≡ true
+  pub below : (other : ℕ) → other < id → has_id set other ≡ false
+
+-- whether there is a moment and it is after t
+abbrev pub is_later : ℕ → Option Moment → Bool
+is_later t due = is_some due && not (is_past t due)
+
+-- what the words tell is so of the ids that have these moments
+pub record AreWords (moments : List (Option Moment)) (words : Words) : Type 0 where
+  pub few : length moments ≤ 64
+  pub come : (id : ℕ) → id < 64 → has_id words.come id ≡ is_past words.told.0 (due_of moments id)
+  pub later : (id : ℕ) → id < 64 → has_id words.later id ≡ is_later words.told.0 (due_of moments id)
+  pub soon : (id : ℕ) (at : Moment) → IsArmed moments id at → words.told.0 < at.0 → GoesFirst words.soon words.next at id
+
+-- the words after an id got its moment, or none: a later id still does not go before the bound
+pub record TakesDue (id : ℕ) (due : Option Moment) (old new : Words) : Type 0 where
+  pub told : new.told ≡ old.told
+  pub come : ChangesId id (is_past old.told.0 due) old.come new.come
+  pub later : ChangesId id (is_later old.told.0 due) old.later new.later
+  pub soon : (at : Moment) → due ≡ Some at → old.told.0 < at.0 → GoesFirst new.soon new.next at id
+  pub others : (at : Moment) (other : ℕ) → GoesFirst old.soon old.next at other → GoesFirst new.soon new.next at other
+
+-- of the first so far and an id with its moment, if it is armed, the one that goes first
+abbrev pub first_with : Option (Moment × ℕ) → Option Moment → ℕ → Option (Moment × ℕ)
+first_with first None id = first
+first_with None (Some at) id = Some (at, id)
+first_with (Some due) (Some at) id = (if precedes (Some at) id (Some due.0) due.1 then Some (at, id) else Some due)
+
+-- the first of the armed ids that pass a test, by moment, then by id; none where there is none
+abbrev pub IsFirstAmong : List (Option Moment) → (ℕ → Bool) → Option (Moment × ℕ) → Type 0
+IsFirstAmong moments among None = (id : ℕ) (at : Moment) → among id ≡ true → IsArmed moments id at → ⊥
+IsFirstAmong moments among (Some due) = IsArmed moments due.1 due.0 × ((id : ℕ) (at : Moment) → among id ≡ true → IsArmed moments id at → GoesFirst due.0 due.1 at id)
+
+-- the least id whose moment has come at t; none where none has
+abbrev pub IsFirstCome : List (Option Moment) → ℕ → Option ℕ → Type 0
+IsFirstCome moments t None = (id : ℕ) → has_come moments t id ≡ false
+IsFirstCome moments t (Some id) = (has_come moments t id ≡ true) × ((other : ℕ) → other < id → has_come moments t other ≡ false)
