@@ -55,7 +55,7 @@ burn_keeps most t d y none = by_option (λ (z : Credit2Unit). z.credit ≡ y.cre
 abbrev KeepsStill : (Credit2Domain → Credit2Domain) → Type 0
 KeepsStill f = (x : Credit2Domain) (n : ℕ) → IsStill x.units n → credit_at (f x) n ≡ credit_at x n
 
-set_other : {X : Type 0} (i j : ℕ) (o : Option X) (places : List (Option X)) → j ≢ i → at_place (slice_set places i o) j ≡ at_place places j
+pub set_other : {X : Type 0} (i j : ℕ) (o : Option X) (places : List (Option X)) → j ≢ i → at_place (slice_set places i o) j ≡ at_place places j
 set_other i j o [] other = refl
 set_other zero zero o (p ∷ places) other = absurd (other refl)
 set_other zero (suc j) o (p ∷ places) other = refl

@@ -1,11 +1,11 @@
 -- All that always holds, after each call but the decision.
-use Rattle.std.proofs.Common.{◌≡◌, ◌≢◌, ◌≤◌, ◌<◌, ◌+◌, ◌-◌, ℕ, zero, suc, Bool, true, false, List, [], ◌∷◌, length, refl, ap, subst, sym, ◌∙◌, arith, inl, inr}
-use Rattle.std.specs.Prelude.{Option, Some, None, option_map, is_some, slice_get, slice_set, slice_index_or, replicate, nat_lt, ℤ, pos, neg_ℤ, ◌==◌}
+use Rattle.std.proofs.Common.{◌≡◌, ◌≢◌, ◌≤◌, ◌<◌, ◌+◌, ◌-◌, ◌^◌, ℕ, zero, suc, Bool, true, false, List, [], ◌∷◌, length, refl, ap, subst, sym, ◌∙◌, arith, inl, inr}
+use Rattle.std.specs.Prelude.{Option, Some, None, option_map, is_some, slice_get, slice_set, slice_index_or, replicate, nat_lt, ℤ, pos, neg_ℤ, ◌==◌, ◌&&◌}
 use Rattle.std.specs.List.{AllByRecursion, list_any}
 use Rattle.std.specs.Option.{ForSome}
 use Rattle.std.proofs.Math.Decide.{ℕ_discrete}
-use Rattle.std.proofs.lemmas.List.{length-replicate, length-map}
-use Rattle.sched_base.specs.Numbers.{core_set}
+use Rattle.std.proofs.lemmas.List.{get_or-replicate, length-replicate, length-map}
+use Rattle.sched_base.specs.Numbers.{core_set, domain}
 use Rattle.unit_places.specs.Masks.{mask_of}
 use Rattle.sched_base.specs.declared.Cores.{Cores}
 use Rattle.sched_base.specs.declared.Moment.{Moment}
@@ -23,7 +23,7 @@ use Rattle.sched_model.specs.Policy.{next_refill, pinned}
 use Rattle.sched_model.specs.Credit2.{max_weight, credit_of, refill_domain, refilled, set_weight, set_cap, set_domain, change_domain, fresh_domain}
 use Rattle.sched_laws.proofs.Bools.{clash, not_true, is_same, either}
 use Rattle.sched_laws.proofs.Choices.{at_unit}
-use Rattle.sched_laws.proofs.EachPlace.{at_place-put_at_other, at_place-clear_at_other, at_place-clear_at, EachAt-put_at, EachAt-clear_at, EachPlace-empty, by_option}
+use Rattle.sched_laws.proofs.EachPlace.{at_place-put_at, at_place-put_at_other, at_place-clear_at_other, at_place-clear_at, EachAt-put_at, EachAt-clear_at, EachPlace-empty, by_option}
 use Rattle.sched_laws.proofs.Lists.{length_change_item}
 use Rattle.sched_ranges.specs.Budgets.{BudgetFits, Nobody}
 use Rattle.sched_ranges.specs.Fits.{Credit2DomainFits}
@@ -33,6 +33,8 @@ use Rattle.sched_ops.specs.Conditions.{is_on, is_vacant, IsAway, HasNoneBusy, Ke
 use Rattle.sched_ops.specs.Seen.{Seen, with_scheduler, restarted}
 use Rattle.sched_model.specs.declared.config.PoolParams.TheVariants as pool_params
 use Rattle.plain_credit2.specs.Waiting.{scheduler_of}
+use Rattle.plain_credit2.proofs.Items.{at_place-change_at}
+use Rattle.arrival_queue.proofs.Ranks.{less_test}
 use Rattle.arrival_queue.specs.Queues.{Queued}
 use Rattle.runq.specs.Queue.{inserted, empty}
 use Rattle.queue_laws.specs.Arrivals.{arrivals}
@@ -40,7 +42,7 @@ use Rattle.credit2_core.specs.declared.held.Held.{Held}
 use Rattle.credit2_core.specs.Keys.{key_in}
 use Rattle.credit2_core.specs.Places.{set_counts, unit_counts, count_all, count_at, has_joined, refill_of, refills_of}
 use Rattle.credit2_core.specs.Domains.{masked, refreshed}
-use Rattle.credit2_core.specs.Held.{InRange, IsHeld, IsLineOf, AreMasks, scheduler_in, seen_in}
+use Rattle.credit2_core.specs.Held.{InRange, IsFree, IsHeld, IsLineOf, AreMasks, scheduler_in, seen_in}
 use Rattle.credit2_core.proofs.Lists.{each_has, queued_have, length-arrivals, length-placed}
 use Rattle.credit2_core.proofs.Waiting.{IsOrdered}
 use Rattle.credit2_core.proofs.Rooms.{less_true, no_more_wait, count_all-put, count_all-clear}
@@ -91,6 +93,7 @@ held_pushed h u held away ordered =
         counts = held.counts;
         line = line;
         masks = held.masks;
+        free = held.free;
         refills = held.refills;
         room = omega (arith, room, grown, spare);
         small = held.small;
@@ -106,6 +109,7 @@ held_refilled h d t held past come = record {
   counts = held.counts ∙ sym (counts_refilled t d h.records);
   line = line_refilled h.affinity t d h.records h.queue.units held.line;
   masks = held.masks;
+  free = held.free;
   refills = ap (λ (rs : List (Option Moment)). slice_set rs d (refill_of (at_place (refilled t d h.records).domains d))) held.refills ∙ refills_written d (refill_domain (max_weight h.records) t) h.records.domains;
   room = held.room;
   small = held.small;
@@ -122,6 +126,7 @@ held_set_domain h d t weight percent held past weighs caps =
       counts = held.counts ∙ sym (counts_set_domain t d weight percent h.records);
       line = line_records h.affinity h.records (set_domain t d weight percent h.records) h.queue.units (idle_set_domain t d weight percent h.records) (r_set_domain t (IsElsewhere (arrivals h.queue.units)) d weight percent h.records held.line.off) held.line;
       masks = held.masks;
+      free = held.free;
       refills = ap (λ (rs : List (Option Moment)). slice_set rs d (refill_of (at_place last d))) (held.refills ∙ sym (refills_changed d (set_weight weight) h.records (weight_refill weight))) ∙ refills_written d (set_cap (max_weight weighted) t percent) weighted.domains;
       room = held.room;
       small = held.small;
@@ -138,6 +143,7 @@ held_limit h limit t last held past low = record {
   counts = held.counts;
   line = record { apart = held.line.apart; joined = held.line.joined; indices = held.line.indices; keys = held.line.keys; off = held.line.off };
   masks = held.masks;
+  free = held.free;
   refills = held.refills;
   room = held.room;
   small = held.small;
@@ -205,8 +211,57 @@ change_at_other zero (suc j) f (p ∷ places) other = refl
 change_at_other (suc i) zero f (p ∷ places) other = refl
 change_at_other (suc i) (suc j) f (p ∷ places) other = change_at_other i j f places (λ e. other (ap suc e))
 
+-- the sets of cores of one domain change, of which each unit may have all cores then
+free_elsewhere : (unpinned : Bool) (affinity next : List (Option (List Cores))) (d : ℕ) → ((e : ℕ) → e ≢ d → at_place next e ≡ at_place affinity e)
+    → ((n : ℕ) → nat_lt n (count_at next d) ≡ true → elim (at_place next d) as (λ _. ℕ) [ None ↦ 0 | Some s ↦ (slice_index_or s n (core_set 0)).0 ] ≡ 2 ^ 64 - 1) → IsFree unpinned affinity → IsFree unpinned next
+free_elsewhere unpinned affinity next d same all free = record {
+  all = λ is u joined. elim (ℕ_discrete u.dom.0 d) [
+    | yes here ↦ (
+        let there : at_place next u.dom.0 ≡ at_place next d = ap (at_place next) here in
+        ap (λ (o : Option (List Cores)). elim o as (λ _. ℕ) [ None ↦ 0 | Some s ↦ (slice_index_or s u.n (core_set 0)).0 ]) there
+        ∙ all u.n (subst (λ (o : Option (List Cores)). nat_lt u.n (elim o as (λ _. ℕ) [ None ↦ 0 | Some s ↦ length s ]) ≡ true) there joined))
+    | no other ↦ (
+        let place : at_place next u.dom.0 ≡ at_place affinity u.dom.0 = same u.dom.0 other in
+        ap (λ (o : Option (List Cores)). elim o as (λ _. ℕ) [ None ↦ 0 | Some s ↦ (slice_index_or s u.n (core_set 0)).0 ]) place
+        ∙ free.all is u (subst (λ (o : Option (List Cores)). nat_lt u.n (elim o as (λ _. ℕ) [ None ↦ 0 | Some s ↦ length s ]) ≡ true) place joined))
+  ];
+}
+
+-- a set of all cores in place of some
+pinned_all : (unit : Option ℕ) (cores : Cores) (sets : List Cores) (n : ℕ) → cores.0 ≡ 2 ^ 64 - 1 → n < length sets → (slice_index_or sets n (core_set 0)).0 ≡ 2 ^ 64 - 1 → (slice_index_or (pinned unit cores sets) n (core_set 0)).0 ≡ 2 ^ 64 - 1
+pinned_all None cores [] n all low was = absurd (omega (arith, low))
+pinned_all None cores (s ∷ sets) zero all low was = all
+pinned_all None cores (s ∷ sets) (suc n) all low was = pinned_all None cores sets n all (omega (arith, low)) was
+pinned_all (Some k) cores [] n all low was = absurd (omega (arith, low))
+pinned_all (Some zero) cores (s ∷ sets) zero all low was = all
+pinned_all (Some zero) cores (s ∷ sets) (suc n) all low was = was
+pinned_all (Some (suc k)) cores (s ∷ sets) zero all low was = was
+pinned_all (Some (suc k)) cores (s ∷ sets) (suc n) all low was = pinned_all (Some k) cores sets n all (omega (arith, low)) was
+
+free_pinned : (unpinned : Bool) (affinity : List (Option (List Cores))) (d : ℕ) (unit : Option ℕ) (cores : Cores) → IsFree unpinned affinity → IsFree (unpinned && cores.0 == 2 ^ 64 - 1) (change_at d (pinned unit cores) affinity)
+free_pinned false affinity d unit cores free = record { all = λ is u joined. absurd cc }
+free_pinned true affinity d unit cores free = record { all = λ is. (free_elsewhere true affinity (change_at d (pinned unit cores) affinity) d (λ e other. change_at_other d e (pinned unit cores) affinity other) (each (grind (arith, is)) (at_place affinity d) refl) free).all refl }
+  where
+    each : cores.0 ≡ 2 ^ 64 - 1 → (o : Option (List Cores)) → at_place affinity d ≡ o → (n : ℕ) → nat_lt n (count_at (change_at d (pinned unit cores) affinity) d) ≡ true
+        → elim (at_place (change_at d (pinned unit cores) affinity) d) as (λ _. ℕ) [ None ↦ 0 | Some s ↦ (slice_index_or s n (core_set 0)).0 ] ≡ 2 ^ 64 - 1
+    each all None at n joined =
+        let there : at_place (change_at d (pinned unit cores) affinity) d ≡ None = at_place-change_at d (pinned unit cores) affinity ∙ ap (option_map (pinned unit cores)) at in
+        let l = less_true n (count_at (change_at d (pinned unit cores) affinity) d) joined in
+        let z : count_at (change_at d (pinned unit cores) affinity) d ≡ 0 = ap (λ (p : Option (List Cores)). elim p as (λ _. ℕ) [ None ↦ 0 | Some s ↦ length s ]) there in
+        absurd (omega (arith, l, z))
+    each all (Some sets) at n joined =
+        let there : at_place (change_at d (pinned unit cores) affinity) d ≡ Some (pinned unit cores sets) = at_place-change_at d (pinned unit cores) affinity ∙ ap (option_map (pinned unit cores)) at in
+        let l = less_true n (count_at (change_at d (pinned unit cores) affinity) d) joined in
+        let z : count_at (change_at d (pinned unit cores) affinity) d ≡ length (pinned unit cores sets) = ap (λ (p : Option (List Cores)). elim p as (λ _. ℕ) [ None ↦ 0 | Some s ↦ length s ]) there in
+        let same = length_pinned unit cores sets in
+        let low : n < length sets = omega (arith, l, z, same) in
+        let u : UnitId = record { dom = domain d; n = n } in
+        let here : nat_lt n (count_at affinity d) ≡ true = subst (λ (o : Option (List Cores)). nat_lt n (elim o as (λ _. ℕ) [ None ↦ 0 | Some s ↦ length s ]) ≡ true) (sym at) (less_test n (length sets) low) in
+        let was : (slice_index_or sets n (core_set 0)).0 ≡ 2 ^ 64 - 1 = sym (ap (λ (o : Option (List Cores)). elim o as (λ _. ℕ) [ None ↦ 0 | Some s ↦ (slice_index_or s n (core_set 0)).0 ]) at) ∙ free.all refl u here in
+        ap (λ (o : Option (List Cores)). elim o as (λ _. ℕ) [ None ↦ 0 | Some s ↦ (slice_index_or s n (core_set 0)).0 ]) there ∙ pinned_all unit cores sets n all low was
+
 pub held_pinned : (h : Held) (d t : ℕ) (unit : Option ℕ) (cores : Cores) (now : List Cores) → IsHeld h → h.latest ≤ t → ((u : UnitId) → u.n < 256 → mask_of now u ≡ refreshed h.masks (change_at d (pinned unit cores) h.affinity) d u)
-    → IsHeld (record h { affinity = change_at d (pinned unit cores) h.affinity; masks = now; latest = t })
+    → IsHeld (record h { affinity = change_at d (pinned unit cores) h.affinity; masks = now; latest = t; unpinned = h.unpinned && cores.0 == 2 ^ 64 - 1 })
 held_pinned h d t unit cores now held past written =
     let next : List (Option (List Cores)) = change_at d (pinned unit cores) h.affinity in
     let same : set_counts next ≡ set_counts h.affinity = map-change_at (λ (o : Option (List Cores)). option_map length o) d (pinned unit cores) h.affinity (λ x at. ap (λ k. Some k) (length_pinned unit cores x)) in
@@ -226,6 +281,7 @@ held_pinned h d t unit cores now held past written =
         off = held.line.off;
       };
       masks = masks_refreshed h.affinity next h.masks now d (λ e other. change_at_other d e (pinned unit cores) h.affinity other) written (λ u joined. (let l = joined_small h.latest h.records h.affinity u held.range held.counts (back u joined) in omega (arith, l))) held.masks;
+      free = free_pinned h.unpinned h.affinity d unit cores held.free;
       refills = held.refills;
       room = omega (arith, room, all);
       small = omega (arith, small, all);
@@ -262,6 +318,8 @@ held_parted h d k held idle is =
           let place : at_place (clear_at d h.affinity) u.dom.0 ≡ at_place h.affinity u.dom.0 = at_place-clear_at_other d u.dom.0 h.affinity other in
           held.masks u (subst (λ (o : Option (List Cores)). nat_lt u.n (elim o as (λ _. ℕ) [ None ↦ 0 | Some s ↦ length s ]) ≡ true) place joined)
           ∙ ap (λ (o : Option (List Cores)). core_set (elim o as (λ _. ℕ) [ None ↦ 0 | Some s ↦ (slice_index_or s u.n (core_set 0)).0 ])) (sym place));
+      free = free_elsewhere h.unpinned h.affinity (clear_at d h.affinity) d (λ e other. at_place-clear_at_other d e h.affinity other)
+          (λ n joined. absurd (let l = less_true n (count_at (clear_at d h.affinity) d) joined in let z : count_at (clear_at d h.affinity) d ≡ 0 = ap (λ (p : Option (List Cores)). elim p as (λ _. ℕ) [ None ↦ 0 | Some s ↦ length s ]) (at_place-clear_at d h.affinity) in omega (arith, l, z))) held.free;
       refills = ap (λ (rs : List (Option Moment)). slice_set rs d (refill_of (at_place (clear_at d h.records.domains) d))) held.refills ∙ refills_put d None h.records.domains;
       room = omega (arith, room, all, is);
       small = omega (arith, small, all, is);
@@ -274,7 +332,7 @@ replicate_get (suc k) zero x y at = cc
 replicate_get (suc k) (suc n) x y at = replicate_get k n x y at
 
 pub held_joined : (h : Held) (d weight percent count t : ℕ) (sets now : List Cores) → IsHeld h → d < length h.affinity → at_place h.affinity d ≡ None → count ≤ 32 → count ≤ h.spare → IsWithin 1 65535 weight → percent ≤ 6400 → h.latest ≤ t
-    → length sets ≡ count → ((u : UnitId) → u.n < 256 → mask_of now u ≡ refreshed h.masks (put_at d sets h.affinity) d u)
+    → sets ≡ replicate count (core_set (2 ^ 64 - 1)) → ((u : UnitId) → u.n < 256 → mask_of now u ≡ refreshed h.masks (put_at d sets h.affinity) d u)
     → IsHeld (record {
       records = record h.records { domains = put_at d (fresh_domain weight percent count t) h.records.domains };
       affinity = put_at d sets h.affinity;
@@ -283,8 +341,10 @@ pub held_joined : (h : Held) (d weight percent count t : ℕ) (sets now : List C
       refills = slice_set h.refills d (refill_of (at_place (put_at d (fresh_domain weight percent count t) h.records.domains) d));
       spare = h.spare - count;
       latest = t;
+      unpinned = h.unpinned;
     })
-held_joined h d weight percent count t sets now held inside absent few fits within low past long written =
+held_joined h d weight percent count t sets now held inside absent few fits within low past each written =
+    let long : length sets ≡ count = ap length each ∙ length-replicate count (core_set (2 ^ 64 - 1)) in
     let fresh : Credit2Domain = fresh_domain weight percent count t in
     let new : Credit2Unit = record { credit = pos start_credit; residual = 0; held = pos 0; burned = None } in
     let after : Credit2Records = record h.records { domains = put_at d fresh h.records.domains } in
@@ -310,6 +370,13 @@ held_joined h d weight percent count t sets now held inside absent few fits with
           omega (arith, l, z)))
           (EachAt-put_at (λ e (x : Credit2Domain). RunsOnly (IsElsewhere (arrivals h.queue.units) e) x.units) d fresh h.records.domains held.line.off (λ n y at. inl (subst (λ (z : Credit2Unit). z.burned ≡ None) (replicate_get count n new y at) refl))) held.line;
       masks = masks_refreshed h.affinity next h.masks now d (λ e other. at_place-put_at_other d e sets h.affinity other) written (λ u joined. (let l = joined_small t after next u range counts joined in omega (arith, l))) held.masks;
+      free = free_elsewhere h.unpinned h.affinity next d (λ e other. at_place-put_at_other d e sets h.affinity other) (λ n joined. (
+          let there : at_place next d ≡ Some sets = at_place-put_at d sets h.affinity inside in
+          let low : nat_lt n (length sets) ≡ true = subst (λ (o : Option (List Cores)). nat_lt n (elim o as (λ _. ℕ) [ None ↦ 0 | Some s ↦ length s ]) ≡ true) there joined in
+          let few_enough : n < count = (let l = less_true n (length sets) low in omega (arith, l, long)) in
+          ap (λ (o : Option (List Cores)). elim o as (λ _. ℕ) [ None ↦ 0 | Some s ↦ (slice_index_or s n (core_set 0)).0 ]) there
+          ∙ ap (λ (s : List Cores). (slice_index_or s n (core_set 0)).0) each
+          ∙ ap (λ (x : Cores). x.0) (get_or-replicate count n (core_set (2 ^ 64 - 1)) (core_set 0) few_enough))) held.free;
       refills = ap (λ (rs : List (Option Moment)). slice_set rs d (refill_of (at_place (put_at d fresh h.records.domains) d))) held.refills ∙ refills_put d (Some fresh) h.records.domains;
       room = omega (arith, room, all, long, fits);
       small = omega (arith, small, all, long, fits);
@@ -366,7 +433,7 @@ empty_count zero = refl
 empty_count (suc n) = empty_count n
 
 pub held_fresh : (domains units latest : ℕ) (masks : List Cores) → domains ≤ 64 → units ≤ 256
-    → IsHeld (record { records = record { limit = 1000; last_reset = None; domains = replicate domains None }; affinity = replicate domains None; queue = empty units; masks = masks; refills = replicate domains None; spare = units; latest = latest })
+    → IsHeld (record { records = record { limit = 1000; last_reset = None; domains = replicate domains None }; affinity = replicate domains None; queue = empty units; masks = masks; refills = replicate domains None; spare = units; latest = latest; unpinned = true })
 held_fresh n units latest masks few small =
     let records : Credit2Records = record { limit = 1000; last_reset = None; domains = replicate n None } in
     let long : length records.domains ≡ n = length-replicate n None in
@@ -380,7 +447,27 @@ held_fresh n units latest masks few small =
       counts = empty_counts n;
       line = record { apart = tt; joined = tt; indices = tt; keys = tt; off = λ d x at. EachPlace-empty (λ (y : Credit2Domain). RunsOnly (IsElsewhere [] d) y.units) n d x at };
       masks = λ u joined. absurd (let l = less_true u.n (count_at (replicate n None) u.dom.0) joined in let z = count_empty n u.dom.0 in omega (arith, l, z));
+      free = record { all = λ free u joined. absurd (let l = less_true u.n (count_at (replicate n None) u.dom.0) joined in let z = count_empty n u.dom.0 in omega (arith, l, z)) };
       refills = empty_refills n;
       room = omega (arith, all);
       small = omega (arith, all, small);
     }
+
+-- where no domain has joined, no unit is pinned
+pub held_unpinned : (h : Held) → IsHeld h → is_vacant (scheduler_in h) ≡ true → IsHeld (record h { unpinned = true })
+held_unpinned h held vacant = record {
+  range = held.range;
+  counts = held.counts;
+  line = held.line;
+  masks = held.masks;
+  free = record {
+    all = λ is u joined. absurd (
+        let none : list_any is_some h.affinity ≡ false = not_true (list_any is_some h.affinity) vacant in
+        let l = less_true u.n (count_at h.affinity u.dom.0) joined in
+        let z : count_at h.affinity u.dom.0 ≡ 0 = ap (λ (a : List (Option (List Cores))). count_at a u.dom.0) (all_empty h.affinity none) ∙ count_empty (length h.affinity) u.dom.0 in
+        omega (arith, l, z));
+  };
+  refills = held.refills;
+  room = held.room;
+  small = held.small;
+}

@@ -5,10 +5,12 @@ pub mod Rekeying
 pub mod Rooms
 pub mod Members
 pub mod Idle
+pub mod Kept
 pub mod Ranges
 pub mod Same
 pub mod Lines
 pub mod Choosing
+pub mod Looking
 pub mod Deciding
 pub mod Keeping
 pub mod Refills

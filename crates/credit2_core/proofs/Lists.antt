@@ -21,7 +21,7 @@ pub has_unit-push : (w u : UnitId) (units : List UnitId) → has_unit units w �
 has_unit-push w u [] absent other = neither (same_unit w u) false other refl
 has_unit-push w u (x ∷ units) absent other = neither (same_unit w x) (has_unit (units ++ u ∷ []) w) (or_left _ _ absent) (has_unit-push w u units (or_right (same_unit w x) _ absent) other)
 
-same_unit-swap : (u w : UnitId) → same_unit u w ≡ false → same_unit w u ≡ false
+pub same_unit-swap : (u w : UnitId) → same_unit u w ≡ false → same_unit w u ≡ false
 same_unit-swap u w other = elim (either (same_unit w u)) [
   | inl is ↦ (let e = same_unit_same w u is in absurd (let r = same_unit_refl w in let f : same_unit w w ≡ false = subst (λ (x : UnitId). same_unit x w ≡ false) (sym e) other in cc))
   | inr is ↦ is

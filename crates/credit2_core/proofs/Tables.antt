@@ -17,13 +17,9 @@ use Rattle.arrival_queue.proofs.Ranks.{not_less_test}
 use Rattle.arrival_queue.specs.Filters.{first_that, has_domain, may_run}
 use Rattle.arrival_queue.specs.Queues.{Queued}
 use Rattle.credit2_core.specs.Places.{has_joined}
-use Rattle.credit2_core.specs.Domains.{may_run_bit, set_of, masked}
+use Rattle.credit2_core.specs.Domains.{may_run_at, may_run_bit, AreRunnable, set_of, masked}
 use Rattle.credit2_core.specs.Choice.{may_take}
 use Rattle.credit2_core.specs.Held.{AreMasks}
-
--- whether the cap of the domain at the place lets it run
-abbrev may_run_at : Option Credit2Domain → Bool
-may_run_at place = elim place [ None ↦ false | Some d ↦ has_budget d ]
 
 -- the lowest bit of a number, and the others
 low_bit : (place : Option Credit2Domain) (r : ℕ) → ((may_run_bit place + 2 * r) % 2 == 1) ≡ may_run_at place
@@ -54,14 +50,10 @@ set_has (place ∷ domains) (suc i) =
     in
     rw e (set_has domains i)
 
-first_that-same : (p q : UnitId → Bool) (es : List Queued) → ((u : UnitId) → p u ≡ q u) → first_that p es ≡ first_that q es
+pub first_that-same : (p q : UnitId → Bool) (es : List Queued) → ((u : UnitId) → p u ≡ q u) → first_that p es ≡ first_that q es
 first_that-same p q [] same = refl
 first_that-same p q (e ∷ es) same =
     ap (λ (b : Bool). if b then Some e.unit else first_that p es) (same e.unit) ∙ ap (λ (o : Option UnitId). if q e.unit then Some e.unit else o) (first_that-same p q es same)
-
--- the first unit of a domain of the set is the first whose domain's cap lets it run
-pub first_in_set : (records : Credit2Records) (es : List Queued) → first_that (λ u. has_domain (set_of records.domains) u.dom.0) es ≡ first_that (domain_has_budget records) es
-first_in_set records es = first_that-same (λ u. has_domain (set_of records.domains) u.dom.0) (domain_has_budget records) es (λ u. set_has records.domains u.dom.0)
 
 and-swap : (a b : Bool) → (a && b) ≡ (b && a)
 and-swap true true = refl
@@ -75,18 +67,17 @@ filter-same p q (x ∷ xs) same =
     ap (λ (b : Bool). cond b (x ∷ filter p xs) (filter p xs)) same.0 ∙ ap (λ (ys : List _). cond (q x) (x ∷ ys) ys) (filter-same p q xs same.1)
 
 -- a unit that has joined passes the search of the run queue just where it may take the core
-pub passes_same : (affinity : List (Option (List Cores))) (masks : List Cores) (records : Credit2Records) (core home : ℕ) (u : UnitId) → AreMasks affinity masks → has_joined affinity u ≡ true
-    → (has_domain (set_of records.domains) u.dom.0 && may_run masks (record { 0 = core }) (record { 0 = home }) u) ≡ may_take affinity home core records u
-passes_same affinity masks records core home u are joined =
-    let set : has_domain (set_of records.domains) u.dom.0 ≡ domain_has_budget records u = set_has records.domains u.dom.0 in
+pub passes_same : (affinity : List (Option (List Cores))) (masks : List Cores) (records : Credit2Records) (set core home : ℕ) (u : UnitId) → AreRunnable records.domains set → AreMasks affinity masks → has_joined affinity u ≡ true
+    → (has_domain set u.dom.0 && may_run masks (record { 0 = core }) (record { 0 = home }) u) ≡ may_take affinity home core records u
+passes_same affinity masks records set core home u runnable are joined =
     let mask : mask_of masks u ≡ core_set (cores_of affinity u) = are u joined in
     let may : may_run masks (record { 0 = core }) (record { 0 = home }) u ≡ is_allowed_by affinity home core u = ap (λ (m : Cores). sets.is_allowed m.0 core home) mask in
-    ap (λ (b : Bool). b && may_run masks (record { 0 = core }) (record { 0 = home }) u) set ∙ ap (λ (b : Bool). domain_has_budget records u && b) may ∙ and-swap (domain_has_budget records u) (is_allowed_by affinity home core u)
+    ap (λ (b : Bool). b && may_run masks (record { 0 = core }) (record { 0 = home }) u) (runnable.each u.dom.0) ∙ ap (λ (b : Bool). domain_has_budget records u && b) may ∙ and-swap (domain_has_budget records u) (is_allowed_by affinity home core u)
 
-pub passes_each : (affinity : List (Option (List Cores))) (masks : List Cores) (records : Credit2Records) (core home : ℕ) (units : List UnitId) → AreMasks affinity masks → AllByRecursion (λ u. has_joined affinity u ≡ true) units
-    → AllByRecursion (λ u. (has_domain (set_of records.domains) u.dom.0 && may_run masks (record { 0 = core }) (record { 0 = home }) u) ≡ may_take affinity home core records u) units
-passes_each affinity masks records core home [] are joined = tt
-passes_each affinity masks records core home (u ∷ units) are joined = (passes_same affinity masks records core home u are joined.0, passes_each affinity masks records core home units are joined.1)
+pub passes_each : (affinity : List (Option (List Cores))) (masks : List Cores) (records : Credit2Records) (set core home : ℕ) (units : List UnitId) → AreRunnable records.domains set → AreMasks affinity masks → AllByRecursion (λ u. has_joined affinity u ≡ true) units
+    → AllByRecursion (λ u. (has_domain set u.dom.0 && may_run masks (record { 0 = core }) (record { 0 = home }) u) ≡ may_take affinity home core records u) units
+passes_each affinity masks records set core home [] runnable are joined = tt
+passes_each affinity masks records set core home (u ∷ units) runnable are joined = (passes_same affinity masks records set core home u runnable are joined.0, passes_each affinity masks records set core home units runnable are joined.1)
 
 -- the masks, before one is written
 pub masked_none : (masks : List Cores) (d : ℕ) (sets : List Cores) (u : UnitId) → mask_of masks u ≡ masked masks d sets 0 u

@@ -1,5 +1,5 @@
 -- What the first unit of the run queue is to a scan.
-use Rattle.std.specs.Prelude.{ℕ, ℤ, pos, false, ◌*◌, ◌&&◌, Bool, List, Option, Some, None, filter, int_lt, if◌then◌else◌}
+use Rattle.std.specs.Prelude.{ℕ, ℤ, pos, true, false, ◌*◌, ◌&&◌, Bool, List, Option, Some, None, filter, int_lt, if◌then◌else◌}
 use Rattle.sched_base.specs.declared.UnitId.{UnitId}
 use Rattle.sched_base.specs.declared.Cores.{Cores}
 use Rattle.arrival_queue.specs.Filters.{first_that}
@@ -44,3 +44,9 @@ ran cur t resets u records = set_running (Some t) u (switch_off cur (change_doma
 abbrev pub is_better_of : Credit2Records → UnitId → ℕ → ℕ → Option UnitId → Bool
 is_better_of records own since t None = false
 is_better_of records own since t (Some u) = is_better records own since t u
+
+-- the first unit, once one more waits behind all others, where that may run
+abbrev pub first_with : Credit2Records → Bool → Option UnitId → UnitId → Option UnitId
+first_with records false first u = first
+first_with records true None u = Some u
+first_with records true (Some w) u = richer_of records w (Some u)

@@ -1,5 +1,5 @@
 -- What a pool's Credit2 keeps, what callers see of it, and what always holds of it.
-use Rattle.std.specs.Prelude.{◌≡◌, ◌≤◌, ◌<◌, ◌+◌, ℕ, true, false, List, Option, length}
+use Rattle.std.specs.Prelude.{◌≡◌, ◌≤◌, ◌<◌, ◌+◌, ◌-◌, ◌^◌, ℕ, Bool, true, false, List, Option, length}
 use Rattle.std.specs.List.{AllByRecursion}
 use Rattle.sched_base.specs.Numbers.{core_set, domain}
 use Rattle.unit_places.specs.Masks.{mask_of}
@@ -53,12 +53,17 @@ pub record IsSameRoom (old new : Queue) : Type 0 where
 abbrev pub AreMasks : List (Option (List Cores)) → List Cores → Type 0
 AreMasks affinity masks = (u : UnitId) → has_joined affinity u ≡ true → mask_of masks u ≡ core_set (cores_of affinity u)
 
+-- each unit that has joined may have all cores, where none was pinned to fewer
+pub record IsFree (unpinned : Bool) (affinity : List (Option (List Cores))) : Type 0 where
+  pub all : unpinned ≡ true → (u : UnitId) → has_joined affinity u ≡ true → cores_of affinity u ≡ 2 ^ 64 - 1
+
 -- all that always holds
 pub record IsHeld (h : Held) : Type 0 where
   pub range : InRange h.latest h.records
   pub counts : set_counts h.affinity ≡ unit_counts h.records.domains
   pub line : IsLine h
   pub masks : AreMasks h.affinity h.masks
+  pub free : IsFree h.unpinned h.affinity
   pub refills : h.refills ≡ refills_of h.records.domains
   pub room : count_all h.affinity + h.spare ≤ length h.queue.units + h.queue.spare
   pub small : count_all h.affinity + h.spare ≤ 256

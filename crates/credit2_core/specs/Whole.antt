@@ -1,12 +1,16 @@
 -- Credit2 with or without memory.
-use Rattle.std.specs.Prelude.{ℕ, ◌≡◌, Option, Some, None}
+use Rattle.std.specs.Prelude.{ℕ, ◌≡◌, ◌==◌, Bool, true, false, not, List, Option, Some, None}
 use Rattle.std.specs.Option.{ForSome}
 use Rattle.sched_model.specs.declared.config.PoolParams.TheVariants as pool_params
+use Rattle.sched_model.specs.declared.state.Credit2Records.{Credit2Records}
+use Rattle.sched_model.specs.Credit2.{max_weight}
+use Rattle.arrival_queue.specs.Filters.{first_that, has_domain}
+use Rattle.arrival_queue.specs.Queues.{Queued}
 use Rattle.sched_ops.specs.Seen.{Seen, vacant}
 use Rattle.credit2_core.specs.declared.held.Held.{Held}
 use Rattle.credit2_core.specs.declared.line.Ready.{Ready}
 use Rattle.credit2_core.specs.Choice.{first_ready}
-use Rattle.credit2_core.specs.Domains.{set_of}
+use Rattle.credit2_core.specs.Domains.{AreRunnable, AreRunnableBut}
 use Rattle.credit2_core.specs.Held.{IsHeld, seen_in}
 
 -- a pool with this rate limit, without places for domains
@@ -22,10 +26,22 @@ seen_by (Some h) limit early = seen_in h
 abbrev pub IsWhole : Option Held → Type 0
 IsWhole held = ForSome held IsHeld
 
--- the set is that of the domains that may run, and the unit the first that waits of one of them
+-- the set is that of the domains that may run, the unit the first that waits of one of them, and the weight the greatest
 pub record IsReadyIn (h : Held) (ready : Ready) : Type 0 where
-  pub domains : ready.domains ≡ set_of h.records.domains
+  pub domains : AreRunnable h.records.domains ready.domains
   pub first : ready.first ≡ first_ready h.records h.queue.units
+  pub most : ready.most ≡ max_weight h.records
+
+-- the same, where the record of a domain was written since; the unit, where it stands, is the first by the set that was
+pub record IsReadyBut (d : ℕ) (stands : Bool) (records : Credit2Records) (es : List Queued) (ready : Ready) : Type 0 where
+  pub domains : AreRunnableBut d records.domains ready.domains
+  pub first : stands ≡ true → ready.first ≡ first_that (λ u. has_domain ready.domains u.dom.0) es
+  pub most : ready.most ≡ max_weight records
+
+-- whether the unit is the first also where the domain d may run now, or may not
+abbrev pub stays_first : Ready → ℕ → Bool → Bool
+stays_first ready d true = has_domain ready.domains d
+stays_first ready d false = elim ready.first [ None ↦ true | Some u ↦ not (u.dom.0 == d) ]
 
 -- and so is what is kept beside it
 pub record IsReady (held : Option Held) (ready : Ready) : Type 0 where

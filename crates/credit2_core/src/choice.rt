@@ -1,20 +1,22 @@
 //! Which unit a core is to run. Moments are in nanoseconds.
 
-ghost use Rattle.std.specs.Prelude.{◌≡◌, ◌≤◌, ◌<◌, ◌+◌, length};
+ghost use Rattle.std.specs.Prelude.{◌≡◌, ◌≤◌, ◌<◌, ◌+◌, ℕ, Bool, false, length};
+ghost use Rattle.sched_base.specs.declared.UnitId.{UnitId as Unit};
+ghost use Rattle.arrival_queue.specs.Filters.{first_that};
 ghost use Rattle.queue_laws.specs.Arrivals.{arrivals};
-ghost use Rattle.sched_model.specs.Places.{without_unit};
+ghost use Rattle.sched_model.specs.Places.{without_unit, is_unit};
 ghost use Rattle.sched_model.specs.Policy.{better_waits as better_waits_spec};
-ghost use Rattle.sched_model.specs.Credit2.{own_candidate as own_candidate_spec, choice as choice_spec, reset as reset_spec, is_within_limit as is_within_limit_spec};
+ghost use Rattle.sched_model.specs.Credit2.{max_weight, own_candidate as own_candidate_spec, choice as choice_spec, reset as reset_spec, is_within_limit as is_within_limit_spec};
 ghost use Rattle.sched_ops.specs.Conditions.{IsNow, IsOwnOf};
 ghost use Rattle.plain_credit2.specs.Bounds.{PoolFits};
-ghost use Rattle.credit2_core.specs.Held.{IsHeld, IsLine, IsSameRoom, AreMasks, scheduler_in, seen_in};
-ghost use Rattle.credit2_core.specs.Choice.{best_of, credit_or_0, richer_of, is_better_of};
+ghost use Rattle.credit2_core.specs.Held.{IsFree, IsHeld, IsLine, IsSameRoom, AreMasks, scheduler_in, seen_in};
+ghost use Rattle.credit2_core.specs.Choice.{best_of, credit_or_0, is_better_of};
 ghost use Rattle.credit2_core.specs.Whole.{IsReadyIn};
 
 use crate::held::Held;
-use crate::line::{Ready, best_ready, best_waiting, rekey_all, runnable_in};
+use crate::line::{Ready, best_ready, may_be_on, rekey_all, richer};
 use plain_credit2::choice::{domain_has_budget, is_within_limit};
-use plain_credit2::running::{burned_credit_of, credit_of, reset};
+use plain_credit2::running::{burned_credit_by, credit_of, reset};
 use plain_units::eligible::is_allowed;
 use sched_base::UnitId;
 use sched_model::ask::Ask;
@@ -36,26 +38,11 @@ fn own_candidate(held: &Held, ask: &Ask) -> Option<UnitId>
     }
 }
 
-/// The unit, or the one that waits where it has more credit.
-fn richer(records: &Credit2Records, own: UnitId, waiting: Option<UnitId>) -> Option<UnitId>
-    ensures { result ≡ richer_of records.now own waiting }
-{
-    match waiting {
-        None => Some(own),
-        Some(u) => {
-            if credit_of(records, own) < credit_of(records, u) {
-                Some(u)
-            } else {
-                Some(own)
-            }
-        }
-    }
-}
-
 /// The choice, after the core's own unit was charged.
-pub fn choice(held: &Held, ask: &Ask) -> Option<UnitId>
+pub fn choice(held: &Held, ready: &Ready, ask: &Ask) -> Option<UnitId>
+    requires ready { IsReadyIn held.now ready.now }
+    requires free { IsFree held.now.unpinned held.now.affinity }
     requires core { ask.now.core < 64 }
-    requires few { length held.now.records.domains ≤ 64 }
     requires line { IsLine held.now }
     requires masks { AreMasks held.now.affinity held.now.masks }
     ensures { result ≡ choice_spec ask.now (scheduler_in held.now) held.now.records }
@@ -67,7 +54,7 @@ pub fn choice(held: &Held, ask: &Ask) -> Option<UnitId>
     if own.is_some() && is_within_limit(&held.records, ask.since, ask.at) {
         return own;
     }
-    let waiting = best_waiting(held, runnable_in(held), ask.core, ask.home);
+    let waiting = best_ready(held, ready, ask.core, ask.home);
     match own {
         None => waiting,
         Some(u) => richer(&held.records, u, waiting),
@@ -80,6 +67,7 @@ pub fn leave(held: &mut Held, u: UnitId)
     ensures order { arrivals held.new.queue.units ≡ without_unit u (arrivals held.old.queue.units) }
     ensures line { IsLine held.new }
     ensures room { IsSameRoom held.old.queue held.new.queue }
+    ensures first { (p : Unit → Bool) → is_unit (first_that p held.old.queue.units) u ≡ false → first_that p held.new.queue.units ≡ first_that p held.old.queue.units }
     ensures rest { held.new ≡ record held.old { queue = held.new.queue } }
 {
     held.queue.law_order();
@@ -97,6 +85,7 @@ pub fn reset_pool(held: &mut Held, t: u64, m: u64)
     ensures order { arrivals held.new.queue.units ≡ arrivals held.old.queue.units }
     ensures line { IsLine held.new }
     ensures room { IsSameRoom held.old.queue held.new.queue }
+    ensures none { m ≡ 0 → held.new ≡ held.old }
     ensures rest { held.new ≡ record held.old { records = held.new.records; queue = held.new.queue } }
 {
     if m == 0 {
@@ -107,31 +96,31 @@ pub fn reset_pool(held: &mut Held, t: u64, m: u64)
 }
 
 /// The greatest credit of those that wait and may take the core, or 0.
-pub fn other_credit(held: &Held, ask: &Ask) -> i64
+pub fn other_credit(held: &Held, ready: &Ready, ask: &Ask) -> i64
+    requires ready { IsReadyIn held.now ready.now }
+    requires free { IsFree held.now.unpinned held.now.affinity }
     requires core { ask.now.core < 64 }
-    requires few { length held.now.records.domains ≤ 64 }
     requires line { IsLine held.now }
     requires masks { AreMasks held.now.affinity held.now.masks }
     ensures { result ≡ credit_or_0 held.now.records (best_of (arrivals held.now.queue.units) held.now.affinity ask.now.home ask.now.core held.now.records) }
 {
-    match best_waiting(held, runnable_in(held), ask.core, ask.home) {
+    match best_ready(held, ready, ask.core, ask.home) {
         None => 0,
         Some(u) => credit_of(&held.records, u),
     }
 }
 
-/// Whether one that waits is better than the core's own unit, which runs since a moment, at t.
-fn better_than(held: &Held, own: UnitId, since: u64, t: u64, waiting: Option<UnitId>) -> bool
+/// Whether one that waits is better than the core's own unit at t, once that has run for the rate limit. The greatest weight of the
+/// pool is most.
+fn better_than(held: &Held, most: u32, own: UnitId, t: u64, waiting: Option<UnitId>) -> bool
     requires held { IsHeld held.now }
+    requires most { most ≡ max_weight held.now.records }
     requires now { IsNow (seen_in held.now) t }
-    ensures { result ≡ is_better_of held.now.records own since t waiting }
+    ensures { (since : ℕ) → is_within_limit_spec held.now.records since t ≡ false → result ≡ is_better_of held.now.records own since t waiting }
 {
     match waiting {
         None => false,
-        Some(u) => {
-            !is_within_limit(&held.records, since, t)
-                && burned_credit_of(&held.records, t, own) < credit_of(&held.records, u)
-        }
+        Some(u) => burned_credit_by(most, &held.records, t, own) < credit_of(&held.records, u),
     }
 }
 
@@ -139,7 +128,7 @@ fn better_than(held: &Held, own: UnitId, since: u64, t: u64, waiting: Option<Uni
 /// of a domain that may run is no better, none is looked for.
 fn one_is_better(
     held: &Held,
-    ready: Ready,
+    ready: &Ready,
     own: UnitId,
     since: u64,
     t: u64,
@@ -148,21 +137,25 @@ fn one_is_better(
 ) -> bool
     requires held { IsHeld held.now }
     requires now { IsNow (seen_in held.now) t }
-    requires ready { IsReadyIn held.now ready }
+    requires ready { IsReadyIn held.now ready.now }
     requires core { core < 64 }
     ensures { result ≡ is_better_of held.now.records own since t (best_of (arrivals held.now.queue.units) held.now.affinity home core held.now.records) }
 {
-    held.queue.law_order();
-    if !better_than(held, own, since, t, ready.first) {
+    if is_within_limit(&held.records, since, t) {
         return false;
     }
-    better_than(held, own, since, t, best_ready(held, ready, core, home))
+    held.queue.law_order();
+    if !better_than(held, ready.most, own, t, ready.first) {
+        return false;
+    }
+    let best = best_ready(held, ready, core, home);
+    better_than(held, ready.most, own, t, best)
 }
 
 /// Whether a core is to decide anew at t.
 pub fn better_waits(
     held: &Held,
-    ready: Ready,
+    ready: &Ready,
     cur: Option<UnitId>,
     since: u64,
     t: u64,
@@ -171,14 +164,15 @@ pub fn better_waits(
 ) -> bool
     requires held { IsHeld held.now }
     requires now { IsNow (seen_in held.now) t }
-    requires ready { IsReadyIn held.now ready }
+    requires ready { IsReadyIn held.now ready.now }
     requires core { core < 64 }
+    requires own { IsOwnOf (scheduler_in held.now) cur }
     ensures { result ≡ better_waits_spec cur since t core home (scheduler_in held.now) }
 {
     match cur {
         None => best_ready(held, ready, core, home).is_some(),
         Some(own) => {
-            !is_allowed(held.affinity.as_slice(), home, core, own)
+            !may_be_on(held, own, core, home)
                 || one_is_better(held, ready, own, since, t, core, home)
         }
     }

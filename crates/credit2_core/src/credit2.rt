@@ -4,14 +4,15 @@ ghost use Rattle.std.specs.Prelude.{◌≡◌, ◌≤◌};
 ghost use Rattle.credit2_core.specs.Whole.{seen_by};
 
 use crate::held::Held;
-use crate::line::{Ready, first_ready, ready_in};
+use crate::line::{Ready, ready_in};
 use crate::room::DEFAULT_LIMIT;
-use crate::{choice, decide, params, room, small, timers};
-use sched_base::{Cores, DomId, Moment, NoMemory, ResId, UnitId};
+use crate::{decide, params, room, small, timers, wanted};
+use sched_base::{Cores, DomId, Moment, NoMemory, UnitId};
 use sched_model::ask::Ask;
 use sched_model::config::{DomParams, ParamChange, PoolParams};
 use sched_model::event::Event;
 use sched_model::facts::Stored;
+use sched_model::state::Resource;
 use sched_ops::{Choice, Places, Policy, Timer};
 use std::alloc::Global;
 use std::marker::Model;
@@ -75,6 +76,7 @@ impl Credit2 {
             ready: Ready {
                 domains: 0,
                 first: None,
+                most: 0,
             },
         }
     }
@@ -108,10 +110,7 @@ impl Policy for Credit2 {
         if let DomParams::Credit2 { weight, cap } = *params {
             match &mut self.held {
                 None => {}
-                Some(held) => {
-                    params::join(held, d, units, weight, cap, t.0);
-                    self.ready = ready_in(held);
-                }
+                Some(held) => params::join(held, &mut self.ready, d, units, weight, cap, t.0),
             }
         }
     }
@@ -119,30 +118,21 @@ impl Policy for Credit2 {
     fn part(&mut self, d: DomId) {
         match &mut self.held {
             None => {}
-            Some(held) => {
-                params::part(held, d);
-                self.ready = ready_in(held);
-            }
+            Some(held) => params::part(held, &mut self.ready, d),
         }
     }
 
     fn enqueue(&mut self, u: UnitId) {
         match &mut self.held {
             None => {}
-            Some(held) => {
-                small::enqueue(held, u);
-                self.ready.first = first_ready(held, self.ready.domains);
-            }
+            Some(held) => small::enqueue(held, &mut self.ready, u),
         }
     }
 
     fn dequeue(&mut self, u: UnitId) {
         match &mut self.held {
             None => {}
-            Some(held) => {
-                small::dequeue(held, u);
-                self.ready.first = first_ready(held, self.ready.domains);
-            }
+            Some(held) => small::dequeue(held, &mut self.ready, u),
         }
     }
 
@@ -156,27 +146,14 @@ impl Policy for Credit2 {
                     reset: 0,
                 }
             }
-            Some(held) => {
-                let choice = decide::choose(held, ask);
-                self.ready = ready_in(held);
-                choice
-            }
+            Some(held) => decide::choose(held, &mut self.ready, ask),
         }
     }
 
-    fn better_waits(
-        &self,
-        cur: Option<UnitId>,
-        since: Moment,
-        t: Moment,
-        core: ResId,
-        home: Cores,
-    ) -> bool {
+    fn wanted(&self, cores: &[Option<Resource>], t: Moment, home: Cores) -> Cores {
         match &self.held {
-            None => false,
-            Some(held) => {
-                choice::better_waits(held, self.ready, cur, since.0, t.0, core.0, home.0)
-            }
+            None => Cores(0),
+            Some(held) => wanted::wanted(held, &self.ready, cores, t, home),
         }
     }
 
@@ -192,11 +169,7 @@ impl Policy for Credit2 {
             Timer::Repl(u) => no_event(u.dom),
             Timer::Refill(d) => match &mut self.held {
                 None => no_event(d),
-                Some(held) => {
-                    let event = timers::refill(held, d, t.0);
-                    self.ready = ready_in(held);
-                    event
-                }
+                Some(held) => timers::refill(held, &mut self.ready, d, t.0),
             },
         }
     }
@@ -209,10 +182,7 @@ impl Policy for Credit2 {
                 }
                 self.early = t.0;
             }
-            Some(held) => {
-                params::set_params(held, change, t.0);
-                self.ready = ready_in(held);
-            }
+            Some(held) => params::set_params(held, &mut self.ready, change, t.0),
         }
     }
 

@@ -1,35 +1,43 @@
 //! The decision for a core. Moments are in nanoseconds.
 
-ghost use Rattle.std.specs.Prelude.{◌≡◌, ◌≤◌, ◌<◌, length, Some, None, false};
+ghost use Rattle.std.specs.Prelude.{◌≡◌, ◌≤◌, ◌<◌, length, Some, None, true, false};
 ghost use Rattle.queue_laws.specs.Arrivals.{arrivals};
-ghost use Rattle.sched_model.specs.Places.{without_unit, has_unit};
+ghost use Rattle.sched_model.specs.Places.{without_unit, has_unit, is_unit};
 ghost use Rattle.sched_model.specs.Policy.{decision_of, after_decision};
 ghost use Rattle.sched_model.specs.Credit2.{burn_cur as burn_cur_spec, decide, resets_for as resets_for_spec, set_running as set_running_spec, switch_off as switch_off_spec};
 ghost use Rattle.sched_ops.specs.Seen.{Tells, seen_at};
 ghost use Rattle.sched_ops.specs.Conditions.{IsAsked};
 ghost use Rattle.plain_credit2.specs.Bounds.{PoolFits};
-ghost use Rattle.credit2_core.specs.Held.{IsHeld, IsLine, IsSameRoom, AreMasks, scheduler_in, seen_in};
+ghost use Rattle.credit2_core.specs.Held.{IsFree, IsHeld, IsLine, IsSameRoom, AreMasks, scheduler_in, seen_in};
 ghost use Rattle.credit2_core.specs.Choice.{ran};
+ghost use Rattle.credit2_core.specs.Whole.{IsReadyIn};
 
 use crate::choice::{choice, leave, reset_pool};
 use crate::held::Held;
+use crate::line::{Ready, follow};
 use crate::slice::take_slice;
 use plain_credit2::choice::resets_for;
-use plain_credit2::running::{burn_cur, set_running, switch_off};
+use plain_credit2::running::{charge, set_running, switch_off};
+use plain_units::units::is_there;
 use sched_base::{Moment, UnitId};
 use sched_model::ask::Ask;
 use sched_ops::Choice;
 
 /// The core's own unit is charged.
-fn charge(held: &mut Held, ask: &Ask)
+fn charge_own(held: &mut Held, ready: &mut Ready, ask: &Ask)
     requires held { IsHeld held.old }
+    requires ready { IsReadyIn held.old ready.old }
     requires asked { IsAsked (seen_in held.old) ask.now }
     ensures records { held.new.records ≡ burn_cur_spec ask.now.cur ask.now.at held.old.records }
     ensures fits { PoolFits ask.now.at held.new.records }
     ensures line { IsLine held.new }
+    ensures ready { IsReadyIn held.new ready.new }
     ensures rest { held.new ≡ record held.old { records = held.new.records } }
 {
-    burn_cur(ask.cur, ask.at, &mut held.records);
+    if let Some(u) = ask.cur {
+        charge(ready.most, u, ask.at, &mut held.records);
+        *ready = follow(held, *ready, u.dom, true);
+    }
 }
 
 /// The core's own unit runs no more.
@@ -54,8 +62,17 @@ fn start(held: &mut Held, ask: &Ask, u: UnitId)
     set_running(Some(ask.at), u, &mut held.records);
 }
 
+/// Whether the first unit of those that wait still is it, once the unit waits no more and so many resets were made.
+fn stands(first: Option<UnitId>, u: UnitId, resets: u64) -> bool
+    ensures none { result ≡ true → resets ≡ 0 }
+    ensures other { result ≡ true → is_unit first u ≡ false }
+{
+    resets == 0 && !is_there(first, u)
+}
+
 /// The core runs the unit: the resets that it calls for are made, and it takes its budget.
-fn run_unit(held: &mut Held, ask: &Ask, u: UnitId) -> Choice
+fn run_unit(held: &mut Held, ready: &mut Ready, ask: &Ask, u: UnitId) -> Choice
+    requires ready { IsReadyIn held.old ready.old }
     requires core { ask.now.core < 64 }
     requires early { ask.now.at ≤ 10000000000000 }
     requires fits { PoolFits ask.now.at held.old.records }
@@ -64,17 +81,20 @@ fn run_unit(held: &mut Held, ask: &Ask, u: UnitId) -> Choice
     requires places { length held.old.affinity ≤ 64 }
     requires line { IsLine held.old }
     requires masks { AreMasks held.old.affinity held.old.masks }
+    requires free { IsFree held.old.unpinned held.old.affinity }
     ensures tells { Tells result (decide ask.now (scheduler_in held.old) held.old.records (Some u)) }
     ensures records { held.new.records ≡ ran ask.now.cur ask.now.at (resets_for_spec ask.now.at u held.old.records) u held.old.records }
     ensures order { arrivals held.new.queue.units ≡ without_unit u (arrivals held.old.queue.units) }
     ensures line { IsLine held.new }
+    ensures ready { IsReadyIn held.new ready.new }
     ensures room { IsSameRoom held.old.queue held.new.queue }
     ensures rest { held.new ≡ record held.old { records = held.new.records; queue = held.new.queue; latest = ask.now.at } }
 {
     leave(held, u);
     let resets = resets_for(ask.at, u, &held.records);
     reset_pool(held, ask.at, resets);
-    let long = take_slice(held, ask, u);
+    let stands = stands(ready.first, u, resets);
+    let long = take_slice(held, ready, ask, u, stands);
     stop_own(held, ask);
     start(held, ask, u);
     Choice {
@@ -101,16 +121,18 @@ fn idle(held: &mut Held, ask: &Ask) -> Choice
 }
 
 /// Decides for a core: its own unit is charged first, and then the choice is made of it and the first that waits and may run.
-pub fn choose(held: &mut Held, ask: &Ask) -> Choice
+pub fn choose(held: &mut Held, ready: &mut Ready, ask: &Ask) -> Choice
     requires held { IsHeld held.old }
+    requires ready { IsReadyIn held.old ready.old }
     requires asked { IsAsked (seen_in held.old) ask.now }
     ensures answer { Tells result (decision_of ask.now (scheduler_in held.old)) }
     ensures after { seen_in held.new ≡ seen_at ask.now.at (after_decision (decision_of ask.now (scheduler_in held.old)) (scheduler_in held.old)) (seen_in held.old) }
     ensures held { IsHeld held.new }
+    ensures ready { IsReadyIn held.new ready.new }
 {
-    charge(held, ask);
-    match choice(held, ask) {
+    charge_own(held, ready, ask);
+    match choice(held, ready, ask) {
         None => idle(held, ask),
-        Some(u) => run_unit(held, ask, u),
+        Some(u) => run_unit(held, ready, ask, u),
     }
 }

@@ -1,14 +1,16 @@
 //! Tables by domain: which domains may run, the sets of cores by unit, and the moments of the refills.
 
-ghost use Rattle.std.specs.Prelude.{◌≡◌, ◌<◌, ◌≤◌, ◌^◌, ◌==◌, ◌&&◌, if◌then◌else◌, ℕ, length, slice_index_or, slice_set};
+ghost use Rattle.std.specs.Prelude.{◌≡◌, ◌≢◌, ◌<◌, ◌≤◌, ◌^◌, ◌==◌, ◌&&◌, if◌then◌else◌, ℕ, length, nat_lt, slice_index_or, slice_set};
 ghost use Rattle.sched_base.specs.declared.UnitId.{UnitId as Unit};
 ghost use Rattle.unit_places.specs.Masks.{mask_of};
+ghost use Rattle.arrival_queue.specs.Filters.{has_domain};
 ghost use Rattle.sched_base.specs.Numbers.{core_set};
 ghost use Rattle.sched_model.specs.Places.{at_place};
 ghost use Rattle.credit2_core.specs.Places.{refill_of, count_at as count_at_spec};
-ghost use Rattle.credit2_core.specs.Domains.{may_run_bit, set_of, masked};
+ghost use Rattle.credit2_core.specs.Domains.{may_run_at, may_run_bit, set_of, masked};
 
 use due_heap::DueHeap;
+use plain_credit2::choice::has_budget;
 use plain_credit2::running::domain_at;
 use sched_base::{Cores, DomId, Moment, UnitId};
 use sched_model::config::Pins;
@@ -22,7 +24,7 @@ fn bit_of(place: &Option<Credit2Domain>) -> u64
 {
     match place {
         None => 0,
-        Some(d) => (d.cap == 0 || d.budget > 0) as u64,
+        Some(d) => has_budget(d) as u64,
     }
 }
 
@@ -36,6 +38,28 @@ pub fn runnable_domains(domains: &[Option<Credit2Domain>]) -> u64
         [] => 0,
         [place, rest @ ..] => bit_of(place) + 2 * runnable_domains(rest),
     }
+}
+
+/// Whether the cap lets the domain with this number run.
+pub fn may_run(domains: &[Option<Credit2Domain>], d: u8) -> bool
+    ensures { result ≡ may_run_at (at_place domains.now d) }
+{
+    match domain_at(domains, d) {
+        None => false,
+        Some(d) => has_budget(d),
+    }
+}
+
+/// The set of domains with one domain, or without it. There is no domain from 64 on.
+pub fn with_domain(set: u64, d: u8, is_in: bool) -> u64
+    ensures others { (i : ℕ) → i ≢ d → has_domain result i ≡ has_domain set i }
+    ensures there { has_domain result d ≡ (is_in && nat_lt d 64) }
+{
+    if d >= 64 {
+        return set;
+    }
+    let bit = 1u64 << d;
+    if is_in { set | bit } else { set & !bit }
 }
 
 /// Writes the sets of cores of a domain's units into the table.

@@ -8,7 +8,8 @@ use sched_model::state::Credit2Records;
 use unit_places::Masks;
 
 /// The records and the sets of cores of a pool, the queue of the units that wait, by falling credit, the table of the sets of
-/// cores by unit, the moments of the refills by domain, how many units may still join, and the greatest moment given.
+/// cores by unit, the moments of the refills by domain, how many units may still join, the greatest moment given, and whether none was
+/// pinned to fewer than all cores.
 #[derive(Drop)]
 pub struct Held {
     pub records: Credit2Records,
@@ -18,4 +19,5 @@ pub struct Held {
     pub refills: DueHeap,
     pub spare: usize,
     pub latest: u64,
+    pub unpinned: bool,
 }

@@ -12,5 +12,6 @@ mod room;
 mod slice;
 mod small;
 mod timers;
+mod wanted;
 
 pub use credit2::Credit2;

@@ -7,14 +7,17 @@ ghost use Rattle.queue_laws.specs.Arrivals.{arrivals};
 ghost use Rattle.sched_model.specs.Credit2.{credit_of as credit_of_spec};
 ghost use Rattle.credit2_core.specs.Keys.{HasCredits, KeysWhere, is_passed};
 ghost use Rattle.credit2_core.specs.Places.{has_joined};
-ghost use Rattle.credit2_core.specs.Held.{AreMasks, IsLine, IsSameLine};
-ghost use Rattle.credit2_core.specs.Choice.{best_of, first_ready as first_ready_spec};
-ghost use Rattle.credit2_core.specs.Domains.{set_of};
-ghost use Rattle.credit2_core.specs.Whole.{IsReadyIn};
+ghost use Rattle.sched_model.specs.Eligible.{is_allowed_by};
+ghost use Rattle.credit2_core.specs.Held.{AreMasks, IsFree, IsLine, IsSameLine};
+ghost use Rattle.arrival_queue.specs.Filters.{has_domain as domain_in};
+ghost use Rattle.credit2_core.specs.Choice.{best_of, richer_of, first_ready as first_ready_spec, first_with as first_with_spec};
+ghost use Rattle.credit2_core.specs.Domains.{AreRunnable};
+ghost use Rattle.credit2_core.specs.Whole.{IsReadyIn, IsReadyBut, stays_first};
 
-use crate::domains::{count_at, runnable_domains};
+use crate::domains::{count_at, may_run, runnable_domains, with_domain};
 use crate::held::Held;
-use plain_credit2::running::credit_of;
+use arrival_queue::has_domain;
+use plain_credit2::running::{credit_of, max_weight};
 use plain_units::eligible::is_allowed;
 use runq::{Allowed, Runq};
 use sched_base::{Cores, DomId, ResId, UnitId};
@@ -69,18 +72,10 @@ pub fn rekey_all(queue: &mut Runq, records: &Credit2Records, affinity: &[Option<
     }
 }
 
-/// The set of the domains that may run, with bit d for the domain d.
-pub fn runnable_in(held: &Held) -> u64
-    requires { length held.now.records.domains ≤ 64 }
-    ensures { result ≡ set_of held.now.records.domains }
-{
-    runnable_domains(held.records.domains.as_slice())
-}
-
 /// The unit of greatest credit of those that wait and may take the core; among equals the earlier. The set is that of the domains
 /// that may run.
-pub fn best_waiting(held: &Held, runnable: u64, core: u8, home: u64) -> Option<UnitId>
-    requires set { runnable ≡ set_of held.now.records.domains }
+fn best_waiting(held: &Held, runnable: u64, core: u8, home: u64) -> Option<UnitId>
+    requires set { AreRunnable held.now.records.domains runnable }
     requires core { core < 64 }
     requires line { IsLine held.now }
     requires masks { AreMasks held.now.affinity held.now.masks }
@@ -92,37 +87,116 @@ pub fn best_waiting(held: &Held, runnable: u64, core: u8, home: u64) -> Option<U
         .first_on(&allowed, &held.masks, ResId(core), Cores(home))
 }
 
-/// What each change makes anew, so that no question of a core does: the set of the domains that may run, with bit d for the domain d, and
-/// the first unit that waits of one of them.
+/// What is kept from change to change, so that neither a decision nor a question makes it: the set of the domains that may run, with bit d
+/// for the domain d, the first unit that waits of one of them, and the greatest weight of the pool.
 #[derive(Clone, Copy)]
 pub struct Ready {
     pub domains: u64,
     pub first: Option<UnitId>,
+    pub most: u32,
 }
 
 /// The first unit that waits of a domain that may run. The set is that of these domains.
 pub fn first_ready(held: &Held, domains: u64) -> Option<UnitId>
-    requires { domains ≡ set_of held.now.records.domains }
+    requires { AreRunnable held.now.records.domains domains }
     ensures { result ≡ first_ready_spec held.now.records held.now.queue.units }
 {
     held.queue.first_where(&Allowed(domains))
 }
 
-/// Both of what is kept.
+/// All that is kept, made of the whole pool.
 pub fn ready_in(held: &Held) -> Ready
     requires { length held.now.records.domains ≤ 64 }
     ensures { IsReadyIn held.now result }
 {
-    let domains = runnable_in(held);
+    let domains = runnable_domains(held.records.domains.as_slice());
     Ready {
         domains,
         first: first_ready(held, domains),
+        most: max_weight(&held.records),
     }
 }
 
+/// Whether the kept unit stays the first, where the domain d may run now, or may not.
+fn keeps_first(ready: Ready, d: DomId, may_run: bool) -> bool
+    ensures { result ≡ stays_first ready d.0 may_run }
+{
+    if may_run {
+        return has_domain(Allowed(ready.domains), d);
+    }
+    match ready.first {
+        None => true,
+        Some(u) => u.dom.0 != d.0,
+    }
+}
+
+/// What is kept, once the record of one domain was written. The unit that stands, as the first by the set that was kept, stays the first
+/// unless the domain may run only now, or is the unit's own and may run no more; else the first is looked for.
+pub fn follow(held: &Held, ready: Ready, d: DomId, stands: bool) -> Ready
+    requires few { length held.now.records.domains ≤ 64 }
+    requires but { IsReadyBut d.0 stands held.now.records held.now.queue.units ready }
+    ensures { IsReadyIn held.now result }
+{
+    let may = may_run(held.records.domains.as_slice(), d.0);
+    let domains = with_domain(ready.domains, d.0, may);
+    if stands && keeps_first(ready, d, may) {
+        return Ready {
+            domains,
+            first: ready.first,
+            most: ready.most,
+        };
+    }
+    Ready {
+        domains,
+        first: first_ready(held, domains),
+        most: ready.most,
+    }
+}
+
+/// The unit, or the one that waits where it has more credit.
+pub fn richer(records: &Credit2Records, own: UnitId, waiting: Option<UnitId>) -> Option<UnitId>
+    ensures { result ≡ richer_of records.now own waiting }
+{
+    match waiting {
+        None => Some(own),
+        Some(u) => {
+            if credit_of(records, own) < credit_of(records, u) {
+                Some(u)
+            } else {
+                Some(own)
+            }
+        }
+    }
+}
+
+/// The first unit of a domain that may run, once the unit waits too, behind all others.
+pub fn first_with(records: &Credit2Records, ready: Ready, u: UnitId) -> Option<UnitId>
+    ensures { result ≡ first_with_spec records.now (domain_in ready.domains u.dom.0) ready.first u }
+{
+    if !has_domain(Allowed(ready.domains), u.dom) {
+        return ready.first;
+    }
+    match ready.first {
+        None => Some(u),
+        Some(first) => richer(records, first, Some(u)),
+    }
+}
+
+/// Whether a unit that has joined may be on the core. Where none was pinned, each may be on every core.
+#[inline]
+pub fn may_be_on(held: &Held, u: UnitId, core: u8, home: u64) -> bool
+    requires free { IsFree held.now.unpinned held.now.affinity }
+    requires joined { has_joined held.now.affinity u ≡ true }
+    requires core { core < 64 }
+    ensures { result ≡ is_allowed_by held.now.affinity home core u }
+{
+    held.unpinned || is_allowed(held.affinity.as_slice(), home, core, u)
+}
+
 /// As `best_waiting`. Where the first unit of a domain that may run may take the core, no other one is looked for.
-pub fn best_ready(held: &Held, ready: Ready, core: u8, home: u64) -> Option<UnitId>
-    requires ready { IsReadyIn held.now ready }
+pub fn best_ready(held: &Held, ready: &Ready, core: u8, home: u64) -> Option<UnitId>
+    requires ready { IsReadyIn held.now ready.now }
+    requires free { IsFree held.now.unpinned held.now.affinity }
     requires core { core < 64 }
     requires line { IsLine held.now }
     requires masks { AreMasks held.now.affinity held.now.masks }
@@ -132,7 +206,7 @@ pub fn best_ready(held: &Held, ready: Ready, core: u8, home: u64) -> Option<Unit
     match ready.first {
         None => None,
         Some(u) => {
-            if is_allowed(held.affinity.as_slice(), home, core, u) {
+            if may_be_on(held, u, core, home) {
                 Some(u)
             } else {
                 best_waiting(held, ready.domains, core, home)

@@ -1,6 +1,6 @@
 //! Domains that join and part, and changes of parameters. Moments are in nanoseconds.
 
-ghost use Rattle.std.specs.Prelude.{◌≡◌, ◌≤◌, ◌<◌, ◌+◌, ◌-◌, length, Some, None, true, ℕ};
+ghost use Rattle.std.specs.Prelude.{◌≡◌, ◌==◌, ◌&&◌, ◌^◌, ◌≤◌, ◌<◌, ◌+◌, ◌-◌, length, Some, None, true, ℕ};
 ghost use Rattle.std.specs.Option.{ForSome};
 ghost use Rattle.sched_base.specs.declared.UnitId.{UnitId as Unit};
 ghost use Rattle.unit_places.specs.Masks.{mask_of};
@@ -12,11 +12,15 @@ ghost use Rattle.sched_model.specs.Policy.{join as join_spec, part as part_spec,
 ghost use Rattle.sched_ops.specs.Seen.{Seen, seen_at, units_of};
 ghost use Rattle.sched_ops.specs.Conditions.{IsNow, IsWeight, IsCap, HasNoneBusy, IsChange, has_joined as joined_spec};
 ghost use Rattle.credit2_core.specs.Held.{IsHeld, scheduler_in, seen_in};
-ghost use Rattle.credit2_core.specs.Domains.{refreshed};
+ghost use Rattle.arrival_queue.specs.Filters.{first_that, has_domain};
+ghost use Rattle.credit2_core.specs.Domains.{AreRunnableBut, refreshed};
+ghost use Rattle.credit2_core.specs.Whole.{IsReadyIn};
 
 use crate::domains::{count_at, rearm, set_masks};
 use crate::held::Held;
+use crate::line::{Ready, follow};
 use plain_credit2::credit2;
+use plain_credit2::running::max_weight;
 use plain_policy::params;
 use plain_policy::places::{copies, set_place};
 use sched_base::{Cores, DomId};
@@ -36,9 +40,21 @@ fn refresh(masks: &mut Masks, affinity: &[Option<Pins>], d: DomId)
     }
 }
 
+/// What is kept follows the domain, whose record was written; its weight may be another.
+fn reweigh(held: &Held, ready: &mut Ready, d: DomId)
+    requires few { length held.now.records.domains ≤ 64 }
+    requires domains { AreRunnableBut d.0 held.now.records.domains ready.old.domains }
+    requires first { ready.old.first ≡ first_that (λ u. has_domain ready.old.domains u.dom.0) held.now.queue.units }
+    ensures { IsReadyIn held.now ready.new }
+{
+    ready.most = max_weight(&held.records);
+    *ready = follow(held, *ready, d, true);
+}
+
 /// The domain joins at t, with so many units, 1 to 32. Its units may have all cores.
-pub fn join(held: &mut Held, d: DomId, units: u8, weight: u32, cap: u32, t: u64)
+pub fn join(held: &mut Held, ready: &mut Ready, d: DomId, units: u8, weight: u32, cap: u32, t: u64)
     requires held { IsHeld held.old }
+    requires ready { IsReadyIn held.old ready.old }
     requires place { d.0 < length held.old.affinity }
     requires absent { at_place held.old.affinity d.0 ≡ None }
     requires few { units ≤ 32 }
@@ -50,6 +66,7 @@ pub fn join(held: &mut Held, d: DomId, units: u8, weight: u32, cap: u32, t: u64)
     ensures spare { held.new.spare ≡ held.old.spare - units }
     ensures latest { held.new.latest ≡ t }
     ensures held { IsHeld held.new }
+    ensures ready { IsReadyIn held.new ready.new }
 {
     let sets = copies(Cores(u64::MAX), units);
     set_place(&mut held.affinity, d.0, Some(sets));
@@ -59,38 +76,52 @@ pub fn join(held: &mut Held, d: DomId, units: u8, weight: u32, cap: u32, t: u64)
     rearm(&mut held.refills, held.records.domains.as_slice(), d.0);
     held.spare -= units as usize;
     held.latest = t;
+    reweigh(held, ready, d);
 }
 
 /// The domain parts. None of its units waits or is on.
-pub fn part(held: &mut Held, d: DomId)
+pub fn part(held: &mut Held, ready: &mut Ready, d: DomId)
     requires held { IsHeld held.old }
+    requires ready { IsReadyIn held.old ready.old }
     requires joined { joined_spec (scheduler_in held.old) d.0 ≡ true }
     requires idle { HasNoneBusy (scheduler_in held.old) d.0 }
     ensures scheduler { scheduler_in held.new ≡ part_spec d.0 (scheduler_in held.old) }
     ensures spare { held.new.spare ≡ held.old.spare + units_of (scheduler_in held.old) d.0 }
     ensures latest { held.new.latest ≡ held.old.latest }
     ensures held { IsHeld held.new }
+    ensures ready { IsReadyIn held.new ready.new }
 {
     let units = count_at(held.affinity.as_slice(), d.0);
     set_place(&mut held.affinity, d.0, None);
     set_place(&mut held.records.domains, d.0, None);
     rearm(&mut held.refills, held.records.domains.as_slice(), d.0);
     held.spare += units as usize;
+    reweigh(held, ready, d);
 }
 
 /// The domain's weight and cap change at t, where they are given.
-pub fn set_domain(held: &mut Held, d: DomId, weight: Option<u32>, cap: Option<u32>, t: u64)
+pub fn set_domain(
+    held: &mut Held,
+    ready: &mut Ready,
+    d: DomId,
+    weight: Option<u32>,
+    cap: Option<u32>,
+    t: u64,
+)
     requires held { IsHeld held.old }
+    requires ready { IsReadyIn held.old ready.old }
     requires joined { joined_spec (scheduler_in held.old) d.0 ≡ true }
     requires weight { ForSome weight IsWeight }
     requires cap { ForSome cap IsCap }
     requires now { IsNow (seen_in held.old) t }
     ensures seen { seen_in held.new ≡ seen_at t (set_params_spec (changes.Dom d weight cap) t (scheduler_in held.old)) (seen_in held.old) }
     ensures held { IsHeld held.new }
+    ensures ready { IsReadyIn held.new ready.new }
 {
     credit2::set_domain(t, d.0, weight, cap, &mut held.records);
     rearm(&mut held.refills, held.records.domains.as_slice(), d.0);
     held.latest = t;
+    reweigh(held, ready, d);
 }
 
 /// The rate limit, in microseconds, changes at t.
@@ -100,9 +131,17 @@ pub fn set_rate(held: &mut Held, limit: u32, t: u64)
     requires now { IsNow (seen_in held.old) t }
     ensures seen { seen_in held.new ≡ seen_at t (set_params_spec (changes.Rate limit) t (scheduler_in held.old)) (seen_in held.old) }
     ensures held { IsHeld held.new }
+    ensures rest { held.new ≡ record held.old { records = record held.old.records { limit = limit }; latest = t } }
 {
     held.records.limit = limit;
     held.latest = t;
+}
+
+/// Whether each unit may have all cores still, where some units are given this set.
+fn stay_unpinned(unpinned: bool, cores: Cores) -> bool
+    ensures { result ≡ (unpinned && cores.0 == 2 ^ 64 - 1) }
+{
+    unpinned && cores.0 == u64::MAX
 }
 
 /// The set of cores of one of the domain's units, or of all of them, changes at t.
@@ -112,22 +151,28 @@ pub fn pin(held: &mut Held, d: DomId, unit: Option<u8>, cores: Cores, t: u64)
     requires now { IsNow (seen_in held.old) t }
     ensures seen { seen_in held.new ≡ seen_at t (set_params_spec (changes.Pin d unit cores) t (scheduler_in held.old)) (seen_in held.old) }
     ensures held { IsHeld held.new }
+    ensures rest { held.new ≡ record held.old { affinity = held.new.affinity; masks = held.new.masks; latest = t; unpinned = held.new.unpinned } }
 {
     params::pin(d.0, unit, cores, &mut held.affinity);
     refresh(&mut held.masks, held.affinity.as_slice(), d);
+    held.unpinned = stay_unpinned(held.unpinned, cores);
     held.latest = t;
 }
 
 /// The parameters change at t.
-pub fn set_params(held: &mut Held, change: &ParamChange, t: u64)
+pub fn set_params(held: &mut Held, ready: &mut Ready, change: &ParamChange, t: u64)
     requires held { IsHeld held.old }
+    requires ready { IsReadyIn held.old ready.old }
     requires now { IsNow (seen_in held.old) t }
     requires change { IsChange kinds.Credit2 (scheduler_in held.old) change.now }
     ensures seen { seen_in held.new ≡ seen_at t (set_params_spec change.now t (scheduler_in held.old)) (seen_in held.old) }
     ensures held { IsHeld held.new }
+    ensures ready { IsReadyIn held.new ready.new }
 {
     match change {
-        ParamChange::Dom { dom, weight, cap } => set_domain(held, *dom, *weight, *cap, t),
+        ParamChange::Dom { dom, weight, cap } => {
+            set_domain(held, ready, *dom, *weight, *cap, t);
+        }
         ParamChange::Rate { limit } => set_rate(held, *limit, t),
         ParamChange::Pin { dom, unit, cores } => pin(held, *dom, *unit, *cores, t),
         _ => {}

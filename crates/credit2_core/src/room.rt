@@ -68,5 +68,6 @@ pub fn reserve(alloc: Global, domains: u8, units: usize, latest: u64) -> Result<
         refills,
         spare: units,
         latest,
+        unpinned: true,
     })
 }

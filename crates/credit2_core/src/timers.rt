@@ -7,10 +7,12 @@ ghost use Rattle.sched_ops.specs.Seen.{seen_at};
 ghost use Rattle.sched_ops.specs.Conditions.{IsNow};
 ghost use Rattle.sched_ops.specs.Timers.{timer_at, is_due, timer_event, after_timer, first_due as first_due_spec, refills};
 ghost use Rattle.credit2_core.specs.Held.{IsHeld, scheduler_in, seen_in};
+ghost use Rattle.credit2_core.specs.Whole.{IsReadyIn};
 ghost use Rattle.credit2_core.specs.Timing.{come_at, periods_at as periods_at_spec, budget_at as budget_at_spec};
 
 use crate::domains::rearm;
 use crate::held::Held;
+use crate::line::{Ready, follow};
 use plain_credit2::credit2;
 use plain_credit2::domain::periods;
 use plain_credit2::running::domain_at;
@@ -84,18 +86,21 @@ fn budget_at(records: &Credit2Records, d: u8) -> i64
 }
 
 /// The domain's refill, which has come at t: its budget is filled, and the next refill is armed.
-pub fn refill(held: &mut Held, d: DomId, t: u64) -> Event
+pub fn refill(held: &mut Held, ready: &mut Ready, d: DomId, t: u64) -> Event
     requires held { IsHeld held.old }
+    requires ready { IsReadyIn held.old ready.old }
     requires now { IsNow (seen_in held.old) t }
     requires due { is_due t (scheduler_in held.old) (timers.Refill d) ≡ true }
     ensures event { result ≡ timer_event t (scheduler_in held.old) (timers.Refill d) }
     ensures after { seen_in held.new ≡ seen_at t (after_timer t (scheduler_in held.old) (timers.Refill d)) (seen_in held.old) }
     ensures held { IsHeld held.new }
+    ensures ready { IsReadyIn held.new ready.new }
 {
     let periods = periods_at(&held.records, d.0, t);
     credit2::refill(t, d.0, &mut held.records);
     rearm(&mut held.refills, held.records.domains.as_slice(), d.0);
     held.latest = t;
+    *ready = follow(held, *ready, d, true);
     Event::Refill {
         d,
         periods,

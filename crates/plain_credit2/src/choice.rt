@@ -18,7 +18,7 @@ use sched_model::config::Pins;
 use sched_model::state::{Credit2Domain, Credit2Records};
 
 /// Whether the cap lets the domain run.
-fn has_budget(d: &Credit2Domain) -> bool
+pub fn has_budget(d: &Credit2Domain) -> bool
     ensures { result ≡ has_budget_spec d.now }
 {
     d.cap == 0 || d.budget > 0

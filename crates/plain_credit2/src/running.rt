@@ -1,6 +1,6 @@
 //! Changes of a pool's records. Moments are in nanoseconds.
 
-ghost use Rattle.std.specs.Prelude.{◌≡◌, ◌≤◌, ℕ, map, fold, max};
+ghost use Rattle.std.specs.Prelude.{◌≡◌, ◌≤◌, ℕ, map, fold, max, Some};
 ghost use Rattle.std.specs.Option.{option_copied};
 ghost use Rattle.sched_model.specs.declared.state.Credit2Domain.{Credit2Domain as DomainRecord};
 ghost use Rattle.sched_model.specs.Places.{at_place, change_each, change_item, numbered};
@@ -83,7 +83,16 @@ pub fn burned_credit_of(records: &Credit2Records, t: u64, u: UnitId) -> i64
     requires fits { PoolFits t records.now }
     ensures { result ≡ credit_of_spec (change_unit u (burn_unit_spec (max_weight_spec records.now) t) records.now) u }
 {
-    let most = max_weight(records);
+    burned_credit_by(max_weight(records), records, t, u)
+}
+
+/// As `burned_credit_of`, where the greatest weight of the pool is known.
+pub fn burned_credit_by(most: u32, records: &Credit2Records, t: u64, u: UnitId) -> i64
+    requires most { most ≡ max_weight_spec records.now }
+    requires early { t ≤ 10000000000000 }
+    requires fits { PoolFits t records.now }
+    ensures { result ≡ credit_of_spec (change_unit u (burn_unit_spec (max_weight_spec records.now) t) records.now) u }
+{
     match domain_at(records.domains.as_slice(), u.dom.0) {
         None => 0,
         Some(d) => burned_credit_in(most, t, d, u.n),
@@ -98,11 +107,21 @@ pub fn burn_cur(cur: Option<UnitId>, t: u64, records: &mut Credit2Records)
 {
     if let Some(u) = cur {
         let most = max_weight(records);
-        let place = u.dom.0 as usize;
-        if place < records.domains.len() {
-            if let Some(d) = records.domains.item_mut(place) {
-                burn_own(most, t, u.n, d);
-            }
+        charge(most, u, t, records);
+    }
+}
+
+/// The unit charged up to t, and its budget given back. The greatest weight of the pool is most.
+pub fn charge(most: u32, u: UnitId, t: u64, records: &mut Credit2Records)
+    requires most { most ≡ max_weight_spec records.old }
+    requires early { t ≤ 10000000000000 }
+    requires fits { Credit2Fits t records.old }
+    ensures { records.new ≡ burn_cur_spec (Some u) t records.old }
+{
+    let place = u.dom.0 as usize;
+    if place < records.domains.len() {
+        if let Some(d) = records.domains.item_mut(place) {
+            burn_own(most, t, u.n, d);
         }
     }
 }

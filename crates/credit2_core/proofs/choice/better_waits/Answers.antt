@@ -1,11 +1,10 @@
 use Rattle.std.proofs.Common.{◌≡◌, ◌∙◌, sym, ap, refl, Bool, true, false, not, ℕ}
-use Rattle.std.specs.Prelude.{List, Option, None, Some, is_some, ◌||◌, ◌&&◌}
+use Rattle.std.specs.Prelude.{Option, None, Some, is_some, ◌||◌, ◌&&◌}
 use Rattle.std.specs.List.{list_any}
 use Rattle.sched_base.specs.declared.UnitId.{UnitId}
 use Rattle.sched_model.specs.declared.state.Credit2Records.{Credit2Records}
 use Rattle.sched_model.specs.Policy.{better_waits}
 use Rattle.sched_model.specs.Credit2.{is_within_limit, max_weight, change_unit, burn_unit, credit_of, is_better}
-use Rattle.sched_base.specs.declared.Cores.{Cores}
 use Rattle.sched_model.specs.Eligible.{is_allowed_by}
 use Rattle.queue_laws.specs.Arrivals.{arrivals}
 use Rattle.credit2_core.specs.Held.{scheduler_in}
@@ -23,15 +22,18 @@ same_form : (records : Credit2Records) (own : UnitId) (since t : ℕ) (o : Optio
 same_form records own since t None = refl
 same_form records own since t (Some u) = refl
 
-pub returns-else-not-is_allowed : goal.returns-else-not-is_allowed
-returns-else-not-is_allowed c =
+pub returns-else-not-may_be_on : goal.returns-else-not-may_be_on
+returns-else-not-may_be_on c =
     let h = c.args.held.now in
     let own : UnitId = c.in-Some.own in
     let p : UnitId → Bool = may_take h.affinity c.args.home c.args.core h.records in
-    let allowed : is_allowed_by h.affinity c.args.home c.args.core own ≡ true = ap (λ (a : List (Option (List Cores))). is_allowed_by a c.args.home c.args.core own) (sym c.as_slice.ensures) ∙ sym c.is_allowed.ensures ∙ c.if-not-is_allowed.false in
+    let allowed : is_allowed_by h.affinity c.args.home c.args.core own ≡ true = sym c.may_be_on.ensures ∙ c.if-not-may_be_on.false in
     let any : Bool = list_any (λ u. p u && is_better h.records own c.args.since c.args.t u) (arrivals h.queue.units) in
     c.one_is_better.ensures
     ∙ same_form h.records own c.args.since c.args.t (best_of (arrivals h.queue.units) h.affinity c.args.home c.args.core h.records)
     ∙ better_passes h.records (not (is_within_limit h.records c.args.since c.args.t)) (credit_of (change_unit own (burn_unit (max_weight h.records) c.args.t) h.records) own) p (arrivals h.queue.units)
     ∙ ap (λ (b : Bool). not b || any) (sym allowed)
     ∙ ap (λ (cur : Option UnitId). better_waits cur c.args.since c.args.t c.args.core c.args.home (scheduler_in h)) (sym c.in-Some.is)
+
+pub may_be_on-requires-clause-joined : goal.may_be_on-requires-clause-joined
+may_be_on-requires-clause-joined c = (c.requires.own c.in-Some.own c.in-Some.is).member

@@ -20,6 +20,6 @@ returns-in-Some c =
       | else-is_some-via-else-is_some w ↦ absurd (let e : is_some c.own_candidate-own.result ≡ false = sym c.is_some.ensures ∙ w.if-is_some.false in let f : true ≡ false = ap is_some (sym c.in-Some.is) ∙ e in cc)
     ] in
     c.richer.ensures
-    ∙ ap (richer_of h.records c.in-Some.u) c.best_waiting-waiting.ensures
+    ∙ ap (richer_of h.records c.in-Some.u) c.best_ready-waiting.ensures
     ∙ sym (greatest_own h.records c.in-Some.u (filter (may_take h.affinity ask.home ask.core h.records) (arrivals h.queue.units)))
     ∙ sym (choice_scans ask (scheduler_in h) h.records (Some c.in-Some.u) c.if-ask.false own scans)

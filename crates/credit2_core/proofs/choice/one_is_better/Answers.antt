@@ -1,13 +1,25 @@
-use Rattle.std.proofs.Common.{◌≡◌, ◌∙◌, sym, ap, false}
-use Rattle.std.specs.Prelude.{List}
+use Rattle.std.proofs.Common.{◌≡◌, ◌∙◌, ℕ, sym, ap, refl, true, false}
+use Rattle.std.specs.Prelude.{List, Option, Some, None}
 use Rattle.sched_base.specs.declared.UnitId.{UnitId}
 use Rattle.sched_model.specs.declared.state.Credit2Records.{Credit2Records}
-use Rattle.sched_model.specs.Credit2.{domain_has_budget}
+use Rattle.sched_model.specs.Credit2.{domain_has_budget, is_within_limit}
 use Rattle.sched_model.specs.Eligible.{is_allowed_by}
 use Rattle.arrival_queue.specs.Queues.{Queued}
-use Rattle.credit2_core.specs.Choice.{may_take, is_better_of, first_ready}
+use Rattle.queue_laws.specs.Arrivals.{arrivals}
+use Rattle.credit2_core.specs.Choice.{best_of, may_take, is_better_of, first_ready}
 use Rattle.credit2_core.proofs.Waiting.{first_greatest, none_better}
 use Rattle.credit2_core.proofs.choice.one_is_better.Goals as goal
+
+-- within the rate limit no unit is better
+none_within : (records : Credit2Records) (own : UnitId) (since t : ℕ) (o : Option UnitId) → is_within_limit records since t ≡ true → is_better_of records own since t o ≡ false
+none_within records own since t None within = refl
+none_within records own since t (Some u) within = rw within refl
+
+pub returns-then-is_within_limit : goal.returns-then-is_within_limit
+returns-then-is_within_limit c =
+    let held = c.args.held.now in
+    let within : is_within_limit held.records c.args.since c.args.t ≡ true = sym c.is_within_limit.ensures ∙ c.if-is_within_limit.true in
+    sym (none_within held.records c.args.own c.args.since c.args.t (best_of (arrivals held.queue.units) held.affinity c.args.home c.args.core held.records) within)
 
 pub returns-then-not-better_than : goal.returns-then-not-better_than
 returns-then-not-better_than c =
@@ -15,10 +27,17 @@ returns-then-not-better_than c =
     let records : Credit2Records = held.records in
     let es : List Queued = held.queue.units in
     let own : UnitId = c.args.own in
+    let out : is_within_limit records c.args.since c.args.t ≡ false = sym c.is_within_limit.ensures ∙ c.if-is_within_limit.false in
     let worse_first : is_better_of records own c.args.since c.args.t (first_ready records es) ≡ false =
-    ap (is_better_of records own c.args.since c.args.t) (sym c.requires.ready.first) ∙ sym c.better_than.ensures ∙ c.if-not-better_than.true
+    ap (is_better_of records own c.args.since c.args.t) (sym c.requires.ready.first) ∙ sym (c.better_than.ensures c.args.since out) ∙ c.if-not-better_than.true
     in
     sym (
     ap (is_better_of records own c.args.since c.args.t) (sym (first_greatest records (may_take held.affinity c.args.home c.args.core records) es (record { order = c.law_order.ensures.order; ranks = c.law_order.ensures.ranks; units = c.law_order.ensures.units }) c.requires.held.line.keys))
     ∙ none_better records own c.args.since c.args.t (is_allowed_by held.affinity c.args.home c.args.core) (domain_has_budget records) es c.law_order.ensures.order c.requires.held.line.keys worse_first
     )
+
+pub returns : goal.returns
+returns c =
+    let held = c.args.held.now in
+    let out : is_within_limit held.records c.args.since c.args.t ≡ false = sym c.is_within_limit.ensures ∙ c.if-is_within_limit.false in
+    c.better_than-2.ensures c.args.since out ∙ ap (is_better_of held.records c.args.own c.args.since c.args.t) c.best_ready-best.ensures

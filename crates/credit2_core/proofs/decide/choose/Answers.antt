@@ -11,6 +11,7 @@ use Rattle.credit2_core.specs.Choice.{ran}
 use Rattle.credit2_core.specs.Held.{IsHeld, IsLine, IsSameRoom, scheduler_in}
 use Rattle.runq.specs.Queue.{Queue}
 use Rattle.credit2_core.proofs.Deciding.{held_idle, held_ran}
+use Rattle.credit2_core.proofs.Kept.{IsSpared, ready_spared, spared_switch_off}
 use Rattle.credit2_core.proofs.decide.choose.Goals as goal
 
 pub returns-in-None-clause-held : goal.returns-in-None-clause-held
@@ -18,14 +19,20 @@ returns-in-None-clause-held c =
     let h : Held = c.args.held.now in
     let ask : Ask = c.args.ask.now in
     let next : Credit2Records = switch_off ask.cur (burn_cur ask.cur ask.at h.records) in
-    let records : c.idle.new.held.records ≡ next = c.idle.ensures.records ∙ ap (switch_off ask.cur) c.charge.ensures.records in
+    let records : c.idle.new.held.records ≡ next = c.idle.ensures.records ∙ ap (switch_off ask.cur) c.charge_own.ensures.records in
     let is : c.idle.new.held ≡ record h { records = next; latest = ask.at } =
     c.idle.ensures.rest
-    ∙ ap (λ (x : Held). record x { records = c.idle.new.held.records; latest = ask.at }) c.charge.ensures.rest
+    ∙ ap (λ (x : Held). record x { records = c.idle.new.held.records; latest = ask.at }) c.charge_own.ensures.rest
     ∙ ap (λ (r : Credit2Records). record h { records = r; latest = ask.at }) records
     in
     let line : IsLine (record h { records = next; latest = ask.at }) = subst IsLine is c.idle.ensures.line in
     subst IsHeld (sym is) (held_idle h ask c.requires.held c.requires.asked.now.after line)
+
+pub returns-in-None-clause-ready : goal.returns-in-None-clause-ready
+returns-in-None-clause-ready c =
+    let h : Held = c.charge_own.new.held in
+    let spared : IsSpared h.records c.idle.new.held.records = subst (IsSpared h.records) (sym c.idle.ensures.records) (spared_switch_off c.args.ask.now.cur h.records) in
+    ready_spared h c.idle.new.held c.charge_own.new.ready (ap (λ (x : Held). x.queue) c.idle.ensures.rest) spared c.charge_own.ensures.ready
 
 pub returns-in-Some-clause-held : goal.returns-in-Some-clause-held
 returns-in-Some-clause-held c =
@@ -35,17 +42,17 @@ returns-in-Some-clause-held c =
     let burned : Credit2Records = burn_cur ask.cur ask.at h.records in
     let k : ℕ = resets_for ask.at u burned in
     let q : Queue = c.run_unit.new.held.queue in
-    let records : c.run_unit.new.held.records ≡ ran ask.cur ask.at k u burned = c.run_unit.ensures.records ∙ ap (λ (r : Credit2Records). ran ask.cur ask.at (resets_for ask.at u r) u r) c.charge.ensures.records in
+    let records : c.run_unit.new.held.records ≡ ran ask.cur ask.at k u burned = c.run_unit.ensures.records ∙ ap (λ (r : Credit2Records). ran ask.cur ask.at (resets_for ask.at u r) u r) c.charge_own.ensures.records in
     let is : c.run_unit.new.held ≡ record h { records = ran ask.cur ask.at k u burned; queue = q; latest = ask.at } =
     c.run_unit.ensures.rest
-    ∙ ap (λ (x : Held). record x { records = c.run_unit.new.held.records; queue = q; latest = ask.at }) c.charge.ensures.rest
+    ∙ ap (λ (x : Held). record x { records = c.run_unit.new.held.records; queue = q; latest = ask.at }) c.charge_own.ensures.rest
     ∙ ap (λ (r : Credit2Records). record h { records = r; queue = q; latest = ask.at }) records
     in
     let line : IsLine (record h { records = ran ask.cur ask.at k u burned; queue = q; latest = ask.at }) = subst IsLine is c.run_unit.ensures.line in
-    let same : c.charge.new.held.queue ≡ h.queue = ap (λ (x : Held). x.queue) c.charge.ensures.rest in
+    let same : c.charge_own.new.held.queue ≡ h.queue = ap (λ (x : Held). x.queue) c.charge_own.ensures.rest in
     let room : IsSameRoom h.queue q = subst (λ (old : Queue). IsSameRoom old q) same c.run_unit.ensures.room in
-    let chosen : choice ask (scheduler_in c.charge.new.held) c.charge.new.held.records ≡ Some u = sym c.choice.ensures ∙ c.in-Some.is in
+    let chosen : choice ask (scheduler_in c.charge_own.new.held) c.charge_own.new.held.records ≡ Some u = sym c.choice.ensures ∙ c.in-Some.is in
     let here : choice ask (scheduler_of (arrivals h.queue.units) h.affinity burned) burned ≡ Some u =
-    subst (λ (x : Held). choice ask (scheduler_in x) x.records ≡ Some u) (c.charge.ensures.rest ∙ ap (λ (r : Credit2Records). record h { records = r }) c.charge.ensures.records) chosen
+    subst (λ (x : Held). choice ask (scheduler_in x) x.records ≡ Some u) (c.charge_own.ensures.rest ∙ ap (λ (r : Credit2Records). record h { records = r }) c.charge_own.ensures.records) chosen
     in
     subst IsHeld (sym is) (held_ran h ask u k q c.requires.held c.requires.asked.now.after c.requires.asked.own here line room)

@@ -1,22 +1,53 @@
-use Rattle.std.proofs.Common.{◌≡◌, ◌∙◌, ◌+◌, sym, ap, refl, subst, ℕ, length, arith, false}
+use Rattle.std.proofs.Common.{◌≡◌, ◌∙◌, ◌+◌, sym, ap, refl, subst, ℕ, length, arith, Bool, false}
 use Rattle.std.specs.Prelude.{List, Option, Some, ℤ}
 use Rattle.sched_base.specs.Numbers.{moment}
 use Rattle.sched_base.specs.declared.UnitId.{UnitId}
 use Rattle.sched_base.specs.declared.Cores.{Cores}
 use Rattle.sched_model.specs.declared.ask.Ask.{Ask}
 use Rattle.sched_model.specs.declared.state.Credit2Records.{Credit2Records}
-use Rattle.sched_model.specs.Places.{has_unit, without_unit}
+use Rattle.sched_model.specs.Places.{has_unit, without_unit, is_unit}
 use Rattle.sched_model.specs.Credit2.{reset, change_domain, take_budget, resets_for, slice_of, best_other}
 use Rattle.plain_credit2.specs.Bounds.{PoolParamsFit}
 use Rattle.plain_credit2.proofs.Steps.{reset_params, taken_params}
 use Rattle.queue_laws.specs.Arrivals.{arrivals}
+use Rattle.arrival_queue.specs.Filters.{first_that, has_domain}
+use Rattle.credit2_core.specs.declared.line.Ready.{Ready}
 use Rattle.credit2_core.specs.declared.held.Held.{Held}
 use Rattle.credit2_core.specs.Held.{scheduler_in}
 use Rattle.credit2_core.specs.Choice.{slice_beside, credit_or_0, best_of}
+use Rattle.credit2_core.proofs.Kept.{IsSpared, ready_spared, first_runnable, spared_reset, spared_switch_off, spared_set_running}
 use Rattle.credit2_core.proofs.Lists.{gone_without}
 use Rattle.credit2_core.proofs.Choosing.{other_best}
 use Rattle.credit2_core.proofs.Deciding.{length_reset}
 use Rattle.credit2_core.proofs.decide.run_unit.Goals as goal
+
+pub take_slice-long-requires-clause-ready : goal.take_slice-long-requires-clause-ready
+take_slice-long-requires-clause-ready c =
+    let h : Held = c.args.held.now in
+    let left : Held = c.leave.new.held in
+    let kept : Ready = c.args.ready.now in
+    let first : left.records ≡ h.records = ap (λ (x : Held). x.records) c.leave.ensures.rest in
+    let begun : c.reset_pool.new.held.records ≡ reset c.args.ask.now.at c.resets_for-resets.result h.records = c.reset_pool.ensures.records ∙ ap (reset c.args.ask.now.at c.resets_for-resets.result) first in
+    let spared : IsSpared h.records c.reset_pool.new.held.records = subst (IsSpared h.records) (sym begun) (spared_reset c.args.ask.now.at c.resets_for-resets.result h.records) in
+    let p : UnitId → Bool = λ w. has_domain kept.domains w.dom.0 in
+    let was : kept.first ≡ first_that p h.queue.units = c.requires.ready.first ∙ sym (first_runnable h.records kept.domains h.queue.units c.requires.ready.domains) in
+    record {
+      domains = λ i other. c.requires.ready.domains.each i ∙ sym (spared.runs i);
+      first = λ stand.
+          let none : c.reset_pool.new.held ≡ left = c.reset_pool.ensures.none (c.stands-stands.ensures.none stand) in
+          let other : is_unit (first_that p h.queue.units) c.args.u ≡ false = ap (λ (o : Option UnitId). is_unit o c.args.u) (sym was) ∙ c.stands-stands.ensures.other stand in
+          was ∙ sym (c.leave.ensures.first p other) ∙ ap (λ (x : Held). first_that p x.queue.units) (sym none);
+      most = c.requires.ready.most ∙ sym spared.weight;
+    }
+
+pub returns-clause-ready : goal.returns-clause-ready
+returns-clause-ready c =
+    let taken : Held = c.take_slice-long.new.held in
+    let off : Held = c.stop_own.new.held in
+    let kept : Ready = c.take_slice-long.new.ready in
+    let one : IsSpared taken.records off.records = subst (IsSpared taken.records) (sym c.stop_own.ensures.records) (spared_switch_off c.args.ask.now.cur taken.records) in
+    let two : IsSpared off.records c.start.new.held.records = subst (IsSpared off.records) (sym c.start.ensures.records) (spared_set_running (Some c.args.ask.now.at) c.args.u off.records) in
+    ready_spared off c.start.new.held kept (ap (λ (x : Held). x.queue) c.start.ensures.rest) two (ready_spared taken off kept (ap (λ (x : Held). x.queue) c.stop_own.ensures.rest) one c.take_slice-long.ensures.ready)
 
 pub take_slice-long-requires-clause-few : goal.take_slice-long-requires-clause-few
 take_slice-long-requires-clause-few c =

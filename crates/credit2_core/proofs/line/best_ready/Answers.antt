@@ -1,12 +1,14 @@
-use Rattle.std.proofs.Common.{◌≡◌, ◌∙◌, sym, ap, true}
-use Rattle.std.specs.Prelude.{List, Some, None, Option}
-use Rattle.sched_base.specs.declared.Cores.{Cores}
+use Rattle.std.proofs.Common.{◌≡◌, ◌∙◌, sym, true}
+use Rattle.std.specs.Prelude.{List, Some, None}
 use Rattle.sched_base.specs.declared.UnitId.{UnitId}
 use Rattle.sched_model.specs.declared.state.Credit2Records.{Credit2Records}
 use Rattle.sched_model.specs.Credit2.{domain_has_budget}
 use Rattle.sched_model.specs.Eligible.{is_allowed_by}
 use Rattle.arrival_queue.specs.Queues.{Queued}
 use Rattle.credit2_core.specs.Choice.{may_take, first_ready}
+use Rattle.credit2_core.specs.Places.{has_joined}
+use Rattle.credit2_core.proofs.Kept.{first_has}
+use Rattle.credit2_core.proofs.Lists.{queued_have}
 use Rattle.credit2_core.proofs.Waiting.{first_greatest, first_of_none, first_of_both}
 use Rattle.credit2_core.proofs.line.best_ready.Goals as goal
 
@@ -21,17 +23,23 @@ returns-in-None c =
     ∙ first_of_none (is_allowed_by held.affinity c.args.home c.args.core) (domain_has_budget records) es none
     )
 
-pub returns-then-is_allowed : goal.returns-then-is_allowed
-returns-then-is_allowed c =
+pub returns-then-may_be_on : goal.returns-then-may_be_on
+returns-then-may_be_on c =
     let held = c.args.held.now in
     let records : Credit2Records = held.records in
     let es : List Queued = held.queue.units in
     let u : UnitId = c.in-Some.u in
     let found : first_ready records es ≡ Some u = sym c.requires.ready.first ∙ c.in-Some.is in
     let passes : is_allowed_by held.affinity c.args.home c.args.core u ≡ true =
-    ap (λ (a : List (Option (List Cores))). is_allowed_by a c.args.home c.args.core u) (sym c.as_slice.ensures) ∙ sym c.is_allowed.ensures ∙ c.if-is_allowed.true
+    sym c.may_be_on.ensures ∙ c.if-may_be_on.true
     in
     sym (
     sym (first_greatest records (may_take held.affinity c.args.home c.args.core records) es (record { order = c.law_order.ensures.order; ranks = c.law_order.ensures.ranks; units = c.law_order.ensures.units }) c.requires.line.keys)
     ∙ first_of_both (is_allowed_by held.affinity c.args.home c.args.core) (domain_has_budget records) es u found passes
     )
+
+pub may_be_on-requires-clause-joined : goal.may_be_on-requires-clause-joined
+may_be_on-requires-clause-joined c =
+    let held = c.args.held.now in
+    let es : List Queued = held.queue.units in
+    first_has (λ u. has_joined held.affinity u ≡ true) (domain_has_budget held.records) es c.in-Some.u (queued_have (λ u. has_joined held.affinity u ≡ true) es c.requires.line.joined) (sym c.requires.ready.first ∙ c.in-Some.is)

@@ -1,6 +1,5 @@
-use Rattle.std.proofs.Common.{◌≡◌, ◌<◌, ◌∙◌, ◌-◌, sym, ap, subst, length}
+use Rattle.std.proofs.Common.{◌≡◌, ◌<◌, ◌∙◌, ◌-◌, sym, ap, subst}
 use Rattle.std.specs.Prelude.{List, Option, slice_set}
-use Rattle.std.proofs.lemmas.List.{length-replicate}
 use Rattle.unit_places.specs.Masks.{mask_of}
 use Rattle.sched_base.specs.declared.Cores.{Cores}
 use Rattle.sched_base.specs.declared.Moment.{Moment}
@@ -29,8 +28,7 @@ returns-clause-held c =
     let written : (u : UnitId) → u.n < 256 → mask_of c.refresh.new.masks u ≡ refreshed h.masks (put_at d sets h.affinity) d u =
     λ u low. c.refresh.ensures u low ∙ ap (λ (a : List (Option (List Cores))). refreshed h.masks a d u) (c.as_slice.ensures ∙ c.set_place.ensures)
     in
-    let long : length sets ≡ c.args.units = ap length c.copies-sets.ensures ∙ length-replicate c.args.units _ in
     subst (λ (ds : List (Option Credit2Domain)). IsHeld (record h { records = record h.records { domains = ds }; affinity = c.set_place.new.places; masks = c.refresh.new.masks; refills = c.rearm.new.refills; spare = h.spare - c.args.units; latest = c.args.t })) (sym placed)
     (subst (λ (a : List (Option (List Cores))). IsHeld (record h { records = record h.records { domains = domains }; affinity = a; masks = c.refresh.new.masks; refills = c.rearm.new.refills; spare = h.spare - c.args.units; latest = c.args.t })) (sym c.set_place.ensures)
     (subst (λ (rs : List (Option Moment)). IsHeld (record h { records = record h.records { domains = domains }; affinity = put_at d sets h.affinity; masks = c.refresh.new.masks; refills = rs; spare = h.spare - c.args.units; latest = c.args.t })) (sym refills)
-    (held_joined h d c.args.weight c.args.cap c.args.units c.args.t sets c.refresh.new.masks c.requires.held c.requires.place c.requires.absent c.requires.few c.requires.room c.requires.weight c.requires.cap c.requires.now.after long written)))
+    (held_joined h d c.args.weight c.args.cap c.args.units c.args.t sets c.refresh.new.masks c.requires.held c.requires.place c.requires.absent c.requires.few c.requires.room c.requires.weight c.requires.cap c.requires.now.after c.copies-sets.ensures written)))

@@ -1,5 +1,5 @@
-use Rattle.std.proofs.Common.{◌≡◌, ◌<◌, ◌∙◌, sym, ap, subst}
-use Rattle.std.specs.Prelude.{List, Option}
+use Rattle.std.proofs.Common.{◌≡◌, ◌<◌, ◌-◌, ◌^◌, ◌∙◌, Bool, sym, ap, subst}
+use Rattle.std.specs.Prelude.{List, Option, ◌==◌, ◌&&◌}
 use Rattle.unit_places.specs.Masks.{mask_of}
 use Rattle.sched_base.specs.declared.Cores.{Cores}
 use Rattle.sched_base.specs.declared.UnitId.{UnitId}
@@ -18,5 +18,6 @@ returns-clause-held c =
     let written : (u : UnitId) → u.n < 256 → mask_of c.refresh.new.masks u ≡ refreshed h.masks next c.args.d.0 u =
     λ u low. c.refresh.ensures u low ∙ ap (λ (a : List (Option (List Cores))). refreshed h.masks a c.args.d.0 u) (c.as_slice.ensures ∙ c.pin.ensures)
     in
-    subst (λ (a : List (Option (List Cores))). IsHeld (record h { affinity = a; masks = c.refresh.new.masks; latest = c.args.t })) (sym c.pin.ensures)
-    (held_pinned h c.args.d.0 c.args.t c.args.unit c.args.cores c.refresh.new.masks c.requires.held c.requires.now.after written)
+    subst (λ (free : Bool). IsHeld (record h { affinity = c.pin.new.affinity; masks = c.refresh.new.masks; latest = c.args.t; unpinned = free })) (sym c.stay_unpinned-held.ensures)
+    (subst (λ (a : List (Option (List Cores))). IsHeld (record h { affinity = a; masks = c.refresh.new.masks; latest = c.args.t; unpinned = h.unpinned && c.args.cores.0 == 2 ^ 64 - 1 })) (sym c.pin.ensures)
+    (held_pinned h c.args.d.0 c.args.t c.args.unit c.args.cores c.refresh.new.masks c.requires.held c.requires.now.after written))

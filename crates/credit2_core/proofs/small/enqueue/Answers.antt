@@ -1,21 +1,25 @@
-use Rattle.std.proofs.Common.{◌≡◌, ◌∙◌, sym, ap, subst, rules, arith, FitsSigned, neg_ℤ}
+use Rattle.std.proofs.Common.{◌≡◌, ◌∙◌, ◌++◌, ◌∷◌, [], Bool, sym, ap, subst, rules, arith, FitsSigned, neg_ℤ}
 use Rattle.std.specs.Int.{w128}
-use Rattle.std.specs.Prelude.{ℤ, List}
+use Rattle.std.specs.Prelude.{ℤ, List, Option, None, filter}
 use Rattle.std.proofs.lemmas.Int.{to_z-of_z}
 use Rattle.sched_base.specs.declared.UnitId.{UnitId}
-use Rattle.sched_model.specs.Credit2.{credit_of}
+use Rattle.sched_model.specs.declared.state.Credit2Records.{Credit2Records}
+use Rattle.sched_model.specs.Credit2.{credit_of, domain_has_budget, greatest}
 use Rattle.sched_ops.specs.Seen.{Seen}
 use Rattle.plain_credit2.specs.Waiting.{scheduler_of}
 use Rattle.runq.specs.Queue.{Queue, inserted, plain}
+use Rattle.arrival_queue.specs.Queues.{Queued}
 use Rattle.queue_laws.specs.Arrivals.{arrivals}
+use Rattle.credit2_core.specs.Choice.{first_with}
 use Rattle.credit2_core.specs.declared.held.Held.{Held}
 use Rattle.credit2_core.specs.Held.{IsHeld}
 use Rattle.credit2_core.proofs.Keeping.{held_pushed}
 use Rattle.credit2_core.proofs.Members.{joined_place, joined_small}
-use Rattle.credit2_core.proofs.Waiting.{has_arrived, placed_arrivals}
+use Rattle.credit2_core.proofs.Kept.{greatest_more}
+use Rattle.credit2_core.proofs.Waiting.{IsOrdered, first_greatest, has_arrived, placed_arrivals}
 use Rattle.credit2_core.proofs.small.enqueue.Goals as goal
 
-inserted_is : (c : goal.After-insert) → c.insert.new.self ≡ inserted c.args.held.now.queue c.args.u (neg_ℤ (credit_of c.args.held.now.records c.args.u))
+inserted_is : (c : goal.After-ready-1) → c.insert.new.self ≡ inserted c.args.held.now.queue c.args.u (neg_ℤ (credit_of c.args.held.now.records c.args.u))
 inserted_is c =
     let fits : FitsSigned w128 c.key_of-key.result = search rules in
     c.insert.ensures ∙ ap (λ (k : ℤ). inserted c.args.held.now.queue c.args.u k) (to_z-of_z w128 c.key_of-key.result fits ∙ c.key_of-key.ensures)
@@ -33,14 +37,41 @@ pub insert-requires-clause-room : goal.insert-requires-clause-room
 insert-requires-clause-room c =
     (held_pushed c.args.held.now c.args.u c.requires.held c.requires.away (record { order = c.law_order.ensures.order; ranks = c.law_order.ensures.ranks; units = c.law_order.ensures.units })).1
 
+ordered : (c : goal.After-ready-1) → IsOrdered c.args.held.now.queue.units
+ordered c = record { order = c.law_order.ensures.order; ranks = c.law_order.ensures.ranks; units = c.law_order.ensures.units }
+
+-- the unit arrived behind all others
+order_is : (c : goal.After-ready-1) → arrivals c.insert.new.self.units ≡ arrivals c.args.held.now.queue.units ++ c.args.u ∷ []
+order_is c = ap (λ (q : Queue). arrivals q.units) (inserted_is c) ∙ placed_arrivals c.args.u (plain (neg_ℤ (credit_of c.args.held.now.records c.args.u))) c.args.held.now.queue.units (ordered c)
+
+held_is : (c : goal.After-ready-1) → IsHeld (record c.args.held.now { queue = c.insert.new.self })
+held_is c =
+    subst (λ (q : Queue). IsHeld (record c.args.held.now { queue = q })) (sym (inserted_is c)) (held_pushed c.args.held.now c.args.u c.requires.held c.requires.away (ordered c)).0
+
 pub returns-clause-seen : goal.returns-clause-seen
 returns-clause-seen c =
     let h : Held = c.args.held.now in
-    let seen : List UnitId → Seen = λ units. record { scheduler = scheduler_of units h.affinity h.records; spare = h.spare; latest = h.latest } in
-    ap (λ (q : Queue). seen (arrivals q.units)) (inserted_is c)
-    ∙ ap seen (placed_arrivals c.args.u (plain (neg_ℤ (credit_of h.records c.args.u))) h.queue.units (record { order = c.law_order.ensures.order; ranks = c.law_order.ensures.ranks; units = c.law_order.ensures.units }))
+    ap (λ (units : List UnitId). let seen : Seen = record { scheduler = scheduler_of units h.affinity h.records; spare = h.spare; latest = h.latest } in seen) (order_is c)
 
 pub returns-clause-held : goal.returns-clause-held
-returns-clause-held c =
-    subst (λ (q : Queue). IsHeld (record c.args.held.now { queue = q })) (sym (inserted_is c))
-    (held_pushed c.args.held.now c.args.u c.requires.held c.requires.away (record { order = c.law_order.ensures.order; ranks = c.law_order.ensures.ranks; units = c.law_order.ensures.units })).0
+returns-clause-held c = held_is c
+
+pub returns-clause-ready : goal.returns-clause-ready
+returns-clause-ready c =
+    let h : Held = c.args.held.now in
+    let records : Credit2Records = h.records in
+    let p : UnitId → Bool = domain_has_budget records in
+    let es : List Queued = h.queue.units in
+    let ds : List Queued = c.insert.new.self.units in
+    let after : IsOrdered ds = record { order = c.law_order-2.ensures.order; ranks = c.law_order-2.ensures.ranks; units = c.law_order-2.ensures.units } in
+    let before : c.args.ready.now.first ≡ greatest records None (filter p (arrivals es)) = c.requires.ready.first ∙ first_greatest records p es (ordered c) c.requires.held.line.keys in
+    record {
+      domains = c.requires.ready.domains;
+      first = c.first_with-ready.ensures
+          ∙ ap (λ (b : Bool). first_with records b c.args.ready.now.first c.args.u) (c.requires.ready.domains.each c.args.u.dom.0)
+          ∙ ap (λ (o : Option UnitId). first_with records (p c.args.u) o c.args.u) before
+          ∙ sym (greatest_more records p c.args.u None (arrivals es))
+          ∙ ap (λ (units : List UnitId). greatest records None (filter p units)) (sym (order_is c))
+          ∙ sym (first_greatest records p ds after (held_is c).line.keys);
+      most = c.requires.ready.most;
+    }

@@ -8,6 +8,10 @@ use Rattle.sched_model.specs.Credit2.{refilled}
 use Rattle.credit2_core.specs.declared.held.Held.{Held}
 use Rattle.credit2_core.specs.Places.{refill_of}
 use Rattle.credit2_core.specs.Held.{IsHeld}
+use Rattle.sched_model.specs.Credit2.{max_weight, refill_domain}
+use Rattle.std.proofs.Common.{true, refl}
+use Rattle.credit2_core.specs.Whole.{IsReadyBut}
+use Rattle.credit2_core.proofs.Kept.{but_of, but_again}
 use Rattle.credit2_core.proofs.Keeping.{held_refilled}
 use Rattle.credit2_core.proofs.Ranges.{plain_fits, range_later}
 use Rattle.credit2_core.proofs.timers.refill.Goals as goal
@@ -25,3 +29,9 @@ returns-clause-held c =
     subst (λ (r : Credit2Records). IsHeld (record h { records = r; refills = c.rearm.new.refills; latest = c.args.t })) (sym c.refill.ensures)
     (subst (λ (rs : List (Option Moment)). IsHeld (record h { records = next; refills = rs; latest = c.args.t })) (sym refills)
     (held_refilled h c.args.d.0 c.args.t c.requires.held c.requires.now.after c.requires.due))
+
+pub follow-requires-clause-but : goal.follow-requires-clause-but
+follow-requires-clause-but c =
+    let h : Held = c.args.held.now in
+    subst (λ (r : Credit2Records). IsReadyBut c.args.d.0 true r h.queue.units c.args.ready.now) (sym c.refill.ensures)
+    (but_again c.args.d.0 true (refill_domain (max_weight h.records) c.args.t) h.records h.queue.units c.args.ready.now (λ x. refl) (but_of c.args.d.0 true h c.args.ready.now c.requires.ready))

@@ -1,0 +1,60 @@
+//! The cores for which one that waits is better.
+
+ghost use Rattle.std.specs.Prelude.{◌≡◌, ◌≤◌, ℕ, length};
+ghost use Rattle.sched_model.specs.State.{has_core};
+ghost use Rattle.sched_model.specs.Places.{at_place};
+ghost use Rattle.sched_laws.specs.Each.{EachPlace};
+ghost use Rattle.sched_ops.specs.Conditions.{IsNow};
+ghost use Rattle.sched_ops.specs.Wanted.{MayAsk, is_wanted};
+ghost use Rattle.credit2_core.specs.Held.{IsHeld, scheduler_in, seen_in};
+ghost use Rattle.credit2_core.specs.Whole.{IsReadyIn};
+
+use crate::choice::better_waits;
+use crate::held::Held;
+use crate::line::Ready;
+use sched_base::{Cores, Moment};
+use sched_model::state::Resource;
+use sched_ops::wanted_where;
+
+/// The cores that are to decide anew at t, of those at these places, each asked by itself.
+fn wanted_by_core(
+    held: &Held,
+    ready: &Ready,
+    cores: &[Option<Resource>],
+    t: Moment,
+    home: Cores,
+) -> Cores
+    requires held { IsHeld held.now }
+    requires now { IsNow (seen_in held.now) t.0 }
+    requires ready { IsReadyIn held.now ready.now }
+    requires few { length cores.now ≤ 64 }
+    requires asks { EachPlace (MayAsk t.0 (scheduler_in held.now)) cores.now }
+    ensures { (r : ℕ) → has_core result.0 r ≡ is_wanted t.0 home.0 (scheduler_in held.now) r (at_place cores.now r) }
+{
+    wanted_where(cores, |core, cur, since| {
+        better_waits(held, ready, cur, since.0, t.0, core.0, home.0)
+    })
+}
+
+/// The cores that are to decide anew at t, of those at these places. Where no unit waits of a domain that may run, and none was pinned,
+/// there is none.
+pub fn wanted(
+    held: &Held,
+    ready: &Ready,
+    cores: &[Option<Resource>],
+    t: Moment,
+    home: Cores,
+) -> Cores
+    requires held { IsHeld held.now }
+    requires now { IsNow (seen_in held.now) t.0 }
+    requires ready { IsReadyIn held.now ready.now }
+    requires few { length cores.now ≤ 64 }
+    requires asks { EachPlace (MayAsk t.0 (scheduler_in held.now)) cores.now }
+    ensures { (r : ℕ) → has_core result.0 r ≡ is_wanted t.0 home.0 (scheduler_in held.now) r (at_place cores.now r) }
+{
+    held.queue.law_order();
+    if ready.first.is_none() && held.unpinned {
+        return Cores(0);
+    }
+    wanted_by_core(held, ready, cores, t, home)
+}
