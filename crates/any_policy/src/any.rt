@@ -5,11 +5,12 @@ ghost use Rattle.any_policy.specs.Any.{seen_of};
 use arinc_frame::Arinc;
 use credit2_core::Credit2;
 use rtds_core::Rtds;
-use sched_base::{Cores, DomId, Moment, NoMemory, ResId, UnitId};
+use sched_base::{Cores, DomId, Moment, NoMemory, UnitId};
 use sched_model::ask::Ask;
 use sched_model::config::{DomParams, ParamChange, PoolParams, SchedKind};
 use sched_model::event::Event;
 use sched_model::facts::Stored;
+use sched_model::state::Resource;
 use sched_null::Null;
 use sched_ops::{Choice, Places, Policy, Timer};
 use std::alloc::Global;
@@ -85,15 +86,8 @@ impl Policy for AnyPolicy {
         call!(self, policy => policy.choose(ask))
     }
 
-    fn better_waits(
-        &self,
-        cur: Option<UnitId>,
-        since: Moment,
-        t: Moment,
-        core: ResId,
-        home: Cores,
-    ) -> bool {
-        call!(self, policy => policy.better_waits(cur, since, t, core, home))
+    fn wanted(&self, cores: &[Option<Resource>], t: Moment, home: Cores) -> Cores {
+        call!(self, policy => policy.wanted(cores, t, home))
     }
 
     fn timer_due(&self, t: Moment) -> Option<(Moment, Timer)> {

@@ -6,6 +6,16 @@ use Rattle.sched_model.specs.Places.{has_unit, is_unit, same_unit}
 use Rattle.sched_model.specs.Eligible.{is_allowed_by}
 use Rattle.pool_units.specs.Units.{Units}
 
+-- the unit, where it waits
+abbrev pub if_waits : Units → Option UnitId → Option UnitId
+if_waits units None = None
+if_waits units (Some u) = (if has_unit units.queue u then Some u else None)
+
+-- the unit, where it may have the core
+abbrev pub if_allowed : Units → Option UnitId → ℕ → ℕ → Option UnitId
+if_allowed units None home core = None
+if_allowed units (Some u) home core = (if is_allowed_by units.affinity home core u then Some u else None)
+
 -- the window's unit, where it waits and may have the core
 abbrev pub awaited : Units → Option UnitId → ℕ → ℕ → Option UnitId
 awaited units None home core = None

@@ -5,13 +5,14 @@ ghost use Rattle.std.specs.Option.{ForSome};
 ghost use Rattle.sched_model.specs.declared.state.Records.TheVariants.{ArincPool};
 ghost use Rattle.sched_model.specs.declared.config.SchedKind.TheVariants.{Arinc653};
 ghost use Rattle.sched_model.specs.Arinc.{window_unit};
-ghost use Rattle.sched_model.specs.Policy.{decision_of, fresh_records};
+ghost use Rattle.sched_model.specs.Policy.{better_waits, decision_of, fresh_records};
+ghost use Rattle.sched_model.specs.declared.state.ArincRecords.{ArincRecords as ArincRecord};
 ghost use Rattle.sched_ranges.specs.Ranges.{IsFrame};
 ghost use Rattle.plain_policy.specs.Parts.{scheduler_of};
 ghost use Rattle.sched_ops.specs.Conditions.{ArePoolParams};
 ghost use Rattle.sched_ops.specs.Seen.{Tells};
 ghost use Rattle.arinc_frame.specs.Frames.{IsPresent};
-ghost use Rattle.arinc_frame.specs.Waiting.{awaited as awaited_spec, chosen as chosen_spec, is_other as is_other_spec};
+ghost use Rattle.arinc_frame.specs.Waiting.{awaited as awaited_spec, chosen as chosen_spec, if_allowed as if_allowed_spec, if_waits as if_waits_spec, is_other as is_other_spec};
 
 use crate::window::{Present, copy_frame, copy_of, found_at, window_now};
 use plain_units::units::{is_same, is_there};
@@ -21,8 +22,8 @@ use sched_model::ask::Ask;
 use sched_model::config::{DomParams, Frame, ParamChange, PoolParams};
 use sched_model::event::Event;
 use sched_model::facts::Stored;
-use sched_model::state::ArincRecords;
-use sched_ops::{Choice, Places, Policy, Timer};
+use sched_model::state::{ArincRecords, Resource};
+use sched_ops::{Choice, Places, Policy, Timer, wanted_where};
 use std::alloc::Global;
 use std::marker::Model;
 
@@ -72,16 +73,51 @@ fn is_other(unit: Option<UnitId>, own: UnitId) -> bool
     }
 }
 
+/// The unit, where it waits.
+fn if_waits(units: &PoolUnits, unit: Option<UnitId>) -> Option<UnitId>
+    ensures { result ≡ if_waits_spec units.now unit }
+{
+    let u = unit?;
+    if units.waits(u) { Some(u) } else { None }
+}
+
+/// The unit, where it may have the core.
+fn if_allowed(units: &PoolUnits, unit: Option<UnitId>, home: Cores, core: ResId) -> Option<UnitId>
+    requires { core.0 < 64 }
+    ensures { result ≡ if_allowed_spec units.now unit home.0 core.0 }
+{
+    let u = unit?;
+    if units.is_allowed(home, core, u) {
+        Some(u)
+    } else {
+        None
+    }
+}
+
 /// The window's unit, where it waits and may have the core.
 fn awaited(units: &PoolUnits, unit: Option<UnitId>, home: Cores, core: ResId) -> Option<UnitId>
     requires { core.0 < 64 }
     ensures { result ≡ awaited_spec units.now unit home.0 core.0 }
 {
-    let u = unit?;
-    if units.waits(u) && units.is_allowed(home, core, u) {
-        Some(u)
-    } else {
-        None
+    if_allowed(units, if_waits(units, unit), home, core)
+}
+
+/// Whether a core with this unit of its own is to decide anew, where this is the window's unit, if it waits: that may have the core, and is
+/// another one than the core's own, or the core's own is not allowed on it.
+fn is_wanted(
+    units: &PoolUnits,
+    waiting: Option<UnitId>,
+    cur: Option<UnitId>,
+    core: ResId,
+    home: Cores,
+) -> bool
+    requires { core.0 < 64 }
+    ensures { (records : ArincRecord) (since t : ℕ) → waiting ≡ if_waits_spec units.now (window_unit records t) → result ≡ better_waits cur since t core.0 home.0 (scheduler_of units.now.queue units.now.affinity (ArincPool records)) }
+{
+    let here = if_allowed(units, waiting, home, core);
+    match cur {
+        None => here.is_some(),
+        Some(own) => !units.is_allowed(home, core, own) || is_other(here, own),
     }
 }
 
@@ -207,20 +243,11 @@ impl Policy for Arinc {
         choice
     }
 
-    fn better_waits(
-        &self,
-        cur: Option<UnitId>,
-        since: Moment,
-        t: Moment,
-        core: ResId,
-        home: Cores,
-    ) -> bool {
-        let unit = unit_now(&self.records, self.present, t.0);
-        let waiting = awaited(&self.units, unit, home, core);
-        match cur {
-            None => waiting.is_some(),
-            Some(own) => !self.units.is_allowed(home, core, own) || is_other(waiting, own),
-        }
+    fn wanted(&self, cores: &[Option<Resource>], t: Moment, home: Cores) -> Cores {
+        let waiting = if_waits(&self.units, unit_now(&self.records, self.present, t.0));
+        wanted_where(cores, |core, cur, _since| {
+            is_wanted(&self.units, waiting, cur, core, home)
+        })
     }
 
     fn timer_due(&self, t: Moment) -> Option<(Moment, Timer)> {

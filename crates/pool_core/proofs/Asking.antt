@@ -24,7 +24,7 @@ use Rattle.sched_ops.specs.Conditions.{IsAway, is_on}
 use Rattle.pool_kept.proofs.Alike.{Alike, alike_change_at, alike_members, alike_refl, core_face, found_core}
 use Rattle.pool_kept.proofs.Members.{runnable_member}
 use Rattle.pool_kept.specs.Holds.{Holds}
-use Rattle.pool_core.specs.Settling.{MayAsk}
+use Rattle.sched_ops.specs.Wanted.{MayAsk}
 use Rattle.pool_core.specs.Waking.{is_held_among}
 use Rattle.pool_core.proofs.Processors.{same_number}
 

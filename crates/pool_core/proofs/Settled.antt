@@ -1,13 +1,12 @@
--- Each core looked at, one after another.
+-- Cores changed one after another, and what a look makes of one.
 use Rattle.std.proofs.Common.{◌≡◌, ◌≤◌, ◌+◌, ℕ, zero, suc, Bool, true, false, List, [], ◌∷◌, refl, sym, ap, subst, ◌∙◌, cond, arith, length}
-use Rattle.std.specs.Prelude.{Option, Some, None, option_map, slice_set, ◌||◌, ◌&&◌, not}
-use Rattle.std.proofs.lemmas.List.{set-get_or}
+use Rattle.std.specs.Prelude.{Option, option_map, ◌||◌, ◌&&◌, not}
 use Rattle.sched_model.specs.declared.state.Resource.{Resource}
 use Rattle.sched_model.specs.declared.state.Scheduler.{Scheduler}
-use Rattle.sched_model.specs.Places.{at_place, change_at, change_each}
+use Rattle.sched_model.specs.Places.{change_at, change_each}
 use Rattle.sched_model.specs.Policy.{better_waits}
 use Rattle.sched_model.specs.Pool.{reconsidered, set_pending}
-use Rattle.pool_core.specs.Settling.{change_first, is_wanted}
+use Rattle.pool_core.specs.Settling.{change_first}
 
 -- one place more
 first-more : {X : Type 0} (n k : ℕ) (f : ℕ → X → X) (places : List (Option X)) → change_at n (f (k + n)) (change_first n k f places) ≡ change_first (suc n) k f places
@@ -32,16 +31,9 @@ first-all zero k f (x ∷ places) few = absurd (omega (arith, few))
 first-all (suc n) k f [] few = refl
 first-all (suc n) k f (x ∷ places) few = ap (λ ys. option_map (f k) x ∷ ys) (first-all n (suc k) f places (omega (arith, few)))
 
--- those after them are as before
-pub first-rest : {X : Type 0} (n k i : ℕ) (f : ℕ → X → X) (places : List (Option X)) → n ≤ i → at_place (change_first n k f places) i ≡ at_place places i
-first-rest zero k i f places low = refl
-first-rest (suc n) k i f [] low = refl
-first-rest (suc n) k zero f (x ∷ places) low = absurd (omega (arith, low))
-first-rest (suc n) k (suc i) f (x ∷ places) low = first-rest n (suc k) i f places (omega (arith, low))
-
 module _ (t home : ℕ) (scheduler : Scheduler) (r : ℕ) where
   -- a core that is wanted becomes pending
-  wanted : (c : Resource) → (not c.leaving && not c.pending && better_waits c.cur c.since.0 t r home scheduler) ≡ true → set_pending c ≡ reconsidered t home scheduler r c
+  pub wanted : (c : Resource) → (not c.leaving && not c.pending && better_waits c.cur c.since.0 t r home scheduler) ≡ true → set_pending c ≡ reconsidered t home scheduler r c
   wanted c is = by_leaving c.leaving c.pending (better_waits c.cur c.since.0 t r home scheduler) is
     where
       by_leaving : (l p b : Bool) → (not l && not p && b) ≡ true → record c { pending = true } ≡ cond l c (record c { pending = p || b })
@@ -51,7 +43,7 @@ module _ (t home : ℕ) (scheduler : Scheduler) (r : ℕ) where
       by_leaving false false false e = absurd (cc)
 
   -- any other stays as it is
-  unwanted : (c : Resource) → (not c.leaving && not c.pending && better_waits c.cur c.since.0 t r home scheduler) ≡ false → c ≡ reconsidered t home scheduler r c
+  pub unwanted : (c : Resource) → (not c.leaving && not c.pending && better_waits c.cur c.since.0 t r home scheduler) ≡ false → c ≡ reconsidered t home scheduler r c
   unwanted c is = by_leaving c.leaving c.pending refl (better_waits c.cur c.since.0 t r home scheduler) is
     where
       by_leaving : (l p : Bool) → c.pending ≡ p → (b : Bool) → (not l && not p && b) ≡ false → c ≡ cond l c (record c { pending = p || b })
@@ -59,17 +51,3 @@ module _ (t home : ℕ) (scheduler : Scheduler) (r : ℕ) where
       by_leaving false true same b e = ap (λ (x : Bool). record c { pending = x }) same
       by_leaving false false same true e = absurd (cc)
       by_leaving false false same false e = ap (λ (x : Bool). record c { pending = x }) same
-
-  pub looked_wanted : (cores : List (Option Resource)) → is_wanted t home scheduler r (at_place cores r) ≡ true → change_at r set_pending cores ≡ change_at r (reconsidered t home scheduler r) cores
-  looked_wanted cores is = ap (slice_set cores r) (by_core (at_place cores r) is)
-    where
-      by_core : (o : Option Resource) → is_wanted t home scheduler r o ≡ true → option_map set_pending o ≡ option_map (reconsidered t home scheduler r) o
-      by_core None e = absurd (cc)
-      by_core (Some c) e = ap Some (wanted c e)
-
-  pub looked_unwanted : (cores : List (Option Resource)) → is_wanted t home scheduler r (at_place cores r) ≡ false → cores ≡ change_at r (reconsidered t home scheduler r) cores
-  looked_unwanted cores is = sym (ap (slice_set cores r) (sym (by_core (at_place cores r) is)) ∙ set-get_or cores r None)
-    where
-      by_core : (o : Option Resource) → is_wanted t home scheduler r o ≡ false → o ≡ option_map (reconsidered t home scheduler r) o
-      by_core None e = refl
-      by_core (Some c) e = ap Some (unwanted c e)

@@ -1,9 +1,10 @@
 -- Events after which no core is to be looked at, where that was done at the same moment before.
-use Rattle.std.proofs.Common.{◌≡◌, ◌+◌, ◌/◌, ◌%◌, ℕ, Bool, true, false, List, refl, sym, ap, subst, ◌∙◌, cond, arith}
-use Rattle.std.specs.Prelude.{Option, Some, None, option_map, slice_set, ◌||◌}
+use Rattle.std.proofs.Common.{◌≡◌, ◌+◌, ◌*◌, ◌/◌, ◌%◌, ℕ, Bool, true, false, List, refl, sym, ap, subst, ◌∙◌, cond, arith}
+use Rattle.std.specs.Prelude.{Option, Some, None, not, option_map, slice_set, unwrap_or, ◌||◌, ◌&&◌}
 use Rattle.std.specs.List.{list_any}
+use Rattle.sched_base.specs.declared.UnitId.{UnitId}
 use Rattle.sched_base.specs.declared.VcpuId.{VcpuId}
-use Rattle.sched_model.specs.declared.action.Action.TheVariants.{Arrive, Block, Leave, Slice}
+use Rattle.sched_model.specs.declared.action.Action.TheVariants.{Arrive, Block, Leave, Save, Slice, Wake}
 use Rattle.sched_model.specs.declared.state.Doing.{Doing}
 use Rattle.sched_model.specs.declared.state.Doing.TheVariants.{Guest, Idle, Held}
 use Rattle.sched_model.specs.declared.state.Domain.{Domain}
@@ -14,7 +15,7 @@ use Rattle.sched_model.specs.declared.state.Vcpu.{Vcpu}
 use Rattle.sched_model.specs.Places.{at_place}
 use Rattle.sched_model.specs.Policy.{better_waits}
 use Rattle.sched_model.specs.Pool as pools
-use Rattle.sched_model.specs.Pool.{after_in, change_core, change_processor, change_vcpu, cores_from, does, guest_of, home_cores, is_held, put_to_sleep, reconsidered, set_pending, settled, started_on, stopped, unit_of}
+use Rattle.sched_model.specs.Pool.{after_in, change_core, change_processor, change_vcpu, cores_from, does, guest_of, home_cores, is_held, is_off, put_to_sleep, reconsidered, set_pending, settled, started_on, stopped, unit_of}
 use Rattle.sched_model.specs.State.{is_runnable}
 use Rattle.sched_laws.proofs.EachPlace.{at_place-change_each, by_cond, by_option}
 use Rattle.pool_laws.specs.Settling.{IsSettled}
@@ -23,10 +24,17 @@ use Rattle.unit_state.specs.Seen.{Seen as GuestsSeen}
 use Rattle.core_state.specs.Seen.{Seen as CoresSeen}
 use Rattle.sched_ops.specs.Seen.{Seen as SchedulerSeen}
 use Rattle.pool_core.specs.Kept.{IsAtRest, IsKept}
+use Rattle.pool_core.specs.Waking.{is_queued_by}
 
 -- a pool whose mark says nothing
 pub unsettled : {t : ℕ} {guests : GuestsSeen} {cores : CoresSeen} {s : SchedulerSeen} → IsKept t guests cores s → IsAtRest false t guests cores s
 unsettled keeps = record { kept = keeps; settled = λ e. absurd (cc) }
+
+-- a mark that is kept, where no unit joined the queue
+pub mark_kept : (settled queued : Bool) → (settled && not queued) ≡ true → (settled ≡ true) × (queued ≡ false)
+mark_kept true true kept = absurd (cc)
+mark_kept true false kept = (refl, refl)
+mark_kept false queued kept = absurd (cc)
 
 -- a core for which its scheduler is asked as before, if at all
 record AsksAsBefore (c d : Resource) : Type 0 where
@@ -128,3 +136,36 @@ module _ (g t : ℕ) (pool : Pool) (before : IsSettled t pool) where
       by_option (λ (next : Pool). IsSettled t (change_core (p / g) pools.open_if_left next)) (pools.vcpu_for g pool c (p % g)) _ _
       (λ none. spared_core t (p / g) pools.open_if_left _ opened (spared_processor g t p Idle pool before))
       (λ v some. spared_core t (p / g) pools.open_if_left _ opened (spared_processor g t p (Guest v) _ (spared_vcpu t v _ pool before))))
+
+  -- a vCPU that wakes, and whose unit does not join the queue
+  pub spared_wake : (v : VcpuId) → is_queued_by g v pool ≡ false → IsSettled t (after_in g t pool (Wake v))
+  spared_wake v stays =
+      elim (is_runnable g next u) as (λ runs. (runs && is_off next u) ≡ false → IsSettled t (elim runs as (λ _. Pool) [ false ↦ next | true ↦ cond (is_off next u) (pools.queue_unit u next) (pools.joined_siblings g t v next) ])) [
+        | false ↦ λ e. here
+        | true ↦ λ on. subst (λ (b : Bool). IsSettled t (cond b (pools.queue_unit u next) (pools.joined_siblings g t v next))) (sym on) joined
+      ] stays
+    where
+      next : Pool
+      next = change_vcpu v pools.woken pool
+
+      u : UnitId
+      u = unit_of g v
+
+      here : IsSettled t next
+      here = spared_vcpu t v pools.woken pool before
+
+      joined : IsSettled t (pools.joined_siblings g t v next)
+      joined =
+          by_option (IsSettled t) (pools.core_of next u) _ _ (λ is. here) (λ r is.
+          by_option (IsSettled t) (pools.processor_of g next (r * g + v.n % g)) _ _ (λ none. here) (λ q some.
+          by_cond (IsSettled t) (pools.is_idle q) _ _ (λ idles. spared_processor g t (r * g + v.n % g) (Guest v) _ (spared_vcpu t v _ next here)) (λ busy. here)))
+
+  -- a core that puts away a unit that does not join the queue
+  pub spared_save : (r : ℕ) → is_runnable g pool (pools.saved_at pool r) ≡ false → IsSettled t (after_in g t pool (Save r))
+  spared_save r stays =
+      by_option (IsSettled t) (at_place pool.resources r) _ _ (λ is. before) (λ c at.
+      by_option (IsSettled t) c.saving _ _ (λ is. before) (λ u is.
+      let saving : pools.saving_among pool.resources r ≡ Some u = ap (λ (o : Option Resource). elim o as (λ _. Option UnitId) [ None ↦ None | Some x ↦ x.saving ]) at ∙ is in
+      let off : is_runnable g pool u ≡ false = ap (λ (o : Option UnitId). is_runnable g pool (unwrap_or o pools.no_unit)) (sym saving) ∙ stays in
+      by_cond (IsSettled t) (is_runnable g pool u) _ _ (λ runs. absurd (let clash : true ≡ false = sym runs ∙ off in cc)) (λ idles.
+      spared_core t r pools.saved pool (λ x. record { cur = refl; since = refl; leaving = refl; pending = λ e. e }) before)))

@@ -1,22 +1,15 @@
--- Which cores a closure makes pending.
-use Rattle.std.specs.Prelude.{ℕ, zero, suc, ◌≤◌, ◌&&◌, not, Bool, false, List, [], ◌∷◌, Option, Some, None, option_map}
+-- Cores changed one after another, and those of a set made pending.
+use Rattle.std.specs.Prelude.{ℕ, zero, suc, List, [], ◌∷◌, Option, option_map, if◌then◌else◌}
 use Rattle.sched_model.specs.declared.state.Resource.{Resource}
-use Rattle.sched_model.specs.declared.state.Scheduler.{Scheduler}
-use Rattle.sched_model.specs.Policy.{better_waits}
-use Rattle.sched_ops.specs.Conditions.{IsOwnOf}
-
--- the core may ask its scheduler at t: its unit is one of the scheduler's that is on, since a moment that has come
-pub record MayAsk (t : ℕ) (scheduler : Scheduler) (c : Resource) : Type 0 where
-  pub own : IsOwnOf scheduler c.cur
-  pub since : c.since.0 ≤ t
-
--- whether the core becomes pending
-abbrev pub is_wanted : ℕ → ℕ → Scheduler → ℕ → Option Resource → Bool
-is_wanted t home scheduler r None = false
-is_wanted t home scheduler r (Some c) = not c.leaving && not c.pending && better_waits c.cur c.since.0 t r home scheduler
+use Rattle.sched_model.specs.Pool.{set_pending}
+use Rattle.sched_model.specs.State.{has_core}
 
 -- the first n things that stand at places changed by f, which is told the number of the place; the first place has the number k
 abbrev pub change_first : {X : Type 0} → ℕ → ℕ → (ℕ → X → X) → List (Option X) → List (Option X)
 change_first zero k f places = places
 change_first (suc n) k f [] = []
 change_first (suc n) k f (x ∷ places) = option_map (f k) x ∷ change_first n (suc k) f places
+
+-- the core is pending where the set has its number
+abbrev pub pending_where : ℕ → ℕ → Resource → Resource
+pending_where set r c = (if has_core set r then set_pending c else c)

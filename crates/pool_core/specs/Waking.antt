@@ -1,10 +1,12 @@
 -- What the waking of a vCPU does to the cores.
-use Rattle.std.specs.Prelude.{ℕ, ◌≡◌, ◌*◌, ◌+◌, ◌%◌, ◌||◌, Bool, false, true, List, Option, Some, None, slice_set, if◌then◌else◌}
+use Rattle.std.specs.Prelude.{ℕ, ◌≡◌, ◌*◌, ◌+◌, ◌%◌, ◌||◌, ◌&&◌, Bool, false, true, List, Option, Some, None, slice_set, if◌then◌else◌}
 use Rattle.std.specs.List.{list_any}
 use Rattle.sched_base.specs.Numbers.{moment}
 use Rattle.sched_base.specs.declared.Moment.{Moment}
 use Rattle.sched_base.specs.declared.UnitId.{UnitId}
 use Rattle.sched_base.specs.declared.VcpuId.{VcpuId}
+use Rattle.sched_model.specs.declared.event.Event.{Event}
+use Rattle.sched_model.specs.declared.event.Event.TheVariants as event
 use Rattle.sched_model.specs.declared.state.Domain.{Domain}
 use Rattle.sched_model.specs.declared.state.Pool.{Pool}
 use Rattle.sched_model.specs.declared.state.Resource.{Resource}
@@ -44,6 +46,15 @@ woken_works g t v pool works =
       | false ↦ works
       | true ↦ (if is_off next (unit_of g v) then works else joined_works g v (done_started t v next.domains) pool.resources works)
     ]
+
+-- whether the unit of the vCPU joins the queue when that wakes: it is runnable then, and was nowhere
+abbrev pub is_queued_by : ℕ → VcpuId → Pool → Bool
+is_queued_by g v pool = let next : Pool = change_vcpu v woken pool in is_runnable g next (unit_of g v) && is_off next (unit_of g v)
+
+-- whether it is the event of a core whose saved unit joins the queue
+abbrev pub is_queued : Event → Bool
+is_queued (event.Save r u queued) = queued
+is_queued _ = false
 
 -- a scheduler has as much room as before, and no later moment
 pub record KeepsRoom (before after : schedulers.Seen) : Type 0 where

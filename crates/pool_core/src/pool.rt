@@ -8,7 +8,7 @@ use crate::due::{first_enabled, next_moment};
 use crate::params::{facts, part_of, set_params};
 use crate::settling::settle;
 use crate::units::{RtdsGiven, set_units};
-use crate::waking::{save, wake};
+use crate::waking::{is_queued, save, wake};
 use core_state::CoreState;
 use plain_pool::cores::has_come;
 use plain_pool::leaving::fresh_core;
@@ -286,11 +286,19 @@ impl<P: Policy> PoolState<P> {
         }
     }
 
+    /// From now on what has come at t is at hand.
+    fn tell(&mut self, t: Moment)
+        ensures { self.new ≡ self.old }
+    {
+        self.cores.advance(t);
+    }
+
     /// The closure alone: each core that is to decide anew at t is pending.
     pub fn settle(&mut self, t: Moment)
         requires now { IsNow self.old t.0 }
         ensures { self.new ≡ seen_at t.0 (settled t.0 self.old.pool) self.old }
     {
+        self.tell(t);
         let settled = self.is_settled(t);
         self.latest = t;
         self.settled = settled;
@@ -355,6 +363,7 @@ impl<P: Policy> PoolState<P> {
         ensures event { result ≡ event_in self.old.granularity t.0 self.old.pool action }
         ensures after { self.new ≡ happened t.0 action self.old }
     {
+        self.tell(t);
         match action {
             Action::Wake(v) => self.wake(v, t),
             Action::Block(p) => self.block(ProcId(p), t),
@@ -412,11 +421,12 @@ impl<P: Policy> PoolState<P> {
         ensures event { result ≡ event_in self.old.granularity t.0 self.old.pool (Wake v) }
         ensures after { self.new ≡ happened t.0 (Wake v) self.old }
     {
+        let settled = self.is_settled(t);
         self.guests.keeps();
         self.cores.keeps();
-        wake(&mut self.guests, &mut self.cores, &mut self.policy, v, t);
+        let queued = wake(&mut self.guests, &mut self.cores, &mut self.policy, v, t);
         self.latest = t;
-        self.settled = false;
+        self.settled = settled & !queued;
         self.look();
         Event::Wake { v }
     }
@@ -538,9 +548,11 @@ impl<P: Policy> PoolState<P> {
         ensures event { result ≡ event_in self.old.granularity t.0 self.old.pool (Save r.0) }
         ensures after { self.new ≡ happened t.0 (Save r.0) self.old }
     {
+        let settled = self.is_settled(t);
         let event = save(&self.guests, &mut self.cores, &mut self.policy, r.0, t);
+        let queued = is_queued(&event);
         self.latest = t;
-        self.settled = false;
+        self.settled = settled & !queued;
         self.look();
         event
     }

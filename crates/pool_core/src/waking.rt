@@ -9,7 +9,7 @@ ghost use Rattle.sched_ops.specs.Seen.{Seen as SchedulerSeen};
 ghost use Rattle.unit_state.specs.Seen.{IsNow, is_awake_among, is_due_among};
 ghost use Rattle.pool_core.specs.Seen.{pool_of};
 ghost use Rattle.pool_core.specs.Doing.{IsMoved};
-ghost use Rattle.pool_core.specs.Waking.{done_started, idles_among, is_held_among, joined_works, woken_works, KeepsRoom};
+ghost use Rattle.pool_core.specs.Waking.{done_started, idles_among, is_held_among, is_queued as is_queued_spec, is_queued_by, joined_works, woken_works, KeepsRoom};
 
 use crate::doing::unit_of;
 use core_state::CoreState;
@@ -59,19 +59,20 @@ fn has_place(guests: &Guests, cores: &CoreState, u: UnitId) -> bool
 }
 
 /// The vCPU, whose wake moment has come, wakes. Its unit waits, where it is runnable now and was nowhere; where it is a core's own,
-/// the vCPU is started on its own processor, if that idles.
+/// the vCPU is started on its own processor, if that idles. Whether the unit waits now, and did not before.
 pub fn wake<P: Policy>(
     guests: &mut Guests,
     cores: &mut CoreState,
     policy: &mut P,
     v: VcpuId,
     t: Moment,
-)
+) -> bool
     requires now { IsNow guests.old t.0 }
     requires same { cores.old.granularity ≡ guests.old.granularity }
     requires due { is_due_among t.0 guests.old.domains v ≡ true }
     requires holds { Holds guests.old.granularity t.0 (pool_of guests.old cores.old (P.seen policy.old)) }
     ensures pool { pool_of guests.new cores.new (P.seen policy.new) ≡ after_wake guests.old.granularity t.0 v (pool_of guests.old cores.old (P.seen policy.old)) }
+    ensures queued { result ≡ is_queued_by guests.old.granularity v (pool_of guests.old cores.old (P.seen policy.old)) }
     ensures works { cores.new.works ≡ woken_works guests.old.granularity t.0 v (pool_of guests.old cores.old (P.seen policy.old)) cores.old.works }
     ensures rest { IsMoved t.0 guests.old guests.new cores.old cores.new }
     ensures room { KeepsRoom (P.seen policy.old) (P.seen policy.new) }
@@ -79,12 +80,25 @@ pub fn wake<P: Policy>(
     let u = unit_of(guests.granularity(), v);
     let had_place = has_place(guests, cores, u);
     guests.wake(v, t);
-    if guests.runnable(u) {
-        if had_place {
-            join_siblings(guests, cores, v, t);
-        } else {
-            policy.enqueue(u);
-        }
+    if !guests.runnable(u) {
+        return false;
+    }
+    if had_place {
+        join_siblings(guests, cores, v, t);
+        false
+    } else {
+        policy.enqueue(u);
+        true
+    }
+}
+
+/// Whether it is the event of a core whose saved unit waits again.
+pub fn is_queued(event: &Event) -> bool
+    ensures { result ≡ is_queued_spec event.now }
+{
+    match event {
+        Event::Save { queued, .. } => *queued,
+        _ => false,
     }
 }
 

@@ -22,7 +22,7 @@ and_true true b e = refl
 and_true false b e = e
 
 -- an item goes before another only where its key is no greater
-not_after : (x y : Queued) → goes_before x y ≡ true → is_less y.key x.key ≡ false
+pub not_after : (x y : Queued) → goes_before x y ≡ true → is_less y.key x.key ≡ false
 not_after x y before =
     elim (test_cases (is_less x.key y.key)) [
       | inl less ↦ less_asym x.key y.key less

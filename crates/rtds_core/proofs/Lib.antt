@@ -10,4 +10,5 @@ pub mod Chosen
 pub mod Joining
 pub mod Calls
 pub mod Vacant
+pub mod Ahead
 pub mod Replicate

@@ -3,4 +3,5 @@ pub mod Best
 pub mod Kept
 pub mod Masks
 pub mod Outside
+pub mod Wanted
 pub mod Driven

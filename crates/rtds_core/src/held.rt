@@ -8,21 +8,21 @@ ghost use Rattle.rtds_core.specs.Alarms.{id_of};
 ghost use Rattle.rtds_core.specs.Kept.{size, told, renewed_if, rearmed};
 
 use crate::alarms::Alarms;
-use crate::best::{due_of, goes_first, key_of, pick, start, stop};
+use crate::best::{due_of, key_of, pick, start, stop};
 use crate::masks::set_masks;
 use crate::records::{charge_own, join_records};
+use crate::wanted::wanted;
 use plain_policy::params::pin;
 use plain_policy::places::{copies, set_place};
 use plain_policy::rtds::{replenish, rtds_unit, set_next};
-use plain_units::eligible::is_allowed;
 use rtds_queue::RtdsQueues;
-use sched_base::{Cores, DomId, Moment, NoMemory, ResId, Span, UnitId};
+use sched_base::{Cores, DomId, Moment, NoMemory, Span, UnitId};
 use sched_model::ask::Ask;
 use sched_model::config::{DomParams, ParamChange, Pins};
 use sched_model::event::Event;
 use sched_model::facts::Stored;
 use sched_model::row::Row;
-use sched_model::state::{RtdsUnit, RtdsUnits};
+use sched_model::state::{Resource, RtdsUnit, RtdsUnits};
 use sched_ops::{Choice, Places, Timer};
 use std::alloc::Global;
 use std::marker::Model;
@@ -112,15 +112,18 @@ fn replenishment(u: UnitId, unit: Option<RtdsUnit>) -> Event
 }
 
 impl Held {
-    ghost use Rattle.std.specs.Prelude.{◌≡◌, ◌≤◌, ◌<◌, ◌+◌, ◌-◌, true, false, IfOk, None, Some, length};
+    ghost use Rattle.std.specs.Prelude.{◌≡◌, ℕ, ◌≤◌, ◌<◌, ◌+◌, ◌-◌, true, false, IfOk, None, Some, length};
+    ghost use Rattle.sched_model.specs.State.{has_core};
+    ghost use Rattle.sched_laws.specs.Each.{EachPlace};
     ghost use Rattle.sched_model.specs.declared.config.PoolParams.TheVariants as pool_params;
     ghost use Rattle.sched_model.specs.Places.{at_place, has_unit};
-    ghost use Rattle.sched_model.specs.Policy.{decision_of, after_decision, better_waits as better_waits_spec, enqueue as enqueue_spec, join as join_spec, part as part_spec, set_params as set_params_spec, rate_of, kind_of};
+    ghost use Rattle.sched_model.specs.Policy.{decision_of, after_decision, enqueue as enqueue_spec, join as join_spec, part as part_spec, set_params as set_params_spec, rate_of, kind_of};
     ghost use Rattle.sched_ops.specs.declared.timer.Timer.TheVariants.{Repl};
     ghost use Rattle.sched_ops.specs.Seen.{Tells, vacant, restarted, dequeue as dequeue_spec, units_of, with_scheduler, seen_at};
-    ghost use Rattle.sched_ops.specs.Conditions.{IsNow, IsAsked, IsOwnOf, IsAway, HasNoneBusy, AreDomParams, IsChange, Keeps, is_member, is_vacant, has_joined};
+    ghost use Rattle.sched_ops.specs.Conditions.{IsNow, IsAsked, IsAway, HasNoneBusy, AreDomParams, IsChange, Keeps, is_member, is_vacant, has_joined};
     ghost use Rattle.sched_ops.specs.Timers.{timer_at, is_due, timer_event, after_timer};
     ghost use Rattle.sched_ops.specs.Told.{IsInRange, stored_of};
+    ghost use Rattle.sched_ops.specs.Wanted.{MayAsk, is_wanted};
     ghost use Rattle.rtds_core.specs.Kept.{IsRtds};
 
     /// The memory for a pool of a machine with these places, of which so many units may join.
@@ -244,32 +247,21 @@ impl Held {
         }
     }
 
-    /// Whether a core is to decide anew at t: a unit waits for it while it has none, or its own is not allowed on it, or the
-    /// first that waits and may have it goes before its own.
-    pub fn better_waits(
-        &self,
-        cur: Option<UnitId>,
-        since: Moment,
-        t: Moment,
-        core: ResId,
-        home: Cores,
-    ) -> bool
-        requires core { core.0 < 64 }
-        requires own { IsOwnOf self.now.scheduler cur }
-        ensures { result ≡ better_waits_spec cur since.0 t.0 core.0 home.0 self.now.scheduler }
+    /// The cores that are to decide anew at t, of those at these places: a unit waits for the core while it has none, or its own is not
+    /// allowed on it, or the first that waits and may have it goes before its own.
+    pub fn wanted(&self, cores: &[Option<Resource>], t: Moment, home: Cores) -> Cores
+        requires few { length cores.now ≤ 64 }
+        requires asks { EachPlace (MayAsk t.0 self.now.scheduler) cores.now }
+        ensures { (r : ℕ) → has_core result.0 r ≡ is_wanted t.0 home.0 self.now.scheduler r (at_place cores.now r) }
     {
         self.queues.law_order();
-        match cur {
-            None => self.queues.first_on(&self.masks, core, home).is_some(),
-            Some(own) => {
-                !is_allowed(self.affinity.as_slice(), home.0, core.0, own)
-                    || goes_first(
-                        self.domains.as_slice(),
-                        self.queues.first_on(&self.masks, core, home),
-                        own,
-                    )
-            }
-        }
+        wanted(
+            self.domains.as_slice(),
+            &self.queues,
+            &self.masks,
+            cores,
+            home,
+        )
     }
 
     /// The first replenishment, by domain and unit, whose moment has come at t; where there is none, the one of the least

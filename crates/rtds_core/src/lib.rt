@@ -11,5 +11,6 @@ mod held;
 mod masks;
 mod records;
 mod rtds;
+mod wanted;
 
 pub use rtds::Rtds;

@@ -6,11 +6,12 @@ ghost use Rattle.sched_model.specs.declared.config.SchedKind.{SchedKind};
 ghost use Rattle.rtds_core.specs.Outside.{seen_by};
 
 use crate::held::Held;
-use sched_base::{Cores, DomId, Moment, NoMemory, ResId, Span, UnitId};
+use sched_base::{Cores, DomId, Moment, NoMemory, Span, UnitId};
 use sched_model::ask::Ask;
 use sched_model::config::{DomParams, ParamChange, PoolParams};
 use sched_model::event::Event;
 use sched_model::facts::Stored;
+use sched_model::state::Resource;
 use sched_ops::{Choice, Places, Policy, Timer};
 use std::alloc::Global;
 use std::marker::Model;
@@ -147,17 +148,10 @@ impl Policy for Rtds {
         }
     }
 
-    fn better_waits(
-        &self,
-        cur: Option<UnitId>,
-        since: Moment,
-        t: Moment,
-        core: ResId,
-        home: Cores,
-    ) -> bool {
+    fn wanted(&self, cores: &[Option<Resource>], t: Moment, home: Cores) -> Cores {
         match &self.held {
-            None => false,
-            Some(held) => held.better_waits(cur, since, t, core, home),
+            None => Cores(0),
+            Some(held) => held.wanted(cores, t, home),
         }
     }
 

@@ -15,6 +15,7 @@ use Rattle.sched_model.specs.Eligible.{is_allowed_by, is_placed, is_taken, has_p
 use Rattle.sched_model.specs.NullScheduler.{earliest}
 use Rattle.sched_model.specs.Policy.{fresh_records}
 use Rattle.sched_laws.proofs.Choices.{same_unit_same}
+use Rattle.sched_laws.proofs.Counts.{same_unit_refl}
 use Rattle.sched_ops.specs.Conditions.{ArePoolParams, is_vacant}
 use Rattle.sched_ops.specs.Seen.{restarted}
 use Rattle.plain_policy.specs.Parts.{scheduler_of}
@@ -47,6 +48,15 @@ abbrev own_rule : Units → List (Option UnitId) → ℕ → ℕ → UnitId → 
 own_rule units kept home core u =
     is_placed (scheduler_of units.queue units.affinity (NullPool kept)) kept home core u
     || (not (has_place (scheduler_of units.queue units.affinity (NullPool kept)) kept home u) && not (is_taken (scheduler_of units.queue units.affinity (NullPool kept)) kept home core))
+
+-- a unit that may have the core that is kept for it is given the core
+pub given_to_kept : (units : Units) (kept : List (Option UnitId)) (home core : ℕ) (w : UnitId) → at_place kept core ≡ Some w → (has_core home core && is_allowed_by units.affinity home core w) ≡ true
+    → is_placed (scheduler_of units.queue units.affinity (NullPool kept)) kept home core w ≡ true
+given_to_kept units kept home core w at may =
+    let own : is_unit (at_place kept core) w ≡ true = ap (λ (o : Option UnitId). is_unit o w) at ∙ same_unit_refl w in
+    let here : has_core home core ≡ true = left_of (has_core home core) (is_allowed_by units.affinity home core w) may in
+    let allowed : is_allowed_by units.affinity home core w ≡ true = right_of (has_core home core) (is_allowed_by units.affinity home core w) may in
+    rw (own, here, allowed) refl
 
 -- where the core is given to a unit, that one alone is eligible for it
 pub first_of_placed : (units : Units) (kept : List (Option UnitId)) (home core : ℕ) (w : UnitId) → at_place kept core ≡ Some w → is_placed (scheduler_of units.queue units.affinity (NullPool kept)) kept home core w ≡ true

@@ -1,9 +1,11 @@
 //! The null scheduler as a scheduler of a pool.
 
-ghost use Rattle.std.specs.Prelude.{◌≡◌, ◌≤◌, ◌<◌, Some, None, if◌then◌else◌, length};
+ghost use Rattle.std.specs.Prelude.{◌≡◌, ◌≤◌, ◌<◌, ◌&&◌, ℕ, [], false, Some, None, if◌then◌else◌, length};
 ghost use Rattle.sched_model.specs.Places.{has_unit};
 ghost use Rattle.sched_model.specs.declared.state.Records.TheVariants.{NullPool};
-ghost use Rattle.sched_model.specs.Eligible.{is_placed as is_placed_spec, eligible};
+ghost use Rattle.sched_model.specs.State.{has_core as has_core_spec};
+ghost use Rattle.sched_model.specs.Eligible.{is_allowed_by, is_placed as is_placed_spec, eligible};
+ghost use Rattle.sched_model.specs.Policy.{better_waits};
 ghost use Rattle.sched_model.specs.NullScheduler.{earliest, choice as choice_spec, choose_null};
 ghost use Rattle.plain_policy.specs.Parts.{scheduler_of};
 ghost use Rattle.sched_ops.specs.Seen.{Tells};
@@ -18,7 +20,8 @@ use sched_model::ask::Ask;
 use sched_model::config::{DomParams, ParamChange, Pins, PoolParams};
 use sched_model::event::Event;
 use sched_model::facts::Stored;
-use sched_ops::{Choice, Places, Policy, Timer};
+use sched_model::state::Resource;
+use sched_ops::{Choice, Places, Policy, Timer, wanted_where};
 use std::alloc::Global;
 use std::marker::Model;
 
@@ -41,12 +44,20 @@ impl Model for Null {
     ghost view = { λ a. record { scheduler = scheduler_of a.units.queue a.units.affinity (NullPool a.kept); spare = a.units.spare; latest = a.latest } };
 }
 
+/// Whether the unit may have a core that is kept for it: the core is one of the pool's, and is allowed.
+fn may_have(units: &PoolUnits, home: Cores, core: ResId, u: UnitId) -> bool
+    requires { core.0 < 64 }
+    ensures { result ≡ (has_core_spec home.0 core.0 && is_allowed_by units.now.affinity home.0 core.0 u) }
+{
+    has_core(home, core) && units.is_allowed(home, core, u)
+}
+
 /// Whether the core is given to the unit: it is kept for it, is one of the pool's, and is allowed.
 fn is_placed(units: &PoolUnits, kept: &Kept, home: Cores, core: ResId, u: UnitId) -> bool
     requires { core.0 < 64 }
     ensures { result ≡ is_placed_spec (scheduler_of units.now.queue units.now.affinity (NullPool kept.now)) kept.now home.0 core.0 u }
 {
-    is_there(kept.at(core), u) && has_core(home, core) && units.is_allowed(home, core, u)
+    is_there(kept.at(core), u) && may_have(units, home, core, u)
 }
 
 /// The first waiting unit that may have the core, by a look at each of them.
@@ -82,7 +93,7 @@ fn first_eligible(units: &PoolUnits, kept: &Kept, home: Cores, core: ResId) -> O
     ensures { result ≡ earliest (eligible (scheduler_of units.now.queue units.now.affinity (NullPool kept.now)) home.0 core.0 0) }
 {
     if let Some(w) = kept.at(core)
-        && is_placed(units, kept, home, core, w)
+        && may_have(units, home, core, w)
     {
         return if_waits(units, w);
     }
@@ -93,6 +104,26 @@ fn first_eligible(units: &PoolUnits, kept: &Kept, home: Cores, core: ResId) -> O
         home,
         core,
     )
+}
+
+/// Whether a core with this unit of its own is to decide anew: one waits for it while it has none, or its own is not allowed on it. No
+/// unit is better than a core's own. Where none waits at all, none is looked for.
+fn is_wanted(
+    units: &PoolUnits,
+    kept: &Kept,
+    waits: bool,
+    cur: Option<UnitId>,
+    core: ResId,
+    home: Cores,
+) -> bool
+    requires core { core.0 < 64 }
+    requires waits { waits ≡ false → units.now.queue ≡ [] }
+    ensures { (since t : ℕ) → result ≡ better_waits cur since t core.0 home.0 (scheduler_of units.now.queue units.now.affinity (NullPool kept.now)) }
+{
+    match cur {
+        None => waits && first_eligible(units, kept, home, core).is_some(),
+        Some(own) => !units.is_allowed(home, core, own),
+    }
 }
 
 /// The core's own unit, where it was given the core and may go on, and else one that waits.
@@ -194,18 +225,11 @@ impl Policy for Null {
         choice
     }
 
-    fn better_waits(
-        &self,
-        cur: Option<UnitId>,
-        since: Moment,
-        t: Moment,
-        core: ResId,
-        home: Cores,
-    ) -> bool {
-        match cur {
-            None => first_eligible(&self.units, &self.kept, home, core).is_some(),
-            Some(own) => !self.units.is_allowed(home, core, own),
-        }
+    fn wanted(&self, cores: &[Option<Resource>], t: Moment, home: Cores) -> Cores {
+        let waits = !self.units.waiting().is_empty();
+        wanted_where(cores, |core, cur, _since| {
+            is_wanted(&self.units, &self.kept, waits, cur, core, home)
+        })
     }
 
     fn timer_due(&self, t: Moment) -> Option<(Moment, Timer)> {

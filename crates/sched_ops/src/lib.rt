@@ -7,7 +7,9 @@ pub mod choice;
 pub mod examples;
 pub mod policy;
 pub mod timer;
+pub mod walk;
 
 pub use choice::Choice;
 pub use policy::{Places, Policy};
 pub use timer::Timer;
+pub use walk::wanted_where;

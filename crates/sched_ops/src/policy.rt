@@ -2,11 +2,12 @@
 
 use crate::choice::Choice;
 use crate::timer::Timer;
-use sched_base::{Cores, DomId, Moment, NoMemory, ResId, UnitId};
+use sched_base::{Cores, DomId, Moment, NoMemory, UnitId};
 use sched_model::ask::Ask;
 use sched_model::config::{DomParams, ParamChange, PoolParams};
 use sched_model::event::Event;
 use sched_model::facts::Stored;
+use sched_model::state::Resource;
 use std::alloc::Global;
 
 /// How many domains and cores a machine has: at most 64 of each.
@@ -22,12 +23,15 @@ pub struct Places {
 /// A unit that was chosen is on, until the core that has it chooses otherwise. All moments are in nanoseconds, each at least the
 /// greatest one given before and at most 10^13. No call but `reserve` takes memory.
 pub trait Policy: Drop {
-    ghost use Rattle.std.specs.Prelude.{◌≡◌, ◌≤◌, ◌<◌, ◌-◌, ◌+◌, true, false, OnOk, OnErr, length, None, Some};
+    ghost use Rattle.std.specs.Prelude.{◌≡◌, ℕ, ◌≤◌, ◌<◌, ◌-◌, ◌+◌, true, false, OnOk, OnErr, length, None, Some};
     ghost use Rattle.sched_model.specs.Places.{at_place, has_unit};
-    ghost use Rattle.sched_model.specs.Policy.{decision_of, after_decision, better_waits as better_waits_spec, enqueue as enqueue_spec, join as join_spec, part as part_spec, set_params as set_params_spec, rate_of, kind_of, default_pool_params};
+    ghost use Rattle.sched_model.specs.State.{has_core};
+    ghost use Rattle.sched_model.specs.Policy.{decision_of, after_decision, enqueue as enqueue_spec, join as join_spec, part as part_spec, set_params as set_params_spec, rate_of, kind_of, default_pool_params};
+    ghost use Rattle.sched_laws.specs.Each.{EachPlace};
     ghost use Rattle.sched_ops.specs.Seen.{Seen, Tells, vacant, restarted, dequeue as dequeue_spec, units_of, with_scheduler, seen_at};
-    ghost use Rattle.sched_ops.specs.Conditions.{IsNow, IsAsked, IsOwnOf, IsAway, HasNoneBusy, ArePoolParams, AreDomParams, IsChange, Keeps, is_member, is_vacant, has_joined};
+    ghost use Rattle.sched_ops.specs.Conditions.{IsNow, IsAsked, IsAway, HasNoneBusy, ArePoolParams, AreDomParams, IsChange, Keeps, is_member, is_vacant, has_joined};
     ghost use Rattle.sched_ops.specs.Timers.{timer_at, is_due, timer_event, after_timer};
+    ghost use Rattle.sched_ops.specs.Wanted.{MayAsk, is_wanted};
     ghost use Rattle.sched_ops.specs.Told.{IsInRange, stored_of};
 
     /// What callers see.
@@ -88,21 +92,14 @@ pub trait Policy: Drop {
         ensures answer { Tells result (decision_of ask.now (seen self.old).scheduler) }
         ensures after { seen self.new ≡ seen_at ask.now.at (after_decision (decision_of ask.now (seen self.old).scheduler) (seen self.old).scheduler) (seen self.old) };
 
-    /// Whether a core is to decide anew at t: a unit waits for it while it has none, or its own is not allowed on it, or a
-    /// better one waits. The core's own unit is on since a moment not after t.
-    fn better_waits(
-        &self,
-        cur: Option<UnitId>,
-        since: Moment,
-        t: Moment,
-        core: ResId,
-        home: Cores,
-    ) -> bool
+    /// The cores that are to decide anew at t: of the cores at these places each that is neither leaving nor to decide already, and
+    /// that has none while a unit waits for it, or whose own unit is not allowed on it, or for which a better one waits. A core's own
+    /// unit is on since a moment not after t.
+    fn wanted(&self, cores: &[Option<Resource>], t: Moment, home: Cores) -> Cores
         requires now { IsNow (seen self.now) t.0 }
-        requires since { since.0 ≤ t.0 }
-        requires core { core.0 < 64 }
-        requires own { IsOwnOf (seen self.now).scheduler cur }
-        ensures { result ≡ better_waits_spec cur since.0 t.0 core.0 home.0 (seen self.now).scheduler };
+        requires few { length cores.now ≤ 64 }
+        requires asks { EachPlace (MayAsk t.0 (seen self.now).scheduler) cores.now }
+        ensures { (r : ℕ) → has_core result.0 r ≡ is_wanted t.0 home.0 (seen self.now).scheduler r (at_place cores.now r) };
 
     /// The first timer, by domain and unit, whose moment has come at t; where there is none, the one of the least moment. `None`
     /// where no timer is armed. A replenishment is armed while its unit waits or is on.

@@ -1,38 +1,22 @@
-use Rattle.std.proofs.Common.{length, ℕ, List, refl, sym, ap, ◌∙◌, arith}
+use Rattle.std.proofs.Common.{◌≡◌, ◌∙◌, ℕ, List, ap}
 use Rattle.std.specs.Prelude.{Option}
 use Rattle.sched_model.specs.declared.state.Resource.{Resource}
-use Rattle.sched_model.specs.Places.{at_place, change_each}
-use Rattle.sched_model.specs.Pool.{reconsidered}
-use Rattle.core_state.specs.Seen.{Seen, changed_core}
-use Rattle.core_state.proofs.Arming.{few_places}
-use Rattle.pool_core.proofs.Settled.{first-next, first-all, first-rest}
+use Rattle.sched_model.specs.declared.state.Scheduler.{Scheduler}
+use Rattle.sched_model.specs.Places.{at_place}
+use Rattle.sched_model.specs.Pool.{cores_from}
+use Rattle.sched_model.specs.State.{has_core}
+use Rattle.sched_ops.specs.Wanted.{is_wanted}
+use Rattle.pool_core.proofs.Marking.{wanted_marked}
 use Rattle.pool_core.proofs.settling.settle.Goals as goal
-
-pub loop-r-init : goal.loop-r-init
-loop-r-init g c = refl
-
-pub reconsider-requires-clause-core : goal.reconsider-requires-clause-core
-reconsider-requires-clause-core g c =
-    let few = few_places c.args.cores.now.granularity (length c.args.cores.now.resources) c.keeps.ensures.granularity c.keeps.ensures.places in
-    let inside = c.loop-r-test.true in
-    let count = c.places-r-end.ensures in
-    omega (arith, few, inside, count)
-
-pub reconsider-requires-clause-asks : goal.reconsider-requires-clause-asks
-reconsider-requires-clause-asks g c x at =
-    let look : ℕ → Resource → Resource = reconsidered c.args.t.0 c.home-home.result (g.P.Policy.seen c.args.policy.now).scheduler in
-    c.requires.asks c.loop-r.r x
-    (sym (first-rest c.loop-r.r 0 c.loop-r.r look c.args.cores.now.resources (omega arith)) ∙ ap (λ (s : Seen). at_place s.resources c.loop-r.r) (sym c.loop-r.invariant) ∙ at)
-
-pub loop-r-preserved : goal.loop-r-preserved
-loop-r-preserved g c =
-    let look : ℕ → Resource → Resource = reconsidered c.args.t.0 c.home-home.result (g.P.Policy.seen c.args.policy.now).scheduler in
-    c.reconsider.ensures ∙ ap (λ (s : Seen). changed_core c.loop-r.r (look c.loop-r.r) s) c.loop-r.invariant
-    ∙ ap (λ (cores : List (Option Resource)). record c.args.cores.now { resources = cores }) (first-next c.loop-r.r look c.args.cores.now.resources)
 
 pub returns : goal.returns
 returns g c =
-    let look : ℕ → Resource → Resource = reconsidered c.args.t.0 c.home-home.result (g.P.Policy.seen c.args.policy.now).scheduler in
-    c.loop-r.invariant
-    ∙ ap (λ (cores : List (Option Resource)). record c.args.cores.now { resources = cores }) (first-all c.loop-r.r 0 look c.args.cores.now.resources (let over = c.loop-r-test.false in let count = c.places-r-end.ensures in omega (arith, over, count)))
-    ∙ ap (λ (home : ℕ). record c.args.cores.now { resources = change_each 0 (reconsidered c.args.t.0 home (g.P.Policy.seen c.args.policy.now).scheduler) c.args.cores.now.resources }) c.home-home.ensures
+    let s : Scheduler = (g.P.Policy.seen c.args.policy.now).scheduler in
+    let cores : List (Option Resource) = c.args.cores.now.resources in
+    let t : ℕ = c.args.t.0 in
+    let wanted : (r : ℕ) → has_core c.wanted-wanted.result.0 r ≡ is_wanted t (cores_from 0 cores) s r (at_place cores r) = λ r.
+    c.wanted-wanted.ensures r
+    ∙ ap (λ (home : ℕ). is_wanted t home s r (at_place c.cores.result.now r)) c.home.ensures
+    ∙ ap (λ (there : List (Option Resource)). is_wanted t (cores_from 0 cores) s r (at_place there r)) c.cores.ensures in
+    c.set_all_pending.ensures
+    ∙ ap (λ (there : List (Option Resource)). record c.args.cores.now { resources = there }) (wanted_marked t (cores_from 0 cores) s c.wanted-wanted.result.0 cores wanted)

@@ -1,0 +1,132 @@
+//! The cores for which a unit waits that goes before their own.
+
+ghost use Rattle.std.specs.Prelude.{◌≡◌, ◌≤◌, ◌<◌, ℕ, length, is_some};
+ghost use Rattle.sched_base.specs.CoreSets.{has_core as has, is_allowed as allowed};
+ghost use Rattle.sched_model.specs.Places.{at_place};
+ghost use Rattle.arrival_queue.specs.Order.{IsInOrder};
+ghost use Rattle.sched_ops.specs.Wanted.{IsAnswer};
+ghost use Rattle.rtds_core.specs.Best.{AreQueued, goes_first as goes_first_spec};
+ghost use Rattle.rtds_core.specs.Wanted.{IsAhead, decides_anew, first_for, is_barred as is_barred_spec};
+
+use crate::best::goes_first;
+use plain_policy::rtds::unit_before;
+use rtds_queue::RtdsQueues;
+use sched_base::{Cores, ResId, UnitId, has_core, is_allowed};
+use sched_model::state::{Resource, RtdsUnits};
+use sched_ops::wanted_where;
+use unit_places::Masks;
+
+/// The first unit that waits with budget left, and the cores on which it may be.
+#[derive(Clone, Copy)]
+pub struct Ahead {
+    pub unit: UnitId,
+    pub cores: Cores,
+}
+
+/// The cores of a pool on which a unit with this set may be: those of its set, or all where it has none of the pool's.
+fn open_cores(set: Cores, home: Cores) -> Cores
+    ensures { (r : ℕ) → r < 64 → has result.0 r ≡ allowed set.0 r home.0 }
+{
+    if set.0 & home.0 == 0 {
+        Cores(u64::MAX)
+    } else {
+        set
+    }
+}
+
+/// Whether the core's own unit, where it has one, is not allowed on it.
+fn is_barred(masks: &Masks, cur: Option<UnitId>, core: ResId, home: Cores) -> bool
+    ensures { result ≡ is_barred_spec masks.now cur core home }
+{
+    match cur {
+        None => false,
+        Some(own) => !is_allowed(masks.get(own), core, home),
+    }
+}
+
+/// Whether a unit waits for the core.
+fn one_waits(queues: &RtdsQueues, masks: &Masks, first: Ahead, core: ResId, home: Cores) -> bool
+    requires core { core.0 < 64 }
+    requires ahead { IsAhead queues.now masks.now home first }
+    ensures { result ≡ is_some (first_for queues.now masks.now core home) }
+{
+    has_core(first.cores, core) || queues.first_on(masks, core, home).is_some()
+}
+
+/// Whether the first that waits and may have the core goes before its own unit. The queue is searched only where the first of all does,
+/// and is not allowed on the core.
+fn one_goes_first(
+    domains: &[Option<RtdsUnits>],
+    queues: &RtdsQueues,
+    masks: &Masks,
+    first: Ahead,
+    own: UnitId,
+    core: ResId,
+    home: Cores,
+) -> bool
+    requires core { core.0 < 64 }
+    requires queues { AreQueued domains.now queues.now }
+    requires order { IsInOrder queues.now.eligible }
+    requires ahead { IsAhead queues.now masks.now home first }
+    ensures { result ≡ goes_first_spec domains.now (first_for queues.now masks.now core home) own }
+{
+    if !unit_before(domains, first.unit, own) {
+        return false;
+    }
+    has_core(first.cores, core) || goes_first(domains, queues.first_on(masks, core, home), own)
+}
+
+/// Whether a core with this unit of its own is to decide anew.
+fn is_better_off(
+    domains: &[Option<RtdsUnits>],
+    queues: &RtdsQueues,
+    masks: &Masks,
+    first: Ahead,
+    cur: Option<UnitId>,
+    core: ResId,
+    home: Cores,
+) -> bool
+    requires core { core.0 < 64 }
+    requires queues { AreQueued domains.now queues.now }
+    requires order { IsInOrder queues.now.eligible }
+    requires ahead { IsAhead queues.now masks.now home first }
+    ensures { result ≡ decides_anew domains.now queues.now masks.now cur core home }
+{
+    match cur {
+        None => one_waits(queues, masks, first, core, home),
+        Some(own) => {
+            !is_allowed(masks.get(own), core, home)
+                || one_goes_first(domains, queues, masks, first, own, core, home)
+        }
+    }
+}
+
+/// The cores that are to decide anew, of those at these places. The first that waits is found once. Where none does, these are the cores whose
+/// own units are not allowed on them.
+pub fn wanted(
+    domains: &[Option<RtdsUnits>],
+    queues: &RtdsQueues,
+    masks: &Masks,
+    cores: &[Option<Resource>],
+    home: Cores,
+) -> Cores
+    requires few { length cores.now ≤ 64 }
+    requires queues { AreQueued domains.now queues.now }
+    requires order { IsInOrder queues.now.eligible }
+    ensures { (r : ℕ) → IsAnswer (λ core cur since answer. answer ≡ decides_anew domains.now queues.now masks.now cur core home) r (at_place cores.now r) (has result.0 r) }
+{
+    match queues.first() {
+        None => wanted_where(cores, |core, cur, _since| {
+            is_barred(masks, cur, core, home)
+        }),
+        Some(unit) => {
+            let first = Ahead {
+                unit,
+                cores: open_cores(masks.get(unit), home),
+            };
+            wanted_where(cores, |core, cur, _since| {
+                is_better_off(domains, queues, masks, first, cur, core, home)
+            })
+        }
+    }
+}
