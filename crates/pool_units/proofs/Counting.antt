@@ -116,7 +116,7 @@ times-all_units u d (suc k) (Some sets ∷ places) at low =
     let a = times-append u (first_units d (length sets)) (all_units (suc d) places) in
     omega (arith, r, a)
 
-lt_of : (a b : ℕ) → nat_lt a b ≡ true → a < b
+pub lt_of : (a b : ℕ) → nat_lt a b ≡ true → a < b
 lt_of a b is = grind arith
 
 member_there : (u : UnitId) (affinity : List (Option (List Cores))) → is_member affinity u ≡ true → 1 ≤ times u (all_units 0 affinity)

@@ -1,3 +1,4 @@
 pub mod Counting
 pub mod Waiting
 pub mod Whole
+pub mod Marking

@@ -15,11 +15,11 @@ use Rattle.sched_laws.proofs.Counts.{same_unit_refl}
 use Rattle.pool_units.specs.Units.{Units, IsWhole, is_member, HasNoneWaiting, joined, parted, enqueued, dequeued, pinned_in, vacant}
 use Rattle.pool_units.proofs.Counting.{unit_count-put_at, unit_count-clear_at, unit_count-change_at, units_in-change_at, unit_count-empty, length-pinned, waiting_count}
 
-or_false : (b : Bool) → (b || false) ≡ b
+pub or_false : (b : Bool) → (b || false) ≡ b
 or_false true = refl
 or_false false = refl
 
-has_unit-push : (u w : UnitId) (units : List UnitId) → has_unit (units ++ w ∷ []) u ≡ (has_unit units u || same_unit u w)
+pub has_unit-push : (u w : UnitId) (units : List UnitId) → has_unit (units ++ w ∷ []) u ≡ (has_unit units u || same_unit u w)
 has_unit-push u w [] = or_false (same_unit u w)
 has_unit-push u w (x ∷ units) =
     elim (same_unit u x) as (λ b. (b || has_unit (units ++ w ∷ []) u) ≡ ((b || has_unit units u) || same_unit u w)) [
@@ -164,7 +164,7 @@ none_joined [] vacant = refl
 none_joined (None ∷ places) vacant = ap (λ (ps : List (Option (List Cores))). None ∷ ps) (none_joined places vacant)
 none_joined (Some sets ∷ places) vacant = absurd (cc)
 
-at_empty : (domains k : ℕ) → ◌≡◌ {A = Option (List Cores)} (at_place (replicate domains None) k) None
+pub at_empty : (domains k : ℕ) → ◌≡◌ {A = Option (List Cores)} (at_place (replicate domains None) k) None
 at_empty zero k = refl
 at_empty (suc domains) zero = refl
 at_empty (suc domains) (suc k) = at_empty domains k

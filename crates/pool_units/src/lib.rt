@@ -10,10 +10,13 @@ ghost use Rattle.sched_model.specs.Policy.{pinned};
 ghost use Rattle.sched_model.specs.Eligible.{is_allowed_by};
 ghost use Rattle.sched_ops.specs.Conditions.{IsApart};
 
+mod marks;
+
+use marks::Marks;
 use plain_policy::params::pin;
 use plain_policy::places::{copies, set_place};
 use plain_units::eligible::is_allowed;
-use plain_units::units::{drop_unit, has_unit};
+use plain_units::units::drop_unit;
 use sched_base::{Cores, DomId, NoMemory, ResId, UnitId};
 use sched_model::config::Pins;
 use sched_model::row::Row;
@@ -24,22 +27,26 @@ use std::marker::Model;
 
 /// The units of a pool. Contracts see those that wait, in order of arrival, the sets of cores of each domain's units, and how
 /// many units may still join. At most 256 units join.
+///
+/// Each unit that waits is marked, so that whether one waits is told without a look at the others.
 #[derive(Drop)]
 pub struct PoolUnits {
     queue: Queue,
+    marks: Marks,
     affinity: Option<Row<Option<Pins>>>,
     spare: usize,
 }
 
 impl Model for PoolUnits {
     ghost use Rattle.std.specs.Prelude.{[], unwrap_or};
-    ghost use Rattle.pool_units.specs.Units.{Units, IsWhole};
+    ghost use Rattle.pool_units.specs.Units.{Units};
+    ghost use Rattle.pool_units.specs.Marks.{IsMarked};
 
     ghost Value = { Units };
 
     ghost view = { λ a. record { queue = a.queue; affinity = unwrap_or a.affinity []; spare = a.spare } };
 
-    ghost invariant = { λ a. IsWhole (record { queue = a.queue; affinity = unwrap_or a.affinity []; spare = a.spare }) };
+    ghost invariant = { λ a. IsMarked a.marks (record { queue = a.queue; affinity = unwrap_or a.affinity []; spare = a.spare }) };
 }
 
 /// So many places, all of them empty.
@@ -81,6 +88,7 @@ impl PoolUnits {
     {
         PoolUnits {
             queue: Short::new(),
+            marks: Marks::empty(),
             affinity: None,
             spare: 0,
         }
@@ -88,12 +96,14 @@ impl PoolUnits {
 
     /// No unit, with so many places for domains and room for so many units.
     pub fn room(alloc: Global, domains: u8, units: usize) -> Result<Self, NoMemory>
-        requires { units ≤ 256 }
+        requires domains { domains ≤ 64 }
+        requires units { units ≤ 256 }
         ensures { IfOk result (λ all. all ≡ vacant domains units) }
     {
         let affinity = empty_places(alloc, domains)?;
         Ok(PoolUnits {
             queue: Short::new(),
+            marks: Marks::room(alloc, domains)?,
             affinity: Some(affinity),
             spare: units,
         })
@@ -143,13 +153,18 @@ impl PoolUnits {
         requires waits_not { has_unit self.old.queue u ≡ false }
         ensures { self.new ≡ enqueued u self.old }
     {
+        self.marks.set(u, true);
         self.queue.push(u);
     }
 
-    /// The unit waits no more.
+    /// The unit waits no more. One that did not wait is not looked for.
     pub fn dequeue(&mut self, u: UnitId)
         ensures { self.new ≡ dequeued u self.old }
     {
+        if !self.marks.get(u) {
+            return;
+        }
+        self.marks.set(u, false);
         drop_unit(&mut self.queue, u);
     }
 
@@ -157,7 +172,7 @@ impl PoolUnits {
     pub fn waits(&self, u: UnitId) -> bool
         ensures { result ≡ has_unit self.now.queue u }
     {
-        has_unit(self.queue.as_slice(), u)
+        self.marks.get(u)
     }
 
     /// Whether the unit may be on a core of the pool: its set has the core, or has none of the pool's cores.
