@@ -1,8 +1,9 @@
 -- The earliest of some actions, one by one.
-use Rattle.std.proofs.Common.{◌≡◌, ◌≤◌, ℕ, zero, suc, Bool, true, false, List, [], ◌∷◌, length, take, drop, get_or, ◌-◌, ap, refl, arith, subst, cond}
+use Rattle.std.proofs.Common.{◌≡◌, ◌≤◌, ◌<◌, ℕ, zero, suc, Bool, true, false, List, [], ◌∷◌, length, take, drop, get_or, ◌-◌, ap, sym, ◌∙◌, refl, arith, subst, cond}
 use Rattle.std.specs.Prelude.{Option, Some, None, nat_le}
 use Rattle.std.specs.Option.{ForSome}
 use Rattle.std.proofs.lemmas.List.{take_rest}
+use Rattle.std.proofs.Math.Seq.{drop-cons}
 use Rattle.sched_model.specs.declared.action.Action.{Action}
 use Rattle.sched_model.specs.Places.{at_place}
 use Rattle.pool_laws.specs.Order.{IsNotAfter, kind_place, subject_place}
@@ -14,6 +15,13 @@ use Rattle.machine_parts.specs.Ranks.{IsSmall, rank_of, earlier_action}
 pub first-and-rest : {X : Type 0} (xs : List X) (d : X) → 1 ≤ length xs → get_or xs 0 d ∷ take (length xs - 1) (drop 1 xs) ≡ xs
 first-and-rest [] d some = absurd (omega (arith, some))
 first-and-rest {X} (x ∷ xs) d some = ap (λ (rest : List X). x ∷ rest) (take_rest (x ∷ xs) 1)
+
+-- the items from a place on are the one before them and the rest
+pub one_before : {X : Type 0} (xs : List X) (i : ℕ) (d x : X) → 0 < i → i ≤ length xs → get_or xs (i - 1) d ≡ x → x ∷ drop i xs ≡ drop (i - 1) xs
+one_before {X} xs i d x some inside is =
+    let low : i - 1 < length xs = omega arith in
+    let next : suc (i - 1) ≡ i = omega arith in
+    ap (λ (y : X). y ∷ drop i xs) (sym is) ∙ ap (λ (n : ℕ). get_or xs (i - 1) d ∷ drop n xs) (sym next) ∙ sym (drop-cons xs (i - 1) d low)
 
 pub lower : (a b : Action) → IsSmall a → IsSmall b → rank_of a ≤ rank_of b → IsNotAfter a b
 lower a b small other le =

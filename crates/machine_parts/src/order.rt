@@ -1,6 +1,6 @@
 //! Which of several actions comes first, and which of several moments is the least.
 
-ghost use Rattle.std.specs.Prelude.{◌≡◌, ◌+◌, ◌*◌};
+ghost use Rattle.std.specs.Prelude.{◌≡◌, ◌+◌, ◌*◌, Some};
 ghost use Rattle.std.specs.Option.{ForSome};
 ghost use Rattle.actor_laws.specs.First.{IsEarliest};
 ghost use Rattle.actor_laws.specs.Next.{IsSoonest};
@@ -40,26 +40,19 @@ pub fn rank_of_action(action: Action) -> u32
     }
 }
 
-/// The earlier of two actions that may be none.
-fn earlier_of(a: Option<Action>, b: Option<Action>) -> Option<Action>
-    ensures earlier { result ≡ earlier_action a b }
-    ensures small { ForSome a IsSmall }
+/// The earlier of an action and another one, if there is one.
+fn earlier_of(a: Action, b: Option<Action>) -> Action
+    ensures earlier { Some result ≡ earlier_action (Some a) b }
+    ensures small { IsSmall a }
     ensures other { ForSome b IsSmall }
 {
-    match (a, b) {
-        (None, None) => None,
-        (None, Some(y)) => {
-            rank_of_action(y);
-            b
-        }
-        (Some(x), None) => {
-            rank_of_action(x);
-            a
-        }
-        (Some(x), Some(y)) => if rank_of_action(x) <= rank_of_action(y) {
+    let rank = rank_of_action(a);
+    match b {
+        None => a,
+        Some(other) => if rank <= rank_of_action(other) {
             a
         } else {
-            b
+            other
         },
     }
 }
@@ -68,10 +61,15 @@ fn earlier_of(a: Option<Action>, b: Option<Action>) -> Option<Action>
 pub fn earliest(firsts: &[Option<Action>]) -> Option<Action>
     ensures { IsEarliest firsts.now result }
 {
-    match firsts {
-        [] => None,
-        [first, rest @ ..] => earlier_of(*first, earliest(rest)),
+    let mut found = None;
+    let mut i = firsts.len();
+    while i > 0 {
+        i -= 1;
+        if let Some(action) = firsts[i] {
+            found = Some(earlier_of(action, found));
+        }
     }
+    found
 }
 
 /// The least of the moments. `None` where there are none.
