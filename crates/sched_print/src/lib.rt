@@ -1,6 +1,7 @@
 //! The text of an entry of a history: one line, written and read back.
 #![tactic(auto)]
 
+pub mod entry_line;
 pub mod laws;
 pub mod line_buf;
 pub mod put;
@@ -11,6 +12,7 @@ pub mod read_line;
 mod scan;
 mod words;
 
+pub use entry_line::EntryLine;
 pub use line_buf::LineBuf;
 pub use put::put_entry;
 pub use read_line::{NotEntry, read_entry};

@@ -1,5 +1,7 @@
 //! The buffer that a line is written into.
 
+ghost use Rattle.std.specs.Prelude.{◌≡◌, ◌+◌, ◌<◌};
+
 use arrayvec::ArrayVec;
 use itoa::Buffer;
 use std::marker::Model;
@@ -11,6 +13,14 @@ pub const LINE_MOST: usize = 192;
 #[derive(Drop)]
 pub struct LineBuf {
     bytes: ArrayVec<u8, LINE_MOST>,
+}
+
+/// The character of a number below 10.
+fn digit(n: u64) -> u8
+    requires { n < 10 }
+    ensures { result ≡ 48 + n }
+{
+    b'0' + n as u8
 }
 
 impl Model for LineBuf {
@@ -64,9 +74,15 @@ impl LineBuf {
         ensures bytes { self.new ≡ self.old ++ decimal n }
         ensures length { length self.new ≤ length self.old + 20 }
     {
-        let mut buffer = Buffer::new();
-        let digits = buffer.format(n);
-        self.put(digits.as_bytes());
+        // Most numbers of a line have one digit or two.
+        if n < 10 {
+            self.put(&[digit(n)]);
+        } else if n < 100 {
+            self.put(&[digit(n / 10), digit(n % 10)]);
+        } else {
+            let mut buffer = Buffer::new();
+            self.put(buffer.format(n).as_bytes());
+        }
     }
 
     /// Adds these bytes and then the digits of a number.

@@ -144,7 +144,7 @@ fn put_save(r: ResId, u: UnitId, queued: bool, out: &mut LineBuf)
     }
 }
 
-fn put_event(event: &Event, out: &mut LineBuf)
+pub(crate) fn put_event(event: &Event, out: &mut LineBuf)
     requires { length out.old ≤ 20 }
     ensures bytes { out.new ≡ with_event out.old event.now }
     ensures length { length out.new ≤ 191 }
