@@ -48,8 +48,14 @@ fn run(rt: &HostRuntime) -> Result<(), Stop> {
     let mut words: Vec<String> = Vec::new(rt.alloc());
     words_of(rt, &mut words)?;
     let mut store = FileStore::new(rt);
-    let mut sink = OutSink::new(rt);
-    all(rt.alloc(), words.as_slice(), &mut store, &mut sink)
+    let Ok(mut sink) = OutSink::new(rt.alloc(), rt) else {
+        return Err(Stop::NoMemory);
+    };
+    let answer = all(rt.alloc(), words.as_slice(), &mut store, &mut sink);
+    match sink.flush() {
+        Ok(()) => answer,
+        Err(_) => Err(Stop::WriteFault),
+    }
 }
 
 /// Goes through the examples. The first that does not go on to its end is the last, with the line of its fault on standard error.

@@ -129,13 +129,22 @@ impl Print for Shut {
     }
 }
 
+fn flush<K: Sink>(sink: &mut K) -> bool {
+    sink.flush().is_ok()
+}
+
 #[test]
-fn output_is_written_or_refused(rt: HostRuntime) {
-    let mut sink = OutSink::new(&rt);
+fn output_is_written_or_refused(rt: HostRuntime) -> Result<(), Fail> {
+    let alloc = rt.alloc();
+    let mut sink = OutSink::new(alloc, &rt)?;
     assert!(rt; put(&mut sink, ""));
     assert!(rt; put(&mut sink, "two words\n"));
-    let mut shut = OutSink::new(&Shut);
-    assert!(rt; put(&mut shut, ""));
-    assert!(rt; !put(&mut shut, "x"));
+    assert!(rt; flush(&mut sink));
+    // What fits is kept, and shows its failure when it is handed on, once.
+    let mut shut = OutSink::new(alloc, &Shut)?;
+    assert!(rt; put(&mut shut, "x"));
+    assert!(rt; !flush(&mut shut));
+    assert!(rt; flush(&mut shut));
     pass(&OpenGate, 128);
+    Ok(())
 }

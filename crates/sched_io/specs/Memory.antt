@@ -1,4 +1,4 @@
--- The stores and sinks in memory, as contracts see them.
+-- The stores and sinks, as contracts see them.
 use Rattle.std.specs.Prelude.{ℕ, ◌+◌, ◌==◌, Bool, true, ◌||◌, List, ◌++◌, length, nat_lt, if◌then◌else◌}
 use Rattle.std.specs.List.{list_any}
 use Rattle.sched_io.specs.Faults.{one_more}
@@ -24,6 +24,11 @@ pub record SureState : Type 0 where
   pub bytes : List ℕ
   pub room : ℕ
   pub over : Bool
+
+-- how many bytes an output keeps, and how many of its calls failed
+pub record OutState : Type 0 where
+  pub kept : ℕ
+  pub faults : ℕ
 
 -- the number of the next call is among those that fail
 abbrev pub is_listed : List ℕ → ℕ → Bool

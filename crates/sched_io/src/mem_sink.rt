@@ -1,6 +1,6 @@
 //! A sink in memory that fails where it is told to.
 
-ghost use Rattle.std.specs.Prelude.{◌≡◌, ◌≤◌, ◌++◌, [], OnOk, OnErr, IfOk, Some, is_err, if◌then◌else◌};
+ghost use Rattle.std.specs.Prelude.{◌≡◌, ◌≤◌, ◌++◌, [], OnOk, OnErr, IfOk, IsOk, Some, is_err, if◌then◌else◌};
 ghost use Rattle.sched_io.specs.Faults.{Rose, one_more};
 ghost use Rattle.sched_io.specs.Puts.{Adds, AddsPart};
 ghost use Rattle.sched_io.specs.Memory.{SinkState, put_fails};
@@ -53,6 +53,8 @@ impl Sink for MemSink {
 
     ghost faults = { λ sink. sink.faults };
 
+    ghost kept = { λ _. 0 };
+
     /// Appends the piece, or fails and appends nothing: exactly where the call's number is listed or the bytes would
     /// pass the room.
     fn put(&mut self, piece: &[u8]) -> Result<(), Failed>
@@ -73,6 +75,17 @@ impl Sink for MemSink {
             return Err(Failed);
         }
         self.bytes.extend_from_slice(piece).unwrap();
+        Ok(())
+    }
+
+    /// Does nothing: no byte is kept apart.
+    fn flush(&mut self) -> Result<(), Failed>
+        ensures sure { IsOk result }
+        ensures unchanged { self.new ≡ self.old }
+        ensures told { Some self.new.bytes ≡ Some self.old.bytes }
+        ensures counts { self.old.faults ≤ self.new.faults }
+        ensures cause { OnErr result (Rose self.old.faults self.new.faults) }
+    {
         Ok(())
     }
 }

@@ -1,39 +1,52 @@
 //! The standard output.
 
-ghost use Rattle.std.specs.Prelude.{◌≡◌, ◌≤◌, OnOk, OnErr, None, is_err, if◌then◌else◌};
+ghost use Rattle.std.specs.Prelude.{◌≡◌, ◌≤◌, ◌+◌, ◌<◌, OnOk, OnErr, IfOk, None, length, is_err, if◌then◌else◌};
 ghost use Rattle.sched_io.specs.Faults.{Rose, one_more};
 ghost use Rattle.sched_io.specs.Held.{untold};
 ghost use Rattle.sched_io.specs.Puts.{Adds, AddsPart};
 ghost use Rattle.std.specs.Io.KnownBytes.{Appends};
 
 use crate::sink::Sink;
-use sched_base::Failed;
+use sched_base::{Failed, NoMemory};
+use std::alloc::Global;
 use std::io;
 use std::io::{Print, Write};
 use std::marker::Model;
 
-/// The standard output, as the runtime prints to it. It tells nothing of what was put; contracts see its count of
-/// faults.
+/// How many bytes are written at once.
+const BLOCK: usize = 65_536;
+
+/// The standard output, as the runtime prints to it. It gathers what is put into blocks of 65,536 bytes, so that a write is not made for each
+/// line; what stands in a block that is not full is written by `flush`, and lost without it. It tells nothing of what was put; contracts see its
+/// count of faults, and how many bytes it keeps.
 #[derive(Drop)]
 pub struct OutSink<'a, P> {
     output: &'a P,
+    block: Vec<u8>,
     faults: u64,
 }
 
 impl<'a, P> Model for OutSink<'a, P> {
-    ghost use Rattle.std.specs.Prelude.{ℕ};
+    ghost use Rattle.std.specs.Prelude.{◌≤◌, length, vec_capacity};
+    ghost use Rattle.sched_io.specs.Memory.{OutState};
 
-    ghost Value = { ℕ };
+    ghost Value = { OutState };
 
-    ghost view = { λ a. a.faults };
+    ghost view = { λ a. record { kept = length a.block.items; faults = a.faults } };
+
+    ghost invariant = { λ a. (length a.block.items ≤ 65536) × (65536 ≤ vec_capacity a.block) };
 }
 
 impl<'a, P> OutSink<'a, P> {
-    /// The output of this runtime, with no fault so far.
-    pub fn new(output: &'a P) -> OutSink<'a, P>
-        ensures { result ≡ 0 }
+    /// The output of this runtime, with no fault so far, and nothing kept.
+    pub fn new(alloc: Global, output: &'a P) -> Result<OutSink<'a, P>, NoMemory>
+        ensures { IfOk result (λ sink. sink ≡ record { kept = 0; faults = 0 }) }
     {
-        OutSink { output, faults: 0 }
+        Ok(OutSink {
+            output,
+            block: Vec::with_capacity(alloc, BLOCK)?,
+            faults: 0,
+        })
     }
 }
 
@@ -52,24 +65,55 @@ fn write_whole<W: Write>(writer: &mut W, piece: &[u8]) -> Result<(), Failed>
     Ok(())
 }
 
+/// Writes all of the piece to the output, and counts a fault where that fails.
+fn print_whole<P: Print>(output: &P, piece: &[u8], faults: &mut u64) -> Result<(), Failed>
+    ensures faults { faults.new ≡ (if is_err result then one_more faults.old else faults.old) }
+{
+    let answer = write_whole(&mut io::writer(output), piece);
+    if answer.is_err() {
+        *faults = faults.saturating_add(1);
+    }
+    answer
+}
+
 impl<P: Print> Sink for OutSink<'_, P> {
     ghost told = { λ _. untold };
 
-    ghost faults = { λ sink. sink };
+    ghost faults = { λ sink. sink.faults };
 
-    /// Writes the piece. It answers `Failed` where a write fails or takes nothing of what is left.
+    ghost kept = { λ sink. sink.kept };
+
+    /// Keeps the piece; where it does not fit behind what is kept, that is written first, and a piece longer than a block is written at once.
+    /// It answers `Failed` where a write fails or takes nothing of what is left. Then nothing is kept.
     fn put(&mut self, piece: &[u8]) -> Result<(), Failed>
-        ensures faults { self.new ≡ (if is_err result then one_more self.old else self.old) }
+        ensures faults { self.new.faults ≡ (if is_err result then one_more self.old.faults else self.old.faults) }
         ensures appended { OnOk result (Adds untold untold piece.now) }
         ensures prefix { OnErr result (AddsPart untold untold piece.now) }
-        ensures counts { self.old ≤ self.new }
-        ensures cause { OnErr result (Rose self.old self.new) }
+        ensures counts { self.old.faults ≤ self.new.faults }
+        ensures cause { OnErr result (Rose self.old.faults self.new.faults) }
+        ensures fits { self.old.kept + length piece.now ≤ 65536 → self.new.kept ≡ self.old.kept + length piece.now }
+        ensures lost { OnErr result (self.new.kept ≡ 0) }
     {
-        let mut writer = io::writer(self.output);
-        let answer = write_whole(&mut writer, piece);
-        if answer.is_err() {
-            self.faults = self.faults.saturating_add(1);
+        if piece.len() > BLOCK - self.block.len() {
+            self.flush()?;
         }
+        if piece.len() > BLOCK {
+            return print_whole(self.output, piece, &mut self.faults);
+        }
+        self.block.extend_from_slice(piece).unwrap();
+        Ok(())
+    }
+
+    /// Writes what is kept. It answers `Failed` where a write fails or takes nothing of what is left.
+    fn flush(&mut self) -> Result<(), Failed>
+        ensures faults { self.new.faults ≡ (if is_err result then one_more self.old.faults else self.old.faults) }
+        ensures none_kept { self.new.kept ≡ 0 }
+        ensures told { untold ≡ untold }
+        ensures counts { self.old.faults ≤ self.new.faults }
+        ensures cause { OnErr result (Rose self.old.faults self.new.faults) }
+    {
+        let answer = print_whole(self.output, self.block.as_slice(), &mut self.faults);
+        self.block.clear();
         answer
     }
 }

@@ -61,6 +61,8 @@ impl Sink for SureSink {
 
     ghost faults = { λ _. 0 };
 
+    ghost kept = { λ _. 0 };
+
     /// Appends the piece where it has room. It never fails.
     fn put(&mut self, piece: &[u8]) -> Result<(), Failed>
         ensures sure { IsOk result }
@@ -75,6 +77,15 @@ impl Sink for SureSink {
         } else {
             self.bytes.extend_from_slice(piece).unwrap();
         }
+        Ok(())
+    }
+
+    /// Does nothing: no byte is kept apart.
+    fn flush(&mut self) -> Result<(), Failed>
+        ensures sure { IsOk result }
+        ensures unchanged { self.new ≡ self.old }
+        ensures told { (if self.new.over then None else Some self.new.bytes) ≡ (if self.old.over then None else Some self.old.bytes) }
+    {
         Ok(())
     }
 }

@@ -5,8 +5,12 @@ ghost use Rattle.std.specs.Prelude.{◌≡◌};
 ghost use Rattle.xensched_top.specs.Files.{words_refused};
 
 use sched_io::{FileStore, OutSink};
-use std::io::ErrorKind;
+use std::alloc::Global;
+use std::io::{ErrorKind, Print};
 use std::process::ExitCode;
+use std::rt::Files;
+use std::sync::Wait;
+use std::thread::Threads;
 use xensched_top::status::Status;
 use xensched_top::top::xensched;
 
@@ -15,17 +19,28 @@ use xensched_top::top::xensched;
 fn main(rt: HostRuntime) -> ExitCode {
     let mut words: Vec<String> = Vec::new(rt.alloc());
     let status = match words_of(&rt, &mut words) {
-        Ok(()) => {
-            let mut store = FileStore::new(&rt);
-            let mut sink = OutSink::new(&rt);
-            xensched(&rt, rt.alloc(), words.as_slice(), &mut store, &mut sink)
-        }
+        Ok(()) => answer(&rt, rt.alloc(), words.as_slice()),
         Err(e) => e,
     };
     if status.number() != 0 {
         let _ = eprintln!(rt; "{status}");
     }
     ExitCode::from(status.number())
+}
+
+/// Does what the words say, over the files of the system and its standard output.
+fn answer<R: Files + Print + Threads + Wait + Sync>(
+    rt: &R,
+    alloc: Global,
+    words: &[String],
+) -> Status {
+    match OutSink::new(alloc, rt) {
+        Ok(mut sink) => {
+            let mut store = FileStore::new(rt);
+            xensched(rt, alloc, words, &mut store, &mut sink)
+        }
+        Err(_) => Status::NoMemory,
+    }
 }
 
 /// The words behind the program's own name.
