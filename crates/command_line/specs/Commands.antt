@@ -1,5 +1,5 @@
 -- Which command the words of the command line are.
-use Rattle.std.specs.Prelude.{ℕ, Bool, List, [], ◌∷◌, map, Option, Some, None, String, string_bytes, bytes_eq, codes, option_and_then, option_map, ◌≤◌, ⊤, if◌then◌else◌}
+use Rattle.std.specs.Prelude.{ℕ, Bool, true, false, List, [], ◌∷◌, map, Option, Some, None, String, string_bytes, bytes_eq, codes, option_and_then, option_map, ◌≤◌, ⊤, if◌then◌else◌}
 use Rattle.std.specs.declared.alloc.Global.{Global}
 use Rattle.clap.specs.Words.{Kinds, Row, Text, fault_of, first_of, subcommand_of}
 use Rattle.command_line.specs.declared.command.Form.{Form}
@@ -11,8 +11,8 @@ use Rattle.command_line.specs.declared.command.Command.TheVariants as command
 use Rattle.command_line.specs.Entries.{flag_in, number_in}
 use Rattle.command_line.specs.Tree.{tree}
 
--- a command: a run on two named files, the ordered one where that is asked, of which the schedule or the report is written, with at most so
--- many entries; one of the two texts that are made from a number; the report of the ordered run on both of them; or whether a schedule, the
+-- a command: a run on two named files, the ordered one where that is asked, of which the schedule, the report or the looks are written, with at
+-- most so many entries; one of the two texts that are made from a number; the report of the ordered run on both of them; or whether a schedule, the
 -- third file, is a run on two files
 pub data Asked : Type 0 where
   run : Bool → Form → ℕ → List ℕ → List ℕ → Asked
@@ -31,11 +31,14 @@ asked (command.Check ordered domains work schedule) = check ordered domains.now 
 abbrev pub files_in : List Row → Option (List ℕ × List ℕ)
 files_in rows = option_and_then (λ domains. option_map (λ work. (domains, work)) (first_of (codes "work") rows)) (first_of (codes "domains") rows)
 
--- a run on two named files, the ordered one where the flag was given
+-- a run on two named files, the ordered one where that is asked
+abbrev pub run_of : Bool → Form → List Row → Option Asked
+run_of ordered form rows =
+    option_and_then (λ limit. option_map (λ files. run ordered form limit files.0 files.1) (files_in rows)) (number_in 1 4000000 (codes "events") rows)
+
+-- the same, the ordered one where the flag was given
 abbrev pub run_in : Form → List Row → Option Asked
-run_in form rows =
-    option_and_then (λ limit. option_map (λ files. run (flag_in (codes "ordered") rows) form limit files.0 files.1) (files_in rows))
-    (number_in 1 4000000 (codes "events") rows)
+run_in form rows = run_of (flag_in (codes "ordered") rows) form rows
 
 -- the numbers that a text is made from: seed, processors and domains
 abbrev pub Numbers : Type 0
@@ -69,6 +72,7 @@ abbrev pub named_in : Text → List Row → Option Asked
 named_in name rows =
     if bytes_eq name (codes "run") then run_in form.Schedule rows
     else if bytes_eq name (codes "report") then run_in form.Report rows
+    else if bytes_eq name (codes "watch") then run_of false form.Watch rows
     else if bytes_eq name (codes "make") then make_in rows
     else if bytes_eq name (codes "load") then load_in rows
     else if bytes_eq name (codes "check") then check_in rows
@@ -86,9 +90,15 @@ unless_refused (kind ∷ kinds) entered = None
 unfoldable pub command_of : List (String Global) → Option Asked
 command_of words = unless_refused (fault_of tree (map string_bytes words)) (subcommand_of tree (map string_bytes words))
 
--- the numbers of a command are in their ranges
-abbrev pub HasNumbersInRange : Command → Type 0
-HasNumbersInRange (command.Run ordered form limit domains work) = (1 ≤ limit) × (limit ≤ 4000000)
-HasNumbersInRange (command.Make seed processors domains text) = (seed ≤ 2147483647) × (1 ≤ processors) × (processors ≤ 64) × (1 ≤ domains) × (domains ≤ 64)
-HasNumbersInRange (command.Load seed processors domains) = (seed ≤ 2147483647) × (1 ≤ processors) × (processors ≤ 64) × (1 ≤ domains) × (domains ≤ 64)
-HasNumbersInRange (command.Check ordered domains work schedule) = ⊤
+-- a run of which that is written may be the ordered one, or not: a watched one is not
+abbrev pub MayBe : Bool → Form → Type 0
+MayBe false form = ⊤
+MayBe true form.Watch = ⊥
+MayBe true form = ⊤
+
+-- the numbers of a command are in their ranges, and a watched run is not the ordered one
+abbrev pub IsInRange : Command → Type 0
+IsInRange (command.Run ordered form limit domains work) = (1 ≤ limit) × (limit ≤ 4000000) × MayBe ordered form
+IsInRange (command.Make seed processors domains text) = (seed ≤ 2147483647) × (1 ≤ processors) × (processors ≤ 64) × (1 ≤ domains) × (domains ≤ 64)
+IsInRange (command.Load seed processors domains) = (seed ≤ 2147483647) × (1 ≤ processors) × (processors ≤ 64) × (1 ≤ domains) × (domains ≤ 64)
+IsInRange (command.Check ordered domains work schedule) = ⊤

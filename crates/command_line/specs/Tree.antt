@@ -28,6 +28,10 @@ events_rule = record (new_rule (codes "events")) { long = Some (codes "events");
 abbrev pub run_app : Text → App
 run_app command = with_rule (with_rule (with_rule (with_rule (new_app command) ordered_rule) events_rule) (name_rule (codes "domains"))) (name_rule (codes "work"))
 
+-- a watched run on two files
+abbrev pub watch_app : App
+watch_app = with_rule (with_rule (with_rule (new_app (codes "watch")) events_rule) (name_rule (codes "domains"))) (name_rule (codes "work"))
+
 -- seeds, and counts of processors and domains
 abbrev pub seeds : ValueParser
 seeds = vp.Signed (pos 0) (pos 2147483647)
@@ -53,7 +57,9 @@ program_app = on_top (λ s. record s { no_binary_name = true; subcommand_require
 
 -- all commands
 unfoldable pub tree : App
-tree = with_subcommand (with_subcommand (with_subcommand (with_subcommand (with_subcommand program_app (run_app (codes "run")).top) (run_app (codes "report")).top) make_app.top) (numbers_app (codes "load")).top) check_app.top
+tree =
+    with_subcommand (with_subcommand (with_subcommand (with_subcommand (with_subcommand (with_subcommand program_app
+    (run_app (codes "run")).top) (run_app (codes "report")).top) watch_app.top) make_app.top) (numbers_app (codes "load")).top) check_app.top
 
 -- what a parse reads of the command is this, and no argument of it is global
 abbrev pub IsTree : App → Command → Type 0

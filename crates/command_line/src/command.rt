@@ -7,6 +7,8 @@ pub enum Form {
     Schedule,
     /// What each unit and each core did.
     Report,
+    /// What a reader of a status board saw of it in each of its moments.
+    Watch,
 }
 
 /// Which of the two texts that are made from a number.
@@ -21,7 +23,7 @@ pub enum Made {
 /// A command.
 #[derive(Clone, Copy, Debug, PartialEq, Eq)]
 pub enum Command<'a> {
-    /// A run on two files, the ordered one or any, with at most `limit` entries, 1 to 4,000,000.
+    /// A run on two files, the ordered one or any, with at most `limit` entries, 1 to 4,000,000. A watched run is never the ordered one.
     Run {
         ordered: bool,
         form: Form,

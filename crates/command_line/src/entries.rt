@@ -1,9 +1,9 @@
 //! The command of the entries that `clap` found.
 
-ghost use Rattle.std.specs.Prelude.{◌≡◌, ◌≤◌, IfSome, option_map};
+ghost use Rattle.std.specs.Prelude.{◌≡◌, ◌≢◌, ◌≤◌, IfSome, option_map};
 ghost use Rattle.clap.specs.Words.{first_of, found_of, rows_of, subcommand_rows_of};
 ghost use Rattle.command_line.specs.Entries.{flag_in as flag_in_spec, number_in as number_in_spec, within as within_spec};
-ghost use Rattle.command_line.specs.Commands.{asked, files_in as files_in_spec, run_in as run_in_spec, numbers_in as numbers_in_spec, made_of as made_of_spec, make_in as make_in_spec, load_in as load_in_spec, check_in as check_in_spec, named_in as named_in_spec, command_in as command_in_spec, HasNumbersInRange};
+ghost use Rattle.command_line.specs.Commands.{asked, files_in as files_in_spec, run_in as run_in_spec, run_of as run_of_spec, MayBe, numbers_in as numbers_in_spec, made_of as made_of_spec, make_in as make_in_spec, load_in as load_in_spec, check_in as check_in_spec, named_in as named_in_spec, command_in as command_in_spec, IsInRange};
 
 use crate::command::{Command, Form, Made};
 use clap::ArgMatches;
@@ -57,14 +57,14 @@ fn files_in<'a>(found: &ArgMatches<'a>) -> Option<(&'a str, &'a str)>
     Some((text_in(found, "domains")?, text_in(found, "work")?))
 }
 
-/// A run on two named files, the ordered one where the flag was given.
-fn run_in<'a>(form: Form, found: &ArgMatches<'a>) -> Option<Command<'a>>
-    ensures value { option_map asked result ≡ run_in_spec form (rows_of (found_of found.now)) }
-    ensures ranges { IfSome result HasNumbersInRange }
+/// A run on two named files, the ordered one where that is asked.
+fn run_of<'a>(ordered: bool, form: Form, found: &ArgMatches<'a>) -> Option<Command<'a>>
+    requires form { MayBe ordered form }
+    ensures value { option_map asked result ≡ run_of_spec ordered form (rows_of (found_of found.now)) }
+    ensures ranges { IfSome result IsInRange }
 {
     let limit = number_in(found, "events", 1, 4_000_000)?;
     let (domains, work) = files_in(found)?;
-    let ordered = flag_in(found, "ordered");
     Some(Command::Run {
         ordered,
         form,
@@ -72,6 +72,15 @@ fn run_in<'a>(form: Form, found: &ArgMatches<'a>) -> Option<Command<'a>>
         domains,
         work,
     })
+}
+
+/// A run on two named files, the ordered one where the flag was given. It is not watched.
+fn run_in<'a>(form: Form, found: &ArgMatches<'a>) -> Option<Command<'a>>
+    requires form { form ≢ Form.Watch }
+    ensures value { option_map asked result ≡ run_in_spec form (rows_of (found_of found.now)) }
+    ensures ranges { IfSome result IsInRange }
+{
+    run_of(flag_in(found, "ordered"), form, found)
 }
 
 /// Seed, processors and domains.
@@ -101,7 +110,7 @@ fn made_of(word: &str) -> Option<Made>
 /// One of the two texts that are made from a number.
 fn make_in<'a>(found: &ArgMatches<'a>) -> Option<Command<'a>>
     ensures value { option_map asked result ≡ make_in_spec (rows_of (found_of found.now)) }
-    ensures ranges { IfSome result HasNumbersInRange }
+    ensures ranges { IfSome result IsInRange }
 {
     let (seed, (processors, domains)) = numbers_in(found)?;
     Some(Command::Make {
@@ -115,7 +124,7 @@ fn make_in<'a>(found: &ArgMatches<'a>) -> Option<Command<'a>>
 /// The report of the run on both.
 fn load_in<'a>(found: &ArgMatches<'a>) -> Option<Command<'a>>
     ensures value { option_map asked result ≡ load_in_spec (rows_of (found_of found.now)) }
-    ensures ranges { IfSome result HasNumbersInRange }
+    ensures ranges { IfSome result IsInRange }
 {
     let (seed, (processors, domains)) = numbers_in(found)?;
     Some(Command::Load {
@@ -128,7 +137,7 @@ fn load_in<'a>(found: &ArgMatches<'a>) -> Option<Command<'a>>
 /// Whether a schedule is a run on two files.
 fn check_in<'a>(found: &ArgMatches<'a>) -> Option<Command<'a>>
     ensures value { option_map asked result ≡ check_in_spec (rows_of (found_of found.now)) }
-    ensures ranges { IfSome result HasNumbersInRange }
+    ensures ranges { IfSome result IsInRange }
 {
     let (domains, work) = files_in(found)?;
     let schedule = text_in(found, "schedule")?;
@@ -144,12 +153,14 @@ fn check_in<'a>(found: &ArgMatches<'a>) -> Option<Command<'a>>
 /// The command of this name.
 fn named_in<'a>(name: &str, found: &ArgMatches<'a>) -> Option<Command<'a>>
     ensures value { option_map asked result ≡ named_in_spec name.now (rows_of (found_of found.now)) }
-    ensures ranges { IfSome result HasNumbersInRange }
+    ensures ranges { IfSome result IsInRange }
 {
     if name == "run" {
         run_in(Form::Schedule, found)
     } else if name == "report" {
         run_in(Form::Report, found)
+    } else if name == "watch" {
+        run_of(false, Form::Watch, found)
     } else if name == "make" {
         make_in(found)
     } else if name == "load" {
@@ -164,7 +175,7 @@ fn named_in<'a>(name: &str, found: &ArgMatches<'a>) -> Option<Command<'a>>
 /// The command that the words named, with what they said of it.
 pub fn command_in<'a>(matches: &ArgMatches<'a>) -> Option<Command<'a>>
     ensures value { option_map asked result ≡ command_in_spec (subcommand_rows_of matches.now) }
-    ensures ranges { IfSome result HasNumbersInRange }
+    ensures ranges { IfSome result IsInRange }
 {
     let (name, found) = matches.subcommand()?;
     named_in(name, found)

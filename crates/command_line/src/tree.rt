@@ -2,7 +2,7 @@
 
 ghost use Rattle.std.specs.Prelude.{◌≡◌, IfOk, false};
 ghost use Rattle.clap.specs.Words.{App, Rule, rule_of, with_rule, with_subcommand};
-ghost use Rattle.command_line.specs.Tree.{IsTree, ordered_rule, events_rule, name_rule, number_rule, run_app, numbers_app, make_app, check_app, program_app, tree as tree_spec};
+ghost use Rattle.command_line.specs.Tree.{IsTree, ordered_rule, events_rule, name_rule, number_rule, run_app, watch_app, numbers_app, make_app, check_app, program_app, tree as tree_spec};
 
 use clap::builder::ValueParser;
 use clap::{Arg, ArgAction, Command};
@@ -76,6 +76,15 @@ fn run<'a>(alloc: Global, command: &'a str) -> Result<Command<'a>, NoMemory>
     with_arg(command, name(alloc, "work"))
 }
 
+/// A watched run on two files.
+fn watch<'a>(alloc: Global) -> Result<Command<'a>, NoMemory>
+    ensures { IfOk result (IsTree watch_app) }
+{
+    let command = with_arg(Ok(Command::new(alloc, "watch")), events(alloc));
+    let command = with_arg(command, name(alloc, "domains"));
+    with_arg(command, name(alloc, "work"))
+}
+
 /// A command with the numbers that texts are made from: seed, processors and domains.
 fn numbers<'a>(alloc: Global, command: &'a str) -> Result<Command<'a>, NoMemory>
     ensures { IfOk result (IsTree (numbers_app command.now)) }
@@ -124,6 +133,7 @@ pub fn tree<'a>(alloc: Global) -> Result<Command<'a>, NoMemory>
 {
     let program = with_command(Ok(program(alloc)), run(alloc, "run"));
     let program = with_command(program, run(alloc, "report"));
+    let program = with_command(program, watch(alloc));
     let program = with_command(program, make(alloc));
     let program = with_command(program, numbers(alloc, "load"));
     with_command(program, check(alloc))

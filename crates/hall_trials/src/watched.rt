@@ -1,74 +1,19 @@
 //! Watched runs: beside the workers a board is written and looked at.
 
-ghost use Rattle.std.specs.Prelude.{◌≡◌, ◌≤◌, ◌<◌, [], IfOk};
+ghost use Rattle.std.specs.Prelude.{◌≡◌, ◌≤◌, ◌<◌, []};
 ghost use Rattle.hall.specs.Seats.{IsOf};
-ghost use Rattle.status_board.specs.Boards.{nothing_seen, nothing_written};
-ghost use Rattle.pcpu_watch.specs.Seats.{AreSeats};
 ghost use Rattle.hall_trials.specs.Serving.{AreActors};
 
 use crate::numbering::Actors;
 use hall::{Hall, HallSeat};
 use journal_core::Book;
-use pcpu_watch::{Looks, WatchEnd, run_watched, split_seats};
+use pcpu_watch::{Looks, watch_run};
 use sched_base::NoMemory;
 use sched_io::OpenGate;
 use sched_model::event::Event;
-use status_board::{BoardReader, BoardWriter, open};
 use std::alloc::Global;
 use std::sync::Wait;
 use std::thread::Threads;
-
-/// The writer and the one reader of a board.
-fn open_board(alloc: Global, cores: u8) -> Result<(BoardWriter, BoardReader), NoMemory>
-    requires cores { (1 ≤ cores) × (cores ≤ 64) }
-    ensures writer { IfOk result (λ r. r.0 ≡ nothing_written cores) }
-    ensures reader { IfOk result (λ r. r.1 ≡ nothing_seen cores) }
-{
-    let (writer, mut readers) = open(alloc, cores, 1)?;
-    match readers.pop() {
-        Some(reader) => Ok((writer, reader)),
-        None => unreachable!(),
-    }
-}
-
-/// Goes through the run with all its seats, and answers the book and the looks.
-fn watch<R: Threads + Wait + Sync>(
-    rt: &R,
-    alloc: Global,
-    hall: Hall,
-    seat: HallSeat,
-    workers: Vec<HallSeat>,
-    scribe: HallSeat,
-    actors: Actors,
-    board: (BoardWriter, BoardReader),
-    looks: Looks,
-) -> Result<(Book, Looks), NoMemory>
-    requires seats { AreSeats hall seat workers.items scribe }
-    requires actors { AreActors hall.opened.input.config actors }
-    requires writer { board.0 ≡ nothing_written actors.processors }
-    requires reader { board.1 ≡ nothing_seen actors.processors }
-    requires looks { looks.items ≡ [] }
-    requires room { hall.opened.limit < looks.room }
-{
-    let (writer, reader) = board;
-    let (book, end, looks) = run_watched(
-        rt,
-        alloc,
-        hall,
-        seat,
-        workers,
-        actors.domains,
-        scribe,
-        writer,
-        reader,
-        looks,
-        &OpenGate,
-    );
-    match end {
-        WatchEnd::NoMemory => Err(NoMemory),
-        WatchEnd::Finished | WatchEnd::Full => Ok((book, looks)),
-    }
-}
 
 /// Goes through the run with a worker for each processor, a writer of a board and a reader, and answers the book and the looks.
 pub fn run_with_looks<R: Threads + Wait + Sync>(
@@ -86,20 +31,13 @@ pub fn run_with_looks<R: Threads + Wait + Sync>(
     requires looks { looks.items ≡ [] }
     requires room { hall.opened.limit < looks.room }
 {
-    let mut seat = seat;
-    match split_seats(alloc, &hall, &mut seat, actors.processors) {
-        Ok((workers, scribe)) => match open_board(alloc, actors.processors) {
-            Ok(board) => watch(rt, alloc, hall, seat, workers, scribe, actors, board, looks),
-            Err(e) => {
-                drop(seat);
-                drop(hall);
-                Err(e)
-            }
-        },
-        Err(e) => {
-            drop(hall.end(seat));
-            Err(e)
-        }
+    let Actors {
+        processors,
+        domains,
+    } = actors;
+    match watch_run(rt, alloc, hall, seat, processors, domains, looks, &OpenGate) {
+        Ok((book, _, looks)) => Ok((book, looks)),
+        Err(e) => Err(e),
     }
 }
 

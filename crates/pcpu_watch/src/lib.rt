@@ -15,8 +15,10 @@ mod scribe;
 mod seats;
 mod watch;
 mod watched;
+mod whole;
 
 pub use ends::WatchEnd;
 pub use looks::{Look, Looks};
 pub use seats::split_seats;
 pub use watched::run_watched;
+pub use whole::watch_run;

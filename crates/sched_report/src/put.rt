@@ -54,7 +54,7 @@ pub fn put_core_line(line: &CoreLine, out: &mut LineBuf)
     out.put(b"\n");
 }
 
-/// Writes the last line, with its newline, into an empty buffer.
+/// Writes the last line of a report, how many entries there are and the moment of the last, with its newline, into an empty buffer.
 pub fn put_last_line(entries: u32, end: Moment, out: &mut LineBuf)
     requires { out.old ≡ [] }
     ensures { out.new ≡ text_of_end entries end.0 }

@@ -142,6 +142,17 @@ PutsNothing status.WriteFault = ⊥
 PutsNothing (status.NotRun k) = ⊥
 PutsNothing answer = ⊤
 
+-- all that is asked for is put with this status, or what is asked of the first entries, or a refusal
+abbrev pub PutsWhole : Status → Type 0
+PutsWhole status.Ok = ⊤
+PutsWhole (status.Full n) = ⊤
+PutsWhole (status.NotRun k) = ⊤
+PutsWhole answer = ⊥
+
+-- the answer to a task that ended with this status once what the sink keeps is handed on: the same, or a fault of the sink
+abbrev pub IsHandedOn : Status → ℕ → ℕ → Status → Type 0
+IsHandedOn answer old new result = (result ≡ answer) ⊎ ((result ≡ status.WriteFault) × PutsWhole answer × Rose old new)
+
 -- this is answered, unless memory was wanted
 abbrev pub UnlessNoMemory : Status → Status → Type 0
 UnlessNoMemory expected answer = (answer ≡ status.NoMemory) ⊎ (answer ≡ expected)

@@ -13,6 +13,7 @@ ghost use Rattle.xensched_top.specs.Ends.{HasEnded};
 use crate::report::{empty_report, put_report};
 use crate::run::status_of;
 use crate::status::Status;
+use crate::watched::write_watched;
 use command_line::Form;
 use hall::Hall;
 use journal_core::Book;
@@ -20,7 +21,7 @@ use pcpu_threads::{RunEnd, run_free, split_workers};
 use sched_base::{Failed, NoMemory};
 use sched_io::{OpenGate, Sink};
 use sched_model::machine::Machine;
-use sched_print::{LineBuf, put_entry};
+use sched_print::EntryLine;
 use sched_report::Report;
 use std::alloc::Global;
 use std::sync::Wait;
@@ -59,10 +60,9 @@ fn put_entries<K: Sink>(book: &Book, sink: &mut K) -> Result<(), Failed>
     ensures counts { K.faults sink.old ≤ K.faults sink.new }
     ensures cause { OnErr result (Rose (K.faults sink.old) (K.faults sink.new)) }
 {
-    let mut line = LineBuf::new();
+    let mut line = EntryLine::new();
     for i in 0..book.len() {
-        line.clear();
-        put_entry(&book.get(i), &mut line);
+        line.set(&book.get(i));
         sink.put(line.as_bytes())?;
     }
     Ok(())
@@ -205,5 +205,6 @@ pub(crate) fn write_free<R: Threads + Wait + Sync, K: Sink>(
     match form {
         Form::Schedule => write_schedule(rt, alloc, machine, limit, sink),
         Form::Report => write_report(rt, alloc, machine, limit, sink),
+        Form::Watch => write_watched(rt, alloc, machine, limit, sink),
     }
 }

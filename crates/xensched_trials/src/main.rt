@@ -6,11 +6,13 @@
 //! store and a sink that never fail, or `no-memory`, for a store that has no memory for any file. These calls have the files in
 //! memory, and what they put there is printed. Or `free` stands there, before the words of a `run`: what a run in threads puts is
 //! not the same each time, so in its place is printed what `check` says of it, `yes` without the number of entries, and the status of
-//! that check.
+//! that check. Or `seen` stands there, before the words of a `watch` of a machine whose entries in each moment are the same in every run: of each look is
+//! printed between which numbers of entries it is to be, where it is; the ordered run tells them.
 #![tactic(auto)]
 
 mod free;
 mod memory;
+mod watched;
 
 use free::try_free;
 use memory::{try_failing, try_scantly, try_surely};
@@ -21,6 +23,7 @@ use std::io::Print;
 use std::rt::Files;
 use std::sync::Wait;
 use std::thread::Threads;
+use watched::try_watched;
 use xensched_top::status::Status;
 use xensched_top::top::xensched;
 
@@ -42,8 +45,10 @@ fn try_files<R: Files + Print + Threads + Wait + Sync>(
     alloc: Global,
     words: &[String],
 ) -> Status {
+    let Ok(mut sink) = OutSink::new(alloc, rt) else {
+        return Status::NoMemory;
+    };
     let mut store = FileStore::new(rt);
-    let mut sink = OutSink::new(rt);
     xensched(rt, alloc, words, &mut store, &mut sink)
 }
 
@@ -63,6 +68,7 @@ fn try_words<R: Files + Print + Threads + Wait + Sync>(
         [way, words @ ..] if way.as_str() == "sure" => try_surely(rt, alloc, words),
         [way, words @ ..] if way.as_str() == "no-memory" => try_scantly(rt, alloc, words),
         [way, words @ ..] if way.as_str() == "free" => try_free(rt, alloc, words),
+        [way, words @ ..] if way.as_str() == "seen" => try_watched(rt, alloc, words),
         _ => try_files(rt, alloc, words),
     }
 }

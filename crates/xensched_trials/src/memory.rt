@@ -1,9 +1,7 @@
 //! Calls over stores and sinks in memory, which fail where they are told to, or never.
 
 use sched_base::NoMemory;
-use sched_io::{
-    FileStore, MOST_BYTES, MemSink, MemStore, OutSink, ReadErr, Sink, Store, SureSink, SureStore,
-};
+use sched_io::{FileStore, MOST_BYTES, MemSink, MemStore, ReadErr, Store, SureSink, SureStore};
 use std::alloc::Global;
 use std::io::Print;
 use std::rt::Files;
@@ -69,7 +67,7 @@ impl Store for ScantStore {
 
 /// Prints what was put; a status of its own where that fails.
 fn printed<R: Print>(rt: &R, bytes: &[u8], status: Status) -> Status {
-    match OutSink::new(rt).put(bytes) {
+    match rt.write_all(bytes) {
         Ok(()) => status,
         Err(_) => Status::WriteFault,
     }

@@ -1,19 +1,17 @@
-use Rattle.std.proofs.Common.{List, ℕ, false}
+use Rattle.std.proofs.Common.{false}
 use Rattle.command_line.specs.declared.command.Form.TheVariants as form
-use Rattle.sched_io.specs.Puts.{Adds, AddsPart}
 use Rattle.xensched_top.proofs.WritesLemmas.{text_output, writes_ended, writes_part, ended_puts}
 use Rattle.xensched_top.proofs.free.put_schedule.Goals as goal
 
 pub returns-in-Ok-clause-written : goal.returns-in-Ok-clause-written
 returns-in-Ok-clause-written g c = λ m ended.
-    writes_ended false form.Schedule c.args.limit m c.args.book.now.history c.args.end _ _ _ _ _ c.status_of.ensures ended
-    (text_output m c.args.book.now.history (λ (z : List ℕ). Adds (g.K.Sink.told c.args.sink.now) (g.K.Sink.told c.put_entries.new.sink) z) c.in-Ok.ensures.whole)
+    writes_ended false form.Schedule c.args.limit m c.args.book.now.history c.args.end _ _ _ _ _ _ c.status_of.ensures ended
+    (text_output m c.args.book.now.history) c.in-Ok.ensures.whole
 
 pub returns-in-Ok-clause-nothing : goal.returns-in-Ok-clause-nothing
 returns-in-Ok-clause-nothing g c = λ h. absurd (ended_puts c.args.limit c.args.end _ c.status_of.ensures h)
 
 pub returns-in-Err-clause-written : goal.returns-in-Err-clause-written
 returns-in-Err-clause-written g c = λ m ended.
-    writes_part false form.Schedule c.args.limit m c.args.book.now.history c.args.end _ _ _ _ ended
-    (text_output m c.args.book.now.history (λ (z : List ℕ). AddsPart (g.K.Sink.told c.args.sink.now) (g.K.Sink.told c.put_entries.new.sink) z) c.in-Err.ensures.part)
-    c.in-Err.ensures.cause
+    writes_part false form.Schedule c.args.limit m c.args.book.now.history c.args.end _ _ _ _ _ ended
+    (text_output m c.args.book.now.history) c.in-Err.ensures.part c.in-Err.ensures.cause
