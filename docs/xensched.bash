@@ -3,11 +3,12 @@ _xensched() {
     local word=${COMP_WORDS[COMP_CWORD]} command=${COMP_WORDS[1]} options=
     COMPREPLY=()
     if [ "$COMP_CWORD" -eq 1 ]; then
-        mapfile -t COMPREPLY < <(compgen -W "run report check make load" -- "$word")
+        mapfile -t COMPREPLY < <(compgen -W "run report watch check make load" -- "$word")
         return
     fi
     case $command in
     run | report) options="--ordered --events" ;;
+    watch) options="--events" ;;
     check) options="--ordered" ;;
     make)
         if [ "$COMP_CWORD" -eq 5 ]; then
