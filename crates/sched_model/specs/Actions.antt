@@ -1,5 +1,5 @@
 -- Where the subjects of actions are.
-use Rattle.sched_base.specs.Numbers.{domain as domain_number}
+use Rattle.sched_base.specs.Numbers.{domain as domain_number, core, processor}
 use Rattle.std.specs.Prelude.{ℕ, suc, ◌+◌, ◌-◌, ◌/◌, List, [], ◌∷◌, ◌++◌, Option, None, is_some, length, map}
 use Rattle.sched_base.specs.declared.UnitId.{UnitId}
 use Rattle.sched_base.specs.declared.VcpuId.{VcpuId}
@@ -23,17 +23,17 @@ home_of_domain s d = first_place 0 (λ pool. is_some (at_place pool.domains d)) 
 abbrev pub home_of : ℕ → State → Action → Option ℕ
 home_of g s Stall = None
 home_of g s Xl = None
-home_of g s (Moved r) = home_of_core s r
-home_of g s (DomMoved d) = home_of_domain s d
+home_of g s (Moved r) = home_of_core s r.0
+home_of g s (DomMoved d) = home_of_domain s d.0
 home_of g s (Wake v) = home_of_domain s v.dom.0
-home_of g s (Block p) = home_of_core s (p / g)
-home_of g s (Slice r) = home_of_core s r
+home_of g s (Block p) = home_of_core s (p.0 / g)
+home_of g s (Slice r) = home_of_core s r.0
 home_of g s (Repl u) = home_of_domain s u.dom.0
-home_of g s (Refill d) = home_of_domain s d
-home_of g s (Arrive p) = home_of_core s (p / g)
-home_of g s (Decide r) = home_of_core s r
-home_of g s (Leave p) = home_of_core s (p / g)
-home_of g s (Save r) = home_of_core s r
+home_of g s (Refill d) = home_of_domain s d.0
+home_of g s (Arrive p) = home_of_core s (p.0 / g)
+home_of g s (Decide r) = home_of_core s r.0
+home_of g s (Leave p) = home_of_core s (p.0 / g)
+home_of g s (Save r) = home_of_core s r.0
 
 -- the vCPUs of all domains in order; the first domain of the list has the number d
 abbrev pub vcpus_from : ℕ → List DomConfig → List VcpuId
@@ -52,9 +52,9 @@ candidates config =
     let cores = numbers_from 0 (core_count config) in
     let processors = numbers_from 0 config.processors in
     let domains = numbers_from 0 (length config.domains) in
-    Stall ∷ Xl ∷ map Moved cores ++ map DomMoved domains ++ map Wake (vcpus_from 0 config.domains) ++ map Block processors
-    ++ map Slice cores ++ map Repl (units_from g 0 config.domains) ++ map Refill domains ++ map Arrive processors
-    ++ map Decide cores ++ map Leave processors ++ map Save cores
+    Stall ∷ Xl ∷ map (λ n. Moved (core n)) cores ++ map (λ n. DomMoved (domain_number n)) domains ++ map Wake (vcpus_from 0 config.domains) ++ map (λ n. Block (processor n)) processors
+    ++ map (λ n. Slice (core n)) cores ++ map Repl (units_from g 0 config.domains) ++ map (λ n. Refill (domain_number n)) domains ++ map (λ n. Arrive (processor n)) processors
+    ++ map (λ n. Decide (core n)) cores ++ map (λ n. Leave (processor n)) processors ++ map (λ n. Save (core n)) cores
 
 -- the pool i changed by f; all else stays
 abbrev pub change_pool : ℕ → (Pool → Pool) → State → State

@@ -2,15 +2,15 @@
 use Rattle.sched_base.specs.Numbers.{moment}
 use Rattle.std.specs.Prelude.{ℕ, zero, suc, ◌+◌, ◌-◌, ◌*◌, ◌/◌, ◌%◌, ◌==◌, ◌&&◌, ◌||◌, Bool, false, not, List, [], ◌∷◌, Option, Some, None, is_some, min, max, map, fold, slice_get, sum_by, replicate, length, ℤ, pos, ◌+ℤ◌, ◌-ℤ◌, int_lt, nat_lt, if◌then◌else◌}
 use Rattle.sched_base.specs.declared.UnitId.{UnitId}
-use Rattle.sched_model.specs.Places.{at_place, change_at, change_each, change_item, numbered, without_unit}
+use Rattle.sched_model.specs.Places.{at_place, change_at, change_each, change_item, numbered_items, without_unit}
 use Rattle.sched_model.specs.State.{Scheduler, Credit2Records, Credit2Domain, Credit2Unit}
 use Rattle.sched_model.specs.declared.state.Records.TheVariants.{Credit2Pool}
 use Rattle.sched_base.specs.Credit2Numbers.{above_zero, burned_credit, burned_residual, start_credit, resets, raise, slice, refill_span, total, quota, take, refill}
-use Rattle.sched_model.specs.Eligible.{Ask, Decision, is_allowed, has_budget, eligible}
+use Rattle.sched_model.specs.Eligible.{Ask, Decision, is_allowed, has_budget, eligible_units as eligible}
 
 -- the greatest weight of the pool's domains
 abbrev pub max_weight : Credit2Records → ℕ
-max_weight records = fold max 0 (map (λ e. e.1.weight) (numbered 0 records.domains))
+max_weight records = fold max 0 (map (λ e. e.1.weight) (numbered_items 0 records.domains))
 
 -- a running unit of the domain charged up to t
 abbrev pub burn_unit : ℕ → ℕ → Credit2Domain → Credit2Unit → Credit2Unit
@@ -33,7 +33,7 @@ change_domain d f records = record records { domains = change_at d f records.dom
 abbrev pub change_unit : UnitId → (Credit2Domain → Credit2Unit → Credit2Unit) → Credit2Records → Credit2Records
 change_unit u f records = change_domain u.dom.0 (λ d. record d { units = change_item u.n (f d) d.units }) records
 
--- the running units of one domain charged up to t; those of the whole pool
+-- the running units of one domain charged up to t
 abbrev pub burn_units : ℕ → ℕ → Credit2Domain → Credit2Domain
 burn_units most t d = record d { units = map (burn_unit most t d) d.units }
 
@@ -60,10 +60,10 @@ abbrev pub credit_of : Credit2Records → UnitId → ℤ
 credit_of records u = elim (at_place records.domains u.dom.0) [ None ↦ pos 0 | Some d ↦ elim (slice_get d.units u.n) [ None ↦ pos 0 | Some x ↦ x.credit ] ]
 
 -- the unit of greatest credit: the best so far, or one of those that follow; among equals the earlier
-abbrev pub greatest : Credit2Records → Option UnitId → List UnitId → Option UnitId
-greatest records best [] = best
-greatest records None (u ∷ units) = greatest records (Some u) units
-greatest records (Some best) (u ∷ units) = greatest records (Some (if int_lt (credit_of records best) (credit_of records u) then u else best)) units
+abbrev pub greatest_unit : Credit2Records → Option UnitId → List UnitId → Option UnitId
+greatest_unit records best [] = best
+greatest_unit records None (u ∷ units) = greatest_unit records (Some u) units
+greatest_unit records (Some best) (u ∷ units) = greatest_unit records (Some (if int_lt (credit_of records best) (credit_of records u) then u else best)) units
 
 -- whether the unit has run for less than the rate limit
 abbrev pub is_within_limit : Credit2Records → ℕ → ℕ → Bool
@@ -78,14 +78,14 @@ abbrev pub own_candidate : Ask → Scheduler → Credit2Records → Option UnitI
 own_candidate ask scheduler records =
     elim ask.cur [
       | None ↦ None
-      | Some u ↦ (if ask.runnable && is_allowed scheduler ask.home ask.core u && domain_has_budget records u then Some u else None)
+      | Some u ↦ (if ask.runnable && is_allowed scheduler ask.home.0 ask.core.0 u && domain_has_budget records u then Some u else None)
     ]
 
 -- the choice, after the core's own unit was charged
 abbrev pub choice : Ask → Scheduler → Credit2Records → Option UnitId
 choice ask scheduler records =
     let own = own_candidate ask scheduler records in
-    (if ask.leaving then None else (if is_some own && is_within_limit records ask.since ask.at then own else greatest records own (eligible (record scheduler { records = Credit2Pool records }) ask.home ask.core ask.at)))
+    (if ask.leaving then None else (if is_some own && is_within_limit records ask.since.0 ask.at.0 then own else greatest_unit records own (eligible (record scheduler { records = Credit2Pool records }) ask.home.0 ask.core.0 ask.at.0)))
 
 -- how many resets the choice calls for: none where its credit is above 0, or the pool had a reset at this moment
 abbrev pub resets_for : ℕ → UnitId → Credit2Records → ℕ
@@ -111,7 +111,7 @@ take_budget n d =
 -- the greatest credit of the others that are eligible, or 0
 abbrev pub best_other : Ask → Scheduler → Credit2Records → UnitId → ℤ
 best_other ask scheduler records u =
-    elim (greatest records None (without_unit u (eligible (record scheduler { records = Credit2Pool records }) ask.home ask.core ask.at))) [ None ↦ pos 0 | Some w ↦ credit_of records w ]
+    elim (greatest_unit records None (without_unit u (eligible (record scheduler { records = Credit2Pool records }) ask.home.0 ask.core.0 ask.at.0))) [ None ↦ pos 0 | Some w ↦ credit_of records w ]
 
 -- how long the chosen unit runs; a capped domain's for no longer than the budget that it holds
 abbrev pub slice_of : Ask → Scheduler → Credit2Records → UnitId → ℕ
@@ -139,19 +139,19 @@ switch_off (Some u) records = set_running None u records
 abbrev pub decide : Ask → Scheduler → Credit2Records → Option UnitId → Decision
 decide ask scheduler records None = record { unit = None; due = None; reset = 0; records = Credit2Pool (switch_off ask.cur records) }
 decide ask scheduler records (Some u) =
-    let m = resets_for ask.at u records in
-    let taken : Credit2Records = change_domain u.dom.0 (take_budget u.n) (reset ask.at m records) in
+    let m = resets_for ask.at.0 u records in
+    let taken : Credit2Records = change_domain u.dom.0 (take_budget u.n) (reset ask.at.0 m records) in
     record {
       unit = Some u;
-      due = Some (moment (ask.at + slice_of ask scheduler taken u));
+      due = Some (moment (ask.at.0 + slice_of ask scheduler taken u));
       reset = m;
-      records = Credit2Pool (set_running (Some ask.at) u (switch_off ask.cur taken));
+      records = Credit2Pool (set_running (Some ask.at.0) u (switch_off ask.cur taken));
     }
 
 -- the decision: the core's own unit is charged first, and then the choice is made
-abbrev pub choose2 : Ask → Scheduler → Credit2Records → Decision
-choose2 ask scheduler records =
-    let burned : Credit2Records = burn_cur ask.cur ask.at records in
+abbrev pub credit2_decision : Ask → Scheduler → Credit2Records → Decision
+credit2_decision ask scheduler records =
+    let burned : Credit2Records = burn_cur ask.cur ask.at.0 records in
     decide ask scheduler burned (choice ask scheduler burned)
 
 -- whether a unit has more credit than the core's own has now, and that has run for the rate limit
@@ -179,8 +179,8 @@ refill_domain most t d =
     }
 
 -- the pool after a refill of the domain
-abbrev pub refilled : ℕ → ℕ → Credit2Records → Credit2Records
-refilled t d records = change_domain d (refill_domain (max_weight records) t) records
+abbrev pub refilled_pool : ℕ → ℕ → Credit2Records → Credit2Records
+refilled_pool t d records = change_domain d (refill_domain (max_weight records) t) records
 
 -- the first refill after t, where the domain is capped
 abbrev pub first_refill : ℕ → ℕ → Option ℕ

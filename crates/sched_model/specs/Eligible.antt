@@ -5,7 +5,7 @@ use Rattle.std.specs.List.{list_any}
 use Rattle.sched_base.specs.declared.UnitId.{UnitId}
 use Rattle.sched_base.specs.declared.Cores.{Cores}
 use Rattle.sched_base.specs.declared.Moment.{Moment}
-use Rattle.sched_model.specs.Places.{at_place, is_unit, numbered}
+use Rattle.sched_model.specs.Places.{at_place, is_unit, numbered_items}
 use Rattle.sched_model.specs.State.{Scheduler, Records, Credit2Domain, RtdsUnit, has_core}
 use Rattle.sched_model.specs.declared.state.Records.TheVariants.{Credit2Pool, RtdsPool, ArincPool, NullPool}
 pub use Rattle.sched_model.specs.declared.ask.Ask.{Ask}
@@ -42,7 +42,7 @@ is_taken scheduler kept home core = elim (at_place kept core) [ None ↦ false |
 
 -- whether the unit is given some core
 abbrev pub has_place : Scheduler → List (Option UnitId) → ℕ → UnitId → Bool
-has_place scheduler kept home u = list_any (λ e. is_placed scheduler kept home e.0 u) (numbered 0 kept)
+has_place scheduler kept home u = list_any (λ e. is_placed scheduler kept home e.0 u) (numbered_items 0 kept)
 
 -- whether the scheduler's own rule lets the unit have the core at t
 abbrev pub passes : Records → Scheduler → ℕ → ℕ → ℕ → UnitId → Bool
@@ -56,8 +56,8 @@ abbrev pub is_eligible : Scheduler → ℕ → ℕ → ℕ → UnitId → Bool
 is_eligible scheduler home core t u = is_allowed scheduler home core u && passes scheduler.records scheduler home core t u
 
 -- the units that are eligible for the core, in order of arrival
-abbrev pub eligible : Scheduler → ℕ → ℕ → ℕ → List UnitId
-eligible scheduler home core t = filter (is_eligible scheduler home core t) scheduler.queue
+abbrev pub eligible_units : Scheduler → ℕ → ℕ → ℕ → List UnitId
+eligible_units scheduler home core t = filter (is_eligible scheduler home core t) scheduler.queue
 
 -- the answer to a core: its unit, the moment at which to ask again, how many resets there were, and the scheduler's records then
 pub record Decision : Type 0 where

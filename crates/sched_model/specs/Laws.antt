@@ -5,7 +5,7 @@ use Rattle.sched_base.specs.declared.UnitId.{UnitId}
 use Rattle.sched_model.specs.declared.state.Doing.TheVariants.{Guest, Idle, Held}
 use Rattle.sched_model.specs.declared.state.Processor.{Processor}
 use Rattle.sched_model.specs.declared.state.Resource.{Resource}
-use Rattle.sched_model.specs.Places.{at_place, numbered, is_unit, same_unit}
+use Rattle.sched_model.specs.Places.{at_place, numbered_items, is_unit, same_unit}
 use Rattle.sched_model.specs.State.{Machine, Pool, State, Records, is_runnable, is_up}
 use Rattle.sched_model.specs.declared.state.Records.TheVariants.{Credit2Pool, RtdsPool, ArincPool, NullPool}
 use Rattle.sched_model.specs.Eligible.{is_eligible, is_allowed}
@@ -22,22 +22,22 @@ implies a b = not a || b
 abbrev pub count_in : Pool → UnitId → ℕ
 count_in pool u =
     count_by (same_unit u) pool.scheduler.queue
-    + sum_by (λ e. (if is_unit e.1.cur u then 1 else 0) + (if is_unit e.1.saving u then 1 else 0)) (numbered 0 pool.resources)
+    + sum_by (λ e. (if is_unit e.1.cur u then 1 else 0) + (if is_unit e.1.saving u then 1 else 0)) (numbered_items 0 pool.resources)
 
 -- how often it stands in all pools
 abbrev pub count : State → UnitId → ℕ
-count s u = sum_by (λ e. count_in e.1 u) (numbered 0 s.pools)
+count s u = sum_by (λ e. count_in e.1 u) (numbered_items 0 s.pools)
 
 -- whether the unit is runnable in the pool that has its domain
 abbrev pub runs_somewhere : ℕ → State → UnitId → Bool
-runs_somewhere g s u = list_any (λ e. is_runnable g e.1 u) (numbered 0 s.pools)
+runs_somewhere g s u = list_any (λ e. is_runnable g e.1 u) (numbered_items 0 s.pools)
 
 -- the unit has at most one place, and one where it is runnable; a unit that is not runnable does not wait
 abbrev pub has_one_place : ℕ → State → UnitId → Bool
 has_one_place g s u =
     nat_le (count s u) 1
     && implies (runs_somewhere g s u) (count s u == 1)
-    && implies (not (runs_somewhere g s u)) (not (list_any (λ e. list_any (same_unit u) e.1.scheduler.queue) (numbered 0 s.pools)))
+    && implies (not (runs_somewhere g s u)) (not (list_any (λ e. list_any (same_unit u) e.1.scheduler.queue) (numbered_items 0 s.pools)))
 
 -- a core whose own unit is not runnable is to decide anew
 abbrev pub cur_runs : ℕ → Pool → Resource → Bool
@@ -64,13 +64,13 @@ is_sound_core g pool c = cur_runs g pool c && list_all (is_own_guest g c) (enume
 
 -- all that holds of a pool
 abbrev pub is_sound_pool : ℕ → Pool → Bool
-is_sound_pool g pool = list_all (λ e. is_sound_core g pool e.1) (numbered 0 pool.resources) && list_all (λ u. is_of_pool pool (Some u)) pool.scheduler.queue
+is_sound_pool g pool = list_all (λ e. is_sound_core g pool e.1) (numbered_items 0 pool.resources) && list_all (λ u. is_of_pool pool (Some u)) pool.scheduler.queue
 
 -- all that holds of a state
 abbrev pub is_sound : Machine → State → Bool
 is_sound m s =
     list_all (has_one_place m.config.granularity s) (units_from m.config.granularity 0 m.config.domains)
-    && list_all (λ e. is_sound_pool m.config.granularity e.1) (numbered 0 s.pools)
+    && list_all (λ e. is_sound_pool m.config.granularity e.1) (numbered_items 0 s.pools)
 
 -- whether the unit runs before the core's own, where the pool is one of RTDS
 abbrev pub is_more_urgent : Records → UnitId → UnitId → Bool
@@ -91,7 +91,7 @@ keeps_none_waiting t pool e =
 
 -- no core keeps a unit waiting without need
 abbrev pub is_quiet : State → Bool
-is_quiet s = list_all (λ e. list_all (keeps_none_waiting s.now e.1) (numbered 0 e.1.resources)) (numbered 0 s.pools)
+is_quiet s = list_all (λ e. list_all (keeps_none_waiting s.now e.1) (numbered_items 0 e.1.resources)) (numbered_items 0 s.pools)
 
 -- every state of the ordered run is sound, and quiet before each End and Finish
 abbrev pub ordered_run_is_sound : ℕ → Machine → State → Bool

@@ -9,6 +9,11 @@ module _ (T : RattleType) (v : MutBor (List T.Denot)) where
   abbrev pub row_lends_item : ℕ → MutBor T.Denot → Fml
   row_lends_item i r = Lends (row_row T) T v r (slice_set v.now i)
 
+module _ (T : RattleType) (v : MutBor (List T.Denot)) where
+  -- once the borrow ends, the place i has the last value written through it; where there is no such place, all stays
+  abbrev pub row_lends_get : ℕ → Option (MutBor T.Denot) → Fml
+  row_lends_get i r = LendsIf (row_row T) T v r (slice_set v.now i) v.now
+
 module _ (T N : RattleType) (v : MutBor (List T.Denot)) where
   -- once the borrow ends, the place i has the last value written through it; where there is no such place, all stays
   abbrev pub short_lends_get : ℕ → Option (MutBor T.Denot) → Fml

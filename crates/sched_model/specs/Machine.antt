@@ -11,7 +11,7 @@ use Rattle.sched_model.specs.declared.event.Refusal.TheVariants as refusal
 use Rattle.sched_model.specs.declared.event.Event.{Event}
 use Rattle.sched_model.specs.declared.event.Event.TheVariants as event
 use Rattle.sched_model.specs.declared.event.Entry.{Entry}
-use Rattle.sched_model.specs.Places.{at_place, put_at, clear_at, change_at, change_item, numbered, test_at, least}
+use Rattle.sched_model.specs.Places.{at_place, put_at, clear_at, change_at, change_item, numbered_items, test_at, least_number}
 use Rattle.sched_model.specs.State.{Credit2Domain, Machine, FreeCore, Records, RtdsUnit, Pool, State}
 use Rattle.sched_model.specs.declared.state.Resource.{Resource}
 use Rattle.sched_model.specs.declared.state.Vcpu.{Vcpu}
@@ -21,7 +21,7 @@ use Rattle.sched_model.specs.declared.event.Reply.{Reply}
 use Rattle.sched_model.specs.declared.event.Reply.TheVariants as reply
 use Rattle.sched_model.specs.Opening.{fresh_core, no_pool}
 use Rattle.sched_model.specs.Policy.{default_dom_params}
-use Rattle.sched_model.specs.Pool.{Action, enabled_in, after_in, event_in, settled, done_at, change_processor, with_domain, without_domain}
+use Rattle.sched_model.specs.Pool.{Action, enabled_in, after_in, event_in, settled_pool as settled, done_at, change_processor, with_domain, without_domain}
 use Rattle.sched_model.specs.declared.action.Action.TheVariants.{Stall, Xl, Moved, DomMoved}
 use Rattle.sched_model.specs.Actions.{home_of_core, home_of_domain, home_of, candidates, change_pool}
 use Rattle.sched_model.specs.Commands.{judge, reply_of, pool_of_plan, carried_out}
@@ -29,8 +29,8 @@ use Rattle.sched_model.specs.Commands.{judge, reply_of, pool_of_plan, carried_ou
 -- whether a core or a domain is on its way to another pool
 abbrev pub is_move_under_way : State → Bool
 is_move_under_way s =
-    list_any (λ e. list_any (λ c. c.1.leaving) (numbered 0 e.1.resources) || list_any (λ d. is_some d.1.moving) (numbered 0 e.1.domains)) (numbered 0 s.pools)
-    || list_any (λ e. is_some e.1.target) (numbered 0 s.free)
+    list_any (λ e. list_any (λ c. c.1.leaving) (numbered_items 0 e.1.resources) || list_any (λ d. is_some d.1.moving) (numbered_items 0 e.1.domains)) (numbered_items 0 s.pools)
+    || list_any (λ e. is_some e.1.target) (numbered_items 0 s.free)
 
 -- whether a core of no pool is leaving, and its first processor is up
 abbrev pub free_ready : ℕ → FreeCore → Bool
@@ -45,21 +45,21 @@ enabled_at_home m s t action =
 abbrev pub is_enabled : Machine → State → ℕ → Action → Bool
 is_enabled m s t Stall = elim (slice_get m.work.stalls s.next_stall) [ None ↦ false | Some line ↦ nat_le line.at.0 t ]
 is_enabled m s t Xl = elim (slice_get m.work.commands s.next_command) [ None ↦ false | Some line ↦ nat_le line.at.0 t && not (is_move_under_way s) ]
-is_enabled m s t (Moved r) = test_at s.free r (free_ready t) || enabled_at_home m s t (Moved r)
+is_enabled m s t (Moved r) = test_at s.free r.0 (free_ready t) || enabled_at_home m s t (Moved r)
 is_enabled m s t action = enabled_at_home m s t action
 
 -- the actions that may come at t, in order
-abbrev pub enabled : Machine → State → ℕ → List Action
-enabled m s t = filter (is_enabled m s t) (candidates m.config)
+abbrev pub enabled_actions : Machine → State → ℕ → List Action
+enabled_actions m s t = filter (is_enabled m s t) (candidates m.config)
 
 -- the first action that may come at t
 abbrev pub first_enabled : Machine → State → ℕ → Option Action
 first_enabled m s t = find (is_enabled m s t) (candidates m.config)
 
 -- the lists that f makes of the elements, joined
-abbrev pub joined : {X Y : Type 0} → (X → List Y) → List X → List Y
-joined f [] = []
-joined f (x ∷ xs) = f x ++ joined f xs
+abbrev pub joined_lists : {X Y : Type 0} → (X → List Y) → List X → List Y
+joined_lists f [] = []
+joined_lists f (x ∷ xs) = f x ++ joined_lists f xs
 
 -- the moments that are there
 abbrev pub some_of : List (Option Moment) → List ℕ
@@ -75,28 +75,28 @@ vcpu_moments v = some_of (v.asleep_until ∷ done_at v ∷ [])
 
 -- the moments that a scheduler names
 abbrev pub records_moments : Records → List ℕ
-records_moments (Credit2Pool records) = filter_map (λ (e : ℕ × Credit2Domain). e.1.refill) (numbered 0 records.domains)
-records_moments (RtdsPool domains) = joined (λ e. map (λ (x : RtdsUnit). x.deadline) e.1) (numbered 0 domains)
+records_moments (Credit2Pool records) = filter_map (λ (e : ℕ × Credit2Domain). e.1.refill) (numbered_items 0 records.domains)
+records_moments (RtdsPool domains) = joined_lists (λ e. map (λ (x : RtdsUnit). x.deadline) e.1) (numbered_items 0 domains)
 records_moments (ArincPool records) = []
 records_moments (NullPool kept) = []
 
 -- the moments that a pool names
 abbrev pub pool_moments : Pool → List ℕ
 pool_moments pool =
-    joined (λ e. core_moments e.1) (numbered 0 pool.resources)
-    ++ joined (λ e. joined vcpu_moments e.1.vcpus) (numbered 0 pool.domains)
+    joined_lists (λ e. core_moments e.1) (numbered_items 0 pool.resources)
+    ++ joined_lists (λ e. joined_lists vcpu_moments e.1.vcpus) (numbered_items 0 pool.domains)
     ++ records_moments pool.scheduler.records
 
 -- the moments that the whole state names
 abbrev pub moments : Machine → State → List ℕ
 moments m s =
-    joined (λ e. pool_moments e.1) (numbered 0 s.pools)
-    ++ joined (λ e. map (λ (end : Moment). end.0) e.1.stall_ends) (numbered 0 s.free)
+    joined_lists (λ e. pool_moments e.1) (numbered_items 0 s.pools)
+    ++ joined_lists (λ e. map (λ (end : Moment). end.0) e.1.stall_ends) (numbered_items 0 s.free)
     ++ some_of (option_map (λ line. line.at) (slice_get m.work.stalls s.next_stall) ∷ option_map (λ line. line.at) (slice_get m.work.commands s.next_command) ∷ [])
 
 -- the least moment after t at which something may happen
 abbrev pub next_moment : Machine → State → ℕ → Option ℕ
-next_moment m s t = least (filter (λ later. nat_lt t later && is_some (first_enabled m s later)) (moments m s))
+next_moment m s t = least_number (filter (λ later. nat_lt t later && is_some (first_enabled m s later)) (moments m s))
 
 -- the later of the two ends of a stall of the processor
 abbrev pub stall_end_of : ℕ → State → ℕ → ℕ → ℕ
@@ -110,8 +110,8 @@ stall_end_of g s p end =
     ]
 
 -- the processor stalls up to a moment
-abbrev pub stalled : ℕ → ℕ → ℕ → State → State
-stalled g p end s =
+abbrev pub with_stall_end : ℕ → ℕ → ℕ → State → State
+with_stall_end g p end s =
     elim (home_of_core s (p / g)) [
       | None ↦ record s { free = change_at (p / g) (λ (c : FreeCore). record c { stall_ends = change_item (p % g) (λ old. moment end) c.stall_ends }) s.free }
       | Some i ↦ change_pool i (change_processor g p (λ q. record q { stall_end = moment end })) s
@@ -119,7 +119,7 @@ stalled g p end s =
 
 -- the state after a stall
 abbrev pub after_stall : ℕ → ℕ → StallLine → State → State
-after_stall g t line s = record (stalled g line.cpu.0 (stall_end_of g s line.cpu.0 (t + line.span.0)) s) { next_stall = suc s.next_stall }
+after_stall g t line s = record (with_stall_end g line.cpu.0 (stall_end_of g s line.cpu.0 (t + line.span.0)) s) { next_stall = suc s.next_stall }
 
 -- what is answered to a line with a command
 abbrev pub verdict : Machine → State → CommandLine → Result Plan Refusal
@@ -141,13 +141,13 @@ abbrev pub answer_of : Machine → State → CommandLine → Result Reply Refusa
 answer_of m s line = elim (verdict m s line) [ Err fault ↦ Err fault | Ok plan ↦ Ok (reply_of plan) ]
 
 -- a core of no pool joins the pool i
-abbrev pub attached : ℕ → ℕ → ℕ → FreeCore → State → State
-attached t r i c s =
+abbrev pub with_core_in : ℕ → ℕ → ℕ → FreeCore → State → State
+with_core_in t r i c s =
     change_pool i (λ pool. settled t (record pool { resources = put_at r (fresh_core c.stall_ends) pool.resources })) (record s { free = clear_at r s.free })
 
 -- a core of the pool i becomes free
-abbrev pub detached : ℕ → ℕ → ℕ → Resource → State → State
-detached t r i c s =
+abbrev pub without_core_in : ℕ → ℕ → ℕ → Resource → State → State
+without_core_in t r i c s =
     record (change_pool i (λ pool. settled t (record pool { resources = clear_at r pool.resources })) s) {
       free = put_at r (record { target = None; stall_ends = map (λ p. p.stall_end) c.processors }) s.free;
     }
@@ -156,10 +156,10 @@ detached t r i c s =
 abbrev pub after_moved : ℕ → ℕ → State → State
 after_moved t r s =
     elim (at_place s.free r) [
-      | Some c ↦ elim c.target [ None ↦ s | Some i ↦ attached t r i c s ]
+      | Some c ↦ elim c.target [ None ↦ s | Some i ↦ with_core_in t r i c s ]
       | None ↦ elim (home_of_core s r) [
         | None ↦ s
-        | Some i ↦ elim (at_place s.pools i) [ None ↦ s | Some pool ↦ elim (at_place pool.resources r) [ None ↦ s | Some c ↦ detached t r i c s ] ]
+        | Some i ↦ elim (at_place s.pools i) [ None ↦ s | Some pool ↦ elim (at_place pool.resources r) [ None ↦ s | Some c ↦ without_core_in t r i c s ] ]
       ]
     ]
 
@@ -203,7 +203,7 @@ event_of m s t Stall =
     (elim (slice_get m.work.stalls s.next_stall) [ None ↦ processor_number 0 | Some line ↦ line.cpu ])
     (elim (slice_get m.work.stalls s.next_stall) [ None ↦ moment 0 | Some line ↦ moment (stall_end_of m.config.granularity s line.cpu.0 (t + line.span.0)) ])
 event_of m s t Xl = event.Xl (suc s.next_command) (elim (slice_get m.work.commands s.next_command) [ None ↦ Ok reply.Done | Some line ↦ answer_of m s line ])
-event_of m s t (Moved r) = event.Moved (core_number r) (elim (at_place s.free r) [ None ↦ None | Some c ↦ option_map pool_number c.target ])
+event_of m s t (Moved r) = event.Moved (core_number r.0) (elim (at_place s.free r.0) [ None ↦ None | Some c ↦ option_map pool_number c.target ])
 event_of m s t action = event_in m.config.granularity t (home_pool m s action) action
 
 -- the state after an action at its subject's home: the event of the pool, and then its cores that are to decide anew
@@ -214,8 +214,8 @@ after_at_home g s t action = elim (home_of g s action) [ None ↦ s | Some i ↦
 abbrev pub after : Machine → State → ℕ → Action → State
 after m s t Stall = elim (slice_get m.work.stalls s.next_stall) [ None ↦ s | Some line ↦ after_stall m.config.granularity t line s ]
 after m s t Xl = elim (slice_get m.work.commands s.next_command) [ None ↦ s | Some line ↦ after_command m t line s ]
-after m s t (Moved r) = after_moved t r s
-after m s t (DomMoved d) = after_dom_moved m.config.granularity t d s
+after m s t (Moved r) = after_moved t r.0 s
+after m s t (DomMoved d) = after_dom_moved m.config.granularity t d.0 s
 after m s t action = after_at_home m.config.granularity s t action
 
 -- the next moment of the run, where it is at most the horizon

@@ -12,6 +12,8 @@ use Rattle.sched_model.specs.declared.config.PoolParams.TheVariants as pool_para
 use Rattle.sched_model.specs.declared.config.DomParams.{DomParams}
 use Rattle.sched_model.specs.declared.config.DomParams.TheVariants as dom_params
 use Rattle.sched_model.specs.declared.config.ParamChange.{ParamChange}
+use Rattle.sched_model.specs.declared.facts.Stored.{Stored}
+use Rattle.sched_model.specs.declared.facts.Stored.TheVariants as stored
 use Rattle.sched_model.specs.declared.config.ParamChange.TheVariants as changes
 use Rattle.sched_model.specs.Places.{at_place, put_at, clear_at, change_at, change_item, has_unit, is_unit, without_unit, same_unit}
 use Rattle.sched_model.specs.State.{Scheduler, Records, Credit2Domain, RtdsUnit}
@@ -26,19 +28,19 @@ use Rattle.sched_model.specs.NullScheduler as null
 abbrev pub choice_of_window : Ask → Scheduler → Option UnitId → Option UnitId
 choice_of_window ask scheduler None = None
 choice_of_window ask scheduler (Some u) =
-    (if (is_unit ask.cur u && ask.runnable) || (has_unit scheduler.queue u && is_eligible scheduler ask.home ask.core ask.at u) then Some u else None)
+    (if (is_unit ask.cur u && ask.runnable) || (has_unit scheduler.queue u && is_eligible scheduler ask.home.0 ask.core.0 ask.at.0 u) then Some u else None)
 
 -- the decision of an ARINC 653 pool: the window's choice, up to the window's end
-abbrev pub choose_window : Ask → Scheduler → Option Window → Decision
-choose_window ask scheduler None = record { unit = None; due = None; reset = 0; records = scheduler.records }
-choose_window ask scheduler (Some window) = record { unit = choice_of_window ask scheduler window.unit; due = Some (moment window.until); reset = 0; records = scheduler.records }
+abbrev pub arinc_decision : Ask → Scheduler → Option Window → Decision
+arinc_decision ask scheduler None = record { unit = None; due = None; reset = 0; records = scheduler.records }
+arinc_decision ask scheduler (Some window) = record { unit = choice_of_window ask scheduler window.unit; due = Some (moment window.until); reset = 0; records = scheduler.records }
 
 -- the decision of the scheduler whose records these are
 abbrev pub decision_by : Records → Ask → Scheduler → Decision
-decision_by (Credit2Pool records) ask scheduler = credit2.choose2 ask scheduler records
-decision_by (RtdsPool domains) ask scheduler = rtds.choose_rt ask scheduler domains
-decision_by (ArincPool records) ask scheduler = choose_window ask scheduler (if ask.leaving then None else present_window records ask.at)
-decision_by (NullPool kept) ask scheduler = null.choose_null ask scheduler kept
+decision_by (Credit2Pool records) ask scheduler = credit2.credit2_decision ask scheduler records
+decision_by (RtdsPool domains) ask scheduler = rtds.rtds_decision ask scheduler domains
+decision_by (ArincPool records) ask scheduler = arinc_decision ask scheduler (if ask.leaving then None else present_window records ask.at.0)
+decision_by (NullPool kept) ask scheduler = null.null_decision ask scheduler kept
 
 -- the scheduler's decision for a core
 abbrev pub decision_of : Ask → Scheduler → Decision
@@ -120,13 +122,13 @@ abbrev pub parted_records : Records → ℕ → Records
 parted_records (Credit2Pool records) d = Credit2Pool (record records { domains = clear_at d records.domains })
 parted_records (RtdsPool domains) d = RtdsPool (clear_at d domains)
 parted_records (ArincPool records) d = ArincPool records
-parted_records (NullPool kept) d = NullPool (null.released (λ u. u.dom.0 == d) kept)
+parted_records (NullPool kept) d = NullPool (null.kept_without (λ u. u.dom.0 == d) kept)
 
 -- the domain parts
 abbrev pub part : ℕ → Scheduler → Scheduler
 part d scheduler = record scheduler { affinity = clear_at d scheduler.affinity; records = parted_records scheduler.records d }
 
--- whether the unit's deadline has come; whether the domain's refill has
+-- whether the unit's deadline has come
 abbrev pub replenish_due : Records → ℕ → UnitId → Bool
 replenish_due (Credit2Pool records) t u = false
 replenish_due (RtdsPool domains) t u = elim (rtds_unit domains u) [ None ↦ false | Some x ↦ nat_le x.deadline t ]
@@ -149,12 +151,12 @@ replenish (NullPool kept) t u = NullPool kept
 
 -- the records after a refill of the domain at t
 abbrev pub refill : Records → ℕ → ℕ → Records
-refill (Credit2Pool records) t d = Credit2Pool (credit2.refilled t d records)
+refill (Credit2Pool records) t d = Credit2Pool (credit2.refilled_pool t d records)
 refill (RtdsPool domains) t d = RtdsPool domains
 refill (ArincPool records) t d = ArincPool records
 refill (NullPool kept) t d = NullPool kept
 
--- the unit's RTDS record; the domain's Credit2 record
+-- the unit's RTDS record
 abbrev pub rtds_record : Records → UnitId → Option RtdsUnit
 rtds_record (Credit2Pool records) u = None
 rtds_record (RtdsPool domains) u = rtds_unit domains u
@@ -176,9 +178,9 @@ rate_of (ArincPool records) = 0
 rate_of (NullPool kept) = 0
 
 -- the sets of cores of the domain's units, or of one of them, set
-abbrev pub pinned : Option ℕ → Cores → List Cores → List Cores
-pinned None cores units = map (λ old. cores) units
-pinned (Some n) cores units = change_item n (λ old. cores) units
+abbrev pub pinned_cores : Option ℕ → Cores → List Cores → List Cores
+pinned_cores None cores units = map (λ old. cores) units
+pinned_cores (Some n) cores units = change_item n (λ old. cores) units
 
 -- the records after a change of parameters at t; a change for another scheduler changes nothing
 abbrev pub changed_records : Records → ParamChange → ℕ → Records
@@ -191,10 +193,17 @@ changed_records records change t = records
 
 -- the sets of cores after a change of parameters
 abbrev pub changed_affinity : ParamChange → List (Option (List Cores)) → List (Option (List Cores))
-changed_affinity (changes.Pin d unit cores) affinity = change_at d.0 (pinned unit cores) affinity
+changed_affinity (changes.Pin d unit cores) affinity = change_at d.0 (pinned_cores unit cores) affinity
 changed_affinity _ affinity = affinity
 
 -- the scheduler after a change of its parameters at t
 abbrev pub set_params : ParamChange → ℕ → Scheduler → Scheduler
 set_params change t scheduler =
     record scheduler { affinity = changed_affinity change scheduler.affinity; records = changed_records scheduler.records change t }
+
+-- the set values of a unit; for RTDS the newest ones
+abbrev pub stored_of : Records → UnitId → Option Stored
+stored_of (Credit2Pool records) u = option_map (λ (x : Credit2Domain). stored.Credit2 x.weight x.cap) (credit2_record (Credit2Pool records) u.dom.0)
+stored_of (RtdsPool domains) u = option_map (λ (x : RtdsUnit). stored.Rtds (span x.next_period) (span x.next_budget) x.next_extra) (rtds_record (RtdsPool domains) u)
+stored_of (ArincPool records) u = Some stored.Arinc653
+stored_of (NullPool kept) u = Some stored.Null

@@ -1,5 +1,5 @@
 -- The events of one pool: when they may come, what they print, and the pool after them. g is the number of a core's processors, t the moment.
-use Rattle.sched_base.specs.Numbers.{moment, span, processor, core, domain, pool as pool_number}
+use Rattle.sched_base.specs.Numbers.{moment, span, processor, core, domain, core_set, pool as pool_number}
 use Rattle.std.specs.Prelude.{ℕ, ◌+◌, ◌-◌, ◌*◌, ◌/◌, ◌%◌, ◌^◌, ◌==◌, ◌&&◌, ◌||◌, suc, Bool, true, false, not, List, [], ◌∷◌, Option, Some, None, is_none, is_some, option_map, unwrap_or, slice_get, slice_index_or, length, if◌then◌else◌, min, pos, Ok}
 use Rattle.std.specs.List.{list_any, list_all}
 use Rattle.sched_base.specs.declared.UnitId.{UnitId}
@@ -8,7 +8,7 @@ use Rattle.sched_base.specs.declared.VcpuId.{VcpuId}
 use Rattle.sched_model.specs.declared.event.Event.{Event}
 use Rattle.sched_model.specs.declared.event.Event.TheVariants as event
 use Rattle.sched_model.specs.declared.event.Reply.TheVariants as reply
-use Rattle.sched_model.specs.Places.{at_place, put_at, clear_at, change_at, change_each, change_item, numbered, first_place, test_at, numbers_from, is_unit, has_unit, same_unit}
+use Rattle.sched_model.specs.Places.{at_place, put_at, clear_at, change_at, change_each, change_item, numbered_items, first_place, test_at, numbers_from, is_unit, has_unit, same_unit}
 use Rattle.sched_model.specs.State.{Scheduler, Records, RtdsUnit, Credit2Domain, Pool, is_awake, is_runnable, has_come, is_up}
 use Rattle.sched_model.specs.declared.state.Doing.{Doing}
 pub use Rattle.sched_model.specs.declared.action.Action.{Action}
@@ -27,7 +27,7 @@ use Rattle.sched_model.specs.Eligible.{Ask, Decision}
 use Rattle.sched_model.specs.Policy as policy
 use Rattle.sched_model.specs.Policy.{decision_of, after_decision, better_waits, enqueue, rtds_record, credit2_record, default_dom_params}
 
--- the set of these cores, of which the first has the number r; the set of the pool's cores
+-- the set of these cores, of which the first has the number r
 abbrev pub cores_from : ℕ → List (Option Resource) → ℕ
 cores_from r [] = 0
 cores_from r (c ∷ cores) = (if is_some c then 2 ^ r else 0) + cores_from (suc r) cores
@@ -83,33 +83,33 @@ core_of pool u = first_place 0 (λ c. is_unit c.cur u) pool.resources
 
 -- whether the unit is in no queue, no cur and no saving
 abbrev pub is_off : Pool → UnitId → Bool
-is_off pool u = not (has_unit pool.scheduler.queue u) && not (list_any (λ e. is_unit e.1.cur u || is_unit e.1.saving u) (numbered 0 pool.resources))
+is_off pool u = not (has_unit pool.scheduler.queue u) && not (list_any (λ e. is_unit e.1.cur u || is_unit e.1.saving u) (numbered_items 0 pool.resources))
 
 -- whether an event of this pool may come at t
 abbrev pub enabled_in : ℕ → ℕ → Pool → Action → Bool
 enabled_in g t pool Stall = false
 enabled_in g t pool Xl = false
-enabled_in g t pool (Moved r) = test_at pool.resources r (λ c. c.leaving && is_none c.cur && is_none c.saving && not c.pending && is_open c && first_up t c)
+enabled_in g t pool (Moved r) = test_at pool.resources r.0 (λ c. c.leaving && is_none c.cur && is_none c.saving && not c.pending && is_open c && first_up t c)
 enabled_in g t pool (DomMoved d) =
-    test_at pool.domains d (λ domain. is_some domain.moving)
-    && not (list_any (λ e. is_of_domain d e.1.cur || is_of_domain d e.1.saving) (numbered 0 pool.resources))
+    test_at pool.domains d.0 (λ domain. is_some domain.moving)
+    && not (list_any (λ e. is_of_domain d.0 e.1.cur || is_of_domain d.0 e.1.saving) (numbered_items 0 pool.resources))
 enabled_in g t pool (Wake v) = elim (vcpu_of pool v) [ None ↦ false | Some x ↦ has_come t x.asleep_until ]
 enabled_in g t pool (Block p) =
-    elim (guest_of g pool p) [
+    elim (guest_of g pool p.0) [
       | None ↦ false
       | Some v ↦ elim (vcpu_of pool v) [ None ↦ false | Some x ↦ has_come t (done_at x) ]
-    ] && elim (processor_of g pool p) [ None ↦ false | Some q ↦ is_up t q ]
-enabled_in g t pool (Slice r) = test_at pool.resources r (λ c. has_come t c.due && not c.pending && first_up t c)
+    ] && elim (processor_of g pool p.0) [ None ↦ false | Some q ↦ is_up t q ]
+enabled_in g t pool (Slice r) = test_at pool.resources r.0 (λ c. has_come t c.due && not c.pending && first_up t c)
 enabled_in g t pool (Repl u) = (has_unit pool.scheduler.queue u || is_some (core_of pool u)) && policy.replenish_due pool.scheduler.records t u && lowest_up t pool
-enabled_in g t pool (Refill d) = has_come t (policy.next_refill pool.scheduler.records d) && lowest_up t pool
+enabled_in g t pool (Refill d) = has_come t (policy.next_refill pool.scheduler.records d.0) && lowest_up t pool
 enabled_in g t pool (Arrive p) =
-    test_at pool.resources (p / g) (λ c. c.pending && is_open c && is_none c.saving)
-    && elim (processor_of g pool p) [ None ↦ false | Some q ↦ not (is_held q) && is_up t q ]
-enabled_in g t pool (Decide r) = test_at pool.resources r (λ c. list_all is_held c.processors && is_open c && first_up t c)
+    test_at pool.resources (p.0 / g) (λ c. c.pending && is_open c && is_none c.saving)
+    && elim (processor_of g pool p.0) [ None ↦ false | Some q ↦ not (is_held q) && is_up t q ]
+enabled_in g t pool (Decide r) = test_at pool.resources r.0 (λ c. list_all is_held c.processors && is_open c && first_up t c)
 enabled_in g t pool (Leave p) =
-    test_at pool.resources (p / g) (λ c. not (is_open c))
-    && elim (processor_of g pool p) [ None ↦ false | Some q ↦ is_held q && is_up t q ]
-enabled_in g t pool (Save r) = test_at pool.resources r (λ c. is_some c.saving && not (list_any is_held c.processors) && first_up t c)
+    test_at pool.resources (p.0 / g) (λ c. not (is_open c))
+    && elim (processor_of g pool p.0) [ None ↦ false | Some q ↦ is_held q && is_up t q ]
+enabled_in g t pool (Save r) = test_at pool.resources r.0 (λ c. is_some c.saving && not (list_any is_held c.processors) && first_up t c)
 
 -- the core changed by f
 abbrev pub change_core : ℕ → (Resource → Resource) → Pool → Pool
@@ -128,12 +128,12 @@ abbrev pub queue_unit : UnitId → Pool → Pool
 queue_unit u pool = record pool { scheduler = enqueue u pool.scheduler }
 
 -- the processor does this
-abbrev pub does : Doing → Processor → Processor
-does doing p = record p { doing = doing }
+abbrev pub with_doing : Doing → Processor → Processor
+with_doing doing p = record p { doing = doing }
 
 -- awake, with the next run of the script as work left
-abbrev pub woken : Vcpu → Vcpu
-woken v =
+abbrev pub woken_vcpu : Vcpu → Vcpu
+woken_vcpu v =
     let next = (v.place + 1) % length v.script in
     record v { place = next; asleep_until = None; work_left = slice_get v.script next }
 
@@ -142,8 +142,8 @@ abbrev pub put_to_sleep : ℕ → Vcpu → Vcpu
 put_to_sleep t v = record v { place = v.place + 1; asleep_until = Some (moment (t + (slice_index_or v.script (v.place + 1) (span 0)).0)); work_left = Some (span 0); started = None }
 
 -- stopped at t, with the work left less what was done since it was started
-abbrev pub stopped : ℕ → Vcpu → Vcpu
-stopped t v =
+abbrev pub stopped_vcpu : ℕ → Vcpu → Vcpu
+stopped_vcpu t v =
     elim v.started [
       | None ↦ v
       | Some from ↦ record v { work_left = option_map (λ work. span (work.0 - (t - from.0))) v.work_left; started = None }
@@ -151,7 +151,7 @@ stopped t v =
 
 -- the processor runs the vCPU from t
 abbrev pub started_on : ℕ → ℕ → ℕ → VcpuId → Pool → Pool
-started_on g t p v pool = change_processor g p (does (Guest v)) (change_vcpu v (λ x. record x { started = Some (moment t) }) pool)
+started_on g t p v pool = change_processor g p (with_doing (Guest v)) (change_vcpu v (λ x. record x { started = Some (moment t) }) pool)
 
 -- the unit of a vCPU
 abbrev pub unit_of : ℕ → VcpuId → UnitId
@@ -176,11 +176,11 @@ ask_of g t pool r c =
     record {
       cur = c.cur;
       runnable = elim c.cur [ None ↦ false | Some u ↦ is_runnable g pool u ];
-      since = c.since.0;
+      since = c.since;
       leaving = c.leaving;
-      at = t;
-      core = r;
-      home = home_cores pool;
+      at = moment t;
+      core = core r;
+      home = core_set (home_cores pool);
     }
 
 -- whether the choice is the unit that is there
@@ -195,8 +195,8 @@ abbrev pub lateness : ℕ → Resource → ℕ
 lateness t c = elim c.due [ None ↦ 0 | Some due ↦ t - due.0 ]
 
 -- the core with what was decided
-abbrev pub decided : ℕ → Decision → Resource → Resource
-decided t decision c =
+abbrev pub decided_core : ℕ → Decision → Resource → Resource
+decided_core t decision c =
     elim (same_choice decision.unit c.cur) [
       | true ↦ record c { due = decision.due; pending = false; stage = Decided }
       | false ↦ record c { saving = c.cur; cur = decision.unit; since = moment t; due = decision.due; pending = false; stage = Decided }
@@ -220,7 +220,7 @@ joined_siblings g t v pool =
 -- the pool after a wake
 abbrev pub after_wake : ℕ → ℕ → VcpuId → Pool → Pool
 after_wake g t v pool =
-    let next : Pool = change_vcpu v woken pool in
+    let next : Pool = change_vcpu v woken_vcpu pool in
     elim (is_runnable g next (unit_of g v)) [
       | false ↦ next
       | true ↦ (if is_off next (unit_of g v) then queue_unit (unit_of g v) next else joined_siblings g t v next)
@@ -229,36 +229,36 @@ after_wake g t v pool =
 -- the pool after a block of the vCPU on the processor
 abbrev pub after_block : ℕ → ℕ → ℕ → VcpuId → Pool → Pool
 after_block g t p v pool =
-    let next : Pool = change_processor g p (does Idle) (change_vcpu v (put_to_sleep t) pool) in
+    let next : Pool = change_processor g p (with_doing Idle) (change_vcpu v (put_to_sleep t) pool) in
     (if is_runnable g next (unit_of g v) then next else change_core (p / g) (λ c. record c { pending = true }) next)
 
 -- the pool after the processor arrives
 abbrev pub after_arrive : ℕ → ℕ → ℕ → Pool → Pool
 after_arrive g t p pool =
-    change_processor g p (does Held) (elim (guest_of g pool p) [ None ↦ pool | Some v ↦ change_vcpu v (stopped t) pool ])
+    change_processor g p (with_doing Held) (elim (guest_of g pool p) [ None ↦ pool | Some v ↦ change_vcpu v (stopped_vcpu t) pool ])
 
 -- the pool after the core decides
 abbrev pub after_decide : ℕ → ℕ → ℕ → Resource → Pool → Pool
 after_decide g t r c pool =
     let decision : Decision = decision_of (ask_of g t pool r c) pool.scheduler in
-    record pool { scheduler = after_decision decision pool.scheduler; resources = put_at r (decided t decision c) pool.resources }
+    record pool { scheduler = after_decision decision pool.scheduler; resources = put_at r (decided_core t decision c) pool.resources }
 
 -- the pool after the processor leaves
 abbrev pub after_leave : ℕ → ℕ → ℕ → Resource → Pool → Pool
 after_leave g t p c pool =
     change_core (p / g) open_if_left (elim (vcpu_for g pool c (p % g)) [
-      | None ↦ change_processor g p (does Idle) pool
+      | None ↦ change_processor g p (with_doing Idle) pool
       | Some v ↦ started_on g t p v pool
     ])
 
 -- the core saves nothing any more
-abbrev pub saved : Resource → Resource
-saved c = record c { saving = None }
+abbrev pub saved_core : Resource → Resource
+saved_core c = record c { saving = None }
 
 -- the pool after the saved unit is put away
 abbrev pub after_save : ℕ → ℕ → UnitId → Pool → Pool
 after_save g r u pool =
-    let next : Pool = change_core r saved pool in
+    let next : Pool = change_core r saved_core pool in
     (if is_runnable g pool u then queue_unit u next else next)
 
 -- the pool with these records of its scheduler
@@ -285,14 +285,14 @@ after_in g t pool Xl = pool
 after_in g t pool (Moved r) = pool
 after_in g t pool (DomMoved d) = pool
 after_in g t pool (Wake v) = after_wake g t v pool
-after_in g t pool (Block p) = elim (guest_of g pool p) [ None ↦ pool | Some v ↦ after_block g t p v pool ]
-after_in g t pool (Slice r) = change_core r (λ c. record c { pending = true }) pool
+after_in g t pool (Block p) = elim (guest_of g pool p.0) [ None ↦ pool | Some v ↦ after_block g t p.0 v pool ]
+after_in g t pool (Slice r) = change_core r.0 (λ c. record c { pending = true }) pool
 after_in g t pool (Repl u) = after_replenish t u pool
-after_in g t pool (Refill d) = with_records (policy.refill pool.scheduler.records t d) pool
-after_in g t pool (Arrive p) = after_arrive g t p pool
-after_in g t pool (Decide r) = elim (at_place pool.resources r) [ None ↦ pool | Some c ↦ after_decide g t r c pool ]
-after_in g t pool (Leave p) = elim (at_place pool.resources (p / g)) [ None ↦ pool | Some c ↦ after_leave g t p c pool ]
-after_in g t pool (Save r) = elim (at_place pool.resources r) [ None ↦ pool | Some c ↦ elim c.saving [ None ↦ pool | Some u ↦ after_save g r u pool ] ]
+after_in g t pool (Refill d) = with_records (policy.refill pool.scheduler.records t d.0) pool
+after_in g t pool (Arrive p) = after_arrive g t p.0 pool
+after_in g t pool (Decide r) = elim (at_place pool.resources r.0) [ None ↦ pool | Some c ↦ after_decide g t r.0 c pool ]
+after_in g t pool (Leave p) = elim (at_place pool.resources (p.0 / g)) [ None ↦ pool | Some c ↦ after_leave g t p.0 c pool ]
+after_in g t pool (Save r) = elim (at_place pool.resources r.0) [ None ↦ pool | Some c ↦ elim c.saving [ None ↦ pool | Some u ↦ after_save g r.0 u pool ] ]
 
 -- stands where there is no vCPU to name
 abbrev pub no_vcpu : VcpuId
@@ -303,12 +303,12 @@ abbrev pub no_unit : UnitId
 no_unit = record { dom = domain 0; n = 0 }
 
 -- the RTDS record of the unit after its replenishment
-abbrev pub replenished : ℕ → UnitId → Pool → Option RtdsUnit
-replenished t u pool = rtds_record (policy.replenish pool.scheduler.records t u) u
+abbrev pub replenished_unit : ℕ → UnitId → Pool → Option RtdsUnit
+replenished_unit t u pool = rtds_record (policy.replenish pool.scheduler.records t u) u
 
 -- the Credit2 record of the domain after its refill
-abbrev pub refilled : ℕ → ℕ → Pool → Option Credit2Domain
-refilled t d pool = credit2_record (policy.refill pool.scheduler.records t d) d
+abbrev pub refilled_domain : ℕ → ℕ → Pool → Option Credit2Domain
+refilled_domain t d pool = credit2_record (policy.refill pool.scheduler.records t d) d
 
 -- what the core decides
 abbrev pub decision_at : ℕ → ℕ → Pool → ℕ → Decision
@@ -334,36 +334,36 @@ taken_at g pool p = elim (at_place pool.resources (p / g)) [ None ↦ None | Som
 abbrev pub event_in : ℕ → ℕ → Pool → Action → Event
 event_in g t pool Stall = event.Stall (processor 0) (moment 0)
 event_in g t pool Xl = event.Xl 0 (Ok reply.Done)
-event_in g t pool (Moved r) = event.Moved (core r) None
-event_in g t pool (DomMoved d) = event.DomMoved (domain d) (elim (at_place pool.domains d) [ None ↦ pool_number 0 | Some x ↦ unwrap_or x.moving (pool_number 0) ])
+event_in g t pool (Moved r) = event.Moved (core r.0) None
+event_in g t pool (DomMoved d) = event.DomMoved (domain d.0) (elim (at_place pool.domains d.0) [ None ↦ pool_number 0 | Some x ↦ unwrap_or x.moving (pool_number 0) ])
 event_in g t pool (Wake v) = event.Wake v
-event_in g t pool (Block p) = event.Block (processor p) (unwrap_or (guest_of g pool p) no_vcpu)
-event_in g t pool (Slice r) = event.Slice (core r)
+event_in g t pool (Block p) = event.Block (processor p.0) (unwrap_or (guest_of g pool p.0) no_vcpu)
+event_in g t pool (Slice r) = event.Slice (core r.0)
 event_in g t pool (Repl u) =
     event.Repl u
-    (elim (replenished t u pool) [ None ↦ moment 0 | Some x ↦ moment (x.deadline - x.period) ])
-    (elim (replenished t u pool) [ None ↦ moment 0 | Some x ↦ moment x.deadline ])
-    (elim (replenished t u pool) [ None ↦ span 0 | Some x ↦ span x.budget ])
-    (elim (replenished t u pool) [ None ↦ false | Some x ↦ x.extra ])
+    (elim (replenished_unit t u pool) [ None ↦ moment 0 | Some x ↦ moment (x.deadline - x.period) ])
+    (elim (replenished_unit t u pool) [ None ↦ moment 0 | Some x ↦ moment x.deadline ])
+    (elim (replenished_unit t u pool) [ None ↦ span 0 | Some x ↦ span x.budget ])
+    (elim (replenished_unit t u pool) [ None ↦ false | Some x ↦ x.extra ])
 event_in g t pool (Refill d) =
-    event.Refill (domain d)
-    (elim (credit2_record pool.scheduler.records d) [ None ↦ 0 | Some x ↦ periods x t ])
-    (elim (refilled t d pool) [ None ↦ pos 0 | Some x ↦ x.budget ])
-event_in g t pool (Arrive p) = event.Arrive (processor p)
+    event.Refill (domain d.0)
+    (elim (credit2_record pool.scheduler.records d.0) [ None ↦ 0 | Some x ↦ periods x t ])
+    (elim (refilled_domain t d.0 pool) [ None ↦ pos 0 | Some x ↦ x.budget ])
+event_in g t pool (Arrive p) = event.Arrive (processor p.0)
 event_in g t pool (Decide r) =
-    event.Decide (core r) (decision_at g t pool r).unit (decision_at g t pool r).due
-    (elim (at_place pool.resources r) [ None ↦ span 0 | Some c ↦ span (lateness t c) ])
-    (decision_at g t pool r).reset
-event_in g t pool (Leave p) = event.Leave (processor p) (taken_at g pool p)
-event_in g t pool (Save r) = event.Save (core r) (saved_at pool r) (is_runnable g pool (saved_at pool r))
+    event.Decide (core r.0) (decision_at g t pool r.0).unit (decision_at g t pool r.0).due
+    (elim (at_place pool.resources r.0) [ None ↦ span 0 | Some c ↦ span (lateness t c) ])
+    (decision_at g t pool r.0).reset
+event_in g t pool (Leave p) = event.Leave (processor p.0) (taken_at g pool p.0)
+event_in g t pool (Save r) = event.Save (core r.0) (saved_at pool r.0) (is_runnable g pool (saved_at pool r.0))
 
 -- the core is pending where it is not leaving and is to decide anew
-abbrev pub reconsidered : ℕ → ℕ → Scheduler → ℕ → Resource → Resource
-reconsidered t home scheduler r c = (if c.leaving then c else record c { pending = c.pending || better_waits c.cur c.since.0 t r home scheduler })
+abbrev pub reconsidered_core : ℕ → ℕ → Scheduler → ℕ → Resource → Resource
+reconsidered_core t home scheduler r c = (if c.leaving then c else record c { pending = c.pending || better_waits c.cur c.since.0 t r home scheduler })
 
 -- each core of the pool, looked at after an event
-abbrev pub settled : ℕ → Pool → Pool
-settled t pool = record pool { resources = change_each 0 (reconsidered t (home_cores pool) pool.scheduler) pool.resources }
+abbrev pub settled_pool : ℕ → Pool → Pool
+settled_pool t pool = record pool { resources = change_each 0 (reconsidered_core t (home_cores pool) pool.scheduler) pool.resources }
 
 -- how many units of g vCPUs a domain has
 abbrev pub unit_count : ℕ → Domain → ℕ
@@ -397,8 +397,8 @@ abbrev pub set_pending : Resource → Resource
 set_pending c = record c { pending = true }
 
 -- the domain's units stop waiting, and the cores that run one are to decide anew
-abbrev pub withdrawn : ℕ → Pool → Pool
-withdrawn d pool = change_cores_of d set_pending (record pool { scheduler = policy.dequeue_domain d pool.scheduler })
+abbrev pub withdrawn_pool : ℕ → Pool → Pool
+withdrawn_pool d pool = change_cores_of d set_pending (record pool { scheduler = policy.dequeue_domain d pool.scheduler })
 
 -- the domain changed by f
 abbrev pub change_domain : ℕ → (Domain → Domain) → Pool → Pool
@@ -406,7 +406,7 @@ change_domain d f pool = record pool { domains = change_at d f pool.domains }
 
 -- the domain is paused: its units stop waiting
 abbrev pub pause : ℕ → Pool → Pool
-pause d pool = (if test_at pool.domains d (λ domain. domain.paused) then pool else withdrawn d (change_domain d (λ domain. record domain { paused = true }) pool))
+pause d pool = (if test_at pool.domains d (λ domain. domain.paused) then pool else withdrawn_pool d (change_domain d (λ domain. record domain { paused = true }) pool))
 
 -- the domain is no longer paused, and its units that may run wait
 abbrev pub unpause : ℕ → ℕ → Pool → Pool
@@ -418,18 +418,18 @@ unpause g d pool =
 
 -- the domain is moving to the pool i
 abbrev pub set_moving : ℕ → ℕ → Pool → Pool
-set_moving d i pool = withdrawn d (change_domain d (λ domain. record domain { moving = Some (pool_number i) }) pool)
+set_moving d i pool = withdrawn_pool d (change_domain d (λ domain. record domain { moving = Some (pool_number i) }) pool)
 
 -- the core is leaving; it is to decide where it has a unit
 abbrev pub set_leaving : ℕ → Pool → Pool
 set_leaving r pool = change_core r (λ c. record c { leaving = true; pending = c.pending || is_some c.cur }) pool
 
 -- the cores that a change of parameters makes decide anew: those that run a unit of a domain whose cap is set, and that of a new frame
-abbrev pub marked : ParamChange → ℕ → Pool → Pool
-marked (changes.Dom d weight (Some cap)) t pool = change_cores_of d.0 (λ c. record c { pending = true; due = Some (moment t) }) pool
-marked (changes.Frame frame) t pool = record pool { resources = change_each 0 (λ r c. set_pending c) pool.resources }
-marked _ t pool = pool
+abbrev pub marked_pool : ParamChange → ℕ → Pool → Pool
+marked_pool (changes.Dom d weight (Some cap)) t pool = change_cores_of d.0 (λ c. record c { pending = true; due = Some (moment t) }) pool
+marked_pool (changes.Frame frame) t pool = record pool { resources = change_each 0 (λ r c. set_pending c) pool.resources }
+marked_pool _ t pool = pool
 
 -- the scheduler's parameters changed at t
 abbrev pub set_params : ParamChange → ℕ → Pool → Pool
-set_params change t pool = marked change t (record pool { scheduler = policy.set_params change t pool.scheduler })
+set_params change t pool = marked_pool change t (record pool { scheduler = policy.set_params change t pool.scheduler })

@@ -6,7 +6,7 @@ use Rattle.sched_base.specs.RtdsNumbers.{burned_left, burned_level, next_deadlin
 use Rattle.sched_model.specs.Places.{change_at, change_item}
 use Rattle.sched_model.specs.State.{Scheduler, RtdsUnit}
 use Rattle.sched_model.specs.declared.state.Records.TheVariants.{RtdsPool}
-use Rattle.sched_model.specs.Eligible.{Ask, Decision, is_allowed, eligible, rtds_unit}
+use Rattle.sched_model.specs.Eligible.{Ask, Decision, is_allowed, eligible_units, rtds_unit}
 
 -- the unit charged for a span
 abbrev pub burn : ℕ → RtdsUnit → RtdsUnit
@@ -45,10 +45,10 @@ abbrev pub unit_before : List (Option (List RtdsUnit)) → UnitId → UnitId →
 unit_before domains u w = elim (rtds_unit domains u) [ None ↦ false | Some a ↦ elim (rtds_unit domains w) [ None ↦ false | Some b ↦ is_before a b ] ]
 
 -- the unit that runs before the others: the best so far, or one of those that follow; among equals the earlier
-abbrev pub foremost : List (Option (List RtdsUnit)) → Option UnitId → List UnitId → Option UnitId
-foremost domains best [] = best
-foremost domains None (u ∷ units) = foremost domains (Some u) units
-foremost domains (Some best) (u ∷ units) = foremost domains (Some (if unit_before domains u best then u else best)) units
+abbrev pub foremost_unit : List (Option (List RtdsUnit)) → Option UnitId → List UnitId → Option UnitId
+foremost_unit domains best [] = best
+foremost_unit domains None (u ∷ units) = foremost_unit domains (Some u) units
+foremost_unit domains (Some best) (u ∷ units) = foremost_unit domains (Some (if unit_before domains u best then u else best)) units
 
 -- the budget that is left to the unit
 abbrev pub budget_left : List (Option (List RtdsUnit)) → UnitId → ℕ
@@ -59,7 +59,7 @@ abbrev pub own_candidate : Ask → Scheduler → List (Option (List RtdsUnit)) �
 own_candidate ask scheduler domains =
     elim ask.cur [
       | None ↦ None
-      | Some u ↦ (if ask.runnable && is_allowed scheduler ask.home ask.core u && nat_lt 0 (budget_left domains u) then Some u else None)
+      | Some u ↦ (if ask.runnable && is_allowed scheduler ask.home.0 ask.core.0 u && nat_lt 0 (budget_left domains u) then Some u else None)
     ]
 
 -- the core's own unit charged up to t
@@ -79,7 +79,7 @@ switch_off (Some u) domains = set_running None u domains
 -- the choice, after the core's own unit was charged
 abbrev pub choice : Ask → Scheduler → List (Option (List RtdsUnit)) → Option UnitId
 choice ask scheduler domains =
-    (if ask.leaving then None else foremost domains (own_candidate ask scheduler domains) (eligible (record scheduler { records = RtdsPool domains }) ask.home ask.core ask.at))
+    (if ask.leaving then None else foremost_unit domains (own_candidate ask scheduler domains) (eligible_units (record scheduler { records = RtdsPool domains }) ask.home.0 ask.core.0 ask.at.0))
 
 -- the decision for a choice
 abbrev pub decide : Ask → List (Option (List RtdsUnit)) → Option UnitId → Decision
@@ -87,15 +87,15 @@ decide ask domains None = record { unit = None; due = None; reset = 0; records =
 decide ask domains (Some u) =
     record {
       unit = Some u;
-      due = Some (moment (ask.at + budget_left domains u));
+      due = Some (moment (ask.at.0 + budget_left domains u));
       reset = 0;
-      records = RtdsPool (set_running (Some ask.at) u (switch_off ask.cur domains));
+      records = RtdsPool (set_running (Some ask.at.0) u (switch_off ask.cur domains));
     }
 
 -- the decision: the core's own unit is charged first, and then the choice is made
-abbrev pub choose_rt : Ask → Scheduler → List (Option (List RtdsUnit)) → Decision
-choose_rt ask scheduler domains =
-    let burned : List (Option (List RtdsUnit)) = burn_cur ask.cur ask.at domains in
+abbrev pub rtds_decision : Ask → Scheduler → List (Option (List RtdsUnit)) → Decision
+rtds_decision ask scheduler domains =
+    let burned : List (Option (List RtdsUnit)) = burn_cur ask.cur ask.at.0 domains in
     decide ask burned (choice ask scheduler burned)
 
 -- the units of a domain that joins at t

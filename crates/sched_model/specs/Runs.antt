@@ -13,17 +13,17 @@ use Rattle.sched_model.specs.Machine.{is_enabled, first_enabled, event_of, after
 abbrev pub action_of : Event → Option Action
 action_of (event.Stall p until) = Some Stall
 action_of (event.Xl k answer) = Some Xl
-action_of (event.Moved r to) = Some (Moved r.0)
-action_of (event.DomMoved d to) = Some (DomMoved d.0)
+action_of (event.Moved r to) = Some (Moved r)
+action_of (event.DomMoved d to) = Some (DomMoved d)
 action_of (event.Wake v) = Some (Wake v)
-action_of (event.Block p v) = Some (Block p.0)
-action_of (event.Slice r) = Some (Slice r.0)
+action_of (event.Block p v) = Some (Block p)
+action_of (event.Slice r) = Some (Slice r)
 action_of (event.Repl u start deadline budget extra) = Some (Repl u)
-action_of (event.Refill d periods budget) = Some (Refill d.0)
-action_of (event.Arrive p) = Some (Arrive p.0)
-action_of (event.Decide r unit due late reset) = Some (Decide r.0)
-action_of (event.Leave p v) = Some (Leave p.0)
-action_of (event.Save r u queued) = Some (Save r.0)
+action_of (event.Refill d periods budget) = Some (Refill d)
+action_of (event.Arrive p) = Some (Arrive p)
+action_of (event.Decide r unit due late reset) = Some (Decide r)
+action_of (event.Leave p v) = Some (Leave p)
+action_of (event.Save r u queued) = Some (Save r)
 action_of (event.End next) = None
 action_of event.Finish = None
 
@@ -74,13 +74,13 @@ IsRunFrom m from [] = ⊤
 IsRunFrom m from (entry ∷ entries) = IsNext m from entry × IsRunFrom m (after_entry m from entry) entries
 
 -- where every run begins
-abbrev pub begun : Machine → Reached
-begun m = record { state = opening m; over = false }
+abbrev pub run_start : Machine → Reached
+run_start m = record { state = opening m; over = false }
 
 -- the entries are a run of the machine; the run is whole where it is over
 abbrev pub IsRun : Machine → List Entry → Type 0
-IsRun m entries = IsRunFrom m (begun m) entries
+IsRun m entries = IsRunFrom m (run_start m) entries
 
 -- the entries are a run that is over
 abbrev pub IsWholeRun : Machine → List Entry → Type 0
-IsWholeRun m entries = IsRun m entries × ((after_entries m (begun m) entries).over ≡ true)
+IsWholeRun m entries = IsRun m entries × ((after_entries m (run_start m) entries).over ≡ true)

@@ -1,6 +1,6 @@
 //! What may happen, and who does it.
 
-use sched_base::{DomId, ProcId, UnitId, VcpuId};
+use sched_base::{DomId, ProcId, ResId, UnitId, VcpuId};
 
 /// What may happen, by its kind and its subject: the processor, core, unit, vCPU or domain that the event's line names first.
 /// The next stall and the next command are named by nothing else.
@@ -8,26 +8,17 @@ use sched_base::{DomId, ProcId, UnitId, VcpuId};
 pub enum Action {
     Stall,
     Xl,
-    /// a core
-    Moved(u8),
-    /// a domain
-    DomMoved(u8),
+    Moved(ResId),
+    DomMoved(DomId),
     Wake(VcpuId),
-    /// a processor
-    Block(u8),
-    /// a core
-    Slice(u8),
+    Block(ProcId),
+    Slice(ResId),
     Repl(UnitId),
-    /// a domain
-    Refill(u8),
-    /// a processor
-    Arrive(u8),
-    /// a core
-    Decide(u8),
-    /// a processor
-    Leave(u8),
-    /// a core
-    Save(u8),
+    Refill(DomId),
+    Arrive(ProcId),
+    Decide(ResId),
+    Leave(ProcId),
+    Save(ResId),
 }
 
 /// Who does an event: a processor those of itself, of its core and of its pool, a domain the waking of its vCPUs,

@@ -1,6 +1,6 @@
 //! What a core asks its scheduler.
 
-use sched_base::UnitId;
+use sched_base::{Cores, Moment, ResId, UnitId};
 
 /// A core's question: its unit, whether that is runnable, since when it runs, whether the core is leaving its pool,
 /// the moment, the core, and the set of the pool's cores. Moments are in nanoseconds.
@@ -8,9 +8,9 @@ use sched_base::UnitId;
 pub struct Ask {
     pub cur: Option<UnitId>,
     pub runnable: bool,
-    pub since: u64,
+    pub since: Moment,
     pub leaving: bool,
-    pub at: u64,
-    pub core: u8,
-    pub home: u64,
+    pub at: Moment,
+    pub core: ResId,
+    pub home: Cores,
 }

@@ -1,6 +1,9 @@
 //! Lists of any length.
 
+ghost use Rattle.std.specs.Prelude.{◌≡◌, None, replicate, IfOk};
+
 use sched_base::NoMemory;
+use std::alloc::Global;
 use std::marker::Model;
 
 /// A list. Contracts see the list of its items.
@@ -18,9 +21,9 @@ impl<T> Model for Row<T> {
 }
 
 impl<T> Row<T> {
-    ghost use Rattle.std.specs.Prelude.{◌≡◌, ◌<◌, ◌==◌, ◌++◌, ◌∷◌, [], length, slice_index_or, slice_set, OnOk, OnErr};
+    ghost use Rattle.std.specs.Prelude.{◌≡◌, ◌<◌, ◌==◌, ◌++◌, ◌∷◌, ◌↔◌, [], IsSome, IfSome, length, slice_index_or, slice_set, OnOk, OnErr};
     ghost use Rattle.std.specs.Borrow.{sem};
-    ghost use Rattle.sched_model.specs.Lent.{row_lends_item};
+    ghost use Rattle.sched_model.specs.Lent.{row_lends_item, row_lends_get};
 
     /// The list of a vector. It takes no memory.
     pub fn from_vec(items: Vec<T>) -> Row<T>
@@ -67,6 +70,15 @@ impl<T> Row<T> {
         &mut self.items[i]
     }
 
+    /// The item at the place i, for writing, where there is one.
+    pub fn get_mut(&mut self, i: usize) -> Option<&mut T>
+        ensures* writes_back { sem 𝓛 (row_lends_get T.row self.entry i result) }
+        ensures some { IsSome result ↔ (i < length self.old) }
+        ensures value { IfSome result (λ x. x.now ≡ slice_index_or self.old i x.now) }
+    {
+        self.items.get_mut(i)
+    }
+
     /// Puts an item at the place i, and answers what stood there.
     pub fn replace(&mut self, i: usize, item: T) -> T
         requires { i < length self.old }
@@ -88,4 +100,15 @@ impl<T: Drop> Row<T> {
         self.items.push(item)?;
         Ok(())
     }
+}
+
+/// So many places, all empty.
+pub fn empty_places<T: Drop>(alloc: Global, count: usize) -> Result<Row<Option<T>>, NoMemory>
+    ensures { IfOk result (λ row. row ≡ replicate count None) }
+{
+    let mut places = Vec::new(alloc);
+    for i in 0..count {
+        places.push(None)?;
+    }
+    Ok(Row::from_vec(places))
 }
