@@ -8,11 +8,11 @@ use Rattle.unit_places.specs.Places.{has_place}
 use Rattle.unit_places.proofs.Placed.{same_number}
 use Rattle.unit_ring.specs.declared.Node.{Node}
 use Rattle.unit_ring.specs.Lists as l
-use Rattle.unit_ring.specs.Lists.{Item, Lists, item, has_node, taken, given, appended, without_in}
+use Rattle.unit_ring.specs.Lists.{Item, Lists, item, has_node, after_take, after_give, after_append as appended, without_in}
 use Rattle.arrival_queue.specs.declared.key.Key.{Key}
 use Rattle.arrival_queue.specs.Queues as q
-use Rattle.arrival_queue.specs.Queues.{Queued, Queues, queued, goes_before, put_first, placed, has_unit, holds, without, rank_in, rank_of, count, inserted, closed_up, removed, moved}
-use Rattle.arrival_queue.specs.Tables.{Tabled, IsQueue, all_items, has_number, arrival_at, rank, shown, queues_of, comes_before, put_ring, node_of, first_unit}
+use Rattle.arrival_queue.specs.Queues.{Queued, Queues, queued_unit, goes_before, put_first, list_with, has_unit, holds, list_without, rank_in, rank_of, count, after_insert, closed_up, after_remove, after_move}
+use Rattle.arrival_queue.specs.Tables.{Tabled, IsQueue, all_items, has_number, arrival_at, rank, shown_unit, queues_of, comes_before, put_ring, node_of, first_unit}
 use Rattle.arrival_queue.specs.Filters.{first_that}
 use Rattle.std.proofs.lemmas.Bool.{cases_eq}
 use Rattle.arrival_queue.proofs.Splits.{Tabled-mine, same_test, other_test, or_left, or_right}
@@ -29,14 +29,14 @@ number-append k (x ∷ xs) ys =
 -- a unit is here where the items have its number
 pub holds-is : (u : UnitId) (ring : Lists) (keys : List Key) (ns : List ℕ) → holds (queues_of ring keys ns) u ≡ has_number (number_of u) (all_items ring)
 holds-is u ring keys ns =
-    ap (λ (t : Bool). t || has_unit u (map (shown keys ns (all_items ring)) ring.second)) (has_unit-shown u keys ns (all_items ring) ring.first)
+    ap (λ (t : Bool). t || has_unit u (map (shown_unit keys ns (all_items ring)) ring.second)) (has_unit-shown u keys ns (all_items ring) ring.first)
     ∙ ap (λ (t : Bool). has_number (number_of u) ring.first || t) (has_unit-shown u keys ns (all_items ring) ring.second)
     ∙ sym (number-append (number_of u) ring.first ring.second)
 
 pub count-is : (ring : Lists) (keys : List Key) (ns : List ℕ) → count (queues_of ring keys ns) ≡ length (all_items ring)
 count-is ring keys ns =
-    let one = length-map ring.first (shown keys ns (all_items ring)) in
-    let two = length-map ring.second (shown keys ns (all_items ring)) in
+    let one = length-map ring.first (shown_unit keys ns (all_items ring)) in
+    let two = length-map ring.second (shown_unit keys ns (all_items ring)) in
     let both : length (all_items ring) ≡ length ring.first + length ring.second = length-append ring.first ring.second in
     omega (arith, one, two, both)
 
@@ -88,7 +88,7 @@ module _ (ring : Lists) (keys : List Key) (ns : List ℕ) (n : ℕ) (u : UnitId)
   none_second : has_node n ring.second ≡ false
   none_second = or_right (has_node n ring.first) (has_node n ring.second) (sym (live-append n ring.first ring.second) ∙ none)
 
-  pub insert_seen : queues_of (put_ring (comes_before keys ns key a) (item n u) ring) (set keys n key) (set ns n a) ≡ inserted (queues_of ring keys ns) u key
+  pub insert_seen : queues_of (put_ring (comes_before keys ns key a) (item n u) ring) (set keys n key) (set ns n a) ≡ after_insert (queues_of ring keys ns) u key
   insert_seen =
       let p : Item → Bool = comes_before keys ns key a in
       let r = count (queues_of ring keys ns) in
@@ -99,25 +99,25 @@ module _ (ring : Lists) (keys : List Key) (ns : List ℕ) (n : ℕ) (u : UnitId)
       let same = same_after after s.lft (s.rgt ++ ring.second) was is in
       let mine = shown_new keys ns n u key a r after low_key low (mine_after after s.lft (s.rgt ++ ring.second) was is) in
       let first_alike = alike keys ns n u key a r (length ns) a all after ring.first (Tabled-left (length ns) a ns ring.first ring.second last) none_first same tests in
-      let first = map_put (shown (set keys n key) (set ns n a) after) (shown keys ns all) p (goes_before (queued u key r)) (item n u) (queued u key r) ring.first mine first_alike in
+      let first = map_put (shown_unit (set keys n key) (set ns n a) after) (shown_unit keys ns all) p (goes_before (queued_unit u key r)) (item n u) (queued_unit u key r) ring.first mine first_alike in
       let second = map_kept keys ns n key a (length ns) a all after ring.second (Tabled-right (length ns) a ns ring.first ring.second last) none_second same in
-      ap (λ (xs : List Queued). queues xs (map (shown (set keys n key) (set ns n a) after) ring.second) (ring.spare - 1)) first
-      ∙ ap (λ (ys : List Queued). queues (placed (queued u key r) (map (shown keys ns all) ring.first)) ys (ring.spare - 1)) second
+      ap (λ (xs : List Queued). queues xs (map (shown_unit (set keys n key) (set ns n a) after) ring.second) (ring.spare - 1)) first
+      ∙ ap (λ (ys : List Queued). queues (list_with (queued_unit u key r) (map (shown_unit keys ns all) ring.first)) ys (ring.spare - 1)) second
 
-  pub append_seen : queues_of (taken (appended ring 1 (item n u))) (set keys n key) (set ns n a) ≡ q.appended (queues_of ring keys ns) u key
+  pub append_seen : queues_of (after_take (appended ring 1 (item n u))) (set keys n key) (set ns n a) ≡ q.after_append (queues_of ring keys ns) u key
   append_seen =
       let r = count (queues_of ring keys ns) in
-      let after = all_items (taken (appended ring 1 (item n u))) in
+      let after = all_items (after_take (appended ring 1 (item n u))) in
       let was : all ≡ all ++ [] = sym (append-nil all) in
       let is : after ≡ all ++ item n u ∷ [] = sym (append_assoc ring.first ring.second (item n u ∷ [])) in
       let same = same_after after all [] was is in
       let mine = shown_new keys ns n u key a r after low_key low (mine_after after all [] was is) in
-      let f : Item → Queued = shown (set keys n key) (set ns n a) after in
+      let f : Item → Queued = shown_unit (set keys n key) (set ns n a) after in
       let first = map_kept keys ns n key a (length ns) a all after ring.first (Tabled-left (length ns) a ns ring.first ring.second last) none_first same in
       let second = map_kept keys ns n key a (length ns) a all after ring.second (Tabled-right (length ns) a ns ring.first ring.second last) none_second same in
       let split : map f (ring.second ++ item n u ∷ []) ≡ map f ring.second ++ f (item n u) ∷ [] = map-append f ring.second (item n u ∷ []) in
       ap (λ (xs : List Queued). queues xs (map f (ring.second ++ item n u ∷ [])) (ring.spare - 1)) first
-      ∙ ap (λ (ys : List Queued). queues (map (shown keys ns all) ring.first) ys (ring.spare - 1)) (split ∙ ap (λ (ys : List Queued). ys ++ f (item n u) ∷ []) second ∙ ap (λ (e : Queued). map (shown keys ns all) ring.second ++ e ∷ []) mine)
+      ∙ ap (λ (ys : List Queued). queues (map (shown_unit keys ns all) ring.first) ys (ring.spare - 1)) (split ∙ ap (λ (ys : List Queued). ys ++ f (item n u) ∷ []) second ∙ ap (λ (e : Queued). map (shown_unit keys ns all) ring.second ++ e ∷ []) mine)
 
 -- tests for a unit's number and for its node agree
 abbrev Agree : ℕ → ℕ → List Item → Type 0
@@ -148,13 +148,13 @@ Agree-right k n [] ys agree = agree
 Agree-right k n (x ∷ xs) ys agree = Agree-right k n xs ys agree.1
 
 without-agree : (u : UnitId) (n : ℕ) (keys : List Key) (ns : List ℕ) (all xs : List Item) → Agree (number_of u) n xs
-    → without u (map (shown keys ns all) xs) ≡ map (shown keys ns all) (without_in n xs)
+    → list_without u (map (shown_unit keys ns all) xs) ≡ map (shown_unit keys ns all) (without_in n xs)
 without-agree u n keys ns all [] agree = refl
 without-agree u n keys ns all (x ∷ xs) agree =
-    let f : Item → Queued = shown keys ns all in
+    let f : Item → Queued = shown_unit keys ns all in
     let rest = without-agree u n keys ns all xs agree.1 in
-    ap (λ (t : Bool). if t then without u (map f xs) else f x ∷ without u (map f xs)) agree.0
-    ∙ elim (x.node == n) as (λ t. (if t then without u (map f xs) else f x ∷ without u (map f xs)) ≡ map f (if t then without_in n xs else x ∷ without_in n xs)) [
+    ap (λ (t : Bool). if t then list_without u (map f xs) else f x ∷ list_without u (map f xs)) agree.0
+    ∙ elim (x.node == n) as (λ t. (if t then list_without u (map f xs) else f x ∷ list_without u (map f xs)) ≡ map f (if t then without_in n xs else x ∷ without_in n xs)) [
       | true ↦ rest
       | false ↦ ap (λ (es : List Queued). f x ∷ es) rest
     ]
@@ -175,44 +175,44 @@ module _ (ring : Lists) (keys : List Key) (ns : List ℕ) (u : UnitId) (n : Node
       subst (Agree (number_of u) n.0) (sym f.is)
       (Agree-split (number_of u) n.0 f.lft f.rgt f.x f.number f.node f.gone (subst (λ (k : ℕ). has_node k (f.lft ++ f.rgt) ≡ false) f.node f.out.node))
 
-  pub first_without : without u (map (shown keys ns (all_items ring)) ring.first) ≡ map (shown keys ns (all_items ring)) (without_in n.0 ring.first)
+  pub first_without : list_without u (map (shown_unit keys ns (all_items ring)) ring.first) ≡ map (shown_unit keys ns (all_items ring)) (without_in n.0 ring.first)
   first_without = without-agree u n.0 keys ns (all_items ring) ring.first (Agree-left (number_of u) n.0 ring.first ring.second agree_all)
 
-  second_without : without u (map (shown keys ns (all_items ring)) ring.second) ≡ map (shown keys ns (all_items ring)) (without_in n.0 ring.second)
+  second_without : list_without u (map (shown_unit keys ns (all_items ring)) ring.second) ≡ map (shown_unit keys ns (all_items ring)) (without_in n.0 ring.second)
   second_without = without-agree u n.0 keys ns (all_items ring) ring.second (Agree-right (number_of u) n.0 ring.first ring.second agree_all)
 
   pub rank_is : rank_of (queues_of ring keys ns) u ≡ rank ns (all_items ring) (arrival_at ns f.x.node)
   rank_is =
-      let g : Item → Queued = shown keys ns (all_items ring) in
+      let g : Item → Queued = shown_unit keys ns (all_items ring) in
       sym (rank_in-append u (map g ring.first) (map g ring.second))
       ∙ ap (rank_in u) (sym (map-append g ring.first ring.second))
       ∙ ap (λ (xs : List Item). rank_in u (map g xs)) f.is
       ∙ rank_in-split u keys ns (all_items ring) f.lft f.rgt f.x f.number f.gone
 
-  pub remove_seen : queues_of (given (l.without ring n.0)) keys ns ≡ removed (queues_of ring keys ns) u
+  pub remove_seen : queues_of (after_give (l.lists_without ring n.0)) keys ns ≡ after_remove (queues_of ring keys ns) u
   remove_seen =
       let rest = f.lft ++ f.rgt in
-      let g : Item → Queued = shown keys ns (all_items ring) in
+      let g : Item → Queued = shown_unit keys ns (all_items ring) in
       let r = rank_of (queues_of ring keys ns) u in
-      let closed : (xs : List Item) → map (shown keys ns rest) xs ≡ map (closed_up r) (map g xs) = λ xs.
+      let closed : (xs : List Item) → map (shown_unit keys ns rest) xs ≡ map (closed_up r) (map g xs) = λ xs.
       map_closed keys ns f.lft f.rgt xs f.x
-      ∙ ap (λ (ys : List Item). map (closed_up (rank ns ys (arrival_at ns f.x.node))) (map (shown keys ns ys) xs)) (sym f.is)
+      ∙ ap (λ (ys : List Item). map (closed_up (rank ns ys (arrival_at ns f.x.node))) (map (shown_unit keys ns ys) xs)) (sym f.is)
       ∙ ap (λ (k : ℕ). map (closed_up k) (map g xs)) (sym rank_is)
       in
       let first = closed (without_in n.0 ring.first) ∙ ap (map (closed_up r)) (sym first_without) in
       let second = closed (without_in n.0 ring.second) ∙ ap (map (closed_up r)) (sym second_without) in
-      ap (λ (ys : List Item). queues (map (shown keys ns ys) (without_in n.0 ring.first)) (map (shown keys ns ys) (without_in n.0 ring.second)) (ring.spare + 1)) f.rest
-      ∙ ap (λ (xs : List Queued). queues xs (map (shown keys ns rest) (without_in n.0 ring.second)) (ring.spare + 1)) first
-      ∙ ap (λ (ys : List Queued). queues (map (closed_up r) (without u (map g ring.first))) ys (ring.spare + 1)) second
+      ap (λ (ys : List Item). queues (map (shown_unit keys ns ys) (without_in n.0 ring.first)) (map (shown_unit keys ns ys) (without_in n.0 ring.second)) (ring.spare + 1)) f.rest
+      ∙ ap (λ (xs : List Queued). queues xs (map (shown_unit keys ns rest) (without_in n.0 ring.second)) (ring.spare + 1)) first
+      ∙ ap (λ (ys : List Queued). queues (map (closed_up r) (list_without u (map g ring.first))) ys (ring.spare + 1)) second
 
   -- the unit stands at its new place, on another node or on the same
-  pub move_seen : (next m : ℕ) (key : Key) → Tabled (length ns) next ns (all_items (given (l.without ring n.0)))
-      → has_node m (all_items (given (l.without ring n.0))) ≡ false → m < length ns → m < length keys
-      → queues_of (put_ring (comes_before keys ns key (arrival_at ns n.0)) (item m u) (given (l.without ring n.0))) (set keys m key) (set ns m (arrival_at ns n.0))
-      ≡ moved (queues_of ring keys ns) u key
+  pub move_seen : (next m : ℕ) (key : Key) → Tabled (length ns) next ns (all_items (after_give (l.lists_without ring n.0)))
+      → has_node m (all_items (after_give (l.lists_without ring n.0))) ≡ false → m < length ns → m < length keys
+      → queues_of (put_ring (comes_before keys ns key (arrival_at ns n.0)) (item m u) (after_give (l.lists_without ring n.0))) (set keys m key) (set ns m (arrival_at ns n.0))
+      ≡ after_move (queues_of ring keys ns) u key
   move_seen next m key tabled none low low_key =
       let a = arrival_at ns n.0 in
-      let left : Lists = given (l.without ring n.0) in
+      let left : Lists = after_give (l.lists_without ring n.0) in
       let p : Item → Bool = comes_before keys ns key a in
       let r = rank_of (queues_of ring keys ns) u in
       let all = all_items ring in
@@ -237,12 +237,12 @@ module _ (ring : Lists) (keys : List Key) (ns : List ℕ) (u : UnitId) (n : Node
       let none_second = or_right (has_node m left.first) (has_node m left.second) (sym (live-append m left.first left.second) ∙ none) in
       let mine = shown_new keys ns m u key a r after low_key low (same a ∙ sym r_is) in
       let first_alike = alike keys ns m u key a r (length ns) next all after left.first (Tabled-left (length ns) next ns left.first left.second tabled) none_first (λ b less. same b) (λ b less. test b) in
-      let first = map_put (shown (set keys m key) (set ns m a) after) (shown keys ns all) p (goes_before (queued u key r)) (item m u) (queued u key r) left.first mine first_alike in
+      let first = map_put (shown_unit (set keys m key) (set ns m a) after) (shown_unit keys ns all) p (goes_before (queued_unit u key r)) (item m u) (queued_unit u key r) left.first mine first_alike in
       let second = map_kept keys ns m key a (length ns) next all after left.second (Tabled-right (length ns) next ns left.first left.second tabled) none_second (λ b less. same b) in
       let spare : ring.spare + 1 - 1 ≡ ring.spare = omega arith in
-      ap (λ (xs : List Queued). queues xs (map (shown (set keys m key) (set ns m a) after) left.second) (ring.spare + 1 - 1)) (first ∙ ap (placed (queued u key r)) (sym first_without))
-      ∙ ap (λ (ys : List Queued). queues (placed (queued u key r) (without u (map (shown keys ns all) ring.first))) ys (ring.spare + 1 - 1)) (second ∙ sym second_without)
-      ∙ ap (queues (placed (queued u key r) (without u (map (shown keys ns all) ring.first))) (without u (map (shown keys ns all) ring.second))) spare
+      ap (λ (xs : List Queued). queues xs (map (shown_unit (set keys m key) (set ns m a) after) left.second) (ring.spare + 1 - 1)) (first ∙ ap (list_with (queued_unit u key r)) (sym first_without))
+      ∙ ap (λ (ys : List Queued). queues (list_with (queued_unit u key r) (list_without u (map (shown_unit keys ns all) ring.first))) ys (ring.spare + 1 - 1)) (second ∙ sym second_without)
+      ∙ ap (queues (list_with (queued_unit u key r) (list_without u (map (shown_unit keys ns all) ring.first))) (list_without u (map (shown_unit keys ns all) ring.second))) spare
 
 -- what is seen of the same parts
 pub seen_is : (ring ring2 : Lists) (keys keys2 : List Key) (ns ns2 : List ℕ) → ring2 ≡ ring → keys2 ≡ keys → ns2 ≡ ns
@@ -257,11 +257,11 @@ absent_is u ring ring2 keys ns qs t same view e =
     ap (λ (r : Lists). has_number (number_of u) (all_items r)) same ∙ sym (holds-is u ring keys ns) ∙ ap (λ (s : Queues). holds s u) view ∙ e
 
 -- the units of what is seen are those of the items
-pub units-shown : (keys : List Key) (ns : List ℕ) (all xs : List Item) → map (λ (x : Item). x.unit) xs ≡ map (λ (e : Queued). e.unit) (map (shown keys ns all) xs)
+pub units-shown : (keys : List Key) (ns : List ℕ) (all xs : List Item) → map (λ (x : Item). x.unit) xs ≡ map (λ (e : Queued). e.unit) (map (shown_unit keys ns all) xs)
 units-shown keys ns all [] = refl
 units-shown keys ns all (x ∷ xs) = ap (λ (us : List UnitId). x.unit ∷ us) (units-shown keys ns all xs)
 
-pub first_that-shown : (p : UnitId → Bool) (keys : List Key) (ns : List ℕ) (all xs : List Item) → first_that p (map (shown keys ns all) xs) ≡ first_unit p xs
+pub first_that-shown : (p : UnitId → Bool) (keys : List Key) (ns : List ℕ) (all xs : List Item) → first_that p (map (shown_unit keys ns all) xs) ≡ first_unit p xs
 first_that-shown p keys ns all [] = refl
 first_that-shown p keys ns all (x ∷ xs) = ap (λ (o : Option UnitId). if p x.unit then Some x.unit else o) (first_that-shown p keys ns all xs)
 
@@ -325,19 +325,19 @@ no_place places next ns u (x ∷ xs) t low none =
 
 -- no more are left than the list without the unit
 pub length-left : (ring : Lists) (keys : List Key) (ns : List ℕ) (u : UnitId) (n : Node) → Found ring u n
-    → length (without_in n.0 ring.first) ≡ length (without u (map (shown keys ns (all_items ring)) ring.first))
+    → length (without_in n.0 ring.first) ≡ length (list_without u (map (shown_unit keys ns (all_items ring)) ring.first))
 length-left ring keys ns u n f =
-    sym (length-map (without_in n.0 ring.first) (shown keys ns (all_items ring))) ∙ sym (ap length (first_without ring keys ns u n f))
+    sym (length-map (without_in n.0 ring.first) (shown_unit keys ns (all_items ring))) ∙ sym (ap length (first_without ring keys ns u n f))
 
 -- a unit that is taken away and put at its new place
 pub moved_seen : (ring : Lists) (keys : List Key) (ns : List ℕ) (u : UnitId) (n : Node) → Found ring u n
     → (ring1 ring2 : Lists) (nodes1 : List (Option Node)) (keys1 keys2 : List Key) (ns1 ns2 fresh1 : List ℕ) (next m a : ℕ) (key : Key)
-    → ring1 ≡ given (l.without ring n.0) → keys1 ≡ keys → ns1 ≡ ns → IsQueue ring1 nodes1 keys1 ns1 fresh1 next
+    → ring1 ≡ after_give (l.lists_without ring n.0) → keys1 ≡ keys → ns1 ≡ ns → IsQueue ring1 nodes1 keys1 ns1 fresh1 next
     → a ≡ arrival_at ns n.0 → has_node m (all_items ring1) ≡ false → m < length ns1
     → ring2 ≡ put_ring (comes_before keys1 ns1 key a) (item m u) ring1 → keys2 ≡ set keys1 m key → ns2 ≡ set ns1 m a
-    → queues_of ring2 keys2 ns2 ≡ moved (queues_of ring keys ns) u key
+    → queues_of ring2 keys2 ns2 ≡ after_move (queues_of ring keys ns) u key
 moved_seen ring keys ns u n f ring1 ring2 nodes1 keys1 keys2 ns1 ns2 fresh1 next m a key e_ring e_keys e_ns queue e_a none low is_ring is_keys is_ns =
-    let left : Lists = given (l.without ring n.0) in
+    let left : Lists = after_give (l.lists_without ring n.0) in
     let a0 = arrival_at ns n.0 in
     let low_ns : m < length ns = subst (λ (xs : List ℕ). m < length xs) e_ns low in
     let low_keys : m < length keys = subst (λ (ks : List Key). m < length ks) e_keys (omega (arith, low, queue.keys_room)) in

@@ -3,7 +3,7 @@ use Rattle.std.proofs.Common.{◌≡◌, ℕ, ◌+◌, ◌≤◌, List, [], ◌�
 use Rattle.std.specs.Prelude.{◌==◌, ◌||◌, ◌&&◌, if◌then◌else◌, count_by}
 use Rattle.std.proofs.lemmas.List.Sums.{sum_by-cons, sum_by-append}
 use Rattle.sched_base.specs.declared.UnitId.{UnitId}
-use Rattle.arrival_queue.specs.Queues.{Queued, put_first, is_of, has_unit, without, rank_in}
+use Rattle.arrival_queue.specs.Queues.{Queued, put_first, is_of, has_unit, list_without, rank_in}
 use Rattle.arrival_queue.specs.Order.{has_rank}
 use Rattle.arrival_queue.proofs.Splits.{or_left, or_right}
 
@@ -62,7 +62,7 @@ count-same p q xs same = count-alike p q (λ _. false) xs (λ x _. same x) (none
 
 -- without a unit
 pub count-without : (p : Queued → Bool) (u : UnitId) (xs : List Queued)
-    → count_by p (without u xs) + count_by (λ x. is_of u x && p x) xs ≡ count_by p xs
+    → count_by p (list_without u xs) + count_by (λ x. is_of u x && p x) xs ≡ count_by p xs
 count-without p u [] = refl
 count-without p u (x ∷ xs) =
     let rest = count-without p u xs in
@@ -70,25 +70,25 @@ count-without p u (x ∷ xs) =
     let mine = count-cons (λ y. is_of u y && p y) x xs in
     split (is_of u x) rest whole mine
   where
-    split : (b : Bool) → count_by p (without u xs) + count_by (λ y. is_of u y && p y) xs ≡ count_by p xs → count_by p (x ∷ xs) ≡ one_if (p x) + count_by p xs
+    split : (b : Bool) → count_by p (list_without u xs) + count_by (λ y. is_of u y && p y) xs ≡ count_by p xs → count_by p (x ∷ xs) ≡ one_if (p x) + count_by p xs
         → count_by (λ y. is_of u y && p y) (x ∷ xs) ≡ one_if (b && p x) + count_by (λ y. is_of u y && p y) xs
-        → count_by p (if b then without u xs else x ∷ without u xs) + count_by (λ y. is_of u y && p y) (x ∷ xs) ≡ count_by p (x ∷ xs)
+        → count_by p (if b then list_without u xs else x ∷ list_without u xs) + count_by (λ y. is_of u y && p y) (x ∷ xs) ≡ count_by p (x ∷ xs)
     split true rest whole mine = omega (arith, rest, whole, mine)
-    split false rest whole mine = omega (arith, rest, whole, mine, count-cons p x (without u xs))
+    split false rest whole mine = omega (arith, rest, whole, mine, count-cons p x (list_without u xs))
 
-pub length-without : (u : UnitId) (xs : List Queued) → length (without u xs) + count_by (is_of u) xs ≡ length xs
+pub length-without : (u : UnitId) (xs : List Queued) → length (list_without u xs) + count_by (is_of u) xs ≡ length xs
 length-without u [] = refl
 length-without u (x ∷ xs) = split (is_of u x) (length-without u xs) (count-cons (is_of u) x xs)
   where
-    split : (b : Bool) → length (without u xs) + count_by (is_of u) xs ≡ length xs → count_by (is_of u) (x ∷ xs) ≡ one_if b + count_by (is_of u) xs
-        → length (if b then without u xs else x ∷ without u xs) + count_by (is_of u) (x ∷ xs) ≡ length (x ∷ xs)
+    split : (b : Bool) → length (list_without u xs) + count_by (is_of u) xs ≡ length xs → count_by (is_of u) (x ∷ xs) ≡ one_if b + count_by (is_of u) xs
+        → length (if b then list_without u xs else x ∷ list_without u xs) + count_by (is_of u) (x ∷ xs) ≡ length (x ∷ xs)
     split true rest whole = omega (arith, rest, whole)
     split false rest whole = omega (arith, rest, whole)
 
-pub without-append : (u : UnitId) (xs ys : List Queued) → without u (xs ++ ys) ≡ without u xs ++ without u ys
+pub without-append : (u : UnitId) (xs ys : List Queued) → list_without u (xs ++ ys) ≡ list_without u xs ++ list_without u ys
 without-append u [] ys = refl
 without-append u (x ∷ xs) ys =
-    elim (is_of u x) as (λ b. (if b then without u (xs ++ ys) else x ∷ without u (xs ++ ys)) ≡ (if b then without u xs else x ∷ without u xs) ++ without u ys) [
+    elim (is_of u x) as (λ b. (if b then list_without u (xs ++ ys) else x ∷ list_without u (xs ++ ys)) ≡ (if b then list_without u xs else x ∷ list_without u xs) ++ list_without u ys) [
       | true ↦ without-append u xs ys
       | false ↦ ap (λ (es : List Queued). x ∷ es) (without-append u xs ys)
     ]

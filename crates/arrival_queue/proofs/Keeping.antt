@@ -12,10 +12,6 @@ use Rattle.arrival_queue.specs.declared.key.Key.{Key}
 use Rattle.arrival_queue.specs.Tables.{Apart, Tabled, IsQueue, has_number, node_of, arrival_at, all_items}
 use Rattle.arrival_queue.proofs.Splits.{Apart-in, Apart-out, TakenOut, node_of-none, node_of-other, node_of-mine, Tabled-in, Tabled-out, Tabled-mine, Tabled-set, length-split}
 
--- a ring's items are others with a new one among them
-pub record Holds (ring : Lists) (l r : List Item) (new : Item) : Type 0 where
-  pub is : all_items ring ≡ l ++ new ∷ r
-
 room_at : (ring other : Lists) (l r : List Item) (new : Item) → all_items ring ≡ l ++ new ∷ r → all_items other ≡ l ++ r
     → other.spare ≡ ring.spare + 1 → room_of ring ≡ room_of other
 room_at ring other l r new is rest spare =

@@ -3,6 +3,7 @@ pub mod Keeping
 pub mod Ranks
 pub mod Views
 pub mod Walking
+pub mod Back
 pub mod Numbering
 pub mod Steps
 pub mod Changes

@@ -8,18 +8,18 @@ use Rattle.std.proofs.lemmas.List.Sums.{count_by-le-length, sum_by-append}
 use Rattle.unit_ring.specs.declared.Node.{Node}
 use Rattle.unit_ring.specs.Lists.{Item, Lists}
 use Rattle.arrival_queue.specs.declared.key.Key.{Key}
-use Rattle.arrival_queue.specs.Queues.{Queued, queued}
-use Rattle.arrival_queue.specs.Tables.{Tabled, IsQueue, all_items, arrival_at, key_at, rank, shown, below, queues_of}
+use Rattle.arrival_queue.specs.Queues.{Queued, queued_unit}
+use Rattle.arrival_queue.specs.Tables.{Tabled, IsQueue, all_items, arrival_at, key_at, rank, shown_unit, count_below, queues_of}
 use Rattle.arrival_queue.proofs.Ranks.{less_test, not_less_test, one_if, rank-cons}
 use Rattle.arrival_queue.proofs.Walking.{Tabled-left, Tabled-right}
 
-below-cons : (n : ℕ) (ns : List ℕ) (a : ℕ) → below (n ∷ ns) a ≡ one_if (nat_lt n a) + below ns a
+below-cons : (n : ℕ) (ns : List ℕ) (a : ℕ) → count_below (n ∷ ns) a ≡ one_if (nat_lt n a) + count_below ns a
 below-cons n ns a =
     let f : ℕ → ℕ = λ m. one_if (nat_lt m a) in
-    let whole : below (n ∷ ns) a ≡ below (n ∷ []) a + below ns a = sum_by-append f (n ∷ []) ns in
+    let whole : count_below (n ∷ ns) a ≡ count_below (n ∷ []) a + count_below ns a = sum_by-append f (n ∷ []) ns in
     omega (arith, whole)
 
-below-mono : (ns : List ℕ) (a b : ℕ) → a ≤ b → below ns a ≤ below ns b
+below-mono : (ns : List ℕ) (a b : ℕ) → a ≤ b → count_below ns a ≤ count_below ns b
 below-mono [] a b low = omega arith
 below-mono (n ∷ ns) a b low =
     let rest = below-mono ns a b low in
@@ -34,7 +34,7 @@ below-mono (n ∷ ns) a b low =
     ]
 
 -- a number of the list counts for those above it
-below-strict : (ns : List ℕ) (i b : ℕ) → i < length ns → get_or ns i 0 < b → below ns (get_or ns i 0) < below ns b
+below-strict : (ns : List ℕ) (i b : ℕ) → i < length ns → get_or ns i 0 < b → count_below ns (get_or ns i 0) < count_below ns b
 below-strict [] i b low less = absurd (omega (arith, low))
 below-strict (n ∷ ns) zero b low less =
     let at_a = below-cons n ns n in
@@ -55,52 +55,52 @@ below-strict (n ∷ ns) (suc i) b low less =
       | inr more ↦ let none : one_if (nat_lt n a) ≡ 0 = ap one_if (not_less_test n a more) in omega (arith, rest, none, at_a, at_b)
     ]
 
-below-test : (ns : List ℕ) (i b : ℕ) → i < length ns → nat_lt (below ns (get_or ns i 0)) (below ns b) ≡ nat_lt (get_or ns i 0) b
+below-test : (ns : List ℕ) (i b : ℕ) → i < length ns → nat_lt (count_below ns (get_or ns i 0)) (count_below ns b) ≡ nat_lt (get_or ns i 0) b
 below-test ns i b low =
     let a = get_or ns i 0 in
     elim (cases_lt a b) [
-      | inl less ↦ less_test (below ns a) (below ns b) (below-strict ns i b low less) ∙ sym (less_test a b less)
-      | inr more ↦ not_less_test (below ns a) (below ns b) (below-mono ns b a more) ∙ sym (not_less_test a b more)
+      | inl less ↦ less_test (count_below ns a) (count_below ns b) (below-strict ns i b low less) ∙ sym (less_test a b less)
+      | inr more ↦ not_less_test (count_below ns a) (count_below ns b) (below-mono ns b a more) ∙ sym (not_less_test a b more)
     ]
 
 -- the new number of a node's arrival
-new_arrival : (ns : List ℕ) (n : ℕ) → n < length ns → arrival_at (map (below ns) ns) n ≡ below ns (arrival_at ns n)
+new_arrival : (ns : List ℕ) (n : ℕ) → n < length ns → arrival_at (map (count_below ns) ns) n ≡ count_below ns (arrival_at ns n)
 new_arrival ns n low =
-    get_or_default (map (below ns) ns) n 0 (below ns 0) (rw (length-map ns (below ns)) low) ∙ get_or-map (below ns) ns n 0
+    get_or_default (map (count_below ns) ns) n 0 (count_below ns 0) (rw (length-map ns (count_below ns)) low) ∙ get_or-map (count_below ns) ns n 0
 
-rank-new : (places next : ℕ) (ns : List ℕ) (xs : List Item) (b : ℕ) → Tabled (length ns) next ns xs → rank (map (below ns) ns) xs (below ns b) ≡ rank ns xs b
+rank-new : (places next : ℕ) (ns : List ℕ) (xs : List Item) (b : ℕ) → Tabled (length ns) next ns xs → rank (map (count_below ns) ns) xs (count_below ns b) ≡ rank ns xs b
 rank-new places next ns [] b t = refl
 rank-new places next ns (x ∷ xs) b t =
-    let test : nat_lt (arrival_at (map (below ns) ns) x.node) (below ns b) ≡ nat_lt (arrival_at ns x.node) b =
-    ap (λ (m : ℕ). nat_lt m (below ns b)) (new_arrival ns x.node t.0) ∙ below-test ns x.node b t.0
+    let test : nat_lt (arrival_at (map (count_below ns) ns) x.node) (count_below ns b) ≡ nat_lt (arrival_at ns x.node) b =
+    ap (λ (m : ℕ). nat_lt m (count_below ns b)) (new_arrival ns x.node t.0) ∙ below-test ns x.node b t.0
     in
-    rank-cons (map (below ns) ns) x xs (below ns b)
-    ∙ ap (λ (y : Bool). one_if y + rank (map (below ns) ns) xs (below ns b)) test
+    rank-cons (map (count_below ns) ns) x xs (count_below ns b)
+    ∙ ap (λ (y : Bool). one_if y + rank (map (count_below ns) ns) xs (count_below ns b)) test
     ∙ ap (λ (m : ℕ). one_if (nat_lt (arrival_at ns x.node) b) + m) (rank-new places next ns xs b t.3)
     ∙ sym (rank-cons ns x xs b)
 
 map-new : (keys : List Key) (next : ℕ) (ns : List ℕ) (all xs : List Item) → Tabled (length ns) next ns all → Tabled (length ns) next ns xs
-    → map (shown keys (map (below ns) ns) all) xs ≡ map (shown keys ns all) xs
+    → map (shown_unit keys (map (count_below ns) ns) all) xs ≡ map (shown_unit keys ns all) xs
 map-new keys next ns all [] t each = refl
 map-new keys next ns all (x ∷ xs) t each =
-    ap (λ (m : ℕ). queued x.unit (key_at keys x.node) (rank (map (below ns) ns) all m) ∷ map (shown keys (map (below ns) ns) all) xs) (new_arrival ns x.node each.0)
-    ∙ ap (λ (r : ℕ). queued x.unit (key_at keys x.node) r ∷ map (shown keys (map (below ns) ns) all) xs) (rank-new 0 next ns all (arrival_at ns x.node) t)
-    ∙ ap (λ (es : List Queued). shown keys ns all x ∷ es) (map-new keys next ns all xs t each.3)
+    ap (λ (m : ℕ). queued_unit x.unit (key_at keys x.node) (rank (map (count_below ns) ns) all m) ∷ map (shown_unit keys (map (count_below ns) ns) all) xs) (new_arrival ns x.node each.0)
+    ∙ ap (λ (r : ℕ). queued_unit x.unit (key_at keys x.node) r ∷ map (shown_unit keys (map (count_below ns) ns) all) xs) (rank-new 0 next ns all (arrival_at ns x.node) t)
+    ∙ ap (λ (es : List Queued). shown_unit keys ns all x ∷ es) (map-new keys next ns all xs t each.3)
 
-Tabled-new : (next : ℕ) (ns : List ℕ) (xs : List Item) → Tabled (length ns) next ns xs → Tabled (length ns) (length ns + 1) (map (below ns) ns) xs
+Tabled-new : (next : ℕ) (ns : List ℕ) (xs : List Item) → Tabled (length ns) next ns xs → Tabled (length ns) (length ns + 1) (map (count_below ns) ns) xs
 Tabled-new next ns [] t = tt
 Tabled-new next ns (x ∷ xs) t =
-    let most : below ns (arrival_at ns x.node) ≤ length ns = count_by-le-length (λ b. nat_lt b (arrival_at ns x.node)) ns in
+    let most : count_below ns (arrival_at ns x.node) ≤ length ns = count_by-le-length (λ b. nat_lt b (arrival_at ns x.node)) ns in
     (t.0, omega (arith, new_arrival ns x.node t.0, most), t.2, Tabled-new next ns xs t.3)
 
 -- the tables with new numbers
 pub renumbered : (ring : Lists) (nodes : List (Option Node)) (keys : List Key) (ns fresh other : List ℕ) (next : ℕ)
-    → IsQueue ring nodes keys ns fresh next → length other ≡ length ns → IsQueue ring nodes keys (map (below ns) ns) other (length ns + 1)
+    → IsQueue ring nodes keys ns fresh next → length other ≡ length ns → IsQueue ring nodes keys (map (count_below ns) ns) other (length ns + 1)
 renumbered ring nodes keys ns fresh other next q size =
-    let same : length (map (below ns) ns) ≡ length ns = length-map ns (below ns) in
+    let same : length (map (count_below ns) ns) ≡ length ns = length-map ns (count_below ns) in
     record {
       apart = q.apart;
-      tabled = subst (λ (n : ℕ). Tabled n (length ns + 1) (map (below ns) ns) (all_items ring)) (sym same) (Tabled-new next ns (all_items ring) q.tabled);
+      tabled = subst (λ (n : ℕ). Tabled n (length ns + 1) (map (count_below ns) ns) (all_items ring)) (sym same) (Tabled-new next ns (all_items ring) q.tabled);
       listed = q.listed;
       places = q.places;
       room = same ∙ q.room;
@@ -109,11 +109,11 @@ renumbered ring nodes keys ns fresh other next q size =
     }
 
 pub seen_anew : (ring : Lists) (nodes : List (Option Node)) (keys : List Key) (ns fresh : List ℕ) (next : ℕ)
-    → IsQueue ring nodes keys ns fresh next → queues_of ring keys (map (below ns) ns) ≡ queues_of ring keys ns
+    → IsQueue ring nodes keys ns fresh next → queues_of ring keys (map (count_below ns) ns) ≡ queues_of ring keys ns
 seen_anew ring nodes keys ns fresh next q =
     let all = all_items ring in
-    ap (λ (es : List Queued). record { sorted = es; others = map (shown keys (map (below ns) ns) all) ring.second; spare = ring.spare }) (map-new keys next ns all ring.first q.tabled (Tabled-left (length ns) next ns ring.first ring.second q.tabled))
-    ∙ ap (λ (es : List Queued). record { sorted = map (shown keys ns all) ring.first; others = es; spare = ring.spare }) (map-new keys next ns all ring.second q.tabled (Tabled-right (length ns) next ns ring.first ring.second q.tabled))
+    ap (λ (es : List Queued). record { sorted = es; others = map (shown_unit keys (map (count_below ns) ns) all) ring.second; spare = ring.spare }) (map-new keys next ns all ring.first q.tabled (Tabled-left (length ns) next ns ring.first ring.second q.tabled))
+    ∙ ap (λ (es : List Queued). record { sorted = map (shown_unit keys ns all) ring.first; others = es; spare = ring.spare }) (map-new keys next ns all ring.second q.tabled (Tabled-right (length ns) next ns ring.first ring.second q.tabled))
 
 -- the tables with room for later numbers
 Tabled-later : (places next later : ℕ) (ns : List ℕ) (xs : List Item) → Tabled places next ns xs → next ≤ later → Tabled places later ns xs

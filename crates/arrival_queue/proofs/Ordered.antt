@@ -6,7 +6,7 @@ use Rattle.std.proofs.lemmas.List.{length-map, map-append}
 use Rattle.sched_base.specs.declared.UnitId.{UnitId}
 use Rattle.sched_base.specs.Units.{number_of}
 use Rattle.arrival_queue.specs.declared.key.Key.{Key}
-use Rattle.arrival_queue.specs.Queues.{Queued, Queues, queued, goes_before, placed, is_of, has_unit, holds, without, rank_in, rank_of, count, inserted, appended, closed_up, removed, moved}
+use Rattle.arrival_queue.specs.Queues.{Queued, Queues, queued_unit, goes_before, list_with, is_of, has_unit, holds, list_without, rank_in, rank_of, count, after_insert, after_append, closed_up, after_remove, after_move}
 use Rattle.arrival_queue.specs.Order.{GoesBeforeAll, IsInOrder, ArrivedBeforeAll, IsInArrival, has_rank, EachRankOnce, EachUnitOnce, IsOrdered}
 use Rattle.arrival_queue.proofs.Ranks.{less_test, not_less_test}
 use Rattle.arrival_queue.proofs.Splits.{same_test, other_test}
@@ -47,34 +47,34 @@ leads-trans : (a b : Queued) (es : List Queued) → goes_before a b ≡ true →
 leads-trans a b [] first all = tt
 leads-trans a b (e ∷ es) first all = (before_trans a b e first all.0, leads-trans a b es first all.1)
 
-leads-placed : (a new : Queued) (es : List Queued) → goes_before a new ≡ true → GoesBeforeAll a es → GoesBeforeAll a (placed new es)
+leads-placed : (a new : Queued) (es : List Queued) → goes_before a new ≡ true → GoesBeforeAll a es → GoesBeforeAll a (list_with new es)
 leads-placed a new [] first all = (first, tt)
 leads-placed a new (e ∷ es) first all =
-    elim (goes_before new e) as (λ t. GoesBeforeAll a (if t then new ∷ e ∷ es else e ∷ placed new es)) [
+    elim (goes_before new e) as (λ t. GoesBeforeAll a (if t then new ∷ e ∷ es else e ∷ list_with new es)) [
       | true ↦ (first, (all.0, all.1))
       | false ↦ (all.0, leads-placed a new es first all.1)
     ]
 
-pub order-placed : (new : Queued) (es : List Queued) → LacksRank new.rank es → IsInOrder es → IsInOrder (placed new es)
+pub order-placed : (new : Queued) (es : List Queued) → LacksRank new.rank es → IsInOrder es → IsInOrder (list_with new es)
 order-placed new [] lacks order = (tt, tt)
 order-placed new (e ∷ es) lacks order = split (goes_before new e) refl (order-placed new es lacks.1 order.1)
   where
-    split : (t : Bool) → goes_before new e ≡ t → IsInOrder (placed new es) → IsInOrder (if t then new ∷ e ∷ es else e ∷ placed new es)
+    split : (t : Bool) → goes_before new e ≡ t → IsInOrder (list_with new es) → IsInOrder (if t then new ∷ e ∷ es else e ∷ list_with new es)
     split true first rest = ((first, leads-trans new e es first order.0), order)
     split false after rest = (leads-placed e new es (before_other new e after (λ same. lacks.0 (sym same))) order.0, rest)
 
-leads-without : (a : Queued) (u : UnitId) (es : List Queued) → GoesBeforeAll a es → GoesBeforeAll a (without u es)
+leads-without : (a : Queued) (u : UnitId) (es : List Queued) → GoesBeforeAll a es → GoesBeforeAll a (list_without u es)
 leads-without a u [] all = tt
 leads-without a u (e ∷ es) all =
-    elim (is_of u e) as (λ t. GoesBeforeAll a (if t then without u es else e ∷ without u es)) [
+    elim (is_of u e) as (λ t. GoesBeforeAll a (if t then list_without u es else e ∷ list_without u es)) [
       | true ↦ leads-without a u es all.1
       | false ↦ (all.0, leads-without a u es all.1)
     ]
 
-pub order-without : (u : UnitId) (es : List Queued) → IsInOrder es → IsInOrder (without u es)
+pub order-without : (u : UnitId) (es : List Queued) → IsInOrder es → IsInOrder (list_without u es)
 order-without u [] order = tt
 order-without u (e ∷ es) order =
-    elim (is_of u e) as (λ t. IsInOrder (if t then without u es else e ∷ without u es)) [
+    elim (is_of u e) as (λ t. IsInOrder (if t then list_without u es else e ∷ list_without u es)) [
       | true ↦ order-without u es order.1
       | false ↦ (leads-without e u es order.0, order-without u es order.1)
     ]
@@ -96,18 +96,18 @@ pub arrival-push : (new : Queued) (es : List Queued) → RanksBelow new.rank es 
 arrival-push new [] low order = (tt, tt)
 arrival-push new (e ∷ es) low order = (arrived-push e new es low.0 order.0, arrival-push new es low.1 order.1)
 
-arrived-without : (a : Queued) (u : UnitId) (es : List Queued) → ArrivedBeforeAll a es → ArrivedBeforeAll a (without u es)
+arrived-without : (a : Queued) (u : UnitId) (es : List Queued) → ArrivedBeforeAll a es → ArrivedBeforeAll a (list_without u es)
 arrived-without a u [] all = tt
 arrived-without a u (e ∷ es) all =
-    elim (is_of u e) as (λ t. ArrivedBeforeAll a (if t then without u es else e ∷ without u es)) [
+    elim (is_of u e) as (λ t. ArrivedBeforeAll a (if t then list_without u es else e ∷ list_without u es)) [
       | true ↦ arrived-without a u es all.1
       | false ↦ (all.0, arrived-without a u es all.1)
     ]
 
-pub arrival-without : (u : UnitId) (es : List Queued) → IsInArrival es → IsInArrival (without u es)
+pub arrival-without : (u : UnitId) (es : List Queued) → IsInArrival es → IsInArrival (list_without u es)
 arrival-without u [] order = tt
 arrival-without u (e ∷ es) order =
-    elim (is_of u e) as (λ t. IsInArrival (if t then without u es else e ∷ without u es)) [
+    elim (is_of u e) as (λ t. IsInArrival (if t then list_without u es else e ∷ list_without u es)) [
       | true ↦ arrival-without u es order.1
       | false ↦ (arrived-without e u es order.0, arrival-without u es order.1)
     ]
@@ -192,26 +192,26 @@ more_units es ds new none counts once w =
 none_held : (q : Queues) (u : UnitId) → holds q u ≡ false → count_by (is_of u) (all q) ≡ 0
 none_held q u none = count-absent u (all q) (has_unit-append u q.sorted q.others ∙ none)
 
-placed_counts : (new : Queued) (xs ys : List Queued) (p : Queued → Bool) → count_by p (placed new xs ++ ys) ≡ one_if (p new) + count_by p (xs ++ ys)
-placed_counts new xs ys p = omega (arith, count-append p (placed new xs) ys, count-put p (goes_before new) new xs, count-append p xs ys)
+placed_counts : (new : Queued) (xs ys : List Queued) (p : Queued → Bool) → count_by p (list_with new xs ++ ys) ≡ one_if (p new) + count_by p (xs ++ ys)
+placed_counts new xs ys p = omega (arith, count-append p (list_with new xs) ys, count-put p (goes_before new) new xs, count-append p xs ys)
 
-placed_length : (new : Queued) (xs ys : List Queued) → length (placed new xs ++ ys) ≡ length (xs ++ ys) + 1
-placed_length new xs ys = omega (arith, length-append (placed new xs) ys, length-put (goes_before new) new xs, length-append xs ys)
+placed_length : (new : Queued) (xs ys : List Queued) → length (list_with new xs ++ ys) ≡ length (xs ++ ys) + 1
+placed_length new xs ys = omega (arith, length-append (list_with new xs) ys, length-put (goes_before new) new xs, length-append xs ys)
 
-pub ordered-inserted : (q : Queues) (u : UnitId) (key : Key) → holds q u ≡ false → IsOrdered q → IsOrdered (inserted q u key)
+pub ordered-inserted : (q : Queues) (u : UnitId) (key : Key) → holds q u ≡ false → IsOrdered q → IsOrdered (after_insert q u key)
 ordered-inserted q u key none ordered =
-    let new = queued u key (count q) in
+    let new = queued_unit u key (count q) in
     let past = past_none (all q) (count q) ordered.ranks (omega (arith, count-all q)) in
     record {
       sorted = order-placed new q.sorted (lacks-rank (count q) q.sorted (left_none (count q) q.sorted q.others past)) ordered.sorted;
       others = ordered.others;
-      ranks = more_ranks (all q) (placed new q.sorted ++ q.others) new (count-all q) (placed_length new q.sorted q.others) (placed_counts new q.sorted q.others) ordered.ranks;
-      units = more_units (all q) (placed new q.sorted ++ q.others) new (none_held q u none) (placed_counts new q.sorted q.others) ordered.units;
+      ranks = more_ranks (all q) (list_with new q.sorted ++ q.others) new (count-all q) (placed_length new q.sorted q.others) (placed_counts new q.sorted q.others) ordered.ranks;
+      units = more_units (all q) (list_with new q.sorted ++ q.others) new (none_held q u none) (placed_counts new q.sorted q.others) ordered.units;
     }
 
-pub ordered-appended : (q : Queues) (u : UnitId) (key : Key) → holds q u ≡ false → IsOrdered q → IsOrdered (appended q u key)
+pub ordered-appended : (q : Queues) (u : UnitId) (key : Key) → holds q u ≡ false → IsOrdered q → IsOrdered (after_append q u key)
 ordered-appended q u key none ordered =
-    let new = queued u key (count q) in
+    let new = queued_unit u key (count q) in
     let ds : List Queued = q.sorted ++ (q.others ++ new ∷ []) in
     let is : ds ≡ all q ++ new ∷ [] = sym (append_assoc q.sorted q.others (new ∷ [])) in
     let counts : (p : Queued → Bool) → count_by p ds ≡ one_if (p new) + count_by p (all q) = λ p.
@@ -228,7 +228,7 @@ ordered-appended q u key none ordered =
 -- a unit that is here, once, with its rank
 module _ (q : Queues) (u : UnitId) (here : holds q u ≡ true) (ordered : IsOrdered q) where
   abbrev rest : List Queued
-  rest = without u (all q)
+  rest = list_without u (all q)
 
   has_all : has_unit u (all q) ≡ true
   has_all = has_unit-append u q.sorted q.others ∙ here
@@ -265,24 +265,24 @@ module _ (q : Queues) (u : UnitId) (here : holds q u ≡ true) (ordered : IsOrde
       let one : one_if (rank_of q u == rank_of q u) ≡ 1 = ap one_if (same_test (rank_of q u) (rank_of q u) refl) in
       omega (arith, one, one-most (nat_lt (rank_of q u) (length (all q))), rest_ranks (rank_of q u))
 
-  rest_parts : rest ≡ without u q.sorted ++ without u q.others
+  rest_parts : rest ≡ list_without u q.sorted ++ list_without u q.others
   rest_parts = without-append u q.sorted q.others
 
-  parts_lack : count_by (has_rank (rank_of q u)) (without u q.sorted ++ without u q.others) ≡ 0
+  parts_lack : count_by (has_rank (rank_of q u)) (list_without u q.sorted ++ list_without u q.others) ≡ 0
   parts_lack = ap (count_by (has_rank (rank_of q u))) (sym rest_parts) ∙ rest_lacks
 
-  first_lacks : LacksRank (rank_of q u) (without u q.sorted)
-  first_lacks = lacks-rank (rank_of q u) (without u q.sorted) (left_none (rank_of q u) (without u q.sorted) (without u q.others) parts_lack)
+  first_lacks : LacksRank (rank_of q u) (list_without u q.sorted)
+  first_lacks = lacks-rank (rank_of q u) (list_without u q.sorted) (left_none (rank_of q u) (list_without u q.sorted) (list_without u q.others) parts_lack)
 
-  second_lacks : LacksRank (rank_of q u) (without u q.others)
-  second_lacks = lacks-rank (rank_of q u) (without u q.others) (right_none (rank_of q u) (without u q.sorted) (without u q.others) parts_lack)
+  second_lacks : LacksRank (rank_of q u) (list_without u q.others)
+  second_lacks = lacks-rank (rank_of q u) (list_without u q.others) (right_none (rank_of q u) (list_without u q.sorted) (list_without u q.others) parts_lack)
 
   rest_units : (w : UnitId) → count_by (is_of w) rest ≤ count_by (is_of w) (all q)
   rest_units w = omega (arith, count-without (is_of w) u (all q))
 
   -- the ranks after the unit is gone
-  closed_is : map (closed_up (rank_of q u)) (without u q.sorted) ++ map (closed_up (rank_of q u)) (without u q.others) ≡ map (closed_up (rank_of q u)) rest
-  closed_is = sym (map-append (closed_up (rank_of q u)) (without u q.sorted) (without u q.others)) ∙ ap (map (closed_up (rank_of q u))) (sym rest_parts)
+  closed_is : map (closed_up (rank_of q u)) (list_without u q.sorted) ++ map (closed_up (rank_of q u)) (list_without u q.others) ≡ map (closed_up (rank_of q u)) rest
+  closed_is = sym (map-append (closed_up (rank_of q u)) (list_without u q.sorted) (list_without u q.others)) ∙ ap (map (closed_up (rank_of q u))) (sym rest_parts)
 
   low_same : (r : ℕ) → r < rank_of q u → (x : Queued) → has_rank (rank_of q u) x ≡ false → has_rank r (closed_up (rank_of q u) x) ≡ has_rank r x
   low_same r less x _ =
@@ -347,29 +347,29 @@ module _ (q : Queues) (u : UnitId) (here : holds q u ≡ true) (ordered : IsOrde
       let kept : count_by (is_of w) (map (closed_up (rank_of q u)) rest) ≡ count_by (is_of w) rest = count-map (is_of w) (closed_up (rank_of q u)) rest in
       omega (arith, most, kept, rest_units w)
 
-  pub ordered-removed : IsOrdered (removed q u)
+  pub ordered-removed : IsOrdered (after_remove q u)
   ordered-removed = record {
-    sorted = order-closed (rank_of q u) (without u q.sorted) first_lacks (order-without u q.sorted ordered.sorted);
-    others = arrival-closed (rank_of q u) (without u q.others) second_lacks (arrival-without u q.others ordered.others);
+    sorted = order-closed (rank_of q u) (list_without u q.sorted) first_lacks (order-without u q.sorted ordered.sorted);
+    others = arrival-closed (rank_of q u) (list_without u q.others) second_lacks (arrival-without u q.others ordered.others);
     ranks = subst EachRankOnce (sym closed_is) closed_ranks;
     units = subst EachUnitOnce (sym closed_is) closed_units;
   }
 
   -- the unit at another place, with the same rank
   moved_counts : (key : Key) (p : Queued → Bool)
-      → count_by p (placed (queued u key (rank_of q u)) (without u q.sorted) ++ without u q.others) ≡ one_if (p (queued u key (rank_of q u))) + count_by p rest
+      → count_by p (list_with (queued_unit u key (rank_of q u)) (list_without u q.sorted) ++ list_without u q.others) ≡ one_if (p (queued_unit u key (rank_of q u))) + count_by p rest
   moved_counts key p =
-      let parts : count_by p rest ≡ count_by p (without u q.sorted ++ without u q.others) = ap (count_by p) rest_parts in
-      omega (arith, parts, placed_counts (queued u key (rank_of q u)) (without u q.sorted) (without u q.others) p)
+      let parts : count_by p rest ≡ count_by p (list_without u q.sorted ++ list_without u q.others) = ap (count_by p) rest_parts in
+      omega (arith, parts, placed_counts (queued_unit u key (rank_of q u)) (list_without u q.sorted) (list_without u q.others) p)
 
-  moved_ranks : (key : Key) → EachRankOnce (placed (queued u key (rank_of q u)) (without u q.sorted) ++ without u q.others)
+  moved_ranks : (key : Key) → EachRankOnce (list_with (queued_unit u key (rank_of q u)) (list_without u q.sorted) ++ list_without u q.others)
   moved_ranks key r =
-      let new = queued u key (rank_of q u) in
-      let parts : length rest ≡ length (without u q.sorted ++ without u q.others) = ap (λ (es : List Queued). length es) rest_parts in
-      let long : length (placed new (without u q.sorted) ++ without u q.others) ≡ length (all q) =
-      omega (arith, parts, placed_length new (without u q.sorted) (without u q.others), rest_length)
+      let new = queued_unit u key (rank_of q u) in
+      let parts : length rest ≡ length (list_without u q.sorted ++ list_without u q.others) = ap (λ (es : List Queued). length es) rest_parts in
+      let long : length (list_with new (list_without u q.sorted) ++ list_without u q.others) ≡ length (all q) =
+      omega (arith, parts, placed_length new (list_without u q.sorted) (list_without u q.others), rest_length)
       in
-      let bound : one_if (nat_lt r (length (placed new (without u q.sorted) ++ without u q.others))) ≡ one_if (nat_lt r (length (all q))) = ap (λ (n : ℕ). one_if (nat_lt r n)) long in
+      let bound : one_if (nat_lt r (length (list_with new (list_without u q.sorted) ++ list_without u q.others))) ≡ one_if (nat_lt r (length (all q))) = ap (λ (n : ℕ). one_if (nat_lt r n)) long in
       omega (arith, moved_counts key (has_rank r), rest_ranks r, bound)
 
   rest_none : count_by (is_of u) rest ≡ 0
@@ -381,13 +381,13 @@ module _ (q : Queues) (u : UnitId) (here : holds q u ≡ true) (ordered : IsOrde
       twice true = refl
       twice false = refl
 
-  pub ordered-moved : (key : Key) → IsOrdered (moved q u key)
+  pub ordered-moved : (key : Key) → IsOrdered (after_move q u key)
   ordered-moved key =
-      let new = queued u key (rank_of q u) in
+      let new = queued_unit u key (rank_of q u) in
       let once : EachUnitOnce rest = λ w. let most = ordered.units w in omega (arith, most, rest_units w) in
       record {
-        sorted = order-placed new (without u q.sorted) first_lacks (order-without u q.sorted ordered.sorted);
+        sorted = order-placed new (list_without u q.sorted) first_lacks (order-without u q.sorted ordered.sorted);
         others = arrival-without u q.others ordered.others;
         ranks = moved_ranks key;
-        units = more_units rest (placed new (without u q.sorted) ++ without u q.others) new rest_none (moved_counts key) once;
+        units = more_units rest (list_with new (list_without u q.sorted) ++ list_without u q.others) new rest_none (moved_counts key) once;
       }

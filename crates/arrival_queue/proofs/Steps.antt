@@ -9,7 +9,7 @@ use Rattle.unit_places.specs.Places.{has_place, index_of}
 use Rattle.unit_places.proofs.Placed.{same_place}
 use Rattle.unit_ring.specs.declared.Node.{Node}
 use Rattle.unit_ring.specs.Lists as l
-use Rattle.unit_ring.specs.Lists.{Item, Lists, item, has_node, is_live, room_of, taken, given, appended, without_in}
+use Rattle.unit_ring.specs.Lists.{Item, Lists, item, has_node, is_live, room_of, after_take, after_give, after_append, without_in}
 use Rattle.arrival_queue.specs.declared.key.Key.{Key}
 use Rattle.arrival_queue.specs.Queues.{put_first}
 use Rattle.arrival_queue.specs.Tables.{Apart, Tabled, IsQueue, all_items, has_number, node_of, first_node, put_ring, ring_with}
@@ -78,11 +78,11 @@ module _ (ring : Lists) (nodes : List (Option Node)) (keys : List Key) (ns fresh
       in
       kept_in ring (put_ring p (item n u) ring) nodes keys ns fresh next next s.lft (s.rgt ++ ring.second) (item n u) key a q was is spare_more no_node no_number low place arrived (omega arith)
 
-  pub append_kept : IsQueue (taken (appended ring 1 (item n u))) (set nodes (index_of u) (Some (record { 0 = n }))) (set keys n key) (set ns n a) fresh next
+  pub append_kept : IsQueue (after_take (after_append ring 1 (item n u))) (set nodes (index_of u) (Some (record { 0 = n }))) (set keys n key) (set ns n a) fresh next
   append_kept =
       let was : all_items ring ≡ all_items ring ++ [] = sym (append-nil (all_items ring)) in
       let is : ring.first ++ (ring.second ++ item n u ∷ []) ≡ all_items ring ++ item n u ∷ [] = sym (append_assoc ring.first ring.second (item n u ∷ [])) in
-      kept_in ring (taken (appended ring 1 (item n u))) nodes keys ns fresh next next (all_items ring) [] (item n u) key a q was is spare_more no_node no_number low place arrived (omega arith)
+      kept_in ring (after_take (after_append ring 1 (item n u))) nodes keys ns fresh next next (all_items ring) [] (item n u) key a q was is spare_more no_node no_number low place arrived (omega arith)
 
 -- where a unit stands among all items, and the ring without its node
 without_in-append : (n : ℕ) (xs ys : List Item) → without_in n (xs ++ ys) ≡ without_in n xs ++ without_in n ys
@@ -112,7 +112,7 @@ pub record Found (ring : Lists) (u : UnitId) (n : Node) : Type 0 where
   pub number : number_of x.unit ≡ number_of u
   pub node : x.node ≡ n.0
   pub out : TakenOut lft rgt x
-  pub rest : all_items (given (l.without ring n.0)) ≡ lft ++ rgt
+  pub rest : all_items (after_give (l.lists_without ring n.0)) ≡ lft ++ rgt
   pub live : is_live ring n.0 ≡ true
   pub gone : has_number (number_of u) (lft ++ rgt) ≡ false
 
@@ -145,8 +145,8 @@ found ring u n apart e =
 
 pub take_kept : (ring : Lists) (nodes : List (Option Node)) (keys : List Key) (ns fresh : List ℕ) (next : ℕ) (u : UnitId) (n : Node)
     → IsQueue ring nodes keys ns fresh next → Found ring u n → has_place u ≡ true
-    → IsQueue (given (l.without ring n.0)) (set nodes (index_of u) None) keys ns fresh next
+    → IsQueue (after_give (l.lists_without ring n.0)) (set nodes (index_of u) None) keys ns fresh next
 take_kept ring nodes keys ns fresh next u n q f place =
     let mine = Tabled-mine (length ns) next ns f.lft f.rgt f.x (subst (Tabled (length ns) next ns) f.is q.tabled) in
-    subst (λ (k : ℕ). IsQueue (given (l.without ring n.0)) (set nodes k None) keys ns fresh next) (same_place f.x.unit u mine.2 place f.number)
-    (kept_out ring (given (l.without ring n.0)) nodes keys ns fresh next f.lft f.rgt f.x q f.is f.rest refl)
+    subst (λ (k : ℕ). IsQueue (after_give (l.lists_without ring n.0)) (set nodes k None) keys ns fresh next) (same_place f.x.unit u mine.2 place f.number)
+    (kept_out ring (after_give (l.lists_without ring n.0)) nodes keys ns fresh next f.lft f.rgt f.x q f.is f.rest refl)

@@ -9,8 +9,8 @@ use Rattle.unit_ring.specs.declared.Node.{Node}
 use Rattle.unit_ring.specs.Lists as l
 use Rattle.unit_ring.specs.Lists.{Item, Lists, item, has_node}
 use Rattle.arrival_queue.specs.declared.key.Key.{Key}
-use Rattle.arrival_queue.specs.Queues.{Queued, queued, is_less, goes_before, put_first, has_unit, without, rank_in, closed_up}
-use Rattle.arrival_queue.specs.Tables.{Apart, Tabled, has_number, key_at, arrival_at, rank, shown, comes_before, first_node}
+use Rattle.arrival_queue.specs.Queues.{Queued, queued_unit, is_less, goes_before, put_first, has_unit, list_without, rank_in, closed_up}
+use Rattle.arrival_queue.specs.Tables.{Apart, Tabled, has_number, key_at, arrival_at, rank, shown_unit, comes_before, first_node}
 use Rattle.arrival_queue.proofs.Splits.{same_test, other_test, not_same, or_left, or_right}
 use Rattle.arrival_queue.proofs.Ranks.{arrival-set, rank-out, rank-test, less_test, not_less_test, one_if}
 
@@ -21,30 +21,30 @@ key-set keys n m key other = get_or-set_other keys n m key (record { first = pos
 shown_kept : (keys : List Key) (arrivals : List ℕ) (n : ℕ) (key : Key) (a : ℕ) (all after : List Item) (x : Item)
     → (x.node == n) ≡ false
     → rank (set arrivals n a) after (arrival_at arrivals x.node) ≡ rank arrivals all (arrival_at arrivals x.node)
-    → shown (set keys n key) (set arrivals n a) after x ≡ shown keys arrivals all x
+    → shown_unit (set keys n key) (set arrivals n a) after x ≡ shown_unit keys arrivals all x
 shown_kept keys arrivals n key a all after x other same =
-    ap (λ (k : Key). queued x.unit k (rank (set arrivals n a) after (arrival_at (set arrivals n a) x.node))) (key-set keys n x.node key other)
-    ∙ ap (λ (m : ℕ). queued x.unit (key_at keys x.node) (rank (set arrivals n a) after m)) (arrival-set arrivals n a x.node other)
-    ∙ ap (queued x.unit (key_at keys x.node)) same
+    ap (λ (k : Key). queued_unit x.unit k (rank (set arrivals n a) after (arrival_at (set arrivals n a) x.node))) (key-set keys n x.node key other)
+    ∙ ap (λ (m : ℕ). queued_unit x.unit (key_at keys x.node) (rank (set arrivals n a) after m)) (arrival-set arrivals n a x.node other)
+    ∙ ap (queued_unit x.unit (key_at keys x.node)) same
 
 pub map_kept : (keys : List Key) (arrivals : List ℕ) (n : ℕ) (key : Key) (a places next : ℕ) (all after xs : List Item)
     → Tabled places next arrivals xs → has_node n xs ≡ false
     → ((b : ℕ) → b < next → rank (set arrivals n a) after b ≡ rank arrivals all b)
-    → map (shown (set keys n key) (set arrivals n a) after) xs ≡ map (shown keys arrivals all) xs
+    → map (shown_unit (set keys n key) (set arrivals n a) after) xs ≡ map (shown_unit keys arrivals all) xs
 map_kept keys arrivals n key a places next all after [] t none same = refl
 map_kept keys arrivals n key a places next all after (x ∷ xs) t none same =
-    ap (λ (e : Queued). e ∷ map (shown (set keys n key) (set arrivals n a) after) xs)
+    ap (λ (e : Queued). e ∷ map (shown_unit (set keys n key) (set arrivals n a) after) xs)
     (shown_kept keys arrivals n key a all after x (or_left (x.node == n) (has_node n xs) none) (same (arrival_at arrivals x.node) t.1))
-    ∙ ap (λ (es : List Queued). shown keys arrivals all x ∷ es) (map_kept keys arrivals n key a places next all after xs t.3 (or_right (x.node == n) (has_node n xs) none) same)
+    ∙ ap (λ (es : List Queued). shown_unit keys arrivals all x ∷ es) (map_kept keys arrivals n key a places next all after xs t.3 (or_right (x.node == n) (has_node n xs) none) same)
 
 -- the item that is written
 pub shown_new : (keys : List Key) (arrivals : List ℕ) (n : ℕ) (u : UnitId) (key : Key) (a r : ℕ) (after : List Item)
     → n < length keys → n < length arrivals → rank (set arrivals n a) after a ≡ r
-    → shown (set keys n key) (set arrivals n a) after (item n u) ≡ queued u key r
+    → shown_unit (set keys n key) (set arrivals n a) after (item n u) ≡ queued_unit u key r
 shown_new keys arrivals n u key a r after low low_a is =
-    ap (λ (k : Key). queued u k (rank (set arrivals n a) after (arrival_at (set arrivals n a) n))) (get_or-set_same keys n key (record { first = pos 0; second = 0 }) low)
-    ∙ ap (λ (m : ℕ). queued u key (rank (set arrivals n a) after m)) (get_or-set_same arrivals n a 0 low_a)
-    ∙ ap (queued u key) is
+    ap (λ (k : Key). queued_unit u k (rank (set arrivals n a) after (arrival_at (set arrivals n a) n))) (get_or-set_same keys n key (record { first = pos 0; second = 0 }) low)
+    ∙ ap (λ (m : ℕ). queued_unit u key (rank (set arrivals n a) after m)) (get_or-set_same arrivals n a 0 low_a)
+    ∙ ap (queued_unit u key) is
 
 -- two ways to see each item agree, and so do the tests
 abbrev pub Alike : (Item → Queued) → (Item → Queued) → (Item → Bool) → (Queued → Bool) → List Item → Type 0
@@ -75,7 +75,7 @@ pub alike : (keys : List Key) (arrivals : List ℕ) (n : ℕ) (u : UnitId) (key 
     → Tabled places next arrivals xs → has_node n xs ≡ false
     → ((b : ℕ) → b < next → rank (set arrivals n a) after b ≡ rank arrivals all b)
     → ((b : ℕ) → b < next → nat_lt r (rank arrivals all b) ≡ nat_lt a b)
-    → Alike (shown (set keys n key) (set arrivals n a) after) (shown keys arrivals all) (comes_before keys arrivals key a) (goes_before (queued u key r)) xs
+    → Alike (shown_unit (set keys n key) (set arrivals n a) after) (shown_unit keys arrivals all) (comes_before keys arrivals key a) (goes_before (queued_unit u key r)) xs
 alike keys arrivals n u key a r places next all after [] t none same tests = tt
 alike keys arrivals n u key a r places next all after (x ∷ xs) t none same tests = (
   shown_kept keys arrivals n key a all after x (or_left (x.node == n) (has_node n xs) none) (same (arrival_at arrivals x.node) t.1),
@@ -105,42 +105,25 @@ closed_rank arrivals lft rgt old b =
     ]
 
 pub map_closed : (keys : List Key) (arrivals : List ℕ) (lft rgt xs : List Item) (old : Item)
-    → map (shown keys arrivals (lft ++ rgt)) xs ≡ map (closed_up (rank arrivals (lft ++ old ∷ rgt) (arrival_at arrivals old.node))) (map (shown keys arrivals (lft ++ old ∷ rgt)) xs)
+    → map (shown_unit keys arrivals (lft ++ rgt)) xs ≡ map (closed_up (rank arrivals (lft ++ old ∷ rgt) (arrival_at arrivals old.node))) (map (shown_unit keys arrivals (lft ++ old ∷ rgt)) xs)
 map_closed keys arrivals lft rgt [] old = refl
 map_closed keys arrivals lft rgt (x ∷ xs) old =
-    ap (λ (r : ℕ). queued x.unit (key_at keys x.node) r ∷ map (shown keys arrivals (lft ++ rgt)) xs) (closed_rank arrivals lft rgt old (arrival_at arrivals x.node))
-    ∙ ap (λ (es : List Queued). closed_up (rank arrivals (lft ++ old ∷ rgt) (arrival_at arrivals old.node)) (shown keys arrivals (lft ++ old ∷ rgt) x) ∷ es) (map_closed keys arrivals lft rgt xs old)
+    ap (λ (r : ℕ). queued_unit x.unit (key_at keys x.node) r ∷ map (shown_unit keys arrivals (lft ++ rgt)) xs) (closed_rank arrivals lft rgt old (arrival_at arrivals x.node))
+    ∙ ap (λ (es : List Queued). closed_up (rank arrivals (lft ++ old ∷ rgt) (arrival_at arrivals old.node)) (shown_unit keys arrivals (lft ++ old ∷ rgt) x) ∷ es) (map_closed keys arrivals lft rgt xs old)
 
 -- units of the shown items
 pub has_unit-shown : (u : UnitId) (keys : List Key) (arrivals : List ℕ) (all xs : List Item)
-    → has_unit u (map (shown keys arrivals all) xs) ≡ has_number (number_of u) xs
+    → has_unit u (map (shown_unit keys arrivals all) xs) ≡ has_number (number_of u) xs
 has_unit-shown u keys arrivals all [] = refl
 has_unit-shown u keys arrivals all (x ∷ xs) = ap (λ (t : Bool). number_of x.unit == number_of u || t) (has_unit-shown u keys arrivals all xs)
 
-pub without-none : (u : UnitId) (keys : List Key) (arrivals : List ℕ) (all xs : List Item) → has_number (number_of u) xs ≡ false
-    → without u (map (shown keys arrivals all) xs) ≡ map (shown keys arrivals all) xs
-without-none u keys arrivals all [] none = refl
-without-none u keys arrivals all (x ∷ xs) none =
-    ap (λ (t : Bool). if t then without u (map (shown keys arrivals all) xs) else shown keys arrivals all x ∷ without u (map (shown keys arrivals all) xs)) (or_left (number_of x.unit == number_of u) (has_number (number_of u) xs) none)
-    ∙ ap (λ (es : List Queued). shown keys arrivals all x ∷ es) (without-none u keys arrivals all xs (or_right (number_of x.unit == number_of u) (has_number (number_of u) xs) none))
-
-pub without-split : (u : UnitId) (keys : List Key) (arrivals : List ℕ) (all lft rgt : List Item) (old : Item)
-    → number_of old.unit ≡ number_of u → has_number (number_of u) (lft ++ rgt) ≡ false
-    → without u (map (shown keys arrivals all) (lft ++ old ∷ rgt)) ≡ map (shown keys arrivals all) (lft ++ rgt)
-without-split u keys arrivals all [] rgt old is none =
-    ap (λ (t : Bool). if t then without u (map (shown keys arrivals all) rgt) else shown keys arrivals all old ∷ without u (map (shown keys arrivals all) rgt)) (same_test (number_of old.unit) (number_of u) is)
-    ∙ without-none u keys arrivals all rgt none
-without-split u keys arrivals all (x ∷ lft) rgt old is none =
-    ap (λ (t : Bool). if t then without u (map (shown keys arrivals all) (lft ++ old ∷ rgt)) else shown keys arrivals all x ∷ without u (map (shown keys arrivals all) (lft ++ old ∷ rgt))) (or_left (number_of x.unit == number_of u) (has_number (number_of u) (lft ++ rgt)) none)
-    ∙ ap (λ (es : List Queued). shown keys arrivals all x ∷ es) (without-split u keys arrivals all lft rgt old is (or_right (number_of x.unit == number_of u) (has_number (number_of u) (lft ++ rgt)) none))
-
 pub rank_in-split : (u : UnitId) (keys : List Key) (arrivals : List ℕ) (all lft rgt : List Item) (old : Item)
     → number_of old.unit ≡ number_of u → has_number (number_of u) (lft ++ rgt) ≡ false
-    → rank_in u (map (shown keys arrivals all) (lft ++ old ∷ rgt)) ≡ rank arrivals all (arrival_at arrivals old.node)
+    → rank_in u (map (shown_unit keys arrivals all) (lft ++ old ∷ rgt)) ≡ rank arrivals all (arrival_at arrivals old.node)
 rank_in-split u keys arrivals all [] rgt old is none =
-    ap (λ (t : Bool). if t then rank arrivals all (arrival_at arrivals old.node) else rank_in u (map (shown keys arrivals all) rgt)) (same_test (number_of old.unit) (number_of u) is)
+    ap (λ (t : Bool). if t then rank arrivals all (arrival_at arrivals old.node) else rank_in u (map (shown_unit keys arrivals all) rgt)) (same_test (number_of old.unit) (number_of u) is)
 rank_in-split u keys arrivals all (x ∷ lft) rgt old is none =
-    ap (λ (t : Bool). if t then rank arrivals all (arrival_at arrivals x.node) else rank_in u (map (shown keys arrivals all) (lft ++ old ∷ rgt))) (or_left (number_of x.unit == number_of u) (has_number (number_of u) (lft ++ rgt)) none)
+    ap (λ (t : Bool). if t then rank arrivals all (arrival_at arrivals x.node) else rank_in u (map (shown_unit keys arrivals all) (lft ++ old ∷ rgt))) (or_left (number_of x.unit == number_of u) (has_number (number_of u) (lft ++ rgt)) none)
     ∙ rank_in-split u keys arrivals all lft rgt old is (or_right (number_of x.unit == number_of u) (has_number (number_of u) (lft ++ rgt)) none)
 
 -- nodes of the ring's lists

@@ -93,14 +93,6 @@ at_next ring m has = ap (λ (t : Bool). if t then next_in m ring.first else next
 pub at_unit : (ring : Lists) (m : ℕ) → has_node m ring.first ≡ true → unit_of ring m ≡ unit_in m ring.first
 at_unit ring m has = ap (λ (t : Bool). if t then unit_in m ring.first else unit_in m ring.second) has
 
-end_of : (xs : List Item) → first_in xs ≡ None → xs ≡ []
-end_of [] e = refl
-end_of (x ∷ xs) e = absurd (none_first (node x.node) (sym e))
-
--- at the end of the walk nothing is left
-pub at_end : (xs : List Item) (k : ℕ) → first_in (drop k xs) ≡ None → drop k xs ≡ []
-at_end xs k e = end_of (drop k xs) e
-
 -- a node that the items have is within the tables
 pub Tabled-has : (places next m : ℕ) (arrivals : List ℕ) (xs : List Item) → Tabled places next arrivals xs → has_node m xs ≡ true → m < places
 Tabled-has places next m arrivals [] t has = absurd (cc)
@@ -126,15 +118,6 @@ or_group false b c = refl
 pub live-append : (m : ℕ) (xs ys : List Item) → has_node m (xs ++ ys) ≡ (has_node m xs || has_node m ys)
 live-append m [] ys = refl
 live-append m (x ∷ xs) ys = ap (λ (t : Bool). x.node == m || t) (live-append m xs ys) ∙ or_group (x.node == m) (has_node m xs) (has_node m ys)
-
--- what passed, and where the walk stands next
-pub passed_more : (p : Item → Bool) (xs : List Item) (k : ℕ) (n : Node) (there : At xs k n) → p there.x ≡ false → first_node p (drop k xs) ≡ first_node p xs
-    → first_node p (drop (k + 1) xs) ≡ first_node p xs
-passed_more p xs k n there fails so_far =
-    ap (first_node p) there.later
-    ∙ sym (ap (λ (t : Bool). if t then Some (node there.x.node) else first_node p there.rest) fails)
-    ∙ sym (ap (first_node p) there.here)
-    ∙ so_far
 
 -- the same of a search for a unit, and what it finds here
 pub unit_more : (p : UnitId → Bool) (xs : List Item) (k : ℕ) (n : Node) (there : At xs k n) → p there.x.unit ≡ false → first_unit p (drop k xs) ≡ first_unit p xs

@@ -17,8 +17,8 @@ pub record Queues : Type 0 where
   pub spare : ℕ
 
 -- the unit with its key and its rank
-abbrev pub queued : UnitId → Key → ℕ → Queued
-queued u key rank = record { unit = u; key = key; rank = rank }
+abbrev pub queued_unit : UnitId → Key → ℕ → Queued
+queued_unit u key rank = record { unit = u; key = key; rank = rank }
 
 -- whether a key is less than another: by its first part, then by its second
 abbrev pub is_less : Key → Key → Bool
@@ -34,8 +34,8 @@ put_first p new [] = new ∷ []
 put_first p new (x ∷ xs) = (if p x then new ∷ x ∷ xs else x ∷ put_first p new xs)
 
 -- a unit put at its place
-abbrev pub placed : Queued → List Queued → List Queued
-placed new es = put_first (goes_before new) new es
+abbrev pub list_with : Queued → List Queued → List Queued
+list_with new es = put_first (goes_before new) new es
 
 -- whether it is that unit's
 abbrev pub is_of : UnitId → Queued → Bool
@@ -51,9 +51,9 @@ abbrev pub holds : Queues → UnitId → Bool
 holds q u = has_unit u q.sorted || has_unit u q.others
 
 -- the list without a unit
-abbrev pub without : UnitId → List Queued → List Queued
-without u [] = []
-without u (e ∷ es) = (if is_of u e then without u es else e ∷ without u es)
+abbrev pub list_without : UnitId → List Queued → List Queued
+list_without u [] = []
+list_without u (e ∷ es) = (if is_of u e then list_without u es else e ∷ list_without u es)
 
 -- how many arrived before the unit of the list
 abbrev pub rank_in : UnitId → List Queued → ℕ
@@ -69,31 +69,31 @@ abbrev pub count : Queues → ℕ
 count q = length q.sorted + length q.others
 
 -- with a unit that arrives at its place
-abbrev pub inserted : Queues → UnitId → Key → Queues
-inserted q u key = record q { sorted = placed (queued u key (count q)) q.sorted; spare = q.spare - 1 }
+abbrev pub after_insert : Queues → UnitId → Key → Queues
+after_insert q u key = record q { sorted = list_with (queued_unit u key (count q)) q.sorted; spare = q.spare - 1 }
 
 -- with a unit that arrives among the others
-abbrev pub appended : Queues → UnitId → Key → Queues
-appended q u key = record q { others = q.others ++ queued u key (count q) ∷ []; spare = q.spare - 1 }
+abbrev pub after_append : Queues → UnitId → Key → Queues
+after_append q u key = record q { others = q.others ++ queued_unit u key (count q) ∷ []; spare = q.spare - 1 }
 
 -- a unit, after one that arrived earlier or later is gone
 abbrev pub closed_up : ℕ → Queued → Queued
 closed_up r e = record e { rank = (if nat_lt r e.rank then e.rank - 1 else e.rank) }
 
 -- without a unit
-abbrev pub removed : Queues → UnitId → Queues
-removed q u =
+abbrev pub after_remove : Queues → UnitId → Queues
+after_remove q u =
     record {
-      sorted = map (closed_up (rank_of q u)) (without u q.sorted);
-      others = map (closed_up (rank_of q u)) (without u q.others);
+      sorted = map (closed_up (rank_of q u)) (list_without u q.sorted);
+      others = map (closed_up (rank_of q u)) (list_without u q.others);
       spare = q.spare + 1;
     }
 
 -- with a unit of either list at its place by a new key; its arrival stays
-abbrev pub moved : Queues → UnitId → Key → Queues
-moved q u key =
-    record q { sorted = placed (queued u key (rank_of q u)) (without u q.sorted); others = without u q.others }
+abbrev pub after_move : Queues → UnitId → Key → Queues
+after_move q u key =
+    record q { sorted = list_with (queued_unit u key (rank_of q u)) (list_without u q.sorted); others = list_without u q.others }
 
 -- no unit, and room for so many
-abbrev pub empty : ℕ → Queues
-empty units = record { sorted = []; others = []; spare = units }
+abbrev pub empty_queues : ℕ → Queues
+empty_queues units = record { sorted = []; others = []; spare = units }

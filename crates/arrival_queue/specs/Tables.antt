@@ -4,9 +4,9 @@ use Rattle.sched_base.specs.declared.UnitId.{UnitId}
 use Rattle.sched_base.specs.Units.{number_of}
 use Rattle.unit_places.specs.Places.{has_place, index_of}
 use Rattle.unit_ring.specs.declared.Node.{Node}
-use Rattle.unit_ring.specs.Lists.{Item, Lists, has_node, room_of, taken, appended, put_before}
+use Rattle.unit_ring.specs.Lists.{Item, Lists, has_node, room_of, after_take, after_append, put_before}
 use Rattle.arrival_queue.specs.declared.key.Key.{Key}
-use Rattle.arrival_queue.specs.Queues.{Queued, Queues, queued, is_less, put_first}
+use Rattle.arrival_queue.specs.Queues.{Queued, Queues, queued_unit, is_less, put_first}
 
 -- the key of a node, and the number of its arrival
 abbrev pub key_at : List Key → ℕ → Key
@@ -20,9 +20,9 @@ abbrev pub rank : List ℕ → List Item → ℕ → ℕ
 rank arrivals items a = count_by (λ x. nat_lt (arrival_at arrivals x.node) a) items
 
 -- what callers see of an item
-abbrev pub shown : List Key → List ℕ → List Item → Item → Queued
-shown keys arrivals items x =
-    queued x.unit (key_at keys x.node) (rank arrivals items (arrival_at arrivals x.node))
+abbrev pub shown_unit : List Key → List ℕ → List Item → Item → Queued
+shown_unit keys arrivals items x =
+    queued_unit x.unit (key_at keys x.node) (rank arrivals items (arrival_at arrivals x.node))
 
 -- all items of a ring
 abbrev pub all_items : Lists → List Item
@@ -32,8 +32,8 @@ all_items ring = ring.first ++ ring.second
 abbrev pub queues_of : Lists → List Key → List ℕ → Queues
 queues_of ring keys arrivals =
     record {
-      sorted = map (shown keys arrivals (all_items ring)) ring.first;
-      others = map (shown keys arrivals (all_items ring)) ring.second;
+      sorted = map (shown_unit keys arrivals (all_items ring)) ring.first;
+      others = map (shown_unit keys arrivals (all_items ring)) ring.second;
       spare = ring.spare;
     }
 
@@ -78,18 +78,27 @@ abbrev pub first_node : (Item → Bool) → List Item → Option Node
 first_node p [] = None
 first_node p (x ∷ xs) = (if p x then Some (record { 0 = x.node }) else first_node p xs)
 
+-- once an item passes a test, each after it passes
+abbrev pub EachPasses : (Item → Bool) → List Item → Type 0
+EachPasses p [] = Unit {0}
+EachPasses p (x ∷ xs) = (p x ≡ true) × EachPasses p xs
+
+abbrev pub PassesOn : (Item → Bool) → List Item → Type 0
+PassesOn p [] = Unit {0}
+PassesOn p (x ∷ xs) = (p x ≡ true → EachPasses p xs) × PassesOn p xs
+
 -- the ring with an item before the first of list 0 that passes a test
 abbrev pub put_ring : (Item → Bool) → Item → Lists → Lists
 put_ring p new ring = record ring { first = put_first p new ring.first; spare = ring.spare - 1 }
 
 -- how many numbers are less than one
-abbrev pub below : List ℕ → ℕ → ℕ
-below numbers a = count_by (λ b. nat_lt b a) numbers
+abbrev pub count_below : List ℕ → ℕ → ℕ
+count_below numbers a = count_by (λ b. nat_lt b a) numbers
 
 -- the ring with an item before a node of list 0, or at its end
 abbrev pub ring_with : Option Node → Item → Lists → Lists
-ring_with None new ring = taken (appended ring 0 new)
-ring_with (Some at) new ring = taken (put_before ring at.0 new)
+ring_with None new ring = after_take (after_append ring 0 new)
+ring_with (Some at) new ring = after_take (put_before ring at.0 new)
 
 -- the first unit of the items that passes
 abbrev pub first_unit : (UnitId → Bool) → List Item → Option UnitId

@@ -9,10 +9,10 @@ abbrev pub IsTables : Tables → Type 0
 IsTables t = IsQueue t.ring t.nodes.items t.keys.items t.arrivals.items t.fresh.items t.next
 
 -- what callers see of them
-abbrev pub seen : Tables → Queues
-seen t = queues_of t.ring t.keys.items t.arrivals.items
+abbrev pub seen_queues : Tables → Queues
+seen_queues t = queues_of t.ring t.keys.items t.arrivals.items
 
 -- they are those of their ring, and what callers see of them is in order
 pub record IsWhole (t : Tables) : Type 0 where
   pub tables : IsTables t
-  pub ordered : IsOrdered (seen t)
+  pub ordered : IsOrdered (seen_queues t)

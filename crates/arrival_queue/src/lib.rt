@@ -32,16 +32,16 @@ impl Model for ArrivalQueue {
 
     ghost Value = { Queues };
 
-    ghost use Rattle.arrival_queue.specs.Whole.{seen, IsWhole};
+    ghost use Rattle.arrival_queue.specs.Whole.{seen_queues, IsWhole};
 
-    ghost view = { λ a. seen a.tables };
+    ghost view = { λ a. seen_queues a.tables };
 
     ghost invariant = { λ a. IsWhole a.tables };
 }
 
 impl ArrivalQueue {
     ghost use Rattle.std.specs.Prelude.{◌≡◌, ◌+◌, ◌<◌, ◌≤◌, ◌&&◌, true, false, length, map, IfOk};
-    ghost use Rattle.arrival_queue.specs.Queues.{holds, inserted, appended, removed, moved, without, empty};
+    ghost use Rattle.arrival_queue.specs.Queues.{holds, after_insert, after_append, after_remove, after_move, list_without, empty_queues};
     ghost use Rattle.arrival_queue.specs.Order.{IsOrdered};
     ghost use Rattle.std.specs.Bool.{OnTrue, OnFalse};
     ghost use Rattle.unit_places.specs.Places.{has_place};
@@ -49,7 +49,7 @@ impl ArrivalQueue {
 
     /// A queue with room for so many units.
     pub fn room(alloc: Global, units: usize) -> Result<ArrivalQueue, NoMemory>
-        ensures { IfOk result (λ queue. queue ≡ empty units) }
+        ensures { IfOk result (λ queue. queue ≡ empty_queues units) }
     {
         let tables = make_tables(alloc, units)?;
         Ok(ArrivalQueue { tables })
@@ -60,7 +60,7 @@ impl ArrivalQueue {
         requires place { has_place u ≡ true }
         requires absent { holds self.old u ≡ false }
         requires room { 0 < self.old.spare }
-        ensures after { self.new ≡ inserted self.old u key }
+        ensures after { self.new ≡ after_insert self.old u key }
         ensures cost { steps.new ≤ steps.old + length self.old.sorted + 2 }
     {
         let arrival = arrive(&mut self.tables);
@@ -72,7 +72,7 @@ impl ArrivalQueue {
         requires place { has_place u ≡ true }
         requires absent { holds self.old u ≡ false }
         requires room { 0 < self.old.spare }
-        ensures after { self.new ≡ appended self.old u key }
+        ensures after { self.new ≡ after_append self.old u key }
         ensures cost { steps.new ≡ steps.old + 1 }
     {
         let arrival = arrive(&mut self.tables);
@@ -82,7 +82,7 @@ impl ArrivalQueue {
     /// Takes a unit of either list away. False where it is in neither, and then nothing changes.
     pub fn remove_counted<L: Ledger>(&mut self, u: UnitId, steps: &mut Steps<L>) -> bool
         ensures answer { result ≡ holds self.old u }
-        ensures gone { OnTrue result (self.new ≡ removed self.old u) }
+        ensures gone { OnTrue result (self.new ≡ after_remove self.old u) }
         ensures none { OnFalse result (self.new ≡ self.old) }
         ensures cost { steps.new ≤ steps.old + 1 }
     {
@@ -98,8 +98,8 @@ impl ArrivalQueue {
     /// Puts a unit of either list at its place by another key. Its arrival stays.
     pub fn move_counted<L: Ledger>(&mut self, u: UnitId, key: Key, steps: &mut Steps<L>)
         requires { holds self.old u ≡ true }
-        ensures after { self.new ≡ moved self.old u key }
-        ensures cost { steps.new ≤ steps.old + length (without u self.old.sorted) + 3 }
+        ensures after { self.new ≡ after_move self.old u key }
+        ensures cost { steps.new ≤ steps.old + length (list_without u self.old.sorted) + 3 }
     {
         match find(&self.tables, u) {
             Some(n) => {
@@ -151,7 +151,8 @@ impl ArrivalQueue {
         home: Cores,
         steps: &mut Steps<L>,
     ) -> Option<UnitId>
-        ensures first { result ≡ first_that (λ u. in_domains domains u && may_run masks.now core home u) self.now.sorted }
+        ensures first { result ≡ first_that (λ u. in_domains domains u
+            && may_run masks.now core home u) self.now.sorted }
         ensures cost { steps.new ≤ steps.old + length self.now.sorted + 1 }
     {
         walks::first_on(&self.tables.ring, domains, masks, core, home, steps)

@@ -4,9 +4,9 @@ ghost use Rattle.std.specs.Prelude.{◌≡◌, ℕ, ◌+◌, ◌<◌, ◌≤◌,
 ghost use Rattle.std.specs.Option.{ForSome};
 ghost use Rattle.sched_base.specs.Units.{number_of};
 ghost use Rattle.unit_places.specs.Places.{has_place as placed, index_of as place_index};
-ghost use Rattle.unit_ring.specs.Lists.{item, no_unit, has_node, is_live, without as ring_without, given, taken as ring_taken, appended as ring_appended, empty, room_of};
-ghost use Rattle.arrival_queue.specs.Tables.{all_items, arrival_at, below, comes_before, first_node, has_number, node_of, put_ring, ring_with, Tabled};
-ghost use Rattle.arrival_queue.specs.Whole.{IsTables, seen};
+ghost use Rattle.unit_ring.specs.Lists.{item, no_unit, has_node, is_live, lists_without as ring_without, after_give, after_take as ring_taken, after_append as ring_appended, empty_lists, room_of};
+ghost use Rattle.arrival_queue.specs.Tables.{all_items, arrival_at, count_below, comes_before, first_node, has_number, node_of, PassesOn, put_ring, ring_with, Tabled};
+ghost use Rattle.arrival_queue.specs.Whole.{IsTables, seen_queues};
 
 use crate::key::{Key, is_less};
 use sched_base::{NoMemory, Steps, UnitId};
@@ -38,7 +38,7 @@ fn none_times(alloc: Global, times: usize) -> Result<Vec<Option<Node>>, NoMemory
 /// The tables of an empty ring of so many nodes.
 pub fn make_tables(alloc: Global, units: usize) -> Result<Tables, NoMemory>
     ensures tables { IfOk result (λ tables. IsTables tables) }
-    ensures ring { IfOk result (λ tables. tables.ring ≡ empty units) }
+    ensures ring { IfOk result (λ tables. tables.ring ≡ empty_lists units) }
 {
     let all = units.checked_add(4).ok_or(NoMemory)?;
     Ok(Tables {
@@ -56,7 +56,7 @@ pub fn make_tables(alloc: Global, units: usize) -> Result<Tables, NoMemory>
 
 /// How many of the numbers are less than one.
 fn below_of(numbers: &[u64], a: u64) -> u64
-    ensures value { result ≡ below numbers.now a }
+    ensures value { result ≡ count_below numbers.now a }
     ensures most { result ≤ length numbers.now }
 {
     numbers.iter().filter(|b| **b < a).count() as u64
@@ -65,7 +65,7 @@ fn below_of(numbers: &[u64], a: u64) -> u64
 /// Numbers that have the order of others, and are as small as can be.
 fn number_anew(numbers: &[u64], fresh: &mut [u64])
     requires { length fresh.old ≡ length numbers.now }
-    ensures { fresh.new ≡ map (below numbers.now) numbers.now }
+    ensures { fresh.new ≡ map (count_below numbers.now) numbers.now }
 {
     for i in 0..numbers.len() {
         fresh[i] = below_of(numbers, numbers[i]);
@@ -76,7 +76,8 @@ fn number_anew(numbers: &[u64], fresh: &mut [u64])
 fn comes_before_node(tables: &Tables, key: Key, arrival: u64, n: Node) -> bool
     requires keys { n.0 < length tables.now.keys.items }
     requires arrivals { n.0 < length tables.now.arrivals.items }
-    ensures { result ≡ comes_before tables.now.keys.items tables.now.arrivals.items key arrival (item n.0 no_unit) }
+    ensures { result ≡ comes_before tables.now.keys.items tables.now.arrivals.items key arrival
+        (item n.0 no_unit) }
 {
     let other = tables.keys[n.0 as usize];
     is_less(key, other) || (!is_less(other, key) && arrival < tables.arrivals[n.0 as usize])
@@ -85,30 +86,35 @@ fn comes_before_node(tables: &Tables, key: Key, arrival: u64, n: Node) -> bool
 /// The same of a list on the heap.
 fn number_all(numbers: &Vec<u64>, fresh: &mut Vec<u64>)
     requires { length fresh.old.items ≡ length numbers.now.items }
-    ensures { fresh.new.items ≡ map (below numbers.now.items) numbers.now.items }
+    ensures { fresh.new.items ≡ map (count_below numbers.now.items) numbers.now.items }
 {
     number_anew(numbers.as_slice(), fresh.as_mut_slice());
 }
 
-/// The first node before which a key and an arrival go.
+/// The first node before which a key and an arrival go. The list is in order, so that the walk goes from its end.
 pub fn place_of<L: Ledger>(
     tables: &Tables,
     key: Key,
     arrival: u64,
     steps: &mut Steps<L>,
 ) -> Option<Node>
-    requires { IsTables tables.now }
-    ensures place { result ≡ first_node (comes_before tables.now.keys.items tables.now.arrivals.items key arrival) tables.now.ring.first }
+    requires tables { IsTables tables.now }
+    requires order { PassesOn (comes_before tables.now.keys.items tables.now.arrivals.items key
+        arrival) tables.now.ring.first }
+    ensures place { result ≡ first_node (comes_before tables.now.keys.items
+        tables.now.arrivals.items key arrival) tables.now.ring.first }
     ensures cost { steps.new ≤ steps.old + length tables.now.ring.first + 1 }
 {
-    let mut at = tables.ring.first(0, steps);
+    let mut place = None;
+    let mut at = tables.ring.last(0, steps);
     while let Some(n) = at {
-        if comes_before_node(tables, key, arrival, n) {
-            return Some(n);
+        if !comes_before_node(tables, key, arrival, n) {
+            return place;
         }
-        at = tables.ring.next(n, steps);
+        place = Some(n);
+        at = tables.ring.prev(n, steps);
     }
-    None
+    place
 }
 
 /// Writes what the tables say of a node that has come into the ring.
@@ -118,7 +124,8 @@ fn enter(tables: &mut Tables, n: Node, u: UnitId, key: Key, arrival: u64)
     requires places { length tables.old.nodes.items ≡ 2048 }
     requires place { placed u ≡ true }
     ensures ring { tables.new.ring ≡ tables.old.ring }
-    ensures nodes { tables.new.nodes.items ≡ slice_set tables.old.nodes.items (place_index u) (Some n) }
+    ensures nodes { tables.new.nodes.items ≡ slice_set tables.old.nodes.items (place_index u)
+        (Some n) }
     ensures keys { tables.new.keys.items ≡ slice_set tables.old.keys.items n.0 key }
     ensures arrivals { tables.new.arrivals.items ≡ slice_set tables.old.arrivals.items n.0 arrival }
     ensures fresh { tables.new.fresh.items ≡ tables.old.fresh.items }
@@ -157,12 +164,17 @@ pub fn put<L: Ledger>(
     requires absent { has_number (number_of u) (all_items tables.old.ring) ≡ false }
     requires room { 0 < tables.old.ring.spare }
     requires arrived { arrival < tables.old.next }
+    requires order { PassesOn (comes_before tables.old.keys.items tables.old.arrivals.items key
+        arrival) tables.old.ring.first }
     ensures tables { IsTables tables.new }
     ensures fresh { has_node result.0 (all_items tables.old.ring) ≡ false }
     ensures number { result.0 < length tables.old.arrivals.items }
-    ensures ring { tables.new.ring ≡ put_ring (comes_before tables.old.keys.items tables.old.arrivals.items key arrival) (item result.0 u) tables.old.ring }
+    ensures ring { tables.new.ring ≡ put_ring
+        (comes_before tables.old.keys.items tables.old.arrivals.items key arrival) (item result.0 u)
+        tables.old.ring }
     ensures keys { tables.new.keys.items ≡ slice_set tables.old.keys.items result.0 key }
-    ensures arrivals { tables.new.arrivals.items ≡ slice_set tables.old.arrivals.items result.0 arrival }
+    ensures arrivals { tables.new.arrivals.items
+        ≡ slice_set tables.old.arrivals.items result.0 arrival }
     ensures next { tables.new.next ≡ tables.old.next }
     ensures cost { steps.new ≤ steps.old + length tables.old.ring.first + 2 }
 {
@@ -188,9 +200,11 @@ pub fn append<L: Ledger>(
     ensures tables { IsTables tables.new }
     ensures fresh { has_node result.0 (all_items tables.old.ring) ≡ false }
     ensures number { result.0 < length tables.old.arrivals.items }
-    ensures ring { tables.new.ring ≡ ring_taken (ring_appended tables.old.ring 1 (item result.0 u)) }
+    ensures ring { tables.new.ring ≡ ring_taken
+        (ring_appended tables.old.ring 1 (item result.0 u)) }
     ensures keys { tables.new.keys.items ≡ slice_set tables.old.keys.items result.0 key }
-    ensures arrivals { tables.new.arrivals.items ≡ slice_set tables.old.arrivals.items result.0 arrival }
+    ensures arrivals { tables.new.arrivals.items
+        ≡ slice_set tables.old.arrivals.items result.0 arrival }
     ensures next { tables.new.next ≡ tables.old.next }
     ensures cost { steps.new ≡ steps.old + 1 }
 {
@@ -225,7 +239,7 @@ pub fn take<L: Ledger>(tables: &mut Tables, n: Node, u: UnitId, steps: &mut Step
     requires here { node_of (number_of u) (all_items tables.old.ring) ≡ Some n }
     ensures tables { IsTables tables.new }
     ensures gone { has_number (number_of u) (all_items tables.new.ring) ≡ false }
-    ensures ring { tables.new.ring ≡ given (ring_without tables.old.ring n.0) }
+    ensures ring { tables.new.ring ≡ after_give (ring_without tables.old.ring n.0) }
     ensures keys { tables.new.keys.items ≡ tables.old.keys.items }
     ensures arrivals { tables.new.arrivals.items ≡ tables.old.arrivals.items }
     ensures next { tables.new.next ≡ tables.old.next }
@@ -240,7 +254,7 @@ fn renumber(tables: &mut Tables)
     requires tables { IsTables tables.old }
     ensures tables { IsTables tables.new }
     ensures ring { tables.new.ring ≡ tables.old.ring }
-    ensures seen { seen tables.new ≡ seen tables.old }
+    ensures seen { seen_queues tables.new ≡ seen_queues tables.old }
     ensures room_left { tables.new.next < 18446744073709551615 }
 {
     let count = tables.arrivals.len() as u64;
@@ -254,7 +268,7 @@ fn make_ready(tables: &mut Tables)
     requires tables { IsTables tables.old }
     ensures tables { IsTables tables.new }
     ensures ring { tables.new.ring ≡ tables.old.ring }
-    ensures seen { seen tables.new ≡ seen tables.old }
+    ensures seen { seen_queues tables.new ≡ seen_queues tables.old }
     ensures room_left { tables.new.next < 18446744073709551615 }
 {
     if tables.next == u64::MAX {
@@ -267,9 +281,10 @@ pub fn arrive(tables: &mut Tables) -> u64
     requires tables { IsTables tables.old }
     ensures tables { IsTables tables.new }
     ensures ring { tables.new.ring ≡ tables.old.ring }
-    ensures seen { seen tables.new ≡ seen tables.old }
+    ensures seen { seen_queues tables.new ≡ seen_queues tables.old }
     ensures next { tables.new.next ≡ result + 1 }
-    ensures last { Tabled (length tables.new.arrivals.items) result tables.new.arrivals.items (all_items tables.new.ring) }
+    ensures last { Tabled (length tables.new.arrivals.items) result tables.new.arrivals.items
+        (all_items tables.new.ring) }
 {
     make_ready(tables);
     let arrival = tables.next;

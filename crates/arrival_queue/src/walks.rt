@@ -58,7 +58,8 @@ pub fn first_on<L: Ledger>(
     steps: &mut Steps<L>,
 ) -> Option<UnitId>
     requires { Apart (all_items ring.now) }
-    ensures unit { result ≡ first_unit (λ u. in_domains domains u && may_run masks.now core home u) ring.now.first }
+    ensures unit { result ≡ first_unit (λ u. in_domains domains u && may_run masks.now core home u)
+        ring.now.first }
     ensures cost { steps.new ≤ steps.old + length ring.now.first + 1 }
 {
     let mut at = ring.first(0, steps);

@@ -32,12 +32,15 @@ pub fn burn(c: Credit, weight: u32, max_weight: u32, elapsed: Span) -> Credit
     ensures credit { result.credit ≡ burned_credit c.credit c.residual weight max_weight elapsed.0 }
     ensures residual { result.residual ≡ burned_residual c.residual weight max_weight elapsed.0 }
 
-    ensures nothing_lost { ((c.credit -ℤ result.credit) *ℤ pos weight) +ℤ pos result.residual ≡ pos (elapsed.0 * max_weight + c.residual) }
+    ensures nothing_lost { ((c.credit -ℤ result.credit) *ℤ pos weight) +ℤ pos result.residual
+        ≡ pos (elapsed.0 * max_weight + c.residual) }
     ensures residual_is_part { result.residual < weight }
     ensures never_rises { result.credit ≤ℤ c.credit }
-    ensures falls_at_most { (c.credit -ℤ pos (elapsed.0 * max_weight + c.residual)) ≤ℤ result.credit }
+    ensures falls_at_most { (c.credit -ℤ pos (elapsed.0 * max_weight + c.residual)) ≤ℤ
+        result.credit }
     // A unit whose residual is already a part pays for no more than the span at the greatest weight.
-    ensures falls_by_span { c.residual < weight → (c.credit -ℤ pos (elapsed.0 * max_weight)) ≤ℤ result.credit }
+    ensures falls_by_span { c.residual < weight →
+        (c.credit -ℤ pos (elapsed.0 * max_weight)) ≤ℤ result.credit }
 {
     let charge = elapsed.0 * max_weight as u64 + c.residual as u64;
     Credit {

@@ -48,7 +48,8 @@ pub fn refill(budget: i64, held: i64, total: i64, n: u64) -> i64
     requires few { n ≤ 1000000000 }
     requires held { pos 0 ≤ℤ held }
     requires total { pos 0 ≤ℤ total }
-    ensures exact { result ≡ numbers.refill budget (numbers.above_zero held) (numbers.above_zero total) n }
+    ensures exact { result ≡ numbers.refill budget (numbers.above_zero held)
+        (numbers.above_zero total) n }
     ensures room { result ≤ℤ (total -ℤ held) }
     ensures grows { budget ≤ℤ (total -ℤ held) → budget ≤ℤ result }
 {

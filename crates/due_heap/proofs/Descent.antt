@@ -5,7 +5,7 @@ use Rattle.std.proofs.lemmas.Bool.{cases_lt}
 use Rattle.std.proofs.lemmas.Bool.Decides.{nat_tests}
 use Rattle.sched_base.specs.declared.Moment.{Moment}
 use Rattle.due_heap.specs.Dues.{IsArmed, HasCome, due_of}
-use Rattle.due_heap.specs.Winners.{precedes, is_past, has_come, winner, up, IsAncestor, IsTree}
+use Rattle.due_heap.specs.Winners.{precedes, is_past, has_come, winner, node_above, IsAncestor, IsTree}
 use Rattle.due_heap.proofs.Tree.{ancestor-down, right, root_first, armed_below}
 
 -- where the moment of the one that goes first has not come, that of the other has not
@@ -47,7 +47,7 @@ deeper : (k i : ℕ) → k * 2 ^ suc i ≡ 2 * (k * 2 ^ i)
 deeper k i = let e : 2 ^ suc i ≡ 2 * 2 ^ i = omega arith in ap (λ (q : ℕ). k * q) e ∙ double k (2 ^ i)
 
 -- the nodes that are so many steps below k
-below_node : (i k node : ℕ) → k * 2 ^ i ≤ node → node < k * 2 ^ i + 2 ^ i → up i node ≡ k
+below_node : (i k node : ℕ) → k * 2 ^ i ≤ node → node < k * 2 ^ i + 2 ^ i → node_above i node ≡ k
 below_node zero k node low high = omega (arith, low, high)
 below_node (suc i) k node low high =
     let deep = deeper k i in below_node i k (node / 2) (omega (arith, low, deep)) (omega (arith, high, deep))

@@ -1,11 +1,12 @@
 -- A changed moment is carried up: what is right on the way, and when the rest is.
-use Rattle.std.proofs.Common.{◌≡◌, ◌≢◌, ℕ, ◌+◌, ◌*◌, ◌/◌, ◌^◌, ◌≤◌, ◌<◌, Option, List, length, set, false, sym, ◌∙◌, ap, subst, inl, inr, arith}
+use Rattle.std.proofs.Common.{◌≡◌, ◌≢◌, ℕ, ◌+◌, ◌-◌, ◌*◌, ◌/◌, ◌^◌, ◌≤◌, ◌<◌, Option, List, length, set, Bool, true, false, refl, sym, ◌∙◌, ap, subst, inl, inr, arith}
+use Rattle.std.specs.Prelude.{if◌then◌else◌}
 use Rattle.std.proofs.lemmas.Bool.{cases_eq}
 use Rattle.std.proofs.lemmas.List.{length-set}
 use Rattle.sched_base.specs.declared.Moment.{Moment}
 use Rattle.due_heap.specs.Dues.{due_of}
-use Rattle.due_heap.specs.Winners.{is_before, sooner, winner, IsAncestor, IsFirstUnder, IsTree, IsTreeBut}
-use Rattle.due_heap.proofs.Tree.{not_before-trans, is_before-same, precedes-either, ancestor-self, ancestor-trans, ancestor-parent, ancestor-le, ancestor-cases, ancestor-told, played, winner-set_same, winner-set_other}
+use Rattle.due_heap.specs.Winners.{is_before, sooner_id, winner, IsAncestor, IsFirstUnder, IsTree, IsTreeBut}
+use Rattle.due_heap.proofs.Tree.{not_before-trans, is_before-same, precedes-either, precedes-not_both, ancestor-self, ancestor-trans, ancestor-parent, ancestor-le, ancestor-cases, ancestor-told, played, winner-set_same, winner-set_other}
 
 -- the nodes that are neither k nor above it are right, and k and those above it stand as they did
 pub record IsRising (id : ℕ) (moments before : List (Option Moment)) (winners : List ℕ) (k : ℕ) : Type 0 where
@@ -62,6 +63,31 @@ rise_begins id moments winners below but =
       above = λ j one inside a. but.tree.each j one (omega (arith, inside, size_before));
     }
 
+-- the sooner one of two is so in either order, and of a node and the one beside it
+sooner-swap : (moments : List (Option Moment)) (a b : ℕ) → sooner_id moments a b ≡ sooner_id moments b a
+sooner-swap moments a b = by (is_before moments b a) refl (is_before moments a b) refl
+  where
+    by : (p : Bool) → is_before moments b a ≡ p → (q : Bool) → is_before moments a b ≡ q → (if p then b else a) ≡ (if q then a else b)
+    by true one true two = let no = precedes-not_both (due_of moments a) a (due_of moments b) b one in absurd (cc)
+    by true one false two = refl
+    by false one true two = refl
+    by false one false two = precedes-either (due_of moments a) a (due_of moments b) b two one
+
+pub beside : (moments : List (Option Moment)) (w : ℕ → ℕ) (k : ℕ)
+    → sooner_id moments (w k) (w (4 * (k / 2) + 1 - k)) ≡ sooner_id moments (w (2 * (k / 2))) (w (2 * (k / 2) + 1))
+beside moments w k =
+    elim (cases_eq k (2 * (k / 2))) [
+      | inl even ↦
+          let other : 4 * (k / 2) + 1 - k ≡ 2 * (k / 2) + 1 = omega (arith, even) in
+          ap (λ (j : ℕ). sooner_id moments (w k) (w j)) other ∙ ap (λ (j : ℕ). sooner_id moments (w j) (w (2 * (k / 2) + 1))) even
+      | inr odd ↦
+          let is : k ≡ 2 * (k / 2) + 1 = omega (arith, odd) in
+          let other : 4 * (k / 2) + 1 - k ≡ 2 * (k / 2) = omega (arith, is) in
+          ap (λ (j : ℕ). sooner_id moments (w k) (w j)) other
+          ∙ ap (λ (j : ℕ). sooner_id moments (w j) (w (2 * (k / 2)))) is
+          ∙ sooner-swap moments (w (2 * (k / 2) + 1)) (w (2 * (k / 2)))
+    ]
+
 -- the nodes after k are right
 rise_later : (id : ℕ) (moments before : List (Option Moment)) (winners : List ℕ) (k : ℕ) → IsRising id moments before winners k
     → (j : ℕ) → k < j → j < length moments → IsFirstUnder moments j (winner winners j)
@@ -69,14 +95,14 @@ rise_later id moments before winners k rising j after inside =
     rising.rest j (omega (arith, after)) inside (λ a. let le = ancestor-le j k a in omega (arith, le, after))
 
 rise_played : (id : ℕ) (moments before : List (Option Moment)) (winners : List ℕ) (k : ℕ) → IsRising id moments before winners k → 1 ≤ k
-    → IsFirstUnder moments k (sooner moments (winner winners (2 * k)) (winner winners (2 * k + 1)))
+    → IsFirstUnder moments k (sooner_id moments (winner winners (2 * k)) (winner winners (2 * k + 1)))
 rise_played id moments before winners k rising some =
     played moments winners k rising.size some rising.inner (rise_later id moments before winners k rising)
 
 pub rise_on : (id : ℕ) (moments before : List (Option Moment)) (winners : List ℕ) (k : ℕ) → IsRising id moments before winners k → 1 ≤ k
-    → IsRising id moments before (set winners k (sooner moments (winner winners (2 * k)) (winner winners (2 * k + 1)))) (k / 2)
+    → IsRising id moments before (set winners k (sooner_id moments (winner winners (2 * k)) (winner winners (2 * k + 1)))) (k / 2)
 rise_on id moments before winners k rising some =
-    let w = sooner moments (winner winners (2 * k)) (winner winners (2 * k + 1)) in
+    let w = sooner_id moments (winner winners (2 * k)) (winner winners (2 * k + 1)) in
     let size = rising.size in
     let inner = rising.inner in
     record {
@@ -115,7 +141,7 @@ rise_ends id moments before winners k rising end = record {
 
 -- where the winner at k stays and is not the changed id, those above are right too
 pub rise_rests : (id : ℕ) (moments before : List (Option Moment)) (winners : List ℕ) (k : ℕ) → IsRising id moments before winners k → 1 ≤ k
-    → winner winners k ≡ sooner moments (winner winners (2 * k)) (winner winners (2 * k + 1)) → winner winners k ≢ id
+    → winner winners k ≡ sooner_id moments (winner winners (2 * k)) (winner winners (2 * k + 1)) → winner winners k ≢ id
     → IsTree moments winners
 rise_rests id moments before winners k rising some stays other_id = record {
   few = rising.few;

@@ -126,6 +126,53 @@ come_more moments t among id rest rest_new come come_new low without put are = r
   ];
 }
 
+-- the ids of a set that are no longer to be looked at, and whose moment has not come at t
+abbrev pub is_sifted : List (Option Moment) → ℕ → ℕ → ℕ → ℕ → Bool
+is_sifted moments t among rest id = (has_id among id && not (has_id rest id)) && not (has_come moments t id)
+
+and_left : (p q : Bool) → (p && q) ≡ true → p ≡ true
+and_left true q both = refl
+and_left false q both = both
+
+and_right : (p q : Bool) → (p && q) ≡ true → q ≡ true
+and_right true q both = both
+and_right false q both = let wrong : false ≡ true = both in absurd (cc)
+
+not_both : (b : Bool) → b ≡ true → not b ≡ true → ⊥
+not_both true is is_not = let wrong : false ≡ true = is_not in absurd (cc)
+not_both false is is_not = let wrong : false ≡ true = is in absurd (cc)
+
+pub sift_more : (moments : List (Option Moment)) (t among id rest rest_new : ℕ) → length moments ≤ 64 → ChangesId id false rest rest_new
+    → (first : Option (Moment × ℕ)) (due : Option Moment) → due_of moments id ≡ due → (come : Bool) → come ≡ has_come moments t id
+    → IsFirstAmong moments (is_sifted moments t among rest) first
+    → IsFirstAmong moments (is_sifted moments t among rest_new) (first_with first (if come then None else due) id)
+sift_more moments t among id rest rest_new few change first due is = by
+  where
+    before : (other : ℕ) (m : Moment) → IsArmed moments other m → is_sifted moments t among rest_new other ≡ true → other ≢ id → is_sifted moments t among rest other ≡ true
+    before other m armed has ne =
+        ap (λ (b : Bool). b && not (has_come moments t other)) (looked_before moments among id rest rest_new few change other m armed (and_left (has_id among other && not (has_id rest_new other)) (not (has_come moments t other)) has) ne)
+        ∙ and_right (has_id among other && not (has_id rest_new other)) (not (has_come moments t other)) has
+
+    by : (come : Bool) → come ≡ has_come moments t id → IsFirstAmong moments (is_sifted moments t among rest) first
+        → IsFirstAmong moments (is_sifted moments t among rest_new) (first_with first (if come then None else due) id)
+    by true come so_far =
+        among_fewer moments (is_sifted moments t among rest) (is_sifted moments t among rest_new) first
+        (λ other m armed has. elim (ℕ_discrete other id) [
+          | yes e ↦
+              absurd (not_both (has_come moments t id) (sym come)
+              (subst (λ (k : ℕ). not (has_come moments t k) ≡ true) e (and_right (has_id among other && not (has_id rest_new other)) (not (has_come moments t other)) has)))
+          | no ne ↦ before other m armed has ne
+        ]) so_far
+    by false come so_far = among_more moments (is_sifted moments t among rest) (is_sifted moments t among rest_new) id before first due is so_far
+
+pub all_sifted : (moments : List (Option Moment)) (t among rest : ℕ) (first : Option (Moment × ℕ)) → ((id : ℕ) → has_id rest id ≡ false)
+    → IsFirstAmong moments (is_sifted moments t among rest) first → IsFirstAmong moments (λ id. has_id among id && not (has_come moments t id)) first
+all_sifted moments t among rest first none is =
+    among_fewer moments (is_sifted moments t among rest) (λ (id : ℕ). has_id among id && not (has_come moments t id)) first
+    (λ id m armed has.
+    ap (λ (b : Bool). b && not (has_come moments t id)) (all_looked_at among rest none id (and_left (has_id among id) (not (has_come moments t id)) has))
+    ∙ and_right (has_id among id) (not (has_come moments t id)) has) is
+
 -- ---- one id takes its moment, or none
 
 pub taken : (moments : List (Option Moment)) (id : ℕ) (due : Option Moment) (old new : Words) → id < length moments → TakesDue id due old new
@@ -162,9 +209,6 @@ past_is t at low = grind (arith, nat_tests, low)
 
 not_past_is : (t : ℕ) (at : Moment) → t < at.0 → is_past t (Some at) ≡ false
 not_past_is t at high = grind (arith, nat_tests, high)
-
-after_of : (t : ℕ) (at : Moment) → is_past t (Some at) ≡ false → t < at.0
-after_of t at e = grind (arith, nat_tests, e)
 
 past_same : (told t : ℕ) (due : Option Moment) → told ≤ t → ((at : Moment) → due ≡ Some at → told < at.0 → t < at.0) → is_past t due ≡ is_past told due
 past_same told t None le none = refl
@@ -240,6 +284,24 @@ told_looked moments words t come both later first bound are le come_is both_is l
     by None e is id at has armed = absurd (is id at has armed)
     by (Some due) e is id at has armed = subst (λ (b : Moment × ℕ). GoesFirst b.0 b.1 at id) (sym e) (is.1 id at has armed)
 
+-- the first of those that have not come is the first of the later ones that stay
+pub later_first : (moments : List (Option Moment)) (words : Words) (t come later : ℕ) (first : Option (Moment × ℕ)) → AreWords moments words
+    → ((id : ℕ) → id < 64 → has_id come id ≡ (has_id words.later id && has_come moments t id))
+    → ((id : ℕ) → id < 64 → has_id later id ≡ (has_id words.later id && not (has_id come id)))
+    → IsFirstAmong moments (λ id. has_id words.later id && not (has_come moments t id)) first → IsFirstAmong moments (has_id later) first
+later_first moments words t come later first are come_is later_is_of is =
+    among_fewer moments (λ (id : ℕ). has_id words.later id && not (has_come moments t id)) (has_id later) first
+    (λ id at armed has.
+    let lt = armed_below moments id at armed in
+    let few = are.few in
+    let in_words : id < 64 = omega (arith, lt, few) in
+    not_come (has_id words.later id) (has_come moments t id)
+    (ap (λ (b : Bool). has_id words.later id && not b) (sym (come_is id in_words)) ∙ sym (later_is_of id in_words) ∙ has)) is
+  where
+    not_come : (later come : Bool) → (later && not (later && come)) ≡ true → (later && not come) ≡ true
+    not_come true come e = e
+    not_come false come e = e
+
 -- ---- the least id that has come, and the first armed id
 
 pub lowest_come : (moments : List (Option Moment)) (words : Words) (t : ℕ) (first : Option ℕ) → AreWords moments words
@@ -255,9 +317,6 @@ lowest_come moments words t (Some first) are same none low = (
   λ id h.
       let first_few = low.few in same id ∙ sym (are.come id (omega (arith, h, first_few))) ∙ low.below id h,
 )
-
-not_yet : (t : ℕ) (moments : List (Option Moment)) (id : ℕ) (at : Moment) → has_come moments t id ≡ false → IsArmed moments id at → t < at.0
-not_yet t moments id at not armed = after_of t at (ap (is_past t) (sym armed) ∙ not)
 
 pub come_some : (moments : List (Option Moment)) (t : ℕ) (first : Option ℕ) → IsFirstCome moments t first → IfSome first (λ id. HasCome moments t id)
 come_some moments t None is = tt
@@ -277,3 +336,40 @@ all_told moments words both first are both_is is =
     let in_words : id < 64 = omega (arith, lt, few) in
     both_is id ∙ ap (λ (b : Bool). b || has_id words.later id) (are.come id in_words) ∙ ap (λ (b : Bool). has_come moments words.told.0 id || b) (are.later id in_words)
     ∙ ap (λ (due : Option Moment). is_past words.told.0 due || is_later words.told.0 due) armed ∙ either (is_past words.told.0 (Some at))) is
+
+-- ---- the walk that finds the least armed id that has come
+
+-- none has come of those that are no longer to be looked at
+abbrev pub AreLookedAt : List (Option Moment) → ℕ → ℕ → Type 0
+AreLookedAt moments t rest = (id : ℕ) → id < 64 → has_id rest id ≡ false → has_come moments t id ≡ false
+
+unarmed : (told t : ℕ) (due : Option Moment) → (is_past told due || is_later told due) ≡ false → is_past t due ≡ false
+unarmed told t None none = refl
+unarmed told t (Some at) none = let yes = either (is_past told (Some at)) in absurd (cc)
+
+pub all_armed : (moments : List (Option Moment)) (words : Words) (both t : ℕ) → AreWords moments words
+    → ((id : ℕ) → has_id both id ≡ (has_id words.come id || has_id words.later id)) → AreLookedAt moments t both
+all_armed moments words both t are both_is = λ id few none.
+    unarmed words.told.0 t (due_of moments id)
+    (ap (λ (b : Bool). b || is_later words.told.0 (due_of moments id)) (sym (are.come id few))
+    ∙ ap (λ (b : Bool). has_id words.come id || b) (sym (are.later id few))
+    ∙ sym (both_is id)
+    ∙ none)
+
+pub looked_more : (moments : List (Option Moment)) (t id rest rest_new : ℕ) → ChangesId id false rest rest_new → has_come moments t id ≡ false
+    → AreLookedAt moments t rest → AreLookedAt moments t rest_new
+looked_more moments t id rest rest_new change not_come are = λ other few none. elim (ℕ_discrete other id) [
+  | yes e ↦ subst (λ (k : ℕ). has_come moments t k ≡ false) (sym e) not_come
+  | no ne ↦ are other few (sym (change.others other few ne) ∙ none)
+]
+
+pub looked_some : (moments : List (Option Moment)) (t id rest : ℕ) → IsLowest rest id → has_come moments t id ≡ true
+    → AreLookedAt moments t rest → IsFirstCome moments t (Some id)
+looked_some moments t id rest low come are = (come, λ other h. let few = low.few in are other (omega (arith, few, h)) (low.below other h))
+
+pub looked_none : (moments : List (Option Moment)) (words : Words) (t rest : ℕ) → AreWords moments words → ((id : ℕ) → has_id rest id ≡ false)
+    → AreLookedAt moments t rest → IsFirstCome moments t None
+looked_none moments words t rest words_are none are = λ id. elim (cases_lt id 64) [
+  | inl few ↦ are id few (none id)
+  | inr past ↦ let few = words_are.few in ap (is_past t) (get_or_past moments id None (omega (arith, past, few)))
+]

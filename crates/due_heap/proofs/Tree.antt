@@ -6,7 +6,7 @@ use Rattle.std.proofs.lemmas.Bool.Decides.{nat_tests}
 use Rattle.std.proofs.lemmas.List.{set-get_or, get_or_read, get_or-set_same, get_or-set_other, get_or_past, length-set}
 use Rattle.sched_base.specs.declared.Moment.{Moment}
 use Rattle.due_heap.specs.Dues.{IsArmed, GoesFirst, due_of}
-use Rattle.due_heap.specs.Winners.{precedes, is_before, sooner, winner, up, IsAncestor, IsFirstUnder, IsTree}
+use Rattle.due_heap.specs.Winners.{precedes, is_before, sooner_id, winner, node_above, IsAncestor, IsFirstUnder, IsTree}
 
 -- of three, where the second does not go before the first, nor the third before the second, the third does not go before the first
 precedes-trans : (x : Option Moment) (a : ℕ) (y : Option Moment) (b : ℕ) (z : Option Moment) (c : ℕ)
@@ -19,7 +19,7 @@ precedes-trans None a (Some y) b z c p q = let e : true ≡ false = p in absurd 
 precedes-trans None a None b (Some z) c p q = let e : true ≡ false = q in absurd (cc)
 precedes-trans None a None b None c p q = grind (arith, nat_tests, p, q)
 
-precedes-not_both : (x : Option Moment) (a : ℕ) (y : Option Moment) (b : ℕ) → precedes y b x a ≡ true → precedes x a y b ≡ false
+pub precedes-not_both : (x : Option Moment) (a : ℕ) (y : Option Moment) (b : ℕ) → precedes y b x a ≡ true → precedes x a y b ≡ false
 precedes-not_both (Some x) a (Some y) b p = grind (arith, nat_tests, p)
 precedes-not_both (Some x) a None b p = let e : false ≡ true = p in absurd (cc)
 precedes-not_both None a (Some y) b p = refl
@@ -47,17 +47,17 @@ is_before-same before moments a b p q =
     ap (λ (x : Option Moment). precedes x a (due_of before b) b) p ∙ ap (λ (y : Option Moment). precedes (due_of moments a) a y b) q
 
 -- the node above one that is some steps up
-up-half : (steps node : ℕ) → up steps node / 2 ≡ up (suc steps) node
+up-half : (steps node : ℕ) → node_above steps node / 2 ≡ node_above (suc steps) node
 up-half zero node = refl
 up-half (suc steps) node = up-half steps (node / 2)
 
-up-add : (a b node : ℕ) → up a (up b node) ≡ up (b + a) node
-up-add a zero node = let e : a ≡ 0 + a = omega arith in ap (λ (n : ℕ). up n node) e
+up-add : (a b node : ℕ) → node_above a (node_above b node) ≡ node_above (b + a) node
+up-add a zero node = let e : a ≡ 0 + a = omega arith in ap (λ (n : ℕ). node_above n node) e
 up-add a (suc b) node =
     let e : suc (b + a) ≡ suc b + a = omega arith in
-    up-add a b (node / 2) ∙ ap (λ (n : ℕ). up n node) e
+    up-add a b (node / 2) ∙ ap (λ (n : ℕ). node_above n node) e
 
-up-le : (steps node : ℕ) → up steps node ≤ node
+up-le : (steps node : ℕ) → node_above steps node ≤ node
 up-le zero node = omega arith
 up-le (suc steps) node = let le = up-le steps (node / 2) in omega (arith, le)
 
@@ -68,7 +68,7 @@ ancestor-self k = record { steps = 0; is = refl }
 pub ancestor-trans : (j k node : ℕ) → IsAncestor j k → IsAncestor k node → IsAncestor j node
 ancestor-trans j k node high low = record {
   steps = low.steps + high.steps;
-  is = sym (up-add high.steps low.steps node) ∙ ap (up high.steps) low.is ∙ high.is;
+  is = sym (up-add high.steps low.steps node) ∙ ap (node_above high.steps) low.is ∙ high.is;
 }
 
 pub ancestor-parent : (k node : ℕ) → IsAncestor k node → IsAncestor (k / 2) node
@@ -81,7 +81,7 @@ ancestor-le k node a = let le = up-le a.steps node in let is = a.is in omega (ar
 pub ancestor-cases : (k node : ℕ) → IsAncestor k node → (k ≡ node) ⊎ IsAncestor k (node / 2)
 ancestor-cases k node a = by a.steps a.is
   where
-    by : (steps : ℕ) → up steps node ≡ k → (k ≡ node) ⊎ IsAncestor k (node / 2)
+    by : (steps : ℕ) → node_above steps node ≡ k → (k ≡ node) ⊎ IsAncestor k (node / 2)
     by zero is = inl (sym is)
     by (suc steps) is = inr record { steps = steps; is = is }
 
@@ -89,11 +89,11 @@ ancestor-cases k node a = by a.steps a.is
 pub ancestor-down : (k node : ℕ) → IsAncestor k node → (k ≡ node) ⊎ (IsAncestor (2 * k) node ⊎ IsAncestor (2 * k + 1) node)
 ancestor-down k node a = by a.steps a.is
   where
-    by : (steps : ℕ) → up steps node ≡ k → (k ≡ node) ⊎ (IsAncestor (2 * k) node ⊎ IsAncestor (2 * k + 1) node)
+    by : (steps : ℕ) → node_above steps node ≡ k → (k ≡ node) ⊎ (IsAncestor (2 * k) node ⊎ IsAncestor (2 * k + 1) node)
     by zero is = inl (sym is)
     by (suc steps) is =
         let half = up-half steps node in
-        elim (cases_eq (up steps node) (2 * k)) [
+        elim (cases_eq (node_above steps node) (2 * k)) [
           | inl e ↦ inr (inl record { steps = steps; is = e })
           | inr ne ↦ inr (inr record { steps = steps; is = omega (arith, is, half, ne) })
         ]
@@ -142,7 +142,7 @@ leaf_first moments id below = record {
 
 -- the sooner one of the first two under two nodes is the first under the node above
 sooner_first : (moments : List (Option Moment)) (k a b : ℕ) → k < length moments
-    → IsFirstUnder moments (2 * k) a → IsFirstUnder moments (2 * k + 1) b → IsFirstUnder moments k (sooner moments a b)
+    → IsFirstUnder moments (2 * k) a → IsFirstUnder moments (2 * k + 1) b → IsFirstUnder moments k (sooner_id moments a b)
 sooner_first moments k a b inner left right =
     elim (is_before moments b a) as (λ test. is_before moments b a ≡ test → IsFirstUnder moments k (if test then b else a)) [
       | true ↦ λ e. record {
@@ -208,7 +208,7 @@ right moments winners tree k some below =
 -- where the nodes after k are right, so is what is played at k
 pub played : (moments : List (Option Moment)) (winners : List ℕ) (k : ℕ) → length winners ≡ length moments → 1 ≤ k → k < length moments
     → ((j : ℕ) → k < j → j < length moments → IsFirstUnder moments j (winner winners j))
-    → IsFirstUnder moments k (sooner moments (winner winners (2 * k)) (winner winners (2 * k + 1)))
+    → IsFirstUnder moments k (sooner_id moments (winner winners (2 * k)) (winner winners (2 * k + 1)))
 played moments winners k size some inner later =
     sooner_first moments k (winner winners (2 * k)) (winner winners (2 * k + 1)) inner
     (child (2 * k) (omega (arith, some)) (omega (arith, inner))) (child (2 * k + 1) (omega (arith, some)) (omega (arith, inner)))
@@ -226,9 +226,9 @@ pub record IsRightFrom (k : ℕ) (moments : List (Option Moment)) (winners : Lis
   pub each : (j : ℕ) → 1 ≤ j → k ≤ j → j < length moments → IsFirstUnder moments j (winner winners j)
 
 pub right_from : (k : ℕ) (moments : List (Option Moment)) (winners : List ℕ) → 1 ≤ k → k < length moments → IsRightFrom (suc k) moments winners
-    → IsRightFrom k moments (set winners k (sooner moments (winner winners (2 * k)) (winner winners (2 * k + 1))))
+    → IsRightFrom k moments (set winners k (sooner_id moments (winner winners (2 * k)) (winner winners (2 * k + 1))))
 right_from k moments winners some inner from =
-    let id = sooner moments (winner winners (2 * k)) (winner winners (2 * k + 1)) in
+    let id = sooner_id moments (winner winners (2 * k)) (winner winners (2 * k + 1)) in
     let len = length-set winners k id in
     let size = from.size in
     record {

@@ -16,8 +16,8 @@ abbrev pub is_before : List (Option Moment) → ℕ → ℕ → Bool
 is_before moments a b = precedes (due_of moments a) a (due_of moments b) b
 
 -- of two ids the one that goes first
-abbrev pub sooner : List (Option Moment) → ℕ → ℕ → ℕ
-sooner moments a b = (if is_before moments b a then b else a)
+abbrev pub sooner_id : List (Option Moment) → ℕ → ℕ → ℕ
+sooner_id moments a b = (if is_before moments b a then b else a)
 
 -- whether there is a moment and it has come at t
 abbrev pub is_past : ℕ → Option Moment → Bool
@@ -33,14 +33,14 @@ abbrev pub winner : List ℕ → ℕ → ℕ
 winner winners k = (if nat_lt k (length winners) then slice_index_or winners k 0 else k - length winners)
 
 -- the node so many steps above another
-abbrev pub up : ℕ → ℕ → ℕ
-up zero node = node
-up (suc steps) node = up steps (node / 2)
+abbrev pub node_above : ℕ → ℕ → ℕ
+node_above zero node = node
+node_above (suc steps) node = node_above steps (node / 2)
 
 -- the node k is the other node or above it
 pub record IsAncestor (k node : ℕ) : Type 0 where
   pub steps : ℕ
-  pub is : up steps node ≡ k
+  pub is : node_above steps node ≡ k
 
 -- the id is the first of those whose leaves are under the node k
 pub record IsFirstUnder (moments : List (Option Moment)) (k id : ℕ) : Type 0 where

@@ -5,7 +5,7 @@
 //! A node holds no more than the id, whose moment stands in a list of its own: 18 bytes an id.
 #![tactic(auto)]
 
-ghost use Rattle.std.specs.Prelude.{ℕ, ◌≡◌, ◌+◌, ◌*◌, ◌^◌, ◌<◌, ◌≤◌, length, true, false, if◌then◌else◌};
+ghost use Rattle.std.specs.Prelude.{ℕ, ◌≡◌, ◌+◌, ◌*◌, ◌/◌, ◌^◌, ◌<◌, ◌≤◌, length, true, false, if◌then◌else◌};
 ghost use Rattle.due_heap.specs.Dues.{IsPowerOfTwo};
 ghost use Rattle.due_heap.specs.Winners.{IsTree, IsTreeBut};
 ghost use Rattle.due_heap.specs.Winners as tree;
@@ -57,7 +57,8 @@ fn winner(winners: &[u16], k: usize) -> u16
 fn play(moments: &[Option<Moment>], winners: &[u16], k: usize) -> u16
     requires few { length winners.now ≤ 2 ^ 16 }
     requires inner { k < length winners.now }
-    ensures { result ≡ tree.sooner moments.now (tree.winner winners.now (2 * k)) (tree.winner winners.now (2 * k + 1)) }
+    ensures { result ≡ tree.sooner_id moments.now (tree.winner winners.now (2 * k))
+        (tree.winner winners.now (2 * k + 1)) }
 {
     sooner(moments, winner(winners, 2 * k), winner(winners, 2 * k + 1))
 }
@@ -75,21 +76,34 @@ fn play_all(moments: &[Option<Moment>], winners: &mut [u16])
     }
 }
 
+/// The sooner one of the winner at a node and the winner at the node beside it, which is under the same node.
+fn play_beside(moments: &[Option<Moment>], winners: &[u16], k: usize, first: u16) -> u16
+    requires few { length winners.now ≤ 2 ^ 16 }
+    requires under { 2 ≤ k }
+    requires inside { k < 2 * length winners.now }
+    requires first { first ≡ tree.winner winners.now k }
+    ensures { result ≡ tree.sooner_id moments.now (tree.winner winners.now (2 * (k / 2)))
+        (tree.winner winners.now (2 * (k / 2) + 1)) }
+{
+    sooner(moments, first, winner(winners, 4 * (k / 2) + 1 - k))
+}
+
 /// Carries the changed moment of an id from its leaf up to the root.
 fn settle(moments: &[Option<Moment>], winners: &mut [u16], id: u16)
     requires id { id < length moments.now }
     requires but { IsTreeBut id moments.now winners.old }
     ensures { IsTree moments.now winners.new }
 {
-    let mut k = (winners.len() + id as usize) / 2;
-    while k > 0 {
-        let first = play(moments, winners, k);
+    let mut first = id;
+    let mut k = winners.len() + id as usize;
+    while k > 1 {
+        first = play_beside(moments, winners, k, first);
+        k /= 2;
         // Where the changed id wins, the nodes above that hold it are played again with its new moment.
         if winners[k] == first && first != id {
             return;
         }
         winners[k] = first;
-        k /= 2;
     }
 }
 
@@ -97,7 +111,8 @@ fn settle(moments: &[Option<Moment>], winners: &mut [u16], id: u16)
 fn below(moments: &[Option<Moment>], winners: &[u16], k: usize, t: Moment) -> usize
     requires few { length winners.now ≤ 2 ^ 16 }
     requires inner { k < length winners.now }
-    ensures { result ≡ (if tree.has_come moments.now t.0 (tree.winner winners.now (2 * k)) then 2 * k else 2 * k + 1) }
+    ensures { result ≡ (if tree.has_come moments.now t.0 (tree.winner winners.now (2 * k)) then 2 *
+        k else 2 * k + 1) }
 {
     if has_come(moments, winner(winners, 2 * k), t) {
         2 * k
@@ -169,9 +184,11 @@ impl DueHeap {
     /// a power of two.
     pub fn first_due(&self, t: Moment) -> Option<u16>
         requires power { IsPowerOfTwo (length self.now) }
-        ensures none { IfNone result ((id : ℕ) (at : Moment) → IsArmed self.now id at → t.0 < at.0) }
+        ensures none { IfNone result ((id : ℕ) (at : Moment) → IsArmed self.now id at →
+            t.0 < at.0) }
         ensures come { IfSome result (λ id. HasCome self.now t.0 id) }
-        ensures first { IfSome result (λ id. (other : ℕ) → HasCome self.now t.0 other → id ≤ other) }
+        ensures first { IfSome result (λ id. (other : ℕ) → HasCome self.now t.0 other → id
+            ≤ other) }
     {
         let root = winner(self.winners.as_slice(), 1);
         if !has_come(self.moments.as_slice(), root, t) {
@@ -184,7 +201,8 @@ impl DueHeap {
     pub fn least(&self) -> Option<(Moment, u16)>
         ensures none { IfNone result ((id : ℕ) (at : Moment) → ¬ IsArmed self.now id at) }
         ensures armed { IfSome result (λ due. IsArmed self.now due.1 due.0) }
-        ensures first { IfSome result (λ due. (id : ℕ) (at : Moment) → IsArmed self.now id at → GoesFirst due.0 due.1 at id) }
+        ensures first { IfSome result (λ due. (id : ℕ) (at : Moment) → IsArmed self.now id at →
+            GoesFirst due.0 due.1 at id) }
     {
         let root = winner(self.winners.as_slice(), 1);
         match due_of(self.moments.as_slice(), root) {

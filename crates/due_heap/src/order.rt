@@ -31,7 +31,7 @@ fn is_before(moments: &[Option<Moment>], a: u16, b: u16) -> bool
 
 /// Of two ids the one that goes first.
 pub fn sooner(moments: &[Option<Moment>], a: u16, b: u16) -> u16
-    ensures { result ≡ winners.sooner moments.now a b }
+    ensures { result ≡ winners.sooner_id moments.now a b }
 {
     if is_before(moments, b, a) { b } else { a }
 }

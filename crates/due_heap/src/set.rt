@@ -4,7 +4,7 @@
 //! operations on words, and the least of the ids that have come is the lowest bit of a word. Beside them stands a bound: no id that is
 //! later goes before it. Before the bound's moment nothing more comes, so that moments are told without a look at any id.
 
-ghost use Rattle.std.specs.Prelude.{ℕ, ◌≡◌, ◌<◌, ◌≤◌, ◌^◌, ◌&&◌, true, false, length, IsTrue, IfNone, IfSome};
+ghost use Rattle.std.specs.Prelude.{ℕ, ◌≡◌, ◌<◌, ◌≤◌, ◌^◌, ◌&&◌, not, true, false, if◌then◌else◌, length, IsTrue, IfNone, IfSome};
 ghost use Rattle.due_heap.specs.Dues.{IsArmed, GoesFirst};
 ghost use Rattle.due_heap.specs.Winners.{precedes, has_come as has_come_spec};
 ghost use Rattle.due_heap.specs.Words.{AreWords, IsFirstAmong, IsFirstCome, TakesDue, first_with as first_with_spec, has_id};
@@ -122,17 +122,32 @@ fn first_of(moments: &[Option<Moment>], set: u64) -> Option<(Moment, u16)>
     first
 }
 
-/// Those of a set whose moment has come at t.
-fn come_of(moments: &[Option<Moment>], set: u64, t: Moment) -> u64
-    ensures { (id : ℕ) → id < 64 → has_id result id ≡ (has_id set id && has_come_spec moments.now t.0 id) }
+/// A moment, or none where it has come.
+#[inline]
+fn still_due(due: Option<Moment>, come: bool) -> Option<Moment>
+    ensures { result ≡ (if come then None else due) }
+{
+    if come { None } else { due }
+}
+
+/// Those of a set whose moment has come at t, and the first of the others, by moment, then by id.
+fn sift(moments: &[Option<Moment>], set: u64, t: Moment) -> (u64, Option<(Moment, u16)>)
+    requires { length moments.now ≤ 64 }
+    ensures come { (id : ℕ) → id < 64 → has_id result.0 id
+        ≡ (has_id set id && has_come_spec moments.now t.0 id) }
+    ensures first { IsFirstAmong moments.now (λ id. has_id set id
+        && not (has_come_spec moments.now t.0 id)) result.1 }
 {
     let mut rest = set;
     let mut come = 0;
+    let mut first = None;
     while let Some(id) = lowest(rest) {
         rest = without(rest, id);
-        come = put_id(come, id, has_come(moments, id, t));
+        let is_past = has_come(moments, id, t);
+        come = put_id(come, id, is_past);
+        first = first_with(first, still_due(due_of(moments, id), is_past), id);
     }
-    come
+    (come, first)
 }
 
 /// A moment is told at which an id may come.
@@ -142,12 +157,11 @@ fn look(moments: &[Option<Moment>], t: Moment, words: &mut Words)
     requires after { words.old.told.0 ≤ t.0 }
     ensures { AreWords moments.now words.new }
 {
-    let come = come_of(moments, words.later, t);
-    let later = difference(words.later, come);
-    let (soon, next) = first_of(moments, later).unwrap_or((words.soon, words.next));
+    let (come, first) = sift(moments, words.later, t);
+    let (soon, next) = first.unwrap_or((words.soon, words.next));
     words.told = t;
     words.come = union(words.come, come);
-    words.later = later;
+    words.later = difference(words.later, come);
     words.soon = soon;
     words.next = next;
 }
@@ -168,16 +182,18 @@ fn tell(moments: &[Option<Moment>], t: Moment, words: &mut Words)
     }
 }
 
-/// The least id whose moment has come at t, by a look at each.
+/// The least id whose moment has come at t, by a look at each that is armed.
 #[inline(never)]
-fn first_by_look(moments: &[Option<Moment>], t: Moment) -> Option<u16>
-    requires { length moments.now ≤ 64 }
+fn first_by_look(moments: &[Option<Moment>], t: Moment, words: &Words) -> Option<u16>
+    requires { AreWords moments.now words.now }
     ensures { IsFirstCome moments.now t.0 result }
 {
-    for i in 0..moments.len() {
-        if has_come(moments, i as u16, t) {
-            return Some(i as u16);
+    let mut rest = union(words.come, words.later);
+    while let Some(id) = lowest(rest) {
+        if has_come(moments, id, t) {
+            return Some(id);
         }
+        rest = without(rest, id);
     }
     None
 }
@@ -191,7 +207,7 @@ fn is_at_hand(words: &Words, t: Moment) -> bool
     t.0 == words.told.0 || (words.told.0 < t.0 && t.0 < words.soon.0)
 }
 
-/// The least id whose moment has come at t, at hand or by a look at each.
+/// The least id whose moment has come at t, at hand or by a look at each that is armed.
 #[inline]
 fn first_come(moments: &[Option<Moment>], t: Moment, words: &Words) -> Option<u16>
     requires { AreWords moments.now words.now }
@@ -200,7 +216,7 @@ fn first_come(moments: &[Option<Moment>], t: Moment, words: &Words) -> Option<u1
     if is_at_hand(words, t) {
         lowest(words.come)
     } else {
-        first_by_look(moments, t)
+        first_by_look(moments, t, words)
     }
 }
 
@@ -278,12 +294,14 @@ impl DueSet {
     }
 
     /// The least of the ids whose moment has come at t, in a few steps where t is the moment last told or nothing comes from that one
-    /// up to t, else by a look at each. `None` where none has come.
+    /// up to t, else by a look at each that is armed. `None` where none has come.
     #[inline]
     pub fn first_due(&self, t: Moment) -> Option<u16>
-        ensures none { IfNone result ((id : ℕ) (at : Moment) → IsArmed self.now id at → t.0 < at.0) }
+        ensures none { IfNone result ((id : ℕ) (at : Moment) → IsArmed self.now id at →
+            t.0 < at.0) }
         ensures come { IfSome result (λ id. HasCome self.now t.0 id) }
-        ensures first { IfSome result (λ id. (other : ℕ) → HasCome self.now t.0 other → id ≤ other) }
+        ensures first { IfSome result (λ id. (other : ℕ) → HasCome self.now t.0 other → id
+            ≤ other) }
     {
         first_come(self.moments.as_slice(), t, &self.words)
     }
@@ -292,7 +310,8 @@ impl DueSet {
     pub fn least(&self) -> Option<(Moment, u16)>
         ensures none { IfNone result ((id : ℕ) (at : Moment) → ¬ IsArmed self.now id at) }
         ensures armed { IfSome result (λ due. IsArmed self.now due.1 due.0) }
-        ensures first { IfSome result (λ due. (id : ℕ) (at : Moment) → IsArmed self.now id at → GoesFirst due.0 due.1 at id) }
+        ensures first { IfSome result (λ due. (id : ℕ) (at : Moment) → IsArmed self.now id at →
+            GoesFirst due.0 due.1 at id) }
     {
         first_armed(self.moments.as_slice(), &self.words)
     }

@@ -3,8 +3,8 @@ use Rattle.std.specs.Prelude.{[], ◌∷◌}
 use Rattle.sched_base.specs.Numbers.{moment, span, processor}
 use Rattle.sched_model.specs.declared.machine.Machine.{Machine}
 
-abbrev pub stalling : Machine
-stalling =
+abbrev pub stalling_machine : Machine
+stalling_machine =
     record {
       config = record { granularity = 1; processors = 1; horizon = moment 9; pools = []; domains = [] };
       work = record { stalls = record { at = moment 3; cpu = processor 0; span = span 2 } ∷ []; commands = [] };

@@ -1,7 +1,7 @@
 //! The history of a run of one free core, which stalls once.
 
 ghost use Rattle.std.specs.Prelude.{◌≡◌, IfOk};
-ghost use Rattle.leaf_trials.specs.Example.{stalling};
+ghost use Rattle.leaf_trials.specs.Example.{stalling_machine};
 
 use journal_core::Book;
 use sched_base::{Moment, NoMemory, ProcId, ResId, Span};
@@ -14,7 +14,7 @@ use std::test::Fail;
 
 /// One core, no pool and no domain, and a stall of 2 nanoseconds at 3.
 fn input(alloc: Global) -> Result<(Config, Work), NoMemory>
-    ensures { IfOk result (λ r. record { config = r.0; work = r.1 } ≡ stalling) }
+    ensures { IfOk result (λ r. record { config = r.0; work = r.1 } ≡ stalling_machine) }
 {
     let stall = StallLine {
         at: Moment(3),

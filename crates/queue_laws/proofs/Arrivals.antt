@@ -5,9 +5,9 @@ use Rattle.std.specs.List.{AllByRecursion}
 use Rattle.std.proofs.lemmas.Bool.{cases_lt}
 use Rattle.sched_base.specs.declared.UnitId.{UnitId}
 use Rattle.arrival_queue.specs.declared.key.Key.{Key}
-use Rattle.arrival_queue.specs.Queues.{Queued, queued, goes_before, put_first, placed}
+use Rattle.arrival_queue.specs.Queues.{Queued, queued_unit, goes_before, put_first, list_with}
 use Rattle.arrival_queue.proofs.Ranks.{less_test, not_less_test}
-use Rattle.queue_laws.specs.Arrivals.{arrived, arrivals, LacksRank, RanksBelow}
+use Rattle.queue_laws.specs.Arrivals.{arrival_order, arrivals, LacksRank, RanksBelow}
 
 pub test_cases : (t : Bool) → (t ≡ true) ⊎ (t ≡ false)
 test_cases true = inl refl
@@ -46,10 +46,10 @@ ins_swap a b apart xs =
     ]
 
 -- an item anywhere in a list is put by its rank
-pub arrived_split : (l r : List Queued) (e : Queued) → LacksRank e.rank l → arrived (l ++ e ∷ r) ≡ ins e (arrived (l ++ r))
+pub arrived_split : (l r : List Queued) (e : Queued) → LacksRank e.rank l → arrival_order (l ++ e ∷ r) ≡ ins e (arrival_order (l ++ r))
 arrived_split [] r e lacks = refl
 arrived_split (x ∷ l) r e lacks =
-    ap (λ (xs : List Queued). ins x xs) (arrived_split l r e lacks.1) ∙ ins_swap x e lacks.0 (arrived (l ++ r))
+    ap (λ (xs : List Queued). ins x xs) (arrived_split l r e lacks.1) ∙ ins_swap x e lacks.0 (arrival_order (l ++ r))
 
 -- a fact of an item and of each of a list, after the item is put
 pub each_put : (P : Queued → Type 0) (p : Queued → Bool) (e : Queued) (xs : List Queued) → P e → AllByRecursion P xs → AllByRecursion P (put_first p e xs)
@@ -60,9 +60,9 @@ each_put P p e (x ∷ xs) mine each =
       | false ↦ (each.0, each_put P p e xs mine each.1)
     ]
 
-pub each_arrived : (P : Queued → Type 0) (es : List Queued) → AllByRecursion P es → AllByRecursion P (arrived es)
+pub each_arrived : (P : Queued → Type 0) (es : List Queued) → AllByRecursion P es → AllByRecursion P (arrival_order es)
 each_arrived P [] each = tt
-each_arrived P (e ∷ es) each = each_put P (λ x. nat_lt e.rank x.rank) e (arrived es) each.0 (each_arrived P es each.1)
+each_arrived P (e ∷ es) each = each_put P (λ x. nat_lt e.rank x.rank) e (arrival_order es) each.0 (each_arrived P es each.1)
 
 -- an item of the highest rank is put at the end
 ins_last : (e : Queued) (xs : List Queued) → RanksBelow e.rank xs → ins e xs ≡ xs ++ e ∷ []
@@ -110,17 +110,17 @@ lacks_of_below r (e ∷ es) below = (λ (same : e.rank ≡ r). omega (arith, bel
 pub arrivals_split : (l r : List Queued) (e : Queued) → RanksBelow e.rank (l ++ r) → arrivals (l ++ e ∷ r) ≡ arrivals (l ++ r) ++ e.unit ∷ []
 arrivals_split l r e below =
     ap (map (λ (x : Queued). x.unit)) (arrived_split l r e (left_of (λ (x : Queued). x.rank ≢ e.rank) l r (lacks_of_below e.rank (l ++ r) below)))
-    ∙ ap (map (λ (x : Queued). x.unit)) (ins_last e (arrived (l ++ r)) (each_arrived (λ (x : Queued). x.rank < e.rank) (l ++ r) below))
-    ∙ map-append (arrived (l ++ r)) (e ∷ [])
+    ∙ ap (map (λ (x : Queued). x.unit)) (ins_last e (arrival_order (l ++ r)) (each_arrived (λ (x : Queued). x.rank < e.rank) (l ++ r) below))
+    ∙ map-append (arrival_order (l ++ r)) (e ∷ [])
 
 -- a unit that arrives and is put at its place among the sorted, beside others
 pub arrivals_placed : (u : UnitId) (key : Key) (r : ℕ) (es others : List Queued) → RanksBelow r (es ++ others)
-    → arrivals (placed (queued u key r) es ++ others) ≡ arrivals (es ++ others) ++ u ∷ []
+    → arrivals (list_with (queued_unit u key r) es ++ others) ≡ arrivals (es ++ others) ++ u ∷ []
 arrivals_placed u key r es others below =
-    let new : Queued = queued u key r in
+    let new : Queued = queued_unit u key r in
     let s = put_split (goes_before new) new es in
     let whole : es ++ others ≡ s.lft ++ (s.rgt ++ others) = ap (λ (xs : List Queued). xs ++ others) s.was ∙ append_assoc s.lft s.rgt others in
-    let put : placed new es ++ others ≡ s.lft ++ new ∷ (s.rgt ++ others) = ap (λ (xs : List Queued). xs ++ others) s.is ∙ append_assoc s.lft (new ∷ s.rgt) others in
+    let put : list_with new es ++ others ≡ s.lft ++ new ∷ (s.rgt ++ others) = ap (λ (xs : List Queued). xs ++ others) s.is ∙ append_assoc s.lft (new ∷ s.rgt) others in
     ap arrivals put
     ∙ arrivals_split s.lft (s.rgt ++ others) new (subst (λ (xs : List Queued). RanksBelow r xs) whole below)
     ∙ ap (λ (xs : List Queued). arrivals xs ++ u ∷ []) (sym whole)
@@ -130,8 +130,8 @@ append-nil [] = refl
 append-nil (e ∷ es) = ap (λ (xs : List Queued). e ∷ xs) (append-nil es)
 
 -- a unit that arrives at the end of a list
-pub arrivals_appended : (u : UnitId) (key : Key) (r : ℕ) (es : List Queued) → RanksBelow r es → arrivals (es ++ queued u key r ∷ []) ≡ arrivals es ++ u ∷ []
+pub arrivals_appended : (u : UnitId) (key : Key) (r : ℕ) (es : List Queued) → RanksBelow r es → arrivals (es ++ queued_unit u key r ∷ []) ≡ arrivals es ++ u ∷ []
 arrivals_appended u key r es below =
     let same = append-nil es in
-    arrivals_split es [] (queued u key r) (subst (λ (xs : List Queued). RanksBelow r xs) (sym same) below)
+    arrivals_split es [] (queued_unit u key r) (subst (λ (xs : List Queued). RanksBelow r xs) (sym same) below)
     ∙ ap (λ (xs : List Queued). arrivals xs ++ u ∷ []) same

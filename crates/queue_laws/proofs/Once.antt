@@ -6,7 +6,7 @@ use Rattle.std.proofs.lemmas.Bool.{cases_lt}
 use Rattle.sched_base.specs.declared.UnitId.{UnitId}
 use Rattle.sched_base.specs.Units.{number_of}
 use Rattle.arrival_queue.specs.declared.key.Key.{Key}
-use Rattle.arrival_queue.specs.Queues.{Queued, queued, goes_before, is_of, placed, without, closed_up}
+use Rattle.arrival_queue.specs.Queues.{Queued, queued_unit, goes_before, is_of, list_with, list_without, closed_up}
 use Rattle.arrival_queue.specs.Order.{has_rank, EachRankOnce, EachUnitOnce}
 use Rattle.arrival_queue.proofs.Ranks.{not_less_test}
 use Rattle.arrival_queue.proofs.Splits.{same_test}
@@ -66,16 +66,16 @@ once_units (e ∷ es) once =
     (lacks_unit e.unit es (omega (arith, one, once e.unit, count-cons (is_of e.unit) e es)), once_units es (λ u. omega (arith, once u, count-cons (is_of u) e es)))
 
 -- a fact of each item that is no matter of ranks stays where one is put, where one goes, and where ranks close up
-pub each_placed : (P : Queued → Type 0) (e : Queued) (es : List Queued) → P e → AllByRecursion P es → AllByRecursion P (placed e es)
+pub each_placed : (P : Queued → Type 0) (e : Queued) (es : List Queued) → P e → AllByRecursion P es → AllByRecursion P (list_with e es)
 each_placed P e es mine each = each_put P (goes_before e) e es mine each
 
 pub each_closed : (P : Queued → Type 0) (r : ℕ) (es : List Queued) → ((e : Queued) → P e → P (closed_up r e)) → AllByRecursion P es → AllByRecursion P (map (closed_up r) es)
 each_closed P r [] keeps each = tt
 each_closed P r (e ∷ es) keeps each = (keeps e each.0, each_closed P r es keeps each.1)
 
-pub keys_placed : (key : UnitId → Key) (u : UnitId) (r : ℕ) (es : List Queued) → HasKeys key es → HasKeys key (placed (queued u (key u) r) es)
-keys_placed key u r es keys = each_placed (λ (e : Queued). e.key ≡ key e.unit) (queued u (key u) r) es refl keys
+pub keys_placed : (key : UnitId → Key) (u : UnitId) (r : ℕ) (es : List Queued) → HasKeys key es → HasKeys key (list_with (queued_unit u (key u) r) es)
+keys_placed key u r es keys = each_placed (λ (e : Queued). e.key ≡ key e.unit) (queued_unit u (key u) r) es refl keys
 
-pub keys_removed : (key : UnitId → Key) (u : UnitId) (r : ℕ) (es : List Queued) → HasKeys key es → HasKeys key (map (closed_up r) (without u es))
+pub keys_removed : (key : UnitId → Key) (u : UnitId) (r : ℕ) (es : List Queued) → HasKeys key es → HasKeys key (map (closed_up r) (list_without u es))
 keys_removed key u r es keys =
-    each_closed (λ (e : Queued). e.key ≡ key e.unit) r (without u es) (λ e is. is) (each_without (λ (e : Queued). e.key ≡ key e.unit) u es keys)
+    each_closed (λ (e : Queued). e.key ≡ key e.unit) r (list_without u es) (λ e is. is) (each_without (λ (e : Queued). e.key ≡ key e.unit) u es keys)

@@ -7,10 +7,10 @@ use Rattle.sched_base.specs.declared.UnitId.{UnitId}
 use Rattle.sched_base.specs.Units.{number_of}
 use Rattle.sched_model.specs.Places.{same_unit, without_unit, has_unit as has}
 use Rattle.arrival_queue.specs.declared.key.Key.{Key}
-use Rattle.arrival_queue.specs.Queues.{Queued, queued, goes_before, is_of, put_first, placed, without, rank_in, closed_up, has_unit}
+use Rattle.arrival_queue.specs.Queues.{Queued, queued_unit, goes_before, is_of, put_first, list_with, list_without, rank_in, closed_up, has_unit}
 use Rattle.arrival_queue.proofs.Ranks.{less_test, not_less_test}
 use Rattle.arrival_queue.proofs.Splits.{other_test, same_test}
-use Rattle.queue_laws.specs.Arrivals.{arrived, arrivals, LacksRank, HasRanks, LacksUnit, HasUnits, HasIndices}
+use Rattle.queue_laws.specs.Arrivals.{arrival_order, arrivals, LacksRank, HasRanks, LacksUnit, HasUnits, HasIndices}
 use Rattle.queue_laws.proofs.Arrivals.{ins, each_put, each_arrived, arrived_split, put_split, test_cases}
 
 -- each item has a lower rank than those that follow it
@@ -37,12 +37,12 @@ rising_put e (x ∷ xs) apart rising =
     ]
 
 -- the other way round
-apart_of : (e : Queued) (es : List Queued) → LacksRank e.rank es → AllByRecursion (λ (y : Queued). y.rank ≢ e.rank) (arrived es)
+apart_of : (e : Queued) (es : List Queued) → LacksRank e.rank es → AllByRecursion (λ (y : Queued). y.rank ≢ e.rank) (arrival_order es)
 apart_of e es lacks = each_arrived (λ (y : Queued). y.rank ≢ e.rank) es lacks
 
-rising_arrived : (es : List Queued) → HasRanks es → Rising (arrived es)
+rising_arrived : (es : List Queued) → HasRanks es → Rising (arrival_order es)
 rising_arrived [] ranks = tt
-rising_arrived (e ∷ es) ranks = rising_put e (arrived es) (apart_of e es ranks.0) (rising_arrived es ranks.1)
+rising_arrived (e ∷ es) ranks = rising_put e (arrival_order es) (apart_of e es ranks.0) (rising_arrived es ranks.1)
 
 -- an item of the lowest rank is put in front
 ins_first : (e : Queued) (xs : List Queued) → AllByRecursion (λ (y : Queued). e.rank < y.rank) xs → ins e xs ≡ e ∷ xs
@@ -50,58 +50,58 @@ ins_first e [] below = refl
 ins_first e (x ∷ xs) below = let e1 = less_test e.rank x.rank below.0 in simp e1 refl
 
 -- a fact of each item stays where a unit goes
-pub each_without : (P : Queued → Type 0) (u : UnitId) (xs : List Queued) → AllByRecursion P xs → AllByRecursion P (without u xs)
+pub each_without : (P : Queued → Type 0) (u : UnitId) (xs : List Queued) → AllByRecursion P xs → AllByRecursion P (list_without u xs)
 each_without P u [] each = tt
 each_without P u (x ∷ xs) each =
-    elim (is_of u x) as (λ t. AllByRecursion P (if t then without u xs else x ∷ without u xs)) [
+    elim (is_of u x) as (λ t. AllByRecursion P (if t then list_without u xs else x ∷ list_without u xs)) [
       | true ↦ each_without P u xs each.1
       | false ↦ (each.0, each_without P u xs each.1)
     ]
 
 -- another unit's item is put among the rest
-without_other : (u : UnitId) (e : Queued) (xs : List Queued) → is_of u e ≡ false → Rising xs → without u (ins e xs) ≡ ins e (without u xs)
+without_other : (u : UnitId) (e : Queued) (xs : List Queued) → is_of u e ≡ false → Rising xs → list_without u (ins e xs) ≡ ins e (list_without u xs)
 without_other u e [] other rising = simp other refl
 without_other u e (x ∷ xs) other rising =
     elim (cases_lt e.rank x.rank) [
       | inl less ↦
           let e1 = less_test e.rank x.rank less in
-          let above : AllByRecursion (λ (y : Queued). e.rank < y.rank) (without u (x ∷ xs)) =
+          let above : AllByRecursion (λ (y : Queued). e.rank < y.rank) (list_without u (x ∷ xs)) =
           each_without (λ (y : Queued). e.rank < y.rank) u (x ∷ xs) (less, later e.rank x.rank xs (omega (arith, less)) rising.0) in
           let put : ins e (x ∷ xs) ≡ e ∷ x ∷ xs = simp e1 refl in
-          ap (without u) put ∙ ap (λ (t : Bool). if t then without u (x ∷ xs) else e ∷ without u (x ∷ xs)) other ∙ sym (ins_first e (without u (x ∷ xs)) above)
+          ap (list_without u) put ∙ ap (λ (t : Bool). if t then list_without u (x ∷ xs) else e ∷ list_without u (x ∷ xs)) other ∙ sym (ins_first e (list_without u (x ∷ xs)) above)
       | inr more ↦
           let e1 = not_less_test e.rank x.rank more in
           let put : ins e (x ∷ xs) ≡ x ∷ ins e xs = simp e1 refl in
           let rest = without_other u e xs other rising.1 in
-          ap (without u) put ∙ elim (is_of u x) as (λ t. (if t then without u (ins e xs) else x ∷ without u (ins e xs)) ≡ ins e (if t then without u xs else x ∷ without u xs)) [
+          ap (list_without u) put ∙ elim (is_of u x) as (λ t. (if t then list_without u (ins e xs) else x ∷ list_without u (ins e xs)) ≡ ins e (if t then list_without u xs else x ∷ list_without u xs)) [
             | true ↦ rest
             | false ↦ simp e1 (ap (λ (ys : List Queued). x ∷ ys) rest)
           ]
     ]
 
 -- the unit's own item goes
-without_own : (u : UnitId) (p : Queued → Bool) (e : Queued) (xs : List Queued) → is_of u e ≡ true → without u (put_first p e xs) ≡ without u xs
+without_own : (u : UnitId) (p : Queued → Bool) (e : Queued) (xs : List Queued) → is_of u e ≡ true → list_without u (put_first p e xs) ≡ list_without u xs
 without_own u p e [] mine = simp mine refl
 without_own u p e (x ∷ xs) mine =
-    elim (p x) as (λ t. without u (if t then e ∷ x ∷ xs else x ∷ put_first p e xs) ≡ without u (x ∷ xs)) [
-      | true ↦ ap (λ (t : Bool). if t then without u (x ∷ xs) else e ∷ without u (x ∷ xs)) mine
-      | false ↦ elim (is_of u x) as (λ t. (if t then without u (put_first p e xs) else x ∷ without u (put_first p e xs)) ≡ (if t then without u xs else x ∷ without u xs)) [
+    elim (p x) as (λ t. list_without u (if t then e ∷ x ∷ xs else x ∷ put_first p e xs) ≡ list_without u (x ∷ xs)) [
+      | true ↦ ap (λ (t : Bool). if t then list_without u (x ∷ xs) else e ∷ list_without u (x ∷ xs)) mine
+      | false ↦ elim (is_of u x) as (λ t. (if t then list_without u (put_first p e xs) else x ∷ list_without u (put_first p e xs)) ≡ (if t then list_without u xs else x ∷ list_without u xs)) [
         | true ↦ without_own u p e xs mine
         | false ↦ ap (λ (ys : List Queued). x ∷ ys) (without_own u p e xs mine)
       ]
     ]
 
-arrived_without : (u : UnitId) (es : List Queued) → HasRanks es → arrived (without u es) ≡ without u (arrived es)
+arrived_without : (u : UnitId) (es : List Queued) → HasRanks es → arrival_order (list_without u es) ≡ list_without u (arrival_order es)
 arrived_without u [] ranks = refl
 arrived_without u (e ∷ es) ranks =
     let rest = arrived_without u es ranks.1 in
     elim (test_cases (is_of u e)) [
       | inl mine ↦
-          ap arrived (ap (λ (t : Bool). if t then without u es else e ∷ without u es) mine)
-          ∙ rest ∙ sym (without_own u (λ y. nat_lt e.rank y.rank) e (arrived es) mine)
+          ap arrival_order (ap (λ (t : Bool). if t then list_without u es else e ∷ list_without u es) mine)
+          ∙ rest ∙ sym (without_own u (λ y. nat_lt e.rank y.rank) e (arrival_order es) mine)
       | inr other ↦
-          ap arrived (ap (λ (t : Bool). if t then without u es else e ∷ without u es) other)
-          ∙ ap (ins e) rest ∙ sym (without_other u e (arrived es) other (rising_arrived es ranks.1))
+          ap arrival_order (ap (λ (t : Bool). if t then list_without u es else e ∷ list_without u es) other)
+          ∙ ap (ins e) rest ∙ sym (without_other u e (arrival_order es) other (rising_arrived es ranks.1))
     ]
 
 -- closing up keeps the order of the ranks that are left
@@ -144,11 +144,11 @@ ins_closed r e (x ∷ xs) no_e lacks =
       | false ↦ ap (λ (ys : List Queued). closed_up r x ∷ ys) rest
     ]
 
-arrived_closed : (r : ℕ) (es : List Queued) → LacksRank r es → arrived (map (closed_up r) es) ≡ map (closed_up r) (arrived es)
+arrived_closed : (r : ℕ) (es : List Queued) → LacksRank r es → arrival_order (map (closed_up r) es) ≡ map (closed_up r) (arrival_order es)
 arrived_closed r [] lacks = refl
 arrived_closed r (e ∷ es) lacks =
     ap (ins (closed_up r e)) (arrived_closed r es lacks.1)
-    ∙ ins_closed r e (arrived es) lacks.0 (each_arrived (λ (y : Queued). y.rank ≢ r) es lacks.1)
+    ∙ ins_closed r e (arrival_order es) lacks.0 (each_arrived (λ (y : Queued). y.rank ≢ r) es lacks.1)
 
 units_closed : (r : ℕ) (xs : List Queued) → map (λ (e : Queued). e.unit) (map (closed_up r) xs) ≡ map (λ (e : Queued). e.unit) xs
 units_closed r [] = refl
@@ -176,31 +176,31 @@ same_number u w low_u low_w =
 pub is_of_same : (u : UnitId) (e : Queued) → u.n < 256 → e.unit.n < 256 → is_of u e ≡ same_unit u e.unit
 is_of_same u e low_u low_e = same_number u e.unit low_u low_e
 
-units_without : (u : UnitId) (xs : List Queued) → u.n < 256 → HasIndices xs → map (λ (e : Queued). e.unit) (without u xs) ≡ without_unit u (map (λ (e : Queued). e.unit) xs)
+units_without : (u : UnitId) (xs : List Queued) → u.n < 256 → HasIndices xs → map (λ (e : Queued). e.unit) (list_without u xs) ≡ without_unit u (map (λ (e : Queued). e.unit) xs)
 units_without u [] low lows = refl
 units_without u (x ∷ xs) low lows =
     let rest = units_without u xs low lows.1 in
     let same = is_of_same u x low lows.0 in
-    ap (λ (t : Bool). map (λ (e : Queued). e.unit) (if t then without u xs else x ∷ without u xs)) same
-    ∙ elim (same_unit u x.unit) as (λ t. map (λ (e : Queued). e.unit) (if t then without u xs else x ∷ without u xs) ≡ (if not t then x.unit ∷ without_unit u (map (λ (e : Queued). e.unit) xs) else without_unit u (map (λ (e : Queued). e.unit) xs))) [
+    ap (λ (t : Bool). map (λ (e : Queued). e.unit) (if t then list_without u xs else x ∷ list_without u xs)) same
+    ∙ elim (same_unit u x.unit) as (λ t. map (λ (e : Queued). e.unit) (if t then list_without u xs else x ∷ list_without u xs) ≡ (if not t then x.unit ∷ without_unit u (map (λ (e : Queued). e.unit) xs) else without_unit u (map (λ (e : Queued). e.unit) xs))) [
       | true ↦ rest
       | false ↦ ap (λ (us : List UnitId). x.unit ∷ us) rest
     ]
 
 -- the order of arrival without a unit; r is a rank that no other item has
-pub arrivals_removed : (u : UnitId) (r : ℕ) (es : List Queued) → HasRanks es → u.n < 256 → HasIndices es → LacksRank r (without u es)
-    → arrivals (map (closed_up r) (without u es)) ≡ without_unit u (arrivals es)
+pub arrivals_removed : (u : UnitId) (r : ℕ) (es : List Queued) → HasRanks es → u.n < 256 → HasIndices es → LacksRank r (list_without u es)
+    → arrivals (map (closed_up r) (list_without u es)) ≡ without_unit u (arrivals es)
 arrivals_removed u r es ranks low lows lacks =
-    ap (map (λ (e : Queued). e.unit)) (arrived_closed r (without u es) lacks)
-    ∙ units_closed r (arrived (without u es))
+    ap (map (λ (e : Queued). e.unit)) (arrived_closed r (list_without u es) lacks)
+    ∙ units_closed r (arrival_order (list_without u es))
     ∙ ap (map (λ (e : Queued). e.unit)) (arrived_without u es ranks)
-    ∙ units_without u (arrived es) low (each_arrived (λ (e : Queued). e.unit.n < 256) es lows)
+    ∙ units_without u (arrival_order es) low (each_arrived (λ (e : Queued). e.unit.n < 256) es lows)
 
 -- the rest of a list has no other item with the rank of a unit of it
-lacks_without : (r : ℕ) (u : UnitId) (es : List Queued) → LacksRank r es → LacksRank r (without u es)
+lacks_without : (r : ℕ) (u : UnitId) (es : List Queued) → LacksRank r es → LacksRank r (list_without u es)
 lacks_without r u es lacks = each_without (λ (e : Queued). e.rank ≢ r) u es lacks
 
-without-none : (u : UnitId) (es : List Queued) → LacksUnit u es → without u es ≡ es
+without-none : (u : UnitId) (es : List Queued) → LacksUnit u es → list_without u es ≡ es
 without-none u [] lacks = refl
 without-none u (e ∷ es) lacks = let e1 = lacks.0 in simp e1 (ap (λ (xs : List Queued). e ∷ xs) (without-none u es lacks.1))
 
@@ -211,7 +211,7 @@ pub record Stands (u : UnitId) (es : List Queued) : Type 0 where
   pub x : Queued
   pub is : es ≡ lft ++ x ∷ rgt
   pub mine : is_of u x ≡ true
-  pub rest : without u es ≡ lft ++ rgt
+  pub rest : list_without u es ≡ lft ++ rgt
   pub rank : rank_in u es ≡ x.rank
 
 lacks_number : (u w : UnitId) (es : List Queued) → number_of w ≡ number_of u → LacksUnit w es → LacksUnit u es
@@ -230,7 +230,7 @@ stands u (e ∷ es) units has =
             x = e;
             is = refl;
             mine = e1;
-            rest = ap (λ (t : Bool). if t then without u es else e ∷ without u es) e1 ∙ without-none u es (lacks_number u e.unit es same units.0);
+            rest = ap (λ (t : Bool). if t then list_without u es else e ∷ list_without u es) e1 ∙ without-none u es (lacks_number u e.unit es same units.0);
             rank = ap (λ (t : Bool). if t then e.rank else rank_in u es) e1;
           }
       | inr other ↦
@@ -242,7 +242,7 @@ stands u (e ∷ es) units has =
             x = s.x;
             is = ap (λ (xs : List Queued). e ∷ xs) s.is;
             mine = s.mine;
-            rest = ap (λ (t : Bool). if t then without u es else e ∷ without u es) e1 ∙ ap (λ (xs : List Queued). e ∷ xs) s.rest;
+            rest = ap (λ (t : Bool). if t then list_without u es else e ∷ list_without u es) e1 ∙ ap (λ (xs : List Queued). e ∷ xs) s.rest;
             rank = ap (λ (t : Bool). if t then e.rank else rank_in u es) e1 ∙ s.rank;
           }
     ]
@@ -267,11 +267,11 @@ each-append P [] r left right = right
 each-append P (x ∷ l) r left right = (left.0, each-append P l r left.1 right)
 
 -- no other item has the rank of a unit of the list
-pub lacks_own : (u : UnitId) (es : List Queued) → HasRanks es → HasUnits es → has_unit u es ≡ true → LacksRank (rank_in u es) (without u es)
+pub lacks_own : (u : UnitId) (es : List Queued) → HasRanks es → HasUnits es → has_unit u es ≡ true → LacksRank (rank_in u es) (list_without u es)
 lacks_own u es ranks units has =
     let s = stands u es units has in
     let there : HasRanks (s.lft ++ s.x ∷ s.rgt) = subst HasRanks s.is ranks in
-    subst (λ (r : ℕ). LacksRank r (without u es)) (sym s.rank)
+    subst (λ (r : ℕ). LacksRank r (list_without u es)) (sym s.rank)
     (subst (LacksRank s.x.rank) (sym s.rest) (each-append (λ (e : Queued). e.rank ≢ s.x.rank) s.lft s.rgt (lacks_lft s.lft s.rgt s.x there) (lacks_rgt s.lft s.rgt s.x there)))
 
 -- what an item shows of itself when it is put: its rank and its unit
@@ -299,38 +299,38 @@ unit_of_number u w low_u low_w same =
 -- a unit of a list, put at another place among the first of them: its arrival stays
 pub arrivals_moved : (u : UnitId) (key : Key) (es others : List Queued) → HasRanks (es ++ others) → HasUnits (es ++ others) → u.n < 256 → HasIndices (es ++ others)
     → has_unit u (es ++ others) ≡ true → (r : ℕ) → r ≡ rank_in u (es ++ others)
-    → arrivals (placed (queued u key r) (without u es) ++ without u others) ≡ arrivals (es ++ others)
+    → arrivals (list_with (queued_unit u key r) (list_without u es) ++ list_without u others) ≡ arrivals (es ++ others)
 arrivals_moved u key es others ranks units low lows has r is_rank =
-    let new : Queued = queued u key r in
+    let new : Queued = queued_unit u key r in
     let both = without-append u es others in
-    let split = put_split (goes_before new) new (without u es) in
+    let split = put_split (goes_before new) new (list_without u es) in
     let s = stands u (es ++ others) units has in
-    let put : placed new (without u es) ++ without u others ≡ split.lft ++ new ∷ (split.rgt ++ without u others) =
-    ap (λ (xs : List Queued). xs ++ without u others) split.is ∙ append_assoc split.lft (new ∷ split.rgt) (without u others) in
-    let whole : split.lft ++ (split.rgt ++ without u others) ≡ without u (es ++ others) =
-    sym (append_assoc split.lft split.rgt (without u others)) ∙ ap (λ (xs : List Queued). xs ++ without u others) (sym split.was) ∙ sym both in
-    let lacks : LacksRank r (split.lft ++ (split.rgt ++ without u others)) =
-    subst (λ (k : ℕ). LacksRank k (split.lft ++ (split.rgt ++ without u others))) (sym is_rank) (subst (LacksRank (rank_in u (es ++ others))) (sym whole) (lacks_own u (es ++ others) ranks units has)) in
+    let put : list_with new (list_without u es) ++ list_without u others ≡ split.lft ++ new ∷ (split.rgt ++ list_without u others) =
+    ap (λ (xs : List Queued). xs ++ list_without u others) split.is ∙ append_assoc split.lft (new ∷ split.rgt) (list_without u others) in
+    let whole : split.lft ++ (split.rgt ++ list_without u others) ≡ list_without u (es ++ others) =
+    sym (append_assoc split.lft split.rgt (list_without u others)) ∙ ap (λ (xs : List Queued). xs ++ list_without u others) (sym split.was) ∙ sym both in
+    let lacks : LacksRank r (split.lft ++ (split.rgt ++ list_without u others)) =
+    subst (λ (k : ℕ). LacksRank k (split.lft ++ (split.rgt ++ list_without u others))) (sym is_rank) (subst (LacksRank (rank_in u (es ++ others))) (sym whole) (lacks_own u (es ++ others) ranks units has)) in
     let low_x : s.x.unit.n < 256 = item_low (es ++ others) s.lft s.rgt s.x s.is lows in
     let same : s.x.unit ≡ u = unit_of_number u s.x.unit low low_x s.mine in
     let there : HasRanks (s.lft ++ s.x ∷ s.rgt) = subst HasRanks s.is ranks in
-    let left : arrived (placed new (without u es) ++ without u others) ≡ ins new (arrived (s.lft ++ s.rgt)) =
-    ap arrived put ∙ arrived_split split.lft (split.rgt ++ without u others) new (left_part (λ (x : Queued). x.rank ≢ r) split.lft (split.rgt ++ without u others) lacks)
-    ∙ ap (λ (xs : List Queued). ins new (arrived xs)) (whole ∙ s.rest) in
-    let right : arrived (es ++ others) ≡ ins s.x (arrived (s.lft ++ s.rgt)) = ap arrived s.is ∙ arrived_split s.lft s.rgt s.x (lacks_lft s.lft s.rgt s.x there) in
+    let left : arrival_order (list_with new (list_without u es) ++ list_without u others) ≡ ins new (arrival_order (s.lft ++ s.rgt)) =
+    ap arrival_order put ∙ arrived_split split.lft (split.rgt ++ list_without u others) new (left_part (λ (x : Queued). x.rank ≢ r) split.lft (split.rgt ++ list_without u others) lacks)
+    ∙ ap (λ (xs : List Queued). ins new (arrival_order xs)) (whole ∙ s.rest) in
+    let right : arrival_order (es ++ others) ≡ ins s.x (arrival_order (s.lft ++ s.rgt)) = ap arrival_order s.is ∙ arrived_split s.lft s.rgt s.x (lacks_lft s.lft s.rgt s.x there) in
     ap (map (λ (e : Queued). e.unit)) left
-    ∙ units_put new s.x (arrived (s.lft ++ s.rgt)) (is_rank ∙ s.rank) (sym same)
+    ∙ units_put new s.x (arrival_order (s.lft ++ s.rgt)) (is_rank ∙ s.rank) (sym same)
     ∙ ap (map (λ (e : Queued). e.unit)) (sym right)
   where
     left_part : (P : Queued → Type 0) (l r : List Queued) → AllByRecursion P (l ++ r) → AllByRecursion P l
     left_part P [] r each = tt
     left_part P (x ∷ l) r each = (each.0, left_part P l r each.1)
 
-    without-append : (u : UnitId) (xs ys : List Queued) → without u (xs ++ ys) ≡ without u xs ++ without u ys
+    without-append : (u : UnitId) (xs ys : List Queued) → list_without u (xs ++ ys) ≡ list_without u xs ++ list_without u ys
     without-append u [] ys = refl
     without-append u (x ∷ xs) ys =
         let rest = without-append u xs ys in
-        elim (is_of u x) as (λ t. (if t then without u (xs ++ ys) else x ∷ without u (xs ++ ys)) ≡ (if t then without u xs else x ∷ without u xs) ++ without u ys) [
+        elim (is_of u x) as (λ t. (if t then list_without u (xs ++ ys) else x ∷ list_without u (xs ++ ys)) ≡ (if t then list_without u xs else x ∷ list_without u xs) ++ list_without u ys) [
           | true ↦ rest
           | false ↦ ap (λ (zs : List Queued). x ∷ zs) rest
         ]
@@ -346,7 +346,7 @@ arrivals_moved u key es others ranks units low lows has r is_rank =
 pub has_arrived : (u : UnitId) (es : List Queued) → u.n < 256 → HasIndices es → has (arrivals es) u ≡ has_unit u es
 has_arrived u [] low lows = refl
 has_arrived u (e ∷ es) low lows =
-    has_put (arrived es) ∙ ap (λ (t : Bool). same_unit u e.unit || t) (has_arrived u es low lows.1) ∙ ap (λ (t : Bool). t || has_unit u es) (sym (is_of_same u e low lows.0))
+    has_put (arrival_order es) ∙ ap (λ (t : Bool). same_unit u e.unit || t) (has_arrived u es low lows.1) ∙ ap (λ (t : Bool). t || has_unit u es) (sym (is_of_same u e low lows.0))
   where
     swap : (a b c : Bool) → (a || (b || c)) ≡ (b || (a || c))
     swap true true c = refl

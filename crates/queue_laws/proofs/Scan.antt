@@ -9,7 +9,7 @@ use Rattle.arrival_queue.specs.Queues.{Queued, is_less, goes_before}
 use Rattle.arrival_queue.specs.Filters.{first_that}
 use Rattle.arrival_queue.proofs.Ranks.{less_test, not_less_test}
 use Rattle.arrival_queue.specs.Order.{GoesBeforeAll, IsInOrder}
-use Rattle.queue_laws.specs.Arrivals.{arrived, arrivals, HasKeys, least_by, own_or}
+use Rattle.queue_laws.specs.Arrivals.{arrival_order, arrivals, HasKeys, least_by, own_or}
 use Rattle.queue_laws.proofs.Arrivals.{ins, each_arrived, test_cases}
 use Rattle.queue_laws.proofs.Keys.{less_asym, less_trans, less_back}
 
@@ -131,10 +131,10 @@ first_is_least key p (e ∷ es) sorted keys =
     elim (test_cases (p e.unit)) [
       | inl passes ↦
           ap (λ (t : Bool). if t then Some e.unit else first_that p es) passes
-          ∙ sym (found key p e keys.0 passes None (arrived es) (each_arrived (λ (x : Queued). x.key ≡ key x.unit) es keys.1) (each_arrived (λ (x : Queued). goes_before e x ≡ true) es (leads e es sorted.0)) tt)
+          ∙ sym (found key p e keys.0 passes None (arrival_order es) (each_arrived (λ (x : Queued). x.key ≡ key x.unit) es keys.1) (each_arrived (λ (x : Queued). goes_before e x ≡ true) es (leads e es sorted.0)) tt)
       | inr fails ↦
           ap (λ (t : Bool). if t then Some e.unit else first_that p es) fails
-          ∙ rest ∙ ap (least_by key None) (sym (passed_over key p e keys.0 fails (arrived es)))
+          ∙ rest ∙ ap (least_by key None) (sym (passed_over key p e keys.0 fails (arrival_order es)))
     ]
 
 -- a scan that begins with the core's own unit

@@ -6,13 +6,13 @@ use Rattle.arrival_queue.specs.declared.key.Key.{Key}
 use Rattle.arrival_queue.specs.Queues.{Queued, is_less, is_of, put_first}
 
 -- the queued units, that of the least rank first
-abbrev pub arrived : List Queued → List Queued
-arrived [] = []
-arrived (e ∷ es) = put_first (λ x. nat_lt e.rank x.rank) e (arrived es)
+abbrev pub arrival_order : List Queued → List Queued
+arrival_order [] = []
+arrival_order (e ∷ es) = put_first (λ x. nat_lt e.rank x.rank) e (arrival_order es)
 
 -- the units in order of arrival
 abbrev pub arrivals : List Queued → List UnitId
-arrivals es = map (λ e. e.unit) (arrived es)
+arrivals es = map (λ e. e.unit) (arrival_order es)
 
 -- no item of the list has that rank
 abbrev pub LacksRank : ℕ → List Queued → Type 0

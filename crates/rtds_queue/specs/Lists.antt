@@ -3,7 +3,7 @@ use Rattle.std.specs.Prelude.{ℕ, ◌+◌, ◌-◌, ◌||◌, Bool, pos, if◌t
 use Rattle.sched_base.specs.declared.UnitId.{UnitId}
 use Rattle.sched_base.specs.Numbers.{domain, moment}
 use Rattle.arrival_queue.specs.declared.key.Key.{Key}
-use Rattle.arrival_queue.specs.Queues.{Queued, queued, placed, without, has_unit, rank_in, closed_up}
+use Rattle.arrival_queue.specs.Queues.{Queued, queued_unit, list_with, list_without, has_unit, rank_in, closed_up}
 use Rattle.rtds_queue.specs.declared.RtdsKey.{RtdsKey}
 
 -- the eligible units and the spent ones, each with its key and how many of all others arrived earlier, and how many more there is room for
@@ -32,30 +32,30 @@ rank_of q u = (if has_unit u q.eligible then rank_in u q.eligible else rank_in u
 abbrev pub put : Lists → UnitId → RtdsKey → Bool → Lists
 put q u key spent =
     (if spent
-    then record { eligible = q.eligible; spent = q.spent ++ queued u (key_of key) (count q) ∷ []; spare = q.spare - 1 }
-    else record { eligible = placed (queued u (key_of key) (count q)) q.eligible; spent = q.spent; spare = q.spare - 1 })
+    then record { eligible = q.eligible; spent = q.spent ++ queued_unit u (key_of key) (count q) ∷ []; spare = q.spare - 1 }
+    else record { eligible = list_with (queued_unit u (key_of key) (count q)) q.eligible; spent = q.spent; spare = q.spare - 1 })
 
 -- without a unit
-abbrev pub removed : Lists → UnitId → Lists
-removed q u =
+abbrev pub after_remove : Lists → UnitId → Lists
+after_remove q u =
     record {
-      eligible = map (closed_up (rank_of q u)) (without u q.eligible);
-      spent = map (closed_up (rank_of q u)) (without u q.spent);
+      eligible = map (closed_up (rank_of q u)) (list_without u q.eligible);
+      spent = map (closed_up (rank_of q u)) (list_without u q.spent);
       spare = q.spare + 1;
     }
 
 -- with a unit of either list at its place among the eligible; its arrival stays
-abbrev pub renewed : Lists → UnitId → RtdsKey → Lists
-renewed q u key =
+abbrev pub after_renew : Lists → UnitId → RtdsKey → Lists
+after_renew q u key =
     record {
-      eligible = placed (queued u (key_of key) (rank_of q u)) (without u q.eligible);
-      spent = without u q.spent;
+      eligible = list_with (queued_unit u (key_of key) (rank_of q u)) (list_without u q.eligible);
+      spent = list_without u q.spent;
       spare = q.spare;
     }
 
 -- no unit, and room for so many
-abbrev pub empty : ℕ → Lists
-empty units = record { eligible = []; spent = []; spare = units }
+abbrev pub empty_lists : ℕ → Lists
+empty_lists units = record { eligible = []; spent = []; spare = units }
 
 -- the first unit of a domain, and the key of that level and deadline
 abbrev pub unit_id : ℕ → UnitId

@@ -8,7 +8,7 @@ ghost use Rattle.std.specs.Prelude.{◌≡◌, ◌+◌, ◌<◌, ◌≤◌, true
 ghost use Rattle.std.specs.Bool.{OnTrue, OnFalse};
 ghost use Rattle.unit_places.specs.Places.{has_place};
 ghost use Rattle.arrival_queue.specs.Filters.{first_of, first_that, may_run};
-ghost use Rattle.rtds_queue.specs.Lists.{holds, key_of, put as put_in, removed, renewed};
+ghost use Rattle.rtds_queue.specs.Lists.{holds, key_of, put as put_in, after_remove, after_renew};
 
 use arrival_queue::{ArrivalQueue, Key};
 use sched_base::{Cores, Moment, NoMemory, ResId, Steps, UnitId};
@@ -56,11 +56,11 @@ impl RtdsQueues {
     ghost use Rattle.unit_places.specs.Places.{has_place};
     ghost use Rattle.arrival_queue.specs.Order.{IsInOrder, IsInArrival, EachRankOnce, EachUnitOnce};
     ghost use Rattle.arrival_queue.specs.Filters.{first_of, first_that, may_run};
-    ghost use Rattle.rtds_queue.specs.Lists.{holds, put as put_in, removed, renewed, empty};
+    ghost use Rattle.rtds_queue.specs.Lists.{holds, put as put_in, after_remove, after_renew, empty_lists};
 
     /// Queues with room for so many units.
     pub fn room(alloc: Global, units: usize) -> Result<RtdsQueues, NoMemory>
-        ensures { IfOk result (λ queues. queues ≡ empty units) }
+        ensures { IfOk result (λ queues. queues ≡ empty_lists units) }
     {
         let queue = ArrivalQueue::room(alloc, units)?;
         Ok(RtdsQueues { queue })
@@ -86,7 +86,7 @@ impl RtdsQueues {
     /// Takes a unit of either list away. False where it is in neither, and then nothing changes.
     pub fn remove(&mut self, u: UnitId) -> bool
         ensures answer { result ≡ holds self.old u }
-        ensures gone { OnTrue result (self.new ≡ removed self.old u) }
+        ensures gone { OnTrue result (self.new ≡ after_remove self.old u) }
         ensures none { OnFalse result (self.new ≡ self.old) }
     {
         remove_from::<Brand>(self, u, Blank::new(1))
@@ -95,7 +95,7 @@ impl RtdsQueues {
     /// As `remove`, in at most one step.
     pub fn remove_counted<L: Ledger>(&mut self, u: UnitId, steps: &mut Steps<L>) -> bool
         ensures answer { result ≡ holds self.old u }
-        ensures gone { OnTrue result (self.new ≡ removed self.old u) }
+        ensures gone { OnTrue result (self.new ≡ after_remove self.old u) }
         ensures none { OnFalse result (self.new ≡ self.old) }
         ensures cost { steps.new ≤ steps.old + 1 }
     {
@@ -119,7 +119,7 @@ impl RtdsQueues {
     /// Moves a unit of either list to its place among the eligible. Its arrival stays, and counts among equal keys.
     pub fn renew(&mut self, u: UnitId, key: RtdsKey)
         requires { holds self.old u ≡ true }
-        ensures { self.new ≡ renewed self.old u key }
+        ensures { self.new ≡ after_renew self.old u key }
     {
         renew_from::<Brand>(self, u, key, Blank::new(1))
     }
@@ -127,7 +127,7 @@ impl RtdsQueues {
     /// As `renew`, in at most e + 3 steps, e the number of eligible units before.
     pub fn renew_counted<L: Ledger>(&mut self, u: UnitId, key: RtdsKey, steps: &mut Steps<L>)
         requires { holds self.old u ≡ true }
-        ensures after { self.new ≡ renewed self.old u key }
+        ensures after { self.new ≡ after_renew self.old u key }
         ensures cost { steps.new ≤ steps.old + length self.old.eligible + 3 }
     {
         self.queue.move_counted(u, sort_key(key), steps);
@@ -146,7 +146,8 @@ impl RtdsQueues {
 
     /// The ring, whose list 0 has exactly the eligible units and whose list 1 exactly the spent ones, in their orders.
     pub fn ring(&self) -> &Ring
-        ensures eligible { map (λ x. x.unit) result.now.first ≡ map (λ e. e.unit) self.now.eligible }
+        ensures eligible { map (λ x. x.unit) result.now.first
+            ≡ map (λ e. e.unit) self.now.eligible }
         ensures spent { map (λ x. x.unit) result.now.second ≡ map (λ e. e.unit) self.now.spent }
     {
         self.queue.ring()
@@ -177,7 +178,7 @@ fn remove_from<L: Ledger>(queues: &mut RtdsQueues, u: UnitId, blank: Blank) -> b
     requires parts { blank.parts ≡ L.parts }
     requires one { blank.parts ≡ 1 }
     ensures answer { result ≡ holds queues.old u }
-    ensures gone { OnTrue result (queues.new ≡ removed queues.old u) }
+    ensures gone { OnTrue result (queues.new ≡ after_remove queues.old u) }
     ensures none { OnFalse result (queues.new ≡ queues.old) }
 {
     let mut steps = Steps::<L>::new(blank);
@@ -220,7 +221,7 @@ fn renew_from<L: Ledger>(queues: &mut RtdsQueues, u: UnitId, key: RtdsKey, blank
     requires name { blank.name ≡ L.name }
     requires parts { blank.parts ≡ L.parts }
     requires one { blank.parts ≡ 1 }
-    ensures { queues.new ≡ renewed queues.old u key }
+    ensures { queues.new ≡ after_renew queues.old u key }
 {
     let mut steps = Steps::<L>::new(blank);
     queues.renew_counted(u, key, &mut steps);

@@ -3,7 +3,7 @@ use Rattle.std.specs.Prelude.{ℕ, ◌+◌, ◌-◌, ℤ, List, [], length, map}
 use Rattle.sched_base.specs.declared.UnitId.{UnitId}
 use Rattle.sched_base.specs.Numbers.{domain}
 use Rattle.arrival_queue.specs.declared.key.Key.{Key}
-use Rattle.arrival_queue.specs.Queues.{Queued, queued, placed, without, rank_in, closed_up}
+use Rattle.arrival_queue.specs.Queues.{Queued, queued_unit, list_with, list_without, rank_in, closed_up}
 
 -- the units in their order, each with its key and how many of the others arrived earlier, and how many more there is room for
 pub record Queue : Type 0 where
@@ -15,20 +15,20 @@ abbrev pub plain : ℤ → Key
 plain key = record { first = key; second = 0 }
 
 -- with a unit that arrives
-abbrev pub inserted : Queue → UnitId → ℤ → Queue
-inserted q u key = record { units = placed (queued u (plain key) (length q.units)) q.units; spare = q.spare - 1 }
+abbrev pub after_insert : Queue → UnitId → ℤ → Queue
+after_insert q u key = record { units = list_with (queued_unit u (plain key) (length q.units)) q.units; spare = q.spare - 1 }
 
 -- without a unit
-abbrev pub removed : Queue → UnitId → Queue
-removed q u = record { units = map (closed_up (rank_in u q.units)) (without u q.units); spare = q.spare + 1 }
+abbrev pub after_remove : Queue → UnitId → Queue
+after_remove q u = record { units = map (closed_up (rank_in u q.units)) (list_without u q.units); spare = q.spare + 1 }
 
 -- with a unit of the queue at its place by another key; its arrival stays
-abbrev pub rekeyed : Queue → UnitId → ℤ → Queue
-rekeyed q u key = record { units = placed (queued u (plain key) (rank_in u q.units)) (without u q.units); spare = q.spare }
+abbrev pub after_rekey : Queue → UnitId → ℤ → Queue
+after_rekey q u key = record { units = list_with (queued_unit u (plain key) (rank_in u q.units)) (list_without u q.units); spare = q.spare }
 
 -- no unit, and room for so many
-abbrev pub empty : ℕ → Queue
-empty units = record { units = []; spare = units }
+abbrev pub empty_queue : ℕ → Queue
+empty_queue units = record { units = []; spare = units }
 
 -- the first unit of a domain
 abbrev pub unit_id : ℕ → UnitId

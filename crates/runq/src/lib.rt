@@ -8,7 +8,7 @@ ghost use Rattle.std.specs.Bool.{OnTrue, OnFalse};
 ghost use Rattle.unit_places.specs.Places.{has_place};
 ghost use Rattle.arrival_queue.specs.Queues.{has_unit};
 ghost use Rattle.arrival_queue.specs.Filters.{first_of, first_that, has_domain as domain_in, may_run};
-ghost use Rattle.runq.specs.Queue.{inserted, removed, rekeyed, plain as plain_key};
+ghost use Rattle.runq.specs.Queue.{after_insert, after_remove, after_rekey, plain as plain_key};
 
 pub use arrival_queue::Allowed;
 use arrival_queue::{ArrivalQueue, Key};
@@ -53,11 +53,11 @@ impl Runq {
     ghost use Rattle.arrival_queue.specs.Order.{IsInOrder, EachRankOnce, EachUnitOnce};
     ghost use Rattle.arrival_queue.specs.Queues.{has_unit};
     ghost use Rattle.arrival_queue.specs.Filters.{first_of, first_that, has_domain as domain_in, may_run};
-    ghost use Rattle.runq.specs.Queue.{inserted, removed, rekeyed, empty};
+    ghost use Rattle.runq.specs.Queue.{after_insert, after_remove, after_rekey, empty_queue};
 
     /// A queue with room for so many units.
     pub fn room(alloc: Global, units: usize) -> Result<Runq, NoMemory>
-        ensures { IfOk result (λ queue. queue ≡ empty units) }
+        ensures { IfOk result (λ queue. queue ≡ empty_queue units) }
     {
         let queue = ArrivalQueue::room(alloc, units)?;
         Ok(Runq { queue })
@@ -68,7 +68,7 @@ impl Runq {
         requires place { has_place u ≡ true }
         requires absent { has_unit u self.old.units ≡ false }
         requires room { 0 < self.old.spare }
-        ensures { self.new ≡ inserted self.old u key }
+        ensures { self.new ≡ after_insert self.old u key }
     {
         insert_from::<Brand>(self, u, key, Blank::new(1))
     }
@@ -78,7 +78,7 @@ impl Runq {
         requires place { has_place u ≡ true }
         requires absent { has_unit u self.old.units ≡ false }
         requires room { 0 < self.old.spare }
-        ensures after { self.new ≡ inserted self.old u key }
+        ensures after { self.new ≡ after_insert self.old u key }
         ensures cost { steps.new ≤ steps.old + length self.old.units + 2 }
     {
         self.queue.insert_counted(u, plain(key), steps);
@@ -87,7 +87,7 @@ impl Runq {
     /// Takes a unit away. False where it is not in the queue, and then nothing changes.
     pub fn remove(&mut self, u: UnitId) -> bool
         ensures answer { result ≡ has_unit u self.old.units }
-        ensures gone { OnTrue result (self.new ≡ removed self.old u) }
+        ensures gone { OnTrue result (self.new ≡ after_remove self.old u) }
         ensures none { OnFalse result (self.new ≡ self.old) }
     {
         remove_from::<Brand>(self, u, Blank::new(1))
@@ -96,7 +96,7 @@ impl Runq {
     /// As `remove`, in at most one step.
     pub fn remove_counted<L: Ledger>(&mut self, u: UnitId, steps: &mut Steps<L>) -> bool
         ensures answer { result ≡ has_unit u self.old.units }
-        ensures gone { OnTrue result (self.new ≡ removed self.old u) }
+        ensures gone { OnTrue result (self.new ≡ after_remove self.old u) }
         ensures none { OnFalse result (self.new ≡ self.old) }
         ensures cost { steps.new ≤ steps.old + 1 }
     {
@@ -113,7 +113,7 @@ impl Runq {
     /// Puts a unit of the queue at its place by another key. Its arrival stays, and counts among equal keys.
     pub fn rekey(&mut self, u: UnitId, key: i128)
         requires { has_unit u self.old.units ≡ true }
-        ensures { self.new ≡ rekeyed self.old u key }
+        ensures { self.new ≡ after_rekey self.old u key }
     {
         rekey_from::<Brand>(self, u, key, Blank::new(1))
     }
@@ -121,7 +121,7 @@ impl Runq {
     /// As `rekey`, in at most n + 2 steps, n the length.
     pub fn rekey_counted<L: Ledger>(&mut self, u: UnitId, key: i128, steps: &mut Steps<L>)
         requires { has_unit u self.old.units ≡ true }
-        ensures after { self.new ≡ rekeyed self.old u key }
+        ensures after { self.new ≡ after_rekey self.old u key }
         ensures cost { steps.new ≤ steps.old + length self.old.units + 2 }
     {
         self.queue.move_counted(u, plain(key), steps);
@@ -157,7 +157,8 @@ impl Runq {
         core: ResId,
         home: Cores,
     ) -> Option<UnitId>
-        ensures { result ≡ first_that (λ u. domain_in allowed.now.0 u.dom.0 && may_run masks.now core home u) self.now.units }
+        ensures { result ≡ first_that (λ u. domain_in allowed.now.0 u.dom.0
+            && may_run masks.now core home u) self.now.units }
     {
         first_on_from::<Brand>(self, *allowed, masks, core, home, Blank::new(1))
     }
@@ -189,7 +190,7 @@ fn insert_from<L: Ledger>(queue: &mut Runq, u: UnitId, key: i128, blank: Blank)
     requires name { blank.name ≡ L.name }
     requires parts { blank.parts ≡ L.parts }
     requires one { blank.parts ≡ 1 }
-    ensures { queue.new ≡ inserted queue.old u key }
+    ensures { queue.new ≡ after_insert queue.old u key }
 {
     let mut steps = Steps::<L>::new(blank);
     queue.insert_counted(u, key, &mut steps);
@@ -201,7 +202,7 @@ fn remove_from<L: Ledger>(queue: &mut Runq, u: UnitId, blank: Blank) -> bool
     requires parts { blank.parts ≡ L.parts }
     requires one { blank.parts ≡ 1 }
     ensures answer { result ≡ has_unit u queue.old.units }
-    ensures gone { OnTrue result (queue.new ≡ removed queue.old u) }
+    ensures gone { OnTrue result (queue.new ≡ after_remove queue.old u) }
     ensures none { OnFalse result (queue.new ≡ queue.old) }
 {
     let mut steps = Steps::<L>::new(blank);
@@ -214,7 +215,7 @@ fn rekey_from<L: Ledger>(queue: &mut Runq, u: UnitId, key: i128, blank: Blank)
     requires name { blank.name ≡ L.name }
     requires parts { blank.parts ≡ L.parts }
     requires one { blank.parts ≡ 1 }
-    ensures { queue.new ≡ rekeyed queue.old u key }
+    ensures { queue.new ≡ after_rekey queue.old u key }
 {
     let mut steps = Steps::<L>::new(blank);
     queue.rekey_counted(u, key, &mut steps);
@@ -254,7 +255,8 @@ fn first_on_from<L: Ledger>(
     requires name { blank.name ≡ L.name }
     requires parts { blank.parts ≡ L.parts }
     requires one { blank.parts ≡ 1 }
-    ensures { result ≡ first_that (λ u. domain_in allowed.0 u.dom.0 && may_run masks.now core home u) queue.now.units }
+    ensures { result ≡ first_that (λ u. domain_in allowed.0 u.dom.0
+        && may_run masks.now core home u) queue.now.units }
 {
     let mut steps = Steps::<L>::new(blank);
     queue

@@ -31,7 +31,8 @@ impl Model for Masks {
 /// All cores, so many times.
 fn every_core_times(alloc: Global, times: usize) -> Result<Vec<Cores>, NoMemory>
     ensures length { IfOk result (λ all. length all.items ≡ times) }
-    ensures every { IfOk result (λ all. (k : ℕ) → slice_index_or all.items k every_core ≡ every_core) }
+    ensures every { IfOk result (λ all. (k : ℕ) → slice_index_or all.items k every_core
+        ≡ every_core) }
 {
     Ok(vec![in alloc; EVERY_CORE; times]?)
 }
@@ -56,7 +57,8 @@ impl Masks {
     pub fn set(&mut self, u: UnitId, cores: Cores)
         requires { has_place u ≡ true }
         ensures mask { mask_of self.new u ≡ cores }
-        ensures others { (w : Unit) → same_unit w u ≡ false → mask_of self.new w ≡ mask_of self.old w }
+        ensures others { (w : Unit) → same_unit w u ≡ false → mask_of self.new w
+            ≡ mask_of self.old w }
     {
         self.cores[index_of(u)] = cores;
     }

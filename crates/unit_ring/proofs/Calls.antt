@@ -1,22 +1,23 @@
 -- The calls that move a node, each as what callers see of it.
 use Rattle.std.proofs.Common.{◌≡◌, ℕ, zero, suc, ◌+◌, ◌-◌, ◌<◌, ◌≤◌, List, [], ◌∷◌, ◌++◌, length, set, Bool, true, false, refl, sym, ◌∙◌, ap, subst, inl, inr, arith, length-set, length-append}
-use Rattle.std.specs.Prelude.{◌||◌, if◌then◌else◌}
+use Rattle.std.specs.Prelude.{◌||◌, if◌then◌else◌, Option, None}
+use Rattle.unit_ring.specs.declared.Node.{Node}
 use Rattle.std.proofs.lemmas.Bool.{cases_eq}
 use Rattle.std.proofs.lemmas.List.{get_or-set_same}
 use Rattle.sched_base.specs.declared.UnitId.{UnitId}
 use Rattle.unit_ring.specs.Lists as l
-use Rattle.unit_ring.specs.Lists.{Item, Lists, item, no_unit, has_node, is_live, unit_of, unit_in, list_of, first_in, next_in, next_of, taken, given, appended, room_of}
-use Rattle.unit_ring.specs.Chains.{Lacks, Has, Path, Below, Distinct, IsChain, IsRing, chain, fenced, nodes_of, second_of, free_of, without, put_before, unit_at, items, lists_of, link, as_node, nodes_up_to, after_with, before_with}
+use Rattle.unit_ring.specs.Lists.{Item, Lists, item, no_unit, has_node, is_live, unit_of, unit_in, list_of, first_in, next_in, next_of, last_in, prev_from, prev_of, after_take, after_give, after_append, room_of}
+use Rattle.unit_ring.specs.Chains.{Lacks, Has, Path, Below, Distinct, IsChain, IsRing, chain, fenced_numbers, nodes_of, second_of, free_of, numbers_without, put_before, unit_at, items, lists_of, link, as_node, nodes_up_to, after_with, before_with}
 use Rattle.unit_ring.proofs.Linking.{IsChain-put_before, chain-is, length-chain, without-same, without-lacks, put_before-lacks, Lacks-Has, Below-Has, Lacks-without}
 use Rattle.unit_ring.proofs.Fences.{Has-right, Lacks-append, Plain, high, fenced-without, fenced-put_before, fenced-first_end, fenced-second_end, fenced-free_end}
-use Rattle.unit_ring.proofs.ItemLists.{items-append, items-set, items-without, items-put_before, has_node-lacks, Has-has_node, unit_in-items, first_in-items, next_in-items}
+use Rattle.unit_ring.proofs.ItemLists.{items-append, items-set, items-without, items-put_before, has_node-lacks, Has-has_node, unit_in-items, as_node-fence, first_in-items, next_in-items, last_from-items, prev_from-items}
 use Rattle.unit_ring.proofs.Operations.{ring_parted, live_in, live_high, FirstFree, Made, made, chain_has_free, chain_has_1, chain_has_2, ring_path, second_path, live_has}
-use Rattle.unit_ring.proofs.Shifting.{below, after_below}
+use Rattle.unit_ring.proofs.Shifting.{below, before_below, after_below}
 
 Plain-tail : (n : ℕ) (xs : List ℕ) → Plain (n ∷ xs) → Plain xs
 Plain-tail n xs p = record { no_0 = p.no_0.1; no_1 = p.no_1.1; no_2 = p.no_2.1; no_3 = p.no_3.1 }
 
-Plain-without : (n : ℕ) (xs : List ℕ) → Plain xs → Plain (without n xs)
+Plain-without : (n : ℕ) (xs : List ℕ) → Plain xs → Plain (numbers_without n xs)
 Plain-without n xs p = record {
   no_0 = Lacks-without 0 n xs p.no_0;
   no_1 = Lacks-without 1 n xs p.no_1;
@@ -50,20 +51,20 @@ live_not_free f g us n at ring first live e =
 
 -- the chain without the first free node, and without a live one
 without_free : (f g : List ℕ) (us : List UnitId) (n : ℕ) → IsRing f g us → (first : FirstFree f n)
-    → without n (chain f) ≡ fenced (nodes_of f) (second_of f) first.rest
+    → numbers_without n (chain f) ≡ fenced_numbers (nodes_of f) (second_of f) first.rest
 without_free f g us n ring first =
     let parts = ring_parted f g us ring in
     let lacks = parts.free_only n first.has in
-    let gone : without n (free_of f) ≡ first.rest =
-    ap (without n) first.is
+    let gone : numbers_without n (free_of f) ≡ first.rest =
+    ap (numbers_without n) first.is
     ∙ without-same n n first.rest refl
     ∙ without-lacks n first.rest (subst (λ (zs : List ℕ). Distinct zs) first.is parts.free_distinct).0
     in
-    ap (without n) ring.parts
+    ap (numbers_without n) ring.parts
     ∙ fenced-without n (nodes_of f) (second_of f) (free_of f) (free_high f g us n ring first)
-    ∙ ap (λ (ws : List ℕ). fenced ws (without n (second_of f)) (without n (free_of f))) (without-lacks n (nodes_of f) lacks.0)
-    ∙ ap (λ (ws : List ℕ). fenced (nodes_of f) ws (without n (free_of f))) (without-lacks n (second_of f) lacks.1)
-    ∙ ap (fenced (nodes_of f) (second_of f)) gone
+    ∙ ap (λ (ws : List ℕ). fenced_numbers ws (numbers_without n (second_of f)) (numbers_without n (free_of f))) (without-lacks n (nodes_of f) lacks.0)
+    ∙ ap (λ (ws : List ℕ). fenced_numbers (nodes_of f) ws (numbers_without n (free_of f))) (without-lacks n (second_of f) lacks.1)
+    ∙ ap (fenced_numbers (nodes_of f) (second_of f)) gone
 
 live_lacks_free : (f g : List ℕ) (us : List UnitId) (n : ℕ) → IsRing f g us → is_live (lists_of f us) n ≡ true → Lacks n (free_of f)
 live_lacks_free f g us n ring live =
@@ -71,11 +72,11 @@ live_lacks_free f g us n ring live =
     elim (live_in f us n live) [ inl has ↦ (parts.first_only n has).1 | inr has ↦ (parts.second_only n has).1 ]
 
 without_live : (f g : List ℕ) (us : List UnitId) (n : ℕ) → IsRing f g us → is_live (lists_of f us) n ≡ true
-    → without n (chain f) ≡ fenced (without n (nodes_of f)) (without n (second_of f)) (free_of f)
+    → numbers_without n (chain f) ≡ fenced_numbers (numbers_without n (nodes_of f)) (numbers_without n (second_of f)) (free_of f)
 without_live f g us n ring live =
-    ap (without n) ring.parts
+    ap (numbers_without n) ring.parts
     ∙ fenced-without n (nodes_of f) (second_of f) (free_of f) (live_high f g us n ring live)
-    ∙ ap (fenced (without n (nodes_of f)) (without n (second_of f))) (without-lacks n (free_of f) (live_lacks_free f g us n ring live))
+    ∙ ap (fenced_numbers (numbers_without n (nodes_of f)) (numbers_without n (second_of f))) (without-lacks n (free_of f) (live_lacks_free f g us n ring live))
 
 -- a node with its unit at the end of a list
 items-end : (us : List UnitId) (n : ℕ) (u : UnitId) (xs : List ℕ) → Lacks n xs → n < length us
@@ -101,13 +102,13 @@ module _ (f g f2 g2 : List ℕ) (us : List UnitId) (n : ℕ) (u : UnitId) (ring 
   low : n < length us
   low = subst (λ (k : ℕ). n < k) (sym ring.places) (free_below f g us n ring first)
 
-  pub pushed_first : chain f2 ≡ put_before 1 n (without n (chain f))
-      → IsRing f2 g2 (set us n u) × (lists_of f2 (set us n u) ≡ taken (appended (lists_of f us) 0 (item n u)))
+  pub pushed_first : chain f2 ≡ put_before 1 n (numbers_without n (chain f))
+      → IsRing f2 g2 (set us n u) × (lists_of f2 (set us n u) ≡ after_take (after_append (lists_of f us) 0 (item n u)))
   pushed_first moved =
       let parts = ring_parted f g us ring in
       let lacks = parts.free_only n first.has in
       let free : Plain first.rest = Plain-tail n first.rest (subst Plain first.is parts.free) in
-      let is : chain f2 ≡ fenced (nodes_of f ++ n ∷ []) (second_of f) first.rest =
+      let is : chain f2 ≡ fenced_numbers (nodes_of f ++ n ∷ []) (second_of f) first.rest =
       moved ∙ ap (put_before 1 n) (without_free f g us n ring first) ∙ fenced-first_end n (nodes_of f) (second_of f) first.rest parts.first parts.second free
       in
       let m = made f2 g2 (set us n u) (nodes_of f ++ n ∷ []) (second_of f) first.rest whole is places in (
@@ -118,13 +119,13 @@ module _ (f g f2 g2 : List ℕ) (us : List UnitId) (n : ℕ) (u : UnitId) (ring 
             ∙ ap (lists (items us (nodes_of f) ++ item n u ∷ []) (items us (second_of f))) (spare_less n (free_of f) first.rest first.is),
       )
 
-  pub pushed_second : chain f2 ≡ put_before 2 n (without n (chain f))
-      → IsRing f2 g2 (set us n u) × (lists_of f2 (set us n u) ≡ taken (appended (lists_of f us) 1 (item n u)))
+  pub pushed_second : chain f2 ≡ put_before 2 n (numbers_without n (chain f))
+      → IsRing f2 g2 (set us n u) × (lists_of f2 (set us n u) ≡ after_take (after_append (lists_of f us) 1 (item n u)))
   pushed_second moved =
       let parts = ring_parted f g us ring in
       let lacks = parts.free_only n first.has in
       let free : Plain first.rest = Plain-tail n first.rest (subst Plain first.is parts.free) in
-      let is : chain f2 ≡ fenced (nodes_of f) (second_of f ++ n ∷ []) first.rest =
+      let is : chain f2 ≡ fenced_numbers (nodes_of f) (second_of f ++ n ∷ []) first.rest =
       moved ∙ ap (put_before 2 n) (without_free f g us n ring first) ∙ fenced-second_end n (nodes_of f) (second_of f) first.rest parts.first parts.second free
       in
       let m = made f2 g2 (set us n u) (nodes_of f) (second_of f ++ n ∷ []) first.rest whole is places in (
@@ -136,27 +137,27 @@ module _ (f g f2 g2 : List ℕ) (us : List UnitId) (n : ℕ) (u : UnitId) (ring 
       )
 
   -- at the end of either list
-  pub pushed : (k : ℕ) → k ≤ 1 → chain f2 ≡ put_before (k + 1) n (without n (chain f))
-      → IsRing f2 g2 (set us n u) × (lists_of f2 (set us n u) ≡ taken (appended (lists_of f us) k (item n u)))
+  pub pushed : (k : ℕ) → k ≤ 1 → chain f2 ≡ put_before (k + 1) n (numbers_without n (chain f))
+      → IsRing f2 g2 (set us n u) × (lists_of f2 (set us n u) ≡ after_take (after_append (lists_of f us) k (item n u)))
   pushed k either moved =
-      let Goal : ℕ → Type 0 = λ j. IsRing f2 g2 (set us n u) × (lists_of f2 (set us n u) ≡ taken (appended (lists_of f us) j (item n u))) in
-      let Moved : ℕ → Type 0 = λ j. chain f2 ≡ put_before (j + 1) n (without n (chain f)) in
+      let Goal : ℕ → Type 0 = λ j. IsRing f2 g2 (set us n u) × (lists_of f2 (set us n u) ≡ after_take (after_append (lists_of f us) j (item n u))) in
+      let Moved : ℕ → Type 0 = λ j. chain f2 ≡ put_before (j + 1) n (numbers_without n (chain f)) in
       elim (cases_eq k 0) [
         | inl e ↦ subst Goal (sym e) (pushed_first (subst Moved e moved))
         | inr other ↦ let one : k ≡ 1 = omega arith in subst Goal (sym one) (pushed_second (subst Moved one moved))
       ]
 
-  pub inserted : (at : ℕ) → is_live (lists_of f us) at ≡ true → chain f2 ≡ put_before at n (without n (chain f))
-      → IsRing f2 g2 (set us n u) × (lists_of f2 (set us n u) ≡ taken (l.put_before (lists_of f us) at (item n u)))
+  pub inserted : (at : ℕ) → is_live (lists_of f us) at ≡ true → chain f2 ≡ put_before at n (numbers_without n (chain f))
+      → IsRing f2 g2 (set us n u) × (lists_of f2 (set us n u) ≡ after_take (l.put_before (lists_of f us) at (item n u)))
   inserted at live moved =
       let parts = ring_parted f g us ring in
       let lacks = parts.free_only n first.has in
       let free_lacks : Lacks at first.rest = (subst (Lacks at) first.is (live_lacks_free f g us at ring live)).1 in
-      let is : chain f2 ≡ fenced (put_before at n (nodes_of f)) (put_before at n (second_of f)) first.rest =
+      let is : chain f2 ≡ fenced_numbers (put_before at n (nodes_of f)) (put_before at n (second_of f)) first.rest =
       moved
       ∙ ap (put_before at n) (without_free f g us n ring first)
       ∙ fenced-put_before at n (nodes_of f) (second_of f) first.rest (live_high f g us at ring live)
-      ∙ ap (fenced (put_before at n (nodes_of f)) (put_before at n (second_of f))) (put_before-lacks at n first.rest free_lacks)
+      ∙ ap (fenced_numbers (put_before at n (nodes_of f)) (put_before at n (second_of f))) (put_before-lacks at n first.rest free_lacks)
       in
       let m = made f2 g2 (set us n u) (put_before at n (nodes_of f)) (put_before at n (second_of f)) first.rest whole is places in (
         m.ring,
@@ -188,25 +189,25 @@ module _ (f g f2 g2 : List ℕ) (us : List UnitId) (n : ℕ) (ring : IsRing f g 
   kept_places : length us ≡ length f2
   kept_places = ring.places ∙ sym size
 
-  first_without : Plain (without n (nodes_of f))
+  first_without : Plain (numbers_without n (nodes_of f))
   first_without = Plain-without n (nodes_of f) (ring_parted f g us ring).first
 
-  second_without : Plain (without n (second_of f))
+  second_without : Plain (numbers_without n (second_of f))
   second_without = Plain-without n (second_of f) (ring_parted f g us ring).second
 
-  pub unlinked : chain f2 ≡ put_before 3 n (without n (chain f))
-      → IsRing f2 g2 us × (lists_of f2 us ≡ given (l.without (lists_of f us) n))
+  pub unlinked : chain f2 ≡ put_before 3 n (numbers_without n (chain f))
+      → IsRing f2 g2 us × (lists_of f2 us ≡ after_give (l.lists_without (lists_of f us) n))
   unlinked moved =
-      let is : chain f2 ≡ fenced (without n (nodes_of f)) (without n (second_of f)) (free_of f ++ n ∷ []) =
+      let is : chain f2 ≡ fenced_numbers (numbers_without n (nodes_of f)) (numbers_without n (second_of f)) (free_of f ++ n ∷ []) =
       moved
       ∙ ap (put_before 3 n) (without_live f g us n ring live)
-      ∙ fenced-free_end n (without n (nodes_of f)) (without n (second_of f)) (free_of f) first_without second_without (ring_parted f g us ring).free
+      ∙ fenced-free_end n (numbers_without n (nodes_of f)) (numbers_without n (second_of f)) (free_of f) first_without second_without (ring_parted f g us ring).free
       in
-      let m = made f2 g2 us (without n (nodes_of f)) (without n (second_of f)) (free_of f ++ n ∷ []) whole is kept_places in
+      let m = made f2 g2 us (numbers_without n (nodes_of f)) (numbers_without n (second_of f)) (free_of f ++ n ∷ []) whole is kept_places in
       let more : length (free_of f ++ n ∷ []) ≡ length (free_of f) + 1 = length-append (free_of f) (n ∷ []) in (
         m.ring,
         m.lists
-            ∙ ap (λ (xs : List Item). lists xs (items us (without n (second_of f))) (length (free_of f ++ n ∷ []))) (items-without us n (nodes_of f))
+            ∙ ap (λ (xs : List Item). lists xs (items us (numbers_without n (second_of f))) (length (free_of f ++ n ∷ []))) (items-without us n (nodes_of f))
             ∙ ap (λ (ys : List Item). lists (l.without_in n (items us (nodes_of f))) ys (length (free_of f ++ n ∷ []))) (items-without us n (second_of f))
             ∙ ap (lists (l.without_in n (items us (nodes_of f))) (l.without_in n (items us (second_of f)))) more,
       )
@@ -215,44 +216,44 @@ module _ (f g f2 g2 : List ℕ) (us : List UnitId) (n : ℕ) (ring : IsRing f g 
   end_of xs =
       items-append us xs (n ∷ []) ∙ ap (λ (w : UnitId). items us xs ++ item n w ∷ []) (sym (unit_of_live f g us n ring live))
 
-  pub shifted_first : chain f2 ≡ put_before 1 n (without n (chain f))
-      → IsRing f2 g2 us × (lists_of f2 us ≡ appended (l.without (lists_of f us) n) 0 (item n (unit_of (lists_of f us) n)))
+  pub shifted_first : chain f2 ≡ put_before 1 n (numbers_without n (chain f))
+      → IsRing f2 g2 us × (lists_of f2 us ≡ after_append (l.lists_without (lists_of f us) n) 0 (item n (unit_of (lists_of f us) n)))
   shifted_first moved =
-      let is : chain f2 ≡ fenced (without n (nodes_of f) ++ n ∷ []) (without n (second_of f)) (free_of f) =
+      let is : chain f2 ≡ fenced_numbers (numbers_without n (nodes_of f) ++ n ∷ []) (numbers_without n (second_of f)) (free_of f) =
       moved
       ∙ ap (put_before 1 n) (without_live f g us n ring live)
-      ∙ fenced-first_end n (without n (nodes_of f)) (without n (second_of f)) (free_of f) first_without second_without (ring_parted f g us ring).free
+      ∙ fenced-first_end n (numbers_without n (nodes_of f)) (numbers_without n (second_of f)) (free_of f) first_without second_without (ring_parted f g us ring).free
       in
-      let m = made f2 g2 us (without n (nodes_of f) ++ n ∷ []) (without n (second_of f)) (free_of f) whole is kept_places in (
+      let m = made f2 g2 us (numbers_without n (nodes_of f) ++ n ∷ []) (numbers_without n (second_of f)) (free_of f) whole is kept_places in (
         m.ring,
         m.lists
-            ∙ ap (λ (xs : List Item). lists xs (items us (without n (second_of f))) (length (free_of f))) (end_of (without n (nodes_of f)))
-            ∙ ap (λ (xs : List Item). lists (xs ++ item n (unit_of (lists_of f us) n) ∷ []) (items us (without n (second_of f))) (length (free_of f))) (items-without us n (nodes_of f))
+            ∙ ap (λ (xs : List Item). lists xs (items us (numbers_without n (second_of f))) (length (free_of f))) (end_of (numbers_without n (nodes_of f)))
+            ∙ ap (λ (xs : List Item). lists (xs ++ item n (unit_of (lists_of f us) n) ∷ []) (items us (numbers_without n (second_of f))) (length (free_of f))) (items-without us n (nodes_of f))
             ∙ ap (λ (ys : List Item). lists (l.without_in n (items us (nodes_of f)) ++ item n (unit_of (lists_of f us) n) ∷ []) ys (length (free_of f))) (items-without us n (second_of f)),
       )
 
-  pub shifted_second : chain f2 ≡ put_before 2 n (without n (chain f))
-      → IsRing f2 g2 us × (lists_of f2 us ≡ appended (l.without (lists_of f us) n) 1 (item n (unit_of (lists_of f us) n)))
+  pub shifted_second : chain f2 ≡ put_before 2 n (numbers_without n (chain f))
+      → IsRing f2 g2 us × (lists_of f2 us ≡ after_append (l.lists_without (lists_of f us) n) 1 (item n (unit_of (lists_of f us) n)))
   shifted_second moved =
-      let is : chain f2 ≡ fenced (without n (nodes_of f)) (without n (second_of f) ++ n ∷ []) (free_of f) =
+      let is : chain f2 ≡ fenced_numbers (numbers_without n (nodes_of f)) (numbers_without n (second_of f) ++ n ∷ []) (free_of f) =
       moved
       ∙ ap (put_before 2 n) (without_live f g us n ring live)
-      ∙ fenced-second_end n (without n (nodes_of f)) (without n (second_of f)) (free_of f) first_without second_without (ring_parted f g us ring).free
+      ∙ fenced-second_end n (numbers_without n (nodes_of f)) (numbers_without n (second_of f)) (free_of f) first_without second_without (ring_parted f g us ring).free
       in
-      let m = made f2 g2 us (without n (nodes_of f)) (without n (second_of f) ++ n ∷ []) (free_of f) whole is kept_places in (
+      let m = made f2 g2 us (numbers_without n (nodes_of f)) (numbers_without n (second_of f) ++ n ∷ []) (free_of f) whole is kept_places in (
         m.ring,
         m.lists
-            ∙ ap (λ (xs : List Item). lists xs (items us (without n (second_of f) ++ n ∷ [])) (length (free_of f))) (items-without us n (nodes_of f))
-            ∙ ap (λ (ys : List Item). lists (l.without_in n (items us (nodes_of f))) ys (length (free_of f))) (end_of (without n (second_of f)))
+            ∙ ap (λ (xs : List Item). lists xs (items us (numbers_without n (second_of f) ++ n ∷ [])) (length (free_of f))) (items-without us n (nodes_of f))
+            ∙ ap (λ (ys : List Item). lists (l.without_in n (items us (nodes_of f))) ys (length (free_of f))) (end_of (numbers_without n (second_of f)))
             ∙ ap (λ (ys : List Item). lists (l.without_in n (items us (nodes_of f))) (ys ++ item n (unit_of (lists_of f us) n) ∷ []) (length (free_of f))) (items-without us n (second_of f)),
       )
 
   -- to the end of either list
-  pub shifted : (k : ℕ) → k ≤ 1 → chain f2 ≡ put_before (k + 1) n (without n (chain f))
-      → IsRing f2 g2 us × (lists_of f2 us ≡ appended (l.without (lists_of f us) n) k (item n (unit_of (lists_of f us) n)))
+  pub shifted : (k : ℕ) → k ≤ 1 → chain f2 ≡ put_before (k + 1) n (numbers_without n (chain f))
+      → IsRing f2 g2 us × (lists_of f2 us ≡ after_append (l.lists_without (lists_of f us) n) k (item n (unit_of (lists_of f us) n)))
   shifted k either moved =
-      let Goal : ℕ → Type 0 = λ j. IsRing f2 g2 us × (lists_of f2 us ≡ appended (l.without (lists_of f us) n) j (item n (unit_of (lists_of f us) n))) in
-      let Moved : ℕ → Type 0 = λ j. chain f2 ≡ put_before (j + 1) n (without n (chain f)) in
+      let Goal : ℕ → Type 0 = λ j. IsRing f2 g2 us × (lists_of f2 us ≡ after_append (l.lists_without (lists_of f us) n) j (item n (unit_of (lists_of f us) n))) in
+      let Moved : ℕ → Type 0 = λ j. chain f2 ≡ put_before (j + 1) n (numbers_without n (chain f)) in
       elim (cases_eq k 0) [
         | inl e ↦ subst Goal (sym e) (shifted_first (subst Moved e moved))
         | inr other ↦ let one : k ≡ 1 = omega arith in subst Goal (sym one) (shifted_second (subst Moved one moved))
@@ -297,6 +298,36 @@ next_is f g us n ring live =
           ∙ sym (ap (λ (t : Bool). if t then next_in n (items us (nodes_of f)) else next_in n (items us (second_of f))) (has_node-lacks us n (nodes_of f) (parts.second_only n has).0))
     ]
 
+-- the same back: from the fence after a list, and from a live node
+pub last_is : (f g : List ℕ) (us : List UnitId) (k : ℕ) → IsRing f g us → k ≤ 1
+    → as_node (link g (k + 1)) ≡ last_in (list_of (lists_of f us) k)
+last_is f g us k ring either =
+    let parts = ring_parted f g us ring in
+    let Goal : ℕ → Type 0 = λ j. as_node (link g (j + 1)) ≡ last_in (list_of (lists_of f us) j) in
+    elim (cases_eq k 0) [
+      | inl e ↦
+          subst Goal (sym e)
+          (last_from-items f g us 0 1 None (nodes_of f) (second_of f ++ 2 ∷ (free_of f ++ 3 ∷ [])) (ring_path f g us ring) (high (nodes_of f) parts.first) (as_node-fence 0 (omega arith)))
+      | inr other ↦
+          let one : k ≡ 1 = omega arith in
+          subst Goal (sym one)
+          (last_from-items f g us 1 2 None (second_of f) (free_of f ++ 3 ∷ []) (second_path f g us ring) (high (second_of f) parts.second) (as_node-fence 1 (omega arith)))
+    ]
+
+pub prev_is : (f g : List ℕ) (us : List UnitId) (n : ℕ) → IsRing f g us → is_live (lists_of f us) n ≡ true
+    → as_node (link g n) ≡ prev_of (lists_of f us) n
+prev_is f g us n ring live =
+    let parts = ring_parted f g us ring in
+    let pick : Bool → Option Node = λ t. if t then prev_from None n (items us (nodes_of f)) else prev_from None n (items us (second_of f)) in
+    elim (live_in f us n live) [
+      | inl has ↦
+          prev_from-items f g us 0 n 1 None (nodes_of f) (second_of f ++ 2 ∷ (free_of f ++ 3 ∷ [])) (ring_path f g us ring) (high (nodes_of f) parts.first) (as_node-fence 0 (omega arith)) has
+          ∙ sym (ap pick (Has-has_node us n (nodes_of f) has))
+      | inr has ↦
+          prev_from-items f g us 1 n 2 None (second_of f) (free_of f ++ 3 ∷ []) (second_path f g us ring) (high (second_of f) parts.second) (as_node-fence 1 (omega arith)) has
+          ∙ sym (ap pick (has_node-lacks us n (nodes_of f) (parts.second_only n has).0))
+    ]
+
 -- what is read at a live node
 pub read_unit : (f g : List ℕ) (us : List UnitId) (lists : Lists) (n : ℕ) (u : UnitId) → IsRing f g us → lists_of f us ≡ lists
     → is_live lists n ≡ true → u ≡ unit_at us n → u ≡ unit_of lists n
@@ -327,29 +358,29 @@ length-up_to (suc k) =
     omega (arith, more, length-up_to k)
 
 -- the next number is not in the chain of those before it
-pub next_lacks : (k : ℕ) → Lacks (4 + k) (0 ∷ fenced [] [] (nodes_up_to k))
+pub next_lacks : (k : ℕ) → Lacks (4 + k) (0 ∷ fenced_numbers [] [] (nodes_up_to k))
 next_lacks k = (
   (λ e. omega (arith, e)),
   ((λ e. omega (arith, e)), ((λ e. omega (arith, e)), Lacks-append (4 + k) (nodes_up_to k) (3 ∷ []) (Lacks-up_to (4 + k) k (λ j low e. omega (arith, low, e))) ((λ e. omega (arith, e)), tt))),
 )
 
 -- with the next number before the last fence
-pub with_next : (f g : List ℕ) (k : ℕ) → IsChain f g (fenced [] [] (nodes_up_to k)) → 4 + k < length f
-    → IsChain (after_with f g 3 (4 + k)) (before_with f g 3 (4 + k)) (fenced [] [] (nodes_up_to (suc k)))
+pub with_next : (f g : List ℕ) (k : ℕ) → IsChain f g (fenced_numbers [] [] (nodes_up_to k)) → 4 + k < length f
+    → IsChain (after_with f g 3 (4 + k)) (before_with f g 3 (4 + k)) (fenced_numbers [] [] (nodes_up_to (suc k)))
 with_next f g k c low =
-    let has : Has 3 (fenced [] [] (nodes_up_to k)) = inr (inr (Has-right 3 (nodes_up_to k) (3 ∷ []) (inl refl))) in
+    let has : Has 3 (fenced_numbers [] [] (nodes_up_to k)) = inr (inr (Has-right 3 (nodes_up_to k) (3 ∷ []) (inl refl))) in
     let none : Plain [] = record { no_0 = tt; no_1 = tt; no_2 = tt; no_3 = tt } in
     subst (IsChain (after_with f g 3 (4 + k)) (before_with f g 3 (4 + k)))
     (fenced-free_end (4 + k) [] [] (nodes_up_to k) none none (Plain-up_to k))
-    (IsChain-put_before f g (fenced [] [] (nodes_up_to k)) 3 (4 + k) c has (next_lacks k) low)
+    (IsChain-put_before f g (fenced_numbers [] [] (nodes_up_to k)) 3 (4 + k) c has (next_lacks k) low)
 
 -- what the chain of all numbers makes
-pub opened : (f g : List ℕ) (us : List UnitId) (k : ℕ) → IsChain f g (fenced [] [] (nodes_up_to k)) → length f ≡ k + 4 → length us ≡ length f
+pub opened : (f g : List ℕ) (us : List UnitId) (k : ℕ) → IsChain f g (fenced_numbers [] [] (nodes_up_to k)) → length f ≡ k + 4 → length us ≡ length f
     → Made f g us [] [] (nodes_up_to k)
 opened f g us k c size places =
     let count : length (nodes_up_to k ++ 3 ∷ []) ≡ length (nodes_up_to k) + 1 = length-append (nodes_up_to k) (3 ∷ []) in
-    let all : length (fenced [] [] (nodes_up_to k)) ≡ length (nodes_up_to k ++ 3 ∷ []) + 2 = omega arith in
-    let is : chain f ≡ fenced [] [] (nodes_up_to k) = chain-is f g (fenced [] [] (nodes_up_to k)) c (omega (arith, size, count, all, length-up_to k)) in
+    let all : length (fenced_numbers [] [] (nodes_up_to k)) ≡ length (nodes_up_to k ++ 3 ∷ []) + 2 = omega arith in
+    let is : chain f ≡ fenced_numbers [] [] (nodes_up_to k) = chain-is f g (fenced_numbers [] [] (nodes_up_to k)) c (omega (arith, size, count, all, length-up_to k)) in
     made f g us [] [] (nodes_up_to k) (subst (IsChain f g) (sym is) c) is places
 
 -- there are as many numbers as nodes and fences
@@ -357,11 +388,11 @@ length-items : (us : List UnitId) (xs : List ℕ) → length (items us xs) ≡ l
 length-items us [] = refl
 length-items us (x ∷ xs) = ap suc (length-items us xs)
 
-length-fenced : (xs ys zs : List ℕ) → length (fenced xs ys zs) ≡ length xs + length ys + length zs + 3
+length-fenced : (xs ys zs : List ℕ) → length (fenced_numbers xs ys zs) ≡ length xs + length ys + length zs + 3
 length-fenced xs ys zs =
     let free : length (zs ++ 3 ∷ []) ≡ length zs + 1 = length-append zs (3 ∷ []) in
     let second : length (ys ++ 2 ∷ (zs ++ 3 ∷ [])) ≡ length ys + length (2 ∷ (zs ++ 3 ∷ [])) = length-append ys (2 ∷ (zs ++ 3 ∷ [])) in
-    let first : length (fenced xs ys zs) ≡ length xs + length (1 ∷ (ys ++ 2 ∷ (zs ++ 3 ∷ []))) = length-append xs (1 ∷ (ys ++ 2 ∷ (zs ++ 3 ∷ []))) in
+    let first : length (fenced_numbers xs ys zs) ≡ length xs + length (1 ∷ (ys ++ 2 ∷ (zs ++ 3 ∷ []))) = length-append xs (1 ∷ (ys ++ 2 ∷ (zs ++ 3 ∷ []))) in
     omega (arith, free, second, first)
 
 pub room_is : (f g : List ℕ) (us : List UnitId) → IsRing f g us → room_of (lists_of f us) + 4 ≡ length f
@@ -391,6 +422,24 @@ pub list_below : (f g : List ℕ) (us : List UnitId) (k : ℕ) → IsRing f g us
 list_below f g us zero ring either = first_below f g (chain f) (length f) ring.whole.path ring.whole.below.1 (chain_has_1 f g us ring)
 list_below f g us (suc zero) ring either = after_below f g (chain f) ring.whole 1 (chain_has_1 f g us ring) (λ e. omega (arith, e))
 list_below f g us (suc (suc k)) ring either = absurd (omega (arith, either))
+
+-- the fence after a list, and where the links back lead
+has_end : (f g : List ℕ) (us : List UnitId) (k : ℕ) → IsRing f g us → k ≤ 1 → Has (k + 1) (chain f)
+has_end f g us k ring either =
+    let Goal : ℕ → Type 0 = λ j. Has (j + 1) (chain f) in
+    elim (cases_eq k 0) [
+      | inl e ↦ subst Goal (sym e) (chain_has_1 f g us ring)
+      | inr other ↦ let one : k ≡ 1 = omega arith in subst Goal (sym one) (chain_has_2 f g us ring)
+    ]
+
+pub end_low : (f g : List ℕ) (us : List UnitId) (k : ℕ) → IsRing f g us → k ≤ 1 → k + 1 < length f
+end_low f g us k ring either = below f g (chain f) ring.whole (k + 1) (has_end f g us k ring either)
+
+pub end_below : (f g : List ℕ) (us : List UnitId) (k : ℕ) → IsRing f g us → k ≤ 1 → link g (k + 1) < length f
+end_below f g us k ring either = before_below f g (chain f) ring.whole (k + 1) (has_end f g us k ring either)
+
+pub live_prev : (f g : List ℕ) (us : List UnitId) (n : ℕ) → IsRing f g us → is_live (lists_of f us) n ≡ true → link g n < length f
+live_prev f g us n ring live = before_below f g (chain f) ring.whole n (live_has f g us n ring live)
 
 pub free_low : (f g : List ℕ) (us : List UnitId) → IsRing f g us → 2 < length f
 free_low f g us ring = below f g (chain f) ring.whole 2 (chain_has_2 f g us ring)

@@ -2,7 +2,7 @@
 use Rattle.std.proofs.Common.{◌≡◌, ◌⊎◌, ℕ, ◌≤◌, List, [], ◌∷◌, ◌++◌, Bool, refl, sym, ◌∙◌, ap, subst, inl, inr, arith, append_assoc}
 use Rattle.std.specs.Prelude.{if◌then◌else◌}
 use Rattle.std.proofs.lemmas.Bool.{cases_eq}
-use Rattle.unit_ring.specs.Chains.{Path, Lacks, Has, Distinct, chain, until, past, fenced, nodes_of, second_of, free_of, without, put_before}
+use Rattle.unit_ring.specs.Chains.{Path, Lacks, Has, Distinct, chain, numbers_before, numbers_after, fenced_numbers, nodes_of, second_of, free_of, numbers_without, put_before}
 use Rattle.unit_ring.proofs.Linking.{same_test, other_test, without-same, without-other, put_before-same, put_before-other, put_before-lacks, Lacks-Has}
 
 pub Has-left : (m : ℕ) (xs ws : List ℕ) → Has m xs → Has m (xs ++ ws)
@@ -47,18 +47,18 @@ pub Path-right : (f g : List ℕ) (x m : ℕ) (xs ws : List ℕ) → Path f g x 
 Path-right f g x m [] ws path = path.2
 Path-right f g x m (y ∷ xs) ws path = Path-right f g y m xs ws path.2
 
-pub without-append : (n : ℕ) (xs ys : List ℕ) → without n (xs ++ ys) ≡ without n xs ++ without n ys
+pub without-append : (n : ℕ) (xs ys : List ℕ) → numbers_without n (xs ++ ys) ≡ numbers_without n xs ++ numbers_without n ys
 without-append n [] ys = refl
 without-append n (x ∷ xs) ys =
     elim (cases_eq x n) [
       | inl is ↦
           without-same n x (xs ++ ys) is
           ∙ without-append n xs ys
-          ∙ ap (λ (zs : List ℕ). zs ++ without n ys) (sym (without-same n x xs is))
+          ∙ ap (λ (zs : List ℕ). zs ++ numbers_without n ys) (sym (without-same n x xs is))
       | inr other ↦
           without-other n x (xs ++ ys) other
           ∙ ap (λ (zs : List ℕ). x ∷ zs) (without-append n xs ys)
-          ∙ ap (λ (zs : List ℕ). zs ++ without n ys) (sym (without-other n x xs other))
+          ∙ ap (λ (zs : List ℕ). zs ++ numbers_without n ys) (sym (without-other n x xs other))
     ]
 
 pub put_before-append : (at n : ℕ) (xs ys : List ℕ) → put_before at n (xs ++ ys) ≡ put_before at n xs ++ put_before at n ys
@@ -75,16 +75,16 @@ put_before-append at n (x ∷ xs) ys =
           ∙ ap (λ (zs : List ℕ). zs ++ put_before at n ys) (sym (put_before-other at n x xs other))
     ]
 
-pub until-append : (m : ℕ) (xs ys : List ℕ) → Lacks m xs → until m (xs ++ m ∷ ys) ≡ xs
-until-append m [] ys lacks = ap (λ (t : Bool). if t then [] else m ∷ until m ys) (same_test m m refl)
+pub until-append : (m : ℕ) (xs ys : List ℕ) → Lacks m xs → numbers_before m (xs ++ m ∷ ys) ≡ xs
+until-append m [] ys lacks = ap (λ (t : Bool). if t then [] else m ∷ numbers_before m ys) (same_test m m refl)
 until-append m (x ∷ xs) ys lacks =
-    ap (λ (t : Bool). if t then [] else x ∷ until m (xs ++ m ∷ ys)) (other_test x m (λ e. lacks.0 (sym e)))
+    ap (λ (t : Bool). if t then [] else x ∷ numbers_before m (xs ++ m ∷ ys)) (other_test x m (λ e. lacks.0 (sym e)))
     ∙ ap (λ (zs : List ℕ). x ∷ zs) (until-append m xs ys lacks.1)
 
-pub past-append : (m : ℕ) (xs ys : List ℕ) → Lacks m xs → past m (xs ++ m ∷ ys) ≡ ys
-past-append m [] ys lacks = ap (λ (t : Bool). if t then ys else past m ys) (same_test m m refl)
+pub past-append : (m : ℕ) (xs ys : List ℕ) → Lacks m xs → numbers_after m (xs ++ m ∷ ys) ≡ ys
+past-append m [] ys lacks = ap (λ (t : Bool). if t then ys else numbers_after m ys) (same_test m m refl)
 past-append m (x ∷ xs) ys lacks =
-    ap (λ (t : Bool). if t then xs ++ m ∷ ys else past m (xs ++ m ∷ ys)) (other_test x m (λ e. lacks.0 (sym e)))
+    ap (λ (t : Bool). if t then xs ++ m ∷ ys else numbers_after m (xs ++ m ∷ ys)) (other_test x m (λ e. lacks.0 (sym e)))
     ∙ past-append m xs ys lacks.1
 
 -- a list has none of the fences
@@ -115,7 +115,7 @@ pub record Parted (xs ys zs : List ℕ) : Type 0 where
   pub second_only : (n : ℕ) → Has n ys → Lacks n xs × Lacks n zs
   pub free_only : (n : ℕ) → Has n zs → Lacks n xs × Lacks n ys
 
-pub parted : (xs ys zs : List ℕ) → Distinct (0 ∷ fenced xs ys zs) → Parted xs ys zs
+pub parted : (xs ys zs : List ℕ) → Distinct (0 ∷ fenced_numbers xs ys zs) → Parted xs ys zs
 parted xs ys zs distinct =
     let free : List ℕ = zs ++ 3 ∷ [] in
     let second : List ℕ = ys ++ 2 ∷ free in
@@ -162,35 +162,35 @@ parted xs ys zs distinct =
     }
 
 -- the lists that callers see are those between the fences
-pub nodes_of-is : (f xs ys zs : List ℕ) → chain f ≡ fenced xs ys zs → Plain xs → nodes_of f ≡ xs
-nodes_of-is f xs ys zs e plain = ap (until 1) e ∙ until-append 1 xs (ys ++ 2 ∷ (zs ++ 3 ∷ [])) plain.no_1
+pub nodes_of-is : (f xs ys zs : List ℕ) → chain f ≡ fenced_numbers xs ys zs → Plain xs → nodes_of f ≡ xs
+nodes_of-is f xs ys zs e plain = ap (numbers_before 1) e ∙ until-append 1 xs (ys ++ 2 ∷ (zs ++ 3 ∷ [])) plain.no_1
 
-pub second_of-is : (f xs ys zs : List ℕ) → chain f ≡ fenced xs ys zs → Plain xs → Plain ys → second_of f ≡ ys
+pub second_of-is : (f xs ys zs : List ℕ) → chain f ≡ fenced_numbers xs ys zs → Plain xs → Plain ys → second_of f ≡ ys
 second_of-is f xs ys zs e plain second =
-    ap (λ (ws : List ℕ). until 2 (past 1 ws)) e
-    ∙ ap (until 2) (past-append 1 xs (ys ++ 2 ∷ (zs ++ 3 ∷ [])) plain.no_1)
+    ap (λ (ws : List ℕ). numbers_before 2 (numbers_after 1 ws)) e
+    ∙ ap (numbers_before 2) (past-append 1 xs (ys ++ 2 ∷ (zs ++ 3 ∷ [])) plain.no_1)
     ∙ until-append 2 ys (zs ++ 3 ∷ []) second.no_2
 
-pub free_of-is : (f xs ys zs : List ℕ) → chain f ≡ fenced xs ys zs → Plain xs → Plain ys → Plain zs → free_of f ≡ zs
+pub free_of-is : (f xs ys zs : List ℕ) → chain f ≡ fenced_numbers xs ys zs → Plain xs → Plain ys → Plain zs → free_of f ≡ zs
 free_of-is f xs ys zs e plain second free =
-    ap (λ (ws : List ℕ). until 3 (past 2 (past 1 ws))) e
-    ∙ ap (λ (ws : List ℕ). until 3 (past 2 ws)) (past-append 1 xs (ys ++ 2 ∷ (zs ++ 3 ∷ [])) plain.no_1)
-    ∙ ap (until 3) (past-append 2 ys (zs ++ 3 ∷ []) second.no_2)
+    ap (λ (ws : List ℕ). numbers_before 3 (numbers_after 2 (numbers_after 1 ws))) e
+    ∙ ap (λ (ws : List ℕ). numbers_before 3 (numbers_after 2 ws)) (past-append 1 xs (ys ++ 2 ∷ (zs ++ 3 ∷ [])) plain.no_1)
+    ∙ ap (numbers_before 3) (past-append 2 ys (zs ++ 3 ∷ []) second.no_2)
     ∙ until-append 3 zs [] free.no_3
 
 -- lists between the fences without a node
 pub fenced-without : (n : ℕ) (xs ys zs : List ℕ) → 4 ≤ n
-    → without n (fenced xs ys zs) ≡ fenced (without n xs) (without n ys) (without n zs)
+    → numbers_without n (fenced_numbers xs ys zs) ≡ fenced_numbers (numbers_without n xs) (numbers_without n ys) (numbers_without n zs)
 fenced-without n xs ys zs high_n =
-    let free : without n (zs ++ 3 ∷ []) ≡ without n zs ++ 3 ∷ [] =
-    without-append n zs (3 ∷ []) ∙ ap (λ (ws : List ℕ). without n zs ++ ws) (without-other n 3 [] (λ e. omega (arith, e, high_n)))
+    let free : numbers_without n (zs ++ 3 ∷ []) ≡ numbers_without n zs ++ 3 ∷ [] =
+    without-append n zs (3 ∷ []) ∙ ap (λ (ws : List ℕ). numbers_without n zs ++ ws) (without-other n 3 [] (λ e. omega (arith, e, high_n)))
     in
-    let second : without n (ys ++ 2 ∷ (zs ++ 3 ∷ [])) ≡ without n ys ++ 2 ∷ (without n zs ++ 3 ∷ []) =
+    let second : numbers_without n (ys ++ 2 ∷ (zs ++ 3 ∷ [])) ≡ numbers_without n ys ++ 2 ∷ (numbers_without n zs ++ 3 ∷ []) =
     without-append n ys (2 ∷ (zs ++ 3 ∷ []))
-    ∙ ap (λ (ws : List ℕ). without n ys ++ ws) (without-other n 2 (zs ++ 3 ∷ []) (λ e. omega (arith, e, high_n)) ∙ ap (λ (ws : List ℕ). 2 ∷ ws) free)
+    ∙ ap (λ (ws : List ℕ). numbers_without n ys ++ ws) (without-other n 2 (zs ++ 3 ∷ []) (λ e. omega (arith, e, high_n)) ∙ ap (λ (ws : List ℕ). 2 ∷ ws) free)
     in
     without-append n xs (1 ∷ (ys ++ 2 ∷ (zs ++ 3 ∷ [])))
-    ∙ ap (λ (ws : List ℕ). without n xs ++ ws)
+    ∙ ap (λ (ws : List ℕ). numbers_without n xs ++ ws)
     (without-other n 1 (ys ++ 2 ∷ (zs ++ 3 ∷ [])) (λ e. omega (arith, e, high_n)) ∙ ap (λ (ws : List ℕ). 1 ∷ ws) second)
 
 -- lists between the fences with a number before another one
@@ -214,27 +214,27 @@ Lacks-append m [] ws lacks later = later
 Lacks-append m (x ∷ xs) ws lacks later = (lacks.0, Lacks-append m xs ws lacks.1 later)
 
 pub fenced-put_before : (at n : ℕ) (xs ys zs : List ℕ) → 4 ≤ at
-    → put_before at n (fenced xs ys zs) ≡ fenced (put_before at n xs) (put_before at n ys) (put_before at n zs)
+    → put_before at n (fenced_numbers xs ys zs) ≡ fenced_numbers (put_before at n xs) (put_before at n ys) (put_before at n zs)
 fenced-put_before at n xs ys zs high_at =
     put_at at n 1 xs (ys ++ 2 ∷ (zs ++ 3 ∷ [])) (put_before at n ys ++ 2 ∷ (put_before at n zs ++ 3 ∷ [])) (λ e. omega (arith, e, high_at))
     (put_at at n 2 ys (zs ++ 3 ∷ []) (put_before at n zs ++ 3 ∷ []) (λ e. omega (arith, e, high_at))
     (put_at at n 3 zs [] [] (λ e. omega (arith, e, high_at)) refl))
 
 pub fenced-first_end : (n : ℕ) (xs ys zs : List ℕ) → Plain xs → Plain ys → Plain zs
-    → put_before 1 n (fenced xs ys zs) ≡ fenced (xs ++ n ∷ []) ys zs
+    → put_before 1 n (fenced_numbers xs ys zs) ≡ fenced_numbers (xs ++ n ∷ []) ys zs
 fenced-first_end n xs ys zs first second free =
     put_end 1 n xs (ys ++ 2 ∷ (zs ++ 3 ∷ [])) first.no_1
     (Lacks-append 1 ys (2 ∷ (zs ++ 3 ∷ [])) second.no_1 ((λ e. omega (arith, e)), Lacks-append 1 zs (3 ∷ []) free.no_1 ((λ e. omega (arith, e)), tt)))
 
 pub fenced-second_end : (n : ℕ) (xs ys zs : List ℕ) → Plain xs → Plain ys → Plain zs
-    → put_before 2 n (fenced xs ys zs) ≡ fenced xs (ys ++ n ∷ []) zs
+    → put_before 2 n (fenced_numbers xs ys zs) ≡ fenced_numbers xs (ys ++ n ∷ []) zs
 fenced-second_end n xs ys zs first second free =
     put_at 2 n 1 xs (ys ++ 2 ∷ (zs ++ 3 ∷ [])) ((ys ++ n ∷ []) ++ 2 ∷ (zs ++ 3 ∷ [])) (λ e. omega (arith, e))
     (put_end 2 n ys (zs ++ 3 ∷ []) second.no_2 (Lacks-append 2 zs (3 ∷ []) free.no_2 ((λ e. omega (arith, e)), tt)))
     ∙ ap (λ (ws : List ℕ). ws ++ 1 ∷ ((ys ++ n ∷ []) ++ 2 ∷ (zs ++ 3 ∷ []))) (put_before-lacks 2 n xs first.no_2)
 
 pub fenced-free_end : (n : ℕ) (xs ys zs : List ℕ) → Plain xs → Plain ys → Plain zs
-    → put_before 3 n (fenced xs ys zs) ≡ fenced xs ys (zs ++ n ∷ [])
+    → put_before 3 n (fenced_numbers xs ys zs) ≡ fenced_numbers xs ys (zs ++ n ∷ [])
 fenced-free_end n xs ys zs first second free =
     put_at 3 n 1 xs (ys ++ 2 ∷ (zs ++ 3 ∷ [])) (ys ++ 2 ∷ ((zs ++ n ∷ []) ++ 3 ∷ [])) (λ e. omega (arith, e))
     (put_at 3 n 2 ys (zs ++ 3 ∷ []) ((zs ++ n ∷ []) ++ 3 ∷ []) (λ e. omega (arith, e)) (put_end 3 n zs [] free.no_3 tt)

@@ -1,12 +1,13 @@
 -- The nodes of a list with their units.
 use Rattle.std.proofs.Common.{◌≡◌, ◌⊎◌, ℕ, ◌<◌, ◌≤◌, List, [], ◌∷◌, ◌++◌, length, set, Bool, true, false, refl, sym, ◌∙◌, ap, inl, inr, arith}
-use Rattle.std.specs.Prelude.{◌==◌, ◌||◌, if◌then◌else◌, Some, None, nat_lt}
+use Rattle.std.specs.Prelude.{◌==◌, ◌||◌, if◌then◌else◌, Option, Some, None, nat_lt}
 use Rattle.std.proofs.lemmas.Bool.{cases_eq}
 use Rattle.std.proofs.lemmas.Bool.Decides.{nat_tests}
 use Rattle.std.proofs.lemmas.List.{get_or-set_same, get_or-set_other}
 use Rattle.sched_base.specs.declared.UnitId.{UnitId}
-use Rattle.unit_ring.specs.Lists.{Item, item, node, no_unit, has_node, unit_in, first_in, next_in, without_in, put_before_in}
-use Rattle.unit_ring.specs.Chains.{link, Path, Lacks, Has, Distinct, unit_at, items, as_node, without, put_before}
+use Rattle.unit_ring.specs.declared.Node.{Node}
+use Rattle.unit_ring.specs.Lists.{Item, item, node, no_unit, has_node, unit_in, first_in, next_in, last_from, prev_from, without_in, put_before_in}
+use Rattle.unit_ring.specs.Chains.{link, Path, Lacks, Has, Distinct, unit_at, items, as_node, numbers_without, put_before}
 use Rattle.unit_ring.proofs.Linking.{same_test, other_test}
 
 pub items-append : (us : List UnitId) (xs ys : List ℕ) → items us (xs ++ ys) ≡ items us xs ++ items us ys
@@ -19,10 +20,10 @@ items-set us n u (x ∷ xs) lacks =
     ap (λ (w : UnitId). item x w ∷ items (set us n u) xs) (get_or-set_other us n x u no_unit (λ e. lacks.0 (sym e)))
     ∙ ap (λ (zs : List Item). item x (unit_at us x) ∷ zs) (items-set us n u xs lacks.1)
 
-pub items-without : (us : List UnitId) (n : ℕ) (xs : List ℕ) → items us (without n xs) ≡ without_in n (items us xs)
+pub items-without : (us : List UnitId) (n : ℕ) (xs : List ℕ) → items us (numbers_without n xs) ≡ without_in n (items us xs)
 items-without us n [] = refl
 items-without us n (x ∷ xs) =
-    elim (x == n) as (λ t. items us (if t then without n xs else x ∷ without n xs) ≡ (if t then without_in n (items us xs) else item x (unit_at us x) ∷ without_in n (items us xs))) [
+    elim (x == n) as (λ t. items us (if t then numbers_without n xs else x ∷ numbers_without n xs) ≡ (if t then without_in n (items us xs) else item x (unit_at us x) ∷ without_in n (items us xs))) [
       | true ↦ items-without us n xs
       | false ↦ ap (λ (zs : List Item). item x (unit_at us x) ∷ zs) (items-without us n xs)
     ]
@@ -44,11 +45,6 @@ items-put_before us at n u (x ∷ xs) lacks low =
           ∙ ap (λ (zs : List Item). item n u ∷ zs) kept
       | false ↦ kept
     ]
-
--- whether a list has a node
-or_true : (a b : Bool) → (a || b) ≡ true → (a ≡ true) ⊎ (b ≡ true)
-or_true true b e = inl refl
-or_true false b e = inr e
 
 pub has_node-Has : (us : List UnitId) (n : ℕ) (xs : List ℕ) → has_node n (items us xs) ≡ true → Has n xs
 has_node-Has us n [] e = absurd (cc)
@@ -88,7 +84,7 @@ unit_in-items us n (x ∷ xs) has =
           ∙ unit_in-items us n xs (elim has [ inl is ↦ absurd (other (sym is)) | inr later ↦ later ])
     ]
 
-as_node-fence : (n : ℕ) → n < 4 → as_node n ≡ None
+pub as_node-fence : (n : ℕ) → n < 4 → as_node n ≡ None
 as_node-fence n low =
     let test : nat_lt n 4 ≡ true = grind (arith, nat_tests, low) in
     ap (λ (t : Bool). if t then None else Some (node n)) test
@@ -119,4 +115,29 @@ next_in-items f g us x n e (y ∷ ys) rest path distinct high low has =
           let later : Has n ys = elim has [ inl is ↦ absurd (other (sym is)) | inr later ↦ later ] in
           next_in-items f g us y n e ys rest path.2 distinct.1 (λ m has_m. high m (inr has_m)) low later
           ∙ sym (ap (λ (t : Bool). if t then first_in (items us ys) else next_in n (items us ys)) (other_test y n other))
+    ]
+
+-- the links back lead from the fence after a list to its last node, and from a node to the one before it
+pub last_from-items : (f g : List ℕ) (us : List UnitId) (x e : ℕ) (before : Option Node) (xs rest : List ℕ)
+    → Path f g x (xs ++ e ∷ rest) → ((m : ℕ) → Has m xs → 4 ≤ m) → as_node x ≡ before
+    → as_node (link g e) ≡ last_from before (items us xs)
+last_from-items f g us x e before [] rest path high starts = ap as_node path.1 ∙ starts
+last_from-items f g us x e before (y ∷ ys) rest path high starts =
+    last_from-items f g us y e (Some (node y)) ys rest path.2 (λ m later. high m (inr later)) (as_node-node y (high y (inl refl)))
+
+pub prev_from-items : (f g : List ℕ) (us : List UnitId) (x n e : ℕ) (before : Option Node) (xs rest : List ℕ)
+    → Path f g x (xs ++ e ∷ rest) → ((m : ℕ) → Has m xs → 4 ≤ m) → as_node x ≡ before → Has n xs
+    → as_node (link g n) ≡ prev_from before n (items us xs)
+prev_from-items f g us x n e before [] rest path high starts has = absurd has
+prev_from-items f g us x n e before (y ∷ ys) rest path high starts has =
+    elim (cases_eq y n) [
+      | inl is ↦
+          ap (λ (k : ℕ). as_node (link g k)) (sym is)
+          ∙ ap as_node path.1
+          ∙ starts
+          ∙ sym (ap (λ (t : Bool). if t then before else prev_from (Some (node y)) n (items us ys)) (same_test y n is))
+      | inr other ↦
+          prev_from-items f g us y n e (Some (node y)) ys rest path.2 (λ m has_m. high m (inr has_m)) (as_node-node y (high y (inl refl)))
+          (elim has [ inl is ↦ absurd (other (sym is)) | inr later ↦ later ])
+          ∙ sym (ap (λ (t : Bool). if t then before else prev_from (Some (node y)) n (items us ys)) (other_test y n other))
     ]

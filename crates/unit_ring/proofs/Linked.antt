@@ -11,7 +11,7 @@ use Rattle.core.specs.Mem.Slots.{slots_items, IsFull, SamePlaces}
 use Rattle.unit_ring.specs.Chains.{link, after_without, before_without, after_with, before_with}
 use Rattle.unit_ring.specs.declared.nodes.Address.{Address}
 use Rattle.unit_ring.specs.declared.nodes.NodeRecord.{NodeRecord}
-use Rattle.unit_ring.specs.Nodes.{place, number_at, blank, node_at, with_after, with_before, links_of, first_node, IsLinked, IsRow}
+use Rattle.unit_ring.specs.Nodes.{place, number_at, blank_node, node_at, with_after, with_before, links_of, first_node, IsLinked, IsRow}
 
 pub map-set : {X Y : Type 0} (f : X → Y) (xs : List X) (k : ℕ) (v : X) → map f (set xs k v) ≡ set (map f xs) k (f v)
 map-set f [] k v = refl
@@ -25,11 +25,11 @@ map-get f (x ∷ xs) (suc k) d = map-get f xs k d
 
 -- what another link leaves alone
 kept : {Y : Type 0} (f : NodeRecord → Y) (xs : List NodeRecord) (k : ℕ) (v : NodeRecord) → f v ≡ f (node_at xs k) → map f (set xs k v) ≡ map f xs
-kept f xs k v same = map-set f xs k v ∙ ap (set (map f xs) k) (same ∙ sym (map-get f xs k blank)) ∙ set-get_or (map f xs) k (f blank)
+kept f xs k v same = map-set f xs k v ∙ ap (set (map f xs) k) (same ∙ sym (map-get f xs k blank_node)) ∙ set-get_or (map f xs) k (f blank_node)
 
 kept-at : {Y : Type 0} (f : NodeRecord → Y) (xs : List NodeRecord) (k m : ℕ) (v : NodeRecord) → f v ≡ f (node_at xs k) → f (node_at (set xs k v) m) ≡ f (node_at xs m)
 kept-at {Y = Y} f xs k m v same =
-    sym (map-get f (set xs k v) m blank) ∙ ap (λ (ys : List Y). get_or ys m (f blank)) (kept f xs k v same) ∙ map-get f xs m blank
+    sym (map-get f (set xs k v) m blank_node) ∙ ap (λ (ys : List Y). get_or ys m (f blank_node)) (kept f xs k v same) ∙ map-get f xs m blank_node
 
 -- the number of a place
 pub number-place : (base : Address) (j : ℕ) → InBlock base.ptr → number_at base (place base j) ≡ j
@@ -75,11 +75,11 @@ module _ (base : Address) (block : InBlock base.ptr) (xs : List NodeRecord) (k j
             let here : k < length xs = omega (arith, same, low) in
             let there : k < length fs = omega (arith, here, long) in
             ap (λ (i : ℕ). f (node_at (set xs k v) i)) same
-            ∙ ap f (get_or-set_same xs k v blank here)
+            ∙ ap f (get_or-set_same xs k v blank_node here)
             ∙ is
             ∙ sym (ap (place base) (ap (λ (i : ℕ). link (set fs k j) i) same ∙ get_or-set_same fs k j 0 there))
         | inr other ↦
-            ap f (get_or-set_other xs k m v blank other)
+            ap f (get_or-set_other xs k m v blank_node other)
             ∙ was m low
             ∙ sym (ap (place base) (get_or-set_other fs k m j 0 other))
       ]
@@ -187,7 +187,7 @@ inserted row new base at n last is last_is e same full =
 
 -- a node read, as the node of its number
 pub read_node : (xs : List NodeRecord) (n : ℕ) (x : NodeRecord) → n < length xs → x ≡ get_or xs n x → x ≡ node_at xs n
-read_node xs n x low e = e ∙ get_or_default xs n x blank low
+read_node xs n x low e = e ∙ get_or_default xs n x blank_node low
 
 -- the nodes with another unit of one
 module _ (base : Address) (xs : List NodeRecord) (n : ℕ) (x : NodeRecord) (u : UnitId) (is : x ≡ node_at xs n) where
@@ -211,8 +211,8 @@ module _ (base : Address) (xs : List NodeRecord) (block : InBlock base.ptr) (fir
       let long : length fs ≡ length xs = length-map xs (λ x. number_at base (f x)) in
       let there : k < length fs = omega (arith, low, long) in
       let none : number_at base base ≡ 0 = let gone : count_of base.ptr - count_of base.ptr ≡ 0 = omega arith in ap (λ (n : ℕ). n / 24) gone in
-      get_or_default fs k 0 (number_at base (f blank)) there
-      ∙ map-get (λ (x : NodeRecord). number_at base (f x)) xs k blank
+      get_or_default fs k 0 (number_at base (f blank_node)) there
+      ∙ map-get (λ (x : NodeRecord). number_at base (f x)) xs k blank_node
       ∙ ap (λ (x : NodeRecord). number_at base (f x)) (first k low)
       ∙ ap (number_at base) (is k)
       ∙ none

@@ -4,7 +4,7 @@ use Rattle.std.specs.Prelude.{◌==◌, if◌then◌else◌}
 use Rattle.std.proofs.lemmas.Bool.{cases_eq}
 use Rattle.std.proofs.lemmas.Bool.Decides.{nat_tests}
 use Rattle.std.proofs.lemmas.List.{get_or-set_same, get_or-set_other}
-use Rattle.unit_ring.specs.Chains.{link, Path, Lacks, Has, Distinct, Below, EndsIn, IsChain, follow, chain, without, put_before, after_without, before_without, after_with, before_with}
+use Rattle.unit_ring.specs.Chains.{link, Path, Lacks, Has, Distinct, Below, EndsIn, IsChain, follow, chain, numbers_without, put_before, after_without, before_without, after_with, before_with}
 
 pub same_test : (a b : ℕ) → a ≡ b → (a == b) ≡ true
 same_test a b e = grind (arith, nat_tests, e)
@@ -12,11 +12,11 @@ same_test a b e = grind (arith, nat_tests, e)
 pub other_test : (a b : ℕ) → (a ≡ b → ⊥) → (a == b) ≡ false
 other_test a b ne = grind (arith, nat_tests, ne)
 
-pub without-same : (n y : ℕ) (ys : List ℕ) → y ≡ n → without n (y ∷ ys) ≡ without n ys
-without-same n y ys e = ap (λ (t : Bool). if t then without n ys else y ∷ without n ys) (same_test y n e)
+pub without-same : (n y : ℕ) (ys : List ℕ) → y ≡ n → numbers_without n (y ∷ ys) ≡ numbers_without n ys
+without-same n y ys e = ap (λ (t : Bool). if t then numbers_without n ys else y ∷ numbers_without n ys) (same_test y n e)
 
-pub without-other : (n y : ℕ) (ys : List ℕ) → (y ≡ n → ⊥) → without n (y ∷ ys) ≡ y ∷ without n ys
-without-other n y ys ne = ap (λ (t : Bool). if t then without n ys else y ∷ without n ys) (other_test y n ne)
+pub without-other : (n y : ℕ) (ys : List ℕ) → (y ≡ n → ⊥) → numbers_without n (y ∷ ys) ≡ y ∷ numbers_without n ys
+without-other n y ys ne = ap (λ (t : Bool). if t then numbers_without n ys else y ∷ numbers_without n ys) (other_test y n ne)
 
 pub put_before-same : (at n y : ℕ) (ys : List ℕ) → y ≡ at → put_before at n (y ∷ ys) ≡ n ∷ y ∷ put_before at n ys
 put_before-same at n y ys e =
@@ -36,7 +36,7 @@ Below-Has m n [] below has = absurd has
 Below-Has m n (y ∷ ys) below has =
     elim has [ inl is ↦ omega (arith, is, below.0) | inr later ↦ Below-Has m n ys below.1 later ]
 
-pub without-lacks : (n : ℕ) (ys : List ℕ) → Lacks n ys → without n ys ≡ ys
+pub without-lacks : (n : ℕ) (ys : List ℕ) → Lacks n ys → numbers_without n ys ≡ ys
 without-lacks n [] lacks = refl
 without-lacks n (y ∷ ys) lacks =
     without-other n y ys (λ e. lacks.0 (sym e)) ∙ ap (λ (zs : List ℕ). y ∷ zs) (without-lacks n ys lacks.1)
@@ -87,7 +87,7 @@ after-Has f g x n (y ∷ z ∷ zs) path ends inner has =
 pub Path-without : (f g : List ℕ) (x n : ℕ) (ys : List ℕ)
     → Path f g x ys → Distinct (x ∷ ys) → Below (length f) (x ∷ ys) → length g ≡ length f
     → EndsIn 3 ys → (n ≡ 3 → ⊥) → Has n ys
-    → Path (after_without f g n) (before_without f g n) x (without n ys)
+    → Path (after_without f g n) (before_without f g n) x (numbers_without n ys)
 Path-without f g x n [] path distinct below lengths ends inner has = absurd has
 Path-without f g x n (y ∷ []) path distinct below lengths ends inner has =
     elim has [ inl is ↦ absurd (inner (is ∙ ends)) | inr later ↦ absurd later ]
@@ -96,7 +96,7 @@ Path-without f g x n (y ∷ z ∷ zs) path distinct below lengths ends inner has
       | inl is ↦
           let b : link g n ≡ x = ap (link g) is ∙ path.1 in
           let a : link f n ≡ z = ap (link f) is ∙ path.2.0 in
-          let list : without n (y ∷ z ∷ zs) ≡ z ∷ zs =
+          let list : numbers_without n (y ∷ z ∷ zs) ≡ z ∷ zs =
           without-same n y (z ∷ zs) (sym is) ∙ without-lacks n (z ∷ zs) (subst (λ (k : ℕ). Lacks k (z ∷ zs)) (sym is) distinct.1.0)
           in
           let rest : Path (set f x z) (set g z x) z zs =
@@ -115,7 +115,7 @@ Path-without f g x n (y ∷ z ∷ zs) path distinct below lengths ends inner has
           let other : y ≡ n → ⊥ = λ e. Lacks-Has y n (z ∷ zs) distinct.1.0 later e in
           let b_in : Has (link g n) (y ∷ z ∷ zs) = before-Has f g y n (z ∷ zs) path.2 later in
           let a_in : Has (link f n) (z ∷ zs) = after-Has f g y n (z ∷ zs) path.2 ends inner later in
-          let rest : Path (after_without f g n) (before_without f g n) y (without n (z ∷ zs)) =
+          let rest : Path (after_without f g n) (before_without f g n) y (numbers_without n (z ∷ zs)) =
           Path-without f g y n (z ∷ zs) path.2 distinct.1 below.1 lengths ends inner later
           in
           subst (λ (ws : List ℕ). Path (after_without f g n) (before_without f g n) x ws) (sym (without-other n y (z ∷ zs) other)) (
@@ -177,7 +177,7 @@ Path-put_before f g x at n (y ∷ ys) path distinct below lengths low lacks has 
     ]
 
 -- what a list without n, or with n before another, still lacks, has and ends in
-pub Lacks-without : (m n : ℕ) (ys : List ℕ) → Lacks m ys → Lacks m (without n ys)
+pub Lacks-without : (m n : ℕ) (ys : List ℕ) → Lacks m ys → Lacks m (numbers_without n ys)
 Lacks-without m n [] lacks = tt
 Lacks-without m n (y ∷ ys) lacks =
     elim (cases_eq y n) [
@@ -185,7 +185,7 @@ Lacks-without m n (y ∷ ys) lacks =
       | inr other ↦ subst (Lacks m) (sym (without-other n y ys other)) (lacks.0, Lacks-without m n ys lacks.1)
     ]
 
-pub Lacks-without_self : (n : ℕ) (ys : List ℕ) → Lacks n (without n ys)
+pub Lacks-without_self : (n : ℕ) (ys : List ℕ) → Lacks n (numbers_without n ys)
 Lacks-without_self n [] = tt
 Lacks-without_self n (y ∷ ys) =
     elim (cases_eq y n) [
@@ -193,7 +193,7 @@ Lacks-without_self n (y ∷ ys) =
       | inr other ↦ subst (Lacks n) (sym (without-other n y ys other)) ((λ e. other (sym e)), Lacks-without_self n ys)
     ]
 
-pub Has-without : (m n : ℕ) (ys : List ℕ) → Has m ys → (m ≡ n → ⊥) → Has m (without n ys)
+pub Has-without : (m n : ℕ) (ys : List ℕ) → Has m ys → (m ≡ n → ⊥) → Has m (numbers_without n ys)
 Has-without m n [] has apart = has
 Has-without m n (y ∷ ys) has apart =
     elim (cases_eq y n) [
@@ -202,10 +202,10 @@ Has-without m n (y ∷ ys) has apart =
           (elim has [ inl same ↦ absurd (apart (same ∙ is)) | inr later ↦ Has-without m n ys later apart ])
       | inr other ↦
           subst (Has m) (sym (without-other n y ys other))
-          (elim has as (λ h. (m ≡ y) ⊎ Has m (without n ys)) [ inl same ↦ inl same | inr later ↦ inr (Has-without m n ys later apart) ])
+          (elim has as (λ h. (m ≡ y) ⊎ Has m (numbers_without n ys)) [ inl same ↦ inl same | inr later ↦ inr (Has-without m n ys later apart) ])
     ]
 
-pub Distinct-without : (n : ℕ) (ys : List ℕ) → Distinct ys → Distinct (without n ys)
+pub Distinct-without : (n : ℕ) (ys : List ℕ) → Distinct ys → Distinct (numbers_without n ys)
 Distinct-without n [] distinct = tt
 Distinct-without n (y ∷ ys) distinct =
     elim (cases_eq y n) [
@@ -214,7 +214,7 @@ Distinct-without n (y ∷ ys) distinct =
           subst Distinct (sym (without-other n y ys other)) (Lacks-without y n ys distinct.0, Distinct-without n ys distinct.1)
     ]
 
-pub Below-without : (m n : ℕ) (ys : List ℕ) → Below m ys → Below m (without n ys)
+pub Below-without : (m n : ℕ) (ys : List ℕ) → Below m ys → Below m (numbers_without n ys)
 Below-without m n [] below = tt
 Below-without m n (y ∷ ys) below =
     elim (cases_eq y n) [
@@ -227,7 +227,7 @@ EndsIn-more : (e y : ℕ) (ys : List ℕ) → EndsIn e ys → EndsIn e (y ∷ ys
 EndsIn-more e y [] ends = absurd ends
 EndsIn-more e y (z ∷ zs) ends = ends
 
-pub EndsIn-without : (e n : ℕ) (ys : List ℕ) → EndsIn e ys → (n ≡ e → ⊥) → EndsIn e (without n ys)
+pub EndsIn-without : (e n : ℕ) (ys : List ℕ) → EndsIn e ys → (n ≡ e → ⊥) → EndsIn e (numbers_without n ys)
 EndsIn-without e n [] ends inner = ends
 EndsIn-without e n (y ∷ []) ends inner =
     let other : y ≡ n → ⊥ = λ is. inner (sym is ∙ ends) in
@@ -236,19 +236,19 @@ EndsIn-without e n (y ∷ z ∷ zs) ends inner =
     let rest = EndsIn-without e n (z ∷ zs) ends inner in
     elim (cases_eq y n) [
       | inl is ↦ subst (EndsIn e) (sym (without-same n y (z ∷ zs) is)) rest
-      | inr other ↦ subst (EndsIn e) (sym (without-other n y (z ∷ zs) other)) (EndsIn-more e y (without n (z ∷ zs)) rest)
+      | inr other ↦ subst (EndsIn e) (sym (without-other n y (z ∷ zs) other)) (EndsIn-more e y (numbers_without n (z ∷ zs)) rest)
     ]
 
-pub length-without : (n : ℕ) (ys : List ℕ) → Distinct ys → Has n ys → length (without n ys) + 1 ≡ length ys
+pub length-without : (n : ℕ) (ys : List ℕ) → Distinct ys → Has n ys → length (numbers_without n ys) + 1 ≡ length ys
 length-without n [] distinct has = absurd has
 length-without n (y ∷ ys) distinct has =
     elim has [
       | inl is ↦
           let list = without-same n y ys (sym is) ∙ without-lacks n ys (subst (λ (k : ℕ). Lacks k ys) (sym is) distinct.0) in
-          let count : length (without n (y ∷ ys)) ≡ length ys = ap length list in omega (arith, count)
+          let count : length (numbers_without n (y ∷ ys)) ≡ length ys = ap length list in omega (arith, count)
       | inr later ↦
           let other : y ≡ n → ⊥ = λ e. Lacks-Has y n ys distinct.0 later e in
-          let count : length (without n (y ∷ ys)) ≡ length (y ∷ without n ys) = ap length (without-other n y ys other) in
+          let count : length (numbers_without n (y ∷ ys)) ≡ length (y ∷ numbers_without n ys) = ap length (without-other n y ys other) in
           omega (arith, count, length-without n ys distinct.1 later)
     ]
 
@@ -317,14 +317,14 @@ length-put_before at n (y ∷ ys) distinct has =
 
 -- a chain without one of its numbers, and with one more
 pub IsChain-without : (f g ys : List ℕ) (n : ℕ) → IsChain f g ys → Has n ys → (n ≡ 3 → ⊥)
-    → IsChain (after_without f g n) (before_without f g n) (without n ys)
+    → IsChain (after_without f g n) (before_without f g n) (numbers_without n ys)
 IsChain-without f g ys n c has inner =
     let length_f : length (after_without f g n) ≡ length f = length-set f (link g n) (link f n) in
     let length_g : length (before_without f g n) ≡ length g = length-set g (link f n) (link g n) in
     record {
       path = Path-without f g 0 n ys c.path c.distinct c.below c.lengths c.ends inner has;
       distinct = (Lacks-without 0 n ys c.distinct.0, Distinct-without n ys c.distinct.1);
-      below = subst (λ (m : ℕ). Below m (0 ∷ without n ys)) (sym length_f) (c.below.0, Below-without (length f) n ys c.below.1);
+      below = subst (λ (m : ℕ). Below m (0 ∷ numbers_without n ys)) (sym length_f) (c.below.0, Below-without (length f) n ys c.below.1);
       ends = EndsIn-without 3 n ys c.ends inner;
       lengths = length_g ∙ c.lengths ∙ sym length_f;
     }

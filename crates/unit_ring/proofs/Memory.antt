@@ -10,7 +10,7 @@ use Rattle.core.specs.Mem.Slots.Ownership.{bytes_of, slots, slot_lent, slots_len
 use Rattle.unit_ring.specs.declared.nodes.NodeRecord.{NodeRecord}
 use Rattle.unit_ring.specs.contracts.nodes.NodeRecord.{the_row as Node}
 use Rattle.unit_ring.proofs.nodes.NodeRecord.TheLaws.{the_row_laws, the_row_copy, the_row_plain, lowers, lowered}
-use Rattle.unit_ring.specs.Nodes.{node_at, blank}
+use Rattle.unit_ring.specs.Nodes.{node_at, blank_node}
 use Rattle.unit_ring.specs.declared.nodes.Address.{Address}
 use Rattle.unit_ring.specs.contracts.nodes.Address.{the_row as Place}
 use Rattle.unit_ring.proofs.nodes.Address.TheLaws as address
@@ -59,7 +59,7 @@ module _ {M : Type 1} {𝓤 : Ura M} (𝓛 : Logic 𝓤) (b o : ℕ) (xs : List 
   cell_out =
       let x : NodeRecord = node_at xs i in
       qed 𝓛 (‵ (slots Node (block_ptr b o) xs fs) ∷ []) ∵
-      use1 𝓛 (‵ (part_at Node full_share x b (i * 24 + o)) ⊛ ‵ (besides E b o xs fs i)) (item_out E 𝓛 b o xs fs i l m blank held) $ split ! $
+      use1 𝓛 (‵ (part_at Node full_share x b (i * 24 + o)) ⊛ ‵ (besides E b o xs fs i)) (item_out E 𝓛 b o xs fs i l m blank_node held) $ split ! $
       use1 𝓛 (some (λ (v : Val). ‵ (fat full_share (lone Node.mir) b (i * 24 + o) v) ⊛ ‵ (Node.own_val x (v ∷ [])))) (part_out 𝓛 Node refl full_share x b (i * 24 + o)) $ pick ! (λ v. split ! $
       move ! (1 ∷ []) $ peeks ! Node (Is Node) (shows 𝓛 Node) x (v ∷ []) (λ p.
       let is : v ≡ lowered x = ap only (lowers.val_is x (v ∷ []) p) in

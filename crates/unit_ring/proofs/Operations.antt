@@ -3,13 +3,13 @@ use Rattle.std.proofs.Common.{◌≡◌, ◌⊎◌, ℕ, ◌<◌, ◌≤◌, Lis
 use Rattle.std.specs.Prelude.{◌||◌}
 use Rattle.sched_base.specs.declared.UnitId.{UnitId}
 use Rattle.unit_ring.specs.Lists.{has_node, is_live}
-use Rattle.unit_ring.specs.Chains.{link, Path, Has, Distinct, IsChain, IsRing, chain, fenced, nodes_of, second_of, free_of, items, lists_of}
+use Rattle.unit_ring.specs.Chains.{link, Path, Has, Distinct, IsChain, IsRing, chain, fenced_numbers, nodes_of, second_of, free_of, items, lists_of}
 use Rattle.unit_ring.proofs.Linking.{Below-Has}
 use Rattle.unit_ring.proofs.Fences.{Parted, parted, high, Has-left, Has-right, Path-right, nodes_of-is, second_of-is, free_of-is}
 use Rattle.unit_ring.proofs.ItemLists.{has_node-Has}
 
 -- what is known of a ring: its path, and how its lists stand apart
-pub ring_path : (f g : List ℕ) (us : List UnitId) → IsRing f g us → Path f g 0 (fenced (nodes_of f) (second_of f) (free_of f))
+pub ring_path : (f g : List ℕ) (us : List UnitId) → IsRing f g us → Path f g 0 (fenced_numbers (nodes_of f) (second_of f) (free_of f))
 ring_path f g us ring = subst (Path f g 0) ring.parts ring.whole.path
 
 pub ring_parted : (f g : List ℕ) (us : List UnitId) → IsRing f g us → Parted (nodes_of f) (second_of f) (free_of f)
@@ -105,7 +105,7 @@ pub record Made (f g : List ℕ) (us : List UnitId) (xs ys zs : List ℕ) : Type
   pub ring : IsRing f g us
   pub lists : lists_of f us ≡ record { first = items us xs; second = items us ys; spare = length zs }
 
-pub made : (f g : List ℕ) (us : List UnitId) (xs ys zs : List ℕ) → IsChain f g (chain f) → chain f ≡ fenced xs ys zs
+pub made : (f g : List ℕ) (us : List UnitId) (xs ys zs : List ℕ) → IsChain f g (chain f) → chain f ≡ fenced_numbers xs ys zs
     → length us ≡ length f → Made f g us xs ys zs
 made f g us xs ys zs whole parts places =
     let p = parted xs ys zs (subst (λ (ws : List ℕ). Distinct (0 ∷ ws)) parts whole.distinct) in
@@ -115,7 +115,7 @@ made f g us xs ys zs whole parts places =
     record {
       ring = record {
         whole = whole;
-        parts = parts ∙ ap (λ (ws : List ℕ). fenced ws ys zs) (sym first) ∙ ap (λ (ws : List ℕ). fenced (nodes_of f) ws zs) (sym second) ∙ ap (fenced (nodes_of f) (second_of f)) (sym free);
+        parts = parts ∙ ap (λ (ws : List ℕ). fenced_numbers ws ys zs) (sym first) ∙ ap (λ (ws : List ℕ). fenced_numbers (nodes_of f) ws zs) (sym second) ∙ ap (fenced_numbers (nodes_of f) (second_of f)) (sym free);
         places = places;
       };
       lists = ap (λ (ws : List ℕ). record { first = items us ws; second = items us (second_of f); spare = length (free_of f) }) first

@@ -48,9 +48,9 @@ pub record IsChain (after before ys : List ℕ) : Type 0 where
   pub lengths : length before ≡ length after
 
 -- the list without a number
-abbrev pub without : ℕ → List ℕ → List ℕ
-without n [] = []
-without n (y ∷ ys) = (if y == n then without n ys else y ∷ without n ys)
+abbrev pub numbers_without : ℕ → List ℕ → List ℕ
+numbers_without n [] = []
+numbers_without n (y ∷ ys) = (if y == n then numbers_without n ys else y ∷ numbers_without n ys)
 
 -- the list with a number before another
 abbrev pub put_before : ℕ → ℕ → List ℕ → List ℕ
@@ -63,14 +63,14 @@ follow zero after x = []
 follow (suc n) after x = link after x ∷ follow n after (link after x)
 
 -- the numbers before a fence
-abbrev pub until : ℕ → List ℕ → List ℕ
-until fence [] = []
-until fence (y ∷ ys) = (if y == fence then [] else y ∷ until fence ys)
+abbrev pub numbers_before : ℕ → List ℕ → List ℕ
+numbers_before fence [] = []
+numbers_before fence (y ∷ ys) = (if y == fence then [] else y ∷ numbers_before fence ys)
 
 -- the numbers after a fence
-abbrev pub past : ℕ → List ℕ → List ℕ
-past fence [] = []
-past fence (y ∷ ys) = (if y == fence then ys else past fence ys)
+abbrev pub numbers_after : ℕ → List ℕ → List ℕ
+numbers_after fence [] = []
+numbers_after fence (y ∷ ys) = (if y == fence then ys else numbers_after fence ys)
 
 -- the chain of the forward links
 abbrev pub chain : List ℕ → List ℕ
@@ -78,17 +78,17 @@ chain after = follow (length after - 1) after 0
 
 -- the nodes of list 0, of list 1, and the free ones
 abbrev pub nodes_of : List ℕ → List ℕ
-nodes_of after = until 1 (chain after)
+nodes_of after = numbers_before 1 (chain after)
 
 abbrev pub second_of : List ℕ → List ℕ
-second_of after = until 2 (past 1 (chain after))
+second_of after = numbers_before 2 (numbers_after 1 (chain after))
 
 abbrev pub free_of : List ℕ → List ℕ
-free_of after = until 3 (past 2 (past 1 (chain after)))
+free_of after = numbers_before 3 (numbers_after 2 (numbers_after 1 (chain after)))
 
 -- three lists with the fences after them
-abbrev pub fenced : List ℕ → List ℕ → List ℕ → List ℕ
-fenced xs ys zs = xs ++ 1 ∷ (ys ++ 2 ∷ (zs ++ 3 ∷ []))
+abbrev pub fenced_numbers : List ℕ → List ℕ → List ℕ → List ℕ
+fenced_numbers xs ys zs = xs ++ 1 ∷ (ys ++ 2 ∷ (zs ++ 3 ∷ []))
 
 -- the numbers of so many nodes
 abbrev pub nodes_up_to : ℕ → List ℕ
@@ -111,7 +111,7 @@ lists_of after units =
 -- the links make a chain of their lists with the fences, and each number has a place for a unit
 pub record IsRing (after before : List ℕ) (units : List UnitId) : Type 0 where
   pub whole : IsChain after before (chain after)
-  pub parts : chain after ≡ fenced (nodes_of after) (second_of after) (free_of after)
+  pub parts : chain after ≡ fenced_numbers (nodes_of after) (second_of after) (free_of after)
   pub places : length units ≡ length after
 
 -- the node of that number, where it is no fence

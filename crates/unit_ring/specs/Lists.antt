@@ -63,6 +63,23 @@ next_in n (x ∷ xs) = (if x.node == n then first_in xs else next_in n xs)
 abbrev pub next_of : Lists → ℕ → Option Node
 next_of lists n = (if has_node n lists.first then next_in n lists.first else next_in n lists.second)
 
+-- the last node of the list, and what stands before the list where it is empty
+abbrev pub last_from : Option Node → List Item → Option Node
+last_from before [] = before
+last_from before (x ∷ xs) = last_from (Some (node x.node)) xs
+
+abbrev pub last_in : List Item → Option Node
+last_in xs = last_from None xs
+
+-- the node before a node of the list, where something stands before the list
+abbrev pub prev_from : Option Node → ℕ → List Item → Option Node
+prev_from before n [] = None
+prev_from before n (x ∷ xs) = (if x.node == n then before else prev_from (Some (node x.node)) n xs)
+
+-- the node before a node of either list
+abbrev pub prev_of : Lists → ℕ → Option Node
+prev_of lists n = (if has_node n lists.first then prev_from None n lists.first else prev_from None n lists.second)
+
 -- the list without a node
 abbrev pub without_in : ℕ → List Item → List Item
 without_in n [] = []
@@ -74,8 +91,8 @@ put_before_in at new [] = []
 put_before_in at new (x ∷ xs) = (if x.node == at then new ∷ x ∷ put_before_in at new xs else x ∷ put_before_in at new xs)
 
 -- both lists without a node
-abbrev pub without : Lists → ℕ → Lists
-without lists n = record lists { first = without_in n lists.first; second = without_in n lists.second }
+abbrev pub lists_without : Lists → ℕ → Lists
+lists_without lists n = record lists { first = without_in n lists.first; second = without_in n lists.second }
 
 -- the lists with an item before a node
 abbrev pub put_before : Lists → ℕ → Item → Lists
@@ -83,22 +100,22 @@ put_before lists at new =
     record lists { first = put_before_in at new lists.first; second = put_before_in at new lists.second }
 
 -- the lists with an item at the end of one of them
-abbrev pub appended : Lists → ℕ → Item → Lists
-appended lists k new =
+abbrev pub after_append : Lists → ℕ → Item → Lists
+after_append lists k new =
     (if k == 0 then record lists { first = lists.first ++ new ∷ [] } else record lists { second = lists.second ++ new ∷ [] })
 
 -- with one free node less
-abbrev pub taken : Lists → Lists
-taken lists = record lists { spare = lists.spare - 1 }
+abbrev pub after_take : Lists → Lists
+after_take lists = record lists { spare = lists.spare - 1 }
 
 -- with one free node more
-abbrev pub given : Lists → Lists
-given lists = record lists { spare = lists.spare + 1 }
+abbrev pub after_give : Lists → Lists
+after_give lists = record lists { spare = lists.spare + 1 }
 
 -- how many nodes there are, live and free; their numbers begin at 4
 abbrev pub room_of : Lists → ℕ
 room_of lists = length lists.first + length lists.second + lists.spare
 
 -- no item, and so many free nodes
-abbrev pub empty : ℕ → Lists
-empty nodes = record { first = []; second = []; spare = nodes }
+abbrev pub empty_lists : ℕ → Lists
+empty_lists nodes = record { first = []; second = []; spare = nodes }

@@ -18,12 +18,12 @@ abbrev pub number_at : Address → Address → ℕ
 number_at base a = (count_of a.ptr - count_of base.ptr) / 24
 
 -- a node that leads nowhere
-abbrev pub blank : NodeRecord
-blank = record { after = record { ptr = null_ptr }; before = record { ptr = null_ptr }; unit = no_unit; number = 0 }
+abbrev pub blank_node : NodeRecord
+blank_node = record { after = record { ptr = null_ptr }; before = record { ptr = null_ptr }; unit = no_unit; number = 0 }
 
 -- the node of a number
 abbrev pub node_at : List NodeRecord → ℕ → NodeRecord
-node_at nodes k = slice_index_or nodes k blank
+node_at nodes k = slice_index_or nodes k blank_node
 
 -- the nodes with another link of one, to the node after it or to the one before it
 abbrev pub with_after : List NodeRecord → ℕ → Address → List NodeRecord

@@ -58,11 +58,11 @@ fn node_at(n: u32) -> Option<Node>
 
 impl Ring {
     ghost use Rattle.std.specs.Prelude.{◌≡◌, ◌+◌, ◌<◌, ◌≤◌, true, false, IfOk};
-    ghost use Rattle.unit_ring.specs.Lists.{item, is_live, unit_of, first_in, next_of, list_of, without as lists_without, put_before as lists_with, appended, taken, given, empty, room_of};
+    ghost use Rattle.unit_ring.specs.Lists.{item, is_live, unit_of, first_in, next_of, last_in, prev_of, list_of, lists_without as lists_without, put_before as lists_with, after_append, after_take, after_give, empty_lists, room_of};
 
     /// A ring with so many nodes, all of them free.
     pub fn room(alloc: Global, nodes: usize) -> Result<Ring, NoMemory>
-        ensures { IfOk result (λ ring. ring ≡ empty nodes) }
+        ensures { IfOk result (λ ring. ring ≡ empty_lists nodes) }
     {
         if nodes > NODES_MOST {
             return Err(NoMemory);
@@ -76,7 +76,7 @@ impl Ring {
     pub fn push_back<L: Ledger>(&mut self, list: u8, u: UnitId, steps: &mut Steps<L>) -> Node
         requires list { list ≤ 1 }
         requires room { 0 < self.old.spare }
-        ensures after { self.new ≡ taken (appended self.old list (item result.0 u)) }
+        ensures after { self.new ≡ after_take (after_append self.old list (item result.0 u)) }
         ensures fresh { is_live self.old result.0 ≡ false }
         ensures number { result.0 < room_of self.old + 4 }
         ensures step { steps.new ≡ steps.old + 1 }
@@ -92,7 +92,7 @@ impl Ring {
     pub fn insert_before<L: Ledger>(&mut self, at: Node, u: UnitId, steps: &mut Steps<L>) -> Node
         requires live { is_live self.old at.0 ≡ true }
         requires room { 0 < self.old.spare }
-        ensures after { self.new ≡ taken (lists_with self.old at.0 (item result.0 u)) }
+        ensures after { self.new ≡ after_take (lists_with self.old at.0 (item result.0 u)) }
         ensures fresh { is_live self.old result.0 ≡ false }
         ensures number { result.0 < room_of self.old + 4 }
         ensures step { steps.new ≡ steps.old + 1 }
@@ -107,7 +107,7 @@ impl Ring {
     /// Takes a live node out of its list, and answers its unit. The node is free then.
     pub fn unlink<L: Ledger>(&mut self, n: Node, steps: &mut Steps<L>) -> UnitId
         requires live { is_live self.old n.0 ≡ true }
-        ensures after { self.new ≡ given (lists_without self.old n.0) }
+        ensures after { self.new ≡ after_give (lists_without self.old n.0) }
         ensures unit { result ≡ unit_of self.old n.0 }
         ensures step { steps.new ≡ steps.old + 1 }
     {
@@ -120,7 +120,8 @@ impl Ring {
     pub fn shift<L: Ledger>(&mut self, n: Node, list: u8, steps: &mut Steps<L>)
         requires live { is_live self.old n.0 ≡ true }
         requires list { list ≤ 1 }
-        ensures after { self.new ≡ appended (lists_without self.old n.0) list (item n.0 (unit_of self.old n.0)) }
+        ensures after { self.new ≡ after_append (lists_without self.old n.0) list
+            (item n.0 (unit_of self.old n.0)) }
         ensures step { steps.new ≡ steps.old + 1 }
     {
         steps.tick();
@@ -145,6 +146,26 @@ impl Ring {
     {
         steps.tick();
         node_at(self.nodes.next(n.0))
+    }
+
+    /// The last node of a list, or `None` where it is empty.
+    pub fn last<L: Ledger>(&self, list: u8, steps: &mut Steps<L>) -> Option<Node>
+        requires list { list ≤ 1 }
+        ensures node { result ≡ last_in (list_of self.now list) }
+        ensures step { steps.new ≡ steps.old + 1 }
+    {
+        steps.tick();
+        node_at(self.nodes.prev(list as u32 + 1))
+    }
+
+    /// The node before a live one in its list, or `None` where it is the first.
+    pub fn prev<L: Ledger>(&self, n: Node, steps: &mut Steps<L>) -> Option<Node>
+        requires live { is_live self.now n.0 ≡ true }
+        ensures node { result ≡ prev_of self.now n.0 }
+        ensures step { steps.new ≡ steps.old + 1 }
+    {
+        steps.tick();
+        node_at(self.nodes.prev(n.0))
     }
 
     /// The unit of a live node.

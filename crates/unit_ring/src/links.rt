@@ -3,8 +3,8 @@
 
 ghost use Rattle.std.specs.Prelude.{ℕ, ◌≡◌, ◌≢◌, ◌-◌, ◌<◌, ◌≤◌, [], ◌∷◌, length, slice_set, IfOk};
 ghost use Rattle.core.specs.Mem.Slots.{slots_items, slots_len, IsFull, SamePlaces};
-ghost use Rattle.unit_ring.specs.Chains.{link, unit_at, after_without, before_without, after_with, before_with, IsChain, Has, chain, fenced, nodes_up_to, without, put_before};
-ghost use Rattle.unit_ring.specs.Nodes.{blank, first_node, node_at};
+ghost use Rattle.unit_ring.specs.Chains.{link, unit_at, after_without, before_without, after_with, before_with, IsChain, Has, chain, fenced_numbers, nodes_up_to, numbers_without, put_before};
+ghost use Rattle.unit_ring.specs.Nodes.{blank_node, first_node, node_at};
 
 use crate::nodes;
 use crate::nodes::{Address, NodeRecord, based};
@@ -22,7 +22,7 @@ const NO_UNIT: UnitId = UnitId {
 
 /// A node before it has a number.
 fn blank_node() -> NodeRecord
-    ensures { result ≡ blank }
+    ensures { result ≡ blank_node }
 {
     NodeRecord {
         after: Address {
@@ -41,7 +41,8 @@ fn fill(row: &mut Slots<NodeRecord>, base: Address)
     requires few { slots_len row.old < 4294967296 }
     ensures places { SamePlaces row.old row.new }
     ensures full { IsFull row.new }
-    ensures nodes { (k : ℕ) → k < slots_len row.new → node_at (slots_items row.new) k ≡ first_node base k }
+    ensures nodes { (k : ℕ) → k < slots_len row.new → node_at (slots_items row.new) k
+        ≡ first_node base k }
 {
     for k in 0..row.len() {
         row.put(
@@ -118,7 +119,8 @@ impl Nodes {
     pub fn room(alloc: Global, all: usize) -> Result<Nodes, NoMemory>
         requires some { 4 ≤ all }
         requires few { all < 4294967296 }
-        ensures whole { IfOk result (λ nodes. IsChain nodes.after nodes.before (fenced [] [] (nodes_up_to (all - 4)))) }
+        ensures whole { IfOk result (λ nodes.
+            IsChain nodes.after nodes.before (fenced_numbers [] [] (nodes_up_to (all - 4)))) }
         ensures size { IfOk result (λ nodes. length nodes.after ≡ all) }
         ensures places { IfOk result (λ nodes. length nodes.units ≡ all) }
     {
@@ -134,6 +136,15 @@ impl Nodes {
         ensures { result ≡ link self.now.after n }
     {
         nodes::next(&self.row, self.base, n)
+    }
+
+    /// The number before one.
+    pub fn prev(&self, n: u32) -> u32
+        requires below { n < length self.now.after }
+        requires last { link self.now.before n < length self.now.after }
+        ensures { result ≡ link self.now.before n }
+    {
+        nodes::prev(&self.row, self.base, n)
     }
 
     /// Takes a number out of its place.
@@ -168,7 +179,7 @@ impl Nodes {
         requires place { Has at (chain self.old.after) }
         requires apart { at ≢ n }
         ensures whole { IsChain self.new.after self.new.before (chain self.new.after) }
-        ensures moved { chain self.new.after ≡ put_before at n (without n (chain self.old.after)) }
+        ensures moved { chain self.new.after ≡ put_before at n (numbers_without n (chain self.old.after)) }
         ensures size { length self.new.after ≡ length self.old.after }
         ensures units { self.new.units ≡ self.old.units }
     {
@@ -195,7 +206,8 @@ impl Nodes {
         requires some { 4 ≤ length self.old.after }
         requires lengths { length self.old.before ≡ length self.old.after }
         requires start { link self.old.before 3 ≡ 0 }
-        ensures whole { IsChain self.new.after self.new.before (fenced [] [] (nodes_up_to (length self.old.after - 4))) }
+        ensures whole { IsChain self.new.after self.new.before
+            (fenced_numbers [] [] (nodes_up_to (length self.old.after - 4))) }
         ensures size { length self.new.after ≡ length self.old.after }
         ensures units { self.new.units ≡ self.old.units }
     {

@@ -59,6 +59,23 @@ pub fn next(nodes: &Slots<NodeRecord>, base: Address, n: u32) -> u32
     }
 }
 
+/// The number of the node before one.
+pub fn prev(nodes: &Slots<NodeRecord>, base: Address, n: u32) -> u32
+    ghost to: { ℕ }
+    requires base { slots_ptr nodes.now ≡ base.ptr }
+    requires full { IsFull nodes.now }
+    requires below { n < slots_len nodes.now }
+    requires before { (node_at (slots_items nodes.now) n).before ≡ place base to }
+    requires target { to < slots_len nodes.now }
+    ensures { result ≡ (node_at (slots_items nodes.now) to).number }
+{
+    unsafe {
+        let node = base.ptr.add(n as usize);
+        let before = (*node).before.ptr;
+        (*before).number
+    }
+}
+
 /// Takes a node out of its place.
 pub fn unlink(nodes: &mut Slots<NodeRecord>, base: Address, n: u32)
     ghost beside: { ℕ × ℕ }
@@ -69,7 +86,9 @@ pub fn unlink(nodes: &mut Slots<NodeRecord>, base: Address, n: u32)
     requires after { (node_at (slots_items nodes.old) n).after ≡ place base beside.1 }
     requires last { beside.0 < slots_len nodes.old }
     requires next { beside.1 < slots_len nodes.old }
-    ensures items { slots_items nodes.new ≡ with_before (with_after (slots_items nodes.old) beside.0 (place base beside.1)) beside.1 (place base beside.0) }
+    ensures items { slots_items nodes.new
+        ≡ with_before (with_after (slots_items nodes.old) beside.0 (place base beside.1)) beside.1
+        (place base beside.0) }
     ensures places { SamePlaces nodes.old nodes.new }
     ensures full { IsFull nodes.new }
 {
@@ -91,7 +110,10 @@ pub fn insert_before(nodes: &mut Slots<NodeRecord>, base: Address, at: u32, n: u
     requires at { at < slots_len nodes.old }
     requires before { (node_at (slots_items nodes.old) at).before ≡ place base last }
     requires last { last < slots_len nodes.old }
-    ensures items { slots_items nodes.new ≡ with_before (with_before (with_after (with_after (slots_items nodes.old) last (place base n)) n (place base at)) n (place base last)) at (place base n) }
+    ensures items { slots_items nodes.new
+        ≡ with_before (with_before (with_after
+        (with_after (slots_items nodes.old) last (place base n)) n (place base at)) n
+        (place base last)) at (place base n) }
     ensures places { SamePlaces nodes.old nodes.new }
     ensures full { IsFull nodes.new }
 {

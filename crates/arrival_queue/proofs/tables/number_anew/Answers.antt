@@ -1,5 +1,5 @@
 use Rattle.std.proofs.Common.{◌≡◌, ℕ, suc, ◌<◌, List, [], ◌∷◌, length, map, get_or, refl, ◌∙◌, ap, arith, rules}
-use Rattle.arrival_queue.specs.Tables.{below}
+use Rattle.arrival_queue.specs.Tables.{count_below}
 use Rattle.arrival_queue.proofs.tables.number_anew.Goals as goal
 
 -- a list that is at each place what a function gives of another's
@@ -13,4 +13,4 @@ map-each f (x ∷ xs) (y ∷ ys) same each =
 
 pub returns : goal.returns
 returns c =
-    map-each (below c.args.numbers.now) c.args.numbers.now c.loop-i.fresh (search rules) (λ k low. c.loop-i.invariant k (omega (arith, low, c.loop-i-test.false)))
+    map-each (count_below c.args.numbers.now) c.args.numbers.now c.loop-i.fresh (search rules) (λ k low. c.loop-i.invariant k (omega (arith, low, c.loop-i-test.false)))

@@ -1,51 +1,62 @@
-use Rattle.std.proofs.Common.{◌≡◌, ℕ, ◌+◌, ◌-◌, ◌<◌, Bool, true, false, length, drop, sym, ◌∙◌, ap, subst, arith}
+use Rattle.std.proofs.Common.{◌≡◌, ℕ, ◌-◌, ◌<◌, true, false, length, sym, subst, arith}
 use Rattle.unit_ring.specs.declared.Node.{Node}
-use Rattle.unit_ring.specs.Lists.{Item, Lists, is_live, first_in, item, next_of, no_unit}
-use Rattle.std.specs.Prelude.{Option, Some}
-use Rattle.arrival_queue.specs.Tables.{Apart, all_items, comes_before, first_node}
-use Rattle.arrival_queue.proofs.Walking.{At, at_node, at_live, at_next, Apart-left, Tabled-left, Tabled-has, passed_more}
+use Rattle.unit_ring.specs.Lists.{Item, is_live, item, no_unit}
+use Rattle.std.specs.Prelude.{Bool, Option, Some}
+use Rattle.arrival_queue.specs.declared.key.Key.{Key}
+use Rattle.arrival_queue.specs.declared.tables.Tables.{Tables}
+use Rattle.arrival_queue.specs.Whole.{IsTables}
+use Rattle.arrival_queue.specs.Tables.{comes_before}
+use Rattle.arrival_queue.proofs.Walking.{at_live, Tabled-left, Tabled-has}
+use Rattle.arrival_queue.proofs.Back.{Here, Stands, here, stepped, found_here, found_end}
 use Rattle.arrival_queue.proofs.tables.place_of.Goals as goal
 
+-- whether the new unit comes before an item
+abbrev test : Tables → Key → ℕ → Item → Bool
+test t key a = comes_before t.keys.items t.arrivals.items key a
+
 -- where the walk stands
-stand : (ring : Lists) (k : ℕ) (at : Option Node) (n : Node) → Apart (all_items ring) → at ≡ first_in (drop k ring.first) → at ≡ Some n
-    → At ring.first k n
-stand ring k at n apart stands is = at_node ring.first k n (Apart-left ring.first ring.second apart) (sym stands ∙ is)
+there : (t : Tables) (key : Key) (a k : ℕ) (at place : Option Node) (n : Node) → IsTables t → Stands (test t key a) t.ring.first k at place → at ≡ Some n
+    → Here t.ring (test t key a) k n place
+there t key a k at place n tables stands is = here t.ring (test t key a) k at place n tables.apart stands is
 
 pub comes_before_node-requires-clause-arrivals : goal.comes_before_node-requires-clause-arrivals
 comes_before_node-requires-clause-arrivals g c =
-    let ring = c.args.tables.now.ring in
-    let arrivals = c.args.tables.now.arrivals.items in
-    let there = stand ring (c.loop-at.steps - c.first-at.new.steps) c.loop-at.at c.in-Some.n c.requires.apart c.loop-at.invariant.stands c.in-Some.is in
-    let low = Tabled-has (length arrivals) c.args.tables.now.next there.x.node arrivals ring.first (Tabled-left (length arrivals) c.args.tables.now.next arrivals ring.first ring.second c.requires.tabled) there.has in
-    subst (λ (m : Node). m.0 < length arrivals) (sym there.is) low
+    let t = c.args.tables.now in
+    let n = length t.arrivals.items in
+    let h = there c.args.tables.now c.args.key c.args.arrival (c.loop-at.steps - c.last-at.new.steps) c.loop-at.at c.loop-at.place c.in-Some.n c.requires.tables c.loop-at.invariant.stands c.in-Some.is in
+    let low = Tabled-has n t.next h.x.node t.arrivals.items t.ring.first (Tabled-left n t.next t.arrivals.items t.ring.first t.ring.second c.requires.tables.tabled) h.has in
+    subst (λ (m : Node). m.0 < n) (sym h.node_is) low
 
 pub comes_before_node-requires-clause-keys : goal.comes_before_node-requires-clause-keys
 comes_before_node-requires-clause-keys g c =
     let low = comes_before_node-requires-clause-arrivals g c in
-    subst (λ (n : ℕ). c.in-Some.n.0 < n) (sym c.requires.keys_room) low
+    subst (λ (n : ℕ). c.in-Some.n.0 < n) (sym c.requires.tables.keys_room) low
 
-pub next-at-requires : goal.next-at-requires
-next-at-requires g c =
-    let ring = c.args.tables.now.ring in
-    let there = stand ring (c.loop-at.steps - c.first-at.new.steps) c.loop-at.at c.in-Some.n c.requires.apart c.loop-at.invariant.stands c.in-Some.is in
-    record { live = subst (λ (m : Node). is_live ring m.0 ≡ true) (sym there.is) (at_live ring there.x.node there.has) }
+pub returns-then-not-comes_before_node-clause-place : goal.returns-then-not-comes_before_node-clause-place
+returns-then-not-comes_before_node-clause-place g c =
+    let h = there c.args.tables.now c.args.key c.args.arrival (c.loop-at.steps - c.last-at.new.steps) c.loop-at.at c.loop-at.place c.in-Some.n c.requires.tables c.loop-at.invariant.stands c.in-Some.is in
+    found_here c.args.tables.now.ring (test c.args.tables.now c.args.key c.args.arrival) (c.loop-at.steps - c.last-at.new.steps) c.in-Some.n c.loop-at.place h c.requires.order
+    (subst (λ (m : Node). test c.args.tables.now c.args.key c.args.arrival (item m.0 no_unit) ≡ false) h.node_is (sym c.if-not-comes_before_node.ensures))
+
+pub prev-at-requires : goal.prev-at-requires
+prev-at-requires g c =
+    let h = there c.args.tables.now c.args.key c.args.arrival (c.loop-at.steps - c.last-at.new.steps) c.loop-at.at c.loop-at.place c.in-Some.n c.requires.tables c.loop-at.invariant.stands c.in-Some.is in
+    record { live = subst (λ (m : Node). is_live c.args.tables.now.ring m.0 ≡ true) (sym h.node_is) (at_live c.args.tables.now.ring h.x.node h.has) }
 
 pub loop-at-preserved : goal.loop-at-preserved
 loop-at-preserved g c =
-    let t = c.args.tables.now in
-    let ring = t.ring in
-    let k = c.loop-at.steps - c.first-at.new.steps in
-    let there = stand ring k c.loop-at.at c.in-Some.n c.requires.apart c.loop-at.invariant.stands c.in-Some.is in
     let later = c.loop-at.invariant.later in
-    let step : c.next-at.new.steps - c.first-at.new.steps ≡ k + 1 = omega (arith, later, c.next-at.ensures.step) in
-    let p : Item → Bool = comes_before t.keys.items t.arrivals.items c.args.key c.args.arrival in
-    let here : next_of ring c.in-Some.n.0 ≡ first_in there.rest =
-    ap (λ (m : Node). next_of ring m.0) there.is ∙ at_next ring there.x.node there.has ∙ there.next
-    in
-    let fails : p there.x ≡ false = subst (λ (m : Node). p (item m.0 no_unit) ≡ false) there.is (sym c.if-comes_before_node.ensures) in
+    let step = c.prev-at.ensures.step in
+    let h = there c.args.tables.now c.args.key c.args.arrival (c.loop-at.steps - c.last-at.new.steps) c.loop-at.at c.loop-at.place c.in-Some.n c.requires.tables c.loop-at.invariant.stands c.in-Some.is in
     record {
-      later = omega (arith, later, c.next-at.ensures.step);
-      within = omega (arith, step, there.low);
-      stands = c.next-at.ensures.node ∙ here ∙ sym (ap first_in there.later) ∙ sym (ap (λ (j : ℕ). first_in (drop j ring.first)) step);
-      passed = ap (λ (j : ℕ). first_node p (drop j ring.first)) step ∙ passed_more p ring.first k c.in-Some.n there fails c.loop-at.invariant.passed;
+      later = omega (arith, later, step);
+      stands =
+          stepped c.args.tables.now.ring (test c.args.tables.now c.args.key c.args.arrival) (c.loop-at.steps - c.last-at.new.steps) (c.prev-at.new.steps - c.last-at.new.steps) c.in-Some.n c.loop-at.place c.prev-at.result h
+          (subst (λ (m : Node). test c.args.tables.now c.args.key c.args.arrival (item m.0 no_unit) ≡ true) h.node_is (sym c.if-not-comes_before_node.ensures))
+          c.prev-at.ensures.node (omega (arith, later, step));
     }
+
+pub returns-clause-place : goal.returns-clause-place
+returns-clause-place g c =
+    found_end (comes_before c.args.tables.now.keys.items c.args.tables.now.arrivals.items c.args.key c.args.arrival) c.args.tables.now.ring.first
+    (c.loop-at.steps - c.last-at.new.steps) c.loop-at.at c.loop-at.place c.loop-at.invariant.stands c.in_default.is

@@ -1,6 +1,8 @@
-use Rattle.std.proofs.Common.{◌≡◌, ℕ, ◌<◌, false}
-use Rattle.due_heap.specs.Winners.{has_come}
+use Rattle.due_heap.proofs.Told.{AreLookedAt}
 use Rattle.due_heap.proofs.set.first_by_look.Given as goal
 
-abbrev pub invariant-loop-i : goal.invariant-loop-i
-invariant-loop-i l = (id : ℕ) → id < l.i → has_come l.moments l.t.0 id ≡ false
+abbrev pub invariant-loop-id : goal.invariant-loop-id
+invariant-loop-id l = AreLookedAt l.moments l.t.0 l.rest
+
+abbrev pub decreases-loop-id : goal.decreases-loop-id
+decreases-loop-id l = l.rest

@@ -1,6 +1,6 @@
 use Rattle.std.proofs.Common.{◌≡◌, ℕ, ◌<◌, List, false, length, refl, sym, ◌∙◌, ap, subst, arith, set}
 use Rattle.sched_base.specs.declared.UnitId.{UnitId}
-use Rattle.unit_ring.specs.Lists.{Lists, item, is_live, taken, appended}
+use Rattle.unit_ring.specs.Lists.{Lists, item, is_live, after_take, after_append}
 use Rattle.unit_ring.specs.Chains.{link, IsRing, free_of, lists_of}
 use Rattle.unit_ring.proofs.Operations.{FirstFree, first_free, chain_has_free}
 use Rattle.unit_ring.proofs.Calls.{free_high, free_below, free_fresh, pushed, chain_has_end, free_number, carried, free_low, free_next}
@@ -45,11 +45,11 @@ shift-requires-clause-apart g c =
 
 -- the ring after the unit is written, and what is seen of it
 made : (g : Over) (c : goal.After-set_unit g) → IsRing c.set_unit.new.self.after c.set_unit.new.self.before c.set_unit.new.self.units
-    × (lists_of c.set_unit.new.self.after c.set_unit.new.self.units ≡ taken (appended (lists_of c.self.inside.nodes.after c.self.inside.nodes.units) c.args.list (item c.next-n.result c.args.u)))
+    × (lists_of c.set_unit.new.self.after c.set_unit.new.self.units ≡ after_take (after_append (lists_of c.self.inside.nodes.after c.self.inside.nodes.units) c.args.list (item c.next-n.result c.args.u)))
 made g c =
     let first : FirstFree c.self.inside.nodes.after c.next-n.result = taken_node c.self.inside.nodes.after c.self.inside.nodes.before c.self.inside.nodes.units c.args.self.now c.self.inside.nodes.after c.next-n.result c.self.invariant c.self.view_is c.requires.room refl c.next-n.ensures in
     carried c.shift.new.self.after c.shift.new.self.before c.set_unit.new.self.after c.set_unit.new.self.before (set c.self.inside.nodes.units c.next-n.result c.args.u) c.set_unit.new.self.units
-    (taken (appended (lists_of c.self.inside.nodes.after c.self.inside.nodes.units) c.args.list (item c.next-n.result c.args.u)))
+    (after_take (after_append (lists_of c.self.inside.nodes.after c.self.inside.nodes.units) c.args.list (item c.next-n.result c.args.u)))
     (pushed c.self.inside.nodes.after c.self.inside.nodes.before c.shift.new.self.after c.shift.new.self.before c.self.inside.nodes.units c.next-n.result c.args.u c.self.invariant first c.shift.ensures.whole c.shift.ensures.size c.args.list c.requires.list c.shift.ensures.moved)
     c.set_unit.ensures.after c.set_unit.ensures.before (c.set_unit.ensures.units ∙ ap (λ (us : List UnitId). set us c.next-n.result c.args.u) c.shift.ensures.units)
 
@@ -59,7 +59,7 @@ invariant_of-self g c = (made g c).0
 pub returns-clause-after : goal.returns-clause-after
 returns-clause-after g c =
     (made g c).1
-    ∙ ap (λ (ls : Lists). taken (appended ls c.args.list (item c.next-n.result c.args.u))) c.self.view_is
+    ∙ ap (λ (ls : Lists). after_take (after_append ls c.args.list (item c.next-n.result c.args.u))) c.self.view_is
 
 pub returns-clause-fresh : goal.returns-clause-fresh
 returns-clause-fresh g c =

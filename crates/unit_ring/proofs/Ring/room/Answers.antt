@@ -1,16 +1,16 @@
 use Rattle.std.proofs.Common.{◌≡◌, ℕ, ◌+◌, ◌-◌, [], List, length, refl, sym, ◌∙◌, ap, subst, arith}
 use Rattle.sched_base.specs.declared.UnitId.{UnitId}
-use Rattle.unit_ring.specs.Chains.{IsChain, fenced, nodes_up_to}
+use Rattle.unit_ring.specs.Chains.{IsChain, fenced_numbers, nodes_up_to}
 use Rattle.unit_ring.proofs.Operations.{Made}
 use Rattle.unit_ring.proofs.Calls.{opened, length-up_to}
 use Rattle.unit_ring.proofs.Ring.room.Goals as goal
 
 -- what the links of all numbers make
 all_free : (f g : List ℕ) (us : List UnitId) (all k : ℕ)
-    → IsChain f g (fenced [] [] (nodes_up_to (all - 4))) → length f ≡ all → all ≡ k + 4 → length us ≡ all → Made f g us [] [] (nodes_up_to k)
+    → IsChain f g (fenced_numbers [] [] (nodes_up_to (all - 4))) → length f ≡ all → all ≡ k + 4 → length us ≡ all → Made f g us [] [] (nodes_up_to k)
 all_free f g us all k whole size is places =
     let same : all - 4 ≡ k = omega (arith, is) in
-    opened f g us k (subst (λ (n : ℕ). IsChain f g (fenced [] [] (nodes_up_to n))) same whole) (size ∙ is) (places ∙ sym size)
+    opened f g us k (subst (λ (n : ℕ). IsChain f g (fenced_numbers [] [] (nodes_up_to n))) same whole) (size ∙ is) (places ∙ sym size)
 
 made : (c : goal.In_ok-nodes) → Made c.in_ok-nodes.nodes.after c.in_ok-nodes.nodes.before c.in_ok-nodes.nodes.units [] [] (nodes_up_to c.args.nodes)
 made c =

@@ -1,5 +1,5 @@
 use Rattle.std.proofs.Common.{◌≡◌, true, refl, sym, ◌∙◌, ap, subst, arith}
-use Rattle.unit_ring.specs.Lists.{Lists, item, is_live, unit_of, appended, without as lists_without}
+use Rattle.unit_ring.specs.Lists.{Lists, item, is_live, unit_of, after_append, lists_without as lists_without}
 use Rattle.unit_ring.specs.Chains.{IsRing, lists_of}
 use Rattle.unit_ring.proofs.Operations.{live_has, live_high}
 use Rattle.unit_ring.proofs.Calls.{shifted, chain_has_end, carried}
@@ -30,11 +30,11 @@ shift-requires-clause-apart g c =
 
 -- the ring after the move, and what is seen of it
 made : (g : Over) (c : goal.After-shift g) → IsRing c.shift.new.self.after c.shift.new.self.before c.shift.new.self.units
-    × (lists_of c.shift.new.self.after c.shift.new.self.units ≡ appended (lists_without (lists_of c.self.inside.nodes.after c.self.inside.nodes.units) c.args.n.0) c.args.list (item c.args.n.0 (unit_of (lists_of c.self.inside.nodes.after c.self.inside.nodes.units) c.args.n.0)))
+    × (lists_of c.shift.new.self.after c.shift.new.self.units ≡ after_append (lists_without (lists_of c.self.inside.nodes.after c.self.inside.nodes.units) c.args.n.0) c.args.list (item c.args.n.0 (unit_of (lists_of c.self.inside.nodes.after c.self.inside.nodes.units) c.args.n.0)))
 made g c =
     let live : is_live (lists_of c.self.inside.nodes.after c.self.inside.nodes.units) c.args.n.0 ≡ true = subst (λ (ls : Lists). is_live ls c.args.n.0 ≡ true) (sym c.self.view_is) c.requires.live in
     carried c.shift.new.self.after c.shift.new.self.before c.shift.new.self.after c.shift.new.self.before c.self.inside.nodes.units c.shift.new.self.units
-    (appended (lists_without (lists_of c.self.inside.nodes.after c.self.inside.nodes.units) c.args.n.0) c.args.list (item c.args.n.0 (unit_of (lists_of c.self.inside.nodes.after c.self.inside.nodes.units) c.args.n.0)))
+    (after_append (lists_without (lists_of c.self.inside.nodes.after c.self.inside.nodes.units) c.args.n.0) c.args.list (item c.args.n.0 (unit_of (lists_of c.self.inside.nodes.after c.self.inside.nodes.units) c.args.n.0)))
     (shifted c.self.inside.nodes.after c.self.inside.nodes.before c.shift.new.self.after c.shift.new.self.before c.self.inside.nodes.units c.args.n.0 c.self.invariant live c.shift.ensures.whole c.shift.ensures.size c.args.list c.requires.list c.shift.ensures.moved)
     refl refl c.shift.ensures.units
 
@@ -44,4 +44,4 @@ invariant_of-self g c = (made g c).0
 pub returns-clause-after : goal.returns-clause-after
 returns-clause-after g c =
     (made g c).1
-    ∙ ap (λ (ls : Lists). appended (lists_without ls c.args.n.0) c.args.list (item c.args.n.0 (unit_of ls c.args.n.0))) c.self.view_is
+    ∙ ap (λ (ls : Lists). after_append (lists_without ls c.args.n.0) c.args.list (item c.args.n.0 (unit_of ls c.args.n.0))) c.self.view_is

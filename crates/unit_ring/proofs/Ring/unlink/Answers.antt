@@ -1,6 +1,6 @@
 use Rattle.std.proofs.Common.{◌≡◌, List, true, length, refl, sym, ◌∙◌, ap, subst, arith}
 use Rattle.sched_base.specs.declared.UnitId.{UnitId}
-use Rattle.unit_ring.specs.Lists.{Lists, is_live, given, without as lists_without}
+use Rattle.unit_ring.specs.Lists.{Lists, is_live, after_give, lists_without as lists_without}
 use Rattle.unit_ring.specs.Chains.{IsRing, lists_of, unit_at}
 use Rattle.unit_ring.proofs.Operations.{live_has, live_high, live_below, chain_has_3}
 use Rattle.unit_ring.proofs.Calls.{unlinked, read_unit, carried}
@@ -37,11 +37,11 @@ unit-requires g c =
 
 -- the ring after the move, and what is seen of it
 made : (g : Over) (c : goal.After-unit g) → IsRing c.shift.new.self.after c.shift.new.self.before c.shift.new.self.units
-    × (lists_of c.shift.new.self.after c.shift.new.self.units ≡ given (lists_without (lists_of c.self.inside.nodes.after c.self.inside.nodes.units) c.args.n.0))
+    × (lists_of c.shift.new.self.after c.shift.new.self.units ≡ after_give (lists_without (lists_of c.self.inside.nodes.after c.self.inside.nodes.units) c.args.n.0))
 made g c =
     let live : is_live (lists_of c.self.inside.nodes.after c.self.inside.nodes.units) c.args.n.0 ≡ true = subst (λ (ls : Lists). is_live ls c.args.n.0 ≡ true) (sym c.self.view_is) c.requires.live in
     carried c.shift.new.self.after c.shift.new.self.before c.shift.new.self.after c.shift.new.self.before c.self.inside.nodes.units c.shift.new.self.units
-    (given (lists_without (lists_of c.self.inside.nodes.after c.self.inside.nodes.units) c.args.n.0))
+    (after_give (lists_without (lists_of c.self.inside.nodes.after c.self.inside.nodes.units) c.args.n.0))
     (unlinked c.self.inside.nodes.after c.self.inside.nodes.before c.shift.new.self.after c.shift.new.self.before c.self.inside.nodes.units c.args.n.0 c.self.invariant live c.shift.ensures.whole c.shift.ensures.size c.shift.ensures.moved)
     refl refl c.shift.ensures.units
 
@@ -51,7 +51,7 @@ invariant_of-self g c = (made g c).0
 pub returns-clause-after : goal.returns-clause-after
 returns-clause-after g c =
     (made g c).1
-    ∙ ap (λ (ls : Lists). given (lists_without ls c.args.n.0)) c.self.view_is
+    ∙ ap (λ (ls : Lists). after_give (lists_without ls c.args.n.0)) c.self.view_is
 
 pub returns-clause-unit : goal.returns-clause-unit
 returns-clause-unit g c =

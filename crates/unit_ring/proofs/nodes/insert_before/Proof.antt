@@ -7,7 +7,7 @@ use Rattle.core.specs.contracts.slots.Slots as S
 use Rattle.core.proofs.slots.Opens.{row_opens, row_closes}
 use Rattle.core.proofs.slots.Places.{besides}
 use Rattle.core.proofs.mem.Facts.{says_three}
-use Rattle.unit_ring.specs.Nodes.{node_at, place, blank, with_after, with_before}
+use Rattle.unit_ring.specs.Nodes.{node_at, place, blank_node, with_after, with_before}
 use Rattle.unit_ring.specs.declared.nodes.NodeRecord.{NodeRecord}
 use Rattle.unit_ring.specs.declared.nodes.Address.{Address}
 use Rattle.unit_ring.specs.contracts.nodes.NodeRecord.{the_row as Node}
@@ -72,7 +72,7 @@ insert_before_spec 𝓤 𝓛 𝓜 𝓡 wired =
     -- the node after is read
     use1 𝓛 (‵ (Cell 𝓛 b o xs fs at ix (low at at_low) (held at at_low) x) ⊛ ‵ (Node.own_val x (node.lowered x ∷ [])) ⊛ ‵ (besides E b o xs fs at)) (cell_out 𝓛 b o xs fs at ix (low at at_low) (held at at_low)) $ split ! $
     sets ! (is ! (of_opd ! (load ! (through ! refl (fld ! refl (stop !))) (look_in ! 0 (sub ! 1 refl (whole !))))) (ap (λ (p : Address). address.lowered p) (back ∙ spot last))) refl (tt, (tt, tt)) $
-    use2 𝓛 (‵ (slots Node (block_ptr b o) (set xs at x) fs)) (cell_in 𝓛 b o xs fs at ix (low at at_low) (held at at_low) x) $ rewrite ! 0 (λ (zs : List NodeRecord). ‵ (slots Node (block_ptr b o) zs fs)) (set-get_or xs at blank) refl $
+    use2 𝓛 (‵ (slots Node (block_ptr b o) (set xs at x) fs)) (cell_in 𝓛 b o xs fs at ix (low at at_low) (held at at_low) x) $ rewrite ! 0 (λ (zs : List NodeRecord). ‵ (slots Node (block_ptr b o) zs fs)) (set-get_or xs at blank_node) refl $
     -- the node before leads to the node
     sets ! (agg ! (and_then ! (get ! refl) (no_more !))) refl (tt, (tt, tt)) $
     use1 𝓛 (‵ (Cell 𝓛 b o xs fs last il (low last last_low) (held last last_low) l0) ⊛ ‵ (Node.own_val l0 (node.lowered l0 ∷ [])) ⊛ ‵ (besides E b o xs fs last)) (cell_out 𝓛 b o xs fs last il (low last last_low) (held last last_low)) $ split ! $

@@ -4,7 +4,7 @@ use Rattle.core.specs.Mem.Slots.{slots_items, slots_ptr, slots_len, slots_filled
 use Rattle.core.specs.Mem.Slots.Ownership.{slots_lent}
 use Rattle.core.specs.contracts.slots.Slots as S
 use Rattle.core.proofs.slots.Lent.{shown, none_at_null, value_lent}
-use Rattle.unit_ring.specs.Nodes.{node_at, place, blank}
+use Rattle.unit_ring.specs.Nodes.{node_at, place, blank_node}
 use Rattle.unit_ring.specs.declared.nodes.NodeRecord.{NodeRecord}
 use Rattle.unit_ring.specs.declared.nodes.Address.{Address}
 use lib.ListN.{get_or}
@@ -47,8 +47,8 @@ next_spec 𝓤 𝓛 𝓜 𝓡 wired =
     let turned : o + to * 24 ≡ to * 24 + o = omega arith in
     let there : x.after.ptr ≡ block_ptr b (to * 24 + o) = ap (λ (q : Address). q.ptr) leads ∙ ap (λ (p : Ptr). p +ₚ to * 24) e ∙ ap (λ (k : ℕ). block_ptr b k) turned in
     hide ! $ laws_dup ! (slots_lent Node (block_ptr b o) xs fs) (slots_laws (block_ptr b o) xs fs) κ $
-    unhide ! $ use1 𝓛 (‵ (hidden_shr Node κ x b (n * 24 + o))) (value_lent E 𝓛 κ b o xs fs n blank ix fx held) $
-    move ! (1 ∷ []) $ unhide ! $ use1 𝓛 (‵ (hidden_shr Node κ z b (to * 24 + o))) (value_lent E 𝓛 κ b o xs fs to blank iz fz held_z) $
+    unhide ! $ use1 𝓛 (‵ (hidden_shr Node κ x b (n * 24 + o))) (value_lent E 𝓛 κ b o xs fs n blank_node ix fx held) $
+    move ! (1 ∷ []) $ unhide ! $ use1 𝓛 (‵ (hidden_shr Node κ z b (to * 24 + o))) (value_lent E 𝓛 κ b o xs fs to blank_node iz fz held_z) $
     -- [the node to which the link leads; the node; the token]
     regoal ! (λ p. prop (WpFn 𝓤 𝓛.H 𝓣.C 𝓣.Λ code.function (vptr rb ro ∷ vstruct (vcons (ptr_val p) vnil) ∷ vint w32 n ∷ []) (W.post y))) e refl $
     enter ! _ _ _ _ _ $ alloc_all ! (λ l. pass_all ! refl ((tt, tt), ((tt, (tt, tt)), ((tt, record { fits = small }), tt))) $

@@ -7,7 +7,7 @@ use Rattle.core.specs.contracts.slots.Slots as S
 use Rattle.core.proofs.slots.Opens.{row_opens, row_closes}
 use Rattle.core.proofs.slots.Places.{besides}
 use Rattle.core.proofs.mem.Facts.{says_three}
-use Rattle.unit_ring.specs.Nodes.{node_at, place, blank, with_after, with_before}
+use Rattle.unit_ring.specs.Nodes.{node_at, place, blank_node, with_after, with_before}
 use Rattle.unit_ring.specs.declared.nodes.NodeRecord.{NodeRecord}
 use Rattle.unit_ring.specs.declared.nodes.Address.{Address}
 use Rattle.unit_ring.specs.contracts.nodes.NodeRecord.{the_row as Node}
@@ -66,7 +66,7 @@ unlink_spec 𝓤 𝓛 𝓜 𝓡 wired =
     use1 𝓛 (‵ (Cell 𝓛 b o xs fs n ix fx held x) ⊛ ‵ (Node.own_val x (node.lowered x ∷ [])) ⊛ ‵ (besides E b o xs fs n)) (cell_out 𝓛 b o xs fs n ix fx held) $ split ! $
     sets ! (is ! (of_opd ! (load ! (through ! refl (fld ! refl (stop !))) (look_in ! 0 (sub ! 0 refl (whole !))))) (ap (λ (p : Address). address.lowered p) (forth ∙ spot next))) refl (tt, (tt, tt)) $
     sets ! (is ! (of_opd ! (load ! (through ! refl (fld ! refl (stop !))) (look_in ! 0 (sub ! 1 refl (whole !))))) (ap (λ (p : Address). address.lowered p) (back ∙ spot last))) refl (tt, (tt, tt)) $
-    use2 𝓛 (‵ (slots Node (block_ptr b o) (set xs n x) fs)) (cell_in 𝓛 b o xs fs n ix fx held x) $ rewrite ! 0 (λ (zs : List NodeRecord). ‵ (slots Node (block_ptr b o) zs fs)) (set-get_or xs n blank) refl $
+    use2 𝓛 (‵ (slots Node (block_ptr b o) (set xs n x) fs)) (cell_in 𝓛 b o xs fs n ix fx held x) $ rewrite ! 0 (λ (zs : List NodeRecord). ‵ (slots Node (block_ptr b o) zs fs)) (set-get_or xs n blank_node) refl $
     -- the node before leads to the one after
     use1 𝓛 (‵ (Cell 𝓛 b o xs fs last il fl' held_l l0) ⊛ ‵ (Node.own_val l0 (node.lowered l0 ∷ [])) ⊛ ‵ (besides E b o xs fs last)) (cell_out 𝓛 b o xs fs last il fl' held_l) $ split ! $
     assigns ! (of_opd ! (get ! refl)) (from ! (fld ! refl (hop ! (look_in_at ! 6 (sub ! 0 refl (whole !))) (fld ! refl (stop !))))) (store_in ! 0 (sub ! 0 refl (whole !)) (tt, (tt, tt))) $

@@ -1,5 +1,5 @@
 use Rattle.std.proofs.Common.{◌≡◌, ℕ, ◌<◌, List, length, sym, ◌∙◌, ap, subst}
-use Rattle.unit_ring.specs.Chains.{IsChain, chain, link, without, after_without, before_without, after_with, before_with}
+use Rattle.unit_ring.specs.Chains.{IsChain, chain, link, numbers_without, after_without, before_without, after_with, before_with}
 use Rattle.unit_ring.proofs.Shifting.{below, before_below, after_below, after_shift, before_shift, shifted, shifted_chain}
 use Rattle.unit_ring.proofs.links.Nodes.shift.Goals as goal
 
@@ -26,7 +26,7 @@ insert_before-requires-clause-at c =
     let f = after_without c.args.self.now.after c.args.self.now.before c.args.n in
     let g = before_without c.args.self.now.after c.args.self.now.before c.args.n in
     subst (λ (h : List ℕ). c.args.at < length h) (sym c.unlink.ensures.after)
-    (below f g (without c.args.n (chain c.args.self.now.after)) s.out c.args.at s.place)
+    (below f g (numbers_without c.args.n (chain c.args.self.now.after)) s.out c.args.at s.place)
 
 pub insert_before-requires-clause-last : goal.insert_before-requires-clause-last
 insert_before-requires-clause-last c =
@@ -35,7 +35,7 @@ insert_before-requires-clause-last c =
     let g = before_without c.args.self.now.after c.args.self.now.before c.args.n in
     subst (λ (h : List ℕ). link c.unlink.new.self.before c.args.at < length h) (sym c.unlink.ensures.after)
     (subst (λ (h : List ℕ). link h c.args.at < length f) (sym c.unlink.ensures.before)
-    (before_below f g (without c.args.n (chain c.args.self.now.after)) s.out c.args.at s.place))
+    (before_below f g (numbers_without c.args.n (chain c.args.self.now.after)) s.out c.args.at s.place))
 
 -- the links at the return are those after both steps
 after_is : (f g f1 g1 f2 : List ℕ) (n at : ℕ) → f2 ≡ after_with f1 g1 at n → f1 ≡ after_without f g n → g1 ≡ before_without f g n

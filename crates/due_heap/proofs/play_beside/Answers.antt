@@ -1,0 +1,11 @@
+use Rattle.std.proofs.Common.{◌∙◌, ◌+◌, ◌-◌, ◌*◌, ◌/◌, ap}
+use Rattle.due_heap.specs.Winners.{sooner_id, winner}
+use Rattle.due_heap.proofs.Rise.{beside}
+use Rattle.due_heap.proofs.play_beside.Goals as goal
+
+pub returns : goal.returns
+returns c =
+    c.sooner.ensures
+    ∙ ap (λ w. sooner_id c.args.moments.now c.args.first w) c.winner.ensures
+    ∙ ap (λ w. sooner_id c.args.moments.now w (winner c.args.winners.now (4 * (c.args.k / 2) + 1 - c.args.k))) c.requires.first
+    ∙ beside c.args.moments.now (winner c.args.winners.now) c.args.k
