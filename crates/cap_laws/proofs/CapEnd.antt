@@ -1,4 +1,5 @@
 -- The end of a term: what its open legs still add, and what follows adds nothing.
+use Rattle.term_laws.proofs.TermSums.{leg_from-starts}
 use Rattle.std.proofs.Common.{◌≡◌, ◌≢◌, ◌≤◌, ◌<◌, ◌+◌, ℕ, zero, suc, Bool, true, false, List, [], ◌∷◌, refl, arith, ap, subst, ◌∙◌, ◌⊎◌, inl, inr, cond, nat_lt}
 use Rattle.std.specs.Prelude.{Option, Some, None, max, is_some, sum_by, ◌&&◌, ◌||◌, ℤ, pos, ◌+ℤ◌, ◌-ℤ◌, ◌≤ℤ◌}
 use Rattle.std.specs.List.{list_any}
@@ -14,7 +15,7 @@ use Rattle.sched_model.specs.Runs.{Reached, IsRunFrom, after_entry, after_entrie
 use Rattle.sched_laws.proofs.Bools.{or_left, or_right, both}
 use Rattle.term_laws.specs.RtdsTerm.{Leg, late_of, leg_from, moves}
 use Rattle.term_laws.proofs.Time.{time_goes_on}
-use Rattle.cap_laws.specs.CapTerm.{PlacedLeg, CapTerm, next_decision, taken_for, domain_legs, cap_set, settings, refills, credit2_in, shared, meets, is_set_after}
+use Rattle.cap_laws.specs.CapTerm.{PlacedLeg, CapTerm, next_decision, taken_for, domain_legs, cap_set, settings, refills, credit2_in, shared_span, meets, is_set_after}
 use Rattle.cap_laws.proofs.CapTracks.{cap_at, on_core, Stops, EventTracks, CapTracks}
 use Rattle.cap_laws.proofs.CoreSums.{over, total_over, total_two, above_most}
 use Rattle.cap_laws.proofs.CapLegs.{OpenLeg, Opens, to_close, rest, DecidesNone, DecidesOne, decides}
@@ -26,14 +27,6 @@ late_of_met term placed = cond (meets term placed) placed.leg.late 0
 
 abbrev pub disturbs : List ℕ → CapTerm → PlacedLeg → ℕ
 disturbs set term placed = cond (meets term placed && is_set_after set term placed) 1 0
-
-leg_starts : (s : State) (r t : ℕ) (entries : List Entry) → (leg_from s r t entries).from ≡ t
-leg_starts s r t [] = refl
-leg_starts s r t (entry ∷ entries) =
-    elim (late_of r entry.event) as (λ o. (elim o as (λ _. Leg) [ Some late ↦ record { from = t; until = entry.at.0; late = late } | None ↦ leg_from s r t entries ]).from ≡ t) [
-      | Some late ↦ refl
-      | None ↦ leg_starts s r t entries
-    ]
 
 -- legs that begin when the term is over add nothing
 pub later_none : (m : Machine) (d t : ℕ) (f : PlacedLeg → ℕ) → ((placed : PlacedLeg) → t ≤ placed.leg.from → f placed ≡ 0) → (entries : List Entry) (from : Reached) (s : State) (n : ℕ) → IsRunFrom m from entries → t ≤ from.state.now → sum_by f (domain_legs s d n entries) ≡ 0
@@ -48,7 +41,7 @@ later_none m d t f none (entry ∷ entries) from s n run over =
     ]) ≡ 0) [
       | Some r ↦ (
           let placed : PlacedLeg = record { leg = leg_from s r entry.at.0 entries; first = n; last = next_decision r (suc n) entries } in
-          let starts = leg_starts s r entry.at.0 entries in
+          let starts = leg_from-starts s r entry.at.0 entries in
           let here = none placed (omega (arith, starts, over, moment_is)) in
           let sum = sum_by-cons f placed (domain_legs s d (suc n) entries) in
           omega (arith, here, sum, follow))
@@ -57,10 +50,10 @@ later_none m d t f none (entry ∷ entries) from s n run over =
 
 -- a leg that ends late enough, where it meets the term
 abbrev pub EndsLate : CapTerm → ℤ → PlacedLeg → Type 0
-EndsLate term stop placed = 0 < shared term placed → (term.until ≤ placed.leg.until) × (pos placed.leg.until ≤ℤ (stop +ℤ pos placed.leg.late))
+EndsLate term stop placed = 0 < shared_span term placed → (term.until ≤ placed.leg.until) × (pos placed.leg.until ≤ℤ (stop +ℤ pos placed.leg.late))
 
-met_or_not : (term : CapTerm) (placed : PlacedLeg) → (shared term placed ≡ 0) ⊎ ((0 < shared term placed) × (late_of_met term placed ≡ placed.leg.late))
-met_or_not term placed = elim (shared term placed) as (λ k. (k ≡ 0) ⊎ ((0 < k) × (cond (nat_lt 0 k) placed.leg.late 0 ≡ placed.leg.late))) [
+met_or_not : (term : CapTerm) (placed : PlacedLeg) → (shared_span term placed ≡ 0) ⊎ ((0 < shared_span term placed) × (late_of_met term placed ≡ placed.leg.late))
+met_or_not term placed = elim (shared_span term placed) as (λ k. (k ≡ 0) ⊎ ((0 < k) × (cond (nat_lt 0 k) placed.leg.late 0 ≡ placed.leg.late))) [
   | zero ↦ inl refl
   | suc k ↦ inr (omega arith, (let e : nat_lt 0 (suc k) ≡ true = grind arith in ap (λ (b : Bool). cond b placed.leg.late 0) e))
 ]
@@ -69,16 +62,16 @@ met_or_not term placed = elim (shared term placed) as (λ k. (k ≡ 0) ⊎ ((0 <
 pub open_fits : (cores d : ℕ) (term : CapTerm) (opens : Opens) (stop : ℕ → ℤ) (s : State) (n allowed : ℕ) (entries : List Entry)
     → total_over cores (left_over opens stop term.from) ≤ allowed
     → ((r : ℕ) (o : OpenLeg) → opens r ≡ Some o → EndsLate term (stop r) (to_close s r n entries o))
-    → sum_by (shared term) (domain_legs s d n entries) ≡ 0
-    → rest cores d (shared term) opens s n entries ≤ allowed + rest cores d (late_of_met term) opens s n entries
+    → sum_by (shared_span term) (domain_legs s d n entries) ≡ 0
+    → rest cores d (shared_span term) opens s n entries ≤ allowed + rest cores d (late_of_met term) opens s n entries
 open_fits cores d term opens stop s n allowed entries few late none =
-    let sums = total_two cores (λ r. over (λ o. shared term (to_close s r n entries o)) (opens r)) (left_over opens stop term.from) (λ r. over (λ o. late_of_met term (to_close s r n entries o)) (opens r)) (λ r low. one r (opens r) refl) in
+    let sums = total_two cores (λ r. over (λ o. shared_span term (to_close s r n entries o)) (opens r)) (left_over opens stop term.from) (λ r. over (λ o. late_of_met term (to_close s r n entries o)) (opens r)) (λ r low. one r (opens r) refl) in
     omega (arith, sums, few, none)
   where
-    leg : (r : ℕ) (o : OpenLeg) → EndsLate term (stop r) (to_close s r n entries o) → shared term (to_close s r n entries o) ≤ above_zero (stop r -ℤ pos (max o.from term.from)) + late_of_met term (to_close s r n entries o)
+    leg : (r : ℕ) (o : OpenLeg) → EndsLate term (stop r) (to_close s r n entries o) → shared_span term (to_close s r n entries o) ≤ above_zero (stop r -ℤ pos (max o.from term.from)) + late_of_met term (to_close s r n entries o)
     leg r o ends =
         let placed : PlacedLeg = to_close s r n entries o in
-        let starts = leg_starts s r o.from entries in
+        let starts = leg_from-starts s r o.from entries in
         let most = above_most (stop r -ℤ pos (max o.from term.from)) in
         elim (met_or_not term placed) [
           | inl unmet ↦ omega (arith, unmet)
@@ -86,7 +79,7 @@ open_fits cores d term opens stop s n allowed entries few late none =
         ]
 
     one : (r : ℕ) (o : Option OpenLeg) → opens r ≡ o
-        → over (λ z. shared term (to_close s r n entries z)) o ≤ over (λ z. above_zero (stop r -ℤ pos (max z.from term.from))) o + over (λ z. late_of_met term (to_close s r n entries z)) o
+        → over (λ z. shared_span term (to_close s r n entries z)) o ≤ over (λ z. above_zero (stop r -ℤ pos (max z.from term.from))) o + over (λ z. late_of_met term (to_close s r n entries z)) o
     one r None is = omega arith
     one r (Some o) is = leg r o (late r o is)
 

@@ -1,4 +1,5 @@
 -- The budget and what the running units hold are together at most the total of the cap, wherever a term may begin.
+use Rattle.sched_laws.proofs.Lists.{some_same}
 use Rattle.std.proofs.Common.{◌≡◌, ◌≤◌, ◌<◌, ℕ, suc, Bool, true, false, refl, arith, ap, subst, sym, ◌∙◌, inl, inr, cond}
 use Rattle.std.specs.Prelude.{Option, Some, None, option_map, max, is_some, ◌||◌, ℤ, pos, ◌+ℤ◌, ◌-ℤ◌, ◌≤ℤ◌}
 use Rattle.std.proofs.lemmas.Int.{ints}
@@ -33,9 +34,6 @@ funded_later cores t t2 s d x opens later f = (
     less : (r : ℕ) (o : Option OpenLeg) → over (λ z. above_zero (f.stop r -ℤ pos (max z.from t2))) o ≤ over (λ z. above_zero (f.stop r -ℤ pos (max z.from t))) o
     less r None = omega arith
     less r (Some o) = above_rises (f.stop r -ℤ pos (max o.from t2)) (f.stop r -ℤ pos (max o.from t)) (omega (arith, ints, later))
-
-some_same : {X : Type 0} {x y : X} → Some x ≡ Some y → x ≡ y
-some_same e = cc
 
 module _ (m : Machine) (d : ℕ) (K : State → Type 0) (tracks : CapTracks m d K) (n : ℕ) (entry : Entry) (s s2 : State) (opens : Opens) (at : entry.at.0 ≡ s.now) (known : K s) (known2 : K s2)
     (step : EventTracks m d entry.event s s2) (tracked : Tracked d opens n s) (tracked2 : Tracked d (opens_after d n entry opens) (suc n) s2) where

@@ -11,12 +11,12 @@ use Rattle.sched_model.specs.declared.machine.Machine.{Machine}
 use Rattle.sched_model.specs.declared.state.State.{State}
 use Rattle.sched_model.specs.declared.state.Credit2Domain.{Credit2Domain}
 use Rattle.sched_model.specs.Opening.{opening, core_count}
-use Rattle.sched_model.specs.Runs.{Reached, begun, IsRunFrom, IsRun, after_entry, after_entries}
+use Rattle.sched_model.specs.Runs.{Reached, run_start as begun, IsRunFrom, IsRun, after_entry, after_entries}
 use Rattle.sched_laws.specs.StateLaws.{state_after}
 use Rattle.sched_laws.proofs.Lists.{AllByRecursion-map}
 use Rattle.sched_laws.proofs.Bools.{and_left, and_right, not_true, or_left, or_right}
 use Rattle.term_laws.proofs.Time.{time_goes_on}
-use Rattle.cap_laws.specs.CapTerm.{PlacedLeg, CapTerm, domain_legs, cap_set, settings, refills, cap_after, begins_term, term_from, terms_begun, credit2_in, first_cap, cap_terms, shared, meets, is_set_after, KeepsCap}
+use Rattle.cap_laws.specs.CapTerm.{PlacedLeg, CapTerm, domain_legs, cap_set, settings, refills, cap_after, begins_term, term_from, terms_begun, credit2_in, first_cap, cap_terms, shared_span, meets, is_set_after, KeepsCap}
 use Rattle.cap_laws.proofs.CapTracks.{cap_at, CapTracks}
 use Rattle.cap_laws.proofs.CoreSums.{over, total_none}
 use Rattle.cap_laws.proofs.CapLegs.{Opens, rest, opens_after, decides, Tracked, Closes, tracked_after}
@@ -41,15 +41,15 @@ module _ (m : Machine) (d : ℕ) (K : State → Type 0) (tracks : CapTracks m d 
       let starts = kept.0 in (
         omega (arith, starts, le),
         λ plain none. (
-            let times = closes.parts (shared term) last entries in
+            let times = closes.parts (shared_span term) last entries in
             let lates = closes.parts (late_of_met term) last entries in
             let disturbed = closes.parts (disturbs set term) last entries in
-            let time_none = unmet (shared term) (λ placed e. e) closed closes.ended in
+            let time_none = unmet (shared_span term) (λ placed e. e) closed closes.ended in
             let follow = kept.1 plain (omega (arith, disturbed, none)) in
             omega (arith, times, lates, time_none, follow)),
       )
     where
-      unmet : (f : PlacedLeg → ℕ) → ((placed : PlacedLeg) → shared term placed ≡ 0 → f placed ≡ 0) → (c : Option PlacedLeg) → ((placed : PlacedLeg) → c ≡ Some placed → placed.leg.until ≡ entry.at.0) → over f c ≡ 0
+      unmet : (f : PlacedLeg → ℕ) → ((placed : PlacedLeg) → shared_span term placed ≡ 0 → f placed ≡ 0) → (c : Option PlacedLeg) → ((placed : PlacedLeg) → c ≡ Some placed → placed.leg.until ≡ entry.at.0) → over f c ≡ 0
       unmet f none None ended = refl
       unmet f none (Some placed) ended = (let e = ended placed refl in let starts = kept.0 in none placed (omega (arith, e, at, le, starts)))
 
@@ -140,7 +140,7 @@ module _ (m : Machine) (d : ℕ) (K : State → Type 0) (tracks : CapTracks m d 
       let plain : term.ends_by_setting ≡ false = not_true term.ends_by_setting (and_left (not term.ends_by_setting) (not (list_any (λ leg. meets term leg && is_set_after set term leg) placed)) spoken) in
       let clear = not_true (list_any (λ leg. meets term leg && is_set_after set term leg) placed) (and_right (not term.ends_by_setting) (not (list_any (λ leg. meets term leg && is_set_after set term leg) placed)) spoken) in
       let none = none_disturbs set term placed clear in
-      let times = whole_sum (core_count m.config) d (shared term) last entries in
+      let times = whole_sum (core_count m.config) d (shared_span term) last entries in
       let lates = whole_sum (core_count m.config) d (late_of_met term) last entries in
       let disturbed = whole_sum (core_count m.config) d (disturbs set term) last entries in
       let fits = kept plain (omega (arith, none, disturbed)) in

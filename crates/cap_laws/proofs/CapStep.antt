@@ -1,4 +1,5 @@
 -- What an entry within a term does to the budget of a capped domain and to what its running units hold, taken together.
+use Rattle.sched_laws.proofs.Lists.{some_same}
 use Rattle.std.proofs.Common.{◌≡◌, ◌≢◌, ◌≤◌, ◌<◌, ◌+◌, ◌-◌, ℕ, zero, suc, Bool, true, false, refl, arith, ap, subst, sym, ◌∙◌, ◌⊎◌, inl, inr, cond, ◌==◌, nat_lt}
 use Rattle.std.specs.Prelude.{Option, Some, None, option_map, max, is_some, ◌||◌, ℤ, pos, ◌+ℤ◌, ◌-ℤ◌, ◌≤ℤ◌}
 use Rattle.std.proofs.Math.Decide.{ℕ_discrete}
@@ -34,9 +35,6 @@ part t0 placed = placed.leg.until - max placed.leg.from t0
 
 abbrev pub late_part : ℕ → PlacedLeg → ℕ
 late_part t0 placed = cond (nat_lt 0 (part t0 placed)) placed.leg.late 0
-
-some_same : {X : Type 0} {x y : X} → Some x ≡ Some y → x ≡ y
-some_same e = cc
 
 -- a unit stops at one moment
 pub stops_same : (x : Credit2Domain) (n : ℕ) (a b : ℤ) → Stops x n a → Stops x n b → a ≡ b

@@ -41,7 +41,7 @@ module _ (m : Machine) (checked : IsChecked m) (d : ℕ) where
 
   prints : (s : State) (action : Action) → IsReached m s → IsReached m (after m s s.now action) → is_enabled m s s.now action ≡ true → (r late : ℕ) → late_of r (event_of m s s.now action) ≡ Some late
       → (late ≡ late_now s r) × (on_core (after m s s.now action) d r ≡ decided_for d (event_of m s s.now action))
-  prints s (Decide n) r r2 on core late is = decides_here m checked d s n (stands m checked s r) (stands m checked (after m s s.now (Decide n)) r2) (decides m s s.now n on) core late is
+  prints s (Decide n) r r2 on core late is = decides_here m checked d s n.0 (stands m checked s r) (stands m checked (after m s s.now (Decide n)) r2) (decides m s s.now n.0 on) core late is
   prints s action r r2 on core late is = absurd (cc)
 
   high_gives : (d < length m.config.domains → ⊥) → (s : State) (action : Action) → IsReached m s → IsReached m (after m s s.now action) → is_enabled m s s.now action ≡ true → All s (event_of m s s.now action) (after m s s.now action)

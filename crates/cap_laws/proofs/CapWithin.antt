@@ -12,7 +12,7 @@ use Rattle.sched_model.specs.Opening.{core_count}
 use Rattle.sched_model.specs.Runs.{Reached, IsRunFrom, after_entry, after_entries}
 use Rattle.term_laws.specs.RtdsTerm.{moves}
 use Rattle.term_laws.proofs.Time.{time_goes_on}
-use Rattle.cap_laws.specs.CapTerm.{PlacedLeg, CapTerm, next_decision, cap_set, refills, ends_term, term_from, credit2_in, shared, meets, is_set_after}
+use Rattle.cap_laws.specs.CapTerm.{PlacedLeg, CapTerm, next_decision, cap_set, refills, ends_term, term_from, credit2_in, shared_span, meets, is_set_after}
 use Rattle.cap_laws.proofs.CapTracks.{cap_at, on_core, Stops, CapTracks}
 use Rattle.cap_laws.proofs.CoreSums.{over, total_over, total_same, total_one}
 use Rattle.cap_laws.proofs.CapLegs.{OpenLeg, Opens, to_close, rest, opens_after, DecidesNone, decides, Tracked, closes_none, tracked_after, late_is}
@@ -56,10 +56,6 @@ move_quiet : (d : ℕ) (e : Event) → moves d e ≡ true → DecidesNone d e
 move_quiet d (event.DomMoved domain to) is = record { none = λ r. refl; taken = refl }
 move_quiet d _ is = absurd (cc)
 
-pub set_quiet : (m : Machine) (d : ℕ) (e : Event) (percent : ℕ) → cap_set m d e ≡ Some percent → DecidesNone d e
-set_quiet m d (event.Xl k answer) percent is = record { none = λ r. refl; taken = refl }
-set_quiet m d _ percent is = absurd (cc)
-
 -- an event that ends a term by no setting of the cap: a refill, or a move of the domain
 abbrev pub EndsBy : ℕ → Event → Type 0
 EndsBy d e = DecidesNone d e × ((refills d e ≡ true) × (moves d e ≡ false) ⊎ (moves d e ≡ true))
@@ -89,7 +85,7 @@ module _ (m : Machine) (d : ℕ) (K : State → Type 0) (tracks : CapTracks m d 
 
   -- the sums over the open legs and those that follow
   abbrev pub time_rest : CapTerm → Opens → State → ℕ → List Entry → ℕ
-  time_rest term opens s n entries = rest high d (shared term) opens s n entries
+  time_rest term opens s n entries = rest high d (shared_span term) opens s n entries
 
   abbrev pub late_rest : CapTerm → Opens → State → ℕ → List Entry → ℕ
   late_rest term opens s n entries = rest high d (late_of_met term) opens s n entries
@@ -98,7 +94,7 @@ module _ (m : Machine) (d : ℕ) (K : State → Type 0) (tracks : CapTracks m d 
   disturbed_rest term opens s n entries = rest high d (disturbs set term) opens s n entries
 
   -- a leg that is not disturbed by a setting of the cap
-  undisturbed : (term : CapTerm) (placed : PlacedLeg) → disturbs set term placed ≡ 0 → 0 < shared term placed → is_set_after set term placed ≡ false
+  undisturbed : (term : CapTerm) (placed : PlacedLeg) → disturbs set term placed ≡ 0 → 0 < shared_span term placed → is_set_after set term placed ≡ false
   undisturbed term placed none met =
       let is_met : meets term placed ≡ true = grind (arith, met) in
       go (is_set_after set term placed) refl (sym (ap (λ (b : Bool). counted (b && is_set_after set term placed)) is_met) ∙ none)
@@ -115,9 +111,9 @@ module _ (m : Machine) (d : ℕ) (K : State → Type 0) (tracks : CapTracks m d 
       → time_rest term opens (after_entries m from entries).state n entries ≤ allowed + late_rest term opens (after_entries m from entries).state n entries
   over_fits entries from n opens stop term allowed run known tracked runs over_it past has few none =
       open_fits high d term opens stop (after_entries m from entries).state n allowed entries few ends
-      (later_none m d term.until (shared term) (λ placed starts. omega (arith, starts)) entries from (after_entries m from entries).state n run over_it)
+      (later_none m d term.until (shared_span term) (λ placed starts. omega (arith, starts)) entries from (after_entries m from entries).state n run over_it)
     where
-      calm : (r : ℕ) (o : OpenLeg) → opens r ≡ Some o → 0 < shared term (to_close (after_entries m from entries).state r n entries o) → (entries ≡ [] ⊎ (term.last < n)) → Calm m d r entries
+      calm : (r : ℕ) (o : OpenLeg) → opens r ≡ Some o → 0 < shared_span term (to_close (after_entries m from entries).state r n entries o) → (entries ≡ [] ⊎ (term.last < n)) → Calm m d r entries
       calm r o is met (inl empty) = subst (Calm m d r) (sym empty) tt
       calm r o is met (inr later) =
           let placed : PlacedLeg = to_close (after_entries m from entries).state r n entries o in
@@ -136,11 +132,11 @@ module _ (m : Machine) (d : ℕ) (K : State → Type 0) (tracks : CapTracks m d 
 
   -- the leg that ends with an entry within the term
   closed_counts : (t0 t : ℕ) (term : CapTerm) (closed : Option PlacedLeg) → term.from ≡ t0 → t ≤ term.until → ((placed : PlacedLeg) → closed ≡ Some placed → placed.leg.until ≡ t)
-      → (over (shared term) closed ≡ over (part t0) closed) × (over (late_of_met term) closed ≡ over (late_part t0) closed)
+      → (over (shared_span term) closed ≡ over (part t0) closed) × (over (late_of_met term) closed ≡ over (late_part t0) closed)
   closed_counts t0 t term closed starts lasts ended =
-      (over_none (shared term) (part t0) closed same, over_none (late_of_met term) (late_part t0) closed (λ placed is. ap (λ (k : ℕ). cond (nat_lt 0 k) placed.leg.late 0) (same placed is)))
+      (over_none (shared_span term) (part t0) closed same, over_none (late_of_met term) (late_part t0) closed (λ placed is. ap (λ (k : ℕ). cond (nat_lt 0 k) placed.leg.late 0) (same placed is)))
     where
-      same : (placed : PlacedLeg) → closed ≡ Some placed → shared term placed ≡ part t0 placed
+      same : (placed : PlacedLeg) → closed ≡ Some placed → shared_span term placed ≡ part t0 placed
       same placed is = (let e = ended placed is in omega (arith, e, starts, lasts))
 
   pub kept_within : (entries : List Entry) (from : Reached) (n : ℕ) (opens : Opens) (stop : ℕ → ℤ) (x : Credit2Domain) (percent t0 allowed : ℕ) (term : CapTerm) → IsRunFrom m from entries → K from.state → Tracked d opens n from.state → Within from.state d x opens stop
@@ -177,7 +173,7 @@ module _ (m : Machine) (d : ℕ) (K : State → Type 0) (tracks : CapTracks m d 
             let time_counts = counts.0 in
             let late_counts = counts.1 in
             let pays = goes.pays t0 begun in
-            let times = closes.parts (shared term) last entries in
+            let times = closes.parts (shared_span term) last entries in
             let lates = closes.parts (late_of_met term) last entries in
             let disturbed = closes.parts (disturbs set term) last entries in
             let follow = kept_within entries next (suc n) (opens_after d n entry opens) goes.stop_after goes.record_after percent t0 (allowed + over (late_part t0) closed - over (part t0) closed) term run.1 known2 tracked2 goes.within
@@ -204,7 +200,7 @@ module _ (m : Machine) (d : ℕ) (K : State → Type 0) (tracks : CapTracks m d 
           let not_set : cap_set m d entry.event ≡ None = none_set (cap_set m d entry.event) (ap (λ (z : CapTerm). z.ends_by_setting) is2 ∙ plain) in
           let by = ends_by m d entry.event ends not_set in
           let closes = closes_none high d n entry opens by.0 in
-          let times = closes.parts (shared term) last entries in
+          let times = closes.parts (shared_span term) last entries in
           let lates = closes.parts (late_of_met term) last entries in
           let disturbed = closes.parts (disturbs set term) last entries in
           let unchanged : (r : ℕ) → opens_after d n entry opens r ≡ opens r = λ r. late_is d n entry opens r None (by.0.none r) in

@@ -1,4 +1,6 @@
 -- Each action, and what becomes of a domain that a pool has.
+use Rattle.term_laws.proofs.AtHome.{IfOk}
+use Rattle.sched_base.specs.Numbers.{domain}
 use Rattle.std.proofs.Common.{◌≡◌, ℕ, true, refl, subst, sym, ◌∙◌}
 use Rattle.std.specs.Prelude.{Option, Some, None, slice_get}
 use Rattle.std.proofs.Math.Decide.{ℕ_discrete}
@@ -9,7 +11,6 @@ use Rattle.sched_model.specs.declared.work.CommandLine.{CommandLine}
 use Rattle.sched_model.specs.declared.state.State.{State}
 use Rattle.sched_model.specs.Checked.{IsChecked}
 use Rattle.sched_model.specs.Machine.{is_enabled, event_of, after, verdict}
-use Rattle.term_laws.proofs.Plans.{IfOk}
 use Rattle.term_laws.proofs.ActsIn.{acts_in}
 use Rattle.term_laws.proofs.Deciding.{decides, same_no}
 use Rattle.cap_laws.proofs.StepsSame.{same_refl}
@@ -51,25 +52,25 @@ module _ (m : Machine) (checked : IsChecked m) (d : ℕ) (s : State) (k : Stands
           on k2 (record { late = λ r. refl; stays = refl; sets = event_sets m s d s.now line is ∙ none; refill = refl })
       go line is (Some n) some = (let p = sets_it d n (verdict m s line) some in set_gives m d s k k2 home line is n p.0 p.1 p.2 holds)
 
-  moved_any : (e : ℕ) → is_enabled m s s.now (DomMoved e) ≡ true → Stands m (after m s s.now (DomMoved e)) → HomeOf d (after m s s.now (DomMoved e)) → Gives (DomMoved e)
+  moved_any : (e : ℕ) → is_enabled m s s.now (DomMoved (domain e)) ≡ true → Stands m (after m s s.now (DomMoved (domain e))) → HomeOf d (after m s s.now (DomMoved (domain e))) → Gives (DomMoved (domain e))
   moved_any e on k2 home2 = elim (ℕ_discrete e d) [
     | yes same ↦ (
-        let own : is_enabled m s s.now (DomMoved d) ≡ true → Stands m (after m s s.now (DomMoved d)) → HomeOf d (after m s s.now (DomMoved d)) → Gives (DomMoved d) = λ on2 k3 home3. moved_gives m d s k k3 (acts_in m s s.now (DomMoved d) on2) home3 in
-        subst (λ (n : ℕ). is_enabled m s s.now (DomMoved n) ≡ true → Stands m (after m s s.now (DomMoved n)) → HomeOf d (after m s s.now (DomMoved n)) → Gives (DomMoved n)) (sym same) own on k2 home2)
-    | no other ↦ by_same (DomMoved e) k2 (record { late = λ r. refl; stays = same_no e d other; sets = refl; refill = refl }) (sat_dom_moved d e other home.home home.pool home.there m.config.granularity s.now s same_now)
+        let own : is_enabled m s s.now (DomMoved (domain d)) ≡ true → Stands m (after m s s.now (DomMoved (domain d))) → HomeOf d (after m s s.now (DomMoved (domain d))) → Gives (DomMoved (domain d)) = λ on2 k3 home3. moved_gives m d s k k3 (acts_in m s s.now (DomMoved (domain d)) on2) home3 in
+        subst (λ (n : ℕ). is_enabled m s s.now (DomMoved (domain n)) ≡ true → Stands m (after m s s.now (DomMoved (domain n))) → HomeOf d (after m s s.now (DomMoved (domain n))) → Gives (DomMoved (domain n))) (sym same) own on k2 home2)
+    | no other ↦ by_same (DomMoved (domain e)) k2 (record { late = λ r. refl; stays = same_no e d other; sets = refl; refill = refl }) (sat_dom_moved d e other home.home home.pool home.there m.config.granularity s.now s same_now)
   ]
 
-  refill_any : (e : ℕ) → is_enabled m s s.now (Refill e) ≡ true → Stands m (after m s s.now (Refill e)) → Gives (Refill e)
+  refill_any : (e : ℕ) → is_enabled m s s.now (Refill (domain e)) ≡ true → Stands m (after m s s.now (Refill (domain e))) → Gives (Refill (domain e))
   refill_any e on k2 = elim (ℕ_discrete e d) [
     | yes same ↦ (
-        let own : is_enabled m s s.now (Refill d) ≡ true → Stands m (after m s s.now (Refill d)) → Gives (Refill d) = λ on2 k3. refill_gives m checked d s k k3 (acts_in m s s.now (Refill d) on2) home holds in
-        subst (λ (n : ℕ). is_enabled m s s.now (Refill n) ≡ true → Stands m (after m s s.now (Refill n)) → Gives (Refill n)) (sym same) own on k2)
-    | no other ↦ by_leaving (Refill e) other on k2 (record { late = λ r. refl; stays = refl; sets = refl; refill = same_no e d other })
+        let own : is_enabled m s s.now (Refill (domain d)) ≡ true → Stands m (after m s s.now (Refill (domain d))) → Gives (Refill (domain d)) = λ on2 k3. refill_gives m checked d s k k3 (acts_in m s s.now (Refill (domain d)) on2) home holds in
+        subst (λ (n : ℕ). is_enabled m s s.now (Refill (domain n)) ≡ true → Stands m (after m s s.now (Refill (domain n))) → Gives (Refill (domain n))) (sym same) own on k2)
+    | no other ↦ by_leaving (Refill (domain e)) other on k2 (record { late = λ r. refl; stays = refl; sets = refl; refill = same_no e d other })
   ]
 
   pub action_gives : (action : Action) → is_enabled m s s.now action ≡ true → Stands m (after m s s.now action) → HomeOf d (after m s s.now action) → Gives action
   action_gives Xl on k2 home2 = xl_gives on k2
-  action_gives (DomMoved e) on k2 home2 = moved_any e on k2 home2
-  action_gives (Refill e) on k2 home2 = refill_any e on k2
-  action_gives (Decide n) on k2 home2 = decide_gives m checked d s n k k2 (decides m s s.now n on) home holds
+  action_gives (DomMoved e) on k2 home2 = moved_any e.0 on k2 home2
+  action_gives (Refill e) on k2 home2 = refill_any e.0 on k2
+  action_gives (Decide n) on k2 home2 = decide_gives m checked d s n.0 k k2 (decides m s s.now n.0 on) home holds
   action_gives action on k2 home2 = by_leaving action tt on k2 (record { late = λ r. refl; stays = refl; sets = refl; refill = refl })

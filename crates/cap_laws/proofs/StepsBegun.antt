@@ -20,7 +20,7 @@ use Rattle.sched_model.specs.Actions.{home_of_core, home_of_domain}
 use Rattle.sched_laws.proofs.EachPlace.{by_option, is_empty, read_put_at, EachPlace-empty}
 use Rattle.sched_laws.proofs.Opened.{read_pools}
 use Rattle.term_laws.proofs.SamePool.{cur_in}
-use Rattle.term_laws.proofs.Beginning.{nobody_runs, domains_keep}
+use Rattle.term_laws.proofs.Beginning.{nobody_runs, records_keep}
 use Rattle.cap_laws.specs.CapTerm.{credit2_in}
 use Rattle.cap_laws.proofs.CapTracks.{number_in, on_core}
 use Rattle.cap_laws.proofs.StepsState.{unit_of_number, on_core_cur}
@@ -47,9 +47,7 @@ full_joined records params d count full = full
 
 full_fresh : (params : PoolParams) (domains cores : ℕ) → AllFull (fresh_records params domains cores)
 full_fresh (pool_params.Credit2 limit) n cores d x is = absurd (EachPlace-empty {X = Credit2Domain} (λ y. ⊥) n d x is)
-full_fresh pool_params.Rtds n cores d x is = absurd (cc)
-full_fresh (pool_params.Arinc653 frame) n cores d x is = absurd (cc)
-full_fresh pool_params.Null n cores d x is = absurd (cc)
+full_fresh other n cores d x is = absurd (cc)
 
 pub full_at_first : (m : Machine) (d : ℕ) (x : Credit2Domain) → credit2_in (opening m) d ≡ Some x → x.budget ≡ pos (total x.cap)
 full_at_first m d x =
@@ -57,5 +55,5 @@ full_at_first m d x =
     (λ i found. by_option (λ (o : Option Credit2Domain). o ≡ Some x → x.budget ≡ pos (total x.cap)) (at_place (opening m).pools i) None (λ p. credit2_record p.scheduler.records d) (λ none is. absurd (cc))
     (λ p at is. (
     let q = read_pools m.config 0 (most_pools - length m.config.pools) m.config.pools i p at in
-    let all : AllFull p.scheduler.records = subst (λ (y : Pool). AllFull y.scheduler.records) (sym q.2) (domains_keep AllFull full_joined m.config.granularity (0 + i) 0 m.config.domains _ (full_fresh q.0.params (length m.config.domains) (core_count m.config))) in
+    let all : AllFull p.scheduler.records = subst (λ (y : Pool). AllFull y.scheduler.records) (sym q.2) (records_keep AllFull full_joined m.config.granularity (0 + i) 0 m.config.domains _ (full_fresh q.0.params (length m.config.domains) (core_count m.config))) in
     all d x is)))

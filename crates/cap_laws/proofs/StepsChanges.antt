@@ -96,8 +96,6 @@ module _ (d t : ℕ) where
   pub same_changes : (change : ParamChange) (p : Pool) → SetsNoCap d change → Same d p (set_params change t p)
   same_changes (changes.Dom e weight (Some n)) p other =
       same_change_each d (λ r c. cond (is_of_domain e.0 c.cur) (record c { pending = true; due = Some (moment t) }) c) p _ (λ r c. marked_core e.0 c other) (by_scheduler (changes.Dom e weight (Some n)) p other)
-  same_changes (changes.Dom e weight None) p none = by_scheduler (changes.Dom e weight None) p tt
-  same_changes (changes.Rate limit) p none = by_scheduler (changes.Rate limit) p tt
   same_changes (changes.«Unit» u period budget extra) p none = by_scheduler (changes.«Unit» u period budget extra) p tt
   same_changes (changes.Frame frame) p none = same_change_each d (λ r c. set_pending c) p _ (λ r c. record { cur = refl; due = λ n is. refl }) (by_scheduler (changes.Frame frame) p tt)
-  same_changes (changes.Pin e unit cores) p none = by_scheduler (changes.Pin e unit cores) p tt
+  same_changes other p none = by_scheduler other p tt

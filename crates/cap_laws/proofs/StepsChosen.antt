@@ -1,4 +1,5 @@
 -- What a decision does to the record of one domain: its unit that the core had gives back what it holds, and the one that the core takes has a part of the budget.
+use Rattle.sched_laws.proofs.Lists.{slice_get-change_item_other}
 use Rattle.std.proofs.Common.{◌≡◌, ◌≢◌, ◌<◌, ◌≤◌, ◌+◌, ◌-◌, ℕ, zero, suc, Bool, true, List, refl, arith, ap, subst, sym, ◌∙◌, cond, inl, inr}
 use Rattle.std.specs.Prelude.{Option, Some, None, slice_get, map, length, ◌==◌, ◌||◌, ℤ, pos, negsuc, ◌+ℤ◌, ◌-ℤ◌, ◌≤ℤ◌, int_lt}
 use Rattle.std.proofs.lemmas.Int.{ints, clamps}
@@ -10,7 +11,7 @@ use Rattle.sched_model.specs.Eligible.{has_budget}
 use Rattle.sched_model.specs.Credit2.{burn_unit, burn_units, give_back, take_budget}
 use Rattle.sched_laws.proofs.EachPlace.{by_cond}
 use Rattle.sched_laws.proofs.Sound.{read_change_item}
-use Rattle.cap_laws.proofs.StepsDomain.{item_at, item_other, ArePast, past_item, burned_now, held_after, is_capped, Kept, kept_same, kept_trans, kept_map, kept_burned}
+use Rattle.cap_laws.proofs.StepsDomain.{item_at, ArePast, past_item, burned_now, held_after, is_capped, Kept, kept_same, kept_trans, kept_map, kept_burned}
 
 -- the core's own unit is charged and gives back
 abbrev pub own_charged : ℕ → ℕ → Option ℕ → Credit2Domain → Credit2Domain
@@ -45,9 +46,6 @@ part_of x = take x.budget (quota (total x.cap) (length x.units))
 -- a unit holds so much, where it is there
 abbrev pub HoldsIt : ℕ → ℤ → List Credit2Unit → Type 0
 HoldsIt j h units = (z : Credit2Unit) → slice_get units j ≡ Some z → z.held ≡ h
-
-some_same : {X : Type 0} (x y : X) → Some x ≡ Some y → x ≡ y
-some_same x y e = cc
 
 module _ (most t : ℕ) where
   pub own_cap : (had : Option ℕ) (x : Credit2Domain) → (own_charged most t had x).cap ≡ x.cap
@@ -89,11 +87,11 @@ module _ (most t : ℕ) where
       ne e = other (ap (λ (k : ℕ). Some k) e)
 
       first : slice_get burned.units n ≡ slice_get x.units n
-      first = item_other i n (burn_unit most t x) x.units ne
+      first = slice_get-change_item_other i n (burn_unit most t x) x.units ne
 
       gives : (o : Option Credit2Unit) → slice_get (elim o as (λ _. Credit2Domain) [ None ↦ burned | Some u ↦ record burned { budget = burned.budget +ℤ u.held; units = change_item i (λ y. record y { held = pos 0 }) burned.units } ]).units n ≡ slice_get x.units n
       gives None = first
-      gives (Some u) = item_other i n (λ y. record y { held = pos 0 }) burned.units ne ∙ first
+      gives (Some u) = slice_get-change_item_other i n (λ y. record y { held = pos 0 }) burned.units ne ∙ first
 
   pub own_past : (had : Option ℕ) (x : Credit2Domain) → ArePast t x.units → ArePast t (own_charged most t had x).units
   own_past None x past = past
@@ -137,7 +135,7 @@ taken_is j x some = ap (λ (c : Bool). cond c x (taken_of j x)) (is_capped x.cap
 pub taken_other : (has : Option ℕ) (x : Credit2Domain) (n : ℕ) → (has ≡ Some n → ⊥) → slice_get (has_taken has x).units n ≡ slice_get x.units n
 taken_other None x n other = refl
 taken_other (Some j) x n other =
-    by_cond (λ (y : Credit2Domain). slice_get y.units n ≡ slice_get x.units n) (x.cap == 0) x (taken_of j x) (λ is. refl) (λ is. item_other j n (λ y. record y { held = part_of x }) x.units (λ e. other (ap (λ (k : ℕ). Some k) e)))
+    by_cond (λ (y : Credit2Domain). slice_get y.units n ≡ slice_get x.units n) (x.cap == 0) x (taken_of j x) (λ is. refl) (λ is. slice_get-change_item_other j n (λ y. record y { held = part_of x }) x.units (λ e. other (ap (λ (k : ℕ). Some k) e)))
 
 holds_item : (j i : ℕ) (h : ℤ) (f : Credit2Unit → Credit2Unit) (units : List Credit2Unit) → ((y : Credit2Unit) → (f y).held ≡ y.held) → HoldsIt j h units → HoldsIt j h (change_item i f units)
 holds_item j i h f units same it z at = elim (read_change_item i j f units z at) [
@@ -160,7 +158,7 @@ from_budget from (Some i) x = refl
 
 pub from_other : (from had : Option ℕ) (x : Credit2Domain) (n : ℕ) → (had ≡ Some n → ⊥) → slice_get (now_from from had x).units n ≡ slice_get x.units n
 from_other from None x n other = refl
-from_other from (Some i) x n other = item_other i n (λ (y : Credit2Unit). record y { burned = from }) x.units (λ e. other (ap (λ (k : ℕ). Some k) e))
+from_other from (Some i) x n other = slice_get-change_item_other i n (λ (y : Credit2Unit). record y { burned = from }) x.units (λ e. other (ap (λ (k : ℕ). Some k) e))
 
 pub from_holds : (from had : Option ℕ) (x : Credit2Domain) (j : ℕ) (h : ℤ) → HoldsIt j h x.units → HoldsIt j h (now_from from had x).units
 from_holds from None x j h it = it

@@ -1,4 +1,5 @@
 -- A core decides: what becomes of a domain, in its pool and in the state.
+use Rattle.sched_base.specs.Numbers.{core}
 use Rattle.std.proofs.Common.{◌≡◌, ◌≢◌, ◌<◌, ℕ, true, refl, arith, ap, subst, sym, ◌∙◌}
 use Rattle.std.specs.Prelude.{Option, Some, None, option_map, is_some, slice_get, pos, ◌+ℤ◌}
 use Rattle.std.proofs.lemmas.Int.{ints}
@@ -15,7 +16,7 @@ use Rattle.sched_model.specs.Checked.{IsChecked}
 use Rattle.sched_model.specs.Places.{at_place, test_at}
 use Rattle.sched_model.specs.Eligible.{Decision}
 use Rattle.sched_model.specs.Policy.{credit2_record}
-use Rattle.sched_model.specs.Pool.{after_in, settled, lateness}
+use Rattle.sched_model.specs.Pool.{after_in, settled_pool, lateness}
 use Rattle.sched_model.specs.Machine.{after, event_of}
 use Rattle.sched_laws.proofs.EachPlace.{is_empty}
 use Rattle.sched_laws.proofs.Lists.{test_at-some, is_some_at}
@@ -34,9 +35,9 @@ use Rattle.cap_laws.proofs.StepsState.{Stands, HomeOf, credit2_is, on_is, on_one
 use Rattle.cap_laws.proofs.StepsHolds.{StepGives, PoolHolds, StateHolds, holds_in, holds_out, cap_of, on_before, on_after, was, is_now, caps_same}
 use Rattle.cap_laws.proofs.StepsDeciding.{the_decision, next_pool, core_next, cur_here, cur_there, none_after, some_after, holds_decided, capped_decides}
 
-module _ (m : Machine) (checked : IsChecked m) (d : ℕ) (s : State) (n : ℕ) (k : Stands m s) (k2 : Stands m (after m s s.now (Decide n))) (dec : deciding.Decides m s s.now n) where
+module _ (m : Machine) (checked : IsChecked m) (d : ℕ) (s : State) (n : ℕ) (k : Stands m s) (k2 : Stands m (after m s s.now (Decide (core n)))) (dec : deciding.Decides m s s.now n) where
   abbrev s2 : State
-  s2 = after m s s.now (Decide n)
+  s2 = after m s s.now (Decide (core n))
 
   abbrev g : ℕ
   g = m.config.granularity
@@ -52,21 +53,21 @@ module _ (m : Machine) (checked : IsChecked m) (d : ℕ) (s : State) (n : ℕ) (
 
   at_next : at_place s2.pools dec.acts.j ≡ Some next
   at_next =
-      let f : Pool → Pool = λ p. settled s.now (after_in g s.now p (Decide n)) in
-      ap (λ (x : State). at_place x.pools dec.acts.j) dec.acts.state ∙ at_place-change_at dec.acts.j f s.pools ∙ ap (option_map f) dec.acts.at ∙ ap (λ (x : Pool). Some (settled s.now x)) dec.next
+      let f : Pool → Pool = λ p. settled_pool s.now (after_in g s.now p (Decide (core n))) in
+      ap (λ (x : State). at_place x.pools dec.acts.j) dec.acts.state ∙ at_place-change_at dec.acts.j f s.pools ∙ ap (option_map f) dec.acts.at ∙ ap (λ (x : Pool). Some (settled_pool s.now x)) dec.next
 
   at_other : (i : ℕ) → dec.acts.j ≢ i → at_place s2.pools i ≡ at_place s.pools i
-  at_other i ne = (let f : Pool → Pool = λ p. settled s.now (after_in g s.now p (Decide n)) in ap (λ (x : State). at_place x.pools i) dec.acts.state ∙ at_place-change_at_other dec.acts.j i f s.pools ne)
+  at_other i ne = (let f : Pool → Pool = λ p. settled_pool s.now (after_in g s.now p (Decide (core n))) in ap (λ (x : State). at_place x.pools i) dec.acts.state ∙ at_place-change_at_other dec.acts.j i f s.pools ne)
 
   -- what is printed
-  prints : number_in d (the_unit).unit ≡ decided_for d (event_of m s s.now (Decide n))
+  prints : number_in d (the_unit).unit ≡ decided_for d (event_of m s s.now (Decide (core n)))
   prints = ap (λ (x : Decision). number_in d x.unit) dec.unit
 
-  is_core : (r late : ℕ) → late_of r (event_of m s s.now (Decide n)) ≡ Some late → n ≡ r
+  is_core : (r late : ℕ) → late_of r (event_of m s s.now (Decide (core n))) ≡ Some late → n ≡ r
   is_core r late is = elim (ℕ_discrete n r) [ yes e ↦ e | no ne ↦ absurd (let no = late_other m s s.now n r ne in let e : None ≡ Some late = sym no ∙ is in cc) ]
 
-  not_core : (r : ℕ) → late_of r (event_of m s s.now (Decide n)) ≡ None → n ≢ r
-  not_core r is e = (let here = dec.late in let is_n : late_of n (event_of m s s.now (Decide n)) ≡ None = subst (λ j. late_of j (event_of m s s.now (Decide n)) ≡ None) (sym e) is in let e2 : None ≡ Some (lateness s.now dec.core) = sym is_n ∙ here in cc)
+  not_core : (r : ℕ) → late_of r (event_of m s s.now (Decide (core n))) ≡ None → n ≢ r
+  not_core r is e = (let here = dec.late in let is_n : late_of n (event_of m s s.now (Decide (core n))) ≡ None = subst (λ j. late_of j (event_of m s s.now (Decide (core n))) ≡ None) (sym e) is in let e2 : None ≡ Some (lateness s.now dec.core) = sym is_n ∙ here in cc)
 
   late_is : late_now s n ≡ lateness s.now dec.core
   late_is = ap (λ (o : Option Resource). elim o as (λ _. ℕ) [ None ↦ 0 | Some c ↦ lateness s.now c ]) (core_is_in s dec.acts.j n q dec.core k.known.apart dec.acts.at dec.has)
@@ -76,12 +77,12 @@ module _ (m : Machine) (checked : IsChecked m) (d : ℕ) (s : State) (n : ℕ) (
       let c2 = core_next g s.now n dec.core q dec.has d in
       on_core_cur s2 d n ∙ ap (λ (o : Option Resource). number_in d (cur_in o)) (core_is_in s2 dec.acts.j n next c2.0 k2.known.apart at_next c2.1 ∙ sym c2.1) ∙ ap (number_in d) (cur_here g s.now n dec.core q dec.has d)
 
-  pub decides_here : (r late : ℕ) → late_of r (event_of m s s.now (Decide n)) ≡ Some late → (late ≡ late_now s r) × (on_core s2 d r ≡ decided_for d (event_of m s s.now (Decide n)))
+  pub decides_here : (r late : ℕ) → late_of r (event_of m s s.now (Decide (core n))) ≡ Some late → (late ≡ late_now s r) × (on_core s2 d r ≡ decided_for d (event_of m s s.now (Decide (core n))))
   decides_here r late is =
       let e = is_core r late is in
-      subst (λ j. (late ≡ late_now s j) × (on_core s2 d j ≡ decided_for d (event_of m s s.now (Decide n)))) e (
+      subst (λ j. (late ≡ late_now s j) × (on_core s2 d j ≡ decided_for d (event_of m s s.now (Decide (core n))))) e (
         (
-            let is_n : late_of n (event_of m s s.now (Decide n)) ≡ Some late = subst (λ j. late_of j (event_of m s s.now (Decide n)) ≡ Some late) (sym e) is in
+            let is_n : late_of n (event_of m s s.now (Decide (core n))) ≡ Some late = subst (λ j. late_of j (event_of m s s.now (Decide (core n))) ≡ Some late) (sym e) is in
             let e2 : Some late ≡ Some (lateness s.now dec.core) = sym is_n ∙ dec.late in
             let e3 : late ≡ lateness s.now dec.core = cc in
             e3 ∙ sym late_is),
@@ -112,7 +113,7 @@ module _ (m : Machine) (checked : IsChecked m) (d : ℕ) (s : State) (n : ℕ) (
         go None is = ap cap_of (none_after g s.now n dec.core q dec.has d is) ∙ sym (ap cap_of is)
         go (Some x) is = (let y = some_after g s.now n dec.core q dec.has d x is (past x is) pool_holds in ap cap_of y.1 ∙ y.2.decides.cap ∙ sym (ap cap_of is))
 
-    own_decides : StepGives m d s s2 (event_of m s s.now (Decide n))
+    own_decides : StepGives m d s s2 (event_of m s s.now (Decide (core n)))
     own_decides = record {
       tracks = record {
         stays = λ r is. on_is m s2 k2.known d dec.acts.j next at_next there r ∙ ap (number_in d) (cur_there g s.now n dec.core q dec.has d r (not_core r is)) ∙ sym (on_is m s k.known d dec.acts.j q dec.acts.at there r);
@@ -152,7 +153,7 @@ module _ (m : Machine) (checked : IsChecked m) (d : ℕ) (s : State) (n : ℕ) (
       others = λ j stop a b stops. stops;
     })
 
-    other_decides : StepGives m d s s2 (event_of m s s.now (Decide n))
+    other_decides : StepGives m d s s2 (event_of m s s.now (Decide (core n)))
     other_decides = record {
       tracks = record {
         stays = λ r is. on_after m d s s2 k.known k2.known i i p p at there at2 there r ∙ sym (on_before m d s s2 k.known k2.known i i p p at there at2 there r);
@@ -176,7 +177,7 @@ module _ (m : Machine) (checked : IsChecked m) (d : ℕ) (s : State) (n : ℕ) (
             subst (λ (o : Option ℕ). Decides s.now o (on_core s2 d n) x y) (sym (on_before m d s s2 k.known k2.known i i p p at there at2 there n ∙ none))
             (subst (λ (o : Option ℕ). Decides s.now None o x y) (sym (on_after m d s s2 k.known k2.known i i p p at there at2 there n ∙ none)) (nothing x y e2))
 
-  pub decide_gives : HomeOf d s → StateHolds d s → StepGives m d s s2 (event_of m s s.now (Decide n))
+  pub decide_gives : HomeOf d s → StateHolds d s → StepGives m d s s2 (event_of m s s.now (Decide (core n)))
   decide_gives home holds =
       elim (ℕ_discrete dec.acts.j home.home) [
         | yes e ↦ (

@@ -17,7 +17,7 @@ use Rattle.sched_model.specs.declared.state.Credit2Records.{Credit2Records}
 use Rattle.sched_model.specs.Places.{at_place}
 use Rattle.sched_model.specs.Eligible.{Decision}
 use Rattle.sched_model.specs.Policy.{decision_of, decision_by, kind_of, credit2_record}
-use Rattle.sched_model.specs.Pool.{ask_of, after_decide, decided, same_choice, settled, home_cores, reconsidered}
+use Rattle.sched_model.specs.Pool.{ask_of, after_decide, decided_core, same_choice, settled_pool, home_cores, reconsidered_core}
 use Rattle.sched_laws.proofs.EachPlace.{by_test, at_place-change_each}
 use Rattle.term_laws.proofs.RtdsSteps.{at_place-set_other}
 use Rattle.term_laws.proofs.SamePool.{cur_in}
@@ -31,16 +31,14 @@ use Rattle.cap_laws.proofs.StepsState.{credit2_pool}
 use Rattle.cap_laws.proofs.StepsHolds.{OnIt, PoolHolds, on_it_kept}
 
 -- the due of a core after its decision
-due_decided : (t : ℕ) (d : Decision) (c : Resource) → (decided t d c).due ≡ d.due
+due_decided : (t : ℕ) (d : Decision) (c : Resource) → (decided_core t d c).due ≡ d.due
 due_decided t d c =
     by_test (λ (x : Resource). x.due ≡ d.due) (same_choice d.unit c.cur) (record c { due = d.due; pending = false; stage = Decided }) (record c { saving = c.cur; cur = d.unit; since = moment t; due = d.due; pending = false; stage = Decided }) (λ is. refl) (λ is. refl)
 
 -- records of another kind
 other_kind : (records : Records) (d : ℕ) (kind : SchedKind) → kind_of records ≡ kind → (kind ≡ kinds.Credit2 → ⊥) → credit2_record records d ≡ None
 other_kind (Credit2Pool own) d kind is other = absurd (other (sym is))
-other_kind (RtdsPool domains) d kind is other = refl
-other_kind (ArincPool records) d kind is other = refl
-other_kind (NullPool kept) d kind is other = refl
+other_kind records d kind is other = refl
 
 module _ (g t : ℕ) (n : ℕ) (c : Resource) (p : Pool) (at : at_place p.resources n ≡ Some c) (d : ℕ) where
   abbrev pub the_ask : Ask
@@ -50,7 +48,7 @@ module _ (g t : ℕ) (n : ℕ) (c : Resource) (p : Pool) (at : at_place p.resour
   the_decision = decision_of (ask_of g t p n c) p.scheduler
 
   abbrev pub next_pool : Pool
-  next_pool = settled t (after_decide g t n c p)
+  next_pool = settled_pool t (after_decide g t n c p)
 
   abbrev pub had : Option ℕ
   had = number_in d c.cur
@@ -62,16 +60,16 @@ module _ (g t : ℕ) (n : ℕ) (c : Resource) (p : Pool) (at : at_place p.resour
   settles = same_settled d t (after_decide g t n c p) (after_decide g t n c p) (same_refl d (after_decide g t n c p))
 
   pub cur_here : cur_in (at_place next_pool.resources n) ≡ the_decision.unit
-  cur_here = settles.curs n ∙ ap cur_in (at_place-put_at n (decided t the_decision c) c p.resources at) ∙ cur_decided t the_decision c
+  cur_here = settles.curs n ∙ ap cur_in (at_place-put_at n (decided_core t the_decision c) c p.resources at) ∙ cur_decided t the_decision c
 
   pub core_next : (c2 : Resource) × (at_place next_pool.resources n ≡ Some c2)
   core_next =
       let next : Pool = after_decide g t n c p in
-      let f : Resource → Resource = reconsidered t (home_cores next) next.scheduler (0 + n) in
-      (f (decided t the_decision c), at_place-change_each 0 n (reconsidered t (home_cores next) next.scheduler) next.resources ∙ ap (option_map f) (at_place-put_at n (decided t the_decision c) c p.resources at))
+      let f : Resource → Resource = reconsidered_core t (home_cores next) next.scheduler (0 + n) in
+      (f (decided_core t the_decision c), at_place-change_each 0 n (reconsidered_core t (home_cores next) next.scheduler) next.resources ∙ ap (option_map f) (at_place-put_at n (decided_core t the_decision c) c p.resources at))
 
   core_there : (k : ℕ) → n ≢ k → at_place (after_decide g t n c p).resources k ≡ at_place p.resources k
-  core_there k ne = at_place-set_other n k (Some (decided t the_decision c)) p.resources ne
+  core_there k ne = at_place-set_other n k (Some (decided_core t the_decision c)) p.resources ne
 
   pub cur_there : (k : ℕ) → n ≢ k → cur_in (at_place next_pool.resources k) ≡ cur_in (at_place p.resources k)
   cur_there k ne = settles.curs k ∙ ap cur_in (core_there k ne)
@@ -79,8 +77,8 @@ module _ (g t : ℕ) (n : ℕ) (c : Resource) (p : Pool) (at : at_place p.resour
   -- the dues of the cores that have a unit of the domain
   due_here : (y : Credit2Domain) (j : ℕ) → credit2_record the_decision.records d ≡ Some y → has ≡ Some j → due_in (at_place next_pool.resources n) ≡ the_decision.due
   due_here y j is own =
-      settles.dues y is n j (ap (number_in d) (ap cur_in (at_place-put_at n (decided t the_decision c) c p.resources at) ∙ cur_decided t the_decision c) ∙ own)
-      ∙ ap due_in (at_place-put_at n (decided t the_decision c) c p.resources at) ∙ due_decided t the_decision c
+      settles.dues y is n j (ap (number_in d) (ap cur_in (at_place-put_at n (decided_core t the_decision c) c p.resources at) ∙ cur_decided t the_decision c) ∙ own)
+      ∙ ap due_in (at_place-put_at n (decided_core t the_decision c) c p.resources at) ∙ due_decided t the_decision c
 
   due_there : (y : Credit2Domain) (k j : ℕ) → credit2_record the_decision.records d ≡ Some y → n ≢ k → number_in d (cur_in (at_place p.resources k)) ≡ Some j → due_in (at_place next_pool.resources k) ≡ due_in (at_place p.resources k)
   due_there y k j is ne own = settles.dues y is k j (ap (λ (o : Option Resource). number_in d (cur_in o)) (core_there k ne) ∙ own) ∙ ap due_in (core_there k ne)

@@ -1,5 +1,5 @@
 -- What a charge, a reset, a choice and a refill do to the record of one domain.
-use Rattle.std.proofs.Common.{◌≡◌, ◌≢◌, ◌<◌, ◌≤◌, ◌-◌, ℕ, zero, suc, Bool, false, List, [], ◌∷◌, refl, arith, ap, subst, sym, ◌∙◌, cond, inl, inr}
+use Rattle.std.proofs.Common.{◌≡◌, ◌<◌, ◌≤◌, ◌-◌, ℕ, zero, suc, Bool, false, List, [], ◌∷◌, refl, arith, ap, subst, sym, ◌∙◌, cond, inl, inr}
 use Rattle.std.specs.Prelude.{Option, Some, None, slice_get, map, ◌==◌, ℤ, pos, ◌+ℤ◌, ◌-ℤ◌}
 use Rattle.std.proofs.lemmas.Int.{ints}
 use Rattle.sched_base.specs.Credit2Numbers.{burned_credit, burned_residual}
@@ -16,13 +16,6 @@ pub item_at : {X : Type 0} (i : ℕ) (f : X → X) (xs : List X) (x : X) → sli
 item_at i f [] x at = absurd (cc)
 item_at zero f (y ∷ xs) x at = (let e : y ≡ x = cc in ap (λ (z : _). Some (f z)) e)
 item_at (suc i) f (y ∷ xs) x at = item_at i f xs x at
-
-pub item_other : {X : Type 0} (i j : ℕ) (f : X → X) (xs : List X) → i ≢ j → slice_get (change_item i f xs) j ≡ slice_get xs j
-item_other i j f [] other = refl
-item_other zero zero f (y ∷ xs) other = absurd (other refl)
-item_other zero (suc j) f (y ∷ xs) other = refl
-item_other (suc i) zero f (y ∷ xs) other = refl
-item_other (suc i) (suc j) f (y ∷ xs) other = item_other i j f xs (λ e. other (ap suc e))
 
 pub get_of_map : {X : Type 0} (f : X → X) (xs : List X) (n : ℕ) (x : X) → slice_get xs n ≡ Some x → slice_get (map f xs) n ≡ Some (f x)
 get_of_map f [] n x at = absurd (cc)
@@ -121,6 +114,3 @@ kept_burned most t x n past = record {
     λ some. ap (λ (h : ℤ). pos t +ℤ h) (held_after most t s.from x s.unit some s.burned) ∙ charged_sum s.from t s.unit.held stop (past n s.from s.unit s.at s.burned) s.sum,
   );
 }
-
-pub past_burned : (most t : ℕ) (x : Credit2Domain) → ArePast t (burn_units most t x).units
-past_burned most t x = past_map t (burn_unit most t x) x.units (λ n b y at is. (let e = burned_now most t b x y is in omega (arith, e)))

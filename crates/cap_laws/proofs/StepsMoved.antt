@@ -1,4 +1,5 @@
 -- The domain itself moves: no core has a unit of it, and it has no cap then.
+use Rattle.sched_base.specs.Numbers.{domain as domain_number}
 use Rattle.std.proofs.Common.{◌≡◌, ℕ, Bool, true, false, List, refl, ap, subst, sym, ◌∙◌, cond, inl, inr}
 use Rattle.std.specs.Prelude.{Option, Some, None, is_some, ◌==◌, ◌||◌}
 use Rattle.std.specs.List.{list_any}
@@ -12,13 +13,13 @@ use Rattle.sched_model.specs.declared.state.Pool.{Pool}
 use Rattle.sched_model.specs.declared.state.Domain.{Domain}
 use Rattle.sched_model.specs.declared.state.Resource.{Resource}
 use Rattle.sched_model.specs.declared.state.Records.{Records}
-use Rattle.sched_model.specs.declared.state.Records.TheVariants.{Credit2Pool, RtdsPool, ArincPool, NullPool}
+use Rattle.sched_model.specs.declared.state.Records.TheVariants.{Credit2Pool}
 use Rattle.sched_model.specs.declared.state.Credit2Domain.{Credit2Domain}
-use Rattle.sched_model.specs.Places.{at_place, put_at, test_at, change_at, numbered, numbers_from}
+use Rattle.sched_model.specs.Places.{at_place, put_at, test_at, change_at, numbered_items, numbers_from}
 use Rattle.sched_model.specs.Credit2.{fresh_domain}
 use Rattle.sched_model.specs.Policy.{default_dom_params, joined_records, credit2_record}
 use Rattle.sched_model.specs.Policy as policy
-use Rattle.sched_model.specs.Pool.{settled, without_domain, is_of_domain, unit_count}
+use Rattle.sched_model.specs.Pool.{settled_pool, without_domain, is_of_domain, unit_count}
 use Rattle.sched_model.specs.Actions.{change_pool}
 use Rattle.sched_model.specs.Machine.{after, event_of, left_by, joined_by, is_null}
 use Rattle.sched_laws.proofs.EachPlace.{by_cond, at_place-put_at, read_change_at, read_put_at, place_below}
@@ -54,9 +55,7 @@ put_is d x y places at = elim (read_put_at d d x places y at) [
 
 joined_cap : (records : Records) (d count t : ℕ) (y : Credit2Domain) → credit2_record (joined_records records (default_dom_params records) d count t) d ≡ Some y → y.cap ≡ 0
 joined_cap (Credit2Pool own) d count t y is = sym (ap (λ (z : Credit2Domain). z.cap) (put_is d (fresh_domain 256 0 count t) y own.domains is))
-joined_cap (RtdsPool domains) d count t y is = absurd (cc)
-joined_cap (ArincPool records) d count t y is = absurd (cc)
-joined_cap (NullPool kept) d count t y is = absurd (cc)
+joined_cap records d count t y is = absurd (cc)
 
 -- a domain's units that wait change no record
 joined_by_cap : (g t d : ℕ) (domain : Domain) (pool : Pool) (y : Credit2Domain) → credit2_record (joined_by g t d domain pool).scheduler.records d ≡ Some y → y.cap ≡ 0
@@ -68,16 +67,16 @@ joined_by_cap g t d domain pool y is =
 
 left_has_not : (t d : ℕ) (pool : Pool) → test_at (left_by t d pool).domains d (λ x. true) ≡ false
 left_has_not t d pool =
-    by_cond (λ (q : Pool). test_at q.domains d (λ x. true) ≡ false) (is_null pool.scheduler.records) (settled t (without_domain d pool)) (without_domain d pool)
+    by_cond (λ (q : Pool). test_at q.domains d (λ x. true) ≡ false) (is_null pool.scheduler.records) (settled_pool t (without_domain d pool)) (without_domain d pool)
     (λ is. test_at-clear_at_false d (λ x. true) pool.domains) (λ is. test_at-clear_at_false d (λ x. true) pool.domains)
 
 not_of_it : (d : ℕ) (o : Option UnitId) → is_of_domain d o ≡ false → number_in d o ≡ None
 not_of_it d None is = refl
 not_of_it d (Some u) is = ap (λ (b : Bool). cond b (Some u.n) None) is
 
-module _ (m : Machine) (d : ℕ) (s : State) (k : Stands m s) (k2 : Stands m (after m s s.now (DomMoved d))) (a : ActsIn m s s.now (DomMoved d)) (home2 : HomeOf d (after m s s.now (DomMoved d))) where
+module _ (m : Machine) (d : ℕ) (s : State) (k : Stands m s) (k2 : Stands m (after m s s.now (DomMoved (domain_number d)))) (a : ActsIn m s s.now (DomMoved (domain_number d))) (home2 : HomeOf d (after m s s.now (DomMoved (domain_number d)))) where
   abbrev s2 : State
-  s2 = after m s s.now (DomMoved d)
+  s2 = after m s s.now (DomMoved (domain_number d))
 
   abbrev g : ℕ
   g = m.config.granularity
@@ -91,7 +90,7 @@ module _ (m : Machine) (d : ℕ) (s : State) (k : Stands m s) (k2 : Stands m (af
   nobody : (r : ℕ) → number_in d (cur_in (at_place a.pool.resources r)) ≡ None
   nobody r =
       let none = at_numbered (λ (x : Resource). (is_of_domain d x.cur || is_of_domain d x.saving) ≡ false) 0 a.pool.resources
-      (none_passes (λ (e : ℕ × Resource). is_of_domain d e.1.cur || is_of_domain d e.1.saving) (numbered 0 a.pool.resources) (not_true (list_any (λ (e : ℕ × Resource). is_of_domain d e.1.cur || is_of_domain d e.1.saving) (numbered 0 a.pool.resources)) (and_right (test_at a.pool.domains d (λ domain. is_some domain.moving)) _ a.enabled))) in
+      (none_passes (λ (e : ℕ × Resource). is_of_domain d e.1.cur || is_of_domain d e.1.saving) (numbered_items 0 a.pool.resources) (not_true (list_any (λ (e : ℕ × Resource). is_of_domain d e.1.cur || is_of_domain d e.1.saving) (numbered_items 0 a.pool.resources)) (and_right (test_at a.pool.domains d (λ domain. is_some domain.moving)) _ a.enabled))) in
       elim (at_place a.pool.resources r) as (λ o. at_place a.pool.resources r ≡ o → number_in d (cur_in o) ≡ None) [
         | None ↦ λ is. refl
         | Some c ↦ λ is. not_of_it d c.cur (or_left (is_of_domain d c.cur) (is_of_domain d c.saving) (none r c is))
@@ -172,7 +171,7 @@ module _ (m : Machine) (d : ℕ) (s : State) (k : Stands m s) (k2 : Stands m (af
   nobody_then : (r : ℕ) → on_core s d r ≡ None
   nobody_then r = on_is m s k.known d a.j a.pool a.at there r ∙ nobody r
 
-  pub moved_gives : StepGives m d s s2 (event_of m s s.now (DomMoved d))
+  pub moved_gives : StepGives m d s s2 (event_of m s s.now (DomMoved (domain_number d)))
   moved_gives = record {
     tracks = record {
       stays = λ r is. nobody_now r ∙ sym (nobody_then r);
@@ -183,7 +182,7 @@ module _ (m : Machine) (d : ℕ) (s : State) (k : Stands m s) (k2 : Stands m (af
       set_stops = λ percent y is y_is n stop stops. absurd (cc);
       refilled = λ x y is x_is some y_is. absurd (cc);
       decided = λ r late x y is x_is some y_is. absurd (cc);
-      goes = λ x y ends late x_is some y_is. absurd (clash (d == d) (is_same d d refl) (or_right (refills d (event_of m s s.now (DomMoved d)) || is_some (cap_set m d (event_of m s s.now (DomMoved d)))) (d == d) ends));
+      goes = λ x y ends late x_is some y_is. absurd (clash (d == d) (is_same d d refl) (or_right (refills d (event_of m s s.now (DomMoved (domain_number d))) || is_some (cap_set m d (event_of m s s.now (DomMoved (domain_number d))))) (d == d) ends));
     };
     holds = λ x is r n on. absurd (let none = nobody_now r in cc);
   }

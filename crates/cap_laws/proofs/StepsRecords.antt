@@ -1,5 +1,6 @@
 -- The decision of a Credit2 pool, and what becomes of one domain of it.
-use Rattle.std.proofs.Common.{◌≡◌, ◌≢◌, ◌<◌, ◌≤◌, ◌+◌, ◌*◌, ℕ, zero, suc, Bool, true, false, List, refl, arith, ap, subst, sym, ◌∙◌, cond}
+use Rattle.term_laws.proofs.Deciding.{same_no}
+use Rattle.std.proofs.Common.{◌≡◌, ◌<◌, ◌≤◌, ◌+◌, ◌*◌, ℕ, zero, suc, Bool, true, false, List, refl, arith, ap, subst, sym, ◌∙◌, cond}
 use Rattle.std.specs.Prelude.{Option, Some, None, option_map, slice_get, map, min, ◌==◌, ℤ, pos, negsuc, ◌+ℤ◌, ◌≤ℤ◌}
 use Rattle.std.proofs.lemmas.Int.{ints}
 use Rattle.std.proofs.Math.Decide.{ℕ_discrete}
@@ -15,7 +16,7 @@ use Rattle.sched_model.specs.declared.state.Credit2Records.{Credit2Records}
 use Rattle.sched_model.specs.declared.state.Records.TheVariants.{Credit2Pool}
 use Rattle.sched_model.specs.Places.{at_place, change_at, change_item}
 use Rattle.sched_model.specs.Eligible.{Decision, has_budget}
-use Rattle.sched_model.specs.Credit2.{max_weight, burn_unit, burn_units, burn_all, change_domain, give_back, burn_cur, choice, domain_has_budget, reset, resets_for, take_budget, best_other, slice_of, set_running, switch_off, decide, choose2}
+use Rattle.sched_model.specs.Credit2.{max_weight, burn_unit, burn_units, burn_all, change_domain, give_back, burn_cur, choice, domain_has_budget, reset, resets_for, take_budget, best_other, slice_of, set_running, switch_off, decide, credit2_decision}
 use Rattle.sched_laws.proofs.EachPlace.{at_place-change_each}
 use Rattle.sched_laws.specs.Known.{IfUnit}
 use Rattle.sched_laws.proofs.Sound.{change_at-twice}
@@ -48,12 +49,9 @@ change_seen {X} e d n f F places none some =
           subst (λ (k : ℕ). at_place (change_at e f places) k ≡ option_map (F (cond (e == d) (Some n) None)) (at_place places k)) same
           (at_place-change_at e f places ∙ sym (map_as (F (Some n)) f (at_place places e) some) ∙ ap (λ (c : Bool). option_map (F (cond c (Some n) None)) (at_place places e)) (sym b)))
       | no differs ↦ (
-          let b : (e == d) ≡ false = differ e d differs in
+          let b : (e == d) ≡ false = same_no e d differs in
           at_place-change_at_other e d f places differs ∙ sym (map_same (F None) (at_place places d) none) ∙ ap (λ (c : Bool). option_map (F (cond c (Some n) None)) (at_place places d)) (sym b))
     ]
-  where
-    differ : (a b : ℕ) → a ≢ b → (a == b) ≡ false
-    differ a b ne = elim (a == b) as (λ x. (a == b) ≡ x → x ≡ false) [ true ↦ λ is. absurd (ne (grind (arith, is))) | false ↦ λ is. refl ] refl
 
 module _ (d t : ℕ) where
   burn_seen : (cur : Option UnitId) (own : Credit2Records) → at_place (burn_cur cur t own).domains d ≡ option_map (own_charged (max_weight own) t (number_in d cur)) (at_place own.domains d)
@@ -128,10 +126,6 @@ slice_low ask scheduler records u x h at some holds =
         let e2 : above_zero y.held ≡ above_zero h = ap above_zero (holds y is) in
         omega (arith, e, e2)
 
-above_known : (h : ℤ) → pos 0 ≤ℤ h → pos (above_zero h) ≡ h
-above_known (pos n) low = refl
-above_known (negsuc n) low = absurd (omega (arith, ints, low))
-
 -- what a decision does to the record of the domain d; the chosen unit is due when what it took is used up, if not before
 pub record RecordDecides (d t : ℕ) (had has : Option ℕ) (due : Option Moment) (x y : Credit2Domain) : Type 0 where
   pub taken : ℤ
@@ -157,91 +151,91 @@ module _ (d : ℕ) (ask : Ask) (scheduler : Scheduler) (own : Credit2Records) wh
   had = number_in d ask.cur
 
   abbrev burned : Credit2Records
-  burned = burn_cur ask.cur ask.at own
+  burned = burn_cur ask.cur ask.at.0 own
 
-  decides_idle : PoolDecides d ask.at had own (decide ask scheduler burned None)
+  decides_idle : PoolDecides d ask.at.0 had own (decide ask scheduler burned None)
   decides_idle = record {
     records = switch_off ask.cur burned;
     is = refl;
-    none = λ at. idle_seen d ask.at ask.cur own ∙ ap (option_map (chosen_domain (max_weight own) 0 ask.at 0 had None)) at;
+    none = λ at. idle_seen d ask.at.0 ask.cur own ∙ ap (option_map (chosen_domain (max_weight own) 0 ask.at.0 0 had None)) at;
     some = λ x at past runs. (
-      chosen_domain (max_weight own) 0 ask.at 0 had None x,
-      idle_seen d ask.at ask.cur own ∙ ap (option_map (chosen_domain (max_weight own) 0 ask.at 0 had None)) at,
+      chosen_domain (max_weight own) 0 ask.at.0 0 had None x,
+      idle_seen d ask.at.0 ask.cur own ∙ ap (option_map (chosen_domain (max_weight own) 0 ask.at.0 0 had None)) at,
       record {
         taken = pos 0;
-        decides = domain_decides (max_weight own) 0 ask.at 0 x past had None runs (λ j is. absurd (cc));
+        decides = domain_decides (max_weight own) 0 ask.at.0 0 x past had None runs (λ j is. absurd (cc));
         is_due = λ j is. absurd (cc);
       },
     );
   }
 
   -- the budget of the chosen unit's domain
-  pays_here : (u : UnitId) (x : Credit2Domain) → at_place own.domains d ≡ Some x → domain_has_budget burned u ≡ true → (j : ℕ) → number_in d (Some u) ≡ Some j → has_budget (own_charged (max_weight own) ask.at had x) ≡ true
+  pays_here : (u : UnitId) (x : Credit2Domain) → at_place own.domains d ≡ Some x → domain_has_budget burned u ≡ true → (j : ℕ) → number_in d (Some u) ≡ Some j → has_budget (own_charged (max_weight own) ask.at.0 had x) ≡ true
   pays_here u x at pays j is =
       let e = number_here d j u is in
-      let there : at_place burned.domains u.dom.0 ≡ Some (own_charged (max_weight own) ask.at had x) =
-      ap (λ (k : ℕ). at_place burned.domains k) e.0 ∙ burn_seen d ask.at ask.cur own ∙ ap (option_map (own_charged (max_weight own) ask.at had)) at in
+      let there : at_place burned.domains u.dom.0 ≡ Some (own_charged (max_weight own) ask.at.0 had x) =
+      ap (λ (k : ℕ). at_place burned.domains k) e.0 ∙ burn_seen d ask.at.0 ask.cur own ∙ ap (option_map (own_charged (max_weight own) ask.at.0 had)) at in
       sym (ap (λ (o : Option Credit2Domain). elim o as (λ _. Bool) [ None ↦ false | Some z ↦ has_budget z ]) there) ∙ pays
 
   module _ (u : UnitId) (pays : domain_has_budget burned u ≡ true) where
     abbrev k : ℕ
-    k = resets_for ask.at u burned
+    k = resets_for ask.at.0 u burned
 
     abbrev taken : Credit2Records
-    taken = change_domain u.dom.0 (take_budget u.n) (reset ask.at k burned)
+    taken = change_domain u.dom.0 (take_budget u.n) (reset ask.at.0 k burned)
 
     abbrev first : Credit2Domain → Credit2Domain
-    first = own_charged (max_weight own) ask.at had
+    first = own_charged (max_weight own) ask.at.0 had
 
     abbrev second : Credit2Domain → Credit2Domain
-    second = was_reset (max_weight burned) ask.at k
+    second = was_reset (max_weight burned) ask.at.0 k
 
     abbrev all : Credit2Domain → Credit2Domain
-    all = chosen_domain (max_weight own) (max_weight burned) ask.at k had (number_in d (Some u))
+    all = chosen_domain (max_weight own) (max_weight burned) ask.at.0 k had (number_in d (Some u))
 
     due_low : (x : Credit2Domain) → at_place own.domains d ≡ Some x → (j : ℕ) → number_in d (Some u) ≡ Some j → 0 < x.cap → pos 0 ≤ℤ taken_by (number_in d (Some u)) (second (first x))
-        → pos (ask.at + slice_of ask scheduler taken u) ≤ℤ (pos ask.at +ℤ taken_by (number_in d (Some u)) (second (first x)))
+        → pos (ask.at.0 + slice_of ask scheduler taken u) ≤ℤ (pos ask.at.0 +ℤ taken_by (number_in d (Some u)) (second (first x)))
     due_low x at j is some low =
         let e = number_here d j u is in
         let is_n : number_in d (Some u) ≡ Some u.n = is ∙ ap (λ (n : ℕ). Some n) (sym e.1) in
         let z : Credit2Domain = second (first x) in
-        let caps : z.cap ≡ x.cap = reset_cap (max_weight burned) ask.at k (first x) ∙ own_cap (max_weight own) ask.at had x in
+        let caps : z.cap ≡ x.cap = reset_cap (max_weight burned) ask.at.0 k (first x) ∙ own_cap (max_weight own) ask.at.0 had x in
         let some_z : 0 < z.cap = subst (λ (n : ℕ). 0 < n) (sym caps) some in
         let there : at_place taken.domains u.dom.0 ≡ Some (take_budget u.n z) =
-        ap (λ (n : ℕ). at_place taken.domains n) e.0 ∙ taken_seen d ask.at ask.cur u k own ∙ ap (option_map (λ (y : Credit2Domain). has_taken (number_in d (Some u)) (second (first y)))) at ∙ ap (λ (o : Option ℕ). Some (has_taken o z)) is_n in
+        ap (λ (n : ℕ). at_place taken.domains n) e.0 ∙ taken_seen d ask.at.0 ask.cur u k own ∙ ap (option_map (λ (y : Credit2Domain). has_taken (number_in d (Some u)) (second (first y)))) at ∙ ap (λ (o : Option ℕ). Some (has_taken o z)) is_n in
         let some_t : 0 < (take_budget u.n z).cap = subst (λ (n : ℕ). 0 < n) (sym (ap (λ (y : Credit2Domain). y.cap) (taken_is u.n z some_z))) some_z in
         let s = slice_low ask scheduler taken u (take_budget u.n z) (part_of z) there some_t (holds_taken u.n z some_z) in
         let taken_is_part : taken_by (number_in d (Some u)) z ≡ part_of z = ap (λ (o : Option ℕ). taken_by o z) is_n in
         let low2 : pos 0 ≤ℤ part_of z = subst (λ (h : ℤ). pos 0 ≤ℤ h) taken_is_part low in
-        subst (λ (h : ℤ). pos (ask.at + slice_of ask scheduler taken u) ≤ℤ (pos ask.at +ℤ h)) (sym taken_is_part) (within (slice_of ask scheduler taken u) (part_of z) s low2)
+        subst (λ (h : ℤ). pos (ask.at.0 + slice_of ask scheduler taken u) ≤ℤ (pos ask.at.0 +ℤ h)) (sym taken_is_part) (within (slice_of ask scheduler taken u) (part_of z) s low2)
       where
-        within : (n : ℕ) (h : ℤ) → n ≤ above_zero h → pos 0 ≤ℤ h → pos (ask.at + n) ≤ℤ (pos ask.at +ℤ h)
+        within : (n : ℕ) (h : ℤ) → n ≤ above_zero h → pos 0 ≤ℤ h → pos (ask.at.0 + n) ≤ℤ (pos ask.at.0 +ℤ h)
         within n (pos h) less low3 = omega (arith, ints, less)
         within n (negsuc h) less low3 = absurd (omega (arith, ints, low3))
 
-    decided : (x : Credit2Domain) → at_place own.domains d ≡ Some x → ArePast ask.at x.units → ((i : ℕ) → had ≡ Some i → (stop : ℤ) × Stops x i stop)
-        → DomainDecides ask.at had (number_in d (Some u)) (taken_by (number_in d (Some u)) (second (first x))) x (all x)
-    decided x at past runs = domain_decides (max_weight own) (max_weight burned) ask.at k x past had (number_in d (Some u)) runs (pays_here u x at pays)
+    decided : (x : Credit2Domain) → at_place own.domains d ≡ Some x → ArePast ask.at.0 x.units → ((i : ℕ) → had ≡ Some i → (stop : ℤ) × Stops x i stop)
+        → DomainDecides ask.at.0 had (number_in d (Some u)) (taken_by (number_in d (Some u)) (second (first x))) x (all x)
+    decided x at past runs = domain_decides (max_weight own) (max_weight burned) ask.at.0 k x past had (number_in d (Some u)) runs (pays_here u x at pays)
 
-    decides_unit : PoolDecides d ask.at had own (decide ask scheduler burned (Some u))
+    decides_unit : PoolDecides d ask.at.0 had own (decide ask scheduler burned (Some u))
     decides_unit = record {
-      records = set_running (Some ask.at) u (switch_off ask.cur taken);
+      records = set_running (Some ask.at.0) u (switch_off ask.cur taken);
       is = refl;
-      none = λ at. chosen_seen d ask.at ask.cur u k own ∙ ap (option_map all) at;
+      none = λ at. chosen_seen d ask.at.0 ask.cur u k own ∙ ap (option_map all) at;
       some = λ x at past runs. (
         all x,
-        chosen_seen d ask.at ask.cur u k own ∙ ap (option_map all) at,
+        chosen_seen d ask.at.0 ask.cur u k own ∙ ap (option_map all) at,
         record {
           taken = taken_by (number_in d (Some u)) (second (first x));
           decides = decided x at past runs;
-          is_due = λ j is. (ask.at + slice_of ask scheduler taken u, refl, λ some. due_low x at j is some ((decided x at past runs).low some));
+          is_due = λ j is. (ask.at.0 + slice_of ask scheduler taken u, refl, λ some. due_low x at j is some ((decided x at past runs).low some));
         },
       );
     }
 
-  pub pool_decides : PoolDecides d ask.at had own (choose2 ask scheduler own)
-  pool_decides = by_choice (choice ask scheduler burned) (choice_pays ask.at (λ n k. Unit {0}) ask scheduler burned)
+  pub pool_decides : PoolDecides d ask.at.0 had own (credit2_decision ask scheduler own)
+  pool_decides = by_choice (choice ask scheduler burned) (choice_pays ask.at.0 (λ n k. Unit {0}) ask scheduler burned)
     where
-      by_choice : (c : Option UnitId) → IfUnit (λ u. domain_has_budget burned u ≡ true) c → PoolDecides d ask.at had own (decide ask scheduler burned c)
+      by_choice : (c : Option UnitId) → IfUnit (λ u. domain_has_budget burned u ≡ true) c → PoolDecides d ask.at.0 had own (decide ask scheduler burned c)
       by_choice None pays = decides_idle
       by_choice (Some u) pays = decides_unit u pays

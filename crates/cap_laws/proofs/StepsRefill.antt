@@ -1,4 +1,5 @@
 -- A domain is refilled: what becomes of it.
+use Rattle.sched_base.specs.Numbers.{domain}
 use Rattle.std.proofs.Common.{◌≡◌, ◌<◌, ◌*◌, ℕ, true, false, refl, arith, ap, subst, sym, ◌∙◌}
 use Rattle.std.specs.Prelude.{Option, Some, None, option_map, ◌==◌, ℤ, pos, ◌+ℤ◌, ◌-ℤ◌, ◌≤ℤ◌}
 use Rattle.std.specs.Int.{int_min}
@@ -9,7 +10,7 @@ use Rattle.sched_model.specs.declared.machine.Machine.{Machine}
 use Rattle.sched_model.specs.declared.state.State.{State}
 use Rattle.sched_model.specs.declared.state.Pool.{Pool}
 use Rattle.sched_model.specs.declared.state.Records.{Records}
-use Rattle.sched_model.specs.declared.state.Records.TheVariants.{Credit2Pool, RtdsPool, ArincPool, NullPool}
+use Rattle.sched_model.specs.declared.state.Records.TheVariants.{Credit2Pool}
 use Rattle.sched_model.specs.declared.state.Credit2Unit.{Credit2Unit}
 use Rattle.sched_model.specs.declared.state.Credit2Domain.{Credit2Domain}
 use Rattle.sched_model.specs.Checked.{IsChecked}
@@ -17,7 +18,7 @@ use Rattle.sched_model.specs.Places.{at_place, test_at}
 use Rattle.sched_model.specs.Credit2.{max_weight, burn_unit, burn_units, periods, held_by_running, refill_domain}
 use Rattle.sched_model.specs.Policy as policy
 use Rattle.sched_model.specs.Policy.{credit2_record}
-use Rattle.sched_model.specs.Pool.{after_in, settled, with_records}
+use Rattle.sched_model.specs.Pool.{after_in, settled_pool, with_records}
 use Rattle.sched_model.specs.Machine.{after, event_of}
 use Rattle.sched_laws.proofs.Bools.{clash, is_same, or_left}
 use Rattle.sched_ranges.proofs.Budget.{get_map}
@@ -51,29 +52,25 @@ refills_it most t x some past = record {
 
 record_none : (records : Records) (t d : ℕ) → credit2_record records d ≡ None → credit2_record (policy.refill records t d) d ≡ None
 record_none (Credit2Pool own) t d is = at_place-change_at d (refill_domain (max_weight own) t) own.domains ∙ ap (option_map (refill_domain (max_weight own) t)) is
-record_none (RtdsPool domains) t d is = refl
-record_none (ArincPool records) t d is = refl
-record_none (NullPool kept) t d is = refl
+record_none records t d is = refl
 
 record_some : (records : Records) (t d : ℕ) (x : Credit2Domain) → credit2_record records d ≡ Some x → (most : ℕ) × (credit2_record (policy.refill records t d) d ≡ Some (refill_domain most t x))
 record_some (Credit2Pool own) t d x is = (max_weight own, at_place-change_at d (refill_domain (max_weight own) t) own.domains ∙ ap (option_map (refill_domain (max_weight own) t)) is)
-record_some (RtdsPool domains) t d x is = absurd (cc)
-record_some (ArincPool records) t d x is = absurd (cc)
-record_some (NullPool kept) t d x is = absurd (cc)
+record_some records t d x is = absurd (cc)
 
-module _ (m : Machine) (checked : IsChecked m) (d : ℕ) (s : State) (k : Stands m s) (k2 : Stands m (after m s s.now (Refill d))) (a : ActsIn m s s.now (Refill d)) (there : test_at a.pool.domains d (λ x. true) ≡ true) (holds : StateHolds d s) where
+module _ (m : Machine) (checked : IsChecked m) (d : ℕ) (s : State) (k : Stands m s) (k2 : Stands m (after m s s.now (Refill (domain d)))) (a : ActsIn m s s.now (Refill (domain d))) (there : test_at a.pool.domains d (λ x. true) ≡ true) (holds : StateHolds d s) where
   abbrev s2 : State
-  s2 = after m s s.now (Refill d)
+  s2 = after m s s.now (Refill (domain d))
 
   abbrev mid : Pool
   mid = with_records (policy.refill a.pool.scheduler.records s.now d) a.pool
 
   abbrev next : Pool
-  next = settled s.now mid
+  next = settled_pool s.now mid
 
   at_next : at_place s2.pools a.j ≡ Some next
   at_next =
-      let f : Pool → Pool = λ p. settled s.now (after_in m.config.granularity s.now p (Refill d)) in
+      let f : Pool → Pool = λ p. settled_pool s.now (after_in m.config.granularity s.now p (Refill (domain d))) in
       ap (λ (x : State). at_place x.pools a.j) a.state ∙ at_place-change_at a.j f s.pools ∙ ap (option_map f) a.at
 
   settles : Same d mid next
@@ -104,7 +101,7 @@ module _ (m : Machine) (checked : IsChecked m) (d : ℕ) (s : State) (k : Stands
   caps None is = ap cap_of (record_none a.pool.scheduler.records s.now d is) ∙ sym (ap cap_of is)
   caps (Some x) is = (let z = record_some a.pool.scheduler.records s.now d x is in ap cap_of z.1 ∙ sym (ap cap_of is))
 
-  own_refill : StepGives m d s s2 (event_of m s s.now (Refill d))
+  own_refill : StepGives m d s s2 (event_of m s s.now (Refill (domain d)))
   own_refill = record {
     tracks = record {
       stays = λ r is. on_after m d s s2 k.known k2.known a.j a.j a.pool next a.at there at_next there r ∙ ap (number_in d) (settles.curs r) ∙ sym (on_before m d s s2 k.known k2.known a.j a.j a.pool next a.at there at_next there r);
@@ -125,10 +122,10 @@ module _ (m : Machine) (checked : IsChecked m) (d : ℕ) (s : State) (k : Stands
     holds = holds_out m s2 k2.known d a.j next at_next there pool_holds;
   }
     where
-      ends_not : ends_term m d (event_of m s s.now (Refill d)) ≡ false → ⊥
+      ends_not : ends_term m d (event_of m s s.now (Refill (domain d))) ≡ false → ⊥
       ends_not ends = clash (d == d) (is_same d d refl) (or_left (d == d) _ (or_left _ _ ends))
 
-pub refill_gives : (m : Machine) → IsChecked m → (d : ℕ) (s : State) → Stands m s → Stands m (after m s s.now (Refill d)) → ActsIn m s s.now (Refill d) → HomeOf d s → StateHolds d s → StepGives m d s (after m s s.now (Refill d)) (event_of m s s.now (Refill d))
+pub refill_gives : (m : Machine) → IsChecked m → (d : ℕ) (s : State) → Stands m s → Stands m (after m s s.now (Refill (domain d))) → ActsIn m s s.now (Refill (domain d)) → HomeOf d s → StateHolds d s → StepGives m d s (after m s s.now (Refill (domain d))) (event_of m s s.now (Refill (domain d)))
 refill_gives m checked d s k k2 a home holds =
     let e : Some home.home ≡ Some a.j = sym (home_is m s k.known d home.home home.pool home.at home.there) ∙ a.home in
     let e2 : home.home ≡ a.j = cc in

@@ -1,4 +1,5 @@
 -- The events of a pool that leave one domain of it as it is: the cores that have its units, their dues, and its Credit2 record.
+use Rattle.sched_base.specs.Numbers.{core, domain}
 use Rattle.std.proofs.Common.{◌≡◌, ◌≢◌, ℕ, true, List, refl, ap, ◌∙◌}
 use Rattle.std.specs.Prelude.{Option, Some, None}
 use Rattle.sched_base.specs.declared.Moment.{Moment}
@@ -17,7 +18,7 @@ use Rattle.sched_model.specs.Policy.{credit2_record, rtds_record}
 use Rattle.sched_model.specs.Pool as pools
 use Rattle.sched_model.specs.declared.action.Action.{Action}
 use Rattle.sched_model.specs.declared.action.Action.TheVariants.{Refill, Decide}
-use Rattle.sched_model.specs.Pool.{after_in, settled, home_cores, reconsidered, change_core, change_processor, change_vcpu, change_domain, change_cores_of, set_pending, does, queue_unit, started_on, set_leaving, set_moving, pause, unpause, is_of_domain}
+use Rattle.sched_model.specs.Pool.{after_in, settled_pool, home_cores, reconsidered_core, change_core, change_processor, change_vcpu, change_domain, change_cores_of, set_pending, with_doing, queue_unit, started_on, set_leaving, set_moving, pause, unpause, is_of_domain}
 use Rattle.sched_laws.proofs.Events.{LikePlace, LikePlaces, like_look, like_change_at, like_change_each, like_map, KeepsCore, KeptByCommands, KeptByParts, commands_of, kept_settled}
 use Rattle.sched_laws.proofs.Lists.{test_at-change_at}
 use Rattle.term_laws.proofs.RtdsSteps.{at_place-change_at_other}
@@ -139,14 +140,14 @@ module _ (d : ℕ) where
   }
 
   -- events that are no decisions, nor the refills of this domain
-  pub same_parts : (On : Action → Type 0) → ((r : ℕ) → On (Decide r) → ⊥) → ((e : ℕ) → On (Refill e) → e ≢ d) → (g t : ℕ) (p : Pool) → KeptByParts g t (λ pool. On) (Same p)
+  pub same_parts : (On : Action → Type 0) → ((r : ℕ) → On (Decide (core r)) → ⊥) → ((e : ℕ) → On (Refill (domain e)) → e ≢ d) → (g t : ℕ) (p : Pool) → KeptByParts g t (λ pool. On) (Same p)
   same_parts On no_decide others g t p = record {
     cores = λ cores q like. same_like cores p q (like_map KeepsCore SameCores q.resources cores (λ c e keeps. record { cur = keeps.cur; due = λ n is. keeps.due }) like);
     domains = λ e f q count moving. same_change_domain e f p q;
     queues = λ u q runs. same_scheduler (policy.enqueue u q.scheduler) p q refl;
     dequeues = λ e q. same_scheduler (policy.dequeue_domain e q.scheduler) p q refl;
     decides = λ r c q at on. absurd (no_decide r on);
-    saves = λ r c u q at is on. same_like _ p q (like_change_at SameCores r pools.saved q.resources (λ x. core_refl (Some x)) (λ x there. record { cur = refl; due = λ n own. refl }));
+    saves = λ r c u q at is on. same_like _ p q (like_change_at SameCores r pools.saved_core q.resources (λ x. core_refl (Some x)) (λ x there. record { cur = refl; due = λ n own. refl }));
     replenishes = λ u q on a. same_trans p q _ a (same_as _ _ (λ r. core_refl (at_place q.resources r)) (replenish_record t u q.scheduler.records) refl);
     dues = λ r u x old q on is. same_dues r t u x p q is;
     refills = λ e q on a. same_trans p q _ a (same_refill t e q (others e on));
@@ -155,5 +156,5 @@ module _ (d : ℕ) where
   pub same_commands : (g : ℕ) (p : Pool) → KeptByCommands g (Same p)
   same_commands g p = commands_of (same_parts (λ action. ⊥) (λ r none. none) (λ e none. absurd none) g 0 p)
 
-  pub same_settled : (t : ℕ) (p q : Pool) → Same p q → Same p (settled t q)
+  pub same_settled : (t : ℕ) (p q : Pool) → Same p q → Same p (settled_pool t q)
   same_settled t p q a = kept_settled (same_commands 1 p) t q a

@@ -16,8 +16,7 @@ use Rattle.sched_model.specs.Opening.{fresh_core}
 use Rattle.sched_model.specs.Machine.{after, verdict, is_enabled}
 use Rattle.sched_laws.proofs.Kept.{IsApart}
 use Rattle.term_laws.proofs.SamePool.{cur_in}
-use Rattle.term_laws.proofs.Plans.{IfOk}
-use Rattle.term_laws.proofs.AtHome.{HoldsAt, KeptAtHome, IsNoDom, at_after}
+use Rattle.term_laws.proofs.AtHome.{HoldsAt, KeptAtHome, IsNoDom, at_after, IfOk}
 use Rattle.sched_laws.proofs.Events.{KeptByCommands, KeptByParts, kept_by_parts, kept_processor, kept_set_leaving, kept_withdrawn, kept_pause, kept_unpause}
 use Rattle.sched_base.specs.declared.DomId.{DomId}
 use Rattle.sched_model.specs.declared.config.ParamChange.{ParamChange}
@@ -42,10 +41,8 @@ PlanLeaves d _ = Unit {0}
 
 sets_no_cap : (d : ℕ) (change : ParamChange) → IsNoDom change → SetsNoCap d change
 sets_no_cap d (changes.Dom e weight limit) none = absurd none
-sets_no_cap d (changes.Rate limit) none = tt
 sets_no_cap d (changes.«Unit» u period budget extra) none = tt
-sets_no_cap d (changes.Frame frame) none = tt
-sets_no_cap d (changes.Pin e unit cores) none = tt
+sets_no_cap d other none = tt
 
 sets_weight : (d : ℕ) (e : DomId) (weight limit : Option ℕ) (answer : Reply) → PlanLeaves d (plan.Credit2Dom e weight limit answer) → SetsNoCap d (changes.Dom e weight limit)
 sets_weight d e weight None answer leaves = tt
@@ -60,7 +57,7 @@ module _ (d i : ℕ) (p : Pool) (has : test_at p.domains d (λ x. true) ≡ true
   abbrev pub LeavesIt : Machine → State → Action → Type 0
   LeavesIt m s (Decide r) = ⊥
   LeavesIt m s (DomMoved e) = ⊥
-  LeavesIt m s (Refill e) = e ≢ d
+  LeavesIt m s (Refill e) = e.0 ≢ d
   LeavesIt m s Xl = (line : CommandLine) → slice_get m.work.commands s.next_command ≡ Some line → IfOk (PlanLeaves d) (verdict m s line)
   LeavesIt m s _ = Unit {0}
 

@@ -7,7 +7,7 @@ use Rattle.sched_model.specs.declared.state.Domain.{Domain}
 use Rattle.sched_model.specs.declared.state.State.{State}
 use Rattle.sched_model.specs.declared.state.Pool.{Pool}
 use Rattle.sched_model.specs.declared.state.Records.{Records}
-use Rattle.sched_model.specs.declared.state.Records.TheVariants.{Credit2Pool, RtdsPool, ArincPool, NullPool}
+use Rattle.sched_model.specs.declared.state.Records.TheVariants.{Credit2Pool, RtdsPool}
 use Rattle.sched_model.specs.Places.{at_place, put_at, test_at, numbers_from}
 use Rattle.sched_model.specs.Policy as policy
 use Rattle.sched_model.specs.Policy.{credit2_record, joined_records, parted_records, default_dom_params}
@@ -25,9 +25,7 @@ module _ (d e : ℕ) (other : e ≢ d) where
 
   parted : (records : Records) → credit2_record (parted_records records e) d ≡ credit2_record records d
   parted (Credit2Pool own) = at_place-set_other e d None own.domains other
-  parted (RtdsPool domains) = refl
-  parted (ArincPool records) = refl
-  parted (NullPool kept) = refl
+  parted records = refl
 
   joined : (records : Records) (params : DomParams) (count t : ℕ) → credit2_record (joined_records records params e count t) d ≡ credit2_record records d
   joined (Credit2Pool own) (dom_params.Credit2 weight percent) count t = at_place-set_other e d _ own.domains other

@@ -9,13 +9,13 @@ use Rattle.sched_model.specs.declared.config.ParamChange.TheVariants as changes
 use Rattle.sched_model.specs.declared.state.Resource.{Resource}
 use Rattle.sched_model.specs.declared.state.Pool.{Pool}
 use Rattle.sched_model.specs.declared.state.Records.{Records}
-use Rattle.sched_model.specs.declared.state.Records.TheVariants.{Credit2Pool, RtdsPool, ArincPool, NullPool}
+use Rattle.sched_model.specs.declared.state.Records.TheVariants.{Credit2Pool}
 use Rattle.sched_model.specs.declared.state.Credit2Unit.{Credit2Unit}
 use Rattle.sched_model.specs.declared.state.Credit2Domain.{Credit2Domain}
 use Rattle.sched_model.specs.Places.{at_place, change_at}
 use Rattle.sched_model.specs.Credit2.{max_weight, burn_unit, burn_units, set_weight, set_cap, change_domain}
 use Rattle.sched_model.specs.Policy.{credit2_record, changed_records}
-use Rattle.sched_model.specs.Pool.{set_params, settled, is_of_domain}
+use Rattle.sched_model.specs.Pool.{set_params, settled_pool, is_of_domain}
 use Rattle.sched_laws.proofs.EachPlace.{by_cond, at_place-change_each}
 use Rattle.sched_laws.proofs.Bools.{is_same}
 use Rattle.sched_ranges.proofs.Budget.{get_map}
@@ -69,7 +69,7 @@ module _ (d t n : ℕ) (weight : Option ℕ) (p : Pool) where
   mid = set_params (changes.Dom (domain_number d) weight (Some n)) t p
 
   abbrev pub set_pool : Pool
-  set_pool = settled t (set_params (changes.Dom (domain_number d) weight (Some n)) t p)
+  set_pool = settled_pool t (set_params (changes.Dom (domain_number d) weight (Some n)) t p)
 
   settles : Same d mid set_pool
   settles = same_settled d t mid mid (same_refl d mid)
@@ -81,17 +81,13 @@ module _ (d t n : ℕ) (weight : Option ℕ) (p : Pool) where
         most,
         at_place-change_at d (set_cap most t (Some n)) (change_at d (set_weight weight) own.domains) ∙ ap (option_map (set_cap most t (Some n))) (at_place-change_at d (set_weight weight) own.domains ∙ ap (option_map (set_weight weight)) is),
       )
-  set_record (RtdsPool domains) x is = absurd (cc)
-  set_record (ArincPool records) x is = absurd (cc)
-  set_record (NullPool kept) x is = absurd (cc)
+  set_record records x is = absurd (cc)
 
   set_none : (records : Records) → credit2_record records d ≡ None → credit2_record (changed_records records (changes.Dom (domain_number d) weight (Some n)) t) d ≡ None
   set_none (Credit2Pool own) is =
       let most : ℕ = max_weight (change_domain d (set_weight weight) own) in
       at_place-change_at d (set_cap most t (Some n)) (change_at d (set_weight weight) own.domains) ∙ ap (option_map (set_cap most t (Some n))) (at_place-change_at d (set_weight weight) own.domains ∙ ap (option_map (set_weight weight)) is)
-  set_none (RtdsPool domains) is = refl
-  set_none (ArincPool records) is = refl
-  set_none (NullPool kept) is = refl
+  set_none records is = refl
 
   -- the record that is there now, and the one before
   pub record WasSet (y : Credit2Domain) : Type 0 where

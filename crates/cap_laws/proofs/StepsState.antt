@@ -1,6 +1,7 @@
 -- What a state tells of a domain, read from the pool that has it.
-use Rattle.std.proofs.Common.{◌≡◌, ◌≢◌, ◌<◌, ◌≤◌, ◌+◌, ◌-◌, ◌*◌, ◌/◌, ℕ, zero, suc, Bool, true, false, List, [], ◌∷◌, length, refl, arith, ap, subst, sym, ◌∙◌, cond}
-use Rattle.std.specs.Prelude.{Option, Some, None, option_map, is_some, slice_get, unwrap_or, ◌==◌}
+use Rattle.term_laws.proofs.Beginning.{home_pool_of}
+use Rattle.std.proofs.Common.{◌≡◌, ◌≢◌, ◌<◌, ◌≤◌, ◌+◌, ◌-◌, ◌*◌, ◌/◌, ℕ, suc, Bool, true, false, length, refl, arith, ap, subst, sym, ◌∙◌, cond}
+use Rattle.std.specs.Prelude.{Option, Some, None, is_some, slice_get, unwrap_or, ◌==◌}
 use Rattle.std.proofs.Math.Decide.{ℕ_discrete}
 use Rattle.std.proofs.lemmas.Nat.{le-div}
 use Rattle.sched_base.specs.declared.Moment.{Moment}
@@ -8,13 +9,12 @@ use Rattle.sched_base.specs.declared.UnitId.{UnitId}
 use Rattle.sched_model.specs.declared.machine.Machine.{Machine}
 use Rattle.sched_model.specs.declared.state.State.{State}
 use Rattle.sched_model.specs.declared.state.Pool.{Pool}
-use Rattle.sched_model.specs.declared.state.Domain.{Domain}
 use Rattle.sched_model.specs.declared.state.Resource.{Resource}
 use Rattle.sched_model.specs.declared.state.Credit2Unit.{Credit2Unit}
 use Rattle.sched_model.specs.declared.state.Credit2Domain.{Credit2Domain}
 use Rattle.sched_model.specs.declared.state.Credit2Records.{Credit2Records}
 use Rattle.sched_model.specs.declared.state.Records.{Records}
-use Rattle.sched_model.specs.declared.state.Records.TheVariants.{Credit2Pool, RtdsPool, ArincPool, NullPool}
+use Rattle.sched_model.specs.declared.state.Records.TheVariants.{Credit2Pool}
 use Rattle.sched_model.specs.Places.{at_place, test_at}
 use Rattle.sched_model.specs.Checked.{IsChecked}
 use Rattle.sched_model.specs.Opening.{core_count}
@@ -29,7 +29,7 @@ use Rattle.sched_laws.proofs.Counts.{total_two}
 use Rattle.sched_laws.specs.Counts.{one_at}
 use Rattle.sched_laws.proofs.EachPlace.{found_at, none_found, by_option, place_below, is_empty}
 use Rattle.sched_laws.proofs.Kept.{IsApart}
-use Rattle.sched_laws.proofs.Lists.{test_at-some, some-test_at, is_some_at}
+use Rattle.sched_laws.proofs.Lists.{test_at-some, some-test_at, is_some_at, item_below}
 use Rattle.sched_laws.proofs.OnePlace.{one_same}
 use Rattle.sched_laws.specs.Known.{core_places}
 use Rattle.sched_laws.specs.Known.{UnitsAreOwn, IsThere}
@@ -40,7 +40,6 @@ use Rattle.sched_ranges.proofs.BudgetWalk.{CountIs}
 use Rattle.sched_ranges.proofs.Law.{StateFits, fits_in_runs}
 use Rattle.sched_records.specs.Records.{HasRecords}
 use Rattle.sched_records.proofs.Law.{has_records}
-use Rattle.part_laws.proofs.Alike.{mover_of}
 use Rattle.term_laws.specs.RtdsTerm.{core_in}
 use Rattle.term_laws.proofs.SamePool.{cur_in}
 use Rattle.term_laws.proofs.TermState.{core_is_in}
@@ -73,16 +72,8 @@ pub record HomeOf (d : ℕ) (s : State) : Type 0 where
 pub home_here : (m : Machine) (s : State) (d : ℕ) → Known m s → d < length m.config.domains → HomeOf d s
 home_here m s d k low =
     let h = k.housed.domains d low in
-    let p = pool_of (at_place s.pools h.0) h.1 in
+    let p = home_pool_of (at_place s.pools h.0) d h.1 in
     record { home = h.0; pool = p.0; at = p.1; there = p.2 }
-  where
-    pool_of : (o : Option Pool) → is_some (mover_of o d) ≡ true → (p : Pool) × (o ≡ Some p) × (test_at p.domains d (λ x. true) ≡ true)
-    pool_of None is = absurd (cc)
-    pool_of (Some p) is = (p, refl, by_domain (at_place p.domains d) refl is)
-      where
-        by_domain : (o2 : Option Domain) → at_place p.domains d ≡ o2 → is_some (option_map (λ (x : Domain). x.moving) o2) ≡ true → test_at p.domains d (λ x. true) ≡ true
-        by_domain None is2 e2 = absurd (cc)
-        by_domain (Some x) is2 e2 = test_at-some p.domains d (λ x. true) x is2 refl
 
 -- the unit that is numbered
 pub unit_of_number : (d n : ℕ) (o : Option UnitId) → number_in d o ≡ Some n → (u : UnitId) × (o ≡ Some u) × (u.dom.0 ≡ d) × (u.n ≡ n)
@@ -199,9 +190,7 @@ module _ (m : Machine) (s : State) (k : Known m s) (d i : ℕ) (p : Pool) (at : 
 -- the records of Credit2
 pub credit2_pool : (records : Records) (d : ℕ) (x : Credit2Domain) → credit2_record records d ≡ Some x → (own : Credit2Records) × (records ≡ Credit2Pool own) × (at_place own.domains d ≡ Some x)
 credit2_pool (Credit2Pool own) d x is = (own, refl, is)
-credit2_pool (RtdsPool domains) d x is = absurd (cc)
-credit2_pool (ArincPool records) d x is = absurd (cc)
-credit2_pool (NullPool kept) d x is = absurd (cc)
+credit2_pool records d x is = absurd (cc)
 
 module _ (m : Machine) (checked : IsChecked m) (s : State) (k : Stands m s) (d i : ℕ) (p : Pool) (at : at_place s.pools i ≡ Some p) (x : Credit2Domain) (is : credit2_record p.scheduler.records d ≡ Some x) where
   budget_fits : BudgetFits s.now (CountIs m d) Nobody Nobody x
@@ -215,11 +204,6 @@ module _ (m : Machine) (checked : IsChecked m) (s : State) (k : Stands m s) (d i
   pub is_recorded : (r n : ℕ) → number_in d (cur_in (at_place p.resources r)) ≡ Some n → (z : Credit2Unit) × (slice_get x.units n ≡ Some z)
   is_recorded r n on = by_core (at_place p.resources r) refl on
     where
-      below : (ys : List Credit2Unit) (j : ℕ) → j < length ys → (y : Credit2Unit) × (slice_get ys j ≡ Some y)
-      below [] j low = absurd (omega (arith, low))
-      below (y ∷ ys) zero low = (y, refl)
-      below (y ∷ ys) (suc j) low = below ys j (omega (arith, low))
-
       inside : (u : UnitId) → (unit : IsUnitOf m u) → u.n < (length unit.config.guests + m.config.granularity - 1) / m.config.granularity
       inside u unit =
           let g : ℕ = m.config.granularity in
@@ -237,4 +221,4 @@ module _ (m : Machine) (checked : IsChecked m) (s : State) (k : Stands m s) (d i
           let count = budget_fits.count unit.config config in
           let low = inside u.0 unit in
           let number = u.3 in
-          below x.units n (omega (arith, low, count, number))
+          item_below x.units n (omega (arith, low, count, number))

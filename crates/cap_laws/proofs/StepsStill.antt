@@ -1,5 +1,6 @@
 -- Entries without an action, and a number that is of no domain.
-use Rattle.std.proofs.Common.{◌≡◌, ◌<◌, ◌+◌, ℕ, zero, suc, Bool, true, false, List, [], ◌∷◌, length, refl, arith, ap, subst, sym, ◌∙◌, cond}
+use Rattle.std.proofs.lemmas.Option.{slice_get_within}
+use Rattle.std.proofs.Common.{◌≡◌, ◌<◌, ◌+◌, ℕ, suc, Bool, true, false, List, [], ◌∷◌, length, refl, arith, ap, subst, sym, ◌∙◌, cond}
 use Rattle.std.specs.Prelude.{Option, Some, None, Result, Ok, Err, is_some, slice_get, nat_lt, bytes_eq, ◌==◌, ◌-◌}
 use Rattle.sched_model.specs.declared.command.Command.{Command}
 use Rattle.sched_model.specs.declared.command.Command.TheVariants as command
@@ -55,11 +56,6 @@ still_tracks m d e s s2 none on same = record {
       record { budget = ap (λ (z : Credit2Domain). z.budget) (sym e2); others = λ n stop stops. subst (λ (z : Credit2Domain). Stops z n stop) e2 stops });
 }
 
-get_below : (domains : List DomConfig) (d : ℕ) (x : DomConfig) → slice_get domains d ≡ Some x → d < length domains
-get_below [] d x at = absurd (cc)
-get_below (y ∷ domains) zero x at = omega arith
-get_below (y ∷ domains) (suc d) x at = (let low = get_below domains d x at in omega (arith, low))
-
 -- a domain that a command names is one of the machine
 named_low : (n : ℕ) (name : List ℕ) (domains : List DomConfig) (d : ℕ) → domain_named n name domains ≡ Some d → d < n + length domains
 named_low n name [] d is = absurd (cc)
@@ -108,7 +104,7 @@ module _ (m : Machine) (d : ℕ) where
     no_home s k i p at there =
         let x = some-test_at p.domains d (λ x. true) there in
         let r = (k.range.pools i p at).domains d x.0 x.1 in
-        high (get_below m.config.domains d r.config r.at)
+        high (slice_get_within m.config.domains d r.config r.at)
 
     pub no_record : (s : State) → Known m s → credit2_in s d ≡ None
     no_record s k =

@@ -1,5 +1,5 @@
 -- A line with a command: it sets the cap of the domain, or leaves the domain as it is.
-use Rattle.std.proofs.Common.{◌≡◌, ℕ, suc, Bool, true, false, refl, ap, subst, sym, ◌∙◌, cond}
+use Rattle.std.proofs.Common.{◌≡◌, ℕ, suc, Bool, true, false, refl, ap, sym, ◌∙◌, cond}
 use Rattle.std.specs.Prelude.{Option, Some, None, Result, Ok, Err, option_map, is_some, slice_get, nat_le, not, ◌&&◌, ◌==◌, pos}
 use Rattle.sched_base.specs.Numbers.{domain as domain_number}
 use Rattle.sched_base.specs.Credit2Numbers.{total}
@@ -15,11 +15,11 @@ use Rattle.sched_model.specs.declared.work.CommandLine.{CommandLine}
 use Rattle.sched_model.specs.declared.state.State.{State}
 use Rattle.sched_model.specs.declared.state.Pool.{Pool}
 use Rattle.sched_model.specs.declared.state.Records.{Records}
-use Rattle.sched_model.specs.declared.state.Records.TheVariants.{Credit2Pool, RtdsPool, ArincPool, NullPool}
+use Rattle.sched_model.specs.declared.state.Records.TheVariants.{Credit2Pool}
 use Rattle.sched_model.specs.declared.state.Credit2Domain.{Credit2Domain}
 use Rattle.sched_model.specs.Places.{at_place, change_at, test_at}
 use Rattle.sched_model.specs.Policy.{kind_of, credit2_record}
-use Rattle.sched_model.specs.Pool.{settled, set_params, unit_count}
+use Rattle.sched_model.specs.Pool.{settled_pool, set_params, unit_count}
 use Rattle.sched_model.specs.Actions.{change_pool}
 use Rattle.sched_model.specs.Commands.{is_kind, carried_out, pool_of_plan}
 use Rattle.sched_model.specs.Machine.{after, after_command, event_of, verdict, settled_at, is_enabled, is_move_under_way}
@@ -27,11 +27,10 @@ use Rattle.sched_laws.proofs.Bools.{clash, is_same, or_left, or_right}
 use Rattle.sched_laws.proofs.Lists.{some-test_at}
 use Rattle.sched_records.specs.Records.{IsRecorded}
 use Rattle.term_laws.specs.RtdsTerm.{moves}
-use Rattle.term_laws.proofs.Plans.{PlanFits, IfOk}
 use Rattle.term_laws.proofs.RtdsSteps.{at_place-change_at}
 use Rattle.cap_laws.specs.CapTerm.{cap_set, ends_term, refills, credit2_in}
 use Rattle.cap_laws.proofs.CapTracks.{cap_at, number_in}
-use Rattle.term_laws.proofs.AtHome.{verdict_fits}
+use Rattle.sched_laws.proofs.Judged.{Fits, verdict_fits}
 use Rattle.cap_laws.proofs.StepsState.{Stands, HomeOf, home_is, credit2_is}
 use Rattle.cap_laws.proofs.StepsHolds.{StepGives, StateHolds, holds_in, holds_out, cap_of, on_before, on_after, is_now}
 use Rattle.cap_laws.proofs.StepsPlans.{verdict_cap, event_sets}
@@ -40,9 +39,7 @@ use Rattle.cap_laws.proofs.StepsSet.{set_pool, set_curs, set_is, set_budget, set
 -- a Credit2 pool has a record of its domain
 record_exists : (records : Records) (d count : ℕ) → is_kind kinds.Credit2 (kind_of records) ≡ true → IsRecorded records d count → (x : Credit2Domain) × (credit2_record records d ≡ Some x)
 record_exists (Credit2Pool own) d count kind has = (has.domain, has.at)
-record_exists (RtdsPool domains) d count kind has = absurd (cc)
-record_exists (ArincPool records) d count kind has = absurd (cc)
-record_exists (NullPool kept) d count kind has = absurd (cc)
+record_exists records d count kind has = absurd (cc)
 
 -- the line of the command, which may come
 pub line_is : (m : Machine) (s : State) (t : ℕ) → is_enabled m s t Xl ≡ true → (line : CommandLine) × (slice_get m.work.commands s.next_command ≡ Some line)
@@ -72,7 +69,7 @@ module _ (m : Machine) (d : ℕ) (s : State) (k : Stands m s) (k2 : Stands m (af
   abbrev the_home : Option ℕ → State
   the_home o = settled_at s.now o (elim o as (λ _. State) [ None ↦ begun | Some i ↦ change_pool i f begun ])
 
-  state_is : s2 ≡ change_pool home.home (settled s.now) (change_pool home.home f begun)
+  state_is : s2 ≡ change_pool home.home (settled_pool s.now) (change_pool home.home f begun)
   state_is =
       ap (λ (o : Option CommandLine). elim o as (λ _. State) [ None ↦ s | Some x ↦ after_command m s.now x s ]) is_line
       ∙ ap (λ (v : Result Plan Refusal). elim v as (λ _. State) [ Err fault ↦ begun | Ok pl ↦ settled_at s.now (pool_of_plan s pl) (carried_out m s.now pl begun) ]) is_plan
@@ -80,18 +77,18 @@ module _ (m : Machine) (d : ℕ) (s : State) (k : Stands m s) (k2 : Stands m (af
 
   at_next : at_place s2.pools home.home ≡ Some next
   at_next =
-      ap (λ (x : State). at_place x.pools home.home) state_is ∙ at_place-change_at home.home (settled s.now) (change_at home.home f s.pools)
-      ∙ ap (option_map (settled s.now)) (at_place-change_at home.home f s.pools ∙ ap (option_map f) home.at)
+      ap (λ (x : State). at_place x.pools home.home) state_is ∙ at_place-change_at home.home (settled_pool s.now) (change_at home.home f s.pools)
+      ∙ ap (option_map (settled_pool s.now)) (at_place-change_at home.home f s.pools ∙ ap (option_map f) home.at)
 
   there : test_at next.domains d (λ x. true) ≡ true
   there = home.there
 
   has_record : (x : Credit2Domain) × (credit2_record p.scheduler.records d ≡ Some x)
   has_record =
-      let fits : PlanFits s (plan.Credit2Dom (domain_number d) weight (Some n) answer) = subst (IfOk (PlanFits s)) is_plan (verdict_fits m s line.command) in
+      let fits : Fits s (plan.Credit2Dom (domain_number d) weight (Some n) answer) = verdict_fits m s line (plan.Credit2Dom (domain_number d) weight (Some n) answer) is_plan in
       let x = some-test_at p.domains d (λ x. true) home.there in
       let recorded = (k.records home.home p home.at).recorded d x.0 x.1 in
-      record_exists p.scheduler.records d (unit_count m.config.granularity x.0) (fits home.home p (home_is m s k.known d home.home home.pool home.at home.there) home.at) recorded
+      record_exists p.scheduler.records d (unit_count m.config.granularity x.0) (ap (is_kind kinds.Credit2) (fits.1 home.home p (home_is m s k.known d home.home home.pool home.at home.there) home.at)) recorded
 
   sets : cap_set m d (event_of m s s.now Xl) ≡ Some n
   sets = event_sets m s d s.now line is_line ∙ ap (verdict_cap d) is_plan ∙ ap (λ (b : Bool). cond b (Some n) None) (same d)

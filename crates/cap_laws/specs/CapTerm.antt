@@ -128,16 +128,16 @@ cap_terms m s d entries =
     ]
 
 -- how long the leg lies within the term
-abbrev pub shared : CapTerm → PlacedLeg → ℕ
-shared term placed = min placed.leg.until term.until - max placed.leg.from term.from
+abbrev pub shared_span : CapTerm → PlacedLeg → ℕ
+shared_span term placed = min placed.leg.until term.until - max placed.leg.from term.from
 
 -- whether the leg meets the term: they share a span
 abbrev pub meets : CapTerm → PlacedLeg → Bool
-meets term placed = nat_lt 0 (shared term placed)
+meets term placed = nat_lt 0 (shared_span term placed)
 
 -- the time for which the domain's units are on cores within the term, added up
 abbrev pub time_on : CapTerm → List PlacedLeg → ℕ
-time_on term placed = sum_by (shared term) placed
+time_on term placed = sum_by (shared_span term) placed
 
 -- the lateness of the legs that meet the term, added up
 abbrev pub late_within : CapTerm → List PlacedLeg → ℕ

@@ -12,7 +12,7 @@ use Rattle.sched_model.specs.declared.command.Which.TheVariants as which
 use Rattle.sched_model.specs.declared.machine.Machine.{Machine}
 use Rattle.sched_laws.specs.StateLaws.{state_after}
 use Rattle.term_laws.specs.RtdsTerm.{Leg}
-use Rattle.term_laws.specs.Examples.{forever, stall, xl, run_of}
+use Rattle.term_laws.specs.Examples.{endless_script, stall, xl, run_of}
 use Rattle.cap_laws.specs.CapTerm.{CapTerm, PlacedLeg, domain_legs, settings, cap_terms, time_on, late_within, is_undisturbed}
 
 -- a term, the time for which the domain's units are on cores within it, what was late, and whether the law speaks of the term
@@ -57,7 +57,7 @@ shared_cap = record {
     processors = 2;
     horizon = moment 10000000;
     pools = credit2_pool (codes "Pool-0") 3 ∷ [];
-    domains = credit2_domain (codes "a") 25 (forever ∷ forever ∷ []) ∷ [];
+    domains = credit2_domain (codes "a") 25 (endless_script ∷ endless_script ∷ []) ∷ [];
   };
   work = record {
     stalls = [];
@@ -91,7 +91,7 @@ stall_past_the_budget = record {
     processors = 1;
     horizon = moment 10000000;
     pools = credit2_pool (codes "Pool-0") 1 ∷ [];
-    domains = credit2_domain (codes "a") 25 (forever ∷ []) ∷ [];
+    domains = credit2_domain (codes "a") 25 (endless_script ∷ []) ∷ [];
   };
   work = record {
     stalls = stall 1000000 0 3000000 ∷ [];
@@ -107,7 +107,7 @@ set_after_overrun = record {
     processors = 1;
     horizon = moment 10000000;
     pools = credit2_pool (codes "Pool-0") 1 ∷ [];
-    domains = credit2_domain (codes "a") 33 (forever ∷ []) ∷ [];
+    domains = credit2_domain (codes "a") 33 (endless_script ∷ []) ∷ [];
   };
   work = record {
     stalls = stall 100000 0 9900000 ∷ [];
@@ -124,8 +124,8 @@ set_after_refill = record {
     horizon = moment 20000000;
     pools = credit2_pool (codes "Pool-0") 3 ∷ [];
     domains =
-        credit2_domain (codes "b") 0 (forever ∷ []) ∷
-        credit2_domain (codes "a") 33 (forever ∷ []) ∷
+        credit2_domain (codes "b") 0 (endless_script ∷ []) ∷
+        credit2_domain (codes "a") 33 (endless_script ∷ []) ∷
         [];
   };
   work = record {
@@ -142,7 +142,7 @@ moved_domain = record {
     processors = 2;
     horizon = moment 12000000;
     pools = credit2_pool (codes "Pool-0") 1 ∷ credit2_pool (codes "other") 2 ∷ [];
-    domains = credit2_domain (codes "a") 25 (forever ∷ []) ∷ [];
+    domains = credit2_domain (codes "a") 25 (endless_script ∷ []) ∷ [];
   };
   work = record {
     stalls = [];

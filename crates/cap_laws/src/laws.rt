@@ -15,5 +15,7 @@ ghost use Rattle.cap_laws.specs.CapTerm.{domain_legs, settings, cap_terms, Keeps
 /// cores that run the domain's units due at once, and what was late until then is recorded nowhere.
 /// Times are in nanoseconds.
 pub fn law_cap_term()
-    ensures { (m : Machine) → IsChecked m → (entries : List Entry) → IsRun m entries → (d : ℕ) → All (KeepsCap (settings m d 0 entries) (domain_legs (state_after m entries) d 0 entries)) (cap_terms m (state_after m entries) d entries) }
+    ensures { (m : Machine) → IsChecked m → (entries : List Entry) → IsRun m entries → (d : ℕ) →
+        All (KeepsCap (settings m d 0 entries) (domain_legs (state_after m entries) d 0 entries))
+        (cap_terms m (state_after m entries) d entries) }
 {}

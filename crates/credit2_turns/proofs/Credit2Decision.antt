@@ -20,21 +20,22 @@ use Rattle.sched_model.specs.declared.state.Records.TheVariants.{Credit2Pool}
 use Rattle.sched_model.specs.declared.ask.Ask.{Ask}
 use Rattle.sched_model.specs.Places.{at_place, change_at, change_item, has_unit}
 use Rattle.sched_model.specs.State.{is_runnable}
-use Rattle.sched_model.specs.Eligible.{is_allowed, is_eligible, passes, eligible, has_budget}
+use Rattle.sched_model.specs.Eligible.{is_allowed, is_eligible, passes, eligible_units as eligible, has_budget}
 use Rattle.sched_model.specs.Credit2 as credit2
-use Rattle.sched_model.specs.Credit2.{burn_unit, change_unit, change_domain, give_back, take_budget, credit_of, domain_has_budget, is_within_limit, greatest, max_weight}
+use Rattle.sched_model.specs.Credit2.{burn_unit, change_unit, change_domain, give_back, take_budget, credit_of, domain_has_budget, is_within_limit, greatest_unit, max_weight}
 use Rattle.sched_model.specs.Policy.{is_better, better_waits}
 use Rattle.sched_model.specs.Pool.{home_cores, ask_of}
 use Rattle.sched_laws.proofs.Bools.{and_left, and_right, both, one_of, either, clash}
 use Rattle.sched_laws.proofs.Choices.{at_unit}
 use Rattle.sched_laws.proofs.EachPlace.{by_option, by_cond}
+use Rattle.turn_laws.proofs.BestUnits.{is_best, none_best}
 use Rattle.turn_laws.specs.Stretches.{units}
-use Rattle.turn_laws.specs.Turns.{is_secure, is_funded, ahead}
+use Rattle.turn_laws.specs.Turns.{is_funded, ahead}
 use Rattle.turn_laws.specs.GoodDecisions.{DecidesWell, StirsNone, Secure, SecureThen, decision, next, Standing}
 use Rattle.turn_laws.proofs.Changed.{at_place-change_at, at_place-change_at_other}
 use Rattle.turn_laws.proofs.Waiting.{any_after, any_has, less_waits, filter_has, has_filter}
 use Rattle.credit2_turns.specs.Credit2Turns.{face, faces, IsStill, HasUnit}
-use Rattle.credit2_turns.proofs.Credit2Faces.{credit_at, credit_is, above, ahead_is, credits_change, faces_change, face_units, same_most, fewer_above, some_behind, above_most, face_of_unit, is_greatest, greatest_none}
+use Rattle.credit2_turns.proofs.Credit2Faces.{credit_at, credit_is, above, ahead_is, credits_change, faces_change, face_units, same_most, fewer_above, some_behind, above_most, face_of_unit, credit_order, greatest_scan}
 use Rattle.credit2_turns.proofs.Credit2Steps.{get_change_own, change_item_same, change_at_same, Has, has_change, burn_same, burn_credit, credit_then, credit_kept, gives, funded_gives, funded_takes, takes_funded, funded_runs, gives_budget, again_no_more, takes_less, LeavesOthers, gives_leaves, takes_leaves, runs_leaves}
 use Rattle.turn_laws.specs.Turns as turns
 use Rattle.turn_laws.proofs.Tests.{no_true}
@@ -176,8 +177,8 @@ module _ (m : Machine) (t : ℕ) (queue : List UnitId) (affinity : List (Option 
     within_same since rs same = ap (λ l. credit2.is_within_limit (record records { limit = l }) since t) same
 
     -- the choice, and the units that may be chosen
-    chosen_is : c.leaving ≡ false → chosen ≡ cond within own (greatest burned own waiting)
-    chosen_is stays = ap (λ b. cond b None (cond within own (greatest burned own waiting))) stays
+    chosen_is : c.leaving ≡ false → chosen ≡ cond within own (greatest_unit burned own waiting)
+    chosen_is stays = ap (λ b. cond b None (cond within own (greatest_unit burned own waiting))) stays
 
     record May (w : UnitId) : Type 0 where
       pub runs : is_runnable m.config.granularity pool w ≡ true
@@ -222,13 +223,13 @@ module _ (m : Machine) (t : ℕ) (queue : List UnitId) (affinity : List (Option 
 
     chosen_may : (w : UnitId) → chosen ≡ Some w → May w
     chosen_may w is = elim (either c.leaving) [
-      | inl goes ↦ absurd (let e : None ≡ Some w = sym (ap (λ b. cond b None (cond within own (greatest burned own waiting))) goes) ∙ is in cc)
+      | inl goes ↦ absurd (let e : None ≡ Some w = sym (ap (λ b. cond b None (cond within own (greatest_unit burned own waiting))) goes) ∙ is in cc)
       | inr stays ↦ by_within within (sym (chosen_is stays) ∙ is)
     ]
       where
-        by_within : (b : Bool) → cond b own (greatest burned own waiting) ≡ Some w → May w
+        by_within : (b : Bool) → cond b own (greatest_unit burned own waiting) ≡ Some w → May w
         by_within true e = own_may w e
-        by_within false e = elim (is_greatest burned own waiting w e).source [ inl o ↦ own_may w o | inr has ↦ waiting_may w has ]
+        by_within false e = elim (is_best (credit_order burned) (greatest_scan burned) own waiting w e).source [ inl o ↦ own_may w o | inr has ↦ waiting_may w has ]
 
     -- what is funded stays so while units go off and on
     Funded : ℕ → Credit2Domain → Type 0
@@ -498,18 +499,18 @@ module _ (m : Machine) (t : ℕ) (queue : List UnitId) (affinity : List (Option 
     stays_on : (u : UnitId) → c.cur ≡ Some u → is_allowed scheduler home r u ≡ true → chosen ≡ Some u → (is_within_limit records c.since.0 t ≡ true) ⊎ ((e : UnitId) → has_unit waiting e ≡ true → int_lt (credit_of burned u) (credit_of burned e) ≡ false) → Kept u
     stays_on u cur allowed again why = (u, unit_next ∙ again, inl (refl, (let a = ahead_next u in omega (arith, a)), again_stirs_none u cur again allowed why))
 
-    kept_by : (u : UnitId) → c.leaving ≡ false → c.cur ≡ Some u → Secure m t pool r c r u → (b : Bool) → within ≡ b → (o : Option UnitId) → greatest burned own waiting ≡ o → Kept u
+    kept_by : (u : UnitId) → c.leaving ≡ false → c.cur ≡ Some u → Secure m t pool r c r u → (b : Bool) → within ≡ b → (o : Option UnitId) → greatest_unit burned own waiting ≡ o → Kept u
     kept_by u stays cur secure true is o best =
         let o_is = own_secure u cur secure in
         let allowed = and_right (runs u) _ (and_left (runs u && is_allowed scheduler home r u) _ secure) in
-        stays_on u cur allowed (chosen_is stays ∙ ap (λ b. cond b own (greatest burned own waiting)) is ∙ o_is) (inl (sym (within_same c.since.0 burned limit_burned) ∙ and_right (is_some own) _ is))
-    kept_by u stays cur secure false is None best = absurd (let e : Some u ≡ None = sym (own_secure u cur secure) ∙ (greatest_none burned own waiting best).0 in cc)
+        stays_on u cur allowed (chosen_is stays ∙ ap (λ b. cond b own (greatest_unit burned own waiting)) is ∙ o_is) (inl (sym (within_same c.since.0 burned limit_burned) ∙ and_right (is_some own) _ is))
+    kept_by u stays cur secure false is None best = absurd (let e : Some u ≡ None = sym (own_secure u cur secure) ∙ (none_best (credit_order burned) (greatest_scan burned) own waiting best).0 in cc)
     kept_by u stays cur secure false is (Some w) best =
-        let g = is_greatest burned own waiting w best in
+        let g = is_best (credit_order burned) (greatest_scan burned) own waiting w best in
         let allowed = and_right (runs u) _ (and_left (runs u && is_allowed scheduler home r u) _ secure) in
-        let chose : chosen ≡ Some w = chosen_is stays ∙ ap (λ b. cond b own (greatest burned own waiting)) is ∙ best in
+        let chose : chosen ≡ Some w = chosen_is stays ∙ ap (λ b. cond b own (greatest_unit burned own waiting)) is ∙ best in
         elim (g.over u (own_secure u cur secure)) [
-          | inl same ↦ stays_on u cur allowed (chose ∙ ap (λ x. Some x) same) (inr (λ e has. subst (λ x. int_lt (credit_of burned x) (credit_of burned e) ≡ false) same (g.none_above e has)))
+          | inl same ↦ stays_on u cur allowed (chose ∙ ap (λ x. Some x) same) (inr (λ e has. subst (λ x. int_lt (credit_of burned x) (credit_of burned e) ≡ false) same (g.none_better e has)))
           | inr greater ↦ (
             w,
             unit_next ∙ chose,
@@ -537,8 +538,8 @@ module _ (m : Machine) (t : ℕ) (queue : List UnitId) (affinity : List (Option 
         (λ w e o h. sym (ap (λ (y : Records). is_better y w x.since.0 t e) records_same) ∙ h) (λ test e. any_after test (decision m t pool r c).unit queue e) stirred in
         let own_none : own ≡ None = ap (λ (o : Option UnitId). elim o as (λ _. Option UnitId) [ None ↦ None | Some w ↦ cond (ask.runnable && is_allowed scheduler home r w && domain_has_budget burned w) (Some w) None ]) cur in
         let not_within : within ≡ false = ap (λ o. is_some o && is_within_limit burned c.since.0 t) own_none in
-        let best : greatest burned own waiting ≡ None = sym (ap (λ b. cond b own (greatest burned own waiting)) not_within) ∙ sym (chosen_is stays) ∙ none in
-        let empty : waiting ≡ [] = (greatest_none burned own waiting best).1 in
+        let best : greatest_unit burned own waiting ≡ None = sym (ap (λ b. cond b own (greatest_unit burned own waiting)) not_within) ∙ sym (chosen_is stays) ∙ none in
+        let empty : waiting ≡ [] = (none_best (credit_order burned) (greatest_scan burned) own waiting best).1 in
         let burned_same : burned ≡ records = burned_is ∙ ap given cur in
         record {
           own = no_true _ (λ stirred. (
@@ -551,7 +552,7 @@ module _ (m : Machine) (t : ℕ) (queue : List UnitId) (affinity : List (Option 
 
     pub credit2_well : DecidesWell m t pool r c
     credit2_well = record {
-      leaves = λ goes. unit_next ∙ ap (λ b. cond b None (cond within own (greatest burned own waiting))) goes;
+      leaves = λ goes. unit_next ∙ ap (λ b. cond b None (cond within own (greatest_unit burned own waiting))) goes;
       chosen = λ stays w is. (
           let chose : chosen ≡ Some w = sym unit_next ∙ is in
           let may = chosen_may w chose in
@@ -562,7 +563,7 @@ module _ (m : Machine) (t : ℕ) (queue : List UnitId) (affinity : List (Option 
           let d = some_behind (faces records.domains) w (face may.has.domain) may.has.record_of.credit fw.0 fw.1 in
           let most = still.count in
           (secure_then r w may.runs may.allowed (chosen_funded w chose may), omega (arith, a, b, b2, d, most)));
-      kept = λ stays u cur secure. kept_by u stays cur secure within refl (greatest burned own waiting) refl;
+      kept = λ stays u cur secure. kept_by u stays cur secure within refl (greatest_unit burned own waiting) refl;
       idle = λ stays cur none. idle_by stays cur (sym unit_next ∙ none);
       few = λ u. (let a = ahead_next u in let b = ahead_is records u in let d = above_most (credit_at (faces records.domains) u) (faces records.domains) in let most = still.count in omega (arith, a, b, d, most));
       others = λ k x u other at cur secure. (

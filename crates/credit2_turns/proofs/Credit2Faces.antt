@@ -1,21 +1,18 @@
 -- The weights, caps and credits of a Credit2 pool, which a decision without a reset leaves as they are, and the greatest of some units.
-use Rattle.std.proofs.Common.{◌≡◌, ◌≤◌, ◌+◌, ℕ, zero, suc, Bool, true, false, List, [], ◌∷◌, refl, ap, cond, subst, sym, ◌∙◌, ◌⊎◌, inl, inr}
+use Rattle.std.proofs.Common.{◌≡◌, ◌≤◌, ◌+◌, ℕ, zero, suc, Bool, true, List, [], ◌∷◌, refl, ap, sym, ◌∙◌, ◌⊎◌}
 use Rattle.std.specs.Prelude.{Option, Some, None, ℤ, pos, int_lt, map, fold, max, option_map, slice_get}
 use Rattle.sched_base.specs.declared.UnitId.{UnitId}
 use Rattle.sched_model.specs.declared.state.Credit2Records.{Credit2Records}
 use Rattle.sched_model.specs.declared.state.Credit2Domain.{Credit2Domain}
 use Rattle.sched_model.specs.declared.state.Credit2Unit.{Credit2Unit}
 use Rattle.sched_model.specs.declared.state.Records.TheVariants.{Credit2Pool}
-use Rattle.sched_model.specs.Places.{at_place, change_at, change_item, numbered, has_unit, same_unit}
-use Rattle.sched_model.specs.Credit2.{credit_of, greatest}
-use Rattle.sched_laws.proofs.Bools.{one_of, or_more}
-use Rattle.sched_laws.proofs.Choices.{same_unit_same}
-use Rattle.sched_laws.proofs.Counts.{same_unit_refl}
+use Rattle.sched_model.specs.Places.{at_place, change_at, change_item, numbered_items}
+use Rattle.sched_model.specs.Credit2.{credit_of, greatest_unit}
 use Rattle.sched_laws.specs.Counts.{total}
+use Rattle.turn_laws.proofs.BestUnits.{IsOrder, IsScan}
 use Rattle.turn_laws.specs.Turns.{how_many, one, ahead}
 use Rattle.turn_laws.proofs.Sums.{count_no_more, count_less, total_no_more, total_less}
 use Rattle.credit2_turns.proofs.Credit2Numbers.{lt_irrefl, lt_least, lt_trans}
-use Rattle.turn_laws.proofs.Tests.{or_later}
 use Rattle.turn_laws.specs.Stretches.{units}
 use Rattle.credit2_turns.specs.Credit2Turns.{Face, credits, face, Faces, faces, unit_total}
 
@@ -76,15 +73,15 @@ face_units d units same = ap (λ cs. (d.weight, d.cap, cs)) same
 
 -- the greatest weight
 weights : ℕ → Faces → List ℕ
-weights n fs = map (λ (e : ℕ × Face). e.1.0) (numbered n fs)
+weights n fs = map (λ (e : ℕ × Face). e.1.0) (numbered_items n fs)
 
-weights_are : (n : ℕ) (domains : List (Option Credit2Domain)) → map (λ (e : ℕ × Credit2Domain). e.1.weight) (numbered n domains) ≡ map (λ (e : ℕ × Face). e.1.0) (numbered n (faces domains))
+weights_are : (n : ℕ) (domains : List (Option Credit2Domain)) → map (λ (e : ℕ × Credit2Domain). e.1.weight) (numbered_items n domains) ≡ map (λ (e : ℕ × Face). e.1.0) (numbered_items n (faces domains))
 weights_are n [] = refl
 weights_are n (None ∷ domains) = weights_are (suc n) domains
 weights_are n (Some d ∷ domains) = ap (λ ws. d.weight ∷ ws) (weights_are (suc n) domains)
 
-pub same_most : (a b : List (Option Credit2Domain)) → faces a ≡ faces b → fold max 0 (map (λ (e : ℕ × Credit2Domain). e.1.weight) (numbered 0 a)) ≡ fold max 0 (map (λ (e : ℕ × Credit2Domain). e.1.weight) (numbered 0 b))
-same_most a b same = ap (fold max 0) (weights_are 0 a ∙ ap (λ fs. map (λ (e : ℕ × Face). e.1.0) (numbered 0 fs)) same ∙ sym (weights_are 0 b))
+pub same_most : (a b : List (Option Credit2Domain)) → faces a ≡ faces b → fold max 0 (map (λ (e : ℕ × Credit2Domain). e.1.weight) (numbered_items 0 a)) ≡ fold max 0 (map (λ (e : ℕ × Credit2Domain). e.1.weight) (numbered_items 0 b))
+same_most a b same = ap (fold max 0) (weights_are 0 a ∙ ap (λ fs. map (λ (e : ℕ × Face). e.1.0) (numbered_items 0 fs)) same ∙ sym (weights_are 0 b))
 
 -- fewer credits are above a greater one
 pub fewer_above : (fs : Faces) (z : ℤ) (w : UnitId) (f : Face) (c : ℤ) → at_place fs w.dom.0 ≡ Some f → slice_get f.2 w.n ≡ Some c → int_lt z c ≡ true → above c fs + 1 ≤ above z fs
@@ -114,69 +111,16 @@ face_of_unit domains u d x at get =
     let b = get_credits d.units u.n x get in
     (a, b, ap (λ (o : Option Face). elim o as (λ _. ℤ) [ None ↦ pos 0 | Some f ↦ credit_in f.2 u.n ]) a ∙ ap (λ (o : Option ℤ). elim o as (λ _. ℤ) [ None ↦ pos 0 | Some c ↦ c ]) b)
 
--- what the greatest of some units is: one of them, and none has more credit
-pub record IsGreatest (records : Credit2Records) (best : Option UnitId) (xs : List UnitId) (w : UnitId) : Type 0 where
-  pub source : (best ≡ Some w) ⊎ (has_unit xs w ≡ true)
-  pub none_above : (e : UnitId) → has_unit xs e ≡ true → int_lt (credit_of records w) (credit_of records e) ≡ false
-  pub over : (b : UnitId) → best ≡ Some b → (w ≡ b) ⊎ (int_lt (credit_of records b) (credit_of records w) ≡ true)
+-- which of two units has more credit is an order, and the unit of greatest credit is the best one by it
+abbrev pub has_more : Credit2Records → UnitId → UnitId → Bool
+has_more records u b = int_lt (credit_of records b) (credit_of records u)
 
-module _ (records : Credit2Records) where
-  abbrev less : UnitId → UnitId → Bool
-  less a b = int_lt (credit_of records a) (credit_of records b)
+pub credit_order : (records : Credit2Records) → IsOrder (has_more records)
+credit_order records = record {
+  irrefl = λ u. lt_irrefl (credit_of records u);
+  trans = λ a b e x y. lt_trans (credit_of records e) (credit_of records b) (credit_of records a) y x;
+  least = λ a b e x y. lt_least (credit_of records a) (credit_of records b) (credit_of records e) x y;
+}
 
-  not_above : (w b : UnitId) → (w ≡ b) ⊎ (less b w ≡ true) → less w b ≡ false
-  not_above w b over = elim over [
-    | inl e ↦ subst (λ x. less x b ≡ false) (sym e) (lt_irrefl (credit_of records b))
-    | inr greater ↦ lt_least (credit_of records w) (credit_of records b) (credit_of records b) greater (lt_irrefl (credit_of records b))
-  ]
-
-  pub is_greatest : (best : Option UnitId) (xs : List UnitId) (w : UnitId) → greatest records best xs ≡ Some w → IsGreatest records best xs w
-  is_greatest best [] w is = record {
-    source = inl is;
-    none_above = λ e has. absurd (cc);
-    over = λ b best_is. inl (let e : Some w ≡ Some b = sym is ∙ best_is in cc);
-  }
-  is_greatest None (u ∷ xs) w is =
-      let r = is_greatest (Some u) xs w is in
-      record {
-        source = inr (elim r.source [ inl e ↦ (let same : u ≡ w = cc in or_more (same_unit w u) _ (subst (λ x. same_unit x u ≡ true) same (same_unit_refl u))) | inr has ↦ or_later (same_unit w u) has ]);
-        none_above = λ e has. elim (one_of (same_unit e u) (has_unit xs e) has) [
-          | inl same ↦ subst (λ x. less w x ≡ false) (sym (same_unit_same e u same)) (not_above w u (r.over u refl))
-          | inr rest ↦ r.none_above e rest
-        ];
-        over = λ b best_is. absurd (cc);
-      }
-  is_greatest (Some b) (u ∷ xs) w is =
-      elim (less b u) as (λ t. less b u ≡ t → greatest records (Some (cond t u b)) xs ≡ Some w → IsGreatest records (Some b) (u ∷ xs) w) [
-        | true ↦ λ greater h. (
-            let r = is_greatest (Some u) xs w h in
-            record {
-              source = inr (elim r.source [ inl e ↦ (let same : u ≡ w = cc in or_more (same_unit w u) _ (subst (λ x. same_unit x u ≡ true) same (same_unit_refl u))) | inr has ↦ or_later (same_unit w u) has ]);
-              none_above = λ e has. elim (one_of (same_unit e u) (has_unit xs e) has) [
-                | inl same ↦ subst (λ x. less w x ≡ false) (sym (same_unit_same e u same)) (not_above w u (r.over u refl))
-                | inr rest ↦ r.none_above e rest
-              ];
-              over = λ b2 best_is. (
-                  let same : b ≡ b2 = cc in
-                  inr (subst (λ x. less x w ≡ true) same (elim (r.over u refl) [ inl e ↦ subst (λ x. less b x ≡ true) (sym e) greater | inr wu ↦ lt_trans (credit_of records b) (credit_of records u) (credit_of records w) greater wu ])));
-            })
-        | false ↦ λ not h. (
-            let r = is_greatest (Some b) xs w h in
-            record {
-              source = elim r.source [ inl e ↦ inl e | inr has ↦ inr (or_later (same_unit w u) has) ];
-              none_above = λ e has. elim (one_of (same_unit e u) (has_unit xs e) has) [
-                | inl same ↦ subst (λ x. less w x ≡ false) (sym (same_unit_same e u same)) (elim (r.over b refl) [ inl e2 ↦ subst (λ x. less x u ≡ false) (sym e2) not | inr wb ↦ lt_least (credit_of records w) (credit_of records b) (credit_of records u) wb not ])
-                | inr rest ↦ r.none_above e rest
-              ];
-              over = r.over;
-            })
-      ] refl is
-
-  greatest_some : (b : UnitId) (xs : List UnitId) → greatest records (Some b) xs ≡ None → ⊥
-  greatest_some b [] is = absurd (cc)
-  greatest_some b (u ∷ xs) is = greatest_some (cond (less b u) u b) xs is
-
-  pub greatest_none : (best : Option UnitId) (xs : List UnitId) → greatest records best xs ≡ None → (best ≡ None) × (xs ≡ [])
-  greatest_none best [] is = (is, refl)
-  greatest_none None (u ∷ xs) is = absurd (greatest_some u xs is)
-  greatest_none (Some b) (u ∷ xs) is = absurd (greatest_some b (u ∷ xs) is)
+pub greatest_scan : (records : Credit2Records) → IsScan (has_more records) (greatest_unit records)
+greatest_scan records = record { ends = λ best. refl; starts = λ u xs. refl; goes_on = λ b u xs. refl }

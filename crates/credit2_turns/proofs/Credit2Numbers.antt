@@ -33,6 +33,3 @@ rest_kept b h q x y = grind (arith, ints)
 
 pub minus_none : (a : ℤ) → a -ℤ pos 0 ≡ a
 minus_none a = omega (arith, ints)
-
-pub plus_none : (a : ℤ) → a +ℤ pos 0 ≡ a
-plus_none a = omega (arith, ints)

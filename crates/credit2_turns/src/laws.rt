@@ -13,5 +13,7 @@ ghost use Rattle.credit2_turns.specs.Credit2Turns.{IsStill};
 /// this very moment: the credits stay as they are, so the core's own unit is lost to one of more credit alone, or because its
 /// domain's budget is spent, and then once; and no domain that owes nothing comes to owe something.
 pub fn law_credit2_decides_well()
-    ensures { (m : Machine) (t : ℕ) (pool : Pool) (records : Credit2Records) → pool.scheduler.records ≡ Credit2Pool records → (r : ℕ) (c : Resource) → Standing m pool r c → IsStill m t pool records r c → DecidesWell m t pool r c }
+    ensures { (m : Machine) (t : ℕ) (pool : Pool) (records : Credit2Records) →
+        pool.scheduler.records ≡ Credit2Pool records → (r : ℕ) (c : Resource) →
+        Standing m pool r c → IsStill m t pool records r c → DecidesWell m t pool r c }
 {}

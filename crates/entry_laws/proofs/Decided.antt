@@ -23,7 +23,7 @@ use Rattle.sched_model.specs.State.{has_come}
 use Rattle.sched_model.specs.Arinc.{Window, present_window}
 use Rattle.sched_model.specs.Eligible.{Decision}
 use Rattle.sched_model.specs.Policy as policy
-use Rattle.sched_model.specs.Policy.{decision_by, choose_window, credit2_record, next_refill}
+use Rattle.sched_model.specs.Policy.{decision_by, arinc_decision, credit2_record, next_refill}
 use Rattle.sched_model.specs.Credit2 as credit2
 use Rattle.sched_model.specs.Rtds as rtds
 use Rattle.sched_model.specs.NullScheduler as null
@@ -52,17 +52,17 @@ credit_least count t records u low fits =
     let last = here.last in
     omega (arith, ints, least, last, low)))
 
-decide_resets : (count : ℕ) (ask : Ask) (scheduler : Scheduler) (records : Credit2Records) (chosen : Option UnitId) → ask.at ≤ most_span → Credit2Fits count ask.at records → (credit2.decide ask scheduler records chosen).reset < 2 ^ 63
+decide_resets : (count : ℕ) (ask : Ask) (scheduler : Scheduler) (records : Credit2Records) (chosen : Option UnitId) → ask.at.0 ≤ most_span → Credit2Fits count ask.at.0 records → (credit2.decide ask scheduler records chosen).reset < 2 ^ 63
 decide_resets count ask scheduler records None low fits = omega arith
 decide_resets count ask scheduler records (Some u) low fits =
-    by_cond (λ (n : ℕ). n < 2 ^ 63) (int_lt (pos 0) (credit2.credit_of records u) || elim records.last_reset as (λ _. Bool) [ None ↦ false | Some at ↦ at == ask.at ]) 0 (resets (credit2.credit_of records u))
-    (λ none. omega arith) (λ some. resets_low (credit2.credit_of records u) (credit_least count ask.at records u low fits))
+    by_cond (λ (n : ℕ). n < 2 ^ 63) (int_lt (pos 0) (credit2.credit_of records u) || elim records.last_reset as (λ _. Bool) [ None ↦ false | Some at ↦ at == ask.at.0 ]) 0 (resets (credit2.credit_of records u))
+    (λ none. omega arith) (λ some. resets_low (credit2.credit_of records u) (credit_least count ask.at.0 records u low fits))
 
 rtds_resets : (ask : Ask) (domains : List (Option (List RtdsUnit))) (chosen : Option UnitId) → (rtds.decide ask domains chosen).reset < 2 ^ 63
 rtds_resets ask domains None = omega arith
 rtds_resets ask domains (Some u) = omega arith
 
-window_resets : (ask : Ask) (scheduler : Scheduler) (window : Option Window) → (choose_window ask scheduler window).reset < 2 ^ 63
+window_resets : (ask : Ask) (scheduler : Scheduler) (window : Option Window) → (arinc_decision ask scheduler window).reset < 2 ^ 63
 window_resets ask scheduler None = omega arith
 window_resets ask scheduler (Some window) = omega arith
 
@@ -70,14 +70,14 @@ null_resets : (core : ℕ) (kept : List (Option UnitId)) (chosen : Option UnitId
 null_resets core kept None = omega arith
 null_resets core kept (Some u) = omega arith
 
-pub decision_resets : (count cores : ℕ) (records : Records) (ask : Ask) (scheduler : Scheduler) → ask.at ≤ most_span → RecordsFit count cores ask.at records → (decision_by records ask scheduler).reset < 2 ^ 63
+pub decision_resets : (count cores : ℕ) (records : Records) (ask : Ask) (scheduler : Scheduler) → ask.at.0 ≤ most_span → RecordsFit count cores ask.at.0 records → (decision_by records ask scheduler).reset < 2 ^ 63
 decision_resets count cores (Credit2Pool records) ask scheduler low fits =
-    decide_resets count ask scheduler (credit2.burn_cur ask.cur ask.at records) (credit2.choice ask scheduler (credit2.burn_cur ask.cur ask.at records)) low (c_burn_cur count ask.at ask.cur records fits)
-decision_resets count cores (RtdsPool domains) ask scheduler low fits = rtds_resets ask (rtds.burn_cur ask.cur ask.at domains) (rtds.choice ask scheduler (rtds.burn_cur ask.cur ask.at domains))
-decision_resets count cores (ArincPool records) ask scheduler low fits = window_resets ask scheduler (cond ask.leaving None (present_window records ask.at))
+    decide_resets count ask scheduler (credit2.burn_cur ask.cur ask.at.0 records) (credit2.choice ask scheduler (credit2.burn_cur ask.cur ask.at.0 records)) low (c_burn_cur count ask.at.0 ask.cur records fits)
+decision_resets count cores (RtdsPool domains) ask scheduler low fits = rtds_resets ask (rtds.burn_cur ask.cur ask.at.0 domains) (rtds.choice ask scheduler (rtds.burn_cur ask.cur ask.at.0 domains))
+decision_resets count cores (ArincPool records) ask scheduler low fits = window_resets ask scheduler (cond ask.leaving None (present_window records ask.at.0))
 decision_resets count cores (NullPool kept) ask scheduler low fits =
-    by_cond (λ (d : Decision). d.reset < 2 ^ 63) ask.leaving (null.decide ask.core (clear_at ask.core kept) None) (null.decide ask.core kept (null.choice ask scheduler kept))
-    (λ leaves. omega arith) (λ stays. null_resets ask.core kept (null.choice ask scheduler kept))
+    by_cond (λ (d : Decision). d.reset < 2 ^ 63) ask.leaving (null.decide ask.core.0 (clear_at ask.core.0 kept) None) (null.decide ask.core.0 kept (null.choice ask scheduler kept))
+    (λ leaves. omega arith) (λ stays. null_resets ask.core.0 kept (null.choice ask scheduler kept))
 
 -- what a running unit holds of a budget
 abbrev holding : Credit2Unit → ℕ
@@ -156,7 +156,7 @@ refill_low m checked t d (NullPool kept) low range come = absurd (cc)
 refill_low m checked t d (Credit2Pool records) low range come = record {
   domain = inside (at_place records.domains d) refl come;
   periods = by_option (λ (n : ℕ). n < 2 ^ 63) (at_place records.domains d) _ _ (λ none. omega arith) (λ x at. periods_low x t low);
-  budget = by_option IsSigned (at_place (credit2.refilled t d records).domains d) _ _ (λ none. omega arith)
+  budget = by_option IsSigned (at_place (credit2.refilled_pool t d records).domains d) _ _ (λ none. omega arith)
       (λ y at. elim (read_change_at d d (credit2.refill_domain (credit2.max_weight records) t) records.domains y at) [
         | inl was ↦ absurd (was.0 refl)
         | inr r ↦ subst (λ (z : Credit2Domain). IsSigned z.budget) r.3 (refilled_signed m t (credit2.max_weight records) r.0 low (range.2 d r.0 r.1))

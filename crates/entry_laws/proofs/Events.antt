@@ -3,7 +3,7 @@ use Rattle.std.proofs.Common.{◌≡◌, ◌<◌, ◌≤◌, ◌+◌, ◌*◌, �
 use Rattle.std.specs.Prelude.{Option, Some, None, is_some, is_none, unwrap_or, slice_get, ◌&&◌, ◌||◌}
 use Rattle.std.specs.List.{list_any, list_all}
 use Rattle.std.specs.Option.{IfSome}
-use Rattle.sched_base.specs.Numbers.{span, core, pool as pool_number}
+use Rattle.sched_base.specs.Numbers.{span, core, pool as pool_number, domain}
 use Rattle.sched_base.specs.declared.Span.{Span}
 use Rattle.sched_base.specs.declared.PoolId.{PoolId}
 use Rattle.sched_base.specs.declared.UnitId.{UnitId}
@@ -20,7 +20,7 @@ use Rattle.sched_model.specs.declared.state.Resource.{Resource}
 use Rattle.sched_model.specs.declared.state.Processor.{Processor}
 use Rattle.sched_model.specs.declared.state.Vcpu.{Vcpu}
 use Rattle.sched_model.specs.declared.state.RtdsUnit.{RtdsUnit}
-use Rattle.sched_model.specs.Places.{at_place, numbered, test_at, is_unit, has_unit}
+use Rattle.sched_model.specs.Places.{at_place, numbered_items, test_at, is_unit, has_unit}
 use Rattle.sched_model.specs.State.{is_runnable, is_awake, is_up, has_come}
 use Rattle.sched_model.specs.Opening.{core_count}
 use Rattle.sched_model.specs.Eligible.{Decision}
@@ -31,7 +31,7 @@ use Rattle.sched_model.specs.Pool.{enabled_in, event_in, ask_of, guest_of, proce
 use Rattle.sched_model.specs.Checked.{IsChecked, most_span}
 use Rattle.sched_laws.proofs.Bools.{and_left, and_right, one_of}
 use Rattle.sched_laws.proofs.EachPlace.{by_option, by_cond, found_at}
-use Rattle.sched_laws.proofs.Lists.{some-test_at}
+use Rattle.sched_laws.proofs.Lists.{some-test_at, some_is}
 use Rattle.sched_laws.proofs.Choices.{at_unit, is_unit_same, decision_has}
 use Rattle.sched_laws.specs.Known.{IfUnit}
 use Rattle.sched_ranges.specs.Ranges.{IsUnitOf, PoolInRange}
@@ -39,7 +39,7 @@ use Rattle.sched_ranges.specs.Fits.{RtdsFits}
 use Rattle.sched_ranges.proofs.Records.{DecisionFits, decision_fits, replenish_fits}
 use Rattle.sched_ranges.proofs.Walk.{CoreFits, PoolFits}
 use Rattle.sched_print.specs.Ranges.{IsMoment, IsPool, IsUnit, IsVcpu, IsPrintableEvent}
-use Rattle.entry_laws.proofs.Numbers.{some_there, processor_low, unit_low, if_unit_low, domain_low, core_inside, core_low, vcpu_low}
+use Rattle.entry_laws.proofs.Numbers.{processor_low, unit_low, if_unit_low, domain_low, core_inside, core_low, vcpu_low}
 use Rattle.entry_laws.proofs.Judged.{record_fits}
 use Rattle.entry_laws.proofs.Decided.{decision_resets, refill_low}
 
@@ -104,7 +104,7 @@ module _ (m : Machine) (checked : IsChecked m) (t : ℕ) (pool : Pool) (low : t 
   queued_low u is = unit_low m checked u (elim (one_of (has_unit pool.scheduler.queue u) (is_some (pools.core_of pool u)) is) [
     | inl waits ↦ at_unit (IsUnitOf m) u pool.scheduler.queue waits fits.queue
     | inr runs ↦ (
-        let r = some_there (pools.core_of pool u) runs in
+        let r = some_is (pools.core_of pool u) runs in
         let c = found_at r.0 (λ (c : Resource). is_unit c.cur u) pool.resources r.1 in
         subst (IfUnit (IsUnitOf m)) (is_unit_same c.0.cur u c.2) (fits.cores r.0 c.0 c.1).cur)
   ])
@@ -114,14 +114,14 @@ module _ (m : Machine) (checked : IsChecked m) (t : ℕ) (pool : Pool) (low : t 
       let first = and_left ((has_unit pool.scheduler.queue u || is_some (pools.core_of pool u)) && policy.replenish_due pool.scheduler.records t u) (lowest_up t pool) on in
       let due = and_right (has_unit pool.scheduler.queue u || is_some (pools.core_of pool u)) (policy.replenish_due pool.scheduler.records t u) first in
       let records = replenish_fits (length m.config.domains) (core_count m.config) t pool.scheduler.records u due fits.records in
-      let next : (x : RtdsUnit) → pools.replenished t u pool ≡ Some x → RtdsFits t x = λ x is. record_fits (length m.config.domains) (core_count m.config) t (policy.replenish pool.scheduler.records t u) u x records is in (
+      let next : (x : RtdsUnit) → pools.replenished_unit t u pool ≡ Some x → RtdsFits t x = λ x is. record_fits (length m.config.domains) (core_count m.config) t (policy.replenish pool.scheduler.records t u) u x records is in (
         queued_low u (and_left (has_unit pool.scheduler.queue u || is_some (pools.core_of pool u)) (policy.replenish_due pool.scheduler.records t u) first),
-        by_option IsMoment (pools.replenished t u pool) _ _ (λ none. omega arith) (λ x is. (let l = (next x is).deadline in omega (arith, l, low))),
-        by_option IsMoment (pools.replenished t u pool) _ _ (λ none. omega arith) (λ x is. (let l = (next x is).deadline in omega (arith, l, low))),
-        by_option (λ (s : Span). s.0 < 2 ^ 63) (pools.replenished t u pool) _ _ (λ none. omega arith) (λ x is. (let l = (next x is).budget.most in omega (arith, l))),
+        by_option IsMoment (pools.replenished_unit t u pool) _ _ (λ none. omega arith) (λ x is. (let l = (next x is).deadline in omega (arith, l, low))),
+        by_option IsMoment (pools.replenished_unit t u pool) _ _ (λ none. omega arith) (λ x is. (let l = (next x is).deadline in omega (arith, l, low))),
+        by_option (λ (s : Span). s.0 < 2 ^ 63) (pools.replenished_unit t u pool) _ _ (λ none. omega arith) (λ x is. (let l = (next x is).budget.most in omega (arith, l))),
       )
 
-  refill_printable : (d : ℕ) → enabled_in g t pool (Refill d) ≡ true → IsPrintableEvent (event_in g t pool (Refill d))
+  refill_printable : (d : ℕ) → enabled_in g t pool (Refill (domain d)) ≡ true → IsPrintableEvent (event_in g t pool (Refill (domain d)))
   refill_printable d on =
       let here = refill_low m checked t d pool.scheduler.records low range.records (and_left (has_come t (policy.next_refill pool.scheduler.records d)) (lowest_up t pool) on) in
       (here.domain, here.periods, here.budget)
@@ -134,7 +134,7 @@ module _ (m : Machine) (checked : IsChecked m) (t : ℕ) (pool : Pool) (low : t 
   decided_by_core r o =
       event.Decide (core r) (decision_by_core r o).unit (decision_by_core r o).due (elim o [ None ↦ span 0 | Some c ↦ span (lateness t c) ]) (decision_by_core r o).reset
 
-  decide_printable : (r : ℕ) → enabled_in g t pool (Decide r) ≡ true → IsPrintableEvent (event_in g t pool (Decide r))
+  decide_printable : (r : ℕ) → enabled_in g t pool (Decide (core r)) ≡ true → IsPrintableEvent (event_in g t pool (Decide (core r)))
   decide_printable r on =
       let x = some-test_at pool.resources r (λ c. list_all is_held c.processors && is_open c && first_up t c) on in
       let c : Resource = x.0 in
@@ -155,21 +155,21 @@ module _ (m : Machine) (checked : IsChecked m) (t : ℕ) (pool : Pool) (low : t 
   pub pool_printable : (action : Action) → enabled_in g t pool action ≡ true → IsPrintableEvent (event_in g t pool action)
   pool_printable Stall on = absurd (cc)
   pool_printable Xl on = absurd (cc)
-  pool_printable (Moved r) on = (tested_low r _ on, tt)
+  pool_printable (Moved r) on = (tested_low r.0 _ on, tt)
   pool_printable (DomMoved d) on =
-      let moves = some-test_at pool.domains d (λ x. is_some x.moving) (and_left (test_at pool.domains d (λ x. is_some x.moving)) (not (list_any (λ e. is_of_domain d e.1.cur || is_of_domain d e.1.saving) (numbered 0 pool.resources))) on) in (
-        domain_low m checked t pool range d moves.0 moves.1,
-        by_option IsPool (at_place pool.domains d) _ _ (λ none. omega arith) (λ x at. or_other IsPool x.moving (pool_number 0) (if_some IsPool x.moving (λ j is. movers d x j at is)) (omega arith)),
+      let moves = some-test_at pool.domains d.0 (λ x. is_some x.moving) (and_left (test_at pool.domains d.0 (λ x. is_some x.moving)) (not (list_any (λ e. is_of_domain d.0 e.1.cur || is_of_domain d.0 e.1.saving) (numbered_items 0 pool.resources))) on) in (
+        domain_low m checked t pool range d.0 moves.0 moves.1,
+        by_option IsPool (at_place pool.domains d.0) _ _ (λ none. omega arith) (λ x at. or_other IsPool x.moving (pool_number 0) (if_some IsPool x.moving (λ j is. movers d.0 x j at is)) (omega arith)),
       )
   pool_printable (Wake v) on = there_vcpu v (λ x. has_come t x.asleep_until) on
   pool_printable (Block p) on =
-      let guest = elim (guest_of g pool p) as (λ _. Bool) [ None ↦ false | Some v ↦ elim (vcpu_of pool v) [ None ↦ false | Some x ↦ has_come t (done_at x) ] ] in
-      let up = elim (processor_of g pool p) as (λ _. Bool) [ None ↦ false | Some q ↦ is_up t q ] in
-      (there_processor p (and_right guest up on), guest_low (guest_of g pool p) (and_left guest up on))
-  pool_printable (Slice r) on = tested_low r _ on
+      let guest = elim (guest_of g pool p.0) as (λ _. Bool) [ None ↦ false | Some v ↦ elim (vcpu_of pool v) [ None ↦ false | Some x ↦ has_come t (done_at x) ] ] in
+      let up = elim (processor_of g pool p.0) as (λ _. Bool) [ None ↦ false | Some q ↦ is_up t q ] in
+      (there_processor p.0 (and_right guest up on), guest_low (guest_of g pool p.0) (and_left guest up on))
+  pool_printable (Slice r) on = tested_low r.0 _ on
   pool_printable (Repl u) on = repl_printable u on
-  pool_printable (Refill d) on = refill_printable d on
-  pool_printable (Arrive p) on = tested_processor p _ (and_left (test_at pool.resources (p / g) (λ c. c.pending && is_open c && is_none c.saving)) _ on)
-  pool_printable (Decide r) on = decide_printable r on
-  pool_printable (Leave p) on = (tested_processor p _ (and_left (test_at pool.resources (p / g) (λ c. not (is_open c))) _ on), taken_low p)
-  pool_printable (Save r) on = (tested_low r _ on, saved_low r)
+  pool_printable (Refill d) on = refill_printable d.0 on
+  pool_printable (Arrive p) on = tested_processor p.0 _ (and_left (test_at pool.resources (p.0 / g) (λ c. c.pending && is_open c && is_none c.saving)) _ on)
+  pool_printable (Decide r) on = decide_printable r.0 on
+  pool_printable (Leave p) on = (tested_processor p.0 _ (and_left (test_at pool.resources (p.0 / g) (λ c. not (is_open c))) _ on), taken_low p.0)
+  pool_printable (Save r) on = (tested_low r.0 _ on, saved_low r.0)

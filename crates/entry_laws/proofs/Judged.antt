@@ -1,4 +1,5 @@
 -- The numbers of what is answered to a command.
+use Rattle.sched_laws.proofs.Judged.{by_demand, by_range, by_pool, by_domain}
 use Rattle.std.proofs.Common.{◌≡◌, ◌<◌, ◌≤◌, ◌*◌, ◌/◌, ◌^◌, ℕ, zero, suc, Bool, true, false, not, List, [], ◌∷◌, refl, arith, length}
 use Rattle.std.specs.Prelude.{Option, Some, None, Result, Ok, Err, is_some, is_none, option_map, unwrap_or, slice_get, sum_by, max, nat_le, nat_lt, bytes_eq, ◌&&◌, ◌||◌, ◌==◌}
 use Rattle.std.specs.List.{AllByRecursion}
@@ -32,7 +33,7 @@ use Rattle.sched_model.specs.declared.state.Credit2Domain.{Credit2Domain}
 use Rattle.sched_model.specs.declared.state.Records.{Records}
 use Rattle.sched_model.specs.declared.state.Records.TheVariants.{Credit2Pool, RtdsPool, ArincPool, NullPool}
 use Rattle.sched_model.specs.declared.work.CommandLine.{CommandLine}
-use Rattle.sched_model.specs.Places.{at_place, first_place, first_empty, numbered}
+use Rattle.sched_model.specs.Places.{at_place, first_place, first_empty, numbered_items}
 use Rattle.sched_model.specs.Opening.{core_count}
 use Rattle.sched_model.specs.Checked.{IsChecked, IsCheckedCommand, IsCheckedEntry, IsCheckedRange, IsGivenNumber, IsNumber, most_span}
 use Rattle.sched_model.specs.Actions.{home_of_core, home_of_domain}
@@ -58,10 +59,6 @@ abbrev pub SaysAnswer : Result Reply Refusal → Type 0
 SaysAnswer (Ok answer) = IsPrintableReply answer
 SaysAnswer (Err fault) = IsPrintableRefusal fault
 
-by_demand : {X : Type 0} (Q : Result X Refusal → Type 0) (test : Bool) (fault : Refusal) (next : Result X Refusal) → Q (Err fault) → Q next → Q (demand test fault next)
-by_demand Q true fault next refused goes = goes
-by_demand Q false fault next refused goes = refused
-
 by_refused : (fault : Option Refusal) (next : Result Plan Refusal) → IfSome fault IsPrintableRefusal → Says next → Says (refused_by fault next)
 by_refused None next refused goes = goes
 by_refused (Some fault) next refused goes = refused
@@ -73,10 +70,6 @@ typed n low = omega (arith, low)
 given : (n : Option ℕ) (other : ℕ) → IsGivenNumber n → other ≤ most_span → unwrap_or n other < 2 ^ 63
 given None other low small = omega (arith, small)
 given (Some n) other low small = typed n low
-
-by_range : (n : Option ℕ) (low high : ℕ) (fault : Refusal) (next : Result Plan Refusal) → IsPrintableRefusal fault → Says next → Says (demand_range n low high fault next)
-by_range None low high fault next refused goes = goes
-by_range (Some n) low high fault next refused goes = by_demand Says (in_range low high n) fault next refused goes
 
 -- the entries of a frame
 abbrev EntrySays : Result FrameEntry Refusal → Type 0
@@ -93,7 +86,7 @@ entry_says m e good =
     by_option EntrySays (domain_of m e.dom) _ _ (λ is. tt)
     (λ d is. by_option EntrySays (slice_get m.config.domains d) _ _ (λ is2. tt)
     (λ domain is2. by_demand EntrySays (nat_lt (e.unit * m.config.granularity) (length domain.guests)) _ _ tt
-    (by_demand EntrySays (nat_le 1 e.run) _ _ (typed e.run run) (omega (arith, run)))))
+    (λ is. by_demand EntrySays (nat_le 1 e.run) _ _ (typed e.run run) (λ is. omega (arith, run)))))
 
 frame_says : (m : Machine) (entries : List ArincEntry) → AllByRecursion IsCheckedEntry entries → FrameSays (length entries) (frame_entries m entries)
 frame_says m [] good = omega arith
@@ -113,7 +106,7 @@ judged_frame m i major entries low few good = says (frame_entries m entries) (fr
       | Ok frame ↦ demand (nat_le (sum_by (λ e. e.run.0) frame) major) (refusal.FrameLong (sum_by (λ e. e.run.0) frame) major) (Ok (plan.ArincSet (pool_number i) (record { major = span major; entries = frame }) reply.Done))
     ])
     says (Err fault) sum = sum
-    says (Ok frame) sum = by_demand Says (nat_le (sum_by (λ (e : FrameEntry). e.run.0) frame) major) _ _ (omega (arith, sum, few), typed major low) tt
+    says (Ok frame) sum = by_demand Says (nat_le (sum_by (λ (e : FrameEntry). e.run.0) frame) major) _ _ (omega (arith, sum, few), typed major low) (λ is. tt)
 
 -- the records of a domain's RTDS units
 pub record_fits : (domains cores t : ℕ) (records : Records) (u : UnitId) (x : RtdsUnit) → RecordsFit domains cores t records → rtds_record records u ≡ Some x → RtdsFits t x
@@ -186,16 +179,6 @@ rate_says m t (ArincPool records) range = omega arith
 rate_says m t (NullPool kept) range = omega arith
 
 module _ (m : Machine) (checked : IsChecked m) (s : State) (known : Known m s) where
-  on_pool : (which : Which) (next : ℕ → Pool → Result Plan Refusal) → ((i : ℕ) (pool : Pool) → at_place s.pools i ≡ Some pool → Says (next i pool)) → Says (with_pool s which next)
-  on_pool which next says = by_option Says (pool_of s which) _ _ (λ is. tt) (λ i is. by_option Says (at_place s.pools i) _ _ (λ is2. tt) (λ pool is2. says i pool is2))
-
-  on_domain : (which : Which) (next : ℕ → ℕ → Pool → Domain → Result Plan Refusal) → ((d i : ℕ) (pool : Pool) (domain : Domain) → at_place s.pools i ≡ Some pool → Says (next d i pool domain)) → Says (with_domain m s which next)
-  on_domain which next says =
-      by_option Says (domain_of m which) _ _ (λ is. tt)
-      (λ d is. by_option Says (home_of_domain s d) _ _ (λ is2. tt)
-      (λ i is2. by_option Says (at_place s.pools i) _ _ (λ is3. tt)
-      (λ pool is3. by_option Says (at_place pool.domains d) _ _ (λ is4. tt) (λ domain is4. says d i pool domain is3))))
-
   low : (i : ℕ) (pool : Pool) → at_place s.pools i ≡ Some pool → i < 16
   low i pool at = pool_low m checked s known i pool at
 
@@ -214,15 +197,15 @@ module _ (m : Machine) (checked : IsChecked m) (s : State) (known : Known m s) w
       let most = checked.config.few_domains in
       omega (arith, few, places, most)
 
-  pools_low : length (numbered 0 s.pools) < 2 ^ 63
+  pools_low : length (numbered_items 0 s.pools) < 2 ^ 63
   pools_low = (let few = numbered_few 0 s.pools in let places = known.range.pool_places in omega (arith, few, places))
 
-  free_low : length (numbered 0 s.free) * m.config.granularity < 2 ^ 63
+  free_low : length (numbered_items 0 s.free) * m.config.granularity < 2 ^ 63
   free_low =
       let few = numbered_few 0 s.free in
       let places = known.range.free_places in
       let most = cores_few m checked in
-      let times = times_few m checked (length (numbered 0 s.free)) (omega (arith, few, places, most)) in
+      let times = times_few m checked (length (numbered_items 0 s.free)) (omega (arith, few, places, most)) in
       omega (arith, times)
 
   name_says : (name : List ℕ) (counts : ℕ → Bool) → IfSome (name_fault s name counts) IsPrintableRefusal
@@ -254,44 +237,44 @@ module _ (m : Machine) (checked : IsChecked m) (s : State) (known : Known m s) w
   fits i pool at = (known.fits.pools i pool at).fits.records
 
   on_kind : (kind : SchedKind) (i : ℕ) (pool : Pool) (next : Result Plan Refusal) → at_place s.pools i ≡ Some pool → Says next → Says (demand (is_kind kind (kind_of pool.scheduler.records)) (refusal.WrongSched (pool_number i) (kind_of pool.scheduler.records)) next)
-  on_kind kind i pool next at says = by_demand Says (is_kind kind (kind_of pool.scheduler.records)) _ next (low i pool at) says
+  on_kind kind i pool next at says = by_demand Says (is_kind kind (kind_of pool.scheduler.records)) _ next (low i pool at) (λ is. says)
 
   pub judged : (c : Command) → IsCheckedCommand c → Says (judge m s c)
   judged (command.PoolList None) good = (pools_low, free_low)
-  judged (command.PoolList (Some which)) good = on_pool which _ (λ i pool at. (low i pool at, cores_low i pool at, domains_low i pool at))
+  judged (command.PoolList (Some which)) good = by_pool Says s which _ tt (λ i pool at. (low i pool at, cores_low i pool at, domains_low i pool at))
   judged (command.PoolCreate name kind) good = by_refused (name_fault s name (λ i. true)) _ (name_says name (λ i. true)) (created_says (first_empty 0 s.pools) name (unwrap_or kind kinds.Credit2))
   judged (command.PoolDestroy which) good =
-      on_pool which _ (λ i pool at. by_demand Says (not (i == 0)) _ _ tt (by_demand Says (cores_in pool == 0 && domains_in pool == 0) _ _ (low i pool at, cores_low i pool at, domains_low i pool at) tt))
-  judged (command.PoolRename which name) good = on_pool which _ (λ i pool at. by_refused (name_fault s name (λ other. not (other == i))) _ (name_says name (λ other. not (other == i))) tt)
+      by_pool Says s which _ tt (λ i pool at. by_demand Says (not (i == 0)) _ _ tt (λ is. by_demand Says (cores_in pool == 0 && domains_in pool == 0) _ _ (low i pool at, cores_low i pool at, domains_low i pool at) (λ is. tt)))
+  judged (command.PoolRename which name) good = by_pool Says s which _ tt (λ i pool at. by_refused (name_fault s name (λ other. not (other == i))) _ (name_says name (λ other. not (other == i))) tt)
   judged (command.CpuAdd which cpu) good =
-      on_pool which _ (λ i pool at. by_demand Says (nat_lt cpu m.config.processors) _ _ (typed cpu good.1)
-      (by_refused (option_map (λ home. refusal.CpuTaken cpu (pool_number home)) (home_of_core s (cpu / m.config.granularity))) _ (home_says cpu (cpu / m.config.granularity) good.1)
-      (by_demand Says (not (is_kind kinds.Arinc653 (kind_of pool.scheduler.records) && nat_lt 0 (cores_in pool))) _ _ (low i pool at) tt)))
+      by_pool Says s which _ tt (λ i pool at. by_demand Says (nat_lt cpu m.config.processors) _ _ (typed cpu good.1)
+      (λ is. by_refused (option_map (λ home. refusal.CpuTaken cpu (pool_number home)) (home_of_core s (cpu / m.config.granularity))) _ (home_says cpu (cpu / m.config.granularity) good.1)
+      (by_demand Says (not (is_kind kinds.Arinc653 (kind_of pool.scheduler.records) && nat_lt 0 (cores_in pool))) _ _ (low i pool at) (λ is. tt))))
   judged (command.CpuRemove which cpu) good =
-      on_pool which _ (λ i pool at. by_demand Says (nat_lt cpu m.config.processors) _ _ (typed cpu good.1)
-      (by_demand Says (is_some (at_place pool.resources (cpu / m.config.granularity))) _ _ (typed cpu good.1) (by_refused (last_core_fault i pool) _ (last_says i pool at) tt)))
-  judged (command.Migrate which target) good = on_domain which _ (λ d i pool domain at. on_pool target _ (λ j new at2. by_demand Says (nat_lt 0 (cores_in new)) _ _ (low j new at2) tt))
+      by_pool Says s which _ tt (λ i pool at. by_demand Says (nat_lt cpu m.config.processors) _ _ (typed cpu good.1)
+      (λ is. by_demand Says (is_some (at_place pool.resources (cpu / m.config.granularity))) _ _ (typed cpu good.1) (λ is. by_refused (last_core_fault i pool) _ (last_says i pool at) tt)))
+  judged (command.Migrate which target) good = by_domain Says m s which _ tt (λ d i pool domain named home at has. by_pool Says s target _ tt (λ j new at2. by_demand Says (nat_lt 0 (cores_in new)) _ _ (low j new at2) (λ is. tt)))
   judged (command.Credit2Dom which weight percent) good =
-      on_domain which _ (λ d i pool domain at. on_kind kinds.Credit2 i pool _ at
-      (by_range weight 1 65535 _ _ (given weight 0 good.1 (omega arith)) (by_range percent 0 6400 _ _ (given percent 0 good.2 (omega arith))
-      (by_option IsPrintableReply (credit2_record pool.scheduler.records d) _ _ (λ is. tt)
+      by_domain Says m s which _ tt (λ d i pool domain named home at has. on_kind kinds.Credit2 i pool _ at
+      (by_range Says weight 1 65535 _ _ (given weight 0 good.1 (omega arith)) (λ weighs. by_range Says percent 0 6400 _ _ (given percent 0 good.2 (omega arith))
+      (λ caps. by_option IsPrintableReply (credit2_record pool.scheduler.records d) _ _ (λ is. tt)
       (λ x is. by_cond IsPrintableReply (is_none weight && is_none percent) _ _ (λ asks. weights_say m s.now pool.scheduler.records d x (known.range.pools i pool at).records is) (λ sets. tt))))))
-  judged (command.Credit2Pool which None) good = on_pool which _ (λ i pool at. on_kind kinds.Credit2 i pool _ at (rate_says m s.now pool.scheduler.records (known.range.pools i pool at).records))
-  judged (command.Credit2Pool which (Some us)) good = on_pool which _ (λ i pool at. on_kind kinds.Credit2 i pool _ at (by_demand Says (us == 0 || in_range 100 500000 us) _ _ (typed us good.1) tt))
+  judged (command.Credit2Pool which None) good = by_pool Says s which _ tt (λ i pool at. on_kind kinds.Credit2 i pool _ at (rate_says m s.now pool.scheduler.records (known.range.pools i pool at).records))
+  judged (command.Credit2Pool which (Some us)) good = by_pool Says s which _ tt (λ i pool at. on_kind kinds.Credit2 i pool _ at (by_demand Says (us == 0 || in_range 100 500000 us) _ _ (typed us good.1) (λ is. tt)))
   judged (command.RtdsDom which None period budget extra) good =
-      on_domain which _ (λ d i pool domain at. on_kind kinds.Rtds i pool _ at (judged_rtds (length m.config.domains) (core_count m.config) s.now pool d 0 (unit_count m.config.granularity domain) period budget extra good.2 good.3 (fits i pool at)))
+      by_domain Says m s which _ tt (λ d i pool domain named home at has. on_kind kinds.Rtds i pool _ at (judged_rtds (length m.config.domains) (core_count m.config) s.now pool d 0 (unit_count m.config.granularity domain) period budget extra good.2 good.3 (fits i pool at)))
   judged (command.RtdsDom which (Some v) period budget extra) good =
-      on_domain which _ (λ d i pool domain at. on_kind kinds.Rtds i pool _ at (by_demand Says (nat_lt v (length domain.vcpus)) _ _ tt
-      (judged_rtds (length m.config.domains) (core_count m.config) s.now pool d (v / m.config.granularity) 1 period budget extra good.2 good.3 (fits i pool at))))
-  judged (command.Pause which) good = on_domain which _ (λ d i pool domain at. tt)
-  judged (command.Unpause which) good = on_domain which _ (λ d i pool domain at. tt)
+      by_domain Says m s which _ tt (λ d i pool domain named home at has. on_kind kinds.Rtds i pool _ at (by_demand Says (nat_lt v (length domain.vcpus)) _ _ tt
+      (λ is. judged_rtds (length m.config.domains) (core_count m.config) s.now pool d (v / m.config.granularity) 1 period budget extra good.2 good.3 (fits i pool at))))
+  judged (command.Pause which) good = by_domain Says m s which _ tt (λ d i pool domain named home at has. tt)
+  judged (command.Unpause which) good = by_domain Says m s which _ tt (λ d i pool domain named home at has. tt)
   judged (command.ArincSet which major entries) good =
-      on_pool which _ (λ i pool at. on_kind kinds.Arinc653 i pool _ at (by_demand Says (in_range 1 10000000000000 major) _ _ (typed major good.1)
-      (judged_frame m i major entries good.1 good.3 (recursion_from_All IsCheckedEntry entries good.4))))
+      by_pool Says s which _ tt (λ i pool at. on_kind kinds.Arinc653 i pool _ at (by_demand Says (in_range 1 most_span major) _ _ (typed major good.1)
+      (λ is. judged_frame m i major entries good.1 good.3 (recursion_from_All IsCheckedEntry entries good.4))))
   judged (command.Pin which vcpu cpus) good =
       let ranges = recursion_from_All IsCheckedRange cpus good.3 in
-      on_domain which _ (λ d i pool domain at. by_demand Says (has_vcpu domain vcpu) _ _ tt
-      (by_refused (cpu_fault m.config.processors cpus) _ (cpus_say m.config.processors cpus checked.config.processors.most ranges) (by_refused (elsewhere_fault m.config pool cpus) _ (elsewhere_says m pool cpus ranges) tt)))
+      by_domain Says m s which _ tt (λ d i pool domain named home at has. by_demand Says (has_vcpu domain vcpu) _ _ tt
+      (λ is. by_refused (cpu_fault m.config.processors cpus) _ (cpus_say m.config.processors cpus checked.config.processors.most ranges) (by_refused (elsewhere_fault m.config pool cpus) _ (elsewhere_says m pool cpus ranges) tt)))
 
   -- the answer to a line
   pub answered : (line : CommandLine) → IfOk line.command IsCheckedCommand → IfErr line.command (λ (fault : Syntax). fault.place < 2 ^ 32) → SaysAnswer (answer_of m s line)

@@ -1,10 +1,11 @@
 -- The law of entries, from what is known of the states of a run.
+use Rattle.std.proofs.lemmas.Option.{slice_get_within}
 use Rattle.std.proofs.Common.{◌≡◌, ◌<◌, ◌≤◌, ◌+◌, ◌/◌, ◌%◌, ◌^◌, ℕ, suc, Bool, true, false, List, [], ◌∷◌, ◌++◌, refl, arith, subst, sym, ◌∙◌, ap, inl, inr}
 use Rattle.std.specs.Prelude.{Option, Some, None, Result, Ok, Err, unwrap_or, option_map, slice_get, max, nat_le, ◌&&◌, not, cond}
 use Rattle.std.specs.List.{All, AllByRecursion}
 use Rattle.std.specs.Option.{IfSome}
 use Rattle.std.proofs.lemmas.List.Elements.{recursion_from_All, All-from_recursion}
-use Rattle.sched_base.specs.Numbers.{pool as pool_number}
+use Rattle.sched_base.specs.Numbers.{pool as pool_number, core}
 use Rattle.sched_base.specs.declared.Moment.{Moment}
 use Rattle.sched_base.specs.declared.ProcId.{ProcId}
 use Rattle.sched_base.specs.declared.PoolId.{PoolId}
@@ -28,16 +29,15 @@ use Rattle.sched_model.specs.Checked.{IsChecked, IsCheckedStall, IsCheckedComman
 use Rattle.sched_model.specs.Actions.{home_of, home_of_core}
 use Rattle.sched_model.specs.Pool.{enabled_in, event_in}
 use Rattle.sched_model.specs.Machine.{is_enabled, is_move_under_way, enabled_at_home, free_ready, home_pool, event_of, answer_of, stall_end_of, next_in_horizon, next_moment}
-use Rattle.sched_model.specs.Runs.{Reached, IsNext, IsNextEvent, IsRun, IsRunFrom, action_of, end_of, begun, after_entry, after_entries}
+use Rattle.sched_model.specs.Runs.{Reached, IsNext, IsNextEvent, IsRun, IsRunFrom, action_of, end_of, run_start, after_entry, after_entries}
 use Rattle.sched_model.proofs.RunLemmas.{IsRunFrom-append, after_entries-append}
 use Rattle.sched_laws.proofs.Bools.{one_of}
 use Rattle.sched_laws.proofs.EachPlace.{by_option, place_below}
 use Rattle.sched_laws.proofs.Lists.{some-test_at}
 use Rattle.sched_laws.proofs.Opened.{each_get}
 use Rattle.sched_ranges.specs.Ranges.{IsNear}
-use Rattle.sched_ranges.proofs.Vcpus.{get_inside}
 use Rattle.sched_ranges.proofs.Walk.{NearProcessor}
-use Rattle.sched_ranges.proofs.Law.{fits_in_runs}
+use Rattle.sched_ranges.proofs.Law.{fits_in_runs, max_low}
 use Rattle.sched_ranges.proofs.Done.{in_range}
 use Rattle.part_laws.proofs.Begun.{housed_opening}
 use Rattle.part_laws.proofs.Law.{housed_from}
@@ -51,11 +51,11 @@ answer_printable k (Ok r) number says = (number, says)
 answer_printable k (Err fault) number says = (number, says)
 
 module _ (m : Machine) (checked : IsChecked m) where
-  knows : (entries : List Entry) → IsRun m entries → Known m (after_entries m (begun m) entries).state
+  knows : (entries : List Entry) → IsRun m entries → Known m (after_entries m (run_start m) entries).state
   knows entries run = record {
     range = in_range m checked entries run;
     fits = fits_in_runs m checked entries run;
-    housed = housed_from m checked [] entries (begun m) refl tt run (housed_opening m checked);
+    housed = housed_from m checked [] entries (run_start m) refl tt run (housed_opening m checked);
   }
 
   module _ (s : State) (known : Known m s) where
@@ -89,9 +89,6 @@ module _ (m : Machine) (checked : IsChecked m) where
         (pool_printable m checked t h.pool (now_low m checked s known) (known.range.pools h.i h.pool h.at) (known.fits.pools h.i h.pool h.at).fits (λ d x j has moves. mover_low m checked s known h.i h.pool d x j h.at has moves) action h.enabled)
 
     -- the end of a stall
-    max_low : (a b n : ℕ) → a ≤ n → b ≤ n → max a b ≤ n
-    max_low a b n x y = grind (arith, x, y)
-
     end_low : (p end : ℕ) → end ≤ t + most_span → stall_end_of m.config.granularity s p end ≤ t + most_span
     end_low p end near =
         let g : ℕ = m.config.granularity in
@@ -122,16 +119,16 @@ module _ (m : Machine) (checked : IsChecked m) where
             → IsPrintableEvent (event.Xl (suc s.next_command) (elim o as (λ _. Result Reply Refusal) [ None ↦ Ok reply.Done | Some line ↦ answer_of m s line ]))
         by_line None at may = absurd (cc)
         by_line (Some line) at may =
-            let inside = get_inside m.work.commands s.next_command line at in
+            let inside = slice_get_within m.work.commands s.next_command line at in
             let few = checked.work.few_commands in
             let good = each_get IsCheckedCommandLine m.work.commands s.next_command line (recursion_from_All IsCheckedCommandLine m.work.commands checked.work.commands) at in
             answer_printable (suc s.next_command) (answer_of m s line) (omega arith, omega (arith, inside, few)) (answered m checked s known line good.command good.place)
 
-    moved_printable : (r : ℕ) → is_enabled m s t (Moved r) ≡ true → IsPrintableEvent (event_of m s t (Moved r))
+    moved_printable : (r : ℕ) → is_enabled m s t (Moved (core r)) ≡ true → IsPrintableEvent (event_of m s t (Moved (core r)))
     moved_printable r on = (
-      elim (one_of (test_at s.free r (free_ready t)) (enabled_at_home m s t (Moved r)) on) [
+      elim (one_of (test_at s.free r (free_ready t)) (enabled_at_home m s t (Moved (core r))) on) [
         | inl free ↦ (let x = some-test_at s.free r (free_ready t) free in let b = place_below s.free r x.0 x.1 in let e = known.range.free_places in let few = cores_few m checked in omega (arith, b, e, few))
-        | inr home ↦ (home_printable (Moved r) home).0
+        | inr home ↦ (home_printable (Moved (core r)) home).0
       ],
       by_option (λ (o : Option PoolId). IfSome o IsPool) (at_place s.free r) _ _ (λ none. tt) (λ c at. aimed c at c.target refl),
     )
@@ -143,7 +140,7 @@ module _ (m : Machine) (checked : IsChecked m) where
     action_printable : (action : Action) → is_enabled m s t action ≡ true → IsPrintableEvent (event_of m s t action)
     action_printable Stall on = stall_printable
     action_printable Xl on = command_printable on
-    action_printable (Moved r) on = moved_printable r on
+    action_printable (Moved r) on = moved_printable r.0 on
     action_printable action on = home_printable action on
 
     -- the next moment that an End names is within the horizon
@@ -184,13 +181,13 @@ module _ (m : Machine) (checked : IsChecked m) where
       let low = now_low m checked from.state known in
       (omega (arith, at, low), event_printable from.state known entry.event (action_of entry.event) refl next.event)
 
-  rest_printable : (done rest : List Entry) (from : Reached) → after_entries m (begun m) done ≡ from → IsRun m done → IsRunFrom m from rest → AllByRecursion IsPrintable rest
+  rest_printable : (done rest : List Entry) (from : Reached) → after_entries m (run_start m) done ≡ from → IsRun m done → IsRunFrom m from rest → AllByRecursion IsPrintable rest
   rest_printable done [] from is run goes = tt
   rest_printable done (e ∷ rest) from is run goes = (
     entry_printable from e (subst (λ (r : Reached). Known m r.state) is (knows done run)) goes.0,
-    rest_printable (done ++ e ∷ []) rest (after_entry m from e) (after_entries-append m (begun m) done e ∙ ap (λ r. after_entry m r e) is)
-        (IsRunFrom-append m (begun m) done e run (subst (λ r. IsNext m r e) (sym is) goes.0)) goes.1,
+    rest_printable (done ++ e ∷ []) rest (after_entry m from e) (after_entries-append m (run_start m) done e ∙ ap (λ r. after_entry m r e) is)
+        (IsRunFrom-append m (run_start m) done e run (subst (λ r. IsNext m r e) (sym is) goes.0)) goes.1,
   )
 
   pub printable_entries : (entries : List Entry) → IsRun m entries → All IsPrintable entries
-  printable_entries entries run = All-from_recursion IsPrintable entries (rest_printable [] entries (begun m) refl tt run)
+  printable_entries entries run = All-from_recursion IsPrintable entries (rest_printable [] entries (run_start m) refl tt run)

@@ -1,4 +1,6 @@
 -- What is known of the numbers of a state, as far as entries print them.
+use Rattle.sched_laws.proofs.Lists.{some_is}
+use Rattle.std.proofs.lemmas.Option.{slice_get_within}
 use Rattle.std.proofs.Common.{◌≡◌, ◌<◌, ◌≤◌, ◌*◌, ◌/◌, ℕ, suc, true, List, [], ◌∷◌, refl, arith, ◌∙◌, ap, length}
 use Rattle.std.specs.Prelude.{Option, Some, None, is_some, option_map, slice_get}
 use Rattle.std.proofs.lemmas.List.Elements.{recursion_from_All}
@@ -14,7 +16,7 @@ use Rattle.sched_model.specs.declared.state.Domain.{Domain}
 use Rattle.sched_model.specs.declared.state.Resource.{Resource}
 use Rattle.sched_model.specs.declared.state.FreeCore.{FreeCore}
 use Rattle.sched_model.specs.declared.state.Vcpu.{Vcpu}
-use Rattle.sched_model.specs.Places.{at_place, numbered}
+use Rattle.sched_model.specs.Places.{at_place, numbered_items}
 use Rattle.sched_model.specs.Opening.{core_count}
 use Rattle.sched_model.specs.Checked.{IsChecked, IsCheckedDomain, most_span}
 use Rattle.sched_model.specs.Actions.{home_of_core}
@@ -22,7 +24,6 @@ use Rattle.sched_model.specs.Pool.{vcpu_of}
 use Rattle.sched_laws.proofs.EachPlace.{place_below, found_at, by_option}
 use Rattle.sched_laws.proofs.Opened.{each_get}
 use Rattle.sched_ranges.specs.Ranges.{IsUnitOf, PoolInRange, StateInRange}
-use Rattle.sched_ranges.proofs.Vcpus.{get_inside}
 use Rattle.sched_ranges.proofs.Law.{StateFits}
 use Rattle.part_laws.proofs.Housed.{Housed}
 use Rattle.sched_print.specs.Ranges.{IsUnit, IsVcpu, IsPool}
@@ -34,14 +35,10 @@ pub record Known (m : Machine) (s : State) : Type 0 where
   pub fits : StateFits m s
   pub housed : Housed m s
 
-pub numbered_few : {X : Type 0} (n : ℕ) (places : List (Option X)) → length (numbered n places) ≤ length places
+pub numbered_few : {X : Type 0} (n : ℕ) (places : List (Option X)) → length (numbered_items n places) ≤ length places
 numbered_few n [] = omega arith
 numbered_few n (None ∷ places) = (let r = numbered_few (suc n) places in omega (arith, r))
 numbered_few n (Some x ∷ places) = (let r = numbered_few (suc n) places in omega (arith, r))
-
-pub some_there : {X : Type 0} (o : Option X) → is_some o ≡ true → (x : X) × (o ≡ Some x)
-some_there None is = absurd (cc)
-some_there (Some x) is = (x, refl)
 
 module _ (m : Machine) (checked : IsChecked m) where
   pub times_few : (n : ℕ) → n ≤ 64 → n * m.config.granularity ≤ 256
@@ -64,7 +61,7 @@ module _ (m : Machine) (checked : IsChecked m) where
   -- a unit of the machine
   pub unit_low : (u : UnitId) → IsUnitOf m u → IsUnit u
   unit_low u is =
-      let inside = get_inside m.config.domains u.dom.0 is.config is.at in
+      let inside = slice_get_within m.config.domains u.dom.0 is.config is.at in
       let few = checked.config.few_domains in
       let guests = (domain_is u.dom.0 is.config is.at).few_guests in (
         omega (arith, inside, few),
@@ -92,7 +89,7 @@ module _ (m : Machine) (checked : IsChecked m) where
         (λ none e. absurd (cc))
         (λ d at e.
         let here = range.domains v.dom.0 d at in
-        let inside = get_inside d.vcpus v.n x e in
+        let inside = slice_get_within d.vcpus v.n x e in
         let count = here.count in
         let few = (domain_is v.dom.0 here.config here.at).few_guests in
         (domain_low v.dom.0 d at, omega (arith, inside, count, few))) is
@@ -108,7 +105,7 @@ module _ (m : Machine) (checked : IsChecked m) where
     home_low r i is = let f = found_at i (λ (pool : Pool). is_some (at_place pool.resources r)) s.pools is in pool_low i f.0 f.1
 
     there_low : (i : ℕ) → is_some (at_place s.pools i) ≡ true → i < 16
-    there_low i is = let x = some_there (at_place s.pools i) is in pool_low i x.0 x.1
+    there_low i is = let x = some_is (at_place s.pools i) is in pool_low i x.0 x.1
 
     -- the pool that a free core is to join, and the one that a domain moves to
     pub target_low : (r : ℕ) (c : FreeCore) (i : ℕ) → at_place s.free r ≡ Some c → c.target ≡ Some i → i < 16

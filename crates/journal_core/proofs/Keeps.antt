@@ -4,7 +4,7 @@ use Rattle.sched_model.specs.declared.config.Config.{Config}
 use Rattle.sched_model.specs.declared.work.Work.{Work}
 use Rattle.sched_model.specs.declared.event.Entry.{Entry}
 use Rattle.sched_model.specs.declared.machine.Machine.{Machine}
-use Rattle.sched_model.specs.Runs.{IsNext, begun}
+use Rattle.sched_model.specs.Runs.{IsNext, run_start}
 use Rattle.sched_model.proofs.RunLemmas.{IsRunFrom-append}
 use Rattle.journal_core.specs.Histories.{reached_by, now_at, decides_at, decision_of, moment_after}
 use Rattle.journal_core.specs.Books.{Chronicle, chronicle, IsKept}
@@ -35,7 +35,7 @@ pub kept_more : (config : Config) (work : Work) (h : List Entry) (limit capacity
     → ((r : ℕ) → r < 64 → slice_index decides' r ≡ decision_of e.event r + slice_index decides r)
     → IsKept (chronicle config work (h ++ e ∷ []) limit) capacity (moment_after e.event now) decides'
 kept_more config work h limit capacity now decides decides' e kept next room cores counted = record {
-  run = IsRunFrom-append m (begun m) h e kept.run next;
+  run = IsRunFrom-append m (run_start m) h e kept.run next;
   fits = let len = length-append h (e ∷ []) in omega (arith, len, room);
   room = kept.room;
   few = kept.few;

@@ -6,12 +6,12 @@ use Rattle.sched_model.specs.declared.event.Event.TheVariants as event
 use Rattle.sched_model.specs.declared.event.Entry.{Entry}
 use Rattle.sched_model.specs.declared.machine.Machine.{Machine}
 use Rattle.sched_model.specs.declared.state.State.{State}
-use Rattle.sched_model.specs.Runs.{Reached, IsRun, begun, after_entries}
+use Rattle.sched_model.specs.Runs.{Reached, IsRun, run_start, after_entries}
 use Rattle.journal_core.specs.Parts.{StatePart, part_of, lists, home_in}
 
 -- where the history leads
 abbrev pub reached_by : Machine → List Entry → Reached
-reached_by m h = after_entries m (begun m) h
+reached_by m h = after_entries m (run_start m) h
 
 -- the state that the history leads to
 abbrev pub state_at : Machine → List Entry → State

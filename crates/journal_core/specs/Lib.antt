@@ -1,4 +1,3 @@
 pub mod Parts
 pub mod Histories
 pub mod Books
-pub mod Example

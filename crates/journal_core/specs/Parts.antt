@@ -58,13 +58,15 @@ first_answer f n [] = None
 first_answer f n (None ∷ places) = first_answer f (suc n) places
 first_answer f n (Some x ∷ places) = elim (f n x) [ Some y ↦ Some y | None ↦ first_answer f (suc n) places ]
 
--- the core leaves its pool; the domain moves to a pool; the core of no pool is to join one
+-- the core leaves its pool
 abbrev pub core_leaving : ℕ → Resource → Option UnderWay
 core_leaving r c = (if c.leaving then Some (core_to r None) else None)
 
+-- the domain moves to a pool
 abbrev pub domain_moving : ℕ → Domain → Option UnderWay
 domain_moving d domain = option_map (λ i. domain_to d i.0) domain.moving
 
+-- the core of no pool is to join one
 abbrev pub core_joining : ℕ → FreeCore → Option UnderWay
 core_joining r c = option_map (λ (i : ℕ). core_to r (Some i)) c.target
 
@@ -107,9 +109,9 @@ abbrev pub is_name : Config → ℕ → Bool
 is_name config n = (if nat_lt n 64 then nat_lt n (core_count config) else nat_lt (n - 64) (length config.domains))
 
 -- the home of a name that names nothing of the input
-abbrev pub nowhere : ℕ
-nowhere = 255
+abbrev pub no_home : ℕ
+no_home = 255
 
 -- the part that is the home of the name n: the pool that lists it, or the tool's part where no pool does
 abbrev pub home_in : Config → State → ℕ → ℕ
-home_in config s n = (if is_name config n then elim (first_place 0 (pool_lists n) (take tool_lock s.pools)) [ Some i ↦ i | None ↦ tool_lock ] else nowhere)
+home_in config s n = (if is_name config n then elim (first_place 0 (pool_lists n) (take tool_lock s.pools)) [ Some i ↦ i | None ↦ tool_lock ] else no_home)

@@ -63,7 +63,8 @@ fn no_decisions() -> [u32; 64]
 fn count_decision(decides: &mut [u32; 64], e: &Entry)
     requires few { (r : ℕ) → r < 64 → slice_index decides.old r < 4000000 }
     ensures cores { length decides.new ≡ 64 }
-    ensures counted { (r : ℕ) → r < 64 → slice_index decides.new r ≡ decision_of e.now.event r + slice_index decides.old r }
+    ensures counted { (r : ℕ) → r < 64 → slice_index decides.new r
+        ≡ decision_of e.now.event r + slice_index decides.old r }
 {
     if let Event::Decide { r, .. } = e.event {
         let core = r.0 as usize;
@@ -77,7 +78,8 @@ impl Book {
     /// A book of this input without an entry, with room for this many entries, 1 to 4,000,000 of at most 64 bytes each.
     pub fn room(alloc: Global, config: &Config, work: &Work, events: u32) -> Result<Book, NoMemory>
         requires few { (1 ≤ events) × (events ≤ 4000000) }
-        ensures input { IfOk result (λ b. b.input ≡ record { config = config.now; work = work.now }) }
+        ensures input { IfOk result (λ b. b.input
+            ≡ record { config = config.now; work = work.now }) }
         ensures empty { IfOk result (λ b. b.history ≡ []) }
         ensures limit { IfOk result (λ b. b.limit ≡ events) }
     {

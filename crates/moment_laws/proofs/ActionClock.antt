@@ -1,8 +1,9 @@
 -- An action leaves the moment as it is, and how many lines of the workload are left to do but for its own.
-use Rattle.std.proofs.Common.{◌≡◌, ◌≤◌, ◌<◌, ◌+◌, ◌-◌, ◌/◌, ◌∙◌, ℕ, zero, suc, Bool, true, false, List, [], ◌∷◌, refl, arith, ap, length}
+use Rattle.std.proofs.Common.{◌≡◌, ◌≤◌, ◌<◌, ◌+◌, ◌-◌, ◌/◌, ◌∙◌, ℕ, suc, Bool, true, false, List, [], ◌∷◌, refl, arith, ap, length}
 use Rattle.std.specs.Prelude.{Option, Some, None, Result, Ok, Err, slice_get, nat_le, ◌&&◌, not}
+use Rattle.std.proofs.lemmas.Option.{slice_get_within}
 use Rattle.sched_model.specs.declared.action.Action.{Action}
-use Rattle.sched_model.specs.declared.action.Action.TheVariants.{Stall, Xl, Wake, Block, Slice, Repl, Refill, Arrive, Decide, Leave, Save}
+use Rattle.sched_model.specs.declared.action.Action.TheVariants.{Stall, Xl}
 use Rattle.sched_model.specs.declared.event.Event.{Event}
 use Rattle.sched_model.specs.declared.event.Event.TheVariants as event
 use Rattle.sched_model.specs.declared.event.Entry.{Entry}
@@ -10,21 +11,18 @@ use Rattle.sched_model.specs.declared.event.Refusal.{Refusal}
 use Rattle.sched_model.specs.declared.machine.Machine.{Machine}
 use Rattle.sched_model.specs.declared.plan.Plan.{Plan}
 use Rattle.sched_model.specs.declared.plan.Plan.TheVariants as plan
-use Rattle.sched_model.specs.declared.state.Domain.{Domain}
-use Rattle.sched_model.specs.declared.state.FreeCore.{FreeCore}
 use Rattle.sched_model.specs.declared.state.Pool.{Pool}
 use Rattle.sched_model.specs.declared.state.State.{State}
 use Rattle.sched_model.specs.declared.work.CommandLine.{CommandLine}
 use Rattle.sched_model.specs.declared.work.StallLine.{StallLine}
-use Rattle.sched_model.specs.Actions as actions
 use Rattle.sched_model.specs.Actions.{home_of, home_of_core, home_of_domain}
-use Rattle.sched_model.specs.Machine as machines
 use Rattle.sched_model.specs.Commands.{carried_out, change_home, pool_of_plan}
-use Rattle.sched_model.specs.Machine.{is_enabled, is_move_under_way, after, after_at_home, after_command, after_dom_moved, after_moved, after_stall, settled_at, stall_end_of, stalled, verdict}
+use Rattle.sched_model.specs.Machine.{is_enabled, is_move_under_way, after, after_at_home, after_command, after_dom_moved, after_moved, after_stall, settled_at, verdict}
 use Rattle.sched_model.specs.Places.{at_place}
 use Rattle.sched_model.specs.Runs.{Reached, IsNextEvent, IsRunFrom, action_of, after_entry, after_event}
 use Rattle.sched_laws.proofs.EachPlace.{by_cond, by_option}
 use Rattle.turn_laws.specs.Turns.{how_many, one}
+use Rattle.stretch_laws.proofs.LegRuns.{action_in}
 use Rattle.moment_laws.specs.Moments.{is_end, is_line}
 
 -- the same moment, and as many stalls and commands done
@@ -74,44 +72,21 @@ stall_clock g t line s =
     (a.0, refl, a.2)
 
 moved_clock : (t r : ℕ) (s : State) → SameClock (after_moved t r s) s
-moved_clock t r s = by_free (at_place s.free r)
-  where
-    by_core : (i : ℕ) (o : Option Pool) → SameClock (elim o as (λ _. State) [ None ↦ s | Some pool ↦ elim (at_place pool.resources r) as (λ _. State) [ None ↦ s | Some c ↦ machines.detached t r i c s ] ]) s
-    by_core i None = kept s
-    by_core i (Some pool) = by_option (λ (x : State). SameClock x s) (at_place pool.resources r) _ _ (λ none. kept s) (λ c is. (refl, refl, refl))
-
-    by_home : (o : Option ℕ) → SameClock (elim o as (λ _. State) [ None ↦ s | Some i ↦ elim (at_place s.pools i) as (λ _. State) [ None ↦ s | Some pool ↦ elim (at_place pool.resources r) as (λ _. State) [ None ↦ s | Some c ↦ machines.detached t r i c s ] ] ]) s
-    by_home None = kept s
-    by_home (Some i) = by_core i (at_place s.pools i)
-
-    by_free : (o : Option FreeCore)
-        → SameClock
-        (elim o as (λ _. State) [
-          | Some c ↦ elim c.target as (λ _. State) [ None ↦ s | Some i ↦ machines.attached t r i c s ]
-          | None ↦ elim (home_of_core s r) as (λ _. State) [ None ↦ s | Some i ↦ elim (at_place s.pools i) as (λ _. State) [ None ↦ s | Some pool ↦ elim (at_place pool.resources r) as (λ _. State) [ None ↦ s | Some c ↦ machines.detached t r i c s ] ] ]
-        ])
-        s
-    by_free (Some c) = by_option (λ (x : State). SameClock x s) c.target _ _ (λ none. kept s) (λ i is. (refl, refl, refl))
-    by_free None = by_home (home_of_core s r)
-
--- the state after a move of the domain from the pool i
-abbrev moved_to : ℕ → ℕ → ℕ → ℕ → State → Domain → State
-moved_to g t d i s domain = elim domain.moving as (λ _. State) [ None ↦ s | Some j ↦ actions.change_pool j.0 (machines.joined_by g t d domain) (actions.change_pool i (machines.left_by t d) s) ]
+moved_clock t r s =
+    let Q : State → Type 0 = λ next. SameClock next s in
+    by_option Q (at_place s.free r) _ _
+    (λ is. by_option Q (home_of_core s r) _ _ (λ is2. kept s)
+    (λ i is2. by_option Q (at_place s.pools i) _ _ (λ is3. kept s)
+    (λ pool is3. by_option Q (at_place pool.resources r) _ _ (λ is4. kept s) (λ c is4. (refl, refl, refl)))))
+    (λ c is. by_option Q c.target _ _ (λ is2. kept s) (λ i is2. (refl, refl, refl)))
 
 dom_moved_clock : (g t d : ℕ) (s : State) → SameClock (after_dom_moved g t d s) s
-dom_moved_clock g t d s = by_home (home_of_domain s d)
-  where
-    by_domain : (i : ℕ) (o : Option Domain) → SameClock (elim o as (λ _. State) [ None ↦ s | Some domain ↦ moved_to g t d i s domain ]) s
-    by_domain i None = kept s
-    by_domain i (Some domain) = by_option (λ (x : State). SameClock x s) domain.moving _ _ (λ none. kept s) (λ j is. (refl, refl, refl))
-
-    by_pool : (i : ℕ) (o : Option Pool) → SameClock (elim o as (λ _. State) [ None ↦ s | Some pool ↦ elim (at_place pool.domains d) as (λ _. State) [ None ↦ s | Some domain ↦ moved_to g t d i s domain ] ]) s
-    by_pool i None = kept s
-    by_pool i (Some pool) = by_domain i (at_place pool.domains d)
-
-    by_home : (o : Option ℕ) → SameClock (elim o as (λ _. State) [ None ↦ s | Some i ↦ elim (at_place s.pools i) as (λ _. State) [ None ↦ s | Some pool ↦ elim (at_place pool.domains d) as (λ _. State) [ None ↦ s | Some domain ↦ moved_to g t d i s domain ] ] ]) s
-    by_home None = kept s
-    by_home (Some i) = by_pool i (at_place s.pools i)
+dom_moved_clock g t d s =
+    let Q : State → Type 0 = λ next. SameClock next s in
+    by_option Q (home_of_domain s d) _ _ (λ is. kept s)
+    (λ i is. by_option Q (at_place s.pools i) _ _ (λ is2. kept s)
+    (λ pool is2. by_option Q (at_place pool.domains d) _ _ (λ is3. kept s)
+    (λ domain is3. by_option Q domain.moving _ _ (λ is4. kept s) (λ j is4. (refl, refl, refl)))))
 
 inside_clock : (g t : ℕ) (s : State) (action : Action) → SameClock (after_at_home g s t action) s
 inside_clock g t s action = by_option (λ (x : State). SameClock x s) (home_of g s action) _ _ (λ none. kept s) (λ i is. (refl, refl, refl))
@@ -119,11 +94,6 @@ inside_clock g t s action = by_option (λ (x : State). SameClock x s) (home_of g
 -- how many lines are left to do
 abbrev pub lines_left : Machine → State → ℕ
 lines_left m s = (length m.work.stalls - s.next_stall) + (length m.work.commands - s.next_command)
-
-get_below : {X : Type 0} (xs : List X) (n : ℕ) (x : X) → slice_get xs n ≡ Some x → n < length xs
-get_below [] n x at = absurd (cc)
-get_below (y ∷ xs) zero x at = grind arith
-get_below (y ∷ xs) (suc n) x at = (let r = get_below xs n x at in grind (arith, r))
 
 -- the same clock has as many lines left
 same_left : (m : Machine) (a b : State) → SameClock a b → (a.now ≡ b.now) × (lines_left m a + 0 ≤ lines_left m b)
@@ -146,7 +116,7 @@ stall_goes m s t on = by_line (slice_get m.work.stalls s.next_stall) refl on
     by_line None is on = absurd (cc)
     by_line (Some line) is on = (
         let same = stall_clock m.config.granularity t line s in
-        let low = get_below m.work.stalls s.next_stall line is in
+        let low = slice_get_within m.work.stalls s.next_stall line is in
         let x : length m.work.stalls - (after_stall m.config.granularity t line s).next_stall ≡ length m.work.stalls - suc s.next_stall = ap (λ n. length m.work.stalls - n) same.1 in
         let y : length m.work.commands - (after_stall m.config.granularity t line s).next_command ≡ length m.work.commands - s.next_command = ap (λ n. length m.work.commands - n) same.2 in
         (same.0, omega (arith, x, y, low)))
@@ -158,7 +128,7 @@ command_goes m s t on = by_line (slice_get m.work.commands s.next_command) refl 
     by_line None is on = absurd (cc)
     by_line (Some line) is on = (
         let same = command_clock m t line s in
-        let low = get_below m.work.commands s.next_command line is in
+        let low = slice_get_within m.work.commands s.next_command line is in
         let x : length m.work.stalls - (after_command m t line s).next_stall ≡ length m.work.stalls - s.next_stall = ap (λ n. length m.work.stalls - n) same.1 in
         let y : length m.work.commands - (after_command m t line s).next_command ≡ length m.work.commands - suc s.next_command = ap (λ n. length m.work.commands - n) same.2 in
         (same.0, omega (arith, x, y, low)))
@@ -178,17 +148,9 @@ event_goes m from (event.Stall p until) next = (let a = stall_goes m from.state 
 event_goes m from (event.Xl k answer) next = (let a = command_goes m from.state from.state.now next.0 in (λ e. a.0, a.1))
 event_goes m from (event.Moved r to) next = (let a = moved_goes m from.state r.0 in (λ e. a.0, a.1))
 event_goes m from (event.DomMoved d to) next = (let a = dom_moved_goes m from.state d.0 in (λ e. a.0, a.1))
-event_goes m from (event.Wake v) next = (let a = inside_goes m from.state (Wake v) in (λ e. a.0, a.1))
-event_goes m from (event.Block p v) next = (let a = inside_goes m from.state (Block p.0) in (λ e. a.0, a.1))
-event_goes m from (event.Slice r) next = (let a = inside_goes m from.state (Slice r.0) in (λ e. a.0, a.1))
-event_goes m from (event.Repl u start deadline budget extra) next = (let a = inside_goes m from.state (Repl u) in (λ e. a.0, a.1))
-event_goes m from (event.Refill d periods budget) next = (let a = inside_goes m from.state (Refill d.0) in (λ e. a.0, a.1))
-event_goes m from (event.Arrive p) next = (let a = inside_goes m from.state (Arrive p.0) in (λ e. a.0, a.1))
-event_goes m from (event.Decide r unit due late reset) next = (let a = inside_goes m from.state (Decide r.0) in (λ e. a.0, a.1))
-event_goes m from (event.Leave p v) next = (let a = inside_goes m from.state (Leave p.0) in (λ e. a.0, a.1))
-event_goes m from (event.Save r u queued) next = (let a = inside_goes m from.state (Save r.0) in (λ e. a.0, a.1))
 event_goes m from (event.End k) next = (λ e. absurd (cc), omega arith)
 event_goes m from event.Finish next = (λ e. absurd (cc), omega arith)
+event_goes m from ev next = (let a = inside_goes m from.state (action_in ev) in (λ e. a.0, a.1))
 
 -- no more lines are done than are left
 pub lines_few : (m : Machine) (entries : List Entry) (from : Reached) → IsRunFrom m from entries → how_many (λ (e : Entry). is_line e.event) entries ≤ lines_left m from.state

@@ -1,5 +1,5 @@
 -- What is to come of a pool at a moment, as a number: dues of cores, vCPUs that are ripe, deadlines and refills; and what changes of one core, one vCPU or the records do to it.
-use Rattle.std.proofs.Common.{◌≡◌, ◌≤◌, ◌+◌, ◌-◌, ℕ, zero, suc, Bool, true, false, not, List, [], ◌∷◌, refl, arith, ap, subst, sym, ◌∙◌, cond}
+use Rattle.std.proofs.Common.{◌≡◌, ◌≤◌, ◌+◌, ◌-◌, ℕ, zero, suc, Bool, true, false, not, List, [], ◌∷◌, refl, arith, ap, subst, sym, ◌∙◌}
 use Rattle.std.specs.Prelude.{Option, Some, None, nat_le, slice_get, option_map, ◌==◌, ◌&&◌, ◌||◌, ◌/◌}
 use Rattle.sched_base.specs.Numbers.{moment, span}
 use Rattle.sched_base.specs.declared.Moment.{Moment}
@@ -11,16 +11,16 @@ use Rattle.sched_model.specs.declared.state.Domain.{Domain}
 use Rattle.sched_model.specs.declared.state.Pool.{Pool}
 use Rattle.sched_model.specs.declared.state.Processor.{Processor}
 use Rattle.sched_model.specs.declared.state.Records.{Records}
-use Rattle.sched_model.specs.declared.state.Records.TheVariants.{Credit2Pool, RtdsPool, ArincPool, NullPool}
+use Rattle.sched_model.specs.declared.state.Records.TheVariants.{Credit2Pool, RtdsPool}
 use Rattle.sched_model.specs.declared.state.Resource.{Resource}
 use Rattle.sched_model.specs.declared.state.RtdsUnit.{RtdsUnit}
 use Rattle.sched_model.specs.declared.state.Vcpu.{Vcpu}
 use Rattle.sched_model.specs.Places.{at_place, change_at, change_each, change_item}
 use Rattle.sched_model.specs.State.{has_come}
-use Rattle.sched_model.specs.Pool.{change_core, change_processor, change_vcpu, change_cores_of, does, started_on, settled, reconsidered, home_cores, is_of_domain, stopped}
-use Rattle.sched_laws.proofs.Bools.{and_left, and_right, both, or_more, clash}
+use Rattle.sched_model.specs.Pool.{change_core, change_processor, change_vcpu, change_cores_of, with_doing, started_on, settled_pool, stopped_vcpu}
+use Rattle.sched_laws.proofs.Events.{LikePlaces, like_change_at, like_change_each, like_map, like_of_domain, capped, IsMarked, KeptByCommands, kept_settled}
+use Rattle.sched_laws.proofs.Bools.{and_left, both, or_more, clash}
 use Rattle.sched_laws.specs.Counts.{total}
-use Rattle.sched_laws.proofs.EachPlace.{by_cond}
 use Rattle.turn_laws.specs.Turns.{one, how_many}
 use Rattle.turn_laws.specs.Stretches.{units}
 
@@ -62,8 +62,7 @@ of_rtds t units = how_many (is_deadline_due t) units
 abbrev pub of_records : ℕ → Records → ℕ
 of_records t (Credit2Pool records) = total (of_credit2 t) records.domains
 of_records t (RtdsPool domains) = total (of_rtds t) domains
-of_records t (ArincPool records) = 0
-of_records t (NullPool kept) = 0
+of_records t any = 0
 
 -- what is to come of the pool
 abbrev pub of_pool : ℕ → Pool → ℕ
@@ -80,17 +79,30 @@ how_many_less test i f [] less = omega arith
 how_many_less test zero f (x ∷ xs) less = (let a = one_less (test x) (test (f x)) (less x refl) in omega (arith, a))
 how_many_less test (suc i) f (x ∷ xs) less = (let r = how_many_less test i f xs less in omega (arith, r))
 
-pub total-change_each_less : {X : Type 0} (f : X → ℕ) (n : ℕ) (h : ℕ → X → X) (places : List (Option X)) → ((n : ℕ) (x : X) → f (h n x) ≤ f x) → total f (change_each n h places) ≤ total f places
-total-change_each_less f n h [] less = omega arith
-total-change_each_less f n h (None ∷ places) less = total-change_each_less f (suc n) h places less
-total-change_each_less f n h (Some y ∷ places) less = (let a = less n y in let r = total-change_each_less f (suc n) h places less in omega (arith, a, r))
+like_rest : {X : Type 0} (R : X → X → Type 0) (o p : Option X) (old next : List (Option X)) → LikePlaces R (o ∷ old) (p ∷ next) → LikePlaces R old next
+like_rest R o p old next like = record { count = (let count = like.count in omega (arith, count)); at = λ i. like.at (suc i) }
+
+-- the sum over what is no more at any place
+total-like_less : {X : Type 0} (R : X → X → Type 0) (f : X → ℕ) (old next : List (Option X)) → ((x y : X) → R x y → f y ≤ f x) → LikePlaces R old next → total f next ≤ total f old
+total-like_less R f old [] less like = omega arith
+total-like_less R f [] (p ∷ next) less like = (let count = like.count in absurd (omega (arith, count)))
+total-like_less R f (None ∷ old) (None ∷ next) less like = total-like_less R f old next less (like_rest R None None old next like)
+total-like_less R f (None ∷ old) (Some y ∷ next) less like = absurd (like.at 0)
+total-like_less R f (Some x ∷ old) (None ∷ next) less like = absurd (like.at 0)
+total-like_less R f (Some x ∷ old) (Some y ∷ next) less like =
+    let a = less x y (like.at 0) in
+    let rest = total-like_less R f old next less (like_rest R (Some x) (Some y) old next like) in
+    omega (arith, a, rest)
 
 pub total-change_at_less : {X : Type 0} (f : X → ℕ) (i : ℕ) (h : X → X) (places : List (Option X)) → ((x : X) → at_place places i ≡ Some x → f (h x) ≤ f x) → total f (change_at i h places) ≤ total f places
-total-change_at_less f i h [] less = omega arith
-total-change_at_less f zero h (None ∷ places) less = omega arith
-total-change_at_less f zero h (Some x ∷ places) less = (let a = less x refl in omega (arith, a))
-total-change_at_less f (suc i) h (None ∷ places) less = total-change_at_less f i h places less
-total-change_at_less f (suc i) h (Some x ∷ places) less = (let r = total-change_at_less f i h places less in omega (arith, r))
+total-change_at_less {X} f i h places less =
+    let R : X → X → Type 0 = λ x y. f y ≤ f x in
+    total-like_less R f places _ (λ x y le. le) (like_change_at R i h places (λ x. omega arith) less)
+
+pub total-change_each_less : {X : Type 0} (f : X → ℕ) (h : ℕ → X → X) (places : List (Option X)) → ((n : ℕ) (x : X) → f (h n x) ≤ f x) → total f (change_each 0 h places) ≤ total f places
+total-change_each_less {X} f h places less =
+    let R : X → X → Type 0 = λ x y. f y ≤ f x in
+    total-like_less R f places _ (λ x y le. le) (like_change_each R h places less)
 
 -- a pending core has no due to come
 pub pending_none : (t : ℕ) (c : Resource) → c.pending ≡ true → is_overdue t c ≡ false
@@ -104,15 +116,15 @@ module _ (t : ℕ) where
   abbrev pub IsLess : Pool → Pool → Type 0
   IsLess pool next = of_pool t next ≤ of_pool t pool
 
-  pub less_core : (r : ℕ) (f : Resource → Resource) (pool : Pool) → ((c : Resource) → is_overdue t (f c) ≡ true → is_overdue t c ≡ true) → IsLess pool (change_core r f pool)
-  less_core r f pool less =
-      let a = total-change_at_less (of_core t) r f pool.resources (λ c at. one_less (is_overdue t c) (is_overdue t (f c)) (less c)) in
-      omega (arith, a)
+  -- a core that is overdue was so
+  abbrev Calms : Resource → Resource → Type 0
+  Calms c d = is_overdue t d ≡ true → is_overdue t c ≡ true
 
-  pub less_each : (f : ℕ → Resource → Resource) (pool : Pool) → ((r : ℕ) (c : Resource) → is_overdue t (f r c) ≡ true → is_overdue t c ≡ true) → IsLess pool (record pool { resources = change_each 0 f pool.resources })
-  less_each f pool less =
-      let a = total-change_each_less (of_core t) 0 f pool.resources (λ r c. one_less (is_overdue t c) (is_overdue t (f r c)) (less r c)) in
-      omega (arith, a)
+  less_like : (cores : List (Option Resource)) (pool : Pool) → LikePlaces Calms pool.resources cores → IsLess pool (record pool { resources = cores })
+  less_like cores pool like = (let a = total-like_less Calms (of_core t) pool.resources cores (λ c d. one_less (is_overdue t c) (is_overdue t d)) like in omega (arith, a))
+
+  pub less_core : (r : ℕ) (f : Resource → Resource) (pool : Pool) → ((c : Resource) → Calms c (f c)) → IsLess pool (change_core r f pool)
+  less_core r f pool less = less_like _ pool (like_change_at Calms r f pool.resources (λ c e. e) (λ c at. less c))
 
   pub less_domain : (d : ℕ) (f : Domain → Domain) (pool : Pool) → ((x : Domain) → at_place pool.domains d ≡ Some x → of_domain t (f x) ≤ of_domain t x) → IsLess pool (record pool { domains = change_at d f pool.domains })
   less_domain d f pool less = (let a = total-change_at_less (of_domain t) d f pool.domains less in omega (arith, a))
@@ -122,13 +134,6 @@ module _ (t : ℕ) where
 
   pub less_processor : (g p : ℕ) (f : Processor → Processor) (pool : Pool) → IsLess pool (change_processor g p f pool)
   less_processor g p f pool = less_core (p / g) _ pool (λ c is. is)
-
-  pub less_settled : (pool : Pool) → IsLess pool (settled t pool)
-  less_settled pool = less_each (reconsidered t (home_cores pool) pool.scheduler) pool (λ r c. by_cond (λ (x : Resource). is_overdue t x ≡ true → is_overdue t c ≡ true) c.leaving c _ (λ is e. e) (λ is e. both (has_come t c.due) (not c.pending) (and_left (has_come t c.due) _ e) (still c.pending _ (and_right (has_come t c.due) _ e))))
-    where
-      still : (a b : Bool) → not (a || b) ≡ true → not a ≡ true
-      still true b is = is
-      still false b is = refl
 
   -- a vCPU that is started, or stopped, is no riper
   started_ripe : (x : Vcpu) → is_ripe t (record x { started = Some (moment t) }) ≡ true → is_ripe t x ≡ true
@@ -144,7 +149,7 @@ module _ (t : ℕ) where
       by_sleep None None (Some w) is = none_left w.0 is
       by_sleep None (Some from) (Some w) is = or_more (w.0 == 0) (nat_le (from.0 + w.0) t) (none_left w.0 is)
 
-  stopped_ripe : (x : Vcpu) → is_ripe t (stopped t x) ≡ true → is_ripe t x ≡ true
+  stopped_ripe : (x : Vcpu) → is_ripe t (stopped_vcpu t x) ≡ true → is_ripe t x ≡ true
   stopped_ripe x = by_start x.started refl
     where
       less_work : (from w : ℕ) → (w - (t - from) == 0) ≡ true → (w == 0 || nat_le (from + w) t) ≡ true
@@ -157,7 +162,7 @@ module _ (t : ℕ) where
       by_work from None None is = is
       by_work from None (Some w) is = less_work from.0 w.0 is
 
-      by_start : (s : Option Moment) → x.started ≡ s → is_ripe t (stopped t x) ≡ true → is_ripe t x ≡ true
+      by_start : (s : Option Moment) → x.started ≡ s → is_ripe t (stopped_vcpu t x) ≡ true → is_ripe t x ≡ true
       by_start None is e = subst (λ (o : Option Moment). is_ripe t (elim o as (λ _. Vcpu) [ None ↦ x | Some from ↦ record x { work_left = option_map (λ (work : Span). span (work.0 - (t - from.0))) x.work_left; started = None } ]) ≡ true) is e
       by_start (Some from) is e =
           subst (λ (o : Option Moment). elim x.asleep_until as (λ _. Bool) [ None ↦ ends_by t o x.work_left | Some until ↦ nat_le until.0 t ] ≡ true) (sym is)
@@ -166,11 +171,30 @@ module _ (t : ℕ) where
   pub less_started_on : (g p : ℕ) (v : VcpuId) (pool : Pool) → IsLess pool (started_on g t p v pool)
   less_started_on g p v pool =
       let a = less_vcpu v (λ x. record x { started = Some (moment t) }) pool started_ripe in
-      let b = less_processor g p (does (Guest v)) (change_vcpu v (λ x. record x { started = Some (moment t) }) pool) in
+      let b = less_processor g p (with_doing (Guest v)) (change_vcpu v (λ x. record x { started = Some (moment t) }) pool) in
       omega (arith, a, b)
 
-  pub less_stopped : (v : VcpuId) (pool : Pool) → IsLess pool (change_vcpu v (stopped t) pool)
-  less_stopped v pool = less_vcpu v (stopped t) pool stopped_ripe
+  pub less_stopped : (v : VcpuId) (pool : Pool) → IsLess pool (change_vcpu v (stopped_vcpu t) pool)
+  less_stopped v pool = less_vcpu v (stopped_vcpu t) pool stopped_ripe
 
-  pub less_cores_of : (d : ℕ) (f : Resource → Resource) (pool : Pool) → ((c : Resource) → (f c).pending ≡ true) → IsLess pool (change_cores_of d f pool)
-  less_cores_of d f pool pending = less_each (λ r c. cond (is_of_domain d c.cur) (f c) c) pool (λ r c. by_cond (λ (x : Resource). is_overdue t x ≡ true → is_overdue t c ≡ true) (is_of_domain d c.cur) (f c) c (λ is e. absurd (clash _ e (pending_none t (f c) (pending c)))) (λ is e. e))
+  pub less_capped : (d : ℕ) (pool : Pool) → IsLess pool (change_cores_of d (capped t) pool)
+  less_capped d pool = less_like _ pool (like_of_domain Calms d (capped t) pool.resources (λ c e. e) (λ c e. absurd (clash _ e (pending_none t (capped t c) refl))))
+
+  -- what commands do to the marks, the queue and the paused domains
+  marked_calms : (c d : Resource) → IsMarked c d → Calms c d
+  marked_calms c d marked e = both (has_come t c.due) (not c.pending) (subst (λ (o : Option Moment). has_come t o ≡ true) marked.keeps.due (and_left (has_come t d.due) _ e)) (still c.pending refl)
+    where
+      still : (b : Bool) → c.pending ≡ b → not b ≡ true
+      still true is = absurd (clash _ e (pending_none t d (marked.keeps.pending is)))
+      still false is = refl
+
+  pub less_commands : (g most : ℕ) → KeptByCommands g (λ pool. of_pool t pool ≤ most)
+  less_commands g most = record {
+    marks = λ cores pool like here. (let a = less_like cores pool (like_map IsMarked Calms pool.resources cores marked_calms like) in omega (arith, a, here));
+    queues = λ u pool runs here. here;
+    dequeues = λ d pool here. here;
+    pausing = λ d paused pool here. (let a = less_domain d (λ x. record x { paused = paused }) pool (λ x at. omega arith) in omega (arith, a, here));
+  }
+
+  pub less_settled : (pool : Pool) → IsLess pool (settled_pool t pool)
+  less_settled pool = kept_settled (less_commands 0 (of_pool t pool)) t pool (omega arith)

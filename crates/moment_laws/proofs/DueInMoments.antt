@@ -1,10 +1,11 @@
 -- In a moment each cause but a line takes one away of what is to come at its first state, and a command adds one at most.
+use Rattle.sched_base.specs.Numbers.{core, domain as domain_number}
 use Rattle.std.proofs.Common.{◌≡◌, ◌≤◌, ◌<◌, ◌+◌, ◌*◌, ℕ, Bool, true, List, [], ◌∷◌, ◌++◌, refl, arith, ap, subst, sym, ◌∙◌, ◌⊎◌, inl, inr}
 use Rattle.std.specs.Prelude.{Option, Some, is_some, slice_get, ◌==◌}
 use Rattle.std.specs.Option.{IfSome}
 use Rattle.sched_base.specs.declared.UnitId.{UnitId}
 use Rattle.sched_model.specs.declared.action.Action.{Action}
-use Rattle.sched_model.specs.declared.action.Action.TheVariants.{Stall, Xl, Moved, DomMoved, Wake, Block, Slice, Repl, Refill, Arrive, Decide, Leave, Save}
+use Rattle.sched_model.specs.declared.action.Action.TheVariants.{Stall, Xl, Moved, DomMoved}
 use Rattle.sched_model.specs.declared.config.Frame.{Frame}
 use Rattle.sched_model.specs.declared.event.Entry.{Entry}
 use Rattle.sched_model.specs.declared.event.Event.{Event}
@@ -18,7 +19,7 @@ use Rattle.sched_model.specs.declared.state.Resource.{Resource}
 use Rattle.sched_model.specs.declared.state.State.{State}
 use Rattle.sched_model.specs.Places.{at_place, has_unit}
 use Rattle.sched_model.specs.Machine.{is_enabled, after, after_at_home, enabled_at_home}
-use Rattle.sched_model.specs.Runs.{Reached, IsRun, IsNextEvent, action_of, begun, after_entry, after_event, after_entries}
+use Rattle.sched_model.specs.Runs.{Reached, IsRun, IsNextEvent, action_of, run_start, after_entry, after_event, after_entries}
 use Rattle.sched_model.specs.Checked.{IsChecked}
 use Rattle.sched_laws.specs.Each.{EachPlace}
 use Rattle.sched_laws.specs.StateLaws.{state_after}
@@ -37,6 +38,7 @@ use Rattle.move_laws.proofs.Ending.{moved_ends, dom_moved_ends}
 use Rattle.turn_laws.specs.Turns.{one, how_many}
 use Rattle.turn_laws.proofs.StretchFalls.{push_assoc, after_push}
 use Rattle.credit2_turns.proofs.Credit2Steps.{Has}
+use Rattle.stretch_laws.proofs.LegRuns.{action_in}
 use Rattle.moment_laws.specs.Moments.{is_cause, is_line, are_at}
 use Rattle.moment_laws.proofs.DueInPools.{takes}
 use Rattle.moment_laws.proofs.DueInStates.{of_pools, IsReadyPool, command_less, stall_less, moved_less, dom_moved_less, home_lowers}
@@ -104,13 +106,13 @@ module _ (m : Machine) (checked : IsChecked m) (s : State) (apart : IsApart s) (
       let b : in_all (after m s s.now Xl) ≤ 1 + in_all s = by_option (λ (x : State). in_all x ≤ 1 + in_all s) (slice_get m.work.commands s.next_command) _ _ (λ is. omega arith) (λ l is. adds_line m s.now l s) in
       omega (arith, a, b)
 
-  core_moves : (r : ℕ) → is_enabled m s s.now (Moved r) ≡ true → 1 + to_come s.now (after m s s.now (Moved r)) ≤ to_come s.now s
+  core_moves : (r : ℕ) → is_enabled m s s.now (Moved (core r)) ≡ true → 1 + to_come s.now (after m s s.now (Moved (core r))) ≤ to_come s.now s
   core_moves r on =
       let a = moved_less m s.now r s in
       let b = moved_ends m s s.now r apart on in
       omega (arith, a, b)
 
-  domain_moves : (d : ℕ) → is_enabled m s s.now (DomMoved d) ≡ true → 1 + to_come s.now (after m s s.now (DomMoved d)) ≤ to_come s.now s
+  domain_moves : (d : ℕ) → is_enabled m s s.now (DomMoved (domain_number d)) ≡ true → 1 + to_come s.now (after m s s.now (DomMoved (domain_number d))) ≤ to_come s.now s
   domain_moves d on =
       let a = dom_moved_less m s.now d s in
       let b = dom_moved_ends m s s.now d on in
@@ -121,28 +123,20 @@ module _ (m : Machine) (checked : IsChecked m) (s : State) (apart : IsApart s) (
   event_lowers (event.Xl k answer) over next = (let a = commands in omega (arith, a))
   event_lowers (event.Moved r to) over next = (let a = core_moves r.0 next.0 in omega (arith, a))
   event_lowers (event.DomMoved d to) over next = (let a = domain_moves d.0 next.0 in omega (arith, a))
-  event_lowers (event.Wake v) over next = (let a = at_home (Wake v) next.0 in omega (arith, a))
-  event_lowers (event.Block p v) over next = (let a = at_home (Block p.0) next.0 in omega (arith, a))
-  event_lowers (event.Slice r) over next = (let a = at_home (Slice r.0) next.0 in omega (arith, a))
-  event_lowers (event.Repl u start deadline budget extra) over next = (let a = at_home (Repl u) next.0 in omega (arith, a))
-  event_lowers (event.Refill d periods budget) over next = (let a = at_home (Refill d.0) next.0 in omega (arith, a))
-  event_lowers (event.Arrive p) over next = (let a = at_home (Arrive p.0) next.0 in omega (arith, a))
-  event_lowers (event.Decide r unit due late reset) over next = (let a = at_home (Decide r.0) next.0 in omega (arith, a))
-  event_lowers (event.Leave p v) over next = (let a = at_home (Leave p.0) next.0 in omega (arith, a))
-  event_lowers (event.Save r u queued) over next = (let a = at_home (Save r.0) next.0 in omega (arith, a))
   event_lowers (event.End k) over next = omega arith
   event_lowers event.Finish over next = omega arith
+  event_lowers e over next = (let a = at_home (action_in e) next.0 in omega (arith, a))
 
 pub moment_lowers : (m : Machine) → IsChecked m → (t : ℕ) (moment before : List Entry) → IsRun m (before ++ moment) → are_at t moment ≡ true
     → how_many (λ (e : Entry). is_cause e.event) moment ≤ 2 * how_many (λ (e : Entry). is_line e.event) moment + to_come t (state_after m before)
 moment_lowers m checked t [] before run at = omega arith
 moment_lowers m checked t (e ∷ moment) before run at =
     let s : State = state_after m before in
-    let parts = split_run m (begun m) before (e ∷ moment) run in
+    let parts = split_run m (run_start m) before (e ∷ moment) run in
     let next = parts.1.0 in
     let now : s.now ≡ t = sym next.moment ∙ is_number e.at.0 t (and_left (e.at.0 == t) _ at) in
-    let here = event_lowers m checked s (is_apart m checked before parts.0) (ready_pools m checked before parts.0) e.event (after_entries m (begun m) before).over next.event in
-    let here_t = subst (λ k. one (is_cause e.event) + to_come k (after_entry m (after_entries m (begun m) before) e).state ≤ 2 * one (is_line e.event) + to_come k s) now here in
+    let here = event_lowers m checked s (is_apart m checked before parts.0) (ready_pools m checked before parts.0) e.event (after_entries m (run_start m) before).over next.event in
+    let here_t = subst (λ k. one (is_cause e.event) + to_come k (after_entry m (after_entries m (run_start m) before) e).state ≤ 2 * one (is_line e.event) + to_come k s) now here in
     let rest = moment_lowers m checked t moment (before ++ e ∷ []) (subst (IsRun m) (sym (push_assoc before e moment)) run) (and_right (e.at.0 == t) _ at) in
-    let same : to_come t (state_after m (before ++ e ∷ [])) ≡ to_come t (after_entry m (after_entries m (begun m) before) e).state = ap (λ (x : Reached). to_come t x.state) (after_push m (begun m) before e) in
+    let same : to_come t (state_after m (before ++ e ∷ [])) ≡ to_come t (after_entry m (after_entries m (run_start m) before) e).state = ap (λ (x : Reached). to_come t x.state) (after_push m (run_start m) before e) in
     omega (arith, here_t, rest, same)

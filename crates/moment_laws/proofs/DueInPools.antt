@@ -1,25 +1,25 @@
 -- What is to come of a pool falls by one with each wake, block, end of a slice, replenishment and refill, and grows with no event of the pool.
 use Rattle.std.proofs.Common.{◌≡◌, ◌≤◌, ◌<◌, ◌+◌, ◌-◌, ◌*◌, ◌/◌, ◌%◌, ℕ, zero, suc, Bool, true, false, not, List, [], ◌∷◌, refl, arith, ap, subst, sym, ◌∙◌, inl, inr, length, mod-lt}
 use Rattle.std.specs.Prelude.{Option, Some, None, is_some, nat_le, slice_get, slice_index_or, option_map, min, ◌==◌, ◌&&◌, ◌||◌}
-use Rattle.std.specs.List.{list_any, AllByRecursion}
+use Rattle.std.specs.List.{AllByRecursion}
 use Rattle.std.proofs.lemmas.List.Elements.{recursion_from_All}
 use Rattle.std.proofs.lemmas.Nat.{div-add-mod'}
-use Rattle.std.proofs.lemmas.Option.{slice_get_cases}
+use Rattle.std.proofs.lemmas.Option.{slice_get_cases, slice_get_within}
 use Rattle.sched_base.specs.Credit2Numbers.{refill_span}
-use Rattle.sched_base.specs.Numbers.{moment, span}
+use Rattle.sched_base.specs.Numbers.{moment, span, core, processor}
 use Rattle.sched_base.specs.declared.Moment.{Moment}
 use Rattle.sched_base.specs.declared.Span.{Span}
 use Rattle.sched_base.specs.declared.UnitId.{UnitId}
 use Rattle.sched_base.specs.declared.VcpuId.{VcpuId}
 use Rattle.sched_model.specs.declared.action.Action.{Action}
-use Rattle.sched_model.specs.declared.action.Action.TheVariants.{Stall, Xl, Moved, DomMoved, Wake, Block, Slice, Repl, Refill, Arrive, Decide, Leave, Save}
+use Rattle.sched_model.specs.declared.action.Action.TheVariants.{Wake, Block, Slice, Repl, Refill, Arrive, Decide, Leave, Save}
 use Rattle.sched_model.specs.declared.machine.Machine.{Machine}
 use Rattle.sched_model.specs.declared.state.Credit2Domain.{Credit2Domain}
 use Rattle.sched_model.specs.declared.state.Doing.TheVariants.{Idle, Held}
 use Rattle.sched_model.specs.declared.state.Domain.{Domain}
 use Rattle.sched_model.specs.declared.state.Pool.{Pool}
 use Rattle.sched_model.specs.declared.state.Records.{Records}
-use Rattle.sched_model.specs.declared.state.Records.TheVariants.{Credit2Pool, RtdsPool, ArincPool, NullPool}
+use Rattle.sched_model.specs.declared.state.Records.TheVariants.{Credit2Pool, RtdsPool}
 use Rattle.sched_model.specs.declared.state.Resource.{Resource}
 use Rattle.sched_model.specs.declared.state.RtdsUnit.{RtdsUnit}
 use Rattle.sched_model.specs.declared.state.Vcpu.{Vcpu}
@@ -33,7 +33,8 @@ use Rattle.sched_model.specs.Rtds as rtds
 use Rattle.sched_model.specs.Policy as policy
 use Rattle.sched_model.specs.Policy.{decision_of, rtds_record}
 use Rattle.sched_model.specs.Pool as pools
-use Rattle.sched_model.specs.Pool.{enabled_in, after_in, settled, change_core, change_processor, change_vcpu, does, is_held, first_up, vcpu_of, guest_of, processor_of, done_at, ask_of, decided, same_choice}
+use Rattle.sched_model.specs.Pool.{enabled_in, after_in, settled_pool, change_core, change_processor, change_vcpu, with_doing, first_up, vcpu_of, guest_of, processor_of, done_at, ask_of, decided_core, same_choice}
+use Rattle.sched_laws.proofs.Events.{kept_opened}
 use Rattle.sched_laws.proofs.Bools.{and_left, and_right, both, clash}
 use Rattle.sched_laws.proofs.Counts.{total-change_at, total-put_at}
 use Rattle.sched_laws.specs.Counts.{total}
@@ -47,7 +48,7 @@ use Rattle.sched_ranges.proofs.Vcpus.{VcpuFits}
 use Rattle.sched_ranges.proofs.Walk.{DomFits, PoolFits}
 use Rattle.turn_laws.specs.Turns.{one}
 use Rattle.turn_laws.proofs.Sums.{how_many_changed}
-use Rattle.moment_laws.proofs.DueEvents.{of_pool, of_core, of_domain, of_credit2, of_rtds, of_records, is_overdue, is_ripe, ends_by, is_deadline_due, is_refill_due, less_core, less_processor, less_settled, less_started_on, less_stopped, pending_none}
+use Rattle.moment_laws.proofs.DueEvents.{of_pool, of_core, of_domain, of_credit2, of_rtds, of_records, is_overdue, is_ripe, ends_by, is_deadline_due, is_refill_due, less_commands, less_core, less_processor, less_settled, less_started_on, less_stopped, pending_none}
 use Rattle.moment_laws.proofs.LaterDues.{DecidesLater, IsReady, decides_later, burned_deadline}
 use Rattle.turn_laws.proofs.Tests.{or_later}
 
@@ -86,15 +87,10 @@ module _ (m : Machine) (checked : IsChecked m) (t : ℕ) (pool : Pool) (fits : P
           fits = here.vcpus v.n x script.0 get script.2;
         }
         | inr past ↦ absurd (
-            let low = get_inside d.vcpus v.n x get in
+            let low = slice_get_within d.vcpus v.n x get in
             let p = past.0 in
             omega (arith, low, p, same))
       ]))
-    where
-      get_inside : {X : Type 0} (xs : List X) (n : ℕ) (y : X) → slice_get xs n ≡ Some y → n < length xs
-      get_inside [] n y get = absurd (cc)
-      get_inside (z ∷ xs) zero y get = omega arith
-      get_inside (z ∷ xs) (suc n) y get = (let r = get_inside xs n y get in omega (arith, r))
 
   -- a ripe vCPU that is ripe no more
   lower_vcpu : (v : VcpuId) (f : Vcpu → Vcpu) (x : Vcpu) → Scripted t pool v x → is_ripe t x ≡ true → is_ripe t (f x) ≡ false → of_pool t (change_vcpu v f pool) + 1 ≤ of_pool t pool
@@ -119,14 +115,14 @@ module _ (m : Machine) (checked : IsChecked m) (t : ℕ) (pool : Pool) (fits : P
       of_spans (x ∷ xs) (suc n) low each = of_spans xs n (omega (arith, low)) each.1
 
   -- a sleeper that wakes, and a vCPU that falls asleep
-  wakes_ripe : (v : VcpuId) (x : Vcpu) → Scripted t pool v x → has_come t x.asleep_until ≡ true → (is_ripe t x ≡ true) × (is_ripe t (pools.woken x) ≡ false)
+  wakes_ripe : (v : VcpuId) (x : Vcpu) → Scripted t pool v x → has_come t x.asleep_until ≡ true → (is_ripe t x ≡ true) × (is_ripe t (pools.woken_vcpu x) ≡ false)
   wakes_ripe v x s come = by_sleep x.asleep_until refl
     where
       not_ripe : (o : Option Span) → ((w : Span) → o ≡ Some w → 1 ≤ w.0) → ends_by t None o ≡ false
       not_ripe None some = refl
       not_ripe (Some w) some = (let a = some w refl in grind (arith, a))
 
-      by_sleep : (o : Option Moment) → x.asleep_until ≡ o → (is_ripe t x ≡ true) × (is_ripe t (pools.woken x) ≡ false)
+      by_sleep : (o : Option Moment) → x.asleep_until ≡ o → (is_ripe t x ≡ true) × (is_ripe t (pools.woken_vcpu x) ≡ false)
       by_sleep None is = absurd (let e : has_come t None ≡ true = subst (λ (o : Option Moment). has_come t o ≡ true) is come in cc)
       by_sleep (Some until) is = (
         ap (λ (o : Option Moment). elim o as (λ _. Bool) [ None ↦ ends_by t x.started x.work_left | Some k ↦ nat_le k.0 t ]) is ∙ sym (ap (has_come t) is) ∙ come,
@@ -177,13 +173,13 @@ module _ (m : Machine) (checked : IsChecked m) (t : ℕ) (pool : Pool) (fits : P
       (λ x at come. (
       let s = scripted v x at in
       let r = wakes_ripe v x s come in
-      let next : Pool = change_vcpu v pools.woken pool in
-      let here : of_pool t next + 1 ≤ of_pool t pool = lower_vcpu v pools.woken x s r.0 r.1 in
+      let next : Pool = change_vcpu v pools.woken_vcpu pool in
+      let here : of_pool t next + 1 ≤ of_pool t pool = lower_vcpu v pools.woken_vcpu x s r.0 r.1 in
       let Q : Pool → Type 0 = λ (p : Pool). of_pool t p + 1 ≤ of_pool t pool in
       by_test Q (is_runnable g next (pools.unit_of g v)) _ _
       (λ runs. by_cond Q (pools.is_off next (pools.unit_of g v)) _ _ (λ off. here) (λ off. (let a = less_siblings v next in omega (arith, a, here)))) (λ runs. here)))
 
-  blocks : (p : ℕ) → enabled_in g t pool (Block p) ≡ true → of_pool t (after_in g t pool (Block p)) + 1 ≤ of_pool t pool
+  blocks : (p : ℕ) → enabled_in g t pool (Block (processor p)) ≡ true → of_pool t (after_in g t pool (Block (processor p))) + 1 ≤ of_pool t pool
   blocks p on = by_guest (guest_of g pool p) refl (and_left (elim (guest_of g pool p) as (λ _. Bool) [ None ↦ false | Some v ↦ elim (vcpu_of pool v) as (λ _. Bool) [ None ↦ false | Some x ↦ has_come t (done_at x) ] ]) _ on)
     where
       with_guest : (v : VcpuId) (o : Option Vcpu) → vcpu_of pool v ≡ o → elim o as (λ _. Bool) [ None ↦ false | Some x ↦ has_come t (done_at x) ] ≡ true → of_pool t (pools.after_block g t p v pool) + 1 ≤ of_pool t pool
@@ -192,9 +188,9 @@ module _ (m : Machine) (checked : IsChecked m) (t : ℕ) (pool : Pool) (fits : P
           let s = scripted v x at in
           let r = sleeps_ripe v x s come in
           let slept : Pool = change_vcpu v (pools.put_to_sleep t) pool in
-          let next : Pool = change_processor g p (does Idle) slept in
+          let next : Pool = change_processor g p (with_doing Idle) slept in
           let here = lower_vcpu v (pools.put_to_sleep t) x s r.0 r.1 in
-          let idle = less_processor t g p (does Idle) slept in
+          let idle = less_processor t g p (with_doing Idle) slept in
           by_cond (λ (q : Pool). of_pool t q + 1 ≤ of_pool t pool) (is_runnable g next (pools.unit_of g v)) next _ (λ runs. omega (arith, here, idle))
           (λ runs. (let marked = less_core t (p / g) (λ c. record c { pending = true }) next (λ c e. absurd (clash _ e (pending_none t (record c { pending = true }) refl))) in omega (arith, here, idle, marked)))
 
@@ -203,7 +199,7 @@ module _ (m : Machine) (checked : IsChecked m) (t : ℕ) (pool : Pool) (fits : P
       by_guest None is e = absurd (cc)
       by_guest (Some v) is e = with_guest v (vcpu_of pool v) refl e
 
-  slices : (r : ℕ) → enabled_in g t pool (Slice r) ≡ true → of_pool t (after_in g t pool (Slice r)) + 1 ≤ of_pool t pool
+  slices : (r : ℕ) → enabled_in g t pool (Slice (core r)) ≡ true → of_pool t (after_in g t pool (Slice (core r))) + 1 ≤ of_pool t pool
   slices r on =
       let found = some-test_at pool.resources r (λ c. has_come t c.due && not c.pending && first_up t c) on in
       let c : Resource = found.0 in
@@ -251,17 +247,13 @@ module _ (m : Machine) (checked : IsChecked m) (t : ℕ) (pool : Pool) (fits : P
       omega (arith, a, b, before, after))) at
 
   replenishes : (u : UnitId) (records : Records) → pool.scheduler.records ≡ records → policy.replenish_due records t u ≡ true → of_records t (policy.replenish records t u) + 1 ≤ of_records t records
-  replenishes u (Credit2Pool rs) is due = absurd (cc)
   replenishes u (RtdsPool xs) is due = renews xs is u (rtds_unit xs u) refl due
-  replenishes u (ArincPool arinc) is due = absurd (cc)
-  replenishes u (NullPool kept) is due = absurd (cc)
+  replenishes u records is due = absurd (cc)
 
   -- the budget of a record
   budget_some : (u : UnitId) (x : RtdsUnit) (records : Records) → RecordsFit (length m.config.domains) (core_count m.config) t records → rtds_record records u ≡ Some x → 0 < x.budget
-  budget_some u x (Credit2Pool rs) fit is = absurd (cc)
   budget_some u x (RtdsPool xs) fit is = (let a = (fit_unit t xs u x is fit.units).budget.least in omega (arith, a))
-  budget_some u x (ArincPool arinc) fit is = absurd (cc)
-  budget_some u x (NullPool kept) fit is = absurd (cc)
+  budget_some u x records fit is = absurd (cc)
 
   within_overdue : (budget : ℕ) (c : Resource) → 0 < budget → is_overdue t (pools.due_within t budget c) ≡ true → is_overdue t c ≡ true
   within_overdue budget c some = by_due c.due
@@ -314,37 +306,33 @@ module _ (m : Machine) (checked : IsChecked m) (t : ℕ) (pool : Pool) (fits : P
       let before = ap one r.0 in
       let after = ap one r.1 in
       omega (arith, a, before, after))) come
-  refills_by d (RtdsPool xs) come = absurd (cc)
-  refills_by d (ArincPool arinc) come = absurd (cc)
-  refills_by d (NullPool kept) come = absurd (cc)
+  refills_by d records come = absurd (cc)
 
   -- the other events
   arrives : (p : ℕ) → of_pool t (pools.after_arrive g t p pool) ≤ of_pool t pool
   arrives p =
-      by_option (λ (next : Pool). of_pool t (change_processor g p (does Held) next) ≤ of_pool t pool) (guest_of g pool p) _ _
-      (λ is. less_processor t g p (does Held) pool)
-      (λ v is. (let a = less_stopped t v pool in let b = less_processor t g p (does Held) (change_vcpu v (pools.stopped t) pool) in omega (arith, a, b)))
-
-  opens_less : (p : ℕ) (old : Pool) → of_pool t (change_core (p / g) pools.open_if_left old) ≤ of_pool t old
-  opens_less p old = less_core t (p / g) pools.open_if_left old (λ c. by_cond (λ (x : Resource). is_overdue t x ≡ true → is_overdue t c ≡ true) (list_any is_held c.processors) c _ (λ is e. e) (λ is e. e))
+      by_option (λ (next : Pool). of_pool t (change_processor g p (with_doing Held) next) ≤ of_pool t pool) (guest_of g pool p) _ _
+      (λ is. less_processor t g p (with_doing Held) pool)
+      (λ v is. (let a = less_stopped t v pool in let b = less_processor t g p (with_doing Held) (change_vcpu v (pools.stopped_vcpu t) pool) in omega (arith, a, b)))
 
   leaves : (p : ℕ) (c : Resource) → of_pool t (pools.after_leave g t p c pool) ≤ of_pool t pool
   leaves p c =
+      let opened : (old : Pool) → of_pool t (change_core (p / g) pools.open_if_left old) ≤ of_pool t old = λ old. kept_opened (less_commands t g (of_pool t old)) (p / g) old (omega arith) in
       by_option (λ (next : Pool). of_pool t (change_core (p / g) pools.open_if_left next) ≤ of_pool t pool) (pools.vcpu_for g pool c (p % g)) _ _
-      (λ is. (let next : Pool = change_processor g p (does Idle) pool in let a = less_processor t g p (does Idle) pool in let b = opens_less p next in omega (arith, a, b)))
-      (λ v is. (let next : Pool = pools.started_on g t p v pool in let a = less_started_on t g p v pool in let b = opens_less p next in omega (arith, a, b)))
+      (λ is. (let next : Pool = change_processor g p (with_doing Idle) pool in let a = less_processor t g p (with_doing Idle) pool in let b = opened next in omega (arith, a, b)))
+      (λ v is. (let next : Pool = pools.started_on g t p v pool in let a = less_started_on t g p v pool in let b = opened next in omega (arith, a, b)))
 
   saves : (r : ℕ) (u : UnitId) → of_pool t (pools.after_save g r u pool) ≤ of_pool t pool
   saves r u =
-      let next : Pool = change_core r pools.saved pool in
-      let a = less_core t r pools.saved pool (λ c e. e) in
+      let next : Pool = change_core r pools.saved_core pool in
+      let a = less_core t r pools.saved_core pool (λ c e. e) in
       by_cond (λ (p : Pool). of_pool t p ≤ of_pool t pool) (is_runnable g pool u) (pools.queue_unit u next) next (λ is. omega (arith, a)) (λ is. omega (arith, a))
 
   decides : (r : ℕ) (c : Resource) → at_place pool.resources r ≡ Some c → IsReady (ask_of g t pool r c) pool.scheduler.queue pool.scheduler.records → of_pool t (pools.after_decide g t r c pool) ≤ of_pool t pool
   decides r c at ready =
       let decision : Decision = decision_of (ask_of g t pool r c) pool.scheduler in
       let d : DecidesLater t pool.scheduler.records decision = decides_later (ask_of g t pool r c) pool.scheduler ready in
-      let next : Resource = decided t decision c in
+      let next : Resource = decided_core t decision c in
       let none : is_overdue t next ≡ false = by_test (λ (x : Resource). is_overdue t x ≡ false) (same_choice decision.unit c.cur) _ _ (λ is. ap (λ b. b && true) d.due) (λ is. ap (λ b. b && true) d.due) in
       let a = total-put_at (of_core t) r next c pool.resources at in
       let zero_is = ap one none in
@@ -354,21 +342,18 @@ module _ (m : Machine) (checked : IsChecked m) (t : ℕ) (pool : Pool) (fits : P
   -- whatever happens in the pool
   pub acts : ((r : ℕ) (c : Resource) → at_place pool.resources r ≡ Some c → IsReady (ask_of g t pool r c) pool.scheduler.queue pool.scheduler.records)
       → (action : Action) → enabled_in g t pool action ≡ true → of_pool t (after_in g t pool action) + takes action ≤ of_pool t pool
-  acts ready Stall on = omega arith
-  acts ready Xl on = omega arith
-  acts ready (Moved r) on = omega arith
-  acts ready (DomMoved d) on = omega arith
   acts ready (Wake v) on = wakes v on
-  acts ready (Block p) on = blocks p on
-  acts ready (Slice r) on = slices r on
+  acts ready (Block p) on = blocks p.0 on
+  acts ready (Slice r) on = slices r.0 on
   acts ready (Repl u) on = repls u on
-  acts ready (Refill d) on = (let a = refills_by d pool.scheduler.records (and_left (has_come t (policy.next_refill pool.scheduler.records d)) _ on) in omega (arith, a))
-  acts ready (Arrive p) on = (let a = arrives p in omega (arith, a))
-  acts ready (Decide r) on = by_option (λ (next : Pool). of_pool t next + 0 ≤ of_pool t pool) (at_place pool.resources r) _ _ (λ is. omega arith) (λ c at. (let a = decides r c at (ready r c at) in omega (arith, a)))
-  acts ready (Leave p) on = by_option (λ (next : Pool). of_pool t next + 0 ≤ of_pool t pool) (at_place pool.resources (p / g)) _ _ (λ is. omega arith) (λ c at. (let a = leaves p c in omega (arith, a)))
-  acts ready (Save r) on = by_option (λ (next : Pool). of_pool t next + 0 ≤ of_pool t pool) (at_place pool.resources r) _ _ (λ is. omega arith)
-      (λ c at. by_option (λ (next : Pool). of_pool t next + 0 ≤ of_pool t pool) c.saving _ _ (λ is. omega arith) (λ u is. (let a = saves r u in omega (arith, a))))
+  acts ready (Refill d) on = (let a = refills_by d.0 pool.scheduler.records (and_left (has_come t (policy.next_refill pool.scheduler.records d.0)) _ on) in omega (arith, a))
+  acts ready (Arrive p) on = (let a = arrives p.0 in omega (arith, a))
+  acts ready (Decide r) on = by_option (λ (next : Pool). of_pool t next + 0 ≤ of_pool t pool) (at_place pool.resources r.0) _ _ (λ is. omega arith) (λ c at. (let a = decides r.0 c at (ready r.0 c at) in omega (arith, a)))
+  acts ready (Leave p) on = by_option (λ (next : Pool). of_pool t next + 0 ≤ of_pool t pool) (at_place pool.resources (p.0 / g)) _ _ (λ is. omega arith) (λ c at. (let a = leaves p.0 c in omega (arith, a)))
+  acts ready (Save r) on = by_option (λ (next : Pool). of_pool t next + 0 ≤ of_pool t pool) (at_place pool.resources r.0) _ _ (λ is. omega arith)
+      (λ c at. by_option (λ (next : Pool). of_pool t next + 0 ≤ of_pool t pool) c.saving _ _ (λ is. omega arith) (λ u is. (let a = saves r.0 u in omega (arith, a))))
+  acts ready action on = omega arith
 
   pub acts_settled : ((r : ℕ) (c : Resource) → at_place pool.resources r ≡ Some c → IsReady (ask_of g t pool r c) pool.scheduler.queue pool.scheduler.records)
-      → (action : Action) → enabled_in g t pool action ≡ true → of_pool t (settled t (after_in g t pool action)) + takes action ≤ of_pool t pool
+      → (action : Action) → enabled_in g t pool action ≡ true → of_pool t (settled_pool t (after_in g t pool action)) + takes action ≤ of_pool t pool
   acts_settled ready action on = (let a = acts ready action on in let b = less_settled t (after_in g t pool action) in omega (arith, a, b))

@@ -1,6 +1,6 @@
 -- What is to come of a state at its moment falls by one with each cause that is no line, stays with a stall, and grows by one at most with a command.
-use Rattle.std.proofs.Common.{◌≡◌, ◌≤◌, ◌+◌, ◌/◌, ℕ, zero, suc, Bool, true, false, not, List, [], ◌∷◌, refl, arith, ap, length}
-use Rattle.std.specs.Prelude.{Option, Some, None, Ok, Err, is_some, replicate, slice_get, unwrap_or, ◌==◌, ◌&&◌, ◌||◌}
+use Rattle.std.proofs.Common.{◌≡◌, ◌≤◌, ◌+◌, ◌/◌, ℕ, zero, suc, Bool, true, false, List, [], ◌∷◌, refl, arith, ap, length}
+use Rattle.std.specs.Prelude.{Option, Some, None, Ok, Err, replicate, slice_get, unwrap_or, ◌==◌, ◌&&◌, ◌||◌}
 use Rattle.sched_base.specs.Numbers.{moment, span, domain as domain_number, pool as pool_number}
 use Rattle.sched_base.specs.declared.Span.{Span}
 use Rattle.sched_base.specs.declared.UnitId.{UnitId}
@@ -24,18 +24,18 @@ use Rattle.sched_model.specs.declared.state.State.{State}
 use Rattle.sched_model.specs.declared.work.CommandLine.{CommandLine}
 use Rattle.sched_model.specs.Checked.{IsChecked}
 use Rattle.sched_model.specs.Places.{at_place, put_at, clear_at, change_at, test_at, numbers_from}
-use Rattle.sched_model.specs.State.{is_runnable, has_come}
 use Rattle.sched_model.specs.Opening.{empty_pool, fresh_core, core_count}
 use Rattle.sched_model.specs.Credit2 as credit2
 use Rattle.sched_model.specs.Policy as policy
 use Rattle.sched_model.specs.Policy.{rtds_record, default_pool_params, default_dom_params}
 use Rattle.sched_model.specs.Pool as pools
-use Rattle.sched_model.specs.Pool.{enabled_in, after_in, settled, change_processor, set_leaving, set_moving, pause, unpause, set_params, without_domain, ask_of, unit_count, is_off}
+use Rattle.sched_model.specs.Pool.{enabled_in, after_in, settled_pool, change_processor, set_leaving, set_moving, pause, unpause, set_params, without_domain, ask_of, unit_count}
 use Rattle.sched_model.specs.Actions.{home_of, home_of_core, home_of_domain, change_pool}
 use Rattle.sched_model.specs.Commands.{carried_out, change_home, set_rtds, set_rtds_unit, pool_of_plan}
 use Rattle.sched_model.specs.Machine.{after, after_command, after_moved, after_dom_moved, after_at_home, enabled_at_home, verdict, settled_at, stall_end_of, left_by, joined_by, is_null}
+use Rattle.sched_laws.proofs.Events.{kept_marked, kept_pause, kept_queue_units, kept_set_leaving, kept_unpause, kept_withdrawn}
 use Rattle.sched_laws.specs.Each.{EachPlace}
-use Rattle.sched_laws.proofs.Bools.{and_left, and_right, both, clash}
+use Rattle.sched_laws.proofs.Bools.{clash}
 use Rattle.sched_laws.proofs.Counts.{total-change_at, total-clear_at}
 use Rattle.sched_laws.specs.Counts.{total}
 use Rattle.sched_laws.proofs.EachPlace.{by_cond, by_option}
@@ -43,57 +43,16 @@ use Rattle.sched_laws.proofs.Lists.{some-test_at}
 use Rattle.sched_ranges.proofs.Walk.{PoolFits}
 use Rattle.move_laws.proofs.Totals.{total-put_at_more, total-clear_at_less, total-change_at_more}
 use Rattle.turn_laws.specs.Turns.{one, how_many}
-use Rattle.moment_laws.proofs.DueEvents.{IsLess, of_pool, of_core, of_domain, of_credit2, of_rtds, of_records, is_overdue, is_ripe, is_deadline_due, is_refill_due, one_less, total-change_at_less, less_core, less_each, less_domain, less_processor, less_settled, less_cores_of, pending_none}
+use Rattle.moment_laws.proofs.DueEvents.{IsLess, of_pool, of_core, of_domain, of_credit2, of_rtds, of_records, is_overdue, is_deadline_due, is_refill_due, one_less, total-change_at_less, less_commands, less_capped, less_domain, less_processor, less_settled}
 use Rattle.moment_laws.proofs.LaterDues.{IsReady, same_deadlines}
 use Rattle.moment_laws.proofs.DueInPools.{takes, acts_settled}
 use Rattle.turn_laws.specs.Stretches.{cores}
 
 module _ (t : ℕ) where
-  -- a command's changes of a pool
-  less_queued : (g d : ℕ) (units : List ℕ) (pool : Pool) → IsLess t pool (pools.queue_units g d units pool)
-  less_queued g d [] pool = omega arith
-  less_queued g d (n ∷ ns) pool =
-      let u : UnitId = record { dom = domain_number d; n = n } in
-      let next : Pool = pools.queue_if_off g u pool in
-      let a : of_pool t next ≤ of_pool t pool = by_cond (IsLess t pool) (is_runnable g pool u && is_off pool u) (pools.queue_unit u pool) pool (λ is. omega arith) (λ is. omega arith) in
-      let b = less_queued g d ns next in
-      omega (arith, a, b)
-
-  less_same_domain : (d : ℕ) (f : Domain → Domain) (pool : Pool) → ((x : Domain) → (f x).vcpus ≡ x.vcpus) → IsLess t pool (pools.change_domain d f pool)
-  less_same_domain d f pool same = less_domain t d f pool (λ x at. (let e : of_domain t (f x) ≡ of_domain t x = ap (how_many (is_ripe t)) (same x) in omega (arith, e)))
-
-  less_withdrawn : (d : ℕ) (pool : Pool) → IsLess t pool (pools.withdrawn d pool)
-  less_withdrawn d pool = less_cores_of t d pools.set_pending (record pool { scheduler = policy.dequeue_domain d pool.scheduler }) (λ c. refl)
-
-  less_pause : (d : ℕ) (pool : Pool) → IsLess t pool (pause d pool)
-  less_pause d pool =
-      let f : Domain → Domain = λ domain. record domain { paused = true } in
-      let a = less_same_domain d f pool (λ x. refl) in
-      let b = less_withdrawn d (pools.change_domain d f pool) in
-      by_cond (IsLess t pool) (test_at pool.domains d (λ domain. domain.paused)) pool (pools.withdrawn d (pools.change_domain d f pool)) (λ is. omega arith) (λ is. omega (arith, a, b))
-
-  less_unpause : (g d : ℕ) (pool : Pool) → IsLess t pool (unpause g d pool)
-  less_unpause g d pool =
-      let f : Domain → Domain = λ x. record x { paused = false } in
-      let a = less_same_domain d f pool (λ x. refl) in
-      by_option (IsLess t pool) (at_place pool.domains d) _ _ (λ is. omega arith)
-      (λ domain is. by_cond (IsLess t pool) domain.paused _ _
-      (λ is2. (let b = less_queued g d (numbers_from 0 (unit_count g domain)) (pools.change_domain d f pool) in omega (arith, a, b))) (λ is2. omega arith))
-
   less_moving : (d i : ℕ) (pool : Pool) → IsLess t pool (set_moving d i pool)
   less_moving d i pool =
       let f : Domain → Domain = λ x. record x { moving = Some (pool_number i) } in
-      let a = less_same_domain d f pool (λ x. refl) in
-      let b = less_withdrawn d (pools.change_domain d f pool) in
-      omega (arith, a, b)
-
-  less_leaving : (r : ℕ) (pool : Pool) → IsLess t pool (set_leaving r pool)
-  less_leaving r pool = less_core t r (λ c. record c { leaving = true; pending = c.pending || is_some c.cur }) pool
-      (λ c e. both (has_come t c.due) (not c.pending) (and_left (has_come t c.due) _ e) (still c.pending _ (and_right (has_come t c.due) _ e)))
-    where
-      still : (a b : Bool) → not (a || b) ≡ true → not a ≡ true
-      still true b is = is
-      still false b is = refl
+      kept_withdrawn (less_commands t 0 (of_pool t pool)) d (pools.change_domain d f pool) (less_domain t d f pool (λ x at. omega arith))
 
   capped_none : (percent : ℕ) → is_refill_due t (credit2.first_refill percent t) ≡ false
   capped_none percent = by_cond (λ (o : Option ℕ). is_refill_due t o ≡ false) (percent == 0) None (Some (t + 10000000)) (λ is. refl) (λ is. grind arith)
@@ -122,13 +81,9 @@ module _ (t : ℕ) where
   less_params change pool =
       let next : Pool = record pool { scheduler = policy.set_params change t pool.scheduler } in
       let a = less_records change pool.scheduler.records in
-      let b = less_marked change next in
+      let b : IsLess t next (pools.marked_pool change t next) =
+      kept_marked (less_commands t 0 (of_pool t next)) t (λ d now here. (let c = less_capped t d now in omega (arith, c, here))) change next (omega arith) in
       omega (arith, a, b)
-    where
-      less_marked : (change : ParamChange) (old : Pool) → IsLess t old (pools.marked change t old)
-      less_marked (changes.Dom d weight (Some percent)) old = less_cores_of t d.0 (λ c. record c { pending = true; due = Some (moment t) }) old (λ c. refl)
-      less_marked (changes.Frame frame) old = less_each t (λ r c. pools.set_pending c) old (λ r c e. absurd (clash _ e (pending_none t (pools.set_pending c) refl)))
-      less_marked change old = omega arith
 
   less_rtds : (d : ℕ) (period budget : Option Span) (extra : Option Bool) (units : List ℕ) (pool : Pool) → IsLess t pool (set_rtds t d period budget extra units pool)
   less_rtds d period budget extra [] pool = omega arith
@@ -141,7 +96,7 @@ module _ (t : ℕ) where
       omega (arith, a, b)
 
   -- a core or a domain comes or goes
-  core_comes : (r : ℕ) (c : Resource) (pool : Pool) → is_overdue t c ≡ false → IsLess t pool (settled t (record pool { resources = put_at r c pool.resources }))
+  core_comes : (r : ℕ) (c : Resource) (pool : Pool) → is_overdue t c ≡ false → IsLess t pool (settled_pool t (record pool { resources = put_at r c pool.resources }))
   core_comes r c pool none =
       let next : Pool = record pool { resources = put_at r c pool.resources } in
       let a = total-put_at_more (of_core t) r c pool.resources in
@@ -149,7 +104,7 @@ module _ (t : ℕ) where
       let e = ap one none in
       omega (arith, a, b, e)
 
-  core_goes : (r : ℕ) (pool : Pool) → IsLess t pool (settled t (record pool { resources = clear_at r pool.resources }))
+  core_goes : (r : ℕ) (pool : Pool) → IsLess t pool (settled_pool t (record pool { resources = clear_at r pool.resources }))
   core_goes r pool =
       let next : Pool = record pool { resources = clear_at r pool.resources } in
       let a = total-clear_at_less (of_core t) r pool.resources in
@@ -167,8 +122,7 @@ module _ (t : ℕ) where
       let none = fresh_none count x (grind arith) in
       let a = total-put_at_more (of_rtds t) d (replicate count x) xs in
       omega (arith, none, a)
-  joins_records d count (ArincPool arinc) = omega arith
-  joins_records d count (NullPool kept) = omega arith
+  joins_records d count records = omega arith
 
   domain_comes : (g d : ℕ) (x : Domain) (pool : Pool) → of_pool t (joined_by g t d x pool) ≤ of_domain t x + of_pool t pool
   domain_comes g d x pool =
@@ -178,15 +132,14 @@ module _ (t : ℕ) where
       let queued : Pool = pools.queue_units g d (numbers_from 0 count) start in
       let a = total-put_at_more (of_domain t) d y pool.domains in
       let b = joins_records d count pool.scheduler.records in
-      let c = less_queued g d (numbers_from 0 count) start in
+      let c : IsLess t start queued = kept_queue_units (less_commands t g (of_pool t start)) d (numbers_from 0 count) start (omega arith) in
       let e = less_settled t queued in
       omega (arith, a, b, c, e)
 
   parts_records : (d : ℕ) (records : Records) → of_records t (policy.parted_records records d) ≤ of_records t records
   parts_records d (Credit2Pool rs) = total-clear_at_less (of_credit2 t) d rs.domains
   parts_records d (RtdsPool xs) = total-clear_at_less (of_rtds t) d xs
-  parts_records d (ArincPool arinc) = omega arith
-  parts_records d (NullPool kept) = omega arith
+  parts_records d records = omega arith
 
   domain_goes : (d : ℕ) (x : Domain) (pool : Pool) → at_place pool.domains d ≡ Some x → of_domain t x + of_pool t (left_by t d pool) ≤ of_pool t pool
   domain_goes d x pool at =
@@ -194,7 +147,7 @@ module _ (t : ℕ) where
       let a = total-clear_at (of_domain t) d x pool.domains at in
       let b = parts_records d pool.scheduler.records in
       let c = less_settled t out in
-      by_cond (λ (p : Pool). of_domain t x + of_pool t p ≤ of_pool t pool) (is_null pool.scheduler.records) (settled t out) out (λ is. omega (arith, a, b, c)) (λ is. omega (arith, a, b))
+      by_cond (λ (p : Pool). of_domain t x + of_pool t p ≤ of_pool t pool) (is_null pool.scheduler.records) (settled_pool t out) out (λ is. omega (arith, a, b, c)) (λ is. omega (arith, a, b))
 
   none_placed : {X : Type 0} (f : X → ℕ) (n : ℕ) → total f (replicate n None) ≡ 0
   none_placed f zero = refl
@@ -236,20 +189,20 @@ module _ (m : Machine) (t : ℕ) where
       let none = empty_none t m kind in
       omega (arith, a, none)
   plan_less (plan.PoolDestroy i answer) s = total-clear_at_less (of_pool t) i.0 s.pools
-  plan_less (plan.CpuRemove i core answer) s = change_less i.0 (set_leaving core.0) s (less_leaving t core.0)
+  plan_less (plan.CpuRemove i core answer) s = change_less i.0 (set_leaving core.0) s (λ pool. kept_set_leaving (less_commands t g (of_pool t pool)) core.0 pool (omega arith))
   plan_less (plan.Migrate d i j answer) s = by_cond (Less s) (i.0 == j.0) s (change_pool i.0 (set_moving d.0 j.0) s) (λ is. omega arith) (λ is. change_less i.0 (set_moving d.0 j.0) s (less_moving t d.0 j.0))
   plan_less (plan.Credit2Dom d weight percent answer) s = home_less d.0 (set_params (changes.Dom d weight percent) t) s (less_params t (changes.Dom d weight percent))
   plan_less (plan.Credit2Pool i (Some us) answer) s = change_less i.0 (set_params (changes.Rate us) t) s (less_params t (changes.Rate us))
   plan_less (plan.RtdsDom d first count period budget extra answer) s = home_less d.0 (set_rtds t d.0 period budget extra (numbers_from first count)) s (less_rtds t d.0 period budget extra (numbers_from first count))
-  plan_less (plan.Pause d answer) s = home_less d.0 (pause d.0) s (less_pause t d.0)
-  plan_less (plan.Unpause d answer) s = home_less d.0 (unpause g d.0) s (less_unpause t g d.0)
+  plan_less (plan.Pause d answer) s = home_less d.0 (pause d.0) s (λ pool. kept_pause (less_commands t g (of_pool t pool)) d.0 pool (omega arith))
+  plan_less (plan.Unpause d answer) s = home_less d.0 (unpause g d.0) s (λ pool. kept_unpause (less_commands t g (of_pool t pool)) d.0 pool (omega arith))
   plan_less (plan.ArincSet i frame answer) s = change_less i.0 (set_params (changes.Frame frame) t) s (less_params t (changes.Frame frame))
   plan_less (plan.Pin d unit cores answer) s = home_less d.0 (set_params (changes.Pin d unit cores) t) s (less_params t (changes.Pin d unit cores))
   plan_less p s = omega arith
 
   settled_less : (home : Option ℕ) (s : State) → Less s (settled_at t home s)
   settled_less None s = omega arith
-  settled_less (Some i) s = change_less i (settled t) s (less_settled t)
+  settled_less (Some i) s = change_less i (settled_pool t) s (less_settled t)
 
   line_less : (line : CommandLine) (s : State) → Less s (after_command m t line s)
   line_less line s =
@@ -274,9 +227,9 @@ module _ (m : Machine) (t : ℕ) where
       (λ is. by_option (Less s) (home_of_core s r) _ _ (λ is2. omega arith)
       (λ i is2. by_option (Less s) (at_place s.pools i) _ _ (λ is3. omega arith)
       (λ pool is3. by_option (Less s) (at_place pool.resources r) _ _ (λ is4. omega arith)
-      (λ c is4. change_less i (λ x. settled t (record x { resources = clear_at r x.resources })) s (core_goes t r)))))
+      (λ c is4. change_less i (λ x. settled_pool t (record x { resources = clear_at r x.resources })) s (core_goes t r)))))
       (λ c is. by_option (Less s) c.target _ _ (λ is2. omega arith)
-      (λ i is2. change_less i (λ x. settled t (record x { resources = put_at r (fresh_core c.stall_ends) x.resources })) (record s { free = clear_at r s.free }) (λ x. core_comes t r (fresh_core c.stall_ends) x refl)))
+      (λ i is2. change_less i (λ x. settled_pool t (record x { resources = put_at r (fresh_core c.stall_ends) x.resources })) (record s { free = clear_at r s.free }) (λ x. core_comes t r (fresh_core c.stall_ends) x refl)))
 
   pub dom_moved_less : (d : ℕ) (s : State) → Less s (after_dom_moved g t d s)
   dom_moved_less d s =
@@ -301,12 +254,12 @@ module _ (m : Machine) (t : ℕ) where
   home_lowers checked s each action on = by_home (home_of g s action) on
     where
       by_home : (home : Option ℕ) → elim home as (λ _. Bool) [ None ↦ false | Some i ↦ test_at s.pools i (λ pool. enabled_in g t pool action) ] ≡ true
-          → of_pools t (elim home as (λ _. State) [ None ↦ s | Some i ↦ change_pool i (λ pool. settled t (after_in g t pool action)) s ]) + takes action ≤ of_pools t s
+          → of_pools t (elim home as (λ _. State) [ None ↦ s | Some i ↦ change_pool i (λ pool. settled_pool t (after_in g t pool action)) s ]) + takes action ≤ of_pools t s
       by_home None e = absurd (cc)
       by_home (Some i) e =
           let p = some-test_at s.pools i (λ pool. enabled_in g t pool action) e in
           let pool : Pool = p.0 in
           let known = each i pool p.1 in
-          let a = total-change_at (of_pool t) i (λ x. settled t (after_in g t x action)) s.pools pool p.1 in
+          let a = total-change_at (of_pool t) i (λ x. settled_pool t (after_in g t x action)) s.pools pool p.1 in
           let b = acts_settled m checked t pool known.fits known.ready action p.2 in
           omega (arith, a, b)

@@ -12,7 +12,7 @@ use Rattle.sched_model.specs.declared.state.Credit2Domain.{Credit2Domain}
 use Rattle.sched_model.specs.declared.state.Domain.{Domain}
 use Rattle.sched_model.specs.declared.state.Pool.{Pool}
 use Rattle.sched_model.specs.declared.state.Records.{Records}
-use Rattle.sched_model.specs.declared.state.Records.TheVariants.{Credit2Pool, RtdsPool, ArincPool, NullPool}
+use Rattle.sched_model.specs.declared.state.Records.TheVariants.{Credit2Pool, RtdsPool}
 use Rattle.sched_model.specs.declared.state.Resource.{Resource}
 use Rattle.sched_model.specs.declared.state.RtdsUnit.{RtdsUnit}
 use Rattle.sched_model.specs.declared.state.State.{State}
@@ -20,7 +20,7 @@ use Rattle.sched_model.specs.Checked.{IsChecked}
 use Rattle.sched_model.specs.Places.{at_place, numbers_from}
 use Rattle.sched_model.specs.Actions.{vcpus_from, units_from}
 use Rattle.sched_model.specs.Pool.{unit_count}
-use Rattle.sched_model.specs.Runs.{IsRun, begun}
+use Rattle.sched_model.specs.Runs.{IsRun, run_start}
 use Rattle.sched_laws.specs.StateLaws.{state_after}
 use Rattle.sched_laws.proofs.Bools.{either}
 use Rattle.sched_laws.specs.Counts.{total}
@@ -52,8 +52,7 @@ use Rattle.stretch_laws.proofs.RecordCounts.{units_length}
 abbrev of_record : ℕ → Records → ℕ → ℕ
 of_record t (Credit2Pool records) d = of_place (of_credit2 t) (at_place records.domains d)
 of_record t (RtdsPool domains) d = of_place (of_rtds t) (at_place domains d)
-of_record t (ArincPool records) d = 0
-of_record t (NullPool kept) d = 0
+of_record t any d = 0
 
 -- what is to come of the domain d in the pool
 abbrev of_dom : ℕ → ℕ → Pool → ℕ
@@ -120,8 +119,7 @@ module _ (m : Machine) (checked : IsChecked m) (before : List Entry) (run : IsRu
     records_by : (records : Records) → RecordsInRange m s.now records → of_records t records ≡ total_over (domains m) (of_record t records)
     records_by (Credit2Pool rs) range = total_numbers (of_credit2 t) rs.domains ∙ ap (λ n. total_over n (λ d. of_place (of_credit2 t) (at_place rs.domains d))) range.0
     records_by (RtdsPool xs) range = total_numbers (of_rtds t) xs ∙ ap (λ n. total_over n (λ d. of_place (of_rtds t) (at_place xs d))) range.0
-    records_by (ArincPool arinc) range = sym (over_none (domains m))
-    records_by (NullPool kept) range = sym (over_none (domains m))
+    records_by records range = sym (over_none (domains m))
 
     pool_numbered : of_pool t pool ≡ total_over (cores m) (λ r. of_res t r pool) + total_over (domains m) (λ d. of_dom t d pool)
     pool_numbered =
@@ -143,8 +141,7 @@ module _ (m : Machine) (checked : IsChecked m) (before : List Entry) (run : IsRu
         by_place : (o : Option (List RtdsUnit)) → at_place xs d ≡ o → of_place (of_rtds t) o ≡ 0
         by_place None at2 = refl
         by_place (Some x) at2 = absurd (let own = has_own_rtds m checked before run i pool at xs is d x at2 in cc)
-    no_record (ArincPool arinc) is d none = refl
-    no_record (NullPool kept) is d none = refl
+    no_record records is d none = refl
 
     few_records : (records : Records) → pool.scheduler.records ≡ records → (d : ℕ) (x : Domain) → at_place pool.domains d ≡ Some x → of_record t records d ≤ unit_count m.config.granularity x + 1
     few_records (Credit2Pool rs) is d x has = by_place (at_place rs.domains d)
@@ -158,8 +155,7 @@ module _ (m : Machine) (checked : IsChecked m) (before : List Entry) (run : IsRu
         let b : of_place (of_rtds t) (at_place xs d) ≡ of_rtds t recorded.records = ap (of_place (of_rtds t)) recorded.at in
         let count = recorded.units in
         omega (arith, a, b, count)
-    few_records (ArincPool arinc) is d x has = omega arith
-    few_records (NullPool kept) is d x has = omega arith
+    few_records records is d x has = omega arith
 
     dom_there : (d : ℕ) → 1 ≤ of_dom t d pool → is_some (at_place pool.domains d) ≡ true
     dom_there d some = elim (either (is_some (at_place pool.domains d))) [
@@ -234,7 +230,7 @@ lines_are (e ∷ entries) = sum_by-cons (λ (x : Entry). cond (is_line x.event) 
 pub causes_few : (m : Machine) → IsChecked m → (before moment : List Entry) (t : ℕ) → IsRun m (before ++ moment) → are_at t moment ≡ true → causes moment ≤ most_causes m (lines moment)
 causes_few m checked before moment t run at =
     let a = moment_lowers m checked t moment before run at in
-    let b = few_to_come m checked before (split_run m (begun m) before moment run).0 t in
+    let b = few_to_come m checked before (split_run m (run_start m) before moment run).0 t in
     let c = causes_are moment in
     let d = lines_are moment in
     omega (arith, a, b, c, d)

@@ -1,4 +1,6 @@
 -- In a moment there are no more resets than causes and cores: a reset is of a core whose Credit2 pool had none at this moment, and only a move brings such a core.
+use Rattle.sched_base.specs.declared.ResId.{ResId}
+use Rattle.sched_base.specs.Numbers.{core}
 use Rattle.std.proofs.Common.{◌≡◌, ◌≢◌, ◌≤◌, ◌+◌, ℕ, zero, suc, Bool, true, false, not, List, [], ◌∷◌, ◌++◌, refl, arith, ap, subst, sym, ◌∙◌, length, inl, inr}
 use Rattle.std.specs.Prelude.{Option, Some, None, is_some, int_lt, pos, cond, ◌&&◌, ◌||◌, ◌==◌}
 use Rattle.std.specs.List.{list_any, list_all}
@@ -21,8 +23,8 @@ use Rattle.sched_model.specs.declared.state.RtdsUnit.{RtdsUnit}
 use Rattle.sched_model.specs.declared.state.Scheduler.{Scheduler}
 use Rattle.sched_model.specs.declared.state.State.{State}
 use Rattle.sched_model.specs.declared.action.Action.{Action}
-use Rattle.sched_model.specs.declared.action.Action.TheVariants.{Stall, Xl, Moved, DomMoved, Wake, Block, Slice, Repl, Refill, Arrive, Decide, Leave, Save}
-use Rattle.sched_model.specs.Places.{at_place, clear_at, numbered, test_at}
+use Rattle.sched_model.specs.declared.action.Action.TheVariants.{Moved, Decide}
+use Rattle.sched_model.specs.Places.{at_place, clear_at, numbered_items, test_at}
 use Rattle.sched_model.specs.Arinc.{Window, present_window}
 use Rattle.sched_model.specs.Eligible.{Decision}
 use Rattle.sched_model.specs.Credit2 as credit2
@@ -32,10 +34,10 @@ use Rattle.sched_model.specs.Opening.{core_count}
 use Rattle.sched_model.specs.Commands.{is_kind}
 use Rattle.sched_model.specs.Policy as policy
 use Rattle.sched_model.specs.Policy.{decision_of, kind_of}
-use Rattle.sched_model.specs.Pool.{enabled_in, after_in, after_decide, settled, ask_of, is_held, is_open, first_up}
+use Rattle.sched_model.specs.Pool.{enabled_in, after_in, after_decide, settled_pool, ask_of, is_held, is_open, first_up}
 use Rattle.sched_model.specs.Actions.{home_of_core, change_pool}
 use Rattle.sched_model.specs.Machine.{is_enabled, after, event_of}
-use Rattle.sched_model.specs.Runs.{Reached, IsRun, IsNextEvent, action_of, begun, after_entry, after_event, after_entries}
+use Rattle.sched_model.specs.Runs.{Reached, IsRun, IsNextEvent, action_of, run_start, after_entry, after_event, after_entries}
 use Rattle.sched_model.specs.Checked.{IsChecked}
 use Rattle.sched_laws.specs.StateLaws.{state_after, has_core_at}
 use Rattle.sched_laws.proofs.Bools.{and_left, and_right, or_right, clash}
@@ -50,6 +52,7 @@ use Rattle.turn_laws.specs.Turns.{total_over, how_many, one}
 use Rattle.turn_laws.specs.GoodDecisions.{decision}
 use Rattle.turn_laws.proofs.Sums.{many_is, many_none, total_at_most, grows, falls, one_most}
 use Rattle.turn_laws.proofs.StretchFalls.{push_assoc, after_push}
+use Rattle.stretch_laws.proofs.LegRuns.{action_in}
 use Rattle.stretch_laws.proofs.CoresByRecords.{IsKeptTest, last_of, Counted, counts, counted_core, core_counted, counted_after}
 use Rattle.moment_laws.specs.Moments.{is_cause, are_at}
 use Rattle.moment_laws.proofs.MomentParts.{is_reset, resets, ResetsFew}
@@ -81,61 +84,61 @@ record Resets (t : ℕ) (before : Records) (d : Decision) : Type 0 where
   none : d.reset ≡ 0 → may_reset t d.records ≡ true → may_reset t before ≡ true
   some : d.reset ≢ 0 → (may_reset t before ≡ true) × (may_reset t d.records ≡ false)
 
-resets_by_choice : (ask : Ask) (scheduler : Scheduler) (records : Credit2Records) (chosen : Option UnitId) → Resets ask.at (Credit2Pool records) (credit2.decide ask scheduler records chosen)
-resets_by_choice ask scheduler records None = record { none = λ e. same_last ask.at (credit2.switch_off ask.cur records) records (last_off ask.cur records); some = λ other. absurd (other refl) }
-resets_by_choice ask scheduler records (Some u) = by_count (credit2.resets_for ask.at u records) refl
+resets_by_choice : (ask : Ask) (scheduler : Scheduler) (records : Credit2Records) (chosen : Option UnitId) → Resets ask.at.0 (Credit2Pool records) (credit2.decide ask scheduler records chosen)
+resets_by_choice ask scheduler records None = record { none = λ e. same_last ask.at.0 (credit2.switch_off ask.cur records) records (last_off ask.cur records); some = λ other. absurd (other refl) }
+resets_by_choice ask scheduler records (Some u) = by_count (credit2.resets_for ask.at.0 u records) refl
   where
     taken : ℕ → Credit2Records
-    taken k = credit2.change_domain u.dom.0 (credit2.take_budget u.n) (credit2.reset ask.at k records)
+    taken k = credit2.change_domain u.dom.0 (credit2.take_budget u.n) (credit2.reset ask.at.0 k records)
 
-    by_count : (k : ℕ) → credit2.resets_for ask.at u records ≡ k → Resets ask.at (Credit2Pool records) (credit2.decide ask scheduler records (Some u))
+    by_count : (k : ℕ) → credit2.resets_for ask.at.0 u records ≡ k → Resets ask.at.0 (Credit2Pool records) (credit2.decide ask scheduler records (Some u))
     by_count zero is = record {
-      none = λ e. same_last ask.at (credit2.set_running (Some ask.at) u (credit2.switch_off ask.cur (taken (credit2.resets_for ask.at u records)))) records (last_off ask.cur (taken (credit2.resets_for ask.at u records)) ∙ ap (λ k. (taken k).last_reset) is);
+      none = λ e. same_last ask.at.0 (credit2.set_running (Some ask.at.0) u (credit2.switch_off ask.cur (taken (credit2.resets_for ask.at.0 u records)))) records (last_off ask.cur (taken (credit2.resets_for ask.at.0 u records)) ∙ ap (λ k. (taken k).last_reset) is);
       some = λ other. absurd (other is);
     }
     by_count (suc k) is = record {
       none = λ e. absurd (let a : suc k ≡ 0 = sym is ∙ e in omega (arith, a));
       some = λ other. (
-          let last = last_off ask.cur (taken (credit2.resets_for ask.at u records)) ∙ ap (λ n. (taken n).last_reset) is in
-          let now : was_at ask.at (Some ask.at) ≡ true = grind arith in
-          (ap not (not_yet other), ap (λ (o : Option ℕ). not (was_at ask.at o)) last ∙ ap not now));
+          let last = last_off ask.cur (taken (credit2.resets_for ask.at.0 u records)) ∙ ap (λ n. (taken n).last_reset) is in
+          let now : was_at ask.at.0 (Some ask.at.0) ≡ true = grind arith in
+          (ap not (not_yet other), ap (λ (o : Option ℕ). not (was_at ask.at.0 o)) last ∙ ap not now));
     }
       where
-        not_yet : credit2.resets_for ask.at u records ≢ 0 → was_at ask.at records.last_reset ≡ false
+        not_yet : credit2.resets_for ask.at.0 u records ≢ 0 → was_at ask.at.0 records.last_reset ≡ false
         not_yet other =
-            by_cond (λ n. n ≢ 0 → was_at ask.at records.last_reset ≡ false) (int_lt (pos 0) (credit2.credit_of records u) || was_at ask.at records.last_reset) 0 (resets_of (credit2.credit_of records u))
-            (λ is2 none. absurd (none refl)) (λ is2 none. or_right (int_lt (pos 0) (credit2.credit_of records u)) (was_at ask.at records.last_reset) is2) other
+            by_cond (λ n. n ≢ 0 → was_at ask.at.0 records.last_reset ≡ false) (int_lt (pos 0) (credit2.credit_of records u) || was_at ask.at.0 records.last_reset) 0 (resets_of (credit2.credit_of records u))
+            (λ is2 none. absurd (none refl)) (λ is2 none. or_right (int_lt (pos 0) (credit2.credit_of records u)) (was_at ask.at.0 records.last_reset) is2) other
 
 -- where nothing is reset
 no_resets : (t : ℕ) (before : Records) (d : Decision) → d.reset ≡ 0 → may_reset t d.records ≡ false → Resets t before d
 no_resets t before d none never = record { none = λ e passes. absurd (clash _ passes never); some = λ other. absurd (other none) }
 
-resets_by : (ask : Ask) (queue : List UnitId) (affinity : List (Option (List Cores))) (records : Records) → Resets ask.at records (decision_of ask (record { queue = queue; affinity = affinity; records = records }))
+resets_by : (ask : Ask) (queue : List UnitId) (affinity : List (Option (List Cores))) (records : Records) → Resets ask.at.0 records (decision_of ask (record { queue = queue; affinity = affinity; records = records }))
 resets_by ask queue affinity (Credit2Pool records) =
     let scheduler : Scheduler = record { queue = queue; affinity = affinity; records = Credit2Pool records } in
-    let burned : Credit2Records = credit2.burn_cur ask.cur ask.at records in
+    let burned : Credit2Records = credit2.burn_cur ask.cur ask.at.0 records in
     let r = resets_by_choice ask scheduler burned (credit2.choice ask scheduler burned) in
-    let back = same_last ask.at burned records (last_burned ask.cur ask.at records) in
+    let back = same_last ask.at.0 burned records (last_burned ask.cur ask.at.0 records) in
     record { none = λ e passes. back (r.none e passes); some = λ other. (let x = r.some other in (back x.0, x.1)) }
-resets_by ask queue affinity (RtdsPool domains) = by_choice (rtds.burn_cur ask.cur ask.at domains) (rtds.choice ask (record { queue = queue; affinity = affinity; records = RtdsPool domains }) (rtds.burn_cur ask.cur ask.at domains))
+resets_by ask queue affinity (RtdsPool domains) = by_choice (rtds.burn_cur ask.cur ask.at.0 domains) (rtds.choice ask (record { queue = queue; affinity = affinity; records = RtdsPool domains }) (rtds.burn_cur ask.cur ask.at.0 domains))
   where
-    by_choice : (burned : List (Option (List RtdsUnit))) (chosen : Option UnitId) → Resets ask.at (RtdsPool domains) (rtds.decide ask burned chosen)
-    by_choice burned None = no_resets ask.at _ _ refl refl
-    by_choice burned (Some u) = no_resets ask.at _ _ refl refl
-resets_by ask queue affinity (ArincPool records) = by_window (cond ask.leaving None (present_window records ask.at))
+    by_choice : (burned : List (Option (List RtdsUnit))) (chosen : Option UnitId) → Resets ask.at.0 (RtdsPool domains) (rtds.decide ask burned chosen)
+    by_choice burned None = no_resets ask.at.0 _ _ refl refl
+    by_choice burned (Some u) = no_resets ask.at.0 _ _ refl refl
+resets_by ask queue affinity (ArincPool records) = by_window (cond ask.leaving None (present_window records ask.at.0))
   where
-    by_window : (window : Option Window) → Resets ask.at (ArincPool records) (policy.choose_window ask (record { queue = queue; affinity = affinity; records = ArincPool records }) window)
-    by_window None = no_resets ask.at _ _ refl refl
-    by_window (Some w) = no_resets ask.at _ _ refl refl
+    by_window : (window : Option Window) → Resets ask.at.0 (ArincPool records) (policy.arinc_decision ask (record { queue = queue; affinity = affinity; records = ArincPool records }) window)
+    by_window None = no_resets ask.at.0 _ _ refl refl
+    by_window (Some w) = no_resets ask.at.0 _ _ refl refl
 resets_by ask queue affinity (NullPool kept) =
     let scheduler : Scheduler = record { queue = queue; affinity = affinity; records = NullPool kept } in
-    by_cond (Resets ask.at (NullPool kept)) ask.leaving (null.decide ask.core (clear_at ask.core kept) None) (null.decide ask.core kept (null.choice ask scheduler kept)) (λ is. no_resets ask.at _ _ refl refl) (λ is. by_choice (null.choice ask scheduler kept))
+    by_cond (Resets ask.at.0 (NullPool kept)) ask.leaving (null.decide ask.core.0 (clear_at ask.core.0 kept) None) (null.decide ask.core.0 kept (null.choice ask scheduler kept)) (λ is. no_resets ask.at.0 _ _ refl refl) (λ is. by_choice (null.choice ask scheduler kept))
   where
-    by_choice : (chosen : Option UnitId) → Resets ask.at (NullPool kept) (null.decide ask.core kept chosen)
-    by_choice None = no_resets ask.at _ _ refl refl
-    by_choice (Some u) = no_resets ask.at _ _ refl refl
+    by_choice : (chosen : Option UnitId) → Resets ask.at.0 (NullPool kept) (null.decide ask.core.0 kept chosen)
+    by_choice None = no_resets ask.at.0 _ _ refl refl
+    by_choice (Some u) = no_resets ask.at.0 _ _ refl refl
 
-resets_of_scheduler : (ask : Ask) (scheduler : Scheduler) → Resets ask.at scheduler.records (decision_of ask scheduler)
+resets_of_scheduler : (ask : Ask) (scheduler : Scheduler) → Resets ask.at.0 scheduler.records (decision_of ask scheduler)
 resets_of_scheduler ask scheduler = resets_by ask scheduler.queue scheduler.affinity scheduler.records
 
 reset_kept : (t : ℕ) → IsKeptTest t (may_reset t)
@@ -144,7 +147,7 @@ reset_kept t = record {
   decides = λ ask scheduler now passes. (
       let r = resets_of_scheduler ask scheduler in
       let d : Decision = decision_of ask scheduler in
-      let back : may_reset ask.at scheduler.records ≡ true = by_reset r (d.reset == 0) refl (subst (λ k. may_reset k d.records ≡ true) (sym now) passes) in
+      let back : may_reset ask.at.0 scheduler.records ≡ true = by_reset r (d.reset == 0) refl (subst (λ k. may_reset k d.records ≡ true) (sym now) passes) in
       subst (λ k. may_reset k scheduler.records ≡ true) now back);
 }
   where
@@ -154,12 +157,12 @@ reset_kept t = record {
 
 -- the core is in a Credit2 pool without a reset at the moment
 abbrev waits_for_reset : ℕ → State → ℕ → Bool
-waits_for_reset t s r = list_any (λ (e : ℕ × Pool). counts (may_reset t) r e.1) (numbered 0 s.pools)
+waits_for_reset t s r = list_any (λ (e : ℕ × Pool). counts (may_reset t) r e.1) (numbered_items 0 s.pools)
 
-any_numbered : {X : Type 0} (test : X → Bool) (n i : ℕ) (x : X) (places : List (Option X)) → at_place places i ≡ Some x → test x ≡ true → list_any (λ (e : ℕ × X). test e.1) (numbered n places) ≡ true
+any_numbered : {X : Type 0} (test : X → Bool) (n i : ℕ) (x : X) (places : List (Option X)) → at_place places i ≡ Some x → test x ≡ true → list_any (λ (e : ℕ × X). test e.1) (numbered_items n places) ≡ true
 any_numbered test n i x [] at is = absurd (cc)
 any_numbered test n zero x (None ∷ places) at is = absurd (cc)
-any_numbered {X} test n zero x (Some y ∷ places) at is = (let e : x ≡ y = cc in let a : test y ≡ true = subst (λ (z : X). test z ≡ true) e is in ap (λ b. b || list_any (λ (e : ℕ × X). test e.1) (numbered (suc n) places)) a)
+any_numbered {X} test n zero x (Some y ∷ places) at is = (let e : x ≡ y = cc in let a : test y ≡ true = subst (λ (z : X). test z ≡ true) e is in ap (λ b. b || list_any (λ (e : ℕ × X). test e.1) (numbered_items (suc n) places)) a)
 any_numbered test n (suc i) x (None ∷ places) at is = any_numbered test (suc n) i x places at is
 any_numbered {X} test n (suc i) x (Some y ∷ places) at is = or_later (test y) (any_numbered test (suc n) i x places at is)
 
@@ -196,48 +199,48 @@ module _ (m : Machine) (s : State) (apart : IsApart s) (places : (i : ℕ) (pool
   abbrev left : State → ℕ
   left next = total_over (cores m) (λ r. one (waits_for_reset s.now next r))
 
-  was : (action : Action) → is_enabled m s s.now action ≡ true → (r : ℕ) → (action ≡ Moved r → ⊥) → waits_for_reset s.now (after m s s.now action) r ≡ true → waits_for_reset s.now s r ≡ true
+  was : (action : Action) → is_enabled m s s.now action ≡ true → (r : ℕ) → (action ≡ Moved (core r) → ⊥) → waits_for_reset s.now (after m s s.now action) r ≡ true → waits_for_reset s.now s r ≡ true
   was action on r other waits =
       let c = waits_counted s.now (after m s s.now action) r waits in
       elim (counted_after m s.now (may_reset s.now) (reset_kept s.now) s action on c.0 r c.1) [ inl old ↦ counted_waits s.now s c.0 r old | inr come ↦ absurd (other come.moves) ]
 
-  no_rise : (action : Action) → is_enabled m s s.now action ≡ true → ((r : ℕ) → action ≡ Moved r → ⊥) → left (after m s s.now action) ≤ left s
+  no_rise : (action : Action) → is_enabled m s s.now action ≡ true → ((r : ℕ) → action ≡ Moved (core r) → ⊥) → left (after m s s.now action) ≤ left s
   no_rise action on other =
       let a = grows (cores m) 0 (λ r. one (waits_for_reset s.now s r)) (λ r. one (waits_for_reset s.now (after m s s.now action) r))
       (λ r low. (let b = one_no_more (waits_for_reset s.now s r) (waits_for_reset s.now (after m s s.now action) r) (was action on r (other r)) in omega (arith, b))) in
       let none = many_none (cores m) in
       omega (arith, a, none)
 
-  move_rises : (q : ℕ) → is_enabled m s s.now (Moved q) ≡ true → left (after m s s.now (Moved q)) ≤ left s + 1
+  move_rises : (q : ℕ) → is_enabled m s s.now (Moved (core q)) ≡ true → left (after m s s.now (Moved (core q))) ≤ left s + 1
   move_rises q on =
-      rises (cores m) q (λ r. one (waits_for_reset s.now s r)) (λ r. one (waits_for_reset s.now (after m s s.now (Moved q)) r))
-      (let a = one_most (waits_for_reset s.now (after m s s.now (Moved q)) q) in omega (arith, a))
-      (λ r other. one_no_more (waits_for_reset s.now s r) (waits_for_reset s.now (after m s s.now (Moved q)) r) (was (Moved q) on r (λ e. other (moved q r e))))
+      rises (cores m) q (λ r. one (waits_for_reset s.now s r)) (λ r. one (waits_for_reset s.now (after m s s.now (Moved (core q))) r))
+      (let a = one_most (waits_for_reset s.now (after m s s.now (Moved (core q))) q) in omega (arith, a))
+      (λ r other. one_no_more (waits_for_reset s.now s r) (waits_for_reset s.now (after m s s.now (Moved (core q))) r) (was (Moved (core q)) on r (λ e. other (moved q r e))))
     where
-      moved : (a b : ℕ) → Moved a ≡ Moved b → b ≡ a
-      moved a b e = cc
+      moved : (a b : ℕ) → Moved (core a) ≡ Moved (core b) → b ≡ a
+      moved a b e = (let same : core b ≡ core a = cc in ap (λ (x : ResId). x.0) same)
 
   -- a reset of the core r: its pool may have no other at this moment
-  reset_lowers : (e : Event) (r : ℕ) → is_enabled m s s.now (Decide r) ≡ true → e ≡ event_of m s s.now (Decide r) → reset_of e ≢ 0 → left (after m s s.now (Decide r)) + 1 ≤ left s
+  reset_lowers : (e : Event) (r : ℕ) → is_enabled m s s.now (Decide (core r)) ≡ true → e ≡ event_of m s s.now (Decide (core r)) → reset_of e ≢ 0 → left (after m s s.now (Decide (core r))) + 1 ≤ left s
   reset_lowers e r on is some = by_home (home_of_core s r) refl
     where
-      by_home : (home : Option ℕ) → home_of_core s r ≡ home → left (after m s s.now (Decide r)) + 1 ≤ left s
-      by_home None home = absurd (let a : is_enabled m s s.now (Decide r) ≡ false = ap (λ (o : Option ℕ). elim o as (λ _. Bool) [ None ↦ false | Some i ↦ test_at s.pools i (λ pool. enabled_in g s.now pool (Decide r)) ]) home in cc)
+      by_home : (home : Option ℕ) → home_of_core s r ≡ home → left (after m s s.now (Decide (core r))) + 1 ≤ left s
+      by_home None home = absurd (let a : is_enabled m s s.now (Decide (core r)) ≡ false = ap (λ (o : Option ℕ). elim o as (λ _. Bool) [ None ↦ false | Some i ↦ test_at s.pools i (λ pool. enabled_in g s.now pool (Decide (core r))) ]) home in cc)
       by_home (Some i) home =
-          let on_i : test_at s.pools i (λ pool. enabled_in g s.now pool (Decide r)) ≡ true = sym (ap (λ (o : Option ℕ). elim o as (λ _. Bool) [ None ↦ false | Some j ↦ test_at s.pools j (λ pool. enabled_in g s.now pool (Decide r)) ]) home) ∙ on in
-          let p = some-test_at s.pools i (λ pool. enabled_in g s.now pool (Decide r)) on_i in
+          let on_i : test_at s.pools i (λ pool. enabled_in g s.now pool (Decide (core r))) ≡ true = sym (ap (λ (o : Option ℕ). elim o as (λ _. Bool) [ None ↦ false | Some j ↦ test_at s.pools j (λ pool. enabled_in g s.now pool (Decide (core r))) ]) home) ∙ on in
+          let p = some-test_at s.pools i (λ pool. enabled_in g s.now pool (Decide (core r))) on_i in
           let pool : Pool = p.0 in
           let c = some-test_at pool.resources r (λ x. list_all is_held x.processors && is_open x && first_up s.now x) p.2 in
           let printed : reset_of e ≡ (decision m s.now pool r c.0).reset = printed_reset m s e i pool r c.0 is home p.1 c.1 in
           let does = (resets_of_scheduler (ask_of g s.now pool r c.0) pool.scheduler).some (λ none. some (printed ∙ none)) in
-          let f : Pool → Pool = λ x. settled s.now (after_in g s.now x (Decide r)) in
+          let f : Pool → Pool = λ x. settled_pool s.now (after_in g s.now x (Decide (core r))) in
           let next : State = change_pool i f s in
-          let is_next : after m s s.now (Decide r) ≡ next = ap (λ (o : Option ℕ). elim o as (λ _. State) [ None ↦ s | Some j ↦ change_pool j f s ]) home in
+          let is_next : after m s s.now (Decide (core r)) ≡ next = ap (λ (o : Option ℕ). elim o as (λ _. State) [ None ↦ s | Some j ↦ change_pool j f s ]) home in
           let now : waits_for_reset s.now s r ≡ true = counted_waits s.now s i r (core_counted (may_reset s.now) s i r pool c.0 p.1 c.1 does.0) in
           let has_i : has_core_at s i r ≡ true = test_at-some s.pools i (λ x. is_some (at_place x.resources r)) pool p.1 (is_some_at (at_place pool.resources r) c.0 c.1) in
-          let decides : after_in g s.now pool (Decide r) ≡ after_decide g s.now r c.0 pool = ap (λ (o : Option Resource). elim o as (λ _. Pool) [ None ↦ pool | Some x ↦ after_decide g s.now r x pool ]) c.1 in
+          let decides : after_in g s.now pool (Decide (core r)) ≡ after_decide g s.now r c.0 pool = ap (λ (o : Option Resource). elim o as (λ _. Pool) [ None ↦ pool | Some x ↦ after_decide g s.now r x pool ]) c.1 in
           let records : (f pool).scheduler.records ≡ (decision m s.now pool r c.0).records = ap (λ (x : Pool). x.scheduler.records) decides in
-          let later : waits_for_reset s.now (after m s s.now (Decide r)) r ≡ false = ap (λ (x : State). waits_for_reset s.now x r) is_next ∙ no_true (waits_for_reset s.now next r) (λ waits. (
+          let later : waits_for_reset s.now (after m s s.now (Decide (core r))) r ≡ false = ap (λ (x : State). waits_for_reset s.now x r) is_next ∙ no_true (waits_for_reset s.now next r) (λ waits. (
           let k = waits_counted s.now next r waits in
           let n = counted_core (may_reset s.now) next k.0 r k.1 in
           elim (read_change_at i k.0 f s.pools n.0 n.2) [
@@ -250,32 +253,22 @@ module _ (m : Machine) (s : State) (apart : IsApart s) (places : (i : ℕ) (pool
           let low = place_below pool.resources r c.0 c.1 in
           let count = places i pool p.1 in
           let none = many_none (cores m) in
-          let all = falls (cores m) 0 1 r (λ q. one (waits_for_reset s.now s q)) (λ q. one (waits_for_reset s.now (after m s s.now (Decide r)) q)) (omega (arith, low, count))
+          let all = falls (cores m) 0 1 r (λ q. one (waits_for_reset s.now s q)) (λ q. one (waits_for_reset s.now (after m s s.now (Decide (core r))) q)) (omega (arith, low, count))
           (let a = ap one now in let b = ap one later in omega (arith, a, b))
-          (λ q other. (let b = one_no_more (waits_for_reset s.now s q) (waits_for_reset s.now (after m s s.now (Decide r)) q) (was (Decide r) on q (λ e. absurd (cc))) in omega (arith, b))) in
+          (λ q other. (let b = one_no_more (waits_for_reset s.now s q) (waits_for_reset s.now (after m s s.now (Decide (core r))) q) (was (Decide (core r)) on q (λ e. absurd (cc))) in omega (arith, b))) in
           omega (arith, all, none)
 
   -- what is left falls with each reset and rises with causes alone
   event_lowers : (e : Event) (over : Bool) → IsNextEvent m s e (action_of e) → one (is_reset e) + left (after_event m e (action_of e) (record { state = s; over = over })).state ≤ one (is_cause e) + left s
   event_lowers (event.Decide r unit due late reset) over next = by_reset (reset == 0) refl
     where
-      by_reset : (b : Bool) → (reset == 0) ≡ b → one (not b) + left (after m s s.now (Decide r.0)) ≤ 0 + left s
-      by_reset true is = (let a = no_rise (Decide r.0) next.0 (λ q e. absurd (cc)) in omega (arith, a))
+      by_reset : (b : Bool) → (reset == 0) ≡ b → one (not b) + left (after m s s.now (Decide r)) ≤ 0 + left s
+      by_reset true is = (let a = no_rise (Decide r) next.0 (λ q e. absurd (cc)) in omega (arith, a))
       by_reset false is = (let a = reset_lowers (event.Decide r unit due late reset) r.0 next.0 next.1 (λ none. (let b : (reset == 0) ≡ true = grind (arith, none) in clash _ b is)) in omega (arith, a))
   event_lowers (event.Moved r to) over next = (let a = move_rises r.0 next.0 in omega (arith, a))
-  event_lowers (event.Arrive p) over next = (let a = no_rise (Arrive p.0) next.0 (λ q e. absurd (cc)) in omega (arith, a))
-  event_lowers (event.Leave p v) over next = (let a = no_rise (Leave p.0) next.0 (λ q e. absurd (cc)) in omega (arith, a))
-  event_lowers (event.Save r u queued) over next = (let a = no_rise (Save r.0) next.0 (λ q e. absurd (cc)) in omega (arith, a))
-  event_lowers (event.Stall p until) over next = (let a = no_rise Stall next.0 (λ q e. absurd (cc)) in omega (arith, a))
-  event_lowers (event.Xl k answer) over next = (let a = no_rise Xl next.0 (λ q e. absurd (cc)) in omega (arith, a))
-  event_lowers (event.DomMoved d to) over next = (let a = no_rise (DomMoved d.0) next.0 (λ q e. absurd (cc)) in omega (arith, a))
-  event_lowers (event.Wake v) over next = (let a = no_rise (Wake v) next.0 (λ q e. absurd (cc)) in omega (arith, a))
-  event_lowers (event.Block p v) over next = (let a = no_rise (Block p.0) next.0 (λ q e. absurd (cc)) in omega (arith, a))
-  event_lowers (event.Slice r) over next = (let a = no_rise (Slice r.0) next.0 (λ q e. absurd (cc)) in omega (arith, a))
-  event_lowers (event.Repl u start deadline budget extra) over next = (let a = no_rise (Repl u) next.0 (λ q e. absurd (cc)) in omega (arith, a))
-  event_lowers (event.Refill d periods budget) over next = (let a = no_rise (Refill d.0) next.0 (λ q e. absurd (cc)) in omega (arith, a))
   event_lowers (event.End k) over next = omega arith
   event_lowers event.Finish over next = omega arith
+  event_lowers e over next = (let a = no_rise (action_in e) next.0 (λ q same. absurd (cc)) in omega (arith, a))
 
 module _ (m : Machine) (checked : IsChecked m) (t : ℕ) where
   abbrev left_at : State → ℕ
@@ -285,13 +278,13 @@ module _ (m : Machine) (checked : IsChecked m) (t : ℕ) where
   moment_lowers [] before run at = omega arith
   moment_lowers (e ∷ moment) before run at =
       let s : State = state_after m before in
-      let parts = split_run m (begun m) before (e ∷ moment) run in
+      let parts = split_run m (run_start m) before (e ∷ moment) run in
       let next = parts.1.0 in
       let now : s.now ≡ t = sym next.moment ∙ is_number e.at.0 t (and_left (e.at.0 == t) _ at) in
-      let here = event_lowers m s (is_apart m checked before parts.0) (places_for_cores m checked before parts.0) e.event (after_entries m (begun m) before).over next.event in
-      let here_t = subst (λ k. one (is_reset e.event) + total_over (cores m) (λ r. one (waits_for_reset k (after_entry m (after_entries m (begun m) before) e).state r)) ≤ one (is_cause e.event) + total_over (cores m) (λ r. one (waits_for_reset k s r))) now here in
+      let here = event_lowers m s (is_apart m checked before parts.0) (places_for_cores m checked before parts.0) e.event (after_entries m (run_start m) before).over next.event in
+      let here_t = subst (λ k. one (is_reset e.event) + total_over (cores m) (λ r. one (waits_for_reset k (after_entry m (after_entries m (run_start m) before) e).state r)) ≤ one (is_cause e.event) + total_over (cores m) (λ r. one (waits_for_reset k s r))) now here in
       let rest = moment_lowers moment (before ++ e ∷ []) (subst (IsRun m) (sym (push_assoc before e moment)) run) (and_right (e.at.0 == t) _ at) in
-      let same : left_at (state_after m (before ++ e ∷ [])) ≡ left_at (after_entry m (after_entries m (begun m) before) e).state = ap (λ (x : Reached). left_at x.state) (after_push m (begun m) before e) in
+      let same : left_at (state_after m (before ++ e ∷ [])) ≡ left_at (after_entry m (after_entries m (run_start m) before) e).state = ap (λ (x : Reached). left_at x.state) (after_push m (run_start m) before e) in
       omega (arith, here_t, rest, same)
 
 pub resets_few : (m : Machine) → IsChecked m → ResetsFew m

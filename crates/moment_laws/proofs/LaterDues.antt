@@ -19,7 +19,7 @@ use Rattle.sched_model.specs.declared.state.Scheduler.{Scheduler}
 use Rattle.sched_model.specs.Places.{at_place, change_at, change_each, change_item, has_unit}
 use Rattle.sched_model.specs.State.{has_come}
 use Rattle.sched_model.specs.Arinc.{Window, window_from, window_at, present_window}
-use Rattle.sched_model.specs.Eligible.{Decision, is_allowed, is_eligible, eligible, has_budget}
+use Rattle.sched_model.specs.Eligible.{Decision, is_allowed, is_eligible, eligible_units, has_budget}
 use Rattle.sched_model.specs.Credit2 as credit2
 use Rattle.sched_model.specs.Rtds as rtds
 use Rattle.sched_model.specs.NullScheduler as null
@@ -28,11 +28,12 @@ use Rattle.sched_model.specs.Policy.{decision_of}
 use Rattle.sched_laws.proofs.Bools.{and_right}
 use Rattle.sched_laws.specs.Counts.{total}
 use Rattle.sched_laws.proofs.EachPlace.{by_cond, by_option}
+use Rattle.turn_laws.proofs.BestUnits.{is_best}
 use Rattle.turn_laws.specs.Turns.{is_funded, ahead}
 use Rattle.turn_laws.proofs.Waiting.{has_filter}
-use Rattle.credit2_turns.proofs.Credit2Faces.{is_greatest}
+use Rattle.credit2_turns.proofs.Credit2Faces.{credit_order, greatest_scan}
 use Rattle.credit2_turns.proofs.Credit2Steps.{Has, has_change, takes_funded}
-use Rattle.stretch_laws.proofs.RtdsKeys.{is_foremost, passes_is}
+use Rattle.stretch_laws.proofs.RtdsKeys.{before_order, foremost_scan, passes_is}
 use Rattle.moment_laws.proofs.DueEvents.{of_credit2, of_rtds, of_records, is_deadline_due, is_refill_due, one_less, how_many_less, total-change_at_less, total-change_each_less}
 
 -- what is promised of a decision at the moment t
@@ -63,18 +64,18 @@ window_later installed frame t some =
     let low : ahead < frame.major.0 = mod-lt (t - installed) some in
     subst (λ k. k < (window_at installed frame t).until) whole (until_later (t - ahead) ahead (t - ahead + frame.major.0) frame.entries (omega (arith, low)))
 
-arinc_later : (ask : Ask) (scheduler : Scheduler) (records : ArincRecords) → ((frame : Frame) → records.frame ≡ Some frame → 0 < frame.major.0) → (o : Option Window) → o ≡ cond ask.leaving None (present_window records ask.at)
-    → DecidesLater ask.at scheduler.records (policy.choose_window ask scheduler o)
+arinc_later : (ask : Ask) (scheduler : Scheduler) (records : ArincRecords) → ((frame : Frame) → records.frame ≡ Some frame → 0 < frame.major.0) → (o : Option Window) → o ≡ cond ask.leaving None (present_window records ask.at.0)
+    → DecidesLater ask.at.0 scheduler.records (policy.arinc_decision ask scheduler o)
 arinc_later ask scheduler records some None is = record { due = refl; records = omega arith }
 arinc_later ask scheduler records some (Some window) is =
     record {
-      due = later_is ask.at window.until (by_frame records.frame refl (by_cond (λ (o : Option Window). Some window ≡ o → Some window ≡ present_window records ask.at) ask.leaving None (present_window records ask.at) (λ goes e. absurd (cc)) (λ stays e. e) is));
+      due = later_is ask.at.0 window.until (by_frame records.frame refl (by_cond (λ (o : Option Window). Some window ≡ o → Some window ≡ present_window records ask.at.0) ask.leaving None (present_window records ask.at.0) (λ goes e. absurd (cc)) (λ stays e. e) is));
       records = omega arith;
     }
   where
-    by_frame : (frame : Option Frame) → records.frame ≡ frame → Some window ≡ elim frame as (λ _. Option Window) [ None ↦ None | Some f ↦ Some (window_at records.installed f ask.at) ] → ask.at < window.until
+    by_frame : (frame : Option Frame) → records.frame ≡ frame → Some window ≡ elim frame as (λ _. Option Window) [ None ↦ None | Some f ↦ Some (window_at records.installed f ask.at.0) ] → ask.at.0 < window.until
     by_frame None at e = absurd (cc)
-    by_frame (Some f) at e = (let same : window ≡ window_at records.installed f ask.at = cc in subst (λ (w : Window). ask.at < w.until) (sym same) (window_later records.installed f ask.at (some f at)))
+    by_frame (Some f) at e = (let same : window ≡ window_at records.installed f ask.at.0 = cc in subst (λ (w : Window). ask.at.0 < w.until) (sym same) (window_later records.installed f ask.at.0 (some f at)))
 
 -- RTDS: a deadline changes in a replenishment alone, and the chosen unit has some budget left
 pub same_deadlines : (t : ℕ) (u : UnitId) (f : RtdsUnit → RtdsUnit) (domains : List (Option (List RtdsUnit))) → ((x : RtdsUnit) → (f x).deadline ≡ x.deadline) → total (of_rtds t) (rtds.change_unit u f domains) ≤ total (of_rtds t) domains
@@ -89,41 +90,41 @@ module _ (ask : Ask) (queue : List UnitId) (affinity : List (Option (List Cores)
   rtds_scheduler = record { queue = queue; affinity = affinity; records = RtdsPool domains }
 
   abbrev rtds_burned : List (Option (List RtdsUnit))
-  rtds_burned = rtds.burn_cur ask.cur ask.at domains
+  rtds_burned = rtds.burn_cur ask.cur ask.at.0 domains
 
-  rtds_burn : (cur : Option UnitId) → total (of_rtds ask.at) (rtds.burn_cur cur ask.at domains) ≤ total (of_rtds ask.at) domains
+  rtds_burn : (cur : Option UnitId) → total (of_rtds ask.at.0) (rtds.burn_cur cur ask.at.0 domains) ≤ total (of_rtds ask.at.0) domains
   rtds_burn None = omega arith
-  rtds_burn (Some u) = same_deadlines ask.at u (rtds.burn_to ask.at) domains (burned_deadline ask.at)
+  rtds_burn (Some u) = same_deadlines ask.at.0 u (rtds.burn_to ask.at.0) domains (burned_deadline ask.at.0)
 
-  rtds_off : (cur : Option UnitId) → total (of_rtds ask.at) (rtds.switch_off cur rtds_burned) ≤ total (of_rtds ask.at) rtds_burned
+  rtds_off : (cur : Option UnitId) → total (of_rtds ask.at.0) (rtds.switch_off cur rtds_burned) ≤ total (of_rtds ask.at.0) rtds_burned
   rtds_off None = omega arith
-  rtds_off (Some u) = same_deadlines ask.at u (λ x. record x { burned = None }) rtds_burned (λ x. refl)
+  rtds_off (Some u) = same_deadlines ask.at.0 u (λ x. record x { burned = None }) rtds_burned (λ x. refl)
 
-  rtds_own : (cur : Option UnitId) (w : UnitId) → elim cur as (λ _. Option UnitId) [ None ↦ None | Some u ↦ cond (ask.runnable && is_allowed rtds_scheduler ask.home ask.core u && nat_lt 0 (rtds.budget_left rtds_burned u)) (Some u) None ] ≡ Some w → nat_lt 0 (rtds.budget_left rtds_burned w) ≡ true
+  rtds_own : (cur : Option UnitId) (w : UnitId) → elim cur as (λ _. Option UnitId) [ None ↦ None | Some u ↦ cond (ask.runnable && is_allowed rtds_scheduler ask.home.0 ask.core.0 u && nat_lt 0 (rtds.budget_left rtds_burned u)) (Some u) None ] ≡ Some w → nat_lt 0 (rtds.budget_left rtds_burned w) ≡ true
   rtds_own None w e = absurd (cc)
   rtds_own (Some u) w e =
-      by_cond (λ (o : Option UnitId). o ≡ Some w → nat_lt 0 (rtds.budget_left rtds_burned w) ≡ true) (ask.runnable && is_allowed rtds_scheduler ask.home ask.core u && nat_lt 0 (rtds.budget_left rtds_burned u)) (Some u) None
-      (λ all h. (let same : u ≡ w = cc in subst (λ x. nat_lt 0 (rtds.budget_left rtds_burned x) ≡ true) same (and_right (ask.runnable && is_allowed rtds_scheduler ask.home ask.core u) _ all))) (λ none h. absurd (cc)) e
+      by_cond (λ (o : Option UnitId). o ≡ Some w → nat_lt 0 (rtds.budget_left rtds_burned w) ≡ true) (ask.runnable && is_allowed rtds_scheduler ask.home.0 ask.core.0 u && nat_lt 0 (rtds.budget_left rtds_burned u)) (Some u) None
+      (λ all h. (let same : u ≡ w = cc in subst (λ x. nat_lt 0 (rtds.budget_left rtds_burned x) ≡ true) same (and_right (ask.runnable && is_allowed rtds_scheduler ask.home.0 ask.core.0 u) _ all))) (λ none h. absurd (cc)) e
 
   rtds_left : (w : UnitId) → rtds.choice ask rtds_scheduler rtds_burned ≡ Some w → nat_lt 0 (rtds.budget_left rtds_burned w) ≡ true
   rtds_left w =
       by_cond (λ (o : Option UnitId). o ≡ Some w → nat_lt 0 (rtds.budget_left rtds_burned w) ≡ true) ask.leaving None _ (λ goes e. absurd (cc))
-      (λ stays e. elim (is_foremost rtds_burned (rtds.own_candidate ask rtds_scheduler rtds_burned) (eligible (record rtds_scheduler { records = RtdsPool rtds_burned }) ask.home ask.core ask.at) w e).source [
+      (λ stays e. elim (is_best (before_order rtds_burned) (foremost_scan rtds_burned) (rtds.own_candidate ask rtds_scheduler rtds_burned) (eligible_units (record rtds_scheduler { records = RtdsPool rtds_burned }) ask.home.0 ask.core.0 ask.at.0) w e).source [
         | inl own ↦ rtds_own ask.cur w own
         | inr waits ↦ (
-            let h = has_filter (is_eligible (record rtds_scheduler { records = RtdsPool rtds_burned }) ask.home ask.core ask.at) queue w waits in
-            sym (passes_is rtds_burned (record rtds_scheduler { records = RtdsPool rtds_burned }) ask.home ask.core ask.at w) ∙ and_right (is_allowed rtds_scheduler ask.home ask.core w) _ h.1)
+            let h = has_filter (is_eligible (record rtds_scheduler { records = RtdsPool rtds_burned }) ask.home.0 ask.core.0 ask.at.0) queue w waits in
+            sym (passes_is rtds_burned (record rtds_scheduler { records = RtdsPool rtds_burned }) ask.home.0 ask.core.0 ask.at.0 w) ∙ and_right (is_allowed rtds_scheduler ask.home.0 ask.core.0 w) _ h.1)
       ])
 
-  rtds_later : (chosen : Option UnitId) → rtds.choice ask rtds_scheduler rtds_burned ≡ chosen → DecidesLater ask.at (RtdsPool domains) (rtds.decide ask rtds_burned chosen)
+  rtds_later : (chosen : Option UnitId) → rtds.choice ask rtds_scheduler rtds_burned ≡ chosen → DecidesLater ask.at.0 (RtdsPool domains) (rtds.decide ask rtds_burned chosen)
   rtds_later None is = (let a = rtds_burn ask.cur in let b = rtds_off ask.cur in record { due = refl; records = omega (arith, a, b) })
   rtds_later (Some w) is =
       let a = rtds_burn ask.cur in
       let b = rtds_off ask.cur in
-      let c = same_deadlines ask.at w (λ x. record x { burned = Some ask.at }) (rtds.switch_off ask.cur rtds_burned) (λ x. refl) in
+      let c = same_deadlines ask.at.0 w (λ x. record x { burned = Some ask.at.0 }) (rtds.switch_off ask.cur rtds_burned) (λ x. refl) in
       let left = rtds_left w is in
       let some : 0 < rtds.budget_left rtds_burned w = grind (arith, left) in
-      record { due = later_is ask.at (ask.at + rtds.budget_left rtds_burned w) (omega (arith, some)); records = omega (arith, a, b, c) }
+      record { due = later_is ask.at.0 (ask.at.0 + rtds.budget_left rtds_burned w) (omega (arith, some)); records = omega (arith, a, b, c) }
 
 -- Credit2: a refill changes by itself and with the cap alone, and the chosen unit holds some budget where its domain is capped
 pub same_refills : (t d : ℕ) (f : Credit2Domain → Credit2Domain) (domains : List (Option Credit2Domain)) → ((x : Credit2Domain) → (f x).refill ≡ x.refill) → total (of_credit2 t) (change_at d f domains) ≤ total (of_credit2 t) domains
@@ -172,7 +173,7 @@ module _ (ask : Ask) (queue : List UnitId) (affinity : List (Option (List Cores)
   scheduler = record { queue = queue; affinity = affinity; records = Credit2Pool records }
 
   abbrev t : ℕ
-  t = ask.at
+  t = ask.at.0
 
   abbrev left : Credit2Records → ℕ
   left x = total (of_credit2 t) x.domains
@@ -199,8 +200,8 @@ module _ (ask : Ask) (queue : List UnitId) (affinity : List (Option (List Cores)
   reset_less zero x = omega arith
   reset_less (suc k) x =
       let mid : Credit2Records = credit2.burn_all t x in
-      let a = total-change_each_less (of_credit2 t) 0 (λ n d. credit2.burn_units (credit2.max_weight x) t d) x.domains (λ n d. omega arith) in
-      let b = total-change_each_less (of_credit2 t) 0 (λ n d. record d { units = map (λ (y : Credit2Unit). record y { credit = raised y.credit (suc k) }) d.units }) mid.domains (λ n d. omega arith) in
+      let a = total-change_each_less (of_credit2 t) (λ n d. credit2.burn_units (credit2.max_weight x) t d) x.domains (λ n d. omega arith) in
+      let b = total-change_each_less (of_credit2 t) (λ n d. record d { units = map (λ (y : Credit2Unit). record y { credit = raised y.credit (suc k) }) d.units }) mid.domains (λ n d. omega arith) in
       omega (arith, a, b)
 
   -- the units stay there, and the budgets too in a reset
@@ -229,24 +230,24 @@ module _ (ask : Ask) (queue : List UnitId) (affinity : List (Option (List Cores)
       (λ x pays. (map_there n (λ (y : Credit2Unit). record y { credit = raised y.credit (suc k) }) x.units pays.0, pays.1)) a
 
   -- the chosen unit goes on, or waits, and its domain has budget
-  own_pays : (cur : Option UnitId) → ask.cur ≡ cur → (w : UnitId) → elim cur as (λ _. Option UnitId) [ None ↦ None | Some u ↦ cond (ask.runnable && is_allowed scheduler ask.home ask.core u && credit2.domain_has_budget burned u) (Some u) None ] ≡ Some w
+  own_pays : (cur : Option UnitId) → ask.cur ≡ cur → (w : UnitId) → elim cur as (λ _. Option UnitId) [ None ↦ None | Some u ↦ cond (ask.runnable && is_allowed scheduler ask.home.0 ask.core.0 u && credit2.domain_has_budget burned u) (Some u) None ] ≡ Some w
       → ((ask.cur ≡ Some w) ⊎ (has_unit queue w ≡ true)) × (credit2.domain_has_budget burned w ≡ true)
   own_pays None cur w e = absurd (cc)
   own_pays (Some u) cur w e =
-      by_cond (λ (o : Option UnitId). o ≡ Some w → ((ask.cur ≡ Some w) ⊎ (has_unit queue w ≡ true)) × (credit2.domain_has_budget burned w ≡ true)) (ask.runnable && is_allowed scheduler ask.home ask.core u && credit2.domain_has_budget burned u) (Some u) None
-      (λ all h. (let same : u ≡ w = cc in subst (λ (x : UnitId). ((ask.cur ≡ Some x) ⊎ (has_unit queue x ≡ true)) × (credit2.domain_has_budget burned x ≡ true)) same (inl cur, and_right (ask.runnable && is_allowed scheduler ask.home ask.core u) _ all)))
+      by_cond (λ (o : Option UnitId). o ≡ Some w → ((ask.cur ≡ Some w) ⊎ (has_unit queue w ≡ true)) × (credit2.domain_has_budget burned w ≡ true)) (ask.runnable && is_allowed scheduler ask.home.0 ask.core.0 u && credit2.domain_has_budget burned u) (Some u) None
+      (λ all h. (let same : u ≡ w = cc in subst (λ (x : UnitId). ((ask.cur ≡ Some x) ⊎ (has_unit queue x ≡ true)) × (credit2.domain_has_budget burned x ≡ true)) same (inl cur, and_right (ask.runnable && is_allowed scheduler ask.home.0 ask.core.0 u) _ all)))
       (λ none h. absurd (cc)) e
 
   chosen_pays : (w : UnitId) → chosen ≡ Some w → ((ask.cur ≡ Some w) ⊎ (has_unit queue w ≡ true)) × (credit2.domain_has_budget burned w ≡ true)
   chosen_pays w =
       let own : Option UnitId = credit2.own_candidate ask scheduler burned in
-      let waiting : List UnitId = eligible (record scheduler { records = Credit2Pool burned }) ask.home ask.core ask.at in
+      let waiting : List UnitId = eligible_units (record scheduler { records = Credit2Pool burned }) ask.home.0 ask.core.0 ask.at.0 in
       let Q : Option UnitId → Type 0 = λ o. o ≡ Some w → ((ask.cur ≡ Some w) ⊎ (has_unit queue w ≡ true)) × (credit2.domain_has_budget burned w ≡ true) in
       by_cond Q ask.leaving None _ (λ goes e. absurd (cc))
-      (λ stays. by_cond Q (is_some own && credit2.is_within_limit burned ask.since ask.at) own (credit2.greatest burned own waiting) (λ is e. own_pays ask.cur refl w e)
-      (λ is e. elim (is_greatest burned own waiting w e).source [
+      (λ stays. by_cond Q (is_some own && credit2.is_within_limit burned ask.since.0 ask.at.0) own (credit2.greatest_unit burned own waiting) (λ is e. own_pays ask.cur refl w e)
+      (λ is e. elim (is_best (credit_order burned) (greatest_scan burned) own waiting w e).source [
         | inl o ↦ own_pays ask.cur refl w o
-        | inr has ↦ (let h = has_filter (is_eligible (record scheduler { records = Credit2Pool burned }) ask.home ask.core ask.at) queue w has in (inr h.0, and_right (is_allowed scheduler ask.home ask.core w) _ h.1))
+        | inr has ↦ (let h = has_filter (is_eligible (record scheduler { records = Credit2Pool burned }) ask.home.0 ask.core.0 ask.at.0) queue w has in (inr h.0, and_right (is_allowed scheduler ask.home.0 ask.core.0 w) _ h.1))
       ]))
 
   -- each unit that waits, and the core's own, has a record
@@ -308,16 +309,16 @@ pub record IsReady (ask : Ask) (queue : List UnitId) (records : Records) : Type 
   pub frame : (arinc : ArincRecords) (frame : Frame) → records ≡ ArincPool arinc → arinc.frame ≡ Some frame → 0 < frame.major.0
   pub units : (rs : Credit2Records) → records ≡ Credit2Pool rs → (w : UnitId) → (ask.cur ≡ Some w) ⊎ (has_unit queue w ≡ true) → Has (λ d. is_some (slice_get d.units w.n) ≡ true) rs.domains w.dom.0
 
-decides_by : (ask : Ask) (queue : List UnitId) (affinity : List (Option (List Cores))) (records : Records) → IsReady ask queue records → DecidesLater ask.at records (decision_of ask (record { queue = queue; affinity = affinity; records = records }))
-decides_by ask queue affinity (Credit2Pool rs) ready = credit2_later ask queue affinity rs (ready.units rs refl) (credit2.choice ask (record { queue = queue; affinity = affinity; records = Credit2Pool rs }) (credit2.burn_cur ask.cur ask.at rs)) refl
-decides_by ask queue affinity (RtdsPool xs) ready = rtds_later ask queue affinity xs (rtds.choice ask (record { queue = queue; affinity = affinity; records = RtdsPool xs }) (rtds.burn_cur ask.cur ask.at xs)) refl
-decides_by ask queue affinity (ArincPool arinc) ready = arinc_later ask (record { queue = queue; affinity = affinity; records = ArincPool arinc }) arinc (λ frame at. ready.frame arinc frame refl at) (cond ask.leaving None (present_window arinc ask.at)) refl
+decides_by : (ask : Ask) (queue : List UnitId) (affinity : List (Option (List Cores))) (records : Records) → IsReady ask queue records → DecidesLater ask.at.0 records (decision_of ask (record { queue = queue; affinity = affinity; records = records }))
+decides_by ask queue affinity (Credit2Pool rs) ready = credit2_later ask queue affinity rs (ready.units rs refl) (credit2.choice ask (record { queue = queue; affinity = affinity; records = Credit2Pool rs }) (credit2.burn_cur ask.cur ask.at.0 rs)) refl
+decides_by ask queue affinity (RtdsPool xs) ready = rtds_later ask queue affinity xs (rtds.choice ask (record { queue = queue; affinity = affinity; records = RtdsPool xs }) (rtds.burn_cur ask.cur ask.at.0 xs)) refl
+decides_by ask queue affinity (ArincPool arinc) ready = arinc_later ask (record { queue = queue; affinity = affinity; records = ArincPool arinc }) arinc (λ frame at. ready.frame arinc frame refl at) (cond ask.leaving None (present_window arinc ask.at.0)) refl
 decides_by ask queue affinity (NullPool kept) ready =
-    by_cond (DecidesLater ask.at (NullPool kept)) ask.leaving _ _ (λ is. record { due = refl; records = omega arith }) (λ is. by_choice (null.choice ask (record { queue = queue; affinity = affinity; records = NullPool kept }) kept))
+    by_cond (DecidesLater ask.at.0 (NullPool kept)) ask.leaving _ _ (λ is. record { due = refl; records = omega arith }) (λ is. by_choice (null.choice ask (record { queue = queue; affinity = affinity; records = NullPool kept }) kept))
   where
-    by_choice : (o : Option UnitId) → DecidesLater ask.at (NullPool kept) (null.decide ask.core kept o)
+    by_choice : (o : Option UnitId) → DecidesLater ask.at.0 (NullPool kept) (null.decide ask.core.0 kept o)
     by_choice None = record { due = refl; records = omega arith }
     by_choice (Some u) = record { due = refl; records = omega arith }
 
-pub decides_later : (ask : Ask) (scheduler : Scheduler) → IsReady ask scheduler.queue scheduler.records → DecidesLater ask.at scheduler.records (decision_of ask scheduler)
+pub decides_later : (ask : Ask) (scheduler : Scheduler) → IsReady ask scheduler.queue scheduler.records → DecidesLater ask.at.0 scheduler.records (decision_of ask scheduler)
 decides_later ask scheduler ready = decides_by ask scheduler.queue scheduler.affinity scheduler.records ready

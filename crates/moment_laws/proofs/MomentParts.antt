@@ -11,7 +11,7 @@ use Rattle.sched_model.specs.declared.event.Event.TheVariants as event
 use Rattle.sched_model.specs.declared.event.Entry.{Entry}
 use Rattle.sched_model.specs.declared.machine.Machine.{Machine}
 use Rattle.sched_model.specs.Places.{put_at, clear_at}
-use Rattle.sched_model.specs.Runs.{IsRun, begun}
+use Rattle.sched_model.specs.Runs.{IsRun, run_start}
 use Rattle.sched_laws.proofs.Bools.{and_left, and_right, both}
 use Rattle.sched_laws.proofs.EachPlace.{at_place-put_at_other, at_place-clear_at, at_place-clear_at_other, length_set}
 use Rattle.sched_laws.proofs.StillWaits.{split_run}
@@ -73,15 +73,12 @@ between_few legs (e ∷ entries) = (let a = one_between e.at.0 legs e.event in l
 abbrev older : ℕ → Legs → ℕ → ℕ
 older t legs r = one (not (has_no_older_leg t legs r))
 
-older_at : ℕ → Option ℕ → ℕ
-older_at t o = one (not (elim o as (λ _. Bool) [ None ↦ true | Some begun ↦ begun == t ]))
-
 same_number : (t : ℕ) → (t == t) ≡ true
 same_number t = grind arith
 
 -- a decision leaves its core no leg of another moment, and the other cores theirs
 left_none : (t r : ℕ) (unit : Option UnitId) (legs : Legs) → older t (leg_of t r unit legs) r ≡ 0
-left_none t r None legs = ap (λ (o : Option ℕ). one (not (elim o as (λ _. Bool) [ None ↦ true | Some begun ↦ begun == t ]))) (at_place-clear_at r legs)
+left_none t r None legs = ap (λ (o : Option ℕ). one (not (elim o as (λ _. Bool) [ None ↦ true | Some run_start ↦ run_start == t ]))) (at_place-clear_at r legs)
 left_none t r (Some u) legs = by_length legs r
   where
     by_length : (legs : Legs) (r : ℕ) → older t (put_at r t legs) r ≡ 0
@@ -91,8 +88,8 @@ left_none t r (Some u) legs = by_length legs r
     by_length (x ∷ legs) (suc r) = by_length legs r
 
 others_keep : (t r k : ℕ) (unit : Option UnitId) (legs : Legs) → k ≢ r → older t (leg_of t r unit legs) k ≡ older t legs k
-others_keep t r k None legs other = ap (λ (o : Option ℕ). one (not (elim o as (λ _. Bool) [ None ↦ true | Some begun ↦ begun == t ]))) (at_place-clear_at_other r k legs other)
-others_keep t r k (Some u) legs other = ap (λ (o : Option ℕ). one (not (elim o as (λ _. Bool) [ None ↦ true | Some begun ↦ begun == t ]))) (at_place-put_at_other r k t legs other)
+others_keep t r k None legs other = ap (λ (o : Option ℕ). one (not (elim o as (λ _. Bool) [ None ↦ true | Some run_start ↦ run_start == t ]))) (at_place-clear_at_other r k legs other)
+others_keep t r k (Some u) legs other = ap (λ (o : Option ℕ). one (not (elim o as (λ _. Bool) [ None ↦ true | Some run_start ↦ run_start == t ]))) (at_place-put_at_other r k t legs other)
 
 -- a core that has a leg of another moment is one of the machine's
 old_inside : (t r n : ℕ) (legs : Legs) → length legs ≤ n → older t legs r ≡ 1 → r < n
@@ -187,7 +184,7 @@ module _ (m : Machine) (most : ℕ) (end : StretchesEnd m most) where
   -- a stretch that goes on, and entries that follow
   pieces : (entries stretch before : List Entry) → IsRun m ((before ++ stretch) ++ entries) → is_stretch (open_legs m before) stretch ≡ true
       → length stretch + length entries ≤ most + between (open_legs m (before ++ stretch)) entries * (most + 1)
-  pieces [] stretch before run is = (let a = end before stretch (split_run m (begun m) (before ++ stretch) [] run).0 is in grind (arith, a))
+  pieces [] stretch before run is = (let a = end before stretch (split_run m (run_start m) (before ++ stretch) [] run).0 is in grind (arith, a))
   pieces (e ∷ entries) stretch before run is =
       let legs : Legs = open_legs m (before ++ stretch) in
       let run2 : IsRun m (((before ++ stretch) ++ e ∷ []) ++ entries) = subst (IsRun m) (sym (push_assoc (before ++ stretch) e entries)) run in
@@ -209,7 +206,7 @@ module _ (m : Machine) (most : ℕ) (end : StretchesEnd m most) where
           grind (arith, rest2, size, count)
       by_event again false off run2 same =
           let legs : Legs = open_legs m (before ++ stretch) in
-          let here = end before stretch (split_run m (begun m) (before ++ stretch) (e ∷ []) (split_run m (begun m) ((before ++ stretch) ++ e ∷ []) entries run2).0).0 is in
+          let here = end before stretch (split_run m (run_start m) (before ++ stretch) (e ∷ []) (split_run m (run_start m) ((before ++ stretch) ++ e ∷ []) entries run2).0).0 is in
           let nil = append_none ((before ++ stretch) ++ e ∷ []) in
           let rest = again [] ((before ++ stretch) ++ e ∷ []) (subst (λ xs. IsRun m (xs ++ entries)) (sym nil) run2) refl in
           let rest2 : length entries ≤ most + between (legs_with e.at.0 e.event legs) entries * (most + 1) =

@@ -8,8 +8,8 @@ use Rattle.sched_model.specs.declared.event.Entry.{Entry}
 use Rattle.sched_model.specs.declared.machine.Machine.{Machine}
 use Rattle.sched_model.specs.declared.state.State.{State}
 use Rattle.sched_model.specs.Machine.{first_enabled, moments, next_moment, next_in_horizon}
-use Rattle.sched_model.specs.Places.{least}
-use Rattle.sched_model.specs.Runs.{Reached, IsRun, IsRunFrom, IsNextEvent, action_of, begun, after_entry, after_entries, after_event}
+use Rattle.sched_model.specs.Places.{least_number}
+use Rattle.sched_model.specs.Runs.{Reached, IsRun, IsRunFrom, IsNextEvent, action_of, run_start, after_entry, after_entries, after_event}
 use Rattle.sched_laws.proofs.Bools.{and_left, and_right}
 use Rattle.sched_laws.proofs.EachPlace.{by_option, by_cond}
 use Rattle.sched_laws.proofs.StillWaits.{split_run}
@@ -19,15 +19,15 @@ use Rattle.moment_laws.proofs.MomentParts.{ends}
 use Rattle.turn_laws.proofs.Tests.{is_number}
 
 -- the least of the numbers that pass a test passes it
-least_passes : (test : ℕ → Bool) (ns : List ℕ) (k : ℕ) → least (filter test ns) ≡ Some k → test k ≡ true
+least_passes : (test : ℕ → Bool) (ns : List ℕ) (k : ℕ) → least_number (filter test ns) ≡ Some k → test k ≡ true
 least_passes test [] k is = absurd (cc)
 least_passes test (n ∷ ns) k is =
-    elim (test n) as (λ b. test n ≡ b → least (cond b (n ∷ filter test ns) (filter test ns)) ≡ Some k → test k ≡ true) [
-      | true ↦ λ passes e. of_two n (λ l at. least_passes test ns l at) passes (least (filter test ns)) refl e
+    elim (test n) as (λ b. test n ≡ b → least_number (cond b (n ∷ filter test ns) (filter test ns)) ≡ Some k → test k ≡ true) [
+      | true ↦ λ passes e. of_two n (λ l at. least_passes test ns l at) passes (least_number (filter test ns)) refl e
       | false ↦ λ fails e. least_passes test ns k e
     ] refl is
   where
-    of_two : (n : ℕ) → ((l : ℕ) → least (filter test ns) ≡ Some l → test l ≡ true) → test n ≡ true → (o : Option ℕ) → least (filter test ns) ≡ o → elim o as (λ _. Option ℕ) [ None ↦ Some n | Some m ↦ Some (min n m) ] ≡ Some k → test k ≡ true
+    of_two : (n : ℕ) → ((l : ℕ) → least_number (filter test ns) ≡ Some l → test l ≡ true) → test n ≡ true → (o : Option ℕ) → least_number (filter test ns) ≡ o → elim o as (λ _. Option ℕ) [ None ↦ Some n | Some m ↦ Some (min n m) ] ≡ Some k → test k ≡ true
     of_two n rest passes None at e = (let same : n ≡ k = cc in subst (λ x. test x ≡ true) same passes)
     of_two n rest passes (Some l) at e = (let same : min n l ≡ k = cc in elim (dec_le n l) [
       | yes low ↦ (let first : n ≡ k = omega (arith, same, low) in subst (λ x. test x ≡ true) first passes)
@@ -73,4 +73,4 @@ module _ (m : Machine) (t : ℕ) where
       ] refl
 
 pub one_end : (m : Machine) (before moment : List Entry) (t : ℕ) → IsRun m (before ++ moment) → are_at t moment ≡ true → ends moment ≤ 1
-one_end m before moment t run at = one_end_from m t moment (after_entries m (begun m) before) (split_run m (begun m) before moment run).1 at
+one_end m before moment t run at = one_end_from m t moment (after_entries m (run_start m) before) (split_run m (run_start m) before moment run).1 at

@@ -6,7 +6,7 @@ use Rattle.sched_model.specs.declared.event.Entry.{Entry}
 use Rattle.sched_model.specs.declared.machine.Machine.{Machine}
 use Rattle.sched_model.specs.Checked.{IsChecked}
 use Rattle.sched_model.specs.Opening.{opening}
-use Rattle.sched_model.specs.Runs.{Reached, IsRun, begun, after_entries}
+use Rattle.sched_model.specs.Runs.{Reached, IsRun, run_start, after_entries}
 use Rattle.sched_laws.specs.StateLaws.{state_after}
 use Rattle.sched_laws.proofs.Bools.{both, and_left, and_right, is_same}
 use Rattle.sched_laws.proofs.StillWaits.{split_run}
@@ -36,7 +36,7 @@ module _ (m : Machine) (p q : Entry → Bool) (a b : ℕ) (each : EachMoment m p
   pieces : (entries moment before : List Entry) → IsRun m ((before ++ moment) ++ entries) → are_at (state_after m (before ++ moment)).now moment ≡ true
       → how_many p moment + how_many p entries ≤ a * (how_many q moment + how_many q entries) + (ends entries + 1) * b
   pieces [] moment before run at =
-      let here = each before moment (state_after m (before ++ moment)).now (split_run m (begun m) (before ++ moment) [] run).0 at in
+      let here = each before moment (state_after m (before ++ moment)).now (split_run m (run_start m) (before ++ moment) [] run).0 at in
       let sum : a * (how_many q moment + 0) ≡ a * how_many q moment = grind arith in
       omega (arith, here, sum)
   pieces (e ∷ entries) moment before run at =
@@ -44,7 +44,7 @@ module _ (m : Machine) (p q : Entry → Bool) (a b : ℕ) (each : EachMoment m p
       let joined : (before ++ moment) ++ e ∷ [] ≡ before ++ (moment ++ e ∷ []) = append_all before moment (e ∷ []) in
       let run2 : IsRun m (((before ++ moment) ++ e ∷ []) ++ entries) = subst (IsRun m) (sym (push_assoc (before ++ moment) e entries)) run in
       let run3 : IsRun m ((before ++ (moment ++ e ∷ [])) ++ entries) = subst (λ xs. IsRun m (xs ++ entries)) joined run2 in
-      let next = (split_run m (begun m) (before ++ moment) (e ∷ entries) run).1.0 in
+      let next = (split_run m (run_start m) (before ++ moment) (e ∷ entries) run).1.0 in
       let more : are_at now (moment ++ e ∷ []) ≡ true = at_push now moment e at next.moment in
       let count_p = how_many_push p moment e in
       let count_q = how_many_push q moment e in
@@ -52,12 +52,12 @@ module _ (m : Machine) (p q : Entry → Bool) (a b : ℕ) (each : EachMoment m p
       let of_moment : a * how_many q (moment ++ e ∷ []) ≡ a * how_many q moment + a * one (q e) = ap (λ k. a * k) count_q ∙ grind arith in
       elim (is_end e.event) as (λ k. is_end e.event ≡ k → how_many p moment + (one (p e) + how_many p entries) ≤ a * (how_many q moment + (one (q e) + how_many q entries)) + ((one k + ends entries) + 1) * b) [
         | false ↦ λ goes. (
-            let pushed : (state_after m (before ++ (moment ++ e ∷ []))).now ≡ now = ap (λ xs. (state_after m xs).now) (sym joined) ∙ ap (λ (x : Reached). x.state.now) (after_push m (begun m) (before ++ moment) e) ∙ (event_goes m (after_entries m (begun m) (before ++ moment)) e.event next.event).0 goes in
+            let pushed : (state_after m (before ++ (moment ++ e ∷ []))).now ≡ now = ap (λ xs. (state_after m xs).now) (sym joined) ∙ ap (λ (x : Reached). x.state.now) (after_push m (run_start m) (before ++ moment) e) ∙ (event_goes m (after_entries m (run_start m) (before ++ moment)) e.event next.event).0 goes in
             let rest = pieces entries (moment ++ e ∷ []) before run3 (subst (λ t. are_at t (moment ++ e ∷ []) ≡ true) (sym pushed) more) in
             let all : a * (how_many q (moment ++ e ∷ []) + how_many q entries) ≡ a * how_many q (moment ++ e ∷ []) + a * how_many q entries = grind arith in
             omega (arith, rest, count_p, spread, of_moment, all))
         | true ↦ λ stops. (
-            let here = each before (moment ++ e ∷ []) now (split_run m (begun m) (before ++ (moment ++ e ∷ [])) entries run3).0 more in
+            let here = each before (moment ++ e ∷ []) now (split_run m (run_start m) (before ++ (moment ++ e ∷ [])) entries run3).0 more in
             let nil = append_none (before ++ (moment ++ e ∷ [])) in
             let rest = pieces entries [] (before ++ (moment ++ e ∷ [])) (subst (λ xs. IsRun m (xs ++ entries)) (sym nil) run3) refl in
             let last : ((1 + ends entries) + 1) * b ≡ (ends entries + 1) * b + b = grind arith in
@@ -113,7 +113,7 @@ causes_by_lines m checked entries run =
     let all = moments_together m (λ e. is_cause e.event) (λ e. is_line e.event) 2 (most_due m) each entries run in
     let c = causes_are entries in
     let w : (whole_moments entries + 1) * most_due m ≡ (ends entries + 1) * most_due m = ap (λ k. (k + 1) * most_due m) (counted_events is_end entries) in
-    let few = lines_few m entries (begun m) run in
+    let few = lines_few m entries (run_start m) run in
     let none : (opening m).next_stall ≡ 0 = refl in
     let none2 : (opening m).next_command ≡ 0 = refl in
     omega (arith, all, c, w, few, none, none2)

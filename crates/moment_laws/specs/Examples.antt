@@ -19,16 +19,16 @@ abbrev pub run_of : Machine → List Entry
 run_of m = ordered_run 100 m (opening m)
 
 -- a number that is not 0, before others
-abbrev pub counted : ℕ → List ℕ → List ℕ
-counted n ns = elim (n == 0) [ true ↦ ns | false ↦ n ∷ ns ]
+abbrev pub with_count : ℕ → List ℕ → List ℕ
+with_count n ns = elim (n == 0) [ true ↦ ns | false ↦ n ∷ ns ]
 
 -- the lengths of the stretches in the entries, where these legs are open before them and the stretch that goes on has n entries
 abbrev pub stretch_lengths : Legs → ℕ → List Entry → List ℕ
-stretch_lengths legs n [] = counted n []
+stretch_lengths legs n [] = with_count n []
 stretch_lengths legs n (entry ∷ entries) =
     elim (is_in_stretch entry.at.0 legs entry.event) [
       | true ↦ stretch_lengths (legs_with entry.at.0 entry.event legs) (suc n) entries
-      | false ↦ counted n (stretch_lengths (legs_with entry.at.0 entry.event legs) 0 entries)
+      | false ↦ with_count n (stretch_lengths (legs_with entry.at.0 entry.event legs) 0 entries)
     ]
 
 -- the lengths of the stretches of the ordered run
@@ -64,8 +64,8 @@ abbrev pub sums_of : Machine → RunSums
 sums_of m = run_sums (length (run_of m)) (causes (run_of m)) (whole_moments (run_of m))
 
 -- the script of a vCPU that always runs
-abbrev pub forever : List Span
-forever = []
+abbrev pub endless_script : List Span
+endless_script = []
 
 -- a core with two windows
 unfoldable pub two_windows : Machine
@@ -86,8 +86,8 @@ two_windows = record {
         } ∷
         [];
     domains =
-        record { name = codes "a"; home = pool_number 0; guests = forever ∷ []; params = dom_params.Arinc653; pins = [] } ∷
-        record { name = codes "b"; home = pool_number 0; guests = forever ∷ []; params = dom_params.Arinc653; pins = [] } ∷
+        record { name = codes "a"; home = pool_number 0; guests = endless_script ∷ []; params = dom_params.Arinc653; pins = [] } ∷
+        record { name = codes "b"; home = pool_number 0; guests = endless_script ∷ []; params = dom_params.Arinc653; pins = [] } ∷
         [];
   };
   work = record {
@@ -105,7 +105,7 @@ cap_set = record {
     horizon = moment 3000000;
     pools = record { name = codes "Pool-0"; kind = kinds.Credit2; cores = 3; params = pool_params.Credit2 1000 } ∷ [];
     domains =
-        record { name = codes "a"; home = pool_number 0; guests = forever ∷ (span 1000000 ∷ span 1000000 ∷ []) ∷ []; params = dom_params.Credit2 256 0; pins = [] } ∷
+        record { name = codes "a"; home = pool_number 0; guests = endless_script ∷ (span 1000000 ∷ span 1000000 ∷ []) ∷ []; params = dom_params.Credit2 256 0; pins = [] } ∷
         record { name = codes "b"; home = pool_number 0; guests = (span 1000000 ∷ span 2000000 ∷ []) ∷ []; params = dom_params.Credit2 256 50; pins = [] } ∷
         [];
   };
@@ -124,7 +124,7 @@ budgets = record {
     horizon = moment 5000000;
     pools = record { name = codes "Pool-0"; kind = kinds.Rtds; cores = 3; params = pool_params.Rtds } ∷ [];
     domains =
-        record { name = codes "a"; home = pool_number 0; guests = forever ∷ []; params = dom_params.Rtds (span 10000000) (span 4000000) false; pins = [] } ∷
+        record { name = codes "a"; home = pool_number 0; guests = endless_script ∷ []; params = dom_params.Rtds (span 10000000) (span 4000000) false; pins = [] } ∷
         record {
           name = codes "b";
           home = pool_number 0;

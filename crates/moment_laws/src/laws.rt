@@ -14,9 +14,12 @@ ghost use Rattle.moment_laws.specs.Moments.{IsOfMoment, causes, lines, whole_mom
 /// `4 (g + 1) (c + R + 1) (R R (2 U + 5) + 1)` at most. And with L lines of the workload among them c is at most
 /// `2 L + 1 + V + U + D + R`, for V vCPUs and D domains.
 pub fn law_moment_ends()
-    ensures turns { (m : Machine) → IsChecked m → (t : ℕ) → (before moment : List Entry) → IsOfMoment m t before moment → length moment + 1 ≤ most_turns_in_moment m (causes moment) }
-    ensures entries { (m : Machine) → IsChecked m → (t : ℕ) → (before moment : List Entry) → IsOfMoment m t before moment → length moment ≤ most_in_moment m (causes moment) }
-    ensures causes { (m : Machine) → IsChecked m → (t : ℕ) → (before moment : List Entry) → IsOfMoment m t before moment → causes moment ≤ most_causes m (lines moment) }
+    ensures turns { (m : Machine) → IsChecked m → (t : ℕ) → (before moment : List Entry) →
+        IsOfMoment m t before moment → length moment + 1 ≤ most_turns_in_moment m (causes moment) }
+    ensures entries { (m : Machine) → IsChecked m → (t : ℕ) → (before moment : List Entry) →
+        IsOfMoment m t before moment → length moment ≤ most_in_moment m (causes moment) }
+    ensures causes { (m : Machine) → IsChecked m → (t : ℕ) → (before moment : List Entry) →
+        IsOfMoment m t before moment → causes moment ≤ most_causes m (lines moment) }
 {}
 
 /// A run that was cut after N entries has got through whole moments by then. With B the most entries of any moment, which the
@@ -24,7 +27,10 @@ pub fn law_moment_ends()
 /// least N / B - 1. Sharper is the bound by the causes that the run had, and these are bounded by the lines of the workload and the
 /// whole moments.
 pub fn law_moments_pass()
-    ensures moments { (m : Machine) → IsChecked m → (entries : List Entry) → IsRun m entries → length entries ≤ (whole_moments entries + 1) * most_in_any_moment m }
-    ensures by_causes { (m : Machine) → IsChecked m → (entries : List Entry) → IsRun m entries → length entries ≤ most_in_moments m (causes entries) (whole_moments entries + 1) }
-    ensures causes { (m : Machine) → IsChecked m → (entries : List Entry) → IsRun m entries → causes entries ≤ 2 * work_lines m + (whole_moments entries + 1) * most_due m }
+    ensures moments { (m : Machine) → IsChecked m → (entries : List Entry) → IsRun m entries →
+        length entries ≤ (whole_moments entries + 1) * most_in_any_moment m }
+    ensures by_causes { (m : Machine) → IsChecked m → (entries : List Entry) → IsRun m entries →
+        length entries ≤ most_in_moments m (causes entries) (whole_moments entries + 1) }
+    ensures causes { (m : Machine) → IsChecked m → (entries : List Entry) → IsRun m entries →
+        causes entries ≤ 2 * work_lines m + (whole_moments entries + 1) * most_due m }
 {}

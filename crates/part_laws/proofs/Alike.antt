@@ -15,10 +15,10 @@ use Rattle.sched_model.specs.declared.state.State.{State}
 use Rattle.sched_model.specs.declared.action.Action.{Action}
 use Rattle.sched_model.specs.Places.{at_place, change_at, change_item}
 use Rattle.sched_model.specs.Actions.{home_of, home_of_core, home_of_domain, change_pool}
-use Rattle.sched_model.specs.Pool.{settled, after_in, change_processor}
+use Rattle.sched_model.specs.Pool.{settled_pool, after_in, change_processor}
 use Rattle.sched_model.specs.Commands.{change_home, set_rtds, set_rtds_unit}
 use Rattle.sched_model.specs.Policy.{rtds_record}
-use Rattle.sched_model.specs.Machine.{after_at_home, after_stall, stalled, stall_end_of, settled_at}
+use Rattle.sched_model.specs.Machine.{after_at_home, after_stall, with_stall_end, stall_end_of, settled_at}
 use Rattle.sched_laws.proofs.EachPlace.{by_option}
 use Rattle.part_laws.proofs.Places.{seen_change_at, at_place-change_at, at_place-change_at_other}
 use Rattle.part_laws.proofs.Looks.{LooksLike, has_core_in, moving_in, looks_change_each, looks_parts, looks_set_params}
@@ -50,15 +50,6 @@ at_itself o = record { there = refl; cores = λ r. refl; domains = λ d. refl }
 pub alike_itself : (s : State) → Alike s s
 alike_itself s = record { pools = λ i. at_itself (at_place s.pools i); free = λ r. refl }
 
-at_both : (o p q : Option Pool) → AlikeAt o p → AlikeAt p q → AlikeAt o q
-at_both o p q first next = record { there = next.there ∙ first.there; cores = λ r. next.cores r ∙ first.cores r; domains = λ d. next.domains d ∙ first.domains d }
-
-pub alike_both : (s mid next : State) → Alike s mid → Alike mid next → Alike s next
-alike_both s mid next first then = record {
-  pools = λ i. at_both (at_place s.pools i) (at_place mid.pools i) (at_place next.pools i) (first.pools i) (then.pools i);
-  free = λ r. then.free r ∙ first.free r;
-}
-
 -- the pool is as it was
 abbrev pub Keeps : (Pool → Pool) → Pool → Type 0
 Keeps f pool = LooksLike (has_core_in pool) (moving_in pool) (f pool)
@@ -78,20 +69,20 @@ pools_alike i f pools keeps k = dite (ℕ_discrete k i)
 pub alike_change : (i : ℕ) (f : Pool → Pool) (s : State) → ((pool : Pool) → at_place s.pools i ≡ Some pool → Keeps f pool) → Alike s (change_pool i f s)
 alike_change i f s keeps = record { pools = pools_alike i f s.pools keeps; free = λ r. refl }
 
-pub keeps_settled : (t : ℕ) (pool : Pool) → Keeps (settled t) pool
+pub keeps_settled : (t : ℕ) (pool : Pool) → Keeps (settled_pool t) pool
 keeps_settled t pool = looks_change_each (has_core_in pool) (moving_in pool) _ pool (looks_itself pool)
 
 pub alike_settled_at : (t : ℕ) (home : Option ℕ) (s : State) → Alike s (settled_at t home s)
 alike_settled_at t None s = alike_itself s
-alike_settled_at t (Some i) s = alike_change i (settled t) s (λ pool at. keeps_settled t pool)
+alike_settled_at t (Some i) s = alike_change i (settled_pool t) s (λ pool at. keeps_settled t pool)
 
-keeps_event : (g t : ℕ) (action : Action) (pool : Pool) → Keeps (λ p. settled t (after_in g t p action)) pool
+keeps_event : (g t : ℕ) (action : Action) (pool : Pool) → Keeps (λ p. settled_pool t (after_in g t p action)) pool
 keeps_event g t action pool = looks_change_each (has_core_in pool) (moving_in pool) _ (after_in g t pool action) (kept_by_parts (looks_parts (has_core_in pool) (moving_in pool) g t) pool action tt (looks_itself pool))
 
 pub alike_at_home : (g t : ℕ) (action : Action) (s : State) → Alike s (after_at_home g s t action)
-alike_at_home g t action s = by_option (Alike s) (home_of g s action) _ _ (λ is. alike_itself s) (λ i is. alike_change i (λ p. settled t (after_in g t p action)) s (λ pool at. keeps_event g t action pool))
+alike_at_home g t action s = by_option (Alike s) (home_of g s action) _ _ (λ is. alike_itself s) (λ i is. alike_change i (λ p. settled_pool t (after_in g t p action)) s (λ pool at. keeps_event g t action pool))
 
-pub alike_stalled : (g p end : ℕ) (s : State) → Alike s (stalled g p end s)
+pub alike_stalled : (g p end : ℕ) (s : State) → Alike s (with_stall_end g p end s)
 alike_stalled g p end s =
     by_option (Alike s) (home_of_core s (p / g)) _ _
     (λ is. record { pools = λ i. at_itself (at_place s.pools i); free = λ r. seen_change_at (p / g) r (λ (c : FreeCore). record c { stall_ends = change_item (p % g) (λ old. moment end) c.stall_ends }) (λ (c : FreeCore). c.target) (λ c. refl) s.free })

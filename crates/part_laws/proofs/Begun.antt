@@ -1,15 +1,15 @@
 -- At the opening each core is free or in a pool, and each domain in its pool.
+use Rattle.sched_laws.proofs.Lists.{item_below}
+use Rattle.part_laws.proofs.Places.{some_map}
 use Rattle.std.proofs.Common.{◌≡◌, ◌<◌, ◌+◌, ℕ, zero, suc, Bool, true, false, List, [], ◌∷◌, ◌++◌, length, refl, arith, ap, subst, sym, ◌∙◌, ◌⊎◌, inl, inr, cond, replicate}
 use Rattle.std.specs.Prelude.{Option, Some, None, is_some, option_map, map, slice_get, ◌==◌, ◌||◌, ◌-◌}
 use Rattle.std.specs.List.{list_any}
 use Rattle.std.proofs.lemmas.List.{length-replicate}
 use Rattle.std.proofs.lemmas.List.Elements.{recursion_from_All}
-use Rattle.sched_base.specs.Numbers.{moment, domain as domain_number}
-use Rattle.sched_base.specs.declared.Cores.{Cores}
+use Rattle.sched_base.specs.Numbers.{moment}
 use Rattle.sched_base.specs.declared.PoolId.{PoolId}
 use Rattle.sched_model.specs.declared.config.Config.{Config}
 use Rattle.sched_model.specs.declared.config.DomConfig.{DomConfig}
-use Rattle.sched_model.specs.declared.config.ParamChange.TheVariants as changes
 use Rattle.sched_model.specs.declared.config.PoolConfig.{PoolConfig}
 use Rattle.sched_model.specs.declared.machine.Machine.{Machine}
 use Rattle.sched_model.specs.declared.state.Domain.{Domain}
@@ -18,11 +18,10 @@ use Rattle.sched_model.specs.declared.state.Pool.{Pool}
 use Rattle.sched_model.specs.declared.state.Resource.{Resource}
 use Rattle.sched_model.specs.Places.{at_place, put_at, numbers_from}
 use Rattle.sched_model.specs.State.{has_core}
-use Rattle.sched_model.specs.Pool.{with_domain, set_params}
-use Rattle.sched_model.specs.Opening.{opening, opening_free, opening_pool, opening_pools, with_domains, with_configured, with_pins, empty_pool, fresh_core, core_count}
+use Rattle.sched_model.specs.Opening.{opening, opening_free, opening_pool, opening_pools, with_domains, with_configured, empty_pool, fresh_core, core_count}
 use Rattle.sched_model.specs.Checked.{IsChecked, IsCheckedDomain}
 use Rattle.sched_laws.proofs.EachPlace.{by_cond, is_empty, EachPlace-empty, at_place-put_at, length_set}
-use Rattle.sched_laws.proofs.Opened.{with_domain-domains, with_configured-resources, joining_domain, read_map, read_pools, each_get}
+use Rattle.sched_laws.proofs.Opened.{joining_domain, read_map, read_pools, each_get, with_domains-resources, with_configured-domains}
 use Rattle.part_laws.proofs.Looks.{moving_in}
 use Rattle.part_laws.proofs.Alike.{core_of, mover_of, target_of}
 use Rattle.part_laws.proofs.Housed.{Housed, never, after_put}
@@ -45,40 +44,20 @@ any_at {X} test (x ∷ xs) is = by_test (test x) refl is (λ later. any_at test 
     by_test true here is later = (0, x, refl, here)
     by_test false here is later = let r = later is in (suc r.0, r.1, r.2, r.3)
 
-pool_at : {X : Type 0} (xs : List X) (i : ℕ) → i < length xs → (x : X) × (slice_get xs i ≡ Some x)
-pool_at [] i low = absurd (omega (arith, low))
-pool_at (x ∷ xs) zero low = (x, refl)
-pool_at (x ∷ xs) (suc i) low = pool_at xs i (omega (arith, low))
-
--- what the domains' joining leaves of the cores
-joined_resources : (g i d : ℕ) (domains : List DomConfig) (pool : Pool) → (with_domains g i d domains pool).resources ≡ pool.resources
-joined_resources g i d [] pool = refl
-joined_resources g i d (joining ∷ domains) pool =
-    joined_resources g i (suc d) domains (cond (joining.home.0 == i) (with_configured g d joining pool) pool)
-    ∙ by_cond (λ (p : Pool). p.resources ≡ pool.resources) (joining.home.0 == i) (with_configured g d joining pool) pool (λ is. with_configured-resources g d joining pool) (λ is. refl)
-
-pins_domains : (d n : ℕ) (pins : List Cores) (pool : Pool) → (with_pins d n pins pool).domains ≡ pool.domains
-pins_domains d n [] pool = refl
-pins_domains d n (cores ∷ pins) pool = pins_domains d (suc n) pins (set_params (changes.Pin (domain_number d) (Some n) cores) 0 pool)
-
-configured_domains : (g d : ℕ) (joining : DomConfig) (pool : Pool) → (with_configured g d joining pool).domains ≡ put_at d (joining_domain joining) pool.domains
-configured_domains g d joining pool =
-    pins_domains d 0 joining.pins (with_domain g 0 d (joining_domain joining) joining.params pool) ∙ with_domain-domains g 0 d (joining_domain joining) joining.params pool
-
 -- one domain joins
 abbrev step : ℕ → ℕ → ℕ → DomConfig → Pool → Pool
 step g i d joining pool = cond (joining.home.0 == i) (with_configured g d joining pool) pool
 
 step_length : (g i d : ℕ) (joining : DomConfig) (pool : Pool) → length (step g i d joining pool).domains ≡ length pool.domains
 step_length g i d joining pool = by_cond (λ (p : Pool). length p.domains ≡ length pool.domains) (joining.home.0 == i) (with_configured g d joining pool) pool
-    (λ is. ap length (configured_domains g d joining pool) ∙ length_set d (Some (joining_domain joining)) pool.domains) (λ is. refl)
+    (λ is. ap length (with_configured-domains g d joining pool) ∙ length_set d (Some (joining_domain joining)) pool.domains) (λ is. refl)
 
 put_keeps : {X : Type 0} (i j : ℕ) (x : X) (places : List (Option X)) → is_some (at_place places j) ≡ true → is_some (at_place (put_at i x places) j) ≡ true
 put_keeps i j x places is = elim (after_put i j x places) [ inl was ↦ ap is_some was ∙ is | inr new ↦ ap is_some new.1 ]
 
 step_keeps : (g i d e : ℕ) (joining : DomConfig) (pool : Pool) → is_some (at_place pool.domains e) ≡ true → is_some (at_place (step g i d joining pool).domains e) ≡ true
 step_keeps g i d e joining pool is = by_cond (λ (p : Pool). is_some (at_place p.domains e) ≡ true) (joining.home.0 == i) (with_configured g d joining pool) pool
-    (λ home. ap (λ (l : List (Option Domain)). is_some (at_place l e)) (configured_domains g d joining pool) ∙ put_keeps d e (joining_domain joining) pool.domains is) (λ away. is)
+    (λ home. ap (λ (l : List (Option Domain)). is_some (at_place l e)) (with_configured-domains g d joining pool) ∙ put_keeps d e (joining_domain joining) pool.domains is) (λ away. is)
 
 joined_keeps : (g i d e : ℕ) (domains : List DomConfig) (pool : Pool) → is_some (at_place pool.domains e) ≡ true → is_some (at_place (with_domains g i d domains pool).domains e) ≡ true
 joined_keeps g i d e [] pool is = is
@@ -86,7 +65,7 @@ joined_keeps g i d e (joining ∷ domains) pool is = joined_keeps g i (suc d) e 
 
 step_here : (g i d : ℕ) (joining : DomConfig) (pool : Pool) → joining.home.0 ≡ i → d < length pool.domains → is_some (at_place (step g i d joining pool).domains d) ≡ true
 step_here g i d joining pool home low = by_cond (λ (p : Pool). is_some (at_place p.domains d) ≡ true) (joining.home.0 == i) (with_configured g d joining pool) pool
-    (λ is. ap (λ (l : List (Option Domain)). is_some (at_place l d)) (configured_domains g d joining pool) ∙ ap is_some (at_place-put_at d (joining_domain joining) pool.domains low)) (λ away. absurd (grind (arith, away, home)))
+    (λ is. ap (λ (l : List (Option Domain)). is_some (at_place l d)) (with_configured-domains g d joining pool) ∙ ap is_some (at_place-put_at d (joining_domain joining) pool.domains low)) (λ away. absurd (grind (arith, away, home)))
 
 -- a domain stands in its home
 joined_here : (g i d j : ℕ) (domains : List DomConfig) (pool : Pool) (c : DomConfig) → slice_get domains j ≡ Some c → c.home.0 ≡ i → d + j < length pool.domains → is_some (at_place (with_domains g i d domains pool).domains (d + j)) ≡ true
@@ -104,8 +83,8 @@ joined_here g i d (suc j) (joining ∷ domains) pool c at home low =
 step_still : (g i d e : ℕ) (joining : DomConfig) (pool : Pool) (j : PoolId) → moving_in (step g i d joining pool) e ≡ Some (Some j) → moving_in pool e ≡ Some (Some j)
 step_still g i d e joining pool j = by_cond (λ (p : Pool). moving_in p e ≡ Some (Some j) → moving_in pool e ≡ Some (Some j)) (joining.home.0 == i) (with_configured g d joining pool) pool
     (λ home is. elim (after_put d e (joining_domain joining) pool.domains) [
-      | inl was ↦ ap (option_map (λ (x : Domain). x.moving)) (sym was) ∙ ap (λ (l : List (Option Domain)). option_map (λ (x : Domain). x.moving) (at_place l e)) (sym (configured_domains g d joining pool)) ∙ is
-      | inr new ↦ (let no : Some None ≡ Some (Some j) = ap (option_map (λ (x : Domain). x.moving)) (sym new.1) ∙ ap (λ (l : List (Option Domain)). option_map (λ (x : Domain). x.moving) (at_place l e)) (sym (configured_domains g d joining pool)) ∙ is in absurd (cc))
+      | inl was ↦ ap (option_map (λ (x : Domain). x.moving)) (sym was) ∙ ap (λ (l : List (Option Domain)). option_map (λ (x : Domain). x.moving) (at_place l e)) (sym (with_configured-domains g d joining pool)) ∙ is
+      | inr new ↦ (let no : Some None ≡ Some (Some j) = ap (option_map (λ (x : Domain). x.moving)) (sym new.1) ∙ ap (λ (l : List (Option Domain)). option_map (λ (x : Domain). x.moving) (at_place l e)) (sym (with_configured-domains g d joining pool)) ∙ is in absurd (cc))
     ])
     (λ away is. is)
 
@@ -134,24 +113,20 @@ module _ (m : Machine) (checked : IsChecked m) where
       by_any true some = let p = any_at (λ (pool : PoolConfig). has_core pool.cores r) config.pools some in inr (
         p.0,
         ap (λ o. core_of o r) (opening_at p.0 p.1 p.2)
-            ∙ ap (λ (l : List (Option Resource)). is_some (at_place l r)) (joined_resources config.granularity p.0 0 config.domains (record (empty_pool config p.1.params) { resources = map (λ r. cond (has_core p.1.cores r) (Some (fresh_core (replicate config.granularity (moment 0)))) None) (numbers_from 0 (core_count config)) }))
+            ∙ ap (λ (l : List (Option Resource)). is_some (at_place l r)) (with_domains-resources config.granularity p.0 0 config.domains (record (empty_pool config p.1.params) { resources = map (λ r. cond (has_core p.1.cores r) (Some (fresh_core (replicate config.granularity (moment 0)))) None) (numbers_from 0 (core_count config)) }))
             ∙ ap is_some (at_map (λ q. cond (has_core p.1.cores q) (Some new_core) None) 0 (core_count config) r low ∙ (let e : 0 + r ≡ r = omega arith in ap (λ q. cond (has_core p.1.cores q) (Some new_core) None) e))
             ∙ ap (λ b. is_some (cond b (Some new_core) None)) p.3,
       )
 
   domain_opened : (d : ℕ) → d < length config.domains → (i : ℕ) × (is_some (mover_of (at_place (opening m).pools i) d) ≡ true)
   domain_opened d low =
-      let c = pool_at config.domains d low in
+      let c = item_below config.domains d low in
       let is : IsCheckedDomain config c.0 = each_get (IsCheckedDomain config) config.domains d c.0 (recursion_from_All (IsCheckedDomain config) config.domains checked.config.domains) c.1 in
-      let p = pool_at config.pools c.0.home.0 is.home in
+      let p = item_below config.pools c.0.home.0 is.home in
       let i : ℕ = c.0.home.0 in
       let start : Pool = record (empty_pool config p.0.params) { resources = map (λ r. cond (has_core p.0.cores r) (Some (fresh_core (replicate config.granularity (moment 0)))) None) (numbers_from 0 (core_count config)) } in
       let len : length start.domains ≡ length config.domains = length-replicate (length config.domains) None in
-      (i, ap (λ o. is_some (mover_of o d)) (opening_at i p.0 p.1) ∙ some_map (at_place (opening_pool config i p.0).domains d) ∙ (let e : 0 + d ≡ d = omega arith in subst (λ n. is_some (at_place (with_domains config.granularity i 0 config.domains start).domains n) ≡ true) e (joined_here config.granularity i 0 d config.domains start c.0 c.1 refl (omega (arith, low, len)))))
-    where
-      some_map : (o : Option Domain) → is_some (option_map (λ (x : Domain). x.moving) o) ≡ is_some o
-      some_map None = refl
-      some_map (Some x) = refl
+      (i, ap (λ o. is_some (mover_of o d)) (opening_at i p.0 p.1) ∙ some_map (λ (x : Domain). x.moving) (at_place (opening_pool config i p.0).domains d) ∙ (let e : 0 + d ≡ d = omega arith in subst (λ n. is_some (at_place (with_domains config.granularity i 0 config.domains start).domains n) ≡ true) e (joined_here config.granularity i 0 d config.domains start c.0 c.1 refl (omega (arith, low, len)))))
 
   aimless : (r i : ℕ) → target_of (opening m) r ≡ Some (Some i) → ⊥
   aimless r i is = by_free (at_place (opening m).free r) refl is

@@ -1,5 +1,6 @@
 -- Each core of the machine is free or in a pool, and each domain is in one: kept by every step.
-use Rattle.std.proofs.Common.{◌≡◌, ◌≢◌, ◌<◌, ℕ, zero, suc, Bool, true, false, not, List, [], ◌∷◌, length, refl, arith, ap, subst, sym, ◌∙◌, ◌⊎◌, inl, inr, replicate}
+use Rattle.sched_laws.proofs.Judged.{Fits, verdict_fits_next}
+use Rattle.std.proofs.Common.{◌≡◌, ◌≢◌, ◌<◌, ℕ, zero, suc, true, false, not, List, [], ◌∷◌, length, refl, arith, ap, subst, sym, ◌∙◌, ◌⊎◌, inl, inr, replicate}
 use Rattle.std.specs.Prelude.{Option, Some, None, Ok, Err, is_some, option_map, ◌&&◌, ◌||◌, ◌==◌, nat_le}
 use Rattle.std.specs.List.{list_any}
 use mathlib.Core.Logic.{dite}
@@ -18,7 +19,7 @@ use Rattle.sched_model.specs.declared.state.FreeCore.{FreeCore}
 use Rattle.sched_model.specs.declared.state.Pool.{Pool}
 use Rattle.sched_model.specs.declared.state.Resource.{Resource}
 use Rattle.sched_model.specs.declared.state.State.{State}
-use Rattle.sched_model.specs.Places.{at_place, put_at, clear_at, change_at, numbered, numbers_from}
+use Rattle.sched_model.specs.Places.{at_place, put_at, clear_at, change_at, numbered_items, numbers_from}
 use Rattle.sched_model.specs.Opening.{core_count, empty_pool}
 use Rattle.sched_model.specs.Pool.{change_domain, pause, unpause, set_params, set_leaving, set_moving}
 use Rattle.sched_model.specs.Actions.{change_pool}
@@ -28,11 +29,10 @@ use Rattle.sched_model.specs.Machine.{is_move_under_way, verdict, settled_at, af
 use Rattle.sched_laws.specs.Each.{EachPlace}
 use Rattle.sched_laws.proofs.EachPlace.{by_cond, at_place-put_at_other, at_place-clear_at_other, at_place-clear_at, EachPlace-empty, is_empty}
 use Rattle.sched_laws.proofs.Lists.{none_passes, at_numbered}
-use Rattle.sched_laws.proofs.Bools.{and_right, not_true, or_left, or_right}
-use Rattle.part_laws.proofs.Places.{some_change_at, at_place-change_at, at_place-change_at_other}
+use Rattle.sched_laws.proofs.Bools.{and_right, not_true, or_left, or_right, clash}
+use Rattle.part_laws.proofs.Places.{some_change_at, at_place-change_at, at_place-change_at_other, some_map}
 use Rattle.part_laws.proofs.Looks.{has_core_in, moving_in, looks_change_core, looks_withdrawn, looks_pause, looks_unpause, looks_set_params}
 use Rattle.part_laws.proofs.Alike.{core_of, mover_of, target_of, Alike, at_itself, alike_change, alike_change_home, alike_settled_at, looks_itself, looks_rtds}
-use Rattle.part_laws.proofs.Meets.{Meets, verdict_meets}
 
 -- each core is free or in a pool, each domain is in a pool, and what is on its way goes to a pool that is there, a domain to another than its own
 pub record Housed (m : Machine) (s : State) : Type 0 where
@@ -77,29 +77,25 @@ no_mover (Some pool) d j none is = no_mover_in pool (at_place pool.domains d) j 
 
 pub no_moves : (s : State) → is_move_under_way s ≡ false → NoMoves s
 no_moves s none =
-    let pools = or_left (list_any (λ e. list_any (λ c. c.1.leaving) (numbered 0 e.1.resources) || list_any (λ d. is_some d.1.moving) (numbered 0 e.1.domains)) (numbered 0 s.pools)) (list_any (λ e. is_some e.1.target) (numbered 0 s.free)) none in
-    let free = or_right (list_any (λ e. list_any (λ c. c.1.leaving) (numbered 0 e.1.resources) || list_any (λ d. is_some d.1.moving) (numbered 0 e.1.domains)) (numbered 0 s.pools)) (list_any (λ e. is_some e.1.target) (numbered 0 s.free)) none in
-    let each_free : EachPlace (λ (c : FreeCore). is_some c.target ≡ false) s.free = at_numbered (λ (c : FreeCore). is_some c.target ≡ false) 0 s.free (none_passes (λ (e : ℕ × FreeCore). is_some e.1.target) (numbered 0 s.free) free) in
-    let each_pool : EachPlace (λ (pool : Pool). (list_any (λ (c : ℕ × Resource). c.1.leaving) (numbered 0 pool.resources) || list_any (λ (d : ℕ × Domain). is_some d.1.moving) (numbered 0 pool.domains)) ≡ false) s.pools =
-    at_numbered (λ (pool : Pool). (list_any (λ (c : ℕ × Resource). c.1.leaving) (numbered 0 pool.resources) || list_any (λ (d : ℕ × Domain). is_some d.1.moving) (numbered 0 pool.domains)) ≡ false) 0 s.pools
-    (none_passes (λ (e : ℕ × Pool). list_any (λ (c : ℕ × Resource). c.1.leaving) (numbered 0 e.1.resources) || list_any (λ (d : ℕ × Domain). is_some d.1.moving) (numbered 0 e.1.domains)) (numbered 0 s.pools) pools) in
+    let pools = or_left (list_any (λ e. list_any (λ c. c.1.leaving) (numbered_items 0 e.1.resources) || list_any (λ d. is_some d.1.moving) (numbered_items 0 e.1.domains)) (numbered_items 0 s.pools)) (list_any (λ e. is_some e.1.target) (numbered_items 0 s.free)) none in
+    let free = or_right (list_any (λ e. list_any (λ c. c.1.leaving) (numbered_items 0 e.1.resources) || list_any (λ d. is_some d.1.moving) (numbered_items 0 e.1.domains)) (numbered_items 0 s.pools)) (list_any (λ e. is_some e.1.target) (numbered_items 0 s.free)) none in
+    let each_free : EachPlace (λ (c : FreeCore). is_some c.target ≡ false) s.free = at_numbered (λ (c : FreeCore). is_some c.target ≡ false) 0 s.free (none_passes (λ (e : ℕ × FreeCore). is_some e.1.target) (numbered_items 0 s.free) free) in
+    let each_pool : EachPlace (λ (pool : Pool). (list_any (λ (c : ℕ × Resource). c.1.leaving) (numbered_items 0 pool.resources) || list_any (λ (d : ℕ × Domain). is_some d.1.moving) (numbered_items 0 pool.domains)) ≡ false) s.pools =
+    at_numbered (λ (pool : Pool). (list_any (λ (c : ℕ × Resource). c.1.leaving) (numbered_items 0 pool.resources) || list_any (λ (d : ℕ × Domain). is_some d.1.moving) (numbered_items 0 pool.domains)) ≡ false) 0 s.pools
+    (none_passes (λ (e : ℕ × Pool). list_any (λ (c : ℕ × Resource). c.1.leaving) (numbered_items 0 e.1.resources) || list_any (λ (d : ℕ × Domain). is_some d.1.moving) (numbered_items 0 e.1.domains)) (numbered_items 0 s.pools) pools) in
     record {
       aims = λ r i is. no_target (at_place s.free r) i (λ c at. each_free r c at) is;
       movers = λ i d j is. no_mover (at_place s.pools i) d j
-          (λ pool at. at_numbered (λ (x : Domain). is_some x.moving ≡ false) 0 pool.domains (none_passes (λ (e : ℕ × Domain). is_some e.1.moving) (numbered 0 pool.domains)
-          (or_right (list_any (λ (c : ℕ × Resource). c.1.leaving) (numbered 0 pool.resources)) (list_any (λ (d : ℕ × Domain). is_some d.1.moving) (numbered 0 pool.domains)) (each_pool i pool at)))) is;
+          (λ pool at. at_numbered (λ (x : Domain). is_some x.moving ≡ false) 0 pool.domains (none_passes (λ (e : ℕ × Domain). is_some e.1.moving) (numbered_items 0 pool.domains)
+          (or_right (list_any (λ (c : ℕ × Resource). c.1.leaving) (numbered_items 0 pool.resources)) (list_any (λ (d : ℕ × Domain). is_some d.1.moving) (numbered_items 0 pool.domains)) (each_pool i pool at)))) is;
     }
 
-pub empty_numbered : {X : Type 0} (n r : ℕ) (places : List (Option X)) → (length (numbered n places) == 0) ≡ true → at_place places r ≡ None
+pub empty_numbered : {X : Type 0} (n r : ℕ) (places : List (Option X)) → (length (numbered_items n places) == 0) ≡ true → at_place places r ≡ None
 empty_numbered n zero [] none = refl
 empty_numbered n (suc r) [] none = refl
 empty_numbered n zero (None ∷ places) none = refl
 empty_numbered n (suc r) (None ∷ places) none = empty_numbered (suc n) r places none
 empty_numbered n r (Some x ∷ places) none = absurd (grind (arith, none))
-
--- a pool without cores and domains
-in_empty_core : (m : Machine) (params : PoolParams) (r : ℕ) → has_core_in (empty_pool m.config params) r ≡ false
-in_empty_core m params r = ap is_some (is_empty (at_place (replicate (core_count m.config) None) r) (λ c at. EachPlace-empty {X = Resource} (λ y. ⊥) (core_count m.config) r c at))
 
 in_empty_domain : (m : Machine) (params : PoolParams) (d : ℕ) → moving_in (empty_pool m.config params) d ≡ None
 in_empty_domain m params d = ap (option_map (λ (x : Domain). x.moving)) (is_empty (at_place (replicate (length m.config.domains) None) d) (λ x at. EachPlace-empty {X = Domain} (λ y. ⊥) (length m.config.domains) d x at))
@@ -112,10 +108,6 @@ after_put zero zero x (p ∷ places) = inr (refl, refl)
 after_put zero (suc k) x (p ∷ places) = inl refl
 after_put (suc i) zero x (p ∷ places) = inl refl
 after_put (suc i) (suc k) x (p ∷ places) = elim (after_put i k x places) [ inl was ↦ inl was | inr r ↦ inr (ap suc r.0, r.1) ]
-
-clash : (b : Bool) → b ≡ true → b ≡ false → ⊥
-clash true a b = absurd (cc)
-clash false a b = absurd (cc)
 
 pub there_by_core : (o : Option Pool) (r : ℕ) → core_of o r ≡ true → is_some o ≡ true
 there_by_core None r is = is
@@ -217,11 +209,7 @@ movers_set d e i pool j is =
 some_moving : (d e i : ℕ) (pool : Pool) → is_some (moving_in (set_moving d i pool) e) ≡ is_some (moving_in pool e)
 some_moving d e i pool =
     let f : Domain → Domain = λ x. record x { moving = Some (pool_number i) } in
-    some_map (at_place (change_at d f pool.domains) e) ∙ some_change_at d e f pool.domains ∙ sym (some_map (at_place pool.domains e))
-  where
-    some_map : (o : Option Domain) → is_some (option_map (λ (x : Domain). x.moving) o) ≡ is_some o
-    some_map None = refl
-    some_map (Some x) = refl
+    some_map (λ (x : Domain). x.moving) (at_place (change_at d f pool.domains) e) ∙ some_change_at d e f pool.domains ∙ sym (some_map (λ (x : Domain). x.moving) (at_place pool.domains e))
 
 -- a domain of the pool i is to move to another, which is there
 housed_moving : (m : Machine) (d i j : ℕ) (s : State) → is_some (at_place s.pools j) ≡ true → j ≢ i → Housed m s → Housed m (change_pool i (set_moving d j) s)
@@ -273,9 +261,9 @@ of_params : (m : Machine) (t d : ℕ) (change : ParamChange) (s : State) → Hou
 of_params m t d change s h = housed_alike m s (change_home d (set_params change t) s) (alike_change_home d (set_params change t) s (λ pool. looks_set_params (has_core_in pool) (moving_in pool) change t pool (looks_itself pool))) h
 
 -- an accepted command
-housed_plan : (m : Machine) (t : ℕ) (p : Plan) (s : State) → Meets s p → NoMoves s → Housed m s → Housed m (carried_out m t p s)
+housed_plan : (m : Machine) (t : ℕ) (p : Plan) (s : State) → Fits s p → NoMoves s → Housed m s → Housed m (carried_out m t p s)
 housed_plan m t (plan.PoolList pool answer) s meets still h = h
-housed_plan m t (plan.PoolCreate i name kind answer) s meets still h = housed_created m i.0 (default_pool_params kind) s (carried_out m t (plan.PoolCreate i name kind answer) s) refl refl meets h
+housed_plan m t (plan.PoolCreate i name kind answer) s meets still h = housed_created m i.0 (default_pool_params kind) s (carried_out m t (plan.PoolCreate i name kind answer) s) refl refl meets.0 h
 housed_plan m t (plan.PoolDestroy i answer) s meets still h = housed_destroyed m i.0 s (carried_out m t (plan.PoolDestroy i answer) s) refl refl meets still h
 housed_plan m t (plan.PoolRename i name answer) s meets still h = housed_alike m s (carried_out m t (plan.PoolRename i name answer) s) (record { pools = λ k. at_itself (at_place s.pools k); free = λ r. refl }) h
 housed_plan m t (plan.CpuAdd i core answer) s meets still h = housed_aimed m i.0 core.0 s meets h
@@ -298,13 +286,6 @@ housed_plan m t (plan.ArincSet i frame answer) s meets still h =
     housed_alike m s (carried_out m t (plan.ArincSet i frame answer) s) (alike_change i.0 (set_params (changes.Frame frame) t) s (λ pool at. looks_set_params (has_core_in pool) (moving_in pool) (changes.Frame frame) t pool (looks_itself pool))) h
 housed_plan m t (plan.Pin d unit cores answer) s meets still h = of_params m t d.0 (changes.Pin d unit cores) s h
 
-counted : (s : State) (k : ℕ) (p : Plan) → Meets s p → Meets (record s { next_command = k }) p
-counted s k (plan.PoolCreate i name kind answer) meets = meets
-counted s k (plan.PoolDestroy i answer) meets = meets
-counted s k (plan.CpuAdd i core answer) meets = meets
-counted s k (plan.Migrate d i j answer) meets = meets
-counted s k p meets = tt
-
 -- a line with a command, where nothing is on its way
 housed_line : (m : Machine) (t : ℕ) (line : CommandLine) (s : State) → NoMoves s → Housed m s → Housed m (after_command m t line s)
 housed_line m t line s still h =
@@ -314,7 +295,7 @@ housed_line m t line s still h =
     let none : NoMoves next = record { aims = still.aims; movers = still.movers } in
     elim (verdict m s line) as (λ v. verdict m s line ≡ v → Housed m (elim v as (λ _. State) [ Err fault ↦ record s { next_command = suc s.next_command } | Ok p ↦ settled_at t (pool_of_plan s p) (carried_out m t p (record s { next_command = suc s.next_command })) ])) [
       | Err fault ↦ λ is. here
-      | Ok p ↦ λ is. housed_alike m (carried_out m t p next) (settled_at t (pool_of_plan s p) (carried_out m t p next)) (alike_settled_at t (pool_of_plan s p) (carried_out m t p next)) (housed_plan m t p next (counted s k p (verdict_meets m s line p is)) none here)
+      | Ok p ↦ λ is. housed_alike m (carried_out m t p next) (settled_at t (pool_of_plan s p) (carried_out m t p next)) (alike_settled_at t (pool_of_plan s p) (carried_out m t p next)) (housed_plan m t p next (verdict_fits_next m s line k p is) none here)
     ] refl
 
 pub housed_command : (m : Machine) (t : ℕ) (line : Option CommandLine) (s : State) → elim line [ None ↦ false | Some l ↦ nat_le l.at.0 t && not (is_move_under_way s) ] ≡ true → Housed m s

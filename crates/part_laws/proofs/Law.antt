@@ -1,5 +1,9 @@
 -- The law of parts, from what is kept.
-use Rattle.std.proofs.Common.{◌≡◌, ◌≢◌, ◌<◌, ◌≤◌, ◌-◌, ℕ, zero, suc, Bool, true, false, eqb, List, [], ◌∷◌, ◌++◌, length, refl, arith, ap, subst, sym, ◌∙◌, ◌⊎◌, inl, inr, eq-eqb, eqb-true, ne_eqb, cond}
+use Rattle.part_laws.proofs.Places.{some_map}
+use Rattle.sched_laws.proofs.Bools.{clash, and_left, and_right, either}
+use Rattle.std.proofs.lemmas.Bool.{lt-ltb, ltb-true}
+use Rattle.sched_model.proofs.RunLemmas.{IsRunFrom-append, after_entries-append}
+use Rattle.std.proofs.Common.{◌≡◌, ◌≢◌, ◌<◌, ◌≤◌, ◌-◌, ℕ, zero, suc, Bool, true, false, eqb, List, [], ◌∷◌, ◌++◌, length, refl, arith, ap, subst, sym, ◌∙◌, inl, inr, eq-eqb, eqb-true, ne_eqb, cond}
 use Rattle.std.specs.Prelude.{Option, Some, None, is_some, option_map, take, slice_get, map, nat_lt, ◌&&◌}
 use mathlib.Core.Logic.{dite}
 use native.Mathlib.Decide.{ℕ_discrete}
@@ -18,10 +22,10 @@ use Rattle.sched_model.specs.Places.{at_place, first_place, test_at}
 use Rattle.sched_model.specs.Opening.{core_count}
 use Rattle.sched_model.specs.Checked.{IsChecked}
 use Rattle.sched_model.specs.Machine.{is_enabled, after, after_stall, after_at_home}
-use Rattle.sched_model.specs.Runs.{Reached, action_of, end_of, after_quiet, after_event, IsNext, IsNextEvent, IsRunFrom, IsRun, begun, after_entry, after_entries}
+use Rattle.sched_model.specs.Runs.{Reached, action_of, end_of, after_quiet, after_event, IsNext, IsNextEvent, IsRunFrom, IsRun, run_start, after_entry, after_entries}
 use Rattle.sched_laws.specs.StateLaws.{state_after}
 use Rattle.sched_laws.proofs.EachPlace.{found_at, none_found, place_below}
-use Rattle.sched_laws.proofs.Lists.{test_at-some}
+use Rattle.sched_laws.proofs.Lists.{test_at-some, some_is}
 use Rattle.sched_laws.proofs.Kept.{IsApart}
 use Rattle.sched_ranges.specs.Ranges.{StateInRange}
 use Rattle.sched_ranges.proofs.Done.{in_range}
@@ -45,8 +49,8 @@ housed_home m t action s h = housed_alike m s (after_at_home m.config.granularit
 housed_after : (m : Machine) (s : State) (t : ℕ) (action : Action) → is_enabled m s t action ≡ true → HasPlaces m s → Housed m s → Housed m (after m s t action)
 housed_after m s t Stall on places h = housed_stall m t (slice_get m.work.stalls s.next_stall) s h
 housed_after m s t Xl on places h = housed_command m t (slice_get m.work.commands s.next_command) s on h
-housed_after m s t (Moved r) on places h = housed_moved m t r s places h
-housed_after m s t (DomMoved d) on places h = housed_dom_moved m m.config.granularity t d s places h
+housed_after m s t (Moved r) on places h = housed_moved m t r.0 s places h
+housed_after m s t (DomMoved d) on places h = housed_dom_moved m m.config.granularity t d.0 s places h
 housed_after m s t action on places h = housed_home m t action s h
 
 housed_quiet : (m : Machine) (end : Option ℕ) (from : Reached) → Housed m from.state → Housed m (after_quiet end from).state
@@ -57,30 +61,22 @@ housed_event : (m : Machine) (e : Event) (action : Option Action) (from : Reache
 housed_event m e None from next places h = housed_quiet m (end_of e) from h
 housed_event m e (Some action) from next places h = housed_after m from.state from.state.now action next.0 places h
 
-run_more : (m : Machine) (from : Reached) (done : List Entry) (e : Entry) → IsRunFrom m from done → IsNext m (after_entries m from done) e → IsRunFrom m from (done ++ e ∷ [])
-run_more m from [] e run next = (next, tt)
-run_more m from (x ∷ done) e run next = (run.0, run_more m (after_entry m from x) done e run.1 next)
-
-after_more : (m : Machine) (from : Reached) (done : List Entry) (e : Entry) → after_entry m (after_entries m from done) e ≡ after_entries m from (done ++ e ∷ [])
-after_more m from [] e = refl
-after_more m from (x ∷ done) e = after_more m (after_entry m from x) done e
-
 has_places : (m : Machine) → IsChecked m → (entries : List Entry) → IsRun m entries → HasPlaces m (state_after m entries)
 has_places m checked entries run = let ranges : StateInRange m (state_after m entries) = in_range m checked entries run in
     record { free = ranges.free_places; cores = λ i pool at. (ranges.pools i pool at).core_places; domains = λ i pool at. (ranges.pools i pool at).domain_places }
 
-pub housed_from : (m : Machine) → IsChecked m → (done rest : List Entry) (from : Reached) → after_entries m (begun m) done ≡ from → IsRun m done → IsRunFrom m from rest → Housed m from.state → Housed m (after_entries m from rest).state
+pub housed_from : (m : Machine) → IsChecked m → (done rest : List Entry) (from : Reached) → after_entries m (run_start m) done ≡ from → IsRun m done → IsRunFrom m from rest → Housed m from.state → Housed m (after_entries m from rest).state
 housed_from m checked done [] from is run goes h = h
 housed_from m checked done (e ∷ rest) from is run goes h =
-    housed_from m checked (done ++ e ∷ []) rest (after_entry m from e) (sym (after_more m (begun m) done e) ∙ ap (λ r. after_entry m r e) is)
-    (run_more m (begun m) done e run (subst (λ r. IsNext m r e) (sym is) goes.0)) goes.1
+    housed_from m checked (done ++ e ∷ []) rest (after_entry m from e) (after_entries-append m (run_start m) done e ∙ ap (λ r. after_entry m r e) is)
+    (IsRunFrom-append m (run_start m) done e run (subst (λ r. IsNext m r e) (sym is) goes.0)) goes.1
     (housed_event m e.event (action_of e.event) from goes.0.event (subst (λ (r : Reached). HasPlaces m r.state) is (has_places m checked done run)) h)
 
 -- a domain that is moving moves to another pool
 pub moves-away : (m : Machine) → IsChecked m → (entries : List Entry) → IsRun m entries → (i d : ℕ) (pool : Pool) (x : Domain) (j : PoolId) → at_place (state_after m entries).pools i ≡ Some pool → at_place pool.domains d ≡ Some x → x.moving ≡ Some j
     → j.0 ≢ i
 moves-away m checked entries run i d pool x j at has moves =
-    (housed_from m checked [] entries (begun m) refl tt run (housed_opening m checked)).away i d j (ap (λ o. mover_of o d) at ∙ ap (option_map (λ (y : Domain). y.moving)) has ∙ ap (λ o. Some o) moves)
+    (housed_from m checked [] entries (run_start m) refl tt run (housed_opening m checked)).away i d j (ap (λ o. mover_of o d) at ∙ ap (option_map (λ (y : Domain). y.moving)) has ∙ ap (λ o. Some o) moves)
 
 -- from a test to another and back
 same_tests : (a b : Bool) → (a ≡ true → b ≡ true) → (b ≡ true → a ≡ true) → a ≡ b
@@ -123,9 +119,6 @@ module _ (m : Machine) (s : State) (apart : IsApart s) (places : HasPlaces m s) 
       by_place None at is = absurd (cc)
       by_place (Some pool) at is = (pool, at, is)
 
-  low_or_high : (nat_lt n 64 ≡ true) ⊎ (nat_lt n 64 ≡ false)
-  low_or_high = elim (nat_lt n 64) as (λ b. (b ≡ true) ⊎ (b ≡ false)) [ true ↦ inl refl | false ↦ inr refl ]
-
   core_listed : nat_lt n 64 ≡ true → (pool : Pool) → pool_lists n pool ≡ has_core_in pool n
   core_listed low pool = ap (λ b. cond b (is_some (at_place pool.resources n)) (is_some (at_place pool.domains (n - 64)))) low
 
@@ -138,26 +131,16 @@ module _ (m : Machine) (s : State) (apart : IsApart s) (places : HasPlaces m s) 
   domain_name : nat_lt n 64 ≡ false → is_name m.config n ≡ nat_lt (n - 64) (length m.config.domains)
   domain_name high = ap (λ b. cond b (nat_lt n (core_count m.config)) (nat_lt (n - 64) (length m.config.domains))) high
 
-  is_lt : (a b : ℕ) → a < b → nat_lt a b ≡ true
-  is_lt a b low = grind (arith, low)
-
-  lt_is : (a b : ℕ) → nat_lt a b ≡ true → a < b
-  lt_is a b is = grind (arith, is)
-
-  some_there : {X : Type 0} (o : Option X) → is_some o ≡ true → (x : X) × (o ≡ Some x)
-  some_there None is = absurd (cc)
-  some_there (Some x) is = (x, refl)
-
   -- what a pool lists is a name of the input
   listed_name : (k : ℕ) → Listed k ≡ true → is_name m.config n ≡ true
-  listed_name k is = let p = listed_pool k is in elim low_or_high [
-    | inl low ↦ (let c = some_there (at_place p.0.resources n) (sym (core_listed low p.0) ∙ p.2) in let b = place_below p.0.resources n c.0 c.1 in let e = places.cores k p.0 p.1 in core_name low ∙ is_lt n (core_count m.config) (omega (arith, b, e)))
-    | inr high ↦ (let x = some_there (at_place p.0.domains (n - 64)) (sym (domain_listed high p.0) ∙ p.2) in let b = place_below p.0.domains (n - 64) x.0 x.1 in let e = places.domains k p.0 p.1 in domain_name high ∙ is_lt (n - 64) (length m.config.domains) (omega (arith, b, e)))
+  listed_name k is = let p = listed_pool k is in elim (either (nat_lt n 64)) [
+    | inl low ↦ (let c = some_is (at_place p.0.resources n) (sym (core_listed low p.0) ∙ p.2) in let b = place_below p.0.resources n c.0 c.1 in let e = places.cores k p.0 p.1 in core_name low ∙ lt-ltb n (core_count m.config) (omega (arith, b, e)))
+    | inr high ↦ (let x = some_is (at_place p.0.domains (n - 64)) (sym (domain_listed high p.0) ∙ p.2) in let b = place_below p.0.domains (n - 64) x.0 x.1 in let e = places.domains k p.0 p.1 in domain_name high ∙ lt-ltb (n - 64) (length m.config.domains) (omega (arith, b, e)))
   ]
 
   -- no two pools list it
   listed_once : (k j : ℕ) → Listed k ≡ true → Listed j ≡ true → k ≡ j
-  listed_once k j a b = let p = listed_pool k a in let q = listed_pool j b in elim low_or_high [
+  listed_once k j a b = let p = listed_pool k a in let q = listed_pool j b in elim (either (nat_lt n 64)) [
     | inl low ↦ apart.cores k j n (test_at-some s.pools k (λ pool. is_some (at_place pool.resources n)) p.0 p.1 (sym (core_listed low p.0) ∙ p.2)) (test_at-some s.pools j (λ pool. is_some (at_place pool.resources n)) q.0 q.1 (sym (core_listed low q.0) ∙ q.2))
     | inr high ↦ apart.domains k j (n - 64) (test_at-some s.pools k (λ pool. is_some (at_place pool.domains (n - 64))) p.0 p.1 (sym (domain_listed high p.0) ∙ p.2)) (test_at-some s.pools j (λ pool. is_some (at_place pool.domains (n - 64))) q.0 q.1 (sym (domain_listed high q.0) ∙ q.2))
   ]
@@ -170,37 +153,29 @@ module _ (m : Machine) (s : State) (apart : IsApart s) (places : HasPlaces m s) 
   none_listed : found ≡ None → (k : ℕ) → Listed k ≡ true → ⊥
   unfolding found
   none_listed is k listed = let p = listed_pool k listed in clash (pool_lists n p.0) p.2 (none_found 0 k (pool_lists n) s.pools p.0 is p.1)
-    where
-      clash : (b : Bool) → b ≡ true → b ≡ false → ⊥
-      clash true a b = absurd (cc)
-      clash false a b = absurd (cc)
 
   -- the tool's part lists it
   abbrev Free : Bool
   Free = nat_lt n 64 && is_some (at_place s.free n)
 
   free_low : Free ≡ true → (nat_lt n 64 ≡ true) × (is_some (at_place s.free n) ≡ true)
-  free_low is = by_low (nat_lt n 64) (is_some (at_place s.free n)) is
-    where
-      by_low : (a b : Bool) → (a && b) ≡ true → (a ≡ true) × (b ≡ true)
-      by_low true b is = (refl, is)
-      by_low false b is = absurd (cc)
+  free_low is = (and_left (nat_lt n 64) (is_some (at_place s.free n)) is, and_right (nat_lt n 64) (is_some (at_place s.free n)) is)
 
   free_apart : Free ≡ true → (k : ℕ) → Listed k ≡ true → ⊥
   free_apart is k listed = let f = free_low is in let p = listed_pool k listed in
       apart.free k n f.1 (test_at-some s.pools k (λ pool. is_some (at_place pool.resources n)) p.0 p.1 (sym (core_listed f.0 p.0) ∙ p.2))
 
   free_name : Free ≡ true → is_name m.config n ≡ true
-  free_name is = let f = free_low is in let c = some_there (at_place s.free n) f.1 in let b = place_below s.free n c.0 c.1 in let e = places.free in core_name f.0 ∙ is_lt n (core_count m.config) (omega (arith, b, e))
+  free_name is = let f = free_low is in let c = some_is (at_place s.free n) f.1 in let b = place_below s.free n c.0 c.1 in let e = places.free in core_name f.0 ∙ lt-ltb n (core_count m.config) (omega (arith, b, e))
 
   -- a name that no pool lists is a free core's
   free_or_listed : is_name m.config n ≡ true → ((k : ℕ) → Listed k ≡ true → ⊥) → Free ≡ true
-  free_or_listed named none = elim low_or_high [
-    | inl low ↦ elim (h.cores n (lt_is n (core_count m.config) (sym (core_name low) ∙ named))) [
+  free_or_listed named none = elim (either (nat_lt n 64)) [
+    | inl low ↦ elim (h.cores n (ltb-true n (core_count m.config) (sym (core_name low) ∙ named))) [
       | inl free ↦ ap (λ b. b && is_some (at_place s.free n)) low ∙ free
       | inr p ↦ absurd (none p.0 (core_here (at_place s.pools p.0) low p.1))
     ]
-    | inr high ↦ (let p = h.domains (n - 64) (lt_is (n - 64) (length m.config.domains) (sym (domain_name high) ∙ named)) in absurd (none p.0 (domain_here (at_place s.pools p.0) high p.1)))
+    | inr high ↦ (let p = h.domains (n - 64) (ltb-true (n - 64) (length m.config.domains) (sym (domain_name high) ∙ named)) in absurd (none p.0 (domain_here (at_place s.pools p.0) high p.1)))
   ]
     where
       core_here : (o : Option Pool) → nat_lt n 64 ≡ true → core_of o n ≡ true → elim o as (λ _. Bool) [ None ↦ false | Some pool ↦ pool_lists n pool ] ≡ true
@@ -209,11 +184,7 @@ module _ (m : Machine) (s : State) (apart : IsApart s) (places : HasPlaces m s) 
 
       domain_here : (o : Option Pool) → nat_lt n 64 ≡ false → is_some (mover_of o (n - 64)) ≡ true → elim o as (λ _. Bool) [ None ↦ false | Some pool ↦ pool_lists n pool ] ≡ true
       domain_here None high is = is
-      domain_here (Some pool) high is = domain_listed high pool ∙ (sym (some_moving (at_place pool.domains (n - 64))) ∙ is)
-        where
-          some_moving : (o : Option Domain) → is_some (option_map (λ (x : Domain). x.moving) o) ≡ is_some o
-          some_moving None = refl
-          some_moving (Some x) = refl
+      domain_here (Some pool) high is = domain_listed high pool ∙ (sym (some_map (λ (x : Domain). x.moving) (at_place pool.domains (n - 64))) ∙ is)
 
   -- the home of what a pool lists, and of a free core
   home_listed : (k : ℕ) → Listed k ≡ true → home_in m.config s n ≡ k
@@ -267,4 +238,4 @@ module _ (m : Machine) (s : State) (apart : IsApart s) (places : HasPlaces m s) 
 pub names_stand_once : (m : Machine) → IsChecked m → (entries : List Entry) → IsRun m entries → NamesStandOnce m entries
 unfolding part_at home_at
 names_stand_once m checked entries run k n low small =
-    stands_once m (state_at m entries) (fits_in_runs m checked entries run).apart (has_places m checked entries run) (in_range m checked entries run).pool_places (housed_from m checked [] entries (begun m) refl tt run (housed_opening m checked)) n k low
+    stands_once m (state_at m entries) (fits_in_runs m checked entries run).apart (has_places m checked entries run) (in_range m checked entries run).pool_places (housed_from m checked [] entries (run_start m) refl tt run (housed_opening m checked)) n k low

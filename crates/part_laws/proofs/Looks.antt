@@ -11,7 +11,7 @@ use Rattle.sched_model.specs.declared.state.Scheduler.{Scheduler}
 use Rattle.sched_model.specs.Policy as policy
 use Rattle.sched_model.specs.Policy.{decision_of, dequeue_domain, rtds_record}
 use Rattle.sched_model.specs.Pool as pools
-use Rattle.sched_model.specs.Pool.{enabled_in, after_in, settled, home_cores, reconsidered, change_core, change_processor, change_vcpu, change_domain, change_cores_of, set_pending, does, queue_unit, started_on, decided, same_choice, ask_of, set_leaving, set_moving, pause, unpause, set_params, without_domain, with_domain, with_records, is_of_domain}
+use Rattle.sched_model.specs.Pool.{enabled_in, after_in, settled_pool, home_cores, reconsidered_core, change_core, change_processor, change_vcpu, change_domain, change_cores_of, set_pending, with_doing, queue_unit, started_on, decided_core, same_choice, ask_of, set_leaving, set_moving, pause, unpause, set_params, without_domain, with_domain, with_records, is_of_domain}
 use Rattle.sched_laws.proofs.Events.{like_look, KeepsCore, Anyway, KeptByCommands, KeptByParts, commands_of, kept_withdrawn, kept_pause, kept_unpause, kept_marked}
 use Rattle.part_laws.proofs.Places.{some_change_at, seen_change_at, some_change_each, some_put_at}
 
@@ -50,7 +50,7 @@ module _ (C : ℕ → Bool) (D : ℕ → Option (Option PoolId)) where
     queues = λ u pool runs. looks_scheduler _ pool;
     dequeues = λ d pool. looks_scheduler _ pool;
     decides = λ r c pool at on looks. record { cores = λ q. some_put_at r q _ c pool.resources at ∙ looks.cores q; domains = looks.domains };
-    saves = λ r c u pool at is on. looks_change_core r pools.saved pool;
+    saves = λ r c u pool at is on. looks_change_core r pools.saved_core pool;
     replenishes = λ u pool on. looks_scheduler _ pool;
     dues = λ r u x old pool on is. looks_change_core r _ pool;
     refills = λ d pool on. looks_scheduler _ pool;
@@ -60,7 +60,7 @@ module _ (C : ℕ → Bool) (D : ℕ → Option (Option PoolId)) where
   looks_commands : (g : ℕ) → KeptByCommands g Looks
   looks_commands g = commands_of (looks_parts g 0)
 
-  pub looks_withdrawn : (d : ℕ) (pool : Pool) → Looks pool → Looks (pools.withdrawn d pool)
+  pub looks_withdrawn : (d : ℕ) (pool : Pool) → Looks pool → Looks (pools.withdrawn_pool d pool)
   looks_withdrawn = kept_withdrawn (looks_commands 1)
 
   pub looks_pause : (d : ℕ) (pool : Pool) → Looks pool → Looks (pause d pool)

@@ -12,10 +12,10 @@ use Rattle.sched_model.specs.declared.state.Resource.{Resource}
 use Rattle.sched_model.specs.declared.state.State.{State}
 use Rattle.sched_model.specs.Places.{at_place, put_at, clear_at, change_at}
 use Rattle.sched_model.specs.Opening.{core_count, fresh_core}
-use Rattle.sched_model.specs.Pool.{settled, with_domain, without_domain}
+use Rattle.sched_model.specs.Pool.{settled_pool as settled, with_domain, without_domain}
 use Rattle.sched_model.specs.Policy.{default_dom_params}
 use Rattle.sched_model.specs.Actions.{home_of_core, home_of_domain, change_pool}
-use Rattle.sched_model.specs.Machine.{attached, detached, left_by, joined_by, is_null, after_moved, after_dom_moved}
+use Rattle.sched_model.specs.Machine.{with_core_in, without_core_in, left_by, joined_by, is_null, after_moved, after_dom_moved}
 use Rattle.sched_laws.specs.Each.{EachPlace}
 use Rattle.sched_laws.proofs.EachPlace.{by_option, by_cond, at_place-put_at, at_place-put_at_other, at_place-clear_at, at_place-clear_at_other, place_below, length_set}
 use Rattle.sched_laws.proofs.Opened.{with_domain-domains, with_domain-resources}
@@ -73,11 +73,11 @@ housed_core m r i f s next leaves pools free here aimless h =
     }
 
 -- a free core joins the pool i, which is there
-housed_attached : (m : Machine) (t r i : ℕ) (c : FreeCore) (s : State) → HasPlaces m s → at_place s.free r ≡ Some c → is_some (at_place s.pools i) ≡ true → Housed m s → Housed m (attached t r i c s)
+housed_attached : (m : Machine) (t r i : ℕ) (c : FreeCore) (s : State) → HasPlaces m s → at_place s.free r ≡ Some c → is_some (at_place s.pools i) ≡ true → Housed m s → Housed m (with_core_in t r i c s)
 housed_attached m t r i c s places is there h =
     let f : Pool → Pool = λ pool. settled t (record pool { resources = put_at r (fresh_core c.stall_ends) pool.resources }) in
     let low : r < core_count m.config = (let b = place_below s.free r c is in let e = places.free in omega (arith, b, e)) in
-    housed_core m r i f s (attached t r i c s)
+    housed_core m r i f s (with_core_in t r i c s)
     (record {
       cores = λ pool q ne. core_settled t q (record pool { resources = put_at r (fresh_core c.stall_ends) pool.resources }) ∙ ap is_some (at_place-put_at_other r q (fresh_core c.stall_ends) pool.resources ne);
       domains = λ pool d. refl;
@@ -95,12 +95,12 @@ housed_attached m t r i c s places is there h =
         ∙ ap is_some (at_place-put_at r (fresh_core c.stall_ends) pool.resources (let e = places.cores i pool at in omega (arith, low, e)))
 
 -- a core of the pool i becomes free
-housed_detached : (m : Machine) (t r i : ℕ) (c : Resource) (pool : Pool) (s : State) → HasPlaces m s → at_place s.pools i ≡ Some pool → at_place pool.resources r ≡ Some c → Housed m s → Housed m (detached t r i c s)
+housed_detached : (m : Machine) (t r i : ℕ) (c : Resource) (pool : Pool) (s : State) → HasPlaces m s → at_place s.pools i ≡ Some pool → at_place pool.resources r ≡ Some c → Housed m s → Housed m (without_core_in t r i c s)
 housed_detached m t r i c pool s places at has h =
     let low : r < core_count m.config = (let b = place_below pool.resources r c has in let e = places.cores i pool at in omega (arith, b, e)) in
     let x : FreeCore = record { target = None; stall_ends = map (λ p. p.stall_end) c.processors } in
     let put : at_place (put_at r x s.free) r ≡ Some x = at_place-put_at r x s.free (let e = places.free in omega (arith, low, e)) in
-    housed_core m r i (λ p. settled t (record p { resources = clear_at r p.resources })) s (detached t r i c s)
+    housed_core m r i (λ p. settled t (record p { resources = clear_at r p.resources })) s (without_core_in t r i c s)
     (record {
       cores = λ p q ne. core_settled t q (record p { resources = clear_at r p.resources }) ∙ ap is_some (at_place-clear_at_other r q p.resources ne);
       domains = λ p d. refl;

@@ -23,7 +23,7 @@ seen_change_at zero (suc j) f look same (p ∷ places) = refl
 seen_change_at (suc i) zero f look same (p ∷ places) = refl
 seen_change_at (suc i) (suc j) f look same (p ∷ places) = seen_change_at i j f look same places
 
-some_map : {X Y : Type 0} (f : X → Y) (o : Option X) → is_some (option_map f o) ≡ is_some o
+pub some_map : {X Y : Type 0} (f : X → Y) (o : Option X) → is_some (option_map f o) ≡ is_some o
 some_map f None = refl
 some_map f (Some x) = refl
 

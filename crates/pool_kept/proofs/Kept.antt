@@ -3,7 +3,7 @@ use Rattle.std.proofs.Common.{◌≡◌, ◌≤◌, ◌<◌, ℕ, true, List, []
 use Rattle.std.specs.Prelude.{Option, Some, None, length, option_map, replicate, slice_get}
 use Rattle.std.specs.Option.{ForSome}
 use Rattle.std.proofs.lemmas.List.{length-replicate}
-use Rattle.sched_base.specs.Numbers.{moment}
+use Rattle.sched_base.specs.Numbers.{moment, core, domain as domain_number}
 use Rattle.sched_base.specs.declared.Cores.{Cores}
 use Rattle.sched_base.specs.declared.Moment.{Moment}
 use Rattle.sched_base.specs.declared.UnitId.{UnitId}
@@ -24,7 +24,7 @@ use Rattle.sched_model.specs.Eligible.{Decision}
 use Rattle.sched_model.specs.Opening.{fresh_core}
 use Rattle.sched_model.specs.Policy.{decision_of, fresh_records}
 use Rattle.sched_model.specs.Pool as pools
-use Rattle.sched_model.specs.Pool.{after_in, ask_of, change_processor, decided, enabled_in, pause, same_choice, set_leaving, set_moving, set_params, settled, unit_count, unpause, vcpu_of, with_domain, without_domain}
+use Rattle.sched_model.specs.Pool.{after_in, ask_of, change_processor, decided_core, enabled_in, pause, same_choice, set_leaving, set_moving, set_params, settled_pool, unit_count, unpause, vcpu_of, with_domain, without_domain}
 use Rattle.sched_laws.specs.Each.{EachPlace}
 use Rattle.sched_laws.proofs.EachPlace.{EachPlace-empty, EachPlace-change_at, EachPlace-put_at, EachPlace-clear_at, by_option, by_test, by_cond}
 use Rattle.sched_laws.proofs.Kept.{IsKept}
@@ -74,12 +74,12 @@ rest_alike g t pool next alike r = record {
 since_decide : (g t r : ℕ) (c : Resource) (pool : Pool) → at_place pool.resources r ≡ Some c → HaveCome t pool → HaveCome t (pools.after_decide g t r c pool)
 since_decide g t r c pool at since =
     let decision : Decision = decision_of (ask_of g t pool r c) pool.scheduler in
-    EachPlace-put_at (λ (x : Resource). x.since.0 ≤ t) r (decided t decision c) pool.resources since
+    EachPlace-put_at (λ (x : Resource). x.since.0 ≤ t) r (decided_core t decision c) pool.resources since
     (by_test (λ (x : Resource). x.since.0 ≤ t) (same_choice decision.unit c.cur) _ _ (λ is. since r c at) (λ is. omega arith))
 
 since_save : (g t r : ℕ) (u : UnitId) (pool : Pool) → HaveCome t pool → HaveCome t (pools.after_save g r u pool)
 since_save g t r u pool since =
-    let here : EachPlace (λ (x : Resource). x.since.0 ≤ t) (change_at r pools.saved pool.resources) = EachPlace-change_at (λ (x : Resource). x.since.0 ≤ t) r pools.saved pool.resources since (λ x at come. come) in
+    let here : EachPlace (λ (x : Resource). x.since.0 ≤ t) (change_at r pools.saved_core pool.resources) = EachPlace-change_at (λ (x : Resource). x.since.0 ≤ t) r pools.saved_core pool.resources since (λ x at come. come) in
     by_cond (HaveCome t) (is_runnable g pool u) _ _ (λ runs. here) (λ runs. here)
 
 rest_decide : (g t r : ℕ) (c : Resource) (pool : Pool) → at_place pool.resources r ≡ Some c → Holds g t pool → Rest g t (pools.after_decide g t r c pool)
@@ -101,9 +101,9 @@ rest_save g t r u pool h = record {
 }
 
 rest_acts : (g t : ℕ) (pool : Pool) (action : Action) → Holds g t pool → Rest g t (after_in g t pool action)
-rest_acts g t pool (Decide r) h = by_option (Rest g t) (at_place pool.resources r) _ _ (λ is. rest_of g t pool h) (λ c is. rest_decide g t r c pool is h)
+rest_acts g t pool (Decide r) h = by_option (Rest g t) (at_place pool.resources r.0) _ _ (λ is. rest_of g t pool h) (λ c is. rest_decide g t r.0 c pool is h)
 rest_acts g t pool (Save r) h =
-    by_option (Rest g t) (at_place pool.resources r) _ _ (λ is. rest_of g t pool h) (λ c is. by_option (Rest g t) c.saving _ _ (λ is2. rest_of g t pool h) (λ u is2. rest_save g t r u pool h))
+    by_option (Rest g t) (at_place pool.resources r.0) _ _ (λ is. rest_of g t pool h) (λ c is. by_option (Rest g t) c.saving _ _ (λ is2. rest_of g t pool h) (λ u is2. rest_save g t r.0 u pool h))
 rest_acts g t pool action h = rest_alike g t pool (after_in g t pool action) (steps.like_acts g t pool action tt) (rest_of g t pool h)
 
 -- the records and the places of units, where the other crates prove them of machines
@@ -123,13 +123,13 @@ module _ (g t : ℕ) where
   join : (pool : Pool) → 0 < g → IsKnownPool g pool → KeepsPool g pool → Rest g t pool → HaveProcessors g pool → H pool
   join pool some known records r started = record { some = some; known = known; records = records; members = r.members; units = r.units; on = r.on; started = started; since = r.since }
 
-  pub settles : (pool : Pool) → H pool → H (settled t pool)
+  pub settles : (pool : Pool) → H pool → H (settled_pool t pool)
   settles pool h =
-      join (settled t pool) h.some ((known h.some).inside.settles t pool h.known) h.records (rest_alike g t pool (settled t pool) (kept_settled (steps.like_commands g pool) t pool (is_alike_refl g pool)) (rest_of g t pool h)) (kept_settled (started.started_commands g) t pool h.started)
+      join (settled_pool t pool) h.some ((known h.some).inside.settles t pool h.known) h.records (rest_alike g t pool (settled_pool t pool) (kept_settled (steps.like_commands g pool) t pool (is_alike_refl g pool)) (rest_of g t pool h)) (kept_settled (started.started_commands g) t pool h.started)
 
   pub acts : (pool : Pool) (action : Action) → enabled_in g t pool action ≡ true → H pool → H (after_in g t pool action)
   acts pool action on h =
-      join (after_in g t pool action) h.some ((known h.some).inside.acts t pool action on h.known) (records.acts pool action on h.records) (rest_acts g t pool action h) (kept_by_event (started.started_steps g t) pool action on h.started)
+      join (after_in g t pool action) h.some ((known h.some).inside.acts t pool action on h.known) (records.acts pool action tt on h.records) (rest_acts g t pool action h) (kept_by_event (started.started_steps g t) pool action on h.started)
 
   pub stalls : (p end : ℕ) (pool : Pool) → H pool → H (change_processor g p (λ q. record q { stall_end = moment end }) pool)
   stalls p end pool h =
@@ -172,7 +172,7 @@ module _ (g t : ℕ) where
       })
       (started.started_core_comes g r ends pool none h.started)
 
-  pub core_goes : (r : ℕ) (pool : Pool) → enabled_in g t pool (Moved r) ≡ true → H pool → H (record pool { resources = clear_at r pool.resources })
+  pub core_goes : (r : ℕ) (pool : Pool) → enabled_in g t pool (Moved (core r)) ≡ true → H pool → H (record pool { resources = clear_at r pool.resources })
   core_goes r pool on_goes h =
       let next : Pool = record pool { resources = clear_at r pool.resources } in
       join next h.some ((known h.some).core_goes t r pool on_goes h.known) h.records
@@ -199,7 +199,7 @@ module _ (g t : ℕ) where
       }))
       (started.started_with_domain g t d domain params pool none_started h.started)
 
-  pub domain_goes : (d : ℕ) (pool : Pool) → enabled_in g t pool (DomMoved d) ≡ true → H pool → H (without_domain d pool)
+  pub domain_goes : (d : ℕ) (pool : Pool) → enabled_in g t pool (DomMoved (domain_number d)) ≡ true → H pool → H (without_domain d pool)
   domain_goes d pool on_goes h =
       join (without_domain d pool) h.some ((known h.some).domain_goes t d pool on_goes h.known) (keeps_parted g d pool.domains pool.scheduler.records h.records)
       (record {

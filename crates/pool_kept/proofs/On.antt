@@ -1,4 +1,5 @@
 -- Which units are on, by the records: where a core decides, and where cores and domains come and go.
+use Rattle.sched_base.specs.Numbers.{core, domain as domain_number}
 use Rattle.std.proofs.Common.{◌≡◌, ◌≢◌, ◌≤◌, ℕ, Bool, true, false, List, refl, arith, subst, sym, ◌∙◌, ap, inl, inr}
 use Rattle.std.specs.Prelude.{Option, Some, None, is_some, not, slice_get, ◌&&◌}
 use Rattle.std.specs.Option.{ForSome}
@@ -22,7 +23,7 @@ use Rattle.sched_model.specs.Eligible.{Decision}
 use Rattle.sched_model.specs.Opening.{fresh_core}
 use Rattle.sched_model.specs.Policy.{decision_of, fresh_records}
 use Rattle.sched_model.specs.Pool as pools
-use Rattle.sched_model.specs.Pool.{ask_of, change_core, core_of, decided, enabled_in, is_of_domain, unit_count, without_domain}
+use Rattle.sched_model.specs.Pool.{ask_of, change_core, core_of, decided_core, enabled_in, is_of_domain, unit_count, without_domain}
 use Rattle.sched_laws.specs.Each.{EachPlace}
 use Rattle.sched_laws.proofs.EachPlace.{EachPlace-change_at, EachPlace-put_at, EachPlace-clear_at, place_below, at_place-put_at, at_place-put_at_other, at_place-clear_at_other, by_cond}
 use Rattle.sched_laws.proofs.Choices.{is_unit_same}
@@ -75,7 +76,7 @@ module _ (g : ℕ) (t r : ℕ) (c : Resource) (pool : Pool) (at : at_place pool.
       let old : Records = pool.scheduler.records in
       let kind : keeps_records decision.records ≡ keeps_records old = running.decides_kind ask pool.scheduler in
       let is_now : (w : UnitId) → is_on decision.records w ≡ is_on_after ask decision old w = running.decides ask pool.scheduler in
-      let now : Resource = decided t decision c in
+      let now : Resource = decided_core t decision c in
       let at_now : at_place (put_at r now pool.resources) r ≡ Some now = at_place-put_at r now pool.resources (place_below pool.resources r c at) in
       record {
         own = λ k x at_k u is. may_of decision.records u (λ recorded. is_now u ∙ elim (ℕ_discrete k r) [
@@ -113,7 +114,7 @@ on_core_comes r ends pool none on = record {
 }
 
 -- nor has one that goes
-pub on_core_goes : (g t r : ℕ) (pool : Pool) → enabled_in g t pool (Moved r) ≡ true → AreOn pool → AreOn (record pool { resources = clear_at r pool.resources })
+pub on_core_goes : (g t r : ℕ) (pool : Pool) → enabled_in g t pool (Moved (core r)) ≡ true → AreOn pool → AreOn (record pool { resources = clear_at r pool.resources })
 on_core_goes g t r pool enabled on =
     let goes = goes_empty g t r pool enabled in
     record {
@@ -145,7 +146,7 @@ on_joined g t d domain params pool none has units on =
     }
 
 -- a domain that parts leaves the units of the others as they are
-pub on_parted : (g t d : ℕ) (pool : Pool) → enabled_in g t pool (DomMoved d) ≡ true → AreOn pool → AreOn (without_domain d pool)
+pub on_parted : (g t d : ℕ) (pool : Pool) → enabled_in g t pool (DomMoved (domain_number d)) ≡ true → AreOn pool → AreOn (without_domain d pool)
 on_parted g t d pool enabled on =
     let old : Records = pool.scheduler.records in
     record {
@@ -164,8 +165,7 @@ none_on (pool_params.Credit2 limit) domains cores u =
     ap (λ (o : Option Credit2Domain). elim o as (λ _. Bool) [ None ↦ false | Some d ↦ elim (slice_get d.units u.n) as (λ _. Bool) [ None ↦ false | Some x ↦ is_some x.burned ] ]) (at_empty {X = Credit2Domain} domains u.dom.0)
 none_on pool_params.Rtds domains cores u =
     ap (λ (o : Option (List RtdsUnit)). elim (elim o as (λ _. Option RtdsUnit) [ None ↦ None | Some units ↦ slice_get units u.n ]) as (λ _. Bool) [ None ↦ false | Some x ↦ is_some x.burned ]) (at_empty {X = List RtdsUnit} domains u.dom.0)
-none_on (pool_params.Arinc653 frame) domains cores u = refl
-none_on pool_params.Null domains cores u = refl
+none_on other domains cores u = refl
 
 -- a save leaves each core its own unit
 pub on_save : (g r : ℕ) (u : UnitId) (pool : Pool) → AreOn pool → AreOn (pools.after_save g r u pool)
@@ -173,13 +173,13 @@ on_save g r u pool on =
     by_cond AreOn (is_runnable g pool u) _ _ (λ runs. record { own = own; off = off }) (λ runs. record { own = own; off = off })
   where
     next : Pool
-    next = change_core r pools.saved pool
+    next = change_core r pools.saved_core pool
 
-    own : EachPlace (λ (c : Resource). ForSome c.cur (λ w. may_be_on pool.scheduler.records w ≡ true)) (change_at r pools.saved pool.resources)
-    own = EachPlace-change_at (λ (c : Resource). ForSome c.cur (λ w. may_be_on pool.scheduler.records w ≡ true)) r pools.saved pool.resources on.own (λ x at here. here)
+    own : EachPlace (λ (c : Resource). ForSome c.cur (λ w. may_be_on pool.scheduler.records w ≡ true)) (change_at r pools.saved_core pool.resources)
+    own = EachPlace-change_at (λ (c : Resource). ForSome c.cur (λ w. may_be_on pool.scheduler.records w ≡ true)) r pools.saved_core pool.resources on.own (λ x at here. here)
 
     off : (w : UnitId) → is_on pool.scheduler.records w ≡ true → is_some (core_of next w) ≡ true
     off w is =
         let found = found_core pool w (on.off w is) in
-        let now = alike_is (λ (c : Resource). c.cur) pool.resources next.resources found.0 found.1 (alike_change_at (λ (c : Resource). c.cur) r pools.saved pool.resources (λ c. refl)) found.2 in
+        let now = alike_is (λ (c : Resource). c.cur) pool.resources next.resources found.0 found.1 (alike_change_at (λ (c : Resource). c.cur) r pools.saved_core pool.resources (λ c. refl)) found.2 in
         core_found next found.0 now.0 w now.1 (now.2 ∙ found.3)

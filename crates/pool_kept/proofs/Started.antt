@@ -3,7 +3,7 @@ use Rattle.std.proofs.Common.{◌≡◌, ◌≢◌, ◌<◌, ◌⊎◌, ℕ, zer
 use Rattle.std.specs.Prelude.{Option, Some, None, option_map, slice_get, not, ◌+◌, ◌*◌, ◌/◌, ◌%◌, ◌&&◌}
 use Rattle.std.proofs.Math.Decide.{ℕ_discrete}
 use Rattle.std.proofs.Math.Nat.{div-add-mod}
-use Rattle.sched_base.specs.Numbers.{moment, domain as domain_number, pool as pool_number}
+use Rattle.sched_base.specs.Numbers.{moment, domain as domain_number, pool as pool_number, core, processor}
 use Rattle.sched_base.specs.declared.Moment.{Moment}
 use Rattle.sched_base.specs.declared.UnitId.{UnitId}
 use Rattle.sched_base.specs.declared.VcpuId.{VcpuId}
@@ -22,9 +22,9 @@ use Rattle.sched_model.specs.State.{is_up}
 use Rattle.sched_model.specs.Eligible.{Decision}
 use Rattle.sched_model.specs.Opening.{fresh_core}
 use Rattle.sched_model.specs.Policy as policy
-use Rattle.sched_model.specs.Policy.{decision_of, rtds_record}
+use Rattle.sched_model.specs.Policy.{decision_of}
 use Rattle.sched_model.specs.Pool as pools
-use Rattle.sched_model.specs.Pool.{after_in, ask_of, change_core, change_cores_of, change_domain, change_processor, change_vcpu, decided, does, enabled_in, guest_of, home_cores, is_of_domain, pause, reconsidered, same_choice, set_leaving, set_moving, set_params, set_pending, settled, started_on, unit_count, unpause, with_domain, without_domain}
+use Rattle.sched_model.specs.Pool.{ask_of, change_core, change_domain, change_processor, change_vcpu, decided_core, with_doing, enabled_in, guest_of, same_choice, set_moving, set_params, started_on, unit_count, with_domain, without_domain}
 use Rattle.sched_laws.proofs.EachPlace.{read_change_at, read_clear_at, read_put_at, at_place-put_at, place_below, at_place-put_at_other, at_place-clear_at_other, by_option, by_test}
 use Rattle.sched_laws.specs.Known.{IsKnownPool}
 use Rattle.sched_laws.proofs.Sound.{read_change_item, processor_of_is, guest_of_is}
@@ -36,7 +36,7 @@ use Rattle.sched_laws.specs.Known.{core_places}
 use Rattle.sched_laws.proofs.Bools.{and_left, and_right}
 use Rattle.pool_kept.specs.Holds.{HaveProcessors}
 use Rattle.pool_kept.proofs.Alike.{AreAlike, alike_like, alike_change_at}
-use Rattle.sched_laws.proofs.Events.{LikePlaces, like_change_at, capped, like_of_domain, like_map, IsMarked, Enabled, KeptByCommands, KeptBySteps, kept_opened, kept_withdrawn, kept_marked, kept_queue_units}
+use Rattle.sched_laws.proofs.Events.{LikePlaces, like_change_at, capped, like_of_domain, like_map, IsMarked, Enabled, KeptByCommands, KeptBySteps, kept_opened, kept_withdrawn, kept_marked, kept_queue_units, kept_pending}
 use Rattle.pool_kept.proofs.Members.{joined}
 use Rattle.pool_kept.proofs.Units.{goes_empty}
 
@@ -72,10 +72,8 @@ guest_is g pool p = of (at_place pool.resources (p / g))
     of (Some c) = of_processor (slice_get c.processors (p % g))
 
 guest_doing : (o : Option Doing) (v : VcpuId) → guest_in o ≡ Some v → o ≡ Some (Guest v)
-guest_doing None v is = absurd (cc)
 guest_doing (Some (Guest w)) v is = cc
-guest_doing (Some Idle) v is = absurd (cc)
-guest_doing (Some Held) v is = absurd (cc)
+guest_doing other v is = absurd (cc)
 
 -- what a processor does, from the processor and back
 doing_there : (cores : List (Option Resource)) (r i : ℕ) (c : Resource) (q : Processor) → at_place cores r ≡ Some c → slice_get c.processors i ≡ Some q → doing_at cores r i ≡ Some q.doing
@@ -97,14 +95,14 @@ doing_is cores r i doing is = of (at_place cores r) refl is
 
 -- a processor changed: it does something else, and the others what they did
 abbrev change_doing : ℕ → ℕ → Doing → List (Option Resource) → List (Option Resource)
-change_doing r i doing cores = change_at r (λ c. record c { processors = change_item i (does doing) c.processors }) cores
+change_doing r i doing cores = change_at r (λ c. record c { processors = change_item i (with_doing doing) c.processors }) cores
 
-item_here : (i : ℕ) (old doing : Doing) (qs : List Processor) → option_map (λ (q : Processor). q.doing) (slice_get qs i) ≡ Some old → option_map (λ (q : Processor). q.doing) (slice_get (change_item i (does doing) qs) i) ≡ Some doing
+item_here : (i : ℕ) (old doing : Doing) (qs : List Processor) → option_map (λ (q : Processor). q.doing) (slice_get qs i) ≡ Some old → option_map (λ (q : Processor). q.doing) (slice_get (change_item i (with_doing doing) qs) i) ≡ Some doing
 item_here i old doing [] is = absurd (cc)
 item_here zero old doing (q ∷ qs) is = refl
 item_here (suc i) old doing (q ∷ qs) is = item_here i old doing qs is
 
-item_other : (i j : ℕ) (doing : Doing) (qs : List Processor) → j ≢ i → slice_get (change_item i (does doing) qs) j ≡ slice_get qs j
+item_other : (i j : ℕ) (doing : Doing) (qs : List Processor) → j ≢ i → slice_get (change_item i (with_doing doing) qs) j ≡ slice_get qs j
 item_other i j doing [] other = refl
 item_other zero zero doing (q ∷ qs) other = absurd (other refl)
 item_other zero (suc j) doing (q ∷ qs) other = refl
@@ -170,7 +168,7 @@ not_guest_if_held : (q : Processor) → pools.is_held q ≡ true → (w : VcpuId
 not_guest_if_held q held w is = (let e : pools.is_held q ≡ false = ap (λ (doing : Doing). elim doing as (λ _. Bool) [ Guest v ↦ false | Idle ↦ false | Held ↦ true ]) is in cc)
 
 -- the processor that leaves is held
-leaver : (g t p : ℕ) (pool : Pool) → enabled_in g t pool (Leave p) ≡ true → (q : Processor) × (pools.processor_of g pool p ≡ Some q) × (pools.is_held q ≡ true)
+leaver : (g t p : ℕ) (pool : Pool) → enabled_in g t pool (Leave (processor p)) ≡ true → (q : Processor) × (pools.processor_of g pool p ≡ Some q) × (pools.is_held q ≡ true)
 leaver g t p pool on =
     by_option (λ (b : Bool). b ≡ true → (q : Processor) × (pools.processor_of g pool p ≡ Some q) × (pools.is_held q ≡ true)) (pools.processor_of g pool p) false (λ q. pools.is_held q && is_up t q)
     (λ none e. absurd (cc)) (λ q is e. (q, is, and_left (pools.is_held q) (is_up t q) e)) (and_right (test_at pool.resources (p / g) (λ (x : Resource). not (pools.is_open x))) _ on)
@@ -282,33 +280,33 @@ module _ (g : ℕ) where
       let found = processor_of_is g pool p q is in
       from_have (started_on g t p v pool) (have_takes p v (λ x. record x { started = Some (moment t) }) pool.domains pool.resources q.doing (doing_there pool.resources (p / g) (p % g) found.0 q found.1 found.2) none (to_have pool have))
 
-  started_woken : (v : VcpuId) (pool : Pool) → HaveProcessors g pool → HaveProcessors g (change_vcpu v pools.woken pool)
+  started_woken : (v : VcpuId) (pool : Pool) → HaveProcessors g pool → HaveProcessors g (change_vcpu v pools.woken_vcpu pool)
   started_woken v pool have =
-      from_have (change_vcpu v pools.woken pool) (have_domains pool.domains (change_vcpus v pools.woken pool.domains) pool.resources
-      (λ w x from is started. elim (read_vcpu v w pools.woken pool.domains x is) [
+      from_have (change_vcpu v pools.woken_vcpu pool) (have_domains pool.domains (change_vcpus v pools.woken_vcpu pool.domains) pool.resources
+      (λ w x from is started. elim (read_vcpu v w pools.woken_vcpu pool.domains x is) [
         | inl was ↦ (x, was.1, started)
         | inr r ↦ (r.0, subst (λ (u : VcpuId). vcpu_in pool.domains u ≡ Some r.0) (sym r.1) r.2, ap (λ (y : Vcpu). y.started) r.3 ∙ started)
       ]) (to_have pool have))
 
-  started_frees : (p : ℕ) (v : VcpuId) (f : Vcpu → Vcpu) (doing : Doing) (pool : Pool) → guest_of g pool p ≡ Some v → ((x : Vcpu) → (f x).started ≡ None) → HaveProcessors g pool → HaveProcessors g (change_processor g p (does doing) (change_vcpu v f pool))
+  started_frees : (p : ℕ) (v : VcpuId) (f : Vcpu → Vcpu) (doing : Doing) (pool : Pool) → guest_of g pool p ≡ Some v → ((x : Vcpu) → (f x).started ≡ None) → HaveProcessors g pool → HaveProcessors g (change_processor g p (with_doing doing) (change_vcpu v f pool))
   started_frees p v f doing pool guest none have =
-      from_have (change_processor g p (does doing) (change_vcpu v f pool)) (have_frees p v f doing pool.domains pool.resources (guest_doing (doing_at pool.resources (p / g) (p % g)) v (sym (guest_is g pool p) ∙ guest)) none (to_have pool have))
+      from_have (change_processor g p (with_doing doing) (change_vcpu v f pool)) (have_frees p v f doing pool.domains pool.resources (guest_doing (doing_at pool.resources (p / g) (p % g)) v (sym (guest_is g pool p) ∙ guest)) none (to_have pool have))
 
-  started_idle : (p : ℕ) (doing : Doing) (pool : Pool) → ((v : VcpuId) → guest_of g pool p ≡ Some v → ⊥) → HaveProcessors g pool → HaveProcessors g (change_processor g p (does doing) pool)
+  started_idle : (p : ℕ) (doing : Doing) (pool : Pool) → ((v : VcpuId) → guest_of g pool p ≡ Some v → ⊥) → HaveProcessors g pool → HaveProcessors g (change_processor g p (with_doing doing) pool)
   started_idle p doing pool none have =
-      from_have (change_processor g p (does doing) pool) (have_idle p doing pool.domains pool.resources (λ v is. none v (guest_is g pool p ∙ ap guest_in is)) (to_have pool have))
+      from_have (change_processor g p (with_doing doing) pool) (have_idle p doing pool.domains pool.resources (λ v is. none v (guest_is g pool p ∙ ap guest_in is)) (to_have pool have))
 
   started_after_arrive : (t p : ℕ) (pool : Pool) → HaveProcessors g pool → HaveProcessors g (pools.after_arrive g t p pool)
   started_after_arrive t p pool have =
-      by_option (λ (next : Pool). HaveProcessors g (change_processor g p (does Held) next)) (guest_of g pool p) _ _ (λ is. started_idle p Held pool (λ v guest. absurd (cc)) have)
-      (λ v is. started_frees p v (pools.stopped t) Held pool is (λ x. by_option (λ (y : Vcpu). y.started ≡ None) x.started _ _ (λ ended. ended) (λ from ended. refl)) have)
+      by_option (λ (next : Pool). HaveProcessors g (change_processor g p (with_doing Held) next)) (guest_of g pool p) _ _ (λ is. started_idle p Held pool (λ v guest. absurd (cc)) have)
+      (λ v is. started_frees p v (pools.stopped_vcpu t) Held pool is (λ x. by_option (λ (y : Vcpu). y.started ≡ None) x.started _ _ (λ ended. ended) (λ from ended. refl)) have)
 
-  started_after_leave : (t p : ℕ) (c : Resource) (pool : Pool) → enabled_in g t pool (Leave p) ≡ true → HaveProcessors g pool → HaveProcessors g (pools.after_leave g t p c pool)
+  started_after_leave : (t p : ℕ) (c : Resource) (pool : Pool) → enabled_in g t pool (Leave (processor p)) ≡ true → HaveProcessors g pool → HaveProcessors g (pools.after_leave g t p c pool)
   started_after_leave t p c pool on have =
       let held = leaver g t p pool on in
       let none : (v : VcpuId) → held.0.doing ≡ Guest v → ⊥ = not_guest_if_held held.0 held.2 in
       by_option (λ (next : Pool). HaveProcessors g (change_core (p / g) pools.open_if_left next)) (pools.vcpu_for g pool c (p % g)) _ _
-      (λ is. kept_opened started_commands (p / g) (change_processor g p (does Idle) pool) (started_idle p Idle pool (λ v guest.
+      (λ is. kept_opened started_commands (p / g) (change_processor g p (with_doing Idle) pool) (started_idle p Idle pool (λ v guest.
       let found = guest_of_is g pool p v guest in
       let mine = processor_of_is g pool p held.0 held.1 in
       none v (
@@ -321,7 +319,7 @@ module _ (g : ℕ) where
   started_after_decide : (t r : ℕ) (c : Resource) (pool : Pool) → at_place pool.resources r ≡ Some c → HaveProcessors g pool → HaveProcessors g (pools.after_decide g t r c pool)
   started_after_decide t r c pool at have =
       let decision : Decision = decision_of (ask_of g t pool r c) pool.scheduler in
-      let now : Resource = decided t decision c in
+      let now : Resource = decided_core t decision c in
       let same : now.processors ≡ c.processors = by_test (λ (d : Resource). d.processors ≡ c.processors) (same_choice decision.unit c.cur) _ _ (λ is. refl) (λ is. refl) in
       from_have (pools.after_decide g t r c pool) (have_cores pool.domains pool.resources (put_at r now pool.resources)
       (λ k i v is.
@@ -338,14 +336,15 @@ module _ (g : ℕ) where
 
   pub started_steps : (t : ℕ) → KeptBySteps g t (Enabled g t) (HaveProcessors g)
   started_steps t = record {
-    commands = started_commands;
+    pends = kept_pending started_commands;
+    queues = started_commands.queues;
     wakes = λ v pool on. started_woken v pool;
     joins = λ v r q pool is is2 idle awake. started_takes t (r * g + v.n % g) v q pool is2 (not_guest_if_idle q idle);
     blocks = λ p v pool guest on. started_frees p v (pools.put_to_sleep t) Idle pool guest (λ x. refl);
     arrives = λ p pool on. started_after_arrive t p pool;
     decides = λ r c pool at on. started_after_decide t r c pool at;
     leaves = λ p c pool at on. started_after_leave t p c pool on;
-    saves = λ r c u pool at is on. started_change_core r pools.saved pool (λ x. refl);
+    saves = λ r c u pool at is on. started_change_core r pools.saved_core pool (λ x. refl);
     replenishes = λ u pool on have. have;
     dues = λ r u x old pool on is. started_change_core r (pools.due_within t x.budget) pool (λ c. refl);
     refills = λ d pool on have. have;
@@ -372,7 +371,7 @@ module _ (g : ℕ) where
       let other : k ≢ r = λ e. (let at_r : at_place pool.resources r ≡ Some found.0 = subst (λ (j : ℕ). at_place pool.resources j ≡ Some found.0) e found.2 in cc) in
       ap (λ (o : Option Resource). flat (option_map (doing_in i) o)) (at_place-put_at_other r k (fresh_core ends) pool.resources other) ∙ is) (to_have pool have))
 
-  pub started_core_goes : (t r : ℕ) (pool : Pool) → enabled_in g t pool (Moved r) ≡ true → AreSound g pool → HaveProcessors g pool → HaveProcessors g (record pool { resources = clear_at r pool.resources })
+  pub started_core_goes : (t r : ℕ) (pool : Pool) → enabled_in g t pool (Moved (core r)) ≡ true → AreSound g pool → HaveProcessors g pool → HaveProcessors g (record pool { resources = clear_at r pool.resources })
   started_core_goes t r pool on sound have =
       let goes = goes_empty g t r pool on in
       from_have (record pool { resources = clear_at r pool.resources }) (have_cores pool.domains pool.resources (clear_at r pool.resources)

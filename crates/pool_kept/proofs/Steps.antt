@@ -14,9 +14,9 @@ use Rattle.sched_model.specs.declared.state.Resource.{Resource}
 use Rattle.sched_model.specs.declared.state.Records.{Records}
 use Rattle.sched_model.specs.declared.state.Pool.{Pool}
 use Rattle.sched_model.specs.Policy as policy
-use Rattle.sched_model.specs.Policy.{rtds_record, pinned, changed_affinity}
+use Rattle.sched_model.specs.Policy.{rtds_record, pinned_cores, changed_affinity}
 use Rattle.sched_model.specs.Pool as pools
-use Rattle.sched_model.specs.Pool.{after_in, settled, home_cores, reconsidered, change_core, change_processor, change_vcpu, change_domain, change_cores_of, set_pending, does, started_on, set_leaving, set_moving, pause, unpause, set_params, with_records, is_of_domain, unit_count}
+use Rattle.sched_model.specs.Pool.{after_in, settled_pool, home_cores, reconsidered_core, change_core, change_processor, change_vcpu, change_domain, change_cores_of, set_pending, with_doing, started_on, set_leaving, set_moving, pause, unpause, set_params, with_records, is_of_domain, unit_count}
 use Rattle.sched_laws.proofs.Events.{capped, like_of_domain, KeepsCore, KeptByCommands, KeptByParts, commands_of, kept_by_parts, kept_withdrawn, kept_marked}
 use Rattle.sched_laws.proofs.Lists.{length_change_item}
 use Rattle.sched_ops.specs.Conditions.{is_on}
@@ -25,12 +25,12 @@ use Rattle.running_laws.specs.Running.{keeps_records}
 use Rattle.pool_kept.proofs.Alike.{AreAlike, Alike, core_face, alike_refl, alike_like, alike_change_at, is_alike_refl, is_alike_trans}
 
 -- the sets of cores set: as many as before
-pinned_length : (unit : Option ℕ) (cores : Cores) (sets : List Cores) → length (pinned unit cores sets) ≡ length sets
+pinned_length : (unit : Option ℕ) (cores : Cores) (sets : List Cores) → length (pinned_cores unit cores sets) ≡ length sets
 pinned_length None cores sets = length-map sets (λ old. cores)
 pinned_length (Some n) cores sets = length_change_item n (λ old. cores) sets
 
 changed_sets : (change : ParamChange) (affinity : List (Option (List Cores))) → AreAlike length affinity (changed_affinity change affinity)
-changed_sets (changes.Pin d unit cores) affinity = alike_change_at length d.0 (pinned unit cores) affinity (pinned_length unit cores)
+changed_sets (changes.Pin d unit cores) affinity = alike_change_at length d.0 (pinned_cores unit cores) affinity (pinned_length unit cores)
 changed_sets change affinity = alike_refl length affinity
 
 module _ (g : ℕ) where

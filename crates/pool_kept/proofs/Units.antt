@@ -1,4 +1,5 @@
 -- The units of the cores are members: where a core decides or saves, and where cores and domains come and go.
+use Rattle.sched_base.specs.Numbers.{core, domain as domain_number}
 use Rattle.std.proofs.Common.{◌≡◌, ◌≢◌, ◌<◌, ℕ, true, false, List, refl, subst, sym, ◌∙◌, ap, length}
 use Rattle.std.specs.Prelude.{Option, Some, None, is_none, is_some, nat_lt, not, ◌&&◌, ◌||◌, ◌==◌}
 use Rattle.std.specs.List.{AllByRecursion}
@@ -17,7 +18,7 @@ use Rattle.sched_model.specs.Eligible.{Decision}
 use Rattle.sched_model.specs.Opening.{fresh_core}
 use Rattle.sched_model.specs.Policy.{decision_of}
 use Rattle.sched_model.specs.Pool as pools
-use Rattle.sched_model.specs.Pool.{ask_of, change_core, decided, enabled_in, is_of_domain, same_choice, unit_count, without_domain}
+use Rattle.sched_model.specs.Pool.{ask_of, change_core, decided_core, enabled_in, is_of_domain, same_choice, unit_count, without_domain}
 use Rattle.sched_laws.specs.Each.{EachPlace}
 use Rattle.sched_laws.proofs.EachPlace.{EachPlace-change_at, EachPlace-put_at, EachPlace-clear_at, at_place-put_at_other, at_place-clear_at_other, by_cond, by_test}
 use Rattle.sched_laws.proofs.Lists.{AllByRecursion-map, none_passes, at_numbered, some-test_at}
@@ -32,7 +33,7 @@ use Rattle.pool_kept.specs.Holds.{HasMembers, HasMember}
 use Rattle.pool_kept.proofs.Members.{joined, member_elsewhere, runnable_member}
 
 -- none of the cores has a unit of a domain that goes
-pub none_of_domain : (g t d : ℕ) (pool : Pool) → enabled_in g t pool (DomMoved d) ≡ true → EachPlace (λ (c : Resource). (is_of_domain d c.cur || is_of_domain d c.saving) ≡ false) pool.resources
+pub none_of_domain : (g t d : ℕ) (pool : Pool) → enabled_in g t pool (DomMoved (domain_number d)) ≡ true → EachPlace (λ (c : Resource). (is_of_domain d c.cur || is_of_domain d c.saving) ≡ false) pool.resources
 none_of_domain g t d pool on =
     at_numbered (λ (c : Resource). (is_of_domain d c.cur || is_of_domain d c.saving) ≡ false) 0 pool.resources (none_passes _ _ (not_true _ (and_right (test_at pool.domains d (λ x. is_some x.moving)) _ on)))
 
@@ -40,7 +41,7 @@ pub other_domain : (d : ℕ) (o : Option UnitId) (u : UnitId) → is_of_domain d
 other_domain d o u none is e = clash (u.dom.0 == d) (is_same u.dom.0 d e) (sym (ap (is_of_domain d) is) ∙ none)
 
 -- a core that goes has no unit
-pub goes_empty : (g t r : ℕ) (pool : Pool) → enabled_in g t pool (Moved r) ≡ true → (c : Resource) × (at_place pool.resources r ≡ Some c) × (c.cur ≡ None)
+pub goes_empty : (g t r : ℕ) (pool : Pool) → enabled_in g t pool (Moved (core r)) ≡ true → (c : Resource) × (at_place pool.resources r ≡ Some c) × (c.cur ≡ None)
 goes_empty g t r pool on =
     let found = some-test_at pool.resources r (λ c. c.leaving && is_none c.cur && is_none c.saving && not c.pending && pools.is_open c && pools.first_up t c) on in
     let c : Resource = found.0 in
@@ -49,7 +50,7 @@ goes_empty g t r pool on =
     (c, found.1, none_is c.cur (and_right c.leaving _ (and_left (c.leaving && is_none c.cur) _ three)))
 
 -- the core's own unit is the one that was decided
-pub decided_cur : (t : ℕ) (decision : Decision) (c : Resource) → (decided t decision c).cur ≡ decision.unit
+pub decided_cur : (t : ℕ) (decision : Decision) (c : Resource) → (decided_core t decision c).cur ≡ decision.unit
 decided_cur t decision c = by_test (λ (d : Resource). d.cur ≡ decision.unit) (same_choice decision.unit c.cur) _ _ (λ is. sym (same_choice_same decision.unit c.cur is)) (λ is. refl)
 
 for_some : (P : UnitId → Type 0) (o : Option UnitId) → IfUnit P o → ForSome o P
@@ -75,7 +76,7 @@ module _ (g : ℕ) where
       let decision : Decision = decision_of (ask_of g t pool r c) pool.scheduler in
       let next : Pool = pools.after_decide g t r c pool in
       let own : HasMember pool c = each r c at in
-      EachPlace-put_at (HasMember next) r (decided t decision c) pool.resources (λ k x at_k. member_moves pool next x (λ u member. member) (each k x at_k))
+      EachPlace-put_at (HasMember next) r (decided_core t decision c) pool.resources (λ k x at_k. member_moves pool next x (λ u member. member) (each k x at_k))
       (record {
         cur = λ u is. chosen_member some t r c pool has waits own u (sym (decided_cur t decision c) ∙ is);
         saving = by_test (λ (d : Resource). ForSome d.saving (λ u. is_member pool.scheduler u ≡ true)) (same_choice decision.unit c.cur) _ _ (λ is. own.saving) (λ is. own.cur);
@@ -83,11 +84,11 @@ module _ (g : ℕ) where
 
   pub units_save : (r : ℕ) (u : UnitId) (pool : Pool) → EachPlace (HasMember pool) pool.resources → EachPlace (HasMember (pools.after_save g r u pool)) (pools.after_save g r u pool).resources
   units_save r u pool each =
-      let next : Pool = change_core r pools.saved pool in
+      let next : Pool = change_core r pools.saved_core pool in
       let same : (after : Pool) → after.scheduler.affinity ≡ pool.scheduler.affinity → after.resources ≡ next.resources → EachPlace (HasMember after) after.resources =
       λ after sets cores.
       subst (λ (places : List (Option Resource)). EachPlace (HasMember after) places) (sym cores)
-      (EachPlace-change_at (HasMember after) r pools.saved pool.resources
+      (EachPlace-change_at (HasMember after) r pools.saved_core pool.resources
       (λ k x at_k. member_moves pool after x (λ w member. ap (λ (a : List (Option (List Cores))). is_member (record pool.scheduler { affinity = a }) w) sets ∙ member) (each k x at_k))
       (λ x at_x here. record { cur = here.cur; saving = λ w is. absurd (cc) })) in
       by_cond (λ (after : Pool). EachPlace (HasMember after) after.resources) (is_runnable g pool u) (pools.queue_unit u next) next (λ runs. same (pools.queue_unit u next) refl refl) (λ runs. same next refl refl)
@@ -113,7 +114,7 @@ module _ (g : ℕ) where
       ap (λ (o : Option (List Cores)). elim o as (λ _. ℕ) [ None ↦ 0 | Some sets ↦ length sets ]) (at_place-put_at_other d u.dom.0 _ pool.scheduler.affinity (member_elsewhere g pool d u has none member)) in
       ap (λ (n : ℕ). nat_lt u.n n) same ∙ member) (each k x at_k)
 
-  pub units_parted : (t d : ℕ) (pool : Pool) → enabled_in g t pool (DomMoved d) ≡ true → EachPlace (HasMember pool) pool.resources → EachPlace (HasMember (without_domain d pool)) pool.resources
+  pub units_parted : (t d : ℕ) (pool : Pool) → enabled_in g t pool (DomMoved (domain_number d)) ≡ true → EachPlace (HasMember pool) pool.resources → EachPlace (HasMember (without_domain d pool)) pool.resources
   units_parted t d pool on each k x at_k =
       let none = none_of_domain g t d pool on k x at_k in
       let here : HasMember pool x = each k x at_k in

@@ -11,7 +11,7 @@ use Rattle.sched_model.specs.State.{has_come, is_up}
 use Rattle.sched_model.specs.declared.action.Action.{Action}
 use Rattle.sched_model.specs.declared.action.Action.TheVariants.{Stall, Xl, Moved, DomMoved, Wake, Block, Slice, Repl, Refill, Arrive, Decide, Leave, Save}
 use Rattle.sched_model.specs.declared.state.Records.{Records}
-use Rattle.sched_model.specs.declared.state.Records.TheVariants.{Credit2Pool, RtdsPool, ArincPool, NullPool}
+use Rattle.sched_model.specs.declared.state.Records.TheVariants.{RtdsPool}
 use Rattle.sched_model.specs.declared.state.RtdsUnit.{RtdsUnit}
 use Rattle.sched_model.specs.declared.state.Resource.{Resource}
 use Rattle.sched_model.specs.declared.state.Processor.{Processor}
@@ -22,9 +22,9 @@ use Rattle.sched_model.specs.Eligible.{rtds_unit}
 use Rattle.sched_model.specs.Places.{at_place, first_place, has_unit, test_at}
 use Rattle.sched_model.specs.Policy.{rtds_record, next_refill, replenish_due}
 use Rattle.sched_model.specs.Pool.{enabled_in, is_held, is_open, first_up, lowest_up, processor_of, vcpu_of, guest_of, done_at, core_of}
-use Rattle.pool_laws.specs.Ready.{when, later, end_of, first_end, end_where, lowest_end, may_move, work_end, slice_end, deadline_of, sibling_end, gathers, ready_in}
+use Rattle.pool_laws.specs.Ready.{moment_if, later_moment, end_of, first_end, end_where, lowest_end, may_move, work_end, slice_end, deadline_of, sibling_end, gathers, ready_in}
 
-come_when : (t : ℕ) (condition : Bool) (at : Option Moment) → has_come t (when condition at) ≡ (condition && has_come t at)
+come_when : (t : ℕ) (condition : Bool) (at : Option Moment) → has_come t (moment_if condition at) ≡ (condition && has_come t at)
 come_when t true at = refl
 come_when t false at = refl
 
@@ -35,14 +35,10 @@ and_false : (a : Bool) → false ≡ (a && false)
 and_false true = refl
 and_false false = refl
 
-come_later : (t : ℕ) (a b : Option Moment) → has_come t (later a b) ≡ (has_come t a && has_come t b)
+come_later : (t : ℕ) (a b : Option Moment) → has_come t (later_moment a b) ≡ (has_come t a && has_come t b)
 come_later t None b = refl
 come_later t (Some a) None = and_false (nat_le a.0 t)
 come_later t (Some a) (Some b) = max_test t a.0 b.0
-
-come_end : (t : ℕ) (p : Option Processor) → has_come t (end_of p) ≡ elim p [ None ↦ false | Some q ↦ is_up t q ]
-come_end t None = refl
-come_end t (Some p) = refl
 
 come_first : (t : ℕ) (c : Resource) → has_come t (first_end c) ≡ first_up t c
 come_first t c = elim c.processors as (λ ps. has_come t (elim ps as (λ _. Option Moment) [ [] ↦ None | p ∷ rest ↦ Some p.stall_end ]) ≡ elim ps as (λ _. Bool) [ [] ↦ false | p ∷ rest ↦ is_up t p ]) [
@@ -73,7 +69,7 @@ sliced t (Some c) =
     and_turn (has_come t c.due) (not c.pending) (first_up t c)
     ∙ ap (λ (b : Bool). not c.pending && (has_come t c.due && b)) (sym (come_first t c))
     ∙ ap (λ (b : Bool). not c.pending && b) (sym (come_later t c.due (first_end c)))
-    ∙ sym (come_when t (not c.pending) (later c.due (first_end c)))
+    ∙ sym (come_when t (not c.pending) (later_moment c.due (first_end c)))
 
 tested : (t : ℕ) (a b : Resource → Bool) (c : Option Resource) → elim c as (λ _. Bool) [ None ↦ false | Some x ↦ a x && b x && first_up t x ] ≡ has_come t (end_where (λ x. a x && b x) c)
 tested t a b None = refl
@@ -91,10 +87,8 @@ due_record t None = refl
 due_record t (Some x) = refl
 
 due_in : (t : ℕ) (records : Records) (u : UnitId) → replenish_due records t u ≡ has_come t (elim (rtds_record records u) as (λ _. Option Moment) [ None ↦ None | Some x ↦ Some (moment x.deadline) ])
-due_in t (Credit2Pool records) u = refl
 due_in t (RtdsPool domains) u = due_record t (rtds_unit domains u)
-due_in t (ArincPool records) u = refl
-due_in t (NullPool kept) u = refl
+due_in t any u = refl
 
 -- a vCPU's sleep and work
 asleep : (t : ℕ) (v : Option Vcpu) → elim v as (λ _. Bool) [ None ↦ false | Some x ↦ has_come t x.asleep_until ] ≡ has_come t (elim v as (λ _. Option Moment) [ None ↦ None | Some x ↦ x.asleep_until ])
@@ -112,7 +106,7 @@ worked t pool None = refl
 worked t pool (Some v) = work t (vcpu_of pool v)
 
 -- a processor's events
-of_processor : (t : ℕ) (test : Processor → Bool) (q : Option Processor) → elim q as (λ _. Bool) [ None ↦ false | Some x ↦ test x && is_up t x ] ≡ has_come t (elim q as (λ _. Option Moment) [ None ↦ None | Some x ↦ when (test x) (Some x.stall_end) ])
+of_processor : (t : ℕ) (test : Processor → Bool) (q : Option Processor) → elim q as (λ _. Bool) [ None ↦ false | Some x ↦ test x && is_up t x ] ≡ has_come t (elim q as (λ _. Option Moment) [ None ↦ None | Some x ↦ moment_if (test x) (Some x.stall_end) ])
 of_processor t test None = refl
 of_processor t test (Some q) = sym (come_when t (test q) (Some q.stall_end))
 
@@ -120,18 +114,18 @@ sibling : (t g : ℕ) (pool : Pool) (p : ℕ) (a : Resource → Bool) (b : Proce
     → (test_at pool.resources (p / g) a && elim (processor_of g pool p) as (λ _. Bool) [ None ↦ false | Some q ↦ b q && is_up t q ]) ≡ has_come t (sibling_end g pool p a b)
 sibling t g pool p a b =
     elim (at_place pool.resources (p / g)) as (λ o. (elim o as (λ _. Bool) [ None ↦ false | Some c ↦ a c ] && elim (processor_of g pool p) as (λ _. Bool) [ None ↦ false | Some q ↦ b q && is_up t q ])
-    ≡ has_come t (elim o as (λ _. Option Moment) [ None ↦ None | Some c ↦ when (a c) (elim (processor_of g pool p) [ None ↦ None | Some q ↦ when (b q) (Some q.stall_end) ]) ])) [
+    ≡ has_come t (elim o as (λ _. Option Moment) [ None ↦ None | Some c ↦ moment_if (a c) (elim (processor_of g pool p) [ None ↦ None | Some q ↦ moment_if (b q) (Some q.stall_end) ]) ])) [
       | None ↦ refl
       | Some c ↦
           ap (λ (x : Bool). a c && x) (of_processor t b (processor_of g pool p))
-          ∙ sym (come_when t (a c) (elim (processor_of g pool p) [ None ↦ None | Some q ↦ when (b q) (Some q.stall_end) ]))
+          ∙ sym (come_when t (a c) (elim (processor_of g pool p) [ None ↦ None | Some q ↦ moment_if (b q) (Some q.stall_end) ]))
     ]
 
 up : (t : ℕ) (q : Option Processor) → elim q as (λ _. Bool) [ None ↦ false | Some x ↦ is_up t x ] ≡ has_come t (end_of q)
 up t None = refl
 up t (Some q) = refl
 
-moving : (d : Option Domain) (rest : Bool) (t : ℕ) → (elim d as (λ _. Bool) [ None ↦ false | Some x ↦ is_some x.moving ] && rest) ≡ has_come t (when (elim d as (λ _. Bool) [ None ↦ false | Some x ↦ is_some x.moving ] && rest) (Some (moment 0)))
+moving : (d : Option Domain) (rest : Bool) (t : ℕ) → (elim d as (λ _. Bool) [ None ↦ false | Some x ↦ is_some x.moving ] && rest) ≡ has_come t (moment_if (elim d as (λ _. Bool) [ None ↦ false | Some x ↦ is_some x.moving ] && rest) (Some (moment 0)))
 moving d rest t =
     let condition : Bool = elim d as (λ _. Bool) [ None ↦ false | Some x ↦ is_some x.moving ] && rest in
     let always : has_come t (Some (moment 0)) ≡ true = grind (arith, nat_tests) in
@@ -141,14 +135,14 @@ moving d rest t =
 pub ready : (g t : ℕ) (pool : Pool) (action : Action) → enabled_in g t pool action ≡ has_come t (ready_in g pool action)
 ready g t pool Stall = refl
 ready g t pool Xl = refl
-ready g t pool (Moved r) = moved t (at_place pool.resources r)
-ready g t pool (DomMoved d) = moving (at_place pool.domains d) _ t
+ready g t pool (Moved r) = moved t (at_place pool.resources r.0)
+ready g t pool (DomMoved d) = moving (at_place pool.domains d.0) _ t
 ready g t pool (Wake v) = asleep t (vcpu_of pool v)
 ready g t pool (Block p) =
-    ap (λ (a : Bool). a && elim (processor_of g pool p) as (λ _. Bool) [ None ↦ false | Some q ↦ is_up t q ]) (worked t pool (guest_of g pool p))
-    ∙ ap (λ (b : Bool). has_come t (work_end g pool p) && b) (up t (processor_of g pool p))
-    ∙ sym (come_later t (work_end g pool p) (end_of (processor_of g pool p)))
-ready g t pool (Slice r) = sliced t (at_place pool.resources r)
+    ap (λ (a : Bool). a && elim (processor_of g pool p.0) as (λ _. Bool) [ None ↦ false | Some q ↦ is_up t q ]) (worked t pool (guest_of g pool p.0))
+    ∙ ap (λ (b : Bool). has_come t (work_end g pool p.0) && b) (up t (processor_of g pool p.0))
+    ∙ sym (come_later t (work_end g pool p.0) (end_of (processor_of g pool p.0)))
+ready g t pool (Slice r) = sliced t (at_place pool.resources r.0)
 ready g t pool (Repl u) =
     let some : Bool = has_unit pool.scheduler.queue u || is_some (core_of pool u) in
     let deadline : Option Moment = elim (rtds_record pool.scheduler.records u) as (λ _. Option Moment) [ None ↦ None | Some x ↦ Some (moment x.deadline) ] in
@@ -157,9 +151,9 @@ ready g t pool (Repl u) =
     ∙ ap (λ (a : Bool). a && has_come t (lowest_end pool)) (sym (come_when t some deadline))
     ∙ sym (come_later t (deadline_of pool u) (lowest_end pool))
 ready g t pool (Refill d) =
-    ap (λ (b : Bool). has_come t (next_refill pool.scheduler.records d) && b) (lowest t pool)
-    ∙ sym (come_later t (next_refill pool.scheduler.records d) (lowest_end pool))
-ready g t pool (Arrive p) = sibling t g pool p gathers (λ q. not (is_held q))
-ready g t pool (Decide r) = tested t (λ c. list_all is_held c.processors) is_open (at_place pool.resources r)
-ready g t pool (Leave p) = sibling t g pool p (λ c. not (is_open c)) is_held
-ready g t pool (Save r) = tested t (λ c. is_some c.saving) (λ c. not (list_any is_held c.processors)) (at_place pool.resources r)
+    ap (λ (b : Bool). has_come t (next_refill pool.scheduler.records d.0) && b) (lowest t pool)
+    ∙ sym (come_later t (next_refill pool.scheduler.records d.0) (lowest_end pool))
+ready g t pool (Arrive p) = sibling t g pool p.0 gathers (λ q. not (is_held q))
+ready g t pool (Decide r) = tested t (λ c. list_all is_held c.processors) is_open (at_place pool.resources r.0)
+ready g t pool (Leave p) = sibling t g pool p.0 (λ c. not (is_open c)) is_held
+ready g t pool (Save r) = tested t (λ c. is_some c.saving) (λ c. not (list_any is_held c.processors)) (at_place pool.resources r.0)

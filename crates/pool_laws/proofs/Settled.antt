@@ -6,7 +6,7 @@ use Rattle.sched_model.specs.declared.state.Scheduler.{Scheduler}
 use Rattle.sched_model.specs.declared.state.Pool.{Pool}
 use Rattle.sched_model.specs.Places.{change_at, change_each}
 use Rattle.sched_model.specs.Policy.{better_waits}
-use Rattle.sched_model.specs.Pool.{settled, reconsidered, change_core, cores_from, home_cores}
+use Rattle.sched_model.specs.Pool.{settled_pool, reconsidered_core, change_core, cores_from, home_cores}
 use Rattle.pool_laws.specs.Settling.{IsSettled, settled_core}
 
 -- the set of the pool's cores depends on which there are alone
@@ -21,18 +21,18 @@ or_again false true = refl
 or_again false false = refl
 
 -- looking at a core again changes nothing
-again_core : (t home : ℕ) (scheduler : Scheduler) (r : ℕ) (c : Resource) → reconsidered t home scheduler r (reconsidered t home scheduler r c) ≡ reconsidered t home scheduler r c
+again_core : (t home : ℕ) (scheduler : Scheduler) (r : ℕ) (c : Resource) → reconsidered_core t home scheduler r (reconsidered_core t home scheduler r c) ≡ reconsidered_core t home scheduler r c
 again_core t home scheduler r c =
-    elim c.leaving as (λ leaving. c.leaving ≡ leaving → reconsidered t home scheduler r (reconsidered t home scheduler r c) ≡ reconsidered t home scheduler r c) [
+    elim c.leaving as (λ leaving. c.leaving ≡ leaving → reconsidered_core t home scheduler r (reconsidered_core t home scheduler r c) ≡ reconsidered_core t home scheduler r c) [
       | true ↦ λ is.
-          let same : reconsidered t home scheduler r c ≡ c = ap (λ (b : Bool). if b then c else record c { pending = c.pending || better_waits c.cur c.since.0 t r home scheduler }) is in
-          ap (reconsidered t home scheduler r) same
+          let same : reconsidered_core t home scheduler r c ≡ c = ap (λ (b : Bool). if b then c else record c { pending = c.pending || better_waits c.cur c.since.0 t r home scheduler }) is in
+          ap (reconsidered_core t home scheduler r) same
       | false ↦ λ is.
           let better : Bool = better_waits c.cur c.since.0 t r home scheduler in
-          let once : reconsidered t home scheduler r c ≡ record c { pending = c.pending || better } = ap (λ (b : Bool). if b then c else record c { pending = c.pending || better }) is in
-          let twice : reconsidered t home scheduler r (record c { pending = c.pending || better }) ≡ record c { pending = (c.pending || better) || better } =
+          let once : reconsidered_core t home scheduler r c ≡ record c { pending = c.pending || better } = ap (λ (b : Bool). if b then c else record c { pending = c.pending || better }) is in
+          let twice : reconsidered_core t home scheduler r (record c { pending = c.pending || better }) ≡ record c { pending = (c.pending || better) || better } =
           ap (λ (b : Bool). if b then record c { pending = c.pending || better } else record c { pending = (c.pending || better) || better }) is in
-          ap (reconsidered t home scheduler r) once ∙ twice ∙ ap (λ (b : Bool). record c { pending = b }) (or_again c.pending better) ∙ sym once
+          ap (reconsidered_core t home scheduler r) once ∙ twice ∙ ap (λ (b : Bool). record c { pending = b }) (or_again c.pending better) ∙ sym once
     ] refl
 
 again_each : (n : ℕ) (f : ℕ → Resource → Resource) (cores : List (Option Resource)) → ((r : ℕ) (c : Resource) → f r (f r c) ≡ f r c) → change_each n f (change_each n f cores) ≡ change_each n f cores
@@ -42,13 +42,13 @@ again_each n f (Some c ∷ cores) once =
     ap (λ (x : Resource). Some x ∷ change_each (suc n) f (change_each (suc n) f cores)) (once n c)
     ∙ ap (λ (rest : List (Option Resource)). Some (f n c) ∷ rest) (again_each (suc n) f cores once)
 
-pub settled_again : (t : ℕ) (pool : Pool) → IsSettled t (settled t pool)
+pub settled_again : (t : ℕ) (pool : Pool) → IsSettled t (settled_pool t pool)
 settled_again t pool =
     let home = home_cores pool in
     let scheduler = pool.scheduler in
-    let same : home_cores (settled t pool) ≡ home = cores_each 0 0 (reconsidered t home scheduler) pool.resources in
-    ap (λ (k : ℕ). record pool { resources = change_each 0 (reconsidered t k scheduler) (change_each 0 (reconsidered t home scheduler) pool.resources) }) same
-    ∙ ap (λ (cores : List (Option Resource)). record pool { resources = cores }) (again_each 0 (reconsidered t home scheduler) pool.resources (again_core t home scheduler))
+    let same : home_cores (settled_pool t pool) ≡ home = cores_each 0 0 (reconsidered_core t home scheduler) pool.resources in
+    ap (λ (k : ℕ). record pool { resources = change_each 0 (reconsidered_core t k scheduler) (change_each 0 (reconsidered_core t home scheduler) pool.resources) }) same
+    ∙ ap (λ (cores : List (Option Resource)). record pool { resources = cores }) (again_each 0 (reconsidered_core t home scheduler) pool.resources (again_core t home scheduler))
 
 cores_change : (r i : ℕ) (f : Resource → Resource) (cores : List (Option Resource)) → cores_from r (change_at i f cores) ≡ cores_from r cores
 cores_change r i f [] = refl
@@ -91,11 +91,11 @@ each_alone n (suc i) look f (c ∷ cores) same =
     ∙ ap (λ (x : Option Resource). x ∷ change_each (suc n) look (change_at i f cores)) head
     ∙ ap (λ (xs : List (Option Resource)). c ∷ xs) (each_alone (suc n) i look f cores tail ∙ ap (λ (k : ℕ). change_at i (λ x. look k (f x)) cores) number)
 
-pub settled_alone : (t r : ℕ) (f : Resource → Resource) (pool : Pool) → IsSettled t pool → settled t (change_core r f pool) ≡ settled_core t r f pool
+pub settled_alone : (t r : ℕ) (f : Resource → Resource) (pool : Pool) → IsSettled t pool → settled_pool t (change_core r f pool) ≡ settled_core t r f pool
 settled_alone t r f pool settled_before =
     let home = home_cores pool in
     let same : home_cores (change_core r f pool) ≡ home = cores_change 0 r f pool.resources in
-    let before : change_each 0 (reconsidered t home pool.scheduler) pool.resources ≡ pool.resources = ap (λ (x : Pool). x.resources) settled_before in
-    ap (λ (k : ℕ). record pool { resources = change_each 0 (reconsidered t k pool.scheduler) (change_at r f pool.resources) }) same
-    ∙ ap (λ (cores : List (Option Resource)). record pool { resources = cores }) (each_alone 0 r (reconsidered t home pool.scheduler) f pool.resources before)
-    ∙ ap (λ (k : ℕ). record pool { resources = change_at r (λ c. reconsidered t home pool.scheduler k (f c)) pool.resources }) (let e : 0 + r ≡ r = omega arith in e)
+    let before : change_each 0 (reconsidered_core t home pool.scheduler) pool.resources ≡ pool.resources = ap (λ (x : Pool). x.resources) settled_before in
+    ap (λ (k : ℕ). record pool { resources = change_each 0 (reconsidered_core t k pool.scheduler) (change_at r f pool.resources) }) same
+    ∙ ap (λ (cores : List (Option Resource)). record pool { resources = cores }) (each_alone 0 r (reconsidered_core t home pool.scheduler) f pool.resources before)
+    ∙ ap (λ (k : ℕ). record pool { resources = change_at r (λ c. reconsidered_core t home pool.scheduler k (f c)) pool.resources }) (let e : 0 + r ≡ r = omega arith in e)

@@ -23,17 +23,17 @@ kind_place (Save r) = 12
 abbrev pub subject_place : Action → ℕ
 subject_place Stall = 0
 subject_place Xl = 0
-subject_place (Moved r) = r
-subject_place (DomMoved d) = d
+subject_place (Moved r) = r.0
+subject_place (DomMoved d) = d.0
 subject_place (Wake v) = v.dom.0
-subject_place (Block p) = p
-subject_place (Slice r) = r
+subject_place (Block p) = p.0
+subject_place (Slice r) = r.0
 subject_place (Repl u) = u.dom.0
-subject_place (Refill d) = d
-subject_place (Arrive p) = p
-subject_place (Decide r) = r
-subject_place (Leave p) = p
-subject_place (Save r) = r
+subject_place (Refill d) = d.0
+subject_place (Arrive p) = p.0
+subject_place (Decide r) = r.0
+subject_place (Leave p) = p.0
+subject_place (Save r) = r.0
 
 -- the index of a vCPU and a unit in the domain
 abbrev pub index_place : Action → ℕ

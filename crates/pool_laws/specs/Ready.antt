@@ -9,21 +9,21 @@ use Rattle.sched_model.specs.declared.action.Action.TheVariants.{Stall, Xl, Move
 use Rattle.sched_model.specs.declared.state.Resource.{Resource}
 use Rattle.sched_model.specs.declared.state.Processor.{Processor}
 use Rattle.sched_model.specs.declared.state.Pool.{Pool}
-use Rattle.sched_model.specs.Places.{at_place, numbered, first_place, has_unit}
+use Rattle.sched_model.specs.Places.{at_place, numbered_items, first_place, has_unit}
 use Rattle.sched_model.specs.Policy.{rtds_record, next_refill}
 use Rattle.sched_model.specs.Pool.{is_held, is_open, is_of_domain, processor_of, vcpu_of, guest_of, done_at, core_of}
 
 -- a moment, under a condition
-abbrev pub when : Bool → Option Moment → Option Moment
-when condition at = (if condition then at else None)
+abbrev pub moment_if : Bool → Option Moment → Option Moment
+moment_if condition at = (if condition then at else None)
 
 -- the later of two moments, where both are there
-abbrev pub later : Option Moment → Option Moment → Option Moment
-later None b = None
-later (Some a) None = None
-later (Some a) (Some b) = Some (moment (max a.0 b.0))
+abbrev pub later_moment : Option Moment → Option Moment → Option Moment
+later_moment None b = None
+later_moment (Some a) None = None
+later_moment (Some a) (Some b) = Some (moment (max a.0 b.0))
 
--- the end of the stall of a processor; of a core's first processor; of the pool's lowest one
+-- the end of the stall of a processor
 abbrev pub end_of : Option Processor → Option Moment
 end_of None = None
 end_of (Some p) = Some p.stall_end
@@ -35,7 +35,7 @@ first_end c = elim c.processors [ [] ↦ None | p ∷ ps ↦ Some p.stall_end ]
 -- the end of the stall of the core's first processor, where the core passes a test
 abbrev pub end_where : (Resource → Bool) → Option Resource → Option Moment
 end_where test None = None
-end_where test (Some c) = when (test c) (first_end c)
+end_where test (Some c) = moment_if (test c) (first_end c)
 
 -- the end of the stall of the pool's lowest processor
 abbrev pub lowest_end : Pool → Option Moment
@@ -52,19 +52,19 @@ work_end g pool p = elim (guest_of g pool p) [ None ↦ None | Some v ↦ elim (
 -- the due of a core that is not pending
 abbrev pub slice_end : Option Resource → Option Moment
 slice_end None = None
-slice_end (Some c) = when (not c.pending) (later c.due (first_end c))
+slice_end (Some c) = moment_if (not c.pending) (later_moment c.due (first_end c))
 
 -- the deadline of an RTDS unit that waits or is on a core
 abbrev pub deadline_of : Pool → UnitId → Option Moment
 deadline_of pool u =
-    when (has_unit pool.scheduler.queue u || is_some (core_of pool u)) (elim (rtds_record pool.scheduler.records u) [ None ↦ None | Some x ↦ Some (moment x.deadline) ])
+    moment_if (has_unit pool.scheduler.queue u || is_some (core_of pool u)) (elim (rtds_record pool.scheduler.records u) [ None ↦ None | Some x ↦ Some (moment x.deadline) ])
 
 -- the end of the stall of a processor of a core that passes a test, where the processor passes another
 abbrev pub sibling_end : ℕ → Pool → ℕ → (Resource → Bool) → (Processor → Bool) → Option Moment
 sibling_end g pool p of_core of_processor =
     elim (at_place pool.resources (p / g)) [
       | None ↦ None
-      | Some c ↦ when (of_core c) (elim (processor_of g pool p) [ None ↦ None | Some q ↦ when (of_processor q) (Some q.stall_end) ])
+      | Some c ↦ moment_if (of_core c) (elim (processor_of g pool p) [ None ↦ None | Some q ↦ moment_if (of_processor q) (Some q.stall_end) ])
     ]
 
 -- whether the core's processors may arrive
@@ -75,15 +75,15 @@ gathers c = c.pending && is_open c && is_none c.saving
 abbrev pub ready_in : ℕ → Pool → Action → Option Moment
 ready_in g pool Stall = None
 ready_in g pool Xl = None
-ready_in g pool (Moved r) = end_where may_move (at_place pool.resources r)
+ready_in g pool (Moved r) = end_where may_move (at_place pool.resources r.0)
 ready_in g pool (DomMoved d) =
-    when (elim (at_place pool.domains d) [ None ↦ false | Some x ↦ is_some x.moving ] && not (list_any (λ e. is_of_domain d e.1.cur || is_of_domain d e.1.saving) (numbered 0 pool.resources))) (Some (moment 0))
+    moment_if (elim (at_place pool.domains d.0) [ None ↦ false | Some x ↦ is_some x.moving ] && not (list_any (λ e. is_of_domain d.0 e.1.cur || is_of_domain d.0 e.1.saving) (numbered_items 0 pool.resources))) (Some (moment 0))
 ready_in g pool (Wake v) = elim (vcpu_of pool v) [ None ↦ None | Some x ↦ x.asleep_until ]
-ready_in g pool (Block p) = later (work_end g pool p) (end_of (processor_of g pool p))
-ready_in g pool (Slice r) = slice_end (at_place pool.resources r)
-ready_in g pool (Repl u) = later (deadline_of pool u) (lowest_end pool)
-ready_in g pool (Refill d) = later (next_refill pool.scheduler.records d) (lowest_end pool)
-ready_in g pool (Arrive p) = sibling_end g pool p gathers (λ q. not (is_held q))
-ready_in g pool (Decide r) = end_where (λ c. list_all is_held c.processors && is_open c) (at_place pool.resources r)
-ready_in g pool (Leave p) = sibling_end g pool p (λ c. not (is_open c)) is_held
-ready_in g pool (Save r) = end_where (λ c. is_some c.saving && not (list_any is_held c.processors)) (at_place pool.resources r)
+ready_in g pool (Block p) = later_moment (work_end g pool p.0) (end_of (processor_of g pool p.0))
+ready_in g pool (Slice r) = slice_end (at_place pool.resources r.0)
+ready_in g pool (Repl u) = later_moment (deadline_of pool u) (lowest_end pool)
+ready_in g pool (Refill d) = later_moment (next_refill pool.scheduler.records d.0) (lowest_end pool)
+ready_in g pool (Arrive p) = sibling_end g pool p.0 gathers (λ q. not (is_held q))
+ready_in g pool (Decide r) = end_where (λ c. list_all is_held c.processors && is_open c) (at_place pool.resources r.0)
+ready_in g pool (Leave p) = sibling_end g pool p.0 (λ c. not (is_open c)) is_held
+ready_in g pool (Save r) = end_where (λ c. is_some c.saving && not (list_any is_held c.processors)) (at_place pool.resources r.0)

@@ -7,7 +7,7 @@ use Rattle.sched_model.specs.declared.event.Entry.{Entry}
 use Rattle.sched_model.specs.declared.machine.Machine.{Machine}
 use Rattle.sched_model.specs.declared.state.State.{State}
 use Rattle.sched_model.specs.Machine.{first_enabled, event_of, after, next_in_horizon, ordered_run}
-use Rattle.sched_model.specs.Runs.{Reached, IsRun, IsRunFrom, IsNext, begun, after_entry, after_entries}
+use Rattle.sched_model.specs.Runs.{Reached, IsRun, IsRunFrom, IsNext, run_start, after_entry, after_entries}
 use Rattle.sched_model.proofs.RunLemmas.{IsRunFrom-append, after_entry-action}
 use Rattle.run_laws.specs.RunLaws.{GoesOn}
 
@@ -20,13 +20,13 @@ IsNext-last m from [] entry run = run.0
 IsNext-last m from (first ∷ entries) entry run = IsNext-last m (after_entry m from first) entries entry run.1
 
 pub run-beginning : (m : Machine) (first rest : List Entry) → IsRun m (first ++ rest) → IsRun m first
-run-beginning m first rest run = IsRunFrom-beginning m (begun m) first rest run
+run-beginning m first rest run = IsRunFrom-beginning m (run_start m) first rest run
 
 pub run-goes_on : (m : Machine) (entries : List Entry) (entry : Entry) → IsRun m (entries ++ entry ∷ []) → GoesOn m entries entry
-run-goes_on m entries entry run = record { run = run-beginning m entries (entry ∷ []) run; next = IsNext-last m (begun m) entries entry run }
+run-goes_on m entries entry run = record { run = run-beginning m entries (entry ∷ []) run; next = IsNext-last m (run_start m) entries entry run }
 
 pub goes_on-run : (m : Machine) (entries : List Entry) (entry : Entry) → GoesOn m entries entry → IsRun m (entries ++ entry ∷ [])
-goes_on-run m entries entry h = IsRunFrom-append m (begun m) entries entry h.run h.next
+goes_on-run m entries entry h = IsRunFrom-append m (run_start m) entries entry h.run h.next
 
 -- an ordered run that needs fewer entries than it is allowed is over
 pub ordered_run-over : (most : ℕ) (m : Machine) (s : State) → length (ordered_run most m s) < most → (after_entries m (record { state = s; over = false }) (ordered_run most m s)).over ≡ true

@@ -6,7 +6,7 @@ use Rattle.std.proofs.lemmas.Bool.{ltb-true, lt-ltb, false≢true}
 use Rattle.std.proofs.lemmas.Bool.Decides.{leb_tells}
 use Rattle.sched_model.specs.declared.machine.Machine.{Machine}
 use Rattle.sched_model.specs.declared.state.State.{State}
-use Rattle.sched_model.specs.Places.{least}
+use Rattle.sched_model.specs.Places.{least_number}
 use Rattle.sched_model.specs.Actions.{candidates}
 use Rattle.sched_model.specs.Machine.{is_enabled, first_enabled, moments, next_moment}
 use Rattle.run_laws.specs.RunLaws.{IsNextMoment}
@@ -42,10 +42,10 @@ passes-filter test (k ∷ ns) n h =
     ] refl h
 
 -- the least of the numbers is one of them, and none is less; where there is no least, there is none
-Has-least : (ns : List ℕ) (n : ℕ) → least ns ≡ Some n → Has n ns
+Has-least : (ns : List ℕ) (n : ℕ) → least_number ns ≡ Some n → Has n ns
 Has-least [] n is = absurd (cc)
 Has-least (k ∷ ns) n is =
-    elim (least ns) as (λ o. least ns ≡ o → elim o [ None ↦ Some k | Some l ↦ Some (min k l) ] ≡ Some n → Has n (k ∷ ns)) [
+    elim (least_number ns) as (λ o. least_number ns ≡ o → elim o [ None ↦ Some k | Some l ↦ Some (min k l) ] ≡ Some n → Has n (k ∷ ns)) [
       | None ↦ λ rest e. inl (cc)
       | Some l ↦ λ rest e. (
           let f : min k l ≡ n = cc in
@@ -58,14 +58,14 @@ Has-least (k ∷ ns) n is =
 some-none : (n : ℕ) → Some n ≡ None → ⊥
 some-none n is = cc
 
-none-least : (ns : List ℕ) (k : ℕ) → least ns ≡ None → Has k ns → ⊥
+none-least : (ns : List ℕ) (k : ℕ) → least_number ns ≡ None → Has k ns → ⊥
 none-least [] k is h = h
-none-least (j ∷ ns) k is h = elim (least ns) as (λ o. let most : Option ℕ = elim o [ None ↦ Some j | Some l ↦ Some (min j l) ] in most ≡ None → ⊥) [ None ↦ λ e. some-none j e | Some l ↦ λ e. some-none (min j l) e ] is
+none-least (j ∷ ns) k is h = elim (least_number ns) as (λ o. let most : Option ℕ = elim o [ None ↦ Some j | Some l ↦ Some (min j l) ] in most ≡ None → ⊥) [ None ↦ λ e. some-none j e | Some l ↦ λ e. some-none (min j l) e ] is
 
-least-le : (ns : List ℕ) (n k : ℕ) → least ns ≡ Some n → Has k ns → n ≤ k
+least-le : (ns : List ℕ) (n k : ℕ) → least_number ns ≡ Some n → Has k ns → n ≤ k
 least-le [] n k is h = absurd h
 least-le (j ∷ ns) n k is h =
-    elim (least ns) as (λ o. least ns ≡ o → elim o [ None ↦ Some j | Some l ↦ Some (min j l) ] ≡ Some n → n ≤ k) [
+    elim (least_number ns) as (λ o. least_number ns ≡ o → elim o [ None ↦ Some j | Some l ↦ Some (min j l) ] ≡ Some n → n ≤ k) [
       | None ↦ λ rest e. (let f : j ≡ n = cc in elim h [ inl g ↦ omega (arith, f, g) | inr there ↦ absurd (none-least ns k rest there) ])
       | Some l ↦ λ rest e. (let f : min j l ≡ n = cc in elim h [ inl g ↦ omega (arith, f, g) | inr there ↦ omega (arith, f, least-le ns l k rest there) ])
     ] refl is

@@ -12,7 +12,7 @@ use Rattle.sched_model.specs.declared.machine.Machine.{Machine}
 use Rattle.sched_model.specs.declared.state.State.{State}
 use Rattle.sched_model.specs.Opening.{opening}
 use Rattle.sched_model.specs.Machine.{first_enabled, event_of, after, next_in_horizon, ordered_run}
-use Rattle.sched_model.specs.Runs.{Reached, action_of, end_of, IsRun, IsRunFrom, IsNextEvent, begun, after_event, after_quiet}
+use Rattle.sched_model.specs.Runs.{Reached, action_of, end_of, IsRun, IsRunFrom, IsNextEvent, run_start, after_event, after_quiet}
 use Rattle.sched_model.proofs.RunLemmas.{action_of-event_of, after_entry-action, ordered_run-IsRunFrom}
 use Rattle.run_laws.specs.RunLaws.{TakesFirst, IsOrderedFrom, IsOrderedRun}
 
@@ -56,21 +56,9 @@ entry_is entry t e at is = ap (λ n. record { at = moment n; event = entry.event
 
 -- an event without an action is an End or a Finish
 quiet_event : (e : Event) → action_of e ≡ None → (e ≡ event.Finish) ⊎ ((next : Moment) × (e ≡ event.End next))
-quiet_event (event.Stall p until) is = absurd (cc)
-quiet_event (event.Xl k answer) is = absurd (cc)
-quiet_event (event.Moved r to) is = absurd (cc)
-quiet_event (event.DomMoved d to) is = absurd (cc)
-quiet_event (event.Wake v) is = absurd (cc)
-quiet_event (event.Block p v) is = absurd (cc)
-quiet_event (event.Slice r) is = absurd (cc)
-quiet_event (event.Repl u start deadline budget extra) is = absurd (cc)
-quiet_event (event.Refill d periods budget) is = absurd (cc)
-quiet_event (event.Arrive p) is = absurd (cc)
-quiet_event (event.Decide r unit due late resets) is = absurd (cc)
-quiet_event (event.Leave p v) is = absurd (cc)
-quiet_event (event.Save r u queued) is = absurd (cc)
 quiet_event (event.End next) is = inr (next, refl)
 quiet_event event.Finish is = inl refl
+quiet_event other is = absurd (cc)
 
 -- the ordered run takes the first action each time
 ordered_run-IsOrderedFrom : (n : ℕ) (m : Machine) (s : State) → IsOrderedFrom m (at s) (ordered_run n m s)
@@ -168,7 +156,7 @@ ordered-is_run_by m entries h = ordered_run-only m (opening m) entries h.run h.o
 pub run_by-is_ordered : (m : Machine) (entries : List Entry) → entries ≡ ordered_run (length entries) m (opening m) → IsOrderedRun m entries
 run_by-is_ordered m entries e = record {
   run = subst (IsRun m) (sym e) (ordered_run-IsRunFrom (length entries) m (opening m));
-  ordered = subst (IsOrderedFrom m (begun m)) (sym e) (ordered_run-IsOrderedFrom (length entries) m (opening m));
+  ordered = subst (IsOrderedFrom m (run_start m)) (sym e) (ordered_run-IsOrderedFrom (length entries) m (opening m));
 }
 
 -- the ordered run is an ordered run, however many entries it is allowed

@@ -17,68 +17,68 @@ use Rattle.sched_model.specs.declared.state.Vcpu.{Vcpu}
 use Rattle.sched_model.specs.declared.state.Domain.{Domain}
 use Rattle.sched_model.specs.declared.state.FreeCore.{FreeCore}
 use Rattle.sched_model.specs.declared.state.Records.{Records}
-use Rattle.sched_model.specs.declared.state.Records.TheVariants.{Credit2Pool, RtdsPool, ArincPool, NullPool}
+use Rattle.sched_model.specs.declared.state.Records.TheVariants.{Credit2Pool, RtdsPool}
 use Rattle.sched_model.specs.declared.state.Credit2Domain.{Credit2Domain}
 use Rattle.sched_model.specs.declared.state.RtdsUnit.{RtdsUnit}
 use Rattle.sched_model.specs.declared.work.StallLine.{StallLine}
 use Rattle.sched_model.specs.declared.work.CommandLine.{CommandLine}
-use Rattle.sched_model.specs.Places.{at_place, numbered, test_at, first_place, has_unit}
+use Rattle.sched_model.specs.Places.{at_place, numbered_items, test_at, first_place, has_unit}
 use Rattle.sched_model.specs.State.{has_come, is_up}
 use Rattle.sched_model.specs.Eligible.{rtds_unit}
 use Rattle.sched_model.specs.Policy as policy
 use Rattle.sched_model.specs.Pool.{first_up, lowest_up, processor_of, vcpu_of, guest_of, done_at, is_held, is_open, core_of, enabled_in}
 use Rattle.sched_model.specs.Actions.{home_of}
-use Rattle.sched_model.specs.Machine.{joined, some_of, core_moments, vcpu_moments, records_moments, pool_moments, moments, free_ready, enabled_at_home, is_enabled, is_move_under_way}
+use Rattle.sched_model.specs.Machine.{joined_lists, some_of, core_moments, vcpu_moments, records_moments, pool_moments, moments, free_ready, enabled_at_home, is_enabled, is_move_under_way}
 use Rattle.run_laws.proofs.Named.{Has, Has-left, Has-right, Has-map, Has-joined, Has-placed, Has-filter_map-placed, Has-first, Has-second}
 use Rattle.run_laws.proofs.Awaits.{Awaits, Awaits-fixed, Awaits-moment, Awaits-wider, Awaits-and, Awaits-or, Awaits-there}
 
 -- what a core of the pool names, the pool names
 core_in_pool : (pool : Pool) (r : ℕ) (c : Resource) (n : ℕ) → at_place pool.resources r ≡ Some c → Has n (core_moments c) → Has n (pool_moments pool)
 core_in_pool pool r c n at h =
-    let cores : List ℕ = joined (λ e. core_moments e.1) (numbered 0 pool.resources) in
-    let domains : List ℕ = joined (λ e. joined vcpu_moments e.1.vcpus) (numbered 0 pool.domains) in
+    let cores : List ℕ = joined_lists (λ e. core_moments e.1) (numbered_items 0 pool.resources) in
+    let domains : List ℕ = joined_lists (λ e. joined_lists vcpu_moments e.1.vcpus) (numbered_items 0 pool.domains) in
     Has-left n (cores ++ domains) (records_moments pool.scheduler.records) (Has-left n cores domains (Has-placed core_moments 0 pool.resources r c n at h))
 
 -- what a vCPU of the pool names, the pool names
 vcpu_in_pool : (pool : Pool) (v : VcpuId) (x : Vcpu) (n : ℕ) → vcpu_of pool v ≡ Some x → Has n (vcpu_moments x) → Has n (pool_moments pool)
 vcpu_in_pool pool v x n at h =
-    let cores : List ℕ = joined (λ e. core_moments e.1) (numbered 0 pool.resources) in
-    let domains : List ℕ = joined (λ e. joined vcpu_moments e.1.vcpus) (numbered 0 pool.domains) in
+    let cores : List ℕ = joined_lists (λ e. core_moments e.1) (numbered_items 0 pool.resources) in
+    let domains : List ℕ = joined_lists (λ e. joined_lists vcpu_moments e.1.vcpus) (numbered_items 0 pool.domains) in
     elim (at_place pool.domains v.dom.0) as (λ o. at_place pool.domains v.dom.0 ≡ o → elim o [ None ↦ None | Some d ↦ slice_get d.vcpus v.n ] ≡ Some x → Has n (pool_moments pool)) [
       | None ↦ λ is e. absurd (cc)
       | Some d ↦ λ is e.
           Has-left n (cores ++ domains) (records_moments pool.scheduler.records)
-          (Has-right n cores domains (Has-placed (λ (y : Domain). joined vcpu_moments y.vcpus) 0 pool.domains v.dom.0 d n is (Has-joined vcpu_moments d.vcpus v.n x n e h)))
+          (Has-right n cores domains (Has-placed (λ (y : Domain). joined_lists vcpu_moments y.vcpus) 0 pool.domains v.dom.0 d n is (Has-joined vcpu_moments d.vcpus v.n x n e h)))
     ] refl at
 
 -- what the scheduler names, the pool names
 records_in_pool : (pool : Pool) (n : ℕ) → Has n (records_moments pool.scheduler.records) → Has n (pool_moments pool)
 records_in_pool pool n h =
-    let cores : List ℕ = joined (λ e. core_moments e.1) (numbered 0 pool.resources) in
-    let domains : List ℕ = joined (λ e. joined vcpu_moments e.1.vcpus) (numbered 0 pool.domains) in
+    let cores : List ℕ = joined_lists (λ e. core_moments e.1) (numbered_items 0 pool.resources) in
+    let domains : List ℕ = joined_lists (λ e. joined_lists vcpu_moments e.1.vcpus) (numbered_items 0 pool.domains) in
     Has-right n (cores ++ domains) (records_moments pool.scheduler.records) h
 
 -- what a pool names, the state names
 pool_in_state : (m : Machine) (s : State) (i : ℕ) (pool : Pool) (n : ℕ) → at_place s.pools i ≡ Some pool → Has n (pool_moments pool) → Has n (moments m s)
 pool_in_state m s i pool n at h =
-    let pools : List ℕ = joined (λ e. pool_moments e.1) (numbered 0 s.pools) in
-    let free : List ℕ = joined (λ e. map (λ (end : Moment). end.0) e.1.stall_ends) (numbered 0 s.free) in
+    let pools : List ℕ = joined_lists (λ e. pool_moments e.1) (numbered_items 0 s.pools) in
+    let free : List ℕ = joined_lists (λ e. map (λ (end : Moment). end.0) e.1.stall_ends) (numbered_items 0 s.free) in
     let work : List ℕ = some_of (option_map (λ line. line.at) (slice_get m.work.stalls s.next_stall) ∷ option_map (λ line. line.at) (slice_get m.work.commands s.next_command) ∷ []) in
     Has-left n (pools ++ free) work (Has-left n pools free (Has-placed pool_moments 0 s.pools i pool n at h))
 
 -- what a core of no pool names, the state names
 free_in_state : (m : Machine) (s : State) (r : ℕ) (c : FreeCore) (n : ℕ) → at_place s.free r ≡ Some c → Has n (map (λ (end : Moment). end.0) c.stall_ends) → Has n (moments m s)
 free_in_state m s r c n at h =
-    let pools : List ℕ = joined (λ e. pool_moments e.1) (numbered 0 s.pools) in
-    let free : List ℕ = joined (λ e. map (λ (end : Moment). end.0) e.1.stall_ends) (numbered 0 s.free) in
+    let pools : List ℕ = joined_lists (λ e. pool_moments e.1) (numbered_items 0 s.pools) in
+    let free : List ℕ = joined_lists (λ e. map (λ (end : Moment). end.0) e.1.stall_ends) (numbered_items 0 s.free) in
     let work : List ℕ = some_of (option_map (λ line. line.at) (slice_get m.work.stalls s.next_stall) ∷ option_map (λ line. line.at) (slice_get m.work.commands s.next_command) ∷ []) in
     Has-left n (pools ++ free) work (Has-right n pools free (Has-placed (λ (y : FreeCore). map (λ (end : Moment). end.0) y.stall_ends) 0 s.free r c n at h))
 
 -- the state names the moment of the next stall
 stall_in_state : (m : Machine) (s : State) (line : StallLine) → slice_get m.work.stalls s.next_stall ≡ Some line → Has line.at.0 (moments m s)
 stall_in_state m s line at =
-    let pools : List ℕ = joined (λ e. pool_moments e.1) (numbered 0 s.pools) in
-    let free : List ℕ = joined (λ e. map (λ (end : Moment). end.0) e.1.stall_ends) (numbered 0 s.free) in
+    let pools : List ℕ = joined_lists (λ e. pool_moments e.1) (numbered_items 0 s.pools) in
+    let free : List ℕ = joined_lists (λ e. map (λ (end : Moment). end.0) e.1.stall_ends) (numbered_items 0 s.free) in
     let stalls : Option Moment = option_map (λ l. l.at) (slice_get m.work.stalls s.next_stall) in
     let commands : Option Moment = option_map (λ l. l.at) (slice_get m.work.commands s.next_command) in
     Has-right line.at.0 (pools ++ free) (some_of (stalls ∷ commands ∷ [])) (Has-first line.at stalls (commands ∷ []) (rw at refl))
@@ -86,8 +86,8 @@ stall_in_state m s line at =
 -- and that of the next command
 command_in_state : (m : Machine) (s : State) (line : CommandLine) → slice_get m.work.commands s.next_command ≡ Some line → Has line.at.0 (moments m s)
 command_in_state m s line at =
-    let pools : List ℕ = joined (λ e. pool_moments e.1) (numbered 0 s.pools) in
-    let free : List ℕ = joined (λ e. map (λ (end : Moment). end.0) e.1.stall_ends) (numbered 0 s.free) in
+    let pools : List ℕ = joined_lists (λ e. pool_moments e.1) (numbered_items 0 s.pools) in
+    let free : List ℕ = joined_lists (λ e. map (λ (end : Moment). end.0) e.1.stall_ends) (numbered_items 0 s.free) in
     let stalls : Option Moment = option_map (λ l. l.at) (slice_get m.work.stalls s.next_stall) in
     let commands : Option Moment = option_map (λ l. l.at) (slice_get m.work.commands s.next_command) in
     Has-right line.at.0 (pools ++ free) (some_of (stalls ∷ commands ∷ [])) (Has-second line.at.0 stalls (commands ∷ []) (Has-first line.at commands [] (rw at refl)))
@@ -132,11 +132,9 @@ deadline_named domains u x at =
     ] refl at
 
 Awaits-replenish_due : (records : Records) (u : UnitId) → Awaits (records_moments records) (λ t. policy.replenish_due records t u)
-Awaits-replenish_due (Credit2Pool records) u = Awaits-fixed (records_moments (Credit2Pool records)) false
 Awaits-replenish_due (RtdsPool domains) u =
     Awaits-there (records_moments (RtdsPool domains)) (λ t (x : RtdsUnit). nat_le x.deadline t) (rtds_unit domains u) (λ x at. Awaits-moment (records_moments (RtdsPool domains)) x.deadline (deadline_named domains u x at))
-Awaits-replenish_due (ArincPool records) u = Awaits-fixed (records_moments (ArincPool records)) false
-Awaits-replenish_due (NullPool kept) u = Awaits-fixed (records_moments (NullPool kept)) false
+Awaits-replenish_due any u = Awaits-fixed (records_moments any) false
 
 refill_named : (records : Records) (d : ℕ) (at : Moment) → policy.next_refill records d ≡ Some at → Has at.0 (records_moments records)
 refill_named (Credit2Pool records) d at is =
@@ -148,9 +146,7 @@ refill_named (Credit2Pool records) d at is =
     refill_of : (o : Option ℕ) (at : Moment) → option_map moment o ≡ Some at → o ≡ Some at.0
     refill_of None at e = absurd (cc)
     refill_of (Some n) at e = let f : moment n ≡ at = cc in rw (sym f) refl
-refill_named (RtdsPool domains) d at is = absurd (cc)
-refill_named (ArincPool records) d at is = absurd (cc)
-refill_named (NullPool kept) d at is = absurd (cc)
+refill_named records d at is = absurd (cc)
 
 -- a test of a core, of which only its first processor waits
 Awaits-core : (pool : Pool) (r : ℕ) (fixed : Resource → Bool) → Awaits (pool_moments pool) (λ t. test_at pool.resources r (λ c. fixed c && first_up t c))
@@ -168,26 +164,26 @@ Awaits-processor g pool p fixed =
 Awaits-in : (g : ℕ) (pool : Pool) (action : Action) → Awaits (pool_moments pool) (λ t. enabled_in g t pool action)
 Awaits-in g pool Stall = Awaits-fixed (pool_moments pool) false
 Awaits-in g pool Xl = Awaits-fixed (pool_moments pool) false
-Awaits-in g pool (Moved r) = Awaits-core pool r (λ c. c.leaving && is_none c.cur && is_none c.saving && not c.pending && is_open c)
+Awaits-in g pool (Moved r) = Awaits-core pool r.0 (λ c. c.leaving && is_none c.cur && is_none c.saving && not c.pending && is_open c)
 Awaits-in g pool (DomMoved d) = Awaits-fixed (pool_moments pool) (enabled_in g 0 pool (DomMoved d))
 Awaits-in g pool (Wake v) =
     Awaits-there (pool_moments pool) (λ t x. has_come t x.asleep_until) (vcpu_of pool v)
     (λ x at. Awaits-come (pool_moments pool) x.asleep_until (λ end is. vcpu_in_pool pool v x end.0 at (Has-first end x.asleep_until (done_at x ∷ []) is)))
 Awaits-in g pool (Block p) =
     Awaits-and (pool_moments pool)
-    (λ t. elim (guest_of g pool p) [ None ↦ false | Some v ↦ elim (vcpu_of pool v) [ None ↦ false | Some x ↦ has_come t (done_at x) ] ])
-    (λ t. elim (processor_of g pool p) [ None ↦ false | Some q ↦ is_up t q ])
-    (Awaits-there (pool_moments pool) (λ t v. elim (vcpu_of pool v) [ None ↦ false | Some x ↦ has_come t (done_at x) ]) (guest_of g pool p)
+    (λ t. elim (guest_of g pool p.0) [ None ↦ false | Some v ↦ elim (vcpu_of pool v) [ None ↦ false | Some x ↦ has_come t (done_at x) ] ])
+    (λ t. elim (processor_of g pool p.0) [ None ↦ false | Some q ↦ is_up t q ])
+    (Awaits-there (pool_moments pool) (λ t v. elim (vcpu_of pool v) [ None ↦ false | Some x ↦ has_come t (done_at x) ]) (guest_of g pool p.0)
     (λ v is. Awaits-there (pool_moments pool) (λ t x. has_come t (done_at x)) (vcpu_of pool v)
     (λ x at. Awaits-come (pool_moments pool) (done_at x) (λ end is. vcpu_in_pool pool v x end.0 at (Has-second end.0 x.asleep_until (done_at x ∷ []) (Has-first end (done_at x) [] is))))))
-    (Awaits-there (pool_moments pool) (λ t q. is_up t q) (processor_of g pool p) (λ q at. Awaits-moment (pool_moments pool) q.stall_end.0 (processor_named g pool p q at)))
+    (Awaits-there (pool_moments pool) (λ t q. is_up t q) (processor_of g pool p.0) (λ q at. Awaits-moment (pool_moments pool) q.stall_end.0 (processor_named g pool p.0 q at)))
 Awaits-in g pool (Slice r) =
-    Awaits-there (pool_moments pool) (λ t c. has_come t c.due && not c.pending && first_up t c) (at_place pool.resources r)
+    Awaits-there (pool_moments pool) (λ t c. has_come t c.due && not c.pending && first_up t c) (at_place pool.resources r.0)
     (λ c at. Awaits-and (pool_moments pool) (λ t. has_come t c.due && not c.pending) (λ t. first_up t c)
     (Awaits-and (pool_moments pool) (λ t. has_come t c.due) (λ t. not c.pending)
-    (Awaits-come (pool_moments pool) c.due (λ due is. core_in_pool pool r c due.0 at (Has-left due.0 (some_of (c.due ∷ [])) (map (λ (q : Processor). q.stall_end.0) c.processors) (Has-first due c.due [] is))))
+    (Awaits-come (pool_moments pool) c.due (λ due is. core_in_pool pool r.0 c due.0 at (Has-left due.0 (some_of (c.due ∷ [])) (map (λ (q : Processor). q.stall_end.0) c.processors) (Has-first due c.due [] is))))
     (Awaits-fixed (pool_moments pool) (not c.pending)))
-    (Awaits-first_up pool r c at))
+    (Awaits-first_up pool r.0 c at))
 Awaits-in g pool (Repl u) =
     let ms : List ℕ = pool_moments pool in
     Awaits-and ms (λ t. (has_unit pool.scheduler.queue u || is_some (core_of pool u)) && policy.replenish_due pool.scheduler.records t u) (λ t. lowest_up t pool)
@@ -197,19 +193,19 @@ Awaits-in g pool (Repl u) =
     (Awaits-lowest_up pool)
 Awaits-in g pool (Refill d) =
     let ms : List ℕ = pool_moments pool in
-    Awaits-and ms (λ t. has_come t (policy.next_refill pool.scheduler.records d)) (λ t. lowest_up t pool)
-    (Awaits-come ms (policy.next_refill pool.scheduler.records d) (λ at is. records_in_pool pool at.0 (refill_named pool.scheduler.records d at is)))
+    Awaits-and ms (λ t. has_come t (policy.next_refill pool.scheduler.records d.0)) (λ t. lowest_up t pool)
+    (Awaits-come ms (policy.next_refill pool.scheduler.records d.0) (λ at is. records_in_pool pool at.0 (refill_named pool.scheduler.records d.0 at is)))
     (Awaits-lowest_up pool)
 Awaits-in g pool (Arrive p) =
     let ms : List ℕ = pool_moments pool in
-    let core : Bool = test_at pool.resources (p / g) (λ c. c.pending && is_open c && is_none c.saving) in
-    Awaits-and ms (λ t. core) (λ t. elim (processor_of g pool p) [ None ↦ false | Some q ↦ not (is_held q) && is_up t q ]) (Awaits-fixed ms core) (Awaits-processor g pool p (λ q. not (is_held q)))
-Awaits-in g pool (Decide r) = Awaits-core pool r (λ c. list_all is_held c.processors && is_open c)
+    let core : Bool = test_at pool.resources (p.0 / g) (λ c. c.pending && is_open c && is_none c.saving) in
+    Awaits-and ms (λ t. core) (λ t. elim (processor_of g pool p.0) [ None ↦ false | Some q ↦ not (is_held q) && is_up t q ]) (Awaits-fixed ms core) (Awaits-processor g pool p.0 (λ q. not (is_held q)))
+Awaits-in g pool (Decide r) = Awaits-core pool r.0 (λ c. list_all is_held c.processors && is_open c)
 Awaits-in g pool (Leave p) =
     let ms : List ℕ = pool_moments pool in
-    let core : Bool = test_at pool.resources (p / g) (λ c. not (is_open c)) in
-    Awaits-and ms (λ t. core) (λ t. elim (processor_of g pool p) [ None ↦ false | Some q ↦ is_held q && is_up t q ]) (Awaits-fixed ms core) (Awaits-processor g pool p is_held)
-Awaits-in g pool (Save r) = Awaits-core pool r (λ c. is_some c.saving && not (list_any is_held c.processors))
+    let core : Bool = test_at pool.resources (p.0 / g) (λ c. not (is_open c)) in
+    Awaits-and ms (λ t. core) (λ t. elim (processor_of g pool p.0) [ None ↦ false | Some q ↦ is_held q && is_up t q ]) (Awaits-fixed ms core) (Awaits-processor g pool p.0 is_held)
+Awaits-in g pool (Save r) = Awaits-core pool r.0 (λ c. is_some c.saving && not (list_any is_held c.processors))
 
 -- an event at its subject's home
 Awaits-home : (m : Machine) (s : State) (action : Action) → Awaits (moments m s) (λ t. enabled_at_home m s t action)
@@ -236,16 +232,7 @@ Awaits-enabled m s Xl =
     Awaits-there (moments m s) (λ t line. nat_le line.at.0 t && not (is_move_under_way s)) (slice_get m.work.commands s.next_command)
     (λ line at. Awaits-and (moments m s) (λ t. nat_le line.at.0 t) (λ t. not (is_move_under_way s)) (Awaits-moment (moments m s) line.at.0 (command_in_state m s line at)) (Awaits-fixed (moments m s) (not (is_move_under_way s))))
 Awaits-enabled m s (Moved r) =
-    Awaits-or (moments m s) (λ t. test_at s.free r (free_ready t)) (λ t. enabled_at_home m s t (Moved r))
-    (Awaits-there (moments m s) (λ t c. free_ready t c) (at_place s.free r) (λ c at. Awaits-free m s r c at))
+    Awaits-or (moments m s) (λ t. test_at s.free r.0 (free_ready t)) (λ t. enabled_at_home m s t (Moved r))
+    (Awaits-there (moments m s) (λ t c. free_ready t c) (at_place s.free r.0) (λ c at. Awaits-free m s r.0 c at))
     (Awaits-home m s (Moved r))
-Awaits-enabled m s (DomMoved d) = Awaits-home m s (DomMoved d)
-Awaits-enabled m s (Wake v) = Awaits-home m s (Wake v)
-Awaits-enabled m s (Block p) = Awaits-home m s (Block p)
-Awaits-enabled m s (Slice r) = Awaits-home m s (Slice r)
-Awaits-enabled m s (Repl u) = Awaits-home m s (Repl u)
-Awaits-enabled m s (Refill d) = Awaits-home m s (Refill d)
-Awaits-enabled m s (Arrive p) = Awaits-home m s (Arrive p)
-Awaits-enabled m s (Decide r) = Awaits-home m s (Decide r)
-Awaits-enabled m s (Leave p) = Awaits-home m s (Leave p)
-Awaits-enabled m s (Save r) = Awaits-home m s (Save r)
+Awaits-enabled m s action = Awaits-home m s action

@@ -7,16 +7,16 @@ use Rattle.sched_model.specs.declared.machine.Machine.{Machine}
 use Rattle.sched_model.specs.declared.state.State.{State}
 use Rattle.sched_model.specs.Actions.{candidates}
 use Rattle.sched_model.specs.Machine.{is_enabled, first_enabled}
-use Rattle.sched_model.specs.Runs.{Reached, IsRun, IsNext, action_of, begun, after_entry, after_entries}
+use Rattle.sched_model.specs.Runs.{Reached, IsRun, IsNext, action_of, run_start, after_entry, after_entries}
 
 -- the entries are a run, and the entry may come next
 pub record GoesOn (m : Machine) (entries : List Entry) (entry : Entry) : Type 0 where
   pub run : IsRun m entries
-  pub next : IsNext m (after_entries m (begun m) entries) entry
+  pub next : IsNext m (after_entries m (run_start m) entries) entry
 
 -- the entries lead to the end of the run
 abbrev pub IsOver : Machine → List Entry → Type 0
-IsOver m entries = (after_entries m (begun m) entries).over ≡ true
+IsOver m entries = (after_entries m (run_start m) entries).over ≡ true
 
 -- none of the actions may come at t
 abbrev pub NoneMayCome : Machine → State → ℕ → List Action → Type 0
@@ -59,4 +59,4 @@ IsOrderedFrom m from (entry ∷ entries) = TakesFirst m from.state (action_of en
 -- the entries are a run, and each takes the first action that may come
 pub record IsOrderedRun (m : Machine) (entries : List Entry) : Type 0 where
   pub run : IsRun m entries
-  pub ordered : IsOrderedFrom m (begun m) entries
+  pub ordered : IsOrderedFrom m (run_start m) entries

@@ -7,7 +7,7 @@ use Rattle.sched_model.specs.declared.state.Credit2Unit.{Credit2Unit}
 use Rattle.sched_model.specs.declared.state.Credit2Domain.{Credit2Domain}
 use Rattle.sched_model.specs.declared.state.Credit2Records.{Credit2Records}
 use Rattle.sched_model.specs.Places.{change_item, same_unit, is_unit}
-use Rattle.sched_model.specs.Credit2.{max_weight, burn_unit, burn_units, change_domain, change_unit, burn_all, give_back, burn_cur, reset, take_budget, set_running, switch_off, refill_domain, refilled, set_weight, set_cap, set_domain}
+use Rattle.sched_model.specs.Credit2.{max_weight, burn_unit, burn_units, change_domain, change_unit, burn_all, give_back, burn_cur, reset, take_budget, set_running, switch_off, refill_domain, refilled_pool, set_weight, set_cap, set_domain}
 use Rattle.sched_laws.proofs.EachPlace.{by_option, by_cond}
 use Rattle.sched_laws.proofs.Lists.{test_at-change_at}
 use Rattle.running_laws.proofs.OneUnit.{test_item, test_unit, test_item-change_item, test_item-change_to, test_item-map, test_unit-change, test_unit-change_each}
@@ -72,7 +72,7 @@ module _ (says : Bool → Bool) (w : UnitId) where
   pub kept_take : (u : UnitId) (records : Credit2Records) → credit2_word says (change_domain u.dom.0 (take_budget u.n) records) w ≡ credit2_word says records w
   kept_take u records = kept_domain u.dom.0 (take_budget u.n) records (λ d. by_cond (Same d) (d.cap == 0) d _ (λ is. refl) (λ is. same_item u.n _ d (λ x. refl)))
 
-  pub kept_refilled : (t i : ℕ) (records : Credit2Records) → credit2_word says (refilled t i records) w ≡ credit2_word says records w
+  pub kept_refilled : (t i : ℕ) (records : Credit2Records) → credit2_word says (refilled_pool t i records) w ≡ credit2_word says records w
   kept_refilled t i records =
       let most : ℕ = max_weight records in
       kept_domain i (refill_domain most t) records (λ d. same_map (burn_unit most t d) d (burned_on most t d))

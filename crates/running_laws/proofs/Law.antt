@@ -118,9 +118,7 @@ recorded (NullPool kept) u count has low = refl
 -- which scheduler it is
 kept_shape : (records : Records) → keeps_records records ≡ is_some (shape records)
 kept_shape (Credit2Pool records) = refl
-kept_shape (RtdsPool domains) = refl
-kept_shape (ArincPool records) = refl
-kept_shape (NullPool kept) = refl
+kept_shape any = refl
 
 same_kind : (next old : Records) → shape next ≡ shape old → keeps_records next ≡ keeps_records old
 same_kind next old same = kept_shape next ∙ ap is_some same ∙ sym (kept_shape old)
@@ -144,6 +142,4 @@ joins_kind records params d count t = refl
 
 pub parts_kind : (records : Records) (d : ℕ) → keeps_records (parted_records records d) ≡ keeps_records records
 parts_kind (Credit2Pool records) d = refl
-parts_kind (RtdsPool domains) d = refl
-parts_kind (ArincPool records) d = refl
-parts_kind (NullPool kept) d = refl
+parts_kind any d = refl

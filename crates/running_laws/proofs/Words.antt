@@ -15,7 +15,7 @@ use Rattle.sched_model.specs.declared.state.Scheduler.{Scheduler}
 use Rattle.sched_model.specs.Places.{at_place, clear_at, is_unit}
 use Rattle.sched_model.specs.Arinc.{Window, present_window}
 use Rattle.sched_model.specs.Eligible.{Decision}
-use Rattle.sched_model.specs.Policy.{decision_by, choose_window, replenish, refill, changed_records, joined_records, parted_records}
+use Rattle.sched_model.specs.Policy.{decision_by, arinc_decision, replenish, refill, changed_records, joined_records, parted_records}
 use Rattle.sched_model.specs.Credit2 as credit2
 use Rattle.sched_model.specs.Rtds as rtds
 use Rattle.sched_model.specs.NullScheduler as null
@@ -45,25 +45,21 @@ always b on = b
 
 module _ (w : UnitId) where
   pub on_is : (records : Records) → is_on records w ≡ word_on itself records w
-  on_is (Credit2Pool records) = refl
   on_is (RtdsPool domains) = there (at_place domains w.dom.0)
     where
       there : (o : Option (List RtdsUnit)) → elim (elim o as (λ _. Option RtdsUnit) [ None ↦ None | Some units ↦ slice_get units w.n ]) as (λ _. Bool) [ None ↦ false | Some x ↦ is_some x.burned ]
           ≡ elim o as (λ _. Bool) [ None ↦ false | Some units ↦ test_item units w.n (λ (x : RtdsUnit). is_some x.burned) ]
       there None = refl
       there (Some units) = refl
-  on_is (ArincPool records) = refl
-  on_is (NullPool kept) = refl
+  on_is any = refl
 
   pub record_is : (records : Records) → has_record records w ≡ word_on (always true) records w
-  record_is (Credit2Pool records) = refl
   record_is (RtdsPool domains) = there (at_place domains w.dom.0)
     where
       there : (o : Option (List RtdsUnit)) → is_some (elim o as (λ _. Option RtdsUnit) [ None ↦ None | Some units ↦ slice_get units w.n ]) ≡ elim o as (λ _. Bool) [ None ↦ false | Some units ↦ test_item units w.n (λ (x : RtdsUnit). true) ]
       there None = refl
       there (Some units) = refl
-  record_is (ArincPool records) = refl
-  record_is (NullPool kept) = refl
+  record_is any = refl
 
   -- a unit that is on has a record
   pub on_recorded : (records : Records) → word_on itself records w ≡ true → word_on (always true) records w ≡ true
@@ -102,22 +98,22 @@ module _ (says : Bool → Bool) (w : UnitId) where
       → word_on says (credit2.decide ask scheduler records chosen).records w ≡ word_after says (is_unit (credit2.decide ask scheduler records chosen).unit w) (is_unit ask.cur w) (λ k. credit2_word k records w)
   credit2_decides ask scheduler records None = of_credit2.word_off says w ask.cur records
   credit2_decides ask scheduler records (Some u) =
-      let m : ℕ = credit2.resets_for ask.at u records in
-      let taken : Credit2Records = credit2.change_domain u.dom.0 (credit2.take_budget u.n) (credit2.reset ask.at m records) in
+      let m : ℕ = credit2.resets_for ask.at.0 u records in
+      let taken : Credit2Records = credit2.change_domain u.dom.0 (credit2.take_budget u.n) (credit2.reset ask.at.0 m records) in
       let off : Credit2Records = credit2.switch_off ask.cur taken in
-      of_credit2.word_running says w (Some ask.at) u off
+      of_credit2.word_running says w (Some ask.at.0) u off
       ∙ put_on says (is_unit (Some u) w) (is_unit ask.cur w) (λ k. credit2_word k off w) (λ k. credit2_word k taken w) (λ k. of_credit2.word_off k w ask.cur taken)
-      ∙ word_after_same says (is_unit (Some u) w) (is_unit ask.cur w) (λ k. credit2_word k taken w) (λ k. credit2_word k records w) (λ k. of_credit2.kept_take k w u (credit2.reset ask.at m records) ∙ of_credit2.kept_reset k w ask.at m records)
+      ∙ word_after_same says (is_unit (Some u) w) (is_unit ask.cur w) (λ k. credit2_word k taken w) (λ k. credit2_word k records w) (λ k. of_credit2.kept_take k w u (credit2.reset ask.at.0 m records) ∙ of_credit2.kept_reset k w ask.at.0 m records)
 
   rtds_decides : (ask : Ask) (domains : List (Option (List RtdsUnit))) (chosen : Option UnitId)
       → word_on says (rtds.decide ask domains chosen).records w ≡ word_after says (is_unit (rtds.decide ask domains chosen).unit w) (is_unit ask.cur w) (λ k. rtds_word k domains w)
   rtds_decides ask domains None = of_rtds.word_off says w ask.cur domains
   rtds_decides ask domains (Some u) =
       let off : List (Option (List RtdsUnit)) = rtds.switch_off ask.cur domains in
-      of_rtds.word_running says w (Some ask.at) u off
+      of_rtds.word_running says w (Some ask.at.0) u off
       ∙ put_on says (is_unit (Some u) w) (is_unit ask.cur w) (λ k. rtds_word k off w) (λ k. rtds_word k domains w) (λ k. of_rtds.word_off k w ask.cur domains)
 
-  window_records : (ask : Ask) (scheduler : Scheduler) (window : Option Window) → (choose_window ask scheduler window).records ≡ scheduler.records
+  window_records : (ask : Ask) (scheduler : Scheduler) (window : Option Window) → (arinc_decision ask scheduler window).records ≡ scheduler.records
   window_records ask scheduler None = refl
   window_records ask scheduler (Some window) = refl
 
@@ -128,35 +124,31 @@ module _ (says : Bool → Bool) (w : UnitId) where
   pub word_decides : (records : Records) (ask : Ask) (scheduler : Scheduler) → scheduler.records ≡ records
       → word_on says (decision_by records ask scheduler).records w ≡ word_after says (is_unit (decision_by records ask scheduler).unit w) (is_unit ask.cur w) (λ k. word_on k records w)
   word_decides (Credit2Pool records) ask scheduler is =
-      let burned : Credit2Records = credit2.burn_cur ask.cur ask.at records in
+      let burned : Credit2Records = credit2.burn_cur ask.cur ask.at.0 records in
       let chosen : Option UnitId = credit2.choice ask scheduler burned in
       credit2_decides ask scheduler burned chosen
-      ∙ word_after_same says (is_unit (credit2.decide ask scheduler burned chosen).unit w) (is_unit ask.cur w) (λ k. credit2_word k burned w) (λ k. credit2_word k records w) (λ k. of_credit2.kept_burn_cur k w ask.cur ask.at records)
+      ∙ word_after_same says (is_unit (credit2.decide ask scheduler burned chosen).unit w) (is_unit ask.cur w) (λ k. credit2_word k burned w) (λ k. credit2_word k records w) (λ k. of_credit2.kept_burn_cur k w ask.cur ask.at.0 records)
   word_decides (RtdsPool domains) ask scheduler is =
-      let burned : List (Option (List RtdsUnit)) = rtds.burn_cur ask.cur ask.at domains in
+      let burned : List (Option (List RtdsUnit)) = rtds.burn_cur ask.cur ask.at.0 domains in
       let chosen : Option UnitId = rtds.choice ask scheduler burned in
       rtds_decides ask burned chosen
-      ∙ word_after_same says (is_unit (rtds.decide ask burned chosen).unit w) (is_unit ask.cur w) (λ k. rtds_word k burned w) (λ k. rtds_word k domains w) (λ k. of_rtds.kept_burn_cur k w ask.cur ask.at domains)
+      ∙ word_after_same says (is_unit (rtds.decide ask burned chosen).unit w) (is_unit ask.cur w) (λ k. rtds_word k burned w) (λ k. rtds_word k domains w) (λ k. of_rtds.kept_burn_cur k w ask.cur ask.at.0 domains)
   word_decides (ArincPool records) ask scheduler is =
-      let window : Option Window = cond ask.leaving None (present_window records ask.at) in
-      ap (λ r. word_on says r w) (window_records ask scheduler window ∙ is) ∙ nothing_said says (is_unit (choose_window ask scheduler window).unit w) (is_unit ask.cur w)
+      let window : Option Window = cond ask.leaving None (present_window records ask.at.0) in
+      ap (λ r. word_on says r w) (window_records ask scheduler window ∙ is) ∙ nothing_said says (is_unit (arinc_decision ask scheduler window).unit w) (is_unit ask.cur w)
   word_decides (NullPool kept) ask scheduler is =
-      by_cond (λ (d : Decision). word_on says d.records w ≡ false) ask.leaving (null.decide ask.core (clear_at ask.core kept) None) (null.decide ask.core kept (null.choice ask scheduler kept))
-      (λ leaves. refl) (λ stays. null_silent ask.core kept (null.choice ask scheduler kept))
-      ∙ nothing_said says (is_unit (null.choose_null ask scheduler kept).unit w) (is_unit ask.cur w)
+      by_cond (λ (d : Decision). word_on says d.records w ≡ false) ask.leaving (null.decide ask.core.0 (clear_at ask.core.0 kept) None) (null.decide ask.core.0 kept (null.choice ask scheduler kept))
+      (λ leaves. refl) (λ stays. null_silent ask.core.0 kept (null.choice ask scheduler kept))
+      ∙ nothing_said says (is_unit (null.null_decision ask scheduler kept).unit w) (is_unit ask.cur w)
 
   -- what leaves each unit on or off
   pub word_replenished : (records : Records) (t : ℕ) (u : UnitId) → word_on says (replenish records t u) w ≡ word_on says records w
-  word_replenished (Credit2Pool records) t u = refl
   word_replenished (RtdsPool domains) t u = of_rtds.kept_replenished says w t u domains
-  word_replenished (ArincPool records) t u = refl
-  word_replenished (NullPool kept) t u = refl
+  word_replenished any t u = refl
 
   pub word_refilled : (records : Records) (t d : ℕ) → word_on says (refill records t d) w ≡ word_on says records w
   word_refilled (Credit2Pool records) t d = of_credit2.kept_refilled says w t d records
-  word_refilled (RtdsPool domains) t d = refl
-  word_refilled (ArincPool records) t d = refl
-  word_refilled (NullPool kept) t d = refl
+  word_refilled records t d = refl
 
   pub word_changed : (records : Records) (change : ParamChange) (t : ℕ) → word_on says (changed_records records change t) w ≡ word_on says records w
   word_changed (Credit2Pool records) (changes.Dom d weight percent) t = of_credit2.kept_set_domain says w t d.0 weight percent records

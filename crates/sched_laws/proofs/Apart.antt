@@ -12,9 +12,8 @@ use Rattle.sched_model.specs.declared.state.Pool.{Pool}
 use Rattle.sched_model.specs.declared.state.Scheduler.{Scheduler}
 use Rattle.sched_model.specs.Opening.{empty_pool, core_count}
 use Rattle.sched_model.specs.Policy as policy
-use Rattle.sched_model.specs.Policy.{decision_of, dequeue_domain, rtds_record}
 use Rattle.sched_model.specs.Pool as pools
-use Rattle.sched_model.specs.Pool.{enabled_in, after_in, settled, home_cores, reconsidered, change_core, change_processor, change_vcpu, change_domain, change_cores_of, set_pending, does, queue_unit, started_on, decided, same_choice, ask_of, set_leaving, set_moving, pause, unpause, set_params, without_domain, with_domain, with_records, is_of_domain}
+use Rattle.sched_model.specs.Pool.{change_core, change_domain, set_params, with_domain}
 use Rattle.sched_laws.specs.Each.{EachAt}
 use Rattle.sched_laws.proofs.EachPlace.{EachAt-change_at, EachAt-put_at, EachPlace-empty}
 use Rattle.sched_laws.proofs.Kept.{IsKeptInside}
@@ -48,7 +47,7 @@ module _ (C D : ℕ → Type 0) where
     queues = λ u pool runs. only_scheduler _ pool;
     dequeues = λ d pool. only_scheduler _ pool;
     decides = λ r c pool at on only. record { cores = EachAt-put_at (λ r c. C r) r _ pool.resources only.cores (only.cores r c at); domains = only.domains };
-    saves = λ r c u pool at is on. only_change_core r pools.saved pool;
+    saves = λ r c u pool at is on. only_change_core r pools.saved_core pool;
     replenishes = λ u pool on. only_scheduler _ pool;
     dues = λ r u x old pool on is. only_change_core r _ pool;
     refills = λ d pool on. only_scheduler _ pool;

@@ -14,12 +14,12 @@ use Rattle.sched_model.specs.declared.state.Pool.{Pool}
 use Rattle.sched_model.specs.declared.state.FreeCore.{FreeCore}
 use Rattle.sched_model.specs.Opening.{fresh_core}
 use Rattle.sched_model.specs.declared.action.Action.{Action}
-use Rattle.sched_model.specs.Pool.{settled, without_domain}
+use Rattle.sched_model.specs.Pool.{settled_pool as settled, without_domain}
 use Rattle.sched_model.specs.declared.action.Action.TheVariants.{Stall, Xl, Moved, DomMoved}
 use Rattle.sched_model.specs.Policy.{default_dom_params}
 use Rattle.sched_model.specs.Actions.{home_of, home_of_core, home_of_domain, change_pool}
 use Rattle.sched_model.specs.Commands.{carried_out, change_home, pool_of_plan}
-use Rattle.sched_model.specs.Machine.{is_enabled, after, after_at_home, after_stall, after_command, after_moved, after_dom_moved, stalled, verdict, settled_at, attached, detached, left_by, joined_by, is_null}
+use Rattle.sched_model.specs.Machine.{is_enabled, after, after_at_home, after_stall, after_command, after_moved, after_dom_moved, with_stall_end, verdict, settled_at, with_core_in, without_core_in, left_by, joined_by, is_null}
 use Rattle.sched_laws.specs.Each.{EachAt}
 use Rattle.sched_laws.proofs.EachPlace.{EachAt-change_at, EachAt-change_to, EachAt-put_at, read_put_at, read_clear_at, by_option, by_cond}
 use Rattle.sched_laws.proofs.Lists.{some-test_at, test_at-some, some_is, is_some_at}
@@ -60,7 +60,7 @@ FreeOf s next = EachAt (λ r (c : FreeCore). is_some (at_place s.free r) ≡ tru
 free_itself : (s : State) → FreeOf s s
 free_itself s r c at = is_some_at (at_place s.free r) c at
 
-free_stalled : (g p end : ℕ) (s : State) → FreeOf s (stalled g p end s)
+free_stalled : (g p end : ℕ) (s : State) → FreeOf s (with_stall_end g p end s)
 free_stalled g p end s =
     by_option (FreeOf s) (home_of_core s (p / g)) _ _
     (λ is. EachAt-change_at (λ r c. is_some (at_place s.free r) ≡ true) (p / g) _ s.free (free_itself s) (λ c at here. here))
@@ -118,43 +118,43 @@ apart_staying m s t action stays on apart =
     }
 
 -- a core of none joins the pool i
-apart_attached : (g t r i : ℕ) (c : FreeCore) (s : State) → at_place s.free r ≡ Some c → IsApart s → IsApart (attached t r i c s)
+apart_attached : (g t r i : ℕ) (c : FreeCore) (s : State) → at_place s.free r ≡ Some c → IsApart s → IsApart (with_core_in t r i c s)
 apart_attached g t r i c s is apart =
     let C : ℕ → ℕ → Type 0 = λ j q. (has_core_at s j q ≡ true) ⊎ ((j ≡ i) × (q ≡ r)) in
     let D : ℕ → ℕ → Type 0 = λ j d. has_domain_at s j d ≡ true in
     let was : AllOnly C D s = λ j pool at. only_map (λ q. has_core_at s j q ≡ true) (D j) (C j) (D j) pool (λ q has. inl has) (λ d has. has) (only_itself s j pool at) in
-    let only : AllOnly C D (attached t r i c s) =
+    let only : AllOnly C D (with_core_in t r i c s) =
     kept_change g (λ j. HasOnly (C j) (D j)) (λ j. only_inside (C j) (D j) g) i _ (record s { free = clear_at r s.free })
     (λ pool at here. (only_inside (C i) (D i) g).settles t _ (record { cores = EachAt-put_at (λ q c2. C i q) r (fresh_core c.stall_ends) pool.resources here.cores (inr (refl, refl)); domains = here.domains })) was in
     let free_r : (j : ℕ) → has_core_at s j r ≡ true → ⊥ = λ j has. apart.free j r (is_some_at (at_place s.free r) c is) has in
     record {
-      cores = λ j k q a b. elim (core_among C D (attached t r i c s) only j q a) [
-        | inl ha ↦ elim (core_among C D (attached t r i c s) only k q b) [
+      cores = λ j k q a b. elim (core_among C D (with_core_in t r i c s) only j q a) [
+        | inl ha ↦ elim (core_among C D (with_core_in t r i c s) only k q b) [
           | inl hb ↦ apart.cores j k q ha hb
           | inr hb ↦ absurd (free_r j (subst (λ x. has_core_at s j x ≡ true) hb.1 ha))
         ]
-        | inr ha ↦ elim (core_among C D (attached t r i c s) only k q b) [
+        | inr ha ↦ elim (core_among C D (with_core_in t r i c s) only k q b) [
           | inl hb ↦ absurd (free_r k (subst (λ x. has_core_at s k x ≡ true) ha.1 hb))
           | inr hb ↦ ha.0 ∙ sym hb.0
         ]
       ];
-      domains = λ j k d a b. apart.domains j k d (domain_among C D (attached t r i c s) only j d a) (domain_among C D (attached t r i c s) only k d b);
+      domains = λ j k d a b. apart.domains j k d (domain_among C D (with_core_in t r i c s) only j d a) (domain_among C D (with_core_in t r i c s) only k d b);
       free = λ j q a b. (
           let f = some_is (at_place (clear_at r s.free) q) a in
           let w = read_clear_at r q s.free f.0 f.1 in
-          elim (core_among C D (attached t r i c s) only j q b) [
+          elim (core_among C D (with_core_in t r i c s) only j q b) [
             | inl hb ↦ apart.free j q (is_some_at (at_place s.free q) f.0 w.1) hb
             | inr hb ↦ w.0 hb.1
           ]);
     }
 
 -- a core of the pool i becomes free
-apart_detached : (g t r i : ℕ) (c : Resource) (s : State) → has_core_at s i r ≡ true → IsApart s → IsApart (detached t r i c s)
+apart_detached : (g t r i : ℕ) (c : Resource) (s : State) → has_core_at s i r ≡ true → IsApart s → IsApart (without_core_in t r i c s)
 apart_detached g t r i c s has apart =
     let Was : ℕ → ℕ → Type 0 = λ j q. has_core_at s j q ≡ true in
     let C : ℕ → ℕ → Type 0 = λ j q. (has_core_at s j q ≡ true) × (q ≢ r) in
     let D : ℕ → ℕ → Type 0 = λ j d. has_domain_at s j d ≡ true in
-    let only : AllOnly C D (detached t r i c s) =
+    let only : AllOnly C D (without_core_in t r i c s) =
     EachAt-change_to (λ j. HasOnly (Was j) (D j)) (λ j. HasOnly (C j) (D j)) i (λ pool. settled t (record pool { resources = clear_at r pool.resources })) s.pools (only_itself s)
     (λ j pool other here. only_map (Was j) (D j) (C j) (D j) pool (λ q h. (h, λ e. other (apart.cores j i r (subst (λ x. has_core_at s j x ≡ true) e h) has))) (λ d h. h) here)
     (λ pool at here. (only_inside (C i) (D i) g).settles t _ (record {
@@ -162,11 +162,11 @@ apart_detached g t r i c s has apart =
       domains = here.domains;
     })) in
     record {
-      cores = λ j k q a b. apart.cores j k q (core_among C D (detached t r i c s) only j q a).0 (core_among C D (detached t r i c s) only k q b).0;
-      domains = λ j k d a b. apart.domains j k d (domain_among C D (detached t r i c s) only j d a) (domain_among C D (detached t r i c s) only k d b);
+      cores = λ j k q a b. apart.cores j k q (core_among C D (without_core_in t r i c s) only j q a).0 (core_among C D (without_core_in t r i c s) only k q b).0;
+      domains = λ j k d a b. apart.domains j k d (domain_among C D (without_core_in t r i c s) only j d a) (domain_among C D (without_core_in t r i c s) only k d b);
       free = λ j q a b. (
-          let f = some_is (at_place (detached t r i c s).free q) a in
-          let h = core_among C D (detached t r i c s) only j q b in
+          let f = some_is (at_place (without_core_in t r i c s).free q) a in
+          let h = core_among C D (without_core_in t r i c s) only j q b in
           elim (read_put_at r q (record { target = None; stall_ends = map (λ p. p.stall_end) c.processors }) s.free f.0 f.1) [
             | inl was ↦ apart.free j q (is_some_at (at_place s.free q) f.0 was) h.0
             | inr e ↦ h.1 e.0
@@ -220,6 +220,6 @@ apart_domain_moved g t d s apart =
     (λ j is4. apart_dom_moved g t d i j.0 domain s (test_at-some s.pools i (λ p. is_some (at_place p.domains d)) pool is2 (is_some_at (at_place pool.domains d) domain is3)) apart))))
 
 pub apart_after : (m : Machine) (s : State) (t : ℕ) (action : Action) → is_enabled m s t action ≡ true → IsApart s → IsApart (after m s t action)
-apart_after m s t (Moved r) on apart = apart_moved t r s apart
-apart_after m s t (DomMoved d) on apart = apart_domain_moved m.config.granularity t d s apart
+apart_after m s t (Moved r) on apart = apart_moved t r.0 s apart
+apart_after m s t (DomMoved d) on apart = apart_domain_moved m.config.granularity t d.0 s apart
 apart_after m s t action on apart = apart_staying m s t action tt on apart

@@ -2,7 +2,7 @@
 use Rattle.std.proofs.Common.{◌≡◌, ◌≢◌, ℕ, Bool, true, false, not, List, [], ◌∷◌, refl, subst, sym, ◌∙◌, ap}
 use Rattle.std.specs.Prelude.{Option, Some, None, is_some, slice_get, ◌&&◌, ◌||◌, ◌==◌, ◌/◌, ◌%◌, slice_index_or, bit_and}
 use Rattle.std.specs.List.{list_any, AllByRecursion}
-use Rattle.sched_base.specs.Numbers.{core_set}
+use Rattle.sched_base.specs.Numbers.{core_set, domain}
 use Rattle.sched_base.specs.declared.UnitId.{UnitId}
 use Rattle.sched_base.specs.declared.Cores.{Cores}
 use Rattle.sched_model.specs.declared.state.Processor.{Processor}
@@ -18,7 +18,7 @@ use Rattle.sched_model.specs.Eligible.{is_eligible, is_allowed, cores_of, passes
 use Rattle.sched_model.specs.Policy as policy
 use Rattle.sched_model.specs.Policy.{better_waits, parted_records}
 use Rattle.sched_model.specs.Rtds.{is_before}
-use Rattle.sched_model.specs.Pool.{enabled_in, settled, home_cores, reconsidered, change_processor, without_domain, is_of_domain}
+use Rattle.sched_model.specs.Pool.{enabled_in, settled_pool, home_cores, reconsidered_core, change_processor, without_domain, is_of_domain}
 use Rattle.sched_model.specs.declared.action.Action.TheVariants.{DomMoved}
 use Rattle.sched_model.specs.Machine.{is_null}
 use Rattle.sched_model.specs.Laws.{is_more_urgent}
@@ -63,10 +63,8 @@ each_of P all [] = tt
 each_of P all (u ∷ xs) = (all u, each_of P all xs)
 
 urgent_better : (records : Records) (cur u : UnitId) (since t : ℕ) → is_more_urgent records cur u ≡ true → policy.is_better records cur since t u ≡ true
-urgent_better (Credit2Pool records) cur u since t is = absurd (cc)
 urgent_better (RtdsPool domains) cur u since t is = is
-urgent_better (ArincPool records) cur u since t is = absurd (cc)
-urgent_better (NullPool kept) cur u since t is = absurd (cc)
+urgent_better any cur u since t is = absurd (cc)
 
 and_both : (a b c : Bool) → (b ≡ true → c ≡ true) → (a && b) ≡ true → (a && c) ≡ true
 and_both true b c to is = to is
@@ -82,15 +80,15 @@ none_better t home scheduler r since (Some w) none =
     (λ u is. and_both (is_eligible scheduler home r t u) _ _ (urgent_better scheduler.records w u since t) is) scheduler.queue no))
 
 -- looking at the cores makes them calm
-pub calm_settled : (t : ℕ) (pool : Pool) → IsCalm t (settled t pool)
+pub calm_settled : (t : ℕ) (pool : Pool) → IsCalm t (settled_pool t pool)
 calm_settled t pool r c at =
     let home : ℕ = home_cores pool in
-    let old = read_change_each r (reconsidered t home pool.scheduler) pool.resources c at in
-    let here : CoreIsCalm t home pool.scheduler r (reconsidered t home pool.scheduler r old.0) =
+    let old = read_change_each r (reconsidered_core t home pool.scheduler) pool.resources c at in
+    let here : CoreIsCalm t home pool.scheduler r (reconsidered_core t home pool.scheduler r old.0) =
     by_cond (CoreIsCalm t home pool.scheduler r) old.0.leaving old.0 (record old.0 { pending = old.0.pending || better_waits old.0.cur old.0.since.0 t r home pool.scheduler })
     (λ is stays. absurd (let e : true ≡ false = sym is ∙ stays in cc))
     (λ is stays decided low. none_better t home pool.scheduler r old.0.since.0 old.0.cur (or_right old.0.pending _ decided)) in
-    subst (λ h. CoreIsCalm t h pool.scheduler r c) (sym (home_change_each 0 0 (reconsidered t home pool.scheduler) pool.resources)) (subst (CoreIsCalm t home pool.scheduler r) old.2 here)
+    subst (λ h. CoreIsCalm t h pool.scheduler r c) (sym (home_change_each 0 0 (reconsidered_core t home pool.scheduler) pool.resources)) (subst (CoreIsCalm t home pool.scheduler r) old.2 here)
 
 pub calm_change_processor : (g t p : ℕ) (f : Processor → Processor) (pool : Pool) → IsCalm t pool → IsCalm t (change_processor g p f pool)
 calm_change_processor g t p f pool calms =
@@ -100,10 +98,8 @@ calm_change_processor g t p f pool calms =
 
 -- the same at a later moment of the same window
 passes_same : (records : Records) (scheduler : Scheduler) (home r t next : ℕ) (u : UnitId) → window_of records next ≡ window_of records t → passes records scheduler home r next u ≡ passes records scheduler home r t u
-passes_same (Credit2Pool records) scheduler home r t next u same = refl
-passes_same (RtdsPool domains) scheduler home r t next u same = refl
 passes_same (ArincPool records) scheduler home r t next u same = ap (λ o. is_unit o u) same
-passes_same (NullPool kept) scheduler home r t next u same = refl
+passes_same any scheduler home r t next u same = refl
 
 pub calm_later : (t next home : ℕ) (scheduler : Scheduler) (r : ℕ) (c : Resource) → window_of scheduler.records next ≡ window_of scheduler.records t → calm t home scheduler r c ≡ true → calm next home scheduler r c ≡ true
 calm_later t next home scheduler r c same is = by_cur c.cur is
@@ -133,15 +129,13 @@ abbrev before_of : Option RtdsUnit → Option RtdsUnit → Bool
 before_of a b = elim a as (λ _. Bool) [ None ↦ false | Some x ↦ elim b as (λ _. Bool) [ None ↦ false | Some y ↦ is_before x y ] ]
 
 urgent_parted : (records : Records) (d : ℕ) (cur u : UnitId) → cur.dom.0 ≢ d → u.dom.0 ≢ d → is_more_urgent (parted_records records d) cur u ≡ is_more_urgent records cur u
-urgent_parted (Credit2Pool records) d cur u other other2 = refl
 urgent_parted (RtdsPool domains) d cur u other other2 = ap (λ a. before_of a (rtds_unit (clear_at d domains) cur)) (rtds_parted domains d u other2) ∙ ap (λ b. before_of (rtds_unit domains u) b) (rtds_parted domains d cur other)
-urgent_parted (ArincPool records) d cur u other other2 = refl
-urgent_parted (NullPool kept) d cur u other other2 = refl
+urgent_parted any d cur u other other2 = refl
 
 cores_parted : (affinity : List (Option (List Cores))) (d : ℕ) (u : UnitId) → u.dom.0 ≢ d → cores_of (clear_at d affinity) u ≡ cores_of affinity u
 cores_parted affinity d u other = ap (λ (o : Option (List Cores)). elim o as (λ _. ℕ) [ None ↦ 0 | Some units ↦ (slice_index_or units u.n (core_set 0)).0 ]) (at_place-clear_at_other d u.dom.0 affinity other)
 
-pub calm_without_domain : (g t d : ℕ) (pool : Pool) → is_null pool.scheduler.records ≡ false → enabled_in g t pool (DomMoved d) ≡ true → UnitsAreOwn pool → IsCalm t pool → IsCalm t (without_domain d pool)
+pub calm_without_domain : (g t d : ℕ) (pool : Pool) → is_null pool.scheduler.records ≡ false → enabled_in g t pool (DomMoved (domain d)) ≡ true → UnitsAreOwn pool → IsCalm t pool → IsCalm t (without_domain d pool)
 calm_without_domain g t d pool null on own calms r c at stays decided low = by_cur c.cur (or_left (is_of_domain d c.cur) (is_of_domain d c.saving) (none r c at)) (calms r c at stays decided low)
   where
     none : EachPlace (λ (x : Resource). (is_of_domain d x.cur || is_of_domain d x.saving) ≡ false) pool.resources

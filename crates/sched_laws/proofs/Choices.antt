@@ -10,9 +10,9 @@ use Rattle.sched_model.specs.declared.state.Credit2Records.{Credit2Records}
 use Rattle.sched_model.specs.declared.state.RtdsUnit.{RtdsUnit}
 use Rattle.sched_model.specs.declared.state.Records.TheVariants.{Credit2Pool, RtdsPool, ArincPool, NullPool}
 use Rattle.sched_model.specs.declared.ask.Ask.{Ask}
-use Rattle.sched_model.specs.Eligible.{Decision, is_allowed, is_eligible, is_placed, eligible}
+use Rattle.sched_model.specs.Eligible.{Decision, is_allowed, is_eligible, is_placed, eligible_units}
 use Rattle.sched_model.specs.Arinc.{Window}
-use Rattle.sched_model.specs.Policy.{decision_of, decision_by, choose_window}
+use Rattle.sched_model.specs.Policy.{decision_of, decision_by, arinc_decision}
 use Rattle.sched_model.specs.Credit2 as credit2
 use Rattle.sched_model.specs.Rtds as rtds
 use Rattle.sched_model.specs.NullScheduler as null
@@ -39,26 +39,26 @@ at_unit P u (w ∷ units) has each = elim (one_of (same_unit u w) (has_unit unit
 ]
 
 module _ (P : UnitId → Type 0) where
-  pub greatest_has : (records : Credit2Records) (best : Option UnitId) (units : List UnitId) → IfUnit P best → AllByRecursion P units → IfUnit P (credit2.greatest records best units)
+  pub greatest_has : (records : Credit2Records) (best : Option UnitId) (units : List UnitId) → IfUnit P best → AllByRecursion P units → IfUnit P (credit2.greatest_unit records best units)
   greatest_has records best [] own each = own
   greatest_has records None (u ∷ units) own each = greatest_has records (Some u) units each.0 each.1
   greatest_has records (Some best) (u ∷ units) own each =
       greatest_has records (Some (cond (int_lt (credit2.credit_of records best) (credit2.credit_of records u)) u best)) units (by_cond P _ u best (λ is. each.0) (λ is. own)) each.1
 
-  foremost_has : (domains : List (Option (List RtdsUnit))) (best : Option UnitId) (units : List UnitId) → IfUnit P best → AllByRecursion P units → IfUnit P (rtds.foremost domains best units)
+  foremost_has : (domains : List (Option (List RtdsUnit))) (best : Option UnitId) (units : List UnitId) → IfUnit P best → AllByRecursion P units → IfUnit P (rtds.foremost_unit domains best units)
   foremost_has domains best [] own each = own
   foremost_has domains None (u ∷ units) own each = foremost_has domains (Some u) units each.0 each.1
   foremost_has domains (Some best) (u ∷ units) own each =
       foremost_has domains (Some (cond (rtds.unit_before domains u best) u best)) units (by_cond P _ u best (λ is. each.0) (λ is. own)) each.1
 
   module _ (ask : Ask) (scheduler : Scheduler) (waiting : AllByRecursion P scheduler.queue) (own : (u : UnitId) → ask.cur ≡ Some u → ask.runnable ≡ true → P u) where
-    eligible_have : (records : Records) → AllByRecursion P (eligible (record scheduler { records = records }) ask.home ask.core ask.at)
+    eligible_have : (records : Records) → AllByRecursion P (eligible_units (record scheduler { records = records }) ask.home.0 ask.core.0 ask.at.0)
     eligible_have records = AllByRecursion-filter P P _ (λ u is here. here) scheduler.queue waiting
 
     own2_has : (records : Credit2Records) → IfUnit P (credit2.own_candidate ask scheduler records)
     own2_has records =
         by_option (IfUnit P) ask.cur _ _ (λ is. tt)
-        (λ u is. by_cond (IfUnit P) (ask.runnable && is_allowed scheduler ask.home ask.core u && credit2.domain_has_budget records u) _ _ (λ may. own u is (and_left _ _ (and_left _ _ may))) (λ may. tt))
+        (λ u is. by_cond (IfUnit P) (ask.runnable && is_allowed scheduler ask.home.0 ask.core.0 u && credit2.domain_has_budget records u) _ _ (λ may. own u is (and_left _ _ (and_left _ _ may))) (λ may. tt))
 
     choice2_has : (records : Credit2Records) → IfUnit P (credit2.choice ask scheduler records)
     choice2_has records =
@@ -69,33 +69,33 @@ module _ (P : UnitId → Type 0) where
     own_rt_has : (domains : List (Option (List RtdsUnit))) → IfUnit P (rtds.own_candidate ask scheduler domains)
     own_rt_has domains =
         by_option (IfUnit P) ask.cur _ _ (λ is. tt)
-        (λ u is. by_cond (IfUnit P) (ask.runnable && is_allowed scheduler ask.home ask.core u && nat_lt 0 (rtds.budget_left domains u)) _ _ (λ may. own u is (and_left _ _ (and_left _ _ may))) (λ may. tt))
+        (λ u is. by_cond (IfUnit P) (ask.runnable && is_allowed scheduler ask.home.0 ask.core.0 u && nat_lt 0 (rtds.budget_left domains u)) _ _ (λ may. own u is (and_left _ _ (and_left _ _ may))) (λ may. tt))
 
     choice_rt_has : (domains : List (Option (List RtdsUnit))) → IfUnit P (rtds.choice ask scheduler domains)
     choice_rt_has domains =
         by_cond (IfUnit P) ask.leaving _ _ (λ is. tt)
         (λ is. foremost_has domains (rtds.own_candidate ask scheduler domains) _ (own_rt_has domains) (eligible_have (RtdsPool domains)))
 
-    window_has : (window : Option Window) → IfUnit P (choose_window ask scheduler window).unit
+    window_has : (window : Option Window) → IfUnit P (arinc_decision ask scheduler window).unit
     window_has None = tt
     window_has (Some window) =
         by_option (IfUnit P) window.unit _ _ (λ is. tt)
         (λ u is.
         let goes : Bool = is_unit ask.cur u && ask.runnable in
-        let waits : Bool = has_unit scheduler.queue u && is_eligible scheduler ask.home ask.core ask.at u in
+        let waits : Bool = has_unit scheduler.queue u && is_eligible scheduler ask.home.0 ask.core.0 ask.at.0 u in
         by_cond (IfUnit P) (goes || waits) (Some u) None (λ may. elim (one_of goes waits may) [
           | inl cur ↦ own u (is_unit_same ask.cur u (and_left (is_unit ask.cur u) ask.runnable cur)) (and_right (is_unit ask.cur u) ask.runnable cur)
-          | inr there ↦ at_unit P u scheduler.queue (and_left (has_unit scheduler.queue u) (is_eligible scheduler ask.home ask.core ask.at u) there) waiting
+          | inr there ↦ at_unit P u scheduler.queue (and_left (has_unit scheduler.queue u) (is_eligible scheduler ask.home.0 ask.core.0 ask.at.0 u) there) waiting
         ]) (λ may. tt))
 
-    earliest_has : (units : List UnitId) → AllByRecursion P units → IfUnit P (null.earliest units)
+    earliest_has : (units : List UnitId) → AllByRecursion P units → IfUnit P (null.earliest_unit units)
     earliest_has [] each = tt
     earliest_has (u ∷ units) each = each.0
 
     pub null_has : (kept : List (Option UnitId)) → IfUnit P (null.choice ask scheduler kept)
     null_has kept =
         by_option (IfUnit P) ask.cur _ _ (λ is. earliest_has _ (AllByRecursion-filter P P _ (λ u is here. here) scheduler.queue waiting))
-        (λ u is. by_cond (IfUnit P) (ask.runnable && is_placed scheduler kept ask.home ask.core u) _ _ (λ may. own u is (and_left _ _ may))
+        (λ u is. by_cond (IfUnit P) (ask.runnable && is_placed scheduler kept ask.home.0 ask.core.0 u) _ _ (λ may. own u is (and_left _ _ may))
         (λ may. earliest_has _ (AllByRecursion-filter P P _ (λ u is here. here) scheduler.queue waiting)))
 
     decide2_has : (records : Credit2Records) (chosen : Option UnitId) → IfUnit P chosen → IfUnit P (credit2.decide ask scheduler records chosen).unit
@@ -106,13 +106,13 @@ module _ (P : UnitId → Type 0) where
     decide_rt_has domains None here = tt
     decide_rt_has domains (Some u) here = here
 
-    decide_null_has : (kept : List (Option UnitId)) (chosen : Option UnitId) → IfUnit P chosen → IfUnit P (null.decide ask.core kept chosen).unit
+    decide_null_has : (kept : List (Option UnitId)) (chosen : Option UnitId) → IfUnit P chosen → IfUnit P (null.decide ask.core.0 kept chosen).unit
     decide_null_has kept None here = tt
     decide_null_has kept (Some u) here = here
 
     decision_by_has : (records : Records) → IfUnit P (decision_by records ask scheduler).unit
-    decision_by_has (Credit2Pool records) = decide2_has (credit2.burn_cur ask.cur ask.at records) _ (choice2_has (credit2.burn_cur ask.cur ask.at records))
-    decision_by_has (RtdsPool domains) = decide_rt_has (rtds.burn_cur ask.cur ask.at domains) _ (choice_rt_has (rtds.burn_cur ask.cur ask.at domains))
+    decision_by_has (Credit2Pool records) = decide2_has (credit2.burn_cur ask.cur ask.at.0 records) _ (choice2_has (credit2.burn_cur ask.cur ask.at.0 records))
+    decision_by_has (RtdsPool domains) = decide_rt_has (rtds.burn_cur ask.cur ask.at.0 domains) _ (choice_rt_has (rtds.burn_cur ask.cur ask.at.0 domains))
     decision_by_has (ArincPool records) = window_has _
     decision_by_has (NullPool kept) =
         by_cond (λ (d : Decision). IfUnit P d.unit) ask.leaving _ _ (λ is. tt) (λ is. decide_null_has kept (null.choice ask scheduler kept) (null_has kept))

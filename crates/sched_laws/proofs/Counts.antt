@@ -5,15 +5,15 @@ use Rattle.std.specs.List.{list_any, AllByRecursion}
 use Rattle.std.proofs.lemmas.List.Sums.{sum_by-cons}
 use Rattle.std.proofs.Math.Decide.{dec_le}
 use Rattle.sched_base.specs.declared.UnitId.{UnitId}
-use Rattle.sched_model.specs.Places.{at_place, put_at, clear_at, change_at, change_each, numbered, has_unit, same_unit}
+use Rattle.sched_model.specs.Places.{at_place, put_at, clear_at, change_at, change_each, numbered_items, has_unit, same_unit}
 use Rattle.sched_laws.specs.Each.{EachPlace}
 use Rattle.sched_laws.proofs.Choices.{same_unit_same}
 use Rattle.sched_laws.specs.Counts.{total, one, times}
 
-pub total_is : {X : Type 0} (f : X → ℕ) (n : ℕ) (places : List (Option X)) → sum_by (λ (e : ℕ × X). f e.1) (numbered n places) ≡ total f places
+pub total_is : {X : Type 0} (f : X → ℕ) (n : ℕ) (places : List (Option X)) → sum_by (λ (e : ℕ × X). f e.1) (numbered_items n places) ≡ total f places
 total_is f n [] = refl
 total_is f n (None ∷ places) = total_is f (suc n) places
-total_is {X} f n (Some x ∷ places) = sum_by-cons (λ (e : ℕ × X). f e.1) (n, x) (numbered (suc n) places) ∙ ap (λ k. f x + k) (total_is f (suc n) places)
+total_is {X} f n (Some x ∷ places) = sum_by-cons (λ (e : ℕ × X). f e.1) (n, x) (numbered_items (suc n) places) ∙ ap (λ k. f x + k) (total_is f (suc n) places)
 
 module _ {X : Type 0} (f : X → ℕ) where
   pub total-change_at : (i : ℕ) (h : X → X) (places : List (Option X)) (x : X) → at_place places i ≡ Some x → total f (change_at i h places) + f x ≡ total f places + f (h x)
@@ -108,11 +108,11 @@ total_one {X} f (Some z ∷ places) most apart =
     zero_of (suc n) none = absurd (none (omega arith))
 
 -- what is found among what is numbered
-pub some_numbered : {X : Type 0} (test : X → Bool) (n : ℕ) (places : List (Option X)) → list_any (λ (e : ℕ × X). test e.1) (numbered n places) ≡ true → (i : ℕ) × (x : X) × (at_place places i ≡ Some x) × (test x ≡ true)
+pub some_numbered : {X : Type 0} (test : X → Bool) (n : ℕ) (places : List (Option X)) → list_any (λ (e : ℕ × X). test e.1) (numbered_items n places) ≡ true → (i : ℕ) × (x : X) × (at_place places i ≡ Some x) × (test x ≡ true)
 some_numbered test n [] found = absurd (cc)
 some_numbered test n (None ∷ places) found = (let r = some_numbered test (suc n) places found in (suc r.0, r.1, r.2, r.3))
 some_numbered {X} test n (Some y ∷ places) found =
-    elim (test y) as (λ b. test y ≡ b → (b || list_any (λ (e : ℕ × X). test e.1) (numbered (suc n) places)) ≡ true → (i : ℕ) × (x : X) × (at_place (Some y ∷ places) i ≡ Some x) × (test x ≡ true)) [
+    elim (test y) as (λ b. test y ≡ b → (b || list_any (λ (e : ℕ × X). test e.1) (numbered_items (suc n) places)) ≡ true → (i : ℕ) × (x : X) × (at_place (Some y ∷ places) i ≡ Some x) × (test x ≡ true)) [
       | true ↦ λ is e. (0, y, refl, is)
       | false ↦ λ is e. (let r = some_numbered test (suc n) places e in (suc r.0, r.1, r.2, r.3))
     ] refl found

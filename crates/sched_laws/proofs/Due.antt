@@ -1,5 +1,5 @@
 -- Each core has all its processors, and until the due of a core that is neither leaving nor pending the window of its pool stays the same.
-use Rattle.std.proofs.Common.{◌≡◌, ◌<◌, ◌≤◌, ℕ, true, false, List, [], ◌∷◌, refl, arith, subst, sym, ◌∙◌, ap, cond, Bool}
+use Rattle.std.proofs.Common.{◌≡◌, ◌<◌, ◌≤◌, ℕ, true, false, List, refl, arith, subst, sym, ◌∙◌, ap, Bool}
 use Rattle.std.specs.Prelude.{Option, Some, None, length, nat_le}
 use Rattle.sched_base.specs.declared.Moment.{Moment}
 use Rattle.sched_base.specs.declared.UnitId.{UnitId}
@@ -17,20 +17,18 @@ use Rattle.sched_model.specs.declared.state.Credit2Records.{Credit2Records}
 use Rattle.sched_model.specs.declared.state.ArincRecords.{ArincRecords}
 use Rattle.sched_model.specs.declared.state.RtdsUnit.{RtdsUnit}
 use Rattle.sched_model.specs.State.{has_come}
-use Rattle.sched_model.specs.declared.state.Records.TheVariants.{Credit2Pool, RtdsPool, ArincPool, NullPool}
+use Rattle.sched_model.specs.declared.state.Records.TheVariants.{Credit2Pool, RtdsPool, ArincPool}
 use Rattle.sched_model.specs.Opening.{fresh_core}
-use Rattle.sched_model.specs.Arinc.{Window, window_at, window_unit, present_window}
+use Rattle.sched_model.specs.Arinc.{window_at, window_unit, present_window}
 use Rattle.sched_model.specs.declared.ask.Ask.{Ask}
 use Rattle.sched_model.specs.Eligible.{Decision}
 use Rattle.sched_model.specs.Policy as policy
-use Rattle.sched_model.specs.Policy.{rtds_record, decision_of, decision_by, choose_window, changed_records, joined_records, parted_records}
-use Rattle.sched_model.specs.Credit2 as credit2
-use Rattle.sched_model.specs.Rtds as rtds
-use Rattle.sched_model.specs.NullScheduler as null
+use Rattle.sched_model.specs.Policy.{rtds_record, decision_of, decision_by, arinc_decision, changed_records, joined_records, parted_records}
 use Rattle.sched_model.specs.Pool as pools
-use Rattle.sched_model.specs.Pool.{enabled_in, after_in, settled, home_cores, reconsidered, change_core, change_processor, change_vcpu, change_domain, change_cores_of, does, started_on, decided, same_choice, ask_of, set_leaving, set_moving, set_pending, pause, unpause, set_params, without_domain, with_domain, is_of_domain, is_held, is_open, processor_of, guest_of}
+use Rattle.sched_model.specs.Pool.{change_core, change_cores_of, decided_core as decided, same_choice, ask_of, set_pending, set_params, without_domain, with_domain}
+use Rattle.std.proofs.lemmas.List.{length-map}
 use Rattle.sched_laws.specs.Each.{EachPlace}
-use Rattle.sched_laws.proofs.EachPlace.{EachPlace-change_at, EachPlace-put_at, EachPlace-clear_at, read_change_each, by_option, by_test, by_cond}
+use Rattle.sched_laws.proofs.EachPlace.{EachPlace-change_at, EachPlace-put_at, EachPlace-clear_at, read_change_each, by_option, by_test}
 use Rattle.sched_base.specs.Numbers.{span}
 use Rattle.sched_base.specs.declared.Span.{Span}
 use Rattle.std.specs.Prelude.{unwrap_or}
@@ -45,10 +43,8 @@ use Rattle.sched_laws.proofs.EachPlace.{length_set, length_change_each}
 
 -- what ARINC 653 keeps of the pool, where the pool has windows
 abbrev pub arinc_of : Records → Option ArincRecords
-arinc_of (Credit2Pool records) = None
-arinc_of (RtdsPool domains) = None
 arinc_of (ArincPool records) = Some records
-arinc_of (NullPool kept) = None
+arinc_of any = None
 
 -- the unit that the window is for, where the pool has windows
 abbrev pub window_of : Records → ℕ → Option UnitId
@@ -92,61 +88,35 @@ same_parted (Credit2Pool records) d = refl
 same_parted records d = refl
 
 frame_changed : (records : Records) (frame : Frame) (t : ℕ) → FitsMajor frame → FrameFits records → FrameFits (changed_records records (changes.Frame frame) t)
-frame_changed (Credit2Pool records) frame t good fits arinc other is has = absurd (cc)
-frame_changed (RtdsPool domains) frame t good fits arinc other is has = absurd (cc)
 frame_changed (ArincPool records) frame t good fits arinc other is has =
     let e : ◌≡◌ {A = ArincRecords} (record { frame = Some frame; installed = t }) arinc = cc in
     let f : Some frame ≡ Some other = ap (λ (a : ArincRecords). a.frame) e ∙ has in
     let g : frame ≡ other = cc in
     subst FitsMajor g good
-frame_changed (NullPool kept) frame t good fits arinc other is has = absurd (cc)
+frame_changed any frame t good fits arinc other is has = absurd (cc)
 
 -- a unit with an RTDS record is in a pool without windows
 no_windows : (records : Records) (u : UnitId) (x : RtdsUnit) → rtds_record records u ≡ Some x → (a b : ℕ) → window_of records a ≡ window_of records b
-no_windows (Credit2Pool records) u x is a b = refl
-no_windows (RtdsPool domains) u x is a b = refl
 no_windows (ArincPool records) u x is a b = absurd (cc)
-no_windows (NullPool kept) u x is a b = refl
-
-same_decide2 : (ask : Ask) (scheduler : Scheduler) (records : Credit2Records) (chosen : Option UnitId) → arinc_of (credit2.decide ask scheduler records chosen).records ≡ None
-same_decide2 ask scheduler records None = refl
-same_decide2 ask scheduler records (Some u) = refl
-
-same_decide_rt : (ask : Ask) (domains : List (Option (List RtdsUnit))) (chosen : Option UnitId) → arinc_of (rtds.decide ask domains chosen).records ≡ None
-same_decide_rt ask domains None = refl
-same_decide_rt ask domains (Some u) = refl
-
-same_decide_null : (core : ℕ) (kept : List (Option UnitId)) (chosen : Option UnitId) → arinc_of (null.decide core kept chosen).records ≡ None
-same_decide_null core kept None = refl
-same_decide_null core kept (Some u) = refl
-
-same_choose_window : (ask : Ask) (scheduler : Scheduler) (window : Option Window) → (choose_window ask scheduler window).records ≡ scheduler.records
-same_choose_window ask scheduler None = refl
-same_choose_window ask scheduler (Some window) = refl
+no_windows any u x is a b = refl
 
 same_decision : (records : Records) (ask : Ask) (scheduler : Scheduler) → scheduler.records ≡ records → SameWindows records (decision_by records ask scheduler).records
-same_decision (Credit2Pool records) ask scheduler is = same_decide2 ask scheduler (credit2.burn_cur ask.cur ask.at records) _
-same_decision (RtdsPool domains) ask scheduler is = same_decide_rt ask (rtds.burn_cur ask.cur ask.at domains) _
-same_decision (ArincPool records) ask scheduler is = ap arinc_of (same_choose_window ask scheduler (cond ask.leaving None (present_window records ask.at)) ∙ is)
-same_decision (NullPool kept) ask scheduler is =
-    by_cond (λ (d : Decision). arinc_of d.records ≡ None) ask.leaving (null.decide ask.core (clear_at ask.core kept) None) (null.decide ask.core kept (null.choice ask scheduler kept)) (λ leaves. refl) (λ stays. same_decide_null ask.core kept (null.choice ask scheduler kept))
+same_decision = records_lemmas.same_decision arinc_of no_credit2 no_rtds (λ a b. refl)
 
 not_come : (later n : ℕ) → nat_le n later ≡ false → later < n
 not_come later n is = grind arith
 
 -- until the due of a decision the window is the same
-due_steady : (records : Records) (ask : Ask) (scheduler : Scheduler) → FrameFits records → ask.leaving ≡ false → (later : ℕ) → ask.at ≤ later → has_come later (decision_by records ask scheduler).due ≡ false → window_of records later ≡ window_of records ask.at
-due_steady (Credit2Pool records) ask scheduler fits stays later past low = refl
-due_steady (RtdsPool domains) ask scheduler fits stays later past low = refl
-due_steady (NullPool kept) ask scheduler fits stays later past low = refl
+due_steady : (records : Records) (ask : Ask) (scheduler : Scheduler) → FrameFits records → ask.leaving ≡ false → (later : ℕ) → ask.at.0 ≤ later → has_come later (decision_by records ask scheduler).due ≡ false → window_of records later ≡ window_of records ask.at.0
 due_steady (ArincPool records) ask scheduler fits stays later past low = by_frame records.frame refl
   where
-    by_frame : (frame : Option Frame) → records.frame ≡ frame → window_of (ArincPool records) later ≡ window_of (ArincPool records) ask.at
+    by_frame : (frame : Option Frame) → records.frame ≡ frame → window_of (ArincPool records) later ≡ window_of (ArincPool records) ask.at.0
     by_frame None is = rw (window_unit, present_window, is) refl
     by_frame (Some frame) is =
-        let low2 : has_come later (choose_window ask scheduler (Some (window_at records.installed frame ask.at))).due ≡ false = rw (stays, present_window, is) at low in
-        let steady = unit_steady records.installed frame ask.at later (fits records frame refl is) past (not_come later (window_at records.installed frame ask.at).until low2) in
+        let low2 : has_come later (arinc_decision ask scheduler (Some (window_at records.installed frame ask.at.0))).due ≡ false = rw (stays, present_window, is) at low in
+        let steady = unit_steady records.installed frame ask.at.0 later (fits records frame refl is) past (not_come later (window_at records.installed frame ask.at.0).until low2) in
         rw (window_unit, present_window, is) steady
+due_steady any ask scheduler fits stays later past low = refl
 
 module _ (n g t : ℕ) where
   abbrev pub D : Pool → Type 0
@@ -205,7 +175,7 @@ module _ (n g t : ℕ) where
     queues = λ u pool runs fits. fits;
     dequeues = λ d pool fits. fits;
     decides = λ r c pool at on. d_after_decide r c pool at;
-    saves = λ r c u pool at is on. d_change_core r pools.saved pool (λ x there old. record { processors = old.processors; due = old.due });
+    saves = λ r c u pool at is on. d_change_core r pools.saved_core pool (λ x there old. record { processors = old.processors; due = old.due });
     replenishes = λ u pool on. d_records pool.scheduler.records (policy.replenish pool.scheduler.records t u) pool.resources (records_lemmas.same_replenish arinc_of no_credit2 no_rtds pool.scheduler.records t u);
     dues = λ r u x old pool on is. d_change_core r (pools.due_within t x.budget) pool (λ c at here. record { processors = here.processors; due = λ stays decided later past low. no_windows pool.scheduler.records u x is later t });
     refills = λ d pool on. d_records pool.scheduler.records (policy.refill pool.scheduler.records t d) pool.resources (records_lemmas.same_refill arinc_of no_credit2 no_rtds pool.scheduler.records t d);
@@ -250,15 +220,11 @@ module _ (n g t : ℕ) where
       kept_queue_units d_commands d (numbers_from 0 (pools.unit_count g domain)) (record pool { domains = put_at d domain pool.domains; scheduler = policy.join d (pools.unit_count g domain) params t pool.scheduler })
       (d_records pool.scheduler.records (joined_records pool.scheduler.records params d (pools.unit_count g domain) t) pool.resources (same_joined pool.scheduler.records params d (pools.unit_count g domain) t) fits)
 
-  length_processors : (ends : List Moment) → length (fresh_core ends).processors ≡ length ends
-  length_processors [] = refl
-  length_processors (e ∷ ends) = (let r = length_processors ends in grind (arith, r))
-
   pub d_core_comes : (r : ℕ) (ends : List Moment) (pool : Pool) → length ends ≡ g → D pool → D (record pool { resources = put_at r (fresh_core ends) pool.resources })
   d_core_comes r ends pool whole fits = record {
     count = length_set r _ pool.resources ∙ fits.count;
     frame = fits.frame;
-    cores = EachPlace-put_at (CoreFits g t pool.scheduler.records) r (fresh_core ends) pool.resources fits.cores (record { processors = length_processors ends ∙ whole; due = λ stays decided2 later past low. absurd (cc) });
+    cores = EachPlace-put_at (CoreFits g t pool.scheduler.records) r (fresh_core ends) pool.resources fits.cores (record { processors = length-map ends _ ∙ whole; due = λ stays decided2 later past low. absurd (cc) });
   }
 
   pub d_core_goes : (r : ℕ) (pool : Pool) → D pool → D (record pool { resources = clear_at r pool.resources })

@@ -2,7 +2,7 @@
 use Rattle.std.proofs.Common.{◌≡◌, ℕ, zero, suc, Bool, true, false, List, [], ◌∷◌, refl, subst, cond, ◌⊎◌, inl, inr, length}
 use Rattle.std.specs.Prelude.{Option, Some, None, option_map, is_some, slice_get, ◌&&◌, ◌||◌, ◌+◌, ◌*◌, ◌/◌, ◌%◌}
 use Rattle.std.specs.List.{list_any}
-use Rattle.sched_base.specs.Numbers.{moment, domain as domain_number}
+use Rattle.sched_base.specs.Numbers.{moment, domain as domain_number, core, processor}
 use Rattle.sched_base.specs.declared.UnitId.{UnitId}
 use Rattle.sched_base.specs.declared.VcpuId.{VcpuId}
 use Rattle.sched_model.specs.declared.action.Action.{Action}
@@ -23,7 +23,7 @@ use Rattle.sched_model.specs.State.{is_runnable}
 use Rattle.sched_model.specs.Policy as policy
 use Rattle.sched_model.specs.Policy.{dequeue_domain, rtds_record}
 use Rattle.sched_model.specs.Pool as pools
-use Rattle.sched_model.specs.Pool.{enabled_in, after_in, settled, home_cores, reconsidered, change_core, change_processor, change_vcpu, change_domain, change_cores_of, set_pending, set_leaving, does, queue_unit, started_on, with_records, pause, unpause, unit_of, core_of, processor_of, vcpu_of, guest_of, is_idle, is_held, is_of_domain, unit_count}
+use Rattle.sched_model.specs.Pool.{enabled_in, after_in, settled_pool, home_cores, reconsidered_core, change_core, change_processor, change_vcpu, change_domain, change_cores_of, set_pending, set_leaving, with_doing, queue_unit, started_on, with_records, pause, unpause, unit_of, core_of, processor_of, vcpu_of, guest_of, is_idle, is_held, is_of_domain, unit_count}
 use Rattle.sched_laws.specs.Each.{EachAt}
 use Rattle.sched_laws.proofs.EachPlace.{by_option, by_test, by_cond, length_set, length_change_each, read_change_at}
 use Rattle.sched_laws.proofs.Lists.{length_change_item, read_change_item}
@@ -179,18 +179,19 @@ pub record KeptByCommands (g : ℕ) (P : Pool → Type 0) : Type 0 where
 
 -- kept by each step of an event at t, of which On tells what is known when it comes
 pub record KeptBySteps (g t : ℕ) (On : Pool → Action → Type 0) (P : Pool → Type 0) : Type 0 where
-  pub commands : KeptByCommands g P
-  pub wakes : (v : VcpuId) (pool : Pool) → On pool (Wake v) → P pool → P (change_vcpu v pools.woken pool)
+  pub pends : (r : ℕ) (pool : Pool) → P pool → P (change_core r set_pending pool)
+  pub queues : (u : UnitId) (pool : Pool) → is_runnable g pool u ≡ true → P pool → P (queue_unit u pool)
+  pub wakes : (v : VcpuId) (pool : Pool) → On pool (Wake v) → P pool → P (change_vcpu v pools.woken_vcpu pool)
   pub joins : (v : VcpuId) (r : ℕ) (q : Processor) (pool : Pool) → core_of pool (unit_of g v) ≡ Some r → processor_of g pool (r * g + v.n % g) ≡ Some q → is_idle q ≡ true → ((x : Vcpu) → vcpu_of pool v ≡ Some x → x.asleep_until ≡ None)
       → P pool → P (started_on g t (r * g + v.n % g) v pool)
-  pub blocks : (p : ℕ) (v : VcpuId) (pool : Pool) → guest_of g pool p ≡ Some v → On pool (Block p) → P pool → P (change_processor g p (does Idle) (change_vcpu v (pools.put_to_sleep t) pool))
-  pub arrives : (p : ℕ) (pool : Pool) → On pool (Arrive p) → P pool → P (pools.after_arrive g t p pool)
-  pub decides : (r : ℕ) (c : Resource) (pool : Pool) → at_place pool.resources r ≡ Some c → On pool (Decide r) → P pool → P (pools.after_decide g t r c pool)
-  pub leaves : (p : ℕ) (c : Resource) (pool : Pool) → at_place pool.resources (p / g) ≡ Some c → On pool (Leave p) → P pool → P (pools.after_leave g t p c pool)
-  pub saves : (r : ℕ) (c : Resource) (u : UnitId) (pool : Pool) → at_place pool.resources r ≡ Some c → c.saving ≡ Some u → On pool (Save r) → P pool → P (change_core r pools.saved pool)
+  pub blocks : (p : ℕ) (v : VcpuId) (pool : Pool) → guest_of g pool p ≡ Some v → On pool (Block (processor p)) → P pool → P (change_processor g p (with_doing Idle) (change_vcpu v (pools.put_to_sleep t) pool))
+  pub arrives : (p : ℕ) (pool : Pool) → On pool (Arrive (processor p)) → P pool → P (pools.after_arrive g t p pool)
+  pub decides : (r : ℕ) (c : Resource) (pool : Pool) → at_place pool.resources r ≡ Some c → On pool (Decide (core r)) → P pool → P (pools.after_decide g t r c pool)
+  pub leaves : (p : ℕ) (c : Resource) (pool : Pool) → at_place pool.resources (p / g) ≡ Some c → On pool (Leave (processor p)) → P pool → P (pools.after_leave g t p c pool)
+  pub saves : (r : ℕ) (c : Resource) (u : UnitId) (pool : Pool) → at_place pool.resources r ≡ Some c → c.saving ≡ Some u → On pool (Save (core r)) → P pool → P (change_core r pools.saved_core pool)
   pub replenishes : (u : UnitId) (pool : Pool) → On pool (Repl u) → P pool → P (with_records (policy.replenish pool.scheduler.records t u) pool)
   pub dues : (r : ℕ) (u : UnitId) (x : RtdsUnit) (old pool : Pool) → On old (Repl u) → rtds_record pool.scheduler.records u ≡ Some x → P pool → P (change_core r (pools.due_within t x.budget) pool)
-  pub refills : (d : ℕ) (pool : Pool) → On pool (Refill d) → P pool → P (with_records (policy.refill pool.scheduler.records t d) pool)
+  pub refills : (d : ℕ) (pool : Pool) → On pool (Refill (domain_number d)) → P pool → P (with_records (policy.refill pool.scheduler.records t d) pool)
 
 -- the same, where nothing but the cores' units and times, the domains' sizes and moves, the queue and the records count
 pub record KeptByParts (g t : ℕ) (On : Pool → Action → Type 0) (P : Pool → Type 0) : Type 0 where
@@ -198,11 +199,11 @@ pub record KeptByParts (g t : ℕ) (On : Pool → Action → Type 0) (P : Pool �
   pub domains : (d : ℕ) (f : Domain → Domain) (pool : Pool) → ((x : Domain) → length (f x).vcpus ≡ length x.vcpus) → ((x : Domain) → (f x).moving ≡ x.moving) → P pool → P (change_domain d f pool)
   pub queues : (u : UnitId) (pool : Pool) → is_runnable g pool u ≡ true → P pool → P (queue_unit u pool)
   pub dequeues : (d : ℕ) (pool : Pool) → P pool → P (record pool { scheduler = dequeue_domain d pool.scheduler })
-  pub decides : (r : ℕ) (c : Resource) (pool : Pool) → at_place pool.resources r ≡ Some c → On pool (Decide r) → P pool → P (pools.after_decide g t r c pool)
-  pub saves : (r : ℕ) (c : Resource) (u : UnitId) (pool : Pool) → at_place pool.resources r ≡ Some c → c.saving ≡ Some u → On pool (Save r) → P pool → P (change_core r pools.saved pool)
+  pub decides : (r : ℕ) (c : Resource) (pool : Pool) → at_place pool.resources r ≡ Some c → On pool (Decide (core r)) → P pool → P (pools.after_decide g t r c pool)
+  pub saves : (r : ℕ) (c : Resource) (u : UnitId) (pool : Pool) → at_place pool.resources r ≡ Some c → c.saving ≡ Some u → On pool (Save (core r)) → P pool → P (change_core r pools.saved_core pool)
   pub replenishes : (u : UnitId) (pool : Pool) → On pool (Repl u) → P pool → P (with_records (policy.replenish pool.scheduler.records t u) pool)
   pub dues : (r : ℕ) (u : UnitId) (x : RtdsUnit) (old pool : Pool) → On old (Repl u) → rtds_record pool.scheduler.records u ≡ Some x → P pool → P (change_core r (pools.due_within t x.budget) pool)
-  pub refills : (d : ℕ) (pool : Pool) → On pool (Refill d) → P pool → P (with_records (policy.refill pool.scheduler.records t d) pool)
+  pub refills : (d : ℕ) (pool : Pool) → On pool (Refill (domain_number d)) → P pool → P (with_records (policy.refill pool.scheduler.records t d) pool)
 
 module _ {g : ℕ} {P : Pool → Type 0} (kept : KeptByCommands g P) where
   kept_marked_core : (r : ℕ) (f : Resource → Resource) (pool : Pool) → ((c : Resource) → IsMarked c (f c)) → P pool → P (change_core r f pool)
@@ -220,16 +221,16 @@ module _ {g : ℕ} {P : Pool → Type 0} (kept : KeptByCommands g P) where
   pub kept_set_leaving : (r : ℕ) (pool : Pool) → P pool → P (set_leaving r pool)
   kept_set_leaving r pool here = kept_marked_core r (λ c. record c { leaving = true; pending = c.pending || is_some c.cur }) pool (λ c. is_marked c true (c.pending || is_some c.cur) (λ e. refl) (or_more c.pending (is_some c.cur))) here
 
-  pub kept_settled : (t : ℕ) (pool : Pool) → P pool → P (settled t pool)
+  pub kept_settled : (t : ℕ) (pool : Pool) → P pool → P (settled_pool t pool)
   kept_settled t pool here =
-      kept_marked_each (reconsidered t (home_cores pool) pool.scheduler) pool
+      kept_marked_each (reconsidered_core t (home_cores pool) pool.scheduler) pool
       (λ r c. by_cond (IsMarked c) c.leaving c _ (λ is. marked_itself c) (λ is. is_marked c c.leaving _ (λ e. e) (or_more c.pending _))) here
 
   -- the cores of a domain, and each core, are to decide anew
   pub kept_cores_pending : (d : ℕ) (pool : Pool) → P pool → P (change_cores_of d set_pending pool)
   kept_cores_pending d pool here = kept.marks _ pool (like_of_domain IsMarked d set_pending pool.resources marked_itself marked_pending) here
 
-  pub kept_withdrawn : (d : ℕ) (pool : Pool) → P pool → P (pools.withdrawn d pool)
+  pub kept_withdrawn : (d : ℕ) (pool : Pool) → P pool → P (pools.withdrawn_pool d pool)
   kept_withdrawn d pool here = kept_cores_pending d (record pool { scheduler = dequeue_domain d pool.scheduler }) (kept.dequeues d pool here)
 
   pub kept_pause : (d : ℕ) (pool : Pool) → P pool → P (pause d pool)
@@ -249,7 +250,7 @@ module _ {g : ℕ} {P : Pool → Type 0} (kept : KeptByCommands g P) where
       (λ is2. kept_queue_units d (numbers_from 0 (unit_count g domain)) (change_domain d (λ x. record x { paused = false }) pool) (kept.pausing d false pool here)) (λ is2. here))
 
   -- what a change of parameters marks; a cap that is set makes the cores of the domain due
-  pub kept_marked : (t : ℕ) → ((d : ℕ) (pool : Pool) → P pool → P (change_cores_of d (capped t) pool)) → (change : ParamChange) (pool : Pool) → P pool → P (pools.marked change t pool)
+  pub kept_marked : (t : ℕ) → ((d : ℕ) (pool : Pool) → P pool → P (change_cores_of d (capped t) pool)) → (change : ParamChange) (pool : Pool) → P pool → P (pools.marked_pool change t pool)
   kept_marked t caps (changes.Dom d weight (Some percent)) pool here = caps d.0 pool here
   kept_marked t caps (changes.Frame frame) pool here = kept_marked_each (λ r c. set_pending c) pool (λ r. marked_pending) here
   kept_marked t caps change pool here = here
@@ -257,27 +258,27 @@ module _ {g : ℕ} {P : Pool → Type 0} (kept : KeptByCommands g P) where
 module _ {g t : ℕ} {On : Pool → Action → Type 0} {P : Pool → Type 0} (kept : KeptBySteps g t On P) where
   kept_after_wake : (v : VcpuId) (pool : Pool) → On pool (Wake v) → P pool → P (pools.after_wake g t v pool)
   kept_after_wake v pool on here =
-      let next : Pool = change_vcpu v pools.woken pool in
+      let next : Pool = change_vcpu v pools.woken_vcpu pool in
       let woken : P next = kept.wakes v pool on here in
-      let awake : (y : Vcpu) → vcpu_of next v ≡ Some y → y.asleep_until ≡ None = λ y has. (let x = vcpu_after v pools.woken pool y has in subst (λ (z : Vcpu). z.asleep_until ≡ None) x.2 refl) in
+      let awake : (y : Vcpu) → vcpu_of next v ≡ Some y → y.asleep_until ≡ None = λ y has. (let x = vcpu_after v pools.woken_vcpu pool y has in subst (λ (z : Vcpu). z.asleep_until ≡ None) x.2 refl) in
       by_test P (is_runnable g next (unit_of g v)) _ _
-      (λ runs. by_cond P (pools.is_off next (unit_of g v)) _ _ (λ off. kept.commands.queues (unit_of g v) next runs woken)
+      (λ runs. by_cond P (pools.is_off next (unit_of g v)) _ _ (λ off. kept.queues (unit_of g v) next runs woken)
       (λ off. by_option P (core_of next (unit_of g v)) _ _ (λ is. woken)
       (λ r is. by_option P (processor_of g next (r * g + v.n % g)) _ _ (λ is2. woken)
       (λ q is2. by_cond P (is_idle q) _ _ (λ idle. kept.joins v r q next is is2 idle awake woken) (λ idle. woken)))))
       (λ runs. woken)
 
-  kept_after_block : (p : ℕ) (v : VcpuId) (pool : Pool) → guest_of g pool p ≡ Some v → On pool (Block p) → P pool → P (pools.after_block g t p v pool)
+  kept_after_block : (p : ℕ) (v : VcpuId) (pool : Pool) → guest_of g pool p ≡ Some v → On pool (Block (processor p)) → P pool → P (pools.after_block g t p v pool)
   kept_after_block p v pool guest on here =
-      let next : Pool = change_processor g p (does Idle) (change_vcpu v (pools.put_to_sleep t) pool) in
+      let next : Pool = change_processor g p (with_doing Idle) (change_vcpu v (pools.put_to_sleep t) pool) in
       let slept : P next = kept.blocks p v pool guest on here in
-      by_cond P (is_runnable g next (unit_of g v)) _ _ (λ runs. slept) (λ runs. kept_pending kept.commands (p / g) next slept)
+      by_cond P (is_runnable g next (unit_of g v)) _ _ (λ runs. slept) (λ runs. kept.pends (p / g) next slept)
 
-  kept_after_save : (r : ℕ) (c : Resource) (u : UnitId) (pool : Pool) → at_place pool.resources r ≡ Some c → c.saving ≡ Some u → On pool (Save r) → P pool → P (pools.after_save g r u pool)
+  kept_after_save : (r : ℕ) (c : Resource) (u : UnitId) (pool : Pool) → at_place pool.resources r ≡ Some c → c.saving ≡ Some u → On pool (Save (core r)) → P pool → P (pools.after_save g r u pool)
   kept_after_save r c u pool at is on here =
-      let next : Pool = change_core r pools.saved pool in
+      let next : Pool = change_core r pools.saved_core pool in
       let saved : P next = kept.saves r c u pool at is on here in
-      by_cond P (is_runnable g pool u) _ _ (λ runs. kept.commands.queues u next runs saved) (λ runs. saved)
+      by_cond P (is_runnable g pool u) _ _ (λ runs. kept.queues u next runs saved) (λ runs. saved)
 
   kept_after_replenish : (u : UnitId) (pool : Pool) → On pool (Repl u) → P pool → P (pools.after_replenish t u pool)
   kept_after_replenish u pool on here =
@@ -288,14 +289,14 @@ module _ {g t : ℕ} {On : Pool → Action → Type 0} {P : Pool → Type 0} (ke
 
   pub kept_by_event : (pool : Pool) (action : Action) → On pool action → P pool → P (after_in g t pool action)
   kept_by_event pool (Wake v) on here = kept_after_wake v pool on here
-  kept_by_event pool (Block p) on here = by_option P (guest_of g pool p) _ _ (λ is. here) (λ v is. kept_after_block p v pool is on here)
-  kept_by_event pool (Slice r) on here = kept_pending kept.commands r pool here
+  kept_by_event pool (Block p) on here = by_option P (guest_of g pool p.0) _ _ (λ is. here) (λ v is. kept_after_block p.0 v pool is on here)
+  kept_by_event pool (Slice r) on here = kept.pends r.0 pool here
   kept_by_event pool (Repl u) on here = kept_after_replenish u pool on here
-  kept_by_event pool (Refill d) on here = kept.refills d pool on here
-  kept_by_event pool (Arrive p) on here = kept.arrives p pool on here
-  kept_by_event pool (Decide r) on here = by_option P (at_place pool.resources r) _ _ (λ is. here) (λ c is. kept.decides r c pool is on here)
-  kept_by_event pool (Leave p) on here = by_option P (at_place pool.resources (p / g)) _ _ (λ is. here) (λ c is. kept.leaves p c pool is on here)
-  kept_by_event pool (Save r) on here = by_option P (at_place pool.resources r) _ _ (λ is. here) (λ c is. by_option P c.saving _ _ (λ is2. here) (λ u is2. kept_after_save r c u pool is is2 on here))
+  kept_by_event pool (Refill d) on here = kept.refills d.0 pool on here
+  kept_by_event pool (Arrive p) on here = kept.arrives p.0 pool on here
+  kept_by_event pool (Decide r) on here = by_option P (at_place pool.resources r.0) _ _ (λ is. here) (λ c is. kept.decides r.0 c pool is on here)
+  kept_by_event pool (Leave p) on here = by_option P (at_place pool.resources (p.0 / g)) _ _ (λ is. here) (λ c is. kept.leaves p.0 c pool is on here)
+  kept_by_event pool (Save r) on here = by_option P (at_place pool.resources r.0) _ _ (λ is. here) (λ c is. by_option P c.saving _ _ (λ is2. here) (λ u is2. kept_after_save r.0 c u pool is is2 on here))
   kept_by_event pool action on here = here
 
 module _ {g t : ℕ} {On : Pool → Action → Type 0} {P : Pool → Type 0} (kept : KeptByParts g t On P) where
@@ -310,7 +311,7 @@ module _ {g t : ℕ} {On : Pool → Action → Type 0} {P : Pool → Type 0} (ke
   kept_started_on : (p : ℕ) (v : VcpuId) (pool : Pool) → P pool → P (started_on g t p v pool)
   kept_started_on p v pool here =
       let f : Vcpu → Vcpu = λ x. record x { started = Some (moment t) } in
-      kept_processor p (does (Guest v)) (change_vcpu v f pool) (kept_vcpu v f pool here)
+      kept_processor p (with_doing (Guest v)) (change_vcpu v f pool) (kept_vcpu v f pool here)
 
   pub commands_of : KeptByCommands g P
   commands_of = record {
@@ -322,15 +323,16 @@ module _ {g t : ℕ} {On : Pool → Action → Type 0} {P : Pool → Type 0} (ke
 
   pub steps_of : KeptBySteps g t On P
   steps_of = record {
-    commands = commands_of;
-    wakes = λ v pool on. kept_vcpu v pools.woken pool;
+    pends = kept_pending commands_of;
+    queues = kept.queues;
+    wakes = λ v pool on. kept_vcpu v pools.woken_vcpu pool;
     joins = λ v r q pool is is2 idle awake. kept_started_on (r * g + v.n % g) v pool;
-    blocks = λ p v pool guest on here. kept_processor p (does Idle) (change_vcpu v (pools.put_to_sleep t) pool) (kept_vcpu v (pools.put_to_sleep t) pool here);
-    arrives = λ p pool on here. by_option (λ (next : Pool). P (change_processor g p (does Held) next)) (guest_of g pool p) _ _ (λ is. kept_processor p (does Held) pool here)
-        (λ v is. kept_processor p (does Held) (change_vcpu v (pools.stopped t) pool) (kept_vcpu v (pools.stopped t) pool here));
+    blocks = λ p v pool guest on here. kept_processor p (with_doing Idle) (change_vcpu v (pools.put_to_sleep t) pool) (kept_vcpu v (pools.put_to_sleep t) pool here);
+    arrives = λ p pool on here. by_option (λ (next : Pool). P (change_processor g p (with_doing Held) next)) (guest_of g pool p) _ _ (λ is. kept_processor p (with_doing Held) pool here)
+        (λ v is. kept_processor p (with_doing Held) (change_vcpu v (pools.stopped_vcpu t) pool) (kept_vcpu v (pools.stopped_vcpu t) pool here));
     decides = kept.decides;
     leaves = λ p c pool at on here. by_option (λ (next : Pool). P (change_core (p / g) pools.open_if_left next)) (pools.vcpu_for g pool c (p % g)) _ _
-        (λ is. kept_opened commands_of (p / g) (change_processor g p (does Idle) pool) (kept_processor p (does Idle) pool here))
+        (λ is. kept_opened commands_of (p / g) (change_processor g p (with_doing Idle) pool) (kept_processor p (with_doing Idle) pool here))
         (λ v is. kept_opened commands_of (p / g) (started_on g t p v pool) (kept_started_on p v pool here));
     saves = kept.saves;
     replenishes = kept.replenishes;

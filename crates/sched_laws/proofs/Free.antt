@@ -22,7 +22,7 @@ use Rattle.sched_model.specs.Commands.{carried_out, change_home, pool_of_plan}
 use Rattle.sched_model.specs.Machine.{after, after_at_home, after_stall, after_command, after_moved, after_dom_moved, verdict, settled_at, stall_end_of}
 use Rattle.sched_laws.specs.Each.{EachPlace}
 use Rattle.sched_laws.proofs.EachPlace.{EachPlace-change_at, EachPlace-put_at, EachPlace-clear_at, by_option, by_cond}
-use Rattle.sched_laws.proofs.Steps.{IsKeptAt, FreeFits, NextEnds}
+use Rattle.sched_laws.proofs.Steps.{IsKeptAt, IsKeptTo, FreeFits, NextEnds}
 
 module _ (g : ℕ) (Ends : List Moment → Type 0) (s : State) (fits : FreeFits Ends s) where
   abbrev FreeNow : State → Type 0
@@ -79,11 +79,39 @@ module _ (g : ℕ) (Ends : List Moment → Type 0) (s : State) (fits : FreeFits 
       (λ pool is2. by_option FreeNow (at_place pool.domains d) _ _ (λ is3. (refl, fits))
       (λ domain is3. by_option FreeNow domain.moving _ _ (λ is4. (refl, fits)) (λ j is4. (refl, fits)))))
 
-module _ (m : Machine) (t : ℕ) (End : ℕ → Type 0) (Ends : List Moment → Type 0) (Comes : ℕ → Domain → Type 0) (I H : Pool → Type 0) (kept : IsKeptAt m t End Ends Comes I H) where
+module _ {m : Machine} {t : ℕ} {End : ℕ → Type 0} {Ends : List Moment → Type 0} {Comes : ℕ → Domain → Type 0} {Acts : Action → Type 0} {B I H : Pool → Type 0} (kept : IsKeptTo m t End Ends Comes Acts B I H) where
   -- an action leaves the moment, and keeps what is known of the free cores
-  pub free_after : (s : State) (action : Action) → FreeFits Ends s → NextEnds m t End Ends Comes I H kept s → EachPlace I s.pools → ((after m s t action).now ≡ s.now) × FreeFits Ends (after m s t action)
+  pub free_after : (s : State) (action : Action) → FreeFits Ends s → NextEnds kept s → EachPlace B s.pools → ((after m s t action).now ≡ s.now) × FreeFits Ends (after m s t action)
   free_after s Stall fits ends each = free_stall m.config.granularity Ends s fits t (slice_get m.work.stalls s.next_stall) (λ l k old is here. kept.ends_stall k (stall_end_of m.config.granularity s l.cpu.0 (t + l.span.0)) old (ends l is) here)
   free_after s Xl fits ends each = by_option (FreeNow m.config.granularity Ends s fits) (slice_get m.work.commands s.next_command) _ _ (λ is. (refl, fits)) (λ line is. free_command m.config.granularity Ends s fits m t line)
-  free_after s (Moved r) fits ends each = free_moved m.config.granularity Ends s fits t r (λ i pool at r2 c has. kept.ends_go r2 c pool has (each i pool at))
-  free_after s (DomMoved d) fits ends each = free_dom_moved m.config.granularity Ends s fits t d
+  free_after s (Moved r) fits ends each = free_moved m.config.granularity Ends s fits t r.0 (λ i pool at r2 c has. kept.ends_go r2 c pool has (each i pool at))
+  free_after s (DomMoved d) fits ends each = free_dom_moved m.config.granularity Ends s fits t d.0
   free_after s action fits ends each = free_at_home m.config.granularity Ends s fits t action
+
+-- an action leaves the moment
+pub now_after : (m : Machine) (s : State) (t : ℕ) (action : Action) → (after m s t action).now ≡ s.now
+now_after m s t action = (free_after nothing s action (λ r c at. tt) (λ l is. tt) (λ i pool at. tt)).0
+  where
+    nothing : IsKeptAt m t (λ e. Unit {0}) (λ es. Unit {0}) (λ d x. Unit {0}) (λ p. Unit {0}) (λ p. Unit {0})
+    nothing = record {
+      stays = λ pool w. tt;
+      weakens = λ pool w. tt;
+      settles = λ pool w. tt;
+      stalls = λ p end pool near w. tt;
+      acts = λ pool action of on w. tt;
+      leaves = λ r pool w. tt;
+      moves = λ d i pool w. tt;
+      pauses = λ d pool w. tt;
+      unpauses = λ d pool w. tt;
+      changes = λ change pool good w. tt;
+      core_comes = λ r ends pool none good w. tt;
+      rtds = λ period budget extra u pool good w. tt;
+      ends_stall = λ k end ends e es. tt;
+      ends_go = λ r c pool at w. tt;
+      core_goes = λ r pool on w. tt;
+      domain_is = λ d domain pool at w. tt;
+      domain_comes = λ d domain pool stays none comes w. tt;
+      domain_goes = λ d pool on w. tt;
+      domain_leaves = λ d pool null on w. tt;
+      empty = λ kind. tt;
+    }

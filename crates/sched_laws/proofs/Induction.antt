@@ -8,7 +8,7 @@ use Rattle.sched_model.specs.declared.state.State.{State}
 use Rattle.sched_model.specs.Opening.{opening}
 use Rattle.sched_model.specs.declared.action.Action.{Action}
 use Rattle.sched_model.specs.Machine.{is_enabled, after}
-use Rattle.sched_model.specs.Runs.{Reached, action_of, end_of, after_quiet, after_event, IsNextEvent, IsRunFrom, IsRun, begun, after_entry, after_entries}
+use Rattle.sched_model.specs.Runs.{Reached, action_of, end_of, after_quiet, after_event, IsNextEvent, IsRunFrom, IsRun, run_start, after_entry, after_entries}
 
 module _ (m : Machine) (J : State → Type 0) (acts : (s : State) (action : Action) → is_enabled m s s.now action ≡ true → J s → J (after m s s.now action)) (passes : (s : State) (next : ℕ) → J s → J (record s { now = next })) where
   kept_by_quiet : (end : Option ℕ) (from : Reached) → J from.state → J (after_quiet end from).state
@@ -24,5 +24,5 @@ module _ (m : Machine) (J : State → Type 0) (acts : (s : State) (action : Acti
   kept_from from (entry ∷ entries) run here =
       kept_from (after_entry m from entry) entries run.1 (kept_by_event entry.event (action_of entry.event) from run.0.event here)
 
-  pub kept_by_runs : (entries : List Entry) → IsRun m entries → J (opening m) → J (after_entries m (begun m) entries).state
-  kept_by_runs entries run here = kept_from (begun m) entries run here
+  pub kept_by_runs : (entries : List Entry) → IsRun m entries → J (opening m) → J (after_entries m (run_start m) entries).state
+  kept_by_runs entries run here = kept_from (run_start m) entries run here

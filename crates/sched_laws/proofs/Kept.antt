@@ -1,7 +1,7 @@
 -- From what each step keeps in one pool to what each enabled action keeps in every pool.
 use Rattle.std.proofs.Common.{◌≡◌, ℕ, suc, Bool, true, false, List, [], ◌∷◌}
 use Rattle.std.specs.Prelude.{Option, Some, None, Ok, Err, ◌==◌, ◌/◌, unwrap_or, slice_get, is_some, length}
-use Rattle.sched_base.specs.Numbers.{moment, span}
+use Rattle.sched_base.specs.Numbers.{moment, span, core as core_number, domain as domain_number}
 use Rattle.sched_base.specs.declared.Moment.{Moment}
 use Rattle.sched_base.specs.declared.Span.{Span}
 use Rattle.sched_model.specs.declared.config.Config.{Config}
@@ -18,7 +18,7 @@ use Rattle.sched_model.specs.declared.state.State.{State}
 use Rattle.sched_model.specs.declared.state.Pool.{Pool}
 use Rattle.sched_model.specs.Opening.{fresh_core, empty_pool, core_count}
 use Rattle.sched_model.specs.declared.action.Action.{Action}
-use Rattle.sched_model.specs.Pool.{enabled_in, after_in, settled, change_processor, set_leaving, set_moving, pause, unpause, set_params, without_domain, with_domain}
+use Rattle.sched_model.specs.Pool.{enabled_in, after_in, settled_pool, change_processor, set_leaving, set_moving, pause, unpause, set_params, without_domain, with_domain}
 use Rattle.sched_model.specs.declared.action.Action.TheVariants.{Stall, Xl, Moved, DomMoved}
 use Rattle.sched_model.specs.Actions.{home_of, home_of_core, home_of_domain, change_pool}
 use Rattle.sched_model.specs.Commands.{carried_out, change_home, set_rtds, set_rtds_unit, pool_of_plan}
@@ -28,7 +28,7 @@ use Rattle.sched_base.specs.Numbers.{domain as domain_number}
 use Rattle.sched_model.specs.declared.config.ParamChange.TheVariants as changes
 use Rattle.sched_model.specs.declared.work.CommandLine.{CommandLine}
 use Rattle.sched_model.specs.declared.work.StallLine.{StallLine}
-use Rattle.sched_model.specs.Machine.{is_enabled, after, after_at_home, after_stall, after_command, stalled, verdict, settled_at}
+use Rattle.sched_model.specs.Machine.{is_enabled, after, after_at_home, after_stall, after_command, with_stall_end, verdict, settled_at}
 use Rattle.sched_laws.specs.StateLaws.{has_core_at, has_domain_at}
 use Rattle.sched_laws.specs.Each.{EachAt, EachPlace}
 use Rattle.sched_laws.proofs.EachPlace.{EachAt-change_at, EachAt-put_at, EachAt-clear_at, by_option, by_cond}
@@ -39,7 +39,7 @@ IsFresh c = (ends : List Moment) × (c ≡ fresh_core ends)
 
 -- kept by each step inside of a pool
 pub record IsKeptInside (g : ℕ) (I : Pool → Type 0) : Type 0 where
-  pub settles : (t : ℕ) (pool : Pool) → I pool → I (settled t pool)
+  pub settles : (t : ℕ) (pool : Pool) → I pool → I (settled_pool t pool)
   pub stalls : (p end : ℕ) (pool : Pool) → I pool → I (change_processor g p (λ q. record q { stall_end = moment end }) pool)
   pub acts : (t : ℕ) (pool : Pool) (action : Action) → enabled_in g t pool action ≡ true → I pool → I (after_in g t pool action)
   pub leaves : (r : ℕ) (pool : Pool) → I pool → I (set_leaving r pool)
@@ -52,9 +52,9 @@ pub record IsKeptInside (g : ℕ) (I : Pool → Type 0) : Type 0 where
 pub record IsKept (g : ℕ) (I : Pool → Type 0) : Type 0 where
   pub inside : IsKeptInside g I
   pub core_comes : (r : ℕ) (ends : List Moment) (pool : Pool) → at_place pool.resources r ≡ None → I pool → I (record pool { resources = put_at r (fresh_core ends) pool.resources })
-  pub core_goes : (t r : ℕ) (pool : Pool) → enabled_in g t pool (Moved r) ≡ true → I pool → I (record pool { resources = clear_at r pool.resources })
+  pub core_goes : (t r : ℕ) (pool : Pool) → enabled_in g t pool (Moved (core_number r)) ≡ true → I pool → I (record pool { resources = clear_at r pool.resources })
   pub domain_comes : (t d : ℕ) (domain : Domain) (params : DomParams) (pool : Pool) → domain.moving ≡ None → at_place pool.domains d ≡ None → I pool → I (with_domain g t d domain params pool)
-  pub domain_goes : (t d : ℕ) (pool : Pool) → enabled_in g t pool (DomMoved d) ≡ true → I pool → I (without_domain d pool)
+  pub domain_goes : (t d : ℕ) (pool : Pool) → enabled_in g t pool (DomMoved (domain_number d)) ≡ true → I pool → I (without_domain d pool)
   pub empty : (config : Config) (params : PoolParams) → I (empty_pool config params)
   pub opens : (config : Config) (params : PoolParams) (cores : List (Option Resource)) → length cores ≡ core_count config → EachPlace IsFresh cores → I (record (empty_pool config params) { resources = cores })
 
@@ -81,17 +81,17 @@ module _ (g : ℕ) (I : ℕ → Pool → Type 0) (kept : (i : ℕ) → IsKeptIns
 
   -- an event in its home
   kept_at : (s : State) (t : ℕ) (action : Action) (home : Option ℕ) → elim home [ None ↦ false | Some i ↦ test_at s.pools i (λ pool. enabled_in g t pool action) ] ≡ true
-      → EachAt I s.pools → EachAt I (elim home as (λ _. State) [ None ↦ s | Some i ↦ change_pool i (λ pool. settled t (after_in g t pool action)) s ]).pools
+      → EachAt I s.pools → EachAt I (elim home as (λ _. State) [ None ↦ s | Some i ↦ change_pool i (λ pool. settled_pool t (after_in g t pool action)) s ]).pools
   kept_at s t action None on each = each
   kept_at s t action (Some i) on each =
-      kept_change i (λ pool. settled t (after_in g t pool action)) s (λ pool at here. (kept i).settles t _ ((kept i).acts t pool action (passes_at s.pools i (λ p. enabled_in g t p action) pool at on) here)) each
+      kept_change i (λ pool. settled_pool t (after_in g t pool action)) s (λ pool at here. (kept i).settles t _ ((kept i).acts t pool action (passes_at s.pools i (λ p. enabled_in g t p action) pool at on) here)) each
 
   pub kept_at_home : (s : State) (t : ℕ) (action : Action) → elim (home_of g s action) [ None ↦ false | Some i ↦ test_at s.pools i (λ pool. enabled_in g t pool action) ] ≡ true
       → EachAt I s.pools → EachAt I (after_at_home g s t action).pools
   kept_at_home s t action on each = kept_at s t action (home_of g s action) on each
 
   -- a stall
-  pub kept_stalled : (p end : ℕ) (s : State) → EachAt I s.pools → EachAt I (stalled g p end s).pools
+  pub kept_stalled : (p end : ℕ) (s : State) → EachAt I s.pools → EachAt I (with_stall_end g p end s).pools
   kept_stalled p end s each =
       by_option (λ (next : State). EachAt I next.pools) (home_of_core s (p / g)) _ _
       (λ is. each)
@@ -104,7 +104,7 @@ module _ (g : ℕ) (I : ℕ → Pool → Type 0) (kept : (i : ℕ) → IsKeptIns
 
   pub kept_settled_at : (t : ℕ) (home : Option ℕ) (s : State) → EachAt I s.pools → EachAt I (settled_at t home s).pools
   kept_settled_at t None s each = each
-  kept_settled_at t (Some i) s each = kept_change i (settled t) s (λ pool at. (kept i).settles t pool) each
+  kept_settled_at t (Some i) s each = kept_change i (settled_pool t) s (λ pool at. (kept i).settles t pool) each
 
   kept_set_rtds_unit : (i t : ℕ) (period budget : Option Span) (extra : Option Bool) (u : UnitId) (pool : Pool) → I i pool → I i (set_rtds_unit t period budget extra u pool)
   kept_set_rtds_unit i t period budget extra u pool here = by_option (I i) (rtds_record pool.scheduler.records u) _ _ (λ is. here) (λ x is. (kept i).changes (changes.«Unit» u (unwrap_or period (span x.next_period)) (unwrap_or budget (span x.next_budget)) (unwrap_or extra x.next_extra)) t pool here)

@@ -2,7 +2,7 @@
 use Rattle.std.proofs.Common.{◌≡◌, ◌≢◌, ◌<◌, ◌≤◌, ℕ, zero, suc, Bool, true, false, not, List, [], ◌∷◌, refl, arith, subst, sym, ◌∙◌, ap, cond, ◌⊎◌, inl, inr}
 use Rattle.std.specs.Prelude.{Option, Some, None, is_some, is_none, length, ◌-◌, ◌&&◌, ◌||◌, ◌==◌, ◌+◌, ◌*◌, ◌/◌}
 use Rattle.std.specs.List.{list_all}
-use Rattle.sched_base.specs.Numbers.{moment, domain as domain_number, pool as pool_number}
+use Rattle.sched_base.specs.Numbers.{moment, domain as domain_number, pool as pool_number, core}
 use Rattle.sched_base.specs.declared.Moment.{Moment}
 use Rattle.sched_base.specs.declared.UnitId.{UnitId}
 use Rattle.sched_model.specs.declared.config.Config.{Config}
@@ -15,10 +15,9 @@ use Rattle.sched_model.specs.declared.state.Pool.{Pool}
 use Rattle.sched_model.specs.State.{is_awake, is_runnable, runnable_among, unit_runnable}
 use Rattle.sched_model.specs.Opening.{fresh_core, empty_pool, core_count}
 use Rattle.sched_model.specs.Policy as policy
-use Rattle.sched_model.specs.Policy.{decision_of, after_decision, dequeue_domain, rtds_record}
 use Rattle.sched_model.specs.Pool as pools
 use Rattle.sched_model.specs.declared.action.Action.{Action}
-use Rattle.sched_model.specs.Pool.{enabled_in, after_in, settled, home_cores, reconsidered, change_core, change_processor, change_vcpu, change_domain, change_cores_of, set_pending, does, queue_unit, started_on, decided, same_choice, ask_of, set_leaving, set_moving, pause, unpause, set_params, without_domain, with_domain, with_records, is_of_domain}
+use Rattle.sched_model.specs.Pool.{enabled_in, after_in, change_domain, set_pending, unpause, set_params, without_domain, is_of_domain}
 use Rattle.sched_model.specs.declared.action.Action.TheVariants.{Moved, DomMoved, Wake, Block, Slice, Repl, Refill, Arrive, Decide, Leave, Save}
 use Rattle.sched_laws.specs.Each.{EachPlace}
 use Rattle.sched_laws.proofs.EachPlace.{EachPlace-put_at, EachPlace-clear_at, EachPlace-empty, read_change_each, read_change_at, by_option, by_cond}
@@ -71,24 +70,24 @@ module _ (g : ℕ) (some : 0 < g) where
 
   one_acts : (t : ℕ) (pool : Pool) (action : Action) → enabled_in g t pool action ≡ true → IsKnownPool g pool → One0 (after_in g t pool action)
   one_acts t pool (Wake v) on known = one_after_wake g some t v pool known.one
-  one_acts t pool (Block p) on known = by_option One0 (pools.guest_of g pool p) _ _ (λ is. known.one) (λ v is. one_after_block g some t p v pool is known.sound known.one)
-  one_acts t pool (Slice r) on known = one_change_core g some Nobody r _ pool (λ c. (refl, refl, λ e. refl)) known.one
+  one_acts t pool (Block p) on known = by_option One0 (pools.guest_of g pool p.0) _ _ (λ is. known.one) (λ v is. one_after_block g some t p.0 v pool is known.sound known.one)
+  one_acts t pool (Slice r) on known = one_change_core g some Nobody r.0 _ pool (λ c. (refl, refl, λ e. refl)) known.one
   one_acts t pool (Repl u) on known = one_after_replenish g some t u pool known.one
   one_acts t pool (Refill d) on known = one_scheduler g some Nobody _ pool refl known.one
-  one_acts t pool (Arrive p) on known = one_after_arrive g some t p pool known.one
-  one_acts t pool (Decide r) on known = by_option One0 (at_place pool.resources r) _ _ (λ is. known.one)
+  one_acts t pool (Arrive p) on known = one_after_arrive g some t p.0 pool known.one
+  one_acts t pool (Decide r) on known = by_option One0 (at_place pool.resources r.0) _ _ (λ is. known.one)
       (λ c is.
-      let may = passes_at pool.resources r (λ (x : Resource). list_all pools.is_held x.processors && pools.is_open x && pools.first_up t x) c is on in
+      let may = passes_at pool.resources r.0 (λ (x : Resource). list_all pools.is_held x.processors && pools.is_open x && pools.first_up t x) c is on in
       let all : list_all pools.is_held c.processors ≡ true = and_left _ _ (and_left (list_all pools.is_held c.processors && pools.is_open c) (pools.first_up t c) may) in
       let open_c : pools.is_open c ≡ true = and_right (list_all pools.is_held c.processors) _ (and_left (list_all pools.is_held c.processors && pools.is_open c) (pools.first_up t c) may) in
       let any = some_if_all t c.processors (and_right (list_all pools.is_held c.processors && pools.is_open c) (pools.first_up t c) may) all in
-      one_after_decide g t r c pool is ((known.sound r c is).gathers open_c any).1 known.one)
-  one_acts t pool (Leave p) on known = by_option One0 (at_place pool.resources (p / g)) _ _ (λ is. known.one) (λ c is. one_after_leave g some t p c pool known.one)
-  one_acts t pool (Save r) on known = by_option One0 (at_place pool.resources r) _ _ (λ is. known.one) (λ c is. by_option One0 c.saving _ _ (λ is2. known.one) (λ u is2. one_after_save g some r u c pool is is2 known.one))
+      one_after_decide g t r.0 c pool is ((known.sound r.0 c is).gathers open_c any).1 known.one)
+  one_acts t pool (Leave p) on known = by_option One0 (at_place pool.resources (p.0 / g)) _ _ (λ is. known.one) (λ c is. one_after_leave g some t p.0 c pool known.one)
+  one_acts t pool (Save r) on known = by_option One0 (at_place pool.resources r.0) _ _ (λ is. known.one) (λ c is. by_option One0 c.saving _ _ (λ is2. known.one) (λ u is2. one_after_save g some r.0 u c pool is is2 known.one))
   one_acts t pool action on known = known.one
 
   -- a domain whose units run no more: they leave the queue, and the cores that run one are pending
-  one_withdrawn : (d : ℕ) (f : Domain → Domain) (pool : Pool) → ((x : Domain) (n : ℕ) → unit_runnable g (f x) n ≡ false) → One0 pool → One0 (pools.withdrawn d (change_domain d f pool))
+  one_withdrawn : (d : ℕ) (f : Domain → Domain) (pool : Pool) → ((x : Domain) (n : ℕ) → unit_runnable g (f x) n ≡ false) → One0 pool → One0 (pools.withdrawn_pool d (change_domain d f pool))
   one_withdrawn d f pool stops one =
       let queue : List UnitId = pool.scheduler.queue in
       let keep : UnitId → Bool = λ u. not (u.dom.0 == d) in
@@ -218,7 +217,7 @@ module _ (g : ℕ) (some : 0 < g) where
       }
 
   -- a domain goes: none of its units waits or is on a core
-  one_without : (t d : ℕ) (pool : Pool) → enabled_in g t pool (DomMoved d) ≡ true → UnitsAreOwn pool → One0 pool → One0 (without_domain d pool)
+  one_without : (t d : ℕ) (pool : Pool) → enabled_in g t pool (DomMoved (domain_number d)) ≡ true → UnitsAreOwn pool → One0 pool → One0 (without_domain d pool)
   one_without t d pool on own one =
       let moving = and_left (test_at pool.domains d (λ x. is_some x.moving)) _ on in
       let none = at_numbered (λ (c : Resource). (is_of_domain d c.cur || is_of_domain d c.saving) ≡ false) 0 pool.resources (none_passes _ _ (not_true _ (and_right (test_at pool.domains d (λ x. is_some x.moving)) _ on))) in
@@ -247,7 +246,7 @@ module _ (g : ℕ) (some : 0 < g) where
         cur = EachPlace-put_at (CurRuns g pool.domains) r (fresh_core ends) pool.resources one.cur (λ u is. absurd (cc));
       }
 
-  one_core_goes : (t r : ℕ) (pool : Pool) → enabled_in g t pool (Moved r) ≡ true → One0 pool → One0 (record pool { resources = clear_at r pool.resources })
+  one_core_goes : (t r : ℕ) (pool : Pool) → enabled_in g t pool (Moved (core r)) ≡ true → One0 pool → One0 (record pool { resources = clear_at r pool.resources })
   one_core_goes t r pool on one =
       let found = some-test_at pool.resources r (λ c. c.leaving && is_none c.cur && is_none c.saving && not c.pending && pools.is_open c && pools.first_up t c) on in
       let c : Resource = found.0 in

@@ -1,8 +1,9 @@
 -- What holds of each element of a list, and of what stands at a place.
-use Rattle.std.proofs.Common.{arith, length, ◌≡◌, ◌≢◌, ℕ, zero, suc, Bool, true, false, List, [], ◌∷◌, ◌++◌, refl, subst, ap, cond, ◌⊎◌, inl, inr}
+use Rattle.std.proofs.Common.{arith, length, ◌≡◌, ◌≢◌, ◌<◌, ℕ, zero, suc, Bool, true, false, List, [], ◌∷◌, ◌++◌, refl, subst, ap, cond, ◌⊎◌, inl, inr}
 use Rattle.std.specs.Prelude.{Option, Some, None, is_some, option_map, filter, ◌&&◌, ◌||◌, slice_get}
 use Rattle.std.specs.List.{list_any, AllByRecursion}
-use Rattle.sched_model.specs.Places.{at_place, put_at, clear_at, change_at, change_item, test_at, numbered}
+use Rattle.std.specs.Option.{IfSome}
+use Rattle.sched_model.specs.Places.{at_place, put_at, clear_at, change_at, change_item, test_at, numbered_items}
 use Rattle.sched_laws.specs.Each.{EachPlace}
 use Rattle.sched_laws.proofs.EachPlace.{at_place-change_at_other, at_place-put_at_other, at_place-clear_at_other, at_place-clear_at}
 use Rattle.sched_laws.proofs.Bools.{both}
@@ -34,7 +35,7 @@ none_passes test (x ∷ xs) none =
     ] refl none
 
 -- what holds of each numbered thing holds at each place
-pub at_numbered : {X : Type 0} (P : X → Type 0) (n : ℕ) (places : List (Option X)) → AllByRecursion (λ (e : ℕ × X). P e.1) (numbered n places) → EachPlace P places
+pub at_numbered : {X : Type 0} (P : X → Type 0) (n : ℕ) (places : List (Option X)) → AllByRecursion (λ (e : ℕ × X). P e.1) (numbered_items n places) → EachPlace P places
 at_numbered P n [] each i x at = absurd (cc)
 at_numbered P n (None ∷ places) each zero x at = absurd (cc)
 at_numbered P n (None ∷ places) each (suc i) x at = at_numbered P (suc n) places each i x at
@@ -87,6 +88,19 @@ some_is (Some x) some = (x, refl)
 
 pub is_some_at : {X : Type 0} (o : Option X) (x : X) → o ≡ Some x → is_some o ≡ true
 is_some_at o x is = rw is refl
+
+pub some_same : {X : Type 0} {x y : X} → Some x ≡ Some y → x ≡ y
+some_same is = cc
+
+pub if_some : {X : Type 0} (o : Option X) (P : X → Type 0) → ((x : X) → o ≡ Some x → P x) → IfSome o P
+if_some None P all = tt
+if_some (Some x) P all = all x refl
+
+-- below the end of a list something stands
+pub item_below : {X : Type 0} (xs : List X) (n : ℕ) → n < length xs → (x : X) × (slice_get xs n ≡ Some x)
+item_below [] n below = absurd (omega arith)
+item_below (x ∷ xs) zero below = (x, refl)
+item_below (x ∷ xs) (suc n) below = item_below xs n (omega arith)
 
 -- a change after which what passed passes
 pub test_at-change_at_keeps : {X : Type 0} (i j : ℕ) (f : X → X) (test : X → Bool) (places : List (Option X)) → ((x : X) → i ≡ j → at_place places i ≡ Some x → test x ≡ true → test (f x) ≡ true) → test_at places j test ≡ true → test_at (change_at i f places) j test ≡ true

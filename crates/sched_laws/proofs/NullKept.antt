@@ -8,21 +8,17 @@ use Rattle.sched_base.specs.declared.Moment.{Moment}
 use Rattle.sched_model.specs.declared.state.Resource.{Resource}
 use Rattle.sched_model.specs.declared.state.Pool.{Pool}
 use Rattle.sched_model.specs.declared.state.Scheduler.{Scheduler}
-use Rattle.sched_model.specs.declared.state.RtdsUnit.{RtdsUnit}
-use Rattle.sched_model.specs.declared.state.Credit2Records.{Credit2Records}
 use Rattle.sched_model.specs.declared.state.Records.{Records}
 use Rattle.sched_model.specs.declared.state.Records.TheVariants.{Credit2Pool, RtdsPool, ArincPool, NullPool}
 use Rattle.sched_model.specs.Places.{at_place, put_at, clear_at, same_unit}
-use Rattle.sched_model.specs.Arinc.{Window, present_window}
 use Rattle.sched_model.specs.declared.ask.Ask.{Ask}
 use Rattle.sched_model.specs.Eligible.{Decision, is_placed}
-use Rattle.sched_model.specs.Policy.{decision_by, choose_window}
-use Rattle.sched_model.specs.Credit2 as credit2
-use Rattle.sched_model.specs.Rtds as rtds
+use Rattle.sched_model.specs.Policy.{decision_by}
 use Rattle.sched_model.specs.NullScheduler as null
 use Rattle.sched_model.specs.Pool as pools
-use Rattle.sched_model.specs.Pool.{ask_of, decided, same_choice}
+use Rattle.sched_model.specs.Pool.{ask_of, decided_core, same_choice}
 use Rattle.sched_laws.specs.Each.{EachAt}
+use Rattle.sched_laws.proofs.Records.{decided_is}
 use Rattle.sched_laws.proofs.EachPlace.{read_put_at, read_clear_at, by_test, by_cond}
 use Rattle.sched_laws.proofs.Lists.{AllByRecursion-map}
 use Rattle.sched_laws.proofs.Choices.{null_has}
@@ -35,10 +31,8 @@ use Rattle.sched_laws.proofs.EachPlace.{at_place-put_at, at_place-put_at_other, 
 
 -- the units for which the cores are kept, where the pool is a null pool
 abbrev pub kept_of : Records → Option (List (Option UnitId))
-kept_of (Credit2Pool records) = None
-kept_of (RtdsPool domains) = None
-kept_of (ArincPool records) = None
 kept_of (NullPool kept) = Some kept
+kept_of any = None
 
 pub record KeptFits (kept : List (Option UnitId)) (cores : List (Option Resource)) : Type 0 where
   pub count : length kept ≡ length cores
@@ -54,7 +48,7 @@ pub null_fits : (kept : List (Option UnitId)) (cores : List (Option Resource)) �
 null_fits kept cores fits other is = (let e : kept ≡ other = cc in subst (λ k. KeptFits k cores) e fits)
 
 -- what is kept without the units that pass a test
-pub read_released : (test : UnitId → Bool) (kept : List (Option UnitId)) (q : ℕ) (w : UnitId) → at_place (null.released test kept) q ≡ Some w → (at_place kept q ≡ Some w) × (test w ≡ false)
+pub read_released : (test : UnitId → Bool) (kept : List (Option UnitId)) (q : ℕ) (w : UnitId) → at_place (null.kept_without test kept) q ≡ Some w → (at_place kept q ≡ Some w) × (test w ≡ false)
 read_released test [] q w at = absurd (cc)
 read_released test (None ∷ kept) zero w at = absurd (cc)
 read_released test (Some x ∷ kept) zero w at =
@@ -64,7 +58,7 @@ read_released test (Some x ∷ kept) zero w at =
     ] refl at
 read_released test (o ∷ kept) (suc q) w at = read_released test kept q w at
 
-pub at_released : (test : UnitId → Bool) (kept : List (Option UnitId)) (q : ℕ) (w : UnitId) → at_place kept q ≡ Some w → test w ≡ false → at_place (null.released test kept) q ≡ Some w
+pub at_released : (test : UnitId → Bool) (kept : List (Option UnitId)) (q : ℕ) (w : UnitId) → at_place kept q ≡ Some w → test w ≡ false → at_place (null.kept_without test kept) q ≡ Some w
 at_released test [] q w at fails = absurd (cc)
 at_released test (None ∷ kept) zero w at fails = absurd (cc)
 at_released test (Some x ∷ kept) zero w at fails =
@@ -74,7 +68,7 @@ at_released test (Some x ∷ kept) zero w at fails =
     ] refl
 at_released test (o ∷ kept) (suc q) w at fails = at_released test kept q w at fails
 
-pub length_released : (test : UnitId → Bool) (kept : List (Option UnitId)) → length (null.released test kept) ≡ length kept
+pub length_released : (test : UnitId → Bool) (kept : List (Option UnitId)) → length (null.kept_without test kept) ≡ length kept
 length_released test [] = refl
 length_released test (o ∷ kept) = (let r = length_released test kept in grind (arith, r))
 
@@ -82,12 +76,12 @@ length_released test (o ∷ kept) = (let r = length_released test kept in grind 
 kept_once : (r : ℕ) (u : UnitId) (kept : List (Option UnitId)) → ((a b : ℕ) (w : UnitId) → at_place kept a ≡ Some w → at_place kept b ≡ Some w → a ≡ b)
     → (a b : ℕ) (w : UnitId) → at_place (null.kept_for r u kept) a ≡ Some w → at_place (null.kept_for r u kept) b ≡ Some w → a ≡ b
 kept_once r u kept once a b w at_a at_b =
-    elim (read_put_at r a u (null.released (same_unit u) kept) w at_a) [
-      | inl was_a ↦ elim (read_put_at r b u (null.released (same_unit u) kept) w at_b) [
+    elim (read_put_at r a u (null.kept_without (same_unit u) kept) w at_a) [
+      | inl was_a ↦ elim (read_put_at r b u (null.kept_without (same_unit u) kept) w at_b) [
         | inl was_b ↦ once a b w (read_released (same_unit u) kept a w was_a).0 (read_released (same_unit u) kept b w was_b).0
         | inr is_b ↦ absurd (not_released is_b.1 (read_released (same_unit u) kept a w was_a).1)
       ]
-      | inr is_a ↦ elim (read_put_at r b u (null.released (same_unit u) kept) w at_b) [
+      | inr is_a ↦ elim (read_put_at r b u (null.kept_without (same_unit u) kept) w at_b) [
         | inl was_b ↦ absurd (not_released is_a.1 (read_released (same_unit u) kept b w was_b).1)
         | inr is_b ↦ is_a.0 ∙ sym is_b.0
       ]
@@ -97,22 +91,9 @@ kept_once r u kept once a b w at_a at_b =
     not_released e other = same_unit_other u w other e
 
 -- a unit that is placed, runnable and the core's own is chosen again
-pub goes_on : (ask : Ask) (scheduler : Scheduler) (kept : List (Option UnitId)) (u : UnitId) → ask.leaving ≡ false → ask.cur ≡ Some u → ask.runnable ≡ true → is_placed scheduler kept ask.home ask.core u ≡ true
-    → (null.choose_null ask scheduler kept).unit ≡ Some u
-goes_on ask scheduler kept u stays cur runs placed = rw (null.choose_null, stays, null.choice, cur, runs, placed) refl
-
--- the decisions of other schedulers keep no core for a unit
-none_kept2 : (ask : Ask) (scheduler : Scheduler) (records : Credit2Records) (chosen : Option UnitId) → kept_of (credit2.decide ask scheduler records chosen).records ≡ None
-none_kept2 ask scheduler records None = refl
-none_kept2 ask scheduler records (Some u) = refl
-
-none_kept_rt : (ask : Ask) (domains : List (Option (List RtdsUnit))) (chosen : Option UnitId) → kept_of (rtds.decide ask domains chosen).records ≡ None
-none_kept_rt ask domains None = refl
-none_kept_rt ask domains (Some u) = refl
-
-none_kept_window : (ask : Ask) (scheduler : Scheduler) (window : Option Window) → (choose_window ask scheduler window).records ≡ scheduler.records
-none_kept_window ask scheduler None = refl
-none_kept_window ask scheduler (Some window) = refl
+pub goes_on : (ask : Ask) (scheduler : Scheduler) (kept : List (Option UnitId)) (u : UnitId) → ask.leaving ≡ false → ask.cur ≡ Some u → ask.runnable ≡ true → is_placed scheduler kept ask.home.0 ask.core.0 u ≡ true
+    → (null.null_decision ask scheduler kept).unit ≡ Some u
+goes_on ask scheduler kept u stays cur runs placed = rw (null.null_decision, stays, null.choice, cur, runs, placed) refl
 
 pub fits_none : (records : Records) (cores : List (Option Resource)) → kept_of records ≡ None → NullFits records cores
 fits_none records cores none kept is = absurd (cc)
@@ -123,10 +104,10 @@ module _ (g t r : ℕ) (c : Resource) (pool : Pool) (at : at_place pool.resource
   abbrev Has : UnitId → Type 0
   Has u = (1 ≤ times u pool.scheduler.queue) ⊎ (c.cur ≡ Some u)
 
-  decided_cur : (unit : Option UnitId) (due : Option Moment) (reset : ℕ) (records : Records) → (decided t (record { unit = unit; due = due; reset = reset; records = records }) c).cur ≡ unit
+  decided_cur : (unit : Option UnitId) (due : Option Moment) (reset : ℕ) (records : Records) → (decided_core t (record { unit = unit; due = due; reset = reset; records = records }) c).cur ≡ unit
   decided_cur unit due reset records = by_test (λ (d : Resource). d.cur ≡ unit) (same_choice unit c.cur) _ _ (λ is. sym (same_choice_same unit c.cur is)) (λ is. refl)
 
-  decided_saving : (unit : Option UnitId) (due : Option Moment) (reset : ℕ) (records : Records) (w : UnitId) → (decided t (record { unit = unit; due = due; reset = reset; records = records }) c).saving ≡ Some w → c.cur ≡ Some w
+  decided_saving : (unit : Option UnitId) (due : Option Moment) (reset : ℕ) (records : Records) (w : UnitId) → (decided_core t (record { unit = unit; due = due; reset = reset; records = records }) c).saving ≡ Some w → c.cur ≡ Some w
   decided_saving unit due reset records w = by_test (λ (d : Resource). d.saving ≡ Some w → c.cur ≡ Some w) (same_choice unit c.cur) _ _ (λ is saves. absurd (let e : None ≡ Some w = sym no_saving ∙ saves in cc)) (λ is saves. saves)
 
   -- what the core gets is on no other core
@@ -191,7 +172,7 @@ module _ (g t r : ℕ) (c : Resource) (pool : Pool) (at : at_place pool.resource
     fits_idle : (next : List (Option UnitId)) (due : Option Moment) (reset : ℕ) (records : Records) → length next ≡ length kept
         → ((q : ℕ) (u : UnitId) → at_place next q ≡ Some u → at_place kept q ≡ Some u)
         → ((p : ℕ) (u : UnitId) → p ≢ r → at_place kept p ≡ Some u → at_place next p ≡ Some u)
-        → KeptFits next (put_at r (decided t (record { unit = None; due = due; reset = reset; records = records }) c) pool.resources)
+        → KeptFits next (put_at r (decided_core t (record { unit = None; due = due; reset = reset; records = records }) c) pool.resources)
     fits_idle next due reset records same old others =
         fits_put next _ same
         (λ u is. absurd (let e : None ≡ Some u = sym (decided_cur None due reset records) ∙ is in cc))
@@ -201,9 +182,9 @@ module _ (g t r : ℕ) (c : Resource) (pool : Pool) (at : at_place pool.resource
         (λ q p u at_q at_p. fits.once q p u (old q u at_q) (old p u at_p))
 
     -- the core gets a unit, which is kept for it alone
-    fits_chosen : (u : UnitId) (due : Option Moment) (reset : ℕ) (records : Records) → Has u → KeptFits (null.kept_for r u kept) (put_at r (decided t (record { unit = Some u; due = due; reset = reset; records = records }) c) pool.resources)
+    fits_chosen : (u : UnitId) (due : Option Moment) (reset : ℕ) (records : Records) → Has u → KeptFits (null.kept_for r u kept) (put_at r (decided_core t (record { unit = Some u; due = due; reset = reset; records = records }) c) pool.resources)
     fits_chosen u due reset records has =
-        let less : List (Option UnitId) = null.released (same_unit u) kept in
+        let less : List (Option UnitId) = null.kept_without (same_unit u) kept in
         let same : length less ≡ length kept = length_released (same_unit u) kept in
         let within : r < length less = (let i = inside in omega (arith, i, same)) in
         fits_put (null.kept_for r u kept) _ (length_set r (Some u) less ∙ same)
@@ -216,14 +197,14 @@ module _ (g t r : ℕ) (c : Resource) (pool : Pool) (at : at_place pool.resource
         not_same : (w : UnitId) → (u ≡ w → ⊥) → same_unit u w ≡ false
         not_same w other = (grind (arith, other))
 
-    fits_decide : (o : Option UnitId) → IfUnit Has o → NullFits (null.decide r kept o).records (put_at r (decided t (null.decide r kept o) c) pool.resources)
+    fits_decide : (o : Option UnitId) → IfUnit Has o → NullFits (null.decide r kept o).records (put_at r (decided_core t (null.decide r kept o) c) pool.resources)
     fits_decide None has = null_fits kept _ (fits_idle kept None 0 (NullPool kept) refl (λ q u at_q. at_q) (λ p u other at_p. at_p))
     fits_decide (Some u) has = null_fits (null.kept_for r u kept) _ (fits_chosen u None 0 (NullPool (null.kept_for r u kept)) has)
 
-    fits_choose : (d : Decision) → d ≡ null.choose_null (ask_of g t pool r c) pool.scheduler kept → NullFits d.records (put_at r (decided t d c) pool.resources)
+    fits_choose : (d : Decision) → d ≡ null.null_decision (ask_of g t pool r c) pool.scheduler kept → NullFits d.records (put_at r (decided_core t d c) pool.resources)
     fits_choose d is =
         let ask : Ask = ask_of g t pool r c in
-        let Q : Decision → Type 0 = λ x. NullFits x.records (put_at r (decided t x c) pool.resources) in
+        let Q : Decision → Type 0 = λ x. NullFits x.records (put_at r (decided_core t x c) pool.resources) in
         subst Q (sym is)
         (by_cond Q ask.leaving (null.decide r (clear_at r kept) None) (null.decide r kept (null.choice ask pool.scheduler kept))
         (λ leaves. null_fits (clear_at r kept) _ (fits_idle (clear_at r kept) None 0 (NullPool (clear_at r kept)) (length_set r None kept) (λ q u at_q. (read_clear_at r q kept u at_q).1) (λ p u other at_p. at_place-clear_at_other r p kept other ∙ at_p)))
@@ -233,8 +214,8 @@ module _ (g t r : ℕ) (c : Resource) (pool : Pool) (at : at_place pool.resource
   pub fits_after_decide : NullFits pool.scheduler.records pool.resources → NullFits (pools.after_decide g t r c pool).scheduler.records (pools.after_decide g t r c pool).resources
   fits_after_decide fits = by_records pool.scheduler.records refl
     where
-      by_records : (records : Records) → pool.scheduler.records ≡ records → NullFits (decision_by records (ask_of g t pool r c) pool.scheduler).records (put_at r (decided t (decision_by records (ask_of g t pool r c) pool.scheduler) c) pool.resources)
-      by_records (Credit2Pool records) is = fits_none _ _ (none_kept2 (ask_of g t pool r c) pool.scheduler _ _)
-      by_records (RtdsPool domains) is = fits_none _ _ (none_kept_rt (ask_of g t pool r c) _ _)
-      by_records (ArincPool records) is = fits_none _ _ (ap kept_of (none_kept_window (ask_of g t pool r c) pool.scheduler (cond c.leaving None (present_window records t)) ∙ is))
+      by_records : (records : Records) → pool.scheduler.records ≡ records → NullFits (decision_by records (ask_of g t pool r c) pool.scheduler).records (put_at r (decided_core t (decision_by records (ask_of g t pool r c) pool.scheduler) c) pool.resources)
+      by_records (Credit2Pool records) is = fits_none _ _ (ap kept_of (decided_is (Credit2Pool records) (ask_of g t pool r c) pool.scheduler is).1)
+      by_records (RtdsPool domains) is = fits_none _ _ (ap kept_of (decided_is (RtdsPool domains) (ask_of g t pool r c) pool.scheduler is).1)
+      by_records (ArincPool records) is = fits_none _ _ (ap kept_of (decided_is (ArincPool records) (ask_of g t pool r c) pool.scheduler is))
       by_records (NullPool kept) is = fits_choose kept (fits kept (ap kept_of is)) _ refl

@@ -1,4 +1,5 @@
 -- The law of null pools, from what is kept.
+use Rattle.sched_base.specs.Numbers.{core as core_number}
 use Rattle.std.proofs.Common.{◌≡◌, ◌≤◌, ℕ, zero, suc, Bool, true, false, not, List, [], ◌∷◌, ◌++◌, refl, arith, subst, sym, ◌∙◌, ap, cond, ◌⊎◌, inl, inr}
 use Rattle.std.specs.Prelude.{Option, Some, None, is_some, unwrap_or, filter, ◌&&◌, ◌+◌}
 use Rattle.std.specs.List.{list_any, list_all}
@@ -14,7 +15,7 @@ use Rattle.sched_model.specs.declared.state.Scheduler.{Scheduler}
 use Rattle.sched_model.specs.declared.state.Records.{Records}
 use Rattle.sched_model.specs.declared.state.Records.TheVariants.{NullPool}
 use Rattle.sched_model.specs.declared.state.Resource.{Resource}
-use Rattle.sched_model.specs.Places.{at_place, clear_at, numbered, is_unit}
+use Rattle.sched_model.specs.Places.{at_place, clear_at, numbered_items, is_unit}
 use Rattle.sched_model.specs.State.{is_runnable, is_up, has_core}
 use Rattle.sched_model.specs.Opening.{no_pool}
 use Rattle.sched_model.specs.declared.ask.Ask.{Ask}
@@ -24,7 +25,7 @@ use Rattle.sched_model.specs.NullScheduler as null
 use Rattle.sched_model.specs.Pool.{home_cores, ask_of, decision_at}
 use Rattle.sched_model.specs.Actions.{home_of_core}
 use Rattle.sched_model.specs.Machine.{event_of, home_pool}
-use Rattle.sched_model.specs.Runs.{IsRun, IsNextEvent, action_of, begun}
+use Rattle.sched_model.specs.Runs.{IsRun, IsNextEvent, action_of, run_start}
 use Rattle.sched_model.specs.Checked.{IsChecked}
 use Rattle.sched_laws.specs.StateLaws.{state_after}
 use Rattle.sched_laws.specs.NullLaws.{Keeps, IsGiven, NoUnitHasTwoCores, chosen_by, DecidesIn, StayEndsWithCause, GivenUnitsGoNowhereElse, RunsUnlessHindered, GivenUnitsRun}
@@ -80,10 +81,10 @@ all3 true false c x y z = absurd (cc)
 all3 false b c x y z = absurd (cc)
 
 -- the unit that a Decide of a core of a null pool puts on it
-decides_null : (m : Machine) (s : State) (e : Event) (i : ℕ) (pool : Pool) (r : ℕ) (c : Resource) (kept : List (Option UnitId)) → e ≡ event_of m s s.now (Decide r) → home_of_core s r ≡ Some i → at_place s.pools i ≡ Some pool
-    → at_place pool.resources r ≡ Some c → Keeps pool kept → chosen_by e ≡ (null.choose_null (ask_of m.config.granularity s.now pool r c) pool.scheduler kept).unit
+decides_null : (m : Machine) (s : State) (e : Event) (i : ℕ) (pool : Pool) (r : ℕ) (c : Resource) (kept : List (Option UnitId)) → e ≡ event_of m s s.now (Decide (core_number r)) → home_of_core s r ≡ Some i → at_place s.pools i ≡ Some pool
+    → at_place pool.resources r ≡ Some c → Keeps pool kept → chosen_by e ≡ (null.null_decision (ask_of m.config.granularity s.now pool r c) pool.scheduler kept).unit
 decides_null m s e i pool r c kept is home at has keeps =
-    let home_is : home_pool m s (Decide r) ≡ pool = ap (λ (o : Option ℕ). elim o as (λ _. Pool) [ None ↦ no_pool m.config | Some j ↦ unwrap_or (at_place s.pools j) (no_pool m.config) ]) home ∙ ap (λ (o : Option Pool). unwrap_or o (no_pool m.config)) at in
+    let home_is : home_pool m s (Decide (core_number r)) ≡ pool = ap (λ (o : Option ℕ). elim o as (λ _. Pool) [ None ↦ no_pool m.config | Some j ↦ unwrap_or (at_place s.pools j) (no_pool m.config) ]) home ∙ ap (λ (o : Option Pool). unwrap_or o (no_pool m.config)) at in
     let asks : decision_at m.config.granularity s.now pool r ≡ decision_of (ask_of m.config.granularity s.now pool r c) pool.scheduler =
     ap (λ (o : Option Resource). elim o as (λ _. Decision) [ None ↦ record { unit = None; due = None; reset = 0; records = pool.scheduler.records } | Some x ↦ decision_of (ask_of m.config.granularity s.now pool r x) pool.scheduler ]) has in
     ap chosen_by is ∙ ap (λ (p : Pool). (decision_at m.config.granularity s.now p r).unit) home_is ∙ ap (λ (d : Decision). d.unit) asks
@@ -91,21 +92,21 @@ decides_null m s e i pool r c kept is home at has keeps =
 
 -- the same of an entry of a run
 decides_in : (m : Machine) → IsChecked m → (entries : List Entry) (next : Entry) → IsRun m (entries ++ next ∷ []) → (pool : Pool) (r : ℕ) (c : Resource) → (on : DecidesIn (state_after m entries) next pool r c)
-    → chosen_by next.event ≡ (null.choose_null (ask_of m.config.granularity (state_after m entries).now pool r c) pool.scheduler on.kept).unit
+    → chosen_by next.event ≡ (null.null_decision (ask_of m.config.granularity (state_after m entries).now pool r c) pool.scheduler on.kept).unit
 decides_in m checked entries next run pool r c on =
     let s : State = state_after m entries in
-    let parts = split_run m (begun m) entries (next ∷ []) run in
+    let parts = split_run m (run_start m) entries (next ∷ []) run in
     let known = kept_in_runs m checked entries parts.0 in
     let there : is_some (at_place pool.resources r) ≡ true = is_some_at (at_place pool.resources r) c on.core_at in
     let home : home_of_core s r ≡ Some on.i = core_home s on.i r known.apart (test_at-some s.pools on.i (λ x. is_some (at_place x.resources r)) pool on.at there) in
-    let event : IsNextEvent m s next.event (Some (Decide r)) = subst (IsNextEvent m s next.event) on.decides parts.1.0.event in
+    let event : IsNextEvent m s next.event (Some (Decide (core_number r))) = subst (IsNextEvent m s next.event) on.decides parts.1.0.event in
     decides_null m s next.event on.i pool r c on.kept event.1 home on.at on.core_at on.keeps
 
 pub cause : (m : Machine) → IsChecked m → (entries : List Entry) (next : Entry) → IsRun m (entries ++ next ∷ []) → StayEndsWithCause m.config.granularity (state_after m entries) next
 cause m checked entries next run pool r c u on own =
     let g : ℕ = m.config.granularity in
     let s : State = state_after m entries in
-    let known = kept_in_runs m checked entries (split_run m (begun m) entries (next ∷ []) run).0 in
+    let known = kept_in_runs m checked entries (split_run m (run_start m) entries (next ∷ []) run).0 in
     let fits = fits_of g pool on.kept (known.pools on.i pool on.at) on.keeps in
     elim (either c.leaving) [
       | inl leaves ↦ inr (inl leaves)
@@ -124,24 +125,24 @@ cause m checked entries next run pool r c u on own =
     ]
 
 -- a unit that passes nowhere is given nowhere
-none_numbered : {X : Type 0} (test : ℕ × X → Bool) (n : ℕ) (places : List (Option X)) (q : ℕ) (x : X) → list_any test (numbered n places) ≡ false → at_place places q ≡ Some x → test (n + q, x) ≡ false
+none_numbered : {X : Type 0} (test : ℕ × X → Bool) (n : ℕ) (places : List (Option X)) (q : ℕ) (x : X) → list_any test (numbered_items n places) ≡ false → at_place places q ≡ Some x → test (n + q, x) ≡ false
 none_numbered test n [] q x none at = absurd (cc)
 none_numbered test n (None ∷ places) zero x none at = absurd (cc)
 none_numbered test n (None ∷ places) (suc q) x none at = (let e : n + suc q ≡ suc n + q = omega arith in rw e (none_numbered test (suc n) places q x none at))
 none_numbered test n (Some y ∷ places) zero x none at = (
     let e : n + 0 ≡ n = omega arith in
     let same : y ≡ x = cc in
-    rw e (subst (λ z. test (n, z) ≡ false) same (or_left (test (n, y)) (list_any test (numbered (suc n) places)) none)))
-none_numbered test n (Some y ∷ places) (suc q) x none at = (let e : n + suc q ≡ suc n + q = omega arith in rw e (none_numbered test (suc n) places q x (or_right (test (n, y)) (list_any test (numbered (suc n) places)) none) at))
+    rw e (subst (λ z. test (n, z) ≡ false) same (or_left (test (n, y)) (list_any test (numbered_items (suc n) places)) none)))
+none_numbered test n (Some y ∷ places) (suc q) x none at = (let e : n + suc q ≡ suc n + q = omega arith in rw e (none_numbered test (suc n) places q x (or_right (test (n, y)) (list_any test (numbered_items (suc n) places)) none) at))
 
 -- the unit that is chosen was given the core, or no core
 abbrev MayCome : Scheduler → List (Option UnitId) → ℕ → ℕ → UnitId → Type 0
 MayCome scheduler kept home r u = (is_placed scheduler kept home r u ≡ true) ⊎ (has_place scheduler kept home u ≡ false)
 
-earliest_passes : (test : UnitId → Bool) (units : List UnitId) (u : UnitId) → null.earliest (filter test units) ≡ Some u → test u ≡ true
+earliest_passes : (test : UnitId → Bool) (units : List UnitId) (u : UnitId) → null.earliest_unit (filter test units) ≡ Some u → test u ≡ true
 earliest_passes test [] u is = absurd (cc)
 earliest_passes test (w ∷ units) u is =
-    elim (test w) as (λ b. test w ≡ b → null.earliest (cond b (w ∷ filter test units) (filter test units)) ≡ Some u → test u ≡ true) [
+    elim (test w) as (λ b. test w ≡ b → null.earliest_unit (cond b (w ∷ filter test units) (filter test units)) ≡ Some u → test u ≡ true) [
       | true ↦ λ passed e. (let same : w ≡ u = cc in subst (λ x. test x ≡ true) same passed)
       | false ↦ λ failed e. earliest_passes test units u e
     ] refl is
@@ -151,30 +152,30 @@ decide_unit core kept None = refl
 decide_unit core kept (Some u) = refl
 
 module _ (ask : Ask) (scheduler : Scheduler) (kept : List (Option UnitId)) (keeps : scheduler.records ≡ NullPool kept) (u : UnitId) where
-  earliest_may : null.placed_or_earliest ask scheduler kept ≡ Some u → MayCome scheduler kept ask.home ask.core u
+  earliest_may : null.placed_or_earliest ask scheduler kept ≡ Some u → MayCome scheduler kept ask.home.0 ask.core.0 u
   earliest_may is =
-      let eligible_u = earliest_passes (is_eligible scheduler ask.home ask.core ask.at) scheduler.queue u is in
-      let passed : passes (NullPool kept) scheduler ask.home ask.core ask.at u ≡ true = subst (λ (x : Records). passes x scheduler ask.home ask.core ask.at u ≡ true) keeps (and_right (is_allowed scheduler ask.home ask.core u) _ eligible_u) in
-      elim (one_of (is_placed scheduler kept ask.home ask.core u) (not (has_place scheduler kept ask.home u) && not (is_taken scheduler kept ask.home ask.core)) passed) [
+      let eligible_u = earliest_passes (is_eligible scheduler ask.home.0 ask.core.0 ask.at.0) scheduler.queue u is in
+      let passed : passes (NullPool kept) scheduler ask.home.0 ask.core.0 ask.at.0 u ≡ true = subst (λ (x : Records). passes x scheduler ask.home.0 ask.core.0 ask.at.0 u ≡ true) keeps (and_right (is_allowed scheduler ask.home.0 ask.core.0 u) _ eligible_u) in
+      elim (one_of (is_placed scheduler kept ask.home.0 ask.core.0 u) (not (has_place scheduler kept ask.home.0 u) && not (is_taken scheduler kept ask.home.0 ask.core.0)) passed) [
         | inl placed ↦ inl placed
-        | inr free ↦ inr (not_true (has_place scheduler kept ask.home u) (and_left (not (has_place scheduler kept ask.home u)) _ free))
+        | inr free ↦ inr (not_true (has_place scheduler kept ask.home.0 u) (and_left (not (has_place scheduler kept ask.home.0 u)) _ free))
       ]
 
-  choice_may : null.choice ask scheduler kept ≡ Some u → MayCome scheduler kept ask.home ask.core u
-  choice_may = by_option (λ (o : Option UnitId). o ≡ Some u → MayCome scheduler kept ask.home ask.core u) ask.cur _ _ (λ none. earliest_may)
-      (λ w own. by_cond (λ (o : Option UnitId). o ≡ Some u → MayCome scheduler kept ask.home ask.core u) (ask.runnable && is_placed scheduler kept ask.home ask.core w) (Some w) (null.placed_or_earliest ask scheduler kept)
-      (λ may is. (let same : w ≡ u = cc in inl (subst (λ x. is_placed scheduler kept ask.home ask.core x ≡ true) same (and_right ask.runnable _ may))))
+  choice_may : null.choice ask scheduler kept ≡ Some u → MayCome scheduler kept ask.home.0 ask.core.0 u
+  choice_may = by_option (λ (o : Option UnitId). o ≡ Some u → MayCome scheduler kept ask.home.0 ask.core.0 u) ask.cur _ _ (λ none. earliest_may)
+      (λ w own. by_cond (λ (o : Option UnitId). o ≡ Some u → MayCome scheduler kept ask.home.0 ask.core.0 u) (ask.runnable && is_placed scheduler kept ask.home.0 ask.core.0 w) (Some w) (null.placed_or_earliest ask scheduler kept)
+      (λ may is. (let same : w ≡ u = cc in inl (subst (λ x. is_placed scheduler kept ask.home.0 ask.core.0 x ≡ true) same (and_right ask.runnable _ may))))
       (λ may. earliest_may))
 
-  chosen_may : (null.choose_null ask scheduler kept).unit ≡ Some u → MayCome scheduler kept ask.home ask.core u
+  chosen_may : (null.null_decision ask scheduler kept).unit ≡ Some u → MayCome scheduler kept ask.home.0 ask.core.0 u
   chosen_may =
-      by_cond (λ (d : Decision). d.unit ≡ Some u → MayCome scheduler kept ask.home ask.core u) ask.leaving (null.decide ask.core (clear_at ask.core kept) None) (null.decide ask.core kept (null.choice ask scheduler kept))
-      (λ leaves is. absurd (cc)) (λ stays is. choice_may (sym (decide_unit ask.core kept (null.choice ask scheduler kept)) ∙ is))
+      by_cond (λ (d : Decision). d.unit ≡ Some u → MayCome scheduler kept ask.home.0 ask.core.0 u) ask.leaving (null.decide ask.core.0 (clear_at ask.core.0 kept) None) (null.decide ask.core.0 kept (null.choice ask scheduler kept))
+      (λ leaves is. absurd (cc)) (λ stays is. choice_may (sym (decide_unit ask.core.0 kept (null.choice ask scheduler kept)) ∙ is))
 
 pub own_core : (m : Machine) → IsChecked m → (entries : List Entry) (next : Entry) → IsRun m (entries ++ next ∷ []) → GivenUnitsGoNowhereElse (state_after m entries) next
 own_core m checked entries next run pool q r c u on given is =
     let s : State = state_after m entries in
-    let earlier : IsRun m entries = (split_run m (begun m) entries (next ∷ []) run).0 in
+    let earlier : IsRun m entries = (split_run m (run_start m) entries (next ∷ []) run).0 in
     let same : given.kept ≡ on.kept = same_kept given.kept on.kept (sym given.keeps ∙ on.keeps) in
     let at_q : at_place on.kept q ≡ Some u = subst (λ (k : List (Option UnitId)). at_place k q ≡ Some u) same (given_at pool.scheduler given.kept (home_cores pool) q u given.placed) in
     let may = chosen_may (ask_of m.config.granularity s.now pool r c) pool.scheduler on.kept on.keeps u (sym (decides_in m checked entries next run pool r c on) ∙ is) in
@@ -194,7 +195,7 @@ module _ (m : Machine) (checked : IsChecked m) (before : List Entry) (last : Ent
   state = state_after m before
 
   earlier : IsRun m before
-  earlier = (split_run m (begun m) before (last ∷ []) run).0
+  earlier = (split_run m (run_start m) before (last ∷ []) run).0
 
   here : IsKeptPool m.config.granularity pool
   here = (kept_in_runs m checked before earlier).pools i pool at
@@ -222,7 +223,7 @@ module _ (m : Machine) (checked : IsChecked m) (before : List Entry) (last : Ent
   saves_no_unit : is_some c.saving ≡ true → ⊥
   saves_no_unit =
       saves_none m (state_after m before) checked (ready_in_runs m checked before earlier) (λ j p at_j. ((kept_in_runs m checked before earlier).pools j p at_j).known.sound)
-      (quiet_event m (state_after m before) last.event (action_of last.event) ends (split_run m (begun m) before (last ∷ []) run).1.0.event) i r pool c at has up
+      (quiet_event m (state_after m before) last.event (action_of last.event) ends (split_run m (run_start m) before (last ∷ []) run).1.0.event) i r pool c at has up
 
   same_core : (q : ℕ) (e : Resource) → q ≡ r → at_place pool.resources q ≡ Some e → e ≡ c
   same_core q e is at_q = (let b : at_place pool.resources r ≡ Some e = subst (λ k. at_place pool.resources k ≡ Some e) is at_q in let d = has in cc)
@@ -260,7 +261,7 @@ running m checked before last run ends i pool at r u given runs =
 
     by_cur : (c : Resource) → at_place pool.resources r ≡ Some c → RunsUnlessHindered (state_after m before).now u c
     by_cur c has stays up =
-        let known = (kept_in_runs m checked before (split_run m (begun m) before (last ∷ []) run).0).pools i pool at in
+        let known = (kept_in_runs m checked before (split_run m (run_start m) before (last ∷ []) run).0).pools i pool at in
         let fits = fits_of m.config.granularity pool given.kept known given.keeps in
         elim c.cur as (λ o. c.cur ≡ o → o ≡ Some u) [
           | None ↦ λ none. absurd (has_no_place m checked before last run ends i r pool c u at has given runs stays up none)

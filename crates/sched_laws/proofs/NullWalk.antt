@@ -3,7 +3,7 @@ use Rattle.std.proofs.Common.{◌≡◌, ◌<◌, ℕ, true, false, List, refl, 
 use Rattle.std.specs.Prelude.{Option, Some, None, is_some, length, replicate, ◌&&◌, ◌||◌, ◌==◌}
 use Rattle.std.specs.List.{list_all}
 use Rattle.std.proofs.lemmas.List.{length-replicate}
-use Rattle.sched_base.specs.Numbers.{moment, pool as pool_number}
+use Rattle.sched_base.specs.Numbers.{moment, pool as pool_number, core, domain as domain_number}
 use Rattle.sched_base.specs.declared.Moment.{Moment}
 use Rattle.sched_base.specs.declared.UnitId.{UnitId}
 use Rattle.sched_model.specs.declared.config.ParamChange.{ParamChange}
@@ -17,15 +17,15 @@ use Rattle.sched_model.specs.declared.state.Pool.{Pool}
 use Rattle.sched_model.specs.declared.state.RtdsUnit.{RtdsUnit}
 use Rattle.sched_model.specs.declared.state.Credit2Records.{Credit2Records}
 use Rattle.sched_model.specs.declared.state.Records.{Records}
-use Rattle.sched_model.specs.declared.state.Records.TheVariants.{Credit2Pool, RtdsPool, ArincPool, NullPool}
+use Rattle.sched_model.specs.declared.state.Records.TheVariants.{Credit2Pool, RtdsPool, NullPool}
 use Rattle.sched_model.specs.declared.action.Action.TheVariants.{DomMoved, Decide}
 use Rattle.sched_model.specs.Places.{at_place, put_at, clear_at, test_at, numbers_from}
 use Rattle.sched_model.specs.Opening.{fresh_core, core_count}
 use Rattle.sched_model.specs.Policy as policy
-use Rattle.sched_model.specs.Policy.{rtds_record, changed_records, joined_records, parted_records, fresh_records}
+use Rattle.sched_model.specs.Policy.{changed_records, joined_records, parted_records, fresh_records}
 use Rattle.sched_model.specs.NullScheduler as null
 use Rattle.sched_model.specs.Pool as pools
-use Rattle.sched_model.specs.Pool.{enabled_in, after_in, settled, home_cores, reconsidered, change_core, change_processor, change_vcpu, change_domain, change_cores_of, does, started_on, set_leaving, set_moving, set_pending, pause, unpause, set_params, without_domain, with_domain, is_of_domain, is_held, is_open, first_up, processor_of, guest_of}
+use Rattle.sched_model.specs.Pool.{enabled_in, change_core, change_domain, set_params, without_domain, with_domain, is_of_domain, is_held, is_open, first_up}
 use Rattle.sched_laws.specs.Each.{EachPlace}
 use Rattle.sched_laws.proofs.EachPlace.{read_put_at, read_clear_at, EachPlace-empty}
 use Rattle.sched_laws.proofs.Lists.{none_passes, at_numbered}
@@ -35,7 +35,6 @@ use Rattle.sched_laws.proofs.Events.{LikePlaces, like_change_at, capped, like_of
 use Rattle.sched_laws.proofs.Known.{known_pools}
 use Rattle.sched_laws.specs.Known.{IsKnownPool}
 use Rattle.sched_laws.proofs.Records as records_lemmas
-use Rattle.sched_laws.proofs.Records.{IsNoFrame}
 use Rattle.sched_laws.proofs.NullKept.{kept_of, KeptFits, NullFits, null_fits, fits_none, read_released, at_released, length_released, fits_after_decide}
 use Rattle.sched_laws.proofs.Bools.{and_left, and_right, not_true, or_left}
 use Rattle.sched_laws.proofs.EachPlace.{length_set}
@@ -81,14 +80,10 @@ no_rtds : (a b : List (Option (List RtdsUnit))) → kept_of (RtdsPool a) ≡ kep
 no_rtds a b = refl
 
 same_frame : (records : Records) (change : ParamChange) (t : ℕ) → kept_of (changed_records records change t) ≡ kept_of records
-same_frame (Credit2Pool records) (changes.Frame frame) t = refl
-same_frame (RtdsPool domains) (changes.Frame frame) t = refl
-same_frame (ArincPool records) (changes.Frame frame) t = refl
-same_frame (NullPool kept) (changes.Frame frame) t = refl
-same_frame records (changes.Dom d weight percent) t = records_lemmas.same_changed kept_of no_credit2 no_rtds records (changes.Dom d weight percent) t tt
-same_frame records (changes.Rate limit) t = records_lemmas.same_changed kept_of no_credit2 no_rtds records (changes.Rate limit) t tt
 same_frame records (changes.«Unit» u period budget extra) t = records_lemmas.same_changed kept_of no_credit2 no_rtds records (changes.«Unit» u period budget extra) t tt
-same_frame records (changes.Pin d unit cores) t = records_lemmas.same_changed kept_of no_credit2 no_rtds records (changes.Pin d unit cores) t tt
+same_frame (Credit2Pool records) (changes.Frame frame) t = refl
+same_frame any (changes.Frame frame) t = refl
+same_frame records other t = records_lemmas.same_changed kept_of no_credit2 no_rtds records other t tt
 
 module _ (g : ℕ) where
   abbrev pub N : Pool → Type 0
@@ -101,7 +96,7 @@ module _ (g : ℕ) where
   n_change_core r f pool holds fits = n_like _ pool (like_change_at Holds r f pool.resources holds_itself (λ c at. holds c)) fits
 
   -- a core that decides saves nothing
-  n_after_decide : (t r : ℕ) (c : Resource) (pool : Pool) → at_place pool.resources r ≡ Some c → enabled_in g t pool (Decide r) ≡ true → IsKnownPool g pool → N pool → N (pools.after_decide g t r c pool)
+  n_after_decide : (t r : ℕ) (c : Resource) (pool : Pool) → at_place pool.resources r ≡ Some c → enabled_in g t pool (Decide (core r)) ≡ true → IsKnownPool g pool → N pool → N (pools.after_decide g t r c pool)
   n_after_decide t r c pool at on known fits =
       let may = passes_at pool.resources r (λ (x : Resource). list_all is_held x.processors && is_open x && first_up t x) c at on in
       let gathered = and_left (list_all is_held c.processors && is_open c) (first_up t c) may in
@@ -115,7 +110,7 @@ module _ (g : ℕ) where
     queues = λ u pool runs fits. fits;
     dequeues = λ d pool fits. fits;
     decides = λ r c pool at on. n_after_decide t r c pool at on.0 on.1;
-    saves = λ r c u pool at is on. n_change_core r pools.saved pool (λ x. record { cur = refl; saving = inr refl });
+    saves = λ r c u pool at is on. n_change_core r pools.saved_core pool (λ x. record { cur = refl; saving = inr refl });
     replenishes = λ u pool on. fits_records pool.scheduler.records (policy.replenish pool.scheduler.records t u) pool.resources (records_lemmas.same_replenish kept_of no_credit2 no_rtds pool.scheduler.records t u);
     dues = λ r u x old pool on is. n_change_core r (pools.due_within t x.budget) pool (λ c. holds_same c _ refl refl);
     refills = λ d pool on. fits_records pool.scheduler.records (policy.refill pool.scheduler.records t d) pool.resources (records_lemmas.same_refill kept_of no_credit2 no_rtds pool.scheduler.records t d);
@@ -159,19 +154,16 @@ module _ (g : ℕ) where
   not_of : (d : ℕ) (o : Option UnitId) (u : UnitId) → is_of_domain d o ≡ false → o ≡ Some u → (u.dom.0 == d) ≡ false
   not_of d o u none is = subst (λ x. is_of_domain d x ≡ false) is none
 
-  n_without_domain : (t d : ℕ) (pool : Pool) → enabled_in g t pool (DomMoved d) ≡ true → N pool → N (without_domain d pool)
+  n_without_domain : (t d : ℕ) (pool : Pool) → enabled_in g t pool (DomMoved (domain_number d)) ≡ true → N pool → N (without_domain d pool)
   n_without_domain t d pool on fits = by_records pool.scheduler.records fits
     where
       none : EachPlace (λ (x : Resource). (is_of_domain d x.cur || is_of_domain d x.saving) ≡ false) pool.resources
       none = at_numbered (λ (x : Resource). (is_of_domain d x.cur || is_of_domain d x.saving) ≡ false) 0 pool.resources (none_passes _ _ (not_true _ (and_right (test_at pool.domains d (λ x. is_some x.moving)) _ on)))
 
       less : List (Option UnitId) → List (Option UnitId)
-      less kept = null.released (λ u. u.dom.0 == d) kept
+      less kept = null.kept_without (λ u. u.dom.0 == d) kept
 
       by_records : (records : Records) → NullFits records pool.resources → NullFits (parted_records records d) pool.resources
-      by_records (Credit2Pool records) before = fits_none (parted_records (Credit2Pool records) d) pool.resources refl
-      by_records (RtdsPool domains) before = fits_none (parted_records (RtdsPool domains) d) pool.resources refl
-      by_records (ArincPool records) before = fits_none (parted_records (ArincPool records) d) pool.resources refl
       by_records (NullPool kept) before =
           let fit : KeptFits kept pool.resources = before kept refl in
           null_fits (less kept) pool.resources (record {
@@ -180,15 +172,13 @@ module _ (g : ℕ) where
             saving = λ r c at u saves q at_q. fit.saving r c at u saves q (read_released (λ u. u.dom.0 == d) kept q u at_q).0;
             once = λ q r u at_q at_r. fit.once q r u (read_released (λ u. u.dom.0 == d) kept q u at_q).0 (read_released (λ u. u.dom.0 == d) kept r u at_r).0;
           })
+      by_records any before = fits_none (parted_records any d) pool.resources refl
 
 nowhere : (n : ℕ) (r : ℕ) (u : UnitId) → at_place (replicate n None) r ≡ Some u → ⊥
 nowhere n r u at = EachPlace-empty {X = UnitId} (λ x. ⊥) n r u at
 
 -- a pool that keeps no core for a unit, with fresh cores
 n_opened : (params : PoolParams) (domains count : ℕ) (cores : List (Option Resource)) → length cores ≡ count → EachPlace IsFresh cores → NullFits (fresh_records params domains count) cores
-n_opened (pool_params.Credit2 limit) domains count cores whole fresh = fits_none (fresh_records (pool_params.Credit2 limit) domains count) cores refl
-n_opened pool_params.Rtds domains count cores whole fresh = fits_none (fresh_records pool_params.Rtds domains count) cores refl
-n_opened (pool_params.Arinc653 frame) domains count cores whole fresh = fits_none (fresh_records (pool_params.Arinc653 frame) domains count) cores refl
 n_opened pool_params.Null domains count cores whole fresh =
     null_fits (replicate count None) cores (record {
       count = length-replicate count None ∙ sym whole;
@@ -196,6 +186,7 @@ n_opened pool_params.Null domains count cores whole fresh =
       saving = λ r c at u saves q at_q. absurd (nowhere count q u at_q);
       once = λ q r u at_q at_r. absurd (nowhere count q u at_q);
     })
+n_opened other domains count cores whole fresh = fits_none (fresh_records other domains count) cores refl
 
 -- what is kept of every pool, a null pool or not
 pub record IsKeptPool (g : ℕ) (pool : Pool) : Type 0 where

@@ -14,16 +14,16 @@ use Rattle.sched_model.specs.declared.state.Doing.TheVariants.{Guest, Idle, Held
 use Rattle.sched_model.specs.declared.state.Stage.TheVariants.{Open}
 use Rattle.sched_model.specs.declared.state.Processor.{Processor}
 use Rattle.sched_model.specs.declared.state.Resource.{Resource}
-use Rattle.sched_model.specs.Places.{at_place, put_at, change_at, change_each, change_item, numbered, without_unit, same_unit, is_unit, has_unit}
+use Rattle.sched_model.specs.Places.{at_place, put_at, change_at, change_each, change_item, numbered_items, without_unit, same_unit, is_unit, has_unit}
 use Rattle.sched_model.specs.declared.state.Pool.{Pool}
 use Rattle.sched_model.specs.declared.state.Scheduler.{Scheduler}
 use Rattle.sched_model.specs.declared.state.Records.{Records}
 use Rattle.sched_model.specs.State.{is_awake, is_runnable, runnable_among}
 use Rattle.sched_model.specs.Eligible.{Decision}
 use Rattle.sched_model.specs.Policy as policy
-use Rattle.sched_model.specs.Policy.{decision_of, after_decision, dequeue_domain, rtds_record}
+use Rattle.sched_model.specs.Policy.{decision_of, after_decision, rtds_record}
 use Rattle.sched_model.specs.Pool as pools
-use Rattle.sched_model.specs.Pool.{enabled_in, after_in, settled, home_cores, reconsidered, change_core, change_processor, change_vcpu, change_domain, change_cores_of, set_pending, does, queue_unit, started_on, decided, same_choice, ask_of, set_leaving, set_moving, pause, unpause, set_params, without_domain, with_domain, with_records, is_of_domain}
+use Rattle.sched_model.specs.Pool.{settled_pool, home_cores, reconsidered_core, change_core, change_processor, change_vcpu, change_cores_of, set_pending, with_doing, queue_unit, started_on, decided_core, same_choice, ask_of, with_records, is_of_domain}
 use Rattle.sched_laws.proofs.EachPlace.{EachAt-change_to, EachPlace-change_at, EachPlace-put_at, EachPlace-change_each, by_option, by_test, by_cond}
 use Rattle.sched_laws.proofs.Lists.{AllByRecursion-map, AllByRecursion-push, AllByRecursion-filter, none_passes, at_numbered}
 use Rattle.sched_laws.proofs.Choices.{is_unit_same, same_unit_same, decision_has}
@@ -77,7 +77,7 @@ there_each [] = tt
 there_each (u ∷ units) = ((let e : one u u ≡ 1 = rw (same_unit_refl u) refl in omega (arith, e)), AllByRecursion-map (λ w. 1 ≤ times w units) (λ w. 1 ≤ one w u + times w units) (λ w some. omega (arith, some)) units (there_each units))
 
 -- a unit that is off has no place, and one that is not has one
-off_each : (u : UnitId) (n : ℕ) (cores : List (Option Resource)) → list_any (λ (e : ℕ × Resource). is_unit e.1.cur u || is_unit e.1.saving u) (numbered n cores) ≡ false → total (core_places u) cores ≡ 0
+off_each : (u : UnitId) (n : ℕ) (cores : List (Option Resource)) → list_any (λ (e : ℕ × Resource). is_unit e.1.cur u || is_unit e.1.saving u) (numbered_items n cores) ≡ false → total (core_places u) cores ≡ 0
 off_each u n cores none =
     total_none (core_places u) cores (λ i c at.
     let no = at_numbered (λ (c : Resource). (is_unit c.cur u || is_unit c.saving u) ≡ false) n cores (none_passes _ _ none) i c at in
@@ -85,13 +85,13 @@ off_each u n cores none =
     let b : is_unit c.saving u ≡ false = or_right (is_unit c.cur u) _ no in
     rw (a, b) refl)
 
-on_some : (u : UnitId) (n : ℕ) (cores : List (Option Resource)) → list_any (λ (e : ℕ × Resource). is_unit e.1.cur u || is_unit e.1.saving u) (numbered n cores) ≡ true → 1 ≤ total (core_places u) cores
+on_some : (u : UnitId) (n : ℕ) (cores : List (Option Resource)) → list_any (λ (e : ℕ × Resource). is_unit e.1.cur u || is_unit e.1.saving u) (numbered_items n cores) ≡ true → 1 ≤ total (core_places u) cores
 on_some u n [] some = absurd (cc)
 on_some u n (None ∷ cores) some = on_some u (suc n) cores some
 on_some u n (Some c ∷ cores) some =
-    elim (is_unit c.cur u) as (λ a. (a || is_unit c.saving u || list_any (λ (e : ℕ × Resource). is_unit e.1.cur u || is_unit e.1.saving u) (numbered (suc n) cores)) ≡ true → 1 ≤ (cond a 1 0 + one_at u c.saving) + total (core_places u) cores) [
+    elim (is_unit c.cur u) as (λ a. (a || is_unit c.saving u || list_any (λ (e : ℕ × Resource). is_unit e.1.cur u || is_unit e.1.saving u) (numbered_items (suc n) cores)) ≡ true → 1 ≤ (cond a 1 0 + one_at u c.saving) + total (core_places u) cores) [
       | true ↦ λ e. omega arith
-      | false ↦ λ e. elim (is_unit c.saving u) as (λ b. (b || list_any (λ (e : ℕ × Resource). is_unit e.1.cur u || is_unit e.1.saving u) (numbered (suc n) cores)) ≡ true → 1 ≤ (0 + cond b 1 0) + total (core_places u) cores) [
+      | false ↦ λ e. elim (is_unit c.saving u) as (λ b. (b || list_any (λ (e : ℕ × Resource). is_unit e.1.cur u || is_unit e.1.saving u) (numbered_items (suc n) cores)) ≡ true → 1 ≤ (0 + cond b 1 0) + total (core_places u) cores) [
         | true ↦ λ e2. omega arith
         | false ↦ λ e2. (let r = on_some u (suc n) cores e2 in omega (arith, r))
       ] e
@@ -105,7 +105,7 @@ off_is pool u off =
 
 pub on_is : (pool : Pool) (u : UnitId) → pools.is_off pool u ≡ false → 1 ≤ places pool u
 on_is pool u on =
-    elim (has_unit pool.scheduler.queue u) as (λ b. has_unit pool.scheduler.queue u ≡ b → (not b && not (list_any (λ (e : ℕ × Resource). is_unit e.1.cur u || is_unit e.1.saving u) (numbered 0 pool.resources))) ≡ false → 1 ≤ places pool u) [
+    elim (has_unit pool.scheduler.queue u) as (λ b. has_unit pool.scheduler.queue u ≡ b → (not b && not (list_any (λ (e : ℕ × Resource). is_unit e.1.cur u || is_unit e.1.saving u) (numbered_items 0 pool.resources))) ≡ false → 1 ≤ places pool u) [
       | true ↦ λ is e. (let r = times_some u pool.scheduler.queue is in omega (arith, r))
       | false ↦ λ is e. (let r = on_some u 0 pool.resources (not_false _ e) in omega (arith, r))
     ] refl on
@@ -154,7 +154,7 @@ module _ (g : ℕ) (some : 0 < g) (Rest : UnitId → Type 0) where
   one_change_vcpu v f pool same one = one_domains _ pool (runnable-same g some v f same pool) one
 
   pub one_started_on : (t p : ℕ) (v : VcpuId) (pool : Pool) → One pool → One (started_on g t p v pool)
-  one_started_on t p v pool one = one_change_processor p (does (Guest v)) (change_vcpu v (λ x. record x { started = Some (moment t) }) pool) (one_change_vcpu v (λ x. record x { started = Some (moment t) }) pool (λ x. refl) one)
+  one_started_on t p v pool one = one_change_processor p (with_doing (Guest v)) (change_vcpu v (λ x. record x { started = Some (moment t) }) pool) (one_change_vcpu v (λ x. record x { started = Some (moment t) }) pool (λ x. refl) one)
 
   -- a unit that gets a place in the queue
   pub one_queue_unit : (u : UnitId) (pool : Pool) → places pool u ≡ 0 → is_runnable g pool u ≡ true → OneBut g (λ w. (w ≡ u) ⊎ Rest w) pool → One (queue_unit u pool)
@@ -191,9 +191,9 @@ module _ (g : ℕ) (some : 0 < g) (Rest : UnitId → Type 0) where
     cur = one.cur;
   }
 
-  pub one_settled : (t : ℕ) (pool : Pool) → One pool → One (settled t pool)
+  pub one_settled : (t : ℕ) (pool : Pool) → One pool → One (settled_pool t pool)
   one_settled t pool one =
-      one_change_each (reconsidered t (home_cores pool) pool.scheduler) pool
+      one_change_each (reconsidered_core t (home_cores pool) pool.scheduler) pool
       (λ r c. by_cond (KeepsUnits c) c.leaving c _ (λ is. (refl, refl, λ e. e)) (λ is. (refl, refl, λ e. or_more c.pending _ e))) one
 
   pub one_joined_siblings : (t : ℕ) (v : VcpuId) (pool : Pool) → One pool → One (pools.joined_siblings g t v pool)
@@ -215,13 +215,13 @@ module _ (g : ℕ) (some : 0 < g) (Rest : UnitId → Type 0) where
         cur = one.cur;
       }
 
-  pub one_marked : (change : ParamChange) (t : ℕ) (pool : Pool) → One pool → One (pools.marked change t pool)
+  pub one_marked : (change : ParamChange) (t : ℕ) (pool : Pool) → One pool → One (pools.marked_pool change t pool)
   one_marked (changes.Dom d weight (Some cap)) t pool one = one_change_cores_of d.0 _ pool (λ c. (refl, refl, λ e. refl)) one
   one_marked (changes.Frame frame) t pool one = one_change_each (λ r c. set_pending c) pool (λ r c. (refl, refl, λ e. refl)) one
   one_marked change t pool one = one
 
 -- an Arrive
-stopped_awake : (t : ℕ) (x : Vcpu) → is_awake (pools.stopped t x) ≡ is_awake x
+stopped_awake : (t : ℕ) (x : Vcpu) → is_awake (pools.stopped_vcpu t x) ≡ is_awake x
 stopped_awake t x = by_option (λ (y : Vcpu). is_awake y ≡ is_awake x) x.started _ _ (λ is. refl) (λ from is. refl)
 
 module _ (g : ℕ) (some : 0 < g) where
@@ -232,15 +232,15 @@ module _ (g : ℕ) (some : 0 < g) where
   Nobody u = ⊥
 
   -- a wake: its unit may have become runnable, and no other
-  one_woken : (v : VcpuId) (pool : Pool) → One0 pool → OneBut g (λ w. (w ≡ pools.unit_of g v) ⊎ ⊥) (change_vcpu v pools.woken pool)
+  one_woken : (v : VcpuId) (pool : Pool) → One0 pool → OneBut g (λ w. (w ≡ pools.unit_of g v) ⊎ ⊥) (change_vcpu v pools.woken_vcpu pool)
   one_woken v pool one =
-      let next : Pool = change_vcpu v pools.woken pool in
-      let more : (u : UnitId) → is_runnable g pool u ≡ true → is_runnable g next u ≡ true = λ u runs. runnable-more g some v pools.woken (λ x. refl) pool u runs in
+      let next : Pool = change_vcpu v pools.woken_vcpu pool in
+      let more : (u : UnitId) → is_runnable g pool u ≡ true → is_runnable g next u ≡ true = λ u runs. runnable-more g some v pools.woken_vcpu (λ x. refl) pool u runs in
       record {
         most = one.most;
         runs = λ u runs. elim (same_or_other u (pools.unit_of g v)) [
           | inl e ↦ inr (inl e)
-          | inr e ↦ elim (one.runs u (sym (runnable-other g some v pools.woken pool u e) ∙ runs)) [ inl has ↦ inl has | inr none ↦ absurd none ]
+          | inr e ↦ elim (one.runs u (sym (runnable-other g some v pools.woken_vcpu pool u e) ∙ runs)) [ inl has ↦ inl has | inr none ↦ absurd none ]
         ];
         waits = AllByRecursion-map (λ u. is_runnable g pool u ≡ true) (λ u. is_runnable g next u ≡ true) more pool.scheduler.queue one.waits;
         cur = λ r c at u is. elim (one.cur r c at u is) [ inl runs ↦ inl (more u runs) | inr pending ↦ inr pending ];
@@ -249,7 +249,7 @@ module _ (g : ℕ) (some : 0 < g) where
   pub one_after_wake : (t : ℕ) (v : VcpuId) (pool : Pool) → One0 pool → One0 (pools.after_wake g t v pool)
   one_after_wake t v pool one =
       let u : UnitId = pools.unit_of g v in
-      let next : Pool = change_vcpu v pools.woken pool in
+      let next : Pool = change_vcpu v pools.woken_vcpu pool in
       let woken : OneBut g (λ w. (w ≡ u) ⊎ ⊥) next = one_woken v pool one in
       by_test One0 (is_runnable g next u) _ _
       (λ runs. by_cond One0 (pools.is_off next u) _ _
@@ -265,7 +265,7 @@ module _ (g : ℕ) (some : 0 < g) where
       let c0 : Resource = found.0 in
       let own : c0.cur ≡ Some u = ((sound (p / g) c0 found.2).guests (p % g) found.1 v found.3 found.4).0 in
       let slept : Pool = change_vcpu v (pools.put_to_sleep t) pool in
-      let next : Pool = change_processor g p (does Idle) slept in
+      let next : Pool = change_processor g p (with_doing Idle) slept in
       let has : 1 ≤ total (core_places u) pool.resources = (let a = total_at (core_places u) (p / g) c0 pool.resources found.2 in let b : one_at u c0.cur ≡ 1 = rw own (one_same u) in omega (arith, a, b)) in
       let other : (w : UnitId) → w ≢ u → is_runnable g slept w ≡ is_runnable g pool w = λ w e. runnable-other g some v (pools.put_to_sleep t) pool w e in
       let most : (w : UnitId) → is_runnable g slept w ≡ true → (1 ≤ places pool w) ⊎ ⊥ = λ w runs. elim (same_or_other w u) [
@@ -279,7 +279,7 @@ module _ (g : ℕ) (some : 0 < g) where
         | inr e ↦ other w e ∙ both.1
       ]) pool.scheduler.queue (both_of _ _ pool.scheduler.queue (there_each pool.scheduler.queue) one.waits) in
       by_cond One0 (is_runnable g next u) _ _
-      (λ runs. one_change_processor g some Nobody p (does Idle) slept (record {
+      (λ runs. one_change_processor g some Nobody p (with_doing Idle) slept (record {
         most = one.most;
         runs = most;
         waits = waits;
@@ -289,9 +289,9 @@ module _ (g : ℕ) (some : 0 < g) where
         ];
       }))
       (λ runs.
-      let f : Resource → Resource = λ c. record c { pending = true; processors = change_item (p % g) (does Idle) c.processors } in
+      let f : Resource → Resource = λ c. record c { pending = true; processors = change_item (p % g) (with_doing Idle) c.processors } in
       let same : (w : UnitId) → total (core_places w) (change_at (p / g) f pool.resources) ≡ total (core_places w) pool.resources = λ w. total-change_at_same (core_places w) (p / g) f pool.resources (λ c at. refl) in
-      subst (λ (cores : List (Option Resource)). One0 (record slept { resources = cores })) (sym (change_at-twice (p / g) (λ c. record c { pending = true }) (λ c. record c { processors = change_item (p % g) (does Idle) c.processors }) pool.resources)) (record {
+      subst (λ (cores : List (Option Resource)). One0 (record slept { resources = cores })) (sym (change_at-twice (p / g) (λ c. record c { pending = true }) (λ c. record c { processors = change_item (p % g) (with_doing Idle) c.processors }) pool.resources)) (record {
         most = λ w. (let a = one.most w in let e = same w in omega (arith, a, e));
         runs = λ w r. elim (most w r) [ inl there ↦ inl (let e = same w in omega (arith, there, e)) | inr none ↦ absurd none ];
         waits = waits;
@@ -310,19 +310,19 @@ module _ (g : ℕ) (some : 0 < g) where
 
   pub one_after_arrive : (t p : ℕ) (pool : Pool) → One0 pool → One0 (pools.after_arrive g t p pool)
   one_after_arrive t p pool one =
-      one_change_processor g some Nobody p (does Held) _ (by_option One0 (pools.guest_of g pool p) _ _ (λ is. one) (λ v is. one_change_vcpu g some Nobody v (pools.stopped t) pool (stopped_awake t) one))
+      one_change_processor g some Nobody p (with_doing Held) _ (by_option One0 (pools.guest_of g pool p) _ _ (λ is. one) (λ v is. one_change_vcpu g some Nobody v (pools.stopped_vcpu t) pool (stopped_awake t) one))
 
   pub one_after_leave : (t p : ℕ) (c : Resource) (pool : Pool) → One0 pool → One0 (pools.after_leave g t p c pool)
   one_after_leave t p c pool one =
       one_change_core g some Nobody (p / g) pools.open_if_left _ (λ c2. by_cond (KeepsUnits c2) (list_any pools.is_held c2.processors) c2 (record c2 { stage = Open }) (λ is. (refl, refl, λ e. e)) (λ is. (refl, refl, λ e. e)))
-      (by_option One0 (pools.vcpu_for g pool c (p % g)) _ _ (λ is. one_change_processor g some Nobody p (does Idle) pool one) (λ v is. one_started_on g some Nobody t p v pool one))
+      (by_option One0 (pools.vcpu_for g pool c (p % g)) _ _ (λ is. one_change_processor g some Nobody p (with_doing Idle) pool one) (λ v is. one_started_on g some Nobody t p v pool one))
 
   -- a save: the unit leaves the core, and joins the queue where it is runnable
   pub one_after_save : (r : ℕ) (u : UnitId) (c : Resource) (pool : Pool) → at_place pool.resources r ≡ Some c → c.saving ≡ Some u → One0 pool → One0 (pools.after_save g r u pool)
   one_after_save r u c pool at saves one =
-      let next : Pool = change_core r pools.saved pool in
+      let next : Pool = change_core r pools.saved_core pool in
       let less : (w : UnitId) → places next w + one_at w (Some u) ≡ places pool w = λ w. (
-      let a = total-change_at (core_places w) r pools.saved pool.resources c at in
+      let a = total-change_at (core_places w) r pools.saved_core pool.resources c at in
       let b : one_at w c.saving ≡ one_at w (Some u) = ap (one_at w) saves in
       omega (arith, a, b)) in
       let base : OneBut g (λ w. (w ≡ u) ⊎ ⊥) next = record {
@@ -332,7 +332,7 @@ module _ (g : ℕ) (some : 0 < g) where
           | inr e ↦ elim (one.runs w runs) [ inl has ↦ inl (let b = less w in let o = one_other w u e in omega (arith, has, b, o)) | inr none ↦ absurd none ]
         ];
         waits = one.waits;
-        cur = EachPlace-change_at (CurRuns g pool.domains) r pools.saved pool.resources one.cur (λ x at2 here. here);
+        cur = EachPlace-change_at (CurRuns g pool.domains) r pools.saved_core pool.resources one.cur (λ x at2 here. here);
       } in
       let off : places next u ≡ 0 = (let a = one.most u in let b = less u in let o = one_same u in omega (arith, a, b, o)) in
       by_cond One0 (is_runnable g pool u) _ _ (λ runs. one_queue_unit g some Nobody u next off runs base) (λ runs. one_less g some Nobody u next (λ is. absurd (cc)) base)
@@ -388,7 +388,7 @@ module _ (g : ℕ) (t r : ℕ) (c : Resource) (pool : Pool) (at : at_place pool.
       ]
 
   same_count : (unit : Option UnitId) (due : Option Moment) (reset : ℕ) (records : Records) → IfUnit MayBe unit → (w : UnitId)
-      → times w (unqueued unit pool.scheduler.queue) + core_places w (decided t (record { unit = unit; due = due; reset = reset; records = records }) c) ≡ times w pool.scheduler.queue + core_places w c
+      → times w (unqueued unit pool.scheduler.queue) + core_places w (decided_core t (record { unit = unit; due = due; reset = reset; records = records }) c) ≡ times w pool.scheduler.queue + core_places w c
   same_count unit due reset records may w =
       by_test (λ (d : Resource). times w (unqueued unit pool.scheduler.queue) + core_places w d ≡ times w pool.scheduler.queue + core_places w c) (same_choice unit c.cur) _ _
       (λ is. (let e = own_not_queued unit (same_choice_same unit c.cur is) w in omega (arith, e)))
@@ -397,7 +397,7 @@ module _ (g : ℕ) (t r : ℕ) (c : Resource) (pool : Pool) (at : at_place pool.
   if_unit_is : (P : UnitId → Type 0) (unit : Option UnitId) (w : UnitId) → IfUnit P unit → unit ≡ Some w → P w
   if_unit_is P unit w may is = subst (IfUnit P) is may
 
-  now_runs : (unit : Option UnitId) (due : Option Moment) (reset : ℕ) (records : Records) → IfUnit MayBe unit → CurRuns g pool.domains (decided t (record { unit = unit; due = due; reset = reset; records = records }) c)
+  now_runs : (unit : Option UnitId) (due : Option Moment) (reset : ℕ) (records : Records) → IfUnit MayBe unit → CurRuns g pool.domains (decided_core t (record { unit = unit; due = due; reset = reset; records = records }) c)
   now_runs unit due reset records may w =
       by_test (λ (d : Resource). d.cur ≡ Some w → (is_runnable g pool w ≡ true) ⊎ (d.pending ≡ true)) (same_choice unit c.cur) _ _
       (λ is e. inl (if_unit_is MayBe unit w may (same_choice_same unit c.cur is ∙ e)).0)
@@ -407,17 +407,17 @@ module _ (g : ℕ) (t r : ℕ) (c : Resource) (pool : Pool) (at : at_place pool.
   waits_on None = one.waits
   waits_on (Some u) = AllByRecursion-filter (λ w. is_runnable g pool w ≡ true) (λ w. is_runnable g pool w ≡ true) (λ w. not (same_unit u w)) (λ w is here. here) pool.scheduler.queue one.waits
 
-  one_decided : (d : Decision) → IfUnit MayBe d.unit → OnePlace g (record pool { scheduler = after_decision d pool.scheduler; resources = put_at r (decided t d c) pool.resources })
+  one_decided : (d : Decision) → IfUnit MayBe d.unit → OnePlace g (record pool { scheduler = after_decision d pool.scheduler; resources = put_at r (decided_core t d c) pool.resources })
   one_decided d may =
-      let same : (w : UnitId) → times w (unqueued d.unit pool.scheduler.queue) + total (core_places w) (put_at r (decided t d c) pool.resources) ≡ places pool w = λ w. (
-      let a = total-put_at (core_places w) r (decided t d c) c pool.resources at in
+      let same : (w : UnitId) → times w (unqueued d.unit pool.scheduler.queue) + total (core_places w) (put_at r (decided_core t d c) pool.resources) ≡ places pool w = λ w. (
+      let a = total-put_at (core_places w) r (decided_core t d c) c pool.resources at in
       let b = same_count d.unit d.due d.reset d.records may w in
       omega (arith, a, b)) in
       record {
         most = λ w. (let e = same w in let m = one.most w in omega (arith, e, m));
         runs = λ w runs. elim (one.runs w runs) [ inl has ↦ inl (let e = same w in omega (arith, e, has)) | inr none ↦ absurd none ];
         waits = waits_on d.unit;
-        cur = EachPlace-put_at (CurRuns g pool.domains) r (decided t d c) pool.resources one.cur (now_runs d.unit d.due d.reset d.records may);
+        cur = EachPlace-put_at (CurRuns g pool.domains) r (decided_core t d c) pool.resources one.cur (now_runs d.unit d.due d.reset d.records may);
       }
 
   asked : (u : UnitId) → c.cur ≡ Some u → elim c.cur as (λ _. Bool) [ None ↦ false | Some w ↦ is_runnable g pool w ] ≡ true → is_runnable g pool u ≡ true

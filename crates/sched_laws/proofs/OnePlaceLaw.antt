@@ -1,7 +1,6 @@
 -- The law of one place, from what is kept.
-use Rattle.std.proofs.Common.{◌≡◌, ◌≤◌, ℕ, true, false, List, refl, arith, subst, inl, inr}
-use Rattle.std.specs.Prelude.{Option, Some, None, is_some}
-use Rattle.std.specs.Option.{IfSome}
+use Rattle.std.proofs.Common.{◌≡◌, ◌≤◌, ℕ, true, false, List, arith, subst, inl, inr}
+use Rattle.std.specs.Prelude.{Some, is_some}
 use Rattle.std.proofs.Math.Decide.{dec_le}
 use Rattle.std.proofs.lemmas.List.Elements.{All-from_recursion}
 use Rattle.sched_base.specs.declared.UnitId.{UnitId}
@@ -15,7 +14,7 @@ use Rattle.sched_model.specs.Runs.{IsRun}
 use Rattle.sched_model.specs.Laws.{count, count_in}
 use Rattle.sched_model.specs.Checked.{IsChecked}
 use Rattle.sched_laws.specs.StateLaws.{state_after, UnitsHaveOnePlace}
-use Rattle.sched_laws.proofs.Lists.{some-test_at, test_at-some, is_some_at}
+use Rattle.sched_laws.proofs.Lists.{if_some, some-test_at, test_at-some, is_some_at}
 use Rattle.sched_laws.specs.Known.{IfUnit}
 use Rattle.sched_laws.specs.StateLaws.{has_domain_at}
 use Rattle.sched_laws.proofs.PoolsLaw.{IsKnown, known_in_runs}
@@ -79,7 +78,3 @@ units_have_one_place m checked entries run =
       waits = λ i pool at. All-from_recursion (λ u. is_runnable g pool u ≡ true) pool.scheduler.queue (known.pools i pool at).one.waits;
       pending = λ i pool at r c has. if_some c.cur (λ u. is_runnable g pool u ≡ false → c.pending ≡ true) (λ u is stops. elim ((known.pools i pool at).one.cur r c has u is) [ inl runs ↦ absurd (cc) | inr pends ↦ pends ]);
     }
-  where
-    if_some : {X : Type 0} (o : Option X) (P : X → Type 0) → ((x : X) → o ≡ Some x → P x) → IfSome o P
-    if_some None P all = tt
-    if_some (Some x) P all = all x refl

@@ -1,4 +1,5 @@
 -- What the opening has.
+use Rattle.std.proofs.lemmas.List.Elements.{recursion_from_All}
 use Rattle.std.proofs.Common.{◌≡◌, ◌≤◌, ℕ, zero, suc, true, false, List, [], ◌∷◌, ◌++◌, refl, arith, subst, sym, ◌∙◌, ap, cond, ◌⊎◌, inl, inr, length}
 use Rattle.std.specs.Prelude.{Option, Some, None, is_some, replicate, map, slice_get, ◌==◌, ◌-◌, ◌+◌, ◌&&◌}
 use Rattle.sched_base.specs.Numbers.{moment, domain as domain_number}
@@ -23,7 +24,7 @@ use Rattle.sched_model.specs.Pool.{with_domain, set_params, queue_units, queue_i
 use Rattle.sched_model.specs.Opening.{opening, opening_free, opening_pool, opening_pools, with_domains, with_configured, with_pins, fresh_core, fresh_vcpu, core_count, most_pools}
 use Rattle.sched_laws.specs.Each.{EachPlace}
 use Rattle.sched_laws.proofs.EachPlace.{read_put_at, is_empty, by_cond, EachPlace-empty}
-use Rattle.sched_model.specs.Checked.{IsChecked}
+use Rattle.sched_model.specs.Checked.{IsChecked, IsCheckedDomain, DomParamsPass}
 use Rattle.sched_laws.proofs.Lists.{none_passes, some-test_at, some_is}
 use Rattle.sched_laws.proofs.Kept.{IsKept, IsApart}
 use Rattle.sched_laws.specs.StateLaws.{has_core_at, has_domain_at}
@@ -49,25 +50,37 @@ with_domain-domains g t d x params pool = queue_units-domains g d (numbers_from 
 pub with_domain-resources : (g t d : ℕ) (x : Domain) (params : DomParams) (pool : Pool) → (with_domain g t d x params pool).resources ≡ pool.resources
 with_domain-resources g t d x params pool = queue_units-resources g d (numbers_from 0 (pools.unit_count g x)) _
 
-with_pins-domains : (d n : ℕ) (pins : List Cores) (pool : Pool) → (with_pins d n pins pool).domains ≡ pool.domains
-with_pins-domains d n [] pool = refl
-with_pins-domains d n (cores ∷ pins) pool = with_pins-domains d (suc n) pins (set_params (changes.Pin (domain_number d) (Some n) cores) 0 pool)
+-- what each pin keeps, all do
+pub pins_keep : (I : Pool → Type 0) → ((d n : ℕ) (cores : Cores) (pool : Pool) → I pool → I (set_params (changes.Pin (domain_number d) (Some n) cores) 0 pool)) → (d n : ℕ) (pins : List Cores) (pool : Pool) → I pool → I (with_pins d n pins pool)
+pins_keep I keeps d n [] pool here = here
+pins_keep I keeps d n (cores ∷ pins) pool here = pins_keep I keeps d (suc n) pins (set_params (changes.Pin (domain_number d) (Some n) cores) 0 pool) (keeps d n cores pool here)
+
+pub with_pins-domains : (d n : ℕ) (pins : List Cores) (pool : Pool) → (with_pins d n pins pool).domains ≡ pool.domains
+with_pins-domains d n pins pool = pins_keep (λ p. p.domains ≡ pool.domains) (λ e k cores p same. same) d n pins pool refl
 
 with_pins-resources : (d n : ℕ) (pins : List Cores) (pool : Pool) → (with_pins d n pins pool).resources ≡ pool.resources
-with_pins-resources d n [] pool = refl
-with_pins-resources d n (cores ∷ pins) pool = with_pins-resources d (suc n) pins (set_params (changes.Pin (domain_number d) (Some n) cores) 0 pool)
+with_pins-resources d n pins pool = pins_keep (λ p. p.resources ≡ pool.resources) (λ e k cores p same. same) d n pins pool refl
 
 -- the domain of the file
 abbrev pub joining_domain : DomConfig → Domain
 joining_domain joining = record { paused = false; moving = None; vcpus = map fresh_vcpu joining.guests }
 
-with_configured-domains : (g d : ℕ) (joining : DomConfig) (pool : Pool) → (with_configured g d joining pool).domains ≡ put_at d (joining_domain joining) pool.domains
+pub with_configured-domains : (g d : ℕ) (joining : DomConfig) (pool : Pool) → (with_configured g d joining pool).domains ≡ put_at d (joining_domain joining) pool.domains
 with_configured-domains g d joining pool =
     with_pins-domains d 0 joining.pins (with_domain g 0 d (joining_domain joining) joining.params pool) ∙ with_domain-domains g 0 d (joining_domain joining) joining.params pool
 
 pub with_configured-resources : (g d : ℕ) (joining : DomConfig) (pool : Pool) → (with_configured g d joining pool).resources ≡ pool.resources
 with_configured-resources g d joining pool =
     with_pins-resources d 0 joining.pins (with_domain g 0 d (joining_domain joining) joining.params pool) ∙ with_domain-resources g 0 d (joining_domain joining) joining.params pool
+
+-- what each domain keeps that joins at its home, all do
+pub domains_keep : (g i : ℕ) (I : Pool → Type 0) (d : ℕ) (domains : List DomConfig)
+    → ((k : ℕ) (joining : DomConfig) (pool : Pool) → slice_get domains k ≡ Some joining → joining.home.0 ≡ i → I pool → I (with_configured g (d + k) joining pool)) → (pool : Pool) → I pool → I (with_domains g i d domains pool)
+domains_keep g i I d [] joins pool here = here
+domains_keep g i I d (joining ∷ domains) joins pool here =
+    domains_keep g i I (suc d) domains (λ k x p at home kept. let e : d + suc k ≡ suc d + k = omega arith in subst (λ n. I (with_configured g n x p)) e (joins (suc k) x p at home kept)) (cond (joining.home.0 == i) (with_configured g d joining pool) pool)
+    (by_cond I (joining.home.0 == i) (with_configured g d joining pool) pool
+    (λ same. (let e : d + 0 ≡ d = omega arith in subst (λ n. I (with_configured g n joining pool)) e (joins 0 joining pool refl (grind (arith, same)) here))) (λ other. here))
 
 -- the places from a number on are empty
 abbrev pub EmptyFrom : ℕ → Pool → Type 0
@@ -81,12 +94,8 @@ EmptyFrom-configured g d joining pool empty e past =
     ]))
 
 module _ (g : ℕ) (I : Pool → Type 0) (kept : IsKept g I) where
-  kept_pins : (d n : ℕ) (pins : List Cores) (pool : Pool) → I pool → I (with_pins d n pins pool)
-  kept_pins d n [] pool here = here
-  kept_pins d n (cores ∷ pins) pool here = kept_pins d (suc n) pins _ (kept.inside.changes (changes.Pin (domain_number d) (Some n) cores) 0 pool here)
-
   kept_configured : (d : ℕ) (joining : DomConfig) (pool : Pool) → at_place pool.domains d ≡ None → I pool → I (with_configured g d joining pool)
-  kept_configured d joining pool none here = kept_pins d 0 joining.pins _ (kept.domain_comes 0 d (joining_domain joining) joining.params pool refl none here)
+  kept_configured d joining pool none here = pins_keep I (λ e n cores. kept.inside.changes (changes.Pin (domain_number e) (Some n) cores) 0) d 0 joining.pins _ (kept.domain_comes 0 d (joining_domain joining) joining.params pool refl none here)
 
   kept_domains : (i d : ℕ) (domains : List DomConfig) (pool : Pool) → EmptyFrom d pool → I pool → I (with_domains g i d domains pool)
   kept_domains i d [] pool empty here = here
@@ -121,11 +130,8 @@ read_core config pool r c at =
     let e : 0 + r ≡ r = omega arith in
     cond_some (has_core pool.cores r) _ c (rw e at (read_map (λ r. cond (has_core pool.cores r) (Some (fresh_core (replicate config.granularity (moment 0)))) None) 0 (core_count config) r c at))
 
-with_domains-resources : (g i d : ℕ) (domains : List DomConfig) (pool : Pool) → (with_domains g i d domains pool).resources ≡ pool.resources
-with_domains-resources g i d [] pool = refl
-with_domains-resources g i d (joining ∷ domains) pool =
-    with_domains-resources g i (suc d) domains (cond (joining.home.0 == i) (with_configured g d joining pool) pool)
-    ∙ by_cond (λ (p : Pool). p.resources ≡ pool.resources) (joining.home.0 == i) (with_configured g d joining pool) pool (λ is. with_configured-resources g d joining pool) (λ is. refl)
+pub with_domains-resources : (g i d : ℕ) (domains : List DomConfig) (pool : Pool) → (with_domains g i d domains pool).resources ≡ pool.resources
+with_domains-resources g i d domains pool = domains_keep g i (λ p. p.resources ≡ pool.resources) d domains (λ k joining p at home same. with_configured-resources g (d + k) joining p ∙ same) pool refl
 
 -- a domain of the pool i is one whose home is i
 with_domains-home : (g i d : ℕ) (domains : List DomConfig) (pool : Pool) (e : ℕ) (x : Domain) → at_place (with_domains g i d domains pool).domains e ≡ Some x
@@ -174,6 +180,17 @@ pub each_get : {X : Type 0} (P : X → Type 0) (xs : List X) (i : ℕ) (x : X) �
 each_get P [] i x each at = absurd (cc)
 each_get P (y ∷ xs) zero x each at = let e : y ≡ x = cc in subst P e each.0
 each_get P (y ∷ xs) (suc i) x each at = each_get P xs i x each.1 at
+
+-- what the pins keep, and each checked domain that joins, the domains of the file do
+pub opened_keeps : (m : Machine) → IsChecked m → (i : ℕ) (p : PoolConfig) → slice_get m.config.pools i ≡ Some p → (I : Pool → Type 0)
+    → ((d : ℕ) (joining : DomConfig) (pool : Pool) → slice_get m.config.domains d ≡ Some joining → IsCheckedDomain m.config joining → DomParamsPass p.kind joining.params → I pool → I (with_domain m.config.granularity 0 d (joining_domain joining) joining.params pool))
+    → ((d n : ℕ) (cores : Cores) (pool : Pool) → I pool → I (set_params (changes.Pin (domain_number d) (Some n) cores) 0 pool)) → (pool : Pool) → I pool → I (with_domains m.config.granularity i 0 m.config.domains pool)
+opened_keeps m checked i p is I joins pins pool here =
+    domains_keep m.config.granularity i I 0 m.config.domains (λ k joining next at home kept. (
+    let e : k ≡ 0 + k = omega arith in
+    let domain = each_get (IsCheckedDomain m.config) m.config.domains k joining (recursion_from_All (IsCheckedDomain m.config) m.config.domains checked.config.domains) at in
+    let passed = (domain.home_pool p (subst (λ j. slice_get m.config.pools j ≡ Some p) (sym home) is)).1 in
+    subst (λ n. I (with_configured m.config.granularity n joining next)) e (pins_keep I pins k 0 joining.pins _ (joins k joining next at domain passed kept)))) pool here
 
 opened_core_at : (m : Machine) (i r : ℕ) → has_core_at (opening m) i r ≡ true → (p : PoolConfig) × (slice_get m.config.pools i ≡ Some p) × (has_core p.cores r ≡ true)
 opened_core_at m i r has =

@@ -2,7 +2,7 @@
 use Rattle.std.proofs.Common.{◌≡◌, ◌≢◌, ℕ, true, false, not, List, refl, arith, subst, sym, ◌∙◌, ap}
 use Rattle.std.specs.List.{AllByRecursion}
 use Rattle.std.specs.Prelude.{Option, Some, None, is_some, is_none, replicate, ◌||◌, ◌==◌}
-use Rattle.sched_base.specs.Numbers.{pool as pool_number}
+use Rattle.sched_base.specs.Numbers.{pool as pool_number, domain as domain_number}
 use Rattle.sched_base.specs.declared.UnitId.{UnitId}
 use Rattle.sched_model.specs.declared.config.DomParams.{DomParams}
 use Rattle.sched_model.specs.declared.state.Domain.{Domain}
@@ -14,9 +14,9 @@ use Rattle.sched_model.specs.State.{is_runnable, unit_runnable}
 use Rattle.sched_model.specs.Opening.{fresh_core, core_count}
 use Rattle.sched_model.specs.Eligible.{Decision}
 use Rattle.sched_model.specs.Policy as policy
-use Rattle.sched_model.specs.Policy.{decision_of, dequeue_domain, rtds_record}
+use Rattle.sched_model.specs.Policy.{decision_of, dequeue_domain}
 use Rattle.sched_model.specs.Pool as pools
-use Rattle.sched_model.specs.Pool.{enabled_in, after_in, settled, home_cores, reconsidered, change_core, change_processor, change_vcpu, change_domain, change_cores_of, set_pending, does, queue_unit, started_on, decided, same_choice, ask_of, set_leaving, set_moving, pause, unpause, set_params, without_domain, with_domain, with_records, is_of_domain}
+use Rattle.sched_model.specs.Pool.{enabled_in, change_core, change_domain, change_cores_of, queue_unit, decided_core, same_choice, ask_of, set_moving, without_domain, with_domain, with_records, is_of_domain}
 use Rattle.sched_model.specs.declared.action.Action.TheVariants.{DomMoved}
 use Rattle.sched_laws.specs.Each.{EachPlace}
 use Rattle.sched_laws.proofs.EachPlace.{EachPlace-change_at, EachPlace-put_at, EachPlace-clear_at, EachPlace-empty, by_test}
@@ -72,7 +72,7 @@ staying_if_runnable g pool u runs =
     test_at-some pool.domains u.dom.0 (λ d. is_none d.moving) r.0 r.1 (and_right _ _ (and_left _ _ r.2))
 
 -- a decision gives a unit of the pool
-own_decided : (domains : List (Option Domain)) (t : ℕ) (decision : Decision) (c : Resource) → IfUnit (IsThere domains) decision.unit → CoreIsOwn domains c → CoreIsOwn domains (decided t decision c)
+own_decided : (domains : List (Option Domain)) (t : ℕ) (decision : Decision) (c : Resource) → IfUnit (IsThere domains) decision.unit → CoreIsOwn domains c → CoreIsOwn domains (decided_core t decision c)
 own_decided domains t decision c chosen own =
     by_test (CoreIsOwn domains) (same_choice decision.unit c.cur) _ _ (λ is. record { cur = own.cur; saving = own.saving }) (λ is. record { cur = chosen; saving = own.cur })
 
@@ -90,7 +90,7 @@ own_after_decide g t r c pool at own =
     (λ u is runs. subst (IfUnit (IsThere pool.domains)) is core.cur) in
     record {
       queue = own_unqueued (IsStaying pool.domains) decision.unit pool.scheduler.queue own.queue;
-      cores = EachPlace-put_at (CoreIsOwn pool.domains) r (decided t decision c) pool.resources own.cores (own_decided pool.domains t decision c chosen core);
+      cores = EachPlace-put_at (CoreIsOwn pool.domains) r (decided_core t decision c) pool.resources own.cores (own_decided pool.domains t decision c chosen core);
     }
 
 own_with_records : (records : Records) (pool : Pool) → UnitsAreOwn pool → UnitsAreOwn (with_records records pool)
@@ -103,7 +103,7 @@ own_parts g t = record {
   queues = λ u pool runs. own_queue_unit u pool (staying_if_runnable g pool u runs);
   dequeues = λ d pool own. record { queue = AllByRecursion-filter (IsStaying pool.domains) (IsStaying pool.domains) (λ u. not (u.dom.0 == d)) (λ u is here. here) pool.scheduler.queue own.queue; cores = own.cores };
   decides = λ r c pool at on. own_after_decide g t r c pool at;
-  saves = λ r c u pool at is on. own_change_core r pools.saved pool (λ c core. record { cur = core.cur; saving = tt });
+  saves = λ r c u pool at is on. own_change_core r pools.saved_core pool (λ c core. record { cur = core.cur; saving = tt });
   replenishes = λ u pool on. own_with_records _ pool;
   dues = λ r u x old pool on is. own_change_core r (pools.due_within t x.budget) pool (λ c core. record { cur = core.cur; saving = core.saving });
   refills = λ d pool on. own_with_records _ pool;
@@ -146,7 +146,7 @@ moving_not_staying d domains u moving staying e =
     both_ways None some none = cc
     both_ways (Some x) some none = cc
 
-own_without_domain : (g t d : ℕ) (pool : Pool) → enabled_in g t pool (DomMoved d) ≡ true → UnitsAreOwn pool → UnitsAreOwn (without_domain d pool)
+own_without_domain : (g t d : ℕ) (pool : Pool) → enabled_in g t pool (DomMoved (domain_number d)) ≡ true → UnitsAreOwn pool → UnitsAreOwn (without_domain d pool)
 own_without_domain g t d pool on own =
     let moving = and_left (test_at pool.domains d (λ x. is_some x.moving)) _ on in
     let none = at_numbered (λ (c : Resource). (is_of_domain d c.cur || is_of_domain d c.saving) ≡ false) 0 pool.resources (none_passes _ _ (not_true _ (and_right (test_at pool.domains d (λ x. is_some x.moving)) _ on))) in

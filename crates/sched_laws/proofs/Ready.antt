@@ -1,6 +1,6 @@
 -- In every state of a run each core has all its processors, and one that is neither leaving nor pending keeps nobody waiting until its due.
-use Rattle.std.proofs.Common.{◌≡◌, ◌≤◌, ℕ, suc, Bool, true, false, List, [], ◌∷◌, refl, arith, subst, sym, ◌∙◌, ap, cond, ◌⊎◌, inl, inr}
-use Rattle.std.specs.Prelude.{Option, Some, None, is_some, length, replicate, map, filter, min, ◌&&◌, ◌==◌, ◌+◌, nat_le, nat_lt, unwrap_or}
+use Rattle.std.proofs.Common.{◌≡◌, ◌≤◌, ℕ, Bool, true, false, List, [], ◌∷◌, refl, arith, subst, sym, ◌∙◌, ap, cond, ◌⊎◌, inl, inr}
+use Rattle.std.specs.Prelude.{Option, Some, None, is_some, length, replicate, map, filter, min, ◌&&◌, ◌+◌, nat_le, nat_lt, unwrap_or}
 use Rattle.std.specs.List.{list_any, AllByRecursion}
 use Rattle.std.proofs.lemmas.List.{length-replicate}
 use Rattle.sched_base.specs.Numbers.{moment, domain as domain_number, pool as pool_number, span}
@@ -8,9 +8,8 @@ use Rattle.sched_base.specs.declared.Moment.{Moment}
 use Rattle.sched_model.specs.declared.config.DomConfig.{DomConfig}
 use Rattle.sched_model.specs.declared.event.Event.{Event}
 use Rattle.sched_model.specs.declared.event.Entry.{Entry}
-use Rattle.sched_model.specs.declared.state.Processor.{Processor}
 use Rattle.sched_model.specs.declared.state.Resource.{Resource}
-use Rattle.sched_model.specs.Places.{at_place, put_at, numbers_from, least}
+use Rattle.sched_model.specs.Places.{at_place, put_at, numbers_from, least_number}
 use Rattle.sched_model.specs.declared.machine.Machine.{Machine}
 use Rattle.sched_model.specs.declared.state.State.{State}
 use Rattle.sched_model.specs.declared.state.Pool.{Pool}
@@ -21,8 +20,9 @@ use Rattle.sched_model.specs.declared.action.Action.{Action}
 use Rattle.sched_model.specs.Pool.{home_cores}
 use Rattle.sched_model.specs.Commands.{set_rtds_unit}
 use Rattle.sched_model.specs.Machine.{is_enabled, first_enabled, moments, next_moment, next_in_horizon, after}
-use Rattle.sched_model.specs.Runs.{Reached, action_of, end_of, after_quiet, after_event, IsNextEvent, IsRunFrom, IsRun, begun, after_entry, after_entries}
+use Rattle.sched_model.specs.Runs.{Reached, action_of, end_of, after_quiet, after_event, IsNextEvent, IsRunFrom, IsRun, run_start, after_entry, after_entries}
 use Rattle.sched_model.specs.Checked.{IsChecked}
+use Rattle.std.proofs.lemmas.List.{length-map}
 use Rattle.sched_laws.specs.Each.{EachPlace}
 use Rattle.sched_laws.proofs.EachPlace.{EachPlace-empty, by_option, by_cond}
 use Rattle.std.proofs.Math.Decide.{dec_le}
@@ -30,7 +30,7 @@ use Rattle.sched_laws.proofs.Kept.{IsApart}
 use Rattle.sched_laws.proofs.ApartKept.{apart_after}
 use Rattle.sched_laws.proofs.OwnUnits.{units_are_own}
 use Rattle.sched_laws.specs.Known.{UnitsAreOwn}
-use Rattle.sched_laws.proofs.Opened.{length_map_numbers, joining_domain, each_get, kept_opening, apart_opening, with_configured-resources, read_map, read_pools}
+use Rattle.sched_laws.proofs.Opened.{length_map_numbers, joining_domain, each_get, kept_opening, apart_opening, with_domains-resources, read_map, read_pools, pins_keep, domains_keep}
 use Rattle.std.proofs.lemmas.List.Elements.{recursion_from_All}
 use Rattle.sched_base.specs.declared.UnitId.{UnitId}
 use Rattle.sched_base.specs.declared.Cores.{Cores}
@@ -45,7 +45,7 @@ use Rattle.sched_model.specs.declared.state.ArincRecords.{ArincRecords}
 use Rattle.sched_model.specs.declared.state.Domain.{Domain}
 use Rattle.sched_model.specs.Checked.{IsCheckedPool, PoolParamsPass}
 use Rattle.sched_model.specs.Policy.{default_pool_params, fresh_records, join, rtds_record, default_dom_params}
-use Rattle.sched_model.specs.Pool.{change_domain, queue_units, queue_if_off, queue_unit, with_domain, set_params, is_off, unit_count}
+use Rattle.sched_model.specs.Pool.{change_domain, queue_units, queue_if_off, queue_unit, with_domain, is_off, unit_count}
 use Rattle.sched_laws.proofs.Window.{FitsMajor}
 use Rattle.sched_laws.proofs.Due.{FrameFits, SameWindows, arinc_of, same_changed, same_joined, PoolFits, not_yet, d_parts, d_commands, d_set_params, d_with_domain, d_core_comes, d_core_goes, d_without_domain, d_later, d_set_rtds_unit}
 use Rattle.sched_laws.proofs.Calm.{IsCalm, calm_settled, calm_change_processor, calm_later, calm_without_domain}
@@ -58,35 +58,28 @@ use Rattle.sched_base.specs.declared.Span.{Span}
 
 -- a pool without a frame, as each new one is
 default_frame : (kind : SchedKind) (domains cores : ℕ) → FrameFits (fresh_records (default_pool_params kind) domains cores)
-default_frame kinds.Credit2 domains cores arinc frame is has = absurd (cc)
-default_frame kinds.Rtds domains cores arinc frame is has = absurd (cc)
 default_frame kinds.Arinc653 domains cores arinc frame is has =
     let e : ◌≡◌ {A = ArincRecords} (record { frame = None; installed = 0 }) arinc = cc in
     absurd (let f : None ≡ Some frame = ap (λ (a : ArincRecords). a.frame) e ∙ has in cc)
-default_frame kinds.Null domains cores arinc frame is has = absurd (cc)
+default_frame other domains cores arinc frame is has = absurd (cc)
 
 -- the frame of a pool of the file
 opened_frame : (config : Config) (kind : SchedKind) (params : PoolParams) (domains cores : ℕ) → PoolParamsPass config kind params → FrameFits (fresh_records params domains cores)
-opened_frame config kind (pool_params.Credit2 limit) domains cores passed arinc frame is has = absurd (cc)
-opened_frame config kind pool_params.Rtds domains cores passed arinc frame is has = absurd (cc)
-opened_frame config kind pool_params.Null domains cores passed arinc frame is has = absurd (cc)
 opened_frame config kind (pool_params.Arinc653 None) domains cores passed arinc frame is has =
     let e : ◌≡◌ {A = ArincRecords} (record { frame = None; installed = 0 }) arinc = cc in
     absurd (let f : None ≡ Some frame = ap (λ (a : ArincRecords). a.frame) e ∙ has in cc)
-opened_frame config kinds.Credit2 (pool_params.Arinc653 (Some x)) domains cores passed arinc frame is has = absurd passed
-opened_frame config kinds.Rtds (pool_params.Arinc653 (Some x)) domains cores passed arinc frame is has = absurd passed
-opened_frame config kinds.Null (pool_params.Arinc653 (Some x)) domains cores passed arinc frame is has = absurd passed
 opened_frame config kinds.Arinc653 (pool_params.Arinc653 (Some x)) domains cores passed arinc frame is has =
     let e : ◌≡◌ {A = ArincRecords} (record { frame = Some x; installed = 0 }) arinc = cc in
     let f : Some x ≡ Some frame = ap (λ (a : ArincRecords). a.frame) e ∙ has in
     let g : x ≡ frame = cc in
     subst FitsMajor g passed.fits
+opened_frame config other (pool_params.Arinc653 (Some x)) domains cores passed arinc frame is has = absurd passed
+opened_frame config kind other domains cores passed arinc frame is has = absurd (cc)
 
 -- the domains of the file that join a pool leave its windows
 with_pins-windows : (d n : ℕ) (pins : List Cores) (pool : Pool) → SameWindows pool.scheduler.records (with_pins d n pins pool).scheduler.records
-with_pins-windows d n [] pool = refl
-with_pins-windows d n (cores ∷ pins) pool =
-    with_pins-windows d (suc n) pins (set_params (changes.Pin (domain_number d) (Some n) cores) 0 pool) ∙ same_changed pool.scheduler.records (changes.Pin (domain_number d) (Some n) cores) 0 tt
+with_pins-windows d n pins pool =
+    pins_keep (λ p. SameWindows pool.scheduler.records p.scheduler.records) (λ e k cores p same. same_changed p.scheduler.records (changes.Pin (domain_number e) (Some k) cores) 0 tt ∙ same) d n pins pool refl
 
 queue_units-windows : (g d : ℕ) (units : List ℕ) (pool : Pool) → SameWindows pool.scheduler.records (queue_units g d units pool).scheduler.records
 queue_units-windows g d [] pool = refl
@@ -102,14 +95,8 @@ with_configured-windows g d joining pool =
     ∙ same_joined pool.scheduler.records joining.params d (unit_count g x) 0
 
 with_domains-windows : (g i d : ℕ) (domains : List DomConfig) (pool : Pool) → SameWindows pool.scheduler.records (with_domains g i d domains pool).scheduler.records
-with_domains-windows g i d [] pool = refl
-with_domains-windows g i d (joining ∷ domains) pool =
-    with_domains-windows g i (suc d) domains (cond (joining.home.0 == i) (with_configured g d joining pool) pool)
-    ∙ by_cond (λ (p : Pool). SameWindows pool.scheduler.records p.scheduler.records) (joining.home.0 == i) (with_configured g d joining pool) pool (λ is. with_configured-windows g d joining pool) (λ is. refl)
-
-pub length_ends : (ps : List Processor) → length (map (λ (p : Processor). p.stall_end) ps) ≡ length ps
-length_ends [] = refl
-length_ends (p ∷ ps) = (let e = length_ends ps in grind (arith, e))
+with_domains-windows g i d domains pool =
+    domains_keep g i (λ p. SameWindows pool.scheduler.records p.scheduler.records) d domains (λ k joining p at home same. with_configured-windows g (d + k) joining p ∙ same) pool refl
 
 own_set_rtds_unit : (g t : ℕ) (period budget : Option Span) (extra : Option Bool) (u : UnitId) (pool : Pool) → UnitsAreOwn pool → UnitsAreOwn (set_rtds_unit t period budget extra u pool)
 own_set_rtds_unit g t period budget extra u pool own =
@@ -147,19 +134,20 @@ module _ (m : Machine) (t : ℕ) where
       let n : ℕ = core_count m.config in
       let g : ℕ = m.config.granularity in
       record {
+        stays = λ pool r. r;
         weakens = λ pool r. r.fit;
         settles = λ pool f. record { fit = record { own = own.inside.settles t pool f.own; fits = kept_settled (d_commands n g t) t pool f.fits }; calms = calm_settled t pool };
         stalls = λ p end pool fits r. record { fit = record { own = own.inside.stalls p end pool r.fit.own; fits = kept_processor (d_parts n g t) p (λ q. record q { stall_end = moment end }) pool r.fit.fits }; calms = calm_change_processor g t p (λ q. record q { stall_end = moment end }) pool r.calms };
-        acts = λ pool action on r. record { own = own.inside.acts t pool action on r.fit.own; fits = kept_by_parts (d_parts n g t) pool action tt r.fit.fits };
+        acts = λ pool action of on r. record { own = own.inside.acts t pool action on r.fit.own; fits = kept_by_parts (d_parts n g t) pool action tt r.fit.fits };
         leaves = λ r pool f. record { own = own.inside.leaves r pool f.own; fits = kept_set_leaving (d_commands n g t) r pool f.fits };
         moves = λ d i pool f. record { own = own.inside.moves d i pool f.own; fits = kept_withdrawn (d_commands n g t) d (change_domain d (λ x. record x { moving = Some (pool_number i) }) pool) f.fits };
         pauses = λ d pool f. record { own = own.inside.pauses d pool f.own; fits = kept_pause (d_commands n g t) d pool f.fits };
         unpauses = λ d pool f. record { own = own.inside.unpauses d pool f.own; fits = kept_unpause (d_commands n g t) d pool f.fits };
-        changes = λ change pool good f. record { own = own.inside.changes change t pool f.own; fits = d_set_params n g t change pool good f.fits };
+        changes = λ change pool good r. record { own = own.inside.changes change t pool r.fit.own; fits = d_set_params n g t change pool good r.fit.fits };
         core_comes = λ r ends pool none whole q. record { own = own.core_comes r ends pool none q.fit.own; fits = d_core_comes n g t r ends pool whole q.fit.fits };
         rtds = λ period budget extra u pool good f. record { own = own_set_rtds_unit m.config.granularity t period budget extra u pool f.own; fits = d_set_rtds_unit n g t period budget extra u pool f.fits };
         ends_stall = λ k end ends fits whole. length_change_item k (λ old. moment end) ends ∙ whole;
-        ends_go = λ r c pool at q. length_ends c.processors ∙ (q.fit.fits.cores r c at).processors;
+        ends_go = λ r c pool at q. length-map c.processors _ ∙ (q.fit.fits.cores r c at).processors;
         domain_is = λ d domain pool at q. tt;
         core_goes = λ r pool on q. record { own = own.core_goes t r pool on q.fit.own; fits = d_core_goes n g t r pool q.fit.fits };
         domain_comes = λ d domain pool stays none comes f. record { own = own.domain_comes t d domain (default_dom_params pool.scheduler.records) pool stays none f.own; fits = d_with_domain n g t d domain (default_dom_params pool.scheduler.records) pool f.fits };
@@ -179,10 +167,10 @@ pub record IsReady (m : Machine) (s : State) : Type 0 where
 
 ready_after : (m : Machine) (s : State) (action : Action) → is_enabled m s s.now action ≡ true → IsReady m s → IsReady m (after m s s.now action)
 ready_after m s action on ready =
-    let free = free_after m s.now NoEnd (Whole m.config.granularity) NoDomain (PoolIsReady m s.now) (PoolIsFit m s.now) (ready_steps m s.now) s action ready.free (λ l is. tt) ready.pools in
+    let free = free_after (ready_steps m s.now) s action ready.free (λ l is. tt) ready.pools in
     record {
       apart = apart_after m s s.now action on ready.apart;
-      pools = subst (λ k. EachPlace (PoolIsReady m k) (after m s s.now action).pools) (sym free.0) (step_after m s.now NoEnd (Whole m.config.granularity) NoDomain (PoolIsReady m s.now) (PoolIsFit m s.now) (ready_steps m s.now) s action ready.apart ready.free (λ l is. tt) on ready.pools);
+      pools = subst (λ k. EachPlace (PoolIsReady m k) (after m s s.now action).pools) (sym free.0) (step_after (ready_steps m s.now) s action tt ready.apart ready.free (λ l is. tt) on ready.pools);
       free = free.1;
     }
 
@@ -203,10 +191,10 @@ ready_later m s next past ready = record {
 min_is : (a b : ℕ) → (min a b ≡ a) ⊎ (min a b ≡ b)
 min_is a b = elim (dec_le a b) [ yes le ↦ inl (omega (arith, le)) | no gt ↦ inr (omega (arith, gt)) ]
 
-least_is : (P : ℕ → Type 0) (ns : List ℕ) (n : ℕ) → AllByRecursion P ns → least ns ≡ Some n → P n
+least_is : (P : ℕ → Type 0) (ns : List ℕ) (n : ℕ) → AllByRecursion P ns → least_number ns ≡ Some n → P n
 least_is P [] n each is = absurd (cc)
 least_is P (k ∷ ns) n each is =
-    elim (least ns) as (λ o. least ns ≡ o → elim o as (λ _. Option ℕ) [ None ↦ Some k | Some j ↦ Some (min k j) ] ≡ Some n → P n) [
+    elim (least_number ns) as (λ o. least_number ns ≡ o → elim o as (λ _. Option ℕ) [ None ↦ Some k | Some j ↦ Some (min k j) ] ≡ Some n → P n) [
       | None ↦ λ e h. (let same : k ≡ n = cc in subst P same each.0)
       | Some j ↦ λ e h. (let p = least_is P ns j each.1 e in let same : min k j ≡ n = cc in subst P same (min_has k j each.0 p))
     ] refl is
@@ -245,15 +233,6 @@ ready_from m from [] run ready = ready
 ready_from m from (entry ∷ entries) run ready = ready_from m (after_entry m from entry) entries run.1 (ready_event m entry.event (action_of entry.event) from run.0.event ready)
 
 -- at the opening all cores are fresh
-pub with_domains-resources : (g i d : ℕ) (domains : List DomConfig) (pool : Pool) → (with_domains g i d domains pool).resources ≡ pool.resources
-with_domains-resources g i d [] pool = refl
-with_domains-resources g i d (joining ∷ domains) pool =
-    with_domains-resources g i (suc d) domains _ ∙ by_cond (λ (x : Pool). x.resources ≡ pool.resources) (joining.home.0 == i) (with_configured g d joining pool) pool (λ is. with_configured-resources g d joining pool) (λ is. refl)
-
-length_fresh : (ends : List Moment) → length (fresh_core ends).processors ≡ length ends
-length_fresh [] = refl
-length_fresh (e ∷ ends) = (let r = length_fresh ends in grind (arith, r))
-
 opening_frame : (config : Config) (p : PoolConfig) (i : ℕ) (pool : Pool) → pool ≡ opening_pool config i p → PoolParamsPass config p.kind p.params → FrameFits pool.scheduler.records
 opening_frame config p i pool is passed arinc frame at has =
     let same = with_domains-windows config.granularity i 0 config.domains (record (empty_pool config p.params) { resources = map (λ r. cond (has_core p.cores r) (Some (fresh_core (replicate config.granularity (moment 0)))) None) (numbers_from 0 (core_count config)) }) in
@@ -277,7 +256,7 @@ ready_opening m checked = record {
             frame = opening_frame m.config r.0 (0 + i) pool r.2 (each_get (IsCheckedPool m.config) m.config.pools i r.0 (recursion_from_All (IsCheckedPool m.config) m.config.pools checked.config.pools) r.1).params;
             count = ap length same ∙ length_map_numbers _ 0 (core_count m.config);
             cores = λ n c has. record {
-              processors = ap (λ (x : Resource). length x.processors) (sym (fresh n c has)) ∙ length_fresh (replicate m.config.granularity (moment 0)) ∙ length-replicate m.config.granularity (moment 0);
+              processors = ap (λ (x : Resource). length x.processors) (sym (fresh n c has)) ∙ length-map (replicate m.config.granularity (moment 0)) _ ∙ length-replicate m.config.granularity (moment 0);
               due = λ stays decided later past low. absurd (let e : true ≡ false = ap (λ (x : Resource). x.pending) (fresh n c has) ∙ decided in cc);
             };
           };
@@ -290,5 +269,5 @@ ready_opening m checked = record {
       (λ is h. absurd (cc)) (λ is h. (let s : ◌≡◌ {A = FreeCore} (record { target = None; stall_ends = replicate m.config.granularity (moment 0) }) c = cc in ap (λ (x : FreeCore). length x.stall_ends) (sym s) ∙ length-replicate m.config.granularity (moment 0))) e);
 }
 
-pub ready_in_runs : (m : Machine) → IsChecked m → (entries : List Entry) → IsRun m entries → IsReady m (after_entries m (begun m) entries).state
-ready_in_runs m checked entries run = ready_from m (begun m) entries run (ready_opening m checked)
+pub ready_in_runs : (m : Machine) → IsChecked m → (entries : List Entry) → IsRun m entries → IsReady m (after_entries m (run_start m) entries).state
+ready_in_runs m checked entries run = ready_from m (run_start m) entries run (ready_opening m checked)

@@ -2,7 +2,7 @@
 use Rattle.std.proofs.Common.{◌≡◌, ◌<◌, ℕ, zero, suc, Bool, true, false, not, List, [], ◌∷◌, refl, arith, subst, sym, ◌∙◌, ap, inl, inr}
 use Rattle.std.specs.Prelude.{Option, Some, None, is_none, slice_get, ◌&&◌, ◌||◌, ◌+◌, ◌*◌, ◌/◌, ◌%◌}
 use Rattle.std.specs.List.{list_any, list_all}
-use Rattle.sched_base.specs.Numbers.{moment, pool as pool_number}
+use Rattle.sched_base.specs.Numbers.{moment, pool as pool_number, processor}
 use Rattle.sched_base.specs.declared.Moment.{Moment}
 use Rattle.sched_base.specs.declared.UnitId.{UnitId}
 use Rattle.sched_base.specs.declared.VcpuId.{VcpuId}
@@ -18,9 +18,9 @@ use Rattle.sched_model.specs.State.{is_awake, is_up, is_runnable}
 use Rattle.sched_model.specs.Opening.{fresh_core, core_count}
 use Rattle.sched_model.specs.Eligible.{Decision}
 use Rattle.sched_model.specs.Policy as policy
-use Rattle.sched_model.specs.Policy.{decision_of, dequeue_domain, rtds_record}
+use Rattle.sched_model.specs.Policy.{decision_of}
 use Rattle.sched_model.specs.Pool as pools
-use Rattle.sched_model.specs.Pool.{enabled_in, after_in, settled, home_cores, reconsidered, change_core, change_processor, change_vcpu, change_domain, change_cores_of, set_pending, does, queue_unit, started_on, decided, same_choice, ask_of, set_leaving, set_moving, pause, unpause, set_params, without_domain, with_domain, with_records, is_of_domain}
+use Rattle.sched_model.specs.Pool.{enabled_in, change_core, change_processor, change_vcpu, change_domain, change_cores_of, with_doing, started_on, decided_core as decided, same_choice, ask_of, set_params}
 use Rattle.sched_model.specs.declared.action.Action.TheVariants.{Arrive}
 use Rattle.sched_laws.specs.Each.{EachPlace}
 use Rattle.sched_laws.proofs.EachPlace.{EachPlace-change_at, EachPlace-put_at, EachPlace-clear_at, EachPlace-empty, found_at, by_option, by_test, by_cond}
@@ -28,7 +28,7 @@ use Rattle.sched_laws.proofs.Choices.{is_unit_same}
 pub use Rattle.sched_laws.proofs.Lists.{read_change_item}
 use Rattle.sched_laws.proofs.Kept.{IsKept, IsFresh, passes_at}
 use Rattle.sched_laws.proofs.Bools.{and_left, and_right, not_true, clash}
-use Rattle.sched_laws.proofs.Events.{EachAt-like, capped, like_of_domain, IsMarked, Enabled, KeptByCommands, KeptBySteps, kept_settled, kept_by_event, kept_set_leaving, kept_withdrawn, kept_pause, kept_unpause, kept_marked, kept_queue_units}
+use Rattle.sched_laws.proofs.Events.{EachAt-like, capped, like_of_domain, IsMarked, Enabled, KeptByCommands, KeptBySteps, kept_settled, kept_by_event, kept_set_leaving, kept_withdrawn, kept_pause, kept_unpause, kept_marked, kept_queue_units, kept_pending}
 use Rattle.sched_laws.specs.Known.{CoreIsSound, AreSound}
 
 -- a change that the test does not see
@@ -153,30 +153,30 @@ module _ (g : ℕ) (some : 0 < g) where
       sound_change_core ((r * g + v.n % g) / g) _ pool (λ c at here.
       let same : f.0 ≡ c = (let at2 : at_place pool.resources r ≡ Some c = subst (λ k. at_place pool.resources k ≡ Some c) at_r at in cc) in
       let q_is : slice_get c.processors ((r * g + v.n % g) % g) ≡ Some q = (let e : p.0 ≡ c = cc in subst (λ (x : Resource). slice_get x.processors ((r * g + v.n % g) % g) ≡ Some q) e p.2) in
-      sound_processor c ((r * g + v.n % g) % g) (does (Guest v))
+      sound_processor c ((r * g + v.n % g) % g) (with_doing (Guest v))
       (λ x at3. (let e : q ≡ x = cc in sym (subst (λ (y : Processor). pools.is_held y ≡ false) e (idle_not_held q idle))))
       (λ x w at3 e. (let e2 : v ≡ w = cc in subst (λ (y : VcpuId). (c.cur ≡ Some (pools.unit_of g y)) × (y.n % g ≡ (r * g + v.n % g) % g)) e2 (subst (λ (y : Resource). y.cur ≡ Some (pools.unit_of g v)) same (is_unit_same f.0.cur _ f.2), sym at_v)))
       here) sound
 
-  sound_blocks : (t p : ℕ) (v : VcpuId) (pool : Pool) → pools.guest_of g pool p ≡ Some v → AreSound g pool → AreSound g (change_processor g p (does Idle) (change_vcpu v (pools.put_to_sleep t) pool))
+  sound_blocks : (t p : ℕ) (v : VcpuId) (pool : Pool) → pools.guest_of g pool p ≡ Some v → AreSound g pool → AreSound g (change_processor g p (with_doing Idle) (change_vcpu v (pools.put_to_sleep t) pool))
   sound_blocks t p v pool guest sound =
       let found = guest_of_is g pool p v guest in
       sound_change_core (p / g) _ pool (λ c at core.
-      sound_processor c (p % g) (does Idle)
+      sound_processor c (p % g) (with_doing Idle)
       (λ x at2. (let e : found.0 ≡ c = cc in let q_is : slice_get c.processors (p % g) ≡ Some found.1 = subst (λ (y : Resource). slice_get y.processors (p % g) ≡ Some found.1) e found.3 in
       let e2 : found.1 ≡ x = cc in sym (subst (λ (y : Processor). pools.is_held y ≡ false) e2 (guest_not_held found.1 v found.4))))
       (λ x w at2 e. absurd (cc)) core) sound
 
-  sound_after_arrive : (t p : ℕ) (pool : Pool) → enabled_in g t pool (Arrive p) ≡ true → AreSound g pool → AreSound g (pools.after_arrive g t p pool)
+  sound_after_arrive : (t p : ℕ) (pool : Pool) → enabled_in g t pool (Arrive (processor p)) ≡ true → AreSound g pool → AreSound g (pools.after_arrive g t p pool)
   sound_after_arrive t p pool on sound =
-      by_option (λ (next : Pool). AreSound g (change_processor g p (does Held) next)) (pools.guest_of g pool p) _ _ (λ is. arrives) (λ v is. arrives)
+      by_option (λ (next : Pool). AreSound g (change_processor g p (with_doing Held) next)) (pools.guest_of g pool p) _ _ (λ is. arrives) (λ v is. arrives)
     where
-      arrives : AreSound g (change_processor g p (does Held) pool)
+      arrives : AreSound g (change_processor g p (with_doing Held) pool)
       arrives = sound_change_core (p / g) _ pool (λ c at here.
           let may : (c.pending && pools.is_open c && is_none c.saving) ≡ true = passes_at pool.resources (p / g) (λ (x : Resource). x.pending && pools.is_open x && is_none x.saving) c at (and_left (test_at pool.resources (p / g) (λ (x : Resource). x.pending && pools.is_open x && is_none x.saving)) (elim (pools.processor_of g pool p) [ None ↦ false | Some q ↦ not (pools.is_held q) && is_up t q ]) on) in
           let both : (c.pending && pools.is_open c) ≡ true = and_left (c.pending && pools.is_open c) (is_none c.saving) may in
           record {
-            guests = λ i q v at2 is. elim (read_change_item (p % g) i (does Held) c.processors q at2) [
+            guests = λ i q v at2 is. elim (read_change_item (p % g) i (with_doing Held) c.processors q at2) [
               | inl was ↦ here.guests i q v was.1 is
               | inr r ↦ absurd (let e : Held ≡ Guest v = ap (λ (x : Processor). x.doing) r.3 ∙ is in cc)
             ];
@@ -204,24 +204,24 @@ module _ (g : ℕ) (some : 0 < g) where
       }
 
   -- a core whose processor leaves
-  sound_left : (c : Resource) (i : ℕ) (doing : Doing) → pools.is_open c ≡ false → ((v : VcpuId) → doing ≡ Guest v → (c.cur ≡ Some (pools.unit_of g v)) × (v.n % g ≡ i)) → Sound c → Sound (pools.open_if_left (record c { processors = change_item i (does doing) c.processors }))
+  sound_left : (c : Resource) (i : ℕ) (doing : Doing) → pools.is_open c ≡ false → ((v : VcpuId) → doing ≡ Guest v → (c.cur ≡ Some (pools.unit_of g v)) × (v.n % g ≡ i)) → Sound c → Sound (pools.open_if_left (record c { processors = change_item i (with_doing doing) c.processors }))
   sound_left c i doing closed guest sound =
-      let left : Resource = record c { processors = change_item i (does doing) c.processors } in
+      let left : Resource = record c { processors = change_item i (with_doing doing) c.processors } in
       let guests : (j : ℕ) (p : Processor) (v : VcpuId) → slice_get left.processors j ≡ Some p → p.doing ≡ Guest v → (c.cur ≡ Some (pools.unit_of g v)) × (v.n % g ≡ j) = λ j p v at is. left_guests j p v at is in
       by_cond Sound (list_any pools.is_held left.processors) left (record left { stage = Open })
       (λ any. record { guests = guests; decided = λ is. any; gathers = λ is held. absurd (cc) })
       (λ none. record { guests = guests; decided = λ is. absurd (cc); gathers = λ is held. absurd (cc) })
     where
-      left_guests : (j : ℕ) (p : Processor) (v : VcpuId) → slice_get (change_item i (does doing) c.processors) j ≡ Some p → p.doing ≡ Guest v → (c.cur ≡ Some (pools.unit_of g v)) × (v.n % g ≡ j)
-      left_guests j p v at is = elim (read_change_item i j (does doing) c.processors p at) [
+      left_guests : (j : ℕ) (p : Processor) (v : VcpuId) → slice_get (change_item i (with_doing doing) c.processors) j ≡ Some p → p.doing ≡ Guest v → (c.cur ≡ Some (pools.unit_of g v)) × (v.n % g ≡ j)
+      left_guests j p v at is = elim (read_change_item i j (with_doing doing) c.processors p at) [
         | inl was ↦ sound.guests j p v was.1 is
         | inr r ↦ (let h = guest v (ap (λ (x : Processor). x.doing) r.3 ∙ is) in (h.0, h.1 ∙ sym r.2))
       ]
 
   sound_leaves : (p : ℕ) (c : Resource) (doing : Doing) (pool : Pool) → at_place pool.resources (p / g) ≡ Some c → pools.is_open c ≡ false → ((v : VcpuId) → doing ≡ Guest v → (c.cur ≡ Some (pools.unit_of g v)) × (v.n % g ≡ p % g)) → AreSound g pool
-      → AreSound g (change_core (p / g) pools.open_if_left (change_processor g p (does doing) pool))
+      → AreSound g (change_core (p / g) pools.open_if_left (change_processor g p (with_doing doing) pool))
   sound_leaves p c doing pool at closed guest sound =
-      subst (λ (cores : List (Option Resource)). EachPlace Sound cores) (sym (change_at-twice (p / g) pools.open_if_left (λ (x : Resource). record x { processors = change_item (p % g) (does doing) x.processors }) pool.resources))
+      subst (λ (cores : List (Option Resource)). EachPlace Sound cores) (sym (change_at-twice (p / g) pools.open_if_left (λ (x : Resource). record x { processors = change_item (p % g) (with_doing doing) x.processors }) pool.resources))
       (EachPlace-change_at Sound (p / g) _ pool.resources sound (λ x at2 here. (let e : c ≡ x = cc in sound_left x (p % g) doing (subst (λ (y : Resource). pools.is_open y ≡ false) e closed) (subst (λ (y : Resource). (v : VcpuId) → doing ≡ Guest v → (y.cur ≡ Some (pools.unit_of g v)) × (v.n % g ≡ p % g)) e guest) here)))
 
   sound_after_leave : (t p : ℕ) (c : Resource) (pool : Pool) → at_place pool.resources (p / g) ≡ Some c → pools.is_open c ≡ false → AreSound g pool → AreSound g (pools.after_leave g t p c pool)
@@ -251,14 +251,15 @@ module _ (g : ℕ) (some : 0 < g) where
 
   sound_steps : (t : ℕ) → KeptBySteps g t (Enabled g t) (AreSound g)
   sound_steps t = record {
-    commands = sound_commands;
+    pends = kept_pending sound_commands;
+    queues = sound_commands.queues;
     wakes = λ v pool on sound. sound;
     joins = λ v r q pool is is2 idle awake. sound_joins t v r q pool is is2 idle;
     blocks = λ p v pool guest on. sound_blocks t p v pool guest;
     arrives = sound_after_arrive t;
     decides = λ r c pool at on. sound_after_decide t r c pool at (passes_at pool.resources r (λ (x : Resource). list_all pools.is_held x.processors && pools.is_open x && pools.first_up t x) c at on);
     leaves = λ p c pool at on. sound_after_leave t p c pool at (not_true (pools.is_open c) (passes_at pool.resources (p / g) (λ (x : Resource). not (pools.is_open x)) c at (and_left (test_at pool.resources (p / g) (λ (x : Resource). not (pools.is_open x))) _ on)));
-    saves = λ r c u pool at is on. sound_change_core r pools.saved pool (λ x there core. sound_same x _ refl refl refl (λ e. refl) (λ e. e) core);
+    saves = λ r c u pool at is on. sound_change_core r pools.saved_core pool (λ x there core. sound_same x _ refl refl refl (λ e. refl) (λ e. e) core);
     replenishes = λ u pool on sound. sound;
     dues = λ r u x old pool on is. sound_change_core r (pools.due_within t x.budget) pool (λ c there core. sound_same c _ refl refl refl (λ e. e) (λ e. e) core);
     refills = λ d pool on sound. sound;

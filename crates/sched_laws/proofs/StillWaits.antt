@@ -2,7 +2,7 @@
 use Rattle.std.proofs.Common.{◌≡◌, ℕ, zero, suc, Bool, true, false, not, List, [], ◌∷◌, ◌++◌, refl, arith, subst, sym, ◌∙◌, ap}
 use Rattle.std.specs.Prelude.{Option, Some, None, Ok, Err, is_some, is_none, slice_get, length, ◌&&◌, ◌==◌, ◌/◌, ◌%◌}
 use Rattle.std.specs.List.{list_any, AllByRecursion}
-use Rattle.sched_base.specs.Numbers.{moment, domain as domain_number, pool as pool_number}
+use Rattle.sched_base.specs.Numbers.{moment, domain as domain_number, pool as pool_number, core as core_number, processor}
 use Rattle.sched_base.specs.declared.Span.{Span}
 use Rattle.sched_base.specs.declared.UnitId.{UnitId}
 use Rattle.sched_model.specs.declared.plan.Plan.{Plan}
@@ -16,7 +16,7 @@ use Rattle.sched_model.specs.declared.state.Resource.{Resource}
 use Rattle.sched_model.specs.declared.state.Doing.{Doing}
 use Rattle.sched_model.specs.declared.state.Doing.TheVariants.{Guest, Idle, Held}
 use Rattle.sched_model.specs.declared.state.Processor.{Processor}
-use Rattle.sched_model.specs.Places.{at_place, put_at, clear_at, change_at, change_item, test_at, numbers_from, numbered}
+use Rattle.sched_model.specs.Places.{at_place, put_at, clear_at, change_at, change_item, test_at, numbers_from, numbered_items}
 use Rattle.sched_model.specs.declared.machine.Machine.{Machine}
 use Rattle.sched_model.specs.declared.state.State.{State}
 use Rattle.sched_model.specs.declared.state.Pool.{Pool}
@@ -25,13 +25,14 @@ use Rattle.sched_model.specs.State.{is_up}
 use Rattle.sched_model.specs.Opening.{fresh_core, empty_pool}
 use Rattle.sched_model.specs.Policy.{rtds_record, default_dom_params}
 use Rattle.sched_model.specs.declared.action.Action.{Action}
-use Rattle.sched_model.specs.Pool.{enabled_in, after_in, settled, change_processor, change_domain, set_leaving, set_moving, pause, unpause, set_params, without_domain, with_domain, is_held, is_open, first_up, does, processor_of, guest_of}
+use Rattle.sched_model.specs.Pool.{enabled_in, after_in, settled_pool as settled, change_processor, change_domain, set_leaving, set_moving, pause, unpause, set_params, without_domain, with_domain, is_held, is_open, first_up, with_doing, processor_of, guest_of}
 use Rattle.sched_model.specs.declared.action.Action.TheVariants.{Stall, Xl, Moved, DomMoved, Block, Arrive, Decide, Leave}
 use Rattle.sched_model.specs.Actions.{home_of, home_of_core, home_of_domain, change_pool}
 use Rattle.sched_model.specs.Commands.{carried_out, change_home, set_rtds, set_rtds_unit, pool_of_plan}
-use Rattle.sched_model.specs.Machine.{is_enabled, after, after_stall, after_command, after_moved, after_dom_moved, verdict, settled_at, attached, detached, left_by, joined_by, is_null}
-use Rattle.sched_model.specs.Runs.{Reached, action_of, end_of, after_quiet, after_event, IsNextEvent, IsRunFrom, IsRun, begun, after_entry, after_entries}
+use Rattle.sched_model.specs.Machine.{is_enabled, after, after_stall, after_command, after_moved, after_dom_moved, verdict, settled_at, with_core_in, without_core_in, left_by, joined_by, is_null}
+use Rattle.sched_model.specs.Runs.{Reached, action_of, end_of, after_quiet, after_event, IsNextEvent, IsRunFrom, IsRun, run_start, after_entry, after_entries}
 use Rattle.sched_model.specs.Checked.{IsChecked}
+use Rattle.std.proofs.Math.Bool.{and-false}
 use Rattle.sched_laws.specs.RunLaws.{core_waits, waits_in, waits, IsNoDecideOf, StillWaits}
 use Rattle.sched_laws.specs.StateLaws.{state_after}
 use Rattle.sched_laws.proofs.EachPlace.{by_option, by_cond, none_found, found_at}
@@ -44,18 +45,18 @@ use Rattle.sched_laws.proofs.Sound.{cores_are_sound, list_any_get, processor_of_
 use Rattle.sched_laws.specs.Known.{AreSound}
 use Rattle.sched_laws.proofs.PoolsLaw.{IsKnown, known_in_runs}
 use Rattle.sched_laws.proofs.SiblingsLaw.{some_processor}
-use Rattle.sched_laws.proofs.Judged.{Fits, verdict_fits, fits_next}
+use Rattle.sched_laws.proofs.Judged.{Fits, verdict_fits_next}
 use Rattle.sched_laws.proofs.Waits.{w_change_processor, w_commands, w_steps, w_set_params, w_with_domain}
 use Rattle.sched_laws.proofs.Events.{kept_settled, kept_by_event, kept_set_leaving, kept_withdrawn, kept_pause, kept_unpause}
 use Rattle.sched_laws.proofs.Bools.{and_left, and_right, both, not_true}
 
 -- a pool with a core has one
-some_core : {X : Type 0} (n i : ℕ) (x : X) (places : List (Option X)) → at_place places i ≡ Some x → (length (numbered n places) == 0) ≡ true → ⊥
+some_core : {X : Type 0} (n i : ℕ) (x : X) (places : List (Option X)) → at_place places i ≡ Some x → (length (numbered_items n places) == 0) ≡ true → ⊥
 some_core n i x [] at none = absurd (cc)
 some_core n zero x (None ∷ places) at none = absurd (cc)
-some_core n zero x (Some y ∷ places) at none = absurd (let e : (suc (length (numbered (suc n) places)) == 0) ≡ false = grind arith in let f : true ≡ false = sym none ∙ e in cc)
+some_core n zero x (Some y ∷ places) at none = absurd (let e : (suc (length (numbered_items (suc n) places)) == 0) ≡ false = grind arith in let f : true ≡ false = sym none ∙ e in cc)
 some_core n (suc i) x (None ∷ places) at none = some_core (suc n) i x places at none
-some_core n (suc i) x (Some y ∷ places) at none = absurd (let e : (suc (length (numbered (suc n) places)) == 0) ≡ false = grind arith in let f : true ≡ false = sym none ∙ e in cc)
+some_core n (suc i) x (Some y ∷ places) at none = absurd (let e : (suc (length (numbered_items (suc n) places)) == 0) ≡ false = grind arith in let f : true ≡ false = sym none ∙ e in cc)
 
 module _ (g p i : ℕ) where
   abbrev W : Pool → Type 0
@@ -68,7 +69,7 @@ module _ (g p i : ℕ) where
   wait_change : (j : ℕ) (f : Pool → Pool) (s : State) → ((pool : Pool) → at_place s.pools j ≡ Some pool → W pool → W (f pool)) → WaitsAt s → WaitsAt (change_pool j f s)
   wait_change j f s keeps w = test_at-change_at_keeps j i f (waits_in g p) s.pools (λ pool e at. keeps pool at) w
 
-  wait_at : (s : State) (t : ℕ) (action : Action) → (action ≡ Decide (p / g) → ⊥) → (home : Option ℕ) → elim home [ None ↦ false | Some j ↦ test_at s.pools j (λ pool. enabled_in g t pool action) ] ≡ true
+  wait_at : (s : State) (t : ℕ) (action : Action) → (action ≡ Decide (core_number (p / g)) → ⊥) → (home : Option ℕ) → elim home [ None ↦ false | Some j ↦ test_at s.pools j (λ pool. enabled_in g t pool action) ] ≡ true
       → WaitsAt s → WaitsAt (elim home as (λ _. State) [ None ↦ s | Some j ↦ change_pool j (λ pool. settled t (after_in g t pool action)) s ])
   wait_at s t action other None on w = w
   wait_at s t action other (Some j) on w =
@@ -87,12 +88,12 @@ module _ (g p i : ℕ) where
   -- the pool of the core is neither made anew nor destroyed
   wait_carried_out : (m : Machine) → m.config.granularity ≡ g → (t : ℕ) (plan : Plan) (s : State) → Fits s plan → WaitsAt s → WaitsAt (carried_out m t plan s)
   wait_carried_out m same t (plan.PoolCreate j name kind answer) s fits w =
-      test_at-put_at_other j.0 i (empty_pool m.config _) (waits_in g p) s.pools (λ e. (let f = some-test_at s.pools i (waits_in g p) w in let none : at_place s.pools i ≡ None = subst (λ k. at_place s.pools k ≡ None) (sym e) fits in absurd (cc))) ∙ w
+      test_at-put_at_other j.0 i (empty_pool m.config _) (waits_in g p) s.pools (λ e. (let f = some-test_at s.pools i (waits_in g p) w in let none : at_place s.pools i ≡ None = subst (λ k. at_place s.pools k ≡ None) (sym e) fits.0 in absurd (cc))) ∙ w
   wait_carried_out m same t (plan.PoolDestroy j answer) s fits w =
       test_at-clear_at j.0 i (waits_in g p) s.pools (λ e. (
       let f = some-test_at s.pools i (waits_in g p) w in
       let c = some-test_at f.0.resources (p / g) (core_waits (p % g)) f.2 in
-      some_core 0 (p / g) c.0 f.0.resources c.1 (fits f.0 (subst (λ k. at_place s.pools k ≡ Some f.0) e f.1)))) ∙ w
+      some_core 0 (p / g) c.0 f.0.resources c.1 (fits f.0 (subst (λ k. at_place s.pools k ≡ Some f.0) e f.1)).0)) ∙ w
   wait_carried_out m same t (plan.CpuRemove j core answer) s fits w = wait_change j.0 (set_leaving core.0) s (λ pool at. kept_set_leaving (w_commands g p) core.0 pool) w
   wait_carried_out m same t (plan.Migrate d j k answer) s fits w =
       by_cond WaitsAt (j.0 == k.0) s _ (λ is. w) (λ is. wait_change j.0 (set_moving d.0 k.0) s (λ pool at here. kept_withdrawn (w_commands g p) d.0 (change_domain d.0 (λ x. record x { moving = Some (pool_number k.0) }) pool) here) w)
@@ -113,7 +114,7 @@ module _ (g p i : ℕ) where
   wait_command m same t line s w =
       elim (verdict m s line) as (λ v. verdict m s line ≡ v → WaitsAt (elim v as (λ _. State) [ Err fault ↦ record s { next_command = suc s.next_command } | Ok q ↦ settled_at t (pool_of_plan s q) (carried_out m t q (record s { next_command = suc s.next_command })) ])) [
         | Err fault ↦ λ is. w
-        | Ok q ↦ λ is. wait_settled_at t (pool_of_plan s q) _ (wait_carried_out m same t q (record s { next_command = suc s.next_command }) (fits_next s (suc s.next_command) q (verdict_fits m s line q is)) w)
+        | Ok q ↦ λ is. wait_settled_at t (pool_of_plan s q) _ (wait_carried_out m same t q (record s { next_command = suc s.next_command }) (verdict_fits_next m s line (suc s.next_command) q is) w)
       ] refl
 
   wait_stall : (t : ℕ) (line : Option StallLine) (s : State) → WaitsAt s → WaitsAt (elim line as (λ _. State) [ None ↦ s | Some l ↦ after_stall g t l s ])
@@ -130,7 +131,7 @@ test_at-change_at_here zero f test (None ∷ places) x at passes = absurd (cc)
 test_at-change_at_here zero f test (Some y ∷ places) x at passes = (let e : x ≡ y = cc in subst (λ z. test (f z) ≡ true) e passes)
 test_at-change_at_here (suc i) f test (p ∷ places) x at passes = test_at-change_at_here i f test places x at passes
 
-held_here : (i : ℕ) (ps : List Processor) (q : Processor) → slice_get ps i ≡ Some q → elim (slice_get (change_item i (does Held) ps) i) as (λ _. Bool) [ None ↦ false | Some x ↦ is_held x ] ≡ true
+held_here : (i : ℕ) (ps : List Processor) (q : Processor) → slice_get ps i ≡ Some q → elim (slice_get (change_item i (with_doing Held) ps) i) as (λ _. Bool) [ None ↦ false | Some x ↦ is_held x ] ≡ true
 held_here i [] q at = absurd (cc)
 held_here zero (x ∷ ps) q at = refl
 held_here (suc i) (x ∷ ps) q at = held_here i ps q at
@@ -143,10 +144,6 @@ core_home s i r apart has =
       | Some j ↦ λ is. (let f = found_at j (λ p. is_some (at_place p.resources r)) s.pools is in let e = apart.cores j i r (test_at-some s.pools j (λ p. is_some (at_place p.resources r)) f.0 f.1 f.2) has in is ∙ subst (λ k. Some j ≡ Some k) e refl)
     ] refl
 
-both_false : (a : Bool) → (a && false) ≡ false
-both_false true = refl
-both_false false = refl
-
 module _ (m : Machine) (p : ℕ) where
   abbrev G : ℕ
   G = m.config.granularity
@@ -154,12 +151,12 @@ module _ (m : Machine) (p : ℕ) where
   abbrev Known : State → Type 0
   Known s = IsKnown (AreSound m.config.granularity) s
 
-  wait_detached : (i t r j : ℕ) (c : Resource) (s : State) → Known s → test_at s.pools j (λ pool. enabled_in m.config.granularity t pool (Moved r)) ≡ true → WaitsAt m.config.granularity p i s → WaitsAt m.config.granularity p i (detached t r j c s)
+  wait_detached : (i t r j : ℕ) (c : Resource) (s : State) → Known s → test_at s.pools j (λ pool. enabled_in m.config.granularity t pool (Moved (core_number r))) ≡ true → WaitsAt m.config.granularity p i s → WaitsAt m.config.granularity p i (without_core_in t r j c s)
   wait_detached i t r j c s known on w =
       wait_change m.config.granularity p i j (λ pool. settled t (record pool { resources = clear_at r pool.resources })) s
       (λ pool at here. kept_settled (w_commands m.config.granularity p) t (record pool { resources = clear_at r pool.resources })
       (test_at-clear_at r (p / m.config.granularity) (core_waits (p % m.config.granularity)) pool.resources (λ e. (
-      let here_on = passes_at s.pools j (λ x. enabled_in m.config.granularity t x (Moved r)) pool at on in
+      let here_on = passes_at s.pools j (λ x. enabled_in m.config.granularity t x (Moved (core_number r))) pool at on in
       let f = some-test_at pool.resources (p / m.config.granularity) (core_waits (p % m.config.granularity)) here in
       let d : Resource = f.0 in
       let at_r : at_place pool.resources r ≡ Some d = subst (λ k. at_place pool.resources k ≡ Some d) e f.1 in
@@ -176,7 +173,7 @@ module _ (m : Machine) (p : ℕ) where
         | Some x ↦ λ is h. list_any_get is_held ps k x is h
       ] refl held
 
-  wait_attached : (i t r j : ℕ) (c : FreeCore) (s : State) → at_place s.free r ≡ Some c → IsApart s → WaitsAt m.config.granularity p i s → WaitsAt m.config.granularity p i (attached t r j c s)
+  wait_attached : (i t r j : ℕ) (c : FreeCore) (s : State) → at_place s.free r ≡ Some c → IsApart s → WaitsAt m.config.granularity p i s → WaitsAt m.config.granularity p i (with_core_in t r j c s)
   wait_attached i t r j c s is apart w =
       wait_change m.config.granularity p i j (λ pool. settled t (record pool { resources = put_at r (fresh_core c.stall_ends) pool.resources })) (record s { free = clear_at r s.free })
       (λ pool at here. kept_settled (w_commands m.config.granularity p) t (record pool { resources = put_at r (fresh_core c.stall_ends) pool.resources })
@@ -185,14 +182,14 @@ module _ (m : Machine) (p : ℕ) where
       let at_r : at_place pool.resources r ≡ Some f.0 = subst (λ k. at_place pool.resources k ≡ Some f.0) e f.1 in
       apart.free j r (is_some_at (at_place s.free r) c is) (test_at-some s.pools j (λ x. is_some (at_place x.resources r)) pool at (is_some_at (at_place pool.resources r) f.0 at_r)))) ∙ here)) w
 
-  wait_moved_home : (i t r : ℕ) (home : Option ℕ) (s : State) → Known s → elim home [ None ↦ false | Some j ↦ test_at s.pools j (λ pool. enabled_in m.config.granularity t pool (Moved r)) ] ≡ true → WaitsAt m.config.granularity p i s
-      → WaitsAt m.config.granularity p i (elim home as (λ _. State) [ None ↦ s | Some j ↦ elim (at_place s.pools j) [ None ↦ s | Some pool ↦ elim (at_place pool.resources r) [ None ↦ s | Some c ↦ detached t r j c s ] ] ])
+  wait_moved_home : (i t r : ℕ) (home : Option ℕ) (s : State) → Known s → elim home [ None ↦ false | Some j ↦ test_at s.pools j (λ pool. enabled_in m.config.granularity t pool (Moved (core_number r))) ] ≡ true → WaitsAt m.config.granularity p i s
+      → WaitsAt m.config.granularity p i (elim home as (λ _. State) [ None ↦ s | Some j ↦ elim (at_place s.pools j) [ None ↦ s | Some pool ↦ elim (at_place pool.resources r) [ None ↦ s | Some c ↦ without_core_in t r j c s ] ] ])
   wait_moved_home i t r None s known on w = w
   wait_moved_home i t r (Some j) s known on w =
       by_option (WaitsAt m.config.granularity p i) (at_place s.pools j) _ _ (λ is. w)
       (λ pool is. by_option (WaitsAt m.config.granularity p i) (at_place pool.resources r) _ _ (λ is2. w) (λ c is2. wait_detached i t r j c s known on w))
 
-  wait_moved : (i t r : ℕ) (s : State) → Known s → is_enabled m s t (Moved r) ≡ true → WaitsAt m.config.granularity p i s → WaitsAt m.config.granularity p i (after_moved t r s)
+  wait_moved : (i t r : ℕ) (s : State) → Known s → is_enabled m s t (Moved (core_number r)) ≡ true → WaitsAt m.config.granularity p i s → WaitsAt m.config.granularity p i (after_moved t r s)
   wait_moved i t r s known on w =
       by_option (WaitsAt m.config.granularity p i) (at_place s.free r) _ _
       (λ is. wait_moved_home i t r (home_of_core s r) s known (grind (arith, is, on)) w)
@@ -210,11 +207,11 @@ module _ (m : Machine) (p : ℕ) where
       (wait_change m.config.granularity p i k (left_by t d) s
       (λ x at here. by_cond (λ (y : Pool). waits_in m.config.granularity p y ≡ true) (is_null x.scheduler.records) (settled t (without_domain d x)) (without_domain d x) (λ null. kept_settled (w_commands m.config.granularity p) t (without_domain d x) here) (λ null. here)) w)))))
 
-  wait_after : (i t : ℕ) (s : State) (action : Action) → Known s → (action ≡ Decide (p / m.config.granularity) → ⊥) → is_enabled m s t action ≡ true → WaitsAt m.config.granularity p i s → WaitsAt m.config.granularity p i (after m s t action)
+  wait_after : (i t : ℕ) (s : State) (action : Action) → Known s → (action ≡ Decide (core_number (p / m.config.granularity)) → ⊥) → is_enabled m s t action ≡ true → WaitsAt m.config.granularity p i s → WaitsAt m.config.granularity p i (after m s t action)
   wait_after i t s Stall known other on w = wait_stall m.config.granularity p i t (slice_get m.work.stalls s.next_stall) s w
   wait_after i t s Xl known other on w = by_option (WaitsAt m.config.granularity p i) (slice_get m.work.commands s.next_command) _ _ (λ is. w) (λ line is. wait_command m.config.granularity p i m refl t line s w)
-  wait_after i t s (Moved r) known other on w = wait_moved i t r s known on w
-  wait_after i t s (DomMoved d) known other on w = wait_dom_moved i t d s w
+  wait_after i t s (Moved r) known other on w = wait_moved i t r.0 s known on w
+  wait_after i t s (DomMoved d) known other on w = wait_dom_moved i t d.0 s w
   wait_after i t s action known other on w = wait_at m.config.granularity p i s t action other (home_of m.config.granularity s action) on w
 
 -- a run in two parts
@@ -247,7 +244,7 @@ module _ (m : Machine) (checked : IsChecked m) (p : ℕ) where
     pools = kept_after m (AreSound m.config.granularity) (cores_are_sound m.config.granularity (some_processor m.config.granularity checked.config.granularity)) s s.now action known.apart on known.pools;
   }
 
-  here_event : (e : Event) (action : Option Action) (from : Reached) → (action ≡ Some (Decide (p / m.config.granularity)) → ⊥) → IsNextEvent m from.state e action → Here from.state → Here (after_event m e action from).state
+  here_event : (e : Event) (action : Option Action) (from : Reached) → (action ≡ Some (Decide (core_number (p / m.config.granularity))) → ⊥) → IsNextEvent m from.state e action → Here from.state → Here (after_event m e action from).state
   here_event e None from other next here = here_quiet (end_of e)
     where
       here_quiet : (end : Option ℕ) → Here (after_quiet end from).state
@@ -265,7 +262,7 @@ module _ (m : Machine) (checked : IsChecked m) (p : ℕ) where
       here_from (after_entry m from entry) entries none.1 run.1 (here_event entry.event (action_of entry.event) from none.0 run.0.event here)
 
   -- the processor arrives
-  arrives_in : (t : ℕ) (pool : Pool) → enabled_in m.config.granularity t pool (Arrive p) ≡ true → waits_in m.config.granularity p (after_in m.config.granularity t pool (Arrive p)) ≡ true
+  arrives_in : (t : ℕ) (pool : Pool) → enabled_in m.config.granularity t pool (Arrive (processor p)) ≡ true → waits_in m.config.granularity p (after_in m.config.granularity t pool (Arrive (processor p))) ≡ true
   arrives_in t pool on =
       let G : ℕ = m.config.granularity in
       let f = some-test_at pool.resources (p / G) (λ (c : Resource). c.pending && is_open c && is_none c.saving) (and_left (test_at pool.resources (p / G) (λ (c : Resource). c.pending && is_open c && is_none c.saving)) (elim (processor_of G pool p) [ None ↦ false | Some q ↦ not (is_held q) && is_up t q ]) on) in
@@ -275,31 +272,31 @@ module _ (m : Machine) (checked : IsChecked m) (p : ℕ) where
       let r = processor_of_is G pool p q.0 q.1 in
       let same : r.0 ≡ c = (let e1 = r.1 in let e2 = f.1 in cc) in
       let at_q : slice_get c.processors (p % G) ≡ Some q.0 = subst (λ (x : Resource). slice_get x.processors (p % G) ≡ Some q.0) same r.2 in
-      let waits_c : core_waits (p % G) (record c { processors = change_item (p % G) (does Held) c.processors }) ≡ true = both (is_open c) _ open_c (held_here (p % G) c.processors q.0 at_q) in
-      by_option (λ (next : Pool). waits_in G p (change_processor G p (does Held) next) ≡ true) (guest_of G pool p) _ _
-      (λ is. test_at-change_at_here (p / G) (λ (x : Resource). record x { processors = change_item (p % G) (does Held) x.processors }) (core_waits (p % G)) pool.resources c f.1 waits_c)
-      (λ v is. test_at-change_at_here (p / G) (λ (x : Resource). record x { processors = change_item (p % G) (does Held) x.processors }) (core_waits (p % G)) pool.resources c f.1 waits_c)
+      let waits_c : core_waits (p % G) (record c { processors = change_item (p % G) (with_doing Held) c.processors }) ≡ true = both (is_open c) _ open_c (held_here (p % G) c.processors q.0 at_q) in
+      by_option (λ (next : Pool). waits_in G p (change_processor G p (with_doing Held) next) ≡ true) (guest_of G pool p) _ _
+      (λ is. test_at-change_at_here (p / G) (λ (x : Resource). record x { processors = change_item (p % G) (with_doing Held) x.processors }) (core_waits (p % G)) pool.resources c f.1 waits_c)
+      (λ v is. test_at-change_at_here (p / G) (λ (x : Resource). record x { processors = change_item (p % G) (with_doing Held) x.processors }) (core_waits (p % G)) pool.resources c f.1 waits_c)
     where
       some_processor_of : (o : Option Processor) (test : Processor → Bool) → elim o as (λ _. Bool) [ None ↦ false | Some q ↦ test q ] ≡ true → (q : Processor) × (o ≡ Some q) × (test q ≡ true)
       some_processor_of None test is = absurd (cc)
       some_processor_of (Some q) test is = (q, refl, is)
 
-  arrives_at : (s : State) (t : ℕ) (home : Option ℕ) → elim home [ None ↦ false | Some j ↦ test_at s.pools j (λ pool. enabled_in m.config.granularity t pool (Arrive p)) ] ≡ true
-      → (i : ℕ) × WaitsAt m.config.granularity p i (elim home as (λ _. State) [ None ↦ s | Some j ↦ change_pool j (λ pool. settled t (after_in m.config.granularity t pool (Arrive p))) s ])
+  arrives_at : (s : State) (t : ℕ) (home : Option ℕ) → elim home [ None ↦ false | Some j ↦ test_at s.pools j (λ pool. enabled_in m.config.granularity t pool (Arrive (processor p))) ] ≡ true
+      → (i : ℕ) × WaitsAt m.config.granularity p i (elim home as (λ _. State) [ None ↦ s | Some j ↦ change_pool j (λ pool. settled t (after_in m.config.granularity t pool (Arrive (processor p)))) s ])
   arrives_at s t None on = absurd (cc)
   arrives_at s t (Some i) on =
-      let f = some-test_at s.pools i (λ pool. enabled_in m.config.granularity t pool (Arrive p)) on in
-      (i, test_at-change_at_here i (λ pool. settled t (after_in m.config.granularity t pool (Arrive p))) (waits_in m.config.granularity p) s.pools f.0 f.1 (kept_settled (w_commands m.config.granularity p) t (after_in m.config.granularity t f.0 (Arrive p)) (arrives_in t f.0 f.2)))
+      let f = some-test_at s.pools i (λ pool. enabled_in m.config.granularity t pool (Arrive (processor p))) on in
+      (i, test_at-change_at_here i (λ pool. settled t (after_in m.config.granularity t pool (Arrive (processor p)))) (waits_in m.config.granularity p) s.pools f.0 f.1 (kept_settled (w_commands m.config.granularity p) t (after_in m.config.granularity t f.0 (Arrive (processor p))) (arrives_in t f.0 f.2)))
 
-  here_arrived : (e : Event) (action : Option Action) (from : Reached) → action ≡ Some (Arrive p) → IsNextEvent m from.state e action → IsKnown (AreSound m.config.granularity) from.state → Here (after_event m e action from).state
+  here_arrived : (e : Event) (action : Option Action) (from : Reached) → action ≡ Some (Arrive (processor p)) → IsNextEvent m from.state e action → IsKnown (AreSound m.config.granularity) from.state → Here (after_event m e action from).state
   here_arrived e None from is next known = absurd (cc)
   here_arrived e (Some action) from is next known = by_arrive action (cc) next.0
     where
-      by_arrive : (a : Action) → a ≡ Arrive p → is_enabled m from.state from.state.now a ≡ true → Here (after m from.state from.state.now a)
+      by_arrive : (a : Action) → a ≡ Arrive (processor p) → is_enabled m from.state from.state.now a ≡ true → Here (after m from.state from.state.now a)
       by_arrive a same on =
-          let on2 : is_enabled m from.state from.state.now (Arrive p) ≡ true = subst (λ (x : Action). is_enabled m from.state from.state.now x ≡ true) same on in
-          let w = arrives_at from.state from.state.now (home_of m.config.granularity from.state (Arrive p)) on2 in
-          let here : Here (after m from.state from.state.now (Arrive p)) = record { known = known_after from.state (Arrive p) on2 known; pool = w.0; waits = w.1 } in
+          let on2 : is_enabled m from.state from.state.now (Arrive (processor p)) ≡ true = subst (λ (x : Action). is_enabled m from.state from.state.now x ≡ true) same on in
+          let w = arrives_at from.state from.state.now (home_of m.config.granularity from.state (Arrive (processor p))) on2 in
+          let here : Here (after m from.state from.state.now (Arrive (processor p))) = record { known = known_after from.state (Arrive (processor p)) on2 known; pool = w.0; waits = w.1 } in
           subst (λ (x : Action). Here (after m from.state from.state.now x)) (sym same) here
 
   -- what cannot come while it waits
@@ -322,20 +319,20 @@ module _ (m : Machine) (checked : IsChecked m) (p : ℕ) where
       let home : home_of_core s (p / G) ≡ Some i = core_home s i (p / G) here.known.apart (test_at-some s.pools i (λ x. is_some (at_place x.resources (p / G))) pool f.1 (is_some_at (at_place pool.resources (p / G)) c h.1)) in
       record {
         waits = rw (waits, home) here.waits;
-        no_block = λ t. none_enabled s t i pool (Block p) (home_of_core s (p / G)) home f.1 (rw no_guest refl);
-        no_arrive = λ t. none_enabled s t i pool (Arrive p) (home_of_core s (p / G)) home f.1 (rw (is_q, q.2) (both_false (test_at pool.resources (p / G) (λ (x : Resource). x.pending && is_open x && is_none x.saving))));
-        no_leave = λ t. none_enabled s t i pool (Leave p) (home_of_core s (p / G)) home f.1 (rw (test_at, h.1, open_c) refl);
+        no_block = λ t. none_enabled s t i pool (Block (processor p)) (home_of_core s (p / G)) home f.1 (rw no_guest refl);
+        no_arrive = λ t. none_enabled s t i pool (Arrive (processor p)) (home_of_core s (p / G)) home f.1 (rw (is_q, q.2) (and-false (test_at pool.resources (p / G) (λ (x : Resource). x.pending && is_open x && is_none x.saving))));
+        no_leave = λ t. none_enabled s t i pool (Leave (processor p)) (home_of_core s (p / G)) home f.1 (rw (test_at, h.1, open_c) refl);
       }
     where
       held_processor : (o : Option Processor) → elim o as (λ _. Bool) [ None ↦ false | Some x ↦ is_held x ] ≡ true → (q : Processor) × (o ≡ Some q) × (is_held q ≡ true)
       held_processor None is = absurd (cc)
       held_processor (Some x) is = (x, refl, is)
 
-  pub law : (before : List Entry) (arrive : Entry) (later : List Entry) → IsRun m (before ++ arrive ∷ later) → action_of arrive.event ≡ Some (Arrive p) → AllByRecursion (IsNoDecideOf (p / m.config.granularity)) later → StillWaits m p (state_after m (before ++ arrive ∷ later))
+  pub law : (before : List Entry) (arrive : Entry) (later : List Entry) → IsRun m (before ++ arrive ∷ later) → action_of arrive.event ≡ Some (Arrive (processor p)) → AllByRecursion (IsNoDecideOf (p / m.config.granularity)) later → StillWaits m p (state_after m (before ++ arrive ∷ later))
   law before arrive later run is none =
-      let parts = split_run m (begun m) before (arrive ∷ later) run in
-      let from : Reached = after_entries m (begun m) before in
+      let parts = split_run m (run_start m) before (arrive ∷ later) run in
+      let from : Reached = after_entries m (run_start m) before in
       let known : IsKnown (AreSound m.config.granularity) from.state = known_in_runs m (AreSound m.config.granularity) (cores_are_sound m.config.granularity (some_processor m.config.granularity checked.config.granularity)) checked before parts.0 in
       let here : Here (after_entry m from arrive).state = here_arrived arrive.event (action_of arrive.event) from is parts.1.0.event known in
-      subst (λ (r : Reached). StillWaits m p r.state) (sym (after_both m (begun m) before (arrive ∷ later)))
+      subst (λ (r : Reached). StillWaits m p r.state) (sym (after_both m (run_start m) before (arrive ∷ later)))
       (still_waits (after_entries m (after_entry m from arrive) later).state (here_from (after_entry m from arrive) later none parts.1.1 here))

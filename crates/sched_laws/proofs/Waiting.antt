@@ -1,4 +1,5 @@
 -- The law of waiting: where nothing may happen, no core that may be used is pending, and no due has come.
+use Rattle.sched_base.specs.Numbers.{core, domain, processor}
 use Rattle.std.proofs.Common.{◌≡◌, ◌<◌, ◌≤◌, ℕ, zero, suc, Bool, true, false, not, List, [], ◌∷◌, ◌++◌, refl, arith, subst, sym, ap, cond, inl, inr}
 use Rattle.std.specs.Prelude.{Option, Some, None, is_some, is_none, slice_get, length, map, find, ◌&&◌, ◌||◌, ◌+◌, ◌-◌, ◌*◌, ◌/◌, ◌%◌}
 use Rattle.std.specs.List.{list_any, list_all, AllByRecursion}
@@ -19,7 +20,7 @@ use Rattle.sched_model.specs.Pool.{enabled_in, home_cores, is_held, is_open, fir
 use Rattle.sched_model.specs.declared.action.Action.TheVariants.{Stall, Xl, Moved, DomMoved, Wake, Block, Slice, Repl, Refill, Arrive, Decide, Leave, Save}
 use Rattle.sched_model.specs.Actions.{home_of_core, candidates, vcpus_from, units_from}
 use Rattle.sched_model.specs.Machine.{is_enabled, first_enabled}
-use Rattle.sched_model.specs.Runs.{action_of, IsNextEvent, IsRun, begun}
+use Rattle.sched_model.specs.Runs.{action_of, IsNextEvent, IsRun, run_start}
 use Rattle.sched_model.specs.Checked.{IsChecked}
 use Rattle.sched_laws.specs.StateLaws.{state_after}
 use Rattle.sched_laws.specs.RunLaws.{NobodyWaits}
@@ -89,34 +90,30 @@ first_is_up : (t : ℕ) (ps : List Processor) → 0 < length ps → list_all (is
 first_is_up t [] some all = absurd (omega (arith, some))
 first_is_up t (p ∷ ps) some all = and_left (is_up t p) _ all
 
-bool_cases : (Q : Bool → Type 0) (b : Bool) → (b ≡ true → Q true) → (b ≡ false → Q false) → Q b
-bool_cases Q true yes_ no_ = yes_ refl
-bool_cases Q false yes_ no_ = no_ refl
-
 -- the actions in order, up to those of a kind
 abbrev to_block : Machine → List Action
-to_block m = map Moved (numbers_from 0 (core_count m.config)) ++ map DomMoved (numbers_from 0 (length m.config.domains)) ++ map Wake (vcpus_from 0 m.config.domains) ++ map Block (numbers_from 0 m.config.processors)
+to_block m = map (λ n. Moved (core n)) (numbers_from 0 (core_count m.config)) ++ map (λ n. DomMoved (domain n)) (numbers_from 0 (length m.config.domains)) ++ map Wake (vcpus_from 0 m.config.domains) ++ map (λ n. Block (processor n)) (numbers_from 0 m.config.processors)
 
 abbrev to_slice : Machine → List Action
-to_slice m = to_block m ++ map Slice (numbers_from 0 (core_count m.config))
+to_slice m = to_block m ++ map (λ n. Slice (core n)) (numbers_from 0 (core_count m.config))
 
 abbrev to_repl : Machine → List Action
 to_repl m = to_slice m ++ map Repl (units_from m.config.granularity 0 m.config.domains)
 
 abbrev to_refill : Machine → List Action
-to_refill m = to_repl m ++ map Refill (numbers_from 0 (length m.config.domains))
+to_refill m = to_repl m ++ map (λ n. Refill (domain n)) (numbers_from 0 (length m.config.domains))
 
 abbrev to_arrive : Machine → List Action
-to_arrive m = to_refill m ++ map Arrive (numbers_from 0 m.config.processors)
+to_arrive m = to_refill m ++ map (λ n. Arrive (processor n)) (numbers_from 0 m.config.processors)
 
 abbrev to_decide : Machine → List Action
-to_decide m = to_arrive m ++ map Decide (numbers_from 0 (core_count m.config))
+to_decide m = to_arrive m ++ map (λ n. Decide (core n)) (numbers_from 0 (core_count m.config))
 
 abbrev to_leave : Machine → List Action
-to_leave m = to_decide m ++ map Leave (numbers_from 0 m.config.processors)
+to_leave m = to_decide m ++ map (λ n. Leave (processor n)) (numbers_from 0 m.config.processors)
 
 abbrev to_save : Machine → List Action
-to_save m = to_leave m ++ map Save (numbers_from 0 (core_count m.config))
+to_save m = to_leave m ++ map (λ n. Save (core n)) (numbers_from 0 (core_count m.config))
 
 module _ (m : Machine) (s : State) (checked : IsChecked m) (ready : IsReady m s) (sound : (i : ℕ) (pool : Pool) → at_place s.pools i ≡ Some pool → AreSound m.config.granularity pool) (quiet : first_enabled m s s.now ≡ None)
     (i r : ℕ) (pool : Pool) (c : Resource) (at : at_place s.pools i ≡ Some pool) (has : at_place pool.resources r ≡ Some c) (up : list_all (is_up s.now) c.processors ≡ true) where
@@ -142,31 +139,31 @@ module _ (m : Machine) (s : State) (checked : IsChecked m) (ready : IsReady m s)
   all_off = after_two Off Stall Xl (to_save m) (none_of (is_enabled m s s.now) (candidates m.config) quiet)
 
   leave_off : AllByRecursion Off (to_leave m)
-  leave_off = (parts_of Off (to_leave m) (map Save (numbers_from 0 (core_count m.config))) all_off).0
+  leave_off = (parts_of Off (to_leave m) (map (λ n. Save (core n)) (numbers_from 0 (core_count m.config))) all_off).0
 
   decide_off : AllByRecursion Off (to_decide m)
-  decide_off = (parts_of Off (to_decide m) (map Leave (numbers_from 0 m.config.processors)) leave_off).0
+  decide_off = (parts_of Off (to_decide m) (map (λ n. Leave (processor n)) (numbers_from 0 m.config.processors)) leave_off).0
 
   arrive_off : AllByRecursion Off (to_arrive m)
-  arrive_off = (parts_of Off (to_arrive m) (map Decide (numbers_from 0 (core_count m.config))) decide_off).0
+  arrive_off = (parts_of Off (to_arrive m) (map (λ n. Decide (core n)) (numbers_from 0 (core_count m.config))) decide_off).0
 
   slice_off : AllByRecursion Off (to_slice m)
   slice_off =
-      let a = (parts_of Off (to_refill m) (map Arrive (numbers_from 0 m.config.processors)) arrive_off).0 in
-      let b = (parts_of Off (to_repl m) (map Refill (numbers_from 0 (length m.config.domains))) a).0 in
+      let a = (parts_of Off (to_refill m) (map (λ n. Arrive (processor n)) (numbers_from 0 m.config.processors)) arrive_off).0 in
+      let b = (parts_of Off (to_repl m) (map (λ n. Refill (domain n)) (numbers_from 0 (length m.config.domains))) a).0 in
       (parts_of Off (to_slice m) (map Repl (units_from m.config.granularity 0 m.config.domains)) b).0
 
   off_in : (action : Action) → elim (home_of_core s r) as (λ _. Bool) [ None ↦ false | Some j ↦ test_at s.pools j (λ x. enabled_in m.config.granularity s.now x action) ] ≡ false → enabled_in m.config.granularity s.now pool action ≡ false
   off_in action off = rw (home, at, test_at) at off
 
-  no_slice : enabled_in m.config.granularity s.now pool (Slice r) ≡ false
-  no_slice = off_in (Slice r) (of_number Off Slice 0 (core_count m.config) r (omega arith) (let b = below in omega (arith, b)) (parts_of Off (to_block m) (map Slice (numbers_from 0 (core_count m.config))) slice_off).1)
+  no_slice : enabled_in m.config.granularity s.now pool (Slice (core r)) ≡ false
+  no_slice = off_in (Slice (core r)) (of_number Off (λ n. Slice (core n)) 0 (core_count m.config) r (omega arith) (let b = below in omega (arith, b)) (parts_of Off (to_block m) (map (λ n. Slice (core n)) (numbers_from 0 (core_count m.config))) slice_off).1)
 
-  no_decide : enabled_in m.config.granularity s.now pool (Decide r) ≡ false
-  no_decide = off_in (Decide r) (of_number Off Decide 0 (core_count m.config) r (omega arith) (let b = below in omega (arith, b)) (parts_of Off (to_arrive m) (map Decide (numbers_from 0 (core_count m.config))) decide_off).1)
+  no_decide : enabled_in m.config.granularity s.now pool (Decide (core r)) ≡ false
+  no_decide = off_in (Decide (core r)) (of_number Off (λ n. Decide (core n)) 0 (core_count m.config) r (omega arith) (let b = below in omega (arith, b)) (parts_of Off (to_arrive m) (map (λ n. Decide (core n)) (numbers_from 0 (core_count m.config))) decide_off).1)
 
-  no_save : enabled_in m.config.granularity s.now pool (Save r) ≡ false
-  no_save = off_in (Save r) (of_number Off Save 0 (core_count m.config) r (omega arith) (let b = below in omega (arith, b)) (parts_of Off (to_leave m) (map Save (numbers_from 0 (core_count m.config))) all_off).1)
+  no_save : enabled_in m.config.granularity s.now pool (Save (core r)) ≡ false
+  no_save = off_in (Save (core r)) (of_number Off (λ n. Save (core n)) 0 (core_count m.config) r (omega arith) (let b = below in omega (arith, b)) (parts_of Off (to_leave m) (map (λ n. Save (core n)) (numbers_from 0 (core_count m.config))) all_off).1)
 
   inside : (k : ℕ) → k < length c.processors → r * m.config.granularity + k < m.config.processors
   inside k low =
@@ -181,19 +178,19 @@ module _ (m : Machine) (s : State) (checked : IsChecked m) (ready : IsReady m s)
       let spread : (suc r + (n - suc r)) * g ≡ r * g + g + (n - suc r) * g = grind arith in
       omega (arith, low, w, d, z, times, spread)
 
-  no_arrive : (k : ℕ) → k < length c.processors → enabled_in m.config.granularity s.now pool (Arrive (r * m.config.granularity + k)) ≡ false
+  no_arrive : (k : ℕ) → k < length c.processors → enabled_in m.config.granularity s.now pool (Arrive (processor (r * m.config.granularity + k))) ≡ false
   no_arrive k low =
       let g : ℕ = m.config.granularity in
       let at_r : (r * g + k) / g ≡ r = div-mul-add r g k (let w = whole in omega (arith, low, w)) in
-      off_in (Arrive (r * g + k)) (subst (λ x. elim (home_of_core s x) as (λ _. Bool) [ None ↦ false | Some j ↦ test_at s.pools j (λ y. enabled_in g s.now y (Arrive (r * g + k))) ] ≡ false) at_r
-      (of_number Off Arrive 0 m.config.processors (r * g + k) (omega arith) (let b = inside k low in omega (arith, b)) (parts_of Off (to_refill m) (map Arrive (numbers_from 0 m.config.processors)) arrive_off).1))
+      off_in (Arrive (processor (r * g + k))) (subst (λ x. elim (home_of_core s x) as (λ _. Bool) [ None ↦ false | Some j ↦ test_at s.pools j (λ y. enabled_in g s.now y (Arrive (processor (r * g + k)))) ] ≡ false) at_r
+      (of_number Off (λ n. Arrive (processor n)) 0 m.config.processors (r * g + k) (omega arith) (let b = inside k low in omega (arith, b)) (parts_of Off (to_refill m) (map (λ n. Arrive (processor n)) (numbers_from 0 m.config.processors)) arrive_off).1))
 
-  no_leave : (k : ℕ) → k < length c.processors → enabled_in m.config.granularity s.now pool (Leave (r * m.config.granularity + k)) ≡ false
+  no_leave : (k : ℕ) → k < length c.processors → enabled_in m.config.granularity s.now pool (Leave (processor (r * m.config.granularity + k))) ≡ false
   no_leave k low =
       let g : ℕ = m.config.granularity in
       let at_r : (r * g + k) / g ≡ r = div-mul-add r g k (let w = whole in omega (arith, low, w)) in
-      off_in (Leave (r * g + k)) (subst (λ x. elim (home_of_core s x) as (λ _. Bool) [ None ↦ false | Some j ↦ test_at s.pools j (λ y. enabled_in g s.now y (Leave (r * g + k))) ] ≡ false) at_r
-      (of_number Off Leave 0 m.config.processors (r * g + k) (omega arith) (let b = inside k low in omega (arith, b)) (parts_of Off (to_decide m) (map Leave (numbers_from 0 m.config.processors)) leave_off).1))
+      off_in (Leave (processor (r * g + k))) (subst (λ x. elim (home_of_core s x) as (λ _. Bool) [ None ↦ false | Some j ↦ test_at s.pools j (λ y. enabled_in g s.now y (Leave (processor (r * g + k)))) ] ≡ false) at_r
+      (of_number Off (λ n. Leave (processor n)) 0 m.config.processors (r * g + k) (omega arith) (let b = inside k low in omega (arith, b)) (parts_of Off (to_decide m) (map (λ n. Leave (processor n)) (numbers_from 0 m.config.processors)) leave_off).1))
 
   processor_is : (k : ℕ) (q : Processor) → slice_get c.processors k ≡ Some q → k < length c.processors → processor_of m.config.granularity pool (r * m.config.granularity + k) ≡ Some q
   processor_is k q at_k low =
@@ -213,25 +210,25 @@ module _ (m : Machine) (s : State) (checked : IsChecked m) (ready : IsReady m s)
 
   leave_on : (k : ℕ) (q : Processor) → slice_get c.processors k ≡ Some q → is_held q ≡ true → k < length c.processors → is_open c ≡ false → ⊥
   leave_on k q at_k held low closed =
-      clash (enabled_in m.config.granularity s.now pool (Leave (r * m.config.granularity + k)))
+      clash (enabled_in m.config.granularity s.now pool (Leave (processor (r * m.config.granularity + k))))
       (both _ _ (core_test k (λ x. not (is_open x)) low (ap not closed)) (rw (processor_is k q at_k low) (both (is_held q) (is_up s.now q) held (all_have (is_up s.now) c.processors k q up at_k))))
       (no_leave k low)
 
   arrive_on : (k : ℕ) (q : Processor) → slice_get c.processors k ≡ Some q → is_held q ≡ false → k < length c.processors → c.pending ≡ true → is_open c ≡ true → is_none c.saving ≡ true → ⊥
   arrive_on k q at_k free low pending open_c none =
-      clash (enabled_in m.config.granularity s.now pool (Arrive (r * m.config.granularity + k)))
+      clash (enabled_in m.config.granularity s.now pool (Arrive (processor (r * m.config.granularity + k))))
       (both _ _ (core_test k (λ x. x.pending && is_open x && is_none x.saving) low (both (c.pending && is_open c) (is_none c.saving) (both c.pending (is_open c) pending open_c) none))
       (rw (processor_is k q at_k low) (both (not (is_held q)) (is_up s.now q) (ap not free) (all_have (is_up s.now) c.processors k q up at_k))))
       (no_arrive k low)
 
   decide_on : list_all is_held c.processors ≡ true → is_open c ≡ true → ⊥
   decide_on all open_c =
-      clash (enabled_in m.config.granularity s.now pool (Decide r))
+      clash (enabled_in m.config.granularity s.now pool (Decide (core r)))
       (test_at-some pool.resources r (λ x. list_all is_held x.processors && is_open x && first_up s.now x) c has (both (list_all is_held c.processors && is_open c) (first_up s.now c) (both (list_all is_held c.processors) (is_open c) all open_c) core_first)) no_decide
 
   save_on : is_some c.saving ≡ true → list_any is_held c.processors ≡ false → ⊥
   save_on some none =
-      clash (enabled_in m.config.granularity s.now pool (Save r))
+      clash (enabled_in m.config.granularity s.now pool (Save (core r)))
       (test_at-some pool.resources r (λ x. is_some x.saving && not (list_any is_held x.processors) && first_up s.now x) c has (both (is_some c.saving && not (list_any is_held c.processors)) (first_up s.now c) (both (is_some c.saving) (not (list_any is_held c.processors)) some (ap not none)) core_first)) no_save
 
   not_pending : c.pending ≡ true → ⊥
@@ -268,7 +265,7 @@ module _ (m : Machine) (s : State) (checked : IsChecked m) (ready : IsReady m s)
 
   not_due : has_come s.now c.due ≡ true → c.pending ≡ false → ⊥
   not_due come decided =
-      clash (enabled_in m.config.granularity s.now pool (Slice r))
+      clash (enabled_in m.config.granularity s.now pool (Slice (core r)))
       (test_at-some pool.resources r (λ x. has_come s.now x.due && not x.pending && first_up s.now x) c has (both (has_come s.now c.due && not c.pending) (first_up s.now c) (both (has_come s.now c.due) (not c.pending) come (ap not decided)) core_first)) no_slice
 
   is_calm : c.leaving ≡ false → calm s.now (home_cores pool) pool.scheduler r c ≡ true
@@ -283,7 +280,7 @@ quiet_event m s e (Some action) is next = absurd (cc)
 
 pub nobody_waits : (m : Machine) → IsChecked m → (before : List Entry) (last : Entry) → IsRun m (before ++ last ∷ []) → action_of last.event ≡ None → NobodyWaits (state_after m before)
 nobody_waits m checked before last run is i pool at r c has =
-    let parts = split_run m (begun m) before (last ∷ []) run in
+    let parts = split_run m (run_start m) before (last ∷ []) run in
     let s : State = state_after m before in
     let quiet : first_enabled m s s.now ≡ None = quiet_event m s last.event (action_of last.event) is parts.1.0.event in
     let ready : IsReady m s = ready_in_runs m checked before parts.0 in

@@ -1,7 +1,7 @@
 -- A processor that has arrived is held, and its core's stage open, until the core decides.
 use Rattle.std.proofs.Common.{◌≡◌, ℕ, zero, suc, Bool, true, false, not, List, [], ◌∷◌, refl, subst, sym, ◌∙◌, ap, inl, inr}
 use Rattle.std.specs.Prelude.{Option, Some, None, slice_get, ◌+◌, ◌*◌, ◌/◌, ◌%◌}
-use Rattle.sched_base.specs.Numbers.{moment}
+use Rattle.sched_base.specs.Numbers.{moment, core}
 use Rattle.sched_base.specs.declared.VcpuId.{VcpuId}
 use Rattle.sched_model.specs.declared.config.ParamChange.{ParamChange}
 use Rattle.sched_model.specs.declared.config.DomParams.{DomParams}
@@ -13,15 +13,14 @@ use Rattle.sched_model.specs.declared.state.Processor.{Processor}
 use Rattle.sched_model.specs.declared.state.Resource.{Resource}
 use Rattle.sched_model.specs.Places.{at_place, put_at, change_item, test_at, numbers_from}
 use Rattle.sched_model.specs.declared.state.Pool.{Pool}
-use Rattle.sched_model.specs.Policy.{rtds_record}
 use Rattle.sched_model.specs.Policy as policy
 use Rattle.sched_model.specs.Pool as pools
-use Rattle.sched_model.specs.Pool.{enabled_in, after_in, settled, home_cores, reconsidered, change_core, change_processor, change_vcpu, change_domain, change_cores_of, does, started_on, set_leaving, set_moving, set_pending, pause, unpause, set_params, without_domain, with_domain, is_of_domain, is_held, is_open, processor_of, guest_of}
+use Rattle.sched_model.specs.Pool.{change_core, change_processor, change_vcpu, with_doing, started_on, set_params, with_domain, is_held, is_open, processor_of, guest_of}
 use Rattle.sched_model.specs.declared.action.Action.TheVariants.{Decide}
 use Rattle.sched_laws.specs.RunLaws.{core_waits, waits_in}
 use Rattle.sched_laws.proofs.EachPlace.{by_option}
 use Rattle.sched_laws.proofs.Lists.{test_at-change_at_keeps, test_at-put_at_other, some-test_at, test_at-some}
-use Rattle.sched_laws.proofs.Events.{LikePlaces, like_is, like_map, capped, like_of_domain, IsMarked, Enabled, KeptByCommands, KeptBySteps, kept_marked, kept_queue_units}
+use Rattle.sched_laws.proofs.Events.{LikePlaces, like_is, like_map, capped, like_of_domain, IsMarked, Enabled, KeptByCommands, KeptBySteps, kept_marked, kept_queue_units, kept_pending}
 use Rattle.sched_laws.proofs.Sound.{processor_of_is, guest_of_is}
 use Rattle.sched_laws.proofs.Kept.{passes_at}
 use Rattle.sched_laws.proofs.Bools.{and_left, and_right, both, not_true}
@@ -80,15 +79,15 @@ module _ (g p : ℕ) where
       (held_at-change_item (p % g) (q % g) f c.processors (λ x e2 at2 held. keeps x (rw (processor_of, at) at2) held) (and_right (is_open c) (held_at (p % g) c.processors) here))) w
 
   w_started_on : (t q : ℕ) (v : VcpuId) (pool : Pool) → ((x : Processor) → processor_of g pool q ≡ Some x → is_held x ≡ true → ⊥) → W pool → W (started_on g t q v pool)
-  w_started_on t q v pool none w = w_change_processor q (does (Guest v)) (change_vcpu v (λ x. record x { started = Some (moment t) }) pool) (λ x at held. absurd (none x at held)) w
+  w_started_on t q v pool none w = w_change_processor q (with_doing (Guest v)) (change_vcpu v (λ x. record x { started = Some (moment t) }) pool) (λ x at held. absurd (none x at held)) w
 
   w_joins : (t : ℕ) (v : VcpuId) (n : ℕ) (q : Processor) (pool : Pool) → processor_of g pool n ≡ Some q → pools.is_idle q ≡ true → W pool → W (started_on g t n v pool)
   w_joins t v n q pool is idle w = w_started_on t n v pool (λ x at held. held_not_idle q idle (let e : x ≡ q = cc in subst (λ (y : Processor). is_held y ≡ true) e held)) w
 
-  w_blocks : (t q : ℕ) (v : VcpuId) (pool : Pool) → guest_of g pool q ≡ Some v → W pool → W (change_processor g q (does Idle) (change_vcpu v (pools.put_to_sleep t) pool))
+  w_blocks : (t q : ℕ) (v : VcpuId) (pool : Pool) → guest_of g pool q ≡ Some v → W pool → W (change_processor g q (with_doing Idle) (change_vcpu v (pools.put_to_sleep t) pool))
   w_blocks t q v pool guest w =
       let found = guest_of_is g pool q v guest in
-      w_change_processor q (does Idle) (change_vcpu v (pools.put_to_sleep t) pool)
+      w_change_processor q (with_doing Idle) (change_vcpu v (pools.put_to_sleep t) pool)
       (λ x at held. absurd (
       let r = processor_of_is g pool q x at in
       let e : r.0 ≡ found.0 = cc in
@@ -98,8 +97,8 @@ module _ (g p : ℕ) where
 
   w_after_arrive : (t q : ℕ) (pool : Pool) → W pool → W (pools.after_arrive g t q pool)
   w_after_arrive t q pool w =
-      by_option (λ (next : Pool). W (change_processor g q (does Held) next)) (guest_of g pool q) _ _
-      (λ is. w_change_processor q (does Held) pool (λ x at held. refl) w) (λ v is. w_change_processor q (does Held) (change_vcpu v (pools.stopped t) pool) (λ x at held. refl) w)
+      by_option (λ (next : Pool). W (change_processor g q (with_doing Held) next)) (guest_of g pool q) _ _
+      (λ is. w_change_processor q (with_doing Held) pool (λ x at held. refl) w) (λ v is. w_change_processor q (with_doing Held) (change_vcpu v (pools.stopped_vcpu t) pool) (λ x at held. refl) w)
 
   w_after_leave : (t q : ℕ) (c : Resource) (pool : Pool) → at_place pool.resources (q / g) ≡ Some c → is_open c ≡ false → W pool → W (pools.after_leave g t q c pool)
   w_after_leave t q c pool at closed w =
@@ -107,7 +106,7 @@ module _ (g p : ℕ) where
       let here = passes_at pool.resources (p / g) (core_waits (p % g)) c (subst (λ k. at_place pool.resources k ≡ Some c) e at) w in
       let o : is_open c ≡ true = and_left (is_open c) (held_at (p % g) c.processors) here in absurd (cc)) in
       by_option (λ (next : Pool). W (change_core (q / g) pools.open_if_left next)) (pools.vcpu_for g pool c (q % g)) _ _
-      (λ is. w_change_core (q / g) pools.open_if_left (change_processor g q (does Idle) pool) (λ d e at2 old. absurd (other e)) (w_change_core (q / g) _ pool (λ d e at2 old. absurd (other e)) w))
+      (λ is. w_change_core (q / g) pools.open_if_left (change_processor g q (with_doing Idle) pool) (λ d e at2 old. absurd (other e)) (w_change_core (q / g) _ pool (λ d e at2 old. absurd (other e)) w))
       (λ v is. w_change_core (q / g) pools.open_if_left (started_on g t q v pool) (λ d e at2 old. absurd (other e)) (w_change_core (q / g) _ pool (λ d e at2 old. absurd (other e)) w))
 
   pub w_commands : KeptByCommands g W
@@ -119,16 +118,17 @@ module _ (g p : ℕ) where
   }
 
   -- each event but a Decide of the core
-  pub w_steps : (t : ℕ) → KeptBySteps g t (λ pool action. (action ≡ Decide (p / g) → ⊥) × Enabled g t pool action) W
+  pub w_steps : (t : ℕ) → KeptBySteps g t (λ pool action. (action ≡ Decide (core (p / g)) → ⊥) × Enabled g t pool action) W
   w_steps t = record {
-    commands = w_commands;
+    pends = kept_pending w_commands;
+    queues = w_commands.queues;
     wakes = λ v pool on w. w;
     joins = λ v r q pool is is2 idle awake. w_joins t v (r * g + v.n % g) q pool is2 idle;
     blocks = λ q v pool guest on. w_blocks t q v pool guest;
     arrives = λ q pool on. w_after_arrive t q pool;
-    decides = λ r c pool at on w. test_at-put_at_other r (p / g) _ (core_waits (p % g)) pool.resources (λ e. on.0 (ap Decide (sym e))) ∙ w;
+    decides = λ r c pool at on w. test_at-put_at_other r (p / g) _ (core_waits (p % g)) pool.resources (λ e. on.0 (ap (λ n. Decide (core n)) (sym e))) ∙ w;
     leaves = λ q c pool at on. w_after_leave t q c pool at (not_true (is_open c) (passes_at pool.resources (q / g) (λ (x : Resource). not (is_open x)) c at (and_left (test_at pool.resources (q / g) (λ (x : Resource). not (is_open x))) _ on.1)));
-    saves = λ r c u pool at is on. w_change_core r pools.saved pool (λ x e there old. old);
+    saves = λ r c u pool at is on. w_change_core r pools.saved_core pool (λ x e there old. old);
     replenishes = λ u pool on w. w;
     dues = λ r u x old pool on is. w_change_core r (pools.due_within t x.budget) pool (λ c e at here. here);
     refills = λ d pool on w. w;

@@ -1,6 +1,7 @@
 -- The unit of a window stays the same until the window's end.
 use Rattle.std.proofs.Common.{◌≡◌, ◌<◌, ◌≤◌, ◌+◌, ◌-◌, ◌*◌, ◌/◌, ◌%◌, ℕ, Bool, true, false, List, [], ◌∷◌, refl, arith, subst, sym, ◌∙◌, ap}
 use Rattle.std.specs.Prelude.{Some, nat_lt, sum_by}
+use Rattle.std.proofs.lemmas.Bool.{lt-ltb, le-ltb, ltb-false}
 use Rattle.std.proofs.lemmas.Nat.{mod-mul-add, div-add-mod'}
 use Rattle.std.proofs.lemmas.List.Sums.{sum_by-cons}
 use Rattle.sched_model.specs.declared.config.Frame.{Frame}
@@ -14,18 +15,6 @@ runs_of entries = sum_by (λ (e : FrameEntry). e.run.0) entries
 -- the runs of the frame fit its major span
 abbrev pub FitsMajor : Frame → Type 0
 FitsMajor frame = runs_of frame.entries ≤ frame.major.0
-
-lt_of : (a b : ℕ) → nat_lt a b ≡ true → a < b
-lt_of a b is = grind arith
-
-ge_of : (a b : ℕ) → nat_lt a b ≡ false → b ≤ a
-ge_of a b is = grind arith
-
-is_lt : (a b : ℕ) → a < b → nat_lt a b ≡ true
-is_lt a b is = grind arith
-
-is_ge : (a b : ℕ) → b ≤ a → nat_lt a b ≡ false
-is_ge a b is = grind arith
 
 runs_cons : (e : FrameEntry) (entries : List FrameEntry) → runs_of (e ∷ entries) ≡ e.run.0 + runs_of entries
 runs_cons e entries = sum_by-cons (λ (x : FrameEntry). x.run.0) e entries
@@ -50,10 +39,10 @@ same_window start other ahead more last last2 (e ∷ entries) low =
     elim (nat_lt ahead e.run.0) as (λ b. nat_lt ahead e.run.0 ≡ b
     → start + ahead + more < (elim b as (λ _. Window) [ true ↦ record { unit = Some (record { dom = e.dom; n = e.unit }); until = start + e.run.0 } | false ↦ window_from (start + e.run.0) (ahead - e.run.0) last entries ]).until
     → (window_from other (ahead + more) last2 (e ∷ entries)).unit ≡ (elim b as (λ _. Window) [ true ↦ record { unit = Some (record { dom = e.dom; n = e.unit }); until = start + e.run.0 } | false ↦ window_from (start + e.run.0) (ahead - e.run.0) last entries ]).unit) [
-      | true ↦ λ is below. (let there : nat_lt (ahead + more) e.run.0 ≡ true = is_lt (ahead + more) e.run.0 (omega (arith, below)) in subst (λ b. (cons_window e other (ahead + more) last2 entries b).unit ≡ Some (record { dom = e.dom; n = e.unit })) (sym there) refl)
+      | true ↦ λ is below. (let there : nat_lt (ahead + more) e.run.0 ≡ true = lt-ltb (ahead + more) e.run.0 (omega (arith, below)) in subst (λ b. (cons_window e other (ahead + more) last2 entries b).unit ≡ Some (record { dom = e.dom; n = e.unit })) (sym there) refl)
       | false ↦ λ is below. (
-          let g = ge_of ahead e.run.0 is in
-          let there : nat_lt (ahead + more) e.run.0 ≡ false = is_ge (ahead + more) e.run.0 (omega (arith, g)) in
+          let g = ltb-false ahead e.run.0 is in
+          let there : nat_lt (ahead + more) e.run.0 ≡ false = le-ltb (ahead + more) e.run.0 (omega (arith, g)) in
           let shift : ahead + more - e.run.0 ≡ (ahead - e.run.0) + more = omega (arith, g) in
           let at : start + e.run.0 + (ahead - e.run.0) + more ≡ start + ahead + more = omega (arith, g) in
           subst (λ b. (cons_window e other (ahead + more) last2 entries b).unit ≡ (window_from (start + e.run.0) (ahead - e.run.0) last entries).unit) (sym there)
@@ -61,13 +50,13 @@ same_window start other ahead more last last2 (e ∷ entries) low =
           (same_window (start + e.run.0) (other + e.run.0) (ahead - e.run.0) more last last2 entries (subst (λ k. k < (window_from (start + e.run.0) (ahead - e.run.0) last entries).until) (sym at) below))))
     ] refl low
 
-mod_more : (x more k : ℕ) → x % k + more < k → (x + more) % k ≡ x % k + more
+pub mod_more : (x more k : ℕ) → x % k + more < k → (x + more) % k ≡ x % k + more
 mod_more x more k low =
     let d : x / k * k + x % k ≡ x = div-add-mod' x k in
     let e : x + more ≡ x / k * k + (x % k + more) = omega (arith, d) in
     ap (λ y. y % k) e ∙ mod-mul-add (x / k) k (x % k + more) low
 
-mod_self : (x k : ℕ) → x % k ≤ x
+pub mod_self : (x k : ℕ) → x % k ≤ x
 mod_self x k = (let d : x / k * k + x % k ≡ x = div-add-mod' x k in omega (arith, d))
 
 pub unit_steady : (installed : ℕ) (frame : Frame) (t later : ℕ) → FitsMajor frame → t ≤ later → later < (window_at installed frame t).until → (window_at installed frame later).unit ≡ (window_at installed frame t).unit

@@ -1,4 +1,5 @@
 -- What holds of the cores that the null scheduler gives to units.
+use Rattle.sched_base.specs.Numbers.{core as core_number}
 use Rattle.std.specs.Prelude.{◌≡◌, ◌⊎◌, ℕ, true, false, List, Option, Some, None}
 use Rattle.std.specs.List.{list_all}
 use Rattle.sched_base.specs.declared.UnitId.{UnitId}
@@ -47,7 +48,7 @@ pub record DecidesIn (s : State) (entry : Entry) (pool : Pool) (r : ℕ) (core :
   pub kept : List (Option UnitId)
   pub keeps : Keeps pool kept
   pub core_at : at_place pool.resources r ≡ Some core
-  pub decides : action_of entry.event ≡ Some (Decide r)
+  pub decides : action_of entry.event ≡ Some (Decide (core_number r))
 
 -- a Decide of a core of a null pool keeps the core's unit, unless the core may lose it
 abbrev pub StayEndsWithCause : ℕ → State → Entry → Type 0

@@ -1,4 +1,5 @@
 -- What holds between the entries of a run.
+use Rattle.sched_base.specs.Numbers.{core, processor}
 use Rattle.std.specs.Prelude.{◌≡◌, ℕ, Bool, true, false, ◌/◌, ◌%◌, ◌&&◌, Some, None, slice_get}
 use Rattle.sched_model.specs.declared.event.Entry.{Entry}
 use Rattle.sched_model.specs.Places.{test_at}
@@ -28,14 +29,14 @@ waits g p s = elim (home_of_core s (p / g)) as (λ _. Bool) [ None ↦ false | S
 
 -- the entry is not a Decide of the core
 abbrev pub IsNoDecideOf : ℕ → Entry → Type 0
-IsNoDecideOf r entry = action_of entry.event ≡ Some (Decide r) → ⊥
+IsNoDecideOf r entry = action_of entry.event ≡ Some (Decide (core r)) → ⊥
 
 -- the processor is held and its core's stage is open, and it can neither block nor arrive nor leave
 pub record StillWaits (m : Machine) (p : ℕ) (s : State) : Type 0 where
   pub waits : waits m.config.granularity p s ≡ true
-  pub no_block : (t : ℕ) → is_enabled m s t (Block p) ≡ false
-  pub no_arrive : (t : ℕ) → is_enabled m s t (Arrive p) ≡ false
-  pub no_leave : (t : ℕ) → is_enabled m s t (Leave p) ≡ false
+  pub no_block : (t : ℕ) → is_enabled m s t (Block (processor p)) ≡ false
+  pub no_arrive : (t : ℕ) → is_enabled m s t (Arrive (processor p)) ≡ false
+  pub no_leave : (t : ℕ) → is_enabled m s t (Leave (processor p)) ≡ false
 
 -- nobody waits for a core without need: where it is not leaving and has no stalled processor it does not idle while a unit is eligible for it,
 -- its own unit is allowed there, and in an RTDS pool no eligible unit runs before its own

@@ -16,12 +16,12 @@ use Rattle.sched_model.specs.State.{is_runnable}
 use Rattle.sched_model.specs.Laws.{count, runs_somewhere}
 use Rattle.sched_model.specs.Pool.{unit_of}
 use Rattle.sched_model.specs.Actions.{home_of_core, home_of_domain}
-use Rattle.sched_model.specs.Runs.{begun, after_entries}
+use Rattle.sched_model.specs.Runs.{run_start, after_entries}
 use Rattle.sched_laws.specs.Each.{EachAt, EachPlace}
 
 -- the state that the entries lead to
 abbrev pub state_after : Machine → List Entry → State
-state_after m entries = (after_entries m (begun m) entries).state
+state_after m entries = (after_entries m (run_start m) entries).state
 
 -- the home of the unit's domain is the pool i
 abbrev pub IsOfPool : State → ℕ → UnitId → Type 0
@@ -33,10 +33,11 @@ pub record UnitsAreOfPool (s : State) (i : ℕ) (pool : Pool) : Type 0 where
   pub cur : EachPlace (λ (c : Resource). IfSome c.cur (IsOfPool s i)) pool.resources
   pub saving : EachPlace (λ (c : Resource). IfSome c.saving (IsOfPool s i)) pool.resources
 
--- whether the pool i has the core r; the domain d
+-- whether the pool i has the core r
 abbrev pub has_core_at : State → ℕ → ℕ → Bool
 has_core_at s i r = test_at s.pools i (λ pool. is_some (at_place pool.resources r))
 
+-- whether the pool i has the domain d
 abbrev pub has_domain_at : State → ℕ → ℕ → Bool
 has_domain_at s i d = test_at s.pools i (λ pool. is_some (at_place pool.domains d))
 

@@ -3,7 +3,6 @@ use Rattle.std.proofs.Common.{◌≡◌, ◌≢◌, ◌≤◌, ◌+◌, ◌-◌,
 use Rattle.std.specs.Prelude.{Option, Some, None, unwrap_or, slice_get, map, ◌==◌, ℤ, pos, neg_ℤ, ◌+ℤ◌, ◌-ℤ◌, ◌≤ℤ◌}
 use Rattle.std.proofs.lemmas.Int.{ints}
 use Rattle.std.proofs.lemmas.List.{length-map}
-use Rattle.sched_base.specs.Credit2Numbers.{burned_credit, burned_residual}
 use Rattle.sched_model.specs.declared.state.Credit2Unit.{Credit2Unit}
 use Rattle.sched_model.specs.declared.state.Credit2Domain.{Credit2Domain}
 use Rattle.sched_model.specs.Places.{change_item}
@@ -61,7 +60,23 @@ lasts_item t (suc i) h (x ∷ xs) = ap (λ k. unwrap_or x.burned t + k) (lasts_i
 module _ (t : ℕ) where
   -- a unit that is charged
   held_burned : (most : ℕ) (d : Credit2Domain) (Ex Zr : Type 0) (y : Credit2Unit) → HeldFits t d.cap Ex Zr y → HeldFits t d.cap Ex Zr (burn_unit most t d y)
-  held_burned most d Ex Zr y fits = by_burned y.burned refl
+  held_burned most d Ex Zr y fits =
+      by_option (HeldFits t d.cap Ex Zr) y.burned _ _ (λ is. fits)
+      (λ from is.
+      let last : from ≤ t = subst (λ (o : Option ℕ). unwrap_or o t ≤ t) is fits.last in
+      let least : neg_ℤ (pos from) ≤ℤ y.held = subst (λ (o : Option ℕ). neg_ℤ (pos (unwrap_or o t)) ≤ℤ y.held) is fits.least in
+      let most2 = fits.most in
+      record {
+        last = omega arith;
+        idle = λ e. absurd (cc);
+        free = λ none. uncapped (t - from) y.held none (fits.free none);
+        zero = λ z. (
+            let old = fits.zero z in
+            let now : from ≡ t = subst (λ (o : Option ℕ). unwrap_or o t ≡ t) is old.1 in
+            (same_zero (d.cap == 0) (t - from) y.held old.0 (omega (arith, now)), refl));
+        most = (let f = falls (d.cap == 0) (t - from) y.held in omega (arith, ints, f, most2));
+        least = stays (d.cap == 0) (t - from) from y.held (omega (arith, last)) least;
+      })
     where
       same_zero : (b : Bool) (k : ℕ) (h : ℤ) → h ≡ pos 0 → k ≡ 0 → cond b h (h -ℤ pos k) ≡ pos 0
       same_zero true k h e z = e
@@ -78,70 +93,22 @@ module _ (t : ℕ) where
       uncapped : (k : ℕ) (h : ℤ) → d.cap ≡ 0 → h ≡ pos 0 → cond (d.cap == 0) h (h -ℤ pos k) ≡ pos 0
       uncapped k h none e = (let b : (d.cap == 0) ≡ true = grind (arith, none) in rw b e)
 
-      by_burned : (o : Option ℕ) → y.burned ≡ o → HeldFits t d.cap Ex Zr (elim o as (λ _. Credit2Unit) [
-        | None ↦ y
-        | Some from ↦ record y {
-          credit = burned_credit y.credit y.residual d.weight most (t - from);
-          residual = burned_residual y.residual d.weight most (t - from);
-          held = cond (d.cap == 0) y.held (y.held -ℤ pos (t - from));
-          burned = Some t;
-        }
-      ])
-      by_burned None is = fits
-      by_burned (Some from) is =
-          let last : from ≤ t = subst (λ (o : Option ℕ). unwrap_or o t ≤ t) is fits.last in
-          let least : neg_ℤ (pos from) ≤ℤ y.held = subst (λ (o : Option ℕ). neg_ℤ (pos (unwrap_or o t)) ≤ℤ y.held) is fits.least in
-          let most2 = fits.most in
-          record {
-            last = omega arith;
-            idle = λ e. absurd (cc);
-            free = λ none. uncapped (t - from) y.held none (fits.free none);
-            zero = λ z. (
-                let old = fits.zero z in
-                let now : from ≡ t = subst (λ (o : Option ℕ). unwrap_or o t ≡ t) is old.1 in
-                (same_zero (d.cap == 0) (t - from) y.held old.0 (omega (arith, now)), refl));
-            most = (let f = falls (d.cap == 0) (t - from) y.held in omega (arith, ints, f, most2));
-            least = stays (d.cap == 0) (t - from) from y.held (omega (arith, last)) least;
-          }
-
   grows_burned : (most : ℕ) (d : Credit2Domain) (y : Credit2Unit) → unwrap_or y.burned t ≤ t → Grows t y (burn_unit most t d y)
-  grows_burned most d y low = by_burned y.burned refl
+  grows_burned most d y low =
+      by_option (Grows t y) y.burned _ _ (λ is. record { sum = omega (arith, ints); fall = omega (arith, ints) })
+      (λ from is.
+      let last : from ≤ t = subst (λ (o : Option ℕ). unwrap_or o t ≤ t) is low in
+      let l = less (d.cap == 0) (t - from) from y.held (omega (arith, last)) in
+      let e : unwrap_or y.burned t ≡ from = ap (λ (o : Option ℕ). unwrap_or o t) is in
+      let s = l.0 in
+      record { sum = omega (arith, ints, s, e); fall = l.1 })
     where
       less : (b : Bool) (k from : ℕ) (h : ℤ) → from + k ≡ t → ((pos from +ℤ h) ≤ℤ (pos t +ℤ cond b h (h -ℤ pos k))) × (cond b h (h -ℤ pos k) ≤ℤ h)
       less true k from h e = (omega (arith, ints, e), omega (arith, ints))
       less false k from h e = (omega (arith, ints, e), omega (arith, ints))
 
-      by_burned : (o : Option ℕ) → y.burned ≡ o → Grows t y (elim o as (λ _. Credit2Unit) [
-        | None ↦ y
-        | Some from ↦ record y {
-          credit = burned_credit y.credit y.residual d.weight most (t - from);
-          residual = burned_residual y.residual d.weight most (t - from);
-          held = cond (d.cap == 0) y.held (y.held -ℤ pos (t - from));
-          burned = Some t;
-        }
-      ])
-      by_burned None is = record { sum = omega (arith, ints); fall = omega (arith, ints) }
-      by_burned (Some from) is =
-          let last : from ≤ t = subst (λ (o : Option ℕ). unwrap_or o t ≤ t) is low in
-          let l = less (d.cap == 0) (t - from) from y.held (omega (arith, last)) in
-          let e : unwrap_or y.burned t ≡ from = ap (λ (o : Option ℕ). unwrap_or o t) is in
-          let s = l.0 in
-          record { sum = omega (arith, ints, s, e); fall = l.1 }
-
   last_burned : (most : ℕ) (d : Credit2Domain) (y : Credit2Unit) → unwrap_or (burn_unit most t d y).burned t ≡ t
-  last_burned most d y = by_burned y.burned refl
-    where
-      by_burned : (o : Option ℕ) → y.burned ≡ o → unwrap_or (elim o as (λ _. Credit2Unit) [
-        | None ↦ y
-        | Some from ↦ record y {
-          credit = burned_credit y.credit y.residual d.weight most (t - from);
-          residual = burned_residual y.residual d.weight most (t - from);
-          held = cond (d.cap == 0) y.held (y.held -ℤ pos (t - from));
-          burned = Some t;
-        }
-      ]).burned t ≡ t
-      by_burned None is = ap (λ (o : Option ℕ). unwrap_or o t) is
-      by_burned (Some from) is = refl
+  last_burned most d y = by_option (λ (z : Credit2Unit). unwrap_or z.burned t ≡ t) y.burned _ _ (λ is. ap (λ (o : Option ℕ). unwrap_or o t) is) (λ from is. refl)
 
   pub held_weaker : (cap : ℕ) (Ex Zr Ex2 Zr2 : Type 0) (y : Credit2Unit) → (Ex → Ex2) → (Zr2 → Zr) → HeldFits t cap Ex Zr y → HeldFits t cap Ex2 Zr2 y
   held_weaker cap Ex Zr Ex2 Zr2 y more less fits = record {

@@ -1,7 +1,7 @@
 -- What each step of a Credit2 pool keeps of its budgets, and of which units run.
-use Rattle.std.proofs.Common.{◌≡◌, ◌<◌, ℕ, true, false, List, refl, subst, sym, ◌∙◌, ap, cond, ◌⊎◌, inl, inr, Bool, zero, suc, not, ◌≤◌, ◌+◌, ◌-◌, ◌*◌, ◌/◌, arith, length}
+use Rattle.std.proofs.Common.{◌≡◌, ◌<◌, ℕ, true, false, List, refl, subst, sym, ◌∙◌, ap, ◌⊎◌, inl, inr, Bool, zero, suc, not, ◌≤◌, ◌+◌, ◌-◌, ◌*◌, ◌/◌, arith, length}
 use Rattle.std.specs.Prelude.{Option, Some, None, length, replicate, ◌&&◌, ◌*◌, ◌+◌, ◌/◌, is_none, slice_get, unwrap_or, pos}
-use Rattle.sched_base.specs.Numbers.{moment, domain as domain_number, pool as pool_number, span}
+use Rattle.sched_base.specs.Numbers.{moment, domain as domain_number, pool as pool_number, span, core as core_number}
 use Rattle.sched_base.specs.declared.Moment.{Moment}
 use Rattle.sched_base.specs.declared.UnitId.{UnitId}
 use Rattle.sched_model.specs.declared.config.ParamChange.{ParamChange}
@@ -9,13 +9,11 @@ use Rattle.sched_model.specs.declared.config.ParamChange.TheVariants as changes
 use Rattle.sched_model.specs.declared.config.DomParams.{DomParams}
 use Rattle.sched_model.specs.declared.config.DomParams.TheVariants as dom_params
 use Rattle.sched_model.specs.Credit2 as credit2
-use Rattle.sched_model.specs.Rtds as rtds
 use Rattle.sched_model.specs.declared.config.PoolParams.{PoolParams}
 use Rattle.sched_model.specs.declared.config.PoolParams.TheVariants as pool_params
 use Rattle.sched_model.specs.declared.state.Domain.{Domain}
 use Rattle.sched_model.specs.declared.state.Resource.{Resource}
 use Rattle.sched_model.specs.declared.state.Pool.{Pool}
-use Rattle.sched_model.specs.declared.state.RtdsUnit.{RtdsUnit}
 use Rattle.sched_model.specs.declared.state.Credit2Records.{Credit2Records}
 use Rattle.sched_model.specs.declared.state.Records.{Records}
 use Rattle.sched_model.specs.declared.state.Records.TheVariants.{Credit2Pool, RtdsPool, ArincPool, NullPool}
@@ -23,11 +21,10 @@ use Rattle.sched_model.specs.declared.action.Action.TheVariants.{Moved}
 use Rattle.sched_model.specs.Places.{at_place, put_at, clear_at, change_at, numbers_from}
 use Rattle.sched_model.specs.Opening.{fresh_core, core_count}
 use Rattle.sched_model.specs.Policy as policy
-use Rattle.sched_model.specs.Policy.{rtds_record, changed_records, joined_records, parted_records, fresh_records, decision_of, decision_by, choose_window, default_dom_params, default_pool_params}
-use Rattle.sched_model.specs.NullScheduler as null
+use Rattle.sched_model.specs.Policy.{rtds_record, changed_records, joined_records, parted_records, fresh_records, decision_of, decision_by, arinc_decision, default_dom_params, default_pool_params}
 use Rattle.sched_model.specs.Pool as pools
-use Rattle.sched_model.specs.Pool.{enabled_in, after_in, settled, home_cores, reconsidered, change_core, change_processor, change_vcpu, change_domain, change_cores_of, does, started_on, set_leaving, set_moving, set_pending, pause, unpause, set_params, without_domain, with_domain, is_of_domain, is_held, is_open, first_up, processor_of, guest_of, decided, same_choice, ask_of}
-use Rattle.sched_laws.proofs.EachPlace.{EachPlace-empty, by_option, by_test, by_cond, at_place-put_at, at_place-put_at_other, at_place-clear_at_other, place_below, EachAt-clear_at, EachAt-put_at}
+use Rattle.sched_model.specs.Pool.{enabled_in, after_in, settled_pool, home_cores, reconsidered_core, change_core, change_processor, change_vcpu, change_domain, change_cores_of, with_doing, started_on, set_leaving, set_moving, set_pending, pause, unpause, set_params, without_domain, with_domain, is_of_domain, is_held, is_open, first_up, processor_of, guest_of, decided_core, same_choice, ask_of}
+use Rattle.sched_laws.proofs.EachPlace.{EachPlace-empty, by_option, by_test, at_place-put_at, at_place-put_at_other, at_place-clear_at_other, place_below, EachAt-clear_at, EachAt-put_at}
 use Rattle.sched_laws.proofs.Lists.{AllByRecursion-map, some-test_at}
 use Rattle.sched_laws.proofs.Kept.{IsKept}
 use Rattle.sched_laws.proofs.Sound.{none_is}
@@ -40,10 +37,8 @@ use Rattle.sched_base.specs.Credit2Numbers.{start_credit}
 use Rattle.sched_model.specs.declared.machine.Machine.{Machine}
 use Rattle.sched_model.specs.declared.config.DomConfig.{DomConfig}
 use Rattle.sched_model.specs.declared.ask.Ask.{Ask}
-use Rattle.sched_model.specs.declared.state.Scheduler.{Scheduler}
 use Rattle.sched_model.specs.declared.state.Credit2Unit.{Credit2Unit}
 use Rattle.sched_model.specs.declared.state.Credit2Domain.{Credit2Domain}
-use Rattle.sched_model.specs.Arinc.{Window, present_window}
 use Rattle.sched_model.specs.Eligible.{Decision}
 use Rattle.sched_model.specs.Checked.{IsChecked}
 use Rattle.sched_model.specs.Commands.{set_rtds_unit}
@@ -55,7 +50,7 @@ use Rattle.sched_laws.specs.Counts.{times, one_at}
 use Rattle.sched_laws.proofs.OnePlace.{one_same, both_of, there_each, same_choice_same}
 use Rattle.sched_laws.specs.Known.{OnePlace, core_places}
 use Rattle.sched_laws.proofs.Fits.{ChangeFits}
-use Rattle.sched_laws.proofs.Records.{same_joined}
+use Rattle.sched_laws.proofs.Records.{same_joined, same_decision}
 use Rattle.sched_laws.proofs.Events.{LikePlaces, like_change_at, capped, like_of_domain, like_is, like_map, KeepsCore, KeptByCommands, KeptByParts, commands_of, kept_settled, kept_processor, kept_by_parts, kept_set_leaving, kept_withdrawn, kept_pause, kept_unpause, kept_marked, kept_queue_units}
 use Rattle.sched_laws.proofs.Steps.{IsKeptAt}
 use Rattle.sched_ranges.specs.Ranges.{IsUnitOf}
@@ -110,9 +105,7 @@ fits_like m t records old new like fits = fits_stay m t records old new (λ r c 
 -- whether it is Credit2
 abbrev is_credit2 : Records → Bool
 is_credit2 (Credit2Pool records) = true
-is_credit2 (RtdsPool domains) = false
-is_credit2 (ArincPool records) = false
-is_credit2 (NullPool kept) = false
+is_credit2 records = false
 
 joined_kind : (records : Records) (params : DomParams) (d count t : ℕ) → is_credit2 (joined_records records params d count t) ≡ is_credit2 records
 joined_kind = same_joined is_credit2 (λ a b. refl) (λ a b. refl)
@@ -120,27 +113,12 @@ joined_kind = same_joined is_credit2 (λ a b. refl) (λ a b. refl)
 not_credit2 : (m : Machine) (t : ℕ) (records : Records) (cores : List (Option Resource)) → is_credit2 records ≡ false → CreditFits m t records cores
 not_credit2 m t records cores other own is = absurd (let e : true ≡ false = sym (ap is_credit2 is) ∙ other in cc)
 
-rt_kind : (ask : Ask) (domains : List (Option (List RtdsUnit))) (chosen : Option UnitId) → is_credit2 (rtds.decide ask domains chosen).records ≡ false
-rt_kind ask domains None = refl
-rt_kind ask domains (Some u) = refl
-
-window_kind : (ask : Ask) (scheduler : Scheduler) (window : Option Window) → (choose_window ask scheduler window).records ≡ scheduler.records
-window_kind ask scheduler None = refl
-window_kind ask scheduler (Some window) = refl
-
-null_decides : (core : ℕ) (kept : List (Option UnitId)) (chosen : Option UnitId) → is_credit2 (null.decide core kept chosen).records ≡ false
-null_decides core kept None = refl
-null_decides core kept (Some u) = refl
-
-null_kind : (ask : Ask) (scheduler : Scheduler) (kept : List (Option UnitId)) → is_credit2 (null.choose_null ask scheduler kept).records ≡ false
-null_kind ask scheduler kept = by_cond (λ (d : Decision). is_credit2 d.records ≡ false) ask.leaving (null.decide ask.core (clear_at ask.core kept) None) (null.decide ask.core kept (null.choice ask scheduler kept)) (λ leaves. refl) (λ stays. null_decides ask.core kept (null.choice ask scheduler kept))
-
 -- another core's own unit stays it
-other_core : (t r : ℕ) (c : Resource) (pool : Pool) → at_place pool.resources r ≡ Some c → (decision : Decision) (d n : ℕ) → OnCore pool.resources d n → (IsCur c.cur d n → ⊥) → OnCore (put_at r (decided t decision c) pool.resources) d n
+other_core : (t r : ℕ) (c : Resource) (pool : Pool) → at_place pool.resources r ≡ Some c → (decision : Decision) (d n : ℕ) → OnCore pool.resources d n → (IsCur c.cur d n → ⊥) → OnCore (put_at r (decided_core t decision c) pool.resources) d n
 other_core t r c pool at decision d n on apart = (
   on.0,
   on.1,
-  at_place-put_at_other r on.0 (decided t decision c) pool.resources (λ e. (
+  at_place-put_at_other r on.0 (decided_core t decision c) pool.resources (λ e. (
       let there : at_place pool.resources r ≡ Some on.1 = subst (λ k. at_place pool.resources k ≡ Some on.1) e on.2 in
       let same : on.1 ≡ c = cc in
       let own : c.cur ≡ Some (record { dom = domain_number d; n = n }) = subst (λ (x : Resource). x.cur ≡ Some (record { dom = domain_number d; n = n })) same on.3 in
@@ -182,16 +160,12 @@ module _ (m : Machine) (some : 0 < m.config.granularity) (t : ℕ) where
   N pool = CreditFits m t pool.scheduler.records pool.resources
 
   n_replenish : (records : Records) (u : UnitId) (cores : List (Option Resource)) → CreditFits m t records cores → CreditFits m t (policy.replenish records t u) cores
-  n_replenish (Credit2Pool own) u cores fits = fits
   n_replenish (RtdsPool domains) u cores fits = not_credit2 m t (policy.replenish (RtdsPool domains) t u) cores refl
-  n_replenish (ArincPool records) u cores fits = fits
-  n_replenish (NullPool kept) u cores fits = fits
+  n_replenish records u cores fits = fits
 
   n_refill : (records : Records) (d : ℕ) (cores : List (Option Resource)) → CreditFits m t records cores → CreditFits m t (policy.refill records t d) cores
-  n_refill (Credit2Pool own) d cores fits = (let ok = fits own refl in credit_fits m t (credit2.refilled t d own) cores (record { budgets = s_refilled t (CountIs m) d own ok.budgets; runs = r_refilled t (OnCore cores) d own ok.runs }))
-  n_refill (RtdsPool domains) d cores fits = fits
-  n_refill (ArincPool records) d cores fits = fits
-  n_refill (NullPool kept) d cores fits = fits
+  n_refill (Credit2Pool own) d cores fits = (let ok = fits own refl in credit_fits m t (credit2.refilled_pool t d own) cores (record { budgets = s_refilled t (CountIs m) d own ok.budgets; runs = r_refilled t (OnCore cores) d own ok.runs }))
+  n_refill records d cores fits = fits
 
   n_parted : (records : Records) (d : ℕ) (cores : List (Option Resource)) → CreditFits m t records cores → CreditFits m t (parted_records records d) cores
   n_parted (Credit2Pool own) d cores fits = (
@@ -214,9 +188,7 @@ module _ (m : Machine) (some : 0 < m.config.granularity) (t : ℕ) where
   n_joined (Credit2Pool own) (dom_params.Rtds period budget extra) d count cores good counted fits = fits
   n_joined (Credit2Pool own) dom_params.Arinc653 d count cores good counted fits = fits
   n_joined (Credit2Pool own) dom_params.Null d count cores good counted fits = fits
-  n_joined (RtdsPool domains) params d count cores good counted fits = not_credit2 m t (joined_records (RtdsPool domains) params d count t) cores (joined_kind (RtdsPool domains) params d count t)
-  n_joined (ArincPool records) params d count cores good counted fits = not_credit2 m t (joined_records (ArincPool records) params d count t) cores (joined_kind (ArincPool records) params d count t)
-  n_joined (NullPool kept) params d count cores good counted fits = not_credit2 m t (joined_records (NullPool kept) params d count t) cores (joined_kind (NullPool kept) params d count t)
+  n_joined records params d count cores good counted fits = not_credit2 m t (joined_records records params d count t) cores (joined_kind records params d count t)
 
   n_changed : (records : Records) (change : ParamChange) (cores : List (Option Resource)) → ChangeFits change → CreditFits m t records cores → CreditFits m t (changed_records records change t) cores
   n_changed (Credit2Pool own) (changes.Dom d weight percent) cores good fits = (let ok = fits own refl in credit_fits m t (credit2.set_domain t d.0 weight percent own) cores (record { budgets = s_set_domain t (CountIs m) d.0 weight percent own good.1 ok.budgets; runs = r_set_domain t (OnCore cores) d.0 weight percent own ok.runs }))
@@ -228,10 +200,8 @@ module _ (m : Machine) (some : 0 < m.config.granularity) (t : ℕ) where
   n_changed records change cores good fits = not_credit2 m t (changed_records records change t) cores refl
 
   n_unit_changed : (records : Records) (u : UnitId) (period budget : Span) (extra : Bool) (cores : List (Option Resource)) → CreditFits m t records cores → CreditFits m t (changed_records records (changes.«Unit» u period budget extra) t) cores
-  n_unit_changed (Credit2Pool own) u period budget extra cores fits = fits
   n_unit_changed (RtdsPool domains) u period budget extra cores fits = not_credit2 m t (changed_records (RtdsPool domains) (changes.«Unit» u period budget extra) t) cores refl
-  n_unit_changed (ArincPool records) u period budget extra cores fits = fits
-  n_unit_changed (NullPool kept) u period budget extra cores fits = fits
+  n_unit_changed records u period budget extra cores fits = fits
 
   n_change_core : (r : ℕ) (f : Resource → Resource) (pool : Pool) → ((c : Resource) → SameCur c (f c)) → N pool → N (change_core r f pool)
   n_change_core r f pool same fits = fits_like m t pool.scheduler.records pool.resources (change_at r f pool.resources) (like_change_at SameCur r f pool.resources (λ c. refl) (λ c at. same c)) fits
@@ -239,10 +209,10 @@ module _ (m : Machine) (some : 0 < m.config.granularity) (t : ℕ) where
   -- a decision: the core's own unit stops, and the chosen one runs
   n_decide : (own : Credit2Records) (r : ℕ) (c : Resource) (pool : Pool) → pool.scheduler.records ≡ Credit2Pool own → at_place pool.resources r ≡ Some c → PoolFits m t pool → OnePlace m.config.granularity pool → CreditOk m t own pool.resources
       → (chosen : Option UnitId) → IfUnit (λ u. domain_has_budget (credit2.burn_cur c.cur t own) u ≡ true) chosen → IfUnit (λ u. IsUnitOf m u × ((1 ≤ times u pool.scheduler.queue) ⊎ (c.cur ≡ Some u))) chosen
-      → (decision : Decision) → decision ≡ credit2.decide (ask_of m.config.granularity t pool r c) pool.scheduler (credit2.burn_cur c.cur t own) chosen → CreditFits m t decision.records (put_at r (decided t decision c) pool.resources)
+      → (decision : Decision) → decision ≡ credit2.decide (ask_of m.config.granularity t pool r c) pool.scheduler (credit2.burn_cur c.cur t own) chosen → CreditFits m t decision.records (put_at r (decided_core t decision c) pool.resources)
   n_decide own r c pool is at fits one ok None pays may decision same =
       let ask : Ask = ask_of m.config.granularity t pool r c in
-      subst (λ (d : Decision). CreditFits m t d.records (put_at r (decided t d c) pool.resources)) (sym same)
+      subst (λ (d : Decision). CreditFits m t d.records (put_at r (decided_core t d c) pool.resources)) (sym same)
       (credit_fits m t (credit2.switch_off c.cur (credit2.burn_cur c.cur t own)) _ (record {
         budgets = decides_idle t (CountIs m) ask pool.scheduler own refl ok.budgets;
         runs = λ d x at2 n y has. elim (r_switch_off t (OnCore pool.resources) c.cur (credit2.burn_cur c.cur t own) (r_burn_cur t (OnCore pool.resources) c.cur own ok.runs) d x at2 n y has) [
@@ -261,19 +231,19 @@ module _ (m : Machine) (some : 0 < m.config.granularity) (t : ℕ) where
         | inl waits ↦ inr (λ y rec. waiting_is_off m.config.granularity own pool u one ok.runs waits y rec)
       ] in
       let inside : (n : ℕ) → CountIs m u.dom.0 n → u.n < n = λ n count. (let w = unit_inside m some u may.0 in let e = count may.0.config may.0.at in omega (arith, w, e)) in
-      subst (λ (d : Decision). CreditFits m t d.records (put_at r (decided t d c) pool.resources)) (sym same)
-      (credit_fits m t (credit2.set_running (Some t) u (credit2.switch_off c.cur taken)) (put_at r (decided t d2 c) pool.resources) (record {
+      subst (λ (d : Decision). CreditFits m t d.records (put_at r (decided_core t d c) pool.resources)) (sym same)
+      (credit_fits m t (credit2.set_running (Some t) u (credit2.switch_off c.cur taken)) (put_at r (decided_core t d2 c) pool.resources) (record {
         budgets = decides_unit t (CountIs m) ask pool.scheduler own refl ok.budgets u pays inside off k;
         runs =
             let taken_runs = r_take t (OnCore pool.resources) u (credit2.reset t k burned) (r_reset t (OnCore pool.resources) k burned (r_burn_cur t (OnCore pool.resources) c.cur own ok.runs)) in
             let stopped = r_switch_off t (OnCore pool.resources) c.cur taken taken_runs in
-            r_set_running t (λ d n. OnCore pool.resources d n × (IsCur c.cur d n → ⊥)) (OnCore (put_at r (decided t d2 c) pool.resources)) u (credit2.switch_off c.cur taken)
+            r_set_running t (λ d n. OnCore pool.resources d n × (IsCur c.cur d n → ⊥)) (OnCore (put_at r (decided_core t d2 c) pool.resources)) u (credit2.switch_off c.cur taken)
             (λ d n on. other_core t r c pool at d2 d n on.0 on.1)
-            (r, decided t d2 c, at_place-put_at r (decided t d2 c) pool.resources (place_below pool.resources r c at), decided_is d2 c)
+            (r, decided_core t d2 c, at_place-put_at r (decided_core t d2 c) pool.resources (place_below pool.resources r c at), decided_is d2 c)
             stopped;
       }))
     where
-      decided_is : (d : Decision) (c : Resource) → (decided t d c).cur ≡ d.unit
+      decided_is : (d : Decision) (c : Resource) → (decided_core t d c).cur ≡ d.unit
       decided_is d c = by_test (λ (x : Resource). x.cur ≡ d.unit) (same_choice d.unit c.cur) _ _ (λ is. sym (same_choice_same d.unit c.cur is)) (λ is. refl)
 
   n_after_decide : (r : ℕ) (c : Resource) (pool : Pool) → at_place pool.resources r ≡ Some c → PoolFits m t pool → IsKnownPool m.config.granularity pool → N pool → N (pools.after_decide m.config.granularity t r c pool)
@@ -288,7 +258,10 @@ module _ (m : Machine) (some : 0 < m.config.granularity) (t : ℕ) where
       unit_is own None = refl
       unit_is own (Some u) = refl
 
-      by_records : (records : Records) → pool.scheduler.records ≡ records → CreditFits m t (decision_of (ask_of m.config.granularity t pool r c) pool.scheduler).records (put_at r (decided t (decision_of (ask_of m.config.granularity t pool r c) pool.scheduler) c) pool.resources)
+      kind : is_credit2 (decision_of (ask_of m.config.granularity t pool r c) pool.scheduler).records ≡ is_credit2 pool.scheduler.records
+      kind = same_decision is_credit2 (λ a b. refl) (λ a b. refl) (λ a b. refl) pool.scheduler.records (ask_of m.config.granularity t pool r c) pool.scheduler refl
+
+      by_records : (records : Records) → pool.scheduler.records ≡ records → CreditFits m t (decision_of (ask_of m.config.granularity t pool r c) pool.scheduler).records (put_at r (decided_core t (decision_of (ask_of m.config.granularity t pool r c) pool.scheduler) c) pool.resources)
       by_records (Credit2Pool own) is =
           let ask : Ask = ask_of m.config.granularity t pool r c in
           let burned : Credit2Records = credit2.burn_cur c.cur t own in
@@ -296,12 +269,9 @@ module _ (m : Machine) (some : 0 < m.config.granularity) (t : ℕ) where
           n_decide own r c pool is at fits known.one (credit own is) (credit2.choice ask pool.scheduler burned) (choice_pays t (CountIs m) ask pool.scheduler burned)
           (subst (IfUnit (λ u. IsUnitOf m u × ((1 ≤ times u pool.scheduler.queue) ⊎ (c.cur ≡ Some u)))) (ap (λ (d : Decision). d.unit) same ∙ unit_is burned (credit2.choice ask pool.scheduler burned)) may_be)
           (decision_of ask pool.scheduler) same
-      by_records (RtdsPool domains) is = not_credit2 m t (decision_of (ask_of m.config.granularity t pool r c) pool.scheduler).records (put_at r (decided t (decision_of (ask_of m.config.granularity t pool r c) pool.scheduler) c) pool.resources)
-          (ap (λ (x : Records). is_credit2 (decision_by x (ask_of m.config.granularity t pool r c) pool.scheduler).records) is ∙ rt_kind (ask_of m.config.granularity t pool r c) (rtds.burn_cur c.cur t domains) (rtds.choice (ask_of m.config.granularity t pool r c) pool.scheduler (rtds.burn_cur c.cur t domains)))
-      by_records (ArincPool records) is = not_credit2 m t (decision_of (ask_of m.config.granularity t pool r c) pool.scheduler).records (put_at r (decided t (decision_of (ask_of m.config.granularity t pool r c) pool.scheduler) c) pool.resources)
-          (ap (λ (x : Records). is_credit2 (decision_by x (ask_of m.config.granularity t pool r c) pool.scheduler).records) is ∙ ap is_credit2 (window_kind (ask_of m.config.granularity t pool r c) pool.scheduler (cond c.leaving None (present_window records t)) ∙ is))
-      by_records (NullPool kept) is = not_credit2 m t (decision_of (ask_of m.config.granularity t pool r c) pool.scheduler).records (put_at r (decided t (decision_of (ask_of m.config.granularity t pool r c) pool.scheduler) c) pool.resources)
-          (ap (λ (x : Records). is_credit2 (decision_by x (ask_of m.config.granularity t pool r c) pool.scheduler).records) is ∙ null_kind (ask_of m.config.granularity t pool r c) pool.scheduler kept)
+      by_records (RtdsPool domains) is = not_credit2 m t _ _ (kind ∙ ap is_credit2 is)
+      by_records (ArincPool records) is = not_credit2 m t _ _ (kind ∙ ap is_credit2 is)
+      by_records (NullPool kept) is = not_credit2 m t _ _ (kind ∙ ap is_credit2 is)
 
   n_parts : KeptByParts m.config.granularity t (λ pool action. PoolFits m t pool × IsKnownPool m.config.granularity pool) N
   n_parts = record {
@@ -310,7 +280,7 @@ module _ (m : Machine) (some : 0 < m.config.granularity) (t : ℕ) where
     queues = λ u pool runs fits. fits;
     dequeues = λ d pool fits. fits;
     decides = λ r c pool at on. n_after_decide r c pool at on.0 on.1;
-    saves = λ r c u pool at is on. n_change_core r pools.saved pool (λ x. refl);
+    saves = λ r c u pool at is on. n_change_core r pools.saved_core pool (λ x. refl);
     replenishes = λ u pool on. n_replenish pool.scheduler.records u pool.resources;
     dues = λ r u x old pool on is. n_change_core r (pools.due_within t x.budget) pool (λ c. refl);
     refills = λ d pool on. n_refill pool.scheduler.records d pool.resources;
@@ -349,7 +319,7 @@ module _ (m : Machine) (some : 0 < m.config.granularity) (t : ℕ) where
       fits_stay m t pool.scheduler.records pool.resources (put_at r (fresh_core ends) pool.resources)
       (λ k c u at own. (c, at_place-put_at_other r k (fresh_core ends) pool.resources (λ e. (let there : at_place pool.resources r ≡ Some c = subst (λ j. at_place pool.resources j ≡ Some c) e at in absurd (cc))) ∙ at, own)) fits
 
-  n_core_goes : (r : ℕ) (pool : Pool) → enabled_in m.config.granularity t pool (Moved r) ≡ true → N pool → N (record pool { resources = clear_at r pool.resources })
+  n_core_goes : (r : ℕ) (pool : Pool) → enabled_in m.config.granularity t pool (Moved (core_number r)) ≡ true → N pool → N (record pool { resources = clear_at r pool.resources })
   n_core_goes r pool on fits =
       let found = some-test_at pool.resources r (λ c. c.leaving && is_none c.cur && is_none c.saving && not c.pending && is_open c && first_up t c) on in
       let c0 : Resource = found.0 in
@@ -374,9 +344,7 @@ n_fresh m t (pool_params.Credit2 limit) domains count cores =
       budgets = λ d x at. absurd (EachPlace-empty {X = Credit2Domain} (λ y. ⊥) domains d x at);
       runs = λ d x at. absurd (EachPlace-empty {X = Credit2Domain} (λ y. ⊥) domains d x at);
     })
-n_fresh m t pool_params.Rtds domains count cores = not_credit2 m t (fresh_records pool_params.Rtds domains count) cores refl
-n_fresh m t (pool_params.Arinc653 frame) domains count cores = not_credit2 m t (fresh_records (pool_params.Arinc653 frame) domains count) cores refl
-n_fresh m t pool_params.Null domains count cores = not_credit2 m t (fresh_records pool_params.Null domains count) cores refl
+n_fresh m t other domains count cores = not_credit2 m t (fresh_records other domains count) cores refl
 
 pub n_later : (m : Machine) (t next : ℕ) (records : Records) (cores : List (Option Resource)) → t ≤ next → CreditFits m t records cores → CreditFits m next records cores
 n_later m t next records cores past fits own is = (let ok = fits own is in record { budgets = λ d x at. b_later t next (CountIs m d) x past (ok.budgets d x at); runs = ok.runs })
@@ -392,10 +360,11 @@ whole_steps m checked some t =
     let steps = range_steps m checked t in
     let known : IsKept m.config.granularity (IsKnownPool m.config.granularity) = known_pools m.config.granularity some in
     record {
+      stays = λ pool w. w;
       weakens = λ pool w. w;
       settles = λ pool w. record { known = known.inside.settles t pool w.known; fits = steps.settles pool w.fits; credit = kept_settled (n_commands m some t) t pool w.credit };
       stalls = λ p end pool near w. record { known = known.inside.stalls p end pool w.known; fits = steps.stalls p end pool near w.fits; credit = kept_processor (n_parts m some t) p (λ q. record q { stall_end = moment end }) pool w.credit };
-      acts = λ pool action on w. record { known = known.inside.acts t pool action on w.known; fits = steps.acts pool action on w.fits; credit = kept_by_parts (n_parts m some t) pool action (w.fits, w.known) w.credit };
+      acts = λ pool action of on w. record { known = known.inside.acts t pool action on w.known; fits = steps.acts pool action of on w.fits; credit = kept_by_parts (n_parts m some t) pool action (w.fits, w.known) w.credit };
       leaves = λ r pool w. record { known = known.inside.leaves r pool w.known; fits = steps.leaves r pool w.fits; credit = kept_set_leaving (n_commands m some t) r pool w.credit };
       moves = λ d i pool w. record { known = known.inside.moves d i pool w.known; fits = steps.moves d i pool w.fits; credit = kept_withdrawn (n_commands m some t) d (change_domain d (λ x. record x { moving = Some (pool_number i) }) pool) w.credit };
       pauses = λ d pool w. record { known = known.inside.pauses d pool w.known; fits = steps.pauses d pool w.fits; credit = kept_pause (n_commands m some t) d pool w.credit };

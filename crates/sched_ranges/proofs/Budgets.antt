@@ -1,4 +1,5 @@
 -- What the budgets of a pool's domains keep at a decision, a refill and a change of parameters.
+use Rattle.sched_ranges.proofs.Rtds.{last_later, still_last}
 use Rattle.std.proofs.Common.{◌≡◌, ◌≢◌, ◌≤◌, ◌+◌, ◌*◌, ◌/◌, ◌%◌, ℕ, zero, suc, true, List, [], ◌∷◌, refl, arith, subst, sym, ap, cond, ◌⊎◌, inl, inr, length}
 use Rattle.std.specs.Prelude.{Option, Some, None, unwrap_or, slice_get, map, max, replicate, is_some, sum_by, ◌==◌, ℤ, pos, negsuc, neg_ℤ, ◌+ℤ◌, ◌-ℤ◌, ◌≤ℤ◌}
 use Rattle.std.specs.Int.{int_min}
@@ -203,24 +204,16 @@ b_later t next IsCount x past fits = (
     let m = lasts_later x.units in
     record { cap = fits.cap; count = fits.count; units = λ n y at. held_later y (fits.units n y at); low = omega (arith, ints, l, m); high = fits.high })
   where
-    last_later : (o : Option ℕ) → unwrap_or o t ≤ unwrap_or o next
-    last_later None = past
-    last_later (Some b) = omega arith
-
-    within : (o : Option ℕ) → unwrap_or o t ≤ t → unwrap_or o next ≤ next
-    within None l = omega arith
-    within (Some b) l = omega (arith, l, past)
-
     lasts_later : (ys : List Credit2Unit) → lasts t ys ≤ lasts next ys
     lasts_later [] = omega arith
-    lasts_later (y ∷ ys) = (let a = last_later y.burned in let b = lasts_later ys in omega (arith, a, b))
+    lasts_later (y ∷ ys) = (let a = last_later t next past y.burned in let b = lasts_later ys in omega (arith, a, b))
 
     held_later : (y : Credit2Unit) → HeldFits t x.cap ⊥ ⊥ y → HeldFits next x.cap ⊥ ⊥ y
     held_later y here = record {
-      last = within y.burned here.last;
+      last = still_last t next past y.burned here.last;
       idle = here.idle;
       free = here.free;
       zero = λ e. absurd e;
       most = here.most;
-      least = (let l = here.least in let m = last_later y.burned in omega (arith, ints, l, m));
+      least = (let l = here.least in let m = last_later t next past y.burned in omega (arith, ints, l, m));
     }

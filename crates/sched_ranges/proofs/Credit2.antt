@@ -1,30 +1,30 @@
 -- What the records of Credit2 keep: weights, caps, refills, and the credit of each unit, which falls by 65,536 a nanosecond at most.
 use Rattle.std.proofs.Common.{◌≡◌, ◌<◌, ◌≤◌, ◌+◌, ◌-◌, ◌*◌, ◌/◌, ◌%◌, ℕ, zero, suc, List, [], ◌∷◌, refl, arith, subst, sym, ◌∙◌, cond}
-use Rattle.std.specs.Prelude.{Option, Some, None, unwrap_or, slice_get, map, fold, max, replicate, is_some, ◌==◌, ℤ, pos, neg_ℤ, ◌+ℤ◌, ◌-ℤ◌, ◌≤ℤ◌}
+use Rattle.std.specs.Prelude.{Option, Some, None, unwrap_or, slice_get, map, fold, max, replicate, is_some, ◌==◌, ℤ, pos, neg_ℤ, ◌+ℤ◌, ◌≤ℤ◌}
 use Rattle.std.specs.List.{AllByRecursion}
 use Rattle.std.specs.Int.{int_min}
 use Rattle.std.specs.Option.{IfSome}
 use Rattle.std.proofs.lemmas.Int.{ints, clamps}
 use Rattle.std.proofs.lemmas.Nat.{div-add-mod'}
 use Rattle.std.proofs.Math.Nat.{mod-lt}
-use Rattle.sched_base.specs.Credit2Numbers.{charge, burned_credit, burned_residual, raise, start_credit, most_credit, refill_span}
+use Rattle.sched_base.specs.Credit2Numbers.{charge, raise, start_credit, most_credit, refill_span}
 use Rattle.sched_base.specs.declared.UnitId.{UnitId}
 use Rattle.sched_model.specs.declared.state.Credit2Unit.{Credit2Unit}
 use Rattle.sched_model.specs.declared.state.Credit2Domain.{Credit2Domain}
 use Rattle.sched_model.specs.declared.state.Credit2Records.{Credit2Records}
-use Rattle.sched_model.specs.Places.{at_place, change_item, numbered}
+use Rattle.sched_model.specs.Places.{at_place, change_item, numbered_items}
 use Rattle.sched_model.specs.Checked.{IsWithin}
-use Rattle.sched_model.specs.Credit2.{max_weight, burn_unit, burn_units, burn_all, change_domain, change_unit, give_back, burn_cur, reset, take_budget, set_running, switch_off, refill_domain, refilled, first_refill, fresh_domain, set_weight, set_cap, set_domain}
+use Rattle.sched_model.specs.Credit2.{max_weight, burn_unit, burn_units, burn_all, change_domain, change_unit, give_back, burn_cur, reset, take_budget, set_running, switch_off, refill_domain, refilled_pool, first_refill, fresh_domain, set_weight, set_cap, set_domain}
 use Rattle.sched_laws.specs.Each.{EachPlace}
 use Rattle.sched_laws.proofs.EachPlace.{EachPlace-change_at, EachPlace-change_each, by_option, by_cond, length_set, length_change_each}
-use Rattle.sched_ranges.proofs.Rtds.{AllByRecursion-change_item}
+use Rattle.sched_ranges.proofs.Rtds.{AllByRecursion-change_item, still_last}
 use Rattle.sched_ranges.specs.Fits.{UnitFits, Credit2DomainFits, Credit2Fits}
 
 -- the greatest weight is one
 max_small : (a b : ℕ) → a ≤ 65535 → b ≤ 65535 → max a b ≤ 65535
 max_small a b x y = grind (arith, x, y)
 
-fold_small : (t n acc : ℕ) (domains : List (Option Credit2Domain)) → acc ≤ 65535 → EachPlace (Credit2DomainFits t) domains → fold max acc (map (λ (e : ℕ × Credit2Domain). e.1.weight) (numbered n domains)) ≤ 65535
+fold_small : (t n acc : ℕ) (domains : List (Option Credit2Domain)) → acc ≤ 65535 → EachPlace (Credit2DomainFits t) domains → fold max acc (map (λ (e : ℕ × Credit2Domain). e.1.weight) (numbered_items n domains)) ≤ 65535
 fold_small t n acc [] low each = low
 fold_small t n acc (None ∷ domains) low each = fold_small t (suc n) acc domains low (λ i x at. each (suc i) x at)
 fold_small t n acc (Some d ∷ domains) low each = fold_small t (suc n) (max acc d.weight) domains (max_small acc d.weight low (each 0 d refl).weight.most) (λ i x at. each (suc i) x at)
@@ -58,15 +58,11 @@ charge_small residual weight most elapsed low small =
 unit_later : (t next weight : ℕ) (x : Credit2Unit) → t ≤ next → UnitFits t weight x → UnitFits next weight x
 unit_later t next weight x past fits = record {
   residual = fits.residual;
-  last = within x.burned fits.last;
+  last = still_last t next past x.burned fits.last;
   most = fits.most;
   least = lower x.burned fits.least;
 }
   where
-    within : (o : Option ℕ) → unwrap_or o t ≤ t → unwrap_or o next ≤ next
-    within None l = omega arith
-    within (Some b) l = omega (arith, l, past)
-
     lower : (o : Option ℕ) → neg_ℤ (pos (65536 * unwrap_or o t)) ≤ℤ x.credit → neg_ℤ (pos (65536 * unwrap_or o next)) ≤ℤ x.credit
     lower None l = omega (arith, ints, past, l)
     lower (Some b) l = l
@@ -81,29 +77,19 @@ unit_runs t weight x from is fits = record {
 }
 
 unit_burned : (t most : ℕ) (d : Credit2Domain) (x : Credit2Unit) → most ≤ 65535 → UnitFits t d.weight x → UnitFits t d.weight (burn_unit most t d x)
-unit_burned t most d x small fits = by_burned x.burned refl
-  where
-    by_burned : (o : Option ℕ) → x.burned ≡ o → UnitFits t d.weight (elim o as (λ _. Credit2Unit) [
-      | None ↦ x
-      | Some from ↦ record x {
-        credit = burned_credit x.credit x.residual d.weight most (t - from);
-        residual = burned_residual x.residual d.weight most (t - from);
-        held = cond (d.cap == 0) x.held (x.held -ℤ pos (t - from));
-        burned = Some t;
-      }
-    ])
-    by_burned None is = fits
-    by_burned (Some from) is =
-        let last : from ≤ t = subst (λ (o : Option ℕ). unwrap_or o t ≤ t) is fits.last in
-        let least : neg_ℤ (pos (65536 * from)) ≤ℤ x.credit = subst (λ (o : Option ℕ). neg_ℤ (pos (65536 * unwrap_or o t)) ≤ℤ x.credit) is fits.least in
-        let c = charge_small x.residual d.weight most (t - from) fits.residual small in
-        let top = fits.most in
-        record {
-          residual = mod-lt (charge x.residual most (t - from)) (let r = fits.residual in omega (arith, r));
-          last = omega arith;
-          most = omega (arith, ints, top);
-          least = omega (arith, ints, last, least, c);
-        }
+unit_burned t most d x small fits =
+    by_option (UnitFits t d.weight) x.burned _ _ (λ is. fits)
+    (λ from is.
+    let last : from ≤ t = subst (λ (o : Option ℕ). unwrap_or o t ≤ t) is fits.last in
+    let least : neg_ℤ (pos (65536 * from)) ≤ℤ x.credit = subst (λ (o : Option ℕ). neg_ℤ (pos (65536 * unwrap_or o t)) ≤ℤ x.credit) is fits.least in
+    let c = charge_small x.residual d.weight most (t - from) fits.residual small in
+    let top = fits.most in
+    record {
+      residual = mod-lt (charge x.residual most (t - from)) (let r = fits.residual in omega (arith, r));
+      last = omega arith;
+      most = omega (arith, ints, top);
+      least = omega (arith, ints, last, least, c);
+    })
 
 unit_raised : (t weight k : ℕ) (x : Credit2Unit) → UnitFits t weight x → UnitFits t weight (record x { credit = raise x.credit k })
 unit_raised t weight k x fits = record {
@@ -199,7 +185,7 @@ module _ (count t : ℕ) where
   c_set_running u records fits = c_change_unit u (λ d x. record x { burned = Some t }) records (λ d x. unit_runs t d.weight x (Some t) refl) fits
 
   -- a refill that has come
-  pub c_refilled : (d : ℕ) (records : Credit2Records) → ((x : Credit2Domain) (r : ℕ) → at_place records.domains d ≡ Some x → x.refill ≡ Some r → r ≤ t) → C records → C (refilled t d records)
+  pub c_refilled : (d : ℕ) (records : Credit2Records) → ((x : Credit2Domain) (r : ℕ) → at_place records.domains d ≡ Some x → x.refill ≡ Some r → r ≤ t) → C records → C (refilled_pool t d records)
   c_refilled d records come fits =
       c_change_domain d (refill_domain (max_weight records) t) records
       (λ x at here.

@@ -15,11 +15,11 @@ use Rattle.sched_model.specs.declared.state.Scheduler.{Scheduler}
 use Rattle.sched_model.specs.declared.state.Records.TheVariants.{Credit2Pool}
 use Rattle.sched_model.specs.Places.{at_place, change_item}
 use Rattle.sched_model.specs.Eligible.{is_allowed, is_eligible, has_budget}
-use Rattle.sched_model.specs.Credit2.{max_weight, burn_unit, burn_units, burn_all, change_domain, change_unit, give_back, burn_cur, own_candidate, choice, is_within_limit, domain_has_budget, reset, take_budget, set_running, switch_off, refill_domain, refilled, set_weight, set_cap, set_domain}
+use Rattle.sched_model.specs.Credit2.{max_weight, burn_unit, burn_units, burn_all, change_domain, change_unit, give_back, burn_cur, own_candidate, choice, is_within_limit, domain_has_budget, reset, take_budget, set_running, switch_off, refill_domain, refilled_pool, set_weight, set_cap, set_domain}
 use Rattle.sched_laws.specs.Each.{EachAt}
 use Rattle.sched_laws.proofs.Bools.{and_right, one_of}
 use Rattle.sched_laws.proofs.EachPlace.{EachAt-change_to, EachAt-change_at, EachAt-change_each, read_change_each, by_option, by_cond}
-use Rattle.sched_laws.proofs.Lists.{AllByRecursion-filter}
+use Rattle.sched_laws.proofs.Lists.{AllByRecursion-filter, item_below}
 use Rattle.sched_laws.proofs.Choices.{greatest_has}
 use Rattle.sched_laws.specs.Known.{IfUnit}
 use Rattle.sched_laws.proofs.Sound.{read_change_item, change_at-twice}
@@ -95,7 +95,7 @@ module _ (t : ℕ) (C : ℕ → ℕ → Type 0) where
       (λ d x other here. b_weaker t (C d) (Is u d) Nobody Nobody Nobody x (λ n e. absurd (other e.0)) (λ n e. e) here)
       (λ x at here. b_running t (C u.dom.0) (Is u u.dom.0) Nobody Nobody u.n (Some t) x refl (λ n other e. absurd (other e.1)) (λ y has none. absurd (cc)) here)
 
-  pub s_refilled : (d : ℕ) (records : Credit2Records) → Budgets t C None2 None2 records → Budgets t C None2 None2 (refilled t d records)
+  pub s_refilled : (d : ℕ) (records : Credit2Records) → Budgets t C None2 None2 records → Budgets t C None2 None2 (refilled_pool t d records)
   s_refilled d records fits = EachAt-change_at (λ d. BudgetFits t (C d) Nobody Nobody) d (refill_domain (max_weight records) t) records.domains fits (λ x at here. b_refilled t (C d) (max_weight records) x here)
 
   pub s_set_domain : (d : ℕ) (weight percent : Option ℕ) (records : Credit2Records) → IfSome percent (λ (c : ℕ). c ≤ 6400) → Budgets t C None2 None2 records → Budgets t C None2 None2 (set_domain t d weight percent records)
@@ -119,17 +119,17 @@ module _ (t : ℕ) (C : ℕ → ℕ → Type 0) where
   choice_pays ask scheduler records =
       let P : UnitId → Type 0 = λ u. domain_has_budget records u ≡ true in
       let own : IfUnit P (own_candidate ask scheduler records) = by_option (IfUnit P) ask.cur _ _ (λ none. tt)
-      (λ u is. by_cond (IfUnit P) (ask.runnable && is_allowed scheduler ask.home ask.core u && domain_has_budget records u) (Some u) None (λ may. and_right (ask.runnable && is_allowed scheduler ask.home ask.core u) (domain_has_budget records u) may) (λ may. tt)) in
+      (λ u is. by_cond (IfUnit P) (ask.runnable && is_allowed scheduler ask.home.0 ask.core.0 u && domain_has_budget records u) (Some u) None (λ may. and_right (ask.runnable && is_allowed scheduler ask.home.0 ask.core.0 u) (domain_has_budget records u) may) (λ may. tt)) in
       by_cond (IfUnit P) ask.leaving _ _ (λ leaves. tt)
-      (λ stays. by_cond (IfUnit P) (is_some (own_candidate ask scheduler records) && is_within_limit records ask.since ask.at) (own_candidate ask scheduler records) _ (λ keeps. own)
+      (λ stays. by_cond (IfUnit P) (is_some (own_candidate ask scheduler records) && is_within_limit records ask.since.0 ask.at.0) (own_candidate ask scheduler records) _ (λ keeps. own)
       (λ scans. greatest_has P records (own_candidate ask scheduler records) _ own
-      (AllByRecursion-filter (λ u. Unit {0}) P (is_eligible (record scheduler { records = Credit2Pool records }) ask.home ask.core ask.at) (λ u passes all. and_right (is_allowed (record scheduler { records = Credit2Pool records }) ask.home ask.core u) (domain_has_budget records u) passes) scheduler.queue (all_units scheduler.queue))))
+      (AllByRecursion-filter (λ u. Unit {0}) P (is_eligible (record scheduler { records = Credit2Pool records }) ask.home.0 ask.core.0 ask.at.0) (λ u passes all. and_right (is_allowed (record scheduler { records = Credit2Pool records }) ask.home.0 ask.core.0 u) (domain_has_budget records u) passes) scheduler.queue (all_units scheduler.queue))))
 
   same_unit_at : (u : UnitId) (d n : ℕ) → Is u d n → (P : ℕ → ℕ → Type 0) → P u.dom.0 u.n → P d n
   same_unit_at u d n is P here = subst (λ k. P k n) (sym is.0) (subst (λ k. P u.dom.0 k) (sym is.1) here)
 
   -- a decision for a unit that is the core's own, or does not run
-  module _ (ask : Ask) (scheduler : Scheduler) (records : Credit2Records) (now : ask.at ≡ t) (fits : Budgets t C None2 None2 records) where
+  module _ (ask : Ask) (scheduler : Scheduler) (records : Credit2Records) (now : ask.at.0 ≡ t) (fits : Budgets t C None2 None2 records) where
     abbrev burned : Credit2Records
     burned = burn_cur ask.cur t records
 
@@ -171,7 +171,7 @@ module _ (t : ℕ) (C : ℕ → ℕ → Type 0) where
         let begun : Budgets t C None2 Zr (reset t k burned) = s_reset Zr k burned (ready u off) in
         let none : (x : Credit2Domain) → at_place (reset t k burned).domains u.dom.0 ≡ Some x → (y : Credit2Unit) × (slice_get x.units u.n ≡ Some y) × (y.held ≡ pos 0) = λ x at. (
         let here = begun u.dom.0 x at in
-        let y = get_below x.units u.n (inside (length x.units) here.count) in
+        let y = item_below x.units u.n (inside (length x.units) here.count) in
         (y.0, y.1, ((here.units u.n y.0 y.1).zero (inl (refl, refl))).0)) in
         let may : (x : Credit2Domain) → at_place (reset t k burned).domains u.dom.0 ≡ Some x → (x.cap ≡ 0) ⊎ (pos 0 ≤ℤ x.budget) = λ x at. (
         let old = reset_same k u.dom.0 burned x at in
@@ -182,11 +182,6 @@ module _ (t : ℕ) (C : ℕ → ℕ → Type 0) where
         let off2 = s_switch_off (Is u) (λ d n. Zr d n × (Is u d n → ⊥)) ask.cur (change_domain u.dom.0 (take_budget u.n) (reset t k burned)) (λ w is. own_or_other u w is) taken in
         s_set_running u (switch_off ask.cur (change_domain u.dom.0 (take_budget u.n) (reset t k burned))) off2
       where
-        get_below : (ys : List Credit2Unit) (n : ℕ) → n < length ys → (y : Credit2Unit) × (slice_get ys n ≡ Some y)
-        get_below [] n low = absurd (omega (arith, low))
-        get_below (y ∷ ys) zero low = (y, refl)
-        get_below (y ∷ ys) (suc n) low = get_below ys n (omega (arith, low))
-
         own_or_other : (u w : UnitId) → ask.cur ≡ Some w → ((Is u w.dom.0 w.n ⊎ IsCur ask.cur w.dom.0 w.n) × (Is u w.dom.0 w.n → ⊥)) ⊎ Is u w.dom.0 w.n
         own_or_other u w is =
             elim (ℕ_discrete w.dom.0 u.dom.0) [
@@ -240,7 +235,7 @@ module _ (t : ℕ) (On : ℕ → ℕ → Type 0) where
       EachAt-change_at (λ d (x : Credit2Domain). RunsOnly (On d) x.units) u.dom.0 (take_budget u.n) records.domains only
       (λ x at here. by_cond (λ (z : Credit2Domain). RunsOnly (On u.dom.0) z.units) (x.cap == 0) x _ (λ free. here) (λ capped. l_item (On u.dom.0) u.n _ x.units (λ y none. none) here))
 
-  pub r_refilled : (d : ℕ) (records : Credit2Records) → AllRunOnly On records → AllRunOnly On (refilled t d records)
+  pub r_refilled : (d : ℕ) (records : Credit2Records) → AllRunOnly On records → AllRunOnly On (refilled_pool t d records)
   r_refilled d records only = EachAt-change_at (λ d (x : Credit2Domain). RunsOnly (On d) x.units) d (refill_domain (max_weight records) t) records.domains only (λ x at here. l_map (On d) (burn_unit (max_weight records) t x) x.units (burn_keeps (max_weight records) t x) here)
 
   r_weighed : (d : ℕ) (weight : Option ℕ) (x : Credit2Domain) → RunsOnly (On d) x.units → RunsOnly (On d) (set_weight weight x).units

@@ -1,7 +1,6 @@
 -- The law of ranges in its own words.
-use Rattle.std.proofs.Common.{◌≡◌, ◌<◌, ◌≤◌, ◌+◌, ◌-◌, ◌*◌, ℕ, List, refl, arith, subst, sym, inl, inr, length, zero, suc, ◌/◌, ◌%◌, ◌∷◌, []}
+use Rattle.std.proofs.Common.{◌≡◌, ◌<◌, ◌≤◌, ◌+◌, ◌-◌, ◌*◌, ℕ, List, refl, arith, subst, sym, inl, inr, length, suc, ◌/◌, ◌%◌, ◌∷◌, []}
 use Rattle.std.specs.Prelude.{Option, Some, None, unwrap_or, pos, neg_ℤ, ◌≤ℤ◌, slice_get}
-use Rattle.std.specs.Option.{IfSome}
 use Rattle.std.proofs.lemmas.List.Elements.{All-from_recursion, recursion_from_All}
 use Rattle.sched_base.specs.declared.Moment.{Moment}
 use Rattle.sched_base.specs.declared.Span.{Span}
@@ -20,7 +19,7 @@ use Rattle.sched_model.specs.Opening.{core_count}
 use Rattle.sched_model.specs.Runs.{IsRun}
 use Rattle.sched_model.specs.Checked.{IsChecked, IsCheckedDomain, IsCheckedScript, most_span}
 use Rattle.sched_laws.specs.StateLaws.{state_after}
-use Rattle.sched_laws.proofs.Lists.{AllByRecursion-map}
+use Rattle.sched_laws.proofs.Lists.{AllByRecursion-map, if_some, item_below}
 use Rattle.sched_laws.proofs.Opened.{each_get}
 use Rattle.sched_laws.proofs.SiblingsLaw.{some_processor}
 use Rattle.sched_laws.proofs.Reached as reached
@@ -43,11 +42,6 @@ use Rattle.sched_laws.proofs.EachPlace.{place_below}
 use Rattle.sched_ranges.specs.Budgets.{lasts, helds, HeldFits, BudgetFits, Nobody}
 use Rattle.sched_ranges.proofs.BudgetWalk.{CountIs, CreditFits}
 use Rattle.std.specs.List.{AllByRecursion}
-use Rattle.sched_model.specs.declared.config.DomConfig.{DomConfig}
-
-if_some : {X : Type 0} (o : Option X) (P : X → Type 0) → ((x : X) → o ≡ Some x → P x) → IfSome o P
-if_some None P all = tt
-if_some (Some x) P all = all x refl
 
 vcpu_in_range : (t : ℕ) (script : List Span) (x : Vcpu) → IsCheckedScript script → VcpuFits t script x → VcpuInRange t script x
 vcpu_in_range t script x checked fits = record {
@@ -63,7 +57,7 @@ vcpu_in_range t script x checked fits = record {
     by_sleep (Some a) is = (let odd = fits.odd a is in let l = odd.1 in let f = checked.few in omega (arith, l, f))
 
 -- a level rises once a budget is used up, and a budget is 10,000 at least
-rtds_in_range : (t : ℕ) (x : RtdsUnit) → RtdsFits t x → RtdsInRange t x
+pub rtds_in_range : (t : ℕ) (x : RtdsUnit) → RtdsFits t x → RtdsInRange t x
 rtds_in_range t x fits = record {
   period = fits.period;
   budget = fits.budget;
@@ -129,7 +123,7 @@ credit2_in_range m t dom d few fits budget = record {
 units_few : (m : Machine) → IsChecked m → (t : ℕ) (d : ℕ) (x : Credit2Domain) (records : Credit2Records) → length records.domains ≡ length m.config.domains → at_place records.domains d ≡ Some x → BudgetFits t (CountIs m d) Nobody Nobody x → length x.units ≤ 32
 units_few m checked t d x records places at budget =
     let low = place_below records.domains d x at in
-    let there = get_below m.config.domains d (omega (arith, low, places)) in
+    let there = item_below m.config.domains d (omega (arith, low, places)) in
     let domain = each_get (IsCheckedDomain m.config) m.config.domains d there.0 (recursion_from_All (IsCheckedDomain m.config) m.config.domains checked.config.domains) there.1 in
     let count = budget.count there.0 there.1 in
     let some = some_processor m.config.granularity checked.config.granularity in
@@ -138,11 +132,6 @@ units_few m checked t d x records places at budget =
     let small = div_few (length there.0.guests) m.config.granularity some one in
     omega (arith, count, guests, small)
   where
-    get_below : (xs : List DomConfig) (n : ℕ) → n < length xs → (y : DomConfig) × (slice_get xs n ≡ Some y)
-    get_below [] n low = absurd (omega (arith, low))
-    get_below (y ∷ xs) zero low = (y, refl)
-    get_below (y ∷ xs) (suc n) low = get_below xs n (omega (arith, low))
-
     div_few : (a g : ℕ) → 0 < g → 1 ≤ a → (a + g - 1) / g ≤ a
     div_few a g some one =
         let d : (a + g - 1) / g * g + (a + g - 1) % g ≡ a + g - 1 = div-add-mod' (a + g - 1) g in

@@ -1,13 +1,13 @@
 -- The law of ranges, from what is kept.
-use Rattle.std.proofs.Common.{◌≡◌, ◌≤◌, ◌+◌, ◌/◌, ◌%◌, ℕ, zero, suc, true, List, [], ◌∷◌, refl, arith, subst, sym, ◌∙◌, ap, cond, length, ◌<◌}
-use Rattle.std.specs.Prelude.{Option, Some, None, slice_get, map, max, replicate, nat_le, ◌==◌}
+use Rattle.sched_laws.proofs.Judged.{is_le}
+use Rattle.std.proofs.Common.{◌≡◌, ◌≤◌, ◌+◌, ◌/◌, ◌%◌, ℕ, zero, suc, true, List, [], ◌∷◌, arith, subst, sym, ◌∙◌, ap, cond, length, ◌<◌}
+use Rattle.std.specs.Prelude.{Option, Some, None, slice_get, map, max, replicate, nat_le}
 use Rattle.std.specs.List.{AllByRecursion, list_any}
-use Rattle.std.proofs.lemmas.List.{length-replicate}
+use Rattle.std.proofs.lemmas.List.{length-replicate, length-map}
 use Rattle.std.proofs.lemmas.List.Elements.{recursion_from_All}
 use Rattle.sched_base.specs.Numbers.{moment, domain as domain_number}
 use Rattle.sched_base.specs.declared.Moment.{Moment}
 use Rattle.sched_base.specs.declared.Span.{Span}
-use Rattle.sched_base.specs.declared.Cores.{Cores}
 use Rattle.sched_model.specs.declared.event.Event.{Event}
 use Rattle.sched_model.specs.declared.event.Entry.{Entry}
 use Rattle.sched_model.specs.declared.machine.Machine.{Machine}
@@ -29,18 +29,17 @@ use Rattle.sched_model.specs.declared.state.Processor.{Processor}
 use Rattle.sched_model.specs.declared.state.Resource.{Resource}
 use Rattle.sched_model.specs.Places.{at_place}
 use Rattle.sched_model.specs.State.{has_core}
-use Rattle.sched_model.specs.Opening.{opening, opening_pool, opening_free, with_domains, with_configured, with_pins, fresh_core, fresh_vcpu, core_count}
+use Rattle.sched_model.specs.Opening.{opening, opening_pool, opening_free, fresh_core, fresh_vcpu, core_count}
 use Rattle.sched_model.specs.Checked.{IsChecked, IsCheckedPool, IsCheckedDomain, IsCheckedScript, IsCheckedStall, DomParamsPass, most_span}
 use Rattle.sched_model.specs.Actions.{home_of_core}
-use Rattle.sched_model.specs.Pool.{set_params, with_domain}
 use Rattle.sched_model.specs.Machine.{is_enabled, after, next_in_horizon, next_moment, stall_end_of}
-use Rattle.sched_model.specs.Runs.{Reached, action_of, end_of, after_quiet, after_event, IsNextEvent, IsRunFrom, IsRun, begun, after_entry, after_entries}
+use Rattle.sched_model.specs.Runs.{Reached, action_of, end_of, after_quiet, after_event, IsNextEvent, IsRunFrom, IsRun, run_start, after_entry, after_entries}
 use Rattle.sched_laws.specs.Each.{EachPlace}
 use Rattle.sched_laws.specs.StateLaws.{state_after}
 use Rattle.sched_laws.proofs.EachPlace.{EachPlace-empty, by_option, by_cond}
 use Rattle.sched_laws.proofs.Kept.{IsApart}
 use Rattle.sched_laws.proofs.ApartKept.{apart_after}
-use Rattle.sched_laws.proofs.Opened.{each_get, read_map, read_pools, apart_opening, joining_domain, length_map_numbers, kept_opening}
+use Rattle.sched_laws.proofs.Opened.{each_get, read_map, read_pools, apart_opening, joining_domain, length_map_numbers, kept_opening, opened_keeps}
 use Rattle.sched_laws.proofs.Steps.{FreeFits, step_after}
 use Rattle.sched_laws.proofs.Free.{free_after}
 use Rattle.sched_laws.proofs.Ready.{next_later}
@@ -59,7 +58,7 @@ pub record StateFits (m : Machine) (s : State) : Type 0 where
   pub pools : EachPlace (WholePool m s.now) s.pools
   pub free : FreeFits (EndsFit m s.now) s
 
-max_low : (a b n : ℕ) → a ≤ n → b ≤ n → max a b ≤ n
+pub max_low : (a b n : ℕ) → a ≤ n → b ≤ n → max a b ≤ n
 max_low a b n x y = grind (arith, x, y)
 
 -- the end of a stall is near, where the ends of all stalls are
@@ -80,11 +79,11 @@ fits_after m checked s action on fits =
     let steps = whole_steps m checked (some_processor m.config.granularity checked.config.granularity) s.now in
     let ends = λ (l : StallLine) (is : slice_get m.work.stalls s.next_stall ≡ Some l). stall_end_low m s l.cpu.0 (s.now + l.span.0)
     (let line = each_get (IsCheckedStall m.config) m.work.stalls s.next_stall l (recursion_from_All (IsCheckedStall m.config) m.work.stalls checked.work.stalls) is in let h = line.span.most in omega (arith, h)) fits in
-    let free = free_after m s.now (NearEnd s.now) (EndsFit m s.now) (DomFits m s.now) (WholePool m s.now) (WholePool m s.now) steps s action fits.free ends fits.pools in
+    let free = free_after steps s action fits.free ends fits.pools in
     record {
       apart = apart_after m s s.now action on fits.apart;
       now = (let e = free.0 in let l = fits.now in omega (arith, e, l));
-      pools = subst (λ k. EachPlace (WholePool m k) (after m s s.now action).pools) (sym free.0) (step_after m s.now (NearEnd s.now) (EndsFit m s.now) (DomFits m s.now) (WholePool m s.now) (WholePool m s.now) steps s action fits.apart fits.free ends on fits.pools);
+      pools = subst (λ k. EachPlace (WholePool m k) (after m s s.now action).pools) (sym free.0) (step_after steps s action tt fits.apart fits.free ends on fits.pools);
       free = subst (λ k. FreeFits (EndsFit m k) (after m s s.now action)) (sym free.0) free.1;
     }
 
@@ -125,9 +124,6 @@ next_within m s next is =
     by_option (λ (o : Option ℕ). o ≡ Some next → next ≤ m.config.horizon.0) (next_moment m s s.now) None (λ k. cond (nat_le k m.config.horizon.0) (Some k) None)
     (λ none e. absurd (cc))
     (λ k found. by_cond (λ (o : Option ℕ). o ≡ Some next → next ≤ m.config.horizon.0) (nat_le k m.config.horizon.0) (Some k) None (λ low e. (let same : k ≡ next = cc in subst (λ x. x ≤ m.config.horizon.0) same (is_le k m.config.horizon.0 low))) (λ high e. absurd (cc))) is
-  where
-    is_le : (a b : ℕ) → nat_le a b ≡ true → a ≤ b
-    is_le a b low = grind arith
 
 fits_event : (m : Machine) → IsChecked m → (e : Event) (action : Option Action) (from : Reached) → IsNextEvent m from.state e action → StateFits m from.state → StateFits m (after_event m e action from).state
 fits_event m checked e None from next fits = fits_quiet (end_of e) next.1
@@ -156,14 +152,10 @@ module _ (m : Machine) (checked : IsChecked m) where
       record {
         config = joining;
         at = at;
-        count = length_fresh joining.guests;
+        count = length-map joining.guests _;
         vcpus = λ n y script has guest. fresh_at joining.guests (recursion_from_All IsCheckedScript joining.guests domain.scripts) n y script has guest;
       }
     where
-      length_fresh : (guests : List (List Span)) → length (map fresh_vcpu guests) ≡ length guests
-      length_fresh [] = refl
-      length_fresh (x ∷ guests) = (let r = length_fresh guests in grind (arith, r))
-
       fresh_at : (guests : List (List Span)) → AllByRecursion IsCheckedScript guests → (n : ℕ) (y : Vcpu) (script : List Span) → slice_get (map fresh_vcpu guests) n ≡ Some y → slice_get guests n ≡ Some script → VcpuFits 0 script y
       fresh_at [] each n y script has guest = absurd (cc)
       fresh_at (x ∷ guests) each zero y script has guest = (
@@ -171,24 +163,6 @@ module _ (m : Machine) (checked : IsChecked m) where
           let fresh : ◌≡◌ {A = Vcpu} (fresh_vcpu x) y = cc in
           subst (VcpuFits 0 script) (ap fresh_vcpu (sym same) ∙ fresh) (vcpu_fresh script (subst IsCheckedScript same each.0)))
       fresh_at (x ∷ guests) each (suc n) y script has guest = fresh_at guests each.1 n y script has guest
-
-  pins_fit : (d n : ℕ) (pins : List Cores) (pool : Pool) → PoolFits m 0 pool → PoolFits m 0 (with_pins d n pins pool)
-  pins_fit d n [] pool fits = fits
-  pins_fit d n (cores ∷ pins) pool fits = pins_fit d (suc n) pins (set_params (changes.Pin (domain_number d) (Some n) cores) 0 pool) (r_set_params m checked 0 (changes.Pin (domain_number d) (Some n) cores) pool tt fits)
-
-  domains_fit : (i d : ℕ) (p : PoolConfig) (domains : List DomConfig) (pool : Pool) → slice_get m.config.pools i ≡ Some p → ((k : ℕ) → slice_get domains k ≡ slice_get m.config.domains (d + k)) → PoolFits m 0 pool → PoolFits m 0 (with_domains m.config.granularity i d domains pool)
-  domains_fit i d p [] pool is rest fits = fits
-  domains_fit i d p (joining ∷ domains) pool is rest fits =
-      let e : d + 0 ≡ d = omega arith in
-      let at : slice_get m.config.domains d ≡ Some joining = subst (λ k. slice_get m.config.domains k ≡ Some joining) e (sym (rest 0)) in
-      let domain = each_get (IsCheckedDomain m.config) m.config.domains d joining (recursion_from_All (IsCheckedDomain m.config) m.config.domains checked.config.domains) at in
-      domains_fit i (suc d) p domains (cond (joining.home.0 == i) (with_configured m.config.granularity d joining pool) pool) is (λ k. (let f : d + suc k ≡ suc d + k = omega arith in subst (λ j. slice_get domains k ≡ slice_get m.config.domains j) f (rest (suc k))))
-      (by_cond (PoolFits m 0) (joining.home.0 == i) (with_configured m.config.granularity d joining pool) pool
-      (λ same. (
-      let home : joining.home.0 ≡ i = grind (arith, same) in
-      let good = params_pass p.kind joining.params (domain.home_pool p (subst (λ k. slice_get m.config.pools k ≡ Some p) (sym home) is)).1 in
-      pins_fit d 0 joining.pins (with_domain m.config.granularity 0 d (joining_domain joining) joining.params pool) (r_with_domain m checked 0 d (joining_domain joining) joining.params pool good (joining_fits d joining at) fits)))
-      (λ other. fits))
 
   opened_ends : (g : ℕ) → EndsFit m 0 (replicate m.config.granularity (moment 0))
   opened_ends g = record { count = length-replicate m.config.granularity (moment 0); near = near m.config.granularity }
@@ -200,7 +174,9 @@ module _ (m : Machine) (checked : IsChecked m) where
   opening_pool_fits : (i : ℕ) (p : PoolConfig) → slice_get m.config.pools i ≡ Some p → PoolFits m 0 (opening_pool m.config i p)
   opening_pool_fits i p is =
       let pool = each_get (IsCheckedPool m.config) m.config.pools i p (recursion_from_All (IsCheckedPool m.config) m.config.pools checked.config.pools) is in
-      domains_fit i 0 p m.config.domains _ is (λ k. (let e : 0 + k ≡ k = omega arith in subst (λ j. slice_get m.config.domains k ≡ slice_get m.config.domains j) (sym e) refl))
+      opened_keeps m checked i p is (PoolFits m 0)
+      (λ d joining pool at domain passed. r_with_domain m checked 0 d (joining_domain joining) joining.params pool (params_pass p.kind joining.params passed) (joining_fits d joining at))
+      (λ d n cores pool. r_set_params m checked 0 (changes.Pin (domain_number d) (Some n) cores) pool tt) _
       (record {
         domain_places = length-replicate (length m.config.domains) None;
         core_places = length_map_numbers _ 0 (core_count m.config);
@@ -222,27 +198,11 @@ module _ (m : Machine) (checked : IsChecked m) where
   abbrev Credits : Pool → Type 0
   Credits pool = CreditFits m 0 pool.scheduler.records pool.resources
 
-  pins_credit : (d n : ℕ) (pins : List Cores) (pool : Pool) → Credits pool → Credits (with_pins d n pins pool)
-  pins_credit d n [] pool fits = fits
-  pins_credit d n (cores ∷ pins) pool fits = pins_credit d (suc n) pins (set_params (changes.Pin (domain_number d) (Some n) cores) 0 pool) (n_set_params m some 0 (changes.Pin (domain_number d) (Some n) cores) pool tt fits)
-
-  domains_credit : (i d : ℕ) (p : PoolConfig) (domains : List DomConfig) (pool : Pool) → slice_get m.config.pools i ≡ Some p → ((k : ℕ) → slice_get domains k ≡ slice_get m.config.domains (d + k)) → Credits pool → Credits (with_domains m.config.granularity i d domains pool)
-  domains_credit i d p [] pool is rest fits = fits
-  domains_credit i d p (joining ∷ domains) pool is rest fits =
-      let e : d + 0 ≡ d = omega arith in
-      let at : slice_get m.config.domains d ≡ Some joining = subst (λ k. slice_get m.config.domains k ≡ Some joining) e (sym (rest 0)) in
-      let domain = each_get (IsCheckedDomain m.config) m.config.domains d joining (recursion_from_All (IsCheckedDomain m.config) m.config.domains checked.config.domains) at in
-      domains_credit i (suc d) p domains (cond (joining.home.0 == i) (with_configured m.config.granularity d joining pool) pool) is (λ k. (let f : d + suc k ≡ suc d + k = omega arith in subst (λ j. slice_get domains k ≡ slice_get m.config.domains j) f (rest (suc k))))
-      (by_cond Credits (joining.home.0 == i) (with_configured m.config.granularity d joining pool) pool
-      (λ same. (
-      let home : joining.home.0 ≡ i = grind (arith, same) in
-      let good = params_pass p.kind joining.params (domain.home_pool p (subst (λ k. slice_get m.config.pools k ≡ Some p) (sym home) is)).1 in
-      pins_credit d 0 joining.pins (with_domain m.config.granularity 0 d (joining_domain joining) joining.params pool) (n_with_domain m some 0 d (joining_domain joining) joining.params pool good (joining_fits d joining at) fits)))
-      (λ other. fits))
-
   opening_pool_credit : (i : ℕ) (p : PoolConfig) → slice_get m.config.pools i ≡ Some p → Credits (opening_pool m.config i p)
   opening_pool_credit i p is =
-      domains_credit i 0 p m.config.domains _ is (λ k. (let e : 0 + k ≡ k = omega arith in subst (λ j. slice_get m.config.domains k ≡ slice_get m.config.domains j) (sym e) refl))
+      opened_keeps m checked i p is Credits
+      (λ d joining pool at domain passed. n_with_domain m some 0 d (joining_domain joining) joining.params pool (params_pass p.kind joining.params passed) (joining_fits d joining at))
+      (λ d n cores pool. n_set_params m some 0 (changes.Pin (domain_number d) (Some n) cores) pool tt) _
       (n_fresh m 0 p.params (length m.config.domains) (core_count m.config) _)
 
   opening_fits : StateFits m (opening m)
@@ -264,4 +224,4 @@ module _ (m : Machine) (checked : IsChecked m) where
   }
 
   pub fits_in_runs : (entries : List Entry) → IsRun m entries → StateFits m (state_after m entries)
-  fits_in_runs entries run = fits_from m checked (begun m) entries run opening_fits
+  fits_in_runs entries run = fits_from m checked (run_start m) entries run opening_fits

@@ -1,4 +1,5 @@
 -- A state has as many places as before for names, pools and free cores, and goes on in the lines of the work file.
+use Rattle.std.proofs.lemmas.Option.{slice_get_within}
 use Rattle.std.proofs.Common.{◌≡◌, ◌≤◌, ℕ, suc, List, [], ◌∷◌, refl, arith, ◌∙◌, length}
 use Rattle.std.specs.Prelude.{Option, Some, None, Ok, Err, slice_get, true, map, replicate, ◌-◌, ◌==◌, ◌/◌}
 use Rattle.sched_model.specs.declared.event.Entry.{Entry}
@@ -25,7 +26,6 @@ use Rattle.sched_laws.proofs.EachPlace.{by_option, by_cond, length_set}
 use Rattle.sched_laws.proofs.Opened.{length_map_numbers}
 use Rattle.sched_laws.proofs.Induction.{kept_by_runs}
 use Rattle.std.proofs.lemmas.List.{length-replicate, length-append, length-map}
-use Rattle.sched_ranges.proofs.Vcpus.{get_inside}
 
 pub record StatePlaces (m : Machine) (s : State) : Type 0 where
   pub names : length s.names ≡ most_pools
@@ -122,12 +122,12 @@ module _ (m : Machine) where
   places_after : (s : State) (action : Action) → is_enabled m s s.now action ≡ true → StatePlaces m s → StatePlaces m (after m s s.now action)
   places_after s Stall on fits =
       by_option (StatePlaces m) (slice_get m.work.stalls s.next_stall) _ _ (λ is. fits)
-      (λ l is. places_of s (after_stall m.config.granularity s.now l s) (suc s.next_stall) s.next_command (same_stall s m.config.granularity s.now l) (let i = get_inside m.work.stalls s.next_stall l is in omega (arith, i)) fits.commands fits)
+      (λ l is. places_of s (after_stall m.config.granularity s.now l s) (suc s.next_stall) s.next_command (same_stall s m.config.granularity s.now l) (let i = slice_get_within m.work.stalls s.next_stall l is in omega (arith, i)) fits.commands fits)
   places_after s Xl on fits =
       by_option (StatePlaces m) (slice_get m.work.commands s.next_command) _ _ (λ is. fits)
-      (λ line is. places_of s (after_command m s.now line s) s.next_stall (suc s.next_command) (same_command s m s.now line) fits.stalls (let i = get_inside m.work.commands s.next_command line is in omega (arith, i)) fits)
-  places_after s (Moved r) on fits = places_of s (after_moved s.now r s) s.next_stall s.next_command (same_moved s s.now r) fits.stalls fits.commands fits
-  places_after s (DomMoved d) on fits = places_of s (after_dom_moved m.config.granularity s.now d s) s.next_stall s.next_command (same_dom_moved s m.config.granularity s.now d) fits.stalls fits.commands fits
+      (λ line is. places_of s (after_command m s.now line s) s.next_stall (suc s.next_command) (same_command s m s.now line) fits.stalls (let i = slice_get_within m.work.commands s.next_command line is in omega (arith, i)) fits)
+  places_after s (Moved r) on fits = places_of s (after_moved s.now r.0 s) s.next_stall s.next_command (same_moved s s.now r.0) fits.stalls fits.commands fits
+  places_after s (DomMoved d) on fits = places_of s (after_dom_moved m.config.granularity s.now d.0 s) s.next_stall s.next_command (same_dom_moved s m.config.granularity s.now d.0) fits.stalls fits.commands fits
   places_after s action on fits = places_of s (after_at_home m.config.granularity s s.now action) s.next_stall s.next_command (same_at_home s m.config.granularity s.now action) fits.stalls fits.commands fits
 
   length_pools : (config : Config) (i : ℕ) (pools : List PoolConfig) → length (opening_pools config i pools) ≡ length pools

@@ -53,7 +53,7 @@ no_longer (x ∷ xs) ys once has =
     xs (both_of (λ w. 1 ≤ times w xs) (λ w. 1 ≤ times w ys) xs (there_each xs) has.1)) in
     omega (arith, less, rest)
 
-times-append : (u : UnitId) (xs ys : List UnitId) → times u (xs ++ ys) ≡ times u xs + times u ys
+pub times-append : (u : UnitId) (xs ys : List UnitId) → times u (xs ++ ys) ≡ times u xs + times u ys
 times-append u [] ys = omega arith
 times-append u (x ∷ xs) ys = (let r = times-append u xs ys in omega (arith, r))
 

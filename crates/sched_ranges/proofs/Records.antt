@@ -32,7 +32,7 @@ use Rattle.sched_model.specs.Arinc.{Window, window_at, present_window}
 use Rattle.sched_model.specs.Eligible.{Decision, rtds_unit}
 use Rattle.sched_model.specs.Checked.{IsWithin, most_span, PoolParamsPass}
 use Rattle.sched_model.specs.Policy as policy
-use Rattle.sched_model.specs.Policy.{decision_by, decision_of, choose_window, joined_records, parted_records, changed_records, fresh_records, default_dom_params, default_pool_params, rtds_record}
+use Rattle.sched_model.specs.Policy.{decision_by, decision_of, arinc_decision, joined_records, parted_records, changed_records, fresh_records, default_dom_params, default_pool_params, rtds_record}
 use Rattle.sched_model.specs.Credit2 as credit2
 use Rattle.sched_model.specs.Rtds as rtds
 use Rattle.sched_model.specs.NullScheduler as null
@@ -90,18 +90,18 @@ slice_of_low ask scheduler records u low =
     nat_is_zero : ℕ → Bool
     nat_is_zero k = k == 0
 
-c2_decides : (n cores : ℕ) (ask : Ask) (scheduler : Scheduler) (records : Credit2Records) (chosen : Option UnitId) → Credit2Fits n ask.at records → DecisionFits n cores ask.at (credit2.decide ask scheduler records chosen)
-c2_decides n cores ask scheduler records None fits = record { records = c_switch_off n ask.at ask.cur records fits; due = λ a is. absurd (cc) }
+c2_decides : (n cores : ℕ) (ask : Ask) (scheduler : Scheduler) (records : Credit2Records) (chosen : Option UnitId) → Credit2Fits n ask.at.0 records → DecisionFits n cores ask.at.0 (credit2.decide ask scheduler records chosen)
+c2_decides n cores ask scheduler records None fits = record { records = c_switch_off n ask.at.0 ask.cur records fits; due = λ a is. absurd (cc) }
 c2_decides n cores ask scheduler records (Some u) fits =
-    let k : ℕ = credit2.resets_for ask.at u records in
-    let taken : Credit2Records = credit2.change_domain u.dom.0 (credit2.take_budget u.n) (credit2.reset ask.at k records) in
-    let good : Credit2Fits n ask.at taken = c_take n ask.at u (credit2.reset ask.at k records) (c_reset n ask.at k records fits) in
+    let k : ℕ = credit2.resets_for ask.at.0 u records in
+    let taken : Credit2Records = credit2.change_domain u.dom.0 (credit2.take_budget u.n) (credit2.reset ask.at.0 k records) in
+    let good : Credit2Fits n ask.at.0 taken = c_take n ask.at.0 u (credit2.reset ask.at.0 k records) (c_reset n ask.at.0 k records fits) in
     record {
-      records = c_set_running n ask.at u (credit2.switch_off ask.cur taken) (c_switch_off n ask.at ask.cur taken good);
+      records = c_set_running n ask.at.0 u (credit2.switch_off ask.cur taken) (c_switch_off n ask.at.0 ask.cur taken good);
       due = λ a is. (
-          let e : ◌≡◌ {A = Moment} (moment (ask.at + credit2.slice_of ask scheduler taken u)) a = cc in
+          let e : ◌≡◌ {A = Moment} (moment (ask.at.0 + credit2.slice_of ask scheduler taken u)) a = cc in
           let l = slice_of_low ask scheduler taken u good.limit in
-          subst (λ (b : Moment). b.0 ≤ ask.at + most_span) e (omega (arith, l)));
+          subst (λ (b : Moment). b.0 ≤ ask.at.0 + most_span) e (omega (arith, l)));
     }
 
 rtds_decision : (n cores t : ℕ) (d : Decision) (domains : List (Option (List RtdsUnit))) → d.records ≡ RtdsPool domains → rtds_lemmas.GoodDecision t n d → DecisionFits n cores t d
@@ -112,7 +112,7 @@ rtds_decision n cores t d domains is good = record {
 
 rt_pool : (ask : Ask) (domains : List (Option (List RtdsUnit))) (chosen : Option UnitId) → (ds : List (Option (List RtdsUnit))) × ((rtds.decide ask domains chosen).records ≡ RtdsPool ds)
 rt_pool ask domains None = (rtds.switch_off ask.cur domains, refl)
-rt_pool ask domains (Some u) = (rtds.set_running (Some ask.at) u (rtds.switch_off ask.cur domains), refl)
+rt_pool ask domains (Some u) = (rtds.set_running (Some ask.at.0) u (rtds.switch_off ask.cur domains), refl)
 
 window_near : (t : ℕ) (records : ArincRecords) (window : Window) → present_window records t ≡ Some window → ArincFits t records → window.until ≤ t + most_span
 window_near t records window is fits =
@@ -125,37 +125,34 @@ window_near t records window is fits =
     let same : window_at records.installed frame t ≡ window = cc in
     subst (λ (w : Window). w.until ≤ t + most_span) same (omega (arith, low, major))) is
 
-window_decides : (n cores : ℕ) (ask : Ask) (scheduler : Scheduler) (records : ArincRecords) → scheduler.records ≡ ArincPool records → ArincFits ask.at records → (window : Option Window) → ((w : Window) → window ≡ Some w → w.until ≤ ask.at + most_span)
-    → DecisionFits n cores ask.at (choose_window ask scheduler window)
-window_decides n cores ask scheduler records is fits None near = record { records = subst (RecordsFit n cores ask.at) (sym is) fits; due = λ a e. absurd (cc) }
+window_decides : (n cores : ℕ) (ask : Ask) (scheduler : Scheduler) (records : ArincRecords) → scheduler.records ≡ ArincPool records → ArincFits ask.at.0 records → (window : Option Window) → ((w : Window) → window ≡ Some w → w.until ≤ ask.at.0 + most_span)
+    → DecisionFits n cores ask.at.0 (arinc_decision ask scheduler window)
+window_decides n cores ask scheduler records is fits None near = record { records = subst (RecordsFit n cores ask.at.0) (sym is) fits; due = λ a e. absurd (cc) }
 window_decides n cores ask scheduler records is fits (Some w) near = record {
-  records = subst (RecordsFit n cores ask.at) (sym is) fits;
-  due = λ a e. (let f : ◌≡◌ {A = Moment} (moment w.until) a = cc in subst (λ (b : Moment). b.0 ≤ ask.at + most_span) f (near w refl));
+  records = subst (RecordsFit n cores ask.at.0) (sym is) fits;
+  due = λ a e. (let f : ◌≡◌ {A = Moment} (moment w.until) a = cc in subst (λ (b : Moment). b.0 ≤ ask.at.0 + most_span) f (near w refl));
 }
 
 null_decides : (n cores core t : ℕ) (kept : List (Option UnitId)) (chosen : Option UnitId) → length kept ≡ cores → DecisionFits n cores t (null.decide core kept chosen)
 null_decides n cores core t kept None whole = record { records = whole; due = λ a is. absurd (cc) }
-null_decides n cores core t kept (Some u) whole = record { records = length_set core (Some u) (null.released (same_unit u) kept) ∙ length_released (same_unit u) kept ∙ whole; due = λ a is. absurd (cc) }
+null_decides n cores core t kept (Some u) whole = record { records = length_set core (Some u) (null.kept_without (same_unit u) kept) ∙ length_released (same_unit u) kept ∙ whole; due = λ a is. absurd (cc) }
 
 -- a decision keeps the records in range, and its due is near
-pub decision_fits : (n cores : ℕ) (records : Records) (ask : Ask) (scheduler : Scheduler) → scheduler.records ≡ records → RecordsFit n cores ask.at records → DecisionFits n cores ask.at (decision_by records ask scheduler)
-decision_fits n cores (Credit2Pool records) ask scheduler is fits = c2_decides n cores ask scheduler (credit2.burn_cur ask.cur ask.at records) (credit2.choice ask scheduler (credit2.burn_cur ask.cur ask.at records)) (c_burn_cur n ask.at ask.cur records fits)
+pub decision_fits : (n cores : ℕ) (records : Records) (ask : Ask) (scheduler : Scheduler) → scheduler.records ≡ records → RecordsFit n cores ask.at.0 records → DecisionFits n cores ask.at.0 (decision_by records ask scheduler)
+decision_fits n cores (Credit2Pool records) ask scheduler is fits = c2_decides n cores ask scheduler (credit2.burn_cur ask.cur ask.at.0 records) (credit2.choice ask scheduler (credit2.burn_cur ask.cur ask.at.0 records)) (c_burn_cur n ask.at.0 ask.cur records fits)
 decision_fits n cores (RtdsPool domains) ask scheduler is fits =
-    let burned : List (Option (List RtdsUnit)) = rtds.burn_cur ask.cur ask.at domains in
+    let burned : List (Option (List RtdsUnit)) = rtds.burn_cur ask.cur ask.at.0 domains in
     let pool = rt_pool ask burned (rtds.choice ask scheduler burned) in
-    rtds_decision n cores ask.at (rtds.choose_rt ask scheduler domains) pool.0 pool.1 (rtds_chooses n ask scheduler domains fits.places fits.units)
+    rtds_decision n cores ask.at.0 (rtds.rtds_decision ask scheduler domains) pool.0 pool.1 (rtds_chooses n ask scheduler domains fits.places fits.units)
 decision_fits n cores (ArincPool records) ask scheduler is fits =
-    window_decides n cores ask scheduler records is fits (cond ask.leaving None (present_window records ask.at))
-    (λ w e. by_cond (λ (o : Option Window). o ≡ Some w → w.until ≤ ask.at + most_span) ask.leaving None (present_window records ask.at) (λ leaves f. absurd (cc)) (λ stays f. window_near ask.at records w f fits) e)
+    window_decides n cores ask scheduler records is fits (cond ask.leaving None (present_window records ask.at.0))
+    (λ w e. by_cond (λ (o : Option Window). o ≡ Some w → w.until ≤ ask.at.0 + most_span) ask.leaving None (present_window records ask.at.0) (λ leaves f. absurd (cc)) (λ stays f. window_near ask.at.0 records w f fits) e)
 decision_fits n cores (NullPool kept) ask scheduler is fits =
-    by_cond (DecisionFits n cores ask.at) ask.leaving (null.decide ask.core (clear_at ask.core kept) None) (null.decide ask.core kept (null.choice ask scheduler kept))
-    (λ leaves. null_decides n cores ask.core ask.at (clear_at ask.core kept) None (length_set ask.core None kept ∙ fits))
-    (λ stays. null_decides n cores ask.core ask.at kept (null.choice ask scheduler kept) fits)
+    by_cond (DecisionFits n cores ask.at.0) ask.leaving (null.decide ask.core.0 (clear_at ask.core.0 kept) None) (null.decide ask.core.0 kept (null.choice ask scheduler kept))
+    (λ leaves. null_decides n cores ask.core.0 ask.at.0 (clear_at ask.core.0 kept) None (length_set ask.core.0 None kept ∙ fits))
+    (λ stays. null_decides n cores ask.core.0 ask.at.0 kept (null.choice ask scheduler kept) fits)
 
 pub replenish_fits : (n cores t : ℕ) (records : Records) (u : UnitId) → policy.replenish_due records t u ≡ true → RecordsFit n cores t records → RecordsFit n cores t (policy.replenish records t u)
-replenish_fits n cores t (Credit2Pool records) u due fits = absurd (cc)
-replenish_fits n cores t (ArincPool records) u due fits = absurd (cc)
-replenish_fits n cores t (NullPool kept) u due fits = absurd (cc)
 replenish_fits n cores t (RtdsPool domains) u due fits = record {
   places = length_set u.dom.0 _ domains ∙ fits.places;
   units = fit_change_unit t u (rtds.replenish t) domains (λ x is here. rtds_replenished t x (is_due x is) here) fits.units;
@@ -163,6 +160,7 @@ replenish_fits n cores t (RtdsPool domains) u due fits = record {
   where
     is_due : (x : RtdsUnit) → rtds_unit domains u ≡ Some x → x.deadline ≤ t
     is_due x is = (let e : nat_le x.deadline t ≡ true = rw (policy.replenish_due, is) at due in grind (arith, e))
+replenish_fits n cores t any u due fits = absurd (cc)
 
 pub refill_fits : (n cores t : ℕ) (records : Records) (d : ℕ) → has_come t (policy.next_refill records d) ≡ true → RecordsFit n cores t records → RecordsFit n cores t (policy.refill records t d)
 refill_fits n cores t (Credit2Pool records) d come fits = c_refilled n t d records (λ x r at is. is_past x r at is) fits
@@ -172,9 +170,7 @@ refill_fits n cores t (Credit2Pool records) d come fits = c_refilled n t d recor
         let e : has_come t (option_map moment x.refill) ≡ true = subst (λ (o : Option Credit2Domain). has_come t (elim o as (λ _. Option Moment) [ None ↦ None | Some y ↦ option_map moment y.refill ]) ≡ true) at come in
         let f : nat_le r t ≡ true = subst (λ (o : Option ℕ). has_come t (option_map moment o) ≡ true) is e in
         grind (arith, f)
-refill_fits n cores t (RtdsPool domains) d come fits = fits
-refill_fits n cores t (ArincPool records) d come fits = fits
-refill_fits n cores t (NullPool kept) d come fits = fits
+refill_fits n cores t records d come fits = fits
 
 pub parted_fits : (n cores t : ℕ) (records : Records) (d : ℕ) → RecordsFit n cores t records → RecordsFit n cores t (parted_records records d)
 parted_fits n cores t (Credit2Pool records) d fits = record { places = length_set d None records.domains ∙ fits.places; limit = fits.limit; domains = EachPlace-clear_at (Credit2DomainFits t) d records.domains fits.domains }
@@ -219,9 +215,6 @@ changed_fits n cores t records change good fits = fits
 pub unit_fits : (n cores t : ℕ) (records : Records) (u : UnitId) (x : RtdsUnit) (period budget : Option Span) (extra : Bool) → rtds_record records u ≡ Some x
     → IfSome period (λ (p : Span). IsWithin 10000 1000000000000 p.0) → IfSome budget (λ (b : Span). IsWithin 10000 1000000000000 b.0) → RecordsFit n cores t records
     → RecordsFit n cores t (changed_records records (changes.«Unit» u (unwrap_or period (span x.next_period)) (unwrap_or budget (span x.next_budget)) extra) t)
-unit_fits n cores t (Credit2Pool records) u x period budget extra is periods budgets fits = fits
-unit_fits n cores t (ArincPool records) u x period budget extra is periods budgets fits = fits
-unit_fits n cores t (NullPool kept) u x period budget extra is periods budgets fits = fits
 unit_fits n cores t (RtdsPool domains) u x period budget extra is periods budgets fits =
     let here : RtdsFits t x = fit_unit t domains u x is fits.units in
     record {
@@ -232,6 +225,7 @@ unit_fits n cores t (RtdsPool domains) u x period budget extra is periods budget
     of_given : (o : Option Span) (k : ℕ) → IfSome o (λ (p : Span). IsWithin 10000 1000000000000 p.0) → IsWithin 10000 1000000000000 k → IsWithin 10000 1000000000000 (unwrap_or o (span k)).0
     of_given None k given old = old
     of_given (Some p) k given old = given
+unit_fits n cores t any u x period budget extra is periods budgets fits = fits
 
 pub later_fits : (n cores t next : ℕ) (records : Records) → t ≤ next → RecordsFit n cores t records → RecordsFit n cores next records
 later_fits n cores t next (Credit2Pool records) past fits = c_later n t next records past fits

@@ -1,4 +1,5 @@
 -- What the records of RTDS units keep.
+use Rattle.std.proofs.lemmas.Bool.{ltb-false}
 use Rattle.std.proofs.Common.{◌≡◌, ◌≤◌, ◌+◌, ◌-◌, ◌*◌, ◌/◌, ◌%◌, ℕ, zero, suc, Bool, true, false, List, [], ◌∷◌, refl, arith, subst, ◌∙◌, cond, length}
 use Rattle.std.specs.Prelude.{Option, Some, None, unwrap_or, slice_get, nat_lt}
 use Rattle.std.specs.List.{AllByRecursion}
@@ -14,10 +15,19 @@ use Rattle.sched_model.specs.declared.state.Scheduler.{Scheduler}
 use Rattle.sched_model.specs.Places.{at_place, change_item}
 use Rattle.sched_model.specs.Eligible.{Decision, rtds_unit}
 use Rattle.sched_model.specs.Checked.{IsWithin, most_span}
-use Rattle.sched_model.specs.Rtds.{burn, burn_to, replenish, change_unit, budget_left, burn_cur, set_running, switch_off, choice, decide, choose_rt, fresh_units}
+use Rattle.sched_model.specs.Rtds.{burn, burn_to, replenish, change_unit, budget_left, burn_cur, set_running, switch_off, choice, decide, rtds_decision, fresh_units}
 use Rattle.sched_laws.proofs.EachPlace.{EachPlace-change_at, by_option, by_cond, length_set}
 use Rattle.sched_laws.proofs.Opened.{each_get}
-use Rattle.sched_ranges.specs.Fits.{used, RtdsFits, RtdsFit}
+use Rattle.sched_ranges.specs.Fits.{used_budget, RtdsFits, RtdsFit}
+
+-- when a unit was charged last, seen from a later moment
+pub last_later : (t next : ℕ) → t ≤ next → (o : Option ℕ) → unwrap_or o t ≤ unwrap_or o next
+last_later t next past None = past
+last_later t next past (Some b) = omega arith
+
+pub still_last : (t next : ℕ) → t ≤ next → (o : Option ℕ) → unwrap_or o t ≤ t → unwrap_or o next ≤ next
+still_last t next past None l = omega arith
+still_last t next past (Some b) l = omega (arith, l, past)
 
 pub rtds_later : (t next : ℕ) (x : RtdsUnit) → t ≤ next → RtdsFits t x → RtdsFits next x
 rtds_later t next x past fits = record {
@@ -26,18 +36,10 @@ rtds_later t next x past fits = record {
   next_period = fits.next_period;
   next_budget = fits.next_budget;
   left = fits.left;
-  spent = (let l = fits.spent in let k = more x.burned in omega (arith, l, k));
-  last = within x.burned fits.last;
+  spent = (let l = fits.spent in let k = last_later t next past x.burned in omega (arith, l, k));
+  last = still_last t next past x.burned fits.last;
   deadline = (let l = fits.deadline in omega (arith, l, past));
 }
-  where
-    more : (o : Option ℕ) → unwrap_or o t ≤ unwrap_or o next
-    more None = past
-    more (Some b) = omega arith
-
-    within : (o : Option ℕ) → unwrap_or o t ≤ t → unwrap_or o next ≤ next
-    within None l = omega arith
-    within (Some b) l = omega (arith, l, past)
 
 -- a span charged: what is used grows by the span at most, and nothing is left above the budget
 charge_left : (left budget elapsed : ℕ) (extra : Bool) → left ≤ budget → burned_left left budget extra elapsed ≤ budget
@@ -47,11 +49,8 @@ charge_left left budget elapsed extra low =
 charge_used : (level left budget elapsed : ℕ) (extra : Bool) → left ≤ budget
     → burned_level level left extra elapsed * budget + (budget - burned_left left budget extra elapsed) ≤ level * budget + (budget - left) + elapsed
 charge_used level left budget elapsed extra low =
-    by_size (nat_lt elapsed left) extra (λ is. le_of elapsed left is) refl
+    by_size (nat_lt elapsed left) extra (λ is. ltb-false elapsed left is) refl
   where
-    le_of : (a b : ℕ) → nat_lt a b ≡ false → b ≤ a
-    le_of a b is = grind arith
-
     by_size : (b e : Bool) → (nat_lt elapsed left ≡ false → left ≤ elapsed) → nat_lt elapsed left ≡ b
         → cond b level (cond e (level + 1) level) * budget + (budget - cond b (left - elapsed) (cond e budget 0)) ≤ level * budget + (budget - left) + elapsed
     by_size true e past is = omega (arith, low)
@@ -64,7 +63,7 @@ rtds_burned t x fits = by_burned x.burned refl
     by_burned : (o : Option ℕ) → x.burned ≡ o → RtdsFits t (elim o as (λ _. RtdsUnit) [ None ↦ x | Some from ↦ burn (t - from) (record x { burned = Some t }) ])
     by_burned None is = fits
     by_burned (Some from) is =
-        let spent : used x ≤ from = subst (λ (o : Option ℕ). used x ≤ unwrap_or o t) is fits.spent in
+        let spent : used_budget x ≤ from = subst (λ (o : Option ℕ). used_budget x ≤ unwrap_or o t) is fits.spent in
         let last : from ≤ t = subst (λ (o : Option ℕ). unwrap_or o t ≤ t) is fits.last in
         record {
           period = fits.period;
@@ -100,29 +99,23 @@ rtds_replenished t x come fits =
     }
 
 -- a unit runs from t, or runs no more
-pub rtds_running : (t : ℕ) (x : RtdsUnit) → RtdsFits t x → RtdsFits t (record x { burned = Some t })
-rtds_running t x fits = record {
+rtds_from : (t : ℕ) (x : RtdsUnit) (from : Option ℕ) → unwrap_or from t ≡ t → RtdsFits t x → RtdsFits t (record x { burned = from })
+rtds_from t x from is fits = record {
   period = fits.period;
   budget = fits.budget;
   next_period = fits.next_period;
   next_budget = fits.next_budget;
   left = fits.left;
-  spent = (let l = fits.spent in let k = fits.last in omega (arith, l, k));
-  last = omega arith;
+  spent = (let l = fits.spent in let k = fits.last in omega (arith, l, k, is));
+  last = omega (arith, is);
   deadline = fits.deadline;
 }
 
+pub rtds_running : (t : ℕ) (x : RtdsUnit) → RtdsFits t x → RtdsFits t (record x { burned = Some t })
+rtds_running t x = rtds_from t x (Some t) refl
+
 pub rtds_off : (t : ℕ) (x : RtdsUnit) → RtdsFits t x → RtdsFits t (record x { burned = None })
-rtds_off t x fits = record {
-  period = fits.period;
-  budget = fits.budget;
-  next_period = fits.next_period;
-  next_budget = fits.next_budget;
-  left = fits.left;
-  spent = (let l = fits.spent in let k = fits.last in omega (arith, l, k));
-  last = omega arith;
-  deadline = fits.deadline;
-}
+rtds_off t x = rtds_from t x None refl
 
 -- parameters that wait for the next replenishment
 pub rtds_set : (t : ℕ) (x : RtdsUnit) (period budget : ℕ) (extra : Bool) → IsWithin 10000 1000000000000 period → IsWithin 10000 1000000000000 budget → RtdsFits t x → RtdsFits t (record x { next_period = period; next_budget = budget; next_extra = extra })
@@ -196,24 +189,24 @@ left_small t domains u fit =
 same_domains : (a b : List (Option (List RtdsUnit))) → RtdsPool a ≡ RtdsPool b → a ≡ b
 same_domains a b e = cc
 
-pub rtds_decides : (count : ℕ) (ask : Ask) (domains : List (Option (List RtdsUnit))) (chosen : Option UnitId) → length domains ≡ count → RtdsFit ask.at domains → GoodDecision ask.at count (decide ask domains chosen)
+pub rtds_decides : (count : ℕ) (ask : Ask) (domains : List (Option (List RtdsUnit))) (chosen : Option UnitId) → length domains ≡ count → RtdsFit ask.at.0 domains → GoodDecision ask.at.0 count (decide ask domains chosen)
 rtds_decides count ask domains None whole fit = (
-  λ other is. (let e = same_domains (switch_off ask.cur domains) other is in subst (λ (x : List (Option (List RtdsUnit))). RtdsFit ask.at x × (length x ≡ count)) e (fit_switch_off ask.at ask.cur domains fit, length_switch_off ask.cur domains ∙ whole)),
+  λ other is. (let e = same_domains (switch_off ask.cur domains) other is in subst (λ (x : List (Option (List RtdsUnit))). RtdsFit ask.at.0 x × (length x ≡ count)) e (fit_switch_off ask.at.0 ask.cur domains fit, length_switch_off ask.cur domains ∙ whole)),
   λ a is. absurd (cc),
 )
 rtds_decides count ask domains (Some u) whole fit = (
   λ other is. (
-      let e = same_domains (set_running (Some ask.at) u (switch_off ask.cur domains)) other is in
-      subst (λ (x : List (Option (List RtdsUnit))). RtdsFit ask.at x × (length x ≡ count)) e (
-        fit_change_unit ask.at u (λ x. record x { burned = Some ask.at }) (switch_off ask.cur domains) (λ x has. rtds_running ask.at x) (fit_switch_off ask.at ask.cur domains fit),
+      let e = same_domains (set_running (Some ask.at.0) u (switch_off ask.cur domains)) other is in
+      subst (λ (x : List (Option (List RtdsUnit))). RtdsFit ask.at.0 x × (length x ≡ count)) e (
+        fit_change_unit ask.at.0 u (λ x. record x { burned = Some ask.at.0 }) (switch_off ask.cur domains) (λ x has. rtds_running ask.at.0 x) (fit_switch_off ask.at.0 ask.cur domains fit),
         length_set u.dom.0 _ (switch_off ask.cur domains) ∙ length_switch_off ask.cur domains ∙ whole,
       )),
   λ a is. (
-      let e : ◌≡◌ {A = Moment} (moment (ask.at + budget_left domains u)) a = cc in
-      let l = left_small ask.at domains u fit in
-      subst (λ (b : Moment). b.0 ≤ ask.at + most_span) e (omega (arith, l))),
+      let e : ◌≡◌ {A = Moment} (moment (ask.at.0 + budget_left domains u)) a = cc in
+      let l = left_small ask.at.0 domains u fit in
+      subst (λ (b : Moment). b.0 ≤ ask.at.0 + most_span) e (omega (arith, l))),
 )
 
-pub rtds_chooses : (count : ℕ) (ask : Ask) (scheduler : Scheduler) (domains : List (Option (List RtdsUnit))) → length domains ≡ count → RtdsFit ask.at domains → GoodDecision ask.at count (choose_rt ask scheduler domains)
+pub rtds_chooses : (count : ℕ) (ask : Ask) (scheduler : Scheduler) (domains : List (Option (List RtdsUnit))) → length domains ≡ count → RtdsFit ask.at.0 domains → GoodDecision ask.at.0 count (rtds_decision ask scheduler domains)
 rtds_chooses count ask scheduler domains whole fit =
-    rtds_decides count ask (burn_cur ask.cur ask.at domains) (choice ask scheduler (burn_cur ask.cur ask.at domains)) (length_burn_cur ask.cur ask.at domains ∙ whole) (fit_burn_cur ask.at ask.cur domains fit)
+    rtds_decides count ask (burn_cur ask.cur ask.at.0 domains) (choice ask scheduler (burn_cur ask.cur ask.at.0 domains)) (length_burn_cur ask.cur ask.at.0 domains ∙ whole) (fit_burn_cur ask.at.0 ask.cur domains fit)

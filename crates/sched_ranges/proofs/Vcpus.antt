@@ -1,4 +1,5 @@
 -- What a vCPU of a guest keeps: its place in its script, its moments and its work.
+use Rattle.std.proofs.lemmas.Option.{slice_get_within}
 use Rattle.std.proofs.Common.{◌≡◌, ◌<◌, ◌≤◌, ◌+◌, ◌-◌, ◌*◌, ◌%◌, ℕ, zero, suc, true, List, [], ◌∷◌, refl, arith, subst, sym, ◌∙◌, ap, ◌⊎◌, inl, inr, length}
 use Rattle.std.specs.Prelude.{Option, Some, None, option_map, slice_get, slice_index_or}
 use Rattle.std.specs.List.{AllByRecursion}
@@ -11,7 +12,7 @@ use Rattle.sched_base.specs.declared.Span.{Span}
 use Rattle.sched_model.specs.declared.state.Vcpu.{Vcpu}
 use Rattle.sched_model.specs.State.{has_come}
 use Rattle.sched_model.specs.Opening.{fresh_vcpu}
-use Rattle.sched_model.specs.Pool.{woken, put_to_sleep, stopped, done_at}
+use Rattle.sched_model.specs.Pool.{woken_vcpu, put_to_sleep, stopped_vcpu, done_at}
 use Rattle.sched_model.specs.Checked.{IsWithin, most_span, IsCheckedScript}
 use Rattle.sched_laws.proofs.EachPlace.{by_option}
 use Rattle.sched_laws.proofs.Opened.{each_get}
@@ -30,11 +31,6 @@ pub record VcpuFits (t : ℕ) (script : List Span) (x : Vcpu) : Type 0 where
 script_span : (script : List Span) → IsCheckedScript script → (n : ℕ) (w : Span) → slice_get script n ≡ Some w → w.0 ≤ most_span
 script_span script checked n w at = (each_get (λ (s : Span). IsWithin 1 most_span s.0) script n w (recursion_from_All (λ (s : Span). IsWithin 1 most_span s.0) script checked.spans) at).most
 
-pub get_inside : {X : Type 0} (xs : List X) (n : ℕ) (x : X) → slice_get xs n ≡ Some x → n < length xs
-get_inside [] n x at = absurd (cc)
-get_inside (y ∷ xs) zero x at = omega arith
-get_inside (y ∷ xs) (suc n) x at = (let r = get_inside xs n x at in omega (arith, r))
-
 span_or : (script : List Span) → IsCheckedScript script → (n : ℕ) → (slice_index_or script n (span 0)).0 ≤ most_span
 span_or script checked n = of_spans script n (recursion_from_All (λ (s : Span). IsWithin 1 most_span s.0) script checked.spans)
   where
@@ -51,7 +47,7 @@ vcpu_fresh script checked = record {
   until = λ a is. absurd (cc);
   still = λ a is. absurd (cc);
   work = λ w is. script_span script checked 0 w is;
-  worth = λ w is. get_inside script 0 w is;
+  worth = λ w is. slice_get_within script 0 w is;
   started = λ a is. absurd (cc);
 }
   where
@@ -73,10 +69,10 @@ next_even p n odd inside even =
     mod_below : (a n : ℕ) → a < n → a % n ≡ a
     mod_below a n low = (let e : 0 * n + a ≡ a = omega arith in subst (λ k. k % n ≡ a) e (mod-mul-add 0 n a low))
 
-pub vcpu_woken : (t : ℕ) (script : List Span) (x : Vcpu) → IsCheckedScript script → has_come t x.asleep_until ≡ true → VcpuFits t script x → VcpuFits t script (woken x)
+pub vcpu_woken : (t : ℕ) (script : List Span) (x : Vcpu) → IsCheckedScript script → has_come t x.asleep_until ≡ true → VcpuFits t script x → VcpuFits t script (woken_vcpu x)
 vcpu_woken t script x checked come fits = by_sleep x.asleep_until refl
   where
-    by_sleep : (o : Option Moment) → x.asleep_until ≡ o → VcpuFits t script (woken x)
+    by_sleep : (o : Option Moment) → x.asleep_until ≡ o → VcpuFits t script (woken_vcpu x)
     by_sleep None is = absurd (let e : has_come t None ≡ true = subst (λ (o : Option Moment). has_come t o ≡ true) is come in cc)
     by_sleep (Some a) is =
         let odd = fits.odd a is in
@@ -129,7 +125,7 @@ vcpu_slept t script x checked come fits =
     is_none_if None none = refl
     is_none_if (Some a) none = absurd (none a refl)
 
-pub vcpu_stopped : (t : ℕ) (script : List Span) (x : Vcpu) → VcpuFits t script x → VcpuFits t script (stopped t x)
+pub vcpu_stopped : (t : ℕ) (script : List Span) (x : Vcpu) → VcpuFits t script x → VcpuFits t script (stopped_vcpu t x)
 vcpu_stopped t script x fits =
     by_option (VcpuFits t script) x.started _ _ (λ is. fits)
     (λ from is. record {

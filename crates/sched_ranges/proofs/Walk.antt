@@ -2,9 +2,9 @@
 use Rattle.std.proofs.Common.{◌≡◌, ◌≤◌, ◌+◌, ◌*◌, ◌/◌, ◌%◌, ℕ, Bool, true, false, not, List, [], ◌∷◌, refl, arith, subst, sym, ◌∙◌, ap, inl, inr, length}
 use Rattle.std.specs.Prelude.{Option, Some, None, is_none, option_map, unwrap_or, slice_get, map, min, ◌&&◌, ◌==◌}
 use Rattle.std.specs.List.{AllByRecursion}
-use Rattle.std.proofs.lemmas.List.{length-replicate}
+use Rattle.std.proofs.lemmas.List.{length-replicate, length-map}
 use Rattle.std.proofs.lemmas.List.Elements.{recursion_from_All}
-use Rattle.sched_base.specs.Numbers.{moment, span, pool as pool_number}
+use Rattle.sched_base.specs.Numbers.{moment, span, pool as pool_number, processor}
 use Rattle.sched_base.specs.declared.Moment.{Moment}
 use Rattle.sched_base.specs.declared.Span.{Span}
 use Rattle.sched_base.specs.declared.UnitId.{UnitId}
@@ -33,7 +33,7 @@ use Rattle.sched_model.specs.Commands.{set_rtds_unit}
 use Rattle.sched_model.specs.Policy as policy
 use Rattle.sched_model.specs.Policy.{decision_of, after_decision, rtds_record, default_dom_params, default_pool_params, changed_records, parted_records, changed_affinity}
 use Rattle.sched_model.specs.Pool as pools
-use Rattle.sched_model.specs.Pool.{enabled_in, after_in, settled, home_cores, reconsidered, change_core, change_processor, change_vcpu, change_domain, change_cores_of, does, started_on, decided, same_choice, ask_of, set_leaving, set_moving, set_pending, pause, unpause, set_params, without_domain, with_domain, is_of_domain, is_held, vcpu_of, processor_of, guest_of, vcpu_for}
+use Rattle.sched_model.specs.Pool.{enabled_in, after_in, settled_pool, home_cores, reconsidered_core, change_core, change_processor, change_vcpu, change_domain, change_cores_of, with_doing as does, started_on, decided_core, same_choice, ask_of, set_leaving, set_moving, set_pending, pause, unpause, set_params, without_domain, with_domain, is_of_domain, is_held, vcpu_of, processor_of, guest_of, vcpu_for}
 use Rattle.sched_laws.specs.Each.{EachAt, EachPlace}
 use Rattle.sched_laws.proofs.Bools.{and_left, and_right}
 use Rattle.sched_laws.proofs.EachPlace.{EachAt-change_at, EachAt-put_at, EachAt-clear_at, EachPlace-change_at, EachPlace-put_at, EachPlace-clear_at, EachPlace-empty, by_option, by_test, by_cond, length_set}
@@ -42,9 +42,9 @@ use Rattle.sched_laws.proofs.Opened.{each_get}
 use Rattle.sched_laws.proofs.Choices.{decision_has}
 use Rattle.sched_laws.specs.Known.{IfUnit}
 use Rattle.sched_laws.proofs.Awake.{part_past}
-use Rattle.sched_laws.proofs.Sound.{read_change_item}
+use Rattle.sched_laws.proofs.Sound.{read_change_item, none_is}
 use Rattle.sched_laws.proofs.Fits.{ChangeFits, RtdsFits}
-use Rattle.sched_laws.proofs.Events.{LikePlaces, EachAt-like, capped, like_of_domain, IsMarked, Enabled, KeptByCommands, KeptBySteps, kept_settled, kept_by_event, kept_opened, kept_set_leaving, kept_withdrawn, kept_pause, kept_unpause, kept_marked, kept_queue_units}
+use Rattle.sched_laws.proofs.Events.{LikePlaces, EachAt-like, capped, like_of_domain, IsMarked, Enabled, KeptByCommands, KeptBySteps, kept_settled, kept_by_event, kept_opened, kept_set_leaving, kept_withdrawn, kept_pause, kept_unpause, kept_marked, kept_queue_units, kept_pending}
 use Rattle.sched_laws.proofs.Steps.{IsKeptAt}
 use Rattle.sched_ranges.specs.Ranges.{IsUnitOf}
 use Rattle.sched_ranges.proofs.Vcpus.{VcpuFits, vcpu_woken, vcpu_slept, vcpu_stopped, vcpu_started}
@@ -87,10 +87,6 @@ pub record EndsFit (m : Machine) (t : ℕ) (ends : List Moment) : Type 0 where
   pub count : length ends ≡ m.config.granularity
   pub near : AllByRecursion (λ (e : Moment). NearEnd t e.0) ends
 
-is_none_of : {X : Type 0} (o : Option X) → is_none o ≡ true → o ≡ None
-is_none_of None is = refl
-is_none_of (Some x) is = absurd (cc)
-
 -- the vCPU that a processor takes is awake
 taken_is_awake : (g : ℕ) (pool : Pool) (c : Resource) (i : ℕ) (w : VcpuId) → vcpu_for g pool c i ≡ Some w → (x : Vcpu) → vcpu_of pool w ≡ Some x → x.asleep_until ≡ None
 taken_is_awake g pool c i w is x has =
@@ -103,7 +99,7 @@ taken_is_awake g pool c i w is x has =
     let same : v ≡ w = cc in
     let there : vcpu_of pool w ≡ Some y = subst (λ (k : VcpuId). vcpu_of pool k ≡ Some y) same at in
     let e2 : y ≡ x = cc in
-    subst (λ (k : Vcpu). k.asleep_until ≡ None) e2 (is_none_of y.asleep_until (and_right (is_runnable g pool u) (is_awake y) may))))
+    subst (λ (k : Vcpu). k.asleep_until ≡ None) e2 (none_is y.asleep_until (and_right (is_runnable g pool u) (is_awake y) may))))
     (λ may e. absurd (cc)))) is
 
 module _ (m : Machine) (checked : IsChecked m) (t : ℕ) where
@@ -231,10 +227,10 @@ module _ (m : Machine) (checked : IsChecked m) (t : ℕ) where
   }
 
   -- the events
-  r_wakes : (v : VcpuId) (pool : Pool) → enabled_in m.config.granularity t pool (Wake v) ≡ true → R pool → R (change_vcpu v pools.woken pool)
-  r_wakes v pool on fits = r_change_vcpu v pools.woken pool (λ x script has ok. vcpu_woken t script x ok (subst (λ (o : Option Vcpu). elim o as (λ _. Bool) [ None ↦ false | Some y ↦ has_come t y.asleep_until ] ≡ true) has on)) fits
+  r_wakes : (v : VcpuId) (pool : Pool) → enabled_in m.config.granularity t pool (Wake v) ≡ true → R pool → R (change_vcpu v pools.woken_vcpu pool)
+  r_wakes v pool on fits = r_change_vcpu v pools.woken_vcpu pool (λ x script has ok. vcpu_woken t script x ok (subst (λ (o : Option Vcpu). elim o as (λ _. Bool) [ None ↦ false | Some y ↦ has_come t y.asleep_until ] ≡ true) has on)) fits
 
-  r_blocks : (q : ℕ) (v : VcpuId) (pool : Pool) → guest_of m.config.granularity pool q ≡ Some v → enabled_in m.config.granularity t pool (Block q) ≡ true → R pool → R (change_processor m.config.granularity q (does Idle) (change_vcpu v (pools.put_to_sleep t) pool))
+  r_blocks : (q : ℕ) (v : VcpuId) (pool : Pool) → guest_of m.config.granularity pool q ≡ Some v → enabled_in m.config.granularity t pool (Block (processor q)) ≡ true → R pool → R (change_processor m.config.granularity q (does Idle) (change_vcpu v (pools.put_to_sleep t) pool))
   r_blocks q v pool is on fits =
       let first = and_left (elim (guest_of m.config.granularity pool q) as (λ _. Bool) [ None ↦ false | Some w ↦ elim (vcpu_of pool w) as (λ _. Bool) [ None ↦ false | Some x ↦ has_come t (pools.done_at x) ] ]) _ on in
       r_change_processor q (does Idle) (change_vcpu v (pools.put_to_sleep t) pool) (λ p near. near)
@@ -244,7 +240,7 @@ module _ (m : Machine) (checked : IsChecked m) (t : ℕ) where
   r_after_arrive q pool fits =
       by_option (λ (next : Pool). R (change_processor m.config.granularity q (does Held) next)) (guest_of m.config.granularity pool q) _ _
       (λ is. r_change_processor q (does Held) pool (λ p near. near) fits)
-      (λ v is. r_change_processor q (does Held) (change_vcpu v (pools.stopped t) pool) (λ p near. near) (r_change_vcpu v (pools.stopped t) pool (λ x script has ok. vcpu_stopped t script x) fits))
+      (λ v is. r_change_processor q (does Held) (change_vcpu v (pools.stopped_vcpu t) pool) (λ p near. near) (r_change_vcpu v (pools.stopped_vcpu t) pool (λ x script has ok. vcpu_stopped t script x) fits))
 
   r_after_leave : (q : ℕ) (c : Resource) (pool : Pool) → R pool → R (pools.after_leave m.config.granularity t q c pool)
   r_after_leave q c pool fits =
@@ -259,7 +255,7 @@ module _ (m : Machine) (checked : IsChecked m) (t : ℕ) where
       let here : CoreFits m t c = fits.cores r c at in
       let good : DecisionFits (length m.config.domains) (core_count m.config) t decision = decision_fits (length m.config.domains) (core_count m.config) pool.scheduler.records ask pool.scheduler refl fits.records in
       let unit : IfUnit (IsUnitOf m) decision.unit = decision_has (IsUnitOf m) ask pool.scheduler fits.queue (λ u own runs. subst (IfUnit (IsUnitOf m)) own here.cur) in
-      let decided_fits : CoreFits m t (decided t decision c) = by_test (CoreFits m t) (same_choice decision.unit c.cur) _ _
+      let decided_fits : CoreFits m t (decided_core t decision c) = by_test (CoreFits m t) (same_choice decision.unit c.cur) _ _
       (λ is. record { cur = here.cur; saving = here.saving; since = here.since; due = good.due; count = here.count; stalls = here.stalls })
       (λ is. record { cur = unit; saving = here.cur; since = omega arith; due = good.due; count = here.count; stalls = here.stalls }) in
       record {
@@ -268,7 +264,7 @@ module _ (m : Machine) (checked : IsChecked m) (t : ℕ) where
         affinity_places = fits.affinity_places;
         queue = by_option (AllByRecursion (IsUnitOf m)) decision.unit _ _ (λ is. fits.queue) (λ u is. AllByRecursion-filter (IsUnitOf m) (IsUnitOf m) (λ w. not (same_unit u w)) (λ w passes ok. ok) pool.scheduler.queue fits.queue);
         domains = fits.domains;
-        cores = EachPlace-put_at (CoreFits m t) r (decided t decision c) pool.resources fits.cores decided_fits;
+        cores = EachPlace-put_at (CoreFits m t) r (decided_core t decision c) pool.resources fits.cores decided_fits;
         records = good.records;
       }
 
@@ -281,14 +277,15 @@ module _ (m : Machine) (checked : IsChecked m) (t : ℕ) where
 
   r_steps : KeptBySteps m.config.granularity t (Enabled m.config.granularity t) R
   r_steps = record {
-    commands = r_commands;
+    pends = kept_pending r_commands;
+    queues = r_commands.queues;
     wakes = r_wakes;
     joins = λ v r q pool is is2 idle awake. r_started_on (r * m.config.granularity + v.n % m.config.granularity) v pool awake;
     blocks = r_blocks;
     arrives = λ q pool on. r_after_arrive q pool;
     decides = λ r c pool at on. r_after_decide r c pool at;
     leaves = λ q c pool at on. r_after_leave q c pool;
-    saves = λ r c u pool at is on. r_change_core r pools.saved pool (λ x old. record { cur = old.cur; saving = tt; since = old.since; due = old.due; count = old.count; stalls = old.stalls });
+    saves = λ r c u pool at is on. r_change_core r pools.saved_core pool (λ x old. record { cur = old.cur; saving = tt; since = old.since; due = old.due; count = old.count; stalls = old.stalls });
     replenishes = λ u pool on fits. r_scheduler (record pool.scheduler { records = policy.replenish pool.scheduler.records t u }) pool refl fits.queue
         (replenish_fits (length m.config.domains) (core_count m.config) t pool.scheduler.records u (and_right _ (policy.replenish_due pool.scheduler.records t u) (and_left _ (pools.lowest_up t pool) on)) fits.records) fits;
     dues = λ r u x old pool on is. r_change_core r (pools.due_within t x.budget) pool
@@ -341,14 +338,10 @@ module _ (m : Machine) (checked : IsChecked m) (t : ℕ) where
     saving = tt;
     since = omega arith;
     due = λ a e. absurd (cc);
-    count = length_fresh ends ∙ good.count;
+    count = length-map ends _ ∙ good.count;
     stalls = near_fresh ends good.near;
   }
     where
-      length_fresh : (ends : List Moment) → length (fresh_core ends).processors ≡ length ends
-      length_fresh [] = refl
-      length_fresh (e ∷ ends) = (let r = length_fresh ends in grind (arith, r))
-
       near_fresh : (ends : List Moment) → AllByRecursion (λ (e : Moment). NearEnd t e.0) ends → AllByRecursion (NearProcessor t) (fresh_core ends).processors
       near_fresh [] near = tt
       near_fresh (e ∷ ends) near = (near.0, near_fresh ends near.1)
@@ -358,16 +351,13 @@ module _ (m : Machine) (checked : IsChecked m) (t : ℕ) where
   ends_of [] near = tt
   ends_of (p ∷ ps) near = (near.0, ends_of ps near.1)
 
-  length_ends : (ps : List Processor) → length (map (λ (p : Processor). p.stall_end) ps) ≡ length ps
-  length_ends [] = refl
-  length_ends (p ∷ ps) = (let e = length_ends ps in grind (arith, e))
-
   pub range_steps : IsKeptAt m t (NearEnd t) (EndsFit m t) (DomFits m t) (PoolFits m t) (PoolFits m t)
   range_steps = record {
+    stays = λ pool fits. fits;
     weakens = λ pool fits. fits;
     settles = kept_settled r_commands t;
     stalls = λ p end pool near fits. r_change_processor p (λ q. record q { stall_end = moment end }) pool (λ q old. near) fits;
-    acts = kept_by_event r_steps;
+    acts = λ pool action of. kept_by_event r_steps pool action;
     leaves = kept_set_leaving r_commands;
     moves = λ d i pool fits. kept_withdrawn r_commands d (change_domain d (λ x. record x { moving = Some (pool_number i) }) pool) (r_change_domain d (λ x. record x { moving = Some (pool_number i) }) pool (λ x. refl) fits);
     pauses = kept_pause r_commands;
@@ -376,7 +366,7 @@ module _ (m : Machine) (checked : IsChecked m) (t : ℕ) where
     rtds = r_set_rtds_unit;
     core_comes = λ r ends pool none good fits. r_cores (put_at r (fresh_core ends) pool.resources) pool (length_set r _ pool.resources) (EachPlace-put_at (CoreFits m t) r (fresh_core ends) pool.resources fits.cores (fresh_core_fits ends good)) fits;
     ends_stall = λ k end ends near good. record { count = length_change_item k (λ old. moment end) ends ∙ good.count; near = AllByRecursion-change_item (λ (e : Moment). NearEnd t e.0) k (λ old. moment end) ends (λ e at old. near) good.near };
-    ends_go = λ r c pool at fits. (let here : CoreFits m t c = fits.cores r c at in record { count = length_ends c.processors ∙ here.count; near = ends_of c.processors here.stalls });
+    ends_go = λ r c pool at fits. (let here : CoreFits m t c = fits.cores r c at in record { count = length-map c.processors _ ∙ here.count; near = ends_of c.processors here.stalls });
     core_goes = λ r pool on fits. r_cores (clear_at r pool.resources) pool (length_set r None pool.resources) (EachPlace-clear_at (CoreFits m t) r pool.resources fits.cores) fits;
     domain_is = λ d domain pool at fits. (let here : DomFits m t d domain = fits.domains d domain at in record { config = here.config; at = here.at; count = here.count; vcpus = here.vcpus });
     domain_comes = λ d domain pool stays none comes fits. r_with_domain d domain (default_dom_params pool.scheduler.records) pool (default_fits pool.scheduler.records) comes fits;

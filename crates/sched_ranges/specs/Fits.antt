@@ -10,8 +10,8 @@ use Rattle.sched_model.specs.declared.state.Credit2Domain.{Credit2Domain}
 use Rattle.sched_model.specs.declared.state.Credit2Records.{Credit2Records}
 
 -- what a unit used since its budget was last filled, or since its level was 0
-abbrev pub used : RtdsUnit → ℕ
-used x = x.level * x.budget + (x.budget - x.left)
+abbrev pub used_budget : RtdsUnit → ℕ
+used_budget x = x.level * x.budget + (x.budget - x.left)
 
 -- the moment up to which it was charged
 abbrev pub last_of : ℕ → RtdsUnit → ℕ
@@ -23,7 +23,7 @@ pub record RtdsFits (t : ℕ) (x : RtdsUnit) : Type 0 where
   pub next_period : IsWithin 10000 1000000000000 x.next_period
   pub next_budget : IsWithin 10000 1000000000000 x.next_budget
   pub left : x.left ≤ x.budget
-  pub spent : used x ≤ last_of t x
+  pub spent : used_budget x ≤ last_of t x
   pub last : last_of t x ≤ t
   pub deadline : x.deadline ≤ t + 1000000000000
 

@@ -12,5 +12,6 @@ ghost use Rattle.sched_ranges.specs.Ranges.{StateInRange};
 /// domains and cores are those of the file, each list has a place for each of them, and the records of the schedulers are bounded by
 /// the parameters of the file and the moment. Moments and spans are in nanoseconds.
 pub fn law_in_range()
-    ensures { (m : Machine) → IsChecked m → (entries : List Entry) → IsRun m entries → StateInRange m (state_after m entries) }
+    ensures { (m : Machine) → IsChecked m → (entries : List Entry) → IsRun m entries →
+        StateInRange m (state_after m entries) }
 {}

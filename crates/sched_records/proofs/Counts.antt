@@ -16,7 +16,7 @@ use Rattle.sched_model.specs.Rtds as rtds
 use Rattle.std.proofs.lemmas.List.{length-replicate}
 use Rattle.sched_laws.proofs.EachPlace.{EachAt-change_at, EachPlace-change_at, EachPlace-put_at, EachPlace-clear_at, read_clear_at, at_place-put_at, at_place-put_at_other, at_place-clear_at, at_place-clear_at_other, is_empty, place_below, length_set}
 use Rattle.sched_records.proofs.Measured.{measured_put_at, measured_clear_at}
-use Rattle.sched_records.specs.Counts.{measured, shape, units_in, HasCounts, CountsFit, Keeps, Matches}
+use Rattle.sched_records.specs.Counts.{measures_of, shape, units_in, HasCounts, CountsFit, Keeps, Matches}
 
 -- the records change, and have as many units of each domain as before
 pub keeps_shape : (g : ℕ) (domains : List (Option Domain)) (old next : Records) → shape next ≡ shape old → Keeps g domains (shape old) → Keeps g domains (shape next)
@@ -98,14 +98,14 @@ JoinFits g d x domains old next = CountsFit g (put_at d x domains) (shape next) 
 fit_joined : (g t d : ℕ) (x : Domain) (domains : List (Option Domain)) (records : Records) (params : DomParams) → Matches records params → CountsFit g domains (shape records) → JoinFits g d x domains records (joined_records records params d (unit_count g x) t)
 fit_joined g t d x domains (Credit2Pool records) (dom_params.Credit2 weight percent) good fit =
     let fresh = credit2.fresh_domain weight percent (unit_count g x) t in
-    let put : measured units_in (put_at d fresh records.domains) ≡ put_at d (unit_count g x) (measured units_in records.domains) =
-    measured_put_at units_in d fresh records.domains ∙ ap (λ (n : ℕ). put_at d n (measured units_in records.domains)) (length-replicate (unit_count g x) _) in
-    (subst (HasCounts g (put_at d x domains)) (sym put) (has_counts_put_at g d x domains (measured units_in records.domains) fit), refl)
+    let put : measures_of units_in (put_at d fresh records.domains) ≡ put_at d (unit_count g x) (measures_of units_in records.domains) =
+    measured_put_at units_in d fresh records.domains ∙ ap (λ (n : ℕ). put_at d n (measures_of units_in records.domains)) (length-replicate (unit_count g x) _) in
+    (subst (HasCounts g (put_at d x domains)) (sym put) (has_counts_put_at g d x domains (measures_of units_in records.domains) fit), refl)
 fit_joined g t d x domains (RtdsPool units) (dom_params.Rtds period budget extra) good fit =
     let fresh : List RtdsUnit = rtds.fresh_units period.0 budget.0 extra (unit_count g x) t in
-    let put : measured length (put_at d fresh units) ≡ put_at d (unit_count g x) (measured length units) =
-    measured_put_at length d fresh units ∙ ap (λ (n : ℕ). put_at d n (measured length units)) (length-replicate (unit_count g x) _) in
-    (subst (HasCounts g (put_at d x domains)) (sym put) (has_counts_put_at g d x domains (measured length units) fit), refl)
+    let put : measures_of length (put_at d fresh units) ≡ put_at d (unit_count g x) (measures_of length units) =
+    measured_put_at length d fresh units ∙ ap (λ (n : ℕ). put_at d n (measures_of length units)) (length-replicate (unit_count g x) _) in
+    (subst (HasCounts g (put_at d x domains)) (sym put) (has_counts_put_at g d x domains (measures_of length units) fit), refl)
 fit_joined g t d x domains (ArincPool records) params good fit = (tt, refl)
 fit_joined g t d x domains (NullPool kept) params good fit = (tt, refl)
 fit_joined g t d x domains records params good fit = absurd good
@@ -118,8 +118,8 @@ keeps_joined g t d x domains records params good some keeps =
 
 -- a domain parts
 fit_parted : (g d : ℕ) (domains : List (Option Domain)) (records : Records) → CountsFit g domains (shape records) → CountsFit g (clear_at d domains) (shape (parted_records records d))
-fit_parted g d domains (Credit2Pool records) fit = subst (HasCounts g (clear_at d domains)) (sym (measured_clear_at units_in d records.domains)) (has_counts_clear_at g d domains (measured units_in records.domains) fit)
-fit_parted g d domains (RtdsPool units) fit = subst (HasCounts g (clear_at d domains)) (sym (measured_clear_at length d units)) (has_counts_clear_at g d domains (measured length units) fit)
+fit_parted g d domains (Credit2Pool records) fit = subst (HasCounts g (clear_at d domains)) (sym (measured_clear_at units_in d records.domains)) (has_counts_clear_at g d domains (measures_of units_in records.domains) fit)
+fit_parted g d domains (RtdsPool units) fit = subst (HasCounts g (clear_at d domains)) (sym (measured_clear_at length d units)) (has_counts_clear_at g d domains (measures_of length units) fit)
 fit_parted g d domains (ArincPool records) fit = tt
 fit_parted g d domains (NullPool kept) fit = tt
 

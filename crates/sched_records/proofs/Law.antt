@@ -31,7 +31,7 @@ keeps_in_runs m checked entries run =
     kept_by_runs m (IsKnown K)
     (λ s action on here. record {
       apart = apart_after m s s.now action on here.apart;
-      pools = step_after m s.now AnyEnd AnyEnds (SomeUnit m.config.granularity) K K (records_steps m s.now) s action here.apart (λ r c at. tt) (λ l is. tt) on here.pools;
+      pools = step_after (records_steps m s.now) s action tt here.apart (λ r c at. tt) (λ l is. tt) on here.pools;
     })
     (λ s next here. record { apart = record { cores = here.apart.cores; domains = here.apart.domains; free = here.apart.free }; pools = here.pools })
     entries run (record { apart = apart_opening m checked; pools = opening_keeps m checked })

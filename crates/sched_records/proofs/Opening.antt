@@ -1,6 +1,6 @@
 -- The opening: each domain of the file joins a pool of its scheduler.
-use Rattle.std.proofs.Common.{◌≡◌, ◌<◌, ◌≤◌, ◌+◌, ◌-◌, ◌*◌, ◌/◌, ℕ, suc, true, List, [], ◌∷◌, refl, arith, subst, sym, ◌∙◌, cond, length}
-use Rattle.std.specs.Prelude.{Some, slice_get, ◌==◌}
+use Rattle.std.proofs.Common.{◌≡◌, ◌<◌, ◌≤◌, ◌+◌, ◌-◌, ◌*◌, ◌/◌, ℕ, refl, arith, subst, sym, ◌∙◌, length}
+use Rattle.std.specs.Prelude.{Some, slice_get}
 use Rattle.std.proofs.lemmas.List.{length-map}
 use Rattle.std.proofs.lemmas.List.Elements.{recursion_from_All}
 use Rattle.std.proofs.lemmas.Nat.{le-div}
@@ -21,12 +21,11 @@ use Rattle.sched_model.specs.declared.state.Records.{Records}
 use Rattle.sched_model.specs.declared.state.Records.TheVariants.{Credit2Pool, RtdsPool, ArincPool, NullPool}
 use Rattle.sched_model.specs.declared.state.Pool.{Pool}
 use Rattle.sched_model.specs.Policy.{changed_records, fresh_records, kind_of}
-use Rattle.sched_model.specs.Pool.{set_params, unit_count, with_domain}
-use Rattle.sched_model.specs.Opening.{opening, opening_pool, with_domains, with_configured, with_pins, fresh_vcpu, core_count}
+use Rattle.sched_model.specs.Pool.{unit_count, with_domain}
+use Rattle.sched_model.specs.Opening.{opening, opening_pool, fresh_vcpu, core_count}
 use Rattle.sched_model.specs.Checked.{IsChecked, IsCheckedPool, IsCheckedDomain, PoolParamsPass, DomParamsPass}
 use Rattle.sched_laws.specs.Each.{EachPlace}
-use Rattle.sched_laws.proofs.EachPlace.{by_cond}
-use Rattle.sched_laws.proofs.Opened.{each_get, read_pools, joining_domain}
+use Rattle.sched_laws.proofs.Opened.{each_get, read_pools, joining_domain, opened_keeps}
 use Rattle.sched_laws.proofs.SiblingsLaw.{some_processor}
 use Rattle.sched_records.specs.Counts.{Matches, KeepsPool}
 use Rattle.sched_records.proofs.Walk.{keeps_empty, k_set_params, k_with_domain}
@@ -65,36 +64,17 @@ module _ (m : Machine) (checked : IsChecked m) where
       let guest = domain.some_guest in
       has_unit m.config.granularity (length (joining_domain joining).vcpus) (some_processor m.config.granularity checked.config.granularity) (omega (arith, whole, guest))
 
-  pins_open : (kind : SchedKind) (d n : ℕ) (pins : List Cores) (pool : Pool) → Opens kind pool → Opens kind (with_pins d n pins pool)
-  pins_open kind d n [] pool opens = opens
-  pins_open kind d n (cores ∷ pins) pool opens =
-      pins_open kind d (suc n) pins (set_params (changes.Pin (domain_number d) (Some n) cores) 0 pool)
-      (k_set_params m.config.granularity (changes.Pin (domain_number d) (Some n) cores) 0 pool opens.0, pin_kind pool.scheduler.records d n 0 cores ∙ opens.1)
-
-  configured_opens : (i d : ℕ) (p : PoolConfig) (joining : DomConfig) (pool : Pool) → slice_get m.config.pools i ≡ Some p → joining.home.0 ≡ i → IsCheckedDomain m.config joining → Opens p.kind pool → Opens p.kind (with_configured m.config.granularity d joining pool)
-  configured_opens i d p joining pool is home domain opens =
-      let passed : DomParamsPass p.kind joining.params = (domain.home_pool p (subst (λ k. slice_get m.config.pools k ≡ Some p) (sym home) is)).1 in
+  joined_opens : (p : PoolConfig) (d : ℕ) (joining : DomConfig) (pool : Pool) → IsCheckedDomain m.config joining → DomParamsPass p.kind joining.params → Opens p.kind pool → Opens p.kind (with_domain m.config.granularity 0 d (joining_domain joining) joining.params pool)
+  joined_opens p d joining pool domain passed opens =
       let good : Matches pool.scheduler.records joining.params = passed_match pool.scheduler.records joining.params (subst (λ (kind : SchedKind). DomParamsPass kind joining.params) (sym opens.1) passed) in
       let joins = k_with_domain m.config.granularity 0 d (joining_domain joining) joining.params pool good (joining_unit joining domain) opens.0 in
-      pins_open p.kind d 0 joining.pins (with_domain m.config.granularity 0 d (joining_domain joining) joining.params pool) (joins.0, joins.1 ∙ opens.1)
-
-  domains_open : (i d : ℕ) (p : PoolConfig) (domains : List DomConfig) (pool : Pool) → slice_get m.config.pools i ≡ Some p → ((k : ℕ) → slice_get domains k ≡ slice_get m.config.domains (d + k)) → Opens p.kind pool → Opens p.kind (with_domains m.config.granularity i d domains pool)
-  domains_open i d p [] pool is rest opens = opens
-  domains_open i d p (joining ∷ domains) pool is rest opens =
-      let e : d + 0 ≡ d = omega arith in
-      let at : slice_get m.config.domains d ≡ Some joining = subst (λ k. slice_get m.config.domains k ≡ Some joining) e (sym (rest 0)) in
-      let domain = each_get (IsCheckedDomain m.config) m.config.domains d joining (recursion_from_All (IsCheckedDomain m.config) m.config.domains checked.config.domains) at in
-      domains_open i (suc d) p domains (cond (joining.home.0 == i) (with_configured m.config.granularity d joining pool) pool) is (λ k. (let f : d + suc k ≡ suc d + k = omega arith in subst (λ j. slice_get domains k ≡ slice_get m.config.domains j) f (rest (suc k))))
-      (by_cond (Opens p.kind) (joining.home.0 == i) (with_configured m.config.granularity d joining pool) pool
-      (λ same. configured_opens i d p joining pool is (is_home joining.home.0 i same) domain opens) (λ other. opens))
-    where
-      is_home : (a b : ℕ) → (a == b) ≡ true → a ≡ b
-      is_home a b same = grind arith
+      (joins.0, joins.1 ∙ opens.1)
 
   pool_opens : (i : ℕ) (p : PoolConfig) → slice_get m.config.pools i ≡ Some p → KeepsPool m.config.granularity (opening_pool m.config i p)
   pool_opens i p is =
       let pool = each_get (IsCheckedPool m.config) m.config.pools i p (recursion_from_All (IsCheckedPool m.config) m.config.pools checked.config.pools) is in
-      (domains_open i 0 p m.config.domains _ is (λ k. (let e : 0 + k ≡ k = omega arith in subst (λ j. slice_get m.config.domains k ≡ slice_get m.config.domains j) (sym e) refl))
+      (opened_keeps m checked i p is (Opens p.kind) (λ d joining pool at. joined_opens p d joining pool)
+      (λ d n cores pool opens. (k_set_params m.config.granularity (changes.Pin (domain_number d) (Some n) cores) 0 pool opens.0, pin_kind pool.scheduler.records d n 0 cores ∙ opens.1)) _
       (keeps_empty m.config.granularity (length m.config.domains) (core_count m.config) p.params, fresh_kind m.config p.kind p.params (length m.config.domains) (core_count m.config) pool.params)).0
 
   pub opening_keeps : EachPlace (KeepsPool m.config.granularity) (opening m).pools

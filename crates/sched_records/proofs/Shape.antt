@@ -1,4 +1,5 @@
 -- How many units the records of a scheduler have of each domain, and what leaves these numbers.
+use Rattle.sched_laws.proofs.Records.{decided_is}
 use Rattle.std.proofs.Common.{◌≡◌, ℕ, zero, suc, List, refl, ap, ◌∙◌, cond, length}
 use Rattle.std.specs.Prelude.{Option, Some, None, slice_get, ◌==◌}
 use Rattle.std.proofs.lemmas.List.{length-map}
@@ -13,14 +14,11 @@ use Rattle.sched_model.specs.declared.state.Credit2Records.{Credit2Records}
 use Rattle.sched_model.specs.declared.state.Records.{Records}
 use Rattle.sched_model.specs.declared.state.Records.TheVariants.{Credit2Pool, RtdsPool, ArincPool, NullPool}
 use Rattle.sched_model.specs.declared.state.Scheduler.{Scheduler}
-use Rattle.sched_model.specs.Places.{clear_at, change_item}
-use Rattle.sched_model.specs.Arinc.{Window, present_window}
-use Rattle.sched_model.specs.Eligible.{Decision}
+use Rattle.sched_model.specs.Places.{change_item}
 use Rattle.sched_model.specs.Policy as policy
-use Rattle.sched_model.specs.Policy.{decision_by, choose_window, changed_records}
+use Rattle.sched_model.specs.Policy.{decision_by, arinc_decision, changed_records}
 use Rattle.sched_model.specs.Credit2 as credit2
 use Rattle.sched_model.specs.Rtds as rtds
-use Rattle.sched_model.specs.NullScheduler as null
 use Rattle.sched_laws.proofs.EachPlace.{by_option, by_cond}
 use Rattle.sched_laws.proofs.Lists.{length_change_item}
 use Rattle.sched_records.proofs.Measured.{measured_change_at, measured_change_each}
@@ -66,12 +64,12 @@ c_switch_off (Some u) records = c_unit u (λ d x. record x { burned = None }) re
 c_decide : (ask : Ask) (scheduler : Scheduler) (records : Credit2Records) (chosen : Option UnitId) → shape (credit2.decide ask scheduler records chosen).records ≡ Some (credit2_counts records)
 c_decide ask scheduler records None = ap some_counts (c_switch_off ask.cur records)
 c_decide ask scheduler records (Some u) =
-    let whole : Credit2Records = credit2.reset ask.at (credit2.resets_for ask.at u records) records in
+    let whole : Credit2Records = credit2.reset ask.at.0 (credit2.resets_for ask.at.0 u records) records in
     let taken : Credit2Records = credit2.change_domain u.dom.0 (credit2.take_budget u.n) whole in
     ap some_counts
-    (c_unit u (λ d x. record x { burned = Some ask.at }) (credit2.switch_off ask.cur taken) ∙ c_switch_off ask.cur taken ∙ c_take u whole ∙ c_reset ask.at (credit2.resets_for ask.at u records) records)
+    (c_unit u (λ d x. record x { burned = Some ask.at.0 }) (credit2.switch_off ask.cur taken) ∙ c_switch_off ask.cur taken ∙ c_take u whole ∙ c_reset ask.at.0 (credit2.resets_for ask.at.0 u records) records)
 
-c_refilled : (t d : ℕ) (records : Credit2Records) → credit2_counts (credit2.refilled t d records) ≡ credit2_counts records
+c_refilled : (t d : ℕ) (records : Credit2Records) → credit2_counts (credit2.refilled_pool t d records) ≡ credit2_counts records
 c_refilled t d records = c_domain d (credit2.refill_domain (credit2.max_weight records) t) records (λ x. length-map x.units (credit2.burn_unit (credit2.max_weight records) t x))
 
 weight_set : (weight : Option ℕ) (x : Credit2Domain) → units_in (credit2.set_weight weight x) ≡ units_in x
@@ -101,41 +99,26 @@ r_switch_off (Some u) domains = r_unit u (λ x. record x { burned = None }) doma
 
 r_decide : (ask : Ask) (domains : List (Option (List RtdsUnit))) (chosen : Option UnitId) → shape (rtds.decide ask domains chosen).records ≡ Some (rtds_counts domains)
 r_decide ask domains None = ap some_counts (r_switch_off ask.cur domains)
-r_decide ask domains (Some u) = ap some_counts (r_unit u (λ x. record x { burned = Some ask.at }) (rtds.switch_off ask.cur domains) ∙ r_switch_off ask.cur domains)
-
--- the others
-window_records : (ask : Ask) (scheduler : Scheduler) (window : Option Window) → (choose_window ask scheduler window).records ≡ scheduler.records
-window_records ask scheduler None = refl
-window_records ask scheduler (Some window) = refl
-
-null_shape : (core : ℕ) (kept : List (Option UnitId)) (chosen : Option UnitId) → shape (null.decide core kept chosen).records ≡ None
-null_shape core kept None = refl
-null_shape core kept (Some u) = refl
+r_decide ask domains (Some u) = ap some_counts (r_unit u (λ x. record x { burned = Some ask.at.0 }) (rtds.switch_off ask.cur domains) ∙ r_switch_off ask.cur domains)
 
 -- a decision
 pub shape_decision : (records : Records) (ask : Ask) (scheduler : Scheduler) → scheduler.records ≡ records → shape (decision_by records ask scheduler).records ≡ shape records
 shape_decision (Credit2Pool records) ask scheduler is =
-    let burned : Credit2Records = credit2.burn_cur ask.cur ask.at records in
-    c_decide ask scheduler burned (credit2.choice ask scheduler burned) ∙ ap some_counts (c_burn_cur ask.cur ask.at records)
+    let burned : Credit2Records = credit2.burn_cur ask.cur ask.at.0 records in
+    c_decide ask scheduler burned (credit2.choice ask scheduler burned) ∙ ap some_counts (c_burn_cur ask.cur ask.at.0 records)
 shape_decision (RtdsPool domains) ask scheduler is =
-    let burned : List (Option (List RtdsUnit)) = rtds.burn_cur ask.cur ask.at domains in
-    r_decide ask burned (rtds.choice ask scheduler burned) ∙ ap some_counts (r_burn_cur ask.cur ask.at domains)
-shape_decision (ArincPool records) ask scheduler is = ap shape (window_records ask scheduler (cond ask.leaving None (present_window records ask.at)) ∙ is)
-shape_decision (NullPool kept) ask scheduler is =
-    by_cond (λ (d : Decision). shape d.records ≡ None) ask.leaving (null.decide ask.core (clear_at ask.core kept) None) (null.decide ask.core kept (null.choice ask scheduler kept))
-    (λ leaves. refl) (λ stays. null_shape ask.core kept (null.choice ask scheduler kept))
+    let burned : List (Option (List RtdsUnit)) = rtds.burn_cur ask.cur ask.at.0 domains in
+    r_decide ask burned (rtds.choice ask scheduler burned) ∙ ap some_counts (r_burn_cur ask.cur ask.at.0 domains)
+shape_decision (ArincPool records) ask scheduler is = ap shape (decided_is (ArincPool records) ask scheduler is)
+shape_decision (NullPool kept) ask scheduler is = ap shape (decided_is (NullPool kept) ask scheduler is).1
 
 pub shape_replenished : (records : Records) (t : ℕ) (u : UnitId) → shape (policy.replenish records t u) ≡ shape records
-shape_replenished (Credit2Pool records) t u = refl
 shape_replenished (RtdsPool domains) t u = ap some_counts (r_unit u (rtds.replenish t) domains)
-shape_replenished (ArincPool records) t u = refl
-shape_replenished (NullPool kept) t u = refl
+shape_replenished any t u = refl
 
 pub shape_refilled : (records : Records) (t d : ℕ) → shape (policy.refill records t d) ≡ shape records
 shape_refilled (Credit2Pool records) t d = ap some_counts (c_refilled t d records)
-shape_refilled (RtdsPool domains) t d = refl
-shape_refilled (ArincPool records) t d = refl
-shape_refilled (NullPool kept) t d = refl
+shape_refilled records t d = refl
 
 -- a change of parameters
 pub shape_changed : (records : Records) (change : ParamChange) (t : ℕ) → shape (changed_records records change t) ≡ shape records

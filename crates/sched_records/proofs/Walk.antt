@@ -30,7 +30,7 @@ use Rattle.sched_laws.proofs.Steps.{IsKeptAt}
 use Rattle.sched_laws.proofs.Events.{Anyway, KeptByCommands, KeptByParts, commands_of, kept_by_parts, kept_pause, kept_unpause, kept_marked}
 use Rattle.sched_records.proofs.Measured.{length_measured, read_measured}
 use Rattle.sched_records.proofs.Shape.{shape_decision, shape_replenished, shape_refilled, shape_changed}
-use Rattle.sched_records.specs.Counts.{measured, shape, units_in, Matches, Keeps, KeepsPool, CountsFit}
+use Rattle.sched_records.specs.Counts.{measures_of, shape, units_in, Matches, Keeps, KeepsPool, CountsFit}
 use Rattle.sched_records.proofs.Counts.{keeps_shape, keeps_change_at, keeps_joined, keeps_parted}
 
 -- all that is needed of the ends of stalls is nothing; a domain that comes has a unit
@@ -59,11 +59,11 @@ default_matches records = tt
 pub keeps_empty : (g n cores : ℕ) (params : PoolParams) → Keeps g (replicate n None) (shape (fresh_records params n cores))
 keeps_empty g n cores params = record { some_unit = EachPlace-empty (λ (x : Domain). 1 ≤ unit_count g x) n; fit = none params }
   where
-    same_length : {X : Type 0} (measure : X → ℕ) → length (measured measure (replicate n None)) ≡ length {A = Option Domain} (replicate n None)
+    same_length : {X : Type 0} (measure : X → ℕ) → length (measures_of measure (replicate n None)) ≡ length {A = Option Domain} (replicate n None)
     same_length measure = length_measured measure (replicate n None) ∙ length-replicate n None ∙ sym (length-replicate n None)
 
-    no_counts : {X : Type 0} (measure : X → ℕ) (d : ℕ) → at_place (measured measure (replicate n None)) d ≡ None
-    no_counts {X} measure d = is_empty (at_place (measured measure (replicate n None)) d) (λ k at. (let r = read_measured measure d k (replicate n None) at in EachPlace-empty {X = X} (λ y. ⊥) n d r.0 r.1))
+    no_counts : {X : Type 0} (measure : X → ℕ) (d : ℕ) → at_place (measures_of measure (replicate n None)) d ≡ None
+    no_counts {X} measure d = is_empty (at_place (measures_of measure (replicate n None)) d) (λ k at. (let r = read_measured measure d k (replicate n None) at in EachPlace-empty {X = X} (λ y. ⊥) n d r.0 r.1))
 
     none : (params : PoolParams) → CountsFit g (replicate n None) (shape (fresh_records params n cores))
     none (pool_params.Credit2 limit) = record { places = same_length units_in; counts_are = λ d x at. absurd (EachPlace-empty {X = Domain} (λ y. ⊥) n d x at); others = λ d no. no_counts units_in d }
@@ -114,10 +114,11 @@ module _ (g : ℕ) where
 pub records_steps : (m : Machine) (t : ℕ) → IsKeptAt m t AnyEnd AnyEnds (SomeUnit m.config.granularity) (KeepsPool m.config.granularity) (KeepsPool m.config.granularity)
 records_steps m t =
     record {
+      stays = λ pool keeps. keeps;
       weakens = λ pool keeps. keeps;
       settles = λ pool keeps. keeps;
       stalls = λ p end pool any keeps. keeps;
-      acts = λ pool action on. kept_by_parts (k_parts m.config.granularity t) pool action tt;
+      acts = λ pool action of on. kept_by_parts (k_parts m.config.granularity t) pool action tt;
       leaves = λ r pool keeps. keeps;
       moves = λ d i pool keeps. k_change_domain m.config.granularity d (λ x. record x { moving = Some (pool_number i) }) pool (λ x. refl) keeps;
       pauses = kept_pause (k_commands m.config.granularity);

@@ -14,18 +14,18 @@ use Rattle.sched_model.specs.declared.state.Pool.{Pool}
 use Rattle.sched_model.specs.Pool.{unit_count}
 use Rattle.sched_laws.specs.Each.{EachAt, EachPlace}
 
-abbrev pub measured : {X : Type 0} → (X → ℕ) → List (Option X) → List (Option ℕ)
-measured measure [] = []
-measured measure (o ∷ places) = option_map measure o ∷ measured measure places
+abbrev pub measures_of : {X : Type 0} → (X → ℕ) → List (Option X) → List (Option ℕ)
+measures_of measure [] = []
+measures_of measure (o ∷ places) = option_map measure o ∷ measures_of measure places
 
 abbrev pub units_in : Credit2Domain → ℕ
 units_in d = length d.units
 
 abbrev pub credit2_counts : Credit2Records → List (Option ℕ)
-credit2_counts records = measured units_in records.domains
+credit2_counts records = measures_of units_in records.domains
 
 abbrev pub rtds_counts : List (Option (List RtdsUnit)) → List (Option ℕ)
-rtds_counts domains = measured length domains
+rtds_counts domains = measures_of length domains
 
 abbrev pub shape : Records → Option (List (Option ℕ))
 shape (Credit2Pool records) = Some (credit2_counts records)

@@ -12,5 +12,6 @@ ghost use Rattle.sched_records.specs.Records.{HasRecords};
 /// In every state of a run the scheduler of each pool keeps records of each domain that the pool has: a Credit2 pool a record with all units
 /// of the domain, an RTDS pool a record of each of its units. It keeps none of other domains. A domain has one unit at least.
 pub fn law_records()
-    ensures { (m : Machine) → IsChecked m → (entries : List Entry) → IsRun m entries → EachPlace (HasRecords m.config.granularity) (state_after m entries).pools }
+    ensures { (m : Machine) → IsChecked m → (entries : List Entry) → IsRun m entries →
+        EachPlace (HasRecords m.config.granularity) (state_after m entries).pools }
 {}

@@ -1,4 +1,5 @@
 -- Which parts an event of a pool changes.
+use Rattle.sched_laws.proofs.EachPlace.{at_place-change_at, at_place-change_at_other}
 use Rattle.std.proofs.Common.{◌≡◌, ◌≢◌, ℕ, zero, suc, ◌-◌, List, [], ◌∷◌, map, take, Bool, true, false, refl, sym, ◌∙◌, ap}
 use Rattle.std.specs.Prelude.{Option, Some, None, option_map, is_some, eqb, nat_lt, if◌then◌else◌, length}
 use Rattle.sched_model.specs.declared.action.Action.{Action}
@@ -8,13 +9,13 @@ use Rattle.sched_model.specs.declared.state.Domain.{Domain}
 use Rattle.sched_model.specs.declared.state.Pool.{Pool}
 use Rattle.sched_model.specs.declared.state.State.{State}
 use Rattle.sched_model.specs.Places.{at_place, change_at, first_place}
-use Rattle.sched_model.specs.Pool.{settled, after_in}
+use Rattle.sched_model.specs.Pool.{settled_pool, after_in}
 use Rattle.sched_model.specs.Actions.{home_of, change_pool}
 use Rattle.sched_model.specs.Machine.{after, after_at_home}
-use Rattle.journal_core.specs.Parts.{Outline, UnderWay, core_to, domain_to, ToolPart, tool_part, pool_part, outline_of, first_answer, core_leaving, domain_moving, core_joining, leaving_pool, under_way_of, tool_of, part_of, pool_lists, is_name, nowhere, home_in, tool_lock}
+use Rattle.journal_core.specs.Parts.{Outline, UnderWay, core_to, domain_to, ToolPart, tool_part, pool_part, outline_of, first_answer, core_leaving, domain_moving, core_joining, leaving_pool, under_way_of, tool_of, part_of, pool_lists, is_name, no_home, home_in, tool_lock}
 use Rattle.step_laws.specs.Faces.{Face, DomainFace, domain_face, is_leaving, face_of}
 use Rattle.step_laws.specs.Steps.{IsOfPool, ChangesPool}
-use Rattle.step_laws.proofs.Faces.{face_kept}
+use Rattle.step_laws.proofs.Faces.{face_kept, seen_change_at}
 
 -- places that are seen
 map-seen : {X Y Z : Type 0} (see : X → Y) (f : Option X → Z) (h : Option Y → Z) (places : List (Option X)) → ((o : Option X) → f o ≡ h (option_map see o)) → map f places ≡ map h (map (option_map see) places)
@@ -74,13 +75,6 @@ lists_is n pool =
     ap (λ (b : Bool). if nat_lt n 64 then b else is_some (at_place pool.domains (n - 64))) (is_some-seen is_leaving (at_place pool.resources n) ∙ ap is_some (sym (at_place-seen is_leaving pool.resources n)))
     ∙ ap (λ (b : Bool). if nat_lt n 64 then is_some (at_place (face_of pool).cores n) else b) (is_some-seen domain_face (at_place pool.domains (n - 64)) ∙ ap is_some (sym (at_place-seen domain_face pool.domains (n - 64))))
 
--- one place changed by what keeps what is seen of it
-pub map-change_at : {X Y : Type 0} (see : X → Y) (i : ℕ) (f : X → X) (places : List (Option X)) → ((x : X) → see (f x) ≡ see x) → map (option_map see) (change_at i f places) ≡ map (option_map see) places
-map-change_at see i f [] keeps = refl
-map-change_at see zero f (None ∷ places) keeps = refl
-map-change_at see zero f (Some x ∷ places) keeps = ap (λ y. Some y ∷ map (option_map see) places) (keeps x)
-map-change_at see (suc i) f (p ∷ places) keeps = ap (λ ys. option_map see p ∷ ys) (map-change_at see i f places keeps)
-
 pub first_answer-change_at : {X Z : Type 0} (ask : ℕ → X → Option Z) (n i : ℕ) (f : X → X) (places : List (Option X)) → ((k : ℕ) (x : X) → ask k (f x) ≡ ask k x)
     → first_answer ask n (change_at i f places) ≡ first_answer ask n places
 first_answer-change_at ask n i f [] keeps = refl
@@ -100,18 +94,6 @@ first_place-change_at test n (suc k) (suc i) f (None ∷ places) keeps = first_p
 first_place-change_at test n (suc k) (suc i) f (Some x ∷ places) keeps =
     ap (λ (o : Option ℕ). elim (test x) as (λ _. Option ℕ) [ true ↦ Some n | false ↦ o ]) (first_place-change_at test (suc n) k i f places keeps)
 
-at_place-other : {X : Type 0} (i k : ℕ) (f : X → X) (places : List (Option X)) → k ≢ i → at_place (change_at i f places) k ≡ at_place places k
-at_place-other i k f [] other = refl
-at_place-other zero zero f (p ∷ places) other = absurd (other refl)
-at_place-other zero (suc k) f (p ∷ places) other = refl
-at_place-other (suc i) zero f (p ∷ places) other = refl
-at_place-other (suc i) (suc k) f (p ∷ places) other = at_place-other i k f places (λ e. other (ap suc e))
-
-at_place-own : {X : Type 0} (i : ℕ) (f : X → X) (places : List (Option X)) → at_place (change_at i f places) i ≡ option_map f (at_place places i)
-at_place-own i f [] = refl
-at_place-own zero f (p ∷ places) = refl
-at_place-own (suc i) f (p ∷ places) = at_place-own i f places
-
 module _ (i : ℕ) (f : Pool → Pool) (keeps : (pool : Pool) → face_of (f pool) ≡ face_of pool) (s : State) where
   outline_kept : (pool : Pool) → outline_of (f pool) ≡ outline_of pool
   outline_kept pool = outline_is (f pool) ∙ ap by_face (keeps pool) ∙ sym (outline_is pool)
@@ -124,17 +106,17 @@ module _ (i : ℕ) (f : Pool → Pool) (keeps : (pool : Pool) → face_of (f poo
 
   tool_kept : tool_of (change_pool i f s) ≡ tool_of s
   tool_kept =
-      ap (λ (pools : List (Option Outline)). record (tool_of s) { pools = pools; under_way = under_way_of (change_pool i f s) }) (map-change_at outline_of i f s.pools outline_kept)
+      ap (λ (pools : List (Option Outline)). record (tool_of s) { pools = pools; under_way = under_way_of (change_pool i f s) }) (seen_change_at outline_of i f s.pools outline_kept)
       ∙ ap (λ (o : Option UnderWay). record (tool_of s) { under_way = elim o as (λ _. Option UnderWay) [ Some way ↦ Some way | None ↦ first_answer core_joining 0 s.free ] }) (first_answer-change_at leaving_pool 0 i f s.pools way_kept)
 
   part_kept : (k : ℕ) → k ≢ i → part_of (change_pool i f s) k ≡ part_of s k
   part_kept k other =
       ap (λ (tool : ToolPart). if eqb k tool_lock then tool_part tool else pool_part (at_place (change_at i f s.pools) k)) tool_kept
-      ∙ ap (λ (pool : Option Pool). if eqb k tool_lock then tool_part (tool_of s) else pool_part pool) (at_place-other i k f s.pools other)
+      ∙ ap (λ (pool : Option Pool). if eqb k tool_lock then tool_part (tool_of s) else pool_part pool) (at_place-change_at_other i k f s.pools other)
 
   homes_kept : (m : Machine) (n : ℕ) → home_in m.config (change_pool i f s) n ≡ home_in m.config s n
   homes_kept m n =
-      ap (λ (o : Option ℕ). if is_name m.config n then elim o as (λ _. ℕ) [ Some k ↦ k | None ↦ tool_lock ] else nowhere) (first_place-change_at (pool_lists n) 0 tool_lock i f s.pools (lists_kept n))
+      ap (λ (o : Option ℕ). if is_name m.config n then elim o as (λ _. ℕ) [ Some k ↦ k | None ↦ tool_lock ] else no_home) (first_place-change_at (pool_lists n) 0 tool_lock i f s.pools (lists_kept n))
 
 after_is : (m : Machine) (s : State) (t : ℕ) (action : Action) → IsOfPool action → after m s t action ≡ after_at_home m.config.granularity s t action
 after_is m s t Stall own = absurd own
@@ -146,12 +128,12 @@ after_is m s t action own = refl
 pub pool_step : (m : Machine) (s : State) (t : ℕ) (action : Action) (i : ℕ) → IsOfPool action → home_of m.config.granularity s action ≡ Some i → ChangesPool m s t action i
 pool_step m s t action i own home =
     let g = m.config.granularity in
-    let f : Pool → Pool = λ pool. settled t (after_in g t pool action) in
+    let f : Pool → Pool = λ pool. settled_pool t (after_in g t pool action) in
     let keeps : (pool : Pool) → face_of (f pool) ≡ face_of pool = λ pool. face_kept g t pool action in
     let is : after m s t action ≡ change_pool i f s =
     after_is m s t action own ∙ ap (λ (o : Option ℕ). elim o as (λ _. State) [ None ↦ s | Some k ↦ change_pool k f s ]) home in
     record {
-      own = ap (λ (next : State). at_place next.pools i) is ∙ at_place-own i f s.pools;
+      own = ap (λ (next : State). at_place next.pools i) is ∙ at_place-change_at i f s.pools;
       others = λ k other. ap (λ (next : State). part_of next k) is ∙ part_kept i f keeps s k other;
       homes = λ n. ap (λ (next : State). home_in m.config next n) is ∙ homes_kept i f keeps s m n;
       now = ap (λ (next : State). next.now) is;

@@ -10,5 +10,7 @@ ghost use Rattle.step_laws.specs.Steps.{IsOfPool, ChangesPool};
 /// Of every state, reached or not: an event of a processor, core, unit, vCPU or domain that is no move between pools changes the
 /// part of its subject's home and no other. The tool's part, the homes of all names and the moment stay.
 pub fn law_pool_steps()
-    ensures { (m : Machine) → (s : State) → (t : ℕ) → (action : Action) → (i : ℕ) → IsOfPool action → home_of m.config.granularity s action ≡ Some i → ChangesPool m s t action i }
+    ensures { (m : Machine) → (s : State) → (t : ℕ) → (action : Action) → (i : ℕ) →
+        IsOfPool action → home_of m.config.granularity s action ≡ Some i →
+        ChangesPool m s t action i }
 {}

@@ -17,7 +17,7 @@ use Rattle.sched_model.specs.Places.{has_unit, is_unit, same_unit}
 use Rattle.sched_model.specs.State.{is_runnable}
 use Rattle.sched_model.specs.Arinc.{Window, present_window, window_unit}
 use Rattle.sched_model.specs.Eligible.{is_allowed, is_eligible}
-use Rattle.sched_model.specs.Policy.{choose_window, choice_of_window}
+use Rattle.sched_model.specs.Policy.{arinc_decision, choice_of_window}
 use Rattle.sched_model.specs.Pool.{home_cores, ask_of}
 use Rattle.sched_laws.proofs.Bools.{and_left, and_right, both, one_of, or_more, clash}
 use Rattle.sched_laws.proofs.Choices.{is_unit_same, at_unit}
@@ -49,11 +49,11 @@ module _ (m : Machine) (t : ℕ) (queue : List UnitId) (affinity : List (Option 
   abbrev window : Option Window
   window = present_window arinc t
 
-  unit_is : (w : Option Window) → (choose_window ask scheduler w).unit ≡ choice_of_window ask scheduler (elim w as (λ _. Option UnitId) [ None ↦ None | Some x ↦ x.unit ])
+  unit_is : (w : Option Window) → (arinc_decision ask scheduler w).unit ≡ choice_of_window ask scheduler (elim w as (λ _. Option UnitId) [ None ↦ None | Some x ↦ x.unit ])
   unit_is None = refl
   unit_is (Some w) = refl
 
-  records_are : (w : Option Window) → (choose_window ask scheduler w).records ≡ ArincPool arinc
+  records_are : (w : Option Window) → (arinc_decision ask scheduler w).records ≡ ArincPool arinc
   records_are None = refl
   records_are (Some w) = refl
 
@@ -69,7 +69,7 @@ module _ (m : Machine) (t : ℕ) (queue : List UnitId) (affinity : List (Option 
   records_next = records_are (cond c.leaving None window)
 
   unit_next : c.leaving ≡ false → (decision m t pool r c).unit ≡ choice_of_window ask scheduler (window_unit arinc t)
-  unit_next stays = ap (λ b. (choose_window ask scheduler (cond b None window)).unit) stays ∙ unit_is window
+  unit_next stays = ap (λ b. (arinc_decision ask scheduler (cond b None window)).unit) stays ∙ unit_is window
 
   keeps_next : (k : ℕ) (u : UnitId) → keeps (next m t pool r c).records (next m t pool r c) home k t u ≡ is_unit (window_unit arinc t) u
   keeps_next k u = ap (λ (x : Records). keeps x (next m t pool r c) home k t u) records_next
@@ -141,7 +141,7 @@ module _ (m : Machine) (t : ℕ) (queue : List UnitId) (affinity : List (Option 
 
     pub arinc_well : DecidesWell m t pool r c
     arinc_well = record {
-      leaves = λ goes. ap (λ b. (choose_window ask scheduler (cond b None window)).unit) goes;
+      leaves = λ goes. ap (λ b. (arinc_decision ask scheduler (cond b None window)).unit) goes;
       chosen = λ stays w is. (
           let a = chosen_is (window_unit arinc t) w (sym (unit_next stays) ∙ is) in
           let none = ahead_next w in

@@ -1,22 +1,16 @@
 -- An ARINC 653 pool has one core at most, in every state of a run.
 use Rattle.std.proofs.Common.{◌≡◌, ◌≢◌, ◌+◌, ◌-◌, ℕ, zero, suc, Bool, true, false, not, List, [], ◌∷◌, refl, arith, subst, sym, ◌∙◌, ap, length, ◌⊎◌, inl, inr}
-use Rattle.std.specs.Prelude.{Option, Some, None, Result, Ok, Err, is_some, slice_get, cond, nat_lt, nat_le, sum_by, ◌==◌, ◌&&◌, ◌||◌, ◌/◌}
+use Rattle.std.specs.Prelude.{Option, Some, None, Result, Ok, Err, is_some, slice_get, nat_lt, nat_le, ◌==◌, ◌&&◌, ◌||◌, ◌/◌}
 use Rattle.std.specs.List.{list_any}
 use Rattle.std.proofs.lemmas.List.Elements.{recursion_from_All}
-use Rattle.sched_base.specs.Numbers.{span, core as core_number, pool as pool_number, domain as domain_number}
+use Rattle.sched_base.specs.Numbers.{core as core_number, domain as domain_number}
 use Rattle.sched_base.specs.declared.PoolId.{PoolId}
 use Rattle.sched_base.specs.declared.ResId.{ResId}
-use Rattle.sched_base.specs.declared.UnitId.{UnitId}
 use Rattle.sched_base.specs.declared.Cores.{Cores}
-use Rattle.sched_model.specs.declared.ask.Ask.{Ask}
 use Rattle.sched_model.specs.declared.command.Command.{Command}
-use Rattle.sched_model.specs.declared.command.Command.TheVariants as command
-use Rattle.sched_model.specs.declared.command.ArincEntry.{ArincEntry}
-use Rattle.sched_model.specs.declared.command.Which.{Which}
 use Rattle.sched_model.specs.declared.config.Config.{Config}
 use Rattle.sched_model.specs.declared.config.DomConfig.{DomConfig}
 use Rattle.sched_model.specs.declared.config.ParamChange.TheVariants as changes
-use Rattle.sched_model.specs.declared.config.FrameEntry.{FrameEntry}
 use Rattle.sched_model.specs.declared.config.PoolConfig.{PoolConfig}
 use Rattle.sched_model.specs.declared.config.PoolParams.{PoolParams}
 use Rattle.sched_model.specs.declared.config.PoolParams.TheVariants as pool_params
@@ -24,43 +18,31 @@ use Rattle.sched_model.specs.declared.config.SchedKind.{SchedKind}
 use Rattle.sched_model.specs.declared.config.SchedKind.TheVariants as kinds
 use Rattle.sched_model.specs.declared.event.Entry.{Entry}
 use Rattle.sched_model.specs.declared.event.Refusal.{Refusal}
-use Rattle.sched_model.specs.declared.event.Refusal.TheVariants as refusal
 use Rattle.sched_model.specs.declared.event.Reply.{Reply}
-use Rattle.sched_model.specs.declared.event.Reply.TheVariants as reply
 use Rattle.sched_model.specs.declared.machine.Machine.{Machine}
 use Rattle.sched_model.specs.declared.plan.Plan.{Plan}
 use Rattle.sched_model.specs.declared.plan.Plan.TheVariants as plan
 use Rattle.sched_model.specs.declared.state.ArincRecords.{ArincRecords}
-use Rattle.sched_model.specs.declared.state.Credit2Records.{Credit2Records}
-use Rattle.sched_model.specs.declared.state.Domain.{Domain}
 use Rattle.sched_model.specs.declared.state.FreeCore.{FreeCore}
 use Rattle.sched_model.specs.declared.state.Pool.{Pool}
 use Rattle.sched_model.specs.declared.state.Records.{Records}
-use Rattle.sched_model.specs.declared.state.Records.TheVariants.{Credit2Pool, RtdsPool, ArincPool, NullPool}
+use Rattle.sched_model.specs.declared.state.Records.TheVariants.{Credit2Pool, ArincPool}
 use Rattle.sched_model.specs.declared.state.Resource.{Resource}
-use Rattle.sched_model.specs.declared.state.RtdsUnit.{RtdsUnit}
-use Rattle.sched_model.specs.declared.state.Scheduler.{Scheduler}
 use Rattle.sched_model.specs.declared.state.State.{State}
 use Rattle.sched_model.specs.declared.work.CommandLine.{CommandLine}
 use Rattle.sched_model.specs.declared.work.StallLine.{StallLine}
 use Rattle.sched_model.specs.declared.action.Action.{Action}
 use Rattle.sched_model.specs.declared.action.Action.TheVariants.{Stall, Xl, Moved, DomMoved}
-use Rattle.sched_model.specs.Places.{at_place, clear_at, numbered, first_empty}
+use Rattle.sched_model.specs.Places.{at_place, numbered_items}
 use Rattle.sched_model.specs.State.{has_core}
-use Rattle.sched_model.specs.Arinc.{Window, present_window}
-use Rattle.sched_model.specs.Eligible.{Decision}
 use Rattle.sched_model.specs.Checked.{IsChecked, IsCheckedPool, PoolParamsPass}
-use Rattle.sched_model.specs.Credit2 as credit2
-use Rattle.sched_model.specs.Rtds as rtds
-use Rattle.sched_model.specs.NullScheduler as null
-use Rattle.sched_model.specs.Policy as policy
-use Rattle.sched_model.specs.Policy.{decision_of, kind_of, fresh_records}
+use Rattle.sched_model.specs.Policy.{kind_of, fresh_records}
 use Rattle.sched_model.specs.Opening.{opening, opening_free, with_domains, with_configured, with_pins, core_count, most_pools}
-use Rattle.sched_model.specs.Pool.{unit_count}
 use Rattle.sched_model.specs.Actions.{home_of, home_of_core, home_of_domain}
-use Rattle.sched_model.specs.Commands as commands
-use Rattle.sched_model.specs.Commands.{judge, with_pool, demand, demand_kind, demand_range, refused_by, judge_frame, judge_rtds, frame_entries, rtds_fault, rtds_units, last_core_fault, name_fault, cpu_fault, elsewhere_fault, has_vcpu, is_kind, cores_in, domains_in, in_range, pool_of, domain_of, carried_out, change_home, pool_of_plan}
+use Rattle.sched_model.specs.Commands.{is_kind, cores_in, carried_out, change_home, pool_of_plan}
 use Rattle.sched_model.specs.Machine.{is_enabled, is_move_under_way, after, after_at_home, after_stall, after_command, after_moved, after_dom_moved, verdict, settled_at}
+use Rattle.sched_laws.proofs.Judged.{Passed, verdict_passed}
+use Rattle.sched_laws.proofs.Records.{same_decision}
 use Rattle.sched_laws.specs.Each.{EachAt}
 use Rattle.sched_laws.specs.StateLaws.{state_after}
 use Rattle.sched_laws.proofs.Bools.{and_right, both, not_true, or_right, clash}
@@ -75,38 +57,10 @@ use Rattle.turn_laws.specs.Turns.{one}
 abbrev is_arinc : Records → Bool
 is_arinc records = is_kind kinds.Arinc653 (kind_of records)
 
--- a decision leaves the pool its scheduler
-kind_decided : (ask : Ask) (queue : List UnitId) (affinity : List (Option (List Cores))) (records : Records) → kind_of (decision_of ask (record { queue = queue; affinity = affinity; records = records })).records ≡ kind_of records
-kind_decided ask queue affinity (Credit2Pool records) =
-    let scheduler : Scheduler = record { queue = queue; affinity = affinity; records = Credit2Pool records } in
-    let burned : Credit2Records = credit2.burn_cur ask.cur ask.at records in
-    by_choice scheduler burned (credit2.choice ask scheduler burned)
-  where
-    by_choice : (scheduler : Scheduler) (burned : Credit2Records) (chosen : Option UnitId) → kind_of (credit2.decide ask scheduler burned chosen).records ≡ kinds.Credit2
-    by_choice scheduler burned None = refl
-    by_choice scheduler burned (Some u) = refl
-kind_decided ask queue affinity (RtdsPool domains) = by_choice (rtds.burn_cur ask.cur ask.at domains) (rtds.choice ask (record { queue = queue; affinity = affinity; records = RtdsPool domains }) (rtds.burn_cur ask.cur ask.at domains))
-  where
-    by_choice : (burned : List (Option (List RtdsUnit))) (chosen : Option UnitId) → kind_of (rtds.decide ask burned chosen).records ≡ kinds.Rtds
-    by_choice burned None = refl
-    by_choice burned (Some u) = refl
-kind_decided ask queue affinity (ArincPool records) = by_window (cond ask.leaving None (present_window records ask.at))
-  where
-    by_window : (window : Option Window) → kind_of (policy.choose_window ask (record { queue = queue; affinity = affinity; records = ArincPool records }) window).records ≡ kinds.Arinc653
-    by_window None = refl
-    by_window (Some w) = refl
-kind_decided ask queue affinity (NullPool kept) =
-    let scheduler : Scheduler = record { queue = queue; affinity = affinity; records = NullPool kept } in
-    by_cond (λ (d : Decision). kind_of d.records ≡ kinds.Null) ask.leaving (null.decide ask.core (clear_at ask.core kept) None) (null.decide ask.core kept (null.choice ask scheduler kept)) (λ is. refl) (λ is. by_choice (null.choice ask scheduler kept))
-  where
-    by_choice : (chosen : Option UnitId) → kind_of (null.decide ask.core kept chosen).records ≡ kinds.Null
-    by_choice None = refl
-    by_choice (Some u) = refl
-
 arinc_kept : (t : ℕ) → IsKeptTest t is_arinc
 arinc_kept t = record {
   sees = λ a b alike passes. subst (λ kind. is_kind kinds.Arinc653 kind ≡ true) alike.kind passes;
-  decides = λ ask scheduler now passes. subst (λ kind. is_kind kinds.Arinc653 kind ≡ true) (kind_decided ask scheduler.queue scheduler.affinity scheduler.records) passes;
+  decides = λ ask scheduler now passes. subst (λ kind. is_kind kinds.Arinc653 kind ≡ true) (same_decision kind_of (λ a b. refl) (λ a b. refl) (λ a b. refl) scheduler.records ask scheduler refl) passes;
 }
 
 -- an accepted cpupool-cpu-add: the pool has no core if it is one of ARINC 653
@@ -114,101 +68,29 @@ abbrev Adds : State → Plan → Type 0
 Adds s (plan.CpuAdd i core answer) = (r : ℕ) → Counted is_arinc s i.0 r → ⊥
 Adds s _ = Unit {0}
 
-record AddsIfOk (s : State) (r : Result Plan Refusal) : Type 0 where
-  adds : (p : Plan) → r ≡ Ok p → Adds s p
-
 -- a pool with a core has one core or more
-some_core : (n r : ℕ) (c : Resource) (cores : List (Option Resource)) → at_place cores r ≡ Some c → nat_lt 0 (length (numbered n cores)) ≡ true
+some_core : (n r : ℕ) (c : Resource) (cores : List (Option Resource)) → at_place cores r ≡ Some c → nat_lt 0 (length (numbered_items n cores)) ≡ true
 some_core n r c [] at = absurd (cc)
 some_core n zero c (None ∷ cores) at = absurd (cc)
 some_core n zero c (Some x ∷ cores) at = grind arith
 some_core n (suc r) c (None ∷ cores) at = some_core (suc n) r c cores at
 some_core n (suc r) c (Some x ∷ cores) at = grind arith
 
-module _ (s : State) where
-  abbrev F : Result Plan Refusal → Type 0
-  F = AddsIfOk s
+-- the pool that a core is added to
+added : (s : State) (i : ℕ) (pool : Pool) → at_place s.pools i ≡ Some pool → not (is_kind kinds.Arinc653 (kind_of pool.scheduler.records) && nat_lt 0 (cores_in pool)) ≡ true → (r : ℕ) → Counted is_arinc s i r → ⊥
+added s i pool at passes r counted =
+    let now = counted_core is_arinc s i r counted in
+    let same : now.0 ≡ pool = (let a = now.2 in cc) in
+    let arinc : is_arinc pool.scheduler.records ≡ true = subst (λ (p : Pool). is_arinc p.scheduler.records ≡ true) same now.4 in
+    let some = some_core 0 r now.1 pool.resources (subst (λ (p : Pool). at_place p.resources r ≡ Some now.1) same now.3) in
+    clash (is_kind kinds.Arinc653 (kind_of pool.scheduler.records) && nat_lt 0 (cores_in pool)) (both _ _ arinc some) (not_true _ passes)
 
-  adds_ok : (p : Plan) → Adds s p → F (Ok p)
-  adds_ok p adds = record { adds = λ q is. (let e : p ≡ q = cc in subst (Adds s) e adds) }
-
-  adds_err : (fault : Refusal) → F (Err fault)
-  adds_err fault = record { adds = λ q is. absurd (cc) }
-
-  adds_demand : (test : Bool) (fault : Refusal) (next : Result Plan Refusal) → (test ≡ true → F next) → F (demand test fault next)
-  adds_demand true fault next adds = adds refl
-  adds_demand false fault next adds = adds_err fault
-
-  adds_refused : (fault : Option Refusal) (next : Result Plan Refusal) → F next → F (refused_by fault next)
-  adds_refused None next adds = adds
-  adds_refused (Some fault) next adds = adds_err fault
-
-  adds_range : (n : Option ℕ) (low high : ℕ) (fault : Refusal) (next : Result Plan Refusal) → F next → F (demand_range n low high fault next)
-  adds_range None low high fault next adds = adds
-  adds_range (Some n) low high fault next adds = adds_demand (in_range low high n) fault next (λ is. adds)
-
-  adds_kind : (kind : SchedKind) (i : ℕ) (pool : Pool) (next : Result Plan Refusal) → F next → F (demand_kind kind i pool next)
-  adds_kind kind i pool next adds = adds_demand (is_kind kind (kind_of pool.scheduler.records)) _ next (λ is. adds)
-
-  adds_pool : (which : Which) (next : ℕ → Pool → Result Plan Refusal) → ((i : ℕ) (pool : Pool) → at_place s.pools i ≡ Some pool → F (next i pool)) → F (with_pool s which next)
-  adds_pool which next adds = by_option F (pool_of s which) _ _ (λ is. adds_err _) (λ i is. by_option F (at_place s.pools i) _ _ (λ is2. adds_err _) (λ pool is2. adds i pool is2))
-
-  adds_domain : (m : Machine) (which : Which) (next : ℕ → ℕ → Pool → Domain → Result Plan Refusal) → ((d i : ℕ) (pool : Pool) (domain : Domain) → F (next d i pool domain)) → F (commands.with_domain m s which next)
-  adds_domain m which next adds =
-      by_option F (domain_of m which) _ _ (λ is. adds_err _)
-      (λ d is. by_option F (home_of_domain s d) _ _ (λ is2. adds_err _)
-      (λ i is2. by_option F (at_place s.pools i) _ _ (λ is3. adds_err _) (λ pool is3. by_option F (at_place pool.domains d) _ _ (λ is4. adds_err _) (λ domain is4. adds d i pool domain))))
-
-  adds_rtds : (pool : Pool) (d first count : ℕ) (period budget : Option ℕ) (extra : Option Bool) → F (judge_rtds pool d first count period budget extra)
-  adds_rtds pool d first count period budget extra = adds_refused (rtds_fault period budget (rtds_units pool d first count)) _ (adds_ok _ tt)
-
-  adds_frame : (m : Machine) (i major : ℕ) (entries : List ArincEntry) → F (judge_frame m i major entries)
-  adds_frame m i major entries = by_result (frame_entries m entries)
-    where
-      by_result : (r : Result (List FrameEntry) Refusal) → F (elim r as (λ _. Result Plan Refusal) [
-        | Err fault ↦ Err fault
-        | Ok frame ↦ demand (nat_le (sum_by (λ (e : FrameEntry). e.run.0) frame) major) (refusal.FrameLong (sum_by (λ (e : FrameEntry). e.run.0) frame) major) (Ok (plan.ArincSet (pool_number i) (record { major = span major; entries = frame }) reply.Done))
-      ])
-      by_result (Err fault) = adds_err fault
-      by_result (Ok frame) = adds_demand _ _ _ (λ is. adds_ok _ tt)
-
-  -- the pool that a core is added to
-  added : (i : ℕ) (pool : Pool) → at_place s.pools i ≡ Some pool → not (is_kind kinds.Arinc653 (kind_of pool.scheduler.records) && nat_lt 0 (cores_in pool)) ≡ true → (r : ℕ) → Counted is_arinc s i r → ⊥
-  added i pool at passes r counted =
-      let now = counted_core is_arinc s i r counted in
-      let same : now.0 ≡ pool = (let a = now.2 in cc) in
-      let arinc : is_arinc pool.scheduler.records ≡ true = subst (λ (p : Pool). is_arinc p.scheduler.records ≡ true) same now.4 in
-      let some = some_core 0 r now.1 pool.resources (subst (λ (p : Pool). at_place p.resources r ≡ Some now.1) same now.3) in
-      clash (is_kind kinds.Arinc653 (kind_of pool.scheduler.records) && nat_lt 0 (cores_in pool)) (both _ _ arinc some) (not_true _ passes)
-
-  judged_adds : (m : Machine) (c : Command) → F (judge m s c)
-  judged_adds m (command.PoolList None) = adds_ok _ tt
-  judged_adds m (command.PoolList (Some which)) = adds_pool which _ (λ i pool at. adds_ok _ tt)
-  judged_adds m (command.PoolCreate name kind) = adds_refused (name_fault s name (λ i. true)) _ (by_option F (first_empty 0 s.pools) _ _ (λ is. adds_err _) (λ i is. adds_ok _ tt))
-  judged_adds m (command.PoolDestroy which) = adds_pool which _ (λ i pool at. adds_demand (not (i == 0)) _ _ (λ is. adds_demand (cores_in pool == 0 && domains_in pool == 0) _ _ (λ is2. adds_ok _ tt)))
-  judged_adds m (command.PoolRename which name) = adds_pool which _ (λ i pool at. adds_refused (name_fault s name (λ other. not (other == i))) _ (adds_ok _ tt))
-  judged_adds m (command.CpuAdd which cpu) =
-      adds_pool which _ (λ i pool at. adds_demand (nat_lt cpu m.config.processors) _ _ (λ is. adds_refused _ _ (adds_demand _ _ _ (λ is2. adds_ok (plan.CpuAdd (pool_number i) (core_number (cpu / m.config.granularity)) reply.Done) (added i pool at is2)))))
-  judged_adds m (command.CpuRemove which cpu) =
-      adds_pool which _ (λ i pool at. adds_demand (nat_lt cpu m.config.processors) _ _ (λ is. adds_demand (is_some (at_place pool.resources (cpu / m.config.granularity))) _ _ (λ is2. adds_refused (last_core_fault i pool) _ (adds_ok _ tt))))
-  judged_adds m (command.Migrate which target) = adds_domain m which _ (λ d i pool domain. adds_pool target _ (λ j new at. adds_demand (nat_lt 0 (cores_in new)) _ _ (λ is. adds_ok _ tt)))
-  judged_adds m (command.Credit2Dom which weight percent) = adds_domain m which _ (λ d i pool domain. adds_kind kinds.Credit2 i pool _ (adds_range weight 1 65535 _ _ (adds_range percent 0 6400 _ _ (adds_ok _ tt))))
-  judged_adds m (command.Credit2Pool which None) = adds_pool which _ (λ i pool at. adds_kind kinds.Credit2 i pool _ (adds_ok _ tt))
-  judged_adds m (command.Credit2Pool which (Some us)) = adds_pool which _ (λ i pool at. adds_kind kinds.Credit2 i pool _ (adds_demand (us == 0 || in_range 100 500000 us) _ _ (λ is2. adds_ok _ tt)))
-  judged_adds m (command.RtdsDom which None period budget extra) = adds_domain m which _ (λ d i pool domain. adds_kind kinds.Rtds i pool _ (adds_rtds pool d 0 (unit_count m.config.granularity domain) period budget extra))
-  judged_adds m (command.RtdsDom which (Some v) period budget extra) = adds_domain m which _ (λ d i pool domain. adds_kind kinds.Rtds i pool _ (adds_demand (nat_lt v (length domain.vcpus)) _ _ (λ is2. adds_rtds pool d (v / m.config.granularity) 1 period budget extra)))
-  judged_adds m (command.Pause which) = adds_domain m which _ (λ d i pool domain. adds_ok _ tt)
-  judged_adds m (command.Unpause which) = adds_domain m which _ (λ d i pool domain. adds_ok _ tt)
-  judged_adds m (command.ArincSet which major entries) = adds_pool which _ (λ i pool at. adds_kind kinds.Arinc653 i pool _ (adds_demand (in_range 1 10000000000000 major) _ _ (λ is2. adds_frame m i major entries)))
-  judged_adds m (command.Pin which vcpu cpus) =
-      adds_domain m which _ (λ d i pool domain. adds_demand (has_vcpu domain vcpu) _ _ (λ is. adds_refused (cpu_fault m.config.processors cpus) _ (adds_refused (elsewhere_fault m.config pool cpus) _ (adds_ok _ tt))))
-
-  verdict_adds : (m : Machine) (line : CommandLine) (p : Plan) → verdict m s line ≡ Ok p → Adds s p
-  verdict_adds m line p is =
-      elim line.command as (λ r. elim r as (λ _. Result Plan Refusal) [ Err fault ↦ Err (refusal.Syntax fault.place) | Ok c ↦ judge m s c ] ≡ Ok p → Adds s p) [
-        | Err fault ↦ λ e. absurd (cc)
-        | Ok c ↦ λ e. (judged_adds m c).adds p e
-      ] is
+verdict_adds : (m : Machine) (s : State) (line : CommandLine) (p : Plan) → verdict m s line ≡ Ok p → Adds s p
+verdict_adds m s line p is = (let passed = verdict_passed m s line p is in by_plan passed.0 p passed.2)
+  where
+    by_plan : (c : Command) (p : Plan) → Passed m s c p → Adds s p
+    by_plan c (plan.CpuAdd i core answer) passed = added s i.0 passed.0.pool passed.0.at passed.0.meets
+    by_plan c p passed = tt
 
 -- the free cores with a target, after an action
 module _ (T : ℕ → ℕ → Type 0) where
@@ -283,7 +165,7 @@ one_same s next counted targets one = record {
 }
 
 -- a core moves
-one_moved : (m : Machine) (s : State) (t q : ℕ) → is_enabled m s t (Moved q) ≡ true → IsOne s → IsOne (after m s t (Moved q))
+one_moved : (m : Machine) (s : State) (t q : ℕ) → is_enabled m s t (Moved (core_number q)) ≡ true → IsOne s → IsOne (after m s t (Moved (core_number q)))
 one_moved m s t q on one = record {
   cores = λ i x y a b. elim (was i x a) [
     | inl old ↦ elim (was i y b) [ inl old2 ↦ one.cores i x y old old2 | inr come ↦ absurd (one.free i y x come.aims old) ]
@@ -298,17 +180,17 @@ one_moved m s t q on one = record {
   aims = λ i j x y a b. one.aims i j x y (aim x i a).0 (aim y j b).0;
 }
   where
-    was : (i r : ℕ) → Counted is_arinc (after m s t (Moved q)) i r → Counted is_arinc s i r ⊎ Comes s (Moved q) i r
-    was i r counted = counted_after m t is_arinc (arinc_kept t) s (Moved q) on i r counted
+    was : (i r : ℕ) → Counted is_arinc (after m s t (Moved (core_number q))) i r → Counted is_arinc s i r ⊎ Comes s (Moved (core_number q)) i r
+    was i r counted = counted_after m t is_arinc (arinc_kept t) s (Moved (core_number q)) on i r counted
 
-    aim : (r i : ℕ) → Aims (after m s t (Moved q)) r i → Aims s r i × (r ≢ q)
+    aim : (r i : ℕ) → Aims (after m s t (Moved (core_number q))) r i → Aims s r i × (r ≢ q)
     aim r i a = targets_moved t q s r a.core a.at i a.target
 
-    moved : (a b : ℕ) → Moved a ≡ Moved b → a ≡ b
-    moved a b e = cc
+    moved : (a b : ℕ) → Moved (core_number a) ≡ Moved (core_number b) → a ≡ b
+    moved a b e = (let same : core_number a ≡ core_number b = cc in ap (λ (x : ResId). x.0) same)
 
 -- an action that moves no core
-staying : (m : Machine) (s : State) (t : ℕ) (action : Action) → ((q : ℕ) → action ≡ Moved q → ⊥) → is_enabled m s t action ≡ true → (i r : ℕ) → Counted is_arinc (after m s t action) i r → Counted is_arinc s i r
+staying : (m : Machine) (s : State) (t : ℕ) (action : Action) → ((q : ℕ) → action ≡ Moved (core_number q) → ⊥) → is_enabled m s t action ≡ true → (i r : ℕ) → Counted is_arinc (after m s t action) i r → Counted is_arinc s i r
 staying m s t action other on i r counted = elim (counted_after m t is_arinc (arinc_kept t) s action on i r counted) [ inl old ↦ old | inr come ↦ absurd (other r come.moves) ]
 
 -- a command comes where no core has a target
@@ -319,7 +201,7 @@ no_aim m s t on r i aims = by_line (slice_get m.work.commands s.next_command) on
     by_line None is = absurd (cc)
     by_line (Some l) is =
         let still : is_move_under_way s ≡ false = not_true _ (and_right (nat_le l.at.0 t) _ is) in
-        let none = none_passes (λ (e : ℕ × FreeCore). is_some e.1.target) (numbered 0 s.free) (or_right _ _ still) in
+        let none = none_passes (λ (e : ℕ × FreeCore). is_some e.1.target) (numbered_items 0 s.free) (or_right _ _ still) in
         let here = at_numbered (λ (c : FreeCore). is_some c.target ≡ false) 0 s.free none r aims.core aims.at in
         clash (is_some aims.core.target) (is_some_at aims.core.target i aims.target) here
 
@@ -340,7 +222,7 @@ one_command m s t on one = by_line (slice_get m.work.commands s.next_command) (s
           cores = λ i q r a b. one.cores i q r (was i q a) (was i r b);
           free = λ i q r a b. (
               let aimed = targets q a.core a.at i a.target in
-              let adds = subst (Adds s) aimed.3 (verdict_adds s m line p is) in
+              let adds = subst (Adds s) aimed.3 (verdict_adds m s line p is) in
               adds r (subst (λ k. Counted is_arinc s k r) (sym aimed.5) (was i r b)));
           aims = λ i j q r a b. (
               let x = targets q a.core a.at i a.target in
@@ -355,16 +237,16 @@ one_command m s t on one = by_line (slice_get m.work.commands s.next_command) (s
     by_line (Some line) was = by_verdict line (verdict m s line) refl was
 
 -- each action keeps it
-one_at : (m : Machine) (s : State) (action : Action) → ((q : ℕ) → action ≡ Moved q → ⊥) → is_enabled m s s.now action ≡ true → after m s s.now action ≡ after_at_home m.config.granularity s s.now action → IsOne s → IsOne (after m s s.now action)
+one_at : (m : Machine) (s : State) (action : Action) → ((q : ℕ) → action ≡ Moved (core_number q) → ⊥) → is_enabled m s s.now action ≡ true → after m s s.now action ≡ after_at_home m.config.granularity s s.now action → IsOne s → IsOne (after m s s.now action)
 one_at m s action other on at one =
     one_same s (after m s s.now action) (staying m s s.now action other on) (subst (Targets (Aims s)) (sym at) (targets_at (Aims s) m.config.granularity s.now action s (targets_now s))) one
 
 one_after : (m : Machine) (s : State) (action : Action) → is_enabled m s s.now action ≡ true → IsOne s → IsOne (after m s s.now action)
-one_after m s (Moved r) on one = one_moved m s s.now r on one
+one_after m s (Moved r) on one = one_moved m s s.now r.0 on one
 one_after m s Xl on one = one_command m s s.now on one
 one_after m s Stall on one =
     one_same s (after m s s.now Stall) (staying m s s.now Stall (λ q e. absurd (cc)) on) (targets_stall (Aims s) m.config.granularity s.now (slice_get m.work.stalls s.next_stall) s (targets_now s)) one
-one_after m s (DomMoved d) on one = one_same s (after m s s.now (DomMoved d)) (staying m s s.now (DomMoved d) (λ q e. absurd (cc)) on) (targets_dom_moved (Aims s) m.config.granularity s.now d s (targets_now s)) one
+one_after m s (DomMoved d) on one = one_same s (after m s s.now (DomMoved d)) (staying m s s.now (DomMoved d) (λ q e. absurd (cc)) on) (targets_dom_moved (Aims s) m.config.granularity s.now d.0 s (targets_now s)) one
 one_after m s action on one = one_at m s action (λ q e. absurd (cc)) on refl one
 
 -- the opening: a pool has the scheduler of the file, and no free core has a target
@@ -383,13 +265,9 @@ module _ (g : ℕ) (A : Type 0) where
       (λ is. opens_pins d 0 joining.pins _ (gives_with_domain g 0 is_arinc (arinc_kept 0) A d (joining_domain joining) joining.params pool here)) (λ is. here))
 
 arinc_opened : (config : Config) (kind : SchedKind) (params : PoolParams) (domains cores : ℕ) → PoolParamsPass config kind params → is_arinc (fresh_records params domains cores) ≡ true → kind ≡ kinds.Arinc653
-arinc_opened config kind (pool_params.Credit2 limit) domains cores pass is = absurd (cc)
-arinc_opened config kind pool_params.Rtds domains cores pass is = absurd (cc)
-arinc_opened config kind pool_params.Null domains cores pass is = absurd (cc)
 arinc_opened config kinds.Arinc653 (pool_params.Arinc653 frame) domains cores pass is = refl
-arinc_opened config kinds.Credit2 (pool_params.Arinc653 frame) domains cores pass is = absurd pass
-arinc_opened config kinds.Rtds (pool_params.Arinc653 frame) domains cores pass is = absurd pass
-arinc_opened config kinds.Null (pool_params.Arinc653 frame) domains cores pass is = absurd pass
+arinc_opened config other (pool_params.Arinc653 frame) domains cores pass is = absurd pass
+arinc_opened config kind other domains cores pass is = absurd (cc)
 
 one_opening : (m : Machine) → IsChecked m → IsOne (opening m)
 one_opening m checked = record {

@@ -1,7 +1,7 @@
 -- Which cores are in pools whose records pass a test: each action brings such a pool no core but one that is moved to it.
 use Rattle.std.proofs.Common.{◌≡◌, ℕ, suc, Bool, true, false, List, [], ◌∷◌, refl, ◌⊎◌, inl, inr}
 use Rattle.std.specs.Prelude.{Option, Some, None, Ok, Err, is_some, slice_get, unwrap_or, ◌==◌, ◌&&◌, ◌+◌, ◌/◌}
-use Rattle.sched_base.specs.Numbers.{moment, span, domain as domain_number}
+use Rattle.sched_base.specs.Numbers.{moment, span, domain as domain_number, core as core_number}
 use Rattle.sched_base.specs.declared.Span.{Span}
 use Rattle.sched_base.specs.declared.UnitId.{UnitId}
 use Rattle.sched_model.specs.declared.config.DomParams.{DomParams}
@@ -29,7 +29,7 @@ use Rattle.sched_model.specs.Opening.{fresh_core, empty_pool, core_count}
 use Rattle.sched_model.specs.Policy as policy
 use Rattle.sched_model.specs.Policy.{decision_of, kind_of, rtds_record, default_pool_params, default_dom_params}
 use Rattle.sched_model.specs.Pool as pools
-use Rattle.sched_model.specs.Pool.{enabled_in, after_in, settled, change_processor, change_vcpu, set_leaving, set_moving, pause, unpause, set_params, with_domain, without_domain, ask_of}
+use Rattle.sched_model.specs.Pool.{enabled_in, after_in, settled_pool, change_processor, set_leaving, set_moving, pause, unpause, set_params, with_domain, without_domain, ask_of}
 use Rattle.sched_model.specs.Actions.{home_of, home_of_core, home_of_domain, change_pool}
 use Rattle.sched_model.specs.Commands.{carried_out, change_home, set_rtds, pool_of_plan}
 use Rattle.sched_model.specs.Machine.{is_enabled, after, after_stall, after_command, after_moved, after_dom_moved, verdict, settled_at, stall_end_of, left_by, joined_by, is_null}
@@ -45,9 +45,7 @@ use Rattle.turn_laws.specs.Turns.{keeps}
 -- the moment of a Credit2 pool's last reset
 abbrev pub last_of : Records → Option ℕ
 last_of (Credit2Pool records) = records.last_reset
-last_of (RtdsPool domains) = None
-last_of (ArincPool records) = None
-last_of (NullPool kept) = None
+last_of records = None
 
 -- two records of one scheduler, with the last reset at the same moment
 pub record IsAlike (a b : Records) : Type 0 where
@@ -57,7 +55,7 @@ pub record IsAlike (a b : Records) : Type 0 where
 -- the test sees nothing else of the records, and passes after a decision at the moment t only where it passed before it
 pub record IsKeptTest (t : ℕ) (test : Records → Bool) : Type 0 where
   pub sees : (a b : Records) → IsAlike a b → test a ≡ true → test b ≡ true
-  pub decides : (ask : Ask) (scheduler : Scheduler) → ask.at ≡ t → test (decision_of ask scheduler).records ≡ true → test scheduler.records ≡ true
+  pub decides : (ask : Ask) (scheduler : Scheduler) → ask.at.0 ≡ t → test (decision_of ask scheduler).records ≡ true → test scheduler.records ≡ true
 
 -- all other changes leave it
 alike_changed : (t : ℕ) (change : ParamChange) (records : Records) → IsAlike (policy.changed_records records change t) records
@@ -133,8 +131,8 @@ module _ (m : Machine) (t : ℕ) (test : Records → Bool) (kept : IsKeptTest t 
   abbrev Has : ℕ → Pool → Type 0
   Has i pool = HasWhere test (C i) pool
 
-  has_settled : (i : ℕ) (pool : Pool) → Has i pool → Has i (settled t pool)
-  has_settled i pool has = has_next test (C i) pool (settled t pool) has (λ only. (only_inside _ _ g).settles t pool only) (λ here. here)
+  has_settled : (i : ℕ) (pool : Pool) → Has i pool → Has i (settled_pool t pool)
+  has_settled i pool has = has_next test (C i) pool (settled_pool t pool) has (λ only. (only_inside _ _ g).settles t pool only) (λ here. here)
 
   has_stalled : (i p end : ℕ) (pool : Pool) → Has i pool → Has i (change_processor g p (λ q. record q { stall_end = moment end }) pool)
   has_stalled i p end pool has = has_next test (C i) pool (change_processor g p (λ q. record q { stall_end = moment end }) pool) has (λ only. (only_inside _ _ g).stalls p end pool only) (λ here. here)
@@ -176,7 +174,7 @@ module _ (m : Machine) (t : ℕ) (test : Records → Bool) (kept : IsKeptTest t 
   has_left : (i d : ℕ) (pool : Pool) → Has i pool → Has i (left_by t d pool)
   has_left i d pool has =
       let out : Has i (without_domain d pool) = record { cores = λ r c at passes. has.cores r c at (kept.sees _ pool.scheduler.records (alike_parted d pool.scheduler.records) passes) } in
-      by_cond (Has i) (is_null pool.scheduler.records) (settled t (without_domain d pool)) (without_domain d pool) (λ is. has_settled i _ out) (λ is. out)
+      by_cond (Has i) (is_null pool.scheduler.records) (settled_pool t (without_domain d pool)) (without_domain d pool) (λ is. has_settled i _ out) (λ is. out)
 
   -- all pools
   abbrev EachHas : State → Type 0
@@ -186,17 +184,17 @@ module _ (m : Machine) (t : ℕ) (test : Records → Bool) (kept : IsKeptTest t 
   each_change i f s keeps each = EachAt-change_at (λ j. Has j) i f s.pools each keeps
 
   each_at : (s : State) (action : Action) (home : Option ℕ) → elim home [ None ↦ false | Some i ↦ test_at s.pools i (λ pool. enabled_in g t pool action) ] ≡ true
-      → EachHas s → EachHas (elim home as (λ _. State) [ None ↦ s | Some i ↦ change_pool i (λ pool. settled t (after_in g t pool action)) s ])
+      → EachHas s → EachHas (elim home as (λ _. State) [ None ↦ s | Some i ↦ change_pool i (λ pool. settled_pool t (after_in g t pool action)) s ])
   each_at s action None on each = each
   each_at s action (Some i) on each =
-      each_change i (λ pool. settled t (after_in g t pool action)) s (λ pool at has. has_settled i _ (has_acts i pool action (passes_at s.pools i (λ p. enabled_in g t p action) pool at on) has)) each
+      each_change i (λ pool. settled_pool t (after_in g t pool action)) s (λ pool at has. has_settled i _ (has_acts i pool action (passes_at s.pools i (λ p. enabled_in g t p action) pool at on) has)) each
 
   each_home : (d : ℕ) (f : Pool → Pool) (s : State) → ((i : ℕ) (pool : Pool) → Has i pool → Has i (f pool)) → EachHas s → EachHas (change_home d f s)
   each_home d f s keeps each = by_option EachHas (home_of_domain s d) _ _ (λ is. each) (λ i is. each_change i f s (λ pool at. keeps i pool) each)
 
   each_settled : (home : Option ℕ) (s : State) → EachHas s → EachHas (settled_at t home s)
   each_settled None s each = each
-  each_settled (Some i) s each = each_change i (settled t) s (λ pool at. has_settled i pool) each
+  each_settled (Some i) s each = each_change i (settled_pool t) s (λ pool at. has_settled i pool) each
 
   each_carried_out : (p : Plan) (s : State) → EachHas s → EachHas (carried_out m t p s)
   each_carried_out (plan.PoolCreate i name kind answer) s each =
@@ -232,10 +230,10 @@ module _ (m : Machine) (t : ℕ) (test : Records → Bool) (kept : IsKeptTest t 
       (λ is. by_option EachHas (home_of_core s r) _ _ (λ is2. each)
       (λ i is2. by_option EachHas (at_place s.pools i) _ _ (λ is3. each)
       (λ pool is3. by_option EachHas (at_place pool.resources r) _ _ (λ is4. each)
-      (λ c is4. each_change i (λ x. settled t (record x { resources = clear_at r x.resources })) s
+      (λ c is4. each_change i (λ x. settled_pool t (record x { resources = clear_at r x.resources })) s
       (λ x at has. has_settled i _ (record { cores = EachAt-clear_at (λ q c2. test x.scheduler.records ≡ true → C i q) r x.resources has.cores })) each))))
       (λ c is. by_option EachHas c.target _ _ (λ is2. each)
-      (λ i is2. each_change i (λ x. settled t (record x { resources = put_at r (fresh_core c.stall_ends) x.resources })) (record s { free = clear_at r s.free })
+      (λ i is2. each_change i (λ x. settled_pool t (record x { resources = put_at r (fresh_core c.stall_ends) x.resources })) (record s { free = clear_at r s.free })
       (λ x at has. has_settled i _ (record { cores = EachAt-put_at (λ q c2. test x.scheduler.records ≡ true → C i q) r (fresh_core c.stall_ends) x.resources has.cores (λ passes. comes c i is is2) })) each))
 
   each_dom_moved : (d : ℕ) (s : State) → EachHas s → EachHas (after_dom_moved g t d s)
@@ -247,11 +245,11 @@ module _ (m : Machine) (t : ℕ) (test : Records → Bool) (kept : IsKeptTest t 
       (λ j is4. each_change j.0 (joined_by g t d domain) (change_pool i (left_by t d) s) (λ x at. has_joined j.0 d domain x) (each_change i (left_by t d) s (λ x at. has_left i d x) each)))))
 
   -- each action: a core that is moved comes to its target
-  each_after : (s : State) (action : Action) → is_enabled m s t action ≡ true → ((r : ℕ) (c : FreeCore) (i : ℕ) → action ≡ Moved r → at_place s.free r ≡ Some c → c.target ≡ Some i → C i r) → EachHas s → EachHas (after m s t action)
+  each_after : (s : State) (action : Action) → is_enabled m s t action ≡ true → ((r : ℕ) (c : FreeCore) (i : ℕ) → action ≡ Moved (core_number r) → at_place s.free r ≡ Some c → c.target ≡ Some i → C i r) → EachHas s → EachHas (after m s t action)
   each_after s Stall on comes each = each_stall (slice_get m.work.stalls s.next_stall) s each
   each_after s Xl on comes each = by_option EachHas (slice_get m.work.commands s.next_command) _ _ (λ is. each) (λ line is. each_command line s each)
-  each_after s (Moved r) on comes each = each_moved r s (λ c i. comes r c i refl) each
-  each_after s (DomMoved d) on comes each = each_dom_moved d s each
+  each_after s (Moved r) on comes each = each_moved r.0 s (λ c i. comes r.0 c i refl) each
+  each_after s (DomMoved d) on comes each = each_dom_moved d.0 s each
   each_after s action on comes each = each_at s action (home_of g s action) on each
 
 -- whether the pool has the core, and its records pass the test
@@ -269,7 +267,7 @@ pub record Aims (s : State) (r i : ℕ) : Type 0 where
 
 -- the action moves the free core to the pool i
 pub record Comes (s : State) (action : Action) (i r : ℕ) : Type 0 where
-  pub moves : action ≡ Moved r
+  pub moves : action ≡ Moved (core_number r)
   pub aims : Aims s r i
 
 -- the core that a counted one is

@@ -14,7 +14,7 @@ use Rattle.sched_model.specs.declared.state.RtdsUnit.{RtdsUnit}
 use Rattle.sched_model.specs.Places.{at_place, change_item}
 use Rattle.sched_model.specs.Eligible.{rtds_unit}
 use Rattle.sched_model.specs.Rtds as rtds
-use Rattle.sched_model.specs.Credit2.{max_weight, burn_unit, burn_units, burn_all, change_domain, change_unit, give_back, burn_cur, reset, take_budget, set_running, switch_off, refill_domain, refilled, set_weight, set_cap, set_domain}
+use Rattle.sched_model.specs.Credit2.{max_weight, burn_unit, burn_units, burn_all, change_domain, change_unit, give_back, burn_cur, reset, take_budget, set_running, switch_off, refill_domain, refilled_pool, set_weight, set_cap, set_domain}
 use Rattle.sched_laws.specs.Each.{EachAt}
 use Rattle.sched_laws.proofs.EachPlace.{EachAt-change_at, EachAt-change_each, by_option, by_cond}
 use Rattle.sched_laws.proofs.Lists.{length_change_item}
@@ -192,7 +192,7 @@ module _ (On : ℕ → ℕ → ℕ → Type 0) (t : ℕ) where
   abbrev pub Credit2Kept : Credit2Records → Type 0
   Credit2Kept records = EachAt (λ d. DomainKept (On d) t) records.domains
 
-  pub c_refilled : (d : ℕ) (records : Credit2Records) → Credit2Kept records → Credit2Kept (refilled t d records)
+  pub c_refilled : (d : ℕ) (records : Credit2Records) → Credit2Kept records → Credit2Kept (refilled_pool t d records)
   c_refilled d records kept = EachAt-change_at (λ d. DomainKept (On d) t) d (refill_domain (max_weight records) t) records.domains kept (λ x at here. kept_burn_units (On d) t (max_weight records) x here)
 
   pub c_set_domain : (d : ℕ) (weight percent : Option ℕ) (records : Credit2Records) → ((x : Credit2Domain) → at_place records.domains d ≡ Some x → (n : ℕ) (y : Credit2Unit) → slice_get x.units n ≡ Some y → y.burned ≡ None → y.held ≡ pos 0) → Credit2Kept records → Credit2Kept (set_domain t d weight percent records)

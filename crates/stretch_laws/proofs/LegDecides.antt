@@ -17,16 +17,15 @@ use Rattle.sched_model.specs.declared.state.Records.TheVariants.{Credit2Pool, Rt
 use Rattle.sched_model.specs.declared.state.Scheduler.{Scheduler}
 use Rattle.sched_model.specs.declared.state.Pool.{Pool}
 use Rattle.sched_model.specs.declared.state.Resource.{Resource}
-use Rattle.sched_model.specs.Places.{at_place, put_at, clear_at, change_item, has_unit, same_unit}
-use Rattle.sched_model.specs.Arinc.{Window, present_window}
-use Rattle.sched_model.specs.Eligible.{Decision, is_allowed, is_eligible, has_budget, eligible, rtds_unit}
+use Rattle.sched_model.specs.Places.{at_place, put_at, change_item, has_unit, same_unit}
+use Rattle.sched_model.specs.Eligible.{Decision, is_allowed, is_eligible, has_budget, eligible_units, rtds_unit}
 use Rattle.sched_model.specs.Rtds as rtds
-use Rattle.sched_model.specs.Rtds.{budget_left, foremost, unit_before}
+use Rattle.sched_model.specs.Rtds.{budget_left, foremost_unit, unit_before}
 use Rattle.sched_model.specs.Credit2 as credit2
-use Rattle.sched_model.specs.NullScheduler as null
-use Rattle.sched_model.specs.Policy.{decision_of, decision_by, choose_window}
+use Rattle.sched_model.specs.Policy.{decision_of, decision_by}
 use Rattle.sched_model.specs.Pool as pools
-use Rattle.sched_model.specs.Pool.{ask_of, decided, same_choice}
+use Rattle.sched_model.specs.Pool.{ask_of, decided_core, same_choice}
+use Rattle.sched_laws.proofs.Records.{same_decision}
 use Rattle.sched_laws.specs.Each.{EachAt}
 use Rattle.sched_laws.proofs.Bools.{and_right, one_of, or_more}
 use Rattle.sched_laws.proofs.Counts.{same_unit_refl}
@@ -47,15 +46,12 @@ use Rattle.turn_laws.proofs.Tests.{or_later}
 abbrev pub Fresh : UnitId → ℕ → Records → Type 0
 Fresh u t (Credit2Pool records) = EachAt (λ d (x : Credit2Domain). EachItem (λ n (y : Credit2Unit). d ≡ u.dom.0 → n ≡ u.n → (y.burned ≡ Some t) × ((x.cap ≡ 0) ⊎ (pos 0 ≤ℤ y.held))) x.units) records.domains
 Fresh u t (RtdsPool domains) = EachAt (λ d (units : List RtdsUnit). EachItem (λ n (y : RtdsUnit). d ≡ u.dom.0 → n ≡ u.n → (y.burned ≡ Some t) × (0 < y.left)) units) domains
-Fresh u t (ArincPool records) = Unit {0}
-Fresh u t (NullPool kept) = Unit {0}
+Fresh u t any = Unit {0}
 
 -- no unit of a domain without a cap holds anything
 abbrev pub FreeHolds : Records → Type 0
 FreeHolds (Credit2Pool records) = EachAt (λ d (x : Credit2Domain). (n : ℕ) (y : Credit2Unit) → slice_get x.units n ≡ Some y → x.cap ≡ 0 → y.held ≡ pos 0) records.domains
-FreeHolds (RtdsPool domains) = Unit {0}
-FreeHolds (ArincPool records) = Unit {0}
-FreeHolds (NullPool kept) = Unit {0}
+FreeHolds records = Unit {0}
 
 -- a unit that is chosen beside those whose legs go on
 charged_more : (On On2 : ℕ → ℕ → ℕ → Type 0) (t : ℕ) (chosen : Option UnitId) (records : Records)
@@ -84,40 +80,26 @@ charged_more On On2 t chosen (NullPool places) split fresh free kept = tt
 
 -- whether the scheduler charges its units
 abbrev is_charging : Records → Bool
-is_charging (Credit2Pool records) = true
-is_charging (RtdsPool domains) = true
 is_charging (ArincPool records) = false
 is_charging (NullPool kept) = false
+is_charging any = true
 
 none_charged : (On : ℕ → ℕ → ℕ → Type 0) (t : ℕ) (records : Records) → is_charging records ≡ false → Charged On t records
-none_charged On t (Credit2Pool records) none = absurd (cc)
-none_charged On t (RtdsPool domains) none = absurd (cc)
 none_charged On t (ArincPool records) none = tt
 none_charged On t (NullPool kept) none = tt
+none_charged On t any none = absurd (cc)
 
 none_fresh : (u : UnitId) (t : ℕ) (records : Records) → is_charging records ≡ false → Fresh u t records
-none_fresh u t (Credit2Pool records) none = absurd (cc)
-none_fresh u t (RtdsPool domains) none = absurd (cc)
 none_fresh u t (ArincPool records) none = tt
 none_fresh u t (NullPool kept) none = tt
-
-window_records : (ask : Ask) (scheduler : Scheduler) (window : Option Window) → (choose_window ask scheduler window).records ≡ scheduler.records
-window_records ask scheduler None = refl
-window_records ask scheduler (Some window) = refl
-
-null_records : (ask : Ask) (scheduler : Scheduler) (kept : List (Option UnitId)) → is_charging (null.choose_null ask scheduler kept).records ≡ false
-null_records ask scheduler kept = by_cond (λ (d : Decision). is_charging d.records ≡ false) ask.leaving (null.decide ask.core (clear_at ask.core kept) None) (null.decide ask.core kept (null.choice ask scheduler kept)) (λ leaves. refl) (λ stays. by_choice (null.choice ask scheduler kept))
-  where
-    by_choice : (chosen : Option UnitId) → is_charging (null.decide ask.core kept chosen).records ≡ false
-    by_choice None = refl
-    by_choice (Some u) = refl
+none_fresh u t any none = absurd (cc)
 
 all_units : (units : List UnitId) → AllByRecursion (λ u. Unit {0}) units
 all_units [] = tt
 all_units (u ∷ units) = (tt, all_units units)
 
 -- RTDS: a chosen unit has some budget left
-foremost_has : (P : UnitId → Type 0) (domains : List (Option (List RtdsUnit))) (best : Option UnitId) (units : List UnitId) → IfUnit P best → AllByRecursion P units → IfUnit P (foremost domains best units)
+foremost_has : (P : UnitId → Type 0) (domains : List (Option (List RtdsUnit))) (best : Option UnitId) (units : List UnitId) → IfUnit P best → AllByRecursion P units → IfUnit P (foremost_unit domains best units)
 foremost_has P domains best [] own each = own
 foremost_has P domains None (u ∷ units) own each = foremost_has P domains (Some u) units each.0 each.1
 foremost_has P domains (Some best) (u ∷ units) own each = foremost_has P domains (Some (cond (unit_before domains u best) u best)) units (by_cond P (unit_before domains u best) u best (λ is. each.0) (λ is. own)) each.1
@@ -127,10 +109,10 @@ choice_left ask scheduler domains =
     let P : UnitId → Type 0 = λ u. nat_lt 0 (budget_left domains u) ≡ true in
     let next : Scheduler = record scheduler { records = RtdsPool domains } in
     let own : IfUnit P (rtds.own_candidate ask scheduler domains) = by_option (IfUnit P) ask.cur _ _ (λ none. tt)
-    (λ u is. by_cond (IfUnit P) (ask.runnable && is_allowed scheduler ask.home ask.core u && nat_lt 0 (budget_left domains u)) (Some u) None (λ may. and_right (ask.runnable && is_allowed scheduler ask.home ask.core u) _ may) (λ may. tt)) in
-    by_cond (IfUnit P) ask.leaving None (foremost domains (rtds.own_candidate ask scheduler domains) (eligible next ask.home ask.core ask.at)) (λ leaves. tt)
-    (λ stays. foremost_has P domains (rtds.own_candidate ask scheduler domains) (eligible next ask.home ask.core ask.at) own
-    (AllByRecursion-filter (λ u. Unit {0}) P (is_eligible next ask.home ask.core ask.at) (λ u passes all. sym (passes_is domains next ask.home ask.core ask.at u) ∙ and_right (is_allowed next ask.home ask.core u) _ passes) scheduler.queue (all_units scheduler.queue)))
+    (λ u is. by_cond (IfUnit P) (ask.runnable && is_allowed scheduler ask.home.0 ask.core.0 u && nat_lt 0 (budget_left domains u)) (Some u) None (λ may. and_right (ask.runnable && is_allowed scheduler ask.home.0 ask.core.0 u) _ may) (λ may. tt)) in
+    by_cond (IfUnit P) ask.leaving None (foremost_unit domains (rtds.own_candidate ask scheduler domains) (eligible_units next ask.home.0 ask.core.0 ask.at.0)) (λ leaves. tt)
+    (λ stays. foremost_has P domains (rtds.own_candidate ask scheduler domains) (eligible_units next ask.home.0 ask.core.0 ask.at.0) own
+    (AllByRecursion-filter (λ u. Unit {0}) P (is_eligible next ask.home.0 ask.core.0 ask.at.0) (λ u passes all. sym (passes_is domains next ask.home.0 ask.core.0 ask.at.0 u) ∙ and_right (is_allowed next ask.home.0 ask.core.0 u) _ passes) scheduler.queue (all_units scheduler.queue)))
 
 module _ (t : ℕ) (u : UnitId) where
   abbrev Left : ℕ → List RtdsUnit → Type 0
@@ -218,24 +200,24 @@ module _ (On : ℕ → ℕ → ℕ → Type 0) (ask : Ask) (scheduler : Schedule
   abbrev Off : Option UnitId → Type 0
   Off o = (u : UnitId) → o ≡ Some u → (b : ℕ) → On u.dom.0 u.n b → ⊥
 
-  rtds_off : (cur : Option UnitId) (domains : List (Option (List RtdsUnit))) → Off cur → RtdsKept On ask.at domains → RtdsKept On ask.at (rtds.switch_off cur domains)
+  rtds_off : (cur : Option UnitId) (domains : List (Option (List RtdsUnit))) → Off cur → RtdsKept On ask.at.0 domains → RtdsKept On ask.at.0 (rtds.switch_off cur domains)
   rtds_off None domains off kept = kept
-  rtds_off (Some u) domains off kept = rtds_change On ask.at u (λ x. record x { burned = None }) domains (λ x at old b on. absurd (off u refl b on)) kept
+  rtds_off (Some u) domains off kept = rtds_change On ask.at.0 u (λ x. record x { burned = None }) domains (λ x at old b on. absurd (off u refl b on)) kept
 
-  rtds_burned : (cur : Option UnitId) (domains : List (Option (List RtdsUnit))) → Off cur → RtdsKept On ask.at domains → RtdsKept On ask.at (rtds.burn_cur cur ask.at domains)
+  rtds_burned : (cur : Option UnitId) (domains : List (Option (List RtdsUnit))) → Off cur → RtdsKept On ask.at.0 domains → RtdsKept On ask.at.0 (rtds.burn_cur cur ask.at.0 domains)
   rtds_burned None domains off kept = kept
-  rtds_burned (Some u) domains off kept = rtds_change On ask.at u (rtds.burn_to ask.at) domains (λ x at old b on. absurd (off u refl b on)) kept
+  rtds_burned (Some u) domains off kept = rtds_change On ask.at.0 u (rtds.burn_to ask.at.0) domains (λ x at old b on. absurd (off u refl b on)) kept
 
-  rtds_decides : (domains : List (Option (List RtdsUnit))) (chosen : Option UnitId) → Off ask.cur → Off chosen → RtdsKept On ask.at domains → Charged On ask.at (rtds.decide ask domains chosen).records
+  rtds_decides : (domains : List (Option (List RtdsUnit))) (chosen : Option UnitId) → Off ask.cur → Off chosen → RtdsKept On ask.at.0 domains → Charged On ask.at.0 (rtds.decide ask domains chosen).records
   rtds_decides domains None own off kept = rtds_off ask.cur domains own kept
-  rtds_decides domains (Some u) own off kept = rtds_change On ask.at u (λ x. record x { burned = Some ask.at }) (rtds.switch_off ask.cur domains) (λ x at old b on. absurd (off u refl b on)) (rtds_off ask.cur domains own kept)
+  rtds_decides domains (Some u) own off kept = rtds_change On ask.at.0 u (λ x. record x { burned = Some ask.at.0 }) (rtds.switch_off ask.cur domains) (λ x at old b on. absurd (off u refl b on)) (rtds_off ask.cur domains own kept)
 
-  credit2_decides : (records : Credit2Records) (chosen : Option UnitId) → Off ask.cur → Off chosen → Credit2Kept On ask.at records → Charged On ask.at (credit2.decide ask scheduler records chosen).records
-  credit2_decides records None own off kept = c_switch_off On ask.at ask.cur records own kept
+  credit2_decides : (records : Credit2Records) (chosen : Option UnitId) → Off ask.cur → Off chosen → Credit2Kept On ask.at.0 records → Charged On ask.at.0 (credit2.decide ask scheduler records chosen).records
+  credit2_decides records None own off kept = c_switch_off On ask.at.0 ask.cur records own kept
   credit2_decides records (Some u) own off kept =
-      let k : ℕ = credit2.resets_for ask.at u records in
-      let taken : Credit2Records = credit2.change_domain u.dom.0 (credit2.take_budget u.n) (credit2.reset ask.at k records) in
-      c_running On ask.at (Some ask.at) u (credit2.switch_off ask.cur taken) (off u refl) (c_switch_off On ask.at ask.cur taken own (c_take On ask.at u (credit2.reset ask.at k records) (off u refl) (c_reset On ask.at k records kept)))
+      let k : ℕ = credit2.resets_for ask.at.0 u records in
+      let taken : Credit2Records = credit2.change_domain u.dom.0 (credit2.take_budget u.n) (credit2.reset ask.at.0 k records) in
+      c_running On ask.at.0 (Some ask.at.0) u (credit2.switch_off ask.cur taken) (off u refl) (c_switch_off On ask.at.0 ask.cur taken own (c_take On ask.at.0 u (credit2.reset ask.at.0 k records) (off u refl) (c_reset On ask.at.0 k records kept)))
 
   rtds_unit_is : (domains : List (Option (List RtdsUnit))) (chosen : Option UnitId) → (rtds.decide ask domains chosen).unit ≡ chosen
   rtds_unit_is domains None = refl
@@ -245,49 +227,47 @@ module _ (On : ℕ → ℕ → ℕ → Type 0) (ask : Ask) (scheduler : Schedule
   credit2_unit_is records None = refl
   credit2_unit_is records (Some u) = refl
 
-  rtds_fresh : (domains : List (Option (List RtdsUnit))) (chosen : Option UnitId) → IfUnit (λ u. nat_lt 0 (budget_left domains u) ≡ true) chosen → (u : UnitId) → chosen ≡ Some u → Fresh u ask.at (rtds.decide ask domains chosen).records
+  rtds_fresh : (domains : List (Option (List RtdsUnit))) (chosen : Option UnitId) → IfUnit (λ u. nat_lt 0 (budget_left domains u) ≡ true) chosen → (u : UnitId) → chosen ≡ Some u → Fresh u ask.at.0 (rtds.decide ask domains chosen).records
   rtds_fresh domains None left u is = absurd (cc)
-  rtds_fresh domains (Some w) left u is = (let e : w ≡ u = cc in subst (λ x. Fresh x ask.at (rtds.decide ask domains (Some w)).records) e (fresh_rtds ask.at w ask.cur domains left))
+  rtds_fresh domains (Some w) left u is = (let e : w ≡ u = cc in subst (λ x. Fresh x ask.at.0 (rtds.decide ask domains (Some w)).records) e (fresh_rtds ask.at.0 w ask.cur domains left))
 
-  credit2_fresh : (records : Credit2Records) (chosen : Option UnitId) → IfUnit (λ u. credit2.domain_has_budget records u ≡ true) chosen → (u : UnitId) → chosen ≡ Some u → Fresh u ask.at (credit2.decide ask scheduler records chosen).records
+  credit2_fresh : (records : Credit2Records) (chosen : Option UnitId) → IfUnit (λ u. credit2.domain_has_budget records u ≡ true) chosen → (u : UnitId) → chosen ≡ Some u → Fresh u ask.at.0 (credit2.decide ask scheduler records chosen).records
   credit2_fresh records None pays u is = absurd (cc)
-  credit2_fresh records (Some w) pays u is = (let e : w ≡ u = cc in subst (λ x. Fresh x ask.at (credit2.decide ask scheduler records (Some w)).records) e (fresh_credit2 ask.at w ask.cur (credit2.resets_for ask.at w records) records pays))
+  credit2_fresh records (Some w) pays u is = (let e : w ≡ u = cc in subst (λ x. Fresh x ask.at.0 (credit2.decide ask scheduler records (Some w)).records) e (fresh_credit2 ask.at.0 w ask.cur (credit2.resets_for ask.at.0 w records) records pays))
 
   -- what the decision makes of the records
   record IsDecided (d : Decision) : Type 0 where
-    charged : Charged On ask.at d.records
-    fresh : (u : UnitId) → d.unit ≡ Some u → Fresh u ask.at d.records
+    charged : Charged On ask.at.0 d.records
+    fresh : (u : UnitId) → d.unit ≡ Some u → Fresh u ask.at.0 d.records
 
   not_charging : (d : Decision) → is_charging d.records ≡ false → IsDecided d
-  not_charging d none = record { charged = none_charged On ask.at d.records none; fresh = λ u is. none_fresh u ask.at d.records none }
+  not_charging d none = record { charged = none_charged On ask.at.0 d.records none; fresh = λ u is. none_fresh u ask.at.0 d.records none }
 
-  is_decided : Off ask.cur → Off (decision_of ask scheduler).unit → Charged On ask.at scheduler.records → IsDecided (decision_of ask scheduler)
+  is_decided : Off ask.cur → Off (decision_of ask scheduler).unit → Charged On ask.at.0 scheduler.records → IsDecided (decision_of ask scheduler)
   is_decided own off kept = by_records scheduler.records refl
     where
       by_records : (records : Records) → scheduler.records ≡ records → IsDecided (decision_of ask scheduler)
       by_records (Credit2Pool records) is =
-          let burned : Credit2Records = credit2.burn_cur ask.cur ask.at records in
+          let burned : Credit2Records = credit2.burn_cur ask.cur ask.at.0 records in
           let chosen : Option UnitId = credit2.choice ask scheduler burned in
           let same : decision_of ask scheduler ≡ credit2.decide ask scheduler burned chosen = ap (λ (x : Records). decision_by x ask scheduler) is in
           let unit : (credit2.decide ask scheduler burned chosen).unit ≡ chosen = credit2_unit_is burned chosen in
           let off2 : Off chosen = subst Off (ap (λ (d : Decision). d.unit) same ∙ unit) off in
           subst IsDecided (sym same) (record {
-            charged = credit2_decides burned chosen own off2 (c_burn_cur On ask.at ask.cur records (subst (Charged On ask.at) is kept));
-            fresh = λ u e. credit2_fresh burned chosen (choice_pays ask.at (λ d n. Unit {0}) ask scheduler burned) u (sym unit ∙ e);
+            charged = credit2_decides burned chosen own off2 (c_burn_cur On ask.at.0 ask.cur records (subst (Charged On ask.at.0) is kept));
+            fresh = λ u e. credit2_fresh burned chosen (choice_pays ask.at.0 (λ d n. Unit {0}) ask scheduler burned) u (sym unit ∙ e);
           })
       by_records (RtdsPool domains) is =
-          let burned : List (Option (List RtdsUnit)) = rtds.burn_cur ask.cur ask.at domains in
+          let burned : List (Option (List RtdsUnit)) = rtds.burn_cur ask.cur ask.at.0 domains in
           let chosen : Option UnitId = rtds.choice ask scheduler burned in
           let same : decision_of ask scheduler ≡ rtds.decide ask burned chosen = ap (λ (x : Records). decision_by x ask scheduler) is in
           let unit : (rtds.decide ask burned chosen).unit ≡ chosen = rtds_unit_is burned chosen in
           let off2 : Off chosen = subst Off (ap (λ (d : Decision). d.unit) same ∙ unit) off in
           subst IsDecided (sym same) (record {
-            charged = rtds_decides burned chosen own off2 (rtds_burned ask.cur domains own (subst (Charged On ask.at) is kept));
+            charged = rtds_decides burned chosen own off2 (rtds_burned ask.cur domains own (subst (Charged On ask.at.0) is kept));
             fresh = λ u e. rtds_fresh burned chosen (choice_left ask scheduler burned) u (sym unit ∙ e);
           })
-      by_records (ArincPool records) is =
-          not_charging (decision_of ask scheduler) (ap (λ (x : Records). is_charging (decision_by x ask scheduler).records) is ∙ ap is_charging (window_records ask scheduler (cond ask.leaving None (present_window records ask.at)) ∙ is))
-      by_records (NullPool places) is = not_charging (decision_of ask scheduler) (ap (λ (x : Records). is_charging (decision_by x ask scheduler).records) is ∙ null_records ask scheduler places)
+      by_records records is = not_charging (decision_of ask scheduler) (same_decision is_charging (λ a b. refl) (λ a b. refl) (λ a b. refl) scheduler.records ask scheduler refl ∙ ap is_charging is)
 
 -- the units of the queue
 in_queue : (queue : List UnitId) → AllByRecursion (λ u. has_unit queue u ≡ true) queue
@@ -316,7 +296,7 @@ module _ (g t : ℕ) (legs : Legs) (r : ℕ) (c : Resource) (pool : Pool) (at : 
   legs_own None u low is = absurd (cc)
   legs_own (Some w) u low is = at_place-put_at r t legs low
 
-  decided_is : (decided t decision c).cur ≡ decision.unit
+  decided_is : (decided_core t decision c).cur ≡ decision.unit
   decided_is = by_test (λ (x : Resource). x.cur ≡ decision.unit) (same_choice decision.unit c.cur) _ _ (λ is. sym (same_choice_same decision.unit c.cur is)) (λ is. refl)
 
   module _ (others : (k : ℕ) (x : Resource) (u : UnitId) → k ≢ r → at_place pool.resources k ≡ Some x → x.cur ≡ Some u → (has_unit pool.scheduler.queue u ≡ false) × (c.cur ≡ Some u → ⊥)) where
@@ -344,7 +324,7 @@ module _ (g t : ℕ) (legs : Legs) (r : ℕ) (c : Resource) (pool : Pool) (at : 
             | yes e ↦ (t, subst (λ j. at_place next_legs j ≡ Some t) (sym e) (legs_own decision.unit u low (new_unit k x u e at_k own)))
             | no other ↦ (let b = w.have k x u (old_core k x other at_k) own in (b.0, legs_other decision.unit k other ∙ b.1))
           ];
-          charged = charged_more Others (OnSince next_legs (put_at r (decided t decision c) pool.resources)) t decision.unit decision.records (λ d n b on. elim (ℕ_discrete on.0 r) [
+          charged = charged_more Others (OnSince next_legs (put_at r (decided_core t decision c) pool.resources)) t decision.unit decision.records (λ d n b on. elim (ℕ_discrete on.0 r) [
             | yes e ↦ (
                 let new = new_unit on.0 on.1 (record { dom = domain_number d; n = n }) e on.2 on.3 in
                 let leg : Some t ≡ Some b = sym (legs_own decision.unit (record { dom = domain_number d; n = n }) low new) ∙ subst (λ j. at_place next_legs j ≡ Some b) e on.4 in
@@ -353,14 +333,14 @@ module _ (g t : ℕ) (legs : Legs) (r : ℕ) (c : Resource) (pool : Pool) (at : 
           ]) done.fresh free done.charged;
         }
       where
-        old_core : (k : ℕ) (x : Resource) → k ≢ r → at_place (put_at r (decided t decision c) pool.resources) k ≡ Some x → at_place pool.resources k ≡ Some x
-        old_core k x other at_k = sym (at_place-put_at_other r k (decided t decision c) pool.resources other) ∙ at_k
+        old_core : (k : ℕ) (x : Resource) → k ≢ r → at_place (put_at r (decided_core t decision c) pool.resources) k ≡ Some x → at_place pool.resources k ≡ Some x
+        old_core k x other at_k = sym (at_place-put_at_other r k (decided_core t decision c) pool.resources other) ∙ at_k
 
-        new_unit : (k : ℕ) (x : Resource) (u : UnitId) → k ≡ r → at_place (put_at r (decided t decision c) pool.resources) k ≡ Some x → x.cur ≡ Some u → decision.unit ≡ Some u
+        new_unit : (k : ℕ) (x : Resource) (u : UnitId) → k ≡ r → at_place (put_at r (decided_core t decision c) pool.resources) k ≡ Some x → x.cur ≡ Some u → decision.unit ≡ Some u
         new_unit k x u e at_k own =
-            let here : at_place (put_at r (decided t decision c) pool.resources) r ≡ Some (decided t decision c) = at_place-put_at r (decided t decision c) pool.resources (place_below pool.resources r c at) in
-            let there : at_place (put_at r (decided t decision c) pool.resources) r ≡ Some x = subst (λ j. at_place (put_at r (decided t decision c) pool.resources) j ≡ Some x) e at_k in
-            let same : decided t decision c ≡ x = (let s : Some (decided t decision c) ≡ Some x = sym here ∙ there in cc) in
+            let here : at_place (put_at r (decided_core t decision c) pool.resources) r ≡ Some (decided_core t decision c) = at_place-put_at r (decided_core t decision c) pool.resources (place_below pool.resources r c at) in
+            let there : at_place (put_at r (decided_core t decision c) pool.resources) r ≡ Some x = subst (λ j. at_place (put_at r (decided_core t decision c) pool.resources) j ≡ Some x) e at_k in
+            let same : decided_core t decision c ≡ x = (let s : Some (decided_core t decision c) ≡ Some x = sym here ∙ there in cc) in
             sym decided_is ∙ ap (λ (y : Resource). y.cur) same ∙ own
 
         less : IsLegged g t legs pool → Charged Others t pool.scheduler.records

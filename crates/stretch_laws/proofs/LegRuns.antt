@@ -6,7 +6,7 @@ use Rattle.std.specs.List.{list_all}
 use Rattle.std.specs.Option.{IfSome}
 use Rattle.std.proofs.lemmas.Int.{ints}
 use Rattle.std.proofs.lemmas.List.{length-replicate}
-use Rattle.sched_base.specs.Numbers.{moment, span, domain as domain_number}
+use Rattle.sched_base.specs.Numbers.{moment, span, domain as domain_number, core as core_number}
 use Rattle.sched_base.specs.Credit2Numbers.{quota, total as credit2_total}
 use Rattle.sched_base.specs.declared.Span.{Span}
 use Rattle.sched_base.specs.declared.UnitId.{UnitId}
@@ -21,13 +21,13 @@ use Rattle.sched_model.specs.declared.state.State.{State}
 use Rattle.sched_model.specs.declared.state.Pool.{Pool}
 use Rattle.sched_model.specs.declared.state.Resource.{Resource}
 use Rattle.sched_model.specs.declared.state.Records.{Records}
-use Rattle.sched_model.specs.declared.state.Records.TheVariants.{Credit2Pool, RtdsPool, ArincPool, NullPool}
+use Rattle.sched_model.specs.declared.state.Records.TheVariants.{Credit2Pool, RtdsPool}
 use Rattle.sched_model.specs.declared.state.RtdsUnit.{RtdsUnit}
 use Rattle.sched_model.specs.declared.state.Credit2Records.{Credit2Records}
 use Rattle.sched_model.specs.declared.state.Credit2Domain.{Credit2Domain}
 use Rattle.sched_model.specs.declared.state.Credit2Unit.{Credit2Unit}
 use Rattle.sched_model.specs.declared.action.Action.{Action}
-use Rattle.sched_model.specs.declared.action.Action.TheVariants.{Stall, Xl, Moved, DomMoved, Wake, Block, Slice, Repl, Refill, Arrive, Decide, Leave, Save}
+use Rattle.sched_model.specs.declared.action.Action.TheVariants.{Stall, Decide}
 use Rattle.sched_model.specs.Places.{at_place, numbers_from, test_at}
 use Rattle.sched_model.specs.State.{has_core}
 use Rattle.sched_model.specs.Opening.{core_count, fresh_core, with_configured, with_domains, empty_pool, no_pool}
@@ -35,15 +35,15 @@ use Rattle.sched_model.specs.Eligible.{Decision, rtds_unit}
 use Rattle.sched_model.specs.Policy.{decision_of, default_pool_params, default_dom_params, fresh_records, rtds_record}
 use Rattle.sched_model.specs.Commands.{set_rtds_unit}
 use Rattle.sched_model.specs.Pool as pools
-use Rattle.sched_model.specs.Pool.{ask_of, decision_at, enabled_in, after_in, settled, is_held, is_open, first_up}
+use Rattle.sched_model.specs.Pool.{ask_of, decision_at, enabled_in, after_in, settled_pool, is_held, is_open, first_up}
 use Rattle.sched_model.specs.Actions.{home_of_core, change_pool}
 use Rattle.sched_model.specs.Machine.{after, is_enabled, event_of, home_pool}
-use Rattle.sched_model.specs.Runs.{Reached, IsRun, IsNextEvent, action_of, begun, after_event, after_entries}
+use Rattle.sched_model.specs.Runs.{Reached, IsRun, IsNextEvent, action_of, run_start, after_event, after_entries}
 use Rattle.sched_model.specs.Checked.{IsChecked}
 use Rattle.sched_laws.specs.Each.{EachPlace}
 use Rattle.sched_laws.specs.StateLaws.{state_after}
 use Rattle.sched_laws.proofs.EachPlace.{EachAt-change_to, EachPlace-empty, length_set, place_below, by_option, by_cond}
-use Rattle.sched_laws.proofs.Free.{free_after}
+use Rattle.sched_laws.proofs.Free.{now_after}
 use Rattle.sched_laws.proofs.Kept.{IsKept}
 use Rattle.sched_laws.proofs.Lists.{some-test_at, test_at-some, is_some_at}
 use Rattle.sched_laws.proofs.Opened.{each_get, read_map, read_pools, with_configured-resources}
@@ -51,7 +51,7 @@ use Rattle.sched_laws.proofs.OwnUnits.{units_are_own}
 use Rattle.sched_laws.specs.Known.{UnitsAreOwn}
 use Rattle.sched_laws.proofs.Reached as reached
 use Rattle.sched_laws.proofs.Ready.{next_later}
-use Rattle.sched_laws.proofs.Steps.{IsKeptAt}
+use Rattle.sched_laws.proofs.Steps.{IsKeptTo, step_after}
 use Rattle.sched_laws.proofs.StillWaits.{split_run}
 use Rattle.sched_ranges.proofs.BudgetWalk.{CreditFits, n_fresh}
 use Rattle.sched_ranges.proofs.Law.{StateFits, fits_in_runs}
@@ -62,50 +62,28 @@ use Rattle.turn_laws.proofs.Changed.{at_place-change_at}
 use Rattle.turn_laws.proofs.StretchFalls.{legs_push, push_assoc, after_push}
 use Rattle.stretch_laws.proofs.ReachedDecisions.{PoolOf, stands}
 use Rattle.stretch_laws.proofs.LegCharges.{Lasts, limit}
-use Rattle.stretch_laws.proofs.LegSteps.{IsKeptFrom, IsNoDecision, step_after}
 use Rattle.stretch_laws.proofs.LegDecides.{FreeHolds, w_after_decide, legs_other}
 use Rattle.sched_laws.proofs.Events.{kept_settled, kept_processor, kept_by_parts, kept_set_leaving, kept_pause, kept_unpause}
 use Rattle.stretch_laws.proofs.LegWalk.{OnSince, Charged, charged_less, charged_later, IsLegged, Sound, w_parts, w_commands, w_set_moving, w_set_params, w_set_rtds_unit, w_with_domain, w_without_domain, w_core_comes, w_core_goes, w_idle}
 
--- an action leaves the moment
-nothing : (m : Machine) (t : ℕ) → IsKeptAt m t (λ e. Unit {0}) (λ es. Unit {0}) (λ d x. Unit {0}) (λ p. Unit {0}) (λ p. Unit {0})
-nothing m t = record {
-  weakens = λ pool w. tt;
-  settles = λ pool w. tt;
-  stalls = λ p end pool near w. tt;
-  acts = λ pool action on w. tt;
-  leaves = λ r pool w. tt;
-  moves = λ d i pool w. tt;
-  pauses = λ d pool w. tt;
-  unpauses = λ d pool w. tt;
-  changes = λ change pool good w. tt;
-  core_comes = λ r ends pool none good w. tt;
-  rtds = λ period budget extra u pool good w. tt;
-  ends_stall = λ k end ends e es. tt;
-  ends_go = λ r c pool at w. tt;
-  core_goes = λ r pool on w. tt;
-  domain_is = λ d domain pool at w. tt;
-  domain_comes = λ d domain pool stays none comes w. tt;
-  domain_goes = λ d pool on w. tt;
-  domain_leaves = λ d pool null on w. tt;
-  empty = λ kind. tt;
-}
+-- the action of an event that is one of an action
+abbrev pub action_in : Event → Action
+action_in e = unwrap_or (action_of e) Stall
 
-now_after : (m : Machine) (s : State) (action : Action) → (after m s s.now action).now ≡ s.now
-now_after m s action = (free_after m s.now (λ e. Unit {0}) (λ es. Unit {0}) (λ d x. Unit {0}) (λ p. Unit {0}) (λ p. Unit {0}) (nothing m s.now) s action (λ r c at. tt) (λ l is. tt) (λ i pool at. tt)).0
+-- all but the decisions
+abbrev IsNoDecision : Action → Type 0
+IsNoDecision (Decide r) = ⊥
+IsNoDecision _ = Unit {0}
 
 -- what is used of the records of reached states
 sound_of : (m : Machine) (domains count t : ℕ) (records : Records) (resources : List (Option Resource)) → CreditFits m t records resources → RecordsFit domains count t records → Sound records
 sound_of m domains count t (Credit2Pool records) resources credit fits = λ d x at n y get none. elim ((((credit records refl).budgets d x at).units n y get).idle none) [ inl zero_held ↦ zero_held | inr ex ↦ absurd ex ]
 sound_of m domains count t (RtdsPool units) resources credit fits = λ d xs at n y get. (let least = (each_get (RtdsFits t) xs n y (fits.units d xs at) get).next_budget.least in omega (arith, least))
-sound_of m domains count t (ArincPool records) resources credit fits = tt
-sound_of m domains count t (NullPool kept) resources credit fits = tt
+sound_of m domains count t any resources credit fits = tt
 
 free_of : (m : Machine) (t : ℕ) (records : Records) (resources : List (Option Resource)) → CreditFits m t records resources → FreeHolds records
 free_of m t (Credit2Pool records) resources credit = λ d x at n y get none. (((credit records refl).budgets d x at).units n y get).free none
-free_of m t (RtdsPool units) resources credit = tt
-free_of m t (ArincPool records) resources credit = tt
-free_of m t (NullPool kept) resources credit = tt
+free_of m t records resources credit = tt
 
 -- where no core has a unit, none runs, and none holds anything
 charged_idle : (m : Machine) (t : ℕ) (records : Records) (resources : List (Option Resource)) → ((r : ℕ) (c : Resource) → at_place resources r ≡ Some c → c.cur ≡ None) → CreditFits m t records resources → Charged (λ d n b. ⊥) t records
@@ -117,8 +95,7 @@ charged_idle m t (Credit2Pool records) resources idle credit = λ d x at n y get
       omega (arith, ints, held));
 }
 charged_idle m t (RtdsPool units) resources idle credit = λ d xs at n y get b on. absurd on
-charged_idle m t (ArincPool records) resources idle credit = tt
-charged_idle m t (NullPool kept) resources idle credit = tt
+charged_idle m t any resources idle credit = tt
 
 -- other legs that are the same for the cores of the pool
 w_legs : (g t : ℕ) (legs next : Legs) (pool : Pool) → ((k : ℕ) (x : Resource) → at_place pool.resources k ≡ Some x → at_place next k ≡ at_place legs k) → IsLegged g t legs pool → IsLegged g t next pool
@@ -161,40 +138,48 @@ module _ (m : Machine) (checked : IsChecked m) where
   abbrev g : ℕ
   g = m.config.granularity
 
+  -- what is known of a pool of a reached state
+  record IsSoundLeg (t : ℕ) (legs : Legs) (pool : Pool) : Type 0 where
+    leg : IsKeptLeg g t legs pool
+    sound : Sound pool.scheduler.records
+
   -- the steps from a reached state
-  leg_steps : (s : State) → StateFits m s → (legs : Legs) → IsKeptFrom m s (IsKeptLeg g s.now legs)
-  leg_steps s fits legs =
+  leg_steps : (t : ℕ) (legs : Legs) → IsKeptTo m t (λ e. Unit {0}) (λ es. Unit {0}) (λ d x. Unit {0}) IsNoDecision (IsSoundLeg t legs) (IsKeptLeg g t legs) (IsKeptLeg g t legs)
+  leg_steps t legs =
       let own : IsKept g UnitsAreOwn = units_are_own g in
       record {
-        settles = λ pool w. record { own = own.inside.settles s.now pool w.own; legged = kept_settled (w_commands g s.now legs) s.now pool w.legged };
-        stalls = λ p end pool w. record { own = own.inside.stalls p end pool w.own; legged = kept_processor (w_parts g s.now legs) p (λ q. record q { stall_end = moment end }) pool w.legged };
-        acts = λ i pool action at other on w. record { own = own.inside.acts s.now pool action on w.own; legged = kept_by_parts (w_parts g s.now legs) pool action (no_decision action other, sound i pool at) w.legged };
-        leaves = λ r pool w. record { own = own.inside.leaves r pool w.own; legged = kept_set_leaving (w_commands g s.now legs) r pool w.legged };
-        moves = λ d i pool w. record { own = own.inside.moves d i pool w.own; legged = w_set_moving g s.now legs d i pool w.legged };
-        pauses = λ d pool w. record { own = own.inside.pauses d pool w.own; legged = kept_pause (w_commands g s.now legs) d pool w.legged };
-        unpauses = λ d pool w. record { own = own.inside.unpauses d pool w.own; legged = kept_unpause (w_commands g s.now legs) d pool w.legged };
-        changes = λ change i pool at w. record { own = own.inside.changes change s.now pool w.own; legged = w_set_params g s.now legs change pool (sound i pool at) w.legged };
-        core_comes = λ r ends pool none w. record { own = own.core_comes r ends pool none w.own; legged = w_core_comes g s.now legs r ends pool w.legged };
-        rtds = λ period budget extra u pool w. record { own = own_rtds period budget extra u pool w.own; legged = w_set_rtds_unit g s.now legs period budget extra u pool w.legged };
-        core_goes = λ r pool on w. record { own = own.core_goes s.now r pool on w.own; legged = w_core_goes g s.now legs r pool w.legged };
-        domain_comes = λ d domain pool stays none w. record {
-          own = own.domain_comes s.now d domain (default_dom_params pool.scheduler.records) pool stays none w.own;
-          legged = w_with_domain g s.now legs d domain (default_dom_params pool.scheduler.records) pool (other_domain d pool none w.own) w.legged;
+        stays = λ pool w. w.leg;
+        weakens = λ pool w. w;
+        settles = λ pool w. record { own = own.inside.settles t pool w.own; legged = kept_settled (w_commands g t legs) t pool w.legged };
+        stalls = λ p end pool near w. record { own = own.inside.stalls p end pool w.leg.own; legged = kept_processor (w_parts g t legs) p (λ q. record q { stall_end = moment end }) pool w.leg.legged };
+        acts = λ pool action other on w. record { own = own.inside.acts t pool action on w.leg.own; legged = kept_by_parts (w_parts g t legs) pool action (no_decision action other, w.sound) w.leg.legged };
+        leaves = λ r pool w. record { own = own.inside.leaves r pool w.own; legged = kept_set_leaving (w_commands g t legs) r pool w.legged };
+        moves = λ d i pool w. record { own = own.inside.moves d i pool w.own; legged = w_set_moving g t legs d i pool w.legged };
+        pauses = λ d pool w. record { own = own.inside.pauses d pool w.own; legged = kept_pause (w_commands g t legs) d pool w.legged };
+        unpauses = λ d pool w. record { own = own.inside.unpauses d pool w.own; legged = kept_unpause (w_commands g t legs) d pool w.legged };
+        changes = λ change pool good w. record { own = own.inside.changes change t pool w.leg.own; legged = w_set_params g t legs change pool w.sound w.leg.legged };
+        core_comes = λ r ends pool none good w. record { own = own.core_comes r ends pool none w.leg.own; legged = w_core_comes g t legs r ends pool w.leg.legged };
+        rtds = λ period budget extra u pool good w. record { own = own_rtds period budget extra u pool w.own; legged = w_set_rtds_unit g t legs period budget extra u pool w.legged };
+        ends_stall = λ k end ends e es. tt;
+        ends_go = λ r c pool at w. tt;
+        core_goes = λ r pool on w. record { own = own.core_goes t r pool on w.leg.own; legged = w_core_goes g t legs r pool w.leg.legged };
+        domain_is = λ d domain pool at w. tt;
+        domain_comes = λ d domain pool stays none comes w. record {
+          own = own.domain_comes t d domain (default_dom_params pool.scheduler.records) pool stays none w.own;
+          legged = w_with_domain g t legs d domain (default_dom_params pool.scheduler.records) pool (other_domain d pool none w.own) w.legged;
         };
-        domain_goes = λ d pool on w. record { own = own.domain_goes s.now d pool on w.own; legged = w_without_domain g s.now legs d pool w.legged };
+        domain_goes = λ d pool on w. record { own = own.domain_goes t d pool on w.leg.own; legged = w_without_domain g t legs d pool w.leg.legged };
+        domain_leaves = λ d pool null on w. record { own = own.domain_goes t d pool on w.leg.own; legged = w_without_domain g t legs d pool w.leg.legged };
         empty = λ kind. record { own = own.empty m.config (default_pool_params kind); legged = empty_legged kind };
       }
     where
-      no_decision : (action : Action) → IsNoDecision action → (r : ℕ) → action ≡ Decide r → ⊥
+      no_decision : (action : Action) → IsNoDecision action → (r : ℕ) → action ≡ Decide (core_number r) → ⊥
       no_decision action other r is = subst IsNoDecision is other
 
-      sound : (i : ℕ) (pool : Pool) → at_place s.pools i ≡ Some pool → Sound pool.scheduler.records
-      sound i pool at = (let w = fits.pools i pool at in sound_of m (length m.config.domains) (core_count m.config) s.now pool.scheduler.records pool.resources w.credit w.fits.records)
-
-      own_rtds : (period budget : Option Span) (extra : Option Bool) (u : UnitId) (pool : Pool) → UnitsAreOwn pool → UnitsAreOwn (set_rtds_unit s.now period budget extra u pool)
+      own_rtds : (period budget : Option Span) (extra : Option Bool) (u : UnitId) (pool : Pool) → UnitsAreOwn pool → UnitsAreOwn (set_rtds_unit t period budget extra u pool)
       own_rtds period budget extra u pool w =
           by_option UnitsAreOwn (rtds_record pool.scheduler.records u) _ _ (λ is. w)
-          (λ x is. (units_are_own g).inside.changes (changes.«Unit» u (unwrap_or period (span x.next_period)) (unwrap_or budget (span x.next_budget)) (unwrap_or extra x.next_extra)) s.now pool w)
+          (λ x is. (units_are_own g).inside.changes (changes.«Unit» u (unwrap_or period (span x.next_period)) (unwrap_or budget (span x.next_budget)) (unwrap_or extra x.next_extra)) t pool w)
 
       other_domain : (d : ℕ) (pool : Pool) → at_place pool.domains d ≡ None → UnitsAreOwn pool → (r : ℕ) (c : Resource) (u : UnitId) → at_place pool.resources r ≡ Some c → c.cur ≡ Some u → u.dom.0 ≢ d
       other_domain d pool none w r c u at cur same =
@@ -203,11 +188,11 @@ module _ (m : Machine) (checked : IsChecked m) where
           let here : at_place pool.domains d ≡ Some has.0 = subst (λ k. at_place pool.domains k ≡ Some has.0) same has.1 in
           (let e : None ≡ Some has.0 = sym none ∙ here in cc)
 
-      empty_legged : (kind : SchedKind) → IsLegged g s.now legs (empty_pool m.config (default_pool_params kind))
+      empty_legged : (kind : SchedKind) → IsLegged g t legs (empty_pool m.config (default_pool_params kind))
       empty_legged kind =
           let none : (r : ℕ) (c : Resource) → at_place (replicate (core_count m.config) None) r ≡ Some c → c.cur ≡ None = λ r c at. absurd (EachPlace-empty {X = Resource} (λ y. ⊥) (core_count m.config) r c at) in
-          w_idle g s.now legs (empty_pool m.config (default_pool_params kind)) none
-          (charged_idle m s.now (fresh_records (default_pool_params kind) (length m.config.domains) (core_count m.config)) (replicate (core_count m.config) None) none (n_fresh m s.now (default_pool_params kind) (length m.config.domains) (core_count m.config) (replicate (core_count m.config) None)))
+          w_idle g t legs (empty_pool m.config (default_pool_params kind)) none
+          (charged_idle m t (fresh_records (default_pool_params kind) (length m.config.domains) (core_count m.config)) (replicate (core_count m.config) None) none (n_fresh m t (default_pool_params kind) (length m.config.domains) (core_count m.config) (replicate (core_count m.config) None)))
 
   -- the opening: no core has a unit
   opened_cores : (i d : ℕ) (domains : List DomConfig) (pool : Pool) → (with_domains m.config.granularity i d domains pool).resources ≡ pool.resources
@@ -236,7 +221,7 @@ module _ (m : Machine) (checked : IsChecked m) where
     legs = open_legs m before
 
     run_before : IsRun m before
-    run_before = (split_run m (begun m) before (e ∷ []) run).0
+    run_before = (split_run m (run_start m) before (e ∷ []) run).0
 
     fits : StateFits m s
     fits = fits_in_runs m checked before run_before
@@ -247,13 +232,18 @@ module _ (m : Machine) (checked : IsChecked m) where
     -- an action that is no decision
     acted : (action : Action) → IsNoDecision action → is_enabled m s s.now action ≡ true → Then legs (after m s s.now action)
     acted action other on =
-        let steps = step_after m s (IsKeptLeg m.config.granularity s.now legs) (leg_steps s fits legs) action other fits.apart on
-        (λ i pool at. record { own = reached.units_are_own m checked before run_before i pool at; legged = each i pool at }) in
-        λ i pool at. subst (λ t. IsLegged m.config.granularity t legs pool) (sym (now_after m s action)) (steps i pool at).legged
+        let steps = step_after (leg_steps s.now legs) s action other fits.apart (λ r c at. tt) (λ l is. tt) on known in
+        λ i pool at. subst (λ t. IsLegged m.config.granularity t legs pool) (sym (now_after m s s.now action)) (steps i pool at).legged
+      where
+        known : EachPlace (IsSoundLeg s.now legs) s.pools
+        known i pool at = (let w = fits.pools i pool at in record {
+          leg = record { own = reached.units_are_own m checked before run_before i pool at; legged = each i pool at };
+          sound = sound_of m (length m.config.domains) (core_count m.config) s.now pool.scheduler.records pool.resources w.credit w.fits.records;
+        })
 
     -- a decision
     decided_in : (r i : ℕ) (pool : Pool) (c : Resource) → home_of_core s r ≡ Some i → at_place s.pools i ≡ Some pool → at_place pool.resources r ≡ Some c → FreeHolds (decision_of (ask_of m.config.granularity s.now pool r c) pool.scheduler).records
-        → Then (leg_of s.now r (decision_of (ask_of m.config.granularity s.now pool r c) pool.scheduler).unit legs) (change_pool i (λ p. settled s.now (after_in m.config.granularity s.now p (Decide r))) s)
+        → Then (leg_of s.now r (decision_of (ask_of m.config.granularity s.now pool r c) pool.scheduler).unit legs) (change_pool i (λ p. settled_pool s.now (after_in m.config.granularity s.now p (Decide (core_number r)))) s)
     decided_in r i pool c home at has free =
         let of : PoolOf m before pool = record { run = run_before; i = i; at = at } in
         let unit : Option UnitId = (decision_of (ask_of m.config.granularity s.now pool r c) pool.scheduler).unit in
@@ -263,42 +253,42 @@ module _ (m : Machine) (checked : IsChecked m) where
         let places = reached.places_for_cores m checked before run_before i pool at in
         let count = open_legs_count m before in
         omega (arith, inside, places, count)) in
-        let after_one : IsLegged m.config.granularity s.now next (after_in m.config.granularity s.now pool (Decide r)) =
+        let after_one : IsLegged m.config.granularity s.now next (after_in m.config.granularity s.now pool (Decide (core_number r))) =
         subst (λ (o : Option Resource). IsLegged m.config.granularity s.now next (elim o as (λ _. Pool) [ None ↦ pool | Some x ↦ pools.after_decide m.config.granularity s.now r x pool ])) (sym has)
         (w_after_decide m.config.granularity s.now legs r c pool has (stands m checked before pool of r c has).others low free (each i pool at)) in
-        EachAt-change_to (λ j p. (at_place s.pools j ≡ Some p) × IsLegged m.config.granularity s.now legs p) (λ j. IsLegged m.config.granularity s.now next) i (λ p. settled s.now (after_in m.config.granularity s.now p (Decide r))) s.pools (λ j p at_j. (at_j, each j p at_j))
+        EachAt-change_to (λ j p. (at_place s.pools j ≡ Some p) × IsLegged m.config.granularity s.now legs p) (λ j. IsLegged m.config.granularity s.now next) i (λ p. settled_pool s.now (after_in m.config.granularity s.now p (Decide (core_number r)))) s.pools (λ j p at_j. (at_j, each j p at_j))
         (λ j p other here. w_legs m.config.granularity s.now legs next p (λ k x at_k. legs_other m.config.granularity s.now legs r c pool has unit k (λ same. other (fits.apart.cores j i r
         (test_at-some s.pools j (λ y. is_some (at_place y.resources r)) p here.0 (is_some_at (at_place p.resources r) x (subst (λ n. at_place p.resources n ≡ Some x) same at_k)))
         (test_at-some s.pools i (λ y. is_some (at_place y.resources r)) pool at (is_some_at (at_place pool.resources r) c has))))) here.1)
-        (λ p at_p here. (let e2 : pool ≡ p = cc in subst (λ (x : Pool). IsLegged m.config.granularity s.now next (settled s.now (after_in m.config.granularity s.now x (Decide r)))) e2 (kept_settled (w_commands m.config.granularity s.now next) s.now (after_in m.config.granularity s.now pool (Decide r)) after_one)))
+        (λ p at_p here. (let e2 : pool ≡ p = cc in subst (λ (x : Pool). IsLegged m.config.granularity s.now next (settled_pool s.now (after_in m.config.granularity s.now x (Decide (core_number r))))) e2 (kept_settled (w_commands m.config.granularity s.now next) s.now (after_in m.config.granularity s.now pool (Decide (core_number r))) after_one)))
 
     -- what the event of a decision prints as the unit
-    printed_unit : (r i : ℕ) (pool : Pool) (c : Resource) (ev : Event) → ev ≡ event_of m s s.now (Decide r) → home_of_core s r ≡ Some i → at_place s.pools i ≡ Some pool → at_place pool.resources r ≡ Some c
+    printed_unit : (r i : ℕ) (pool : Pool) (c : Resource) (ev : Event) → ev ≡ event_of m s s.now (Decide (core_number r)) → home_of_core s r ≡ Some i → at_place s.pools i ≡ Some pool → at_place pool.resources r ≡ Some c
         → unit_of ev ≡ (decision_of (ask_of m.config.granularity s.now pool r c) pool.scheduler).unit
     printed_unit r i pool c ev is home at has =
-        let home_is : home_pool m s (Decide r) ≡ pool = ap (λ (o : Option ℕ). elim o as (λ _. Pool) [ None ↦ no_pool m.config | Some j ↦ unwrap_or (at_place s.pools j) (no_pool m.config) ]) home ∙ ap (λ (o : Option Pool). unwrap_or o (no_pool m.config)) at in
+        let home_is : home_pool m s (Decide (core_number r)) ≡ pool = ap (λ (o : Option ℕ). elim o as (λ _. Pool) [ None ↦ no_pool m.config | Some j ↦ unwrap_or (at_place s.pools j) (no_pool m.config) ]) home ∙ ap (λ (o : Option Pool). unwrap_or o (no_pool m.config)) at in
         let asks : decision_at m.config.granularity s.now pool r ≡ decision_of (ask_of m.config.granularity s.now pool r c) pool.scheduler =
         ap (λ (o : Option Resource). elim o as (λ _. Decision) [ None ↦ record { unit = None; due = None; reset = 0; records = pool.scheduler.records } | Some x ↦ decision_of (ask_of m.config.granularity s.now pool r x) pool.scheduler ]) has in
         ap unit_of is ∙ ap (λ (p : Pool). (decision_at m.config.granularity s.now p r).unit) home_is ∙ ap (λ (d : Decision). d.unit) asks
 
     -- the state after a decision, and what is known of the pool's records then
-    decided_state : (r : ℕ) (unit : Option UnitId) → is_enabled m s s.now (Decide r) ≡ true → ((i : ℕ) (pool : Pool) (c : Resource) → home_of_core s r ≡ Some i → at_place s.pools i ≡ Some pool → at_place pool.resources r ≡ Some c → unit ≡ (decision_of (ask_of m.config.granularity s.now pool r c) pool.scheduler).unit)
-        → StateFits m (after m s s.now (Decide r)) → Then (leg_of s.now r unit legs) (after m s s.now (Decide r))
+    decided_state : (r : ℕ) (unit : Option UnitId) → is_enabled m s s.now (Decide (core_number r)) ≡ true → ((i : ℕ) (pool : Pool) (c : Resource) → home_of_core s r ≡ Some i → at_place s.pools i ≡ Some pool → at_place pool.resources r ≡ Some c → unit ≡ (decision_of (ask_of m.config.granularity s.now pool r c) pool.scheduler).unit)
+        → StateFits m (after m s s.now (Decide (core_number r))) → Then (leg_of s.now r unit legs) (after m s s.now (Decide (core_number r)))
     decided_state r unit on printed later = by_home (home_of_core s r) refl on later
       where
         -- the state after a decision at the home
         made : Option ℕ → State
-        made home = elim home [ None ↦ s | Some i ↦ change_pool i (λ p. settled s.now (after_in m.config.granularity s.now p (Decide r))) s ]
+        made home = elim home [ None ↦ s | Some i ↦ change_pool i (λ p. settled_pool s.now (after_in m.config.granularity s.now p (Decide (core_number r)))) s ]
 
-        by_home : (home : Option ℕ) → home_of_core s r ≡ home → elim home as (λ _. Bool) [ None ↦ false | Some i ↦ test_at s.pools i (λ pool. enabled_in m.config.granularity s.now pool (Decide r)) ] ≡ true → StateFits m (made home) → Then (leg_of s.now r unit legs) (made home)
+        by_home : (home : Option ℕ) → home_of_core s r ≡ home → elim home as (λ _. Bool) [ None ↦ false | Some i ↦ test_at s.pools i (λ pool. enabled_in m.config.granularity s.now pool (Decide (core_number r))) ] ≡ true → StateFits m (made home) → Then (leg_of s.now r unit legs) (made home)
         by_home None home none fit = absurd (cc)
         by_home (Some i) home may fit =
-            let there = some-test_at s.pools i (λ pool. enabled_in m.config.granularity s.now pool (Decide r)) may in
+            let there = some-test_at s.pools i (λ pool. enabled_in m.config.granularity s.now pool (Decide (core_number r))) may in
             let pool : Pool = there.0 in
             let core = some-test_at pool.resources r (λ (x : Resource). list_all is_held x.processors && is_open x && first_up s.now x) there.2 in
             let c : Resource = core.0 in
-            let next : Pool = settled s.now (after_in m.config.granularity s.now pool (Decide r)) in
-            let at_next : at_place (made (Some i)).pools i ≡ Some next = at_place-change_at i (λ p. settled s.now (after_in m.config.granularity s.now p (Decide r))) s.pools ∙ ap (option_map (λ p. settled s.now (after_in m.config.granularity s.now p (Decide r)))) there.1 in
+            let next : Pool = settled_pool s.now (after_in m.config.granularity s.now pool (Decide (core_number r))) in
+            let at_next : at_place (made (Some i)).pools i ≡ Some next = at_place-change_at i (λ p. settled_pool s.now (after_in m.config.granularity s.now p (Decide (core_number r)))) s.pools ∙ ap (option_map (λ p. settled_pool s.now (after_in m.config.granularity s.now p (Decide (core_number r))))) there.1 in
             let records : next.scheduler.records ≡ (decision_of (ask_of m.config.granularity s.now pool r c) pool.scheduler).records =
             ap (λ (o : Option Resource). (elim o as (λ _. Pool) [ None ↦ pool | Some x ↦ pools.after_decide m.config.granularity s.now r x pool ]).scheduler.records) core.1 in
             let free : FreeHolds next.scheduler.records = free_of m s.now next.scheduler.records next.resources (fit.pools i next at_next).credit in
@@ -306,32 +296,21 @@ module _ (m : Machine) (checked : IsChecked m) where
             (decided_in r i pool c home there.1 core.1 (subst FreeHolds records free))
 
     -- an entry
-    by_event : (ev : Event) → IsNextEvent m s ev (action_of ev) → StateFits m (after_event m ev (action_of ev) (after_entries m (begun m) before)).state → Then (legs_with s.now ev legs) (after_event m ev (action_of ev) (after_entries m (begun m) before)).state
+    by_event : (ev : Event) → IsNextEvent m s ev (action_of ev) → StateFits m (after_event m ev (action_of ev) (after_entries m (run_start m) before)).state → Then (legs_with s.now ev legs) (after_event m ev (action_of ev) (after_entries m (run_start m) before)).state
     by_event (event.Decide r unit due late reset) next later =
         decided_state r.0 unit next.0 (λ i pool c home at has. printed_unit r.0 i pool c (event.Decide r unit due late reset) next.1 home at has) later
-    by_event (event.Arrive p) next later = acted (Arrive p.0) tt next.0
-    by_event (event.Leave p v) next later = acted (Leave p.0) tt next.0
-    by_event (event.Save r u queued) next later = acted (Save r.0) tt next.0
-    by_event (event.Stall p until) next later = acted Stall tt next.0
-    by_event (event.Xl k answer) next later = acted Xl tt next.0
-    by_event (event.Moved r to) next later = acted (Moved r.0) tt next.0
-    by_event (event.DomMoved d to) next later = acted (DomMoved d.0) tt next.0
-    by_event (event.Wake v) next later = acted (Wake v) tt next.0
-    by_event (event.Block p v) next later = acted (Block p.0) tt next.0
-    by_event (event.Slice r) next later = acted (Slice r.0) tt next.0
-    by_event (event.Repl u start deadline budget extra) next later = acted (Repl u) tt next.0
-    by_event (event.Refill d periods budget) next later = acted (Refill d.0) tt next.0
     by_event (event.End n) next later = λ i pool at. w_later m.config.granularity s.now n.0 legs pool (next_later m s n.0 next.1) (each i pool at)
     by_event event.Finish next later = each
+    by_event ev next later = acted (action_in ev) tt next.0
 
     legged_entry : AreLegged m (before ++ e ∷ [])
     legged_entry =
-        let parts = split_run m (begun m) before (e ∷ []) run in
+        let parts = split_run m (run_start m) before (e ∷ []) run in
         let now : e.at.0 ≡ s.now = parts.1.0.moment in
-        let same : after_entries m (begun m) (before ++ e ∷ []) ≡ after_event m e.event (action_of e.event) (after_entries m (begun m) before) = after_push m (begun m) before e in
-        let later : StateFits m (after_event m e.event (action_of e.event) (after_entries m (begun m) before)).state = subst (λ (x : Reached). StateFits m x.state) same (fits_in_runs m checked (before ++ e ∷ []) run) in
+        let same : after_entries m (run_start m) (before ++ e ∷ []) ≡ after_event m e.event (action_of e.event) (after_entries m (run_start m) before) = after_push m (run_start m) before e in
+        let later : StateFits m (after_event m e.event (action_of e.event) (after_entries m (run_start m) before)).state = subst (λ (x : Reached). StateFits m x.state) same (fits_in_runs m checked (before ++ e ∷ []) run) in
         let next_legs : open_legs m (before ++ e ∷ []) ≡ legs_with s.now e.event legs = legs_push (replicate (cores m) None) before e ∙ ap (λ t. legs_with t e.event legs) now in
-        subst (λ (x : Reached). Then (open_legs m (before ++ e ∷ [])) x.state) (sym same) (subst (λ (l : Legs). Then l (after_event m e.event (action_of e.event) (after_entries m (begun m) before)).state) (sym next_legs) (by_event e.event parts.1.0.event later))
+        subst (λ (x : Reached). Then (open_legs m (before ++ e ∷ [])) x.state) (sym same) (subst (λ (l : Legs). Then l (after_event m e.event (action_of e.event) (after_entries m (run_start m) before)).state) (sym next_legs) (by_event e.event parts.1.0.event later))
 
   legged_from : (entries before : List Entry) → IsRun m (before ++ entries) → AreLegged m before → AreLegged m (before ++ entries)
   legged_from [] before run each = subst (AreLegged m) (sym (push_none before)) each
@@ -341,7 +320,7 @@ module _ (m : Machine) (checked : IsChecked m) where
       push_none (x ∷ xs) = ap (λ ys. x ∷ ys) (push_none xs)
   legged_from (e ∷ entries) before run each =
       let run2 : IsRun m ((before ++ e ∷ []) ++ entries) = subst (IsRun m) (sym (push_assoc before e entries)) run in
-      subst (AreLegged m) (push_assoc before e entries) (legged_from entries (before ++ e ∷ []) run2 (legged_entry before e (split_run m (begun m) (before ++ e ∷ []) entries run2).0 each))
+      subst (AreLegged m) (push_assoc before e entries) (legged_from entries (before ++ e ∷ []) run2 (legged_entry before e (split_run m (run_start m) (before ++ e ∷ []) entries run2).0 each))
 
   pub legged_in_runs : (before : List Entry) → IsRun m before → AreLegged m before
   legged_in_runs before run = legged_from before [] run legged_opening

@@ -2,7 +2,7 @@
 use Rattle.std.proofs.Common.{◌≡◌, ◌≢◌, ◌≤◌, ◌<◌, ◌-◌, ℕ, zero, suc, Bool, List, refl, arith, ap, subst, sym, ◌∙◌, inl, inr}
 use Rattle.std.specs.Prelude.{Option, Some, None, slice_get, replicate, unwrap_or, pos, ◌-ℤ◌}
 use Rattle.std.proofs.lemmas.Int.{ints}
-use Rattle.sched_base.specs.Numbers.{span, domain as domain_number, pool as pool_number}
+use Rattle.sched_base.specs.Numbers.{span, domain as domain_number, pool as pool_number, core}
 use Rattle.sched_base.specs.Credit2Numbers.{start_credit}
 use Rattle.sched_base.specs.declared.Moment.{Moment}
 use Rattle.sched_base.specs.declared.Span.{Span}
@@ -31,7 +31,7 @@ use Rattle.sched_model.specs.Policy as policy
 use Rattle.sched_model.specs.Policy.{rtds_record, changed_records, joined_records, parted_records, fresh_records}
 use Rattle.sched_model.specs.Commands.{set_rtds_unit}
 use Rattle.sched_model.specs.Pool as pools
-use Rattle.sched_model.specs.Pool.{after_in, settled, home_cores, reconsidered, change_core, change_processor, change_vcpu, change_domain, change_cores_of, does, started_on, set_leaving, set_moving, set_pending, pause, unpause, set_params, without_domain, with_domain, is_of_domain, is_held, processor_of, guest_of}
+use Rattle.sched_model.specs.Pool.{change_core, change_domain, set_moving, set_params, without_domain, with_domain}
 use Rattle.sched_laws.specs.Each.{EachAt}
 use Rattle.sched_laws.proofs.Events.{LikePlaces, like_was, like_map, like_change_at, like_of_domain, capped, KeepsCore, KeptByCommands, KeptByParts, commands_of, kept_withdrawn, kept_marked, kept_queue_units}
 use Rattle.sched_laws.proofs.EachPlace.{EachAt-put_at, EachAt-clear_at, EachPlace-empty, read_put_at, read_clear_at, by_option}
@@ -50,20 +50,17 @@ HaveLegs legs cores = (r : ℕ) (c : Resource) (u : UnitId) → at_place cores r
 abbrev pub Charged : (ℕ → ℕ → ℕ → Type 0) → ℕ → Records → Type 0
 Charged On t (Credit2Pool records) = Credit2Kept On t records
 Charged On t (RtdsPool domains) = RtdsKept On t domains
-Charged On t (ArincPool records) = Unit {0}
-Charged On t (NullPool kept) = Unit {0}
+Charged On t any = Unit {0}
 
 pub charged_less : (On On2 : ℕ → ℕ → ℕ → Type 0) (t : ℕ) (records : Records) → ((d n b : ℕ) → On2 d n b → On d n b) → Charged On t records → Charged On2 t records
 charged_less On On2 t (Credit2Pool records) less kept = λ d x at n y get. (let k = kept d x at n y get in record { lasts = λ b on. k.lasts b (less d n b on); within = k.within })
 charged_less On On2 t (RtdsPool domains) less kept = λ d units at n y get b on. kept d units at n y get b (less d n b on)
-charged_less On On2 t (ArincPool records) less kept = tt
-charged_less On On2 t (NullPool places) less kept = tt
+charged_less On On2 t any less kept = tt
 
 pub charged_later : (On : ℕ → ℕ → ℕ → Type 0) (t next : ℕ) (records : Records) → t ≤ next → Charged On t records → Charged On next records
 charged_later On t next (Credit2Pool records) past kept = λ d x at n y get. (let k = kept d x at n y get in record { lasts = λ b on. lasts_later b t next y.burned y.held past (k.lasts b on); within = k.within })
 charged_later On t next (RtdsPool domains) past kept = λ d units at n y get b on. lasts_later b t next y.burned (pos y.left -ℤ pos 1) past (kept d units at n y get b on)
-charged_later On t next (ArincPool records) past kept = tt
-charged_later On t next (NullPool places) past kept = tt
+charged_later On t next any past kept = tt
 
 -- each core that has a unit had it
 abbrev pub Had : List (Option Resource) → List (Option Resource) → Type 0
@@ -89,8 +86,7 @@ had_gone r cores k c u at own = (c, (read_clear_at r k cores c at).1, own)
 abbrev pub Sound : Records → Type 0
 Sound (Credit2Pool records) = EachAt (λ d (x : Credit2Domain). (n : ℕ) (y : Credit2Unit) → slice_get x.units n ≡ Some y → y.burned ≡ None → y.held ≡ pos 0) records.domains
 Sound (RtdsPool domains) = EachAt (λ d (units : List RtdsUnit). (n : ℕ) (y : RtdsUnit) → slice_get units n ≡ Some y → 0 < y.next_budget) domains
-Sound (ArincPool records) = Unit {0}
-Sound (NullPool kept) = Unit {0}
+Sound any = Unit {0}
 
 module _ (g t : ℕ) (legs : Legs) where
   pub record IsLegged (pool : Pool) : Type 0 where
@@ -143,14 +139,12 @@ module _ (g t : ℕ) (legs : Legs) where
     r_refill : (records : Records) (d : ℕ) → Charged On t records → Charged On t (policy.refill records t d)
     r_refill (Credit2Pool records) d kept = c_refilled On t d records kept
     r_refill (RtdsPool domains) d kept = kept
-    r_refill (ArincPool records) d kept = tt
-    r_refill (NullPool places) d kept = tt
+    r_refill any d kept = tt
 
     r_parted : (records : Records) (d : ℕ) → Charged On t records → Charged On t (parted_records records d)
     r_parted (Credit2Pool records) d kept = EachAt-clear_at (λ d. DomainKept (On d) t) d records.domains kept
     r_parted (RtdsPool domains) d kept = EachAt-clear_at (λ d (units : List RtdsUnit). EachItem (RtdsUnitKept On t d) units) d domains kept
-    r_parted (ArincPool records) d kept = tt
-    r_parted (NullPool places) d kept = tt
+    r_parted any d kept = tt
 
     -- the same for every unit of a domain that joins
     replicated : {X : Type 0} (P : ℕ → X → Type 0) (count : ℕ) (x : X) → ((n : ℕ) → P n x) → EachItem P (replicate count x)
@@ -175,8 +169,7 @@ module _ (g t : ℕ) (legs : Legs) where
     r_unit : (records : Records) (u : UnitId) (period budget : Span) (extra : Bool) → Charged On t records → Charged On t (changed_records records (changes.«Unit» u period budget extra) t)
     r_unit (Credit2Pool records) u period budget extra kept = kept
     r_unit (RtdsPool domains) u period budget extra kept = rtds_change On t u _ domains (λ x at old b on. old b on) kept
-    r_unit (ArincPool records) u period budget extra kept = tt
-    r_unit (NullPool places) u period budget extra kept = tt
+    r_unit any u period budget extra kept = tt
 
     r_changed : (records : Records) (change : ParamChange) → Sound records → Charged On t records → Charged On t (changed_records records change t)
     r_changed (Credit2Pool records) (changes.Dom d weight percent) sound kept = c_set_domain On t d.0 weight percent records (sound d.0) kept
@@ -189,18 +182,17 @@ module _ (g t : ℕ) (legs : Legs) where
     r_fresh : (params : PoolParams) (domains count : ℕ) → Charged On t (fresh_records params domains count)
     r_fresh (pool_params.Credit2 rate) domains count = λ d x at. absurd (EachPlace-empty {X = Credit2Domain} (λ y. ⊥) domains d x at)
     r_fresh pool_params.Rtds domains count = λ d units at. absurd (EachPlace-empty {X = List RtdsUnit} (λ y. ⊥) domains d units at)
-    r_fresh (pool_params.Arinc653 frame) domains count = tt
-    r_fresh pool_params.Null domains count = tt
+    r_fresh other domains count = tt
 
   -- every event but a decision
-  pub w_parts : KeptByParts g t (λ pool action. ((r : ℕ) → action ≡ Decide r → ⊥) × Sound pool.scheduler.records) IsLegged
+  pub w_parts : KeptByParts g t (λ pool action. ((r : ℕ) → action ≡ Decide (core r) → ⊥) × Sound pool.scheduler.records) IsLegged
   w_parts = record {
     cores = λ cores pool like. w_like cores pool (like_map KeepsCore SameCur pool.resources cores (λ c d keeps. keeps.cur) like);
     domains = λ d f pool count moving. w_same pool (change_domain d f pool) refl refl;
     queues = λ u pool runs. w_same pool (pools.queue_unit u pool) refl refl;
     dequeues = λ d pool. w_same pool (record pool { scheduler = policy.dequeue_domain d pool.scheduler }) refl refl;
     decides = λ r c pool at on. absurd (on.0 r refl);
-    saves = λ r c u pool at is on. w_change_core r pools.saved pool (λ x. refl);
+    saves = λ r c u pool at is on. w_change_core r pools.saved_core pool (λ x. refl);
     replenishes = λ u pool on w. w_records pool (pools.with_records (policy.replenish pool.scheduler.records t u) pool) refl (r_replenish (OnSince legs pool.resources) pool.scheduler.records u on.1 w.charged) w;
     dues = λ r u x old pool on is. w_change_core r (pools.due_within t x.budget) pool (λ c. refl);
     refills = λ d pool on w. w_records pool (pools.with_records (policy.refill pool.scheduler.records t d) pool) refl (r_refill (OnSince legs pool.resources) pool.scheduler.records d w.charged) w;

@@ -9,7 +9,6 @@ pub mod ReachedDecisions
 pub mod CoresByRecords
 pub mod ArincOneCore
 pub mod LegCharges
-pub mod LegSteps
 pub mod LegWalk
 pub mod LegDecides
 pub mod LegRuns

@@ -14,7 +14,7 @@ use Rattle.sched_model.specs.declared.state.Records.TheVariants.{NullPool}
 use Rattle.sched_model.specs.declared.ask.Ask.{Ask}
 use Rattle.sched_model.specs.Places.{at_place, put_at, clear_at, has_unit, is_unit, same_unit}
 use Rattle.sched_model.specs.State.{is_runnable, has_core}
-use Rattle.sched_model.specs.Eligible.{is_allowed, is_eligible, is_placed, passes, eligible}
+use Rattle.sched_model.specs.Eligible.{is_allowed, is_eligible, is_placed, passes, eligible_units}
 use Rattle.sched_model.specs.NullScheduler as null
 use Rattle.sched_model.specs.Policy.{is_better, better_waits}
 use Rattle.sched_model.specs.Pool.{home_cores, ask_of}
@@ -32,11 +32,11 @@ use Rattle.turn_laws.proofs.Waiting.{any_after, any_has, less_waits}
 use Rattle.turn_laws.proofs.Tests.{no_true, or_later}
 
 -- a core is kept for a unit for which it is kept: nothing changes
-released_none : (u : UnitId) (kept : List (Option UnitId)) → ((q : ℕ) → at_place kept q ≡ Some u → ⊥) → null.released (same_unit u) kept ≡ kept
+released_none : (u : UnitId) (kept : List (Option UnitId)) → ((q : ℕ) → at_place kept q ≡ Some u → ⊥) → null.kept_without (same_unit u) kept ≡ kept
 released_none u [] none = refl
 released_none u (None ∷ kept) none = ap (λ xs. None ∷ xs) (released_none u kept (λ q at. none (suc q) at))
 released_none u (Some w ∷ kept) none =
-    elim (same_unit u w) as (λ b. same_unit u w ≡ b → ◌≡◌ {A = List (Option UnitId)} (cond b None (Some w) ∷ null.released (same_unit u) kept) (Some w ∷ kept)) [
+    elim (same_unit u w) as (λ b. same_unit u w ≡ b → ◌≡◌ {A = List (Option UnitId)} (cond b None (Some w) ∷ null.kept_without (same_unit u) kept) (Some w ∷ kept)) [
       | true ↦ λ is. absurd (none zero (ap (λ x. Some x) (sym (same_unit_same u w is))))
       | false ↦ λ is. ap (λ xs. Some w ∷ xs) (released_none u kept (λ q at. none (suc q) at))
     ] refl
@@ -46,23 +46,23 @@ kept_again r u [] at once = absurd (cc)
 kept_again zero u (x ∷ kept) at once = ap (λ xs. Some u ∷ xs) (released_none u kept (λ q at_q. (let e = once (suc q) at_q in omega (arith, e)))) ∙ ap (λ o. o ∷ kept) (sym at)
 kept_again (suc r) u (None ∷ kept) at once = ap (λ xs. None ∷ xs) (kept_again r u kept at (λ q at_q. (let e = once (suc q) at_q in omega (arith, e))))
 kept_again (suc r) u (Some w ∷ kept) at once =
-    elim (same_unit u w) as (λ b. same_unit u w ≡ b → ◌≡◌ {A = List (Option UnitId)} (cond b None (Some w) ∷ put_at r u (null.released (same_unit u) kept)) (Some w ∷ kept)) [
+    elim (same_unit u w) as (λ b. same_unit u w ≡ b → ◌≡◌ {A = List (Option UnitId)} (cond b None (Some w) ∷ put_at r u (null.kept_without (same_unit u) kept)) (Some w ∷ kept)) [
       | true ↦ λ is. absurd (let e = once zero (ap (λ x. Some x) (sym (same_unit_same u w is))) in omega (arith, e))
       | false ↦ λ is. ap (λ xs. Some w ∷ xs) (kept_again r u kept at (λ q at_q. (let e = once (suc q) at_q in omega (arith, e))))
     ] refl
 
-none_found : (test : UnitId → Bool) (xs : List UnitId) → null.earliest (filter test xs) ≡ None → list_any test xs ≡ false
+none_found : (test : UnitId → Bool) (xs : List UnitId) → null.earliest_unit (filter test xs) ≡ None → list_any test xs ≡ false
 none_found test [] none = refl
 none_found test (x ∷ xs) none =
-    elim (test x) as (λ b. null.earliest (cond b (x ∷ filter test xs) (filter test xs)) ≡ None → (b || list_any test xs) ≡ false) [
+    elim (test x) as (λ b. null.earliest_unit (cond b (x ∷ filter test xs) (filter test xs)) ≡ None → (b || list_any test xs) ≡ false) [
       | true ↦ λ e. absurd (cc)
       | false ↦ λ e. none_found test xs e
     ] none
 
-first_has : (test : UnitId → Bool) (xs : List UnitId) (w : UnitId) → null.earliest (filter test xs) ≡ Some w → (has_unit xs w ≡ true) × (test w ≡ true)
+first_has : (test : UnitId → Bool) (xs : List UnitId) (w : UnitId) → null.earliest_unit (filter test xs) ≡ Some w → (has_unit xs w ≡ true) × (test w ≡ true)
 first_has test [] w is = absurd (cc)
 first_has test (x ∷ xs) w is =
-    elim (test x) as (λ b. test x ≡ b → null.earliest (cond b (x ∷ filter test xs) (filter test xs)) ≡ Some w → ((same_unit w x || has_unit xs w) ≡ true) × (test w ≡ true)) [
+    elim (test x) as (λ b. test x ≡ b → null.earliest_unit (cond b (x ∷ filter test xs) (filter test xs)) ≡ Some w → ((same_unit w x || has_unit xs w) ≡ true) × (test w ≡ true)) [
       | true ↦ λ yes e. (let same : x ≡ w = cc in (or_more (same_unit w x) _ (subst (λ y. same_unit y x ≡ true) same (same_unit_refl x)), subst (λ y. test y ≡ true) same yes))
       | false ↦ λ no e. (let r = first_has test xs w e in (or_later (same_unit w x) r.0, r.1))
     ] refl is
@@ -165,7 +165,7 @@ module _ (m : Machine) (t : ℕ) (queue : List UnitId) (affinity : List (Option 
     secure_next : c.leaving ≡ false → (w : UnitId) → choice ≡ Some w → Chosen w → SecureThen m t pool r c r w
     secure_next stays w is chosen =
         let same : kept_next ≡ null.kept_for r w kept = kept_stays stays ∙ ap kept_by is in
-        let at : at_place kept_next r ≡ Some w = ap (λ k. at_place k r) same ∙ at_place-put_at r w (null.released (same_unit w) kept) (let a = inside in let b = length_released (same_unit w) kept in omega (arith, a, b)) in
+        let at : at_place kept_next r ≡ Some w = ap (λ k. at_place k r) same ∙ at_place-put_at r w (null.kept_without (same_unit w) kept) (let a = inside in let b = length_released (same_unit w) kept in omega (arith, a, b)) in
         let has : has_core home r ≡ true = home_has resources r ∙ is_some_at (at_place resources r) c standing.at in
         let allowed = allowed_chosen w chosen in
         let placed : is_placed scheduler kept_next home r w ≡ true = both (is_unit (at_place kept_next r) w && has_core home r) _ (both (is_unit (at_place kept_next r) w) _ (ap (λ o. is_unit o w) at ∙ same_unit_refl w) has) allowed in
@@ -183,7 +183,7 @@ module _ (m : Machine) (t : ℕ) (queue : List UnitId) (affinity : List (Option 
         by_choice (Some w) is =
             let chosen = choice_of c.cur w refl is in
             let apart = standing.others k x u other at cur in
-            at_place-put_at_other r k w (null.released (same_unit w) kept) other
+            at_place-put_at_other r k w (null.kept_without (same_unit w) kept) other
             ∙ at_released (same_unit w) kept k u kept_k (no_true (same_unit w u) (λ same. (
             let e : w ≡ u = same_unit_same w u same in
             elim chosen [
@@ -227,7 +227,7 @@ module _ (m : Machine) (t : ℕ) (queue : List UnitId) (affinity : List (Option 
       idle = λ stays cur none. (
           let chose : choice ≡ None = sym (unit_next stays) ∙ none in
           let same : kept_next ≡ kept = kept_stays stays ∙ ap kept_by chose in
-          let first : null.earliest (eligible scheduler home r t) ≡ None = sym (ap (λ (o : Option UnitId). elim o as (λ _. Option UnitId) [ None ↦ null.placed_or_earliest ask scheduler kept | Some w ↦ cond (ask.runnable && is_placed scheduler kept home r w) (Some w) (null.placed_or_earliest ask scheduler kept) ]) cur) ∙ chose in
+          let first : null.earliest_unit (eligible_units scheduler home r t) ≡ None = sym (ap (λ (o : Option UnitId). elim o as (λ _. Option UnitId) [ None ↦ null.placed_or_earliest ask scheduler kept | Some w ↦ cond (ask.runnable && is_placed scheduler kept home r w) (Some w) (null.placed_or_earliest ask scheduler kept) ]) cur) ∙ chose in
           stirs_none same (ap (λ (o : Option UnitId). better_waits o c.since.0 t r home scheduler) cur ∙ none_found (is_eligible scheduler home r t) queue first));
       few = λ u. (let none = ahead_next u in omega (arith, none));
       others = λ k x u other at cur secure. (

@@ -1,5 +1,6 @@
 -- In the states of runs the decisions of stretches are good ones, and what is left to the machine is bounded: from what the laws of states say, and three
 -- facts of the cores' own units.
+use Rattle.sched_base.specs.Numbers.{core as core_number}
 use Rattle.std.proofs.Common.{◌≡◌, ◌≤◌, ◌<◌, ◌+◌, ◌-◌, ◌*◌, ◌/◌, ℕ, suc, Bool, true, false, List, [], ◌∷◌, refl, arith, ap, cond, subst, sym, ◌∙◌, length, inl, inr}
 use Rattle.std.specs.Prelude.{Option, Some, None, is_some, slice_get, unwrap_or, nat_lt, int_lt, pos, ◌==◌}
 use Rattle.sched_base.specs.RtdsNumbers.{burned_left, burned_level}
@@ -40,7 +41,7 @@ use Rattle.sched_model.specs.Policy.{decision_of}
 use Rattle.sched_model.specs.Pool.{home_cores, ask_of, decision_at, unit_count}
 use Rattle.sched_model.specs.Actions.{home_of_core, units_from}
 use Rattle.sched_model.specs.Machine.{event_of, home_pool}
-use Rattle.sched_model.specs.Runs.{IsRun, IsNextEvent, action_of, begun}
+use Rattle.sched_model.specs.Runs.{IsRun, IsNextEvent, action_of, run_start}
 use Rattle.sched_model.specs.Checked.{IsChecked}
 use Rattle.sched_laws.specs.StateLaws.{state_after}
 use Rattle.sched_laws.proofs.Bools.{and_left, and_right}
@@ -264,8 +265,7 @@ module _ (m : Machine) (checked : IsChecked m) (before : List Entry) (pool : Poo
   few_by : (R : Records) → pool.scheduler.records ≡ R → (u : UnitId) → ahead R u ≤ units m
   few_by (Credit2Pool rs) is u = (let a = credit2_faces.ahead_is rs u in let b = above_most (credit_at (faces rs.domains) u) (faces rs.domains) in let d = credit2_count rs is in omega (arith, a, b, d))
   few_by (RtdsPool xs) is u = (let a = rtds_keys.ahead_is xs u in let b = before_most (key_at (keys xs) u) (keys xs) in let d = rtds_count xs is in omega (arith, a, b, d))
-  few_by (ArincPool arinc) is u = omega arith
-  few_by (NullPool kept) is u = omega arith
+  few_by records is u = omega arith
 
   pub bounded : IsBounded m pool
   bounded = record { few = few_by pool.scheduler.records refl; whole = λ r c at. core_is_whole m checked before of.run of.i pool of.at r c at }
@@ -294,16 +294,16 @@ reset_of (event.Decide core unit due late reset) = reset
 reset_of _ = 0
 
 -- what the event of a decision in a stretch says
-decide_event : (t : ℕ) (legs : Legs) (r : ℕ) (e : Event) → is_in_stretch t legs e ≡ true → action_of e ≡ Some (Decide r) → (has_no_older_leg t legs r ≡ true) × (reset_of e ≡ 0)
+decide_event : (t : ℕ) (legs : Legs) (r : ℕ) (e : Event) → is_in_stretch t legs e ≡ true → action_of e ≡ Some (Decide (core_number r)) → (has_no_older_leg t legs r ≡ true) × (reset_of e ≡ 0)
 decide_event t legs r (event.Decide core unit due late reset) on is =
-    let same : core.0 ≡ r = (let e : Decide core.0 ≡ Decide r = cc in cc) in
+    let same : core.0 ≡ r = (let e : Decide (core_number core.0) ≡ Decide (core_number r) = cc in cc) in
     (subst (λ k. has_no_older_leg t legs k ≡ true) same (and_right (reset == 0) _ on), is_number reset 0 (and_left (reset == 0) _ on))
 decide_event t legs r e on is = absurd (cc)
 
 -- the resets that a decision prints are those that it makes
-pub printed_reset : (m : Machine) (s : State) (e : Event) (i : ℕ) (pool : Pool) (r : ℕ) (c : Resource) → e ≡ event_of m s s.now (Decide r) → home_of_core s r ≡ Some i → at_place s.pools i ≡ Some pool → at_place pool.resources r ≡ Some c → reset_of e ≡ (decision m s.now pool r c).reset
+pub printed_reset : (m : Machine) (s : State) (e : Event) (i : ℕ) (pool : Pool) (r : ℕ) (c : Resource) → e ≡ event_of m s s.now (Decide (core_number r)) → home_of_core s r ≡ Some i → at_place s.pools i ≡ Some pool → at_place pool.resources r ≡ Some c → reset_of e ≡ (decision m s.now pool r c).reset
 printed_reset m s e i pool r c is home at has =
-    let home_is : home_pool m s (Decide r) ≡ pool = ap (λ (o : Option ℕ). elim o as (λ _. Pool) [ None ↦ no_pool m.config | Some j ↦ unwrap_or (at_place s.pools j) (no_pool m.config) ]) home ∙ ap (λ (o : Option Pool). unwrap_or o (no_pool m.config)) at in
+    let home_is : home_pool m s (Decide (core_number r)) ≡ pool = ap (λ (o : Option ℕ). elim o as (λ _. Pool) [ None ↦ no_pool m.config | Some j ↦ unwrap_or (at_place s.pools j) (no_pool m.config) ]) home ∙ ap (λ (o : Option Pool). unwrap_or o (no_pool m.config)) at in
     let asks : decision_at m.config.granularity s.now pool r ≡ decision m s.now pool r c =
     ap (λ (o : Option Resource). elim o as (λ _. Decision) [ None ↦ record { unit = None; due = None; reset = 0; records = pool.scheduler.records } | Some x ↦ decision_of (ask_of m.config.granularity s.now pool r x) pool.scheduler ]) has in
     ap reset_of is ∙ ap (λ (p : Pool). (decision_at m.config.granularity s.now p r).reset) home_is ∙ ap (λ (d : Decision). d.reset) asks
@@ -311,13 +311,13 @@ printed_reset m s e i pool r c is home at has =
 pub decides_well_next : (m : Machine) → IsChecked m → StretchFacts m → DecidesWellNext m
 decides_well_next m checked facts before e run goes_on i r pool c is at has =
     let s : State = state_after m before in
-    let parts = split_run m (begun m) before (e ∷ []) run in
+    let parts = split_run m (run_start m) before (e ∷ []) run in
     let of : PoolOf m before pool = record { run = parts.0; i = i; at = at } in
     let next = parts.1.0 in
     let said = decide_event e.at.0 (open_legs m before) r e.event goes_on is in
     let now : e.at.0 ≡ s.now = next.moment in
     let there : is_some (at_place pool.resources r) ≡ true = is_some_at (at_place pool.resources r) c has in
     let home : home_of_core s r ≡ Some i = core_home s i r (is_apart m checked before parts.0) (test_at-some s.pools i (λ x. is_some (at_place x.resources r)) pool at there) in
-    let event_is : IsNextEvent m s e.event (Some (Decide r)) = subst (IsNextEvent m s e.event) is next.event in
+    let event_is : IsNextEvent m s e.event (Some (Decide (core_number r))) = subst (IsNextEvent m s e.event) is next.event in
     let reset = sym (printed_reset m s e.event i pool r c event_is.1 home at has) ∙ said.1 in
     decides_well m checked before pool of facts r c has (subst (λ t. has_no_older_leg t (open_legs m before) r ≡ true) now said.0) reset

@@ -15,19 +15,20 @@ use Rattle.sched_model.specs.declared.state.Records.TheVariants.{RtdsPool}
 use Rattle.sched_model.specs.declared.ask.Ask.{Ask}
 use Rattle.sched_model.specs.Places.{has_unit}
 use Rattle.sched_model.specs.State.{is_runnable}
-use Rattle.sched_model.specs.Eligible.{is_allowed, is_eligible, passes, eligible, rtds_unit}
+use Rattle.sched_model.specs.Eligible.{is_allowed, is_eligible, passes, eligible_units as eligible, rtds_unit}
 use Rattle.sched_model.specs.Rtds as rtds
-use Rattle.sched_model.specs.Rtds.{unit_before, budget_left, foremost, burn_to}
+use Rattle.sched_model.specs.Rtds.{unit_before, budget_left, foremost_unit, burn_to}
 use Rattle.sched_model.specs.Policy.{is_better, better_waits}
 use Rattle.sched_model.specs.Pool.{home_cores, ask_of}
 use Rattle.sched_laws.proofs.Bools.{and_left, and_right, both, one_of, clash}
 use Rattle.sched_laws.proofs.Choices.{at_unit}
 use Rattle.sched_laws.specs.Counts.{total}
+use Rattle.turn_laws.proofs.BestUnits.{is_best, none_best}
 use Rattle.turn_laws.specs.Stretches.{units}
-use Rattle.turn_laws.specs.Turns.{how_many, is_secure, ahead}
+use Rattle.turn_laws.specs.Turns.{how_many, ahead}
 use Rattle.turn_laws.specs.GoodDecisions.{DecidesWell, StirsNone, Secure, SecureThen, decision, next, Standing}
 use Rattle.turn_laws.proofs.Waiting.{any_after, any_has, less_waits, filter_has, has_filter}
-use Rattle.stretch_laws.proofs.RtdsKeys.{Key, key, keys, Keys, key_at, keys_change, both_before, before_is, left_is, passes_is, ahead_is, keys_before, fewer_before, some_behind, before_most, is_foremost, foremost_none}
+use Rattle.stretch_laws.proofs.RtdsKeys.{Key, key, keys, Keys, key_at, keys_change, both_before, before_is, left_is, passes_is, ahead_is, keys_before, fewer_before, some_behind, before_most, before_order, foremost_scan}
 use Rattle.turn_laws.specs.Turns as turns
 use Rattle.turn_laws.proofs.Tests.{no_true}
 
@@ -130,8 +131,8 @@ module _ (m : Machine) (t : ℕ) (queue : List UnitId) (affinity : List (Option 
         (λ test e. any_after test (decision m t pool r c).unit queue e) is
 
     -- the choice of a core that is not leaving
-    chosen_is : c.leaving ≡ false → chosen ≡ foremost burned own waiting
-    chosen_is stays = ap (λ b. cond b None (foremost burned own waiting)) stays
+    chosen_is : c.leaving ≡ false → chosen ≡ foremost_unit burned own waiting
+    chosen_is stays = ap (λ b. cond b None (foremost_unit burned own waiting)) stays
 
     -- a unit of those that may run
     abbrev May : UnitId → Type 0
@@ -159,8 +160,8 @@ module _ (m : Machine) (t : ℕ) (queue : List UnitId) (affinity : List (Option 
         let e : is_eligible scheduler home r t w ≡ true = sym (eligible_burned r w) ∙ h.1 in
         (at_unit (λ u. runs u ≡ true) w queue h.0 standing.waits, and_left (is_allowed scheduler home r w) _ e, sym (passes_is xs scheduler home r t w) ∙ and_right (is_allowed scheduler home r w) _ e, standing.counted w h.0)
 
-    chosen_may : (w : UnitId) → foremost burned own waiting ≡ Some w → May w
-    chosen_may w is = elim (is_foremost burned own waiting w is).source [ inl e ↦ (own_may w e).1 | inr has ↦ waiting_may w has ]
+    chosen_may : (w : UnitId) → foremost_unit burned own waiting ≡ Some w → May w
+    chosen_may w is = elim (is_best (before_order burned) (foremost_scan burned) own waiting w is).source [ inl e ↦ (own_may w e).1 | inr has ↦ waiting_may w has ]
 
     secure_next : (k : ℕ) (w : UnitId) → runs w ≡ true → is_allowed scheduler home k w ≡ true → nat_lt 0 (budget_left xs w) ≡ true → SecureThen m t pool r c k w
     secure_next k w run allowed left = both (runs w && is_allowed scheduler home k w) _ (both (runs w) _ run allowed) (keeps_next k w ∙ left)
@@ -202,16 +203,16 @@ module _ (m : Machine) (t : ℕ) (queue : List UnitId) (affinity : List (Option 
         let goes_on : (ask.runnable && is_allowed scheduler home r u && nat_lt 0 (budget_left burned u)) ≡ true = both (ask.runnable && is_allowed scheduler home r u) _ (both ask.runnable _ run (and_right (runs u) _ two)) left in
         ap (λ (o : Option UnitId). elim o as (λ _. Option UnitId) [ None ↦ None | Some w ↦ cond (ask.runnable && is_allowed scheduler home r w && nat_lt 0 (budget_left burned w)) (Some w) None ]) cur ∙ ap (λ b. cond b (Some u) None) goes_on
 
-    kept_by : c.leaving ≡ false → (u : UnitId) → c.cur ≡ Some u → Secure m t pool r c r u → (o : Option UnitId) → foremost burned own waiting ≡ o
+    kept_by : c.leaving ≡ false → (u : UnitId) → c.cur ≡ Some u → Secure m t pool r c r u → (o : Option UnitId) → foremost_unit burned own waiting ≡ o
         → (w : UnitId) × ((decision m t pool r c).unit ≡ Some w) × (((w ≡ u) × (ahead (next m t pool r c).records u ≤ ahead scheduler.records u) × StirsNone m t pool r c) ⊎ (ahead (next m t pool r c).records w + 1 ≤ ahead scheduler.records u))
-    kept_by stays u cur secure None is = absurd (let e : Some u ≡ None = sym (own_secure u cur secure) ∙ (foremost_none burned own waiting is).0 in cc)
+    kept_by stays u cur secure None is = absurd (let e : Some u ≡ None = sym (own_secure u cur secure) ∙ (none_best (before_order burned) (foremost_scan burned) own waiting is).0 in cc)
     kept_by stays u cur secure (Some w) is =
-        let f = is_foremost burned own waiting w is in
+        let f = is_best (before_order burned) (foremost_scan burned) own waiting w is in
         let allowed = and_right (runs u) _ (and_left (runs u && is_allowed scheduler home r u) _ secure) in (
           w,
           unit_next ∙ chosen_is stays ∙ is,
           elim (f.over u (own_secure u cur secure)) [
-            | inl e ↦ inl (e, (let a = ahead_next u in omega (arith, a)), stirs_none (none_stirred u cur allowed (λ x has. subst (λ y. unit_before burned x y ≡ false) e (f.none_before x has))))
+            | inl e ↦ inl (e, (let a = ahead_next u in omega (arith, a)), stirs_none (none_stirred u cur allowed (λ x has. subst (λ y. unit_before burned x y ≡ false) e (f.none_better x has))))
             | inr before ↦ inr (
                 let b : both_before (key_at ks w) (key_at ks u) ≡ true = sym (before_is xs w u) ∙ before_same xs burned (sym burned_keys) w u ∙ before in
                 let fewer = fewer_before ks u w b in
@@ -224,15 +225,15 @@ module _ (m : Machine) (t : ℕ) (queue : List UnitId) (affinity : List (Option 
 
     pub rtds_well : DecidesWell m t pool r c
     rtds_well = record {
-      leaves = λ goes. unit_next ∙ ap (λ b. cond b None (foremost burned own waiting)) goes;
+      leaves = λ goes. unit_next ∙ ap (λ b. cond b None (foremost_unit burned own waiting)) goes;
       chosen = λ stays w is. (
           let may = chosen_may w (sym (chosen_is stays) ∙ sym unit_next ∙ is) in
           let a = ahead_next w in
           let b = behind w may.2 in
           (secure_next r w may.0 may.1 may.2, omega (arith, a, b)));
-      kept = λ stays u cur secure. kept_by stays u cur secure (foremost burned own waiting) refl;
+      kept = λ stays u cur secure. kept_by stays u cur secure (foremost_unit burned own waiting) refl;
       idle = λ stays cur none. (
-          let empty : waiting ≡ [] = (foremost_none burned own waiting (sym (chosen_is stays) ∙ sym unit_next ∙ none)).1 in
+          let empty : waiting ≡ [] = (none_best (before_order burned) (foremost_scan burned) own waiting (sym (chosen_is stays) ∙ sym unit_next ∙ none)).1 in
           stirs_none (ap (λ (o : Option UnitId). better_waits o c.since.0 t r home scheduler) cur ∙ no_true (list_any (is_eligible scheduler home r t) queue) (λ is. (
           let w = any_has (is_eligible scheduler home r t) queue is in
           let waits = filter_has (is_eligible (record scheduler { records = RtdsPool burned }) home r t) queue w.0 w.1 (eligible_burned r w.0 ∙ w.2) in

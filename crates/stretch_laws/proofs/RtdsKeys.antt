@@ -1,21 +1,19 @@
 -- The keys of RTDS units, which alone decide which of them comes first.
-use Rattle.std.proofs.Common.{◌≡◌, ◌≤◌, ◌+◌, ℕ, zero, suc, Bool, true, false, not, List, [], ◌∷◌, refl, arith, ap, cond, subst, sym, ◌∙◌, ◌⊎◌, inl, inr}
+use Rattle.std.proofs.Common.{◌≡◌, ◌≤◌, ◌+◌, ℕ, zero, suc, Bool, true, false, not, List, [], ◌∷◌, refl, arith, ap, sym, ◌∙◌, ◌⊎◌, inl, inr}
 use Rattle.std.specs.Prelude.{Option, Some, None, map, option_map, slice_get, nat_lt, ◌&&◌, ◌||◌, ◌==◌}
 use Rattle.sched_base.specs.declared.UnitId.{UnitId}
 use Rattle.sched_model.specs.declared.state.RtdsUnit.{RtdsUnit}
 use Rattle.sched_model.specs.declared.state.Scheduler.{Scheduler}
 use Rattle.sched_model.specs.declared.state.Records.TheVariants.{RtdsPool}
-use Rattle.sched_model.specs.Places.{at_place, change_at, change_item, has_unit, same_unit}
+use Rattle.sched_model.specs.Places.{at_place, change_at, change_item}
 use Rattle.sched_model.specs.Eligible.{rtds_unit, passes}
-use Rattle.sched_model.specs.Rtds.{is_before, unit_before, budget_left, foremost, change_unit}
-use Rattle.sched_laws.proofs.Bools.{one_of, or_more, either, clash}
-use Rattle.sched_laws.proofs.Choices.{same_unit_same}
-use Rattle.sched_laws.proofs.Counts.{same_unit_refl}
+use Rattle.sched_model.specs.Rtds.{is_before, unit_before, budget_left, foremost_unit, change_unit}
+use Rattle.sched_laws.proofs.Bools.{either, clash}
 use Rattle.sched_laws.specs.Counts.{total}
 use Rattle.sched_laws.proofs.EachPlace.{by_option}
 use Rattle.turn_laws.specs.Turns.{how_many, one, goes_before, ahead}
 use Rattle.turn_laws.proofs.Sums.{count_no_more, count_less, total_no_more, total_less}
-use Rattle.turn_laws.proofs.Tests.{or_later}
+use Rattle.turn_laws.proofs.BestUnits.{IsOrder, IsScan}
 use Rattle.turn_laws.specs.Stretches.{units}
 
 -- a level, a deadline and what is left of the budget
@@ -118,10 +116,6 @@ pub keys_change : (u : UnitId) (f : RtdsUnit → RtdsUnit) (domains : List (Opti
 keys_change u f domains same =
     keys_change_at u.dom.0 (change_item u.n f) domains (λ xs at. map_change_item u.n f xs (λ x has. same x (ap (λ (o : Option (List RtdsUnit)). elim o as (λ _. Option RtdsUnit) [ None ↦ None | Some units ↦ slice_get units u.n ]) at ∙ has)))
 
--- the order of keys
-nat_lt_irrefl : (n : ℕ) → nat_lt n n ≡ false
-nat_lt_irrefl n = grind arith
-
 pub key_irrefl : (a : Key) → key_before a a ≡ false
 key_irrefl a = grind arith
 
@@ -173,77 +167,13 @@ some_behind ks w k is =
 pub before_most : (o : Option Key) (ks : Keys) → keys_before o ks ≤ total (λ (xs : List Key). how_many (λ x. true) xs) ks
 before_most o ks = total_no_more (λ (xs : List Key). how_many (λ x. both_before (Some x) o) xs) (λ (xs : List Key). how_many (λ x. true) xs) (λ xs. count_no_more (λ x. both_before (Some x) o) (λ x. true) (λ x y. refl) xs) ks
 
--- what the foremost of some units is: one of them, before which none of them runs
-pub record IsForemost (domains : List (Option (List RtdsUnit))) (best : Option UnitId) (xs : List UnitId) (w : UnitId) : Type 0 where
-  pub source : (best ≡ Some w) ⊎ (has_unit xs w ≡ true)
-  pub none_before : (e : UnitId) → has_unit xs e ≡ true → unit_before domains e w ≡ false
-  pub over : (b : UnitId) → best ≡ Some b → (w ≡ b) ⊎ (unit_before domains w b ≡ true)
+-- which of two units comes before the other is an order, and the foremost unit is the best one by it
+pub before_order : (domains : List (Option (List RtdsUnit))) → IsOrder (unit_before domains)
+before_order domains = record {
+  irrefl = λ u. before_is domains u u ∙ both_irrefl (key_at (keys domains) u);
+  trans = λ a b e x y. before_is domains a e ∙ both_trans (key_at (keys domains) a) (key_at (keys domains) b) (key_at (keys domains) e) (sym (before_is domains a b) ∙ x) (sym (before_is domains b e) ∙ y);
+  least = λ a b e x y. before_is domains e a ∙ both_least (key_at (keys domains) a) (key_at (keys domains) b) (key_at (keys domains) e) (sym (before_is domains a b) ∙ x) (sym (before_is domains e b) ∙ y);
+}
 
-module _ (domains : List (Option (List RtdsUnit))) where
-  irrefl : (u : UnitId) → unit_before domains u u ≡ false
-  irrefl u = before_is domains u u ∙ both_irrefl (key_at (keys domains) u)
-
-  least : (a b e : UnitId) → unit_before domains a b ≡ true → unit_before domains e b ≡ false → unit_before domains e a ≡ false
-  least a b e x y = before_is domains e a ∙ both_least (key_at (keys domains) a) (key_at (keys domains) b) (key_at (keys domains) e) (sym (before_is domains a b) ∙ x) (sym (before_is domains e b) ∙ y)
-
-  trans : (a b e : UnitId) → unit_before domains a b ≡ true → unit_before domains b e ≡ true → unit_before domains a e ≡ true
-  trans a b e x y = before_is domains a e ∙ both_trans (key_at (keys domains) a) (key_at (keys domains) b) (key_at (keys domains) e) (sym (before_is domains a b) ∙ x) (sym (before_is domains b e) ∙ y)
-
-  -- a unit is not before one that is it, or is before it
-  not_before : (w b : UnitId) → (w ≡ b) ⊎ (unit_before domains w b ≡ true) → unit_before domains b w ≡ false
-  not_before w b over = elim over [
-    | inl e ↦ subst (λ x. unit_before domains b x ≡ false) (sym e) (irrefl b)
-    | inr before ↦ least w b b before (irrefl b)
-  ]
-
-  pub is_foremost : (best : Option UnitId) (xs : List UnitId) (w : UnitId) → foremost domains best xs ≡ Some w → IsForemost domains best xs w
-  is_foremost best [] w is = record {
-    source = inl is;
-    none_before = λ e has. absurd (cc);
-    over = λ b best_is. inl (let e : Some w ≡ Some b = sym is ∙ best_is in cc);
-  }
-  is_foremost None (u ∷ xs) w is =
-      let r = is_foremost (Some u) xs w is in
-      record {
-        source = inr (elim r.source [ inl e ↦ (let same : u ≡ w = cc in or_more (same_unit w u) _ (subst (λ x. same_unit x u ≡ true) same (same_unit_refl u))) | inr has ↦ or_later (same_unit w u) has ]);
-        none_before = λ e has. elim (one_of (same_unit e u) (has_unit xs e) has) [
-          | inl same ↦ subst (λ x. unit_before domains x w ≡ false) (sym (same_unit_same e u same)) (not_before w u (r.over u refl))
-          | inr rest ↦ r.none_before e rest
-        ];
-        over = λ b best_is. absurd (cc);
-      }
-  is_foremost (Some b) (u ∷ xs) w is =
-      elim (unit_before domains u b) as (λ t. unit_before domains u b ≡ t → foremost domains (Some (cond t u b)) xs ≡ Some w → IsForemost domains (Some b) (u ∷ xs) w) [
-        | true ↦ λ before h. (
-            let r = is_foremost (Some u) xs w h in
-            record {
-              source = inr (elim r.source [ inl e ↦ (let same : u ≡ w = cc in or_more (same_unit w u) _ (subst (λ x. same_unit x u ≡ true) same (same_unit_refl u))) | inr has ↦ or_later (same_unit w u) has ]);
-              none_before = λ e has. elim (one_of (same_unit e u) (has_unit xs e) has) [
-                | inl same ↦ subst (λ x. unit_before domains x w ≡ false) (sym (same_unit_same e u same)) (not_before w u (r.over u refl))
-                | inr rest ↦ r.none_before e rest
-              ];
-              over = λ b2 best_is. (
-                  let same : b ≡ b2 = cc in
-                  inr (subst (λ x. unit_before domains w x ≡ true) same (elim (r.over u refl) [ inl e ↦ subst (λ x. unit_before domains x b ≡ true) (sym e) before | inr wu ↦ trans w u b wu before ])));
-            })
-        | false ↦ λ not h. (
-            let r = is_foremost (Some b) xs w h in
-            record {
-              source = elim r.source [ inl e ↦ inl e | inr has ↦ inr (or_later (same_unit w u) has) ];
-              none_before = λ e has. elim (one_of (same_unit e u) (has_unit xs e) has) [
-                | inl same ↦ subst (λ x. unit_before domains x w ≡ false) (sym (same_unit_same e u same)) (elim (r.over b refl) [ inl e2 ↦ subst (λ x. unit_before domains u x ≡ false) (sym e2) not | inr wb ↦ least w b u wb not ])
-                | inr rest ↦ r.none_before e rest
-              ];
-              over = r.over;
-            })
-      ] refl is
-
-  foremost_some : (b : UnitId) (xs : List UnitId) → foremost domains (Some b) xs ≡ None → ⊥
-  foremost_some b [] is = absurd (cc)
-  foremost_some b (u ∷ xs) is = foremost_some (cond (unit_before domains u b) u b) xs is
-
-  -- where none is foremost, there is none
-  pub foremost_none : (best : Option UnitId) (xs : List UnitId) → foremost domains best xs ≡ None → (best ≡ None) × (xs ≡ [])
-  foremost_none best [] is = (is, refl)
-  foremost_none None (u ∷ xs) is = absurd (foremost_some u xs is)
-  foremost_none (Some b) (u ∷ xs) is = absurd (foremost_some b (u ∷ xs) is)
+pub foremost_scan : (domains : List (Option (List RtdsUnit))) → IsScan (unit_before domains) (foremost_unit domains)
+foremost_scan domains = record { ends = λ best. refl; starts = λ u xs. refl; goes_on = λ b u xs. refl }

@@ -3,7 +3,7 @@ use Rattle.std.proofs.Common.{◌≡◌, ◌≤◌, true, List, ◌++◌, arith,
 use Rattle.sched_model.specs.declared.event.Entry.{Entry}
 use Rattle.sched_model.specs.declared.machine.Machine.{Machine}
 use Rattle.sched_model.specs.Checked.{IsChecked}
-use Rattle.sched_model.specs.Runs.{IsRun, begun}
+use Rattle.sched_model.specs.Runs.{IsRun, run_start}
 use Rattle.sched_laws.specs.StateLaws.{state_after}
 use Rattle.sched_laws.proofs.StillWaits.{split_run}
 use Rattle.turn_laws.specs.Stretches.{open_legs, is_stretch, most_in_stretch}
@@ -26,7 +26,7 @@ stretch_facts m checked = record {
 pub stretch_ends : (m : Machine) → IsChecked m → (before stretch : List Entry) → IsRun m (before ++ stretch) → is_stretch (open_legs m before) stretch ≡ true → length stretch ≤ most_turns m
 stretch_ends m checked before stretch run is =
     let facts = stretch_facts m checked in
-    let parts = split_run m (begun m) before stretch run in
+    let parts = split_run m (run_start m) before stretch run in
     let a = stretch_falls m checked (decides_well_next m checked facts) stretch before run is in
     let b = turns_left_most m (state_after m before) (λ i pool at. bounded m checked before pool (record { run = parts.0; i = i; at = at })) in
     omega (arith, a, b)

@@ -15,6 +15,8 @@ ghost use Rattle.stretch_laws.specs.StretchEnds.{IsStretchOf};
 /// A stretch is a list of entries of one moment that follow one another: arrivals, leavings, saves, and decisions that reset no
 /// credits and end no leg that began at an earlier moment.
 pub fn law_stretch_ends()
-    ensures turns { (m : Machine) → IsChecked m → (before stretch : List Entry) → IsStretchOf m before stretch → length stretch ≤ most_turns m }
-    ensures entries { (m : Machine) → IsChecked m → (before stretch : List Entry) → IsStretchOf m before stretch → length stretch ≤ most_in_stretch m }
+    ensures turns { (m : Machine) → IsChecked m → (before stretch : List Entry) →
+        IsStretchOf m before stretch → length stretch ≤ most_turns m }
+    ensures entries { (m : Machine) → IsChecked m → (before stretch : List Entry) →
+        IsStretchOf m before stretch → length stretch ≤ most_in_stretch m }
 {}

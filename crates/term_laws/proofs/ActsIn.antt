@@ -1,4 +1,5 @@
 -- An action in the pool of its subject, and what holds of the pool that has a unit's domain.
+use Rattle.sched_base.specs.Numbers.{core, domain}
 use Rattle.std.proofs.Common.{◌≡◌, ◌≢◌, ℕ, Bool, true, false, List, refl, ap, subst, sym, ◌∙◌, ◌⊎◌, inl, inr}
 use Rattle.std.specs.Prelude.{Option, Some, None, option_map, unwrap_or, is_some}
 use Rattle.sched_base.specs.declared.UnitId.{UnitId}
@@ -11,7 +12,7 @@ use Rattle.sched_model.specs.declared.state.State.{State}
 use Rattle.sched_model.specs.declared.state.Pool.{Pool}
 use Rattle.sched_model.specs.Places.{at_place, test_at}
 use Rattle.sched_model.specs.Opening.{no_pool}
-use Rattle.sched_model.specs.Pool.{enabled_in, after_in, settled}
+use Rattle.sched_model.specs.Pool.{enabled_in, after_in, settled_pool}
 use Rattle.sched_model.specs.Actions.{home_of, change_pool}
 use Rattle.sched_model.specs.Machine.{is_enabled, enabled_at_home, after, after_at_home, home_pool, event_of}
 use Rattle.sched_model.specs.Runs.{action_of}
@@ -37,7 +38,7 @@ pub record ActsIn (m : Machine) (s : State) (t : ℕ) (action : Action) : Type 0
   pub at : at_place s.pools j ≡ Some pool
   pub home : home_of m.config.granularity s action ≡ Some j
   pub enabled : enabled_in m.config.granularity t pool action ≡ true
-  pub state : after_at_home m.config.granularity s t action ≡ change_pool j (λ p. settled t (after_in m.config.granularity t p action)) s
+  pub state : after_at_home m.config.granularity s t action ≡ change_pool j (λ p. settled_pool t (after_in m.config.granularity t p action)) s
   pub pool_is : home_pool m s action ≡ pool
 
 pub acts_in : (m : Machine) (s : State) (t : ℕ) (action : Action) → enabled_at_home m s t action ≡ true → ActsIn m s t action
@@ -53,20 +54,20 @@ acts_in m s t action on = go (home_of m.config.granularity s action) refl on
           at = x.1;
           home = is;
           enabled = x.2;
-          state = ap (λ (o : Option ℕ). elim o as (λ _. State) [ None ↦ s | Some k ↦ change_pool k (λ p. settled t (after_in m.config.granularity t p action)) s ]) is;
+          state = ap (λ (o : Option ℕ). elim o as (λ _. State) [ None ↦ s | Some k ↦ change_pool k (λ p. settled_pool t (after_in m.config.granularity t p action)) s ]) is;
           pool_is = ap (λ (o : Option ℕ). elim o as (λ _. Pool) [ None ↦ no_pool m.config | Some k ↦ unwrap_or (at_place s.pools k) (no_pool m.config) ]) is ∙ ap (λ o. unwrap_or o (no_pool m.config)) x.1;
         }
 
 module _ (m : Machine) (u : UnitId) (s : State) (t : ℕ) (action : Action) (a : ActsIn m s t action) (Q : Pool → Type 0) where
   pub home_after : IsStable u Q → Q (after_in m.config.granularity t a.pool action) → PoolHas Q (after_at_home m.config.granularity s t action)
   home_after stable it =
-      let f : Pool → Pool = λ p. settled t (after_in m.config.granularity t p action) in
+      let f : Pool → Pool = λ p. settled_pool t (after_in m.config.granularity t p action) in
       let next : Pool = after_in m.config.granularity t a.pool action in
       subst (PoolHas Q) (sym a.state) (record {
         home = a.j;
-        pool = settled t next;
+        pool = settled_pool t next;
         at = at_place-change_at a.j f s.pools ∙ ap (option_map f) a.at;
-        has = stable.same next (settled t next) (same_settled u t next next (same_refl u next)) it;
+        has = stable.same next (settled_pool t next) (same_settled u t next next (same_refl u next)) it;
       })
 
   pub away_after : (w : PoolHas Q s) → a.j ≢ w.home → PoolHas Q (after_at_home m.config.granularity s t action)
@@ -74,7 +75,7 @@ module _ (m : Machine) (u : UnitId) (s : State) (t : ℕ) (action : Action) (a :
       subst (PoolHas Q) (sym a.state) (record {
         home = w.home;
         pool = w.pool;
-        at = at_place-change_at_other a.j w.home (λ p. settled t (after_in m.config.granularity t p action)) s.pools ne ∙ w.at;
+        at = at_place-change_at_other a.j w.home (λ p. settled_pool t (after_in m.config.granularity t p action)) s.pools ne ∙ w.at;
         has = w.has;
       })
 
@@ -98,12 +99,12 @@ pub record IsOrdinary (m : Machine) (u : UnitId) (s : State) (t : ℕ) (action :
   pub opens : (at : ℕ) (entries : List Entry) → opened_by u at (event_of m s t action) entries ≡ None
 
 abbrev pub View : Machine → UnitId → State → ℕ → Action → Type 0
-View m u s t action = IsOrdinary m u s t action ⊎ ((n : ℕ) × (action ≡ Decide n)) ⊎ ((v : UnitId) × (action ≡ Repl v)) ⊎ ((d : ℕ) × (action ≡ DomMoved d))
+View m u s t action = IsOrdinary m u s t action ⊎ ((n : ℕ) × (action ≡ Decide (core n))) ⊎ ((v : UnitId) × (action ≡ Repl v)) ⊎ ((d : ℕ) × (action ≡ DomMoved (domain d)))
 
 pub view : (m : Machine) (u : UnitId) (s : State) (t : ℕ) (action : Action) → View m u s t action
-view m u s t (DomMoved d) = inr (inr (inr (d, refl)))
+view m u s t (DomMoved d) = inr (inr (inr (d.0, refl)))
 view m u s t (Repl v) = inr (inr (inl (v, refl)))
-view m u s t (Decide n) = inr (inl (n, refl))
+view m u s t (Decide n) = inr (inl (n.0, refl))
 view m u s t action = inl (record { leaves = λ i p has. tt; late = λ r. refl; taken = refl; stays = refl; opens = λ at entries. refl })
 
 -- an entry without an action
@@ -119,7 +120,7 @@ module _ (m : Machine) (u : UnitId) (s : State) (t : ℕ) (Q : Pool → Type 0) 
       let a = sat_after u w.home w.pool has m t action s (ordinary.leaves w.home w.pool has) apart on (record { pool = w.pool; at = w.at; same = same_refl u w.pool }) in
       record { home = w.home; pool = a.pool; at = a.at; has = stable.same w.pool a.pool a.same w.has }
 
-  pub moved_after : (d : ℕ) → d ≢ u.dom.0 → PoolHas Q (after m s t (DomMoved d))
+  pub moved_after : (d : ℕ) → d ≢ u.dom.0 → PoolHas Q (after m s t (DomMoved (domain d)))
   moved_after d other =
       let has = stable.there w.pool w.has in
       let a = sat_dom_moved u d other w.home w.pool has m.config.granularity t s (record { pool = w.pool; at = w.at; same = same_refl u w.pool }) in

@@ -1,6 +1,6 @@
 -- The opening: no core has a unit, and the records of RTDS units are as they begin their first terms.
 use Rattle.std.proofs.Common.{◌≡◌, ◌<◌, ◌+◌, ◌-◌, ℕ, zero, suc, Bool, true, false, List, [], ◌∷◌, length, refl, arith, ap, subst, sym, ◌∙◌, inl, inr, cond, replicate}
-use Rattle.std.specs.Prelude.{Option, Some, None, option_map, is_some, map, slice_get, ◌==◌, ◌&&◌}
+use Rattle.std.specs.Prelude.{Option, Some, None, option_map, is_some, map, slice_get, ◌&&◌}
 use Rattle.sched_base.specs.Numbers.{moment, domain as domain_number}
 use Rattle.sched_base.specs.declared.UnitId.{UnitId}
 use Rattle.sched_base.specs.declared.Cores.{Cores}
@@ -21,14 +21,14 @@ use Rattle.sched_model.specs.Places.{at_place, put_at, test_at, numbers_from}
 use Rattle.sched_model.specs.State.{is_runnable, has_core}
 use Rattle.sched_model.specs.Eligible.{rtds_unit}
 use Rattle.sched_model.specs.Policy as policy
-use Rattle.sched_model.specs.Policy.{kind_of, rtds_record, joined_records, changed_records, fresh_records}
+use Rattle.sched_model.specs.Policy.{kind_of, joined_records, changed_records, fresh_records}
 use Rattle.sched_model.specs.Rtds as rtds
-use Rattle.sched_model.specs.Pool.{queue_units, queue_if_off, with_domain, is_off, set_params, unit_count}
-use Rattle.sched_model.specs.Opening.{opening, with_domains, with_configured, with_pins, most_pools, core_count, fresh_core, empty_pool, fresh_vcpu}
+use Rattle.sched_model.specs.Pool.{queue_units, queue_if_off, with_domain, is_off, unit_count}
+use Rattle.sched_model.specs.Opening.{opening, with_domains, with_configured, most_pools, core_count, fresh_core, empty_pool, fresh_vcpu}
 use Rattle.sched_model.specs.Checked.{IsChecked}
 use Rattle.sched_laws.proofs.EachPlace.{by_cond, read_put_at, EachPlace-empty}
-use Rattle.sched_laws.proofs.Lists.{test_at-some}
-use Rattle.sched_laws.proofs.Opened.{read_pools, read_map, with_configured-resources}
+use Rattle.sched_laws.proofs.Lists.{test_at-some, some_same}
+use Rattle.sched_laws.proofs.Opened.{read_pools, read_map, with_domains-resources, pins_keep, domains_keep}
 use Rattle.sched_laws.proofs.Records.{same_joined}
 use Rattle.part_laws.proofs.Begun.{housed_opening}
 use Rattle.part_laws.proofs.Alike.{mover_of}
@@ -36,31 +36,21 @@ use Rattle.term_laws.proofs.SamePool.{cur_in}
 use Rattle.term_laws.proofs.Track.{is_rtds_pool, rtds_same}
 use Rattle.term_laws.proofs.Deciding.{Tracks, cur_core}
 
--- the cores of a pool do not change as domains join
-domains_keep_cores : (g i d : ℕ) (domains : List DomConfig) (pool : Pool) → (with_domains g i d domains pool).resources ≡ pool.resources
-domains_keep_cores g i d [] pool = refl
-domains_keep_cores g i d (joining ∷ domains) pool =
-    domains_keep_cores g i (suc d) domains (cond (joining.home.0 == i) (with_configured g d joining pool) pool)
-    ∙ by_cond (λ (p : Pool). p.resources ≡ pool.resources) (joining.home.0 == i) (with_configured g d joining pool) pool (λ is. with_configured-resources g d joining pool) (λ is. refl)
-
 -- no core has a unit at the opening
 pub nobody_runs : (m : Machine) (i : ℕ) (p : Pool) → at_place (opening m).pools i ≡ Some p → (r : ℕ) (u : UnitId) → cur_in (at_place p.resources r) ≡ Some u → ⊥
 nobody_runs m i p at r u is =
     let q = read_pools m.config 0 (most_pools - length m.config.pools) m.config.pools i p at in
     let f : ℕ → Option Resource = λ n. cond (has_core q.0.cores n) (Some (fresh_core (replicate m.config.granularity (moment 0)))) None in
-    let cores = ap (λ (x : Pool). x.resources) q.2 ∙ domains_keep_cores m.config.granularity (0 + i) 0 m.config.domains (record (empty_pool m.config q.0.params) { resources = map f (numbers_from 0 (core_count m.config)) }) in
+    let cores = ap (λ (x : Pool). x.resources) q.2 ∙ with_domains-resources m.config.granularity (0 + i) 0 m.config.domains (record (empty_pool m.config q.0.params) { resources = map f (numbers_from 0 (core_count m.config)) }) in
     let c = cur_core (at_place p.resources r) u is in
     let there = read_map f 0 (core_count m.config) r c.0 (sym (ap (λ (l : List (Option Resource)). at_place l r) cores) ∙ c.1) in
     by_cond (λ (o : Option Resource). o ≡ Some c.0 → ⊥) (has_core q.0.cores (0 + r)) _ _ (λ yes_core e. (let none : c.0.cur ≡ None = fresh_cur c.0 (some_same e) in let e2 : None ≡ Some u = sym none ∙ c.2 in cc)) (λ no_core e. cc) there
   where
-    some_same : {X : Type 0} {x y : X} → Some x ≡ Some y → x ≡ y
-    some_same e = cc
-
     fresh_cur : (c : Resource) → fresh_core (replicate m.config.granularity (moment 0)) ≡ c → c.cur ≡ None
     fresh_cur c e = sym (ap (λ (x : Resource). x.cur) e)
 
 -- the pool that has the domain
-home_pool_of : (o : Option Pool) (d : ℕ) → is_some (mover_of o d) ≡ true → (p : Pool) × (o ≡ Some p) × (test_at p.domains d (λ x. true) ≡ true)
+pub home_pool_of : (o : Option Pool) (d : ℕ) → is_some (mover_of o d) ≡ true → (p : Pool) × (o ≡ Some p) × (test_at p.domains d (λ x. true) ≡ true)
 home_pool_of None d is = absurd (cc)
 home_pool_of (Some p) d is = (p, refl, by_domain (at_place p.domains d) refl is)
   where
@@ -123,37 +113,28 @@ pin_keeps : (records : Records) (d : ℕ) (n : ℕ) (cores : Cores) → changed_
 pin_keeps (Credit2Pool records) d n cores = refl
 pin_keeps records d n cores = refl
 
-pins_keep : (d n : ℕ) (pins : List Cores) (pool : Pool) → (with_pins d n pins pool).scheduler.records ≡ pool.scheduler.records
-pins_keep d n [] pool = refl
-pins_keep d n (cores ∷ pins) pool = pins_keep d (suc n) pins (set_params (changes.Pin (domain_number d) (Some n) cores) 0 pool) ∙ pin_keeps pool.scheduler.records d n cores
-
 -- what the records keep while a domain joins, they keep while the domains of the file do
 module _ (Q : Records → Type 0) (joined : (records : Records) (params : DomParams) (d count : ℕ) → Q records → Q (joined_records records params d count 0)) where
   configured_keep : (g d : ℕ) (joining : DomConfig) (pool : Pool) → Q pool.scheduler.records → Q (with_configured g d joining pool).scheduler.records
   configured_keep g d joining pool here =
       let x : Domain = record { paused = false; moving = None; vcpus = map fresh_vcpu joining.guests } in
       let put : Pool = record pool { domains = put_at d x pool.domains; scheduler = policy.join d (unit_count g x) joining.params 0 pool.scheduler } in
-      subst Q (sym (pins_keep d 0 joining.pins (with_domain g 0 d x joining.params pool) ∙ queue_keeps g d (numbers_from 0 (unit_count g x)) put))
+      subst Q (sym (pins_keep (λ (p : Pool). p.scheduler.records ≡ (with_domain g 0 d x joining.params pool).scheduler.records) (λ e n cores p same. pin_keeps p.scheduler.records e n cores ∙ same) d 0 joining.pins (with_domain g 0 d x joining.params pool) refl ∙ queue_keeps g d (numbers_from 0 (unit_count g x)) put))
       (joined pool.scheduler.records joining.params d (unit_count g x) here)
 
-  pub domains_keep : (g i d : ℕ) (domains : List DomConfig) (pool : Pool) → Q pool.scheduler.records → Q (with_domains g i d domains pool).scheduler.records
-  domains_keep g i d [] pool here = here
-  domains_keep g i d (joining ∷ domains) pool here =
-      domains_keep g i (suc d) domains (cond (joining.home.0 == i) (with_configured g d joining pool) pool)
-      (by_cond (λ (p : Pool). Q p.scheduler.records) (joining.home.0 == i) (with_configured g d joining pool) pool (λ is. configured_keep g d joining pool here) (λ is. here))
+  pub records_keep : (g i d : ℕ) (domains : List DomConfig) (pool : Pool) → Q pool.scheduler.records → Q (with_domains g i d domains pool).scheduler.records
+  records_keep g i d domains = domains_keep g i (λ p. Q p.scheduler.records) d domains (λ k joining pool at home here. configured_keep g (d + k) joining pool here)
 
 full_fresh : (params : PoolParams) (domains cores : ℕ) → AllFull (fresh_records params domains cores)
-full_fresh (pool_params.Credit2 limit) n cores domains is u x at = absurd (cc)
 full_fresh pool_params.Rtds n cores domains is u x at = absurd (none (at_place domains u.dom.0) refl at)
   where
     none : (o : Option (List RtdsUnit)) → at_place domains u.dom.0 ≡ o → elim o as (λ _. Option RtdsUnit) [ None ↦ None | Some units ↦ slice_get units u.n ] ≡ Some x → ⊥
     none None e at2 = cc
     none (Some units) e at2 = EachPlace-empty {X = List RtdsUnit} (λ y. ⊥) n u.dom.0 units (subst (λ ds. at_place ds u.dom.0 ≡ Some units) (sym (rtds_same (replicate n None) domains is)) e)
-full_fresh (pool_params.Arinc653 frame) n cores domains is u x at = absurd (cc)
-full_fresh pool_params.Null n cores domains is u x at = absurd (cc)
+full_fresh other n cores domains is u x at = absurd (cc)
 
 -- each RTDS record at the opening
 pub full_opening : (m : Machine) (i : ℕ) (p : Pool) → at_place (opening m).pools i ≡ Some p → AllFull p.scheduler.records
 full_opening m i p at =
     let q = read_pools m.config 0 (most_pools - length m.config.pools) m.config.pools i p at in
-    subst (λ (x : Pool). AllFull x.scheduler.records) (sym q.2) (domains_keep AllFull full_joined m.config.granularity (0 + i) 0 m.config.domains _ (full_fresh q.0.params (length m.config.domains) (core_count m.config)))
+    subst (λ (x : Pool). AllFull x.scheduler.records) (sym q.2) (records_keep AllFull full_joined m.config.granularity (0 + i) 0 m.config.domains _ (full_fresh q.0.params (length m.config.domains) (core_count m.config)))

@@ -1,4 +1,5 @@
 -- What a decision does to a unit, within its term and outside of terms.
+use Rattle.sched_base.specs.Numbers.{core}
 use Rattle.std.proofs.Common.{◌≡◌, ◌≢◌, ℕ, true, false, refl, ap, subst, sym, ◌∙◌, ◌⊎◌, inl, inr}
 use Rattle.std.specs.Prelude.{Option, Some, None, option_map, is_some}
 use Rattle.std.proofs.Math.Decide.{ℕ_discrete}
@@ -13,7 +14,7 @@ use Rattle.sched_model.specs.declared.state.Resource.{Resource}
 use Rattle.sched_model.specs.Places.{at_place, test_at, is_unit}
 use Rattle.sched_model.specs.Eligible.{Decision}
 use Rattle.sched_model.specs.Policy.{decision_of, kind_of}
-use Rattle.sched_model.specs.Pool.{after_decide, ask_of, decided, lateness}
+use Rattle.sched_model.specs.Pool.{after_decide, ask_of, decided_core, lateness}
 use Rattle.sched_model.specs.Machine.{after, event_of}
 use Rattle.sched_laws.proofs.Choices.{is_unit_same}
 use Rattle.sched_laws.proofs.Counts.{same_unit_refl}
@@ -35,10 +36,10 @@ unit_yes o u is = subst (λ x. is_unit x u ≡ true) (sym is) (same_unit_refl u)
 
 module _ (m : Machine) (u : UnitId) (s : State) (n : ℕ) (k : Known m s) (d : Decides m s s.now n) (moment : Moment) where
   abbrev pub entry_here : Entry
-  entry_here = record { at = moment; event = event_of m s s.now (Decide n) }
+  entry_here = record { at = moment; event = event_of m s s.now (Decide (core n)) }
 
   abbrev next_here : State
-  next_here = after m s s.now (Decide n)
+  next_here = after m s s.now (Decide (core n))
 
   abbrev the_pool : Pool
   the_pool = d.acts.pool
@@ -51,10 +52,10 @@ module _ (m : Machine) (u : UnitId) (s : State) (n : ℕ) (k : Known m s) (d : D
       foreign_not_chosen m.config.granularity s.now u n d.core the_pool (k.own d.acts.j the_pool d.acts.at) d.has
       (λ here. ne (one_home s d.acts.j home the_pool p u k.apart d.acts.at at here there))
 
-  takes : is_unit decision.unit u ≡ true → taken_by u (event_of m s s.now (Decide n)) ≡ Some n
+  takes : is_unit decision.unit u ≡ true → taken_by u (event_of m s s.now (Decide (core n))) ≡ Some n
   takes is = taken_yes m u s s.now n (subst (λ (x : Decision). is_unit x.unit u ≡ true) d.unit is)
 
-  passes : is_unit decision.unit u ≡ false → taken_by u (event_of m s s.now (Decide n)) ≡ None
+  passes : is_unit decision.unit u ≡ false → taken_by u (event_of m s s.now (Decide (core n))) ≡ None
   passes is = taken_no m u s s.now n (subst (λ (x : Decision). is_unit x.unit u ≡ false) d.unit is)
 
   -- a core that the pool with the unit has is of that pool
@@ -67,7 +68,7 @@ module _ (m : Machine) (u : UnitId) (s : State) (n : ℕ) (k : Known m s) (d : D
   late_is : late_now s n ≡ lateness s.now d.core
   late_is = ap (λ (o : Option Resource). elim o as (λ _. ℕ) [ None ↦ 0 | Some c ↦ lateness s.now c ]) (core_is_in s d.acts.j n the_pool d.core k.apart d.acts.at d.has)
 
-  late_here : late_of n (event_of m s s.now (Decide n)) ≡ Some (late_now s n)
+  late_here : late_of n (event_of m s s.now (Decide (core n))) ≡ Some (late_now s n)
   late_here = d.late ∙ ap (λ x. Some x) (sym late_is)
 
   pub track_off_decides : Tracks u None s → TrackOff (Tracks u) u entry_here next_here
@@ -76,10 +77,10 @@ module _ (m : Machine) (u : UnitId) (s : State) (n : ℕ) (k : Known m s) (d : D
         | yes e ↦ (
             let off : OffHome u the_pool = subst (OffHome u) (home_pools_same s w.home d.acts.j w.pool the_pool w.at d.acts.at (sym e)) w.has in
             elim (is_unit decision.unit u) as (λ b. is_unit decision.unit u ≡ b → TrackOff (Tracks u) u entry_here next_here) [
-              | true ↦ λ is. inr (n, takes is, home_after m u s s.now (Decide n) d.acts (OnHome u n) (on_home_stable u n) (subst (OnHome u n) (sym d.next) (home_chosen m.config.granularity s.now u n d.core the_pool d.has off.there (λ j ne is2. off.none j is2) (is_unit_same decision.unit u is))))
-              | false ↦ λ is. inl (passes is, home_after m u s s.now (Decide n) d.acts (OffHome u) (off_home_stable u) (subst (OffHome u) (sym d.next) (home_passed m.config.granularity s.now u n d.core the_pool d.has off.there (λ j ne is2. off.none j is2) is)))
+              | true ↦ λ is. inr (n, takes is, home_after m u s s.now (Decide (core n)) d.acts (OnHome u n) (on_home_stable u n) (subst (OnHome u n) (sym d.next) (home_chosen m.config.granularity s.now u n d.core the_pool d.has off.there (λ j ne is2. off.none j is2) (is_unit_same decision.unit u is))))
+              | false ↦ λ is. inl (passes is, home_after m u s s.now (Decide (core n)) d.acts (OffHome u) (off_home_stable u) (subst (OffHome u) (sym d.next) (home_passed m.config.granularity s.now u n d.core the_pool d.has off.there (λ j ne is2. off.none j is2) is)))
             ] refl)
-        | no ne ↦ inl (passes (foreign w.home w.pool w.at w.has.there ne), away_after m u s s.now (Decide n) d.acts (OffHome u) w ne)
+        | no ne ↦ inl (passes (foreign w.home w.pool w.at w.has.there ne), away_after m u s s.now (Decide (core n)) d.acts (OffHome u) w ne)
       ]
 
   track_own_decides : Tracks u (Some n) s → TrackOn (Tracks u) u n entry_here next_here
@@ -88,8 +89,8 @@ module _ (m : Machine) (u : UnitId) (s : State) (n : ℕ) (k : Known m s) (d : D
       let e = core_home w.home w.pool c.0 w.at c.1 in
       let on : OnHome u n the_pool = subst (OnHome u n) (home_pools_same s w.home d.acts.j w.pool the_pool w.at d.acts.at (sym e)) w.has in
       elim (is_unit decision.unit u) as (λ b. is_unit decision.unit u ≡ b → TrackOn (Tracks u) u n entry_here next_here) [
-        | true ↦ λ is. inr (inr (lateness s.now d.core, d.late, takes is, home_after m u s s.now (Decide n) d.acts (OnHome u n) (on_home_stable u n) (subst (OnHome u n) (sym d.next) (home_chosen m.config.granularity s.now u n d.core the_pool d.has on.there (λ j ne is2. ne (sym (on.only j is2))) (is_unit_same decision.unit u is)))))
-        | false ↦ λ is. inr (inl (lateness s.now d.core, d.late, passes is, home_after m u s s.now (Decide n) d.acts (OffHome u) (off_home_stable u) (subst (OffHome u) (sym d.next) (home_passed m.config.granularity s.now u n d.core the_pool d.has on.there (λ j ne is2. ne (sym (on.only j is2))) is))))
+        | true ↦ λ is. inr (inr (lateness s.now d.core, d.late, takes is, home_after m u s s.now (Decide (core n)) d.acts (OnHome u n) (on_home_stable u n) (subst (OnHome u n) (sym d.next) (home_chosen m.config.granularity s.now u n d.core the_pool d.has on.there (λ j ne is2. ne (sym (on.only j is2))) (is_unit_same decision.unit u is)))))
+        | false ↦ λ is. inr (inl (lateness s.now d.core, d.late, passes is, home_after m u s s.now (Decide (core n)) d.acts (OffHome u) (off_home_stable u) (subst (OffHome u) (sym d.next) (home_passed m.config.granularity s.now u n d.core the_pool d.has on.there (λ j ne is2. ne (sym (on.only j is2))) is))))
       ] refl
 
   pub track_on_decides : (r : ℕ) → Tracks u (Some r) s → TrackOn (Tracks u) u r entry_here next_here
@@ -102,8 +103,8 @@ module _ (m : Machine) (u : UnitId) (s : State) (n : ℕ) (k : Known m s) (d : D
               let c = cur_core (at_place the_pool.resources r) u on.on in
               let seen_is : seen (at_place the_pool.resources r) ≡ Some (u, c.0.due) = ap seen c.1 ∙ ap (λ (o : Option UnitId). option_map {U = UnitId × Option Moment} (λ (v : UnitId). (v, c.0.due)) o) c.2 in
               let not_u : is_unit decision.unit u ≡ false = not_chosen m.config.granularity s.now u r n c.0.due d.core the_pool ((k.one d.acts.j the_pool d.acts.at).most u) seen_is (λ j due is2. on.only j (cur_of_seen_unit (at_place the_pool.resources j) u due is2)) d.has ne in
-              inl (late_other m s s.now n r ne, passes not_u, home_after m u s s.now (Decide n) d.acts (OnHome u r) (on_home_stable u r) (subst (OnHome u r) (sym d.next) (home_other m.config.granularity s.now u n d.core the_pool d.has r ne not_u on))))
-          | no away ↦ inl (late_other m s s.now n r ne, passes (foreign w.home w.pool w.at w.has.there away), away_after m u s s.now (Decide n) d.acts (OnHome u r) w away)
+              inl (late_other m s s.now n r ne, passes not_u, home_after m u s s.now (Decide (core n)) d.acts (OnHome u r) (on_home_stable u r) (subst (OnHome u r) (sym d.next) (home_other m.config.granularity s.now u n d.core the_pool d.has r ne not_u on))))
+          | no away ↦ inl (late_other m s s.now n r ne, passes (foreign w.home w.pool w.at w.has.there away), away_after m u s s.now (Decide (core n)) d.acts (OnHome u r) w away)
         ]
       ]
 
@@ -139,19 +140,19 @@ module _ (m : Machine) (u : UnitId) (s : State) (n : ℕ) (k : Known m s) (d : D
         domains = x.0;
         is_rtds = x.1;
         due = a.due;
-        at = ap seen (at_place-set_other n r (Some (decided s.now decision d.core)) the_pool.resources ne) ∙ a.at;
+        at = ap seen (at_place-set_other n r (Some (decided_core s.now decision d.core)) the_pool.resources ne) ∙ a.at;
         low = a.low;
       }
 
   pub over_decides : (r latest : ℕ) → PoolHas (OverPool u r latest) s → ((late_of r entry_here.event ≡ None) × PoolHas (OverPool u r latest) next_here) ⊎ (late_of r entry_here.event ≡ Some (late_now s r))
   over_decides r latest w =
       elim (ℕ_discrete n r) [
-        | yes e ↦ inr (subst (λ x. late_of x (event_of m s s.now (Decide n)) ≡ Some (late_now s x)) e late_here)
+        | yes e ↦ inr (subst (λ x. late_of x (event_of m s s.now (Decide (core n))) ≡ Some (late_now s x)) e late_here)
         | no ne ↦ inl (
           late_other m s s.now n r ne,
           elim (ℕ_discrete d.acts.j w.home) [
-            | yes e ↦ home_after m u s s.now (Decide n) d.acts (OverPool u r latest) (over_stable u r latest) (subst (OverPool u r latest) (sym d.next) (over_other r latest ne (subst (OverPool u r latest) (home_pools_same s w.home d.acts.j w.pool the_pool w.at d.acts.at (sym e)) w.has)))
-            | no away ↦ away_after m u s s.now (Decide n) d.acts (OverPool u r latest) w away
+            | yes e ↦ home_after m u s s.now (Decide (core n)) d.acts (OverPool u r latest) (over_stable u r latest) (subst (OverPool u r latest) (sym d.next) (over_other r latest ne (subst (OverPool u r latest) (home_pools_same s w.home d.acts.j w.pool the_pool w.at d.acts.at (sym e)) w.has)))
+            | no away ↦ away_after m u s s.now (Decide (core n)) d.acts (OverPool u r latest) w away
           ],
         )
       ]

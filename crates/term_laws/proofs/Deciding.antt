@@ -1,7 +1,7 @@
 -- A core decides: what its entry tells, and what becomes of a unit.
 use Rattle.std.proofs.Common.{◌≡◌, ◌≢◌, ◌≤◌, ℕ, Bool, true, false, List, refl, arith, ap, sym, ◌∙◌, cond}
-use Rattle.std.specs.Prelude.{Option, Some, None, option_map, ◌==◌}
-use Rattle.sched_base.specs.Numbers.{moment, span}
+use Rattle.std.specs.Prelude.{Option, Some, None, option_map, ◌==◌, ◌+◌}
+use Rattle.sched_base.specs.Numbers.{moment, span, core as core_number}
 use Rattle.sched_base.specs.declared.Span.{Span}
 use Rattle.sched_base.specs.declared.Moment.{Moment}
 use Rattle.sched_base.specs.declared.UnitId.{UnitId}
@@ -25,7 +25,7 @@ use Rattle.sched_laws.proofs.Lists.{some-test_at}
 use Rattle.term_laws.specs.RtdsTerm.{late_of, taken_by}
 use Rattle.term_laws.proofs.SamePool.{seen, cur_in}
 use Rattle.term_laws.proofs.TermPool.{OffPool, OnPool, off_same, on_same, core_seen}
-use Rattle.term_laws.proofs.TermState.{PoolHas, core_is_in}
+use Rattle.term_laws.proofs.TermState.{PoolHas, WithinTerm, core_is_in}
 use Rattle.term_laws.proofs.TermSums.{IsOn}
 use Rattle.term_laws.proofs.Track.{OffHome, OnHome, off_home_same, on_home_same}
 use Rattle.term_laws.proofs.ActsIn.{IsStable, ActsIn, acts_in}
@@ -82,6 +82,12 @@ over_is u r latest s apart w =
       low = h.low;
     }
 
+-- within its term the unit is on a core that is due at the latest when its budget is used up
+pub is_on : (u : UnitId) (deadline left r b : ℕ) (s : State) → IsApart s → WithinTerm u deadline left (Some (r, b)) s → IsOn u r (b + left) s
+is_on u deadline left r b s apart w =
+    let h = w.has in
+    over_is u r (b + left) s apart (record { home = w.home; pool = w.pool; at = w.at; has = record { there = h.there; domains = h.domains; is_rtds = h.is_rtds; due = h.due; at = h.at; low = h.low } })
+
 pub over_of : (u : UnitId) (r latest : ℕ) (s : State) → IsOn u r latest s → PoolHas (OverPool u r latest) s
 over_of u r latest s w = record {
   home = w.home;
@@ -110,34 +116,34 @@ same_no a b ne = elim (a == b) as (λ x. (a == b) ≡ x → x ≡ false) [ true 
 
 -- a decision
 pub record Decides (m : Machine) (s : State) (t n : ℕ) : Type 0 where
-  pub acts : ActsIn m s t (Decide n)
+  pub acts : ActsIn m s t (Decide (core_number n))
   pub core : Resource
   pub has : at_place acts.pool.resources n ≡ Some core
-  pub next : after_in m.config.granularity t acts.pool (Decide n) ≡ after_decide m.config.granularity t n core acts.pool
-  pub unit : decision_of (ask_of m.config.granularity t acts.pool n core) acts.pool.scheduler ≡ decision_at m.config.granularity t (home_pool m s (Decide n)) n
-  pub late : late_of n (event_of m s t (Decide n)) ≡ Some (lateness t core)
+  pub next : after_in m.config.granularity t acts.pool (Decide (core_number n)) ≡ after_decide m.config.granularity t n core acts.pool
+  pub unit : decision_of (ask_of m.config.granularity t acts.pool n core) acts.pool.scheduler ≡ decision_at m.config.granularity t (home_pool m s (Decide (core_number n))) n
+  pub late : late_of n (event_of m s t (Decide (core_number n))) ≡ Some (lateness t core)
 
-pub decides : (m : Machine) (s : State) (t n : ℕ) → is_enabled m s t (Decide n) ≡ true → Decides m s t n
+pub decides : (m : Machine) (s : State) (t n : ℕ) → is_enabled m s t (Decide (core_number n)) ≡ true → Decides m s t n
 decides m s t n on =
     let g = m.config.granularity in
-    let a = acts_in m s t (Decide n) on in
+    let a = acts_in m s t (Decide (core_number n)) on in
     let x = some-test_at a.pool.resources n (λ c. list_all is_held c.processors && is_open c && first_up t c) a.enabled in
-    let there : at_place (home_pool m s (Decide n)).resources n ≡ Some x.0 = ap (λ (p : Pool). at_place p.resources n) a.pool_is ∙ x.1 in
+    let there : at_place (home_pool m s (Decide (core_number n))).resources n ≡ Some x.0 = ap (λ (p : Pool). at_place p.resources n) a.pool_is ∙ x.1 in
     record {
       acts = a;
       core = x.0;
       has = x.1;
       next = ap (λ (o : Option Resource). elim o as (λ _. Pool) [ None ↦ a.pool | Some c ↦ after_decide g t n c a.pool ]) x.1;
       unit = sym (ap (λ (p : Pool). decision_at g t p n) a.pool_is ∙ ap (λ (o : Option Resource). elim o as (λ _. Decision) [ None ↦ record { unit = None; due = None; reset = 0; records = a.pool.scheduler.records } | Some c ↦ decision_of (ask_of g t a.pool n c) a.pool.scheduler ]) x.1);
-      late = ap (λ (b : Bool). cond b (Some (elim (at_place (home_pool m s (Decide n)).resources n) as (λ _. Span) [ None ↦ span 0 | Some c ↦ span (lateness t c) ]).0) None) (is_same n n refl)
+      late = ap (λ (b : Bool). cond b (Some (elim (at_place (home_pool m s (Decide (core_number n))).resources n) as (λ _. Span) [ None ↦ span 0 | Some c ↦ span (lateness t c) ]).0) None) (is_same n n refl)
           ∙ ap (λ (o : Option Resource). Some (elim o as (λ _. Span) [ None ↦ span 0 | Some c ↦ span (lateness t c) ]).0) there;
     }
 
-pub late_other : (m : Machine) (s : State) (t n r : ℕ) → n ≢ r → late_of r (event_of m s t (Decide n)) ≡ None
-late_other m s t n r ne = ap (λ (b : Bool). cond b (Some (elim (at_place (home_pool m s (Decide n)).resources n) as (λ _. Span) [ None ↦ span 0 | Some c ↦ span (lateness t c) ]).0) None) (same_no n r ne)
+pub late_other : (m : Machine) (s : State) (t n r : ℕ) → n ≢ r → late_of r (event_of m s t (Decide (core_number n))) ≡ None
+late_other m s t n r ne = ap (λ (b : Bool). cond b (Some (elim (at_place (home_pool m s (Decide (core_number n))).resources n) as (λ _. Span) [ None ↦ span 0 | Some c ↦ span (lateness t c) ]).0) None) (same_no n r ne)
 
-pub taken_yes : (m : Machine) (u : UnitId) (s : State) (t n : ℕ) → is_unit (decision_at m.config.granularity t (home_pool m s (Decide n)) n).unit u ≡ true → taken_by u (event_of m s t (Decide n)) ≡ Some n
+pub taken_yes : (m : Machine) (u : UnitId) (s : State) (t n : ℕ) → is_unit (decision_at m.config.granularity t (home_pool m s (Decide (core_number n))) n).unit u ≡ true → taken_by u (event_of m s t (Decide (core_number n))) ≡ Some n
 taken_yes m u s t n is = ap (λ (b : Bool). cond b (Some n) None) is
 
-pub taken_no : (m : Machine) (u : UnitId) (s : State) (t n : ℕ) → is_unit (decision_at m.config.granularity t (home_pool m s (Decide n)) n).unit u ≡ false → taken_by u (event_of m s t (Decide n)) ≡ None
+pub taken_no : (m : Machine) (u : UnitId) (s : State) (t n : ℕ) → is_unit (decision_at m.config.granularity t (home_pool m s (Decide (core_number n))) n).unit u ≡ false → taken_by u (event_of m s t (Decide (core_number n))) ≡ None
 taken_no m u s t n is = ap (λ (b : Bool). cond b (Some n) None) is

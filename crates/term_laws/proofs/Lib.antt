@@ -1,7 +1,6 @@
 pub mod Grid
 pub mod RtdsSteps
 pub mod SamePool
-pub mod Plans
 pub mod AtHome
 pub mod SameAt
 pub mod TermPool

@@ -1,4 +1,5 @@
 -- A domain moves to another pool: what becomes of a unit.
+use Rattle.sched_base.specs.Numbers.{domain as domain_number}
 use Rattle.std.proofs.Common.{◌≡◌, ◌≢◌, ◌<◌, ◌+◌, ℕ, true, false, List, length, refl, ap, subst, sym, ◌∙◌, inl, inr}
 use Rattle.std.specs.Prelude.{Option, Some, None, option_map, is_some, ◌==◌, ◌||◌}
 use Rattle.std.specs.List.{list_any}
@@ -12,8 +13,8 @@ use Rattle.sched_model.specs.declared.state.State.{State}
 use Rattle.sched_model.specs.declared.state.Pool.{Pool}
 use Rattle.sched_model.specs.declared.state.Domain.{Domain}
 use Rattle.sched_model.specs.declared.state.Resource.{Resource}
-use Rattle.sched_model.specs.Places.{at_place, test_at, change_at, numbered}
-use Rattle.sched_model.specs.Pool.{settled, without_domain, with_domain, is_of_domain, reconsidered, home_cores}
+use Rattle.sched_model.specs.Places.{at_place, test_at, change_at, numbered_items}
+use Rattle.sched_model.specs.Pool.{settled_pool, without_domain, with_domain, is_of_domain, reconsidered_core, home_cores}
 use Rattle.sched_model.specs.Policy.{default_dom_params}
 use Rattle.sched_model.specs.Actions.{home_of_domain, change_pool}
 use Rattle.sched_model.specs.Machine.{after, event_of, after_dom_moved, left_by, joined_by, is_null}
@@ -40,16 +41,16 @@ use Rattle.term_laws.proofs.Deciding.{Tracks, OverPool, off_home_stable, on_home
 abbrev pub CoresKeep : (Pool → Pool) → Type 0
 CoresKeep f = (p : Pool) (r : ℕ) → cur_in (at_place (f p).resources r) ≡ cur_in (at_place p.resources r)
 
-settled_keeps : (t : ℕ) → CoresKeep (settled t)
-settled_keeps t p r = ap cur_in (at_place-change_each 0 r (reconsidered t (home_cores p) p.scheduler) p.resources) ∙ there (at_place p.resources r)
+settled_keeps : (t : ℕ) → CoresKeep (settled_pool t)
+settled_keeps t p r = ap cur_in (at_place-change_each 0 r (reconsidered_core t (home_cores p) p.scheduler) p.resources) ∙ there (at_place p.resources r)
   where
-    there : (o : Option Resource) → cur_in (option_map (reconsidered t (home_cores p) p.scheduler (0 + r)) o) ≡ cur_in o
+    there : (o : Option Resource) → cur_in (option_map (reconsidered_core t (home_cores p) p.scheduler (0 + r)) o) ≡ cur_in o
     there None = refl
     there (Some c) = by_cond (λ (y : Resource). y.cur ≡ c.cur) c.leaving _ _ (λ is. refl) (λ is. refl)
 
 pub left_keeps : (t d : ℕ) → CoresKeep (left_by t d)
 left_keeps t d p r =
-    by_cond (λ (q : Pool). cur_in (at_place q.resources r) ≡ cur_in (at_place p.resources r)) (is_null p.scheduler.records) (settled t (without_domain d p)) (without_domain d p) (λ is. settled_keeps t (without_domain d p) r) (λ is. refl)
+    by_cond (λ (q : Pool). cur_in (at_place q.resources r) ≡ cur_in (at_place p.resources r)) (is_null p.scheduler.records) (settled_pool t (without_domain d p)) (without_domain d p) (λ is. settled_keeps t (without_domain d p) r) (λ is. refl)
 
 pub joined_keeps : (g t d : ℕ) (domain : Domain) → CoresKeep (joined_by g t d domain)
 joined_keeps g t d domain p r =
@@ -88,12 +89,12 @@ came_moved g t d s =
     (λ domain is3. by_option (CameFrom s) domain.moving _ _ (λ is4. came_same s)
     (λ j is4. came_changed s (change_pool i (left_by t d) s) j.0 (joined_by g t d domain) (joined_keeps g t d domain) (came_changed s s i (left_by t d) (left_keeps t d) (came_same s))))))
 
-module _ (m : Machine) (u : UnitId) (s : State) (d : ℕ) (k : Known m s) (a : ActsIn m s s.now (DomMoved d)) (at : Moment) where
+module _ (m : Machine) (u : UnitId) (s : State) (d : ℕ) (k : Known m s) (a : ActsIn m s s.now (DomMoved (domain_number d))) (at : Moment) where
   abbrev pub moved_entry : Entry
-  moved_entry = record { at = at; event = event_of m s s.now (DomMoved d) }
+  moved_entry = record { at = at; event = event_of m s s.now (DomMoved (domain_number d)) }
 
   abbrev pub moved_next : State
-  moved_next = after m s s.now (DomMoved d)
+  moved_next = after m s s.now (DomMoved (domain_number d))
 
   -- the pool has the domain
   has_domain : d ≡ u.dom.0 → test_at a.pool.domains u.dom.0 (λ x. true) ≡ true
@@ -105,7 +106,7 @@ module _ (m : Machine) (u : UnitId) (s : State) (d : ℕ) (k : Known m s) (a : A
   nobody : d ≡ u.dom.0 → (r : ℕ) → cur_in (at_place a.pool.resources r) ≡ Some u → ⊥
   nobody e r is =
       let none = at_numbered (λ (x : Resource). (is_of_domain d x.cur || is_of_domain d x.saving) ≡ false) 0 a.pool.resources
-      (none_passes (λ (e : ℕ × Resource). is_of_domain d e.1.cur || is_of_domain d e.1.saving) (numbered 0 a.pool.resources) (not_true (list_any (λ (e : ℕ × Resource). is_of_domain d e.1.cur || is_of_domain d e.1.saving) (numbered 0 a.pool.resources)) (and_right (test_at a.pool.domains d (λ domain. is_some domain.moving)) _ a.enabled))) in
+      (none_passes (λ (e : ℕ × Resource). is_of_domain d e.1.cur || is_of_domain d e.1.saving) (numbered_items 0 a.pool.resources) (not_true (list_any (λ (e : ℕ × Resource). is_of_domain d e.1.cur || is_of_domain d e.1.saving) (numbered_items 0 a.pool.resources)) (and_right (test_at a.pool.domains d (λ domain. is_some domain.moving)) _ a.enabled))) in
       let c = cur_core (at_place a.pool.resources r) u is in
       let off = or_left (is_of_domain d c.0.cur) (is_of_domain d c.0.saving) (none r c.0 c.1) in
       let off2 : is_of_domain d (Some u) ≡ false = subst (λ o. is_of_domain d o ≡ false) c.2 off in
@@ -118,10 +119,10 @@ module _ (m : Machine) (u : UnitId) (s : State) (d : ℕ) (k : Known m s) (a : A
       let same = home_pools_same s w.home a.j w.pool a.pool w.at a.at (one_home s w.home a.j w.pool a.pool u k.apart w.at a.at (stable.there w.pool w.has) (has_domain e)) in
       nobody e r (subst (λ (p : Pool). cur_in (at_place p.resources r) ≡ Some u) same (on w.pool w.has))
 
-  moves_no : d ≢ u.dom.0 → moves u.dom.0 (event_of m s s.now (DomMoved d)) ≡ false
+  moves_no : d ≢ u.dom.0 → moves u.dom.0 (event_of m s s.now (DomMoved (domain_number d))) ≡ false
   moves_no ne = same_no d u.dom.0 ne
 
-  moves_yes : d ≡ u.dom.0 → moves u.dom.0 (event_of m s s.now (DomMoved d)) ≡ true
+  moves_yes : d ≡ u.dom.0 → moves u.dom.0 (event_of m s s.now (DomMoved (domain_number d))) ≡ true
   moves_yes e = is_same d u.dom.0 e
 
   -- the unit's domain has a home after it too, where the unit is on no core

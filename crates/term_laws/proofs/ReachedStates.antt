@@ -1,4 +1,5 @@
 -- The states that runs lead to, and what is known of them.
+use Rattle.sched_model.proofs.RunLemmas.{IsRunFrom-append, after_entries-append}
 use Rattle.std.proofs.Common.{◌≡◌, ℕ, Bool, false, List, [], ◌∷◌, ◌++◌, refl, ap, subst, sym, ◌∙◌}
 use Rattle.std.specs.Prelude.{Option, Some, None}
 use Rattle.sched_model.specs.declared.action.Action.{Action}
@@ -9,7 +10,7 @@ use Rattle.sched_model.specs.declared.state.Pool.{Pool}
 use Rattle.sched_model.specs.Places.{at_place}
 use Rattle.sched_model.specs.Checked.{IsChecked}
 use Rattle.sched_model.specs.Machine.{after}
-use Rattle.sched_model.specs.Runs.{Reached, action_of, end_of, after_quiet, after_event, after_entry, after_entries, begun, IsNext, IsRunFrom, IsRun}
+use Rattle.sched_model.specs.Runs.{Reached, action_of, end_of, after_quiet, after_event, after_entry, after_entries, run_start, IsNext, IsRun}
 use Rattle.sched_laws.proofs.Kept.{IsApart}
 use Rattle.sched_laws.specs.Known.{UnitsAreOwn}
 use Rattle.sched_laws.specs.Known.{OnePlace}
@@ -24,33 +25,25 @@ use Rattle.part_laws.proofs.Law.{housed_from}
 pub record IsReached (m : Machine) (s : State) : Type 0 where
   pub before : List Entry
   pub run : IsRun m before
-  pub leads : after_entries m (begun m) before ≡ record { state = s; over = false }
+  pub leads : after_entries m (run_start m) before ≡ record { state = s; over = false }
 
-run_more : (m : Machine) (from : Reached) (before : List Entry) (entry : Entry) → IsRunFrom m from before → IsNext m (after_entries m from before) entry → IsRunFrom m from (before ++ entry ∷ [])
-run_more m from [] entry run next = (next, tt)
-run_more m from (e ∷ before) entry run next = (run.0, run_more m (after_entry m from e) before entry run.1 next)
-
-leads_more : (m : Machine) (from : Reached) (before : List Entry) (entry : Entry) → after_entries m from (before ++ entry ∷ []) ≡ after_entry m (after_entries m from before) entry
-leads_more m from [] entry = refl
-leads_more m from (e ∷ before) entry = leads_more m (after_entry m from e) before entry
-
-pub reached_opening : (m : Machine) → IsReached m (begun m).state
+pub reached_opening : (m : Machine) → IsReached m (run_start m).state
 reached_opening m = record { before = []; run = tt; leads = refl }
 
 pub reached_next : (m : Machine) (from : Reached) (entry : Entry) → IsNext m from entry → IsReached m from.state → IsReached m (after_entry m from entry).state
-reached_next m from entry next r = go_event (action_of entry.event) (leads_more m (begun m) r.before entry ∙ ap (λ (f : Reached). after_entry m f entry) here)
+reached_next m from entry next r = go_event (action_of entry.event) (after_entries-append m (run_start m) r.before entry ∙ ap (λ (f : Reached). after_entry m f entry) here)
   where
-    here : after_entries m (begun m) r.before ≡ from
+    here : after_entries m (run_start m) r.before ≡ from
     here = r.leads ∙ sym (ap (λ (b : Bool). record { state = from.state; over = b }) next.goes_on)
 
     run : IsRun m (r.before ++ entry ∷ [])
-    run = run_more m (begun m) r.before entry r.run (subst (λ (f : Reached). IsNext m f entry) (sym here) next)
+    run = IsRunFrom-append m (run_start m) r.before entry r.run (subst (λ (f : Reached). IsNext m f entry) (sym here) next)
 
-    go_quiet : (end : Option ℕ) → after_entries m (begun m) (r.before ++ entry ∷ []) ≡ after_quiet end from → IsReached m (after_quiet end from).state
+    go_quiet : (end : Option ℕ) → after_entries m (run_start m) (r.before ++ entry ∷ []) ≡ after_quiet end from → IsReached m (after_quiet end from).state
     go_quiet None leads = r
     go_quiet (Some n) leads = record { before = r.before ++ entry ∷ []; run = run; leads = leads ∙ ap (λ (b : Bool). record { state = record from.state { now = n }; over = b }) next.goes_on }
 
-    go_event : (o : Option Action) → after_entries m (begun m) (r.before ++ entry ∷ []) ≡ after_event m entry.event o from → IsReached m (after_event m entry.event o from).state
+    go_event : (o : Option Action) → after_entries m (run_start m) (r.before ++ entry ∷ []) ≡ after_event m entry.event o from → IsReached m (after_event m entry.event o from).state
     go_event None leads = go_quiet (end_of entry.event) leads
     go_event (Some action) leads = record { before = r.before ++ entry ∷ []; run = run; leads = leads ∙ ap (λ (b : Bool). record { state = after m from.state from.state.now action; over = b }) next.goes_on }
 
@@ -69,5 +62,5 @@ knows m checked s r =
       own = λ i p at. units_are_own m checked r.before r.run i p at;
       one = λ i p at. one_place m checked r.before r.run i p at;
       range = in_range m checked r.before r.run;
-      housed = housed_from m checked [] r.before (begun m) refl tt r.run (housed_opening m checked);
+      housed = housed_from m checked [] r.before (run_start m) refl tt r.run (housed_opening m checked);
     })

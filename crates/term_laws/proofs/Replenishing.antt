@@ -14,20 +14,20 @@ use Rattle.sched_model.specs.declared.state.Pool.{Pool}
 use Rattle.sched_model.specs.declared.state.Resource.{Resource}
 use Rattle.sched_model.specs.declared.state.RtdsUnit.{RtdsUnit}
 use Rattle.sched_model.specs.declared.state.Records.{Records}
-use Rattle.sched_model.specs.declared.state.Records.TheVariants.{Credit2Pool, RtdsPool, ArincPool, NullPool}
+use Rattle.sched_model.specs.declared.state.Records.TheVariants.{RtdsPool}
 use Rattle.sched_model.specs.Places.{at_place, test_at, change_at, same_unit, has_unit}
 use Rattle.sched_model.specs.Eligible.{rtds_unit}
 use Rattle.sched_model.specs.Policy as policy
 use Rattle.sched_model.specs.Policy.{kind_of, rtds_record}
 use Rattle.sched_model.specs.Rtds as rtds
-use Rattle.sched_model.specs.Pool.{after_replenish, due_within, core_of, with_records, lowest_up, replenished}
+use Rattle.sched_model.specs.Pool.{after_replenish, due_within, core_of, with_records, lowest_up, replenished_unit}
 use Rattle.sched_model.specs.Machine.{after, home_pool, event_of}
 use Rattle.sched_laws.proofs.EachPlace.{by_option, found_at}
 use Rattle.sched_laws.proofs.Bools.{and_left, and_right}
 use Rattle.sched_laws.proofs.Choices.{same_unit_same}
 use Rattle.sched_laws.proofs.Kept.{IsApart}
 use Rattle.sched_laws.proofs.Counts.{same_unit_refl}
-use Rattle.sched_laws.proofs.Lists.{test_at-some, some_is}
+use Rattle.sched_laws.proofs.Lists.{test_at-some, some_is, some_same}
 use Rattle.sched_laws.proofs.Records.{same_replenish}
 use Rattle.term_laws.specs.RtdsTerm.{Term, term_end, opened_by}
 use Rattle.term_laws.proofs.RtdsSteps.{at_place-change_at, at_place-change_at_other, rtds_unit-same, rtds_unit-none, rtds_unit-other}
@@ -144,14 +144,12 @@ module _ (t : ℕ) (v : UnitId) (p : Pool) where
 
 -- a unit whose replenishment is due has an RTDS record
 is_due_rtds : (u : UnitId) (t : ℕ) (records : Records) → policy.replenish_due records t u ≡ true → (domains : List (Option (List RtdsUnit))) × (records ≡ RtdsPool domains) × (x : RtdsUnit) × (rtds_unit domains u ≡ Some x) × (x.deadline ≤ t)
-is_due_rtds u t (Credit2Pool records) is = absurd (cc)
 is_due_rtds u t (RtdsPool domains) is = go (rtds_unit domains u) refl is
   where
     go : (o : Option RtdsUnit) → rtds_unit domains u ≡ o → elim o as (λ _. Bool) [ None ↦ false | Some x ↦ nat_le x.deadline t ] ≡ true → (domains2 : List (Option (List RtdsUnit))) × (RtdsPool domains ≡ RtdsPool domains2) × (x : RtdsUnit) × (rtds_unit domains2 u ≡ Some x) × (x.deadline ≤ t)
     go None e is2 = absurd (cc)
     go (Some x) e is2 = (domains, refl, x, e, grind (arith, is2))
-is_due_rtds u t (ArincPool records) is = absurd (cc)
-is_due_rtds u t (NullPool kept) is = absurd (cc)
+is_due_rtds u t any is = absurd (cc)
 
 module _ (m : Machine) (u : UnitId) (s : State) (v : UnitId) (k : Known m s) (a : ActsIn m s s.now (Repl v)) (at : Moment) where
   abbrev pub repl_entry : Entry
@@ -236,9 +234,9 @@ module _ (m : Machine) (u : UnitId) (s : State) (k : Known m s) (a : ActsIn m s 
   abbrev pub the_unit : RtdsUnit
   the_unit = rtds.replenish s.now the_due.2
 
-  printed : replenished s.now u (home_pool m s (Repl u)) ≡ Some the_unit
+  printed : replenished_unit s.now u (home_pool m s (Repl u)) ≡ Some the_unit
   printed =
-      ap (λ (p : Pool). replenished s.now u p) a.pool_is ∙ ap (λ (x : Records). rtds_record (policy.replenish x s.now u) u) the_due.1 ∙ rtds_unit-same u (rtds.replenish s.now) the_due.0 the_due.2 the_due.3
+      ap (λ (p : Pool). replenished_unit s.now u p) a.pool_is ∙ ap (λ (x : Records). rtds_record (policy.replenish x s.now u) u) the_due.1 ∙ rtds_unit-same u (rtds.replenish s.now) the_due.0 the_due.2 the_due.3
 
   -- the term that the printed fields tell of
   abbrev told : Option RtdsUnit → Term
@@ -252,12 +250,9 @@ module _ (m : Machine) (u : UnitId) (s : State) (k : Known m s) (a : ActsIn m s 
 
   is_told : term ≡ told (Some the_unit)
   is_told =
-      let e : opened_by u at (event_of m s s.now (Repl u)) entries ≡ Some (told (replenished s.now u (home_pool m s (Repl u)))) = ap (λ (b : Bool). cond b (Some (told (replenished s.now u (home_pool m s (Repl u))))) None) (same_unit_refl u) in
+      let e : opened_by u at (event_of m s s.now (Repl u)) entries ≡ Some (told (replenished_unit s.now u (home_pool m s (Repl u)))) = ap (λ (b : Bool). cond b (Some (told (replenished_unit s.now u (home_pool m s (Repl u))))) None) (same_unit_refl u) in
       let e2 : Some term ≡ Some (told (Some the_unit)) = sym opens ∙ e ∙ ap (λ o. Some (told o)) printed in
-      some_is_same e2
-    where
-      some_is_same : {X : Type 0} {x y : X} → Some x ≡ Some y → x ≡ y
-      some_is_same same = cc
+      some_same e2
 
   pub term_from : term.from ≡ s.now
   term_from = ap (λ (x : Term). x.from) is_told ∙ moment_is

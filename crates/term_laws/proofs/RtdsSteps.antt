@@ -11,7 +11,7 @@ use Rattle.sched_model.specs.declared.state.RtdsUnit.{RtdsUnit}
 use Rattle.sched_model.specs.declared.state.Records.TheVariants.{RtdsPool}
 use Rattle.sched_model.specs.declared.ask.Ask.{Ask}
 use Rattle.sched_model.specs.Eligible.{Decision, rtds_unit}
-use Rattle.sched_model.specs.Rtds.{burn, burn_to, change_unit, set_running, switch_off, burn_cur, budget_left, choose_rt, choice, decide}
+use Rattle.sched_model.specs.Rtds.{burn, burn_to, change_unit, set_running, switch_off, burn_cur, budget_left, rtds_decision, choice, decide}
 use Rattle.sched_laws.proofs.EachPlace.{by_cond}
 pub use Rattle.sched_laws.proofs.EachPlace.{at_place-change_at, at_place-set_other}
 use Rattle.sched_laws.proofs.Lists.{slice_get-change_item, slice_get-change_item_other}
@@ -127,36 +127,36 @@ module _ (u : UnitId) (left deadline : ℕ) where
 
   -- the decision for a choice, where the core's own unit was charged and is then switched off
   decide_gives : (ask : Ask) (domains : List (Option (List RtdsUnit))) (burned off : Option ℕ) (c : Option UnitId) → Recorded u left deadline burned domains → Recorded u left deadline off (switch_off ask.cur domains)
-      → Chosen ask.at (decide ask domains c) ⊎ Passed off (decide ask domains c)
+      → Chosen ask.at.0 (decide ask domains c) ⊎ Passed off (decide ask domains c)
   decide_gives ask domains burned off None r switched = inr (refl, switch_off ask.cur domains, refl, switched)
   decide_gives ask domains burned off (Some w) r switched =
-      elim (same_unit w u) as (λ b. same_unit w u ≡ b → Chosen ask.at (decide ask domains (Some w)) ⊎ Passed off (decide ask domains (Some w))) [
+      elim (same_unit w u) as (λ b. same_unit w u ≡ b → Chosen ask.at.0 (decide ask domains (Some w)) ⊎ Passed off (decide ask domains (Some w))) [
         | true ↦ λ is. (
             let e : u ≡ w = sym (same_unit_same w u is) in
-            subst (λ x. Chosen ask.at (decide ask domains (Some x)) ⊎ Passed off (decide ask domains (Some x))) e
-            (inl (refl, ask.at + budget_left domains u, refl, (let l = recorded_left burned domains r in omega (arith, l)), set_running (Some ask.at) u (switch_off ask.cur domains), refl, recorded_running (Some ask.at) off (switch_off ask.cur domains) switched)))
-        | false ↦ λ is. inr (is, set_running (Some ask.at) w (switch_off ask.cur domains), refl, recorded_other w _ off (switch_off ask.cur domains) is switched)
+            subst (λ x. Chosen ask.at.0 (decide ask domains (Some x)) ⊎ Passed off (decide ask domains (Some x))) e
+            (inl (refl, ask.at.0 + budget_left domains u, refl, (let l = recorded_left burned domains r in omega (arith, l)), set_running (Some ask.at.0) u (switch_off ask.cur domains), refl, recorded_running (Some ask.at.0) off (switch_off ask.cur domains) switched)))
+        | false ↦ λ is. inr (is, set_running (Some ask.at.0) w (switch_off ask.cur domains), refl, recorded_other w _ off (switch_off ask.cur domains) is switched)
       ] refl
 
   -- a core that does not have the unit
   pub decides_off : (ask : Ask) (scheduler : Scheduler) (domains : List (Option (List RtdsUnit))) (burned : Option ℕ) → is_unit ask.cur u ≡ false → Recorded u left deadline burned domains
-      → Chosen ask.at (choose_rt ask scheduler domains) ⊎ Passed burned (choose_rt ask scheduler domains)
+      → Chosen ask.at.0 (rtds_decision ask scheduler domains) ⊎ Passed burned (rtds_decision ask scheduler domains)
   decides_off ask scheduler domains burned other r =
-      decide_gives ask (burn_cur ask.cur ask.at domains) burned burned (choice ask scheduler (burn_cur ask.cur ask.at domains)) charged (switched_other burned ask.cur _ other charged)
+      decide_gives ask (burn_cur ask.cur ask.at.0 domains) burned burned (choice ask scheduler (burn_cur ask.cur ask.at.0 domains)) charged (switched_other burned ask.cur _ other charged)
     where
-      charge : (cur : Option UnitId) → is_unit cur u ≡ false → Recorded u left deadline burned (burn_cur cur ask.at domains)
+      charge : (cur : Option UnitId) → is_unit cur u ≡ false → Recorded u left deadline burned (burn_cur cur ask.at.0 domains)
       charge None is = r
-      charge (Some w) is = recorded_other w (burn_to ask.at) burned domains is r
+      charge (Some w) is = recorded_other w (burn_to ask.at.0) burned domains is r
 
-      charged : Recorded u left deadline burned (burn_cur ask.cur ask.at domains)
+      charged : Recorded u left deadline burned (burn_cur ask.cur ask.at.0 domains)
       charged = charge ask.cur other
 
 -- a core that has it: it is charged first
 pub decides_on : (u : UnitId) (left deadline b : ℕ) (ask : Ask) (scheduler : Scheduler) (domains : List (Option (List RtdsUnit))) → ask.cur ≡ Some u → Recorded u left deadline (Some b) domains
-    → Chosen u (left - (ask.at - b)) deadline ask.at (choose_rt ask scheduler domains) ⊎ Passed u (left - (ask.at - b)) deadline None (choose_rt ask scheduler domains)
+    → Chosen u (left - (ask.at.0 - b)) deadline ask.at.0 (rtds_decision ask scheduler domains) ⊎ Passed u (left - (ask.at.0 - b)) deadline None (rtds_decision ask scheduler domains)
 decides_on u left deadline b ask scheduler domains is r =
-    decide_gives u (left - (ask.at - b)) deadline ask (burn_cur ask.cur ask.at domains) (Some ask.at) None (choice ask scheduler (burn_cur ask.cur ask.at domains)) charged
-    (switched_own u (left - (ask.at - b)) deadline (Some ask.at) ask.cur _ is charged)
+    decide_gives u (left - (ask.at.0 - b)) deadline ask (burn_cur ask.cur ask.at.0 domains) (Some ask.at.0) None (choice ask scheduler (burn_cur ask.cur ask.at.0 domains)) charged
+    (switched_own u (left - (ask.at.0 - b)) deadline (Some ask.at.0) ask.cur _ is charged)
   where
-    charged : Recorded u (left - (ask.at - b)) deadline (Some ask.at) (burn_cur ask.cur ask.at domains)
-    charged = subst (λ o. Recorded u (left - (ask.at - b)) deadline (Some ask.at) (burn_cur o ask.at domains)) (sym is) (recorded_burned u left deadline b ask.at domains r)
+    charged : Recorded u (left - (ask.at.0 - b)) deadline (Some ask.at.0) (burn_cur ask.cur ask.at.0 domains)
+    charged = subst (λ o. Recorded u (left - (ask.at.0 - b)) deadline (Some ask.at.0) (burn_cur o ask.at.0 domains)) (sym is) (recorded_burned u left deadline b ask.at.0 domains r)

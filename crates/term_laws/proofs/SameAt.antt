@@ -25,8 +25,7 @@ use Rattle.sched_model.specs.Commands.{is_kind}
 use Rattle.sched_model.specs.Machine.{after, verdict}
 use Rattle.sched_laws.proofs.EachPlace.{by_cond}
 use Rattle.term_laws.proofs.RtdsSteps.{rtds_unit-same, rtds_unit-none, rtds_unit-other}
-use Rattle.term_laws.proofs.Plans.{IfOk}
-use Rattle.term_laws.proofs.AtHome.{HoldsAt, KeptAtHome, IsNoDom, at_after}
+use Rattle.term_laws.proofs.AtHome.{HoldsAt, KeptAtHome, IsNoDom, at_after, IfOk}
 use Rattle.sched_laws.proofs.Events.{KeptByCommands, kept_by_parts, kept_processor, kept_set_leaving, kept_withdrawn, kept_pause, kept_unpause}
 use Rattle.term_laws.proofs.SamePool.{Same, same_of, cur_in, IsPlain, charged, same_trans, same_change_each, same_settled, same_parts, same_commands, same_change_domain}
 use Rattle.sched_model.specs.Places.{same_unit}

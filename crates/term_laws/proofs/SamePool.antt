@@ -16,7 +16,7 @@ use Rattle.sched_model.specs.Policy.{kind_of}
 use Rattle.sched_laws.proofs.Records.{same_refill as kinds_refill}
 use Rattle.sched_model.specs.Pool as pools
 use Rattle.sched_model.specs.declared.action.Action.{Action}
-use Rattle.sched_model.specs.Pool.{after_in, settled, home_cores, reconsidered, change_core, change_processor, change_vcpu, change_domain, change_cores_of, set_pending, does, queue_unit, started_on, set_leaving, set_moving, pause, unpause, is_of_domain}
+use Rattle.sched_model.specs.Pool.{after_in, settled_pool, home_cores, reconsidered_core, change_core, change_processor, change_vcpu, change_domain, change_cores_of, set_pending, with_doing, queue_unit, started_on, set_leaving, set_moving, pause, unpause, is_of_domain}
 use Rattle.sched_model.specs.declared.action.Action.TheVariants.{DomMoved, Repl, Decide}
 use Rattle.sched_laws.proofs.Events.{like_look, LikePlaces, like_change_at, like_change_each, like_map, KeepsCore, KeptByCommands, KeptByParts, commands_of, kept_settled}
 use Rattle.sched_laws.proofs.Lists.{test_at-change_at}
@@ -106,7 +106,7 @@ module _ (w : UnitId) where
     queues = λ u q runs. same_scheduler (policy.enqueue u q.scheduler) p q refl;
     dequeues = λ d q. same_scheduler (policy.dequeue_domain d q.scheduler) p q refl;
     decides = λ r c q at plain. absurd plain;
-    saves = λ r c u q at is plain. same_like _ p q (like_change_at SameSeen r pools.saved q.resources (λ x. refl) (λ x there. refl));
+    saves = λ r c u q at is plain. same_like _ p q (like_change_at SameSeen r pools.saved_core q.resources (λ x. refl) (λ x there. refl));
     replenishes = λ u q plain. absurd plain;
     dues = λ r u x old q plain is. absurd plain;
     refills = λ d q plain a. same_trans p q _ a (same_refill t d q);
@@ -115,5 +115,5 @@ module _ (w : UnitId) where
   pub same_commands : (g : ℕ) (p : Pool) → KeptByCommands g (Same p)
   same_commands g p = commands_of (same_parts g 0 p)
 
-  pub same_settled : (t : ℕ) (p q : Pool) → Same p q → Same p (settled t q)
+  pub same_settled : (t : ℕ) (p q : Pool) → Same p q → Same p (settled_pool t q)
   same_settled t p q a = kept_settled (same_commands 1 p) t q a

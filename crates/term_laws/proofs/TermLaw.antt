@@ -1,4 +1,5 @@
 -- The steps of runs, put together for one unit.
+use Rattle.sched_base.specs.Numbers.{core as core_number, domain}
 use Rattle.std.proofs.Common.{◌≡◌, ◌<◌, ◌-◌, ℕ, Bool, true, false, List, length, refl, ap, subst, sym, ◌∙◌, ◌⊎◌, inl, inr, cond}
 use Rattle.std.specs.Prelude.{Option, Some, None}
 use Rattle.sched_base.specs.declared.Moment.{Moment}
@@ -19,14 +20,14 @@ use Rattle.sched_laws.proofs.ApartKept.{apart_after}
 use Rattle.sched_laws.proofs.Choices.{same_unit_same}
 use Rattle.term_laws.specs.RtdsTerm.{Term, late_now, late_of, taken_by, moves, term_end, opened_by}
 use Rattle.term_laws.proofs.TermPool.{OffPool, OnPool}
-use Rattle.term_laws.proofs.TermState.{PoolHas, WithinTerm, is_on}
+use Rattle.term_laws.proofs.TermState.{PoolHas, WithinTerm}
 use Rattle.term_laws.proofs.TermSums.{IsOn, Steps, StepOff, StepOn, GoesOn}
 use Rattle.term_laws.proofs.TermsOfRuns.{TrackOff, TrackOn, begun_on}
 use Rattle.term_laws.proofs.TermsOfRuns as runs
 use Rattle.term_laws.proofs.Track.{OffHome, OnHome}
 use Rattle.term_laws.proofs.ReachedStates.{IsReached, Known, knows, reached_next}
 use Rattle.term_laws.proofs.ActsIn.{IsOrdinary, view, View, quiet_event, acts_in, ordinary_after, passed_after}
-use Rattle.term_laws.proofs.Deciding.{Tracks, OverPool, decides, off_home_stable, on_home_stable, off_pool_stable, on_pool_stable, over_stable, over_is, over_of}
+use Rattle.term_laws.proofs.Deciding.{Tracks, OverPool, decides, off_home_stable, on_home_stable, off_pool_stable, on_pool_stable, over_stable, over_is, over_of, is_on}
 use Rattle.term_laws.proofs.DecidedSteps.{track_off_decides, track_on_decides, off_decides_step, on_decides_step, over_decides}
 use Rattle.term_laws.proofs.Replenishing.{over_repl, track_off_repl, track_on_repl, off_repl_step, on_repl_step, the_unit, term_from, term_until, opened_within}
 use Rattle.term_laws.proofs.Moving.{track_off_moved, track_on_moved, over_moved, off_moved_step, on_moved_step}
@@ -39,9 +40,9 @@ module _ (m : Machine) (checked : IsChecked m) (u : UnitId) where
   -- what holds of an entry and of the state after it, by the entry's action
   pub by_entry : (P : Entry → State → Type 0) (from : Reached) (entry : Entry) → IsNext m from entry → IsReached m from.state
       → ((action : Action) → is_enabled m from.state from.state.now action ≡ true → IsOrdinary m u from.state from.state.now action → P (record { at = entry.at; event = event_of m from.state from.state.now action }) (after m from.state from.state.now action))
-      → ((n : ℕ) → is_enabled m from.state from.state.now (Decide n) ≡ true → P (record { at = entry.at; event = event_of m from.state from.state.now (Decide n) }) (after m from.state from.state.now (Decide n)))
+      → ((n : ℕ) → is_enabled m from.state from.state.now (Decide (core_number n)) ≡ true → P (record { at = entry.at; event = event_of m from.state from.state.now (Decide (core_number n)) }) (after m from.state from.state.now (Decide (core_number n))))
       → ((v : UnitId) → is_enabled m from.state from.state.now (Repl v) ≡ true → P (record { at = entry.at; event = event_of m from.state from.state.now (Repl v) }) (after m from.state from.state.now (Repl v)))
-      → ((d : ℕ) → is_enabled m from.state from.state.now (DomMoved d) ≡ true → IsReached m (after m from.state from.state.now (DomMoved d)) → P (record { at = entry.at; event = event_of m from.state from.state.now (DomMoved d) }) (after m from.state from.state.now (DomMoved d)))
+      → ((d : ℕ) → is_enabled m from.state from.state.now (DomMoved (domain d)) ≡ true → IsReached m (after m from.state from.state.now (DomMoved (domain d))) → P (record { at = entry.at; event = event_of m from.state from.state.now (DomMoved (domain d)) }) (after m from.state from.state.now (DomMoved (domain d))))
       → (IsQuiet u entry.event → P entry from.state)
       → (IsQuiet u entry.event → (n : ℕ) → P entry (record from.state { now = n }))
       → P entry (after_entry m from entry).state
@@ -80,7 +81,7 @@ module _ (m : Machine) (checked : IsChecked m) (u : UnitId) (low : u.dom.0 < len
       (λ action may o. inl (o.late r, ordinary_after m u s s.now Q (over_stable u r latest) w action k.apart may o))
       (λ n may. over_decides m u s n k (decides m s s.now n may) entry.at r latest w)
       (λ v may. inl (refl, over_repl m u s v k (acts_in m s s.now (Repl v) may) entry.at r latest w))
-      (λ d may r2. inl (refl, over_moved m u s d k (acts_in m s s.now (DomMoved d) may) entry.at r latest w))
+      (λ d may r2. inl (refl, over_moved m u s d k (acts_in m s s.now (DomMoved (domain d)) may) entry.at r latest w))
       (λ q. inl (q.0 r, w))
       (λ q n. inl (q.0 r, passed_after m u s s.now Q (over_stable u r latest) w n))) [
         | inl stays ↦ inl (stays.0, over_is u r latest (after_entry m from entry).state apart stays.1)
@@ -97,7 +98,7 @@ module _ (m : Machine) (checked : IsChecked m) (u : UnitId) (low : u.dom.0 < len
         (λ action may o. inl (o.taken, o.stays, ordinary_after m u s s.now Q (off_pool_stable u left deadline) w action k.apart may o))
         (λ n may. off_decides_step m u s n k (decides m s s.now n may) entry.at deadline left w)
         (λ v may. off_repl_step m u s v k (acts_in m s s.now (Repl v) may) entry.at deadline left w)
-        (λ d may r2. off_moved_step m u s d k (acts_in m s s.now (DomMoved d) may) entry.at deadline left w)
+        (λ d may r2. off_moved_step m u s d k (acts_in m s s.now (DomMoved (domain d)) may) entry.at deadline left w)
         (λ q. inl (q.1, q.2, w))
         (λ q n. inl (q.1, q.2, passed_after m u s s.now Q (off_pool_stable u left deadline) w n))
 
@@ -110,7 +111,7 @@ module _ (m : Machine) (checked : IsChecked m) (u : UnitId) (low : u.dom.0 < len
         (λ action may o. inl (o.late r, o.taken, o.stays, ordinary_after m u s s.now Q (on_pool_stable u left deadline r b) w action k.apart may o))
         (λ n may. on_decides_step m u s n k (decides m s s.now n may) entry.at deadline left r b w)
         (λ v may. on_repl_step m u s v k (acts_in m s s.now (Repl v) may) entry.at deadline left r b (apart_after m s s.now (Repl v) may k.apart) w)
-        (λ d may r2. on_moved_step m u s d k (acts_in m s s.now (DomMoved d) may) entry.at deadline left r b w)
+        (λ d may r2. on_moved_step m u s d k (acts_in m s s.now (DomMoved (domain d)) may) entry.at deadline left r b w)
         (λ q. inl (q.0 r, q.1, q.2, w))
         (λ q n. inl (q.0 r, q.1, q.2, passed_after m u s s.now Q (on_pool_stable u left deadline r b) w n))
 
@@ -131,7 +132,7 @@ module _ (m : Machine) (checked : IsChecked m) (u : UnitId) (low : u.dom.0 < len
       (λ action may o. inl (o.taken, ordinary_after m u s s.now (OffHome u) (off_home_stable u) w action k.apart may o))
       (λ n may. track_off_decides m u s n k (decides m s s.now n may) entry.at w)
       (λ v may. track_off_repl m u s v k (acts_in m s s.now (Repl v) may) entry.at w)
-      (λ d may r2. track_off_moved m u s d k (acts_in m s s.now (DomMoved d) may) entry.at low (knows m checked (after m s s.now (DomMoved d)) r2) w)
+      (λ d may r2. track_off_moved m u s d k (acts_in m s s.now (DomMoved (domain d)) may) entry.at low (knows m checked (after m s s.now (DomMoved (domain d))) r2) w)
       (λ q. inl (q.1, w))
       (λ q n. inl (q.1, passed_after m u s s.now (OffHome u) (off_home_stable u) w n))
 
@@ -143,7 +144,7 @@ module _ (m : Machine) (checked : IsChecked m) (u : UnitId) (low : u.dom.0 < len
       (λ action may o. inl (o.late r, o.taken, ordinary_after m u s s.now (OnHome u r) (on_home_stable u r) w action k.apart may o))
       (λ n may. track_on_decides m u s n k (decides m s s.now n may) entry.at r w)
       (λ v may. track_on_repl m u s v k (acts_in m s s.now (Repl v) may) entry.at r w)
-      (λ d may r2. track_on_moved m u s d k (acts_in m s s.now (DomMoved d) may) entry.at r w)
+      (λ d may r2. track_on_moved m u s d k (acts_in m s s.now (DomMoved (domain d)) may) entry.at r w)
       (λ q. inl (q.0 r, q.1, w))
       (λ q n. inl (q.0 r, q.1, passed_after m u s s.now (OnHome u r) (on_home_stable u r) w n))
 

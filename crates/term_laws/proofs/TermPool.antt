@@ -1,5 +1,6 @@
 -- A unit within its term, in its pool: what is left to it, and the due of the core that it is on.
-use Rattle.std.proofs.Common.{◌≡◌, ◌≢◌, ◌≤◌, ◌+◌, ◌-◌, ℕ, zero, suc, Bool, true, false, List, [], ◌∷◌, refl, arith, ap, subst, sym, ◌∙◌, ◌⊎◌, inl, inr, cond}
+use Rattle.sched_laws.proofs.OnePlace.{same_choice_same}
+use Rattle.std.proofs.Common.{◌≡◌, ◌≢◌, ◌≤◌, ◌+◌, ◌-◌, ℕ, Bool, true, false, List, [], ◌∷◌, refl, arith, ap, subst, sym, ◌∙◌, ◌⊎◌, inl, inr, cond}
 use Rattle.std.specs.Prelude.{Option, Some, None, option_map}
 use Rattle.std.proofs.Math.Decide.{ℕ_discrete}
 use Rattle.sched_base.specs.Numbers.{moment}
@@ -15,14 +16,14 @@ use Rattle.sched_model.specs.declared.state.Records.TheVariants.{RtdsPool}
 use Rattle.sched_model.specs.declared.ask.Ask.{Ask}
 use Rattle.sched_model.specs.Eligible.{Decision, rtds_unit}
 use Rattle.sched_model.specs.Policy.{decision_of, decision_by}
-use Rattle.sched_model.specs.Rtds.{choose_rt}
-use Rattle.sched_model.specs.Pool.{ask_of, after_decide, decided, same_choice}
+use Rattle.sched_model.specs.Rtds.{rtds_decision}
+use Rattle.sched_model.specs.Pool.{ask_of, after_decide, decided_core, same_choice}
 use Rattle.sched_model.specs.Rtds as rtds
 use Rattle.sched_model.specs.Policy as policy
 use Rattle.sched_model.specs.Policy.{rtds_record}
 use Rattle.sched_model.specs.Pool.{core_of, after_replenish, due_within, with_records}
 use Rattle.std.specs.Prelude.{min}
-use Rattle.sched_laws.proofs.EachPlace.{by_option, none_found, found_at}
+use Rattle.sched_laws.proofs.EachPlace.{by_option, none_found, found_at, at_place-put_at as put_within, place_below}
 use Rattle.sched_laws.proofs.Choices.{same_unit_same, is_unit_same, decision_has}
 use Rattle.sched_laws.specs.Known.{IfUnit}
 use Rattle.std.specs.List.{AllByRecursion}
@@ -102,24 +103,16 @@ on_same u left deadline r b p q same a =
     }
 
 -- a core after its decision has the unit that was chosen, and its due
-same_choice_same : (o c : Option UnitId) → same_choice o c ≡ true → c ≡ o
-same_choice_same None None same = refl
-same_choice_same None (Some u) same = absurd (cc)
-same_choice_same (Some u) None same = absurd (cc)
-same_choice_same (Some u) (Some w) same = ap (λ x. Some x) (sym (same_unit_same u w same))
-
-pub seen_decided : (t : ℕ) (d : Decision) (c : Resource) → seen (Some (decided t d c)) ≡ option_map (λ (u : UnitId). (u, d.due)) d.unit
+pub seen_decided : (t : ℕ) (d : Decision) (c : Resource) → seen (Some (decided_core t d c)) ≡ option_map (λ (u : UnitId). (u, d.due)) d.unit
 seen_decided t d c =
     elim (same_choice d.unit c.cur) as (λ b. same_choice d.unit c.cur ≡ b → seen (Some (elim b as (λ _. Resource) [ true ↦ record c { due = d.due; pending = false; stage = Decided } | false ↦ record c { saving = c.cur; cur = d.unit; since = moment t; due = d.due; pending = false; stage = Decided } ])) ≡ option_map (λ (u : UnitId). (u, d.due)) d.unit) [
-      | true ↦ λ is. ap (λ (o : Option UnitId). option_map (λ (u : UnitId). (u, d.due)) o) (same_choice_same d.unit c.cur is)
+      | true ↦ λ is. ap (λ (o : Option UnitId). option_map (λ (u : UnitId). (u, d.due)) o) (sym (same_choice_same d.unit c.cur is))
       | false ↦ λ is. refl
     ] refl
 
 -- what stands at a place that was not empty
 pub at_place-put_at : {X : Type 0} (r : ℕ) (x y : X) (places : List (Option X)) → at_place places r ≡ Some y → at_place (put_at r x places) r ≡ Some x
-at_place-put_at r x y [] at = absurd (cc)
-at_place-put_at zero x y (p ∷ places) at = refl
-at_place-put_at (suc r) x y (p ∷ places) at = at_place-put_at r x y places at
+at_place-put_at r x y places at = put_within r x places (place_below places r y at)
 
 seen_of : (c : Resource) (u : UnitId) (due : Option Moment) → seen (Some c) ≡ Some (u, due) → (c.cur ≡ Some u) × (c.due ≡ due)
 seen_of c u due is = from c.cur refl is
@@ -142,51 +135,56 @@ not_itself : (u : UnitId) (o : Option UnitId) (due d : Option Moment) → is_uni
 not_itself u None due d other is = cc
 not_itself u (Some w) due d other is = (let t1 : UnitId × Option Moment = (w, d) in let t2 : UnitId × Option Moment = (u, due) in let e2 : t1 ≡ t2 = cc in let e : w ≡ u = ap (λ (z : UnitId × Option Moment). z.0) e2 in let s = same_unit_refl u in let t : same_unit u u ≡ false = subst (λ (x : UnitId). same_unit x u ≡ false) e other in cc)
 
+-- what a core's decision tells of a unit that is on no other core: it is chosen, or it is on none
+decided_pool : (g t : ℕ) (u : UnitId) (left deadline r : ℕ) (burned : Option ℕ) (c : Resource) (p : Pool) → at_place p.resources r ≡ Some c → test_at p.domains u.dom.0 (λ x. true) ≡ true
+    → ((n : ℕ) (due : Option Moment) → r ≢ n → seen (at_place p.resources n) ≡ Some (u, due) → ⊥)
+    → Chosen u left deadline t (decision_of (ask_of g t p r c) p.scheduler) ⊎ Passed u left deadline burned (decision_of (ask_of g t p r c) p.scheduler)
+    → ((decision_of (ask_of g t p r c) p.scheduler).unit ≡ Some u) × OnPool u left deadline r t (after_decide g t r c p)
+    ⊎ (is_unit (decision_of (ask_of g t p r c) p.scheduler).unit u ≡ false) × OffPool u left deadline (after_decide g t r c p)
+decided_pool g t u left deadline r burned c p at there apart decides =
+    let d : Decision = decision_of (ask_of g t p r c) p.scheduler in
+    let there_is : at_place (put_at r (decided_core t d c) p.resources) r ≡ Some (decided_core t d c) = at_place-put_at r (decided_core t d c) c p.resources at in
+    let others : (n : ℕ) (due : Option Moment) → r ≢ n → seen (at_place (put_at r (decided_core t d c) p.resources) n) ≡ Some (u, due) → ⊥ =
+    λ n due ne is. apart n due ne (sym (ap seen (at_place-set_other r n (Some (decided_core t d c)) p.resources ne)) ∙ is) in
+    elim decides [
+      | inl x ↦ inl (
+        x.0,
+        record {
+          domains = x.4;
+          is_rtds = x.5;
+          recorded = x.6;
+          there = there;
+          due = x.1;
+          at = ap seen there_is ∙ seen_decided t d c ∙ ap (λ (o : Option UnitId). option_map (λ (y : UnitId). (y, d.due)) o) x.0 ∙ ap (λ (o : Option Moment). Some (u, o)) x.2;
+          low = x.3;
+          only = λ n due is. elim (ℕ_discrete r n) [ yes e ↦ sym e | no ne ↦ absurd (others n due ne is) ];
+        },
+      )
+      | inr x ↦ inr (
+        x.0,
+        record {
+          domains = x.1;
+          is_rtds = x.2;
+          burned = burned;
+          recorded = x.3;
+          there = there;
+          none = λ n due is. elim (ℕ_discrete r n) [
+            | yes e ↦ not_itself u d.unit due d.due x.0 (sym (ap seen there_is ∙ seen_decided t d c) ∙ subst (λ k. seen (at_place (put_at r (decided_core t d c) p.resources) k) ≡ Some (u, due)) (sym e) is)
+            | no ne ↦ others n due ne is
+          ];
+        },
+      )
+    ]
+
 -- the core that has the unit decides: it is chosen again, from now on, or it is on no core
 pub on_decides : (g t : ℕ) (u : UnitId) (left deadline r b : ℕ) (c : Resource) (p : Pool) → at_place p.resources r ≡ Some c → OnPool u left deadline r b p
     → ((decision_of (ask_of g t p r c) p.scheduler).unit ≡ Some u) × OnPool u (left - (t - b)) deadline r t (after_decide g t r c p)
     ⊎ (is_unit (decision_of (ask_of g t p r c) p.scheduler).unit u ≡ false) × OffPool u (left - (t - b)) deadline (after_decide g t r c p)
 on_decides g t u left deadline r b c p at a =
-    let ask : Ask = ask_of g t p r c in
-    let d : Decision = decision_of ask p.scheduler in
     let cur : c.cur ≡ Some u = (seen_of c u (Some (moment a.due)) (sym (ap seen at) ∙ a.at)).0 in
-    let same : choose_rt ask p.scheduler a.domains ≡ d = sym (ap (λ (x : Records). decision_by x ask p.scheduler) a.is_rtds) in
-    let there_is : at_place (put_at r (decided t d c) p.resources) r ≡ Some (decided t d c) = at_place-put_at r (decided t d c) c p.resources at in
-    let others : (n : ℕ) (due : Option Moment) → r ≢ n → seen (at_place (put_at r (decided t d c) p.resources) n) ≡ Some (u, due) → ⊥ =
-    λ n due ne is. ne (sym (a.only n due (sym (ap seen (at_place-set_other r n (Some (decided t d c)) p.resources ne)) ∙ is))) in
-    elim (decides_on u left deadline b ask p.scheduler a.domains cur a.recorded) [
-      | inl chosen ↦ (
-          let x = subst (λ (y : Decision). Chosen u (left - (t - b)) deadline t y) same chosen in
-          inl (
-            x.0,
-            record {
-              domains = x.4;
-              is_rtds = x.5;
-              recorded = x.6;
-              there = a.there;
-              due = x.1;
-              at = ap seen there_is ∙ seen_decided t d c ∙ ap (λ (o : Option UnitId). option_map (λ (y : UnitId). (y, d.due)) o) x.0 ∙ ap (λ (o : Option Moment). Some (u, o)) x.2;
-              low = x.3;
-              only = λ n due is. elim (ℕ_discrete r n) [ yes e ↦ sym e | no ne ↦ absurd (others n due ne is) ];
-            },
-          ))
-      | inr passed ↦ (
-          let x = subst (λ (y : Decision). Passed u (left - (t - b)) deadline None y) same passed in
-          inr (
-            x.0,
-            record {
-              domains = x.1;
-              is_rtds = x.2;
-              burned = None;
-              recorded = x.3;
-              there = a.there;
-              none = λ n due is. elim (ℕ_discrete r n) [
-                | yes e ↦ not_itself u d.unit due d.due x.0 (sym (ap seen there_is ∙ seen_decided t d c) ∙ subst (λ k. seen (at_place (put_at r (decided t d c) p.resources) k) ≡ Some (u, due)) (sym e) is)
-                | no ne ↦ others n due ne is
-              ];
-            },
-          ))
-    ]
+    let same : rtds_decision (ask_of g t p r c) p.scheduler a.domains ≡ decision_of (ask_of g t p r c) p.scheduler = sym (ap (λ (x : Records). decision_by x (ask_of g t p r c) p.scheduler) a.is_rtds) in
+    decided_pool g t u (left - (t - b)) deadline r None c p at a.there (λ n due ne is. ne (sym (a.only n due is)))
+    (subst (λ (y : Decision). Chosen u (left - (t - b)) deadline t y ⊎ Passed u (left - (t - b)) deadline None y) same (decides_on u left deadline b (ask_of g t p r c) p.scheduler a.domains cur a.recorded))
 
 -- a core of which the unit is not the own one
 pub not_cur : (u : UnitId) (c : Resource) → ((due : Option Moment) → seen (Some c) ≡ Some (u, due) → ⊥) → is_unit c.cur u ≡ false
@@ -204,46 +202,10 @@ pub off_decides : (g t : ℕ) (u : UnitId) (left deadline r : ℕ) (c : Resource
     → ((decision_of (ask_of g t p r c) p.scheduler).unit ≡ Some u) × OnPool u left deadline r t (after_decide g t r c p)
     ⊎ (is_unit (decision_of (ask_of g t p r c) p.scheduler).unit u ≡ false) × OffPool u left deadline (after_decide g t r c p)
 off_decides g t u left deadline r c p at a =
-    let ask : Ask = ask_of g t p r c in
-    let d : Decision = decision_of ask p.scheduler in
     let other : is_unit c.cur u ≡ false = not_cur u c (λ due is. a.none r due (ap seen at ∙ is)) in
-    let same : choose_rt ask p.scheduler a.domains ≡ d = sym (ap (λ (x : Records). decision_by x ask p.scheduler) a.is_rtds) in
-    let there_is : at_place (put_at r (decided t d c) p.resources) r ≡ Some (decided t d c) = at_place-put_at r (decided t d c) c p.resources at in
-    let others : (n : ℕ) (due : Option Moment) → r ≢ n → seen (at_place (put_at r (decided t d c) p.resources) n) ≡ Some (u, due) → ⊥ =
-    λ n due ne is. a.none n due (sym (ap seen (at_place-set_other r n (Some (decided t d c)) p.resources ne)) ∙ is) in
-    elim (decides_off u left deadline ask p.scheduler a.domains a.burned other a.recorded) [
-      | inl chosen ↦ (
-          let x = subst (λ (y : Decision). Chosen u left deadline t y) same chosen in
-          inl (
-            x.0,
-            record {
-              domains = x.4;
-              is_rtds = x.5;
-              recorded = x.6;
-              there = a.there;
-              due = x.1;
-              at = ap seen there_is ∙ seen_decided t d c ∙ ap (λ (o : Option UnitId). option_map (λ (y : UnitId). (y, d.due)) o) x.0 ∙ ap (λ (o : Option Moment). Some (u, o)) x.2;
-              low = x.3;
-              only = λ n due is. elim (ℕ_discrete r n) [ yes e ↦ sym e | no ne ↦ absurd (others n due ne is) ];
-            },
-          ))
-      | inr passed ↦ (
-          let x = subst (λ (y : Decision). Passed u left deadline a.burned y) same passed in
-          inr (
-            x.0,
-            record {
-              domains = x.1;
-              is_rtds = x.2;
-              burned = a.burned;
-              recorded = x.3;
-              there = a.there;
-              none = λ n due is. elim (ℕ_discrete r n) [
-                | yes e ↦ not_itself u d.unit due d.due x.0 (sym (ap seen there_is ∙ seen_decided t d c) ∙ subst (λ k. seen (at_place (put_at r (decided t d c) p.resources) k) ≡ Some (u, due)) (sym e) is)
-                | no ne ↦ others n due ne is
-              ];
-            },
-          ))
-    ]
+    let same : rtds_decision (ask_of g t p r c) p.scheduler a.domains ≡ decision_of (ask_of g t p r c) p.scheduler = sym (ap (λ (x : Records). decision_by x (ask_of g t p r c) p.scheduler) a.is_rtds) in
+    decided_pool g t u left deadline r a.burned c p at a.there (λ n due ne. a.none n due)
+    (subst (λ (y : Decision). Chosen u left deadline t y ⊎ Passed u left deadline a.burned y) same (decides_off u left deadline (ask_of g t p r c) p.scheduler a.domains a.burned other a.recorded))
 
 -- another core than the unit's decides, and not for the unit
 pub other_decides : (g t : ℕ) (u : UnitId) (left deadline r b n : ℕ) (c : Resource) (p : Pool) → at_place p.resources n ≡ Some c → n ≢ r → is_unit (decision_of (ask_of g t p n c) p.scheduler).unit u ≡ false
@@ -252,9 +214,9 @@ other_decides g t u left deadline r b n c p at ne not_u a =
     let ask : Ask = ask_of g t p n c in
     let d : Decision = decision_of ask p.scheduler in
     let other : is_unit c.cur u ≡ false = not_cur u c (λ due is. ne (a.only n due (ap seen at ∙ is))) in
-    let same : choose_rt ask p.scheduler a.domains ≡ d = sym (ap (λ (x : Records). decision_by x ask p.scheduler) a.is_rtds) in
-    let there_is : at_place (put_at n (decided t d c) p.resources) n ≡ Some (decided t d c) = at_place-put_at n (decided t d c) c p.resources at in
-    let keeps : (k : ℕ) → n ≢ k → seen (at_place (put_at n (decided t d c) p.resources) k) ≡ seen (at_place p.resources k) = λ k ne2. ap seen (at_place-set_other n k (Some (decided t d c)) p.resources ne2) in
+    let same : rtds_decision ask p.scheduler a.domains ≡ d = sym (ap (λ (x : Records). decision_by x ask p.scheduler) a.is_rtds) in
+    let there_is : at_place (put_at n (decided_core t d c) p.resources) n ≡ Some (decided_core t d c) = at_place-put_at n (decided_core t d c) c p.resources at in
+    let keeps : (k : ℕ) → n ≢ k → seen (at_place (put_at n (decided_core t d c) p.resources) k) ≡ seen (at_place p.resources k) = λ k ne2. ap seen (at_place-set_other n k (Some (decided_core t d c)) p.resources ne2) in
     elim (decides_off u left deadline ask p.scheduler a.domains (Some b) other a.recorded) [
       | inl chosen ↦ absurd (let x = subst (λ (y : Decision). Chosen u left deadline t y) same chosen in let s = same_unit_refl u in let e : is_unit (Some u) u ≡ false = subst (λ o. is_unit o u ≡ false) x.0 not_u in cc)
       | inr passed ↦ (
@@ -268,7 +230,7 @@ other_decides g t u left deadline r b n c p at ne not_u a =
             at = keeps r ne ∙ a.at;
             low = a.low;
             only = λ k due is. elim (ℕ_discrete n k) [
-              | yes e ↦ absurd (not_itself u d.unit due d.due x.0 (sym (ap seen there_is ∙ seen_decided t d c) ∙ subst (λ j. seen (at_place (put_at n (decided t d c) p.resources) j) ≡ Some (u, due)) (sym e) is))
+              | yes e ↦ absurd (not_itself u d.unit due d.due x.0 (sym (ap seen there_is ∙ seen_decided t d c) ∙ subst (λ j. seen (at_place (put_at n (decided_core t d c) p.resources) j) ≡ Some (u, due)) (sym e) is))
               | no ne2 ↦ a.only k due (sym (keeps k ne2) ∙ is)
             ];
           })

@@ -1,11 +1,11 @@
 -- A unit within its term, in the state: what is kept of it by all but decisions, replenishments and moves of a domain.
 use Rattle.std.proofs.Common.{◌≡◌, ◌≢◌, ◌≤◌, ℕ, true, false, refl, ap, subst, sym, ◌∙◌, ◌⊎◌, inl, inr}
-use Rattle.std.specs.Prelude.{Option, Some, None, is_some, option_map, unwrap_or, ◌-◌, ◌+◌}
-use Rattle.sched_base.specs.Numbers.{moment}
+use Rattle.std.specs.Prelude.{Option, Some, None, is_some, option_map, unwrap_or, ◌-◌}
+use Rattle.sched_base.specs.Numbers.{moment, core as core_number}
 use Rattle.sched_model.specs.Eligible.{Decision}
 use Rattle.sched_model.specs.Opening.{no_pool}
 use Rattle.sched_model.specs.Policy.{decision_of}
-use Rattle.sched_model.specs.Pool.{after_in, after_decide, ask_of, decision_at, settled}
+use Rattle.sched_model.specs.Pool.{after_in, after_decide, ask_of, decision_at, settled_pool}
 use Rattle.sched_model.specs.Actions.{change_pool}
 use Rattle.sched_model.specs.Machine.{home_pool}
 use Rattle.term_laws.proofs.RtdsSteps.{at_place-change_at, at_place-change_at_other}
@@ -15,25 +15,22 @@ use Rattle.sched_model.specs.Places.{at_place, change_at, is_unit, same_unit}
 use Rattle.sched_model.specs.declared.machine.Machine.{Machine}
 use Rattle.sched_model.specs.declared.state.State.{State}
 use Rattle.sched_model.specs.declared.state.Pool.{Pool}
-use Rattle.sched_model.specs.declared.action.Action.{Action}
 use Rattle.sched_model.specs.declared.action.Action.TheVariants.{Decide}
 use Rattle.sched_model.specs.Actions.{home_of_core}
-use Rattle.sched_model.specs.Machine.{is_enabled, after}
+use Rattle.sched_model.specs.Machine.{after}
 use Rattle.term_laws.specs.RtdsTerm.{core_in}
 use Rattle.sched_laws.proofs.EachPlace.{found_at, none_found, by_option}
-use Rattle.sched_laws.proofs.Lists.{test_at-some, some-test_at, is_some_at, AllByRecursion-map}
+use Rattle.sched_laws.proofs.Lists.{test_at-some, some-test_at, is_some_at, AllByRecursion-map, some_same}
 use Rattle.sched_laws.proofs.OwnUnits.{there_if_staying}
 use Rattle.sched_laws.specs.Known.{UnitsAreOwn, IsThere, IsStaying}
 use Rattle.sched_laws.proofs.Choices.{decision_has, same_unit_same}
 use Rattle.sched_laws.specs.Known.{IfUnit}
 use Rattle.std.proofs.Math.Decide.{ℕ_discrete}
 use Rattle.sched_laws.proofs.Kept.{IsApart}
-use Rattle.term_laws.proofs.SamePool.{same_refl, same_settled, seen}
-use Rattle.sched_base.specs.declared.Moment.{Moment}
-use Rattle.term_laws.proofs.SameAt.{LeavesIt, sat_after}
+use Rattle.term_laws.proofs.SamePool.{same_refl, same_settled}
 use Rattle.term_laws.proofs.TermPool.{OffPool, OnPool, off_same, on_same, on_decides, off_decides, other_decides, not_chosen, core_seen}
 use Rattle.sched_laws.specs.Known.{places}
-use Rattle.term_laws.proofs.TermSums.{Within, IsOn}
+use Rattle.term_laws.proofs.TermSums.{Within}
 
 -- the pool that has the unit, with what holds of it
 pub record PoolHas (P : Pool → Type 0) (s : State) : Type 0 where
@@ -46,20 +43,6 @@ pub record PoolHas (P : Pool → Type 0) (s : State) : Type 0 where
 abbrev pub WithinTerm : UnitId → ℕ → Within
 WithinTerm u deadline left None s = PoolHas (OffPool u left deadline) s
 WithinTerm u deadline left (Some leg) s = PoolHas (OnPool u left deadline leg.0 leg.1) s
-
--- it is kept by all but decisions, replenishments and moves of a domain
-pub within_kept : (m : Machine) (u : UnitId) (deadline left : ℕ) (leg : Option (ℕ × ℕ)) (s : State) (t : ℕ) (action : Action) → IsApart s → is_enabled m s t action ≡ true
-    → ((i : ℕ) (p : Pool) (has : _) → LeavesIt u i p has action) → WithinTerm u deadline left leg s → WithinTerm u deadline left leg (after m s t action)
-within_kept m u deadline left None s t action apart on leaves w =
-    let p = w.pool in
-    let h = w.has in
-    let a = sat_after u w.home p h.there m t action s (leaves w.home p h.there) apart on (record { pool = p; at = w.at; same = same_refl u p }) in
-    record { home = w.home; pool = a.pool; at = a.at; has = off_same u left deadline p a.pool a.same h }
-within_kept m u deadline left (Some leg) s t action apart on leaves w =
-    let p = w.pool in
-    let h = w.has in
-    let a = sat_after u w.home p h.there m t action s (leaves w.home p h.there) apart on (record { pool = p; at = w.at; same = same_refl u p }) in
-    record { home = w.home; pool = a.pool; at = a.at; has = on_same u left deadline leg.0 leg.1 p a.pool a.same h }
 
 -- the core is found in the state, since no core is in two pools
 pub core_is_in : (s : State) (i r : ℕ) (pool : Pool) (c : Resource) → IsApart s → at_place s.pools i ≡ Some pool → at_place pool.resources r ≡ Some c → core_in s r ≡ Some c
@@ -84,8 +67,8 @@ home_of_core_is s i r pool c apart at has =
 
 -- the core that the unit is on decides
 pub within_decides : (m : Machine) (u : UnitId) (deadline left r b : ℕ) (s : State) (t : ℕ) → IsApart s → WithinTerm u deadline left (Some (r, b)) s
-    → ((decision_at m.config.granularity t (home_pool m s (Decide r)) r).unit ≡ Some u) × WithinTerm u deadline (left - (t - b)) (Some (r, t)) (after m s t (Decide r))
-    ⊎ (is_unit (decision_at m.config.granularity t (home_pool m s (Decide r)) r).unit u ≡ false) × WithinTerm u deadline (left - (t - b)) None (after m s t (Decide r))
+    → ((decision_at m.config.granularity t (home_pool m s (Decide (core_number r))) r).unit ≡ Some u) × WithinTerm u deadline (left - (t - b)) (Some (r, t)) (after m s t (Decide (core_number r)))
+    ⊎ (is_unit (decision_at m.config.granularity t (home_pool m s (Decide (core_number r))) r).unit u ≡ false) × WithinTerm u deadline (left - (t - b)) None (after m s t (Decide (core_number r)))
 within_decides m u deadline left r b s t apart w =
     let g = m.config.granularity in
     let p = w.pool in
@@ -94,34 +77,34 @@ within_decides m u deadline left r b s t apart w =
     let c = seen_core.0 in
     let home : home_of_core s r ≡ Some w.home = home_of_core_is s w.home r p c apart w.at seen_core.1 in
     let next : Pool = after_decide g t r c p in
-    let in_pool : after_in g t p (Decide r) ≡ next = ap (λ (o : Option Resource). elim o as (λ _. Pool) [ None ↦ p | Some x ↦ after_decide g t r x p ]) seen_core.1 in
-    let state : after m s t (Decide r) ≡ change_pool w.home (λ pool. settled t (after_in g t pool (Decide r))) s =
-    ap (λ (o : Option ℕ). elim o as (λ _. State) [ None ↦ s | Some i ↦ change_pool i (λ pool. settled t (after_in g t pool (Decide r))) s ]) home in
-    let there : at_place (change_at w.home (λ pool. settled t (after_in g t pool (Decide r))) s.pools) w.home ≡ Some (settled t next) =
-    at_place-change_at w.home (λ pool. settled t (after_in g t pool (Decide r))) s.pools ∙ ap (option_map (λ pool. settled t (after_in g t pool (Decide r)))) w.at ∙ ap (λ x. Some (settled t x)) in_pool in
-    let pool_is : home_pool m s (Decide r) ≡ p =
+    let in_pool : after_in g t p (Decide (core_number r)) ≡ next = ap (λ (o : Option Resource). elim o as (λ _. Pool) [ None ↦ p | Some x ↦ after_decide g t r x p ]) seen_core.1 in
+    let state : after m s t (Decide (core_number r)) ≡ change_pool w.home (λ pool. settled_pool t (after_in g t pool (Decide (core_number r)))) s =
+    ap (λ (o : Option ℕ). elim o as (λ _. State) [ None ↦ s | Some i ↦ change_pool i (λ pool. settled_pool t (after_in g t pool (Decide (core_number r)))) s ]) home in
+    let there : at_place (change_at w.home (λ pool. settled_pool t (after_in g t pool (Decide (core_number r)))) s.pools) w.home ≡ Some (settled_pool t next) =
+    at_place-change_at w.home (λ pool. settled_pool t (after_in g t pool (Decide (core_number r)))) s.pools ∙ ap (option_map (λ pool. settled_pool t (after_in g t pool (Decide (core_number r))))) w.at ∙ ap (λ x. Some (settled_pool t x)) in_pool in
+    let pool_is : home_pool m s (Decide (core_number r)) ≡ p =
     ap (λ (o : Option ℕ). elim o as (λ _. Pool) [ None ↦ no_pool m.config | Some i ↦ unwrap_or (at_place s.pools i) (no_pool m.config) ]) home ∙ ap (λ o. unwrap_or o (no_pool m.config)) w.at in
-    let unit_is : decision_of (ask_of g t p r c) p.scheduler ≡ decision_at g t (home_pool m s (Decide r)) r =
+    let unit_is : decision_of (ask_of g t p r c) p.scheduler ≡ decision_at g t (home_pool m s (Decide (core_number r))) r =
     sym (ap (λ x. decision_at g t x r) pool_is ∙ ap (λ (o : Option Resource). elim o as (λ _. Decision) [ None ↦ record { unit = None; due = None; reset = 0; records = p.scheduler.records } | Some x ↦ decision_of (ask_of g t p r x) p.scheduler ]) seen_core.1) in
     elim (on_decides g t u left deadline r b c p seen_core.1 h) [
-      | inl again ↦ inl (subst (λ (d : Decision). d.unit ≡ Some u) unit_is again.0, subst (λ x. WithinTerm u deadline (left - (t - b)) (Some (r, t)) x) (sym state) (record { home = w.home; pool = settled t next; at = there; has = on_same u (left - (t - b)) deadline r t next (settled t next) (same_settled u t next next (same_refl u next)) again.1 }))
-      | inr idles ↦ inr (subst (λ (d : Decision). is_unit d.unit u ≡ false) unit_is idles.0, subst (λ x. WithinTerm u deadline (left - (t - b)) None x) (sym state) (record { home = w.home; pool = settled t next; at = there; has = off_same u (left - (t - b)) deadline next (settled t next) (same_settled u t next next (same_refl u next)) idles.1 }))
+      | inl again ↦ inl (subst (λ (d : Decision). d.unit ≡ Some u) unit_is again.0, subst (λ x. WithinTerm u deadline (left - (t - b)) (Some (r, t)) x) (sym state) (record { home = w.home; pool = settled_pool t next; at = there; has = on_same u (left - (t - b)) deadline r t next (settled_pool t next) (same_settled u t next next (same_refl u next)) again.1 }))
+      | inr idles ↦ inr (subst (λ (d : Decision). is_unit d.unit u ≡ false) unit_is idles.0, subst (λ x. WithinTerm u deadline (left - (t - b)) None x) (sym state) (record { home = w.home; pool = settled_pool t next; at = there; has = off_same u (left - (t - b)) deadline next (settled_pool t next) (same_settled u t next next (same_refl u next)) idles.1 }))
     ]
 
 -- a decision of a core, in its pool
 pub record DecidesAt (m : Machine) (s : State) (t j n : ℕ) (q : Pool) (c : Resource) : Type 0 where
-  pub state : after m s t (Decide n) ≡ change_pool j (λ pool. settled t (after_in m.config.granularity t pool (Decide n))) s
-  pub pool : after_in m.config.granularity t q (Decide n) ≡ after_decide m.config.granularity t n c q
-  pub unit : decision_of (ask_of m.config.granularity t q n c) q.scheduler ≡ decision_at m.config.granularity t (home_pool m s (Decide n)) n
+  pub state : after m s t (Decide (core_number n)) ≡ change_pool j (λ pool. settled_pool t (after_in m.config.granularity t pool (Decide (core_number n)))) s
+  pub pool : after_in m.config.granularity t q (Decide (core_number n)) ≡ after_decide m.config.granularity t n c q
+  pub unit : decision_of (ask_of m.config.granularity t q n c) q.scheduler ≡ decision_at m.config.granularity t (home_pool m s (Decide (core_number n))) n
 
 pub decides_at : (m : Machine) (s : State) (t j n : ℕ) (q : Pool) (c : Resource) → IsApart s → at_place s.pools j ≡ Some q → at_place q.resources n ≡ Some c → DecidesAt m s t j n q c
 decides_at m s t j n q c apart at has =
     let g = m.config.granularity in
     let home : home_of_core s n ≡ Some j = home_of_core_is s j n q c apart at has in
-    let pool_is : home_pool m s (Decide n) ≡ q =
+    let pool_is : home_pool m s (Decide (core_number n)) ≡ q =
     ap (λ (o : Option ℕ). elim o as (λ _. Pool) [ None ↦ no_pool m.config | Some i ↦ unwrap_or (at_place s.pools i) (no_pool m.config) ]) home ∙ ap (λ o. unwrap_or o (no_pool m.config)) at in
     record {
-      state = ap (λ (o : Option ℕ). elim o as (λ _. State) [ None ↦ s | Some i ↦ change_pool i (λ pool. settled t (after_in g t pool (Decide n))) s ]) home;
+      state = ap (λ (o : Option ℕ). elim o as (λ _. State) [ None ↦ s | Some i ↦ change_pool i (λ pool. settled_pool t (after_in g t pool (Decide (core_number n)))) s ]) home;
       pool = ap (λ (o : Option Resource). elim o as (λ _. Pool) [ None ↦ q | Some x ↦ after_decide g t n x q ]) has;
       unit = sym (ap (λ x. decision_at g t x n) pool_is ∙ ap (λ (o : Option Resource). elim o as (λ _. Decision) [ None ↦ record { unit = None; due = None; reset = 0; records = q.scheduler.records } | Some x ↦ decision_of (ask_of g t q n x) q.scheduler ]) has);
     }
@@ -143,21 +126,21 @@ foreign_not_chosen g t u n c q own has foreign =
 
 -- a core decides while the unit is on none
 pub off_decides_in : (m : Machine) (u : UnitId) (deadline left n : ℕ) (s : State) (t j : ℕ) (q : Pool) (c : Resource) → IsApart s → UnitsAreOwn q → at_place s.pools j ≡ Some q → at_place q.resources n ≡ Some c → WithinTerm u deadline left None s
-    → ((decision_at m.config.granularity t (home_pool m s (Decide n)) n).unit ≡ Some u) × WithinTerm u deadline left (Some (n, t)) (after m s t (Decide n))
-    ⊎ (is_unit (decision_at m.config.granularity t (home_pool m s (Decide n)) n).unit u ≡ false) × WithinTerm u deadline left None (after m s t (Decide n))
+    → ((decision_at m.config.granularity t (home_pool m s (Decide (core_number n))) n).unit ≡ Some u) × WithinTerm u deadline left (Some (n, t)) (after m s t (Decide (core_number n)))
+    ⊎ (is_unit (decision_at m.config.granularity t (home_pool m s (Decide (core_number n))) n).unit u ≡ false) × WithinTerm u deadline left None (after m s t (Decide (core_number n)))
 off_decides_in m u deadline left n s t j q c apart own at has w =
     let g = m.config.granularity in
     let d = decides_at m s t j n q c apart at has in
-    let f : Pool → Pool = λ pool. settled t (after_in g t pool (Decide n)) in
+    let f : Pool → Pool = λ pool. settled_pool t (after_in g t pool (Decide (core_number n))) in
     let next : Pool = after_decide g t n c q in
     elim (ℕ_discrete j w.home) [
       | yes e ↦ (
           let at2 : at_place s.pools w.home ≡ Some q = subst (λ k. at_place s.pools k ≡ Some q) e at in
           let same : w.pool ≡ q = some_same (sym w.at ∙ at2) in
-          let there : at_place (change_at j f s.pools) j ≡ Some (settled t next) = at_place-change_at j f s.pools ∙ ap (option_map f) at ∙ ap (λ x. Some (settled t x)) d.pool in
+          let there : at_place (change_at j f s.pools) j ≡ Some (settled_pool t next) = at_place-change_at j f s.pools ∙ ap (option_map f) at ∙ ap (λ x. Some (settled_pool t x)) d.pool in
           elim (off_decides g t u left deadline n c q has (subst (OffPool u left deadline) same w.has)) [
-            | inl takes ↦ inl (subst (λ (x : Decision). x.unit ≡ Some u) d.unit takes.0, subst (λ x. WithinTerm u deadline left (Some (n, t)) x) (sym d.state) (record { home = j; pool = settled t next; at = there; has = on_same u left deadline n t next (settled t next) (same_settled u t next next (same_refl u next)) takes.1 }))
-            | inr stays ↦ inr (subst (λ (x : Decision). is_unit x.unit u ≡ false) d.unit stays.0, subst (λ x. WithinTerm u deadline left None x) (sym d.state) (record { home = j; pool = settled t next; at = there; has = off_same u left deadline next (settled t next) (same_settled u t next next (same_refl u next)) stays.1 }))
+            | inl takes ↦ inl (subst (λ (x : Decision). x.unit ≡ Some u) d.unit takes.0, subst (λ x. WithinTerm u deadline left (Some (n, t)) x) (sym d.state) (record { home = j; pool = settled_pool t next; at = there; has = on_same u left deadline n t next (settled_pool t next) (same_settled u t next next (same_refl u next)) takes.1 }))
+            | inr stays ↦ inr (subst (λ (x : Decision). is_unit x.unit u ≡ false) d.unit stays.0, subst (λ x. WithinTerm u deadline left None x) (sym d.state) (record { home = j; pool = settled_pool t next; at = there; has = off_same u left deadline next (settled_pool t next) (same_settled u t next next (same_refl u next)) stays.1 }))
           ])
       | no ne ↦ inr (
         subst (λ (x : Decision). is_unit x.unit u ≡ false) d.unit (foreign_not_chosen g t u n c q own has (λ there. ne (one_home s j w.home q w.pool u apart at w.at there w.has.there))),
@@ -165,85 +148,33 @@ off_decides_in m u deadline left n s t j q c apart own at has w =
       )
     ]
   where
-    some_same : {X : Type 0} {x y : X} → Some x ≡ Some y → x ≡ y
-    some_same e = cc
-
     one_home : (s : State) (a b : ℕ) (p1 p2 : Pool) (v : UnitId) → IsApart s → at_place s.pools a ≡ Some p1 → at_place s.pools b ≡ Some p2 → IsThere p1.domains v → IsThere p2.domains v → a ≡ b
     one_home s a b p1 p2 v apart2 at1 at2 in1 in2 =
         let x = some-test_at p1.domains v.dom.0 (λ k. true) in1 in
         let y = some-test_at p2.domains v.dom.0 (λ k. true) in2 in
         apart2.domains a b v.dom.0 (test_at-some s.pools a (λ p. is_some (at_place p.domains v.dom.0)) p1 at1 (is_some_at (at_place p1.domains v.dom.0) x.0 x.1)) (test_at-some s.pools b (λ p. is_some (at_place p.domains v.dom.0)) p2 at2 (is_some_at (at_place p2.domains v.dom.0) y.0 y.1))
 
-some_is_same : {X : Type 0} {x y : X} → Some x ≡ Some y → x ≡ y
-some_is_same e = cc
-
 -- another core than the unit's decides, and never for the unit
 pub other_decides_in : (m : Machine) (u : UnitId) (deadline left r b n : ℕ) (s : State) (t j : ℕ) (q : Pool) (c : Resource) → IsApart s → places q u ≤ 1 → (IsThere q.domains u → (i : ℕ) (p : Pool) → at_place s.pools i ≡ Some p → IsThere p.domains u → j ≡ i) → UnitsAreOwn q
     → at_place s.pools j ≡ Some q → at_place q.resources n ≡ Some c → n ≢ r → WithinTerm u deadline left (Some (r, b)) s
-    → (is_unit (decision_at m.config.granularity t (home_pool m s (Decide n)) n).unit u ≡ false) × WithinTerm u deadline left (Some (r, b)) (after m s t (Decide n))
+    → (is_unit (decision_at m.config.granularity t (home_pool m s (Decide (core_number n))) n).unit u ≡ false) × WithinTerm u deadline left (Some (r, b)) (after m s t (Decide (core_number n)))
 other_decides_in m u deadline left r b n s t j q c apart most one_home own at has ne_r w =
     let g = m.config.granularity in
     let d = decides_at m s t j n q c apart at has in
-    let f : Pool → Pool = λ pool. settled t (after_in g t pool (Decide n)) in
+    let f : Pool → Pool = λ pool. settled_pool t (after_in g t pool (Decide (core_number n))) in
     let next : Pool = after_decide g t n c q in
     elim (ℕ_discrete j w.home) [
       | yes e ↦ (
           let at2 : at_place s.pools w.home ≡ Some q = subst (λ k. at_place s.pools k ≡ Some q) e at in
-          let same : w.pool ≡ q = some_is_same (sym w.at ∙ at2) in
+          let same : w.pool ≡ q = some_same (sym w.at ∙ at2) in
           let on : OnPool u left deadline r b q = subst (OnPool u left deadline r b) same w.has in
-          let there : at_place (change_at j f s.pools) j ≡ Some (settled t next) = at_place-change_at j f s.pools ∙ ap (option_map f) at ∙ ap (λ x. Some (settled t x)) d.pool in
+          let there : at_place (change_at j f s.pools) j ≡ Some (settled_pool t next) = at_place-change_at j f s.pools ∙ ap (option_map f) at ∙ ap (λ x. Some (settled_pool t x)) d.pool in
           let not_u = not_chosen g t u r n (Some (moment on.due)) c q most on.at on.only has ne_r in (
             subst (λ (x : Decision). is_unit x.unit u ≡ false) d.unit not_u,
-            subst (λ x. WithinTerm u deadline left (Some (r, b)) x) (sym d.state) (record { home = j; pool = settled t next; at = there; has = on_same u left deadline r b next (settled t next) (same_settled u t next next (same_refl u next)) (other_decides g t u left deadline r b n c q has ne_r not_u on) }),
+            subst (λ x. WithinTerm u deadline left (Some (r, b)) x) (sym d.state) (record { home = j; pool = settled_pool t next; at = there; has = on_same u left deadline r b next (settled_pool t next) (same_settled u t next next (same_refl u next)) (other_decides g t u left deadline r b n c q has ne_r not_u on) }),
           ))
       | no ne ↦ (
         subst (λ (x : Decision). is_unit x.unit u ≡ false) d.unit (foreign_not_chosen g t u n c q own has (λ there. ne (one_home there w.home w.pool w.at w.has.there))),
         subst (λ x. WithinTerm u deadline left (Some (r, b)) x) (sym d.state) (record { home = w.home; pool = w.pool; at = at_place-change_at_other j w.home f s.pools ne ∙ w.at; has = w.has }),
       )
     ]
-
--- within its term the unit is on a core that is due at the latest when its budget is used up
-pub is_on : (u : UnitId) (deadline left r b : ℕ) (s : State) → IsApart s → WithinTerm u deadline left (Some (r, b)) s → IsOn u r (b + left) s
-is_on u deadline left r b s apart w =
-    let h = w.has in
-    let c = core_seen (at_place w.pool.resources r) u (Some (moment h.due)) h.at in
-    record {
-      home = w.home;
-      pool = w.pool;
-      at_home = w.at;
-      domains = h.domains;
-      is_rtds = h.is_rtds;
-      there = h.there;
-      core = c.0;
-      in_pool = c.1;
-      at = core_is_in s w.home r w.pool c.0 apart w.at c.1;
-      cur = c.2;
-      due = h.due;
-      is_due = c.3;
-      low = h.low;
-    }
-
--- a unit on a core of an RTDS pool stays on it, and its due does not rise
-pub on_kept : (m : Machine) (u : UnitId) (r latest : ℕ) (s : State) (t : ℕ) (action : Action) → IsApart s → IsApart (after m s t action) → is_enabled m s t action ≡ true
-    → ((i : ℕ) (p : Pool) (has : _) → LeavesIt u i p has action) → IsOn u r latest s → IsOn u r latest (after m s t action)
-on_kept m u r latest s t action apart apart2 on leaves w =
-    let a = sat_after u w.home w.pool w.there m t action s (leaves w.home w.pool w.there) apart on (record { pool = w.pool; at = w.at_home; same = same_refl u w.pool }) in
-    let x = a.same.records w.domains w.is_rtds in
-    let seen_is : seen (at_place w.pool.resources r) ≡ Some (u, Some (moment w.due)) =
-    ap seen w.in_pool ∙ ap (λ (o : Option UnitId). option_map {U = UnitId × Option Moment} (λ (v : UnitId). (v, w.core.due)) o) w.cur ∙ ap (λ (o : Option Moment). Some (u, o)) w.is_due in
-    let c = core_seen (at_place a.pool.resources r) u (Some (moment w.due)) (a.same.cores w.domains w.is_rtds r ∙ seen_is) in
-    record {
-      home = w.home;
-      pool = a.pool;
-      at_home = a.at;
-      domains = x.0;
-      is_rtds = x.1;
-      there = a.same.there ∙ w.there;
-      core = c.0;
-      in_pool = c.1;
-      at = core_is_in (after m s t action) w.home r a.pool c.0 apart2 a.at c.1;
-      cur = c.2;
-      due = w.due;
-      is_due = c.3;
-      low = w.low;
-    }

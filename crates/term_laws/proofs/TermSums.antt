@@ -15,7 +15,7 @@ use Rattle.sched_model.specs.declared.state.RtdsUnit.{RtdsUnit}
 use Rattle.sched_model.specs.declared.state.Records.TheVariants.{RtdsPool}
 use Rattle.sched_model.specs.Pool.{lateness}
 use Rattle.sched_model.specs.Runs.{Reached, IsNext, IsRunFrom, after_entry, after_entries}
-use Rattle.term_laws.specs.RtdsTerm.{Leg, Term, core_in, late_now, late_of, leg_from, taken_by, legs, moves, term_end, shared, time_on, late_within}
+use Rattle.term_laws.specs.RtdsTerm.{Leg, Term, core_in, late_now, late_of, leg_from, taken_by, legs, moves, term_end, shared_span, time_on, late_within}
 
 -- the unit is on the core of an RTDS pool, which is due at a moment at the latest
 pub record IsOn (u : UnitId) (r latest : ℕ) (s : State) : Type 0 where
@@ -47,24 +47,24 @@ Fits term allowed ls = time_on term ls ≤ allowed + late_within term ls
 
 -- what a leg adds where it meets the term
 abbrev pub met : Term → Leg → ℕ
-met term leg = cond (nat_lt 0 (shared term leg)) leg.late 0
+met term leg = cond (nat_lt 0 (shared_span term leg)) leg.late 0
 
 pub fits_nil : (term : Term) (allowed : ℕ) → Fits term allowed []
 fits_nil term allowed = omega arith
 
-pub fits_cons : (term : Term) (leg : Leg) (ls : List Leg) (allowed left : ℕ) → shared term leg + left ≤ allowed + met term leg → Fits term left ls → Fits term allowed (leg ∷ ls)
+pub fits_cons : (term : Term) (leg : Leg) (ls : List Leg) (allowed left : ℕ) → shared_span term leg + left ≤ allowed + met term leg → Fits term left ls → Fits term allowed (leg ∷ ls)
 fits_cons term leg ls allowed left one rest =
-    let a = sum_by-cons (shared term) leg ls in
+    let a = sum_by-cons (shared_span term) leg ls in
     let b = sum_by-cons (met term) leg ls in
     omega (arith, a, b, one, rest)
 
 -- a leg that is not met costs nothing
-pub fits_unmet : (term : Term) (leg : Leg) (ls : List Leg) (allowed : ℕ) → shared term leg ≡ 0 → Fits term allowed ls → Fits term allowed (leg ∷ ls)
+pub fits_unmet : (term : Term) (leg : Leg) (ls : List Leg) (allowed : ℕ) → shared_span term leg ≡ 0 → Fits term allowed ls → Fits term allowed (leg ∷ ls)
 fits_unmet term leg ls allowed none rest = fits_cons term leg ls allowed allowed (omega (arith, none)) rest
 
 -- a leg is met where its part in the term is above 0
-met_is : (term : Term) (leg : Leg) → (shared term leg ≡ 0) ⊎ (met term leg ≡ leg.late)
-met_is term leg = elim (shared term leg) as (λ n. (n ≡ 0) ⊎ (cond (nat_lt 0 n) leg.late 0 ≡ leg.late)) [ zero ↦ inl refl | suc n ↦ inr (let e : nat_lt 0 (suc n) ≡ true = grind arith in ap (λ (b : Bool). cond b leg.late 0) e) ]
+met_is : (term : Term) (leg : Leg) → (shared_span term leg ≡ 0) ⊎ (met term leg ≡ leg.late)
+met_is term leg = elim (shared_span term leg) as (λ n. (n ≡ 0) ⊎ (cond (nat_lt 0 n) leg.late 0 ≡ leg.late)) [ zero ↦ inl refl | suc n ↦ inr (let e : nat_lt 0 (suc n) ≡ true = grind arith in ap (λ (b : Bool). cond b leg.late 0) e) ]
 
 -- a leg that is closed within the term: what is left then is allowed for
 fits_closed : (term : Term) (leg : Leg) (ls : List Leg) (allowed left : ℕ) → left ≤ allowed → leg.until ≤ max leg.from term.from + left + leg.late
@@ -72,16 +72,16 @@ fits_closed : (term : Term) (leg : Leg) (ls : List Leg) (allowed left : ℕ) →
 fits_closed term leg ls allowed left few late rest =
     elim (met_is term leg) [
       | inl none ↦ fits_unmet term leg ls allowed none (rest allowed (omega (arith, few)))
-      | inr is ↦ fits_cons term leg ls allowed (allowed + leg.late - shared term leg) (enough is) (rest (allowed + leg.late - shared term leg) remains)
+      | inr is ↦ fits_cons term leg ls allowed (allowed + leg.late - shared_span term leg) (enough is) (rest (allowed + leg.late - shared_span term leg) remains)
     ]
   where
-    part : shared term leg ≤ leg.until - max leg.from term.from
+    part : shared_span term leg ≤ leg.until - max leg.from term.from
     part = omega arith
 
-    enough : met term leg ≡ leg.late → shared term leg + (allowed + leg.late - shared term leg) ≤ allowed + met term leg
+    enough : met term leg ≡ leg.late → shared_span term leg + (allowed + leg.late - shared_span term leg) ≤ allowed + met term leg
     enough is = (let p = part in omega (arith, p, is, few, late))
 
-    remains : left - (leg.until - max leg.from term.from) ≤ allowed + leg.late - shared term leg
+    remains : left - (leg.until - max leg.from term.from) ≤ allowed + leg.late - shared_span term leg
     remains = (let p = part in omega (arith, p, few, late))
 
 -- a leg that is closed after the term
@@ -93,14 +93,14 @@ fits_over term leg ls allowed latest over late low rest =
     ]
 
 -- nothing later than the term is in it
-unmet_later : (term : Term) (leg : Leg) → term.until ≤ leg.from → shared term leg ≡ 0
+unmet_later : (term : Term) (leg : Leg) → term.until ≤ leg.from → shared_span term leg ≡ 0
 unmet_later term leg later = omega arith
 
 -- the moment does not fall, and is the entry's
 abbrev pub TimeGoesOn : Machine → Type 0
 TimeGoesOn m = (from : Reached) (entry : Entry) → IsNext m from entry → from.state.now ≤ (after_entry m from entry).state.now
 
-leg_from-starts : (s : State) (r t : ℕ) (entries : List Entry) → (leg_from s r t entries).from ≡ t
+pub leg_from-starts : (s : State) (r t : ℕ) (entries : List Entry) → (leg_from s r t entries).from ≡ t
 leg_from-starts s r t [] = refl
 leg_from-starts s r t (entry ∷ entries) =
     elim (late_of r entry.event) as (λ o. (elim o as (λ _. Leg) [ Some late ↦ record { from = t; until = entry.at.0; late = late } | None ↦ leg_from s r t entries ]).from ≡ t) [

@@ -1,6 +1,7 @@
 -- The law of the terms of RTDS units.
-use Rattle.std.proofs.Common.{◌≡◌, ◌≤◌, ◌<◌, ◌+◌, ℕ, zero, suc, true, false, List, [], ◌∷◌, length, refl, arith, ap, subst, sym, ◌∙◌}
-use Rattle.std.specs.Prelude.{Option, Some, None, slice_get, is_some}
+use Rattle.std.proofs.lemmas.Option.{slice_get_within}
+use Rattle.std.proofs.Common.{◌≡◌, ◌≤◌, ◌<◌, ◌+◌, ℕ, suc, true, false, List, [], ◌∷◌, length, refl, arith, ap, subst, sym, ◌∙◌}
+use Rattle.std.specs.Prelude.{Option, Some, None, is_some}
 use Rattle.std.specs.List.{All, AllByRecursion}
 use Rattle.std.proofs.lemmas.List.Elements.{All-from_recursion}
 use Rattle.std.proofs.Math.Decide.{dec_le}
@@ -12,7 +13,7 @@ use Rattle.sched_model.specs.declared.state.State.{State}
 use Rattle.sched_model.specs.declared.state.Pool.{Pool}
 use Rattle.sched_model.specs.declared.state.RtdsUnit.{RtdsUnit}
 use Rattle.sched_model.specs.declared.state.Records.{Records}
-use Rattle.sched_model.specs.declared.state.Records.TheVariants.{Credit2Pool, RtdsPool, ArincPool, NullPool}
+use Rattle.sched_model.specs.declared.state.Records.TheVariants.{RtdsPool}
 use Rattle.sched_model.specs.Places.{at_place, test_at, same_unit}
 use Rattle.sched_model.specs.Eligible.{rtds_unit}
 use Rattle.sched_model.specs.Policy.{rtds_record}
@@ -20,12 +21,12 @@ use Rattle.sched_model.specs.Opening.{opening}
 use Rattle.sched_model.specs.Actions.{home_of_domain}
 use Rattle.sched_model.specs.Checked.{IsChecked}
 use Rattle.sched_model.specs.Machine.{event_of}
-use Rattle.sched_model.specs.Runs.{Reached, begun, after_entry, IsNext, IsRunFrom, IsRun}
+use Rattle.sched_model.specs.Runs.{Reached, run_start, after_entry, IsNext, IsRunFrom, IsRun}
 use Rattle.sched_laws.specs.StateLaws.{state_after}
 use Rattle.sched_laws.proofs.EachPlace.{found_at}
 use Rattle.sched_laws.proofs.Lists.{AllByRecursion-map, some_is, some-test_at, test_at-some}
 use Rattle.sched_laws.proofs.Choices.{same_unit_same}
-use Rattle.term_laws.specs.RtdsTerm.{Term, legs, terms, term_end, opened, opened_by, rtds_in, KeepsTerm}
+use Rattle.term_laws.specs.RtdsTerm.{Term, legs, terms, term_end, opened_terms, opened_by, rtds_in, KeepsTerm}
 use Rattle.term_laws.proofs.TermState.{WithinTerm}
 use Rattle.term_laws.proofs.TermSums.{fits_within}
 use Rattle.term_laws.proofs.TermsOfRuns.{terms_kept}
@@ -39,15 +40,8 @@ use Rattle.term_laws.proofs.TermLaw.{by_entry, other_unit, steps, tracks}
 
 -- the record of a unit is among those of its pool
 rtds_of : (u : UnitId) (x : RtdsUnit) (records : Records) → rtds_record records u ≡ Some x → (domains : List (Option (List RtdsUnit))) × (records ≡ RtdsPool domains) × (rtds_unit domains u ≡ Some x)
-rtds_of u x (Credit2Pool records) is = absurd (cc)
 rtds_of u x (RtdsPool domains) is = (domains, refl, is)
-rtds_of u x (ArincPool records) is = absurd (cc)
-rtds_of u x (NullPool kept) is = absurd (cc)
-
-get_below : {X : Type 0} (xs : List X) (i : ℕ) (x : X) → slice_get xs i ≡ Some x → i < length xs
-get_below [] i x at = absurd (cc)
-get_below (y ∷ xs) zero x at = omega arith
-get_below (y ∷ xs) (suc i) x at = (let low = get_below xs i x at in omega (arith, low))
+rtds_of u x any is = absurd (cc)
 
 -- the pool that has the unit's record
 pub record HasRtds (s : State) (u : UnitId) (x : RtdsUnit) : Type 0 where
@@ -79,7 +73,7 @@ domain_below : (m : Machine) (s : State) (k : Known m s) (i d : ℕ) (p : Pool) 
 domain_below m s k i d p at there =
     let x = some-test_at p.domains d (λ y. true) there in
     let r = (k.range.pools i p at).domains d x.0 x.1 in
-    get_below m.config.domains d r.config r.at
+    slice_get_within m.config.domains d r.config r.at
 
 module _ (m : Machine) (checked : IsChecked m) (u : UnitId) where
   -- a unit of no domain of the machine has no terms
@@ -103,10 +97,10 @@ module _ (m : Machine) (checked : IsChecked m) (u : UnitId) where
         (λ q. q.3 entry.at.0 rest)
         (λ q n. q.3 entry.at.0 rest)
 
-    none_opened : (entries : List Entry) (from : Reached) → IsRunFrom m from entries → IsReached m from.state → opened u entries ≡ []
+    none_opened : (entries : List Entry) (from : Reached) → IsRunFrom m from entries → IsReached m from.state → opened_terms u entries ≡ []
     none_opened [] from run reached = refl
     none_opened (entry ∷ entries) from run reached =
-        ap (λ (o : Option Term). elim o as (λ _. List Term) [ Some term ↦ term ∷ opened u entries | None ↦ opened u entries ]) (unopened from entry entries run.0 reached)
+        ap (λ (o : Option Term). elim o as (λ _. List Term) [ Some term ↦ term ∷ opened_terms u entries | None ↦ opened_terms u entries ]) (unopened from entry entries run.0 reached)
         ∙ none_opened entries (after_entry m from entry) run.1 (reached_next m from entry run.0 reached)
 
     no_record : rtds_in (opening m) u ≡ None
@@ -124,7 +118,7 @@ module _ (m : Machine) (checked : IsChecked m) (u : UnitId) where
   first_term entries x = record { from = 0; until = term_end u.dom.0 x.period entries; budget = x.budget; delay = 0; extra = x.extra }
 
   abbrev terms_by : List Entry → Option RtdsUnit → List Term
-  terms_by entries o = elim o [ None ↦ opened u entries | Some x ↦ first_term entries x ∷ opened u entries ]
+  terms_by entries o = elim o [ None ↦ opened_terms u entries | Some x ↦ first_term entries x ∷ opened_terms u entries ]
 
   module _ (low : u.dom.0 < length m.config.domains) (entries : List Entry) (run : IsRun m entries) where
     first_kept : (x : RtdsUnit) → rtds_in (opening m) u ≡ Some x → KeepsTerm (legs (state_after m entries) u entries) (first_term entries x)
@@ -145,12 +139,12 @@ module _ (m : Machine) (checked : IsChecked m) (u : UnitId) where
             none = λ r due seen_u. nobody_runs m h.home h.pool h.at r u (cur_of_seen_unit (at_place h.pool.resources r) u due seen_u);
           };
         } in
-        fits_within m u (time_goes_on m) (IsReached m) (WithinTerm u x.period) x.period (steps m checked u low x.period) (first_term entries x) entries (begun m) x.budget (x.budget + 0) None run (reached_opening m) (omega arith) (omega arith) within
+        fits_within m u (time_goes_on m) (IsReached m) (WithinTerm u x.period) x.period (steps m checked u low x.period) (first_term entries x) entries (run_start m) x.budget (x.budget + 0) None run (reached_opening m) (omega arith) (omega arith) within
 
-    opened_kept : AllByRecursion (KeepsTerm (legs (state_after m entries) u entries)) (opened u entries)
+    opened_kept : AllByRecursion (KeepsTerm (legs (state_after m entries) u entries)) (opened_terms u entries)
     opened_kept =
-        AllByRecursion-map _ (KeepsTerm (legs (state_after m entries) u entries)) (λ term kept. kept.1) (opened u entries)
-        (terms_kept m u (time_goes_on m) (IsReached m) (λ deadline. WithinTerm u deadline) (steps m checked u low) (Tracks u) (tracks m checked u low) entries (begun m) None run (reached_opening m) tt (tracks_opening m checked u low))
+        AllByRecursion-map _ (KeepsTerm (legs (state_after m entries) u entries)) (λ term kept. kept.1) (opened_terms u entries)
+        (terms_kept m u (time_goes_on m) (IsReached m) (λ deadline. WithinTerm u deadline) (steps m checked u low) (Tracks u) (tracks m checked u low) entries (run_start m) None run (reached_opening m) tt (tracks_opening m checked u low))
 
     known_kept : (o : Option RtdsUnit) → rtds_in (opening m) u ≡ o → AllByRecursion (KeepsTerm (legs (state_after m entries) u entries)) (terms_by entries o)
     known_kept None is = opened_kept
@@ -162,5 +156,5 @@ module _ (m : Machine) (checked : IsChecked m) (u : UnitId) where
         | yes low ↦ known_kept low entries run (rtds_in (opening m) u) refl
         | no not_low ↦ (
             let high : length m.config.domains ≤ u.dom.0 = omega (arith, not_low) in
-            subst (λ ts. AllByRecursion (KeepsTerm (legs (state_after m entries) u entries)) ts) (sym (ap (terms_by entries) (no_record high) ∙ none_opened high entries (begun m) run (reached_opening m))) tt)
+            subst (λ ts. AllByRecursion (KeepsTerm (legs (state_after m entries) u entries)) ts) (sym (ap (terms_by entries) (no_record high) ∙ none_opened high entries (run_start m) run (reached_opening m))) tt)
       ])

@@ -9,7 +9,7 @@ use Rattle.sched_model.specs.declared.event.Entry.{Entry}
 use Rattle.sched_model.specs.declared.machine.Machine.{Machine}
 use Rattle.sched_model.specs.declared.state.State.{State}
 use Rattle.sched_model.specs.Runs.{Reached, IsNext, IsRunFrom, after_entry, after_entries}
-use Rattle.term_laws.specs.RtdsTerm.{Leg, Term, late_of, leg_from, taken_by, legs, term_end, opened_by, opened, KeepsTerm}
+use Rattle.term_laws.specs.RtdsTerm.{Leg, Term, late_of, leg_from, taken_by, legs, term_end, opened_by, opened_terms, KeepsTerm}
 use Rattle.std.specs.List.{AllByRecursion}
 use Rattle.sched_laws.proofs.Lists.{AllByRecursion-map}
 use Rattle.term_laws.proofs.TermSums.{TimeGoesOn, Within, Steps, Fits, fits_unmet, fits_within, legs_with, leg_from-open, leg_from-closed, legs-none, legs-taken}
@@ -100,16 +100,16 @@ module _ (m : Machine) (u : UnitId) (goes_on : TimeGoesOn m) (K : State → Type
       (subst (λ n. W o.0 term.budget (Some (leg.0, n)) next.state) counts o.5)))
 
   rest_kept : (leg : Option (ℕ × ℕ)) (entry : Entry) (entries : List Entry) (from : Reached) → IsRunFrom m from (entry ∷ entries) → K from.state → HasBegun leg from.state.now → T (core_of_leg leg) from.state
-      → ((leg2 : Option (ℕ × ℕ)) → HasBegun leg2 (after_entry m from entry).state.now → T (core_of_leg leg2) (after_entry m from entry).state → AllByRecursion (KeptFrom (after_entry m from entry).state.now (legs_after (after_entry m from entry) leg2 entries)) (opened u entries))
-      → AllByRecursion (KeptFrom from.state.now (legs_after from leg (entry ∷ entries))) (opened u entries)
+      → ((leg2 : Option (ℕ × ℕ)) → HasBegun leg2 (after_entry m from entry).state.now → T (core_of_leg leg2) (after_entry m from entry).state → AllByRecursion (KeptFrom (after_entry m from entry).state.now (legs_after (after_entry m from entry) leg2 entries)) (opened_terms u entries))
+      → AllByRecursion (KeptFrom from.state.now (legs_after from leg (entry ∷ entries))) (opened_terms u entries)
   rest_kept None entry entries from run known begun on ih =
       let next : Reached = after_entry m from entry in
       let last : State = (after_entries m next entries).state in
       let moment_is = run.0.moment in
       let later = goes_on from entry run.0 in
       elim (tracks.off_goes from entry run.0 known on) [
-        | inl stays ↦ AllByRecursion-map _ _ (λ term. kept_as from.state.now next.state.now (legs_after next None entries) _ term later (legs-none last u entry entries stays.0)) (opened u entries) (ih None tt stays.1)
-        | inr takes ↦ AllByRecursion-map _ _ (λ term. kept_as from.state.now next.state.now (legs_after next (Some (takes.0, entry.at.0)) entries) _ term later (legs-taken last u takes.0 entry entries takes.1)) (opened u entries)
+        | inl stays ↦ AllByRecursion-map _ _ (λ term. kept_as from.state.now next.state.now (legs_after next None entries) _ term later (legs-none last u entry entries stays.0)) (opened_terms u entries) (ih None tt stays.1)
+        | inr takes ↦ AllByRecursion-map _ _ (λ term. kept_as from.state.now next.state.now (legs_after next (Some (takes.0, entry.at.0)) entries) _ term later (legs-taken last u takes.0 entry entries takes.1)) (opened_terms u entries)
             (ih (Some (takes.0, entry.at.0)) (omega (arith, moment_is, later)) takes.2)
       ]
   rest_kept (Some leg) entry entries from run known begun on ih =
@@ -119,22 +119,22 @@ module _ (m : Machine) (u : UnitId) (goes_on : TimeGoesOn m) (K : State → Type
       let later = goes_on from entry run.0 in
       elim (tracks.on_goes leg.0 from entry run.0 known on) [
         | inl stays ↦ AllByRecursion-map _ _ (λ term. kept_as from.state.now next.state.now (legs_after next (Some leg) entries) _ term later
-            (ap (λ l. l ∷ legs last u (entry ∷ entries)) (leg_from-open last leg.0 leg.1 entry entries stays.0) ∙ ap (λ ls. leg_from last leg.0 leg.1 entries ∷ ls) (legs-none last u entry entries stays.1))) (opened u entries)
+            (ap (λ l. l ∷ legs last u (entry ∷ entries)) (leg_from-open last leg.0 leg.1 entry entries stays.0) ∙ ap (λ ls. leg_from last leg.0 leg.1 entries ∷ ls) (legs-none last u entry entries stays.1))) (opened_terms u entries)
             (ih (Some leg) (omega (arith, begun, later)) stays.2)
         | inr (inl idles) ↦ (let closed : Leg = record { from = leg.1; until = entry.at.0; late = idles.0 } in AllByRecursion-map _ _ (λ term. kept_closed from.state.now next.state.now closed (legs_after next None entries) _ term later (omega (arith, moment_is, later))
-            (ap (λ l. l ∷ legs last u (entry ∷ entries)) (leg_from-closed last leg.0 leg.1 idles.0 entry entries idles.1) ∙ ap (λ ls. closed ∷ ls) (legs-none last u entry entries idles.2))) (opened u entries)
+            (ap (λ l. l ∷ legs last u (entry ∷ entries)) (leg_from-closed last leg.0 leg.1 idles.0 entry entries idles.1) ∙ ap (λ ls. closed ∷ ls) (legs-none last u entry entries idles.2))) (opened_terms u entries)
             (ih None tt idles.3))
         | inr (inr again) ↦ (let closed : Leg = record { from = leg.1; until = entry.at.0; late = again.0 } in AllByRecursion-map _ _ (λ term. kept_closed from.state.now next.state.now closed (legs_after next (Some (leg.0, entry.at.0)) entries) _ term later (omega (arith, moment_is, later))
-            (ap (λ l. l ∷ legs last u (entry ∷ entries)) (leg_from-closed last leg.0 leg.1 again.0 entry entries again.1) ∙ ap (λ ls. closed ∷ ls) (legs-taken last u leg.0 entry entries again.2))) (opened u entries)
+            (ap (λ l. l ∷ legs last u (entry ∷ entries)) (leg_from-closed last leg.0 leg.1 again.0 entry entries again.1) ∙ ap (λ ls. closed ∷ ls) (legs-taken last u leg.0 entry entries again.2))) (opened_terms u entries)
             (ih (Some (leg.0, entry.at.0)) (omega (arith, moment_is, later)) again.3))
       ]
 
   pub terms_kept : (entries : List Entry) (from : Reached) (leg : Option (ℕ × ℕ)) → IsRunFrom m from entries → K from.state → HasBegun leg from.state.now → T (core_of_leg leg) from.state
-      → AllByRecursion (KeptFrom from.state.now (legs_after from leg entries)) (opened u entries)
+      → AllByRecursion (KeptFrom from.state.now (legs_after from leg entries)) (opened_terms u entries)
   terms_kept [] from leg run known begun on = tt
   terms_kept (entry ∷ entries) from leg run known begun on =
       let rest = rest_kept leg entry entries from run known begun on (λ leg2 begun2 on2. terms_kept entries (after_entry m from entry) leg2 run.1 ((steps 0).known from entry run.0 known) begun2 on2) in
-      elim (opened_by u entry.at.0 entry.event entries) as (λ o. opened_by u entry.at.0 entry.event entries ≡ o → AllByRecursion (KeptFrom from.state.now (legs_after from leg (entry ∷ entries))) (elim o as (λ _. List Term) [ Some term ↦ term ∷ opened u entries | None ↦ opened u entries ])) [
+      elim (opened_by u entry.at.0 entry.event entries) as (λ o. opened_by u entry.at.0 entry.event entries ≡ o → AllByRecursion (KeptFrom from.state.now (legs_after from leg (entry ∷ entries))) (elim o as (λ _. List Term) [ Some term ↦ term ∷ opened_terms u entries | None ↦ opened_terms u entries ])) [
         | Some term ↦ λ is. ((let starts = opened_by-starts u entry.at.0 entry.event entries term is in let moment_is = run.0.moment in omega (arith, starts, moment_is), opened_kept leg from entry entries term run known begun on is), rest)
         | None ↦ λ is. rest
       ] refl

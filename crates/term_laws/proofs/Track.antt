@@ -1,4 +1,5 @@
 -- A unit in the pool that has its domain: the core that it is on, if any, within its terms and outside of them.
+use Rattle.sched_laws.proofs.Records.{same_decision}
 use Rattle.std.proofs.Common.{◌≡◌, ◌≢◌, ◌+◌, ℕ, Bool, true, false, List, refl, ap, subst, sym, ◌∙◌}
 use Rattle.std.specs.Prelude.{Option, Some, None, option_map}
 use Rattle.std.proofs.Math.Decide.{ℕ_discrete}
@@ -11,18 +12,13 @@ use Rattle.sched_model.specs.declared.state.Resource.{Resource}
 use Rattle.sched_model.specs.declared.state.Pool.{Pool}
 use Rattle.sched_model.specs.declared.state.Scheduler.{Scheduler}
 use Rattle.sched_model.specs.declared.state.Records.{Records}
-use Rattle.sched_model.specs.declared.state.Records.TheVariants.{Credit2Pool, RtdsPool, ArincPool, NullPool}
+use Rattle.sched_model.specs.declared.state.Records.TheVariants.{RtdsPool}
 use Rattle.sched_model.specs.declared.state.RtdsUnit.{RtdsUnit}
-use Rattle.sched_model.specs.declared.state.Credit2Records.{Credit2Records}
-use Rattle.sched_model.specs.Places.{at_place, clear_at, is_unit, test_at}
+use Rattle.sched_model.specs.Places.{at_place, is_unit, test_at}
 use Rattle.sched_model.specs.Eligible.{Decision, rtds_unit}
-use Rattle.sched_model.specs.Policy.{decision_of, decision_by, kind_of, choose_window}
-use Rattle.sched_model.specs.Arinc.{Window}
+use Rattle.sched_model.specs.Policy.{decision_of, decision_by, kind_of}
 use Rattle.sched_model.specs.Rtds as rtds
-use Rattle.sched_model.specs.Credit2 as credit2
-use Rattle.sched_model.specs.NullScheduler as null
-use Rattle.sched_model.specs.Pool.{ask_of, after_decide, decided}
-use Rattle.sched_laws.proofs.EachPlace.{by_cond}
+use Rattle.sched_model.specs.Pool.{ask_of, after_decide, decided_core}
 use Rattle.sched_laws.proofs.Choices.{is_unit_same}
 use Rattle.sched_laws.proofs.Counts.{same_unit_refl}
 use Rattle.term_laws.proofs.RtdsSteps.{rtds_unit-same, rtds_unit-none, rtds_unit-other, at_place-set_other}
@@ -48,10 +44,8 @@ pub record OnHome (u : UnitId) (r : ℕ) (p : Pool) : Type 0 where
 
 -- records of RTDS, by their kind
 pub is_rtds_pool : (records : Records) → kind_of records ≡ kinds.Rtds → (domains : List (Option (List RtdsUnit))) × (records ≡ RtdsPool domains)
-is_rtds_pool (Credit2Pool records) is = absurd (cc)
 is_rtds_pool (RtdsPool domains) is = (domains, refl)
-is_rtds_pool (ArincPool records) is = absurd (cc)
-is_rtds_pool (NullPool kept) is = absurd (cc)
+is_rtds_pool any is = absurd (cc)
 
 pub rtds_same : (a b : List (Option (List RtdsUnit))) → RtdsPool a ≡ RtdsPool b → a ≡ b
 rtds_same a b same = cc
@@ -90,31 +84,8 @@ on_home_same u r p q same a =
     }
 
 -- the kind of the records stays the same at a decision
-kind_decide2 : (ask : Ask) (scheduler : Scheduler) (records : Credit2Records) (c : Option UnitId) → kind_of (credit2.decide ask scheduler records c).records ≡ kinds.Credit2
-kind_decide2 ask scheduler records None = refl
-kind_decide2 ask scheduler records (Some u) = refl
-
-kind_decide_rt : (ask : Ask) (domains : List (Option (List RtdsUnit))) (c : Option UnitId) → kind_of (rtds.decide ask domains c).records ≡ kinds.Rtds
-kind_decide_rt ask domains None = refl
-kind_decide_rt ask domains (Some u) = refl
-
-kind_window : (ask : Ask) (scheduler : Scheduler) (window : Option Window) → kind_of (choose_window ask scheduler window).records ≡ kind_of scheduler.records
-kind_window ask scheduler None = refl
-kind_window ask scheduler (Some window) = refl
-
-kind_decide_null : (core : ℕ) (kept : List (Option UnitId)) (c : Option UnitId) → kind_of (null.decide core kept c).records ≡ kinds.Null
-kind_decide_null core kept None = refl
-kind_decide_null core kept (Some u) = refl
-
-kind_decision_by : (records : Records) (ask : Ask) (scheduler : Scheduler) → scheduler.records ≡ records → kind_of (decision_by records ask scheduler).records ≡ kind_of records
-kind_decision_by (Credit2Pool records) ask scheduler is = kind_decide2 ask scheduler (credit2.burn_cur ask.cur ask.at records) _
-kind_decision_by (RtdsPool domains) ask scheduler is = kind_decide_rt ask (rtds.burn_cur ask.cur ask.at domains) _
-kind_decision_by (ArincPool records) ask scheduler is = kind_window ask scheduler _ ∙ ap kind_of is
-kind_decision_by (NullPool kept) ask scheduler is =
-    by_cond (λ (d : Decision). kind_of d.records ≡ kinds.Null) ask.leaving _ _ (λ e. kind_decide_null ask.core (clear_at ask.core kept) None) (λ e. kind_decide_null ask.core kept _)
-
 pub kind_decided : (ask : Ask) (scheduler : Scheduler) → kind_of (decision_of ask scheduler).records ≡ kind_of scheduler.records
-kind_decided ask scheduler = kind_decision_by scheduler.records ask scheduler refl
+kind_decided ask scheduler = same_decision kind_of (λ a b. refl) (λ a b. refl) (λ a b. refl) scheduler.records ask scheduler refl
 
 -- a unit that was put on a core is charged from then on
 running_from : (u : UnitId) (from : Option ℕ) (domains : List (Option (List RtdsUnit))) (x : RtdsUnit) → rtds_unit (rtds.set_running from u domains) u ≡ Some x → x.burned ≡ from
@@ -135,15 +106,15 @@ pub record RtChosen (u : UnitId) (at : ℕ) (d : Decision) : Type 0 where
   pub due : ℕ
   pub is_due : d.due ≡ Some (moment due)
 
-rt_chosen : (u : UnitId) (ask : Ask) (domains : List (Option (List RtdsUnit))) (c : Option UnitId) → (rtds.decide ask domains c).unit ≡ Some u → RtChosen u ask.at (rtds.decide ask domains c)
+rt_chosen : (u : UnitId) (ask : Ask) (domains : List (Option (List RtdsUnit))) (c : Option UnitId) → (rtds.decide ask domains c).unit ≡ Some u → RtChosen u ask.at.0 (rtds.decide ask domains c)
 rt_chosen u ask domains None is = absurd (cc)
 rt_chosen u ask domains (Some w) is =
     let e : w ≡ u = cc in
     record {
-      domains = rtds.set_running (Some ask.at) w (rtds.switch_off ask.cur domains);
+      domains = rtds.set_running (Some ask.at.0) w (rtds.switch_off ask.cur domains);
       is = refl;
-      burned = λ x at. running_from u (Some ask.at) (rtds.switch_off ask.cur domains) x (subst (λ v. rtds_unit (rtds.set_running (Some ask.at) v (rtds.switch_off ask.cur domains)) u ≡ Some x) e at);
-      due = ask.at + rtds.budget_left domains w;
+      burned = λ x at. running_from u (Some ask.at.0) (rtds.switch_off ask.cur domains) x (subst (λ v. rtds_unit (rtds.set_running (Some ask.at.0) v (rtds.switch_off ask.cur domains)) u ≡ Some x) e at);
+      due = ask.at.0 + rtds.budget_left domains w;
       is_due = refl;
     }
 
@@ -158,14 +129,14 @@ rt_other u ask domains c other not_u = go c not_u
 
     go : (c2 : Option UnitId) → is_unit (rtds.decide ask domains c2).unit u ≡ false → (domains2 : List (Option (List RtdsUnit))) × ((rtds.decide ask domains c2).records ≡ RtdsPool domains2) × (rtds_unit domains2 u ≡ rtds_unit domains u)
     go None is = (rtds.switch_off ask.cur domains, refl, off ask.cur other)
-    go (Some w) is = (rtds.set_running (Some ask.at) w (rtds.switch_off ask.cur domains), refl, rtds_unit-other w u (λ x. record x { burned = Some ask.at }) (rtds.switch_off ask.cur domains) is ∙ off ask.cur other)
+    go (Some w) is = (rtds.set_running (Some ask.at.0) w (rtds.switch_off ask.cur domains), refl, rtds_unit-other w u (λ x. record x { burned = Some ask.at.0 }) (rtds.switch_off ask.cur domains) is ∙ off ask.cur other)
 
 burned_other : (u : UnitId) (cur : Option UnitId) (t : ℕ) (domains : List (Option (List RtdsUnit))) → is_unit cur u ≡ false → rtds_unit (rtds.burn_cur cur t domains) u ≡ rtds_unit domains u
 burned_other u None t domains is = refl
 burned_other u (Some w) t domains is = rtds_unit-other w u (rtds.burn_to t) domains is
 
 -- the unit of the core that decided
-pub cur_decided : (t : ℕ) (d : Decision) (c : Resource) → (decided t d c).cur ≡ d.unit
+pub cur_decided : (t : ℕ) (d : Decision) (c : Resource) → (decided_core t d c).cur ≡ d.unit
 cur_decided t d c = from
   where
     back : (o : Option UnitId) → option_map (λ (z : UnitId × Option Moment). z.0) (option_map {U = UnitId × Option Moment} (λ (u : UnitId). (u, d.due)) o) ≡ o
@@ -176,8 +147,8 @@ cur_decided t d c = from
     forth x None is = ap (λ (y : Option UnitId). option_map (λ (z : UnitId × Option Moment). z.0) (option_map {U = UnitId × Option Moment} (λ (u : UnitId). (u, x.due)) y)) is ∙ sym is
     forth x (Some u) is = ap (λ (y : Option UnitId). option_map (λ (z : UnitId × Option Moment). z.0) (option_map {U = UnitId × Option Moment} (λ (u : UnitId). (u, x.due)) y)) is ∙ sym is
 
-    from : (decided t d c).cur ≡ d.unit
-    from = sym (forth (decided t d c) (decided t d c).cur refl) ∙ ap (option_map (λ (z : UnitId × Option Moment). z.0)) (seen_decided t d c) ∙ back d.unit
+    from : (decided_core t d c).cur ≡ d.unit
+    from = sym (forth (decided_core t d c) (decided_core t d c).cur refl) ∙ ap (option_map (λ (z : UnitId × Option Moment). z.0)) (seen_decided t d c) ∙ back d.unit
 
 pub not_unit : (u : UnitId) (o : Option UnitId) → is_unit o u ≡ false → o ≡ Some u → ⊥
 not_unit u o other is = (let s = same_unit_refl u in let e : is_unit (Some u) u ≡ false = subst (λ x. is_unit x u ≡ false) is other in cc)
@@ -194,13 +165,13 @@ module _ (g t : ℕ) (u : UnitId) (n : ℕ) (c : Resource) (p : Pool) (at : at_p
   the_decision = decision_of (ask_of g t p n c) p.scheduler
 
   cur_here : cur_in (at_place (after_decide g t n c p).resources n) ≡ the_decision.unit
-  cur_here = ap cur_in (at_place-put_at n (decided t the_decision c) c p.resources at) ∙ cur_decided t the_decision c
+  cur_here = ap cur_in (at_place-put_at n (decided_core t the_decision c) c p.resources at) ∙ cur_decided t the_decision c
 
   cur_there : (k : ℕ) → n ≢ k → at_place (after_decide g t n c p).resources k ≡ at_place p.resources k
-  cur_there k ne = at_place-set_other n k (Some (decided t the_decision c)) p.resources ne
+  cur_there k ne = at_place-set_other n k (Some (decided_core t the_decision c)) p.resources ne
 
   -- in an RTDS pool
-  in_rtds : (domains2 : List (Option (List RtdsUnit))) → the_decision.records ≡ RtdsPool domains2 → (domains : List (Option (List RtdsUnit))) × (p.scheduler.records ≡ RtdsPool domains) × (the_decision ≡ rtds.choose_rt the_ask p.scheduler domains)
+  in_rtds : (domains2 : List (Option (List RtdsUnit))) → the_decision.records ≡ RtdsPool domains2 → (domains : List (Option (List RtdsUnit))) × (p.scheduler.records ≡ RtdsPool domains) × (the_decision ≡ rtds.rtds_decision the_ask p.scheduler domains)
   in_rtds domains2 is2 =
       let d = is_rtds_pool p.scheduler.records (sym (kind_decided the_ask p.scheduler) ∙ ap kind_of is2) in
       (d.0, d.1, ap (λ (x : Records). decision_by x the_ask p.scheduler) d.1)
@@ -214,13 +185,13 @@ module _ (g t : ℕ) (u : UnitId) (n : ℕ) (c : Resource) (p : Pool) (at : at_p
         only = λ k is. elim (ℕ_discrete n k) [ yes e ↦ sym e | no ne ↦ absurd (others k ne (sym (ap cur_in (cur_there k ne)) ∙ is)) ];
         charges = λ domains2 is2. (
             let d = in_rtds domains2 is2 in
-            let x = rt_chosen u the_ask (rtds.burn_cur the_ask.cur the_ask.at d.0) _ (ap (λ (y : Decision). y.unit) (sym d.2) ∙ chosen) in
+            let x = rt_chosen u the_ask (rtds.burn_cur the_ask.cur the_ask.at.0 d.0) _ (ap (λ (y : Decision). y.unit) (sym d.2) ∙ chosen) in
             let e : x.domains ≡ domains2 = rtds_same x.domains domains2 (sym x.is ∙ ap (λ (y : Decision). y.records) (sym d.2) ∙ is2) in
             record {
               burned = λ y at2. (t, x.burned y (subst (λ ds. rtds_unit ds u ≡ Some y) (sym e) at2));
               due = (
                 x.due,
-                ap seen (at_place-put_at n (decided t the_decision c) c p.resources at) ∙ seen_decided t the_decision c ∙ ap (λ (o : Option UnitId). option_map {U = UnitId × Option Moment} (λ (v : UnitId). (v, the_decision.due)) o) chosen
+                ap seen (at_place-put_at n (decided_core t the_decision c) c p.resources at) ∙ seen_decided t the_decision c ∙ ap (λ (o : Option UnitId). option_map {U = UnitId × Option Moment} (λ (v : UnitId). (v, the_decision.due)) o) chosen
                     ∙ ap (λ (o : Option Moment). Some (u, o)) (ap (λ (y : Decision). y.due) d.2 ∙ x.is_due),
               );
             });
@@ -250,9 +221,9 @@ module _ (g t : ℕ) (u : UnitId) (n : ℕ) (c : Resource) (p : Pool) (at : at_p
         ];
         charges = λ domains2 is2. (
             let d = in_rtds domains2 is2 in
-            let x = rt_other u the_ask (rtds.burn_cur the_ask.cur the_ask.at d.0) _ not_cur (subst (λ (y : Decision). is_unit y.unit u ≡ false) d.2 passed) in
+            let x = rt_other u the_ask (rtds.burn_cur the_ask.cur the_ask.at.0 d.0) _ not_cur (subst (λ (y : Decision). is_unit y.unit u ≡ false) d.2 passed) in
             let e : x.0 ≡ domains2 = rtds_same x.0 domains2 (sym x.1 ∙ ap (λ (y : Decision). y.records) (sym d.2) ∙ is2) in
-            let same : rtds_unit domains2 u ≡ rtds_unit d.0 u = subst (λ ds. rtds_unit ds u ≡ rtds_unit d.0 u) e (x.2 ∙ burned_other u the_ask.cur the_ask.at d.0 not_cur) in
+            let same : rtds_unit domains2 u ≡ rtds_unit d.0 u = subst (λ ds. rtds_unit ds u ≡ rtds_unit d.0 u) e (x.2 ∙ burned_other u the_ask.cur the_ask.at.0 d.0 not_cur) in
             let h = a.charges d.0 d.1 in
             record { burned = λ y at2. h.burned y (sym same ∙ at2); due = (h.due.0, ap seen (cur_there r ne) ∙ h.due.1) });
       }

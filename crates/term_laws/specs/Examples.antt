@@ -58,8 +58,8 @@ abbrev pub rtds_domain : List ℕ → ℕ → ℕ → List (List Span) → DomCo
 rtds_domain name period budget guests = record { name = name; home = pool_number 0; guests = guests; params = dom_params.Rtds (span period) (span budget) false; pins = [] }
 
 -- the script of a vCPU that always runs
-abbrev pub forever : List Span
-forever = []
+abbrev pub endless_script : List Span
+endless_script = []
 
 -- a processor stalls at a moment for a span; a command at a moment
 abbrev pub stall : ℕ → ℕ → ℕ → StallLine
@@ -77,8 +77,8 @@ two_units = record {
     horizon = moment 20000000;
     pools = rtds_pool (codes "Pool-0") 1 ∷ [];
     domains =
-        rtds_domain (codes "a") 10000000 4000000 (forever ∷ []) ∷
-        rtds_domain (codes "b") 20000000 5000000 (forever ∷ []) ∷
+        rtds_domain (codes "a") 10000000 4000000 (endless_script ∷ []) ∷
+        rtds_domain (codes "b") 20000000 5000000 (endless_script ∷ []) ∷
         [];
   };
   work = record {
@@ -96,8 +96,8 @@ stall_past_the_due = record {
     horizon = moment 5000000;
     pools = rtds_pool (codes "Pool-0") 1 ∷ [];
     domains =
-        rtds_domain (codes "a") 10000000 4000000 (forever ∷ []) ∷
-        rtds_domain (codes "b") 20000000 5000000 (forever ∷ []) ∷
+        rtds_domain (codes "a") 10000000 4000000 (endless_script ∷ []) ∷
+        rtds_domain (codes "b") 20000000 5000000 (endless_script ∷ []) ∷
         [];
   };
   work = record {
@@ -114,7 +114,7 @@ late_replenishment = record {
     processors = 1;
     horizon = moment 35000000;
     pools = rtds_pool (codes "Pool-0") 1 ∷ [];
-    domains = rtds_domain (codes "a") 10000000 4000000 (forever ∷ []) ∷ [];
+    domains = rtds_domain (codes "a") 10000000 4000000 (endless_script ∷ []) ∷ [];
   };
   work = record {
     stalls = stall 5000000 0 30000000 ∷ [];
@@ -130,7 +130,7 @@ new_budget = record {
     processors = 1;
     horizon = moment 10000000;
     pools = rtds_pool (codes "Pool-0") 1 ∷ [];
-    domains = rtds_domain (codes "a") 10000000 4000000 (forever ∷ []) ∷ [];
+    domains = rtds_domain (codes "a") 10000000 4000000 (endless_script ∷ []) ∷ [];
   };
   work = record {
     stalls = [];

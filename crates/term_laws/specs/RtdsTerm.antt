@@ -74,9 +74,9 @@ opened_by u t (event.Repl w start deadline budget extra) entries =
 opened_by u t _ entries = None
 
 -- the terms that these entries open for the unit
-abbrev pub opened : UnitId → List Entry → List Term
-opened u [] = []
-opened u (entry ∷ entries) = elim (opened_by u entry.at.0 entry.event entries) [ Some term ↦ term ∷ opened u entries | None ↦ opened u entries ]
+abbrev pub opened_terms : UnitId → List Entry → List Term
+opened_terms u [] = []
+opened_terms u (entry ∷ entries) = elim (opened_by u entry.at.0 entry.event entries) [ Some term ↦ term ∷ opened_terms u entries | None ↦ opened_terms u entries ]
 
 -- the unit's RTDS record, where its domain is in an RTDS pool
 abbrev pub rtds_in : State → UnitId → Option RtdsUnit
@@ -85,21 +85,21 @@ rtds_in s u = elim (home_of_domain s u.dom.0) [ None ↦ None | Some i ↦ elim 
 -- the unit's terms in a run: the first, where it begins in an RTDS pool, and those that the entries open
 abbrev pub terms : Machine → UnitId → List Entry → List Term
 terms m u entries = elim (rtds_in (opening m) u) [
-  | None ↦ opened u entries
-  | Some x ↦ record { from = 0; until = term_end u.dom.0 x.period entries; budget = x.budget; delay = 0; extra = x.extra } ∷ opened u entries
+  | None ↦ opened_terms u entries
+  | Some x ↦ record { from = 0; until = term_end u.dom.0 x.period entries; budget = x.budget; delay = 0; extra = x.extra } ∷ opened_terms u entries
 ]
 
 -- how long the leg lies within the term
-abbrev pub shared : Term → Leg → ℕ
-shared term leg = min leg.until term.until - max leg.from term.from
+abbrev pub shared_span : Term → Leg → ℕ
+shared_span term leg = min leg.until term.until - max leg.from term.from
 
 -- the time for which the unit is on a core within the term
 abbrev pub time_on : Term → List Leg → ℕ
-time_on term legs = sum_by (shared term) legs
+time_on term legs = sum_by (shared_span term) legs
 
 -- the lateness of the legs that meet the term, added up
 abbrev pub late_within : Term → List Leg → ℕ
-late_within term legs = sum_by (λ leg. (if nat_lt 0 (shared term leg) then leg.late else 0)) legs
+late_within term legs = sum_by (λ leg. (if nat_lt 0 (shared_span term leg) then leg.late else 0)) legs
 
 -- a unit without extra time is on a core within the term for its budget at most, and for what was late: the term's own beginning, and the ends of the legs that meet it
 abbrev pub KeepsTerm : List Leg → Term → Type 0

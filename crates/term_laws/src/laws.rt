@@ -16,11 +16,14 @@ ghost use Rattle.term_laws.specs.RtdsTerm.{legs, terms, KeepsTerm};
 /// budget at most, and for what was late: the term's own beginning, and the ends of the legs that meet the term.
 /// Times are in nanoseconds.
 pub fn law_rtds_term()
-    ensures { (m : Machine) → IsChecked m → (entries : List Entry) → IsRun m entries → (u : UnitId) → All (KeepsTerm (legs (state_after m entries) u entries)) (terms m u entries) }
+    ensures { (m : Machine) → IsChecked m → (entries : List Entry) → IsRun m entries →
+        (u : UnitId) → All (KeepsTerm (legs (state_after m entries) u entries))
+        (terms m u entries) }
 {}
 
 /// A term that begins late leaves the grid of a unit's deadlines as it is: the moment t at which it begins lies in the new term,
 /// and that term begins no earlier than the old one ended. Deadlines, periods and moments are in nanoseconds.
 pub fn law_deadlines_keep_their_grid()
-    ensures { (deadline period t : ℕ) → 1 ≤ period → deadline ≤ t → IsTermAround deadline period t (next_deadline deadline period t) }
+    ensures { (deadline period t : ℕ) → 1 ≤ period → deadline ≤ t →
+        IsTermAround deadline period t (next_deadline deadline period t) }
 {}

@@ -10,7 +10,7 @@ use Rattle.sched_model.specs.declared.state.RtdsUnit.{RtdsUnit}
 use Rattle.sched_model.specs.declared.state.Records.{Records}
 use Rattle.sched_model.specs.declared.state.Records.TheVariants.{Credit2Pool, RtdsPool, ArincPool, NullPool}
 use Rattle.sched_model.specs.declared.state.Scheduler.{Scheduler}
-use Rattle.sched_model.specs.Places.{at_place, numbered, has_unit}
+use Rattle.sched_model.specs.Places.{at_place, numbered_items, has_unit}
 use Rattle.sched_model.specs.Eligible.{rtds_unit}
 use Rattle.sched_ops.specs.Conditions.{is_on}
 use Rattle.sched_ops.specs.declared.timer.Timer.{Timer}
@@ -20,12 +20,12 @@ use Rattle.timer_laws.specs.Armed.{armed_at}
 use Rattle.timer_laws.proofs.Scan.{each-append, append-each}
 
 -- what holds of each thing and its place holds of all that are numbered, and back
-pub to_numbered : {X : Type 0} (P : ℕ × X → Type 0) (n : ℕ) (places : List (Option X)) → ((i m : ℕ) (x : X) → n + i ≡ m → at_place places i ≡ Some x → P (m, x)) → AllByRecursion P (numbered n places)
+pub to_numbered : {X : Type 0} (P : ℕ × X → Type 0) (n : ℕ) (places : List (Option X)) → ((i m : ℕ) (x : X) → n + i ≡ m → at_place places i ≡ Some x → P (m, x)) → AllByRecursion P (numbered_items n places)
 to_numbered P n [] each = tt
 to_numbered P n (None ∷ places) each = to_numbered P (suc n) places (λ i m x e at. each (suc i) m x (omega (arith, e)) at)
 to_numbered P n (Some y ∷ places) each = (each 0 n y (omega arith) refl, to_numbered P (suc n) places (λ i m x e at. each (suc i) m x (omega (arith, e)) at))
 
-pub of_numbered : {X : Type 0} (P : ℕ × X → Type 0) (n : ℕ) (places : List (Option X)) → AllByRecursion P (numbered n places) → (i m : ℕ) (x : X) → n + i ≡ m → at_place places i ≡ Some x → P (m, x)
+pub of_numbered : {X : Type 0} (P : ℕ × X → Type 0) (n : ℕ) (places : List (Option X)) → AllByRecursion P (numbered_items n places) → (i m : ℕ) (x : X) → n + i ≡ m → at_place places i ≡ Some x → P (m, x)
 of_numbered P n [] each i m x e at = absurd (cc)
 of_numbered P n (None ∷ places) each zero m x e at = absurd (cc)
 of_numbered P n (None ∷ places) each (suc i) m x e at = of_numbered P (suc n) places each i m x (omega (arith, e)) at
@@ -158,14 +158,14 @@ module _ (P : Armed → Type 0) (scheduler : Scheduler) where
 
   to_list_of : (records : Records) → ((timer : Timer) (at : Moment) → armed_at (with records) timer ≡ Some at → P (at, timer)) → AllByRecursion P (timers (with records))
   to_list_of (Credit2Pool records) each =
-      to_refills P (numbered 0 records.domains)
+      to_refills P (numbered_items 0 records.domains)
       (to_numbered (OfRefill P) 0 records.domains
       (λ i m x e at r has.
       let k : i ≡ m = omega (arith, e) in
       let at2 : at_place records.domains m ≡ Some x = ap (at_place records.domains) (sym k) ∙ at in
       each (Refill (domain m)) (moment r) (ap (λ (o : Option Credit2Domain). elim o as (λ _. Option Moment) [ None ↦ None | Some y ↦ option_map moment y.refill ]) at2 ∙ ap (option_map moment) has)))
   to_list_of (RtdsPool domains) each =
-      to_replenishments P scheduler.queue (numbered 0 domains)
+      to_replenishments P scheduler.queue (numbered_items 0 domains)
       (to_numbered (λ (e : ℕ × List RtdsUnit). AllByRecursion P (unit_timers scheduler.queue e.0 0 e.1)) 0 domains
       (λ i m units e at.
       to_units P scheduler.queue m 0 units
@@ -179,21 +179,17 @@ module _ (P : Armed → Type 0) (scheduler : Scheduler) where
   to_list_of (NullPool kept) each = tt
 
   of_list_of : (records : Records) → AllByRecursion P (timers (with records)) → (timer : Timer) (at : Moment) → armed_at (with records) timer ≡ Some at → P (at, timer)
-  of_list_of (Credit2Pool records) each (Repl u) at is = absurd (no_moment (has_unit scheduler.queue u || is_on (Credit2Pool records) u) at is)
   of_list_of (Credit2Pool records) each (Refill d) at is =
       let f = some_refill (at_place records.domains d.0) at is in
-      let all : AllByRecursion (OfRefill P) (numbered 0 records.domains) = of_refills P (numbered 0 records.domains) each in
+      let all : AllByRecursion (OfRefill P) (numbered_items 0 records.domains) = of_refills P (numbered_items 0 records.domains) each in
       subst (λ (m : Moment). P (m, Refill d)) f.4 (of_numbered (OfRefill P) 0 records.domains all d.0 d.0 f.0 (omega arith) f.2 f.1 f.3)
   of_list_of (RtdsPool domains) each (Repl u) at is =
       let f = some_moment (has_unit scheduler.queue u) (rtds_unit domains u) at is in
       let there = there_unit domains u f.unit f.is in
-      let all = of_numbered (λ (e : ℕ × List RtdsUnit). AllByRecursion P (unit_timers scheduler.queue e.0 0 e.1)) 0 domains (of_replenishments P scheduler.queue (numbered 0 domains) each) u.dom.0 u.dom.0 there.units (omega arith) there.at in
+      let all = of_numbered (λ (e : ℕ × List RtdsUnit). AllByRecursion P (unit_timers scheduler.queue e.0 0 e.1)) 0 domains (of_replenishments P scheduler.queue (numbered_items 0 domains) each) u.dom.0 u.dom.0 there.units (omega arith) there.at in
       subst (λ (m : Moment). P (m, Repl u)) f.moment (of_units P scheduler.queue u.dom.0 0 there.units all u.n u.n f.unit (omega arith) there.get f.on)
-  of_list_of (RtdsPool domains) each (Refill d) at is = absurd (cc)
-  of_list_of (ArincPool records) each (Repl u) at is = absurd (no_moment (has_unit scheduler.queue u || is_on (ArincPool records) u) at is)
-  of_list_of (ArincPool records) each (Refill d) at is = absurd (cc)
-  of_list_of (NullPool kept) each (Repl u) at is = absurd (no_moment (has_unit scheduler.queue u || is_on (NullPool kept) u) at is)
-  of_list_of (NullPool kept) each (Refill d) at is = absurd (cc)
+  of_list_of any each (Repl u) at is = absurd (no_moment (has_unit scheduler.queue u || is_on any u) at is)
+  of_list_of records each (Refill d) at is = absurd (cc)
 
   -- what holds of each armed timer and its moment holds of each of the list, and back
   pub to_list : ((timer : Timer) (at : Moment) → armed_at scheduler timer ≡ Some at → P (at, timer)) → AllByRecursion P (timers scheduler)

@@ -9,7 +9,7 @@ use Rattle.sched_model.specs.declared.state.RtdsUnit.{RtdsUnit}
 use Rattle.sched_model.specs.declared.state.Records.{Records}
 use Rattle.sched_model.specs.declared.state.Records.TheVariants.{Credit2Pool, RtdsPool, ArincPool, NullPool}
 use Rattle.sched_model.specs.declared.state.Scheduler.{Scheduler}
-use Rattle.sched_model.specs.Places.{numbered}
+use Rattle.sched_model.specs.Places.{numbered_items}
 use Rattle.sched_ops.specs.declared.timer.Timer.{Timer}
 use Rattle.sched_ops.specs.declared.timer.Timer.TheVariants.{Repl, Refill}
 use Rattle.sched_ops.specs.Timers.{Armed, unit_timers, replenishments, refills, timers_in, timers}
@@ -34,29 +34,29 @@ units_in_order queue d n (x ∷ units) =
       | false ↦ rest
     ]
 
-replenishments_in_order : (queue : List UnitId) (k : ℕ) (domains : List (Option (List RtdsUnit))) → AreInOrder (replenishments queue (numbered k domains))
+replenishments_in_order : (queue : List UnitId) (k : ℕ) (domains : List (Option (List RtdsUnit))) → AreInOrder (replenishments queue (numbered_items k domains))
 replenishments_in_order queue k [] = tt
 replenishments_in_order queue k (None ∷ domains) = replenishments_in_order queue (suc k) domains
 replenishments_in_order queue k (Some units ∷ domains) =
     let own : List Armed = unit_timers queue k 0 units in
-    let others : List Armed = replenishments queue (numbered (suc k) domains) in
+    let others : List Armed = replenishments queue (numbered_items (suc k) domains) in
     in_order-append own others (units_in_order queue k 0 units) (replenishments_in_order queue (suc k) domains)
     (to_units (λ (x : Armed). AllByRecursion (IsAfter x.1) others) queue k 0 units
     (λ i m x e get on.
-    to_replenishments (IsAfter (Repl (unit_of k m))) queue (numbered (suc k) domains)
+    to_replenishments (IsAfter (Repl (unit_of k m))) queue (numbered_items (suc k) domains)
     (to_numbered (λ (d : ℕ × List RtdsUnit). AllByRecursion (IsAfter (Repl (unit_of k m))) (unit_timers queue d.0 0 d.1)) (suc k) domains
     (λ i2 d units2 e2 at. to_units (IsAfter (Repl (unit_of k m))) queue d 0 units2 (λ i3 n y e3 get2 on2. earlier_domain (Repl (unit_of k m)) (Repl (unit_of d n)) (omega (arith, e2)))))))
 
-refills_in_order : (k : ℕ) (domains : List (Option Credit2Domain)) → AreInOrder (refills (numbered k domains))
+refills_in_order : (k : ℕ) (domains : List (Option Credit2Domain)) → AreInOrder (refills (numbered_items k domains))
 refills_in_order k [] = tt
 refills_in_order k (None ∷ domains) = refills_in_order (suc k) domains
 refills_in_order k (Some x ∷ domains) =
-    let others : List Armed = refills (numbered (suc k) domains) in
+    let others : List Armed = refills (numbered_items (suc k) domains) in
     let rest : AreInOrder others = refills_in_order (suc k) domains in
     elim x.refill as (λ o. AreInOrder (elim o as (λ _. List Armed) [ None ↦ others | Some r ↦ (moment r, Refill (domain k)) ∷ others ])) [
       | None ↦ rest
       | Some r ↦ (
-        to_refills (IsAfter (Refill (domain k))) (numbered (suc k) domains)
+        to_refills (IsAfter (Refill (domain k))) (numbered_items (suc k) domains)
             (to_numbered (OfRefill (IsAfter (Refill (domain k)))) (suc k) domains (λ i d y e at s has. earlier_domain (Refill (domain k)) (Refill (domain d)) (omega (arith, e)))),
         rest,
       )

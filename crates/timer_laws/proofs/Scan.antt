@@ -4,7 +4,7 @@ use Rattle.std.specs.Prelude.{Option, Some, None, nat_le, nat_lt}
 use Rattle.std.specs.List.{AllByRecursion}
 use Rattle.std.proofs.lemmas.Bool.{leb-true, leb-false, ltb-true, ltb-false}
 use Rattle.sched_laws.proofs.Lists.{AllByRecursion-map}
-use Rattle.sched_ops.specs.Timers.{Armed, first_due, soonest}
+use Rattle.sched_ops.specs.Timers.{Armed, first_due, soonest_timer}
 use Rattle.timer_laws.specs.Armed.{IsNotAfter}
 
 -- what holds of each of two lists holds of both, one after the other, and back
@@ -66,31 +66,31 @@ module _ (t : ℕ) where
       ] refl is
 
 -- the soonest is the best so far or one of the list
-pub soonest_one : (P : Armed → Type 0) (best : Armed) (xs : List Armed) (x : Armed) → P best → AllByRecursion P xs → soonest (Some best) xs ≡ Some x → P x
+pub soonest_one : (P : Armed → Type 0) (best : Armed) (xs : List Armed) (x : Armed) → P best → AllByRecursion P xs → soonest_timer (Some best) xs ≡ Some x → P x
 soonest_one P best [] x own each is = (let same : best ≡ x = cc in subst P same own)
 soonest_one P best (y ∷ xs) x own each is =
-    elim (nat_lt y.0.0 best.0.0) as (λ b. soonest (Some (cond b y best)) xs ≡ Some x → P x) [
+    elim (nat_lt y.0.0 best.0.0) as (λ b. soonest_timer (Some (cond b y best)) xs ≡ Some x → P x) [
       | true ↦ λ e. soonest_one P y xs x each.0 each.1 e
       | false ↦ λ e. soonest_one P best xs x own each.1 e
     ] is
 
 -- it has no later moment than any of these
-pub soonest_least : (best : Armed) (xs : List Armed) (x : Armed) → soonest (Some best) xs ≡ Some x → (x.0.0 ≤ best.0.0) × AllByRecursion (λ (e : Armed). x.0.0 ≤ e.0.0) xs
+pub soonest_least : (best : Armed) (xs : List Armed) (x : Armed) → soonest_timer (Some best) xs ≡ Some x → (x.0.0 ≤ best.0.0) × AllByRecursion (λ (e : Armed). x.0.0 ≤ e.0.0) xs
 soonest_least best [] x is = (let same : best ≡ x = cc in (subst (λ (z : Armed). z.0.0 ≤ best.0.0) same (omega arith), tt))
 soonest_least best (y ∷ xs) x is =
-    elim (nat_lt y.0.0 best.0.0) as (λ b. nat_lt y.0.0 best.0.0 ≡ b → soonest (Some (cond b y best)) xs ≡ Some x → (x.0.0 ≤ best.0.0) × AllByRecursion (λ (e : Armed). x.0.0 ≤ e.0.0) (y ∷ xs)) [
+    elim (nat_lt y.0.0 best.0.0) as (λ b. nat_lt y.0.0 best.0.0 ≡ b → soonest_timer (Some (cond b y best)) xs ≡ Some x → (x.0.0 ≤ best.0.0) × AllByRecursion (λ (e : Armed). x.0.0 ≤ e.0.0) (y ∷ xs)) [
       | true ↦ λ b e. (let sooner = ltb-true y.0.0 best.0.0 b in let r = soonest_least y xs x e in let low = r.0 in (omega (arith, sooner, low), (low, r.1)))
       | false ↦ λ b e. (let later = ltb-false y.0.0 best.0.0 b in let r = soonest_least best xs x e in let low = r.0 in (low, (omega (arith, later, low), r.1)))
     ] refl is
 
 -- there is a soonest unless the list is empty
-pub soonest_some : (best : Armed) (xs : List Armed) → soonest (Some best) xs ≡ None → ⊥
+pub soonest_some : (best : Armed) (xs : List Armed) → soonest_timer (Some best) xs ≡ None → ⊥
 soonest_some best [] is = absurd (cc)
 soonest_some best (y ∷ xs) is = soonest_some (cond (nat_lt y.0.0 best.0.0) y best) xs is
 
 -- the first of a list whose moment has come, or else the soonest
 abbrev pub next_of : ℕ → List Armed → Option Armed
-next_of t xs = elim (first_due t xs) [ Some x ↦ Some x | None ↦ soonest None xs ]
+next_of t xs = elim (first_due t xs) [ Some x ↦ Some x | None ↦ soonest_timer None xs ]
 
 -- which of the two it is
 next_cases : (o soon : Option Armed) (x : Armed) → elim o as (λ _. Option Armed) [ Some y ↦ Some y | None ↦ soon ] ≡ Some x → (o ≡ Some x) ⊎ ((o ≡ None) × (soon ≡ Some x))
@@ -101,7 +101,7 @@ module _ (t : ℕ) where
   pub next_none : (xs : List Armed) → next_of t xs ≡ None → xs ≡ []
   next_none [] is = refl
   next_none (y ∷ xs) is =
-      elim (first_due t (y ∷ xs)) as (λ o. elim o as (λ _. Option Armed) [ Some z ↦ Some z | None ↦ soonest (Some y) xs ] ≡ None → (y ∷ xs) ≡ []) [
+      elim (first_due t (y ∷ xs)) as (λ o. elim o as (λ _. Option Armed) [ Some z ↦ Some z | None ↦ soonest_timer (Some y) xs ] ≡ None → (y ∷ xs) ≡ []) [
         | None ↦ λ e. absurd (soonest_some y xs e)
         | Some z ↦ λ e. absurd (cc)
       ] is
@@ -109,14 +109,14 @@ module _ (t : ℕ) where
   pub next_one : (P : Armed → Type 0) (xs : List Armed) (x : Armed) → AllByRecursion P xs → next_of t xs ≡ Some x → P x
   next_one P [] x each is = absurd (cc)
   next_one P (y ∷ xs) x each is =
-      elim (next_cases (first_due t (y ∷ xs)) (soonest (Some y) xs) x is) [
+      elim (next_cases (first_due t (y ∷ xs)) (soonest_timer (Some y) xs) x is) [
         | inl first ↦ first_one t P (y ∷ xs) x each first
         | inr later ↦ soonest_one P y xs x each.0 each.1 later.1
       ]
 
   pub next_first : (xs : List Armed) (x : Armed) → AreInOrder xs → next_of t xs ≡ Some x → AllByRecursion (λ (e : Armed). e.0.0 ≤ t → (x.0.0 ≤ t) × IsNotAfter x.1 e.1) xs
   next_first xs x order is =
-      elim (next_cases (first_due t xs) (soonest None xs) x is) [
+      elim (next_cases (first_due t xs) (soonest_timer None xs) x is) [
         | inl first ↦ AllByRecursion-map (λ (e : Armed). e.0.0 ≤ t → IsNotAfter x.1 e.1) (λ (e : Armed). e.0.0 ≤ t → (x.0.0 ≤ t) × IsNotAfter x.1 e.1) (λ e after has. (come_first t xs x first, after has)) xs (first_of_come t xs x order first)
         | inr later ↦ AllByRecursion-map (λ (e : Armed). t < e.0.0) (λ (e : Armed). e.0.0 ≤ t → (x.0.0 ≤ t) × IsNotAfter x.1 e.1) (λ e late has. absurd (omega (arith, late, has))) xs (all_later t xs later.0)
       ]
@@ -124,7 +124,7 @@ module _ (t : ℕ) where
   pub next_least : (xs : List Armed) (x : Armed) → next_of t xs ≡ Some x → (x.0.0 ≤ t) ⊎ AllByRecursion (λ (e : Armed). x.0.0 ≤ e.0.0) xs
   next_least [] x is = inr tt
   next_least (y ∷ xs) x is =
-      elim (next_cases (first_due t (y ∷ xs)) (soonest (Some y) xs) x is) [
+      elim (next_cases (first_due t (y ∷ xs)) (soonest_timer (Some y) xs) x is) [
         | inl first ↦ inl (come_first t (y ∷ xs) x first)
         | inr later ↦ inr (soonest_least y xs x later.1)
       ]

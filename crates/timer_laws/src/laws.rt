@@ -13,13 +13,20 @@ ghost use Rattle.timer_laws.specs.Armed.{armed_at, IsNotAfter};
 /// Which one of several that have the least is left open. A timer is due exactly where it is armed and its moment has come.
 pub fn law_timers()
     // No timer.
-    ensures none { (t : ℕ) → (scheduler : Scheduler) → timer_at t scheduler ≡ None → (timer : Timer) → armed_at scheduler timer ≡ None }
+    ensures none { (t : ℕ) → (scheduler : Scheduler) → timer_at t scheduler ≡ None →
+        (timer : Timer) → armed_at scheduler timer ≡ None }
     // It is armed at its moment.
-    ensures armed { (t : ℕ) → (scheduler : Scheduler) → (x : Armed) → timer_at t scheduler ≡ Some x → armed_at scheduler x.1 ≡ Some x.0 }
+    ensures armed { (t : ℕ) → (scheduler : Scheduler) → (x : Armed) → timer_at t scheduler
+        ≡ Some x → armed_at scheduler x.1 ≡ Some x.0 }
     // Where the moment of some timer has come: the timer's has come too, and it is the first of those.
-    ensures first { (t : ℕ) → (scheduler : Scheduler) → (x : Armed) → timer_at t scheduler ≡ Some x → (other : Timer) → (at : Moment) → armed_at scheduler other ≡ Some at → at.0 ≤ t → (x.0.0 ≤ t) × IsNotAfter x.1 other }
+    ensures first { (t : ℕ) → (scheduler : Scheduler) → (x : Armed) → timer_at t scheduler
+        ≡ Some x → (other : Timer) → (at : Moment) → armed_at scheduler other ≡ Some at → at.0 ≤ t →
+        (x.0.0 ≤ t) × IsNotAfter x.1 other }
     // Where its moment has not come, no timer has an earlier one.
-    ensures least { (t : ℕ) → (scheduler : Scheduler) → (x : Armed) → timer_at t scheduler ≡ Some x → (other : Timer) → (at : Moment) → armed_at scheduler other ≡ Some at → (x.0.0 ≤ t) ⊎ (x.0.0 ≤ at.0) }
+    ensures least { (t : ℕ) → (scheduler : Scheduler) → (x : Armed) → timer_at t scheduler
+        ≡ Some x → (other : Timer) → (at : Moment) → armed_at scheduler other ≡ Some at →
+        (x.0.0 ≤ t) ⊎ (x.0.0 ≤ at.0) }
     // The test of a single timer.
-    ensures is_due { (t : ℕ) → (scheduler : Scheduler) → (timer : Timer) → is_due t scheduler timer ≡ has_come t (armed_at scheduler timer) }
+    ensures is_due { (t : ℕ) → (scheduler : Scheduler) → (timer : Timer) → is_due t scheduler timer
+        ≡ has_come t (armed_at scheduler timer) }
 {}

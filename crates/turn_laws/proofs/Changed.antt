@@ -11,7 +11,7 @@ use Rattle.sched_model.specs.declared.state.Scheduler.{Scheduler}
 use Rattle.sched_model.specs.Places.{at_place, change_at}
 use Rattle.sched_model.specs.State.{is_runnable, runnable_among}
 use Rattle.sched_model.specs.Eligible.{is_allowed}
-use Rattle.sched_model.specs.Pool.{home_cores, settled, reconsidered}
+use Rattle.sched_model.specs.Pool.{home_cores, settled_pool, reconsidered_core}
 use Rattle.sched_laws.proofs.HomeCores.{home_change_at}
 use Rattle.sched_laws.proofs.EachPlace.{at_place-change_each}
 pub use Rattle.sched_laws.proofs.EachPlace.{at_place-change_at, at_place-change_at_other}
@@ -43,7 +43,7 @@ pub record Falls (m : Machine) (t : ℕ) (pool next : Pool) (r : ℕ) : Type 0 w
   pub others : (k : ℕ) → k ≢ r → turns_in m t next k ≤ turns_in m t pool k + b
 
 -- looking at the cores changes nothing of it
-pub falls_settled : (m : Machine) (t : ℕ) (pool next : Pool) (r : ℕ) → Falls m t pool next r → Falls m t pool (settled t next) r
+pub falls_settled : (m : Machine) (t : ℕ) (pool next : Pool) (r : ℕ) → Falls m t pool next r → Falls m t pool (settled_pool t next) r
 falls_settled m t pool next r fall = record {
   b = fall.b;
   places = λ k. settled_places (at_place next.resources k) k refl ∙ fall.places k;
@@ -51,11 +51,11 @@ falls_settled m t pool next r fall = record {
   others = λ k other. rw (turns_settled m t next k) (fall.others k other);
 }
   where
-    settled_places : (o : Option Resource) (k : ℕ) → at_place next.resources k ≡ o → is_some (at_place (settled t next).resources k) ≡ is_some (at_place next.resources k)
+    settled_places : (o : Option Resource) (k : ℕ) → at_place next.resources k ≡ o → is_some (at_place (settled_pool t next).resources k) ≡ is_some (at_place next.resources k)
     settled_places o k is =
         let e : 0 + k ≡ k = omega arith in
-        let a = at_place-change_each 0 k (reconsidered t (home_cores next) next.scheduler) next.resources in
-        ap is_some a ∙ is_some-option_map (reconsidered t (home_cores next) next.scheduler (0 + k)) (at_place next.resources k)
+        let a = at_place-change_each 0 k (reconsidered_core t (home_cores next) next.scheduler) next.resources in
+        ap is_some a ∙ is_some-option_map (reconsidered_core t (home_cores next) next.scheduler (0 + k)) (at_place next.resources k)
 
 module _ (m : Machine) (t : ℕ) (pool : Pool) where
   -- what is left to a core of the pool under a scheduler

@@ -6,7 +6,7 @@ use Rattle.sched_model.specs.declared.machine.Machine.{Machine}
 use Rattle.sched_model.specs.declared.state.State.{State}
 use Rattle.sched_model.specs.declared.state.Pool.{Pool}
 use Rattle.sched_model.specs.Places.{at_place, change_at, first_place}
-use Rattle.sched_model.specs.Pool.{settled}
+use Rattle.sched_model.specs.Pool.{settled_pool}
 use Rattle.sched_model.specs.Actions.{home_of_core, change_pool}
 use Rattle.turn_laws.specs.Stretches.{cores}
 use Rattle.turn_laws.specs.Turns.{turns_in, core_turns, turns_left}
@@ -26,7 +26,7 @@ abbrev turns_at : Machine → ℕ → List (Option Pool) → ℕ → Option ℕ 
 turns_at m t pools r home = elim home as (λ _. ℕ) [ None ↦ 0 | Some i ↦ elim (at_place pools i) as (λ _. ℕ) [ None ↦ 0 | Some pool ↦ turns_in m t pool r ] ]
 
 pub state_falls : (m : Machine) (s : State) (i r : ℕ) (pool next : Pool) → r < cores m → home_of_core s r ≡ Some i → at_place s.pools i ≡ Some pool → Falls m s.now pool next r
-    → (f : Pool → Pool) → f pool ≡ settled s.now next → turns_left m (change_pool i f s) + 1 ≤ turns_left m s
+    → (f : Pool → Pool) → f pool ≡ settled_pool s.now next → turns_left m (change_pool i f s) + 1 ≤ turns_left m s
 state_falls m s i r pool next low home at fall f is =
     let t : ℕ = s.now in
     let goes = falls_settled m t pool next r fall in
@@ -44,14 +44,14 @@ state_falls m s i r pool next low home at fall f is =
         let goes = falls_settled m s.now pool next r fall in
         subst (λ (y : Pool). is_some (at_place (f y).resources k) ≡ is_some (at_place y.resources k)) e (ap (λ (y : Pool). is_some (at_place y.resources k)) is ∙ goes.places k)))
 
-    at_new : at_place new i ≡ Some (settled s.now next)
+    at_new : at_place new i ≡ Some (settled_pool s.now next)
     at_new = at_place-change_at i f s.pools ∙ ap (option_map f) at ∙ ap (λ (y : Pool). Some y) is
 
     before : (k j : ℕ) → home_of_core s k ≡ Some j → j ≡ i → core_turns m s k ≡ turns_in m s.now pool k
     before k j home_k same =
         ap (turns_at m s.now s.pools k) home_k ∙ ap (λ (x : ℕ). turns_at m s.now s.pools k (Some x)) same ∙ ap (λ (o : Option Pool). elim o as (λ _. ℕ) [ None ↦ 0 | Some p ↦ turns_in m s.now p k ]) at
 
-    after : (k j : ℕ) → home_of_core s k ≡ Some j → j ≡ i → core_turns m (change_pool i f s) k ≡ turns_in m s.now (settled s.now next) k
+    after : (k j : ℕ) → home_of_core s k ≡ Some j → j ≡ i → core_turns m (change_pool i f s) k ≡ turns_in m s.now (settled_pool s.now next) k
     after k j home_k same =
         ap (turns_at m s.now new k) (homes k ∙ home_k) ∙ ap (λ (x : ℕ). turns_at m s.now new k (Some x)) same ∙ ap (λ (o : Option Pool). elim o as (λ _. ℕ) [ None ↦ 0 | Some p ↦ turns_in m s.now p k ]) at_new
 

@@ -13,7 +13,7 @@ use Rattle.sched_model.specs.Places.{at_place, put_at}
 use Rattle.sched_model.specs.State.{is_runnable}
 use Rattle.sched_model.specs.Eligible.{Decision}
 use Rattle.sched_model.specs.Pool as pools
-use Rattle.sched_model.specs.Pool.{home_cores, is_held, is_open, ask_of, decided, same_choice}
+use Rattle.sched_model.specs.Pool.{home_cores, is_held, is_open, ask_of, decided_core, same_choice}
 use Rattle.sched_laws.proofs.Bools.{either}
 use Rattle.sched_laws.proofs.Choices.{same_unit_same}
 use Rattle.sched_laws.proofs.Counts.{same_unit_refl}
@@ -33,7 +33,7 @@ same_choice_is (Some u) (Some w) same = ap (λ x. Some x) (same_unit_same u w sa
 
 -- the core after its decision
 decided_parts : (t : ℕ) (decision : Decision) (c : Resource)
-    → ((decided t decision c).processors ≡ c.processors) × (is_open (decided t decision c) ≡ false) × ((decided t decision c).cur ≡ decision.unit) × ((decided t decision c).leaving ≡ c.leaving) × ((decided t decision c).pending ≡ false)
+    → ((decided_core t decision c).processors ≡ c.processors) × (is_open (decided_core t decision c) ≡ false) × ((decided_core t decision c).cur ≡ decision.unit) × ((decided_core t decision c).leaving ≡ c.leaving) × ((decided_core t decision c).pending ≡ false)
 decided_parts t decision c =
     by_test (λ (x : Resource). (x.processors ≡ c.processors) × (is_open x ≡ false) × (x.cur ≡ decision.unit) × (x.leaving ≡ c.leaving) × (x.pending ≡ false)) (same_choice decision.unit c.cur) _ _
     (λ is. (refl, refl, sym (same_choice_is decision.unit c.cur is), refl, refl)) (λ is. (refl, refl, refl, refl, refl))

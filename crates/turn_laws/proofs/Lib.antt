@@ -1,5 +1,6 @@
 pub mod Tests
 pub mod Sums
+pub mod BestUnits
 pub mod Looking
 pub mod Changed
 pub mod Meetings

@@ -9,7 +9,7 @@ use Rattle.sched_model.specs.declared.state.Scheduler.{Scheduler}
 use Rattle.sched_model.specs.Places.{at_place, change_each}
 use Rattle.sched_model.specs.State.{is_runnable}
 use Rattle.sched_model.specs.Policy.{better_waits}
-use Rattle.sched_model.specs.Pool.{home_cores, reconsidered, settled}
+use Rattle.sched_model.specs.Pool.{home_cores, reconsidered_core, settled_pool}
 use Rattle.sched_laws.proofs.EachPlace.{at_place-change_each, by_cond}
 use Rattle.sched_laws.proofs.HomeCores.{home_change_each}
 use Rattle.turn_laws.specs.Stretches.{units}
@@ -26,7 +26,7 @@ chances_again : (leaving p q : Bool) (x y : ℕ) → leaving ≡ false → cond 
 chances_again true p q x y is = absurd (cc)
 chances_again false p q x y is = refl
 
-pub turns_reconsidered : (g weight most t home : ℕ) (runs : UnitId → Bool) (scheduler : Scheduler) (r : ℕ) (c : Resource) → turns g weight most runs t home scheduler r (reconsidered t home scheduler r c) ≡ turns g weight most runs t home scheduler r c
+pub turns_reconsidered : (g weight most t home : ℕ) (runs : UnitId → Bool) (scheduler : Scheduler) (r : ℕ) (c : Resource) → turns g weight most runs t home scheduler r (reconsidered_core t home scheduler r c) ≡ turns g weight most runs t home scheduler r c
 turns_reconsidered g weight most t home runs scheduler r c =
     by_cond (λ (x : Resource). turns g weight most runs t home scheduler r x ≡ turns g weight most runs t home scheduler r c) c.leaving c (record c { pending = c.pending || better })
     (λ is. refl)
@@ -42,16 +42,16 @@ turns_reconsidered g weight most t home runs scheduler r c =
     by_cur (Some u) is = refl
 
 -- nor of what is left to a core of a pool whose cores are looked at
-pub turns_settled : (m : Machine) (t : ℕ) (pool : Pool) (r : ℕ) → turns_in m t (settled t pool) r ≡ turns_in m t pool r
+pub turns_settled : (m : Machine) (t : ℕ) (pool : Pool) (r : ℕ) → turns_in m t (settled_pool t pool) r ≡ turns_in m t pool r
 turns_settled m t pool r =
     let home : ℕ = home_cores pool in
-    let f : ℕ → Resource → Resource = reconsidered t home pool.scheduler in
+    let f : ℕ → Resource → Resource = reconsidered_core t home pool.scheduler in
     let at : at_place (change_each 0 f pool.resources) r ≡ option_map (f r) (at_place pool.resources r) = (let e : 0 + r ≡ r = omega arith in rw e at (at_place-change_each 0 r f pool.resources)) in
     ap (λ h. elim (at_place (change_each 0 f pool.resources) r) as (λ _. ℕ) [ None ↦ 0 | Some c ↦ turns m.config.granularity (weight_of m) (units m) (is_runnable m.config.granularity pool) t h pool.scheduler r c ]) (home_change_each 0 0 f pool.resources)
     ∙ ap (λ (o : Option Resource). elim o as (λ _. ℕ) [ None ↦ 0 | Some c ↦ turns m.config.granularity (weight_of m) (units m) (is_runnable m.config.granularity pool) t home pool.scheduler r c ]) at
     ∙ by_core (at_place pool.resources r)
   where
-    by_core : (o : Option Resource) → elim (option_map (reconsidered t (home_cores pool) pool.scheduler r) o) as (λ _. ℕ) [ None ↦ 0 | Some c ↦ turns m.config.granularity (weight_of m) (units m) (is_runnable m.config.granularity pool) t (home_cores pool) pool.scheduler r c ]
+    by_core : (o : Option Resource) → elim (option_map (reconsidered_core t (home_cores pool) pool.scheduler r) o) as (λ _. ℕ) [ None ↦ 0 | Some c ↦ turns m.config.granularity (weight_of m) (units m) (is_runnable m.config.granularity pool) t (home_cores pool) pool.scheduler r c ]
         ≡ elim o as (λ _. ℕ) [ None ↦ 0 | Some c ↦ turns m.config.granularity (weight_of m) (units m) (is_runnable m.config.granularity pool) t (home_cores pool) pool.scheduler r c ]
     by_core None = refl
     by_core (Some c) = turns_reconsidered m.config.granularity (weight_of m) (units m) t (home_cores pool) (is_runnable m.config.granularity pool) pool.scheduler r c

@@ -73,14 +73,6 @@ how_many_none test (x ∷ xs) none =
     let r = how_many_none test xs (or_right (test x) (list_any test xs) none) in
     rw (a, r) refl
 
-pub how_many_some : {X : Type 0} (test : X → Bool) (xs : List X) → how_many test xs ≡ 0 → list_any test xs ≡ false
-how_many_some test [] none = refl
-how_many_some test (x ∷ xs) none =
-    elim (test x) as (λ b. one b + how_many test xs ≡ 0 → (b || list_any test xs) ≡ false) [
-      | true ↦ λ e. absurd (omega (arith, e))
-      | false ↦ λ e. how_many_some test xs (omega (arith, e))
-    ] none
-
 pub how_many_all : {X : Type 0} (test : X → Bool) (xs : List X) → list_all test xs ≡ true → how_many test xs ≡ length xs
 how_many_all test [] all = grind arith
 how_many_all test (x ∷ xs) all =

@@ -37,13 +37,6 @@ any_has test (x ∷ xs) is = elim (one_of (test x) (list_any test xs) is) [
   | inr rest ↦ (let r = any_has test xs rest in (r.0, or_later (same_unit r.0 x) r.1, r.2))
 ]
 
-pub has_any : (test : UnitId → Bool) (xs : List UnitId) (u : UnitId) → has_unit xs u ≡ true → test u ≡ true → list_any test xs ≡ true
-has_any test [] u has is = absurd (cc)
-has_any test (x ∷ xs) u has is = elim (one_of (same_unit u x) (has_unit xs u) has) [
-  | inl same ↦ or_more (test x) _ (subst (λ y. test y ≡ true) (same_unit_same u x same) is)
-  | inr rest ↦ or_later (test x) (has_any test xs u rest is)
-]
-
 -- a core is stirred only where it was: the same units are allowed, and no unit became eligible or better
 pub less_waits : (t k home since : ℕ) (cur : Option UnitId) (old new : Scheduler)
     → ((u : UnitId) → is_allowed new home k u ≡ is_allowed old home k u)

@@ -1,4 +1,5 @@
 -- What the argument asks of a scheduler: decisions in stretches that lower what is left to the machine.
+use Rattle.sched_base.specs.Numbers.{core}
 use Rattle.std.specs.Prelude.{◌≡◌, ◌≢◌, ◌≤◌, ◌+◌, ◌⊎◌, ℕ, Bool, true, false, List, [], ◌∷◌, ◌++◌, Some, None}
 use Rattle.std.specs.List.{AllByRecursion}
 use Rattle.sched_base.specs.declared.UnitId.{UnitId}
@@ -11,7 +12,7 @@ use Rattle.sched_model.specs.declared.state.Scheduler.{Scheduler}
 use Rattle.sched_model.specs.Eligible.{Decision}
 use Rattle.sched_model.specs.Places.{at_place, has_unit}
 use Rattle.sched_model.specs.Policy.{decision_of, after_decision, better_waits}
-use Rattle.sched_model.specs.Pool.{home_cores, ask_of, decided}
+use Rattle.sched_model.specs.Pool.{home_cores, ask_of, decided_core}
 use Rattle.sched_model.specs.Runs.{IsRun, action_of}
 use Rattle.sched_model.specs.State.{is_runnable}
 use Rattle.sched_laws.specs.StateLaws.{state_after}
@@ -36,7 +37,7 @@ module _ (m : Machine) (t : ℕ) (pool : Pool) (r : ℕ) (c : Resource) where
   next = after_decision decision pool.scheduler
 
   abbrev pub left : Resource
-  left = decided t decision c
+  left = decided_core t decision c
 
   -- whether the unit on the core is secure before the decision, and after it
   abbrev pub Secure : ℕ → UnitId → Type 0
@@ -70,4 +71,4 @@ module _ (m : Machine) (t : ℕ) (pool : Pool) (r : ℕ) (c : Resource) where
 abbrev pub DecidesWellNext : Machine → Type 0
 DecidesWellNext m =
     (before : List Entry) (e : Entry) → IsRun m (before ++ e ∷ []) → is_in_stretch e.at.0 (open_legs m before) e.event ≡ true → (i r : ℕ) (pool : Pool) (c : Resource)
-    → action_of e.event ≡ Some (Decide r) → at_place (state_after m before).pools i ≡ Some pool → at_place pool.resources r ≡ Some c → DecidesWell m (state_after m before).now pool r c
+    → action_of e.event ≡ Some (Decide (core r)) → at_place (state_after m before).pools i ≡ Some pool → at_place pool.resources r ≡ Some c → DecidesWell m (state_after m before).now pool r c

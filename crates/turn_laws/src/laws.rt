@@ -16,7 +16,12 @@ ghost use Rattle.turn_laws.specs.GoodDecisions.{DecidesWellNext};
 /// to the cores. Where no unit of a pool has more units before it than the machine has, `most_turns` turns are left at most, and these
 /// are no more than `most_in_stretch`: with g processors a core, R cores and U units at most `2 (g + 1) R R (2 U + 5)`.
 pub fn law_turns_left()
-    ensures falls { (m : Machine) → IsChecked m → DecidesWellNext m → (before : List Entry) → (entry : Entry) → IsRun m (before ++ entry ∷ []) → is_in_stretch entry.at.0 (open_legs m before) entry.event ≡ true → turns_left m (state_after m (before ++ entry ∷ [])) + 1 ≤ turns_left m (state_after m before) }
-    ensures most { (m : Machine) (s : State) → EachPlace (IsBounded m) s.pools → turns_left m s ≤ most_turns m }
+    ensures falls { (m : Machine) → IsChecked m → DecidesWellNext m → (before : List Entry) →
+        (entry : Entry) → IsRun m (before ++ entry ∷ []) →
+        is_in_stretch entry.at.0 (open_legs m before) entry.event ≡ true →
+        turns_left m (state_after m (before ++ entry ∷ [])) + 1
+        ≤ turns_left m (state_after m before) }
+    ensures most { (m : Machine) (s : State) → EachPlace (IsBounded m) s.pools → turns_left m s
+        ≤ most_turns m }
     ensures bound { (m : Machine) → most_turns m ≤ most_in_stretch m }
 {}

@@ -8,7 +8,7 @@ use Rattle.sched_model.specs.declared.command.Which.TheVariants.{Number}
 use Rattle.sched_model.specs.declared.config.SchedKind.{SchedKind}
 use Rattle.xl_words.specs.Values.{number_of, name_of, which_of, vcpu_of, entries_of, cpus_of}
 use Rattle.xl_words.specs.Options.{at, new_pool_rules, credit2_domain_rules, credit2_pool_rules, rtds_rules}
-use Rattle.xl_words.specs.Grammar.{◌>>=◌, field, nothing_more, needed, pool_create, pool_destroy, pool_rename, cpu_add, cpu_remove, migrate, pause, unpause, credit2_domain, credit2_pool, sched_rtds, arinc_set, vcpu_pin}
+use Rattle.xl_words.specs.Grammar.{◌>>=◌, field, nothing_more, needed_value, pool_create, pool_destroy, pool_rename, cpu_add, cpu_remove, migrate, pause, unpause, credit2_domain, credit2_pool, sched_rtds, arinc_set, vcpu_pin}
 use Rattle.words_laws.proofs.Placed.{IsPlaced, Reads, place_of, placed_end, placed_field}
 use Rattle.words_laws.proofs.Chosen.{all_read, placed_options}
 
@@ -99,25 +99,25 @@ unfolding vcpu_pin
 placed_pin = three_fields which_of vcpu_of cpus_of command.Pin zero_word zero_word (codes "all") (Number 0) (Some 0) [] refl refl refl
 
 -- where a name is missing it is missed at the end
-name_at_end : (name : Option (List ℕ)) (kind : Option SchedKind) (p q : ℕ) → (needed p name >>= λ n. Ok (command.PoolCreate n kind)) ≡ at q → p ≡ q
+name_at_end : (name : Option (List ℕ)) (kind : Option SchedKind) (p q : ℕ) → (needed_value p name >>= λ n. Ok (command.PoolCreate n kind)) ≡ at q → p ≡ q
 name_at_end None kind p q e = place_of p q e
 name_at_end (Some n) kind p q e = absurd cc
 
-name_ends : (k : ℕ) (name : Option (List ℕ)) (kind : Option SchedKind) → Reads (all_read new_pool_rules (λ g p. needed p g.name >>= λ n. Ok (command.PoolCreate n g.sched)) k (record { name = name; sched = kind }))
+name_ends : (k : ℕ) (name : Option (List ℕ)) (kind : Option SchedKind) → Reads (all_read new_pool_rules (λ g p. needed_value p g.name >>= λ n. Ok (command.PoolCreate n g.sched)) k (record { name = name; sched = kind }))
 name_ends k None kind = (codes "name=a" ∷ [], command.PoolCreate name_word kind, refl)
 name_ends k (Some n) kind = ([], command.PoolCreate n kind, refl)
 
 pub placed_create : IsPlaced 1 pool_create
 unfolding pool_create
 placed_create ws p e =
-    placed_options new_pool_rules (λ g p. needed p g.name >>= λ n. Ok (command.PoolCreate n g.sched)) (record {
+    placed_options new_pool_rules (λ g p. needed_value p g.name >>= λ n. Ok (command.PoolCreate n g.sched)) (record {
       at_end = λ g p q e. name_at_end g.name g.sched p q e;
       values = λ g w e. absurd cc;
       ends = λ k g. name_ends k g.name g.sched;
     }) ws 1 p (record { name = None; sched = None }) e
 
 -- the same of the domain
-dom_at_end : (dom : Option Which) (c : Which → Command) (p q : ℕ) → (needed p dom >>= λ d. Ok (c d)) ≡ at q → p ≡ q
+dom_at_end : (dom : Option Which) (c : Which → Command) (p q : ℕ) → (needed_value p dom >>= λ d. Ok (c d)) ≡ at q → p ≡ q
 dom_at_end None c p q e = place_of p q e
 dom_at_end (Some d) c p q e = absurd cc
 
@@ -126,14 +126,14 @@ some_of_two true b x y z = (x, refl)
 some_of_two false true x y z = (y, refl)
 some_of_two false false x y z = (z, refl)
 
-credit2_ends : (k : ℕ) (dom : Option Which) (weight cap : Option ℕ) → Reads (all_read credit2_domain_rules (λ g p. needed p g.dom >>= λ d. Ok (command.Credit2Dom d g.weight g.cap)) k (record { dom = dom; weight = weight; cap = cap }))
+credit2_ends : (k : ℕ) (dom : Option Which) (weight cap : Option ℕ) → Reads (all_read credit2_domain_rules (λ g p. needed_value p g.dom >>= λ d. Ok (command.Credit2Dom d g.weight g.cap)) k (record { dom = dom; weight = weight; cap = cap }))
 credit2_ends k None weight cap = (codes "-d" ∷ zero_word ∷ [], command.Credit2Dom (Number 0) weight cap, refl)
 credit2_ends k (Some d) weight cap = ([], command.Credit2Dom d weight cap, refl)
 
 pub placed_credit2_domain : IsPlaced 1 credit2_domain
 unfolding credit2_domain
 placed_credit2_domain ws p e =
-    placed_options credit2_domain_rules (λ g p. needed p g.dom >>= λ d. Ok (command.Credit2Dom d g.weight g.cap)) (record {
+    placed_options credit2_domain_rules (λ g p. needed_value p g.dom >>= λ d. Ok (command.Credit2Dom d g.weight g.cap)) (record {
       at_end = λ g p q e. dom_at_end g.dom (λ d. command.Credit2Dom d g.weight g.cap) p q e;
       values = λ g w e.
           (let h = some_of_two (bytes_eq w (codes "-d")) (bytes_eq w (codes "-w")) (record g { dom = Some (Number 0) }) (record g { weight = Some 0 }) (record g { cap = Some 0 }) in
@@ -145,13 +145,13 @@ some_of_one : {G : Type 0} (a : Bool) (x y : G) → (h : G) × (cond a (Some x) 
 some_of_one true x y = (x, refl)
 some_of_one false x y = (y, refl)
 
-pool_at_end : (of_pool : Option (Unit {0})) (pool : Option Which) (limit : Option ℕ) (p q : ℕ) → (needed p of_pool >>= λ o. needed p pool >>= λ d. Ok (command.Credit2Pool d limit)) ≡ at q → p ≡ q
+pool_at_end : (of_pool : Option (Unit {0})) (pool : Option Which) (limit : Option ℕ) (p q : ℕ) → (needed_value p of_pool >>= λ o. needed_value p pool >>= λ d. Ok (command.Credit2Pool d limit)) ≡ at q → p ≡ q
 pool_at_end None pool limit p q e = place_of p q e
 pool_at_end (Some o) None limit p q e = place_of p q e
 pool_at_end (Some o) (Some d) limit p q e = absurd cc
 
 pool_ends : (k : ℕ) (of_pool : Option (Unit {0})) (pool : Option Which) (limit : Option ℕ)
-    → Reads (all_read credit2_pool_rules (λ g p. needed p g.of_pool >>= λ o. needed p g.pool >>= λ d. Ok (command.Credit2Pool d g.limit)) k (record { of_pool = of_pool; pool = pool; limit = limit }))
+    → Reads (all_read credit2_pool_rules (λ g p. needed_value p g.of_pool >>= λ o. needed_value p g.pool >>= λ d. Ok (command.Credit2Pool d g.limit)) k (record { of_pool = of_pool; pool = pool; limit = limit }))
 pool_ends k None None limit = (codes "-s" ∷ codes "-p" ∷ zero_word ∷ [], command.Credit2Pool (Number 0) limit, refl)
 pool_ends k None (Some d) limit = (codes "-s" ∷ [], command.Credit2Pool d limit, refl)
 pool_ends k (Some o) None limit = (codes "-p" ∷ zero_word ∷ [], command.Credit2Pool (Number 0) limit, refl)
@@ -160,7 +160,7 @@ pool_ends k (Some o) (Some d) limit = ([], command.Credit2Pool d limit, refl)
 pub placed_credit2_pool : IsPlaced 1 credit2_pool
 unfolding credit2_pool
 placed_credit2_pool ws p e =
-    placed_options credit2_pool_rules (λ g p. needed p g.of_pool >>= λ o. needed p g.pool >>= λ d. Ok (command.Credit2Pool d g.limit)) (record {
+    placed_options credit2_pool_rules (λ g p. needed_value p g.of_pool >>= λ o. needed_value p g.pool >>= λ d. Ok (command.Credit2Pool d g.limit)) (record {
       at_end = λ g p q e. pool_at_end g.of_pool g.pool g.limit p q e;
       values = λ g w e. (let h = some_of_one (bytes_eq w (codes "-p")) (record g { pool = Some (Number 0) }) (record g { limit = Some 0 }) in (zero_word, h.0, h.1));
       ends = λ k g. pool_ends k g.of_pool g.pool g.limit;
@@ -174,14 +174,14 @@ some_of_four false false false true u v x y z = (y, refl)
 some_of_four false false false false u v x y z = (z, refl)
 
 rtds_ends : (k : ℕ) (dom : Option Which) (vcpu : Option (Option ℕ)) (period budget : Option ℕ) (extra : Option Bool)
-    → Reads (all_read rtds_rules (λ g p. needed p g.dom >>= λ d. Ok (command.RtdsDom d (unwrap_or g.vcpu None) g.period g.budget g.extra)) k (record { dom = dom; vcpu = vcpu; period = period; budget = budget; extra = extra }))
+    → Reads (all_read rtds_rules (λ g p. needed_value p g.dom >>= λ d. Ok (command.RtdsDom d (unwrap_or g.vcpu None) g.period g.budget g.extra)) k (record { dom = dom; vcpu = vcpu; period = period; budget = budget; extra = extra }))
 rtds_ends k None vcpu period budget extra = (codes "-d" ∷ zero_word ∷ [], command.RtdsDom (Number 0) (unwrap_or vcpu None) period budget extra, refl)
 rtds_ends k (Some d) vcpu period budget extra = ([], command.RtdsDom d (unwrap_or vcpu None) period budget extra, refl)
 
 pub placed_rtds : IsPlaced 1 sched_rtds
 unfolding sched_rtds
 placed_rtds ws p e =
-    placed_options rtds_rules (λ g p. needed p g.dom >>= λ d. Ok (command.RtdsDom d (unwrap_or g.vcpu None) g.period g.budget g.extra)) (record {
+    placed_options rtds_rules (λ g p. needed_value p g.dom >>= λ d. Ok (command.RtdsDom d (unwrap_or g.vcpu None) g.period g.budget g.extra)) (record {
       at_end = λ g p q e. dom_at_end g.dom (λ d. command.RtdsDom d (unwrap_or g.vcpu None) g.period g.budget g.extra) p q e;
       values = λ g w e.
           (let h = some_of_four (bytes_eq w (codes "-d")) (bytes_eq w (codes "-v")) (bytes_eq w (codes "-p")) (bytes_eq w (codes "-b")) (record g { dom = Some (Number 0) }) (record g { vcpu = Some (Some 0) }) (record g { period = Some 0 }) (record g { budget = Some 0 }) (record g { extra = Some false }) in
