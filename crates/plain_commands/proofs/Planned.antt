@@ -1,4 +1,5 @@
 -- The plan of an accepted command may be carried out: its numbers are in range, and the pool that it makes is that of its line.
+use Rattle.sched_model.specs.Checked.{most_span}
 use Rattle.std.proofs.Common.{◌≡◌, ◌≢◌, ◌≤◌, ◌<◌, ◌∙◌, ◌+◌, ℕ, Bool, true, false, not, List, refl, arith, subst}
 use Rattle.std.specs.Prelude.{◌-◌, ◌/◌, ◌==◌, ◌&&◌, ◌||◌, nat_le, nat_lt, sum_by, is_some, option_map, length, Option, Some, None, Result, Ok, Err}
 use Rattle.std.specs.Option.{IfSome, ForSome}
@@ -131,7 +132,7 @@ module _ (m : Machine) (s : State) (spare : Option Pool) (few : m.config.granula
   judged (command.Pause which) made = of_domain which _ (λ d i pool domain small. of_ok _ tt)
   judged (command.Unpause which) made = of_domain which _ (λ d i pool domain small. of_ok _ tt)
   judged (command.ArincSet which major entries) made =
-      of_pool which _ (λ i pool. of_demand (is_kind kinds.Arinc653 (kind_of pool.scheduler.records)) _ _ (λ is. of_demand (in_range 1 10000000000000 major) _ _ (λ is2. of_frame i major entries)))
+      of_pool which _ (λ i pool. of_demand (is_kind kinds.Arinc653 (kind_of pool.scheduler.records)) _ _ (λ is. of_demand (in_range 1 most_span major) _ _ (λ is2. of_frame i major entries)))
   judged (command.Pin which vcpu cpus) made =
       of_domain which _ (λ d i pool domain small. of_demand (has_vcpu domain vcpu) _ _ (λ is. of_refused (cpu_fault m.config.processors cpus) _ (of_refused (elsewhere_fault m.config pool cpus) _ (of_ok _ tt))))
 
@@ -156,7 +157,7 @@ fits_of config spare s (plan.PoolRename j name answer) fits met = tt
 fits_of config spare s (plan.CpuAdd j core answer) fits met = tt
 fits_of config spare s (plan.CpuRemove j core answer) fits met = tt
 fits_of config spare s (plan.Migrate d a b answer) fits met = tt
-fits_of config spare s (plan.Credit2Dom d weight cap answer) fits met = record { weight = for_some _ weight fits.0; cap = for_some _ cap fits.1 }
+fits_of config spare s (plan.Credit2Dom d weight cap answer) fits met = record { weight = for_some _ weight fits.0.0; cap = for_some _ cap fits.0.1 }
 fits_of config spare s (plan.Credit2Pool j limit answer) fits met = tt
 fits_of config spare s (plan.RtdsDom d first count period budget extra answer) fits met = met
 fits_of config spare s (plan.Pause d answer) fits met = tt

@@ -1,5 +1,6 @@
 //! An accepted command, carried out on the state at the moment t. The home of a domain is the number of the pool that has it.
 
+ghost use Rattle.sched_model.specs.Checked.{most_span};
 ghost use Rattle.std.specs.Prelude.{◌≡◌, ◌≤◌, ◌<◌, ◌+◌, ℕ, None, Some, length, slice_set, if◌then◌else◌, ◌==◌};
 ghost use Rattle.sched_laws.specs.Each.{EachPlace};
 ghost use Rattle.sched_model.specs.declared.config.ParamChange.TheVariants as changes;
@@ -18,7 +19,7 @@ use crate::pools::{
     RtdsGiven, pause_at, set_leaving_at, set_moving_at, set_params_at, set_rtds_at, unpause_at,
 };
 use plain_policy::places::set_place;
-use sched_base::Name;
+use sched_base::{DomId, Moment, Name, ResId};
 use sched_model::config::ParamChange;
 use sched_model::machine::Machine;
 use sched_model::plan::Plan;
@@ -39,7 +40,11 @@ fn take_spare(k: usize, spares: &mut Row<Option<Pool>>) -> Option<Pool>
 
 /// The spare at the place k is the pool i, with this name.
 fn create(i: u8, name: Name, k: usize, s: &mut State, spares: &mut Row<Option<Pool>>)
-    ensures state { s.new ≡ record s.old { names = put_at i name s.old.names; pools = slice_set s.old.pools i (at_place spares.old k) } }
+    ensures state { s.new ≡ record s.old {
+      names = put_at i name s.old.names;
+      pools = slice_set s.old.pools i
+          (at_place spares.old k);
+    } }
     ensures spares { spares.new ≡ clear_at k spares.old }
 {
     let pool = take_spare(k, spares);
@@ -49,27 +54,31 @@ fn create(i: u8, name: Name, k: usize, s: &mut State, spares: &mut Row<Option<Po
 
 /// There is no pool i any more.
 fn destroy(i: u8, s: &mut State)
-    ensures { s.new ≡ record s.old { names = clear_at i s.old.names; pools = clear_at i s.old.pools } }
+    ensures { s.new ≡ record s.old {
+      names = clear_at i s.old.names;
+      pools = clear_at i
+          s.old.pools;
+    } }
 {
     set_place(&mut s.names, i, None);
     set_place(&mut s.pools, i, None);
 }
 
 /// The core of no pool is leaving for the pool i.
-fn set_target(core: u8, i: u8, free: &mut Row<Option<FreeCore>>)
-    ensures { free.new ≡ change_at core (λ (c : FreeCoreRecord). record c { target = Some i }) free.old }
+fn set_target(core: ResId, i: u8, free: &mut Row<Option<FreeCore>>)
+    ensures { free.new ≡ change_at core.0 (λ (c : FreeCoreRecord). record c { target = Some i })
+        free.old }
 {
-    let place = core as usize;
-    if place < free.len() {
-        if let Some(c) = free.item_mut(place) {
-            c.target = Some(i);
-        }
+    if let Some(place) = free.get_mut(core.0 as usize)
+        && let Some(c) = place
+    {
+        c.target = Some(i);
     }
 }
 
 /// The domain is moving from the pool i to the pool j, where that is another one.
-fn migrate(d: u8, i: u8, j: u8, s: &mut State)
-    ensures { s.new ≡ (if i == j then s.old else change_pool i (pool_spec.set_moving d j) s.old) }
+fn migrate(d: DomId, i: u8, j: u8, s: &mut State)
+    ensures { s.new ≡ (if i == j then s.old else change_pool i (pool_spec.set_moving d.0 j) s.old) }
 {
     if i != j {
         set_moving_at(i as usize, d, j, &mut s.pools);
@@ -77,10 +86,13 @@ fn migrate(d: u8, i: u8, j: u8, s: &mut State)
 }
 
 /// The rate limit of the pool i, in microseconds, where one is given.
-fn set_rate(i: u8, limit: Option<u32>, t: u64, s: &mut State)
-    requires early { t ≤ 10000000000000 }
-    requires fits { EachPlace (FitsAt t) s.old.pools }
-    ensures { s.new ≡ elim limit as (λ _. StateRecord) [ None ↦ s.old | Some us ↦ change_pool i (pool_spec.set_params (changes.Rate us) t) s.old ] }
+fn set_rate(i: u8, limit: Option<u32>, t: Moment, s: &mut State)
+    requires early { t.0 ≤ most_span }
+    requires fits { EachPlace (FitsAt t.0) s.old.pools }
+    ensures { s.new ≡ elim limit as (λ _. StateRecord) [
+      | None ↦ s.old
+      | Some us ↦ change_pool i (pool_spec.set_params (changes.Rate us) t.0) s.old
+    ] }
 {
     if let Some(limit) = limit {
         set_params_at(i as usize, ParamChange::Rate { limit }, t, &mut s.pools);
@@ -88,12 +100,12 @@ fn set_rate(i: u8, limit: Option<u32>, t: u64, s: &mut State)
 }
 
 /// The parameters of the domain change.
-fn set_domain(d: u8, home: Option<usize>, change: ParamChange, t: u64, s: &mut State)
+fn set_domain(d: DomId, home: Option<usize>, change: ParamChange, t: Moment, s: &mut State)
     requires change { ChangeFits change }
-    requires home { home ≡ home_of_domain s.old d }
-    requires early { t ≤ 10000000000000 }
-    requires fits { EachPlace (FitsAt t) s.old.pools }
-    ensures { s.new ≡ change_home d (pool_spec.set_params change t) s.old }
+    requires home { home ≡ home_of_domain s.old d.0 }
+    requires early { t.0 ≤ most_span }
+    requires fits { EachPlace (FitsAt t.0) s.old.pools }
+    ensures { s.new ≡ change_home d.0 (pool_spec.set_params change t.0) s.old }
 {
     if let Some(i) = home {
         set_params_at(i, change, t, &mut s.pools);
@@ -101,10 +113,11 @@ fn set_domain(d: u8, home: Option<usize>, change: ParamChange, t: u64, s: &mut S
 }
 
 /// The RTDS parameters of count units of the domain from first on change.
-fn set_units(d: u8, home: Option<usize>, first: u8, count: u8, given: RtdsGiven, s: &mut State)
-    requires home { home ≡ home_of_domain s.old d }
+fn set_units(d: DomId, home: Option<usize>, first: u8, count: u8, given: RtdsGiven, s: &mut State)
+    requires home { home ≡ home_of_domain s.old d.0 }
     requires few { first + count ≤ 255 }
-    ensures { (t : ℕ) → s.new ≡ change_home d (set_rtds t d given.period given.budget given.extra (numbers_from first count)) s.old }
+    ensures { (t : ℕ) → s.new ≡ change_home d.0
+        (set_rtds t d.0 given.period given.budget given.extra (numbers_from first count)) s.old }
 {
     if let Some(i) = home {
         set_rtds_at(i, d, first, count, given, &mut s.pools);
@@ -112,9 +125,9 @@ fn set_units(d: u8, home: Option<usize>, first: u8, count: u8, given: RtdsGiven,
 }
 
 /// The domain is paused.
-fn pause(d: u8, home: Option<usize>, s: &mut State)
-    requires home { home ≡ home_of_domain s.old d }
-    ensures { s.new ≡ change_home d (pool_spec.pause d) s.old }
+fn pause(d: DomId, home: Option<usize>, s: &mut State)
+    requires home { home ≡ home_of_domain s.old d.0 }
+    ensures { s.new ≡ change_home d.0 (pool_spec.pause d.0) s.old }
 {
     if let Some(i) = home {
         pause_at(i, d, &mut s.pools);
@@ -122,13 +135,13 @@ fn pause(d: u8, home: Option<usize>, s: &mut State)
 }
 
 /// The domain is no longer paused. A core has g processors.
-fn unpause(g: u8, d: u8, home: Option<usize>, s: &mut State)
+fn unpause(g: u8, d: DomId, home: Option<usize>, s: &mut State)
     requires some { 0 < g }
     requires few { g ≤ 4 }
-    requires home { home ≡ home_of_domain s.old d }
+    requires home { home ≡ home_of_domain s.old d.0 }
     requires fits { EachPlace PoolFits s.old.pools }
-    requires room { EachPlace FewWait (change_home d (pool_spec.unpause g d) s.old).pools }
-    ensures { s.new ≡ change_home d (pool_spec.unpause g d) s.old }
+    requires room { EachPlace FewWait (change_home d.0 (pool_spec.unpause g d.0) s.old).pools }
+    ensures { s.new ≡ change_home d.0 (pool_spec.unpause g d.0) s.old }
 {
     if let Some(i) = home {
         unpause_at(g, i, d, &mut s.pools);
@@ -139,7 +152,7 @@ fn unpause(g: u8, d: u8, home: Option<usize>, s: &mut State)
 /// it makes is the spare at the place k, which is taken from there; the other spares stay.
 pub fn carry_out(
     m: &Machine,
-    t: u64,
+    t: Moment,
     k: usize,
     plan: Plan,
     home: Option<usize>,
@@ -148,13 +161,13 @@ pub fn carry_out(
 )
     requires some { 0 < m.now.config.granularity }
     requires few { m.now.config.granularity ≤ 4 }
-    requires early { t ≤ 10000000000000 }
+    requires early { t.0 ≤ most_span }
     requires plan { PlanFits plan }
     requires spare { HasSpare m.now k plan spares.old }
     requires home { home ≡ pool_of_plan s.old plan }
-    requires fits { EachPlace (FitsAt t) s.old.pools }
-    requires room { EachPlace FewWait (carried_out m.now t plan s.old).pools }
-    ensures state { s.new ≡ carried_out m.now t plan s.old }
+    requires fits { EachPlace (FitsAt t.0) s.old.pools }
+    requires room { EachPlace FewWait (carried_out m.now t.0 plan s.old).pools }
+    ensures state { s.new ≡ carried_out m.now t.0 plan s.old }
     ensures spares { spares.new ≡ spares_after k plan spares.old }
 {
     match plan {
@@ -162,18 +175,18 @@ pub fn carry_out(
         Plan::PoolCreate { pool, name, .. } => create(pool.0, name, k, s, spares),
         Plan::PoolDestroy { pool, .. } => destroy(pool.0, s),
         Plan::PoolRename { pool, name, .. } => set_place(&mut s.names, pool.0, Some(name)),
-        Plan::CpuAdd { pool, core, .. } => set_target(core.0, pool.0, &mut s.free),
+        Plan::CpuAdd { pool, core, .. } => set_target(core, pool.0, &mut s.free),
         Plan::CpuRemove { pool, core, .. } => {
-            set_leaving_at(pool.0 as usize, core.0, &mut s.pools);
+            set_leaving_at(pool.0 as usize, core, &mut s.pools);
         }
-        Plan::Migrate { dom, from, to, .. } => migrate(dom.0, from.0, to.0, s),
+        Plan::Migrate { dom, from, to, .. } => migrate(dom, from.0, to.0, s),
         Plan::Credit2Dom {
             dom,
             weight,
             cap,
             ..
         } => {
-            set_domain(dom.0, home, ParamChange::Dom { dom, weight, cap }, t, s);
+            set_domain(dom, home, ParamChange::Dom { dom, weight, cap }, t, s);
         }
         Plan::Credit2Pool { pool, limit, .. } => set_rate(pool.0, limit, t, s),
         Plan::RtdsDom {
@@ -190,10 +203,10 @@ pub fn carry_out(
                 budget,
                 extra,
             };
-            set_units(dom.0, home, first, count, given, s);
+            set_units(dom, home, first, count, given, s);
         }
-        Plan::Pause { dom, .. } => pause(dom.0, home, s),
-        Plan::Unpause { dom, .. } => unpause(m.config.granularity, dom.0, home, s),
+        Plan::Pause { dom, .. } => pause(dom, home, s),
+        Plan::Unpause { dom, .. } => unpause(m.config.granularity, dom, home, s),
         Plan::ArincSet { pool, frame, .. } => {
             set_params_at(
                 pool.0 as usize,
@@ -208,7 +221,7 @@ pub fn carry_out(
             cores,
             ..
         } => {
-            set_domain(dom.0, home, ParamChange::Pin { dom, unit, cores }, t, s);
+            set_domain(dom, home, ParamChange::Pin { dom, unit, cores }, t, s);
         }
     }
 }

@@ -3,7 +3,8 @@
 ghost use Rattle.std.specs.Prelude.{◌≡◌, ◌+◌, ◌≤◌, ◌<◌, ◌++◌, [], length, Some, None};
 ghost use Rattle.std.specs.Option.{option_copied};
 ghost use Rattle.sched_model.specs.Places.{at_place};
-ghost use Rattle.cpupool.specs.Facts.{stored_of as stored_of_spec, stored_from, stored_in, rate_at as rate_at_spec, units_at as units_at_spec};
+ghost use Rattle.cpupool.specs.Facts.{stored_from, stored_in, rate_at as rate_at_spec, stored_at as stored_at_spec};
+ghost use Rattle.sched_model.specs.Policy.{stored_of as stored_of_spec};
 ghost use Rattle.sched_laws.specs.Each.{EachPlace};
 ghost use Rattle.plain_pool.specs.Fits.{PoolFits};
 
@@ -14,20 +15,19 @@ use sched_model::facts::{Facts, Stored, StoredList, Subject};
 use sched_model::short::Short;
 use sched_model::state::{Domain, Pool, Records, State};
 
-/// The set values that the scheduler keeps for the unit n of the domain d; for RTDS the newest ones.
-fn stored_of(records: &Records, d: u8, n: u8) -> Option<Stored>
-    ensures { result ≡ stored_of_spec records.now d n }
+/// The set values that the scheduler keeps for the unit; for RTDS the newest ones.
+fn stored_of(records: &Records, u: UnitId) -> Option<Stored>
+    ensures { result ≡ stored_of_spec records.now u }
 {
     match records {
         Records::Credit2Pool(_) => {
-            let x = credit2_record(records, d)?;
+            let x = credit2_record(records, u.dom)?;
             Some(Stored::Credit2 {
                 weight: x.weight,
                 cap: x.cap,
             })
         }
         Records::RtdsPool(_) => {
-            let u = UnitId { dom: DomId(d), n };
             let x = rtds_record(records, u)?;
             Some(Stored::Rtds {
                 period: Span(x.next_period),
@@ -41,25 +41,25 @@ fn stored_of(records: &Records, d: u8, n: u8) -> Option<Stored>
 }
 
 /// Adds the values of count units of the domain d from first on, up to the first without any.
-fn push_stored(records: &Records, d: u8, first: u8, count: u8, values: &mut StoredList)
+fn push_stored(records: &Records, d: DomId, first: u8, count: u8, values: &mut StoredList)
     requires room { length values.old + count ≤ 32 }
     requires few { first + count ≤ 32 }
-    ensures { values.new ≡ values.old ++ stored_from records.now d first count }
+    ensures { values.new ≡ values.old ++ stored_from records.now d.0 first count }
 {
     if count == 0 {
         return;
     }
-    if let Some(value) = stored_of(records, d, first) {
+    if let Some(value) = stored_of(records, UnitId { dom: d, n: first }) {
         values.push(value);
         push_stored(records, d, first + 1, count - 1, values);
     }
 }
 
 /// The domain of the pool.
-fn domain_at(domains: &[Option<Domain>], d: u8) -> Option<&Domain>
-    ensures { option_copied result ≡ at_place domains.now d }
+fn domain_at(domains: &[Option<Domain>], d: DomId) -> Option<&Domain>
+    ensures { option_copied result ≡ at_place domains.now d.0 }
 {
-    let place = d as usize;
+    let place = d.0 as usize;
     if place < domains.len() {
         domains[place].as_ref()
     } else {
@@ -68,12 +68,12 @@ fn domain_at(domains: &[Option<Domain>], d: u8) -> Option<&Domain>
 }
 
 /// The values of all units of the domain d of the pool.
-fn push_stored_in(g: u8, pool: &Pool, d: u8, values: &mut StoredList)
+fn push_stored_in(g: u8, pool: &Pool, d: DomId, values: &mut StoredList)
     requires some { 0 < g }
     requires few { g ≤ 4 }
     requires fits { PoolFits pool.now }
     requires empty { values.old ≡ [] }
-    ensures { values.new ≡ stored_in g pool.now d }
+    ensures { values.new ≡ stored_in g pool.now d.0 }
 {
     if let Some(domain) = domain_at(pool.domains.as_slice(), d) {
         let count = unit_count(g, domain);
@@ -107,17 +107,17 @@ fn rate_at(s: &State, subject: Subject) -> u32
 }
 
 /// The set values of the units of the subject's domain, or none where there is no domain.
-fn units_at(g: u8, s: &State, subject: Subject) -> StoredList
+fn stored_at(g: u8, s: &State, subject: Subject) -> StoredList
     requires some { 0 < g }
     requires few { g ≤ 4 }
     requires fits { EachPlace PoolFits s.now.pools }
-    ensures { result ≡ units_at_spec g s.entry.now subject }
+    ensures { result ≡ stored_at_spec g s.entry.now subject }
 {
     let mut values = Short::new();
     if let Some(d) = subject.dom {
         if let Some(i) = subject.pool {
             if let Some(pool) = pool_at(s.pools.as_slice(), i.0) {
-                push_stored_in(g, pool, d.0, &mut values);
+                push_stored_in(g, pool, d, &mut values);
             }
         }
     }
@@ -129,10 +129,14 @@ pub fn facts_at(g: u8, s: &State, subject: Subject) -> Facts
     requires some { 0 < g }
     requires few { g ≤ 4 }
     requires fits { EachPlace PoolFits s.now.pools }
-    ensures { result ≡ record { rate = rate_at_spec s.entry.now subject; units = units_at_spec g s.entry.now subject } }
+    ensures { result ≡ record {
+      rate = rate_at_spec s.entry.now subject;
+      units = stored_at_spec g
+          s.entry.now subject;
+    } }
 {
     Facts {
         rate: rate_at(s, subject),
-        units: units_at(g, s, subject),
+        units: stored_at(g, s, subject),
     }
 }

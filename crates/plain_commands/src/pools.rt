@@ -1,5 +1,6 @@
 //! What an accepted command does to the pool that it names. Each changes the pool i, where there is one.
 
+ghost use Rattle.sched_model.specs.Checked.{most_span};
 ghost use Rattle.std.specs.Prelude.{◌≡◌, ◌≤◌, ◌<◌, ◌+◌, ℕ, length};
 ghost use Rattle.sched_laws.specs.Each.{EachPlace};
 ghost use Rattle.sched_model.specs.Places.{change_at, numbers_from};
@@ -14,70 +15,70 @@ use plain_policy::rtds::{rtds_unit, set_next};
 use plain_pool::leaving::set_leaving;
 use plain_pool::params::set_params;
 use plain_pool::pausing::{pause, set_moving, unpause};
-use sched_base::{DomId, Span, UnitId};
+use sched_base::{DomId, Moment, ResId, Span, UnitId};
 use sched_model::config::ParamChange;
 use sched_model::row::Row;
 use sched_model::state::{Pool, Records};
 
 /// The core is leaving the pool.
-pub fn set_leaving_at(i: usize, core: u8, pools: &mut Row<Option<Pool>>)
-    ensures { pools.new ≡ change_at i (pool_spec.set_leaving core) pools.old }
+pub fn set_leaving_at(i: usize, core: ResId, pools: &mut Row<Option<Pool>>)
+    ensures { pools.new ≡ change_at i (pool_spec.set_leaving core.0) pools.old }
 {
-    if i < pools.len() {
-        if let Some(pool) = pools.item_mut(i) {
-            set_leaving(core, pool);
-        }
+    if let Some(place) = pools.get_mut(i)
+        && let Some(pool) = place
+    {
+        set_leaving(core, pool);
     }
 }
 
 /// The domain is moving to the pool j.
-pub fn set_moving_at(i: usize, d: u8, j: u8, pools: &mut Row<Option<Pool>>)
-    ensures { pools.new ≡ change_at i (pool_spec.set_moving d j) pools.old }
+pub fn set_moving_at(i: usize, d: DomId, j: u8, pools: &mut Row<Option<Pool>>)
+    ensures { pools.new ≡ change_at i (pool_spec.set_moving d.0 j) pools.old }
 {
-    if i < pools.len() {
-        if let Some(pool) = pools.item_mut(i) {
-            set_moving(d, j, pool);
-        }
+    if let Some(place) = pools.get_mut(i)
+        && let Some(pool) = place
+    {
+        set_moving(d, j, pool);
     }
 }
 
 /// The domain is paused.
-pub fn pause_at(i: usize, d: u8, pools: &mut Row<Option<Pool>>)
-    ensures { pools.new ≡ change_at i (pool_spec.pause d) pools.old }
+pub fn pause_at(i: usize, d: DomId, pools: &mut Row<Option<Pool>>)
+    ensures { pools.new ≡ change_at i (pool_spec.pause d.0) pools.old }
 {
-    if i < pools.len() {
-        if let Some(pool) = pools.item_mut(i) {
-            pause(d, pool);
-        }
+    if let Some(place) = pools.get_mut(i)
+        && let Some(pool) = place
+    {
+        pause(d, pool);
     }
 }
 
 /// The domain is no longer paused. A core has g processors.
-pub fn unpause_at(g: u8, i: usize, d: u8, pools: &mut Row<Option<Pool>>)
+pub fn unpause_at(g: u8, i: usize, d: DomId, pools: &mut Row<Option<Pool>>)
     requires some { 0 < g }
     requires few { g ≤ 4 }
     requires fits { EachPlace PoolFits pools.old }
-    requires room { EachPlace FewWait (change_at i (pool_spec.unpause g d) pools.old) }
-    ensures { pools.new ≡ change_at i (pool_spec.unpause g d) pools.old }
+    requires room { EachPlace FewWait (change_at i (pool_spec.unpause g d.0) pools.old) }
+    ensures { pools.new ≡ change_at i (pool_spec.unpause g d.0) pools.old }
 {
-    if i < pools.len() {
-        if let Some(pool) = pools.item_mut(i) {
-            unpause(g, d, pool);
-        }
+    if let Some(place) = pools.get_mut(i)
+        && let Some(pool) = place
+    {
+        unpause(g, d, pool);
     }
 }
 
 /// The scheduler's parameters change at t.
-pub fn set_params_at(i: usize, change: ParamChange, t: u64, pools: &mut Row<Option<Pool>>)
+pub fn set_params_at(i: usize, change: ParamChange, t: Moment, pools: &mut Row<Option<Pool>>)
     requires change { ChangeFits change }
-    requires early { t ≤ 10000000000000 }
-    requires fits { EachPlace (FitsAt t) pools.old }
-    ensures { pools.new ≡ change_at i (pool_spec.set_params change t) pools.old }
+    requires early { t.0 ≤ most_span }
+    requires fits { EachPlace (FitsAt t.0) pools.old }
+    ensures { pools.new ≡ change_at i (pool_spec.set_params change t.0) pools.old }
 {
-    if i < pools.len() {
-        if let Some(pool) = pools.item_mut(i) {
-            set_params(change, t, pool);
-        }
+    if let Some(place) = pools.get_mut(i)
+        && let Some(pool) = place
+    {
+        set_params(change, t, pool);
     }
 }
 
@@ -91,7 +92,8 @@ pub struct RtdsGiven {
 
 /// The unit has the new parameters from its next replenishment on. Another scheduler keeps what it has.
 fn set_rtds_unit(given: RtdsGiven, u: UnitId, pool: &mut Pool)
-    ensures { (t : ℕ) → pool.new ≡ set_rtds_unit_spec t given.period given.budget given.extra u pool.old }
+    ensures { (t : ℕ) → pool.new ≡ set_rtds_unit_spec t given.period given.budget given.extra u
+        pool.old }
 {
     if let Records::RtdsPool(domains) = &mut pool.scheduler.records {
         if let Some(x) = rtds_unit(domains.as_slice(), u) {
@@ -104,15 +106,16 @@ fn set_rtds_unit(given: RtdsGiven, u: UnitId, pool: &mut Pool)
 }
 
 /// The same of count units of the domain from first on.
-fn set_rtds(d: u8, first: u8, count: u8, given: RtdsGiven, pool: &mut Pool)
+fn set_rtds(d: DomId, first: u8, count: u8, given: RtdsGiven, pool: &mut Pool)
     requires few { first + count ≤ 255 }
-    ensures { (t : ℕ) → pool.new ≡ set_rtds_spec t d given.period given.budget given.extra (numbers_from first count) pool.old }
+    ensures { (t : ℕ) → pool.new ≡ set_rtds_spec t d.0 given.period given.budget given.extra
+        (numbers_from first count) pool.old }
 {
     if count == 0 {
         return;
     }
     let u = UnitId {
-        dom: DomId(d),
+        dom: DomId(d.0),
         n: first,
     };
     set_rtds_unit(given, u, pool);
@@ -122,18 +125,20 @@ fn set_rtds(d: u8, first: u8, count: u8, given: RtdsGiven, pool: &mut Pool)
 /// The same in the pool i.
 pub fn set_rtds_at(
     i: usize,
-    d: u8,
+    d: DomId,
     first: u8,
     count: u8,
     given: RtdsGiven,
     pools: &mut Row<Option<Pool>>,
 )
     requires few { first + count ≤ 255 }
-    ensures { (t : ℕ) → pools.new ≡ change_at i (set_rtds_spec t d given.period given.budget given.extra (numbers_from first count)) pools.old }
+    ensures { (t : ℕ) → pools.new ≡ change_at i
+        (set_rtds_spec t d.0 given.period given.budget given.extra (numbers_from first count))
+        pools.old }
 {
-    if i < pools.len() {
-        if let Some(pool) = pools.item_mut(i) {
-            set_rtds(d, first, count, given, pool);
-        }
+    if let Some(place) = pools.get_mut(i)
+        && let Some(pool) = place
+    {
+        set_rtds(d, first, count, given, pool);
     }
 }

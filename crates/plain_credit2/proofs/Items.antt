@@ -68,10 +68,3 @@ pub at_place-change_at : {X : Type 0} (i : ℕ) (f : X → X) (places : List (Op
 at_place-change_at i f [] = refl
 at_place-change_at zero f (p ∷ places) = refl
 at_place-change_at (suc i) f (p ∷ places) = at_place-change_at i f places
-
--- one more item at the end
-pub All-push : {X : Type 0} (P : X → Type 0) (xs : List X) (x : X) → All P xs → P x → All P (xs ++ x ∷ [])
-All-push P [] x all here zero d h = here
-All-push P [] x all here (suc k) d h = absurd (omega (arith, h))
-All-push P (y ∷ xs) x all here zero d h = all 0 y (omega arith)
-All-push P (y ∷ xs) x all here (suc k) d h = All-push P xs x (λ j e l. all (suc j) e (omega (arith, l))) here k d (omega (arith, h))

@@ -12,13 +12,13 @@ use Rattle.sched_base.specs.Credit2Numbers.{above_zero, charge, burned_credit, b
 use Rattle.sched_model.specs.declared.state.Credit2Unit.{Credit2Unit}
 use Rattle.sched_model.specs.declared.state.Credit2Domain.{Credit2Domain}
 use Rattle.sched_model.specs.declared.state.Credit2Records.{Credit2Records}
-use Rattle.sched_model.specs.Places.{at_place, numbered}
+use Rattle.sched_model.specs.Places.{at_place, numbered_items}
 use Rattle.sched_model.specs.Credit2.{burn_unit, burn_units, held_by_running}
-use Rattle.sched_model.specs.Checked.{IsWithin}
+use Rattle.sched_model.specs.Checked.{IsWithin, most_span}
 use Rattle.sched_laws.specs.Each.{EachPlace}
 use Rattle.sched_ranges.specs.Ranges.{Credit2InRange, Credit2UnitInRange}
 use Rattle.plain_units.specs.Fits.{Credit2Fits}
-use Rattle.plain_credit2.specs.Bounds.{UnitFits, ParamsFit, DomainFits, PoolFits, PoolParamsFit, holds}
+use Rattle.plain_credit2.specs.Bounds.{UnitFits, ParamsFit, DomainFits, PoolFits, PoolParamsFit, amount_held}
 
 -- a part is no more than the whole
 div-small : (a b : ℕ) → a / b ≤ a
@@ -32,14 +32,14 @@ times-small : (e k : ℕ) → k ≤ 65535 → e * k ≤ 65535 * e
 times-small e k low = (let split : 65535 ≡ k + (65535 - k) = omega (arith, low) in subst (λ (z : ℕ). e * k ≤ z * e) (sym split) (let r : (k + (65535 - k)) * e ≡ e * k + (65535 - k) * e = grind arith in omega (arith, r)))
 
 -- what a unit of a domain is charged for a span
-charge-small : (residual weight most elapsed : ℕ) → residual < 65536 → most ≤ 65535 → elapsed ≤ 10000000000000 → charge residual most elapsed / weight ≤ 655350000000065535
+charge-small : (residual weight most elapsed : ℕ) → residual < 65536 → most ≤ 65535 → elapsed ≤ most_span → charge residual most elapsed / weight ≤ 655350000000065535
 charge-small residual weight most elapsed low small short =
     let d = div-small (charge residual most elapsed) weight in
     let e = times-small elapsed most small in
     omega (arith, d, e, low, short)
 
 -- a unit in range fits
-pub unit_in_range : (t : ℕ) (x : Credit2Unit) → t ≤ 10000000000000 → Credit2UnitInRange t x → UnitFits t x
+pub unit_in_range : (t : ℕ) (x : Credit2Unit) → t ≤ most_span → Credit2UnitInRange t x → UnitFits t x
 unit_in_range t x early range = record {
   residual = range.residual;
   burned = range.burned;
@@ -50,10 +50,10 @@ unit_in_range t x early range = record {
 }
 
 -- so does one that was charged
-pub unit_burned : (most t : ℕ) (d : Credit2Domain) (x : Credit2Unit) → t ≤ 10000000000000 → ParamsFit most d → Credit2UnitInRange t x → UnitFits t (burn_unit most t d x)
+pub unit_burned : (most t : ℕ) (d : Credit2Domain) (x : Credit2Unit) → t ≤ most_span → ParamsFit most d → Credit2UnitInRange t x → UnitFits t (burn_unit most t d x)
 unit_burned most t d x early params range = by_burned x.burned refl
   where
-    held_least : (free : Bool) (e : ℕ) → e ≤ 10000000000000 → neg_ℤ (pos 20000000000000) ≤ℤ (if free then x.held else (x.held -ℤ pos e))
+    held_least : (free : Bool) (e : ℕ) → e ≤ most_span → neg_ℤ (pos 20000000000000) ≤ℤ (if free then x.held else (x.held -ℤ pos e))
     held_least true e short = (let l = range.held_least in omega (arith, ints, l, early))
     held_least false e short = (let l = range.held_least in omega (arith, ints, l, early, short))
 
@@ -72,7 +72,7 @@ unit_burned most t d x early params range = by_burned x.burned refl
     ])
     by_burned None is = unit_in_range t x early range
     by_burned (Some from) is =
-        let short : t - from ≤ 10000000000000 = omega (arith, early) in
+        let short : t - from ≤ most_span = omega (arith, early) in
         let c = charge-small x.residual d.weight most (t - from) range.residual params.small short in
         let most_before = range.most in
         let least_before = range.least in
@@ -90,7 +90,7 @@ unit_burned most t d x early params range = by_burned x.burned refl
         }
 
 -- no unit that was charged holds more than before
-pub held_burned : (most t : ℕ) (d : Credit2Domain) (x : Credit2Unit) → UnitFits t x → holds (burn_unit most t d x) ≤ 640000000
+pub held_burned : (most t : ℕ) (d : Credit2Domain) (x : Credit2Unit) → UnitFits t x → amount_held (burn_unit most t d x) ≤ 640000000
 held_burned most t d x fits = by_burned x.burned refl
   where
     small : (z : ℤ) → z ≤ℤ pos 640000000 → above_zero z ≤ 640000000
@@ -101,7 +101,7 @@ held_burned most t d x fits = by_burned x.burned refl
     by_cap true e = fits.held_most
     by_cap false e = (let l = fits.held_most in omega (arith, ints, l))
 
-    by_burned : (o : Option ℕ) → x.burned ≡ o → holds (elim o as (λ _. Credit2Unit) [
+    by_burned : (o : Option ℕ) → x.burned ≡ o → amount_held (elim o as (λ _. Credit2Unit) [
       | None ↦ x
       | Some from ↦ record x {
         credit = burned_credit x.credit x.residual d.weight most (t - from);
@@ -114,23 +114,23 @@ held_burned most t d x fits = by_burned x.burned refl
     by_burned (Some from) is = small _ (by_cap (d.cap == 0) (t - from))
 
 -- the sum of what the units hold
-sum_small : (xs : List Credit2Unit) → All (λ (x : Credit2Unit). holds x ≤ 640000000) xs → sum_by holds xs ≤ 640000000 * length xs
+sum_small : (xs : List Credit2Unit) → All (λ (x : Credit2Unit). amount_held x ≤ 640000000) xs → sum_by amount_held xs ≤ 640000000 * length xs
 sum_small [] all = omega arith
 sum_small (x ∷ xs) all =
-    let e = sum_by-cons holds x xs in
-    let a : holds x ≤ 640000000 = all 0 x (omega arith) in
+    let e = sum_by-cons amount_held x xs in
+    let a : amount_held x ≤ 640000000 = all 0 x (omega arith) in
     let r = sum_small xs (λ k d h. all (suc k) d (omega (arith, h))) in
     omega (arith, e, a, r)
 
 -- what the running units of a domain hold once they are charged
 pub running_small : (most t : ℕ) (d : Credit2Domain) → DomainFits most t d → length d.units ≤ 32 → held_by_running (burn_units most t d) < 2 ^ 63
 running_small most t d fits few =
-    let s = sum_small (map (burn_unit most t d) d.units) (All-map (λ (x : Credit2Unit). holds x ≤ 640000000) (burn_unit most t d) d.units (λ k u h. held_burned most t d (slice_index_or d.units k u) (fits.units k u h))) in
+    let s = sum_small (map (burn_unit most t d) d.units) (All-map (λ (x : Credit2Unit). amount_held x ≤ 640000000) (burn_unit most t d) d.units (λ k u h. held_burned most t d (slice_index_or d.units k u) (fits.units k u h))) in
     let l = length-map d.units (burn_unit most t d) in
     omega (arith, s, l, few)
 
 -- the budget of a domain and what a unit of it holds after a charge fit a signed 64-bit number
-pub budget_fits : (most t : ℕ) (d : Credit2Domain) (u : Credit2Unit) → t ≤ 10000000000000 → Credit2InRange t d → UnitFits t u → FitsSigned w64 (d.budget +ℤ u.held)
+pub budget_fits : (most t : ℕ) (d : Credit2Domain) (u : Credit2Unit) → t ≤ most_span → Credit2InRange t d → UnitFits t u → FitsSigned w64 (d.budget +ℤ u.held)
 budget_fits most t d u early range fits =
     let a = range.budget_most in
     let b = range.budget_least in
@@ -139,25 +139,25 @@ budget_fits most t d u early range fits =
     omega (arith, ints, a, b, e, f, early)
 
 -- each weight is at most the greatest, and that is one of them or 0
-weights-grow : (n acc : ℕ) (domains : List (Option Credit2Domain)) → acc ≤ fold max acc (map (λ (e : ℕ × Credit2Domain). e.1.weight) (numbered n domains))
+weights-grow : (n acc : ℕ) (domains : List (Option Credit2Domain)) → acc ≤ fold max acc (map (λ (e : ℕ × Credit2Domain). e.1.weight) (numbered_items n domains))
 weights-grow n acc [] = omega arith
 weights-grow n acc (None ∷ domains) = weights-grow (suc n) acc domains
 weights-grow n acc (Some d ∷ domains) = (let r = weights-grow (suc n) (max acc d.weight) domains in grind (arith, r))
 
-weights-most : (n acc i : ℕ) (domains : List (Option Credit2Domain)) (d : Credit2Domain) → at_place domains i ≡ Some d → d.weight ≤ fold max acc (map (λ (e : ℕ × Credit2Domain). e.1.weight) (numbered n domains))
+weights-most : (n acc i : ℕ) (domains : List (Option Credit2Domain)) (d : Credit2Domain) → at_place domains i ≡ Some d → d.weight ≤ fold max acc (map (λ (e : ℕ × Credit2Domain). e.1.weight) (numbered_items n domains))
 weights-most n acc i [] d at = absurd cc
 weights-most n acc zero (None ∷ domains) d at = absurd cc
 weights-most n acc zero (Some e ∷ domains) d at =
     let same : e ≡ d = cc in
     let r = weights-grow (suc n) (max acc e.weight) domains in
-    subst (λ (z : Credit2Domain). z.weight ≤ fold max (max acc e.weight) (map (λ (e : ℕ × Credit2Domain). e.1.weight) (numbered (suc n) domains))) same (grind (arith, r))
+    subst (λ (z : Credit2Domain). z.weight ≤ fold max (max acc e.weight) (map (λ (e : ℕ × Credit2Domain). e.1.weight) (numbered_items (suc n) domains))) same (grind (arith, r))
 weights-most n acc (suc i) (None ∷ domains) d at = weights-most (suc n) acc i domains d at
 weights-most n acc (suc i) (Some e ∷ domains) d at = weights-most (suc n) (max acc e.weight) i domains d at
 
 max-small : (a b : ℕ) → a ≤ 65535 → b ≤ 65535 → max a b ≤ 65535
 max-small a b x y = grind (arith, x, y)
 
-weights-small : (n acc : ℕ) (domains : List (Option Credit2Domain)) → acc ≤ 65535 → EachPlace (λ (d : Credit2Domain). d.weight ≤ 65535) domains → fold max acc (map (λ (e : ℕ × Credit2Domain). e.1.weight) (numbered n domains)) ≤ 65535
+weights-small : (n acc : ℕ) (domains : List (Option Credit2Domain)) → acc ≤ 65535 → EachPlace (λ (d : Credit2Domain). d.weight ≤ 65535) domains → fold max acc (map (λ (e : ℕ × Credit2Domain). e.1.weight) (numbered_items n domains)) ≤ 65535
 weights-small n acc [] low each = low
 weights-small n acc (None ∷ domains) low each = weights-small (suc n) acc domains low (λ i x at. each (suc i) x at)
 weights-small n acc (Some d ∷ domains) low each = weights-small (suc n) (max acc d.weight) domains (max-small acc d.weight low (each 0 d refl)) (λ i x at. each (suc i) x at)
@@ -188,10 +188,10 @@ pool_fits t records bounded units i d at = record { params = pool_params records
 pub params_in_range : (t : ℕ) (records : Credit2Records) → Credit2Fits t records → EachPlace ParamsBounded records.domains
 params_in_range t records fits i d at = (let range = fits.domains i d at in record { weight = range.weight; cap = range.cap })
 
-pub units_in_range : (t : ℕ) (records : Credit2Records) → t ≤ 10000000000000 → Credit2Fits t records → EachPlace (UnitsFit t) records.domains
+pub units_in_range : (t : ℕ) (records : Credit2Records) → t ≤ most_span → Credit2Fits t records → EachPlace (UnitsFit t) records.domains
 units_in_range t records early fits i d at k u inside = unit_in_range t (slice_index_or d.units k u) early ((fits.domains i d at).units k u inside)
 
-pub pool_in_range : (t : ℕ) (records : Credit2Records) → t ≤ 10000000000000 → Credit2Fits t records → PoolFits t records
+pub pool_in_range : (t : ℕ) (records : Credit2Records) → t ≤ most_span → Credit2Fits t records → PoolFits t records
 pool_in_range t records early fits = pool_fits t records (params_in_range t records fits) (units_in_range t records early fits)
 
 -- the same of a pool that fits

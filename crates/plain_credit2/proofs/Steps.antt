@@ -3,7 +3,7 @@ use Rattle.std.proofs.Common.{◌≡◌, ◌<◌, ◌≤◌, ◌%◌, ℕ, zero,
 use Rattle.std.specs.Prelude.{Option, Some, None, option_map, slice_get, slice_set, slice_index_or, map, ◌==◌, pos, if◌then◌else◌}
 use Rattle.std.specs.Option.{ForSome}
 use Rattle.std.proofs.Math.Nat.{mod-lt}
-use Rattle.sched_model.specs.Checked.{IsWithin}
+use Rattle.sched_model.specs.Checked.{IsWithin, most_span}
 use Rattle.std.proofs.lemmas.Int.{ints}
 use Rattle.std.proofs.lemmas.List.Elements.{All-map}
 use Rattle.sched_base.specs.declared.UnitId.{UnitId}
@@ -18,7 +18,7 @@ use Rattle.sched_laws.proofs.EachPlace.{EachPlace-change_at, EachPlace-change_ea
 use Rattle.sched_laws.proofs.Sound.{change_at-twice}
 use Rattle.sched_ranges.specs.Ranges.{Credit2InRange, Credit2UnitInRange}
 use Rattle.plain_units.specs.Fits.{Credit2Fits}
-use Rattle.plain_credit2.specs.Bounds.{UnitFits, ParamsFit, PoolFits, PoolParamsFit, own_charged, reset_by, cut}
+use Rattle.plain_credit2.specs.Bounds.{UnitFits, ParamsFit, PoolFits, PoolParamsFit, own_charged, reset_by, cut_unit}
 use Rattle.plain_credit2.proofs.Items.{All-change_item, get_fits}
 use Rattle.plain_credit2.proofs.Ranges.{ParamsBounded, UnitsFit, pool_fits, pool_params, pool_in_range, params_in_range, units_in_range, unit_in_range, unit_burned, params_of_fits}
 
@@ -47,10 +47,6 @@ change_at-put i f [] o x read is = refl
 change_at-put zero f (p ∷ places) o x read is = ap (λ q. q ∷ places) (sym (ap (option_map f) (sym read ∙ is)))
 change_at-put (suc i) f (p ∷ places) o x read is = ap (λ ps. p ∷ ps) (change_at-put i f places o x read is)
 
--- the parameters stay where only numbers of units and budgets change
-same_params : (d e : Credit2Domain) → e.weight ≡ d.weight → e.cap ≡ d.cap → ParamsBounded d → ParamsBounded e
-same_params d e weight cap bounded = record { weight = rw weight bounded.weight; cap = rw cap bounded.cap }
-
 given_back : (n : ℕ) (d : Credit2Domain) → ParamsBounded d → ParamsBounded (give_back n d)
 given_back n d bounded = by_option ParamsBounded (slice_get d.units n) _ _ (λ none. bounded) (λ u is. record { weight = bounded.weight; cap = bounded.cap })
 
@@ -72,7 +68,7 @@ holds_nothing t x fits = record {
 }
 
 -- the units of a domain, of which one was charged, and gave back what it held
-own_units : (most t n : ℕ) (d : Credit2Domain) → t ≤ 10000000000000 → ParamsFit most d → Credit2InRange t d → UnitsFit t (own_charged most t n d)
+own_units : (most t n : ℕ) (d : Credit2Domain) → t ≤ most_span → ParamsFit most d → Credit2InRange t d → UnitsFit t (own_charged most t n d)
 own_units most t n d early params range =
     let charged : Credit2Domain = record d { units = change_item n (burn_unit most t d) d.units } in
     let before : UnitsFit t d = λ k x h. unit_in_range t (slice_index_or d.units k x) early (range.units k x h) in
@@ -84,7 +80,7 @@ own_units most t n d early params range =
     by_cond (UnitsFit t) (d.cap == 0) charged (give_back n charged) (λ free. here) (λ capped. back)
 
 -- a pool in range whose core's own unit was charged fits
-pub burn_cur_fits : (cur : Option UnitId) (t : ℕ) (records : Credit2Records) → t ≤ 10000000000000 → Credit2Fits t records → PoolFits t (burn_cur cur t records)
+pub burn_cur_fits : (cur : Option UnitId) (t : ℕ) (records : Credit2Records) → t ≤ most_span → Credit2Fits t records → PoolFits t (burn_cur cur t records)
 burn_cur_fits None t records early fits = pool_in_range t records early fits
 burn_cur_fits (Some u) t records early fits =
     let most : ℕ = max_weight records in
@@ -99,10 +95,6 @@ burn_cur_fits (Some u) t records early fits =
     in
     subst (PoolFits t) (sym (burn_cur-own u t records)) (pool_fits t charged params units)
 
-pub burn_cur_limit : (cur : Option UnitId) (t : ℕ) (records : Credit2Records) → (burn_cur cur t records).limit ≡ records.limit
-burn_cur_limit None t records = refl
-burn_cur_limit (Some u) t records = refl
-
 -- a reset changes no parameters
 reset_bounded : (t m : ℕ) (records : Credit2Records) → EachPlace ParamsBounded records.domains → EachPlace ParamsBounded (reset t m records).domains
 reset_bounded t zero records bounded = bounded
@@ -112,10 +104,6 @@ reset_bounded t (suc m) records bounded =
 
 pub reset_params : (t m : ℕ) (records : Credit2Records) → PoolFits t records → PoolParamsFit (reset t m records)
 reset_params t m records fits = pool_params (reset t m records) (reset_bounded t m records (params_of_fits t records fits))
-
-pub reset_limit : (t m : ℕ) (records : Credit2Records) → (reset t m records).limit ≡ records.limit
-reset_limit t zero records = refl
-reset_limit t (suc m) records = refl
 
 -- nor does it change any that a budget is taken
 pub taken_params : (t m : ℕ) (u : UnitId) (records : Credit2Records) → PoolFits t records → PoolParamsFit (change_domain u.dom.0 (take_budget u.n) (reset t m records))
@@ -132,9 +120,9 @@ weighed_params (Some w) d good bounded = record { weight = good w refl; cap = bo
 
 weighed_units : (t : ℕ) (weight : Option ℕ) (d : Credit2Domain) → ForSome weight (IsWithin 1 65535) → UnitsFit t d → UnitsFit t (set_weight weight d)
 weighed_units t None d good units = units
-weighed_units t (Some w) d good units = All-map (UnitFits t) (cut w) d.units (λ k x h. cut_fits (slice_index_or d.units k x) (units k x h))
+weighed_units t (Some w) d good units = All-map (UnitFits t) (cut_unit w) d.units (λ k x h. cut_fits (slice_index_or d.units k x) (units k x h))
   where
-    cut_fits : (x : Credit2Unit) → UnitFits t x → UnitFits t (cut w x)
+    cut_fits : (x : Credit2Unit) → UnitFits t x → UnitFits t (cut_unit w x)
     cut_fits x fits =
         let within = good w refl in
         let least = within.least in
@@ -150,7 +138,7 @@ weighed_units t (Some w) d good units = All-map (UnitFits t) (cut w) d.units (λ
         }
 
 -- a pool in range of which a domain has a new weight fits
-pub weighed_fits : (t i : ℕ) (weight : Option ℕ) (records : Credit2Records) → t ≤ 10000000000000 → Credit2Fits t records → ForSome weight (IsWithin 1 65535) → PoolFits t (change_domain i (set_weight weight) records)
+pub weighed_fits : (t i : ℕ) (weight : Option ℕ) (records : Credit2Records) → t ≤ most_span → Credit2Fits t records → ForSome weight (IsWithin 1 65535) → PoolFits t (change_domain i (set_weight weight) records)
 weighed_fits t i weight records early fits good =
     pool_fits t (change_domain i (set_weight weight) records)
     (EachPlace-change_at ParamsBounded i (set_weight weight) records.domains (params_in_range t records fits) (λ d at here. weighed_params weight d good here))

@@ -46,8 +46,8 @@ own_charged most t n d =
     (if charged.cap == 0 then charged else give_back n charged)
 
 -- what a unit holds while it runs
-abbrev pub holds : Credit2Unit → ℕ
-holds x = (if is_some x.burned then above_zero x.held else 0)
+abbrev pub amount_held : Credit2Unit → ℕ
+amount_held x = (if is_some x.burned then above_zero x.held else 0)
 
 -- the domain after m resets at t: its running units are charged, and then each unit's credit is raised
 abbrev pub reset_by : ℕ → ℕ → ℕ → Credit2Domain → Credit2Domain
@@ -60,9 +60,9 @@ abbrev pub credit_at : Credit2Domain → ℕ → ℤ
 credit_at d n = elim (slice_get d.units n) [ None ↦ pos 0 | Some x ↦ x.credit ]
 
 -- what is left of the unit's charge, cut to a new weight
-abbrev pub cut : ℕ → Credit2Unit → Credit2Unit
-cut weight x = record x { residual = x.residual % weight }
+abbrev pub cut_unit : ℕ → Credit2Unit → Credit2Unit
+cut_unit weight x = record x { residual = x.residual % weight }
 
 -- a unit that holds nothing where it runs
-abbrev pub emptied : Credit2Unit → Credit2Unit
-emptied x = record x { held = (if is_some x.burned then pos 0 else x.held) }
+abbrev pub emptied_unit : Credit2Unit → Credit2Unit
+emptied_unit x = record x { held = (if is_some x.burned then pos 0 else x.held) }

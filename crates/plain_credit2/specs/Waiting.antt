@@ -18,12 +18,12 @@ scheduler_of queue affinity records = record { queue = queue; affinity = affinit
 
 -- whether the asking core may take the waiting unit, which is not the one to be passed over
 abbrev pub contends : List (Option (List Cores)) → Ask → Credit2Records → Option UnitId → UnitId → Bool
-contends affinity ask records over u = not (is_unit over u) && (is_allowed_by affinity ask.home ask.core u && domain_has_budget records u)
+contends affinity ask records over u = not (is_unit over u) && (is_allowed_by affinity ask.home.0 ask.core.0 u && domain_has_budget records u)
 
 -- the one of greater credit; the first where they have as much
-abbrev pub richer : Credit2Records → Option UnitId → UnitId → UnitId
-richer records None u = u
-richer records (Some best) u = (if int_lt (credit_of records best) (credit_of records u) then u else best)
+abbrev pub richer_unit : Credit2Records → Option UnitId → UnitId → UnitId
+richer_unit records None u = u
+richer_unit records (Some best) u = (if int_lt (credit_of records best) (credit_of records u) then u else best)
 
 -- how long the unit with this index of the domain runs; under a cap for no longer than the budget that it holds
 abbrev pub slice_in : Credit2Domain → ℕ → ℤ → ℕ → ℕ → ℕ

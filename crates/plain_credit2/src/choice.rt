@@ -3,16 +3,16 @@
 ghost use Rattle.std.specs.Prelude.{◌≡◌, ◌<◌, ◌≤◌, ◌-ℤ◌, [], filter, None};
 ghost use Rattle.sched_base.specs.Credit2Numbers.{slice as slice_spec, above_zero as above_zero_spec};
 ghost use Rattle.sched_model.specs.Eligible.{has_budget as has_budget_spec};
-ghost use Rattle.sched_model.specs.Credit2.{domain_has_budget as domain_has_budget_spec, is_within_limit as is_within_limit_spec, greatest as greatest_spec, own_candidate as own_candidate_spec, choice as choice_spec, resets_for as resets_for_spec, best_other as best_other_spec, slice_of as slice_of_spec};
+ghost use Rattle.sched_model.specs.Credit2.{domain_has_budget as domain_has_budget_spec, is_within_limit as is_within_limit_spec, greatest_unit as greatest_spec, own_candidate as own_candidate_spec, choice as choice_spec, resets_for as resets_for_spec, best_other as best_other_spec, slice_of as slice_of_spec};
 ghost use Rattle.plain_credit2.specs.Bounds.{PoolParamsFit, ParamsFit};
-ghost use Rattle.plain_credit2.specs.Waiting.{scheduler_of, contends as contends_spec, richer as richer_spec, slice_in as slice_in_spec};
+ghost use Rattle.plain_credit2.specs.Waiting.{scheduler_of, contends as contends_spec, richer_unit as richer_spec, slice_in as slice_in_spec};
 
 use crate::running::{credit_of, domain_at, max_weight};
 use crate::units::{above_zero, unit_at};
 use credit2_reset::resets;
 use plain_units::eligible::is_allowed;
 use plain_units::units::is_there;
-use sched_base::UnitId;
+use sched_base::{Moment, UnitId};
 use sched_model::ask::Ask;
 use sched_model::config::Pins;
 use sched_model::state::{Credit2Domain, Credit2Records};
@@ -28,17 +28,17 @@ pub fn has_budget(d: &Credit2Domain) -> bool
 pub fn domain_has_budget(records: &Credit2Records, u: UnitId) -> bool
     ensures { result ≡ domain_has_budget_spec records.now u }
 {
-    match domain_at(records.domains.as_slice(), u.dom.0) {
+    match domain_at(records.domains.as_slice(), u.dom) {
         None => false,
         Some(d) => has_budget(d),
     }
 }
 
 /// Whether a unit that runs since a moment has run for less than the rate limit at t.
-pub fn is_within_limit(records: &Credit2Records, since: u64, t: u64) -> bool
-    ensures { result ≡ is_within_limit_spec records.now since t }
+pub fn is_within_limit(records: &Credit2Records, since: Moment, t: Moment) -> bool
+    ensures { result ≡ is_within_limit_spec records.now since.0 t.0 }
 {
-    t.saturating_sub(since) < records.limit as u64 * 1000
+    t.0.saturating_sub(since.0) < records.limit as u64 * 1000
 }
 
 /// The one of greater credit; the first where they have as much.
@@ -65,7 +65,7 @@ fn contends(
     over: Option<UnitId>,
     u: UnitId,
 ) -> bool
-    requires { ask.now.core < 64 }
+    requires { ask.now.core.0 < 64 }
     ensures { result ≡ contends_spec affinity.now ask.now records.now over u }
 {
     !is_there(over, u)
@@ -82,8 +82,9 @@ fn greatest(
     ask: &Ask,
     over: Option<UnitId>,
 ) -> Option<UnitId>
-    requires { ask.now.core < 64 }
-    ensures { result ≡ greatest_spec records.now best (filter (contends_spec affinity.now ask.now records.now over) waiting.now) }
+    requires { ask.now.core.0 < 64 }
+    ensures { result ≡ greatest_spec records.now best
+        (filter (contends_spec affinity.now ask.now records.now over) waiting.now) }
 {
     match waiting {
         [] => best,
@@ -100,8 +101,9 @@ fn greatest(
 
 /// The core's own unit, where it may go on.
 fn own_candidate(ask: &Ask, affinity: &[Option<Pins>], records: &Credit2Records) -> Option<UnitId>
-    requires { ask.now.core < 64 }
-    ensures { result ≡ own_candidate_spec ask.now (scheduler_of [] affinity.now records.now) records.now }
+    requires { ask.now.core.0 < 64 }
+    ensures { result ≡ own_candidate_spec ask.now (scheduler_of [] affinity.now records.now)
+        records.now }
 {
     let u = ask.cur?;
     if ask.runnable
@@ -121,8 +123,9 @@ pub fn choice(
     affinity: &[Option<Pins>],
     records: &Credit2Records,
 ) -> Option<UnitId>
-    requires { ask.now.core < 64 }
-    ensures { result ≡ choice_spec ask.now (scheduler_of queue.now affinity.now records.now) records.now }
+    requires { ask.now.core.0 < 64 }
+    ensures { result ≡ choice_spec ask.now (scheduler_of queue.now affinity.now records.now)
+        records.now }
 {
     if ask.leaving {
         return None;
@@ -135,14 +138,14 @@ pub fn choice(
 }
 
 /// How many resets the choice calls for: none where its credit is above 0, or the pool had a reset at this moment.
-pub fn resets_for(t: u64, u: UnitId, records: &Credit2Records) -> u64
-    ensures exact { result ≡ resets_for_spec t u records.now }
+pub fn resets_for(t: Moment, u: UnitId, records: &Credit2Records) -> u64
+    ensures exact { result ≡ resets_for_spec t.0 u records.now }
     ensures few { result ≤ 1000000000000 }
 {
     let credit = credit_of(records, u);
     let had = match records.last_reset {
         None => false,
-        Some(at) => at == t,
+        Some(at) => at == t.0,
     };
     if credit > 0 || had { 0 } else { resets(credit) }
 }
@@ -155,8 +158,9 @@ fn best_other(
     records: &Credit2Records,
     u: UnitId,
 ) -> i64
-    requires { ask.now.core < 64 }
-    ensures { result ≡ best_other_spec ask.now (scheduler_of queue.now affinity.now records.now) records.now u }
+    requires { ask.now.core.0 < 64 }
+    ensures { result ≡ best_other_spec ask.now (scheduler_of queue.now affinity.now records.now)
+        records.now u }
 {
     match greatest(records, None, queue, affinity, ask, Some(u)) {
         None => 0,
@@ -216,15 +220,16 @@ pub fn slice_of(
     records: &Credit2Records,
     u: UnitId,
 ) -> u64
-    requires core { ask.now.core < 64 }
+    requires core { ask.now.core.0 < 64 }
     requires params { PoolParamsFit records.now }
     requires limit { records.now.limit ≤ 500000 }
-    ensures exact { result ≡ slice_of_spec ask.now (scheduler_of queue.now affinity.now records.now) records.now u }
+    ensures exact { result ≡ slice_of_spec ask.now (scheduler_of queue.now affinity.now records.now)
+        records.now u }
     ensures few { result ≤ 500000000 }
 {
     let other = best_other(ask, queue, affinity, records, u);
     let most = max_weight(records);
-    match domain_at(records.domains.as_slice(), u.dom.0) {
+    match domain_at(records.domains.as_slice(), u.dom) {
         None => 0,
         Some(d) => slice_in(d, u.n, other, most, records.limit as u64 * 1000),
     }

@@ -1,8 +1,9 @@
 //! Credit2: the unit with the greatest credit runs. Moments and spans are in nanoseconds.
 
+ghost use Rattle.sched_model.specs.Checked.{most_span};
 ghost use Rattle.std.specs.Prelude.{◌≡◌, ◌<◌, ◌≤◌, Some, None};
 ghost use Rattle.sched_model.specs.declared.state.Records.TheVariants.{Credit2Pool};
-ghost use Rattle.sched_model.specs.Credit2.{domain_has_budget as domain_has_budget_spec, is_better as is_better_spec, decide as decide_spec, choose2};
+ghost use Rattle.sched_model.specs.Credit2.{domain_has_budget as domain_has_budget_spec, is_better as is_better_spec, decide as decide_spec, credit2_decision};
 ghost use Rattle.plain_units.specs.Fits.{Credit2Fits};
 ghost use Rattle.plain_units.specs.Tells.{Tells};
 ghost use Rattle.plain_credit2.specs.Bounds.{PoolFits};
@@ -29,10 +30,10 @@ pub fn passes(records: &Credit2Records, u: UnitId) -> bool
 }
 
 /// Whether a unit has more credit than the core's own has at t, and that has run for the rate limit since a moment.
-pub fn is_better(records: &Credit2Records, cur: UnitId, since: u64, t: u64, u: UnitId) -> bool
-    requires early { t ≤ 10000000000000 }
-    requires fits { Credit2Fits t records.now }
-    ensures { result ≡ is_better_spec records.now cur since t u }
+pub fn is_better(records: &Credit2Records, cur: UnitId, since: Moment, t: Moment, u: UnitId) -> bool
+    requires early { t.0 ≤ most_span }
+    requires fits { Credit2Fits t.0 records.now }
+    ensures { result ≡ is_better_spec records.now cur since.0 t.0 u }
 {
     !is_within_limit(records, since, t) && burned_credit_of(records, t, cur) < credit_of(records, u)
 }
@@ -44,8 +45,11 @@ fn idle(
     affinity: &[Option<Pins>],
     ask: &Ask,
 ) -> Decided
-    ensures decided { Tells result (decide_spec ask.now (scheduler_of queue.now affinity.now records.old) records.old None) }
-    ensures records { Credit2Pool records.new ≡ (decide_spec ask.now (scheduler_of queue.now affinity.now records.old) records.old None).records }
+    ensures decided { Tells result (decide_spec ask.now
+        (scheduler_of queue.now affinity.now records.old) records.old None) }
+    ensures records { Credit2Pool records.new
+        ≡ (decide_spec ask.now (scheduler_of queue.now affinity.now records.old) records.old
+        None).records }
 {
     switch_off(ask.cur, records);
     Decided {
@@ -63,22 +67,25 @@ fn run_unit(
     ask: &Ask,
     u: UnitId,
 ) -> Decided
-    requires core { ask.now.core < 64 }
-    requires early { ask.now.at ≤ 10000000000000 }
-    requires fits { PoolFits ask.now.at records.old }
+    requires core { ask.now.core.0 < 64 }
+    requires early { ask.now.at.0 ≤ most_span }
+    requires fits { PoolFits ask.now.at.0 records.old }
     requires limit { records.old.limit ≤ 500000 }
-    ensures decided { Tells result (decide_spec ask.now (scheduler_of queue.now affinity.now records.old) records.old (Some u)) }
-    ensures records { Credit2Pool records.new ≡ (decide_spec ask.now (scheduler_of queue.now affinity.now records.old) records.old (Some u)).records }
+    ensures decided { Tells result (decide_spec ask.now
+        (scheduler_of queue.now affinity.now records.old) records.old (Some u)) }
+    ensures records { Credit2Pool records.new
+        ≡ (decide_spec ask.now (scheduler_of queue.now affinity.now records.old) records.old
+        (Some u)).records }
 {
     let resets = resets_for(ask.at, u, records);
     reset(ask.at, resets, records);
     take_at(u, records);
     let long = slice_of(ask, queue, affinity, records, u);
     switch_off(ask.cur, records);
-    set_running(Some(ask.at), u, records);
+    set_running(Some(ask.at.0), u, records);
     Decided {
         unit: Some(u),
-        due: Some(Moment(ask.at + long)),
+        due: Some(Moment(ask.at.0 + long)),
         reset: resets,
     }
 }
@@ -90,11 +97,13 @@ pub fn choose(
     affinity: &[Option<Pins>],
     ask: &Ask,
 ) -> Decided
-    requires fits { Credit2Fits ask.now.at records.old }
-    requires early { ask.now.at ≤ 10000000000000 }
-    requires core { ask.now.core < 64 }
-    ensures decided { Tells result (choose2 ask.now (scheduler_of queue.now affinity.now records.old) records.old) }
-    ensures records { Credit2Pool records.new ≡ (choose2 ask.now (scheduler_of queue.now affinity.now records.old) records.old).records }
+    requires fits { Credit2Fits ask.now.at.0 records.old }
+    requires early { ask.now.at.0 ≤ most_span }
+    requires core { ask.now.core.0 < 64 }
+    ensures decided { Tells result (credit2_decision ask.now
+        (scheduler_of queue.now affinity.now records.old) records.old) }
+    ensures records { Credit2Pool records.new
+        ≡ (credit2_decision ask.now (scheduler_of queue.now affinity.now records.old) records.old).records }
 {
     burn_cur(ask.cur, ask.at, records);
     match choice(ask, queue, affinity, records) {

@@ -3,14 +3,15 @@
 ghost use Rattle.std.specs.Prelude.{◌≡◌, ◌≤◌, map};
 ghost use Rattle.std.specs.Option.{ForSome};
 ghost use Rattle.sched_model.specs.Credit2.{set_weight as set_weight_spec, set_cap as set_cap_spec, first_refill as first_refill_spec, fresh_domain as fresh_domain_spec, set_domain as set_domain_spec, change_domain};
-ghost use Rattle.sched_model.specs.Checked.{IsWithin};
+ghost use Rattle.sched_model.specs.Checked.{IsWithin, most_span};
 ghost use Rattle.sched_laws.specs.Each.{EachPlace};
 ghost use Rattle.plain_units.specs.Fits.{Credit2Fits};
-ghost use Rattle.plain_credit2.specs.Bounds.{DomainFits, cut, emptied};
+ghost use Rattle.plain_credit2.specs.Bounds.{DomainFits, cut_unit, emptied_unit};
 
 use crate::domain::{REFILL_SPAN, burn_units};
 use crate::running::max_weight;
 use credit2_cap::total;
+use sched_base::{DomId, Moment};
 use sched_model::short::Short;
 use sched_model::state::{Credit2Domain, Credit2Records, Credit2Unit};
 
@@ -20,7 +21,7 @@ const START_CREDIT: i64 = 10_000_000;
 /// What is left of the unit's charge, cut to a new weight.
 fn cut_unit(weight: u32, u: Credit2Unit) -> Credit2Unit
     requires { 1 ≤ weight }
-    ensures { result ≡ cut weight u }
+    ensures { result ≡ cut_unit weight u }
 {
     Credit2Unit {
         residual: u.residual % weight,
@@ -31,7 +32,7 @@ fn cut_unit(weight: u32, u: Credit2Unit) -> Credit2Unit
 /// What is left of each unit's charge, cut to a new weight.
 fn cut_units(weight: u32, d: &mut Credit2Domain)
     requires { 1 ≤ weight }
-    ensures { d.new ≡ record d.old { units = map (cut weight) d.old.units } }
+    ensures { d.new ≡ record d.old { units = map (cut_unit weight) d.old.units } }
 {
     let mut cut = Short::new();
     for u in d.units.as_slice() {
@@ -53,7 +54,7 @@ fn set_weight(weight: Option<u32>, d: &mut Credit2Domain)
 
 /// A unit that holds nothing where it runs.
 fn emptied_unit(u: Credit2Unit) -> Credit2Unit
-    ensures { result ≡ emptied u }
+    ensures { result ≡ emptied_unit u }
 {
     Credit2Unit {
         held: if u.burned.is_some() { 0 } else { u.held },
@@ -63,7 +64,7 @@ fn emptied_unit(u: Credit2Unit) -> Credit2Unit
 
 /// The running units hold nothing.
 fn empty_units(d: &mut Credit2Domain)
-    ensures { d.new ≡ record d.old { units = map emptied d.old.units } }
+    ensures { d.new ≡ record d.old { units = map emptied_unit d.old.units } }
 {
     let mut left = Short::new();
     for u in d.units.as_slice() {
@@ -73,23 +74,23 @@ fn empty_units(d: &mut Credit2Domain)
 }
 
 /// The first refill after t, where the domain is capped.
-fn first_refill(cap: u32, t: u64) -> Option<u64>
-    requires { t ≤ 10000000000000 }
-    ensures { result ≡ first_refill_spec cap t }
+fn first_refill(cap: u32, t: Moment) -> Option<u64>
+    requires { t.0 ≤ most_span }
+    ensures { result ≡ first_refill_spec cap t.0 }
 {
     if cap == 0 {
         None
     } else {
-        Some(t + REFILL_SPAN)
+        Some(t.0 + REFILL_SPAN)
     }
 }
 
 /// The domain with a new cap, if one is given: its running units are charged and hold nothing, and its budget is that of the cap.
-fn set_cap(most: u32, t: u64, cap: Option<u32>, d: &mut Credit2Domain)
-    requires early { t ≤ 10000000000000 }
-    requires fits { DomainFits most t d.old }
+fn set_cap(most: u32, t: Moment, cap: Option<u32>, d: &mut Credit2Domain)
+    requires early { t.0 ≤ most_span }
+    requires fits { DomainFits most t.0 d.old }
     requires cap { ForSome cap (λ c. c ≤ 6400) }
-    ensures { d.new ≡ set_cap_spec most t cap d.old }
+    ensures { d.new ≡ set_cap_spec most t.0 cap d.old }
 {
     if let Some(cap) = cap {
         burn_units(most, t, d);
@@ -101,47 +102,45 @@ fn set_cap(most: u32, t: u64, cap: Option<u32>, d: &mut Credit2Domain)
 }
 
 /// The pool after the domain's weight is set, if one is given.
-fn set_weight_of(d: u8, weight: Option<u32>, records: &mut Credit2Records)
+fn set_weight_of(d: DomId, weight: Option<u32>, records: &mut Credit2Records)
     requires { ForSome weight (λ w. 1 ≤ w) }
-    ensures { records.new ≡ change_domain d (set_weight_spec weight) records.old }
+    ensures { records.new ≡ change_domain d.0 (set_weight_spec weight) records.old }
 {
-    let place = d as usize;
-    if place < records.domains.len() {
-        if let Some(domain) = records.domains.item_mut(place) {
-            set_weight(weight, domain);
-        }
+    if let Some(place) = records.domains.get_mut(d.0 as usize)
+        && let Some(domain) = place
+    {
+        set_weight(weight, domain);
     }
 }
 
 /// The pool after the domain's cap is set, if one is given. The greatest weight of the pool is most.
-fn set_cap_of(most: u32, t: u64, d: u8, cap: Option<u32>, records: &mut Credit2Records)
-    requires early { t ≤ 10000000000000 }
-    requires fits { EachPlace (DomainFits most t) records.old.domains }
+fn set_cap_of(most: u32, t: Moment, d: DomId, cap: Option<u32>, records: &mut Credit2Records)
+    requires early { t.0 ≤ most_span }
+    requires fits { EachPlace (DomainFits most t.0) records.old.domains }
     requires cap { ForSome cap (λ c. c ≤ 6400) }
-    ensures { records.new ≡ change_domain d (set_cap_spec most t cap) records.old }
+    ensures { records.new ≡ change_domain d.0 (set_cap_spec most t.0 cap) records.old }
 {
-    let place = d as usize;
-    if place < records.domains.len() {
-        if let Some(domain) = records.domains.item_mut(place) {
-            set_cap(most, t, cap, domain);
-        }
+    if let Some(place) = records.domains.get_mut(d.0 as usize)
+        && let Some(domain) = place
+    {
+        set_cap(most, t, cap, domain);
     }
 }
 
 /// The pool at t after the domain's weight is set, and then its cap, where they are given: the weight 1 to 65535, the cap in
 /// percent of one processor, at most 6400 (0 for none).
 pub fn set_domain(
-    t: u64,
-    d: u8,
+    t: Moment,
+    d: DomId,
     weight: Option<u32>,
     cap: Option<u32>,
     records: &mut Credit2Records,
 )
-    requires early { t ≤ 10000000000000 }
-    requires fits { Credit2Fits t records.old }
+    requires early { t.0 ≤ most_span }
+    requires fits { Credit2Fits t.0 records.old }
     requires weight { ForSome weight (IsWithin 1 65535) }
     requires cap { ForSome cap (λ c. c ≤ 6400) }
-    ensures { records.new ≡ set_domain_spec t d weight cap records.old }
+    ensures { records.new ≡ set_domain_spec t.0 d.0 weight cap records.old }
 {
     set_weight_of(d, weight, records);
     let most = max_weight(records);
@@ -149,11 +148,11 @@ pub fn set_domain(
 }
 
 /// A domain with so many units that joins at t. The cap is in percent of one processor, at most 6400 (0 for none).
-pub fn fresh_domain(weight: u32, cap: u32, count: u8, t: u64) -> Credit2Domain
-    requires early { t ≤ 10000000000000 }
+pub fn fresh_domain(weight: u32, cap: u32, count: u8, t: Moment) -> Credit2Domain
+    requires early { t.0 ≤ most_span }
     requires cap { cap ≤ 6400 }
     requires few { count ≤ 32 }
-    ensures { result ≡ fresh_domain_spec weight cap count t }
+    ensures { result ≡ fresh_domain_spec weight cap count t.0 }
 {
     let mut units = Short::new();
     for _ in 0..count {

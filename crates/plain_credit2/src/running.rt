@@ -1,25 +1,26 @@
 //! Changes of a pool's records. Moments are in nanoseconds.
 
+ghost use Rattle.sched_model.specs.Checked.{most_span};
 ghost use Rattle.std.specs.Prelude.{◌≡◌, ◌≤◌, ℕ, map, fold, max, Some};
 ghost use Rattle.std.specs.Option.{option_copied};
 ghost use Rattle.sched_model.specs.declared.state.Credit2Domain.{Credit2Domain as DomainRecord};
-ghost use Rattle.sched_model.specs.Places.{at_place, change_each, change_item, numbered};
-ghost use Rattle.sched_model.specs.Credit2.{max_weight as max_weight_spec, burn_unit as burn_unit_spec, change_unit, burn_cur as burn_cur_spec, reset as reset_spec, take_budget as take_budget_spec, change_domain, set_running as set_running_spec, switch_off as switch_off_spec, credit_of as credit_of_spec, refilled};
+ghost use Rattle.sched_model.specs.Places.{at_place, change_each, change_item, numbered_items};
+ghost use Rattle.sched_model.specs.Credit2.{max_weight as max_weight_spec, burn_unit as burn_unit_spec, change_unit, burn_cur as burn_cur_spec, reset as reset_spec, take_budget as take_budget_spec, change_domain, set_running as set_running_spec, switch_off as switch_off_spec, credit_of as credit_of_spec, refilled_pool};
 ghost use Rattle.plain_units.specs.Fits.{Credit2Fits};
 ghost use Rattle.plain_credit2.specs.Bounds.{PoolFits, PoolParamsFit, DomainFits, reset_by, credit_at};
 ghost use Rattle.sched_laws.specs.Each.{EachPlace};
 
 use crate::domain::{burn_own, refill_domain, reset_domain, take_budget};
 use crate::units::{burn_unit, set_burned, unit_at};
-use sched_base::UnitId;
+use sched_base::{DomId, Moment, UnitId};
 use sched_model::row::Row;
 use sched_model::state::{Credit2Domain, Credit2Records};
 
 /// The domain with this number.
-pub fn domain_at(domains: &[Option<Credit2Domain>], d: u8) -> Option<&Credit2Domain>
-    ensures { option_copied result ≡ at_place domains.now d }
+pub fn domain_at(domains: &[Option<Credit2Domain>], d: DomId) -> Option<&Credit2Domain>
+    ensures { option_copied result ≡ at_place domains.now d.0 }
 {
-    let place = d as usize;
+    let place = d.0 as usize;
     if place < domains.len() {
         domains[place].as_ref()
     } else {
@@ -29,7 +30,8 @@ pub fn domain_at(domains: &[Option<Credit2Domain>], d: u8) -> Option<&Credit2Dom
 
 /// The greatest of a weight and those of the domains.
 fn greatest_weight(most: u32, domains: &[Option<Credit2Domain>]) -> u32
-    ensures { (n : ℕ) → result ≡ fold max most (map (λ (e : ℕ × DomainRecord). e.1.weight) (numbered n domains.now)) }
+    ensures { (n : ℕ) → result ≡ fold max most
+        (map (λ (e : ℕ × DomainRecord). e.1.weight) (numbered_items n domains.now)) }
 {
     match domains {
         [] => most,
@@ -49,7 +51,7 @@ pub fn max_weight(records: &Credit2Records) -> u32
 pub fn credit_of(records: &Credit2Records, u: UnitId) -> i64
     ensures { result ≡ credit_of_spec records.now u }
 {
-    match domain_at(records.domains.as_slice(), u.dom.0) {
+    match domain_at(records.domains.as_slice(), u.dom) {
         None => 0,
         Some(d) => credit_in(d, u.n),
     }
@@ -66,10 +68,11 @@ fn credit_in(d: &Credit2Domain, n: u8) -> i64
 }
 
 /// The credit of the unit with this index of the domain, charged up to t where it runs, and 0 where there is none.
-fn burned_credit_in(most: u32, t: u64, d: &Credit2Domain, n: u8) -> i64
-    requires early { t ≤ 10000000000000 }
-    requires fits { DomainFits most t d.now }
-    ensures { result ≡ credit_at (record d.now { units = change_item n (burn_unit_spec most t d.now) d.now.units }) n }
+fn burned_credit_in(most: u32, t: Moment, d: &Credit2Domain, n: u8) -> i64
+    requires early { t.0 ≤ most_span }
+    requires fits { DomainFits most t.0 d.now }
+    ensures { result ≡ credit_at (record d.now
+        { units = change_item n (burn_unit_spec most t.0 d.now) d.now.units }) n }
 {
     match unit_at(d.units.as_slice(), n) {
         None => 0,
@@ -78,32 +81,34 @@ fn burned_credit_in(most: u32, t: u64, d: &Credit2Domain, n: u8) -> i64
 }
 
 /// The unit's credit, charged up to t where it runs, and 0 where there is no such unit.
-pub fn burned_credit_of(records: &Credit2Records, t: u64, u: UnitId) -> i64
-    requires early { t ≤ 10000000000000 }
-    requires fits { PoolFits t records.now }
-    ensures { result ≡ credit_of_spec (change_unit u (burn_unit_spec (max_weight_spec records.now) t) records.now) u }
+pub fn burned_credit_of(records: &Credit2Records, t: Moment, u: UnitId) -> i64
+    requires early { t.0 ≤ most_span }
+    requires fits { PoolFits t.0 records.now }
+    ensures { result ≡ credit_of_spec (change_unit u
+        (burn_unit_spec (max_weight_spec records.now) t.0) records.now) u }
 {
     burned_credit_by(max_weight(records), records, t, u)
 }
 
 /// As `burned_credit_of`, where the greatest weight of the pool is known.
-pub fn burned_credit_by(most: u32, records: &Credit2Records, t: u64, u: UnitId) -> i64
+pub fn burned_credit_by(most: u32, records: &Credit2Records, t: Moment, u: UnitId) -> i64
     requires most { most ≡ max_weight_spec records.now }
-    requires early { t ≤ 10000000000000 }
-    requires fits { PoolFits t records.now }
-    ensures { result ≡ credit_of_spec (change_unit u (burn_unit_spec (max_weight_spec records.now) t) records.now) u }
+    requires early { t.0 ≤ most_span }
+    requires fits { PoolFits t.0 records.now }
+    ensures { result ≡ credit_of_spec (change_unit u
+        (burn_unit_spec (max_weight_spec records.now) t.0) records.now) u }
 {
-    match domain_at(records.domains.as_slice(), u.dom.0) {
+    match domain_at(records.domains.as_slice(), u.dom) {
         None => 0,
         Some(d) => burned_credit_in(most, t, d, u.n),
     }
 }
 
 /// The core's own unit charged up to t, and its budget given back.
-pub fn burn_cur(cur: Option<UnitId>, t: u64, records: &mut Credit2Records)
-    requires early { t ≤ 10000000000000 }
-    requires fits { Credit2Fits t records.old }
-    ensures { records.new ≡ burn_cur_spec cur t records.old }
+pub fn burn_cur(cur: Option<UnitId>, t: Moment, records: &mut Credit2Records)
+    requires early { t.0 ≤ most_span }
+    requires fits { Credit2Fits t.0 records.old }
+    ensures { records.new ≡ burn_cur_spec cur t.0 records.old }
 {
     if let Some(u) = cur {
         let most = max_weight(records);
@@ -112,41 +117,40 @@ pub fn burn_cur(cur: Option<UnitId>, t: u64, records: &mut Credit2Records)
 }
 
 /// The unit charged up to t, and its budget given back. The greatest weight of the pool is most.
-pub fn charge(most: u32, u: UnitId, t: u64, records: &mut Credit2Records)
+pub fn charge(most: u32, u: UnitId, t: Moment, records: &mut Credit2Records)
     requires most { most ≡ max_weight_spec records.old }
-    requires early { t ≤ 10000000000000 }
-    requires fits { Credit2Fits t records.old }
-    ensures { records.new ≡ burn_cur_spec (Some u) t records.old }
+    requires early { t.0 ≤ most_span }
+    requires fits { Credit2Fits t.0 records.old }
+    ensures { records.new ≡ burn_cur_spec (Some u) t.0 records.old }
 {
-    let place = u.dom.0 as usize;
-    if place < records.domains.len() {
-        if let Some(d) = records.domains.item_mut(place) {
-            burn_own(most, t, u.n, d);
-        }
+    if let Some(place) = records.domains.get_mut(u.dom.0 as usize)
+        && let Some(d) = place
+    {
+        burn_own(most, t, u.n, d);
     }
 }
 
 /// The pool after m resets at t.
-pub fn reset(t: u64, m: u64, records: &mut Credit2Records)
-    requires early { t ≤ 10000000000000 }
+pub fn reset(t: Moment, m: u64, records: &mut Credit2Records)
+    requires early { t.0 ≤ most_span }
     requires few { m ≤ 1000000000000 }
-    requires fits { PoolFits t records.old }
-    ensures { records.new ≡ reset_spec t m records.old }
+    requires fits { PoolFits t.0 records.old }
+    ensures { records.new ≡ reset_spec t.0 m records.old }
 {
     if m == 0 {
         return;
     }
     let most = max_weight(records);
     reset_all(most, t, m, &mut records.domains);
-    records.last_reset = Some(t);
+    records.last_reset = Some(t.0);
 }
 
 /// Each domain after m resets at t. The greatest weight is most.
-fn reset_all(most: u32, t: u64, m: u64, domains: &mut Row<Option<Credit2Domain>>)
-    requires early { t ≤ 10000000000000 }
+fn reset_all(most: u32, t: Moment, m: u64, domains: &mut Row<Option<Credit2Domain>>)
+    requires early { t.0 ≤ most_span }
     requires few { m ≤ 1000000000000 }
-    requires fits { EachPlace (DomainFits most t) domains.old }
-    ensures { domains.new ≡ change_each 0 (λ (n : ℕ). reset_by most t m) domains.old }
+    requires fits { EachPlace (DomainFits most t.0) domains.old }
+    ensures { domains.new ≡ change_each 0 (λ (n : ℕ). reset_by most t.0 m) domains.old }
 {
     for r in 0..domains.len() {
         if let Some(d) = domains.item_mut(r) {
@@ -160,11 +164,10 @@ pub fn take_at(u: UnitId, records: &mut Credit2Records)
     requires { PoolParamsFit records.old }
     ensures { records.new ≡ change_domain u.dom.0 (take_budget_spec u.n) records.old }
 {
-    let place = u.dom.0 as usize;
-    if place < records.domains.len() {
-        if let Some(d) = records.domains.item_mut(place) {
-            take_budget(u.n, d);
-        }
+    if let Some(place) = records.domains.get_mut(u.dom.0 as usize)
+        && let Some(d) = place
+    {
+        take_budget(u.n, d);
     }
 }
 
@@ -172,11 +175,10 @@ pub fn take_at(u: UnitId, records: &mut Credit2Records)
 pub fn set_running(from: Option<u64>, u: UnitId, records: &mut Credit2Records)
     ensures { records.new ≡ set_running_spec from u records.old }
 {
-    let place = u.dom.0 as usize;
-    if place < records.domains.len() {
-        if let Some(d) = records.domains.item_mut(place) {
-            set_burned(&mut d.units, u.n, from);
-        }
+    if let Some(place) = records.domains.get_mut(u.dom.0 as usize)
+        && let Some(d) = place
+    {
+        set_burned(d, u.n, from);
     }
 }
 
@@ -190,16 +192,15 @@ pub fn switch_off(cur: Option<UnitId>, records: &mut Credit2Records)
 }
 
 /// The pool after a refill of the domain at t.
-pub fn refill(t: u64, d: u8, records: &mut Credit2Records)
-    requires early { t ≤ 10000000000000 }
-    requires fits { Credit2Fits t records.old }
-    ensures { records.new ≡ refilled t d records.old }
+pub fn refill(t: Moment, d: DomId, records: &mut Credit2Records)
+    requires early { t.0 ≤ most_span }
+    requires fits { Credit2Fits t.0 records.old }
+    ensures { records.new ≡ refilled_pool t.0 d.0 records.old }
 {
     let most = max_weight(records);
-    let place = d as usize;
-    if place < records.domains.len() {
-        if let Some(domain) = records.domains.item_mut(place) {
-            refill_domain(most, t, domain);
-        }
+    if let Some(place) = records.domains.get_mut(d.0 as usize)
+        && let Some(domain) = place
+    {
+        refill_domain(most, t, domain);
     }
 }

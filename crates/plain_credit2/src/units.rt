@@ -1,5 +1,6 @@
 //! The record of one unit. Moments and spans are in nanoseconds.
 
+ghost use Rattle.sched_model.specs.Checked.{most_span};
 ghost use Rattle.std.specs.Prelude.{◌≡◌, ◌≤◌, ◌==◌, if◌then◌else◌, slice_get, slice_set, pos, neg_ℤ, ◌-ℤ◌, ◌≤ℤ◌};
 ghost use Rattle.sched_base.specs.Credit2Numbers.{raise as raise_spec, above_zero as above_zero_spec};
 ghost use Rattle.sched_model.specs.declared.state.Credit2Unit.{Credit2Unit as UnitRecord};
@@ -9,7 +10,7 @@ ghost use Rattle.plain_credit2.specs.Bounds.{UnitFits, ParamsFit};
 
 use credit2_burn::{Credit, burn};
 use credit2_reset::raise;
-use sched_base::Span;
+use sched_base::{Moment, Span};
 use sched_model::state::{Credit2Domain, Credit2Unit, Credit2Units};
 
 /// The unit with this index.
@@ -29,6 +30,7 @@ pub fn set_unit(units: &mut Credit2Units, n: u8, unit: Credit2Unit)
 }
 
 /// The unit with this index holds so much of its domain's budget.
+#[tactic(auto, using(plain_units::proofs::Places::past_the_end))]
 pub fn set_held(units: &mut Credit2Units, n: u8, held: i64)
     ensures { units.new ≡ change_item n (λ (x : UnitRecord). record x { held = held }) units.old }
 {
@@ -37,18 +39,20 @@ pub fn set_held(units: &mut Credit2Units, n: u8, held: i64)
     }
 }
 
-/// The unit with this index runs from a moment, or runs no more.
-pub fn set_burned(units: &mut Credit2Units, n: u8, from: Option<u64>)
-    ensures { units.new ≡ change_item n (λ (x : UnitRecord). record x { burned = from }) units.old }
+/// The domain's unit with this index runs from a moment, or runs no more.
+#[tactic(auto, using(plain_units::proofs::Places::past_the_end))]
+pub fn set_burned(d: &mut Credit2Domain, n: u8, from: Option<u64>)
+    ensures { d.new ≡ record d.old
+        { units = change_item n (λ (x : UnitRecord). record x { burned = from }) d.old.units } }
 {
-    if let Some(u) = units.get_mut(n as usize) {
+    if let Some(u) = d.units.get_mut(n as usize) {
         u.burned = from;
     }
 }
 
 /// What a unit holds of its domain's budget after a span that it ran; under no cap none of it is spent.
 fn held_after(cap: u32, held: i64, elapsed: u64) -> i64
-    requires short { elapsed ≤ 10000000000000 }
+    requires short { elapsed ≤ most_span }
     requires least { neg_ℤ (pos 20000000000000) ≤ℤ held }
     ensures { result ≡ (if cap == 0 then held else (held -ℤ pos elapsed)) }
 {
@@ -60,16 +64,16 @@ fn held_after(cap: u32, held: i64, elapsed: u64) -> i64
 }
 
 /// A unit of the domain, charged up to t where it runs. The greatest weight of the pool is most.
-pub fn burn_unit(most: u32, t: u64, d: &Credit2Domain, u: Credit2Unit) -> Credit2Unit
-    requires early { t ≤ 10000000000000 }
+pub fn burn_unit(most: u32, t: Moment, d: &Credit2Domain, u: Credit2Unit) -> Credit2Unit
+    requires early { t.0 ≤ most_span }
     requires params { ParamsFit most d.now }
-    requires unit { UnitFits t u }
-    ensures { result ≡ burn_unit_spec most t d.now u }
+    requires unit { UnitFits t.0 u }
+    ensures { result ≡ burn_unit_spec most t.0 d.now u }
 {
     let Some(from) = u.burned else {
         return u;
     };
-    let elapsed = t - from;
+    let elapsed = t.0 - from;
     let before = Credit {
         credit: u.credit,
         residual: u.residual,
@@ -79,7 +83,7 @@ pub fn burn_unit(most: u32, t: u64, d: &Credit2Domain, u: Credit2Unit) -> Credit
         credit: after.credit,
         residual: after.residual,
         held: held_after(d.cap, u.held, elapsed),
-        burned: Some(t),
+        burned: Some(t.0),
     }
 }
 

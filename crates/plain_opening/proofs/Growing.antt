@@ -3,7 +3,7 @@ use Rattle.std.proofs.Common.{◌≡◌, ◌∙◌, ◌+◌, ℕ, zero, suc, Lis
 use Rattle.std.specs.Prelude.{Option, None, map, replicate}
 use Rattle.std.proofs.lemmas.List.{append_assoc}
 use Rattle.sched_laws.proofs.Opened.{length_map_numbers}
-use Rattle.plain_opening.proofs.Replicate.{replicate_one_more}
+use Rattle.sched_model.proofs.Replicate.{replicate_one_more}
 use Rattle.sched_model.specs.Places.{numbers_from}
 
 -- the numbers from one on, and the next

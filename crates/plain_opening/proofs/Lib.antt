@@ -1,4 +1,3 @@
-pub mod Replicate
 pub mod Growing
 pub mod Queues
 pub mod Room

@@ -13,7 +13,7 @@ use Rattle.sched_model.specs.Places.{numbers_from, put_at, change_at}
 use Rattle.sched_model.specs.declared.config.ParamChange.TheVariants as changes
 use Rattle.sched_model.specs.declared.state.Records.{Records}
 use Rattle.sched_model.specs.declared.state.Records.TheVariants.{Credit2Pool, RtdsPool, ArincPool, NullPool}
-use Rattle.sched_model.specs.Policy.{join, pinned, changed_records}
+use Rattle.sched_model.specs.Policy.{join, pinned_cores, changed_records}
 use Rattle.sched_model.specs.State.{is_runnable}
 use Rattle.sched_model.specs.Pool.{queue_if_off, queue_units, queue_unit, is_off, with_domain, unit_count, set_params}
 use Rattle.plain_opening.specs.Opened.{configured_if}
@@ -72,10 +72,10 @@ grows_by_domains g i d (joining ∷ domains) pool =
 
 -- a set of cores for one unit changes the sets of cores alone
 pub pinned_once : (d n : ℕ) (cores : Cores) (pool : Pool)
-    → let next : Pool = record pool { scheduler = record pool.scheduler { affinity = change_at d (pinned (Some n) cores) pool.scheduler.affinity } } in
+    → let next : Pool = record pool { scheduler = record pool.scheduler { affinity = change_at d (pinned_cores (Some n) cores) pool.scheduler.affinity } } in
     next ≡ set_params (changes.Pin (domain d) (Some n) cores) 0 pool
 pinned_once d n cores pool =
-    let with : Records → Pool = λ records. record pool { scheduler = record pool.scheduler { affinity = change_at d (pinned (Some n) cores) pool.scheduler.affinity; records = records } } in
+    let with : Records → Pool = λ records. record pool { scheduler = record pool.scheduler { affinity = change_at d (pinned_cores (Some n) cores) pool.scheduler.affinity; records = records } } in
     ap with (kept_by_pin d n cores pool.scheduler.records)
   where
     kept_by_pin : (d n : ℕ) (cores : Cores) (records : Records) → records ≡ changed_records records (changes.Pin (domain d) (Some n) cores) 0

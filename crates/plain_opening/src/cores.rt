@@ -10,7 +10,7 @@ ghost use Rattle.sched_model.specs.declared.config.PoolConfig.{PoolConfig as Poo
 ghost use Rattle.plain_opening.specs.Opened.{opening_core};
 
 use plain_pool::leaving::fresh_core;
-use sched_base::{Moment, NoMemory};
+use sched_base::{Moment, NoMemory, ResId};
 use sched_model::config::{Config, PoolConfig};
 use sched_model::facts::StallEnds;
 use sched_model::row::Row;
@@ -19,15 +19,15 @@ use sched_model::state::{FreeCore, Resource};
 use std::alloc::Global;
 
 /// Whether the core is in the set.
-pub fn has_core(cores: u64, r: u8) -> bool
-    requires { r < 64 }
-    ensures { result ≡ has_core_spec cores r }
+pub fn has_core(cores: u64, r: ResId) -> bool
+    requires { r.0 < 64 }
+    ensures { result ≡ has_core_spec cores r.0 }
 {
-    cores / (1u64 << r) % 2 == 1
+    cores / (1u64 << r.0) % 2 == 1
 }
 
 /// The ends of the stalls of g processors that were never stalled.
-#[tactic(auto, using(crate::proofs::Replicate::replicate_one_more))]
+#[tactic(auto, using(sched_model::proofs::Replicate::replicate_one_more))]
 pub fn no_stalls(g: u8) -> StallEnds
     requires { g ≤ 4 }
     ensures { result ≡ replicate g (moment 0) }
@@ -40,10 +40,10 @@ pub fn no_stalls(g: u8) -> StallEnds
 }
 
 /// The core r, where it is in the set.
-fn core_of_set(cores: u64, r: u8, g: u8) -> Option<Resource>
+fn core_of_set(cores: u64, r: ResId, g: u8) -> Option<Resource>
     requires few { g ≤ 4 }
-    requires core { r < 64 }
-    ensures { result ≡ opening_core g cores r }
+    requires core { r.0 < 64 }
+    ensures { result ≡ opening_core g cores r.0 }
 {
     if has_core(cores, r) {
         Some(fresh_core(&no_stalls(g)))
@@ -67,24 +67,24 @@ pub fn fresh_cores(
 {
     let mut places = Vec::new(alloc);
     for r in 0..count {
-        places.push(core_of_set(cores, r, g))?;
+        places.push(core_of_set(cores, ResId(r), g))?;
     }
     Ok(Row::from_vec(places))
 }
 
 /// Whether one of the pools has the core.
-fn is_in_pool(pools: &[PoolConfig], r: u8) -> bool
-    requires { r < 64 }
-    ensures { result ≡ list_any (λ (pool : PoolRecord). has_core_spec pool.cores r) pools.now }
+fn is_in_pool(pools: &[PoolConfig], r: ResId) -> bool
+    requires { r.0 < 64 }
+    ensures { result ≡ list_any (λ (pool : PoolRecord). has_core_spec pool.cores r.0) pools.now }
 {
     pools.iter().any(|pool| has_core(pool.cores, r))
 }
 
 /// The core r, where no pool has it.
-fn free_core(config: &Config, r: u8) -> Option<FreeCore>
+fn free_core(config: &Config, r: ResId) -> Option<FreeCore>
     requires few { config.now.granularity ≤ 4 }
-    requires core { r < 64 }
-    ensures { result ≡ opening_free_spec config.now r }
+    requires core { r.0 < 64 }
+    ensures { result ≡ opening_free_spec config.now r.0 }
 {
     if is_in_pool(config.pools.as_slice(), r) {
         None
@@ -109,7 +109,7 @@ pub fn free_cores(
 {
     let mut places = Vec::new(alloc);
     for r in 0..count {
-        places.push(free_core(config, r))?;
+        places.push(free_core(config, ResId(r)))?;
     }
     Ok(Row::from_vec(places))
 }

@@ -13,7 +13,7 @@ use crate::rows::fresh_vcpus;
 use crate::spare::{core_count, pool_of_cores};
 use plain_policy::params::pin;
 use plain_pool::domains::with_domain;
-use sched_base::{Cores, Name, NoMemory};
+use sched_base::{Cores, DomId, Moment, Name, NoMemory};
 use sched_model::config::{Config, DomConfig, PoolConfig};
 use sched_model::machine::Machine;
 use sched_model::row::Row;
@@ -25,9 +25,9 @@ const MOST_POOLS: usize = 16;
 
 /// The sets of cores of the units of the domain d set, the first of them that of unit n.
 #[tactic(auto, using(crate::proofs::Queues::pinned_once))]
-fn with_pins(d: u8, n: u8, pins: &[Cores], pool: &mut Pool)
+fn with_pins(d: DomId, n: u8, pins: &[Cores], pool: &mut Pool)
     requires few { n + length pins.now ≤ 32 }
-    ensures { pool.new ≡ with_pins_spec d n pins.now pool.old }
+    ensures { pool.new ≡ with_pins_spec d.0 n pins.now pool.old }
 {
     match pins {
         [] => {}
@@ -43,7 +43,7 @@ fn with_pins(d: u8, n: u8, pins: &[Cores], pool: &mut Pool)
 fn with_configured(
     alloc: Global,
     g: u8,
-    d: u8,
+    d: DomId,
     joining: &DomConfig,
     pool: &mut Pool,
 ) -> Result<(), NoMemory>
@@ -52,8 +52,8 @@ fn with_configured(
     requires cores { length pool.old.resources ≤ 64 }
     requires guests { length joining.now.guests ≤ 32 }
     requires params { ParamsFit joining.now.params }
-    requires room { FewWait (with_configured_spec g d joining.now pool.old) }
-    ensures pool { OnOk result (pool.new ≡ with_configured_spec g d joining.now pool.old) }
+    requires room { FewWait (with_configured_spec g d.0 joining.now pool.old) }
+    ensures pool { OnOk result (pool.new ≡ with_configured_spec g d.0 joining.now pool.old) }
     ensures cores { OnOk result (pool.new.resources ≡ pool.old.resources) }
 {
     let fresh = Domain {
@@ -61,7 +61,7 @@ fn with_configured(
         moving: None,
         vcpus: fresh_vcpus(alloc, joining.guests.as_slice())?,
     };
-    with_domain(g, 0, d, fresh, &joining.params, pool);
+    with_domain(g, Moment(0), d, fresh, &joining.params, pool);
     with_pins(d, 0, joining.pins.as_slice(), pool);
     Ok(())
 }
@@ -71,7 +71,7 @@ fn configured_if(
     alloc: Global,
     g: u8,
     i: u8,
-    d: u8,
+    d: DomId,
     joining: &DomConfig,
     pool: &mut Pool,
 ) -> Result<(), NoMemory>
@@ -79,8 +79,8 @@ fn configured_if(
     requires few { g ≤ 4 }
     requires cores { length pool.old.resources ≤ 64 }
     requires fits { JoinFits joining.now }
-    requires room { FewWait (configured_if_spec g i d joining.now pool.old) }
-    ensures pool { OnOk result (pool.new ≡ configured_if_spec g i d joining.now pool.old) }
+    requires room { FewWait (configured_if_spec g i d.0 joining.now pool.old) }
+    ensures pool { OnOk result (pool.new ≡ configured_if_spec g i d.0 joining.now pool.old) }
     ensures cores { OnOk result (pool.new.resources ≡ pool.old.resources) }
 {
     if joining.home.0 == i {
@@ -96,7 +96,7 @@ fn with_domains(
     alloc: Global,
     g: u8,
     i: u8,
-    d: u8,
+    d: DomId,
     domains: &[DomConfig],
     pool: &mut Pool,
 ) -> Result<(), NoMemory>
@@ -104,15 +104,15 @@ fn with_domains(
     requires few { g ≤ 4 }
     requires cores { length pool.old.resources ≤ 64 }
     requires domains { All JoinFits domains.now }
-    requires count { d + length domains.now ≤ 64 }
-    requires room { FewWait (with_domains_spec g i d domains.now pool.old) }
-    ensures { OnOk result (pool.new ≡ with_domains_spec g i d domains.now pool.old) }
+    requires count { d.0 + length domains.now ≤ 64 }
+    requires room { FewWait (with_domains_spec g i d.0 domains.now pool.old) }
+    ensures { OnOk result (pool.new ≡ with_domains_spec g i d.0 domains.now pool.old) }
 {
     match domains {
         [] => Ok(()),
         [joining, rest @ ..] => {
             configured_if(alloc, g, i, d, joining, pool)?;
-            with_domains(alloc, g, i, d + 1, rest, pool)
+            with_domains(alloc, g, i, DomId(d.0 + 1), rest, pool)
         }
     }
 }
@@ -127,7 +127,14 @@ fn opening_pool(alloc: Global, config: &Config, i: u8, pool: &PoolConfig) -> Res
     let g = config.granularity;
     let cores = fresh_cores(alloc, pool.cores, core_count(config), g)?;
     let mut opened = pool_of_cores(alloc, config, &pool.params, cores)?;
-    match with_domains(alloc, g, i, 0, config.domains.as_slice(), &mut opened) {
+    match with_domains(
+        alloc,
+        g,
+        i,
+        DomId(0),
+        config.domains.as_slice(),
+        &mut opened,
+    ) {
         Ok(()) => Ok(opened),
         Err(full) => {
             drop(opened);
@@ -148,7 +155,8 @@ fn push_empty<T: Drop>(count: usize, places: &mut Vec<Option<T>>) -> Result<(), 
 
 /// The name of each pool.
 fn names_of(alloc: Global, pools: &[PoolConfig]) -> Result<Vec<Option<Name>>, NoMemory>
-    ensures { IfOk result (λ names. names.items ≡ map (λ (pool : PoolConfigRecord). Some pool.name) pools.now) }
+    ensures { IfOk result (λ names. names.items ≡ map (λ (pool : PoolConfigRecord). Some pool.name)
+        pools.now) }
 {
     let mut names = Vec::new(alloc);
     for pool in pools {
@@ -160,7 +168,8 @@ fn names_of(alloc: Global, pools: &[PoolConfig]) -> Result<Vec<Option<Name>>, No
 /// The name of each pool, and empty places up to the most pools that there may be.
 fn opening_names(alloc: Global, pools: &[PoolConfig]) -> Result<Row<Option<Name>>, NoMemory>
     requires { length pools.now ≤ 16 }
-    ensures { IfOk result (λ names. names ≡ map (λ (pool : PoolConfigRecord). Some pool.name) pools.now ++ replicate (16 - length pools.now) None) }
+    ensures { IfOk result (λ names. names ≡ map (λ (pool : PoolConfigRecord). Some pool.name)
+        pools.now ++ replicate (16 - length pools.now) None) }
 {
     let mut names = names_of(alloc, pools)?;
     push_empty(MOST_POOLS - pools.len(), &mut names)?;
@@ -179,7 +188,8 @@ fn push_pools(
     requires checked { IsCheckedConfig config.now }
     requires few { i + length pools.now ≤ 16 }
     requires room { AllFewWait config.now i pools.now }
-    ensures { OnOk result (places.new.items ≡ places.old.items ++ opening_pools_spec config.now i pools.now) }
+    ensures { OnOk result (places.new.items ≡ places.old.items
+        ++ opening_pools_spec config.now i pools.now) }
 {
     match pools {
         [] => Ok(()),
@@ -194,7 +204,9 @@ fn push_pools(
 fn push_all(alloc: Global, config: &Config, places: &mut Vec<Option<Pool>>) -> Result<(), NoMemory>
     requires checked { IsCheckedConfig config.now }
     requires room { AllFewWait config.now 0 config.now.pools }
-    ensures { OnOk result (places.new.items ≡ places.old.items ++ (opening_pools_spec config.now 0 config.now.pools ++ replicate (16 - length config.now.pools) None)) }
+    ensures { OnOk result (places.new.items ≡ places.old.items
+        ++ (opening_pools_spec config.now 0 config.now.pools
+        ++ replicate (16 - length config.now.pools) None)) }
 {
     let pools = config.pools.as_slice();
     push_pools(alloc, config, 0, pools, places)?;
@@ -205,7 +217,8 @@ fn push_all(alloc: Global, config: &Config, places: &mut Vec<Option<Pool>>) -> R
 fn opening_pools(alloc: Global, config: &Config) -> Result<Row<Option<Pool>>, NoMemory>
     requires checked { IsCheckedConfig config.now }
     requires room { AllFewWait config.now 0 config.now.pools }
-    ensures { IfOk result (λ pools. pools ≡ opening_pools_spec config.now 0 config.now.pools ++ replicate (16 - length config.now.pools) None) }
+    ensures { IfOk result (λ pools. pools ≡ opening_pools_spec config.now 0 config.now.pools
+        ++ replicate (16 - length config.now.pools) None) }
 {
     let mut places = Vec::new(alloc);
     match push_all(alloc, config, &mut places) {

@@ -5,20 +5,9 @@ ghost use Rattle.sched_model.specs.Opening.{fresh_vcpu as fresh_vcpu_spec};
 
 use sched_base::{NoMemory, Span};
 use sched_model::config::Script;
-use sched_model::row::Row;
+use sched_model::row::{Row, empty_places};
 use sched_model::state::{Vcpu, Vcpus};
 use std::alloc::Global;
-
-/// So many places, all empty.
-pub fn empty_places<T: Drop>(alloc: Global, count: usize) -> Result<Row<Option<T>>, NoMemory>
-    ensures { IfOk result (λ row. row ≡ replicate count None) }
-{
-    let mut places = Vec::new(alloc);
-    for i in 0..count {
-        places.push(None)?;
-    }
-    Ok(Row::from_vec(places))
-}
 
 /// The script once more.
 fn same_script(alloc: Global, script: &Script) -> Result<Script, NoMemory>

@@ -5,12 +5,11 @@ ghost use Rattle.sched_model.specs.Opening.{empty_pool as empty_pool_spec, core_
 ghost use Rattle.sched_model.specs.Policy.{fresh_records as fresh_records_spec, default_pool_params as default_pool_params_spec};
 ghost use Rattle.plain_opening.specs.Opened.{spare_for as spare_for_spec, spares_of};
 
-use crate::rows::empty_places;
 use sched_base::NoMemory;
 use sched_model::command::Command;
 use sched_model::config::{Config, Frame, FrameList, PoolParams, SchedKind};
 use sched_model::machine::Machine;
-use sched_model::row::Row;
+use sched_model::row::{Row, empty_places};
 use sched_model::short::Short;
 use sched_model::state::{ArincRecords, Credit2Records, Pool, Records, Resource, Scheduler};
 use sched_model::work::CommandLine;
@@ -79,7 +78,13 @@ fn empty_scheduler(
     domains: usize,
     cores: usize,
 ) -> Result<Scheduler, NoMemory>
-    ensures { IfOk result (λ scheduler. scheduler ≡ record { queue = []; affinity = replicate domains None; records = fresh_records_spec params.now domains cores }) }
+    ensures { IfOk result (λ scheduler. scheduler
+        ≡ record {
+          queue = [];
+          affinity = replicate domains None;
+          records = fresh_records_spec
+              params.now domains cores;
+        }) }
 {
     let affinity = empty_places(alloc, domains)?;
     Ok(Scheduler {
@@ -97,7 +102,8 @@ pub(crate) fn pool_of_cores(
     resources: Row<Option<Resource>>,
 ) -> Result<Pool, NoMemory>
     requires { 0 < config.now.granularity }
-    ensures { IfOk result (λ pool. pool ≡ record (empty_pool_spec config.now params.now) { resources = resources }) }
+    ensures { IfOk result (λ pool. pool ≡ record (empty_pool_spec config.now params.now)
+        { resources = resources }) }
 {
     let count = config.domains.len();
     let domains = empty_places(alloc, count)?;

@@ -50,12 +50,6 @@ module _ (domains : List (Option (List RtdsUnit))) (u : UnitId) (f : RtdsUnit �
         | Some units ↦ λ at is. ap (λ (ys : List RtdsUnit). slice_set domains u.dom.0 (Some ys)) (change_item-none u.n f units is) ∙ ap (slice_set domains u.dom.0) (sym at) ∙ slice_set-same domains u.dom.0 None
       ] refl none
 
--- the record is in range
-pub unit_in_range : (t : ℕ) (domains : List (Option (List RtdsUnit))) (u : UnitId) (x : RtdsUnit) → RtdsFits t domains → rtds_unit domains u ≡ Some x → RtdsInRange t x
-unit_in_range t domains u x fits there =
-    by_option (λ (o : Option RtdsUnit). o ≡ Some x → RtdsInRange t x) (at_place domains u.dom.0) _ _ (λ none e. absurd (cc))
-    (λ units at e. each_get (RtdsInRange t) units u.n x (recursion_from_All (RtdsInRange t) units (fits.domains u.dom.0 units at)) e) there
-
 -- neither what is left nor a full budget is more than the longest
 record IsLow (x : RtdsUnit) : Type 0 where
   pub left : x.left ≤ 1000000000000

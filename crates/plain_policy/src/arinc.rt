@@ -1,5 +1,6 @@
 //! ARINC 653: the window of a frame at a moment, and the unit that it is for.
 
+ghost use Rattle.sched_model.specs.Checked.{most_span};
 ghost use Rattle.std.specs.Prelude.{◌≡◌, ◌+◌, ◌<◌, ◌≤◌, ◌^◌, [], sum_by, option_map};
 ghost use Rattle.std.specs.Option.{ForSome};
 ghost use Rattle.sched_model.specs.Arinc.{window_from as window_from_spec, window_at as window_at_spec, present_window as present_window_spec};
@@ -56,26 +57,26 @@ fn window_from(start: u64, ahead: u64, last: u64, entries: &[FrameEntry]) -> Win
 }
 
 /// The window at t of a frame that was installed at a moment.
-fn window_at(installed: u64, frame: &Frame, t: u64) -> Window
+fn window_at(installed: u64, frame: &Frame, t: Moment) -> Window
     requires frame { IsFrame frame.now }
-    requires early { t ≤ 10000000000000 }
-    ensures { window_of result ≡ window_at_spec installed frame.now t }
+    requires early { t.0 ≤ most_span }
+    ensures { window_of result ≡ window_at_spec installed frame.now t.0 }
 {
     let major = frame.major.0;
-    let ahead = t.saturating_sub(installed) % major;
+    let ahead = t.0.saturating_sub(installed) % major;
     window_from(
-        t - ahead,
+        t.0 - ahead,
         ahead,
-        t - ahead + major,
+        t.0 - ahead + major,
         frame.entries.as_slice(),
     )
 }
 
 /// The present window, where there is a frame.
-pub fn present_window(records: &ArincRecords, t: u64) -> Option<Window>
+pub fn present_window(records: &ArincRecords, t: Moment) -> Option<Window>
     requires frame { ForSome records.now.frame IsFrame }
-    requires early { t ≤ 10000000000000 }
-    ensures { option_map window_of result ≡ present_window_spec records.now t }
+    requires early { t.0 ≤ most_span }
+    ensures { option_map window_of result ≡ present_window_spec records.now t.0 }
 {
     match &records.frame {
         None => None,
@@ -84,10 +85,11 @@ pub fn present_window(records: &ArincRecords, t: u64) -> Option<Window>
 }
 
 /// Whether the present window is the unit's.
-pub fn passes(records: &ArincRecords, t: u64, u: UnitId) -> bool
+pub fn passes(records: &ArincRecords, t: Moment, u: UnitId) -> bool
     requires frame { ForSome records.now.frame IsFrame }
-    requires early { t ≤ 10000000000000 }
-    ensures { result ≡ passes_spec (ArincPool records.now) (scheduler_of [] [] (ArincPool records.now)) 0 0 t u }
+    requires early { t.0 ≤ most_span }
+    ensures { result ≡ passes_spec (ArincPool records.now)
+        (scheduler_of [] [] (ArincPool records.now)) 0 0 t.0 u }
 {
     match present_window(records, t) {
         None => false,
@@ -104,9 +106,10 @@ fn choice_of_window(
     unit: Option<UnitId>,
 ) -> Option<UnitId>
     requires frame { ForSome records.now.frame IsFrame }
-    requires early { ask.now.at ≤ 10000000000000 }
-    requires core { ask.now.core < 64 }
-    ensures { result ≡ choice_of_window_spec ask.now (scheduler_of queue.now affinity.now (ArincPool records.now)) unit }
+    requires early { ask.now.at.0 ≤ most_span }
+    requires core { ask.now.core.0 < 64 }
+    ensures { result ≡ choice_of_window_spec ask.now
+        (scheduler_of queue.now affinity.now (ArincPool records.now)) unit }
 {
     let u = unit?;
     if is_there(ask.cur, u) && ask.runnable {
@@ -129,9 +132,10 @@ pub fn choose(
     ask: &Ask,
 ) -> Decided
     requires frame { ForSome records.now.frame IsFrame }
-    requires early { ask.now.at ≤ 10000000000000 }
-    requires core { ask.now.core < 64 }
-    ensures { Tells result (decision_by (ArincPool records.now) ask.now (scheduler_of queue.now affinity.now (ArincPool records.now))) }
+    requires early { ask.now.at.0 ≤ most_span }
+    requires core { ask.now.core.0 < 64 }
+    ensures { Tells result (decision_by (ArincPool records.now) ask.now
+        (scheduler_of queue.now affinity.now (ArincPool records.now))) }
 {
     let window = if ask.leaving {
         None

@@ -5,9 +5,9 @@ ghost use Rattle.std.specs.List.{list_any};
 ghost use Rattle.sched_base.specs.declared.UnitId.{UnitId as UnitName};
 ghost use Rattle.sched_model.specs.declared.state.Records.TheVariants.{NullPool};
 ghost use Rattle.sched_model.specs.Eligible.{is_placed as is_placed_spec, is_taken as is_taken_spec, passes as passes_spec};
-ghost use Rattle.sched_model.specs.Places.{at_place, numbered, same_unit};
+ghost use Rattle.sched_model.specs.Places.{at_place, numbered_items, same_unit};
 ghost use Rattle.sched_model.specs.State.{has_core as has_core_spec};
-ghost use Rattle.sched_model.specs.NullScheduler.{released, kept_for, placed_or_earliest, choice as choice_spec, choose_null};
+ghost use Rattle.sched_model.specs.NullScheduler.{kept_without, kept_for, placed_or_earliest, choice as choice_spec, null_decision};
 ghost use Rattle.plain_units.specs.Tells.{Tells};
 ghost use Rattle.plain_policy.specs.Parts.{scheduler_of};
 
@@ -15,16 +15,16 @@ use crate::places::set_place;
 use plain_units::decided::Decided;
 use plain_units::eligible::is_allowed;
 use plain_units::units::{is_same, is_there};
-use sched_base::UnitId;
+use sched_base::{Cores, DomId, ResId, UnitId};
 use sched_model::ask::Ask;
 use sched_model::config::Pins;
 use sched_model::row::Row;
 
 /// The unit that the core is kept for.
-fn kept_at(kept: &[Option<UnitId>], core: u8) -> Option<UnitId>
-    ensures { result ≡ at_place kept.now core }
+fn kept_at(kept: &[Option<UnitId>], core: ResId) -> Option<UnitId>
+    ensures { result ≡ at_place kept.now core.0 }
 {
-    let place = core as usize;
+    let place = core.0 as usize;
     if place < kept.len() {
         kept[place]
     } else {
@@ -33,31 +33,33 @@ fn kept_at(kept: &[Option<UnitId>], core: u8) -> Option<UnitId>
 }
 
 /// Whether the set has the core.
-fn has_core(home: u64, core: u8) -> bool
-    requires { core < 64 }
-    ensures { result ≡ has_core_spec home core }
+fn has_core(home: Cores, core: ResId) -> bool
+    requires { core.0 < 64 }
+    ensures { result ≡ has_core_spec home.0 core.0 }
 {
-    home / (1u64 << core) % 2 == 1
+    home.0 / (1u64 << core.0) % 2 == 1
 }
 
 /// Whether the core is given to the unit: it is kept for it, is one of the pool's, and is allowed.
 fn is_placed(
     kept: &[Option<UnitId>],
     affinity: &[Option<Pins>],
-    home: u64,
-    core: u8,
+    home: Cores,
+    core: ResId,
     u: UnitId,
 ) -> bool
-    requires { core < 64 }
-    ensures { result ≡ is_placed_spec (scheduler_of [] affinity.now (NullPool kept.now)) kept.now home core u }
+    requires { core.0 < 64 }
+    ensures { result ≡ is_placed_spec (scheduler_of [] affinity.now (NullPool kept.now)) kept.now
+        home.0 core.0 u }
 {
     is_there(kept_at(kept, core), u) && has_core(home, core) && is_allowed(affinity, home, core, u)
 }
 
 /// Whether some unit is given the core.
-fn is_taken(kept: &[Option<UnitId>], affinity: &[Option<Pins>], home: u64, core: u8) -> bool
-    requires { core < 64 }
-    ensures { result ≡ is_taken_spec (scheduler_of [] affinity.now (NullPool kept.now)) kept.now home core }
+fn is_taken(kept: &[Option<UnitId>], affinity: &[Option<Pins>], home: Cores, core: ResId) -> bool
+    requires { core.0 < 64 }
+    ensures { result ≡ is_taken_spec (scheduler_of [] affinity.now (NullPool kept.now)) kept.now
+        home.0 core.0 }
 {
     match kept_at(kept, core) {
         None => false,
@@ -67,22 +69,24 @@ fn is_taken(kept: &[Option<UnitId>], affinity: &[Option<Pins>], home: u64, core:
 
 /// Whether the unit is given one of these cores, of which the first has the number core.
 fn has_place_from(
-    core: u8,
+    core: ResId,
     places: &[Option<UnitId>],
     kept: &[Option<UnitId>],
     affinity: &[Option<Pins>],
-    home: u64,
+    home: Cores,
     u: UnitId,
 ) -> bool
-    requires { core + length places.now ≤ 64 }
-    ensures { result ≡ list_any (λ (e : ℕ × UnitName). is_placed_spec (scheduler_of [] affinity.now (NullPool kept.now)) kept.now home e.0 u) (numbered core places.now) }
+    requires { core.0 + length places.now ≤ 64 }
+    ensures { result ≡ list_any (λ (e : ℕ × UnitName).
+        is_placed_spec (scheduler_of [] affinity.now (NullPool kept.now)) kept.now home.0 e.0 u)
+        (numbered_items core.0 places.now) }
 {
     match places {
         [] => false,
-        [None, rest @ ..] => has_place_from(core + 1, rest, kept, affinity, home, u),
+        [None, rest @ ..] => has_place_from(ResId(core.0 + 1), rest, kept, affinity, home, u),
         [Some(_), rest @ ..] => {
             is_placed(kept, affinity, home, core, u)
-                || has_place_from(core + 1, rest, kept, affinity, home, u)
+                || has_place_from(ResId(core.0 + 1), rest, kept, affinity, home, u)
         }
     }
 }
@@ -91,16 +95,17 @@ fn has_place_from(
 pub fn passes(
     kept: &[Option<UnitId>],
     affinity: &[Option<Pins>],
-    home: u64,
-    core: u8,
+    home: Cores,
+    core: ResId,
     u: UnitId,
 ) -> bool
-    requires core { core < 64 }
+    requires core { core.0 < 64 }
     requires few { length kept.now ≤ 64 }
-    ensures { result ≡ passes_spec (NullPool kept.now) (scheduler_of [] affinity.now (NullPool kept.now)) home core 0 u }
+    ensures { result ≡ passes_spec (NullPool kept.now)
+        (scheduler_of [] affinity.now (NullPool kept.now)) home.0 core.0 0 u }
 {
     is_placed(kept, affinity, home, core, u)
-        || (!has_place_from(0, kept, kept, affinity, home, u)
+        || (!has_place_from(ResId(0), kept, kept, affinity, home, u)
             && !is_taken(kept, affinity, home, core))
 }
 
@@ -111,9 +116,10 @@ fn earliest(
     affinity: &[Option<Pins>],
     ask: &Ask,
 ) -> Option<UnitId>
-    requires core { ask.now.core < 64 }
+    requires core { ask.now.core.0 < 64 }
     requires few { length kept.now ≤ 64 }
-    ensures { result ≡ placed_or_earliest ask.now (scheduler_of queue.now affinity.now (NullPool kept.now)) kept.now }
+    ensures { result ≡ placed_or_earliest ask.now
+        (scheduler_of queue.now affinity.now (NullPool kept.now)) kept.now }
 {
     for u in queue {
         if is_allowed(affinity, ask.home, ask.core, *u)
@@ -132,9 +138,10 @@ fn choice(
     affinity: &[Option<Pins>],
     ask: &Ask,
 ) -> Option<UnitId>
-    requires core { ask.now.core < 64 }
+    requires core { ask.now.core.0 < 64 }
     requires few { length kept.now ≤ 64 }
-    ensures { result ≡ choice_spec ask.now (scheduler_of queue.now affinity.now (NullPool kept.now)) kept.now }
+    ensures { result ≡ choice_spec ask.now (scheduler_of queue.now affinity.now (NullPool kept.now))
+        kept.now }
 {
     if let Some(u) = ask.cur
         && ask.runnable
@@ -147,7 +154,7 @@ fn choice(
 
 /// No core is kept for the unit any more.
 fn release_unit(u: UnitId, kept: &mut Row<Option<UnitId>>)
-    ensures { kept.new ≡ released (same_unit u) kept.old }
+    ensures { kept.new ≡ kept_without (same_unit u) kept.old }
 {
     for r in 0..kept.len() {
         let there = kept.item_mut(r);
@@ -160,13 +167,13 @@ fn release_unit(u: UnitId, kept: &mut Row<Option<UnitId>>)
 }
 
 /// No core is kept for a unit of the domain any more.
-pub fn release_domain(d: u8, kept: &mut Row<Option<UnitId>>)
-    ensures { kept.new ≡ released (λ u. u.dom.0 == d) kept.old }
+pub fn release_domain(d: DomId, kept: &mut Row<Option<UnitId>>)
+    ensures { kept.new ≡ kept_without (λ u. u.dom.0 == d.0) kept.old }
 {
     for r in 0..kept.len() {
         let there = kept.item_mut(r);
         if let Some(w) = *there
-            && w.dom.0 == d
+            && w.dom.0 == d.0
         {
             *there = None;
         }
@@ -174,11 +181,11 @@ pub fn release_domain(d: u8, kept: &mut Row<Option<UnitId>>)
 }
 
 /// The core is kept for the unit, and no other core is.
-fn keep_for(core: u8, u: UnitId, kept: &mut Row<Option<UnitId>>)
-    ensures { kept.new ≡ kept_for core u kept.old }
+fn keep_for(core: ResId, u: UnitId, kept: &mut Row<Option<UnitId>>)
+    ensures { kept.new ≡ kept_for core.0 u kept.old }
 {
     release_unit(u, kept);
-    set_place(kept, core, Some(u));
+    set_place(kept, core.0, Some(u));
 }
 
 /// The null scheduler decides: the chosen unit keeps the core, and a core that is leaving keeps none.
@@ -188,13 +195,16 @@ pub fn choose(
     affinity: &[Option<Pins>],
     ask: &Ask,
 ) -> Decided
-    requires core { ask.now.core < 64 }
+    requires core { ask.now.core.0 < 64 }
     requires few { length kept.old ≤ 64 }
-    ensures decided { Tells result (choose_null ask.now (scheduler_of queue.now affinity.now (NullPool kept.old)) kept.old) }
-    ensures records { NullPool kept.new ≡ (choose_null ask.now (scheduler_of queue.now affinity.now (NullPool kept.old)) kept.old).records }
+    ensures decided { Tells result (null_decision ask.now
+        (scheduler_of queue.now affinity.now (NullPool kept.old)) kept.old) }
+    ensures records { NullPool kept.new ≡
+        (null_decision ask.now (scheduler_of queue.now affinity.now (NullPool kept.old))
+        kept.old).records }
 {
     let chosen = if ask.leaving {
-        set_place(kept, ask.core, None);
+        set_place(kept, ask.core.0, None);
         None
     } else {
         choice(kept.as_slice(), queue, affinity, ask)

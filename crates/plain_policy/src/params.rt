@@ -1,8 +1,9 @@
 //! The parameters of pools and domains, and the domains that join and part.
 
+ghost use Rattle.sched_model.specs.Checked.{most_span};
 ghost use Rattle.std.specs.Prelude.{◌≡◌, ◌≤◌};
 ghost use Rattle.sched_model.specs.Places.{change_at};
-ghost use Rattle.sched_model.specs.Policy.{default_pool_params as default_pool_params_spec, default_dom_params as default_dom_params_spec, pinned, joined_records, join as join_spec, parted_records, part as part_spec, set_params as set_params_spec};
+ghost use Rattle.sched_model.specs.Policy.{default_pool_params as default_pool_params_spec, default_dom_params as default_dom_params_spec, pinned_cores, joined_records, join as join_spec, parted_records, part as part_spec, set_params as set_params_spec};
 ghost use Rattle.plain_units.specs.Fits.{RecordsFit};
 ghost use Rattle.plain_policy.specs.Parameters.{ParamsFit, ChangeFits};
 
@@ -10,7 +11,7 @@ use crate::null::release_domain;
 use crate::places::{copies, set_place};
 use crate::rtds;
 use plain_credit2::credit2;
-use sched_base::{Cores, Span};
+use sched_base::{Cores, DomId, Moment, Span};
 use sched_model::config::{DomParams, ParamChange, Pins, PoolParams, SchedKind};
 use sched_model::row::Row;
 use sched_model::state::{Records, Scheduler};
@@ -48,16 +49,16 @@ pub fn default_dom_params(records: &Records) -> DomParams
 
 /// The records with those of a domain that joins at t, with so many units. A scheduler keeps its records where it is given
 /// parameters of another one.
-fn join_records(d: u8, count: u8, params: &DomParams, t: u64, records: &mut Records)
+fn join_records(d: DomId, count: u8, params: &DomParams, t: Moment, records: &mut Records)
     requires count { count ≤ 32 }
     requires params { ParamsFit params.now }
-    requires early { t ≤ 10000000000000 }
-    ensures { records.new ≡ joined_records records.old params.now d count t }
+    requires early { t.0 ≤ most_span }
+    ensures { records.new ≡ joined_records records.old params.now d.0 count t.0 }
 {
     match (records, *params) {
         (Records::Credit2Pool(records), DomParams::Credit2 { weight, cap }) => {
             let domain = credit2::fresh_domain(weight, cap, count, t);
-            set_place(&mut records.domains, d, Some(domain));
+            set_place(&mut records.domains, d.0, Some(domain));
         }
         (
             Records::RtdsPool(domains),
@@ -68,47 +69,48 @@ fn join_records(d: u8, count: u8, params: &DomParams, t: u64, records: &mut Reco
             },
         ) => {
             let units = rtds::fresh_units(period, budget, extra, count, t);
-            set_place(domains, d, Some(units));
+            set_place(domains, d.0, Some(units));
         }
         _ => {}
     }
 }
 
 /// The domain, with so many units, joins at t. Its units may have all cores.
-pub fn join(d: u8, count: u8, params: &DomParams, t: u64, scheduler: &mut Scheduler)
+pub fn join(d: DomId, count: u8, params: &DomParams, t: Moment, scheduler: &mut Scheduler)
     requires count { count ≤ 32 }
     requires params { ParamsFit params.now }
-    requires early { t ≤ 10000000000000 }
-    ensures { scheduler.new ≡ join_spec d count params.now t scheduler.old }
+    requires early { t.0 ≤ most_span }
+    ensures { scheduler.new ≡ join_spec d.0 count params.now t.0 scheduler.old }
 {
     let sets = copies(Cores(u64::MAX), count);
-    set_place(&mut scheduler.affinity, d, Some(sets));
+    set_place(&mut scheduler.affinity, d.0, Some(sets));
     join_records(d, count, params, t, &mut scheduler.records);
 }
 
 /// The records without the domain.
-fn part_records(d: u8, records: &mut Records)
-    ensures { records.new ≡ parted_records records.old d }
+fn part_records(d: DomId, records: &mut Records)
+    ensures { records.new ≡ parted_records records.old d.0 }
 {
     match records {
-        Records::Credit2Pool(records) => set_place(&mut records.domains, d, None),
-        Records::RtdsPool(domains) => set_place(domains, d, None),
+        Records::Credit2Pool(records) => set_place(&mut records.domains, d.0, None),
+        Records::RtdsPool(domains) => set_place(domains, d.0, None),
         Records::ArincPool(_) => {}
         Records::NullPool(kept) => release_domain(d, kept),
     }
 }
 
 /// The domain parts.
-pub fn part(d: u8, scheduler: &mut Scheduler)
-    ensures { scheduler.new ≡ part_spec d scheduler.old }
+pub fn part(d: DomId, scheduler: &mut Scheduler)
+    ensures { scheduler.new ≡ part_spec d.0 scheduler.old }
 {
-    set_place(&mut scheduler.affinity, d, None);
+    set_place(&mut scheduler.affinity, d.0, None);
     part_records(d, &mut scheduler.records);
 }
 
 /// The set of cores of one of the units, or of all of them.
+#[tactic(auto, using(plain_units::proofs::Places::past_the_end))]
 fn pin_units(unit: Option<u8>, cores: Cores, units: &mut Pins)
-    ensures { units.new ≡ pinned unit cores units.old }
+    ensures { units.new ≡ pinned_cores unit cores units.old }
 {
     match unit {
         None => *units = copies(cores, units.len() as u8),
@@ -121,30 +123,29 @@ fn pin_units(unit: Option<u8>, cores: Cores, units: &mut Pins)
 }
 
 /// The set of cores of one of the domain's units, or of all of them.
-pub fn pin(d: u8, unit: Option<u8>, cores: Cores, affinity: &mut Row<Option<Pins>>)
-    ensures { affinity.new ≡ change_at d (pinned unit cores) affinity.old }
+pub fn pin(d: DomId, unit: Option<u8>, cores: Cores, affinity: &mut Row<Option<Pins>>)
+    ensures { affinity.new ≡ change_at d.0 (pinned_cores unit cores) affinity.old }
 {
-    let place = d as usize;
-    if place < affinity.len() {
-        if let Some(units) = affinity.item_mut(place) {
-            pin_units(unit, cores, units);
-        }
+    if let Some(place) = affinity.get_mut(d.0 as usize)
+        && let Some(units) = place
+    {
+        pin_units(unit, cores, units);
     }
 }
 
 /// The parameters change at t. A change for another scheduler changes nothing.
-pub fn set_params(change: ParamChange, t: u64, scheduler: &mut Scheduler)
+pub fn set_params(change: ParamChange, t: Moment, scheduler: &mut Scheduler)
     requires change { ChangeFits change }
-    requires records { RecordsFit t scheduler.old.records }
-    requires early { t ≤ 10000000000000 }
-    ensures { scheduler.new ≡ set_params_spec change t scheduler.old }
+    requires records { RecordsFit t.0 scheduler.old.records }
+    requires early { t.0 ≤ most_span }
+    ensures { scheduler.new ≡ set_params_spec change t.0 scheduler.old }
 {
     match (change, &mut scheduler.records) {
         (ParamChange::Pin { dom, unit, cores }, _) => {
-            pin(dom.0, unit, cores, &mut scheduler.affinity);
+            pin(dom, unit, cores, &mut scheduler.affinity);
         }
         (ParamChange::Dom { dom, weight, cap }, Records::Credit2Pool(records)) => {
-            credit2::set_domain(t, dom.0, weight, cap, records);
+            credit2::set_domain(t, dom, weight, cap, records);
         }
         (ParamChange::Rate { limit }, Records::Credit2Pool(records)) => records.limit = limit,
         (
@@ -158,7 +159,7 @@ pub fn set_params(change: ParamChange, t: u64, scheduler: &mut Scheduler)
         ) => rtds::set_next(unit, period, budget, extra, domains),
         (ParamChange::Frame { frame }, Records::ArincPool(records)) => {
             records.frame = Some(frame);
-            records.installed = t;
+            records.installed = t.0;
         }
         _ => {}
     }

@@ -1,5 +1,6 @@
 //! What a scheduler decides for its pool, by a scan of the waiting units.
 
+ghost use Rattle.sched_model.specs.Checked.{most_span};
 ghost use Rattle.std.specs.Prelude.{◌≡◌, ◌<◌, ◌≤◌, ◌&&◌};
 ghost use Rattle.std.specs.List.{list_any};
 ghost use Rattle.sched_model.specs.Eligible.{passes as passes_spec, is_eligible as is_eligible_spec};
@@ -13,17 +14,17 @@ use plain_credit2::credit2;
 use plain_units::decided::Decided;
 use plain_units::eligible::is_allowed;
 use plain_units::units::{drop_unit, is_same};
-use sched_base::UnitId;
+use sched_base::{Cores, DomId, Moment, ResId, UnitId};
 use sched_model::ask::Ask;
 use sched_model::config::Pins;
 use sched_model::state::{Records, Scheduler};
 
 /// Whether the scheduler's own rule lets the unit have a core at t.
-fn passes(scheduler: &Scheduler, home: u64, core: u8, t: u64, u: UnitId) -> bool
-    requires records { RecordsFit t scheduler.now.records }
-    requires early { t ≤ 10000000000000 }
-    requires core { core < 64 }
-    ensures { result ≡ passes_spec scheduler.now.records scheduler.now home core t u }
+fn passes(scheduler: &Scheduler, home: Cores, core: ResId, t: Moment, u: UnitId) -> bool
+    requires records { RecordsFit t.0 scheduler.now.records }
+    requires early { t.0 ≤ most_span }
+    requires core { core.0 < 64 }
+    ensures { result ≡ passes_spec scheduler.now.records scheduler.now home.0 core.0 t.0 u }
 {
     match &scheduler.records {
         Records::Credit2Pool(records) => credit2::passes(records, u),
@@ -42,20 +43,20 @@ fn passes(scheduler: &Scheduler, home: u64, core: u8, t: u64, u: UnitId) -> bool
 }
 
 /// Whether a waiting unit is eligible for the core.
-fn is_eligible(scheduler: &Scheduler, home: u64, core: u8, t: u64, u: UnitId) -> bool
-    requires records { RecordsFit t scheduler.now.records }
-    requires early { t ≤ 10000000000000 }
-    requires core { core < 64 }
-    ensures { result ≡ is_eligible_spec scheduler.now home core t u }
+fn is_eligible(scheduler: &Scheduler, home: Cores, core: ResId, t: Moment, u: UnitId) -> bool
+    requires records { RecordsFit t.0 scheduler.now.records }
+    requires early { t.0 ≤ most_span }
+    requires core { core.0 < 64 }
+    ensures { result ≡ is_eligible_spec scheduler.now home.0 core.0 t.0 u }
 {
     is_allowed(scheduler.affinity.as_slice(), home, core, u) && passes(scheduler, home, core, t, u)
 }
 
 /// Whether the unit is better than the core's own.
-fn is_better(scheduler: &Scheduler, cur: UnitId, since: u64, t: u64, u: UnitId) -> bool
-    requires records { RecordsFit t scheduler.now.records }
-    requires early { t ≤ 10000000000000 }
-    ensures { result ≡ is_better_spec scheduler.now.records cur since t u }
+fn is_better(scheduler: &Scheduler, cur: UnitId, since: Moment, t: Moment, u: UnitId) -> bool
+    requires records { RecordsFit t.0 scheduler.now.records }
+    requires early { t.0 ≤ most_span }
+    ensures { result ≡ is_better_spec scheduler.now.records cur since.0 t.0 u }
 {
     match &scheduler.records {
         Records::Credit2Pool(records) => credit2::is_better(records, cur, since, t, u),
@@ -66,11 +67,12 @@ fn is_better(scheduler: &Scheduler, cur: UnitId, since: u64, t: u64, u: UnitId) 
 }
 
 /// Whether some unit waits that is eligible for the core.
-fn some_waits(scheduler: &Scheduler, home: u64, core: u8, t: u64) -> bool
-    requires records { RecordsFit t scheduler.now.records }
-    requires early { t ≤ 10000000000000 }
-    requires core { core < 64 }
-    ensures { result ≡ list_any (is_eligible_spec scheduler.now home core t) scheduler.now.queue }
+fn some_waits(scheduler: &Scheduler, home: Cores, core: ResId, t: Moment) -> bool
+    requires records { RecordsFit t.0 scheduler.now.records }
+    requires early { t.0 ≤ most_span }
+    requires core { core.0 < 64 }
+    ensures { result ≡ list_any (is_eligible_spec scheduler.now home.0 core.0 t.0)
+        scheduler.now.queue }
 {
     let waiting = scheduler.queue.as_slice();
     waiting
@@ -82,15 +84,16 @@ fn some_waits(scheduler: &Scheduler, home: u64, core: u8, t: u64) -> bool
 fn some_better_waits(
     scheduler: &Scheduler,
     own: UnitId,
-    since: u64,
-    t: u64,
-    core: u8,
-    home: u64,
+    since: Moment,
+    t: Moment,
+    core: ResId,
+    home: Cores,
 ) -> bool
-    requires records { RecordsFit t scheduler.now.records }
-    requires early { t ≤ 10000000000000 }
-    requires core { core < 64 }
-    ensures { result ≡ list_any (λ u. is_eligible_spec scheduler.now home core t u && is_better_spec scheduler.now.records own since t u) scheduler.now.queue }
+    requires records { RecordsFit t.0 scheduler.now.records }
+    requires early { t.0 ≤ most_span }
+    requires core { core.0 < 64 }
+    ensures { result ≡ list_any (λ u. is_eligible_spec scheduler.now home.0 core.0 t.0 u
+        && is_better_spec scheduler.now.records own since.0 t.0 u) scheduler.now.queue }
 {
     let waiting = scheduler.queue.as_slice();
     waiting.iter().any(|u| {
@@ -101,16 +104,16 @@ fn some_better_waits(
 /// Whether the core is to decide anew: a unit waits for it while it has none, or its own is not allowed, or a better one waits.
 pub fn better_waits(
     cur: Option<UnitId>,
-    since: u64,
-    t: u64,
-    core: u8,
-    home: u64,
+    since: Moment,
+    t: Moment,
+    core: ResId,
+    home: Cores,
     scheduler: &Scheduler,
 ) -> bool
-    requires records { RecordsFit t scheduler.now.records }
-    requires early { t ≤ 10000000000000 }
-    requires core { core < 64 }
-    ensures { result ≡ better_waits_spec cur since t core home scheduler.now }
+    requires records { RecordsFit t.0 scheduler.now.records }
+    requires early { t.0 ≤ most_span }
+    requires core { core.0 < 64 }
+    ensures { result ≡ better_waits_spec cur since.0 t.0 core.0 home.0 scheduler.now }
 {
     match cur {
         None => some_waits(scheduler, home, core, t),
@@ -128,11 +131,13 @@ fn decide_by(
     records: &mut Records,
     ask: &Ask,
 ) -> Decided
-    requires records { RecordsFit ask.now.at records.old }
-    requires early { ask.now.at ≤ 10000000000000 }
-    requires core { ask.now.core < 64 }
-    ensures decided { Tells result (decision_by records.old ask.now (scheduler_of queue.now affinity.now records.old)) }
-    ensures records { records.new ≡ (decision_by records.old ask.now (scheduler_of queue.now affinity.now records.old)).records }
+    requires records { RecordsFit ask.now.at.0 records.old }
+    requires early { ask.now.at.0 ≤ most_span }
+    requires core { ask.now.core.0 < 64 }
+    ensures decided { Tells result (decision_by records.old ask.now
+        (scheduler_of queue.now affinity.now records.old)) }
+    ensures records { records.new ≡ (decision_by records.old ask.now
+        (scheduler_of queue.now affinity.now records.old)).records }
 {
     match records {
         Records::Credit2Pool(records) => credit2::choose(records, queue, affinity, ask),
@@ -144,11 +149,12 @@ fn decide_by(
 
 /// The scheduler decides for a core; the chosen unit leaves the queue.
 pub fn decide(scheduler: &mut Scheduler, ask: &Ask) -> Decided
-    requires records { RecordsFit ask.now.at scheduler.old.records }
-    requires early { ask.now.at ≤ 10000000000000 }
-    requires core { ask.now.core < 64 }
+    requires records { RecordsFit ask.now.at.0 scheduler.old.records }
+    requires early { ask.now.at.0 ≤ most_span }
+    requires core { ask.now.core.0 < 64 }
     ensures decided { Tells result (decision_of ask.now scheduler.old) }
-    ensures scheduler { scheduler.new ≡ after_decision (decision_of ask.now scheduler.old) scheduler.old }
+    ensures scheduler { scheduler.new ≡ after_decision (decision_of ask.now scheduler.old)
+        scheduler.old }
 {
     let decided = decide_by(
         scheduler.queue.as_slice(),
@@ -163,10 +169,10 @@ pub fn decide(scheduler: &mut Scheduler, ask: &Ask) -> Decided
 }
 
 /// The unit is replenished at t.
-pub fn replenish(records: &mut Records, t: u64, u: UnitId)
-    requires records { RecordsFit t records.old }
-    requires early { t ≤ 10000000000000 }
-    ensures { records.new ≡ replenish_spec records.old t u }
+pub fn replenish(records: &mut Records, t: Moment, u: UnitId)
+    requires records { RecordsFit t.0 records.old }
+    requires early { t.0 ≤ most_span }
+    ensures { records.new ≡ replenish_spec records.old t.0 u }
 {
     match records {
         Records::RtdsPool(domains) => rtds::replenish(t, u, domains),
@@ -175,10 +181,10 @@ pub fn replenish(records: &mut Records, t: u64, u: UnitId)
 }
 
 /// The domain is refilled at t.
-pub fn refill(records: &mut Records, t: u64, d: u8)
-    requires records { RecordsFit t records.old }
-    requires early { t ≤ 10000000000000 }
-    ensures { records.new ≡ refill_spec records.old t d }
+pub fn refill(records: &mut Records, t: Moment, d: DomId)
+    requires records { RecordsFit t.0 records.old }
+    requires early { t.0 ≤ most_span }
+    ensures { records.new ≡ refill_spec records.old t.0 d.0 }
 {
     match records {
         Records::Credit2Pool(records) => credit2::refill(t, d, records),

@@ -3,7 +3,7 @@
 ghost use Rattle.std.specs.Prelude.{◌≡◌, ◌<◌, length};
 ghost use Rattle.sched_model.specs.Policy.{enqueue as enqueue_spec, dequeue_domain as dequeue_domain_spec};
 
-use sched_base::UnitId;
+use sched_base::{DomId, UnitId};
 use sched_model::short::Short;
 use sched_model::state::Scheduler;
 
@@ -16,12 +16,12 @@ pub fn enqueue(u: UnitId, scheduler: &mut Scheduler)
 }
 
 /// The domain's units are taken out of the queue.
-pub fn dequeue_domain(d: u8, scheduler: &mut Scheduler)
-    ensures { scheduler.new ≡ dequeue_domain_spec d scheduler.old }
+pub fn dequeue_domain(d: DomId, scheduler: &mut Scheduler)
+    ensures { scheduler.new ≡ dequeue_domain_spec d.0 scheduler.old }
 {
     let mut kept = Short::new();
     for u in scheduler.queue.as_slice() {
-        if u.dom.0 != d {
+        if u.dom.0 != d.0 {
             kept.push(*u);
         }
     }

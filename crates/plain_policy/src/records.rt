@@ -7,7 +7,7 @@ ghost use Rattle.sched_model.specs.Machine.{is_null as is_null_spec};
 
 use crate::rtds::rtds_unit;
 use plain_credit2::running::domain_at;
-use sched_base::{Moment, UnitId};
+use sched_base::{DomId, Moment, UnitId};
 use sched_model::config::SchedKind;
 use sched_model::state::{Credit2Domain, Records, RtdsUnit};
 
@@ -54,8 +54,8 @@ pub fn rtds_record(records: &Records, u: UnitId) -> Option<&RtdsUnit>
 }
 
 /// The domain's Credit2 record.
-pub fn credit2_record(records: &Records, d: u8) -> Option<&Credit2Domain>
-    ensures { option_copied result ≡ credit2_record_spec records.now d }
+pub fn credit2_record(records: &Records, d: DomId) -> Option<&Credit2Domain>
+    ensures { option_copied result ≡ credit2_record_spec records.now d.0 }
 {
     match records {
         Records::Credit2Pool(records) => domain_at(records.domains.as_slice(), d),
@@ -64,18 +64,18 @@ pub fn credit2_record(records: &Records, d: u8) -> Option<&Credit2Domain>
 }
 
 /// Whether the unit's deadline has come at t.
-pub fn replenish_due(records: &Records, t: u64, u: UnitId) -> bool
-    ensures { result ≡ replenish_due_spec records.now t u }
+pub fn replenish_due(records: &Records, t: Moment, u: UnitId) -> bool
+    ensures { result ≡ replenish_due_spec records.now t.0 u }
 {
     match rtds_record(records, u) {
         None => false,
-        Some(unit) => unit.deadline <= t,
+        Some(unit) => unit.deadline <= t.0,
     }
 }
 
 /// The moment of the domain's next refill.
-pub fn next_refill(records: &Records, d: u8) -> Option<Moment>
-    ensures { result ≡ next_refill_spec records.now d }
+pub fn next_refill(records: &Records, d: DomId) -> Option<Moment>
+    ensures { result ≡ next_refill_spec records.now d.0 }
 {
     match credit2_record(records, d) {
         None => None,

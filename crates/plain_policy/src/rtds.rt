@@ -1,13 +1,14 @@
 //! RTDS: the unit with the least level, and of those the least deadline, runs as long as its budget lasts.
 
+ghost use Rattle.sched_model.specs.Checked.{most_span};
 ghost use Rattle.std.specs.Prelude.{◌≡◌, ◌+◌, ◌<◌, ◌≤◌, ◌^◌, [], ◌∷◌, Some};
 ghost use Rattle.std.specs.Option.{option_copied};
 ghost use Rattle.sched_base.specs.declared.UnitId.{UnitId as UnitName};
 ghost use Rattle.sched_model.specs.declared.state.RtdsUnit.{RtdsUnit as RtdsRecord};
 ghost use Rattle.sched_model.specs.declared.state.Records.TheVariants.{RtdsPool};
 ghost use Rattle.sched_model.specs.Places.{at_place, change_item};
-ghost use Rattle.sched_model.specs.Eligible.{rtds_unit as rtds_unit_spec, passes as passes_spec, eligible};
-ghost use Rattle.sched_model.specs.Rtds.{burn as burn_spec, burn_to as burn_to_spec, replenish as replenish_spec, change_unit, is_before as is_before_spec, unit_before as unit_before_spec, foremost as foremost_spec, budget_left as budget_left_spec, own_candidate as own_candidate_spec, burn_cur as burn_cur_spec, set_running as set_running_spec, choice as choice_spec, decide as decide_spec, choose_rt, fresh_units as fresh_units_spec};
+ghost use Rattle.sched_model.specs.Eligible.{rtds_unit as rtds_unit_spec, passes as passes_spec, eligible_units};
+ghost use Rattle.sched_model.specs.Rtds.{burn as burn_spec, burn_to as burn_to_spec, replenish as replenish_spec, change_unit, is_before as is_before_spec, unit_before as unit_before_spec, foremost_unit as foremost_spec, budget_left as budget_left_spec, own_candidate as own_candidate_spec, burn_cur as burn_cur_spec, set_running as set_running_spec, choice as choice_spec, decide as decide_spec, rtds_decision, fresh_units as fresh_units_spec};
 ghost use Rattle.sched_ranges.specs.Ranges.{RtdsInRange};
 ghost use Rattle.plain_units.specs.Fits.{RtdsFits};
 ghost use Rattle.plain_units.specs.Tells.{Tells};
@@ -16,17 +17,17 @@ ghost use Rattle.plain_policy.specs.Parts.{scheduler_of};
 use crate::places::copies;
 use plain_units::decided::Decided;
 use plain_units::eligible::is_allowed;
-use sched_base::{Moment, Span, UnitId};
+use sched_base::{DomId, Moment, Span, UnitId};
 use sched_model::ask::Ask;
 use sched_model::config::Pins;
 use sched_model::row::Row;
 use sched_model::state::{RtdsUnit, RtdsUnits};
 
 /// The records of the domain's units.
-fn units_of(domains: &[Option<RtdsUnits>], d: u8) -> Option<&RtdsUnits>
-    ensures { option_copied result ≡ at_place domains.now d }
+fn units_of(domains: &[Option<RtdsUnits>], d: DomId) -> Option<&RtdsUnits>
+    ensures { option_copied result ≡ at_place domains.now d.0 }
 {
-    let place = d as usize;
+    let place = d.0 as usize;
     if place < domains.len() {
         domains[place].as_ref()
     } else {
@@ -38,18 +39,18 @@ fn units_of(domains: &[Option<RtdsUnits>], d: u8) -> Option<&RtdsUnits>
 pub fn rtds_unit(domains: &[Option<RtdsUnits>], u: UnitId) -> Option<&RtdsUnit>
     ensures { option_copied result ≡ rtds_unit_spec domains.now u }
 {
-    match units_of(domains, u.dom.0) {
+    match units_of(domains, u.dom) {
         None => None,
         Some(units) => units.as_slice().get(u.n as usize),
     }
 }
 
 /// The records of the units of a domain that joins at t.
-pub fn fresh_units(period: Span, budget: Span, extra: bool, count: u8, t: u64) -> RtdsUnits
+pub fn fresh_units(period: Span, budget: Span, extra: bool, count: u8, t: Moment) -> RtdsUnits
     requires count { count ≤ 32 }
     requires period { period.0 ≤ 1000000000000 }
-    requires early { t ≤ 10000000000000 }
-    ensures { result ≡ fresh_units_spec period.0 budget.0 extra count t }
+    requires early { t.0 ≤ most_span }
+    ensures { result ≡ fresh_units_spec period.0 budget.0 extra count t.0 }
 {
     let unit = RtdsUnit {
         period: period.0,
@@ -58,7 +59,7 @@ pub fn fresh_units(period: Span, budget: Span, extra: bool, count: u8, t: u64) -
         next_period: period.0,
         next_budget: budget.0,
         next_extra: extra,
-        deadline: t + period.0,
+        deadline: t.0 + period.0,
         left: budget.0,
         level: 0,
         burned: None,
@@ -67,6 +68,7 @@ pub fn fresh_units(period: Span, budget: Span, extra: bool, count: u8, t: u64) -
 }
 
 /// The record at this place of the domain's units.
+#[tactic(auto, using(plain_units::proofs::Places::past_the_end))]
 fn put_item(n: u8, unit: RtdsUnit, units: &mut RtdsUnits)
     ensures { units.new ≡ change_item n (λ x. unit) units.old }
 {
@@ -79,11 +81,10 @@ fn put_item(n: u8, unit: RtdsUnit, units: &mut RtdsUnits)
 pub fn put_unit(u: UnitId, unit: RtdsUnit, domains: &mut Row<Option<RtdsUnits>>)
     ensures { domains.new ≡ change_unit u (λ x. unit) domains.old }
 {
-    let place = u.dom.0 as usize;
-    if place < domains.len() {
-        if let Some(units) = domains.item_mut(place) {
-            put_item(u.n, unit, units);
-        }
+    if let Some(place) = domains.get_mut(u.dom.0 as usize)
+        && let Some(units) = place
+    {
+        put_item(u.n, unit, units);
     }
 }
 
@@ -95,7 +96,12 @@ pub fn set_next(
     extra: bool,
     domains: &mut Row<Option<RtdsUnits>>,
 )
-    ensures { domains.new ≡ change_unit u (λ (x : RtdsRecord). record x { next_period = period.0; next_budget = budget.0; next_extra = extra }) domains.old }
+    ensures { domains.new ≡ change_unit u
+        (λ (x : RtdsRecord). record x {
+          next_period = period.0;
+          next_budget = budget.0;
+          next_extra = extra;
+        }) domains.old }
 {
     if let Some(x) = rtds_unit(domains.as_slice(), u) {
         let unit = RtdsUnit {
@@ -126,31 +132,31 @@ fn burn(elapsed: u64, x: RtdsUnit) -> RtdsUnit
 }
 
 /// A running unit after a charge up to t.
-pub fn burn_to(t: u64, x: RtdsUnit) -> RtdsUnit
+pub fn burn_to(t: Moment, x: RtdsUnit) -> RtdsUnit
     requires { x.level + 1 < 2 ^ 32 }
-    ensures { result ≡ burn_to_spec t x }
+    ensures { result ≡ burn_to_spec t.0 x }
 {
     match x.burned {
         None => x,
         Some(from) => {
             let running = RtdsUnit {
-                burned: Some(t),
+                burned: Some(t.0),
                 ..x
             };
-            burn(t.saturating_sub(from), running)
+            burn(t.0.saturating_sub(from), running)
         }
     }
 }
 
 /// The replenishment of a unit at t: what was set last takes force, and the new deadline is the first one after t that is whole
 /// periods after the old one.
-fn replenish_unit(t: u64, x: RtdsUnit) -> RtdsUnit
-    requires fits { RtdsInRange t x }
-    requires early { t ≤ 10000000000000 }
-    ensures { result ≡ replenish_spec t x }
+fn replenish_unit(t: Moment, x: RtdsUnit) -> RtdsUnit
+    requires fits { RtdsInRange t.0 x }
+    requires early { t.0 ≤ most_span }
+    ensures { result ≡ replenish_spec t.0 x }
 {
     let charged = burn_to(t, x);
-    let periods = t.saturating_sub(charged.deadline) / charged.next_period + 1;
+    let periods = t.0.saturating_sub(charged.deadline) / charged.next_period + 1;
     RtdsUnit {
         period: charged.next_period,
         budget: charged.next_budget,
@@ -163,10 +169,10 @@ fn replenish_unit(t: u64, x: RtdsUnit) -> RtdsUnit
 }
 
 /// The unit is replenished at t.
-pub fn replenish(t: u64, u: UnitId, domains: &mut Row<Option<RtdsUnits>>)
-    requires fits { RtdsFits t domains.old }
-    requires early { t ≤ 10000000000000 }
-    ensures { domains.new ≡ change_unit u (replenish_spec t) domains.old }
+pub fn replenish(t: Moment, u: UnitId, domains: &mut Row<Option<RtdsUnits>>)
+    requires fits { RtdsFits t.0 domains.old }
+    requires early { t.0 ≤ most_span }
+    ensures { domains.new ≡ change_unit u (replenish_spec t.0) domains.old }
 {
     if let Some(x) = rtds_unit(domains.as_slice(), u) {
         let unit = replenish_unit(t, *x);
@@ -175,10 +181,10 @@ pub fn replenish(t: u64, u: UnitId, domains: &mut Row<Option<RtdsUnits>>)
 }
 
 /// The unit is charged up to t.
-fn burn_unit(t: u64, u: UnitId, domains: &mut Row<Option<RtdsUnits>>)
-    requires fits { RtdsFits t domains.old }
-    requires early { t ≤ 10000000000000 }
-    ensures { domains.new ≡ change_unit u (burn_to_spec t) domains.old }
+fn burn_unit(t: Moment, u: UnitId, domains: &mut Row<Option<RtdsUnits>>)
+    requires fits { RtdsFits t.0 domains.old }
+    requires early { t.0 ≤ most_span }
+    ensures { domains.new ≡ change_unit u (burn_to_spec t.0) domains.old }
 {
     if let Some(x) = rtds_unit(domains.as_slice(), u) {
         let unit = burn_to(t, *x);
@@ -228,7 +234,8 @@ fn budget_left(domains: &[Option<RtdsUnits>], u: UnitId) -> u64
 
 /// Whether the unit has budget left.
 pub fn passes(domains: &[Option<RtdsUnits>], u: UnitId) -> bool
-    ensures { result ≡ passes_spec (RtdsPool domains.now) (scheduler_of [] [] (RtdsPool domains.now)) 0 0 0 u }
+    ensures { result ≡ passes_spec (RtdsPool domains.now)
+        (scheduler_of [] [] (RtdsPool domains.now)) 0 0 0 u }
 {
     budget_left(domains, u) > 0
 }
@@ -251,8 +258,10 @@ fn foremost(
     ask: &Ask,
     own: Option<UnitId>,
 ) -> Option<UnitId>
-    requires { ask.now.core < 64 }
-    ensures { result ≡ foremost_spec domains.now own (eligible (scheduler_of queue.now affinity.now (RtdsPool domains.now)) ask.now.home ask.now.core ask.now.at) }
+    requires { ask.now.core.0 < 64 }
+    ensures { result ≡ foremost_spec domains.now own
+        (eligible_units (scheduler_of queue.now affinity.now (RtdsPool domains.now)) ask.now.home.0
+        ask.now.core.0 ask.now.at.0) }
 {
     let mut best = own;
     for u in queue {
@@ -269,8 +278,9 @@ pub fn own_candidate(
     affinity: &[Option<Pins>],
     ask: &Ask,
 ) -> Option<UnitId>
-    requires { ask.now.core < 64 }
-    ensures { result ≡ own_candidate_spec ask.now (scheduler_of [] affinity.now (RtdsPool domains.now)) domains.now }
+    requires { ask.now.core.0 < 64 }
+    ensures { result ≡ own_candidate_spec ask.now
+        (scheduler_of [] affinity.now (RtdsPool domains.now)) domains.now }
 {
     let u = ask.cur?;
     if ask.runnable && is_allowed(affinity, ask.home, ask.core, u) && 0 < budget_left(domains, u) {
@@ -287,8 +297,9 @@ fn choice(
     affinity: &[Option<Pins>],
     ask: &Ask,
 ) -> Option<UnitId>
-    requires { ask.now.core < 64 }
-    ensures { result ≡ choice_spec ask.now (scheduler_of queue.now affinity.now (RtdsPool domains.now)) domains.now }
+    requires { ask.now.core.0 < 64 }
+    ensures { result ≡ choice_spec ask.now
+        (scheduler_of queue.now affinity.now (RtdsPool domains.now)) domains.now }
 {
     if ask.leaving {
         return None;
@@ -298,10 +309,10 @@ fn choice(
 }
 
 /// The core's own unit is charged up to t. No unit has more left than the longest budget then.
-fn burn_cur(cur: Option<UnitId>, t: u64, domains: &mut Row<Option<RtdsUnits>>)
-    requires fits { RtdsFits t domains.old }
-    requires early { t ≤ 10000000000000 }
-    ensures domains { domains.new ≡ burn_cur_spec cur t domains.old }
+fn burn_cur(cur: Option<UnitId>, t: Moment, domains: &mut Row<Option<RtdsUnits>>)
+    requires fits { RtdsFits t.0 domains.old }
+    requires early { t.0 ≤ most_span }
+    ensures domains { domains.new ≡ burn_cur_spec cur t.0 domains.old }
     ensures left { (u : UnitName) → budget_left_spec domains.new u ≤ 1000000000000 }
 {
     if let Some(u) = cur {
@@ -311,20 +322,20 @@ fn burn_cur(cur: Option<UnitId>, t: u64, domains: &mut Row<Option<RtdsUnits>>)
 
 /// The chosen unit runs from now on, and the core's own no more.
 fn run(chosen: Option<UnitId>, ask: &Ask, domains: &mut Row<Option<RtdsUnits>>) -> Decided
-    requires early { ask.now.at ≤ 10000000000000 }
+    requires early { ask.now.at.0 ≤ most_span }
     requires left { (u : UnitName) → budget_left_spec domains.old u ≤ 1000000000000 }
     ensures decided { Tells result (decide_spec ask.now domains.old chosen) }
     ensures records { RtdsPool domains.new ≡ (decide_spec ask.now domains.old chosen).records }
 {
     let due = match chosen {
         None => None,
-        Some(u) => Some(Moment(ask.at + budget_left(domains.as_slice(), u))),
+        Some(u) => Some(Moment(ask.at.0 + budget_left(domains.as_slice(), u))),
     };
     if let Some(u) = ask.cur {
         set_running(None, u, domains);
     }
     if let Some(u) = chosen {
-        set_running(Some(ask.at), u, domains);
+        set_running(Some(ask.at.0), u, domains);
     }
     Decided {
         unit: chosen,
@@ -340,11 +351,14 @@ pub fn choose(
     affinity: &[Option<Pins>],
     ask: &Ask,
 ) -> Decided
-    requires fits { RtdsFits ask.now.at domains.old }
-    requires early { ask.now.at ≤ 10000000000000 }
-    requires core { ask.now.core < 64 }
-    ensures decided { Tells result (choose_rt ask.now (scheduler_of queue.now affinity.now (RtdsPool domains.old)) domains.old) }
-    ensures records { RtdsPool domains.new ≡ (choose_rt ask.now (scheduler_of queue.now affinity.now (RtdsPool domains.old)) domains.old).records }
+    requires fits { RtdsFits ask.now.at.0 domains.old }
+    requires early { ask.now.at.0 ≤ most_span }
+    requires core { ask.now.core.0 < 64 }
+    ensures decided { Tells result (rtds_decision ask.now
+        (scheduler_of queue.now affinity.now (RtdsPool domains.old)) domains.old) }
+    ensures records { RtdsPool domains.new
+        ≡ (rtds_decision ask.now (scheduler_of queue.now affinity.now (RtdsPool domains.old))
+        domains.old).records }
 {
     burn_cur(ask.cur, ask.at, domains);
     let chosen = choice(domains.as_slice(), queue, affinity, ask);

@@ -9,9 +9,9 @@ use Rattle.sched_model.specs.declared.state.Pool.{Pool}
 use Rattle.sched_model.specs.declared.state.Resource.{Resource}
 use Rattle.sched_model.specs.Pool.{vcpu_for}
 use Rattle.sched_model.specs.declared.state.Domain.{Domain}
-use Rattle.sched_model.specs.Places.{at_place, first_place, is_unit}
+use Rattle.sched_model.specs.Places.{at_place, first_place, is_unit, AllPlaces}
 use Rattle.sched_laws.proofs.EachPlace.{found_at}
-use Rattle.plain_pool.specs.Fits.{AllPlaces, DomainFits, VcpuFits, vcpu_among}
+use Rattle.plain_pool.specs.Fits.{DomainFits, VcpuFits, vcpu_among}
 
 -- what stands at a place has the property
 pub at_place-fits : {X : Type 0} (P : X → Type 0) (places : List (Option X)) (i : ℕ) (x : X) → AllPlaces P places → at_place places i ≡ Some x → P x
@@ -73,12 +73,6 @@ pub at_place-past : {X : Type 0} (places : List (Option X)) (i : ℕ) → length
 at_place-past [] i past = refl
 at_place-past (y ∷ places) zero past = absurd (omega arith)
 at_place-past (y ∷ places) (suc i) past = at_place-past places i (omega arith)
-
--- an item that was read at a place inside has the property
-pub item-fits : {X : Type 0} (P : X → Type 0) (xs : List X) (i : ℕ) (x : X) → AllByRecursion P xs → i < length xs → x ≡ slice_index_or xs i x → P x
-item-fits P [] i x all inside is = absurd (omega arith)
-item-fits {X} P (y ∷ xs) zero x all inside is = subst P (sym is) all.0
-item-fits P (y ∷ xs) (suc i) x all inside is = item-fits P xs i x all.1 (omega arith) is
 
 -- what was read at a place inside has the property
 pub place-fits : {X : Type 0} (P : X → Type 0) (places : List (Option X)) (i : ℕ) (x : X) → AllPlaces P places → i < length places → Some x ≡ slice_index_or places i (Some x) → P x

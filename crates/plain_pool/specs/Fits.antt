@@ -1,4 +1,5 @@
 -- The numbers of a pool are in range.
+use Rattle.sched_model.specs.Checked.{most_span}
 use Rattle.std.specs.Prelude.{◌≤◌, ◌<◌, List, [], ◌∷◌, Option, Some, None, slice_get, length}
 use Rattle.std.specs.Option.{ForSome}
 use Rattle.std.specs.List.{All, AllByRecursion}
@@ -8,7 +9,7 @@ use Rattle.sched_base.specs.declared.Span.{Span}
 use Rattle.sched_model.specs.declared.state.Vcpu.{Vcpu}
 use Rattle.sched_model.specs.declared.state.Domain.{Domain}
 use Rattle.sched_model.specs.declared.state.Pool.{Pool}
-use Rattle.sched_model.specs.Places.{at_place}
+use Rattle.sched_model.specs.Places.{at_place, AllPlaces}
 
 -- the vCPU, where these are the domains
 abbrev pub vcpu_among : List (Option Domain) → VcpuId → Option Vcpu
@@ -17,21 +18,15 @@ vcpu_among domains v = elim (at_place domains v.dom.0) [ None ↦ None | Some d 
 -- the spans of its script, the moment from which its work is counted and the work left are at most 10^13 nanoseconds, and its place is
 -- one of at most 64
 pub record VcpuFits (v : Vcpu) : Type 0 where
-  pub spans : All (λ (s : Span). s.0 ≤ 10000000000000) v.script
+  pub spans : All (λ (s : Span). s.0 ≤ most_span) v.script
   pub place : v.place < 64
-  pub started : ForSome v.started (λ (from : Moment). from.0 ≤ 10000000000000)
-  pub work_left : ForSome v.work_left (λ (work : Span). work.0 ≤ 10000000000000)
+  pub started : ForSome v.started (λ (from : Moment). from.0 ≤ most_span)
+  pub work_left : ForSome v.work_left (λ (work : Span). work.0 ≤ most_span)
 
 -- a domain has at most 32 vCPUs, and each of them does
 pub record DomainFits (domain : Domain) : Type 0 where
   pub few : length domain.vcpus ≤ 32
   pub vcpus : AllByRecursion VcpuFits domain.vcpus
-
--- whatever stands at a place has the property
-abbrev pub AllPlaces : {X : Type 0} → (X → Type 0) → List (Option X) → Type 0
-AllPlaces P [] = Unit {0}
-AllPlaces P (None ∷ places) = AllPlaces P places
-AllPlaces P (Some x ∷ places) = P x × AllPlaces P places
 
 -- the pool has places for at most 64 cores and 64 domains, and its domains fit
 pub record PoolFits (pool : Pool) : Type 0 where

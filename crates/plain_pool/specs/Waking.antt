@@ -10,8 +10,8 @@ abbrev pub idles_at : ℕ → Pool → ℕ → Bool
 idles_at g pool p = elim (processor_of g pool p) [ None ↦ false | Some q ↦ is_idle q ]
 
 -- the pool after a vCPU that is awake has found its place: its unit waits, where it was off, and else its processor runs it
-abbrev pub placed : ℕ → ℕ → VcpuId → Pool → Pool
-placed g t v pool =
+abbrev pub after_placing : ℕ → ℕ → VcpuId → Pool → Pool
+after_placing g t v pool =
     elim (is_runnable g pool (unit_of g v)) [
       | false ↦ pool
       | true ↦ (if is_off pool (unit_of g v) then queue_unit (unit_of g v) pool else joined_siblings g t v pool)

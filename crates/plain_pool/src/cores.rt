@@ -4,12 +4,12 @@ ghost use Rattle.std.specs.Prelude.{◌≡◌, ℕ, ◌+◌, ◌<◌, ◌≤◌,
 ghost use Rattle.std.specs.List.{list_any, list_all};
 ghost use Rattle.std.specs.Option.{option_copied};
 ghost use Rattle.sched_model.specs.declared.state.Resource.{Resource as ResourceRecord};
-ghost use Rattle.sched_model.specs.Places.{at_place, first_place, numbered, is_unit};
+ghost use Rattle.sched_model.specs.Places.{at_place, first_place, numbered_items, is_unit};
 ghost use Rattle.sched_model.specs.Pool.{cores_from, is_held as is_held_spec, is_idle as is_idle_spec, is_of_domain as is_of_domain_spec, is_open as is_open_spec, first_up as first_up_spec};
 ghost use Rattle.sched_model.specs.State.{is_up as is_up_spec, has_come as has_come_spec};
 
 use plain_units::units::{is_of_domain, is_there};
-use sched_base::{Moment, UnitId};
+use sched_base::{DomId, Moment, UnitId};
 use sched_model::state::{Doing, Processor, Resource, Stage};
 
 /// The set of the cores that are there.
@@ -27,20 +27,20 @@ pub fn home_cores(cores: &[Option<Resource>]) -> u64
 }
 
 /// Whether the moment has come at t.
-pub fn has_come(t: u64, moment: Option<Moment>) -> bool
-    ensures { result ≡ has_come_spec t moment }
+pub fn has_come(t: Moment, moment: Option<Moment>) -> bool
+    ensures { result ≡ has_come_spec t.0 moment }
 {
     match moment {
         None => false,
-        Some(m) => m.0 <= t,
+        Some(m) => m.0 <= t.0,
     }
 }
 
 /// Whether the processor is not stalled at t.
-pub fn is_up(t: u64, p: &Processor) -> bool
-    ensures { result ≡ is_up_spec t p.now }
+pub fn is_up(t: Moment, p: &Processor) -> bool
+    ensures { result ≡ is_up_spec t.0 p.now }
 {
-    p.stall_end.0 <= t
+    p.stall_end.0 <= t.0
 }
 
 /// Whether the processor waits for its siblings.
@@ -74,8 +74,8 @@ pub fn is_open(c: &Resource) -> bool
 }
 
 /// Whether the core's first processor is up at t.
-pub fn first_up(t: u64, c: &Resource) -> bool
-    ensures { result ≡ first_up_spec t c.now }
+pub fn first_up(t: Moment, c: &Resource) -> bool
+    ensures { result ≡ first_up_spec t.0 c.now }
 {
     match c.processors.as_slice() {
         [] => false,
@@ -149,7 +149,8 @@ pub fn core_of(cores: &[Option<Resource>], u: UnitId) -> Option<usize>
 /// Whether the unit is cur or saving of one of the cores, where the first of these has the number r.
 pub fn is_on_core(r: usize, cores: &[Option<Resource>], u: UnitId) -> bool
     requires { r + length cores.now < 2 ^ 64 }
-    ensures { result ≡ list_any (λ (e : ℕ × ResourceRecord). is_unit e.1.cur u || is_unit e.1.saving u) (numbered r cores.now) }
+    ensures { result ≡ list_any (λ (e : ℕ × ResourceRecord). is_unit e.1.cur u
+        || is_unit e.1.saving u) (numbered_items r cores.now) }
 {
     match cores {
         [] => false,
@@ -161,9 +162,10 @@ pub fn is_on_core(r: usize, cores: &[Option<Resource>], u: UnitId) -> bool
 }
 
 /// Whether some unit of the domain is cur or saving of one of the cores, where the first of these has the number r.
-pub fn has_domain(r: usize, cores: &[Option<Resource>], d: u8) -> bool
+pub fn has_domain(r: usize, cores: &[Option<Resource>], d: DomId) -> bool
     requires { r + length cores.now < 2 ^ 64 }
-    ensures { result ≡ list_any (λ (e : ℕ × ResourceRecord). is_of_domain_spec d e.1.cur || is_of_domain_spec d e.1.saving) (numbered r cores.now) }
+    ensures { result ≡ list_any (λ (e : ℕ × ResourceRecord). is_of_domain_spec d.0 e.1.cur
+        || is_of_domain_spec d.0 e.1.saving) (numbered_items r cores.now) }
 {
     match cores {
         [] => false,

@@ -1,5 +1,6 @@
 //! A core decides. g is the number of a core's processors, t the moment.
 
+ghost use Rattle.sched_model.specs.Checked.{most_span};
 ghost use Rattle.std.specs.Prelude.{◌≡◌, ◌≤◌, ◌<◌, length, IsTrue, false, None, Some};
 ghost use Rattle.std.specs.Option.{option_copied};
 ghost use Rattle.sched_base.specs.Numbers.{span};
@@ -15,16 +16,16 @@ use crate::runnable::is_runnable;
 use plain_policy::policy::decide as decide_by_policy;
 use plain_units::decided::Decided;
 use plain_units::units::is_same_choice;
-use sched_base::{Moment, ResId, Span};
+use sched_base::{Cores, Moment, ResId, Span};
 use sched_model::ask::Ask;
 use sched_model::event::Event;
 use sched_model::row::Row;
 use sched_model::state::{Pool, Resource, Stage};
 
 /// What the core asks its scheduler.
-pub fn ask_of(g: u8, t: u64, pool: &Pool, r: u8, c: &Resource) -> Ask
+pub fn ask_of(g: u8, t: Moment, pool: &Pool, r: ResId, c: &Resource) -> Ask
     requires { length pool.now.resources ≤ 64 }
-    ensures { result ≡ ask_of_spec g t pool.now r c.now }
+    ensures { result ≡ ask_of_spec g t.0 pool.now r.0 c.now }
 {
     let runnable = match c.cur {
         None => false,
@@ -33,32 +34,32 @@ pub fn ask_of(g: u8, t: u64, pool: &Pool, r: u8, c: &Resource) -> Ask
     Ask {
         cur: c.cur,
         runnable,
-        since: c.since.0,
+        since: c.since,
         leaving: c.leaving,
         at: t,
         core: r,
-        home: home_cores(pool.resources.as_slice()),
+        home: Cores(home_cores(pool.resources.as_slice())),
     }
 }
 
 /// How much later than its due the core decides.
-pub fn lateness_of(t: u64, c: &Resource) -> Span
-    ensures { result ≡ span (lateness t c.now) }
+pub fn lateness_of(t: Moment, c: &Resource) -> Span
+    ensures { result ≡ span (lateness t.0 c.now) }
 {
     match c.due {
         None => Span(0),
-        Some(due) => Span(t.saturating_sub(due.0)),
+        Some(due) => Span(t.0.saturating_sub(due.0)),
     }
 }
 
 /// The core with what was decided.
-fn set_decided(t: u64, answer: Decided, c: &mut Resource)
-    ensures { c.new ≡ decided_by t answer c.old }
+fn set_decided(t: Moment, answer: Decided, c: &mut Resource)
+    ensures { c.new ≡ decided_by t.0 answer c.old }
 {
     if !is_same_choice(answer.unit, c.cur) {
         c.saving = c.cur;
         c.cur = answer.unit;
-        c.since = Moment(t);
+        c.since = t;
     }
     c.due = answer.due;
     c.pending = false;
@@ -66,27 +67,26 @@ fn set_decided(t: u64, answer: Decided, c: &mut Resource)
 }
 
 /// What was decided at the core with this number.
-fn set_decided_at(t: u64, r: u8, answer: Decided, cores: &mut Row<Option<Resource>>)
-    ensures { cores.new ≡ change_at r (decided_by t answer) cores.old }
+fn set_decided_at(t: Moment, r: ResId, answer: Decided, cores: &mut Row<Option<Resource>>)
+    ensures { cores.new ≡ change_at r.0 (decided_by t.0 answer) cores.old }
 {
-    let place = r as usize;
-    if place < cores.len() {
-        if let Some(c) = cores.item_mut(place) {
-            set_decided(t, answer, c);
-        }
+    if let Some(place) = cores.get_mut(r.0 as usize)
+        && let Some(c) = place
+    {
+        set_decided(t, answer, c);
     }
 }
 
 /// The core decides: its scheduler chooses, and its old unit, where it is another, is to be saved.
-pub fn decide(g: u8, t: u64, r: u8, pool: &mut Pool) -> Event
-    requires enabled { IsTrue (enabled_in g t pool.old (Decide r)) }
-    requires early { t ≤ 10000000000000 }
+pub fn decide(g: u8, t: Moment, r: ResId, pool: &mut Pool) -> Event
+    requires enabled { IsTrue (enabled_in g t.0 pool.old (Decide r)) }
+    requires early { t.0 ≤ most_span }
     requires fits { PoolFits pool.old }
-    requires records { RecordsFit t pool.old.scheduler.records }
-    ensures event { result ≡ event_in g t pool.old (Decide r) }
-    ensures pool { pool.new ≡ after_in g t pool.old (Decide r) }
+    requires records { RecordsFit t.0 pool.old.scheduler.records }
+    ensures event { result ≡ event_in g t.0 pool.old (Decide r) }
+    ensures pool { pool.new ≡ after_in g t.0 pool.old (Decide r) }
 {
-    let Some(c) = core_at(pool.resources.as_slice(), r as usize) else {
+    let Some(c) = core_at(pool.resources.as_slice(), r.0 as usize) else {
         unreachable!();
     };
     let ask = ask_of(g, t, pool, r, c);
@@ -94,7 +94,7 @@ pub fn decide(g: u8, t: u64, r: u8, pool: &mut Pool) -> Event
     let answer = decide_by_policy(&mut pool.scheduler, &ask);
     set_decided_at(t, r, answer, &mut pool.resources);
     Event::Decide {
-        r: ResId(r),
+        r,
         unit: answer.unit,
         due: answer.due,
         late,

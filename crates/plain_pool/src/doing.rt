@@ -4,52 +4,56 @@ ghost use Rattle.std.specs.Prelude.{◌≡◌, ◌<◌, ◌/◌, ◌%◌, None, 
 ghost use Rattle.sched_model.specs.declared.state.Doing.TheVariants as doing;
 ghost use Rattle.sched_model.specs.declared.state.Resource.{Resource as ResourceRecord};
 ghost use Rattle.sched_model.specs.Places.{change_at, change_item};
-ghost use Rattle.sched_model.specs.Pool.{does, change_processor, started_on};
+ghost use Rattle.sched_model.specs.Pool.{with_doing, change_processor, started_on};
 
 use crate::vcpus::start_vcpu;
-use sched_base::VcpuId;
+use sched_base::{Moment, ProcId, ResId, VcpuId};
 use sched_model::row::Row;
 use sched_model::short::Short;
-use sched_model::state::{Doing, Pool, Processors, Resource};
+use sched_model::state::{Doing, Pool, Resource};
 
-/// The processor at this place does this.
-fn set_doing(processors: &mut Processors, i: usize, doing: Doing)
-    ensures { processors.new ≡ change_item i (does doing) processors.old }
+/// The core's processor at this place does this.
+#[tactic(auto, using(plain_units::proofs::Places::past_the_end))]
+fn set_doing(c: &mut Resource, i: usize, doing: Doing)
+    ensures { c.new ≡ record c.old { processors = change_item i (with_doing doing) c.old.processors } }
 {
-    if let Some(p) = processors.get_mut(i) {
+    if let Some(p) = c.processors.get_mut(i) {
         p.doing = doing;
     }
 }
 
 /// The processor does this.
-pub fn change_doing(g: u8, p: u8, doing: Doing, cores: &mut Row<Option<Resource>>)
+pub fn change_doing(g: u8, p: ProcId, doing: Doing, cores: &mut Row<Option<Resource>>)
     requires { 0 < g }
-    ensures { cores.new ≡ change_at (p / g) (λ (c : ResourceRecord). record c { processors = change_item (p % g) (does doing) c.processors }) cores.old }
+    ensures { cores.new ≡ change_at (p.0 / g) (λ (c : ResourceRecord).
+        record c { processors = change_item (p.0 % g) (with_doing doing) c.processors }) cores.old }
 {
-    let r = (p / g) as usize;
-    if r < cores.len() {
-        if let Some(c) = cores.item_mut(r) {
-            set_doing(&mut c.processors, (p % g) as usize, doing);
-        }
+    if let Some(place) = cores.get_mut((p.0 / g) as usize)
+        && let Some(c) = place
+    {
+        set_doing(c, (p.0 % g) as usize, doing);
     }
 }
 
 /// The core is to decide anew.
-pub fn set_pending(r: u8, cores: &mut Row<Option<Resource>>)
-    ensures { cores.new ≡ change_at r (λ (c : ResourceRecord). record c { pending = true }) cores.old }
+pub fn set_pending(r: ResId, cores: &mut Row<Option<Resource>>)
+    ensures { cores.new ≡ change_at r.0 (λ (c : ResourceRecord). record c { pending = true })
+        cores.old }
 {
-    let place = r as usize;
-    if place < cores.len() {
-        if let Some(c) = cores.item_mut(place) {
-            c.pending = true;
-        }
+    if let Some(place) = cores.get_mut(r.0 as usize)
+        && let Some(c) = place
+    {
+        c.pending = true;
     }
 }
 
 /// The processor takes the vCPU from t on, or idles.
-pub fn take(g: u8, t: u64, p: u8, taken: Option<VcpuId>, pool: &mut Pool)
+pub fn take(g: u8, t: Moment, p: ProcId, taken: Option<VcpuId>, pool: &mut Pool)
     requires { 0 < g }
-    ensures { pool.new ≡ elim taken [ None ↦ change_processor g p (does doing.Idle) pool.old | Some v ↦ started_on g t p v pool.old ] }
+    ensures { pool.new ≡ elim taken [
+      | None ↦ change_processor g p.0 (with_doing doing.Idle) pool.old
+      | Some v ↦ started_on g t.0 p.0 v pool.old
+    ] }
 {
     match taken {
         None => change_doing(g, p, Doing::Idle, &mut pool.resources),

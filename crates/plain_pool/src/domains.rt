@@ -1,5 +1,6 @@
 //! Domains that join a pool and part from it, and units that are queued. g is the number of a core's processors, t the moment.
 
+ghost use Rattle.sched_model.specs.Checked.{most_span};
 ghost use Rattle.std.specs.Prelude.{◌≡◌, ◌<◌, ◌≤◌, None, length};
 ghost use Rattle.sched_model.specs.Places.{at_place, clear_at, numbers_from};
 ghost use Rattle.sched_model.specs.Pool.{unit_count as unit_count_spec, queue_if_off as queue_if_off_spec, queue_units as queue_units_spec, with_domain as with_domain_spec, without_domain as without_domain_spec};
@@ -10,7 +11,7 @@ use crate::waking::is_off;
 use plain_policy::params::{join, part};
 use plain_policy::places::set_place;
 use plain_policy::queue::enqueue;
-use sched_base::{DomId, UnitId};
+use sched_base::{DomId, Moment, UnitId};
 use sched_model::config::DomParams;
 use sched_model::row::Row;
 use sched_model::state::{Domain, Pool};
@@ -38,40 +39,42 @@ fn queue_if_off(g: u8, u: UnitId, pool: &mut Pool)
 }
 
 /// The same of the domain's units, of which there are count, one after another.
-pub fn queue_units(g: u8, d: u8, count: u8, pool: &mut Pool)
+pub fn queue_units(g: u8, d: DomId, count: u8, pool: &mut Pool)
     requires cores { length pool.old.resources ≤ 64 }
-    requires room { length (queue_units_spec g d (numbers_from 0 count) pool.old).scheduler.queue ≤ 256 }
-    ensures { pool.new ≡ queue_units_spec g d (numbers_from 0 count) pool.old }
+    requires room { length (queue_units_spec g d.0 (numbers_from 0 count) pool.old).scheduler.queue
+        ≤ 256 }
+    ensures { pool.new ≡ queue_units_spec g d.0 (numbers_from 0 count) pool.old }
 {
     for n in 0..count {
-        let u = UnitId { dom: DomId(d), n };
+        let u = UnitId { dom: d, n };
         queue_if_off(g, u, pool);
     }
 }
 
 /// The domain joins the pool at t with these parameters, and its units that may run wait.
-pub fn with_domain(g: u8, t: u64, d: u8, joining: Domain, params: &DomParams, pool: &mut Pool)
+pub fn with_domain(g: u8, t: Moment, d: DomId, joining: Domain, params: &DomParams, pool: &mut Pool)
     requires some { 0 < g }
     requires few { g ≤ 4 }
-    requires early { t ≤ 10000000000000 }
+    requires early { t.0 ≤ most_span }
     requires cores { length pool.old.resources ≤ 64 }
     requires vcpus { length joining.vcpus ≤ 32 }
     requires params { ParamsFit params.now }
-    requires room { length (with_domain_spec g t d joining params.now pool.old).scheduler.queue ≤ 256 }
-    ensures { pool.new ≡ with_domain_spec g t d joining params.now pool.old }
+    requires room { length (with_domain_spec g t.0 d.0 joining params.now pool.old).scheduler.queue
+        ≤ 256 }
+    ensures { pool.new ≡ with_domain_spec g t.0 d.0 joining params.now pool.old }
 {
     let count = unit_count(g, &joining);
-    set_place(&mut pool.domains, d, Some(joining));
+    set_place(&mut pool.domains, d.0, Some(joining));
     join(d, count, params, t, &mut pool.scheduler);
     queue_units(g, d, count, pool);
 }
 
 /// The domain is taken out of its place.
-fn take_domain(d: u8, domains: &mut Row<Option<Domain>>) -> Option<Domain>
-    ensures domain { result ≡ at_place domains.old d }
-    ensures domains { domains.new ≡ clear_at d domains.old }
+fn take_domain(d: DomId, domains: &mut Row<Option<Domain>>) -> Option<Domain>
+    ensures domain { result ≡ at_place domains.old d.0 }
+    ensures domains { domains.new ≡ clear_at d.0 domains.old }
 {
-    let place = d as usize;
+    let place = d.0 as usize;
     if place < domains.len() {
         domains.replace(place, None)
     } else {
@@ -80,9 +83,9 @@ fn take_domain(d: u8, domains: &mut Row<Option<Domain>>) -> Option<Domain>
 }
 
 /// The domain parts from the pool, which is to have none of its units on a core. It is none where the pool has no such domain.
-pub fn without_domain(d: u8, pool: &mut Pool) -> Option<Domain>
-    ensures domain { result ≡ at_place pool.old.domains d }
-    ensures pool { pool.new ≡ without_domain_spec d pool.old }
+pub fn without_domain(d: DomId, pool: &mut Pool) -> Option<Domain>
+    ensures domain { result ≡ at_place pool.old.domains d.0 }
+    ensures pool { pool.new ≡ without_domain_spec d.0 pool.old }
 {
     part(d, &mut pool.scheduler);
     take_domain(d, &mut pool.domains)

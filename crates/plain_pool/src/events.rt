@@ -1,9 +1,10 @@
 //! The events of one pool, before its cores are looked at. g is the number of a core's processors, t the moment.
 
+ghost use Rattle.sched_model.specs.Checked.{most_span};
 ghost use Rattle.std.specs.Prelude.{◌≡◌, ◌+◌, ◌*◌, ◌<◌, ◌≤◌, ◌/◌, ◌%◌, length, IsTrue, Some, None, true};
 ghost use Rattle.sched_model.specs.declared.action.Action.TheVariants.{Slice, Arrive, Leave, Save};
 ghost use Rattle.sched_model.specs.Places.{change_at};
-ghost use Rattle.sched_model.specs.Pool.{enabled_in, after_in, event_in, vcpu_for as vcpu_for_spec, open_if_left as open_if_left_spec, saved, saving_among};
+ghost use Rattle.sched_model.specs.Pool.{enabled_in, after_in, event_in, vcpu_for as vcpu_for_spec, open_if_left as open_if_left_spec, saved_core, saving_among};
 ghost use Rattle.plain_units.specs.Fits.{RecordsFit};
 ghost use Rattle.plain_pool.specs.Fits.{PoolFits};
 ghost use Rattle.plain_pool.specs.Own.{IsOfPool};
@@ -17,32 +18,32 @@ use crate::runnable::is_runnable;
 use crate::vcpus::{stop_vcpu, vcpu_of};
 use crate::waking::{block, wake};
 use plain_policy::queue::enqueue;
-use sched_base::{ProcId, ResId, UnitId, VcpuId};
+use sched_base::{Moment, ProcId, ResId, UnitId, VcpuId};
 use sched_model::action::Action;
 use sched_model::event::Event;
 use sched_model::row::Row;
 use sched_model::state::{Doing, Pool, Resource, Stage};
 
 /// The core's due has come.
-pub fn slice(g: u8, t: u64, r: u8, pool: &mut Pool) -> Event
-    ensures event { result ≡ event_in g t pool.old (Slice r) }
-    ensures pool { pool.new ≡ after_in g t pool.old (Slice r) }
+pub fn slice(g: u8, t: Moment, r: ResId, pool: &mut Pool) -> Event
+    ensures event { result ≡ event_in g t.0 pool.old (Slice r) }
+    ensures pool { pool.new ≡ after_in g t.0 pool.old (Slice r) }
 {
     set_pending(r, &mut pool.resources);
-    Event::Slice { r: ResId(r) }
+    Event::Slice { r }
 }
 
 /// The processor arrives: its vCPU stops, and it waits for its siblings.
-pub fn arrive(g: u8, t: u64, p: u8, pool: &mut Pool) -> Event
+pub fn arrive(g: u8, t: Moment, p: ProcId, pool: &mut Pool) -> Event
     requires { 0 < g }
-    ensures event { result ≡ event_in g t pool.old (Arrive p) }
-    ensures pool { pool.new ≡ after_in g t pool.old (Arrive p) }
+    ensures event { result ≡ event_in g t.0 pool.old (Arrive p) }
+    ensures pool { pool.new ≡ after_in g t.0 pool.old (Arrive p) }
 {
     if let Some(v) = guest_of(g, pool, p) {
         stop_vcpu(&mut pool.domains, v, t);
     }
     change_doing(g, p, Doing::Held, &mut pool.resources);
-    Event::Arrive { p: ProcId(p) }
+    Event::Arrive { p }
 }
 
 /// The vCPU of the core's cur that belongs on the core's i-th processor, where cur is runnable and that vCPU is there and awake.
@@ -70,10 +71,10 @@ pub fn vcpu_for(g: u8, pool: &Pool, c: &Resource, i: u8) -> Option<VcpuId>
 }
 
 /// The stage is open again once nobody is held.
-pub fn open_if_left(r: u8, cores: &mut Row<Option<Resource>>)
-    ensures { cores.new ≡ change_at r open_if_left_spec cores.old }
+pub fn open_if_left(r: ResId, cores: &mut Row<Option<Resource>>)
+    ensures { cores.new ≡ change_at r.0 open_if_left_spec cores.old }
 {
-    let place = r as usize;
+    let place = r.0 as usize;
     if place < cores.len() {
         if let Some(c) = cores.item_mut(place) {
             if !any_held(c.processors.as_slice()) {
@@ -84,48 +85,45 @@ pub fn open_if_left(r: u8, cores: &mut Row<Option<Resource>>)
 }
 
 /// The unit that the core is saving is taken out.
-pub fn take_saved(r: u8, cores: &mut Row<Option<Resource>>) -> Option<UnitId>
-    ensures unit { result ≡ saving_among cores.old r }
-    ensures cores { cores.new ≡ change_at r saved cores.old }
+pub fn take_saved(r: ResId, cores: &mut Row<Option<Resource>>) -> Option<UnitId>
+    ensures unit { result ≡ saving_among cores.old r.0 }
+    ensures cores { cores.new ≡ change_at r.0 saved_core cores.old }
 {
-    let place = r as usize;
-    if place >= cores.len() {
-        return None;
-    }
-    match cores.item_mut(place) {
-        None => None,
-        Some(c) => {
-            let unit = c.saving;
-            c.saving = None;
-            unit
-        }
+    if let Some(place) = cores.get_mut(r.0 as usize)
+        && let Some(c) = place
+    {
+        let unit = c.saving;
+        c.saving = None;
+        unit
+    } else {
+        None
     }
 }
 
 /// The processor leaves the meeting with the vCPU of its place in the core's unit, or idles; the last one opens the stage.
-pub fn leave(g: u8, t: u64, p: u8, pool: &mut Pool) -> Event
-    requires enabled { IsTrue (enabled_in g t pool.old (Leave p)) }
+pub fn leave(g: u8, t: Moment, p: ProcId, pool: &mut Pool) -> Event
+    requires enabled { IsTrue (enabled_in g t.0 pool.old (Leave p)) }
     requires some { 0 < g }
     requires few { g ≤ 4 }
     requires fits { PoolFits pool.old }
-    ensures event { result ≡ event_in g t pool.old (Leave p) }
-    ensures pool { pool.new ≡ after_in g t pool.old (Leave p) }
+    ensures event { result ≡ event_in g t.0 pool.old (Leave p) }
+    ensures pool { pool.new ≡ after_in g t.0 pool.old (Leave p) }
 {
-    let Some(c) = core_at(pool.resources.as_slice(), (p / g) as usize) else {
+    let Some(c) = core_at(pool.resources.as_slice(), (p.0 / g) as usize) else {
         unreachable!();
     };
-    let v = vcpu_for(g, pool, c, p % g);
+    let v = vcpu_for(g, pool, c, p.0 % g);
     take(g, t, p, v, pool);
-    open_if_left(p / g, &mut pool.resources);
-    Event::Leave { p: ProcId(p), v }
+    open_if_left(ResId(p.0 / g), &mut pool.resources);
+    Event::Leave { p, v }
 }
 
 /// The saved unit waits at the end of the queue where it is runnable, and else is off.
-pub fn save(g: u8, t: u64, r: u8, pool: &mut Pool) -> Event
-    requires enabled { IsTrue (enabled_in g t pool.old (Save r)) }
-    requires room { length (after_in g t pool.old (Save r)).scheduler.queue ≤ 256 }
-    ensures event { result ≡ event_in g t pool.old (Save r) }
-    ensures pool { pool.new ≡ after_in g t pool.old (Save r) }
+pub fn save(g: u8, t: Moment, r: ResId, pool: &mut Pool) -> Event
+    requires enabled { IsTrue (enabled_in g t.0 pool.old (Save r)) }
+    requires room { length (after_in g t.0 pool.old (Save r)).scheduler.queue ≤ 256 }
+    ensures event { result ≡ event_in g t.0 pool.old (Save r) }
+    ensures pool { pool.new ≡ after_in g t.0 pool.old (Save r) }
 {
     let Some(u) = take_saved(r, &mut pool.resources) else {
         unreachable!();
@@ -134,25 +132,21 @@ pub fn save(g: u8, t: u64, r: u8, pool: &mut Pool) -> Event
     if queued {
         enqueue(u, &mut pool.scheduler);
     }
-    Event::Save {
-        r: ResId(r),
-        u,
-        queued,
-    }
+    Event::Save { r, u, queued }
 }
 
 /// The event happens in the pool, before the pool's cores are looked at.
-pub fn happen(g: u8, t: u64, action: Action, pool: &mut Pool) -> Event
+pub fn happen(g: u8, t: Moment, action: Action, pool: &mut Pool) -> Event
     requires some { 0 < g }
     requires few { g ≤ 4 }
-    requires early { t ≤ 10000000000000 }
+    requires early { t.0 ≤ most_span }
     requires fits { PoolFits pool.old }
-    requires records { RecordsFit t pool.old.scheduler.records }
-    requires enabled { enabled_in g t pool.old action ≡ true }
+    requires records { RecordsFit t.0 pool.old.scheduler.records }
+    requires enabled { enabled_in g t.0 pool.old action ≡ true }
     requires own { IsOfPool action }
-    requires room { length (after_in g t pool.old action).scheduler.queue ≤ 256 }
-    ensures event { result ≡ event_in g t pool.old action }
-    ensures pool { pool.new ≡ after_in g t pool.old action }
+    requires room { length (after_in g t.0 pool.old action).scheduler.queue ≤ 256 }
+    ensures event { result ≡ event_in g t.0 pool.old action }
+    ensures pool { pool.new ≡ after_in g t.0 pool.old action }
 {
     match action {
         Action::Wake(v) => wake(g, t, v, pool),

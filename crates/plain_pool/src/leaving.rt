@@ -11,7 +11,7 @@ ghost use Rattle.sched_model.specs.Pool.{set_leaving as set_leaving_spec, change
 ghost use Rattle.plain_pool.specs.Cores.{fresh_processor, ends_of, stalled_to};
 
 use plain_policy::places::set_place;
-use sched_base::Moment;
+use sched_base::{Moment, ProcId, ResId};
 use sched_model::facts::StallEnds;
 use sched_model::row::Row;
 use sched_model::short::Short;
@@ -48,10 +48,11 @@ pub fn fresh_core(stall_ends: &StallEnds) -> Resource
 }
 
 /// The core joins the pool, with the ends of its processors' stalls.
-pub fn put_core(r: u8, stall_ends: &StallEnds, pool: &mut Pool)
-    ensures { pool.new ≡ record pool.old { resources = put_at r (fresh_core_spec stall_ends.now) pool.old.resources } }
+pub fn put_core(r: ResId, stall_ends: &StallEnds, pool: &mut Pool)
+    ensures { pool.new ≡ record pool.old
+        { resources = put_at r.0 (fresh_core_spec stall_ends.now) pool.old.resources } }
 {
-    set_place(&mut pool.resources, r, Some(fresh_core(stall_ends)));
+    set_place(&mut pool.resources, r.0, Some(fresh_core(stall_ends)));
 }
 
 /// The ends of the stalls of the core's processors.
@@ -66,11 +67,11 @@ fn stall_ends_of(c: &Resource) -> StallEnds
 }
 
 /// The core is taken out of its place.
-pub fn take_place(r: u8, cores: &mut Row<Option<Resource>>) -> Option<Resource>
-    ensures core { result ≡ at_place cores.old r }
-    ensures cores { cores.new ≡ clear_at r cores.old }
+pub fn take_place(r: ResId, cores: &mut Row<Option<Resource>>) -> Option<Resource>
+    ensures core { result ≡ at_place cores.old r.0 }
+    ensures cores { cores.new ≡ clear_at r.0 cores.old }
 {
-    let place = r as usize;
+    let place = r.0 as usize;
     if place < cores.len() {
         cores.replace(place, None)
     } else {
@@ -79,9 +80,9 @@ pub fn take_place(r: u8, cores: &mut Row<Option<Resource>>) -> Option<Resource>
 }
 
 /// The core leaves the pool: the ends of its processors' stalls, and none where the pool has no such core.
-pub fn take_core(r: u8, pool: &mut Pool) -> Option<StallEnds>
-    ensures ends { result ≡ option_map ends_of (at_place pool.old.resources r) }
-    ensures pool { pool.new ≡ record pool.old { resources = clear_at r pool.old.resources } }
+pub fn take_core(r: ResId, pool: &mut Pool) -> Option<StallEnds>
+    ensures ends { result ≡ option_map ends_of (at_place pool.old.resources r.0) }
+    ensures pool { pool.new ≡ record pool.old { resources = clear_at r.0 pool.old.resources } }
 {
     match take_place(r, &mut pool.resources) {
         None => None,
@@ -90,10 +91,10 @@ pub fn take_core(r: u8, pool: &mut Pool) -> Option<StallEnds>
 }
 
 /// The core is leaving; it is to decide where it has a unit.
-pub fn set_leaving(r: u8, pool: &mut Pool)
-    ensures { pool.new ≡ set_leaving_spec r pool.old }
+pub fn set_leaving(r: ResId, pool: &mut Pool)
+    ensures { pool.new ≡ set_leaving_spec r.0 pool.old }
 {
-    let place = r as usize;
+    let place = r.0 as usize;
     if place < pool.resources.len() {
         if let Some(c) = pool.resources.item_mut(place) {
             c.leaving = true;
@@ -102,24 +103,24 @@ pub fn set_leaving(r: u8, pool: &mut Pool)
     }
 }
 
-/// The stall of the processor at this place ends at this moment.
-fn set_end(processors: &mut Processors, i: usize, end: u64)
-    ensures { processors.new ≡ change_item i (stalled_to end) processors.old }
+/// The stall of the core's processor at this place ends at this moment.
+#[tactic(auto, using(plain_units::proofs::Places::past_the_end))]
+fn set_end(c: &mut Resource, i: usize, end: u64)
+    ensures { c.new ≡ record c.old { processors = change_item i (stalled_to end) c.old.processors } }
 {
-    if let Some(p) = processors.get_mut(i) {
+    if let Some(p) = c.processors.get_mut(i) {
         p.stall_end = Moment(end);
     }
 }
 
 /// The processor's stall ends at this moment.
-pub fn set_stall_end(g: u8, p: u8, end: u64, pool: &mut Pool)
+pub fn set_stall_end(g: u8, p: ProcId, end: u64, pool: &mut Pool)
     requires { 0 < g }
-    ensures { pool.new ≡ change_processor g p (stalled_to end) pool.old }
+    ensures { pool.new ≡ change_processor g p.0 (stalled_to end) pool.old }
 {
-    let r = (p / g) as usize;
-    if r < pool.resources.len() {
-        if let Some(c) = pool.resources.item_mut(r) {
-            set_end(&mut c.processors, (p % g) as usize, end);
-        }
+    if let Some(place) = pool.resources.get_mut((p.0 / g) as usize)
+        && let Some(c) = place
+    {
+        set_end(c, (p.0 % g) as usize, end);
     }
 }

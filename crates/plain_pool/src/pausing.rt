@@ -3,21 +3,21 @@
 ghost use Rattle.std.specs.Prelude.{◌≡◌, ◌<◌, ◌≤◌, Some, length, option_map};
 ghost use Rattle.sched_base.specs.Numbers.{pool as pool_number};
 ghost use Rattle.sched_model.specs.declared.state.Domain.{Domain as DomainRecord};
-ghost use Rattle.sched_model.specs.Places.{change_at, change_each};
-ghost use Rattle.sched_model.specs.Pool.{withdrawn, pause as pause_spec, unpause as unpause_spec, set_moving as set_moving_spec};
-ghost use Rattle.plain_pool.specs.Fits.{AllPlaces, DomainFits, PoolFits};
+ghost use Rattle.sched_model.specs.Places.{change_at, change_each, AllPlaces};
+ghost use Rattle.sched_model.specs.Pool.{withdrawn_pool, pause as pause_spec, unpause as unpause_spec, set_moving as set_moving_spec};
+ghost use Rattle.plain_pool.specs.Fits.{DomainFits, PoolFits};
 ghost use Rattle.plain_pool.specs.Marks.{pending_of, is_paused_at, paused_count};
 
 use crate::domains::{queue_units, unit_count};
 use plain_policy::queue::dequeue_domain;
 use plain_units::units::is_of_domain;
-use sched_base::PoolId;
+use sched_base::{DomId, PoolId};
 use sched_model::row::Row;
 use sched_model::state::{Domain, Pool, Resource};
 
 /// The cores that run a unit of the domain are to decide anew.
-fn mark_cores_of(d: u8, cores: &mut Row<Option<Resource>>)
-    ensures { cores.new ≡ change_each 0 (pending_of d) cores.old }
+fn mark_cores_of(d: DomId, cores: &mut Row<Option<Resource>>)
+    ensures { cores.new ≡ change_each 0 (pending_of d.0) cores.old }
 {
     for r in 0..cores.len() {
         if let Some(c) = cores.item_mut(r) {
@@ -29,18 +29,18 @@ fn mark_cores_of(d: u8, cores: &mut Row<Option<Resource>>)
 }
 
 /// The domain's units stop waiting, and the cores that run one are to decide anew.
-fn withdraw(d: u8, pool: &mut Pool)
-    ensures { pool.new ≡ withdrawn d pool.old }
+fn withdraw(d: DomId, pool: &mut Pool)
+    ensures { pool.new ≡ withdrawn_pool d.0 pool.old }
 {
     dequeue_domain(d, &mut pool.scheduler);
     mark_cores_of(d, &mut pool.resources);
 }
 
 /// Whether the domain is there and paused.
-fn is_paused(d: u8, domains: &[Option<Domain>]) -> bool
-    ensures { result ≡ is_paused_at d domains.now }
+fn is_paused(d: DomId, domains: &[Option<Domain>]) -> bool
+    ensures { result ≡ is_paused_at d.0 domains.now }
 {
-    let place = d as usize;
+    let place = d.0 as usize;
     if place >= domains.len() {
         return false;
     }
@@ -51,20 +51,20 @@ fn is_paused(d: u8, domains: &[Option<Domain>]) -> bool
 }
 
 /// The domain is paused, or no longer.
-fn set_paused(d: u8, paused: bool, domains: &mut Row<Option<Domain>>)
-    ensures { domains.new ≡ change_at d (λ (domain : DomainRecord). record domain { paused = paused }) domains.old }
+fn set_paused(d: DomId, paused: bool, domains: &mut Row<Option<Domain>>)
+    ensures { domains.new ≡ change_at d.0 (λ (domain : DomainRecord).
+        record domain { paused = paused }) domains.old }
 {
-    let place = d as usize;
-    if place < domains.len() {
-        if let Some(domain) = domains.item_mut(place) {
-            domain.paused = paused;
-        }
+    if let Some(place) = domains.get_mut(d.0 as usize)
+        && let Some(domain) = place
+    {
+        domain.paused = paused;
     }
 }
 
 /// The domain is paused: its units stop waiting, and the cores that run one are to decide anew. Nothing changes where it is paused already.
-pub fn pause(d: u8, pool: &mut Pool)
-    ensures { pool.new ≡ pause_spec d pool.old }
+pub fn pause(d: DomId, pool: &mut Pool)
+    ensures { pool.new ≡ pause_spec d.0 pool.old }
 {
     if !is_paused(d, pool.domains.as_slice()) {
         set_paused(d, true, &mut pool.domains);
@@ -73,13 +73,13 @@ pub fn pause(d: u8, pool: &mut Pool)
 }
 
 /// How many units the domain has, where it is there and paused.
-fn paused_units(g: u8, d: u8, domains: &[Option<Domain>]) -> Option<u8>
+fn paused_units(g: u8, d: DomId, domains: &[Option<Domain>]) -> Option<u8>
     requires some { 0 < g }
     requires few { g ≤ 4 }
     requires fits { AllPlaces DomainFits domains.now }
-    ensures { result ≡ paused_count g d domains.now }
+    ensures { result ≡ paused_count g d.0 domains.now }
 {
-    let place = d as usize;
+    let place = d.0 as usize;
     if place >= domains.len() {
         return None;
     }
@@ -96,12 +96,12 @@ fn paused_units(g: u8, d: u8, domains: &[Option<Domain>]) -> Option<u8>
 }
 
 /// The domain is no longer paused, and its units that may run wait. Nothing changes where it is not paused.
-pub fn unpause(g: u8, d: u8, pool: &mut Pool)
+pub fn unpause(g: u8, d: DomId, pool: &mut Pool)
     requires some { 0 < g }
     requires few { g ≤ 4 }
     requires fits { PoolFits pool.old }
-    requires room { length (unpause_spec g d pool.old).scheduler.queue ≤ 256 }
-    ensures { pool.new ≡ unpause_spec g d pool.old }
+    requires room { length (unpause_spec g d.0 pool.old).scheduler.queue ≤ 256 }
+    ensures { pool.new ≡ unpause_spec g d.0 pool.old }
 {
     if let Some(count) = paused_units(g, d, pool.domains.as_slice()) {
         set_paused(d, false, &mut pool.domains);
@@ -110,20 +110,20 @@ pub fn unpause(g: u8, d: u8, pool: &mut Pool)
 }
 
 /// The domain has this pool to move to.
-fn set_target(d: u8, i: u8, domains: &mut Row<Option<Domain>>)
-    ensures { domains.new ≡ change_at d (λ (domain : DomainRecord). record domain { moving = Some (pool_number i) }) domains.old }
+fn set_target(d: DomId, i: u8, domains: &mut Row<Option<Domain>>)
+    ensures { domains.new ≡ change_at d.0 (λ (domain : DomainRecord).
+        record domain { moving = Some (pool_number i) }) domains.old }
 {
-    let place = d as usize;
-    if place < domains.len() {
-        if let Some(domain) = domains.item_mut(place) {
-            domain.moving = Some(PoolId(i));
-        }
+    if let Some(place) = domains.get_mut(d.0 as usize)
+        && let Some(domain) = place
+    {
+        domain.moving = Some(PoolId(i));
     }
 }
 
 /// The domain is moving to the pool i: its units stop waiting, and the cores that run one are to decide anew.
-pub fn set_moving(d: u8, i: u8, pool: &mut Pool)
-    ensures { pool.new ≡ set_moving_spec d i pool.old }
+pub fn set_moving(d: DomId, i: u8, pool: &mut Pool)
+    ensures { pool.new ≡ set_moving_spec d.0 i pool.old }
 {
     set_target(d, i, &mut pool.domains);
     withdraw(d, pool);

@@ -15,23 +15,23 @@ use crate::cores::{
 use crate::vcpus::{done_at, vcpu_of};
 use plain_policy::records::{next_refill, replenish_due};
 use plain_units::units::has_unit;
-use sched_base::{UnitId, VcpuId};
+use sched_base::{DomId, Moment, ProcId, ResId, UnitId, VcpuId};
 use sched_model::action::Action;
 use sched_model::state::{Doing, Pool, Processor};
 
 /// The processor with this number.
-pub fn processor_of(g: u8, pool: &Pool, p: u8) -> Option<&Processor>
+pub fn processor_of(g: u8, pool: &Pool, p: ProcId) -> Option<&Processor>
     requires { 0 < g }
-    ensures { option_copied result ≡ processor_of_spec g pool.now p }
+    ensures { option_copied result ≡ processor_of_spec g pool.now p.0 }
 {
-    let c = core_at(pool.resources.as_slice(), (p / g) as usize)?;
-    c.processors.as_slice().get((p % g) as usize)
+    let c = core_at(pool.resources.as_slice(), (p.0 / g) as usize)?;
+    c.processors.as_slice().get((p.0 % g) as usize)
 }
 
 /// The vCPU that the processor runs.
-pub fn guest_of(g: u8, pool: &Pool, p: u8) -> Option<VcpuId>
+pub fn guest_of(g: u8, pool: &Pool, p: ProcId) -> Option<VcpuId>
     requires { 0 < g }
-    ensures { result ≡ guest_of_spec g pool.now p }
+    ensures { result ≡ guest_of_spec g pool.now p.0 }
 {
     match processor_of(g, pool, p) {
         None => None,
@@ -43,8 +43,8 @@ pub fn guest_of(g: u8, pool: &Pool, p: u8) -> Option<VcpuId>
 }
 
 /// Whether the pool's lowest processor is up.
-fn lowest_up(t: u64, pool: &Pool) -> bool
-    ensures { result ≡ lowest_up_spec t pool.now }
+fn lowest_up(t: Moment, pool: &Pool) -> bool
+    ensures { result ≡ lowest_up_spec t.0 pool.now }
 {
     let cores = pool.resources.as_slice();
     match first_core(cores) {
@@ -57,11 +57,11 @@ fn lowest_up(t: u64, pool: &Pool) -> bool
 }
 
 /// Whether the domain is moving, and no unit of it is on a core.
-fn is_dom_moved(g: u8, t: u64, pool: &Pool, d: u8) -> bool
+fn may_dom_moved(g: u8, t: Moment, pool: &Pool, d: DomId) -> bool
     requires { length pool.now.resources ≤ 64 }
-    ensures { result ≡ enabled_in g t pool.now (DomMoved d) }
+    ensures { result ≡ enabled_in g t.0 pool.now (DomMoved d) }
 {
-    let place = d as usize;
+    let place = d.0 as usize;
     let domains = pool.domains.as_slice();
     if place >= domains.len() {
         return false;
@@ -73,10 +73,10 @@ fn is_dom_moved(g: u8, t: u64, pool: &Pool, d: u8) -> bool
 }
 
 /// Whether the core may be moved: it is leaving, and nothing is on it.
-fn is_moved(g: u8, t: u64, pool: &Pool, r: u8) -> bool
-    ensures { result ≡ enabled_in g t pool.now (Moved r) }
+fn may_moved(g: u8, t: Moment, pool: &Pool, r: ResId) -> bool
+    ensures { result ≡ enabled_in g t.0 pool.now (Moved r) }
 {
-    match core_at(pool.resources.as_slice(), r as usize) {
+    match core_at(pool.resources.as_slice(), r.0 as usize) {
         None => false,
         Some(c) => {
             c.leaving
@@ -90,8 +90,8 @@ fn is_moved(g: u8, t: u64, pool: &Pool, r: u8) -> bool
 }
 
 /// Whether the vCPU sleeps and its wake moment has come.
-fn is_wake(g: u8, t: u64, pool: &Pool, v: VcpuId) -> bool
-    ensures { result ≡ enabled_in g t pool.now (Wake v) }
+fn may_wake(g: u8, t: Moment, pool: &Pool, v: VcpuId) -> bool
+    ensures { result ≡ enabled_in g t.0 pool.now (Wake v) }
 {
     match vcpu_of(pool.domains.as_slice(), v) {
         None => false,
@@ -100,9 +100,9 @@ fn is_wake(g: u8, t: u64, pool: &Pool, v: VcpuId) -> bool
 }
 
 /// Whether the work of the vCPU is done at t.
-fn is_done(t: u64, pool: &Pool, v: VcpuId) -> bool
+fn is_done(t: Moment, pool: &Pool, v: VcpuId) -> bool
     requires { PoolFits pool.now }
-    ensures { result ≡ done_among t pool.now v }
+    ensures { result ≡ done_among t.0 pool.now v }
 {
     match vcpu_of(pool.domains.as_slice(), v) {
         None => false,
@@ -111,9 +111,9 @@ fn is_done(t: u64, pool: &Pool, v: VcpuId) -> bool
 }
 
 /// Whether the processor is there and up at t.
-fn is_processor_up(g: u8, t: u64, pool: &Pool, p: u8) -> bool
+fn is_processor_up(g: u8, t: Moment, pool: &Pool, p: ProcId) -> bool
     requires { 0 < g }
-    ensures { result ≡ processor_up g t pool.now p }
+    ensures { result ≡ processor_up g t.0 pool.now p.0 }
 {
     match processor_of(g, pool, p) {
         None => false,
@@ -122,10 +122,10 @@ fn is_processor_up(g: u8, t: u64, pool: &Pool, p: u8) -> bool
 }
 
 /// Whether the processor runs a vCPU whose work is done, and is up.
-fn is_block(g: u8, t: u64, pool: &Pool, p: u8) -> bool
+fn may_block(g: u8, t: Moment, pool: &Pool, p: ProcId) -> bool
     requires some { 0 < g }
     requires fits { PoolFits pool.now }
-    ensures { result ≡ enabled_in g t pool.now (Block p) }
+    ensures { result ≡ enabled_in g t.0 pool.now (Block p) }
 {
     match guest_of(g, pool, p) {
         None => false,
@@ -134,19 +134,19 @@ fn is_block(g: u8, t: u64, pool: &Pool, p: u8) -> bool
 }
 
 /// Whether the core's due has come, it is not pending yet, and its first processor is up.
-fn is_slice(g: u8, t: u64, pool: &Pool, r: u8) -> bool
-    ensures { result ≡ enabled_in g t pool.now (Slice r) }
+fn may_slice(g: u8, t: Moment, pool: &Pool, r: ResId) -> bool
+    ensures { result ≡ enabled_in g t.0 pool.now (Slice r) }
 {
-    match core_at(pool.resources.as_slice(), r as usize) {
+    match core_at(pool.resources.as_slice(), r.0 as usize) {
         None => false,
         Some(c) => has_come(t, c.due) && !c.pending && first_up(t, c),
     }
 }
 
 /// Whether the unit waits or runs, its deadline has come, and the pool's lowest processor is up.
-fn is_repl(g: u8, t: u64, pool: &Pool, u: UnitId) -> bool
+fn may_repl(g: u8, t: Moment, pool: &Pool, u: UnitId) -> bool
     requires { PoolFits pool.now }
-    ensures { result ≡ enabled_in g t pool.now (Repl u) }
+    ensures { result ≡ enabled_in g t.0 pool.now (Repl u) }
 {
     replenish_due(&pool.scheduler.records, t, u)
         && lowest_up(t, pool)
@@ -155,19 +155,19 @@ fn is_repl(g: u8, t: u64, pool: &Pool, u: UnitId) -> bool
 }
 
 /// Whether the domain's refill has come, and the pool's lowest processor is up.
-fn is_refill(g: u8, t: u64, pool: &Pool, d: u8) -> bool
+fn may_refill(g: u8, t: Moment, pool: &Pool, d: DomId) -> bool
     requires { PoolFits pool.now }
-    ensures { result ≡ enabled_in g t pool.now (Refill d) }
+    ensures { result ≡ enabled_in g t.0 pool.now (Refill d) }
 {
     has_come(t, next_refill(&pool.scheduler.records, d)) && lowest_up(t, pool)
 }
 
 /// Whether the processor's core is pending, open and saves nothing, and the processor is not held and is up.
-fn is_arrive(g: u8, t: u64, pool: &Pool, p: u8) -> bool
+fn may_arrive(g: u8, t: Moment, pool: &Pool, p: ProcId) -> bool
     requires { 0 < g }
-    ensures { result ≡ enabled_in g t pool.now (Arrive p) }
+    ensures { result ≡ enabled_in g t.0 pool.now (Arrive p) }
 {
-    let gathers = match core_at(pool.resources.as_slice(), (p / g) as usize) {
+    let gathers = match core_at(pool.resources.as_slice(), (p.0 / g) as usize) {
         None => false,
         Some(c) => c.pending && is_open(c) && c.saving.is_none(),
     };
@@ -179,21 +179,21 @@ fn is_arrive(g: u8, t: u64, pool: &Pool, p: u8) -> bool
 }
 
 /// Whether all processors of the core are held, its stage is open, and its first processor is up.
-fn is_decide(g: u8, t: u64, pool: &Pool, r: u8) -> bool
-    ensures { result ≡ enabled_in g t pool.now (Decide r) }
+fn may_decide(g: u8, t: Moment, pool: &Pool, r: ResId) -> bool
+    ensures { result ≡ enabled_in g t.0 pool.now (Decide r) }
 {
-    match core_at(pool.resources.as_slice(), r as usize) {
+    match core_at(pool.resources.as_slice(), r.0 as usize) {
         None => false,
         Some(c) => all_held(c.processors.as_slice()) && is_open(c) && first_up(t, c),
     }
 }
 
 /// Whether the processor's core has decided, and the processor is held and up.
-fn is_leave(g: u8, t: u64, pool: &Pool, p: u8) -> bool
+fn may_leave(g: u8, t: Moment, pool: &Pool, p: ProcId) -> bool
     requires { 0 < g }
-    ensures { result ≡ enabled_in g t pool.now (Leave p) }
+    ensures { result ≡ enabled_in g t.0 pool.now (Leave p) }
 {
-    let decided = match core_at(pool.resources.as_slice(), (p / g) as usize) {
+    let decided = match core_at(pool.resources.as_slice(), (p.0 / g) as usize) {
         None => false,
         Some(c) => !is_open(c),
     };
@@ -205,34 +205,34 @@ fn is_leave(g: u8, t: u64, pool: &Pool, p: u8) -> bool
 }
 
 /// Whether the core saves a unit, nobody of it is held, and its first processor is up.
-fn is_save(g: u8, t: u64, pool: &Pool, r: u8) -> bool
-    ensures { result ≡ enabled_in g t pool.now (Save r) }
+fn may_save(g: u8, t: Moment, pool: &Pool, r: ResId) -> bool
+    ensures { result ≡ enabled_in g t.0 pool.now (Save r) }
 {
-    match core_at(pool.resources.as_slice(), r as usize) {
+    match core_at(pool.resources.as_slice(), r.0 as usize) {
         None => false,
         Some(c) => { c.saving.is_some() && !any_held(c.processors.as_slice()) && first_up(t, c) }
     }
 }
 
 /// Whether an event of this pool may come at t.
-pub fn is_enabled_in(g: u8, t: u64, pool: &Pool, action: Action) -> bool
+pub fn is_enabled_in(g: u8, t: Moment, pool: &Pool, action: Action) -> bool
     requires some { 0 < g }
     requires fits { PoolFits pool.now }
-    ensures { result ≡ enabled_in g t pool.now action }
+    ensures { result ≡ enabled_in g t.0 pool.now action }
 {
     match action {
         Action::Stall => false,
         Action::Xl => false,
-        Action::Moved(r) => is_moved(g, t, pool, r),
-        Action::DomMoved(d) => is_dom_moved(g, t, pool, d),
-        Action::Wake(v) => is_wake(g, t, pool, v),
-        Action::Block(p) => is_block(g, t, pool, p),
-        Action::Slice(r) => is_slice(g, t, pool, r),
-        Action::Repl(u) => is_repl(g, t, pool, u),
-        Action::Refill(d) => is_refill(g, t, pool, d),
-        Action::Arrive(p) => is_arrive(g, t, pool, p),
-        Action::Decide(r) => is_decide(g, t, pool, r),
-        Action::Leave(p) => is_leave(g, t, pool, p),
-        Action::Save(r) => is_save(g, t, pool, r),
+        Action::Moved(r) => may_moved(g, t, pool, r),
+        Action::DomMoved(d) => may_dom_moved(g, t, pool, d),
+        Action::Wake(v) => may_wake(g, t, pool, v),
+        Action::Block(p) => may_block(g, t, pool, p),
+        Action::Slice(r) => may_slice(g, t, pool, r),
+        Action::Repl(u) => may_repl(g, t, pool, u),
+        Action::Refill(d) => may_refill(g, t, pool, d),
+        Action::Arrive(p) => may_arrive(g, t, pool, p),
+        Action::Decide(r) => may_decide(g, t, pool, r),
+        Action::Leave(p) => may_leave(g, t, pool, p),
+        Action::Save(r) => may_save(g, t, pool, r),
     }
 }

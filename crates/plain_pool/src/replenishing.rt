@@ -1,5 +1,6 @@
 //! Replenishments of RTDS units and refills of Credit2 domains. g is the number of a core's processors, t the moment.
 
+ghost use Rattle.sched_model.specs.Checked.{most_span};
 ghost use Rattle.std.specs.Prelude.{◌≡◌, ◌+◌, ◌≤◌, IsTrue, Some, length, min, true};
 ghost use Rattle.sched_base.specs.Numbers.{moment};
 ghost use Rattle.sched_model.specs.declared.action.Action.TheVariants.{Repl, Refill};
@@ -21,15 +22,15 @@ use sched_model::row::Row;
 use sched_model::state::{Pool, Records, Resource, RtdsUnit};
 
 /// The due, or the moment at which the budget is used up, if that is earlier.
-fn sooner(t: u64, budget: u64, due: Moment) -> Moment
-    ensures { result ≡ moment (min (t + budget) due.0) }
+fn sooner(t: Moment, budget: u64, due: Moment) -> Moment
+    ensures { result ≡ moment (min (t.0 + budget) due.0) }
 {
-    Moment(t.saturating_add(budget).min(due.0))
+    Moment(t.0.saturating_add(budget).min(due.0))
 }
 
 /// The core asks again after the budget at the latest, where it is to ask again at all.
-fn bring_due(t: u64, budget: u64, c: &mut Resource)
-    ensures { c.new ≡ due_within t budget c.old }
+fn bring_due(t: Moment, budget: u64, c: &mut Resource)
+    ensures { c.new ≡ due_within t.0 budget c.old }
 {
     if let Some(due) = c.due {
         c.due = Some(sooner(t, budget, due));
@@ -37,20 +38,21 @@ fn bring_due(t: u64, budget: u64, c: &mut Resource)
 }
 
 /// The same of the core at this place.
-fn bring_due_at(r: usize, t: u64, budget: u64, cores: &mut Row<Option<Resource>>)
-    ensures { cores.new ≡ change_at r (due_within t budget) cores.old }
+fn bring_due_at(r: usize, t: Moment, budget: u64, cores: &mut Row<Option<Resource>>)
+    ensures { cores.new ≡ change_at r (due_within t.0 budget) cores.old }
 {
-    if r < cores.len() {
-        if let Some(c) = cores.item_mut(r) {
-            bring_due(t, budget, c);
-        }
+    if let Some(place) = cores.get_mut(r)
+        && let Some(c) = place
+    {
+        bring_due(t, budget, c);
     }
 }
 
 /// The same of the core that has the unit as its cur, if one has.
-fn bring_due_of(u: UnitId, t: u64, budget: u64, cores: &mut Row<Option<Resource>>)
+fn bring_due_of(u: UnitId, t: Moment, budget: u64, cores: &mut Row<Option<Resource>>)
     requires { length cores.old ≤ 64 }
-    ensures { cores.new ≡ due_at_core (first_place 0 (λ (c : ResourceRecord). is_unit c.cur u) cores.old) t budget cores.old }
+    ensures { cores.new ≡ due_at_core (first_place 0 (λ (c : ResourceRecord). is_unit c.cur u)
+        cores.old) t.0 budget cores.old }
 {
     if let Some(r) = core_of(cores.as_slice(), u) {
         bring_due_at(r, t, budget, cores);
@@ -58,12 +60,12 @@ fn bring_due_of(u: UnitId, t: u64, budget: u64, cores: &mut Row<Option<Resource>
 }
 
 /// The unit, whose deadline has come, is replenished: its record afterwards.
-fn renew(t: u64, u: UnitId, records: &mut Records) -> RtdsUnit
-    requires due { replenish_due records.old t u ≡ true }
-    requires early { t ≤ 10000000000000 }
-    requires fits { RecordsFit t records.old }
-    ensures unit { Some result ≡ rtds_record_spec (replenish_spec records.old t u) u }
-    ensures records { records.new ≡ replenish_spec records.old t u }
+fn renew(t: Moment, u: UnitId, records: &mut Records) -> RtdsUnit
+    requires due { replenish_due records.old t.0 u ≡ true }
+    requires early { t.0 ≤ most_span }
+    requires fits { RecordsFit t.0 records.old }
+    ensures unit { Some result ≡ rtds_record_spec (replenish_spec records.old t.0 u) u }
+    ensures records { records.new ≡ replenish_spec records.old t.0 u }
 {
     replenish_records(records, t, u);
     match rtds_record(records, u) {
@@ -73,13 +75,13 @@ fn renew(t: u64, u: UnitId, records: &mut Records) -> RtdsUnit
 }
 
 /// The unit's deadline has come: it has its budget anew, and a core that runs it asks again when that is used up, if not before.
-pub fn replenish(g: u8, t: u64, u: UnitId, pool: &mut Pool) -> Event
-    requires enabled { IsTrue (enabled_in g t pool.old (Repl u)) }
-    requires early { t ≤ 10000000000000 }
+pub fn replenish(g: u8, t: Moment, u: UnitId, pool: &mut Pool) -> Event
+    requires enabled { IsTrue (enabled_in g t.0 pool.old (Repl u)) }
+    requires early { t.0 ≤ most_span }
     requires fits { PoolFits pool.old }
-    requires records { RecordsFit t pool.old.scheduler.records }
-    ensures event { result ≡ event_in g t pool.old (Repl u) }
-    ensures pool { pool.new ≡ after_in g t pool.old (Repl u) }
+    requires records { RecordsFit t.0 pool.old.scheduler.records }
+    ensures event { result ≡ event_in g t.0 pool.old (Repl u) }
+    ensures pool { pool.new ≡ after_in g t.0 pool.old (Repl u) }
 {
     let x = renew(t, u, &mut pool.scheduler.records);
     bring_due_of(u, t, x.budget, &mut pool.resources);
@@ -93,8 +95,8 @@ pub fn replenish(g: u8, t: u64, u: UnitId, pool: &mut Pool) -> Event
 }
 
 /// How many of the domain's periods have come at t since its refill was due.
-fn periods_of(t: u64, d: u8, pool: &Pool) -> u64
-    ensures { result ≡ periods_at t d pool.now }
+fn periods_of(t: Moment, d: DomId, pool: &Pool) -> u64
+    ensures { result ≡ periods_at t.0 d.0 pool.now }
 {
     match credit2_record(&pool.scheduler.records, d) {
         None => 0,
@@ -103,8 +105,8 @@ fn periods_of(t: u64, d: u8, pool: &Pool) -> u64
 }
 
 /// The budget that is left to the domain.
-fn budget_of(d: u8, pool: &Pool) -> i64
-    ensures { result ≡ budget_at d pool.now }
+fn budget_of(d: DomId, pool: &Pool) -> i64
+    ensures { result ≡ budget_at d.0 pool.now }
 {
     match credit2_record(&pool.scheduler.records, d) {
         None => 0,
@@ -113,16 +115,16 @@ fn budget_of(d: u8, pool: &Pool) -> i64
 }
 
 /// The domain's refill has come: its budget is filled.
-pub fn refill(g: u8, t: u64, d: u8, pool: &mut Pool) -> Event
-    requires early { t ≤ 10000000000000 }
-    requires records { RecordsFit t pool.old.scheduler.records }
-    ensures event { result ≡ event_in g t pool.old (Refill d) }
-    ensures pool { pool.new ≡ after_in g t pool.old (Refill d) }
+pub fn refill(g: u8, t: Moment, d: DomId, pool: &mut Pool) -> Event
+    requires early { t.0 ≤ most_span }
+    requires records { RecordsFit t.0 pool.old.scheduler.records }
+    ensures event { result ≡ event_in g t.0 pool.old (Refill d) }
+    ensures pool { pool.new ≡ after_in g t.0 pool.old (Refill d) }
 {
     let periods = periods_of(t, d, pool);
     refill_records(&mut pool.scheduler.records, t, d);
     Event::Refill {
-        d: DomId(d),
+        d,
         periods,
         budget: budget_of(d, pool),
     }

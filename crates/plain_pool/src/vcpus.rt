@@ -1,14 +1,15 @@
 //! The vCPUs of a pool's domains.
 
+ghost use Rattle.sched_model.specs.Checked.{most_span};
 ghost use Rattle.std.specs.Prelude.{◌≡◌, ◌<◌, ◌≤◌, ◌+◌, ◌%◌, option_map, Some, slice_get, slice_index_or};
 ghost use Rattle.std.specs.Option.{option_copied, IfSome, ForSome};
 ghost use Rattle.std.specs.List.{All, AllByRecursion};
 ghost use Rattle.sched_base.specs.Numbers.{moment, span};
 ghost use Rattle.sched_model.specs.declared.state.Vcpu.{Vcpu as VcpuRecord};
 ghost use Rattle.sched_model.specs.declared.state.Domain.{Domain as DomainRecord};
-ghost use Rattle.sched_model.specs.Places.{change_at, change_item, at_place};
-ghost use Rattle.sched_model.specs.Pool.{done_at as done_at_spec, put_to_sleep, stopped, woken};
-ghost use Rattle.plain_pool.specs.Fits.{AllPlaces, DomainFits, VcpuFits, vcpu_among};
+ghost use Rattle.sched_model.specs.Places.{change_at, change_item, at_place, AllPlaces};
+ghost use Rattle.sched_model.specs.Pool.{done_at as done_at_spec, put_to_sleep, stopped_vcpu, woken_vcpu};
+ghost use Rattle.plain_pool.specs.Fits.{DomainFits, VcpuFits, vcpu_among};
 
 use sched_base::{Moment, Span, VcpuId};
 use sched_model::row::Row;
@@ -46,58 +47,66 @@ pub fn done_at(v: &Vcpu) -> Option<Moment>
 }
 
 /// Stopped at t: the work left falls by what was done since it was started.
-fn stop(v: &mut Vcpu, t: u64)
-    ensures { v.new ≡ stopped t v.old }
+fn stop(v: &mut Vcpu, t: Moment)
+    ensures { v.new ≡ stopped_vcpu t.0 v.old }
 {
     if let Some(from) = v.started {
         if let Some(work) = v.work_left {
-            let done = t.saturating_sub(from.0);
+            let done = t.0.saturating_sub(from.0);
             v.work_left = Some(Span(work.0.saturating_sub(done)));
         }
         v.started = None;
     }
 }
 
-/// The vCPU at this place stopped at t.
-fn stop_at(vcpus: &mut Row<Vcpu>, n: usize, t: u64)
-    ensures { vcpus.new ≡ change_item n (stopped t) vcpus.old }
+/// The domain's vCPU at this place stopped at t.
+#[tactic(auto, using(plain_units::proofs::Places::past_the_end))]
+fn stop_at(domain: &mut Domain, n: usize, t: Moment)
+    ensures { domain.new ≡ record domain.old
+        { vcpus = change_item n (stopped_vcpu t.0) domain.old.vcpus } }
 {
-    if n < vcpus.len() {
-        stop(vcpus.item_mut(n), t);
+    if let Some(v) = domain.vcpus.get_mut(n) {
+        stop(v, t);
     }
 }
 
 /// The vCPU stopped at t.
-pub fn stop_vcpu(domains: &mut Row<Option<Domain>>, v: VcpuId, t: u64)
-    ensures { domains.new ≡ change_at v.dom.0 (λ (d : DomainRecord). record d { vcpus = change_item v.n (stopped t) d.vcpus }) domains.old }
+pub fn stop_vcpu(domains: &mut Row<Option<Domain>>, v: VcpuId, t: Moment)
+    ensures { domains.new ≡ change_at v.dom.0
+        (λ (d : DomainRecord). record d { vcpus = change_item v.n (stopped_vcpu t.0) d.vcpus })
+        domains.old }
 {
-    let d = v.dom.0 as usize;
-    if d < domains.len() {
-        if let Some(domain) = domains.item_mut(d) {
-            stop_at(&mut domain.vcpus, v.n as usize, t);
-        }
+    if let Some(place) = domains.get_mut(v.dom.0 as usize)
+        && let Some(domain) = place
+    {
+        stop_at(domain, v.n as usize, t);
     }
 }
 
-/// The vCPU at this place counts its work from t on.
-fn start_at(vcpus: &mut Row<Vcpu>, n: usize, t: u64)
-    ensures { vcpus.new ≡ change_item n (λ (x : VcpuRecord). record x { started = Some (moment t) }) vcpus.old }
+/// The domain's vCPU at this place counts its work from t on.
+#[tactic(auto, using(plain_units::proofs::Places::past_the_end))]
+fn start_at(domain: &mut Domain, n: usize, t: Moment)
+    ensures { domain.new ≡ record domain.old {
+      vcpus = change_item n (λ (x : VcpuRecord). record x { started = Some t })
+          domain.old.vcpus;
+    } }
 {
-    if n < vcpus.len() {
-        let v = vcpus.item_mut(n);
-        v.started = Some(Moment(t));
+    if let Some(v) = domain.vcpus.get_mut(n) {
+        v.started = Some(t);
     }
 }
 
 /// The vCPU counts its work from t on.
-pub fn start_vcpu(domains: &mut Row<Option<Domain>>, v: VcpuId, t: u64)
-    ensures { domains.new ≡ change_at v.dom.0 (λ (d : DomainRecord). record d { vcpus = change_item v.n (λ (x : VcpuRecord). record x { started = Some (moment t) }) d.vcpus }) domains.old }
+pub fn start_vcpu(domains: &mut Row<Option<Domain>>, v: VcpuId, t: Moment)
+    ensures { domains.new ≡ change_at v.dom.0
+        (λ (d : DomainRecord). record d
+        { vcpus = change_item v.n (λ (x : VcpuRecord). record x { started = Some t }) d.vcpus })
+        domains.old }
 {
-    let d = v.dom.0 as usize;
-    if d < domains.len() {
-        if let Some(domain) = domains.item_mut(d) {
-            start_at(&mut domain.vcpus, v.n as usize, t);
-        }
+    if let Some(place) = domains.get_mut(v.dom.0 as usize)
+        && let Some(domain) = place
+    {
+        start_at(domain, v.n as usize, t);
     }
 }
 
@@ -117,7 +126,7 @@ fn next_place(place: u8, count: usize) -> u8
 /// Awake, with the next run of the script as work left.
 fn wake_up(v: &mut Vcpu)
     requires { VcpuFits v.old }
-    ensures { v.new ≡ woken v.old }
+    ensures { v.new ≡ woken_vcpu v.old }
 {
     let next = next_place(v.place, v.script.len());
     v.place = next;
@@ -125,26 +134,28 @@ fn wake_up(v: &mut Vcpu)
     v.work_left = v.script.as_slice().get(next as usize).copied();
 }
 
-/// The vCPU at this place wakes.
-fn wake_at(vcpus: &mut Row<Vcpu>, n: usize)
-    requires { AllByRecursion VcpuFits vcpus.old }
-    ensures { vcpus.new ≡ change_item n woken vcpus.old }
+/// The domain's vCPU at this place wakes.
+#[tactic(auto, using(plain_units::proofs::Places::past_the_end))]
+fn wake_at(domain: &mut Domain, n: usize)
+    requires { DomainFits domain.old }
+    ensures { domain.new ≡ record domain.old
+        { vcpus = change_item n woken_vcpu domain.old.vcpus } }
 {
-    if n < vcpus.len() {
-        wake_up(vcpus.item_mut(n));
+    if let Some(v) = domain.vcpus.get_mut(n) {
+        wake_up(v);
     }
 }
 
 /// The vCPU wakes.
 pub fn wake_vcpu(domains: &mut Row<Option<Domain>>, v: VcpuId)
     requires { AllPlaces DomainFits domains.old }
-    ensures { domains.new ≡ change_at v.dom.0 (λ (d : DomainRecord). record d { vcpus = change_item v.n woken d.vcpus }) domains.old }
+    ensures { domains.new ≡ change_at v.dom.0
+        (λ (d : DomainRecord). record d { vcpus = change_item v.n woken_vcpu d.vcpus }) domains.old }
 {
-    let d = v.dom.0 as usize;
-    if d < domains.len() {
-        if let Some(domain) = domains.item_mut(d) {
-            wake_at(&mut domain.vcpus, v.n as usize);
-        }
+    if let Some(place) = domains.get_mut(v.dom.0 as usize)
+        && let Some(domain) = place
+    {
+        wake_at(domain, v.n as usize);
     }
 }
 
@@ -160,40 +171,43 @@ fn span_at(script: &[Span], place: usize) -> Span
 }
 
 /// Asleep from t for the next span of the script.
-fn fall_asleep(v: &mut Vcpu, t: u64)
+fn fall_asleep(v: &mut Vcpu, t: Moment)
     requires fits { VcpuFits v.old }
-    requires early { t ≤ 10000000000000 }
-    ensures { v.new ≡ put_to_sleep t v.old }
+    requires early { t.0 ≤ most_span }
+    ensures { v.new ≡ put_to_sleep t.0 v.old }
 {
     let place = v.place + 1;
     let span = span_at(v.script.as_slice(), place as usize);
     v.place = place;
-    v.asleep_until = Some(Moment(t + span.0));
+    v.asleep_until = Some(Moment(t.0 + span.0));
     v.work_left = Some(Span(0));
     v.started = None;
 }
 
-/// The vCPU at this place sleeps from t for the next span of its script.
-fn sleep_at(vcpus: &mut Row<Vcpu>, n: usize, t: u64)
-    requires fits { AllByRecursion VcpuFits vcpus.old }
-    requires early { t ≤ 10000000000000 }
-    ensures { vcpus.new ≡ change_item n (put_to_sleep t) vcpus.old }
+/// The domain's vCPU at this place sleeps from t for the next span of its script.
+#[tactic(auto, using(plain_units::proofs::Places::past_the_end))]
+fn sleep_at(domain: &mut Domain, n: usize, t: Moment)
+    requires fits { DomainFits domain.old }
+    requires early { t.0 ≤ most_span }
+    ensures { domain.new ≡ record domain.old
+        { vcpus = change_item n (put_to_sleep t.0) domain.old.vcpus } }
 {
-    if n < vcpus.len() {
-        fall_asleep(vcpus.item_mut(n), t);
+    if let Some(v) = domain.vcpus.get_mut(n) {
+        fall_asleep(v, t);
     }
 }
 
 /// The vCPU sleeps from t for the next span of its script.
-pub fn sleep_vcpu(domains: &mut Row<Option<Domain>>, v: VcpuId, t: u64)
+pub fn sleep_vcpu(domains: &mut Row<Option<Domain>>, v: VcpuId, t: Moment)
     requires fits { AllPlaces DomainFits domains.old }
-    requires early { t ≤ 10000000000000 }
-    ensures { domains.new ≡ change_at v.dom.0 (λ (d : DomainRecord). record d { vcpus = change_item v.n (put_to_sleep t) d.vcpus }) domains.old }
+    requires early { t.0 ≤ most_span }
+    ensures { domains.new ≡ change_at v.dom.0
+        (λ (d : DomainRecord). record d { vcpus = change_item v.n (put_to_sleep t.0) d.vcpus })
+        domains.old }
 {
-    let d = v.dom.0 as usize;
-    if d < domains.len() {
-        if let Some(domain) = domains.item_mut(d) {
-            sleep_at(&mut domain.vcpus, v.n as usize, t);
-        }
+    if let Some(place) = domains.get_mut(v.dom.0 as usize)
+        && let Some(domain) = place
+    {
+        sleep_at(domain, v.n as usize, t);
     }
 }

@@ -1,10 +1,11 @@
 //! A vCPU wakes, or sleeps. g is the number of a core's processors, t the moment.
 
+ghost use Rattle.sched_model.specs.Checked.{most_span};
 ghost use Rattle.std.specs.Prelude.{◌≡◌, ◌+◌, ◌*◌, ◌<◌, ◌≤◌, ◌/◌, ◌%◌, length, IsTrue, true, false, None, Some, if◌then◌else◌};
 ghost use Rattle.sched_model.specs.declared.action.Action.TheVariants.{Wake, Block};
 ghost use Rattle.sched_model.specs.Pool.{enabled_in, after_in, event_in, unit_of as unit_of_spec, is_off as is_off_spec, joined_siblings};
 ghost use Rattle.plain_pool.specs.Fits.{PoolFits};
-ghost use Rattle.plain_pool.specs.Waking.{idles_at, placed};
+ghost use Rattle.plain_pool.specs.Waking.{idles_at, after_placing};
 
 use crate::cores::{core_of, is_idle, is_on_core};
 use crate::doing::{change_doing, set_pending, take};
@@ -13,7 +14,7 @@ use crate::runnable::is_runnable;
 use crate::vcpus::{sleep_vcpu, wake_vcpu};
 use plain_policy::queue::enqueue;
 use plain_units::units::has_unit;
-use sched_base::{ProcId, UnitId, VcpuId};
+use sched_base::{Moment, ProcId, ResId, UnitId, VcpuId};
 use sched_model::event::Event;
 use sched_model::state::{Doing, Pool};
 
@@ -37,9 +38,9 @@ pub fn is_off(pool: &Pool, u: UnitId) -> bool
 }
 
 /// Whether the processor is there and idles.
-fn is_idle_at(g: u8, pool: &Pool, p: u8) -> bool
+fn is_idle_at(g: u8, pool: &Pool, p: ProcId) -> bool
     requires { 0 < g }
-    ensures { result ≡ idles_at g pool.now p }
+    ensures { result ≡ idles_at g pool.now p.0 }
 {
     match processor_of(g, pool, p) {
         None => false,
@@ -48,27 +49,27 @@ fn is_idle_at(g: u8, pool: &Pool, p: u8) -> bool
 }
 
 /// The vCPU is started on its own processor, where its unit is cur of a core and that processor idles.
-fn join_siblings(g: u8, t: u64, v: VcpuId, pool: &mut Pool)
+fn join_siblings(g: u8, t: Moment, v: VcpuId, pool: &mut Pool)
     requires some { 0 < g }
     requires few { g ≤ 4 }
     requires cores { length pool.old.resources ≤ 64 }
-    ensures { pool.new ≡ joined_siblings g t v pool.old }
+    ensures { pool.new ≡ joined_siblings g t.0 v pool.old }
 {
     if let Some(r) = core_of(pool.resources.as_slice(), unit_of(g, v)) {
         let p = r as u8 * g + v.n % g;
-        if is_idle_at(g, pool, p) {
-            take(g, t, p, Some(v), pool);
+        if is_idle_at(g, pool, ProcId(p)) {
+            take(g, t, ProcId(p), Some(v), pool);
         }
     }
 }
 
 /// A vCPU that is awake now finds its place: its unit waits, where it was off, and else its processor runs it.
-fn find_place(g: u8, t: u64, v: VcpuId, pool: &mut Pool)
+fn find_place(g: u8, t: Moment, v: VcpuId, pool: &mut Pool)
     requires some { 0 < g }
     requires few { g ≤ 4 }
     requires cores { length pool.old.resources ≤ 64 }
-    requires room { length (placed g t v pool.old).scheduler.queue ≤ 256 }
-    ensures { pool.new ≡ placed g t v pool.old }
+    requires room { length (after_placing g t.0 v pool.old).scheduler.queue ≤ 256 }
+    ensures { pool.new ≡ after_placing g t.0 v pool.old }
 {
     let u = unit_of(g, v);
     if is_runnable(g, pool.domains.as_slice(), u) {
@@ -81,13 +82,13 @@ fn find_place(g: u8, t: u64, v: VcpuId, pool: &mut Pool)
 }
 
 /// The vCPU wakes.
-pub fn wake(g: u8, t: u64, v: VcpuId, pool: &mut Pool) -> Event
+pub fn wake(g: u8, t: Moment, v: VcpuId, pool: &mut Pool) -> Event
     requires some { 0 < g }
     requires few { g ≤ 4 }
     requires fits { PoolFits pool.old }
-    requires room { length (after_in g t pool.old (Wake v)).scheduler.queue ≤ 256 }
-    ensures event { result ≡ event_in g t pool.old (Wake v) }
-    ensures pool { pool.new ≡ after_in g t pool.old (Wake v) }
+    requires room { length (after_in g t.0 pool.old (Wake v)).scheduler.queue ≤ 256 }
+    ensures event { result ≡ event_in g t.0 pool.old (Wake v) }
+    ensures pool { pool.new ≡ after_in g t.0 pool.old (Wake v) }
 {
     wake_vcpu(&mut pool.domains, v);
     find_place(g, t, v, pool);
@@ -95,13 +96,13 @@ pub fn wake(g: u8, t: u64, v: VcpuId, pool: &mut Pool) -> Event
 }
 
 /// The vCPU that the processor runs sleeps; its core is to decide anew, where its unit is no longer runnable.
-pub fn block(g: u8, t: u64, p: u8, pool: &mut Pool) -> Event
-    requires enabled { IsTrue (enabled_in g t pool.old (Block p)) }
+pub fn block(g: u8, t: Moment, p: ProcId, pool: &mut Pool) -> Event
+    requires enabled { IsTrue (enabled_in g t.0 pool.old (Block p)) }
     requires some { 0 < g }
-    requires early { t ≤ 10000000000000 }
+    requires early { t.0 ≤ most_span }
     requires fits { PoolFits pool.old }
-    ensures event { result ≡ event_in g t pool.old (Block p) }
-    ensures pool { pool.new ≡ after_in g t pool.old (Block p) }
+    ensures event { result ≡ event_in g t.0 pool.old (Block p) }
+    ensures pool { pool.new ≡ after_in g t.0 pool.old (Block p) }
 {
     let Some(v) = guest_of(g, pool, p) else {
         unreachable!();
@@ -109,7 +110,7 @@ pub fn block(g: u8, t: u64, p: u8, pool: &mut Pool) -> Event
     sleep_vcpu(&mut pool.domains, v, t);
     change_doing(g, p, Doing::Idle, &mut pool.resources);
     if !is_runnable(g, pool.domains.as_slice(), unit_of(g, v)) {
-        set_pending(p / g, &mut pool.resources);
+        set_pending(ResId(p.0 / g), &mut pool.resources);
     }
-    Event::Block { p: ProcId(p), v }
+    Event::Block { p, v }
 }

@@ -7,7 +7,7 @@ use Rattle.sched_model.specs.declared.state.Credit2Domain.{Credit2Domain}
 use Rattle.sched_model.specs.declared.state.Credit2Records.{Credit2Records}
 use Rattle.sched_model.specs.declared.state.Records.TheVariants.{Credit2Pool}
 use Rattle.sched_model.specs.declared.state.Scheduler.{Scheduler}
-use Rattle.sched_model.specs.Credit2.{burn_cur, burn_all, reset, resets_for, change_domain, take_budget, set_running, switch_off, decide, choice, choose2}
+use Rattle.sched_model.specs.Credit2.{burn_cur, burn_all, reset, resets_for, change_domain, take_budget, set_running, switch_off, decide, choice, credit2_decision}
 use Rattle.sched_laws.proofs.EachPlace.{length_set, length_change_each}
 
 -- how many places there are
@@ -34,16 +34,16 @@ decide-places ask scheduler records own None is =
     let same : own ≡ switch_off ask.cur records = cc in
     ap places same ∙ off-places ask.cur records
 decide-places ask scheduler records own (Some u) is =
-    let taken : Credit2Records = change_domain u.dom.0 (take_budget u.n) (reset ask.at (resets_for ask.at u records) records) in
-    let same : own ≡ set_running (Some ask.at) u (switch_off ask.cur taken) = cc in
+    let taken : Credit2Records = change_domain u.dom.0 (take_budget u.n) (reset ask.at.0 (resets_for ask.at.0 u records) records) in
+    let same : own ≡ set_running (Some ask.at.0) u (switch_off ask.cur taken) = cc in
     ap places same
     ∙ length_set u.dom.0 _ (switch_off ask.cur taken).domains
     ∙ off-places ask.cur taken
-    ∙ change-places u.dom.0 (take_budget u.n) (reset ask.at (resets_for ask.at u records) records)
-    ∙ reset-places ask.at (resets_for ask.at u records) records
+    ∙ change-places u.dom.0 (take_budget u.n) (reset ask.at.0 (resets_for ask.at.0 u records) records)
+    ∙ reset-places ask.at.0 (resets_for ask.at.0 u records) records
 
 -- the records of the decision have as many places as those before it
-pub choose2-places : (ask : Ask) (scheduler : Scheduler) (records own : Credit2Records) → Credit2Pool own ≡ (choose2 ask scheduler records).records → length own.domains ≡ length records.domains
+pub choose2-places : (ask : Ask) (scheduler : Scheduler) (records own : Credit2Records) → Credit2Pool own ≡ (credit2_decision ask scheduler records).records → length own.domains ≡ length records.domains
 choose2-places ask scheduler records own is =
-    let burned : Credit2Records = burn_cur ask.cur ask.at records in
-    decide-places ask scheduler burned own (choice ask scheduler burned) is ∙ burn-places ask.cur ask.at records
+    let burned : Credit2Records = burn_cur ask.cur ask.at.0 records in
+    decide-places ask scheduler burned own (choice ask scheduler burned) is ∙ burn-places ask.cur ask.at.0 records

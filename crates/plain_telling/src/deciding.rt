@@ -1,9 +1,10 @@
 //! What a scheduler would decide, with its records left as they are.
 
+ghost use Rattle.sched_model.specs.Checked.{most_span};
 ghost use Rattle.std.specs.Prelude.{◌≡◌, ◌<◌, ◌≤◌, length, Some};
-ghost use Rattle.sched_model.specs.Credit2.{choose2};
-ghost use Rattle.sched_model.specs.Rtds.{choose_rt};
-ghost use Rattle.sched_model.specs.NullScheduler.{choose_null};
+ghost use Rattle.sched_model.specs.Credit2.{credit2_decision};
+ghost use Rattle.sched_model.specs.Rtds.{rtds_decision};
+ghost use Rattle.sched_model.specs.NullScheduler.{null_decision};
 ghost use Rattle.sched_model.specs.Policy.{decision_by, decision_of};
 ghost use Rattle.sched_model.specs.Pool.{event_in};
 ghost use Rattle.sched_model.specs.Places.{at_place};
@@ -23,7 +24,7 @@ use plain_policy::{arinc, null, rtds};
 use plain_pool::cores::core_at;
 use plain_pool::deciding::{ask_of, lateness_of};
 use plain_units::decided::Decided;
-use sched_base::{ResId, Span, UnitId};
+use sched_base::{Moment, ResId, Span, UnitId};
 use sched_model::ask::Ask;
 use sched_model::config::Pins;
 use sched_model::event::Event;
@@ -48,11 +49,12 @@ fn by_credit2(
     ask: &Ask,
     scratch: &mut Credit2Records,
 ) -> Decided
-    requires fits { Credit2Fits ask.now.at records.now }
-    requires early { ask.now.at ≤ 10000000000000 }
-    requires core { ask.now.core < 64 }
+    requires fits { Credit2Fits ask.now.at.0 records.now }
+    requires early { ask.now.at.0 ≤ most_span }
+    requires core { ask.now.core.0 < 64 }
     requires room { length scratch.old.domains ≡ length records.now.domains }
-    ensures decided { Tells result (choose2 ask.now (credit2_scheduler queue.now affinity.now records.now) records.now) }
+    ensures decided { Tells result (credit2_decision ask.now
+        (credit2_scheduler queue.now affinity.now records.now) records.now) }
     ensures room { length scratch.new.domains ≡ length scratch.old.domains }
 {
     copy_credit2(records, scratch);
@@ -67,11 +69,12 @@ fn by_rtds(
     ask: &Ask,
     scratch: &mut Row<Option<RtdsUnits>>,
 ) -> Decided
-    requires fits { RtdsFits ask.now.at domains.now }
-    requires early { ask.now.at ≤ 10000000000000 }
-    requires core { ask.now.core < 64 }
+    requires fits { RtdsFits ask.now.at.0 domains.now }
+    requires early { ask.now.at.0 ≤ most_span }
+    requires core { ask.now.core.0 < 64 }
     requires room { length scratch.old ≡ length domains.now }
-    ensures decided { Tells result (choose_rt ask.now (scheduler_of queue.now affinity.now (RtdsPool domains.now)) domains.now) }
+    ensures decided { Tells result (rtds_decision ask.now
+        (scheduler_of queue.now affinity.now (RtdsPool domains.now)) domains.now) }
     ensures room { length scratch.new ≡ length scratch.old }
 {
     copy_places(domains, scratch);
@@ -86,10 +89,11 @@ fn by_null(
     ask: &Ask,
     scratch: &mut Row<Option<UnitId>>,
 ) -> Decided
-    requires core { ask.now.core < 64 }
+    requires core { ask.now.core.0 < 64 }
     requires few { length kept.now ≤ 64 }
     requires room { length scratch.old ≡ length kept.now }
-    ensures decided { Tells result (choose_null ask.now (scheduler_of queue.now affinity.now (NullPool kept.now)) kept.now) }
+    ensures decided { Tells result (null_decision ask.now
+        (scheduler_of queue.now affinity.now (NullPool kept.now)) kept.now) }
     ensures room { length scratch.new ≡ length scratch.old }
 {
     copy_places(kept, scratch);
@@ -104,11 +108,12 @@ fn decision_by_parts(
     ask: &Ask,
     scratch: &mut Scratch,
 ) -> Decided
-    requires fits { RecordsFit ask.now.at records.now }
-    requires early { ask.now.at ≤ 10000000000000 }
-    requires core { ask.now.core < 64 }
+    requires fits { RecordsFit ask.now.at.0 records.now }
+    requires early { ask.now.at.0 ≤ most_span }
+    requires core { ask.now.core.0 < 64 }
     requires room { HasRoom records.now scratch.old }
-    ensures decided { Tells result (decision_by records.now ask.now (scheduler_of queue.now affinity.now records.now)) }
+    ensures decided { Tells result (decision_by records.now ask.now
+        (scheduler_of queue.now affinity.now records.now)) }
     ensures room { AsLarge scratch.new scratch.old }
 {
     match records {
@@ -125,9 +130,9 @@ fn decision_by_parts(
 
 /// What the scheduler would decide for a core.
 pub fn decision(scheduler: &Scheduler, ask: &Ask, scratch: &mut Scratch) -> Decided
-    requires fits { RecordsFit ask.now.at scheduler.now.records }
-    requires early { ask.now.at ≤ 10000000000000 }
-    requires core { ask.now.core < 64 }
+    requires fits { RecordsFit ask.now.at.0 scheduler.now.records }
+    requires early { ask.now.at.0 ≤ most_span }
+    requires core { ask.now.core.0 < 64 }
     requires room { HasRoom scheduler.now.records scratch.old }
     ensures decided { Tells result (decision_of ask.now scheduler.now) }
     ensures room { AsLarge scratch.new scratch.old }
@@ -142,20 +147,20 @@ pub fn decision(scheduler: &Scheduler, ask: &Ask, scratch: &mut Scratch) -> Deci
 }
 
 /// What the core, which has this number, would decide.
-fn decide_at(g: u8, t: u64, r: u8, pool: &Pool, c: &Resource, scratch: &mut Scratch) -> Event
-    requires there { at_place pool.now.resources r ≡ Some c.now }
-    requires core { r < 64 }
-    requires early { t ≤ 10000000000000 }
+fn decide_at(g: u8, t: Moment, r: ResId, pool: &Pool, c: &Resource, scratch: &mut Scratch) -> Event
+    requires there { at_place pool.now.resources r.0 ≡ Some c.now }
+    requires core { r.0 < 64 }
+    requires early { t.0 ≤ most_span }
     requires fits { PoolFits pool.now }
-    requires records { RecordsFit t pool.now.scheduler.records }
+    requires records { RecordsFit t.0 pool.now.scheduler.records }
     requires room { HasRoom pool.now.scheduler.records scratch.old }
-    ensures event { result ≡ event_in g t pool.now (Decide r) }
+    ensures event { result ≡ event_in g t.0 pool.now (Decide r) }
     ensures room { AsLarge scratch.new scratch.old }
 {
     let ask = ask_of(g, t, pool, r, c);
     let answer = decision(&pool.scheduler, &ask, scratch);
     Event::Decide {
-        r: ResId(r),
+        r,
         unit: answer.unit,
         due: answer.due,
         late: lateness_of(t, c),
@@ -164,17 +169,17 @@ fn decide_at(g: u8, t: u64, r: u8, pool: &Pool, c: &Resource, scratch: &mut Scra
 }
 
 /// What the core would decide. A core that is not there decides to idle.
-pub fn decide(g: u8, t: u64, r: u8, pool: &Pool, scratch: &mut Scratch) -> Event
-    requires early { t ≤ 10000000000000 }
+pub fn decide(g: u8, t: Moment, r: ResId, pool: &Pool, scratch: &mut Scratch) -> Event
+    requires early { t.0 ≤ most_span }
     requires fits { PoolFits pool.now }
-    requires records { RecordsFit t pool.now.scheduler.records }
+    requires records { RecordsFit t.0 pool.now.scheduler.records }
     requires room { HasRoom pool.now.scheduler.records scratch.old }
-    ensures event { result ≡ event_in g t pool.now (Decide r) }
+    ensures event { result ≡ event_in g t.0 pool.now (Decide r) }
     ensures room { AsLarge scratch.new scratch.old }
 {
-    match core_at(pool.resources.as_slice(), r as usize) {
+    match core_at(pool.resources.as_slice(), r.0 as usize) {
         None => Event::Decide {
-            r: ResId(r),
+            r,
             unit: None,
             due: None,
             late: Span(0),

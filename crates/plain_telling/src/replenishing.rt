@@ -1,11 +1,12 @@
 //! What a replenishment and a refill would print, with the scheduler's records left as they are.
 
+ghost use Rattle.sched_model.specs.Checked.{most_span};
 ghost use Rattle.std.specs.Prelude.{◌≡◌, ◌≤◌, length, pos};
 ghost use Rattle.sched_model.specs.declared.action.Action.TheVariants.{Repl, Refill};
 ghost use Rattle.sched_model.specs.Eligible.{rtds_unit as rtds_unit_spec};
 ghost use Rattle.sched_model.specs.Policy.{rtds_record as rtds_record_spec, credit2_record as credit2_record_spec, replenish as replenish_spec, refill as refill_spec};
-ghost use Rattle.sched_model.specs.Pool.{event_in, replenished as replenished_spec};
-ghost use Rattle.sched_model.specs.Credit2.{refilled as refilled_spec};
+ghost use Rattle.sched_model.specs.Pool.{event_in, replenished_unit as replenished_spec};
+ghost use Rattle.sched_model.specs.Credit2.{refilled_pool as refilled_spec};
 ghost use Rattle.sched_model.specs.Rtds.{change_unit, replenish as replenish_unit};
 ghost use Rattle.sched_model.specs.Places.{at_place};
 ghost use Rattle.plain_units.specs.Fits.{Credit2Fits, RtdsFits, RecordsFit};
@@ -26,15 +27,15 @@ use sched_model::state::{Credit2Domain, Credit2Records, Pool, Records, RtdsUnit,
 
 /// The unit's record after its replenishment, where these are the records of the domains.
 fn replenished_in(
-    t: u64,
+    t: Moment,
     u: UnitId,
     domains: &[Option<RtdsUnits>],
     scratch: &mut Row<Option<RtdsUnits>>,
 ) -> Option<RtdsUnit>
-    requires fits { RtdsFits t domains.now }
-    requires early { t ≤ 10000000000000 }
+    requires fits { RtdsFits t.0 domains.now }
+    requires early { t.0 ≤ most_span }
     requires room { length scratch.old ≡ length domains.now }
-    ensures unit { result ≡ rtds_unit_spec (change_unit u (replenish_unit t) domains.now) u }
+    ensures unit { result ≡ rtds_unit_spec (change_unit u (replenish_unit t.0) domains.now) u }
     ensures room { length scratch.new ≡ length scratch.old }
 {
     copy_places(domains, scratch);
@@ -43,11 +44,11 @@ fn replenished_in(
 }
 
 /// The unit's record after its replenishment.
-fn replenished(t: u64, u: UnitId, records: &Records, scratch: &mut Scratch) -> Option<RtdsUnit>
-    requires fits { RecordsFit t records.now }
-    requires early { t ≤ 10000000000000 }
+fn replenished(t: Moment, u: UnitId, records: &Records, scratch: &mut Scratch) -> Option<RtdsUnit>
+    requires fits { RecordsFit t.0 records.now }
+    requires early { t.0 ≤ most_span }
     requires room { HasRoom records.now scratch.old }
-    ensures unit { result ≡ rtds_record_spec (replenish_spec records.now t u) u }
+    ensures unit { result ≡ rtds_record_spec (replenish_spec records.now t.0 u) u }
     ensures room { AsLarge scratch.new scratch.old }
 {
     match records {
@@ -57,11 +58,11 @@ fn replenished(t: u64, u: UnitId, records: &Records, scratch: &mut Scratch) -> O
 }
 
 /// What the unit's replenishment would print.
-pub fn replenish(g: u8, t: u64, u: UnitId, pool: &Pool, scratch: &mut Scratch) -> Event
-    requires early { t ≤ 10000000000000 }
-    requires fits { RecordsFit t pool.now.scheduler.records }
+pub fn replenish(g: u8, t: Moment, u: UnitId, pool: &Pool, scratch: &mut Scratch) -> Event
+    requires early { t.0 ≤ most_span }
+    requires fits { RecordsFit t.0 pool.now.scheduler.records }
     requires room { HasRoom pool.now.scheduler.records scratch.old }
-    ensures event { result ≡ event_in g t pool.now (Repl u) }
+    ensures event { result ≡ event_in g t.0 pool.now (Repl u) }
     ensures room { AsLarge scratch.new scratch.old }
 {
     match replenished(t, u, &pool.scheduler.records, scratch) {
@@ -83,8 +84,8 @@ pub fn replenish(g: u8, t: u64, u: UnitId, pool: &Pool, scratch: &mut Scratch) -
 }
 
 /// The budget that is left to the domain.
-fn budget_in(d: u8, domains: &[Option<Credit2Domain>]) -> i64
-    ensures { result ≡ budget_in_spec d domains.now }
+fn budget_in(d: DomId, domains: &[Option<Credit2Domain>]) -> i64
+    ensures { result ≡ budget_in_spec d.0 domains.now }
 {
     match domain_at(domains, d) {
         None => 0,
@@ -93,11 +94,11 @@ fn budget_in(d: u8, domains: &[Option<Credit2Domain>]) -> i64
 }
 
 /// The budget that is left to the domain after its refill, where these are the pool's records.
-fn refilled_in(t: u64, d: u8, records: &Credit2Records, scratch: &mut Credit2Records) -> i64
-    requires fits { Credit2Fits t records.now }
-    requires early { t ≤ 10000000000000 }
+fn refilled_in(t: Moment, d: DomId, records: &Credit2Records, scratch: &mut Credit2Records) -> i64
+    requires fits { Credit2Fits t.0 records.now }
+    requires early { t.0 ≤ most_span }
     requires room { length scratch.old.domains ≡ length records.now.domains }
-    ensures budget { result ≡ budget_in_spec d (refilled_spec t d records.now).domains }
+    ensures budget { result ≡ budget_in_spec d.0 (refilled_spec t.0 d.0 records.now).domains }
     ensures room { length scratch.new.domains ≡ length scratch.old.domains }
 {
     copy_credit2(records, scratch);
@@ -106,11 +107,11 @@ fn refilled_in(t: u64, d: u8, records: &Credit2Records, scratch: &mut Credit2Rec
 }
 
 /// The budget that is left to the domain after its refill.
-fn refilled(t: u64, d: u8, records: &Records, scratch: &mut Scratch) -> i64
-    requires fits { RecordsFit t records.now }
-    requires early { t ≤ 10000000000000 }
+fn refilled(t: Moment, d: DomId, records: &Records, scratch: &mut Scratch) -> i64
+    requires fits { RecordsFit t.0 records.now }
+    requires early { t.0 ≤ most_span }
     requires room { HasRoom records.now scratch.old }
-    ensures budget { result ≡ budget_after t d records.now }
+    ensures budget { result ≡ budget_after t.0 d.0 records.now }
     ensures room { AsLarge scratch.new scratch.old }
 {
     match records {
@@ -120,8 +121,8 @@ fn refilled(t: u64, d: u8, records: &Records, scratch: &mut Scratch) -> i64
 }
 
 /// How many of the domain's periods have come at t since its refill was due.
-fn periods_of(t: u64, d: u8, pool: &Pool) -> u64
-    ensures { result ≡ periods_at t d pool.now }
+fn periods_of(t: Moment, d: DomId, pool: &Pool) -> u64
+    ensures { result ≡ periods_at t.0 d.0 pool.now }
 {
     match credit2_record(&pool.scheduler.records, d) {
         None => 0,
@@ -130,15 +131,15 @@ fn periods_of(t: u64, d: u8, pool: &Pool) -> u64
 }
 
 /// What the domain's refill would print.
-pub fn refill(g: u8, t: u64, d: u8, pool: &Pool, scratch: &mut Scratch) -> Event
-    requires early { t ≤ 10000000000000 }
-    requires fits { RecordsFit t pool.now.scheduler.records }
+pub fn refill(g: u8, t: Moment, d: DomId, pool: &Pool, scratch: &mut Scratch) -> Event
+    requires early { t.0 ≤ most_span }
+    requires fits { RecordsFit t.0 pool.now.scheduler.records }
     requires room { HasRoom pool.now.scheduler.records scratch.old }
-    ensures event { result ≡ event_in g t pool.now (Refill d) }
+    ensures event { result ≡ event_in g t.0 pool.now (Refill d) }
     ensures room { AsLarge scratch.new scratch.old }
 {
     Event::Refill {
-        d: DomId(d),
+        d,
         periods: periods_of(t, d, pool),
         budget: refilled(t, d, &pool.scheduler.records, scratch),
     }

@@ -3,9 +3,8 @@
 ghost use Rattle.std.specs.Prelude.{IfOk};
 ghost use Rattle.plain_telling.specs.Rooms.{HasPlaces};
 
-use plain_opening::rows::empty_places;
 use sched_base::{NoMemory, UnitId};
-use sched_model::row::Row;
+use sched_model::row::{Row, empty_places};
 use sched_model::state::{Credit2Records, RtdsUnits};
 use std::alloc::Global;
 

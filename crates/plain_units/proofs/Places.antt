@@ -18,3 +18,6 @@ change_item-past (suc i) f (x ∷ xs) past = ap (λ ys. x ∷ ys) (change_item-p
 -- an item that is there, put back changed
 pub slice_set-changed : {X : Type 0} (i : ℕ) (f : X → X) (xs : List X) (x : X) → x ≡ slice_index_or xs i x → slice_set xs i (f x) ≡ change_item i f xs
 slice_set-changed i f xs x is = sym (change_item-set i f xs x ∙ ap (λ y. slice_set xs i (f y)) (sym is))
+
+-- what an answer needs that has no place to change
+pub ruleset past_the_end = (change_item-past)

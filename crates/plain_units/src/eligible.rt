@@ -4,7 +4,7 @@ ghost use Rattle.std.specs.Prelude.{◌≡◌, ◌<◌, slice_index_or};
 ghost use Rattle.sched_base.specs.Numbers.{core_set};
 ghost use Rattle.sched_model.specs.Eligible.{cores_of as cores_of_spec, is_allowed_by};
 
-use sched_base::UnitId;
+use sched_base::{Cores, ResId, UnitId};
 use sched_model::config::Pins;
 
 /// The unit's set of cores, where these are the sets of each domain's units.
@@ -30,10 +30,10 @@ fn set_at(units: &Pins, n: usize) -> u64
 }
 
 /// Whether the unit may be on the core: its set has the core, or has none of the pool's cores.
-pub fn is_allowed(affinity: &[Option<Pins>], home: u64, core: u8, u: UnitId) -> bool
-    requires { core < 64 }
-    ensures { result ≡ is_allowed_by affinity.now home core u }
+pub fn is_allowed(affinity: &[Option<Pins>], home: Cores, core: ResId, u: UnitId) -> bool
+    requires { core.0 < 64 }
+    ensures { result ≡ is_allowed_by affinity.now home.0 core.0 u }
 {
     let cores = cores_of(affinity, u);
-    cores / (1u64 << core) % 2 == 1 || cores & home == 0
+    cores / (1u64 << core.0) % 2 == 1 || cores & home.0 == 0
 }

@@ -5,7 +5,7 @@ ghost use Rattle.std.specs.List.{list_any};
 ghost use Rattle.sched_model.specs.Places.{same_unit, is_unit, has_unit as has_unit_spec, without_unit};
 ghost use Rattle.sched_model.specs.Pool.{is_of_domain as is_of_domain_spec, same_choice};
 
-use sched_base::UnitId;
+use sched_base::{DomId, UnitId};
 use sched_model::short::Short;
 use sched_model::state::Queue;
 
@@ -40,12 +40,12 @@ pub fn is_same_choice(a: Option<UnitId>, b: Option<UnitId>) -> bool
 }
 
 /// Whether the unit that stands there, if any does, is one of the domain.
-pub fn is_of_domain(d: u8, there: Option<UnitId>) -> bool
-    ensures { result ≡ is_of_domain_spec d there }
+pub fn is_of_domain(d: DomId, there: Option<UnitId>) -> bool
+    ensures { result ≡ is_of_domain_spec d.0 there }
 {
     match there {
         None => false,
-        Some(u) => u.dom.0 == d,
+        Some(u) => u.dom.0 == d.0,
     }
 }
 

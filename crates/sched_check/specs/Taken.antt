@@ -6,7 +6,7 @@ use Rattle.sched_model.specs.declared.event.Entry.{Entry}
 use Rattle.sched_model.specs.declared.machine.Machine.{Machine}
 use Rattle.sched_model.specs.declared.state.State.{State}
 use Rattle.sched_model.specs.Machine.{is_enabled, first_enabled, event_of, next_in_horizon}
-use Rattle.sched_model.specs.Runs.{Reached, IsNext, action_of, begun, after_entry, after_entries}
+use Rattle.sched_model.specs.Runs.{Reached, IsNext, action_of, run_start, after_entry, after_entries}
 use Rattle.run_laws.specs.RunLaws.{TakesFirst}
 
 -- a machine, whether the first action that may come is asked for, and where the run has come to
@@ -43,5 +43,5 @@ AreTaken m ordered from (entry ∷ entries) = IsTaken m ordered from entry × Ar
 
 -- the entries are taken from the opening on, and then the entry is
 pub record TakesOneMore (m : Machine) (ordered : Bool) (entries : List Entry) (entry : Entry) : Type 0 where
-  pub before : AreTaken m ordered (begun m) entries
-  pub last : IsTaken m ordered (after_entries m (begun m) entries) entry
+  pub before : AreTaken m ordered (run_start m) entries
+  pub last : IsTaken m ordered (after_entries m (run_start m) entries) entry

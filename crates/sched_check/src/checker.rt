@@ -22,7 +22,8 @@ use std::marker::Model;
 fn take_action(plain: &mut Plain, ordered: bool, e: Event, action: Action) -> Result<(), NotStep>
     ensures verdict { result ≡ action_verdict ordered plain.old.machine plain.old.state e action }
     ensures taken { IsOk result ↔ IsDue ordered plain.old.machine plain.old.state e action }
-    ensures ok { OnOk result (plain.new ≡ record plain.old { state = after plain.old.machine plain.old.state plain.old.state.now action }) }
+    ensures ok { OnOk result (plain.new ≡ record plain.old
+        { state = after plain.old.machine plain.old.state plain.old.state.now action }) }
     ensures err { OnErr result (plain.new ≡ plain.old) }
 {
     match judge_action(plain, ordered, e, action) {
@@ -36,9 +37,12 @@ fn take_action(plain: &mut Plain, ordered: bool, e: Event, action: Action) -> Re
 
 /// Takes an End, which names a next moment, or a Finish, which names none, where it is due.
 fn take_quiet(plain: &mut Plain, named: Option<u64>) -> Result<(), NotStep>
-    ensures verdict { result ≡ quiet_verdict plain.old.machine plain.old.state named (first_enabled plain.old.machine plain.old.state plain.old.state.now) (next_in_horizon plain.old.machine plain.old.state) }
+    ensures verdict { result ≡ quiet_verdict plain.old.machine plain.old.state named
+        (first_enabled plain.old.machine plain.old.state plain.old.state.now)
+        (next_in_horizon plain.old.machine plain.old.state) }
     ensures taken { IsOk result ↔ IsQuietDue plain.old.machine plain.old.state named }
-    ensures ok { OnOk result (plain.new ≡ record plain.old { state = (after_quiet named (record { state = plain.old.state; over = false })).state }) }
+    ensures ok { OnOk result (plain.new ≡ record plain.old
+        { state = (after_quiet named (record { state = plain.old.state; over = false })).state }) }
     ensures err { OnErr result (plain.new ≡ plain.old) }
 {
     match judge_quiet(plain, named) {
@@ -55,8 +59,10 @@ fn take_quiet(plain: &mut Plain, named: Option<u64>) -> Result<(), NotStep>
 /// Takes the entry, where it may come next. The run is not over.
 fn take(plain: &mut Plain, ordered: bool, e: Entry) -> Result<(), NotStep>
     ensures verdict { result ≡ moment_verdict ordered plain.old.machine plain.old.state e }
-    ensures taken { IsOk result ↔ IsTaken plain.old.machine ordered (record { state = plain.old.state; over = false }) e }
-    ensures ok { OnOk result (plain.new ≡ record plain.old { state = state_after plain.old.machine plain.old.state e }) }
+    ensures taken { IsOk result ↔ IsTaken plain.old.machine ordered
+        (record { state = plain.old.state; over = false }) e }
+    ensures ok { OnOk result (plain.new ≡ record plain.old
+        { state = state_after plain.old.machine plain.old.state e }) }
     ensures err { OnErr result (plain.new ≡ plain.old) }
 {
     let now = plain.now();
@@ -99,7 +105,7 @@ impl Model for Checker {
 impl Checker {
     ghost use Rattle.std.specs.Prelude.{◌≡◌, ◌↔◌, IfOk, IsOk, OnOk, OnErr};
     ghost use Rattle.sched_model.specs.Checked.{IsChecked};
-    ghost use Rattle.sched_model.specs.Runs.{after_entry, begun};
+    ghost use Rattle.sched_model.specs.Runs.{after_entry, run_start};
     ghost use Rattle.sched_check.specs.Taken.{IsTaken};
     ghost use Rattle.sched_check.specs.Verdicts.{verdict_of};
 
@@ -107,7 +113,11 @@ impl Checker {
     /// `ordered` says so, each action has to be the first that may come.
     pub fn open(alloc: Global, machine: Machine, ordered: bool) -> Result<Checker, NoMemory>
         requires { IsChecked machine }
-        ensures { IfOk result (λ c. c ≡ record { machine = machine; ordered = ordered; reached = begun machine }) }
+        ensures { IfOk result (λ c. c ≡ record {
+          machine = machine;
+          ordered = ordered;
+          reached = run_start machine;
+        }) }
     {
         Ok(Checker {
             plain: Plain::open(alloc, machine)?,
@@ -118,9 +128,12 @@ impl Checker {
 
     /// Takes the entry, where it may come next; else says why it may not, and stays as it was. It takes no memory.
     pub fn step(&mut self, e: &Entry) -> Result<(), NotStep>
-        ensures verdict { result ≡ verdict_of self.old.machine self.old.ordered self.old.reached e.now }
-        ensures taken { IsOk result ↔ IsTaken self.old.machine self.old.ordered self.old.reached e.now }
-        ensures goes_on { OnOk result (self.new ≡ record self.old { reached = after_entry self.old.machine self.old.reached e.now }) }
+        ensures verdict { result ≡ verdict_of self.old.machine self.old.ordered self.old.reached
+            e.now }
+        ensures taken { IsOk result ↔ IsTaken self.old.machine self.old.ordered self.old.reached
+            e.now }
+        ensures goes_on { OnOk result (self.new
+            ≡ record self.old { reached = after_entry self.old.machine self.old.reached e.now }) }
         ensures unchanged { OnErr result (self.new ≡ self.old) }
     {
         if self.finished {

@@ -22,17 +22,17 @@ pub fn action_of(e: Event) -> Option<Action>
     match e {
         Event::Stall { .. } => Some(Action::Stall),
         Event::Xl { .. } => Some(Action::Xl),
-        Event::Moved { r, .. } => Some(Action::Moved(r.0)),
-        Event::DomMoved { d, .. } => Some(Action::DomMoved(d.0)),
+        Event::Moved { r, .. } => Some(Action::Moved(r)),
+        Event::DomMoved { d, .. } => Some(Action::DomMoved(d)),
         Event::Wake { v } => Some(Action::Wake(v)),
-        Event::Block { p, .. } => Some(Action::Block(p.0)),
-        Event::Slice { r } => Some(Action::Slice(r.0)),
+        Event::Block { p, .. } => Some(Action::Block(p)),
+        Event::Slice { r } => Some(Action::Slice(r)),
         Event::Repl { u, .. } => Some(Action::Repl(u)),
-        Event::Refill { d, .. } => Some(Action::Refill(d.0)),
-        Event::Arrive { p } => Some(Action::Arrive(p.0)),
-        Event::Decide { r, .. } => Some(Action::Decide(r.0)),
-        Event::Leave { p, .. } => Some(Action::Leave(p.0)),
-        Event::Save { r, .. } => Some(Action::Save(r.0)),
+        Event::Refill { d, .. } => Some(Action::Refill(d)),
+        Event::Arrive { p } => Some(Action::Arrive(p)),
+        Event::Decide { r, .. } => Some(Action::Decide(r)),
+        Event::Leave { p, .. } => Some(Action::Leave(p)),
+        Event::Save { r, .. } => Some(Action::Save(r)),
         Event::End { .. } => None,
         Event::Finish => None,
     }
@@ -85,8 +85,10 @@ fn judge_fields(e: Event, due: Entry) -> Result<(), NotStep>
 
 /// Judges whether the action, which may come, is the first that may.
 fn judge_first(plain: &mut Plain, action: Action) -> Result<(), NotStep>
-    ensures verdict { result ≡ first_refusal plain.old.machine plain.old.state action (first_enabled plain.old.machine plain.old.state plain.old.state.now) }
-    ensures first { IsOk result ↔ (first_enabled plain.old.machine plain.old.state plain.old.state.now ≡ Some action) }
+    ensures verdict { result ≡ first_refusal plain.old.machine plain.old.state action
+        (first_enabled plain.old.machine plain.old.state plain.old.state.now) }
+    ensures first { IsOk result ↔ (first_enabled plain.old.machine plain.old.state
+        plain.old.state.now ≡ Some action) }
     ensures unchanged { plain.new ≡ plain.old }
 {
     match plain.first_enabled() {
@@ -106,7 +108,8 @@ fn judge_first(plain: &mut Plain, action: Action) -> Result<(), NotStep>
 /// Judges whether it is the turn of the action, which may come.
 fn judge_turn(plain: &mut Plain, ordered: bool, action: Action) -> Result<(), NotStep>
     ensures verdict { result ≡ turn_refusal ordered plain.old.machine plain.old.state action }
-    ensures first { IsOk result ↔ (ordered ≡ true → first_enabled plain.old.machine plain.old.state plain.old.state.now ≡ Some action) }
+    ensures first { IsOk result ↔ (ordered ≡ true → first_enabled plain.old.machine plain.old.state
+        plain.old.state.now ≡ Some action) }
     ensures unchanged { plain.new ≡ plain.old }
 {
     if ordered {
@@ -159,7 +162,9 @@ pub fn judge_action(
 
 /// Judges an End, which names a next moment, or a Finish, which names none.
 pub fn judge_quiet(plain: &mut Plain, named: Option<u64>) -> Result<(), NotStep>
-    ensures verdict { result ≡ quiet_verdict plain.old.machine plain.old.state named (first_enabled plain.old.machine plain.old.state plain.old.state.now) (next_in_horizon plain.old.machine plain.old.state) }
+    ensures verdict { result ≡ quiet_verdict plain.old.machine plain.old.state named
+        (first_enabled plain.old.machine plain.old.state plain.old.state.now)
+        (next_in_horizon plain.old.machine plain.old.state) }
     ensures taken { IsOk result ↔ IsQuietDue plain.old.machine plain.old.state named }
     ensures unchanged { plain.new ≡ plain.old }
 {

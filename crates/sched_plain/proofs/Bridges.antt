@@ -14,7 +14,7 @@ use Rattle.sched_model.specs.declared.state.Pool.{Pool}
 use Rattle.sched_model.specs.declared.state.State.{State}
 use Rattle.sched_model.specs.declared.state.Records.{Records}
 use Rattle.sched_model.specs.declared.state.Records.TheVariants.{Credit2Pool, RtdsPool, ArincPool, NullPool}
-use Rattle.sched_model.specs.Places.{at_place}
+use Rattle.sched_model.specs.Places.{at_place, AllPlaces}
 use Rattle.sched_model.specs.Opening.{core_count}
 use Rattle.sched_model.specs.Checked.{IsChecked, IsCheckedDomain, IsCheckedScript, IsWithin, IsGranularity, most_span}
 use Rattle.sched_laws.specs.Each.{EachPlace}
@@ -22,7 +22,7 @@ use Rattle.sched_laws.proofs.SiblingsLaw.{some_processor}
 use Rattle.sched_laws.proofs.Opened.{each_get}
 use Rattle.sched_ranges.specs.Ranges.{VcpuInRange, DomainInRange, RecordsInRange, PoolInRange, StateInRange}
 use Rattle.plain_units.specs.Fits.{RecordsFit}
-use Rattle.plain_pool.specs.Fits.{AllPlaces, PoolFits, DomainFits, VcpuFits}
+use Rattle.plain_pool.specs.Fits.{PoolFits, DomainFits, VcpuFits}
 use Rattle.sched_plain.specs.Fits.{FewGuests, MachineFits, PoolFitsAt, StateFits}
 use Rattle.sched_plain.specs.Reached.{Stands}
 use Rattle.sched_plain.proofs.Reaching.{reached-in_range}
@@ -88,13 +88,13 @@ few_cores m checked = (let low = div_low m.config.processors m.config.granularit
 module _ (m : Machine) (checked : IsChecked m) (t : ℕ) (early : t ≤ most_span) where
   vcpu-fits : (script : List Span) (x : Vcpu) → IsCheckedScript script → VcpuInRange t script x → VcpuFits x
   vcpu-fits script x passed range = record {
-    spans = All-from_recursion (λ (s : Span). s.0 ≤ 10000000000000) x.script (subst (λ (xs : List Span). AllByRecursion (λ (s : Span). s.0 ≤ 10000000000000) xs) (sym range.follows) (spans script (recursion_from_All (λ (s : Span). IsWithin 1 most_span s.0) script passed.spans)));
+    spans = All-from_recursion (λ (s : Span). s.0 ≤ most_span) x.script (subst (λ (xs : List Span). AllByRecursion (λ (s : Span). s.0 ≤ most_span) xs) (sym range.follows) (spans script (recursion_from_All (λ (s : Span). IsWithin 1 most_span s.0) script passed.spans)));
     place = range.place;
     started = for_some x.started range.started (λ from past. omega (arith, past, early));
     work_left = for_some x.work_left range.work (λ work low. low);
   }
     where
-      spans : (xs : List Span) → AllByRecursion (λ (s : Span). IsWithin 1 most_span s.0) xs → AllByRecursion (λ (s : Span). s.0 ≤ 10000000000000) xs
+      spans : (xs : List Span) → AllByRecursion (λ (s : Span). IsWithin 1 most_span s.0) xs → AllByRecursion (λ (s : Span). s.0 ≤ most_span) xs
       spans [] each = tt
       spans (s ∷ xs) each = (each.0.most, spans xs each.1)
 

@@ -17,7 +17,7 @@ use Rattle.sched_model.specs.Actions.{home_of_domain}
 use Rattle.sched_model.specs.Commands.{carried_out, change_home, pool_of_plan, reply_of}
 use Rattle.sched_model.specs.Machine.{after, after_command, answer_of, event_of, is_enabled, settled_at, verdict}
 use Rattle.sched_model.specs.Places.{at_place}
-use Rattle.sched_model.specs.Pool.{settled}
+use Rattle.sched_model.specs.Pool.{settled_pool}
 use Rattle.sched_model.proofs.PlaceLemmas.{at_place-change_at, at_place-change_at_other}
 use Rattle.sched_laws.specs.Each.{EachPlace}
 use Rattle.sched_laws.proofs.EachPlace.{by_cond, by_option, place_below}
@@ -70,8 +70,8 @@ unsettled t (Some i) s each = λ j pool at.
     elim (same_or_other j i) [
       | inl same ↦ (
           let there : at_place s.pools i ≡ Some pool = subst (λ k. at_place s.pools k ≡ Some pool) same at in
-          settled-back t pool (each i (settled t pool) (at_place-change_at i (settled t) s.pools (place_below s.pools i pool there) ∙ ap (option_map (settled t)) there)))
-      | inr other ↦ each j pool (at_place-change_at_other i j (settled t) s.pools other ∙ at)
+          settled-back t pool (each i (settled_pool t pool) (at_place-change_at i (settled_pool t) s.pools (place_below s.pools i pool there) ∙ ap (option_map (settled_pool t)) there)))
+      | inr other ↦ each j pool (at_place-change_at_other i j (settled_pool t) s.pools other ∙ at)
     ]
 
 -- the state after an accepted command

@@ -16,15 +16,15 @@ use Rattle.sched_model.specs.declared.state.State.{State}
 use Rattle.std.specs.List.{All}
 use Rattle.sched_model.specs.Actions.{change_pool, home_of_domain}
 use Rattle.sched_model.specs.Machine.{after, event_of, is_enabled, home_pool, is_null, joined_by, left_by}
-use Rattle.sched_model.specs.Places.{at_place, change_at, clear_at, test_at}
+use Rattle.sched_model.specs.Places.{at_place, change_at, clear_at, test_at, AllPlaces}
 use Rattle.sched_model.specs.Policy.{default_dom_params, parted_records}
-use Rattle.sched_model.specs.Pool.{enabled_in, event_in, settled, reconsidered, home_cores, with_domain, without_domain}
+use Rattle.sched_model.specs.Pool.{enabled_in, event_in, settled_pool, reconsidered_core, home_cores, with_domain, without_domain}
 use Rattle.sched_laws.specs.Each.{EachPlace}
 use Rattle.sched_laws.proofs.EachPlace.{EachPlace-change_at, EachPlace-clear_at, by_cond, length_change_each, length_set}
 use Rattle.sched_laws.proofs.NullKept.{length_released}
 use Rattle.sched_ranges.specs.Ranges.{Credit2InRange, RtdsInRange}
 use Rattle.plain_units.specs.Fits.{RecordsFit}
-use Rattle.plain_pool.specs.Fits.{AllPlaces, DomainFits}
+use Rattle.plain_pool.specs.Fits.{DomainFits}
 use Rattle.plain_pool.proofs.FitsLemmas.{at_place-fits}
 use Rattle.sched_plain.specs.Fits.{PoolFitsAt}
 use Rattle.sched_plain.specs.Moves.{domain_in, target_in}
@@ -61,16 +61,16 @@ without-fits t d pool fits = record {
 }
 
 -- looking at the cores changes no number
-settled-on : (t : ℕ) (pool : Pool) → PoolFitsAt t pool → PoolFitsAt t (settled t pool)
+settled-on : (t : ℕ) (pool : Pool) → PoolFitsAt t pool → PoolFitsAt t (settled_pool t pool)
 settled-on t pool fits = record {
-  fits = record { cores = (let same = length_change_each 0 (reconsidered t (home_cores pool) pool.scheduler) pool.resources in let few = fits.fits.cores in omega (arith, same, few)); few_domains = fits.fits.few_domains; domains = fits.fits.domains };
+  fits = record { cores = (let same = length_change_each 0 (reconsidered_core t (home_cores pool) pool.scheduler) pool.resources in let few = fits.fits.cores in omega (arith, same, few)); few_domains = fits.fits.few_domains; domains = fits.fits.domains };
   records = fits.records;
   queue = fits.queue;
 }
 
 left-fits : (t d : ℕ) (pool : Pool) → PoolFitsAt t pool → PoolFitsAt t (left_by t d pool)
 left-fits t d pool fits =
-    by_cond (PoolFitsAt t) (is_null pool.scheduler.records) (settled t (without_domain d pool)) (without_domain d pool)
+    by_cond (PoolFitsAt t) (is_null pool.scheduler.records) (settled_pool t (without_domain d pool)) (without_domain d pool)
     (λ null. settled-on t (without_domain d pool) (without-fits t d pool fits)) (λ other. without-fits t d pool fits)
 
 pub pools-left : (t d i : ℕ) (pools : List (Option Pool)) → EachPlace (PoolFitsAt t) pools → EachPlace (PoolFitsAt t) (change_at i (left_by t d) pools)
@@ -88,7 +88,7 @@ some_through (Some x) f y is = (x, refl, is)
 
 module _ (m : Machine) (s : State) (t d : ℕ) where
   -- where the move may come, the domain is moving
-  pub moving-there : (i : ℕ) (pool : Pool) → enabled_in m.config.granularity t pool (DomMoved d) ≡ true → at_place s.pools i ≡ Some pool → target_in d i s.pools ≡ None → ⊥
+  pub moving-there : (i : ℕ) (pool : Pool) → enabled_in m.config.granularity t pool (DomMoved (domain_number d)) ≡ true → at_place s.pools i ≡ Some pool → target_in d i s.pools ≡ None → ⊥
   moving-there i pool enabled there none =
       let passes : test_at pool.domains d (λ (domain : Domain). is_some domain.moving) ≡ true = and-left (test_at pool.domains d (λ (domain : Domain). is_some domain.moving)) _ enabled in
       let away : elim (at_place pool.domains d) as (λ _. Option PoolId) [ None ↦ None | Some domain ↦ domain.moving ] ≡ None = subst (λ (o : Option Pool). elim (elim o as (λ _. Option Domain) [ None ↦ None | Some x ↦ at_place x.domains d ]) as (λ _. Option PoolId) [ None ↦ None | Some domain ↦ domain.moving ] ≡ None) there none in
@@ -107,17 +107,17 @@ module _ (m : Machine) (s : State) (t d : ℕ) where
     moves = (let is : target_in d i s.pools ≡ domain.moving = ap (λ (o : Option Domain). elim o as (λ _. Option PoolId) [ None ↦ None | Some x ↦ x.moving ]) there in sym is ∙ target)
 
     -- what is printed
-    pub dom-event : event.DomMoved (domain_number d) to ≡ event_of m s t (DomMoved d)
+    pub dom-event : event.DomMoved (domain_number d) to ≡ event_of m s t (DomMoved (domain_number d))
     dom-event =
         let pool = some_through (at_place s.pools i) (λ (x : Pool). at_place x.domains d) domain there in
-        let is : home_pool m s (DomMoved d) ≡ pool.0 = home_pool-there m s t (DomMoved d) i pool.0 home pool.1 in
-        let printed : event_in m.config.granularity t pool.0 (DomMoved d) ≡ event.DomMoved (domain_number d) to =
+        let is : home_pool m s (DomMoved (domain_number d)) ≡ pool.0 = home_pool-there m s t (DomMoved (domain_number d)) i pool.0 home pool.1 in
+        let printed : event_in m.config.granularity t pool.0 (DomMoved (domain_number d)) ≡ event.DomMoved (domain_number d) to =
         ap (λ (o : Option Domain). event.DomMoved (domain_number d) (elim o as (λ _. PoolId) [ None ↦ pool_number 0 | Some x ↦ unwrap_or x.moving (pool_number 0) ])) pool.2
         ∙ ap (λ (o : Option PoolId). event.DomMoved (domain_number d) (unwrap_or o (pool_number 0))) moves in
-        sym (ap (λ (x : Pool). event_in m.config.granularity t x (DomMoved d)) is ∙ printed)
+        sym (ap (λ (x : Pool). event_in m.config.granularity t x (DomMoved (domain_number d))) is ∙ printed)
 
     -- what is left
-    pub dom-state : let left : State = record s { pools = change_at to.0 (joined_by m.config.granularity t d domain) (change_at i (left_by t d) s.pools) } in left ≡ after m s t (DomMoved d)
+    pub dom-state : let left : State = record s { pools = change_at to.0 (joined_by m.config.granularity t d domain) (change_at i (left_by t d) s.pools) } in left ≡ after m s t (DomMoved (domain_number d))
     dom-state =
         let g : ℕ = m.config.granularity in
         let pool = some_through (at_place s.pools i) (λ (x : Pool). at_place x.domains d) domain there in
@@ -144,8 +144,8 @@ joined-fits g t d joining params pool next fits given joins =
     subst (PoolFitsAt t) (sym joins) (subst (λ (p : DomParams). PoolFitsAt t (with_domain g t d (record joining { moving = None }) p pool)) (sym given) joined)
 
 -- all pools after the move
-pub pools-joined : (m : Machine) (s : State) (d i : ℕ) (to : PoolId) (domain : Domain) → Stands m s → is_enabled m s s.now (DomMoved d) ≡ true → home_of_domain s d ≡ Some i → target_in d i s.pools ≡ Some to → domain_in d i s.pools ≡ Some domain
+pub pools-joined : (m : Machine) (s : State) (d i : ℕ) (to : PoolId) (domain : Domain) → Stands m s → is_enabled m s s.now (DomMoved (domain_number d)) ≡ true → home_of_domain s d ≡ Some i → target_in d i s.pools ≡ Some to → domain_in d i s.pools ≡ Some domain
     → EachPlace (PoolFitsAt s.now) (change_at to.0 (joined_by m.config.granularity s.now d domain) (change_at i (left_by s.now d) s.pools))
 pools-joined m s d i to domain stands enabled home target there =
     let later : State = record s { pools = change_at to.0 (joined_by m.config.granularity s.now d domain) (change_at i (left_by s.now d) s.pools) } in
-    stands-pool m later (subst (Stands m) (sym (dom-state m s s.now d i to domain home target there)) (stands-after m s (DomMoved d) stands enabled))
+    stands-pool m later (subst (Stands m) (sym (dom-state m s s.now d i to domain home target there)) (stands-after m s (DomMoved (domain_number d)) stands enabled))

@@ -2,7 +2,7 @@
 use Rattle.std.proofs.Common.{◌≡◌, ◌∙◌, ◌≤◌, ◌<◌, ◌+◌, ℕ, zero, suc, List, [], ◌∷◌, length, refl, ap, subst, arith}
 use Rattle.std.specs.Prelude.{Option, Some, None, option_map, slice_get}
 use Rattle.std.proofs.lemmas.List.Elements.{recursion_from_All}
-use Rattle.sched_base.specs.Numbers.{span}
+use Rattle.sched_base.specs.Numbers.{span, domain}
 use Rattle.sched_model.specs.declared.command.Command.{Command}
 use Rattle.sched_model.specs.declared.facts.Stored.{Stored}
 use Rattle.sched_model.specs.declared.facts.Stored.TheVariants as stored
@@ -22,21 +22,23 @@ use Rattle.sched_laws.proofs.Opened.{each_get}
 use Rattle.sched_records.specs.Records.{HasRecords, IsRecorded}
 use Rattle.sched_records.proofs.Law.{has_records}
 use Rattle.plain_pool.specs.Fits as pools
-use Rattle.cpupool.specs.Facts.{KeepsFacts, KeepsValues, stored_from, stored_of}
-use Rattle.cpupool.specs.Fitting.{AllPlaces, DomainFits, PoolFits, StateFits}
+use Rattle.cpupool.specs.Facts.{KeepsFacts, KeepsValues, stored_from}
+use Rattle.sched_model.specs.Policy.{stored_of}
+use Rattle.cpupool.specs.Fitting.{DomainFits, PoolFits, StateFits}
+use Rattle.sched_model.specs.Places.{AllPlaces}
 use Rattle.sched_plain.specs.Reached.{Stands}
 use Rattle.sched_plain.proofs.Reaching.{reached-in_range}
 use Rattle.sched_plain.proofs.Bridges.{few_cores, item_below, stands-pool}
 
 -- where each of the units has a value, so many are kept
-stored-count : (records : Records) (d first count : ℕ) → ((n : ℕ) → n < first + count → (x : Stored) × (stored_of records d n ≡ Some x)) → length (stored_from records d first count) ≡ count
+stored-count : (records : Records) (d first count : ℕ) → ((n : ℕ) → n < first + count → (x : Stored) × (stored_of records (record { dom = domain d; n = n }) ≡ Some x)) → length (stored_from records d first count) ≡ count
 stored-count records d first zero has = refl
 stored-count records d first (suc count) has =
     let here = has first (omega arith) in
     let rest = stored-count records d (suc first) count (λ n low. has n (omega (arith, low))) in
     ap (λ (o : Option Stored). length (elim o as (λ _. List Stored) [ None ↦ [] | Some x ↦ x ∷ stored_from records d (suc first) count ])) here.1 ∙ ap suc rest
 
-stored-each : (records : Records) (d count : ℕ) → IsRecorded records d count → (n : ℕ) → n < 0 + count → (x : Stored) × (stored_of records d n ≡ Some x)
+stored-each : (records : Records) (d count : ℕ) → IsRecorded records d count → (n : ℕ) → n < 0 + count → (x : Stored) × (stored_of records (record { dom = domain d; n = n }) ≡ Some x)
 stored-each (Credit2Pool records) d count kept n low = (stored.Credit2 kept.domain.weight kept.domain.cap, ap (option_map (λ (x : Credit2Domain). stored.Credit2 x.weight x.cap)) kept.at)
 stored-each (RtdsPool domains) d count kept n low =
     let item = item_below kept.records n (let same = kept.units in omega (arith, low, same)) in
@@ -52,7 +54,7 @@ all-places P (None ∷ places) each = all-places P places (λ i x at. each (suc 
 all-places P (Some x ∷ places) each = (each 0 x refl, all-places P places (λ i y at. each (suc i) y at))
 
 -- the same, with less of each
-all-less : {X : Type 0} (P Q : X → Type 0) (places : List (Option X)) → ((x : X) → P x → Q x) → pools.AllPlaces P places → AllPlaces Q places
+all-less : {X : Type 0} (P Q : X → Type 0) (places : List (Option X)) → ((x : X) → P x → Q x) → AllPlaces P places → AllPlaces Q places
 all-less P Q [] less all = tt
 all-less P Q (None ∷ places) less all = all-less P Q places less all
 all-less P Q (Some x ∷ places) less all = (less x all.0, all-less P Q places less all.1)

@@ -6,7 +6,6 @@ pub mod Moving
 pub mod Stalling
 pub mod DomMoving
 pub mod Commanding
-pub mod Counting
 pub mod Judging
 pub mod Spares
 pub mod Searching

@@ -13,10 +13,3 @@ resources-fit t pool cores same fits = record {
   records = fits.records;
   queue = fits.queue;
 }
-
--- an empty place that is made empty is as it was
-pub clear_at-empty : {X : Type 0} (i : ℕ) (places : List (Option X)) → at_place places i ≡ None → clear_at i places ≡ places
-clear_at-empty i [] empty = grind arith
-clear_at-empty zero (None ∷ places) empty = refl
-clear_at-empty zero (Some x ∷ places) empty = absurd (cc)
-clear_at-empty (suc i) (x ∷ places) empty = ap (λ xs. x ∷ xs) (clear_at-empty i places empty)

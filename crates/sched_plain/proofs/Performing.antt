@@ -9,7 +9,7 @@ use Rattle.sched_model.specs.declared.state.Pool.{Pool}
 use Rattle.sched_model.specs.declared.state.State.{State}
 use Rattle.sched_model.specs.Opening.{no_pool}
 use Rattle.sched_model.specs.Places.{at_place, test_at}
-use Rattle.sched_model.specs.Pool.{enabled_in, event_in, after_in, settled, reconsidered, home_cores}
+use Rattle.sched_model.specs.Pool.{enabled_in, event_in, after_in, settled_pool, reconsidered_core, home_cores}
 use Rattle.sched_model.specs.Actions.{home_of, change_pool}
 use Rattle.sched_model.specs.Machine.{is_enabled, enabled_at_home, event_of, after, after_at_home, home_pool}
 use Rattle.sched_laws.proofs.EachPlace.{at_place-put_at, length_change_each, place_below}
@@ -20,9 +20,9 @@ use Rattle.sched_plain.proofs.Reaching.{stands-after}
 use Rattle.sched_plain.proofs.Bridges.{stands-pool}
 
 -- looking at the cores changes no number
-pub settled-back : (t : ℕ) (pool : Pool) → PoolFitsAt t (settled t pool) → PoolFitsAt t pool
+pub settled-back : (t : ℕ) (pool : Pool) → PoolFitsAt t (settled_pool t pool) → PoolFitsAt t pool
 settled-back t pool fits = record {
-  fits = record { cores = (let same = length_change_each 0 (reconsidered t (home_cores pool) pool.scheduler) pool.resources in let few = fits.fits.cores in omega (arith, same, few)); few_domains = fits.fits.few_domains; domains = fits.fits.domains };
+  fits = record { cores = (let same = length_change_each 0 (reconsidered_core t (home_cores pool) pool.scheduler) pool.resources in let few = fits.fits.cores in omega (arith, same, few)); few_domains = fits.fits.few_domains; domains = fits.fits.domains };
   records = fits.records;
   queue = fits.queue;
 }
@@ -106,9 +106,9 @@ module _ (m : Machine) (s : State) (t : ℕ) where
 
   -- what it leaves
   performed-state : (action : Action) (i : ℕ) (pool : Pool) → IsOfPool action → home_of m.config.granularity s action ≡ Some i → at_place s.pools i ≡ Some pool
-      → after m s t action ≡ record s { pools = slice_set s.pools i (Some (settled t (after_in m.config.granularity t pool action))) }
+      → after m s t action ≡ record s { pools = slice_set s.pools i (Some (settled_pool t (after_in m.config.granularity t pool action))) }
   performed-state action i pool own there is =
-      let f : Pool → Pool = λ x. settled t (after_in m.config.granularity t x action) in
+      let f : Pool → Pool = λ x. settled_pool t (after_in m.config.granularity t x action) in
       let with : Option Pool → State = λ o. record s { pools = slice_set s.pools i o } in
       after-home action own ∙ ap (λ o. elim o as (λ _. State) [ None ↦ s | Some k ↦ change_pool k f s ]) there
       ∙ ap with (ap (option_map f) is)
@@ -130,7 +130,7 @@ module _ (m : Machine) (s : State) (t : ℕ) (action : Action) (i : ℕ) (stands
 
     fits-then : PoolFitsAt s.now (after_in m.config.granularity s.now pool action)
     fits-then =
-        let next : Pool = settled s.now (after_in m.config.granularity s.now pool action) in
+        let next : Pool = settled_pool s.now (after_in m.config.granularity s.now pool action) in
         let state : State = record s { pools = slice_set s.pools i (Some next) } in
         let later : Stands m state = subst (Stands m) (performed-state m s s.now action i pool own home there) (stands-after m s action stands enabled) in
         settled-back s.now (after_in m.config.granularity s.now pool action) (stands-pool m state later i next (at_place-put_at i next s.pools (place_below s.pools i pool there)))
@@ -143,8 +143,8 @@ module _ (m : Machine) (s : State) (t : ℕ) (action : Action) (i : ℕ) (stands
     event-here event is =
         is ∙ ap (λ n. event_in m.config.granularity n pool action) now ∙ sym (event-home m s s.now action own ∙ ap (λ x. event_in m.config.granularity s.now x action) (home_pool-there m s s.now action i pool home there))
 
-    pub state-here : (next : Pool) → next ≡ settled t (after_in m.config.granularity t pool action)
+    pub state-here : (next : Pool) → next ≡ settled_pool t (after_in m.config.granularity t pool action)
         → let left : State = record s { pools = slice_set s.pools i (Some next) } in left ≡ after m s s.now action
     state-here next is =
         let with : Pool → State = λ x. record s { pools = slice_set s.pools i (Some x) } in
-        ap with is ∙ ap (λ n. with (settled n (after_in m.config.granularity n pool action))) now ∙ sym (performed-state m s s.now action i pool own home there)
+        ap with is ∙ ap (λ n. with (settled_pool n (after_in m.config.granularity n pool action))) now ∙ sym (performed-state m s s.now action i pool own home there)

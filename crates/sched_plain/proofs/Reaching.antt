@@ -8,7 +8,7 @@ use Rattle.sched_model.specs.declared.machine.Machine.{Machine}
 use Rattle.sched_model.specs.declared.action.Action.{Action}
 use Rattle.sched_model.specs.declared.state.State.{State}
 use Rattle.sched_model.specs.Machine.{is_enabled, first_enabled, event_of, after, next_in_horizon}
-use Rattle.sched_model.specs.Runs.{Reached, IsNext, begun, after_entry}
+use Rattle.sched_model.specs.Runs.{Reached, IsNext, run_start, after_entry}
 use Rattle.sched_model.proofs.RunLemmas.{after_entries-append, IsRunFrom-append, IsNext-action, after_entry-action}
 use Rattle.sched_ranges.specs.Ranges.{StateInRange}
 use Rattle.sched_ranges.proofs.Done.{in_range}
@@ -18,8 +18,8 @@ use Rattle.sched_plain.specs.Reached.{Reachable, Stands}
 reach-entry : (m : Machine) (s next : State) (entry : Entry) → Reachable m s → IsNext m (record { state = s; over = false }) entry → after_entry m (record { state = s; over = false }) entry ≡ record { state = next; over = false } → Reachable m next
 reach-entry m s next entry reached comes leads = record {
   entries = reached.entries ++ entry ∷ [];
-  run = IsRunFrom-append m (begun m) reached.entries entry reached.run (subst (λ (from : Reached). IsNext m from entry) (sym reached.leads) comes);
-  leads = after_entries-append m (begun m) reached.entries entry ∙ ap (λ (from : Reached). after_entry m from entry) reached.leads ∙ leads;
+  run = IsRunFrom-append m (run_start m) reached.entries entry reached.run (subst (λ (from : Reached). IsNext m from entry) (sym reached.leads) comes);
+  leads = after_entries-append m (run_start m) reached.entries entry ∙ ap (λ (from : Reached). after_entry m from entry) reached.leads ∙ leads;
 }
 
 -- the state after an action that may come

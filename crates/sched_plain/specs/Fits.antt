@@ -5,7 +5,8 @@ use Rattle.sched_model.specs.declared.machine.Machine.{Machine}
 use Rattle.sched_model.specs.declared.state.State.{State}
 use Rattle.sched_model.specs.declared.state.Pool.{Pool}
 use Rattle.plain_units.specs.Fits.{RecordsFit}
-use Rattle.plain_pool.specs.Fits.{AllPlaces, PoolFits}
+use Rattle.plain_pool.specs.Fits.{PoolFits}
+use Rattle.sched_model.specs.Places.{AllPlaces}
 
 -- each domain has at most 32 vCPUs
 abbrev pub FewGuests : List DomConfig → Type 0

@@ -7,13 +7,13 @@ use Rattle.sched_model.specs.declared.state.Domain.{Domain}
 use Rattle.sched_model.specs.declared.state.FreeCore.{FreeCore}
 use Rattle.sched_model.specs.declared.state.Pool.{Pool}
 use Rattle.sched_model.specs.Opening.{fresh_core}
-use Rattle.sched_model.specs.Places.{at_place, clear_at, numbered, put_at}
-use Rattle.sched_model.specs.Pool.{settled}
+use Rattle.sched_model.specs.Places.{at_place, clear_at, numbered_items, put_at}
+use Rattle.sched_model.specs.Pool.{settled_pool}
 use Rattle.plain_pool.specs.Cores.{ends_of}
 
 -- whether a core or a domain of the pool is on its way
 abbrev pub is_anything_moving : Pool → Bool
-is_anything_moving pool = list_any (λ c. c.1.leaving) (numbered 0 pool.resources) || list_any (λ d. is_some d.1.moving) (numbered 0 pool.domains)
+is_anything_moving pool = list_any (λ c. c.1.leaving) (numbered_items 0 pool.resources) || list_any (λ d. is_some d.1.moving) (numbered_items 0 pool.domains)
 
 -- the pool to which the core of no pool is leaving
 abbrev pub target_at : List (Option FreeCore) → ℕ → Option ℕ
@@ -21,11 +21,11 @@ target_at free r = elim (at_place free r) [ None ↦ None | Some c ↦ c.target 
 
 -- the pool with the core, looked at
 abbrev pub with_core : ℕ → ℕ → List Moment → Pool → Pool
-with_core t r ends pool = settled t (record pool { resources = put_at r (fresh_core ends) pool.resources })
+with_core t r ends pool = settled_pool t (record pool { resources = put_at r (fresh_core ends) pool.resources })
 
 -- the pool without the core, looked at
 abbrev pub without_core : ℕ → ℕ → Pool → Pool
-without_core t r pool = settled t (record pool { resources = clear_at r pool.resources })
+without_core t r pool = settled_pool t (record pool { resources = clear_at r pool.resources })
 
 -- the same, where the pool has the core
 abbrev pub without_its_core : ℕ → ℕ → Pool → Pool

@@ -3,23 +3,23 @@ use Rattle.std.specs.Prelude.{ℕ, ◌&&◌, Bool, true, List, [], ◌∷◌, Op
 use Rattle.sched_model.specs.declared.machine.Machine.{Machine}
 use Rattle.sched_model.specs.declared.state.State.{State}
 use Rattle.sched_model.specs.declared.state.Credit2Domain.{Credit2Domain}
-use Rattle.sched_model.specs.Places.{least}
+use Rattle.sched_model.specs.Places.{least_number}
 use Rattle.sched_model.specs.declared.work.StallLine.{StallLine}
 use Rattle.sched_model.specs.declared.work.CommandLine.{CommandLine}
 use Rattle.sched_model.specs.Machine.{first_enabled, some_of}
 
 -- the lesser of two moments, where they are there
-abbrev pub lesser : Option ℕ → Option ℕ → Option ℕ
-lesser None b = b
-lesser (Some a) b = elim b [ None ↦ Some a | Some n ↦ Some (min a n) ]
+abbrev pub lesser_moment : Option ℕ → Option ℕ → Option ℕ
+lesser_moment None b = b
+lesser_moment (Some a) b = elim b [ None ↦ Some a | Some n ↦ Some (min a n) ]
 
 -- whether the moment is after t and something may happen at it
 abbrev pub is_later : Machine → State → ℕ → ℕ → Bool
 is_later m s t later = nat_lt t later && is_some (first_enabled m s later)
 
 -- the soonest of the best so far and of those of the list
-unfoldable pub soonest : Machine → State → ℕ → Option ℕ → List ℕ → Option ℕ
-soonest m s t best moments = lesser best (least (filter (is_later m s t) moments))
+unfoldable pub soonest_moment : Machine → State → ℕ → Option ℕ → List ℕ → Option ℕ
+soonest_moment m s t best moments = lesser_moment best (least_number (filter (is_later m s t) moments))
 
 -- whether it is sooner than the best so far
 abbrev pub is_sooner : Machine → State → ℕ → Option ℕ → ℕ → Bool
@@ -33,13 +33,13 @@ line_moments m s =
 -- the soonest of the best so far and of those that f names of each of the things
 abbrev pub soonest_of_each : {X : Type 0} → Machine → State → ℕ → (X → List ℕ) → Option ℕ → List X → Option ℕ
 soonest_of_each m s t f best [] = best
-soonest_of_each m s t f best (x ∷ xs) = soonest_of_each m s t f (soonest m s t best (f x)) xs
+soonest_of_each m s t f best (x ∷ xs) = soonest_of_each m s t f (soonest_moment m s t best (f x)) xs
 
 -- the same of what stands at a place
 abbrev pub soonest_of_places : {X : Type 0} → Machine → State → ℕ → (X → List ℕ) → Option ℕ → List (Option X) → Option ℕ
 soonest_of_places m s t f best [] = best
 soonest_of_places m s t f best (None ∷ places) = soonest_of_places m s t f best places
-soonest_of_places m s t f best (Some x ∷ places) = soonest_of_places m s t f (soonest m s t best (f x)) places
+soonest_of_places m s t f best (Some x ∷ places) = soonest_of_places m s t f (soonest_moment m s t best (f x)) places
 
 -- the moment of the domain's refill, where it has one
 abbrev pub refill_moments : Credit2Domain → List ℕ

@@ -3,11 +3,11 @@
 ghost use Rattle.std.specs.Prelude.{◌≡◌, ◌≤◌, ℕ, Some, Ok, true, length, slice_get};
 ghost use Rattle.sched_laws.specs.Each.{EachPlace};
 ghost use Rattle.sched_model.specs.declared.action.Action.TheVariants as actions;
-ghost use Rattle.sched_model.specs.Checked.{IsCheckedCommand};
+ghost use Rattle.sched_model.specs.Checked.{IsCheckedCommand, most_span};
 ghost use Rattle.sched_model.specs.Commands.{judge, pool_of_plan as pool_of_plan_spec, reply_of as reply_of_spec};
 ghost use Rattle.sched_model.specs.Machine.{is_enabled, event_of, after, settled_at, verdict as verdict_spec};
 ghost use Rattle.sched_model.specs.Places.{change_at};
-ghost use Rattle.sched_model.specs.Pool.{settled};
+ghost use Rattle.sched_model.specs.Pool.{settled_pool};
 ghost use Rattle.cpupool.specs.Tool.{KnowsMachine};
 ghost use Rattle.sched_plain.specs.Commanding.{HasSpares, IsAccepted};
 ghost use Rattle.sched_plain.specs.Fits.{PoolFitsAt};
@@ -18,6 +18,7 @@ use cpupool::ToolState;
 use plain_commands::carry::carry_out;
 use plain_commands::facts::facts_at;
 use plain_pool::settle::settle;
+use sched_base::Moment;
 use sched_model::command::Command;
 use sched_model::event::{Event, Refusal, Reply};
 use sched_model::machine::Machine;
@@ -62,13 +63,13 @@ fn pool_of_plan(s: &State, plan: &Plan) -> Option<usize>
         Plan::CpuAdd { pool, .. } => Some(pool.0 as usize),
         Plan::CpuRemove { pool, .. } => Some(pool.0 as usize),
         Plan::Migrate { from, .. } => Some(from.0 as usize),
-        Plan::Credit2Dom { dom, .. } => home_of_domain(s, dom.0),
+        Plan::Credit2Dom { dom, .. } => home_of_domain(s, *dom),
         Plan::Credit2Pool { pool, .. } => Some(pool.0 as usize),
-        Plan::RtdsDom { dom, .. } => home_of_domain(s, dom.0),
-        Plan::Pause { dom, .. } => home_of_domain(s, dom.0),
-        Plan::Unpause { dom, .. } => home_of_domain(s, dom.0),
+        Plan::RtdsDom { dom, .. } => home_of_domain(s, *dom),
+        Plan::Pause { dom, .. } => home_of_domain(s, *dom),
+        Plan::Unpause { dom, .. } => home_of_domain(s, *dom),
         Plan::ArincSet { pool, .. } => Some(pool.0 as usize),
-        Plan::Pin { dom, .. } => home_of_domain(s, dom.0),
+        Plan::Pin { dom, .. } => home_of_domain(s, *dom),
     }
 }
 
@@ -108,10 +109,10 @@ pub(crate) fn verdict(
 }
 
 /// The cores of the pool with this number are looked at.
-fn settle_pool(t: u64, i: usize, pools: &mut Row<Option<Pool>>)
-    requires early { t ≤ 10000000000000 }
-    requires fits { EachPlace (PoolFitsAt t) pools.old }
-    ensures { pools.new ≡ change_at i (settled t) pools.old }
+fn settle_pool(t: Moment, i: usize, pools: &mut Row<Option<Pool>>)
+    requires early { t.0 ≤ most_span }
+    requires fits { EachPlace (PoolFitsAt t.0) pools.old }
+    ensures { pools.new ≡ change_at i (settled_pool t.0) pools.old }
 {
     if i < pools.len() {
         if let Some(pool) = pools.item_mut(i) {
@@ -121,10 +122,10 @@ fn settle_pool(t: u64, i: usize, pools: &mut Row<Option<Pool>>)
 }
 
 /// The same, where there is one.
-fn settle_at(t: u64, home: Option<usize>, s: &mut State)
-    requires early { t ≤ 10000000000000 }
-    requires fits { EachPlace (PoolFitsAt t) s.old.pools }
-    ensures { s.new ≡ settled_at t home s.old }
+fn settle_at(t: Moment, home: Option<usize>, s: &mut State)
+    requires early { t.0 ≤ most_span }
+    requires fits { EachPlace (PoolFitsAt t.0) s.old.pools }
+    ensures { s.new ≡ settled_at t.0 home s.old }
 {
     if let Some(i) = home {
         settle_pool(t, i, &mut s.pools);
@@ -144,8 +145,8 @@ fn accept(m: &Machine, plan: Plan, s: &mut State, spares: &mut Row<Option<Pool>>
     let k = s.next_command as usize;
     let home = pool_of_plan(s, &plan);
     s.next_command += 1;
-    carry_out(m, t, k, plan, home, s, spares);
-    settle_at(t, home, s);
+    carry_out(m, Moment(t), k, plan, home, s, spares);
+    settle_at(Moment(t), home, s);
 }
 
 /// The next command of the workload, whose moment has come.

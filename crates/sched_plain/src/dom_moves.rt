@@ -1,5 +1,6 @@
 //! Domains that move from one pool to another. g is the number of a core's processors, t the moment.
 
+ghost use Rattle.sched_model.specs.Checked.{most_span};
 ghost use Rattle.std.specs.Prelude.{◌≡◌, ◌<◌, ◌≤◌, length, true};
 ghost use Rattle.sched_model.specs.declared.action.Action.TheVariants as actions;
 ghost use Rattle.sched_model.specs.Machine.{is_enabled, event_of, after, left_by, joined_by};
@@ -14,19 +15,19 @@ use plain_policy::params::default_dom_params;
 use plain_policy::records::is_null;
 use plain_pool::domains::{with_domain, without_domain};
 use plain_pool::settle::settle;
-use sched_base::{DomId, PoolId};
+use sched_base::{DomId, Moment, PoolId};
 use sched_model::event::Event;
 use sched_model::machine::Machine;
 use sched_model::row::Row;
 use sched_model::state::{Domain, Pool, State};
 
 /// The pool to which the domain is moving, where the pool with this number has it.
-pub(crate) fn target_in(s: &State, i: usize, d: u8) -> Option<PoolId>
-    ensures { result ≡ target_in_spec d i s.entry.now.pools }
+pub(crate) fn target_in(s: &State, i: usize, d: DomId) -> Option<PoolId>
+    ensures { result ≡ target_in_spec d.0 i s.entry.now.pools }
 {
     let pool = pool_at(s, i)?;
     let domains = pool.domains.as_slice();
-    let place = d as usize;
+    let place = d.0 as usize;
     if place >= domains.len() {
         return None;
     }
@@ -37,11 +38,11 @@ pub(crate) fn target_in(s: &State, i: usize, d: u8) -> Option<PoolId>
 }
 
 /// The domain leaves the pool; a null pool's cores are looked at, since one of them may have become free for a waiting unit.
-fn leave(t: u64, d: u8, pool: &mut Pool) -> Option<Domain>
-    requires early { t ≤ 10000000000000 }
-    requires fits { PoolFitsAt t pool.old }
-    ensures domain { result ≡ at_place pool.old.domains d }
-    ensures pool { pool.new ≡ left_by t d pool.old }
+fn leave(t: Moment, d: DomId, pool: &mut Pool) -> Option<Domain>
+    requires early { t.0 ≤ most_span }
+    requires fits { PoolFitsAt t.0 pool.old }
+    ensures domain { result ≡ at_place pool.old.domains d.0 }
+    ensures pool { pool.new ≡ left_by t.0 d.0 pool.old }
 {
     let looks = is_null(&pool.scheduler.records);
     let domain = without_domain(d, pool);
@@ -52,11 +53,11 @@ fn leave(t: u64, d: u8, pool: &mut Pool) -> Option<Domain>
 }
 
 /// The same in the pool with this number.
-fn leave_at(t: u64, d: u8, i: usize, pools: &mut Row<Option<Pool>>) -> Option<Domain>
-    requires early { t ≤ 10000000000000 }
-    requires fits { EachPlace (PoolFitsAt t) pools.old }
-    ensures domain { result ≡ domain_in d i pools.old }
-    ensures pools { pools.new ≡ change_at i (left_by t d) pools.old }
+fn leave_at(t: Moment, d: DomId, i: usize, pools: &mut Row<Option<Pool>>) -> Option<Domain>
+    requires early { t.0 ≤ most_span }
+    requires fits { EachPlace (PoolFitsAt t.0) pools.old }
+    ensures domain { result ≡ domain_in d.0 i pools.old }
+    ensures pools { pools.new ≡ change_at i (left_by t.0 d.0) pools.old }
 {
     if i >= pools.len() {
         return None;
@@ -68,14 +69,14 @@ fn leave_at(t: u64, d: u8, i: usize, pools: &mut Row<Option<Pool>>) -> Option<Do
 }
 
 /// The domain joins the pool with its scheduler's default parameters, and the pool's cores are looked at.
-fn join(g: u8, t: u64, d: u8, joining: Domain, pool: &mut Pool)
+fn join(g: u8, t: Moment, d: DomId, joining: Domain, pool: &mut Pool)
     requires some { 0 < g }
     requires few { g ≤ 4 }
-    requires early { t ≤ 10000000000000 }
+    requires early { t.0 ≤ most_span }
     requires vcpus { length joining.vcpus ≤ 32 }
-    requires before { PoolFitsAt t pool.old }
-    requires after { PoolFitsAt t (joined_by g t d joining pool.old) }
-    ensures { pool.new ≡ joined_by g t d joining pool.old }
+    requires before { PoolFitsAt t.0 pool.old }
+    requires after { PoolFitsAt t.0 (joined_by g t.0 d.0 joining pool.old) }
+    ensures { pool.new ≡ joined_by g t.0 d.0 joining pool.old }
 {
     let params = default_dom_params(&pool.scheduler.records);
     let domain = Domain {
@@ -88,14 +89,15 @@ fn join(g: u8, t: u64, d: u8, joining: Domain, pool: &mut Pool)
 }
 
 /// The same in the pool with this number.
-fn join_at(g: u8, t: u64, d: u8, joining: Domain, i: usize, pools: &mut Row<Option<Pool>>)
+fn join_at(g: u8, t: Moment, d: DomId, joining: Domain, i: usize, pools: &mut Row<Option<Pool>>)
     requires some { 0 < g }
     requires few { g ≤ 4 }
-    requires early { t ≤ 10000000000000 }
+    requires early { t.0 ≤ most_span }
     requires vcpus { length joining.vcpus ≤ 32 }
-    requires before { EachPlace (PoolFitsAt t) pools.old }
-    requires after { EachPlace (PoolFitsAt t) (change_at i (joined_by g t d joining) pools.old) }
-    ensures { pools.new ≡ change_at i (joined_by g t d joining) pools.old }
+    requires before { EachPlace (PoolFitsAt t.0) pools.old }
+    requires after { EachPlace (PoolFitsAt t.0)
+        (change_at i (joined_by g t.0 d.0 joining) pools.old) }
+    ensures { pools.new ≡ change_at i (joined_by g t.0 d.0 joining) pools.old }
 {
     if i < pools.len() {
         if let Some(pool) = pools.item_mut(i) {
@@ -105,7 +107,7 @@ fn join_at(g: u8, t: u64, d: u8, joining: Domain, i: usize, pools: &mut Row<Opti
 }
 
 /// The domain leaves its pool and joins the one to which it is moving.
-pub fn move_domain(m: &Machine, d: u8, s: &mut State) -> Event
+pub fn move_domain(m: &Machine, d: DomId, s: &mut State) -> Event
     requires stands { Stands m.now s.old }
     requires enabled { is_enabled m.now s.old s.old.now (actions.DomMoved d) ≡ true }
     ensures event { result ≡ event_of m.now s.old s.old.now (actions.DomMoved d) }
@@ -119,9 +121,9 @@ pub fn move_domain(m: &Machine, d: u8, s: &mut State) -> Event
     let Some(to) = target_in(s, from, d) else {
         unreachable!();
     };
-    let Some(domain) = leave_at(t, d, from, &mut s.pools) else {
+    let Some(domain) = leave_at(Moment(t), d, from, &mut s.pools) else {
         unreachable!();
     };
-    join_at(g, t, d, domain, to.0 as usize, &mut s.pools);
-    Event::DomMoved { d: DomId(d), to }
+    join_at(g, Moment(t), d, domain, to.0 as usize, &mut s.pools);
+    Event::DomMoved { d, to }
 }

@@ -9,46 +9,47 @@ ghost use Rattle.sched_plain.specs.Search.{stall_due as stall_due_spec, command_
 
 use crate::homes::{home_of, is_move_under_way, pool_at};
 use plain_pool::pool::is_enabled_in;
+use sched_base::{Moment, ResId};
 use sched_model::action::Action;
 use sched_model::machine::Machine;
 use sched_model::state::{FreeCore, State};
 
 /// Whether the next stall has come.
-fn stall_due(m: &Machine, s: &State, t: u64) -> bool
-    ensures { result ≡ stall_due_spec m.now s.entry.now t }
+fn stall_due(m: &Machine, s: &State, t: Moment) -> bool
+    ensures { result ≡ stall_due_spec m.now s.entry.now t.0 }
 {
     match m.work.stalls.as_slice().get(s.next_stall as usize) {
         None => false,
-        Some(line) => line.at.0 <= t,
+        Some(line) => line.at.0 <= t.0,
     }
 }
 
 /// Whether the next command has come.
-fn command_due(m: &Machine, s: &State, t: u64) -> bool
-    ensures { result ≡ command_due_spec m.now s.entry.now t }
+fn command_due(m: &Machine, s: &State, t: Moment) -> bool
+    ensures { result ≡ command_due_spec m.now s.entry.now t.0 }
 {
     match m.work.commands.as_slice().get(s.next_command as usize) {
         None => false,
-        Some(line) => line.at.0 <= t,
+        Some(line) => line.at.0 <= t.0,
     }
 }
 
 /// Whether a core of no pool is leaving, and its first processor is up.
-fn free_ready(t: u64, c: &FreeCore) -> bool
-    ensures { result ≡ free_ready_spec t c.now }
+fn free_ready(t: Moment, c: &FreeCore) -> bool
+    ensures { result ≡ free_ready_spec t.0 c.now }
 {
     c.target.is_some()
         && match c.stall_ends.as_slice() {
             [] => false,
-            [end, ..] => end.0 <= t,
+            [end, ..] => end.0 <= t.0,
         }
 }
 
 /// The same of the core with this number.
-fn is_free_ready(s: &State, t: u64, r: u8) -> bool
-    ensures { result ≡ test_at s.entry.now.free r (free_ready_spec t) }
+fn is_free_ready(s: &State, t: Moment, r: ResId) -> bool
+    ensures { result ≡ test_at s.entry.now.free r.0 (free_ready_spec t.0) }
 {
-    let place = r as usize;
+    let place = r.0 as usize;
     let free = s.free.as_slice();
     if place >= free.len() {
         return false;
@@ -60,10 +61,10 @@ fn is_free_ready(s: &State, t: u64, r: u8) -> bool
 }
 
 /// Whether the action may come at t, by the pool of its subject.
-fn is_enabled_at_home(m: &Machine, s: &State, t: u64, action: Action) -> bool
+fn is_enabled_at_home(m: &Machine, s: &State, t: Moment, action: Action) -> bool
     requires machine { MachineFits m.now }
     requires state { StateFits s.now }
-    ensures { result ≡ enabled_at_home m.now s.entry.now t action }
+    ensures { result ≡ enabled_at_home m.now s.entry.now t.0 action }
 {
     match home_of(m.config.granularity, s, action) {
         None => false,
@@ -72,10 +73,10 @@ fn is_enabled_at_home(m: &Machine, s: &State, t: u64, action: Action) -> bool
 }
 
 /// Whether the action may come at t in the pool with this number.
-fn is_enabled_at(g: u8, s: &State, t: u64, action: Action, i: usize) -> bool
+fn is_enabled_at(g: u8, s: &State, t: Moment, action: Action, i: usize) -> bool
     requires some { 0 < g }
     requires state { StateFits s.now }
-    ensures { result ≡ test_at s.entry.now.pools i (λ pool. enabled_in g t pool action) }
+    ensures { result ≡ test_at s.entry.now.pools i (λ pool. enabled_in g t.0 pool action) }
 {
     match pool_at(s, i) {
         None => false,
@@ -84,10 +85,10 @@ fn is_enabled_at(g: u8, s: &State, t: u64, action: Action, i: usize) -> bool
 }
 
 /// Whether the action may come at t.
-pub fn is_enabled(m: &Machine, s: &State, t: u64, action: Action) -> bool
+pub fn is_enabled(m: &Machine, s: &State, t: Moment, action: Action) -> bool
     requires machine { MachineFits m.now }
     requires state { StateFits s.now }
-    ensures { result ≡ is_enabled_spec m.now s.entry.now t action }
+    ensures { result ≡ is_enabled_spec m.now s.entry.now t.0 action }
 {
     match action {
         Action::Stall => stall_due(m, s, t),

@@ -7,12 +7,13 @@ ghost use Rattle.sched_model.specs.declared.state.Resource.{Resource as Resource
 ghost use Rattle.sched_model.specs.declared.state.Domain.{Domain as DomainRecord};
 ghost use Rattle.sched_model.specs.declared.state.Pool.{Pool as PoolRecord};
 ghost use Rattle.sched_model.specs.declared.state.FreeCore.{FreeCore as FreeCoreRecord};
-ghost use Rattle.sched_model.specs.Places.{at_place, first_place, numbered};
+ghost use Rattle.sched_model.specs.Places.{at_place, first_place, numbered_items, AllPlaces};
 ghost use Rattle.sched_model.specs.Actions.{home_of_core as home_of_core_spec, home_of_domain as home_of_domain_spec, home_of as home_of_spec};
 ghost use Rattle.sched_model.specs.Machine.{is_move_under_way as is_move_under_way_spec};
 ghost use Rattle.sched_plain.specs.Moves.{is_anything_moving};
-ghost use Rattle.plain_pool.specs.Fits.{AllPlaces, PoolFits};
+ghost use Rattle.plain_pool.specs.Fits.{PoolFits};
 
+use sched_base::{DomId, ResId};
 use sched_model::action::Action;
 use sched_model::state::{Domain, FreeCore, Pool, Resource, State};
 
@@ -31,15 +32,16 @@ fn has_domain(domains: &[Option<Domain>], d: usize) -> bool
 }
 
 /// The pool that has the core, where the first of these has the number i.
-fn core_home(i: usize, pools: &[Option<Pool>], r: u8) -> Option<usize>
+fn core_home(i: usize, pools: &[Option<Pool>], r: ResId) -> Option<usize>
     requires { i + length pools.now < 2 ^ 64 }
-    ensures { result ≡ first_place i (λ (pool : PoolRecord). is_some (at_place pool.resources r)) pools.now }
+    ensures { result ≡ first_place i (λ (pool : PoolRecord). is_some (at_place pool.resources r.0))
+        pools.now }
 {
     match pools {
         [] => None,
         [None, rest @ ..] => core_home(i + 1, rest, r),
         [Some(pool), rest @ ..] => {
-            if has_core(pool.resources.as_slice(), r as usize) {
+            if has_core(pool.resources.as_slice(), r.0 as usize) {
                 Some(i)
             } else {
                 core_home(i + 1, rest, r)
@@ -49,15 +51,16 @@ fn core_home(i: usize, pools: &[Option<Pool>], r: u8) -> Option<usize>
 }
 
 /// The pool that has the domain, where the first of these has the number i.
-fn domain_home(i: usize, pools: &[Option<Pool>], d: u8) -> Option<usize>
+fn domain_home(i: usize, pools: &[Option<Pool>], d: DomId) -> Option<usize>
     requires { i + length pools.now < 2 ^ 64 }
-    ensures { result ≡ first_place i (λ (pool : PoolRecord). is_some (at_place pool.domains d)) pools.now }
+    ensures { result ≡ first_place i (λ (pool : PoolRecord). is_some (at_place pool.domains d.0))
+        pools.now }
 {
     match pools {
         [] => None,
         [None, rest @ ..] => domain_home(i + 1, rest, d),
         [Some(pool), rest @ ..] => {
-            if has_domain(pool.domains.as_slice(), d as usize) {
+            if has_domain(pool.domains.as_slice(), d.0 as usize) {
                 Some(i)
             } else {
                 domain_home(i + 1, rest, d)
@@ -67,17 +70,17 @@ fn domain_home(i: usize, pools: &[Option<Pool>], d: u8) -> Option<usize>
 }
 
 /// The pool that has the core.
-pub fn home_of_core(s: &State, r: u8) -> Option<usize>
+pub fn home_of_core(s: &State, r: ResId) -> Option<usize>
     requires { length s.now.pools ≤ 16 }
-    ensures { result ≡ home_of_core_spec s.entry.now r }
+    ensures { result ≡ home_of_core_spec s.entry.now r.0 }
 {
     core_home(0, s.pools.as_slice(), r)
 }
 
 /// The pool that has the domain.
-pub fn home_of_domain(s: &State, d: u8) -> Option<usize>
+pub fn home_of_domain(s: &State, d: DomId) -> Option<usize>
     requires { length s.now.pools ≤ 16 }
-    ensures { result ≡ home_of_domain_spec s.entry.now d }
+    ensures { result ≡ home_of_domain_spec s.entry.now d.0 }
 {
     domain_home(0, s.pools.as_slice(), d)
 }
@@ -105,14 +108,14 @@ pub fn home_of(g: u8, s: &State, action: Action) -> Option<usize>
         Action::Xl => None,
         Action::Moved(r) => home_of_core(s, r),
         Action::DomMoved(d) => home_of_domain(s, d),
-        Action::Wake(v) => home_of_domain(s, v.dom.0),
-        Action::Block(p) => home_of_core(s, p / g),
+        Action::Wake(v) => home_of_domain(s, v.dom),
+        Action::Block(p) => home_of_core(s, ResId(p.0 / g)),
         Action::Slice(r) => home_of_core(s, r),
-        Action::Repl(u) => home_of_domain(s, u.dom.0),
+        Action::Repl(u) => home_of_domain(s, u.dom),
         Action::Refill(d) => home_of_domain(s, d),
-        Action::Arrive(p) => home_of_core(s, p / g),
+        Action::Arrive(p) => home_of_core(s, ResId(p.0 / g)),
         Action::Decide(r) => home_of_core(s, r),
-        Action::Leave(p) => home_of_core(s, p / g),
+        Action::Leave(p) => home_of_core(s, ResId(p.0 / g)),
         Action::Save(r) => home_of_core(s, r),
     }
 }
@@ -120,7 +123,7 @@ pub fn home_of(g: u8, s: &State, action: Action) -> Option<usize>
 /// Whether one of the cores is leaving, where the first of these has the number i.
 fn any_leaving(i: usize, cores: &[Option<Resource>]) -> bool
     requires { i + length cores.now < 2 ^ 64 }
-    ensures { result ≡ list_any (λ (c : ℕ × ResourceRecord). c.1.leaving) (numbered i cores.now) }
+    ensures { result ≡ list_any (λ (c : ℕ × ResourceRecord). c.1.leaving) (numbered_items i cores.now) }
 {
     match cores {
         [] => false,
@@ -132,7 +135,8 @@ fn any_leaving(i: usize, cores: &[Option<Resource>]) -> bool
 /// Whether one of the domains is moving, where the first of these has the number i.
 fn any_moving(i: usize, domains: &[Option<Domain>]) -> bool
     requires { i + length domains.now < 2 ^ 64 }
-    ensures { result ≡ list_any (λ (d : ℕ × DomainRecord). is_some d.1.moving) (numbered i domains.now) }
+    ensures { result ≡ list_any (λ (d : ℕ × DomainRecord). is_some d.1.moving)
+        (numbered_items i domains.now) }
 {
     match domains {
         [] => false,
@@ -144,7 +148,8 @@ fn any_moving(i: usize, domains: &[Option<Domain>]) -> bool
 /// Whether one of the free cores is leaving, where the first of these has the number i.
 fn any_free_leaving(i: usize, free: &[Option<FreeCore>]) -> bool
     requires { i + length free.now < 2 ^ 64 }
-    ensures { result ≡ list_any (λ (e : ℕ × FreeCoreRecord). is_some e.1.target) (numbered i free.now) }
+    ensures { result ≡ list_any (λ (e : ℕ × FreeCoreRecord). is_some e.1.target)
+        (numbered_items i free.now) }
 {
     match free {
         [] => false,
@@ -165,7 +170,8 @@ fn is_moving_in(pool: &Pool) -> bool
 fn any_in_pools(i: usize, pools: &[Option<Pool>]) -> bool
     requires few { i + length pools.now < 2 ^ 64 }
     requires fits { AllPlaces PoolFits pools.now }
-    ensures { result ≡ list_any (λ (e : ℕ × PoolRecord). is_anything_moving e.1) (numbered i pools.now) }
+    ensures { result ≡ list_any (λ (e : ℕ × PoolRecord). is_anything_moving e.1)
+        (numbered_items i pools.now) }
 {
     match pools {
         [] => false,

@@ -1,10 +1,11 @@
 //! Cores and domains that move from one pool to another. g is the number of a core's processors, t the moment.
 
+ghost use Rattle.sched_model.specs.Checked.{most_span};
 ghost use Rattle.std.specs.Prelude.{◌≡◌, ◌<◌, ◌≤◌, ◌^◌, length, true, Some, None, is_some, option_map};
 ghost use Rattle.sched_model.specs.declared.action.Action.TheVariants as actions;
 ghost use Rattle.sched_model.specs.Machine.{is_enabled, event_of, after, after_moved as after_moved_spec};
 ghost use Rattle.sched_model.specs.Places.{at_place, clear_at, put_at, change_at};
-ghost use Rattle.sched_model.specs.Pool.{settled};
+ghost use Rattle.sched_model.specs.Pool.{settled_pool};
 ghost use Rattle.plain_units.specs.Fits.{RecordsFit};
 ghost use Rattle.plain_pool.specs.Cores.{ends_of};
 ghost use Rattle.plain_pool.specs.Fits.{PoolFits};
@@ -16,7 +17,7 @@ ghost use Rattle.sched_laws.specs.Each.{EachPlace};
 use crate::homes::home_of_core;
 use plain_pool::leaving::{put_core, take_core};
 use plain_pool::settle::settle;
-use sched_base::{PoolId, ResId};
+use sched_base::{Moment, PoolId, ResId};
 use sched_model::event::Event;
 use sched_model::facts::StallEnds;
 use sched_model::machine::Machine;
@@ -24,10 +25,10 @@ use sched_model::row::Row;
 use sched_model::state::{FreeCore, Pool, State};
 
 /// The pool to which the core of no pool is leaving.
-pub(crate) fn target_at(free: &[Option<FreeCore>], r: u8) -> Option<u8>
-    ensures { result ≡ target_at_spec free.now r }
+pub(crate) fn target_at(free: &[Option<FreeCore>], r: ResId) -> Option<u8>
+    ensures { result ≡ target_at_spec free.now r.0 }
 {
-    let place = r as usize;
+    let place = r.0 as usize;
     if place >= free.len() {
         return None;
     }
@@ -38,19 +39,19 @@ pub(crate) fn target_at(free: &[Option<FreeCore>], r: u8) -> Option<u8>
 }
 
 /// Whether the core is one of no pool.
-fn is_free(free: &[Option<FreeCore>], r: u8) -> bool
-    ensures { result ≡ is_some (at_place free.now r) }
+fn is_free(free: &[Option<FreeCore>], r: ResId) -> bool
+    ensures { result ≡ is_some (at_place free.now r.0) }
 {
-    let place = r as usize;
+    let place = r.0 as usize;
     place < free.len() && free[place].is_some()
 }
 
 /// The core of no pool is taken out of its place.
-fn take_free(r: u8, free: &mut Row<Option<FreeCore>>) -> Option<FreeCore>
-    ensures core { result ≡ at_place free.old r }
-    ensures free { free.new ≡ clear_at r free.old }
+fn take_free(r: ResId, free: &mut Row<Option<FreeCore>>) -> Option<FreeCore>
+    ensures core { result ≡ at_place free.old r.0 }
+    ensures free { free.new ≡ clear_at r.0 free.old }
 {
-    let place = r as usize;
+    let place = r.0 as usize;
     if place < free.len() {
         free.replace(place, None)
     } else {
@@ -59,10 +60,10 @@ fn take_free(r: u8, free: &mut Row<Option<FreeCore>>) -> Option<FreeCore>
 }
 
 /// The core is one of no pool, with these ends of its stalls.
-fn put_free(r: u8, stall_ends: StallEnds, free: &mut Row<Option<FreeCore>>)
-    ensures { free.new ≡ put_at r (record { target = None; stall_ends = stall_ends }) free.old }
+fn put_free(r: ResId, stall_ends: StallEnds, free: &mut Row<Option<FreeCore>>)
+    ensures { free.new ≡ put_at r.0 (record { target = None; stall_ends = stall_ends }) free.old }
 {
-    let place = r as usize;
+    let place = r.0 as usize;
     if place < free.len() {
         free.replace(
             place,
@@ -75,20 +76,26 @@ fn put_free(r: u8, stall_ends: StallEnds, free: &mut Row<Option<FreeCore>>)
 }
 
 /// The core joins the pool, whose cores are looked at.
-fn join_core(t: u64, r: u8, stall_ends: &StallEnds, pool: &mut Pool)
-    requires early { t ≤ 10000000000000 }
-    requires fits { PoolFitsAt t pool.old }
-    ensures { pool.new ≡ with_core t r stall_ends.now pool.old }
+fn join_core(t: Moment, r: ResId, stall_ends: &StallEnds, pool: &mut Pool)
+    requires early { t.0 ≤ most_span }
+    requires fits { PoolFitsAt t.0 pool.old }
+    ensures { pool.new ≡ with_core t.0 r.0 stall_ends.now pool.old }
 {
     put_core(r, stall_ends, pool);
     settle(t, pool);
 }
 
 /// The same in the pool with this number.
-fn join_core_at(t: u64, r: u8, stall_ends: &StallEnds, i: usize, pools: &mut Row<Option<Pool>>)
-    requires early { t ≤ 10000000000000 }
-    requires fits { EachPlace (PoolFitsAt t) pools.old }
-    ensures { pools.new ≡ change_at i (with_core t r stall_ends.now) pools.old }
+fn join_core_at(
+    t: Moment,
+    r: ResId,
+    stall_ends: &StallEnds,
+    i: usize,
+    pools: &mut Row<Option<Pool>>,
+)
+    requires early { t.0 ≤ most_span }
+    requires fits { EachPlace (PoolFitsAt t.0) pools.old }
+    ensures { pools.new ≡ change_at i (with_core t.0 r.0 stall_ends.now) pools.old }
 {
     if i < pools.len() {
         if let Some(pool) = pools.item_mut(i) {
@@ -98,11 +105,11 @@ fn join_core_at(t: u64, r: u8, stall_ends: &StallEnds, i: usize, pools: &mut Row
 }
 
 /// The core leaves the pool, where the pool has it, and the pool's cores are looked at: the ends of its processors' stalls.
-fn part_core(t: u64, r: u8, pool: &mut Pool) -> Option<StallEnds>
-    requires early { t ≤ 10000000000000 }
-    requires fits { PoolFitsAt t pool.old }
-    ensures ends { result ≡ option_map ends_of (at_place pool.old.resources r) }
-    ensures pool { pool.new ≡ without_its_core t r pool.old }
+fn part_core(t: Moment, r: ResId, pool: &mut Pool) -> Option<StallEnds>
+    requires early { t.0 ≤ most_span }
+    requires fits { PoolFitsAt t.0 pool.old }
+    ensures ends { result ≡ option_map ends_of (at_place pool.old.resources r.0) }
+    ensures pool { pool.new ≡ without_its_core t.0 r.0 pool.old }
 {
     let ends = take_core(r, pool)?;
     settle(t, pool);
@@ -110,11 +117,11 @@ fn part_core(t: u64, r: u8, pool: &mut Pool) -> Option<StallEnds>
 }
 
 /// The same in the pool with this number.
-fn part_core_at(t: u64, r: u8, i: usize, pools: &mut Row<Option<Pool>>) -> Option<StallEnds>
-    requires early { t ≤ 10000000000000 }
-    requires fits { EachPlace (PoolFitsAt t) pools.old }
-    ensures ends { result ≡ ends_at r i pools.old }
-    ensures pools { pools.new ≡ change_at i (without_its_core t r) pools.old }
+fn part_core_at(t: Moment, r: ResId, i: usize, pools: &mut Row<Option<Pool>>) -> Option<StallEnds>
+    requires early { t.0 ≤ most_span }
+    requires fits { EachPlace (PoolFitsAt t.0) pools.old }
+    ensures ends { result ≡ ends_at r.0 i pools.old }
+    ensures pools { pools.new ≡ change_at i (without_its_core t.0 r.0) pools.old }
 {
     if i >= pools.len() {
         return None;
@@ -126,11 +133,11 @@ fn part_core_at(t: u64, r: u8, i: usize, pools: &mut Row<Option<Pool>>) -> Optio
 }
 
 /// A core of no pool joins the pool to which it is leaving.
-fn attach(t: u64, r: u8, i: u8, s: &mut State)
-    requires early { t ≤ 10000000000000 }
-    requires fits { EachPlace (PoolFitsAt t) s.old.pools }
-    requires target { target_at_spec s.old.free r ≡ Some i }
-    ensures { s.new ≡ after_moved_spec t r s.old }
+fn attach(t: Moment, r: ResId, i: u8, s: &mut State)
+    requires early { t.0 ≤ most_span }
+    requires fits { EachPlace (PoolFitsAt t.0) s.old.pools }
+    requires target { target_at_spec s.old.free r.0 ≡ Some i }
+    ensures { s.new ≡ after_moved_spec t.0 r.0 s.old }
 {
     let Some(c) = take_free(r, &mut s.free) else {
         unreachable!();
@@ -139,12 +146,12 @@ fn attach(t: u64, r: u8, i: u8, s: &mut State)
 }
 
 /// A core leaves its pool, and is one of no pool then.
-fn detach(t: u64, r: u8, s: &mut State)
-    requires early { t ≤ 10000000000000 }
+fn detach(t: Moment, r: ResId, s: &mut State)
+    requires early { t.0 ≤ most_span }
     requires few { length s.old.pools ≤ 16 }
-    requires fits { EachPlace (PoolFitsAt t) s.old.pools }
-    requires owned { at_place s.old.free r ≡ None }
-    ensures { s.new ≡ after_moved_spec t r s.old }
+    requires fits { EachPlace (PoolFitsAt t.0) s.old.pools }
+    requires owned { at_place s.old.free r.0 ≡ None }
+    ensures { s.new ≡ after_moved_spec t.0 r.0 s.old }
 {
     if let Some(i) = home_of_core(s, r) {
         if let Some(ends) = part_core_at(t, r, i, &mut s.pools) {
@@ -154,7 +161,7 @@ fn detach(t: u64, r: u8, s: &mut State)
 }
 
 /// The core moves: from no pool to the one to which it is leaving, or from its pool to none.
-pub fn move_core(m: &Machine, r: u8, s: &mut State) -> Event
+pub fn move_core(m: &Machine, r: ResId, s: &mut State) -> Event
     requires { Stands m.now s.old }
     ensures event { result ≡ event_of m.now s.old s.old.now (actions.Moved r) }
     ensures state { s.new ≡ after m.now s.old s.old.now (actions.Moved r) }
@@ -162,15 +169,15 @@ pub fn move_core(m: &Machine, r: u8, s: &mut State) -> Event
     let t = s.now;
     let to = target_at(s.free.as_slice(), r);
     match to {
-        Some(i) => attach(t, r, i, s),
+        Some(i) => attach(Moment(t), r, i, s),
         None => {
             if !is_free(s.free.as_slice(), r) {
-                detach(t, r, s);
+                detach(Moment(t), r, s);
             }
         }
     }
     Event::Moved {
-        r: ResId(r),
+        r,
         to: to.map(|i| PoolId(i)),
     }
 }

@@ -9,12 +9,13 @@ ghost use Rattle.sched_model.specs.declared.state.Domain.{Domain as DomainRecord
 ghost use Rattle.sched_model.specs.declared.state.Pool.{Pool as PoolRecord};
 ghost use Rattle.sched_model.specs.declared.state.FreeCore.{FreeCore as FreeCoreRecord};
 ghost use Rattle.sched_model.specs.declared.state.RtdsUnit.{RtdsUnit as RtdsRecord};
-ghost use Rattle.sched_model.specs.Machine.{next_moment as next_moment_spec, some_of, core_moments, vcpu_moments, joined, records_moments, pool_moments, moments as moments_spec};
+ghost use Rattle.sched_model.specs.Machine.{next_moment as next_moment_spec, some_of, core_moments, vcpu_moments, joined_lists, records_moments, pool_moments, moments as moments_spec};
 ghost use Rattle.sched_model.specs.declared.work.StallLine.{StallLine};
 ghost use Rattle.sched_model.specs.declared.work.CommandLine.{CommandLine};
-ghost use Rattle.plain_pool.specs.Fits.{AllPlaces, DomainFits, PoolFits, VcpuFits};
+ghost use Rattle.plain_pool.specs.Fits.{DomainFits, PoolFits, VcpuFits};
+ghost use Rattle.sched_model.specs.Places.{AllPlaces};
 ghost use Rattle.sched_plain.specs.Fits.{MachineFits, StateFits};
-ghost use Rattle.sched_plain.specs.Soonest.{soonest, soonest_of_each, soonest_of_places, is_sooner as is_sooner_spec, line_moments, refill_moments};
+ghost use Rattle.sched_plain.specs.Soonest.{soonest_moment, soonest_of_each, soonest_of_places, is_sooner as is_sooner_spec, line_moments, refill_moments};
 
 use crate::scan::first_enabled;
 use plain_pool::vcpus::done_at;
@@ -26,24 +27,24 @@ use sched_model::state::{
 };
 
 /// Whether the moment is after t, sooner than the best so far, and something may happen at it.
-fn is_sooner(m: &Machine, s: &State, t: u64, best: Option<u64>, later: u64) -> bool
+fn is_sooner(m: &Machine, s: &State, t: Moment, best: Option<u64>, later: u64) -> bool
     requires machine { MachineFits m.now }
     requires state { StateFits s.now }
-    ensures { result ≡ is_sooner_spec m.now s.entry.now t best later }
+    ensures { result ≡ is_sooner_spec m.now s.entry.now t.0 best later }
 {
     let sooner = match best {
         None => true,
         Some(b) => later < b,
     };
-    later > t && sooner && first_enabled(m, s, later).is_some()
+    later > t.0 && sooner && first_enabled(m, s, Moment(later)).is_some()
 }
 
 /// One moment is looked at.
 #[tactic(auto, using(crate::proofs::SoonestLemmas::soonest_of_sooner, crate::proofs::SoonestLemmas::soonest_of_later))]
-fn look_at(m: &Machine, s: &State, t: u64, best: Option<u64>, later: u64) -> Option<u64>
+fn look_at(m: &Machine, s: &State, t: Moment, best: Option<u64>, later: u64) -> Option<u64>
     requires machine { MachineFits m.now }
     requires state { StateFits s.now }
-    ensures { result ≡ soonest m.now s.entry.now t best (later ∷ []) }
+    ensures { result ≡ soonest_moment m.now s.entry.now t.0 best (later ∷ []) }
 {
     if is_sooner(m, s, t, best, later) {
         Some(later)
@@ -57,13 +58,13 @@ fn look_at(m: &Machine, s: &State, t: u64, best: Option<u64>, later: u64) -> Opt
 fn look_at_some(
     m: &Machine,
     s: &State,
-    t: u64,
+    t: Moment,
     best: Option<u64>,
     later: Option<Moment>,
 ) -> Option<u64>
     requires machine { MachineFits m.now }
     requires state { StateFits s.now }
-    ensures { result ≡ soonest m.now s.entry.now t best (some_of (later ∷ [])) }
+    ensures { result ≡ soonest_moment m.now s.entry.now t.0 best (some_of (later ∷ [])) }
 {
     match later {
         None => best,
@@ -75,13 +76,14 @@ fn look_at_some(
 fn look_at_processors(
     m: &Machine,
     s: &State,
-    t: u64,
+    t: Moment,
     best: Option<u64>,
     processors: &[Processor],
 ) -> Option<u64>
     requires machine { MachineFits m.now }
     requires state { StateFits s.now }
-    ensures { result ≡ soonest_of_each m.now s.entry.now t (λ (p : ProcessorRecord). p.stall_end.0 ∷ []) best processors.now }
+    ensures { result ≡ soonest_of_each m.now s.entry.now t.0 (λ (p : ProcessorRecord). p.stall_end.0
+        ∷ []) best processors.now }
 {
     match processors {
         [] => best,
@@ -93,10 +95,10 @@ fn look_at_processors(
 }
 
 /// The moments that a core names.
-fn look_at_core(m: &Machine, s: &State, t: u64, best: Option<u64>, c: &Resource) -> Option<u64>
+fn look_at_core(m: &Machine, s: &State, t: Moment, best: Option<u64>, c: &Resource) -> Option<u64>
     requires machine { MachineFits m.now }
     requires state { StateFits s.now }
-    ensures { result ≡ soonest m.now s.entry.now t best (core_moments c.now) }
+    ensures { result ≡ soonest_moment m.now s.entry.now t.0 best (core_moments c.now) }
 {
     let so_far = look_at_some(m, s, t, best, c.due);
     look_at_processors(m, s, t, so_far, c.processors.as_slice())
@@ -106,13 +108,13 @@ fn look_at_core(m: &Machine, s: &State, t: u64, best: Option<u64>, c: &Resource)
 fn look_at_cores(
     m: &Machine,
     s: &State,
-    t: u64,
+    t: Moment,
     best: Option<u64>,
     cores: &[Option<Resource>],
 ) -> Option<u64>
     requires machine { MachineFits m.now }
     requires state { StateFits s.now }
-    ensures { result ≡ soonest_of_places m.now s.entry.now t core_moments best cores.now }
+    ensures { result ≡ soonest_of_places m.now s.entry.now t.0 core_moments best cores.now }
 {
     match cores {
         [] => best,
@@ -126,22 +128,28 @@ fn look_at_cores(
 
 /// The moments that a vCPU names.
 #[tactic(auto, using(crate::proofs::SoonestLemmas::soonest_of_some))]
-fn look_at_vcpu(m: &Machine, s: &State, t: u64, best: Option<u64>, v: &Vcpu) -> Option<u64>
+fn look_at_vcpu(m: &Machine, s: &State, t: Moment, best: Option<u64>, v: &Vcpu) -> Option<u64>
     requires machine { MachineFits m.now }
     requires state { StateFits s.now }
     requires vcpu { VcpuFits v.now }
-    ensures { result ≡ soonest m.now s.entry.now t best (vcpu_moments v.now) }
+    ensures { result ≡ soonest_moment m.now s.entry.now t.0 best (vcpu_moments v.now) }
 {
     let so_far = look_at_some(m, s, t, best, v.asleep_until);
     look_at_some(m, s, t, so_far, done_at(v))
 }
 
 /// The moments that vCPUs name.
-fn look_at_vcpus(m: &Machine, s: &State, t: u64, best: Option<u64>, vcpus: &[Vcpu]) -> Option<u64>
+fn look_at_vcpus(
+    m: &Machine,
+    s: &State,
+    t: Moment,
+    best: Option<u64>,
+    vcpus: &[Vcpu],
+) -> Option<u64>
     requires machine { MachineFits m.now }
     requires state { StateFits s.now }
     requires vcpus { AllByRecursion VcpuFits vcpus.now }
-    ensures { result ≡ soonest_of_each m.now s.entry.now t vcpu_moments best vcpus.now }
+    ensures { result ≡ soonest_of_each m.now s.entry.now t.0 vcpu_moments best vcpus.now }
 {
     match vcpus {
         [] => best,
@@ -154,11 +162,11 @@ fn look_at_vcpus(m: &Machine, s: &State, t: u64, best: Option<u64>, vcpus: &[Vcp
 
 /// The moments that a domain names.
 #[tactic(auto, using(crate::proofs::SoonestLemmas::soonest_of_joined))]
-fn look_at_domain(m: &Machine, s: &State, t: u64, best: Option<u64>, d: &Domain) -> Option<u64>
+fn look_at_domain(m: &Machine, s: &State, t: Moment, best: Option<u64>, d: &Domain) -> Option<u64>
     requires machine { MachineFits m.now }
     requires state { StateFits s.now }
     requires domain { DomainFits d.now }
-    ensures { result ≡ soonest m.now s.entry.now t best (joined vcpu_moments d.now.vcpus) }
+    ensures { result ≡ soonest_moment m.now s.entry.now t.0 best (joined_lists vcpu_moments d.now.vcpus) }
 {
     look_at_vcpus(m, s, t, best, d.vcpus.as_slice())
 }
@@ -167,14 +175,15 @@ fn look_at_domain(m: &Machine, s: &State, t: u64, best: Option<u64>, d: &Domain)
 fn look_at_domains(
     m: &Machine,
     s: &State,
-    t: u64,
+    t: Moment,
     best: Option<u64>,
     domains: &[Option<Domain>],
 ) -> Option<u64>
     requires machine { MachineFits m.now }
     requires state { StateFits s.now }
     requires domains { AllPlaces DomainFits domains.now }
-    ensures { result ≡ soonest_of_places m.now s.entry.now t (λ (d : DomainRecord). joined vcpu_moments d.vcpus) best domains.now }
+    ensures { result ≡ soonest_of_places m.now s.entry.now t.0
+        (λ (d : DomainRecord). joined_lists vcpu_moments d.vcpus) best domains.now }
 {
     match domains {
         [] => best,
@@ -191,13 +200,13 @@ fn look_at_domains(
 fn look_at_refill(
     m: &Machine,
     s: &State,
-    t: u64,
+    t: Moment,
     best: Option<u64>,
     d: &Credit2Domain,
 ) -> Option<u64>
     requires machine { MachineFits m.now }
     requires state { StateFits s.now }
-    ensures { result ≡ soonest m.now s.entry.now t best (refill_moments d.now) }
+    ensures { result ≡ soonest_moment m.now s.entry.now t.0 best (refill_moments d.now) }
 {
     match d.refill {
         None => best,
@@ -209,13 +218,13 @@ fn look_at_refill(
 fn look_at_refills(
     m: &Machine,
     s: &State,
-    t: u64,
+    t: Moment,
     best: Option<u64>,
     domains: &[Option<Credit2Domain>],
 ) -> Option<u64>
     requires machine { MachineFits m.now }
     requires state { StateFits s.now }
-    ensures { result ≡ soonest_of_places m.now s.entry.now t refill_moments best domains.now }
+    ensures { result ≡ soonest_of_places m.now s.entry.now t.0 refill_moments best domains.now }
 {
     match domains {
         [] => best,
@@ -231,13 +240,14 @@ fn look_at_refills(
 fn look_at_units(
     m: &Machine,
     s: &State,
-    t: u64,
+    t: Moment,
     best: Option<u64>,
     units: &[RtdsUnit],
 ) -> Option<u64>
     requires machine { MachineFits m.now }
     requires state { StateFits s.now }
-    ensures { result ≡ soonest_of_each m.now s.entry.now t (λ (x : RtdsRecord). x.deadline ∷ []) best units.now }
+    ensures { result ≡ soonest_of_each m.now s.entry.now t.0 (λ (x : RtdsRecord). x.deadline ∷ [])
+        best units.now }
 {
     match units {
         [] => best,
@@ -252,13 +262,14 @@ fn look_at_units(
 fn look_at_deadlines_of(
     m: &Machine,
     s: &State,
-    t: u64,
+    t: Moment,
     best: Option<u64>,
     units: &RtdsUnits,
 ) -> Option<u64>
     requires machine { MachineFits m.now }
     requires state { StateFits s.now }
-    ensures { result ≡ soonest m.now s.entry.now t best (map (λ (x : RtdsRecord). x.deadline) units.now) }
+    ensures { result ≡ soonest_moment m.now s.entry.now t.0 best
+        (map (λ (x : RtdsRecord). x.deadline) units.now) }
 {
     look_at_units(m, s, t, best, units.as_slice())
 }
@@ -267,13 +278,14 @@ fn look_at_deadlines_of(
 fn look_at_deadlines(
     m: &Machine,
     s: &State,
-    t: u64,
+    t: Moment,
     best: Option<u64>,
     domains: &[Option<RtdsUnits>],
 ) -> Option<u64>
     requires machine { MachineFits m.now }
     requires state { StateFits s.now }
-    ensures { result ≡ soonest_of_places m.now s.entry.now t (λ (units : List RtdsRecord). map (λ (x : RtdsRecord). x.deadline) units) best domains.now }
+    ensures { result ≡ soonest_of_places m.now s.entry.now t.0 (λ (units : List RtdsRecord).
+        map (λ (x : RtdsRecord). x.deadline) units) best domains.now }
 {
     match domains {
         [] => best,
@@ -290,13 +302,13 @@ fn look_at_deadlines(
 fn look_at_records(
     m: &Machine,
     s: &State,
-    t: u64,
+    t: Moment,
     best: Option<u64>,
     records: &Records,
 ) -> Option<u64>
     requires machine { MachineFits m.now }
     requires state { StateFits s.now }
-    ensures { result ≡ soonest m.now s.entry.now t best (records_moments records.now) }
+    ensures { result ≡ soonest_moment m.now s.entry.now t.0 best (records_moments records.now) }
 {
     match records {
         Records::Credit2Pool(pool) => look_at_refills(m, s, t, best, pool.domains.as_slice()),
@@ -307,11 +319,11 @@ fn look_at_records(
 }
 
 /// The moments that a pool names.
-fn look_at_pool(m: &Machine, s: &State, t: u64, best: Option<u64>, pool: &Pool) -> Option<u64>
+fn look_at_pool(m: &Machine, s: &State, t: Moment, best: Option<u64>, pool: &Pool) -> Option<u64>
     requires machine { MachineFits m.now }
     requires state { StateFits s.now }
     requires pool { PoolFits pool.now }
-    ensures { result ≡ soonest m.now s.entry.now t best (pool_moments pool.now) }
+    ensures { result ≡ soonest_moment m.now s.entry.now t.0 best (pool_moments pool.now) }
 {
     let of_cores = look_at_cores(m, s, t, best, pool.resources.as_slice());
     let of_domains = look_at_domains(m, s, t, of_cores, pool.domains.as_slice());
@@ -322,14 +334,14 @@ fn look_at_pool(m: &Machine, s: &State, t: u64, best: Option<u64>, pool: &Pool) 
 fn look_at_pools(
     m: &Machine,
     s: &State,
-    t: u64,
+    t: Moment,
     best: Option<u64>,
     pools: &[Option<Pool>],
 ) -> Option<u64>
     requires machine { MachineFits m.now }
     requires state { StateFits s.now }
     requires pools { AllPlaces PoolFits pools.now }
-    ensures { result ≡ soonest_of_places m.now s.entry.now t pool_moments best pools.now }
+    ensures { result ≡ soonest_of_places m.now s.entry.now t.0 pool_moments best pools.now }
 {
     match pools {
         [] => best,
@@ -342,10 +354,17 @@ fn look_at_pools(
 }
 
 /// The ends of stalls.
-fn look_at_ends(m: &Machine, s: &State, t: u64, best: Option<u64>, ends: &[Moment]) -> Option<u64>
+fn look_at_ends(
+    m: &Machine,
+    s: &State,
+    t: Moment,
+    best: Option<u64>,
+    ends: &[Moment],
+) -> Option<u64>
     requires machine { MachineFits m.now }
     requires state { StateFits s.now }
-    ensures { result ≡ soonest_of_each m.now s.entry.now t (λ (end : MomentRecord). end.0 ∷ []) best ends.now }
+    ensures { result ≡ soonest_of_each m.now s.entry.now t.0 (λ (end : MomentRecord). end.0 ∷ [])
+        best ends.now }
 {
     match ends {
         [] => best,
@@ -357,10 +376,17 @@ fn look_at_ends(m: &Machine, s: &State, t: u64, best: Option<u64>, ends: &[Momen
 }
 
 /// The moments that a free core names.
-fn look_at_free_core(m: &Machine, s: &State, t: u64, best: Option<u64>, c: &FreeCore) -> Option<u64>
+fn look_at_free_core(
+    m: &Machine,
+    s: &State,
+    t: Moment,
+    best: Option<u64>,
+    c: &FreeCore,
+) -> Option<u64>
     requires machine { MachineFits m.now }
     requires state { StateFits s.now }
-    ensures { result ≡ soonest m.now s.entry.now t best (map (λ (end : MomentRecord). end.0) c.now.stall_ends) }
+    ensures { result ≡ soonest_moment m.now s.entry.now t.0 best
+        (map (λ (end : MomentRecord). end.0) c.now.stall_ends) }
 {
     look_at_ends(m, s, t, best, c.stall_ends.as_slice())
 }
@@ -369,13 +395,14 @@ fn look_at_free_core(m: &Machine, s: &State, t: u64, best: Option<u64>, c: &Free
 fn look_at_free(
     m: &Machine,
     s: &State,
-    t: u64,
+    t: Moment,
     best: Option<u64>,
     free: &[Option<FreeCore>],
 ) -> Option<u64>
     requires machine { MachineFits m.now }
     requires state { StateFits s.now }
-    ensures { result ≡ soonest_of_places m.now s.entry.now t (λ (c : FreeCoreRecord). map (λ (end : MomentRecord). end.0) c.stall_ends) best free.now }
+    ensures { result ≡ soonest_of_places m.now s.entry.now t.0 (λ (c : FreeCoreRecord).
+        map (λ (end : MomentRecord). end.0) c.stall_ends) best free.now }
 {
     match free {
         [] => best,
@@ -389,7 +416,8 @@ fn look_at_free(
 
 /// The moment of the next stall.
 fn stall_moment(m: &Machine, s: &State) -> Option<Moment>
-    ensures { result ≡ option_map (λ (line : StallLine). line.at) (slice_get m.now.work.stalls s.entry.now.next_stall) }
+    ensures { result ≡ option_map (λ (line : StallLine). line.at)
+        (slice_get m.now.work.stalls s.entry.now.next_stall) }
 {
     match m.work.stalls.as_slice().get(s.next_stall as usize) {
         None => None,
@@ -399,7 +427,8 @@ fn stall_moment(m: &Machine, s: &State) -> Option<Moment>
 
 /// The moment of the next command.
 fn command_moment(m: &Machine, s: &State) -> Option<Moment>
-    ensures { result ≡ option_map (λ (line : CommandLine). line.at) (slice_get m.now.work.commands s.entry.now.next_command) }
+    ensures { result ≡ option_map (λ (line : CommandLine). line.at)
+        (slice_get m.now.work.commands s.entry.now.next_command) }
 {
     match m.work.commands.as_slice().get(s.next_command as usize) {
         None => None,
@@ -408,20 +437,20 @@ fn command_moment(m: &Machine, s: &State) -> Option<Moment>
 }
 
 /// The moments of the next stall and of the next command.
-fn look_at_lines(m: &Machine, s: &State, t: u64, best: Option<u64>) -> Option<u64>
+fn look_at_lines(m: &Machine, s: &State, t: Moment, best: Option<u64>) -> Option<u64>
     requires machine { MachineFits m.now }
     requires state { StateFits s.now }
-    ensures { result ≡ soonest m.now s.entry.now t best (line_moments m.now s.entry.now) }
+    ensures { result ≡ soonest_moment m.now s.entry.now t.0 best (line_moments m.now s.entry.now) }
 {
     let so_far = look_at_some(m, s, t, best, stall_moment(m, s));
     look_at_some(m, s, t, so_far, command_moment(m, s))
 }
 
 /// The least moment after t at which something may happen, of those that the state names.
-fn look_at_all(m: &Machine, s: &State, t: u64) -> Option<u64>
+fn look_at_all(m: &Machine, s: &State, t: Moment) -> Option<u64>
     requires machine { MachineFits m.now }
     requires state { StateFits s.now }
-    ensures { result ≡ soonest m.now s.entry.now t None (moments_spec m.now s.entry.now) }
+    ensures { result ≡ soonest_moment m.now s.entry.now t.0 None (moments_spec m.now s.entry.now) }
 {
     let of_pools = look_at_pools(m, s, t, None, s.pools.as_slice());
     let of_free = look_at_free(m, s, t, of_pools, s.free.as_slice());
@@ -429,11 +458,11 @@ fn look_at_all(m: &Machine, s: &State, t: u64) -> Option<u64>
 }
 
 /// The least moment after t at which something may happen.
-#[tactic(auto, unfolding(crate::specs::Soonest::soonest))]
-pub fn next_moment(m: &Machine, s: &State, t: u64) -> Option<u64>
+#[tactic(auto, unfolding(crate::specs::Soonest::soonest_moment))]
+pub fn next_moment(m: &Machine, s: &State, t: Moment) -> Option<u64>
     requires machine { MachineFits m.now }
     requires state { StateFits s.now }
-    ensures { result ≡ next_moment_spec m.now s.entry.now t }
+    ensures { result ≡ next_moment_spec m.now s.entry.now t.0 }
 {
     look_at_all(m, s, t)
 }

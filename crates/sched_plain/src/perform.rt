@@ -1,7 +1,8 @@
 //! Doing an action that may come, in the pool of its subject.
 
+ghost use Rattle.sched_model.specs.Checked.{most_span};
 ghost use Rattle.std.specs.Prelude.{◌≡◌, ◌<◌, ◌≤◌, true, Some};
-ghost use Rattle.sched_model.specs.Pool.{enabled_in, event_in, after_in, settled};
+ghost use Rattle.sched_model.specs.Pool.{enabled_in, event_in, after_in, settled_pool};
 ghost use Rattle.sched_model.specs.Actions.{home_of as home_of_spec};
 ghost use Rattle.sched_model.specs.Machine.{is_enabled, event_of, after};
 ghost use Rattle.plain_pool.specs.Own.{IsOfPool};
@@ -18,6 +19,7 @@ use crate::stall::stall;
 use cpupool::ToolState;
 use plain_pool::events::happen;
 use plain_pool::settle::settle;
+use sched_base::Moment;
 use sched_model::action::Action;
 use sched_model::event::Event;
 use sched_model::machine::Machine;
@@ -25,16 +27,16 @@ use sched_model::row::Row;
 use sched_model::state::{Pool, State};
 
 /// The event in its pool, and then the pool's cores that are to decide anew.
-fn perform_in(g: u8, t: u64, action: Action, pool: &mut Pool) -> Event
+fn perform_in(g: u8, t: Moment, action: Action, pool: &mut Pool) -> Event
     requires some { 0 < g }
     requires few { g ≤ 4 }
-    requires early { t ≤ 10000000000000 }
+    requires early { t.0 ≤ most_span }
     requires own { IsOfPool action }
-    requires enabled { enabled_in g t pool.old action ≡ true }
-    requires before { PoolFitsAt t pool.old }
-    requires after { PoolFitsAt t (after_in g t pool.old action) }
-    ensures event { result ≡ event_in g t pool.old action }
-    ensures pool { pool.new ≡ settled t (after_in g t pool.old action) }
+    requires enabled { enabled_in g t.0 pool.old action ≡ true }
+    requires before { PoolFitsAt t.0 pool.old }
+    requires after { PoolFitsAt t.0 (after_in g t.0 pool.old action) }
+    ensures event { result ≡ event_in g t.0 pool.old action }
+    ensures pool { pool.new ≡ settled_pool t.0 (after_in g t.0 pool.old action) }
 {
     let event = happen(g, t, action, pool);
     settle(t, pool);
@@ -42,9 +44,9 @@ fn perform_in(g: u8, t: u64, action: Action, pool: &mut Pool) -> Event
 }
 
 /// The event in the pool with this number.
-fn perform_at(m: &Machine, t: u64, action: Action, i: usize, s: &mut State) -> Event
+fn perform_at(m: &Machine, t: Moment, action: Action, i: usize, s: &mut State) -> Event
     requires stands { Stands m.now s.old }
-    requires now { t ≡ s.old.now }
+    requires now { t.0 ≡ s.old.now }
     requires own { IsOfPool action }
     requires enabled { is_enabled m.now s.old s.old.now action ≡ true }
     requires home { home_of_spec m.now.config.granularity s.old action ≡ Some i }
@@ -71,7 +73,7 @@ fn perform_at_home(m: &Machine, s: &mut State, action: Action) -> Event
     let t = s.now;
     match home_of(m.config.granularity, s, action) {
         None => unreachable!(),
-        Some(i) => perform_at(m, t, action, i, s),
+        Some(i) => perform_at(m, Moment(t), action, i, s),
     }
 }
 

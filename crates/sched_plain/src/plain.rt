@@ -75,7 +75,8 @@ fn open_states(alloc: Global, m: &Machine) -> Result<(State, ToolState), NoMemor
 fn open_rooms(alloc: Global, m: &Machine) -> Result<(Row<Option<Pool>>, Scratch), NoMemory>
     requires { 0 < m.now.config.granularity }
     ensures spares { IfOk result (λ r. r.0 ≡ spares_of m.now) }
-    ensures scratch { IfOk result (λ r. HasPlaces (length m.now.config.domains) (core_count_spec m.now.config) r.1) }
+    ensures scratch { IfOk result (λ r. HasPlaces (length m.now.config.domains)
+        (core_count_spec m.now.config) r.1) }
 {
     let cores = core_count(&m.config) as usize;
     let scratch = Scratch::open(alloc, m.config.domains.len(), cores)?;
@@ -97,7 +98,8 @@ fn open_beside(
     ensures state { IfOk result (λ r. r.0 ≡ opening m.now) }
     ensures tool { IfOk result (λ r. r.1 ≡ tool_of m.now (opening m.now)) }
     ensures spares { IfOk result (λ r. r.2 ≡ spares_of m.now) }
-    ensures scratch { IfOk result (λ r. HasPlaces (length m.now.config.domains) (core_count_spec m.now.config) r.3) }
+    ensures scratch { IfOk result (λ r. HasPlaces (length m.now.config.domains)
+        (core_count_spec m.now.config) r.3) }
 {
     let (state, tool) = open_states(alloc, m)?;
     match open_rooms(alloc, m) {
@@ -146,22 +148,25 @@ impl Plain {
 
     /// Whether the action may come now.
     pub fn is_enabled(&self, action: Action) -> bool
-        ensures { result ≡ is_enabled_spec self.now.machine self.now.state self.now.state.now action }
+        ensures { result ≡ is_enabled_spec self.now.machine self.now.state self.now.state.now
+            action }
     {
-        is_enabled(&self.machine, &self.state, self.state.now, action)
+        is_enabled(&self.machine, &self.state, Moment(self.state.now), action)
     }
 
     /// The first action that may come now, or none exactly where none may.
     pub fn first_enabled(&self) -> Option<Action>
         ensures { result ≡ first_enabled_spec self.now.machine self.now.state self.now.state.now }
     {
-        first_enabled(&self.machine, &self.state, self.state.now)
+        first_enabled(&self.machine, &self.state, Moment(self.state.now))
     }
 
     /// The event of an action that may come now, with the fields that its line prints. Nothing is done.
     pub fn event_of(&mut self, action: Action) -> Event
-        requires { is_enabled_spec self.old.machine self.old.state self.old.state.now action ≡ true }
-        ensures event { result ≡ event_of self.old.machine self.old.state self.old.state.now action }
+        requires { is_enabled_spec self.old.machine self.old.state self.old.state.now action
+            ≡ true }
+        ensures event { result ≡ event_of self.old.machine self.old.state self.old.state.now
+            action }
         ensures unchanged { self.new ≡ self.old }
     {
         tell(
@@ -175,9 +180,12 @@ impl Plain {
 
     /// Does the event of an action that may come now, and answers it with the fields that its line prints.
     pub fn perform(&mut self, action: Action) -> Event
-        requires { is_enabled_spec self.old.machine self.old.state self.old.state.now action ≡ true }
-        ensures event { result ≡ event_of self.old.machine self.old.state self.old.state.now action }
-        ensures state { self.new ≡ record self.old { state = after self.old.machine self.old.state self.old.state.now action } }
+        requires { is_enabled_spec self.old.machine self.old.state self.old.state.now action
+            ≡ true }
+        ensures event { result ≡ event_of self.old.machine self.old.state self.old.state.now
+            action }
+        ensures state { self.new ≡ record self.old
+            { state = after self.old.machine self.old.state self.old.state.now action } }
     {
         perform(
             &self.machine,
@@ -192,7 +200,7 @@ impl Plain {
     pub fn next_moment(&self) -> Option<Moment>
         ensures { result ≡ option_map moment (next_in_horizon self.now.machine self.now.state) }
     {
-        match next_moment(&self.machine, &self.state, self.state.now) {
+        match next_moment(&self.machine, &self.state, Moment(self.state.now)) {
             Some(next) if next <= self.machine.config.horizon.0 => Some(Moment(next)),
             _ => None,
         }
@@ -200,7 +208,8 @@ impl Plain {
 
     /// Goes on to the next moment, where nothing may come now.
     pub fn pass_to(&mut self, next: Moment)
-        requires nothing { first_enabled_spec self.old.machine self.old.state self.old.state.now ≡ None }
+        requires nothing { first_enabled_spec self.old.machine self.old.state self.old.state.now
+            ≡ None }
         requires next { next_in_horizon self.old.machine self.old.state ≡ Some next.0 }
         ensures { self.new ≡ record self.old { state = record self.old.state { now = next.0 } } }
     {

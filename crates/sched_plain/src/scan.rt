@@ -13,7 +13,7 @@ ghost use Rattle.sched_plain.specs.Fits.{FewGuests, MachineFits, StateFits};
 ghost use Rattle.sched_plain.specs.Search.{action_at, moved_actions, dom_moved_actions, wake_actions, block_actions, slice_actions, repl_actions, refill_actions, arrive_actions, decide_actions, leave_actions, save_actions};
 
 use crate::enabled::is_enabled;
-use sched_base::{DomId, UnitId, VcpuId};
+use sched_base::{DomId, Moment, ProcId, ResId, UnitId, VcpuId};
 use sched_model::action::Action;
 use sched_model::config::{Config, DomConfig};
 use sched_model::machine::Machine;
@@ -39,15 +39,15 @@ impl Numbered {
         ensures { result ≡ action_at self n }
     {
         match self {
-            Numbered::Moved => Action::Moved(n),
-            Numbered::DomMoved => Action::DomMoved(n),
-            Numbered::Block => Action::Block(n),
-            Numbered::Slice => Action::Slice(n),
-            Numbered::Refill => Action::Refill(n),
-            Numbered::Arrive => Action::Arrive(n),
-            Numbered::Decide => Action::Decide(n),
-            Numbered::Leave => Action::Leave(n),
-            Numbered::Save => Action::Save(n),
+            Numbered::Moved => Action::Moved(ResId(n)),
+            Numbered::DomMoved => Action::DomMoved(DomId(n)),
+            Numbered::Block => Action::Block(ProcId(n)),
+            Numbered::Slice => Action::Slice(ResId(n)),
+            Numbered::Refill => Action::Refill(DomId(n)),
+            Numbered::Arrive => Action::Arrive(ProcId(n)),
+            Numbered::Decide => Action::Decide(ResId(n)),
+            Numbered::Leave => Action::Leave(ProcId(n)),
+            Numbered::Save => Action::Save(ResId(n)),
         }
     }
 }
@@ -56,7 +56,7 @@ impl Numbered {
 fn first_numbered(
     m: &Machine,
     s: &State,
-    t: u64,
+    t: Moment,
     kind: Numbered,
     n: u8,
     count: u8,
@@ -64,7 +64,8 @@ fn first_numbered(
     requires machine { MachineFits m.now }
     requires state { StateFits s.now }
     requires few { n + count < 2 ^ 8 }
-    ensures { result ≡ find (is_enabled_spec m.now s.entry.now t) (map (action_at kind) (numbers_from n count)) }
+    ensures { result ≡ find (is_enabled_spec m.now s.entry.now t.0)
+        (map (action_at kind) (numbers_from n count)) }
 {
     if count == 0 {
         return None;
@@ -77,16 +78,18 @@ fn first_numbered(
 }
 
 /// The first vCPU of the domain that may wake at t, among count from the index n on.
-fn first_wake_in(m: &Machine, s: &State, t: u64, d: u8, n: u8, count: u8) -> Option<Action>
+fn first_wake_in(m: &Machine, s: &State, t: Moment, d: DomId, n: u8, count: u8) -> Option<Action>
     requires machine { MachineFits m.now }
     requires state { StateFits s.now }
     requires few { n + count < 2 ^ 8 }
-    ensures { result ≡ find (is_enabled_spec m.now s.entry.now t) (map action_of.Wake (map (λ k. let v : VcpuRecord = record { dom = domain d; n = k } in v) (numbers_from n count))) }
+    ensures { result ≡ find (is_enabled_spec m.now s.entry.now t.0)
+        (map action_of.Wake (map (λ k. let v : VcpuRecord = record { dom = d; n = k } in v)
+        (numbers_from n count))) }
 {
     if count == 0 {
         return None;
     }
-    let action = Action::Wake(VcpuId { dom: DomId(d), n });
+    let action = Action::Wake(VcpuId { dom: d, n });
     if is_enabled(m, s, t, action) {
         return Some(action);
     }
@@ -94,16 +97,18 @@ fn first_wake_in(m: &Machine, s: &State, t: u64, d: u8, n: u8, count: u8) -> Opt
 }
 
 /// The first unit of the domain that may be replenished at t, among count from the index n on.
-fn first_repl_in(m: &Machine, s: &State, t: u64, d: u8, n: u8, count: u8) -> Option<Action>
+fn first_repl_in(m: &Machine, s: &State, t: Moment, d: DomId, n: u8, count: u8) -> Option<Action>
     requires machine { MachineFits m.now }
     requires state { StateFits s.now }
     requires few { n + count < 2 ^ 8 }
-    ensures { result ≡ find (is_enabled_spec m.now s.entry.now t) (map action_of.Repl (map (λ k. let u : UnitRecord = record { dom = domain d; n = k } in u) (numbers_from n count))) }
+    ensures { result ≡ find (is_enabled_spec m.now s.entry.now t.0)
+        (map action_of.Repl (map (λ k. let u : UnitRecord = record { dom = d; n = k } in u)
+        (numbers_from n count))) }
 {
     if count == 0 {
         return None;
     }
-    let action = Action::Repl(UnitId { dom: DomId(d), n });
+    let action = Action::Repl(UnitId { dom: d, n });
     if is_enabled(m, s, t, action) {
         return Some(action);
     }
@@ -112,19 +117,20 @@ fn first_repl_in(m: &Machine, s: &State, t: u64, d: u8, n: u8, count: u8) -> Opt
 
 /// The first vCPU that may wake at t, of these domains, of which the first has the number d.
 #[tactic(auto, using(crate::proofs::Searching::found_in_map))]
-fn first_wake(m: &Machine, s: &State, t: u64, d: u8, domains: &[DomConfig]) -> Option<Action>
+fn first_wake(m: &Machine, s: &State, t: Moment, d: DomId, domains: &[DomConfig]) -> Option<Action>
     requires machine { MachineFits m.now }
     requires state { StateFits s.now }
     requires guests { FewGuests domains.now }
-    requires few { d + length domains.now ≤ 64 }
-    ensures { result ≡ find (is_enabled_spec m.now s.entry.now t) (map action_of.Wake (vcpus_from d domains.now)) }
+    requires few { d.0 + length domains.now ≤ 64 }
+    ensures { result ≡ find (is_enabled_spec m.now s.entry.now t.0)
+        (map action_of.Wake (vcpus_from d.0 domains.now)) }
 {
     match domains {
         [] => None,
         [domain, rest @ ..] => {
             match first_wake_in(m, s, t, d, 0, domain.guests.len() as u8) {
                 Some(action) => Some(action),
-                None => first_wake(m, s, t, d + 1, rest),
+                None => first_wake(m, s, t, DomId(d.0 + 1), rest),
             }
         }
     }
@@ -132,12 +138,13 @@ fn first_wake(m: &Machine, s: &State, t: u64, d: u8, domains: &[DomConfig]) -> O
 
 /// The first unit that may be replenished at t, of these domains, of which the first has the number d.
 #[tactic(auto, using(crate::proofs::Searching::found_in_map))]
-fn first_repl(m: &Machine, s: &State, t: u64, d: u8, domains: &[DomConfig]) -> Option<Action>
+fn first_repl(m: &Machine, s: &State, t: Moment, d: DomId, domains: &[DomConfig]) -> Option<Action>
     requires machine { MachineFits m.now }
     requires state { StateFits s.now }
     requires guests { FewGuests domains.now }
-    requires few { d + length domains.now ≤ 64 }
-    ensures { result ≡ find (is_enabled_spec m.now s.entry.now t) (map action_of.Repl (units_from m.now.config.granularity d domains.now)) }
+    requires few { d.0 + length domains.now ≤ 64 }
+    ensures { result ≡ find (is_enabled_spec m.now s.entry.now t.0)
+        (map action_of.Repl (units_from m.now.config.granularity d.0 domains.now)) }
 {
     match domains {
         [] => None,
@@ -146,7 +153,7 @@ fn first_repl(m: &Machine, s: &State, t: u64, d: u8, domains: &[DomConfig]) -> O
             let count = (domain.guests.len() + g - 1) / g;
             match first_repl_in(m, s, t, d, 0, count as u8) {
                 Some(action) => Some(action),
-                None => first_repl(m, s, t, d + 1, rest),
+                None => first_repl(m, s, t, DomId(d.0 + 1), rest),
             }
         }
     }
@@ -162,10 +169,10 @@ fn core_count(config: &Config) -> u8
 
 /// The first stall, command or move of a core that may come at t.
 #[tactic(auto, unfolding(crate::specs::Search::moved_actions))]
-fn first_up_to_moved(m: &Machine, s: &State, t: u64) -> Option<Action>
+fn first_up_to_moved(m: &Machine, s: &State, t: Moment) -> Option<Action>
     requires machine { MachineFits m.now }
     requires state { StateFits s.now }
-    ensures { result ≡ find (is_enabled_spec m.now s.entry.now t) (moved_actions m.now.config) }
+    ensures { result ≡ find (is_enabled_spec m.now s.entry.now t.0) (moved_actions m.now.config) }
 {
     if is_enabled(m, s, t, Action::Stall) {
         return Some(Action::Stall);
@@ -178,10 +185,11 @@ fn first_up_to_moved(m: &Machine, s: &State, t: u64) -> Option<Action>
 
 /// The first up to the moves of domains.
 #[tactic(auto, using(crate::proofs::Searching::found_in_both), unfolding(crate::specs::Search::dom_moved_actions))]
-fn first_up_to_dom_moved(m: &Machine, s: &State, t: u64) -> Option<Action>
+fn first_up_to_dom_moved(m: &Machine, s: &State, t: Moment) -> Option<Action>
     requires machine { MachineFits m.now }
     requires state { StateFits s.now }
-    ensures { result ≡ find (is_enabled_spec m.now s.entry.now t) (dom_moved_actions m.now.config) }
+    ensures { result ≡ find (is_enabled_spec m.now s.entry.now t.0)
+        (dom_moved_actions m.now.config) }
 {
     match first_up_to_moved(m, s, t) {
         Some(action) => Some(action),
@@ -191,23 +199,23 @@ fn first_up_to_dom_moved(m: &Machine, s: &State, t: u64) -> Option<Action>
 
 /// The first up to the wakes.
 #[tactic(auto, using(crate::proofs::Searching::found_in_both), unfolding(crate::specs::Search::wake_actions))]
-fn first_up_to_wake(m: &Machine, s: &State, t: u64) -> Option<Action>
+fn first_up_to_wake(m: &Machine, s: &State, t: Moment) -> Option<Action>
     requires machine { MachineFits m.now }
     requires state { StateFits s.now }
-    ensures { result ≡ find (is_enabled_spec m.now s.entry.now t) (wake_actions m.now.config) }
+    ensures { result ≡ find (is_enabled_spec m.now s.entry.now t.0) (wake_actions m.now.config) }
 {
     match first_up_to_dom_moved(m, s, t) {
         Some(action) => Some(action),
-        None => first_wake(m, s, t, 0, m.config.domains.as_slice()),
+        None => first_wake(m, s, t, DomId(0), m.config.domains.as_slice()),
     }
 }
 
 /// The first up to the blocks.
 #[tactic(auto, using(crate::proofs::Searching::found_in_both), unfolding(crate::specs::Search::block_actions))]
-fn first_up_to_block(m: &Machine, s: &State, t: u64) -> Option<Action>
+fn first_up_to_block(m: &Machine, s: &State, t: Moment) -> Option<Action>
     requires machine { MachineFits m.now }
     requires state { StateFits s.now }
-    ensures { result ≡ find (is_enabled_spec m.now s.entry.now t) (block_actions m.now.config) }
+    ensures { result ≡ find (is_enabled_spec m.now s.entry.now t.0) (block_actions m.now.config) }
 {
     match first_up_to_wake(m, s, t) {
         Some(action) => Some(action),
@@ -217,10 +225,10 @@ fn first_up_to_block(m: &Machine, s: &State, t: u64) -> Option<Action>
 
 /// The first up to the slices.
 #[tactic(auto, using(crate::proofs::Searching::found_in_both), unfolding(crate::specs::Search::slice_actions))]
-fn first_up_to_slice(m: &Machine, s: &State, t: u64) -> Option<Action>
+fn first_up_to_slice(m: &Machine, s: &State, t: Moment) -> Option<Action>
     requires machine { MachineFits m.now }
     requires state { StateFits s.now }
-    ensures { result ≡ find (is_enabled_spec m.now s.entry.now t) (slice_actions m.now.config) }
+    ensures { result ≡ find (is_enabled_spec m.now s.entry.now t.0) (slice_actions m.now.config) }
 {
     match first_up_to_block(m, s, t) {
         Some(action) => Some(action),
@@ -230,23 +238,23 @@ fn first_up_to_slice(m: &Machine, s: &State, t: u64) -> Option<Action>
 
 /// The first up to the replenishments.
 #[tactic(auto, using(crate::proofs::Searching::found_in_both), unfolding(crate::specs::Search::repl_actions))]
-fn first_up_to_repl(m: &Machine, s: &State, t: u64) -> Option<Action>
+fn first_up_to_repl(m: &Machine, s: &State, t: Moment) -> Option<Action>
     requires machine { MachineFits m.now }
     requires state { StateFits s.now }
-    ensures { result ≡ find (is_enabled_spec m.now s.entry.now t) (repl_actions m.now.config) }
+    ensures { result ≡ find (is_enabled_spec m.now s.entry.now t.0) (repl_actions m.now.config) }
 {
     match first_up_to_slice(m, s, t) {
         Some(action) => Some(action),
-        None => first_repl(m, s, t, 0, m.config.domains.as_slice()),
+        None => first_repl(m, s, t, DomId(0), m.config.domains.as_slice()),
     }
 }
 
 /// The first up to the refills.
 #[tactic(auto, using(crate::proofs::Searching::found_in_both), unfolding(crate::specs::Search::refill_actions))]
-fn first_up_to_refill(m: &Machine, s: &State, t: u64) -> Option<Action>
+fn first_up_to_refill(m: &Machine, s: &State, t: Moment) -> Option<Action>
     requires machine { MachineFits m.now }
     requires state { StateFits s.now }
-    ensures { result ≡ find (is_enabled_spec m.now s.entry.now t) (refill_actions m.now.config) }
+    ensures { result ≡ find (is_enabled_spec m.now s.entry.now t.0) (refill_actions m.now.config) }
 {
     match first_up_to_repl(m, s, t) {
         Some(action) => Some(action),
@@ -256,10 +264,10 @@ fn first_up_to_refill(m: &Machine, s: &State, t: u64) -> Option<Action>
 
 /// The first up to the arrivals.
 #[tactic(auto, using(crate::proofs::Searching::found_in_both), unfolding(crate::specs::Search::arrive_actions))]
-fn first_up_to_arrive(m: &Machine, s: &State, t: u64) -> Option<Action>
+fn first_up_to_arrive(m: &Machine, s: &State, t: Moment) -> Option<Action>
     requires machine { MachineFits m.now }
     requires state { StateFits s.now }
-    ensures { result ≡ find (is_enabled_spec m.now s.entry.now t) (arrive_actions m.now.config) }
+    ensures { result ≡ find (is_enabled_spec m.now s.entry.now t.0) (arrive_actions m.now.config) }
 {
     match first_up_to_refill(m, s, t) {
         Some(action) => Some(action),
@@ -269,10 +277,10 @@ fn first_up_to_arrive(m: &Machine, s: &State, t: u64) -> Option<Action>
 
 /// The first up to the decisions.
 #[tactic(auto, using(crate::proofs::Searching::found_in_both), unfolding(crate::specs::Search::decide_actions))]
-fn first_up_to_decide(m: &Machine, s: &State, t: u64) -> Option<Action>
+fn first_up_to_decide(m: &Machine, s: &State, t: Moment) -> Option<Action>
     requires machine { MachineFits m.now }
     requires state { StateFits s.now }
-    ensures { result ≡ find (is_enabled_spec m.now s.entry.now t) (decide_actions m.now.config) }
+    ensures { result ≡ find (is_enabled_spec m.now s.entry.now t.0) (decide_actions m.now.config) }
 {
     match first_up_to_arrive(m, s, t) {
         Some(action) => Some(action),
@@ -282,10 +290,10 @@ fn first_up_to_decide(m: &Machine, s: &State, t: u64) -> Option<Action>
 
 /// The first up to the leaves.
 #[tactic(auto, using(crate::proofs::Searching::found_in_both), unfolding(crate::specs::Search::leave_actions))]
-fn first_up_to_leave(m: &Machine, s: &State, t: u64) -> Option<Action>
+fn first_up_to_leave(m: &Machine, s: &State, t: Moment) -> Option<Action>
     requires machine { MachineFits m.now }
     requires state { StateFits s.now }
-    ensures { result ≡ find (is_enabled_spec m.now s.entry.now t) (leave_actions m.now.config) }
+    ensures { result ≡ find (is_enabled_spec m.now s.entry.now t.0) (leave_actions m.now.config) }
 {
     match first_up_to_decide(m, s, t) {
         Some(action) => Some(action),
@@ -295,10 +303,10 @@ fn first_up_to_leave(m: &Machine, s: &State, t: u64) -> Option<Action>
 
 /// The first up to the saves.
 #[tactic(auto, using(crate::proofs::Searching::found_in_both), unfolding(crate::specs::Search::save_actions))]
-fn first_up_to_save(m: &Machine, s: &State, t: u64) -> Option<Action>
+fn first_up_to_save(m: &Machine, s: &State, t: Moment) -> Option<Action>
     requires machine { MachineFits m.now }
     requires state { StateFits s.now }
-    ensures { result ≡ find (is_enabled_spec m.now s.entry.now t) (save_actions m.now.config) }
+    ensures { result ≡ find (is_enabled_spec m.now s.entry.now t.0) (save_actions m.now.config) }
 {
     match first_up_to_leave(m, s, t) {
         Some(action) => Some(action),
@@ -307,10 +315,10 @@ fn first_up_to_save(m: &Machine, s: &State, t: u64) -> Option<Action>
 }
 
 /// The first action that may come at t, or none exactly where none may.
-pub fn first_enabled(m: &Machine, s: &State, t: u64) -> Option<Action>
+pub fn first_enabled(m: &Machine, s: &State, t: Moment) -> Option<Action>
     requires machine { MachineFits m.now }
     requires state { StateFits s.now }
-    ensures { result ≡ first_enabled_spec m.now s.entry.now t }
+    ensures { result ≡ first_enabled_spec m.now s.entry.now t.0 }
 {
     first_up_to_save(m, s, t)
 }

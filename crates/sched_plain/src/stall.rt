@@ -3,7 +3,7 @@
 ghost use Rattle.std.specs.Prelude.{◌≡◌, ◌<◌, ◌≤◌, ◌^◌, length, true};
 ghost use Rattle.sched_model.specs.declared.action.Action.TheVariants as actions;
 ghost use Rattle.sched_model.specs.declared.work.StallLine.{StallLine as StallRecord};
-ghost use Rattle.sched_model.specs.Machine.{is_enabled, event_of, after, stall_end_of as stall_end_of_spec, stalled as stalled_spec};
+ghost use Rattle.sched_model.specs.Machine.{is_enabled, event_of, after, stall_end_of as stall_end_of_spec, with_stall_end as stalled_spec};
 ghost use Rattle.sched_model.specs.Places.{at_place, change_at};
 ghost use Rattle.sched_model.specs.Pool.{change_processor};
 ghost use Rattle.plain_pool.specs.Cores.{stalled_to};
@@ -13,7 +13,7 @@ ghost use Rattle.sched_plain.specs.Stalls.{end_in_pool as end_in_pool_spec, end_
 use crate::homes::{home_of_core, pool_at};
 use plain_pool::leaving::set_stall_end;
 use plain_pool::pool::processor_of;
-use sched_base::Moment;
+use sched_base::{Moment, ProcId, ResId};
 use sched_model::event::Event;
 use sched_model::facts::StallEnds;
 use sched_model::machine::Machine;
@@ -21,9 +21,9 @@ use sched_model::row::Row;
 use sched_model::state::{FreeCore, Pool, State};
 
 /// The later of the end and that of the processor's stall, where the pool has the processor.
-fn end_in_pool(g: u8, pool: &Pool, p: u8, end: u64) -> u64
+fn end_in_pool(g: u8, pool: &Pool, p: ProcId, end: u64) -> u64
     requires { 0 < g }
-    ensures { result ≡ end_in_pool_spec g pool.now p end }
+    ensures { result ≡ end_in_pool_spec g pool.now p.0 end }
 {
     match processor_of(g, pool, p) {
         None => end,
@@ -32,9 +32,9 @@ fn end_in_pool(g: u8, pool: &Pool, p: u8, end: u64) -> u64
 }
 
 /// The same of the pool with this number.
-fn end_at_home(g: u8, s: &State, i: usize, p: u8, end: u64) -> u64
+fn end_at_home(g: u8, s: &State, i: usize, p: ProcId, end: u64) -> u64
     requires { 0 < g }
-    ensures { result ≡ end_at_home_spec g (at_place s.entry.now.pools i) p end }
+    ensures { result ≡ end_at_home_spec g (at_place s.entry.now.pools i) p.0 end }
 {
     match pool_at(s, i) {
         None => end,
@@ -53,27 +53,27 @@ fn end_among(ends: &[Moment], i: usize, end: u64) -> u64
 }
 
 /// The same of a processor of a core of no pool.
-fn end_in_free(g: u8, free: &[Option<FreeCore>], p: u8, end: u64) -> u64
+fn end_in_free(g: u8, free: &[Option<FreeCore>], p: ProcId, end: u64) -> u64
     requires { 0 < g }
-    ensures { result ≡ end_in_free_spec g free.now p end }
+    ensures { result ≡ end_in_free_spec g free.now p.0 end }
 {
-    let r = (p / g) as usize;
+    let r = (p.0 / g) as usize;
     if r >= free.len() {
         return end;
     }
     match &free[r] {
         None => end,
-        Some(c) => end_among(c.stall_ends.as_slice(), (p % g) as usize, end),
+        Some(c) => end_among(c.stall_ends.as_slice(), (p.0 % g) as usize, end),
     }
 }
 
 /// The later of the end and that of the stall of the processor.
-pub(crate) fn stall_end_of(g: u8, s: &State, p: u8, end: u64) -> u64
+pub(crate) fn stall_end_of(g: u8, s: &State, p: ProcId, end: u64) -> u64
     requires some { 0 < g }
     requires few { length s.now.pools ≤ 16 }
-    ensures { result ≡ stall_end_of_spec g s.entry.now p end }
+    ensures { result ≡ stall_end_of_spec g s.entry.now p.0 end }
 {
-    match home_of_core(s, p / g) {
+    match home_of_core(s, ResId(p.0 / g)) {
         None => end_in_free(g, s.free.as_slice(), p, end),
         Some(i) => end_at_home(g, s, i, p, end),
     }
@@ -89,22 +89,22 @@ fn set_end_among(ends: &mut StallEnds, i: usize, end: u64)
 }
 
 /// The same of a processor of a core of no pool.
-fn set_end_in_free(g: u8, p: u8, end: u64, free: &mut Row<Option<FreeCore>>)
+fn set_end_in_free(g: u8, p: ProcId, end: u64, free: &mut Row<Option<FreeCore>>)
     requires { 0 < g }
-    ensures { free.new ≡ free_to g p end free.old }
+    ensures { free.new ≡ free_to g p.0 end free.old }
 {
-    let r = (p / g) as usize;
+    let r = (p.0 / g) as usize;
     if r < free.len() {
         if let Some(c) = free.item_mut(r) {
-            set_end_among(&mut c.stall_ends, (p % g) as usize, end);
+            set_end_among(&mut c.stall_ends, (p.0 % g) as usize, end);
         }
     }
 }
 
 /// The same of a processor of the pool with this number.
-fn set_end_at_home(g: u8, p: u8, end: u64, i: usize, pools: &mut Row<Option<Pool>>)
+fn set_end_at_home(g: u8, p: ProcId, end: u64, i: usize, pools: &mut Row<Option<Pool>>)
     requires { 0 < g }
-    ensures { pools.new ≡ change_at i (change_processor g p (stalled_to end)) pools.old }
+    ensures { pools.new ≡ change_at i (change_processor g p.0 (stalled_to end)) pools.old }
 {
     if i < pools.len() {
         if let Some(pool) = pools.item_mut(i) {
@@ -114,12 +114,12 @@ fn set_end_at_home(g: u8, p: u8, end: u64, i: usize, pools: &mut Row<Option<Pool
 }
 
 /// The processor stalls up to a moment.
-fn stalled(g: u8, p: u8, end: u64, s: &mut State)
+fn stalled(g: u8, p: ProcId, end: u64, s: &mut State)
     requires some { 0 < g }
     requires few { length s.old.pools ≤ 16 }
-    ensures { s.new ≡ stalled_spec g p end s.old }
+    ensures { s.new ≡ stalled_spec g p.0 end s.old }
 {
-    match home_of_core(s, p / g) {
+    match home_of_core(s, ResId(p.0 / g)) {
         None => set_end_in_free(g, p, end, &mut s.free),
         Some(i) => set_end_at_home(g, p, end, i, &mut s.pools),
     }
@@ -136,8 +136,8 @@ pub fn stall(m: &Machine, s: &mut State) -> Event
     let Some(line) = m.work.stalls.as_slice().get(s.next_stall as usize) else {
         unreachable!();
     };
-    let until = stall_end_of(g, s, line.cpu.0, s.now + line.span.0);
-    stalled(g, line.cpu.0, until, s);
+    let until = stall_end_of(g, s, line.cpu, s.now + line.span.0);
+    stalled(g, line.cpu, until, s);
     s.next_stall += 1;
     Event::Stall {
         p: line.cpu,

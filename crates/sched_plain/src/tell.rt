@@ -34,7 +34,7 @@ fn tell_stall(m: &Machine, s: &State) -> Event
     let Some(line) = m.work.stalls.as_slice().get(s.next_stall as usize) else {
         unreachable!();
     };
-    let until = stall_end_of(m.config.granularity, s, line.cpu.0, s.now + line.span.0);
+    let until = stall_end_of(m.config.granularity, s, line.cpu, s.now + line.span.0);
     Event::Stall {
         p: line.cpu,
         until: Moment(until),
@@ -78,17 +78,17 @@ fn tell_command(m: &Machine, s: &State, tool: &mut ToolState) -> Event
 }
 
 /// A core moves.
-fn tell_core_move(m: &Machine, s: &State, r: u8) -> Event
+fn tell_core_move(m: &Machine, s: &State, r: ResId) -> Event
     ensures { result ≡ event_of m.now s.entry.now s.entry.now.now (actions.Moved r) }
 {
     Event::Moved {
-        r: ResId(r),
+        r,
         to: target_at(s.free.as_slice(), r).map(|i| PoolId(i)),
     }
 }
 
 /// A domain moves.
-fn tell_domain_move(m: &Machine, s: &State, d: u8) -> Event
+fn tell_domain_move(m: &Machine, s: &State, d: DomId) -> Event
     requires stands { Stands m.now s.now }
     requires enabled { is_enabled m.now s.now s.now.now (actions.DomMoved d) ≡ true }
     ensures { result ≡ event_of m.now s.entry.now s.entry.now.now (actions.DomMoved d) }
@@ -99,7 +99,7 @@ fn tell_domain_move(m: &Machine, s: &State, d: u8) -> Event
     let Some(to) = target_in(s, from, d) else {
         unreachable!();
     };
-    Event::DomMoved { d: DomId(d), to }
+    Event::DomMoved { d, to }
 }
 
 /// The event of an action in the pool with this number.
@@ -114,7 +114,7 @@ fn tell_at(m: &Machine, s: &State, action: Action, i: usize, scratch: &mut Scrat
 {
     match pool_at(s, i) {
         None => unreachable!(),
-        Some(pool) => tell_in(m.config.granularity, s.now, action, pool, scratch),
+        Some(pool) => tell_in(m.config.granularity, Moment(s.now), action, pool, scratch),
     }
 }
 

@@ -5,7 +5,7 @@ use Rattle.std.proofs.lemmas.Bool.{false≢true}
 use Rattle.std.proofs.lemmas.List.Elements.{All-head, All-tail}
 use Rattle.sched_model.specs.declared.event.Entry.{Entry}
 use Rattle.sched_model.specs.declared.machine.Machine.{Machine}
-use Rattle.sched_model.specs.Runs.{Reached, IsRunFrom, begun, after_entry, after_entries}
+use Rattle.sched_model.specs.Runs.{Reached, IsRunFrom, run_start, after_entry, after_entries}
 use Rattle.run_laws.specs.RunLaws.{IsOrderedFrom}
 use Rattle.sched_print.specs.Line.{words, line, text}
 use Rattle.sched_print.specs.Ranges.{IsPrintable}
@@ -82,7 +82,7 @@ not_behind m ordered from (d ∷ ds) rest why (e ∷ es) printable h is same =
 -- where the verdict is no, the bytes are no schedule
 pub no_is_no_schedule : (m : Machine) (ordered : Bool) (bytes : List ℕ) (k : ℕ) (why : Cause) → IsNo m ordered bytes k why → (entries : List Entry) → IsSchedule m ordered bytes entries → ⊥
 no_is_no_schedule m ordered bytes k why h entries is =
-    not_behind m ordered (begun m) h.front h.rest why entries h.begins.printable h.holds
+    not_behind m ordered (run_start m) h.front h.rest why entries h.begins.printable h.holds
     (record { printable = is.printable; run = is.run.whole.0; first = λ asked. (is.run.first asked).ordered; over = is.run.whole.1 })
     (sym h.begins.text ∙ is.run.text)
 

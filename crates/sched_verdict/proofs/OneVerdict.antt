@@ -5,7 +5,7 @@ use Rattle.std.specs.List.{All}
 use Rattle.std.proofs.lemmas.List.Elements.{All-head, All-tail}
 use Rattle.sched_model.specs.declared.event.Entry.{Entry}
 use Rattle.sched_model.specs.declared.machine.Machine.{Machine}
-use Rattle.sched_model.specs.Runs.{Reached, IsRunFrom, begun, after_entry, after_entries}
+use Rattle.sched_model.specs.Runs.{Reached, IsRunFrom, run_start, after_entry, after_entries}
 use Rattle.run_laws.specs.RunLaws.{IsOrderedFrom}
 use Rattle.sched_print.specs.Line.{words, line, text}
 use Rattle.sched_print.specs.Places.{IsText, IsPlace}
@@ -99,12 +99,12 @@ same_stop m ordered from (d ∷ ds) x a (e ∷ es) y b h k same =
     (subst (λ (z : Entry). Stops m ordered (after_entry m from z) es y b) (sym same_entry) (stops_later m ordered from e es y b k)) parts.1 in
     (ap suc others.0, others.1)
 
-stops_of : (m : Machine) (ordered : Bool) (bytes : List ℕ) (k : ℕ) (why : Cause) → (h : IsNo m ordered bytes k why) → Stops m ordered (begun m) h.front h.rest why
+stops_of : (m : Machine) (ordered : Bool) (bytes : List ℕ) (k : ℕ) (why : Cause) → (h : IsNo m ordered bytes k why) → Stops m ordered (run_start m) h.front h.rest why
 stops_of m ordered bytes k why h = record { printable = h.begins.printable; run = h.begins.run; first = h.begins.first; holds = h.holds }
 
 same_no : (m : Machine) (ordered : Bool) (bytes : List ℕ) (k l : ℕ) (a b : Cause) → IsNo m ordered bytes k a → IsNo m ordered bytes l b → (k ≡ l) × (a ≡ b)
 same_no m ordered bytes k l a b h g =
-    let both = same_stop m ordered (begun m) h.front h.rest a g.front g.rest b (stops_of m ordered bytes k a h) (stops_of m ordered bytes l b g) (sym h.begins.text ∙ g.begins.text) in
+    let both = same_stop m ordered (run_start m) h.front h.rest a g.front g.rest b (stops_of m ordered bytes k a h) (stops_of m ordered bytes l b g) (sym h.begins.text ∙ g.begins.text) in
     (sym h.number ∙ ap (λ (n : ℕ). n + 1) both.0 ∙ g.number, both.1)
 
 same_yes : (m : Machine) (ordered : Bool) (bytes : List ℕ) (n k : ℕ) → IsYes m ordered bytes n → IsYes m ordered bytes k → n ≡ k

@@ -6,7 +6,7 @@ use Rattle.std.proofs.lemmas.List.Concat.{flat_map-cons}
 use Rattle.std.proofs.lemmas.List.Elements.{All-nil, All-push}
 use Rattle.sched_model.specs.declared.event.Entry.{Entry}
 use Rattle.sched_model.specs.declared.machine.Machine.{Machine}
-use Rattle.sched_model.specs.Runs.{Reached, action_of, begun, after_entry, after_entries}
+use Rattle.sched_model.specs.Runs.{Reached, action_of, run_start, after_entry, after_entries}
 use Rattle.sched_model.proofs.RunLemmas.{after_entries-append, IsRunFrom-append}
 use Rattle.run_laws.specs.RunLaws.{TakesFirst, IsOrderedFrom}
 use Rattle.sched_print.specs.Line.{words, line, text}
@@ -22,16 +22,7 @@ pub record SoFar (start now : Checking) (bytes rest : List ℕ) (passed : ℕ) :
   pub begins : IsBegun start.machine start.ordered bytes front rest
   pub count : length front ≡ passed
   pub room : passed + length rest ≤ length bytes
-  pub here : now ≡ record start { reached = after_entries start.machine (begun start.machine) front }
-
-pub so_far_starts : (start : Checking) (bytes : List ℕ) → start.reached ≡ begun start.machine → SoFar start start bytes bytes 0
-so_far_starts start bytes opened = record {
-  front = [];
-  begins = record { printable = All-nil IsPrintable; text = refl; run = tt; first = λ asked. tt };
-  count = refl;
-  room = omega arith;
-  here = ap (λ (r : Reached). record start { reached = r }) opened;
-}
+  pub here : now ≡ record start { reached = after_entries start.machine (run_start start.machine) front }
 
 text_next : (entries : List Entry) (e : Entry) → text (entries ++ e ∷ []) ≡ text entries ++ line e
 text_next entries e = flat_map-append line entries (e ∷ []) ∙ ap (λ (z : List ℕ). text entries ++ z) (flat_map-cons line e [] ∙ append-nil (line e))
@@ -41,12 +32,12 @@ IsOrderedFrom-append m from [] entry ordered first = (first, tt)
 IsOrderedFrom-append m from (e ∷ entries) entry ordered first = (ordered.0, IsOrderedFrom-append m (after_entry m from e) entries entry ordered.1 first)
 
 begins_more : (m : Machine) (ordered : Bool) (bytes : List ℕ) (front : List Entry) (rest more : List ℕ) (e : Entry) → IsBegun m ordered bytes front rest → IsPrintable e → rest ≡ line e ++ more →
-    IsTaken m ordered (after_entries m (begun m) front) e → IsBegun m ordered bytes (front ++ e ∷ []) more
+    IsTaken m ordered (after_entries m (run_start m) front) e → IsBegun m ordered bytes (front ++ e ∷ []) more
 begins_more m ordered bytes front rest more e h printable same taken = record {
   printable = All-push IsPrintable front e h.printable printable;
   text = h.text ∙ ap (λ (z : List ℕ). text front ++ z) same ∙ sym (append_assoc (text front) (line e) more) ∙ ap (λ (z : List ℕ). z ++ more) (sym (text_next front e));
-  run = IsRunFrom-append m (begun m) front e h.run taken.next;
-  first = λ asked. IsOrderedFrom-append m (begun m) front e (h.first asked) (taken.first asked);
+  run = IsRunFrom-append m (run_start m) front e h.run taken.next;
+  first = λ asked. IsOrderedFrom-append m (run_start m) front e (h.first asked) (taken.first asked);
 }
 
 shorter : (e : Entry) (rest more : List ℕ) → rest ≡ line e ++ more → length more + 1 ≤ length rest
@@ -58,7 +49,7 @@ shorter e rest more same =
 pub so_far_more : {start now later : Checking} {bytes rest more : List ℕ} {passed : ℕ} → SoFar start now bytes rest passed → IsTakenLine now later rest more → SoFar start later bytes more (passed + 1)
 so_far_more {start} {now} {later} {bytes} {rest} {more} {passed} far h =
     let m : Machine = start.machine in
-    let reached : Reached = after_entries m (begun m) far.front in
+    let reached : Reached = after_entries m (run_start m) far.front in
     let taken : IsTaken m start.ordered reached h.entry = subst (λ (z : Checking). IsTaken z.machine z.ordered z.reached h.entry) far.here h.taken in
     let less : length more + 1 ≤ length rest = shorter h.entry rest more h.line in
     let longer : length (far.front ++ h.entry ∷ []) ≡ length far.front + 1 = length-append far.front (h.entry ∷ []) in
@@ -69,37 +60,8 @@ so_far_more {start} {now} {later} {bytes} {rest} {more} {passed} far h =
       room = omega (arith, less, far.room);
       here = h.came_to
           ∙ ap (λ (z : Checking). record z { reached = after_entry z.machine z.reached h.entry }) far.here
-          ∙ ap (λ (r : Reached). record start { reached = r }) (sym (after_entries-append m (begun m) far.front h.entry));
+          ∙ ap (λ (r : Reached). record start { reached = r }) (sym (after_entries-append m (run_start m) far.front h.entry));
     }
 
 pub so_far_shorter : {now later : Checking} {rest more : List ℕ} → IsTakenLine now later rest more → length more < length rest
 so_far_shorter {now} {later} {rest} {more} h = let less : length more + 1 ≤ length rest = shorter h.entry rest more h.line in omega (arith, less)
-
--- a cause that holds of what is left is that of the next line
-pub so_far_no : {start now : Checking} {bytes rest : List ℕ} {passed : ℕ} (why : Cause) → SoFar start now bytes rest passed → HoldsAt now.machine now.ordered now.reached rest why →
-    IsNo start.machine start.ordered bytes (passed + 1) why
-so_far_no {start} {now} {bytes} {rest} {passed} why far h = record {
-  front = far.front;
-  rest = rest;
-  number = ap (λ (n : ℕ). n + 1) far.count;
-  begins = far.begins;
-  holds = subst (λ (z : Checking). HoldsAt z.machine z.ordered z.reached rest why) far.here h;
-}
-
-pub so_far_unfinished : {start now : Checking} {bytes rest : List ℕ} {passed : ℕ} → SoFar start now bytes rest passed → rest ≡ [] → now.reached.over ≡ false →
-    IsNo start.machine start.ordered bytes (passed + 1) cause.Unfinished
-so_far_unfinished far none goes_on = so_far_no cause.Unfinished far (record { none = none; goes_on = goes_on })
-
-pub so_far_yes : {start now : Checking} {bytes rest : List ℕ} {passed : ℕ} → SoFar start now bytes rest passed → rest ≡ [] → now.reached.over ≡ true → IsYes start.machine start.ordered bytes passed
-so_far_yes {start} {now} {bytes} {rest} {passed} far none over = record {
-  entries = far.front;
-  schedule = record {
-    printable = far.begins.printable;
-    run = record {
-      text = far.begins.text ∙ ap (λ (z : List ℕ). text far.front ++ z) none ∙ append-nil (text far.front);
-      whole = (far.begins.run, sym (ap (λ (z : Checking). z.reached.over) far.here) ∙ over);
-      first = λ asked. record { run = far.begins.run; ordered = far.begins.first asked };
-    };
-  };
-  count = far.count;
-}

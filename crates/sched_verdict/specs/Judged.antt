@@ -3,7 +3,7 @@ use Rattle.std.specs.Prelude.{◌≡◌, ◌≢◌, ◌+◌, ℕ, Bool, true, fa
 use Rattle.std.specs.List.{All}
 use Rattle.sched_model.specs.declared.event.Entry.{Entry}
 use Rattle.sched_model.specs.declared.machine.Machine.{Machine}
-use Rattle.sched_model.specs.Runs.{Reached, IsRun, IsWholeRun, begun, after_entry, after_entries}
+use Rattle.sched_model.specs.Runs.{Reached, IsRun, IsWholeRun, run_start, after_entry, after_entries}
 use Rattle.run_laws.specs.RunLaws.{IsOrderedFrom, IsOrderedRun}
 use Rattle.sched_print.specs.Line.{line, text}
 use Rattle.sched_print.specs.Places.{IsText, IsPlace}
@@ -40,7 +40,7 @@ pub record IsBegun (m : Machine) (ordered : Bool) (bytes : List ℕ) (front : Li
   pub printable : All IsPrintable front
   pub text : bytes ≡ text front ++ rest
   pub run : IsRun m front
-  pub first : ordered ≡ true → IsOrderedFrom m (begun m) front
+  pub first : ordered ≡ true → IsOrderedFrom m (run_start m) front
 
 -- there are bytes left, and no newline ends their line
 pub record IsCut (rest : List ℕ) : Type 0 where
@@ -83,7 +83,7 @@ pub record IsNo (m : Machine) (ordered : Bool) (bytes : List ℕ) (k : ℕ) (cau
   pub rest : List ℕ
   pub number : length front + 1 ≡ k
   pub begins : IsBegun m ordered bytes front rest
-  pub holds : HoldsAt m ordered (after_entries m (begun m) front) rest cause
+  pub holds : HoldsAt m ordered (after_entries m (run_start m) front) rest cause
 
 -- the verdict holds of the bytes
 abbrev pub IsVerdict : Machine → Bool → List ℕ → Verdict → Type 0

@@ -33,16 +33,16 @@ first_line (verdict.Yes entries) = codes "yes " ++ decimal entries ++ newline �
 first_line (verdict.No number why) = codes "no " ++ decimal number ++ cause_words why ++ newline ∷ []
 
 -- the entry that is to come instead, where the refusal of an entry names it
-abbrev pub instead : NotStep → Option Entry
-instead (no.NotFirst first) = Some first
-instead (no.Differs due) = Some due
-instead (no.NotQuiet first) = Some first
-instead _ = None
+abbrev pub entry_instead : NotStep → Option Entry
+entry_instead (no.NotFirst first) = Some first
+entry_instead (no.Differs due) = Some due
+entry_instead (no.NotQuiet first) = Some first
+entry_instead _ = None
 
 -- the entry whose line is printed behind the first one
-abbrev pub further : Verdict → Option Entry
-further (verdict.No number (cause.NotStep why)) = instead why
-further _ = None
+abbrev pub further_entry : Verdict → Option Entry
+further_entry (verdict.No number (cause.NotStep why)) = entry_instead why
+further_entry _ = None
 
 -- its line, or nothing
 abbrev pub further_line : Option Entry → List ℕ
@@ -51,4 +51,4 @@ further_line (Some entry) = line entry
 
 -- the whole text of a verdict
 abbrev pub text_of_verdict : Verdict → List ℕ
-text_of_verdict v = first_line v ++ further_line (further v)
+text_of_verdict v = first_line v ++ further_line (further_entry v)

@@ -2,7 +2,7 @@
 
 ghost use Rattle.std.specs.Prelude.{◌≡◌, ◌==◌, ◌+◌, ◌<◌, ◌≤◌, length, position, MatchOption, IfOk, IfErr};
 ghost use Rattle.sched_model.specs.Checked.{IsChecked};
-ghost use Rattle.sched_model.specs.Runs.{begun};
+ghost use Rattle.sched_model.specs.Runs.{run_start};
 ghost use Rattle.sched_verdict.specs.declared.verdict.Verdict.TheVariants as verdict;
 ghost use Rattle.sched_verdict.specs.Lines.{HasNone, IsParted};
 ghost use Rattle.sched_verdict.specs.Judged.{HoldsAt, IsTakenLine, IsVerdict};
@@ -23,7 +23,8 @@ fn find_newline(bytes: &[u8]) -> Option<usize>
 
 /// The first line without its newline and the bytes behind it, or none where there is no newline.
 fn part(bytes: &[u8]) -> Option<(&[u8], &[u8])>
-    ensures { MatchOption result (HasNone bytes.now) (λ parts. IsParted bytes.now parts.0.now parts.1.now) }
+    ensures { MatchOption result (HasNone bytes.now)
+        (λ parts. IsParted bytes.now parts.0.now parts.1.now) }
 {
     match find_newline(bytes) {
         None => None,
@@ -36,7 +37,8 @@ fn part(bytes: &[u8]) -> Option<(&[u8], &[u8])>
 fn take_line<'a>(checker: &mut Checker, rest: &'a [u8]) -> Result<&'a [u8], Cause>
     requires { 0 < length rest.now }
     ensures taken { IfOk result (λ more. IsTakenLine checker.old checker.new rest.now more.now) }
-    ensures refused { IfErr result (HoldsAt checker.old.machine checker.old.ordered checker.old.reached rest.now) }
+    ensures refused { IfErr result (HoldsAt checker.old.machine checker.old.ordered
+        checker.old.reached rest.now) }
 {
     let Some((line, more)) = part(rest) else {
         return Err(Cause::Cut);
@@ -62,7 +64,7 @@ fn no_behind(passed: u32, cause: Cause) -> Verdict
 
 /// Judges all lines, from the opening on.
 fn judge_lines(checker: &mut Checker, schedule: &[u8]) -> Verdict
-    requires begun { checker.old.reached ≡ begun checker.old.machine }
+    requires begun { checker.old.reached ≡ run_start checker.old.machine }
     requires bound { length schedule.now ≤ 536870912 }
     ensures { IsVerdict checker.old.machine checker.old.ordered schedule.now result }
 {

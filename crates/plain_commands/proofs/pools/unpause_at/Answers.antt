@@ -1,4 +1,4 @@
-use Rattle.std.proofs.Common.{arith}
+use Rattle.std.proofs.Common.{refl}
 use Rattle.sched_model.specs.Pool.{unpause}
 use Rattle.plain_pool.specs.Fits.{PoolFits}
 use Rattle.plain_opening.specs.Opened.{FewWait}
@@ -6,8 +6,8 @@ use Rattle.plain_commands.proofs.Items.{each-item, changed-item}
 use Rattle.plain_commands.proofs.pools.unpause_at.Goals as goal
 
 pub unpause-requires-clause-fits : goal.unpause-requires-clause-fits
-unpause-requires-clause-fits c = each-item PoolFits c.args.pools.now c.args.i c.item_mut.result.now c.in-Some.pool c.requires.fits (omega arith) c.item_mut.ensures.value c.in-Some.is
+unpause-requires-clause-fits c = each-item PoolFits c.args.pools.now c.args.i c.in-Some.place.now c.in-Some-place.pool c.requires.fits (c.in-Some.ensures.some.0 refl) c.in-Some.ensures.value c.in-Some-place.is
 
 pub unpause-requires-clause-room : goal.unpause-requires-clause-room
 unpause-requires-clause-room c =
-    changed-item FewWait (unpause c.args.g c.args.d) c.args.pools.now c.args.i c.item_mut.result.now c.in-Some.pool c.requires.room (omega arith) c.item_mut.ensures.value c.in-Some.is
+    changed-item FewWait (unpause c.args.g c.args.d.0) c.args.pools.now c.args.i c.in-Some.place.now c.in-Some-place.pool c.requires.room (c.in-Some.ensures.some.0 refl) c.in-Some.ensures.value c.in-Some-place.is

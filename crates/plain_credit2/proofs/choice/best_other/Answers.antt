@@ -7,7 +7,7 @@ use Rattle.sched_model.specs.declared.state.Credit2Records.{Credit2Records}
 use Rattle.sched_model.specs.declared.state.Scheduler.{Scheduler}
 use Rattle.sched_model.specs.Places.{same_unit}
 use Rattle.sched_model.specs.Eligible.{is_eligible}
-use Rattle.sched_model.specs.Credit2.{greatest, credit_of}
+use Rattle.sched_model.specs.Credit2.{greatest_unit, credit_of}
 use Rattle.plain_credit2.specs.Waiting.{scheduler_of}
 use Rattle.plain_credit2.proofs.Items.{filter-both}
 use Rattle.plain_credit2.proofs.choice.best_other.Goals as goal
@@ -22,8 +22,8 @@ returns-in-None c =
     let ask : Ask = c.args.ask.now in
     let records : Credit2Records = c.args.records.now in
     let scheduler : Scheduler = scheduler_of c.args.queue.now c.args.affinity.now records in
-    let both = filter-both (λ w. not (same_unit c.args.u w)) (is_eligible scheduler ask.home ask.core ask.at) c.args.queue.now in
-    ap (found records) (c.in-None.ensures ∙ ap (greatest records None) (sym both))
+    let both = filter-both (λ w. not (same_unit c.args.u w)) (is_eligible scheduler ask.home.0 ask.core.0 ask.at.0) c.args.queue.now in
+    ap (found records) (c.in-None.ensures ∙ ap (greatest_unit records None) (sym both))
 
 pub returns-in-Some : goal.returns-in-Some
 unfolding found
@@ -31,6 +31,6 @@ returns-in-Some c =
     let ask : Ask = c.args.ask.now in
     let records : Credit2Records = c.args.records.now in
     let scheduler : Scheduler = scheduler_of c.args.queue.now c.args.affinity.now records in
-    let both = filter-both (λ w. not (same_unit c.args.u w)) (is_eligible scheduler ask.home ask.core ask.at) c.args.queue.now in
+    let both = filter-both (λ w. not (same_unit c.args.u w)) (is_eligible scheduler ask.home.0 ask.core.0 ask.at.0) c.args.queue.now in
     let fits : FitsSigned w64 c.credit_of.result = search rules in
-    to_z-of_z w64 c.credit_of.result fits ∙ c.credit_of.ensures ∙ ap (found records) (c.in-Some.ensures ∙ ap (greatest records None) (sym both))
+    to_z-of_z w64 c.credit_of.result fits ∙ c.credit_of.ensures ∙ ap (found records) (c.in-Some.ensures ∙ ap (greatest_unit records None) (sym both))

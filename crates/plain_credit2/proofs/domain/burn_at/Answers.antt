@@ -11,7 +11,7 @@ returns-in-Some c =
     let d : Credit2Domain = c.args.d.now in
     let is : slice_get d.units c.args.n ≡ Some c.in-Some.u = rw c.as_slice.ensures.items at (sym c.in-Some.ensures) in
     let set : c.set_unit.new.units ≡ slice_set d.units c.args.n c.burn_unit-burned.result = c.set_unit.ensures in
-    let put = change_item-put c.args.n (burn_unit c.args.most c.args.t d) d.units c.in-Some.u is in
+    let put = change_item-put c.args.n (burn_unit c.args.most c.args.t.0 d) d.units c.in-Some.u is in
     ap (λ (units : List Credit2Unit). record d { units = units }) (set ∙ ap (slice_set d.units c.args.n) c.burn_unit-burned.ensures ∙ put)
 
 pub returns-in_default : goal.returns-in_default

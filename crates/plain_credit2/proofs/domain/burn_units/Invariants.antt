@@ -5,6 +5,6 @@ use Rattle.plain_credit2.proofs.domain.burn_units.Given as goal
 abbrev pub invariant-loop-u : goal.invariant-loop-u
 invariant-loop-u l =
     record {
-      so_far : l.burned ≡ map (burn_unit l.most l.t l.fn.d) (take l.u-index l.u-items);
+      so_far : l.burned ≡ map (burn_unit l.most l.t.0 l.fn.d) (take l.u-index l.u-items);
       few : length l.burned ≤ l.u-index;
     }

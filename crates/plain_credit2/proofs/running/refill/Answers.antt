@@ -1,4 +1,4 @@
-use Rattle.std.proofs.Common.{sym, subst, arith}
+use Rattle.std.proofs.Common.{sym, subst, refl}
 use Rattle.sched_model.specs.declared.state.Credit2Domain.{Credit2Domain}
 use Rattle.sched_model.specs.declared.state.Credit2Records.{Credit2Records}
 use Rattle.sched_model.specs.Credit2.{max_weight}
@@ -11,12 +11,12 @@ use Rattle.plain_credit2.proofs.running.refill.Goals as goal
 pub refill_domain-requires-clause-fits : goal.refill_domain-requires-clause-fits
 refill_domain-requires-clause-fits c =
     let records : Credit2Records = c.args.records.now in
-    let d : Credit2Domain = c.in-Some.domain in
-    let here : DomainFits (max_weight records) c.args.t d =
-    place_fits (DomainFits (max_weight records) c.args.t) records.domains c.args.d _ d (pool_in_range c.args.t records c.requires.early c.requires.fits) (omega arith) c.item_mut.ensures.value c.in-Some.is
+    let d : Credit2Domain = c.in-Some-place.domain in
+    let here : DomainFits (max_weight records) c.args.t.0 d =
+    place_fits (DomainFits (max_weight records) c.args.t.0) records.domains c.args.d.0 _ d (pool_in_range c.args.t.0 records c.requires.early c.requires.fits) (c.in-Some.ensures.some.0 refl) c.in-Some.ensures.value c.in-Some-place.is
     in
-    subst (λ w. DomainFits w c.args.t d) (sym c.max_weight-most.ensures) here
+    subst (λ w. DomainFits w c.args.t.0 d) (sym c.max_weight-most.ensures) here
 
 pub refill_domain-requires-clause-few : goal.refill_domain-requires-clause-few
 refill_domain-requires-clause-few c =
-    (place_fits (Credit2InRange c.args.t) c.args.records.now.domains c.args.d _ c.in-Some.domain c.requires.fits.domains (omega arith) c.item_mut.ensures.value c.in-Some.is).count
+    (place_fits (Credit2InRange c.args.t.0) c.args.records.now.domains c.args.d.0 _ c.in-Some-place.domain c.requires.fits.domains (c.in-Some.ensures.some.0 refl) c.in-Some.ensures.value c.in-Some-place.is).count

@@ -10,6 +10,6 @@ use Rattle.plain_credit2.proofs.running.reset.Goals as goal
 pub returns : goal.returns
 returns c =
     let records : Credit2Records = c.args.records.now in
-    ap (λ (domains : List (Option Credit2Domain)). record records { last_reset = Some c.args.t; domains = domains })
-    (c.reset_all.ensures ∙ ap (λ w. change_each 0 (λ (n : ℕ). reset_by w c.args.t c.args.m) records.domains) c.max_weight-most.ensures)
-    ∙ sym (reset-each c.args.t c.args.m records (omega arith))
+    ap (λ (domains : List (Option Credit2Domain)). record records { last_reset = Some c.args.t.0; domains = domains })
+    (c.reset_all.ensures ∙ ap (λ w. change_each 0 (λ (n : ℕ). reset_by w c.args.t.0 c.args.m) records.domains) c.max_weight-most.ensures)
+    ∙ sym (reset-each c.args.t.0 c.args.m records (omega arith))

@@ -1,12 +1,6 @@
-use Rattle.std.proofs.Common.{sym, ◌≤◌, arith, length}
 use Rattle.sched_model.specs.declared.state.Credit2Unit.{Credit2Unit}
-use Rattle.plain_units.proofs.Places.{slice_set-changed, change_item-past}
+use Rattle.plain_units.proofs.Places.{slice_set-changed}
 use Rattle.plain_credit2.proofs.units.set_burned.Goals as goal
 
 pub returns-in-Some : goal.returns-in-Some
-returns-in-Some c = slice_set-changed c.args.n (λ (x : Credit2Unit). record x { burned = c.args.from }) c.args.units.now c.in-Some.u.now c.in-Some.ensures.value
-
-pub returns-in_default : goal.returns-in_default
-returns-in_default c =
-    let past : length c.args.units.now ≤ c.args.n = grind (arith, c.in_default.ensures.some) in
-    sym (change_item-past _ _ _ past)
+returns-in-Some c = rw (slice_set-changed c.args.n (λ (x : Credit2Unit). record x { burned = c.args.from }) c.args.d.now.units c.in-Some.u.now c.in-Some.ensures.value)

@@ -1,15 +1,10 @@
-use Rattle.std.proofs.Common.{sym, ◌≤◌, arith, length, w64}
+use Rattle.std.proofs.Common.{w64}
 use Rattle.std.proofs.lemmas.Int.{to_z-of_z}
 use Rattle.sched_model.specs.declared.state.Credit2Unit.{Credit2Unit}
-use Rattle.plain_units.proofs.Places.{slice_set-changed, change_item-past}
+use Rattle.plain_units.proofs.Places.{slice_set-changed}
 use Rattle.plain_credit2.proofs.units.set_held.Goals as goal
 
 pub returns-in-Some : goal.returns-in-Some
 returns-in-Some c =
     let same = to_z-of_z w64 c.args.held c.ranges.held in
     rw same (slice_set-changed c.args.n (λ (x : Credit2Unit). record x { held = c.args.held }) c.args.units.now c.in-Some.u.now c.in-Some.ensures.value)
-
-pub returns-in_default : goal.returns-in_default
-returns-in_default c =
-    let past : length c.args.units.now ≤ c.args.n = grind (arith, c.in_default.ensures.some) in
-    sym (change_item-past _ _ _ past)

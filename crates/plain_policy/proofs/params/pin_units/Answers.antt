@@ -1,7 +1,7 @@
-use Rattle.std.proofs.Common.{◌≡◌, ◌≤◌, sym, ap, arith, length, ◌∙◌, List, [], ◌∷◌, refl}
+use Rattle.std.proofs.Common.{◌≡◌, sym, ap, length, ◌∙◌, List, [], ◌∷◌, refl}
 use Rattle.std.specs.Prelude.{replicate, map}
-use Rattle.sched_model.specs.Policy.{pinned}
-use Rattle.plain_units.proofs.Places.{slice_set-changed, change_item-past}
+use Rattle.sched_model.specs.Policy.{pinned_cores}
+use Rattle.plain_units.proofs.Places.{slice_set-changed}
 use Rattle.plain_policy.proofs.params.pin_units.Goals as goal
 
 -- as many copies as there are items
@@ -12,14 +12,9 @@ replicate-map x (y ∷ xs) = ap (λ ys. x ∷ ys) (replicate-map x xs)
 pub returns-in-None : goal.returns-in-None
 returns-in-None c =
     c.copies.ensures ∙ ap (λ n. replicate n c.args.cores) c.len.ensures.items ∙ replicate-map c.args.cores c.args.units.now
-    ∙ ap (λ unit. pinned unit c.args.cores c.args.units.now) (sym c.in-None.is)
+    ∙ ap (λ unit. pinned_cores unit c.args.cores c.args.units.now) (sym c.in-None.is)
 
 pub returns-in-Some-get_mut : goal.returns-in-Some-get_mut
 returns-in-Some-get_mut c =
     slice_set-changed c.in-Some.n (λ x. c.args.cores) c.args.units.now c.in-Some-get_mut.set.now c.in-Some-get_mut.ensures.value
-    ∙ ap (λ unit. pinned unit c.args.cores c.args.units.now) (sym c.in-Some.is)
-
-pub returns-in_default : goal.returns-in_default
-returns-in_default c =
-    let past : length c.args.units.now ≤ c.in-Some.n = grind (arith, c.in_default.ensures.some) in
-    sym (change_item-past _ (λ x. c.args.cores) _ past) ∙ ap (λ unit. pinned unit c.args.cores c.args.units.now) (sym c.in-Some.is)
+    ∙ ap (λ unit. pinned_cores unit c.args.cores c.args.units.now) (sym c.in-Some.is)

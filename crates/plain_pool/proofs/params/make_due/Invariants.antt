@@ -6,6 +6,6 @@ use Rattle.plain_pool.proofs.params.make_due.Given as goal
 abbrev pub invariant-loop-r : goal.invariant-loop-r
 invariant-loop-r l =
     record {
-      so_far : take l.r l.cores ++ change_each l.r (due_now_of l.d l.t) (drop l.r l.cores) ≡ change_each 0 (due_now_of l.d l.t) l.initial.cores;
+      so_far : take l.r l.cores ++ change_each l.r (due_now_of l.d.0 l.t.0) (drop l.r l.cores) ≡ change_each 0 (due_now_of l.d.0 l.t.0) l.initial.cores;
       as_long : length l.cores ≡ length l.initial.cores;
     }

@@ -6,5 +6,5 @@ use Rattle.plain_pool.proofs.replenishing.renew.Goals as goal
 
 pub unreachable-requires : goal.unreachable-requires
 unreachable-requires c =
-    replenished-there c.args.records.now c.args.t c.args.u c.requires.due
+    replenished-there c.args.records.now c.args.t.0 c.args.u c.requires.due
     (ap (λ r. rtds_record r c.args.u) (sym c.replenish.ensures) ∙ sym c.rtds_record.ensures ∙ ap option_copied c.in-None.is)

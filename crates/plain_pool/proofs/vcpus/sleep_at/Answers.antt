@@ -1,13 +1,6 @@
-use Rattle.std.proofs.Common.{sym, ap, arith, ◌∙◌}
-use Rattle.std.specs.Prelude.{slice_set}
 use Rattle.sched_model.specs.Pool.{put_to_sleep}
-use Rattle.plain_units.proofs.Places.{slice_set-changed, change_item-past}
+use Rattle.plain_units.proofs.Places.{slice_set-changed}
 use Rattle.plain_pool.proofs.vcpus.sleep_at.Goals as goal
 
-pub returns-then-n-len : goal.returns-then-n-len
-returns-then-n-len c =
-    ap (slice_set c.args.vcpus.now c.args.n) c.fall_asleep.ensures
-    ∙ slice_set-changed c.args.n (put_to_sleep c.args.t) c.args.vcpus.now c.item_mut.result.now c.item_mut.ensures.value
-
-pub returns-else-n-len : goal.returns-else-n-len
-returns-else-n-len c = sym (change_item-past _ _ _ (omega arith))
+pub returns-in-Some : goal.returns-in-Some
+returns-in-Some c = rw (c.fall_asleep.ensures, slice_set-changed c.args.n (put_to_sleep c.args.t.0) c.args.domain.now.vcpus c.in-Some.v.now c.in-Some.ensures.value)

@@ -1,13 +1,6 @@
-use Rattle.std.proofs.Common.{sym, ap, arith, ◌∙◌}
-use Rattle.std.specs.Prelude.{slice_set}
-use Rattle.sched_model.specs.Pool.{stopped}
-use Rattle.plain_units.proofs.Places.{slice_set-changed, change_item-past}
+use Rattle.sched_model.specs.Pool.{stopped_vcpu}
+use Rattle.plain_units.proofs.Places.{slice_set-changed}
 use Rattle.plain_pool.proofs.vcpus.stop_at.Goals as goal
 
-pub returns-then-n-len : goal.returns-then-n-len
-returns-then-n-len c =
-    ap (slice_set c.args.vcpus.now c.args.n) c.stop.ensures
-    ∙ slice_set-changed c.args.n (stopped c.args.t) c.args.vcpus.now c.item_mut.result.now c.item_mut.ensures.value
-
-pub returns-else-n-len : goal.returns-else-n-len
-returns-else-n-len c = sym (change_item-past _ _ _ (omega arith))
+pub returns-in-Some : goal.returns-in-Some
+returns-in-Some c = rw (c.stop.ensures, slice_set-changed c.args.n (stopped_vcpu c.args.t.0) c.args.domain.now.vcpus c.in-Some.v.now c.in-Some.ensures.value)

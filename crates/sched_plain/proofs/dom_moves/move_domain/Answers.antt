@@ -27,17 +27,17 @@ join_at-requires-clause-few c = (stands-machine c.args.m.now c.args.s.now c.requ
 
 pub join_at-requires-clause-vcpus : goal.join_at-requires-clause-vcpus
 join_at-requires-clause-vcpus c =
-    domain-few c.args.s.now.now c.args.d c.in-Some.from c.args.s.now.pools c.in-Some-leave_at.domain (stands-pool c.args.m.now c.args.s.now c.requires.stands) (sym c.leave_at.ensures.domain ∙ c.in-Some-leave_at.is)
+    domain-few c.args.s.now.now c.args.d.0 c.in-Some.from c.args.s.now.pools c.in-Some-leave_at.domain (stands-pool c.args.m.now c.args.s.now c.requires.stands) (sym c.leave_at.ensures.domain ∙ c.in-Some-leave_at.is)
 
 pub join_at-requires-clause-before : goal.join_at-requires-clause-before
 join_at-requires-clause-before c =
     subst (EachPlace (PoolFitsAt c.args.s.now.now)) (sym c.leave_at.ensures.pools)
-    (pools-left c.args.s.now.now c.args.d c.in-Some.from c.args.s.now.pools (stands-pool c.args.m.now c.args.s.now c.requires.stands))
+    (pools-left c.args.s.now.now c.args.d.0 c.in-Some.from c.args.s.now.pools (stands-pool c.args.m.now c.args.s.now c.requires.stands))
 
 pub join_at-requires-clause-after : goal.join_at-requires-clause-after
 join_at-requires-clause-after c =
     let m = c.args.m.now in
     let s = c.args.s.now in
-    subst (λ pools. EachPlace (PoolFitsAt s.now) (change_at c.in-Some-target_in.to.0 (joined_by m.config.granularity s.now c.args.d c.in-Some-leave_at.domain) pools)) (sym c.leave_at.ensures.pools)
-    (pools-joined m s c.args.d c.in-Some.from c.in-Some-target_in.to c.in-Some-leave_at.domain c.requires.stands c.requires.enabled
+    subst (λ pools. EachPlace (PoolFitsAt s.now) (change_at c.in-Some-target_in.to.0 (joined_by m.config.granularity s.now c.args.d.0 c.in-Some-leave_at.domain) pools)) (sym c.leave_at.ensures.pools)
+    (pools-joined m s c.args.d.0 c.in-Some.from c.in-Some-target_in.to c.in-Some-leave_at.domain c.requires.stands c.requires.enabled
     (sym c.home_of_domain.ensures ∙ c.in-Some.is) (sym c.target_in.ensures ∙ c.in-Some-target_in.is) (sym c.leave_at.ensures.domain ∙ c.in-Some-leave_at.is))

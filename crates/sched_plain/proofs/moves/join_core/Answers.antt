@@ -10,4 +10,4 @@ use Rattle.sched_plain.proofs.moves.join_core.Goals as goal
 pub settle-requires-clause-fits : goal.settle-requires-clause-fits
 settle-requires-clause-fits c =
     subst PoolFits (sym c.put_core.ensures)
-    (resources-fit c.args.t c.args.pool.now (put_at c.args.r (fresh_core c.args.stall_ends.now) c.args.pool.now.resources) (length_set c.args.r (Some (fresh_core c.args.stall_ends.now)) c.args.pool.now.resources) c.requires.fits).fits
+    (resources-fit c.args.t.0 c.args.pool.now (put_at c.args.r.0 (fresh_core c.args.stall_ends.now) c.args.pool.now.resources) (length_set c.args.r.0 (Some (fresh_core c.args.stall_ends.now)) c.args.pool.now.resources) c.requires.fits).fits

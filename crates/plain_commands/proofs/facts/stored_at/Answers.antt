@@ -1,6 +1,6 @@
 use Rattle.std.proofs.Common.{◌∙◌, sym, ap}
 use Rattle.sched_model.specs.Places.{at_place}
-use Rattle.plain_commands.proofs.facts.units_at.Goals as goal
+use Rattle.plain_commands.proofs.facts.stored_at.Goals as goal
 
 pub push_stored_in-requires-clause-fits : goal.push_stored_in-requires-clause-fits
 push_stored_in-requires-clause-fits c =
