@@ -39,11 +39,15 @@ macro_rules! call {
 impl AnyPolicy {
     ghost use Rattle.std.specs.Prelude.{◌≡◌};
     ghost use Rattle.sched_model.specs.Policy.{default_pool_params, kind_of};
-    ghost use Rattle.sched_ops.specs.Seen.{vacant};
+    ghost use Rattle.sched_ops.specs.Seen.{vacant_scheduler};
 
     /// The scheduler of this kind, with its default parameters. It has no domain and no place for one, and holds no memory yet.
     pub fn empty(kind: SchedKind) -> Self
-        ensures seen { seen_of result ≡ record { scheduler = vacant (default_pool_params kind) 0 0; spare = 0; latest = 0 } }
+        ensures seen { seen_of result ≡ record {
+          scheduler = vacant_scheduler (default_pool_params kind) 0 0;
+          spare = 0;
+          latest = 0;
+        } }
         ensures kind { kind_of (seen_of result).scheduler.records ≡ kind }
     {
         match kind {

@@ -13,23 +13,9 @@ use Rattle.sched_laws.proofs.Counts.{same_unit_refl}
 use Rattle.plain_policy.specs.Parts.{scheduler_of}
 use Rattle.pool_units.specs.Units.{Units}
 use Rattle.pool_units.proofs.Waiting.{any_of_one, any_of_none}
-use Rattle.arinc_frame.specs.Waiting.{awaited, is_other}
-
-and_true : (b : Bool) → (b && true) ≡ b
-and_true true = refl
-and_true false = refl
-
-and_false : (b : Bool) → (b && false) ≡ false
-and_false true = refl
-and_false false = refl
-
-right_of : (a b : Bool) → (a && b) ≡ true → b ≡ true
-right_of true b both = both
-right_of false b both = absurd (cc)
-
-left_of : (a b : Bool) → (a && b) ≡ true → a ≡ true
-left_of true b both = refl
-left_of false b both = absurd (cc)
+use Rattle.arinc_frame.specs.Waiting.{awaited_unit, is_other}
+use Rattle.std.proofs.Math.Bool.{and-false, and-true}
+use Rattle.sched_laws.proofs.Bools.{and_left, and_right}
 
 is_some_cond : (b : Bool) (u : UnitId) → is_some (cond b (Some u) None) ≡ b
 is_some_cond true u = refl
@@ -48,16 +34,16 @@ abbrev passes_window : Units → ℕ → ℕ → Option UnitId → UnitId → Bo
 passes_window units home core window u = is_allowed_by units.affinity home core u && is_unit window u
 
 passes_own : (units : Units) (home core : ℕ) (w : UnitId) → passes_window units home core (Some w) w ≡ is_allowed_by units.affinity home core w
-passes_own units home core w = ap (λ b. is_allowed_by units.affinity home core w && b) (same_unit_refl w) ∙ and_true (is_allowed_by units.affinity home core w)
+passes_own units home core w = ap (λ b. is_allowed_by units.affinity home core w && b) (same_unit_refl w) ∙ and-true (is_allowed_by units.affinity home core w)
 
 is_window_unit : (units : Units) (home core : ℕ) (w u : UnitId) → passes_window units home core (Some w) u ≡ true → u ≡ w
-is_window_unit units home core w u passes = sym (same_unit_same w u (right_of (is_allowed_by units.affinity home core u) (same_unit w u) passes))
+is_window_unit units home core w u passes = sym (same_unit_same w u (and_right (is_allowed_by units.affinity home core u) (same_unit w u) passes))
 
 -- some unit is eligible where the window's unit waits and may have the core
-pub some_eligible : (units : Units) (records : ArincRecords) (t home core : ℕ) → list_any (is_eligible (scheduler_of units.queue units.affinity (ArincPool records)) home core t) units.queue ≡ is_some (awaited units (window_unit records t) home core)
+pub some_eligible : (units : Units) (records : ArincRecords) (t home core : ℕ) → list_any (is_eligible (scheduler_of units.queue units.affinity (ArincPool records)) home core t) units.queue ≡ is_some (awaited_unit units (window_unit records t) home core)
 some_eligible units records t home core =
-    elim (window_unit records t) as (λ o. list_any (passes_window units home core o) units.queue ≡ is_some (awaited units o home core)) [
-      | None ↦ any_of_none (passes_window units home core None) units.queue (λ u. and_false (is_allowed_by units.affinity home core u))
+    elim (window_unit records t) as (λ o. list_any (passes_window units home core o) units.queue ≡ is_some (awaited_unit units o home core)) [
+      | None ↦ any_of_none (passes_window units home core None) units.queue (λ u. and-false (is_allowed_by units.affinity home core u))
       | Some w ↦
           any_of_one w (passes_window units home core (Some w)) units.queue (is_window_unit units home core w)
           ∙ ap (λ b. has_unit units.queue w && b) (passes_own units home core w)
@@ -66,12 +52,12 @@ some_eligible units records t home core =
 
 -- some unit is eligible and better than the core's own where the window's unit is another, waits and may have the core
 pub some_better : (units : Units) (records : ArincRecords) (t home core : ℕ) (own : UnitId)
-    → list_any (λ u. is_eligible (scheduler_of units.queue units.affinity (ArincPool records)) home core t u && not (same_unit u own)) units.queue ≡ is_other (awaited units (window_unit records t) home core) own
+    → list_any (λ u. is_eligible (scheduler_of units.queue units.affinity (ArincPool records)) home core t u && not (same_unit u own)) units.queue ≡ is_other (awaited_unit units (window_unit records t) home core) own
 some_better units records t home core own =
-    elim (window_unit records t) as (λ o. list_any (λ u. passes_window units home core o u && not (same_unit u own)) units.queue ≡ is_other (awaited units o home core) own) [
-      | None ↦ any_of_none (λ u. passes_window units home core None u && not (same_unit u own)) units.queue (λ u. ap (λ b. b && not (same_unit u own)) (and_false (is_allowed_by units.affinity home core u)))
+    elim (window_unit records t) as (λ o. list_any (λ u. passes_window units home core o u && not (same_unit u own)) units.queue ≡ is_other (awaited_unit units o home core) own) [
+      | None ↦ any_of_none (λ u. passes_window units home core None u && not (same_unit u own)) units.queue (λ u. ap (λ b. b && not (same_unit u own)) (and-false (is_allowed_by units.affinity home core u)))
       | Some w ↦
-          any_of_one w (λ u. passes_window units home core (Some w) u && not (same_unit u own)) units.queue (λ u passes. is_window_unit units home core w u (left_of (passes_window units home core (Some w) u) (not (same_unit u own)) passes))
+          any_of_one w (λ u. passes_window units home core (Some w) u && not (same_unit u own)) units.queue (λ u passes. is_window_unit units home core w u (and_left (passes_window units home core (Some w) u) (not (same_unit u own)) passes))
           ∙ ap (λ b. has_unit units.queue w && (b && not (same_unit w own))) (passes_own units home core w)
           ∙ and_assoc (has_unit units.queue w) (is_allowed_by units.affinity home core w) (not (same_unit w own))
           ∙ is_other_cond (has_unit units.queue w && is_allowed_by units.affinity home core w) w own

@@ -12,7 +12,7 @@ use Rattle.sched_model.specs.Places.{has_unit}
 use Rattle.sched_model.specs.Policy.{fresh_records}
 use Rattle.sched_ranges.specs.Ranges.{IsFrame}
 use Rattle.sched_ops.specs.Conditions.{is_vacant}
-use Rattle.sched_ops.specs.Seen.{restarted}
+use Rattle.sched_ops.specs.Seen.{restarted_scheduler}
 use Rattle.plain_policy.specs.Parts.{scheduler_of}
 use Rattle.pool_units.specs.Units.{is_member}
 use Rattle.pool_units.proofs.Whole.{affinity_of_vacant, queue_of_vacant}
@@ -29,7 +29,7 @@ ready_installed frame t fits = record { frame = λ x e. (let same : frame ≡ x 
 pub begun_anew : (queue : List UnitId) (affinity : List (Option (List Cores))) (records : ArincRecords) (params : PoolParams) (frame : Option Frame)
     → ((u : UnitId) → has_unit queue u ≡ true → is_member affinity u ≡ true) → is_vacant (scheduler_of queue affinity (ArincPool records)) ≡ true
     → ((domains cores : ℕ) → fresh_records params domains cores ≡ ArincPool (record { frame = frame; installed = 0 }))
-    → scheduler_of queue affinity (ArincPool (record { frame = frame; installed = 0 })) ≡ restarted params (scheduler_of queue affinity (ArincPool records))
+    → scheduler_of queue affinity (ArincPool (record { frame = frame; installed = 0 })) ≡ restarted_scheduler params (scheduler_of queue affinity (ArincPool records))
 begun_anew queue affinity records params frame members vacant fresh =
     ap (λ (q : List UnitId). scheduler_of q affinity (ArincPool (record { frame = frame; installed = 0 }))) (queue_of_vacant queue affinity members vacant)
     ∙ ap (λ (a : List (Option (List Cores))). scheduler_of [] a (ArincPool (record { frame = frame; installed = 0 }))) (affinity_of_vacant affinity vacant)

@@ -12,15 +12,7 @@ use Rattle.sched_ranges.specs.Ranges.{IsFrame}
 use Rattle.plain_policy.specs.Frames.{window_of}
 use Rattle.arinc_frame.specs.declared.window.Present.{Present}
 use Rattle.arinc_frame.specs.Frames.{IsPresent}
-
-is_lt : (a b : ℕ) → a < b → nat_lt a b ≡ true
-is_lt a b is = grind arith
-
-is_ge : (a b : ℕ) → b ≤ a → nat_lt a b ≡ false
-is_ge a b is = grind arith
-
-ge_of : (a b : ℕ) → nat_lt a b ≡ false → b ≤ a
-ge_of a b is = grind arith
+use Rattle.std.proofs.lemmas.Bool.{le-ltb, ltb-false, lt-ltb}
 
 abbrev cons_window : FrameEntry → ℕ → ℕ → ℕ → List FrameEntry → Bool → Window
 cons_window e start ahead last entries b = elim b as (λ _. Window) [ true ↦ record { unit = Some (record { dom = e.dom; n = e.unit }); until = start + e.run.0 } | false ↦ window_from (start + e.run.0) (ahead - e.run.0) last entries ]
@@ -30,10 +22,10 @@ same_window : (start ahead more last : ℕ) (entries : List FrameEntry) → star
 same_window start ahead more last [] low = refl
 same_window start ahead more last (e ∷ entries) low =
     elim (nat_lt ahead e.run.0) as (λ b. nat_lt ahead e.run.0 ≡ b → start + ahead + more < (cons_window e start ahead last entries b).until → window_from start (ahead + more) last (e ∷ entries) ≡ cons_window e start ahead last entries b) [
-      | true ↦ λ is below. (let there : nat_lt (ahead + more) e.run.0 ≡ true = is_lt (ahead + more) e.run.0 (omega (arith, below)) in ap (cons_window e start (ahead + more) last entries) there)
+      | true ↦ λ is below. (let there : nat_lt (ahead + more) e.run.0 ≡ true = lt-ltb (ahead + more) e.run.0 (omega (arith, below)) in ap (cons_window e start (ahead + more) last entries) there)
       | false ↦ λ is below. (
-          let g = ge_of ahead e.run.0 is in
-          let there : nat_lt (ahead + more) e.run.0 ≡ false = is_ge (ahead + more) e.run.0 (omega (arith, g)) in
+          let g = ltb-false ahead e.run.0 is in
+          let there : nat_lt (ahead + more) e.run.0 ≡ false = le-ltb (ahead + more) e.run.0 (omega (arith, g)) in
           let shift : ahead + more - e.run.0 ≡ (ahead - e.run.0) + more = omega (arith, g) in
           let at : start + e.run.0 + (ahead - e.run.0) + more ≡ start + ahead + more = omega (arith, g) in
           ap (cons_window e start (ahead + more) last entries) there

@@ -17,14 +17,14 @@ if_allowed units None home core = None
 if_allowed units (Some u) home core = (if is_allowed_by units.affinity home core u then Some u else None)
 
 -- the window's unit, where it waits and may have the core
-abbrev pub awaited : Units → Option UnitId → ℕ → ℕ → Option UnitId
-awaited units None home core = None
-awaited units (Some u) home core = (if has_unit units.queue u && is_allowed_by units.affinity home core u then Some u else None)
+abbrev pub awaited_unit : Units → Option UnitId → ℕ → ℕ → Option UnitId
+awaited_unit units None home core = None
+awaited_unit units (Some u) home core = (if has_unit units.queue u && is_allowed_by units.affinity home core u then Some u else None)
 
 -- the window's unit, where it is the core's own and may go on, or waits
-abbrev pub chosen : Units → Option UnitId → Ask → Option UnitId
-chosen units None ask = None
-chosen units (Some u) ask = (if is_unit ask.cur u && ask.runnable then Some u else awaited units (Some u) ask.home ask.core)
+abbrev pub chosen_unit : Units → Option UnitId → Ask → Option UnitId
+chosen_unit units None ask = None
+chosen_unit units (Some u) ask = (if is_unit ask.cur u && ask.runnable then Some u else awaited_unit units (Some u) ask.home.0 ask.core.0)
 
 -- a unit that is another than the core's own
 abbrev pub is_other : Option UnitId → UnitId → Bool

@@ -1,5 +1,6 @@
 //! ARINC 653 as a scheduler of a pool.
 
+ghost use Rattle.sched_model.specs.Checked.{most_span};
 ghost use Rattle.std.specs.Prelude.{◌≡◌, ◌≤◌, ◌<◌, ℕ};
 ghost use Rattle.std.specs.Option.{ForSome};
 ghost use Rattle.sched_model.specs.declared.state.Records.TheVariants.{ArincPool};
@@ -12,7 +13,7 @@ ghost use Rattle.plain_policy.specs.Parts.{scheduler_of};
 ghost use Rattle.sched_ops.specs.Conditions.{ArePoolParams};
 ghost use Rattle.sched_ops.specs.Seen.{Tells};
 ghost use Rattle.arinc_frame.specs.Frames.{IsPresent};
-ghost use Rattle.arinc_frame.specs.Waiting.{awaited as awaited_spec, chosen as chosen_spec, if_allowed as if_allowed_spec, if_waits as if_waits_spec, is_other as is_other_spec};
+ghost use Rattle.arinc_frame.specs.Waiting.{awaited_unit as awaited_spec, chosen_unit as chosen_spec, if_allowed as if_allowed_spec, if_waits as if_waits_spec, is_other as is_other_spec};
 
 use crate::window::{Present, copy_frame, copy_of, found_at, window_now};
 use plain_units::units::{is_same, is_there};
@@ -51,11 +52,11 @@ impl Model for Arinc {
 }
 
 /// The unit of the present window.
-fn unit_now(records: &ArincRecords, present: Option<Present>, t: u64) -> Option<UnitId>
+fn unit_now(records: &ArincRecords, present: Option<Present>, t: Moment) -> Option<UnitId>
     requires frame { ForSome records.now.frame IsFrame }
     requires present { ForSome present (IsPresent records.now) }
-    requires early { t ≤ 10000000000000 }
-    ensures { result ≡ window_unit records.now t }
+    requires early { t.0 ≤ most_span }
+    ensures { result ≡ window_unit records.now t.0 }
 {
     match window_now(records, present, t) {
         None => None,
@@ -112,7 +113,10 @@ fn is_wanted(
     home: Cores,
 ) -> bool
     requires { core.0 < 64 }
-    ensures { (records : ArincRecord) (since t : ℕ) → waiting ≡ if_waits_spec units.now (window_unit records t) → result ≡ better_waits cur since t core.0 home.0 (scheduler_of units.now.queue units.now.affinity (ArincPool records)) }
+    ensures { (records : ArincRecord) (since t : ℕ) → waiting
+        ≡ if_waits_spec units.now (window_unit records t) → result
+        ≡ better_waits cur since t core.0 home.0
+        (scheduler_of units.now.queue units.now.affinity (ArincPool records)) }
 {
     let here = if_allowed(units, waiting, home, core);
     match cur {
@@ -123,21 +127,22 @@ fn is_wanted(
 
 /// The window's unit, where it is the core's own and may go on, or waits.
 fn chosen(units: &PoolUnits, unit: Option<UnitId>, ask: &Ask) -> Option<UnitId>
-    requires { ask.now.core < 64 }
+    requires { ask.now.core.0 < 64 }
     ensures { result ≡ chosen_spec units.now unit ask.now }
 {
     let u = unit?;
     if is_there(ask.cur, u) && ask.runnable {
         return Some(u);
     }
-    awaited(units, unit, Cores(ask.home), ResId(ask.core))
+    awaited(units, unit, ask.home, ask.core)
 }
 
 /// The frame of the parameters, where they have one.
 fn frame_of(params: &PoolParams) -> Option<Frame>
     requires { ArePoolParams Arinc653 params.now }
     ensures frame { ForSome result IsFrame }
-    ensures records { (domains cores : ℕ) → fresh_records params.now domains cores ≡ ArincPool (record { frame = result; installed = 0 }) }
+    ensures records { (domains cores : ℕ) → fresh_records params.now domains cores
+        ≡ ArincPool (record { frame = result; installed = 0 }) }
 {
     match params {
         PoolParams::Arinc653 { frame } => copy_of(frame),
@@ -149,9 +154,10 @@ fn frame_of(params: &PoolParams) -> Option<Frame>
 fn decide(units: &PoolUnits, records: &ArincRecords, present: Option<Present>, ask: &Ask) -> Choice
     requires frame { ForSome records.now.frame IsFrame }
     requires present { ForSome present (IsPresent records.now) }
-    requires early { ask.now.at ≤ 10000000000000 }
-    requires core { ask.now.core < 64 }
-    ensures { Tells result (decision_of ask.now (scheduler_of units.now.queue units.now.affinity (ArincPool records.now))) }
+    requires early { ask.now.at.0 ≤ most_span }
+    requires core { ask.now.core.0 < 64 }
+    ensures { Tells result (decision_of ask.now
+        (scheduler_of units.now.queue units.now.affinity (ArincPool records.now))) }
 {
     let window = if ask.leaving {
         None
@@ -176,11 +182,15 @@ impl Arinc {
     ghost use Rattle.std.specs.Prelude.{◌≡◌};
     ghost use Rattle.sched_model.specs.declared.config.SchedKind.TheVariants as kinds;
     ghost use Rattle.sched_model.specs.Policy.{default_pool_params};
-    ghost use Rattle.sched_ops.specs.Seen.{vacant};
+    ghost use Rattle.sched_ops.specs.Seen.{vacant_scheduler};
 
     /// No domain, no place for one and no frame. It has no memory.
     pub fn empty() -> Self
-        ensures { result ≡ record { scheduler = vacant (default_pool_params kinds.Arinc653) 0 0; spare = 0; latest = 0 } }
+        ensures { result ≡ record {
+          scheduler = vacant_scheduler (default_pool_params kinds.Arinc653) 0 0;
+          spare = 0;
+          latest = 0;
+        } }
     {
         Arinc {
             units: PoolUnits::empty(),
@@ -234,7 +244,7 @@ impl Policy for Arinc {
     }
 
     fn choose(&mut self, ask: &Ask) -> Choice {
-        self.latest = ask.at;
+        self.latest = ask.at.0;
         self.present = found_at(&self.records, self.present, ask.at);
         let choice = decide(&self.units, &self.records, self.present, ask);
         if let Some(u) = choice.unit {
@@ -244,7 +254,7 @@ impl Policy for Arinc {
     }
 
     fn wanted(&self, cores: &[Option<Resource>], t: Moment, home: Cores) -> Cores {
-        let waiting = if_waits(&self.units, unit_now(&self.records, self.present, t.0));
+        let waiting = if_waits(&self.units, unit_now(&self.records, self.present, t));
         wanted_where(cores, |core, cur, _since| {
             is_wanted(&self.units, waiting, cur, core, home)
         })

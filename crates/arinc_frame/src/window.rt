@@ -1,5 +1,6 @@
 //! The window of a frame at a moment, kept from one question to the next.
 
+ghost use Rattle.sched_model.specs.Checked.{most_span};
 ghost use Rattle.std.specs.Prelude.{◌≡◌, ◌≤◌, option_map};
 ghost use Rattle.std.specs.Option.{ForSome};
 ghost use Rattle.sched_model.specs.Arinc.{present_window as present_window_spec};
@@ -8,7 +9,7 @@ ghost use Rattle.plain_policy.specs.Frames.{window_of};
 ghost use Rattle.arinc_frame.specs.Frames.{IsPresent};
 
 use plain_policy::arinc::{Window, present_window};
-use sched_base::Span;
+use sched_base::{Moment, Span};
 use sched_model::config::{Frame, FrameList};
 use sched_model::short::Short;
 use sched_model::state::ArincRecords;
@@ -21,15 +22,15 @@ pub struct Present {
 }
 
 /// The present window, where there is a frame: the one that was found last, up to its end.
-pub fn window_now(records: &ArincRecords, present: Option<Present>, t: u64) -> Option<Window>
+pub fn window_now(records: &ArincRecords, present: Option<Present>, t: Moment) -> Option<Window>
     requires frame { ForSome records.now.frame IsFrame }
     requires present { ForSome present (IsPresent records.now) }
-    requires early { t ≤ 10000000000000 }
-    ensures { option_map window_of result ≡ present_window_spec records.now t }
+    requires early { t.0 ≤ most_span }
+    ensures { option_map window_of result ≡ present_window_spec records.now t.0 }
 {
     if let Some(last) = present
-        && last.from <= t
-        && t < last.window.until
+        && last.from <= t.0
+        && t.0 < last.window.until
     {
         return Some(last.window);
     }
@@ -37,16 +38,16 @@ pub fn window_now(records: &ArincRecords, present: Option<Present>, t: u64) -> O
 }
 
 /// The window of the moment t, to be kept.
-pub fn found_at(records: &ArincRecords, present: Option<Present>, t: u64) -> Option<Present>
+pub fn found_at(records: &ArincRecords, present: Option<Present>, t: Moment) -> Option<Present>
     requires frame { ForSome records.now.frame IsFrame }
     requires present { ForSome present (IsPresent records.now) }
-    requires installed { records.now.installed ≤ t }
-    requires early { t ≤ 10000000000000 }
+    requires installed { records.now.installed ≤ t.0 }
+    requires early { t.0 ≤ most_span }
     ensures { ForSome result (IsPresent records.now) }
 {
     match window_now(records, present, t) {
         None => None,
-        Some(window) => Some(Present { from: t, window }),
+        Some(window) => Some(Present { from: t.0, window }),
     }
 }
 

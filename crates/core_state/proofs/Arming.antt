@@ -1,4 +1,5 @@
--- Heaps of moments: one number armed anew, and what a change of one core leaves as it was.
+-- Dues of moments: one number armed anew, and what a change of one core leaves as it was.
+use Rattle.sched_base.specs.Numbers.{core as core_number, processor}
 use Rattle.std.proofs.Common.{◌≡◌, ◌≢◌, ◌≤◌, ◌<◌, ◌+◌, ◌*◌, ◌/◌, ◌%◌, ◌⊎◌, ℕ, List, ◌∙◌, refl, sym, ap, subst, arith, length, inl, inr}
 use Rattle.std.specs.Prelude.{Bool, not, Option, Some, None, slice_set, slice_get}
 use Rattle.std.proofs.Math.Decide.{ℕ_discrete}
@@ -12,8 +13,8 @@ use Rattle.sched_model.specs.Checked.{IsGranularity}
 use Rattle.sched_model.specs.Places.{at_place}
 use Rattle.sched_model.specs.Pool.{is_held}
 use Rattle.due_heap.specs.Dues.{due_of}
-use Rattle.pool_laws.specs.Ready.{when, later, end_of, end_where, slice_end, may_move, gathers}
-use Rattle.core_state.specs.declared.heaps.Heaps.{Heaps}
+use Rattle.pool_laws.specs.Ready.{moment_if, later_moment, end_of, end_where, slice_end, may_move, gathers}
+use Rattle.core_state.specs.declared.dues.Dues.{Dues}
 use Rattle.core_state.specs.Seen.{Seen, processor_among}
 use Rattle.core_state.specs.Ends.{may_decide, may_save, parts, ready_among, sibling_among}
 use Rattle.core_state.specs.Kept.{AgreesBut, AreArmedBut, AreArmed, with_core_ends, with_processor_ends}
@@ -90,7 +91,7 @@ abbrev sibling_in : ℕ → Option Resource → Option Processor
 sibling_in i o = elim o as (λ _. Option Processor) [ None ↦ None | Some c ↦ slice_get c.processors i ]
 
 abbrev end_in : ℕ → (Resource → Bool) → (Processor → Bool) → Option Resource → Option Moment
-end_in i a b o = elim o as (λ _. Option Moment) [ None ↦ None | Some c ↦ when (a c) (elim (sibling_in i o) as (λ _. Option Moment) [ None ↦ None | Some q ↦ when (b q) (Some q.stall_end) ]) ]
+end_in i a b o = elim o as (λ _. Option Moment) [ None ↦ None | Some c ↦ moment_if (a c) (elim (sibling_in i o) as (λ _. Option Moment) [ None ↦ None | Some q ↦ moment_if (b q) (Some q.stall_end) ]) ]
 
 pub sibling_same : (g p : ℕ) (a : Resource → Bool) (b : Processor → Bool) (cores next : List (Option Resource)) → at_place next (p / g) ≡ at_place cores (p / g)
     → sibling_among g next p a b ≡ sibling_among g cores p a b
@@ -102,42 +103,42 @@ processor_same g p cores next same = ap (sibling_in (p % g)) same
 pub sibling_past : (g p : ℕ) (a : Resource → Bool) (b : Processor → Bool) (cores : List (Option Resource)) → at_place cores (p / g) ≡ None → sibling_among g cores p a b ≡ None
 sibling_past g p a b cores none = ap (end_in (p % g) a b) none
 
-later_none : (a : Option Moment) → later a None ≡ None
+later_none : (a : Option Moment) → later_moment a None ≡ None
 later_none None = refl
 later_none (Some a) = refl
 
-pub block_past : (seen : Seen) (p : ℕ) → at_place seen.resources (p / seen.granularity) ≡ None → ready_among seen (Block p) ≡ None
+pub block_past : (seen : Seen) (p : ℕ) → at_place seen.resources (p / seen.granularity) ≡ None → ready_among seen (Block (processor p)) ≡ None
 block_past seen p none =
-    ap (λ (o : Option Resource). later (at_place seen.works p) (end_of (sibling_in (p % seen.granularity) o))) none ∙ later_none (at_place seen.works p)
+    ap (λ (o : Option Resource). later_moment (at_place seen.works p) (end_of (sibling_in (p % seen.granularity) o))) none ∙ later_none (at_place seen.works p)
 
 -- the core armed anew
-pub core_armed : (r q q' : ℕ) (seen : Seen) (heaps : Heaps) → length seen.resources ≤ 64 → AreArmedBut r (r + 1) q q' seen heaps
-    → AreArmedBut (r + 1) (r + 1) q q' seen (with_core_ends r (at_place seen.resources r) heaps)
-core_armed r q q' seen heaps few are =
+pub core_armed : (r q q' : ℕ) (seen : Seen) (dues : Dues) → length seen.resources ≤ 64 → AreArmedBut r (r + 1) q q' seen dues
+    → AreArmedBut (r + 1) (r + 1) q q' seen (with_core_ends r (at_place seen.resources r) dues)
+core_armed r q q' seen dues few are =
     let none : 64 ≤ r → at_place seen.resources r ≡ None = core_past seen.resources r few in
     record {
-      moves = next r (r + 1) heaps.moves (λ i. ready_among seen (Moved i)) (λ past. ap (λ (o : Option Resource). end_where may_move o) (none past)) are.moves;
-      slices = next r (r + 1) heaps.slices (λ i. ready_among seen (Slice i)) (λ past. ap slice_end (none past)) are.slices;
-      decides = next r (r + 1) heaps.decides (λ i. ready_among seen (Decide i)) (λ past. ap (λ (o : Option Resource). end_where may_decide o) (none past)) are.decides;
-      saves = next r (r + 1) heaps.saves (λ i. ready_among seen (Save i)) (λ past. ap (λ (o : Option Resource). end_where may_save o) (none past)) are.saves;
+      moves = next r (r + 1) dues.moves (λ i. ready_among seen (Moved (core_number i))) (λ past. ap (λ (o : Option Resource). end_where may_move o) (none past)) are.moves;
+      slices = next r (r + 1) dues.slices (λ i. ready_among seen (Slice (core_number i))) (λ past. ap slice_end (none past)) are.slices;
+      decides = next r (r + 1) dues.decides (λ i. ready_among seen (Decide (core_number i))) (λ past. ap (λ (o : Option Resource). end_where may_decide o) (none past)) are.decides;
+      saves = next r (r + 1) dues.saves (λ i. ready_among seen (Save (core_number i))) (λ past. ap (λ (o : Option Resource). end_where may_save o) (none past)) are.saves;
       blocks = are.blocks;
       arrives = are.arrives;
       leaves = are.leaves;
     }
 
 -- one processor more armed anew
-processor_armed : (r r' p q : ℕ) (seen : Seen) (heaps : Heaps) → IsGranularity seen.granularity → length seen.resources * seen.granularity ≤ 64
-    → AreArmedBut r r' p q seen heaps → AreArmedBut r r' (p + 1) q seen (with_processor_ends p (at_place seen.resources (p / seen.granularity)) (p % seen.granularity) (at_place seen.works p) heaps)
-processor_armed r r' p q seen heaps granularity few are =
+processor_armed : (r r' p q : ℕ) (seen : Seen) (dues : Dues) → IsGranularity seen.granularity → length seen.resources * seen.granularity ≤ 64
+    → AreArmedBut r r' p q seen dues → AreArmedBut r r' (p + 1) q seen (with_processor_ends p (at_place seen.resources (p / seen.granularity)) (p % seen.granularity) (at_place seen.works p) dues)
+processor_armed r r' p q seen dues granularity few are =
     let none : 64 ≤ p → at_place seen.resources (p / seen.granularity) ≡ None = core_of_past seen.granularity seen.resources p granularity few in
     record {
       moves = are.moves;
       slices = are.slices;
       decides = are.decides;
       saves = are.saves;
-      blocks = next p q heaps.blocks (λ i. ready_among seen (Block i)) (λ past. block_past seen p (none past)) are.blocks;
-      arrives = next p q heaps.arrives (λ i. ready_among seen (Arrive i)) (λ past. sibling_past seen.granularity p gathers (λ q. not (is_held q)) seen.resources (none past)) are.arrives;
-      leaves = next p q heaps.leaves (λ i. ready_among seen (Leave i)) (λ past. sibling_past seen.granularity p parts is_held seen.resources (none past)) are.leaves;
+      blocks = next p q dues.blocks (λ i. ready_among seen (Block (processor i))) (λ past. block_past seen p (none past)) are.blocks;
+      arrives = next p q dues.arrives (λ i. ready_among seen (Arrive (processor i))) (λ past. sibling_past seen.granularity p gathers (λ q. not (is_held q)) seen.resources (none past)) are.arrives;
+      leaves = next p q dues.leaves (λ i. ready_among seen (Leave (processor i))) (λ past. sibling_past seen.granularity p parts is_held seen.resources (none past)) are.leaves;
     }
 
 -- the i-th processor of the core r is of that core, and the i-th there
@@ -152,30 +153,30 @@ core_of_sibling_past g r i cores granularity few lt past =
     ap (at_place cores) (sym (place_of g r i granularity lt).0) ∙ core_of_past g cores (r * g + i) granularity few past
 
 -- the i-th processor of the core armed anew
-pub sibling_armed : (r r' i q : ℕ) (seen : Seen) (heaps : Heaps) (core : Option Resource) (work : Option Moment) → IsGranularity seen.granularity
+pub sibling_armed : (r r' i q : ℕ) (seen : Seen) (dues : Dues) (core : Option Resource) (work : Option Moment) → IsGranularity seen.granularity
     → length seen.resources * seen.granularity ≤ 64 → i < seen.granularity → core ≡ at_place seen.resources r → work ≡ at_place seen.works (r * seen.granularity + i)
-    → AreArmedBut r' r' (r * seen.granularity + i) q seen heaps
-    → AreArmedBut r' r' (r * seen.granularity + (i + 1)) q seen (with_processor_ends (r * seen.granularity + i) core i work heaps)
-sibling_armed r r' i q seen heaps core work granularity few lt core_is work_is are =
+    → AreArmedBut r' r' (r * seen.granularity + i) q seen dues
+    → AreArmedBut r' r' (r * seen.granularity + (i + 1)) q seen (with_processor_ends (r * seen.granularity + i) core i work dues)
+sibling_armed r r' i q seen dues core work granularity few lt core_is work_is are =
     let p : ℕ = r * seen.granularity + i in
     let place = place_of seen.granularity r i granularity lt in
     let more : p + 1 ≡ r * seen.granularity + (i + 1) = omega arith in
-    let ends : with_processor_ends p (at_place seen.resources (p / seen.granularity)) (p % seen.granularity) (at_place seen.works p) heaps ≡ with_processor_ends p core i work heaps =
-    ap (λ (k : ℕ). with_processor_ends p (at_place seen.resources k) (p % seen.granularity) (at_place seen.works p) heaps) place.0
-    ∙ ap (λ (k : ℕ). with_processor_ends p (at_place seen.resources r) k (at_place seen.works p) heaps) place.1
-    ∙ ap (λ (o : Option Resource). with_processor_ends p o i (at_place seen.works p) heaps) (sym core_is)
-    ∙ ap (λ (o : Option Moment). with_processor_ends p core i o heaps) (sym work_is) in
-    subst (λ (k : ℕ). AreArmedBut r' r' k q seen (with_processor_ends p core i work heaps)) more
-    (subst (λ (new : Heaps). AreArmedBut r' r' (p + 1) q seen new) ends (processor_armed r' r' p q seen heaps granularity few are))
+    let ends : with_processor_ends p (at_place seen.resources (p / seen.granularity)) (p % seen.granularity) (at_place seen.works p) dues ≡ with_processor_ends p core i work dues =
+    ap (λ (k : ℕ). with_processor_ends p (at_place seen.resources k) (p % seen.granularity) (at_place seen.works p) dues) place.0
+    ∙ ap (λ (k : ℕ). with_processor_ends p (at_place seen.resources r) k (at_place seen.works p) dues) place.1
+    ∙ ap (λ (o : Option Resource). with_processor_ends p o i (at_place seen.works p) dues) (sym core_is)
+    ∙ ap (λ (o : Option Moment). with_processor_ends p core i o dues) (sym work_is) in
+    subst (λ (k : ℕ). AreArmedBut r' r' k q seen (with_processor_ends p core i work dues)) more
+    (subst (λ (new : Dues). AreArmedBut r' r' (p + 1) q seen new) ends (processor_armed r' r' p q seen dues granularity few are))
 
 -- where none is left, all are armed
-pub all_armed : (r p q : ℕ) (seen : Seen) (heaps : Heaps) → q ≤ p → AreArmedBut r r p q seen heaps → AreArmed seen heaps
-all_armed r p q seen heaps few are = record {
-  moves = all r r heaps.moves (λ i. ready_among seen (Moved i)) (omega arith) are.moves;
-  slices = all r r heaps.slices (λ i. ready_among seen (Slice i)) (omega arith) are.slices;
-  decides = all r r heaps.decides (λ i. ready_among seen (Decide i)) (omega arith) are.decides;
-  saves = all r r heaps.saves (λ i. ready_among seen (Save i)) (omega arith) are.saves;
-  blocks = all p q heaps.blocks (λ i. ready_among seen (Block i)) few are.blocks;
-  arrives = all p q heaps.arrives (λ i. ready_among seen (Arrive i)) few are.arrives;
-  leaves = all p q heaps.leaves (λ i. ready_among seen (Leave i)) few are.leaves;
+pub all_armed : (r p q : ℕ) (seen : Seen) (dues : Dues) → q ≤ p → AreArmedBut r r p q seen dues → AreArmed seen dues
+all_armed r p q seen dues few are = record {
+  moves = all r r dues.moves (λ i. ready_among seen (Moved (core_number i))) (omega arith) are.moves;
+  slices = all r r dues.slices (λ i. ready_among seen (Slice (core_number i))) (omega arith) are.slices;
+  decides = all r r dues.decides (λ i. ready_among seen (Decide (core_number i))) (omega arith) are.decides;
+  saves = all r r dues.saves (λ i. ready_among seen (Save (core_number i))) (omega arith) are.saves;
+  blocks = all p q dues.blocks (λ i. ready_among seen (Block (processor i))) few are.blocks;
+  arrives = all p q dues.arrives (λ i. ready_among seen (Arrive (processor i))) few are.arrives;
+  leaves = all p q dues.leaves (λ i. ready_among seen (Leave (processor i))) few are.leaves;
 }

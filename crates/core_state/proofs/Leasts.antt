@@ -1,4 +1,5 @@
--- The first number that has come, and the least of the moments of several heaps.
+-- The first number that has come, and the least of the moments of several dues.
+use Rattle.sched_base.specs.Numbers.{core, processor}
 use Rattle.std.proofs.Common.{◌≡◌, ◌≤◌, ◌<◌, ◌⊎◌, ℕ, List, ◌∙◌, refl, sym, ap, subst, arith, inl, inr}
 use Rattle.std.specs.Prelude.{Bool, true, false, nat_le, Option, Some, None, if◌then◌else◌}
 use Rattle.std.proofs.lemmas.Bool.Decides.{nat_tests}
@@ -7,19 +8,22 @@ use Rattle.sched_model.specs.State.{has_come}
 use Rattle.sched_model.specs.declared.action.Action.{Action}
 use Rattle.sched_model.specs.declared.action.Action.TheVariants.{Stall, Xl, Moved, DomMoved, Wake, Block, Slice, Repl, Refill, Arrive, Decide, Leave, Save}
 use Rattle.due_heap.specs.Dues.{due_of, IsArmed, GoesFirst, HasCome}
-use Rattle.core_state.specs.declared.heaps.Heaps.{Heaps}
+use Rattle.core_state.specs.declared.dues.Dues.{Dues}
 use Rattle.core_state.specs.Seen.{Seen}
-use Rattle.core_state.specs.Ends.{ready_within}
-use Rattle.core_state.specs.Firsts.{IsFirstCome, IsNotLater, IsLeast, earlier}
-use Rattle.core_state.specs.Kept.{AreArmed}
+use Rattle.core_state.specs.Ends.{ready_within, ready_among}
+use Rattle.core_state.specs.Firsts.{IsFirstCome, IsNotLater, IsLeast, earlier_moment}
+use Rattle.core_state.specs.Kept.{AreArmed, AgreesBut}
 
--- the first of moments is that of the same moments
-pub first_same : (dues ends : ℕ → Option Moment) (t : ℕ) (o : Option ℕ) → ((i : ℕ) → dues i ≡ ends i) → IsFirstCome dues t o → IsFirstCome ends t o
-first_same dues ends t None same none = λ i. subst (λ (at : Option Moment). has_come t at ≡ false) (same i) (none i)
-first_same dues ends t (Some i) same first = (
+-- the first number of a set that has come is that of the events of its kind
+first_alike : (dues ends : ℕ → Option Moment) (t : ℕ) (o : Option ℕ) → ((i : ℕ) → dues i ≡ ends i) → IsFirstCome dues t o → IsFirstCome ends t o
+first_alike dues ends t None same none = λ i. subst (λ (at : Option Moment). has_come t at ≡ false) (same i) (none i)
+first_alike dues ends t (Some i) same first = (
   subst (λ (at : Option Moment). has_come t at ≡ true) (same i) first.0,
   λ j below. subst (λ (at : Option Moment). has_come t at ≡ false) (same j) (first.1 j below),
 )
+
+pub first_same : (make : ℕ → Action) (t : ℕ) (o : Option ℕ) {seen now : Seen} {dues : List (Option Moment)} → seen ≡ now → AgreesBut 0 0 dues (λ i. ready_among seen (make i)) → IsFirstCome (due_of dues) t o → IsFirstCome (λ i. ready_among now (make i)) t o
+first_same make t o {seen} {now} {dues} is are first = first_alike (due_of dues) (λ i. ready_among now (make i)) t o (λ i. are.above i (omega arith) ∙ ap (λ (x : Seen). ready_among x (make i)) is) first
 
 not_come : (t : ℕ) (o : Option Moment) → ((at : Moment) → o ≡ Some at → t < at.0) → has_come t o ≡ false
 not_come t None later = refl
@@ -43,7 +47,7 @@ first_some dues t id come first = (
       not_come_if t (due_of dues j) (λ at is h. let least = first j (record { at = at; armed = is; come = h }) in omega (arith, least, below)),
 )
 
--- the least of a heap
+-- the least of a set
 late_none : (o : Option Moment) → ((at : Moment) → o ≡ Some at → ⊥) → IsNotLater None o
 late_none None never = tt
 late_none (Some at) never = absurd (never at refl)
@@ -51,15 +55,9 @@ late_none (Some at) never = absurd (never at refl)
 pub least_none : (dues : List (Option Moment)) → ((id : ℕ) (at : Moment) → IsArmed dues id at → ⊥) → IsLeast (due_of dues) None
 least_none dues never = record { first = λ i. late_none (due_of dues i) (never i); one = λ m e. absurd (cc) }
 
-late_some : (a : Moment) (o : Option Moment) → ((b : Moment) → o ≡ Some b → a.0 ≤ b.0) → IsNotLater (Some a) o
+pub late_some : (a : Moment) (o : Option Moment) → ((b : Moment) → o ≡ Some b → a.0 ≤ b.0) → IsNotLater (Some a) o
 late_some a None after = tt
 late_some a (Some b) after = after b refl
-
-pub least_some : (dues : List (Option Moment)) (at : Moment) (id : ℕ) → IsArmed dues id at → ((i : ℕ) (b : Moment) → IsArmed dues i b → GoesFirst at id b i) → IsLeast (due_of dues) (Some at)
-least_some dues at id armed first = record {
-  first = λ i. late_some at (due_of dues i) (λ b is. (first i b is).by_moment);
-  one = λ m e. (id, armed ∙ e);
-}
 
 -- the earlier of two moments
 not_later_trans : (a b c : Option Moment) → IsNotLater a b → IsNotLater b c → IsNotLater a c
@@ -80,16 +78,13 @@ earlier_of_test : (test : Bool) (a b : Moment) → nat_le a.0 b.0 ≡ test
 earlier_of_test true a b e = (not_later_refl (Some a), grind (arith, nat_tests, e))
 earlier_of_test false a b e = (grind (arith, nat_tests, e), not_later_refl (Some b))
 
-earlier_first : (a b : Option Moment) → IsNotLater (earlier a b) a × IsNotLater (earlier a b) b
+earlier_first : (a b : Option Moment) → IsNotLater (earlier_moment a b) a × IsNotLater (earlier_moment a b) b
 earlier_first None None = (tt, tt)
-earlier_first None (Some b) = absurd_pair b
-  where
-    absurd_pair : (b : Moment) → IsNotLater (Some b) None × IsNotLater (Some b) (Some b)
-    absurd_pair b = (tt, not_later_refl (Some b))
+earlier_first None (Some b) = (tt, not_later_refl (Some b))
 earlier_first (Some a) None = (not_later_refl (Some a), tt)
 earlier_first (Some a) (Some b) = earlier_of_test (nat_le a.0 b.0) a b refl
 
-earlier_either : (a b : Option Moment) → (earlier a b ≡ a) ⊎ (earlier a b ≡ b)
+earlier_either : (a b : Option Moment) → (earlier_moment a b ≡ a) ⊎ (earlier_moment a b ≡ b)
 earlier_either None b = inr refl
 earlier_either (Some a) None = inl refl
 earlier_either (Some a) (Some b) = elim (nat_le a.0 b.0) as (λ t. ((if t then Some a else Some b) ≡ Some a) ⊎ ((if t then Some a else Some b) ≡ Some b)) [ true ↦ inl refl | false ↦ inr refl ]
@@ -99,81 +94,72 @@ abbrev pub both : {X Y : Type 0} → (X → Option Moment) → (Y → Option Mom
 both f h (inl x) = f x
 both f h (inr y) = h y
 
-pub least_both : {X Y : Type 0} (f : X → Option Moment) (h : Y → Option Moment) (a b : Option Moment) → IsLeast f a → IsLeast h b → IsLeast (both f h) (earlier a b)
+pub least_both : {X Y : Type 0} (f : X → Option Moment) (h : Y → Option Moment) (a b : Option Moment) → IsLeast f a → IsLeast h b → IsLeast (both f h) (earlier_moment a b)
 least_both {X} {Y} f h a b of_a of_b =
     let early = earlier_first a b in
     record { first = first early; one = one }
   where
-    first : IsNotLater (earlier a b) a × IsNotLater (earlier a b) b → (x : X ⊎ Y) → IsNotLater (earlier a b) (both f h x)
-    first early (inl x) = not_later_trans (earlier a b) a (f x) early.0 (of_a.first x)
-    first early (inr y) = not_later_trans (earlier a b) b (h y) early.1 (of_b.first y)
+    first : IsNotLater (earlier_moment a b) a × IsNotLater (earlier_moment a b) b → (x : X ⊎ Y) → IsNotLater (earlier_moment a b) (both f h x)
+    first early (inl x) = not_later_trans (earlier_moment a b) a (f x) early.0 (of_a.first x)
+    first early (inr y) = not_later_trans (earlier_moment a b) b (h y) early.1 (of_b.first y)
 
-    one : (m : Moment) → earlier a b ≡ Some m → (x : X ⊎ Y) × (both f h x ≡ Some m)
+    one : (m : Moment) → earlier_moment a b ≡ Some m → (x : X ⊎ Y) × (both f h x ≡ Some m)
     one m is = elim (earlier_either a b) [
       | inl e ↦ let x = of_a.one m (sym e ∙ is) in (inl x.0, x.1)
       | inr e ↦ let y = of_b.one m (sym e ∙ is) in (inr y.0, y.1)
     ]
 
 -- the same, of a moment that is that
-pub least_earlier : {X Y : Type 0} (f : X → Option Moment) (h : Y → Option Moment) (a b at : Option Moment) → at ≡ earlier a b → IsLeast f a → IsLeast h b → IsLeast (both f h) at
+pub least_earlier : {X Y : Type 0} (f : X → Option Moment) (h : Y → Option Moment) (a b at : Option Moment) → at ≡ earlier_moment a b → IsLeast f a → IsLeast h b → IsLeast (both f h) at
 least_earlier {X} {Y} f h a b at is of_a of_b = subst (λ (o : Option Moment). IsLeast (both f h) o) (sym is) (least_both f h a b of_a of_b)
 
 -- the least of moments is that of others, where these are the same moments
-least_same : {X Y : Type 0} (f : X → Option Moment) (h : Y → Option Moment) (at : Option Moment)
+pub least_same : {X Y : Type 0} (f : X → Option Moment) (h : Y → Option Moment) (at : Option Moment)
     → ((x : X) → (y : Y) × (h y ≡ f x)) → ((y : Y) → (h y ≡ None) ⊎ ((x : X) × (f x ≡ h y)))
     → IsLeast f at → IsLeast h at
-least_same {X} {Y} f h at among from least = record { first = first; one = one }
+least_same {X} {Y} f h at among from least = record {
+  first = λ y. elim (from y) [
+    | inl none ↦ subst (λ (o : Option Moment). IsNotLater at o) (sym none) (never_late at)
+    | inr x ↦ subst (λ (o : Option Moment). IsNotLater at o) x.1 (least.first x.0)
+  ];
+  one = λ m is. (let x = least.one m is in let y = among x.0 in (y.0, y.1 ∙ x.1));
+}
   where
     never_late : (a : Option Moment) → IsNotLater a None
     never_late None = tt
     never_late (Some a) = tt
 
-    first : (y : Y) → IsNotLater at (h y)
-    first y = elim (from y) [
-      | inl none ↦ subst (λ (o : Option Moment). IsNotLater at o) (sym none) (never_late at)
-      | inr x ↦ subst (λ (o : Option Moment). IsNotLater at o) x.1 (least.first x.0)
-    ]
+-- the moments of six dues
+abbrev pub six : Dues → ((ℕ ⊎ ℕ) ⊎ ℕ) ⊎ ((ℕ ⊎ ℕ) ⊎ ℕ) → Option Moment
+six dues = both (both (both (due_of dues.slices) (due_of dues.decides)) (due_of dues.saves)) (both (both (due_of dues.blocks) (due_of dues.arrives)) (due_of dues.leaves))
 
-    one : (m : Moment) → at ≡ Some m → (y : Y) × (h y ≡ Some m)
-    one m is = let x = least.one m is in let y = among x.0 in (y.0, y.1 ∙ x.1)
+pub least_six : (dues : Dues) (a b c d e f ab abc de def all : Option Moment)
+    → IsLeast (due_of dues.slices) a → IsLeast (due_of dues.decides) b → IsLeast (due_of dues.saves) c
+    → IsLeast (due_of dues.blocks) d → IsLeast (due_of dues.arrives) e → IsLeast (due_of dues.leaves) f
+    → ab ≡ earlier_moment a b → abc ≡ earlier_moment ab c → de ≡ earlier_moment d e → def ≡ earlier_moment de f → all ≡ earlier_moment abc def → IsLeast (six dues) all
+least_six dues a b c d e f ab abc de def all of_a of_b of_c of_d of_e of_f is_ab is_abc is_de is_def is_all =
+    least_earlier (both (both (due_of dues.slices) (due_of dues.decides)) (due_of dues.saves)) (both (both (due_of dues.blocks) (due_of dues.arrives)) (due_of dues.leaves)) abc def all is_all
+    (least_earlier (both (due_of dues.slices) (due_of dues.decides)) (due_of dues.saves) ab c abc is_abc
+    (least_earlier (due_of dues.slices) (due_of dues.decides) a b ab is_ab of_a of_b) of_c)
+    (least_earlier (both (due_of dues.blocks) (due_of dues.arrives)) (due_of dues.leaves) de f def is_def
+    (least_earlier (due_of dues.blocks) (due_of dues.arrives) d e de is_de of_d of_e) of_f)
 
--- the moments of six heaps
-abbrev pub six : Heaps → ((ℕ ⊎ ℕ) ⊎ ℕ) ⊎ ((ℕ ⊎ ℕ) ⊎ ℕ) → Option Moment
-six heaps = both (both (both (due_of heaps.slices) (due_of heaps.decides)) (due_of heaps.saves)) (both (both (due_of heaps.blocks) (due_of heaps.arrives)) (due_of heaps.leaves))
-
-pub least_six : (heaps : Heaps) (a b c d e f ab abc de def all : Option Moment)
-    → IsLeast (due_of heaps.slices) a → IsLeast (due_of heaps.decides) b → IsLeast (due_of heaps.saves) c
-    → IsLeast (due_of heaps.blocks) d → IsLeast (due_of heaps.arrives) e → IsLeast (due_of heaps.leaves) f
-    → ab ≡ earlier a b → abc ≡ earlier ab c → de ≡ earlier d e → def ≡ earlier de f → all ≡ earlier abc def → IsLeast (six heaps) all
-least_six heaps a b c d e f ab abc de def all of_a of_b of_c of_d of_e of_f is_ab is_abc is_de is_def is_all =
-    least_earlier (both (both (due_of heaps.slices) (due_of heaps.decides)) (due_of heaps.saves)) (both (both (due_of heaps.blocks) (due_of heaps.arrives)) (due_of heaps.leaves)) abc def all is_all
-    (least_earlier (both (due_of heaps.slices) (due_of heaps.decides)) (due_of heaps.saves) ab c abc is_abc
-    (least_earlier (due_of heaps.slices) (due_of heaps.decides) a b ab is_ab of_a of_b) of_c)
-    (least_earlier (both (due_of heaps.blocks) (due_of heaps.arrives)) (due_of heaps.leaves) de f def is_def
-    (least_earlier (due_of heaps.blocks) (due_of heaps.arrives) d e de is_de of_d of_e) of_f)
-
-pub least_within : (seen : Seen) (heaps : Heaps) (at : Option Moment) → AreArmed seen heaps → IsLeast (six heaps) at → IsLeast (ready_within seen) at
-least_within seen heaps at armed = least_same (six heaps) (ready_within seen) at among from
+pub least_within : (seen : Seen) (dues : Dues) (at : Option Moment) → AreArmed seen dues → IsLeast (six dues) at → IsLeast (ready_within seen) at
+least_within seen dues at armed = least_same (six dues) (ready_within seen) at among from
   where
-    among : (x : ((ℕ ⊎ ℕ) ⊎ ℕ) ⊎ ((ℕ ⊎ ℕ) ⊎ ℕ)) → (a : Action) × (ready_within seen a ≡ six heaps x)
-    among (inl (inl (inl r))) = (Slice r, sym (armed.slices.above r (omega arith)))
-    among (inl (inl (inr r))) = (Decide r, sym (armed.decides.above r (omega arith)))
-    among (inl (inr r)) = (Save r, sym (armed.saves.above r (omega arith)))
-    among (inr (inl (inl p))) = (Block p, sym (armed.blocks.above p (omega arith)))
-    among (inr (inl (inr p))) = (Arrive p, sym (armed.arrives.above p (omega arith)))
-    among (inr (inr p)) = (Leave p, sym (armed.leaves.above p (omega arith)))
+    among : (x : ((ℕ ⊎ ℕ) ⊎ ℕ) ⊎ ((ℕ ⊎ ℕ) ⊎ ℕ)) → (a : Action) × (ready_within seen a ≡ six dues x)
+    among (inl (inl (inl r))) = (Slice (core r), sym (armed.slices.above r (omega arith)))
+    among (inl (inl (inr r))) = (Decide (core r), sym (armed.decides.above r (omega arith)))
+    among (inl (inr r)) = (Save (core r), sym (armed.saves.above r (omega arith)))
+    among (inr (inl (inl p))) = (Block (processor p), sym (armed.blocks.above p (omega arith)))
+    among (inr (inl (inr p))) = (Arrive (processor p), sym (armed.arrives.above p (omega arith)))
+    among (inr (inr p)) = (Leave (processor p), sym (armed.leaves.above p (omega arith)))
 
-    from : (a : Action) → (ready_within seen a ≡ None) ⊎ ((x : ((ℕ ⊎ ℕ) ⊎ ℕ) ⊎ ((ℕ ⊎ ℕ) ⊎ ℕ)) × (six heaps x ≡ ready_within seen a))
-    from Stall = inl refl
-    from Xl = inl refl
-    from (Moved r) = inl refl
-    from (DomMoved d) = inl refl
-    from (Wake v) = inl refl
-    from (Block p) = inr (inr (inl (inl p)), armed.blocks.above p (omega arith))
-    from (Slice r) = inr (inl (inl (inl r)), armed.slices.above r (omega arith))
-    from (Repl u) = inl refl
-    from (Refill d) = inl refl
-    from (Arrive p) = inr (inr (inl (inr p)), armed.arrives.above p (omega arith))
-    from (Decide r) = inr (inl (inl (inr r)), armed.decides.above r (omega arith))
-    from (Leave p) = inr (inr (inr p), armed.leaves.above p (omega arith))
-    from (Save r) = inr (inl (inr r), armed.saves.above r (omega arith))
+    from : (a : Action) → (ready_within seen a ≡ None) ⊎ ((x : ((ℕ ⊎ ℕ) ⊎ ℕ) ⊎ ((ℕ ⊎ ℕ) ⊎ ℕ)) × (six dues x ≡ ready_within seen a))
+    from (Block p) = inr (inr (inl (inl p.0)), armed.blocks.above p.0 (omega arith))
+    from (Slice r) = inr (inl (inl (inl r.0)), armed.slices.above r.0 (omega arith))
+    from (Arrive p) = inr (inr (inl (inr p.0)), armed.arrives.above p.0 (omega arith))
+    from (Decide r) = inr (inl (inl (inr r.0)), armed.decides.above r.0 (omega arith))
+    from (Leave p) = inr (inr (inr p.0), armed.leaves.above p.0 (omega arith))
+    from (Save r) = inr (inl (inr r.0), armed.saves.above r.0 (omega arith))
+    from a = inl refl

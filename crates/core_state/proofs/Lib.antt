@@ -1,4 +1,3 @@
 pub mod Arming
 pub mod ChangeLemmas
 pub mod Leasts
-pub mod Replicate

@@ -9,7 +9,7 @@ use Rattle.sched_model.specs.declared.state.Records.TheVariants.{NullPool}
 use Rattle.sched_model.specs.declared.state.Resource.{Resource}
 use Rattle.sched_model.specs.Eligible.{Decision}
 use Rattle.sched_model.specs.Places.{at_place, change_at, change_item, clear_at}
-use Rattle.sched_model.specs.Pool.{decided}
+use Rattle.sched_model.specs.Pool.{decided_core}
 
 -- the cores by number, for each processor the moment at which the work of the vCPU that it runs is done, and a core's processors
 pub record Seen : Type 0 where
@@ -18,8 +18,8 @@ pub record Seen : Type 0 where
   pub granularity : ℕ
 
 -- no core at so many places, of g processors each
-abbrev pub vacant : ℕ → ℕ → Seen
-vacant g places = record { resources = replicate places None; works = replicate 64 None; granularity = g }
+abbrev pub vacant_cores : ℕ → ℕ → Seen
+vacant_cores g places = record { resources = replicate places None; works = replicate 64 None; granularity = g }
 
 -- the core changed by f
 abbrev pub changed_core : ℕ → (Resource → Resource) → Seen → Seen
@@ -51,8 +51,8 @@ abbrev pub leaving_core : Resource → Resource
 leaving_core c = record c { leaving = true; pending = c.pending || is_some c.cur }
 
 -- the core with what was decided at t
-abbrev pub chosen : ℕ → Option UnitId → Option Moment → Resource → Resource
-chosen t unit due c = let decision : Decision = record { unit = unit; due = due; reset = 0; records = NullPool [] } in decided t decision c
+abbrev pub chosen_core : ℕ → Option UnitId → Option Moment → Resource → Resource
+chosen_core t unit due c = let decision : Decision = record { unit = unit; due = due; reset = 0; records = NullPool [] } in decided_core t decision c
 
 -- the i-th processor of a core, if there is a core
 abbrev pub sibling_of : Option Resource → ℕ → Option Processor

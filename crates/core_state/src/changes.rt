@@ -4,31 +4,30 @@ ghost use Rattle.std.specs.Prelude.{◌≡◌, ◌+◌, ◌/◌, ◌%◌, ◌^�
 ghost use Rattle.sched_base.specs.Numbers.{moment};
 ghost use Rattle.sched_model.specs.Places.{change_at, change_item, clear_at};
 ghost use Rattle.sched_model.specs.Pool.{due_within};
-ghost use Rattle.core_state.specs.Seen.{chosen, leaving_core, pending_by, stalled_to, with_sibling, without_works as without_works_spec};
+ghost use Rattle.core_state.specs.Seen.{chosen_core, leaving_core, pending_by, stalled_to, with_sibling, without_works as without_works_spec};
 
 use plain_units::units::is_same_choice;
-use sched_base::{Moment, UnitId};
+use sched_base::{Moment, ProcId, ResId, UnitId};
 use sched_model::row::Row;
 use sched_model::state::{Processors, Resource, Stage};
 
 /// The core is to decide anew, at this moment at the latest.
-pub fn set_pending_by(r: u8, due: Moment, cores: &mut Row<Option<Resource>>)
-    ensures { cores.new ≡ change_at r (pending_by due) cores.old }
+pub fn set_pending_by(r: ResId, due: Moment, cores: &mut Row<Option<Resource>>)
+    ensures { cores.new ≡ change_at r.0 (pending_by due) cores.old }
 {
-    let place = r as usize;
-    if place < cores.len() {
-        if let Some(c) = cores.item_mut(place) {
-            c.pending = true;
-            c.due = Some(due);
-        }
+    if let Some(place) = cores.get_mut(r.0 as usize)
+        && let Some(c) = place
+    {
+        c.pending = true;
+        c.due = Some(due);
     }
 }
 
 /// The core is leaving; it is to decide where it has a unit.
-pub fn set_leaving(r: u8, cores: &mut Row<Option<Resource>>)
-    ensures { cores.new ≡ change_at r leaving_core cores.old }
+pub fn set_leaving(r: ResId, cores: &mut Row<Option<Resource>>)
+    ensures { cores.new ≡ change_at r.0 leaving_core cores.old }
 {
-    let place = r as usize;
+    let place = r.0 as usize;
     if place < cores.len() {
         if let Some(c) = cores.item_mut(place) {
             c.leaving = true;
@@ -39,7 +38,7 @@ pub fn set_leaving(r: u8, cores: &mut Row<Option<Resource>>)
 
 /// The core takes what was decided.
 fn choose(t: Moment, unit: Option<UnitId>, due: Option<Moment>, c: &mut Resource)
-    ensures { c.new ≡ chosen t.0 unit due c.old }
+    ensures { c.new ≡ chosen_core t.0 unit due c.old }
 {
     if !is_same_choice(unit, c.cur) {
         c.saving = c.cur;
@@ -53,19 +52,18 @@ fn choose(t: Moment, unit: Option<UnitId>, due: Option<Moment>, c: &mut Resource
 
 /// The core at this place takes what was decided.
 pub fn choose_at(
-    r: u8,
+    r: ResId,
     t: Moment,
     unit: Option<UnitId>,
     due: Option<Moment>,
     cores: &mut Row<Option<Resource>>,
 )
-    ensures { cores.new ≡ change_at r (chosen t.0 unit due) cores.old }
+    ensures { cores.new ≡ change_at r.0 (chosen_core t.0 unit due) cores.old }
 {
-    let place = r as usize;
-    if place < cores.len() {
-        if let Some(c) = cores.item_mut(place) {
-            choose(t, unit, due, c);
-        }
+    if let Some(place) = cores.get_mut(r.0 as usize)
+        && let Some(c) = place
+    {
+        choose(t, unit, due, c);
     }
 }
 
@@ -86,18 +84,18 @@ fn bring_due(t: Moment, budget: u64, c: &mut Resource)
 }
 
 /// The same of the core at this place.
-pub fn bring_due_at(r: u8, t: Moment, budget: u64, cores: &mut Row<Option<Resource>>)
-    ensures { cores.new ≡ change_at r (due_within t.0 budget) cores.old }
+pub fn bring_due_at(r: ResId, t: Moment, budget: u64, cores: &mut Row<Option<Resource>>)
+    ensures { cores.new ≡ change_at r.0 (due_within t.0 budget) cores.old }
 {
-    let place = r as usize;
-    if place < cores.len() {
-        if let Some(c) = cores.item_mut(place) {
-            bring_due(t, budget, c);
-        }
+    if let Some(place) = cores.get_mut(r.0 as usize)
+        && let Some(c) = place
+    {
+        bring_due(t, budget, c);
     }
 }
 
 /// The stall of the processor at this place ends then.
+#[tactic(auto, using(plain_units::proofs::Places::past_the_end))]
 fn set_end(processors: &mut Processors, i: usize, end: Moment)
     ensures { processors.new ≡ change_item i (stalled_to end) processors.old }
 {
@@ -107,14 +105,14 @@ fn set_end(processors: &mut Processors, i: usize, end: Moment)
 }
 
 /// The processor's stall ends then.
-pub fn set_stall_end(g: u8, p: u8, end: Moment, cores: &mut Row<Option<Resource>>)
+pub fn set_stall_end(g: u8, p: ProcId, end: Moment, cores: &mut Row<Option<Resource>>)
     requires { 0 < g }
-    ensures { cores.new ≡ change_at (p / g) (with_sibling (p % g) (stalled_to end)) cores.old }
+    ensures { cores.new ≡ change_at (p.0 / g) (with_sibling (p.0 % g) (stalled_to end)) cores.old }
 {
-    let r = (p / g) as usize;
+    let r = (p.0 / g) as usize;
     if r < cores.len() {
         if let Some(c) = cores.item_mut(r) {
-            set_end(&mut c.processors, (p % g) as usize, end);
+            set_end(&mut c.processors, (p.0 % g) as usize, end);
         }
     }
 }

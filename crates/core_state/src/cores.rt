@@ -8,15 +8,17 @@ ghost use Rattle.core_state.specs.Seen.{stall_until as stall_until_spec};
 use crate::changes::{
     bring_due_at, choose_at, clear_works, set_leaving, set_pending_by, set_stall_end,
 };
+use crate::dues::{
+    Dues, IDS, advance, earlier, empty_dues, first_due_core, first_due_processor, least_of, rearm,
+};
 use crate::ends::{lowest_end, move_end, processor_at};
-use crate::heaps::{Heaps, IDS, advance, earlier, empty_heaps, first_come, least_of, rearm};
 use plain_policy::places::set_place;
 use plain_pool::cores::{core_at, core_of, first_core, has_domain, home_cores, is_on_core};
 use plain_pool::doing::{change_doing, set_pending};
 use plain_pool::events::{open_if_left, take_saved};
 use plain_pool::leaving::take_place;
-use sched_base::{DomId, Moment, NoMemory, UnitId, VcpuId};
-use sched_model::row::Row;
+use sched_base::{DomId, Moment, NoMemory, ProcId, ResId, UnitId, VcpuId};
+use sched_model::row::{Row, empty_places};
 use sched_model::state::{Doing, Processor, Resource};
 use std::alloc::Global;
 use std::marker::Model;
@@ -32,8 +34,8 @@ pub struct CoreState {
     first: Option<u8>,
     cores: Row<Option<Resource>>,
     works: Row<Option<Moment>>,
-    heaps: Heaps,
-    /// The moment up to which the heaps have been told.
+    dues: Dues,
+    /// The moment up to which the sets of moments have been told.
     told: Moment,
 }
 
@@ -46,18 +48,7 @@ impl Model for CoreState {
 
     ghost view = { λ a. record { resources = a.cores; works = a.works; granularity = a.granularity } };
 
-    ghost invariant = { λ a. IsKept (record { resources = a.cores; works = a.works; granularity = a.granularity }) a.home a.first a.heaps };
-}
-
-/// So many places, all empty.
-fn empty_places<T: Drop>(alloc: Global, count: usize) -> Result<Row<Option<T>>, NoMemory>
-    ensures { IfOk result (λ row. row ≡ replicate count None) }
-{
-    let mut places = Vec::new(alloc);
-    for i in 0..count {
-        places.push(None)?;
-    }
-    Ok(Row::from_vec(places))
+    ghost invariant = { λ a. IsKept (record { resources = a.cores; works = a.works; granularity = a.granularity }) a.home a.first a.dues };
 }
 
 /// The number of the first core, where there are few places.
@@ -100,38 +91,38 @@ impl CoreState {
     ghost use Rattle.sched_model.specs.declared.state.Doing.TheVariants as doing;
     ghost use Rattle.sched_model.specs.Checked.{IsGranularity};
     ghost use Rattle.sched_model.specs.declared.state.Resource.{Resource as ResourceRecord};
-    ghost use Rattle.sched_model.specs.Places.{at_place, clear_at, first_place, is_unit, numbered, put_at};
-    ghost use Rattle.sched_model.specs.Pool.{cores_from, is_of_domain, does, due_within, open_if_left as open_if_left_spec, saved, saving_among, set_pending as set_pending_spec};
-    ghost use Rattle.core_state.specs.Seen.{changed_core, changed_processor, chosen, leaving_core, pending_by, processor_among, stall_until, stalled_to, vacant, with_work, without_works};
+    ghost use Rattle.sched_model.specs.Places.{at_place, clear_at, first_place, is_unit, numbered_items, put_at};
+    ghost use Rattle.sched_model.specs.Pool.{cores_from, is_of_domain, with_doing, due_within, open_if_left as open_if_left_spec, saved_core, saving_among, set_pending as set_pending_spec};
+    ghost use Rattle.core_state.specs.Seen.{changed_core, changed_processor, chosen_core, leaving_core, pending_by, processor_among, stall_until, stalled_to, vacant_cores, with_work, without_works};
     ghost use Rattle.core_state.specs.Ends.{lowest_among, ready_among, ready_within};
-    ghost use Rattle.core_state.specs.Firsts.{IsFirstCome, IsLeast};
+    ghost use Rattle.core_state.specs.Firsts.{IsFirstCore, IsFirstProcessor, IsLeast};
     ghost use Rattle.core_state.specs.Kept.{KeepsCores};
 
     /// No core yet, with so many places for cores of 1, 2 or 4 processors each, at most 64 processors in all.
     pub fn room(alloc: Global, granularity: u8, places: u8) -> Result<CoreState, NoMemory>
         requires granularity { IsGranularity granularity }
         requires places { places * granularity ≤ 64 }
-        ensures { IfOk result (λ cores. cores ≡ vacant granularity places) }
+        ensures { IfOk result (λ cores. cores ≡ vacant_cores granularity places) }
     {
         let cores = empty_places(alloc, places as usize)?;
         let works = empty_places(alloc, IDS)?;
-        let heaps = empty_heaps(alloc)?;
+        let dues = empty_dues(alloc)?;
         Ok(CoreState {
             granularity,
             home: 0,
             first: None,
             cores,
             works,
-            heaps,
+            dues,
             told: Moment(0),
         })
     }
 
     /// The core with this number.
-    pub fn core(&self, r: u8) -> Option<&Resource>
-        ensures { option_copied result ≡ at_place self.now.resources r }
+    pub fn core(&self, r: ResId) -> Option<&Resource>
+        ensures { option_copied result ≡ at_place self.now.resources r.0 }
     {
-        core_at(self.cores.as_slice(), r as usize)
+        core_at(self.cores.as_slice(), r.0 as usize)
     }
 
     /// The cores by number, each at its place.
@@ -156,10 +147,11 @@ impl CoreState {
     }
 
     /// The processor with this number.
-    pub fn processor(&self, p: u8) -> Option<&Processor>
-        ensures { option_copied result ≡ processor_among self.now.granularity self.now.resources p }
+    pub fn processor(&self, p: ProcId) -> Option<&Processor>
+        ensures { option_copied result ≡ processor_among self.now.granularity self.now.resources
+            p.0 }
     {
-        processor_at(self.granularity, self.cores.as_slice(), p as usize)
+        processor_at(self.granularity, self.cores.as_slice(), p.0 as usize)
     }
 
     /// The core that has the unit as its own, the first if there are several.
@@ -171,16 +163,18 @@ impl CoreState {
 
     /// Whether a core has the unit as its own or saves it.
     pub fn has_unit(&self, u: UnitId) -> bool
-        ensures { result ≡ list_any (λ (e : ℕ × ResourceRecord). is_unit e.1.cur u || is_unit e.1.saving u) (numbered 0 self.now.resources) }
+        ensures { result ≡ list_any (λ (e : ℕ × ResourceRecord). is_unit e.1.cur u
+            || is_unit e.1.saving u) (numbered_items 0 self.now.resources) }
     {
         is_on_core(0, self.cores.as_slice(), u)
     }
 
     /// Whether a core has a unit of the domain as its own or saves one.
     pub fn has_domain(&self, d: DomId) -> bool
-        ensures { result ≡ list_any (λ (e : ℕ × ResourceRecord). is_of_domain d.0 e.1.cur || is_of_domain d.0 e.1.saving) (numbered 0 self.now.resources) }
+        ensures { result ≡ list_any (λ (e : ℕ × ResourceRecord). is_of_domain d.0 e.1.cur
+            || is_of_domain d.0 e.1.saving) (numbered_items 0 self.now.resources) }
     {
-        has_domain(0, self.cores.as_slice(), d.0)
+        has_domain(0, self.cores.as_slice(), d)
     }
 
     /// The set of the cores.
@@ -205,143 +199,155 @@ impl CoreState {
     }
 
     /// A core comes in at its place, in place of what stands there. None of its processors has work whose end is known.
-    pub fn put(&mut self, r: u8, core: Resource)
-        requires place { r < length self.old.resources }
+    pub fn put(&mut self, r: ResId, core: Resource)
+        requires place { r.0 < length self.old.resources }
         requires siblings { length core.processors ≡ self.old.granularity }
-        ensures { self.new ≡ record self.old { resources = put_at r core self.old.resources; works = without_works (r * self.old.granularity) self.old.granularity self.old.works } }
+        ensures { self.new ≡ record self.old {
+          resources = put_at r.0 core self.old.resources;
+          works = without_works
+              (r.0 * self.old.granularity) self.old.granularity self.old.works;
+        } }
     {
         let g = self.granularity;
-        set_place(&mut self.cores, r, Some(core));
-        clear_works(r as u16 * g as u16, g, &mut self.works);
+        set_place(&mut self.cores, r.0, Some(core));
+        clear_works(r.0 as u16 * g as u16, g, &mut self.works);
         self.home = home_cores(self.cores.as_slice());
         self.first = first_number(self.cores.as_slice());
-        rearm(&mut self.heaps, g, r, &self.cores, &self.works);
+        rearm(&mut self.dues, g, r, &self.cores, &self.works);
     }
 
     /// The core goes out, and its place is empty. None of its processors has work whose end is known.
-    pub fn take(&mut self, r: u8) -> Option<Resource>
-        ensures core { result ≡ at_place self.old.resources r }
-        ensures after { self.new ≡ record self.old { resources = clear_at r self.old.resources; works = without_works (r * self.old.granularity) self.old.granularity self.old.works } }
+    pub fn take(&mut self, r: ResId) -> Option<Resource>
+        ensures core { result ≡ at_place self.old.resources r.0 }
+        ensures after { self.new ≡ record self.old {
+          resources = clear_at r.0 self.old.resources;
+          works = without_works
+              (r.0 * self.old.granularity) self.old.granularity self.old.works;
+        } }
     {
         let g = self.granularity;
         let core = take_place(r, &mut self.cores);
-        clear_works(r as u16 * g as u16, g, &mut self.works);
+        clear_works(r.0 as u16 * g as u16, g, &mut self.works);
         self.home = home_cores(self.cores.as_slice());
         self.first = first_number(self.cores.as_slice());
-        rearm(&mut self.heaps, g, r, &self.cores, &self.works);
+        rearm(&mut self.dues, g, r, &self.cores, &self.works);
         core
     }
 
     /// The core is to decide anew.
-    pub fn set_pending(&mut self, r: u8)
-        ensures { self.new ≡ changed_core r set_pending_spec self.old }
+    pub fn set_pending(&mut self, r: ResId)
+        ensures { self.new ≡ changed_core r.0 set_pending_spec self.old }
     {
         let g = self.granularity;
         set_pending(r, &mut self.cores);
-        rearm(&mut self.heaps, g, r, &self.cores, &self.works);
+        rearm(&mut self.dues, g, r, &self.cores, &self.works);
     }
 
     /// The core is to decide anew, and has this due.
-    pub fn set_pending_due(&mut self, r: u8, due: Moment)
-        ensures { self.new ≡ changed_core r (pending_by due) self.old }
+    pub fn set_pending_due(&mut self, r: ResId, due: Moment)
+        ensures { self.new ≡ changed_core r.0 (pending_by due) self.old }
     {
         let g = self.granularity;
         set_pending_by(r, due, &mut self.cores);
-        rearm(&mut self.heaps, g, r, &self.cores, &self.works);
+        rearm(&mut self.dues, g, r, &self.cores, &self.works);
     }
 
     /// The core is leaving; it is to decide where it has a unit.
-    pub fn set_leaving(&mut self, r: u8)
-        ensures { self.new ≡ changed_core r leaving_core self.old }
+    pub fn set_leaving(&mut self, r: ResId)
+        ensures { self.new ≡ changed_core r.0 leaving_core self.old }
     {
         let g = self.granularity;
         set_leaving(r, &mut self.cores);
-        rearm(&mut self.heaps, g, r, &self.cores, &self.works);
+        rearm(&mut self.dues, g, r, &self.cores, &self.works);
     }
 
     /// The core decides at t: it runs the unit up to the due, and saves the one that it ran, where that is another.
-    pub fn decide(&mut self, r: u8, t: Moment, unit: Option<UnitId>, due: Option<Moment>)
-        ensures { self.new ≡ changed_core r (chosen t.0 unit due) self.old }
+    pub fn decide(&mut self, r: ResId, t: Moment, unit: Option<UnitId>, due: Option<Moment>)
+        ensures { self.new ≡ changed_core r.0 (chosen_core t.0 unit due) self.old }
     {
         let g = self.granularity;
         choose_at(r, t, unit, due, &mut self.cores);
-        rearm(&mut self.heaps, g, r, &self.cores, &self.works);
+        rearm(&mut self.dues, g, r, &self.cores, &self.works);
     }
 
     /// The core puts away the unit that it saves.
-    pub fn save(&mut self, r: u8) -> Option<UnitId>
-        ensures unit { result ≡ saving_among self.old.resources r }
-        ensures after { self.new ≡ changed_core r saved self.old }
+    pub fn save(&mut self, r: ResId) -> Option<UnitId>
+        ensures unit { result ≡ saving_among self.old.resources r.0 }
+        ensures after { self.new ≡ changed_core r.0 saved_core self.old }
     {
         let g = self.granularity;
         let unit = take_saved(r, &mut self.cores);
-        rearm(&mut self.heaps, g, r, &self.cores, &self.works);
+        rearm(&mut self.dues, g, r, &self.cores, &self.works);
         unit
     }
 
     /// The core's due is moved to the span after t, where it is later.
-    pub fn shorten_due(&mut self, r: u8, t: Moment, budget: u64)
-        ensures { self.new ≡ changed_core r (due_within t.0 budget) self.old }
+    pub fn shorten_due(&mut self, r: ResId, t: Moment, budget: u64)
+        ensures { self.new ≡ changed_core r.0 (due_within t.0 budget) self.old }
     {
         let g = self.granularity;
         bring_due_at(r, t, budget, &mut self.cores);
-        rearm(&mut self.heaps, g, r, &self.cores, &self.works);
+        rearm(&mut self.dues, g, r, &self.cores, &self.works);
     }
 
     /// The processor does this, and the work of the vCPU that it runs is done then.
-    fn set_doing(&mut self, p: u8, doing: Doing, work: Option<Moment>)
-        ensures { self.new ≡ with_work p work (changed_processor p (does doing) self.old) }
+    fn set_doing(&mut self, p: ProcId, doing: Doing, work: Option<Moment>)
+        ensures { self.new ≡ with_work p.0 work (changed_processor p.0 (with_doing doing) self.old) }
     {
         let g = self.granularity;
-        let r = p / g;
+        let r = p.0 / g;
         change_doing(g, p, doing, &mut self.cores);
-        set_place(&mut self.works, p, work);
-        rearm(&mut self.heaps, g, r, &self.cores, &self.works);
+        set_place(&mut self.works, p.0, work);
+        rearm(&mut self.dues, g, ResId(r), &self.cores, &self.works);
     }
 
     /// The processor is held: it waits for its siblings.
-    pub fn hold(&mut self, p: u8)
-        ensures { self.new ≡ with_work p None (changed_processor p (does doing.Held) self.old) }
+    pub fn hold(&mut self, p: ProcId)
+        ensures { self.new ≡ with_work p.0 None (changed_processor p.0 (with_doing doing.Held) self.old) }
     {
         self.set_doing(p, Doing::Held, None);
     }
 
     /// The processor runs the vCPU, whose work is done then: `None` where it has no end.
-    pub fn run(&mut self, p: u8, v: VcpuId, work: Option<Moment>)
-        ensures { self.new ≡ with_work p work (changed_processor p (does (doing.Guest v)) self.old) }
+    pub fn run(&mut self, p: ProcId, v: VcpuId, work: Option<Moment>)
+        ensures { self.new ≡ with_work p.0 work
+            (changed_processor p.0 (with_doing (doing.Guest v)) self.old) }
     {
         self.set_doing(p, Doing::Guest(v), work);
     }
 
     /// The processor idles.
-    pub fn idle(&mut self, p: u8)
-        ensures { self.new ≡ with_work p None (changed_processor p (does doing.Idle) self.old) }
+    pub fn idle(&mut self, p: ProcId)
+        ensures { self.new ≡ with_work p.0 None (changed_processor p.0 (with_doing doing.Idle) self.old) }
     {
         self.set_doing(p, Doing::Idle, None);
     }
 
     /// The processor leaves its siblings and does this; the last one that is held opens the core's stage.
-    pub fn leave(&mut self, p: u8, doing: Doing, work: Option<Moment>)
-        ensures { self.new ≡ with_work p work (changed_core (p / self.old.granularity) open_if_left_spec (changed_processor p (does doing) self.old)) }
+    pub fn leave(&mut self, p: ProcId, doing: Doing, work: Option<Moment>)
+        ensures { self.new ≡ with_work p.0 work
+            (changed_core (p.0 / self.old.granularity) open_if_left_spec
+            (changed_processor p.0 (with_doing doing) self.old)) }
     {
         let g = self.granularity;
-        let r = p / g;
+        let r = p.0 / g;
         change_doing(g, p, doing, &mut self.cores);
-        open_if_left(r, &mut self.cores);
-        set_place(&mut self.works, p, work);
-        rearm(&mut self.heaps, g, r, &self.cores, &self.works);
+        open_if_left(ResId(r), &mut self.cores);
+        set_place(&mut self.works, p.0, work);
+        rearm(&mut self.dues, g, ResId(r), &self.cores, &self.works);
     }
 
     /// The processor is stalled up to this moment, if it is not yet for longer: the end of its stall.
-    pub fn stall(&mut self, p: u8, until: Moment) -> Moment
-        ensures end { result ≡ stall_until (processor_among self.old.granularity self.old.resources p) until }
-        ensures after { self.new ≡ changed_processor p (stalled_to result) self.old }
+    pub fn stall(&mut self, p: ProcId, until: Moment) -> Moment
+        ensures end { result ≡ stall_until
+            (processor_among self.old.granularity self.old.resources p.0) until }
+        ensures after { self.new ≡ changed_processor p.0 (stalled_to result) self.old }
     {
         let g = self.granularity;
-        let r = p / g;
-        let end = later_end(processor_at(g, self.cores.as_slice(), p as usize), until);
+        let r = p.0 / g;
+        let end = later_end(processor_at(g, self.cores.as_slice(), p.0 as usize), until);
         set_stall_end(g, p, end, &mut self.cores);
-        rearm(&mut self.heaps, g, r, &self.cores, &self.works);
+        rearm(&mut self.dues, g, ResId(r), &self.cores, &self.works);
         end
     }
 
@@ -351,77 +357,77 @@ impl CoreState {
     {
         if self.told.0 < t.0 {
             self.told = t;
-            advance(&mut self.heaps, t);
+            advance(&mut self.dues, t);
         }
     }
 
     /// From when on the core may leave the pool.
-    pub fn move_end(&self, r: u8) -> Option<Moment>
+    pub fn move_end(&self, r: ResId) -> Option<Moment>
         ensures { result ≡ ready_among self.now (Moved r) }
     {
-        move_end(core_at(self.cores.as_slice(), r as usize))
+        move_end(core_at(self.cores.as_slice(), r.0 as usize))
     }
 
     /// The first core that may leave the pool at t.
-    pub fn first_move(&self, t: Moment) -> Option<u8>
-        ensures { IsFirstCome (λ r. ready_among self.now (Moved r)) t.0 result }
+    pub fn first_move(&self, t: Moment) -> Option<ResId>
+        ensures { IsFirstCore (λ r. ready_among self.now (Moved r)) t.0 result }
     {
-        first_come(&self.heaps.moves, t)
+        first_due_core(&self.dues.moves, t)
     }
 
     /// The first core whose due has come at t.
-    pub fn first_slice(&self, t: Moment) -> Option<u8>
-        ensures { IsFirstCome (λ r. ready_among self.now (Slice r)) t.0 result }
+    pub fn first_slice(&self, t: Moment) -> Option<ResId>
+        ensures { IsFirstCore (λ r. ready_among self.now (Slice r)) t.0 result }
     {
-        first_come(&self.heaps.slices, t)
+        first_due_core(&self.dues.slices, t)
     }
 
     /// The first core that may decide at t.
-    pub fn first_decide(&self, t: Moment) -> Option<u8>
-        ensures { IsFirstCome (λ r. ready_among self.now (Decide r)) t.0 result }
+    pub fn first_decide(&self, t: Moment) -> Option<ResId>
+        ensures { IsFirstCore (λ r. ready_among self.now (Decide r)) t.0 result }
     {
-        first_come(&self.heaps.decides, t)
+        first_due_core(&self.dues.decides, t)
     }
 
     /// The first core that may put away at t the unit that it saves.
-    pub fn first_save(&self, t: Moment) -> Option<u8>
-        ensures { IsFirstCome (λ r. ready_among self.now (Save r)) t.0 result }
+    pub fn first_save(&self, t: Moment) -> Option<ResId>
+        ensures { IsFirstCore (λ r. ready_among self.now (Save r)) t.0 result }
     {
-        first_come(&self.heaps.saves, t)
+        first_due_core(&self.dues.saves, t)
     }
 
     /// The first processor whose vCPU may block at t.
-    pub fn first_block(&self, t: Moment) -> Option<u8>
-        ensures { IsFirstCome (λ p. ready_among self.now (Block p)) t.0 result }
+    pub fn first_block(&self, t: Moment) -> Option<ProcId>
+        ensures { IsFirstProcessor (λ p. ready_among self.now (Block p)) t.0 result }
     {
-        first_come(&self.heaps.blocks, t)
+        first_due_processor(&self.dues.blocks, t)
     }
 
     /// The first processor that may arrive at t.
-    pub fn first_arrive(&self, t: Moment) -> Option<u8>
-        ensures { IsFirstCome (λ p. ready_among self.now (Arrive p)) t.0 result }
+    pub fn first_arrive(&self, t: Moment) -> Option<ProcId>
+        ensures { IsFirstProcessor (λ p. ready_among self.now (Arrive p)) t.0 result }
     {
-        first_come(&self.heaps.arrives, t)
+        first_due_processor(&self.dues.arrives, t)
     }
 
     /// The first processor that may leave at t.
-    pub fn first_leave(&self, t: Moment) -> Option<u8>
-        ensures { IsFirstCome (λ p. ready_among self.now (Leave p)) t.0 result }
+    pub fn first_leave(&self, t: Moment) -> Option<ProcId>
+        ensures { IsFirstProcessor (λ p. ready_among self.now (Leave p)) t.0 result }
     {
-        first_come(&self.heaps.leaves, t)
+        first_due_processor(&self.dues.leaves, t)
     }
 
     /// The least moment from which on an event of a core or a processor may come, but for a core that leaves the pool.
     pub fn least(&self) -> Option<Moment>
         ensures { IsLeast (ready_within self.now) result }
     {
-        let heaps = &self.heaps;
-        let slices = least_of(&heaps.slices);
-        let decides = least_of(&heaps.decides);
-        let saves = least_of(&heaps.saves);
-        let blocks = least_of(&heaps.blocks);
-        let arrives = least_of(&heaps.arrives);
-        let leaves = least_of(&heaps.leaves);
+        let dues = &self.dues;
+        let slices = least_of(&dues.slices);
+        let decides = least_of(&dues.decides);
+        let saves = least_of(&dues.saves);
+        let blocks = least_of(&dues.blocks);
+        let arrives = least_of(&dues.arrives);
+        let leaves = least_of(&dues.leaves);
         let of_cores = earlier(earlier(slices, decides), saves);
         let of_processors = earlier(earlier(blocks, arrives), leaves);
         earlier(of_cores, of_processors)

@@ -5,7 +5,7 @@ ghost use Rattle.std.specs.Option.{option_copied};
 ghost use Rattle.sched_model.specs.declared.state.Processor.{Processor as ProcessorRecord};
 ghost use Rattle.sched_model.specs.Places.{at_place, first_place};
 ghost use Rattle.sched_model.specs.Pool.{is_held as is_held_spec};
-ghost use Rattle.pool_laws.specs.Ready.{when as when_spec, later as later_spec, end_of, end_where, first_end as first_end_spec, may_move as may_move_spec, gathers as gathers_spec, slice_end as slice_end_spec};
+ghost use Rattle.pool_laws.specs.Ready.{moment_if as when_spec, later_moment as later_spec, end_of, end_where, first_end as first_end_spec, may_move as may_move_spec, gathers as gathers_spec, slice_end as slice_end_spec};
 ghost use Rattle.core_state.specs.Seen.{processor_among, sibling_of as sibling_of_spec};
 ghost use Rattle.core_state.specs.Ends.{may_decide as may_decide_spec, may_save as may_save_spec, parts as parts_spec, sibling_end, lowest_among};
 
@@ -142,7 +142,8 @@ fn stall_end(processor: Option<&Processor>) -> Option<Moment>
 /// The same of a processor that is held.
 #[inline]
 fn held_end(processor: Option<&Processor>) -> Option<Moment>
-    ensures { result ≡ elim (option_copied processor.entry) [ None ↦ None | Some q ↦ when_spec (is_held_spec q) (Some q.stall_end) ] }
+    ensures { result ≡ elim (option_copied processor.entry)
+        [ None ↦ None | Some q ↦ when_spec (is_held_spec q) (Some q.stall_end) ] }
 {
     match processor {
         None => None,
@@ -153,7 +154,8 @@ fn held_end(processor: Option<&Processor>) -> Option<Moment>
 /// The same of a processor that is not held.
 #[inline]
 fn free_end(processor: Option<&Processor>) -> Option<Moment>
-    ensures { result ≡ elim (option_copied processor.entry) [ None ↦ None | Some q ↦ when_spec (not (is_held_spec q)) (Some q.stall_end) ] }
+    ensures { result ≡ elim (option_copied processor.entry)
+        [ None ↦ None | Some q ↦ when_spec (not (is_held_spec q)) (Some q.stall_end) ] }
 {
     match processor {
         None => None,
@@ -172,7 +174,8 @@ pub fn block_end(work: Option<Moment>, processor: Option<&Processor>) -> Option<
 /// From when on a processor of the core may arrive.
 #[inline]
 pub fn arrive_end(core: Option<&Resource>, processor: Option<&Processor>) -> Option<Moment>
-    ensures { result ≡ sibling_end gathers_spec (λ q. not (is_held_spec q)) (option_copied core.entry) (option_copied processor.entry) }
+    ensures { result ≡ sibling_end gathers_spec (λ q. not (is_held_spec q))
+        (option_copied core.entry) (option_copied processor.entry) }
 {
     match core {
         None => None,
@@ -183,7 +186,8 @@ pub fn arrive_end(core: Option<&Resource>, processor: Option<&Processor>) -> Opt
 /// From when on a processor of the core may leave.
 #[inline]
 pub fn leave_end(core: Option<&Resource>, processor: Option<&Processor>) -> Option<Moment>
-    ensures { result ≡ sibling_end parts_spec is_held_spec (option_copied core.entry) (option_copied processor.entry) }
+    ensures { result ≡ sibling_end parts_spec is_held_spec (option_copied core.entry)
+        (option_copied processor.entry) }
 {
     match core {
         None => None,

@@ -1,14 +1,14 @@
 //! The cores of one pool, and from when on their events may come.
 //!
-//! Each core is in the form of the machine's own definitions. Beside the cores stand heaps of moments, one for each kind of event, so
+//! Each core is in the form of the machine's own definitions. Beside the cores stand sets of moments, one for each kind of event, so
 //! that the first event that may come is found without a look at each core. A change of one core arms anew what belongs to that core.
 #![tactic(auto)]
 
 mod changes;
 pub mod cores;
+mod dues;
 mod ends;
-mod heaps;
 pub mod laws;
 
 pub use cores::CoreState;
-pub use heaps::earlier;
+pub use dues::earlier;

@@ -10,30 +10,27 @@ use Rattle.sched_model.specs.declared.state.Scheduler.{Scheduler}
 use Rattle.sched_model.specs.declared.state.Credit2Records.{Credit2Records}
 use Rattle.sched_model.specs.declared.state.Records.TheVariants.{Credit2Pool}
 use Rattle.sched_model.specs.Places.{same_unit, without_unit}
-use Rattle.sched_model.specs.Eligible.{eligible}
-use Rattle.sched_model.specs.Credit2.{greatest, credit_of, choice, own_candidate, is_within_limit, best_other}
+use Rattle.sched_model.specs.Eligible.{eligible_units}
+use Rattle.sched_model.specs.Credit2.{greatest_unit, credit_of, choice, own_candidate, is_within_limit, best_other}
 use Rattle.sched_laws.proofs.Bools.{either}
 use Rattle.plain_credit2.specs.Waiting.{scheduler_of}
 use Rattle.plain_credit2.proofs.Items.{filter-both}
 use Rattle.credit2_core.specs.Choice.{may_take, best_of, credit_or_0}
+use Rattle.std.proofs.Math.Bool.{or_assoc, and_comm, and-false}
 
 or-false : (b : Bool) → b ≡ (b || false)
 or-false true = refl
 or-false false = refl
 
-or-assoc : (a b c : Bool) → ((a || b) || c) ≡ (a || (b || c))
-or-assoc true b c = refl
-or-assoc false b c = refl
-
-greatest_some : (records : Credit2Records) (best : UnitId) (units : List UnitId) → is_some (greatest records (Some best) units) ≡ true
+greatest_some : (records : Credit2Records) (best : UnitId) (units : List UnitId) → is_some (greatest_unit records (Some best) units) ≡ true
 greatest_some records best [] = refl
 greatest_some records best (u ∷ units) = greatest_some records (if int_lt (credit_of records best) (credit_of records u) then u else best) units
 
 -- whether some unit passes
-pub some_passes : (records : Credit2Records) (p : UnitId → Bool) (units : List UnitId) → is_some (greatest records None (filter p units)) ≡ list_any p units
+pub some_passes : (records : Credit2Records) (p : UnitId → Bool) (units : List UnitId) → is_some (greatest_unit records None (filter p units)) ≡ list_any p units
 some_passes records p [] = refl
 some_passes records p (u ∷ units) =
-    elim (p u) as (λ b. is_some (greatest records None (cond b (u ∷ filter p units) (filter p units))) ≡ (b || list_any p units)) [
+    elim (p u) as (λ b. is_some (greatest_unit records None (cond b (u ∷ filter p units) (filter p units))) ≡ (b || list_any p units)) [
       | true ↦ greatest_some records u (filter p units)
       | false ↦ some_passes records p units
     ]
@@ -70,62 +67,52 @@ above_greater records own best u =
 abbrev above : Credit2Records → ℤ → Option UnitId → Bool
 above records own found = elim found [ None ↦ false | Some u ↦ int_lt own (credit_of records u) ]
 
-above_best : (records : Credit2Records) (own : ℤ) (best : UnitId) (units : List UnitId) → above records own (greatest records (Some best) units) ≡ (int_lt own (credit_of records best) || list_any (λ u. int_lt own (credit_of records u)) units)
+above_best : (records : Credit2Records) (own : ℤ) (best : UnitId) (units : List UnitId) → above records own (greatest_unit records (Some best) units) ≡ (int_lt own (credit_of records best) || list_any (λ u. int_lt own (credit_of records u)) units)
 above_best records own best [] = or-false (int_lt own (credit_of records best))
 above_best records own best (u ∷ units) =
     above_best records own (if int_lt (credit_of records best) (credit_of records u) then u else best) units
     ∙ ap (λ b. b || list_any (λ w. int_lt own (credit_of records w)) units) (above_greater records own best u)
-    ∙ or-assoc (int_lt own (credit_of records best)) (int_lt own (credit_of records u)) (list_any (λ w. int_lt own (credit_of records w)) units)
+    ∙ or_assoc (int_lt own (credit_of records best)) (int_lt own (credit_of records u)) (list_any (λ w. int_lt own (credit_of records w)) units)
 
-above_any : (records : Credit2Records) (own : ℤ) (units : List UnitId) → above records own (greatest records None units) ≡ list_any (λ u. int_lt own (credit_of records u)) units
+above_any : (records : Credit2Records) (own : ℤ) (units : List UnitId) → above records own (greatest_unit records None units) ≡ list_any (λ u. int_lt own (credit_of records u)) units
 above_any records own [] = refl
 above_any records own (u ∷ units) = above_best records own u units
 
 -- a unit that passes is better than a core's own where the first of them is
 pub better_passes : (records : Credit2Records) (within : Bool) (own : ℤ) (p : UnitId → Bool) (units : List UnitId)
-    → elim (greatest records None (filter p units)) as (λ _. Bool) [ None ↦ false | Some u ↦ within && int_lt own (credit_of records u) ] ≡ list_any (λ u. p u && (within && int_lt own (credit_of records u))) units
+    → elim (greatest_unit records None (filter p units)) as (λ _. Bool) [ None ↦ false | Some u ↦ within && int_lt own (credit_of records u) ] ≡ list_any (λ u. p u && (within && int_lt own (credit_of records u))) units
 better_passes records true own p units = above_any records own (filter p units) ∙ any_filter p (λ u. int_lt own (credit_of records u)) units
-better_passes records false own p units = none_found (greatest records None (filter p units)) ∙ sym (none_there units)
+better_passes records false own p units = none_found (greatest_unit records None (filter p units)) ∙ sym (none_there units)
   where
     none_found : (o : Option UnitId) → elim o as (λ _. Bool) [ None ↦ false | Some u ↦ false ] ≡ false
     none_found None = refl
     none_found (Some u) = refl
-
-    and-false : (b : Bool) → (b && false) ≡ false
-    and-false true = refl
-    and-false false = refl
 
     none_there : (units : List UnitId) → list_any (λ u. p u && false) units ≡ false
     none_there [] = refl
     none_there (u ∷ units) = rw (and-false (p u)) (none_there units)
 
 -- the choice is a scan, where the core's own unit does not go on by the rate limit
-pub choice_scans : (ask : Ask) (scheduler : Scheduler) (records : Credit2Records) (own : Option UnitId) → ask.leaving ≡ false → own_candidate ask scheduler records ≡ own → (is_some own && is_within_limit records ask.since ask.at) ≡ false
-    → choice ask scheduler records ≡ greatest records own (eligible (record scheduler { records = Credit2Pool records }) ask.home ask.core ask.at)
+pub choice_scans : (ask : Ask) (scheduler : Scheduler) (records : Credit2Records) (own : Option UnitId) → ask.leaving ≡ false → own_candidate ask scheduler records ≡ own → (is_some own && is_within_limit records ask.since.0 ask.at.0) ≡ false
+    → choice ask scheduler records ≡ greatest_unit records own (eligible_units (record scheduler { records = Credit2Pool records }) ask.home.0 ask.core.0 ask.at.0)
 choice_scans ask scheduler records own stays is scans =
-    let units : List UnitId = eligible (record scheduler { records = Credit2Pool records }) ask.home ask.core ask.at in
-    let keeps : Option UnitId → Option UnitId = λ o. if is_some o && is_within_limit records ask.since ask.at then o else greatest records o units in
-    ap (λ (b : Bool). if b then None else keeps (own_candidate ask scheduler records)) stays ∙ ap keeps is ∙ ap (λ (b : Bool). if b then own else greatest records own units) scans
+    let units : List UnitId = eligible_units (record scheduler { records = Credit2Pool records }) ask.home.0 ask.core.0 ask.at.0 in
+    let keeps : Option UnitId → Option UnitId = λ o. if is_some o && is_within_limit records ask.since.0 ask.at.0 then o else greatest_unit records o units in
+    ap (λ (b : Bool). if b then None else keeps (own_candidate ask scheduler records)) stays ∙ ap keeps is ∙ ap (λ (b : Bool). if b then own else greatest_unit records own units) scans
 
 -- two tests in either order
 filter-swap : (p q : UnitId → Bool) (units : List UnitId) → filter p (filter q units) ≡ filter q (filter p units)
 filter-swap p q units = filter-both p q units ∙ same units ∙ sym (filter-both q p units)
   where
-    and-swap : (a b : Bool) → (a && b) ≡ (b && a)
-    and-swap true true = refl
-    and-swap true false = refl
-    and-swap false true = refl
-    and-swap false false = refl
-
     same : (units : List UnitId) → filter (λ u. p u && q u) units ≡ filter (λ u. q u && p u) units
     same [] = refl
-    same (u ∷ units) = ap (λ (b : Bool). cond b (u ∷ filter (λ w. p w && q w) units) (filter (λ w. p w && q w) units)) (and-swap (p u) (q u)) ∙ ap (λ (us : List UnitId). cond (q u && p u) (u ∷ us) us) (same units)
+    same (u ∷ units) = ap (λ (b : Bool). cond b (u ∷ filter (λ w. p w && q w) units) (filter (λ w. p w && q w) units)) (and_comm (p u) (q u)) ∙ ap (λ (us : List UnitId). cond (q u && p u) (u ∷ us) us) (same units)
 
 -- the best of the others is the first that may run, once the chosen one has left the queue
 pub other_best : (ask : Ask) (queue : List UnitId) (affinity : List (Option (List Cores))) (first records : Credit2Records) (u : UnitId)
-    → credit_or_0 records (best_of (without_unit u queue) affinity ask.home ask.core records) ≡ best_other ask (scheduler_of queue affinity first) records u
+    → credit_or_0 records (best_of (without_unit u queue) affinity ask.home.0 ask.core.0 records) ≡ best_other ask (scheduler_of queue affinity first) records u
 other_best ask queue affinity first records u =
-    ap (λ (units : List UnitId). credit_or_0 records (greatest records None units)) (filter-swap (may_take affinity ask.home ask.core records) (λ w. not (same_unit u w)) queue) ∙ same_form (greatest records None (without_unit u (filter (may_take affinity ask.home ask.core records) queue)))
+    ap (λ (units : List UnitId). credit_or_0 records (greatest_unit records None units)) (filter-swap (may_take affinity ask.home.0 ask.core.0 records) (λ w. not (same_unit u w)) queue) ∙ same_form (greatest_unit records None (without_unit u (filter (may_take affinity ask.home.0 ask.core.0 records) queue)))
   where
     same_form : (o : Option UnitId) → credit_or_0 records o ≡ elim o as (λ _. ℤ) [ None ↦ pos 0 | Some w ↦ credit_of records w ]
     same_form None = refl

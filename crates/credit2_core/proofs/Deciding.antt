@@ -19,27 +19,27 @@ use Rattle.sched_ops.specs.Conditions.{IsOwnOf}
 use Rattle.runq.specs.Queue.{Queue}
 use Rattle.queue_laws.specs.Arrivals.{arrivals}
 use Rattle.credit2_core.specs.declared.held.Held.{Held}
-use Rattle.credit2_core.specs.Choice.{ran}
+use Rattle.credit2_core.specs.Choice.{records_after_run}
 use Rattle.credit2_core.specs.Places.{has_joined, count_at}
 use Rattle.credit2_core.specs.Held.{IsHeld, IsLineOf, IsSameRoom, scheduler_in}
 use Rattle.credit2_core.proofs.Lists.{each_has}
-use Rattle.credit2_core.proofs.Rooms.{less_true}
 use Rattle.credit2_core.proofs.Members.{count_there, waits_off}
 use Rattle.credit2_core.proofs.Ranges.{Few, range_later, range_idle, range_ran}
 use Rattle.credit2_core.proofs.Same.{alike_burn_cur, alike_switch_off, alike_ran}
+use Rattle.std.proofs.lemmas.Bool.{ltb-true}
 
 pub length_reset : (t k : ℕ) (records : Credit2Records) → length (reset t k records).domains ≡ length records.domains
 length_reset t zero records = refl
 length_reset t (suc k) records = length_change_each 0 _ (burn_all t records).domains ∙ length_change_each 0 _ records.domains
 
 -- the core idles
-pub held_idle : (h : Held) (ask : Ask) → IsHeld h → h.latest ≤ ask.at → IsLineOf h.affinity (switch_off ask.cur (burn_cur ask.cur ask.at h.records)) h.queue.units → IsHeld (record h { records = switch_off ask.cur (burn_cur ask.cur ask.at h.records); latest = ask.at })
+pub held_idle : (h : Held) (ask : Ask) → IsHeld h → h.latest ≤ ask.at.0 → IsLineOf h.affinity (switch_off ask.cur (burn_cur ask.cur ask.at.0 h.records)) h.queue.units → IsHeld (record h { records = switch_off ask.cur (burn_cur ask.cur ask.at.0 h.records); latest = ask.at.0 })
 held_idle h ask held past line =
-    let burned : Credit2Records = burn_cur ask.cur ask.at h.records in
-    let one = alike_burn_cur ask.cur ask.at h.records in
+    let burned : Credit2Records = burn_cur ask.cur ask.at.0 h.records in
+    let one = alike_burn_cur ask.cur ask.at.0 h.records in
     let two = alike_switch_off ask.cur burned in
     record {
-      range = range_idle ask (scheduler_in h) h.records (range_later h.latest ask.at h.records past held.range);
+      range = range_idle ask (scheduler_in h) h.records (range_later h.latest ask.at.0 h.records past held.range);
       counts = held.counts ∙ sym (two.counts ∙ one.counts);
       line = line;
       masks = held.masks;
@@ -50,32 +50,32 @@ held_idle h ask held past line =
     }
 
 -- the choice is the core's own unit, or one that waits
-pub choice_from : (ask : Ask) (scheduler : Scheduler) (records : Credit2Records) (u : UnitId) → scheduler.records ≡ Credit2Pool records → choice ask scheduler (burn_cur ask.cur ask.at records) ≡ Some u → (ask.cur ≡ Some u) ⊎ (has_unit scheduler.queue u ≡ true)
+pub choice_from : (ask : Ask) (scheduler : Scheduler) (records : Credit2Records) (u : UnitId) → scheduler.records ≡ Credit2Pool records → choice ask scheduler (burn_cur ask.cur ask.at.0 records) ≡ Some u → (ask.cur ≡ Some u) ⊎ (has_unit scheduler.queue u ≡ true)
 choice_from ask scheduler records u own is =
     let P : UnitId → Type 0 = λ w. (ask.cur ≡ Some w) ⊎ (has_unit scheduler.queue w ≡ true) in
     let all : IfUnit P (decision_by scheduler.records ask scheduler).unit = decision_has P ask scheduler (each_has scheduler.queue P (λ w there. inr there)) (λ w cur runs. inl cur) in
-    let burned : Credit2Records = burn_cur ask.cur ask.at records in
+    let burned : Credit2Records = burn_cur ask.cur ask.at.0 records in
     let chosen : IfUnit P (decide ask scheduler burned (choice ask scheduler burned)).unit = subst (λ r. IfUnit P (decision_by r ask scheduler).unit) own all in
     subst (λ (o : Option UnitId). IfUnit P (decide ask scheduler burned o).unit) is chosen
 
 -- the core runs the chosen unit
-pub held_ran : (h : Held) (ask : Ask) (u : UnitId) (k : ℕ) (q : Queue) → IsHeld h → h.latest ≤ ask.at → IsOwnOf (scheduler_in h) ask.cur → choice ask (scheduler_of (arrivals h.queue.units) h.affinity (burn_cur ask.cur ask.at h.records)) (burn_cur ask.cur ask.at h.records) ≡ Some u
-    → IsLineOf h.affinity (ran ask.cur ask.at k u (burn_cur ask.cur ask.at h.records)) q.units → IsSameRoom h.queue q → IsHeld (record h { records = ran ask.cur ask.at k u (burn_cur ask.cur ask.at h.records); queue = q; latest = ask.at })
+pub held_ran : (h : Held) (ask : Ask) (u : UnitId) (k : ℕ) (q : Queue) → IsHeld h → h.latest ≤ ask.at.0 → IsOwnOf (scheduler_in h) ask.cur → choice ask (scheduler_of (arrivals h.queue.units) h.affinity (burn_cur ask.cur ask.at.0 h.records)) (burn_cur ask.cur ask.at.0 h.records) ≡ Some u
+    → IsLineOf h.affinity (records_after_run ask.cur ask.at.0 k u (burn_cur ask.cur ask.at.0 h.records)) q.units → IsSameRoom h.queue q → IsHeld (record h { records = records_after_run ask.cur ask.at.0 k u (burn_cur ask.cur ask.at.0 h.records); queue = q; latest = ask.at.0 })
 held_ran h ask u k q held past own is line room =
-    let burned : Credit2Records = burn_cur ask.cur ask.at h.records in
+    let burned : Credit2Records = burn_cur ask.cur ask.at.0 h.records in
     let chosen : choice ask (scheduler_in h) burned ≡ Some u = is in
     let from : (ask.cur ≡ Some u) ⊎ (has_unit (arrivals h.queue.units) u ≡ true) = choice_from ask (scheduler_in h) h.records u refl chosen in
-    let pays : domain_has_budget burned u ≡ true = subst (IfUnit (λ w. domain_has_budget burned w ≡ true)) chosen (choice_pays ask.at Few ask (scheduler_in h) burned) in
+    let pays : domain_has_budget burned u ≡ true = subst (IfUnit (λ w. domain_has_budget burned w ≡ true)) chosen (choice_pays ask.at.0 Few ask (scheduler_in h) burned) in
     let joined : has_joined h.affinity u ≡ true = elim from [ inl cur ↦ (own u cur).member | inr waits ↦ at_unit (λ w. has_joined h.affinity w ≡ true) u (arrivals h.queue.units) waits held.line.joined ] in
     let off : (ask.cur ≡ Some u) ⊎ ((y : Credit2Unit) → unit_rec h.records u ≡ Some y → y.burned ≡ None) = elim from [ inl cur ↦ inl cur | inr waits ↦ inr (waits_off (arrivals h.queue.units) h.records u held.line.off waits) ] in
-    let one = alike_burn_cur ask.cur ask.at h.records in
-    let two = alike_ran ask.cur ask.at k u burned in
+    let one = alike_burn_cur ask.cur ask.at.0 h.records in
+    let two = alike_ran ask.cur ask.at.0 k u burned in
     let all = held.room in
     let same = room.room in
     record {
       range = range_ran ask (scheduler_in h) h.records u k pays
-          (λ x at. (let low = less_true u.n (count_at h.affinity u.dom.0) joined in let e = count_there h.affinity h.records.domains u.dom.0 x held.counts at in omega (arith, low, e)))
-          off (range_later h.latest ask.at h.records past held.range);
+          (λ x at. (let low = ltb-true u.n (count_at h.affinity u.dom.0) joined in let e = count_there h.affinity h.records.domains u.dom.0 x held.counts at in omega (arith, low, e)))
+          off (range_later h.latest ask.at.0 h.records past held.range);
       counts = held.counts ∙ sym (two.counts ∙ one.counts);
       line = line;
       masks = held.masks;

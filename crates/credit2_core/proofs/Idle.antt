@@ -8,7 +8,7 @@ use Rattle.sched_model.specs.declared.state.Credit2Unit.{Credit2Unit}
 use Rattle.sched_model.specs.declared.state.Credit2Domain.{Credit2Domain}
 use Rattle.sched_model.specs.declared.state.Credit2Records.{Credit2Records}
 use Rattle.sched_model.specs.Places.{at_place, change_at, change_item}
-use Rattle.sched_model.specs.Credit2.{max_weight, burn_unit, burn_units, change_domain, give_back, burn_cur, take_budget, set_running, switch_off, refill_domain, refilled, set_weight, set_cap, set_domain, credit_of}
+use Rattle.sched_model.specs.Credit2.{max_weight, burn_unit, burn_units, change_domain, give_back, burn_cur, take_budget, set_running, switch_off, refill_domain, refilled_pool, set_weight, set_cap, set_domain, credit_of}
 use Rattle.sched_laws.proofs.EachPlace.{by_option, by_cond}
 use Rattle.sched_laws.proofs.Sound.{change_at-twice}
 use Rattle.sched_ranges.proofs.Budget.{get_map}
@@ -119,7 +119,7 @@ pub idle_switch_off : (cur : Option UnitId) (records : Credit2Records) → Keeps
 idle_switch_off None records u off = refl
 idle_switch_off (Some w) records u off = idle_set_running None w records u off
 
-pub idle_refilled : (t d : ℕ) (records : Credit2Records) → KeepsIdle records (refilled t d records)
+pub idle_refilled : (t d : ℕ) (records : Credit2Records) → KeepsIdle records (refilled_pool t d records)
 idle_refilled t d records u off = domain_keeps d (refill_domain (max_weight records) t) records u (λ x n still. burns_keep (max_weight records) t x n still) off
 
 -- a new weight keeps which units run

@@ -19,38 +19,39 @@ use Rattle.sched_model.specs.Places.{at_place, put_at, clear_at, change_at, has_
 use Rattle.sched_model.specs.Checked.{IsWithin}
 use Rattle.sched_model.specs.Eligible.{cores_of}
 use Rattle.sched_model.specs.State.{has_come}
-use Rattle.sched_model.specs.Policy.{next_refill, pinned}
-use Rattle.sched_model.specs.Credit2.{max_weight, credit_of, refill_domain, refilled, set_weight, set_cap, set_domain, change_domain, fresh_domain}
+use Rattle.sched_model.specs.Policy.{next_refill, pinned_cores as pinned}
+use Rattle.sched_model.specs.Credit2.{max_weight, credit_of, refill_domain, refilled_pool, set_weight, set_cap, set_domain, change_domain, fresh_domain}
 use Rattle.sched_laws.proofs.Bools.{clash, not_true, is_same, either}
 use Rattle.sched_laws.proofs.Choices.{at_unit}
-use Rattle.sched_laws.proofs.EachPlace.{at_place-put_at, at_place-put_at_other, at_place-clear_at_other, at_place-clear_at, EachAt-put_at, EachAt-clear_at, EachPlace-empty, by_option}
+use Rattle.sched_laws.proofs.EachPlace.{at_place-put_at, at_place-put_at_other, at_place-clear_at_other, at_place-clear_at, EachAt-put_at, EachAt-clear_at, EachPlace-empty, by_option, at_place-change_at_other}
 use Rattle.sched_laws.proofs.Lists.{length_change_item}
 use Rattle.sched_ranges.specs.Budgets.{BudgetFits, Nobody}
 use Rattle.sched_ranges.specs.Fits.{Credit2DomainFits}
 use Rattle.sched_ranges.proofs.Decided.{unit_rec, r_set_domain}
 use Rattle.sched_ranges.specs.Budgets.{AllRunOnly, RunsOnly}
 use Rattle.sched_ops.specs.Conditions.{is_on, is_vacant, IsAway, HasNoneBusy, Keeps, IsWeight, IsCap}
-use Rattle.sched_ops.specs.Seen.{Seen, with_scheduler, restarted}
+use Rattle.sched_ops.specs.Seen.{Seen, with_scheduler, restarted_scheduler}
 use Rattle.sched_model.specs.declared.config.PoolParams.TheVariants as pool_params
 use Rattle.plain_credit2.specs.Waiting.{scheduler_of}
 use Rattle.plain_credit2.proofs.Items.{at_place-change_at}
 use Rattle.arrival_queue.proofs.Ranks.{less_test}
 use Rattle.arrival_queue.specs.Queues.{Queued}
-use Rattle.runq.specs.Queue.{inserted, empty}
+use Rattle.runq.specs.Queue.{after_insert, empty_queue as empty}
 use Rattle.queue_laws.specs.Arrivals.{arrivals}
 use Rattle.credit2_core.specs.declared.held.Held.{Held}
 use Rattle.credit2_core.specs.Keys.{key_in}
 use Rattle.credit2_core.specs.Places.{set_counts, unit_counts, count_all, count_at, has_joined, refill_of, refills_of}
-use Rattle.credit2_core.specs.Domains.{masked, refreshed}
+use Rattle.credit2_core.specs.Domains.{masked_cores, refreshed_cores}
 use Rattle.credit2_core.specs.Held.{InRange, IsFree, IsHeld, IsLineOf, AreMasks, scheduler_in, seen_in}
 use Rattle.credit2_core.proofs.Lists.{each_has, queued_have, length-arrivals, length-placed}
 use Rattle.credit2_core.proofs.Waiting.{IsOrdered}
-use Rattle.credit2_core.proofs.Rooms.{less_true, no_more_wait, count_all-put, count_all-clear}
+use Rattle.credit2_core.proofs.Rooms.{no_more_wait, count_all-put, count_all-clear}
 use Rattle.credit2_core.proofs.Members.{IsElsewhere, joined_small, record_of, waits_off}
 use Rattle.credit2_core.proofs.Idle.{IsOff, each_keeps, idle_set_domain}
 use Rattle.credit2_core.proofs.Ranges.{if_some, range_later, range_refilled, range_set_domain, range_limit, range_joined, range_parted}
 use Rattle.credit2_core.proofs.Same.{map-set, map-change_at, counts_refilled, counts_set_domain, refills_changed, refills_written, refills_put}
 use Rattle.credit2_core.proofs.Lines.{line_records, line_refilled, line_pushed}
+use Rattle.std.proofs.lemmas.Bool.{ltb-true}
 
 -- whether a unit is on, and whether its record says that it runs
 off_on : (records : Credit2Records) (u : UnitId) → IsOff records u → is_on (Credit2Pool records) u ≡ false
@@ -78,14 +79,14 @@ keeps_line h held = record {
 }
 
 -- one more waits
-pub held_pushed : (h : Held) (u : UnitId) → IsHeld h → IsAway (scheduler_in h) u → IsOrdered h.queue.units → IsHeld (record h { queue = inserted h.queue u (neg_ℤ (credit_of h.records u)) }) × (0 < h.queue.spare)
+pub held_pushed : (h : Held) (u : UnitId) → IsHeld h → IsAway (scheduler_in h) u → IsOrdered h.queue.units → IsHeld (record h { queue = after_insert h.queue u (neg_ℤ (credit_of h.records u)) }) × (0 < h.queue.spare)
 held_pushed h u held away ordered =
     let es : List Queued = h.queue.units in
     let small = joined_small h.latest h.records h.affinity u held.range held.counts away.member in
     let line = line_pushed h.affinity h.records u es ordered (omega (arith, small)) away.waits_not away.member (on_off h.records u away.off) held.line in
     let grown = length-placed (record { unit = u; key = key_in h.records u; rank = length es }) es in
-    let few = no_more_wait h.affinity (arrivals (inserted h.queue u (neg_ℤ (credit_of h.records u))).units) line.apart line.joined in
-    let all = length-arrivals (inserted h.queue u (neg_ℤ (credit_of h.records u))).units in
+    let few = no_more_wait h.affinity (arrivals (after_insert h.queue u (neg_ℤ (credit_of h.records u))).units) line.apart line.joined in
+    let all = length-arrivals (after_insert h.queue u (neg_ℤ (credit_of h.records u))).units in
     let room = held.room in
     let spare : 0 < h.queue.spare = omega (arith, grown, few, all, room) in (
       record {
@@ -103,14 +104,14 @@ held_pushed h u held away ordered =
 
 -- the domain is refilled
 pub held_refilled : (h : Held) (d t : ℕ) → IsHeld h → h.latest ≤ t → has_come t (next_refill (Credit2Pool h.records) d) ≡ true
-    → IsHeld (record h { records = refilled t d h.records; refills = slice_set h.refills d (refill_of (at_place (refilled t d h.records).domains d)); latest = t })
+    → IsHeld (record h { records = refilled_pool t d h.records; refills = slice_set h.refills d (refill_of (at_place (refilled_pool t d h.records).domains d)); latest = t })
 held_refilled h d t held past come = record {
   range = range_refilled t d h.records come (range_later h.latest t h.records past held.range);
   counts = held.counts ∙ sym (counts_refilled t d h.records);
   line = line_refilled h.affinity t d h.records h.queue.units held.line;
   masks = held.masks;
   free = held.free;
-  refills = ap (λ (rs : List (Option Moment)). slice_set rs d (refill_of (at_place (refilled t d h.records).domains d))) held.refills ∙ refills_written d (refill_domain (max_weight h.records) t) h.records.domains;
+  refills = ap (λ (rs : List (Option Moment)). slice_set rs d (refill_of (at_place (refilled_pool t d h.records).domains d))) held.refills ∙ refills_written d (refill_domain (max_weight h.records) t) h.records.domains;
   room = held.room;
   small = held.small;
 }
@@ -173,7 +174,7 @@ count_all_same (Some x ∷ a) (None ∷ b) same = absurd cc
 count_all_same (Some x ∷ a) (Some y ∷ b) same = (let r = count_all_same a b cc in let e : length x ≡ length y = cc in omega (arith, r, e))
 
 -- the masks, once those of a domain are written anew
-masks_refreshed : (affinity next : List (Option (List Cores))) (masks now : List Cores) (d : ℕ) → ((e : ℕ) → e ≢ d → at_place next e ≡ at_place affinity e) → ((u : UnitId) → u.n < 256 → mask_of now u ≡ refreshed masks next d u)
+masks_refreshed : (affinity next : List (Option (List Cores))) (masks now : List Cores) (d : ℕ) → ((e : ℕ) → e ≢ d → at_place next e ≡ at_place affinity e) → ((u : UnitId) → u.n < 256 → mask_of now u ≡ refreshed_cores masks next d u)
     → ((u : UnitId) → has_joined next u ≡ true → u.n < 256) → AreMasks affinity masks → AreMasks next now
 masks_refreshed affinity next masks now d same written low are u joined =
     written u (low u joined) ∙ elim (ℕ_discrete u.dom.0 d) [
@@ -184,32 +185,25 @@ masks_refreshed affinity next masks now d same written low are u joined =
           elsewhere (at_place next d) other ∙ are u before ∙ ap (λ (o : Option (List Cores)). core_set (elim o as (λ _. ℕ) [ None ↦ 0 | Some sets ↦ (slice_index_or sets u.n (core_set 0)).0 ])) (sym place))
     ]
   where
-    elsewhere : (o : Option (List Cores)) → u.dom.0 ≢ d → elim o as (λ _. Cores) [ None ↦ mask_of masks u | Some sets ↦ masked masks d sets (length sets) u ] ≡ mask_of masks u
+    elsewhere : (o : Option (List Cores)) → u.dom.0 ≢ d → elim o as (λ _. Cores) [ None ↦ mask_of masks u | Some sets ↦ masked_cores masks d sets (length sets) u ] ≡ mask_of masks u
     elsewhere None other = refl
     elsewhere (Some sets) other = (let e : (u.dom.0 == d) ≡ false = elim (either (u.dom.0 == d)) [ inl is ↦ absurd (other (grind (arith, is))) | inr is ↦ is ] in rw e refl)
 
-    by_sets : (o : Option (List Cores)) → at_place next u.dom.0 ≡ o → has_joined next u ≡ true → u.dom.0 ≡ d → elim o as (λ _. Cores) [ None ↦ mask_of masks u | Some sets ↦ masked masks d sets (length sets) u ] ≡ core_set (cores_of next u)
+    by_sets : (o : Option (List Cores)) → at_place next u.dom.0 ≡ o → has_joined next u ≡ true → u.dom.0 ≡ d → elim o as (λ _. Cores) [ None ↦ mask_of masks u | Some sets ↦ masked_cores masks d sets (length sets) u ] ≡ core_set (cores_of next u)
     by_sets None is joined here = absurd (
-        let l = less_true u.n (count_at next u.dom.0) joined in
+        let l = ltb-true u.n (count_at next u.dom.0) joined in
         let z : count_at next u.dom.0 ≡ 0 = ap (λ (p : Option (List Cores)). elim p as (λ _. ℕ) [ None ↦ 0 | Some sets ↦ length sets ]) is in
         omega (arith, l, z))
     by_sets (Some sets) is joined here =
         let a : (u.dom.0 == d) ≡ true = is_same u.dom.0 d here in
         let b : nat_lt u.n (length sets) ≡ true = subst (λ (p : Option (List Cores)). nat_lt u.n (elim p as (λ _. ℕ) [ None ↦ 0 | Some s ↦ length s ]) ≡ true) is joined in
-        let left : masked masks d sets (length sets) u ≡ slice_index_or sets u.n (core_set 0) = rw (a, b) refl in
+        let left : masked_cores masks d sets (length sets) u ≡ slice_index_or sets u.n (core_set 0) = rw (a, b) refl in
         left ∙ ap (λ (p : Option (List Cores)). core_set (elim p as (λ _. ℕ) [ None ↦ 0 | Some s ↦ (slice_index_or s u.n (core_set 0)).0 ])) (sym is)
 
 -- the sets of cores change
 length_pinned : (unit : Option ℕ) (cores : Cores) (sets : List Cores) → length (pinned unit cores sets) ≡ length sets
 length_pinned None cores sets = length-map sets _
 length_pinned (Some n) cores sets = length_change_item n _ sets
-
-change_at_other : {X : Type 0} (i j : ℕ) (f : X → X) (places : List (Option X)) → j ≢ i → at_place (change_at i f places) j ≡ at_place places j
-change_at_other i j f [] other = refl
-change_at_other zero zero f (p ∷ places) other = absurd (other refl)
-change_at_other zero (suc j) f (p ∷ places) other = refl
-change_at_other (suc i) zero f (p ∷ places) other = refl
-change_at_other (suc i) (suc j) f (p ∷ places) other = change_at_other i j f places (λ e. other (ap suc e))
 
 -- the sets of cores of one domain change, of which each unit may have all cores then
 free_elsewhere : (unpinned : Bool) (affinity next : List (Option (List Cores))) (d : ℕ) → ((e : ℕ) → e ≢ d → at_place next e ≡ at_place affinity e)
@@ -240,18 +234,18 @@ pinned_all (Some (suc k)) cores (s ∷ sets) (suc n) all low was = pinned_all (S
 
 free_pinned : (unpinned : Bool) (affinity : List (Option (List Cores))) (d : ℕ) (unit : Option ℕ) (cores : Cores) → IsFree unpinned affinity → IsFree (unpinned && cores.0 == 2 ^ 64 - 1) (change_at d (pinned unit cores) affinity)
 free_pinned false affinity d unit cores free = record { all = λ is u joined. absurd cc }
-free_pinned true affinity d unit cores free = record { all = λ is. (free_elsewhere true affinity (change_at d (pinned unit cores) affinity) d (λ e other. change_at_other d e (pinned unit cores) affinity other) (each (grind (arith, is)) (at_place affinity d) refl) free).all refl }
+free_pinned true affinity d unit cores free = record { all = λ is. (free_elsewhere true affinity (change_at d (pinned unit cores) affinity) d (λ e other. at_place-change_at_other d e (pinned unit cores) affinity other) (each (grind (arith, is)) (at_place affinity d) refl) free).all refl }
   where
     each : cores.0 ≡ 2 ^ 64 - 1 → (o : Option (List Cores)) → at_place affinity d ≡ o → (n : ℕ) → nat_lt n (count_at (change_at d (pinned unit cores) affinity) d) ≡ true
         → elim (at_place (change_at d (pinned unit cores) affinity) d) as (λ _. ℕ) [ None ↦ 0 | Some s ↦ (slice_index_or s n (core_set 0)).0 ] ≡ 2 ^ 64 - 1
     each all None at n joined =
         let there : at_place (change_at d (pinned unit cores) affinity) d ≡ None = at_place-change_at d (pinned unit cores) affinity ∙ ap (option_map (pinned unit cores)) at in
-        let l = less_true n (count_at (change_at d (pinned unit cores) affinity) d) joined in
+        let l = ltb-true n (count_at (change_at d (pinned unit cores) affinity) d) joined in
         let z : count_at (change_at d (pinned unit cores) affinity) d ≡ 0 = ap (λ (p : Option (List Cores)). elim p as (λ _. ℕ) [ None ↦ 0 | Some s ↦ length s ]) there in
         absurd (omega (arith, l, z))
     each all (Some sets) at n joined =
         let there : at_place (change_at d (pinned unit cores) affinity) d ≡ Some (pinned unit cores sets) = at_place-change_at d (pinned unit cores) affinity ∙ ap (option_map (pinned unit cores)) at in
-        let l = less_true n (count_at (change_at d (pinned unit cores) affinity) d) joined in
+        let l = ltb-true n (count_at (change_at d (pinned unit cores) affinity) d) joined in
         let z : count_at (change_at d (pinned unit cores) affinity) d ≡ length (pinned unit cores sets) = ap (λ (p : Option (List Cores)). elim p as (λ _. ℕ) [ None ↦ 0 | Some s ↦ length s ]) there in
         let same = length_pinned unit cores sets in
         let low : n < length sets = omega (arith, l, z, same) in
@@ -260,7 +254,7 @@ free_pinned true affinity d unit cores free = record { all = λ is. (free_elsewh
         let was : (slice_index_or sets n (core_set 0)).0 ≡ 2 ^ 64 - 1 = sym (ap (λ (o : Option (List Cores)). elim o as (λ _. ℕ) [ None ↦ 0 | Some s ↦ (slice_index_or s n (core_set 0)).0 ]) at) ∙ free.all refl u here in
         ap (λ (o : Option (List Cores)). elim o as (λ _. ℕ) [ None ↦ 0 | Some s ↦ (slice_index_or s n (core_set 0)).0 ]) there ∙ pinned_all unit cores sets n all low was
 
-pub held_pinned : (h : Held) (d t : ℕ) (unit : Option ℕ) (cores : Cores) (now : List Cores) → IsHeld h → h.latest ≤ t → ((u : UnitId) → u.n < 256 → mask_of now u ≡ refreshed h.masks (change_at d (pinned unit cores) h.affinity) d u)
+pub held_pinned : (h : Held) (d t : ℕ) (unit : Option ℕ) (cores : Cores) (now : List Cores) → IsHeld h → h.latest ≤ t → ((u : UnitId) → u.n < 256 → mask_of now u ≡ refreshed_cores h.masks (change_at d (pinned unit cores) h.affinity) d u)
     → IsHeld (record h { affinity = change_at d (pinned unit cores) h.affinity; masks = now; latest = t; unpinned = h.unpinned && cores.0 == 2 ^ 64 - 1 })
 held_pinned h d t unit cores now held past written =
     let next : List (Option (List Cores)) = change_at d (pinned unit cores) h.affinity in
@@ -280,7 +274,7 @@ held_pinned h d t unit cores now held past written =
         keys = held.line.keys;
         off = held.line.off;
       };
-      masks = masks_refreshed h.affinity next h.masks now d (λ e other. change_at_other d e (pinned unit cores) h.affinity other) written (λ u joined. (let l = joined_small h.latest h.records h.affinity u held.range held.counts (back u joined) in omega (arith, l))) held.masks;
+      masks = masks_refreshed h.affinity next h.masks now d (λ e other. at_place-change_at_other d e (pinned unit cores) h.affinity other) written (λ u joined. (let l = joined_small h.latest h.records h.affinity u held.range held.counts (back u joined) in omega (arith, l))) held.masks;
       free = free_pinned h.unpinned h.affinity d unit cores held.free;
       refills = held.refills;
       room = omega (arith, room, all);
@@ -314,12 +308,12 @@ held_parted h d k held idle is =
       line = line_elsewhere h.affinity (clear_at d h.affinity) h.records after d h.queue.units (λ e other. at_place-clear_at_other d e h.affinity other) (λ e other. at_place-clear_at_other d e h.records.domains other)
           (λ u there same. clash (has_unit (arrivals h.queue.units) u) there (idle.waiting u same)) (EachAt-clear_at (λ e (x : Credit2Domain). RunsOnly (IsElsewhere (arrivals h.queue.units) e) x.units) d h.records.domains held.line.off) held.line;
       masks = λ u joined. (
-          let other : u.dom.0 ≢ d = λ e. (let l = less_true u.n (count_at (clear_at d h.affinity) u.dom.0) joined in let z : count_at (clear_at d h.affinity) u.dom.0 ≡ 0 = ap (λ (p : Option (List Cores)). elim p as (λ _. ℕ) [ None ↦ 0 | Some s ↦ length s ]) (subst (λ j. at_place (clear_at d h.affinity) j ≡ None) (sym e) (at_place-clear_at d h.affinity)) in omega (arith, l, z)) in
+          let other : u.dom.0 ≢ d = λ e. (let l = ltb-true u.n (count_at (clear_at d h.affinity) u.dom.0) joined in let z : count_at (clear_at d h.affinity) u.dom.0 ≡ 0 = ap (λ (p : Option (List Cores)). elim p as (λ _. ℕ) [ None ↦ 0 | Some s ↦ length s ]) (subst (λ j. at_place (clear_at d h.affinity) j ≡ None) (sym e) (at_place-clear_at d h.affinity)) in omega (arith, l, z)) in
           let place : at_place (clear_at d h.affinity) u.dom.0 ≡ at_place h.affinity u.dom.0 = at_place-clear_at_other d u.dom.0 h.affinity other in
           held.masks u (subst (λ (o : Option (List Cores)). nat_lt u.n (elim o as (λ _. ℕ) [ None ↦ 0 | Some s ↦ length s ]) ≡ true) place joined)
           ∙ ap (λ (o : Option (List Cores)). core_set (elim o as (λ _. ℕ) [ None ↦ 0 | Some s ↦ (slice_index_or s u.n (core_set 0)).0 ])) (sym place));
       free = free_elsewhere h.unpinned h.affinity (clear_at d h.affinity) d (λ e other. at_place-clear_at_other d e h.affinity other)
-          (λ n joined. absurd (let l = less_true n (count_at (clear_at d h.affinity) d) joined in let z : count_at (clear_at d h.affinity) d ≡ 0 = ap (λ (p : Option (List Cores)). elim p as (λ _. ℕ) [ None ↦ 0 | Some s ↦ length s ]) (at_place-clear_at d h.affinity) in omega (arith, l, z))) held.free;
+          (λ n joined. absurd (let l = ltb-true n (count_at (clear_at d h.affinity) d) joined in let z : count_at (clear_at d h.affinity) d ≡ 0 = ap (λ (p : Option (List Cores)). elim p as (λ _. ℕ) [ None ↦ 0 | Some s ↦ length s ]) (at_place-clear_at d h.affinity) in omega (arith, l, z))) held.free;
       refills = ap (λ (rs : List (Option Moment)). slice_set rs d (refill_of (at_place (clear_at d h.records.domains) d))) held.refills ∙ refills_put d None h.records.domains;
       room = omega (arith, room, all, is);
       small = omega (arith, small, all, is);
@@ -332,7 +326,7 @@ replicate_get (suc k) zero x y at = cc
 replicate_get (suc k) (suc n) x y at = replicate_get k n x y at
 
 pub held_joined : (h : Held) (d weight percent count t : ℕ) (sets now : List Cores) → IsHeld h → d < length h.affinity → at_place h.affinity d ≡ None → count ≤ 32 → count ≤ h.spare → IsWithin 1 65535 weight → percent ≤ 6400 → h.latest ≤ t
-    → sets ≡ replicate count (core_set (2 ^ 64 - 1)) → ((u : UnitId) → u.n < 256 → mask_of now u ≡ refreshed h.masks (put_at d sets h.affinity) d u)
+    → sets ≡ replicate count (core_set (2 ^ 64 - 1)) → ((u : UnitId) → u.n < 256 → mask_of now u ≡ refreshed_cores h.masks (put_at d sets h.affinity) d u)
     → IsHeld (record {
       records = record h.records { domains = put_at d (fresh_domain weight percent count t) h.records.domains };
       affinity = put_at d sets h.affinity;
@@ -365,7 +359,7 @@ held_joined h d weight percent count t sets now held inside absent few fits with
       line = line_elsewhere h.affinity next h.records after d h.queue.units (λ e other. at_place-put_at_other d e sets h.affinity other) (λ e other. at_place-put_at_other d e fresh h.records.domains other)
           (λ u there same. (
           let joined = at_unit (λ w. has_joined h.affinity w ≡ true) u (arrivals h.queue.units) there held.line.joined in
-          let l = less_true u.n (count_at h.affinity u.dom.0) joined in
+          let l = ltb-true u.n (count_at h.affinity u.dom.0) joined in
           let z : count_at h.affinity u.dom.0 ≡ 0 = ap (λ (p : Option (List Cores)). elim p as (λ _. ℕ) [ None ↦ 0 | Some s ↦ length s ]) (subst (λ j. at_place h.affinity j ≡ None) (sym same) absent) in
           omega (arith, l, z)))
           (EachAt-put_at (λ e (x : Credit2Domain). RunsOnly (IsElsewhere (arrivals h.queue.units) e) x.units) d fresh h.records.domains held.line.off (λ n y at. inl (subst (λ (z : Credit2Unit). z.burned ≡ None) (replicate_get count n new y at) refl))) held.line;
@@ -373,7 +367,7 @@ held_joined h d weight percent count t sets now held inside absent few fits with
       free = free_elsewhere h.unpinned h.affinity next d (λ e other. at_place-put_at_other d e sets h.affinity other) (λ n joined. (
           let there : at_place next d ≡ Some sets = at_place-put_at d sets h.affinity inside in
           let low : nat_lt n (length sets) ≡ true = subst (λ (o : Option (List Cores)). nat_lt n (elim o as (λ _. ℕ) [ None ↦ 0 | Some s ↦ length s ]) ≡ true) there joined in
-          let few_enough : n < count = (let l = less_true n (length sets) low in omega (arith, l, long)) in
+          let few_enough : n < count = (let l = ltb-true n (length sets) low in omega (arith, l, long)) in
           ap (λ (o : Option (List Cores)). elim o as (λ _. ℕ) [ None ↦ 0 | Some s ↦ (slice_index_or s n (core_set 0)).0 ]) there
           ∙ ap (λ (s : List Cores). (slice_index_or s n (core_set 0)).0) each
           ∙ ap (λ (x : Cores). x.0) (get_or-replicate count n (core_set (2 ^ 64 - 1)) (core_set 0) few_enough))) held.free;
@@ -404,12 +398,12 @@ count_empty (suc n) (suc i) = count_empty n i
 nobody_waits : (affinity : List (Option (List Cores))) (units : List UnitId) → affinity ≡ replicate (length affinity) None → AllByRecursion (λ u. has_joined affinity u ≡ true) units → units ≡ []
 nobody_waits affinity [] empty joined = refl
 nobody_waits affinity (u ∷ units) empty joined = absurd (
-    let l = less_true u.n (count_at affinity u.dom.0) joined.0 in
+    let l = ltb-true u.n (count_at affinity u.dom.0) joined.0 in
     let z : count_at affinity u.dom.0 ≡ 0 = ap (λ (a : List (Option (List Cores))). count_at a u.dom.0) empty ∙ count_empty (length affinity) u.dom.0 in
     omega (arith, l, z))
 
 -- a pool that no domain has joined begins anew
-pub restarted_is : (h : Held) (limit : ℕ) → IsHeld h → is_vacant (scheduler_in h) ≡ true → seen_in (record h { records = record h.records { limit = limit; last_reset = None } }) ≡ with_scheduler (restarted (pool_params.Credit2 limit) (scheduler_in h)) (seen_in h)
+pub restarted_is : (h : Held) (limit : ℕ) → IsHeld h → is_vacant (scheduler_in h) ≡ true → seen_in (record h { records = record h.records { limit = limit; last_reset = None } }) ≡ with_scheduler (restarted_scheduler (pool_params.Credit2 limit) (scheduler_in h)) (seen_in h)
 restarted_is h limit held vacant =
     let none : list_any is_some h.affinity ≡ false = not_true (list_any is_some h.affinity) vacant in
     let sets : h.affinity ≡ replicate (length h.affinity) None = all_empty h.affinity none in
@@ -446,8 +440,8 @@ held_fresh n units latest masks few small =
       };
       counts = empty_counts n;
       line = record { apart = tt; joined = tt; indices = tt; keys = tt; off = λ d x at. EachPlace-empty (λ (y : Credit2Domain). RunsOnly (IsElsewhere [] d) y.units) n d x at };
-      masks = λ u joined. absurd (let l = less_true u.n (count_at (replicate n None) u.dom.0) joined in let z = count_empty n u.dom.0 in omega (arith, l, z));
-      free = record { all = λ free u joined. absurd (let l = less_true u.n (count_at (replicate n None) u.dom.0) joined in let z = count_empty n u.dom.0 in omega (arith, l, z)) };
+      masks = λ u joined. absurd (let l = ltb-true u.n (count_at (replicate n None) u.dom.0) joined in let z = count_empty n u.dom.0 in omega (arith, l, z));
+      free = record { all = λ free u joined. absurd (let l = ltb-true u.n (count_at (replicate n None) u.dom.0) joined in let z = count_empty n u.dom.0 in omega (arith, l, z)) };
       refills = empty_refills n;
       room = omega (arith, all);
       small = omega (arith, all, small);
@@ -463,7 +457,7 @@ held_unpinned h held vacant = record {
   free = record {
     all = λ is u joined. absurd (
         let none : list_any is_some h.affinity ≡ false = not_true (list_any is_some h.affinity) vacant in
-        let l = less_true u.n (count_at h.affinity u.dom.0) joined in
+        let l = ltb-true u.n (count_at h.affinity u.dom.0) joined in
         let z : count_at h.affinity u.dom.0 ≡ 0 = ap (λ (a : List (Option (List Cores))). count_at a u.dom.0) (all_empty h.affinity none) ∙ count_empty (length h.affinity) u.dom.0 in
         omega (arith, l, z));
   };

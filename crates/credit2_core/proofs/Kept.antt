@@ -11,15 +11,15 @@ use Rattle.sched_base.specs.declared.Cores.{Cores}
 use Rattle.sched_base.specs.CoreSets.{has_core}
 use Rattle.sched_model.specs.declared.state.Credit2Domain.{Credit2Domain}
 use Rattle.sched_model.specs.declared.state.Credit2Records.{Credit2Records}
-use Rattle.sched_model.specs.Places.{at_place, change_at, change_each, change_item, numbered, same_unit, is_unit}
+use Rattle.sched_model.specs.Places.{at_place, change_at, change_each, change_item, numbered_items, same_unit, is_unit}
 use Rattle.sched_model.specs.Eligible.{has_budget, is_allowed_by}
-use Rattle.sched_model.specs.Credit2.{max_weight, change_domain, domain_has_budget, greatest, credit_of, give_back, reset, take_budget, set_running, switch_off}
+use Rattle.sched_model.specs.Credit2.{max_weight, change_domain, domain_has_budget, greatest_unit, credit_of, give_back, reset, take_budget, set_running, switch_off}
 use Rattle.sched_laws.proofs.Bools.{either}
 use Rattle.sched_laws.proofs.EachPlace.{by_option, by_cond}
 use Rattle.plain_credit2.specs.Bounds.{own_charged, reset_by}
 use Rattle.plain_credit2.proofs.Steps.{reset-each}
 use Rattle.arrival_queue.specs.Filters.{first_that, has_domain}
-use Rattle.arrival_queue.specs.Queues.{Queued, without, is_of, closed_up}
+use Rattle.arrival_queue.specs.Queues.{Queued, list_without, is_of, closed_up}
 use Rattle.queue_laws.proofs.Removed.{is_of_same}
 use Rattle.runq.specs.Queue.{Queue}
 use Rattle.credit2_core.specs.declared.held.Held.{Held}
@@ -32,10 +32,11 @@ use Rattle.credit2_core.specs.Whole.{IsReadyIn, IsReadyBut, stays_first}
 use Rattle.credit2_core.proofs.Idle.{set_other}
 use Rattle.credit2_core.proofs.Lists.{same_unit-swap}
 use Rattle.credit2_core.proofs.Tables.{first_that-same}
+use Rattle.std.proofs.Math.Bool.{and-true}
 
 -- the weights of the domains
 abbrev weights : ℕ → List (Option Credit2Domain) → List ℕ
-weights n domains = map (λ (e : ℕ × Credit2Domain). e.1.weight) (numbered n domains)
+weights n domains = map (λ (e : ℕ × Credit2Domain). e.1.weight) (numbered_items n domains)
 
 -- a change of a domain that keeps its weight
 abbrev pub KeepsWeight : (Credit2Domain → Credit2Domain) → Type 0
@@ -116,10 +117,6 @@ ready_spared h next ready same spared is = record {
 pub first_runnable : (records : Credit2Records) (set : ℕ) (es : List Queued) → AreRunnable records.domains set → first_that (λ u. has_domain set u.dom.0) es ≡ first_ready records es
 first_runnable records set es are = first_that-same (λ u. has_domain set u.dom.0) (domain_has_budget records) es (λ u. are.each u.dom.0)
 
--- the set, where the record of a domain is written
-pub but_written : (d set : ℕ) (o : Option Credit2Domain) (domains : List (Option Credit2Domain)) → AreRunnable domains set → AreRunnableBut d (slice_set domains d o) set
-but_written d set o domains are i other = are.each i ∙ ap may_run_at (sym (set_other d i o domains other))
-
 pub but_again : (d : ℕ) (stands : Bool) (f : Credit2Domain → Credit2Domain) (records : Credit2Records) (es : List Queued) (ready : Ready) → KeepsWeight f → IsReadyBut d stands records es ready → IsReadyBut d stands (change_domain d f records) es ready
 but_again d stands f records es ready keeps but = record {
   domains = λ i other. but.domains i other ∙ ap may_run_at (sym (set_other d i _ records.domains other));
@@ -144,10 +141,6 @@ runnable_again d set now may domains few but is others there = record {
   ];
 }
   where
-    and-true : (b : Bool) → (b && true) ≡ b
-    and-true true = refl
-    and-true false = refl
-
     within : (may_run_at (at_place domains d) && nat_lt d 64) ≡ may_run_at (at_place domains d)
     within = elim (either (nat_lt d 64)) [
       | inl low ↦ rw low (and-true (may_run_at (at_place domains d)))
@@ -213,31 +206,31 @@ stays d false records es ready but is other = but.first refl ∙ sym (fewer_pass
         sym (but.domains u.dom.0 (apart u ready.first there other)) ∙ first_passes (λ w. has_domain ready.domains w.dom.0) es u found
 
 -- the first of those that are left, where another one left
-pub first_left : (p : UnitId → Bool) (u : UnitId) (r : ℕ) (es : List Queued) → u.n < 256 → AllByRecursion (λ (e : Queued). e.unit.n < 256) es → is_unit (first_that p es) u ≡ false → first_that p (map (closed_up r) (without u es)) ≡ first_that p es
+pub first_left : (p : UnitId → Bool) (u : UnitId) (r : ℕ) (es : List Queued) → u.n < 256 → AllByRecursion (λ (e : Queued). e.unit.n < 256) es → is_unit (first_that p es) u ≡ false → first_that p (map (closed_up r) (list_without u es)) ≡ first_that p es
 first_left p u r [] low lows other = refl
 first_left p u r (e ∷ es) low lows other =
-    elim (is_of u e) as (λ b. is_of u e ≡ b → first_that p (map (closed_up r) (if b then without u es else e ∷ without u es)) ≡ (if p e.unit then Some e.unit else first_that p es)) [
-      | true ↦ λ is. elim (p e.unit) as (λ a. is_unit (if a then Some e.unit else first_that p es) u ≡ false → first_that p (map (closed_up r) (without u es)) ≡ (if a then Some e.unit else first_that p es)) [
+    elim (is_of u e) as (λ b. is_of u e ≡ b → first_that p (map (closed_up r) (if b then list_without u es else e ∷ list_without u es)) ≡ (if p e.unit then Some e.unit else first_that p es)) [
+      | true ↦ λ is. elim (p e.unit) as (λ a. is_unit (if a then Some e.unit else first_that p es) u ≡ false → first_that p (map (closed_up r) (list_without u es)) ≡ (if a then Some e.unit else first_that p es)) [
         | true ↦ λ here. absurd (let same : same_unit u e.unit ≡ true = sym (is_of_same u e low lows.0) ∙ is in let apart : same_unit u e.unit ≡ false = same_unit-swap e.unit u here in cc)
         | false ↦ λ here. first_left p u r es low lows.1 here
       ] other
-      | false ↦ λ is. elim (p e.unit) as (λ a. is_unit (if a then Some e.unit else first_that p es) u ≡ false → (if a then Some e.unit else first_that p (map (closed_up r) (without u es))) ≡ (if a then Some e.unit else first_that p es)) [
+      | false ↦ λ is. elim (p e.unit) as (λ a. is_unit (if a then Some e.unit else first_that p es) u ≡ false → (if a then Some e.unit else first_that p (map (closed_up r) (list_without u es))) ≡ (if a then Some e.unit else first_that p es)) [
         | true ↦ λ here. refl
         | false ↦ λ here. first_left p u r es low lows.1 here
       ] other
     ] refl
 
 -- the greatest, with one more behind all others
-pub greatest_more : (records : Credit2Records) (p : UnitId → Bool) (u : UnitId) (best : Option UnitId) (units : List UnitId) → greatest records best (filter p (units ++ u ∷ [])) ≡ first_with records (p u) (greatest records best (filter p units)) u
-greatest_more records p u None [] = elim (p u) as (λ b. greatest records None (cond b (u ∷ []) []) ≡ first_with records b None u) [ true ↦ refl | false ↦ refl ]
-greatest_more records p u (Some w) [] = elim (p u) as (λ b. greatest records (Some w) (cond b (u ∷ []) []) ≡ first_with records b (Some w) u) [ true ↦ refl | false ↦ refl ]
+pub greatest_more : (records : Credit2Records) (p : UnitId → Bool) (u : UnitId) (best : Option UnitId) (units : List UnitId) → greatest_unit records best (filter p (units ++ u ∷ [])) ≡ first_with records (p u) (greatest_unit records best (filter p units)) u
+greatest_more records p u None [] = elim (p u) as (λ b. greatest_unit records None (cond b (u ∷ []) []) ≡ first_with records b None u) [ true ↦ refl | false ↦ refl ]
+greatest_more records p u (Some w) [] = elim (p u) as (λ b. greatest_unit records (Some w) (cond b (u ∷ []) []) ≡ first_with records b (Some w) u) [ true ↦ refl | false ↦ refl ]
 greatest_more records p u None (x ∷ units) =
-    elim (p x) as (λ b. greatest records None (cond b (x ∷ filter p (units ++ u ∷ [])) (filter p (units ++ u ∷ []))) ≡ first_with records (p u) (greatest records None (cond b (x ∷ filter p units) (filter p units))) u) [
+    elim (p x) as (λ b. greatest_unit records None (cond b (x ∷ filter p (units ++ u ∷ [])) (filter p (units ++ u ∷ []))) ≡ first_with records (p u) (greatest_unit records None (cond b (x ∷ filter p units) (filter p units))) u) [
       | true ↦ greatest_more records p u (Some x) units
       | false ↦ greatest_more records p u None units
     ]
 greatest_more records p u (Some w) (x ∷ units) =
-    elim (p x) as (λ b. greatest records (Some w) (cond b (x ∷ filter p (units ++ u ∷ [])) (filter p (units ++ u ∷ []))) ≡ first_with records (p u) (greatest records (Some w) (cond b (x ∷ filter p units) (filter p units))) u) [
+    elim (p x) as (λ b. greatest_unit records (Some w) (cond b (x ∷ filter p (units ++ u ∷ [])) (filter p (units ++ u ∷ []))) ≡ first_with records (p u) (greatest_unit records (Some w) (cond b (x ∷ filter p units) (filter p units))) u) [
       | true ↦ greatest_more records p u (Some (if int_lt (credit_of records w) (credit_of records x) then x else w)) units
       | false ↦ greatest_more records p u (Some w) units
     ]

@@ -8,15 +8,15 @@ use Rattle.sched_base.specs.declared.Cores.{Cores}
 use Rattle.sched_base.specs.declared.UnitId.{UnitId}
 use Rattle.sched_model.specs.declared.state.Credit2Records.{Credit2Records}
 use Rattle.sched_model.specs.Places.{has_unit, without_unit, same_unit}
-use Rattle.sched_model.specs.Credit2.{burn_cur, reset, take_budget, change_domain, set_running, switch_off, refilled}
+use Rattle.sched_model.specs.Credit2.{burn_cur, reset, take_budget, change_domain, set_running, switch_off, refilled_pool}
 use Rattle.sched_laws.proofs.Lists.{AllByRecursion-filter, AllByRecursion-push}
 use Rattle.sched_laws.proofs.Choices.{same_unit_same}
 use Rattle.sched_ranges.proofs.Decided.{IsCur, r_burn_cur, r_reset, r_take, r_refilled, r_switch_off, r_set_running, unit_rec}
 use Rattle.sched_ranges.specs.Budgets.{AllRunOnly}
 use Rattle.sched_ops.specs.Conditions.{IsApart}
 use Rattle.arrival_queue.specs.Queues as queues
-use Rattle.arrival_queue.specs.Queues.{Queued, queued, placed, without, closed_up, rank_in}
-use Rattle.runq.specs.Queue.{Queue, removed}
+use Rattle.arrival_queue.specs.Queues.{Queued, queued_unit, list_with, list_without, closed_up, rank_in}
+use Rattle.runq.specs.Queue.{Queue, after_remove}
 use Rattle.queue_laws.specs.Arrivals.{arrivals}
 use Rattle.queue_laws.proofs.Once.{keys_placed, keys_removed}
 use Rattle.credit2_core.specs.Keys.{HasCredits, key_in}
@@ -65,8 +65,8 @@ module _ (affinity : List (Option (List Cores))) where
   pub line_reset : (t k : ℕ) (records : Credit2Records) (es ds : List Queued) → arrivals ds ≡ arrivals es → HasCredits (reset t k records) ds → IsLineOf affinity records es → IsLineOf affinity (reset t k records) ds
   line_reset t k records es ds order keys line = line_rekeyed records (reset t k records) es ds order keys (r_reset t (IsElsewhere (arrivals es)) k records line.off) line
 
-  pub line_refilled : (t d : ℕ) (records : Credit2Records) (es : List Queued) → IsLineOf affinity records es → IsLineOf affinity (refilled t d records) es
-  line_refilled t d records es line = line_records records (refilled t d records) es (idle_refilled t d records) (r_refilled t (IsElsewhere (arrivals es)) d records line.off) line
+  pub line_refilled : (t d : ℕ) (records : Credit2Records) (es : List Queued) → IsLineOf affinity records es → IsLineOf affinity (refilled_pool t d records) es
+  line_refilled t d records es line = line_records records (refilled_pool t d records) es (idle_refilled t d records) (r_refilled t (IsElsewhere (arrivals es)) d records line.off) line
 
   -- one that waited waits no more
   pub record IsLeft (records : Credit2Records) (u : UnitId) (old new : Queue) : Type 0 where
@@ -74,10 +74,10 @@ module _ (affinity : List (Option (List Cores))) where
     pub line : IsLineOf affinity records new.units
     pub room : IsSameRoom old new
 
-  gone : (records : Credit2Records) (u : UnitId) (old : Queue) → IsOrdered old.units → u.n < 256 → queues.has_unit u old.units ≡ true → IsLineOf affinity records old.units → IsLeft records u old (removed old u)
+  gone : (records : Credit2Records) (u : UnitId) (old : Queue) → IsOrdered old.units → u.n < 256 → queues.has_unit u old.units ≡ true → IsLineOf affinity records old.units → IsLeft records u old (after_remove old u)
   gone records u old ordered low there line =
       let es : List Queued = old.units in
-      let ds : List Queued = map (closed_up (rank_in u es)) (without u es) in
+      let ds : List Queued = map (closed_up (rank_in u es)) (list_without u es) in
       let order : arrivals ds ≡ without_unit u (arrivals es) = removed_arrivals u es ordered low line.indices there in
       record {
         order = order;
@@ -103,11 +103,11 @@ module _ (affinity : List (Option (List Cores))) where
           rest : same_unit u w ≡ false → has_unit units u ≡ true
           rest is = rw is at has
 
-      shorter : length (map (closed_up (rank_in u old.units)) (without u old.units)) + 1 ≡ length old.units
+      shorter : length (map (closed_up (rank_in u old.units)) (list_without u old.units)) + 1 ≡ length old.units
       shorter =
           let order = removed_arrivals u old.units ordered low line.indices there in
           let one = times_one (arrivals old.units) line.apart (sym (has_arrived u old.units low line.indices) ∙ there) in
-          let a = length-arrivals (map (closed_up (rank_in u old.units)) (without u old.units)) in
+          let a = length-arrivals (map (closed_up (rank_in u old.units)) (list_without u old.units)) in
           let b = length-arrivals old.units in
           let c = ap length order in
           omega (arith, one, a, b, c)
@@ -119,14 +119,14 @@ module _ (affinity : List (Option (List Cores))) where
     room = record { room = refl };
   }
 
-  pub line_left : (records : Credit2Records) (u : UnitId) (old new : Queue) (waited : Bool) → IsOrdered old.units → u.n < 256 → waited ≡ queues.has_unit u old.units → OnTrue waited (new ≡ removed old u) → OnFalse waited (new ≡ old) → IsLineOf affinity records old.units → IsLeft records u old new
+  pub line_left : (records : Credit2Records) (u : UnitId) (old new : Queue) (waited : Bool) → IsOrdered old.units → u.n < 256 → waited ≡ queues.has_unit u old.units → OnTrue waited (new ≡ after_remove old u) → OnFalse waited (new ≡ old) → IsLineOf affinity records old.units → IsLeft records u old new
   line_left records u old new true ordered low answer when else line = subst (IsLeft records u old) (sym when) (gone records u old ordered low (sym answer) line)
   line_left records u old new false ordered low answer when else line = subst (IsLeft records u old) (sym else) (kept records u old low (sym answer) line)
 
   -- one more waits
-  pub line_pushed : (records : Credit2Records) (u : UnitId) (es : List Queued) → IsOrdered es → u.n < 256 → has_unit (arrivals es) u ≡ false → has_joined affinity u ≡ true → IsOff records u → IsLineOf affinity records es → IsLineOf affinity records (placed (queued u (key_in records u) (length es)) es)
+  pub line_pushed : (records : Credit2Records) (u : UnitId) (es : List Queued) → IsOrdered es → u.n < 256 → has_unit (arrivals es) u ≡ false → has_joined affinity u ≡ true → IsOff records u → IsLineOf affinity records es → IsLineOf affinity records (list_with (queued_unit u (key_in records u) (length es)) es)
   line_pushed records u es ordered low absent joined off line =
-      let order : arrivals (placed (queued u (key_in records u) (length es)) es) ≡ arrivals es ++ u ∷ [] = placed_arrivals u (key_in records u) es ordered in
+      let order : arrivals (list_with (queued_unit u (key_in records u) (length es)) es) ≡ arrivals es ++ u ∷ [] = placed_arrivals u (key_in records u) es ordered in
       record {
         apart = subst IsApart (sym order) (apart_push u (arrivals es) line.apart absent);
         joined = subst (λ (units : List UnitId). AllByRecursion (λ w. has_joined affinity w ≡ true) units) (sym order) (AllByRecursion-push (λ w. has_joined affinity w ≡ true) (arrivals es) u line.joined joined);

@@ -8,18 +8,17 @@ use Rattle.sched_laws.proofs.Bools.{or_left, or_right, or_more, either}
 use Rattle.sched_laws.proofs.Choices.{same_unit_same}
 use Rattle.sched_laws.proofs.Counts.{same_unit_refl}
 use Rattle.sched_ops.specs.Conditions.{IsApart}
-use Rattle.arrival_queue.specs.Queues.{Queued, put_first, placed, without, is_of, closed_up}
-use Rattle.queue_laws.specs.Arrivals.{arrived, arrivals}
-
--- one of two tests fails
-neither : (a b : Bool) → a ≡ false → b ≡ false → (a || b) ≡ false
-neither false false x y = refl
-neither true b x y = absurd cc
-neither false true x y = absurd cc
+use Rattle.arrival_queue.specs.Queues.{Queued, put_first, list_with, list_without, is_of, closed_up}
+use Rattle.queue_laws.specs.Arrivals.{arrival_order, arrivals}
+use Rattle.queue_laws.proofs.Once.{each_closed}
+use Rattle.queue_laws.proofs.Removed.{each_without}
+use Rattle.queue_laws.proofs.Arrivals.{each_arrived}
+use Rattle.std.proofs.Math.Bool.{or-true}
+use Rattle.std.proofs.lemmas.Bool.{or_from}
 
 pub has_unit-push : (w u : UnitId) (units : List UnitId) → has_unit units w ≡ false → same_unit w u ≡ false → has_unit (units ++ u ∷ []) w ≡ false
-has_unit-push w u [] absent other = neither (same_unit w u) false other refl
-has_unit-push w u (x ∷ units) absent other = neither (same_unit w x) (has_unit (units ++ u ∷ []) w) (or_left _ _ absent) (has_unit-push w u units (or_right (same_unit w x) _ absent) other)
+has_unit-push w u [] absent other = or_from (same_unit w u) false other refl
+has_unit-push w u (x ∷ units) absent other = or_from (same_unit w x) (has_unit (units ++ u ∷ []) w) (or_left _ _ absent) (has_unit-push w u units (or_right (same_unit w x) _ absent) other)
 
 pub same_unit-swap : (u w : UnitId) → same_unit u w ≡ false → same_unit w u ≡ false
 same_unit-swap u w other = elim (either (same_unit w u)) [
@@ -38,7 +37,7 @@ pub has_unit-without : (w u : UnitId) (units : List UnitId) → has_unit units w
 has_unit-without w u [] absent = refl
 has_unit-without w u (x ∷ units) absent =
     elim (not (same_unit u x)) as (λ b. has_unit (cond b (x ∷ without_unit u units) (without_unit u units)) w ≡ false) [
-      | true ↦ neither (same_unit w x) (has_unit (without_unit u units) w) (or_left _ _ absent) (has_unit-without w u units (or_right (same_unit w x) _ absent))
+      | true ↦ or_from (same_unit w x) (has_unit (without_unit u units) w) (or_left _ _ absent) (has_unit-without w u units (or_right (same_unit w x) _ absent))
       | false ↦ has_unit-without w u units (or_right (same_unit w x) _ absent)
     ]
 
@@ -47,7 +46,7 @@ gone_without u [] = refl
 gone_without u (x ∷ units) =
     elim (same_unit u x) as (λ b. same_unit u x ≡ b → has_unit (cond (not b) (x ∷ without_unit u units) (without_unit u units)) u ≡ false) [
       | true ↦ λ is. gone_without u units
-      | false ↦ λ is. neither (same_unit u x) (has_unit (without_unit u units) u) is (gone_without u units)
+      | false ↦ λ is. or_from (same_unit u x) (has_unit (without_unit u units) u) is (gone_without u units)
     ] refl
 
 pub apart_without : (u : UnitId) (units : List UnitId) → IsApart units → IsApart (without_unit u units)
@@ -81,34 +80,16 @@ put-All P t x (y ∷ xs) all =
       | false ↦ λ a. (let r = put-All P t x xs a.1 in (r.0, (a.0, r.1)))
     ] all
 
-pub All-gone : (P : Queued → Type 0) (u : UnitId) (es : List Queued) → AllByRecursion P es → AllByRecursion P (without u es)
-All-gone P u [] all = tt
-All-gone P u (e ∷ es) all =
-    elim (is_of u e) as (λ b. AllByRecursion P (if b then without u es else e ∷ without u es)) [
-      | true ↦ All-gone P u es all.1
-      | false ↦ (all.0, All-gone P u es all.1)
-    ]
-
--- the same where ranks change, of a property that does not speak of them
-pub All-closed : (P : Queued → Type 0) (r : ℕ) (es : List Queued) → ((e : Queued) → P e → P (closed_up r e)) → AllByRecursion P es → AllByRecursion P (map (closed_up r) es)
-All-closed P r [] keeps all = tt
-All-closed P r (e ∷ es) keeps all = (keeps e all.0, All-closed P r es keeps all.1)
-
--- what holds of each unit that waits, by the queue and by the order of arrival
-All-arrived : (P : Queued → Type 0) (es : List Queued) → AllByRecursion P es → AllByRecursion P (arrived es)
-All-arrived P [] all = tt
-All-arrived P (e ∷ es) all = All-put P (λ x. nat_lt e.rank x.rank) e (arrived es) all.0 (All-arrived P es all.1)
-
-arrived-All : (P : Queued → Type 0) (es : List Queued) → AllByRecursion P (arrived es) → AllByRecursion P es
+arrived-All : (P : Queued → Type 0) (es : List Queued) → AllByRecursion P (arrival_order es) → AllByRecursion P es
 arrived-All P [] all = tt
-arrived-All P (e ∷ es) all = (let r = put-All P (λ x. nat_lt e.rank x.rank) e (arrived es) all in (r.0, arrived-All P es r.1))
+arrived-All P (e ∷ es) all = (let r = put-All P (λ x. nat_lt e.rank x.rank) e (arrival_order es) all in (r.0, arrived-All P es r.1))
 
 map-All : (P : UnitId → Type 0) (es : List Queued) → AllByRecursion P (map (λ e. e.unit) es) → AllByRecursion (λ (e : Queued). P e.unit) es
 map-All P [] all = tt
 map-All P (e ∷ es) all = (all.0, map-All P es all.1)
 
 pub queued_have : (P : UnitId → Type 0) (es : List Queued) → AllByRecursion P (arrivals es) → AllByRecursion (λ (e : Queued). P e.unit) es
-queued_have P es all = arrived-All (λ e. P e.unit) es (map-All P (arrived es) all)
+queued_have P es all = arrived-All (λ e. P e.unit) es (map-All P (arrival_order es) all)
 
 length-put : {X : Type 0} (t : X → Bool) (x : X) (xs : List X) → length (put_first t x xs) ≡ length xs + 1
 length-put t x [] = refl
@@ -118,18 +99,18 @@ length-put t x (y ∷ xs) =
       | false ↦ (let r = length-put t x xs in omega (arith, r))
     ]
 
-length-arrived : (es : List Queued) → length (arrived es) ≡ length es
+length-arrived : (es : List Queued) → length (arrival_order es) ≡ length es
 length-arrived [] = refl
-length-arrived (e ∷ es) = (let r = length-put (λ (x : Queued). nat_lt e.rank x.rank) e (arrived es) in let q = length-arrived es in omega (arith, r, q))
+length-arrived (e ∷ es) = (let r = length-put (λ (x : Queued). nat_lt e.rank x.rank) e (arrival_order es) in let q = length-arrived es in omega (arith, r, q))
 
 length-units : (es : List Queued) → length (map (λ (e : Queued). e.unit) es) ≡ length es
 length-units [] = refl
 length-units (e ∷ es) = (let r = length-units es in omega (arith, r))
 
 pub length-arrivals : (es : List Queued) → length (arrivals es) ≡ length es
-length-arrivals es = length-units (arrived es) ∙ length-arrived es
+length-arrivals es = length-units (arrival_order es) ∙ length-arrived es
 
-pub length-placed : (e : Queued) (es : List Queued) → length (placed e es) ≡ length es + 1
+pub length-placed : (e : Queued) (es : List Queued) → length (list_with e es) ≡ length es + 1
 length-placed e es = length-put _ e es
 
 -- what holds of whatever is in the list holds of each
@@ -137,9 +118,5 @@ pub each_has : (units : List UnitId) (P : UnitId → Type 0) → ((u : UnitId) �
 each_has [] P has = tt
 each_has (u ∷ units) P has = (has u (or_more (same_unit u u) (has_unit units u) (same_unit_refl u)), each_has units P (λ w there. has w (later w there)))
   where
-    or_true : (b : Bool) → (b || true) ≡ true
-    or_true true = refl
-    or_true false = refl
-
     later : (w : UnitId) → has_unit units w ≡ true → has_unit (u ∷ units) w ≡ true
-    later w there = rw there (or_true (same_unit w u))
+    later w there = rw there (or-true (same_unit w u))

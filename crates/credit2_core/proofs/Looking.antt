@@ -21,6 +21,7 @@ use Rattle.credit2_core.specs.Whole.{IsReadyIn}
 use Rattle.credit2_core.proofs.Choosing.{some_passes, better_passes}
 use Rattle.credit2_core.proofs.Kept.{free_allows}
 use Rattle.credit2_core.proofs.Waiting.{IsOrdered, first_greatest, first_of_none}
+use Rattle.std.proofs.Math.Bool.{and-false}
 
 -- no unit is ready, and each may be on every core
 pub record IsQuiet (h : Held) (ready : Ready) : Type 0 where
@@ -51,10 +52,6 @@ module _ (h : Held) (ready : Ready) (quiet : IsQuiet h ready) where
   pub none_wanted : (cores : List (Option Resource)) (t home r : ℕ) → length cores ≤ 64 → EachPlace (MayAsk t (scheduler_in h)) cores → is_wanted t home (scheduler_in h) r (at_place cores r) ≡ false
   none_wanted cores t home r few asks = by_place (at_place cores r) refl
     where
-      and-false : (b : Bool) → (b && false) ≡ false
-      and-false true = refl
-      and-false false = refl
-
       by_place : (o : Option Resource) → at_place cores r ≡ o → is_wanted t home (scheduler_in h) r o ≡ false
       by_place None is = refl
       by_place (Some c) is =

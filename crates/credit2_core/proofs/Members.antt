@@ -17,7 +17,7 @@ use Rattle.sched_ranges.proofs.Decided.{unit_rec}
 use Rattle.sched_ranges.specs.Budgets.{AllRunOnly}
 use Rattle.credit2_core.specs.Places.{set_counts, unit_counts, count_at, has_joined}
 use Rattle.credit2_core.specs.Held.{InRange}
-use Rattle.credit2_core.proofs.Rooms.{less_true}
+use Rattle.std.proofs.lemmas.Bool.{ltb-true}
 
 -- how many units there are at a place, by either table
 pub counts_at : (affinity : List (Option (List Cores))) (domains : List (Option Credit2Domain)) (i : ℕ) → set_counts affinity ≡ unit_counts domains
@@ -44,7 +44,7 @@ pub joined_record : (affinity : List (Option (List Cores))) (domains : List (Opt
 joined_record affinity domains u same joined = by_place (at_place domains u.dom.0) refl
   where
     inside : u.n < count_at affinity u.dom.0
-    inside = less_true u.n (count_at affinity u.dom.0) joined
+    inside = ltb-true u.n (count_at affinity u.dom.0) joined
 
     none_there : (o : Option (List Cores)) → option_map length o ≡ None → elim o as (λ _. ℕ) [ None ↦ 0 | Some sets ↦ length sets ] ≡ 0
     none_there None e = refl
@@ -71,11 +71,6 @@ joined_place t records affinity u range same joined =
     let below = place_below records.domains u.dom.0 r.0 r.1 in
     let few = range.few in
     placed u (omega (arith, below, few)) (joined_small t records affinity u range same joined)
-
-pub all_small : (t : ℕ) (records : Credit2Records) (affinity : List (Option (List Cores))) (units : List UnitId) → InRange t records → set_counts affinity ≡ unit_counts records.domains → AllByRecursion (λ u. has_joined affinity u ≡ true) units
-    → AllByRecursion (λ (u : UnitId). u.n < 256) units
-all_small t records affinity [] range same joined = tt
-all_small t records affinity (u ∷ units) range same joined = ((let l = joined_small t records affinity u range same joined.0 in omega (arith, l)), all_small t records affinity units range same joined.1)
 
 -- the record of a unit, and its domain
 pub record_of : (records : Credit2Records) (u : UnitId) (y : Credit2Unit) → unit_rec records u ≡ Some y → (x : Credit2Domain) × (at_place records.domains u.dom.0 ≡ Some x) × (slice_get x.units u.n ≡ Some y)

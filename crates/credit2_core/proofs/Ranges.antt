@@ -12,7 +12,7 @@ use Rattle.sched_model.specs.declared.state.Credit2Records.{Credit2Records}
 use Rattle.sched_model.specs.declared.state.Scheduler.{Scheduler}
 use Rattle.sched_model.specs.Places.{at_place, put_at, clear_at}
 use Rattle.sched_model.specs.Checked.{IsWithin}
-use Rattle.sched_model.specs.Credit2.{burn_cur, switch_off, set_domain, refilled, fresh_domain, domain_has_budget}
+use Rattle.sched_model.specs.Credit2.{burn_cur, switch_off, set_domain, refilled_pool, fresh_domain, domain_has_budget}
 use Rattle.sched_laws.proofs.EachPlace.{EachPlace-put_at, EachPlace-clear_at, EachAt-put_at, EachAt-clear_at, length_set}
 use Rattle.sched_ranges.specs.Ranges.{Credit2UnitInRange, Credit2InRange}
 use Rattle.sched_ranges.proofs.Credit2.{c_burn_cur, c_reset, c_take, c_switch_off, c_set_running, c_fresh, c_set_domain, c_later}
@@ -27,7 +27,7 @@ use Rattle.sched_model.specs.State.{has_come}
 use Rattle.sched_model.specs.Policy.{next_refill}
 use Rattle.sched_model.specs.declared.state.Records.TheVariants.{Credit2Pool}
 use Rattle.plain_units.specs.Fits as plain
-use Rattle.credit2_core.specs.Choice.{ran}
+use Rattle.credit2_core.specs.Choice.{records_after_run}
 use Rattle.credit2_core.specs.Held.{InRange}
 
 -- a domain has 32 units at most
@@ -72,9 +72,9 @@ ranged t n records few credits budgets = record {
   budgets = budgets;
 }
 
-pub range_refilled : (t d : ℕ) (records : Credit2Records) → has_come t (next_refill (Credit2Pool records) d) ≡ true → InRange t records → InRange t (refilled t d records)
+pub range_refilled : (t d : ℕ) (records : Credit2Records) → has_come t (next_refill (Credit2Pool records) d) ≡ true → InRange t records → InRange t (refilled_pool t d records)
 range_refilled t d records come range =
-    ranged t (length records.domains) (refilled t d records) range.few (refill_fits (length records.domains) 0 t (Credit2Pool records) d come range.credits) (s_refilled t Few d records range.budgets)
+    ranged t (length records.domains) (refilled_pool t d records) range.few (refill_fits (length records.domains) 0 t (Credit2Pool records) d come range.credits) (s_refilled t Few d records range.budgets)
 
 pub range_set_domain : (t d : ℕ) (weight percent : Option ℕ) (records : Credit2Records) → IfSome weight (IsWithin 1 65535) → IfSome percent (λ (c : ℕ). c ≤ 6400) → InRange t records → InRange t (set_domain t d weight percent records)
 range_set_domain t d weight percent records weighs caps range =
@@ -100,26 +100,26 @@ range_parted t d records range =
     (EachAt-clear_at (λ e. BudgetFits t (Few e) Nobody Nobody) d records.domains range.budgets)
 
 -- the core idles
-pub range_idle : (ask : Ask) (scheduler : Scheduler) (records : Credit2Records) → InRange ask.at records → InRange ask.at (switch_off ask.cur (burn_cur ask.cur ask.at records))
+pub range_idle : (ask : Ask) (scheduler : Scheduler) (records : Credit2Records) → InRange ask.at.0 records → InRange ask.at.0 (switch_off ask.cur (burn_cur ask.cur ask.at.0 records))
 range_idle ask scheduler records range =
     let n : ℕ = length records.domains in
-    let burned : Credit2Records = burn_cur ask.cur ask.at records in
-    ranged ask.at n (switch_off ask.cur burned) range.few (c_switch_off n ask.at ask.cur burned (c_burn_cur n ask.at ask.cur records range.credits)) (decides_idle ask.at Few ask scheduler records refl range.budgets)
+    let burned : Credit2Records = burn_cur ask.cur ask.at.0 records in
+    ranged ask.at.0 n (switch_off ask.cur burned) range.few (c_switch_off n ask.at.0 ask.cur burned (c_burn_cur n ask.at.0 ask.cur records range.credits)) (decides_idle ask.at.0 Few ask scheduler records refl range.budgets)
 
 -- with another count of units
 recount : (t : ℕ) (C D : ℕ → ℕ → Type 0) (records : Credit2Records) → ((d : ℕ) (x : Credit2Domain) → at_place records.domains d ≡ Some x → C d (length x.units) → D d (length x.units)) → Budgets t C None2 None2 records → Budgets t D None2 None2 records
 recount t C D records same fits d x at = (let here = fits d x at in record { cap = here.cap; count = same d x at here.count; units = here.units; low = here.low; high = here.high })
 
 -- the core runs the unit, which is its own or did not run
-pub range_ran : (ask : Ask) (scheduler : Scheduler) (records : Credit2Records) (u : UnitId) (k : ℕ) → domain_has_budget (burn_cur ask.cur ask.at records) u ≡ true → ((x : Credit2Domain) → at_place records.domains u.dom.0 ≡ Some x → u.n < length x.units)
-    → (ask.cur ≡ Some u) ⊎ ((y : Credit2Unit) → unit_rec records u ≡ Some y → y.burned ≡ None) → InRange ask.at records → InRange ask.at (ran ask.cur ask.at k u (burn_cur ask.cur ask.at records))
+pub range_ran : (ask : Ask) (scheduler : Scheduler) (records : Credit2Records) (u : UnitId) (k : ℕ) → domain_has_budget (burn_cur ask.cur ask.at.0 records) u ≡ true → ((x : Credit2Domain) → at_place records.domains u.dom.0 ≡ Some x → u.n < length x.units)
+    → (ask.cur ≡ Some u) ⊎ ((y : Credit2Unit) → unit_rec records u ≡ Some y → y.burned ≡ None) → InRange ask.at.0 records → InRange ask.at.0 (records_after_run ask.cur ask.at.0 k u (burn_cur ask.cur ask.at.0 records))
 range_ran ask scheduler records u k pays inside off range =
     let n : ℕ = length records.domains in
-    let t : ℕ = ask.at in
+    let t : ℕ = ask.at.0 in
     let burned : Credit2Records = burn_cur ask.cur t records in
     let Inside : ℕ → ℕ → Type 0 = λ d j. (j ≤ 32) × (d ≡ u.dom.0 → u.n < j) in
     let counted : Budgets t Inside None2 None2 records = recount t Few Inside records (λ d x at few. (few, λ same. inside x (subst (λ e. at_place records.domains e ≡ Some x) same at))) range.budgets in
-    let after : Budgets t Inside None2 None2 (ran ask.cur t k u burned) = decides_unit t Inside ask scheduler records refl counted u pays (λ j here. here.1 refl) off k in
-    ranged t n (ran ask.cur t k u burned) range.few
+    let after : Budgets t Inside None2 None2 (records_after_run ask.cur t k u burned) = decides_unit t Inside ask scheduler records refl counted u pays (λ j here. here.1 refl) off k in
+    ranged t n (records_after_run ask.cur t k u burned) range.few
     (c_set_running n t u _ (c_switch_off n t ask.cur _ (c_take n t u _ (c_reset n t k burned (c_burn_cur n t ask.cur records range.credits)))))
-    (recount t Inside Few (ran ask.cur t k u burned) (λ d x at here. here.0) after)
+    (recount t Inside Few (records_after_run ask.cur t k u burned) (λ d x at here. here.0) after)

@@ -2,24 +2,19 @@
 use Rattle.std.proofs.Common.{◌≡◌, ◌<◌, ◌≤◌, ◌+◌, ℕ, zero, suc, Bool, true, false, List, [], ◌∷◌, length, refl, subst, arith, ◌⊎◌, inl, inr}
 use Rattle.std.specs.Prelude.{Option, ◌==◌, ◌&&◌, ◌||◌, if◌then◌else◌, nat_lt}
 use Rattle.std.specs.List.{AllByRecursion}
-use Rattle.std.proofs.lemmas.Bool.{cases_lt}
+use Rattle.std.proofs.lemmas.Bool.{cases_lt, eqb-true, ltb-true}
 use Rattle.sched_base.specs.Units.{number_of}
 use Rattle.sched_base.specs.declared.Cores.{Cores}
 use Rattle.sched_base.specs.declared.UnitId.{UnitId}
 use Rattle.sched_model.specs.declared.state.Credit2Records.{Credit2Records}
 use Rattle.sched_laws.proofs.Bools.{and_left, and_right, one_of, or_left, or_right, is_same}
-use Rattle.arrival_queue.specs.Queues.{Queued, queued, placed, without, is_of, has_unit}
+use Rattle.arrival_queue.specs.Queues.{Queued, queued_unit, list_with, list_without, is_of, has_unit}
 use Rattle.arrival_queue.proofs.Ranks.{less_test, not_less_test}
 use Rattle.queue_laws.specs.Arrivals.{arrivals}
 use Rattle.credit2_core.specs.Keys.{KeysWhere, HasCredits, key_in, is_passed}
 use Rattle.credit2_core.specs.Places.{has_joined, count_at}
 use Rattle.credit2_core.proofs.Lists.{All-put, queued_have}
-
-less_true : (a b : ℕ) → nat_lt a b ≡ true → a < b
-less_true a b is = elim (cases_lt a b) [ inl low ↦ low | inr high ↦ absurd (let e = not_less_test a b high in cc) ]
-
-same_true : (a b : ℕ) → (a == b) ≡ true → a ≡ b
-same_true a b is = grind (arith, is)
+use Rattle.std.proofs.Math.Bool.{or-true}
 
 -- a unit that is passed was passed before, or is the next
 passed_next : (d n : ℕ) (w : UnitId) → is_passed d (n + 1) w ≡ true → (is_passed d n w ≡ true) ⊎ ((w.dom.0 ≡ d) × (w.n ≡ n))
@@ -28,16 +23,12 @@ passed_next d n w is =
       | inl low ↦ inl (rw low refl)
       | inr here ↦ (
           let at : (w.dom.0 == d) ≡ true = and_left (w.dom.0 == d) (nat_lt w.n (n + 1)) here in
-          let before : w.n < n + 1 = less_true w.n (n + 1) (and_right (w.dom.0 == d) (nat_lt w.n (n + 1)) here) in
+          let before : w.n < n + 1 = ltb-true w.n (n + 1) (and_right (w.dom.0 == d) (nat_lt w.n (n + 1)) here) in
           elim (cases_lt w.n n) [
-            | inl less ↦ inl (let e = less_test w.n n less in rw (at, e) (or_true (nat_lt w.dom.0 d)))
-            | inr more ↦ inr (same_true w.dom.0 d at, omega arith)
+            | inl less ↦ inl (let e = less_test w.n n less in rw (at, e) (or-true (nat_lt w.dom.0 d)))
+            | inr more ↦ inr (eqb-true w.dom.0 d at, omega arith)
           ])
     ]
-  where
-    or_true : (b : Bool) → (b || true) ≡ true
-    or_true true = refl
-    or_true false = refl
 
 -- another unit that is passed was passed before
 passed_other : (u : UnitId) (e : Queued) → is_of u e ≡ false → is_passed u.dom.0 (u.n + 1) e.unit ≡ true → is_passed u.dom.0 u.n e.unit ≡ true
@@ -55,16 +46,16 @@ module _ (records : Credit2Records) where
   keys_absent u [] absent keys = tt
   keys_absent u (e ∷ es) absent keys = (λ is. keys.0 (passed_other u e (or_left _ _ absent) is), keys_absent u es (or_right (is_of u e) _ absent) keys.1)
 
-  keys_gone : (u : UnitId) (es : List Queued) → KeysWhere (is_passed u.dom.0 u.n) records es → KeysWhere (is_passed u.dom.0 (u.n + 1)) records (without u es)
+  keys_gone : (u : UnitId) (es : List Queued) → KeysWhere (is_passed u.dom.0 u.n) records es → KeysWhere (is_passed u.dom.0 (u.n + 1)) records (list_without u es)
   keys_gone u [] keys = tt
   keys_gone u (e ∷ es) keys =
-      elim (is_of u e) as (λ b. is_of u e ≡ b → KeysWhere (is_passed u.dom.0 (u.n + 1)) records (if b then without u es else e ∷ without u es)) [
+      elim (is_of u e) as (λ b. is_of u e ≡ b → KeysWhere (is_passed u.dom.0 (u.n + 1)) records (if b then list_without u es else e ∷ list_without u es)) [
         | true ↦ λ is. keys_gone u es keys.1
         | false ↦ λ is. (λ passed. keys.0 (passed_other u e is passed), keys_gone u es keys.1)
       ] refl
 
-  pub keys_moved : (u : UnitId) (r : ℕ) (es : List Queued) → KeysWhere (is_passed u.dom.0 u.n) records es → KeysWhere (is_passed u.dom.0 (u.n + 1)) records (placed (queued u (key_in records u) r) (without u es))
-  keys_moved u r es keys = All-put (λ (e : Queued). is_passed u.dom.0 (u.n + 1) e.unit ≡ true → e.key ≡ key_in records e.unit) _ (queued u (key_in records u) r) (without u es) (λ _. refl) (keys_gone u es keys)
+  pub keys_moved : (u : UnitId) (r : ℕ) (es : List Queued) → KeysWhere (is_passed u.dom.0 u.n) records es → KeysWhere (is_passed u.dom.0 (u.n + 1)) records (list_with (queued_unit u (key_in records u) r) (list_without u es))
+  keys_moved u r es keys = All-put (λ (e : Queued). is_passed u.dom.0 (u.n + 1) e.unit ≡ true → e.key ≡ key_in records e.unit) _ (queued_unit u (key_in records u) r) (list_without u es) (λ _. refl) (keys_gone u es keys)
 
   -- none is passed at first
   pub keys_first : (es : List Queued) → KeysWhere (is_passed 0 0) records es
@@ -73,8 +64,8 @@ module _ (records : Credit2Records) where
     where
       none : (w : UnitId) → is_passed 0 0 w ≡ true → ⊥
       none w is = elim (one_of (nat_lt w.dom.0 0) (w.dom.0 == 0 && nat_lt w.n 0) is) [
-        | inl low ↦ (let l = less_true w.dom.0 0 low in omega (arith, l))
-        | inr here ↦ (let l = less_true w.n 0 (and_right (w.dom.0 == 0) (nat_lt w.n 0) here) in omega (arith, l))
+        | inl low ↦ (let l = ltb-true w.dom.0 0 low in omega (arith, l))
+        | inr here ↦ (let l = ltb-true w.n 0 (and_right (w.dom.0 == 0) (nat_lt w.n 0) here) in omega (arith, l))
       ]
 
   -- all units of the domain are passed: the next domain
@@ -83,21 +74,17 @@ module _ (records : Credit2Records) where
     where
       passed : (w : UnitId) → has_joined affinity w ≡ true → is_passed (d + 1) 0 w ≡ true → is_passed d (count_at affinity d) w ≡ true
       passed w there is = elim (one_of (nat_lt w.dom.0 (d + 1)) (w.dom.0 == d + 1 && nat_lt w.n 0) is) [
-        | inr here ↦ absurd (let l = less_true w.n 0 (and_right (w.dom.0 == d + 1) (nat_lt w.n 0) here) in omega (arith, l))
+        | inr here ↦ absurd (let l = ltb-true w.n 0 (and_right (w.dom.0 == d + 1) (nat_lt w.n 0) here) in omega (arith, l))
         | inl low ↦ elim (cases_lt w.dom.0 d) [
           | inl less ↦ (let e = less_test w.dom.0 d less in rw e refl)
           | inr more ↦ (
-              let l = less_true w.dom.0 (d + 1) low in
+              let l = ltb-true w.dom.0 (d + 1) low in
               let dom : w.dom.0 ≡ d = omega (arith, l, more) in
               let e : (w.dom.0 == d) ≡ true = is_same w.dom.0 d dom in
               let n : nat_lt w.n (count_at affinity d) ≡ true = subst (λ k. nat_lt w.n (count_at affinity k) ≡ true) dom there in
-              rw (e, n) (or_true (nat_lt w.dom.0 d)))
+              rw (e, n) (or-true (nat_lt w.dom.0 d)))
         ]
       ]
-        where
-          or_true : (b : Bool) → (b || true) ≡ true
-          or_true true = refl
-          or_true false = refl
 
       each : (xs : List Queued) → AllByRecursion (λ (e : Queued). has_joined affinity e.unit ≡ true) xs → KeysWhere (is_passed d (count_at affinity d)) records xs → KeysWhere (is_passed (d + 1) 0) records xs
       each [] there keys = tt
@@ -115,7 +102,7 @@ module _ (records : Credit2Records) where
       inside : (w : UnitId) → has_joined affinity w ≡ true → is_passed (length affinity) 0 w ≡ true
       inside w there = elim (cases_lt w.dom.0 (length affinity)) [
         | inl low ↦ (let e = less_test w.dom.0 (length affinity) low in rw e refl)
-        | inr high ↦ absurd (let l = less_true w.n (count_at affinity w.dom.0) there in let z = outside affinity w.dom.0 high in omega (arith, l, z))
+        | inr high ↦ absurd (let l = ltb-true w.n (count_at affinity w.dom.0) there in let z = outside affinity w.dom.0 high in omega (arith, l, z))
       ]
 
       each : (xs : List Queued) → AllByRecursion (λ (e : Queued). has_joined affinity e.unit ≡ true) xs → KeysWhere (is_passed (length affinity) 0) records xs → HasCredits records xs

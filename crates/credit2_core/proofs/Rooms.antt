@@ -5,7 +5,7 @@ use Rattle.std.specs.List.{AllByRecursion}
 use Rattle.std.proofs.Math.Decide.{ℕ_discrete}
 use Rattle.std.proofs.lemmas.List.{length-map, replicate-append-replicate}
 use Rattle.std.proofs.Common.{length-append}
-use Rattle.std.proofs.lemmas.Bool.{cases_lt}
+use Rattle.std.proofs.lemmas.Bool.{cases_lt, ltb-true}
 use Rattle.sched_base.specs.Numbers.{domain}
 use Rattle.sched_base.specs.declared.Cores.{Cores}
 use Rattle.sched_base.specs.declared.UnitId.{UnitId}
@@ -17,9 +17,6 @@ use Rattle.sched_ranges.proofs.Queue.{no_longer}
 use Rattle.sched_ops.specs.Conditions.{IsApart}
 use Rattle.arrival_queue.proofs.Ranks.{not_less_test}
 use Rattle.credit2_core.specs.Places.{count_all, count_at, has_joined}
-
-pub less_true : (a b : ℕ) → nat_lt a b ≡ true → a < b
-less_true a b is = elim (cases_lt a b) [ inl low ↦ low | inr high ↦ absurd (let e = not_less_test a b high in cc) ]
 
 times-apart : (u : UnitId) (units : List UnitId) → IsApart units → times u units ≤ 1
 times-apart u [] apart = omega arith
@@ -82,7 +79,7 @@ units_have d (suc k) (Some sets ∷ affinity) u dom inside =
 
 all_there : (affinity : List (Option (List Cores))) (units : List UnitId) → AllByRecursion (λ u. has_joined affinity u ≡ true) units → AllByRecursion (λ u. 1 ≤ times u (units_in 0 affinity)) units
 all_there affinity [] joined = tt
-all_there affinity (u ∷ units) joined = (units_have 0 u.dom.0 affinity u (omega arith) (less_true u.n (count_at affinity u.dom.0) joined.0), all_there affinity units joined.1)
+all_there affinity (u ∷ units) joined = (units_have 0 u.dom.0 affinity u (omega arith) (ltb-true u.n (count_at affinity u.dom.0) joined.0), all_there affinity units joined.1)
 
 pub no_more_wait : (affinity : List (Option (List Cores))) (units : List UnitId) → IsApart units → AllByRecursion (λ u. has_joined affinity u ≡ true) units → length units ≤ count_all affinity
 no_more_wait affinity units apart joined =
@@ -104,7 +101,3 @@ count_all-clear zero (None ∷ affinity) = omega arith
 count_all-clear zero (Some x ∷ affinity) = omega arith
 count_all-clear (suc d) (None ∷ affinity) = count_all-clear d affinity
 count_all-clear (suc d) (Some x ∷ affinity) = (let r = count_all-clear d affinity in omega (arith, r))
-
--- one more of the same
-pub replicate_one_more : {X : Type 0} (n : ℕ) (x : X) → replicate n x ++ x ∷ [] ≡ replicate (n + 1) x
-replicate_one_more n x = replicate-append-replicate n 1 x

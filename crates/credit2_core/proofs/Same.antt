@@ -7,12 +7,12 @@ use Rattle.std.proofs.lemmas.List.{length-map}
 use Rattle.sched_model.specs.declared.state.Credit2Domain.{Credit2Domain}
 use Rattle.sched_model.specs.declared.state.Credit2Records.{Credit2Records}
 use Rattle.sched_model.specs.Places.{at_place, change_at, change_each, change_item}
-use Rattle.sched_model.specs.Credit2.{max_weight, burn_unit, burn_units, change_domain, give_back, burn_cur, reset, take_budget, set_running, switch_off, refill_domain, refilled, set_weight, set_cap, set_domain}
+use Rattle.sched_model.specs.Credit2.{max_weight, burn_unit, burn_units, change_domain, give_back, burn_cur, reset, take_budget, set_running, switch_off, refill_domain, refilled_pool, set_weight, set_cap, set_domain}
 use Rattle.sched_laws.proofs.EachPlace.{by_option, by_cond}
 use Rattle.sched_laws.proofs.Lists.{length_change_item}
 use Rattle.plain_credit2.specs.Bounds.{own_charged, reset_by}
 use Rattle.plain_credit2.proofs.Steps.{burn_cur-own, reset-each}
-use Rattle.credit2_core.specs.Choice.{ran}
+use Rattle.credit2_core.specs.Choice.{records_after_run}
 use Rattle.credit2_core.specs.Places.{unit_counts, refill_of, refills_of}
 
 module _ {X Y : Type 0} (h : Option X → Y) where
@@ -113,14 +113,14 @@ alike_reset t (suc k) records =
 alike_then : (a b c : Credit2Records) → IsAlike a b → IsAlike b c → IsAlike a c
 alike_then a b c one two = record { counts = two.counts ∙ one.counts; refills = two.refills ∙ one.refills }
 
-pub alike_ran : (cur : Option UnitId) (t k : ℕ) (u : UnitId) (records : Credit2Records) → IsAlike records (ran cur t k u records)
+pub alike_ran : (cur : Option UnitId) (t k : ℕ) (u : UnitId) (records : Credit2Records) → IsAlike records (records_after_run cur t k u records)
 alike_ran cur t k u records =
     let begun : Credit2Records = reset t k records in
     let taken : Credit2Records = change_domain u.dom.0 (take_budget u.n) begun in
     let off : Credit2Records = switch_off cur taken in
-    alike_then records off (ran cur t k u records) (alike_then records taken off (alike_then records begun taken (alike_reset t k records) (alike_take u begun)) (alike_switch_off cur taken)) (alike_set_running (Some t) u off)
+    alike_then records off (records_after_run cur t k u records) (alike_then records taken off (alike_then records begun taken (alike_reset t k records) (alike_take u begun)) (alike_switch_off cur taken)) (alike_set_running (Some t) u off)
 
-pub counts_refilled : (t d : ℕ) (records : Credit2Records) → unit_counts (refilled t d records).domains ≡ unit_counts records.domains
+pub counts_refilled : (t d : ℕ) (records : Credit2Records) → unit_counts (refilled_pool t d records).domains ≡ unit_counts records.domains
 counts_refilled t d records = counts_changed d (refill_domain (max_weight records) t) records (λ x. length-map x.units (burn_unit (max_weight records) t x))
 
 pub counts_set_domain : (t d : ℕ) (weight percent : Option ℕ) (records : Credit2Records) → unit_counts (set_domain t d weight percent records).domains ≡ unit_counts records.domains

@@ -17,9 +17,10 @@ use Rattle.arrival_queue.proofs.Ranks.{not_less_test}
 use Rattle.arrival_queue.specs.Filters.{first_that, has_domain, may_run}
 use Rattle.arrival_queue.specs.Queues.{Queued}
 use Rattle.credit2_core.specs.Places.{has_joined}
-use Rattle.credit2_core.specs.Domains.{may_run_at, may_run_bit, AreRunnable, set_of, masked}
+use Rattle.credit2_core.specs.Domains.{may_run_at, may_run_bit, AreRunnable, set_of, masked_cores}
 use Rattle.credit2_core.specs.Choice.{may_take}
 use Rattle.credit2_core.specs.Held.{AreMasks}
+use Rattle.std.proofs.Math.Bool.{and_comm}
 
 -- the lowest bit of a number, and the others
 low_bit : (place : Option Credit2Domain) (r : ℕ) → ((may_run_bit place + 2 * r) % 2 == 1) ≡ may_run_at place
@@ -55,12 +56,6 @@ first_that-same p q [] same = refl
 first_that-same p q (e ∷ es) same =
     ap (λ (b : Bool). if b then Some e.unit else first_that p es) (same e.unit) ∙ ap (λ (o : Option UnitId). if q e.unit then Some e.unit else o) (first_that-same p q es same)
 
-and-swap : (a b : Bool) → (a && b) ≡ (b && a)
-and-swap true true = refl
-and-swap true false = refl
-and-swap false true = refl
-and-swap false false = refl
-
 pub filter-same : {X : Type 0} (p q : X → Bool) (xs : List X) → AllByRecursion (λ x. p x ≡ q x) xs → filter p xs ≡ filter q xs
 filter-same p q [] same = refl
 filter-same p q (x ∷ xs) same =
@@ -72,7 +67,7 @@ pub passes_same : (affinity : List (Option (List Cores))) (masks : List Cores) (
 passes_same affinity masks records set core home u runnable are joined =
     let mask : mask_of masks u ≡ core_set (cores_of affinity u) = are u joined in
     let may : may_run masks (record { 0 = core }) (record { 0 = home }) u ≡ is_allowed_by affinity home core u = ap (λ (m : Cores). sets.is_allowed m.0 core home) mask in
-    ap (λ (b : Bool). b && may_run masks (record { 0 = core }) (record { 0 = home }) u) (runnable.each u.dom.0) ∙ ap (λ (b : Bool). domain_has_budget records u && b) may ∙ and-swap (domain_has_budget records u) (is_allowed_by affinity home core u)
+    ap (λ (b : Bool). b && may_run masks (record { 0 = core }) (record { 0 = home }) u) (runnable.each u.dom.0) ∙ ap (λ (b : Bool). domain_has_budget records u && b) may ∙ and_comm (domain_has_budget records u) (is_allowed_by affinity home core u)
 
 pub passes_each : (affinity : List (Option (List Cores))) (masks : List Cores) (records : Credit2Records) (set core home : ℕ) (units : List UnitId) → AreRunnable records.domains set → AreMasks affinity masks → AllByRecursion (λ u. has_joined affinity u ≡ true) units
     → AllByRecursion (λ u. (has_domain set u.dom.0 && may_run masks (record { 0 = core }) (record { 0 = home }) u) ≡ may_take affinity home core records u) units
@@ -80,7 +75,7 @@ passes_each affinity masks records set core home [] runnable are joined = tt
 passes_each affinity masks records set core home (u ∷ units) runnable are joined = (passes_same affinity masks records set core home u runnable are joined.0, passes_each affinity masks records set core home units runnable are joined.1)
 
 -- the masks, before one is written
-pub masked_none : (masks : List Cores) (d : ℕ) (sets : List Cores) (u : UnitId) → mask_of masks u ≡ masked masks d sets 0 u
+pub masked_none : (masks : List Cores) (d : ℕ) (sets : List Cores) (u : UnitId) → mask_of masks u ≡ masked_cores masks d sets 0 u
 masked_none masks d sets u =
     let e : nat_lt u.n 0 ≡ false = not_less_test u.n 0 (omega arith) in
     elim (u.dom.0 == d) as (λ b. mask_of masks u ≡ (if b && nat_lt u.n 0 then slice_index_or sets u.n (core_set 0) else mask_of masks u)) [ true ↦ rw e refl | false ↦ refl ]

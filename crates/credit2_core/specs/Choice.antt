@@ -8,7 +8,7 @@ use Rattle.sched_model.specs.declared.state.Credit2Records.{Credit2Records}
 use Rattle.sched_model.specs.Places.{at_place}
 use Rattle.plain_credit2.specs.Waiting.{slice_in}
 use Rattle.sched_model.specs.Eligible.{is_allowed_by}
-use Rattle.sched_model.specs.Credit2.{domain_has_budget, greatest, credit_of, max_weight, set_running, switch_off, change_domain, take_budget, reset, is_better}
+use Rattle.sched_model.specs.Credit2.{domain_has_budget, greatest_unit, credit_of, max_weight, set_running, switch_off, change_domain, take_budget, reset, is_better}
 
 -- the unit may be on the core, and its domain's cap lets it run
 abbrev pub may_take : List (Option (List Cores)) → ℕ → ℕ → Credit2Records → UnitId → Bool
@@ -20,7 +20,7 @@ first_ready records es = first_that (domain_has_budget records) es
 
 -- the unit of greatest credit of those that may take the core
 abbrev pub best_of : List UnitId → List (Option (List Cores)) → ℕ → ℕ → Credit2Records → Option UnitId
-best_of queue affinity home core records = greatest records None (filter (may_take affinity home core records) queue)
+best_of queue affinity home core records = greatest_unit records None (filter (may_take affinity home core records) queue)
 
 -- the credit of the unit, or 0 where there is none
 abbrev pub credit_or_0 : Credit2Records → Option UnitId → ℤ
@@ -37,8 +37,8 @@ abbrev pub slice_beside : Credit2Records → UnitId → ℤ → ℕ
 slice_beside records u other = elim (at_place records.domains u.dom.0) [ None ↦ 0 | Some d ↦ slice_in d u.n other (max_weight records) (records.limit * 1000) ]
 
 -- the records where the unit runs from t, after so many resets, in place of the core's own
-abbrev pub ran : Option UnitId → ℕ → ℕ → UnitId → Credit2Records → Credit2Records
-ran cur t resets u records = set_running (Some t) u (switch_off cur (change_domain u.dom.0 (take_budget u.n) (reset t resets records)))
+abbrev pub records_after_run : Option UnitId → ℕ → ℕ → UnitId → Credit2Records → Credit2Records
+records_after_run cur t resets u records = set_running (Some t) u (switch_off cur (change_domain u.dom.0 (take_budget u.n) (reset t resets records)))
 
 -- whether one that waits is better than the core's own unit
 abbrev pub is_better_of : Credit2Records → UnitId → ℕ → ℕ → Option UnitId → Bool

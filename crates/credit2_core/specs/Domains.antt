@@ -32,9 +32,9 @@ abbrev pub AreRunnableBut : ℕ → List (Option Credit2Domain) → ℕ → Type
 AreRunnableBut d domains set = (i : ℕ) → i ≢ d → has_domain set i ≡ may_run_at (at_place domains i)
 
 -- the unit's mask, once those of the first k of the domain's units are written into the table
-abbrev pub masked : List Cores → ℕ → List Cores → ℕ → UnitId → Cores
-masked masks d sets k u = (if u.dom.0 == d && nat_lt u.n k then slice_index_or sets u.n (core_set 0) else mask_of masks u)
+abbrev pub masked_cores : List Cores → ℕ → List Cores → ℕ → UnitId → Cores
+masked_cores masks d sets k u = (if u.dom.0 == d && nat_lt u.n k then slice_index_or sets u.n (core_set 0) else mask_of masks u)
 
 -- the unit's mask, once the domain's are those of its sets of cores
-abbrev pub refreshed : List Cores → List (Option (List Cores)) → ℕ → UnitId → Cores
-refreshed masks affinity d u = elim (at_place affinity d) [ None ↦ mask_of masks u | Some sets ↦ masked masks d sets (length sets) u ]
+abbrev pub refreshed_cores : List Cores → List (Option (List Cores)) → ℕ → UnitId → Cores
+refreshed_cores masks affinity d u = elim (at_place affinity d) [ None ↦ mask_of masks u | Some sets ↦ masked_cores masks d sets (length sets) u ]

@@ -6,4 +6,3 @@ pub mod Timing
 pub mod Held
 pub mod Room
 pub mod Whole
-pub mod Driven

@@ -6,7 +6,7 @@ use Rattle.sched_model.specs.declared.state.Credit2Records.{Credit2Records}
 use Rattle.sched_model.specs.Credit2.{max_weight}
 use Rattle.arrival_queue.specs.Filters.{first_that, has_domain}
 use Rattle.arrival_queue.specs.Queues.{Queued}
-use Rattle.sched_ops.specs.Seen.{Seen, vacant}
+use Rattle.sched_ops.specs.Seen.{Seen, vacant_scheduler}
 use Rattle.credit2_core.specs.declared.held.Held.{Held}
 use Rattle.credit2_core.specs.declared.line.Ready.{Ready}
 use Rattle.credit2_core.specs.Choice.{first_ready}
@@ -14,12 +14,12 @@ use Rattle.credit2_core.specs.Domains.{AreRunnable, AreRunnableBut}
 use Rattle.credit2_core.specs.Held.{IsHeld, seen_in}
 
 -- a pool with this rate limit, without places for domains
-abbrev pub bare : ℕ → ℕ → Seen
-bare limit latest = record { scheduler = vacant (pool_params.Credit2 limit) 0 0; spare = 0; latest = latest }
+abbrev pub bare_pool : ℕ → ℕ → Seen
+bare_pool limit latest = record { scheduler = vacant_scheduler (pool_params.Credit2 limit) 0 0; spare = 0; latest = latest }
 
 -- what callers see of what is kept; without memory a rate limit and the greatest moment given
 abbrev pub seen_by : Option Held → ℕ → ℕ → Seen
-seen_by None limit early = bare limit early
+seen_by None limit early = bare_pool limit early
 seen_by (Some h) limit early = seen_in h
 
 -- what is kept, where there is any, holds

@@ -1,5 +1,6 @@
 //! Which unit a core is to run. Moments are in nanoseconds.
 
+ghost use Rattle.sched_model.specs.Checked.{most_span};
 ghost use Rattle.std.specs.Prelude.{◌≡◌, ◌≤◌, ◌<◌, ◌+◌, ℕ, Bool, false, length};
 ghost use Rattle.sched_base.specs.declared.UnitId.{UnitId as Unit};
 ghost use Rattle.arrival_queue.specs.Filters.{first_that};
@@ -18,13 +19,13 @@ use crate::line::{Ready, best_ready, may_be_on, rekey_all, richer};
 use plain_credit2::choice::{domain_has_budget, is_within_limit};
 use plain_credit2::running::{burned_credit_by, credit_of, reset};
 use plain_units::eligible::is_allowed;
-use sched_base::UnitId;
+use sched_base::{Cores, Moment, ResId, UnitId};
 use sched_model::ask::Ask;
 use sched_model::state::Credit2Records;
 
 /// The core's own unit, where it may go on.
 fn own_candidate(held: &Held, ask: &Ask) -> Option<UnitId>
-    requires { ask.now.core < 64 }
+    requires { ask.now.core.0 < 64 }
     ensures { result ≡ own_candidate_spec ask.now (scheduler_in held.now) held.now.records }
 {
     let u = ask.cur?;
@@ -42,7 +43,7 @@ fn own_candidate(held: &Held, ask: &Ask) -> Option<UnitId>
 pub fn choice(held: &Held, ready: &Ready, ask: &Ask) -> Option<UnitId>
     requires ready { IsReadyIn held.now ready.now }
     requires free { IsFree held.now.unpinned held.now.affinity }
-    requires core { ask.now.core < 64 }
+    requires core { ask.now.core.0 < 64 }
     requires line { IsLine held.now }
     requires masks { AreMasks held.now.affinity held.now.masks }
     ensures { result ≡ choice_spec ask.now (scheduler_in held.now) held.now.records }
@@ -67,7 +68,8 @@ pub fn leave(held: &mut Held, u: UnitId)
     ensures order { arrivals held.new.queue.units ≡ without_unit u (arrivals held.old.queue.units) }
     ensures line { IsLine held.new }
     ensures room { IsSameRoom held.old.queue held.new.queue }
-    ensures first { (p : Unit → Bool) → is_unit (first_that p held.old.queue.units) u ≡ false → first_that p held.new.queue.units ≡ first_that p held.old.queue.units }
+    ensures first { (p : Unit → Bool) → is_unit (first_that p held.old.queue.units) u ≡ false →
+        first_that p held.new.queue.units ≡ first_that p held.old.queue.units }
     ensures rest { held.new ≡ record held.old { queue = held.new.queue } }
 {
     held.queue.law_order();
@@ -75,18 +77,19 @@ pub fn leave(held: &mut Held, u: UnitId)
 }
 
 /// The pool after m resets at t. The keys of the units that wait follow their credits.
-pub fn reset_pool(held: &mut Held, t: u64, m: u64)
-    requires early { t ≤ 10000000000000 }
+pub fn reset_pool(held: &mut Held, t: Moment, m: u64)
+    requires early { t.0 ≤ most_span }
     requires few { m ≤ 1000000000000 }
-    requires fits { PoolFits t held.old.records }
+    requires fits { PoolFits t.0 held.old.records }
     requires places { length held.old.affinity ≤ 64 }
     requires line { IsLine held.old }
-    ensures records { held.new.records ≡ reset_spec t m held.old.records }
+    ensures records { held.new.records ≡ reset_spec t.0 m held.old.records }
     ensures order { arrivals held.new.queue.units ≡ arrivals held.old.queue.units }
     ensures line { IsLine held.new }
     ensures room { IsSameRoom held.old.queue held.new.queue }
     ensures none { m ≡ 0 → held.new ≡ held.old }
-    ensures rest { held.new ≡ record held.old { records = held.new.records; queue = held.new.queue } }
+    ensures rest { held.new ≡ record held.old
+        { records = held.new.records; queue = held.new.queue } }
 {
     if m == 0 {
         return;
@@ -99,10 +102,12 @@ pub fn reset_pool(held: &mut Held, t: u64, m: u64)
 pub fn other_credit(held: &Held, ready: &Ready, ask: &Ask) -> i64
     requires ready { IsReadyIn held.now ready.now }
     requires free { IsFree held.now.unpinned held.now.affinity }
-    requires core { ask.now.core < 64 }
+    requires core { ask.now.core.0 < 64 }
     requires line { IsLine held.now }
     requires masks { AreMasks held.now.affinity held.now.masks }
-    ensures { result ≡ credit_or_0 held.now.records (best_of (arrivals held.now.queue.units) held.now.affinity ask.now.home ask.now.core held.now.records) }
+    ensures { result ≡ credit_or_0 held.now.records
+        (best_of (arrivals held.now.queue.units) held.now.affinity ask.now.home.0 ask.now.core.0
+        held.now.records) }
 {
     match best_ready(held, ready, ask.core, ask.home) {
         None => 0,
@@ -112,11 +117,12 @@ pub fn other_credit(held: &Held, ready: &Ready, ask: &Ask) -> i64
 
 /// Whether one that waits is better than the core's own unit at t, once that has run for the rate limit. The greatest weight of the
 /// pool is most.
-fn better_than(held: &Held, most: u32, own: UnitId, t: u64, waiting: Option<UnitId>) -> bool
+fn better_than(held: &Held, most: u32, own: UnitId, t: Moment, waiting: Option<UnitId>) -> bool
     requires held { IsHeld held.now }
     requires most { most ≡ max_weight held.now.records }
-    requires now { IsNow (seen_in held.now) t }
-    ensures { (since : ℕ) → is_within_limit_spec held.now.records since t ≡ false → result ≡ is_better_of held.now.records own since t waiting }
+    requires now { IsNow (seen_in held.now) t.0 }
+    ensures { (since : ℕ) → is_within_limit_spec held.now.records since t.0 ≡ false → result
+        ≡ is_better_of held.now.records own since t.0 waiting }
 {
     match waiting {
         None => false,
@@ -130,16 +136,17 @@ fn one_is_better(
     held: &Held,
     ready: &Ready,
     own: UnitId,
-    since: u64,
-    t: u64,
-    core: u8,
-    home: u64,
+    since: Moment,
+    t: Moment,
+    core: ResId,
+    home: Cores,
 ) -> bool
     requires held { IsHeld held.now }
-    requires now { IsNow (seen_in held.now) t }
+    requires now { IsNow (seen_in held.now) t.0 }
     requires ready { IsReadyIn held.now ready.now }
-    requires core { core < 64 }
-    ensures { result ≡ is_better_of held.now.records own since t (best_of (arrivals held.now.queue.units) held.now.affinity home core held.now.records) }
+    requires core { core.0 < 64 }
+    ensures { result ≡ is_better_of held.now.records own since.0 t.0
+        (best_of (arrivals held.now.queue.units) held.now.affinity home.0 core.0 held.now.records) }
 {
     if is_within_limit(&held.records, since, t) {
         return false;
@@ -157,17 +164,17 @@ pub fn better_waits(
     held: &Held,
     ready: &Ready,
     cur: Option<UnitId>,
-    since: u64,
-    t: u64,
-    core: u8,
-    home: u64,
+    since: Moment,
+    t: Moment,
+    core: ResId,
+    home: Cores,
 ) -> bool
     requires held { IsHeld held.now }
-    requires now { IsNow (seen_in held.now) t }
+    requires now { IsNow (seen_in held.now) t.0 }
     requires ready { IsReadyIn held.now ready.now }
-    requires core { core < 64 }
+    requires core { core.0 < 64 }
     requires own { IsOwnOf (scheduler_in held.now) cur }
-    ensures { result ≡ better_waits_spec cur since t core home (scheduler_in held.now) }
+    ensures { result ≡ better_waits_spec cur since.0 t.0 core.0 home.0 (scheduler_in held.now) }
 {
     match cur {
         None => best_ready(held, ready, core, home).is_some(),

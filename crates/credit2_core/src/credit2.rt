@@ -63,11 +63,11 @@ fn no_event(d: DomId) -> Event {
 
 impl Credit2 {
     ghost use Rattle.std.specs.Prelude.{◌≡◌, ◌≤◌, ◌<◌};
-    ghost use Rattle.credit2_core.specs.Whole.{bare};
+    ghost use Rattle.credit2_core.specs.Whole.{bare_pool};
 
     /// A scheduler without memory, with the rate limit of 1000 microseconds.
     pub fn empty() -> Self
-        ensures { result ≡ bare 1000 0 }
+        ensures { result ≡ bare_pool 1000 0 }
     {
         Credit2 {
             held: None,
@@ -108,38 +108,34 @@ impl Policy for Credit2 {
 
     fn join(&mut self, d: DomId, units: u8, params: &DomParams, t: Moment) {
         if let DomParams::Credit2 { weight, cap } = *params {
-            match &mut self.held {
-                None => {}
-                Some(held) => params::join(held, &mut self.ready, d, units, weight, cap, t.0),
+            if let Some(held) = &mut self.held {
+                params::join(held, &mut self.ready, d, units, weight, cap, t);
             }
         }
     }
 
     fn part(&mut self, d: DomId) {
-        match &mut self.held {
-            None => {}
-            Some(held) => params::part(held, &mut self.ready, d),
+        if let Some(held) = &mut self.held {
+            params::part(held, &mut self.ready, d);
         }
     }
 
     fn enqueue(&mut self, u: UnitId) {
-        match &mut self.held {
-            None => {}
-            Some(held) => small::enqueue(held, &mut self.ready, u),
+        if let Some(held) = &mut self.held {
+            small::enqueue(held, &mut self.ready, u);
         }
     }
 
     fn dequeue(&mut self, u: UnitId) {
-        match &mut self.held {
-            None => {}
-            Some(held) => small::dequeue(held, &mut self.ready, u),
+        if let Some(held) = &mut self.held {
+            small::dequeue(held, &mut self.ready, u);
         }
     }
 
     fn choose(&mut self, ask: &Ask) -> Choice {
         match &mut self.held {
             None => {
-                self.early = ask.at;
+                self.early = ask.at.0;
                 Choice {
                     unit: None,
                     due: None,
@@ -160,7 +156,7 @@ impl Policy for Credit2 {
     fn timer_due(&self, t: Moment) -> Option<(Moment, Timer)> {
         match &self.held {
             None => None,
-            Some(held) => timers::timer_due(held, t.0),
+            Some(held) => timers::timer_due(held, t),
         }
     }
 
@@ -169,7 +165,7 @@ impl Policy for Credit2 {
             Timer::Repl(u) => no_event(u.dom),
             Timer::Refill(d) => match &mut self.held {
                 None => no_event(d),
-                Some(held) => timers::refill(held, &mut self.ready, d, t.0),
+                Some(held) => timers::refill(held, &mut self.ready, d, t),
             },
         }
     }
@@ -182,7 +178,7 @@ impl Policy for Credit2 {
                 }
                 self.early = t.0;
             }
-            Some(held) => params::set_params(held, &mut self.ready, change, t.0),
+            Some(held) => params::set_params(held, &mut self.ready, change, t),
         }
     }
 
@@ -201,9 +197,8 @@ impl Policy for Credit2 {
     }
 
     fn keeps(&self) {
-        match &self.held {
-            None => {}
-            Some(held) => small::keeps(held),
+        if let Some(held) = &self.held {
+            small::keeps(held);
         }
     }
 }

@@ -1,5 +1,6 @@
 //! The decision for a core. Moments are in nanoseconds.
 
+ghost use Rattle.sched_model.specs.Checked.{most_span};
 ghost use Rattle.std.specs.Prelude.{◌≡◌, ◌≤◌, ◌<◌, length, Some, None, true, false};
 ghost use Rattle.queue_laws.specs.Arrivals.{arrivals};
 ghost use Rattle.sched_model.specs.Places.{without_unit, has_unit, is_unit};
@@ -9,7 +10,7 @@ ghost use Rattle.sched_ops.specs.Seen.{Tells, seen_at};
 ghost use Rattle.sched_ops.specs.Conditions.{IsAsked};
 ghost use Rattle.plain_credit2.specs.Bounds.{PoolFits};
 ghost use Rattle.credit2_core.specs.Held.{IsFree, IsHeld, IsLine, IsSameRoom, AreMasks, scheduler_in, seen_in};
-ghost use Rattle.credit2_core.specs.Choice.{ran};
+ghost use Rattle.credit2_core.specs.Choice.{records_after_run};
 ghost use Rattle.credit2_core.specs.Whole.{IsReadyIn};
 
 use crate::choice::{choice, leave, reset_pool};
@@ -28,8 +29,8 @@ fn charge_own(held: &mut Held, ready: &mut Ready, ask: &Ask)
     requires held { IsHeld held.old }
     requires ready { IsReadyIn held.old ready.old }
     requires asked { IsAsked (seen_in held.old) ask.now }
-    ensures records { held.new.records ≡ burn_cur_spec ask.now.cur ask.now.at held.old.records }
-    ensures fits { PoolFits ask.now.at held.new.records }
+    ensures records { held.new.records ≡ burn_cur_spec ask.now.cur ask.now.at.0 held.old.records }
+    ensures fits { PoolFits ask.now.at.0 held.new.records }
     ensures line { IsLine held.new }
     ensures ready { IsReadyIn held.new ready.new }
     ensures rest { held.new ≡ record held.old { records = held.new.records } }
@@ -45,21 +46,22 @@ fn stop_own(held: &mut Held, ask: &Ask)
     requires { IsLine held.old }
     ensures records { held.new.records ≡ switch_off_spec ask.now.cur held.old.records }
     ensures line { IsLine held.new }
-    ensures rest { held.new ≡ record held.old { records = held.new.records; latest = ask.now.at } }
+    ensures rest { held.new ≡ record held.old
+        { records = held.new.records; latest = ask.now.at.0 } }
 {
     switch_off(ask.cur, &mut held.records);
-    held.latest = ask.at;
+    held.latest = ask.at.0;
 }
 
 /// The unit, which does not wait, runs from the moment of the question.
 fn start(held: &mut Held, ask: &Ask, u: UnitId)
     requires line { IsLine held.old }
     requires waits_not { has_unit (arrivals held.old.queue.units) u ≡ false }
-    ensures records { held.new.records ≡ set_running_spec (Some ask.now.at) u held.old.records }
+    ensures records { held.new.records ≡ set_running_spec (Some ask.now.at.0) u held.old.records }
     ensures line { IsLine held.new }
     ensures rest { held.new ≡ record held.old { records = held.new.records } }
 {
-    set_running(Some(ask.at), u, &mut held.records);
+    set_running(Some(ask.at.0), u, &mut held.records);
 }
 
 /// Whether the first unit of those that wait still is it, once the unit waits no more and so many resets were made.
@@ -73,22 +75,25 @@ fn stands(first: Option<UnitId>, u: UnitId, resets: u64) -> bool
 /// The core runs the unit: the resets that it calls for are made, and it takes its budget.
 fn run_unit(held: &mut Held, ready: &mut Ready, ask: &Ask, u: UnitId) -> Choice
     requires ready { IsReadyIn held.old ready.old }
-    requires core { ask.now.core < 64 }
-    requires early { ask.now.at ≤ 10000000000000 }
-    requires fits { PoolFits ask.now.at held.old.records }
+    requires core { ask.now.core.0 < 64 }
+    requires early { ask.now.at.0 ≤ most_span }
+    requires fits { PoolFits ask.now.at.0 held.old.records }
     requires limit { held.old.records.limit ≤ 500000 }
     requires few { length held.old.records.domains ≤ 64 }
     requires places { length held.old.affinity ≤ 64 }
     requires line { IsLine held.old }
     requires masks { AreMasks held.old.affinity held.old.masks }
     requires free { IsFree held.old.unpinned held.old.affinity }
-    ensures tells { Tells result (decide ask.now (scheduler_in held.old) held.old.records (Some u)) }
-    ensures records { held.new.records ≡ ran ask.now.cur ask.now.at (resets_for_spec ask.now.at u held.old.records) u held.old.records }
+    ensures tells { Tells result (decide ask.now (scheduler_in held.old) held.old.records
+        (Some u)) }
+    ensures records { held.new.records ≡ records_after_run ask.now.cur ask.now.at.0
+        (resets_for_spec ask.now.at.0 u held.old.records) u held.old.records }
     ensures order { arrivals held.new.queue.units ≡ without_unit u (arrivals held.old.queue.units) }
     ensures line { IsLine held.new }
     ensures ready { IsReadyIn held.new ready.new }
     ensures room { IsSameRoom held.old.queue held.new.queue }
-    ensures rest { held.new ≡ record held.old { records = held.new.records; queue = held.new.queue; latest = ask.now.at } }
+    ensures rest { held.new ≡ record held.old
+        { records = held.new.records; queue = held.new.queue; latest = ask.now.at.0 } }
 {
     leave(held, u);
     let resets = resets_for(ask.at, u, &held.records);
@@ -99,7 +104,7 @@ fn run_unit(held: &mut Held, ready: &mut Ready, ask: &Ask, u: UnitId) -> Choice
     start(held, ask, u);
     Choice {
         unit: Some(u),
-        due: Some(Moment(ask.at + long)),
+        due: Some(Moment(ask.at.0 + long)),
         reset: resets,
     }
 }
@@ -110,7 +115,8 @@ fn idle(held: &mut Held, ask: &Ask) -> Choice
     ensures tells { Tells result (decide ask.now (scheduler_in held.old) held.old.records None) }
     ensures records { held.new.records ≡ switch_off_spec ask.now.cur held.old.records }
     ensures line { IsLine held.new }
-    ensures rest { held.new ≡ record held.old { records = held.new.records; latest = ask.now.at } }
+    ensures rest { held.new ≡ record held.old
+        { records = held.new.records; latest = ask.now.at.0 } }
 {
     stop_own(held, ask);
     Choice {
@@ -126,7 +132,9 @@ pub fn choose(held: &mut Held, ready: &mut Ready, ask: &Ask) -> Choice
     requires ready { IsReadyIn held.old ready.old }
     requires asked { IsAsked (seen_in held.old) ask.now }
     ensures answer { Tells result (decision_of ask.now (scheduler_in held.old)) }
-    ensures after { seen_in held.new ≡ seen_at ask.now.at (after_decision (decision_of ask.now (scheduler_in held.old)) (scheduler_in held.old)) (seen_in held.old) }
+    ensures after { seen_in held.new ≡ seen_at ask.now.at.0
+        (after_decision (decision_of ask.now (scheduler_in held.old)) (scheduler_in held.old))
+        (seen_in held.old) }
     ensures held { IsHeld held.new }
     ensures ready { IsReadyIn held.new ready.new }
 {

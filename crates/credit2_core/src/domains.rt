@@ -7,7 +7,7 @@ ghost use Rattle.arrival_queue.specs.Filters.{has_domain};
 ghost use Rattle.sched_base.specs.Numbers.{core_set};
 ghost use Rattle.sched_model.specs.Places.{at_place};
 ghost use Rattle.credit2_core.specs.Places.{refill_of, count_at as count_at_spec};
-ghost use Rattle.credit2_core.specs.Domains.{may_run_at, may_run_bit, set_of, masked};
+ghost use Rattle.credit2_core.specs.Domains.{may_run_at, may_run_bit, set_of, masked_cores};
 
 use due_heap::DueHeap;
 use plain_credit2::choice::has_budget;
@@ -41,8 +41,8 @@ pub fn runnable_domains(domains: &[Option<Credit2Domain>]) -> u64
 }
 
 /// Whether the cap lets the domain with this number run.
-pub fn may_run(domains: &[Option<Credit2Domain>], d: u8) -> bool
-    ensures { result ≡ may_run_at (at_place domains.now d) }
+pub fn may_run(domains: &[Option<Credit2Domain>], d: DomId) -> bool
+    ensures { result ≡ may_run_at (at_place domains.now d.0) }
 {
     match domain_at(domains, d) {
         None => false,
@@ -51,14 +51,14 @@ pub fn may_run(domains: &[Option<Credit2Domain>], d: u8) -> bool
 }
 
 /// The set of domains with one domain, or without it. There is no domain from 64 on.
-pub fn with_domain(set: u64, d: u8, is_in: bool) -> u64
-    ensures others { (i : ℕ) → i ≢ d → has_domain result i ≡ has_domain set i }
-    ensures there { has_domain result d ≡ (is_in && nat_lt d 64) }
+pub fn with_domain(set: u64, d: DomId, is_in: bool) -> u64
+    ensures others { (i : ℕ) → i ≢ d.0 → has_domain result i ≡ has_domain set i }
+    ensures there { has_domain result d.0 ≡ (is_in && nat_lt d.0 64) }
 {
-    if d >= 64 {
+    if d.0 >= 64 {
         return set;
     }
-    let bit = 1u64 << d;
+    let bit = 1u64 << d.0;
     if is_in { set | bit } else { set & !bit }
 }
 
@@ -66,7 +66,8 @@ pub fn with_domain(set: u64, d: u8, is_in: bool) -> u64
 pub fn set_masks(masks: &mut Masks, d: DomId, sets: &[Cores])
     requires domain { d.0 < 64 }
     requires few { length sets.now ≤ 32 }
-    ensures { (u : Unit) → u.n < 256 → mask_of masks.new u ≡ masked masks.old d.0 sets.now (length sets.now) u }
+    ensures { (u : Unit) → u.n < 256 → mask_of masks.new u
+        ≡ masked_cores masks.old d.0 sets.now (length sets.now) u }
 {
     for (n, cores) in sets.iter().enumerate() {
         let u = UnitId { dom: d, n: n as u8 };
@@ -75,26 +76,26 @@ pub fn set_masks(masks: &mut Masks, d: DomId, sets: &[Cores])
 }
 
 /// The heap has the moment of the domain's refill, or none where it has no refill.
-pub fn rearm(refills: &mut DueHeap, domains: &[Option<Credit2Domain>], d: u8)
-    requires { d < length refills.old }
-    ensures { refills.new ≡ slice_set refills.old d (refill_of (at_place domains.now d)) }
+pub fn rearm(refills: &mut DueHeap, domains: &[Option<Credit2Domain>], d: DomId)
+    requires { d.0 < length refills.old }
+    ensures { refills.new ≡ slice_set refills.old d.0 (refill_of (at_place domains.now d.0)) }
 {
     let refill = match domain_at(domains, d) {
         None => None,
         Some(domain) => domain.refill,
     };
     match refill {
-        None => refills.disarm(d as u16),
-        Some(at) => refills.arm(d as u16, Moment(at)),
+        None => refills.disarm(d.0 as u16),
+        Some(at) => refills.arm(d.0 as u16, Moment(at)),
     }
 }
 
 /// How many units the domain has.
-pub fn count_at(affinity: &[Option<Pins>], d: u8) -> u8
-    ensures exact { result ≡ count_at_spec affinity.now d }
+pub fn count_at(affinity: &[Option<Pins>], d: DomId) -> u8
+    ensures exact { result ≡ count_at_spec affinity.now d.0 }
     ensures few { result ≤ 32 }
 {
-    let place = d as usize;
+    let place = d.0 as usize;
     if place >= affinity.len() {
         return 0;
     }

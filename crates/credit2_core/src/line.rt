@@ -61,30 +61,31 @@ fn rekey_domain(queue: &mut Runq, records: &Credit2Records, d: DomId, count: u8)
 pub fn rekey_all(queue: &mut Runq, records: &Credit2Records, affinity: &[Option<Pins>])
     requires few { length affinity.now ≤ 64 }
     requires indices { AllByRecursion (λ (w : Unit). w.n < 256) (arrivals queue.old.units) }
-    requires joined { AllByRecursion (λ u. has_joined affinity.now u ≡ true) (arrivals queue.old.units) }
+    requires joined { AllByRecursion (λ u. has_joined affinity.now u ≡ true)
+        (arrivals queue.old.units) }
     ensures keys { HasCredits records.now queue.new.units }
     ensures same { IsSameLine queue.old queue.new }
 {
     for d in 0..affinity.len() {
         let dom = d as u8;
-        let count = count_at(affinity, dom);
+        let count = count_at(affinity, DomId(dom));
         rekey_domain(queue, records, DomId(dom), count);
     }
 }
 
 /// The unit of greatest credit of those that wait and may take the core; among equals the earlier. The set is that of the domains
 /// that may run.
-fn best_waiting(held: &Held, runnable: u64, core: u8, home: u64) -> Option<UnitId>
+fn best_waiting(held: &Held, runnable: u64, core: ResId, home: Cores) -> Option<UnitId>
     requires set { AreRunnable held.now.records.domains runnable }
-    requires core { core < 64 }
+    requires core { core.0 < 64 }
     requires line { IsLine held.now }
     requires masks { AreMasks held.now.affinity held.now.masks }
-    ensures { result ≡ best_of (arrivals held.now.queue.units) held.now.affinity home core held.now.records }
+    ensures { result ≡ best_of (arrivals held.now.queue.units) held.now.affinity home.0 core.0
+        held.now.records }
 {
     held.queue.law_order();
     let allowed = Allowed(runnable);
-    held.queue
-        .first_on(&allowed, &held.masks, ResId(core), Cores(home))
+    held.queue.first_on(&allowed, &held.masks, core, home)
 }
 
 /// What is kept from change to change, so that neither a decision nor a question makes it: the set of the domains that may run, with bit d
@@ -137,8 +138,8 @@ pub fn follow(held: &Held, ready: Ready, d: DomId, stands: bool) -> Ready
     requires but { IsReadyBut d.0 stands held.now.records held.now.queue.units ready }
     ensures { IsReadyIn held.now result }
 {
-    let may = may_run(held.records.domains.as_slice(), d.0);
-    let domains = with_domain(ready.domains, d.0, may);
+    let may = may_run(held.records.domains.as_slice(), d);
+    let domains = with_domain(ready.domains, d, may);
     if stands && keeps_first(ready, d, may) {
         return Ready {
             domains,
@@ -184,23 +185,24 @@ pub fn first_with(records: &Credit2Records, ready: Ready, u: UnitId) -> Option<U
 
 /// Whether a unit that has joined may be on the core. Where none was pinned, each may be on every core.
 #[inline]
-pub fn may_be_on(held: &Held, u: UnitId, core: u8, home: u64) -> bool
+pub fn may_be_on(held: &Held, u: UnitId, core: ResId, home: Cores) -> bool
     requires free { IsFree held.now.unpinned held.now.affinity }
     requires joined { has_joined held.now.affinity u ≡ true }
-    requires core { core < 64 }
-    ensures { result ≡ is_allowed_by held.now.affinity home core u }
+    requires core { core.0 < 64 }
+    ensures { result ≡ is_allowed_by held.now.affinity home.0 core.0 u }
 {
     held.unpinned || is_allowed(held.affinity.as_slice(), home, core, u)
 }
 
 /// As `best_waiting`. Where the first unit of a domain that may run may take the core, no other one is looked for.
-pub fn best_ready(held: &Held, ready: &Ready, core: u8, home: u64) -> Option<UnitId>
+pub fn best_ready(held: &Held, ready: &Ready, core: ResId, home: Cores) -> Option<UnitId>
     requires ready { IsReadyIn held.now ready.now }
     requires free { IsFree held.now.unpinned held.now.affinity }
-    requires core { core < 64 }
+    requires core { core.0 < 64 }
     requires line { IsLine held.now }
     requires masks { AreMasks held.now.affinity held.now.masks }
-    ensures { result ≡ best_of (arrivals held.now.queue.units) held.now.affinity home core held.now.records }
+    ensures { result ≡ best_of (arrivals held.now.queue.units) held.now.affinity home.0 core.0
+        held.now.records }
 {
     held.queue.law_order();
     match ready.first {

@@ -13,7 +13,7 @@ ghost use Rattle.sched_ops.specs.Seen.{Seen, seen_at, units_of};
 ghost use Rattle.sched_ops.specs.Conditions.{IsNow, IsWeight, IsCap, HasNoneBusy, IsChange, has_joined as joined_spec};
 ghost use Rattle.credit2_core.specs.Held.{IsHeld, scheduler_in, seen_in};
 ghost use Rattle.arrival_queue.specs.Filters.{first_that, has_domain};
-ghost use Rattle.credit2_core.specs.Domains.{AreRunnableBut, refreshed};
+ghost use Rattle.credit2_core.specs.Domains.{AreRunnableBut, refreshed_cores};
 ghost use Rattle.credit2_core.specs.Whole.{IsReadyIn};
 
 use crate::domains::{count_at, rearm, set_masks};
@@ -23,14 +23,15 @@ use plain_credit2::credit2;
 use plain_credit2::running::max_weight;
 use plain_policy::params;
 use plain_policy::places::{copies, set_place};
-use sched_base::{Cores, DomId};
+use sched_base::{Cores, DomId, Moment};
 use sched_model::config::{ParamChange, Pins};
 use unit_places::Masks;
 
 /// The table of masks has the sets of cores of the domain's units again.
 fn refresh(masks: &mut Masks, affinity: &[Option<Pins>], d: DomId)
     requires { length affinity.now ≤ 64 }
-    ensures { (u : Unit) → u.n < 256 → mask_of masks.new u ≡ refreshed masks.old affinity.now d.0 u }
+    ensures { (u : Unit) → u.n < 256 → mask_of masks.new u
+        ≡ refreshed_cores masks.old affinity.now d.0 u }
 {
     let place = d.0 as usize;
     if place < affinity.len() {
@@ -44,7 +45,8 @@ fn refresh(masks: &mut Masks, affinity: &[Option<Pins>], d: DomId)
 fn reweigh(held: &Held, ready: &mut Ready, d: DomId)
     requires few { length held.now.records.domains ≤ 64 }
     requires domains { AreRunnableBut d.0 held.now.records.domains ready.old.domains }
-    requires first { ready.old.first ≡ first_that (λ u. has_domain ready.old.domains u.dom.0) held.now.queue.units }
+    requires first { ready.old.first ≡ first_that (λ u. has_domain ready.old.domains u.dom.0)
+        held.now.queue.units }
     ensures { IsReadyIn held.now ready.new }
 {
     ready.most = max_weight(&held.records);
@@ -52,7 +54,15 @@ fn reweigh(held: &Held, ready: &mut Ready, d: DomId)
 }
 
 /// The domain joins at t, with so many units, 1 to 32. Its units may have all cores.
-pub fn join(held: &mut Held, ready: &mut Ready, d: DomId, units: u8, weight: u32, cap: u32, t: u64)
+pub fn join(
+    held: &mut Held,
+    ready: &mut Ready,
+    d: DomId,
+    units: u8,
+    weight: u32,
+    cap: u32,
+    t: Moment,
+)
     requires held { IsHeld held.old }
     requires ready { IsReadyIn held.old ready.old }
     requires place { d.0 < length held.old.affinity }
@@ -61,10 +71,11 @@ pub fn join(held: &mut Held, ready: &mut Ready, d: DomId, units: u8, weight: u32
     requires room { units ≤ held.old.spare }
     requires weight { IsWeight weight }
     requires cap { IsCap cap }
-    requires now { IsNow (seen_in held.old) t }
-    ensures scheduler { scheduler_in held.new ≡ join_spec d.0 units (dom_params.Credit2 weight cap) t (scheduler_in held.old) }
+    requires now { IsNow (seen_in held.old) t.0 }
+    ensures scheduler { scheduler_in held.new ≡ join_spec d.0 units (dom_params.Credit2 weight cap)
+        t.0 (scheduler_in held.old) }
     ensures spare { held.new.spare ≡ held.old.spare - units }
-    ensures latest { held.new.latest ≡ t }
+    ensures latest { held.new.latest ≡ t.0 }
     ensures held { IsHeld held.new }
     ensures ready { IsReadyIn held.new ready.new }
 {
@@ -73,9 +84,9 @@ pub fn join(held: &mut Held, ready: &mut Ready, d: DomId, units: u8, weight: u32
     refresh(&mut held.masks, held.affinity.as_slice(), d);
     let domain = credit2::fresh_domain(weight, cap, units, t);
     set_place(&mut held.records.domains, d.0, Some(domain));
-    rearm(&mut held.refills, held.records.domains.as_slice(), d.0);
+    rearm(&mut held.refills, held.records.domains.as_slice(), d);
     held.spare -= units as usize;
-    held.latest = t;
+    held.latest = t.0;
     reweigh(held, ready, d);
 }
 
@@ -91,10 +102,10 @@ pub fn part(held: &mut Held, ready: &mut Ready, d: DomId)
     ensures held { IsHeld held.new }
     ensures ready { IsReadyIn held.new ready.new }
 {
-    let units = count_at(held.affinity.as_slice(), d.0);
+    let units = count_at(held.affinity.as_slice(), d);
     set_place(&mut held.affinity, d.0, None);
     set_place(&mut held.records.domains, d.0, None);
-    rearm(&mut held.refills, held.records.domains.as_slice(), d.0);
+    rearm(&mut held.refills, held.records.domains.as_slice(), d);
     held.spare += units as usize;
     reweigh(held, ready, d);
 }
@@ -106,35 +117,39 @@ pub fn set_domain(
     d: DomId,
     weight: Option<u32>,
     cap: Option<u32>,
-    t: u64,
+    t: Moment,
 )
     requires held { IsHeld held.old }
     requires ready { IsReadyIn held.old ready.old }
     requires joined { joined_spec (scheduler_in held.old) d.0 ≡ true }
     requires weight { ForSome weight IsWeight }
     requires cap { ForSome cap IsCap }
-    requires now { IsNow (seen_in held.old) t }
-    ensures seen { seen_in held.new ≡ seen_at t (set_params_spec (changes.Dom d weight cap) t (scheduler_in held.old)) (seen_in held.old) }
+    requires now { IsNow (seen_in held.old) t.0 }
+    ensures seen { seen_in held.new ≡ seen_at t.0
+        (set_params_spec (changes.Dom d weight cap) t.0 (scheduler_in held.old))
+        (seen_in held.old) }
     ensures held { IsHeld held.new }
     ensures ready { IsReadyIn held.new ready.new }
 {
-    credit2::set_domain(t, d.0, weight, cap, &mut held.records);
-    rearm(&mut held.refills, held.records.domains.as_slice(), d.0);
-    held.latest = t;
+    credit2::set_domain(t, d, weight, cap, &mut held.records);
+    rearm(&mut held.refills, held.records.domains.as_slice(), d);
+    held.latest = t.0;
     reweigh(held, ready, d);
 }
 
 /// The rate limit, in microseconds, changes at t.
-pub fn set_rate(held: &mut Held, limit: u32, t: u64)
+pub fn set_rate(held: &mut Held, limit: u32, t: Moment)
     requires held { IsHeld held.old }
     requires limit { limit ≤ 500000 }
-    requires now { IsNow (seen_in held.old) t }
-    ensures seen { seen_in held.new ≡ seen_at t (set_params_spec (changes.Rate limit) t (scheduler_in held.old)) (seen_in held.old) }
+    requires now { IsNow (seen_in held.old) t.0 }
+    ensures seen { seen_in held.new ≡ seen_at t.0
+        (set_params_spec (changes.Rate limit) t.0 (scheduler_in held.old)) (seen_in held.old) }
     ensures held { IsHeld held.new }
-    ensures rest { held.new ≡ record held.old { records = record held.old.records { limit = limit }; latest = t } }
+    ensures rest { held.new ≡ record held.old
+        { records = record held.old.records { limit = limit }; latest = t.0 } }
 {
     held.records.limit = limit;
-    held.latest = t;
+    held.latest = t.0;
 }
 
 /// Whether each unit may have all cores still, where some units are given this set.
@@ -145,27 +160,35 @@ fn stay_unpinned(unpinned: bool, cores: Cores) -> bool
 }
 
 /// The set of cores of one of the domain's units, or of all of them, changes at t.
-pub fn pin(held: &mut Held, d: DomId, unit: Option<u8>, cores: Cores, t: u64)
+pub fn pin(held: &mut Held, d: DomId, unit: Option<u8>, cores: Cores, t: Moment)
     requires held { IsHeld held.old }
     requires joined { joined_spec (scheduler_in held.old) d.0 ≡ true }
-    requires now { IsNow (seen_in held.old) t }
-    ensures seen { seen_in held.new ≡ seen_at t (set_params_spec (changes.Pin d unit cores) t (scheduler_in held.old)) (seen_in held.old) }
+    requires now { IsNow (seen_in held.old) t.0 }
+    ensures seen { seen_in held.new ≡ seen_at t.0
+        (set_params_spec (changes.Pin d unit cores) t.0 (scheduler_in held.old))
+        (seen_in held.old) }
     ensures held { IsHeld held.new }
-    ensures rest { held.new ≡ record held.old { affinity = held.new.affinity; masks = held.new.masks; latest = t; unpinned = held.new.unpinned } }
+    ensures rest { held.new ≡ record held.old {
+      affinity = held.new.affinity;
+      masks = held.new.masks;
+      latest = t.0;
+      unpinned = held.new.unpinned;
+    } }
 {
-    params::pin(d.0, unit, cores, &mut held.affinity);
+    params::pin(d, unit, cores, &mut held.affinity);
     refresh(&mut held.masks, held.affinity.as_slice(), d);
     held.unpinned = stay_unpinned(held.unpinned, cores);
-    held.latest = t;
+    held.latest = t.0;
 }
 
 /// The parameters change at t.
-pub fn set_params(held: &mut Held, ready: &mut Ready, change: &ParamChange, t: u64)
+pub fn set_params(held: &mut Held, ready: &mut Ready, change: &ParamChange, t: Moment)
     requires held { IsHeld held.old }
     requires ready { IsReadyIn held.old ready.old }
-    requires now { IsNow (seen_in held.old) t }
+    requires now { IsNow (seen_in held.old) t.0 }
     requires change { IsChange kinds.Credit2 (scheduler_in held.old) change.now }
-    ensures seen { seen_in held.new ≡ seen_at t (set_params_spec change.now t (scheduler_in held.old)) (seen_in held.old) }
+    ensures seen { seen_in held.new ≡ seen_at t.0
+        (set_params_spec change.now t.0 (scheduler_in held.old)) (seen_in held.old) }
     ensures held { IsHeld held.new }
     ensures ready { IsReadyIn held.new ready.new }
 {

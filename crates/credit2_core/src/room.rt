@@ -2,8 +2,8 @@
 
 ghost use Rattle.std.specs.Prelude.{◌≡◌, ◌≤◌, IfOk, replicate, None};
 ghost use Rattle.sched_model.specs.declared.config.PoolParams.TheVariants as pool_params;
-ghost use Rattle.sched_ops.specs.Seen.{Seen, vacant};
-ghost use Rattle.runq.specs.Queue.{empty};
+ghost use Rattle.sched_ops.specs.Seen.{Seen, vacant_scheduler};
+ghost use Rattle.runq.specs.Queue.{empty_queue};
 ghost use Rattle.credit2_core.specs.Held.{IsHeld, seen_in};
 ghost use Rattle.credit2_core.specs.Room.{IsFresh};
 
@@ -11,24 +11,13 @@ use crate::held::Held;
 use due_heap::DueHeap;
 use runq::Runq;
 use sched_base::NoMemory;
-use sched_model::row::Row;
+use sched_model::row::{Row, empty_places};
 use sched_model::state::Credit2Records;
 use std::alloc::Global;
 use unit_places::Masks;
 
 /// The rate limit of a pool where none is given, in microseconds.
 pub const DEFAULT_LIMIT: u32 = 1000;
-
-/// So many places, all empty.
-fn empty_places<T: Drop>(alloc: Global, count: usize) -> Result<Row<Option<T>>, NoMemory>
-    ensures { IfOk result (λ row. row ≡ replicate count None) }
-{
-    let mut places = Vec::new(alloc);
-    for i in 0..count {
-        places.push(None)?;
-    }
-    Ok(Row::from_vec(places))
-}
 
 /// The queue of a pool with room for so many units, its sets of cores, and the dues of the refills of so many domains, at most 64.
 fn empty_lists(
@@ -37,7 +26,7 @@ fn empty_lists(
     units: usize,
 ) -> Result<(Runq, Masks, DueHeap), NoMemory>
     requires few { domains ≤ 64 }
-    ensures queue { IfOk result (λ lists. lists.0 ≡ empty units) }
+    ensures queue { IfOk result (λ lists. lists.0 ≡ empty_queue units) }
     ensures refills { IfOk result (λ lists. lists.2 ≡ replicate domains None) }
 {
     let masks = Masks::room(alloc)?;

@@ -25,7 +25,7 @@ fn slice_beside(records: &Credit2Records, most: u32, u: UnitId, other: i64) -> u
     ensures exact { result ≡ slice_beside_spec records.now u other }
     ensures few { result ≤ 500000000 }
 {
-    match domain_at(records.domains.as_slice(), u.dom.0) {
+    match domain_at(records.domains.as_slice(), u.dom) {
         None => 0,
         Some(d) => slice_in(d, u.n, other, most, records.limit as u64 * 1000),
     }
@@ -35,7 +35,7 @@ fn slice_beside(records: &Credit2Records, most: u32, u: UnitId, other: i64) -> u
 /// other one of the queue has come to be the first.
 pub fn take_slice(held: &mut Held, ready: &mut Ready, ask: &Ask, u: UnitId, stands: bool) -> u64
     requires ready { IsReadyBut u.dom.0 stands held.old.records held.old.queue.units ready.old }
-    requires core { ask.now.core < 64 }
+    requires core { ask.now.core.0 < 64 }
     requires few { length held.old.records.domains ≤ 64 }
     requires params { PoolParamsFit held.old.records }
     requires taken { PoolParamsFit (change_domain u.dom.0 (take_budget u.n) held.old.records) }
@@ -46,7 +46,9 @@ pub fn take_slice(held: &mut Held, ready: &mut Ready, ask: &Ask, u: UnitId, stan
     ensures records { held.new.records ≡ change_domain u.dom.0 (take_budget u.n) held.old.records }
     ensures line { IsLine held.new }
     ensures ready { IsReadyIn held.new ready.new }
-    ensures slice { result ≡ slice_beside_spec held.new.records u (credit_or_0 held.new.records (best_of (arrivals held.new.queue.units) held.new.affinity ask.now.home ask.now.core held.new.records)) }
+    ensures slice { result ≡ slice_beside_spec held.new.records u
+        (credit_or_0 held.new.records (best_of (arrivals held.new.queue.units) held.new.affinity
+        ask.now.home.0 ask.now.core.0 held.new.records)) }
     ensures short { result ≤ 500000000 }
     ensures rest { held.new ≡ record held.old { records = held.new.records } }
 {

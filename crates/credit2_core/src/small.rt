@@ -4,9 +4,10 @@ ghost use Rattle.std.specs.Prelude.{◌≡◌, true, Some, ◌≤◌};
 ghost use Rattle.sched_model.specs.declared.config.PoolParams.TheVariants as pool_params;
 ghost use Rattle.sched_model.specs.Places.{has_unit};
 ghost use Rattle.sched_model.specs.Policy.{enqueue as enqueue_spec, rate_of};
-ghost use Rattle.sched_ops.specs.Seen.{with_scheduler, restarted, dequeue as dequeue_spec};
+ghost use Rattle.sched_ops.specs.Seen.{with_scheduler, restarted_scheduler, dequeue as dequeue_spec};
 ghost use Rattle.sched_ops.specs.Conditions.{IsAway, Keeps, is_member, is_vacant};
-ghost use Rattle.sched_ops.specs.Told.{IsInRange, stored_of};
+ghost use Rattle.sched_ops.specs.Told.{IsInRange};
+ghost use Rattle.sched_model.specs.Policy.{stored_of};
 ghost use Rattle.credit2_core.specs.Held.{IsHeld, scheduler_in, seen_in};
 ghost use Rattle.credit2_core.specs.Whole.{IsReadyIn};
 
@@ -23,7 +24,8 @@ pub fn enqueue(held: &mut Held, ready: &mut Ready, u: UnitId)
     requires held { IsHeld held.old }
     requires ready { IsReadyIn held.old ready.old }
     requires away { IsAway (scheduler_in held.old) u }
-    ensures seen { seen_in held.new ≡ with_scheduler (enqueue_spec u (scheduler_in held.old)) (seen_in held.old) }
+    ensures seen { seen_in held.new ≡ with_scheduler (enqueue_spec u (scheduler_in held.old))
+        (seen_in held.old) }
     ensures held { IsHeld held.new }
     ensures ready { IsReadyIn held.new ready.new }
 {
@@ -38,7 +40,8 @@ pub fn enqueue(held: &mut Held, ready: &mut Ready, u: UnitId)
 pub fn dequeue(held: &mut Held, ready: &mut Ready, u: UnitId)
     requires held { IsHeld held.old }
     requires ready { IsReadyIn held.old ready.old }
-    ensures seen { seen_in held.new ≡ with_scheduler (dequeue_spec u (scheduler_in held.old)) (seen_in held.old) }
+    ensures seen { seen_in held.new ≡ with_scheduler (dequeue_spec u (scheduler_in held.old))
+        (seen_in held.old) }
     ensures held { IsHeld held.new }
     ensures ready { IsReadyIn held.new ready.new }
 {
@@ -53,7 +56,8 @@ pub fn restart(held: &mut Held, limit: u32)
     requires held { IsHeld held.old }
     requires vacant { is_vacant (scheduler_in held.old) ≡ true }
     requires limit { limit ≤ 500000 }
-    ensures seen { seen_in held.new ≡ with_scheduler (restarted (pool_params.Credit2 limit) (scheduler_in held.old)) (seen_in held.old) }
+    ensures seen { seen_in held.new ≡ with_scheduler
+        (restarted_scheduler (pool_params.Credit2 limit) (scheduler_in held.old)) (seen_in held.old) }
     ensures held { IsHeld held.new }
 {
     held.records.limit = limit;
@@ -68,7 +72,7 @@ pub fn stored(held: &Held, u: UnitId) -> Stored
     ensures value { stored_of (scheduler_in held.now).records u ≡ Some result }
     ensures range { IsInRange result }
 {
-    match domain_at(held.records.domains.as_slice(), u.dom.0) {
+    match domain_at(held.records.domains.as_slice(), u.dom) {
         None => Stored::Null,
         Some(d) => Stored::Credit2 {
             weight: d.weight,

@@ -1,7 +1,7 @@
 //! The refills of capped domains. Moments are in nanoseconds.
 
 ghost use Rattle.std.specs.Prelude.{◌≡◌, ◌≤◌, ◌<◌, ◌+◌, length, true, Some, None};
-ghost use Rattle.sched_model.specs.Places.{numbered};
+ghost use Rattle.sched_model.specs.Places.{numbered_items};
 ghost use Rattle.sched_ops.specs.declared.timer.Timer.TheVariants as timers;
 ghost use Rattle.sched_ops.specs.Seen.{seen_at};
 ghost use Rattle.sched_ops.specs.Conditions.{IsNow};
@@ -22,22 +22,22 @@ use sched_model::state::{Credit2Domain, Credit2Records};
 use sched_ops::Timer;
 
 /// The moment of the domain's refill, where it has come at t.
-fn come(place: &Option<Credit2Domain>, t: u64) -> Option<u64>
-    ensures { result ≡ come_at t place.now }
+fn come(place: &Option<Credit2Domain>, t: Moment) -> Option<u64>
+    ensures { result ≡ come_at t.0 place.now }
 {
     match place {
         None => None,
         Some(d) => match d.refill {
             None => None,
-            Some(at) => if at <= t { Some(at) } else { None },
+            Some(at) => if at <= t.0 { Some(at) } else { None },
         },
     }
 }
 
 /// The first refill, by domain, that has come at t. The first of the domains has the number n.
-fn first_due(n: u8, t: u64, domains: &[Option<Credit2Domain>]) -> Option<(Moment, Timer)>
+fn first_due(n: u8, t: Moment, domains: &[Option<Credit2Domain>]) -> Option<(Moment, Timer)>
     requires { n + length domains.now ≤ 64 }
-    ensures { result ≡ first_due_spec t (refills (numbered n domains.now)) }
+    ensures { result ≡ first_due_spec t.0 (refills (numbered_items n domains.now)) }
 {
     match domains {
         [] => None,
@@ -49,14 +49,14 @@ fn first_due(n: u8, t: u64, domains: &[Option<Credit2Domain>]) -> Option<(Moment
 }
 
 /// The first refill, by domain, that has come at t; where there is none, the one of the least moment.
-pub fn timer_due(held: &Held, t: u64) -> Option<(Moment, Timer)>
+pub fn timer_due(held: &Held, t: Moment) -> Option<(Moment, Timer)>
     requires { IsHeld held.now }
-    ensures { result ≡ timer_at t (scheduler_in held.now) }
+    ensures { result ≡ timer_at t.0 (scheduler_in held.now) }
 {
     match held.refills.least() {
         None => None,
         Some((at, d)) => {
-            if at.0 > t {
+            if at.0 > t.0 {
                 Some((at, Timer::Refill(DomId(d as u8))))
             } else {
                 first_due(0, t, held.records.domains.as_slice())
@@ -66,8 +66,8 @@ pub fn timer_due(held: &Held, t: u64) -> Option<(Moment, Timer)>
 }
 
 /// How many of the domain's periods have come at t since its refill was due.
-fn periods_at(records: &Credit2Records, d: u8, t: u64) -> u64
-    ensures { result ≡ periods_at_spec records.now d t }
+fn periods_at(records: &Credit2Records, d: DomId, t: Moment) -> u64
+    ensures { result ≡ periods_at_spec records.now d.0 t.0 }
 {
     match domain_at(records.domains.as_slice(), d) {
         None => 0,
@@ -76,8 +76,8 @@ fn periods_at(records: &Credit2Records, d: u8, t: u64) -> u64
 }
 
 /// The budget that is left to the domain.
-fn budget_at(records: &Credit2Records, d: u8) -> i64
-    ensures { result ≡ budget_at_spec records.now d }
+fn budget_at(records: &Credit2Records, d: DomId) -> i64
+    ensures { result ≡ budget_at_spec records.now d.0 }
 {
     match domain_at(records.domains.as_slice(), d) {
         None => 0,
@@ -86,24 +86,25 @@ fn budget_at(records: &Credit2Records, d: u8) -> i64
 }
 
 /// The domain's refill, which has come at t: its budget is filled, and the next refill is armed.
-pub fn refill(held: &mut Held, ready: &mut Ready, d: DomId, t: u64) -> Event
+pub fn refill(held: &mut Held, ready: &mut Ready, d: DomId, t: Moment) -> Event
     requires held { IsHeld held.old }
     requires ready { IsReadyIn held.old ready.old }
-    requires now { IsNow (seen_in held.old) t }
-    requires due { is_due t (scheduler_in held.old) (timers.Refill d) ≡ true }
-    ensures event { result ≡ timer_event t (scheduler_in held.old) (timers.Refill d) }
-    ensures after { seen_in held.new ≡ seen_at t (after_timer t (scheduler_in held.old) (timers.Refill d)) (seen_in held.old) }
+    requires now { IsNow (seen_in held.old) t.0 }
+    requires due { is_due t.0 (scheduler_in held.old) (timers.Refill d) ≡ true }
+    ensures event { result ≡ timer_event t.0 (scheduler_in held.old) (timers.Refill d) }
+    ensures after { seen_in held.new ≡ seen_at t.0
+        (after_timer t.0 (scheduler_in held.old) (timers.Refill d)) (seen_in held.old) }
     ensures held { IsHeld held.new }
     ensures ready { IsReadyIn held.new ready.new }
 {
-    let periods = periods_at(&held.records, d.0, t);
-    credit2::refill(t, d.0, &mut held.records);
-    rearm(&mut held.refills, held.records.domains.as_slice(), d.0);
-    held.latest = t;
+    let periods = periods_at(&held.records, d, t);
+    credit2::refill(t, d, &mut held.records);
+    rearm(&mut held.refills, held.records.domains.as_slice(), d);
+    held.latest = t.0;
     *ready = follow(held, *ready, d, true);
     Event::Refill {
         d,
         periods,
-        budget: budget_at(&held.records, d.0),
+        budget: budget_at(&held.records, d),
     }
 }

@@ -29,10 +29,11 @@ fn wanted_by_core(
     requires ready { IsReadyIn held.now ready.now }
     requires few { length cores.now ≤ 64 }
     requires asks { EachPlace (MayAsk t.0 (scheduler_in held.now)) cores.now }
-    ensures { (r : ℕ) → has_core result.0 r ≡ is_wanted t.0 home.0 (scheduler_in held.now) r (at_place cores.now r) }
+    ensures { (r : ℕ) → has_core result.0 r ≡ is_wanted t.0 home.0 (scheduler_in held.now) r
+        (at_place cores.now r) }
 {
     wanted_where(cores, |core, cur, since| {
-        better_waits(held, ready, cur, since.0, t.0, core.0, home.0)
+        better_waits(held, ready, cur, since, t, core, home)
     })
 }
 
@@ -50,7 +51,8 @@ pub fn wanted(
     requires ready { IsReadyIn held.now ready.now }
     requires few { length cores.now ≤ 64 }
     requires asks { EachPlace (MayAsk t.0 (scheduler_in held.now)) cores.now }
-    ensures { (r : ℕ) → has_core result.0 r ≡ is_wanted t.0 home.0 (scheduler_in held.now) r (at_place cores.now r) }
+    ensures { (r : ℕ) → has_core result.0 r ≡ is_wanted t.0 home.0 (scheduler_in held.now) r
+        (at_place cores.now r) }
 {
     held.queue.law_order();
     if ready.first.is_none() && held.unpinned {

@@ -77,6 +77,3 @@ place_more config n slots slot first stands = record {
       let same : at_place (slots ++ slot ∷ []) k ≡ at_place slots k = get_or_append_left slots (slot ∷ []) None k (omega (arith, before, count)) in
       subst (λ (x : Option Seen). StandsAt (told_new config work) k x) (sym same) (first.each work k before));
 }
-
-pub all_places : (config : Config) (slots : List (Option Seen)) → AreFirst config 16 slots → (work : Work) → AllStand (told_new config work) slots
-all_places config slots first work = record { count = first.count; each = first.each work }

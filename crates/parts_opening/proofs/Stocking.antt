@@ -23,7 +23,7 @@ use Rattle.pool_slots.specs.Counts.{AreSpares, HasSpares, configured_of, most_at
 use Rattle.pool_slots.specs.Kinds.{count_of}
 use Rattle.pool_slots.specs.Spares.{HasCorePlaces, IsIdle, IsSpare, Shelf, Shelves, shelf_of, shelf_with, shelves_with}
 use Rattle.pool_slots.proofs.Keeping.{IsOther, shelf-filled}
-use Rattle.parts_opening.specs.Filled.{CanFill, filled, filled_for, filled_up, spare_seen}
+use Rattle.parts_opening.specs.Filled.{CanFill, filled_shelves, filled_for, filled_up, spare_seen}
 use Rattle.parts_opening.proofs.Tallying.{few_configured, in_use_new}
 
 -- a pool that is not in use is one that a command of the machine may make
@@ -31,10 +31,8 @@ places_empty : (X : Type 0) (n k : ℕ) → at_place {X = X} (replicate n None) 
 places_empty X n k = is_empty (at_place {X = X} (replicate n None) k) (λ x at. EachPlace-empty {X = X} (λ y. ⊥) n k x at)
 
 core_places : (kind : SchedKind) (domains cores : ℕ) → HasCorePlaces cores (fresh_records (default_pool_params kind) domains cores)
-core_places kinds.Credit2 domains cores = tt
-core_places kinds.Rtds domains cores = tt
-core_places kinds.Arinc653 domains cores = tt
 core_places kinds.Null domains cores = length-replicate cores None
+core_places a domains cores = tt
 
 pub idle_spare : (config : Config) (kind : SchedKind) → IsIdle kind (spare_seen config kind)
 idle_spare config kind = record {
@@ -62,9 +60,9 @@ abbrev stocked : Config → SchedKind → ℕ → Shelf → Shelf
 stocked config kind zero shelf = shelf
 stocked config kind (suc n) shelf = shelf_with (spare_seen config kind) (stocked config kind n shelf)
 
-stocked_here : (config : Config) (kind : SchedKind) (n : ℕ) (shelves : Shelves) → shelf_of kind (filled config kind n shelves) ≡ stocked config kind n (shelf_of kind shelves)
+stocked_here : (config : Config) (kind : SchedKind) (n : ℕ) (shelves : Shelves) → shelf_of kind (filled_shelves config kind n shelves) ≡ stocked config kind n (shelf_of kind shelves)
 stocked_here config kind zero shelves = refl
-stocked_here config kind (suc n) shelves = shelf-filled kind (spare_seen config kind) (filled config kind n shelves) ∙ ap (shelf_with (spare_seen config kind)) (stocked_here config kind n shelves)
+stocked_here config kind (suc n) shelves = shelf-filled kind (spare_seen config kind) (filled_shelves config kind n shelves) ∙ ap (shelf_with (spare_seen config kind)) (stocked_here config kind n shelves)
 
 stocked_count : (config : Config) (kind : SchedKind) (n : ℕ) (shelf : Shelf) → length (stocked config kind n shelf).pools ≡ length shelf.pools + n
 stocked_count config kind zero shelf = omega arith
@@ -82,7 +80,7 @@ stocked_suits m kind zero shelf none = All-same (IsSpare m 0 kind) shelf.pools [
 stocked_suits m kind (suc n) shelf none = All-push (IsSpare m 0 kind) (stocked m.config kind n shelf).pools (spare_seen m.config kind) (stocked_suits m kind n shelf none) (spare_suits m kind)
 
 -- while there is room, a spare pool more has room
-pub room_left : (config : Config) (kind : SchedKind) (count n : ℕ) (shelves now : Shelves) → now ≡ filled config kind n shelves → n < count → length (shelf_of kind shelves).pools + count ≤ (shelf_of kind shelves).capacity
+pub room_left : (config : Config) (kind : SchedKind) (count n : ℕ) (shelves now : Shelves) → now ≡ filled_shelves config kind n shelves → n < count → length (shelf_of kind shelves).pools + count ≤ (shelf_of kind shelves).capacity
     → length (shelf_of kind now).pools < (shelf_of kind now).capacity
 room_left config kind count n shelves now is low room =
     let shelf = shelf_of kind shelves in
@@ -90,16 +88,10 @@ room_left config kind count n shelves now is low room =
     let capacity = ap (λ (s : Shelf). s.capacity) (stocked_here config kind n shelves) ∙ stocked_room config kind n shelf in
     subst (λ (x : Shelves). length (shelf_of kind x).pools < (shelf_of kind x).capacity) (sym is) (omega (arith, counted, capacity, low, room))
 
-pub filled_more : (config : Config) (kind : SchedKind) (n : ℕ) (shelves now next : Shelves) (seen : Seen) → now ≡ filled config kind n shelves → seen ≡ spare_seen config kind → next ≡ shelves_with kind seen now
-    → next ≡ filled config kind (n + 1) shelves
-filled_more config kind n shelves now next seen is same comes =
-    let more : suc n ≡ n + 1 = omega arith in
-    comes ∙ ap (λ (x : Seen). shelves_with kind x now) same ∙ ap (shelves_with kind (spare_seen config kind)) is ∙ ap (λ k. filled config kind k shelves) more
-
 -- the shelves of other schedulers stay
-pub others_stay : (config : Config) (other kind : SchedKind) → IsOther other kind → (n : ℕ) (shelves : Shelves) → shelf_of other (filled config kind n shelves) ≡ shelf_of other shelves
+pub others_stay : (config : Config) (other kind : SchedKind) → IsOther other kind → (n : ℕ) (shelves : Shelves) → shelf_of other (filled_shelves config kind n shelves) ≡ shelf_of other shelves
 others_stay config other kind differs zero shelves = refl
-others_stay config other kind differs (suc n) shelves = differs.stays (spare_seen config kind) (filled config kind n shelves) ∙ others_stay config other kind differs n shelves
+others_stay config other kind differs (suc n) shelves = differs.stays (spare_seen config kind) (filled_shelves config kind n shelves) ∙ others_stay config other kind differs n shelves
 
 pub still_fits : (config : Config) (most : KindCounts) (other kind : SchedKind) (shelves next : Shelves) → IsOther other kind → next ≡ filled_for config most kind shelves → CanFill config most other (shelf_of other shelves) → CanFill config most other (shelf_of other next)
 still_fits config most other kind shelves next differs is fits =

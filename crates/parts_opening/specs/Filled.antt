@@ -5,7 +5,7 @@ use Rattle.sched_model.specs.declared.config.SchedKind.{SchedKind}
 use Rattle.sched_model.specs.declared.config.SchedKind.TheVariants as kinds
 use Rattle.sched_model.specs.Opening.{core_count}
 use Rattle.sched_model.specs.Policy.{default_pool_params}
-use Rattle.pool_core.specs.Seen.{Seen, vacant}
+use Rattle.pool_core.specs.Seen.{Seen, vacant_pool}
 use Rattle.pool_slots.specs.declared.counts.KindCounts.{KindCounts}
 use Rattle.pool_slots.specs.Counts.{configured_of}
 use Rattle.pool_slots.specs.Kinds.{count_of}
@@ -14,16 +14,16 @@ use Rattle.pool_slots.specs.Spares.{Shelf, Shelves, shelves_with}
 
 -- a pool of the scheduler that is not in use: it has the machine's places for domains and cores, and room for all units of a machine
 abbrev pub spare_seen : Config → SchedKind → Seen
-spare_seen config kind = vacant (default_pool_params kind) config.granularity (length config.domains) (core_count config) most_units
+spare_seen config kind = vacant_pool (default_pool_params kind) config.granularity (length config.domains) (core_count config) most_units
 
 -- with so many of them more
-abbrev pub filled : Config → SchedKind → ℕ → Shelves → Shelves
-filled config kind zero shelves = shelves
-filled config kind (suc n) shelves = shelves_with kind (spare_seen config kind) (filled config kind n shelves)
+abbrev pub filled_shelves : Config → SchedKind → ℕ → Shelves → Shelves
+filled_shelves config kind zero shelves = shelves
+filled_shelves config kind (suc n) shelves = shelves_with kind (spare_seen config kind) (filled_shelves config kind n shelves)
 
 -- with as many more as the most pools of the scheduler at once, less those of the file
 abbrev pub filled_for : Config → KindCounts → SchedKind → Shelves → Shelves
-filled_for config most kind shelves = filled config kind (count_of kind most - configured_of kind config.pools) shelves
+filled_for config most kind shelves = filled_shelves config kind (count_of kind most - configured_of kind config.pools) shelves
 
 -- the same of each scheduler
 abbrev pub filled_up : Config → KindCounts → Shelves → Shelves

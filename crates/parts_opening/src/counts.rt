@@ -74,7 +74,8 @@ fn most(config: &Config, work: &Work, kind: SchedKind) -> u8
 /// The same of each scheduler.
 pub fn most_of_each(config: &Config, work: &Work) -> KindCounts
     requires checked { IsChecked (record { config = config.now; work = work.now }) }
-    ensures { (kind : Kind) → count_of kind result ≡ most_at_once (record { config = config.now; work = work.now }) kind }
+    ensures { (kind : Kind) → count_of kind result
+        ≡ most_at_once (record { config = config.now; work = work.now }) kind }
 {
     KindCounts {
         credit2: most(config, work, SchedKind::Credit2),

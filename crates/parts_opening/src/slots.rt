@@ -43,7 +43,8 @@ fn open_slot(alloc: Global, config: &Config, i: u8) -> Result<PoolSlot, NoMemory
 /// and their domains, and the others are empty. Each pool has the memory of a run.
 pub fn open_slots(alloc: Global, config: &Config) -> Result<Vec<PoolSlot>, NoMemory>
     requires checked { IsCheckedConfig config.now }
-    ensures { IfOk result (λ slots. (work : Work) → AllStand (told_new config.now work) slots.items) }
+    ensures { IfOk result (λ slots. (work : Work) →
+        AllStand (told_new config.now work) slots.items) }
 {
     let mut slots = Vec::with_capacity(alloc, 16)?;
     for i in 0..16u8 {

@@ -8,7 +8,7 @@ ghost use Rattle.journal_core.specs.Parts.{tool_of};
 ghost use Rattle.pool_slots.specs.Counts.{AreSpares, configured_of};
 ghost use Rattle.pool_slots.specs.Kinds.{count_of};
 ghost use Rattle.pool_slots.specs.Spares.{shelf_of};
-ghost use Rattle.parts_opening.specs.Filled.{CanFill, filled, filled_for, filled_up, spare_seen};
+ghost use Rattle.parts_opening.specs.Filled.{CanFill, filled_shelves, filled_for, filled_up, spare_seen};
 
 use crate::counts::{configured, most_of_each};
 use any_policy::AnyPolicy;
@@ -38,8 +38,9 @@ fn fill(
     spares: &mut Spares,
 ) -> Result<(), NoMemory>
     requires checked { IsCheckedConfig config.now }
-    requires room { length (shelf_of kind spares.old).pools + count ≤ (shelf_of kind spares.old).capacity }
-    ensures { OnOk result (spares.new ≡ filled config.now kind count spares.old) }
+    requires room { length (shelf_of kind spares.old).pools + count
+        ≤ (shelf_of kind spares.old).capacity }
+    ensures { OnOk result (spares.new ≡ filled_shelves config.now kind count spares.old) }
 {
     for i in 0..count {
         let pool = spare_pool(alloc, config, kind)?;
@@ -85,7 +86,8 @@ fn fill_up(
 /// room for as many as it has at once. Each has the memory of a run.
 pub fn open_spares(alloc: Global, config: &Config, work: &Work) -> Result<Spares, NoMemory>
     requires checked { IsChecked (record { config = config.now; work = work.now }) }
-    ensures { IfOk result (λ spares. AreSpares (record { config = config.now; work = work.now }) 0 (tool_of (opening (record { config = config.now; work = work.now }))) spares) }
+    ensures { IfOk result (λ spares. AreSpares (record { config = config.now; work = work.now }) 0
+        (tool_of (opening (record { config = config.now; work = work.now }))) spares) }
 {
     let most = most_of_each(config, work);
     let mut spares = Spares::room(alloc, most)?;

@@ -1,4 +1,5 @@
 -- The moments at which the works in hand are done, after each event of a pool.
+use Rattle.sched_base.specs.Numbers.{core as core_number, processor as processor_number}
 use Rattle.std.proofs.Common.{◌≡◌, ◌<◌, ◌≤◌, ◌+◌, ◌*◌, ◌/◌, ◌%◌, ℕ, Bool, true, false, List, refl, sym, ap, subst, ◌∙◌, cond, inl, inr, arith, length}
 use Rattle.std.specs.Prelude.{Option, Some, None, option_map, slice_set, not, ◌&&◌}
 use Rattle.std.specs.List.{list_any}
@@ -18,7 +19,7 @@ use Rattle.sched_model.specs.Places.{at_place, change_at, is_unit, put_at, test_
 use Rattle.sched_model.specs.Policy.{decision_of, replenish, rtds_record}
 use Rattle.sched_model.specs.Eligible.{Decision}
 use Rattle.sched_model.specs.Pool as pools
-use Rattle.sched_model.specs.Pool.{after_in, change_processor, change_vcpu, does, enabled_in, guest_of, processor_of, put_to_sleep, started_on, stopped, taken_at, unit_of, woken}
+use Rattle.sched_model.specs.Pool.{after_in, change_processor, change_vcpu, with_doing, enabled_in, guest_of, processor_of, put_to_sleep, started_on, stopped_vcpu, taken_at, unit_of, woken_vcpu}
 use Rattle.sched_model.specs.State.{is_awake, is_runnable, is_up}
 use Rattle.sched_laws.proofs.Choices.{is_unit_same}
 use Rattle.sched_laws.proofs.EachPlace.{by_option, by_test, by_cond, found_at}
@@ -44,47 +45,47 @@ few_processors g p cores c granularity few at = elim (cases_lt p 64) [
 ]
 
 module _ (g t : ℕ) (works : List (Option Moment)) (pool : Pool) (known : IsKnownPool g pool) (are : AreWorks g works pool) where
-  pub works_slice : (r : ℕ) → AreWorks g works (after_in g t pool (Slice r))
+  pub works_slice : (r : ℕ) → AreWorks g works (after_in g t pool (Slice (core_number r)))
   works_slice r = works_core g r (λ (c : Resource). record c { pending = true }) works pool (λ c at. refl) are
 
-  pub works_block : (p : ℕ) (v : VcpuId) → guest_of g pool p ≡ Some v → AreWorks g (slice_set works p None) (after_in g t pool (Block p))
+  pub works_block : (p : ℕ) (v : VcpuId) → guest_of g pool p ≡ Some v → AreWorks g (slice_set works p None) (after_in g t pool (Block (processor_number p)))
   works_block p v guest =
-      let next : Pool = change_processor g p (does Idle) (change_vcpu v (put_to_sleep t) pool) in
+      let next : Pool = change_processor g p (with_doing Idle) (change_vcpu v (put_to_sleep t) pool) in
       let here : AreWorks g (slice_set works p None) next = works_stopped g p works pool are Idle idle_runs_none v (put_to_sleep t) (only_guest g pool p v known guest) in
       let after : AreWorks g (slice_set works p None) (pools.after_block g t p v pool) =
       by_cond (AreWorks g (slice_set works p None)) (is_runnable g next (unit_of g v)) _ _
       (λ is. here) (λ is. works_core g (p / g) (λ (c : Resource). record c { pending = true }) (slice_set works p None) next (λ c at. refl) here) in
       subst (λ (o : Option VcpuId). AreWorks g (slice_set works p None) (elim o as (λ _. Pool) [ None ↦ pool | Some w ↦ pools.after_block g t p w pool ])) (sym guest) after
 
-  pub works_arrive : (p : ℕ) → AreWorks g (slice_set works p None) (after_in g t pool (Arrive p))
+  pub works_arrive : (p : ℕ) → AreWorks g (slice_set works p None) (after_in g t pool (Arrive (processor_number p)))
   works_arrive p =
-      by_option (λ (next : Pool). AreWorks g (slice_set works p None) (change_processor g p (does Held) next)) (guest_of g pool p) _ _
+      by_option (λ (next : Pool). AreWorks g (slice_set works p None) (change_processor g p (with_doing Held) next)) (guest_of g pool p) _ _
       (λ is. works_freed g p works pool are Held held_runs_none)
-      (λ v is. works_stopped g p works pool are Held held_runs_none v (stopped t) (only_guest g pool p v known is))
+      (λ v is. works_stopped g p works pool are Held held_runs_none v (stopped_vcpu t) (only_guest g pool p v known is))
 
   -- the processors of a core that decides do what they did
-  decided_same : (decision : Decision) (c : Resource) → (pools.decided t decision c).processors ≡ c.processors
+  decided_same : (decision : Decision) (c : Resource) → (pools.decided_core t decision c).processors ≡ c.processors
   decided_same decision c = by_test (λ (x : Resource). x.processors ≡ c.processors) (pools.same_choice decision.unit c.cur) _ _ (λ is. refl) (λ is. refl)
 
-  pub works_decide : (r : ℕ) → AreWorks g works (after_in g t pool (Decide r))
+  pub works_decide : (r : ℕ) → AreWorks g works (after_in g t pool (Decide (core_number r)))
   works_decide r = by_core (at_place pool.resources r) refl
     where
       by_core : (o : Option Resource) → at_place pool.resources r ≡ o → AreWorks g works (elim o as (λ _. Pool) [ None ↦ pool | Some c ↦ pools.after_decide g t r c pool ])
       by_core None is = are
       by_core (Some c) is =
           let decision : Decision = decision_of (pools.ask_of g t pool r c) pool.scheduler in
-          let changed : AreWorks g works (pools.change_core r (pools.decided t decision) pool) = works_core g r (pools.decided t decision) works pool (λ x at. decided_same decision x) are in
-          let same : change_at r (pools.decided t decision) pool.resources ≡ put_at r (pools.decided t decision c) pool.resources = ap (λ (o : Option Resource). slice_set pool.resources r (option_map (pools.decided t decision) o)) is in
-          works_same g works (pools.change_core r (pools.decided t decision) pool) (pools.after_decide g t r c pool) refl (λ p. ap (λ (cores : List (Option Resource)). processor_among g cores p) (sym same)) changed
+          let changed : AreWorks g works (pools.change_core r (pools.decided_core t decision) pool) = works_core g r (pools.decided_core t decision) works pool (λ x at. decided_same decision x) are in
+          let same : change_at r (pools.decided_core t decision) pool.resources ≡ put_at r (pools.decided_core t decision c) pool.resources = ap (λ (o : Option Resource). slice_set pool.resources r (option_map (pools.decided_core t decision) o)) is in
+          works_same g works (pools.change_core r (pools.decided_core t decision) pool) (pools.after_decide g t r c pool) refl (λ p. ap (λ (cores : List (Option Resource)). processor_among g cores p) (sym same)) changed
 
-  pub works_save : (r : ℕ) → AreWorks g works (after_in g t pool (Save r))
+  pub works_save : (r : ℕ) → AreWorks g works (after_in g t pool (Save (core_number r)))
   works_save r =
       by_option (AreWorks g works) (at_place pool.resources r) _ _ (λ is. are)
       (λ c is. by_option (AreWorks g works) c.saving _ _ (λ is2. are)
       (λ u is2. by_cond (AreWorks g works) (is_runnable g pool u) _ _ (λ runs. put_away) (λ runs. put_away)))
     where
-      put_away : AreWorks g works (pools.change_core r pools.saved pool)
-      put_away = works_core g r pools.saved works pool (λ c at. refl) are
+      put_away : AreWorks g works (pools.change_core r pools.saved_core pool)
+      put_away = works_core g r pools.saved_core works pool (λ c at. refl) are
 
   pub works_replenish : (u : UnitId) → AreWorks g works (after_in g t pool (Repl u))
   works_replenish u =
@@ -98,7 +99,7 @@ pub works_parted : (g t p : ℕ) (works : List (Option Moment)) (pool : Pool) (x
     → ((v : VcpuId) → taken ≡ Some v → (q : ℕ) → guest_of g pool q ≡ Some v → q ≡ p)
     → AreWorks g (slice_set works p (work_of (parted_with g t p taken pool).domains taken)) (parted_with g t p taken pool)
 works_parted g t p works pool x None known are inside there only =
-    works_core g (p / g) pools.open_if_left (slice_set works p None) (change_processor g p (does Idle) pool) (λ c at. open_same c) (works_freed g p works pool are Idle idle_runs_none)
+    works_core g (p / g) pools.open_if_left (slice_set works p None) (change_processor g p (with_doing Idle) pool) (λ c at. open_same c) (works_freed g p works pool are Idle idle_runs_none)
   where
     open_same : (c : Resource) → (pools.open_if_left c).processors ≡ c.processors
     open_same c = by_cond (λ (y : Resource). y.processors ≡ c.processors) (list_any pools.is_held c.processors) _ _ (λ is. refl) (λ is. refl)
@@ -129,9 +130,9 @@ pub record Leaves (g t p : ℕ) (pool : Pool) : Type 0 where
   pub processor : Processor
   pub there : processor_of g pool p ≡ Some processor
   pub only : (v : VcpuId) → taken_at g pool p ≡ Some v → (q : ℕ) → guest_of g pool q ≡ Some v → q ≡ p
-  pub after : parted_with g t p (taken_at g pool p) pool ≡ after_in g t pool (Leave p)
+  pub after : parted_with g t p (taken_at g pool p) pool ≡ after_in g t pool (Leave (processor_number p))
 
-pub may_leave : (g t p : ℕ) (pool : Pool) → 0 < g → IsKnownPool g pool → enabled_in g t pool (Leave p) ≡ true → Leaves g t p pool
+pub may_leave : (g t p : ℕ) (pool : Pool) → 0 < g → IsKnownPool g pool → enabled_in g t pool (Leave (processor_number p)) ≡ true → Leaves g t p pool
 may_leave g t p pool some known on =
     let found = some-test_at pool.resources (p / g) (λ (c : Resource). not (pools.is_open c)) (and_left (test_at pool.resources (p / g) (λ (c : Resource). not (pools.is_open c))) _ on) in
     let there = is_there (processor_of g pool p) (and_right (test_at pool.resources (p / g) (λ (c : Resource). not (pools.is_open c))) _ on) in
@@ -154,10 +155,10 @@ may_leave g t p pool some known on =
 pub works_wake : (g t : ℕ) (v : VcpuId) (works : List (Option Moment)) (pool : Pool) → 0 < g → IsGranularity g → length pool.resources * g ≤ 64 → length works ≡ 64 → IsKnownPool g pool → ((x : Vcpu) → vcpu_among pool.domains v ≡ Some x → x.started ≡ None) → AreWorks g works pool
     → AreWorks g (woken_works g t v pool works) (after_in g t pool (Wake v))
 works_wake g t v works pool some granularity few count known still are =
-    by_two (is_runnable g (change_vcpu v woken pool) (unit_of g v)) (pools.is_off (change_vcpu v woken pool) (unit_of g v)) (by_core (pools.core_of pool (unit_of g v)) refl)
+    by_two (is_runnable g (change_vcpu v woken_vcpu pool) (unit_of g v)) (pools.is_off (change_vcpu v woken_vcpu pool) (unit_of g v)) (by_core (pools.core_of pool (unit_of g v)) refl)
   where
     next : Pool
-    next = change_vcpu v woken pool
+    next = change_vcpu v woken_vcpu pool
 
     here : AreWorks g works next
     here = works_woken g v works pool still are

@@ -1,4 +1,5 @@
 -- What a pool's state keeps after an event, and after its cores were looked at.
+use Rattle.sched_base.specs.Numbers.{processor}
 use Rattle.std.proofs.Common.{◌≡◌, ◌≤◌, ℕ, Bool, true, false, List, refl, sym, ap, subst, ◌∙◌, arith}
 use Rattle.std.specs.Prelude.{Option, Some, None}
 use Rattle.sched_base.specs.declared.Moment.{Moment}
@@ -11,7 +12,7 @@ use Rattle.sched_model.specs.declared.state.Vcpu.{Vcpu}
 use Rattle.sched_model.specs.Checked.{most_span}
 use Rattle.sched_model.specs.Places.{change_each}
 use Rattle.sched_model.specs.declared.state.Doing.TheVariants.{Held}
-use Rattle.sched_model.specs.Pool.{after_arrive, after_block, after_in, change_processor, change_vcpu, does, stopped, cores_from, done_at, enabled_in, guest_of, reconsidered, settled, vcpu_of}
+use Rattle.sched_model.specs.Pool.{after_arrive, after_block, after_in, change_processor, change_vcpu, with_doing, stopped_vcpu, cores_from, done_at, enabled_in, guest_of, reconsidered_core, settled_pool, vcpu_of}
 use Rattle.sched_model.specs.State.{has_come}
 use Rattle.sched_laws.proofs.Bools.{and_left}
 use Rattle.sched_laws.proofs.EachPlace.{by_cond}
@@ -26,16 +27,16 @@ use Rattle.core_state.specs.Seen.{Seen as CoresSeen}
 use Rattle.sched_ops.specs.Seen.{Seen as SchedulerSeen}
 use Rattle.pool_core.specs.Doing.{IsMoved}
 use Rattle.pool_core.specs.Kept.{AreWorks, IsKept}
-use Rattle.pool_core.specs.Seen.{Seen, happened, pool_of}
+use Rattle.pool_core.specs.Seen.{Seen, seen_after, pool_of}
 use Rattle.pool_core.proofs.Works.{works_each}
 
 -- a core that is looked at keeps its processors
-looked_same : (t home : ℕ) (s : SchedulerSeen) (r : ℕ) (c : Resource) → (reconsidered t home s.scheduler r c).processors ≡ c.processors
+looked_same : (t home : ℕ) (s : SchedulerSeen) (r : ℕ) (c : Resource) → (reconsidered_core t home s.scheduler r c).processors ≡ c.processors
 looked_same t home s r c = by_cond (λ (x : Resource). x.processors ≡ c.processors) c.leaving _ _ (λ is. refl) (λ is. refl)
 
 -- after the cores were looked at
 pub settled_kept : (t : ℕ) (guests : GuestsSeen) (cores after : CoresSeen) (s : SchedulerSeen) → IsKept t guests cores s
-    → after ≡ record cores { resources = change_each 0 (reconsidered t (cores_from 0 cores.resources) s.scheduler) cores.resources } → IsKept t guests after s
+    → after ≡ record cores { resources = change_each 0 (reconsidered_core t (cores_from 0 cores.resources) s.scheduler) cores.resources } → IsKept t guests after s
 settled_kept t guests cores after s keeps is =
     subst (λ (x : CoresSeen). IsKept t guests x s) (sym is) (record {
       linked = record {
@@ -44,7 +45,7 @@ settled_kept t guests cores after s keeps is =
         scheduler_latest = keeps.linked.scheduler_latest;
         early = keeps.linked.early;
         spare = keeps.linked.spare;
-        works = works_each guests.granularity (reconsidered t (cores_from 0 cores.resources) s.scheduler) cores.works (pool_of guests cores s) (looked_same t (cores_from 0 cores.resources) s) keeps.linked.works;
+        works = works_each guests.granularity (reconsidered_core t (cores_from 0 cores.resources) s.scheduler) cores.works (pool_of guests cores s) (looked_same t (cores_from 0 cores.resources) s) keeps.linked.works;
       };
       pool = kept.settles guests.granularity t (pool_of guests cores s) keeps.pool;
     })
@@ -89,7 +90,7 @@ pub unmoved : (t0 t : ℕ) (guests : GuestsSeen) (cores after : CoresSeen) (s : 
 unmoved t0 t guests cores after s keeps past same = record { granularity = refl; spare = refl; latest = (let l = keeps.linked.guests_latest in omega (arith, l, past)); processors = same }
 
 -- a vCPU that may block has done its work
-pub block_done : (g t p : ℕ) (v : VcpuId) (pool : Pool) → enabled_in g t pool (Block p) ≡ true → guest_of g pool p ≡ Some v → has_come t (done_among pool.domains v) ≡ true
+pub block_done : (g t p : ℕ) (v : VcpuId) (pool : Pool) → enabled_in g t pool (Block (processor p)) ≡ true → guest_of g pool p ≡ Some v → has_come t (done_among pool.domains v) ≡ true
 block_done g t p v pool on guest =
     by_vcpu (vcpu_of pool v)
     (subst (λ (o : Option VcpuId). elim o as (λ _. Bool) [ None ↦ false | Some w ↦ elim (vcpu_of pool w) as (λ _. Bool) [ None ↦ false | Some x ↦ has_come t (done_at x) ] ] ≡ true) guest
@@ -116,29 +117,29 @@ wake_still t v guests keeps due x there =
     ((keeps.guests v.dom.0 at.0 at.1).vcpus v.n x at.2).still until.0 until.1
 
 -- the event of a processor that runs the vCPU
-pub block_happens : (g t p : ℕ) (v : VcpuId) (pool : Pool) → guest_of g pool p ≡ Some v → after_block g t p v pool ≡ after_in g t pool (Block p)
+pub block_happens : (g t p : ℕ) (v : VcpuId) (pool : Pool) → guest_of g pool p ≡ Some v → after_block g t p v pool ≡ after_in g t pool (Block (processor p))
 block_happens g t p v pool guest = ap (λ (o : Option VcpuId). elim o as (λ _. Pool) [ None ↦ pool | Some w ↦ after_block g t p w pool ]) (sym guest)
 
 -- what is seen after an event and after the cores were looked at
 pub happened_is : (t : ℕ) (guests next : GuestsSeen) (cores after : CoresSeen) (s s2 : SchedulerSeen) (latest : ℕ) (used : Bool) (action : Action) (before : Seen)
     → pool_of next after s2 ≡ after_in guests.granularity t (pool_of guests cores s) action → IsMoved t guests next cores after
     → ◌≡◌ {A = Seen} (record { pool = pool_of guests cores s; granularity = guests.granularity; spare = guests.spare; latest = latest; in_use = used }) before
-    → ◌≡◌ {A = Seen} (record { pool = settled t (pool_of next after s2); granularity = next.granularity; spare = next.spare; latest = t; in_use = used }) (happened t action before)
+    → ◌≡◌ {A = Seen} (record { pool = settled_pool t (pool_of next after s2); granularity = next.granularity; spare = next.spare; latest = t; in_use = used }) (seen_after t action before)
 happened_is t guests next cores after s s2 latest used action before pool moved is =
-    let a : ◌≡◌ {A = Seen} (record { pool = settled t (pool_of next after s2); granularity = next.granularity; spare = next.spare; latest = t; in_use = used })
-    (record { pool = settled t (after_in guests.granularity t (pool_of guests cores s) action); granularity = next.granularity; spare = next.spare; latest = t; in_use = used }) =
-    ap (λ (p : Pool). record { pool = settled t p; granularity = next.granularity; spare = next.spare; latest = t; in_use = used }) pool in
-    let b : ◌≡◌ {A = Seen} (record { pool = settled t (after_in guests.granularity t (pool_of guests cores s) action); granularity = next.granularity; spare = next.spare; latest = t; in_use = used })
-    (record { pool = settled t (after_in guests.granularity t (pool_of guests cores s) action); granularity = guests.granularity; spare = next.spare; latest = t; in_use = used }) =
-    ap (λ (k : ℕ). record { pool = settled t (after_in guests.granularity t (pool_of guests cores s) action); granularity = k; spare = next.spare; latest = t; in_use = used }) moved.granularity in
-    let d : ◌≡◌ {A = Seen} (record { pool = settled t (after_in guests.granularity t (pool_of guests cores s) action); granularity = guests.granularity; spare = next.spare; latest = t; in_use = used })
-    (record { pool = settled t (after_in guests.granularity t (pool_of guests cores s) action); granularity = guests.granularity; spare = guests.spare; latest = t; in_use = used }) =
-    ap (λ (k : ℕ). record { pool = settled t (after_in guests.granularity t (pool_of guests cores s) action); granularity = guests.granularity; spare = k; latest = t; in_use = used }) moved.spare in
-    a ∙ b ∙ d ∙ ap (λ (x : Seen). happened t action x) is
+    let a : ◌≡◌ {A = Seen} (record { pool = settled_pool t (pool_of next after s2); granularity = next.granularity; spare = next.spare; latest = t; in_use = used })
+    (record { pool = settled_pool t (after_in guests.granularity t (pool_of guests cores s) action); granularity = next.granularity; spare = next.spare; latest = t; in_use = used }) =
+    ap (λ (p : Pool). record { pool = settled_pool t p; granularity = next.granularity; spare = next.spare; latest = t; in_use = used }) pool in
+    let b : ◌≡◌ {A = Seen} (record { pool = settled_pool t (after_in guests.granularity t (pool_of guests cores s) action); granularity = next.granularity; spare = next.spare; latest = t; in_use = used })
+    (record { pool = settled_pool t (after_in guests.granularity t (pool_of guests cores s) action); granularity = guests.granularity; spare = next.spare; latest = t; in_use = used }) =
+    ap (λ (k : ℕ). record { pool = settled_pool t (after_in guests.granularity t (pool_of guests cores s) action); granularity = k; spare = next.spare; latest = t; in_use = used }) moved.granularity in
+    let d : ◌≡◌ {A = Seen} (record { pool = settled_pool t (after_in guests.granularity t (pool_of guests cores s) action); granularity = guests.granularity; spare = next.spare; latest = t; in_use = used })
+    (record { pool = settled_pool t (after_in guests.granularity t (pool_of guests cores s) action); granularity = guests.granularity; spare = guests.spare; latest = t; in_use = used }) =
+    ap (λ (k : ℕ). record { pool = settled_pool t (after_in guests.granularity t (pool_of guests cores s) action); granularity = guests.granularity; spare = k; latest = t; in_use = used }) moved.spare in
+    a ∙ b ∙ d ∙ ap (λ (x : Seen). seen_after t action x) is
 
 -- a processor that arrives, where it ran nothing and where it ran a vCPU
-pub arrived_alone : (g t p : ℕ) (pool : Pool) → guest_of g pool p ≡ None → change_processor g p (does Held) pool ≡ after_arrive g t p pool
-arrived_alone g t p pool guest = ap (λ (o : Option VcpuId). change_processor g p (does Held) (elim o as (λ _. Pool) [ None ↦ pool | Some w ↦ change_vcpu w (stopped t) pool ])) (sym guest)
+pub arrived_alone : (g t p : ℕ) (pool : Pool) → guest_of g pool p ≡ None → change_processor g p (with_doing Held) pool ≡ after_arrive g t p pool
+arrived_alone g t p pool guest = ap (λ (o : Option VcpuId). change_processor g p (with_doing Held) (elim o as (λ _. Pool) [ None ↦ pool | Some w ↦ change_vcpu w (stopped_vcpu t) pool ])) (sym guest)
 
-pub arrived_with : (g t p : ℕ) (v : VcpuId) (pool : Pool) → guest_of g pool p ≡ Some v → change_processor g p (does Held) (change_vcpu v (stopped t) pool) ≡ after_arrive g t p pool
-arrived_with g t p v pool guest = ap (λ (o : Option VcpuId). change_processor g p (does Held) (elim o as (λ _. Pool) [ None ↦ pool | Some w ↦ change_vcpu w (stopped t) pool ])) (sym guest)
+pub arrived_with : (g t p : ℕ) (v : VcpuId) (pool : Pool) → guest_of g pool p ≡ Some v → change_processor g p (with_doing Held) (change_vcpu v (stopped_vcpu t) pool) ≡ after_arrive g t p pool
+arrived_with g t p v pool guest = ap (λ (o : Option VcpuId). change_processor g p (with_doing Held) (elim o as (λ _. Pool) [ None ↦ pool | Some w ↦ change_vcpu w (stopped_vcpu t) pool ])) (sym guest)

@@ -27,6 +27,8 @@ use Rattle.pool_kept.specs.Holds.{Holds}
 use Rattle.sched_ops.specs.Wanted.{MayAsk}
 use Rattle.pool_core.specs.Waking.{is_held_among}
 use Rattle.pool_core.proofs.Processors.{same_number}
+use Rattle.std.proofs.Math.Bool.{and-false}
+use Rattle.std.proofs.lemmas.Bool.{false_from_ne_true}
 
 -- a core's own unit has a place there
 own_place : (u : UnitId) (c : Resource) → c.cur ≡ Some u → 1 ≤ core_places u c
@@ -37,15 +39,11 @@ saved_place u c is = let e : one_at u c.saving ≡ 1 = ap (one_at u) is ∙ one_
 
 -- a unit with a place on a core does not wait
 pub waits_not : (g : ℕ) (pool : Pool) (u : UnitId) (r : ℕ) (c : Resource) → OnePlace g pool → at_place pool.resources r ≡ Some c → 1 ≤ core_places u c → has_unit pool.scheduler.queue u ≡ false
-waits_not g pool u r c one at has = by_queue (has_unit pool.scheduler.queue u) refl
-  where
-    by_queue : (b : Bool) → has_unit pool.scheduler.queue u ≡ b → b ≡ false
-    by_queue false is = refl
-    by_queue true is = absurd (
-        let waits = times_some u pool.scheduler.queue is in
-        let on = total_at (core_places u) r c pool.resources at in
-        let most = one.most u in
-        omega (arith, waits, on, most, has))
+waits_not g pool u r c one at has = false_from_ne_true (has_unit pool.scheduler.queue u) (λ is.
+    let waits = times_some u pool.scheduler.queue is in
+    let on = total_at (core_places u) r c pool.resources at in
+    let most = one.most u in
+    omega (arith, waits, on, most, has))
 
 -- two cores that have the same own unit are one
 pub one_core : (g : ℕ) (pool : Pool) (u : UnitId) (r s : ℕ) (c d : Resource) → OnePlace g pool → at_place pool.resources r ≡ Some c → c.cur ≡ Some u → at_place pool.resources s ≡ Some d → d.cur ≡ Some u → r ≡ s
@@ -108,11 +106,7 @@ saved_not_own g pool u r s c d one at is at2 is2 = elim (ℕ_discrete r s) [
 
 -- a unit that no core has as its own is not on
 off_if : (g t : ℕ) (pool : Pool) (u : UnitId) → Holds g t pool → ((r : ℕ) (c : Resource) → at_place pool.resources r ≡ Some c → c.cur ≡ Some u → ⊥) → is_on pool.scheduler.records u ≡ false
-off_if g t pool u holds nowhere = by_on (is_on pool.scheduler.records u) refl
-  where
-    by_on : (b : Bool) → is_on pool.scheduler.records u ≡ b → b ≡ false
-    by_on false is = refl
-    by_on true is = absurd (let found = found_core pool u (holds.on.off u is) in nowhere found.0 found.1 found.2 found.3)
+off_if g t pool u holds nowhere = false_from_ne_true (is_on pool.scheduler.records u) (λ is. let found = found_core pool u (holds.on.off u is) in nowhere found.0 found.1 found.2 found.3)
 
 -- a unit that a core saves neither waits nor is on
 pub saved_away : (g t : ℕ) (pool : Pool) (u : UnitId) (r : ℕ) (c : Resource) → Holds g t pool → at_place pool.resources r ≡ Some c → c.saving ≡ Some u → IsAway pool.scheduler u
@@ -136,11 +130,7 @@ waiting_runs g pool u one waits = times_has (λ (w : UnitId). is_runnable g pool
 
 -- a unit that was not runnable does not wait
 idle_waits_not : (g : ℕ) (pool : Pool) (u : UnitId) → OnePlace g pool → is_runnable g pool u ≡ false → has_unit pool.scheduler.queue u ≡ false
-idle_waits_not g pool u one idle = by_queue (has_unit pool.scheduler.queue u) refl
-  where
-    by_queue : (b : Bool) → has_unit pool.scheduler.queue u ≡ b → b ≡ false
-    by_queue false is = refl
-    by_queue true is = absurd (let runs = waiting_runs g pool u one is in cc)
+idle_waits_not g pool u one idle = false_from_ne_true (has_unit pool.scheduler.queue u) (λ is. let runs = waiting_runs g pool u one is in cc)
 
 -- a change of a vCPU leaves units and cores alike
 changed_alike : (g : ℕ) (v : VcpuId) (f : Vcpu → Vcpu) (pool : Pool) → Alike g pool (change_vcpu v f pool)
@@ -172,11 +162,7 @@ off_by g pool u one = by_both (is_runnable g pool u) (is_held_among pool.resourc
         by_off true e = absurd (
             let none = off_is pool u e in
             elim (one.runs u is) [ inl some ↦ omega (arith, none, some) | inr nobody ↦ nobody ])
-    by_both false true is has = let e : (not (has_unit pool.scheduler.queue u) && not true) ≡ false = and_no (not (has_unit pool.scheduler.queue u)) in ap (λ (b : Bool). not (has_unit pool.scheduler.queue u) && not b) has ∙ e
-      where
-        and_no : (b : Bool) → (b && false) ≡ false
-        and_no true = refl
-        and_no false = refl
+    by_both false true is has = let e : (not (has_unit pool.scheduler.queue u) && not true) ≡ false = and-false (not (has_unit pool.scheduler.queue u)) in ap (λ (b : Bool). not (has_unit pool.scheduler.queue u) && not b) has ∙ e
     by_both false false is has = ap (λ (b : Bool). not b && not (is_held_among pool.resources u)) (idle_waits_not g pool u one is) ∙ ap (λ (b : Bool). not false && not b) has
 
 -- the core that saves a unit

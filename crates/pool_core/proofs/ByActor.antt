@@ -3,13 +3,13 @@ use Rattle.std.proofs.Common.{◌≡◌, ◌≢◌, ◌≤◌, ◌<◌, ◌+◌,
 use Rattle.std.specs.Prelude.{Option, Some, None, ◌==◌, ◌&&◌}
 use Rattle.std.proofs.Math.Decide.{ℕ_discrete}
 use Rattle.std.proofs.Math.Nat.{mul-div_cancel, mul-mod_left}
-use Rattle.std.proofs.lemmas.Bool.{cases_lt}
+use Rattle.std.proofs.lemmas.Bool.{cases_lt, eqb-true, false_from_ne_true}
 use Rattle.std.proofs.lemmas.Bool.Decides.{nat_tests}
 use Rattle.sched_base.specs.declared.DomId.{DomId}
 use Rattle.sched_base.specs.declared.Moment.{Moment}
 use Rattle.sched_base.specs.declared.ProcId.{ProcId}
 use Rattle.sched_base.specs.declared.VcpuId.{VcpuId}
-use Rattle.sched_base.specs.Numbers.{domain}
+use Rattle.sched_base.specs.Numbers.{domain, core, processor}
 use Rattle.sched_model.specs.State.{has_come}
 use Rattle.sched_model.specs.declared.action.Action.{Action}
 use Rattle.sched_model.specs.declared.action.Action.TheVariants.{Stall, Xl, Moved, DomMoved, Wake, Block, Slice, Repl, Refill, Arrive, Decide, Leave, Save}
@@ -31,7 +31,8 @@ use Rattle.sched_ops.specs.Seen.{Seen as SchedulerSeen}
 use Rattle.pool_core.specs.Actors.{IsFirstBy, IsFirstByIn, is_by, is_by_domain, is_by_processor, is_lowest, leads}
 use Rattle.pool_core.specs.Order.{IsFirstIn, IsNotAfter, index_place, kind_place, subject_place}
 use Rattle.pool_core.specs.Seen.{pool_of}
-use Rattle.pool_core.proofs.Order.{action_at, from_wakes, is_of_pool, later_kind, never, of_kind, to_saves}
+use Rattle.pool_core.proofs.Order.{from_wakes, is_of_pool, joined, none_at, one_at, to_saves, widened}
+use Rattle.pool_laws.proofs.ActionOrder.{action_at, not_after_itself, of_kind}
 
 -- a test of two parts, of which the first is known
 pub and_then : (a b x : Bool) → a ≡ true → x ≡ b → x ≡ (a && b)
@@ -53,21 +54,15 @@ done_is t domains v = by (vcpu_among domains v)
     by None = refl
     by (Some x) = refl
 
-is_itself : (a : Action) → IsNotAfter a a
-is_itself a = record { by_kind = omega arith; then_by_subject = λ same. omega arith; then_by_index = λ same also. omega arith }
-
-equal : (a b : ℕ) → (a == b) ≡ true → a ≡ b
-equal a b e = grind (arith, nat_tests)
-
 -- a processor is the first of one core alone
 led : (g r k p : ℕ) → 0 < g → p ≡ r * g → leads g k p ≡ true → k ≡ r
 led g r k p some is own =
-    let e : k * g ≡ r * g = sym (equal p (k * g) own) ∙ is in
+    let e : k * g ≡ r * g = sym (eqb-true p (k * g) own) ∙ is in
     sym (mul-div_cancel k some) ∙ ap (λ (n : ℕ). n / g) e ∙ mul-div_cancel r some
 
 -- one that is not the first is that of no core
 not_led : (g k p : ℕ) → p % g ≢ 0 → leads g k p ≡ true → ⊥
-not_led g k p rest own = rest (ap (λ (n : ℕ). n % g) (equal p (k * g) own) ∙ mul-mod_left k g)
+not_led g k p rest own = rest (ap (λ (n : ℕ). n % g) (eqb-true p (k * g) own) ∙ mul-mod_left k g)
 
 lowest_leads : (g p : ℕ) (o : Option ℕ) → elim o as (λ _. Bool) [ None ↦ false | Some r ↦ leads g r p ] ≡ true → (r : ℕ) × (leads g r p ≡ true)
 lowest_leads g p None own = absurd (cc)
@@ -81,62 +76,18 @@ lowest_of g r p pool is first = ap (λ (o : Option ℕ). elim o as (λ _. Bool) 
 pub not_lowest : (g r p : ℕ) (o : Option ℕ) (pool : Pool) → 0 < g → p ≡ r * g → first_place 0 (λ c. true) pool.resources ≡ o → ((k : ℕ) → o ≡ Some k → k ≢ r) → is_lowest g pool p ≡ false
 not_lowest g r p None pool some is first others = ap (λ (o : Option ℕ). elim o as (λ _. Bool) [ None ↦ false | Some k ↦ leads g k p ]) first
 not_lowest g r p (Some k) pool some is first others =
-    ap (λ (o : Option ℕ). elim o as (λ _. Bool) [ None ↦ false | Some k ↦ leads g k p ]) first ∙ never _ (λ own. others k refl (led g r k p some is own))
+    ap (λ (o : Option ℕ). elim o as (λ _. Bool) [ None ↦ false | Some k ↦ leads g k p ]) first ∙ false_from_ne_true _ (λ own. others k refl (led g r k p some is own))
 
 module _ (g t : ℕ) (pool : Pool) (actor : Actor) where
-  -- no event of a kind
-  none_at : (k : ℕ) → ((i n : ℕ) → is_by g pool actor (action_at k i n) ≡ true → enabled_in g t pool (action_at k i n) ≡ false) → IsFirstByIn k (suc k) g t pool actor None
-  none_at k none action from below own =
-      let e = of_kind k action (omega (arith, from, below)) in
-      subst (λ (a : Action). enabled_in g t pool a ≡ false) e (none (subject_place action) (index_place action) (subst (λ (a : Action). is_by g pool actor a ≡ true) (sym e) own))
-
-  -- the one event of a kind
-  one_at : (k : ℕ) (event : Action) → kind_place event ≡ k → is_by g pool actor event ≡ true → enabled_in g t pool event ≡ true
-      → ((i n : ℕ) → is_by g pool actor (action_at k i n) ≡ true → enabled_in g t pool (action_at k i n) ≡ true → IsNotAfter event (action_at k i n)) → IsFirstByIn k (suc k) g t pool actor (Some event)
-  one_at k event is own on first = record {
-    kind = omega (arith, is);
-    kind_below = omega (arith, is);
-    own = own;
-    enabled = on;
-    first = λ action from by may. elim (ℕ_discrete (kind_place action) k) [
-      | yes same ↦ (let e = of_kind k action same in
-          subst (IsNotAfter event) e (first (subject_place action) (index_place action)
-          (subst (λ (a : Action). is_by g pool actor a ≡ true) (sym e) by) (subst (λ (a : Action). enabled_in g t pool a ≡ true) (sym e) may)))
-      | no other ↦ later_kind event action (omega (arith, is, from, other))
-    ];
-  }
-
-  -- some kinds of which no event may come, and those after them
-  pub joined : (a b c : ℕ) (o : Option Action) → a ≤ b → IsFirstByIn a b g t pool actor None → IsFirstByIn b c g t pool actor o → IsFirstByIn a c g t pool actor o
-  joined a b c None order none others = λ action from below own. elim (cases_lt (kind_place action) b) [
-    | inl before ↦ none action from before own
-    | inr after ↦ others action after below own
-  ]
-  joined a b c (Some event) order none others = record {
-    kind = (let kind = others.kind in omega (arith, order, kind));
-    kind_below = others.kind_below;
-    own = others.own;
-    enabled = others.enabled;
-    first = λ action from own may. elim (cases_lt (kind_place action) b) [
-      | inl before ↦ absurd (clash _ may (none action from before own))
-      | inr after ↦ others.first action after own may
-    ];
-  }
-
-  -- the first event, and further kinds
-  pub widened : (a b c : ℕ) (event : Action) → b ≤ c → IsFirstByIn a b g t pool actor (Some event) → IsFirstByIn a c g t pool actor (Some event)
-  widened a b c event order is =
-      record { kind = is.kind; kind_below = (let below = is.kind_below in omega (arith, order, below)); own = is.own; enabled = is.enabled; first = is.first }
-
   -- of all the kinds of a pool
   pub of_all : (o : Option Action) → IsFirstByIn 4 13 g t pool actor o → IsFirstBy g t pool actor o
   of_all None none = λ action of own. none action (from_wakes action of) (to_saves action) own
-  of_all (Some event) is = record { of_pool = is_of_pool event is.kind; own = is.own; enabled = is.enabled; first = λ action of own may. is.first action (from_wakes action of) own may }
+  of_all (Some event) is = record { of_pool = is_of_pool event is.kind; own = is.passes; enabled = is.enabled; first = λ action of own may. is.first action (from_wakes action of) own may }
 
   -- a kind of which the actor does the event of one number alone: where that may not come
   only_none : (k : ℕ) (make : ℕ → Action) (i : ℕ) → ((j n : ℕ) → action_at k j n ≡ make j) → ((j : ℕ) → is_by g pool actor (make j) ≡ true → j ≡ i) → enabled_in g t pool (make i) ≡ false
       → IsFirstByIn k (suc k) g t pool actor None
-  only_none k make i made only off = none_at k (λ j n own.
+  only_none k make i made only off = none_at (is_by g pool actor) g t pool k (λ j n own.
       let e = made j n in
       let same = only j (subst (λ (a : Action). is_by g pool actor a ≡ true) e own) in
       ap (enabled_in g t pool) (e ∙ ap make same) ∙ off)
@@ -144,32 +95,32 @@ module _ (g t : ℕ) (pool : Pool) (actor : Actor) where
   -- and where it may
   only_one : (k : ℕ) (make : ℕ → Action) (i : ℕ) → ((j n : ℕ) → action_at k j n ≡ make j) → ((j : ℕ) → is_by g pool actor (make j) ≡ true → j ≡ i) → kind_place (make i) ≡ k → is_by g pool actor (make i) ≡ true
       → enabled_in g t pool (make i) ≡ true → IsFirstByIn k (suc k) g t pool actor (Some (make i))
-  only_one k make i made only kind own on = one_at k (make i) kind own on (λ j n by may.
+  only_one k make i made only kind own on = one_at (is_by g pool actor) g t pool k (make i) kind own on (λ j n by may.
       let e = made j n in
       let same = only j (subst (λ (a : Action). is_by g pool actor a ≡ true) e by) in
-      subst (IsNotAfter (make i)) (sym (e ∙ ap make same)) (is_itself (make i)))
+      subst (IsNotAfter (make i)) (sym (e ∙ ap make same)) (not_after_itself (make i)))
 
 module _ (g t : ℕ) (pool : Pool) (p : ProcId) where
   no_wake : IsFirstByIn 4 5 g t pool (Proc p) None
-  no_wake = none_at g t pool (Proc p) 4 (λ i n own. absurd (cc))
+  no_wake = none_at (is_by g pool (Proc p)) g t pool 4 (λ i n own. absurd (cc))
 
-  no_block : enabled_in g t pool (Block p.0) ≡ false → IsFirstByIn 5 6 g t pool (Proc p) None
-  no_block off = only_none g t pool (Proc p) 5 Block p.0 (λ j n. refl) (λ j own. sym (equal p.0 j own)) off
+  no_block : enabled_in g t pool (Block p) ≡ false → IsFirstByIn 5 6 g t pool (Proc p) None
+  no_block off = only_none g t pool (Proc p) 5 (λ n. Block (processor n)) p.0 (λ j n. refl) (λ j own. sym (eqb-true p.0 j own)) off
 
-  a_block : enabled_in g t pool (Block p.0) ≡ true → IsFirstByIn 5 6 g t pool (Proc p) (Some (Block p.0))
-  a_block on = only_one g t pool (Proc p) 5 Block p.0 (λ j n. refl) (λ j own. sym (equal p.0 j own)) refl (is_same p.0 p.0 refl) on
+  a_block : enabled_in g t pool (Block p) ≡ true → IsFirstByIn 5 6 g t pool (Proc p) (Some (Block p))
+  a_block on = only_one g t pool (Proc p) 5 (λ n. Block (processor n)) p.0 (λ j n. refl) (λ j own. sym (eqb-true p.0 j own)) refl (is_same p.0 p.0 refl) on
 
-  no_arrive : enabled_in g t pool (Arrive p.0) ≡ false → IsFirstByIn 9 10 g t pool (Proc p) None
-  no_arrive off = only_none g t pool (Proc p) 9 Arrive p.0 (λ j n. refl) (λ j own. sym (equal p.0 j own)) off
+  no_arrive : enabled_in g t pool (Arrive p) ≡ false → IsFirstByIn 9 10 g t pool (Proc p) None
+  no_arrive off = only_none g t pool (Proc p) 9 (λ n. Arrive (processor n)) p.0 (λ j n. refl) (λ j own. sym (eqb-true p.0 j own)) off
 
-  an_arrive : enabled_in g t pool (Arrive p.0) ≡ true → IsFirstByIn 9 10 g t pool (Proc p) (Some (Arrive p.0))
-  an_arrive on = only_one g t pool (Proc p) 9 Arrive p.0 (λ j n. refl) (λ j own. sym (equal p.0 j own)) refl (is_same p.0 p.0 refl) on
+  an_arrive : enabled_in g t pool (Arrive p) ≡ true → IsFirstByIn 9 10 g t pool (Proc p) (Some (Arrive p))
+  an_arrive on = only_one g t pool (Proc p) 9 (λ n. Arrive (processor n)) p.0 (λ j n. refl) (λ j own. sym (eqb-true p.0 j own)) refl (is_same p.0 p.0 refl) on
 
-  no_leave : enabled_in g t pool (Leave p.0) ≡ false → IsFirstByIn 11 12 g t pool (Proc p) None
-  no_leave off = only_none g t pool (Proc p) 11 Leave p.0 (λ j n. refl) (λ j own. sym (equal p.0 j own)) off
+  no_leave : enabled_in g t pool (Leave p) ≡ false → IsFirstByIn 11 12 g t pool (Proc p) None
+  no_leave off = only_none g t pool (Proc p) 11 (λ n. Leave (processor n)) p.0 (λ j n. refl) (λ j own. sym (eqb-true p.0 j own)) off
 
-  a_leave : enabled_in g t pool (Leave p.0) ≡ true → IsFirstByIn 11 12 g t pool (Proc p) (Some (Leave p.0))
-  a_leave on = only_one g t pool (Proc p) 11 Leave p.0 (λ j n. refl) (λ j own. sym (equal p.0 j own)) refl (is_same p.0 p.0 refl) on
+  a_leave : enabled_in g t pool (Leave p) ≡ true → IsFirstByIn 11 12 g t pool (Proc p) (Some (Leave p))
+  a_leave on = only_one g t pool (Proc p) 11 (λ n. Leave (processor n)) p.0 (λ j n. refl) (λ j own. sym (eqb-true p.0 j own)) refl (is_same p.0 p.0 refl) on
 
   -- the timers, by the pool's lowest processor and by any other
   timer_own : (a : Action) → 7 ≤ kind_place a → kind_place a < 9 → is_lowest g pool p.0 ≡ true → is_by_processor g pool p.0 a ≡ true
@@ -179,21 +130,21 @@ module _ (g t : ℕ) (pool : Pool) (p : ProcId) where
   ]
 
   pub timers_of : (o : Option Action) → is_lowest g pool p.0 ≡ true → IsFirstIn 7 9 g t pool o → IsFirstByIn 7 9 g t pool (Proc p) o
-  timers_of None low none = λ action from below own. none action from below
+  timers_of None low none = λ action from below own. none action from below refl
   timers_of (Some event) low is =
-      record { kind = is.kind; kind_below = is.kind_below; own = timer_own event is.kind is.kind_below low; enabled = is.enabled; first = λ action from own may. is.first action from may }
+      record { kind = is.kind; kind_below = is.kind_below; passes = timer_own event is.kind is.kind_below low; enabled = is.enabled; first = λ action from own may. is.first action from refl may }
 
   pub no_timers : is_lowest g pool p.0 ≡ false → IsFirstByIn 7 9 g t pool (Proc p) None
-  no_timers high = joined g t pool (Proc p) 7 8 9 None (omega arith)
-      (none_at g t pool (Proc p) 7 (λ i n own. absurd (clash _ own high)))
-      (none_at g t pool (Proc p) 8 (λ i n own. absurd (clash _ own high)))
+  no_timers high = joined (is_by g pool (Proc p)) g t pool 7 8 9 None (omega arith)
+      (none_at (is_by g pool (Proc p)) g t pool 7 (λ i n own. absurd (clash _ own high)))
+      (none_at (is_by g pool (Proc p)) g t pool 8 (λ i n own. absurd (clash _ own high)))
 
   -- of a core's first processor: the events that come at a moment of their own
-  pub block_first : enabled_in g t pool (Block p.0) ≡ true → IsFirstByIn 4 9 g t pool (Proc p) (Some (Block p.0))
-  block_first on = joined g t pool (Proc p) 4 5 9 (Some (Block p.0)) (omega arith) no_wake (widened g t pool (Proc p) 5 6 9 (Block p.0) (omega arith) (a_block on))
+  pub block_first : enabled_in g t pool (Block p) ≡ true → IsFirstByIn 4 9 g t pool (Proc p) (Some (Block p))
+  block_first on = joined (is_by g pool (Proc p)) g t pool 4 5 9 (Some (Block p)) (omega arith) no_wake (widened (is_by g pool (Proc p)) g t pool 5 6 9 (Block p) (omega arith) (a_block on))
 
-  after_block : (c : ℕ) (o : Option Action) → enabled_in g t pool (Block p.0) ≡ false → IsFirstByIn 6 c g t pool (Proc p) o → IsFirstByIn 4 c g t pool (Proc p) o
-  after_block c o off others = joined g t pool (Proc p) 4 5 c o (omega arith) no_wake (joined g t pool (Proc p) 5 6 c o (omega arith) (no_block off) others)
+  after_block : (c : ℕ) (o : Option Action) → enabled_in g t pool (Block p) ≡ false → IsFirstByIn 6 c g t pool (Proc p) o → IsFirstByIn 4 c g t pool (Proc p) o
+  after_block c o off others = joined (is_by g pool (Proc p)) g t pool 4 5 c o (omega arith) no_wake (joined (is_by g pool (Proc p)) g t pool 5 6 c o (omega arith) (no_block off) others)
 
   module _ (r : ℕ) (some : 0 < g) (is : p.0 ≡ r * g) where
     no_own : (k : ℕ) (make : ℕ → Action) → ((j n : ℕ) → action_at k j n ≡ make j) → ((j : ℕ) → is_by g pool (Proc p) (make j) ≡ leads g j p.0) → enabled_in g t pool (make r) ≡ false → IsFirstByIn k (suc k) g t pool (Proc p) None
@@ -203,78 +154,67 @@ module _ (g t : ℕ) (pool : Pool) (p : ProcId) where
         → IsFirstByIn k (suc k) g t pool (Proc p) (Some (make r))
     an_own k make made by kind on = only_one g t pool (Proc p) k make r made (λ j own. led g r j p.0 some is (sym (by j) ∙ own)) kind (by r ∙ is_same p.0 (r * g) is) on
 
-    pub slice_first : enabled_in g t pool (Block p.0) ≡ false → enabled_in g t pool (Slice r) ≡ true → IsFirstByIn 4 9 g t pool (Proc p) (Some (Slice r))
-    slice_first off on = after_block 9 (Some (Slice r)) off (widened g t pool (Proc p) 6 7 9 (Slice r) (omega arith) (an_own 6 Slice (λ j n. refl) (λ j. refl) refl on))
+    pub slice_first : enabled_in g t pool (Block p) ≡ false → enabled_in g t pool (Slice (core r)) ≡ true → IsFirstByIn 4 9 g t pool (Proc p) (Some (Slice (core r)))
+    slice_first off on = after_block 9 (Some (Slice (core r))) off (widened (is_by g pool (Proc p)) g t pool 6 7 9 (Slice (core r)) (omega arith) (an_own 6 (λ n. Slice (core n)) (λ j n. refl) (λ j. refl) refl on))
 
-    pub timer_first : (o : Option Action) → enabled_in g t pool (Block p.0) ≡ false → enabled_in g t pool (Slice r) ≡ false → IsFirstByIn 7 9 g t pool (Proc p) o → IsFirstByIn 4 9 g t pool (Proc p) o
-    timer_first o off also others = after_block 9 o off (joined g t pool (Proc p) 6 7 9 o (omega arith) (no_own 6 Slice (λ j n. refl) (λ j. refl) also) others)
+    pub timer_first : (o : Option Action) → enabled_in g t pool (Block p) ≡ false → enabled_in g t pool (Slice (core r)) ≡ false → IsFirstByIn 7 9 g t pool (Proc p) o → IsFirstByIn 4 9 g t pool (Proc p) o
+    timer_first o off also others = after_block 9 o off (joined (is_by g pool (Proc p)) g t pool 6 7 9 o (omega arith) (no_own 6 (λ n. Slice (core n)) (λ j n. refl) (λ j. refl) also) others)
 
     -- those by which a core decides anew
-    pub arrive_first : enabled_in g t pool (Arrive p.0) ≡ true → IsFirstByIn 9 13 g t pool (Proc p) (Some (Arrive p.0))
-    arrive_first on = widened g t pool (Proc p) 9 10 13 (Arrive p.0) (omega arith) (an_arrive on)
+    pub arrive_first : enabled_in g t pool (Arrive p) ≡ true → IsFirstByIn 9 13 g t pool (Proc p) (Some (Arrive p))
+    arrive_first on = widened (is_by g pool (Proc p)) g t pool 9 10 13 (Arrive p) (omega arith) (an_arrive on)
 
-    pub decide_first : enabled_in g t pool (Arrive p.0) ≡ false → enabled_in g t pool (Decide r) ≡ true → IsFirstByIn 9 13 g t pool (Proc p) (Some (Decide r))
+    pub decide_first : enabled_in g t pool (Arrive p) ≡ false → enabled_in g t pool (Decide (core r)) ≡ true → IsFirstByIn 9 13 g t pool (Proc p) (Some (Decide (core r)))
     decide_first unready on =
-        joined g t pool (Proc p) 9 10 13 (Some (Decide r)) (omega arith) (no_arrive unready) (widened g t pool (Proc p) 10 11 13 (Decide r) (omega arith) (an_own 10 Decide (λ j n. refl) (λ j. refl) refl on))
+        joined (is_by g pool (Proc p)) g t pool 9 10 13 (Some (Decide (core r))) (omega arith) (no_arrive unready) (widened (is_by g pool (Proc p)) g t pool 10 11 13 (Decide (core r)) (omega arith) (an_own 10 (λ n. Decide (core n)) (λ j n. refl) (λ j. refl) refl on))
 
-    after_decide : (o : Option Action) → enabled_in g t pool (Arrive p.0) ≡ false → enabled_in g t pool (Decide r) ≡ false → IsFirstByIn 11 13 g t pool (Proc p) o → IsFirstByIn 9 13 g t pool (Proc p) o
+    after_decide : (o : Option Action) → enabled_in g t pool (Arrive p) ≡ false → enabled_in g t pool (Decide (core r)) ≡ false → IsFirstByIn 11 13 g t pool (Proc p) o → IsFirstByIn 9 13 g t pool (Proc p) o
     after_decide o unready undecided others =
-        joined g t pool (Proc p) 9 10 13 o (omega arith) (no_arrive unready) (joined g t pool (Proc p) 10 11 13 o (omega arith) (no_own 10 Decide (λ j n. refl) (λ j. refl) undecided) others)
+        joined (is_by g pool (Proc p)) g t pool 9 10 13 o (omega arith) (no_arrive unready) (joined (is_by g pool (Proc p)) g t pool 10 11 13 o (omega arith) (no_own 10 (λ n. Decide (core n)) (λ j n. refl) (λ j. refl) undecided) others)
 
-    pub leave_first : enabled_in g t pool (Arrive p.0) ≡ false → enabled_in g t pool (Decide r) ≡ false → enabled_in g t pool (Leave p.0) ≡ true → IsFirstByIn 9 13 g t pool (Proc p) (Some (Leave p.0))
-    leave_first unready undecided on = after_decide (Some (Leave p.0)) unready undecided (widened g t pool (Proc p) 11 12 13 (Leave p.0) (omega arith) (a_leave on))
+    pub leave_first : enabled_in g t pool (Arrive p) ≡ false → enabled_in g t pool (Decide (core r)) ≡ false → enabled_in g t pool (Leave p) ≡ true → IsFirstByIn 9 13 g t pool (Proc p) (Some (Leave p))
+    leave_first unready undecided on = after_decide (Some (Leave p)) unready undecided (widened (is_by g pool (Proc p)) g t pool 11 12 13 (Leave p) (omega arith) (a_leave on))
 
-    pub save_first : enabled_in g t pool (Arrive p.0) ≡ false → enabled_in g t pool (Decide r) ≡ false → enabled_in g t pool (Leave p.0) ≡ false → enabled_in g t pool (Save r) ≡ true
-        → IsFirstByIn 9 13 g t pool (Proc p) (Some (Save r))
+    pub save_first : enabled_in g t pool (Arrive p) ≡ false → enabled_in g t pool (Decide (core r)) ≡ false → enabled_in g t pool (Leave p) ≡ false → enabled_in g t pool (Save (core r)) ≡ true
+        → IsFirstByIn 9 13 g t pool (Proc p) (Some (Save (core r)))
     save_first unready undecided stuck on =
-        after_decide (Some (Save r)) unready undecided (joined g t pool (Proc p) 11 12 13 (Some (Save r)) (omega arith) (no_leave stuck) (an_own 12 Save (λ j n. refl) (λ j. refl) refl on))
+        after_decide (Some (Save (core r))) unready undecided (joined (is_by g pool (Proc p)) g t pool 11 12 13 (Some (Save (core r))) (omega arith) (no_leave stuck) (an_own 12 (λ n. Save (core n)) (λ j n. refl) (λ j. refl) refl on))
 
-    pub no_step : enabled_in g t pool (Arrive p.0) ≡ false → enabled_in g t pool (Decide r) ≡ false → enabled_in g t pool (Leave p.0) ≡ false → enabled_in g t pool (Save r) ≡ false → IsFirstByIn 9 13 g t pool (Proc p) None
+    pub no_step : enabled_in g t pool (Arrive p) ≡ false → enabled_in g t pool (Decide (core r)) ≡ false → enabled_in g t pool (Leave p) ≡ false → enabled_in g t pool (Save (core r)) ≡ false → IsFirstByIn 9 13 g t pool (Proc p) None
     no_step unready undecided stuck off =
-        after_decide None unready undecided (joined g t pool (Proc p) 11 12 13 None (omega arith) (no_leave stuck) (no_own 12 Save (λ j n. refl) (λ j. refl) off))
+        after_decide None unready undecided (joined (is_by g pool (Proc p)) g t pool 11 12 13 None (omega arith) (no_leave stuck) (no_own 12 (λ n. Save (core n)) (λ j n. refl) (λ j. refl) off))
 
   -- of a processor that is not the first of its core
   module _ (rest : p.0 % g ≢ 0) where
     not_own : (k : ℕ) → ((j n : ℕ) → is_by g pool (Proc p) (action_at k j n) ≡ leads g j p.0) → IsFirstByIn k (suc k) g t pool (Proc p) None
-    not_own k by = none_at g t pool (Proc p) k (λ j n own. absurd (not_led g j p.0 rest (sym (by j n) ∙ own)))
+    not_own k by = none_at (is_by g pool (Proc p)) g t pool k (λ j n own. absurd (not_led g j p.0 rest (sym (by j n) ∙ own)))
 
     not_low : is_lowest g pool p.0 ≡ false
-    not_low = never _ (λ low. let led = lowest_leads g p.0 (first_place 0 (λ c. true) pool.resources) low in not_led g led.0 p.0 rest led.1)
+    not_low = false_from_ne_true _ (λ low. let led = lowest_leads g p.0 (first_place 0 (λ c. true) pool.resources) low in not_led g led.0 p.0 rest led.1)
 
-    pub sibling_blocks : enabled_in g t pool (Block p.0) ≡ true → IsFirstBy g t pool (Proc p) (Some (Block p.0))
-    sibling_blocks on = of_all g t pool (Proc p) (Some (Block p.0)) (widened g t pool (Proc p) 4 9 13 (Block p.0) (omega arith) (block_first on))
+    pub sibling_blocks : enabled_in g t pool (Block p) ≡ true → IsFirstBy g t pool (Proc p) (Some (Block p))
+    sibling_blocks on = of_all g t pool (Proc p) (Some (Block p)) (widened (is_by g pool (Proc p)) g t pool 4 9 13 (Block p) (omega arith) (block_first on))
 
-    from_arrive : (o : Option Action) → enabled_in g t pool (Block p.0) ≡ false → IsFirstByIn 9 13 g t pool (Proc p) o → IsFirstBy g t pool (Proc p) o
+    from_arrive : (o : Option Action) → enabled_in g t pool (Block p) ≡ false → IsFirstByIn 9 13 g t pool (Proc p) o → IsFirstBy g t pool (Proc p) o
     from_arrive o off others = of_all g t pool (Proc p) o (after_block 13 o off
-        (joined g t pool (Proc p) 6 7 13 o (omega arith) (not_own 6 (λ j n. refl)) (joined g t pool (Proc p) 7 9 13 o (omega arith) (no_timers not_low) others)))
+        (joined (is_by g pool (Proc p)) g t pool 6 7 13 o (omega arith) (not_own 6 (λ j n. refl)) (joined (is_by g pool (Proc p)) g t pool 7 9 13 o (omega arith) (no_timers not_low) others)))
 
-    from_leave : (o : Option Action) → enabled_in g t pool (Block p.0) ≡ false → enabled_in g t pool (Arrive p.0) ≡ false → IsFirstByIn 11 13 g t pool (Proc p) o → IsFirstBy g t pool (Proc p) o
-    from_leave o off unready others = from_arrive o off (joined g t pool (Proc p) 9 10 13 o (omega arith) (no_arrive unready) (joined g t pool (Proc p) 10 11 13 o (omega arith) (not_own 10 (λ j n. refl)) others))
+    from_leave : (o : Option Action) → enabled_in g t pool (Block p) ≡ false → enabled_in g t pool (Arrive p) ≡ false → IsFirstByIn 11 13 g t pool (Proc p) o → IsFirstBy g t pool (Proc p) o
+    from_leave o off unready others = from_arrive o off (joined (is_by g pool (Proc p)) g t pool 9 10 13 o (omega arith) (no_arrive unready) (joined (is_by g pool (Proc p)) g t pool 10 11 13 o (omega arith) (not_own 10 (λ j n. refl)) others))
 
-    pub sibling_arrives : enabled_in g t pool (Block p.0) ≡ false → enabled_in g t pool (Arrive p.0) ≡ true → IsFirstBy g t pool (Proc p) (Some (Arrive p.0))
-    sibling_arrives off on = from_arrive (Some (Arrive p.0)) off (widened g t pool (Proc p) 9 10 13 (Arrive p.0) (omega arith) (an_arrive on))
+    pub sibling_arrives : enabled_in g t pool (Block p) ≡ false → enabled_in g t pool (Arrive p) ≡ true → IsFirstBy g t pool (Proc p) (Some (Arrive p))
+    sibling_arrives off on = from_arrive (Some (Arrive p)) off (widened (is_by g pool (Proc p)) g t pool 9 10 13 (Arrive p) (omega arith) (an_arrive on))
 
-    pub sibling_leaves : enabled_in g t pool (Block p.0) ≡ false → enabled_in g t pool (Arrive p.0) ≡ false → enabled_in g t pool (Leave p.0) ≡ true → IsFirstBy g t pool (Proc p) (Some (Leave p.0))
-    sibling_leaves off unready on = from_leave (Some (Leave p.0)) off unready (widened g t pool (Proc p) 11 12 13 (Leave p.0) (omega arith) (a_leave on))
+    pub sibling_leaves : enabled_in g t pool (Block p) ≡ false → enabled_in g t pool (Arrive p) ≡ false → enabled_in g t pool (Leave p) ≡ true → IsFirstBy g t pool (Proc p) (Some (Leave p))
+    sibling_leaves off unready on = from_leave (Some (Leave p)) off unready (widened (is_by g pool (Proc p)) g t pool 11 12 13 (Leave p) (omega arith) (a_leave on))
 
-    pub sibling_rests : enabled_in g t pool (Block p.0) ≡ false → enabled_in g t pool (Arrive p.0) ≡ false → enabled_in g t pool (Leave p.0) ≡ false → IsFirstBy g t pool (Proc p) None
-    sibling_rests off unready stuck = from_leave None off unready (joined g t pool (Proc p) 11 12 13 None (omega arith) (no_leave stuck) (not_own 12 (λ j n. refl)))
+    pub sibling_rests : enabled_in g t pool (Block p) ≡ false → enabled_in g t pool (Arrive p) ≡ false → enabled_in g t pool (Leave p) ≡ false → IsFirstBy g t pool (Proc p) None
+    sibling_rests off unready stuck = from_leave None off unready (joined (is_by g pool (Proc p)) g t pool 11 12 13 None (omega arith) (no_leave stuck) (not_own 12 (λ j n. refl)))
 
 -- a domain does nothing but wakes
 wakes_alone : (d : ℕ) (a : Action) → 5 ≤ kind_place a → is_by_domain d a ≡ true → ⊥
-wakes_alone d Stall from own = absurd (cc)
-wakes_alone d Xl from own = absurd (cc)
-wakes_alone d (Moved r) from own = absurd (cc)
-wakes_alone d (DomMoved e) from own = absurd (cc)
 wakes_alone d (Wake v) from own = absurd (omega (arith, from))
-wakes_alone d (Block p) from own = absurd (cc)
-wakes_alone d (Slice r) from own = absurd (cc)
-wakes_alone d (Repl u) from own = absurd (cc)
-wakes_alone d (Refill e) from own = absurd (cc)
-wakes_alone d (Arrive p) from own = absurd (cc)
-wakes_alone d (Decide r) from own = absurd (cc)
-wakes_alone d (Leave p) from own = absurd (cc)
-wakes_alone d (Save r) from own = absurd (cc)
+wakes_alone d a from own = absurd (cc)
 
 -- a vCPU that may wake is one of a domain's 32 at most
 due_below : (t : ℕ) (guests : GuestsSeen) (v : VcpuId) → KeepsGuests guests → is_due_among t guests.domains v ≡ true → v.n < 32
@@ -299,7 +239,7 @@ one_more t d guests n off before k below = elim (cases_lt k n) [
 -- of a domain: its first vCPU that may wake
 module _ (t : ℕ) (d : DomId) (guests : GuestsSeen) (cores : CoresSeen) (s : SchedulerSeen) where
   numbered : (i n : ℕ) → (i == d.0) ≡ true → action_at 4 i n ≡ Wake (its d n)
-  numbered i n own = ap (λ (k : ℕ). Wake (record { dom = domain k; n = n })) (equal i d.0 own)
+  numbered i n own = ap (λ (k : ℕ). Wake (record { dom = domain k; n = n })) (eqb-true i d.0 own)
 
   wakes : (n : ℕ) → enabled_in guests.granularity t (pool_of guests cores s) (Wake (its d n)) ≡ is_due_among t guests.domains (its d n)
   wakes n = ready guests.granularity t (pool_of guests cores s) (Wake (its d n))
@@ -308,16 +248,16 @@ module _ (t : ℕ) (d : DomId) (guests : GuestsSeen) (cores : CoresSeen) (s : Sc
   pub sleeps : KeepsGuests guests → ((n : ℕ) → n < 32 → is_due_among t guests.domains (its d n) ≡ false) → IsFirstBy guests.granularity t (pool_of guests cores s) (Dom d) None
   sleeps keeps none =
       let pool : Pool = pool_of guests cores s in
-      of_all guests.granularity t pool (Dom d) None (joined guests.granularity t pool (Dom d) 4 5 13 None (omega arith)
-      (none_at guests.granularity t pool (Dom d) 4 (λ i n own. ap (enabled_in guests.granularity t pool) (numbered i n own) ∙ wakes n ∙ never _ (λ due. clash _ due (none n (due_below t guests (its d n) keeps due)))))
+      of_all guests.granularity t pool (Dom d) None (joined (is_by guests.granularity pool (Dom d)) guests.granularity t pool 4 5 13 None (omega arith)
+      (none_at (is_by guests.granularity pool (Dom d)) guests.granularity t pool 4 (λ i n own. ap (enabled_in guests.granularity t pool) (numbered i n own) ∙ wakes n ∙ false_from_ne_true _ (λ due. clash _ due (none n (due_below t guests (its d n) keeps due)))))
       (λ action from below own. absurd (wakes_alone d.0 action from own)))
 
   -- the first that may
   pub wakes_first : (n : ℕ) → is_due_among t guests.domains (its d n) ≡ true → ((k : ℕ) → k < n → is_due_among t guests.domains (its d k) ≡ false) → IsFirstBy guests.granularity t (pool_of guests cores s) (Dom d) (Some (Wake (its d n)))
   wakes_first n due before =
       let pool : Pool = pool_of guests cores s in
-      of_all guests.granularity t pool (Dom d) (Some (Wake (its d n))) (widened guests.granularity t pool (Dom d) 4 5 13 (Wake (its d n)) (omega arith)
-      (one_at guests.granularity t pool (Dom d) 4 (Wake (its d n)) refl (is_same d.0 d.0 refl) (wakes n ∙ due) (λ i k own on.
+      of_all guests.granularity t pool (Dom d) (Some (Wake (its d n))) (widened (is_by guests.granularity pool (Dom d)) guests.granularity t pool 4 5 13 (Wake (its d n)) (omega arith)
+      (one_at (is_by guests.granularity pool (Dom d)) guests.granularity t pool 4 (Wake (its d n)) refl (is_same d.0 d.0 refl) (wakes n ∙ due) (λ i k own on.
       let e = numbered i k own in
       subst (IsNotAfter (Wake (its d n))) (sym e) (after k (sym (wakes k) ∙ subst (λ (a : Action). enabled_in guests.granularity t pool a ≡ true) e on)))))
     where

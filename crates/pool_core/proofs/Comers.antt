@@ -1,7 +1,7 @@
 -- A domain that joins a pool: its units may come to wait.
 use Rattle.std.proofs.Common.{◌≡◌, ◌<◌, ◌≤◌, ◌+◌, ◌-◌, ℕ, Bool, true, false, List, refl, sym, ap, subst, ◌∙◌, arith, length}
 use Rattle.std.specs.Prelude.{Option, Some, None, option_map, replicate}
-use Rattle.std.proofs.lemmas.Bool.{lt-ltb}
+use Rattle.std.proofs.lemmas.Bool.{lt-ltb, false_from_ne_true}
 use Rattle.std.proofs.lemmas.List.{length-replicate}
 use Rattle.std.proofs.lemmas.Nat.{le-div}
 use Rattle.sched_base.specs.declared.Cores.{Cores}
@@ -38,14 +38,10 @@ module _ (g t d : ℕ) (pool : Pool) (holds : Holds g t pool) (absent : at_place
 
   -- none of its units waits
   absent_waits_not : (n : ℕ) → has_unit pool.scheduler.queue (unit_id d n) ≡ false
-  absent_waits_not n = by_queue (has_unit pool.scheduler.queue (unit_id d n)) refl
-    where
-      by_queue : (b : Bool) → has_unit pool.scheduler.queue (unit_id d n) ≡ b → b ≡ false
-      by_queue false is = refl
-      by_queue true is = absurd (
-          let staying = times_has (IsStaying pool.domains) (unit_id d n) pool.scheduler.queue holds.known.own.queue (times_some (unit_id d n) pool.scheduler.queue is) in
-          let there = (some-test_at pool.domains d _ staying).1 in
-          cc)
+  absent_waits_not n = false_from_ne_true (has_unit pool.scheduler.queue (unit_id d n)) (λ is.
+      let staying = times_has (IsStaying pool.domains) (unit_id d n) pool.scheduler.queue holds.known.own.queue (times_some (unit_id d n) pool.scheduler.queue is) in
+      let there = (some-test_at pool.domains d _ staying).1 in
+      cc)
 
   -- none of its units is on after it joined
   joined_off : (n : ℕ) (domain : Domain) (params : DomParams) → is_on (joined g t d domain params pool).scheduler.records (unit_id d n) ≡ true → ⊥

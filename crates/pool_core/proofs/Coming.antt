@@ -19,14 +19,14 @@ use Rattle.sched_model.specs.Places.{at_place, clear_at, put_at}
 use Rattle.sched_model.specs.Pool.{unit_count}
 use Rattle.sched_laws.proofs.EachPlace.{at_place-clear_at, at_place-clear_at_other, at_place-put_at, at_place-put_at_other}
 use Rattle.plain_pool.specs.Cores.{fresh_processor}
-use Rattle.core_state.specs.Seen.{Seen as CoresSeen, processor_among, stalled_to, vacant as vacant_cores, without_works}
+use Rattle.core_state.specs.Seen.{Seen as CoresSeen, processor_among, stalled_to, vacant_cores as vacant_cores, without_works}
 use Rattle.core_state.proofs.ChangeLemmas.{without_works-other, without_works-own}
 use Rattle.pool_kept.specs.Holds.{Holds}
 use Rattle.pool_kept.proofs.Kept.{opened}
 use Rattle.pool_kept.proofs.Members.{at_empty}
 use Rattle.sched_ops.specs.Conditions.{is_vacant}
-use Rattle.sched_ops.specs.Seen.{Seen as SchedulerSeen, core_places, restarted, vacant as vacant_scheduler}
-use Rattle.unit_state.specs.Seen.{Seen as GuestsSeen, vacant as vacant_guests}
+use Rattle.sched_ops.specs.Seen.{Seen as SchedulerSeen, core_places, restarted_scheduler, vacant_scheduler as vacant_scheduler}
+use Rattle.unit_state.specs.Seen.{Seen as GuestsSeen, vacant_guests as vacant_guests}
 use Rattle.pool_core.specs.Kept.{AreWorks, IsKept}
 use Rattle.pool_core.specs.Seen.{IsEmpty, guest_among, pool_of, with_core, with_stall, without_core}
 use Rattle.pool_core.proofs.Processors.{processor_changed, processor_other, run_by}
@@ -127,11 +127,11 @@ room_kept params g domains places units guests cores s some guests_are cores_are
     }))
 
 -- a pool without domains and cores that begins anew
-pub open_kept : (t : ℕ) (params : PoolParams) (guests : GuestsSeen) (cores : CoresSeen) (s s2 : SchedulerSeen) → IsKept t guests cores s → IsEmpty (pool_of guests cores s) → s2 ≡ record s { scheduler = restarted params s.scheduler } → IsKept t guests cores s2
+pub open_kept : (t : ℕ) (params : PoolParams) (guests : GuestsSeen) (cores : CoresSeen) (s s2 : SchedulerSeen) → IsKept t guests cores s → IsEmpty (pool_of guests cores s) → s2 ≡ record s { scheduler = restarted_scheduler params s.scheduler } → IsKept t guests cores s2
 open_kept t params guests cores s s2 keeps empty is =
     let g = guests.granularity in
     let places : length s.scheduler.affinity ≡ length guests.domains = keeps.pool.members.places in
-    let next : Scheduler = restarted params s.scheduler in
+    let next : Scheduler = restarted_scheduler params s.scheduler in
     let a : replicate (length s.scheduler.affinity) None ≡ guests.domains = ap (λ (n : ℕ). replicate n None) places ∙ sym (all_empty guests.domains empty.domains) in
     let b : replicate (length cores.resources) None ≡ cores.resources = sym (all_empty cores.resources empty.cores) in
     let holds : Holds g t (record { scheduler = next; domains = replicate (length s.scheduler.affinity) None; resources = replicate (length cores.resources) None }) = opened g t (length s.scheduler.affinity) (core_places s.scheduler.records) (length cores.resources) params keeps.pool.some in

@@ -14,7 +14,7 @@ use Rattle.sched_model.specs.declared.state.Vcpu.{Vcpu}
 use Rattle.sched_model.specs.Checked.{most_span}
 use Rattle.sched_model.specs.Places.{at_place, change_at, numbers_from, test_at}
 use Rattle.sched_model.specs.Policy as policy
-use Rattle.sched_model.specs.Pool.{change_domain, done_at, is_of_domain, pause, set_moving, set_params, set_pending, unit_count, unpause, withdrawn}
+use Rattle.sched_model.specs.Pool.{change_domain, done_at, is_of_domain, pause, set_moving, set_params, set_pending, unit_count, unpause, withdrawn_pool}
 use Rattle.sched_model.proofs.PlaceLemmas.{at_place-change_at_other}
 use Rattle.sched_laws.proofs.EachPlace.{by_cond, by_option}
 use Rattle.plain_credit2.proofs.Items.{at_place-change_at}
@@ -67,7 +67,7 @@ works_domain g d f works pool same are q = are q ∙ by_guest (guest_among g poo
       | yes e ↦ subst (λ (k : ℕ). done_in w.n (at_place pool.domains k) ≡ done_in w.n (at_place (change_at d f pool.domains) k)) (sym e) (by_domain w.n (at_place pool.domains d) ∙ ap (done_in w.n) (sym (at_place-change_at d f pool.domains)))
     ]
 
-works_withdrawn : (g d : ℕ) (works : List (Option Moment)) (pool : Pool) → AreWorks g works pool → AreWorks g works (withdrawn d pool)
+works_withdrawn : (g d : ℕ) (works : List (Option Moment)) (pool : Pool) → AreWorks g works pool → AreWorks g works (withdrawn_pool d pool)
 works_withdrawn g d works pool are =
     works_each g (λ (r : ℕ) (c : Resource). cond (is_of_domain d c.cur) (set_pending c) c) works (record pool { scheduler = policy.dequeue_domain d pool.scheduler })
     (λ r c. by_cond (λ (x : Resource). x.processors ≡ c.processors) (is_of_domain d c.cur) (set_pending c) c (λ is. refl) (λ is. refl)) are

@@ -31,19 +31,10 @@ use Rattle.pool_core.proofs.Works.{done_by}
 -- parameters of a scheduler are those that its records take
 pub matches : (records : Records) (params : DomParams) → AreDomParams (kind_of records) params → Matches records params
 matches (Credit2Pool records) (dom_params.Credit2 weight cap) are = tt
-matches (Credit2Pool records) (dom_params.Rtds period budget extra) are = absurd are
-matches (Credit2Pool records) dom_params.Arinc653 are = absurd are
-matches (Credit2Pool records) dom_params.Null are = absurd are
-matches (RtdsPool domains) (dom_params.Credit2 weight cap) are = absurd are
+matches (Credit2Pool records) params are = absurd are
 matches (RtdsPool domains) (dom_params.Rtds period budget extra) are = tt
-matches (RtdsPool domains) dom_params.Arinc653 are = absurd are
-matches (RtdsPool domains) dom_params.Null are = absurd are
-matches (ArincPool records) params are = tt
-matches (NullPool kept) params are = tt
-
--- a domain with a vCPU has a unit
-pub has_unit : (g : ℕ) (domain : Domain) → 0 < g → 1 ≤ length domain.vcpus → 1 ≤ unit_count g domain
-has_unit g domain some vcpus = le-div 1 (length domain.vcpus + g - 1) g some (let e : 1 * g ≡ g = grind arith in omega (arith, e, vcpus))
+matches (RtdsPool domains) params are = absurd are
+matches records params are = tt
 
 -- what is queued changes neither domains nor cores
 pub queued_same : (P : Pool → Type 0) → ((a b : Pool) → b.domains ≡ a.domains → b.resources ≡ a.resources → P a → P b) → (g d : ℕ) (ns : List ℕ) (pool : Pool) → P pool → P (pools.queue_units g d ns pool)

@@ -3,7 +3,7 @@ use Rattle.std.proofs.Common.{◌≡◌, ◌<◌, ◌/◌, ℕ, Bool, true, fals
 use Rattle.std.specs.Prelude.{Option, Some, None, option_map, is_none, is_some, not, slice_get, ◌&&◌}
 use Rattle.std.specs.List.{list_any}
 use Rattle.std.specs.Option.{ForSome}
-use Rattle.std.proofs.lemmas.Bool.{lt-ltb}
+use Rattle.std.proofs.lemmas.Bool.{lt-ltb, false_from_ne_true}
 use Rattle.sched_base.specs.Numbers.{domain as domain_number}
 use Rattle.sched_base.specs.declared.Cores.{Cores}
 use Rattle.sched_base.specs.declared.Moment.{Moment}
@@ -38,17 +38,13 @@ use Rattle.pool_core.proofs.Withdrawing.{units_known, waits_by}
 
 -- a unit that has no place is not on
 nowhere_off : (g : ℕ) (pool : Pool) (u : UnitId) → AreOn pool → has_unit pool.scheduler.queue u ≡ false → is_held_among pool.resources u ≡ false → is_on pool.scheduler.records u ≡ false
-nowhere_off g pool u on waits_not none = by_on (is_on pool.scheduler.records u) refl
-  where
-    by_on : (b : Bool) → is_on pool.scheduler.records u ≡ b → b ≡ false
-    by_on false is = refl
-    by_on true is = absurd (
-        let off : is_off pool u ≡ true = both (not (has_unit pool.scheduler.queue u)) (not (is_held_among pool.resources u)) (ap not waits_not) (ap not none) in
-        let found = found_core pool u (on.off u is) in
-        let here : one_at u found.1.cur ≡ 1 = ap (one_at u) found.3 ∙ one_same u in
-        let some = total_at (core_places u) found.0 found.1 pool.resources found.2 in
-        let zero = off_is pool u off in
-        omega (arith, here, some, zero))
+nowhere_off g pool u on waits_not none = false_from_ne_true (is_on pool.scheduler.records u) (λ is.
+    let off : is_off pool u ≡ true = both (not (has_unit pool.scheduler.queue u)) (not (is_held_among pool.resources u)) (ap not waits_not) (ap not none) in
+    let found = found_core pool u (on.off u is) in
+    let here : one_at u found.1.cur ≡ 1 = ap (one_at u) found.3 ∙ one_same u in
+    let some = total_at (core_places u) found.0 found.1 pool.resources found.2 in
+    let zero = off_is pool u off in
+    omega (arith, here, some, zero))
 
 module _ (g d : ℕ) (pool : Pool) where
   -- no unit of a paused domain is runnable
@@ -88,7 +84,7 @@ module _ (g d : ℕ) (pool : Pool) where
       by_domain (Some x) e = ap (λ (b : Bool). cond b (queue_units g d (numbers_from 0 (unit_count g x)) (change_domain d (λ y. record y { paused = false }) pool)) pool) (sym e)
 
 -- what is known of a domain that may part
-module _ (g t d : ℕ) (pool : Pool) (holds : Holds g t pool) (enabled : enabled_in g t pool (DomMoved d) ≡ true) where
+module _ (g t d : ℕ) (pool : Pool) (holds : Holds g t pool) (enabled : enabled_in g t pool (DomMoved (domain_number d)) ≡ true) where
   -- it is there, and moving
   goer : (x : Domain) × (at_place pool.domains d ≡ Some x) × (is_some x.moving ≡ true)
   goer = some-test_at pool.domains d (λ x. is_some x.moving) (and_left (test_at pool.domains d (λ x. is_some x.moving)) _ enabled)

@@ -6,7 +6,7 @@ use Rattle.std.proofs.lemmas.Bool.{cases_eq}
 use Rattle.sched_model.specs.declared.state.Resource.{Resource}
 use Rattle.sched_model.specs.declared.state.Scheduler.{Scheduler}
 use Rattle.sched_model.specs.Places.{at_place, change_at, change_each}
-use Rattle.sched_model.specs.Pool.{reconsidered, set_pending}
+use Rattle.sched_model.specs.Pool.{reconsidered_core, set_pending}
 use Rattle.sched_model.specs.State.{has_core}
 use Rattle.sched_ops.specs.Wanted.{is_wanted}
 use Rattle.pool_core.specs.Settling.{pending_where}
@@ -110,15 +110,15 @@ all_marked set cores = same_each 0 (marked set 0) (pending_where set) cores (λ 
 
 -- where the set is that of the cores that the scheduler wants, each is looked at
 pub wanted_marked : (t home : ℕ) (scheduler : Scheduler) (set : ℕ) (cores : List (Option Resource)) → ((r : ℕ) → has_core set r ≡ is_wanted t home scheduler r (at_place cores r))
-    → change_each 0 (pending_where set) cores ≡ change_each 0 (reconsidered t home scheduler) cores
-wanted_marked t home scheduler set cores is = same_each 0 (pending_where set) (reconsidered t home scheduler) cores look
+    → change_each 0 (pending_where set) cores ≡ change_each 0 (reconsidered_core t home scheduler) cores
+wanted_marked t home scheduler set cores is = same_each 0 (pending_where set) (reconsidered_core t home scheduler) cores look
   where
-    look : (i : ℕ) (c : Resource) → at_place cores i ≡ Some c → pending_where set (0 + i) c ≡ reconsidered t home scheduler (0 + i) c
+    look : (i : ℕ) (c : Resource) → at_place cores i ≡ Some c → pending_where set (0 + i) c ≡ reconsidered_core t home scheduler (0 + i) c
     look i c at =
         let e : i ≡ 0 + i = omega arith in
         let asked : has_core set i ≡ is_wanted t home scheduler i (Some c) = is i ∙ ap (is_wanted t home scheduler i) at in
-        subst (λ (n : ℕ). pending_where set n c ≡ reconsidered t home scheduler n c) e (by_answer (is_wanted t home scheduler i (Some c)) refl asked)
+        subst (λ (n : ℕ). pending_where set n c ≡ reconsidered_core t home scheduler n c) e (by_answer (is_wanted t home scheduler i (Some c)) refl asked)
       where
-        by_answer : (b : Bool) → is_wanted t home scheduler i (Some c) ≡ b → has_core set i ≡ is_wanted t home scheduler i (Some c) → pending_where set i c ≡ reconsidered t home scheduler i c
+        by_answer : (b : Bool) → is_wanted t home scheduler i (Some c) ≡ b → has_core set i ≡ is_wanted t home scheduler i (Some c) → pending_where set i c ≡ reconsidered_core t home scheduler i c
         by_answer true so asked = ap (λ (b : Bool). if b then set_pending c else c) (asked ∙ so) ∙ wanted t home scheduler i c so
         by_answer false not_so asked = ap (λ (b : Bool). if b then set_pending c else c) (asked ∙ not_so) ∙ unwanted t home scheduler i c not_so

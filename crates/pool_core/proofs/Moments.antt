@@ -2,7 +2,7 @@
 use Rattle.std.proofs.Common.{◌≡◌, ◌≤◌, ◌⊎◌, ℕ, true, false, List, refl, sym, ap, subst, ◌∙◌, inl, inr, arith}
 use Rattle.std.specs.Prelude.{IfNone, IfSome, Option, Some, None, nat_le, option_map}
 use Rattle.std.proofs.lemmas.Bool.Decides.{nat_tests}
-use Rattle.sched_base.specs.Numbers.{domain}
+use Rattle.sched_base.specs.Numbers.{domain, processor}
 use Rattle.sched_base.specs.declared.Moment.{Moment}
 use Rattle.sched_base.specs.declared.VcpuId.{VcpuId}
 use Rattle.sched_model.specs.State.{has_come}
@@ -12,7 +12,7 @@ use Rattle.sched_model.specs.declared.state.Domain.{Domain}
 use Rattle.sched_model.specs.declared.state.Pool.{Pool}
 use Rattle.sched_model.specs.declared.state.Scheduler.{Scheduler}
 use Rattle.plain_pool.specs.Own.{IsOfPool}
-use Rattle.pool_laws.specs.Ready.{end_of, later, lowest_end, ready_in, work_end}
+use Rattle.pool_laws.specs.Ready.{end_of, later_moment, lowest_end, ready_in, work_end}
 use Rattle.pool_laws.proofs.Readiness.{ready}
 use Rattle.pool_kept.specs.Holds.{AreOn}
 use Rattle.sched_ops.specs.Seen.{Seen as SchedulerSeen}
@@ -23,54 +23,34 @@ use Rattle.timer_laws.specs.Armed.{armed_at}
 use Rattle.timer_laws.proofs.Law as law
 use Rattle.unit_state.specs.Seen.{Seen as GuestsSeen, wake_among}
 use Rattle.core_state.specs.Ends.{ready_within}
-use Rattle.core_state.specs.Firsts.{IsLeast, IsNotLater, earlier}
+use Rattle.core_state.specs.Firsts.{IsLeast, IsNotLater, earlier_moment}
 use Rattle.core_state.specs.Seen.{Seen as CoresSeen, processor_among}
-use Rattle.core_state.proofs.Leasts.{both, least_earlier}
+use Rattle.core_state.proofs.Leasts.{both, least_earlier, late_some, least_same}
 use Rattle.pool_core.specs.Kept.{AreWorks}
 use Rattle.pool_core.specs.Order.{IsNextMoment}
 use Rattle.pool_core.specs.Seen.{pool_of}
 use Rattle.pool_core.proofs.Order.{timer_ready}
 
 -- a moment that is no later than those that there are
-not_later_if : (a : Moment) (o : Option Moment) → ((b : Moment) → o ≡ Some b → a.0 ≤ b.0) → IsNotLater (Some a) o
-not_later_if a None after = tt
-not_later_if a (Some b) after = after b refl
-
 none_later : (o : Option Moment) → o ≡ None → IsNotLater None o
 none_later None is = tt
 none_later (Some b) is = absurd (cc)
-
--- the least of moments is that of others, where each of these that is there is one of those, and the other way round
-least_same : {X Y : Type 0} (f : X → Option Moment) (h : Y → Option Moment) (at : Option Moment)
-    → ((x : X) → (y : Y) × (h y ≡ f x)) → ((y : Y) → (h y ≡ None) ⊎ ((x : X) × (f x ≡ h y)))
-    → IsLeast f at → IsLeast h at
-least_same {X} {Y} f h at among from least = record {
-  first = λ y. elim (from y) [
-    | inl none ↦ subst (λ (o : Option Moment). IsNotLater at o) (sym none) (before_none at)
-    | inr x ↦ subst (λ (o : Option Moment). IsNotLater at o) x.1 (least.first x.0)
-  ];
-  one = λ m is. (let x = least.one m is in let y = among x.0 in (y.0, y.1 ∙ x.1));
-}
-  where
-    before_none : (a : Option Moment) → IsNotLater a None
-    before_none None = tt
-    before_none (Some a) = tt
 
 -- the least of the wakes
 pub least_wake : (domains : List (Option Domain)) (o : Option Moment) → IfNone o ((v : VcpuId) → wake_among domains v ≡ None) → IfSome o (λ at. (v : VcpuId) × (wake_among domains v ≡ Some at))
     → IfSome o (λ at. (v : VcpuId) (other : Moment) → wake_among domains v ≡ Some other → at.0 ≤ other.0) → IsLeast (wake_among domains) o
 least_wake domains None none some least = record { first = λ v. none_later (wake_among domains v) (none v); one = λ m e. absurd (cc) }
-least_wake domains (Some at) none some least = record { first = λ v. not_later_if at (wake_among domains v) (least v); one = λ m e. (some.0, some.1 ∙ e) }
+least_wake domains (Some at) none some least = record { first = λ v. late_some at (wake_among domains v) (least v); one = λ m e. (some.0, some.1 ∙ e) }
 
 -- the least of the timers
 least_armed : (s : Scheduler) (o : Option Armed) → timer_at 0 s ≡ o → IsLeast (armed_at s) (option_map (λ (x : Armed). x.0) o)
 least_armed s None is = record { first = λ x. none_later (armed_at s x) (law.none 0 s is x); one = λ m e. absurd (cc) }
 least_armed s (Some x) is = record {
-  first = λ other. not_later_if x.0 (armed_at s other) (λ at has. elim (law.least 0 s x is other at has) [ inl come ↦ omega (arith, come) | inr least ↦ least ]);
+  first = λ other. late_some x.0 (armed_at s other) (λ at has. elim (law.least 0 s x is other at has) [ inl come ↦ omega (arith, come) | inr least ↦ least ]);
   one = λ m e. (x.1, law.armed 0 s x is ∙ e);
 }
 
-later_not_later : (a b low : Option Moment) → IsNotLater a b → IsNotLater (later a low) (later b low)
+later_not_later : (a b low : Option Moment) → IsNotLater a b → IsNotLater (later_moment a low) (later_moment b low)
 later_not_later None None low order = tt
 later_not_later None (Some b) low order = absurd order
 later_not_later (Some a) None None order = tt
@@ -79,16 +59,16 @@ later_not_later (Some a) (Some b) None order = tt
 later_not_later (Some a) (Some b) (Some low) order = omega (arith, order)
 
 -- of moments of which each comes at another at the earliest
-least_later : {X : Type 0} (f : X → Option Moment) (at low : Option Moment) → IsLeast f at → IsLeast (λ x. later (f x) low) (later at low)
+least_later : {X : Type 0} (f : X → Option Moment) (at low : Option Moment) → IsLeast f at → IsLeast (λ x. later_moment (f x) low) (later_moment at low)
 least_later {X} f None low least = record { first = λ x. later_not_later None (f x) low (least.first x); one = λ m e. absurd (cc) }
 least_later {X} f (Some at) low least = record {
   first = λ x. later_not_later (Some at) (f x) low (least.first x);
-  one = λ m e. (let x = least.one at refl in (x.0, ap (λ (o : Option Moment). later o low) x.1 ∙ e));
+  one = λ m e. (let x = least.one at refl in (x.0, ap (λ (o : Option Moment). later_moment o low) x.1 ∙ e));
 }
 
 pub least_timer : (g : ℕ) (pool : Pool) → AreOn pool → (o : Option Armed) → timer_at 0 pool.scheduler ≡ o
-    → IsLeast (λ (x : Timer). ready_in g pool (action_of x)) (later (option_map (λ (x : Armed). x.0) o) (lowest_end pool))
-least_timer g pool on o is = least_same (λ (x : Timer). later (armed_at pool.scheduler x) (lowest_end pool)) (λ (x : Timer). ready_in g pool (action_of x)) _
+    → IsLeast (λ (x : Timer). ready_in g pool (action_of x)) (later_moment (option_map (λ (x : Armed). x.0) o) (lowest_end pool))
+least_timer g pool on o is = least_same (λ (x : Timer). later_moment (armed_at pool.scheduler x) (lowest_end pool)) (λ (x : Timer). ready_in g pool (action_of x)) _
     (λ x. (x, timer_ready g pool on x)) (λ x. inr (x, sym (timer_ready g pool on x)))
     (least_later (armed_at pool.scheduler) (option_map (λ (x : Armed). x.0) o) (lowest_end pool) (least_armed pool.scheduler o is))
 
@@ -99,34 +79,16 @@ ready_here g pool (DomMoved d) = None
 ready_here g pool action = ready_in g pool action
 
 here : (g : ℕ) (pool : Pool) (a : Action) → IsOfPool a → ready_here g pool a ≡ ready_in g pool a
-here g pool Stall of = refl
-here g pool Xl of = refl
 here g pool (Moved r) of = absurd of
 here g pool (DomMoved d) of = absurd of
-here g pool (Wake v) of = refl
-here g pool (Block p) of = refl
-here g pool (Slice r) of = refl
-here g pool (Repl u) of = refl
-here g pool (Refill d) of = refl
-here g pool (Arrive p) of = refl
-here g pool (Decide r) of = refl
-here g pool (Leave p) of = refl
-here g pool (Save r) of = refl
+here g pool a of = refl
 
 of_pool : (g : ℕ) (pool : Pool) (a : Action) (at : Moment) → ready_here g pool a ≡ Some at → IsOfPool a
 of_pool g pool Stall at is = absurd (cc)
 of_pool g pool Xl at is = absurd (cc)
 of_pool g pool (Moved r) at is = absurd (cc)
 of_pool g pool (DomMoved d) at is = absurd (cc)
-of_pool g pool (Wake v) at is = tt
-of_pool g pool (Block p) at is = tt
-of_pool g pool (Slice r) at is = tt
-of_pool g pool (Repl u) at is = tt
-of_pool g pool (Refill d) at is = tt
-of_pool g pool (Arrive p) at is = tt
-of_pool g pool (Decide r) at is = tt
-of_pool g pool (Leave p) at is = tt
-of_pool g pool (Save r) at is = tt
+of_pool g pool a at is = tt
 
 come_then : (at : Moment) → has_come at.0 (Some at) ≡ true
 come_then at = grind (arith, nat_tests)
@@ -157,48 +119,39 @@ timed g pool x = ready_in g pool (action_of x)
 -- the next moment of the pool of these guests, these cores and this scheduler
 pub next_is : (guests : GuestsSeen) (cores : CoresSeen) (s : SchedulerSeen) (wake core timers of_cores next : Option Moment) → cores.granularity ≡ guests.granularity → AreWorks guests.granularity cores.works (pool_of guests cores s)
     → IsLeast (wake_among guests.domains) wake → IsLeast (ready_within cores) core → IsLeast (λ (x : Timer). ready_in cores.granularity (pool_of guests cores s) (action_of x)) timers
-    → of_cores ≡ earlier core timers → next ≡ earlier wake of_cores → IsNextMoment guests.granularity (pool_of guests cores s) next
+    → of_cores ≡ earlier_moment core timers → next ≡ earlier_moment wake of_cores → IsNextMoment guests.granularity (pool_of guests cores s) next
 next_is guests cores s wake core timers of_cores next same works of_wake of_core of_timer is_cores is =
     subst (λ (g : ℕ). IsNextMoment g (pool_of guests cores s) next) same (next_of cores.granularity (pool_of guests cores s) next
     (least_same (both (wake_among guests.domains) (both (ready_within cores) (timed cores.granularity (pool_of guests cores s)))) (ready_here cores.granularity (pool_of guests cores s)) next among from
     (least_earlier (wake_among guests.domains) (both (ready_within cores) (timed cores.granularity (pool_of guests cores s))) wake of_cores next is of_wake
     (least_earlier (ready_within cores) (timed cores.granularity (pool_of guests cores s)) core timers of_cores is_cores of_core of_timer))))
   where
-    block : (p : ℕ) → ready_within cores (Block p) ≡ ready_here cores.granularity (pool_of guests cores s) (Block p)
-    block p = ap (λ (o : Option Moment). later o (end_of (processor_among cores.granularity cores.resources p))) (works p) ∙ ap (λ (k : ℕ). later (work_end k (pool_of guests cores s) p) (end_of (processor_among cores.granularity cores.resources p))) (sym same)
+    block : (p : ℕ) → ready_within cores (Block (processor p)) ≡ ready_here cores.granularity (pool_of guests cores s) (Block (processor p))
+    block p = ap (λ (o : Option Moment). later_moment o (end_of (processor_among cores.granularity cores.resources p))) (works p) ∙ ap (λ (k : ℕ). later_moment (work_end k (pool_of guests cores s) p) (end_of (processor_among cores.granularity cores.resources p))) (sym same)
 
     of_core_event : (a : Action) → (b : Action) × (ready_here cores.granularity (pool_of guests cores s) b ≡ ready_within cores a)
-    of_core_event Stall = (Stall, refl)
-    of_core_event Xl = (Stall, refl)
-    of_core_event (Moved r) = (Stall, refl)
-    of_core_event (DomMoved d) = (Stall, refl)
-    of_core_event (Wake v) = (Stall, refl)
-    of_core_event (Block p) = (Block p, sym (block p))
+    of_core_event (Block p) = (Block p, sym (block p.0))
     of_core_event (Slice r) = (Slice r, refl)
-    of_core_event (Repl u) = (Stall, refl)
-    of_core_event (Refill d) = (Stall, refl)
     of_core_event (Arrive p) = (Arrive p, refl)
     of_core_event (Decide r) = (Decide r, refl)
     of_core_event (Leave p) = (Leave p, refl)
     of_core_event (Save r) = (Save r, refl)
+    of_core_event a = (Stall, refl)
 
     among : (x : VcpuId ⊎ (Action ⊎ Timer)) → (a : Action) × (ready_here cores.granularity (pool_of guests cores s) a ≡ both (wake_among guests.domains) (both (ready_within cores) (timed cores.granularity (pool_of guests cores s))) x)
     among (inl v) = (Wake v, refl)
     among (inr (inl a)) = of_core_event a
     among (inr (inr (timer.Repl u))) = (Repl u, refl)
-    among (inr (inr (timer.Refill d))) = (Refill d.0, refl)
+    among (inr (inr (timer.Refill d))) = (Refill d, refl)
 
     from : (a : Action) → (ready_here cores.granularity (pool_of guests cores s) a ≡ None) ⊎ ((x : VcpuId ⊎ (Action ⊎ Timer)) × (both (wake_among guests.domains) (both (ready_within cores) (timed cores.granularity (pool_of guests cores s))) x ≡ ready_here cores.granularity (pool_of guests cores s) a))
-    from Stall = inl refl
-    from Xl = inl refl
-    from (Moved r) = inl refl
-    from (DomMoved d) = inl refl
     from (Wake v) = inr (inl v, refl)
-    from (Block p) = inr (inr (inl (Block p)), block p)
+    from (Block p) = inr (inr (inl (Block p)), block p.0)
     from (Slice r) = inr (inr (inl (Slice r)), refl)
     from (Repl u) = inr (inr (inr (timer.Repl u)), refl)
-    from (Refill d) = inr (inr (inr (timer.Refill (domain d))), refl)
+    from (Refill d) = inr (inr (inr (timer.Refill (domain d.0))), refl)
     from (Arrive p) = inr (inr (inl (Arrive p)), refl)
     from (Decide r) = inr (inr (inl (Decide r)), refl)
     from (Leave p) = inr (inr (inl (Leave p)), refl)
     from (Save r) = inr (inr (inl (Save r)), refl)
+    from a = inl refl

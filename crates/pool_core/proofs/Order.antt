@@ -2,9 +2,9 @@
 use Rattle.std.proofs.Common.{◌≡◌, ◌≤◌, ◌<◌, ℕ, suc, List, Bool, true, false, refl, sym, ap, subst, ◌∙◌, inl, inr, arith}
 use Rattle.std.specs.Prelude.{Option, Some, None, option_map, ◌==◌, ◌&&◌, ◌||◌, is_some, nat_le, max, if◌then◌else◌}
 use Rattle.std.proofs.Math.Decide.{ℕ_discrete}
-use Rattle.std.proofs.lemmas.Bool.{cases_lt}
+use Rattle.std.proofs.lemmas.Bool.{cases_lt, false_from_ne_true}
 use Rattle.std.proofs.lemmas.Bool.Decides.{nat_tests}
-use Rattle.sched_base.specs.Numbers.{domain, moment}
+use Rattle.sched_base.specs.Numbers.{domain, moment, core as core_number, processor}
 use Rattle.sched_base.specs.declared.Moment.{Moment}
 use Rattle.sched_base.specs.declared.UnitId.{UnitId}
 use Rattle.sched_base.specs.declared.VcpuId.{VcpuId}
@@ -21,7 +21,7 @@ use Rattle.sched_model.specs.Policy.{next_refill, rtds_record}
 use Rattle.sched_model.specs.Pool.{core_of, enabled_in}
 use Rattle.sched_laws.proofs.Bools.{and_left, both as and_both, clash}
 use Rattle.plain_pool.specs.Own.{IsOfPool}
-use Rattle.pool_laws.specs.Ready.{deadline_of, end_of, later, lowest_end, ready_in, when, work_end}
+use Rattle.pool_laws.specs.Ready.{deadline_of, end_of, later_moment, lowest_end, ready_in, moment_if, work_end}
 use Rattle.pool_laws.proofs.Readiness.{ready}
 use Rattle.pool_kept.specs.Holds.{AreOn}
 use Rattle.pool_kept.proofs.Alike.{found_core}
@@ -38,50 +38,10 @@ use Rattle.core_state.specs.Firsts.{IsFirstCome}
 use Rattle.core_state.specs.Seen.{Seen as CoresSeen, processor_among}
 use Rattle.pool_core.specs.Kept.{AreWorks}
 use Rattle.pool_core.specs.Seen.{pool_of}
-use Rattle.pool_core.specs.Order.{IsFirstEnabled, IsFirstIn, IsNotAfter, index_place, kind_place, subject_place}
-
-pub never : (b : Bool) → (b ≡ true → ⊥) → b ≡ false
-never true not_so = absurd (not_so refl)
-never false not_so = refl
-
--- the action of the kind at a place, by the number and the index of its subject
-abbrev pub action_at : ℕ → ℕ → ℕ → Action
-action_at k i n =
-    let v : VcpuId = record { dom = domain i; n = n } in
-    let u : UnitId = record { dom = domain i; n = n } in
-    if k == 0
-    then Stall
-    else if k == 1 then Xl
-    else if k == 2 then Moved i
-    else if k == 3 then DomMoved i
-    else if k == 4 then Wake v
-    else if k == 5 then Block i
-    else if k == 6 then Slice i
-    else if k == 7 then Repl u
-    else if k == 8 then Refill i
-    else if k == 9 then Arrive i
-    else if k == 10 then Decide i
-    else if k == 11 then Leave i
-    else Save i
-
-at_own : (a : Action) → action_at (kind_place a) (subject_place a) (index_place a) ≡ a
-at_own Stall = refl
-at_own Xl = refl
-at_own (Moved r) = refl
-at_own (DomMoved d) = refl
-at_own (Wake v) = refl
-at_own (Block p) = refl
-at_own (Slice r) = refl
-at_own (Repl u) = refl
-at_own (Refill d) = refl
-at_own (Arrive p) = refl
-at_own (Decide r) = refl
-at_own (Leave p) = refl
-at_own (Save r) = refl
-
--- an action of a kind
-pub of_kind : (k : ℕ) (a : Action) → kind_place a ≡ k → action_at k (subject_place a) (index_place a) ≡ a
-of_kind k a is = subst (λ (j : ℕ). action_at j (subject_place a) (index_place a) ≡ a) is (at_own a)
+use Rattle.pool_core.specs.Order.{IsFirstEnabled, IsFirstIn, IsFirstWhere, is_any, IsNotAfter, index_place, kind_place, subject_place}
+use Rattle.std.proofs.Math.Bool.{and-false}
+use Rattle.unit_state.proofs.GuestLemmas.{come_there}
+use Rattle.pool_laws.proofs.ActionOrder.{action_at, later_kind, of_kind}
 
 -- the events of a pool are those from the wakes on
 pub from_wakes : (a : Action) → IsOfPool a → 4 ≤ kind_place a
@@ -89,53 +49,18 @@ from_wakes Stall of = absurd of
 from_wakes Xl of = absurd of
 from_wakes (Moved r) of = absurd of
 from_wakes (DomMoved d) of = absurd of
-from_wakes (Wake v) of = omega arith
-from_wakes (Block p) of = omega arith
-from_wakes (Slice r) of = omega arith
-from_wakes (Repl u) of = omega arith
-from_wakes (Refill d) of = omega arith
-from_wakes (Arrive p) of = omega arith
-from_wakes (Decide r) of = omega arith
-from_wakes (Leave p) of = omega arith
-from_wakes (Save r) of = omega arith
+from_wakes a of = omega arith
 
 pub to_saves : (a : Action) → kind_place a < 13
 to_saves Stall = omega arith
-to_saves Xl = omega arith
-to_saves (Moved r) = omega arith
-to_saves (DomMoved d) = omega arith
-to_saves (Wake v) = omega arith
-to_saves (Block p) = omega arith
-to_saves (Slice r) = omega arith
-to_saves (Repl u) = omega arith
-to_saves (Refill d) = omega arith
-to_saves (Arrive p) = omega arith
-to_saves (Decide r) = omega arith
-to_saves (Leave p) = omega arith
-to_saves (Save r) = omega arith
+to_saves a = omega arith
 
 pub is_of_pool : (a : Action) → 4 ≤ kind_place a → IsOfPool a
 is_of_pool Stall from = absurd (omega (arith, from))
 is_of_pool Xl from = absurd (omega (arith, from))
 is_of_pool (Moved r) from = absurd (omega (arith, from))
 is_of_pool (DomMoved d) from = absurd (omega (arith, from))
-is_of_pool (Wake v) from = tt
-is_of_pool (Block p) from = tt
-is_of_pool (Slice r) from = tt
-is_of_pool (Repl u) from = tt
-is_of_pool (Refill d) from = tt
-is_of_pool (Arrive p) from = tt
-is_of_pool (Decide r) from = tt
-is_of_pool (Leave p) from = tt
-is_of_pool (Save r) from = tt
-
--- an action of a later kind
-pub later_kind : (a b : Action) → kind_place a < kind_place b → IsNotAfter a b
-later_kind a b before = record {
-  by_kind = omega (arith, before);
-  then_by_subject = λ same. absurd (omega (arith, before, same));
-  then_by_index = λ same also. absurd (omega (arith, before, same));
-}
+is_of_pool a from = tt
 
 -- whether a replenishment or a refill is armed, by the records
 armed_none : (t : ℕ) (b : Bool) → has_come t (if b then None else None) ≡ false
@@ -176,80 +101,85 @@ deadline_is pool u on = by pool.scheduler.records refl
   where
     by : (records : Records) → pool.scheduler.records ≡ records
         → (if has_unit pool.scheduler.queue u || is_on records u then (elim (rtds_record records u) as (λ _. Option Moment) [ None ↦ None | Some x ↦ Some (moment x.deadline) ]) else None)
-        ≡ when (has_unit pool.scheduler.queue u || is_some (core_of pool u)) (elim (rtds_record records u) as (λ _. Option Moment) [ None ↦ None | Some x ↦ Some (moment x.deadline) ])
+        ≡ moment_if (has_unit pool.scheduler.queue u || is_some (core_of pool u)) (elim (rtds_record records u) as (λ _. Option Moment) [ None ↦ None | Some x ↦ Some (moment x.deadline) ])
     by (Credit2Pool records) is = if_none (has_unit pool.scheduler.queue u || is_on (Credit2Pool records) u) (has_unit pool.scheduler.queue u || is_some (core_of pool u))
     by (RtdsPool domains) is =
-        ap (λ (b : Bool). when (has_unit pool.scheduler.queue u || b) (elim (rtds_record (RtdsPool domains) u) as (λ _. Option Moment) [ None ↦ None | Some x ↦ Some (moment x.deadline) ]))
+        ap (λ (b : Bool). moment_if (has_unit pool.scheduler.queue u || b) (elim (rtds_record (RtdsPool domains) u) as (λ _. Option Moment) [ None ↦ None | Some x ↦ Some (moment x.deadline) ]))
         (on_core pool domains u on is)
     by (ArincPool records) is = if_none (has_unit pool.scheduler.queue u || is_on (ArincPool records) u) (has_unit pool.scheduler.queue u || is_some (core_of pool u))
     by (NullPool kept) is = if_none (has_unit pool.scheduler.queue u || is_on (NullPool kept) u) (has_unit pool.scheduler.queue u || is_some (core_of pool u))
 
 -- from when on the event of a timer may come
-pub timer_ready : (g : ℕ) (pool : Pool) → AreOn pool → (x : Timer) → ready_in g pool (action_of x) ≡ later (armed_at pool.scheduler x) (lowest_end pool)
-timer_ready g pool on (timer.Repl u) = ap (λ (a : Option Moment). later a (lowest_end pool)) (sym (deadline_is pool u on))
+pub timer_ready : (g : ℕ) (pool : Pool) → AreOn pool → (x : Timer) → ready_in g pool (action_of x) ≡ later_moment (armed_at pool.scheduler x) (lowest_end pool)
+timer_ready g pool on (timer.Repl u) = ap (λ (a : Option Moment). later_moment a (lowest_end pool)) (sym (deadline_is pool u on))
 timer_ready g pool on (timer.Refill d) = refl
 
-and_none : (a : Bool) → (a && false) ≡ false
-and_none true = refl
-and_none false = refl
-
-both_come : (t : ℕ) (a b : Option Moment) → has_come t (later a b) ≡ (has_come t a && has_come t b)
+both_come : (t : ℕ) (a b : Option Moment) → has_come t (later_moment a b) ≡ (has_come t a && has_come t b)
 both_come t None b = refl
-both_come t (Some a) None = sym (and_none (nat_le a.0 t))
+both_come t (Some a) None = sym (and-false (nat_le a.0 t))
 both_come t (Some a) (Some b) = greater a.0 b.0
   where
     greater : (m n : ℕ) → nat_le (max m n) t ≡ (nat_le m t && nat_le n t)
     greater m n = grind (arith, nat_tests)
 
-module _ (g t : ℕ) (pool : Pool) where
+module _ (test : Action → Bool) (g t : ℕ) (pool : Pool) where
   -- no event of a kind
-  empty_kind : (k : ℕ) → ((i n : ℕ) → enabled_in g t pool (action_at k i n) ≡ false) → IsFirstIn k (suc k) g t pool None
-  empty_kind k none action from below = subst (λ (a : Action). enabled_in g t pool a ≡ false) (of_kind k action (omega (arith, from, below))) (none (subject_place action) (index_place action))
+  pub none_at : (k : ℕ) → ((i n : ℕ) → test (action_at k i n) ≡ true → enabled_in g t pool (action_at k i n) ≡ false) → IsFirstWhere test k (suc k) g t pool None
+  none_at k none action from below own =
+      let e = of_kind k action (omega (arith, from, below)) in
+      subst (λ (a : Action). enabled_in g t pool a ≡ false) e (none (subject_place action) (index_place action) (subst (λ (a : Action). test a ≡ true) (sym e) own))
 
-  -- the first event of a kind
-  one_kind : (k : ℕ) (event : Action) → kind_place event ≡ k → enabled_in g t pool event ≡ true → ((i n : ℕ) → enabled_in g t pool (action_at k i n) ≡ true → IsNotAfter event (action_at k i n)) → IsFirstIn k (suc k) g t pool (Some event)
-  one_kind k event is on first = record {
+  -- the one event of a kind
+  pub one_at : (k : ℕ) (event : Action) → kind_place event ≡ k → test event ≡ true → enabled_in g t pool event ≡ true
+      → ((i n : ℕ) → test (action_at k i n) ≡ true → enabled_in g t pool (action_at k i n) ≡ true → IsNotAfter event (action_at k i n)) → IsFirstWhere test k (suc k) g t pool (Some event)
+  one_at k event is own on first = record {
     kind = omega (arith, is);
     kind_below = omega (arith, is);
+    passes = own;
     enabled = on;
-    first = λ action from may. elim (ℕ_discrete (kind_place action) k) [
-      | yes same ↦ (let e = of_kind k action same in subst (IsNotAfter event) e (first (subject_place action) (index_place action) (subst (λ (a : Action). enabled_in g t pool a ≡ true) (sym e) may)))
+    first = λ action from by may. elim (ℕ_discrete (kind_place action) k) [
+      | yes same ↦ (let e = of_kind k action same in
+          subst (IsNotAfter event) e (first (subject_place action) (index_place action)
+          (subst (λ (a : Action). test a ≡ true) (sym e) by) (subst (λ (a : Action). enabled_in g t pool a ≡ true) (sym e) may)))
       | no other ↦ later_kind event action (omega (arith, is, from, other))
     ];
   }
 
   -- some kinds of which no event may come, and those after them
-  pub joined : (a b c : ℕ) (o : Option Action) → a ≤ b → IsFirstIn a b g t pool None → IsFirstIn b c g t pool o → IsFirstIn a c g t pool o
-  joined a b c None order none others = λ action from below. elim (cases_lt (kind_place action) b) [
-    | inl before ↦ none action from before
-    | inr after ↦ others action after below
+  pub joined : (a b c : ℕ) (o : Option Action) → a ≤ b → IsFirstWhere test a b g t pool None → IsFirstWhere test b c g t pool o → IsFirstWhere test a c g t pool o
+  joined a b c None order none others = λ action from below own. elim (cases_lt (kind_place action) b) [
+    | inl before ↦ none action from before own
+    | inr after ↦ others action after below own
   ]
   joined a b c (Some event) order none others = record {
     kind = (let kind = others.kind in omega (arith, order, kind));
     kind_below = others.kind_below;
+    passes = others.passes;
     enabled = others.enabled;
-    first = λ action from may. elim (cases_lt (kind_place action) b) [
-      | inl before ↦ absurd (clash _ may (none action from before))
-      | inr after ↦ others.first action after may
+    first = λ action from own may. elim (cases_lt (kind_place action) b) [
+      | inl before ↦ absurd (clash _ may (none action from before own))
+      | inr after ↦ others.first action after own may
     ];
   }
 
   -- the first event, and further kinds
-  pub widened : (a b c : ℕ) (event : Action) → b ≤ c → IsFirstIn a b g t pool (Some event) → IsFirstIn a c g t pool (Some event)
-  widened a b c event order is = record { kind = is.kind; kind_below = (let below = is.kind_below in omega (arith, order, below)); enabled = is.enabled; first = is.first }
+  pub widened : (a b c : ℕ) (event : Action) → b ≤ c → IsFirstWhere test a b g t pool (Some event) → IsFirstWhere test a c g t pool (Some event)
+  widened a b c event order is =
+      record { kind = is.kind; kind_below = (let below = is.kind_below in omega (arith, order, below)); passes = is.passes; enabled = is.enabled; first = is.first }
 
+module _ (g t : ℕ) (pool : Pool) where
   -- of all the kinds of a pool
   pub of_all : (o : Option Action) → IsFirstIn 4 13 g t pool o → IsFirstEnabled g t pool o
-  of_all None none = λ action of. none action (from_wakes action of) (to_saves action)
-  of_all (Some event) is = record { of_pool = is_of_pool event is.kind; enabled = is.enabled; first = λ action of may. is.first action (from_wakes action of) may }
+  of_all None none = λ action of. none action (from_wakes action of) (to_saves action) refl
+  of_all (Some event) is = record { of_pool = is_of_pool event is.kind; enabled = is.enabled; first = λ action of may. is.first action (from_wakes action of) refl may }
 
   -- the first event of a kind whose subjects are numbers
   of_numbers : (k : ℕ) (make : ℕ → Action) (ends : ℕ → Option Moment) (o : Option ℕ)
       → ((i n : ℕ) → action_at k i n ≡ make i) → ((i : ℕ) → kind_place (make i) ≡ k) → ((i : ℕ) → subject_place (make i) ≡ i) → ((i : ℕ) → index_place (make i) ≡ 0)
       → ((i : ℕ) → enabled_in g t pool (make i) ≡ has_come t (ends i)) → IsFirstCome ends t o → IsFirstIn k (suc k) g t pool (option_map make o)
-  of_numbers k make ends None made kind subject index may none = empty_kind k (λ i n. ap (enabled_in g t pool) (made i n) ∙ may i ∙ none i)
+  of_numbers k make ends None made kind subject index may none = none_at is_any g t pool k (λ i n own. ap (enabled_in g t pool) (made i n) ∙ may i ∙ none i)
   of_numbers k make ends (Some i) made kind subject index may first =
-      one_kind k (make i) (kind i) (may i ∙ first.0) (λ j n on.
+      one_at is_any g t pool k (make i) (kind i) refl (may i ∙ first.0) (λ j n own on.
       let e = made j n in
       subst (IsNotAfter (make i)) (sym e) (after j (subst (λ (a : Action). enabled_in g t pool a ≡ true) e on)))
     where
@@ -263,31 +193,31 @@ module _ (g t : ℕ) (pool : Pool) where
         then_by_index = λ same also. (let a = index i in let b = index j in omega (arith, a, b));
       }
 
-  pub slices : (o : Option ℕ) → IsFirstCome (λ r. ready_in g pool (Slice r)) t o → IsFirstIn 6 7 g t pool (option_map Slice o)
-  slices o = of_numbers 6 Slice (λ r. ready_in g pool (Slice r)) o (λ i n. refl) (λ i. refl) (λ i. refl) (λ i. refl) (λ i. ready g t pool (Slice i))
+  pub slices : (o : Option ℕ) → IsFirstCome (λ r. ready_in g pool (Slice (core_number r))) t o → IsFirstIn 6 7 g t pool (option_map (λ n. Slice (core_number n)) o)
+  slices o = of_numbers 6 (λ n. Slice (core_number n)) (λ r. ready_in g pool (Slice (core_number r))) o (λ i n. refl) (λ i. refl) (λ i. refl) (λ i. refl) (λ i. ready g t pool (Slice (core_number i)))
 
-  pub decides : (o : Option ℕ) → IsFirstCome (λ r. ready_in g pool (Decide r)) t o → IsFirstIn 10 11 g t pool (option_map Decide o)
-  decides o = of_numbers 10 Decide (λ r. ready_in g pool (Decide r)) o (λ i n. refl) (λ i. refl) (λ i. refl) (λ i. refl) (λ i. ready g t pool (Decide i))
+  pub decides : (o : Option ℕ) → IsFirstCome (λ r. ready_in g pool (Decide (core_number r))) t o → IsFirstIn 10 11 g t pool (option_map (λ n. Decide (core_number n)) o)
+  decides o = of_numbers 10 (λ n. Decide (core_number n)) (λ r. ready_in g pool (Decide (core_number r))) o (λ i n. refl) (λ i. refl) (λ i. refl) (λ i. refl) (λ i. ready g t pool (Decide (core_number i)))
 
-  pub saves : (o : Option ℕ) → IsFirstCome (λ r. ready_in g pool (Save r)) t o → IsFirstIn 12 13 g t pool (option_map Save o)
-  saves o = of_numbers 12 Save (λ r. ready_in g pool (Save r)) o (λ i n. refl) (λ i. refl) (λ i. refl) (λ i. refl) (λ i. ready g t pool (Save i))
+  pub saves : (o : Option ℕ) → IsFirstCome (λ r. ready_in g pool (Save (core_number r))) t o → IsFirstIn 12 13 g t pool (option_map (λ n. Save (core_number n)) o)
+  saves o = of_numbers 12 (λ n. Save (core_number n)) (λ r. ready_in g pool (Save (core_number r))) o (λ i n. refl) (λ i. refl) (λ i. refl) (λ i. refl) (λ i. ready g t pool (Save (core_number i)))
 
-  pub arrives : (o : Option ℕ) → IsFirstCome (λ p. ready_in g pool (Arrive p)) t o → IsFirstIn 9 10 g t pool (option_map Arrive o)
-  arrives o = of_numbers 9 Arrive (λ p. ready_in g pool (Arrive p)) o (λ i n. refl) (λ i. refl) (λ i. refl) (λ i. refl) (λ i. ready g t pool (Arrive i))
+  pub arrives : (o : Option ℕ) → IsFirstCome (λ p. ready_in g pool (Arrive (processor p))) t o → IsFirstIn 9 10 g t pool (option_map (λ n. Arrive (processor n)) o)
+  arrives o = of_numbers 9 (λ n. Arrive (processor n)) (λ p. ready_in g pool (Arrive (processor p))) o (λ i n. refl) (λ i. refl) (λ i. refl) (λ i. refl) (λ i. ready g t pool (Arrive (processor i)))
 
-  pub leaves : (o : Option ℕ) → IsFirstCome (λ p. ready_in g pool (Leave p)) t o → IsFirstIn 11 12 g t pool (option_map Leave o)
-  leaves o = of_numbers 11 Leave (λ p. ready_in g pool (Leave p)) o (λ i n. refl) (λ i. refl) (λ i. refl) (λ i. refl) (λ i. ready g t pool (Leave i))
+  pub leaves : (o : Option ℕ) → IsFirstCome (λ p. ready_in g pool (Leave (processor p))) t o → IsFirstIn 11 12 g t pool (option_map (λ n. Leave (processor n)) o)
+  leaves o = of_numbers 11 (λ n. Leave (processor n)) (λ p. ready_in g pool (Leave (processor p))) o (λ i n. refl) (λ i. refl) (λ i. refl) (λ i. refl) (λ i. ready g t pool (Leave (processor i)))
 
   -- of the blocks, where their moments are told
-  pub blocks : (ends : ℕ → Option Moment) (o : Option ℕ) → ((p : ℕ) → ends p ≡ ready_in g pool (Block p)) → IsFirstCome ends t o → IsFirstIn 5 6 g t pool (option_map Block o)
-  blocks ends o are = of_numbers 5 Block ends o (λ i n. refl) (λ i. refl) (λ i. refl) (λ i. refl) (λ i. ready g t pool (Block i) ∙ sym (ap (has_come t) (are i)))
+  pub blocks : (ends : ℕ → Option Moment) (o : Option ℕ) → ((p : ℕ) → ends p ≡ ready_in g pool (Block (processor p))) → IsFirstCome ends t o → IsFirstIn 5 6 g t pool (option_map (λ n. Block (processor n)) o)
+  blocks ends o are = of_numbers 5 (λ n. Block (processor n)) ends o (λ i n. refl) (λ i. refl) (λ i. refl) (λ i. refl) (λ i. ready g t pool (Block (processor i)) ∙ sym (ap (has_come t) (are i)))
 
   -- of the wakes
   pub no_wake : ((v : VcpuId) → is_due_among t pool.domains v ≡ false) → IsFirstIn 4 5 g t pool None
-  no_wake none = empty_kind 4 (λ i n. let v : VcpuId = record { dom = domain i; n = n } in ready g t pool (Wake v) ∙ none v)
+  no_wake none = none_at is_any g t pool 4 (λ i n own. let v : VcpuId = record { dom = domain i; n = n } in ready g t pool (Wake v) ∙ none v)
 
   pub first_wake : (v : VcpuId) → is_due_among t pool.domains v ≡ true → ((w : VcpuId) → is_due_among t pool.domains w ≡ true → IsVcpuNotAfter v w) → IsFirstIn 4 5 g t pool (Some (Wake v))
-  first_wake v due first = one_kind 4 (Wake v) refl (ready g t pool (Wake v) ∙ due) (λ i n on.
+  first_wake v due first = one_at is_any g t pool 4 (Wake v) refl refl (ready g t pool (Wake v) ∙ due) (λ i n own on.
       let w : VcpuId = record { dom = domain i; n = n } in
       let order = first w (sym (ready g t pool (Wake w)) ∙ on) in
       record { by_kind = omega arith; then_by_subject = λ same. order.by_domain; then_by_index = λ same also. order.then_by_index also })
@@ -297,49 +227,44 @@ module _ (g t : ℕ) (pool : Pool) where
   timer_may on x = ready g t pool (action_of x) ∙ ap (has_come t) (timer_ready g pool on x) ∙ both_come t (armed_at pool.scheduler x) (lowest_end pool)
 
   pub no_timer : ((x : Timer) → enabled_in g t pool (action_of x) ≡ false) → IsFirstIn 7 9 g t pool None
-  no_timer none = joined 7 8 9 None (omega arith)
-      (empty_kind 7 (λ i n. let u : UnitId = record { dom = domain i; n = n } in none (timer.Repl u)))
-      (empty_kind 8 (λ i n. none (timer.Refill (domain i))))
+  no_timer none = joined is_any g t pool 7 8 9 None (omega arith)
+      (none_at is_any g t pool 7 (λ i n own. let u : UnitId = record { dom = domain i; n = n } in none (timer.Repl u)))
+      (none_at is_any g t pool 8 (λ i n own. none (timer.Refill (domain i))))
 
   pub no_timer_up : AreOn pool → has_come t (lowest_end pool) ≡ false → IsFirstIn 7 9 g t pool None
-  no_timer_up on stalled = no_timer (λ x. timer_may on x ∙ ap (λ (b : Bool). has_come t (armed_at pool.scheduler x) && b) stalled ∙ and_none _)
+  no_timer_up on stalled = no_timer (λ x. timer_may on x ∙ ap (λ (b : Bool). has_come t (armed_at pool.scheduler x) && b) stalled ∙ and-false _)
 
   pub no_timer_due : AreOn pool → ((x : Timer) → has_come t (armed_at pool.scheduler x) ≡ false) → IsFirstIn 7 9 g t pool None
   no_timer_due on none = no_timer (λ x. timer_may on x ∙ ap (λ (b : Bool). b && has_come t (lowest_end pool)) (none x))
 
   pub first_timer : AreOn pool → (x : Timer) → has_come t (armed_at pool.scheduler x) ≡ true → has_come t (lowest_end pool) ≡ true
       → ((other : Timer) → has_come t (armed_at pool.scheduler other) ≡ true → IsTimerNotAfter x other) → IsFirstIn 7 9 g t pool (Some (action_of x))
-  first_timer on (timer.Repl u) due up first = widened 7 8 9 (Repl u) (omega arith) (one_kind 7 (Repl u) refl (timer_may on (timer.Repl u) ∙ and_both _ _ due up) (λ i n may.
+  first_timer on (timer.Repl u) due up first = widened is_any g t pool 7 8 9 (Repl u) (omega arith) (one_at is_any g t pool 7 (Repl u) refl refl (timer_may on (timer.Repl u) ∙ and_both _ _ due up) (λ i n own may.
       let w : UnitId = record { dom = domain i; n = n } in
       let order = first (timer.Repl w) (and_left _ _ (sym (timer_may on (timer.Repl w)) ∙ may)) in
       record { by_kind = omega arith; then_by_subject = λ same. order.by_domain; then_by_index = λ same also. order.then_by_unit also }))
-  first_timer on (timer.Refill d) due up first = joined 7 8 9 (Some (Refill d.0)) (omega arith)
-      (empty_kind 7 (λ i n.
+  first_timer on (timer.Refill d) due up first = joined is_any g t pool 7 8 9 (Some (Refill d)) (omega arith)
+      (none_at is_any g t pool 7 (λ i n own.
       let w : UnitId = record { dom = domain i; n = n } in
-      never _ (λ may. never_both t pool.scheduler w d.0 (and_left _ _ (sym (timer_may on (timer.Repl w)) ∙ may)) due)))
-      (one_kind 8 (Refill d.0) refl (timer_may on (timer.Refill d) ∙ and_both _ _ due up) (λ i n may.
+      false_from_ne_true _ (λ may. never_both t pool.scheduler w d.0 (and_left _ _ (sym (timer_may on (timer.Repl w)) ∙ may)) due)))
+      (one_at is_any g t pool 8 (Refill d) refl refl (timer_may on (timer.Refill d) ∙ and_both _ _ due up) (λ i n own may.
       let order = first (timer.Refill (domain i)) (and_left _ _ (sym (timer_may on (timer.Refill (domain i))) ∙ may)) in
       record { by_kind = omega arith; then_by_subject = λ same. order.by_domain; then_by_index = λ same also. omega arith }))
 
--- a moment that has come
-pub come_at : (t : ℕ) (o : Option Moment) → has_come t o ≡ true → (at : Moment) × (o ≡ Some at) × (at.0 ≤ t)
-come_at t None come = absurd (cc)
-come_at t (Some at) come = (at, refl, (let e : nat_le at.0 t ≡ true = come in grind (arith, nat_tests, e)))
-
 -- the timer at t, where its moment has not come: none has come
 pub timers_late : (t : ℕ) (s : Scheduler) (x : Armed) → timer_at t s ≡ Some x → t < x.0.0 → (other : Timer) → has_come t (armed_at s other) ≡ false
-timers_late t s x is late other = never _ (λ may. let at = come_at t (armed_at s other) may in let first = law.first t s x is other at.0 at.1 at.2 in let come = first.0 in omega (arith, late, come))
+timers_late t s x is late other = false_from_ne_true _ (λ may. let at = come_there t (armed_at s other) may in let first = law.first t s x is other at.0 at.1 at.2 in let come = first.0 in omega (arith, late, come))
 
 -- where its moment has come: it is the first of those that have
 pub timer_come : (t : ℕ) (s : Scheduler) (x : Armed) → timer_at t s ≡ Some x → x.0.0 ≤ t → has_come t (armed_at s x.1) ≡ true
 timer_come t s x is come = ap (has_come t) (law.armed t s x is) ∙ (let e : nat_le x.0.0 t ≡ true = grind (arith, nat_tests, come) in e)
 
 pub timers_first : (t : ℕ) (s : Scheduler) (x : Armed) → timer_at t s ≡ Some x → (other : Timer) → has_come t (armed_at s other) ≡ true → IsTimerNotAfter x.1 other
-timers_first t s x is other may = let at = come_at t (armed_at s other) may in (law.first t s x is other at.0 at.1 at.2).1
+timers_first t s x is other may = let at = come_there t (armed_at s other) may in (law.first t s x is other at.0 at.1 at.2).1
 
 -- from when on a block may come
 pub block_is : (guests : GuestsSeen) (cores : CoresSeen) (s : SchedulerSeen) → cores.granularity ≡ guests.granularity → AreWorks guests.granularity cores.works (pool_of guests cores s)
-    → (p : ℕ) → ready_among cores (Block p) ≡ ready_in guests.granularity (pool_of guests cores s) (Block p)
+    → (p : ℕ) → ready_among cores (Block (processor p)) ≡ ready_in guests.granularity (pool_of guests cores s) (Block (processor p))
 block_is guests cores s same works p =
-    ap (λ (o : Option Moment). later o (end_of (processor_among cores.granularity cores.resources p))) (works p)
-    ∙ ap (λ (k : ℕ). later (work_end guests.granularity (pool_of guests cores s) p) (end_of (processor_among k cores.resources p))) same
+    ap (λ (o : Option Moment). later_moment o (end_of (processor_among cores.granularity cores.resources p))) (works p)
+    ∙ ap (λ (k : ℕ). later_moment (work_end guests.granularity (pool_of guests cores s) p) (end_of (processor_among k cores.resources p))) same

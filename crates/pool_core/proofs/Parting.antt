@@ -1,4 +1,5 @@
 -- A domain that goes out of a pool.
+use Rattle.sched_base.specs.Numbers.{domain as domain_number}
 use Rattle.std.proofs.Common.{◌≡◌, ◌≢◌, ◌+◌, ◌/◌, ℕ, Bool, true, List, refl, sym, ap, subst, ◌∙◌, arith}
 use Rattle.std.specs.Prelude.{Option, Some, None, slice_get}
 use Rattle.sched_base.specs.declared.Moment.{Moment}
@@ -25,7 +26,7 @@ use Rattle.pool_core.proofs.Withdrawing.{units_known}
 use Rattle.pool_core.proofs.Works.{done_by}
 
 -- no processor runs a vCPU of the domain
-works_parted_from : (g t d : ℕ) (works : List (Option Moment)) (pool : Pool) → IsKnownPool g pool → enabled_in g t pool (DomMoved d) ≡ true → AreWorks g works pool → AreWorks g works (without_domain d pool)
+works_parted_from : (g t d : ℕ) (works : List (Option Moment)) (pool : Pool) → IsKnownPool g pool → enabled_in g t pool (DomMoved (domain_number d)) ≡ true → AreWorks g works pool → AreWorks g works (without_domain d pool)
 works_parted_from g t d works pool known on are q = are q ∙ by_guest (guest_among g pool.resources q) refl
   where
     done_in : ℕ → Option Domain → Option Moment
@@ -39,7 +40,7 @@ works_parted_from g t d works pool known on are q = are q ∙ by_guest (guest_am
         ap (done_in w.n) (sym (at_place-clear_at_other d w.dom.0 pool.domains other))
 
 -- the state after the domain went
-pub taken_kept : (t d : ℕ) (guests next : GuestsSeen) (cores : CoresSeen) (s s2 : SchedulerSeen) (domain : Domain) → IsKept t guests cores s → enabled_in guests.granularity t (pool_of guests cores s) (DomMoved d) ≡ true
+pub taken_kept : (t d : ℕ) (guests next : GuestsSeen) (cores : CoresSeen) (s s2 : SchedulerSeen) (domain : Domain) → IsKept t guests cores s → enabled_in guests.granularity t (pool_of guests cores s) (DomMoved (domain_number d)) ≡ true
     → at_place guests.domains d ≡ Some domain → pool_of next cores s2 ≡ without_domain d (pool_of guests cores s) → next ≡ record guests { domains = clear_at d guests.domains; spare = guests.spare + unit_count guests.granularity domain }
     → s2.spare ≡ s.spare + units_of s.scheduler d → s2.latest ≡ s.latest → IsKept t next cores s2
 taken_kept t d guests next cores s s2 domain keeps on at is guests_are spare latest =

@@ -8,11 +8,12 @@ use Rattle.sched_model.specs.declared.state.Doing.TheVariants.{Guest, Idle, Held
 use Rattle.sched_model.specs.declared.state.Processor.{Processor}
 use Rattle.sched_model.specs.declared.state.Resource.{Resource}
 use Rattle.sched_model.specs.Places.{at_place, change_at, change_each, change_item}
-use Rattle.sched_model.specs.Pool.{does}
+use Rattle.sched_model.specs.Pool.{with_doing}
 use Rattle.sched_model.proofs.PlaceLemmas.{at_place-change_at_other}
 use Rattle.sched_laws.proofs.EachPlace.{at_place-change_each}
 use Rattle.plain_credit2.proofs.Items.{at_place-change_at}
 use Rattle.core_state.specs.Seen.{processor_among, with_sibling}
+use Rattle.sched_laws.proofs.Lists.{slice_get-change_item, slice_get-change_item_other}
 
 -- what a processor runs
 abbrev pub run_by : Option Processor → Option VcpuId
@@ -39,18 +40,6 @@ processor_each g p f cores same =
     ap (λ (o : Option Resource). elim o as (λ _. Option Processor) [ None ↦ None | Some c ↦ slice_get c.processors (p % g) ]) (at_place-change_each 0 (p / g) f cores)
     ∙ sibling_kept (p % g) (f (0 + p / g)) (at_place cores (p / g)) (λ c is. same (0 + p / g) c)
 
-changed_item : {X : Type 0} (i : ℕ) (f : X → X) (xs : List X) → slice_get (change_item i f xs) i ≡ option_map f (slice_get xs i)
-changed_item i f [] = refl
-changed_item zero f (x ∷ xs) = refl
-changed_item (suc i) f (x ∷ xs) = changed_item i f xs
-
-other_item : {X : Type 0} (i j : ℕ) (f : X → X) (xs : List X) → j ≢ i → slice_get (change_item i f xs) j ≡ slice_get xs j
-other_item i j f [] other = refl
-other_item zero zero f (x ∷ xs) other = absurd (other refl)
-other_item zero (suc j) f (x ∷ xs) other = refl
-other_item (suc i) zero f (x ∷ xs) other = refl
-other_item (suc i) (suc j) f (x ∷ xs) other = other_item i j f xs (λ e. other (ap suc e))
-
 -- a processor changed
 pub processor_changed : (g p : ℕ) (f : Processor → Processor) (cores : List (Option Resource)) → processor_among g (change_at (p / g) (with_sibling (p % g) f) cores) p ≡ option_map f (processor_among g cores p)
 processor_changed g p f cores =
@@ -59,7 +48,7 @@ processor_changed g p f cores =
   where
     by_core : (o : Option Resource) → elim (option_map (with_sibling (p % g) f) o) as (λ _. Option Processor) [ None ↦ None | Some c ↦ slice_get c.processors (p % g) ] ≡ option_map f (elim o as (λ _. Option Processor) [ None ↦ None | Some c ↦ slice_get c.processors (p % g) ])
     by_core None = refl
-    by_core (Some c) = changed_item (p % g) f c.processors
+    by_core (Some c) = slice_get-change_item (p % g) f c.processors
 
 pub same_number : (g p q : ℕ) → p / g ≡ q / g → p % g ≡ q % g → p ≡ q
 same_number g p q core place = sym (div-add-mod' p g) ∙ ap (λ (k : ℕ). k * g + p % g) core ∙ ap (λ (k : ℕ). q / g * g + k) place ∙ div-add-mod' q g
@@ -76,13 +65,13 @@ processor_other g p q f cores other = elim (ℕ_discrete (q / g) (p / g)) [
   where
     by_core : (o : Option Resource) → q % g ≢ p % g → elim (option_map (with_sibling (p % g) f) o) as (λ _. Option Processor) [ None ↦ None | Some c ↦ slice_get c.processors (q % g) ] ≡ elim o as (λ _. Option Processor) [ None ↦ None | Some c ↦ slice_get c.processors (q % g) ]
     by_core None apart = refl
-    by_core (Some c) apart = other_item (p % g) (q % g) f c.processors apart
+    by_core (Some c) apart = slice_get-change_item_other (p % g) (q % g) f c.processors (λ e. apart (sym e))
 
 -- a processor that runs nothing
-pub idle_runs_none : (o : Option Processor) → run_by (option_map (does Idle) o) ≡ None
+pub idle_runs_none : (o : Option Processor) → run_by (option_map (with_doing Idle) o) ≡ None
 idle_runs_none None = refl
 idle_runs_none (Some q) = refl
 
-pub held_runs_none : (o : Option Processor) → run_by (option_map (does Held) o) ≡ None
+pub held_runs_none : (o : Option Processor) → run_by (option_map (with_doing Held) o) ≡ None
 held_runs_none None = refl
 held_runs_none (Some q) = refl

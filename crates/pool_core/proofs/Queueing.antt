@@ -16,14 +16,11 @@ use Rattle.core_state.specs.Seen as cores
 use Rattle.pool_core.specs.Domains.{MayQueue, unit_id}
 use Rattle.pool_core.specs.Seen.{pool_of}
 use Rattle.pool_core.specs.Waking.{KeepsRoom}
+use Rattle.std.proofs.lemmas.Bool.{false_from_ne_true}
 
 -- a unit does not wait that is nowhere in the queue
 pub waits_nowhere : (u : UnitId) (queue : List UnitId) → times u queue ≡ 0 → has_unit queue u ≡ false
-waits_nowhere u queue none = by_queue (has_unit queue u) refl
-  where
-    by_queue : (b : Bool) → has_unit queue u ≡ b → b ≡ false
-    by_queue false is = refl
-    by_queue true is = absurd (let some = times_some u queue is in omega (arith, some, none))
+waits_nowhere u queue none = false_from_ne_true (has_unit queue u) (λ is. let some = times_some u queue is in omega (arith, some, none))
 
 -- two units of a domain are not the same
 units_apart : (d k n : ℕ) → k ≢ n → one (unit_id d k) (unit_id d n) ≡ 0

@@ -20,10 +20,9 @@ use Rattle.pool_kept.proofs.Alike.{found_core}
 
 -- where a unit's deadline comes, the records tell whether it is on
 on_told : (records : Records) (t : ℕ) (u : UnitId) → replenish_due records t u ≡ true → may_be_on records u ≡ is_on records u
-on_told (Credit2Pool records) t u due = refl
-on_told (RtdsPool domains) t u due = refl
 on_told (ArincPool records) t u due = absurd (cc)
 on_told (NullPool kept) t u due = absurd (cc)
+on_told a t u due = refl
 
 -- the timer of a unit whose replenishment may come is due
 pub timer_is_due : (g t : ℕ) (pool : Pool) (u : UnitId) → Holds g t pool → enabled_in g t pool (Repl u) ≡ true → ((has_unit pool.scheduler.queue u || is_on pool.scheduler.records u) && replenish_due pool.scheduler.records t u) ≡ true

@@ -1,4 +1,5 @@
 -- Events after which no core is to be looked at, where that was done at the same moment before.
+use Rattle.sched_base.specs.Numbers.{core, processor}
 use Rattle.std.proofs.Common.{◌≡◌, ◌+◌, ◌*◌, ◌/◌, ◌%◌, ℕ, Bool, true, false, List, refl, sym, ap, subst, ◌∙◌, cond, arith}
 use Rattle.std.specs.Prelude.{Option, Some, None, not, option_map, slice_set, unwrap_or, ◌||◌, ◌&&◌}
 use Rattle.std.specs.List.{list_any}
@@ -15,7 +16,7 @@ use Rattle.sched_model.specs.declared.state.Vcpu.{Vcpu}
 use Rattle.sched_model.specs.Places.{at_place}
 use Rattle.sched_model.specs.Policy.{better_waits}
 use Rattle.sched_model.specs.Pool as pools
-use Rattle.sched_model.specs.Pool.{after_in, change_core, change_processor, change_vcpu, cores_from, does, guest_of, home_cores, is_held, is_off, put_to_sleep, reconsidered, set_pending, settled, started_on, stopped, unit_of}
+use Rattle.sched_model.specs.Pool.{after_in, change_core, change_processor, change_vcpu, cores_from, with_doing, guest_of, home_cores, is_held, is_off, put_to_sleep, reconsidered_core, set_pending, settled_pool as settled, started_on, stopped_vcpu, unit_of}
 use Rattle.sched_model.specs.State.{is_runnable}
 use Rattle.sched_laws.proofs.EachPlace.{at_place-change_each, by_cond, by_option}
 use Rattle.pool_laws.specs.Settling.{IsSettled}
@@ -66,7 +67,7 @@ looked_same b c d leaving pending same = by_two d.leaving d.pending b refl refl 
         by_pending false true e f = sym f
         by_pending false false e f = e
 
-asks_same : (t home : ℕ) (s : Scheduler) (r : ℕ) (c d : Resource) → AsksAsBefore c d → reconsidered t home s r c ≡ c → reconsidered t home s r d ≡ d
+asks_same : (t home : ℕ) (s : Scheduler) (r : ℕ) (c d : Resource) → AsksAsBefore c d → reconsidered_core t home s r c ≡ c → reconsidered_core t home s r d ≡ d
 asks_same t home s r c d asks same =
     let question : better_waits d.cur d.since.0 t r home s ≡ better_waits c.cur c.since.0 t r home s =
     ap (λ cur. better_waits cur d.since.0 t r home s) asks.cur ∙ ap (λ since. better_waits c.cur since.0 t r home s) asks.since in
@@ -84,17 +85,17 @@ spared_core t r f pool asks before =
     home : ℕ
     home = home_cores pool
 
-    here : option_map (reconsidered t home pool.scheduler r) (at_place pool.resources r) ≡ at_place pool.resources r
+    here : option_map (reconsidered_core t home pool.scheduler r) (at_place pool.resources r) ≡ at_place pool.resources r
     here =
         let number : 0 + r ≡ r = omega arith in
-        ap (λ (k : ℕ). option_map (reconsidered t home pool.scheduler k) (at_place pool.resources r)) (sym number)
-        ∙ sym (at_place-change_each 0 r (reconsidered t home pool.scheduler) pool.resources)
+        ap (λ (k : ℕ). option_map (reconsidered_core t home pool.scheduler k) (at_place pool.resources r)) (sym number)
+        ∙ sym (at_place-change_each 0 r (reconsidered_core t home pool.scheduler) pool.resources)
         ∙ ap (λ (x : Pool). at_place x.resources r) before
 
-    by_place : (o : Option Resource) → option_map (reconsidered t home pool.scheduler r) o ≡ o → option_map (λ c. reconsidered t home pool.scheduler r (f c)) o ≡ option_map f o
+    by_place : (o : Option Resource) → option_map (reconsidered_core t home pool.scheduler r) o ≡ o → option_map (λ c. reconsidered_core t home pool.scheduler r (f c)) o ≡ option_map f o
     by_place None e = refl
     by_place (Some c) e =
-        let same : reconsidered t home pool.scheduler r c ≡ c = cc in
+        let same : reconsidered_core t home pool.scheduler r c ≡ c = cc in
         ap Some (asks_same t home pool.scheduler r c (f c) (asks c) same)
 
 -- a core that is to decide anew
@@ -102,7 +103,7 @@ to_decide : (c : Resource) → AsksAsBefore c (set_pending c)
 to_decide c = record { cur = refl; since = refl; leaving = refl; pending = λ e. refl }
 
 -- a processor that does something else
-spared_processor : (g t p : ℕ) (doing : Doing) (pool : Pool) → IsSettled t pool → IsSettled t (change_processor g p (does doing) pool)
+spared_processor : (g t p : ℕ) (doing : Doing) (pool : Pool) → IsSettled t pool → IsSettled t (change_processor g p (with_doing doing) pool)
 spared_processor g t p doing pool before = spared_core t (p / g) _ pool (λ c. record { cur = refl; since = refl; leaving = refl; pending = λ e. e }) before
 
 -- a vCPU that changes
@@ -110,19 +111,19 @@ spared_vcpu : (t : ℕ) (v : VcpuId) (f : Vcpu → Vcpu) (pool : Pool) → IsSet
 spared_vcpu t v f pool before = spared_domains t _ pool before
 
 module _ (g t : ℕ) (pool : Pool) (before : IsSettled t pool) where
-  pub spared_slice : (r : ℕ) → IsSettled t (after_in g t pool (Slice r))
+  pub spared_slice : (r : ℕ) → IsSettled t (after_in g t pool (Slice (core r)))
   spared_slice r = spared_core t r set_pending pool to_decide before
 
-  pub spared_arrive : (p : ℕ) → IsSettled t (after_in g t pool (Arrive p))
+  pub spared_arrive : (p : ℕ) → IsSettled t (after_in g t pool (Arrive (processor p)))
   spared_arrive p =
-      by_option (λ (next : Pool). IsSettled t (change_processor g p (does Held) next)) (guest_of g pool p) _ _
+      by_option (λ (next : Pool). IsSettled t (change_processor g p (with_doing Held) next)) (guest_of g pool p) _ _
       (λ is. spared_processor g t p Held pool before)
-      (λ v is. spared_processor g t p Held (change_vcpu v (stopped t) pool) (spared_vcpu t v (stopped t) pool before))
+      (λ v is. spared_processor g t p Held (change_vcpu v (stopped_vcpu t) pool) (spared_vcpu t v (stopped_vcpu t) pool before))
 
-  pub spared_block : (p : ℕ) → IsSettled t (after_in g t pool (Block p))
+  pub spared_block : (p : ℕ) → IsSettled t (after_in g t pool (Block (processor p)))
   spared_block p =
       by_option (IsSettled t) (guest_of g pool p) _ _ (λ is. before) (λ v is.
-      let next : Pool = change_processor g p (does Idle) (change_vcpu v (put_to_sleep t) pool) in
+      let next : Pool = change_processor g p (with_doing Idle) (change_vcpu v (put_to_sleep t) pool) in
       let here : IsSettled t next = spared_processor g t p Idle (change_vcpu v (put_to_sleep t) pool) (spared_vcpu t v (put_to_sleep t) pool before) in
       by_cond (IsSettled t) (is_runnable g next (unit_of g v)) _ _ (λ runs. here) (λ runs. spared_core t (p / g) set_pending next to_decide here))
 
@@ -130,7 +131,7 @@ module _ (g t : ℕ) (pool : Pool) (before : IsSettled t pool) where
   opened : (c : Resource) → AsksAsBefore c (pools.open_if_left c)
   opened c = by_cond (AsksAsBefore c) (list_any is_held c.processors) _ _ (λ is. record { cur = refl; since = refl; leaving = refl; pending = λ e. e }) (λ is. record { cur = refl; since = refl; leaving = refl; pending = λ e. e })
 
-  pub spared_leave : (p : ℕ) → IsSettled t (after_in g t pool (Leave p))
+  pub spared_leave : (p : ℕ) → IsSettled t (after_in g t pool (Leave (processor p)))
   spared_leave p =
       by_option (IsSettled t) (at_place pool.resources (p / g)) _ _ (λ is. before) (λ c is.
       by_option (λ (next : Pool). IsSettled t (change_core (p / g) pools.open_if_left next)) (pools.vcpu_for g pool c (p % g)) _ _
@@ -146,13 +147,13 @@ module _ (g t : ℕ) (pool : Pool) (before : IsSettled t pool) where
       ] stays
     where
       next : Pool
-      next = change_vcpu v pools.woken pool
+      next = change_vcpu v pools.woken_vcpu pool
 
       u : UnitId
       u = unit_of g v
 
       here : IsSettled t next
-      here = spared_vcpu t v pools.woken pool before
+      here = spared_vcpu t v pools.woken_vcpu pool before
 
       joined : IsSettled t (pools.joined_siblings g t v next)
       joined =
@@ -161,11 +162,11 @@ module _ (g t : ℕ) (pool : Pool) (before : IsSettled t pool) where
           by_cond (IsSettled t) (pools.is_idle q) _ _ (λ idles. spared_processor g t (r * g + v.n % g) (Guest v) _ (spared_vcpu t v _ next here)) (λ busy. here)))
 
   -- a core that puts away a unit that does not join the queue
-  pub spared_save : (r : ℕ) → is_runnable g pool (pools.saved_at pool r) ≡ false → IsSettled t (after_in g t pool (Save r))
+  pub spared_save : (r : ℕ) → is_runnable g pool (pools.saved_at pool r) ≡ false → IsSettled t (after_in g t pool (Save (core r)))
   spared_save r stays =
       by_option (IsSettled t) (at_place pool.resources r) _ _ (λ is. before) (λ c at.
       by_option (IsSettled t) c.saving _ _ (λ is. before) (λ u is.
       let saving : pools.saving_among pool.resources r ≡ Some u = ap (λ (o : Option Resource). elim o as (λ _. Option UnitId) [ None ↦ None | Some x ↦ x.saving ]) at ∙ is in
       let off : is_runnable g pool u ≡ false = ap (λ (o : Option UnitId). is_runnable g pool (unwrap_or o pools.no_unit)) (sym saving) ∙ stays in
       by_cond (IsSettled t) (is_runnable g pool u) _ _ (λ runs. absurd (let clash : true ≡ false = sym runs ∙ off in cc)) (λ idles.
-      spared_core t r pools.saved pool (λ x. record { cur = refl; since = refl; leaving = refl; pending = λ e. e }) before)))
+      spared_core t r pools.saved_core pool (λ x. record { cur = refl; since = refl; leaving = refl; pending = λ e. e }) before)))

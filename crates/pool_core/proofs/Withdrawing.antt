@@ -2,7 +2,7 @@
 use Rattle.std.proofs.Common.{◌≡◌, ◌<◌, ◌≤◌, ◌+◌, ℕ, Bool, true, false, List, [], ◌∷◌, refl, sym, ap, subst, ◌∙◌, cond, arith}
 use Rattle.std.specs.Prelude.{◌&&◌, ◌||◌, ◌==◌, not, nat_lt, filter, slice_set, Option, Some, None, option_map}
 use Rattle.std.specs.List.{AllByRecursion}
-use Rattle.std.proofs.lemmas.Bool.{ltb-true}
+use Rattle.std.proofs.lemmas.Bool.{ltb-true, true_from_ne_false}
 use Rattle.std.proofs.lemmas.List.{set-get_or}
 use Rattle.sched_base.specs.declared.UnitId.{UnitId}
 use Rattle.sched_model.specs.declared.state.Domain.{Domain}
@@ -52,14 +52,10 @@ waits_by g pool u one = by_both (is_runnable g pool u) (is_held_among pool.resou
         not_true (has_unit pool.scheduler.queue u) (and_left (not (has_unit pool.scheduler.queue u)) (not (is_held_among pool.resources u)) off)
     by_both false true is has = held_waits_not has
     by_both true true is has = held_waits_not has
-    by_both true false is has = by_queue (has_unit pool.scheduler.queue u) refl
-      where
-        by_queue : (b : Bool) → has_unit pool.scheduler.queue u ≡ b → b ≡ true
-        by_queue true e = refl
-        by_queue false e = absurd (
-            let on : is_off pool u ≡ false = off_by g pool u one ∙ ap (λ (b : Bool). not (b || is_held_among pool.resources u)) is in
-            let off : is_off pool u ≡ true = ap (λ (b : Bool). not b && not (is_held_among pool.resources u)) e ∙ ap (λ (b : Bool). not false && not b) has in
-            cc)
+    by_both true false is has = true_from_ne_false (has_unit pool.scheduler.queue u) (λ e.
+        let on : is_off pool u ≡ false = off_by g pool u one ∙ ap (λ (b : Bool). not (b || is_held_among pool.resources u)) is in
+        let off : is_off pool u ≡ true = ap (λ (b : Bool). not b && not (is_held_among pool.resources u)) e ∙ ap (λ (b : Bool). not false && not b) has in
+        cc)
 
 -- as often there, as much there
 as_often : (u : UnitId) (a b : List UnitId) → times u a ≡ times u b → has_unit a u ≡ has_unit b u

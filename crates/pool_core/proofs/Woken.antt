@@ -6,7 +6,7 @@ use Rattle.sched_base.specs.declared.VcpuId.{VcpuId}
 use Rattle.sched_model.specs.declared.state.Domain.{Domain}
 use Rattle.sched_model.specs.declared.state.Pool.{Pool}
 use Rattle.sched_model.specs.declared.state.Vcpu.{Vcpu}
-use Rattle.sched_model.specs.Pool.{after_wake, change_vcpu, is_off, joined_siblings, queue_unit, unit_of, woken}
+use Rattle.sched_model.specs.Pool.{after_wake, change_vcpu, is_off, joined_siblings, queue_unit, unit_of, woken_vcpu}
 use Rattle.sched_model.specs.State.{is_runnable}
 use Rattle.plain_pool.specs.Fits.{vcpu_among}
 use Rattle.unit_state.specs.Seen.{change_among, is_awake_among, is_due_among}
@@ -15,14 +15,14 @@ use Rattle.unit_state.proofs.PlaceLemmas.{vcpu_among-change_among}
 use Rattle.pool_core.specs.Waking.{done_started, joined_works, woken_works}
 
 -- a vCPU that woke is awake
-pub woken_awake : (t : ℕ) (v : VcpuId) (domains : List (Option Domain)) → is_due_among t domains v ≡ true → is_awake_among (change_among v woken domains) v ≡ true
+pub woken_awake : (t : ℕ) (v : VcpuId) (domains : List (Option Domain)) → is_due_among t domains v ≡ true → is_awake_among (change_among v woken_vcpu domains) v ≡ true
 woken_awake t v domains due =
     let there = come_among (λ (x : Vcpu). x.asleep_until) t (vcpu_among domains v) due in
-    ap (λ (o : Option Vcpu). elim o as (λ _. Bool) [ None ↦ false | Some x ↦ is_none x.asleep_until ]) (vcpu_among-change_among v woken domains ∙ ap (option_map woken) there.1)
+    ap (λ (o : Option Vcpu). elim o as (λ _. Bool) [ None ↦ false | Some x ↦ is_none x.asleep_until ]) (vcpu_among-change_among v woken_vcpu domains ∙ ap (option_map woken_vcpu) there.1)
 
-module _ (g t : ℕ) (v : VcpuId) (pool : Pool) (runs : is_runnable g (change_vcpu v woken pool) (unit_of g v) ≡ true) where
+module _ (g t : ℕ) (v : VcpuId) (pool : Pool) (runs : is_runnable g (change_vcpu v woken_vcpu pool) (unit_of g v) ≡ true) where
   abbrev pub next : Pool
-  next = change_vcpu v woken pool
+  next = change_vcpu v woken_vcpu pool
 
   -- its unit has a place
   pub woke_beside : is_off next (unit_of g v) ≡ false → joined_siblings g t v next ≡ after_wake g t v pool

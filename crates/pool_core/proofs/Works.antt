@@ -14,7 +14,7 @@ use Rattle.sched_model.specs.declared.state.Processor.{Processor}
 use Rattle.sched_model.specs.declared.state.Resource.{Resource}
 use Rattle.sched_model.specs.declared.state.Vcpu.{Vcpu}
 use Rattle.sched_model.specs.Places.{at_place, change_each}
-use Rattle.sched_model.specs.Pool.{change_core, change_processor, change_vcpu, does, done_at, guest_of, processor_of, started_on, woken}
+use Rattle.sched_model.specs.Pool.{change_core, change_processor, change_vcpu, with_doing, done_at, guest_of, processor_of, started_on, woken_vcpu}
 use Rattle.pool_laws.specs.Ready.{work_end}
 use Rattle.sched_laws.proofs.EachPlace.{at_place-clear_at, at_place-clear_at_other}
 use Rattle.plain_pool.specs.Fits.{vcpu_among}
@@ -65,23 +65,23 @@ done_elsewhere v f domains (Some w) apart = done_other v w f domains (λ e. apar
 
 module _ (g p : ℕ) (works : List (Option Moment)) (pool : Pool) (are : AreWorks g works pool) where
   -- a processor that runs nothing any more
-  pub works_freed : (doing : Doing) → ((o : Option Processor) → run_by (option_map (does doing) o) ≡ None) → AreWorks g (slice_set works p None) (change_processor g p (does doing) pool)
+  pub works_freed : (doing : Doing) → ((o : Option Processor) → run_by (option_map (with_doing doing) o) ≡ None) → AreWorks g (slice_set works p None) (change_processor g p (with_doing doing) pool)
   works_freed doing none q = elim (ℕ_discrete q p) [
-    | yes e ↦ subst (λ (k : ℕ). at_place (slice_set works p None) k ≡ work_end g (change_processor g p (does doing) pool) k) (sym e)
-        (at_place-clear_at p works ∙ sym (ap (λ o. done_by pool.domains (run_by o)) (processor_changed g p (does doing) pool.resources) ∙ ap (done_by pool.domains) (none (processor_among g pool.resources p))))
-    | no other ↦ at_place-clear_at_other p q works other ∙ are q ∙ ap (λ o. done_by pool.domains (run_by o)) (sym (processor_other g p q (does doing) pool.resources other))
+    | yes e ↦ subst (λ (k : ℕ). at_place (slice_set works p None) k ≡ work_end g (change_processor g p (with_doing doing) pool) k) (sym e)
+        (at_place-clear_at p works ∙ sym (ap (λ o. done_by pool.domains (run_by o)) (processor_changed g p (with_doing doing) pool.resources) ∙ ap (done_by pool.domains) (none (processor_among g pool.resources p))))
+    | no other ↦ at_place-clear_at_other p q works other ∙ are q ∙ ap (λ o. done_by pool.domains (run_by o)) (sym (processor_other g p q (with_doing doing) pool.resources other))
   ]
 
   -- the same, where the vCPU that it ran is changed
-  pub works_stopped : (doing : Doing) → ((o : Option Processor) → run_by (option_map (does doing) o) ≡ None) → (v : VcpuId) (f : Vcpu → Vcpu) → ((q : ℕ) → guest_of g pool q ≡ Some v → q ≡ p)
-      → AreWorks g (slice_set works p None) (change_processor g p (does doing) (change_vcpu v f pool))
+  pub works_stopped : (doing : Doing) → ((o : Option Processor) → run_by (option_map (with_doing doing) o) ≡ None) → (v : VcpuId) (f : Vcpu → Vcpu) → ((q : ℕ) → guest_of g pool q ≡ Some v → q ≡ p)
+      → AreWorks g (slice_set works p None) (change_processor g p (with_doing doing) (change_vcpu v f pool))
   works_stopped doing none v f only q = elim (ℕ_discrete q p) [
-    | yes e ↦ subst (λ (k : ℕ). at_place (slice_set works p None) k ≡ work_end g (change_processor g p (does doing) (change_vcpu v f pool)) k) (sym e)
-        (at_place-clear_at p works ∙ sym (ap (λ o. done_by (change_among v f pool.domains) (run_by o)) (processor_changed g p (does doing) pool.resources) ∙ ap (done_by (change_among v f pool.domains)) (none (processor_among g pool.resources p))))
+    | yes e ↦ subst (λ (k : ℕ). at_place (slice_set works p None) k ≡ work_end g (change_processor g p (with_doing doing) (change_vcpu v f pool)) k) (sym e)
+        (at_place-clear_at p works ∙ sym (ap (λ o. done_by (change_among v f pool.domains) (run_by o)) (processor_changed g p (with_doing doing) pool.resources) ∙ ap (done_by (change_among v f pool.domains)) (none (processor_among g pool.resources p))))
     | no other ↦
         at_place-clear_at_other p q works other ∙ are q
         ∙ sym (done_elsewhere v f pool.domains (guest_among g pool.resources q) (λ is. other (only q is)))
-        ∙ ap (λ o. done_by (change_among v f pool.domains) (run_by o)) (sym (processor_other g p q (does doing) pool.resources other))
+        ∙ ap (λ o. done_by (change_among v f pool.domains) (run_by o)) (sym (processor_other g p q (with_doing doing) pool.resources other))
   ]
 
   -- a processor that begins to run a vCPU, which no other runs
@@ -92,27 +92,27 @@ module _ (g p : ℕ) (works : List (Option Moment)) (pool : Pool) (are : AreWork
       elim (ℕ_discrete q p) [
         | yes e ↦ subst (λ (k : ℕ). at_place (slice_set works p (done_among (change_among v f pool.domains) v)) k ≡ work_end g (started_on g t p v pool) k) (sym e)
             (get_or-set_same works p (done_among (change_among v f pool.domains) v) None inside
-            ∙ sym (ap (λ o. done_by (change_among v f pool.domains) (run_by o)) (processor_changed g p (does (Guest v)) pool.resources ∙ ap (option_map (does (Guest v))) there)))
+            ∙ sym (ap (λ o. done_by (change_among v f pool.domains) (run_by o)) (processor_changed g p (with_doing (Guest v)) pool.resources ∙ ap (option_map (with_doing (Guest v))) there)))
         | no other ↦
             get_or-set_other works p q (done_among (change_among v f pool.domains) v) None other ∙ are q
             ∙ sym (done_elsewhere v f pool.domains (guest_among g pool.resources q) (λ is. other (only q is)))
-            ∙ ap (λ o. done_by (change_among v f pool.domains) (run_by o)) (sym (processor_other g p q (does (Guest v)) pool.resources other))
+            ∙ ap (λ o. done_by (change_among v f pool.domains) (run_by o)) (sym (processor_other g p q (with_doing (Guest v)) pool.resources other))
       ]
 
 -- a vCPU that is not started wakes
-pub works_woken : (g : ℕ) (v : VcpuId) (works : List (Option Moment)) (pool : Pool) → ((x : Vcpu) → vcpu_among pool.domains v ≡ Some x → x.started ≡ None) → AreWorks g works pool → AreWorks g works (change_vcpu v woken pool)
+pub works_woken : (g : ℕ) (v : VcpuId) (works : List (Option Moment)) (pool : Pool) → ((x : Vcpu) → vcpu_among pool.domains v ≡ Some x → x.started ≡ None) → AreWorks g works pool → AreWorks g works (change_vcpu v woken_vcpu pool)
 works_woken g v works pool still are q = are q ∙ by_guest (guest_among g pool.resources q)
   where
-    none_done : (o : Option Vcpu) → ((x : Vcpu) → o ≡ Some x → x.started ≡ None) → elim o as (λ _. Option Moment) [ None ↦ None | Some x ↦ done_at x ] ≡ elim (option_map woken o) as (λ _. Option Moment) [ None ↦ None | Some x ↦ done_at x ]
+    none_done : (o : Option Vcpu) → ((x : Vcpu) → o ≡ Some x → x.started ≡ None) → elim o as (λ _. Option Moment) [ None ↦ None | Some x ↦ done_at x ] ≡ elim (option_map woken_vcpu o) as (λ _. Option Moment) [ None ↦ None | Some x ↦ done_at x ]
     none_done None none = refl
     none_done (Some x) none = let e = none x refl in rw (done_at, e) refl
 
-    by_guest : (o : Option VcpuId) → done_by pool.domains o ≡ done_by (change_among v woken pool.domains) o
+    by_guest : (o : Option VcpuId) → done_by pool.domains o ≡ done_by (change_among v woken_vcpu pool.domains) o
     by_guest None = refl
     by_guest (Some w) = elim (same_or_other w) [
-      | inl e ↦ subst (λ (k : VcpuId). done_among pool.domains k ≡ done_among (change_among v woken pool.domains) k) e
-          (none_done (vcpu_among pool.domains v) still ∙ ap (λ (o : Option Vcpu). elim o as (λ _. Option Moment) [ None ↦ None | Some x ↦ done_at x ]) (sym (vcpu_among-change_among v woken pool.domains)))
-      | inr ne ↦ sym (done_other v w woken pool.domains ne)
+      | inl e ↦ subst (λ (k : VcpuId). done_among pool.domains k ≡ done_among (change_among v woken_vcpu pool.domains) k) e
+          (none_done (vcpu_among pool.domains v) still ∙ ap (λ (o : Option Vcpu). elim o as (λ _. Option Moment) [ None ↦ None | Some x ↦ done_at x ]) (sym (vcpu_among-change_among v woken_vcpu pool.domains)))
+      | inr ne ↦ sym (done_other v w woken_vcpu pool.domains ne)
     ]
       where
         same_or_other : (w : VcpuId) → (v ≡ w) ⊎ (v ≢ w)

@@ -8,7 +8,7 @@ use Rattle.sched_model.specs.declared.state.Pool.{Pool}
 use Rattle.sched_model.specs.Places.{first_place}
 use Rattle.sched_model.specs.Pool.{enabled_in}
 use Rattle.plain_pool.specs.Own.{IsOfPool}
-use Rattle.pool_core.specs.Order.{IsNotAfter, kind_place}
+use Rattle.pool_core.specs.Order.{IsFirstWhere, IsNotAfter}
 
 -- whether the processor is the first of the core
 abbrev pub leads : ℕ → ℕ → ℕ → Bool
@@ -20,14 +20,14 @@ is_lowest g pool p = elim (first_place 0 (λ c. true) pool.resources) [ None ↦
 
 -- whether the processor does the action: its own, those of the core whose first it is, and the timers where it is the pool's lowest
 abbrev pub is_by_processor : ℕ → Pool → ℕ → Action → Bool
-is_by_processor g pool p (Block q) = p == q
-is_by_processor g pool p (Slice r) = leads g r p
+is_by_processor g pool p (Block q) = p == q.0
+is_by_processor g pool p (Slice r) = leads g r.0 p
 is_by_processor g pool p (Repl u) = is_lowest g pool p
 is_by_processor g pool p (Refill d) = is_lowest g pool p
-is_by_processor g pool p (Arrive q) = p == q
-is_by_processor g pool p (Decide r) = leads g r p
-is_by_processor g pool p (Leave q) = p == q
-is_by_processor g pool p (Save r) = leads g r p
+is_by_processor g pool p (Arrive q) = p == q.0
+is_by_processor g pool p (Decide r) = leads g r.0 p
+is_by_processor g pool p (Leave q) = p == q.0
+is_by_processor g pool p (Save r) = leads g r.0 p
 is_by_processor g pool p _ = false
 
 -- whether the domain does the action: it wakes its vCPUs
@@ -53,16 +53,6 @@ abbrev pub IsFirstBy : ℕ → ℕ → Pool → Actor → Option Action → Type
 IsFirstBy g t pool actor None = (action : Action) → IsOfPool action → is_by g pool actor action ≡ true → enabled_in g t pool action ≡ false
 IsFirstBy g t pool actor (Some event) = ComesFirstBy g t pool actor event
 
--- an event by the actor that may come at t, whose kind has a place from one number on and below another, and no event by the actor from the
--- first number on that may come at t comes before it
-pub record ComesFirstIn (from below g t : ℕ) (pool : Pool) (actor : Actor) (event : Action) : Type 0 where
-  pub kind : from ≤ kind_place event
-  pub kind_below : kind_place event < below
-  pub own : is_by g pool actor event ≡ true
-  pub enabled : enabled_in g t pool event ≡ true
-  pub first : (action : Action) → from ≤ kind_place action → is_by g pool actor action ≡ true → enabled_in g t pool action ≡ true → IsNotAfter event action
-
 -- the first event by the actor that may come at t, of those whose kinds have places from one number on and below another
 abbrev pub IsFirstByIn : ℕ → ℕ → ℕ → ℕ → Pool → Actor → Option Action → Type 0
-IsFirstByIn from below g t pool actor None = (action : Action) → from ≤ kind_place action → kind_place action < below → is_by g pool actor action ≡ true → enabled_in g t pool action ≡ false
-IsFirstByIn from below g t pool actor (Some event) = ComesFirstIn from below g t pool actor event
+IsFirstByIn from below g t pool actor first = IsFirstWhere (is_by g pool actor) from below g t pool first

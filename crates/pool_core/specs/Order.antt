@@ -1,5 +1,5 @@
 -- Which event of a pool comes first, and the moments of its events.
-use Rattle.std.specs.Prelude.{ℕ, ◌≡◌, ◌≤◌, ◌<◌, true, false, Option, Some, None}
+use Rattle.std.specs.Prelude.{ℕ, ◌≡◌, ◌≤◌, ◌<◌, true, false, Option, Some, None, Bool}
 use Rattle.sched_base.specs.declared.Moment.{Moment}
 use Rattle.sched_model.specs.declared.action.Action.{Action}
 use Rattle.sched_model.specs.declared.state.Pool.{Pool}
@@ -7,18 +7,27 @@ use Rattle.sched_model.specs.Pool.{enabled_in}
 use Rattle.plain_pool.specs.Own.{IsOfPool}
 pub use Rattle.pool_laws.specs.Order.{kind_place, subject_place, index_place, IsNotAfter}
 
--- the event may come at t, its kind has a place from one number on and below another, and no event from the first number on that may
--- come at t comes before it
-pub record IsFirstOf (from below g t : ℕ) (pool : Pool) (event : Action) : Type 0 where
+-- the event passes the test and may come at t, its kind has a place from one number on and below another, and no event from the first
+-- number on that passes and may come at t comes before it
+pub record IsFirstOf (test : Action → Bool) (from below g t : ℕ) (pool : Pool) (event : Action) : Type 0 where
   pub kind : from ≤ kind_place event
   pub kind_below : kind_place event < below
+  pub passes : test event ≡ true
   pub enabled : enabled_in g t pool event ≡ true
-  pub first : (action : Action) → from ≤ kind_place action → enabled_in g t pool action ≡ true → IsNotAfter event action
+  pub first : (action : Action) → from ≤ kind_place action → test action ≡ true → enabled_in g t pool action ≡ true → IsNotAfter event action
 
--- the first event that may come at t, of those whose kinds have places from one number on and below another; none where none may
+-- the first event that passes the test and may come at t, of those whose kinds have places from one number on and below another; none
+-- where none may
+abbrev pub IsFirstWhere : (Action → Bool) → ℕ → ℕ → ℕ → ℕ → Pool → Option Action → Type 0
+IsFirstWhere test from below g t pool None = (action : Action) → from ≤ kind_place action → kind_place action < below → test action ≡ true → enabled_in g t pool action ≡ false
+IsFirstWhere test from below g t pool (Some event) = IsFirstOf test from below g t pool event
+
+-- the same of all events
+abbrev pub is_any : Action → Bool
+is_any action = true
+
 abbrev pub IsFirstIn : ℕ → ℕ → ℕ → ℕ → Pool → Option Action → Type 0
-IsFirstIn from below g t pool None = (action : Action) → from ≤ kind_place action → kind_place action < below → enabled_in g t pool action ≡ false
-IsFirstIn from below g t pool (Some event) = IsFirstOf from below g t pool event
+IsFirstIn from below g t pool first = IsFirstWhere is_any from below g t pool first
 
 -- an event of the pool that may come at t, and that comes after none which may
 pub record IsFirst (g t : ℕ) (pool : Pool) (event : Action) : Type 0 where

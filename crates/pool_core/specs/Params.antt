@@ -14,7 +14,7 @@ use Rattle.sched_model.specs.Checked.{IsWithin}
 use Rattle.sched_model.specs.Places.{at_place, numbers_from}
 use Rattle.sched_model.specs.Policy.{rtds_record, set_params}
 use Rattle.sched_ops.specs.Seen.{units_of}
-use Rattle.sched_ops.specs.Told.{stored_of}
+use Rattle.sched_model.specs.Policy.{stored_of}
 use Rattle.unit_state.specs.Seen.{units_at}
 use Rattle.pool_core.specs.Domains.{unit_id}
 

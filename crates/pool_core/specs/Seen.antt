@@ -9,13 +9,13 @@ use Rattle.sched_model.specs.declared.state.Pool.{Pool}
 use Rattle.sched_model.specs.declared.state.Resource.{Resource}
 use Rattle.sched_model.specs.Opening.{fresh_core}
 use Rattle.sched_model.specs.Places.{at_place, clear_at, put_at}
-use Rattle.sched_model.specs.Pool.{after_in, change_processor, settled}
+use Rattle.sched_model.specs.Pool.{after_in, change_processor, settled_pool}
 use Rattle.sched_model.specs.Checked.{most_span}
 use Rattle.unit_state.specs.Seen as guests
 use Rattle.core_state.specs.Seen as cores
 use Rattle.core_state.specs.Seen.{processor_among, stalled_to}
 use Rattle.sched_ops.specs.Seen as schedulers
-use Rattle.sched_ops.specs.Seen.{vacant as vacant_scheduler}
+use Rattle.sched_ops.specs.Seen.{vacant_scheduler as vacant_scheduler}
 
 -- the pool, how many processors a core has, how many units may still join, the greatest moment that was given, and whether the pool is in use
 pub record Seen : Type 0 where
@@ -34,7 +34,7 @@ pub record IsNow (seen : Seen) (t : ℕ) : Type 0 where
   pub after : seen.latest ≤ t
   pub early : t ≤ most_span
 
--- the same with another pool; the same at t
+-- the same at t with another pool
 abbrev pub seen_at : ℕ → Pool → Seen → Seen
 seen_at t pool seen = record seen { pool = pool; latest = t }
 
@@ -43,16 +43,16 @@ abbrev pub with_spare : ℕ → Seen → Seen
 with_spare spare seen = record seen { spare = spare }
 
 -- after an event at t, and after the cores were looked at
-abbrev pub happened : ℕ → Action → Seen → Seen
-happened t action seen = seen_at t (settled t (after_in seen.granularity t seen.pool action)) seen
+abbrev pub seen_after : ℕ → Action → Seen → Seen
+seen_after t action seen = seen_at t (settled_pool t (after_in seen.granularity t seen.pool action)) seen
 
 -- the vCPU that the processor runs, where these are the cores and each has g processors
 abbrev pub guest_among : ℕ → List (Option Resource) → ℕ → Option VcpuId
 guest_among g cores p = elim (processor_among g cores p) [ None ↦ None | Some q ↦ elim q.doing [ Guest v ↦ Some v | Idle ↦ None | Held ↦ None ] ]
 
 -- a pool of the scheduler's own parameters that is not in use, with so many places for domains and for cores of g processors each, and room for so many units
-abbrev pub vacant : PoolParams → ℕ → ℕ → ℕ → ℕ → Seen
-vacant params g domains cores units =
+abbrev pub vacant_pool : PoolParams → ℕ → ℕ → ℕ → ℕ → Seen
+vacant_pool params g domains cores units =
     record {
       pool = record { scheduler = vacant_scheduler params domains cores; domains = replicate domains None; resources = replicate cores None };
       granularity = g;

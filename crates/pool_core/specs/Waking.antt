@@ -11,8 +11,8 @@ use Rattle.sched_model.specs.declared.state.Domain.{Domain}
 use Rattle.sched_model.specs.declared.state.Pool.{Pool}
 use Rattle.sched_model.specs.declared.state.Resource.{Resource}
 use Rattle.sched_model.specs.declared.state.Vcpu.{Vcpu}
-use Rattle.sched_model.specs.Places.{first_place, is_unit, numbered}
-use Rattle.sched_model.specs.Pool.{is_idle, is_off, unit_of, change_vcpu, woken}
+use Rattle.sched_model.specs.Places.{first_place, is_unit, numbered_items}
+use Rattle.sched_model.specs.Pool.{is_idle, is_off, unit_of, change_vcpu, woken_vcpu}
 use Rattle.sched_model.specs.State.{is_runnable}
 use Rattle.unit_state.specs.Seen.{change_among, done_among}
 use Rattle.core_state.specs.Seen.{processor_among}
@@ -24,7 +24,7 @@ idles_among g cores p = elim (processor_among g cores p) [ None ↦ false | Some
 
 -- whether one of these cores has the unit as its own or saves it
 abbrev pub is_held_among : List (Option Resource) → UnitId → Bool
-is_held_among cores u = list_any (λ (e : ℕ × Resource). is_unit e.1.cur u || is_unit e.1.saving u) (numbered 0 cores)
+is_held_among cores u = list_any (λ (e : ℕ × Resource). is_unit e.1.cur u || is_unit e.1.saving u) (numbered_items 0 cores)
 
 -- the works after the vCPU, whose work is done then, joined its siblings on these cores
 abbrev pub joined_works : ℕ → VcpuId → Option Moment → List (Option Resource) → List (Option Moment) → List (Option Moment)
@@ -41,7 +41,7 @@ done_started t v domains = done_among (change_among v (λ (x : Vcpu). record x {
 -- the works after the vCPU woke at t
 abbrev pub woken_works : ℕ → ℕ → VcpuId → Pool → List (Option Moment) → List (Option Moment)
 woken_works g t v pool works =
-    let next : Pool = change_vcpu v woken pool in
+    let next : Pool = change_vcpu v woken_vcpu pool in
     elim (is_runnable g next (unit_of g v)) [
       | false ↦ works
       | true ↦ (if is_off next (unit_of g v) then works else joined_works g v (done_started t v next.domains) pool.resources works)
@@ -49,7 +49,7 @@ woken_works g t v pool works =
 
 -- whether the unit of the vCPU joins the queue when that wakes: it is runnable then, and was nowhere
 abbrev pub is_queued_by : ℕ → VcpuId → Pool → Bool
-is_queued_by g v pool = let next : Pool = change_vcpu v woken pool in is_runnable g next (unit_of g v) && is_off next (unit_of g v)
+is_queued_by g v pool = let next : Pool = change_vcpu v woken_vcpu pool in is_runnable g next (unit_of g v) && is_off next (unit_of g v)
 
 -- whether it is the event of a core whose saved unit joins the queue
 abbrev pub is_queued : Event → Bool

@@ -19,45 +19,48 @@ use crate::doing::guest_of;
 use crate::due::first_timer;
 use core_state::CoreState;
 use plain_pool::cores::{all_held, any_held, first_up, has_come, is_held, is_open, is_up};
-use sched_base::{DomId, Moment, ProcId, VcpuId};
+use sched_base::{DomId, Moment, ProcId, ResId, VcpuId};
 use sched_model::action::{Action, Actor};
 use sched_ops::Policy;
 use unit_state::Guests;
 
 /// Whether the processor is there and not stalled.
-fn is_up_at(cores: &CoreState, p: u8, t: Moment) -> bool
-    ensures { result ≡ elim (processor_among cores.now.granularity cores.now.resources p) [ None ↦ false | Some q ↦ is_up_spec t.0 q ] }
+fn is_up_at(cores: &CoreState, p: ProcId, t: Moment) -> bool
+    ensures { result ≡ elim (processor_among cores.now.granularity cores.now.resources p.0)
+        [ None ↦ false | Some q ↦ is_up_spec t.0 q ] }
 {
     match cores.processor(p) {
         None => false,
-        Some(q) => is_up(t.0, q),
+        Some(q) => is_up(t, q),
     }
 }
 
 /// Whether the vCPU that the processor runs may block.
-fn may_block(guests: &Guests, cores: &CoreState, p: u8, t: Moment) -> bool
+fn may_block(guests: &Guests, cores: &CoreState, p: ProcId, t: Moment) -> bool
     requires same { cores.now.granularity ≡ guests.now.granularity }
-    ensures { (s : SchedulerSeen) → result ≡ enabled_in guests.now.granularity t.0 (pool_of guests.now cores.now s) (Block p) }
+    ensures { (s : SchedulerSeen) → result
+        ≡ enabled_in guests.now.granularity t.0 (pool_of guests.now cores.now s) (Block p) }
 {
     match guest_of(cores, p) {
         None => false,
-        Some(v) => has_come(t.0, guests.done_at(v)) && is_up_at(cores, p, t),
+        Some(v) => has_come(t, guests.done_at(v)) && is_up_at(cores, p, t),
     }
 }
 
 /// Whether the core's due may come.
-fn may_slice(cores: &CoreState, r: u8, t: Moment) -> bool
-    ensures { (g : ℕ) (guests : GuestsSeen) (s : SchedulerSeen) → result ≡ enabled_in g t.0 (pool_of guests cores.now s) (Slice r) }
+fn may_slice(cores: &CoreState, r: ResId, t: Moment) -> bool
+    ensures { (g : ℕ) (guests : GuestsSeen) (s : SchedulerSeen) → result
+        ≡ enabled_in g t.0 (pool_of guests cores.now s) (Slice r) }
 {
     match cores.core(r) {
         None => false,
-        Some(c) => has_come(t.0, c.due) && !c.pending && first_up(t.0, c),
+        Some(c) => has_come(t, c.due) && !c.pending && first_up(t, c),
     }
 }
 
 /// Whether the core's processors may arrive.
-fn gathers(cores: &CoreState, r: u8) -> bool
-    ensures { result ≡ test_at cores.now.resources r gathers_spec }
+fn gathers(cores: &CoreState, r: ResId) -> bool
+    ensures { result ≡ test_at cores.now.resources r.0 gathers_spec }
 {
     match cores.core(r) {
         None => false,
@@ -66,36 +69,39 @@ fn gathers(cores: &CoreState, r: u8) -> bool
 }
 
 /// Whether the processor is there, does not wait for its siblings, and is not stalled.
-fn is_free_at(cores: &CoreState, p: u8, t: Moment) -> bool
-    ensures { result ≡ elim (processor_among cores.now.granularity cores.now.resources p) [ None ↦ false | Some q ↦ not (is_held_spec q) && is_up_spec t.0 q ] }
+fn is_free_at(cores: &CoreState, p: ProcId, t: Moment) -> bool
+    ensures { result ≡ elim (processor_among cores.now.granularity cores.now.resources p.0)
+        [ None ↦ false | Some q ↦ not (is_held_spec q) && is_up_spec t.0 q ] }
 {
     match cores.processor(p) {
         None => false,
-        Some(q) => !is_held(q) && is_up(t.0, q),
+        Some(q) => !is_held(q) && is_up(t, q),
     }
 }
 
 /// Whether the processor may arrive.
-fn may_arrive(cores: &CoreState, p: u8, t: Moment) -> bool
-    ensures { (guests : GuestsSeen) (s : SchedulerSeen) → result ≡ enabled_in cores.now.granularity t.0 (pool_of guests cores.now s) (Arrive p) }
+fn may_arrive(cores: &CoreState, p: ProcId, t: Moment) -> bool
+    ensures { (guests : GuestsSeen) (s : SchedulerSeen) → result
+        ≡ enabled_in cores.now.granularity t.0 (pool_of guests cores.now s) (Arrive p) }
 {
     cores.keeps();
-    gathers(cores, p / cores.granularity()) && is_free_at(cores, p, t)
+    gathers(cores, ResId(p.0 / cores.granularity())) && is_free_at(cores, p, t)
 }
 
 /// Whether the core may decide.
-fn may_decide(cores: &CoreState, r: u8, t: Moment) -> bool
-    ensures { (g : ℕ) (guests : GuestsSeen) (s : SchedulerSeen) → result ≡ enabled_in g t.0 (pool_of guests cores.now s) (Decide r) }
+fn may_decide(cores: &CoreState, r: ResId, t: Moment) -> bool
+    ensures { (g : ℕ) (guests : GuestsSeen) (s : SchedulerSeen) → result
+        ≡ enabled_in g t.0 (pool_of guests cores.now s) (Decide r) }
 {
     match cores.core(r) {
         None => false,
-        Some(c) => all_held(c.processors.as_slice()) && is_open(c) && first_up(t.0, c),
+        Some(c) => all_held(c.processors.as_slice()) && is_open(c) && first_up(t, c),
     }
 }
 
 /// Whether the core's processors may leave.
-fn parts(cores: &CoreState, r: u8) -> bool
-    ensures { result ≡ test_at cores.now.resources r parts_spec }
+fn parts(cores: &CoreState, r: ResId) -> bool
+    ensures { result ≡ test_at cores.now.resources r.0 parts_spec }
 {
     match cores.core(r) {
         None => false,
@@ -104,42 +110,53 @@ fn parts(cores: &CoreState, r: u8) -> bool
 }
 
 /// Whether the processor is there, waits for its siblings, and is not stalled.
-fn is_held_at(cores: &CoreState, p: u8, t: Moment) -> bool
-    ensures { result ≡ elim (processor_among cores.now.granularity cores.now.resources p) [ None ↦ false | Some q ↦ is_held_spec q && is_up_spec t.0 q ] }
+fn is_held_at(cores: &CoreState, p: ProcId, t: Moment) -> bool
+    ensures { result ≡ elim (processor_among cores.now.granularity cores.now.resources p.0)
+        [ None ↦ false | Some q ↦ is_held_spec q && is_up_spec t.0 q ] }
 {
     match cores.processor(p) {
         None => false,
-        Some(q) => is_held(q) && is_up(t.0, q),
+        Some(q) => is_held(q) && is_up(t, q),
     }
 }
 
 /// Whether the processor may leave.
-fn may_leave(cores: &CoreState, p: u8, t: Moment) -> bool
-    ensures { (guests : GuestsSeen) (s : SchedulerSeen) → result ≡ enabled_in cores.now.granularity t.0 (pool_of guests cores.now s) (Leave p) }
+fn may_leave(cores: &CoreState, p: ProcId, t: Moment) -> bool
+    ensures { (guests : GuestsSeen) (s : SchedulerSeen) → result
+        ≡ enabled_in cores.now.granularity t.0 (pool_of guests cores.now s) (Leave p) }
 {
     cores.keeps();
-    parts(cores, p / cores.granularity()) && is_held_at(cores, p, t)
+    parts(cores, ResId(p.0 / cores.granularity())) && is_held_at(cores, p, t)
 }
 
 /// Whether the core may put away the unit that it saves.
-fn may_save(cores: &CoreState, r: u8, t: Moment) -> bool
-    ensures { (g : ℕ) (guests : GuestsSeen) (s : SchedulerSeen) → result ≡ enabled_in g t.0 (pool_of guests cores.now s) (Save r) }
+fn may_save(cores: &CoreState, r: ResId, t: Moment) -> bool
+    ensures { (g : ℕ) (guests : GuestsSeen) (s : SchedulerSeen) → result
+        ≡ enabled_in g t.0 (pool_of guests cores.now s) (Save r) }
 {
     match cores.core(r) {
         None => false,
-        Some(c) => c.saving.is_some() && !any_held(c.processors.as_slice()) && first_up(t.0, c),
+        Some(c) => c.saving.is_some() && !any_held(c.processors.as_slice()) && first_up(t, c),
     }
 }
 
 /// The first replenishment or refill that may come, by the first processor p of the core r: the pool's lowest processor does these.
-fn timer_by<P: Policy>(cores: &CoreState, policy: &P, r: u8, p: ProcId, t: Moment) -> Option<Action>
-    requires number { p.0 ≡ r * cores.now.granularity }
-    ensures { (guests : GuestsSeen) → AreOn (pool_of guests cores.now (P.seen policy.now)) → IsFirstByIn 7 9 cores.now.granularity t.0 (pool_of guests cores.now (P.seen policy.now)) (Proc p) result }
+fn timer_by<P: Policy>(
+    cores: &CoreState,
+    policy: &P,
+    r: ResId,
+    p: ProcId,
+    t: Moment,
+) -> Option<Action>
+    requires number { p.0 ≡ r.0 * cores.now.granularity }
+    ensures { (guests : GuestsSeen) → AreOn (pool_of guests cores.now (P.seen policy.now)) →
+        IsFirstByIn 7 9 cores.now.granularity t.0 (pool_of guests cores.now (P.seen policy.now))
+        (Proc p) result }
 {
     cores.keeps();
     match cores.first() {
         None => None,
-        Some(first) => if first == r {
+        Some(first) => if first == r.0 {
             first_timer(cores, policy, t)
         } else {
             None
@@ -152,18 +169,19 @@ fn leader_due<P: Policy>(
     guests: &Guests,
     cores: &CoreState,
     policy: &P,
-    r: u8,
+    r: ResId,
     p: ProcId,
     t: Moment,
 ) -> Option<Action>
     requires same { cores.now.granularity ≡ guests.now.granularity }
     requires on { AreOn (pool_of guests.now cores.now (P.seen policy.now)) }
-    requires number { p.0 ≡ r * cores.now.granularity }
-    ensures { IsFirstByIn 4 9 guests.now.granularity t.0 (pool_of guests.now cores.now (P.seen policy.now)) (Proc p) result }
+    requires number { p.0 ≡ r.0 * cores.now.granularity }
+    ensures { IsFirstByIn 4 9 guests.now.granularity t.0
+        (pool_of guests.now cores.now (P.seen policy.now)) (Proc p) result }
 {
     cores.keeps();
-    if may_block(guests, cores, p.0, t) {
-        return Some(Action::Block(p.0));
+    if may_block(guests, cores, p, t) {
+        return Some(Action::Block(p));
     }
     if may_slice(cores, r, t) {
         return Some(Action::Slice(r));
@@ -172,19 +190,20 @@ fn leader_due<P: Policy>(
 }
 
 /// The first event by the first processor p of the core r that may come, of those by which a core decides anew.
-fn leader_step(cores: &CoreState, r: u8, p: ProcId, t: Moment) -> Option<Action>
-    requires number { p.0 ≡ r * cores.now.granularity }
-    ensures { (guests : GuestsSeen) (s : SchedulerSeen) → IsFirstByIn 9 13 cores.now.granularity t.0 (pool_of guests cores.now s) (Proc p) result }
+fn leader_step(cores: &CoreState, r: ResId, p: ProcId, t: Moment) -> Option<Action>
+    requires number { p.0 ≡ r.0 * cores.now.granularity }
+    ensures { (guests : GuestsSeen) (s : SchedulerSeen) →
+        IsFirstByIn 9 13 cores.now.granularity t.0 (pool_of guests cores.now s) (Proc p) result }
 {
     cores.keeps();
-    if may_arrive(cores, p.0, t) {
-        return Some(Action::Arrive(p.0));
+    if may_arrive(cores, p, t) {
+        return Some(Action::Arrive(p));
     }
     if may_decide(cores, r, t) {
         return Some(Action::Decide(r));
     }
-    if may_leave(cores, p.0, t) {
-        return Some(Action::Leave(p.0));
+    if may_leave(cores, p, t) {
+        return Some(Action::Leave(p));
     }
     if may_save(cores, r, t) {
         return Some(Action::Save(r));
@@ -197,14 +216,15 @@ fn first_of_leader<P: Policy>(
     guests: &Guests,
     cores: &CoreState,
     policy: &P,
-    r: u8,
+    r: ResId,
     p: ProcId,
     t: Moment,
 ) -> Option<Action>
     requires same { cores.now.granularity ≡ guests.now.granularity }
     requires on { AreOn (pool_of guests.now cores.now (P.seen policy.now)) }
-    requires number { p.0 ≡ r * cores.now.granularity }
-    ensures { IsFirstBy guests.now.granularity t.0 (pool_of guests.now cores.now (P.seen policy.now)) (Proc p) result }
+    requires number { p.0 ≡ r.0 * cores.now.granularity }
+    ensures { IsFirstBy guests.now.granularity t.0
+        (pool_of guests.now cores.now (P.seen policy.now)) (Proc p) result }
 {
     match leader_due(guests, cores, policy, r, p, t) {
         Some(action) => Some(action),
@@ -216,16 +236,17 @@ fn first_of_leader<P: Policy>(
 fn first_of_sibling(guests: &Guests, cores: &CoreState, p: ProcId, t: Moment) -> Option<Action>
     requires same { cores.now.granularity ≡ guests.now.granularity }
     requires number { p.0 % cores.now.granularity ≢ 0 }
-    ensures { (s : SchedulerSeen) → IsFirstBy guests.now.granularity t.0 (pool_of guests.now cores.now s) (Proc p) result }
+    ensures { (s : SchedulerSeen) → IsFirstBy guests.now.granularity t.0
+        (pool_of guests.now cores.now s) (Proc p) result }
 {
-    if may_block(guests, cores, p.0, t) {
-        return Some(Action::Block(p.0));
+    if may_block(guests, cores, p, t) {
+        return Some(Action::Block(p));
     }
-    if may_arrive(cores, p.0, t) {
-        return Some(Action::Arrive(p.0));
+    if may_arrive(cores, p, t) {
+        return Some(Action::Arrive(p));
     }
-    if may_leave(cores, p.0, t) {
-        return Some(Action::Leave(p.0));
+    if may_leave(cores, p, t) {
+        return Some(Action::Leave(p));
     }
     None
 }
@@ -240,12 +261,13 @@ fn first_of_processor<P: Policy>(
 ) -> Option<Action>
     requires same { cores.now.granularity ≡ guests.now.granularity }
     requires on { AreOn (pool_of guests.now cores.now (P.seen policy.now)) }
-    ensures { IsFirstBy guests.now.granularity t.0 (pool_of guests.now cores.now (P.seen policy.now)) (Proc p) result }
+    ensures { IsFirstBy guests.now.granularity t.0
+        (pool_of guests.now cores.now (P.seen policy.now)) (Proc p) result }
 {
     cores.keeps();
     let g = cores.granularity();
     if p.0 % g == 0 {
-        first_of_leader(guests, cores, policy, p.0 / g, p, t)
+        first_of_leader(guests, cores, policy, ResId(p.0 / g), p, t)
     } else {
         first_of_sibling(guests, cores, p, t)
     }
@@ -253,12 +275,13 @@ fn first_of_processor<P: Policy>(
 
 /// The wake of the domain's first vCPU that may wake.
 fn first_of_domain(guests: &Guests, d: DomId, t: Moment) -> Option<Action>
-    ensures { (cores : CoresSeen) (s : SchedulerSeen) → IsFirstBy guests.now.granularity t.0 (pool_of guests.now cores s) (Dom d) result }
+    ensures { (cores : CoresSeen) (s : SchedulerSeen) →
+        IsFirstBy guests.now.granularity t.0 (pool_of guests.now cores s) (Dom d) result }
 {
     guests.keeps();
     for n in 0..32u8 {
         let v = VcpuId { dom: d, n };
-        if has_come(t.0, guests.wakes_at(v)) {
+        if has_come(t, guests.wakes_at(v)) {
             return Some(Action::Wake(v));
         }
     }
@@ -275,7 +298,8 @@ pub fn enabled_for<P: Policy>(
 ) -> Option<Action>
     requires same { cores.now.granularity ≡ guests.now.granularity }
     requires on { AreOn (pool_of guests.now cores.now (P.seen policy.now)) }
-    ensures { IsFirstBy guests.now.granularity t.0 (pool_of guests.now cores.now (P.seen policy.now)) actor result }
+    ensures { IsFirstBy guests.now.granularity t.0
+        (pool_of guests.now cores.now (P.seen policy.now)) actor result }
 {
     match actor {
         Actor::Proc(p) => first_of_processor(guests, cores, policy, p, t),

@@ -1,26 +1,42 @@
 //! What a core asks its scheduler, and the timers of a scheduler. g is the number of a core's processors.
 
 ghost use Rattle.std.specs.Prelude.{◌≡◌, true, false, None, Some};
-ghost use Rattle.sched_base.specs.Numbers.{span};
+ghost use Rattle.sched_base.specs.Numbers.{core_set, span};
 ghost use Rattle.sched_model.specs.declared.action.Action.TheVariants.{Decide, Repl};
 ghost use Rattle.sched_model.specs.State.{runnable_among};
-ghost use Rattle.sched_model.specs.Pool.{after_in, enabled_in, event_in, lateness};
+ghost use Rattle.sched_model.specs.Pool.{after_in, cores_from, enabled_in, event_in, lateness};
 ghost use Rattle.sched_ops.specs.Conditions.{IsNow};
 ghost use Rattle.pool_kept.specs.Holds.{Holds};
 ghost use Rattle.pool_core.specs.Seen.{pool_of};
 ghost use Rattle.sched_ops.specs.Seen.{Seen as SchedulerSeen};
 
 use core_state::CoreState;
-use sched_base::{Moment, ResId, Span, UnitId};
+use sched_base::{Cores, Moment, ResId, Span, UnitId};
 use sched_model::ask::Ask;
 use sched_model::event::Event;
 use sched_model::state::Resource;
 use sched_ops::{Policy, Timer};
 use unit_state::Guests;
 
+/// The set of the pool's cores.
+fn home_of(cores: &CoreState) -> Cores
+    ensures { result ≡ core_set (cores_from 0 cores.now.resources) }
+{
+    Cores(cores.home())
+}
+
 /// What the core asks its scheduler at t, where these are the pool's cores.
-fn ask_of(guests: &Guests, home: u64, t: Moment, r: u8, c: &Resource) -> Ask
-    ensures { result ≡ record { cur = c.now.cur; runnable = elim c.now.cur [ None ↦ false | Some u ↦ runnable_among guests.now.granularity guests.now.domains u ]; since = c.now.since.0; leaving = c.now.leaving; at = t.0; core = r; home = home } }
+fn ask_of(guests: &Guests, home: Cores, t: Moment, r: ResId, c: &Resource) -> Ask
+    ensures { result ≡ record {
+      cur = c.now.cur;
+      runnable = elim c.now.cur
+          [ None ↦ false | Some u ↦ runnable_among guests.now.granularity guests.now.domains u ];
+      since = c.now.since;
+      leaving = c.now.leaving;
+      at = t;
+      core = r;
+      home = home;
+    } }
 {
     let runnable = match c.cur {
         None => false,
@@ -29,9 +45,9 @@ fn ask_of(guests: &Guests, home: u64, t: Moment, r: u8, c: &Resource) -> Ask
     Ask {
         cur: c.cur,
         runnable,
-        since: c.since.0,
+        since: c.since,
         leaving: c.leaving,
-        at: t.0,
+        at: t,
         core: r,
         home,
     }
@@ -52,15 +68,20 @@ pub fn decide<P: Policy>(
     guests: &Guests,
     cores: &mut CoreState,
     policy: &mut P,
-    r: u8,
+    r: ResId,
     t: Moment,
 ) -> Event
     requires now { IsNow (P.seen policy.old) t.0 }
     requires same { cores.old.granularity ≡ guests.now.granularity }
-    requires enabled { enabled_in guests.now.granularity t.0 (pool_of guests.now cores.old (P.seen policy.old)) (Decide r) ≡ true }
-    requires holds { Holds guests.now.granularity t.0 (pool_of guests.now cores.old (P.seen policy.old)) }
-    ensures event { result ≡ event_in guests.now.granularity t.0 (pool_of guests.now cores.old (P.seen policy.old)) (Decide r) }
-    ensures pool { pool_of guests.now cores.new (P.seen policy.new) ≡ after_in guests.now.granularity t.0 (pool_of guests.now cores.old (P.seen policy.old)) (Decide r) }
+    requires enabled { enabled_in guests.now.granularity t.0
+        (pool_of guests.now cores.old (P.seen policy.old)) (Decide r) ≡ true }
+    requires holds { Holds guests.now.granularity t.0
+        (pool_of guests.now cores.old (P.seen policy.old)) }
+    ensures event { result ≡ event_in guests.now.granularity t.0
+        (pool_of guests.now cores.old (P.seen policy.old)) (Decide r) }
+    ensures pool { pool_of guests.now cores.new (P.seen policy.new)
+        ≡ after_in guests.now.granularity t.0 (pool_of guests.now cores.old (P.seen policy.old))
+        (Decide r) }
     ensures cores { cores.new ≡ record cores.old { resources = cores.new.resources } }
     ensures room { (P.seen policy.new).spare ≡ (P.seen policy.old).spare }
     ensures latest { (P.seen policy.new).latest ≡ t.0 }
@@ -69,12 +90,12 @@ pub fn decide<P: Policy>(
     let Some(c) = cores.core(r) else {
         unreachable!();
     };
-    let ask = ask_of(guests, cores.home(), t, r, c);
+    let ask = ask_of(guests, home_of(cores), t, r, c);
     let late = lateness_of(t, c);
     let choice = policy.choose(&ask);
     cores.decide(r, t, choice.unit, choice.due);
     Event::Decide {
-        r: ResId(r),
+        r,
         unit: choice.unit,
         due: choice.due,
         late,
@@ -92,10 +113,15 @@ pub fn replenish<P: Policy>(
 ) -> Event
     requires now { IsNow (P.seen policy.old) t.0 }
     requires same { cores.old.granularity ≡ guests.now.granularity }
-    requires enabled { enabled_in guests.now.granularity t.0 (pool_of guests.now cores.old (P.seen policy.old)) (Repl u) ≡ true }
-    requires holds { Holds guests.now.granularity t.0 (pool_of guests.now cores.old (P.seen policy.old)) }
-    ensures event { result ≡ event_in guests.now.granularity t.0 (pool_of guests.now cores.old (P.seen policy.old)) (Repl u) }
-    ensures pool { pool_of guests.now cores.new (P.seen policy.new) ≡ after_in guests.now.granularity t.0 (pool_of guests.now cores.old (P.seen policy.old)) (Repl u) }
+    requires enabled { enabled_in guests.now.granularity t.0
+        (pool_of guests.now cores.old (P.seen policy.old)) (Repl u) ≡ true }
+    requires holds { Holds guests.now.granularity t.0
+        (pool_of guests.now cores.old (P.seen policy.old)) }
+    ensures event { result ≡ event_in guests.now.granularity t.0
+        (pool_of guests.now cores.old (P.seen policy.old)) (Repl u) }
+    ensures pool { pool_of guests.now cores.new (P.seen policy.new)
+        ≡ after_in guests.now.granularity t.0 (pool_of guests.now cores.old (P.seen policy.old))
+        (Repl u) }
     ensures cores { cores.new ≡ record cores.old { resources = cores.new.resources } }
     ensures room { (P.seen policy.new).spare ≡ (P.seen policy.old).spare }
     ensures latest { (P.seen policy.new).latest ≡ t.0 }
@@ -103,7 +129,7 @@ pub fn replenish<P: Policy>(
     let event = policy.timer(Timer::Repl(u), t);
     if let Event::Repl { budget, .. } = event {
         if let Some(r) = cores.core_with(u) {
-            cores.shorten_due(r, t, budget.0);
+            cores.shorten_due(ResId(r), t, budget.0);
         }
     }
     event

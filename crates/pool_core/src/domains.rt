@@ -21,7 +21,7 @@ ghost use Rattle.pool_core.specs.Waking.{is_held_among, KeepsRoom};
 use core_state::CoreState;
 use plain_pool::domains::unit_count;
 use plain_units::units::is_of_domain;
-use sched_base::{DomId, Moment, PoolId, UnitId};
+use sched_base::{DomId, Moment, PoolId, ResId, UnitId};
 use sched_model::config::DomParams;
 use sched_ops::Policy;
 use unit_state::{DomPart, Guests};
@@ -29,7 +29,9 @@ use unit_state::{DomPart, Guests};
 /// The unit, which does not wait, waits where it is runnable and no core has it.
 fn queue_if_off<P: Policy>(guests: &Guests, cores: &CoreState, policy: &mut P, u: UnitId)
     requires may { MayQueue (pool_of guests.now cores.now (P.seen policy.old)) u }
-    ensures pool { pool_of guests.now cores.now (P.seen policy.new) ≡ queue_if_off_spec guests.now.granularity u (pool_of guests.now cores.now (P.seen policy.old)) }
+    ensures pool { pool_of guests.now cores.now (P.seen policy.new)
+        ≡ queue_if_off_spec guests.now.granularity u
+        (pool_of guests.now cores.now (P.seen policy.old)) }
     ensures room { KeepsRoom (P.seen policy.old) (P.seen policy.new) }
 {
     if guests.runnable(u) && !cores.has_unit(u) {
@@ -46,8 +48,11 @@ pub fn queue_units<P: Policy>(
     d: DomId,
     count: u8,
 )
-    requires may { (n : ℕ) → n < count → MayQueue (pool_of guests.now cores.now (P.seen policy.old)) (unit_id d.0 n) }
-    ensures pool { pool_of guests.now cores.now (P.seen policy.new) ≡ queue_units_spec guests.now.granularity d.0 (numbers_from 0 count) (pool_of guests.now cores.now (P.seen policy.old)) }
+    requires may { (n : ℕ) → n < count → MayQueue (pool_of guests.now cores.now (P.seen policy.old))
+        (unit_id d.0 n) }
+    ensures pool { pool_of guests.now cores.now (P.seen policy.new)
+        ≡ queue_units_spec guests.now.granularity d.0 (numbers_from 0 count)
+        (pool_of guests.now cores.now (P.seen policy.old)) }
     ensures room { KeepsRoom (P.seen policy.old) (P.seen policy.new) }
 {
     for n in 0..count {
@@ -72,10 +77,18 @@ pub fn join<P: Policy>(
     requires known { guests.old.spare ≤ (P.seen policy.old).spare }
     requires params { AreDomParams (kind_of (P.seen policy.old).scheduler.records) params.now }
     requires now { IsNow (P.seen policy.old) t.0 }
-    requires holds { Holds guests.old.granularity t.0 (pool_of guests.old cores.now (P.seen policy.old)) }
-    ensures pool { pool_of guests.new cores.now (P.seen policy.new) ≡ with_domain guests.old.granularity t.0 part.d.0 part.domain params.now (pool_of guests.old cores.now (P.seen policy.old)) }
-    ensures guests { guests.new ≡ record guests.old { domains = put_at part.d.0 part.domain guests.old.domains; spare = guests.old.spare - unit_count_spec part.granularity part.domain } }
-    ensures spare { (P.seen policy.new).spare ≡ (P.seen policy.old).spare - unit_count_spec part.granularity part.domain }
+    requires holds { Holds guests.old.granularity t.0
+        (pool_of guests.old cores.now (P.seen policy.old)) }
+    ensures pool { pool_of guests.new cores.now (P.seen policy.new)
+        ≡ with_domain guests.old.granularity t.0 part.d.0 part.domain params.now
+        (pool_of guests.old cores.now (P.seen policy.old)) }
+    ensures guests { guests.new ≡ record guests.old {
+      domains = put_at part.d.0 part.domain guests.old.domains;
+      spare = guests.old.spare -
+          unit_count_spec part.granularity part.domain;
+    } }
+    ensures spare { (P.seen policy.new).spare
+        ≡ (P.seen policy.old).spare - unit_count_spec part.granularity part.domain }
     ensures latest { (P.seen policy.new).latest ≡ t.0 }
 {
     guests.keeps();
@@ -88,15 +101,19 @@ pub fn join<P: Policy>(
 
 /// Whether the unit, which waits exactly where it is runnable and no core has it, does so.
 fn is_waiting(guests: &Guests, cores: &CoreState, u: UnitId) -> bool
-    ensures { result ≡ (runnable_among guests.now.granularity guests.now.domains u && not (is_held_among cores.now.resources u)) }
+    ensures { result ≡ (runnable_among guests.now.granularity guests.now.domains u
+        && not (is_held_among cores.now.resources u)) }
 {
     guests.runnable(u) && !cores.has_unit(u)
 }
 
 /// The unit, which waits exactly where it is runnable and no core has it, waits no more.
 fn dequeue<P: Policy>(guests: &Guests, cores: &CoreState, policy: &mut P, u: UnitId)
-    requires waits { has_unit (P.seen policy.old).scheduler.queue u ≡ (runnable_among guests.now.granularity guests.now.domains u && not (is_held_among cores.now.resources u)) }
-    ensures { P.seen policy.new ≡ with_scheduler (dequeue_spec u (P.seen policy.old).scheduler) (P.seen policy.old) }
+    requires waits { has_unit (P.seen policy.old).scheduler.queue u
+        ≡ (runnable_among guests.now.granularity guests.now.domains u
+        && not (is_held_among cores.now.resources u)) }
+    ensures { P.seen policy.new ≡ with_scheduler (dequeue_spec u (P.seen policy.old).scheduler)
+        (P.seen policy.old) }
 {
     if is_waiting(guests, cores, u) {
         policy.dequeue(u);
@@ -106,9 +123,12 @@ fn dequeue<P: Policy>(guests: &Guests, cores: &CoreState, policy: &mut P, u: Uni
 /// None of the domain's units waits any more.
 fn dequeue_domain<P: Policy>(guests: &Guests, cores: &CoreState, policy: &mut P, d: DomId)
     requires some { 0 < guests.now.granularity }
-    requires one { OnePlace guests.now.granularity (pool_of guests.now cores.now (P.seen policy.old)) }
-    requires members { HasMembers guests.now.granularity (pool_of guests.now cores.now (P.seen policy.old)) }
-    ensures { P.seen policy.new ≡ with_scheduler (dequeue_domain_spec d.0 (P.seen policy.old).scheduler) (P.seen policy.old) }
+    requires one { OnePlace guests.now.granularity
+        (pool_of guests.now cores.now (P.seen policy.old)) }
+    requires members { HasMembers guests.now.granularity
+        (pool_of guests.now cores.now (P.seen policy.old)) }
+    ensures { P.seen policy.new ≡ with_scheduler
+        (dequeue_domain_spec d.0 (P.seen policy.old).scheduler) (P.seen policy.old) }
 {
     for n in 0..guests.unit_count(d) {
         dequeue(guests, cores, policy, UnitId { dom: d, n });
@@ -116,18 +136,19 @@ fn dequeue_domain<P: Policy>(guests: &Guests, cores: &CoreState, policy: &mut P,
 }
 
 /// Whether the core's own unit is one of the domain.
-pub(crate) fn runs_one_of(cores: &CoreState, d: DomId, r: u8) -> bool
-    ensures { result ≡ test_at cores.now.resources r (λ (c : Resource). is_of_domain_spec d.0 c.cur) }
+pub(crate) fn runs_one_of(cores: &CoreState, d: DomId, r: ResId) -> bool
+    ensures { result ≡ test_at cores.now.resources r.0
+        (λ (c : Resource). is_of_domain_spec d.0 c.cur) }
 {
     match cores.core(r) {
         None => false,
-        Some(c) => is_of_domain(d.0, c.cur),
+        Some(c) => is_of_domain(d, c.cur),
     }
 }
 
 /// The core is to decide anew where its own unit is one of the domain.
-fn mark_core(cores: &mut CoreState, d: DomId, r: u8)
-    ensures { cores.new ≡ changed_core r (pending_of d.0 r) cores.old }
+fn mark_core(cores: &mut CoreState, d: DomId, r: ResId)
+    ensures { cores.new ≡ changed_core r.0 (pending_of d.0 r.0) cores.old }
 {
     if runs_one_of(cores, d, r) {
         cores.set_pending(r);
@@ -136,19 +157,23 @@ fn mark_core(cores: &mut CoreState, d: DomId, r: u8)
 
 /// The cores whose own unit is one of the domain are to decide anew.
 fn mark_cores_of(cores: &mut CoreState, d: DomId)
-    ensures { cores.new ≡ record cores.old { resources = change_each 0 (pending_of d.0) cores.old.resources } }
+    ensures { cores.new ≡ record cores.old
+        { resources = change_each 0 (pending_of d.0) cores.old.resources } }
 {
     for r in 0..cores.places() {
-        mark_core(cores, d, r);
+        mark_core(cores, d, ResId(r));
     }
 }
 
 /// A domain that is not paused is paused: none of its units waits any more, and the cores that have one as their own are to decide
 /// anew.
 pub fn pause<P: Policy>(guests: &mut Guests, cores: &mut CoreState, policy: &mut P, d: DomId)
-    requires one { OnePlace guests.old.granularity (pool_of guests.old cores.old (P.seen policy.old)) }
-    requires members { HasMembers guests.old.granularity (pool_of guests.old cores.old (P.seen policy.old)) }
-    ensures pool { pool_of guests.new cores.new (P.seen policy.new) ≡ pause_spec d.0 (pool_of guests.old cores.old (P.seen policy.old)) }
+    requires one { OnePlace guests.old.granularity
+        (pool_of guests.old cores.old (P.seen policy.old)) }
+    requires members { HasMembers guests.old.granularity
+        (pool_of guests.old cores.old (P.seen policy.old)) }
+    ensures pool { pool_of guests.new cores.new (P.seen policy.new)
+        ≡ pause_spec d.0 (pool_of guests.old cores.old (P.seen policy.old)) }
     ensures guests { guests.new ≡ record guests.old { domains = guests.new.domains } }
     ensures cores { cores.new ≡ record cores.old { resources = cores.new.resources } }
     ensures room { KeepsRoom (P.seen policy.old) (P.seen policy.new) }
@@ -169,9 +194,12 @@ pub fn set_moving<P: Policy>(
     d: DomId,
     to: PoolId,
 )
-    requires one { OnePlace guests.old.granularity (pool_of guests.old cores.old (P.seen policy.old)) }
-    requires members { HasMembers guests.old.granularity (pool_of guests.old cores.old (P.seen policy.old)) }
-    ensures pool { pool_of guests.new cores.new (P.seen policy.new) ≡ set_moving_spec d.0 to.0 (pool_of guests.old cores.old (P.seen policy.old)) }
+    requires one { OnePlace guests.old.granularity
+        (pool_of guests.old cores.old (P.seen policy.old)) }
+    requires members { HasMembers guests.old.granularity
+        (pool_of guests.old cores.old (P.seen policy.old)) }
+    ensures pool { pool_of guests.new cores.new (P.seen policy.new)
+        ≡ set_moving_spec d.0 to.0 (pool_of guests.old cores.old (P.seen policy.old)) }
     ensures guests { guests.new ≡ record guests.old { domains = guests.new.domains } }
     ensures cores { cores.new ≡ record cores.old { resources = cores.new.resources } }
     ensures room { KeepsRoom (P.seen policy.old) (P.seen policy.new) }
@@ -184,10 +212,14 @@ pub fn set_moving<P: Policy>(
 
 /// A domain that is paused is so no longer: its units wait that are runnable and that no core has.
 pub fn unpause<P: Policy>(guests: &mut Guests, cores: &CoreState, policy: &mut P, d: DomId)
-    requires one { OnePlace guests.old.granularity (pool_of guests.old cores.now (P.seen policy.old)) }
-    requires members { HasMembers guests.old.granularity (pool_of guests.old cores.now (P.seen policy.old)) }
+    requires one { OnePlace guests.old.granularity
+        (pool_of guests.old cores.now (P.seen policy.old)) }
+    requires members { HasMembers guests.old.granularity
+        (pool_of guests.old cores.now (P.seen policy.old)) }
     requires on { AreOn (pool_of guests.old cores.now (P.seen policy.old)) }
-    ensures pool { pool_of guests.new cores.now (P.seen policy.new) ≡ unpause_spec guests.old.granularity d.0 (pool_of guests.old cores.now (P.seen policy.old)) }
+    ensures pool { pool_of guests.new cores.now (P.seen policy.new)
+        ≡ unpause_spec guests.old.granularity d.0
+        (pool_of guests.old cores.now (P.seen policy.old)) }
     ensures guests { guests.new ≡ record guests.old { domains = guests.new.domains } }
     ensures room { KeepsRoom (P.seen policy.old) (P.seen policy.new) }
 {
@@ -204,13 +236,19 @@ pub fn take<P: Policy>(guests: &mut Guests, policy: &mut P, d: DomId) -> DomPart
     requires still { ForSome (at_place guests.old.domains d.0) IsStill }
     requires joined { has_joined (P.seen policy.old).scheduler d.0 ≡ true }
     requires idle { HasNoneBusy (P.seen policy.old).scheduler d.0 }
-    ensures pool { (cores : CoresSeen) → pool_of guests.new cores (P.seen policy.new) ≡ without_domain d.0 (pool_of guests.old cores (P.seen policy.old)) }
+    ensures pool { (cores : CoresSeen) → pool_of guests.new cores (P.seen policy.new)
+        ≡ without_domain d.0 (pool_of guests.old cores (P.seen policy.old)) }
     ensures number { result.d ≡ d }
     ensures granularity { result.granularity ≡ guests.old.granularity }
     ensures domain { at_place guests.old.domains d.0 ≡ Some result.domain }
     ensures part { IsPart result }
-    ensures guests { guests.new ≡ record guests.old { domains = clear_at d.0 guests.old.domains; spare = guests.old.spare + unit_count_spec result.granularity result.domain } }
-    ensures spare { (P.seen policy.new).spare ≡ (P.seen policy.old).spare + units_of (P.seen policy.old).scheduler d.0 }
+    ensures guests { guests.new ≡ record guests.old {
+      domains = clear_at d.0 guests.old.domains;
+      spare = guests.old.spare + unit_count_spec
+          result.granularity result.domain;
+    } }
+    ensures spare { (P.seen policy.new).spare
+        ≡ (P.seen policy.old).spare + units_of (P.seen policy.old).scheduler d.0 }
     ensures latest { (P.seen policy.new).latest ≡ (P.seen policy.old).latest }
 {
     policy.part(d);

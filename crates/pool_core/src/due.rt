@@ -25,15 +25,17 @@ fn action_of(timer: Timer) -> Action
 {
     match timer {
         Timer::Repl(u) => Action::Repl(u),
-        Timer::Refill(d) => Action::Refill(d.0),
+        Timer::Refill(d) => Action::Refill(d),
     }
 }
 
 /// The first replenishment or refill that may come at t: none does before the end of the stall of the lowest processor.
 pub(crate) fn first_timer<P: Policy>(cores: &CoreState, policy: &P, t: Moment) -> Option<Action>
-    ensures { (g : ℕ) → (guests : GuestsSeen) → AreOn (pool_of guests cores.now (P.seen policy.now)) → IsFirstIn 7 9 g t.0 (pool_of guests cores.now (P.seen policy.now)) result }
+    ensures { (g : ℕ) → (guests : GuestsSeen) →
+        AreOn (pool_of guests cores.now (P.seen policy.now)) →
+        IsFirstIn 7 9 g t.0 (pool_of guests cores.now (P.seen policy.now)) result }
 {
-    if !has_come(t.0, cores.lowest_end()) {
+    if !has_come(t, cores.lowest_end()) {
         return None;
     }
     match policy.timer_due(t) {
@@ -49,9 +51,11 @@ pub(crate) fn first_timer<P: Policy>(cores: &CoreState, policy: &P, t: Moment) -
 /// The first event that may come at t, of those that come at a moment of their own: wakes, blocks, slices and timers.
 fn first_due<P: Policy>(guests: &Guests, cores: &CoreState, policy: &P, t: Moment) -> Option<Action>
     requires same { cores.now.granularity ≡ guests.now.granularity }
-    requires works { AreWorks guests.now.granularity cores.now.works (pool_of guests.now cores.now (P.seen policy.now)) }
+    requires works { AreWorks guests.now.granularity cores.now.works
+        (pool_of guests.now cores.now (P.seen policy.now)) }
     requires on { AreOn (pool_of guests.now cores.now (P.seen policy.now)) }
-    ensures { IsFirstIn 4 9 guests.now.granularity t.0 (pool_of guests.now cores.now (P.seen policy.now)) result }
+    ensures { IsFirstIn 4 9 guests.now.granularity t.0
+        (pool_of guests.now cores.now (P.seen policy.now)) result }
 {
     if let Some(v) = guests.first_wake(t) {
         return Some(Action::Wake(v));
@@ -67,7 +71,8 @@ fn first_due<P: Policy>(guests: &Guests, cores: &CoreState, policy: &P, t: Momen
 
 /// The first event that may come at t, of those by which a core decides anew: arrivals, decisions, leaves and saves.
 fn first_step(cores: &CoreState, t: Moment) -> Option<Action>
-    ensures { (guests : GuestsSeen) → (s : SchedulerSeen) → IsFirstIn 9 13 cores.now.granularity t.0 (pool_of guests cores.now s) result }
+    ensures { (guests : GuestsSeen) → (s : SchedulerSeen) →
+        IsFirstIn 9 13 cores.now.granularity t.0 (pool_of guests cores.now s) result }
 {
     if let Some(p) = cores.first_arrive(t) {
         return Some(Action::Arrive(p));
@@ -78,10 +83,10 @@ fn first_step(cores: &CoreState, t: Moment) -> Option<Action>
     if let Some(p) = cores.first_leave(t) {
         return Some(Action::Leave(p));
     }
-    match cores.first_save(t) {
-        None => None,
-        Some(r) => Some(Action::Save(r)),
+    if let Some(r) = cores.first_save(t) {
+        return Some(Action::Save(r));
     }
+    None
 }
 
 /// The first event of the pool that may come at t, by kind, then by number and index. `None` where none may.
@@ -92,9 +97,11 @@ pub fn first_enabled<P: Policy>(
     t: Moment,
 ) -> Option<Action>
     requires same { cores.now.granularity ≡ guests.now.granularity }
-    requires works { AreWorks guests.now.granularity cores.now.works (pool_of guests.now cores.now (P.seen policy.now)) }
+    requires works { AreWorks guests.now.granularity cores.now.works
+        (pool_of guests.now cores.now (P.seen policy.now)) }
     requires on { AreOn (pool_of guests.now cores.now (P.seen policy.now)) }
-    ensures { IsFirstEnabled guests.now.granularity t.0 (pool_of guests.now cores.now (P.seen policy.now)) result }
+    ensures { IsFirstEnabled guests.now.granularity t.0
+        (pool_of guests.now cores.now (P.seen policy.now)) result }
 {
     match first_due(guests, cores, policy, t) {
         Some(action) => Some(action),
@@ -104,7 +111,10 @@ pub fn first_enabled<P: Policy>(
 
 /// The least moment at which a timer of the scheduler may come: none does before the end of the stall of the lowest processor.
 fn next_timer<P: Policy>(cores: &CoreState, policy: &P) -> Option<Moment>
-    ensures { (g : ℕ) → (guests : GuestsSeen) → AreOn (pool_of guests cores.now (P.seen policy.now)) → IsLeast (λ timer. ready_in g (pool_of guests cores.now (P.seen policy.now)) (action_of_spec timer)) result }
+    ensures { (g : ℕ) → (guests : GuestsSeen) →
+        AreOn (pool_of guests cores.now (P.seen policy.now)) →
+        IsLeast (λ timer. ready_in g (pool_of guests cores.now (P.seen policy.now))
+        (action_of_spec timer)) result }
 {
     let (at, _) = policy.timer_due(Moment(0))?;
     let end = cores.lowest_end()?;
@@ -114,9 +124,11 @@ fn next_timer<P: Policy>(cores: &CoreState, policy: &P) -> Option<Moment>
 /// The least moment at which an event of the pool may come. `None` where none may ever, while nothing else happens.
 pub fn next_moment<P: Policy>(guests: &Guests, cores: &CoreState, policy: &P) -> Option<Moment>
     requires same { cores.now.granularity ≡ guests.now.granularity }
-    requires works { AreWorks guests.now.granularity cores.now.works (pool_of guests.now cores.now (P.seen policy.now)) }
+    requires works { AreWorks guests.now.granularity cores.now.works
+        (pool_of guests.now cores.now (P.seen policy.now)) }
     requires on { AreOn (pool_of guests.now cores.now (P.seen policy.now)) }
-    ensures { IsNextMoment guests.now.granularity (pool_of guests.now cores.now (P.seen policy.now)) result }
+    ensures { IsNextMoment guests.now.granularity (pool_of guests.now cores.now (P.seen policy.now))
+        result }
 {
     let of_cores = earlier(cores.least(), next_timer(cores, policy));
     earlier(guests.next_wake(), of_cores)

@@ -23,8 +23,8 @@ use sched_ops::Policy;
 use unit_state::Guests;
 
 /// The core is to decide anew, and is due now, where its own unit is one of the domain.
-fn make_due(cores: &mut CoreState, d: DomId, t: Moment, r: u8)
-    ensures { cores.new ≡ changed_core r (due_now_of d.0 t.0 r) cores.old }
+fn make_due(cores: &mut CoreState, d: DomId, t: Moment, r: ResId)
+    ensures { cores.new ≡ changed_core r.0 (due_now_of d.0 t.0 r.0) cores.old }
 {
     if runs_one_of(cores, d, r) {
         cores.set_pending_due(r, t);
@@ -33,25 +33,28 @@ fn make_due(cores: &mut CoreState, d: DomId, t: Moment, r: u8)
 
 /// The cores whose own unit is one of the domain are to decide anew, and are due now.
 fn make_cores_due(cores: &mut CoreState, d: DomId, t: Moment)
-    ensures { cores.new ≡ record cores.old { resources = change_each 0 (due_now_of d.0 t.0) cores.old.resources } }
+    ensures { cores.new ≡ record cores.old
+        { resources = change_each 0 (due_now_of d.0 t.0) cores.old.resources } }
 {
     for r in 0..cores.places() {
-        make_due(cores, d, t, r);
+        make_due(cores, d, t, ResId(r));
     }
 }
 
 /// All cores are to decide anew.
 fn mark_all(cores: &mut CoreState)
-    ensures { cores.new ≡ record cores.old { resources = change_each 0 pending_each cores.old.resources } }
+    ensures { cores.new ≡ record cores.old
+        { resources = change_each 0 pending_each cores.old.resources } }
 {
     for r in 0..cores.places() {
-        cores.set_pending(r);
+        cores.set_pending(ResId(r));
     }
 }
 
 /// The cores that the change makes decide anew: those that run a unit of a domain whose cap is set, and all for a new frame.
 fn mark(cores: &mut CoreState, change: &ParamChange, t: Moment)
-    ensures { cores.new ≡ record cores.old { resources = marked_cores change.now t.0 cores.old.resources } }
+    ensures { cores.new ≡ record cores.old
+        { resources = marked_cores change.now t.0 cores.old.resources } }
 {
     match change {
         ParamChange::Dom {
@@ -74,8 +77,10 @@ pub fn set_params<P: Policy>(
     t: Moment,
 )
     requires now { IsNow (P.seen policy.old) t.0 }
-    requires change { IsChange (kind_of (P.seen policy.old).scheduler.records) (P.seen policy.old).scheduler change.now }
-    ensures pool { pool_of guests.now cores.new (P.seen policy.new) ≡ set_params_spec change.now t.0 (pool_of guests.now cores.old (P.seen policy.old)) }
+    requires change { IsChange (kind_of (P.seen policy.old).scheduler.records)
+        (P.seen policy.old).scheduler change.now }
+    ensures pool { pool_of guests.now cores.new (P.seen policy.new)
+        ≡ set_params_spec change.now t.0 (pool_of guests.now cores.old (P.seen policy.old)) }
     ensures cores { cores.new ≡ record cores.old { resources = cores.new.resources } }
     ensures spare { (P.seen policy.new).spare ≡ (P.seen policy.old).spare }
     ensures latest { (P.seen policy.new).latest ≡ t.0 }
@@ -87,8 +92,10 @@ pub fn set_params<P: Policy>(
 /// The set values of the units of the domain with the indices below count, in order.
 fn stored_below<P: Policy>(policy: &P, d: DomId, count: u8) -> StoredList
     requires few { count ≤ 32 }
-    requires members { (n : ℕ) → n < count → is_member (P.seen policy.now).scheduler (unit_id d.0 n) ≡ true }
-    ensures { map Some result ≡ stored_units (P.seen policy.now).scheduler.records d.0 (numbers_from 0 count) }
+    requires members { (n : ℕ) → n < count → is_member (P.seen policy.now).scheduler (unit_id d.0 n)
+        ≡ true }
+    ensures { map Some result ≡ stored_units (P.seen policy.now).scheduler.records d.0
+        (numbers_from 0 count) }
 {
     let mut units = Short::new();
     for n in 0..count {
@@ -99,8 +106,10 @@ fn stored_below<P: Policy>(policy: &P, d: DomId, count: u8) -> StoredList
 
 /// The set values of the units of the domain, where one is named: none where it is not here.
 fn stored_values<P: Policy>(guests: &Guests, policy: &P, d: Option<DomId>) -> StoredList
-    requires known { AreKnown guests.now.granularity guests.now.domains (P.seen policy.now).scheduler d }
-    ensures { map Some result ≡ stored_in guests.now.granularity guests.now.domains (P.seen policy.now).scheduler.records d }
+    requires known { AreKnown guests.now.granularity guests.now.domains
+        (P.seen policy.now).scheduler d }
+    ensures { map Some result ≡ stored_in guests.now.granularity guests.now.domains
+        (P.seen policy.now).scheduler.records d }
 {
     match d {
         None => Short::new(),
@@ -114,9 +123,11 @@ fn stored_values<P: Policy>(guests: &Guests, policy: &P, d: Option<DomId>) -> St
 /// The rate limit in microseconds, 0 where the scheduler has none, and the set values of the units of the domain, where one is
 /// named: in order, at most 32, and none where the domain is not here.
 pub fn facts<P: Policy>(guests: &Guests, policy: &P, d: Option<DomId>) -> Facts
-    requires known { AreKnown guests.now.granularity guests.now.domains (P.seen policy.now).scheduler d }
+    requires known { AreKnown guests.now.granularity guests.now.domains
+        (P.seen policy.now).scheduler d }
     ensures rate { result.rate ≡ rate_of (P.seen policy.now).scheduler.records }
-    ensures units { map Some result.units ≡ stored_in guests.now.granularity guests.now.domains (P.seen policy.now).scheduler.records d }
+    ensures units { map Some result.units ≡ stored_in guests.now.granularity guests.now.domains
+        (P.seen policy.now).scheduler.records d }
 {
     Facts {
         rate: policy.rate(),

@@ -57,7 +57,7 @@ impl<P: Policy> PoolState<P> {
     ghost use Rattle.sched_model.specs.Places.{at_place, numbers_from};
     ghost use Rattle.sched_model.specs.Policy.{default_pool_params, kind_of, rate_of};
     ghost use Rattle.sched_ops.specs.Conditions.{AreDomParams, ArePoolParams, IsChange, is_vacant};
-    ghost use Rattle.sched_ops.specs.Seen.{restarted};
+    ghost use Rattle.sched_ops.specs.Seen.{restarted_scheduler};
     ghost use Rattle.core_state.specs.Seen.{stall_until};
     ghost use Rattle.plain_pool.specs.Cores.{ends_of};
     ghost use Rattle.pool_laws.specs.Ready.{ready_in};
@@ -70,8 +70,8 @@ impl<P: Policy> PoolState<P> {
     ghost use Rattle.pool_core.specs.Actors.{IsFirstBy};
     ghost use Rattle.pool_core.specs.Order.{IsFirstEnabled, IsNextMoment};
     ghost use Rattle.sched_model.specs.declared.action.Action.TheVariants.{Arrive, Block, Decide, DomMoved, Leave, Moved, Refill, Repl, Save, Slice, Wake};
-    ghost use Rattle.sched_model.specs.Pool.{enabled_in, event_in, pause as pause_spec, processor_of, set_leaving, set_moving as set_moving_spec, set_params as set_params_spec, settled, unit_count, unpause as unpause_spec, with_domain, without_domain};
-    ghost use Rattle.pool_core.specs.Seen.{IsEmpty, IsNow, happened, seen_at, vacant, with_core, with_spare, with_stall, without_core};
+    ghost use Rattle.sched_model.specs.Pool.{enabled_in, event_in, pause as pause_spec, processor_of, set_leaving, set_moving as set_moving_spec, set_params as set_params_spec, settled_pool, unit_count, unpause as unpause_spec, with_domain, without_domain};
+    ghost use Rattle.pool_core.specs.Seen.{IsEmpty, IsNow, seen_after, seen_at, vacant_pool, with_core, with_spare, with_stall, without_core};
 
     /// A pool with so many places for domains and for cores of 1, 2 or 4 processors each, at most 64 domains and 64 processors, and room
     /// for so many units, at most 256. It is not in use. Its scheduler, which has no domain, takes its default parameters.
@@ -88,7 +88,9 @@ impl<P: Policy> PoolState<P> {
         requires units { units ≤ 256 }
         requires vacant { is_vacant (P.seen policy).scheduler ≡ true }
         requires early { (P.seen policy).latest ≡ 0 }
-        ensures { IfOk result (λ pool. pool ≡ vacant (default_pool_params (kind_of (P.seen policy).scheduler.records)) granularity places.domains places.cores units) }
+        ensures { IfOk result (λ pool. pool
+            ≡ vacant_pool (default_pool_params (kind_of (P.seen policy).scheduler.records)) granularity
+            places.domains places.cores units) }
     {
         let mut policy = policy;
         policy.reserve(alloc, places, units)?;
@@ -109,7 +111,12 @@ impl<P: Policy> PoolState<P> {
         requires unused { self.old.in_use ≡ false }
         requires empty { IsEmpty self.old.pool }
         requires params { ArePoolParams (kind_of self.old.pool.scheduler.records) params.now }
-        ensures { self.new ≡ record self.old { pool = record self.old.pool { scheduler = restarted params.now self.old.pool.scheduler }; in_use = true } }
+        ensures { self.new ≡ record self.old {
+          pool = record self.old.pool {
+            scheduler = restarted_scheduler params.now self.old.pool.scheduler;
+          };
+          in_use = true;
+        } }
     {
         self.settled = false;
         self.policy.restart(params);
@@ -140,10 +147,11 @@ impl<P: Policy> PoolState<P> {
         requires place { core.now.r.0 < length self.old.pool.resources }
         requires absent { at_place self.old.pool.resources core.now.r.0 ≡ None }
         requires siblings { length core.now.stall_ends ≡ self.old.granularity }
-        ensures { self.new ≡ seen_at t.0 (settled t.0 (with_core core.now.r.0 core.now.stall_ends self.old.pool)) self.old }
+        ensures { self.new ≡ seen_at t.0
+            (settled_pool t.0 (with_core core.now.r.0 core.now.stall_ends self.old.pool)) self.old }
     {
         self.cores.keeps();
-        self.cores.put(core.r.0, fresh_core(&core.stall_ends));
+        self.cores.put(core.r, fresh_core(&core.stall_ends));
         self.latest = t;
         self.settled = false;
         self.look();
@@ -152,12 +160,14 @@ impl<P: Policy> PoolState<P> {
     /// A core that is leaving, and whose part in this is done, goes out: its number and the ends of its processors' stalls.
     pub fn detach(&mut self, r: ResId, t: Moment) -> ResPart
         requires now { IsNow self.old t.0 }
-        requires ready { enabled_in self.old.granularity t.0 self.old.pool (Moved r.0) ≡ true }
+        requires ready { enabled_in self.old.granularity t.0 self.old.pool (Moved r) ≡ true }
         ensures number { result.r ≡ r }
-        ensures ends { option_map ends_of (at_place self.old.pool.resources r.0) ≡ Some result.stall_ends }
-        ensures after { self.new ≡ seen_at t.0 (settled t.0 (without_core r.0 self.old.pool)) self.old }
+        ensures ends { option_map ends_of (at_place self.old.pool.resources r.0)
+            ≡ Some result.stall_ends }
+        ensures after { self.new ≡ seen_at t.0 (settled_pool t.0 (without_core r.0 self.old.pool))
+            self.old }
     {
-        let Some(core) = self.cores.take(r.0) else {
+        let Some(core) = self.cores.take(r) else {
             unreachable!();
         };
         let part = part_of(r, &core);
@@ -170,8 +180,10 @@ impl<P: Policy> PoolState<P> {
     /// The parameters of the scheduler, or of a domain or a unit of it, change. The cores that this concerns are to decide anew.
     pub fn set_params(&mut self, change: &ParamChange, t: Moment)
         requires now { IsNow self.old t.0 }
-        requires change { IsChange (kind_of self.old.pool.scheduler.records) self.old.pool.scheduler change.now }
-        ensures { self.new ≡ seen_at t.0 (settled t.0 (set_params_spec change.now t.0 self.old.pool)) self.old }
+        requires change { IsChange (kind_of self.old.pool.scheduler.records) self.old.pool.scheduler
+            change.now }
+        ensures { self.new ≡ seen_at t.0
+            (settled_pool t.0 (set_params_spec change.now t.0 self.old.pool)) self.old }
     {
         set_params(&self.guests, &mut self.cores, &mut self.policy, change, t);
         self.latest = t;
@@ -183,9 +195,12 @@ impl<P: Policy> PoolState<P> {
     /// in force from a unit's next replenishment on. Where the scheduler is another, nothing changes but by the look at the cores.
     pub fn set_units(&mut self, d: DomId, first: u8, count: u8, given: RtdsGiven, t: Moment)
         requires now { IsNow self.old t.0 }
-        requires units { first + count ≤ units_at self.old.granularity (at_place self.old.pool.domains d.0) }
+        requires units { first + count ≤ units_at self.old.granularity
+            (at_place self.old.pool.domains d.0) }
         requires given { 0 < count → AreGiven given.period given.budget }
-        ensures { self.new ≡ seen_at t.0 (settled t.0 (set_rtds t.0 d.0 given.period given.budget given.extra (numbers_from first count) self.old.pool)) self.old }
+        ensures { self.new ≡ seen_at t.0
+            (settled_pool t.0 (set_rtds t.0 d.0 given.period given.budget given.extra
+            (numbers_from first count) self.old.pool)) self.old }
     {
         self.guests.keeps();
         set_units(&mut self.policy, d, first, count, given, t);
@@ -198,7 +213,8 @@ impl<P: Policy> PoolState<P> {
     /// named: in order, at most 32, and none where the domain is not here.
     pub fn facts(&self, d: Option<DomId>) -> Facts
         ensures rate { result.rate ≡ rate_of self.now.pool.scheduler.records }
-        ensures units { map Some result.units ≡ stored_in self.now.granularity self.now.pool.domains self.now.pool.scheduler.records d }
+        ensures units { map Some result.units ≡ stored_in self.now.granularity self.now.pool.domains
+            self.now.pool.scheduler.records d }
     {
         facts(&self.guests, &self.policy, d)
     }
@@ -206,8 +222,10 @@ impl<P: Policy> PoolState<P> {
     /// The cores and the domains that are here: core r is bit r of the first number, domain d is bit d of the second.
     #[tactic(auto, using(sched_laws::proofs::HomeCores::home_has))]
     pub fn members(&self) -> (u64, u64)
-        ensures cores { (r : ℕ) → has_bit result.0 r ≡ is_some (at_place self.now.pool.resources r) }
-        ensures domains { (d : ℕ) → has_bit result.1 d ≡ is_some (at_place self.now.pool.domains d) }
+        ensures cores { (r : ℕ) → has_bit result.0 r
+            ≡ is_some (at_place self.now.pool.resources r) }
+        ensures domains { (d : ℕ) → has_bit result.1 d
+            ≡ is_some (at_place self.now.pool.domains d) }
     {
         (self.cores.home(), self.guests.members())
     }
@@ -224,7 +242,9 @@ impl<P: Policy> PoolState<P> {
         requires granularity { part.granularity ≡ self.old.granularity }
         requires room { unit_count part.granularity part.domain ≤ self.old.spare }
         requires params { AreDomParams (kind_of self.old.pool.scheduler.records) params.now }
-        ensures { self.new ≡ with_spare (self.old.spare - unit_count part.granularity part.domain) (seen_at t.0 (settled t.0 (with_domain self.old.granularity t.0 part.d.0 part.domain params.now self.old.pool)) self.old) }
+        ensures { self.new ≡ with_spare (self.old.spare - unit_count part.granularity part.domain)
+            (seen_at t.0 (settled_pool t.0 (with_domain self.old.granularity t.0 part.d.0 part.domain
+            params.now self.old.pool)) self.old) }
     {
         join(
             &mut self.guests,
@@ -241,12 +261,15 @@ impl<P: Policy> PoolState<P> {
 
     /// A domain that is moving, and no unit of which a core has, goes out.
     pub fn take_domain(&mut self, d: DomId) -> DomPart
-        requires ready { enabled_in self.old.granularity self.old.latest self.old.pool (DomMoved d.0) ≡ true }
+        requires ready { enabled_in self.old.granularity self.old.latest self.old.pool (DomMoved d)
+            ≡ true }
         ensures number { result.d ≡ d }
         ensures granularity { result.granularity ≡ self.old.granularity }
         ensures domain { at_place self.old.pool.domains d.0 ≡ Some result.domain }
         ensures part { IsPart result }
-        ensures after { self.new ≡ with_spare (self.old.spare + unit_count result.granularity result.domain) (record self.old { pool = without_domain d.0 self.old.pool }) }
+        ensures after { self.new ≡ with_spare
+            (self.old.spare + unit_count result.granularity result.domain)
+            (record self.old { pool = without_domain d.0 self.old.pool }) }
     {
         self.settled = false;
         take(&mut self.guests, &mut self.policy, d)
@@ -257,16 +280,18 @@ impl<P: Policy> PoolState<P> {
         ensures { self.new ≡ record self.old { pool = set_leaving r.0 self.old.pool } }
     {
         self.settled = false;
-        self.cores.set_leaving(r.0);
+        self.cores.set_leaving(r);
     }
 
     /// A processor is stalled up to this moment, if it is not yet for longer: the end of its stall.
     pub fn stall(&mut self, p: ProcId, until: Moment) -> Moment
-        ensures end { result ≡ stall_until (processor_of self.old.granularity self.old.pool p.0) until }
-        ensures after { self.new ≡ record self.old { pool = with_stall self.old.granularity p.0 result self.old.pool } }
+        ensures end { result ≡ stall_until (processor_of self.old.granularity self.old.pool p.0)
+            until }
+        ensures after { self.new ≡ record self.old
+            { pool = with_stall self.old.granularity p.0 result self.old.pool } }
     {
         self.settled = false;
-        self.cores.stall(p.0, until)
+        self.cores.stall(p, until)
     }
 
     /// Whether a look at the cores, at t, was taken and would change nothing now.
@@ -278,7 +303,8 @@ impl<P: Policy> PoolState<P> {
 
     /// Each core is looked at, at the greatest moment given, unless that would change nothing.
     fn look(&mut self)
-        ensures { self.new ≡ seen_at self.old.latest (settled self.old.latest self.old.pool) self.old }
+        ensures { self.new ≡ seen_at self.old.latest (settled_pool self.old.latest self.old.pool)
+            self.old }
     {
         if !self.settled {
             settle(&mut self.cores, &self.policy, self.latest);
@@ -296,7 +322,7 @@ impl<P: Policy> PoolState<P> {
     /// The closure alone: each core that is to decide anew at t is pending.
     pub fn settle(&mut self, t: Moment)
         requires now { IsNow self.old t.0 }
-        ensures { self.new ≡ seen_at t.0 (settled t.0 self.old.pool) self.old }
+        ensures { self.new ≡ seen_at t.0 (settled_pool t.0 self.old.pool) self.old }
     {
         self.tell(t);
         let settled = self.is_settled(t);
@@ -328,21 +354,21 @@ impl<P: Policy> PoolState<P> {
 
     /// From when on the core may leave the pool. `None` where it may not, while nothing else happens.
     pub fn moved_next(&self, r: ResId) -> Option<Moment>
-        ensures { result ≡ ready_in self.now.granularity self.now.pool (Moved r.0) }
+        ensures { result ≡ ready_in self.now.granularity self.now.pool (Moved r) }
     {
-        self.cores.move_end(r.0)
+        self.cores.move_end(r)
     }
 
     /// Whether the core may leave the pool at t.
     pub fn moved_ready(&self, r: ResId, t: Moment) -> bool
-        ensures { result ≡ enabled_in self.now.granularity t.0 self.now.pool (Moved r.0) }
+        ensures { result ≡ enabled_in self.now.granularity t.0 self.now.pool (Moved r) }
     {
-        has_come(t.0, self.cores.move_end(r.0))
+        has_come(t, self.cores.move_end(r))
     }
 
     /// Whether the domain may leave the pool: it is moving, and no core has a unit of it. That does not depend on the moment.
     pub fn dom_ready(&self, d: DomId) -> bool
-        ensures { (t : ℕ) → result ≡ enabled_in self.now.granularity t self.now.pool (DomMoved d.0) }
+        ensures { (t : ℕ) → result ≡ enabled_in self.now.granularity t self.now.pool (DomMoved d) }
     {
         self.guests.moving(d).is_some() && !self.cores.has_domain(d)
     }
@@ -361,19 +387,19 @@ impl<P: Policy> PoolState<P> {
         requires own { IsOfPool action }
         requires enabled { enabled_in self.old.granularity t.0 self.old.pool action ≡ true }
         ensures event { result ≡ event_in self.old.granularity t.0 self.old.pool action }
-        ensures after { self.new ≡ happened t.0 action self.old }
+        ensures after { self.new ≡ seen_after t.0 action self.old }
     {
         self.tell(t);
         match action {
             Action::Wake(v) => self.wake(v, t),
-            Action::Block(p) => self.block(ProcId(p), t),
-            Action::Slice(r) => self.slice(ResId(r), t),
+            Action::Block(p) => self.block(p, t),
+            Action::Slice(r) => self.slice(r, t),
             Action::Repl(u) => self.replenish(u, t),
-            Action::Refill(d) => self.refill(DomId(d), t),
-            Action::Arrive(p) => self.arrive(ProcId(p), t),
-            Action::Decide(r) => self.decide(ResId(r), t),
-            Action::Leave(p) => self.leave(ProcId(p), t),
-            Action::Save(r) => self.save(ResId(r), t),
+            Action::Refill(d) => self.refill(d, t),
+            Action::Arrive(p) => self.arrive(p, t),
+            Action::Decide(r) => self.decide(r, t),
+            Action::Leave(p) => self.leave(p, t),
+            Action::Save(r) => self.save(r, t),
             Action::Stall | Action::Xl | Action::Moved(_) | Action::DomMoved(_) => unreachable!(),
         }
     }
@@ -382,7 +408,7 @@ impl<P: Policy> PoolState<P> {
     /// already, nothing changes but by the look at the cores.
     pub fn pause(&mut self, d: DomId, t: Moment)
         requires now { IsNow self.old t.0 }
-        ensures { self.new ≡ seen_at t.0 (settled t.0 (pause_spec d.0 self.old.pool)) self.old }
+        ensures { self.new ≡ seen_at t.0 (settled_pool t.0 (pause_spec d.0 self.old.pool)) self.old }
     {
         pause(&mut self.guests, &mut self.cores, &mut self.policy, d);
         self.latest = t;
@@ -394,7 +420,8 @@ impl<P: Policy> PoolState<P> {
     /// the cores.
     pub fn unpause(&mut self, d: DomId, t: Moment)
         requires now { IsNow self.old t.0 }
-        ensures { self.new ≡ seen_at t.0 (settled t.0 (unpause_spec self.old.granularity d.0 self.old.pool)) self.old }
+        ensures { self.new ≡ seen_at t.0
+            (settled_pool t.0 (unpause_spec self.old.granularity d.0 self.old.pool)) self.old }
     {
         unpause(&mut self.guests, &self.cores, &mut self.policy, d);
         self.latest = t;
@@ -405,7 +432,8 @@ impl<P: Policy> PoolState<P> {
     /// A domain is moving to a pool: its units stop waiting, and the cores that run one are to decide anew.
     pub fn set_moving(&mut self, d: DomId, to: PoolId, t: Moment)
         requires now { IsNow self.old t.0 }
-        ensures { self.new ≡ seen_at t.0 (settled t.0 (set_moving_spec d.0 to.0 self.old.pool)) self.old }
+        ensures { self.new ≡ seen_at t.0 (settled_pool t.0 (set_moving_spec d.0 to.0 self.old.pool))
+            self.old }
     {
         set_moving(&mut self.guests, &mut self.cores, &mut self.policy, d, to);
         self.latest = t;
@@ -419,7 +447,7 @@ impl<P: Policy> PoolState<P> {
         requires now { IsNow self.old t.0 }
         requires enabled { enabled_in self.old.granularity t.0 self.old.pool (Wake v) ≡ true }
         ensures event { result ≡ event_in self.old.granularity t.0 self.old.pool (Wake v) }
-        ensures after { self.new ≡ happened t.0 (Wake v) self.old }
+        ensures after { self.new ≡ seen_after t.0 (Wake v) self.old }
     {
         let settled = self.is_settled(t);
         self.guests.keeps();
@@ -435,15 +463,15 @@ impl<P: Policy> PoolState<P> {
     /// runnable.
     pub fn block(&mut self, p: ProcId, t: Moment) -> Event
         requires now { IsNow self.old t.0 }
-        requires enabled { enabled_in self.old.granularity t.0 self.old.pool (Block p.0) ≡ true }
-        ensures event { result ≡ event_in self.old.granularity t.0 self.old.pool (Block p.0) }
-        ensures after { self.new ≡ happened t.0 (Block p.0) self.old }
+        requires enabled { enabled_in self.old.granularity t.0 self.old.pool (Block p) ≡ true }
+        ensures event { result ≡ event_in self.old.granularity t.0 self.old.pool (Block p) }
+        ensures after { self.new ≡ seen_after t.0 (Block p) self.old }
     {
         let settled = self.is_settled(t);
-        let Some(v) = guest_of(&self.cores, p.0) else {
+        let Some(v) = guest_of(&self.cores, p) else {
             unreachable!();
         };
-        block(&mut self.guests, &mut self.cores, p.0, v, t);
+        block(&mut self.guests, &mut self.cores, p, v, t);
         self.latest = t;
         self.settled = settled;
         self.look();
@@ -453,12 +481,12 @@ impl<P: Policy> PoolState<P> {
     /// A core whose due has come at t is to decide anew.
     pub fn slice(&mut self, r: ResId, t: Moment) -> Event
         requires now { IsNow self.old t.0 }
-        requires enabled { enabled_in self.old.granularity t.0 self.old.pool (Slice r.0) ≡ true }
-        ensures event { result ≡ event_in self.old.granularity t.0 self.old.pool (Slice r.0) }
-        ensures after { self.new ≡ happened t.0 (Slice r.0) self.old }
+        requires enabled { enabled_in self.old.granularity t.0 self.old.pool (Slice r) ≡ true }
+        ensures event { result ≡ event_in self.old.granularity t.0 self.old.pool (Slice r) }
+        ensures after { self.new ≡ seen_after t.0 (Slice r) self.old }
     {
         let settled = self.is_settled(t);
-        self.cores.set_pending(r.0);
+        self.cores.set_pending(r);
         self.latest = t;
         self.settled = settled;
         self.look();
@@ -471,7 +499,7 @@ impl<P: Policy> PoolState<P> {
         requires now { IsNow self.old t.0 }
         requires enabled { enabled_in self.old.granularity t.0 self.old.pool (Repl u) ≡ true }
         ensures event { result ≡ event_in self.old.granularity t.0 self.old.pool (Repl u) }
-        ensures after { self.new ≡ happened t.0 (Repl u) self.old }
+        ensures after { self.new ≡ seen_after t.0 (Repl u) self.old }
     {
         let event = replenish(&self.guests, &mut self.cores, &mut self.policy, u, t);
         self.latest = t;
@@ -483,9 +511,9 @@ impl<P: Policy> PoolState<P> {
     /// The budget of a capped Credit2 domain, whose refill has come at t, is filled.
     pub fn refill(&mut self, d: DomId, t: Moment) -> Event
         requires now { IsNow self.old t.0 }
-        requires enabled { enabled_in self.old.granularity t.0 self.old.pool (Refill d.0) ≡ true }
-        ensures event { result ≡ event_in self.old.granularity t.0 self.old.pool (Refill d.0) }
-        ensures after { self.new ≡ happened t.0 (Refill d.0) self.old }
+        requires enabled { enabled_in self.old.granularity t.0 self.old.pool (Refill d) ≡ true }
+        ensures event { result ≡ event_in self.old.granularity t.0 self.old.pool (Refill d) }
+        ensures after { self.new ≡ seen_after t.0 (Refill d) self.old }
     {
         let event = self.policy.timer(Timer::Refill(d), t);
         self.latest = t;
@@ -497,12 +525,12 @@ impl<P: Policy> PoolState<P> {
     /// A processor of a core that is to decide anew waits for its siblings. A vCPU that it ran is stopped.
     pub fn arrive(&mut self, p: ProcId, t: Moment) -> Event
         requires now { IsNow self.old t.0 }
-        requires enabled { enabled_in self.old.granularity t.0 self.old.pool (Arrive p.0) ≡ true }
-        ensures event { result ≡ event_in self.old.granularity t.0 self.old.pool (Arrive p.0) }
-        ensures after { self.new ≡ happened t.0 (Arrive p.0) self.old }
+        requires enabled { enabled_in self.old.granularity t.0 self.old.pool (Arrive p) ≡ true }
+        ensures event { result ≡ event_in self.old.granularity t.0 self.old.pool (Arrive p) }
+        ensures after { self.new ≡ seen_after t.0 (Arrive p) self.old }
     {
         let settled = self.is_settled(t);
-        arrive(&mut self.guests, &mut self.cores, p.0, t);
+        arrive(&mut self.guests, &mut self.cores, p, t);
         self.latest = t;
         self.settled = settled;
         self.look();
@@ -513,11 +541,11 @@ impl<P: Policy> PoolState<P> {
     /// be saved.
     pub fn decide(&mut self, r: ResId, t: Moment) -> Event
         requires now { IsNow self.old t.0 }
-        requires enabled { enabled_in self.old.granularity t.0 self.old.pool (Decide r.0) ≡ true }
-        ensures event { result ≡ event_in self.old.granularity t.0 self.old.pool (Decide r.0) }
-        ensures after { self.new ≡ happened t.0 (Decide r.0) self.old }
+        requires enabled { enabled_in self.old.granularity t.0 self.old.pool (Decide r) ≡ true }
+        ensures event { result ≡ event_in self.old.granularity t.0 self.old.pool (Decide r) }
+        ensures after { self.new ≡ seen_after t.0 (Decide r) self.old }
     {
-        let event = decide(&self.guests, &mut self.cores, &mut self.policy, r.0, t);
+        let event = decide(&self.guests, &mut self.cores, &mut self.policy, r, t);
         self.latest = t;
         self.settled = false;
         self.look();
@@ -528,13 +556,13 @@ impl<P: Policy> PoolState<P> {
     /// awake.
     pub fn leave(&mut self, p: ProcId, t: Moment) -> Event
         requires now { IsNow self.old t.0 }
-        requires enabled { enabled_in self.old.granularity t.0 self.old.pool (Leave p.0) ≡ true }
-        ensures event { result ≡ event_in self.old.granularity t.0 self.old.pool (Leave p.0) }
-        ensures after { self.new ≡ happened t.0 (Leave p.0) self.old }
+        requires enabled { enabled_in self.old.granularity t.0 self.old.pool (Leave p) ≡ true }
+        ensures event { result ≡ event_in self.old.granularity t.0 self.old.pool (Leave p) }
+        ensures after { self.new ≡ seen_after t.0 (Leave p) self.old }
     {
         let settled = self.is_settled(t);
         self.cores.keeps();
-        let v = leave(&mut self.guests, &mut self.cores, p.0, t);
+        let v = leave(&mut self.guests, &mut self.cores, p, t);
         self.latest = t;
         self.settled = settled;
         self.look();
@@ -544,12 +572,12 @@ impl<P: Policy> PoolState<P> {
     /// A core, none of whose processors waits any more, puts away the unit that it saves, which waits again where it is runnable.
     pub fn save(&mut self, r: ResId, t: Moment) -> Event
         requires now { IsNow self.old t.0 }
-        requires enabled { enabled_in self.old.granularity t.0 self.old.pool (Save r.0) ≡ true }
-        ensures event { result ≡ event_in self.old.granularity t.0 self.old.pool (Save r.0) }
-        ensures after { self.new ≡ happened t.0 (Save r.0) self.old }
+        requires enabled { enabled_in self.old.granularity t.0 self.old.pool (Save r) ≡ true }
+        ensures event { result ≡ event_in self.old.granularity t.0 self.old.pool (Save r) }
+        ensures after { self.new ≡ seen_after t.0 (Save r) self.old }
     {
         let settled = self.is_settled(t);
-        let event = save(&self.guests, &mut self.cores, &mut self.policy, r.0, t);
+        let event = save(&self.guests, &mut self.cores, &mut self.policy, r, t);
         let queued = is_queued(&event);
         self.latest = t;
         self.settled = settled & !queued;

@@ -2,24 +2,25 @@
 
 ghost use Rattle.std.specs.Prelude.{◌≡◌};
 ghost use Rattle.sched_model.specs.Places.{change_each};
-ghost use Rattle.sched_model.specs.Pool.{cores_from, reconsidered};
+ghost use Rattle.sched_model.specs.Pool.{cores_from, reconsidered_core};
 ghost use Rattle.sched_laws.specs.Each.{EachPlace};
 ghost use Rattle.sched_ops.specs.Conditions.{IsNow};
 ghost use Rattle.sched_ops.specs.Wanted.{MayAsk};
 ghost use Rattle.pool_core.specs.Settling.{pending_where};
 
 use core_state::CoreState;
-use sched_base::{Cores, Moment};
+use sched_base::{Cores, Moment, ResId};
 use sched_ops::Policy;
 
 /// Each core of the set is to decide anew.
 fn set_all_pending(cores: &mut CoreState, set: Cores)
-    ensures { cores.new ≡ record cores.old { resources = change_each 0 (pending_where set.0) cores.old.resources } }
+    ensures { cores.new ≡ record cores.old
+        { resources = change_each 0 (pending_where set.0) cores.old.resources } }
 {
     let mut rest = set.0;
     while rest != 0 {
         let r = rest.trailing_zeros();
-        cores.set_pending(r as u8);
+        cores.set_pending(ResId(r as u8));
         rest &= !(1 << r);
     }
 }
@@ -28,7 +29,10 @@ fn set_all_pending(cores: &mut CoreState, set: Cores)
 pub fn settle<P: Policy>(cores: &mut CoreState, policy: &P, t: Moment)
     requires now { IsNow (P.seen policy.now) t.0 }
     requires asks { EachPlace (MayAsk t.0 (P.seen policy.now).scheduler) cores.old.resources }
-    ensures { cores.new ≡ record cores.old { resources = change_each 0 (reconsidered t.0 (cores_from 0 cores.old.resources) (P.seen policy.now).scheduler) cores.old.resources } }
+    ensures { cores.new ≡ record cores.old {
+      resources = change_each 0 (reconsidered_core t.0 (cores_from 0 cores.old.resources)
+          (P.seen policy.now).scheduler) cores.old.resources;
+    } }
 {
     cores.keeps();
     let wanted = policy.wanted(cores.cores(), t, Cores(cores.home()));

@@ -24,7 +24,8 @@ fn set_unit<P: Policy>(policy: &mut P, u: UnitId, given: RtdsGiven, t: Moment)
     requires now { IsNow (P.seen policy.old) t.0 }
     requires member { is_member (P.seen policy.old).scheduler u ≡ true }
     requires given { AreGiven given.period given.budget }
-    ensures scheduler { (P.seen policy.new).scheduler ≡ unit_set t.0 given.period given.budget given.extra u (P.seen policy.old).scheduler }
+    ensures scheduler { (P.seen policy.new).scheduler
+        ≡ unit_set t.0 given.period given.budget given.extra u (P.seen policy.old).scheduler }
     ensures spare { (P.seen policy.new).spare ≡ (P.seen policy.old).spare }
     ensures latest { (P.seen policy.new).latest ≤ t.0 }
 {
@@ -57,7 +58,9 @@ pub fn set_units<P: Policy>(
     requires few { first + count ≤ 32 }
     requires units { first + count ≤ units_of (P.seen policy.old).scheduler d.0 }
     requires given { 0 < count → AreGiven given.period given.budget }
-    ensures scheduler { (P.seen policy.new).scheduler ≡ units_set t.0 d.0 given.period given.budget given.extra (numbers_from first count) (P.seen policy.old).scheduler }
+    ensures scheduler { (P.seen policy.new).scheduler
+        ≡ units_set t.0 d.0 given.period given.budget given.extra (numbers_from first count)
+        (P.seen policy.old).scheduler }
     ensures spare { (P.seen policy.new).spare ≡ (P.seen policy.old).spare }
     ensures latest { (P.seen policy.new).latest ≤ t.0 }
 {

@@ -14,14 +14,14 @@ ghost use Rattle.pool_core.specs.Waking.{done_started, idles_among, is_held_amon
 use crate::doing::unit_of;
 use core_state::CoreState;
 use plain_pool::cores::is_idle;
-use sched_base::{Moment, ResId, UnitId, VcpuId};
+use sched_base::{Moment, ProcId, ResId, UnitId, VcpuId};
 use sched_model::event::Event;
 use sched_ops::Policy;
 use unit_state::Guests;
 
 /// Whether the processor is there and idles.
-fn is_idle_at(cores: &CoreState, p: u8) -> bool
-    ensures { result ≡ idles_among cores.now.granularity cores.now.resources p }
+fn is_idle_at(cores: &CoreState, p: ProcId) -> bool
+    ensures { result ≡ idles_among cores.now.granularity cores.now.resources p.0 }
 {
     match cores.processor(p) {
         None => false,
@@ -35,25 +35,28 @@ fn join_siblings(guests: &mut Guests, cores: &mut CoreState, v: VcpuId, t: Momen
     requires same { cores.old.granularity ≡ guests.old.granularity }
     requires some { 0 < guests.old.granularity }
     requires awake { is_awake_among guests.old.domains v ≡ true }
-    ensures pool { (s : SchedulerSeen) → pool_of guests.new cores.new s ≡ joined_siblings guests.old.granularity t.0 v (pool_of guests.old cores.old s) }
-    ensures works { cores.new.works ≡ joined_works guests.old.granularity v (done_started t.0 v guests.old.domains) cores.old.resources cores.old.works }
+    ensures pool { (s : SchedulerSeen) → pool_of guests.new cores.new s
+        ≡ joined_siblings guests.old.granularity t.0 v (pool_of guests.old cores.old s) }
+    ensures works { cores.new.works ≡ joined_works guests.old.granularity v
+        (done_started t.0 v guests.old.domains) cores.old.resources cores.old.works }
     ensures rest { IsMoved t.0 guests.old guests.new cores.old cores.new }
 {
     cores.keeps();
     let g = guests.granularity();
     if let Some(r) = cores.core_with(unit_of(g, v)) {
         let p = r * g + v.n % g;
-        if is_idle_at(cores, p) {
+        if is_idle_at(cores, ProcId(p)) {
             guests.start(v, t);
             let work = guests.done_at(v);
-            cores.run(p, v, work);
+            cores.run(ProcId(p), v, work);
         }
     }
 }
 
 /// Whether the unit, where each runnable one waits or is on a core, does so.
 fn has_place(guests: &Guests, cores: &CoreState, u: UnitId) -> bool
-    ensures { result ≡ (runnable_among guests.now.granularity guests.now.domains u || is_held_among cores.now.resources u) }
+    ensures { result ≡ (runnable_among guests.now.granularity guests.now.domains u
+        || is_held_among cores.now.resources u) }
 {
     guests.runnable(u) || cores.has_unit(u)
 }
@@ -70,10 +73,15 @@ pub fn wake<P: Policy>(
     requires now { IsNow guests.old t.0 }
     requires same { cores.old.granularity ≡ guests.old.granularity }
     requires due { is_due_among t.0 guests.old.domains v ≡ true }
-    requires holds { Holds guests.old.granularity t.0 (pool_of guests.old cores.old (P.seen policy.old)) }
-    ensures pool { pool_of guests.new cores.new (P.seen policy.new) ≡ after_wake guests.old.granularity t.0 v (pool_of guests.old cores.old (P.seen policy.old)) }
-    ensures queued { result ≡ is_queued_by guests.old.granularity v (pool_of guests.old cores.old (P.seen policy.old)) }
-    ensures works { cores.new.works ≡ woken_works guests.old.granularity t.0 v (pool_of guests.old cores.old (P.seen policy.old)) cores.old.works }
+    requires holds { Holds guests.old.granularity t.0
+        (pool_of guests.old cores.old (P.seen policy.old)) }
+    ensures pool { pool_of guests.new cores.new (P.seen policy.new)
+        ≡ after_wake guests.old.granularity t.0 v
+        (pool_of guests.old cores.old (P.seen policy.old)) }
+    ensures queued { result ≡ is_queued_by guests.old.granularity v
+        (pool_of guests.old cores.old (P.seen policy.old)) }
+    ensures works { cores.new.works ≡ woken_works guests.old.granularity t.0 v
+        (pool_of guests.old cores.old (P.seen policy.old)) cores.old.works }
     ensures rest { IsMoved t.0 guests.old guests.new cores.old cores.new }
     ensures room { KeepsRoom (P.seen policy.old) (P.seen policy.new) }
 {
@@ -107,14 +115,19 @@ pub fn save<P: Policy>(
     guests: &Guests,
     cores: &mut CoreState,
     policy: &mut P,
-    r: u8,
+    r: ResId,
     t: Moment,
 ) -> Event
     requires same { cores.old.granularity ≡ guests.now.granularity }
-    requires enabled { enabled_in guests.now.granularity t.0 (pool_of guests.now cores.old (P.seen policy.old)) (Save r) ≡ true }
-    requires holds { Holds guests.now.granularity t.0 (pool_of guests.now cores.old (P.seen policy.old)) }
-    ensures event { result ≡ event_in guests.now.granularity t.0 (pool_of guests.now cores.old (P.seen policy.old)) (Save r) }
-    ensures pool { pool_of guests.now cores.new (P.seen policy.new) ≡ after_in guests.now.granularity t.0 (pool_of guests.now cores.old (P.seen policy.old)) (Save r) }
+    requires enabled { enabled_in guests.now.granularity t.0
+        (pool_of guests.now cores.old (P.seen policy.old)) (Save r) ≡ true }
+    requires holds { Holds guests.now.granularity t.0
+        (pool_of guests.now cores.old (P.seen policy.old)) }
+    ensures event { result ≡ event_in guests.now.granularity t.0
+        (pool_of guests.now cores.old (P.seen policy.old)) (Save r) }
+    ensures pool { pool_of guests.now cores.new (P.seen policy.new)
+        ≡ after_in guests.now.granularity t.0 (pool_of guests.now cores.old (P.seen policy.old))
+        (Save r) }
     ensures cores { cores.new ≡ record cores.old { resources = cores.new.resources } }
     ensures room { KeepsRoom (P.seen policy.old) (P.seen policy.new) }
 {
@@ -125,9 +138,5 @@ pub fn save<P: Policy>(
     if queued {
         policy.enqueue(u);
     }
-    Event::Save {
-        r: ResId(r),
-        u,
-        queued,
-    }
+    Event::Save { r, u, queued }
 }

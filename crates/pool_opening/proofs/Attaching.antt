@@ -6,7 +6,7 @@ use Rattle.sched_base.specs.Numbers.{moment}
 use Rattle.sched_model.specs.declared.state.Resource.{Resource}
 use Rattle.sched_model.specs.Opening.{fresh_core}
 use Rattle.sched_model.specs.Places.{at_place, numbers_from}
-use Rattle.sched_model.specs.Pool.{settled}
+use Rattle.sched_model.specs.Pool.{settled_pool}
 use Rattle.sched_model.specs.State.{has_core}
 use Rattle.sched_laws.proofs.EachPlace.{EachPlace-empty, EachPlace-put_at}
 use Rattle.sched_laws.proofs.Opened.{length_map_numbers}
@@ -17,13 +17,9 @@ use Rattle.pool_core.specs.Seen.{Seen, seen_at, with_core}
 use Rattle.pool_opening.specs.Opened.{IsPending, IsStill, with_cores}
 use Rattle.pool_opening.proofs.Steady.{stays}
 
--- one more of the same
-pub one_more : {X : Type 0} (n : ℕ) (x : X) → replicate n x ++ x ∷ [] ≡ replicate (n + 1) x
-one_more n x = replicate-append-replicate n 1 x
-
 -- a core that is in the set came in
 pub core_came : (cores g r : ℕ) (seen : Seen) → IsStill seen → has_core cores r ≡ true
-    → seen_at 0 (settled 0 (with_core r (replicate g (moment 0)) seen.pool)) seen ≡ with_cores (slice_set seen.pool.resources r (opening_core g cores r)) seen
+    → seen_at 0 (settled_pool 0 (with_core r (replicate g (moment 0)) seen.pool)) seen ≡ with_cores (slice_set seen.pool.resources r (opening_core g cores r)) seen
 core_came cores g r seen still is =
     stays (with_core r (replicate g (moment 0)) seen.pool) seen still.early (EachPlace-put_at IsPending r (fresh_core (replicate g (moment 0))) seen.pool.resources still.pending refl)
     ∙ ap (λ (b : Bool). with_cores (slice_set seen.pool.resources r (cond b (Some (fresh_core (replicate g (moment 0)))) None)) seen) (sym is)
@@ -108,17 +104,3 @@ module _ (g cores r count : ℕ) (before now : Seen) (is : now ≡ with_cores (p
       ap (λ (s : Seen). with_cores (slice_set s.pool.resources r (opening_core g cores r)) s) is
       ∙ ap (λ (k : ℕ). with_cores (slice_set (places_to (opening_core g cores) r k) r (opening_core g cores r)) before) left
       ∙ ap (λ (list : List (Option Resource)). with_cores list before) (next_made (opening_core g cores) r (count - (r + 1)))
-
--- none has come
-pub none_came : (g cores count : ℕ) (seen : Seen) → seen.pool.resources ≡ replicate count None → seen ≡ with_cores (places_to (opening_core g cores) 0 (count - 0)) seen
-none_came g cores count seen none =
-    let same : count ≡ count - 0 = omega arith in
-    ap (λ (list : List (Option Resource)). with_cores list seen) none ∙ ap (λ (k : ℕ). with_cores (places_to (opening_core g cores) 0 k) seen) same
-
--- all came
-pub all_came : (g cores r count : ℕ) (seen : Seen) → r ≡ count → with_cores (places_to (opening_core g cores) r (count - r)) seen ≡ with_cores (map (opening_core g cores) (numbers_from 0 count)) seen
-all_came g cores r count seen is =
-    let over : count - r ≡ 0 = omega (arith, is) in
-    ap (λ (k : ℕ). with_cores (places_to (opening_core g cores) r k) seen) over
-    ∙ ap (λ (list : List (Option Resource)). with_cores list seen) (append-nil (map (opening_core g cores) (numbers_from 0 r)))
-    ∙ ap (λ (k : ℕ). with_cores (map (opening_core g cores) (numbers_from 0 k)) seen) is

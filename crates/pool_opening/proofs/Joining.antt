@@ -15,7 +15,7 @@ use Rattle.sched_model.specs.Actions.{units_from}
 use Rattle.sched_model.specs.Checked.{IsCheckedConfig, IsCheckedDomain, IsGranularity}
 use Rattle.sched_model.specs.Opening.{fresh_vcpu, with_configured, with_domains, with_pins}
 use Rattle.sched_model.specs.Places.{numbers_from, put_at}
-use Rattle.sched_model.specs.Pool.{set_params, settled, unit_count, with_domain}
+use Rattle.sched_model.specs.Pool.{set_params, settled_pool, unit_count, with_domain}
 use Rattle.sched_laws.proofs.EachPlace.{at_place-put_at_other, length_set}
 use Rattle.sched_laws.proofs.Opened.{length_map_numbers, with_configured-resources, with_domain-domains, with_domain-resources}
 use Rattle.sched_ops.specs.Conditions.{has_joined}
@@ -24,7 +24,7 @@ use Rattle.unit_state.specs.Kept.{units_in}
 use Rattle.unit_state.specs.Parts.{IsPart}
 use Rattle.unit_state.proofs.PlaceLemmas.{units_in-put_at}
 use Rattle.pool_core.specs.Seen.{Seen, seen_at, with_spare}
-use Rattle.pool_opening.specs.Opened.{IsOpening, IsStill, configured, configured_if, fresh_domain, joined, unit_total, units_at_home, units_if_home, units_in_all, with_all, with_pool}
+use Rattle.pool_opening.specs.Opened.{IsOpening, IsStill, configured_pool, configured_if, fresh_domain, after_joining, unit_total, units_at_home, units_if_home, units_in_all, with_all, with_pool}
 use Rattle.pool_opening.proofs.Guests.{fresh_guests, fresh_still}
 use Rattle.pool_opening.proofs.Pinning.{domains_pinned, has_come_in, kind_joined, kind_pinned, sets_joined, sets_pinned, units_come_in}
 use Rattle.pool_opening.proofs.Steady.{stays}
@@ -53,7 +53,7 @@ module _ (config : Config) (home : PoolConfig) (d : ℕ) (joining : DomConfig) (
   abbrev before_pins : Pool
   before_pins = with_domain config.granularity 0 d (fresh_domain joining) joining.params seen.pool
 
-  pub still_joined_in : IsStill (joined config.granularity d joining seen)
+  pub still_joined_in : IsStill (after_joining config.granularity d joining seen)
   still_joined_in = record {
     used = opening.still.used;
     early = opening.still.early;
@@ -64,7 +64,7 @@ module _ (config : Config) (home : PoolConfig) (d : ℕ) (joining : DomConfig) (
   domains_after = domains_pinned d 0 joining.pins before_pins ∙ with_domain-domains config.granularity 0 d (fresh_domain joining) joining.params seen.pool
 
   -- the next domain may come
-  pub goes_on : d < length config.domains → unit_total config.granularity joining ≤ seen.spare → IsOpening config home (d + 1) (configured config.granularity d joining seen)
+  pub goes_on : d < length config.domains → unit_total config.granularity joining ≤ seen.spare → IsOpening config home (d + 1) (configured_pool config.granularity d joining seen)
   goes_on inside room = record {
     still = record { used = opening.still.used; early = opening.still.early; pending = rw (with_configured-resources config.granularity d joining seen.pool) opening.still.pending };
     granularity = opening.granularity;
@@ -101,7 +101,7 @@ first_and_rest g i d joining rest seen = ap (λ (k : ℕ). with_all g i k rest (
     next : d + 1 ≡ suc d
     next = omega arith
 
-    by_home : (b : Bool) → with_all g i (suc d) rest (cond b (configured g d joining seen) seen)
+    by_home : (b : Bool) → with_all g i (suc d) rest (cond b (configured_pool g d joining seen) seen)
         ≡ record seen { pool = with_domains g i (suc d) rest (cond b (with_configured g d joining seen.pool) seen.pool); spare = seen.spare - (cond b (unit_total g joining) 0 + units_at_home g i rest) }
     by_home true =
         let left : seen.spare - unit_total g joining - units_at_home g i rest ≡ seen.spare - (unit_total g joining + units_at_home g i rest) = omega arith in
@@ -114,7 +114,7 @@ first_and_rest g i d joining rest seen = ap (λ (k : ℕ). with_all g i k rest (
 left_room : (g i d : ℕ) (joining : DomConfig) (rest : List DomConfig) (seen : Seen) → units_at_home g i (joining ∷ rest) ≤ seen.spare → units_at_home g i rest ≤ (configured_if g i d joining seen).spare
 left_room g i d joining rest seen = by_home (joining.home.0 == i)
   where
-    by_home : (b : Bool) → cond b (unit_total g joining) 0 + units_at_home g i rest ≤ seen.spare → units_at_home g i rest ≤ (cond b (configured g d joining seen) seen).spare
+    by_home : (b : Bool) → cond b (unit_total g joining) 0 + units_at_home g i rest ≤ seen.spare → units_at_home g i rest ≤ (cond b (configured_pool g d joining seen) seen).spare
     by_home true room = omega (arith, room)
     by_home false room = omega (arith, room)
 
@@ -145,18 +145,18 @@ part_fits config d joining vcpus same inside checked domain_checked =
 -- it came in
 pub given : (config : Config) (home : PoolConfig) (d : ℕ) (joining : DomConfig) (seen : Seen) (vcpus : List Vcpu) → IsOpening config home d seen → vcpus ≡ map fresh_vcpu joining.guests
     → let fresh : Domain = record { paused = false; moving = None; vcpus = vcpus } in
-    with_spare (seen.spare - unit_count config.granularity fresh) (seen_at 0 (settled 0 (with_domain seen.granularity 0 d fresh joining.params seen.pool)) seen) ≡ joined config.granularity d joining seen
+    with_spare (seen.spare - unit_count config.granularity fresh) (seen_at 0 (settled_pool 0 (with_domain seen.granularity 0 d fresh joining.params seen.pool)) seen) ≡ after_joining config.granularity d joining seen
 given config home d joining seen vcpus opening same =
     let g : ℕ = config.granularity in
     let next : Pool = with_domain g 0 d (fresh_domain joining) joining.params seen.pool in
-    let told : ℕ → Domain → Seen = λ k fresh. with_spare (seen.spare - unit_count g fresh) (seen_at 0 (settled 0 (with_domain k 0 d fresh joining.params seen.pool)) seen) in
+    let told : ℕ → Domain → Seen = λ k fresh. with_spare (seen.spare - unit_count g fresh) (seen_at 0 (settled_pool 0 (with_domain k 0 d fresh joining.params seen.pool)) seen) in
     ap (λ (list : List Vcpu). told seen.granularity (record { paused = false; moving = None; vcpus = list })) same
     ∙ ap (λ (k : ℕ). told k (fresh_domain joining)) opening.granularity
     ∙ ap (λ (s : Seen). with_spare (seen.spare - unit_count g (fresh_domain joining)) s) (stays next seen opening.still.early (rw (with_domain-resources g 0 d (fresh_domain joining) joining.params seen.pool) opening.still.pending))
     ∙ ap (λ (k : ℕ). with_spare (seen.spare - k) (with_pool next seen)) (count_fresh g joining)
 
 -- a unit got its set of cores
-pub pinned_still : (d n : ℕ) (cores : Cores) (seen : Seen) → IsStill seen → seen_at 0 (settled 0 (set_params (changes.Pin (domain d) (Some n) cores) 0 seen.pool)) seen ≡ with_pool (with_pins d n (cores ∷ []) seen.pool) seen
+pub pinned_still : (d n : ℕ) (cores : Cores) (seen : Seen) → IsStill seen → seen_at 0 (settled_pool 0 (set_params (changes.Pin (domain d) (Some n) cores) 0 seen.pool)) seen ≡ with_pool (with_pins d n (cores ∷ []) seen.pool) seen
 pinned_still d n cores seen still = stays (set_params (changes.Pin (domain d) (Some n) cores) 0 seen.pool) seen still.early still.pending
 
 -- a domain has at most 32 units
@@ -171,10 +171,10 @@ module _ (config : Config) (home : PoolConfig) (d : ℕ) (joining : DomConfig) (
   set_place = let all = opening.sets in omega (arith, all, inside)
 
   -- the domain that came in may have its sets of cores
-  pub joined_came : has_joined (joined config.granularity d joining seen).pool.scheduler d ≡ true
+  pub joined_came : has_joined (after_joining config.granularity d joining seen).pool.scheduler d ≡ true
   joined_came = has_come_in config.granularity d (fresh_domain joining) joining.params seen.pool set_place
 
-  pub units_came : units_of (joined config.granularity d joining seen).pool.scheduler d ≡ unit_total config.granularity joining
+  pub units_came : units_of (after_joining config.granularity d joining seen).pool.scheduler d ≡ unit_total config.granularity joining
   units_came = units_come_in config.granularity d (fresh_domain joining) joining.params seen.pool set_place ∙ count_fresh config.granularity joining
 
 first_left : {X : Type 0} (i : ℕ) (xs : List X) (x : X) → slice_get xs i ≡ Some x → drop i xs ≡ x ∷ drop (suc i) xs

@@ -15,12 +15,14 @@ use Rattle.sched_model.specs.declared.state.Records.TheVariants.{Credit2Pool, Rt
 use Rattle.sched_model.specs.declared.state.Scheduler.{Scheduler}
 use Rattle.sched_model.specs.Opening.{with_pins}
 use Rattle.sched_model.specs.Places.{at_place, change_at, change_item, numbers_from}
-use Rattle.sched_model.specs.Policy.{all_cores, changed_records, join, joined_records, kind_of, pinned}
+use Rattle.sched_model.specs.Policy.{all_cores, changed_records, join, joined_records, kind_of, pinned_cores}
 use Rattle.sched_model.specs.Pool.{is_off, queue_if_off, queue_units, set_params, unit_count, with_domain}
 use Rattle.sched_model.specs.State.{is_runnable}
-use Rattle.sched_laws.proofs.EachPlace.{at_place-put_at, by_cond, length_set}
+use Rattle.sched_laws.proofs.EachPlace.{at_place-put_at, by_cond, length_set, at_place-change_at}
 use Rattle.sched_ops.specs.Conditions.{has_joined}
 use Rattle.sched_ops.specs.Seen.{units_of}
+use Rattle.sched_laws.proofs.Lists.{length_change_item}
+use Rattle.sched_laws.proofs.Records.{same_joined}
 
 -- the schedulers have the same sets of cores, and records of the same kind
 record IsLike (a b : Scheduler) : Type 0 where
@@ -36,25 +38,13 @@ queued_like g d (n ∷ ns) pool =
     let rest = queued_like g d ns (queue_if_off g u pool) in
     record { sets = rest.sets ∙ first.sets; kind = rest.kind ∙ first.kind }
 
-joined_kind : (records : Records) (params : DomParams) (d count t : ℕ) → kind_of (joined_records records params d count t) ≡ kind_of records
-joined_kind (Credit2Pool records) (dom_params.Credit2 weight cap) d count t = refl
-joined_kind (Credit2Pool records) (dom_params.Rtds period budget extra) d count t = refl
-joined_kind (Credit2Pool records) dom_params.Arinc653 d count t = refl
-joined_kind (Credit2Pool records) dom_params.Null d count t = refl
-joined_kind (RtdsPool domains) (dom_params.Credit2 weight cap) d count t = refl
-joined_kind (RtdsPool domains) (dom_params.Rtds period budget extra) d count t = refl
-joined_kind (RtdsPool domains) dom_params.Arinc653 d count t = refl
-joined_kind (RtdsPool domains) dom_params.Null d count t = refl
-joined_kind (ArincPool records) params d count t = refl
-joined_kind (NullPool kept) params d count t = refl
-
 module _ (g d : ℕ) (x : Domain) (params : DomParams) (pool : Pool) where
   came : IsLike (with_domain g 0 d x params pool).scheduler (join d (unit_count g x) params 0 pool.scheduler)
   came = queued_like g d (numbers_from 0 (unit_count g x)) _
 
   -- the scheduler stays of its kind, with as many places
   pub kind_joined : kind_of (with_domain g 0 d x params pool).scheduler.records ≡ kind_of pool.scheduler.records
-  kind_joined = came.kind ∙ joined_kind pool.scheduler.records params d (unit_count g x) 0
+  kind_joined = came.kind ∙ same_joined kind_of (λ a b. refl) (λ a b. refl) pool.scheduler.records params d (unit_count g x) 0
 
   pub sets_joined : length (with_domain g 0 d x params pool).scheduler.affinity ≡ length pool.scheduler.affinity
   sets_joined = ap (λ (sets : List (Option (List Cores))). length sets) came.sets ∙ length_set d (Some (replicate (unit_count g x) all_cores)) pool.scheduler.affinity
@@ -72,41 +62,29 @@ module _ (g d : ℕ) (x : Domain) (params : DomParams) (pool : Pool) where
 -- a set of cores leaves the records as they are
 kept_records : (records : Records) (d n : ℕ) (cores : Cores) → changed_records records (changes.Pin (domain d) (Some n) cores) 0 ≡ records
 kept_records (Credit2Pool records) d n cores = refl
-kept_records (RtdsPool domains) d n cores = refl
-kept_records (ArincPool records) d n cores = refl
-kept_records (NullPool kept) d n cores = refl
-
-same_count : {X : Type 0} (n : ℕ) (f : X → X) (xs : List X) → length (change_item n f xs) ≡ length xs
-same_count n f [] = refl
-same_count zero f (x ∷ xs) = refl
-same_count (suc n) f (x ∷ xs) = ap suc (same_count n f xs)
-
-change_there : {X : Type 0} (d : ℕ) (f : X → X) (places : List (Option X)) → at_place (change_at d f places) d ≡ option_map f (at_place places d)
-change_there d f [] = refl
-change_there zero f (x ∷ places) = refl
-change_there (suc d) f (x ∷ places) = change_there d f places
+kept_records a d n cores = refl
 
 module _ (d n : ℕ) (cores : Cores) (pool : Pool) where
   abbrev pin_set : Pool
   pin_set = set_params (changes.Pin (domain d) (Some n) cores) 0 pool
 
-  there : at_place pin_set.scheduler.affinity d ≡ option_map (pinned (Some n) cores) (at_place pool.scheduler.affinity d)
-  there = change_there d (pinned (Some n) cores) pool.scheduler.affinity
+  there : at_place pin_set.scheduler.affinity d ≡ option_map (pinned_cores (Some n) cores) (at_place pool.scheduler.affinity d)
+  there = at_place-change_at d (pinned_cores (Some n) cores) pool.scheduler.affinity
 
   -- the domain has as many units as before
   pub still_joined : has_joined pin_set.scheduler d ≡ has_joined pool.scheduler d
   still_joined = rw there (by_sets (at_place pool.scheduler.affinity d))
     where
-      by_sets : (o : Option (List Cores)) → is_some (option_map (pinned (Some n) cores) o) ≡ is_some o
+      by_sets : (o : Option (List Cores)) → is_some (option_map (pinned_cores (Some n) cores) o) ≡ is_some o
       by_sets None = refl
       by_sets (Some sets) = refl
 
   pub still_units : units_of pin_set.scheduler d ≡ units_of pool.scheduler d
   still_units = rw (units_of, there) (by_sets (at_place pool.scheduler.affinity d))
     where
-      by_sets : (o : Option (List Cores)) → elim (option_map (pinned (Some n) cores) o) as (λ _. ℕ) [ None ↦ 0 | Some sets ↦ length sets ] ≡ elim o as (λ _. ℕ) [ None ↦ 0 | Some sets ↦ length sets ]
+      by_sets : (o : Option (List Cores)) → elim (option_map (pinned_cores (Some n) cores) o) as (λ _. ℕ) [ None ↦ 0 | Some sets ↦ length sets ] ≡ elim o as (λ _. ℕ) [ None ↦ 0 | Some sets ↦ length sets ]
       by_sets None = refl
-      by_sets (Some sets) = same_count n (λ old. cores) sets
+      by_sets (Some sets) = length_change_item n (λ old. cores) sets
 
 -- the same after all sets of cores of a domain
 pub kind_pinned : (d n : ℕ) (pins : List Cores) (pool : Pool) → kind_of (with_pins d n pins pool).scheduler.records ≡ kind_of pool.scheduler.records
@@ -115,7 +93,7 @@ kind_pinned d n (cores ∷ pins) pool = kind_pinned d (suc n) pins (pin_set d n 
 
 pub sets_pinned : (d n : ℕ) (pins : List Cores) (pool : Pool) → length (with_pins d n pins pool).scheduler.affinity ≡ length pool.scheduler.affinity
 sets_pinned d n [] pool = refl
-sets_pinned d n (cores ∷ pins) pool = sets_pinned d (suc n) pins (pin_set d n cores pool) ∙ length_set d (option_map (pinned (Some n) cores) (at_place pool.scheduler.affinity d)) pool.scheduler.affinity
+sets_pinned d n (cores ∷ pins) pool = sets_pinned d (suc n) pins (pin_set d n cores pool) ∙ length_set d (option_map (pinned_cores (Some n) cores) (at_place pool.scheduler.affinity d)) pool.scheduler.affinity
 
 pub domains_pinned : (d n : ℕ) (pins : List Cores) (pool : Pool) → (with_pins d n pins pool).domains ≡ pool.domains
 domains_pinned d n [] pool = refl

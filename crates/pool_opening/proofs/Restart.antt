@@ -19,19 +19,17 @@ use Rattle.sched_model.specs.Places.{at_place, numbers_from}
 use Rattle.sched_laws.specs.Each.{EachPlace}
 use Rattle.sched_laws.proofs.EachPlace.{EachPlace-empty, is_empty}
 use Rattle.sched_ops.specs.Conditions.{ArePoolParams}
-use Rattle.sched_ops.specs.Seen.{restarted, vacant}
+use Rattle.sched_ops.specs.Seen.{restarted_scheduler, vacant_scheduler}
 use Rattle.plain_opening.specs.Opened.{opening_core}
 use Rattle.unit_state.specs.Kept.{units_in}
-use Rattle.pool_core.specs.Seen.{Seen, vacant as vacant_pool}
+use Rattle.pool_core.specs.Seen.{Seen, vacant_pool as vacant_pool}
 use Rattle.pool_opening.specs.Opened.{IsOpening, IsPending, kinds_of, most_units, opening_seen, with_cores}
 use Rattle.pool_opening.proofs.Attaching.{all_pending}
 
 -- a scheduler is of the kind whose parameters it has
 pub kind_default : (kind : SchedKind) (domains cores : ℕ) → kind_of (fresh_records (default_pool_params kind) domains cores) ≡ kind
 kind_default kinds.Credit2 domains cores = refl
-kind_default kinds.Rtds domains cores = refl
-kind_default kinds.Arinc653 domains cores = refl
-kind_default kinds.Null domains cores = refl
+kind_default a domains cores = refl
 
 pub kind_given : (kind : SchedKind) (params : PoolParams) (domains cores : ℕ) → ArePoolParams kind params → kind_of (fresh_records params domains cores) ≡ kind
 kind_given kinds.Credit2 (pool_params.Credit2 limit) domains cores fits = refl
@@ -53,13 +51,13 @@ kind_given kinds.Null (pool_params.Arinc653 frame) domains cores fits = elim fit
 
 -- a scheduler without domains that begins anew is one with the new parameters and the same places
 pub restart : (kind : SchedKind) (params : PoolParams) (domains cores : ℕ) → ArePoolParams kind params
-    → restarted params (vacant (default_pool_params kind) domains cores) ≡ vacant params domains cores
-restart kinds.Credit2 (pool_params.Credit2 limit) domains cores fits = ap (λ (n : ℕ). vacant (pool_params.Credit2 limit) n 0) (length-replicate domains _)
-restart kinds.Rtds pool_params.Rtds domains cores fits = ap (λ (n : ℕ). vacant pool_params.Rtds n 0) (length-replicate domains _)
-restart kinds.Arinc653 (pool_params.Arinc653 frame) domains cores fits = ap (λ (n : ℕ). vacant (pool_params.Arinc653 frame) n 0) (length-replicate domains _)
+    → restarted_scheduler params (vacant_scheduler (default_pool_params kind) domains cores) ≡ vacant_scheduler params domains cores
+restart kinds.Credit2 (pool_params.Credit2 limit) domains cores fits = ap (λ (n : ℕ). vacant_scheduler (pool_params.Credit2 limit) n 0) (length-replicate domains _)
+restart kinds.Rtds pool_params.Rtds domains cores fits = ap (λ (n : ℕ). vacant_scheduler pool_params.Rtds n 0) (length-replicate domains _)
+restart kinds.Arinc653 (pool_params.Arinc653 frame) domains cores fits = ap (λ (n : ℕ). vacant_scheduler (pool_params.Arinc653 frame) n 0) (length-replicate domains _)
 restart kinds.Null pool_params.Null domains cores fits =
     let none : Option UnitId = None in
-    ap (λ (n : ℕ). vacant pool_params.Null n (length (replicate cores none))) (length-replicate domains _) ∙ ap (λ (n : ℕ). vacant pool_params.Null domains n) (length-replicate cores _)
+    ap (λ (n : ℕ). vacant_scheduler pool_params.Null n (length (replicate cores none))) (length-replicate domains _) ∙ ap (λ (n : ℕ). vacant_scheduler pool_params.Null domains n) (length-replicate cores _)
 restart kinds.Credit2 pool_params.Rtds domains cores fits = elim fits [ ]
 restart kinds.Credit2 (pool_params.Arinc653 frame) domains cores fits = elim fits [ ]
 restart kinds.Credit2 pool_params.Null domains cores fits = elim fits [ ]
@@ -87,17 +85,17 @@ begun config home =
 -- the calls that make it
 pub begins : (config : Config) (home : PoolConfig) (kind : SchedKind) (domains cores : ℕ) (room next now : Seen) → kind ≡ home.kind → ArePoolParams home.kind home.params → domains ≡ length config.domains
     → cores ≡ core_count config → room ≡ vacant_pool (default_pool_params kind) config.granularity domains cores most_units
-    → next ≡ record room { pool = record room.pool { scheduler = restarted home.params room.pool.scheduler }; in_use = true }
+    → next ≡ record room { pool = record room.pool { scheduler = restarted_scheduler home.params room.pool.scheduler }; in_use = true }
     → now ≡ with_cores (map (opening_core config.granularity home.cores) (numbers_from 0 cores)) next → now ≡ begun config home
 begins config home kind domains cores room next now same fits of_domains of_cores is_room is_next is_now =
     let g : ℕ = config.granularity in
     let made : ℕ → Seen → Seen = λ count s. with_cores (map (opening_core g home.cores) (numbers_from 0 count)) s in
     let with_scheduler : ℕ → ℕ → Scheduler → Seen = λ n count s. made count (record (vacant_pool (default_pool_params kind) g n count most_units) { pool = record (vacant_pool (default_pool_params kind) g n count most_units).pool { scheduler = s }; in_use = true }) in
     let passes : ArePoolParams kind home.params = rw same fits in
-    is_now ∙ ap (made cores) is_next ∙ ap (λ (s : Seen). made cores (record s { pool = record s.pool { scheduler = restarted home.params s.pool.scheduler }; in_use = true })) is_room
+    is_now ∙ ap (made cores) is_next ∙ ap (λ (s : Seen). made cores (record s { pool = record s.pool { scheduler = restarted_scheduler home.params s.pool.scheduler }; in_use = true })) is_room
     ∙ ap (with_scheduler domains cores) (restart kind home.params domains cores passes)
-    ∙ ap (λ (n : ℕ). with_scheduler n cores (vacant home.params n cores)) of_domains
-    ∙ ap (λ (count : ℕ). with_scheduler (length config.domains) count (vacant home.params (length config.domains) count)) of_cores
+    ∙ ap (λ (n : ℕ). with_scheduler n cores (vacant_scheduler home.params n cores)) of_domains
+    ∙ ap (λ (count : ℕ). with_scheduler (length config.domains) count (vacant_scheduler home.params (length config.domains) count)) of_cores
 
 -- empty places have no units
 no_units : (g n : ℕ) → units_in g (replicate n None) ≡ 0
@@ -131,18 +129,3 @@ pub stands_at : (config : Config) (i : ℕ) (home : PoolConfig) (work : Work) (s
 stands_at config i home work seen at is =
     let number : 0 + i ≡ i = omega arith in
     opening_at config 0 i config.pools _ home at ∙ ap (λ (n : ℕ). Some (opening_pool config n home)) number ∙ ap (λ (s : Seen). Some s.pool) (sym is)
-
--- the scheduler of the pool i is the one that the file names
-pub kind_at : (i : ℕ) (pools : List PoolConfig) → slice_get (map (λ (pool : PoolConfig). pool.kind) pools) i ≡ option_map (λ (pool : PoolConfig). pool.kind) (slice_get pools i)
-kind_at i [] = refl
-kind_at zero (pool ∷ pools) = refl
-kind_at (suc i) (pool ∷ pools) = kind_at i pools
-
--- the only pool stands alone
-pub stands_alone : (config : Config) (kind : SchedKind) (pool : Pool) → kinds_of config ≡ kind ∷ [] → ((work : Work) → at_place (opening (record { config = config; work = work })).pools 0 ≡ Some pool) → opening_pools config 0 config.pools ≡ Some pool ∷ []
-stands_alone config kind pool one at = by_pools config.pools one (at (record { stalls = []; commands = [] }))
-  where
-    by_pools : (pools : List PoolConfig) → map (λ (p : PoolConfig). p.kind) pools ≡ kind ∷ [] → at_place (opening_pools config 0 pools ++ replicate (most_pools - length config.pools) None) 0 ≡ Some pool → opening_pools config 0 pools ≡ Some pool ∷ []
-    by_pools [] e is = absurd (cc)
-    by_pools (first ∷ []) e is = ap (λ (o : Option Pool). o ∷ []) is
-    by_pools (first ∷ second ∷ pools) e is = absurd (cc)

@@ -51,14 +51,14 @@ fresh_domain joining = record { paused = false; moving = None; vcpus = map fresh
 
 -- the pool with the domain d, whose units may run on all cores; with the sets of cores of its units; with these where its home is the pool i;
 -- with the domains from d on whose home that is
-abbrev pub joined : ℕ → ℕ → DomConfig → Seen → Seen
-joined g d joining seen = record seen { pool = with_domain g 0 d (fresh_domain joining) joining.params seen.pool; spare = seen.spare - unit_total g joining }
+abbrev pub after_joining : ℕ → ℕ → DomConfig → Seen → Seen
+after_joining g d joining seen = record seen { pool = with_domain g 0 d (fresh_domain joining) joining.params seen.pool; spare = seen.spare - unit_total g joining }
 
-abbrev pub configured : ℕ → ℕ → DomConfig → Seen → Seen
-configured g d joining seen = record seen { pool = with_configured g d joining seen.pool; spare = seen.spare - unit_total g joining }
+abbrev pub configured_pool : ℕ → ℕ → DomConfig → Seen → Seen
+configured_pool g d joining seen = record seen { pool = with_configured g d joining seen.pool; spare = seen.spare - unit_total g joining }
 
 abbrev pub configured_if : ℕ → ℕ → ℕ → DomConfig → Seen → Seen
-configured_if g i d joining seen = (if joining.home.0 == i then configured g d joining seen else seen)
+configured_if g i d joining seen = (if joining.home.0 == i then configured_pool g d joining seen else seen)
 
 abbrev pub with_all : ℕ → ℕ → ℕ → List DomConfig → Seen → Seen
 with_all g i d domains seen = record seen { pool = with_domains g i d domains seen.pool; spare = seen.spare - units_at_home g i domains }

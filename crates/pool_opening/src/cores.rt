@@ -13,18 +13,19 @@ use sched_ops::Policy;
 
 /// The core r comes in, where it is in the set.
 #[tactic(auto, using(crate::proofs::Attaching::core_came, crate::proofs::Attaching::no_core_came))]
-fn attach<P: Policy>(cores: u64, g: u8, r: u8, pool: &mut PoolState<P>)
+fn attach<P: Policy>(cores: u64, g: u8, r: ResId, pool: &mut PoolState<P>)
     requires few { g ≤ 4 }
-    requires core { r < 64 }
+    requires core { r.0 < 64 }
     requires granularity { pool.old.granularity ≡ g }
     requires still { IsStill pool.old }
-    requires place { r < length pool.old.pool.resources }
-    requires absent { at_place pool.old.pool.resources r ≡ None }
-    ensures { pool.new ≡ with_cores (slice_set pool.old.pool.resources r (opening_core g cores r)) pool.old }
+    requires place { r.0 < length pool.old.pool.resources }
+    requires absent { at_place pool.old.pool.resources r.0 ≡ None }
+    ensures { pool.new ≡ with_cores (slice_set pool.old.pool.resources r.0
+        (opening_core g cores r.0)) pool.old }
 {
     if has_core(cores, r) {
         let core = ResPart {
-            r: ResId(r),
+            r,
             stall_ends: no_stalls(g),
         };
         pool.attach(&core, Moment(0));
@@ -42,6 +43,6 @@ pub fn attach_all<P: Policy>(cores: u64, g: u8, count: u8, pool: &mut PoolState<
     ensures { pool.new ≡ with_cores (map (opening_core g cores) (numbers_from 0 count)) pool.old }
 {
     for r in 0..count {
-        attach(cores, g, r, pool);
+        attach(cores, g, ResId(r), pool);
     }
 }

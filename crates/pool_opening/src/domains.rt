@@ -5,7 +5,7 @@ ghost use Rattle.sched_model.specs.Checked.{IsCheckedConfig, IsCheckedDomain};
 ghost use Rattle.sched_model.specs.Opening.{with_pins};
 ghost use Rattle.sched_ops.specs.Conditions.{has_joined};
 ghost use Rattle.sched_ops.specs.Seen.{units_of};
-ghost use Rattle.pool_opening.specs.Opened.{IsOpening, IsStill, configured, configured_if, joined, unit_total, units_at_home, units_if_home, with_all, with_pool};
+ghost use Rattle.pool_opening.specs.Opened.{IsOpening, IsStill, configured_pool, configured_if, after_joining, unit_total, units_at_home, units_if_home, with_all, with_pool};
 
 use plain_opening::rows::fresh_vcpus;
 use pool_core::pool::PoolState;
@@ -21,20 +21,22 @@ fn give<P: Policy>(
     alloc: Global,
     config: &Config,
     home: &PoolConfig,
-    d: u8,
+    d: DomId,
     joining: &DomConfig,
     pool: &mut PoolState<P>,
 ) -> Result<(), NoMemory>
     requires checked { IsCheckedConfig config.now }
     requires home { slice_get config.now.pools joining.now.home.0 ≡ Some home.now }
     requires domain { IsCheckedDomain config.now joining.now }
-    requires place { d < length config.now.domains }
-    requires opening { IsOpening config.now home.now d pool.old }
+    requires place { d.0 < length config.now.domains }
+    requires opening { IsOpening config.now home.now d.0 pool.old }
     requires room { unit_total config.now.granularity joining.now ≤ pool.old.spare }
-    ensures after { OnOk result (pool.new ≡ joined config.now.granularity d joining.now pool.old) }
+    ensures after { OnOk result (pool.new
+        ≡ after_joining config.now.granularity d.0 joining.now pool.old) }
     ensures still { OnOk result (IsStill pool.new) }
-    ensures joined { OnOk result (has_joined pool.new.pool.scheduler d ≡ true) }
-    ensures units { OnOk result (units_of pool.new.pool.scheduler d ≡ unit_total config.now.granularity joining.now) }
+    ensures joined { OnOk result (has_joined pool.new.pool.scheduler d.0 ≡ true) }
+    ensures units { OnOk result (units_of pool.new.pool.scheduler d.0
+        ≡ unit_total config.now.granularity joining.now) }
 {
     let domain = Domain {
         paused: false,
@@ -42,7 +44,7 @@ fn give<P: Policy>(
         vcpus: fresh_vcpus(alloc, joining.guests.as_slice())?,
     };
     let part = DomPart {
-        d: DomId(d),
+        d,
         granularity: config.granularity,
         domain,
     };
@@ -51,17 +53,17 @@ fn give<P: Policy>(
 }
 
 /// The unit n of the domain may run on these cores alone.
-fn pin<P: Policy>(d: u8, n: u8, cores: Cores, pool: &mut PoolState<P>)
+fn pin<P: Policy>(d: DomId, n: u8, cores: Cores, pool: &mut PoolState<P>)
     requires still { IsStill pool.old }
-    requires joined { has_joined pool.old.pool.scheduler d ≡ true }
-    requires units { n < units_of pool.old.pool.scheduler d }
-    ensures after { pool.new ≡ with_pool (with_pins d n (cores ∷ []) pool.old.pool) pool.old }
+    requires joined { has_joined pool.old.pool.scheduler d.0 ≡ true }
+    requires units { n < units_of pool.old.pool.scheduler d.0 }
+    ensures after { pool.new ≡ with_pool (with_pins d.0 n (cores ∷ []) pool.old.pool) pool.old }
     ensures still { IsStill pool.new }
-    ensures joined { has_joined pool.new.pool.scheduler d ≡ true }
-    ensures units { units_of pool.new.pool.scheduler d ≡ units_of pool.old.pool.scheduler d }
+    ensures joined { has_joined pool.new.pool.scheduler d.0 ≡ true }
+    ensures units { units_of pool.new.pool.scheduler d.0 ≡ units_of pool.old.pool.scheduler d.0 }
 {
     let change = ParamChange::Pin {
-        dom: DomId(d),
+        dom: d,
         unit: Some(n),
         cores,
     };
@@ -69,12 +71,12 @@ fn pin<P: Policy>(d: u8, n: u8, cores: Cores, pool: &mut PoolState<P>)
 }
 
 /// The sets of cores of the domain's units, the first of them that of unit n.
-fn pin_all<P: Policy>(d: u8, n: u8, pins: &[Cores], pool: &mut PoolState<P>)
+fn pin_all<P: Policy>(d: DomId, n: u8, pins: &[Cores], pool: &mut PoolState<P>)
     requires few { n + length pins.now ≤ 32 }
     requires still { IsStill pool.old }
-    requires joined { has_joined pool.old.pool.scheduler d ≡ true }
-    requires units { n + length pins.now ≤ units_of pool.old.pool.scheduler d }
-    ensures { pool.new ≡ with_pool (with_pins d n pins.now pool.old.pool) pool.old }
+    requires joined { has_joined pool.old.pool.scheduler d.0 ≡ true }
+    requires units { n + length pins.now ≤ units_of pool.old.pool.scheduler d.0 }
+    ensures { pool.new ≡ with_pool (with_pins d.0 n pins.now pool.old.pool) pool.old }
 {
     match pins {
         [] => {}
@@ -90,18 +92,19 @@ fn join<P: Policy>(
     alloc: Global,
     config: &Config,
     home: &PoolConfig,
-    d: u8,
+    d: DomId,
     joining: &DomConfig,
     pool: &mut PoolState<P>,
 ) -> Result<(), NoMemory>
     requires checked { IsCheckedConfig config.now }
     requires home { slice_get config.now.pools joining.now.home.0 ≡ Some home.now }
     requires domain { IsCheckedDomain config.now joining.now }
-    requires place { d < length config.now.domains }
-    requires opening { IsOpening config.now home.now d pool.old }
+    requires place { d.0 < length config.now.domains }
+    requires opening { IsOpening config.now home.now d.0 pool.old }
     requires room { unit_total config.now.granularity joining.now ≤ pool.old.spare }
-    ensures after { OnOk result (pool.new ≡ configured config.now.granularity d joining.now pool.old) }
-    ensures opening { OnOk result (IsOpening config.now home.now (d + 1) pool.new) }
+    ensures after { OnOk result (pool.new ≡ configured_pool config.now.granularity d.0 joining.now
+        pool.old) }
+    ensures opening { OnOk result (IsOpening config.now home.now (d.0 + 1) pool.new) }
 {
     give(alloc, config, home, d, joining, pool)?;
     pin_all(d, 0, joining.pins.as_slice(), pool);
@@ -115,18 +118,19 @@ fn join_at_home<P: Policy>(
     config: &Config,
     i: u8,
     home: &PoolConfig,
-    d: u8,
+    d: DomId,
     joining: &DomConfig,
     pool: &mut PoolState<P>,
 ) -> Result<(), NoMemory>
     requires checked { IsCheckedConfig config.now }
     requires home { slice_get config.now.pools i ≡ Some home.now }
     requires domain { IsCheckedDomain config.now joining.now }
-    requires place { d < length config.now.domains }
-    requires opening { IsOpening config.now home.now d pool.old }
+    requires place { d.0 < length config.now.domains }
+    requires opening { IsOpening config.now home.now d.0 pool.old }
     requires room { units_if_home config.now.granularity i joining.now ≤ pool.old.spare }
-    ensures after { OnOk result (pool.new ≡ configured_if config.now.granularity i d joining.now pool.old) }
-    ensures opening { OnOk result (IsOpening config.now home.now (d + 1) pool.new) }
+    ensures after { OnOk result (pool.new ≡ configured_if config.now.granularity i d.0 joining.now
+        pool.old) }
+    ensures opening { OnOk result (IsOpening config.now home.now (d.0 + 1) pool.new) }
 {
     if joining.home.0 == i {
         join(alloc, config, home, d, joining, pool)?;
@@ -146,12 +150,14 @@ pub fn join_all<P: Policy>(
     requires home { slice_get config.now.pools i ≡ Some home.now }
     requires opening { IsOpening config.now home.now 0 pool.old }
     requires room { units_at_home config.now.granularity i config.now.domains ≤ pool.old.spare }
-    ensures after { OnOk result (pool.new ≡ with_all config.now.granularity i 0 config.now.domains pool.old) }
-    ensures opening { OnOk result (IsOpening config.now home.now (length config.now.domains) pool.new) }
+    ensures after { OnOk result (pool.new ≡ with_all config.now.granularity i 0 config.now.domains
+        pool.old) }
+    ensures opening { OnOk result (IsOpening config.now home.now (length config.now.domains)
+        pool.new) }
 {
     let domains = config.domains.as_slice();
     for d in 0..domains.len() {
-        join_at_home(alloc, config, i, home, d as u8, &domains[d], pool)?;
+        join_at_home(alloc, config, i, home, DomId(d as u8), &domains[d], pool)?;
     }
     Ok(())
 }

@@ -8,7 +8,7 @@ ghost use Rattle.sched_model.specs.Places.{at_place};
 ghost use Rattle.sched_model.specs.Policy.{default_pool_params, kind_of};
 ghost use Rattle.sched_ops.specs.Conditions.{is_vacant};
 ghost use Rattle.unit_state.specs.Kept.{units_in};
-ghost use Rattle.pool_core.specs.Seen.{vacant};
+ghost use Rattle.pool_core.specs.Seen.{vacant_pool};
 ghost use Rattle.pool_opening.specs.Opened.{kinds_of, most_units, opening_seen};
 
 use crate::cores::attach_all;
@@ -49,8 +49,11 @@ fn open_home<P: Policy>(
     requires vacant { is_vacant (P.seen policy).scheduler ≡ true }
     requires early { (P.seen policy).latest ≡ 0 }
     ensures seen { IfOk result (λ opened. opened ≡ opening_seen config.now i home.now) }
-    ensures pool { IfOk result (λ opened. (work : Work) → at_place (opening (record { config = config.now; work = work })).pools i ≡ Some opened.pool) }
-    ensures room { IfOk result (λ opened. units_in opened.granularity opened.pool.domains + opened.spare ≡ most_units) }
+    ensures pool { IfOk result (λ opened. (work : Work) →
+        at_place (opening (record { config = config.now; work = work })).pools i
+        ≡ Some opened.pool) }
+    ensures room { IfOk result (λ opened. units_in opened.granularity opened.pool.domains +
+        opened.spare ≡ most_units) }
 {
     let g = config.granularity;
     let places = places_of(config);
@@ -75,12 +78,16 @@ pub fn opened<P: Policy>(
     policy: P,
 ) -> Result<PoolState<P>, NoMemory>
     requires config { IsCheckedConfig config.now }
-    requires kind { slice_get (kinds_of config.now) i ≡ Some (kind_of (P.seen policy).scheduler.records) }
+    requires kind { slice_get (kinds_of config.now) i
+        ≡ Some (kind_of (P.seen policy).scheduler.records) }
     requires vacant { is_vacant (P.seen policy).scheduler ≡ true }
     requires early { (P.seen policy).latest ≡ 0 }
-    ensures pool { IfOk result (λ opened. (work : Work) → at_place (opening (record { config = config.now; work = work })).pools i ≡ Some opened.pool) }
+    ensures pool { IfOk result (λ opened. (work : Work) →
+        at_place (opening (record { config = config.now; work = work })).pools i
+        ≡ Some opened.pool) }
     ensures granularity { IfOk result (λ opened. opened.granularity ≡ config.now.granularity) }
-    ensures spare { IfOk result (λ opened. units_in opened.granularity opened.pool.domains + opened.spare ≡ most_units) }
+    ensures spare { IfOk result (λ opened. units_in opened.granularity opened.pool.domains +
+        opened.spare ≡ most_units) }
     ensures latest { IfOk result (λ opened. opened.latest ≡ 0) }
     ensures used { IfOk result (λ opened. opened.in_use ≡ true) }
 {
@@ -96,7 +103,10 @@ pub fn spare<P: Policy>(alloc: Global, config: &Config, policy: P) -> Result<Poo
     requires config { IsCheckedConfig config.now }
     requires vacant { is_vacant (P.seen policy).scheduler ≡ true }
     requires early { (P.seen policy).latest ≡ 0 }
-    ensures { IfOk result (λ spare. spare ≡ vacant (default_pool_params (kind_of (P.seen policy).scheduler.records)) config.now.granularity (length config.now.domains) (core_count_spec config.now) most_units) }
+    ensures { IfOk result (λ spare. spare
+        ≡ vacant_pool (default_pool_params (kind_of (P.seen policy).scheduler.records))
+        config.now.granularity (length config.now.domains) (core_count_spec config.now)
+        most_units) }
 {
     let places = places_of(config);
     PoolState::room(alloc, config.granularity, places, MOST_UNITS, policy)

@@ -7,7 +7,7 @@ use Rattle.sched_model.specs.declared.machine.Machine.{Machine}
 use Rattle.sched_model.specs.declared.state.State.{State}
 use Rattle.sched_model.specs.Checked.{most_span}
 use Rattle.sched_model.specs.Machine.{is_enabled, event_of, after}
-use Rattle.sched_model.specs.Runs.{Reached, IsNext, begun, after_entry}
+use Rattle.sched_model.specs.Runs.{Reached, IsNext, run_start, after_entry}
 use Rattle.sched_model.proofs.RunLemmas.{after_entries-append, IsRunFrom-append, IsNext-action, after_entry-action}
 use Rattle.sched_ranges.specs.Ranges.{StateInRange}
 use Rattle.sched_ranges.proofs.Done.{in_range}
@@ -56,10 +56,10 @@ module _ (w : Told) (goes : GoesOn w) (action : Action) (on : is_enabled w.input
   comes-next = subst (λ (r : Reached). IsNext m r e) (sym (leads-to w goes)) (subst (IsNext m (open_at s)) (sym is) (IsNext-action m s action on))
 
   leads-on : reached_by m (w.history ++ e ∷ []) ≡ open_at (after m s s.now action)
-  leads-on = after_entries-append m (begun m) w.history e ∙ ap (λ (r : Reached). after_entry m r e) (leads-to w goes) ∙ ap (after_entry m (open_at s)) is ∙ after_entry-action m s action
+  leads-on = after_entries-append m (run_start m) w.history e ∙ ap (λ (r : Reached). after_entry m r e) (leads-to w goes) ∙ ap (after_entry m (open_at s)) is ∙ after_entry-action m s action
 
   pub goes-on : GoesOn (told_more w e)
-  goes-on = record { checked = goes.checked; run = IsRunFrom-append m (begun m) w.history e goes.run comes-next; goes = ap (λ (r : Reached). r.over) leads-on }
+  goes-on = record { checked = goes.checked; run = IsRunFrom-append m (run_start m) w.history e goes.run comes-next; goes = ap (λ (r : Reached). r.over) leads-on }
 
   pub state-on : state_of (told_more w e) ≡ after m s s.now action
   state-on = state_of-is (told_more w e) ∙ ap (λ (r : Reached). r.state) leads-on

@@ -143,21 +143,6 @@ spares-later m now later part shelves past are = record {
   suit = λ kind. All-weaker (IsSpare m now kind) (IsSpare m later kind) (λ seen. spare-later m now later kind seen past) (shelf_of kind shelves).pools (are.suit kind);
 }
 
--- the next command is not one of those done
-pub spares-kept : (m : Machine) (now : ℕ) (part next : ToolPart) (shelves : Shelves) → KeepsCounts part next → AreSpares m now part shelves → AreSpares m now next shelves
-spares-kept m now part next shelves keeps are = record {
-  counts = λ kind. (
-      let has = are.counts kind in
-      let in_use = keeps.in_use kind in
-      let made = has.made in
-      record {
-        sum = ap (λ n. n + length (shelf_of kind shelves).pools) in_use ∙ has.sum;
-        made = subst (λ n. in_use_of kind next.pools ≤ configured_of kind m.config.pools + made_by kind (take n m.work.commands)) (sym keeps.commands) (omega (arith, in_use, made));
-        capacity = has.capacity;
-      });
-  suit = are.suit;
-}
-
 -- as many are in use of the scheduler, and one command more is over
 has-passed : (m : Machine) (kind : SchedKind) (part next : ToolPart) (shelf : Shelf) → in_use_of kind next.pools ≡ in_use_of kind part.pools → next.next_command ≡ suc part.next_command → HasSpares m kind part shelf → HasSpares m kind next shelf
 has-passed m kind part next shelf in_use over has =

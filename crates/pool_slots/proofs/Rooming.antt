@@ -13,14 +13,14 @@ use Rattle.sched_model.specs.declared.state.Pool.{Pool}
 use Rattle.sched_model.specs.Commands.{set_rtds, set_rtds_unit}
 use Rattle.sched_model.specs.Places.{at_place, numbers_from, put_at, test_at}
 use Rattle.sched_model.specs.Policy as policy
-use Rattle.sched_model.specs.Pool.{change_domain, is_off, marked, pause, queue_if_off, queue_units, set_moving, set_params, settled, unit_count, unpause, with_domain, without_domain}
+use Rattle.sched_model.specs.Pool.{change_domain, is_off, marked_pool, pause, queue_if_off, queue_units, set_moving, set_params, settled_pool, unit_count, unpause, with_domain, without_domain}
 use Rattle.sched_model.specs.State.{is_runnable}
 use Rattle.sched_laws.proofs.EachPlace.{by_cond, by_option}
 use Rattle.step_laws.specs.Faces.{DomainFace, Face, domain_face}
 use Rattle.step_laws.proofs.Faces.{face_kept}
 use Rattle.unit_state.specs.Kept.{units_in}
 use Rattle.unit_state.proofs.PlaceLemmas.{units_in-put_at, units_in-clear_at, units_in-change_at}
-use Rattle.pool_core.specs.Seen.{Seen, happened, seen_at, with_spare}
+use Rattle.pool_core.specs.Seen.{Seen, seen_after, seen_at, with_spare}
 use Rattle.pool_slots.specs.Rooms.{IsPlaced}
 
 -- how many units stand at a place that is seen by its face; at all places
@@ -41,7 +41,7 @@ pub units-same : (g : ℕ) (places others : List (Option Domain)) → map (optio
 units-same g places others same = by-faces g places ∙ ap (faces_units g) same ∙ sym (by-faces g others)
 
 -- an event of the pool keeps its room
-pub placed-happened : (t : ℕ) (action : Action) (seen : Seen) → IsPlaced seen → IsPlaced (happened t action seen)
+pub placed-happened : (t : ℕ) (action : Action) (seen : Seen) → IsPlaced seen → IsPlaced (seen_after t action seen)
 placed-happened t action seen placed = record {
   used = placed.used;
   roomy = record { room = ap (λ n. n + seen.spare) (units-same seen.granularity _ seen.pool.domains (ap (λ (face : Face). face.domains) (face_kept seen.granularity t seen.pool action))) ∙ placed.roomy.room };
@@ -88,7 +88,7 @@ units-unpaused g d pool =
     (λ is. ap (units_in g) (domains-queued g d (numbers_from 0 (unit_count g x)) (change_domain d (λ y. record y { paused = false }) pool)) ∙ units_in-change_at g d (λ y. record y { paused = false }) pool.domains (λ y. refl))
     (λ is. refl))
 
-domains-marked : (change : ParamChange) (t : ℕ) (pool : Pool) → (marked change t pool).domains ≡ pool.domains
+domains-marked : (change : ParamChange) (t : ℕ) (pool : Pool) → (marked_pool change t pool).domains ≡ pool.domains
 domains-marked (changes.Dom d weight (Some cap)) t pool = refl
 domains-marked (changes.Dom d weight None) t pool = refl
 domains-marked (changes.Rate limit) t pool = refl
@@ -112,7 +112,7 @@ units-rtds g t d period budget extra (n ∷ ns) pool =
 
 -- a domain that comes and one that goes
 placed-given_here : (seen : Seen) (t d : ℕ) (x : Domain) (params : DomParams) → d < length seen.pool.domains → at_place seen.pool.domains d ≡ None → unit_count seen.granularity x ≤ seen.spare → IsPlaced seen
-    → IsPlaced (with_spare (seen.spare - unit_count seen.granularity x) (seen_at t (settled t (with_domain seen.granularity t d x params seen.pool)) seen))
+    → IsPlaced (with_spare (seen.spare - unit_count seen.granularity x) (seen_at t (settled_pool t (with_domain seen.granularity t d x params seen.pool)) seen))
 placed-given_here seen t d x params inside absent room placed =
     let g = seen.granularity in
     let queued : units_in g (with_domain g t d x params seen.pool).domains ≡ units_in g (put_at d x seen.pool.domains) =
@@ -130,9 +130,9 @@ placed-taken_here seen d x at placed =
 
 -- the same, where the domain's own number of a unit's vCPUs is the pool's
 pub placed-given : (seen : Seen) (t d k : ℕ) (x : Domain) (params : DomParams) → k ≡ seen.granularity → d < length seen.pool.domains → at_place seen.pool.domains d ≡ None → unit_count k x ≤ seen.spare → IsPlaced seen
-    → IsPlaced (with_spare (seen.spare - unit_count k x) (seen_at t (settled t (with_domain seen.granularity t d x params seen.pool)) seen))
+    → IsPlaced (with_spare (seen.spare - unit_count k x) (seen_at t (settled_pool t (with_domain seen.granularity t d x params seen.pool)) seen))
 placed-given seen t d k x params is inside absent room placed =
-    subst (λ (n : ℕ). unit_count n x ≤ seen.spare → IsPlaced (with_spare (seen.spare - unit_count n x) (seen_at t (settled t (with_domain seen.granularity t d x params seen.pool)) seen))) (sym is)
+    subst (λ (n : ℕ). unit_count n x ≤ seen.spare → IsPlaced (with_spare (seen.spare - unit_count n x) (seen_at t (settled_pool t (with_domain seen.granularity t d x params seen.pool)) seen))) (sym is)
     (λ fits. placed-given_here seen t d x params inside absent fits placed) room
 
 pub placed-taken : (seen : Seen) (d k : ℕ) (x : Domain) → k ≡ seen.granularity → at_place seen.pool.domains d ≡ Some x → IsPlaced seen

@@ -13,7 +13,7 @@ use Rattle.sched_model.specs.Opening.{core_count, empty_pool}
 use Rattle.sched_model.specs.Places.{at_place}
 use Rattle.sched_model.specs.Policy.{fresh_records, kind_of}
 use Rattle.sched_ops.specs.Conditions.{ArePoolParams}
-use Rattle.sched_ops.specs.Seen.{core_places, restarted}
+use Rattle.sched_ops.specs.Seen.{core_places, restarted_scheduler}
 use Rattle.sched_ranges.specs.Ranges.{PoolInRange, RecordsInRange}
 use Rattle.pool_core.specs.Seen.{Seen, IsEmpty}
 use Rattle.pool_slots.specs.Told.{Told}
@@ -46,13 +46,13 @@ fresh-places cores domains pool_params.Null (NullPool kept) places params = ap (
 
 -- a spare pool that is opened
 abbrev pub reopened : PoolParams → Seen → Seen
-reopened params seen = record seen { pool = record seen.pool { scheduler = restarted params seen.pool.scheduler }; in_use = true }
+reopened params seen = record seen { pool = record seen.pool { scheduler = restarted_scheduler params seen.pool.scheduler }; in_use = true }
 
 module _ (m : Machine) (now : ℕ) (params : PoolParams) (seen : Seen) (spare : IsSpare m now (kind_of seen.pool.scheduler.records) seen) (given : ArePoolParams (kind_of seen.pool.scheduler.records) params) where
   abbrev made : Pool
-  made = record seen.pool { scheduler = restarted params seen.pool.scheduler }
+  made = record seen.pool { scheduler = restarted_scheduler params seen.pool.scheduler }
 
-  made-scheduler : restarted params seen.pool.scheduler ≡ (empty_pool m.config params).scheduler
+  made-scheduler : restarted_scheduler params seen.pool.scheduler ≡ (empty_pool m.config params).scheduler
   made-scheduler =
       ap (λ (n : ℕ). let x : Scheduler = record { queue = []; affinity = replicate n None; records = fresh_records params n (core_places seen.pool.scheduler.records) } in x) spare.suits.affinity
       ∙ ap (λ (records : Records). let x : Scheduler = record { queue = []; affinity = replicate (length m.config.domains) None; records = records } in x)

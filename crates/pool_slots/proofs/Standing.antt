@@ -10,13 +10,13 @@ use Rattle.sched_model.specs.declared.machine.Machine.{Machine}
 use Rattle.sched_model.specs.declared.state.Pool.{Pool}
 use Rattle.sched_model.specs.declared.state.State.{State}
 use Rattle.sched_model.specs.Places.{at_place}
-use Rattle.sched_model.specs.Pool.{enabled_in, event_in, after_in, settled}
+use Rattle.sched_model.specs.Pool.{enabled_in, event_in, after_in, settled_pool}
 use Rattle.sched_model.specs.Actions.{home_of}
 use Rattle.sched_model.specs.Machine.{is_enabled, event_of, after}
 use Rattle.journal_core.specs.Parts.{StatePart, pool_part, tool_part, tool_of, part_of}
 use Rattle.journal_core.specs.Histories.{part_at}
 use Rattle.plain_pool.specs.Own.{IsOfPool}
-use Rattle.pool_core.specs.Seen.{Seen, IsNow, happened}
+use Rattle.pool_core.specs.Seen.{Seen, IsNow, seen_after}
 use Rattle.step_laws.specs.Steps as steps
 use Rattle.step_laws.proofs.PoolSteps.{pool_step}
 use Rattle.order_laws.specs.OrderLaws.{ComesInPool}
@@ -80,14 +80,14 @@ module _ (w : Told) (goes : GoesOn w) (i t : ℕ) (now : t ≡ (state_of w).now)
           is ∙ ap (λ g. event_in g t seen.pool action) suits.granularity ∙ ap (λ n. event_in m.config.granularity n seen.pool action) now
           ∙ sym (event-there m s s.now action i seen.pool own home there)
 
-      left-there : at_place (after m s s.now action).pools i ≡ Some (settled t (after_in seen.granularity t seen.pool action))
+      left-there : at_place (after m s s.now action).pools i ≡ Some (settled_pool t (after_in seen.granularity t seen.pool action))
       left-there =
           (pool_step m s s.now action i (own-same action own) home).own
-          ∙ ap (option_map (λ pool. settled s.now (after_in m.config.granularity s.now pool action))) there
-          ∙ ap (λ n. Some (settled n (after_in m.config.granularity n seen.pool action))) (sym now)
-          ∙ ap (λ g. Some (settled t (after_in g t seen.pool action))) (sym suits.granularity)
+          ∙ ap (option_map (λ pool. settled_pool s.now (after_in m.config.granularity s.now pool action))) there
+          ∙ ap (λ n. Some (settled_pool n (after_in m.config.granularity n seen.pool action))) (sym now)
+          ∙ ap (λ g. Some (settled_pool t (after_in g t seen.pool action))) (sym suits.granularity)
 
-      module _ (new : Seen) (is : new ≡ happened t action seen) where
+      module _ (new : Seen) (is : new ≡ seen_after t action seen) where
         pub part-slot : pool_part (Some new.pool) ≡ part_of (after m s s.now action) i
         part-slot = ap (λ (x : Seen). pool_part (Some x.pool)) is ∙ ap pool_part (sym left-there) ∙ sym (part_below (after m s s.now action) i stands.place)
 

@@ -28,11 +28,15 @@ impl PoolSlot {
         requires now { t.0 ≡ (state_of at.now).now }
         requires stands { StandsAt at.now i self.old }
         requires own { IsOfPool action }
-        requires enabled { is_enabled at.now.input (state_of at.now) (state_of at.now).now action ≡ true }
+        requires enabled { is_enabled at.now.input (state_of at.now) (state_of at.now).now action
+            ≡ true }
         requires home { home_of at.now.input.config.granularity (state_of at.now) action ≡ Some i }
-        ensures event { result ≡ event_of at.now.input (state_of at.now) (state_of at.now).now action }
-        ensures part { slot_part self.new ≡ part_of (after at.now.input (state_of at.now) (state_of at.now).now action) i }
-        ensures stands { StandsAt (told_more at.now (record { at = t; event = result })) i self.new }
+        ensures event { result ≡ event_of at.now.input (state_of at.now) (state_of at.now).now
+            action }
+        ensures part { slot_part self.new
+            ≡ part_of (after at.now.input (state_of at.now) (state_of at.now).now action) i }
+        ensures stands { StandsAt (told_more at.now (record { at = t; event = result })) i
+            self.new }
     {
         let Some(pool) = &mut self.state else {
             unreachable!();
@@ -44,7 +48,8 @@ impl PoolSlot {
     /// neither a domain nor a core.
     pub fn open_with(&mut self, at: &Trail, spare: AnyPool, params: &PoolParams)
         requires empty { self.old ≡ None }
-        requires spare { IsSpare at.now.input (state_of at.now).now (kind_of spare.value.pool.scheduler.records) spare.value }
+        requires spare { IsSpare at.now.input (state_of at.now).now
+            (kind_of spare.value.pool.scheduler.records) spare.value }
         requires params { ArePoolParams (kind_of spare.value.pool.scheduler.records) params.now }
         ensures { self.new ≡ Some (made_seen at.now.input.config params.now spare.value.latest) }
     {
@@ -62,7 +67,8 @@ impl PoolSlot {
         requires empty { ForSome self.old (λ seen. IsEmpty seen.pool) }
         ensures after { self.new ≡ None }
         ensures pool { ForSome self.old (λ seen. result.value ≡ record seen { in_use = false }) }
-        ensures spare { IsSpare at.now.input (state_of at.now).now (kind_of result.value.pool.scheduler.records) result.value }
+        ensures spare { IsSpare at.now.input (state_of at.now).now
+            (kind_of result.value.pool.scheduler.records) result.value }
     {
         let Some(mut pool) = self.state.take() else {
             unreachable!();

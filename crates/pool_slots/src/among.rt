@@ -21,10 +21,12 @@ pub fn perform_among(slots: &mut [PoolSlot], at: &Trail, i: u8, action: Action, 
     requires now { t.0 ≡ (state_of at.now).now }
     requires stand { AllStand at.now slots.old }
     requires own { IsOfPool action }
-    requires enabled { is_enabled at.now.input (state_of at.now) (state_of at.now).now action ≡ true }
+    requires enabled { is_enabled at.now.input (state_of at.now) (state_of at.now).now action
+        ≡ true }
     requires home { home_of at.now.input.config.granularity (state_of at.now) action ≡ Some i }
     ensures event { result ≡ event_of at.now.input (state_of at.now) (state_of at.now).now action }
-    ensures state { state_of (told_more at.now (record { at = t; event = result })) ≡ after at.now.input (state_of at.now) (state_of at.now).now action }
+    ensures state { state_of (told_more at.now (record { at = t; event = result }))
+        ≡ after at.now.input (state_of at.now) (state_of at.now).now action }
     ensures step { HasStepped at.now i (told_more at.now (record { at = t; event = result })) }
     ensures stand { AllStand (told_more at.now (record { at = t; event = result })) slots.new }
     ensures others { (k : ℕ) → k ≢ i → at_place slots.new k ≡ at_place slots.old k }

@@ -50,7 +50,7 @@ impl PoolSlot {
     ghost use Rattle.std.specs.Option.{ForSome};
     ghost use Rattle.sched_model.specs.Places.{at_place};
     ghost use Rattle.sched_model.specs.Policy.{rate_of};
-    ghost use Rattle.sched_model.specs.Pool.{enabled_in, processor_of, settled};
+    ghost use Rattle.sched_model.specs.Pool.{enabled_in, processor_of, settled_pool};
     ghost use Rattle.sched_model.specs.State.{has_core as has_bit};
     ghost use Rattle.sched_model.specs.declared.action.Action.TheVariants.{DomMoved, Moved};
     ghost use Rattle.core_state.specs.Seen.{stall_until};
@@ -92,7 +92,8 @@ impl PoolSlot {
     /// The first event of the pool that may come at t: by kind, then by number and index. `None` where none may, and where there is no
     /// pool.
     pub fn first_enabled(&self, t: Moment) -> Option<Action>
-        ensures pool { ForSome self.now (λ seen. IsFirstEnabled seen.granularity t.0 seen.pool result) }
+        ensures pool { ForSome self.now (λ seen.
+            IsFirstEnabled seen.granularity t.0 seen.pool result) }
         ensures empty { self.now ≡ None → result ≡ None }
     {
         match &self.state {
@@ -104,7 +105,8 @@ impl PoolSlot {
     /// The first event of the pool by the actor that may come at t: by kind, then by number and index. `None` where none may, and where
     /// there is no pool.
     pub fn enabled_for(&self, actor: Actor, t: Moment) -> Option<Action>
-        ensures pool { ForSome self.now (λ seen. IsFirstBy seen.granularity t.0 seen.pool actor result) }
+        ensures pool { ForSome self.now (λ seen.
+            IsFirstBy seen.granularity t.0 seen.pool actor result) }
         ensures empty { self.now ≡ None → result ≡ None }
     {
         match &self.state {
@@ -127,7 +129,8 @@ impl PoolSlot {
 
     /// From when on the core may leave the pool. `None` where it may not, while nothing else happens, and where there is no pool.
     pub fn moved_next(&self, r: ResId) -> Option<Moment>
-        ensures pool { ForSome self.now (λ seen. result ≡ ready_in seen.granularity seen.pool (Moved r.0)) }
+        ensures pool { ForSome self.now (λ seen. result
+            ≡ ready_in seen.granularity seen.pool (Moved r)) }
         ensures empty { self.now ≡ None → result ≡ None }
     {
         match &self.state {
@@ -138,7 +141,8 @@ impl PoolSlot {
 
     /// Whether the core may leave the pool at t.
     pub fn moved_ready(&self, r: ResId, t: Moment) -> bool
-        ensures pool { ForSome self.now (λ seen. result ≡ enabled_in seen.granularity t.0 seen.pool (Moved r.0)) }
+        ensures pool { ForSome self.now (λ seen. result
+            ≡ enabled_in seen.granularity t.0 seen.pool (Moved r)) }
         ensures empty { self.now ≡ None → result ≡ false }
     {
         match &self.state {
@@ -149,7 +153,8 @@ impl PoolSlot {
 
     /// Whether the domain may leave the pool: it is moving, and no core has a unit of it. That does not depend on the moment.
     pub fn dom_ready(&self, d: DomId) -> bool
-        ensures pool { ForSome self.now (λ seen. (t : ℕ) → result ≡ enabled_in seen.granularity t seen.pool (DomMoved d.0)) }
+        ensures pool { ForSome self.now (λ seen. (t : ℕ) → result
+            ≡ enabled_in seen.granularity t seen.pool (DomMoved d)) }
         ensures empty { self.now ≡ None → result ≡ false }
     {
         match &self.state {
@@ -161,8 +166,10 @@ impl PoolSlot {
     /// The rate limit in microseconds, 0 where the scheduler has none, and the set values of the units of the domain, where one is
     /// named: in order, at most 32, and none where the domain is not here. 0 and none where there is no pool.
     pub fn facts(&self, d: Option<DomId>) -> Facts
-        ensures rate { ForSome self.now (λ seen. result.rate ≡ rate_of seen.pool.scheduler.records) }
-        ensures units { ForSome self.now (λ seen. map Some result.units ≡ stored_in seen.granularity seen.pool.domains seen.pool.scheduler.records d) }
+        ensures rate { ForSome self.now (λ seen. result.rate
+            ≡ rate_of seen.pool.scheduler.records) }
+        ensures units { ForSome self.now (λ seen. map Some result.units
+            ≡ stored_in seen.granularity seen.pool.domains seen.pool.scheduler.records d) }
         ensures empty { self.now ≡ None → (result.rate ≡ 0) × (result.units ≡ []) }
     {
         match &self.state {
@@ -176,8 +183,10 @@ impl PoolSlot {
 
     /// The cores and the domains that the pool has, with bit n for the number n. None where there is no pool.
     pub fn members(&self) -> (u64, u64)
-        ensures cores { ForSome self.now (λ seen. (r : ℕ) → has_bit result.0 r ≡ is_some (at_place seen.pool.resources r)) }
-        ensures domains { ForSome self.now (λ seen. (d : ℕ) → has_bit result.1 d ≡ is_some (at_place seen.pool.domains d)) }
+        ensures cores { ForSome self.now (λ seen. (r : ℕ) → has_bit result.0 r
+            ≡ is_some (at_place seen.pool.resources r)) }
+        ensures domains { ForSome self.now (λ seen. (d : ℕ) → has_bit result.1 d
+            ≡ is_some (at_place seen.pool.domains d)) }
         ensures empty { self.now ≡ None → result ≡ (0, 0) }
     {
         match &self.state {
@@ -189,7 +198,8 @@ impl PoolSlot {
     /// The closure alone: each core that is to decide anew at t is pending.
     pub fn settle(&mut self, t: Moment)
         requires now { ForSome self.old (λ seen. IsNow seen t.0) }
-        ensures { self.new ≡ option_map (λ seen. seen_at t.0 (settled t.0 seen.pool) seen) self.old }
+        ensures { self.new ≡ option_map (λ seen. seen_at t.0 (settled_pool t.0 seen.pool) seen)
+            self.old }
     {
         let Some(pool) = &mut self.state else {
             return;
@@ -199,9 +209,11 @@ impl PoolSlot {
 
     /// A processor is stalled up to this moment, if it is not yet for longer: the end of its stall. The cores are not looked at.
     pub fn stall(&mut self, p: ProcId, until: Moment) -> Moment
-        ensures pool { ForSome self.old (λ seen. result ≡ stall_until (processor_of seen.granularity seen.pool p.0) until) }
+        ensures pool { ForSome self.old (λ seen. result
+            ≡ stall_until (processor_of seen.granularity seen.pool p.0) until) }
         ensures empty { self.old ≡ None → result ≡ until }
-        ensures after { self.new ≡ with_pool (λ seen. with_stall seen.granularity p.0 result seen.pool) self.old }
+        ensures after { self.new ≡ with_pool
+            (λ seen. with_stall seen.granularity p.0 result seen.pool) self.old }
     {
         let Some(pool) = &mut self.state else {
             return until;

@@ -91,8 +91,10 @@ impl Spares {
     /// No spare pool yet, and room for so many of each scheduler, at most 16 of each.
     pub fn room(alloc: Global, most: KindCounts) -> Result<Spares, NoMemory>
         requires few { (kind : SchedKind) → count_of kind most ≤ 16 }
-        ensures pools { IfOk result (λ spares. (kind : SchedKind) → (shelf_of kind spares).pools ≡ []) }
-        ensures capacity { IfOk result (λ spares. (kind : SchedKind) → count_of kind most ≤ (shelf_of kind spares).capacity) }
+        ensures pools { IfOk result (λ spares. (kind : SchedKind) → (shelf_of kind spares).pools
+            ≡ []) }
+        ensures capacity { IfOk result (λ spares. (kind : SchedKind) → count_of kind most
+            ≤ (shelf_of kind spares).capacity) }
     {
         Ok(Spares {
             credit2: Shelf::room(alloc, usize::from(most.credit2))?,

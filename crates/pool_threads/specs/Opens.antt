@@ -3,7 +3,7 @@ use Rattle.std.specs.Prelude.{◌≡◌, true, false}
 use Rattle.sched_model.specs.declared.config.PoolParams.{PoolParams}
 use Rattle.sched_model.specs.Policy.{kind_of}
 use Rattle.sched_ops.specs.Conditions.{ArePoolParams}
-use Rattle.sched_ops.specs.Seen.{restarted}
+use Rattle.sched_ops.specs.Seen.{restarted_scheduler}
 use Rattle.pool_core.specs.Seen.{Seen, IsEmpty}
 
 -- the pool is not in use and has nothing in it, and the parameters are its scheduler's
@@ -14,4 +14,4 @@ pub record CanOpen (given : PoolParams) (seen : Seen) : Type 0 where
 
 -- the pool opened with the parameters
 abbrev pub opened_with : PoolParams → Seen → Seen
-opened_with params seen = record seen { pool = record seen.pool { scheduler = restarted params seen.pool.scheduler }; in_use = true }
+opened_with params seen = record seen { pool = record seen.pool { scheduler = restarted_scheduler params seen.pool.scheduler }; in_use = true }

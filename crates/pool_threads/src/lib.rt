@@ -19,7 +19,8 @@ pub type AnyPool = PoolState<AnyPolicy>;
 
 /// A pool of this kind with two places for domains, one for a core of one processor, and room for four units. It may be opened.
 pub fn new_pool(alloc: Global, kind: SchedKind) -> Result<AnyPool, NoMemory>
-    ensures { IfOk result (λ pool. (params : Params) → ArePoolParams kind params → CanOpen params pool) }
+    ensures { IfOk result (λ pool. (params : Params) → ArePoolParams kind params →
+        CanOpen params pool) }
 {
     let places = Places {
         domains: 2,

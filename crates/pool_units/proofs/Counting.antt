@@ -1,20 +1,22 @@
 -- The units of a pool, counted: no more of them wait than have joined.
 use Rattle.std.proofs.Common.{◌≡◌, ◌≤◌, ◌<◌, ◌+◌, ℕ, zero, suc, Bool, true, false, ◌||◌, List, [], ◌∷◌, ◌++◌, refl, arith, subst, sym, cond, length}
-use Rattle.std.specs.Prelude.{Option, Some, None, nat_lt, replicate, map}
+use Rattle.std.specs.Prelude.{Option, Some, None, replicate, map}
 use Rattle.std.specs.List.{AllByRecursion}
 use Rattle.std.proofs.Math.Decide.{ℕ_discrete}
 use Rattle.std.proofs.lemmas.List.{length-append}
 use Rattle.sched_base.specs.Numbers.{domain}
 use Rattle.sched_base.specs.declared.UnitId.{UnitId}
 use Rattle.sched_base.specs.declared.Cores.{Cores}
-use Rattle.sched_model.specs.Places.{at_place, put_at, clear_at, change_at, change_item, has_unit, same_unit}
-use Rattle.sched_model.specs.Policy.{pinned}
+use Rattle.sched_model.specs.Places.{at_place, put_at, clear_at, change_at, has_unit, same_unit}
+use Rattle.sched_model.specs.Policy.{pinned_cores}
 use Rattle.sched_ops.specs.Conditions.{IsApart}
 use Rattle.sched_laws.proofs.Choices.{same_unit_same}
 use Rattle.sched_laws.proofs.Counts.{times_none, same_unit_refl}
 use Rattle.sched_laws.specs.Counts.{one, times}
 use Rattle.sched_ranges.proofs.Queue.{no_longer}
 use Rattle.pool_units.specs.Units.{units_in, unit_count, is_member}
+use Rattle.std.proofs.lemmas.Bool.{ltb-true}
+use Rattle.sched_laws.proofs.Lists.{length_change_item}
 
 -- the number of units after a domain joined, parted, or had other sets of cores
 pub unit_count-put_at : (d : ℕ) (sets : List Cores) (affinity : List (Option (List Cores))) → at_place affinity d ≡ None → unit_count (put_at d sets affinity) ≤ unit_count affinity + length sets
@@ -31,18 +33,13 @@ unit_count-clear_at zero (Some x ∷ places) = omega arith
 unit_count-clear_at (suc d) (None ∷ places) = unit_count-clear_at d places
 unit_count-clear_at (suc d) (Some x ∷ places) = (let r = unit_count-clear_at d places in omega (arith, r))
 
-length-change_item : {X : Type 0} (i : ℕ) (f : X → X) (xs : List X) → length (change_item i f xs) ≡ length xs
-length-change_item i f [] = refl
-length-change_item zero f (x ∷ xs) = grind arith
-length-change_item (suc i) f (x ∷ xs) = (let r = length-change_item i f xs in grind (arith, r))
-
 length-map_same : {X : Type 0} (y : X) (xs : List X) → length (map (λ (x : X). y) xs) ≡ length xs
 length-map_same y [] = refl
 length-map_same y (x ∷ xs) = (let r = length-map_same y xs in grind (arith, r))
 
-pub length-pinned : (unit : Option ℕ) (cores : Cores) (sets : List Cores) → length (pinned unit cores sets) ≡ length sets
+pub length-pinned : (unit : Option ℕ) (cores : Cores) (sets : List Cores) → length (pinned_cores unit cores sets) ≡ length sets
 length-pinned None cores sets = length-map_same cores sets
-length-pinned (Some n) cores sets = length-change_item n (λ old. cores) sets
+length-pinned (Some n) cores sets = length_change_item n (λ old. cores) sets
 
 pub unit_count-change_at : (d : ℕ) (f : List Cores → List Cores) (affinity : List (Option (List Cores))) → ((sets : List Cores) → length (f sets) ≡ length sets) → unit_count (change_at d f affinity) ≡ unit_count affinity
 unit_count-change_at d f [] same = refl
@@ -116,11 +113,8 @@ times-all_units u d (suc k) (Some sets ∷ places) at low =
     let a = times-append u (first_units d (length sets)) (all_units (suc d) places) in
     omega (arith, r, a)
 
-pub lt_of : (a b : ℕ) → nat_lt a b ≡ true → a < b
-lt_of a b is = grind arith
-
 member_there : (u : UnitId) (affinity : List (Option (List Cores))) → is_member affinity u ≡ true → 1 ≤ times u (all_units 0 affinity)
-member_there u affinity member = times-all_units u 0 u.dom.0 affinity (omega arith) (lt_of u.n (units_in affinity u.dom.0) member)
+member_there u affinity member = times-all_units u 0 u.dom.0 affinity (omega arith) (ltb-true u.n (units_in affinity u.dom.0) member)
 
 -- a unit that stands in no list twice
 times_apart : (u : UnitId) (units : List UnitId) → IsApart units → times u units ≤ 1

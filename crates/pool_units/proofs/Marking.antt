@@ -1,21 +1,22 @@
 -- Each change of the units of a pool keeps that those that wait are marked, and no others.
 use Rattle.std.proofs.Common.{◌≡◌, ◌≤◌, ◌<◌, ◌*◌, ℕ, zero, suc, Bool, true, false, ◌||◌, ◌&&◌, List, [], ◌∷◌, ◌++◌, inl, inr, refl, arith, subst, sym, ◌∙◌, ap, length, get_or-set_same, get_or-set_other}
 use Rattle.std.specs.Prelude.{Option, Some, None, replicate, slice_set, slice_index_or}
-use Rattle.std.proofs.lemmas.Bool.{cases_Bool, and_right, or_right}
+use Rattle.std.proofs.lemmas.Bool.{cases_Bool, and_right, or_right, ltb-true}
 use Rattle.std.proofs.lemmas.List.{length-replicate, length-set}
 use Rattle.sched_base.specs.declared.UnitId.{UnitId}
 use Rattle.sched_base.specs.declared.Cores.{Cores}
 use Rattle.sched_model.specs.Places.{at_place, has_unit, same_unit, without_unit}
-use Rattle.sched_model.specs.Policy.{pinned, all_cores}
+use Rattle.sched_model.specs.Policy.{pinned_cores, all_cores}
 use Rattle.sched_laws.proofs.Choices.{same_unit_same}
 use Rattle.sched_laws.proofs.Counts.{same_unit_refl}
 use Rattle.unit_places.specs.Places.{has_place, index_of}
 use Rattle.unit_places.proofs.Placed.{placed, low_unit}
-use Rattle.pool_units.specs.Units.{Units, units_in, is_member, HasNoneWaiting, joined, parted, enqueued, dequeued, pinned_in, vacant}
+use Rattle.pool_units.specs.Units.{Units, units_in, is_member, HasNoneWaiting, after_join, after_part, after_enqueue, after_dequeue, pinned_in, vacant_units}
 use Rattle.pool_units.specs.Marks.{is_marked, IsMarked}
-use Rattle.pool_units.proofs.Counting.{units_in-change_at, length-pinned, lt_of}
+use Rattle.pool_units.proofs.Counting.{units_in-change_at, length-pinned}
 use Rattle.pool_units.proofs.Waiting.{without_absent}
-use Rattle.pool_units.proofs.Whole.{or_false, has_unit-push, at_empty, whole_joined, whole_parted, whole_enqueued, whole_dequeued, whole_pinned, whole_vacant}
+use Rattle.pool_units.proofs.Whole.{has_unit-push, at_empty, whole_joined, whole_parted, whole_enqueued, whole_dequeued, whole_pinned, whole_vacant}
+use Rattle.std.proofs.Math.Bool.{or-false}
 
 -- a mark that is set is that of one unit alone
 set_here : (marks : List Bool) (u : UnitId) (mark : Bool) → has_place u ≡ true → index_of u < length marks → is_marked (slice_set marks (index_of u) mark) u ≡ mark
@@ -63,7 +64,7 @@ domain_there (suc d) (p ∷ affinity) some = (let r = domain_there d affinity so
 -- and so has a unit that has joined
 pub member_place : (u : UnitId) (marks : List Bool) (units : Units) → is_member units.affinity u ≡ true → IsMarked marks units → has_place u ≡ true
 member_place u marks units member marked =
-    let low = lt_of u.n (units_in units.affinity u.dom.0) member in
+    let low = ltb-true u.n (units_in units.affinity u.dom.0) member in
     let few = marked.few u.dom.0 in
     let there = domain_there u.dom.0 units.affinity (omega (arith, low)) in
     let all = marked.domains in
@@ -71,7 +72,7 @@ member_place u marks units member marked =
 
 member_index : (u : UnitId) (marks : List Bool) (units : Units) → is_member units.affinity u ≡ true → IsMarked marks units → index_of u < length marks
 member_index u marks units member marked =
-    let low = lt_of u.n (units_in units.affinity u.dom.0) member in
+    let low = ltb-true u.n (units_in units.affinity u.dom.0) member in
     let few = marked.few u.dom.0 in
     let there = domain_there u.dom.0 units.affinity (omega (arith, low)) in
     let all = marked.places in
@@ -95,17 +96,17 @@ few_set (suc d) (suc k) most p (q ∷ affinity) small few = few_set d k most p a
 none_in_empty : (domains d : ℕ) → units_in (replicate domains None) d ≡ 0
 none_in_empty domains d = ap (λ (o : Option (List Cores)). elim o as (λ _. ℕ) [ None ↦ 0 | Some sets ↦ length sets ]) (at_empty domains d)
 
-pub marked_vacant : (domains spare : ℕ) → domains ≤ 64 → spare ≤ 256 → IsMarked (replicate (32 * domains) false) (vacant domains spare)
+pub marked_vacant : (domains spare : ℕ) → domains ≤ 64 → spare ≤ 256 → IsMarked (replicate (32 * domains) false) (vacant_units domains spare)
 marked_vacant domains spare low few =
     record {
       whole = whole_vacant domains spare few;
       waiting = λ u. and_right (has_place u) (slice_index_or (replicate (32 * domains) false) (index_of u) false) (no_mark (32 * domains) (index_of u));
-      places = (let a = length-replicate (32 * domains) false in let b : length (vacant domains spare).affinity ≡ domains = length-replicate domains None in omega (arith, a, b));
-      domains = (let b : length (vacant domains spare).affinity ≡ domains = length-replicate domains None in omega (arith, b, low));
+      places = (let a = length-replicate (32 * domains) false in let b : length (vacant_units domains spare).affinity ≡ domains = length-replicate domains None in omega (arith, a, b));
+      domains = (let b : length (vacant_units domains spare).affinity ≡ domains = length-replicate domains None in omega (arith, b, low));
       few = λ d. (let none = none_in_empty domains d in omega (arith, none));
     }
 
-pub marked_joined : (d count : ℕ) (marks : List Bool) (units : Units) → at_place units.affinity d ≡ None → count ≤ 32 → count ≤ units.spare → IsMarked marks units → IsMarked marks (joined d count units)
+pub marked_joined : (d count : ℕ) (marks : List Bool) (units : Units) → at_place units.affinity d ≡ None → count ≤ 32 → count ≤ units.spare → IsMarked marks units → IsMarked marks (after_join d count units)
 marked_joined d count marks units absent small few marked =
     let sets : Option (List Cores) = Some (replicate count all_cores) in
     let same : length (slice_set units.affinity d sets) ≡ length units.affinity = length-set units.affinity d sets in
@@ -117,7 +118,7 @@ marked_joined d count marks units absent small few marked =
       few = λ k. few_set d k 32 sets units.affinity (let n : length (replicate count all_cores) ≡ count = length-replicate count all_cores in omega (arith, n, small)) marked.few;
     }
 
-pub marked_parted : (d : ℕ) (marks : List Bool) (units : Units) → HasNoneWaiting units d → IsMarked marks units → IsMarked marks (parted d units)
+pub marked_parted : (d : ℕ) (marks : List Bool) (units : Units) → HasNoneWaiting units d → IsMarked marks units → IsMarked marks (after_part d units)
 marked_parted d marks units none marked =
     let same : length (slice_set units.affinity d None) ≡ length units.affinity = length-set units.affinity d None in
     record {
@@ -136,10 +137,10 @@ marked_pinned d unit cores marks units marked =
       waiting = marked.waiting;
       places = (let was = marked.places in omega (arith, same, was));
       domains = (let was = marked.domains in omega (arith, same, was));
-      few = λ k. (let n = units_in-change_at d k (pinned unit cores) units.affinity (length-pinned unit cores) in let was = marked.few k in omega (arith, n, was));
+      few = λ k. (let n = units_in-change_at d k (pinned_cores unit cores) units.affinity (length-pinned unit cores) in let was = marked.few k in omega (arith, n, was));
     }
 
-pub marked_enqueued : (u : UnitId) (marks : List Bool) (units : Units) → is_member units.affinity u ≡ true → has_unit units.queue u ≡ false → IsMarked marks units → IsMarked (slice_set marks (index_of u) true) (enqueued u units)
+pub marked_enqueued : (u : UnitId) (marks : List Bool) (units : Units) → is_member units.affinity u ≡ true → has_unit units.queue u ≡ false → IsMarked marks units → IsMarked (slice_set marks (index_of u) true) (after_enqueue u units)
 marked_enqueued u marks units member absent marked =
     let place = member_place u marks units member marked in
     let low = member_index u marks units member marked in
@@ -148,14 +149,14 @@ marked_enqueued u marks units member absent marked =
       waiting = λ w. elim (cases_Bool (same_unit w u)) [
         | inl same ↦ subst (λ (x : UnitId). is_marked (slice_set marks (index_of u) true) x ≡ has_unit (units.queue ++ u ∷ []) x) (sym (same_unit_same w u same))
             (set_here marks u true place low ∙ sym (has_unit-push u u units.queue ∙ or_right (has_unit units.queue u) (same_unit u u) (same_unit_refl u)))
-        | inr other ↦ set_elsewhere marks u w true place other ∙ marked.waiting w ∙ sym (has_unit-push w u units.queue ∙ ap (λ b. has_unit units.queue w || b) other ∙ or_false (has_unit units.queue w))
+        | inr other ↦ set_elsewhere marks u w true place other ∙ marked.waiting w ∙ sym (has_unit-push w u units.queue ∙ ap (λ b. has_unit units.queue w || b) other ∙ or-false (has_unit units.queue w))
       ];
       places = (let was = marked.places in simp length-set was);
       domains = marked.domains;
       few = marked.few;
     }
 
-pub marked_dequeued : (u : UnitId) (marks : List Bool) (units : Units) → is_marked marks u ≡ true → IsMarked marks units → IsMarked (slice_set marks (index_of u) false) (dequeued u units)
+pub marked_dequeued : (u : UnitId) (marks : List Bool) (units : Units) → is_marked marks u ≡ true → IsMarked marks units → IsMarked (slice_set marks (index_of u) false) (after_dequeue u units)
 marked_dequeued u marks units waits marked =
     let place = marked_place u marks units waits marked in
     let low = member_index u marks units (marked_member u marks units waits marked) marked in
@@ -172,5 +173,5 @@ marked_dequeued u marks units waits marked =
     }
 
 -- a unit without a mark does not wait, so nothing is taken out for it
-pub unmarked_stays : (u : UnitId) (marks : List Bool) (units : Units) → is_marked marks u ≡ false → IsMarked marks units → units ≡ dequeued u units
+pub unmarked_stays : (u : UnitId) (marks : List Bool) (units : Units) → is_marked marks u ≡ false → IsMarked marks units → units ≡ after_dequeue u units
 unmarked_stays u marks units none marked = ap (λ (queue : List UnitId). record units { queue = queue }) (sym (without_absent u units.queue (sym (marked.waiting u) ∙ none)))

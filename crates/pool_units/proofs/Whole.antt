@@ -7,20 +7,17 @@ use Rattle.std.proofs.lemmas.List.{length-replicate, length-append}
 use Rattle.sched_base.specs.declared.UnitId.{UnitId}
 use Rattle.sched_base.specs.declared.Cores.{Cores}
 use Rattle.sched_model.specs.Places.{at_place, put_at, clear_at, has_unit, same_unit}
-use Rattle.sched_model.specs.Policy.{pinned, all_cores}
+use Rattle.sched_model.specs.Policy.{pinned_cores, all_cores}
 use Rattle.sched_ops.specs.Conditions.{IsApart}
 use Rattle.sched_laws.proofs.Choices.{same_unit_same}
 use Rattle.sched_laws.proofs.EachPlace.{at_place-put_at_other, at_place-clear_at_other}
 use Rattle.sched_laws.proofs.Counts.{same_unit_refl}
-use Rattle.pool_units.specs.Units.{Units, IsWhole, is_member, HasNoneWaiting, joined, parted, enqueued, dequeued, pinned_in, vacant}
+use Rattle.pool_units.specs.Units.{Units, IsWhole, is_member, HasNoneWaiting, after_join, after_part, after_enqueue, after_dequeue, pinned_in, vacant_units as vacant}
 use Rattle.pool_units.proofs.Counting.{unit_count-put_at, unit_count-clear_at, unit_count-change_at, units_in-change_at, unit_count-empty, length-pinned, waiting_count}
-
-pub or_false : (b : Bool) → (b || false) ≡ b
-or_false true = refl
-or_false false = refl
+use Rattle.std.proofs.Math.Bool.{or-false}
 
 pub has_unit-push : (u w : UnitId) (units : List UnitId) → has_unit (units ++ w ∷ []) u ≡ (has_unit units u || same_unit u w)
-has_unit-push u w [] = or_false (same_unit u w)
+has_unit-push u w [] = or-false (same_unit u w)
 has_unit-push u w (x ∷ units) =
     elim (same_unit u x) as (λ b. (b || has_unit (units ++ w ∷ []) u) ≡ ((b || has_unit units u) || same_unit u w)) [
       | true ↦ refl
@@ -78,7 +75,7 @@ none_in u affinity none member =
 abbrev pub units_of : List UnitId → Option (List (Option (List Cores))) → ℕ → Units
 units_of queue affinity spare = record { queue = queue; affinity = unwrap_or affinity []; spare = spare }
 
-pub whole_joined : (d count : ℕ) (units : Units) → at_place units.affinity d ≡ None → count ≤ units.spare → IsWhole units → IsWhole (joined d count units)
+pub whole_joined : (d count : ℕ) (units : Units) → at_place units.affinity d ≡ None → count ≤ units.spare → IsWhole units → IsWhole (after_join d count units)
 whole_joined d count units absent few whole =
     record {
       apart = whole.apart;
@@ -97,7 +94,7 @@ whole_joined d count units absent few whole =
           );
     }
 
-pub whole_parted : (d : ℕ) (units : Units) → HasNoneWaiting units d → IsWhole units → IsWhole (parted d units)
+pub whole_parted : (d : ℕ) (units : Units) → HasNoneWaiting units d → IsWhole units → IsWhole (after_part d units)
 whole_parted d units none whole =
     record {
       apart = whole.apart;
@@ -111,7 +108,7 @@ whole_parted d units none whole =
       room = (let less = unit_count-clear_at d units.affinity in let was = whole.room in omega (arith, less, was));
     }
 
-pub whole_enqueued : (u : UnitId) (units : Units) → is_member units.affinity u ≡ true → has_unit units.queue u ≡ false → IsWhole units → IsWhole (enqueued u units)
+pub whole_enqueued : (u : UnitId) (units : Units) → is_member units.affinity u ≡ true → has_unit units.queue u ≡ false → IsWhole units → IsWhole (after_enqueue u units)
 whole_enqueued u units member absent whole =
     record {
       apart = apart_push units.queue u absent whole.apart;
@@ -125,7 +122,7 @@ whole_enqueued u units member absent whole =
       room = whole.room;
     }
 
-pub whole_dequeued : (u : UnitId) (units : Units) → IsWhole units → IsWhole (dequeued u units)
+pub whole_dequeued : (u : UnitId) (units : Units) → IsWhole units → IsWhole (after_dequeue u units)
 whole_dequeued u units whole =
     record {
       apart = apart_filter (λ w. not (same_unit u w)) units.queue whole.apart;
@@ -137,8 +134,8 @@ pub whole_pinned : (d : ℕ) (unit : Option ℕ) (cores : Cores) (units : Units)
 whole_pinned d unit cores units whole =
     record {
       apart = whole.apart;
-      members = λ u has. (let same = units_in-change_at d u.dom.0 (pinned unit cores) units.affinity (length-pinned unit cores) in ap (nat_lt u.n) same ∙ whole.members u has);
-      room = (let same = unit_count-change_at d (pinned unit cores) units.affinity (length-pinned unit cores) in let was = whole.room in omega (arith, same, was));
+      members = λ u has. (let same = units_in-change_at d u.dom.0 (pinned_cores unit cores) units.affinity (length-pinned unit cores) in ap (nat_lt u.n) same ∙ whole.members u has);
+      room = (let same = unit_count-change_at d (pinned_cores unit cores) units.affinity (length-pinned unit cores) in let was = whole.room in omega (arith, same, was));
     }
 
 pub whole_vacant : (domains spare : ℕ) → spare ≤ 256 → IsWhole (vacant domains spare)

@@ -3,7 +3,7 @@ use Rattle.std.specs.Prelude.{ℕ, ◌+◌, ◌-◌, ◌≡◌, ◌≤◌, Bool,
 use Rattle.sched_base.specs.declared.UnitId.{UnitId}
 use Rattle.sched_base.specs.declared.Cores.{Cores}
 use Rattle.sched_model.specs.Places.{at_place, put_at, clear_at, change_at, has_unit, without_unit}
-use Rattle.sched_model.specs.Policy.{all_cores, pinned}
+use Rattle.sched_model.specs.Policy.{all_cores, pinned_cores}
 use Rattle.sched_ops.specs.Conditions.{IsApart}
 
 -- the units that wait, in order of arrival; the sets of cores of each domain's units; and how many units may still join
@@ -13,8 +13,8 @@ pub record Units : Type 0 where
   pub spare : ℕ
 
 -- no unit, with so many places for domains and room for so many units
-abbrev pub vacant : ℕ → ℕ → Units
-vacant domains units = record { queue = []; affinity = replicate domains None; spare = units }
+abbrev pub vacant_units : ℕ → ℕ → Units
+vacant_units domains units = record { queue = []; affinity = replicate domains None; spare = units }
 
 -- how many units the domain has
 abbrev pub units_in : List (Option (List Cores)) → ℕ → ℕ
@@ -29,24 +29,24 @@ abbrev pub HasNoneWaiting : Units → ℕ → Type 0
 HasNoneWaiting units d = (u : UnitId) → u.dom.0 ≡ d → has_unit units.queue u ≡ false
 
 -- the domain d joins with so many units, which may have all cores
-abbrev pub joined : ℕ → ℕ → Units → Units
-joined d count units = record units { affinity = put_at d (replicate count all_cores) units.affinity; spare = units.spare - count }
+abbrev pub after_join : ℕ → ℕ → Units → Units
+after_join d count units = record units { affinity = put_at d (replicate count all_cores) units.affinity; spare = units.spare - count }
 
 -- the domain d parts
-abbrev pub parted : ℕ → Units → Units
-parted d units = record units { affinity = clear_at d units.affinity; spare = units.spare + units_in units.affinity d }
+abbrev pub after_part : ℕ → Units → Units
+after_part d units = record units { affinity = clear_at d units.affinity; spare = units.spare + units_in units.affinity d }
 
 -- the unit waits behind all others
-abbrev pub enqueued : UnitId → Units → Units
-enqueued u units = record units { queue = units.queue ++ u ∷ [] }
+abbrev pub after_enqueue : UnitId → Units → Units
+after_enqueue u units = record units { queue = units.queue ++ u ∷ [] }
 
 -- the unit waits no more
-abbrev pub dequeued : UnitId → Units → Units
-dequeued u units = record units { queue = without_unit u units.queue }
+abbrev pub after_dequeue : UnitId → Units → Units
+after_dequeue u units = record units { queue = without_unit u units.queue }
 
 -- one of the domain's units, or all of them, have another set of cores
 abbrev pub pinned_in : ℕ → Option ℕ → Cores → Units → Units
-pinned_in d unit cores units = record units { affinity = change_at d (pinned unit cores) units.affinity }
+pinned_in d unit cores units = record units { affinity = change_at d (pinned_cores unit cores) units.affinity }
 
 -- how many units have joined
 abbrev pub unit_count : List (Option (List Cores)) → ℕ

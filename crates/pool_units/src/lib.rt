@@ -6,7 +6,7 @@
 ghost use Rattle.std.specs.Prelude.{◌≡◌, ◌≤◌, ◌<◌, Some, None, true, false, is_some, not, length, OnOk, OnErr, IfOk, replicate, unwrap_or, [], slice_set};
 ghost use Rattle.std.specs.List.{list_any};
 ghost use Rattle.sched_model.specs.Places.{at_place, change_at, has_unit};
-ghost use Rattle.sched_model.specs.Policy.{pinned};
+ghost use Rattle.sched_model.specs.Policy.{pinned_cores};
 ghost use Rattle.sched_model.specs.Eligible.{is_allowed_by};
 ghost use Rattle.sched_ops.specs.Conditions.{IsApart};
 
@@ -19,7 +19,7 @@ use plain_units::eligible::is_allowed;
 use plain_units::units::drop_unit;
 use sched_base::{Cores, DomId, NoMemory, ResId, UnitId};
 use sched_model::config::Pins;
-use sched_model::row::Row;
+use sched_model::row::{Row, empty_places};
 use sched_model::short::Short;
 use sched_model::state::Queue;
 use std::alloc::Global;
@@ -49,17 +49,6 @@ impl Model for PoolUnits {
     ghost invariant = { λ a. IsMarked a.marks (record { queue = a.queue; affinity = unwrap_or a.affinity []; spare = a.spare }) };
 }
 
-/// So many places, all of them empty.
-fn empty_places(alloc: Global, count: u8) -> Result<Row<Option<Pins>>, NoMemory>
-    ensures { IfOk result (λ places. places ≡ replicate count None) }
-{
-    let mut places = Row::from_vec(Vec::new(alloc));
-    for _d in 0..count {
-        places.push(None)?;
-    }
-    Ok(places)
-}
-
 /// The domain's units have these sets of cores from now on, where there is a place for the domain.
 fn set_sets(affinity: &mut Option<Row<Option<Pins>>>, d: DomId, sets: Option<Pins>)
     ensures { unwrap_or affinity.new [] ≡ slice_set (unwrap_or affinity.old []) d.0 sets }
@@ -71,20 +60,21 @@ fn set_sets(affinity: &mut Option<Row<Option<Pins>>>, d: DomId, sets: Option<Pin
 
 /// One of the domain's units, or all of them, have this set of cores from now on.
 fn pin_sets(affinity: &mut Option<Row<Option<Pins>>>, d: DomId, unit: Option<u8>, cores: Cores)
-    ensures { unwrap_or affinity.new [] ≡ change_at d.0 (pinned unit cores) (unwrap_or affinity.old []) }
+    ensures { unwrap_or affinity.new [] ≡ change_at d.0 (pinned_cores unit cores)
+        (unwrap_or affinity.old []) }
 {
     if let Some(places) = affinity {
-        pin(d.0, unit, cores, places);
+        pin(d, unit, cores, places);
     }
 }
 
 impl PoolUnits {
     ghost use Rattle.std.specs.Prelude.{◌≡◌, ◌≤◌, ◌<◌, Some, None, true, false, is_some, not, length, OnOk, OnErr, IfOk, replicate};
-    ghost use Rattle.pool_units.specs.Units.{vacant, units_in, is_member, HasNoneWaiting, joined, parted, enqueued, dequeued, pinned_in};
+    ghost use Rattle.pool_units.specs.Units.{vacant_units, units_in, is_member, HasNoneWaiting, after_join, after_part, after_enqueue, after_dequeue, pinned_in};
 
     /// No unit, no place for a domain and no room. It has no memory.
     pub fn empty() -> Self
-        ensures { result ≡ vacant 0 0 }
+        ensures { result ≡ vacant_units 0 0 }
     {
         PoolUnits {
             queue: Short::new(),
@@ -98,9 +88,9 @@ impl PoolUnits {
     pub fn room(alloc: Global, domains: u8, units: usize) -> Result<Self, NoMemory>
         requires domains { domains ≤ 64 }
         requires units { units ≤ 256 }
-        ensures { IfOk result (λ all. all ≡ vacant domains units) }
+        ensures { IfOk result (λ all. all ≡ vacant_units domains units) }
     {
-        let affinity = empty_places(alloc, domains)?;
+        let affinity = empty_places(alloc, domains as usize)?;
         Ok(PoolUnits {
             queue: Short::new(),
             marks: Marks::room(alloc, domains)?,
@@ -115,7 +105,7 @@ impl PoolUnits {
         requires absent { at_place self.old.affinity d.0 ≡ None }
         requires few { units ≤ 32 }
         requires room { units ≤ self.old.spare }
-        ensures { self.new ≡ joined d.0 units self.old }
+        ensures { self.new ≡ after_join d.0 units self.old }
     {
         let sets = copies(Cores(u64::MAX), units);
         set_sets(&mut self.affinity, d, Some(sets));
@@ -140,7 +130,7 @@ impl PoolUnits {
     /// The domain parts. None of its units waits.
     pub fn part(&mut self, d: DomId)
         requires { HasNoneWaiting self.old d.0 }
-        ensures { self.new ≡ parted d.0 self.old }
+        ensures { self.new ≡ after_part d.0 self.old }
     {
         let units = self.count(d);
         set_sets(&mut self.affinity, d, None);
@@ -151,7 +141,7 @@ impl PoolUnits {
     pub fn enqueue(&mut self, u: UnitId)
         requires member { is_member self.old.affinity u ≡ true }
         requires waits_not { has_unit self.old.queue u ≡ false }
-        ensures { self.new ≡ enqueued u self.old }
+        ensures { self.new ≡ after_enqueue u self.old }
     {
         self.marks.set(u, true);
         self.queue.push(u);
@@ -159,7 +149,7 @@ impl PoolUnits {
 
     /// The unit waits no more. One that did not wait is not looked for.
     pub fn dequeue(&mut self, u: UnitId)
-        ensures { self.new ≡ dequeued u self.old }
+        ensures { self.new ≡ after_dequeue u self.old }
     {
         if !self.marks.get(u) {
             return;
@@ -180,7 +170,7 @@ impl PoolUnits {
         requires { core.0 < 64 }
         ensures { result ≡ is_allowed_by self.now.affinity home.0 core.0 u }
     {
-        is_allowed(self.affinity(), home.0, core.0, u)
+        is_allowed(self.affinity(), home, core, u)
     }
 
     /// Gives one of the domain's units, or all of them, a set of cores.
@@ -210,7 +200,8 @@ impl PoolUnits {
     /// Does nothing, and tells what is always so: no unit waits twice, and those that wait have joined.
     pub fn keeps(&self)
         ensures apart { IsApart self.now.queue }
-        ensures members { (u : UnitId) → has_unit self.now.queue u ≡ true → is_member self.now.affinity u ≡ true }
+        ensures members { (u : UnitId) → has_unit self.now.queue u ≡ true →
+            is_member self.now.affinity u ≡ true }
     {
         let _ = &self.queue;
     }

@@ -25,6 +25,7 @@ use Rattle.rtds_core.proofs.Calls.{first_is}
 use Rattle.rtds_core.proofs.Changed.{member_record, sets_of}
 use Rattle.rtds_core.proofs.First.{IsKnown, before_by_key, first_ahead, key_in, key_is, some_first}
 use Rattle.rtds_core.proofs.Queues.{IsOrdered}
+use Rattle.std.proofs.Math.Bool.{or-true}
 
 -- the set of all 64 cores has each of them
 every_core : (r : ℕ) → r < 64 → has_core (2 ^ 64 - 1) r ≡ true
@@ -32,11 +33,7 @@ every_core r low = ap (λ n. n == 1) (bit_at_ones 64 r low)
 
 -- where a set has none of the pool's cores, each is allowed
 pub all_open : (set home r : ℕ) → r < 64 → (is_none : (has_core set r || true) ≡ is_allowed set r home) → has_core (2 ^ 64 - 1) r ≡ is_allowed set r home
-all_open set home r low is_none = every_core r low ∙ sym (or_true (has_core set r)) ∙ is_none
-  where
-    or_true : (b : Bool) → (b || true) ≡ true
-    or_true true = refl
-    or_true false = refl
+all_open set home r low is_none = every_core r low ∙ sym (or-true (has_core set r)) ∙ is_none
 
 module _ (domains : List (Option (List RtdsUnit))) (own : UnitId) (p : UnitId → Bool) where
   -- no unit goes before one without a record

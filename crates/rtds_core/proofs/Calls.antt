@@ -12,9 +12,9 @@ use Rattle.sched_model.specs.Checked.{IsWithin}
 use Rattle.sched_model.specs.Places.{at_place, has_unit}
 use Rattle.sched_model.specs.declared.state.RtdsUnit.{RtdsUnit}
 use Rattle.sched_model.specs.Eligible.{rtds_unit, cores_of}
-use Rattle.sched_laws.proofs.Bools.{either, clash}
+use Rattle.sched_laws.proofs.Bools.{either, clash, and_left, and_right}
 use Rattle.sched_laws.proofs.Lists.{AllByRecursion-map}
-use Rattle.arrival_queue.specs.Queues.{Queued, queued}
+use Rattle.arrival_queue.specs.Queues.{Queued, queued_unit}
 use Rattle.rtds_queue.specs.Lists.{Lists, count}
 use Rattle.queue_laws.proofs.Once.{once_units}
 use Rattle.rtds_core.specs.Best.{queue_of, IsEligible, AreQueued, AreMasks}
@@ -30,8 +30,8 @@ use Rattle.sched_model.specs.declared.state.Scheduler.{Scheduler}
 use Rattle.sched_model.specs.declared.state.Records.TheVariants.{RtdsPool}
 use Rattle.sched_model.specs.Policy.{replenish_due, joined_records, all_cores}
 use Rattle.sched_model.specs.Places.{put_at}
-use Rattle.sched_model.specs.Rtds.{own_candidate, choice, foremost, budget_left, unit_before, fresh_units}
-use Rattle.sched_model.specs.Eligible.{eligible, is_allowed, is_eligible}
+use Rattle.sched_model.specs.Rtds.{own_candidate, choice, foremost_unit, budget_left, unit_before, fresh_units}
+use Rattle.sched_model.specs.Eligible.{eligible_units, is_allowed, is_eligible}
 use Rattle.sched_ops.specs.Seen.{Seen}
 use Rattle.rtds_core.proofs.Steps.{kept_later}
 use Rattle.sched_ops.specs.Conditions.{IsAsked, IsOwn, IsOwnOf, AreDomParams, IsTerm, Keeps, is_on}
@@ -40,12 +40,13 @@ use Rattle.plain_policy.specs.Parts.{scheduler_of}
 use Rattle.queue_laws.specs.Arrivals.{least_by}
 use Rattle.queue_laws.proofs.Once.{once_ranks}
 use Rattle.rtds_core.specs.Kept.{seen_of}
-use Rattle.rtds_core.specs.Best.{listed}
+use Rattle.rtds_core.specs.Best.{list_of}
 use Rattle.rtds_core.proofs.Changed.{member_record, record_member, sets_of}
 use Rattle.rtds_core.proofs.First.{IsKnown, test, key_in, first_waits, scan_of_first, known_passes}
 use Rattle.rtds_core.proofs.Keeping.{low_queued, waiting_known}
 use Rattle.rtds_core.proofs.Chosen.{IsOwnUnit, IsReplenished}
 use Rattle.rtds_core.proofs.Joining.{Sets, kept_joined}
+use Rattle.std.proofs.Math.Bool.{and-false}
 
 -- what callers see of the parts, with this queue
 abbrev pub seen_queue : List (Option (List RtdsUnit)) → List (Option (List Cores)) → ℕ → ℕ → List UnitId → Seen
@@ -81,25 +82,13 @@ pub replenished_of : (domains : List (Option (List RtdsUnit))) (affinity : List 
 replenished_of domains affinity q masks dues spare t u due = by_record (rtds_unit domains u) refl due
   where
     by_record : (o : Option RtdsUnit) → rtds_unit domains u ≡ o → ((has_unit (queue_of q) u || on_in o) && (elim o as (λ _. Bool) [ None ↦ false | Some x ↦ nat_le x.deadline t ])) ≡ true → IsReplenished domains affinity q masks dues spare t u
-    by_record None at e = absurd (clash ((has_unit (queue_of q) u || false) && false) e (and_false (has_unit (queue_of q) u || false)))
-      where
-        and_false : (b : Bool) → (b && false) ≡ false
-        and_false true = refl
-        and_false false = refl
+    by_record None at e = absurd (clash ((has_unit (queue_of q) u || false) && false) e (and-false (has_unit (queue_of q) u || false)))
     by_record (Some x) at e = record {
       unit = x;
       at = at;
-      come = (let c : nat_le x.deadline t ≡ true = right (has_unit (queue_of q) u || is_some x.burned) (nat_le x.deadline t) e in grind (arith, nat_tests, c));
-      busy = left (has_unit (queue_of q) u || is_some x.burned) (nat_le x.deadline t) e;
+      come = (let c : nat_le x.deadline t ≡ true = and_right (has_unit (queue_of q) u || is_some x.burned) (nat_le x.deadline t) e in grind (arith, nat_tests, c));
+      busy = and_left (has_unit (queue_of q) u || is_some x.burned) (nat_le x.deadline t) e;
     }
-      where
-        left : (a b : Bool) → (a && b) ≡ true → a ≡ true
-        left true b e = refl
-        left false b e = absurd (cc)
-
-        right : (a b : Bool) → (a && b) ≡ true → b ≡ true
-        right true b e = e
-        right false b e = absurd (cc)
 
 pub term_budget : (period budget : ℕ) → IsTerm period budget → IsWithin 10000 1000000000000 budget
 term_budget period budget is = (let l = is.within.least in let m = is.within.most in let p = is.long.most in record { least = l; most = omega (arith, m, p) })
@@ -108,15 +97,13 @@ term_budget period budget is = (let l = is.within.least in let m = is.within.mos
 pub kept_with : (domains domains2 : List (Option (List RtdsUnit))) (affinity : List (Option (List Cores))) (q : Lists) (masks masks2 : List Cores) (dues : List (Option Moment)) (spare t d count : ℕ) (params : DomParams) → AreDomParams kinds.Rtds params → RtdsPool domains2 ≡ joined_records (RtdsPool domains) params d count t
     → d < length affinity → at_place affinity d ≡ None → count ≤ 32 → count ≤ spare → Sets masks masks2 d None all_cores → IsKept domains affinity q masks dues spare t
     → IsKept domains2 (put_at d (replicate count all_cores) affinity) q masks2 dues (spare - count) t
-kept_with domains domains2 affinity q masks masks2 dues spare t d count (dom_params.Credit2 weight percent) are joined place absent few room set kept = absurd are
-kept_with domains domains2 affinity q masks masks2 dues spare t d count dom_params.Arinc653 are joined place absent few room set kept = absurd are
-kept_with domains domains2 affinity q masks masks2 dues spare t d count dom_params.Null are joined place absent few room set kept = absurd are
 kept_with domains domains2 affinity q masks masks2 dues spare t d count (dom_params.Rtds period budget extra) are joined place absent few room set kept =
     subst (λ (ds : List (Option (List RtdsUnit))). IsKept ds (put_at d (replicate count all_cores) affinity) q masks2 dues (spare - count) t) (same_domains (put_at d (fresh_units period.0 budget.0 extra count t) domains) domains2 (sym joined))
     (kept_joined domains affinity q masks masks2 dues spare t d count period.0 budget.0 extra place absent few room are.long (term_budget period.0 budget.0 are) set kept)
   where
     same_domains : (a b : List (Option (List RtdsUnit))) → RtdsPool a ≡ RtdsPool b → a ≡ b
     same_domains a b e = cc
+kept_with domains domains2 affinity q masks masks2 dues spare t d count a are joined place absent few room set kept = absurd are
 
 -- what every scheduler keeps
 pub keeps_of : (domains : List (Option (List RtdsUnit))) (affinity : List (Option (List Cores))) (q : Lists) (masks : List Cores) (dues : List (Option Moment)) (spare latest : ℕ) → IsOrdered q → IsKept domains affinity q masks dues spare latest → Keeps (seen_of domains affinity q spare latest)
@@ -132,17 +119,17 @@ eligible_sets domains affinity masks es is are each = AllByRecursion-map (IsElig
 
 pub first_is : (domains : List (Option (List RtdsUnit))) (affinity : List (Option (List Cores))) (q : Lists) (masks : List Cores) (home core t : ℕ) → IsOrdered q → IsShaped domains affinity → AreQueued domains q → AreMasks affinity masks
     → first_that (λ u. may_run masks (record { 0 = core }) (record { 0 = home }) u) q.eligible ≡ least_by (key_in domains) None (filter (test domains affinity home core t) (queue_of q))
-first_is domains affinity q masks home core t order is queued are =
-    first_waits domains affinity home core t q masks queued order.order (once_ranks (q.eligible ++ q.spent) order.ranks) are (eligible_sets domains affinity masks q.eligible is are queued.eligible)
+first_is domains affinity q masks home core t order is queued_unit are =
+    first_waits domains affinity home core t q masks queued_unit order.order (once_ranks (q.eligible ++ q.spent) order.ranks) are (eligible_sets domains affinity masks q.eligible is are queued_unit.eligible)
 
 -- the core's own unit, where it may go on, has a record
 own_known : (domains : List (Option (List RtdsUnit))) (ask : Ask) (scheduler : Scheduler) → IfSome (own_candidate ask scheduler domains) (IsKnown domains)
 own_known domains ask scheduler = by_cur ask.cur
   where
-    by_cur : (cur : Option UnitId) → IfSome (elim cur as (λ _. Option UnitId) [ None ↦ None | Some u ↦ (if ask.runnable && is_allowed scheduler ask.home ask.core u && nat_lt 0 (budget_left domains u) then Some u else None) ]) (IsKnown domains)
+    by_cur : (cur : Option UnitId) → IfSome (elim cur as (λ _. Option UnitId) [ None ↦ None | Some u ↦ (if ask.runnable && is_allowed scheduler ask.home.0 ask.core.0 u && nat_lt 0 (budget_left domains u) then Some u else None) ]) (IsKnown domains)
     by_cur None = tt
-    by_cur (Some u) = elim (either (ask.runnable && is_allowed scheduler ask.home ask.core u && nat_lt 0 (budget_left domains u))) [
-      | inl is_so ↦ subst (λ (b : Bool). IfSome (if b then Some u else None) (IsKnown domains)) (sym is_so) (with_budget u (rtds_unit domains u) refl (last ask.runnable (is_allowed scheduler ask.home ask.core u) (nat_lt 0 (budget_left domains u)) is_so))
+    by_cur (Some u) = elim (either (ask.runnable && is_allowed scheduler ask.home.0 ask.core.0 u && nat_lt 0 (budget_left domains u))) [
+      | inl is_so ↦ subst (λ (b : Bool). IfSome (if b then Some u else None) (IsKnown domains)) (sym is_so) (with_budget u (rtds_unit domains u) refl (last ask.runnable (is_allowed scheduler ask.home.0 ask.core.0 u) (nat_lt 0 (budget_left domains u)) is_so))
       | inr not_so ↦ subst (λ (b : Bool). IfSome (if b then Some u else None) (IsKnown domains)) (sym not_so) tt
     ]
       where
@@ -157,38 +144,38 @@ own_known domains ask scheduler = by_cur ask.cur
 
 -- the choice among the core's own and the first is that of a scan
 pub choice_of_first : (domains : List (Option (List RtdsUnit))) (affinity : List (Option (List Cores))) (q : Lists) (masks : List Cores) (ask : Ask) → ask.leaving ≡ false → IsOrdered q → IsShaped domains affinity → AreQueued domains q → AreMasks affinity masks
-    → foremost domains (own_candidate ask (scheduler_of [] affinity (RtdsPool domains)) domains) (listed (first_that (λ u. may_run masks (record { 0 = ask.core }) (record { 0 = ask.home }) u) q.eligible))
+    → foremost_unit domains (own_candidate ask (scheduler_of [] affinity (RtdsPool domains)) domains) (list_of (first_that (λ u. may_run masks (record { 0 = ask.core.0 }) (record { 0 = ask.home.0 }) u) q.eligible))
     ≡ choice ask (scheduler_of (queue_of q) affinity (RtdsPool domains)) domains
-choice_of_first domains affinity q masks ask stays order is queued are =
-    scan_of_first domains affinity ask.home ask.core ask.at (own_candidate ask (scheduler_of [] affinity (RtdsPool domains)) domains) (queue_of q)
-    (first_that (λ u. may_run masks (record { 0 = ask.core }) (record { 0 = ask.home }) u) q.eligible) (own_known domains ask (scheduler_of [] affinity (RtdsPool domains)))
-    (first_is domains affinity q masks ask.home ask.core ask.at order is queued are)
-    ∙ sym (ap (λ (b : Bool). if b then None else foremost domains (own_candidate ask (scheduler_of [] affinity (RtdsPool domains)) domains) (eligible (scheduler_of (queue_of q) affinity (RtdsPool domains)) ask.home ask.core ask.at)) stays)
+choice_of_first domains affinity q masks ask stays order is queued_unit are =
+    scan_of_first domains affinity ask.home.0 ask.core.0 ask.at.0 (own_candidate ask (scheduler_of [] affinity (RtdsPool domains)) domains) (queue_of q)
+    (first_that (λ u. may_run masks (record { 0 = ask.core.0 }) (record { 0 = ask.home.0 }) u) q.eligible) (own_known domains ask (scheduler_of [] affinity (RtdsPool domains)))
+    (first_is domains affinity q masks ask.home.0 ask.core.0 ask.at.0 order is queued_unit are)
+    ∙ sym (ap (λ (b : Bool). if b then None else foremost_unit domains (own_candidate ask (scheduler_of [] affinity (RtdsPool domains)) domains) (eligible_units (scheduler_of (queue_of q) affinity (RtdsPool domains)) ask.home.0 ask.core.0 ask.at.0)) stays)
 
 -- the chosen unit has a record
 pub choice_known : (domains : List (Option (List RtdsUnit))) (ask : Ask) (scheduler : Scheduler) → IfSome (choice ask scheduler domains) (IsKnown domains)
 choice_known domains ask scheduler = elim (either ask.leaving) [
-  | inl leaves ↦ subst (λ (b : Bool). IfSome (if b then None else foremost domains (own_candidate ask scheduler domains) (filter may (scheduler.queue))) (IsKnown domains)) (sym leaves) tt
-  | inr stays ↦ subst (λ (b : Bool). IfSome (if b then None else foremost domains (own_candidate ask scheduler domains) (filter may (scheduler.queue))) (IsKnown domains)) (sym stays) (walk (own_candidate ask scheduler domains) scheduler.queue (own_known domains ask scheduler))
+  | inl leaves ↦ subst (λ (b : Bool). IfSome (if b then None else foremost_unit domains (own_candidate ask scheduler domains) (filter may (scheduler.queue))) (IsKnown domains)) (sym leaves) tt
+  | inr stays ↦ subst (λ (b : Bool). IfSome (if b then None else foremost_unit domains (own_candidate ask scheduler domains) (filter may (scheduler.queue))) (IsKnown domains)) (sym stays) (walk (own_candidate ask scheduler domains) scheduler.queue (own_known domains ask scheduler))
 ]
   where
     may : UnitId → Bool
-    may u = is_eligible (record scheduler { records = RtdsPool domains }) ask.home ask.core ask.at u
+    may u = is_eligible (record scheduler { records = RtdsPool domains }) ask.home.0 ask.core.0 ask.at.0 u
 
-    next : (best : Option UnitId) (u : UnitId) (units : List UnitId) → IsKnown domains u → IfSome best (IsKnown domains) → ((b : Option UnitId) → IfSome b (IsKnown domains) → IfSome (foremost domains b units) (IsKnown domains)) → IfSome (foremost domains best (u ∷ units)) (IsKnown domains)
+    next : (best : Option UnitId) (u : UnitId) (units : List UnitId) → IsKnown domains u → IfSome best (IsKnown domains) → ((b : Option UnitId) → IfSome b (IsKnown domains) → IfSome (foremost_unit domains b units) (IsKnown domains)) → IfSome (foremost_unit domains best (u ∷ units)) (IsKnown domains)
     next None u units mine known rest = rest (Some u) mine
-    next (Some b) u units mine known rest = elim (unit_before domains u b) as (λ t. IfSome (foremost domains (Some (if t then u else b)) units) (IsKnown domains)) [
+    next (Some b) u units mine known rest = elim (unit_before domains u b) as (λ t. IfSome (foremost_unit domains (Some (if t then u else b)) units) (IsKnown domains)) [
       | true ↦ rest (Some u) mine
       | false ↦ rest (Some b) known
     ]
 
-    walk : (best : Option UnitId) (units : List UnitId) → IfSome best (IsKnown domains) → IfSome (foremost domains best (filter may units)) (IsKnown domains)
+    walk : (best : Option UnitId) (units : List UnitId) → IfSome best (IsKnown domains) → IfSome (foremost_unit domains best (filter may units)) (IsKnown domains)
     walk best [] known = known
     walk best (u ∷ units) known = elim (either (may u)) [
       | inl passes ↦
-          subst (λ (b : Bool). IfSome (foremost domains best (if b then u ∷ filter may units else filter may units)) (IsKnown domains)) (sym passes)
-          (next best u (filter may units) (known_passes domains scheduler.affinity ask.home ask.core ask.at u passes) known (λ b k. walk b units k))
-      | inr fails ↦ subst (λ (b : Bool). IfSome (foremost domains best (if b then u ∷ filter may units else filter may units)) (IsKnown domains)) (sym fails) (walk best units known)
+          subst (λ (b : Bool). IfSome (foremost_unit domains best (if b then u ∷ filter may units else filter may units)) (IsKnown domains)) (sym passes)
+          (next best u (filter may units) (known_passes domains scheduler.affinity ask.home.0 ask.core.0 ask.at.0 u passes) known (λ b k. walk b units k))
+      | inr fails ↦ subst (λ (b : Bool). IfSome (foremost_unit domains best (if b then u ∷ filter may units else filter may units)) (IsKnown domains)) (sym fails) (walk best units known)
     ]
 
 -- a unit that is not on, by its record
@@ -206,9 +193,9 @@ kept_as domains domains2 affinity affinity2 q q2 masks dues dues2 spare latest d
 
 -- the parts at the moment of a question, and its own unit
 pub kept_asked : (domains : List (Option (List RtdsUnit))) (affinity : List (Option (List Cores))) (q : Lists) (masks : List Cores) (dues : List (Option Moment)) (spare latest : ℕ) (ask : Ask) (seen : Seen) → seen_of domains affinity q spare latest ≡ seen → IsAsked seen ask
-    → IsKept domains affinity q masks dues spare latest → IsKept domains affinity q masks dues spare ask.at
+    → IsKept domains affinity q masks dues spare latest → IsKept domains affinity q masks dues spare ask.at.0
 kept_asked domains affinity q masks dues spare latest ask seen view asked kept =
-    kept_later domains affinity q masks dues spare latest ask.at (subst (λ (s : Seen). s.latest ≤ ask.at) (sym view) asked.now.after) asked.now.early kept
+    kept_later domains affinity q masks dues spare latest ask.at.0 (subst (λ (s : Seen). s.latest ≤ ask.at.0) (sym view) asked.now.after) asked.now.early kept
 
 pub own_asked : (domains : List (Option (List RtdsUnit))) (affinity : List (Option (List Cores))) (q : Lists) (spare latest : ℕ) (ask : Ask) (seen : Seen) → seen_of domains affinity q spare latest ≡ seen → IsAsked seen ask → IsShaped domains affinity → IfSome ask.cur (IsOwnUnit domains q)
 own_asked domains affinity q spare latest ask seen view asked is =

@@ -13,44 +13,19 @@ use Rattle.sched_model.specs.Places.{at_place, change_at, change_item, same_unit
 use Rattle.sched_model.specs.declared.state.RtdsUnit.{RtdsUnit}
 use Rattle.sched_model.specs.Eligible.{rtds_unit}
 use Rattle.sched_model.specs.Rtds.{change_unit}
-use Rattle.sched_laws.proofs.EachPlace.{by_option, place_below, length_set, EachPlace-change_at}
-use Rattle.sched_laws.proofs.Lists.{AllByRecursion-map, length_change_item}
+use Rattle.sched_laws.proofs.EachPlace.{by_option, place_below, length_set, EachPlace-change_at, at_place-set_other, at_place-change_at}
+use Rattle.sched_laws.proofs.Lists.{AllByRecursion-map, length_change_item, slice_get-change_item_other, slice_get-change_item}
 use Rattle.sched_ranges.specs.Ranges.{RtdsInRange}
 use Rattle.sched_ranges.specs.Fits.{RtdsFits, RtdsFit}
 use Rattle.plain_units.specs.Fits as plain
 use Rattle.rtds_core.specs.Alarms.{id_of}
 use Rattle.rtds_core.specs.Kept.{IsShaped, size, total}
-
-slice_get-change_item : {X : Type 0} (i : ℕ) (f : X → X) (xs : List X) (x : X) → slice_get xs i ≡ Some x → slice_get (change_item i f xs) i ≡ Some (f x)
-slice_get-change_item i f [] x at = absurd (cc)
-slice_get-change_item zero f (y ∷ xs) x at = (let e : y ≡ x = cc in ap (λ (z : _). Some (f z)) e)
-slice_get-change_item (suc i) f (y ∷ xs) x at = slice_get-change_item i f xs x at
-
-slice_get-change_item_other : {X : Type 0} (i j : ℕ) (f : X → X) (xs : List X) → i ≢ j → slice_get (change_item i f xs) j ≡ slice_get xs j
-slice_get-change_item_other i j f [] other = refl
-slice_get-change_item_other zero zero f (y ∷ xs) other = absurd (other refl)
-slice_get-change_item_other zero (suc j) f (y ∷ xs) other = refl
-slice_get-change_item_other (suc i) zero f (y ∷ xs) other = refl
-slice_get-change_item_other (suc i) (suc j) f (y ∷ xs) other = slice_get-change_item_other i j f xs (λ e. other (ap suc e))
+use Rattle.std.proofs.lemmas.Option.{slice_get_within}
 
 pub at_place-set : {X : Type 0} (i : ℕ) (o : Option X) (places : List (Option X)) → i < length places → at_place (slice_set places i o) i ≡ o
 at_place-set i o [] inside = absurd (omega (arith, inside))
 at_place-set zero o (p ∷ places) inside = refl
 at_place-set (suc i) o (p ∷ places) inside = at_place-set i o places (omega (arith, inside))
-
-pub at_place-set_other : {X : Type 0} (i j : ℕ) (o : Option X) (places : List (Option X)) → i ≢ j → at_place (slice_set places i o) j ≡ at_place places j
-at_place-set_other zero j o [] other = refl
-at_place-set_other (suc i) j o [] other = refl
-at_place-set_other zero zero o (p ∷ places) other = absurd (other refl)
-at_place-set_other zero (suc j) o (p ∷ places) other = refl
-at_place-set_other (suc i) zero o (p ∷ places) other = refl
-at_place-set_other (suc i) (suc j) o (p ∷ places) other = at_place-set_other i j o places (λ e. other (ap suc e))
-
-pub at_place-change_at : {X : Type 0} (i : ℕ) (f : X → X) (places : List (Option X)) → at_place (change_at i f places) i ≡ option_map f (at_place places i)
-at_place-change_at zero f [] = refl
-at_place-change_at (suc i) f [] = refl
-at_place-change_at zero f (p ∷ places) = refl
-at_place-change_at (suc i) f (p ∷ places) = at_place-change_at i f places
 
 -- the record that is there after a change of its unit, and after one of another
 abbrev pub unit_in : Option (List RtdsUnit) → ℕ → Option RtdsUnit
@@ -61,7 +36,7 @@ read_same u f domains x at = ap (λ (o : Option (List RtdsUnit)). unit_in o u.n)
   where
     there : (o : Option (List RtdsUnit)) → unit_in o u.n ≡ Some x → unit_in (option_map (change_item u.n f) o) u.n ≡ Some (f x)
     there None is = absurd (cc)
-    there (Some units) is = slice_get-change_item u.n f units x is
+    there (Some units) is = slice_get-change_item u.n f units ∙ ap (option_map f) is
 
 pub read_other : (w u : UnitId) (f : RtdsUnit → RtdsUnit) (domains : List (Option (List RtdsUnit))) → same_unit w u ≡ false → rtds_unit (change_unit w f domains) u ≡ rtds_unit domains u
 read_other w u f domains other =
@@ -114,12 +89,6 @@ total_set i o [] inside = absurd (omega (arith, inside))
 total_set zero o (p ∷ places) inside = omega arith
 total_set (suc i) o (p ∷ places) inside = (let r = total_set i o places (omega (arith, inside)) in omega (arith, r))
 
--- a unit of the records has a small number
-get_below : {X : Type 0} (xs : List X) (n : ℕ) (x : X) → slice_get xs n ≡ Some x → n < length xs
-get_below [] n x at = absurd (cc)
-get_below (y ∷ xs) zero x at = omega arith
-get_below (y ∷ xs) (suc n) x at = (let r = get_below xs n x at in omega (arith, r))
-
 pub get_there : {X : Type 0} (xs : List X) (n : ℕ) → n < length xs → (x : X) × (slice_get xs n ≡ Some x)
 get_there [] n inside = absurd (omega (arith, inside))
 get_there (x ∷ xs) zero inside = (x, refl)
@@ -134,7 +103,7 @@ pub record Home (domains : List (Option (List RtdsUnit))) (u : UnitId) : Type 0 
 pub home_of : (domains : List (Option (List RtdsUnit))) (u : UnitId) (x : RtdsUnit) → rtds_unit domains u ≡ Some x → Home domains u
 home_of domains u x at =
     by_option (λ (o : Option RtdsUnit). o ≡ Some x → Home domains u) (at_place domains u.dom.0) _ _ (λ none e. absurd (cc))
-    (λ units there e. record { units = units; at = there; inside = get_below units u.n x e }) at
+    (λ units there e. record { units = units; at = there; inside = slice_get_within units u.n x e }) at
 
 pub record IsLow (u : UnitId) : Type 0 where
   pub dom : u.dom.0 < 64

@@ -16,11 +16,11 @@ use Rattle.sched_laws.proofs.Counts.{same_unit_refl}
 use Rattle.sched_laws.proofs.EachPlace.{by_option}
 use Rattle.sched_ranges.proofs.Rtds.{rtds_burned, rtds_running, rtds_off, rtds_replenished, fit_unit}
 use Rattle.sched_ranges.specs.Fits.{RtdsFits}
-use Rattle.rtds_queue.specs.Lists.{Lists, holds, removed, renewed}
+use Rattle.rtds_queue.specs.Lists.{Lists, holds, after_remove, after_renew}
 use Rattle.queue_laws.proofs.Arrivals.{test_cases}
 use Rattle.rtds_core.specs.Alarms.{id_of, with_due}
-use Rattle.rtds_core.specs.Best.{queue_of, key_by, taken, started, stopped, run_from, deadline_in}
-use Rattle.rtds_core.specs.Kept.{IsKept, renewed_if, rearmed}
+use Rattle.rtds_core.specs.Best.{queue_of, key_by, queues_without, dues_with, dues_without, run_from, deadline_in}
+use Rattle.rtds_core.specs.Kept.{IsKept, renewed_if, rearmed_dues}
 use Rattle.rtds_core.proofs.Queues.{IsOrdered, queue_removed, queue_renewed}
 use Rattle.rtds_core.proofs.Changed.{low_unit, read_same, read_other}
 use Rattle.rtds_core.proofs.Units.{has_without}
@@ -33,6 +33,7 @@ use Rattle.rtds_core.specs.Kept.{seen_of}
 use Rattle.rtds_core.proofs.First.{IsKnown}
 use Rattle.rtds_core.proofs.Keeping.{low_queued, waiting_known, queued_other}
 use Rattle.rtds_core.proofs.Steps.{without_absent, tells_waiting, kept_removed, kept_like, kept_set, kept_renewed}
+use Rattle.std.proofs.Math.Bool.{or-false}
 
 -- a core's own unit: it has a record, and does not wait
 pub record IsOwnUnit (domains : List (Option (List RtdsUnit))) (q : Lists) (u : UnitId) : Type 0 where
@@ -73,7 +74,7 @@ module _ (affinity : List (Option (List Cores))) (q : Lists) (masks : List Cores
   own_charged (Some u) domains own = record { unit = burn_to t own.unit; at = read_same u (burn_to t) domains own.unit own.at; waits_not = own.waits_not }
 
   -- it runs no more
-  kept_stopped : (cur : Option UnitId) (domains : List (Option (List RtdsUnit))) (dues : List (Option Moment)) → IfSome cur (IsOwnUnit domains q) → IsKept domains affinity q masks dues spare t → IsKept (switch_off cur domains) affinity q masks (stopped cur dues) spare t
+  kept_stopped : (cur : Option UnitId) (domains : List (Option (List RtdsUnit))) (dues : List (Option Moment)) → IfSome cur (IsOwnUnit domains q) → IsKept domains affinity q masks dues spare t → IsKept (switch_off cur domains) affinity q masks (dues_without cur dues) spare t
   kept_stopped None domains dues own kept = kept
   kept_stopped (Some u) domains dues own kept =
       kept_set domains affinity q masks dues spare t u (λ x. record x { burned = None }) own.unit None (rtds_off t own.unit) own.at own.waits_not refl kept
@@ -83,38 +84,38 @@ module _ (affinity : List (Option (List Cores))) (q : Lists) (masks : List Cores
   deadline_is domains u x at = ap (λ (o : Option RtdsUnit). elim o as (λ _. ℕ) [ None ↦ 0 | Some y ↦ y.deadline ]) at
 
   kept_started : (chosen : Option UnitId) (domains : List (Option (List RtdsUnit))) (dues : List (Option Moment)) → IfSome chosen (IsKnown domains) → IsOrdered q → IsKept domains affinity q masks dues spare t
-      → IsKept (run_from t chosen domains) affinity (taken chosen q) masks (started domains chosen dues) spare t
+      → IsKept (run_from t chosen domains) affinity (queues_without chosen q) masks (dues_with domains chosen dues) spare t
   kept_started None domains dues known order kept = kept
   kept_started (Some u) domains dues known order kept =
       let run : RtdsUnit → RtdsUnit = λ x. record x { burned = Some t } in
       let x : RtdsUnit = known.unit in
       let domains2 : List (Option (List RtdsUnit)) = set_running (Some t) u domains in
       let due : with_due u (Some (moment (deadline_in domains u))) dues ≡ with_due u (Some (moment x.deadline)) dues = ap (λ (d : ℕ). with_due u (Some (moment d)) dues) (deadline_is domains u x known.at) in
-      subst (λ (ds : List (Option Moment)). IsKept domains2 affinity (taken (Some u) q) masks ds spare t) (sym due)
+      subst (λ (ds : List (Option Moment)). IsKept domains2 affinity (queues_without (Some u) q) masks ds spare t) (sym due)
       (elim (test_cases (holds q u)) [
         | inl here ↦
             let waiting : has_unit (queue_of q) u ≡ true = tells_waiting domains affinity q masks dues spare t u x kept known.at ∙ here in
             let gone = kept_removed domains affinity q masks dues spare t u order waiting kept in
-            let off : has_unit (queue_of (removed q u)) u ≡ false = gone_now u domains dues x known.at order here kept in
-            let ran = kept_set domains affinity (removed q u) masks (with_due u None dues) spare t u run x (Some (moment x.deadline)) (rtds_running t x) known.at off refl gone in
-            subst (λ (b : Bool). IsKept domains2 affinity (if b then removed q u else q) masks (with_due u (Some (moment x.deadline)) dues) spare t) (sym here)
-            (subst (λ (ds : List (Option Moment)). IsKept domains2 affinity (removed q u) masks ds spare t) (set_set (id_of u) None (Some (moment x.deadline)) dues) ran)
+            let off : has_unit (queue_of (after_remove q u)) u ≡ false = gone_now u domains dues x known.at order here kept in
+            let ran = kept_set domains affinity (after_remove q u) masks (with_due u None dues) spare t u run x (Some (moment x.deadline)) (rtds_running t x) known.at off refl gone in
+            subst (λ (b : Bool). IsKept domains2 affinity (if b then after_remove q u else q) masks (with_due u (Some (moment x.deadline)) dues) spare t) (sym here)
+            (subst (λ (ds : List (Option Moment)). IsKept domains2 affinity (after_remove q u) masks ds spare t) (set_set (id_of u) None (Some (moment x.deadline)) dues) ran)
         | inr other ↦
             let off : has_unit (queue_of q) u ≡ false = tells_waiting domains affinity q masks dues spare t u x kept known.at ∙ other in
-            subst (λ (b : Bool). IsKept domains2 affinity (if b then removed q u else q) masks (with_due u (Some (moment x.deadline)) dues) spare t) (sym other)
+            subst (λ (b : Bool). IsKept domains2 affinity (if b then after_remove q u else q) masks (with_due u (Some (moment x.deadline)) dues) spare t) (sym other)
             (kept_set domains affinity q masks dues spare t u run x (Some (moment x.deadline)) (rtds_running t x) known.at off refl kept)
       ])
     where
-      gone_now : (u : UnitId) (domains : List (Option (List RtdsUnit))) (dues : List (Option Moment)) (x : RtdsUnit) → rtds_unit domains u ≡ Some x → IsOrdered q → holds q u ≡ true → IsKept domains affinity q masks dues spare t → has_unit (queue_of (removed q u)) u ≡ false
+      gone_now : (u : UnitId) (domains : List (Option (List RtdsUnit))) (dues : List (Option Moment)) (x : RtdsUnit) → rtds_unit domains u ≡ Some x → IsOrdered q → holds q u ≡ true → IsKept domains affinity q masks dues spare t → has_unit (queue_of (after_remove q u)) u ≡ false
       gone_now u domains dues x at order here kept =
           ap (λ (us : List UnitId). has_unit us u) (queue_removed q u order (low_unit domains affinity u x kept.shape at).byte (low_queued domains affinity q kept.shape kept.queued) here)
           ∙ has_without u u (queue_of q) ∙ ap (λ (b : Bool). not b && has_unit (queue_of q) u) (same_unit_refl u)
 
   -- the queue without the chosen unit
-  queue_taken : (u : UnitId) (domains : List (Option (List RtdsUnit))) (dues : List (Option Moment)) → IsKnown domains u → IsOrdered q → IsKept domains affinity q masks dues spare t → queue_of (taken (Some u) q) ≡ without_unit u (queue_of q)
+  queue_taken : (u : UnitId) (domains : List (Option (List RtdsUnit))) (dues : List (Option Moment)) → IsKnown domains u → IsOrdered q → IsKept domains affinity q masks dues spare t → queue_of (queues_without (Some u) q) ≡ without_unit u (queue_of q)
   queue_taken u domains dues known order kept = elim (test_cases (holds q u)) [
-    | inl here ↦ ap (λ (b : Bool). queue_of (if b then removed q u else q)) here ∙ queue_removed q u order (low_unit domains affinity u known.unit kept.shape known.at).byte (low_queued domains affinity q kept.shape kept.queued) here
-    | inr other ↦ ap (λ (b : Bool). queue_of (if b then removed q u else q)) other ∙ sym (without_absent u (queue_of q) (tells_waiting domains affinity q masks dues spare t u known.unit kept known.at ∙ other))
+    | inl here ↦ ap (λ (b : Bool). queue_of (if b then after_remove q u else q)) here ∙ queue_removed q u order (low_unit domains affinity u known.unit kept.shape known.at).byte (low_queued domains affinity q kept.shape kept.queued) here
+    | inr other ↦ ap (λ (b : Bool). queue_of (if b then after_remove q u else q)) other ∙ sym (without_absent u (queue_of q) (tells_waiting domains affinity q masks dues spare t u known.unit kept known.at ∙ other))
   ]
 
   known_off : (cur chosen : Option UnitId) (domains : List (Option (List RtdsUnit))) → IfSome chosen (IsKnown domains) → IfSome chosen (IsKnown (switch_off cur domains))
@@ -124,28 +125,28 @@ module _ (affinity : List (Option (List Cores))) (q : Lists) (masks : List Cores
 
   -- all of a decision
   pub kept_chosen : (cur chosen : Option UnitId) (domains : List (Option (List RtdsUnit))) (dues : List (Option Moment)) → IfSome cur (IsOwnUnit domains q) → IfSome chosen (IsKnown (burn_cur cur t domains)) → IsOrdered q → IsKept domains affinity q masks dues spare t
-      → IsKept (run_from t chosen (switch_off cur (burn_cur cur t domains))) affinity (taken chosen q) masks (started (switch_off cur (burn_cur cur t domains)) chosen (stopped cur dues)) spare t
+      → IsKept (run_from t chosen (switch_off cur (burn_cur cur t domains))) affinity (queues_without chosen q) masks (dues_with (switch_off cur (burn_cur cur t domains)) chosen (dues_without cur dues)) spare t
   kept_chosen cur chosen domains dues own known order kept =
       let charged = kept_charged cur domains dues own kept in
       let off = kept_stopped cur (burn_cur cur t domains) dues (own_charged cur domains own) charged in
-      kept_started chosen (switch_off cur (burn_cur cur t domains)) (stopped cur dues) (known_off cur chosen (burn_cur cur t domains) known) order off
+      kept_started chosen (switch_off cur (burn_cur cur t domains)) (dues_without cur dues) (known_off cur chosen (burn_cur cur t domains) known) order off
 
   -- what callers see of it
-  pub seen_chosen : (ask : Ask) (chosen : Option UnitId) (domains : List (Option (List RtdsUnit))) (dues : List (Option Moment)) (latest : ℕ) → ask.at ≡ t → IfSome ask.cur (IsOwnUnit domains q) → IfSome chosen (IsKnown (burn_cur ask.cur t domains)) → IsOrdered q → IsKept domains affinity q masks dues spare t
-      → chosen ≡ choice ask (seen_of domains affinity q spare latest).scheduler (burn_cur ask.cur ask.at domains)
-      → seen_of (run_from ask.at chosen (switch_off ask.cur (burn_cur ask.cur ask.at domains))) affinity (taken chosen q) spare ask.at
-      ≡ seen_at ask.at (after_decision (decision_of ask (seen_of domains affinity q spare latest).scheduler) (seen_of domains affinity q spare latest).scheduler) (seen_of domains affinity q spare latest)
+  pub seen_chosen : (ask : Ask) (chosen : Option UnitId) (domains : List (Option (List RtdsUnit))) (dues : List (Option Moment)) (latest : ℕ) → ask.at.0 ≡ t → IfSome ask.cur (IsOwnUnit domains q) → IfSome chosen (IsKnown (burn_cur ask.cur t domains)) → IsOrdered q → IsKept domains affinity q masks dues spare t
+      → chosen ≡ choice ask (seen_of domains affinity q spare latest).scheduler (burn_cur ask.cur ask.at.0 domains)
+      → seen_of (run_from ask.at.0 chosen (switch_off ask.cur (burn_cur ask.cur ask.at.0 domains))) affinity (queues_without chosen q) spare ask.at.0
+      ≡ seen_at ask.at.0 (after_decision (decision_of ask (seen_of domains affinity q spare latest).scheduler) (seen_of domains affinity q spare latest).scheduler) (seen_of domains affinity q spare latest)
   seen_chosen ask chosen domains dues latest now own known order kept is =
       of_choice chosen known
-      ∙ ap (λ (o : Option UnitId). seen_at ask.at (after_decision (decide ask (burn_cur ask.cur ask.at domains) o) (seen_of domains affinity q spare latest).scheduler) (seen_of domains affinity q spare latest)) is
+      ∙ ap (λ (o : Option UnitId). seen_at ask.at.0 (after_decision (decide ask (burn_cur ask.cur ask.at.0 domains) o) (seen_of domains affinity q spare latest).scheduler) (seen_of domains affinity q spare latest)) is
     where
       of_choice : (chosen : Option UnitId) → IfSome chosen (IsKnown (burn_cur ask.cur t domains))
-          → seen_of (run_from ask.at chosen (switch_off ask.cur (burn_cur ask.cur ask.at domains))) affinity (taken chosen q) spare ask.at
-          ≡ seen_at ask.at (after_decision (decide ask (burn_cur ask.cur ask.at domains) chosen) (seen_of domains affinity q spare latest).scheduler) (seen_of domains affinity q spare latest)
+          → seen_of (run_from ask.at.0 chosen (switch_off ask.cur (burn_cur ask.cur ask.at.0 domains))) affinity (queues_without chosen q) spare ask.at.0
+          ≡ seen_at ask.at.0 (after_decision (decide ask (burn_cur ask.cur ask.at.0 domains) chosen) (seen_of domains affinity q spare latest).scheduler) (seen_of domains affinity q spare latest)
       of_choice None known = refl
       of_choice (Some u) known =
           let charged = kept_charged ask.cur domains dues own kept in
-          ap (λ (us : List UnitId). record { scheduler = record { queue = us; affinity = affinity; records = RtdsPool (set_running (Some ask.at) u (switch_off ask.cur (burn_cur ask.cur ask.at domains))) }; spare = spare; latest = ask.at })
+          ap (λ (us : List UnitId). record { scheduler = record { queue = us; affinity = affinity; records = RtdsPool (set_running (Some ask.at.0) u (switch_off ask.cur (burn_cur ask.cur ask.at.0 domains))) }; spare = spare; latest = ask.at.0 })
           (queue_taken u (burn_cur ask.cur t domains) dues known order charged)
 
 -- a replenishment
@@ -163,26 +164,22 @@ module _ (domains : List (Option (List RtdsUnit))) (affinity : List (Option (Lis
   pub replenished_holds : (u : UnitId) (is : IsReplenished u) → IsKept domains affinity q masks dues spare t → (replenish t is.unit).burned ≡ None → has_unit (queue_of q) u ≡ true
   replenished_holds u is kept off =
       let on : is_some is.unit.burned ≡ false = sym (burned_on t is.unit) ∙ ap (λ (o : Option ℕ). is_some o) off in
-      sym (or_false (has_unit (queue_of q) u)) ∙ ap (λ (b : Bool). has_unit (queue_of q) u || b) (sym on) ∙ is.busy
-    where
-      or_false : (b : Bool) → (b || false) ≡ b
-      or_false true = refl
-      or_false false = refl
+      sym (or-false (has_unit (queue_of q) u)) ∙ ap (λ (b : Bool). has_unit (queue_of q) u || b) (sym on) ∙ is.busy
 
   pub kept_replenished : (u : UnitId) (is : IsReplenished u) → IsOrdered q → IsKept domains affinity q masks dues spare t
-      → IsKept (change_unit u (replenish t) domains) affinity (renewed_if (Some (replenish t is.unit)) u q) masks (rearmed (Some (replenish t is.unit)) u dues) spare t
+      → IsKept (change_unit u (replenish t) domains) affinity (renewed_if (Some (replenish t is.unit)) u q) masks (rearmed_dues (Some (replenish t is.unit)) u dues) spare t
   kept_replenished u is order kept = by_on (replenish t is.unit).burned refl
     where
       by_on : (o : Option ℕ) → (replenish t is.unit).burned ≡ o
-          → IsKept (change_unit u (replenish t) domains) affinity (if is_some (replenish t is.unit).burned then q else renewed q u (key_by (replenish t is.unit))) masks (with_due u (Some (moment (replenish t is.unit).deadline)) dues) spare t
+          → IsKept (change_unit u (replenish t) domains) affinity (if is_some (replenish t is.unit).burned then q else after_renew q u (key_by (replenish t is.unit))) masks (with_due u (Some (moment (replenish t is.unit).deadline)) dues) spare t
       by_on None off =
-          subst (λ (o : Option ℕ). IsKept (change_unit u (replenish t) domains) affinity (if is_some o then q else renewed q u (key_by (replenish t is.unit))) masks (with_due u (Some (moment (replenish t is.unit).deadline)) dues) spare t) (sym off)
+          subst (λ (o : Option ℕ). IsKept (change_unit u (replenish t) domains) affinity (if is_some o then q else after_renew q u (key_by (replenish t is.unit))) masks (with_due u (Some (moment (replenish t is.unit).deadline)) dues) spare t) (sym off)
           (kept_renewed domains affinity q masks dues spare t u (replenish t) is.unit (rtds_replenished t is.unit is.come) is.at order (replenished_holds u is kept off) off (full_left t is.unit (fit_there u is kept)) kept)
         where
           fit_there : (u : UnitId) (is : IsReplenished u) → IsKept domains affinity q masks dues spare t → RtdsFits t is.unit
           fit_there u is kept = fit_unit t domains u is.unit is.at kept.fits
       by_on (Some b) on =
-          subst (λ (o : Option ℕ). IsKept (change_unit u (replenish t) domains) affinity (if is_some o then q else renewed q u (key_by (replenish t is.unit))) masks (with_due u (Some (moment (replenish t is.unit).deadline)) dues) spare t) (sym on)
+          subst (λ (o : Option ℕ). IsKept (change_unit u (replenish t) domains) affinity (if is_some o then q else after_renew q u (key_by (replenish t is.unit))) masks (with_due u (Some (moment (replenish t is.unit).deadline)) dues) spare t) (sym on)
           (kept_set domains affinity q masks dues spare t u (replenish t) is.unit (Some (moment (replenish t is.unit).deadline)) (rtds_replenished t is.unit is.come) is.at waits_not
           (ap (λ (o : Option ℕ). if is_some o then Some (moment (replenish t is.unit).deadline) else None) on) kept)
         where
@@ -203,9 +200,9 @@ module _ (domains : List (Option (List RtdsUnit))) (affinity : List (Option (Lis
   pub queue_replenished : (u : UnitId) (is : IsReplenished u) → IsOrdered q → IsKept domains affinity q masks dues spare t → queue_of (renewed_if (Some (replenish t is.unit)) u q) ≡ queue_of q
   queue_replenished u is order kept = by_on (replenish t is.unit).burned refl
     where
-      by_on : (o : Option ℕ) → (replenish t is.unit).burned ≡ o → queue_of (if is_some (replenish t is.unit).burned then q else renewed q u (key_by (replenish t is.unit))) ≡ queue_of q
+      by_on : (o : Option ℕ) → (replenish t is.unit).burned ≡ o → queue_of (if is_some (replenish t is.unit).burned then q else after_renew q u (key_by (replenish t is.unit))) ≡ queue_of q
       by_on None off =
-          ap (λ (o : Option ℕ). queue_of (if is_some o then q else renewed q u (key_by (replenish t is.unit)))) off
+          ap (λ (o : Option ℕ). queue_of (if is_some o then q else after_renew q u (key_by (replenish t is.unit)))) off
           ∙ queue_renewed q u (key_by (replenish t is.unit)) order (low_unit domains affinity u is.unit kept.shape is.at).byte (low_queued domains affinity q kept.shape kept.queued)
           (sym (tells_waiting domains affinity q masks dues spare t u is.unit kept is.at) ∙ replenished_holds u is kept off)
-      by_on (Some b) on = ap (λ (o : Option ℕ). queue_of (if is_some o then q else renewed q u (key_by (replenish t is.unit)))) on
+      by_on (Some b) on = ap (λ (o : Option ℕ). queue_of (if is_some o then q else after_renew q u (key_by (replenish t is.unit)))) on

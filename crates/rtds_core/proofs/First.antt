@@ -12,20 +12,21 @@ use Rattle.unit_places.specs.Masks.{mask_of}
 use Rattle.sched_model.specs.declared.state.RtdsUnit.{RtdsUnit}
 use Rattle.sched_model.specs.declared.state.Records.TheVariants.{RtdsPool}
 use Rattle.sched_model.specs.Eligible.{rtds_unit, is_eligible, is_allowed_by, cores_of}
-use Rattle.sched_model.specs.Rtds.{foremost, unit_before, is_before}
+use Rattle.sched_model.specs.Rtds.{foremost_unit, unit_before, is_before}
 use Rattle.sched_laws.proofs.Bools.{and_right}
 use Rattle.arrival_queue.specs.declared.key.Key.{Key}
 use Rattle.arrival_queue.specs.Queues.{Queued, is_less}
 use Rattle.arrival_queue.specs.Filters.{first_that, may_run}
 use Rattle.arrival_queue.specs.Order.{IsInOrder}
 use Rattle.rtds_queue.specs.Lists.{Lists, key_of, rtds_key}
-use Rattle.queue_laws.specs.Arrivals.{arrived, HasRanks, HasKeys, least_by, own_or}
+use Rattle.queue_laws.specs.Arrivals.{arrival_order, HasRanks, HasKeys, least_by, own_or}
 use Rattle.queue_laws.proofs.Arrivals.{ins, test_cases}
 use Rattle.queue_laws.proofs.Scan.{first_is_least, least_by_own}
 use Rattle.queue_laws.proofs.Keys.{less_trans, less_back}
 use Rattle.plain_policy.specs.Parts.{scheduler_of}
-use Rattle.rtds_core.specs.Best.{queue_of, key_by, IsEligible, IsSpent, AreQueued, AreMasks, listed, goes_first}
+use Rattle.rtds_core.specs.Best.{queue_of, key_by, IsEligible, IsSpent, AreQueued, AreMasks, list_of, goes_first}
 use Rattle.rtds_core.proofs.Queues.{arrivals_swap}
+use Rattle.std.proofs.Math.Bool.{and-false, or-false}
 
 -- the unit has a record
 pub record IsKnown (domains : List (Option (List RtdsUnit))) (u : UnitId) : Type 0 where
@@ -56,12 +57,12 @@ before_by_key domains u w a b =
     ∙ sym (ap (is_less (key_in domains u)) (key_is domains w b.unit b.at))
 
 -- the foremost of units with records is that of the least key
-foremost_is_least : (domains : List (Option (List RtdsUnit))) (best : Option UnitId) (units : List UnitId) → IfSome best (IsKnown domains) → AllByRecursion (IsKnown domains) units → foremost domains best units ≡ least_by (key_in domains) best units
+foremost_is_least : (domains : List (Option (List RtdsUnit))) (best : Option UnitId) (units : List UnitId) → IfSome best (IsKnown domains) → AllByRecursion (IsKnown domains) units → foremost_unit domains best units ≡ least_by (key_in domains) best units
 foremost_is_least domains best [] known each = refl
 foremost_is_least domains None (u ∷ units) known each = foremost_is_least domains (Some u) units each.0 each.1
 foremost_is_least domains (Some best) (u ∷ units) known each =
-    ap (λ (t : Bool). foremost domains (Some (if t then u else best)) units) (before_by_key domains u best each.0 known)
-    ∙ elim (is_less (key_in domains u) (key_in domains best)) as (λ t. foremost domains (Some (if t then u else best)) units ≡ least_by (key_in domains) (Some (if t then u else best)) units) [
+    ap (λ (t : Bool). foremost_unit domains (Some (if t then u else best)) units) (before_by_key domains u best each.0 known)
+    ∙ elim (is_less (key_in domains u) (key_in domains best)) as (λ t. foremost_unit domains (Some (if t then u else best)) units ≡ least_by (key_in domains) (Some (if t then u else best)) units) [
       | true ↦ foremost_is_least domains (Some u) units each.0 each.1
       | false ↦ foremost_is_least domains (Some best) units known each.1
     ]
@@ -98,11 +99,7 @@ module _ (domains : List (Option (List RtdsUnit))) (affinity : List (Option (Lis
   spent_fails : (e : Queued) → IsSpent domains e → test e.unit ≡ false
   spent_fails e is =
       let none : nat_lt 0 is.unit.left ≡ false = (let l = is.left in grind (arith, nat_tests, l)) in
-      with_record e.unit is.unit is.at ∙ ap (λ (b : Bool). is_allowed_by affinity home core e.unit && b) none ∙ and_false (is_allowed_by affinity home core e.unit)
-    where
-      and_false : (b : Bool) → (b && false) ≡ false
-      and_false true = refl
-      and_false false = refl
+      with_record e.unit is.unit is.at ∙ ap (λ (b : Bool). is_allowed_by affinity home core e.unit && b) none ∙ and-false (is_allowed_by affinity home core e.unit)
 
   abbrev passing : List Queued → List UnitId
   passing xs = filter test (map (λ (e : Queued). e.unit) xs)
@@ -118,9 +115,9 @@ module _ (domains : List (Option (List RtdsUnit))) (affinity : List (Option (Lis
         ]
       ]
 
-  spent_passed : (spent es : List Queued) → AllByRecursion (IsSpent domains) spent → passing (arrived (spent ++ es)) ≡ passing (arrived es)
+  spent_passed : (spent es : List Queued) → AllByRecursion (IsSpent domains) spent → passing (arrival_order (spent ++ es)) ≡ passing (arrival_order es)
   spent_passed [] es each = refl
-  spent_passed (e ∷ spent) es each = passed_over e (spent_fails e each.0) (arrived (spent ++ es)) ∙ spent_passed spent es each.1
+  spent_passed (e ∷ spent) es each = passed_over e (spent_fails e each.0) (arrival_order (spent ++ es)) ∙ spent_passed spent es each.1
 
   -- of the eligible units those may whose sets let them
   first_by_mask : (masks : List Cores) → AreMasks affinity masks → (es : List Queued) → AllByRecursion (IsEligible domains) es → AllByRecursion (λ e. (mask_of masks e.unit).0 ≡ cores_of affinity e.unit) es
@@ -158,21 +155,21 @@ module _ (domains : List (Option (List RtdsUnit))) (affinity : List (Option (Lis
 
   -- a scan of all that may have the core ends at the core's own or at the first
   pub scan_of_first : (own : Option UnitId) (units : List UnitId) (first : Option UnitId) → IfSome own (IsKnown domains) → first ≡ least_by (key_in domains) None (filter test units)
-      → foremost domains own (listed first) ≡ foremost domains own (filter test units)
+      → foremost_unit domains own (list_of first) ≡ foremost_unit domains own (filter test units)
   scan_of_first None units first known is =
-      ap (λ (o : Option UnitId). foremost domains None (listed o)) is ∙ of_listed (least_by (key_in domains) None (filter test units)) ∙ sym (foremost_is_least domains None (filter test units) tt (known_filter units))
+      ap (λ (o : Option UnitId). foremost_unit domains None (list_of o)) is ∙ of_listed (least_by (key_in domains) None (filter test units)) ∙ sym (foremost_is_least domains None (filter test units) tt (known_filter units))
     where
-      of_listed : (o : Option UnitId) → foremost domains None (listed o) ≡ o
+      of_listed : (o : Option UnitId) → foremost_unit domains None (list_of o) ≡ o
       of_listed None = refl
       of_listed (Some u) = refl
   scan_of_first (Some own) units first known is =
       let least : Option UnitId = least_by (key_in domains) None (filter test units) in
-      ap (λ (o : Option UnitId). foremost domains (Some own) (listed o)) is
+      ap (λ (o : Option UnitId). foremost_unit domains (Some own) (list_of o)) is
       ∙ of_listed least (least_known None (filter test units) tt (known_filter units))
       ∙ sym (least_by_own (key_in domains) own (filter test units))
       ∙ sym (foremost_is_least domains (Some own) (filter test units) known (known_filter units))
     where
-      of_listed : (o : Option UnitId) → IfSome o (IsKnown domains) → foremost domains (Some own) (listed o) ≡ Some (own_or (key_in domains) own o)
+      of_listed : (o : Option UnitId) → IfSome o (IsKnown domains) → foremost_unit domains (Some own) (list_of o) ≡ Some (own_or (key_in domains) own o)
       of_listed None k = refl
       of_listed (Some u) k = ap (λ (b : Bool). Some (if b then u else own)) (before_by_key domains u own k known)
 
@@ -198,11 +195,7 @@ module _ (domains : List (Option (List RtdsUnit))) (affinity : List (Option (Lis
   is_ahead (Some u) own = is_less (key_in domains u) (key_in domains own)
 
   any_less : (own best : UnitId) (units : List UnitId) → (is_less (key_in domains best) (key_in domains own) || list_any (λ u. is_less (key_in domains u) (key_in domains own)) units) ≡ is_ahead (least_by (key_in domains) (Some best) units) own
-  any_less own best [] = or_false (is_less (key_in domains best) (key_in domains own))
-    where
-      or_false : (b : Bool) → (b || false) ≡ b
-      or_false true = refl
-      or_false false = refl
+  any_less own best [] = or-false (is_less (key_in domains best) (key_in domains own))
   any_less own best (u ∷ units) =
       let rest : List UnitId → Bool = list_any (λ w. is_less (key_in domains w) (key_in domains own)) in
       elim (test_cases (is_less (key_in domains u) (key_in domains best))) [

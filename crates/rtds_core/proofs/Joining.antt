@@ -19,42 +19,41 @@ use Rattle.sched_laws.proofs.Lists.{length_change_item}
 use Rattle.sched_laws.proofs.EachPlace.{place_below, length_set}
 use Rattle.sched_ranges.specs.Fits.{RtdsFits}
 use Rattle.due_heap.specs.Dues.{due_of}
-use Rattle.arrival_queue.specs.Queues.{Queued, queued, is_of}
+use Rattle.arrival_queue.specs.Queues.{Queued, queued_unit as queued, is_of}
 use Rattle.arrival_queue.specs.Queues.{has_unit as has_queued}
 use Rattle.rtds_queue.specs.Lists.{Lists, count}
 use Rattle.rtds_core.specs.Alarms.{id_of}
 use Rattle.rtds_core.specs.Best.{queue_of, IsEligible, IsSpent, AreQueued, AreMasks}
 use Rattle.rtds_core.specs.Kept.{IsShaped, IsKept, due_for, total}
-use Rattle.rtds_core.proofs.Queues.{IsOrdered, waits, has_unit-append}
+use Rattle.rtds_core.proofs.Queues.{IsOrdered, waits}
 use Rattle.rtds_core.proofs.Changed.{IsLow, low_unit}
 use Rattle.rtds_core.proofs.Timing.{due_alike, armed_alike}
 use Rattle.std.specs.Prelude.{slice_index_or}
 use Rattle.std.proofs.lemmas.List.{length-replicate}
 use Rattle.sched_base.specs.Numbers.{core_set}
 use Rattle.sched_model.specs.Places.{change_at, put_at, clear_at}
-use Rattle.sched_model.specs.Policy.{pinned, all_cores}
+use Rattle.sched_model.specs.Policy.{pinned_cores, all_cores}
 use Rattle.sched_model.specs.Rtds.{fresh_units}
 use Rattle.sched_laws.proofs.EachPlace.{EachPlace-put_at, EachPlace-clear_at, EachPlace-empty}
 use Rattle.sched_laws.proofs.Opened.{each_get}
 use Rattle.sched_ranges.proofs.Rtds.{rtds_fresh}
-use Rattle.rtds_queue.specs.Lists.{empty}
+use Rattle.rtds_queue.specs.Lists.{empty_lists}
 use Rattle.rtds_core.specs.Kept.{size}
 use Rattle.rtds_core.specs.Masks.{is_named}
-use Rattle.rtds_core.proofs.Changed.{at_place-set, at_place-set_other, at_place-change_at, total_set, unit_in}
+use Rattle.sched_laws.proofs.EachPlace.{at_place-set_other, at_place-change_at}
+use Rattle.rtds_core.proofs.Changed.{at_place-set, total_set, unit_in}
 use Rattle.rtds_core.proofs.Keeping.{waiting_known, low_queued}
 use Rattle.std.proofs.Math.Decide.{ℕ_discrete}
+use Rattle.std.proofs.Math.Bool.{and-false, or-true}
+use Rattle.arrival_queue.proofs.Counting.{has_unit-append}
 
 -- the queues' units have the records that they had
 pub queued_by : (domains domains2 : List (Option (List RtdsUnit))) (q : Lists) → ((e : Queued) (x : RtdsUnit) → has_queued e.unit (q.eligible ++ q.spent) ≡ true → rtds_unit domains e.unit ≡ Some x → rtds_unit domains2 e.unit ≡ Some x) → AreQueued domains q → AreQueued domains2 q
 queued_by domains domains2 q same is = record {
   eligible = eligible q.eligible (λ e has. has_unit-append e.unit q.eligible q.spent ∙ ap (λ (b : Bool). b || has_queued e.unit q.spent) has) is.eligible;
-  spent = spent q.spent (λ e has. has_unit-append e.unit q.eligible q.spent ∙ ap (λ (b : Bool). has_queued e.unit q.eligible || b) has ∙ or_true (has_queued e.unit q.eligible)) is.spent;
+  spent = spent q.spent (λ e has. has_unit-append e.unit q.eligible q.spent ∙ ap (λ (b : Bool). has_queued e.unit q.eligible || b) has ∙ or-true (has_queued e.unit q.eligible)) is.spent;
 }
   where
-    or_true : (b : Bool) → (b || true) ≡ true
-    or_true true = refl
-    or_true false = refl
-
     own : (e : Queued) (es : List Queued) → has_queued e.unit (e ∷ es) ≡ true
     own e es = ap (λ (b : Bool). b || has_queued e.unit es) (is_same (number_of e.unit) (number_of e.unit) refl)
 
@@ -62,14 +61,14 @@ queued_by domains domains2 q same is = record {
     eligible [] within each = tt
     eligible (e ∷ es) within each = (
       record { unit = each.0.unit; at = same e each.0.unit (within e (own e es)) each.0.at; off = each.0.off; left = each.0.left; key = each.0.key },
-      eligible es (λ x has. within x (ap (λ (b : Bool). is_of x.unit e || b) has ∙ or_true (is_of x.unit e))) each.1,
+      eligible es (λ x has. within x (ap (λ (b : Bool). is_of x.unit e || b) has ∙ or-true (is_of x.unit e))) each.1,
     )
 
     spent : (es : List Queued) → ((e : Queued) → has_queued e.unit es ≡ true → has_queued e.unit (q.eligible ++ q.spent) ≡ true) → AllByRecursion (IsSpent domains) es → AllByRecursion (IsSpent domains2) es
     spent [] within each = tt
     spent (e ∷ es) within each = (
       record { unit = each.0.unit; at = same e each.0.unit (within e (own e es)) each.0.at; off = each.0.off; left = each.0.left },
-      spent es (λ x has. within x (ap (λ (b : Bool). is_of x.unit e || b) has ∙ or_true (is_of x.unit e))) each.1,
+      spent es (λ x has. within x (ap (λ (b : Bool). is_of x.unit e || b) has ∙ or-true (is_of x.unit e))) each.1,
     )
 
 -- two lists of places that are changed at one place have the same sizes
@@ -271,7 +270,7 @@ module _ (domains : List (Option (List RtdsUnit))) (affinity : List (Option (Lis
       same_sizes (Some xs) (Some ys) same = cc
 
 -- sets of cores are changed
-length_pinned : (unit : Option ℕ) (cores : Cores) (sets : List Cores) → length (pinned unit cores sets) ≡ length sets
+length_pinned : (unit : Option ℕ) (cores : Cores) (sets : List Cores) → length (pinned_cores unit cores sets) ≡ length sets
 length_pinned None cores [] = refl
 length_pinned None cores (x ∷ sets) = ap suc (length_pinned None cores sets)
 length_pinned (Some n) cores sets = length_change_item n (λ old. cores) sets
@@ -295,7 +294,7 @@ get_unchanged cores (x ∷ sets) (suc n) (suc k) ne = get_unchanged cores sets n
 
 -- the set of a unit of the domain, by the table and by the list
 pinned_set : (masks masks2 : List Cores) (d : ℕ) (unit : Option ℕ) (cores : Cores) (u : UnitId) (old : List Cores) → Sets masks masks2 d unit cores → d ≡ u.dom.0 → u.n < length old → length old ≤ 32 → (mask_of masks u).0 ≡ (slice_index_or old u.n (core_set 0)).0
-    → (mask_of masks2 u).0 ≡ (slice_index_or (pinned unit cores old) u.n (core_set 0)).0
+    → (mask_of masks2 u).0 ≡ (slice_index_or (pinned_cores unit cores old) u.n (core_set 0)).0
 pinned_set masks masks2 d None cores u old set e inside few was =
     ap (λ (c : Cores). c.0) (set u (omega (arith, inside, few)) ∙ ap (λ (b : Bool). if b then cores else mask_of masks u) (named_all d u e (omega (arith, inside, few))) ∙ sym (get_mapped cores old u.n inside))
 pinned_set masks masks2 d (Some n) cores u old set e inside few was = elim (ℕ_discrete n u.n) [
@@ -312,20 +311,16 @@ pinned_set masks masks2 d (Some n) cores u old set e inside few was = elim (ℕ_
     other_index : n ≢ u.n → is_named d (Some n) u ≡ false
     other_index ne = elim (either (u.n == n)) [
       | inl same ↦ absurd (ne (let s : u.n ≡ n = grind (arith, nat_tests, same) in sym s))
-      | inr not_so ↦ ap (λ (b : Bool). (u.dom.0 == d) && b) not_so ∙ and_false (u.dom.0 == d)
+      | inr not_so ↦ ap (λ (b : Bool). (u.dom.0 == d) && b) not_so ∙ and-false (u.dom.0 == d)
     ]
-      where
-        and_false : (b : Bool) → (b && false) ≡ false
-        and_false true = refl
-        and_false false = refl
 
 pub kept_pinned : (domains : List (Option (List RtdsUnit))) (affinity : List (Option (List Cores))) (q : Lists) (masks masks2 : List Cores) (dues : List (Option Moment)) (spare t d : ℕ) (unit : Option ℕ) (cores : Cores)
-    → Sets masks masks2 d unit cores → IsKept domains affinity q masks dues spare t → IsKept domains (change_at d (pinned unit cores) affinity) q masks2 dues spare t
+    → Sets masks masks2 d unit cores → IsKept domains affinity q masks dues spare t → IsKept domains (change_at d (pinned_cores unit cores) affinity) q masks2 dues spare t
 kept_pinned domains affinity q masks masks2 dues spare t d unit cores set kept = record {
   shape =
       record {
         places = kept.shape.places ∙ sym (length_set d _ affinity);
-        few = (let l = length_set d (option_map (pinned unit cores) (at_place affinity d)) affinity in let f = kept.shape.few in omega (arith, l, f));
+        few = (let l = length_set d (option_map (pinned_cores unit cores) (at_place affinity d)) affinity in let f = kept.shape.few in omega (arith, l, f));
         same = λ k. kept.shape.same k ∙ sizes k;
         small = kept.shape.small;
       };
@@ -337,7 +332,7 @@ kept_pinned domains affinity q masks masks2 dues spare t d unit cores set kept =
   sets = record {
     each = λ u sets at inside. elim (ℕ_discrete d u.dom.0) [
       | yes e ↦
-          let here : at_place (change_at d (pinned unit cores) affinity) u.dom.0 ≡ option_map (pinned unit cores) (at_place affinity u.dom.0) = subst (λ (k : ℕ). at_place (change_at d (pinned unit cores) affinity) k ≡ option_map (pinned unit cores) (at_place affinity k)) e (at_place-change_at d (pinned unit cores) affinity) in
+          let here : at_place (change_at d (pinned_cores unit cores) affinity) u.dom.0 ≡ option_map (pinned_cores unit cores) (at_place affinity u.dom.0) = subst (λ (k : ℕ). at_place (change_at d (pinned_cores unit cores) affinity) k ≡ option_map (pinned_cores unit cores) (at_place affinity k)) e (at_place-change_at d (pinned_cores unit cores) affinity) in
           named u sets e inside (at_place affinity u.dom.0) refl (sym here ∙ at)
           ∙ sym (ap (λ (o : Option (List Cores)). sets_in o u.n) here)
       | no ne ↦
@@ -350,20 +345,20 @@ kept_pinned domains affinity q masks masks2 dues spare t d unit cores set kept =
   armed = kept.armed;
 }
   where
-    sizes : (k : ℕ) → option_map length (at_place affinity k) ≡ option_map length (at_place (change_at d (pinned unit cores) affinity) k)
+    sizes : (k : ℕ) → option_map length (at_place affinity k) ≡ option_map length (at_place (change_at d (pinned_cores unit cores) affinity) k)
     sizes k = elim (ℕ_discrete d k) [
-      | yes e ↦ subst (λ (j : ℕ). option_map length (at_place affinity j) ≡ option_map length (at_place (change_at d (pinned unit cores) affinity) j)) e (there (at_place affinity d) ∙ sym (ap (option_map length) (at_place-change_at d (pinned unit cores) affinity)))
+      | yes e ↦ subst (λ (j : ℕ). option_map length (at_place affinity j) ≡ option_map length (at_place (change_at d (pinned_cores unit cores) affinity) j)) e (there (at_place affinity d) ∙ sym (ap (option_map length) (at_place-change_at d (pinned_cores unit cores) affinity)))
       | no ne ↦ sym (ap (option_map length) (at_place-set_other d k _ affinity ne))
     ]
       where
-        there : (o : Option (List Cores)) → option_map length o ≡ option_map length (option_map (pinned unit cores) o)
+        there : (o : Option (List Cores)) → option_map length o ≡ option_map length (option_map (pinned_cores unit cores) o)
         there None = refl
         there (Some sets) = ap Some (sym (length_pinned unit cores sets))
 
-    named : (u : UnitId) (sets : List Cores) → d ≡ u.dom.0 → u.n < length sets → (o : Option (List Cores)) → at_place affinity u.dom.0 ≡ o → option_map (pinned unit cores) o ≡ Some sets → (mask_of masks2 u).0 ≡ sets_in (option_map (pinned unit cores) o) u.n
+    named : (u : UnitId) (sets : List Cores) → d ≡ u.dom.0 → u.n < length sets → (o : Option (List Cores)) → at_place affinity u.dom.0 ≡ o → option_map (pinned_cores unit cores) o ≡ Some sets → (mask_of masks2 u).0 ≡ sets_in (option_map (pinned_cores unit cores) o) u.n
     named u sets e inside None at is = absurd (cc)
     named u sets e inside (Some old) at is =
-        let same : pinned unit cores old ≡ sets = cc in
+        let same : pinned_cores unit cores old ≡ sets = cc in
         let l = ap (λ (xs : List Cores). length xs) same in
         let k = length_pinned unit cores old in
         let n : u.n < length old = omega (arith, inside, l, k) in
@@ -405,7 +400,7 @@ total_none : (n : ℕ) → total (let places : List (Option (List RtdsUnit)) = r
 total_none zero = refl
 total_none (suc n) = (let r = total_none n in omega (arith, r))
 
-pub kept_none : (n units latest : ℕ) (masks : List Cores) → n ≤ 64 → units ≤ 256 → latest ≤ most_span → IsKept (replicate n None) (replicate n None) (empty units) masks (replicate 2048 None) units latest
+pub kept_none : (n units latest : ℕ) (masks : List Cores) → n ≤ 64 → units ≤ 256 → latest ≤ most_span → IsKept (replicate n None) (replicate n None) (empty_lists units) masks (replicate 2048 None) units latest
 kept_none n units latest masks few room early =
     let none = total_none n in
     record {

@@ -14,18 +14,19 @@ use Rattle.sched_model.specs.Rtds.{change_unit}
 use Rattle.sched_laws.proofs.Bools.{either, clash, one_of, or_left, or_right, is_same}
 use Rattle.sched_laws.proofs.Choices.{same_unit_same}
 use Rattle.sched_laws.proofs.Lists.{AllByRecursion-map, AllByRecursion-push}
-use Rattle.arrival_queue.specs.Queues.{Queued, queued, is_of, put_first, goes_before, without, closed_up}
+use Rattle.arrival_queue.specs.Queues.{Queued, queued_unit as queued, is_of, put_first, goes_before, list_without as without, closed_up}
 use Rattle.arrival_queue.specs.Queues.{has_unit as has_queued}
-use Rattle.rtds_queue.specs.Lists.{Lists, key_of, holds, count, rank_of, put, removed, renewed}
-use Rattle.queue_laws.specs.Arrivals.{arrived, arrivals, HasUnits, HasIndices}
+use Rattle.rtds_queue.specs.Lists.{Lists, key_of, holds, count, rank_of, put, after_remove, after_renew}
+use Rattle.queue_laws.specs.Arrivals.{arrival_order, arrivals, HasUnits, HasIndices}
 use Rattle.queue_laws.proofs.Arrivals.{test_cases, each_arrived}
 use Rattle.queue_laws.proofs.Removed.{each_without, stands}
 use Rattle.queue_laws.proofs.Once.{once_units, each_placed, each_closed}
 use Rattle.rtds_core.specs.Best.{queue_of, key_by, IsEligible, IsSpent, AreQueued}
 use Rattle.rtds_core.specs.Kept.{IsShaped, IsKept}
-use Rattle.rtds_core.proofs.Queues.{IsOrdered, each-append, waits, without-append, has_unit-append}
+use Rattle.rtds_core.proofs.Queues.{IsOrdered, each-append, waits}
 use Rattle.rtds_core.proofs.Changed.{low_unit, read_same, read_other}
 use Rattle.rtds_core.proofs.Units.{few_units, all_names, count_names, known_named, apart_arrivals, length_arrivals}
+use Rattle.arrival_queue.proofs.Counting.{has_unit-append, without-append}
 
 -- the units of the queues have small numbers
 pub low_queued : (domains : List (Option (List RtdsUnit))) (affinity : List (Option (List Cores))) (q : Lists) → IsShaped domains affinity → AreQueued domains q → HasIndices (q.eligible ++ q.spent)
@@ -49,7 +50,7 @@ waiting_known domains q w queued has = arrived_known (q.eligible ++ q.spent)
     ]
 
     arrived_known : (es : List Queued) → AllByRecursion (λ e. (x : RtdsUnit) × (rtds_unit domains e.unit ≡ Some x) × (x.burned ≡ None)) es → has_unit (arrivals es) w ≡ true → (x : RtdsUnit) × (rtds_unit domains w ≡ Some x) × (x.burned ≡ None)
-    arrived_known es each has = in_units (arrived es) (each_arrived (λ e. (x : RtdsUnit) × (rtds_unit domains e.unit ≡ Some x) × (x.burned ≡ None)) es each) has
+    arrived_known es each has = in_units (arrival_order es) (each_arrived (λ e. (x : RtdsUnit) × (rtds_unit domains e.unit ≡ Some x) × (x.burned ≡ None)) es each) has
 
 -- an item of another unit
 item_other : (u : UnitId) (e : Queued) → is_of u e ≡ false → same_unit u e.unit ≡ false
@@ -106,7 +107,7 @@ queued_put domains q u x at off is = by_left (x.left == 0) refl
     by_left false e = record { eligible = each_placed (IsEligible domains) (queued u (key_of (key_by x)) (count q)) q.eligible (record { unit = x; at = at; off = off; left = grind (arith, nat_tests, e); key = refl }) is.eligible; spent = is.spent }
 
 -- one that is removed
-pub queued_removed : (domains : List (Option (List RtdsUnit))) (q : Lists) (u : UnitId) → AreQueued domains q → AreQueued domains (removed q u)
+pub queued_removed : (domains : List (Option (List RtdsUnit))) (q : Lists) (u : UnitId) → AreQueued domains q → AreQueued domains (after_remove q u)
 queued_removed domains q u is = record {
   eligible = each_closed (IsEligible domains) (rank_of q u) (without u q.eligible) (λ e el. record { unit = el.unit; at = el.at; off = el.off; left = el.left; key = el.key }) (each_without (IsEligible domains) u q.eligible is.eligible);
   spent = each_closed (IsSpent domains) (rank_of q u) (without u q.spent) (λ e sp. record { unit = sp.unit; at = sp.at; off = sp.off; left = sp.left }) (each_without (IsSpent domains) u q.spent is.spent);
@@ -120,7 +121,7 @@ none_without u (e ∷ es) = elim (test_cases (is_of u e)) [
 ]
 
 -- one that is changed and renewed, with budget left then
-pub queued_renewed : (domains : List (Option (List RtdsUnit))) (q : Lists) (u : UnitId) (f : RtdsUnit → RtdsUnit) (x : RtdsUnit) → rtds_unit domains u ≡ Some x → (f x).burned ≡ None → 0 < (f x).left → AreQueued domains q → AreQueued (change_unit u f domains) (renewed q u (key_by (f x)))
+pub queued_renewed : (domains : List (Option (List RtdsUnit))) (q : Lists) (u : UnitId) (f : RtdsUnit → RtdsUnit) (x : RtdsUnit) → rtds_unit domains u ≡ Some x → (f x).burned ≡ None → 0 < (f x).left → AreQueued domains q → AreQueued (change_unit u f domains) (after_renew q u (key_by (f x)))
 queued_renewed domains q u f x at off left is = record {
   eligible = each_placed (IsEligible (change_unit u f domains)) (queued u (key_of (key_by (f x))) (rank_of q u)) (without u q.eligible)
       (record { unit = f x; at = read_same u f domains x at; off = off; left = left; key = refl })
@@ -162,14 +163,14 @@ both_without q u is here =
     let b = length-append q.eligible q.spent in
     omega (arith, all, parts, a, b)
 
-pub count_removed : (q : Lists) (u : UnitId) → IsOrdered q → holds q u ≡ true → (removed q u).spare + count (removed q u) ≡ q.spare + count q
+pub count_removed : (q : Lists) (u : UnitId) → IsOrdered q → holds q u ≡ true → (after_remove q u).spare + count (after_remove q u) ≡ q.spare + count q
 count_removed q u is here =
     let a = length_closed (rank_of q u) (without u q.eligible) in
     let b = length_closed (rank_of q u) (without u q.spent) in
     let c = both_without q u is here in
     omega (arith, a, b, c)
 
-pub count_renewed : (q : Lists) (u : UnitId) (x : RtdsUnit) → IsOrdered q → holds q u ≡ true → (renewed q u (key_by x)).spare + count (renewed q u (key_by x)) ≡ q.spare + count q
+pub count_renewed : (q : Lists) (u : UnitId) (x : RtdsUnit) → IsOrdered q → holds q u ≡ true → (after_renew q u (key_by x)).spare + count (after_renew q u (key_by x)) ≡ q.spare + count q
 count_renewed q u x is here =
     let a = length_put (goes_before (queued u (key_of (key_by x)) (rank_of q u))) (queued u (key_of (key_by x)) (rank_of q u)) (without u q.eligible) in
     let c = both_without q u is here in

@@ -11,4 +11,3 @@ pub mod Joining
 pub mod Calls
 pub mod Vacant
 pub mod Ahead
-pub mod Replicate

@@ -4,15 +4,18 @@ use Rattle.std.specs.Prelude.{◌||◌, if◌then◌else◌}
 use Rattle.std.specs.List.{AllByRecursion}
 use Rattle.sched_base.specs.declared.UnitId.{UnitId}
 use Rattle.sched_model.specs.Places.{without_unit, has_unit as has}
-use Rattle.arrival_queue.specs.Queues.{Queued, queued, is_of, without, rank_in, closed_up, has_unit}
+use Rattle.arrival_queue.specs.Queues.{Queued, queued_unit, is_of, list_without, rank_in, closed_up, has_unit}
 use Rattle.arrival_queue.specs.Order.{IsInOrder, EachRankOnce, EachUnitOnce}
 use Rattle.rtds_queue.specs.declared.RtdsKey.{RtdsKey}
-use Rattle.rtds_queue.specs.Lists.{Lists, key_of, holds, count, rank_of, put, removed, renewed}
-use Rattle.queue_laws.specs.Arrivals.{arrived, arrivals, LacksRank, HasRanks, RanksBelow, HasIndices}
+use Rattle.rtds_queue.specs.Lists.{Lists, key_of, holds, count, rank_of, put, after_remove, after_renew}
+use Rattle.queue_laws.specs.Arrivals.{arrival_order, arrivals, LacksRank, HasRanks, RanksBelow, HasIndices}
 use Rattle.queue_laws.proofs.Arrivals.{ins, test_cases, arrived_split, arrivals_placed, arrivals_appended}
 use Rattle.queue_laws.proofs.Removed.{arrivals_removed, arrivals_moved, has_arrived, lacks_own}
 use Rattle.queue_laws.proofs.Once.{once_ranks, once_below, once_units}
 use Rattle.rtds_core.specs.Best.{queue_of}
+use Rattle.arrival_queue.proofs.Counting.{without-append, has_unit-append}
+use Rattle.arrival_queue.proofs.Changes.{rank_in-append}
+use Rattle.std.proofs.lemmas.List.{append-nil}
 
 -- what the queues tell of themselves
 pub record IsOrdered (q : Lists) : Type 0 where
@@ -29,39 +32,10 @@ right_part P [] r each = each
 right_part P (x ∷ l) r each = right_part P l r each.1
 
 -- the order of arrival is the same whichever list comes first
-pub arrivals_swap : (es others : List Queued) → HasRanks (es ++ others) → arrived (others ++ es) ≡ arrived (es ++ others)
-arrivals_swap [] others ranks = ap arrived (append-nil others)
-  where
-    append-nil : (xs : List Queued) → xs ++ [] ≡ xs
-    append-nil [] = refl
-    append-nil (x ∷ xs) = ap (λ (ys : List Queued). x ∷ ys) (append-nil xs)
+pub arrivals_swap : (es others : List Queued) → HasRanks (es ++ others) → arrival_order (others ++ es) ≡ arrival_order (es ++ others)
+arrivals_swap [] others ranks = ap arrival_order (append-nil others)
 arrivals_swap (e ∷ es) others ranks =
     arrived_split others es e (right_part (λ (x : Queued). x.rank ≢ e.rank) es others ranks.0) ∙ ap (ins e) (arrivals_swap es others ranks.1)
-
-pub has_unit-append : (u : UnitId) (l r : List Queued) → has_unit u (l ++ r) ≡ (has_unit u l || has_unit u r)
-has_unit-append u [] r = refl
-has_unit-append u (e ∷ l) r = ap (λ (t : Bool). is_of u e || t) (has_unit-append u l r) ∙ sym (or_assoc (is_of u e) (has_unit u l) (has_unit u r))
-  where
-    or_assoc : (a b c : Bool) → ((a || b) || c) ≡ (a || (b || c))
-    or_assoc true b c = refl
-    or_assoc false b c = refl
-
-rank_in-append : (u : UnitId) (l r : List Queued) → rank_in u (l ++ r) ≡ (if has_unit u l then rank_in u l else rank_in u r)
-rank_in-append u [] r = refl
-rank_in-append u (e ∷ l) r =
-    elim (test_cases (is_of u e)) [
-      | inl mine ↦ simp mine refl
-      | inr other ↦ simp other (rank_in-append u l r)
-    ]
-
-pub without-append : (u : UnitId) (l r : List Queued) → without u (l ++ r) ≡ without u l ++ without u r
-without-append u [] r = refl
-without-append u (x ∷ l) r =
-    let rest = without-append u l r in
-    elim (is_of u x) as (λ t. (if t then without u (l ++ r) else x ∷ without u (l ++ r)) ≡ (if t then without u l else x ∷ without u l) ++ without u r) [
-      | true ↦ rest
-      | false ↦ ap (λ (zs : List Queued). x ∷ zs) rest
-    ]
 
 map-append : (f : Queued → Queued) (l r : List Queued) → map f (l ++ r) ≡ map f l ++ map f r
 map-append f [] r = refl
@@ -77,24 +51,24 @@ below_count q is = subst (λ (n : ℕ). RanksBelow n (q.eligible ++ q.spent)) (l
 -- a unit that is put arrives last
 pub queue_put : (q : Lists) (u : UnitId) (key : RtdsKey) (spent : Bool) → IsOrdered q → queue_of (put q u key spent) ≡ queue_of q ++ u ∷ []
 queue_put q u key true is =
-    ap arrivals (sym (append_assoc q.eligible q.spent (queued u (key_of key) (count q) ∷ [])))
+    ap arrivals (sym (append_assoc q.eligible q.spent (queued_unit u (key_of key) (count q) ∷ [])))
     ∙ arrivals_appended u (key_of key) (count q) (q.eligible ++ q.spent) (below_count q is)
 queue_put q u key false is = arrivals_placed u (key_of key) (count q) q.eligible q.spent (below_count q is)
 
 -- one that is removed is gone
-pub queue_removed : (q : Lists) (u : UnitId) → IsOrdered q → u.n < 256 → HasIndices (q.eligible ++ q.spent) → holds q u ≡ true → queue_of (removed q u) ≡ without_unit u (queue_of q)
+pub queue_removed : (q : Lists) (u : UnitId) → IsOrdered q → u.n < 256 → HasIndices (q.eligible ++ q.spent) → holds q u ≡ true → queue_of (after_remove q u) ≡ without_unit u (queue_of q)
 queue_removed q u is low lows here =
     let all : List Queued = q.eligible ++ q.spent in
     let ranks : HasRanks all = once_ranks all is.ranks in
     let there : has_unit u all ≡ true = has_unit-append u q.eligible q.spent ∙ here in
     let rank : rank_in u all ≡ rank_of q u = rank_in-append u q.eligible q.spent in
-    let lacks : LacksRank (rank_of q u) (without u all) = subst (λ (r : ℕ). LacksRank r (without u all)) rank (lacks_own u all ranks (once_units all is.units) there) in
-    ap arrivals (sym (map-append (closed_up (rank_of q u)) (without u q.eligible) (without u q.spent)))
+    let lacks : LacksRank (rank_of q u) (list_without u all) = subst (λ (r : ℕ). LacksRank r (list_without u all)) rank (lacks_own u all ranks (once_units all is.units) there) in
+    ap arrivals (sym (map-append (closed_up (rank_of q u)) (list_without u q.eligible) (list_without u q.spent)))
     ∙ ap (λ (xs : List Queued). arrivals (map (closed_up (rank_of q u)) xs)) (sym (without-append u q.eligible q.spent))
     ∙ arrivals_removed u (rank_of q u) all ranks low lows lacks
 
 -- one that is renewed keeps its arrival
-pub queue_renewed : (q : Lists) (u : UnitId) (key : RtdsKey) → IsOrdered q → u.n < 256 → HasIndices (q.eligible ++ q.spent) → holds q u ≡ true → queue_of (renewed q u key) ≡ queue_of q
+pub queue_renewed : (q : Lists) (u : UnitId) (key : RtdsKey) → IsOrdered q → u.n < 256 → HasIndices (q.eligible ++ q.spent) → holds q u ≡ true → queue_of (after_renew q u key) ≡ queue_of q
 queue_renewed q u key is low lows here =
     let all : List Queued = q.eligible ++ q.spent in
     arrivals_moved u (key_of key) q.eligible q.spent (once_ranks all is.ranks) (once_units all is.units) low lows

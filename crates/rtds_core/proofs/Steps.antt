@@ -16,8 +16,8 @@ use Rattle.sched_laws.proofs.Counts.{same_unit_refl}
 use Rattle.sched_laws.proofs.Lists.{AllByRecursion-map, length_change_item}
 use Rattle.sched_ranges.proofs.Rtds.{rtds_later, fit_change_unit}
 use Rattle.sched_ranges.specs.Fits.{RtdsFits}
-use Rattle.arrival_queue.specs.Queues.{queued}
-use Rattle.rtds_queue.specs.Lists.{Lists, holds, put, removed, renewed}
+use Rattle.arrival_queue.specs.Queues.{queued_unit as queued}
+use Rattle.rtds_queue.specs.Lists.{Lists, holds, put, after_remove, after_renew}
 use Rattle.rtds_core.specs.Alarms.{with_due}
 use Rattle.rtds_core.specs.Best.{queue_of, key_by, AreQueued}
 use Rattle.rtds_core.specs.Kept.{IsKept, due_for}
@@ -27,14 +27,7 @@ use Rattle.rtds_core.proofs.Units.{same_sym, has_pushed, has_without}
 use Rattle.rtds_core.proofs.Timing.{due_alike, due_of_record, armed_changed, armed_alike}
 use Rattle.plain_policy.proofs.RtdsLemmas.{change_unit-none}
 use Rattle.rtds_core.proofs.Keeping.{low_queued, waiting_known, queued_other, queued_put, queued_removed, queued_renewed, count_put, count_removed, count_renewed, room_left}
-
-or_false : (b : Bool) → (b || false) ≡ b
-or_false true = refl
-or_false false = refl
-
-or_true : (b : Bool) → (b || true) ≡ true
-or_true true = refl
-or_true false = refl
+use Rattle.std.proofs.Math.Bool.{or-false, or-true}
 
 -- a list without a unit that is not there
 pub without_absent : (u : UnitId) (units : List UnitId) → has_unit units u ≡ false → without_unit u units ≡ units
@@ -86,18 +79,18 @@ module _ (domains : List (Option (List RtdsUnit))) (affinity : List (Option (Lis
         armed =
             armed_changed (queue_of q) (queue_of q2) domains domains dues u (Some (moment x.deadline)) (low_unit domains affinity u x kept.shape at) kept.armed
             (λ w other. due_alike (queue_of q) (queue_of q2) domains domains w refl
-            (ap (λ (us : List UnitId). has_unit us w) queue2 ∙ has_pushed u w (queue_of q) ∙ ap (λ (b : Bool). has_unit (queue_of q) w || b) (same_sym w u ∙ other) ∙ or_false (has_unit (queue_of q) w)))
+            (ap (λ (us : List UnitId). has_unit us w) queue2 ∙ has_pushed u w (queue_of q) ∙ ap (λ (b : Bool). has_unit (queue_of q) w || b) (same_sym w u ∙ other) ∙ or-false (has_unit (queue_of q) w)))
             (due_of_record (queue_of q2) domains u x at
-            ∙ ap (λ (b : Bool). if b || is_some x.burned then Some (moment x.deadline) else None) (ap (λ (us : List UnitId). has_unit us u) queue2 ∙ has_pushed u u (queue_of q) ∙ ap (λ (b : Bool). has_unit (queue_of q) u || b) (same_unit_refl u) ∙ or_true (has_unit (queue_of q) u)));
+            ∙ ap (λ (b : Bool). if b || is_some x.burned then Some (moment x.deadline) else None) (ap (λ (us : List UnitId). has_unit us u) queue2 ∙ has_pushed u u (queue_of q) ∙ ap (λ (b : Bool). has_unit (queue_of q) u || b) (same_unit_refl u) ∙ or-true (has_unit (queue_of q) u)));
       }
 
   -- a unit waits no more
-  pub kept_removed : (latest : ℕ) (u : UnitId) → IsOrdered q → has_unit (queue_of q) u ≡ true → IsKept domains affinity q masks dues spare latest → IsKept domains affinity (removed q u) masks (with_due u None dues) spare latest
+  pub kept_removed : (latest : ℕ) (u : UnitId) → IsOrdered q → has_unit (queue_of q) u ≡ true → IsKept domains affinity q masks dues spare latest → IsKept domains affinity (after_remove q u) masks (with_due u None dues) spare latest
   kept_removed latest u order has kept =
       let known = waiting_known domains q u kept.queued has in
       let low : IsLow u = low_unit domains affinity u known.0 kept.shape known.1 in
       let here : holds q u ≡ true = sym (tells_waiting latest u known.0 kept known.1) ∙ has in
-      let queue2 : queue_of (removed q u) ≡ without_unit u (queue_of q) = queue_removed q u order low.byte (low_queued domains affinity q kept.shape kept.queued) here in
+      let queue2 : queue_of (after_remove q u) ≡ without_unit u (queue_of q) = queue_removed q u order low.byte (low_queued domains affinity q kept.shape kept.queued) here in
       record {
         shape = kept.shape;
         fits = kept.fits;
@@ -107,9 +100,9 @@ module _ (domains : List (Option (List RtdsUnit))) (affinity : List (Option (Lis
         few = kept.few;
         sets = kept.sets;
         armed =
-            armed_changed (queue_of q) (queue_of (removed q u)) domains domains dues u None low kept.armed
-            (λ w other. due_alike (queue_of q) (queue_of (removed q u)) domains domains w refl (ap (λ (us : List UnitId). has_unit us w) queue2 ∙ others_stay u w (queue_of q) other))
-            (due_of_record (queue_of (removed q u)) domains u known.0 known.1
+            armed_changed (queue_of q) (queue_of (after_remove q u)) domains domains dues u None low kept.armed
+            (λ w other. due_alike (queue_of q) (queue_of (after_remove q u)) domains domains w refl (ap (λ (us : List UnitId). has_unit us w) queue2 ∙ others_stay u w (queue_of q) other))
+            (due_of_record (queue_of (after_remove q u)) domains u known.0 known.1
             ∙ ap (λ (b : Bool). if b || is_some known.0.burned then Some (moment known.0.deadline) else None) (ap (λ (us : List UnitId). has_unit us u) queue2 ∙ own_gone u (queue_of q))
             ∙ ap (λ (o : Option ℕ). if is_some o then Some (moment known.0.deadline) else None) known.2);
       }
@@ -163,11 +156,11 @@ module _ (domains : List (Option (List RtdsUnit))) (affinity : List (Option (Lis
   -- a waiting unit is changed and renewed
   pub kept_renewed : (latest : ℕ) (u : UnitId) (f : RtdsUnit → RtdsUnit) (x : RtdsUnit) → (RtdsFits latest x → RtdsFits latest (f x)) → rtds_unit domains u ≡ Some x → IsOrdered q → has_unit (queue_of q) u ≡ true
       → (f x).burned ≡ None → 0 < (f x).left → IsKept domains affinity q masks dues spare latest
-      → IsKept (change_unit u f domains) affinity (renewed q u (key_by (f x))) masks (with_due u (Some (moment (f x).deadline)) dues) spare latest
+      → IsKept (change_unit u f domains) affinity (after_renew q u (key_by (f x))) masks (with_due u (Some (moment (f x).deadline)) dues) spare latest
   kept_renewed latest u f x fits at order has off left kept =
       let here : holds q u ≡ true = sym (tells_waiting latest u x kept at) ∙ has in
       let low : IsLow u = low_unit domains affinity u x kept.shape at in
-      let q2 : Lists = renewed q u (key_by (f x)) in
+      let q2 : Lists = after_renew q u (key_by (f x)) in
       let queue2 : queue_of q2 ≡ queue_of q = queue_renewed q u (key_by (f x)) order low.byte (low_queued domains affinity q kept.shape kept.queued) here in
       record {
         shape = shape_changed u f domains affinity kept.shape;

@@ -4,20 +4,20 @@ use Rattle.std.specs.Prelude.{Option, Some, None, slice_get, is_some, ◌||◌, 
 use Rattle.sched_base.specs.Numbers.{moment, domain}
 use Rattle.sched_base.specs.declared.Moment.{Moment}
 use Rattle.sched_base.specs.declared.UnitId.{UnitId}
-use Rattle.sched_model.specs.Places.{at_place, has_unit, same_unit, numbered}
+use Rattle.sched_model.specs.Places.{at_place, has_unit, same_unit, numbered_items}
 use Rattle.sched_model.specs.declared.state.RtdsUnit.{RtdsUnit}
 use Rattle.sched_model.specs.Eligible.{rtds_unit}
 use Rattle.sched_laws.specs.Each.{EachPlace}
 use Rattle.sched_laws.proofs.Bools.{either, clash, both, is_same}
 use Rattle.sched_laws.proofs.Choices.{same_unit_same}
-use Rattle.sched_laws.proofs.EachPlace.{length_set}
+use Rattle.sched_laws.proofs.EachPlace.{length_set, at_place-set_other}
 use Rattle.sched_ops.specs.declared.timer.Timer.TheVariants.{Repl}
 use Rattle.sched_ops.specs.Timers.{Armed, unit_timers, replenishments}
 use Rattle.due_heap.specs.Dues.{due_of, IsArmed}
-use Rattle.rtds_core.specs.Alarms.{armed, unit_of, id_of, with_due}
+use Rattle.rtds_core.specs.Alarms.{armed_timers, unit_of, id_of, with_due}
 use Rattle.rtds_core.specs.Kept.{AreArmed, due_for}
 use Rattle.rtds_core.proofs.Armed.{none_armed}
-use Rattle.rtds_core.proofs.Changed.{IsLow, at_place-set, at_place-set_other, unit_in}
+use Rattle.rtds_core.proofs.Changed.{IsLow, at_place-set, unit_in}
 
 -- two units of one id are the same
 same_id : (u w : UnitId) → u.n < 32 → w.n < 32 → id_of u ≡ id_of w → same_unit u w ≡ true
@@ -55,13 +55,13 @@ pub armed_alike : (queue queue2 : List UnitId) (domains domains2 : List (Option 
 armed_alike queue queue2 domains domains2 dues is alike = record { count = is.count; each = λ w low. is.each w low ∙ sym (alike w) }
 
 -- the timers of the first ids, and those of the rest
-armed_parts : (m n : ℕ) (dues : List (Option Moment)) → armed n dues ≡ armed n (take m dues) ++ armed (n + m) (drop m dues)
-armed_parts zero n dues = (let e : n + 0 ≡ n = omega arith in sym (ap (λ (k : ℕ). armed k dues) e))
+armed_parts : (m n : ℕ) (dues : List (Option Moment)) → armed_timers n dues ≡ armed_timers n (take m dues) ++ armed_timers (n + m) (drop m dues)
+armed_parts zero n dues = (let e : n + 0 ≡ n = omega arith in sym (ap (λ (k : ℕ). armed_timers k dues) e))
 armed_parts (suc m) n [] = refl
-armed_parts (suc m) n (None ∷ dues) = (let e : suc n + m ≡ n + suc m = omega arith in armed_parts m (suc n) dues ∙ ap (λ (k : ℕ). armed (suc n) (take m dues) ++ armed k (drop m dues)) e)
+armed_parts (suc m) n (None ∷ dues) = (let e : suc n + m ≡ n + suc m = omega arith in armed_parts m (suc n) dues ∙ ap (λ (k : ℕ). armed_timers (suc n) (take m dues) ++ armed_timers k (drop m dues)) e)
 armed_parts (suc m) n (Some at ∷ dues) =
     let e : suc n + m ≡ n + suc m = omega arith in
-    ap (λ (xs : List Armed). (at, Repl (unit_of n)) ∷ xs) (armed_parts m (suc n) dues ∙ ap (λ (k : ℕ). armed (suc n) (take m dues) ++ armed k (drop m dues)) e)
+    ap (λ (xs : List Armed). (at, Repl (unit_of n)) ∷ xs) (armed_parts m (suc n) dues ∙ ap (λ (k : ℕ). armed_timers (suc n) (take m dues) ++ armed_timers k (drop m dues)) e)
 
 -- the unit of an id
 unit_at : (k j : ℕ) → j < 32 → unit_of (k * 32 + j) ≡ record { dom = domain k; n = j }
@@ -76,7 +76,7 @@ module _ (queue : List UnitId) where
 
   -- the timers of a domain's units are those of its ids
   block : (k j : ℕ) (units : List RtdsUnit) (dues : List (Option Moment)) → length dues + j ≡ 32 → length units + j ≤ 32
-      → ((i : ℕ) → i + j < 32 → due_of dues i ≡ due_if (record { dom = domain k; n = i + j }) (slice_get units i)) → armed (k * 32 + j) dues ≡ unit_timers queue k j units
+      → ((i : ℕ) → i + j < 32 → due_of dues i ≡ due_if (record { dom = domain k; n = i + j }) (slice_get units i)) → armed_timers (k * 32 + j) dues ≡ unit_timers queue k j units
   block k j [] dues long few each = none_armed (k * 32 + j) dues (λ i at is. none i at is)
     where
       none : (i : ℕ) (at : Moment) → IsArmed dues i at → ⊥
@@ -94,14 +94,14 @@ module _ (queue : List UnitId) where
   block k j (x ∷ units) (o ∷ dues) long few each =
       let j_low : j < 32 = omega (arith, long) in
       let up : (k * 32 + j) + 1 ≡ k * 32 + suc j = omega arith in
-      let rest : armed (k * 32 + suc j) dues ≡ unit_timers queue k (suc j) units =
+      let rest : armed_timers (k * 32 + suc j) dues ≡ unit_timers queue k (suc j) units =
       block k (suc j) units dues (omega (arith, long)) (omega (arith, few))
       (λ i low. (let e : suc i + j ≡ i + suc j = omega arith in each (suc i) (omega (arith, low)) ∙ ap (λ (n : ℕ). due_if (record { dom = domain k; n = n }) (slice_get units i)) e)) in
       let head : o ≡ due_if (record { dom = domain k; n = j }) (Some x) = (let z : 0 + j ≡ j = omega arith in each 0 (omega (arith, j_low)) ∙ ap (λ (n : ℕ). due_if (record { dom = domain k; n = n }) (Some x)) z) in
-      let next : armed (suc (k * 32 + j)) dues ≡ unit_timers queue k (suc j) units = (let e : suc (k * 32 + j) ≡ k * 32 + suc j = omega arith in ap (λ (n : ℕ). armed n dues) e ∙ rest) in
-      ap (λ (p : Option Moment). armed (k * 32 + j) (p ∷ dues)) head
-      ∙ elim (has_unit queue (record { dom = domain k; n = j }) || is_some x.burned) as (λ b. armed (k * 32 + j) ((if b then Some (moment x.deadline) else None) ∷ dues) ≡ (if b then (moment x.deadline, Repl (record { dom = domain k; n = j })) ∷ unit_timers queue k (suc j) units else unit_timers queue k (suc j) units)) [
-        | true ↦ ap (λ (u : UnitId). (moment x.deadline, Repl u) ∷ armed (suc (k * 32 + j)) dues) (unit_at k j j_low) ∙ ap (λ (xs : List Armed). (moment x.deadline, Repl (record { dom = domain k; n = j })) ∷ xs) next
+      let next : armed_timers (suc (k * 32 + j)) dues ≡ unit_timers queue k (suc j) units = (let e : suc (k * 32 + j) ≡ k * 32 + suc j = omega arith in ap (λ (n : ℕ). armed_timers n dues) e ∙ rest) in
+      ap (λ (p : Option Moment). armed_timers (k * 32 + j) (p ∷ dues)) head
+      ∙ elim (has_unit queue (record { dom = domain k; n = j }) || is_some x.burned) as (λ b. armed_timers (k * 32 + j) ((if b then Some (moment x.deadline) else None) ∷ dues) ≡ (if b then (moment x.deadline, Repl (record { dom = domain k; n = j })) ∷ unit_timers queue k (suc j) units else unit_timers queue k (suc j) units)) [
+        | true ↦ ap (λ (u : UnitId). (moment x.deadline, Repl u) ∷ armed_timers (suc (k * 32 + j)) dues) (unit_at k j j_low) ∙ ap (λ (xs : List Armed). (moment x.deadline, Repl (record { dom = domain k; n = j })) ∷ xs) next
         | false ↦ next
       ]
 
@@ -129,7 +129,7 @@ module _ (queue : List UnitId) where
   -- the timers of all domains are those of all ids
   blocks : (k : ℕ) (domains : List (Option (List RtdsUnit))) (dues : List (Option Moment)) → length domains * 32 ≤ length dues → EachPlace (λ (units : List RtdsUnit). length units ≤ 32) domains
       → ((d n : ℕ) → n < 32 → due_of dues (d * 32 + n) ≡ due_if (record { dom = domain (k + d); n = n }) (unit_in (at_place domains d) n))
-      → armed (k * 32) dues ≡ replenishments queue (numbered k domains)
+      → armed_timers (k * 32) dues ≡ replenishments queue (numbered_items k domains)
   blocks k [] dues long small each = none_armed (k * 32) dues (λ i at is. none i at is)
     where
       none : (i : ℕ) (at : Moment) → IsArmed dues i at → ⊥
@@ -140,19 +140,19 @@ module _ (queue : List UnitId) where
           absurd (cc)
   blocks k (o ∷ domains) dues long small each =
       let up : k * 32 + 32 ≡ suc k * 32 = omega arith in
-      let rest : armed (k * 32 + 32) (drop 32 dues) ≡ replenishments queue (numbered (suc k) domains) =
-      ap (λ (n : ℕ). armed n (drop 32 dues)) up
+      let rest : armed_timers (k * 32 + 32) (drop 32 dues) ≡ replenishments queue (numbered_items (suc k) domains) =
+      ap (λ (n : ℕ). armed_timers n (drop 32 dues)) up
       ∙ blocks (suc k) domains (drop 32 dues) (let l = long_drop 32 dues in omega (arith, long, l)) (λ d units at. small (suc d) units at)
       (λ d n low. (
       let at : 32 + (d * 32 + n) ≡ suc d * 32 + n = omega arith in
       let e : k + suc d ≡ suc k + d = omega arith in
       get_drop 32 (d * 32 + n) dues ∙ ap (λ (i : ℕ). due_of dues i) at ∙ each (suc d) n low ∙ ap (λ (i : ℕ). due_if (record { dom = domain i; n = n }) (unit_in (at_place domains d) n)) e)) in
-      armed_parts 32 (k * 32) dues ∙ ap (λ (xs : List Armed). armed (k * 32) (take 32 dues) ++ xs) rest ∙ first o small each
+      armed_parts 32 (k * 32) dues ∙ ap (λ (xs : List Armed). armed_timers (k * 32) (take 32 dues) ++ xs) rest ∙ first o small each
     where
       first : (o : Option (List RtdsUnit)) → EachPlace (λ (units : List RtdsUnit). length units ≤ 32) (o ∷ domains)
           → ((d n : ℕ) → n < 32 → due_of dues (d * 32 + n) ≡ due_if (record { dom = domain (k + d); n = n }) (unit_in (at_place (o ∷ domains) d) n))
-          → armed (k * 32) (take 32 dues) ++ replenishments queue (numbered (suc k) domains) ≡ replenishments queue (numbered k (o ∷ domains))
-      first None small each = ap (λ (xs : List Armed). xs ++ replenishments queue (numbered (suc k) domains)) (none_armed (k * 32) (take 32 dues) (λ i at is. none i at is))
+          → armed_timers (k * 32) (take 32 dues) ++ replenishments queue (numbered_items (suc k) domains) ≡ replenishments queue (numbered_items k (o ∷ domains))
+      first None small each = ap (λ (xs : List Armed). xs ++ replenishments queue (numbered_items (suc k) domains)) (none_armed (k * 32) (take 32 dues) (λ i at is. none i at is))
         where
           none : (i : ℕ) (at : Moment) → IsArmed (take 32 dues) i at → ⊥
           none i at is =
@@ -168,8 +168,8 @@ module _ (queue : List UnitId) where
               below (suc m) (o ∷ dues) zero is = omega arith
               below (suc m) (o ∷ dues) (suc i) is = (let r = below m dues i is in omega (arith, r))
       first (Some units) small each =
-          ap (λ (xs : List Armed). xs ++ replenishments queue (numbered (suc k) domains))
-          ((let z : k * 32 ≡ k * 32 + 0 = omega arith in ap (λ (n : ℕ). armed n (take 32 dues)) z)
+          ap (λ (xs : List Armed). xs ++ replenishments queue (numbered_items (suc k) domains))
+          ((let z : k * 32 ≡ k * 32 + 0 = omega arith in ap (λ (n : ℕ). armed_timers n (take 32 dues)) z)
           ∙ block k 0 units (take 32 dues) (let l = long_take 32 dues (omega (arith, long)) in omega (arith, l)) (let l = small 0 units refl in omega (arith, l))
           (λ i low. (
           let inside : i < 32 = omega (arith, low) in
@@ -182,7 +182,7 @@ module _ (queue : List UnitId) where
 
   -- the timers are those of the armed moments
   pub timers_armed : (domains : List (Option (List RtdsUnit))) (dues : List (Option Moment)) → length domains ≤ 64 → EachPlace (λ (units : List RtdsUnit). length units ≤ 32) domains → AreArmed queue domains dues
-      → armed 0 dues ≡ replenishments queue (numbered 0 domains)
+      → armed_timers 0 dues ≡ replenishments queue (numbered_items 0 domains)
   timers_armed domains dues few small is =
       let count = is.count in
       blocks 0 domains dues (omega (arith, few, count)) small

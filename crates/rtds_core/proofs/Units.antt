@@ -13,33 +13,23 @@ use Rattle.sched_laws.proofs.EachPlace.{by_option}
 use Rattle.sched_ops.specs.Conditions.{IsApart}
 use Rattle.arrival_queue.specs.Queues.{Queued}
 use Rattle.arrival_queue.specs.Queues.{has_unit as has_queued}
-use Rattle.queue_laws.specs.Arrivals.{arrived, arrivals, LacksUnit, HasUnits, HasIndices}
+use Rattle.queue_laws.specs.Arrivals.{arrival_order, arrivals, LacksUnit, HasUnits, HasIndices}
 use Rattle.queue_laws.proofs.Arrivals.{ins}
 use Rattle.queue_laws.proofs.Removed.{has_arrived}
 use Rattle.rtds_core.specs.Kept.{total}
+use Rattle.std.proofs.Math.Bool.{or-false, or-true, or_assoc, and-false}
+use Rattle.std.proofs.lemmas.Bool.{or_right as or_second}
 
 pub same_sym : (u w : UnitId) → same_unit u w ≡ same_unit w u
 same_sym u w = grind arith
 
 -- a unit at the end of a list, and a list without one
 pub has_pushed : (u w : UnitId) (units : List UnitId) → has_unit (units ++ u ∷ []) w ≡ (has_unit units w || same_unit w u)
-has_pushed u w [] = or_false (same_unit w u)
-  where
-    or_false : (b : Bool) → (b || false) ≡ b
-    or_false true = refl
-    or_false false = refl
-has_pushed u w (x ∷ units) = ap (λ (b : Bool). same_unit w x || b) (has_pushed u w units) ∙ or_assoc (same_unit w x) (has_unit units w) (same_unit w u)
-  where
-    or_assoc : (a b c : Bool) → (a || (b || c)) ≡ ((a || b) || c)
-    or_assoc true b c = refl
-    or_assoc false b c = refl
+has_pushed u w [] = or-false (same_unit w u)
+has_pushed u w (x ∷ units) = ap (λ (b : Bool). same_unit w x || b) (has_pushed u w units) ∙ sym (or_assoc (same_unit w x) (has_unit units w) (same_unit w u))
 
 pub has_without : (u w : UnitId) (units : List UnitId) → has_unit (without_unit u units) w ≡ (not (same_unit u w) && has_unit units w)
-has_without u w [] = and_false (not (same_unit u w))
-  where
-    and_false : (b : Bool) → false ≡ (b && false)
-    and_false true = refl
-    and_false false = refl
+has_without u w [] = sym (and-false (not (same_unit u w)))
 has_without u w (x ∷ units) =
     let rest = has_without u w units in
     elim (either (same_unit u x)) [
@@ -96,11 +86,7 @@ few_units (x ∷ units) pool apart within =
     ]
 
     later : (w : UnitId) → has_unit units w ≡ true → (same_unit w x || has_unit units w) ≡ true
-    later w has = ap (λ (b : Bool). same_unit w x || b) has ∙ or_true (same_unit w x)
-      where
-        or_true : (b : Bool) → (b || true) ≡ true
-        or_true true = refl
-        or_true false = refl
+    later w has = ap (λ (b : Bool). same_unit w x || b) has ∙ or-true (same_unit w x)
 
 -- the units of a domain, and of all
 abbrev names : {X : Type 0} → ℕ → ℕ → List X → List UnitId
@@ -123,11 +109,7 @@ count_names k (Some xs ∷ domains) = (let r = count_names (suc k) domains in le
 
 has_append : (w : UnitId) (l r : List UnitId) → has_unit (l ++ r) w ≡ (has_unit l w || has_unit r w)
 has_append w [] r = refl
-has_append w (x ∷ l) r = ap (λ (b : Bool). same_unit w x || b) (has_append w l r) ∙ or_assoc (same_unit w x) (has_unit l w) (has_unit r w)
-  where
-    or_assoc : (a b c : Bool) → (a || (b || c)) ≡ ((a || b) || c)
-    or_assoc true b c = refl
-    or_assoc false b c = refl
+has_append w (x ∷ l) r = ap (λ (b : Bool). same_unit w x || b) (has_append w l r) ∙ sym (or_assoc (same_unit w x) (has_unit l w) (has_unit r w))
 
 has_name : {X : Type 0} (k j i : ℕ) (xs : List X) (x : X) → slice_get xs i ≡ Some x → has_unit (names k j xs) (record { dom = domain k; n = j + i }) ≡ true
 has_name k j i [] x at = absurd (cc)
@@ -137,15 +119,7 @@ has_name k j zero (y ∷ xs) x at =
 has_name k j (suc i) (y ∷ xs) x at =
     let e : suc j + i ≡ j + suc i = omega arith in
     let rest : has_unit (names k (suc j) xs) (record { dom = domain k; n = j + suc i }) ≡ true = subst (λ (n : ℕ). has_unit (names k (suc j) xs) (record { dom = domain k; n = n }) ≡ true) e (has_name k (suc j) i xs x at) in
-    ap (λ (b : Bool). same_unit (record { dom = domain k; n = j + suc i }) (record { dom = domain k; n = j }) || b) rest ∙ or_true (same_unit (record { dom = domain k; n = j + suc i }) (record { dom = domain k; n = j }))
-  where
-    or_true : (b : Bool) → (b || true) ≡ true
-    or_true true = refl
-    or_true false = refl
-
-or_second : (a b : Bool) → b ≡ true → (a || b) ≡ true
-or_second true b is = refl
-or_second false b is = is
+    ap (λ (b : Bool). same_unit (record { dom = domain k; n = j + suc i }) (record { dom = domain k; n = j }) || b) rest ∙ or-true (same_unit (record { dom = domain k; n = j + suc i }) (record { dom = domain k; n = j }))
 
 has_all : (k i n : ℕ) (domains : List (Option (List RtdsUnit))) (units : List RtdsUnit) (x : RtdsUnit) → at_place domains i ≡ Some units → slice_get units n ≡ Some x → has_unit (all_names k domains) (record { dom = domain (k + i); n = n }) ≡ true
 has_all k i n [] units x at get = absurd (cc)
@@ -175,7 +149,7 @@ known_named domains u x at =
 pub apart_arrivals : (es : List Queued) → HasUnits es → HasIndices es → IsApart (arrivals es)
 apart_arrivals [] units lows = tt
 apart_arrivals (e ∷ es) units lows =
-    put_apart e (arrived es) (apart_arrivals es units.1 lows.1) (has_arrived e.unit es lows.0 lows.1 ∙ lacking es units.0)
+    put_apart e (arrival_order es) (apart_arrivals es units.1 lows.1) (has_arrived e.unit es lows.0 lows.1 ∙ lacking es units.0)
   where
     lacking : (xs : List Queued) → LacksUnit e.unit xs → has_queued e.unit xs ≡ false
     lacking [] lacks = refl
@@ -206,7 +180,7 @@ apart_arrivals (e ∷ es) units lows =
 
 pub length_arrivals : (es : List Queued) → length (arrivals es) ≡ length es
 length_arrivals [] = refl
-length_arrivals (e ∷ es) = put (arrived es) ∙ ap suc (length_arrivals es)
+length_arrivals (e ∷ es) = put (arrival_order es) ∙ ap suc (length_arrivals es)
   where
     put : (xs : List Queued) → length (map (λ (x : Queued). x.unit) (ins e xs)) ≡ suc (length (map (λ (x : Queued). x.unit) xs))
     put [] = refl

@@ -17,7 +17,7 @@ use Rattle.sched_model.specs.declared.config.PoolParams.TheVariants as pool_para
 use Rattle.sched_model.specs.declared.state.Scheduler.{Scheduler}
 use Rattle.sched_model.specs.declared.state.Records.TheVariants.{RtdsPool}
 use Rattle.sched_laws.proofs.Bools.{not_true}
-use Rattle.sched_ops.specs.Seen.{restarted}
+use Rattle.sched_ops.specs.Seen.{restarted_scheduler}
 use Rattle.sched_ops.specs.Conditions.{is_vacant}
 use Rattle.queue_laws.specs.Arrivals.{arrivals}
 use Rattle.rtds_core.specs.Kept.{seen_of}
@@ -38,7 +38,7 @@ abbrev with_parts : List UnitId → List (Option (List Cores)) → List (Option 
 with_parts us a ds = record { queue = us; affinity = a; records = RtdsPool ds }
 
 pub vacant_same : (domains : List (Option (List RtdsUnit))) (affinity : List (Option (List Cores))) (q : Lists) (masks : List Cores) (dues : List (Option Moment)) (spare latest : ℕ) → IsKept domains affinity q masks dues spare latest
-    → is_vacant (seen_of domains affinity q spare latest).scheduler ≡ true → restarted pool_params.Rtds (seen_of domains affinity q spare latest).scheduler ≡ (seen_of domains affinity q spare latest).scheduler
+    → is_vacant (seen_of domains affinity q spare latest).scheduler ≡ true → restarted_scheduler pool_params.Rtds (seen_of domains affinity q spare latest).scheduler ≡ (seen_of domains affinity q spare latest).scheduler
 vacant_same domains affinity q masks dues spare latest kept vacant =
     let sets : (d : ℕ) → at_place affinity d ≡ None = none_some affinity (not_true (list_any is_some affinity) vacant) in
     let records : (d : ℕ) → at_place domains d ≡ None = λ d. absent_size (at_place domains d) (at_place affinity d) (kept.shape.same d) (sets d) in

@@ -5,7 +5,7 @@ use Rattle.sched_base.specs.declared.Moment.{Moment}
 use Rattle.sched_base.specs.declared.UnitId.{UnitId}
 use Rattle.sched_ops.specs.declared.timer.Timer.TheVariants.{Repl}
 use Rattle.due_heap.specs.Dues.{due_of}
-use Rattle.sched_ops.specs.Timers.{Armed, first_due, soonest}
+use Rattle.sched_ops.specs.Timers.{Armed, first_due, soonest_timer}
 
 -- the id of a unit
 abbrev pub id_of : UnitId → ℕ
@@ -20,14 +20,14 @@ abbrev pub timer_of : List (Option Moment) → ℕ → Option Armed
 timer_of dues id = elim (due_of dues id) [ None ↦ None | Some at ↦ Some (at, Repl (unit_of id)) ]
 
 -- the timers of the ids that have a due, in order of id; the first id is n
-abbrev pub armed : ℕ → List (Option Moment) → List Armed
-armed n [] = []
-armed n (None ∷ dues) = armed (suc n) dues
-armed n (Some at ∷ dues) = (at, Repl (unit_of n)) ∷ armed (suc n) dues
+abbrev pub armed_timers : ℕ → List (Option Moment) → List Armed
+armed_timers n [] = []
+armed_timers n (None ∷ dues) = armed_timers (suc n) dues
+armed_timers n (Some at ∷ dues) = (at, Repl (unit_of n)) ∷ armed_timers (suc n) dues
 
 -- the first timer whose moment has come at t, or else the one of the least moment
 abbrev pub next_of : ℕ → List Armed → Option Armed
-next_of t timers = elim (first_due t timers) [ Some x ↦ Some x | None ↦ soonest None timers ]
+next_of t timers = elim (first_due t timers) [ Some x ↦ Some x | None ↦ soonest_timer None timers ]
 
 -- the dues with one unit's armed, or disarmed
 abbrev pub with_due : UnitId → Option Moment → List (Option Moment) → List (Option Moment)

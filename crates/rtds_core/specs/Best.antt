@@ -12,7 +12,7 @@ use Rattle.sched_model.specs.Eligible.{cores_of, rtds_unit}
 use Rattle.sched_model.specs.Rtds.{budget_left, unit_before, set_running}
 use Rattle.arrival_queue.specs.Queues.{Queued}
 use Rattle.rtds_queue.specs.declared.RtdsKey.{RtdsKey}
-use Rattle.rtds_queue.specs.Lists.{Lists, rtds_key, key_of, holds, removed}
+use Rattle.rtds_queue.specs.Lists.{Lists, rtds_key, key_of, holds, after_remove}
 use Rattle.queue_laws.specs.Arrivals.{arrivals}
 use Rattle.rtds_core.specs.Alarms.{with_due}
 
@@ -49,9 +49,9 @@ pub record AreMasks (affinity : List (Option (List Cores))) (masks : List Cores)
   pub each : (u : UnitId) (sets : List Cores) → at_place affinity u.dom.0 ≡ Some sets → u.n < length sets → (mask_of masks u).0 ≡ cores_of affinity u
 
 -- the list of what there is
-abbrev pub listed : {X : Type 0} → Option X → List X
-listed None = []
-listed (Some x) = x ∷ []
+abbrev pub list_of : {X : Type 0} → Option X → List X
+list_of None = []
+list_of (Some x) = x ∷ []
 
 -- whether the first that waits, if one does, goes before the core's own
 abbrev pub goes_first : List (Option (List RtdsUnit)) → Option UnitId → UnitId → Bool
@@ -73,16 +73,16 @@ run_from at None domains = domains
 run_from at (Some u) domains = set_running (Some at) u domains
 
 -- the queues without the chosen unit, which may wait or be on already
-abbrev pub taken : Option UnitId → Lists → Lists
-taken None q = q
-taken (Some u) q = (if holds q u then removed q u else q)
+abbrev pub queues_without : Option UnitId → Lists → Lists
+queues_without None q = q
+queues_without (Some u) q = (if holds q u then after_remove q u else q)
 
 -- the dues where the chosen unit's deadline is armed
-abbrev pub started : List (Option (List RtdsUnit)) → Option UnitId → List (Option Moment) → List (Option Moment)
-started domains None dues = dues
-started domains (Some u) dues = with_due u (Some (moment (deadline_in domains u))) dues
+abbrev pub dues_with : List (Option (List RtdsUnit)) → Option UnitId → List (Option Moment) → List (Option Moment)
+dues_with domains None dues = dues
+dues_with domains (Some u) dues = with_due u (Some (moment (deadline_in domains u))) dues
 
 -- the dues where the core's own unit is not armed
-abbrev pub stopped : Option UnitId → List (Option Moment) → List (Option Moment)
-stopped None dues = dues
-stopped (Some u) dues = with_due u None dues
+abbrev pub dues_without : Option UnitId → List (Option Moment) → List (Option Moment)
+dues_without None dues = dues
+dues_without (Some u) dues = with_due u None dues

@@ -17,8 +17,8 @@ use Rattle.sched_model.specs.Eligible.{rtds_unit}
 use Rattle.sched_laws.specs.Each.{EachPlace}
 use Rattle.sched_ranges.specs.Fits.{RtdsFit}
 use Rattle.due_heap.specs.Dues.{due_of}
-use Rattle.rtds_queue.specs.Lists.{Lists, count, renewed}
-use Rattle.sched_ops.specs.Seen.{Seen, vacant}
+use Rattle.rtds_queue.specs.Lists.{Lists, count, after_renew}
+use Rattle.sched_ops.specs.Seen.{Seen, vacant_scheduler}
 use Rattle.rtds_core.specs.Alarms.{id_of, with_due}
 use Rattle.rtds_core.specs.Best.{queue_of, key_by, AreQueued, AreMasks}
 
@@ -64,12 +64,12 @@ abbrev pub seen_of : List (Option (List RtdsUnit)) → List (Option (List Cores)
 seen_of domains affinity q spare latest = record { scheduler = record { queue = queue_of q; affinity = affinity; records = RtdsPool domains }; spare = spare; latest = latest }
 
 -- what callers see where no memory was taken yet
-abbrev pub bare : ℕ → Seen
-bare latest = record { scheduler = vacant pool_params.Rtds 0 0; spare = 0; latest = latest }
+abbrev pub bare_pool : ℕ → Seen
+bare_pool latest = record { scheduler = vacant_scheduler pool_params.Rtds 0 0; spare = 0; latest = latest }
 
 -- what is printed of a unit's replenishment
-abbrev pub told : UnitId → Option RtdsUnit → Event
-told u unit =
+abbrev pub printed_event : UnitId → Option RtdsUnit → Event
+printed_event u unit =
     event.Repl u
     (elim unit [ None ↦ moment 0 | Some x ↦ moment (x.deadline - x.period) ])
     (elim unit [ None ↦ moment 0 | Some x ↦ moment x.deadline ])
@@ -79,12 +79,12 @@ told u unit =
 -- the queues after the unit was replenished: one that is not on is eligible
 abbrev pub renewed_if : Option RtdsUnit → UnitId → Lists → Lists
 renewed_if None u q = q
-renewed_if (Some x) u q = (if is_some x.burned then q else renewed q u (key_by x))
+renewed_if (Some x) u q = (if is_some x.burned then q else after_renew q u (key_by x))
 
 -- the dues after the unit was replenished
-abbrev pub rearmed : Option RtdsUnit → UnitId → List (Option Moment) → List (Option Moment)
-rearmed None u dues = dues
-rearmed (Some x) u dues = with_due u (Some (moment x.deadline)) dues
+abbrev pub rearmed_dues : Option RtdsUnit → UnitId → List (Option Moment) → List (Option Moment)
+rearmed_dues None u dues = dues
+rearmed_dues (Some x) u dues = with_due u (Some (moment x.deadline)) dues
 
 -- the records are of RTDS
 abbrev pub IsRtds : Seen → Type 0

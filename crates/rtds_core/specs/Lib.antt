@@ -4,4 +4,3 @@ pub mod Kept
 pub mod Masks
 pub mod Outside
 pub mod Wanted
-pub mod Driven

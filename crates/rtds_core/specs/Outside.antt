@@ -2,11 +2,11 @@
 use Rattle.std.specs.Prelude.{ℕ, ◌≤◌, Option, Some, None}
 use Rattle.sched_model.specs.Checked.{most_span}
 use Rattle.sched_ops.specs.Seen.{Seen}
-use Rattle.rtds_core.specs.Kept.{bare}
+use Rattle.rtds_core.specs.Kept.{bare_pool}
 
 -- what is held, or what there is at first
 abbrev pub seen_by : Option Seen → ℕ → Seen
-seen_by None early = bare early
+seen_by None early = bare_pool early
 seen_by (Some seen) early = seen
 
 -- the greatest moment that was given without memory is not past a longest span

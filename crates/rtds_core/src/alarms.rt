@@ -72,7 +72,7 @@ fn timer_at(dues: &[Option<Moment>], id: u16) -> Option<(Moment, Timer)>
 impl Alarms {
     ghost use Rattle.std.specs.Prelude.{◌≡◌, ◌<◌, IfOk, Some, None, replicate, length};
     ghost use Rattle.sched_base.specs.declared.Moment.{Moment as MomentName};
-    ghost use Rattle.rtds_core.specs.Alarms.{id_of, armed, next_of, with_due};
+    ghost use Rattle.rtds_core.specs.Alarms.{id_of, armed_timers, next_of, with_due};
 
     /// Alarms of which none is set.
     pub fn room(alloc: Global) -> Result<Alarms, NoMemory>
@@ -106,7 +106,7 @@ impl Alarms {
     /// The first timer whose moment has come at t, in order of domain and unit; where there is none, the one of the least
     /// moment. The heap knows both.
     pub fn next(&self, t: Moment) -> Option<(Moment, Timer)>
-        ensures { result ≡ next_of t.0 (armed 0 self.now) }
+        ensures { result ≡ next_of t.0 (armed_timers 0 self.now) }
     {
         match self.heap.first_due(t) {
             Some(id) => timer_at(self.dues.as_slice(), id),

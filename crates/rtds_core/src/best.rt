@@ -1,14 +1,15 @@
 //! The unit that a core takes: its own, or the first of the queue that may have the core.
 
+ghost use Rattle.sched_model.specs.Checked.{most_span};
 ghost use Rattle.std.specs.Prelude.{◌≡◌, ◌+◌, ◌<◌, ◌≤◌, ◌++◌, Some};
 ghost use Rattle.std.specs.Option.{ForSome};
 ghost use Rattle.sched_base.specs.declared.UnitId.{UnitId as UnitName};
 ghost use Rattle.sched_model.specs.declared.state.Records.TheVariants.{RtdsPool};
-ghost use Rattle.sched_model.specs.Rtds.{budget_left as budget_left_spec, foremost, choice, switch_off};
+ghost use Rattle.sched_model.specs.Rtds.{budget_left as budget_left_spec, foremost_unit, choice, switch_off};
 ghost use Rattle.arrival_queue.specs.Order.{IsInOrder, EachRankOnce, EachUnitOnce};
 ghost use Rattle.plain_policy.specs.Parts.{scheduler_of};
 ghost use Rattle.rtds_core.specs.Alarms.{id_of};
-ghost use Rattle.rtds_core.specs.Best.{queue_of, key_by, AreQueued, AreMasks, listed, goes_first as goes_first_spec, due_at, deadline_in, run_from, taken, started, stopped};
+ghost use Rattle.rtds_core.specs.Best.{queue_of, key_by, AreQueued, AreMasks, list_of, goes_first as goes_first_spec, due_at, deadline_in, run_from, queues_without, dues_with, dues_without};
 ghost use Rattle.rtds_core.specs.Kept.{IsShaped};
 
 use crate::alarms::Alarms;
@@ -68,7 +69,7 @@ fn better_of(
     own: Option<UnitId>,
     first: Option<UnitId>,
 ) -> Option<UnitId>
-    ensures { result ≡ foremost domains.now own (listed first) }
+    ensures { result ≡ foremost_unit domains.now own (list_of first) }
 {
     match own {
         None => first,
@@ -90,25 +91,26 @@ pub fn pick(
     masks: &Masks,
     ask: &Ask,
 ) -> Option<UnitId>
-    requires core { ask.now.core < 64 }
+    requires core { ask.now.core.0 < 64 }
     requires queues { AreQueued domains.now queues.now }
     requires order { IsInOrder queues.now.eligible }
     requires ranks { EachRankOnce (queues.now.eligible ++ queues.now.spent) }
     requires units { EachUnitOnce (queues.now.eligible ++ queues.now.spent) }
     requires shape { IsShaped domains.now affinity.now }
     requires masks { AreMasks affinity.now masks.now }
-    ensures { result ≡ choice ask.now (scheduler_of (queue_of queues.now) affinity.now (RtdsPool domains.now)) domains.now }
+    ensures { result ≡ choice ask.now (scheduler_of (queue_of queues.now) affinity.now
+        (RtdsPool domains.now)) domains.now }
 {
     if ask.leaving {
         return None;
     }
-    let first = queues.first_on(masks, ResId(ask.core), Cores(ask.home));
+    let first = queues.first_on(masks, ask.core, ask.home);
     better_of(domains, own_candidate(domains, affinity, ask), first)
 }
 
 /// The moment at which the budget of the chosen unit is used up.
 pub fn due_of(domains: &[Option<RtdsUnits>], at: u64, chosen: Option<UnitId>) -> Option<Moment>
-    requires early { at ≤ 10000000000000 }
+    requires early { at ≤ most_span }
     requires left { (u : UnitName) → budget_left_spec domains.now u ≤ 1000000000000 }
     ensures { result ≡ due_at domains.now at chosen }
 {
@@ -122,7 +124,7 @@ pub fn due_of(domains: &[Option<RtdsUnits>], at: u64, chosen: Option<UnitId>) ->
 pub fn stop(cur: Option<UnitId>, domains: &mut Row<Option<RtdsUnits>>, alarms: &mut Alarms)
     requires known { ForSome cur (λ u. id_of u < 2048) }
     ensures domains { domains.new ≡ switch_off cur domains.old }
-    ensures alarms { alarms.new ≡ stopped cur alarms.old }
+    ensures alarms { alarms.new ≡ dues_without cur alarms.old }
 {
     if let Some(u) = cur {
         set_running(None, u, domains);
@@ -140,8 +142,8 @@ pub fn start(
 )
     requires known { ForSome chosen (λ u. id_of u < 2048) }
     ensures domains { domains.new ≡ run_from at chosen domains.old }
-    ensures queues { queues.new ≡ taken chosen queues.old }
-    ensures alarms { alarms.new ≡ started domains.old chosen alarms.old }
+    ensures queues { queues.new ≡ queues_without chosen queues.old }
+    ensures alarms { alarms.new ≡ dues_with domains.old chosen alarms.old }
 {
     if let Some(u) = chosen {
         let deadline = deadline_of(domains.as_slice(), u);

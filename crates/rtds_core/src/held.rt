@@ -1,11 +1,12 @@
 //! An RTDS scheduler that has its memory.
 
+ghost use Rattle.sched_model.specs.Checked.{most_span};
 ghost use Rattle.std.specs.Prelude.{◌≡◌, ◌≤◌, ◌<◌, IfOk, replicate, None, true};
 ghost use Rattle.std.specs.Option.{IfSome};
 ghost use Rattle.sched_model.specs.Places.{at_place};
-ghost use Rattle.rtds_queue.specs.Lists.{empty, holds};
+ghost use Rattle.rtds_queue.specs.Lists.{empty_lists, holds};
 ghost use Rattle.rtds_core.specs.Alarms.{id_of};
-ghost use Rattle.rtds_core.specs.Kept.{size, told, renewed_if, rearmed};
+ghost use Rattle.rtds_core.specs.Kept.{size, printed_event, renewed_if, rearmed_dues};
 
 use crate::alarms::Alarms;
 use crate::best::{due_of, key_of, pick, start, stop};
@@ -21,7 +22,7 @@ use sched_model::ask::Ask;
 use sched_model::config::{DomParams, ParamChange, Pins};
 use sched_model::event::Event;
 use sched_model::facts::Stored;
-use sched_model::row::Row;
+use sched_model::row::{Row, empty_places};
 use sched_model::state::{Resource, RtdsUnit, RtdsUnits};
 use sched_ops::{Choice, Places, Timer};
 use std::alloc::Global;
@@ -53,20 +54,9 @@ impl Model for Held {
     ghost invariant = { λ a. IsKept a.domains a.affinity a.queues a.masks a.alarms a.spare a.latest };
 }
 
-/// So many places, all empty.
-fn empty_places<T: Drop>(alloc: Global, count: usize) -> Result<Row<Option<T>>, NoMemory>
-    ensures { IfOk result (λ row. row ≡ replicate count None) }
-{
-    let mut places = Vec::new(alloc);
-    for i in 0..count {
-        places.push(None)?;
-    }
-    Ok(Row::from_vec(places))
-}
-
 /// Queues with room for so many units, with the sets of cores and the alarms of each place of a unit.
 fn empty_tables(alloc: Global, units: usize) -> Result<(RtdsQueues, Masks, Alarms), NoMemory>
-    ensures queues { IfOk result (λ tables. tables.0 ≡ empty units) }
+    ensures queues { IfOk result (λ tables. tables.0 ≡ empty_lists units) }
     ensures alarms { IfOk result (λ tables. tables.2 ≡ replicate 2048 None) }
 {
     let masks = Masks::room(alloc)?;
@@ -91,7 +81,7 @@ fn count_units(affinity: &[Option<Pins>], d: DomId) -> usize
 
 /// What is printed of the unit's replenishment; zeros where there is no such unit.
 fn replenishment(u: UnitId, unit: Option<RtdsUnit>) -> Event
-    ensures { result ≡ told u unit }
+    ensures { result ≡ printed_event u unit }
 {
     match unit {
         None => Event::Repl {
@@ -119,10 +109,11 @@ impl Held {
     ghost use Rattle.sched_model.specs.Places.{at_place, has_unit};
     ghost use Rattle.sched_model.specs.Policy.{decision_of, after_decision, enqueue as enqueue_spec, join as join_spec, part as part_spec, set_params as set_params_spec, rate_of, kind_of};
     ghost use Rattle.sched_ops.specs.declared.timer.Timer.TheVariants.{Repl};
-    ghost use Rattle.sched_ops.specs.Seen.{Tells, vacant, restarted, dequeue as dequeue_spec, units_of, with_scheduler, seen_at};
+    ghost use Rattle.sched_ops.specs.Seen.{Tells, vacant_scheduler, restarted_scheduler, dequeue as dequeue_spec, units_of, with_scheduler, seen_at};
     ghost use Rattle.sched_ops.specs.Conditions.{IsNow, IsAsked, IsAway, HasNoneBusy, AreDomParams, IsChange, Keeps, is_member, is_vacant, has_joined};
     ghost use Rattle.sched_ops.specs.Timers.{timer_at, is_due, timer_event, after_timer};
-    ghost use Rattle.sched_ops.specs.Told.{IsInRange, stored_of};
+    ghost use Rattle.sched_ops.specs.Told.{IsInRange};
+    ghost use Rattle.sched_model.specs.Policy.{stored_of};
     ghost use Rattle.sched_ops.specs.Wanted.{MayAsk, is_wanted};
     ghost use Rattle.rtds_core.specs.Kept.{IsRtds};
 
@@ -130,8 +121,13 @@ impl Held {
     pub fn room(alloc: Global, places: Places, units: usize, latest: u64) -> Result<Held, NoMemory>
         requires domains { places.domains ≤ 64 }
         requires units { units ≤ 256 }
-        requires early { latest ≤ 10000000000000 }
-        ensures { IfOk result (λ held. held ≡ record { scheduler = vacant pool_params.Rtds places.domains places.cores; spare = units; latest = latest }) }
+        requires early { latest ≤ most_span }
+        ensures { IfOk result (λ held. held
+            ≡ record {
+              scheduler = vacant_scheduler pool_params.Rtds places.domains places.cores;
+              spare = units;
+              latest = latest;
+            }) }
     {
         let domains = empty_places(alloc, places.domains as usize)?;
         let affinity = empty_places(alloc, places.domains as usize)?;
@@ -150,7 +146,7 @@ impl Held {
     /// The greatest moment that was given, in nanoseconds.
     pub fn latest(&self) -> u64
         ensures latest { result ≡ self.now.latest }
-        ensures early { result ≤ 10000000000000 }
+        ensures early { result ≤ most_span }
     {
         self.latest
     }
@@ -163,14 +159,15 @@ impl Held {
         requires room { units ≤ self.old.spare }
         requires params { AreDomParams (kind_of self.old.scheduler.records) params.now }
         requires now { IsNow self.old t.0 }
-        ensures scheduler { self.new.scheduler ≡ join_spec d.0 units params.now t.0 self.old.scheduler }
+        ensures scheduler { self.new.scheduler
+            ≡ join_spec d.0 units params.now t.0 self.old.scheduler }
         ensures spare { self.new.spare ≡ self.old.spare - units }
         ensures latest { self.new.latest ≡ t.0 }
     {
         self.queues.law_order();
         let every_core = Cores(u64::MAX);
         set_place(&mut self.affinity, d.0, Some(copies(every_core, units)));
-        join_records(d.0, units, params, t, &mut self.domains);
+        join_records(d, units, params, t, &mut self.domains);
         set_masks(d, None, every_core, &mut self.masks);
         self.spare -= units as usize;
         self.latest = t.0;
@@ -219,7 +216,8 @@ impl Held {
     pub fn choose(&mut self, ask: &Ask) -> Choice
         requires asked { IsAsked self.old ask.now }
         ensures answer { Tells result (decision_of ask.now self.old.scheduler) }
-        ensures after { self.new ≡ seen_at ask.now.at (after_decision (decision_of ask.now self.old.scheduler) self.old.scheduler) self.old }
+        ensures after { self.new ≡ seen_at ask.now.at.0
+            (after_decision (decision_of ask.now self.old.scheduler) self.old.scheduler) self.old }
     {
         self.queues.law_order();
         charge_own(ask.cur, ask.at, &mut self.domains);
@@ -230,16 +228,16 @@ impl Held {
             &self.masks,
             ask,
         );
-        let due = due_of(self.domains.as_slice(), ask.at, chosen);
+        let due = due_of(self.domains.as_slice(), ask.at.0, chosen);
         stop(ask.cur, &mut self.domains, &mut self.alarms);
         start(
-            ask.at,
+            ask.at.0,
             chosen,
             &mut self.domains,
             &mut self.queues,
             &mut self.alarms,
         );
-        self.latest = ask.at;
+        self.latest = ask.at.0;
         Choice {
             unit: chosen,
             due,
@@ -252,7 +250,8 @@ impl Held {
     pub fn wanted(&self, cores: &[Option<Resource>], t: Moment, home: Cores) -> Cores
         requires few { length cores.now ≤ 64 }
         requires asks { EachPlace (MayAsk t.0 self.now.scheduler) cores.now }
-        ensures { (r : ℕ) → has_core result.0 r ≡ is_wanted t.0 home.0 self.now.scheduler r (at_place cores.now r) }
+        ensures { (r : ℕ) → has_core result.0 r
+            ≡ is_wanted t.0 home.0 self.now.scheduler r (at_place cores.now r) }
     {
         self.queues.law_order();
         wanted(
@@ -277,10 +276,11 @@ impl Held {
         requires now { IsNow self.old t.0 }
         requires due { is_due t.0 self.old.scheduler (Repl u) ≡ true }
         ensures event { result ≡ timer_event t.0 self.old.scheduler (Repl u) }
-        ensures after { self.new ≡ seen_at t.0 (after_timer t.0 self.old.scheduler (Repl u)) self.old }
+        ensures after { self.new ≡ seen_at t.0 (after_timer t.0 self.old.scheduler (Repl u))
+            self.old }
     {
         self.queues.law_order();
-        replenish(t.0, u, &mut self.domains);
+        replenish(t, u, &mut self.domains);
         self.latest = t.0;
         let unit = rtds_unit(self.domains.as_slice(), u).copied();
         renew(unit, u, &mut self.queues, &mut self.alarms);
@@ -290,8 +290,10 @@ impl Held {
     /// Changes parameters at t: those of a unit wait for its next replenishment, and sets of cores are in force at once.
     pub fn set_params(&mut self, change: &ParamChange, t: Moment)
         requires now { IsNow self.old t.0 }
-        requires change { IsChange (kind_of self.old.scheduler.records) self.old.scheduler change.now }
-        ensures { self.new ≡ seen_at t.0 (set_params_spec change.now t.0 self.old.scheduler) self.old }
+        requires change { IsChange (kind_of self.old.scheduler.records) self.old.scheduler
+            change.now }
+        ensures { self.new ≡ seen_at t.0 (set_params_spec change.now t.0 self.old.scheduler)
+            self.old }
     {
         self.latest = t.0;
         match change {
@@ -302,7 +304,7 @@ impl Held {
                 extra,
             } => set_next(*unit, *period, *budget, *extra, &mut self.domains),
             ParamChange::Pin { dom, unit, cores } => {
-                pin(dom.0, *unit, *cores, &mut self.affinity);
+                pin(*dom, *unit, *cores, &mut self.affinity);
                 set_masks(*dom, *unit, *cores, &mut self.masks);
             }
             _ => {}
@@ -336,7 +338,7 @@ impl Held {
     /// Does nothing, and tells that a scheduler that no domain has joined is as a fresh one.
     pub fn law_vacant(&self)
         requires { is_vacant self.now.scheduler ≡ true }
-        ensures { restarted pool_params.Rtds self.now.scheduler ≡ self.now.scheduler }
+        ensures { restarted_scheduler pool_params.Rtds self.now.scheduler ≡ self.now.scheduler }
     {
         let _ = &self.latest;
     }
@@ -346,7 +348,7 @@ impl Held {
     pub fn keeps(&self)
         ensures keeps { Keeps self.now }
         ensures rtds { IsRtds self.now }
-        ensures early { self.now.latest ≤ 10000000000000 }
+        ensures early { self.now.latest ≤ most_span }
     {
         self.queues.law_order();
     }
@@ -358,7 +360,7 @@ fn renew(unit: Option<RtdsUnit>, u: UnitId, queues: &mut RtdsQueues, alarms: &mu
     requires id { id_of u < 2048 }
     requires waits { IfSome unit (λ x. x.burned ≡ None → holds queues.old u ≡ true) }
     ensures queues { queues.new ≡ renewed_if unit u queues.old }
-    ensures alarms { alarms.new ≡ rearmed unit u alarms.old }
+    ensures alarms { alarms.new ≡ rearmed_dues unit u alarms.old }
 {
     if let Some(x) = unit {
         alarms.arm(u, Moment(x.deadline));

@@ -12,7 +12,8 @@ use unit_places::Masks;
 /// All 32 units that the domain may have get this set.
 fn mask_all(dom: DomId, cores: Cores, masks: &mut Masks)
     requires { dom.0 < 64 }
-    ensures { (u : UnitName) → u.n < 256 → mask_of masks.new u ≡ (if is_named dom.0 None u then cores else mask_of masks.old u) }
+    ensures { (u : UnitName) → u.n < 256 → mask_of masks.new u
+        ≡ (if is_named dom.0 None u then cores else mask_of masks.old u) }
 {
     for n in 0..32u8 {
         masks.set(UnitId { dom, n }, cores);
@@ -23,7 +24,8 @@ fn mask_all(dom: DomId, cores: Cores, masks: &mut Masks)
 pub fn set_masks(dom: DomId, unit: Option<u8>, cores: Cores, masks: &mut Masks)
     requires domain { dom.0 < 64 }
     requires unit { ForSome unit (λ n. n < 32) }
-    ensures { (u : UnitName) → u.n < 256 → mask_of masks.new u ≡ (if is_named dom.0 unit u then cores else mask_of masks.old u) }
+    ensures { (u : UnitName) → u.n < 256 → mask_of masks.new u
+        ≡ (if is_named dom.0 unit u then cores else mask_of masks.old u) }
 {
     match unit {
         None => mask_all(dom, cores, masks),

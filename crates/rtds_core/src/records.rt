@@ -1,5 +1,6 @@
 //! The records of the units: read, and put back changed.
 
+ghost use Rattle.sched_model.specs.Checked.{most_span};
 ghost use Rattle.std.specs.Prelude.{◌≡◌, ◌<◌, ◌≤◌, Some};
 ghost use Rattle.sched_model.specs.declared.state.Records.TheVariants.{RtdsPool};
 ghost use Rattle.sched_model.specs.Policy.{joined_records};
@@ -10,16 +11,16 @@ ghost use Rattle.sched_model.specs.declared.config.SchedKind.{SchedKind};
 
 use plain_policy::places::set_place;
 use plain_policy::rtds::{burn_to, fresh_units, put_unit, rtds_unit};
-use sched_base::{Moment, UnitId};
+use sched_base::{DomId, Moment, UnitId};
 use sched_model::config::DomParams;
 use sched_model::row::Row;
 use sched_model::state::{RtdsUnit, RtdsUnits};
 
 /// The unit is charged up to t.
-fn charge(t: u64, u: UnitId, domains: &mut Row<Option<RtdsUnits>>)
-    requires fits { RtdsFits t domains.old }
-    requires early { t ≤ 10000000000000 }
-    ensures { domains.new ≡ change_unit u (burn_to_spec t) domains.old }
+fn charge(t: Moment, u: UnitId, domains: &mut Row<Option<RtdsUnits>>)
+    requires fits { RtdsFits t.0 domains.old }
+    requires early { t.0 ≤ most_span }
+    ensures { domains.new ≡ change_unit u (burn_to_spec t.0) domains.old }
 {
     if let Some(x) = rtds_unit(domains.as_slice(), u) {
         let unit = burn_to(t, *x);
@@ -28,10 +29,10 @@ fn charge(t: u64, u: UnitId, domains: &mut Row<Option<RtdsUnits>>)
 }
 
 /// The core's own unit is charged up to t.
-pub fn charge_own(cur: Option<UnitId>, t: u64, domains: &mut Row<Option<RtdsUnits>>)
-    requires fits { RtdsFits t domains.old }
-    requires early { t ≤ 10000000000000 }
-    ensures { domains.new ≡ burn_cur cur t domains.old }
+pub fn charge_own(cur: Option<UnitId>, t: Moment, domains: &mut Row<Option<RtdsUnits>>)
+    requires fits { RtdsFits t.0 domains.old }
+    requires early { t.0 ≤ most_span }
+    ensures { domains.new ≡ burn_cur cur t.0 domains.old }
 {
     if let Some(u) = cur {
         charge(t, u, domains);
@@ -50,7 +51,7 @@ pub fn set_running(from: Option<u64>, u: UnitId, domains: &mut Row<Option<RtdsUn
 
 /// The records of a domain that joins at t, with so many units.
 pub fn join_records(
-    d: u8,
+    d: DomId,
     units: u8,
     params: &DomParams,
     t: Moment,
@@ -58,8 +59,9 @@ pub fn join_records(
 )
     requires few { units ≤ 32 }
     requires params { AreDomParams SchedKind.Rtds params.now }
-    requires early { t.0 ≤ 10000000000000 }
-    ensures { RtdsPool domains.new ≡ joined_records (RtdsPool domains.old) params.now d units t.0 }
+    requires early { t.0 ≤ most_span }
+    ensures { RtdsPool domains.new ≡ joined_records (RtdsPool domains.old) params.now d.0 units
+        t.0 }
 {
     if let DomParams::Rtds {
         period,
@@ -67,7 +69,7 @@ pub fn join_records(
         extra,
     } = *params
     {
-        let fresh = fresh_units(period, budget, extra, units, t.0);
-        set_place(domains, d, Some(fresh));
+        let fresh = fresh_units(period, budget, extra, units, t);
+        set_place(domains, d.0, Some(fresh));
     }
 }

@@ -1,5 +1,6 @@
 //! RTDS as a scheduler of a pool.
 
+ghost use Rattle.sched_model.specs.Checked.{most_span};
 ghost use Rattle.std.specs.Prelude.{◌≡◌, ◌≤◌};
 ghost use Rattle.sched_model.specs.Policy.{kind_of};
 ghost use Rattle.sched_model.specs.declared.config.SchedKind.{SchedKind};
@@ -38,9 +39,9 @@ impl Model for Rtds {
 
 /// The greatest moment that was given, in nanoseconds.
 fn latest_of(held: &Option<Held>, early: u64) -> u64
-    requires { early ≤ 10000000000000 }
+    requires { early ≤ most_span }
     ensures latest { result ≡ (seen_by held.now early).latest }
-    ensures early { result ≤ 10000000000000 }
+    ensures early { result ≤ most_span }
     ensures kind { kind_of (seen_by held.now early).scheduler.records ≡ SchedKind.Rtds }
 {
     match held {
@@ -75,11 +76,11 @@ fn no_event(u: UnitId) -> Event {
 
 impl Rtds {
     ghost use Rattle.std.specs.Prelude.{◌≡◌};
-    ghost use Rattle.rtds_core.specs.Kept.{bare};
+    ghost use Rattle.rtds_core.specs.Kept.{bare_pool};
 
     /// A scheduler without memory.
     pub fn empty() -> Self
-        ensures { result ≡ bare 0 }
+        ensures { result ≡ bare_pool 0 }
     {
         Rtds {
             held: None,
@@ -137,7 +138,7 @@ impl Policy for Rtds {
     fn choose(&mut self, ask: &Ask) -> Choice {
         match &mut self.held {
             None => {
-                self.early = ask.at;
+                self.early = ask.at.0;
                 Choice {
                     unit: None,
                     due: None,

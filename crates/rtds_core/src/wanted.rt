@@ -113,7 +113,9 @@ pub fn wanted(
     requires few { length cores.now ≤ 64 }
     requires queues { AreQueued domains.now queues.now }
     requires order { IsInOrder queues.now.eligible }
-    ensures { (r : ℕ) → IsAnswer (λ core cur since answer. answer ≡ decides_anew domains.now queues.now masks.now cur core home) r (at_place cores.now r) (has result.0 r) }
+    ensures { (r : ℕ) → IsAnswer (λ core cur since answer. answer
+        ≡ decides_anew domains.now queues.now masks.now cur core home) r (at_place cores.now r)
+        (has result.0 r) }
 {
     match queues.first() {
         None => wanted_where(cores, |core, cur, _since| {

@@ -11,13 +11,13 @@ use Rattle.sched_model.specs.declared.state.Records.{Records}
 use Rattle.sched_model.specs.declared.state.Records.TheVariants.{NullPool}
 use Rattle.sched_model.specs.State.{has_core}
 use Rattle.sched_model.specs.Places.{at_place, has_unit, is_unit, same_unit}
-use Rattle.sched_model.specs.Eligible.{is_allowed_by, is_placed, is_taken, has_place, is_eligible, eligible}
-use Rattle.sched_model.specs.NullScheduler.{earliest}
+use Rattle.sched_model.specs.Eligible.{is_allowed_by, is_placed, is_taken, has_place, is_eligible, eligible_units}
+use Rattle.sched_model.specs.NullScheduler.{earliest_unit}
 use Rattle.sched_model.specs.Policy.{fresh_records}
 use Rattle.sched_laws.proofs.Choices.{same_unit_same}
 use Rattle.sched_laws.proofs.Counts.{same_unit_refl}
 use Rattle.sched_ops.specs.Conditions.{ArePoolParams, is_vacant}
-use Rattle.sched_ops.specs.Seen.{restarted}
+use Rattle.sched_ops.specs.Seen.{restarted_scheduler}
 use Rattle.plain_policy.specs.Parts.{scheduler_of}
 use Rattle.pool_units.specs.Units.{Units, is_member}
 use Rattle.pool_units.proofs.Waiting.{first_of_one, any_of_none}
@@ -60,7 +60,7 @@ given_to_kept units kept home core w at may =
 
 -- where the core is given to a unit, that one alone is eligible for it
 pub first_of_placed : (units : Units) (kept : List (Option UnitId)) (home core : ℕ) (w : UnitId) → at_place kept core ≡ Some w → is_placed (scheduler_of units.queue units.affinity (NullPool kept)) kept home core w ≡ true
-    → earliest (eligible (scheduler_of units.queue units.affinity (NullPool kept)) home core 0) ≡ cond (has_unit units.queue w) (Some w) None
+    → earliest_unit (eligible_units (scheduler_of units.queue units.affinity (NullPool kept)) home core 0) ≡ cond (has_unit units.queue w) (Some w) None
 first_of_placed units kept home core w at placed =
     first_of_one w (is_eligible (scheduler_of units.queue units.affinity (NullPool kept)) home core 0) units.queue only
     ∙ ap (λ b. cond (has_unit units.queue w && b) (Some w) None) passes
@@ -86,10 +86,10 @@ first_of_placed units kept home core w at placed =
         sym (same_unit_same w u same)
 
 -- some unit passes a test where there is a first that does
-pub any_is_first : (test : UnitId → Bool) (units : List UnitId) → list_any test units ≡ is_some (earliest (filter test units))
+pub any_is_first : (test : UnitId → Bool) (units : List UnitId) → list_any test units ≡ is_some (earliest_unit (filter test units))
 any_is_first test [] = refl
 any_is_first test (u ∷ units) =
-    elim (test u) as (λ b. (b || list_any test units) ≡ is_some (earliest (cond b (u ∷ filter test units) (filter test units)))) [
+    elim (test u) as (λ b. (b || list_any test units) ≡ is_some (earliest_unit (cond b (u ∷ filter test units) (filter test units)))) [
       | true ↦ refl
       | false ↦ any_is_first test units
     ]
@@ -111,7 +111,7 @@ fresh_null pool_params.Null domains cores are = refl
 -- a pool without domains, whose cores are kept for no unit
 pub begun_anew : (queue : List UnitId) (affinity : List (Option (List Cores))) (kept : List (Option UnitId)) (params : PoolParams)
     → ((u : UnitId) → has_unit queue u ≡ true → is_member affinity u ≡ true) → is_vacant (scheduler_of queue affinity (NullPool kept)) ≡ true → ArePoolParams kinds.Null params
-    → scheduler_of queue affinity (NullPool (replicate (length kept) None)) ≡ restarted params (scheduler_of queue affinity (NullPool kept))
+    → scheduler_of queue affinity (NullPool (replicate (length kept) None)) ≡ restarted_scheduler params (scheduler_of queue affinity (NullPool kept))
 begun_anew queue affinity kept params members vacant are =
     ap (λ (q : List UnitId). scheduler_of q affinity (NullPool (replicate (length kept) None))) (queue_of_vacant queue affinity members vacant)
     ∙ ap (λ (a : List (Option (List Cores))). scheduler_of [] a (NullPool (replicate (length kept) None))) (affinity_of_vacant affinity vacant)

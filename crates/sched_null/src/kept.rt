@@ -2,13 +2,13 @@
 
 ghost use Rattle.std.specs.Prelude.{◌≡◌, [], None, replicate, unwrap_or, slice_set, length, IfOk, ◌==◌};
 ghost use Rattle.sched_model.specs.Places.{same_unit};
-ghost use Rattle.sched_model.specs.NullScheduler.{released};
+ghost use Rattle.sched_model.specs.NullScheduler.{kept_without};
 
 use plain_policy::null::release_domain;
 use plain_policy::places::set_place;
 use plain_units::units::{is_same, is_there};
 use sched_base::{DomId, NoMemory, ResId, UnitId};
-use sched_model::row::Row;
+use sched_model::row::{Row, empty_places};
 use std::alloc::Global;
 use std::marker::Model;
 
@@ -30,17 +30,6 @@ impl Model for Kept {
     ghost invariant = { λ a. IsKept (unwrap_or a.places []) };
 }
 
-/// So many cores, kept for no unit.
-fn empty_places(alloc: Global, count: u8) -> Result<Row<Option<UnitId>>, NoMemory>
-    ensures { IfOk result (λ places. places ≡ replicate count None) }
-{
-    let mut places = Row::from_vec(Vec::new(alloc));
-    for _core in 0..count {
-        places.push(None)?;
-    }
-    Ok(places)
-}
-
 /// What the core is kept for from now on, where there is such a core.
 fn set_kept(places: &mut Option<Row<Option<UnitId>>>, core: ResId, unit: Option<UnitId>)
     ensures { unwrap_or places.new [] ≡ slice_set (unwrap_or places.old []) core.0 unit }
@@ -52,7 +41,7 @@ fn set_kept(places: &mut Option<Row<Option<UnitId>>>, core: ResId, unit: Option<
 
 /// No core is kept for the unit any more.
 fn release(u: UnitId, kept: &mut Row<Option<UnitId>>)
-    ensures { kept.new ≡ released (same_unit u) kept.old }
+    ensures { kept.new ≡ kept_without (same_unit u) kept.old }
 {
     for r in 0..kept.len() {
         let there = kept.item_mut(r);
@@ -66,7 +55,7 @@ fn release(u: UnitId, kept: &mut Row<Option<UnitId>>)
 
 /// The same, where there are cores.
 fn release_unit(places: &mut Option<Row<Option<UnitId>>>, u: UnitId)
-    ensures { unwrap_or places.new [] ≡ released (same_unit u) (unwrap_or places.old []) }
+    ensures { unwrap_or places.new [] ≡ kept_without (same_unit u) (unwrap_or places.old []) }
 {
     if let Some(kept) = places {
         release(u, kept);
@@ -75,10 +64,10 @@ fn release_unit(places: &mut Option<Row<Option<UnitId>>>, u: UnitId)
 
 /// No core is kept for a unit of the domain any more.
 fn release_units(places: &mut Option<Row<Option<UnitId>>>, d: DomId)
-    ensures { unwrap_or places.new [] ≡ released (λ u. u.dom.0 == d.0) (unwrap_or places.old []) }
+    ensures { unwrap_or places.new [] ≡ kept_without (λ u. u.dom.0 == d.0) (unwrap_or places.old []) }
 {
     if let Some(kept) = places {
-        release_domain(d.0, kept);
+        release_domain(d, kept);
     }
 }
 
@@ -103,7 +92,7 @@ fn release_all(places: &mut Option<Row<Option<UnitId>>>)
 impl Kept {
     ghost use Rattle.std.specs.Prelude.{◌≡◌, ◌≤◌, [], None, replicate, length, IfOk, ◌==◌};
     ghost use Rattle.sched_model.specs.Places.{at_place, clear_at};
-    ghost use Rattle.sched_model.specs.NullScheduler.{released, kept_for};
+    ghost use Rattle.sched_model.specs.NullScheduler.{kept_without, kept_for};
 
     /// No core. It has no memory.
     pub fn empty() -> Self
@@ -117,7 +106,7 @@ impl Kept {
         requires { cores ≤ 64 }
         ensures { IfOk result (λ kept. kept ≡ replicate cores None) }
     {
-        let places = empty_places(alloc, cores)?;
+        let places = empty_places(alloc, usize::from(cores))?;
         Ok(Kept {
             places: Some(places),
         })
@@ -167,7 +156,7 @@ impl Kept {
 
     /// No core is kept for a unit of the domain.
     pub fn part(&mut self, d: DomId)
-        ensures { self.new ≡ released (λ u. u.dom.0 == d.0) self.old }
+        ensures { self.new ≡ kept_without (λ u. u.dom.0 == d.0) self.old }
     {
         release_units(&mut self.places, d);
     }

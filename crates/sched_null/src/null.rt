@@ -4,9 +4,9 @@ ghost use Rattle.std.specs.Prelude.{◌≡◌, ◌≤◌, ◌<◌, ◌&&◌, ℕ
 ghost use Rattle.sched_model.specs.Places.{has_unit};
 ghost use Rattle.sched_model.specs.declared.state.Records.TheVariants.{NullPool};
 ghost use Rattle.sched_model.specs.State.{has_core as has_core_spec};
-ghost use Rattle.sched_model.specs.Eligible.{is_allowed_by, is_placed as is_placed_spec, eligible};
+ghost use Rattle.sched_model.specs.Eligible.{is_allowed_by, is_placed as is_placed_spec, eligible_units};
 ghost use Rattle.sched_model.specs.Policy.{better_waits};
-ghost use Rattle.sched_model.specs.NullScheduler.{earliest, choice as choice_spec, choose_null};
+ghost use Rattle.sched_model.specs.NullScheduler.{earliest_unit, choice as choice_spec, null_decision};
 ghost use Rattle.plain_policy.specs.Parts.{scheduler_of};
 ghost use Rattle.sched_ops.specs.Seen.{Tells};
 
@@ -47,7 +47,8 @@ impl Model for Null {
 /// Whether the unit may have a core that is kept for it: the core is one of the pool's, and is allowed.
 fn may_have(units: &PoolUnits, home: Cores, core: ResId, u: UnitId) -> bool
     requires { core.0 < 64 }
-    ensures { result ≡ (has_core_spec home.0 core.0 && is_allowed_by units.now.affinity home.0 core.0 u) }
+    ensures { result ≡ (has_core_spec home.0 core.0
+        && is_allowed_by units.now.affinity home.0 core.0 u) }
 {
     has_core(home, core) && units.is_allowed(home, core, u)
 }
@@ -55,7 +56,8 @@ fn may_have(units: &PoolUnits, home: Cores, core: ResId, u: UnitId) -> bool
 /// Whether the core is given to the unit: it is kept for it, is one of the pool's, and is allowed.
 fn is_placed(units: &PoolUnits, kept: &Kept, home: Cores, core: ResId, u: UnitId) -> bool
     requires { core.0 < 64 }
-    ensures { result ≡ is_placed_spec (scheduler_of units.now.queue units.now.affinity (NullPool kept.now)) kept.now home.0 core.0 u }
+    ensures { result ≡ is_placed_spec (scheduler_of units.now.queue units.now.affinity
+        (NullPool kept.now)) kept.now home.0 core.0 u }
 {
     is_there(kept.at(core), u) && may_have(units, home, core, u)
 }
@@ -70,10 +72,11 @@ fn first_waiting(
 ) -> Option<UnitId>
     requires core { core.0 < 64 }
     requires few { length kept.now ≤ 64 }
-    ensures { result ≡ earliest (eligible (scheduler_of waiting.now affinity.now (NullPool kept.now)) home.0 core.0 0) }
+    ensures { result ≡ earliest_unit (eligible_units
+        (scheduler_of waiting.now affinity.now (NullPool kept.now)) home.0 core.0 0) }
 {
     for u in waiting {
-        if is_allowed(affinity, home.0, core.0, *u) && passes(kept, affinity, home.0, core.0, *u) {
+        if is_allowed(affinity, home, core, *u) && passes(kept, affinity, home, core, *u) {
             return Some(*u);
         }
     }
@@ -90,7 +93,8 @@ fn if_waits(units: &PoolUnits, u: UnitId) -> Option<UnitId>
 /// The first waiting unit that may have the core: the one that it is given to, where it is given to any.
 fn first_eligible(units: &PoolUnits, kept: &Kept, home: Cores, core: ResId) -> Option<UnitId>
     requires { core.0 < 64 }
-    ensures { result ≡ earliest (eligible (scheduler_of units.now.queue units.now.affinity (NullPool kept.now)) home.0 core.0 0) }
+    ensures { result ≡ earliest_unit (eligible_units
+        (scheduler_of units.now.queue units.now.affinity (NullPool kept.now)) home.0 core.0 0) }
 {
     if let Some(w) = kept.at(core)
         && may_have(units, home, core, w)
@@ -118,7 +122,8 @@ fn is_wanted(
 ) -> bool
     requires core { core.0 < 64 }
     requires waits { waits ≡ false → units.now.queue ≡ [] }
-    ensures { (since t : ℕ) → result ≡ better_waits cur since t core.0 home.0 (scheduler_of units.now.queue units.now.affinity (NullPool kept.now)) }
+    ensures { (since t : ℕ) → result ≡ better_waits cur since t core.0 home.0
+        (scheduler_of units.now.queue units.now.affinity (NullPool kept.now)) }
 {
     match cur {
         None => waits && first_eligible(units, kept, home, core).is_some(),
@@ -128,11 +133,12 @@ fn is_wanted(
 
 /// The core's own unit, where it was given the core and may go on, and else one that waits.
 fn choice(units: &PoolUnits, kept: &Kept, ask: &Ask) -> Option<UnitId>
-    requires { ask.now.core < 64 }
-    ensures { result ≡ choice_spec ask.now (scheduler_of units.now.queue units.now.affinity (NullPool kept.now)) kept.now }
+    requires { ask.now.core.0 < 64 }
+    ensures { result ≡ choice_spec ask.now
+        (scheduler_of units.now.queue units.now.affinity (NullPool kept.now)) kept.now }
 {
-    let home = Cores(ask.home);
-    let core = ResId(ask.core);
+    let home = ask.home;
+    let core = ask.core;
     if let Some(u) = ask.cur
         && ask.runnable
         && is_placed(units, kept, home, core, u)
@@ -144,11 +150,14 @@ fn choice(units: &PoolUnits, kept: &Kept, ask: &Ask) -> Option<UnitId>
 
 /// The decision for a core: the chosen unit keeps it, and a core that is leaving keeps none.
 fn decide(units: &PoolUnits, kept: &mut Kept, ask: &Ask) -> Choice
-    requires { ask.now.core < 64 }
-    ensures decided { Tells result (choose_null ask.now (scheduler_of units.now.queue units.now.affinity (NullPool kept.old)) kept.old) }
-    ensures records { NullPool kept.new ≡ (choose_null ask.now (scheduler_of units.now.queue units.now.affinity (NullPool kept.old)) kept.old).records }
+    requires { ask.now.core.0 < 64 }
+    ensures decided { Tells result (null_decision ask.now
+        (scheduler_of units.now.queue units.now.affinity (NullPool kept.old)) kept.old) }
+    ensures records { NullPool kept.new ≡
+        (null_decision ask.now (scheduler_of units.now.queue units.now.affinity (NullPool kept.old))
+        kept.old).records }
 {
-    let core = ResId(ask.core);
+    let core = ask.core;
     let unit = if ask.leaving {
         kept.leave(core);
         None
@@ -169,11 +178,15 @@ impl Null {
     ghost use Rattle.std.specs.Prelude.{◌≡◌};
     ghost use Rattle.sched_model.specs.declared.config.SchedKind.TheVariants as kinds;
     ghost use Rattle.sched_model.specs.Policy.{default_pool_params};
-    ghost use Rattle.sched_ops.specs.Seen.{vacant};
+    ghost use Rattle.sched_ops.specs.Seen.{vacant_scheduler};
 
     /// No domain and no place for one, and no core. It has no memory.
     pub fn empty() -> Self
-        ensures { result ≡ record { scheduler = vacant (default_pool_params kinds.Null) 0 0; spare = 0; latest = 0 } }
+        ensures { result ≡ record {
+          scheduler = vacant_scheduler (default_pool_params kinds.Null) 0 0;
+          spare = 0;
+          latest = 0;
+        } }
     {
         Null {
             units: PoolUnits::empty(),
@@ -217,7 +230,7 @@ impl Policy for Null {
     }
 
     fn choose(&mut self, ask: &Ask) -> Choice {
-        self.latest = ask.at;
+        self.latest = ask.at.0;
         let choice = decide(&self.units, &mut self.kept, ask);
         if let Some(u) = choice.unit {
             self.units.dequeue(u);

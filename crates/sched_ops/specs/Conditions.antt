@@ -76,9 +76,9 @@ pub record IsNow (seen : Seen) (t : ℕ) : Type 0 where
 
 -- a question that may be asked: its moments, its core, and the core's own unit
 pub record IsAsked (seen : Seen) (ask : Ask) : Type 0 where
-  pub now : IsNow seen ask.at
-  pub since : ask.since ≤ ask.at
-  pub core : ask.core < 64
+  pub now : IsNow seen ask.at.0
+  pub since : ask.since.0 ≤ ask.at.0
+  pub core : ask.core.0 < 64
   pub own : IsOwnOf seen.scheduler ask.cur
 
 -- a weight and a cap, where they are given

@@ -34,19 +34,19 @@ rtds_unit deadline left burned =
     }
 
 -- a unit that waits with its whole budget, the latest deadline of the four
-abbrev pub fresh : RtdsUnit
-fresh = rtds_unit 30000000 4000000 None
+abbrev pub fresh_unit : RtdsUnit
+fresh_unit = rtds_unit 30000000 4000000 None
 
 -- a unit that is neither waiting nor on, the earliest deadline of the four
 abbrev pub away : RtdsUnit
 away = rtds_unit 10000000 4000000 None
 
 -- a unit that is on since 18 milliseconds, and one that waits for its budget; they have one deadline
-abbrev pub running : RtdsUnit
-running = rtds_unit 20000000 3000000 (Some 18000000)
+abbrev pub running_unit : RtdsUnit
+running_unit = rtds_unit 20000000 3000000 (Some 18000000)
 
-abbrev pub spent : RtdsUnit
-spent = rtds_unit 20000000 0 None
+abbrev pub spent_unit : RtdsUnit
+spent_unit = rtds_unit 20000000 0 None
 
 -- two units that may have the first core
 abbrev pub two_sets : List Cores
@@ -63,4 +63,4 @@ scheduler_of a b c d =
 
 -- the pool of the four
 abbrev pub four_units : Scheduler
-four_units = scheduler_of fresh away running spent
+four_units = scheduler_of fresh_unit away running_unit spent_unit

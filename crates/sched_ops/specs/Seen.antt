@@ -17,8 +17,8 @@ pub record Seen : Type 0 where
   pub latest : ℕ
 
 -- a scheduler with these parameters and no domain, on a machine of so many domains and cores
-abbrev pub vacant : PoolParams → ℕ → ℕ → Scheduler
-vacant params domains cores = record { queue = []; affinity = replicate domains None; records = fresh_records params domains cores }
+abbrev pub vacant_scheduler : PoolParams → ℕ → ℕ → Scheduler
+vacant_scheduler params domains cores = record { queue = []; affinity = replicate domains None; records = fresh_records params domains cores }
 
 -- the places for cores of a scheduler that has some
 abbrev pub core_places : Records → ℕ
@@ -28,8 +28,8 @@ core_places (ArincPool records) = 0
 core_places (NullPool kept) = length kept
 
 -- the scheduler with new parameters and no domain; its places stay
-abbrev pub restarted : PoolParams → Scheduler → Scheduler
-restarted params scheduler = vacant params (length scheduler.affinity) (core_places scheduler.records)
+abbrev pub restarted_scheduler : PoolParams → Scheduler → Scheduler
+restarted_scheduler params scheduler = vacant_scheduler params (length scheduler.affinity) (core_places scheduler.records)
 
 -- the scheduler without the unit in its queue
 abbrev pub dequeue : UnitId → Scheduler → Scheduler
@@ -39,10 +39,11 @@ dequeue u scheduler = record scheduler { queue = without_unit u scheduler.queue 
 abbrev pub units_of : Scheduler → ℕ → ℕ
 units_of scheduler d = elim (at_place scheduler.affinity d) [ None ↦ 0 | Some sets ↦ length sets ]
 
--- the same with another scheduler; the same at t
+-- the same with another scheduler
 abbrev pub with_scheduler : Scheduler → Seen → Seen
 with_scheduler scheduler seen = record seen { scheduler = scheduler }
 
+-- the same at t with another scheduler
 abbrev pub seen_at : ℕ → Scheduler → Seen → Seen
 seen_at t scheduler seen = record seen { scheduler = scheduler; latest = t }
 

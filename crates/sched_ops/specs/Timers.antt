@@ -11,7 +11,7 @@ use Rattle.sched_model.specs.declared.state.Pool.{Pool}
 use Rattle.sched_model.specs.declared.state.Credit2Domain.{Credit2Domain}
 use Rattle.sched_model.specs.declared.state.RtdsUnit.{RtdsUnit}
 use Rattle.sched_model.specs.State.{has_come}
-use Rattle.sched_model.specs.Places.{numbered, has_unit}
+use Rattle.sched_model.specs.Places.{numbered_items, has_unit}
 use Rattle.sched_model.specs.declared.action.Action.{Action}
 use Rattle.sched_model.specs.declared.action.Action.TheVariants.{Repl as ReplAction, Refill as RefillAction}
 use Rattle.sched_model.specs.Pool.{event_in}
@@ -43,8 +43,8 @@ refills (e ∷ domains) = elim e.1.refill [ None ↦ refills domains | Some at �
 
 -- the timers of these records, where these units wait, in order of domain and unit
 abbrev pub timers_in : List UnitId → Records → List Armed
-timers_in queue (Credit2Pool records) = refills (numbered 0 records.domains)
-timers_in queue (RtdsPool domains) = replenishments queue (numbered 0 domains)
+timers_in queue (Credit2Pool records) = refills (numbered_items 0 records.domains)
+timers_in queue (RtdsPool domains) = replenishments queue (numbered_items 0 domains)
 timers_in queue (ArincPool records) = []
 timers_in queue (NullPool kept) = []
 
@@ -58,14 +58,14 @@ first_due t [] = None
 first_due t (x ∷ xs) = (if nat_le x.0.0 t then Some x else first_due t xs)
 
 -- the timer of the least moment: the best so far, or one of those that follow; among equals the earlier
-abbrev pub soonest : Option Armed → List Armed → Option Armed
-soonest best [] = best
-soonest None (x ∷ xs) = soonest (Some x) xs
-soonest (Some best) (x ∷ xs) = soonest (Some (if nat_lt x.0.0 best.0.0 then x else best)) xs
+abbrev pub soonest_timer : Option Armed → List Armed → Option Armed
+soonest_timer best [] = best
+soonest_timer None (x ∷ xs) = soonest_timer (Some x) xs
+soonest_timer (Some best) (x ∷ xs) = soonest_timer (Some (if nat_lt x.0.0 best.0.0 then x else best)) xs
 
 -- the first timer whose moment has come at t, or else the one of the least moment
 abbrev pub timer_at : ℕ → Scheduler → Option Armed
-timer_at t scheduler = elim (first_due t (timers scheduler)) [ Some x ↦ Some x | None ↦ soonest None (timers scheduler) ]
+timer_at t scheduler = elim (first_due t (timers scheduler)) [ Some x ↦ Some x | None ↦ soonest_timer None (timers scheduler) ]
 
 -- whether the timer is one of the scheduler's, and its moment has come at t
 abbrev pub is_due : ℕ → Scheduler → Timer → Bool
@@ -75,7 +75,7 @@ is_due t scheduler (Refill d) = has_come t (policy.next_refill scheduler.records
 -- the event of a timer
 abbrev pub action_of : Timer → Action
 action_of (Repl u) = ReplAction u
-action_of (Refill d) = RefillAction d.0
+action_of (Refill d) = RefillAction d
 
 -- the pool that has this scheduler, and neither domains nor cores
 abbrev pub pool_with : Scheduler → Pool

@@ -4,12 +4,13 @@ ghost use Rattle.std.specs.Prelude.{◌≡◌, [], ◌∷◌, true, false, Some,
 ghost use Rattle.sched_base.specs.Numbers.{moment, span};
 ghost use Rattle.sched_model.specs.declared.event.Event.TheVariants as event;
 ghost use Rattle.sched_ops.specs.declared.timer.Timer.TheVariants.{Repl};
-ghost use Rattle.sched_ops.specs.Timers.{timers, first_due, soonest, timer_at, is_due, timer_event, after_timer};
-ghost use Rattle.sched_ops.specs.Examples.{unit, replenishment, rtds_unit, fresh, away, running, spent, scheduler_of, four_units};
+ghost use Rattle.sched_ops.specs.Timers.{timers, first_due, soonest_timer, timer_at, is_due, timer_event, after_timer};
+ghost use Rattle.sched_ops.specs.Examples.{unit, replenishment, rtds_unit, fresh_unit, away, running_unit, spent_unit, scheduler_of, four_units};
 
 /// Each unit that waits or is on has a timer at its deadline, in order of domain and unit. One that is away has none, although its deadline has passed.
 pub fn units_that_wait_or_are_on()
-    ensures armed { timers four_units ≡ replenishment 30000000 0 0 ∷ replenishment 20000000 2 0 ∷ replenishment 20000000 2 1 ∷ [] }
+    ensures armed { timers four_units ≡ replenishment 30000000 0 0 ∷ replenishment 20000000 2 0
+        ∷ replenishment 20000000 2 1 ∷ [] }
     ensures away { is_due 20000000 four_units (Repl (unit 0 1)) ≡ false }
     ensures on { is_due 20000000 four_units (Repl (unit 2 0)) ≡ true }
     ensures waiting { is_due 20000000 four_units (Repl (unit 2 1)) ≡ true }
@@ -19,7 +20,8 @@ pub fn units_that_wait_or_are_on()
 pub fn first_by_domain_and_unit()
     ensures first { first_due 30000000 (timers four_units) ≡ Some (replenishment 30000000 0 0) }
     ensures answer { timer_at 30000000 four_units ≡ Some (replenishment 30000000 0 0) }
-    ensures without_it { first_due 29999999 (timers four_units) ≡ Some (replenishment 20000000 2 0) }
+    ensures without_it { first_due 29999999 (timers four_units)
+        ≡ Some (replenishment 20000000 2 0) }
 {}
 
 /// A timer comes at its moment, neither before nor after it.
@@ -32,19 +34,23 @@ pub fn at_its_moment()
 
 /// Where none has come, the soonest is the one of the least moment, and the earlier one among equals.
 pub fn soonest_where_none_has_come()
-    ensures least { soonest None (timers four_units) ≡ Some (replenishment 20000000 2 0) }
+    ensures least { soonest_timer None (timers four_units) ≡ Some (replenishment 20000000 2 0) }
     ensures answer { timer_at 19999999 four_units ≡ Some (replenishment 20000000 2 0) }
-    ensures none { soonest None [] ≡ None }
+    ensures none { soonest_timer None [] ≡ None }
 {}
 
 /// A replenishment gives the spent unit its whole budget and the next deadline, and its event prints the new term. The unit still waits.
 pub fn spent_unit_is_replenished()
-    ensures after { after_timer 20000000 four_units (Repl (unit 2 1)) ≡ scheduler_of fresh away running (rtds_unit 30000000 4000000 None) }
-    ensures printed { timer_event 20000000 four_units (Repl (unit 2 1)) ≡ event.Repl (unit 2 1) (moment 20000000) (moment 30000000) (span 4000000) false }
+    ensures after { after_timer 20000000 four_units (Repl (unit 2 1))
+        ≡ scheduler_of fresh_unit away running_unit (rtds_unit 30000000 4000000 None) }
+    ensures printed { timer_event 20000000 four_units (Repl (unit 2 1))
+        ≡ event.Repl (unit 2 1) (moment 20000000) (moment 30000000) (span 4000000) false }
 {}
 
 /// A unit that is on is charged up to the moment, and then gets its whole budget; one and a half periods late, it is in the term that goes on then.
 pub fn running_unit_is_replenished()
-    ensures after { after_timer 20000000 four_units (Repl (unit 2 0)) ≡ scheduler_of fresh away (rtds_unit 30000000 4000000 (Some 20000000)) spent }
-    ensures late { after_timer 35000000 four_units (Repl (unit 2 0)) ≡ scheduler_of fresh away (rtds_unit 40000000 4000000 (Some 35000000)) spent }
+    ensures after { after_timer 20000000 four_units (Repl (unit 2 0))
+        ≡ scheduler_of fresh_unit away (rtds_unit 30000000 4000000 (Some 20000000)) spent_unit }
+    ensures late { after_timer 35000000 four_units (Repl (unit 2 0))
+        ≡ scheduler_of fresh_unit away (rtds_unit 40000000 4000000 (Some 35000000)) spent_unit }
 {}

@@ -28,11 +28,12 @@ pub trait Policy: Drop {
     ghost use Rattle.sched_model.specs.State.{has_core};
     ghost use Rattle.sched_model.specs.Policy.{decision_of, after_decision, enqueue as enqueue_spec, join as join_spec, part as part_spec, set_params as set_params_spec, rate_of, kind_of, default_pool_params};
     ghost use Rattle.sched_laws.specs.Each.{EachPlace};
-    ghost use Rattle.sched_ops.specs.Seen.{Seen, Tells, vacant, restarted, dequeue as dequeue_spec, units_of, with_scheduler, seen_at};
+    ghost use Rattle.sched_ops.specs.Seen.{Seen, Tells, vacant_scheduler, restarted_scheduler, dequeue as dequeue_spec, units_of, with_scheduler, seen_at};
     ghost use Rattle.sched_ops.specs.Conditions.{IsNow, IsAsked, IsAway, HasNoneBusy, ArePoolParams, AreDomParams, IsChange, Keeps, is_member, is_vacant, has_joined};
     ghost use Rattle.sched_ops.specs.Timers.{timer_at, is_due, timer_event, after_timer};
     ghost use Rattle.sched_ops.specs.Wanted.{MayAsk, is_wanted};
-    ghost use Rattle.sched_ops.specs.Told.{IsInRange, stored_of};
+    ghost use Rattle.sched_ops.specs.Told.{IsInRange};
+    ghost use Rattle.sched_model.specs.Policy.{stored_of};
 
     /// What callers see.
     ghost seen: { Self → Seen };
@@ -44,7 +45,9 @@ pub trait Policy: Drop {
         requires cores { places.cores ≤ 64 }
         requires units { units ≤ 256 }
         requires vacant { is_vacant (seen self.old).scheduler ≡ true }
-        ensures scheduler { OnOk result ((seen self.new).scheduler ≡ vacant (default_pool_params (kind_of (seen self.old).scheduler.records)) places.domains places.cores) }
+        ensures scheduler { OnOk result ((seen self.new).scheduler
+            ≡ vacant_scheduler (default_pool_params (kind_of (seen self.old).scheduler.records))
+            places.domains places.cores) }
         ensures room { OnOk result (units ≤ (seen self.new).spare) }
         ensures latest { OnOk result ((seen self.new).latest ≡ (seen self.old).latest) }
         ensures as_before { OnErr result (seen self.new ≡ seen self.old) };
@@ -53,7 +56,7 @@ pub trait Policy: Drop {
     fn restart(&mut self, params: &PoolParams)
         requires vacant { is_vacant (seen self.old).scheduler ≡ true }
         requires params { ArePoolParams (kind_of (seen self.old).scheduler.records) params.now }
-        ensures { seen self.new ≡ with_scheduler (restarted params.now (seen self.old).scheduler) (seen self.old) };
+        ensures { seen self.new ≡ with_scheduler (restarted_scheduler params.now (seen self.old).scheduler) (seen self.old) };
 
     /// The domain joins at t, with so many units, 1 to 32. Its units may have all cores; none of them waits yet.
     fn join(&mut self, d: DomId, units: u8, params: &DomParams, t: Moment)
@@ -64,7 +67,8 @@ pub trait Policy: Drop {
         requires room { units ≤ (seen self.old).spare }
         requires params { AreDomParams (kind_of (seen self.old).scheduler.records) params.now }
         requires now { IsNow (seen self.old) t.0 }
-        ensures scheduler { (seen self.new).scheduler ≡ join_spec d.0 units params.now t.0 (seen self.old).scheduler }
+        ensures scheduler { (seen self.new).scheduler
+            ≡ join_spec d.0 units params.now t.0 (seen self.old).scheduler }
         ensures spare { (seen self.new).spare ≡ (seen self.old).spare - units }
         ensures latest { (seen self.new).latest ≡ t.0 };
 
@@ -73,7 +77,8 @@ pub trait Policy: Drop {
         requires joined { has_joined (seen self.old).scheduler d.0 ≡ true }
         requires idle { HasNoneBusy (seen self.old).scheduler d.0 }
         ensures scheduler { (seen self.new).scheduler ≡ part_spec d.0 (seen self.old).scheduler }
-        ensures spare { (seen self.new).spare ≡ (seen self.old).spare + units_of (seen self.old).scheduler d.0 }
+        ensures spare { (seen self.new).spare
+            ≡ (seen self.old).spare + units_of (seen self.old).scheduler d.0 }
         ensures latest { (seen self.new).latest ≡ (seen self.old).latest };
 
     /// The unit, which neither waits nor is on, waits behind all others.
@@ -90,7 +95,7 @@ pub trait Policy: Drop {
     fn choose(&mut self, ask: &Ask) -> Choice
         requires asked { IsAsked (seen self.old) ask.now }
         ensures answer { Tells result (decision_of ask.now (seen self.old).scheduler) }
-        ensures after { seen self.new ≡ seen_at ask.now.at (after_decision (decision_of ask.now (seen self.old).scheduler) (seen self.old).scheduler) (seen self.old) };
+        ensures after { seen self.new ≡ seen_at ask.now.at.0 (after_decision (decision_of ask.now (seen self.old).scheduler) (seen self.old).scheduler) (seen self.old) };
 
     /// The cores that are to decide anew at t: of the cores at these places each that is neither leaving nor to decide already, and
     /// that has none while a unit waits for it, or whose own unit is not allowed on it, or for which a better one waits. A core's own
@@ -116,7 +121,8 @@ pub trait Policy: Drop {
     /// Changes parameters at t. Those of an RTDS unit wait for its next replenishment.
     fn set_params(&mut self, change: &ParamChange, t: Moment)
         requires now { IsNow (seen self.old) t.0 }
-        requires change { IsChange (kind_of (seen self.old).scheduler.records) (seen self.old).scheduler change.now }
+        requires change { IsChange (kind_of (seen self.old).scheduler.records)
+            (seen self.old).scheduler change.now }
         ensures { seen self.new ≡ seen_at t.0 (set_params_spec change.now t.0 (seen self.old).scheduler) (seen self.old) };
 
     /// The set values of a unit; for RTDS the newest ones.

@@ -14,15 +14,16 @@ use sched_model::state::Resource;
 #[inline(always)]
 fn is_wanted<F: Fn(ResId, Option<UnitId>, Moment) -> bool>(
     place: &Option<Resource>,
-    r: u8,
+    r: ResId,
     asks: &F,
 ) -> bool
-    requires asks { (c : ResourceRecord) → place.now ≡ Some c → is_asked c ≡ true → F.pre asks.now (core r) c.cur c.since }
-    ensures { IsAnswer (F.post asks.now) r place.now result }
+    requires asks { (c : ResourceRecord) → place.now ≡ Some c → is_asked c ≡ true →
+        F.pre asks.now r c.cur c.since }
+    ensures { IsAnswer (F.post asks.now) r.0 place.now result }
 {
     match place {
         None => false,
-        Some(c) => !c.leaving && !c.pending && asks(ResId(r), c.cur, c.since),
+        Some(c) => !c.leaving && !c.pending && asks(r, c.cur, c.since),
     }
 }
 
@@ -34,12 +35,13 @@ pub fn wanted_where<F: Fn(ResId, Option<UnitId>, Moment) -> bool>(
     asks: F,
 ) -> Cores
     requires few { length cores.now ≤ 64 }
-    requires asks { (r : ℕ) (c : ResourceRecord) → at_place cores.now r ≡ Some c → is_asked c ≡ true → F.pre asks (core r) c.cur c.since }
+    requires asks { (r : ℕ) (c : ResourceRecord) → at_place cores.now r ≡ Some c → is_asked c
+        ≡ true → F.pre asks (core r) c.cur c.since }
     ensures { (r : ℕ) → IsAnswer (F.post asks) r (at_place cores.now r) (has_core result.0 r) }
 {
     let mut set = 0;
     for r in (0..cores.len()).rev() {
-        let wanted = is_wanted(&cores[r], r as u8, &asks);
+        let wanted = is_wanted(&cores[r], ResId(r as u8), &asks);
         set = 2 * set + wanted as u64;
     }
     Cores(set)

@@ -1,4 +1,5 @@
 -- What the guests of a pool keep: after a change of one vCPU, or of one domain, and as time passes.
+use Rattle.std.proofs.lemmas.Option.{slice_get_within}
 use Rattle.std.proofs.Common.{◌≡◌, ◌≢◌, ◌≤◌, ◌<◌, ◌+◌, ◌-◌, ◌*◌, ◌/◌, ◌%◌, ◌⊎◌, ℕ, zero, suc, Bool, true, false, List, [], ◌∷◌, ◌∙◌, refl, sym, ap, subst, arith, length, inl, inr}
 use Rattle.std.specs.Prelude.{Option, Some, None, option_map, is_none, is_some, slice_get, nat_le, replicate}
 use Rattle.std.specs.List.{All, AllByRecursion}
@@ -10,19 +11,19 @@ use Rattle.sched_base.specs.declared.VcpuId.{VcpuId}
 use Rattle.sched_model.specs.declared.state.Vcpu.{Vcpu}
 use Rattle.sched_model.specs.declared.state.Domain.{Domain}
 use Rattle.sched_model.specs.Checked.{IsCheckedScript, IsGranularity, most_span}
-use Rattle.sched_model.specs.Places.{at_place, put_at, clear_at, change_at, change_item}
+use Rattle.sched_model.specs.Places.{at_place, put_at, clear_at, change_at, change_item, AllPlaces}
 use Rattle.sched_model.specs.State.{has_come}
 use Rattle.sched_model.specs.Opening.{fresh_vcpu}
-use Rattle.sched_model.specs.Pool.{woken, put_to_sleep, stopped, done_at, unit_count}
+use Rattle.sched_model.specs.Pool.{woken_vcpu, put_to_sleep, stopped_vcpu, done_at, unit_count}
 use Rattle.sched_laws.specs.Each.{EachAt, EachPlace}
 use Rattle.sched_laws.proofs.EachPlace.{EachAt-change_to, EachPlace-change_at, EachPlace-put_at, EachPlace-clear_at, EachPlace-empty, place_below, length_set}
-use Rattle.sched_laws.proofs.Lists.{some_is}
-use Rattle.sched_ranges.proofs.Vcpus.{VcpuFits as VcpuStands, get_inside, vcpu_fresh, vcpu_woken, vcpu_slept, vcpu_stopped, vcpu_started}
-use Rattle.plain_pool.specs.Fits.{AllPlaces, DomainFits, VcpuFits, vcpu_among}
-use Rattle.unit_state.specs.Seen.{Seen, IsNow, vacant, change_among, done_among, wake_among, is_awake_among, is_due_among}
+use Rattle.sched_laws.proofs.Lists.{some_is, length_change_item}
+use Rattle.sched_ranges.proofs.Vcpus.{VcpuFits as VcpuStands, vcpu_fresh, vcpu_woken, vcpu_slept, vcpu_stopped, vcpu_started}
+use Rattle.plain_pool.specs.Fits.{DomainFits, VcpuFits, vcpu_among}
+use Rattle.unit_state.specs.Seen.{Seen, IsNow, vacant_guests, change_among, done_among, wake_among, is_awake_among, is_due_among}
 use Rattle.unit_state.specs.Parts.{IsGuest, HasGuests, IsStill, IsRunPlace, IsSleepPlace}
 use Rattle.unit_state.specs.Kept.{KeepsGuests, units_in}
-use Rattle.unit_state.proofs.PlaceLemmas.{read_change_item, length-change_item, vcpu_there, vcpu_in, units_in-put_at, units_in-clear_at, units_in-change_at}
+use Rattle.unit_state.proofs.PlaceLemmas.{read_change_item, vcpu_there, vcpu_in, units_in-put_at, units_in-clear_at, units_in-change_at}
 
 -- a moment that has come is there, and has come later too
 pub come_there : (t : ℕ) (o : Option Moment) → has_come t o ≡ true → (a : Moment) × (o ≡ Some a) × (a.0 ≤ t)
@@ -92,11 +93,11 @@ started_if_done t x done = by_started x.started refl done
 pub guest_fresh : (script : List Span) → IsCheckedScript script → IsGuest 0 (fresh_vcpu script)
 guest_fresh script checked = guest_stands 0 0 script (fresh_vcpu script) (omega arith) checked (λ from e. absurd (cc)) (vcpu_fresh script checked)
 
-guest_woken : (t : ℕ) (x : Vcpu) → t ≤ most_span → has_come t x.asleep_until ≡ true → IsGuest t x → IsGuest t (woken x)
+guest_woken : (t : ℕ) (x : Vcpu) → t ≤ most_span → has_come t x.asleep_until ≡ true → IsGuest t x → IsGuest t (woken_vcpu x)
 guest_woken t x early come guest =
     let there = come_there t x.asleep_until come in
     let still : x.started ≡ None = guest.still there.0 there.1 in
-    guest_stands most_span t x.script (woken x) (omega arith) guest.script
+    guest_stands most_span t x.script (woken_vcpu x) (omega arith) guest.script
     (λ from e. absurd (let f : None ≡ Some from = sym still ∙ e in cc))
     (vcpu_woken most_span x.script x guest.script (come_later t most_span x.asleep_until early come) (late_stands t x early guest))
 
@@ -107,16 +108,16 @@ guest_slept t x early done guest =
     (λ from e. absurd (cc))
     (vcpu_slept t x.script x guest.script done (awake_stands t x (awake_if_started t x from.0 from.1 guest) guest))
 
-guest_stopped : (t : ℕ) (x : Vcpu) → t ≤ most_span → IsGuest t x → IsGuest t (stopped t x)
+guest_stopped : (t : ℕ) (x : Vcpu) → t ≤ most_span → IsGuest t x → IsGuest t (stopped_vcpu t x)
 guest_stopped t x early guest = by_start x.started refl
   where
-    by_start : (o : Option Moment) → x.started ≡ o → IsGuest t (stopped t x)
+    by_start : (o : Option Moment) → x.started ≡ o → IsGuest t (stopped_vcpu t x)
     by_start None is =
-        let same : x ≡ stopped t x = subst (λ (o : Option Moment). x ≡ elim o as (λ _. Vcpu) [ None ↦ x | Some from ↦ record x { work_left = option_map (λ work. span (work.0 - (t - from.0))) x.work_left; started = None } ]) (sym is) refl in
+        let same : x ≡ stopped_vcpu t x = subst (λ (o : Option Moment). x ≡ elim o as (λ _. Vcpu) [ None ↦ x | Some from ↦ record x { work_left = option_map (λ work. span (work.0 - (t - from.0))) x.work_left; started = None } ]) (sym is) refl in
         subst (IsGuest t) same guest
     by_start (Some from) is =
         let stands = vcpu_stopped t x.script x (awake_stands t x (awake_if_started t x from is guest) guest) in
-        guest_stands t t x.script (stopped t x) early guest.script stands.started stands
+        guest_stands t t x.script (stopped_vcpu t x) early guest.script stands.started stands
 
 guest_started : (t : ℕ) (x : Vcpu) → t ≤ most_span → x.asleep_until ≡ None → IsGuest t x → IsGuest t (record x { started = Some (moment t) })
 guest_started t x early awake guest =
@@ -158,8 +159,8 @@ guests_still t s d still guests = record { some = guests.some; few = guests.few;
 -- a domain of which one vCPU is changed
 guests_changed : (t n : ℕ) (f : Vcpu → Vcpu) (d : Domain) → ((x : Vcpu) → slice_get d.vcpus n ≡ Some x → IsGuest t x → IsGuest t (f x)) → HasGuests t d → HasGuests t (record d { vcpus = change_item n f d.vcpus })
 guests_changed t n f d kept guests = record {
-  some = (let l = length-change_item n f d.vcpus in let s = guests.some in omega (arith, l, s));
-  few = (let l = length-change_item n f d.vcpus in let s = guests.few in omega (arith, l, s));
+  some = (let l = length_change_item n f d.vcpus in let s = guests.some in omega (arith, l, s));
+  few = (let l = length_change_item n f d.vcpus in let s = guests.few in omega (arith, l, s));
   vcpus = λ k y at. elim (read_change_item n k f d.vcpus y at) [
     | inl was ↦ guests.vcpus k y was
     | inr r ↦ subst (IsGuest t) r.2 (kept r.0 r.1 (guests.vcpus n r.0 r.1))
@@ -174,7 +175,7 @@ keeps_changed seen t v f now kept keeps =
       granularity = keeps.granularity;
       places = (let l = length_set v.dom.0 (option_map change (at_place seen.domains v.dom.0)) seen.domains in let p = keeps.places in omega (arith, l, p));
       units = (
-          let u = units_in-change_at seen.granularity v.dom.0 change seen.domains (λ d. ap (λ k. (k + seen.granularity - 1) / seen.granularity) (length-change_item v.n f d.vcpus)) in
+          let u = units_in-change_at seen.granularity v.dom.0 change seen.domains (λ d. ap (λ k. (k + seen.granularity - 1) / seen.granularity) (length_change_item v.n f d.vcpus)) in
           let k = keeps.units in
           omega (arith, u, k));
       latest = now.early;
@@ -188,14 +189,14 @@ keeps_changed seen t v f now kept keeps =
 among_some : {X : Type 0} (g : Vcpu → Option X) (o : Option Vcpu) (x : Vcpu) → o ≡ Some x → (elim o as (λ _. Option X) [ None ↦ None | Some y ↦ g y ]) ≡ g x
 among_some {X} g o x is = ap (λ (p : Option Vcpu). elim p as (λ _. Option X) [ None ↦ None | Some y ↦ g y ]) is
 
-pub keeps_woken : (seen : Seen) (t : ℕ) (v : VcpuId) → IsNow seen t → is_due_among t seen.domains v ≡ true → KeepsGuests seen → KeepsGuests (record seen { domains = change_among v woken seen.domains; latest = t })
-keeps_woken seen t v now due = keeps_changed seen t v woken now (λ x there guest. guest_woken t x now.early (subst (λ (o : Option Moment). has_come t o ≡ true) (among_some (λ (y : Vcpu). y.asleep_until) (vcpu_among seen.domains v) x there) due) guest)
+pub keeps_woken : (seen : Seen) (t : ℕ) (v : VcpuId) → IsNow seen t → is_due_among t seen.domains v ≡ true → KeepsGuests seen → KeepsGuests (record seen { domains = change_among v woken_vcpu seen.domains; latest = t })
+keeps_woken seen t v now due = keeps_changed seen t v woken_vcpu now (λ x there guest. guest_woken t x now.early (subst (λ (o : Option Moment). has_come t o ≡ true) (among_some (λ (y : Vcpu). y.asleep_until) (vcpu_among seen.domains v) x there) due) guest)
 
 pub keeps_slept : (seen : Seen) (t : ℕ) (v : VcpuId) → IsNow seen t → has_come t (done_among seen.domains v) ≡ true → KeepsGuests seen → KeepsGuests (record seen { domains = change_among v (put_to_sleep t) seen.domains; latest = t })
 keeps_slept seen t v now done = keeps_changed seen t v (put_to_sleep t) now (λ x there guest. guest_slept t x now.early (subst (λ (o : Option Moment). has_come t o ≡ true) (among_some done_at (vcpu_among seen.domains v) x there) done) guest)
 
-pub keeps_stopped : (seen : Seen) (t : ℕ) (v : VcpuId) → IsNow seen t → KeepsGuests seen → KeepsGuests (record seen { domains = change_among v (stopped t) seen.domains; latest = t })
-keeps_stopped seen t v now = keeps_changed seen t v (stopped t) now (λ x there guest. guest_stopped t x now.early guest)
+pub keeps_stopped : (seen : Seen) (t : ℕ) (v : VcpuId) → IsNow seen t → KeepsGuests seen → KeepsGuests (record seen { domains = change_among v (stopped_vcpu t) seen.domains; latest = t })
+keeps_stopped seen t v now = keeps_changed seen t v (stopped_vcpu t) now (λ x there guest. guest_stopped t x now.early guest)
 
 -- a vCPU that is awake does not sleep
 sleeps_not : (domains : List (Option Domain)) (v : VcpuId) (x : Vcpu) → vcpu_among domains v ≡ Some x → is_awake_among domains v ≡ true → x.asleep_until ≡ None
@@ -248,7 +249,7 @@ keeps_taken seen i d at keeps = record {
 }
 
 -- no domain at all
-pub keeps_vacant : (g places units : ℕ) → IsGranularity g → places ≤ 64 → units ≤ 256 → KeepsGuests (vacant g places units)
+pub keeps_vacant : (g places units : ℕ) → IsGranularity g → places ≤ 64 → units ≤ 256 → KeepsGuests (vacant_guests g places units)
 keeps_vacant g places units multiple few room = record {
   granularity = multiple;
   places = (let l = length_replicate places in omega (arith, l, few));
@@ -270,7 +271,7 @@ pub vcpu_bounds : (seen : Seen) (v : VcpuId) (x : Vcpu) → KeepsGuests seen →
 vcpu_bounds seen v x keeps there =
     let d = vcpu_there seen.domains v x there in
     let place = place_below seen.domains v.dom.0 d.0 d.1 in
-    let index = get_inside d.0.vcpus v.n x d.2 in
+    let index = slice_get_within d.0.vcpus v.n x d.2 in
     let places = keeps.places in
     let few = (keeps.guests v.dom.0 d.0 d.1).few in
     (omega (arith, place, places), omega (arith, index, few))

@@ -7,24 +7,18 @@ use Rattle.sched_base.specs.declared.VcpuId.{VcpuId}
 use Rattle.sched_model.specs.declared.state.Vcpu.{Vcpu}
 use Rattle.sched_model.specs.declared.state.Domain.{Domain}
 use Rattle.sched_model.specs.Places.{at_place, put_at, clear_at, change_at, change_item}
-use Rattle.sched_model.specs.Pool.{stopped, unit_count}
+use Rattle.sched_model.specs.Pool.{stopped_vcpu, unit_count}
 use Rattle.sched_model.proofs.PlaceLemmas.{at_place-change_at_other}
 use Rattle.sched_laws.proofs.EachPlace.{at_place-put_at_other, at_place-clear_at_other, by_option}
 use Rattle.plain_credit2.proofs.Items.{get-change_item, at_place-change_at}
 use Rattle.plain_pool.specs.Fits.{vcpu_among}
 use Rattle.unit_state.specs.Seen.{change_among, wake_among, units_at}
 use Rattle.unit_state.specs.Kept.{units_in}
+use Rattle.sched_laws.proofs.Lists.{length_change_item, slice_get-change_item_other}
 
 -- two vCPUs are not the same
 abbrev pub AreOthers : VcpuId → VcpuId → Type 0
 AreOthers v w = (w.dom.0 ≢ v.dom.0) ⊎ (w.n ≢ v.n)
-
-get-change_item_other : {X : Type 0} (i j : ℕ) (f : X → X) (xs : List X) → j ≢ i → slice_get (change_item i f xs) j ≡ slice_get xs j
-get-change_item_other i j f [] other = refl
-get-change_item_other zero zero f (x ∷ xs) other = absurd (other refl)
-get-change_item_other zero (suc j) f (x ∷ xs) other = refl
-get-change_item_other (suc i) zero f (x ∷ xs) other = refl
-get-change_item_other (suc i) (suc j) f (x ∷ xs) other = get-change_item_other i j f xs (λ e. other (ap suc e))
 
 -- what is read after a change of one item: what was there, or what was changed
 pub read_change_item : {X : Type 0} (i j : ℕ) (f : X → X) (xs : List X) (y : X) → slice_get (change_item i f xs) j ≡ Some y → (slice_get xs j ≡ Some y) ⊎ ((x : X) × (slice_get xs i ≡ Some x) × (f x ≡ y))
@@ -33,11 +27,6 @@ read_change_item zero zero f (x ∷ xs) y at = inr (x, refl, cc)
 read_change_item zero (suc j) f (x ∷ xs) y at = inl at
 read_change_item (suc i) zero f (x ∷ xs) y at = inl at
 read_change_item (suc i) (suc j) f (x ∷ xs) y at = read_change_item i j f xs y at
-
-pub length-change_item : {X : Type 0} (i : ℕ) (f : X → X) (xs : List X) → length (change_item i f xs) ≡ length xs
-length-change_item i f [] = refl
-length-change_item zero f (x ∷ xs) = refl
-length-change_item (suc i) f (x ∷ xs) = ap (λ n. suc n) (length-change_item i f xs)
 
 -- the vCPU of a domain that may be there
 abbrev pub vcpu_in : ℕ → Option Domain → Option Vcpu
@@ -71,7 +60,7 @@ vcpu_among-change_among_other v w f domains others =
   where
     here : w.n ≢ v.n → (o : Option Domain) → vcpu_in w.n (option_map (λ (d : Domain). record d { vcpus = change_item v.n f d.vcpus }) o) ≡ vcpu_in w.n o
     here n None = refl
-    here n (Some d) = get-change_item_other v.n w.n f d.vcpus n
+    here n (Some d) = slice_get-change_item_other v.n w.n f d.vcpus (λ e. n (sym e))
 
 -- a vCPU that is there is one of a domain that is there
 pub vcpu_there : (domains : List (Option Domain)) (v : VcpuId) (x : Vcpu) → vcpu_among domains v ≡ Some x → (d : Domain) × (at_place domains v.dom.0 ≡ Some d) × (slice_get d.vcpus v.n ≡ Some x)
@@ -139,5 +128,5 @@ pub wake_among-clear_at_other : (i : ℕ) (w : VcpuId) (domains : List (Option D
 wake_among-clear_at_other i w domains ne = ap (λ (o : Option Domain). wake_in (vcpu_in w.n o)) (at_place-clear_at_other i w.dom.0 domains ne)
 
 -- a vCPU that is stopped sleeps as it did
-pub stopped_wakes : (t : ℕ) (x : Vcpu) → (stopped t x).asleep_until ≡ x.asleep_until
+pub stopped_wakes : (t : ℕ) (x : Vcpu) → (stopped_vcpu t x).asleep_until ≡ x.asleep_until
 stopped_wakes t x = by_option (λ (y : Vcpu). y.asleep_until ≡ x.asleep_until) x.started _ _ (λ is. refl) (λ from is. refl)

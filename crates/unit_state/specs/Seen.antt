@@ -19,8 +19,8 @@ pub record Seen : Type 0 where
   pub latest : ℕ
 
 -- with so many places for domains, all empty, and room for so many units
-abbrev pub vacant : ℕ → ℕ → ℕ → Seen
-vacant granularity places units = record { domains = replicate places None; granularity = granularity; spare = units; latest = 0 }
+abbrev pub vacant_guests : ℕ → ℕ → ℕ → Seen
+vacant_guests granularity places units = record { domains = replicate places None; granularity = granularity; spare = units; latest = 0 }
 
 -- the moment is not before the greatest one that was given, and at most 10^13
 pub record IsNow (seen : Seen) (t : ℕ) : Type 0 where

@@ -13,7 +13,7 @@ use plain_pool::domains::unit_count;
 use plain_pool::runnable::is_runnable;
 use plain_pool::vcpus::{done_at, sleep_vcpu, start_vcpu, stop_vcpu, vcpu_of, wake_vcpu};
 use sched_base::{DomId, Moment, NoMemory, PoolId, UnitId, VcpuId};
-use sched_model::row::Row;
+use sched_model::row::{Row, empty_places};
 use sched_model::state::Domain;
 use std::alloc::Global;
 use std::marker::Model;
@@ -41,17 +41,6 @@ impl Model for Guests {
     ghost view = { λ a. record { domains = a.domains; granularity = a.granularity; spare = a.spare; latest = a.latest.0 } };
 
     ghost invariant = { λ a. KeepsGuests (record { domains = a.domains; granularity = a.granularity; spare = a.spare; latest = a.latest.0 }) × AreSleepers a.domains a.sleepers };
-}
-
-/// So many places for domains, all empty.
-fn empty_places(alloc: Global, places: u8) -> Result<Row<Option<Domain>>, NoMemory>
-    ensures { IfOk result (λ row. row ≡ replicate places None) }
-{
-    let mut row = Row::from_vec(Vec::new(alloc));
-    for n in 0..places {
-        row.push(None)?;
-    }
-    Ok(row)
 }
 
 /// The domain with this number, where these are the domains.
@@ -82,25 +71,25 @@ fn home_domains(domains: &[Option<Domain>]) -> u64
 
 /// The domain is paused, or no longer.
 fn pause_at(domains: &mut Row<Option<Domain>>, d: DomId, yes: bool)
-    ensures { domains.new ≡ change_at d.0 (λ (x : DomainRecord). record x { paused = yes }) domains.old }
+    ensures { domains.new ≡ change_at d.0 (λ (x : DomainRecord). record x { paused = yes })
+        domains.old }
 {
-    let place = d.0 as usize;
-    if place < domains.len() {
-        if let Some(domain) = domains.item_mut(place) {
-            domain.paused = yes;
-        }
+    if let Some(place) = domains.get_mut(d.0 as usize)
+        && let Some(domain) = place
+    {
+        domain.paused = yes;
     }
 }
 
 /// The domain is moving to a pool, or no longer.
 fn aim_at(domains: &mut Row<Option<Domain>>, d: DomId, to: Option<PoolId>)
-    ensures { domains.new ≡ change_at d.0 (λ (x : DomainRecord). record x { moving = to }) domains.old }
+    ensures { domains.new ≡ change_at d.0 (λ (x : DomainRecord). record x { moving = to })
+        domains.old }
 {
-    let place = d.0 as usize;
-    if place < domains.len() {
-        if let Some(domain) = domains.item_mut(place) {
-            domain.moving = to;
-        }
+    if let Some(place) = domains.get_mut(d.0 as usize)
+        && let Some(domain) = place
+    {
+        domain.moving = to;
     }
 }
 
@@ -127,8 +116,8 @@ impl Guests {
     ghost use Rattle.sched_model.specs.Checked.{IsGranularity};
     ghost use Rattle.sched_model.specs.Places.{at_place, change_at, clear_at, put_at};
     ghost use Rattle.sched_model.specs.State.{has_come, has_core as has_bit, runnable_among};
-    ghost use Rattle.sched_model.specs.Pool.{put_to_sleep, stopped, unit_count as unit_count_spec, woken};
-    ghost use Rattle.unit_state.specs.Seen.{IsNow, IsNotAfter, change_among, done_among, is_awake_among, is_due_among, is_paused_among, start_among, target_among, units_at, vacant, wake_among};
+    ghost use Rattle.sched_model.specs.Pool.{put_to_sleep, stopped_vcpu, unit_count as unit_count_spec, woken_vcpu};
+    ghost use Rattle.unit_state.specs.Seen.{IsNow, IsNotAfter, change_among, done_among, is_awake_among, is_due_among, is_paused_among, start_among, target_among, units_at, vacant_guests, wake_among};
     ghost use Rattle.unit_state.specs.Parts.{IsPart, IsStill};
     ghost use Rattle.unit_state.specs.Kept.{KeepsGuests};
 
@@ -143,9 +132,9 @@ impl Guests {
         requires granularity { IsGranularity granularity }
         requires places { places ≤ 64 }
         requires units { units ≤ 256 }
-        ensures { IfOk result (λ guests. guests ≡ vacant granularity places units) }
+        ensures { IfOk result (λ guests. guests ≡ vacant_guests granularity places units) }
     {
-        let domains = empty_places(alloc, places)?;
+        let domains = empty_places(alloc, places as usize)?;
         let sleepers = DueHeap::room(alloc, IDS)?;
         Ok(Guests {
             granularity,
@@ -163,7 +152,11 @@ impl Guests {
         requires absent { at_place self.old.domains part.d.0 ≡ None }
         requires granularity { part.granularity ≡ self.old.granularity }
         requires room { unit_count_spec part.granularity part.domain ≤ self.old.spare }
-        ensures { self.new ≡ record self.old { domains = put_at part.d.0 part.domain self.old.domains; spare = self.old.spare - unit_count_spec part.granularity part.domain } }
+        ensures { self.new ≡ record self.old {
+          domains = put_at part.d.0 part.domain self.old.domains;
+          spare = self.old.spare -
+              unit_count_spec part.granularity part.domain;
+        } }
     {
         let DomPart {
             d,
@@ -179,7 +172,8 @@ impl Guests {
     pub fn wake(&mut self, v: VcpuId, t: Moment)
         requires now { IsNow self.old t.0 }
         requires due { is_due_among t.0 self.old.domains v ≡ true }
-        ensures { self.new ≡ record self.old { domains = change_among v woken self.old.domains; latest = t.0 } }
+        ensures { self.new ≡ record self.old
+            { domains = change_among v woken_vcpu self.old.domains; latest = t.0 } }
     {
         wake_vcpu(&mut self.domains, v);
         rearm(&mut self.sleepers, self.domains.as_slice(), v);
@@ -190,9 +184,13 @@ impl Guests {
     pub fn start(&mut self, v: VcpuId, t: Moment)
         requires now { IsNow self.old t.0 }
         requires awake { is_awake_among self.old.domains v ≡ true }
-        ensures { self.new ≡ record self.old { domains = change_among v (λ (x : VcpuRecord). record x { started = Some (moment t.0) }) self.old.domains; latest = t.0 } }
+        ensures { self.new ≡ record self.old {
+          domains = change_among v (λ (x : VcpuRecord).
+              record x { started = Some (moment t.0) }) self.old.domains;
+          latest = t.0;
+        } }
     {
-        start_vcpu(&mut self.domains, v, t.0);
+        start_vcpu(&mut self.domains, v, t);
         self.latest = t;
     }
 
@@ -200,9 +198,10 @@ impl Guests {
     /// stays as it is.
     pub fn stop(&mut self, v: VcpuId, t: Moment)
         requires now { IsNow self.old t.0 }
-        ensures { self.new ≡ record self.old { domains = change_among v (stopped t.0) self.old.domains; latest = t.0 } }
+        ensures { self.new ≡ record self.old
+            { domains = change_among v (stopped_vcpu t.0) self.old.domains; latest = t.0 } }
     {
-        stop_vcpu(&mut self.domains, v, t.0);
+        stop_vcpu(&mut self.domains, v, t);
         self.latest = t;
     }
 
@@ -210,23 +209,30 @@ impl Guests {
     pub fn block(&mut self, v: VcpuId, t: Moment)
         requires now { IsNow self.old t.0 }
         requires done { has_come t.0 (done_among self.old.domains v) ≡ true }
-        ensures { self.new ≡ record self.old { domains = change_among v (put_to_sleep t.0) self.old.domains; latest = t.0 } }
+        ensures { self.new ≡ record self.old
+            { domains = change_among v (put_to_sleep t.0) self.old.domains; latest = t.0 } }
     {
-        sleep_vcpu(&mut self.domains, v, t.0);
+        sleep_vcpu(&mut self.domains, v, t);
         rearm(&mut self.sleepers, self.domains.as_slice(), v);
         self.latest = t;
     }
 
     /// A domain is paused, or no longer. Where it is not there, nothing changes.
     pub fn set_paused(&mut self, d: DomId, yes: bool)
-        ensures { self.new ≡ record self.old { domains = change_at d.0 (λ (x : DomainRecord). record x { paused = yes }) self.old.domains } }
+        ensures { self.new ≡ record self.old {
+          domains = change_at d.0 (λ (x : DomainRecord). record x { paused = yes })
+              self.old.domains;
+        } }
     {
         pause_at(&mut self.domains, d, yes);
     }
 
     /// A domain is moving to a pool, or no longer. Where it is not there, nothing changes.
     pub fn set_moving(&mut self, d: DomId, to: Option<PoolId>)
-        ensures { self.new ≡ record self.old { domains = change_at d.0 (λ (x : DomainRecord). record x { moving = to }) self.old.domains } }
+        ensures { self.new ≡ record self.old {
+          domains = change_at d.0 (λ (x : DomainRecord). record x { moving = to })
+              self.old.domains;
+        } }
     {
         aim_at(&mut self.domains, d, to);
     }
@@ -239,7 +245,11 @@ impl Guests {
         ensures granularity { result.granularity ≡ self.old.granularity }
         ensures domain { at_place self.old.domains d.0 ≡ Some result.domain }
         ensures part { IsPart result }
-        ensures after { self.new ≡ record self.old { domains = clear_at d.0 self.old.domains; spare = self.old.spare + unit_count_spec result.granularity result.domain } }
+        ensures after { self.new ≡ record self.old {
+          domains = clear_at d.0 self.old.domains;
+          spare = self.old.spare + unit_count_spec
+              result.granularity result.domain;
+        } }
     {
         let granularity = self.granularity;
         let domain = take_out(&mut self.domains, d);
@@ -330,7 +340,8 @@ impl Guests {
     pub fn first_wake(&self, t: Moment) -> Option<VcpuId>
         ensures none { IfNone result ((v : VcpuId) → is_due_among t.0 self.now.domains v ≡ false) }
         ensures due { IfSome result (λ v. is_due_among t.0 self.now.domains v ≡ true) }
-        ensures first { IfSome result (λ v. (w : VcpuId) → is_due_among t.0 self.now.domains w ≡ true → IsNotAfter v w) }
+        ensures first { IfSome result (λ v. (w : VcpuId) → is_due_among t.0 self.now.domains w
+            ≡ true → IsNotAfter v w) }
     {
         match self.sleepers.first_due(t) {
             Some(id) => Some(vcpu_with(id)),
@@ -341,8 +352,10 @@ impl Guests {
     /// The least moment at which a vCPU wakes. `None` where none sleeps.
     pub fn next_wake(&self) -> Option<Moment>
         ensures none { IfNone result ((v : VcpuId) → wake_among self.now.domains v ≡ None) }
-        ensures some { IfSome result (λ at. (v : VcpuId) × (wake_among self.now.domains v ≡ Some at)) }
-        ensures least { IfSome result (λ at. (v : VcpuId) (other : Moment) → wake_among self.now.domains v ≡ Some other → at.0 ≤ other.0) }
+        ensures some { IfSome result (λ at. (v : VcpuId)
+            × (wake_among self.now.domains v ≡ Some at)) }
+        ensures least { IfSome result (λ at. (v : VcpuId) (other : Moment) →
+            wake_among self.now.domains v ≡ Some other → at.0 ≤ other.0) }
     {
         match self.sleepers.least() {
             Some((at, _)) => Some(at),

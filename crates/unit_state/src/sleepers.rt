@@ -55,7 +55,8 @@ fn set_due(sleepers: &mut DueHeap, id: u16, at: Option<Moment>)
 /// Arms a vCPU with its wake moment, or disarms it where it is awake or not there.
 pub fn rearm(sleepers: &mut DueHeap, domains: &[Option<Domain>], v: VcpuId)
     requires { v.dom.0 * 32 + v.n < length sleepers.old }
-    ensures { sleepers.new ≡ slice_set sleepers.old (v.dom.0 * 32 + v.n) (wake_among domains.now v) }
+    ensures { sleepers.new ≡ slice_set sleepers.old (v.dom.0 * 32 + v.n)
+        (wake_among domains.now v) }
 {
     set_due(sleepers, id_of(v), wake_moment(domains, v));
 }
@@ -65,8 +66,10 @@ pub fn rearm_domain(sleepers: &mut DueHeap, domains: &[Option<Domain>], d: DomId
     requires ids { length sleepers.old ≡ 2048 }
     requires place { d.0 < 64 }
     ensures ids { length sleepers.new ≡ 2048 }
-    ensures own { (n : ℕ) → n < 32 → due_of sleepers.new (d.0 * 32 + n) ≡ wake_among domains.now (vcpu_id d.0 n) }
-    ensures others { (e n : ℕ) → e ≢ d.0 → n < 32 → due_of sleepers.new (e * 32 + n) ≡ due_of sleepers.old (e * 32 + n) }
+    ensures own { (n : ℕ) → n < 32 → due_of sleepers.new (d.0 * 32 + n)
+        ≡ wake_among domains.now (vcpu_id d.0 n) }
+    ensures others { (e n : ℕ) → e ≢ d.0 → n < 32 → due_of sleepers.new (e * 32 + n)
+        ≡ due_of sleepers.old (e * 32 + n) }
 {
     for n in 0..32u8 {
         rearm(sleepers, domains, VcpuId { dom: d, n });

@@ -5,12 +5,12 @@ use Rattle.sched_model.specs.Arinc.{window_unit}
 use Rattle.sched_model.specs.Eligible.{is_allowed_by}
 use Rattle.sched_model.specs.Places.{has_unit}
 use Rattle.pool_units.specs.Units.{Units}
-use Rattle.arinc_frame.specs.Waiting.{awaited, if_allowed, if_waits, is_other}
+use Rattle.arinc_frame.specs.Waiting.{awaited_unit, if_allowed, if_waits, is_other}
 use Rattle.arinc_frame.proofs.Deciding.{some_eligible, some_better}
 use Rattle.arinc_frame.proofs.arinc.is_wanted.Goals as goal
 
 -- a unit that waits, where it may have the core
-waits_here : (units : Units) (unit : Option UnitId) (home core : ℕ) → if_allowed units (if_waits units unit) home core ≡ awaited units unit home core
+waits_here : (units : Units) (unit : Option UnitId) (home core : ℕ) → if_allowed units (if_waits units unit) home core ≡ awaited_unit units unit home core
 waits_here units None home core = refl
 waits_here units (Some u) home core =
     elim (has_unit units.queue u) as (λ b. if_allowed units (if b then Some u else None) home core ≡ (if b && is_allowed_by units.affinity home core u then Some u else None)) [ true ↦ refl | false ↦ refl ]

@@ -15,8 +15,8 @@ use Rattle.credit2_core.proofs.choice.better_waits.Goals as goal
 pub returns-in-None : goal.returns-in-None
 returns-in-None c =
     let h = c.args.held.now in
-    c.is_some.ensures ∙ ap is_some c.best_ready.ensures ∙ some_passes h.records (may_take h.affinity c.args.home c.args.core h.records) (arrivals h.queue.units)
-    ∙ ap (λ (cur : Option UnitId). better_waits cur c.args.since c.args.t c.args.core c.args.home (scheduler_in h)) (sym c.in-None.is)
+    c.is_some.ensures ∙ ap is_some c.best_ready.ensures ∙ some_passes h.records (may_take h.affinity c.args.home.0 c.args.core.0 h.records) (arrivals h.queue.units)
+    ∙ ap (λ (cur : Option UnitId). better_waits cur c.args.since.0 c.args.t.0 c.args.core.0 c.args.home.0 (scheduler_in h)) (sym c.in-None.is)
 
 same_form : (records : Credit2Records) (own : UnitId) (since t : ℕ) (o : Option UnitId) → is_better_of records own since t o ≡ elim o as (λ _. Bool) [ None ↦ false | Some u ↦ is_better records own since t u ]
 same_form records own since t None = refl
@@ -26,14 +26,14 @@ pub returns-else-not-may_be_on : goal.returns-else-not-may_be_on
 returns-else-not-may_be_on c =
     let h = c.args.held.now in
     let own : UnitId = c.in-Some.own in
-    let p : UnitId → Bool = may_take h.affinity c.args.home c.args.core h.records in
-    let allowed : is_allowed_by h.affinity c.args.home c.args.core own ≡ true = sym c.may_be_on.ensures ∙ c.if-not-may_be_on.false in
-    let any : Bool = list_any (λ u. p u && is_better h.records own c.args.since c.args.t u) (arrivals h.queue.units) in
+    let p : UnitId → Bool = may_take h.affinity c.args.home.0 c.args.core.0 h.records in
+    let allowed : is_allowed_by h.affinity c.args.home.0 c.args.core.0 own ≡ true = sym c.may_be_on.ensures ∙ c.if-not-may_be_on.false in
+    let any : Bool = list_any (λ u. p u && is_better h.records own c.args.since.0 c.args.t.0 u) (arrivals h.queue.units) in
     c.one_is_better.ensures
-    ∙ same_form h.records own c.args.since c.args.t (best_of (arrivals h.queue.units) h.affinity c.args.home c.args.core h.records)
-    ∙ better_passes h.records (not (is_within_limit h.records c.args.since c.args.t)) (credit_of (change_unit own (burn_unit (max_weight h.records) c.args.t) h.records) own) p (arrivals h.queue.units)
+    ∙ same_form h.records own c.args.since.0 c.args.t.0 (best_of (arrivals h.queue.units) h.affinity c.args.home.0 c.args.core.0 h.records)
+    ∙ better_passes h.records (not (is_within_limit h.records c.args.since.0 c.args.t.0)) (credit_of (change_unit own (burn_unit (max_weight h.records) c.args.t.0) h.records) own) p (arrivals h.queue.units)
     ∙ ap (λ (b : Bool). not b || any) (sym allowed)
-    ∙ ap (λ (cur : Option UnitId). better_waits cur c.args.since c.args.t c.args.core c.args.home (scheduler_in h)) (sym c.in-Some.is)
+    ∙ ap (λ (cur : Option UnitId). better_waits cur c.args.since.0 c.args.t.0 c.args.core.0 c.args.home.0 (scheduler_in h)) (sym c.in-Some.is)
 
 pub may_be_on-requires-clause-joined : goal.may_be_on-requires-clause-joined
 may_be_on-requires-clause-joined c = (c.requires.own c.in-Some.own c.in-Some.is).member

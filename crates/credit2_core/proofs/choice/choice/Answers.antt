@@ -15,11 +15,11 @@ returns-in-Some c =
     let h = c.args.held.now in
     let ask : Ask = c.args.ask.now in
     let own : own_candidate ask (scheduler_in h) h.records ≡ Some c.in-Some.u = sym c.own_candidate-own.ensures ∙ c.in-Some.is in
-    let scans : (true && is_within_limit h.records ask.since ask.at) ≡ false = elim c.else-is_some.branch [
+    let scans : (true && is_within_limit h.records ask.since.0 ask.at.0) ≡ false = elim c.else-is_some.branch [
       | else-is_some-via-then-is_some+else-is_within_limit w ↦ sym w.is_within_limit.ensures ∙ w.if-is_within_limit.false
       | else-is_some-via-else-is_some w ↦ absurd (let e : is_some c.own_candidate-own.result ≡ false = sym c.is_some.ensures ∙ w.if-is_some.false in let f : true ≡ false = ap is_some (sym c.in-Some.is) ∙ e in cc)
     ] in
     c.richer.ensures
     ∙ ap (richer_of h.records c.in-Some.u) c.best_ready-waiting.ensures
-    ∙ sym (greatest_own h.records c.in-Some.u (filter (may_take h.affinity ask.home ask.core h.records) (arrivals h.queue.units)))
+    ∙ sym (greatest_own h.records c.in-Some.u (filter (may_take h.affinity ask.home.0 ask.core.0 h.records) (arrivals h.queue.units)))
     ∙ sym (choice_scans ask (scheduler_in h) h.records (Some c.in-Some.u) c.if-ask.false own scans)

@@ -3,7 +3,7 @@ use Rattle.std.specs.Bool.{OnTrue, OnFalse}
 use Rattle.sched_base.specs.declared.UnitId.{UnitId}
 use Rattle.arrival_queue.specs.Filters.{first_that}
 use Rattle.arrival_queue.specs.Queues.{rank_in}
-use Rattle.runq.specs.Queue.{Queue, removed}
+use Rattle.runq.specs.Queue.{Queue, after_remove}
 use Rattle.credit2_core.proofs.Kept.{first_left}
 use Rattle.credit2_core.proofs.Lists.{queued_have}
 use Rattle.credit2_core.proofs.Lines.{IsLeft, line_left}
@@ -29,9 +29,9 @@ returns-clause-first c p other = by_answer c.remove.result c.remove.ensures.gone
     old : Queue
     old = c.args.held.now.queue
 
-    left_first : first_that p (removed old c.args.u).units ≡ first_that p old.units
+    left_first : first_that p (after_remove old c.args.u).units ≡ first_that p old.units
     left_first = first_left p c.args.u (rank_in c.args.u old.units) old.units (omega arith) (queued_have (λ (w : UnitId). w.n < 256) old.units c.requires.indices) other
 
-    by_answer : (b : Bool) → OnTrue b (c.remove.new.self ≡ removed old c.args.u) → OnFalse b (c.remove.new.self ≡ old) → first_that p c.remove.new.self.units ≡ first_that p old.units
+    by_answer : (b : Bool) → OnTrue b (c.remove.new.self ≡ after_remove old c.args.u) → OnFalse b (c.remove.new.self ≡ old) → first_that p c.remove.new.self.units ≡ first_that p old.units
     by_answer true gone none = ap (λ (q : Queue). first_that p q.units) gone ∙ left_first
     by_answer false gone none = ap (λ (q : Queue). first_that p q.units) none

@@ -18,8 +18,8 @@ none_within records own since t (Some u) within = rw within refl
 pub returns-then-is_within_limit : goal.returns-then-is_within_limit
 returns-then-is_within_limit c =
     let held = c.args.held.now in
-    let within : is_within_limit held.records c.args.since c.args.t ≡ true = sym c.is_within_limit.ensures ∙ c.if-is_within_limit.true in
-    sym (none_within held.records c.args.own c.args.since c.args.t (best_of (arrivals held.queue.units) held.affinity c.args.home c.args.core held.records) within)
+    let within : is_within_limit held.records c.args.since.0 c.args.t.0 ≡ true = sym c.is_within_limit.ensures ∙ c.if-is_within_limit.true in
+    sym (none_within held.records c.args.own c.args.since.0 c.args.t.0 (best_of (arrivals held.queue.units) held.affinity c.args.home.0 c.args.core.0 held.records) within)
 
 pub returns-then-not-better_than : goal.returns-then-not-better_than
 returns-then-not-better_than c =
@@ -27,17 +27,17 @@ returns-then-not-better_than c =
     let records : Credit2Records = held.records in
     let es : List Queued = held.queue.units in
     let own : UnitId = c.args.own in
-    let out : is_within_limit records c.args.since c.args.t ≡ false = sym c.is_within_limit.ensures ∙ c.if-is_within_limit.false in
-    let worse_first : is_better_of records own c.args.since c.args.t (first_ready records es) ≡ false =
-    ap (is_better_of records own c.args.since c.args.t) (sym c.requires.ready.first) ∙ sym (c.better_than.ensures c.args.since out) ∙ c.if-not-better_than.true
+    let out : is_within_limit records c.args.since.0 c.args.t.0 ≡ false = sym c.is_within_limit.ensures ∙ c.if-is_within_limit.false in
+    let worse_first : is_better_of records own c.args.since.0 c.args.t.0 (first_ready records es) ≡ false =
+    ap (is_better_of records own c.args.since.0 c.args.t.0) (sym c.requires.ready.first) ∙ sym (c.better_than.ensures c.args.since.0 out) ∙ c.if-not-better_than.true
     in
     sym (
-    ap (is_better_of records own c.args.since c.args.t) (sym (first_greatest records (may_take held.affinity c.args.home c.args.core records) es (record { order = c.law_order.ensures.order; ranks = c.law_order.ensures.ranks; units = c.law_order.ensures.units }) c.requires.held.line.keys))
-    ∙ none_better records own c.args.since c.args.t (is_allowed_by held.affinity c.args.home c.args.core) (domain_has_budget records) es c.law_order.ensures.order c.requires.held.line.keys worse_first
+    ap (is_better_of records own c.args.since.0 c.args.t.0) (sym (first_greatest records (may_take held.affinity c.args.home.0 c.args.core.0 records) es (record { order = c.law_order.ensures.order; ranks = c.law_order.ensures.ranks; units = c.law_order.ensures.units }) c.requires.held.line.keys))
+    ∙ none_better records own c.args.since.0 c.args.t.0 (is_allowed_by held.affinity c.args.home.0 c.args.core.0) (domain_has_budget records) es c.law_order.ensures.order c.requires.held.line.keys worse_first
     )
 
 pub returns : goal.returns
 returns c =
     let held = c.args.held.now in
-    let out : is_within_limit held.records c.args.since c.args.t ≡ false = sym c.is_within_limit.ensures ∙ c.if-is_within_limit.false in
-    c.better_than-2.ensures c.args.since out ∙ ap (is_better_of held.records c.args.own c.args.since c.args.t) c.best_ready-best.ensures
+    let out : is_within_limit held.records c.args.since.0 c.args.t.0 ≡ false = sym c.is_within_limit.ensures ∙ c.if-is_within_limit.false in
+    c.better_than-2.ensures c.args.since.0 out ∙ ap (is_better_of held.records c.args.own c.args.since.0 c.args.t.0) c.best_ready-best.ensures

@@ -8,5 +8,5 @@ use Rattle.credit2_core.proofs.choice.reset_pool.Goals as goal
 pub returns-clause-line : goal.returns-clause-line
 returns-clause-line c =
     subst (λ (r : Credit2Records). IsLineOf c.args.held.now.affinity r c.rekey_all.new.queue.units) (sym c.reset.ensures)
-    (line_reset c.args.held.now.affinity c.args.t c.args.m c.args.held.now.records c.args.held.now.queue.units c.rekey_all.new.queue.units c.rekey_all.ensures.same.order
+    (line_reset c.args.held.now.affinity c.args.t.0 c.args.m c.args.held.now.records c.args.held.now.queue.units c.rekey_all.new.queue.units c.rekey_all.ensures.same.order
     (subst (λ (r : Credit2Records). HasCredits r c.rekey_all.new.queue.units) c.reset.ensures c.rekey_all.ensures.keys) c.requires.line)

@@ -20,14 +20,14 @@ pub charge-requires-clause-most : goal.charge-requires-clause-most
 charge-requires-clause-most c = c.requires.ready.most
 
 pub charge-requires-clause-fits : goal.charge-requires-clause-fits
-charge-requires-clause-fits c = plain_fits c.args.ask.now.at c.args.held.now.records (range_later c.args.held.now.latest c.args.ask.now.at c.args.held.now.records c.requires.asked.now.after c.requires.held.range)
+charge-requires-clause-fits c = plain_fits c.args.ask.now.at.0 c.args.held.now.records (range_later c.args.held.now.latest c.args.ask.now.at.0 c.args.held.now.records c.requires.asked.now.after c.requires.held.range)
 
 pub follow-requires-clause-few : goal.follow-requires-clause-few
 follow-requires-clause-few c =
     let records : Credit2Records = c.args.held.now.records in
     let u : UnitId = c.in-Some.u in
-    let f = own_charged (max_weight records) c.args.ask.now.at u.n in
-    let is = ap (λ (r : Credit2Records). length r.domains) (c.charge.ensures ∙ burn_cur-own u c.args.ask.now.at records) in
+    let f = own_charged (max_weight records) c.args.ask.now.at.0 u.n in
+    let is = ap (λ (r : Credit2Records). length r.domains) (c.charge.ensures ∙ burn_cur-own u c.args.ask.now.at.0 records) in
     let long = length_set u.dom.0 (option_map f (at_place records.domains u.dom.0)) records.domains in
     let few = c.requires.held.range.few in
     omega (arith, is, long, few)
@@ -36,22 +36,22 @@ pub follow-requires-clause-but : goal.follow-requires-clause-but
 follow-requires-clause-but c =
     let h : Held = c.args.held.now in
     let u : UnitId = c.in-Some.u in
-    let f = own_charged (max_weight h.records) c.args.ask.now.at u.n in
-    subst (λ (r : Credit2Records). IsReadyBut u.dom.0 true r h.queue.units c.args.ready.now) (sym (c.charge.ensures ∙ burn_cur-own u c.args.ask.now.at h.records))
-    (but_again u.dom.0 true f h.records h.queue.units c.args.ready.now (own_weight (max_weight h.records) c.args.ask.now.at u.n) (but_of u.dom.0 true h c.args.ready.now c.requires.ready))
+    let f = own_charged (max_weight h.records) c.args.ask.now.at.0 u.n in
+    subst (λ (r : Credit2Records). IsReadyBut u.dom.0 true r h.queue.units c.args.ready.now) (sym (c.charge.ensures ∙ burn_cur-own u c.args.ask.now.at.0 h.records))
+    (but_again u.dom.0 true f h.records h.queue.units c.args.ready.now (own_weight (max_weight h.records) c.args.ask.now.at.0 u.n) (but_of u.dom.0 true h c.args.ready.now c.requires.ready))
 
 pub returns-in-Some-clause-fits : goal.returns-in-Some-clause-fits
 returns-in-Some-clause-fits c =
-    subst (PoolFits c.args.ask.now.at) (sym c.charge.ensures)
-    (burn_cur_fits (Some c.in-Some.u) c.args.ask.now.at c.args.held.now.records c.requires.asked.now.early
-    (plain_fits c.args.ask.now.at c.args.held.now.records (range_later c.args.held.now.latest c.args.ask.now.at c.args.held.now.records c.requires.asked.now.after c.requires.held.range)))
+    subst (PoolFits c.args.ask.now.at.0) (sym c.charge.ensures)
+    (burn_cur_fits (Some c.in-Some.u) c.args.ask.now.at.0 c.args.held.now.records c.requires.asked.now.early
+    (plain_fits c.args.ask.now.at.0 c.args.held.now.records (range_later c.args.held.now.latest c.args.ask.now.at.0 c.args.held.now.records c.requires.asked.now.after c.requires.held.range)))
 
 pub returns-in-Some-clause-line : goal.returns-in-Some-clause-line
 returns-in-Some-clause-line c =
     subst (λ (r : Credit2Records). IsLineOf c.args.held.now.affinity r c.args.held.now.queue.units) (sym c.charge.ensures)
-    (line_burn_cur c.args.held.now.affinity (Some c.in-Some.u) c.args.ask.now.at c.args.held.now.records c.args.held.now.queue.units c.requires.held.line)
+    (line_burn_cur c.args.held.now.affinity (Some c.in-Some.u) c.args.ask.now.at.0 c.args.held.now.records c.args.held.now.queue.units c.requires.held.line)
 
 pub returns-in_default-clause-fits : goal.returns-in_default-clause-fits
 returns-in_default-clause-fits c =
-    pool_in_range c.args.ask.now.at c.args.held.now.records c.requires.asked.now.early
-    (plain_fits c.args.ask.now.at c.args.held.now.records (range_later c.args.held.now.latest c.args.ask.now.at c.args.held.now.records c.requires.asked.now.after c.requires.held.range))
+    pool_in_range c.args.ask.now.at.0 c.args.held.now.records c.requires.asked.now.early
+    (plain_fits c.args.ask.now.at.0 c.args.held.now.records (range_later c.args.held.now.latest c.args.ask.now.at.0 c.args.held.now.records c.requires.asked.now.after c.requires.held.range))

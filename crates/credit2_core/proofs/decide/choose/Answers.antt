@@ -7,7 +7,7 @@ use Rattle.sched_model.specs.Credit2.{burn_cur, switch_off, resets_for, choice}
 use Rattle.plain_credit2.specs.Waiting.{scheduler_of}
 use Rattle.queue_laws.specs.Arrivals.{arrivals}
 use Rattle.credit2_core.specs.declared.held.Held.{Held}
-use Rattle.credit2_core.specs.Choice.{ran}
+use Rattle.credit2_core.specs.Choice.{records_after_run}
 use Rattle.credit2_core.specs.Held.{IsHeld, IsLine, IsSameRoom, scheduler_in}
 use Rattle.runq.specs.Queue.{Queue}
 use Rattle.credit2_core.proofs.Deciding.{held_idle, held_ran}
@@ -18,14 +18,14 @@ pub returns-in-None-clause-held : goal.returns-in-None-clause-held
 returns-in-None-clause-held c =
     let h : Held = c.args.held.now in
     let ask : Ask = c.args.ask.now in
-    let next : Credit2Records = switch_off ask.cur (burn_cur ask.cur ask.at h.records) in
+    let next : Credit2Records = switch_off ask.cur (burn_cur ask.cur ask.at.0 h.records) in
     let records : c.idle.new.held.records ≡ next = c.idle.ensures.records ∙ ap (switch_off ask.cur) c.charge_own.ensures.records in
-    let is : c.idle.new.held ≡ record h { records = next; latest = ask.at } =
+    let is : c.idle.new.held ≡ record h { records = next; latest = ask.at.0 } =
     c.idle.ensures.rest
-    ∙ ap (λ (x : Held). record x { records = c.idle.new.held.records; latest = ask.at }) c.charge_own.ensures.rest
-    ∙ ap (λ (r : Credit2Records). record h { records = r; latest = ask.at }) records
+    ∙ ap (λ (x : Held). record x { records = c.idle.new.held.records; latest = ask.at.0 }) c.charge_own.ensures.rest
+    ∙ ap (λ (r : Credit2Records). record h { records = r; latest = ask.at.0 }) records
     in
-    let line : IsLine (record h { records = next; latest = ask.at }) = subst IsLine is c.idle.ensures.line in
+    let line : IsLine (record h { records = next; latest = ask.at.0 }) = subst IsLine is c.idle.ensures.line in
     subst IsHeld (sym is) (held_idle h ask c.requires.held c.requires.asked.now.after line)
 
 pub returns-in-None-clause-ready : goal.returns-in-None-clause-ready
@@ -39,16 +39,16 @@ returns-in-Some-clause-held c =
     let h : Held = c.args.held.now in
     let ask : Ask = c.args.ask.now in
     let u : UnitId = c.in-Some.u in
-    let burned : Credit2Records = burn_cur ask.cur ask.at h.records in
-    let k : ℕ = resets_for ask.at u burned in
+    let burned : Credit2Records = burn_cur ask.cur ask.at.0 h.records in
+    let k : ℕ = resets_for ask.at.0 u burned in
     let q : Queue = c.run_unit.new.held.queue in
-    let records : c.run_unit.new.held.records ≡ ran ask.cur ask.at k u burned = c.run_unit.ensures.records ∙ ap (λ (r : Credit2Records). ran ask.cur ask.at (resets_for ask.at u r) u r) c.charge_own.ensures.records in
-    let is : c.run_unit.new.held ≡ record h { records = ran ask.cur ask.at k u burned; queue = q; latest = ask.at } =
+    let records : c.run_unit.new.held.records ≡ records_after_run ask.cur ask.at.0 k u burned = c.run_unit.ensures.records ∙ ap (λ (r : Credit2Records). records_after_run ask.cur ask.at.0 (resets_for ask.at.0 u r) u r) c.charge_own.ensures.records in
+    let is : c.run_unit.new.held ≡ record h { records = records_after_run ask.cur ask.at.0 k u burned; queue = q; latest = ask.at.0 } =
     c.run_unit.ensures.rest
-    ∙ ap (λ (x : Held). record x { records = c.run_unit.new.held.records; queue = q; latest = ask.at }) c.charge_own.ensures.rest
-    ∙ ap (λ (r : Credit2Records). record h { records = r; queue = q; latest = ask.at }) records
+    ∙ ap (λ (x : Held). record x { records = c.run_unit.new.held.records; queue = q; latest = ask.at.0 }) c.charge_own.ensures.rest
+    ∙ ap (λ (r : Credit2Records). record h { records = r; queue = q; latest = ask.at.0 }) records
     in
-    let line : IsLine (record h { records = ran ask.cur ask.at k u burned; queue = q; latest = ask.at }) = subst IsLine is c.run_unit.ensures.line in
+    let line : IsLine (record h { records = records_after_run ask.cur ask.at.0 k u burned; queue = q; latest = ask.at.0 }) = subst IsLine is c.run_unit.ensures.line in
     let same : c.charge_own.new.held.queue ≡ h.queue = ap (λ (x : Held). x.queue) c.charge_own.ensures.rest in
     let room : IsSameRoom h.queue q = subst (λ (old : Queue). IsSameRoom old q) same c.run_unit.ensures.room in
     let chosen : choice ask (scheduler_in c.charge_own.new.held) c.charge_own.new.held.records ≡ Some u = sym c.choice.ensures ∙ c.in-Some.is in

@@ -27,8 +27,8 @@ take_slice-long-requires-clause-ready c =
     let left : Held = c.leave.new.held in
     let kept : Ready = c.args.ready.now in
     let first : left.records ≡ h.records = ap (λ (x : Held). x.records) c.leave.ensures.rest in
-    let begun : c.reset_pool.new.held.records ≡ reset c.args.ask.now.at c.resets_for-resets.result h.records = c.reset_pool.ensures.records ∙ ap (reset c.args.ask.now.at c.resets_for-resets.result) first in
-    let spared : IsSpared h.records c.reset_pool.new.held.records = subst (IsSpared h.records) (sym begun) (spared_reset c.args.ask.now.at c.resets_for-resets.result h.records) in
+    let begun : c.reset_pool.new.held.records ≡ reset c.args.ask.now.at.0 c.resets_for-resets.result h.records = c.reset_pool.ensures.records ∙ ap (reset c.args.ask.now.at.0 c.resets_for-resets.result) first in
+    let spared : IsSpared h.records c.reset_pool.new.held.records = subst (IsSpared h.records) (sym begun) (spared_reset c.args.ask.now.at.0 c.resets_for-resets.result h.records) in
     let p : UnitId → Bool = λ w. has_domain kept.domains w.dom.0 in
     let was : kept.first ≡ first_that p h.queue.units = c.requires.ready.first ∙ sym (first_runnable h.records kept.domains h.queue.units c.requires.ready.domains) in
     record {
@@ -46,28 +46,28 @@ returns-clause-ready c =
     let off : Held = c.stop_own.new.held in
     let kept : Ready = c.take_slice-long.new.ready in
     let one : IsSpared taken.records off.records = subst (IsSpared taken.records) (sym c.stop_own.ensures.records) (spared_switch_off c.args.ask.now.cur taken.records) in
-    let two : IsSpared off.records c.start.new.held.records = subst (IsSpared off.records) (sym c.start.ensures.records) (spared_set_running (Some c.args.ask.now.at) c.args.u off.records) in
+    let two : IsSpared off.records c.start.new.held.records = subst (IsSpared off.records) (sym c.start.ensures.records) (spared_set_running (Some c.args.ask.now.at.0) c.args.u off.records) in
     ready_spared off c.start.new.held kept (ap (λ (x : Held). x.queue) c.start.ensures.rest) two (ready_spared taken off kept (ap (λ (x : Held). x.queue) c.stop_own.ensures.rest) one c.take_slice-long.ensures.ready)
 
 pub take_slice-long-requires-clause-few : goal.take_slice-long-requires-clause-few
 take_slice-long-requires-clause-few c =
     let first : c.leave.new.held.records ≡ c.args.held.now.records = ap (λ (h : Held). h.records) c.leave.ensures.rest in
-    let e = ap (λ (r : Credit2Records). length r.domains) (c.reset_pool.ensures.records ∙ ap (reset c.args.ask.now.at c.resets_for-resets.result) first) in
-    let l = length_reset c.args.ask.now.at c.resets_for-resets.result c.args.held.now.records in
+    let e = ap (λ (r : Credit2Records). length r.domains) (c.reset_pool.ensures.records ∙ ap (reset c.args.ask.now.at.0 c.resets_for-resets.result) first) in
+    let l = length_reset c.args.ask.now.at.0 c.resets_for-resets.result c.args.held.now.records in
     let f = c.requires.few in
     omega (arith, e, l, f)
 
 pub take_slice-long-requires-clause-params : goal.take_slice-long-requires-clause-params
 take_slice-long-requires-clause-params c =
     let first : c.leave.new.held.records ≡ c.args.held.now.records = ap (λ (h : Held). h.records) c.leave.ensures.rest in
-    let e : c.reset_pool.new.held.records ≡ reset c.args.ask.now.at c.resets_for-resets.result c.args.held.now.records = c.reset_pool.ensures.records ∙ ap (reset c.args.ask.now.at c.resets_for-resets.result) first in
-    subst PoolParamsFit (sym e) (reset_params c.args.ask.now.at c.resets_for-resets.result c.args.held.now.records c.requires.fits)
+    let e : c.reset_pool.new.held.records ≡ reset c.args.ask.now.at.0 c.resets_for-resets.result c.args.held.now.records = c.reset_pool.ensures.records ∙ ap (reset c.args.ask.now.at.0 c.resets_for-resets.result) first in
+    subst PoolParamsFit (sym e) (reset_params c.args.ask.now.at.0 c.resets_for-resets.result c.args.held.now.records c.requires.fits)
 
 pub take_slice-long-requires-clause-taken : goal.take_slice-long-requires-clause-taken
 take_slice-long-requires-clause-taken c =
     let first : c.leave.new.held.records ≡ c.args.held.now.records = ap (λ (h : Held). h.records) c.leave.ensures.rest in
-    let e : c.reset_pool.new.held.records ≡ reset c.args.ask.now.at c.resets_for-resets.result c.args.held.now.records = c.reset_pool.ensures.records ∙ ap (reset c.args.ask.now.at c.resets_for-resets.result) first in
-    subst (λ (r : Credit2Records). PoolParamsFit (change_domain c.args.u.dom.0 (take_budget c.args.u.n) r)) (sym e) (taken_params c.args.ask.now.at c.resets_for-resets.result c.args.u c.args.held.now.records c.requires.fits)
+    let e : c.reset_pool.new.held.records ≡ reset c.args.ask.now.at.0 c.resets_for-resets.result c.args.held.now.records = c.reset_pool.ensures.records ∙ ap (reset c.args.ask.now.at.0 c.resets_for-resets.result) first in
+    subst (λ (r : Credit2Records). PoolParamsFit (change_domain c.args.u.dom.0 (take_budget c.args.u.n) r)) (sym e) (taken_params c.args.ask.now.at.0 c.resets_for-resets.result c.args.u c.args.held.now.records c.requires.fits)
 
 pub start-requires-clause-waits_not : goal.start-requires-clause-waits_not
 start-requires-clause-waits_not c =
@@ -81,15 +81,15 @@ returns-clause-tells c =
     let ask : Ask = c.args.ask.now in
     let u : UnitId = c.args.u in
     let q : List UnitId = arrivals h.queue.units in
-    let m : ℕ = resets_for ask.at u h.records in
-    let taken : Credit2Records = change_domain u.dom.0 (take_budget u.n) (reset ask.at m h.records) in
+    let m : ℕ = resets_for ask.at.0 u h.records in
+    let taken : Credit2Records = change_domain u.dom.0 (take_budget u.n) (reset ask.at.0 m h.records) in
     let first : c.leave.new.held.records ≡ h.records = ap (λ (x : Held). x.records) c.leave.ensures.rest in
-    let resets : c.resets_for-resets.result ≡ m = c.resets_for-resets.ensures.exact ∙ ap (resets_for ask.at u) first in
-    let begun : c.reset_pool.new.held.records ≡ reset ask.at m h.records = c.reset_pool.ensures.records ∙ ap (λ (k : ℕ). reset ask.at k c.leave.new.held.records) resets ∙ ap (reset ask.at m) first in
+    let resets : c.resets_for-resets.result ≡ m = c.resets_for-resets.ensures.exact ∙ ap (resets_for ask.at.0 u) first in
+    let begun : c.reset_pool.new.held.records ≡ reset ask.at.0 m h.records = c.reset_pool.ensures.records ∙ ap (λ (k : ℕ). reset ask.at.0 k c.leave.new.held.records) resets ∙ ap (reset ask.at.0 m) first in
     let records : c.take_slice-long.new.held.records ≡ taken = c.take_slice-long.ensures.records ∙ ap (change_domain u.dom.0 (take_budget u.n)) begun in
     let order : arrivals c.take_slice-long.new.held.queue.units ≡ without_unit u q = ap (λ (x : Held). arrivals x.queue.units) c.take_slice-long.ensures.rest ∙ c.reset_pool.ensures.order ∙ c.leave.ensures.order in
     let sets : c.take_slice-long.new.held.affinity ≡ h.affinity = ap (λ (x : Held). x.affinity) c.take_slice-long.ensures.rest ∙ ap (λ (x : Held). x.affinity) c.reset_pool.ensures.rest ∙ ap (λ (x : Held). x.affinity) c.leave.ensures.rest in
-    let best : List UnitId → List (Option (List Cores)) → Credit2Records → ℤ = λ units affinity r. credit_or_0 r (best_of units affinity ask.home ask.core r) in
+    let best : List UnitId → List (Option (List Cores)) → Credit2Records → ℤ = λ units affinity r. credit_or_0 r (best_of units affinity ask.home.0 ask.core.0 r) in
     let other : best (arrivals c.take_slice-long.new.held.queue.units) c.take_slice-long.new.held.affinity c.take_slice-long.new.held.records ≡ best_other ask (scheduler_in h) taken u =
     ap (λ (units : List UnitId). best units c.take_slice-long.new.held.affinity c.take_slice-long.new.held.records) order
     ∙ ap (λ (affinity : List (Option (List Cores))). best (without_unit u q) affinity c.take_slice-long.new.held.records) sets
@@ -101,4 +101,4 @@ returns-clause-tells c =
     ∙ ap (λ (w : ℤ). slice_beside c.take_slice-long.new.held.records u w) other
     ∙ ap (λ (r : Credit2Records). slice_beside r u (best_other ask (scheduler_in h) taken u)) records
     in
-    record { unit = refl; due = ap (λ (k : ℕ). Some (moment (ask.at + k))) long; reset = resets }
+    record { unit = refl; due = ap (λ (k : ℕ). Some (moment (ask.at.0 + k))) long; reset = resets }

@@ -7,4 +7,4 @@ use Rattle.credit2_core.proofs.decide.start.Goals as goal
 pub returns-clause-line : goal.returns-clause-line
 returns-clause-line c =
     subst (λ (r : Credit2Records). IsLineOf c.args.held.now.affinity r c.args.held.now.queue.units) (sym c.set_running.ensures)
-    (line_set_running c.args.held.now.affinity c.args.ask.now.at c.args.u c.args.held.now.records c.args.held.now.queue.units c.requires.waits_not c.requires.line)
+    (line_set_running c.args.held.now.affinity c.args.ask.now.at.0 c.args.u c.args.held.now.records c.args.held.now.queue.units c.requires.waits_not c.requires.line)

@@ -1,6 +1,6 @@
 use Rattle.std.proofs.Common.{◌≡◌, ◌∙◌, sym, subst, arith, ℕ, length}
 use Rattle.unit_places.specs.Masks.{mask_of}
-use Rattle.credit2_core.specs.Domains.{masked}
+use Rattle.credit2_core.specs.Domains.{masked_cores}
 use Rattle.credit2_core.proofs.Tables.{masked_none, same_read}
 use Rattle.unit_places.proofs.Written.{written_more}
 use Rattle.sched_base.specs.Numbers.{core_set}
@@ -18,4 +18,4 @@ loop-n-preserved c = λ u low.
 pub returns : goal.returns
 returns c = λ u low. (
     let end : c.loop-n.n ≡ length c.args.sets.now = omega arith in
-    subst (λ (k : ℕ). mask_of c.loop-n.masks u ≡ masked c.args.masks.now c.args.d.0 c.args.sets.now k u) end (c.loop-n.invariant u low))
+    subst (λ (k : ℕ). mask_of c.loop-n.masks u ≡ masked_cores c.args.masks.now c.args.d.0 c.args.sets.now k u) end (c.loop-n.invariant u low))

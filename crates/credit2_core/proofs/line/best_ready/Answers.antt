@@ -19,8 +19,8 @@ returns-in-None c =
     let es : List Queued = held.queue.units in
     let none : first_ready records es ≡ None = sym c.requires.ready.first ∙ c.in-None.is in
     sym (
-    sym (first_greatest records (may_take held.affinity c.args.home c.args.core records) es (record { order = c.law_order.ensures.order; ranks = c.law_order.ensures.ranks; units = c.law_order.ensures.units }) c.requires.line.keys)
-    ∙ first_of_none (is_allowed_by held.affinity c.args.home c.args.core) (domain_has_budget records) es none
+    sym (first_greatest records (may_take held.affinity c.args.home.0 c.args.core.0 records) es (record { order = c.law_order.ensures.order; ranks = c.law_order.ensures.ranks; units = c.law_order.ensures.units }) c.requires.line.keys)
+    ∙ first_of_none (is_allowed_by held.affinity c.args.home.0 c.args.core.0) (domain_has_budget records) es none
     )
 
 pub returns-then-may_be_on : goal.returns-then-may_be_on
@@ -30,12 +30,12 @@ returns-then-may_be_on c =
     let es : List Queued = held.queue.units in
     let u : UnitId = c.in-Some.u in
     let found : first_ready records es ≡ Some u = sym c.requires.ready.first ∙ c.in-Some.is in
-    let passes : is_allowed_by held.affinity c.args.home c.args.core u ≡ true =
+    let passes : is_allowed_by held.affinity c.args.home.0 c.args.core.0 u ≡ true =
     sym c.may_be_on.ensures ∙ c.if-may_be_on.true
     in
     sym (
-    sym (first_greatest records (may_take held.affinity c.args.home c.args.core records) es (record { order = c.law_order.ensures.order; ranks = c.law_order.ensures.ranks; units = c.law_order.ensures.units }) c.requires.line.keys)
-    ∙ first_of_both (is_allowed_by held.affinity c.args.home c.args.core) (domain_has_budget records) es u found passes
+    sym (first_greatest records (may_take held.affinity c.args.home.0 c.args.core.0 records) es (record { order = c.law_order.ensures.order; ranks = c.law_order.ensures.ranks; units = c.law_order.ensures.units }) c.requires.line.keys)
+    ∙ first_of_both (is_allowed_by held.affinity c.args.home.0 c.args.core.0) (domain_has_budget records) es u found passes
     )
 
 pub may_be_on-requires-clause-joined : goal.may_be_on-requires-clause-joined

@@ -1,7 +1,7 @@
 use Rattle.std.proofs.Common.{◌≡◌, ◌∙◌, ap}
 use Rattle.std.specs.Prelude.{List, Bool, None, ◌&&◌}
 use Rattle.sched_base.specs.declared.UnitId.{UnitId}
-use Rattle.sched_model.specs.Credit2.{greatest}
+use Rattle.sched_model.specs.Credit2.{greatest_unit}
 use Rattle.sched_model.specs.declared.state.Credit2Records.{Credit2Records}
 use Rattle.arrival_queue.specs.Filters.{has_domain, may_run, first_that}
 use Rattle.arrival_queue.specs.Queues.{Queued}
@@ -16,8 +16,8 @@ returns c =
     let held = c.args.held.now in
     let records : Credit2Records = held.records in
     let es : List Queued = held.queue.units in
-    let p : UnitId → Bool = λ u. has_domain c.args.runnable u.dom.0 && may_run held.masks (record { 0 = c.args.core }) (record { 0 = c.args.home }) u in
+    let p : UnitId → Bool = λ u. has_domain c.args.runnable u.dom.0 && may_run held.masks (record { 0 = c.args.core.0 }) (record { 0 = c.args.home.0 }) u in
     let found : c.first_on.result ≡ first_that p es = c.first_on.ensures in
     found
     ∙ first_greatest records p es (record { order = c.law_order.ensures.order; ranks = c.law_order.ensures.ranks; units = c.law_order.ensures.units }) c.requires.line.keys
-    ∙ ap (greatest records None) (filter-same p (may_take held.affinity c.args.home c.args.core records) (arrivals es) (passes_each held.affinity held.masks records c.args.runnable c.args.core c.args.home (arrivals es) c.requires.set c.requires.masks c.requires.line.joined))
+    ∙ ap (greatest_unit records None) (filter-same p (may_take held.affinity c.args.home.0 c.args.core.0 records) (arrivals es) (passes_each held.affinity held.masks records c.args.runnable c.args.core.0 c.args.home.0 (arrivals es) c.requires.set c.requires.masks c.requires.line.joined))

@@ -3,7 +3,7 @@ use Rattle.std.specs.Int.{w128}
 use Rattle.std.proofs.lemmas.Int.{to_z-of_z}
 use Rattle.std.specs.Prelude.{ℤ, List}
 use Rattle.sched_model.specs.Credit2.{credit_of}
-use Rattle.runq.specs.Queue.{Queue, rekeyed}
+use Rattle.runq.specs.Queue.{Queue, after_rekey}
 use Rattle.arrival_queue.specs.Queues.{Queued, has_unit, rank_in}
 use Rattle.credit2_core.specs.Keys.{KeysWhere, is_passed, key_in}
 use Rattle.credit2_core.specs.Held.{IsSameLine}
@@ -12,10 +12,10 @@ use Rattle.credit2_core.proofs.Waiting.{moved_arrivals}
 use Rattle.credit2_core.proofs.Rekeying.{keys_moved, keys_absent}
 use Rattle.credit2_core.proofs.line.rekey.Goals as goal
 
-rekeyed_is : (c : goal.After-rekey) → c.rekey.new.self ≡ rekeyed c.args.queue.now c.args.u (neg_ℤ (credit_of c.args.records.now c.args.u))
+rekeyed_is : (c : goal.After-rekey) → c.rekey.new.self ≡ after_rekey c.args.queue.now c.args.u (neg_ℤ (credit_of c.args.records.now c.args.u))
 rekeyed_is c =
     let fits : FitsSigned w128 c.key_of.result = search rules in
-    c.rekey.ensures ∙ ap (λ (k : ℤ). rekeyed c.args.queue.now c.args.u k) (to_z-of_z w128 c.key_of.result fits ∙ c.key_of.ensures)
+    c.rekey.ensures ∙ ap (λ (k : ℤ). after_rekey c.args.queue.now c.args.u k) (to_z-of_z w128 c.key_of.result fits ∙ c.key_of.ensures)
 
 pub returns-then-has-clause-keys : goal.returns-then-has-clause-keys
 returns-then-has-clause-keys c =

@@ -13,15 +13,15 @@ use Rattle.credit2_core.proofs.Ranges.{plain_fits, range_later}
 use Rattle.credit2_core.proofs.params.set_domain.Goals as goal
 
 pub set_domain-requires-clause-fits : goal.set_domain-requires-clause-fits
-set_domain-requires-clause-fits c = plain_fits c.args.t c.args.held.now.records (range_later c.args.held.now.latest c.args.t c.args.held.now.records c.requires.now.after c.requires.held.range)
+set_domain-requires-clause-fits c = plain_fits c.args.t.0 c.args.held.now.records (range_later c.args.held.now.latest c.args.t.0 c.args.held.now.records c.requires.now.after c.requires.held.range)
 
 pub returns-clause-held : goal.returns-clause-held
 returns-clause-held c =
     let h : Held = c.args.held.now in
-    let next : Credit2Records = set_domain c.args.t c.args.d.0 c.args.weight c.args.cap h.records in
+    let next : Credit2Records = set_domain c.args.t.0 c.args.d.0 c.args.weight c.args.cap h.records in
     let refills : c.rearm.new.refills ≡ slice_set h.refills c.args.d.0 (refill_of (at_place next.domains c.args.d.0)) =
     c.rearm.ensures ∙ ap (λ (ds : List (Option Credit2Domain)). slice_set h.refills c.args.d.0 (refill_of (at_place ds c.args.d.0))) (c.as_slice.ensures ∙ ap (λ (r : Credit2Records). r.domains) c.set_domain.ensures)
     in
-    subst (λ (r : Credit2Records). IsHeld (record h { records = r; refills = c.rearm.new.refills; latest = c.args.t })) (sym c.set_domain.ensures)
-    (subst (λ (rs : List (Option Moment)). IsHeld (record h { records = next; refills = rs; latest = c.args.t })) (sym refills)
-    (held_set_domain h c.args.d.0 c.args.t c.args.weight c.args.cap c.requires.held c.requires.now.after c.requires.weight c.requires.cap))
+    subst (λ (r : Credit2Records). IsHeld (record h { records = r; refills = c.rearm.new.refills; latest = c.args.t.0 })) (sym c.set_domain.ensures)
+    (subst (λ (rs : List (Option Moment)). IsHeld (record h { records = next; refills = rs; latest = c.args.t.0 })) (sym refills)
+    (held_set_domain h c.args.d.0 c.args.t.0 c.args.weight c.args.cap c.requires.held c.requires.now.after c.requires.weight c.requires.cap))

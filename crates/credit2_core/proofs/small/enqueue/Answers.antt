@@ -4,10 +4,10 @@ use Rattle.std.specs.Prelude.{ℤ, List, Option, None, filter}
 use Rattle.std.proofs.lemmas.Int.{to_z-of_z}
 use Rattle.sched_base.specs.declared.UnitId.{UnitId}
 use Rattle.sched_model.specs.declared.state.Credit2Records.{Credit2Records}
-use Rattle.sched_model.specs.Credit2.{credit_of, domain_has_budget, greatest}
+use Rattle.sched_model.specs.Credit2.{credit_of, domain_has_budget, greatest_unit}
 use Rattle.sched_ops.specs.Seen.{Seen}
 use Rattle.plain_credit2.specs.Waiting.{scheduler_of}
-use Rattle.runq.specs.Queue.{Queue, inserted, plain}
+use Rattle.runq.specs.Queue.{Queue, after_insert, plain}
 use Rattle.arrival_queue.specs.Queues.{Queued}
 use Rattle.queue_laws.specs.Arrivals.{arrivals}
 use Rattle.credit2_core.specs.Choice.{first_with}
@@ -19,10 +19,10 @@ use Rattle.credit2_core.proofs.Kept.{greatest_more}
 use Rattle.credit2_core.proofs.Waiting.{IsOrdered, first_greatest, has_arrived, placed_arrivals}
 use Rattle.credit2_core.proofs.small.enqueue.Goals as goal
 
-inserted_is : (c : goal.After-ready-1) → c.insert.new.self ≡ inserted c.args.held.now.queue c.args.u (neg_ℤ (credit_of c.args.held.now.records c.args.u))
+inserted_is : (c : goal.After-ready-1) → c.insert.new.self ≡ after_insert c.args.held.now.queue c.args.u (neg_ℤ (credit_of c.args.held.now.records c.args.u))
 inserted_is c =
     let fits : FitsSigned w128 c.key_of-key.result = search rules in
-    c.insert.ensures ∙ ap (λ (k : ℤ). inserted c.args.held.now.queue c.args.u k) (to_z-of_z w128 c.key_of-key.result fits ∙ c.key_of-key.ensures)
+    c.insert.ensures ∙ ap (λ (k : ℤ). after_insert c.args.held.now.queue c.args.u k) (to_z-of_z w128 c.key_of-key.result fits ∙ c.key_of-key.ensures)
 
 pub insert-requires-clause-place : goal.insert-requires-clause-place
 insert-requires-clause-place c =
@@ -64,14 +64,14 @@ returns-clause-ready c =
     let es : List Queued = h.queue.units in
     let ds : List Queued = c.insert.new.self.units in
     let after : IsOrdered ds = record { order = c.law_order-2.ensures.order; ranks = c.law_order-2.ensures.ranks; units = c.law_order-2.ensures.units } in
-    let before : c.args.ready.now.first ≡ greatest records None (filter p (arrivals es)) = c.requires.ready.first ∙ first_greatest records p es (ordered c) c.requires.held.line.keys in
+    let before : c.args.ready.now.first ≡ greatest_unit records None (filter p (arrivals es)) = c.requires.ready.first ∙ first_greatest records p es (ordered c) c.requires.held.line.keys in
     record {
       domains = c.requires.ready.domains;
       first = c.first_with-ready.ensures
           ∙ ap (λ (b : Bool). first_with records b c.args.ready.now.first c.args.u) (c.requires.ready.domains.each c.args.u.dom.0)
           ∙ ap (λ (o : Option UnitId). first_with records (p c.args.u) o c.args.u) before
           ∙ sym (greatest_more records p c.args.u None (arrivals es))
-          ∙ ap (λ (units : List UnitId). greatest records None (filter p units)) (sym (order_is c))
+          ∙ ap (λ (units : List UnitId). greatest_unit records None (filter p units)) (sym (order_is c))
           ∙ sym (first_greatest records p ds after (held_is c).line.keys);
       most = c.requires.ready.most;
     }

@@ -1,6 +1,6 @@
 use Rattle.std.proofs.Common.{◌≡◌}
-use Rattle.parts_opening.specs.Filled.{filled}
+use Rattle.parts_opening.specs.Filled.{filled_shelves}
 use Rattle.parts_opening.proofs.spares.fill.Given as goal
 
 abbrev pub invariant-loop-i : goal.invariant-loop-i
-invariant-loop-i l = l.spares ≡ filled l.config l.kind l.i l.fn.spares
+invariant-loop-i l = l.spares ≡ filled_shelves l.config l.kind l.i l.fn.spares

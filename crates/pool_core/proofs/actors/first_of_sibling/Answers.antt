@@ -14,22 +14,22 @@ returns-then-may_block c s =
 pub returns-then-may_arrive : goal.returns-then-may_arrive
 returns-then-may_arrive c s =
     let pool : Pool = pool_of c.args.guests.now c.args.cores.now s in
-    let arrive = ap (λ (k : ℕ). enabled_in k c.args.t.0 pool (Arrive c.args.p.0)) (sym c.requires.same) ∙ sym (c.may_arrive.ensures c.args.guests.now s) in
+    let arrive = ap (λ (k : ℕ). enabled_in k c.args.t.0 pool (Arrive c.args.p)) (sym c.requires.same) ∙ sym (c.may_arrive.ensures c.args.guests.now s) in
     sibling_arrives c.args.guests.now.granularity c.args.t.0 pool c.args.p (subst (λ (k : ℕ). c.args.p.0 % k ≢ 0) c.requires.same c.requires.number)
     (sym (c.may_block.ensures s) ∙ c.if-may_block.false) (arrive ∙ c.if-may_arrive.true)
 
 pub returns-then-may_leave : goal.returns-then-may_leave
 returns-then-may_leave c s =
     let pool : Pool = pool_of c.args.guests.now c.args.cores.now s in
-    let arrive = ap (λ (k : ℕ). enabled_in k c.args.t.0 pool (Arrive c.args.p.0)) (sym c.requires.same) ∙ sym (c.may_arrive.ensures c.args.guests.now s) in
-    let leave = ap (λ (k : ℕ). enabled_in k c.args.t.0 pool (Leave c.args.p.0)) (sym c.requires.same) ∙ sym (c.may_leave.ensures c.args.guests.now s) in
+    let arrive = ap (λ (k : ℕ). enabled_in k c.args.t.0 pool (Arrive c.args.p)) (sym c.requires.same) ∙ sym (c.may_arrive.ensures c.args.guests.now s) in
+    let leave = ap (λ (k : ℕ). enabled_in k c.args.t.0 pool (Leave c.args.p)) (sym c.requires.same) ∙ sym (c.may_leave.ensures c.args.guests.now s) in
     sibling_leaves c.args.guests.now.granularity c.args.t.0 pool c.args.p (subst (λ (k : ℕ). c.args.p.0 % k ≢ 0) c.requires.same c.requires.number)
     (sym (c.may_block.ensures s) ∙ c.if-may_block.false) (arrive ∙ c.if-may_arrive.false) (leave ∙ c.if-may_leave.true)
 
 pub returns : goal.returns
 returns c s =
     let pool : Pool = pool_of c.args.guests.now c.args.cores.now s in
-    let arrive = ap (λ (k : ℕ). enabled_in k c.args.t.0 pool (Arrive c.args.p.0)) (sym c.requires.same) ∙ sym (c.may_arrive.ensures c.args.guests.now s) in
-    let leave = ap (λ (k : ℕ). enabled_in k c.args.t.0 pool (Leave c.args.p.0)) (sym c.requires.same) ∙ sym (c.may_leave.ensures c.args.guests.now s) in
+    let arrive = ap (λ (k : ℕ). enabled_in k c.args.t.0 pool (Arrive c.args.p)) (sym c.requires.same) ∙ sym (c.may_arrive.ensures c.args.guests.now s) in
+    let leave = ap (λ (k : ℕ). enabled_in k c.args.t.0 pool (Leave c.args.p)) (sym c.requires.same) ∙ sym (c.may_leave.ensures c.args.guests.now s) in
     sibling_rests c.args.guests.now.granularity c.args.t.0 pool c.args.p (subst (λ (k : ℕ). c.args.p.0 % k ≢ 0) c.requires.same c.requires.number)
     (sym (c.may_block.ensures s) ∙ c.if-may_block.false) (arrive ∙ c.if-may_arrive.false) (leave ∙ c.if-may_leave.false)

@@ -6,11 +6,11 @@ use Rattle.pool_core.proofs.actors.may_leave.Goals as goal
 
 pub returns-then-parts : goal.returns-then-parts
 returns-then-parts c guests s =
-    and_then (test_at c.args.cores.now.resources (c.args.p / c.args.cores.now.granularity) parts) _ c.is_held_at.result
-    (ap (λ (k : ℕ). test_at c.args.cores.now.resources (c.args.p / k) parts) (sym c.granularity.ensures) ∙ sym c.parts.ensures ∙ c.if-parts.true) c.is_held_at.ensures
+    and_then (test_at c.args.cores.now.resources (c.args.p.0 / c.args.cores.now.granularity) parts) _ c.is_held_at.result
+    (ap (λ (k : ℕ). test_at c.args.cores.now.resources (c.args.p.0 / k) parts) (sym c.granularity.ensures) ∙ sym c.parts.ensures ∙ c.if-parts.true) c.is_held_at.ensures
 
 pub returns-else-parts : goal.returns-else-parts
 returns-else-parts c guests s =
     c.if-parts.false
-    ∙ and_stop (test_at c.args.cores.now.resources (c.args.p / c.args.cores.now.granularity) parts) _
-    (ap (λ (k : ℕ). test_at c.args.cores.now.resources (c.args.p / k) parts) (sym c.granularity.ensures) ∙ sym c.parts.ensures ∙ c.if-parts.false)
+    ∙ and_stop (test_at c.args.cores.now.resources (c.args.p.0 / c.args.cores.now.granularity) parts) _
+    (ap (λ (k : ℕ). test_at c.args.cores.now.resources (c.args.p.0 / k) parts) (sym c.granularity.ensures) ∙ sym c.parts.ensures ∙ c.if-parts.false)

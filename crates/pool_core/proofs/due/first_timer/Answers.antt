@@ -4,7 +4,7 @@ use Rattle.sched_model.specs.declared.state.Pool.{Pool}
 use Rattle.sched_model.specs.State.{has_come}
 use Rattle.pool_laws.specs.Ready.{lowest_end}
 use Rattle.timer_laws.proofs.Law as law
-use Rattle.pool_core.specs.Order.{IsFirstOf}
+use Rattle.pool_core.specs.Order.{IsFirstOf, is_any}
 use Rattle.pool_core.specs.Seen.{pool_of}
 use Rattle.pool_core.proofs.Order.{first_timer, no_timer_due, timer_come, timers_first, timers_late}
 use Rattle.pool_core.proofs.due.first_timer.Goals as goal
@@ -19,7 +19,7 @@ returns-then-at-t g c granularity guests on =
     let pool : Pool = pool_of guests c.args.cores.now (g.P.Policy.seen c.args.policy.now) in
     let is = sym c.timer_due.ensures ∙ c.in-Some.is in
     let up : has_come c.args.t.0 (lowest_end pool) ≡ true = ap (has_come c.args.t.0) (sym c.lowest_end.ensures) ∙ sym c.has_come.ensures ∙ c.if-not-has_come.false in
-    subst (λ (a : Action). IsFirstOf 7 9 granularity c.args.t.0 pool a) (sym c.action_of.ensures)
+    subst (λ (a : Action). IsFirstOf is_any 7 9 granularity c.args.t.0 pool a) (sym c.action_of.ensures)
     (first_timer granularity c.args.t.0 pool on c.in-Some.timer
     (timer_come c.args.t.0 pool.scheduler (c.in-Some.at, c.in-Some.timer) is c.if-at-t.true) up (timers_first c.args.t.0 pool.scheduler (c.in-Some.at, c.in-Some.timer) is))
 

@@ -3,7 +3,7 @@ use Rattle.std.specs.Prelude.{Option, Some, None}
 use Rattle.sched_base.specs.Numbers.{moment}
 use Rattle.sched_base.specs.declared.Moment.{Moment}
 use Rattle.sched_model.specs.declared.state.Pool.{Pool}
-use Rattle.pool_laws.specs.Ready.{later, lowest_end, ready_in}
+use Rattle.pool_laws.specs.Ready.{later_moment, lowest_end, ready_in}
 use Rattle.sched_ops.specs.Timers.{action_of}
 use Rattle.core_state.specs.Firsts.{IsLeast}
 use Rattle.pool_core.specs.Seen.{pool_of}
@@ -20,5 +20,5 @@ returns g c granularity guests on =
     let pool : Pool = pool_of guests c.args.cores.now (g.P.Policy.seen c.args.policy.now) in
     let low : lowest_end pool ≡ Some c.in_ok-end.end = sym c.lowest_end.ensures ∙ c.in_ok-end.was in
     subst (λ (o : Option Moment). IsLeast (λ timer. ready_in granularity pool (action_of timer)) o)
-    (ap (later (Some c.in_ok-at.at)) low ∙ ap (λ (n : ℕ). Some (moment n)) (sym c.max.ensures))
+    (ap (later_moment (Some c.in_ok-at.at)) low ∙ ap (λ (n : ℕ). Some (moment n)) (sym c.max.ensures))
     (least_timer granularity pool on (Some (c.in_ok-at.at, c.in_ok-at.field-0-1)) (sym c.timer_due.ensures ∙ c.in_ok-at.was))

@@ -15,9 +15,9 @@ pin_all-requires-clause-units g c =
 
 pub returns-clause-after : goal.returns-clause-after
 returns-clause-after g c =
-    c.pin_all.ensures ∙ ap (λ (pins : List Cores). with_pool (with_pins c.args.d 0 pins c.give.new.pool.pool) c.give.new.pool) c.as_slice.ensures.items
-    ∙ ap (λ (s : Seen). with_pool (with_pins c.args.d 0 c.args.joining.now.pins s.pool) s) c.in_ok-give.ensures.after
+    c.pin_all.ensures ∙ ap (λ (pins : List Cores). with_pool (with_pins c.args.d.0 0 pins c.give.new.pool.pool) c.give.new.pool) c.as_slice.ensures.items
+    ∙ ap (λ (s : Seen). with_pool (with_pins c.args.d.0 0 c.args.joining.now.pins s.pool) s) c.in_ok-give.ensures.after
 
 pub returns-clause-opening : goal.returns-clause-opening
 returns-clause-opening g c =
-    subst (IsOpening c.args.config.now c.args.home.now (c.args.d + 1)) (sym (returns-clause-after g c)) (goes_on c.args.config.now c.args.home.now c.args.d c.args.joining.now c.args.pool.now c.requires.opening c.requires.place c.requires.room)
+    subst (IsOpening c.args.config.now c.args.home.now (c.args.d.0 + 1)) (sym (returns-clause-after g c)) (goes_on c.args.config.now c.args.home.now c.args.d.0 c.args.joining.now c.args.pool.now c.requires.opening c.requires.place c.requires.room)

@@ -1,9 +1,9 @@
 use Rattle.std.proofs.Common.{◌∙◌, ap, Option, []}
 use Rattle.sched_base.specs.declared.UnitId.{UnitId}
-use Rattle.sched_model.specs.Rtds.{foremost, own_candidate}
+use Rattle.sched_model.specs.Rtds.{foremost_unit, own_candidate}
 use Rattle.sched_model.specs.declared.state.Records.TheVariants.{RtdsPool}
 use Rattle.plain_policy.specs.Parts.{scheduler_of}
-use Rattle.rtds_core.specs.Best.{listed}
+use Rattle.rtds_core.specs.Best.{list_of}
 use Rattle.rtds_core.proofs.Queues.{IsOrdered}
 use Rattle.rtds_core.proofs.Calls.{choice_of_first}
 use Rattle.rtds_core.proofs.best.pick.Goals as goal
@@ -13,6 +13,6 @@ returns c =
     let domains = c.args.domains.now in
     let order : IsOrdered c.args.queues.now = record { order = c.requires.order; ranks = c.requires.ranks; units = c.requires.units } in
     c.better_of.ensures
-    ∙ ap (λ (o : Option UnitId). foremost domains o (listed c.first_on-first.result)) c.own_candidate.ensures
-    ∙ ap (λ (o : Option UnitId). foremost domains (own_candidate c.args.ask.now (scheduler_of [] c.args.affinity.now (RtdsPool domains)) domains) (listed o)) c.first_on-first.ensures
+    ∙ ap (λ (o : Option UnitId). foremost_unit domains o (list_of c.first_on-first.result)) c.own_candidate.ensures
+    ∙ ap (λ (o : Option UnitId). foremost_unit domains (own_candidate c.args.ask.now (scheduler_of [] c.args.affinity.now (RtdsPool domains)) domains) (list_of o)) c.first_on-first.ensures
     ∙ choice_of_first domains c.args.affinity.now c.args.queues.now c.args.masks.now c.args.ask.now c.if-ask.false order c.requires.shape c.requires.queues c.requires.masks

@@ -1,11 +1,11 @@
 use Rattle.std.proofs.Common.{◌≡◌, ◌++◌, take, drop, length}
 use Rattle.sched_model.specs.Places.{same_unit}
-use Rattle.sched_model.specs.NullScheduler.{released}
+use Rattle.sched_model.specs.NullScheduler.{kept_without}
 use Rattle.sched_null.proofs.kept.release.Given as goal
 
 abbrev pub invariant-loop-r : goal.invariant-loop-r
 invariant-loop-r l =
     record {
-      so_far : take l.r l.kept ++ released (same_unit l.u) (drop l.r l.kept) ≡ released (same_unit l.u) l.initial.kept;
+      so_far : take l.r l.kept ++ kept_without (same_unit l.u) (drop l.r l.kept) ≡ kept_without (same_unit l.u) l.initial.kept;
       as_long : length l.kept ≡ length l.initial.kept;
     }

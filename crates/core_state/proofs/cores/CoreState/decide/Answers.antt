@@ -1,21 +1,13 @@
 use Rattle.std.proofs.Common.{◌∙◌, ap, refl}
-use Rattle.sched_model.specs.Places.{change_at}
-use Rattle.core_state.specs.Seen.{chosen}
-use Rattle.core_state.specs.Seen.{changed_core}
-use Rattle.core_state.proofs.ChangeLemmas.{core_places, core_others, core_kept, seen_is, chosen_keeps}
+use Rattle.core_state.specs.Seen.{changed_core, chosen_core}
+use Rattle.core_state.proofs.ChangeLemmas.{may_rearm, core_change, changed_kept, seen_is, chosen_keeps}
 use Rattle.core_state.proofs.cores.CoreState.decide.Goals as goal
 
 pub rearm-requires : goal.rearm-requires
-rearm-requires c = record {
-  granularity = c.self.invariant.cores.granularity;
-  places = core_places c.self.inside.granularity c.args.r c.self.inside.home c.self.inside.first c.self.inside.cores c.choose_at.new.cores c.self.inside.works c.self.inside.heaps (chosen c.args.t.0 c.args.unit c.args.due) (chosen_keeps c.args.t.0 c.args.unit c.args.due) c.self.invariant c.choose_at.ensures;
-  others = core_others c.self.inside.granularity c.args.r c.self.inside.home c.self.inside.first c.self.inside.cores c.choose_at.new.cores c.self.inside.works c.self.inside.heaps (chosen c.args.t.0 c.args.unit c.args.due) (chosen_keeps c.args.t.0 c.args.unit c.args.due) c.self.invariant c.choose_at.ensures;
-}
+rearm-requires c = may_rearm c.self.invariant (core_change c.args.r.0 (chosen_core c.args.t.0 c.args.unit c.args.due) (chosen_keeps c.args.t.0 c.args.unit c.args.due) c.self.invariant) c.choose_at.ensures refl
 
 pub invariant_of-self : goal.invariant_of-self
-invariant_of-self c =
-    core_kept c.self.inside.granularity c.args.r c.self.inside.home c.self.inside.first c.self.inside.cores c.choose_at.new.cores c.self.inside.works c.self.inside.heaps c.rearm.new.heaps (chosen c.args.t.0 c.args.unit c.args.due) (chosen_keeps c.args.t.0 c.args.unit c.args.due)
-    c.self.invariant c.choose_at.ensures c.rearm.ensures
+invariant_of-self c = changed_kept c.args.r.0 (chosen_core c.args.t.0 c.args.unit c.args.due) c.self.invariant (core_change c.args.r.0 (chosen_core c.args.t.0 c.args.unit c.args.due) (chosen_keeps c.args.t.0 c.args.unit c.args.due) c.self.invariant) c.choose_at.ensures refl c.rearm.ensures
 
 pub returns : goal.returns
-returns c = seen_is c.self.inside.granularity c.choose_at.new.cores (change_at c.args.r (chosen c.args.t.0 c.args.unit c.args.due) c.self.inside.cores) c.self.inside.works c.self.inside.works c.choose_at.ensures refl ∙ ap (changed_core c.args.r (chosen c.args.t.0 c.args.unit c.args.due)) c.self.view_is
+returns c = seen_is c.choose_at.ensures refl ∙ ap (changed_core c.args.r.0 (chosen_core c.args.t.0 c.args.unit c.args.due)) c.self.view_is

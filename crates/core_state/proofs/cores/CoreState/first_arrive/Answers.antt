@@ -1,15 +1,11 @@
-use Rattle.std.proofs.Common.{◌∙◌, ap, arith}
+use Rattle.sched_base.specs.Numbers.{processor}
 use Rattle.sched_model.specs.declared.action.Action.TheVariants.{Arrive}
-use Rattle.due_heap.specs.Dues.{due_of}
-use Rattle.core_state.specs.Seen.{Seen}
-use Rattle.core_state.specs.Ends.{ready_among}
+use Rattle.core_state.specs.Firsts.{number_of_processor}
 use Rattle.core_state.proofs.Leasts.{first_same}
 use Rattle.core_state.proofs.cores.CoreState.first_arrive.Goals as goal
 
-pub first_come-requires : goal.first_come-requires
-first_come-requires c = c.self.invariant.armed.arrives.ids
+pub first_due_processor-requires : goal.first_due_processor-requires
+first_due_processor-requires c = c.self.invariant.armed.arrives.ids
 
 pub returns : goal.returns
-returns c =
-    first_same (due_of c.self.inside.heaps.arrives) (λ i. ready_among c.args.self.now (Arrive i)) c.args.t.0 c.first_come.result
-    (λ i. c.self.invariant.armed.arrives.above i (omega arith) ∙ ap (λ (seen : Seen). ready_among seen (Arrive i)) c.self.view_is) c.first_come.ensures
+returns c = first_same (λ n. Arrive (processor n)) c.args.t.0 (number_of_processor c.first_due_processor.result) c.self.view_is c.self.invariant.armed.arrives c.first_due_processor.ensures

@@ -1,15 +1,11 @@
-use Rattle.std.proofs.Common.{◌∙◌, ap, arith}
+use Rattle.sched_base.specs.Numbers.{core}
 use Rattle.sched_model.specs.declared.action.Action.TheVariants.{Save}
-use Rattle.due_heap.specs.Dues.{due_of}
-use Rattle.core_state.specs.Seen.{Seen}
-use Rattle.core_state.specs.Ends.{ready_among}
+use Rattle.core_state.specs.Firsts.{number_of_core}
 use Rattle.core_state.proofs.Leasts.{first_same}
 use Rattle.core_state.proofs.cores.CoreState.first_save.Goals as goal
 
-pub first_come-requires : goal.first_come-requires
-first_come-requires c = c.self.invariant.armed.saves.ids
+pub first_due_core-requires : goal.first_due_core-requires
+first_due_core-requires c = c.self.invariant.armed.saves.ids
 
 pub returns : goal.returns
-returns c =
-    first_same (due_of c.self.inside.heaps.saves) (λ i. ready_among c.args.self.now (Save i)) c.args.t.0 c.first_come.result
-    (λ i. c.self.invariant.armed.saves.above i (omega arith) ∙ ap (λ (seen : Seen). ready_among seen (Save i)) c.self.view_is) c.first_come.ensures
+returns c = first_same (λ n. Save (core n)) c.args.t.0 (number_of_core c.first_due_core.result) c.self.view_is c.self.invariant.armed.saves c.first_due_core.ensures

@@ -2,7 +2,7 @@ use Rattle.std.proofs.Common.{◌∙◌, ◌≤◌, ◌*◌, ℕ, List, ap, sym,
 use Rattle.std.specs.Prelude.{Option, ◌||◌}
 use Rattle.std.specs.List.{list_any}
 use Rattle.sched_model.specs.declared.state.Resource.{Resource}
-use Rattle.sched_model.specs.Places.{is_unit, numbered}
+use Rattle.sched_model.specs.Places.{is_unit, numbered_items}
 use Rattle.core_state.specs.Seen.{Seen}
 use Rattle.core_state.proofs.Arming.{few_places}
 use Rattle.core_state.proofs.cores.CoreState.has_unit.Goals as goal
@@ -16,5 +16,5 @@ is_on_core-requires c =
 pub returns : goal.returns
 returns c =
     c.is_on_core.ensures
-    ∙ ap (λ (xs : List (Option Resource)). list_any (λ (e : ℕ × Resource). is_unit e.1.cur c.args.u || is_unit e.1.saving c.args.u) (numbered 0 xs)) c.as_slice.ensures
-    ∙ ap (λ (seen : Seen). list_any (λ (e : ℕ × Resource). is_unit e.1.cur c.args.u || is_unit e.1.saving c.args.u) (numbered 0 seen.resources)) c.self.view_is
+    ∙ ap (λ (xs : List (Option Resource)). list_any (λ (e : ℕ × Resource). is_unit e.1.cur c.args.u || is_unit e.1.saving c.args.u) (numbered_items 0 xs)) c.as_slice.ensures
+    ∙ ap (λ (seen : Seen). list_any (λ (e : ℕ × Resource). is_unit e.1.cur c.args.u || is_unit e.1.saving c.args.u) (numbered_items 0 seen.resources)) c.self.view_is

@@ -1,3 +1,4 @@
+use Rattle.sched_base.specs.Numbers.{core as core_number}
 use Rattle.std.proofs.Common.{◌∙◌, List, ap}
 use Rattle.std.specs.Prelude.{Option}
 use Rattle.sched_model.specs.declared.action.Action.TheVariants.{Moved}
@@ -10,4 +11,4 @@ use Rattle.core_state.proofs.cores.CoreState.move_end.Goals as goal
 
 pub returns : goal.returns
 returns c =
-    c.move_end.ensures ∙ ap (λ (core : Option Resource). end_where may_move core) (c.core_at.ensures ∙ ap (λ (xs : List (Option Resource)). at_place xs c.args.r) c.as_slice.ensures) ∙ ap (λ (seen : Seen). ready_among seen (Moved c.args.r)) c.self.view_is
+    c.move_end.ensures ∙ ap (λ (core : Option Resource). end_where may_move core) (c.core_at.ensures ∙ ap (λ (xs : List (Option Resource)). at_place xs c.args.r.0) c.as_slice.ensures) ∙ ap (λ (seen : Seen). ready_among seen (Moved (core_number c.args.r.0))) c.self.view_is

@@ -5,7 +5,7 @@ use Rattle.core_state.proofs.cores.CoreState.room.Goals as goal
 
 pub invariant_of-result : goal.invariant_of-result
 invariant_of-result c =
-    vacant_kept c.args.granularity c.args.places c.in_ok-cores.cores c.in_ok-works.works c.in_ok-heaps.heaps c.requires.granularity c.requires.places c.in_ok-cores.ensures c.in_ok-works.ensures c.in_ok-heaps.ensures
+    vacant_kept c.args.granularity c.args.places c.in_ok-cores.cores c.in_ok-works.works c.in_ok-dues.dues c.requires.granularity c.requires.places c.in_ok-cores.ensures c.in_ok-works.ensures c.in_ok-dues.ensures
 
 pub returns : goal.returns
-returns c = seen_is c.args.granularity c.in_ok-cores.cores (replicate c.args.places None) c.in_ok-works.works (replicate 64 None) c.in_ok-cores.ensures c.in_ok-works.ensures
+returns c = seen_is c.in_ok-cores.ensures c.in_ok-works.ensures

@@ -1,21 +1,13 @@
 use Rattle.std.proofs.Common.{◌∙◌, ap, refl}
-use Rattle.sched_model.specs.Places.{change_at}
-use Rattle.core_state.specs.Seen.{pending_by}
-use Rattle.core_state.specs.Seen.{changed_core}
-use Rattle.core_state.proofs.ChangeLemmas.{core_places, core_others, core_kept, seen_is}
+use Rattle.core_state.specs.Seen.{changed_core, pending_by}
+use Rattle.core_state.proofs.ChangeLemmas.{may_rearm, core_change, changed_kept, seen_is}
 use Rattle.core_state.proofs.cores.CoreState.set_pending_due.Goals as goal
 
 pub rearm-requires : goal.rearm-requires
-rearm-requires c = record {
-  granularity = c.self.invariant.cores.granularity;
-  places = core_places c.self.inside.granularity c.args.r c.self.inside.home c.self.inside.first c.self.inside.cores c.set_pending_by.new.cores c.self.inside.works c.self.inside.heaps (pending_by c.args.due) (λ x. refl) c.self.invariant c.set_pending_by.ensures;
-  others = core_others c.self.inside.granularity c.args.r c.self.inside.home c.self.inside.first c.self.inside.cores c.set_pending_by.new.cores c.self.inside.works c.self.inside.heaps (pending_by c.args.due) (λ x. refl) c.self.invariant c.set_pending_by.ensures;
-}
+rearm-requires c = may_rearm c.self.invariant (core_change c.args.r.0 (pending_by c.args.due) (λ x. refl) c.self.invariant) c.set_pending_by.ensures refl
 
 pub invariant_of-self : goal.invariant_of-self
-invariant_of-self c =
-    core_kept c.self.inside.granularity c.args.r c.self.inside.home c.self.inside.first c.self.inside.cores c.set_pending_by.new.cores c.self.inside.works c.self.inside.heaps c.rearm.new.heaps (pending_by c.args.due) (λ x. refl)
-    c.self.invariant c.set_pending_by.ensures c.rearm.ensures
+invariant_of-self c = changed_kept c.args.r.0 (pending_by c.args.due) c.self.invariant (core_change c.args.r.0 (pending_by c.args.due) (λ x. refl) c.self.invariant) c.set_pending_by.ensures refl c.rearm.ensures
 
 pub returns : goal.returns
-returns c = seen_is c.self.inside.granularity c.set_pending_by.new.cores (change_at c.args.r (pending_by c.args.due) c.self.inside.cores) c.self.inside.works c.self.inside.works c.set_pending_by.ensures refl ∙ ap (changed_core c.args.r (pending_by c.args.due)) c.self.view_is
+returns c = seen_is c.set_pending_by.ensures refl ∙ ap (changed_core c.args.r.0 (pending_by c.args.due)) c.self.view_is

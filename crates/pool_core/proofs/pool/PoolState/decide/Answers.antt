@@ -15,8 +15,8 @@ invariant_of-self g c = unsettled (
     let pool : Pool = pool_of c.self.inside.guests c.self.inside.cores s in
     let k = c.self.inside.guests.granularity in
     let now : IsNow (record { pool = pool; granularity = k; spare = c.self.inside.guests.spare; latest = c.self.inside.latest.0; in_use = c.self.inside.in_use }) c.args.t.0 = subst (λ (x : Seen). IsNow x c.args.t.0) (sym c.self.view_is) c.requires.now in
-    let on : enabled_in k c.args.t.0 pool (Decide c.args.r.0) ≡ true = subst (λ (x : Seen). enabled_in x.granularity c.args.t.0 x.pool (Decide c.args.r.0) ≡ true) (sym c.self.view_is) c.requires.enabled in
-    acted c.self.inside.latest.0 c.args.t.0 c.self.inside.guests c.self.inside.guests c.self.inside.cores c.decide-event.new.cores s (g.P.Policy.seen c.decide-event.new.policy) (Decide c.args.r.0) c.self.inside.cores.works
+    let on : enabled_in k c.args.t.0 pool (Decide c.args.r) ≡ true = subst (λ (x : Seen). enabled_in x.granularity c.args.t.0 x.pool (Decide c.args.r) ≡ true) (sym c.self.view_is) c.requires.enabled in
+    acted c.self.inside.latest.0 c.args.t.0 c.self.inside.guests c.self.inside.guests c.self.inside.cores c.decide-event.new.cores s (g.P.Policy.seen c.decide-event.new.policy) (Decide c.args.r) c.self.inside.cores.works
     c.self.invariant.kept now.after now.early on c.decide-event.ensures.pool
     (unmoved c.self.inside.latest.0 c.args.t.0 c.self.inside.guests c.self.inside.cores c.decide-event.new.cores s c.self.invariant.kept now.after (ap (λ (x : CoresSeen). x.granularity) c.decide-event.ensures.cores))
     (let l = c.decide-event.ensures.latest in omega (arith, l)) c.decide-event.ensures.room (ap (λ (x : CoresSeen). x.works) c.decide-event.ensures.cores)

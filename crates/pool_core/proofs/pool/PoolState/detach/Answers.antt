@@ -1,3 +1,4 @@
+use Rattle.sched_base.specs.Numbers.{core}
 use Rattle.std.proofs.Common.{◌≡◌, ◌*◌, ℕ, true, sym, ap, subst, ◌∙◌}
 use Rattle.sched_model.specs.declared.action.Action.TheVariants.{Moved}
 use Rattle.sched_model.specs.declared.state.Pool.{Pool}
@@ -17,7 +18,7 @@ invariant_of-self g c = unsettled (
     let k = c.self.inside.guests.granularity in
     let now : IsNow (record { pool = pool; granularity = k; spare = c.self.inside.guests.spare; latest = c.self.inside.latest.0; in_use = c.self.inside.in_use }) c.args.t.0 = subst (λ (x : Seen). IsNow x c.args.t.0) (sym c.self.view_is) c.requires.now in
     let r = c.args.r.0 in
-    let on : enabled_in k c.args.t.0 pool (Moved r) ≡ true = subst (λ (x : Seen). enabled_in x.granularity c.args.t.0 x.pool (Moved r) ≡ true) (sym c.self.view_is) c.requires.ready in
+    let on : enabled_in k c.args.t.0 pool (Moved (core r)) ≡ true = subst (λ (x : Seen). enabled_in x.granularity c.args.t.0 x.pool (Moved (core r)) ≡ true) (sym c.self.view_is) c.requires.ready in
     let cores : CoresSeen = c.self.inside.cores in
     let after : c.take.new.self ≡ record cores { resources = clear_at r cores.resources; works = without_works (r * k) k cores.works } =
     c.in-Some.ensures.after ∙ ap (λ (i : ℕ). record cores { resources = clear_at r cores.resources; works = without_works (r * i) i cores.works }) c.self.invariant.kept.linked.granularity in

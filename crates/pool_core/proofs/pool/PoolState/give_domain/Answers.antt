@@ -10,9 +10,10 @@ use Rattle.pool_kept.specs.Holds.{Holds}
 use Rattle.pool_kept.proofs.Kept.{domain_comes, later}
 use Rattle.pool_core.specs.Kept.{AreWorks}
 use Rattle.pool_core.specs.Seen.{IsNow, Seen, pool_of}
-use Rattle.pool_core.proofs.Giving.{has_unit, matches, works_given}
+use Rattle.pool_core.proofs.Giving.{matches, works_given}
 use Rattle.pool_core.proofs.Spared.{unsettled}
 use Rattle.pool_core.proofs.pool.PoolState.give_domain.Goals as goal
+use Rattle.pool_core.proofs.Comers.{some_units}
 
 pub invariant_of-self : goal.invariant_of-self
 invariant_of-self g c = unsettled (
@@ -32,7 +33,7 @@ invariant_of-self g c = unsettled (
     let same : c.join.new.guests.granularity ≡ k = ap (λ (x : GuestsSeen). x.granularity) c.join.ensures.guests in
     let spare : c.join.new.guests.spare ≡ guests.spare - unit_count c.args.part.granularity domain = ap (λ (x : GuestsSeen). x.spare) c.join.ensures.guests in
     let latest : c.join.new.guests.latest ≡ guests.latest = ap (λ (x : GuestsSeen). x.latest) c.join.ensures.guests in
-    let holds : Holds k c.args.t.0 next = domain_comes k c.args.t.0 d domain c.args.params.now pool c.requires.stays c.requires.part.still absent place (has_unit k domain c.self.invariant.kept.pool.some c.requires.part.guests.some) (matches s.scheduler.records c.args.params.now params) (later k c.self.inside.latest.0 c.args.t.0 pool now.after c.self.invariant.kept.pool) in
+    let holds : Holds k c.args.t.0 next = domain_comes k c.args.t.0 d domain c.args.params.now pool c.requires.stays c.requires.part.still absent place (some_units k domain c.self.invariant.kept.pool.some c.requires.part.guests.some) (matches s.scheduler.records c.args.params.now params) (later k c.self.inside.latest.0 c.args.t.0 pool now.after c.self.invariant.kept.pool) in
     let works : AreWorks k c.self.inside.cores.works next = works_given k c.args.t.0 d domain c.args.params.now c.self.inside.cores.works pool absent c.requires.part.still linked.works in
     record {
       linked = record {

@@ -14,8 +14,8 @@ invariant_of-self g c = unsettled (
     let pool : Pool = pool_of c.self.inside.guests c.self.inside.cores s in
     let k = c.self.inside.guests.granularity in
     let now : IsNow (record { pool = pool; granularity = k; spare = c.self.inside.guests.spare; latest = c.self.inside.latest.0; in_use = c.self.inside.in_use }) c.args.t.0 = subst (λ (x : Seen). IsNow x c.args.t.0) (sym c.self.view_is) c.requires.now in
-    let on : enabled_in k c.args.t.0 pool (Refill c.args.d.0) ≡ true = subst (λ (x : Seen). enabled_in x.granularity c.args.t.0 x.pool (Refill c.args.d.0) ≡ true) (sym c.self.view_is) c.requires.enabled in
-    acted c.self.inside.latest.0 c.args.t.0 c.self.inside.guests c.self.inside.guests c.self.inside.cores c.self.inside.cores s (g.P.Policy.seen c.timer-event.new.self) (Refill c.args.d.0) c.self.inside.cores.works
+    let on : enabled_in k c.args.t.0 pool (Refill c.args.d) ≡ true = subst (λ (x : Seen). enabled_in x.granularity c.args.t.0 x.pool (Refill c.args.d) ≡ true) (sym c.self.view_is) c.requires.enabled in
+    acted c.self.inside.latest.0 c.args.t.0 c.self.inside.guests c.self.inside.guests c.self.inside.cores c.self.inside.cores s (g.P.Policy.seen c.timer-event.new.self) (Refill c.args.d) c.self.inside.cores.works
     c.self.invariant.kept now.after now.early on (ap (λ (x : SchedulerSeen). pool_of c.self.inside.guests c.self.inside.cores x) c.timer-event.ensures.after)
     (unmoved c.self.inside.latest.0 c.args.t.0 c.self.inside.guests c.self.inside.cores c.self.inside.cores s c.self.invariant.kept now.after refl)
     (let l = ap (λ (x : SchedulerSeen). x.latest) c.timer-event.ensures.after in omega (arith, l)) (ap (λ (x : SchedulerSeen). x.spare) c.timer-event.ensures.after) refl c.self.invariant.kept.linked.works)

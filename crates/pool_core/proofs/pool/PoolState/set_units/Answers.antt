@@ -3,7 +3,7 @@ use Rattle.sched_model.specs.declared.state.Pool.{Pool}
 use Rattle.sched_model.specs.declared.state.Scheduler.{Scheduler}
 use Rattle.sched_model.specs.Commands.{set_rtds}
 use Rattle.sched_model.specs.Places.{at_place, numbers_from}
-use Rattle.sched_model.specs.Pool.{settled}
+use Rattle.sched_model.specs.Pool.{settled_pool}
 use Rattle.unit_state.specs.Seen.{units_at}
 use Rattle.pool_core.specs.Seen.{IsNow, Seen, pool_of, seen_at}
 use Rattle.pool_core.proofs.Setting.{over_units, set_kept}
@@ -41,8 +41,8 @@ returns g c =
     let given = c.args.given in
     let pool : Pool = pool_of inside.guests inside.cores (g.P.Policy.seen inside.policy) in
     let after : Pool → Pool = λ p. set_rtds t c.args.d.0 given.period given.budget given.extra (numbers_from c.args.first c.args.count) p in
-    let made : Pool → Seen = λ p. record { pool = settled t p; granularity = inside.guests.granularity; spare = inside.guests.spare; latest = t; in_use = inside.in_use } in
+    let made : Pool → Seen = λ p. record { pool = settled_pool t p; granularity = inside.guests.granularity; spare = inside.guests.spare; latest = t; in_use = inside.in_use } in
     c.look.ensures
     ∙ ap (λ (x : Scheduler). made (record pool { scheduler = x })) c.set_units.ensures.scheduler
     ∙ sym (ap made (over_units t given.period given.budget given.extra c.args.d.0 (numbers_from c.args.first c.args.count) pool))
-    ∙ ap (λ (x : Seen). seen_at t (settled t (after x.pool)) x) c.self.view_is
+    ∙ ap (λ (x : Seen). seen_at t (settled_pool t (after x.pool)) x) c.self.view_is

@@ -7,4 +7,4 @@ use Rattle.pool_slots.proofs.slot.PoolSlot.dom_ready.Goals as goal
 
 pub returns-in-Some-clause-pool : goal.returns-in-Some-clause-pool
 returns-in-Some-clause-pool c x at t =
-    subst (λ (seen : Seen). c.dom_ready.result ≡ enabled_in seen.granularity t seen.pool (DomMoved c.args.d.0)) (c.deref.ensures ∙ same-value _ _ _ c.self.view_is c.in-Some.pool c.in-Some.is x at) (c.dom_ready.ensures t)
+    subst (λ (seen : Seen). c.dom_ready.result ≡ enabled_in seen.granularity t seen.pool (DomMoved c.args.d)) (c.deref.ensures ∙ same-value _ _ _ c.self.view_is c.in-Some.pool c.in-Some.is x at) (c.dom_ready.ensures t)

@@ -3,9 +3,10 @@ use Rattle.sched_base.specs.declared.Moment.{Moment}
 use Rattle.sched_base.specs.declared.UnitId.{UnitId}
 use Rattle.sched_ops.specs.declared.timer.Timer.TheVariants.{Repl}
 use Rattle.due_heap.specs.Dues.{IsArmed, HasCome}
-use Rattle.rtds_core.specs.Alarms.{armed, next_of, timer_of}
-use Rattle.rtds_core.proofs.Armed.{none_armed, next_later, next_due, armed_below, IsLeast}
+use Rattle.rtds_core.specs.Alarms.{armed_timers as armed, next_of, timer_of}
+use Rattle.rtds_core.proofs.Armed.{none_armed, next_later, next_due, IsLeast}
 use Rattle.rtds_core.proofs.alarms.Alarms.next.Goals as goal
+use Rattle.due_heap.proofs.Tree.{armed_below}
 
 pub first_due-requires : goal.first_due-requires
 first_due-requires c = record { power = record { exponent = 11; is = ap (λ (xs : List (Option Moment)). length xs) c.self.invariant.0 ∙ c.self.invariant.1 } }

@@ -11,7 +11,7 @@ use Rattle.sched_ops.specs.Seen.{Seen, seen_at}
 use Rattle.plain_policy.specs.Parts.{scheduler_of}
 use Rattle.plain_policy.proofs.RtdsLemmas.{left_low}
 use Rattle.rtds_queue.specs.Lists.{Lists}
-use Rattle.rtds_core.specs.Best.{queue_of, AreQueued, taken, started, stopped, run_from}
+use Rattle.rtds_core.specs.Best.{queue_of, AreQueued, queues_without, dues_with, dues_without, run_from}
 use Rattle.rtds_core.specs.Kept.{IsShaped, seen_of}
 use Rattle.rtds_core.proofs.Changed.{plain_fits}
 use Rattle.rtds_core.proofs.Queues.{IsOrdered}
@@ -27,7 +27,7 @@ charge_own-requires-clause-fits c =
     let later = kept_asked i.domains i.affinity i.queues i.masks i.alarms i.spare i.latest ask c.args.self.now c.self.view_is c.requires.asked c.self.invariant in
     let places = c.self.invariant.shape.places in
     let most = c.self.invariant.shape.few in
-    plain_fits ask.at i.domains (omega (arith, places, most)) later.fits
+    plain_fits ask.at.0 i.domains (omega (arith, places, most)) later.fits
 
 pub pick-chosen-requires-clause-queues : goal.pick-chosen-requires-clause-queues
 pick-chosen-requires-clause-queues c =
@@ -35,7 +35,7 @@ pick-chosen-requires-clause-queues c =
     let ask = c.args.ask.now in
     let later = kept_asked i.domains i.affinity i.queues i.masks i.alarms i.spare i.latest ask c.args.self.now c.self.view_is c.requires.asked c.self.invariant in
     let own = own_asked i.domains i.affinity i.queues i.spare i.latest ask c.args.self.now c.self.view_is c.requires.asked c.self.invariant.shape in
-    let charged = kept_charged i.affinity i.queues i.masks i.spare ask.at ask.cur i.domains i.alarms own later in
+    let charged = kept_charged i.affinity i.queues i.masks i.spare ask.at.0 ask.cur i.domains i.alarms own later in
     subst (λ (ds : List (Option (List RtdsUnit))). AreQueued ds i.queues) (sym (c.as_slice.ensures ∙ c.charge_own.ensures)) charged.queued
 
 pub pick-chosen-requires-clause-shape : goal.pick-chosen-requires-clause-shape
@@ -44,7 +44,7 @@ pick-chosen-requires-clause-shape c =
     let ask = c.args.ask.now in
     let later = kept_asked i.domains i.affinity i.queues i.masks i.alarms i.spare i.latest ask c.args.self.now c.self.view_is c.requires.asked c.self.invariant in
     let own = own_asked i.domains i.affinity i.queues i.spare i.latest ask c.args.self.now c.self.view_is c.requires.asked c.self.invariant.shape in
-    let charged = kept_charged i.affinity i.queues i.masks i.spare ask.at ask.cur i.domains i.alarms own later in
+    let charged = kept_charged i.affinity i.queues i.masks i.spare ask.at.0 ask.cur i.domains i.alarms own later in
     subst (λ (a : List (Option (List Cores))). IsShaped c.as_slice.result.now a) (sym c.as_slice-2.ensures)
     (subst (λ (ds : List (Option (List RtdsUnit))). IsShaped ds i.affinity) (sym (c.as_slice.ensures ∙ c.charge_own.ensures)) charged.shape)
 
@@ -56,7 +56,7 @@ due_of-due-requires-clause-left c u =
     let places = c.self.invariant.shape.places in
     let most = c.self.invariant.shape.few in
     subst (λ (ds : List (Option (List RtdsUnit))). budget_left ds u ≤ 1000000000000) (sym (c.as_slice-3.ensures ∙ c.charge_own.ensures))
-    (left_low ask.cur ask.at i.domains u (plain_fits ask.at i.domains (omega (arith, places, most)) later.fits))
+    (left_low ask.cur ask.at.0 i.domains u (plain_fits ask.at.0 i.domains (omega (arith, places, most)) later.fits))
 
 pub stop-requires : goal.stop-requires
 stop-requires c =
@@ -71,8 +71,8 @@ start-requires c =
     let ask = c.args.ask.now in
     let later = kept_asked i.domains i.affinity i.queues i.masks i.alarms i.spare i.latest ask c.args.self.now c.self.view_is c.requires.asked c.self.invariant in
     let own = own_asked i.domains i.affinity i.queues i.spare i.latest ask c.args.self.now c.self.view_is c.requires.asked c.self.invariant.shape in
-    let charged = kept_charged i.affinity i.queues i.masks i.spare ask.at ask.cur i.domains i.alarms own later in
-    let burned : List (Option (List RtdsUnit)) = burn_cur ask.cur ask.at i.domains in
+    let charged = kept_charged i.affinity i.queues i.masks i.spare ask.at.0 ask.cur i.domains i.alarms own later in
+    let burned : List (Option (List RtdsUnit)) = burn_cur ask.cur ask.at.0 i.domains in
     let order : IsOrdered i.queues = record { order = c.law_order.ensures.order; ranks = c.law_order.ensures.ranks; units = c.law_order.ensures.units } in
     let slice : c.as_slice.result.now ≡ burned = c.as_slice.ensures ∙ c.charge_own.ensures in
     let chosen : c.pick-chosen.result ≡ choice ask (seen_of i.domains i.affinity i.queues i.spare i.latest).scheduler burned =
@@ -87,8 +87,8 @@ invariant_of-self c =
     let ask = c.args.ask.now in
     let later = kept_asked i.domains i.affinity i.queues i.masks i.alarms i.spare i.latest ask c.args.self.now c.self.view_is c.requires.asked c.self.invariant in
     let own = own_asked i.domains i.affinity i.queues i.spare i.latest ask c.args.self.now c.self.view_is c.requires.asked c.self.invariant.shape in
-    let charged = kept_charged i.affinity i.queues i.masks i.spare ask.at ask.cur i.domains i.alarms own later in
-    let burned : List (Option (List RtdsUnit)) = burn_cur ask.cur ask.at i.domains in
+    let charged = kept_charged i.affinity i.queues i.masks i.spare ask.at.0 ask.cur i.domains i.alarms own later in
+    let burned : List (Option (List RtdsUnit)) = burn_cur ask.cur ask.at.0 i.domains in
     let order : IsOrdered i.queues = record { order = c.law_order.ensures.order; ranks = c.law_order.ensures.ranks; units = c.law_order.ensures.units } in
     let slice : c.as_slice.result.now ≡ burned = c.as_slice.ensures ∙ c.charge_own.ensures in
     let chosen : c.pick-chosen.result ≡ choice ask (seen_of i.domains i.affinity i.queues i.spare i.latest).scheduler burned =
@@ -96,13 +96,13 @@ invariant_of-self c =
     ∙ ap (λ (ds : List (Option (List RtdsUnit))). choice ask (scheduler_of (queue_of i.queues) i.affinity (RtdsPool ds)) ds) slice in
     let known : IfSome c.pick-chosen.result (IsKnown burned) = subst (λ (o : Option UnitId). IfSome o (IsKnown burned)) (sym chosen) (choice_known burned ask (seen_of i.domains i.affinity i.queues i.spare i.latest).scheduler) in
     let off : c.stop.new.domains ≡ switch_off ask.cur burned = c.stop.ensures.domains ∙ ap (switch_off ask.cur) c.charge_own.ensures in
-    let domains : c.start.new.domains ≡ run_from ask.at c.pick-chosen.result (switch_off ask.cur burned) = c.start.ensures.domains ∙ ap (run_from ask.at c.pick-chosen.result) off in
-    let alarms : c.start.new.alarms ≡ started (switch_off ask.cur burned) c.pick-chosen.result (stopped ask.cur i.alarms) =
-    c.start.ensures.alarms ∙ ap (λ (ds : List (Option (List RtdsUnit))). started ds c.pick-chosen.result c.stop.new.alarms) off
-    ∙ ap (λ (dues : List (Option Moment)). started (switch_off ask.cur burned) c.pick-chosen.result dues) c.stop.ensures.alarms in
-    kept_as (run_from ask.at c.pick-chosen.result (switch_off ask.cur burned)) c.start.new.domains i.affinity i.affinity (taken c.pick-chosen.result i.queues) c.start.new.queues i.masks
-    (started (switch_off ask.cur burned) c.pick-chosen.result (stopped ask.cur i.alarms)) c.start.new.alarms i.spare ask.at domains refl c.start.ensures.queues alarms
-    (kept_chosen i.affinity i.queues i.masks i.spare ask.at ask.cur c.pick-chosen.result i.domains i.alarms own known order later)
+    let domains : c.start.new.domains ≡ run_from ask.at.0 c.pick-chosen.result (switch_off ask.cur burned) = c.start.ensures.domains ∙ ap (run_from ask.at.0 c.pick-chosen.result) off in
+    let alarms : c.start.new.alarms ≡ dues_with (switch_off ask.cur burned) c.pick-chosen.result (dues_without ask.cur i.alarms) =
+    c.start.ensures.alarms ∙ ap (λ (ds : List (Option (List RtdsUnit))). dues_with ds c.pick-chosen.result c.stop.new.alarms) off
+    ∙ ap (λ (dues : List (Option Moment)). dues_with (switch_off ask.cur burned) c.pick-chosen.result dues) c.stop.ensures.alarms in
+    kept_as (run_from ask.at.0 c.pick-chosen.result (switch_off ask.cur burned)) c.start.new.domains i.affinity i.affinity (queues_without c.pick-chosen.result i.queues) c.start.new.queues i.masks
+    (dues_with (switch_off ask.cur burned) c.pick-chosen.result (dues_without ask.cur i.alarms)) c.start.new.alarms i.spare ask.at.0 domains refl c.start.ensures.queues alarms
+    (kept_chosen i.affinity i.queues i.masks i.spare ask.at.0 ask.cur c.pick-chosen.result i.domains i.alarms own known order later)
 
 pub returns-clause-after : goal.returns-clause-after
 returns-clause-after c =
@@ -110,8 +110,8 @@ returns-clause-after c =
     let ask = c.args.ask.now in
     let later = kept_asked i.domains i.affinity i.queues i.masks i.alarms i.spare i.latest ask c.args.self.now c.self.view_is c.requires.asked c.self.invariant in
     let own = own_asked i.domains i.affinity i.queues i.spare i.latest ask c.args.self.now c.self.view_is c.requires.asked c.self.invariant.shape in
-    let charged = kept_charged i.affinity i.queues i.masks i.spare ask.at ask.cur i.domains i.alarms own later in
-    let burned : List (Option (List RtdsUnit)) = burn_cur ask.cur ask.at i.domains in
+    let charged = kept_charged i.affinity i.queues i.masks i.spare ask.at.0 ask.cur i.domains i.alarms own later in
+    let burned : List (Option (List RtdsUnit)) = burn_cur ask.cur ask.at.0 i.domains in
     let order : IsOrdered i.queues = record { order = c.law_order.ensures.order; ranks = c.law_order.ensures.ranks; units = c.law_order.ensures.units } in
     let slice : c.as_slice.result.now ≡ burned = c.as_slice.ensures ∙ c.charge_own.ensures in
     let chosen : c.pick-chosen.result ≡ choice ask (seen_of i.domains i.affinity i.queues i.spare i.latest).scheduler burned =
@@ -119,8 +119,8 @@ returns-clause-after c =
     ∙ ap (λ (ds : List (Option (List RtdsUnit))). choice ask (scheduler_of (queue_of i.queues) i.affinity (RtdsPool ds)) ds) slice in
     let known : IfSome c.pick-chosen.result (IsKnown burned) = subst (λ (o : Option UnitId). IfSome o (IsKnown burned)) (sym chosen) (choice_known burned ask (seen_of i.domains i.affinity i.queues i.spare i.latest).scheduler) in
     let off : c.stop.new.domains ≡ switch_off ask.cur burned = c.stop.ensures.domains ∙ ap (switch_off ask.cur) c.charge_own.ensures in
-    let domains : c.start.new.domains ≡ run_from ask.at c.pick-chosen.result (switch_off ask.cur burned) = c.start.ensures.domains ∙ ap (run_from ask.at c.pick-chosen.result) off in
-    ap (λ (ds : List (Option (List RtdsUnit))). seen_of ds i.affinity c.start.new.queues i.spare ask.at) domains
-    ∙ ap (λ (q : Lists). seen_of (run_from ask.at c.pick-chosen.result (switch_off ask.cur burned)) i.affinity q i.spare ask.at) c.start.ensures.queues
-    ∙ seen_chosen i.affinity i.queues i.masks i.spare ask.at ask c.pick-chosen.result i.domains i.alarms i.latest refl own known order later chosen
-    ∙ ap (λ (s : Seen). seen_at ask.at (after_decision (decision_of ask s.scheduler) s.scheduler) s) c.self.view_is
+    let domains : c.start.new.domains ≡ run_from ask.at.0 c.pick-chosen.result (switch_off ask.cur burned) = c.start.ensures.domains ∙ ap (run_from ask.at.0 c.pick-chosen.result) off in
+    ap (λ (ds : List (Option (List RtdsUnit))). seen_of ds i.affinity c.start.new.queues i.spare ask.at.0) domains
+    ∙ ap (λ (q : Lists). seen_of (run_from ask.at.0 c.pick-chosen.result (switch_off ask.cur burned)) i.affinity q i.spare ask.at.0) c.start.ensures.queues
+    ∙ seen_chosen i.affinity i.queues i.masks i.spare ask.at.0 ask c.pick-chosen.result i.domains i.alarms i.latest refl own known order later chosen
+    ∙ ap (λ (s : Seen). seen_at ask.at.0 (after_decision (decision_of ask s.scheduler) s.scheduler) s) c.self.view_is

@@ -9,7 +9,7 @@ use Rattle.sched_ops.specs.Timers.{is_due, after_timer}
 use Rattle.sched_ops.specs.declared.timer.Timer.TheVariants.{Repl}
 use Rattle.rtds_queue.specs.Lists.{holds}
 use Rattle.rtds_core.specs.Best.{queue_of}
-use Rattle.rtds_core.specs.Kept.{seen_of, renewed_if, rearmed}
+use Rattle.rtds_core.specs.Kept.{seen_of, renewed_if, rearmed_dues}
 use Rattle.rtds_core.proofs.Changed.{plain_fits, read_same, low_unit}
 use Rattle.rtds_core.proofs.Queues.{IsOrdered}
 use Rattle.rtds_core.proofs.Steps.{kept_later, tells_waiting}
@@ -59,8 +59,8 @@ invariant_of-self c =
     c.copied-unit.ensures ∙ c.rtds_unit.ensures ∙ ap (λ (ds : List (Option (List RtdsUnit))). rtds_unit ds c.args.u) (c.as_slice.ensures ∙ c.replenish.ensures) ∙ read_same c.args.u (replenish t) i.domains is.unit is.at in
     let order : IsOrdered i.queues = record { order = c.law_order.ensures.order; ranks = c.law_order.ensures.ranks; units = c.law_order.ensures.units } in
     let queues : c.renew.new.queues ≡ renewed_if (Some (replenish t is.unit)) c.args.u i.queues = c.renew.ensures.queues ∙ ap (λ (o : Option RtdsUnit). renewed_if o c.args.u i.queues) unit in
-    let alarms : c.renew.new.alarms ≡ rearmed (Some (replenish t is.unit)) c.args.u i.alarms = c.renew.ensures.alarms ∙ ap (λ (o : Option RtdsUnit). rearmed o c.args.u i.alarms) unit in
-    kept_as (change_unit c.args.u (replenish t) i.domains) c.replenish.new.domains i.affinity i.affinity (renewed_if (Some (replenish t is.unit)) c.args.u i.queues) c.renew.new.queues i.masks (rearmed (Some (replenish t is.unit)) c.args.u i.alarms) c.renew.new.alarms i.spare t
+    let alarms : c.renew.new.alarms ≡ rearmed_dues (Some (replenish t is.unit)) c.args.u i.alarms = c.renew.ensures.alarms ∙ ap (λ (o : Option RtdsUnit). rearmed_dues o c.args.u i.alarms) unit in
+    kept_as (change_unit c.args.u (replenish t) i.domains) c.replenish.new.domains i.affinity i.affinity (renewed_if (Some (replenish t is.unit)) c.args.u i.queues) c.renew.new.queues i.masks (rearmed_dues (Some (replenish t is.unit)) c.args.u i.alarms) c.renew.new.alarms i.spare t
     c.replenish.ensures refl queues alarms (kept_replenished i.domains i.affinity i.queues i.masks i.alarms i.spare t c.args.u is order later)
 
 pub returns-clause-after : goal.returns-clause-after

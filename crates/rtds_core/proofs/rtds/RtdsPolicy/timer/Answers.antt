@@ -12,9 +12,7 @@ use Rattle.rtds_core.proofs.rtds.RtdsPolicy.timer.Goals as goal
 -- RTDS has no refill
 no_refill : (records : Records) (t d : ℕ) → kind_of records ≡ kinds.Rtds → has_come t (next_refill records d) ≡ true → ⊥
 no_refill (Credit2Pool records) t d kind come = cc
-no_refill (RtdsPool domains) t d kind come = cc
-no_refill (ArincPool records) t d kind come = cc
-no_refill (NullPool kept) t d kind come = cc
+no_refill a t d kind come = cc
 
 pub returns-in-Refill-clause-event : goal.returns-in-Refill-clause-event
 returns-in-Refill-clause-event c =

@@ -3,7 +3,7 @@ use Rattle.std.specs.Prelude.{slice_set}
 use Rattle.sched_base.specs.declared.Moment.{Moment}
 use Rattle.sched_model.specs.declared.state.Vcpu.{Vcpu}
 use Rattle.sched_model.specs.declared.state.Domain.{Domain}
-use Rattle.sched_model.specs.Pool.{woken}
+use Rattle.sched_model.specs.Pool.{woken_vcpu}
 use Rattle.plain_pool.specs.Fits.{vcpu_among}
 use Rattle.unit_state.specs.Seen.{Seen, IsNow, wake_among, is_due_among}
 use Rattle.unit_state.specs.Kept.{KeepsGuests, AreSleepers}
@@ -30,4 +30,4 @@ invariant_of-self c =
     subst (λ (dues : List (Option Moment)). KeepsGuests (record seen { domains = c.wake_vcpu.new.domains; latest = c.args.t.0 }) × AreSleepers c.wake_vcpu.new.domains dues) (sym c.rearm.ensures)
     (subst (λ (now : List (Option Domain)). KeepsGuests (record seen { domains = c.wake_vcpu.new.domains; latest = c.args.t.0 }) × AreSleepers c.wake_vcpu.new.domains (slice_set c.self.inside.sleepers (c.args.v.dom.0 * 32 + c.args.v.n) (wake_among now c.args.v))) (sym c.as_slice.ensures)
     (subst (λ (next : List (Option Domain)). KeepsGuests (record seen { domains = next; latest = c.args.t.0 }) × AreSleepers next (slice_set c.self.inside.sleepers (c.args.v.dom.0 * 32 + c.args.v.n) (wake_among next c.args.v))) (sym c.wake_vcpu.ensures)
-    (keeps_woken seen c.args.t.0 c.args.v now due c.self.invariant.0, sleepers_changed seen c.self.inside.sleepers c.args.v woken there.0 there.1 c.self.invariant.0 c.self.invariant.1)))
+    (keeps_woken seen c.args.t.0 c.args.v now due c.self.invariant.0, sleepers_changed seen c.self.inside.sleepers c.args.v woken_vcpu there.0 there.1 c.self.invariant.0 c.self.invariant.1)))

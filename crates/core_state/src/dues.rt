@@ -1,0 +1,201 @@
+//! The sets of moments of one pool's cores and processors. g is the number of a core's processors.
+
+ghost use Rattle.std.specs.Prelude.{◌≡◌, ◌+◌, ◌*◌, ◌<◌, ◌≤◌, ℕ, None, Some, IfOk, length, slice_set, replicate};
+ghost use Rattle.sched_base.specs.declared.Moment.{Moment as MomentRecord};
+ghost use Rattle.sched_model.specs.declared.action.Action.TheVariants.{Moved, Block, Slice, Arrive, Decide, Leave, Save};
+ghost use Rattle.sched_model.specs.Checked.{IsGranularity};
+ghost use Rattle.std.specs.Option.{option_copied};
+ghost use Rattle.due_heap.specs.Dues.{due_of};
+ghost use Rattle.core_state.specs.Seen.{Seen};
+ghost use Rattle.core_state.specs.Ends.{ready_among};
+ghost use Rattle.core_state.specs.Firsts.{IsFirstCore, IsFirstProcessor, IsLeast, earlier_moment as earlier_spec};
+ghost use Rattle.core_state.specs.Kept.{AreArmed, AreEmpty, MayRearm, with_core_ends, with_processor_ends};
+
+use crate::ends::{
+    arrive_end, block_end, decide_end, leave_end, move_end, save_end, sibling_of, slice_end,
+    work_at,
+};
+use due_heap::DueSet;
+use plain_pool::cores::core_at;
+use sched_base::{Moment, NoMemory, ProcId, ResId};
+use sched_model::row::Row;
+use sched_model::state::Resource;
+use std::alloc::Global;
+
+/// How many numbers a set has.
+pub const IDS: usize = 64;
+
+/// For each kind of event the moments from which on it may come: by core those of a core that leaves the pool, is to decide anew,
+/// decides and puts away what it saves, and by processor those of one whose vCPU blocks, that arrives and that leaves.
+#[derive(Drop)]
+pub struct Dues {
+    pub moves: DueSet,
+    pub slices: DueSet,
+    pub decides: DueSet,
+    pub saves: DueSet,
+    pub blocks: DueSet,
+    pub arrives: DueSet,
+    pub leaves: DueSet,
+}
+
+/// Two sets without a moment.
+fn two_sets(alloc: Global) -> Result<(DueSet, DueSet), NoMemory>
+    ensures first { IfOk result (λ two. two.0 ≡ replicate 64 None) }
+    ensures second { IfOk result (λ two. two.1 ≡ replicate 64 None) }
+{
+    let first = DueSet::room(alloc, IDS)?;
+    let second = DueSet::room(alloc, IDS)?;
+    Ok((first, second))
+}
+
+/// Three sets without a moment.
+fn three_sets(alloc: Global) -> Result<(DueSet, DueSet, DueSet), NoMemory>
+    ensures first { IfOk result (λ three. three.0 ≡ replicate 64 None) }
+    ensures second { IfOk result (λ three. three.1 ≡ replicate 64 None) }
+    ensures third { IfOk result (λ three. three.2 ≡ replicate 64 None) }
+{
+    let third = DueSet::room(alloc, IDS)?;
+    let (first, second) = two_sets(alloc)?;
+    Ok((first, second, third))
+}
+
+/// Dues without a moment.
+pub fn empty_dues(alloc: Global) -> Result<Dues, NoMemory>
+    ensures { IfOk result (λ dues. AreEmpty dues) }
+{
+    let (moves, slices) = two_sets(alloc)?;
+    let (decides, saves) = two_sets(alloc)?;
+    let (blocks, arrives, leaves) = three_sets(alloc)?;
+    Ok(Dues {
+        moves,
+        slices,
+        decides,
+        saves,
+        blocks,
+        arrives,
+        leaves,
+    })
+}
+
+/// Arms a number with the moment, or disarms it where there is none.
+#[inline(always)]
+fn set_due(dues: &mut DueSet, id: u16, at: Option<Moment>)
+    requires { length dues.old ≤ id → at ≡ None }
+    ensures { dues.new ≡ slice_set dues.old id at }
+{
+    match at {
+        Some(moment) => dues.arm(id, moment),
+        None => dues.disarm(id),
+    }
+}
+
+/// Arms the core with its moments.
+#[inline]
+fn rearm_core(dues: &mut Dues, r: u16, core: Option<&Resource>)
+    requires none { 64 ≤ r → option_copied core ≡ None }
+    requires moves { length dues.old.moves ≡ 64 }
+    requires slices { length dues.old.slices ≡ 64 }
+    requires decides { length dues.old.decides ≡ 64 }
+    requires saves { length dues.old.saves ≡ 64 }
+    ensures { dues.new ≡ with_core_ends r (option_copied core.entry) dues.old }
+{
+    set_due(&mut dues.moves, r, move_end(core));
+    set_due(&mut dues.slices, r, slice_end(core));
+    set_due(&mut dues.decides, r, decide_end(core));
+    set_due(&mut dues.saves, r, save_end(core));
+}
+
+/// Arms a processor with its moments, which is the i-th of the core.
+#[inline]
+fn rearm_processor(dues: &mut Dues, p: u16, core: Option<&Resource>, i: u8, work: Option<Moment>)
+    requires none { 64 ≤ p → option_copied core ≡ None }
+    requires blocks { length dues.old.blocks ≡ 64 }
+    requires arrives { length dues.old.arrives ≡ 64 }
+    requires leaves { length dues.old.leaves ≡ 64 }
+    ensures { dues.new ≡ with_processor_ends p (option_copied core.entry) i work dues.old }
+{
+    let processor = sibling_of(core, i as usize);
+    set_due(&mut dues.blocks, p, block_end(work, processor));
+    set_due(&mut dues.arrives, p, arrive_end(core, processor));
+    set_due(&mut dues.leaves, p, leave_end(core, processor));
+}
+
+/// Arms the core and its processors anew, after a change of that core or of its processors' works.
+pub fn rearm(
+    dues: &mut Dues,
+    g: u8,
+    r: ResId,
+    cores: &Row<Option<Resource>>,
+    works: &Row<Option<Moment>>,
+)
+    requires { MayRearm r.0
+        (record { resources = cores.now; works = works.now; granularity = g }) dues.old }
+    ensures { AreArmed (record { resources = cores.now; works = works.now; granularity = g })
+        dues.new }
+{
+    let core = core_at(cores.as_slice(), r.0 as usize);
+    let done_at = works.as_slice();
+    rearm_core(dues, r.0 as u16, core);
+    for i in 0..g {
+        let p = r.0 as u16 * g as u16 + i as u16;
+        rearm_processor(dues, p, core, i, work_at(done_at, p as usize));
+    }
+}
+
+/// From now on what has come at t is at hand in each set.
+pub fn advance(dues: &mut Dues, t: Moment)
+    ensures { dues.new ≡ dues.old }
+{
+    dues.moves.advance(t);
+    dues.slices.advance(t);
+    dues.decides.advance(t);
+    dues.saves.advance(t);
+    dues.blocks.advance(t);
+    dues.arrives.advance(t);
+    dues.leaves.advance(t);
+}
+
+/// The first core of the set whose moment has come at t.
+#[inline]
+pub fn first_due_core(dues: &DueSet, t: Moment) -> Option<ResId>
+    requires { length dues.now ≡ 64 }
+    ensures { IsFirstCore (λ r. due_of dues.now r.0) t.0 result }
+{
+    match dues.first_due(t) {
+        None => None,
+        Some(id) => Some(ResId(id as u8)),
+    }
+}
+
+/// The first processor of the set whose moment has come at t.
+#[inline]
+pub fn first_due_processor(dues: &DueSet, t: Moment) -> Option<ProcId>
+    requires { length dues.now ≡ 64 }
+    ensures { IsFirstProcessor (λ p. due_of dues.now p.0) t.0 result }
+{
+    match dues.first_due(t) {
+        None => None,
+        Some(id) => Some(ProcId(id as u8)),
+    }
+}
+
+/// The least moment of the set.
+pub fn least_of(dues: &DueSet) -> Option<Moment>
+    ensures { IsLeast (due_of dues.now) result }
+{
+    match dues.least() {
+        None => None,
+        Some((at, _)) => Some(at),
+    }
+}
+
+/// The earlier of two moments.
+pub fn earlier(a: Option<Moment>, b: Option<Moment>) -> Option<Moment>
+    ensures { result ≡ earlier_spec a b }
+{
+    match (a, b) {
+        (None, _) => b,
+        (_, None) => a,
+        (Some(x), Some(y)) => if x.0 <= y.0 { a } else { b },
+    }
+}

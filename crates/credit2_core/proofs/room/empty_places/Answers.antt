@@ -1,7 +1,0 @@
-use Rattle.std.proofs.Common.{◌∙◌}
-use Rattle.std.specs.Prelude.{None}
-use Rattle.credit2_core.proofs.Rooms.{replicate_one_more}
-use Rattle.credit2_core.proofs.room.empty_places.Goals as goal
-
-pub loop-i-preserved : goal.loop-i-preserved
-loop-i-preserved g c = c.in_ok-push.ensures.items ∙ rw c.loop-i.invariant (replicate_one_more c.loop-i.i None)
