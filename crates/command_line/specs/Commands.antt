@@ -21,11 +21,11 @@ pub data Asked : Type 0 where
   check : Bool → List ℕ → List ℕ → List ℕ → Asked
 
 -- what a command asks for
-abbrev pub asked : Command → Asked
-asked (command.Run ordered form limit domains work) = run ordered form limit domains.now work.now
-asked (command.Make seed processors domains text) = make seed processors domains text
-asked (command.Load seed processors domains) = load seed processors domains
-asked (command.Check ordered domains work schedule) = check ordered domains.now work.now schedule.now
+abbrev pub asked_of : Command → Asked
+asked_of (command.Run ordered form limit domains work) = run ordered form limit domains.now work.now
+asked_of (command.Make seed processors domains text) = make seed processors domains text
+asked_of (command.Load seed processors domains) = load seed processors domains
+asked_of (command.Check ordered domains work schedule) = check ordered domains.now work.now schedule.now
 
 -- the names of the domain file and of the work file
 abbrev pub files_in : List Row → Option (List ℕ × List ℕ)

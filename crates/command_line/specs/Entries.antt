@@ -10,13 +10,13 @@ unfoldable pub flag_in : Text → List Row → Bool
 flag_in id rows = option_map_or (λ text. bytes_eq text (codes "true")) (one_of id rows) false
 
 -- the number, where it is one from low to high
-abbrev pub within : ℕ → ℕ → ℕ → Option ℕ
-within low high n = if nat_le low n && nat_le n high then Some n else None
+abbrev pub number_within : ℕ → ℕ → ℕ → Option ℕ
+number_within low high n = if nat_le low n && nat_le n high then Some n else None
 
 -- the number that the text writes, where it is one from low to high: decimal digits, with a plus before them or none
 abbrev pub number_of : ℕ → ℕ → Text → Option ℕ
 number_of low high text =
-    if is_numeral (without_leading_plus text) then within low high (digits_value 10 (without_leading_plus text)) else None
+    if is_numeral (without_leading_plus text) then number_within low high (digits_value 10 (without_leading_plus text)) else None
 
 -- the number of an entry, where it is one from low to high
 unfoldable pub number_in : ℕ → ℕ → Text → List Row → Option ℕ

@@ -2,8 +2,8 @@
 
 ghost use Rattle.std.specs.Prelude.{◌≡◌, ◌≢◌, ◌≤◌, IfSome, option_map};
 ghost use Rattle.clap.specs.Words.{first_of, found_of, rows_of, subcommand_rows_of};
-ghost use Rattle.command_line.specs.Entries.{flag_in as flag_in_spec, number_in as number_in_spec, within as within_spec};
-ghost use Rattle.command_line.specs.Commands.{asked, files_in as files_in_spec, run_in as run_in_spec, run_of as run_of_spec, MayBe, numbers_in as numbers_in_spec, made_of as made_of_spec, make_in as make_in_spec, load_in as load_in_spec, check_in as check_in_spec, named_in as named_in_spec, command_in as command_in_spec, IsInRange};
+ghost use Rattle.command_line.specs.Entries.{flag_in as flag_in_spec, number_in as number_in_spec, number_within as within_spec};
+ghost use Rattle.command_line.specs.Commands.{asked_of, files_in as files_in_spec, run_in as run_in_spec, run_of as run_of_spec, MayBe, numbers_in as numbers_in_spec, made_of as made_of_spec, make_in as make_in_spec, load_in as load_in_spec, check_in as check_in_spec, named_in as named_in_spec, command_in as command_in_spec, IsInRange};
 
 use crate::command::{Command, Form, Made};
 use clap::ArgMatches;
@@ -52,7 +52,8 @@ fn count_in(found: &ArgMatches<'_>, id: &str) -> Option<u8>
 
 /// The names of the domain file and of the work file.
 fn files_in<'a>(found: &ArgMatches<'a>) -> Option<(&'a str, &'a str)>
-    ensures { option_map (λ f. (f.0.now, f.1.now)) result ≡ files_in_spec (rows_of (found_of found.now)) }
+    ensures { option_map (λ f. (f.0.now, f.1.now)) result
+        ≡ files_in_spec (rows_of (found_of found.now)) }
 {
     Some((text_in(found, "domains")?, text_in(found, "work")?))
 }
@@ -60,7 +61,8 @@ fn files_in<'a>(found: &ArgMatches<'a>) -> Option<(&'a str, &'a str)>
 /// A run on two named files, the ordered one where that is asked.
 fn run_of<'a>(ordered: bool, form: Form, found: &ArgMatches<'a>) -> Option<Command<'a>>
     requires form { MayBe ordered form }
-    ensures value { option_map asked result ≡ run_of_spec ordered form (rows_of (found_of found.now)) }
+    ensures value { option_map asked_of result
+        ≡ run_of_spec ordered form (rows_of (found_of found.now)) }
     ensures ranges { IfSome result IsInRange }
 {
     let limit = number_in(found, "events", 1, 4_000_000)?;
@@ -77,7 +79,7 @@ fn run_of<'a>(ordered: bool, form: Form, found: &ArgMatches<'a>) -> Option<Comma
 /// A run on two named files, the ordered one where the flag was given. It is not watched.
 fn run_in<'a>(form: Form, found: &ArgMatches<'a>) -> Option<Command<'a>>
     requires form { form ≢ Form.Watch }
-    ensures value { option_map asked result ≡ run_in_spec form (rows_of (found_of found.now)) }
+    ensures value { option_map asked_of result ≡ run_in_spec form (rows_of (found_of found.now)) }
     ensures ranges { IfSome result IsInRange }
 {
     run_of(flag_in(found, "ordered"), form, found)
@@ -86,7 +88,8 @@ fn run_in<'a>(form: Form, found: &ArgMatches<'a>) -> Option<Command<'a>>
 /// Seed, processors and domains.
 fn numbers_in(found: &ArgMatches<'_>) -> Option<(u32, (u8, u8))>
     ensures value { result ≡ numbers_in_spec (rows_of (found_of found.now)) }
-    ensures ranges { IfSome result (λ n. (n.0 ≤ 2147483647) × (1 ≤ n.1.0) × (n.1.0 ≤ 64) × (1 ≤ n.1.1) × (n.1.1 ≤ 64)) }
+    ensures ranges { IfSome result (λ n. (n.0 ≤ 2147483647) × (1 ≤ n.1.0) × (n.1.0 ≤ 64)
+        × (1 ≤ n.1.1) × (n.1.1 ≤ 64)) }
 {
     let seed = number_in(found, "seed", 0, 0x7FFF_FFFF)?;
     let processors = count_in(found, "processors")?;
@@ -109,7 +112,7 @@ fn made_of(word: &str) -> Option<Made>
 
 /// One of the two texts that are made from a number.
 fn make_in<'a>(found: &ArgMatches<'a>) -> Option<Command<'a>>
-    ensures value { option_map asked result ≡ make_in_spec (rows_of (found_of found.now)) }
+    ensures value { option_map asked_of result ≡ make_in_spec (rows_of (found_of found.now)) }
     ensures ranges { IfSome result IsInRange }
 {
     let (seed, (processors, domains)) = numbers_in(found)?;
@@ -123,7 +126,7 @@ fn make_in<'a>(found: &ArgMatches<'a>) -> Option<Command<'a>>
 
 /// The report of the run on both.
 fn load_in<'a>(found: &ArgMatches<'a>) -> Option<Command<'a>>
-    ensures value { option_map asked result ≡ load_in_spec (rows_of (found_of found.now)) }
+    ensures value { option_map asked_of result ≡ load_in_spec (rows_of (found_of found.now)) }
     ensures ranges { IfSome result IsInRange }
 {
     let (seed, (processors, domains)) = numbers_in(found)?;
@@ -136,7 +139,7 @@ fn load_in<'a>(found: &ArgMatches<'a>) -> Option<Command<'a>>
 
 /// Whether a schedule is a run on two files.
 fn check_in<'a>(found: &ArgMatches<'a>) -> Option<Command<'a>>
-    ensures value { option_map asked result ≡ check_in_spec (rows_of (found_of found.now)) }
+    ensures value { option_map asked_of result ≡ check_in_spec (rows_of (found_of found.now)) }
     ensures ranges { IfSome result IsInRange }
 {
     let (domains, work) = files_in(found)?;
@@ -152,7 +155,8 @@ fn check_in<'a>(found: &ArgMatches<'a>) -> Option<Command<'a>>
 
 /// The command of this name.
 fn named_in<'a>(name: &str, found: &ArgMatches<'a>) -> Option<Command<'a>>
-    ensures value { option_map asked result ≡ named_in_spec name.now (rows_of (found_of found.now)) }
+    ensures value { option_map asked_of result
+        ≡ named_in_spec name.now (rows_of (found_of found.now)) }
     ensures ranges { IfSome result IsInRange }
 {
     if name == "run" {
@@ -174,7 +178,7 @@ fn named_in<'a>(name: &str, found: &ArgMatches<'a>) -> Option<Command<'a>>
 
 /// The command that the words named, with what they said of it.
 pub fn command_in<'a>(matches: &ArgMatches<'a>) -> Option<Command<'a>>
-    ensures value { option_map asked result ≡ command_in_spec (subcommand_rows_of matches.now) }
+    ensures value { option_map asked_of result ≡ command_in_spec (subcommand_rows_of matches.now) }
     ensures ranges { IfSome result IsInRange }
 {
     let (name, found) = matches.subcommand()?;

@@ -51,7 +51,8 @@ fn with_arg<'a>(
     command: Result<Command<'a>, NoMemory>,
     arg: Arg<'a>,
 ) -> Result<Command<'a>, NoMemory>
-    ensures { (app : App) (rule : Rule) → IfOk command.entry (IsTree app) → rule_of arg.entry ≡ rule → arg.entry.global ≡ false → IfOk result (IsTree (with_rule app rule)) }
+    ensures { (app : App) (rule : Rule) → IfOk command.entry (IsTree app) → rule_of arg.entry
+        ≡ rule → arg.entry.global ≡ false → IfOk result (IsTree (with_rule app rule)) }
 {
     Ok(command?.arg(arg)?)
 }
@@ -61,7 +62,8 @@ fn with_command<'a>(
     program: Result<Command<'a>, NoMemory>,
     command: Result<Command<'a>, NoMemory>,
 ) -> Result<Command<'a>, NoMemory>
-    ensures { (app sub : App) → IfOk program.entry (IsTree app) → IfOk command.entry (IsTree sub) → IfOk result (IsTree (with_subcommand app sub.top)) }
+    ensures { (app sub : App) → IfOk program.entry (IsTree app) → IfOk command.entry (IsTree sub) →
+        IfOk result (IsTree (with_subcommand app sub.top)) }
 {
     Ok(program?.subcommand(command?)?)
 }

@@ -25,14 +25,14 @@ use Rattle.sched_model.specs.declared.state.State.{State}
 use Rattle.sched_model.specs.Places.{at_place, change_at, put_at, clear_at, numbers_from}
 use Rattle.sched_model.specs.Opening.{empty_pool, core_count}
 use Rattle.sched_model.specs.Policy.{kind_of, fresh_records, default_pool_params}
-use Rattle.sched_model.specs.Pool.{settled, set_params, pause, unpause, set_moving, set_leaving, change_domain}
+use Rattle.sched_model.specs.Pool.{settled_pool, set_params, pause, unpause, set_moving, set_leaving, change_domain}
 use Rattle.sched_model.specs.Actions.{home_of_domain, change_pool}
 use Rattle.sched_model.specs.Commands.{carried_out, change_home, set_rtds, pool_of_plan}
 use Rattle.sched_model.specs.Machine.{verdict, after_command, settled_at}
 use Rattle.journal_core.specs.Parts.{Outline, UnderWay, ToolPart, core_to, domain_to, outline_of, first_answer, leaving_pool, core_leaving, domain_moving, core_joining, under_way_of, tool_of as part_of_tool}
 use Rattle.cpupool.specs.Tool.{Tool, tool_of, ends_of, entry_of}
 use Rattle.cpupool.specs.Judging.{has_core}
-use Rattle.cpupool.specs.Advanced.{empty_outline, advanced, carried, has_domain_at}
+use Rattle.cpupool.specs.Advanced.{empty_outline, after_advance, carried_part, has_domain_at}
 use Rattle.cpupool.proofs.SubjectLemmas.{at_place-map, flag-there, there-map, length-map as length_map}
 use Rattle.cpupool.proofs.OpenedLemmas.{map_none}
 use Rattle.cpupool.proofs.SightLemmas.{IsStill, map_change, outline_still, leaving_still, settled_still, params_still, withdrawn_still, pause_still, unpause_still, rtds_still}
@@ -93,7 +93,7 @@ still_home d f s same = elim (home_of_domain s d) as (λ o. part_of_tool (elim o
 
 still_settled : (t : ℕ) (o : Option ℕ) (s : State) → part_of_tool (settled_at t o s) ≡ part_of_tool s
 still_settled t None s = refl
-still_settled t (Some i) s = still_pool i (settled t) s (settled_still t)
+still_settled t (Some i) s = still_pool i (settled_pool t) s (settled_still t)
 
 -- an answer, or else another
 abbrev answer_else : {Y : Type 0} → Option Y → Option Y → Option Y
@@ -263,7 +263,7 @@ module _ (m : Machine) (s : State) (idle : under_way_of s ≡ None) where
 
   -- the part after the plan
   abbrev Carried : ℕ → Plan → Type 0
-  Carried t p = part_of_tool (carried_out m t p over) ≡ part_over (carried (tool_of m s) p (part_of_tool s))
+  Carried t p = part_of_tool (carried_out m t p over) ≡ part_over (carried_part (tool_of m s) p (part_of_tool s))
 
   created : (t : ℕ) (i : PoolId) (name : Name) (kind : SchedKind) (answer : Reply) → Carried t (plan.PoolCreate i name kind answer)
   created t i name kind answer =
@@ -340,7 +340,7 @@ module _ (m : Machine) (s : State) (idle : under_way_of s ≡ None) where
   carried-seen t (plan.Pin d unit cores answer) = still_home d.0 (set_params (changes.Pin d unit cores) t) over (params_still (changes.Pin d unit cores) t)
 
   -- what an accepted command does
-  pub advanced-seen : (t : ℕ) (line : CommandLine) (p : Plan) → verdict m s line ≡ Ok p → advanced (tool_of m s) p ≡ tool_of m (after_command m t line s)
+  pub advanced-seen : (t : ℕ) (line : CommandLine) (p : Plan) → verdict m s line ≡ Ok p → after_advance (tool_of m s) p ≡ tool_of m (after_command m t line s)
   advanced-seen t line p accepted =
       let after : Result Plan Refusal → State = λ r. elim r [ Err fault ↦ over | Ok q ↦ settled_at t (pool_of_plan s q) (carried_out m t q over) ] in
       let with_part : ToolPart → Tool = λ part. record (tool_of m s) { part = part } in

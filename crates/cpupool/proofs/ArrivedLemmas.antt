@@ -18,15 +18,15 @@ use Rattle.sched_model.specs.declared.state.State.{State}
 use Rattle.sched_model.specs.Places.{at_place, change_at, put_at, clear_at, first_place, numbers_from}
 use Rattle.sched_model.specs.Policy.{kind_of, joined_records, parted_records, default_dom_params}
 use Rattle.sched_model.specs.Pool as pools
-use Rattle.sched_model.specs.Pool.{settled, queue_units, unit_count}
+use Rattle.sched_model.specs.Pool.{settled_pool, queue_units, unit_count}
 use Rattle.sched_model.specs.Actions.{home_of_core, change_pool}
 use Rattle.sched_model.specs.Opening.{fresh_core}
 use Rattle.sched_model.specs.Policy as policy
-use Rattle.sched_model.specs.Machine.{after, after_moved, after_dom_moved, attached, detached, left_by, joined_by, is_null, is_move_under_way}
+use Rattle.sched_model.specs.Machine.{after, after_moved, after_dom_moved, with_core_in, without_core_in, left_by, joined_by, is_null, is_move_under_way}
 use Rattle.journal_core.specs.Parts.{Outline, UnderWay, core_to, domain_to, outline_of, first_answer, leaving_pool, core_leaving, domain_moving, core_joining, under_way_of}
 use Rattle.sched_laws.proofs.Records.{same_joined}
 use Rattle.cpupool.specs.Tool.{Tool, tool_of}
-use Rattle.cpupool.specs.Arrived.{with_core, with_domain, without_domain, size_at, handed_over, core_home, pools_after, arrived, action_of, but_for_free, EndsTheMove}
+use Rattle.cpupool.specs.Arrived.{with_core, with_domain, without_domain, size_at, handed_over, core_home, pools_after, after_arrival, action_of, but_for_free, EndsTheMove}
 use Rattle.cpupool.proofs.AlikeLemmas.{IsAlike, queued_alike}
 use Rattle.cpupool.proofs.SightLemmas.{core_sight, domain_sight, outline_still, settled_still}
 use Rattle.cpupool.proofs.SubjectLemmas.{at_place-map, core_home-seen, domain_home-seen}
@@ -208,15 +208,15 @@ domain_goes s d j found = by_pools (first_answer leaving_pool 0 s.pools) found r
         cc never
 
 -- the outlines of a pool that a core or a domain joins or leaves
-core_joined : (t r : ℕ) (x : Resource) (pool : Pool) → outline_of (settled t (record pool { resources = put_at r x pool.resources })) ≡ with_core r true (outline_of pool)
+core_joined : (t r : ℕ) (x : Resource) (pool : Pool) → outline_of (settled_pool t (record pool { resources = put_at r x pool.resources })) ≡ with_core r true (outline_of pool)
 core_joined t r x pool =
     let next : Pool = record pool { resources = put_at r x pool.resources } in
-    outline_still (settled t next) next (settled_still t next) ∙ ap (λ (cores : List Bool). record (outline_of pool) { cores = cores }) (map-set is_some pool.resources r (Some x))
+    outline_still (settled_pool t next) next (settled_still t next) ∙ ap (λ (cores : List Bool). record (outline_of pool) { cores = cores }) (map-set is_some pool.resources r (Some x))
 
-core_parted : (t r : ℕ) (pool : Pool) → outline_of (settled t (record pool { resources = clear_at r pool.resources })) ≡ with_core r false (outline_of pool)
+core_parted : (t r : ℕ) (pool : Pool) → outline_of (settled_pool t (record pool { resources = clear_at r pool.resources })) ≡ with_core r false (outline_of pool)
 core_parted t r pool =
     let next : Pool = record pool { resources = clear_at r pool.resources } in
-    outline_still (settled t next) next (settled_still t next) ∙ ap (λ (cores : List Bool). record (outline_of pool) { cores = cores }) (map-set is_some pool.resources r None)
+    outline_still (settled_pool t next) next (settled_still t next) ∙ ap (λ (cores : List Bool). record (outline_of pool) { cores = cores }) (map-set is_some pool.resources r None)
 
 parted_kind : (records : Records) (d : ℕ) → kind_of (parted_records records d) ≡ kind_of records
 parted_kind (Credit2Pool records) d = refl
@@ -238,8 +238,8 @@ without_seen d pool =
 domain_parted : (t d : ℕ) (pool : Pool) → outline_of (left_by t d pool) ≡ without_domain d (outline_of pool)
 domain_parted t d pool =
     let next : Pool = pools.without_domain d pool in
-    elim (is_null pool.scheduler.records) as (λ b. outline_of (cond b (settled t next) next) ≡ without_domain d (outline_of pool)) [
-      | true ↦ outline_still (settled t next) next (settled_still t next) ∙ without_seen d pool
+    elim (is_null pool.scheduler.records) as (λ b. outline_of (cond b (settled_pool t next) next) ≡ without_domain d (outline_of pool)) [
+      | true ↦ outline_still (settled_pool t next) next (settled_still t next) ∙ without_seen d pool
       | false ↦ without_seen d pool
     ]
 
@@ -252,7 +252,7 @@ domain_joined g t d domain pool =
     let params : DomParams = default_dom_params pool.scheduler.records in
     let base : Pool = record pool { domains = put_at d joining pool.domains; scheduler = policy.join d (unit_count g joining) params t pool.scheduler } in
     let next : Pool = queue_units g d (numbers_from 0 (unit_count g joining)) base in
-    outline_still (settled t next) next (settled_still t next)
+    outline_still (settled_pool t next) next (settled_still t next)
     ∙ alike_outline next base (queued_alike g d (numbers_from 0 (unit_count g joining)) base)
     ∙ ap (λ kind. record (outline_of base) { kind = kind }) (joined_kind pool.scheduler.records params d (unit_count g joining) t)
     ∙ ap (λ domains. record (outline_of pool) { domains = domains }) (map-set (option_map size_of) pool.domains d (Some joining))
@@ -305,13 +305,13 @@ joined_seen s t r i is =
     let c : FreeCore = found.0 in
     let by_home : State = elim (home_of_core s r) [
       | None ↦ s
-      | Some k ↦ elim (at_place s.pools k) [ None ↦ s | Some pool ↦ elim (at_place pool.resources r) [ None ↦ s | Some x ↦ detached t r k x s ] ]
+      | Some k ↦ elim (at_place s.pools k) [ None ↦ s | Some pool ↦ elim (at_place pool.resources r) [ None ↦ s | Some x ↦ without_core_in t r k x s ] ]
     ] in
-    let by_free : Option FreeCore → State = λ o. elim o [ Some x ↦ elim x.target [ None ↦ s | Some k ↦ attached t r k x s ] | None ↦ by_home ] in
-    let by_target : Option ℕ → State = λ o. elim o [ None ↦ s | Some k ↦ attached t r k c s ] in
-    let same : after_moved t r s ≡ attached t r i c s = ap by_free found.1 ∙ ap by_target found.2 in
-    let change : Pool → Pool = λ pool. settled t (record pool { resources = put_at r (fresh_core c.stall_ends) pool.resources }) in
-    let seen : IsAfter s (attached t r i c s) (pools_after (seen_pools s) (core_to r (Some i))) = record {
+    let by_free : Option FreeCore → State = λ o. elim o [ Some x ↦ elim x.target [ None ↦ s | Some k ↦ with_core_in t r k x s ] | None ↦ by_home ] in
+    let by_target : Option ℕ → State = λ o. elim o [ None ↦ s | Some k ↦ with_core_in t r k c s ] in
+    let same : after_moved t r s ≡ with_core_in t r i c s = ap by_free found.1 ∙ ap by_target found.2 in
+    let change : Pool → Pool = λ pool. settled_pool t (record pool { resources = put_at r (fresh_core c.stall_ends) pool.resources }) in
+    let seen : IsAfter s (with_core_in t r i c s) (pools_after (seen_pools s) (core_to r (Some i))) = record {
       names = refl;
       seen = map_changed outline_of change (with_core r true) (core_joined t r (fresh_core c.stall_ends)) i s.pools;
       stall = refl;
@@ -325,7 +325,7 @@ module _ (m : Machine) (s : State) (t r : ℕ) (is : under_way_of s ≡ Some (co
   Left = IsAfter s (after_moved t r s) (pools_after (seen_pools s) (core_to r None))
 
   abbrev left_resource : ℕ → Option Resource → State
-  left_resource k o = elim o [ None ↦ s | Some x ↦ detached t r k x s ]
+  left_resource k o = elim o [ None ↦ s | Some x ↦ without_core_in t r k x s ]
 
   abbrev left_pool : ℕ → Option Pool → State
   left_pool k o = elim o [ None ↦ s | Some pool ↦ left_resource k (at_place pool.resources r) ]
@@ -334,16 +334,16 @@ module _ (m : Machine) (s : State) (t r : ℕ) (is : under_way_of s ≡ Some (co
   left_home o = elim o [ None ↦ s | Some k ↦ left_pool k (at_place s.pools k) ]
 
   abbrev left_free : Option FreeCore → State
-  left_free o = elim o [ Some x ↦ elim x.target [ None ↦ s | Some k ↦ attached t r k x s ] | None ↦ left_home (home_of_core s r) ]
+  left_free o = elim o [ Some x ↦ elim x.target [ None ↦ s | Some k ↦ with_core_in t r k x s ] | None ↦ left_home (home_of_core s r) ]
 
   abbrev left_outlines : Option ℕ → List (Option Outline)
   left_outlines o = elim o [ None ↦ seen_pools s | Some k ↦ change_at k (with_core r false) (seen_pools s) ]
 
-  detached_seen : (i : ℕ) (c : Resource) → home_of_core s r ≡ Some i → after_moved t r s ≡ detached t r i c s → Left
+  detached_seen : (i : ℕ) (c : Resource) → home_of_core s r ≡ Some i → after_moved t r s ≡ without_core_in t r i c s → Left
   detached_seen i c home same =
-      let change : Pool → Pool = λ pool. settled t (record pool { resources = clear_at r pool.resources }) in
+      let change : Pool → Pool = λ pool. settled_pool t (record pool { resources = clear_at r pool.resources }) in
       let there : core_home (seen_pools s) r ≡ Some i = core_home-seen m s r ∙ home in
-      let seen : IsAfter s (detached t r i c s) (pools_after (seen_pools s) (core_to r None)) = record {
+      let seen : IsAfter s (without_core_in t r i c s) (pools_after (seen_pools s) (core_to r None)) = record {
         names = refl;
         seen = map_changed outline_of change (with_core r false) (core_parted t r) i s.pools ∙ sym (ap left_outlines there);
         stall = refl;
@@ -457,7 +457,7 @@ module _ (m : Machine) (s : State) (t : ℕ) where
 
   -- what the end of the move does
   pub arrived-seen : (way : UnderWay) (free : List (Option (List Moment))) → under_way_of s ≡ Some way → EndsTheMove m s t (action_of way)
-      → arrived (but_for_free free (tool_of m s)) ≡ but_for_free free (tool_of m (after m s t (action_of way)))
+      → after_arrival (but_for_free free (tool_of m s)) ≡ but_for_free free (tool_of m (after m s t (action_of way)))
   arrived-seen way free is ends =
       let tool : Tool = but_for_free free (tool_of m s) in
       let by_under_way : Option UnderWay → Tool = λ o. elim o [ None ↦ tool | Some w ↦ record tool { part = record tool.part { pools = pools_after (seen_pools s) w; under_way = None } } ] in

@@ -5,7 +5,7 @@ use Rattle.std.proofs.lemmas.List.Sums.{sum_by-cons}
 use Rattle.sched_model.specs.declared.state.Domain.{Domain}
 use Rattle.sched_model.specs.declared.state.Pool.{Pool}
 use Rattle.sched_model.specs.declared.state.Resource.{Resource}
-use Rattle.sched_model.specs.Places.{numbered, first_empty}
+use Rattle.sched_model.specs.Places.{numbered_items, first_empty}
 use Rattle.sched_model.specs.Pool.{cores_from}
 use Rattle.sched_model.specs.Commands.{cores_in, domains_in, last_core_fault}
 use Rattle.journal_core.specs.Parts.{outline_of}
@@ -16,20 +16,8 @@ use Rattle.cpupool.proofs.SubjectLemmas.{first_place-map}
 pub count-cons : {X : Type 0} (p : X → Bool) (x : X) (xs : List X) → count_by p (x ∷ xs) ≡ cond (p x) 1 0 + count_by p xs
 count-cons p x xs = sum_by-cons (λ y. cond (p y) 1 0) x xs
 
--- how many places have something
-pub numbered-count : {X : Type 0} (n : ℕ) (places : List (Option X)) → count_by is_some places ≡ length (numbered n places)
-numbered-count n [] = refl
-numbered-count n (None ∷ places) =
-    let first = count-cons is_some None places in
-    let rest = numbered-count (suc n) places in
-    grind arith
-numbered-count n (Some x ∷ places) =
-    let first = count-cons is_some (Some x) places in
-    let rest = numbered-count (suc n) places in
-    grind arith
-
 -- the same of the list that says which are there
-pub flags-count : {X : Type 0} (n : ℕ) (places : List (Option X)) → count_by (λ b. b) (map is_some places) ≡ length (numbered n places)
+pub flags-count : {X : Type 0} (n : ℕ) (places : List (Option X)) → count_by (λ b. b) (map is_some places) ≡ length (numbered_items n places)
 flags-count n [] = refl
 flags-count n (None ∷ places) =
     let first = count-cons (λ (b : Bool). b) false (map is_some places) in
@@ -41,7 +29,7 @@ flags-count n (Some x ∷ places) =
     grind arith
 
 -- the same of places that are changed
-pub places-count : {X Y : Type 0} (f : X → Y) (n : ℕ) (places : List (Option X)) → count_by is_some (map (option_map f) places) ≡ length (numbered n places)
+pub places-count : {X Y : Type 0} (f : X → Y) (n : ℕ) (places : List (Option X)) → count_by is_some (map (option_map f) places) ≡ length (numbered_items n places)
 places-count f n [] = refl
 places-count f n (None ∷ places) =
     let first = count-cons is_some None (map (option_map f) places) in

@@ -9,14 +9,14 @@ use Rattle.sched_model.specs.Places.{at_place}
 use Rattle.journal_core.specs.Parts.{ToolPart, UnderWay, core_to, domain_to}
 use Rattle.cpupool.specs.Tool.{Tool}
 use Rattle.cpupool.specs.Steps.{stall_comes, command_comes, joining_ready, first_end_up}
-use Rattle.cpupool.specs.Dues.{is_anything_due, IsLeastLater, has_come, sooner, later_than, stall_at, command_at, joining_at, first_end, soonest}
+use Rattle.cpupool.specs.Dues.{is_anything_due, IsLeastLater, has_come, sooner_moment, later_than, stall_at, command_at, joining_at, first_end, soonest_moment}
 
 -- a moment after which something is due
 later_least : (t : ℕ) (at : Option ℕ) → IsLeastLater t (has_come at) (later_than t at)
 later_least t None = λ later after. refl
 later_least t (Some at) = (omega arith, grind (arith, nat_tests), λ later after before. grind (arith, nat_tests))
 
-either_come : (a b : Option ℕ) (t : ℕ) → has_come (sooner a b) t ≡ has_come a t || has_come b t
+either_come : (a b : Option ℕ) (t : ℕ) → has_come (sooner_moment a b) t ≡ has_come a t || has_come b t
 either_come None b t = refl
 either_come (Some a) None t = elim (nat_le a t) as (λ x. x ≡ x || false) [ true ↦ refl | false ↦ refl ]
 either_come (Some a) (Some b) t = grind (arith, nat_tests)
@@ -48,10 +48,10 @@ or_assoc : (a b c : Bool) → a || (b || c) ≡ a || b || c
 or_assoc true b c = refl
 or_assoc false b c = refl
 
-soonest_come : (tool : Tool) (t : ℕ) → has_come (soonest tool) t ≡ is_anything_due tool t
+soonest_come : (tool : Tool) (t : ℕ) → has_come (soonest_moment tool) t ≡ is_anything_due tool t
 soonest_come tool t =
     let way : Option UnderWay = tool.part.under_way in
-    either_come (stall_at tool) (sooner (command_at tool) (joining_at tool.part way)) t
+    either_come (stall_at tool) (sooner_moment (command_at tool) (joining_at tool.part way)) t
     ∙ ap (λ b. has_come (stall_at tool) t || b) (either_come (command_at tool) (joining_at tool.part way) t)
     ∙ ap (λ a. a || (has_come (command_at tool) t || has_come (joining_at tool.part way) t)) (stall_come tool t)
     ∙ ap (λ b. stall_comes tool t || (b || has_come (joining_at tool.part way) t)) (command_come tool t)
@@ -63,5 +63,5 @@ same_least t p q same None none = λ later after. sym (same later) ∙ none late
 same_least t p q same (Some least) found = (found.0, sym (same least.0) ∙ found.1, λ later after before. sym (same later) ∙ found.2 later after before)
 
 -- the least later moment at which the tool has something to do
-pub soonest_least : (tool : Tool) (t : ℕ) → IsLeastLater t (is_anything_due tool) (later_than t (soonest tool))
-soonest_least tool t = same_least t (has_come (soonest tool)) (is_anything_due tool) (soonest_come tool) (later_than t (soonest tool)) (later_least t (soonest tool))
+pub soonest_least : (tool : Tool) (t : ℕ) → IsLeastLater t (is_anything_due tool) (later_than t (soonest_moment tool))
+soonest_least tool t = same_least t (has_come (soonest_moment tool)) (is_anything_due tool) (soonest_come tool) (later_than t (soonest_moment tool)) (later_least t (soonest_moment tool))

@@ -25,7 +25,8 @@ use Rattle.sched_model.specs.Places.{at_place}
 use Rattle.sched_model.specs.Policy.{rate_of, rtds_record}
 use Rattle.sched_model.specs.Pool.{unit_count}
 use Rattle.sched_model.specs.Commands.{pool_of, domain_of, in_range, rtds_fault, rtds_units}
-use Rattle.cpupool.specs.Facts.{pool_subject, domain_subject, no_subject, stored_of, stored_from, stored_in, rate_at, units_at}
+use Rattle.cpupool.specs.Facts.{pool_subject, domain_subject, no_subject, stored_from, stored_in, rate_at, stored_at}
+use Rattle.sched_model.specs.Policy.{stored_of}
 use Rattle.cpupool.specs.Judging.{weight_reply, stored_fault, rtds_reply}
 
 -- the rate limit of the pool that is named
@@ -38,14 +39,14 @@ rate-known s which i pool is at =
 -- the set values of the domain that is named
 pub units-known : (m : Machine) (s : State) (which : Which) (d i : ℕ) (pool : Pool) (domain : Domain)
     → domain_of m which ≡ Some d → home_of_domain s d ≡ Some i → at_place s.pools i ≡ Some pool → at_place pool.domains d ≡ Some domain
-    → units_at m.config.granularity s (domain_subject m s which no_subject) ≡ stored_from pool.scheduler.records d 0 (unit_count m.config.granularity domain)
+    → stored_at m.config.granularity s (domain_subject m s which no_subject) ≡ stored_from pool.scheduler.records d 0 (unit_count m.config.granularity domain)
 units-known m s which d i pool domain is lives at inside =
     let g = m.config.granularity in
     let subject : Option ℕ → Subject = λ o. elim o [ None ↦ no_subject | Some e ↦ record { pool = option_map pool_number (home_of_domain s e); dom = Some (domain_number e) } ] in
-    let by_home : Option ℕ → List Stored = λ o. units_at g s (record { pool = option_map pool_number o; dom = Some (domain_number d) }) in
+    let by_home : Option ℕ → List Stored = λ o. stored_at g s (record { pool = option_map pool_number o; dom = Some (domain_number d) }) in
     let by_pool : Option Pool → List Stored = λ o. elim o [ None ↦ [] | Some p ↦ stored_in g p d ] in
     let by_domain : Option Domain → List Stored = λ o. elim o [ None ↦ [] | Some x ↦ stored_from pool.scheduler.records d 0 (unit_count g x) ] in
-    ap (λ o. units_at g s (subject o)) is ∙ ap by_home lives ∙ ap by_pool at ∙ ap by_domain inside
+    ap (λ o. stored_at g s (subject o)) is ∙ ap by_home lives ∙ ap by_pool at ∙ ap by_domain inside
 
 -- the subject of a command that names the domain d
 pub subject-known : (m : Machine) (s : State) (which : Which) (otherwise : Subject) (d : ℕ) → domain_of m which ≡ Some d → (domain_subject m s which otherwise).dom ≡ Some (domain_number d)
@@ -78,8 +79,8 @@ units-stored pool domains is d first zero = refl
 units-stored pool domains is d first (suc count) =
     let by_stored : Option Stored → List Stored = λ o. elim o [ None ↦ [] | Some v ↦ v ∷ stored_from pool.scheduler.records d (suc first) count ] in
     let by_unit : Option RtdsUnit → List RtdsUnit = λ o. elim o [ None ↦ [] | Some x ↦ x ∷ rtds_units pool d (suc first) count ] in
-    let here : stored_of pool.scheduler.records d first ≡ option_map rtds_stored (rtds_record pool.scheduler.records (unit_at d first)) =
-    let P : Records → Type 0 = λ records. stored_of records d first ≡ option_map rtds_stored (rtds_record records (unit_at d first)) in subst P (sym is) refl in
+    let here : stored_of pool.scheduler.records (unit_at d first) ≡ option_map rtds_stored (rtds_record pool.scheduler.records (unit_at d first)) =
+    let P : Records → Type 0 = λ records. stored_of records (unit_at d first) ≡ option_map rtds_stored (rtds_record records (unit_at d first)) in subst P (sym is) refl in
     ap by_stored here
     ∙ elim (rtds_record pool.scheduler.records (unit_at d first)) as (λ o. by_stored (option_map rtds_stored o) ≡ map rtds_stored (by_unit o)) [
       | None ↦ refl
@@ -114,11 +115,11 @@ pub one-stored : (records : Records) (d first count k : ℕ) → k < count → l
 one-stored records d first zero k below all = absurd (omega arith)
 one-stored records d first (suc count) zero below all =
     let units : ℕ → Option Stored → List Stored = λ n o. elim o [ None ↦ [] | Some v ↦ v ∷ stored_from records d (suc first) n ] in
-    elim (stored_of records d first) as (λ o. take 1 (units count o) ≡ units 0 o) [ None ↦ refl | Some v ↦ refl ]
+    elim (stored_of records (unit_at d first)) as (λ o. take 1 (units count o) ≡ units 0 o) [ None ↦ refl | Some v ↦ refl ]
     ∙ ap (λ n. stored_from records d n 1) (sym (add-zero first))
 one-stored records d first (suc count) (suc k) below all =
     let units : Option Stored → List Stored = λ o. elim o [ None ↦ [] | Some v ↦ v ∷ stored_from records d (suc first) count ] in
-    elim (stored_of records d first) as (λ o. length (units o) ≡ suc count → take 1 (drop (suc k) (units o)) ≡ stored_from records d (first + suc k) 1) [
+    elim (stored_of records (unit_at d first)) as (λ o. length (units o) ≡ suc count → take 1 (drop (suc k) (units o)) ≡ stored_from records d (first + suc k) 1) [
       | None ↦ λ full. absurd (omega arith)
       | Some v ↦ λ full.
           let next : suc first + k ≡ first + suc k = omega arith in

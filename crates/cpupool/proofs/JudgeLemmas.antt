@@ -1,4 +1,5 @@
 -- The answer to a command by what the tool knows is the answer of the definitions.
+use Rattle.sched_model.specs.Checked.{most_span}
 use Rattle.sched_base.specs.Numbers.{domain as domain_number}
 use Rattle.std.proofs.Common.{◌≡◌, ◌/◌, Some, None, refl, ◌∙◌, ap}
 use Rattle.sched_model.specs.declared.command.Command.{Command}
@@ -42,6 +43,6 @@ judge_seen m s (command.RtdsDom which vcpu period budget extra) keeps = named_si
 judge_seen m s (command.Pause which) keeps = named_size m s which _ _ (λ d i pool domain is lives at inside. refl)
 judge_seen m s (command.Unpause which) keeps = named_size m s which _ _ (λ d i pool domain is lives at inside. refl)
 judge_seen m s (command.ArincSet which major entries) keeps = named_outline m s which _ _ (λ i pool is at.
-    ap (λ next. demand_kind kinds.Arinc653 i pool (demand (in_range 1 10000000000000 major) (refusal.Range param.Major major) next)) (frame-seen m s i major entries))
+    ap (λ next. demand_kind kinds.Arinc653 i pool (demand (in_range 1 most_span major) (refusal.Range param.Major major) next)) (frame-seen m s i major entries))
 judge_seen m s (command.Pin which vcpu cpus) keeps = named_size m s which _ _ (λ d i pool domain is lives at inside.
     guest_judged domain vcpu _ ∙ rw (elsewhere-seen m s pool cpus, cores-named m s cpus) refl)

@@ -57,10 +57,6 @@ map_numbers_more f n = rw add-one (numbers_from_more f 0 n ∙ ap (λ k. map f (
         let next : suc first + n ≡ first + suc n = omega arith in
         ap (λ rest. f first ∷ rest) (numbers_from_more f (suc first) n ∙ ap (λ k. map f (numbers_from (suc first) n) ++ f k ∷ []) next)
 
--- one more of the same
-pub replicate_one_more : {X : Type 0} (n : ℕ) (x : X) → replicate n x ++ x ∷ [] ≡ replicate (n + 1) x
-replicate_one_more n x = replicate-append-replicate n 1 x
-
 -- so many numbers
 pub length_numbers : {X : Type 0} (f : ℕ → X) (first n : ℕ) → length (map f (numbers_from first n)) ≡ n
 length_numbers f first zero = refl

@@ -16,7 +16,7 @@ use Rattle.sched_model.specs.declared.state.RtdsUnit.{RtdsUnit}
 use Rattle.sched_model.specs.Places.{at_place, change_at, change_each, test_at, numbers_from}
 use Rattle.sched_model.specs.Policy as policy
 use Rattle.sched_model.specs.Policy.{kind_of, changed_records, rtds_record}
-use Rattle.sched_model.specs.Pool.{settled, reconsidered, home_cores, set_params, marked, change_cores_of, is_of_domain, set_pending, withdrawn, change_domain, pause, unpause, queue_units, unit_count}
+use Rattle.sched_model.specs.Pool.{settled_pool, reconsidered_core, home_cores, set_params, marked_pool as marked, change_cores_of, is_of_domain, set_pending, withdrawn_pool as withdrawn, change_domain, pause, unpause, queue_units, unit_count}
 use Rattle.sched_model.specs.Commands.{set_rtds_unit, set_rtds}
 use Rattle.journal_core.specs.Parts.{UnderWay, core_to, domain_to, outline_of, first_answer, leaving_pool, core_leaving, domain_moving}
 use Rattle.cpupool.proofs.AlikeLemmas.{queued_alike}
@@ -103,8 +103,8 @@ own_or : (b : Bool) (c d : Resource) → d.leaving ≡ c.leaving → (cond b c d
 own_or true c d same = refl
 own_or false c d same = same
 
-pub settled_still : (t : ℕ) (p : Pool) → IsStill (settled t p) p
-settled_still t p = cores_still p (reconsidered t (home_cores p) p.scheduler) (λ r c. own_or c.leaving c _ refl)
+pub settled_still : (t : ℕ) (p : Pool) → IsStill (settled_pool t p) p
+settled_still t p = cores_still p (reconsidered_core t (home_cores p) p.scheduler) (λ r c. own_or c.leaving c _ refl)
 
 of_domain_still : (d : ℕ) (f : Resource → Resource) (p : Pool) → ((c : Resource) → (f c).leaving ≡ c.leaving) → IsStill (change_cores_of d f p) p
 of_domain_still d f p same = cores_still p (λ r c. cond (is_of_domain d c.cur) (f c) c) (λ r c. one_or (is_of_domain d c.cur) c (f c) (same c))

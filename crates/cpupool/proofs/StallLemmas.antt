@@ -9,7 +9,7 @@ use Rattle.sched_model.specs.declared.state.State.{State}
 use Rattle.sched_model.specs.Places.{at_place, change_at, change_item}
 use Rattle.sched_model.specs.Actions.{home_of_core, change_pool}
 use Rattle.sched_model.specs.Pool.{change_processor}
-use Rattle.sched_model.specs.Machine.{stall_end_of, stalled}
+use Rattle.sched_model.specs.Machine.{stall_end_of, with_stall_end}
 use Rattle.journal_core.specs.Parts.{UnderWay, ToolPart, first_answer, core_joining, leaving_pool, tool_of as part_of_tool}
 use Rattle.cpupool.specs.Tool.{ends_of}
 use Rattle.cpupool.specs.Dues.{free_stall_end, free_stalled}
@@ -43,7 +43,7 @@ module _ (m : Machine) (s : State) (p : ℕ) (free : home_of_core s (p / m.confi
       ∙ elim (at_place s.free r) as (λ o. by_ends (option_map ends_of o) ≡ by_core o) [ None ↦ refl | Some c ↦ refl ]
       ∙ ap by_home (sym free)
 
-  pub stalled-seen : (end : ℕ) → free_stalled (part_of_tool s) r i end ≡ part_of_tool (stalled m.config.granularity p end s)
+  pub stalled-seen : (end : ℕ) → free_stalled (part_of_tool s) r i end ≡ part_of_tool (with_stall_end m.config.granularity p end s)
   stalled-seen end =
       let f : FreeCore → FreeCore = λ c. record c { stall_ends = change_item i (λ old. moment end) c.stall_ends } in
       let stays : State = record s { free = change_at r f s.free } in

@@ -10,7 +10,7 @@ use Rattle.sched_model.specs.declared.state.Pool.{Pool}
 use Rattle.sched_model.specs.declared.state.Resource.{Resource}
 use Rattle.sched_model.specs.declared.state.State.{State}
 use Rattle.sched_model.specs.declared.action.Action.TheVariants.{Xl}
-use Rattle.sched_model.specs.Places.{numbered}
+use Rattle.sched_model.specs.Places.{numbered_items}
 use Rattle.sched_model.specs.Machine.{is_move_under_way, is_enabled}
 use Rattle.journal_core.specs.Parts.{UnderWay, core_to, first_answer, core_leaving, domain_moving, core_joining, leaving_pool, under_way_of}
 use Rattle.cpupool.specs.Tool.{tool_of}
@@ -19,7 +19,7 @@ use Rattle.cpupool.specs.Steps.{stall_comes, command_comes, next_event, enabled_
 use Rattle.cpupool.proofs.SubjectLemmas.{is_some-map}
 
 -- some place answers
-any_answers : {X Y : Type 0} (f : ℕ → X → Option Y) (test : X → Bool) → ((n : ℕ) (x : X) → is_some (f n x) ≡ test x) → (n : ℕ) (places : List (Option X)) → is_some (first_answer f n places) ≡ list_any (λ e. test e.1) (numbered n places)
+any_answers : {X Y : Type 0} (f : ℕ → X → Option Y) (test : X → Bool) → ((n : ℕ) (x : X) → is_some (f n x) ≡ test x) → (n : ℕ) (places : List (Option X)) → is_some (first_answer f n places) ≡ list_any (λ e. test e.1) (numbered_items n places)
 any_answers f test same n [] = refl
 any_answers f test same n (None ∷ places) = any_answers f test same (suc n) places
 any_answers {X} {Y} f test same n (Some x ∷ places) =
@@ -42,17 +42,17 @@ either : (a b : Option UnderWay) → is_some (elim a [ Some way ↦ Some way | N
 either (Some way) b = refl
 either None b = refl
 
-in_pool : (i : ℕ) (pool : Pool) → is_some (leaving_pool i pool) ≡ list_any (λ c. c.1.leaving) (numbered 0 pool.resources) || list_any (λ d. is_some d.1.moving) (numbered 0 pool.domains)
+in_pool : (i : ℕ) (pool : Pool) → is_some (leaving_pool i pool) ≡ list_any (λ c. c.1.leaving) (numbered_items 0 pool.resources) || list_any (λ d. is_some d.1.moving) (numbered_items 0 pool.domains)
 in_pool i pool =
     either (first_answer core_leaving 0 pool.resources) (first_answer domain_moving 0 pool.domains)
     ∙ ap (λ b. b || is_some (first_answer domain_moving 0 pool.domains)) (any_answers core_leaving (λ c. c.leaving) leaves 0 pool.resources)
-    ∙ ap (λ b. list_any (λ c. c.1.leaving) (numbered 0 pool.resources) || b) (any_answers domain_moving (λ d. is_some d.moving) moves 0 pool.domains)
+    ∙ ap (λ b. list_any (λ c. c.1.leaving) (numbered_items 0 pool.resources) || b) (any_answers domain_moving (λ d. is_some d.moving) moves 0 pool.domains)
 
 pub under_way-seen : (s : State) → is_some (under_way_of s) ≡ is_move_under_way s
 under_way-seen s =
     either (first_answer leaving_pool 0 s.pools) (first_answer core_joining 0 s.free)
-    ∙ ap (λ b. b || is_some (first_answer core_joining 0 s.free)) (any_answers leaving_pool (λ pool. list_any (λ c. c.1.leaving) (numbered 0 pool.resources) || list_any (λ d. is_some d.1.moving) (numbered 0 pool.domains)) in_pool 0 s.pools)
-    ∙ ap (λ b. list_any (λ e. list_any (λ c. c.1.leaving) (numbered 0 e.1.resources) || list_any (λ d. is_some d.1.moving) (numbered 0 e.1.domains)) (numbered 0 s.pools) || b) (any_answers core_joining (λ c. is_some c.target) joins 0 s.free)
+    ∙ ap (λ b. b || is_some (first_answer core_joining 0 s.free)) (any_answers leaving_pool (λ pool. list_any (λ c. c.1.leaving) (numbered_items 0 pool.resources) || list_any (λ d. is_some d.1.moving) (numbered_items 0 pool.domains)) in_pool 0 s.pools)
+    ∙ ap (λ b. list_any (λ e. list_any (λ c. c.1.leaving) (numbered_items 0 e.1.resources) || list_any (λ d. is_some d.1.moving) (numbered_items 0 e.1.domains)) (numbered_items 0 s.pools) || b) (any_answers core_joining (λ c. is_some c.target) joins 0 s.free)
 
 -- what is told of a move is there where something is on its way
 pub way_seen : (m : Machine) (s : State) → is_some (option_map (move_of (tool_of m s).part) (tool_of m s).part.under_way) ≡ is_move_under_way s

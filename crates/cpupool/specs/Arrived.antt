@@ -1,4 +1,5 @@
 -- What the end of a move does to the tool's part.
+use Rattle.sched_base.specs.Numbers.{core, domain}
 use Rattle.std.specs.Prelude.{◌≡◌, ℕ, Bool, true, false, List, Option, Some, None, is_some, slice_set}
 use Rattle.std.specs.Option.{ForSome}
 use Rattle.sched_base.specs.declared.Moment.{Moment}
@@ -32,21 +33,24 @@ size_at pools i d = elim (at_place pools i) [ None ↦ None | Some o ↦ at_plac
 abbrev pub handed_over : ℕ → ℕ → ℕ → List (Option Outline) → List (Option Outline)
 handed_over d i j pools = elim (size_at pools i d) [ None ↦ pools | Some vcpus ↦ change_at j (with_domain d vcpus) (change_at i (without_domain d) pools) ]
 
--- the pool that has the core; the pool that has the domain
+-- the pool that has the core
 abbrev pub core_home : List (Option Outline) → ℕ → Option ℕ
 core_home pools r = first_place 0 (λ o. has_core o r) pools
 
+-- the pool that has the domain
 abbrev pub domain_home : List (Option Outline) → ℕ → Option ℕ
 domain_home pools d = first_place 0 (λ o. is_some (at_place o.domains d)) pools
 
--- the pools once the core r has no pool; once it is at its target; once the domain d is in the pool j
+-- the pools once the core r has no pool
 abbrev pub core_freed : ℕ → List (Option Outline) → List (Option Outline)
 core_freed r pools = elim (core_home pools r) [ None ↦ pools | Some i ↦ change_at i (with_core r false) pools ]
 
+-- the pools once the core r is at its target
 abbrev pub core_arrived : ℕ → Option ℕ → List (Option Outline) → List (Option Outline)
 core_arrived r None pools = core_freed r pools
 core_arrived r (Some i) pools = change_at i (with_core r true) pools
 
+-- the pools once the domain d is in the pool j
 abbrev pub domain_arrived : ℕ → ℕ → List (Option Outline) → List (Option Outline)
 domain_arrived d j pools = elim (domain_home pools d) [ None ↦ pools | Some i ↦ handed_over d i j pools ]
 
@@ -56,13 +60,13 @@ pools_after pools (core_to r to) = core_arrived r to pools
 pools_after pools (domain_to d j) = domain_arrived d j pools
 
 -- the home of what is on its way is its target, and nothing is on its way any more
-abbrev pub arrived : Tool → Tool
-arrived tool = elim tool.part.under_way [ None ↦ tool | Some way ↦ record tool { part = record tool.part { pools = pools_after tool.part.pools way; under_way = None } } ]
+abbrev pub after_arrival : Tool → Tool
+after_arrival tool = elim tool.part.under_way [ None ↦ tool | Some way ↦ record tool { part = record tool.part { pools = pools_after tool.part.pools way; under_way = None } } ]
 
 -- the move of what is on its way
 abbrev pub action_of : UnderWay → Action
-action_of (core_to r to) = Moved r
-action_of (domain_to d i) = DomMoved d
+action_of (core_to r to) = Moved (core r)
+action_of (domain_to d i) = DomMoved (domain d)
 
 -- what the tool knows, but for the cores of no pool, of which it has these ends of stalls
 abbrev pub but_for_free : List (Option (List Moment)) → Tool → Tool

@@ -32,10 +32,10 @@ has_come None t = false
 has_come (Some at) t = nat_le at t
 
 -- the sooner of the moments that are there
-abbrev pub sooner : Option ℕ → Option ℕ → Option ℕ
-sooner None b = b
-sooner (Some a) None = Some a
-sooner (Some a) (Some b) = Some (min a b)
+abbrev pub sooner_moment : Option ℕ → Option ℕ → Option ℕ
+sooner_moment None b = b
+sooner_moment (Some a) None = Some a
+sooner_moment (Some a) (Some b) = Some (min a b)
 
 -- the moment, or the next after t where that is later
 abbrev pub later_than : ℕ → Option ℕ → Option Moment
@@ -61,5 +61,5 @@ joining_at part (Some (core_to r (Some i))) = first_end (at_place part.free r)
 joining_at part (Some (domain_to d i)) = None
 
 -- the soonest of the three
-abbrev pub soonest : Tool → Option ℕ
-soonest tool = sooner (stall_at tool) (sooner (command_at tool) (joining_at tool.part tool.part.under_way))
+abbrev pub soonest_moment : Tool → Option ℕ
+soonest_moment tool = sooner_moment (stall_at tool) (sooner_moment (command_at tool) (joining_at tool.part tool.part.under_way))

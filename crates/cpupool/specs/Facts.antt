@@ -18,7 +18,7 @@ use Rattle.sched_model.specs.declared.state.Records.{Records}
 use Rattle.sched_model.specs.declared.state.Credit2Domain.{Credit2Domain}
 use Rattle.sched_model.specs.declared.state.RtdsUnit.{RtdsUnit}
 use Rattle.sched_model.specs.declared.state.Records.TheVariants.{Credit2Pool, RtdsPool, ArincPool, NullPool}
-use Rattle.sched_model.specs.Policy.{rate_of, rtds_record, credit2_record}
+use Rattle.sched_model.specs.Policy.{rate_of, rtds_record, credit2_record, stored_of}
 use Rattle.sched_model.specs.Pool.{unit_count}
 use Rattle.sched_model.specs.Actions.{home_of_domain}
 use Rattle.sched_model.specs.Commands.{pool_of, domain_of}
@@ -54,18 +54,10 @@ subject_of m s (command.Unpause which) = domain_subject m s which no_subject
 subject_of m s (command.ArincSet which major entries) = pool_subject s which
 subject_of m s (command.Pin which vcpu cpus) = domain_subject m s which no_subject
 
--- the set values that the scheduler keeps for the unit n of the domain d; for RTDS the newest ones
-abbrev pub stored_of : Records → ℕ → ℕ → Option Stored
-stored_of (Credit2Pool records) d n = option_map (λ (x : Credit2Domain). stored.Credit2 x.weight x.cap) (credit2_record (Credit2Pool records) d)
-stored_of (RtdsPool domains) d n =
-    option_map (λ (x : RtdsUnit). stored.Rtds (span x.next_period) (span x.next_budget) x.next_extra) (rtds_record (RtdsPool domains) (record { dom = domain_number d; n = n }))
-stored_of (ArincPool records) d n = Some stored.Arinc653
-stored_of (NullPool kept) d n = Some stored.Null
-
--- those of count units of the domain d from first on, up to the first without any
+-- the set values of count units of the domain d from first on, up to the first without any
 abbrev pub stored_from : Records → ℕ → ℕ → ℕ → List Stored
 stored_from records d first zero = []
-stored_from records d first (suc count) = elim (stored_of records d first) [ None ↦ [] | Some x ↦ x ∷ stored_from records d (suc first) count ]
+stored_from records d first (suc count) = elim (stored_of records (record { dom = domain_number d; n = first })) [ None ↦ [] | Some x ↦ x ∷ stored_from records d (suc first) count ]
 
 -- those of all units of the domain d of the pool
 abbrev pub stored_in : ℕ → Pool → ℕ → List Stored
@@ -76,13 +68,13 @@ abbrev pub rate_at : State → Subject → ℕ
 rate_at s subject = elim subject.pool [ None ↦ 0 | Some i ↦ elim (at_place s.pools i.0) [ None ↦ 0 | Some pool ↦ rate_of pool.scheduler.records ] ]
 
 -- the set values of the domain's units, or none where there is no domain
-abbrev pub units_at : ℕ → State → Subject → List Stored
-units_at g s subject =
+abbrev pub stored_at : ℕ → State → Subject → List Stored
+stored_at g s subject =
     elim subject.dom [ None ↦ [] | Some d ↦ elim subject.pool [ None ↦ [] | Some i ↦ elim (at_place s.pools i.0) [ None ↦ [] | Some pool ↦ stored_in g pool d.0 ] ] ]
 
 -- what the command is judged by: the rate limit of its subject's pool, and the set values of its domain's units
 abbrev pub facts_of : Machine → State → Command → Facts
-facts_of m s c = record { rate = rate_at s (subject_of m s c); units = units_at m.config.granularity s (subject_of m s c) }
+facts_of m s c = record { rate = rate_at s (subject_of m s c); units = stored_at m.config.granularity s (subject_of m s c) }
 
 -- the domain d has a unit, and its scheduler keeps a value for each of its units
 pub record HasValues (g d : ℕ) (pool : Pool) (domain : Domain) : Type 0 where

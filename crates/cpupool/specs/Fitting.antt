@@ -1,14 +1,9 @@
 -- The states whose numbers are in range.
 use Rattle.std.specs.Prelude.{◌≤◌, List, [], ◌∷◌, Option, Some, None, length}
+use Rattle.sched_model.specs.Places.{AllPlaces}
 use Rattle.sched_model.specs.declared.state.Domain.{Domain}
 use Rattle.sched_model.specs.declared.state.Pool.{Pool}
 use Rattle.sched_model.specs.declared.state.State.{State}
-
--- whatever stands at a place has the property
-abbrev pub AllPlaces : {X : Type 0} → (X → Type 0) → List (Option X) → Type 0
-AllPlaces P [] = Unit {0}
-AllPlaces P (None ∷ places) = AllPlaces P places
-AllPlaces P (Some x ∷ places) = P x × AllPlaces P places
 
 -- a domain has at most 32 vCPUs
 abbrev pub DomainFits : Domain → Type 0

@@ -1,4 +1,5 @@
 -- The pools and domains that commands name, and the answers to commands, in what the tool knows.
+use Rattle.sched_model.specs.Checked.{most_span}
 use Rattle.sched_base.specs.Numbers.{span, core as core_number, domain as domain_number, pool as pool_number, core_set}
 use Rattle.std.specs.Prelude.{ℕ, suc, ◌+◌, ◌-◌, ◌*◌, ◌/◌, ◌^◌, ◌==◌, ◌&&◌, ◌||◌, Bool, true, false, not, List, [], ◌∷◌, ◌++◌, Option, Some, None, Result, Ok, Err, is_none, is_some, option_map, unwrap_or, slice_get, slice_index_or, length, sum_by, count_by, take, drop, bit_and, bytes_eq, nat_lt, nat_le, if◌then◌else◌}
 use Rattle.std.specs.List.{list_any}
@@ -312,7 +313,7 @@ seen_frame tool i major entries =
 abbrev pub seen_arinc_set : Tool → Which → ℕ → List ArincEntry → Result Plan Refusal
 seen_arinc_set tool which major entries =
     with_outline tool which (λ i o. demand_scheduler kinds.Arinc653 i o
-    (demand (in_range 1 10000000000000 major) (refusal.Range param.Major major) (seen_frame tool i major entries)))
+    (demand (in_range 1 most_span major) (refusal.Range param.Major major) (seen_frame tool i major entries)))
 
 -- whether one of the ranges has a processor of the core r
 abbrev pub is_named : ℕ → List (ℕ × ℕ) → ℕ → Bool

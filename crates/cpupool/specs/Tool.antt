@@ -43,10 +43,11 @@ tool_of m s =
 abbrev pub KnowsMachine : Machine → Tool → Type 0
 KnowsMachine m tool = (s : State) → record tool { part = part_of_tool s } ≡ tool_of m s
 
--- how many vCPUs a domain has; the ends of the stalls of a core's processors
+-- how many vCPUs a domain has
 abbrev pub size_of : Domain → ℕ
 size_of d = length d.vcpus
 
+-- the ends of the stalls of a core's processors
 abbrev pub ends_of : FreeCore → List Moment
 ends_of c = c.stall_ends
 

@@ -11,7 +11,7 @@ use sched_model::plan::Plan;
 use sched_model::short::Short;
 
 /// No core, where there are so many.
-#[tactic(auto, using(crate::proofs::NumberLemmas::replicate_one_more))]
+#[tactic(auto, using(sched_model::proofs::Replicate::replicate_one_more))]
 fn no_cores(cores: u8) -> CoreFlags
     requires { cores ≤ 64 }
     ensures { result ≡ replicate cores false }
@@ -24,7 +24,7 @@ fn no_cores(cores: u8) -> CoreFlags
 }
 
 /// No domain, where there are so many.
-#[tactic(auto, using(crate::proofs::NumberLemmas::replicate_one_more))]
+#[tactic(auto, using(sched_model::proofs::Replicate::replicate_one_more))]
 fn no_domains(domains: usize) -> DomainSizes
     requires { domains ≤ 64 }
     ensures { result ≡ replicate domains None }
@@ -64,7 +64,7 @@ impl ToolState {
     ghost use Rattle.sched_model.specs.Machine.{verdict, after_command};
     ghost use Rattle.sched_model.specs.Places.{at_place};
     ghost use Rattle.cpupool.specs.Tool.{tool_of};
-    ghost use Rattle.cpupool.specs.Advanced.{empty_outline as empty_outline_spec, has_core_at as has_core_at_spec, has_domain_at as has_domain_at_spec, advanced, carried};
+    ghost use Rattle.cpupool.specs.Advanced.{empty_outline as empty_outline_spec, has_core_at as has_core_at_spec, has_domain_at as has_domain_at_spec, after_advance, carried_part};
 
     /// The next command is accepted with this plan: it is over, and what it does to the tool's part is done.
     pub fn advance(&mut self, p: &Plan)
@@ -80,7 +80,7 @@ impl ToolState {
     fn carry_out(&mut self, p: &Plan)
         requires left { self.old.part.next_command < length self.old.commands }
         requires idle { self.old.part.under_way ≡ None }
-        ensures { self.new ≡ advanced self.old p.now }
+        ensures { self.new ≡ after_advance self.old p.now }
     {
         match p {
             Plan::PoolCreate {

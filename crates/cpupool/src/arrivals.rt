@@ -131,7 +131,7 @@ impl ToolState {
     ghost use Rattle.sched_model.specs.Machine.{after};
     ghost use Rattle.journal_core.specs.Parts.{UnderWay};
     ghost use Rattle.cpupool.specs.Tool.{tool_of};
-    ghost use Rattle.cpupool.specs.Arrived.{arrived, action_of, but_for_free, EndsTheMove};
+    ghost use Rattle.cpupool.specs.Arrived.{after_arrival, action_of, but_for_free, EndsTheMove};
 
     /// What was on its way is there: its home is its target, and nothing is on its way any more.
     ///
@@ -147,7 +147,7 @@ impl ToolState {
 
     /// The same, by what the tool keeps.
     fn end_move(&mut self)
-        ensures { self.new ≡ arrived self.old }
+        ensures { self.new ≡ after_arrival self.old }
     {
         if let Some(way) = self.under_way {
             arrive(&mut self.pools, way);

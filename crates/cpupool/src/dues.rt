@@ -2,7 +2,7 @@
 
 ghost use Rattle.std.specs.Prelude.{◌≡◌, ◌^◌, ◌<◌};
 ghost use Rattle.sched_model.specs.Places.{at_place};
-ghost use Rattle.cpupool.specs.Dues.{sooner as sooner_spec, later_than as later_than_spec, first_end as first_end_spec};
+ghost use Rattle.cpupool.specs.Dues.{sooner_moment as sooner_spec, later_than as later_than_spec, first_end as first_end_spec};
 
 use crate::moves::ends_at;
 use crate::outline::Way;
@@ -51,14 +51,15 @@ impl ToolState {
     ghost use Rattle.sched_model.specs.declared.state.State.{State};
     ghost use Rattle.cpupool.specs.Tool.{tool_of};
     ghost use Rattle.cpupool.specs.Coming.{tool_may_act};
-    ghost use Rattle.cpupool.specs.Dues.{IsLeastLater, is_anything_due, stall_at as stall_at_spec, command_at as command_at_spec, joining_at as joining_at_spec, soonest, later_than as later_than_spec};
+    ghost use Rattle.cpupool.specs.Dues.{IsLeastLater, is_anything_due, stall_at as stall_at_spec, command_at as command_at_spec, joining_at as joining_at_spec, soonest_moment, later_than as later_than_spec};
 
     /// The least moment after t at which a stall or a command may come, or a core of no pool may join one; `None` where
     /// none of them may at any later moment.
     pub fn next_due(&self, t: Moment) -> Option<Moment>
         requires { t.0 < 2 ^ 63 }
         ensures part { IsLeastLater t.0 (is_anything_due self.now) result }
-        ensures state { (m : Machine) → (s : State) → tool_of m s ≡ self.now → IsLeastLater t.0 (tool_may_act m s) result }
+        ensures state { (m : Machine) → (s : State) → tool_of m s ≡ self.now →
+            IsLeastLater t.0 (tool_may_act m s) result }
     {
         self.soonest_after(t.0)
     }
@@ -66,7 +67,7 @@ impl ToolState {
     /// The soonest of the three moments, or the next after t where that is later.
     fn soonest_after(&self, t: u64) -> Option<Moment>
         requires { t < 2 ^ 63 }
-        ensures { result ≡ later_than_spec t (soonest self.now) }
+        ensures { result ≡ later_than_spec t (soonest_moment self.now) }
     {
         let others = sooner(self.command_at(), self.joining_at());
         later_than(t, sooner(self.stall_at(), others))

@@ -105,7 +105,8 @@ impl ToolState {
     /// What is on its way, or `None` exactly where nothing is.
     pub fn moving(&self) -> Option<Move>
         ensures way { result ≡ option_map (move_of self.now.part) self.now.part.under_way }
-        ensures none { (m : Machine) → (s : State) → tool_of m s ≡ self.now → is_some result ≡ is_move_under_way s }
+        ensures none { (m : Machine) → (s : State) → tool_of m s ≡ self.now → is_some result
+            ≡ is_move_under_way s }
     {
         self.way_under_way()
     }
@@ -131,7 +132,8 @@ impl ToolState {
     /// Whether a core of no pool is to join one, and its first processor is up at t.
     pub fn free_ready(&self, t: Moment) -> bool
         ensures part { result ≡ joining_ready self.now.part t.0 self.now.part.under_way }
-        ensures state { (m : Machine) → (s : State) → tool_of m s ≡ self.now → result ≡ may_join s t.0 }
+        ensures state { (m : Machine) → (s : State) → tool_of m s ≡ self.now → result
+            ≡ may_join s t.0 }
     {
         self.joins(t.0)
     }
@@ -152,7 +154,12 @@ impl ToolState {
     pub fn give_free(&mut self, r: ResPart)
         requires core { r.r.0 < length self.old.part.free }
         requires new { at_place self.old.part.free r.r.0 ≡ None }
-        ensures { self.new ≡ record self.old { part = record self.old.part { free = put_at r.r.0 r.stall_ends self.old.part.free } } }
+        ensures { self.new ≡ record self.old {
+          part = record self.old.part {
+            free = put_at r.r.0 r.stall_ends
+                self.old.part.free;
+          };
+        } }
     {
         let ResPart { r, stall_ends } = r;
         put_ends(&mut self.free, r.0 as usize, Some(stall_ends));
@@ -163,7 +170,8 @@ impl ToolState {
         requires { IsSome (at_place self.old.part.free r.0) }
         ensures core { result.r ≡ r }
         ensures ends { at_place self.old.part.free r.0 ≡ Some result.stall_ends }
-        ensures rest { self.new ≡ record self.old { part = record self.old.part { free = clear_at r.0 self.old.part.free } } }
+        ensures rest { self.new ≡ record self.old
+            { part = record self.old.part { free = clear_at r.0 self.old.part.free } } }
     {
         let place = r.0 as usize;
         let stall_ends = match ends_at(self.free.as_slice(), place) {

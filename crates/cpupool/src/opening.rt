@@ -131,7 +131,7 @@ fn add_outlines(
 }
 
 /// So many places more, without anything.
-#[tactic(auto, using(crate::proofs::NumberLemmas::replicate_one_more, std::proofs::Common::append_assoc))]
+#[tactic(auto, using(sched_model::proofs::Replicate::replicate_one_more, std::proofs::Common::append_assoc))]
 fn with_spare_pools(outlines: Outlines, spare: usize) -> Outlines
     requires { length outlines + spare ≤ 16 }
     ensures { result ≡ outlines ++ replicate spare None }
@@ -150,7 +150,8 @@ pub(crate) fn opened_outlines(cores: u8, domains: &[DomConfig], pools: &[PoolCon
     requires cores { cores ≤ 64 }
     requires few { length domains.now ≤ 64 }
     requires guests { All HasFewGuests domains.now }
-    ensures { result ≡ opened_outlines_spec cores domains.now 0 pools.now ++ replicate (16 - length pools.now) None }
+    ensures { result ≡ opened_outlines_spec cores domains.now 0 pools.now
+        ++ replicate (16 - length pools.now) None }
 {
     let outlines = add_outlines(Short::new(), 0, cores, domains, pools);
     with_spare_pools(outlines, 16 - pools.len())
@@ -170,10 +171,11 @@ fn names_of(pools: &[PoolConfig]) -> PoolNames
 }
 
 /// The names of the pools, and a place for each pool there may be besides.
-#[tactic(auto, using(crate::proofs::NumberLemmas::replicate_one_more, std::proofs::Common::append_assoc))]
+#[tactic(auto, using(sched_model::proofs::Replicate::replicate_one_more, std::proofs::Common::append_assoc))]
 pub(crate) fn opened_names(pools: &[PoolConfig]) -> PoolNames
     requires { length pools.now ≤ 16 }
-    ensures { result ≡ map (λ (pool : PoolRecord). Some pool.name) pools.now ++ replicate (16 - length pools.now) None }
+    ensures { result ≡ map (λ (pool : PoolRecord). Some pool.name) pools.now
+        ++ replicate (16 - length pools.now) None }
 {
     let mut names = names_of(pools);
     for i in 0..16 - pools.len() {
@@ -183,7 +185,7 @@ pub(crate) fn opened_names(pools: &[PoolConfig]) -> PoolNames
 }
 
 /// Processors that do not stall, so many.
-#[tactic(auto, using(crate::proofs::NumberLemmas::replicate_one_more))]
+#[tactic(auto, using(sched_model::proofs::Replicate::replicate_one_more))]
 fn no_stalls(processors: u8) -> StallEnds
     requires { processors ≤ 4 }
     ensures { result ≡ replicate processors (moment 0) }

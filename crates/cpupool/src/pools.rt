@@ -136,7 +136,8 @@ pub(crate) fn core_home(i: u8, pools: &[Option<Outline>], r: usize) -> Option<u8
 /// The first pool that has the domain, where the first of these has the number i.
 pub(crate) fn domain_home(i: u8, pools: &[Option<Outline>], d: usize) -> Option<u8>
     requires { i + length pools.now ≤ 16 }
-    ensures { result ≡ first_place i (λ (o : PoolOutline). is_some (at_place o.domains d)) pools.now }
+    ensures { result ≡ first_place i (λ (o : PoolOutline). is_some (at_place o.domains d))
+        pools.now }
 {
     match pools {
         [] => None,

@@ -16,7 +16,7 @@ impl ToolState {
     ghost use Rattle.sched_model.specs.declared.state.State.{State};
     ghost use Rattle.sched_model.specs.Places.{at_place};
     ghost use Rattle.sched_model.specs.Actions.{home_of_core};
-    ghost use Rattle.sched_model.specs.Machine.{stall_end_of, stalled};
+    ghost use Rattle.sched_model.specs.Machine.{stall_end_of, with_stall_end};
     ghost use Rattle.cpupool.specs.Tool.{tool_of};
     ghost use Rattle.cpupool.specs.Dues.{free_stall_end, free_stalled};
 
@@ -26,7 +26,7 @@ impl ToolState {
         ensures end { (m : Machine) → (s : State) → tool_of m s ≡ self.old → home_of_core s (p.0 / m.config.granularity) ≡ None
             → result ≡ moment (stall_end_of m.config.granularity s p.0 until.0) }
         ensures state { (m : Machine) → (s : State) → tool_of m s ≡ self.old → home_of_core s (p.0 / m.config.granularity) ≡ None
-            → self.new ≡ tool_of m (stalled m.config.granularity p.0 result.0 s) }
+            → self.new ≡ tool_of m (with_stall_end m.config.granularity p.0 result.0 s) }
     {
         self.stall_end(p, until)
     }
@@ -35,8 +35,12 @@ impl ToolState {
     #[tactic(auto, using(crate::proofs::PlaceLemmas::changed_there))]
     fn stall_end(&mut self, p: ProcId, until: Moment) -> Moment
         requires { IsSome (at_place self.old.part.free (p.0 / self.old.granularity)) }
-        ensures end { result ≡ moment (free_stall_end self.old.part (p.0 / self.old.granularity) (p.0 % self.old.granularity) until.0) }
-        ensures part { self.new ≡ record self.old { part = free_stalled self.old.part (p.0 / self.old.granularity) (p.0 % self.old.granularity) result.0 } }
+        ensures end { result ≡ moment (free_stall_end self.old.part (p.0 / self.old.granularity)
+            (p.0 % self.old.granularity) until.0) }
+        ensures part { self.new ≡ record self.old {
+          part = free_stalled self.old.part (p.0 / self.old.granularity)
+              (p.0 % self.old.granularity) result.0;
+        } }
     {
         let r = (p.0 / self.granularity) as usize;
         let i = (p.0 % self.granularity) as usize;
@@ -53,7 +57,8 @@ impl ToolState {
 
 /// The later of the end at place i and this moment.
 fn later_end(ends: &StallEnds, i: usize, until: Moment) -> Moment
-    ensures { result ≡ moment (elim (slice_get ends.now i) [ None ↦ until.0 | Some old ↦ max old.0 until.0 ]) }
+    ensures { result ≡ moment (elim (slice_get ends.now i)
+        [ None ↦ until.0 | Some old ↦ max old.0 until.0 ]) }
 {
     match ends.as_slice().get(i) {
         None => until,

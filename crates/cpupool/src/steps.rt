@@ -53,7 +53,8 @@ impl ToolState {
     /// on its way to another pool.
     #[tactic(auto, using(crate::proofs::WayLemmas::event_seen))]
     pub fn tool_enabled(&self, t: Moment) -> Option<ToolEvent>
-        ensures { (m : Machine) → (s : State) → tool_of m s ≡ self.now → result ≡ enabled_event m s t.0 }
+        ensures { (m : Machine) → (s : State) → tool_of m s ≡ self.now → result
+            ≡ enabled_event m s t.0 }
     {
         self.next_event(t.0)
     }
@@ -75,8 +76,10 @@ impl ToolState {
     pub fn take_stall(&mut self) -> StallLine
         requires { self.old.part.next_stall < length self.old.stalls }
         ensures line { slice_get self.old.stalls self.old.part.next_stall ≡ Some result }
-        ensures next { self.new ≡ record self.old { part = record self.old.part { next_stall = suc self.old.part.next_stall } } }
-        ensures state { (m : Machine) → (s : State) → tool_of m s ≡ self.old → self.new ≡ tool_of m (record s { next_stall = suc s.next_stall }) }
+        ensures next { self.new ≡ record self.old
+            { part = record self.old.part { next_stall = suc self.old.part.next_stall } } }
+        ensures state { (m : Machine) → (s : State) → tool_of m s ≡ self.old → self.new
+            ≡ tool_of m (record s { next_stall = suc s.next_stall }) }
     {
         let line = self.stalls.as_slice()[self.next_stall as usize];
         self.next_stall += 1;
@@ -87,7 +90,8 @@ impl ToolState {
     pub fn refuse(&mut self)
         requires left { self.old.part.next_command < length self.old.commands }
         requires idle { self.old.part.under_way ≡ None }
-        ensures next { self.new ≡ record self.old { part = record self.old.part { next_command = suc self.old.part.next_command } } }
+        ensures next { self.new ≡ record self.old
+            { part = record self.old.part { next_command = suc self.old.part.next_command } } }
         ensures state { (m : Machine) → (s : State) → (t : ℕ) → (line : Line) → (refusal : Refusal) → tool_of m s ≡ self.old → verdict m s line ≡ Err refusal
             → self.new ≡ tool_of m (after_command m t line s) }
     {

@@ -76,7 +76,8 @@ impl ToolState {
     /// What the tool keeps of the machine at its opening. It keeps a copy of the workload. All memory is taken here.
     pub fn open(alloc: Global, config: &Config, work: &Work) -> Result<ToolState, NoMemory>
         requires { IsChecked (record { config = config.now; work = work.now }) }
-        ensures { let m : Machine = record { config = config.now; work = work.now } in IfOk result (λ t. t ≡ tool_of m (opening m)) }
+        ensures { let m : Machine = record { config = config.now; work = work.now } in IfOk result
+            (λ t. t ≡ tool_of m (opening m)) }
     {
         ToolState::open_with(alloc, config, same_work(alloc, work)?)
     }
@@ -84,7 +85,8 @@ impl ToolState {
     /// The same, of a workload that the tool takes over.
     pub fn open_with(alloc: Global, config: &Config, work: Work) -> Result<ToolState, NoMemory>
         requires { IsChecked (record { config = config.now; work = work }) }
-        ensures { let m : Machine = record { config = config.now; work = work } in IfOk result (λ t. t ≡ tool_of m (opening m)) }
+        ensures { let m : Machine = record { config = config.now; work = work } in IfOk result
+            (λ t. t ≡ tool_of m (opening m)) }
     {
         ToolState::opened(alloc, config, work)
     }
@@ -163,7 +165,8 @@ impl ToolState {
 
     /// The pool that has the core, where one has it.
     pub fn home_of_core(&self, r: ResId) -> Option<PoolId>
-        ensures { (m : Machine) → (s : StateRecord) → tool_of m s ≡ self.now → result ≡ option_map pool_number (home_of_core s r.0) }
+        ensures { (m : Machine) → (s : StateRecord) → tool_of m s ≡ self.now → result
+            ≡ option_map pool_number (home_of_core s r.0) }
     {
         self.core_pool(r)
     }
@@ -180,7 +183,8 @@ impl ToolState {
 
     /// The pool that has the domain, where one has it.
     pub fn home_of_domain(&self, d: DomId) -> Option<PoolId>
-        ensures { (m : Machine) → (s : StateRecord) → tool_of m s ≡ self.now → result ≡ option_map pool_number (home_of_domain s d.0) }
+        ensures { (m : Machine) → (s : StateRecord) → tool_of m s ≡ self.now → result
+            ≡ option_map pool_number (home_of_domain s d.0) }
     {
         self.domain_pool(d)
     }
@@ -246,7 +250,8 @@ impl ToolState {
     /// A domain in the entries of a frame does not count as named.
     #[tactic(auto, using(crate::proofs::SubjectLemmas::subject_seen))]
     pub fn subject(&self, c: &Command) -> Subject
-        ensures { (m : Machine) → (s : StateRecord) → tool_of m s ≡ self.now → result ≡ subject_of m s c.now }
+        ensures { (m : Machine) → (s : StateRecord) → tool_of m s ≡ self.now → result
+            ≡ subject_of m s c.now }
     {
         self.seen_subject(c)
     }

@@ -42,7 +42,7 @@ use Rattle.dom_file.specs.Heads.{head_of}
 use Rattle.dom_file.specs.Pins.{unit_count}
 use Rattle.dom_file.specs.Pools.{default_pool}
 use Rattle.dom_file.specs.Domains.{domains_in}
-use Rattle.dom_file.specs.Finish.{below, units_at, entry_of, frame_of, params_of, finished_pool, finished_pools, total_units, few_units}
+use Rattle.dom_file.specs.Finish.{number_below, unit_count_at, entry_of, frame_of, params_of, finished_pool, finished_pools, total_units, few_units}
 use Rattle.dom_file.specs.Configs.{tables_of, pool_tables_in, domain_tables_in, all_pools, config_of}
 use Rattle.dom_file.proofs.Passed.{bind_ok, at_ok, kept, ok_is, absent_or_ok, array_ok, Pairs, each_ok, length-Pairs, get-Pairs, one_core}
 use Rattle.dom_file.proofs.CheckedPools.{IsCheckedHead, head_ok, IsFrameDraft, DraftPasses, IsPoolDraft, ArePoolDrafts, pools_ok, default_pool_ok}
@@ -66,7 +66,7 @@ few_units_ok g domains few e = leb-true (total_units g domains) 256 (kept (leb (
 
 -- ---- frames
 
-below_ok : (count : ℕ) (z : ℤ) (n : ℕ) → below count z ≡ Ok n → n < count
+below_ok : (count : ℕ) (z : ℤ) (n : ℕ) → number_below count z ≡ Ok n → n < count
 below_ok count (pos m) n e = let k = kept (ltb m count) m n (Range (pos m)) e in subst (λ n. n < count) k.1 (ltb-true m count k.0)
 below_ok count (negsuc m) n e = absurd cc
 
@@ -88,12 +88,12 @@ IsEntryOf config draft entry = (entry.run ≡ draft.run) × HasUnit config entry
 
 entry_ok : (config : Config) → IsGranularity config.granularity → (draft : EntryDraft) (entry : FrameEntry) → entry_of config.granularity config.domains draft ≡ Ok entry → IsEntryOf config draft entry
 entry_ok config gran draft entry e =
-    let s0 = bind_ok (below (length config.domains) draft.dom) (λ dom. below (units_at config.granularity config.domains dom) draft.unit >>= λ unit. Ok (record { dom = domain_number dom; unit = unit; run = draft.run })) entry e in
+    let s0 = bind_ok (number_below (length config.domains) draft.dom) (λ dom. number_below (unit_count_at config.granularity config.domains dom) draft.unit >>= λ unit. Ok (record { dom = domain_number dom; unit = unit; run = draft.run })) entry e in
     let dom = s0.0 in
-    let s1 = bind_ok (below (units_at config.granularity config.domains dom) draft.unit) (λ unit. Ok (record { dom = domain_number dom; unit = unit; run = draft.run })) entry s0.2 in
+    let s1 = bind_ok (number_below (unit_count_at config.granularity config.domains dom) draft.unit) (λ unit. Ok (record { dom = domain_number dom; unit = unit; run = draft.run })) entry s0.2 in
     let unit = s1.0 in
     let made : FrameEntry = record { dom = domain_number dom; unit = unit; run = draft.run } in
-    let inside = below_ok (units_at config.granularity config.domains dom) draft.unit unit s1.1 in
+    let inside = below_ok (unit_count_at config.granularity config.domains dom) draft.unit unit s1.1 in
     subst (IsEntryOf config draft) (ok_is DomCause made entry s1.2) (refl, unit_is_there config.granularity dom unit config.domains (slice_get config.domains dom) gran refl inside)
 
 runs-Pairs : (config : Config) (ds : List EntryDraft) (es : List FrameEntry) → Pairs (IsEntryOf config) ds es → sum_by (λ (e : FrameEntry). e.run.0) es ≡ sum_by (λ (e : EntryDraft). e.run.0) ds

@@ -24,7 +24,7 @@ use Rattle.dom_file.specs.declared.fault.DomCause.TheVariants.{Range, Twice, NoS
 use Rattle.dom_file.specs.declared.fault.DomFault.{DomFault}
 use Rattle.dom_file.specs.declared.head.Head.{Head}
 use Rattle.dom_file.specs.Steps.{◌>>=◌, at, each}
-use Rattle.dom_file.specs.Values.{required, number_of, number_or, array_of, name_of}
+use Rattle.dom_file.specs.Values.{required_value, number_of, number_or, array_of, name_of}
 use Rattle.dom_file.specs.Keys.{only_known}
 use Rattle.dom_file.specs.Cores.{cores_of}
 use Rattle.dom_file.specs.Guests.{span_of, script_of, scripts_of}
@@ -63,7 +63,7 @@ script_ok d script e =
 
 scripts_ok : (table : Members) (guests : List (List Span)) → scripts_of table ≡ Ok guests → IsWithin 1 32 (length guests) × AllByRecursion IsCheckedScript guests
 scripts_ok table guests e =
-    let s0 = bind_ok (required table (codes "guests")) (λ d. array_of 1 32 d >>= λ ds. each script_of ds) guests e in
+    let s0 = bind_ok (required_value table (codes "guests")) (λ d. array_of 1 32 d >>= λ ds. each script_of ds) guests e in
     let d = s0.0 in
     let s1 = bind_ok (array_of 1 32 d) (λ ds. each script_of ds) guests s0.2 in
     let ds = s1.0 in
@@ -178,7 +178,7 @@ record IsNextDomain (head : Head) (pools : List PoolDraft) (domains : List DomCo
 
 domain_name_ok : (domains : List DomConfig) (table : Members) (name : List ℕ) → domain_name_in domains table ≡ Ok name → (is_name name ≡ true) × (has_name domains name ≡ false)
 domain_name_ok domains table name e =
-    let s0 = bind_ok (required table (codes "name")) (λ d. name_of d >>= λ n. cond (has_name domains n) (Err Twice) (Ok n)) name e in
+    let s0 = bind_ok (required_value table (codes "name")) (λ d. name_of d >>= λ n. cond (has_name domains n) (Err Twice) (Ok n)) name e in
     let d = s0.0 in
     let s1 = bind_ok (name_of d) (λ n. cond (has_name domains n) (Err Twice) (Ok n)) name s0.2 in
     let n = s1.0 in

@@ -25,7 +25,7 @@ use Rattle.dom_file.specs.declared.fault.DomFault.{DomFault}
 use Rattle.dom_file.specs.declared.fault.DomFault.TheVariants.{Bad}
 use Rattle.dom_file.specs.declared.head.Head.{Head}
 use Rattle.dom_file.specs.Steps.{◌>>=◌, at, each}
-use Rattle.dom_file.specs.Values.{required, integer_of, number_of, number_or, elements_of, array_of, name_of}
+use Rattle.dom_file.specs.Values.{required_value, integer_of, number_of, number_or, elements_of, array_of, name_of}
 use Rattle.dom_file.specs.Keys.{only_known}
 use Rattle.dom_file.specs.Heads.{top_keys, format_in, granularity_in, processors_in, horizon_in, head_of}
 use Rattle.dom_file.specs.Cores.{with_cores, is_taken, core_of, cores_of}
@@ -58,7 +58,7 @@ granularity_ok table g e =
 
 processors_ok : (g : ℕ) (table : Members) (p : ℕ) → processors_in g table ≡ Ok p → IsWithin 1 64 p × (p % g ≡ 0)
 processors_ok g table p e =
-    let s0 = bind_ok (required table (codes "processors")) (λ d. number_of 1 64 d >>= λ p0. cond (eqb (p0 % g) 0) (Ok p0) (Err (Range (pos p0)))) p e in
+    let s0 = bind_ok (required_value table (codes "processors")) (λ d. number_of 1 64 d >>= λ p0. cond (eqb (p0 % g) 0) (Ok p0) (Err (Range (pos p0)))) p e in
     let d = s0.0 in
     let s1 = bind_ok (number_of 1 64 d) (λ p0. cond (eqb (p0 % g) 0) (Ok p0) (Err (Range (pos p0)))) p s0.2 in
     let p0 = s1.0 in
@@ -67,7 +67,7 @@ processors_ok g table p e =
 
 horizon_ok : (table : Members) (m : Moment) → horizon_in table ≡ Ok m → IsWithin 1 most_span m.0
 horizon_ok table m e =
-    let s0 = bind_ok (required table (codes "horizon_ns")) (λ d. number_of 1 most_span d >>= λ t. Ok (moment t)) m e in
+    let s0 = bind_ok (required_value table (codes "horizon_ns")) (λ d. number_of 1 most_span d >>= λ t. Ok (moment t)) m e in
     let d = s0.0 in
     let s1 = bind_ok (number_of 1 most_span d) (λ t. Ok (moment t)) m s0.2 in
     let t = s1.0 in
@@ -144,7 +144,7 @@ few_cores_ok kinds.Null cores set e = (ok_is DomCause cores set e, λ other. abs
 
 cpus_ok : (head : Head) (pools : List PoolDraft) (kind : SchedKind) (table : Members) → IsCheckedHead head → (set : ℕ) → cpus_in head pools kind table ≡ Ok set → AreFreeCores head pools set × (kind ≡ kinds.Arinc653 → count_ones set ≤ 1)
 cpus_ok head pools kind table checked set e =
-    let s0 = bind_ok (required table (codes "cpus")) (λ d. elements_of d >>= λ ds. cores_of head pools ds >>= λ cores. few_cores kind cores) set e in
+    let s0 = bind_ok (required_value table (codes "cpus")) (λ d. elements_of d >>= λ ds. cores_of head pools ds >>= λ cores. few_cores kind cores) set e in
     let d = s0.0 in
     let s1 = bind_ok (elements_of d) (λ ds. cores_of head pools ds >>= λ cores. few_cores kind cores) set s0.2 in
     let ds = s1.0 in
@@ -198,7 +198,7 @@ entries_ok major d entries e =
     subst (AreEntries major) k.1 (record { least = omega (arith, count.least, same); most = omega (arith, count.most, same) }, all-Pairs R (λ (e : EntryDraft). IsWithin 1 most_span e.run.0) (λ d entry r. r) ds made pairs, leb-true (run_sum made) major k.0)
 
 frame_entries_ok : (major : ℕ) (table : Members) (entries : List EntryDraft) → frame_entries_in major table ≡ Ok entries → AreEntries major entries
-frame_entries_ok major table entries e = let s = bind_ok (required table (codes "frame")) (entries_of major) entries e in entries_ok major s.0 entries s.2
+frame_entries_ok major table entries e = let s = bind_ok (required_value table (codes "frame")) (entries_of major) entries e in entries_ok major s.0 entries s.2
 
 frame_with_ok : (i : ℕ) (d : Data) (table : Members) (frame : Option FrameDraft) → frame_with i d table ≡ Ok frame → IfSome frame IsFrameDraft
 frame_with_ok i d table frame e =
@@ -268,7 +268,7 @@ record IsNextPool (head : Head) (pools : List PoolDraft) (pool : PoolDraft) : Ty
 
 pool_name_ok : (pools : List PoolDraft) (table : Members) (name : List ℕ) → pool_name_in pools table ≡ Ok name → (is_name name ≡ true) × (is_named pools name ≡ false)
 pool_name_ok pools table name e =
-    let s0 = bind_ok (required table (codes "name")) (λ d. name_of d >>= λ n. cond (is_named pools n) (Err Twice) (Ok n)) name e in
+    let s0 = bind_ok (required_value table (codes "name")) (λ d. name_of d >>= λ n. cond (is_named pools n) (Err Twice) (Ok n)) name e in
     let d = s0.0 in
     let s1 = bind_ok (name_of d) (λ n. cond (is_named pools n) (Err Twice) (Ok n)) name s0.2 in
     let n = s1.0 in

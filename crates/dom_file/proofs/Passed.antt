@@ -18,7 +18,7 @@ use Rattle.dom_file.specs.declared.fault.TableName.{TableName}
 use Rattle.dom_file.specs.declared.fault.DomCause.{DomCause}
 use Rattle.dom_file.specs.declared.fault.DomCause.TheVariants.{Range, Kind}
 use Rattle.dom_file.specs.Steps.{◌>>=◌, at, each}
-use Rattle.dom_file.specs.Values.{of_kind, within, number_of, number_or, elements_of, array_of, text_of, name_of}
+use Rattle.dom_file.specs.Values.{of_kind, number_within, number_of, number_or, elements_of, array_of, text_of, name_of}
 use Rattle.dom_file.specs.Cores.{with_cores}
 
 -- ---- steps
@@ -62,7 +62,7 @@ absent_or_ok P (Some d) default check x absent present e = present d e
 
 -- ---- numbers
 
-within_ok : (low high : ℕ) (z : ℤ) (n : ℕ) → within low high z ≡ Ok n → IsWithin low high n
+within_ok : (low high : ℕ) (z : ℤ) (n : ℕ) → number_within low high z ≡ Ok n → IsWithin low high n
 within_ok low high (pos m) n e =
     let k = kept (leb low m && leb m high) m n (Range (pos m)) e in
     let both = and_parts (leb low m) (leb m high) k.0 in
@@ -70,7 +70,7 @@ within_ok low high (pos m) n e =
 within_ok low high (negsuc m) n e = absurd cc
 
 pub number_ok : (low high : ℕ) (d : Data) (n : ℕ) → number_of low high d ≡ Ok n → IsWithin low high n
-number_ok low high d n e = let s = bind_ok (of_kind (as_integer d)) (within low high) n e in within_ok low high s.0 n s.2
+number_ok low high d n e = let s = bind_ok (of_kind (as_integer d)) (number_within low high) n e in within_ok low high s.0 n s.2
 
 pub number_or_ok : (key : List ℕ) (default low high : ℕ) (table : Members) (n : ℕ) → IsWithin low high default → number_or key default low high table ≡ Ok n → IsWithin low high n
 number_or_ok key default low high table n inside e = absent_or_ok (IsWithin low high) (get_member key table) default (number_of low high) n inside (λ d. number_ok low high d n) e

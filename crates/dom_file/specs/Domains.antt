@@ -17,7 +17,7 @@ use Rattle.dom_file.specs.declared.fault.DomCause.TheVariants.{Twice, NoSuch, Em
 use Rattle.dom_file.specs.declared.fault.DomFault.{DomFault}
 use Rattle.dom_file.specs.declared.head.Head.{Head}
 use Rattle.dom_file.specs.Steps.{◌>>=◌, at}
-use Rattle.dom_file.specs.Values.{required, name_of, truth_of, number_or}
+use Rattle.dom_file.specs.Values.{required_value, name_of, truth_of, number_or}
 use Rattle.dom_file.specs.Keys.{only_known}
 use Rattle.dom_file.specs.Guests.{scripts_of}
 use Rattle.dom_file.specs.Pins.{unit_count, pins_in}
@@ -29,7 +29,7 @@ has_name domains name = list_any (λ d. bytes_eq d.name name) domains
 -- a name that none of the earlier domains has
 abbrev pub domain_name_in : List DomConfig → Members → Result (List ℕ) DomCause
 domain_name_in domains table = do
-  d ← required table (codes "name")
+  d ← required_value table (codes "name")
   name ← name_of d
   if has_name domains name then Err Twice else Ok name
 

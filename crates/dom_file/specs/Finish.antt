@@ -21,19 +21,19 @@ use Rattle.dom_file.specs.Steps.{◌>>=◌, at, each}
 use Rattle.dom_file.specs.Pins.{unit_count}
 
 -- the number, where it is one of so many from 0
-abbrev pub below : ℕ → ℤ → Result ℕ DomCause
-below count (pos n) = if nat_lt n count then Ok n else Err (Range (pos n))
-below count (negsuc n) = Err (Range (negsuc n))
+abbrev pub number_below : ℕ → ℤ → Result ℕ DomCause
+number_below count (pos n) = if nat_lt n count then Ok n else Err (Range (pos n))
+number_below count (negsuc n) = Err (Range (negsuc n))
 
 -- how many units the domain with this number has
-abbrev pub units_at : ℕ → List DomConfig → ℕ → ℕ
-units_at g domains n = elim (slice_get domains n) [ None ↦ 0 | Some d ↦ unit_count g (length d.guests) ]
+abbrev pub unit_count_at : ℕ → List DomConfig → ℕ → ℕ
+unit_count_at g domains n = elim (slice_get domains n) [ None ↦ 0 | Some d ↦ unit_count g (length d.guests) ]
 
 -- an entry of a frame names a domain and a unit that are there
 abbrev pub entry_of : ℕ → List DomConfig → EntryDraft → Result FrameEntry DomCause
 entry_of g domains e = do
-  dom ← below (length domains) e.dom
-  unit ← below (units_at g domains dom) e.unit
+  dom ← number_below (length domains) e.dom
+  unit ← number_below (unit_count_at g domains dom) e.unit
   Ok (record { dom = domain dom; unit = unit; run = e.run })
 
 -- a frame whose entries are all there

@@ -12,7 +12,7 @@ use Rattle.dom_file.specs.declared.fault.DomCause.TheVariants.{Missing, Range}
 use Rattle.dom_file.specs.declared.fault.DomFault.{DomFault}
 use Rattle.dom_file.specs.declared.fault.DomFault.TheVariants.{Bad}
 use Rattle.dom_file.specs.Steps.{◌>>=◌, at, each}
-use Rattle.dom_file.specs.Values.{required, integer_of, number_of, elements_of, array_of}
+use Rattle.dom_file.specs.Values.{required_value, integer_of, number_of, elements_of, array_of}
 
 -- an entry is three numbers: a domain, a unit and a run; whether the first two are there is asked later
 abbrev pub entry_in : List Data → Result EntryDraft DomCause
@@ -36,7 +36,7 @@ entries_of major d = do
 
 -- the entries at the key `frame`, which has to be there
 abbrev pub frame_entries_in : ℕ → Members → Result (List EntryDraft) DomCause
-frame_entries_in major table = required table (codes "frame") >>= entries_of major
+frame_entries_in major table = required_value table (codes "frame") >>= entries_of major
 
 -- a frame with this major span
 abbrev pub frame_with : ℕ → Data → Members → Result (Option FrameDraft) DomFault

@@ -7,7 +7,7 @@ use Rattle.toml.specs.Data.{Data, Members}
 use Rattle.dom_file.specs.declared.fault.DomCause.{DomCause}
 use Rattle.dom_file.specs.declared.fault.DomCause.TheVariants.{Range}
 use Rattle.dom_file.specs.Steps.{◌>>=◌, each}
-use Rattle.dom_file.specs.Values.{required, number_of, array_of}
+use Rattle.dom_file.specs.Values.{required_value, number_of, array_of}
 
 -- a run or a sleep
 abbrev pub span_of : Data → Result Span DomCause
@@ -22,6 +22,6 @@ script_of d = do
 -- the scripts of 1 to 32 vCPUs
 abbrev pub scripts_of : Members → Result (List (List Span)) DomCause
 scripts_of table = do
-  d ← required table (codes "guests")
+  d ← required_value table (codes "guests")
   ds ← array_of 1 32 d
   each script_of ds

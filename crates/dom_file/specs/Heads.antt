@@ -10,7 +10,7 @@ use Rattle.dom_file.specs.declared.fault.DomCause.TheVariants.{Range}
 use Rattle.dom_file.specs.declared.fault.DomFault.{DomFault}
 use Rattle.dom_file.specs.declared.head.Head.{Head}
 use Rattle.dom_file.specs.Steps.{◌>>=◌, at}
-use Rattle.dom_file.specs.Values.{required, number_of, number_or}
+use Rattle.dom_file.specs.Values.{required_value, number_of, number_or}
 use Rattle.dom_file.specs.Keys.{only_known}
 
 -- all keys of the top table
@@ -19,7 +19,7 @@ top_keys = codes "format" ∷ codes "granularity" ∷ codes "processors" ∷ cod
 
 -- 1, or 2 for a file that may pin units to cores
 abbrev pub format_in : Members → Result ℕ DomCause
-format_in table = required table (codes "format") >>= number_of 1 2
+format_in table = required_value table (codes "format") >>= number_of 1 2
 
 -- a core has 1, 2 or 4 processors, and 1 where the file does not say
 abbrev pub granularity_in : Members → Result ℕ DomCause
@@ -30,14 +30,14 @@ granularity_in table = do
 -- 1 to 64 processors, that fill cores of g processors
 abbrev pub processors_in : ℕ → Members → Result ℕ DomCause
 processors_in g table = do
-  d ← required table (codes "processors")
+  d ← required_value table (codes "processors")
   p ← number_of 1 64 d
   if p % g == 0 then Ok p else Err (Range (pos p))
 
 -- the last moment of the run
 abbrev pub horizon_in : Members → Result Moment DomCause
 horizon_in table = do
-  d ← required table (codes "horizon_ns")
+  d ← required_value table (codes "horizon_ns")
   t ← number_of 1 most_span d
   Ok (moment t)
 

@@ -14,7 +14,7 @@ use Rattle.dom_file.specs.declared.fault.DomCause.TheVariants.{Twice, NoSuch, Ra
 use Rattle.dom_file.specs.declared.fault.DomFault.{DomFault}
 use Rattle.dom_file.specs.declared.head.Head.{Head}
 use Rattle.dom_file.specs.Steps.{◌>>=◌, at}
-use Rattle.dom_file.specs.Values.{required, name_of, text_of, elements_of, number_or}
+use Rattle.dom_file.specs.Values.{required_value, name_of, text_of, elements_of, number_or}
 use Rattle.dom_file.specs.Keys.{only_known}
 use Rattle.dom_file.specs.Cores.{cores_of, all_cores}
 use Rattle.dom_file.specs.Frames.{frame_in}
@@ -26,7 +26,7 @@ is_named pools name = list_any (λ pool. bytes_eq pool.name name) pools
 -- a name that none of the earlier pools has
 abbrev pub pool_name_in : List PoolDraft → Members → Result (List ℕ) DomCause
 pool_name_in pools table = do
-  d ← required table (codes "name")
+  d ← required_value table (codes "name")
   name ← name_of d
   if is_named pools name then Err Twice else Ok name
 
@@ -51,7 +51,7 @@ few_cores kind cores = Ok cores
 -- the pool's cores, of which no earlier pool has any
 abbrev pub cpus_in : Head → List PoolDraft → SchedKind → Members → Result ℕ DomCause
 cpus_in head pools kind table = do
-  d ← required table (codes "cpus")
+  d ← required_value table (codes "cpus")
   ds ← elements_of d
   cores ← cores_of head pools ds
   few_cores kind cores

@@ -12,8 +12,8 @@ of_kind None = Err Kind
 of_kind (Some x) = Ok x
 
 -- the value at a key that has to be there
-abbrev pub required : Members → List ℕ → Result Data DomCause
-required table key = elim (get_member key table) [ None ↦ Err Missing | Some d ↦ Ok d ]
+abbrev pub required_value : Members → List ℕ → Result Data DomCause
+required_value table key = elim (get_member key table) [ None ↦ Err Missing | Some d ↦ Ok d ]
 
 -- an integer of any size
 abbrev pub integer_of : Data → Result ℤ DomCause
@@ -49,13 +49,13 @@ array_of low high d = do
   if nat_le low (length ds) && nat_le (length ds) high then Ok ds else Err (Range (pos (length ds)))
 
 -- the number, where it is from low to high
-abbrev pub within : ℕ → ℕ → ℤ → Result ℕ DomCause
-within low high (pos n) = if nat_le low n && nat_le n high then Ok n else Err (Range (pos n))
-within low high (negsuc n) = Err (Range (negsuc n))
+abbrev pub number_within : ℕ → ℕ → ℤ → Result ℕ DomCause
+number_within low high (pos n) = if nat_le low n && nat_le n high then Ok n else Err (Range (pos n))
+number_within low high (negsuc n) = Err (Range (negsuc n))
 
 -- a number from low to high
 abbrev pub number_of : ℕ → ℕ → Data → Result ℕ DomCause
-number_of low high d = integer_of d >>= within low high
+number_of low high d = integer_of d >>= number_within low high
 
 -- the number from low to high at a key, or the default where the key is not there
 abbrev pub number_or : List ℕ → ℕ → ℕ → ℕ → Members → Result ℕ DomCause

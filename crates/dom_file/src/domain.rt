@@ -228,7 +228,8 @@ pub(crate) fn domains(
     requires head { IsHead head.now }
     requires few_pools { length pools.now ≤ 16 }
     requires few_domains { length tables.now ≤ 64 }
-    ensures value { GivesBy (λ v. v.items) result (domains_in head.now pools.now [] (map (λ t. table_view t.now) tables.now)) }
+    ensures value { GivesBy (λ v. v.items) result
+        (domains_in head.now pools.now [] (map (λ t. table_view t.now) tables.now)) }
     ensures count { IfOk result (λ v. length v.items ≡ length tables.now) }
     ensures guests { IfOk result (λ v. All (λ d. length d.guests ≤ 32) v.items) }
 {

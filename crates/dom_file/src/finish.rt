@@ -4,7 +4,7 @@ ghost use Rattle.std.specs.Prelude.{◌≡◌, ◌≤◌, ◌*◌, [], length, I
 ghost use Rattle.std.specs.List.{All};
 ghost use Rattle.sched_model.specs.Checked.{IsWithin};
 ghost use Rattle.dom_file.specs.Steps.{Gives, GivesBy, each};
-ghost use Rattle.dom_file.specs.Finish.{below as below_of, entry_of, few_units as few_units_of, finished_pool, finished_pools, frame_of, params_of, total_units, units_at as units_at_of};
+ghost use Rattle.dom_file.specs.Finish.{number_below as below_of, entry_of, few_units as few_units_of, finished_pool, finished_pools, frame_of, params_of, total_units, unit_count_at as unit_count_of};
 
 use crate::draft::{EntryDraft, FrameDraft, ParamsDraft, PoolDraft};
 use crate::fault::{DomCause, DomFault, TableName};
@@ -27,10 +27,10 @@ fn below(count: usize, number: i64) -> Result<usize, DomCause>
 }
 
 /// How many units the domain with this number has; none where there is no such domain.
-fn units_at(granularity: u8, domains: &[DomConfig], n: usize) -> usize
+fn unit_count_at(granularity: u8, domains: &[DomConfig], n: usize) -> usize
     requires granularity { IsWithin 1 4 granularity }
     requires guests { All (λ d. length d.guests ≤ 32) domains.now }
-    ensures value { result ≡ units_at_of granularity domains.now n }
+    ensures value { result ≡ unit_count_of granularity domains.now n }
     ensures few { result ≤ 32 }
 {
     if n < domains.len() {
@@ -47,7 +47,7 @@ fn entry(granularity: u8, domains: &[DomConfig], draft: &EntryDraft) -> Result<F
     ensures { result ≡ entry_of granularity domains.now draft.now }
 {
     let dom = below(domains.len(), draft.dom)?;
-    let unit = below(units_at(granularity, domains, dom), draft.unit)?;
+    let unit = below(unit_count_at(granularity, domains, dom), draft.unit)?;
     Ok(FrameEntry {
         dom: DomId(dom as u8),
         unit: unit as u8,

@@ -64,7 +64,8 @@ fn all_scripts(alloc: Global, table: &Table) -> Result<Scripts, Stop>
 
 /// The scripts of the domain with this number: 1 to 32.
 pub(crate) fn guests(alloc: Global, index: u32, table: &Table) -> Result<Scripts, DomFault>
-    ensures value { Gives result (at Domain index (codes "guests") (scripts_of (table_view table.now))) }
+    ensures value { Gives result (at Domain index (codes "guests")
+        (scripts_of (table_view table.now))) }
     ensures count { IfOk result (λ s. length s ≤ 32) }
 {
     placed_or_stopped(

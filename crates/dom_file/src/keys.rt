@@ -20,7 +20,8 @@ fn is_among(key: &str, keys: &[&str]) -> bool
 
 /// The first key of the table, in byte order, that is none of these keys.
 pub(crate) fn first_unknown<'a>(table: &'a Table, keys: &[&str]) -> Option<&'a str>
-    ensures { option_map (λ k. k.now) result ≡ first_unknown_of (map (λ k. k.now) keys.now) (table_view table.now) }
+    ensures { option_map (λ k. k.now) result
+        ≡ first_unknown_of (map (λ k. k.now) keys.now) (table_view table.now) }
 {
     for key in table.keys() {
         if !is_among(key.as_str(), keys) {
@@ -38,7 +39,8 @@ pub(crate) fn only_known(
     keys: &[&str],
     table: &Table,
 ) -> Result<(), DomFault>
-    ensures { Gives result (only_known_of name index (map (λ k. k.now) keys.now) (table_view table.now)) }
+    ensures { Gives result (only_known_of name index (map (λ k. k.now) keys.now)
+        (table_view table.now)) }
 {
     match first_unknown(table, keys) {
         Some(key) => Err(fault_at(alloc, name, index, key, DomCause::Unknown)),

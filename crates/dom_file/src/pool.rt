@@ -182,7 +182,8 @@ pub(crate) fn pools(
 ) -> Result<Vec<PoolDraft>, DomFault>
     requires head { IsHead head.now }
     requires few { length tables.now ≤ 16 }
-    ensures value { GivesBy (λ v. v.items) result (pools_in head.now [] (map (λ t. table_view t.now) tables.now)) }
+    ensures value { GivesBy (λ v. v.items) result
+        (pools_in head.now [] (map (λ t. table_view t.now) tables.now)) }
     ensures count { IfOk result (λ v. length v.items ≡ length tables.now) }
 {
     let mut pools = Vec::new(alloc);

@@ -25,7 +25,8 @@ use std::alloc::Global;
 use toml::{Table, Value};
 
 fn each_table(alloc: Global, values: &[Value]) -> Result<Vec<&Table>, Stop>
-    ensures value { Stops (λ v. map (λ t. table_view t.now) v.items) result (each table_of (map view values.now)) }
+    ensures value { Stops (λ v. map (λ t. table_view t.now) v.items) result
+        (each table_of (map view values.now)) }
     ensures count { IfOk result (λ v. length v.items ≡ length values.now) }
 {
     let mut tables = Vec::new(alloc);
@@ -37,14 +38,16 @@ fn each_table(alloc: Global, values: &[Value]) -> Result<Vec<&Table>, Stop>
 
 /// The tables of an array that has at least `low` and at most `high`.
 fn tables(alloc: Global, value: &Value, low: usize, high: usize) -> Result<Vec<&Table>, Stop>
-    ensures value { Stops (λ v. map (λ t. table_view t.now) v.items) result (tables_of low high (view value.now)) }
+    ensures value { Stops (λ v. map (λ t. table_view t.now) v.items) result
+        (tables_of low high (view value.now)) }
     ensures count { IfOk result (λ v. IsWithin low high (length v.items)) }
 {
     each_table(alloc, array(value, low, high)?)
 }
 
 fn pool_tables(alloc: Global, table: &Table) -> Result<Option<Vec<&Table>>, Stop>
-    ensures value { Stops (λ o. option_map (λ v. map (λ t. table_view t.now) v.items) o) result (pool_tables_in (table_view table.now)) }
+    ensures value { Stops (λ o. option_map (λ v. map (λ t. table_view t.now) v.items) o) result
+        (pool_tables_in (table_view table.now)) }
     ensures count { IfOk result (λ o. IfSome o (λ v. length v.items ≤ 16)) }
 {
     match value_at(table, "pool") {
@@ -54,7 +57,8 @@ fn pool_tables(alloc: Global, table: &Table) -> Result<Option<Vec<&Table>>, Stop
 }
 
 fn domain_tables(alloc: Global, table: &Table) -> Result<Vec<&Table>, Stop>
-    ensures value { Stops (λ v. map (λ t. table_view t.now) v.items) result (domain_tables_in (table_view table.now)) }
+    ensures value { Stops (λ v. map (λ t. table_view t.now) v.items) result
+        (domain_tables_in (table_view table.now)) }
     ensures count { IfOk result (λ v. length v.items ≤ 64) }
 {
     match value_at(table, "domain") {
@@ -64,14 +68,16 @@ fn domain_tables(alloc: Global, table: &Table) -> Result<Vec<&Table>, Stop>
 }
 
 fn placed_pool_tables(alloc: Global, table: &Table) -> Result<Option<Vec<&Table>>, DomFault>
-    ensures value { GivesBy (λ o. option_map (λ v. map (λ t. table_view t.now) v.items) o) result (at Top 0 (codes "pool") (pool_tables_in (table_view table.now))) }
+    ensures value { GivesBy (λ o. option_map (λ v. map (λ t. table_view t.now) v.items) o) result
+        (at Top 0 (codes "pool") (pool_tables_in (table_view table.now))) }
     ensures count { IfOk result (λ o. IfSome o (λ v. length v.items ≤ 16)) }
 {
     placed_or_stopped(alloc, TableName::Top, 0, "pool", pool_tables(alloc, table))
 }
 
 fn placed_domain_tables(alloc: Global, table: &Table) -> Result<Vec<&Table>, DomFault>
-    ensures value { GivesBy (λ v. map (λ t. table_view t.now) v.items) result (at Top 0 (codes "domain") (domain_tables_in (table_view table.now))) }
+    ensures value { GivesBy (λ v. map (λ t. table_view t.now) v.items) result
+        (at Top 0 (codes "domain") (domain_tables_in (table_view table.now))) }
     ensures count { IfOk result (λ v. length v.items ≤ 64) }
 {
     placed_or_stopped(
@@ -91,7 +97,8 @@ fn all_pools(
 ) -> Result<Vec<PoolDraft>, DomFault>
     requires head { IsHead head.now }
     requires few { IfSome tables.now (λ v. length v.items ≤ 16) }
-    ensures value { GivesBy (λ v. v.items) result (all_pools_of head.now (option_map (λ v. map (λ t. table_view t.now) v.items) tables.now)) }
+    ensures value { GivesBy (λ v. v.items) result
+        (all_pools_of head.now (option_map (λ v. map (λ t. table_view t.now) v.items) tables.now)) }
     ensures count { IfOk result (λ v. length v.items ≤ 16) }
 {
     match tables {
@@ -110,7 +117,9 @@ fn machine(
     requires head { IsHead head.now }
     requires few_pools { IfSome pool_tables.now (λ v. length v.items ≤ 16) }
     requires few_domains { length domain_tables.now ≤ 64 }
-    ensures { Gives result (machine_from head.now (option_map (λ v. map (λ t. table_view t.now) v.items) pool_tables.now) (map (λ t. table_view t.now) domain_tables.now)) }
+    ensures { Gives result (machine_from head.now
+        (option_map (λ v. map (λ t. table_view t.now) v.items) pool_tables.now)
+        (map (λ t. table_view t.now) domain_tables.now)) }
 {
     let drafts = all_pools(alloc, head, pool_tables)?;
     let domains = domains(alloc, head, &drafts, domain_tables)?;
@@ -139,7 +148,8 @@ fn config(alloc: Global, table: &Table) -> Result<Config, DomFault>
 
 /// The table that the bytes spell.
 fn document(alloc: Global, bytes: &[u8]) -> Result<Table, DomFault>
-    ensures { MatchResult result (λ table. document_of bytes.now ≡ Some (table_view table)) (IsNoTable bytes.now) }
+    ensures { MatchResult result (λ table. document_of bytes.now ≡ Some (table_view table))
+        (IsNoTable bytes.now) }
 {
     match toml::table_from_slice(alloc, bytes) {
         Ok(table) => Ok(table),

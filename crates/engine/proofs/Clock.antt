@@ -1,4 +1,4 @@
--- An action leaves the moment as it was, and leads where the definitions say.
+-- Where an action leads, as the definitions say.
 use Rattle.std.proofs.Common.{◌≡◌, ◌∙◌, ℕ, true, ap, ap₂}
 use Rattle.std.specs.Prelude.{Some}
 use Rattle.sched_base.specs.Numbers.{moment}
@@ -10,38 +10,11 @@ use Rattle.sched_model.specs.declared.state.State.{State}
 use Rattle.sched_model.specs.Actions.{candidates}
 use Rattle.sched_model.specs.Machine.{is_enabled, first_enabled, event_of, after}
 use Rattle.sched_model.proofs.RunLemmas.{find_passes}
-use Rattle.sched_laws.proofs.Steps.{IsKeptAt}
-use Rattle.sched_laws.proofs.Free.{free_after}
+use Rattle.sched_laws.proofs.Free.{now_after}
 use Rattle.pool_slots.specs.Told.{Told, told_more}
 use Rattle.pool_slots.specs.Places.{GoesOn, state_of}
 use Rattle.pool_slots.proofs.Going.{entry-is, state-on}
 use Rattle.engine.specs.Standing.{Standing, standing_of}
-
-nothing : (m : Machine) (t : ℕ) → IsKeptAt m t (λ e. Unit {0}) (λ es. Unit {0}) (λ d x. Unit {0}) (λ p. Unit {0}) (λ p. Unit {0})
-nothing m t = record {
-  weakens = λ pool w. tt;
-  settles = λ pool w. tt;
-  stalls = λ p end pool near w. tt;
-  acts = λ pool action on w. tt;
-  leaves = λ r pool w. tt;
-  moves = λ d i pool w. tt;
-  pauses = λ d pool w. tt;
-  unpauses = λ d pool w. tt;
-  changes = λ change pool good w. tt;
-  core_comes = λ r ends pool none good w. tt;
-  rtds = λ period budget extra u pool good w. tt;
-  ends_stall = λ k end ends e es. tt;
-  ends_go = λ r c pool at w. tt;
-  core_goes = λ r pool on w. tt;
-  domain_is = λ d domain pool at w. tt;
-  domain_comes = λ d domain pool stays none comes w. tt;
-  domain_goes = λ d pool on w. tt;
-  domain_leaves = λ d pool null on w. tt;
-  empty = λ kind. tt;
-}
-
-now-after : (m : Machine) (s : State) (action : Action) → (after m s s.now action).now ≡ s.now
-now-after m s action = (free_after m s.now (λ e. Unit {0}) (λ es. Unit {0}) (λ d x. Unit {0}) (λ p. Unit {0}) (λ p. Unit {0}) (nothing m s.now) s action (λ r c at. tt) (λ l is. tt) (λ i pool at. tt)).0
 
 -- where a trail leads with the entry of an action
 module _ (w new : Told) (goes : GoesOn w) (action : Action) (on : is_enabled w.input (state_of w) (state_of w).now action ≡ true) (t : ℕ) (now : t ≡ (state_of w).now) (event : Event) (ev : event ≡ event_of w.input (state_of w) (state_of w).now action) where
@@ -52,7 +25,7 @@ module _ (w new : Told) (goes : GoesOn w) (action : Action) (on : is_enabled w.i
   state-done = state-on w goes action on done (entry-is w action done (ap moment now) ev)
 
   pub now-done : (state_of (told_more w done)).now ≡ (state_of w).now
-  now-done = ap (λ (s : State). s.now) state-done ∙ now-after w.input (state_of w) action
+  now-done = ap (λ (s : State). s.now) state-done ∙ now_after w.input (state_of w) (state_of w).now action
 
   pub standing-done : new ≡ told_more w done → standing_of new ≡ record { machine = w.input; state = after w.input (state_of w) (state_of w).now action }
   standing-done is = ap₂ (λ (m : Machine) (s : State). let x : Standing = record { machine = m; state = s } in x) (ap (λ (x : Told). x.input) is) (ap state_of is ∙ state-done)

@@ -1,7 +1,7 @@
 -- What is kept of each place, taken together.
 use mathlib.Core.Logic.{dite}
 use native.Mathlib.Decide.{ℕ_discrete}
-use Rattle.std.proofs.Common.{◌≡◌, ◌≢◌, ◌≤◌, ◌<◌, ◌∙◌, ℕ, suc, List, length, sym, ap, subst, arith}
+use Rattle.std.proofs.Common.{◌≡◌, ◌≢◌, ◌≤◌, ◌<◌, ◌+◌, ◌-◌, ◌∙◌, ℕ, suc, List, length, take, refl, sym, ap, subst, arith}
 use Rattle.std.proofs.Math.Decide.{dec_le}
 use Rattle.std.proofs.Math.ListN.{get_or-eq_default}
 use Rattle.std.proofs.lemmas.List.{with_items_is}
@@ -13,7 +13,8 @@ use Rattle.sched_model.specs.Places.{at_place}
 use Rattle.pool_core.specs.Seen.{Seen}
 use Rattle.pool_core.specs.Order.{IsFirstEnabled}
 use Rattle.machine_parts.specs.Parts.{AreFirsts}
-use Rattle.engine.specs.Running.{AreKept, IsFirstOfPlace, IsNextOfPlace}
+use Rattle.engine.specs.Running.{AreKept, IsFirstOfPlace, IsIdleFrom, IsNextOfPlace}
+use Rattle.std.proofs.lemmas.List.{get_or-take, length-take-le}
 
 first-some : (t : ℕ) (slot : Option Seen) (first : Option Action) (seen : Seen) → slot ≡ Some seen → IsFirstOfPlace t slot first → IsFirstEnabled seen.granularity t seen.pool first
 first-some t slot first seen is of = subst (λ (o : Option Seen). IsFirstOfPlace t o first) is of
@@ -33,15 +34,6 @@ firsts-all t slots firsts each = record { pool = λ k seen is. first-some t (at_
 -- past the last place there is nothing
 past-slots : (slots : List (Option Seen)) (k : ℕ) → length slots ≤ k → None ≡ at_place slots k
 past-slots slots k high = sym (get_or-eq_default slots None (omega (arith, high)))
-
-pub firsts-below : (t : ℕ) (slots : List (Option Seen)) (firsts : List (Option Action)) → length firsts ≡ length slots → ((k : ℕ) → k < length slots → IsFirstOfPlace t (at_place slots k) (at_place firsts k)) → AreFirsts t slots firsts
-firsts-below t slots firsts count each = firsts-all t slots firsts (λ k. elim (dec_le (suc k) (length slots)) [
-  | yes low ↦ each k low
-  | no high ↦ past k (omega (arith, high))
-])
-  where
-    past : (k : ℕ) → length slots ≤ k → IsFirstOfPlace t (at_place slots k) (at_place firsts k)
-    past k high = subst (λ (o : Option Seen). IsFirstOfPlace t o (at_place firsts k)) (past-slots slots k high) (get_or-eq_default firsts None (omega (arith, high, count)))
 
 pub nexts-below : (slots : List (Option Seen)) (nexts : List (Option Moment)) (If : ℕ → Type 0) → length nexts ≡ length slots → ((k : ℕ) → k < length slots → If k → IsNextOfPlace (at_place slots k) (at_place nexts k))
     → (k : ℕ) → If k → IsNextOfPlace (at_place slots k) (at_place nexts k)
@@ -76,3 +68,35 @@ module _ (t i : ℕ) (old new : List (Option Seen)) (firsts now_firsts : List (O
 -- a vector whose elements are written anew, as many as there were
 pub written : {X Z : Type 0} (v : Vec X Z) (ws : List X) → length ws ≡ length v.items → (with_items v ws).items ≡ ws
 written v ws count = with_items_is v ws (count ∙ sym v.ok.0)
+
+-- from the end on there is nothing
+pub idle-all : (firsts : List (Option Action)) → IsIdleFrom (length firsts) firsts
+idle-all firsts = record { few = omega arith; none = λ k high. get_or-eq_default firsts None (omega (arith, high)) }
+
+-- nor from the place before on, where nothing stands there
+pub idle-less : (busy : ℕ) (firsts : List (Option Action)) → 0 < busy → at_place firsts (busy - 1) ≡ None → IsIdleFrom busy firsts → IsIdleFrom (busy - 1) firsts
+idle-less busy firsts some here idle = record {
+  few = (let f = idle.few in omega (arith, f, some));
+  none = λ k high. dite (ℕ_discrete k (busy - 1))
+      (λ (is : k ≡ busy - 1). ap (at_place firsts) is ∙ here)
+      (λ other. idle.none k (omega (arith, high, some, other)));
+}
+
+-- one place more may have an event
+pub idle-more : (i busy more : ℕ) (firsts now_firsts : List (Option Action)) → i < length firsts → length now_firsts ≡ length firsts → ((k : ℕ) → k ≢ i → at_place now_firsts k ≡ at_place firsts k)
+    → busy ≤ more → i + 1 ≤ more → ((n : ℕ) → busy ≤ n → i + 1 ≤ n → more ≤ n) → IsIdleFrom busy firsts → IsIdleFrom more now_firsts
+idle-more i busy more firsts now_firsts low count same above beyond least idle = record {
+  few = least (length now_firsts) (let f = idle.few in omega (arith, f, count)) (omega (arith, low, count));
+  none = λ k high. same k (λ is. absurd (omega (arith, is, beyond, high))) ∙ idle.none k (omega (arith, above, high));
+}
+
+-- the places up to there have what all have
+pub firsts-taken : (t busy : ℕ) (slots : List (Option Seen)) (firsts : List (Option Action)) → IsIdleFrom busy firsts → AreFirsts t slots firsts → AreFirsts t slots (take busy firsts)
+firsts-taken t busy slots firsts idle are = firsts-all t slots (take busy firsts)
+    (λ k. subst (λ (o : Option Action). IsFirstOfPlace t (at_place slots k) o) (taken k) (first-at t slots firsts are k (at_place slots k) refl))
+  where
+    taken : (k : ℕ) → at_place firsts k ≡ at_place (take busy firsts) k
+    taken k = elim (dec_le (suc k) busy) [
+      | yes low ↦ sym (get_or-take busy firsts k None low)
+      | no high ↦ idle.none k (omega (arith, high)) ∙ sym (get_or-eq_default (take busy firsts) None (let l = length-take-le busy firsts idle.few in omega (arith, high, l)))
+    ]

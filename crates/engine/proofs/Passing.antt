@@ -9,7 +9,7 @@ use Rattle.sched_model.specs.declared.machine.Machine.{Machine}
 use Rattle.sched_model.specs.declared.state.State.{State}
 use Rattle.sched_model.specs.Machine.{first_enabled, next_in_horizon, next_moment}
 use Rattle.sched_model.specs.Places.{at_place}
-use Rattle.sched_model.specs.Runs.{Reached, IsNext, begun, after_entry}
+use Rattle.sched_model.specs.Runs.{Reached, IsNext, run_start, after_entry}
 use Rattle.sched_model.proofs.RunLemmas.{after_entries-append, IsRunFrom-append}
 use Rattle.run_laws.specs.RunLaws.{IsLeastLater, IsNextMoment}
 use Rattle.journal_core.specs.Histories.{reached_by, part_at}
@@ -66,10 +66,10 @@ module _ (w : Told) (goes : GoesOn w) (next : ℕ) (law : IsNextMoment w.input (
   comes-next = subst (λ (r : Reached). IsNext m r e) (sym (leads-to w goes)) (subst (IsNext m (open_at s)) (sym is) (record { goes_on = refl; moment = refl; event = (quiet, comes) }))
 
   leads-on : reached_by m (w.history ++ e ∷ []) ≡ open_at later
-  leads-on = after_entries-append m (begun m) w.history e ∙ ap (λ (r : Reached). after_entry m r e) (leads-to w goes) ∙ ap (after_entry m (open_at s)) is
+  leads-on = after_entries-append m (run_start m) w.history e ∙ ap (λ (r : Reached). after_entry m r e) (leads-to w goes) ∙ ap (after_entry m (open_at s)) is
 
   pub goes-later : GoesOn (told_more w e)
-  goes-later = record { checked = goes.checked; run = IsRunFrom-append m (begun m) w.history e goes.run comes-next; goes = ap (λ (r : Reached). r.over) leads-on }
+  goes-later = record { checked = goes.checked; run = IsRunFrom-append m (run_start m) w.history e goes.run comes-next; goes = ap (λ (r : Reached). r.over) leads-on }
 
   pub state-later : state_of (told_more w e) ≡ later
   state-later = state_of-is (told_more w e) ∙ ap (λ (r : Reached). r.state) leads-on

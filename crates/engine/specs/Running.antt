@@ -1,5 +1,5 @@
 -- What the engine keeps, and that it is of the state that its trail leads to.
-use Rattle.std.specs.Prelude.{ℕ, ◌≡◌, List, Option, None, Some, length}
+use Rattle.std.specs.Prelude.{ℕ, ◌≡◌, ◌≤◌, List, Option, None, Some, length}
 use Rattle.sched_base.specs.declared.Moment.{Moment}
 use Rattle.sched_model.specs.declared.action.Action.{Action}
 use Rattle.sched_model.specs.declared.action.Action.TheVariants.{Stall, Xl, Moved, DomMoved}
@@ -39,6 +39,11 @@ pool_of_event g s Xl = None
 pool_of_event g s (Moved r) = None
 pool_of_event g s (DomMoved d) = None
 pool_of_event g s action = home_of g s action
+
+-- from this place on, which is one of them or the end, no event may come now
+pub record IsIdleFrom (busy : ℕ) (firsts : List (Option Action)) : Type 0 where
+  pub few : busy ≤ length firsts
+  pub none : (k : ℕ) → busy ≤ k → at_place firsts k ≡ None
 
 -- the parts are those of the state that the trail leads to, whose moment is now, and so are the spare pools and what is kept of each pool
 pub record IsRunning (w : Told) (now horizon granularity : ℕ) (slots : List (Option Seen)) (tool : Tool) (shelves : Shelves) (firsts : List (Option Action)) (nexts : List (Option Moment)) : Type 0 where

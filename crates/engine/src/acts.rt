@@ -30,10 +30,13 @@ pub fn act_of_tool(
     requires parts { AreParts at.now slots.old tool.old }
     requires granularity { granularity ≡ at.now.input.config.granularity }
     requires now { t.0 ≡ (state_of at.now).now }
-    requires enabled { is_enabled at.now.input (state_of at.now) (state_of at.now).now action ≡ true }
-    requires first { action ≡ actions.Xl → is_enabled at.now.input (state_of at.now) (state_of at.now).now actions.Stall ≡ false }
+    requires enabled { is_enabled at.now.input (state_of at.now) (state_of at.now).now action
+        ≡ true }
+    requires first { action ≡ actions.Xl →
+        is_enabled at.now.input (state_of at.now) (state_of at.now).now actions.Stall ≡ false }
     requires spares { AreSpares at.now.input t.0 tool.old.part spares.old }
-    requires no_pool { pool_of_event at.now.input.config.granularity (state_of at.now) action ≡ None }
+    requires no_pool { pool_of_event at.now.input.config.granularity (state_of at.now) action
+        ≡ None }
     ensures event { result ≡ event_of at.now.input (state_of at.now) (state_of at.now).now action }
     ensures parts { AreParts (told_event at.now t.0 result) slots.new tool.new }
     ensures spares { AreSpares at.now.input t.0 tool.new.part spares.new }
@@ -41,8 +44,8 @@ pub fn act_of_tool(
     match action {
         Action::Stall => stall(slots, tool, at, granularity, t),
         Action::Xl => command(slots, tool, spares, at, t),
-        Action::Moved(r) => move_core(slots, tool, at, ResId(r), t),
-        Action::DomMoved(d) => move_domain(slots, tool, at, DomId(d), t),
+        Action::Moved(r) => move_core(slots, tool, at, r, t),
+        Action::DomMoved(d) => move_domain(slots, tool, at, d, t),
         _ => unreachable!(),
     }
 }

@@ -1,8 +1,10 @@
 //! The engine: a machine that steps from one entry of its run to the next.
 
+ghost use Rattle.std.specs.Prelude.{ℕ, ◌≤◌};
+
 use crate::acts::act_of_tool;
 use crate::homes::pool_of_event;
-use crate::keeping::{none_times, read_all, read_firsts, read_one};
+use crate::keeping::{busy_places, first_places, none_times, read_all, read_firsts, read_one};
 use cpupool::ToolState;
 use machine_parts::{whole_first, whole_next};
 use parts_opening::{open_slots, open_spares};
@@ -14,6 +16,15 @@ use sched_model::event::{Entry, Event};
 use sched_model::machine::Machine;
 use std::alloc::Global;
 use std::marker::Model;
+
+/// The greater of two numbers.
+fn at_least(a: usize, b: usize) -> usize
+    ensures not_less { a ≤ result }
+    ensures other { b ≤ result }
+    ensures most { (n : ℕ) → a ≤ n → b ≤ n → result ≤ n }
+{
+    if a < b { b } else { a }
+}
 
 /// As many pools as a machine has places for.
 const MOST_POOLS: u8 = 16;
@@ -33,6 +44,7 @@ pub struct Engine {
     spares: Spares,
     firsts: Vec<Option<Action>>,
     nexts: Vec<Option<Moment>>,
+    busy: usize,
 }
 
 impl Model for Engine {
@@ -40,11 +52,12 @@ impl Model for Engine {
 
     ghost Value = { Standing };
 
-    ghost use Rattle.engine.specs.Running.{IsRunning};
+    ghost use Rattle.engine.specs.Running.{IsIdleFrom, IsRunning};
 
     ghost view = { λ e. standing_of e.trail };
 
-    ghost invariant = { λ e. IsRunning e.trail e.moment.0 e.horizon.0 e.granularity e.slots.items e.tool e.spares e.firsts.items e.nexts.items };
+    ghost invariant = { λ e. IsRunning e.trail e.moment.0 e.horizon.0 e.granularity e.slots.items e.tool e.spares e.firsts.items e.nexts.items
+        × IsIdleFrom e.busy e.firsts.items };
 }
 
 impl Engine {
@@ -76,6 +89,7 @@ impl Engine {
             firsts.as_mut_slice(),
             nexts.as_mut_slice(),
         );
+        let busy = busy_places(firsts.as_slice());
         Ok(Engine {
             trail,
             moment: now,
@@ -86,6 +100,7 @@ impl Engine {
             spares,
             firsts,
             nexts,
+            busy,
         })
     }
 
@@ -103,7 +118,7 @@ impl Engine {
         whole_first(
             self.slots.as_slice(),
             &self.tool,
-            self.firsts.as_slice(),
+            first_places(self.firsts.as_slice(), self.busy),
             &self.trail,
             self.moment,
         )
@@ -111,9 +126,12 @@ impl Engine {
 
     /// Does the event of the first action that may come now, and answers it with the fields that its line prints.
     pub fn perform(&mut self, action: Action) -> Event
-        requires { first_enabled_spec self.old.machine self.old.state self.old.state.now ≡ Some action }
-        ensures event { result ≡ event_of self.old.machine self.old.state self.old.state.now action }
-        ensures state { self.new ≡ record self.old { state = after self.old.machine self.old.state self.old.state.now action } }
+        requires { first_enabled_spec self.old.machine self.old.state self.old.state.now
+            ≡ Some action }
+        ensures event { result ≡ event_of self.old.machine self.old.state self.old.state.now
+            action }
+        ensures state { self.new ≡ record self.old
+            { state = after self.old.machine self.old.state self.old.state.now action } }
     {
         match pool_of_event(&self.tool, self.granularity, action) {
             Some(i) => self.perform_in_pool(i.0, action),
@@ -123,10 +141,14 @@ impl Engine {
 
     /// Does the event of an action that may come now, which is one of the pool i.
     fn perform_in_pool(&mut self, i: u8, action: Action) -> Event
-        requires enabled { is_enabled self.old.machine self.old.state self.old.state.now action ≡ true }
-        requires home { pool_of_event_spec self.old.machine.config.granularity self.old.state action ≡ Some i }
-        ensures event { result ≡ event_of self.old.machine self.old.state self.old.state.now action }
-        ensures state { self.new ≡ record self.old { state = after self.old.machine self.old.state self.old.state.now action } }
+        requires enabled { is_enabled self.old.machine self.old.state self.old.state.now action
+            ≡ true }
+        requires home { pool_of_event_spec self.old.machine.config.granularity self.old.state action
+            ≡ Some i }
+        ensures event { result ≡ event_of self.old.machine self.old.state self.old.state.now
+            action }
+        ensures state { self.new ≡ record self.old
+            { state = after self.old.machine self.old.state self.old.state.now action } }
     {
         let event = perform_among(
             self.slots.as_mut_slice(),
@@ -146,16 +168,22 @@ impl Engine {
             self.firsts.as_mut_slice(),
             self.nexts.as_mut_slice(),
         );
+        self.busy = at_least(self.busy, i as usize + 1);
         event
     }
 
     /// The same of an action of the tool; of a command where no stall may come.
     fn perform_by_tool(&mut self, action: Action) -> Event
-        requires enabled { is_enabled self.old.machine self.old.state self.old.state.now action ≡ true }
-        requires no_pool { pool_of_event_spec self.old.machine.config.granularity self.old.state action ≡ None }
-        requires first { action ≡ actions.Xl → is_enabled self.old.machine self.old.state self.old.state.now actions.Stall ≡ false }
-        ensures event { result ≡ event_of self.old.machine self.old.state self.old.state.now action }
-        ensures state { self.new ≡ record self.old { state = after self.old.machine self.old.state self.old.state.now action } }
+        requires enabled { is_enabled self.old.machine self.old.state self.old.state.now action
+            ≡ true }
+        requires no_pool { pool_of_event_spec self.old.machine.config.granularity self.old.state
+            action ≡ None }
+        requires first { action ≡ actions.Xl →
+            is_enabled self.old.machine self.old.state self.old.state.now actions.Stall ≡ false }
+        ensures event { result ≡ event_of self.old.machine self.old.state self.old.state.now
+            action }
+        ensures state { self.new ≡ record self.old
+            { state = after self.old.machine self.old.state self.old.state.now action } }
     {
         let event = act_of_tool(
             self.slots.as_mut_slice(),
@@ -176,6 +204,7 @@ impl Engine {
             self.firsts.as_mut_slice(),
             self.nexts.as_mut_slice(),
         );
+        self.busy = busy_places(self.firsts.as_slice());
         event
     }
 
@@ -196,7 +225,8 @@ impl Engine {
 
     /// Goes on to the next moment, where nothing may come now.
     pub fn pass_to(&mut self, next: Moment)
-        requires nothing { first_enabled_spec self.old.machine self.old.state self.old.state.now ≡ None }
+        requires nothing { first_enabled_spec self.old.machine self.old.state self.old.state.now
+            ≡ None }
         requires next { next_in_horizon self.old.machine self.old.state ≡ Some next.0 }
         ensures { self.new ≡ record self.old { state = record self.old.state { now = next.0 } } }
     {
@@ -207,5 +237,6 @@ impl Engine {
         });
         self.moment = next;
         read_firsts(self.slots.as_slice(), next, self.firsts.as_mut_slice());
+        self.busy = busy_places(self.firsts.as_slice());
     }
 }

@@ -1,9 +1,9 @@
 //! What is kept of each pool, so that only a pool that changed is asked again.
 
-ghost use Rattle.std.specs.Prelude.{◌≡◌, ◌≢◌, ◌<◌, ℕ, None, length, IfOk};
+ghost use Rattle.std.specs.Prelude.{◌≡◌, ◌≢◌, ◌<◌, ◌≤◌, ℕ, None, length, take, IfOk};
 ghost use Rattle.sched_model.specs.Places.{at_place};
 ghost use Rattle.machine_parts.specs.Parts.{AreFirsts};
-ghost use Rattle.engine.specs.Running.{AreKept, IsFirstOfPlace, IsNextOfPlace};
+ghost use Rattle.engine.specs.Running.{AreKept, IsFirstOfPlace, IsIdleFrom, IsNextOfPlace};
 
 use pool_slots::PoolSlot;
 use sched_base::{Moment, NoMemory};
@@ -50,11 +50,35 @@ pub fn read_nexts(slots: &[PoolSlot], firsts: &[Option<Action>], nexts: &mut [Op
     requires firsts { length firsts.now ≡ length slots.now }
     requires nexts { length nexts.old ≡ length slots.now }
     ensures count { length nexts.new ≡ length slots.now }
-    ensures nexts { (k : ℕ) → at_place firsts.now k ≡ None → IsNextOfPlace (at_place slots.now k) (at_place nexts.new k) }
+    ensures nexts { (k : ℕ) → at_place firsts.now k ≡ None →
+        IsNextOfPlace (at_place slots.now k) (at_place nexts.new k) }
 {
     for i in 0..slots.len() {
         nexts[i] = next_of(&slots[i], firsts[i]);
     }
+}
+
+/// How many places there are up to the last one of which an event may come now.
+pub(crate) fn busy_places(firsts: &[Option<Action>]) -> usize
+    ensures { IsIdleFrom result firsts.now }
+{
+    let mut busy = firsts.len();
+    while busy > 0 {
+        let before = busy - 1;
+        if let Some(_action) = firsts[before] {
+            return busy;
+        }
+        busy = before;
+    }
+    0
+}
+
+/// So many of the first places.
+pub(crate) fn first_places(firsts: &[Option<Action>], busy: usize) -> &[Option<Action>]
+    requires { busy ≤ length firsts.now }
+    ensures { result.now ≡ take busy firsts.now }
+{
+    &firsts[..busy]
 }
 
 /// What is kept of all pools, asked at t.
@@ -84,7 +108,8 @@ pub(crate) fn read_one(
     requires firsts { length firsts.old ≡ length slots.now }
     requires nexts { length nexts.old ≡ length slots.now }
     ensures first { IsFirstOfPlace t.0 (at_place slots.now i) (at_place firsts.new i) }
-    ensures next { at_place firsts.new i ≡ None → IsNextOfPlace (at_place slots.now i) (at_place nexts.new i) }
+    ensures next { at_place firsts.new i ≡ None →
+        IsNextOfPlace (at_place slots.now i) (at_place nexts.new i) }
     ensures firsts { length firsts.new ≡ length firsts.old }
     ensures nexts { length nexts.new ≡ length nexts.old }
     ensures other_firsts { (k : ℕ) → k ≢ i → at_place firsts.new k ≡ at_place firsts.old k }

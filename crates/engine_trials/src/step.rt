@@ -31,8 +31,10 @@ fn same_moment(plain: &Plain, engine: &Engine) -> Result<Moment, Stop> {
 
 /// Both do an event that may come in the plain machine, and that is the first in the engine.
 fn perform(plain: &mut Plain, engine: &mut Engine, action: Action) -> Result<Event, Stop>
-    requires plain { is_enabled plain.old.machine plain.old.state plain.old.state.now action ≡ true }
-    requires engine { first_enabled engine.old.machine engine.old.state engine.old.state.now ≡ Some action }
+    requires plain { is_enabled plain.old.machine plain.old.state plain.old.state.now action
+        ≡ true }
+    requires engine { first_enabled engine.old.machine engine.old.state engine.old.state.now
+        ≡ Some action }
 {
     let event = plain.perform(action);
     same_event(event, engine.perform(action))
@@ -41,7 +43,8 @@ fn perform(plain: &mut Plain, engine: &mut Engine, action: Action) -> Result<Eve
 /// Nothing may come in either: both go on to the same next moment, or neither has one up to the horizon.
 fn pass(plain: &mut Plain, engine: &mut Engine) -> Result<Event, Stop>
     requires plain { first_enabled plain.old.machine plain.old.state plain.old.state.now ≡ None }
-    requires engine { first_enabled engine.old.machine engine.old.state engine.old.state.now ≡ None }
+    requires engine { first_enabled engine.old.machine engine.old.state engine.old.state.now
+        ≡ None }
 {
     match (plain.next_moment(), engine.next_moment()) {
         (Some(next), Some(other)) if next == other => {

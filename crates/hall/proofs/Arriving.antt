@@ -1,4 +1,5 @@
 -- The arrival that a seat keeps is one of a processor of the input.
+use Rattle.sched_base.specs.Numbers.{processor}
 use Rattle.std.proofs.Common.{◌≡◌, ◌<◌, ◌∙◌, ◌&&◌, ℕ, Bool, true, false, List, refl, sym, ap, subst, arith}
 use Rattle.std.specs.Prelude.{◌==◌, Option, Some, None, if◌then◌else◌}
 use Rattle.std.specs.Option.{ForSome}
@@ -29,17 +30,17 @@ use Rattle.hall.specs.Seats.{arrived_after}
 use Rattle.hall.specs.Turns.{HasActed, is_actor}
 
 -- an arrival is by the processor that arrives
-in-pool : (m : Machine) (pool : Pool) (actor : Actor) (p : ℕ) → is_by m.config.granularity pool actor (Arrive p) ≡ true → is_actor m.config actor ≡ true → p < m.config.processors
+in-pool : (m : Machine) (pool : Pool) (actor : Actor) (p : ℕ) → is_by m.config.granularity pool actor (Arrive (processor p)) ≡ true → is_actor m.config actor ≡ true → p < m.config.processors
 in-pool m pool (Proc q) p own there = grind (arith, own, there)
 in-pool m pool (Dom d) p own there = absurd (cc)
 in-pool m pool Tool p own there = absurd (cc)
 
-arrives : (m : Machine) (s : State) (actor : Actor) (p : ℕ) → is_by_actor m s actor (Arrive p) ≡ true → is_actor m.config actor ≡ true → p < m.config.processors
-arrives m s actor p own there = by_home (home_of m.config.granularity s (Arrive p)) own
+arrives : (m : Machine) (s : State) (actor : Actor) (p : ℕ) → is_by_actor m s actor (Arrive (processor p)) ≡ true → is_actor m.config actor ≡ true → p < m.config.processors
+arrives m s actor p own there = by_home (home_of m.config.granularity s (Arrive (processor p))) own
   where
-    by_home : (o : Option ℕ) → elim o as (λ _. Bool) [ None ↦ false | Some i ↦ test_at s.pools i (λ pool. is_by m.config.granularity pool actor (Arrive p)) ] ≡ true → p < m.config.processors
+    by_home : (o : Option ℕ) → elim o as (λ _. Bool) [ None ↦ false | Some i ↦ test_at s.pools i (λ pool. is_by m.config.granularity pool actor (Arrive (processor p))) ] ≡ true → p < m.config.processors
     by_home None is = absurd (cc)
-    by_home (Some i) is = (let x = some-test_at s.pools i (λ pool. is_by m.config.granularity pool actor (Arrive p)) is in in-pool m x.0 actor p x.2 there)
+    by_home (Some i) is = (let x = some-test_at s.pools i (λ pool. is_by m.config.granularity pool actor (Arrive (processor p))) is in in-pool m x.0 actor p x.2 there)
 
 pub arrival-few : (actor : Actor) (place : ℕ) (e : Event) (before : List Entry) (old new : Seen) → HasActed actor place e before old new → is_actor old.input.config actor ≡ true → (p : ProcId) → e ≡ event.Arrive p → p.0 < old.input.config.processors
 arrival-few actor place e before old new acted there p is =
@@ -48,8 +49,8 @@ arrival-few actor place e before old new acted there p is =
     let by : is_by_actor m s actor acted.action ≡ true =
     and_left (is_by_actor m s actor acted.action) (is_enabled m s s.now acted.action)
     (find_passes (λ a. is_by_actor m s actor a && is_enabled m s s.now a) (candidates m.config) acted.action acted.first) in
-    let told : (let a : Option Action = Some acted.action in a) ≡ Some (Arrive p.0) = sym (action_of-event_of m s s.now acted.action) ∙ ap action_of (sym acted.is_event ∙ is) in
-    let same : acted.action ≡ Arrive p.0 = cc in
+    let told : (let a : Option Action = Some acted.action in a) ≡ Some (Arrive p) = sym (action_of-event_of m s s.now acted.action) ∙ ap action_of (sym acted.is_event ∙ is) in
+    let same : acted.action ≡ Arrive p = cc in
     arrives m s actor p.0 (subst (λ (a : Action). is_by_actor m s actor a ≡ true) same by) there
 
 kept-one : (gone : Bool) (b a : Arrival) → (if gone then None else Some b) ≡ Some a → (let o : Option Arrival = Some b in o) ≡ Some a

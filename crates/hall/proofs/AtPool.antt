@@ -4,7 +4,7 @@ use Rattle.std.specs.Prelude.{is_some, nat_lt}
 use Rattle.std.specs.Option.{ForSome}
 use mathlib.Core.Logic.{dite}
 use native.Mathlib.Decide.{ℕ_discrete}
-use Rattle.sched_base.specs.Numbers.{moment}
+use Rattle.sched_base.specs.Numbers.{moment, core as core_number}
 use Rattle.sched_model.specs.declared.action.Action.{Action}
 use Rattle.sched_model.specs.declared.action.Action.TheVariants.{Decide}
 use Rattle.sched_model.specs.declared.event.Entry.{Entry}
@@ -34,7 +34,7 @@ use Rattle.pool_slots.proofs.AtHome.{own-same}
 use Rattle.pool_slots.proofs.Going.{comes-next, entry-is, now_of-is, part_of-is, range-of, state-on}
 use Rattle.pool_slots.proofs.Standing.{part_below, stepped}
 use Rattle.lock_moves.specs.Plays.{Current, Kept, Placed}
-use Rattle.lock_moves.specs.Sight.{Holds, Known, Seen, find_lock, has_place, known}
+use Rattle.lock_moves.specs.Sight.{Holds, Known, Seen, find_lock, has_place, known_part as known}
 use Rattle.lock_moves.specs.Words.{has_core}
 use Rattle.lock_moves.proofs.Finding.{never}
 use Rattle.lock_moves.proofs.Holding.{name_at_home, placed_at}
@@ -59,7 +59,7 @@ core-named m r small inside =
 core-listed : (r : ℕ) (pool : Pool) → r < 64 → is_some (at_place pool.resources r) ≡ true → lists (pool_part (Some pool)) r ≡ true
 core-listed r pool small has = ap (λ b. cond b (is_some (at_place pool.resources r)) (is_some (at_place pool.domains (r - 64)))) (is_low r 64 small) ∙ has
 
-same-core : (action : Action) (r : ℕ) → (let a : Option Action = Some action in a) ≡ Some (Decide r) → action ≡ Decide r
+same-core : (action : Action) (r : ℕ) → (let a : Option Action = Some action in a) ≡ Some (Decide (core_number r)) → action ≡ Decide (core_number r)
 same-core action r is = cc
 
 -- what the seat knows is of the book's state
@@ -141,10 +141,10 @@ module _ (b : Chronicle) (v : Seen) (input : b.input ≡ v.input) (front : v.fro
     pub placed-here : Placed v h
     placed-here = placed_at b.input b.history h v (sym input) front current (λ n small. sym (homes-on n)) (now_of-is w ∙ sym step.now ∙ sym (now_of-is next))
 
-    pub decider-here : (r : ℕ) → action_of e.event ≡ Some (Decide r) → HasCore r v
+    pub decider-here : (r : ℕ) → action_of e.event ≡ Some (Decide (core_number r)) → HasCore r v
     decider-here r decides =
         let of : action_of e.event ≡ Some action = ap (λ (x : Entry). action_of x.event) is ∙ action_of-event_of b.input (state_of w) (state_of w).now action in
-        let core : action ≡ Decide r = same-core action r (sym of ∙ decides) in
+        let core : action ≡ Decide (core_number r) = same-core action r (sym of ∙ decides) in
         core-here i r low held (sym (ap (home_of b.input.config.granularity (state_of w)) core) ∙ home)
 
     -- the seat after it

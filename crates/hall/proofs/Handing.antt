@@ -21,7 +21,7 @@ use Rattle.sched_model.specs.Places.{at_place, first_place}
 use Rattle.sched_laws.proofs.EachPlace.{found_at, is_empty, place_below}
 use Rattle.sched_laws.proofs.Lists.{some_is}
 use Rattle.journal_core.specs.Histories.{NamesStandOnce, home_at, moment_after, now_at, state_at}
-use Rattle.journal_core.specs.Parts.{UnderWay, core_to, domain_to, is_name, lists, nowhere, part_of, pool_lists, tool_lock, under_way_of}
+use Rattle.journal_core.specs.Parts.{UnderWay, core_to, domain_to, is_name, lists, no_home, part_of, pool_lists, tool_lock, under_way_of}
 use Rattle.journal_core.proofs.Grows.{now_at-append}
 use Rattle.part_laws.proofs.Law.{names_stand_once}
 use Rattle.tool_laws.specs.Listed.{HandsOver, ListsAsBefore, ListsNames, MovesNothing}
@@ -45,14 +45,14 @@ use Rattle.lock_moves.specs.Words.{has_name, name_number}
 use Rattle.lock_moves.proofs.Holding.{moved_holds, name_at_home}
 use Rattle.lock_moves.proofs.Naming.{after_else, after_here, find-renamed, names_after}
 use Rattle.hall.specs.declared.whole.NameMove.{NameMove}
-use Rattle.hall.specs.Moves.{HandsName, HandsNameOver, MayHand, handed, lock_or_tool}
+use Rattle.hall.specs.Moves.{HandsName, HandsNameOver, MayHand, after_handing, lock_or_tool}
 
 -- an action that is neither the move of a core nor that of a domain
-pub moves-nothing : (action : Action) → ((r : ℕ) → action ≡ Moved r → ⊥) → ((d : ℕ) → action ≡ DomMoved d → ⊥) → MovesNothing action
+pub moves-nothing : (action : Action) → ((r : ℕ) → action ≡ Moved (core_number r) → ⊥) → ((d : ℕ) → action ≡ DomMoved (domain_number d) → ⊥) → MovesNothing action
 moves-nothing Stall core domain = tt
 moves-nothing Xl core domain = tt
-moves-nothing (Moved r) core domain = core r refl
-moves-nothing (DomMoved d) core domain = domain d refl
+moves-nothing (Moved r) core domain = core r.0 refl
+moves-nothing (DomMoved d) core domain = domain d.0 refl
 moves-nothing (Wake v) core domain = tt
 moves-nothing (Block p) core domain = tt
 moves-nothing (Slice r) core domain = tt
@@ -73,7 +73,7 @@ named-at m h n a low home = by_name (is_name m.config n) refl
 
     by_name : (b : Bool) → is_name m.config n ≡ b → is_name m.config n ≡ true
     by_name true is = is
-    by_name false is = absurd (let none : nowhere ≡ a = sym (ap (λ (b : Bool). cond b there nowhere) is) ∙ home in omega (arith, none, low))
+    by_name false is = absurd (let none : no_home ≡ a = sym (ap (λ (b : Bool). cond b there no_home) is) ∙ home in omega (arith, none, low))
 
 low-number : (n : ℕ) → n < 64 → nat_lt n 64 ≡ true
 low-number n low = grind (arith, low)
@@ -133,25 +133,25 @@ module _ (w : Told) (goes : GoesOn w) where
     under way is = ap (λ (x : Tool). x.part.under_way) known ∙ is
 
     -- what is on its way, where a core may move
-    pub core-told : (r : ℕ) → is_enabled m s s.now (Moved r) ≡ true → (to : Option ℕ) × (tool.part.under_way ≡ Some (core_to r to))
+    pub core-told : (r : ℕ) → is_enabled m s s.now (Moved (core_number r)) ≡ true → (to : Option ℕ) × (tool.part.under_way ≡ Some (core_to r to))
     core-told r on = way-there w tool s.now r (record { goes = goes; now = refl; known = known; enabled = on })
 
     -- and where a domain may
-    pub domain-moves : (d : ℕ) → is_enabled m s s.now (DomMoved d) ≡ true → (j : ℕ) × (option_map (move_of tool.part) tool.part.under_way ≡ Some (move.Dom (domain_number d) (pool_number j) (kind_at tool.part j)))
+    pub domain-moves : (d : ℕ) → is_enabled m s s.now (DomMoved (domain_number d)) ≡ true → (j : ℕ) × (option_map (move_of tool.part) tool.part.under_way ≡ Some (move.Dom (domain_number d) (pool_number j) (kind_at tool.part j)))
     domain-moves d on = domain-told w tool s.now d (record { goes = goes; now = refl; known = known; enabled = on })
 
     -- the core that moves, from its pool or from none
-    pub core-handed : (r : ℕ) → is_enabled m s s.now (Moved r) ≡ true → (home to : Option PoolId) → home ≡ option_map pool_number (home_of_core s r) → tool.part.under_way ≡ Some (core_to r (option_map (λ (i : PoolId). i.0) to))
-        → (a b : LockId) → a.0 ≡ lock_or_tool home → b.0 ≡ lock_or_tool to → HandsNameOver w (Moved r) (record { name = Res (core_number r); from = a; to = b })
+    pub core-handed : (r : ℕ) → is_enabled m s s.now (Moved (core_number r)) ≡ true → (home to : Option PoolId) → home ≡ option_map pool_number (home_of_core s r) → tool.part.under_way ≡ Some (core_to r (option_map (λ (i : PoolId). i.0) to))
+        → (a b : LockId) → a.0 ≡ lock_or_tool home → b.0 ≡ lock_or_tool to → HandsNameOver w (Moved (core_number r)) (record { name = Res (core_number r); from = a; to = b })
     core-handed r on home (Some i) told way a b from is_to =
         let c = core_joins s r i.0 (under (core_to r (Some i.0)) way) in
         let none : home ≡ None = told ∙ ap (option_map pool_number) ((own-of w goes).free r c.0 c.1) in
         let low : r < core_count m.config = (let below = place_below s.free r c.0 c.1 in let places = (range-of w goes).free_places in omega (arith, below, places)) in
         let target : i.0 < 16 = pool-low i.0 ((known-of w goes).housed.aims r i.0 (ap (option_map (λ (x : FreeCore). x.target)) c.1 ∙ ap (λ (o : Option ℕ). Some o) c.2)) in
-        hands-core (Moved r) r tool_lock i.0 a b (core-low r low) (omega arith) (omega (arith, target)) (from ∙ ap lock_or_tool none) is_to ((laws-of s.now).joins r c.0 i.0 c.1 c.2)
+        hands-core (Moved (core_number r)) r tool_lock i.0 a b (core-low r low) (omega arith) (omega (arith, target)) (from ∙ ap lock_or_tool none) is_to ((laws-of s.now).joins r c.0 i.0 c.1 c.2)
     core-handed r on home None told way a b from is_to = by_home home told from
       where
-        by_home : (o : Option PoolId) → o ≡ option_map pool_number (home_of_core s r) → a.0 ≡ lock_or_tool o → HandsNameOver w (Moved r) (record { name = Res (core_number r); from = a; to = b })
+        by_home : (o : Option PoolId) → o ≡ option_map pool_number (home_of_core s r) → a.0 ≡ lock_or_tool o → HandsNameOver w (Moved (core_number r)) (record { name = Res (core_number r); from = a; to = b })
         by_home None is from_is = absurd (leaves-some w goes tool known r on way None is refl)
         by_home (Some i) is from_is =
             let at_home : home_of_core s r ≡ Some i.0 = number-of (home_of_core s r) i (sym is) in
@@ -160,11 +160,11 @@ module _ (w : Told) (goes : GoesOn w) where
             let not_free : at_place s.free r ≡ None = is_empty (at_place s.free r) (λ c at. absurd (let none = (own-of w goes).free r c at in cc)) in
             let low : r < core_count m.config = (let below = place_below there.0.resources r core.0 core.1 in let places = ((range-of w goes).pools i.0 there.0 there.1).core_places in omega (arith, below, places)) in
             let pool : i.0 < 16 = (let below = place_below s.pools i.0 there.0 there.1 in let places = (range-of w goes).pool_places in omega (arith, below, places)) in
-            hands-core (Moved r) r i.0 tool_lock a b (core-low r low) (omega (arith, pool)) (omega arith) from_is is_to ((laws-of s.now).leaves r i.0 there.0 core.0 not_free at_home there.1 core.1)
+            hands-core (Moved (core_number r)) r i.0 tool_lock a b (core-low r low) (omega (arith, pool)) (omega arith) from_is is_to ((laws-of s.now).leaves r i.0 there.0 core.0 not_free at_home there.1 core.1)
 
     -- the domain that moves
-    pub domain-handed : (d : ℕ) → is_enabled m s s.now (DomMoved d) ≡ true → (home : Option PoolId) → home ≡ option_map pool_number (home_of_domain s d) → (n : DomId) (to : PoolId) (kind : SchedKind) → option_map (move_of tool.part) tool.part.under_way ≡ Some (move.Dom n to kind)
-        → (a b : LockId) → a.0 ≡ lock_or_tool home → b.0 ≡ to.0 → HandsNameOver w (DomMoved d) (record { name = Dom (domain_number d); from = a; to = b })
+    pub domain-handed : (d : ℕ) → is_enabled m s s.now (DomMoved (domain_number d)) ≡ true → (home : Option PoolId) → home ≡ option_map pool_number (home_of_domain s d) → (n : DomId) (to : PoolId) (kind : SchedKind) → option_map (move_of tool.part) tool.part.under_way ≡ Some (move.Dom n to kind)
+        → (a b : LockId) → a.0 ≡ lock_or_tool home → b.0 ≡ to.0 → HandsNameOver w (DomMoved (domain_number d)) (record { name = Dom (domain_number d); from = a; to = b })
     domain-handed d on home told n to kind moving a b from is_to =
         let found = finds-some w goes d on in
         let i : ℕ = found.0 in
@@ -177,7 +177,7 @@ module _ (w : Told) (goes : GoesOn w) where
         let low : d < 64 = (let below = place_below f.pool.domains d f.domain f.domain_at in let places = ((range-of w goes).pools i f.pool f.pool_at).domain_places in let few = goes.checked.config.few_domains in omega (arith, below, places, few)) in
         let low_i : i < 16 = (let below = place_below s.pools i f.pool f.pool_at in let places = (range-of w goes).pool_places in omega (arith, below, places)) in
         let low_j : j < 16 = pool-low j f.target in
-        hands-domain (DomMoved d) d i j a b low (omega (arith, low_i)) (omega (arith, low_j)) (from ∙ ap lock_or_tool at_home) (is_to ∙ ap (λ (x : PoolId). x.0) (sym target))
+        hands-domain (DomMoved (domain_number d)) d i j a b low (omega (arith, low_i)) (omega (arith, low_j)) (from ∙ ap lock_or_tool at_home) (is_to ∙ ap (λ (x : PoolId). x.0) (sym target))
         ((laws-of s.now).domain d i f.pool f.domain (pool_number j) f.home f.pool_at f.domain_at f.moving)
 
 -- an event of an action keeps the moment
@@ -248,7 +248,7 @@ module _ (w : Told) (goes : GoesOn w) (action : Action) (on : is_enabled w.input
       by_name (Res r) named = (let low : r.0 < 64 = grind (arith, named) in omega (arith, low))
       by_name (Dom d) named = (let low : d.0 < 64 = grind (arith, named) in omega (arith, low))
 
-  pub placed-handed : (moved : Option NameMove) → HandsName w action moved → Placed (handed moved v) history
+  pub placed-handed : (moved : Option NameMove) → HandsName w action moved → Placed (after_handing moved v) history
   placed-handed None same = placed-same same
   placed-handed (Some moved) hands = placed-moved (name_number moved.name) moved.from.0 moved.to.0 hands.over hands.from (small-name moved hands.name)
 
@@ -267,6 +267,6 @@ module _ (w : Told) (goes : GoesOn w) (action : Action) (on : is_enabled w.input
   may-hand-over (Some moved) hands x at = (let is_x : moved ≡ x = cc in subst (MayHand v) is_x (may-hand moved hands))
 
 -- the seat holds the same locks once a name was moved
-pub handed-holds : (moved : Option NameMove) (n : ℕ) (v : Seen) → HoldsBelow n v → HoldsBelow n (handed moved v)
+pub handed-holds : (moved : Option NameMove) (n : ℕ) (v : Seen) → HoldsBelow n v → HoldsBelow n (after_handing moved v)
 handed-holds None n v held = held
 handed-holds (Some moved) n v held = moved_holds (name_number moved.name) moved.to.0 n v held

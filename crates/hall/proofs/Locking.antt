@@ -13,8 +13,8 @@ use Rattle.journal_core.specs.Histories.{part_at, state_at}
 use Rattle.pool_core.specs.Seen.{Seen as PoolSeen}
 use Rattle.pool_slots.specs.Places.{SlotSuits, slot_part}
 use Rattle.pool_slots.proofs.Standing.{part_below, slot_part-is}
-use Rattle.lock_moves.specs.Sight.{Known, Seen, Sitting, HoldsBelow, find_lock, gave, known, tried_again}
-use Rattle.lock_moves.specs.Sets.{HasTaken, IsAsKnown, seeing}
+use Rattle.lock_moves.specs.Sight.{Known, Seen, Sitting, HoldsBelow, find_lock, after_give, known_part as known, tried_again}
+use Rattle.lock_moves.specs.Sets.{HasTaken, IsAsKnown, sitting_with}
 use Rattle.lock_moves.specs.Plays.{IsPartOfSome}
 use Rattle.lock_moves.proofs.Finding.{find-head, find-without-other, none_held}
 use Rattle.lock_moves.proofs.Holding.{holds_less}
@@ -80,7 +80,7 @@ module _ (n k : ℕ) (part : StatePart) (old new : Sitting) (t : HasTaken k part
   taken_known = (known part t.0, ap (λ (s : Sitting). find_lock k s.view.held) t.2 ∙ find-head k (known part t.0) old.view.held, refl, t.3)
 
 -- the last lock was put back
-module _ (k : ℕ) (old new : Sitting) (is : new ≡ seeing old (gave k old.view)) where
+module _ (k : ℕ) (old new : Sitting) (is : new ≡ sitting_with old (after_give k old.view)) where
   pub gave_keeps : KeepsSight old new
   gave_keeps = subst (KeepsSight old) (sym is) (record { table = refl; input = refl; limit = refl; shares = refl; front = refl; own = refl; takes = refl })
 

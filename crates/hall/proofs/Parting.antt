@@ -22,7 +22,7 @@ use Rattle.pool_slots.proofs.Keeping.{spares-later}
 use Rattle.machine_parts.specs.Parts.{AreParts}
 use Rattle.lock_moves.specs.Plays.{Current, Placed}
 use Rattle.lock_moves.specs.Sets.{IsAsKnown, LockTable}
-use Rattle.lock_moves.specs.Sight.{Holds, HoldsBelow, Seen, Sitting, find_lock, known}
+use Rattle.lock_moves.specs.Sight.{Holds, HoldsBelow, Seen, Sitting, find_lock, known_part as known}
 use Rattle.hall.specs.declared.all.AllParts.{AllParts}
 use Rattle.hall.specs.Knowing.{KnowsAll, KnowsPool, KnowsTool}
 use Rattle.hall.specs.Steps.{HasBook, KeepsLocksAt, KnowsAfter}

@@ -32,24 +32,24 @@ use Rattle.tool_acts.specs.Acts.{told_event}
 use Rattle.engine.specs.Running.{pool_of_event}
 use Rattle.engine.proofs.Performing.{own-event, told-none, told-pool}
 use Rattle.lock_moves.specs.Plays.{Current, Kept, Placed}
-use Rattle.lock_moves.specs.Sets.{LockTable, seeing}
+use Rattle.lock_moves.specs.Sets.{LockTable, sitting_with}
 use Rattle.lock_moves.specs.Sight.{HoldsBelow, Seen, Sitting}
 use Rattle.lock_moves.proofs.Holding.{kept_all}
 use Rattle.hall.specs.declared.all.AllParts.{AllParts}
 use Rattle.hall.specs.declared.value.ToolKept.{ToolKept}
 use Rattle.hall.specs.declared.whole.NameMove.{NameMove}
 use Rattle.hall.specs.Knowing.{KnowsAll, KnowsPool, KnowsTool}
-use Rattle.hall.specs.Moves.{HandsName, MayHand, handed}
+use Rattle.hall.specs.Moves.{HandsName, MayHand, after_handing}
 use Rattle.hall.specs.Steps.{HasBook, HasEntered, KeepsOthers, KnowsAfter}
 use Rattle.hall.proofs.Handing.{handed-holds, may-hand-over, placed-handed}
 use Rattle.hall.proofs.Parting.{as-known, holds-all, knows-after, now-held}
 
 -- a move of a name keeps the moment, and the book in the seat's hands
-handed-now : (moved : Option NameMove) (v : Seen) → (handed moved v).now ≡ v.now
+handed-now : (moved : Option NameMove) (v : Seen) → (after_handing moved v).now ≡ v.now
 handed-now None v = refl
 handed-now (Some moved) v = refl
 
-handed-book : (set : LockTable) (b : Chronicle) (s : Sitting) (moved : Option NameMove) → HasBook set b s → HoldsBelow 18 s.view → HasBook set b (seeing s (handed moved s.view))
+handed-book : (set : LockTable) (b : Chronicle) (s : Sitting) (moved : Option NameMove) → HasBook set b s → HoldsBelow 18 s.view → HasBook set b (sitting_with s (after_handing moved s.view))
 handed-book set b s None has held = has
 handed-book set b s (Some moved) has held = record {
   table = has.table;
@@ -89,12 +89,12 @@ module _ (set : LockTable) (b : Chronicle) (s : Sitting) (has : HasBook set b s)
 
     module _ (moved : Option NameMove) (hands : HandsName w action moved) where
       abbrev v : Seen
-      v = handed moved s.view
+      v = after_handing moved s.view
 
       pub may-done : ForSome moved (MayHand s.view)
       may-done = may-hand-over w goes action on done is-done goes-done s.view has.input has.front current held moved hands
 
-      module _ (mid : Sitting) (is : mid ≡ seeing s v) where
+      module _ (mid : Sitting) (is : mid ≡ sitting_with s v) where
         pub has-done : HasBook set b mid
         has-done = subst (HasBook set b) (sym is) (handed-book set b s moved has held)
 

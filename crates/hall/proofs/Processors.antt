@@ -1,4 +1,5 @@
 -- The processors that arrive, and the cores of them, are those of the input.
+use Rattle.sched_base.specs.Numbers.{processor}
 use Rattle.std.proofs.Common.{◌≡◌, ◌∙◌, ◌<◌, ◌/◌, ℕ, Bool, true, false, cond, List, refl, sym, ap, subst, arith}
 use Rattle.std.specs.Option.{ForSome}
 use Rattle.std.specs.Prelude.{◌==◌, Option, Some, None, is_some}
@@ -27,12 +28,12 @@ use Rattle.hall.specs.declared.seat.Arrival.{Arrival}
 use Rattle.hall.specs.Seats.{arrived_after}
 
 -- a processor that may arrive is one of a core of the input
-module _ (w : Told) (goes : GoesOn w) (p : ℕ) (on : is_enabled w.input (state_of w) (state_of w).now (Arrive p) ≡ true) where
+module _ (w : Told) (goes : GoesOn w) (p : ℕ) (on : is_enabled w.input (state_of w) (state_of w).now (Arrive (processor p)) ≡ true) where
   core-inside : p / w.input.config.granularity < core_count w.input.config
   core-inside = by_home (home_of_core (state_of w) (p / w.input.config.granularity)) refl
     where
       by_home : (o : Option ℕ) → home_of_core (state_of w) (p / w.input.config.granularity) ≡ o → p / w.input.config.granularity < core_count w.input.config
-      by_home None none = (let bad : false ≡ true = no-home w.input (state_of w) (state_of w).now (Arrive p) none ∙ on in absurd (cc bad))
+      by_home None none = (let bad : false ≡ true = no-home w.input (state_of w) (state_of w).now (Arrive (processor p)) none ∙ on in absurd (cc bad))
       by_home (Some i) home =
           let core = p / w.input.config.granularity in
           let f = found_at i (λ (pool : Pool). is_some (at_place pool.resources core)) (state_of w).pools home in
@@ -48,13 +49,13 @@ module _ (w : Told) (goes : GoesOn w) (p : ℕ) (on : is_enabled w.input (state_
   processor-inside = by_granularity (λ (n : ℕ). p / n < w.input.config.processors / n → p < w.input.config.processors) w.input.config.granularity goes.checked.config.granularity (λ l. omega (arith, l)) (λ l. omega (arith, l)) (λ l. omega (arith, l)) core-inside
 
 -- the action of an arrival
-arrives : (p : ProcId) (action : Action) → action_of (event.Arrive p) ≡ Some action → action ≡ Arrive p.0
+arrives : (p : ProcId) (action : Action) → action_of (event.Arrive p) ≡ Some action → action ≡ Arrive p
 arrives p action is = cc
 
 pub arriving : (w : Told) → GoesOn w → (action : Action) → is_enabled w.input (state_of w) (state_of w).now action ≡ true → (e : Event) → e ≡ event_of w.input (state_of w) (state_of w).now action → (p : ProcId) → e ≡ event.Arrive p → p.0 < w.input.config.processors
 arriving w goes action on e is p arrival =
     let of : action_of e ≡ Some action = ap action_of is ∙ action_of-event_of w.input (state_of w) (state_of w).now action in
-    let same : action ≡ Arrive p.0 = arrives p action (sym (ap action_of arrival) ∙ of) in
+    let same : action ≡ Arrive p = arrives p action (sym (ap action_of arrival) ∙ of) in
     processor-inside w goes p.0 (subst (λ (a : Action). is_enabled w.input (state_of w) (state_of w).now a ≡ true) same on)
 
 -- what is kept after an event

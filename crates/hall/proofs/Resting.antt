@@ -16,7 +16,7 @@ use Rattle.pool_slots.specs.Told.{told_of}
 use Rattle.pool_slots.proofs.Going.{leads-to}
 use Rattle.lock_moves.specs.Plays.{Current, Kept, Placed}
 use Rattle.lock_moves.specs.Sets.{LockTable}
-use Rattle.lock_moves.specs.Sight.{Known, Seen, Sitting, find_lock, known, with_now}
+use Rattle.lock_moves.specs.Sight.{Known, Seen, Sitting, find_lock, known_part, with_now}
 use Rattle.hall.specs.Steps.{HasBook, KeepsLocksAt, KnowsAfter}
 use Rattle.hall.proofs.Parting.{now-held}
 
@@ -53,8 +53,8 @@ module _ (set : LockTable) (b : Chronicle) (s : Sitting) (has : HasBook set b s)
         later,
       )
 
-    same-known : (x : Known) (k : ℕ) → k < 17 → find_lock k v.held ≡ Some x → (let y : Known = known (part_at v.input h k) x.names in y) ≡ x
-    same-known x k low found = (let is : part_at v.input h k ≡ x.part = part-front k ∙ sym (current.0 k x low found).0 in λ i. known (is i) x.names)
+    same-known : (x : Known) (k : ℕ) → k < 17 → find_lock k v.held ≡ Some x → (let y : Known = known_part (part_at v.input h k) x.names in y) ≡ x
+    same-known x k low found = (let is : part_at v.input h k ≡ x.part = part-front k ∙ sym (current.0 k x low found).0 in λ i. known_part (is i) x.names)
 
     pub locks-quiet : (n : ℕ) (new : Seen) → KnowsAfter h (with_now n v) new → KeepsLocksAt n v new
     locks-quiet n new after = record {

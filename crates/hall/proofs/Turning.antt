@@ -13,7 +13,7 @@ use Rattle.sched_model.specs.declared.machine.Machine.{Machine}
 use Rattle.sched_model.specs.Checked.{IsChecked}
 use Rattle.sched_model.specs.Machine.{event_of, first_enabled, next_in_horizon}
 use Rattle.sched_model.specs.Places.{at_place}
-use Rattle.sched_model.specs.Runs.{IsNext, IsRun, Reached, action_of, begun}
+use Rattle.sched_model.specs.Runs.{IsNext, IsRun, Reached, action_of, run_start}
 use Rattle.sched_model.proofs.RunLemmas.{IsRunFrom-append, action_of-event_of}
 use Rattle.sched_laws.proofs.Ready.{next_later}
 use Rattle.order_laws.proofs.Entries.{over_at_finish}
@@ -182,7 +182,7 @@ module _ (set : LockTable) (b : Chronicle) (s : Sitting) (has : HasBook set b s)
 
     module _ (goes : GoesOn (told_of b)) (quiet : first_enabled b.input (state_in b) (state_in b).now ≡ None) where
       grown-with : (e : Event) → IsNext b.input (reached_by b.input b.history) (record { at = t; event = e }) → IsRun b.input (b.history ++ record { at = moment (state_in b).now; event = e } ∷ [])
-      grown-with e next = subst (λ (a : Moment). IsRun b.input (b.history ++ record { at = a; event = e } ∷ [])) at-now (IsRunFrom-append b.input (begun b.input) b.history (record { at = t; event = e }) run-held next)
+      grown-with e next = subst (λ (a : Moment). IsRun b.input (b.history ++ record { at = a; event = e } ∷ [])) at-now (IsRunFrom-append b.input (run_start b.input) b.history (record { at = t; event = e }) run-held next)
 
       pub close-turn : (place : ℕ) (next : Moment) (new : Sitting) → next_in_horizon b.input (state_in b) ≡ Some next.0 → place ≡ length b.history → HasEntered b (record { at = t; event = event.End next }) s new → TurnsClose place next b s new
       close-turn place next new comes place_is entered = record {

@@ -1,7 +1,7 @@
 -- What the tool's call does under all locks, and whether a run is over.
 use Rattle.std.proofs.Common.{◌≡◌, ◌≢◌, ◌∙◌, ◌&&◌, ℕ, zero, suc, Bool, true, false, List, [], ◌∷◌, ◌++◌, length, refl, sym, ap, subst, arith, inl, inr}
 use Rattle.std.specs.Prelude.{◌↔◌, Option, Some, None, Result, Ok, Err, IfOk, IfErr, slice_get, if◌then◌else◌}
-use Rattle.sched_base.specs.Numbers.{moment}
+use Rattle.sched_base.specs.Numbers.{moment, core, domain, processor}
 use Rattle.sched_base.specs.declared.Moment.{Moment}
 use Rattle.sched_model.specs.declared.action.Action.{Action}
 use Rattle.sched_model.specs.declared.action.Action.TheVariants.{Arrive, DomMoved, Moved, Stall, Xl}
@@ -73,16 +73,16 @@ stall-or false rest is = refl
 pub command-first : (m : Machine) (s : State) (t : ℕ) → tool_first m s t ≡ Some Xl → is_enabled m s t Stall ≡ false
 command-first m s t is = stall-or (is_enabled m s t Stall) (if is_enabled m s t Xl then Some Xl else move_first m s t (under_way_of s)) is
 
-if-no-arrive : (b : Bool) (a : Action) (p : ℕ) (rest : Option Action) → (a ≡ Arrive p → ⊥) → (rest ≡ Some (Arrive p) → ⊥) → (if b then Some a else rest) ≡ Some (Arrive p) → ⊥
+if-no-arrive : (b : Bool) (a : Action) (p : ℕ) (rest : Option Action) → (a ≡ Arrive (processor p) → ⊥) → (rest ≡ Some (Arrive (processor p)) → ⊥) → (if b then Some a else rest) ≡ Some (Arrive (processor p)) → ⊥
 if-no-arrive true a p rest other none is = other (cc)
 if-no-arrive false a p rest other none is = none is
 
-move-no-arrive : (m : Machine) (s : State) (t p : ℕ) (way : Option UnderWay) → move_first m s t way ≡ Some (Arrive p) → ⊥
+move-no-arrive : (m : Machine) (s : State) (t p : ℕ) (way : Option UnderWay) → move_first m s t way ≡ Some (Arrive (processor p)) → ⊥
 move-no-arrive m s t p None is = cc
-move-no-arrive m s t p (Some (core_to r to)) is = if-no-arrive (is_enabled m s t (Moved r)) (Moved r) p None (λ e. cc) (λ e. cc) is
-move-no-arrive m s t p (Some (domain_to d i)) is = if-no-arrive (is_enabled m s t (DomMoved d)) (DomMoved d) p None (λ e. cc) (λ e. cc) is
+move-no-arrive m s t p (Some (core_to r to)) is = if-no-arrive (is_enabled m s t (Moved (core r))) (Moved (core r)) p None (λ e. cc) (λ e. cc) is
+move-no-arrive m s t p (Some (domain_to d i)) is = if-no-arrive (is_enabled m s t (DomMoved (domain d))) (DomMoved (domain d)) p None (λ e. cc) (λ e. cc) is
 
-pub no-arrive : (m : Machine) (s : State) (t p : ℕ) → tool_first m s t ≡ Some (Arrive p) → ⊥
+pub no-arrive : (m : Machine) (s : State) (t p : ℕ) → tool_first m s t ≡ Some (Arrive (processor p)) → ⊥
 no-arrive m s t p is =
     if-no-arrive (is_enabled m s t Stall) Stall p (if is_enabled m s t Xl then Some Xl else move_first m s t (under_way_of s)) (λ e. cc)
     (λ r. if-no-arrive (is_enabled m s t Xl) Xl p (move_first m s t (under_way_of s)) (λ e. cc) (move-no-arrive m s t p (under_way_of s)) r) is

@@ -4,7 +4,7 @@ use native.Mathlib.Decide.{ℕ_discrete, dec_lt}
 use Rattle.std.proofs.Common.{◌≡◌, ◌≢◌, ◌∙◌, ◌≤◌, ◌<◌, ◌/◌, ◌+◌, ◌-◌, ◌&&◌, ℕ, true, false, true≢false, cond, List, [], length, refl, sym, ap, subst, arith}
 use Rattle.std.specs.Prelude.{Option, Some, None, Result, Ok, Err, IfOk, IfErr, is_some, nat_lt}
 use Rattle.std.specs.Option.{ForSome, IsSome}
-use Rattle.sched_base.specs.Numbers.{core, moment}
+use Rattle.sched_base.specs.Numbers.{core, moment, processor}
 use Rattle.sched_model.specs.declared.action.Action.{Action}
 use Rattle.sched_model.specs.declared.action.Action.TheVariants.{Arrive}
 use Rattle.sched_model.specs.declared.action.Actor.{Actor}
@@ -41,8 +41,8 @@ use Rattle.pool_slots.proofs.Standing.{pool_at, stands-there}
 use Rattle.lock_moves.specs.declared.content.NameId.{NameId}
 use Rattle.lock_moves.specs.declared.content.NameId.TheVariants as name_id
 use Rattle.lock_moves.specs.Plays.{Current, IsPartOfSome}
-use Rattle.lock_moves.specs.Sets.{HasTaken, IsAsKnown, LockTable, seeing}
-use Rattle.lock_moves.specs.Sight.{Seen, Sitting, find_lock, gave, known, searched, without}
+use Rattle.lock_moves.specs.Sets.{HasTaken, IsAsKnown, LockTable, sitting_with}
+use Rattle.lock_moves.specs.Sight.{Seen, Sitting, find_lock, after_give, known_part, after_search, locks_without}
 use Rattle.lock_moves.specs.Words.{has_core, has_name, name_number}
 use Rattle.lock_moves.proofs.Finding.{find-head, find-tail, find-without-other, find-without-same, none_held}
 use Rattle.hall.specs.declared.turns.Done.{Done}
@@ -128,7 +128,7 @@ module _ (set : LockTable) (b : Chronicle) (s : Sitting) (has : HasBook set b s)
     goes-held = goes-where b checked run action enabled-held
 
     -- a core that a pool has is one of 64
-    pub few-held : (p : ℕ) → action ≡ Arrive p → p / set.opened.input.config.granularity < 64
+    pub few-held : (p : ℕ) → action ≡ Arrive (processor p) → p / set.opened.input.config.granularity < 64
     few-held p arrives =
         let r : ℕ = p / m.config.granularity in
         let home : home_of_core (state_of (told_of b)) r ≡ Some i = subst (λ (a : Action). home_of m.config.granularity (state_of (told_of b)) a ≡ Some i) arrives home-held in
@@ -161,10 +161,10 @@ module _ (set : LockTable) (b : Chronicle) (s : Sitting) (has : HasBook set b s)
     }
 
 -- the lock is put back, and nothing is held
-pub only-gone : (k : ℕ) (s1 s2 s3 s4 : Sitting) → HoldsOnly k s1.view → ((j : ℕ) → j ≢ 17 → find_lock j s2.view.held ≡ find_lock j s1.view.held) → KeepsOthers k s2.view s3.view → s4 ≡ seeing s3 (gave k s3.view) → s4.view.held ≡ []
+pub only-gone : (k : ℕ) (s1 s2 s3 s4 : Sitting) → HoldsOnly k s1.view → ((j : ℕ) → j ≢ 17 → find_lock j s2.view.held ≡ find_lock j s1.view.held) → KeepsOthers k s2.view s3.view → s4 ≡ sitting_with s3 (after_give k s3.view) → s4.view.held ≡ []
 only-gone k s1 s2 s3 s4 only locks others is =
-    ap (λ (s : Sitting). s.view.held) is ∙ none_held (without k s3.view.held) (λ j. dite (ℕ_discrete j k)
-    (λ same. ap (λ (n : ℕ). find_lock n (without k s3.view.held)) same ∙ find-without-same k s3.view.held)
+    ap (λ (s : Sitting). s.view.held) is ∙ none_held (locks_without k s3.view.held) (λ j. dite (ℕ_discrete j k)
+    (λ same. ap (λ (n : ℕ). find_lock n (locks_without k s3.view.held)) same ∙ find-without-same k s3.view.held)
     (λ other. find-without-other k j s3.view.held other ∙ dite (dec_lt j 17)
     (λ part. others.locks j part other ∙ locks j (λ e. omega (arith, e, part)) ∙ only j other)
     (λ high. dite (ℕ_discrete j 17)
@@ -195,15 +195,15 @@ module _ (set hall : LockTable) (b : Chronicle) (s0 s1 s2 s3 s4 : Sitting) (took
   fills-held actor (Err full) settled = acts-full b s0 s1 s2 s3 s4 took sees gave_back input-held checked-held (run-held set b s2 has current) actor full has.limit settled
 
 -- a lock was found and taken by a seat that held none
-module _ (k : ℕ) (part : StatePart) (refused : List ℕ) (t : ℕ) (s0 s1 : Sitting) (taken : HasTaken k part (searched refused t s0.view) s0 s1) where
+module _ (k : ℕ) (part : StatePart) (refused : List ℕ) (t : ℕ) (s0 s1 : Sitting) (taken : HasTaken k part (after_search refused t s0.view) s0 s1) where
   pub sought-keeps : KeepsSight s0 s1
   sought-keeps = subst (KeepsSight s0) (sym taken.2) (record { table = refl; input = refl; limit = refl; shares = refl; front = refl; own = refl; takes = refl })
 
   pub sought-known : IsAsKnown k part s1.view
-  sought-known = (known part taken.0, ap (λ (s : Sitting). find_lock k s.view.held) taken.2 ∙ find-head k (known part taken.0) [], refl, taken.3)
+  sought-known = (known_part part taken.0, ap (λ (s : Sitting). find_lock k s.view.held) taken.2 ∙ find-head k (known_part part taken.0) [], refl, taken.3)
 
   pub sought-only : HoldsOnly k s1.view
-  sought-only j other = ap (λ (s : Sitting). find_lock j s.view.held) taken.2 ∙ find-tail j k (known part taken.0) [] other
+  sought-only j other = ap (λ (s : Sitting). find_lock j s.view.held) taken.2 ∙ find-tail j k (known_part part taken.0) [] other
 
 -- a pool's place lies under a pool's lock, and what the tool keeps under the tool's
 pub lock-of-pool : (k : ℕ) (slot : Option PoolSeen) (v : Seen) → k < 17 → IsPartOfSome k (slot_part slot) v → k < 16

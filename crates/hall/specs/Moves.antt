@@ -37,6 +37,6 @@ pub record MayHand (v : Seen) (move : NameMove) : Type 0 where
   pub to : Holds move.to.0 v
 
 -- what a seat has seen, once the name was moved, if one moves
-abbrev pub handed : Option NameMove → Seen → Seen
-handed None v = v
-handed (Some move) v = moved_name (name_number move.name) move.to.0 v
+abbrev pub after_handing : Option NameMove → Seen → Seen
+after_handing None v = v
+after_handing (Some move) v = moved_name (name_number move.name) move.to.0 v

@@ -8,7 +8,7 @@ use Rattle.journal_core.specs.Books.{Chronicle}
 use Rattle.journal_core.specs.Histories.{part_at}
 use Rattle.lock_moves.specs.Deciding.{who_decides}
 use Rattle.lock_moves.specs.Sets.{HasName, LockTable}
-use Rattle.lock_moves.specs.Sight.{Holds, Known, Seen, Sitting, find_lock, known}
+use Rattle.lock_moves.specs.Sight.{Holds, Known, Seen, Sitting, find_lock, known_part}
 use Rattle.lock_moves.specs.Words.{has_core}
 
 -- the seat has seen and done no more: it took locks of parts or gave them back
@@ -65,7 +65,7 @@ KeepsLocks old new = KeepsLocksAt old.now old new
 
 -- of each lock of a part that it holds the seat knows the part of the state to which h leads, and has the names that it had for the lock
 pub record KnowsAfter (h : List Entry) (old new : Seen) : Type 0 where
-  pub some : (k : ℕ) (x : Known) → k < 17 → find_lock k old.held ≡ Some x → find_lock k new.held ≡ Some (known (part_at old.input h k) x.names)
+  pub some : (k : ℕ) (x : Known) → k < 17 → find_lock k old.held ≡ Some x → find_lock k new.held ≡ Some (known_part (part_at old.input h k) x.names)
   pub none : (k : ℕ) → find_lock k old.held ≡ None → find_lock k new.held ≡ None
   pub book : find_lock 17 new.held ≡ None
   pub now : new.now ≡ old.now
@@ -84,5 +84,5 @@ pub record HasCore (r : ℕ) (v : Seen) : Type 0 where
   pub name : HasName lock r v
 
 -- the seat names the core whose decision the event is, or none where it is no decision
-abbrev pub deciding : Event → Seen → Seen
-deciding e v = record v { named = who_decides (action_of e) }
+abbrev pub deciding_view : Event → Seen → Seen
+deciding_view e v = record v { named = who_decides (action_of e) }

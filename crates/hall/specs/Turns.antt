@@ -16,7 +16,7 @@ use Rattle.sched_model.specs.Runs.{IsNext, IsRun, IsWholeRun}
 use Rattle.journal_core.specs.Histories.{decides_at, reached_by, state_at}
 use Rattle.actor_laws.specs.Actors.{first_by}
 use Rattle.lock_moves.specs.Sight.{Seen, has_loaded}
-use Rattle.lock_moves.specs.Sets.{seeing}
+use Rattle.lock_moves.specs.Sets.{sitting_with}
 use Rattle.hall.specs.declared.seat.Arrival.{Arrival}
 use Rattle.hall.specs.declared.turns.Done.{Done}
 use Rattle.hall.specs.declared.turns.Done.TheVariants as done
@@ -133,7 +133,7 @@ pub record Awaits (g : ℕ) (p : ProcId) (s : Seated) (a : Arrival) : Type 0 whe
 
 -- the stage word of the core was loaded, and was n; in some history that begins with the front the core has at most so many decisions
 pub record HasLoaded (r n : ℕ) (old new : Seated) : Type 0 where
-  pub seat : new ≡ record old { sitting = seeing old.sitting (has_loaded r n old.sitting.view) }
+  pub seat : new ≡ record old { sitting = sitting_with old.sitting (has_loaded r n old.sitting.view) }
   pub history : List Entry
   pub begins : IsPrefix old.sitting.view.front history
   pub counts : decides_at history r ≤ n

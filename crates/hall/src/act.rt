@@ -1,5 +1,6 @@
 //! What one actor does: the events of a processor or of a domain under the lock of one pool, and those of the tool under all locks.
 
+ghost use Rattle.sched_base.specs.Numbers.{processor};
 ghost use Rattle.std.specs.Prelude.{◌≡◌, ◌<◌, ◌/◌, ℕ, [], true, Some, None, IfOk, IfErr};
 ghost use Rattle.std.specs.Option.{ForSome, IsSome};
 ghost use Rattle.sched_model.specs.declared.action.Action.TheVariants.{Arrive};
@@ -64,7 +65,8 @@ impl Hall {
         requires actor { is_actor self.now.opened.input.config actor ≡ true }
         ensures stays { Stays seat.old seat.new }
         ensures done { IfOk result (λ done. IsDone actor done seat.old seat.new) }
-        ensures full { IfErr result (λ full. ActsFull actor full seat.old.sitting.view seat.new.sitting.view) }
+        ensures full { IfErr result (λ full.
+            ActsFull actor full seat.old.sitting.view seat.new.sitting.view) }
         ensures kept { IfErr result (λ full. seat.new.arrived ≡ seat.old.arrived) }
     {
         let found = self.act_for(rt, &mut seat.seat, actor, gate);
@@ -172,11 +174,13 @@ impl Hall {
 
     /// How often the core of an arriving processor has decided in the book's history, where the action is an arrival.
     pub(crate) fn decides_before(&self, book: &Book, action: Action) -> u32
-        requires few { (p : ℕ) → action ≡ Arrive p → p / self.now.opened.input.config.granularity < 64 }
-        ensures { (e : EventSpec) → action_of e ≡ Some action → IsCountBefore self.now.opened.input.config.granularity book.now.history e result }
+        requires few { (p : ℕ) → action ≡ Arrive (processor p) →
+            p / self.now.opened.input.config.granularity < 64 }
+        ensures { (e : EventSpec) → action_of e ≡ Some action →
+            IsCountBefore self.now.opened.input.config.granularity book.now.history e result }
     {
         match action {
-            Action::Arrive(p) => book.decides(ResId(p / self.granularity)),
+            Action::Arrive(p) => book.decides(ResId(p.0 / self.granularity)),
             _ => 0,
         }
     }
@@ -199,8 +203,10 @@ impl Hall {
         requires knows { KnowsPool i slot.old seat.old.view }
         requires some { IsSome slot.old }
         requires now { t.0 ≡ seat.old.view.now }
-        requires actor { ForSome slot.old (λ seen. has_actor seen.granularity seen.pool actor ≡ true) }
-        requires found { ForSome slot.old (λ seen. IsFirstBy seen.granularity t.0 seen.pool actor found) }
+        requires actor { ForSome slot.old (λ seen. has_actor seen.granularity seen.pool actor
+            ≡ true) }
+        requires found { ForSome slot.old
+            (λ seen. IsFirstBy seen.granularity t.0 seen.pool actor found) }
         ensures knows { KnowsPool i slot.new seat.new.view }
         ensures others { KeepsOthers i seat.old.view seat.new.view }
         ensures stays { SeatStays seat.old seat.new }

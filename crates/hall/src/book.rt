@@ -1,5 +1,6 @@
 //! The book in a seat's hands: taken, put back as it was, or put back with one entry more.
 
+ghost use Rattle.sched_base.specs.Numbers.{core};
 ghost use Rattle.std.specs.Prelude.{◌≡◌, ◌≢◌, ◌<◌, ◌++◌, ◌∷◌, [], ℕ, Some, length};
 ghost use Rattle.sched_model.specs.declared.action.Action.TheVariants.{Decide};
 ghost use Rattle.sched_model.specs.Checked.{IsChecked};
@@ -7,8 +8,8 @@ ghost use Rattle.sched_model.specs.Runs.{IsNext, action_of};
 ghost use Rattle.journal_core.specs.Histories.{reached_by};
 ghost use Rattle.lock_moves.specs.Plays.{Current, Kept, Placed};
 ghost use Rattle.lock_moves.specs.Sight.{AllBelow, Known, find_lock};
-ghost use Rattle.lock_moves.specs.Sets.{seeing};
-ghost use Rattle.hall.specs.Steps.{HasBook, HasCore, HasEntered, KeepsLocks, KeepsSight, KnowsAfter, SeesBook, deciding};
+ghost use Rattle.lock_moves.specs.Sets.{sitting_with};
+ghost use Rattle.hall.specs.Steps.{HasBook, HasCore, HasEntered, KeepsLocks, KeepsSight, KnowsAfter, SeesBook, deciding_view};
 
 use crate::value::PartState;
 use lock_moves::laws::law_decided;
@@ -24,8 +25,10 @@ pub(crate) fn take_book<R: Wait>(rt: &R, set: &LockSet<PartState>, seat: &mut Lo
     ensures has { HasBook set.now result seat.new }
     ensures current { Current seat.new.view }
     ensures sees { SeesBook result seat.old seat.new }
-    ensures locks { (k : ℕ) → k ≢ 17 → find_lock k seat.new.view.held ≡ find_lock k seat.old.view.held }
-    ensures still { (k : ℕ) (x : Known) → find_lock k seat.old.view.held ≡ Some x → seat.new.view.now ≡ seat.old.view.now }
+    ensures locks { (k : ℕ) → k ≢ 17 → find_lock k seat.new.view.held
+        ≡ find_lock k seat.old.view.held }
+    ensures still { (k : ℕ) (x : Known) → find_lock k seat.old.view.held ≡ Some x →
+        seat.new.view.now ≡ seat.old.view.now }
 {
     set.take_book(rt, seat)
 }
@@ -44,8 +47,8 @@ pub(crate) fn put_book(set: &LockSet<PartState>, seat: &mut LockSeat, book: Held
 /// Raises the stage word of the core whose decision the event is, where it is one. The seat then names that core, or else none.
 fn raise_stage(set: &LockSet<PartState>, seat: &mut LockSeat, book: &HeldBook, event: Event)
     requires has { HasBook set.now book.now seat.old }
-    requires core { (r : ℕ) → action_of event ≡ Some (Decide r) → HasCore r seat.old.view }
-    ensures { seat.new ≡ seeing seat.old (deciding event seat.old.view) }
+    requires core { (r : ℕ) → action_of event ≡ Some (Decide (core r)) → HasCore r seat.old.view }
+    ensures { seat.new ≡ sitting_with seat.old (deciding_view event seat.old.view) }
 {
     if let Event::Decide { r, .. } = event {
         set.set_stage(seat, r, book);
@@ -60,7 +63,8 @@ pub(crate) fn enter(set: &LockSet<PartState>, seat: &mut LockSeat, book: HeldBoo
     requires room { length book.history < book.limit }
     requires kept { Kept seat.old.view (book.history ++ entry ∷ []) }
     requires placed { Placed seat.old.view (book.history ++ entry ∷ []) }
-    requires core { (r : ℕ) → action_of entry.event ≡ Some (Decide r) → HasCore r seat.old.view }
+    requires core { (r : ℕ) → action_of entry.event ≡ Some (Decide (core r)) →
+        HasCore r seat.old.view }
     ensures entered { HasEntered book entry seat.old seat.new }
     ensures knows { KnowsAfter (book.history ++ entry ∷ []) seat.old.view seat.new.view }
 {

@@ -35,7 +35,8 @@ impl Hall {
         requires of { IsOf self.now seat.old }
         ensures stays { Stays seat.old seat.new }
         ensures turn { IfOk result (λ turn. IsTurn turn seat.old seat.new) }
-        ensures full { IfErr result (λ full. TurnsFull full seat.old.sitting.view seat.new.sitting.view) }
+        ensures full { IfErr result (λ full.
+            TurnsFull full seat.old.sitting.view seat.new.sitting.view) }
         ensures kept { IfErr result (λ full. seat.new.arrived ≡ seat.old.arrived) }
     {
         let mut all = take_all(rt, &self.set, &mut seat.seat);
@@ -102,7 +103,8 @@ impl Hall {
         requires room { length book.history < book.limit }
         requires now { t.0 ≡ seat.old.view.now }
         requires knows { KnowsAll all.old seat.old.view }
-        requires first { first_enabled book.input (state_of (told_of book)) (state_of (told_of book)).now ≡ Some action }
+        requires first { first_enabled book.input (state_of (told_of book))
+            (state_of (told_of book)).now ≡ Some action }
         ensures knows { KnowsAll all.new seat.new.view }
         ensures book { find_lock 17 seat.new.view.held ≡ None }
         ensures turn { Turns result.0 result.1 book seat.old seat.new }
@@ -122,7 +124,8 @@ impl Hall {
         requires room { length book.history < book.limit }
         requires now { t.0 ≡ seat.old.view.now }
         requires knows { KnowsAll all.now seat.old.view }
-        requires quiet { first_enabled book.input (state_of (told_of book)) (state_of (told_of book)).now ≡ None }
+        requires quiet { first_enabled book.input (state_of (told_of book))
+            (state_of (told_of book)).now ≡ None }
         ensures knows { KnowsAll all.now seat.new.view }
         ensures book { find_lock 17 seat.new.view.held ≡ None }
         ensures turn { Turns result 0 book seat.old seat.new }

@@ -50,7 +50,8 @@ fn values_of(
     slots: Vec<PoolSlot>,
     tool: Box<ToolKept>,
 ) -> Result<Vec<PartState>, NoMemory>
-    ensures { IfOk result (λ values. values.items ≡ map value.Pool slots.items ++ value.Tool tool ∷ []) }
+    ensures { IfOk result (λ values. values.items ≡ map value.Pool slots.items ++ value.Tool tool
+        ∷ []) }
 {
     let mut values = Vec::new(alloc);
     for slot in slots {
@@ -64,8 +65,8 @@ impl Hall {
     ghost use Rattle.std.specs.Prelude.{◌≡◌, ◌≤◌, ◌<◌, ℕ, [], true, None, IfOk, length, slice_get};
     ghost use Rattle.sched_model.specs.Checked.{IsChecked};
     ghost use Rattle.journal_core.specs.Books.{chronicle};
-    ghost use Rattle.lock_moves.specs.Sight.{joined, lessened, newcomer, opening_view, has_place};
-    ghost use Rattle.lock_moves.specs.Sets.{seeing};
+    ghost use Rattle.lock_moves.specs.Sight.{after_join, after_sharing, newcomer, opening_view, has_place};
+    ghost use Rattle.lock_moves.specs.Sets.{sitting_with};
     ghost use Rattle.hall.specs.Seats.{IsOf, Stays};
     ghost use Rattle.hall.specs.Turns.{IsWaiting, Looked};
 
@@ -81,7 +82,8 @@ impl Hall {
         requires few { (1 ≤ events) × (events ≤ 4000000) }
         ensures of { IfOk result (λ r. IsOf r.0 r.1) }
         ensures opened { IfOk result (λ r. r.0.opened ≡ chronicle config.now work.now [] events) }
-        ensures view { IfOk result (λ r. r.1.sitting.view ≡ opening_view (chronicle config.now work.now [] events)) }
+        ensures view { IfOk result (λ r. r.1.sitting.view
+            ≡ opening_view (chronicle config.now work.now [] events)) }
         ensures arrived { IfOk result (λ r. r.1.arrived ≡ None) }
     {
         law_names_stand_once();
@@ -110,7 +112,8 @@ impl Hall {
     pub fn split(&self, seat: &mut HallSeat) -> HallSeat
         requires of { IsOf self.now seat.old }
         requires two { 1 < seat.old.sitting.view.shares }
-        ensures kept { seat.new ≡ record seat.old { sitting = seeing seat.old.sitting (lessened seat.old.sitting.view) } }
+        ensures kept { seat.new ≡ record seat.old
+            { sitting = sitting_with seat.old.sitting (after_sharing seat.old.sitting.view) } }
         ensures of { IsOf self.now result }
         ensures new { result.sitting.view ≡ newcomer seat.old.sitting.view }
         ensures arrived { result.arrived ≡ None }
@@ -125,7 +128,8 @@ impl Hall {
     pub fn join(&self, into: &mut HallSeat, seat: HallSeat)
         requires of { IsOf self.now into.old }
         requires other { IsOf self.now seat }
-        ensures { into.new ≡ record into.old { sitting = seeing into.old.sitting (joined into.old.sitting.view seat.sitting.view) } }
+        ensures { into.new ≡ record into.old
+            { sitting = sitting_with into.old.sitting (after_join into.old.sitting.view seat.sitting.view) } }
     {
         let HallSeat { seat, .. } = seat;
         self.set.join(&mut into.seat, seat);
@@ -138,7 +142,8 @@ impl Hall {
         ensures input { result.input ≡ seat.sitting.view.input }
         ensures limit { result.limit ≡ seat.sitting.view.limit }
         ensures history { result.history ≡ seat.sitting.view.front }
-        ensures own { (p : ℕ) → length self.opened.history ≤ p → p < length seat.sitting.view.front → has_place p seat.sitting.view.own ≡ true }
+        ensures own { (p : ℕ) → length self.opened.history ≤ p →
+            p < length seat.sitting.view.front → has_place p seat.sitting.view.own ≡ true }
     {
         let Hall { set, .. } = self;
         let HallSeat { seat, .. } = seat;
@@ -170,7 +175,8 @@ impl Hall {
     pub fn still_waits(&self, seat: &mut HallSeat, p: ProcId) -> Waits
         requires of { IsOf self.now seat.old }
         ensures stays { Stays seat.old seat.new }
-        ensures waits { IsWaiting self.now.opened.input.config.granularity p result seat.old seat.new }
+        ensures waits { IsWaiting self.now.opened.input.config.granularity p result seat.old
+            seat.new }
     {
         let core = p.0 / self.granularity;
         match seat.arrived {

@@ -37,9 +37,12 @@ pub(crate) fn perform_at(
     requires number { i < 16 }
     requires knows { KnowsPool i slot.old seat.old.view }
     requires own { IsOfPool action }
-    requires enabled { is_enabled book.input (state_of (told_of book)) (state_of (told_of book)).now action ≡ true }
-    requires home { home_of book.input.config.granularity (state_of (told_of book)) action ≡ Some i }
-    ensures event { result ≡ event_of book.input (state_of (told_of book)) (state_of (told_of book)).now action }
+    requires enabled { is_enabled book.input (state_of (told_of book)) (state_of (told_of book)).now
+        action ≡ true }
+    requires home { home_of book.input.config.granularity (state_of (told_of book)) action
+        ≡ Some i }
+    ensures event { result ≡ event_of book.input (state_of (told_of book))
+        (state_of (told_of book)).now action }
     ensures entered { HasEntered book (record { at = t; event = result }) seat.old seat.new }
     ensures knows { KnowsPool i slot.new seat.new.view }
     ensures others { KeepsOthers i seat.old.view seat.new.view }

@@ -36,7 +36,8 @@ impl Model for HallSeat {
 
 /// The arrival that is kept after an event, before which the core of an arriving processor had so many decisions.
 pub(crate) fn arrived_after(kept: Option<Arrival>, event: Event, decides: u32) -> Option<Arrival>
-    ensures { (g : ℕ) (before : List Entry) → IsCountBefore g before event decides → result ≡ arrived_after_spec g before event kept }
+    ensures { (g : ℕ) (before : List Entry) → IsCountBefore g before event decides → result
+        ≡ arrived_after_spec g before event kept }
 {
     match (event, kept) {
         (Event::Arrive { p }, _) => Some(Arrival { p, decides }),

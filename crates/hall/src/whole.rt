@@ -9,11 +9,11 @@ ghost use Rattle.pool_slots.specs.Places.{GoesOn, state_of};
 ghost use Rattle.pool_slots.specs.Told.{told_of};
 ghost use Rattle.engine.specs.Running.{pool_of_event as pool_of_event_spec};
 ghost use Rattle.lock_moves.specs.Plays.{Current};
-ghost use Rattle.lock_moves.specs.Sets.{seeing};
+ghost use Rattle.lock_moves.specs.Sets.{sitting_with};
 ghost use Rattle.lock_moves.specs.Sight.{Holds, find_lock};
 ghost use Rattle.cpupool.specs.Tool.{tool_of};
 ghost use Rattle.hall.specs.Knowing.{KnowsAll};
-ghost use Rattle.hall.specs.Moves.{HandsName, HandsNameOver, MayHand, handed, lock_or_tool};
+ghost use Rattle.hall.specs.Moves.{HandsName, HandsNameOver, MayHand, after_handing, lock_or_tool};
 ghost use Rattle.hall.specs.Steps.{HasBook, HasEntered, KeepsLocks, KeepsLocksAt};
 
 use crate::all::AllParts;
@@ -51,8 +51,9 @@ fn lock_of(pool: Option<PoolId>) -> LockId
 fn core_move(tool: &ToolState, at: &Trail, r: ResId) -> NameMove
     requires goes { GoesOn at.now }
     requires known { tool_of at.now.input (state_of at.now) ≡ tool.now }
-    requires enabled { is_enabled at.now.input (state_of at.now) (state_of at.now).now (actions.Moved r.0) ≡ true }
-    ensures { HandsNameOver at.now (actions.Moved r.0) result }
+    requires enabled { is_enabled at.now.input (state_of at.now) (state_of at.now).now
+        (actions.Moved r) ≡ true }
+    ensures { HandsNameOver at.now (actions.Moved r) result }
 {
     let Some(Move::Res { to, .. }) = tool.moving() else {
         unreachable!();
@@ -70,8 +71,9 @@ fn core_move(tool: &ToolState, at: &Trail, r: ResId) -> NameMove
 fn domain_move(tool: &ToolState, at: &Trail, d: DomId) -> NameMove
     requires goes { GoesOn at.now }
     requires known { tool_of at.now.input (state_of at.now) ≡ tool.now }
-    requires enabled { is_enabled at.now.input (state_of at.now) (state_of at.now).now (actions.DomMoved d.0) ≡ true }
-    ensures { HandsNameOver at.now (actions.DomMoved d.0) result }
+    requires enabled { is_enabled at.now.input (state_of at.now) (state_of at.now).now
+        (actions.DomMoved d) ≡ true }
+    ensures { HandsNameOver at.now (actions.DomMoved d) result }
 {
     let Some(Move::Dom { to, .. }) = tool.moving() else {
         unreachable!();
@@ -88,12 +90,13 @@ fn domain_move(tool: &ToolState, at: &Trail, d: DomId) -> NameMove
 fn name_move(tool: &ToolState, at: &Trail, action: Action) -> Option<NameMove>
     requires goes { GoesOn at.now }
     requires known { tool_of at.now.input (state_of at.now) ≡ tool.now }
-    requires enabled { is_enabled at.now.input (state_of at.now) (state_of at.now).now action ≡ true }
+    requires enabled { is_enabled at.now.input (state_of at.now) (state_of at.now).now action
+        ≡ true }
     ensures { HandsName at.now action result }
 {
     match action {
-        Action::Moved(r) => Some(core_move(tool, at, ResId(r))),
-        Action::DomMoved(d) => Some(domain_move(tool, at, DomId(d))),
+        Action::Moved(r) => Some(core_move(tool, at, r)),
+        Action::DomMoved(d) => Some(domain_move(tool, at, d)),
         _ => None,
     }
 }
@@ -103,7 +106,7 @@ fn hand_over(set: &LockSet<PartState>, seat: &mut LockSeat, moved: Option<NameMo
     requires set { seat.old.table ≡ set.now.table }
     requires book { Holds 17 seat.old.view }
     requires may { ForSome moved (MayHand seat.old.view) }
-    ensures { seat.new ≡ seeing seat.old (handed moved seat.old.view) }
+    ensures { seat.new ≡ sitting_with seat.old (after_handing moved seat.old.view) }
 {
     if let Some(it) = moved {
         set.rename(seat, it.name, it.from, it.to);
@@ -127,10 +130,15 @@ fn act_as_tool(
     requires now { t.0 ≡ seat.old.view.now }
     requires granularity { granularity ≡ book.input.config.granularity }
     requires knows { KnowsAll all.old seat.old.view }
-    requires enabled { is_enabled book.input (state_of (told_of book)) (state_of (told_of book)).now action ≡ true }
-    requires first { action ≡ actions.Xl → is_enabled book.input (state_of (told_of book)) (state_of (told_of book)).now actions.Stall ≡ false }
-    requires no_pool { pool_of_event_spec book.input.config.granularity (state_of (told_of book)) action ≡ None }
-    ensures event { result ≡ event_of book.input (state_of (told_of book)) (state_of (told_of book)).now action }
+    requires enabled { is_enabled book.input (state_of (told_of book)) (state_of (told_of book)).now
+        action ≡ true }
+    requires first { action ≡ actions.Xl →
+        is_enabled book.input (state_of (told_of book)) (state_of (told_of book)).now actions.Stall
+        ≡ false }
+    requires no_pool { pool_of_event_spec book.input.config.granularity (state_of (told_of book))
+        action ≡ None }
+    ensures event { result ≡ event_of book.input (state_of (told_of book))
+        (state_of (told_of book)).now action }
     ensures entered { HasEntered book (record { at = t; event = result }) seat.old seat.new }
     ensures knows { KnowsAll all.new seat.new.view }
     ensures book { find_lock 17 seat.new.view.held ≡ None }
@@ -169,9 +177,13 @@ pub(crate) fn perform(
     requires now { t.0 ≡ seat.old.view.now }
     requires granularity { granularity ≡ book.input.config.granularity }
     requires knows { KnowsAll all.old seat.old.view }
-    requires enabled { is_enabled book.input (state_of (told_of book)) (state_of (told_of book)).now action ≡ true }
-    requires first { action ≡ actions.Xl → is_enabled book.input (state_of (told_of book)) (state_of (told_of book)).now actions.Stall ≡ false }
-    ensures event { result ≡ event_of book.input (state_of (told_of book)) (state_of (told_of book)).now action }
+    requires enabled { is_enabled book.input (state_of (told_of book)) (state_of (told_of book)).now
+        action ≡ true }
+    requires first { action ≡ actions.Xl →
+        is_enabled book.input (state_of (told_of book)) (state_of (told_of book)).now actions.Stall
+        ≡ false }
+    ensures event { result ≡ event_of book.input (state_of (told_of book))
+        (state_of (told_of book)).now action }
     ensures entered { HasEntered book (record { at = t; event = result }) seat.old seat.new }
     ensures knows { KnowsAll all.new seat.new.view }
     ensures book { find_lock 17 seat.new.view.held ≡ None }
@@ -205,9 +217,11 @@ pub(crate) fn end_moment(
     requires room { length book.history < book.limit }
     requires now { t.0 ≡ seat.old.view.now }
     requires all { (k : ℕ) → k < 17 → Holds k seat.old.view }
-    requires nothing { first_enabled book.input (state_of (told_of book)) (state_of (told_of book)).now ≡ None }
+    requires nothing { first_enabled book.input (state_of (told_of book))
+        (state_of (told_of book)).now ≡ None }
     requires next { next_in_horizon book.input (state_of (told_of book)) ≡ Some next.0 }
-    ensures entered { HasEntered book (record { at = t; event = events.End next }) seat.old seat.new }
+    ensures entered { HasEntered book (record { at = t; event = events.End next }) seat.old
+        seat.new }
     ensures locks { KeepsLocksAt next.0 seat.old.view seat.new.view }
 {
     set.set_now(seat, next);
@@ -229,7 +243,8 @@ pub(crate) fn finish(set: &LockSet<PartState>, seat: &mut LockSeat, book: HeldBo
     requires goes { GoesOn (told_of book) }
     requires room { length book.history < book.limit }
     requires now { t.0 ≡ seat.old.view.now }
-    requires nothing { first_enabled book.input (state_of (told_of book)) (state_of (told_of book)).now ≡ None }
+    requires nothing { first_enabled book.input (state_of (told_of book))
+        (state_of (told_of book)).now ≡ None }
     requires last { next_in_horizon book.input (state_of (told_of book)) ≡ None }
     ensures entered { HasEntered book (record { at = t; event = events.Finish }) seat.old seat.new }
     ensures locks { KeepsLocks seat.old.view seat.new.view }

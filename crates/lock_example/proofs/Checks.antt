@@ -14,7 +14,7 @@ use Rattle.sched_model.specs.Runs.{IsNext}
 use Rattle.journal_core.specs.Histories.{part_at, home_at, now_at, decides_at, state_at, reached_by, NamesStandOnce}
 use Rattle.lock_moves.specs.declared.names.Names.{Names}
 use Rattle.lock_moves.specs.NameSets.{in_names, AreNamesOf}
-use Rattle.lock_example.specs.Example.{adding, two_entries, is_added, has_moved, part_after, names_after, new_book}
+use Rattle.lock_example.specs.Example.{adding_machine, two_entries, is_added, has_moved, part_after, names_after, new_book}
 use Rattle.lock_example.specs.declared.counter.Counter.{Counter}
 use Rattle.lock_example.specs.Counters.{AreNew}
 use Rattle.lock_moves.specs.Opened.{AreParts}
@@ -67,18 +67,18 @@ names-part lock count low few n small =
 abbrev stand_once : Config → State → Bool
 stand_once config s = all_below (λ k. all_below (λ n. same (lists (part_of s k) n) (eqb (home_in config s n) k)) 128) 17
 
-once-by : (h : List Entry) → stand_once adding.config (state_at adding h) ≡ true → NamesStandOnce adding h
+once-by : (h : List Entry) → stand_once adding_machine.config (state_at adding_machine h) ≡ true → NamesStandOnce adding_machine h
 unfolding part_at home_at
-once-by h all k n low small = let s = state_at adding h in
-    same_is _ _ (at_each (λ n. same (lists (part_of s k) n) (eqb (home_in adding.config s n) k)) 128 n (at_each (λ k. all_below (λ n. same (lists (part_of s k) n) (eqb (home_in adding.config s n) k)) 128) 17 k all low) small)
+once-by h all k n low small = let s = state_at adding_machine h in
+    same_is _ _ (at_each (λ n. same (lists (part_of s k) n) (eqb (home_in adding_machine.config s n) k)) 128 n (at_each (λ k. all_below (λ n. same (lists (part_of s k) n) (eqb (home_in adding_machine.config s n) k)) 128) 17 k all low) small)
 
-pub once-first : NamesStandOnce adding []
+pub once-first : NamesStandOnce adding_machine []
 once-first = once-by [] refl
 
-pub once-second : NamesStandOnce adding (take 1 two_entries)
+pub once-second : NamesStandOnce adding_machine (take 1 two_entries)
 once-second = once-by (take 1 two_entries) refl
 
-pub once-third : NamesStandOnce adding two_entries
+pub once-third : NamesStandOnce adding_machine two_entries
 once-third = once-by two_entries refl
 
 -- one counter more
@@ -102,50 +102,43 @@ new-snoc counters x len none new k y at = dite (dec_lt k (length counters))
 pub new-parts : (counters : List Counter) → length counters ≡ 17 → AreNew counters → AreParts (λ (c : Counter). part_after c.lock c.count) (λ m now c. Unit {0}) new_book counters
 new-parts counters len new = record { all = len; each = λ k x at. let is = new k x at in λ i. part_after (is.0 i) (is.1 i); suited = λ k x at. tt }
 
--- each of the two entries may come next
-pub first_next : IsNext adding (reached_by adding []) is_added
-first_next = record { goes_on = refl; moment = refl; event = (refl, refl) }
-
-pub second_next : IsNext adding (reached_by adding (take 1 two_entries)) has_moved
-second_next = record { goes_on = refl; moment = refl; event = (refl, refl) }
-
 -- the first entry leaves all homes as they are, and the second all but that of core 1
 same_homes : State → State → ℕ → Bool
-same_homes s next n = eqb (home_in adding.config s n) (home_in adding.config next n)
+same_homes s next n = eqb (home_in adding_machine.config s n) (home_in adding_machine.config next n)
 
-pub homes_first : (n : ℕ) → n < 128 → home_at adding [] n ≡ home_at adding (take 1 two_entries) n
+pub homes_first : (n : ℕ) → n < 128 → home_at adding_machine [] n ≡ home_at adding_machine (take 1 two_entries) n
 unfolding home_at same_homes
-homes_first n small = let test : ℕ → Bool = same_homes (state_at adding []) (state_at adding (take 1 two_entries)) in
+homes_first n small = let test : ℕ → Bool = same_homes (state_at adding_machine []) (state_at adding_machine (take 1 two_entries)) in
     let all : all_below test 128 ≡ true = refl in
-    eqb-true (home_in adding.config (state_at adding []) n) (home_in adding.config (state_at adding (take 1 two_entries)) n) (at_each test 128 n all small)
+    eqb-true (home_in adding_machine.config (state_at adding_machine []) n) (home_in adding_machine.config (state_at adding_machine (take 1 two_entries)) n) (at_each test 128 n all small)
 
-pub homes_second : (n : ℕ) → n < 128 → n ≢ 1 → home_at adding (take 1 two_entries) n ≡ home_at adding two_entries n
+pub homes_second : (n : ℕ) → n < 128 → n ≢ 1 → home_at adding_machine (take 1 two_entries) n ≡ home_at adding_machine two_entries n
 unfolding home_at same_homes
-homes_second n small other = let test : ℕ → Bool = λ k. eqb k 1 || same_homes (state_at adding (take 1 two_entries)) (state_at adding two_entries) k in
+homes_second n small other = let test : ℕ → Bool = λ k. eqb k 1 || same_homes (state_at adding_machine (take 1 two_entries)) (state_at adding_machine two_entries) k in
     let all : all_below test 128 ≡ true = refl in
-    eqb-true (home_in adding.config (state_at adding (take 1 two_entries)) n) (home_in adding.config (state_at adding two_entries) n)
-    (sym (ap (λ b. b || same_homes (state_at adding (take 1 two_entries)) (state_at adding two_entries) n) (ne_eqb n 1 other)) ∙ at_each test 128 n all small)
+    eqb-true (home_in adding_machine.config (state_at adding_machine (take 1 two_entries)) n) (home_in adding_machine.config (state_at adding_machine two_entries) n)
+    (sym (ap (λ b. b || same_homes (state_at adding_machine (take 1 two_entries)) (state_at adding_machine two_entries) n) (ne_eqb n 1 other)) ∙ at_each test 128 n all small)
 
 -- the first entry changes the tool's part alone
-pub parts_first : (k : ℕ) → k ≢ 16 → part_at adding (take 1 two_entries) k ≡ part_at adding [] k
+pub parts_first : (k : ℕ) → k ≢ 16 → part_at adding_machine (take 1 two_entries) k ≡ part_at adding_machine [] k
 unfolding part_at
-parts_first k other = let old = state_at adding [] in let new = state_at adding (take 1 two_entries) in
+parts_first k other = let old = state_at adding_machine [] in let new = state_at adding_machine (take 1 two_entries) in
     ap (λ b. if b then tool_part (tool_of new) else pool_part (at_place new.pools k)) (ne_eqb k 16 other)
     ∙ sym (ap (λ b. if b then tool_part (tool_of old) else pool_part (at_place old.pools k)) (ne_eqb k 16 other))
 
-pub home_before : home_at adding (take 1 two_entries) 1 ≡ 16
+pub home_before : home_at adding_machine (take 1 two_entries) 1 ≡ 16
 unfolding home_at
 home_before = refl
 
-pub home_after : home_at adding two_entries 1 ≡ 0
+pub home_after : home_at adding_machine two_entries 1 ≡ 0
 unfolding home_at
 home_after = refl
 
-pub now_first : now_at adding [] ≡ now_at adding (take 1 two_entries)
+pub now_first : now_at adding_machine [] ≡ now_at adding_machine (take 1 two_entries)
 unfolding now_at
 now_first = refl
 
-pub now_second : now_at adding (take 1 two_entries) ≡ now_at adding two_entries
+pub now_second : now_at adding_machine (take 1 two_entries) ≡ now_at adding_machine two_entries
 unfolding now_at
 now_second = refl
 

@@ -7,11 +7,11 @@ use native.Mathlib.Decide.{ℕ_discrete, dec_lt}
 use Rattle.sched_model.specs.declared.event.Entry.{Entry}
 use Rattle.journal_core.specs.Parts.{StatePart}
 use Rattle.journal_core.specs.Histories.{part_at, home_at}
-use Rattle.lock_moves.specs.Sight.{Known, Seen, Sitting, known, find_lock, without, refreshed, IsCurrent, took, took_book, book_known, gave, committed_view, tried_again}
+use Rattle.lock_moves.specs.Sight.{Known, Seen, Sitting, known_part, find_lock, locks_without, refreshed_locks, IsCurrent, after_take, took_book, book_known, after_give, committed_view, tried_again}
 use Rattle.lock_moves.specs.Plays.{Kept, Placed}
-use Rattle.lock_moves.specs.Sets.{Taken, seeing}
+use Rattle.lock_moves.specs.Sets.{Taken, sitting_with}
 use Rattle.lock_moves.proofs.Finding.{never}
-use Rattle.lock_example.specs.Example.{adding}
+use Rattle.lock_example.specs.Example.{adding_machine}
 use Rattle.lock_example.specs.declared.counter.Counter.{Counter}
 use Rattle.lock_example.specs.Holding.{AreFrom}
 
@@ -54,16 +54,16 @@ abbrev pub holds_tool : Known → List (ℕ × Known)
 holds_tool x = (17, book_known) ∷ (16, x) ∷ []
 
 -- a seat that held nothing has taken the tool's lock, and then the book
-pub tool_taken : (n t m u : ℕ) (part : StatePart) (names : List ℕ) (h : List Entry) (old mid new : Sitting) → old.view.held ≡ [] → mid ≡ seeing old (took 16 part names t (tried_again n 16 old.view))
-    → new ≡ seeing mid (took_book h u (tried_again m 17 mid.view)) → new.view.held ≡ holds_tool (known part names)
+pub tool_taken : (n t m u : ℕ) (part : StatePart) (names : List ℕ) (h : List Entry) (old mid new : Sitting) → old.view.held ≡ [] → mid ≡ sitting_with old (after_take 16 part names t (tried_again n 16 old.view))
+    → new ≡ sitting_with mid (took_book h u (tried_again m 17 mid.view)) → new.view.held ≡ holds_tool (known_part part names)
 tool_taken n t m u part names h old mid new none first second =
-    ap (λ (s : Sitting). s.view.held) second ∙ ap (λ k. (17, book_known) ∷ k) (ap (λ (s : Sitting). s.view.held) first ∙ ap (λ k. (16, known part names) ∷ k) none)
+    ap (λ (s : Sitting). s.view.held) second ∙ ap (λ k. (17, book_known) ∷ k) (ap (λ (s : Sitting). s.view.held) first ∙ ap (λ k. (16, known_part part names) ∷ k) none)
 
 -- the book is put back under the tool's lock alone, with the history f, to which the names of the view belong
-pub tool_known : (f : List Entry) (v w : Seen) (x : Known) → v.input ≡ adding → v.held ≡ holds_tool x → Placed v f → w ≡ committed_view f v → (y : Known) × (find_lock 16 w.held ≡ Some y) × IsCurrent adding f 16 y
+pub tool_known : (f : List Entry) (v w : Seen) (x : Known) → v.input ≡ adding_machine → v.held ≡ holds_tool x → Placed v f → w ≡ committed_view f v → (y : Known) × (find_lock 16 w.held ≡ Some y) × IsCurrent adding_machine f 16 y
 tool_known f v w x input held placed is = (
-  known (part_at v.input f 16) x.names,
-  ap (λ (u : Seen). find_lock 16 u.held) is ∙ ap (λ l. find_lock 16 (refreshed v.input f (without 17 l))) held,
+  known_part (part_at v.input f 16) x.names,
+  ap (λ (u : Seen). find_lock 16 u.held) is ∙ ap (λ l. find_lock 16 (refreshed_locks v.input f (locks_without 17 l))) held,
   record {
     part = ap (λ m. part_at m f 16) input;
     names = λ n small. placed.0 16 x n (omega arith) (ap (find_lock 16) held) small ∙ ap (λ m. eqb (home_at m f n) 16) input;
@@ -71,11 +71,11 @@ tool_known f v w x input held placed is = (
 )
 
 -- then the tool's lock is put back, and no lock is held
-pub tool_given : (f : List Entry) (v w : Seen) (x : Known) → v.held ≡ holds_tool x → w ≡ committed_view f v → (gave 16 w).held ≡ []
-tool_given f v w x held is = ap (λ (u : Seen). without 16 u.held) is ∙ ap (λ l. without 16 (refreshed v.input f (without 17 l))) held
+pub tool_given : (f : List Entry) (v w : Seen) (x : Known) → v.held ≡ holds_tool x → w ≡ committed_view f v → (after_give 16 w).held ≡ []
+tool_given f v w x held is = ap (λ (u : Seen). locks_without 16 u.held) is ∙ ap (λ l. locks_without 16 (refreshed_locks v.input f (locks_without 17 l))) held
 
 -- the parts whose locks are not held are as before, where all parts but the tool's are
-pub kept_tool : (f h : List Entry) (v : Seen) (x : Known) → v.input ≡ adding → v.front ≡ f → v.held ≡ holds_tool x → ((k : ℕ) → k ≢ 16 → part_at adding h k ≡ part_at adding f k) → Kept v h
+pub kept_tool : (f h : List Entry) (v : Seen) (x : Known) → v.input ≡ adding_machine → v.front ≡ f → v.held ≡ holds_tool x → ((k : ℕ) → k ≢ 16 → part_at adding_machine h k ≡ part_at adding_machine f k) → Kept v h
 kept_tool f h v x input front held same k low none = dite (ℕ_discrete k 16)
     (λ e. absurd (never x (sym (subst (λ (j : ℕ). find_lock j v.held ≡ None) e none) ∙ ap (find_lock 16) held)))
     (λ ne. ap (λ m. part_at m h k) input ∙ (same k ne ∙ (λ i. part_at (sym input i) (sym front i) k)))

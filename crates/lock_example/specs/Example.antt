@@ -19,8 +19,8 @@ abbrev pub pool_name : List ℕ
 pool_name = 80 ∷ 111 ∷ 111 ∷ 108 ∷ 45 ∷ 48 ∷ []
 
 -- two processors, of which Pool-0 has the first, and the command at 0 that adds the second to it
-abbrev pub adding : Machine
-adding =
+abbrev pub adding_machine : Machine
+adding_machine =
     record {
       config = record {
         granularity = 1;
@@ -45,7 +45,7 @@ two_entries = is_added ∷ has_moved ∷ []
 
 -- the part of a lock after so many of the entries
 abbrev pub part_after : ℕ → ℕ → StatePart
-part_after lock count = part_at adding (take count two_entries) lock
+part_after lock count = part_at adding_machine (take count two_entries) lock
 
 -- the names that the part of the lock lists then: core 0 is the pool's, and core 1 is the tool's until it has moved
 abbrev pub names_after : ℕ → ℕ → Names
@@ -55,4 +55,4 @@ names_after lock count =
 
 -- the book before the run
 abbrev pub new_book : Chronicle
-new_book = record { input = adding; history = []; limit = 2 }
+new_book = record { input = adding_machine; history = []; limit = 2 }

@@ -3,7 +3,7 @@
 ghost use Rattle.std.specs.Prelude.{◌≡◌, ◌+◌, ◌<◌, ◌≤◌, ◌⊎◌, [], IsFalse, IfOk, IfErr, OnOk, MatchBool, length, take, vec_capacity};
 ghost use mathlib.Core.List.{IsPrefix};
 ghost use Rattle.lock_moves.specs.Sight.{HoldsBelow, KnowsBelow};
-ghost use Rattle.lock_example.specs.Example.{adding, has_moved, is_added, two_entries};
+ghost use Rattle.lock_example.specs.Example.{adding_machine, has_moved, is_added, two_entries};
 ghost use Rattle.lock_example.specs.Holding.{AreFrom, Stands, Differs, StopsAt};
 
 use crate::counter::Counter;
@@ -59,9 +59,9 @@ fn take_next<R: Wait>(
 fn put_last(set: &LockSet<Counter>, seat: &mut LockSeat, held: Held<Counter>)
     requires number { held.lock < 17 }
     requires stands { Stands set.now two_entries seat.old.view.shares seat.old }
-    requires below { KnowsBelow adding (held.lock + 1) two_entries seat.old.view }
+    requires below { KnowsBelow adding_machine (held.lock + 1) two_entries seat.old.view }
     ensures stands { Stands set.now two_entries seat.old.view.shares seat.new }
-    ensures below { KnowsBelow adding held.lock two_entries seat.new.view }
+    ensures below { KnowsBelow adding_machine held.lock two_entries seat.new.view }
 {
     let mut held = held;
     let lock = held.lock().0;
@@ -71,10 +71,11 @@ fn put_last(set: &LockSet<Counter>, seat: &mut LockSeat, held: Held<Counter>)
 
 // Adds the first entry, where the history is empty and has room.
 pub(crate) fn write_first(book: &mut HeldBook) -> bool
-    requires input { book.old.input ≡ adding }
+    requires input { book.old.input ≡ adding_machine }
     ensures input { book.new.input ≡ book.old.input }
     ensures limit { book.new.limit ≡ book.old.limit }
-    ensures written { MatchBool result ((book.old.history ≡ []) × (book.new.history ≡ take 1 two_entries)) (book.new ≡ book.old) }
+    ensures written { MatchBool result ((book.old.history ≡ [])
+        × (book.new.history ≡ take 1 two_entries)) (book.new ≡ book.old) }
     ensures refused { IsFalse result → Differs [] book.old }
 {
     if book.get().len() != 0 || !book.get().room_left() {
@@ -86,11 +87,12 @@ pub(crate) fn write_first(book: &mut HeldBook) -> bool
 
 // Adds the second entry, where the history has the first alone, and has room.
 fn write_second(book: &mut HeldBook) -> bool
-    requires input { book.old.input ≡ adding }
+    requires input { book.old.input ≡ adding_machine }
     requires begins { IsPrefix (take 1 two_entries) book.old.history }
     ensures input { book.new.input ≡ book.old.input }
     ensures limit { book.new.limit ≡ book.old.limit }
-    ensures written { MatchBool result ((book.old.history ≡ take 1 two_entries) × (book.new.history ≡ two_entries)) (book.new ≡ book.old) }
+    ensures written { MatchBool result ((book.old.history ≡ take 1 two_entries)
+        × (book.new.history ≡ two_entries)) (book.new ≡ book.old) }
     ensures refused { IsFalse result → Differs (take 1 two_entries) book.old }
 {
     if book.get().len() != 1 || !book.get().room_left() {
@@ -104,8 +106,9 @@ fn write_second(book: &mut HeldBook) -> bool
 fn add_first<R: Wait>(rt: &R, set: &LockSet<Counter>, seat: &mut LockSeat) -> Result<(), HeldBook>
     requires stands { Stands set.now [] seat.old.view.shares seat.old }
     requires below { HoldsBelow 17 seat.old.view }
-    ensures stands { OnOk result (Stands set.now (take 1 two_entries) seat.old.view.shares seat.new) }
-    ensures below { OnOk result (KnowsBelow adding 17 (take 1 two_entries) seat.new.view) }
+    ensures stands { OnOk result (Stands set.now (take 1 two_entries) seat.old.view.shares
+        seat.new) }
+    ensures below { OnOk result (KnowsBelow adding_machine 17 (take 1 two_entries) seat.new.view) }
     ensures refused { IfErr result (λ b. StopsAt set.now [] seat.old.view.shares b seat.new) }
 {
     let mut book = set.take_book(rt, seat);
@@ -128,12 +131,13 @@ fn add_second<R: Wait>(
     requires tool { tool.old.lock ≡ 16 }
     requires pool { pool.old.lock ≡ 0 }
     requires stands { Stands set.now (take 1 two_entries) seat.old.view.shares seat.old }
-    requires below { KnowsBelow adding 17 (take 1 two_entries) seat.old.view }
+    requires below { KnowsBelow adding_machine 17 (take 1 two_entries) seat.old.view }
     ensures tool { tool.new ≡ tool.old }
     ensures pool { pool.new ≡ pool.old }
     ensures stands { OnOk result (Stands set.now two_entries seat.old.view.shares seat.new) }
-    ensures below { OnOk result (KnowsBelow adding 17 two_entries seat.new.view) }
-    ensures refused { IfErr result (λ b. StopsAt set.now (take 1 two_entries) seat.old.view.shares b seat.new) }
+    ensures below { OnOk result (KnowsBelow adding_machine 17 two_entries seat.new.view) }
+    ensures refused { IfErr result (λ b. StopsAt set.now (take 1 two_entries) seat.old.view.shares b
+        seat.new) }
 {
     let mut book = set.take_book(rt, seat);
     if !write_second(&mut book) {
@@ -147,7 +151,7 @@ fn add_second<R: Wait>(
 // The lock of core 1 after the run, by its word.
 fn new_home(set: &LockSet<Counter>, seat: &mut LockSeat) -> u64
     requires stands { Stands set.now two_entries seat.old.view.shares seat.old }
-    requires below { KnowsBelow adding 17 two_entries seat.old.view }
+    requires below { KnowsBelow adding_machine 17 two_entries seat.old.view }
     ensures pool { result ≡ 0 }
     ensures same { seat.new ≡ seat.old }
 {
@@ -180,9 +184,9 @@ fn put_rest(set: &LockSet<Counter>, seat: &mut LockSeat, held: Vec<Held<Counter>
     requires stands { Stands set.now two_entries seat.old.view.shares seat.old }
     requires few { length held.items ≤ 16 }
     requires order { AreFrom 1 held.items }
-    requires below { KnowsBelow adding (1 + length held.items) two_entries seat.old.view }
+    requires below { KnowsBelow adding_machine (1 + length held.items) two_entries seat.old.view }
     ensures stands { Stands set.now two_entries seat.old.view.shares seat.new }
-    ensures below { KnowsBelow adding 1 two_entries seat.new.view }
+    ensures below { KnowsBelow adding_machine 1 two_entries seat.new.view }
 {
     let mut held = held;
     while let Some(last) = held.pop() {
@@ -206,7 +210,8 @@ pub fn add_core<R: Wait>(
     ensures home { IfOk result (λ lock. lock ≡ 0) }
     ensures stands { OnOk result (Stands set.now two_entries seat.old.view.shares seat.new) }
     ensures nothing { OnOk result (seat.new.view.held ≡ []) }
-    ensures refused { IfErr result (λ b. StopsAt set.now [] seat.old.view.shares b seat.new ⊎ StopsAt set.now (take 1 two_entries) seat.old.view.shares b seat.new) }
+    ensures refused { IfErr result (λ b. StopsAt set.now [] seat.old.view.shares b seat.new
+        ⊎ StopsAt set.now (take 1 two_entries) seat.old.view.shares b seat.new) }
 {
     let mut held = room;
     let mut pool = take_next(rt, set, seat, 0);

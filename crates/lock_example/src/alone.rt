@@ -18,7 +18,8 @@ pub fn do_command<R: Wait>(
 ) -> Result<(), HeldBook>
     requires stands { Stands set.now [] seat.old.view.shares seat.old }
     requires nothing { seat.old.view.held ≡ [] }
-    ensures stands { OnOk result (Stands set.now (take 1 two_entries) seat.old.view.shares seat.new) }
+    ensures stands { OnOk result (Stands set.now (take 1 two_entries) seat.old.view.shares
+        seat.new) }
     ensures nothing { OnOk result (seat.new.view.held ≡ []) }
     ensures refused { IfErr result (λ b. StopsAt set.now [] seat.old.view.shares b seat.new) }
 {

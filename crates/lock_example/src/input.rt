@@ -2,7 +2,7 @@
 
 ghost use Rattle.std.specs.Prelude.{◌≡◌, IfOk, IfSome, length};
 ghost use Rattle.lock_moves.specs.Sight.{opening_view};
-ghost use Rattle.lock_example.specs.Example.{adding, new_book, pool_name};
+ghost use Rattle.lock_example.specs.Example.{adding_machine, new_book, pool_name};
 ghost use Rattle.lock_example.specs.Counters.{AreNew};
 
 use crate::counter::Counter;
@@ -24,7 +24,7 @@ fn name() -> Option<Name>
 
 // The machine of two cores.
 fn config(alloc: Global) -> Result<Config, NoMemory>
-    ensures { IfOk result (λ c. c ≡ adding.config) }
+    ensures { IfOk result (λ c. c ≡ adding_machine.config) }
 {
     let Some(name) = name() else {
         return Err(NoMemory);
@@ -46,7 +46,7 @@ fn config(alloc: Global) -> Result<Config, NoMemory>
 
 // The command that adds the second core to the pool.
 fn work(alloc: Global) -> Result<Work, NoMemory>
-    ensures { IfOk result (λ w. w ≡ adding.work) }
+    ensures { IfOk result (λ w. w ≡ adding_machine.work) }
 {
     let Some(name) = name() else {
         return Err(NoMemory);

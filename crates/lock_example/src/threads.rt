@@ -91,7 +91,8 @@ fn added<R: Wait>(
     ensures home { IfOk result.1 (λ lock. lock ≡ 0) }
     ensures stands { OnOk result.1 (Stands set.now two_entries seat.view.shares result.0) }
     ensures nothing { OnOk result.1 (result.0.view.held ≡ []) }
-    ensures refused { IfErr result.1 (λ b. StopsAt set.now [] seat.view.shares b result.0 ⊎ StopsAt set.now (take 1 two_entries) seat.view.shares b result.0) }
+    ensures refused { IfErr result.1 (λ b. StopsAt set.now [] seat.view.shares b result.0
+        ⊎ StopsAt set.now (take 1 two_entries) seat.view.shares b result.0) }
 {
     let mut seat = seat;
     let answer = add_core(rt, set, &mut seat, room);
@@ -131,7 +132,8 @@ pub fn add_beside_visit<R: Threads + Wait + Sync>(
     ensures home { IfOk result.0.1 (λ lock. lock ≡ 0) }
     ensures stands { OnOk result.0.1 (Stands set.now two_entries adder.view.shares result.0.0) }
     ensures nothing { OnOk result.0.1 (result.0.0.view.held ≡ []) }
-    ensures refused { IfErr result.0.1 (λ b. StopsAt set.now [] adder.view.shares b result.0.0 ⊎ StopsAt set.now (take 1 two_entries) adder.view.shares b result.0.0) }
+    ensures refused { IfErr result.0.1 (λ b. StopsAt set.now [] adder.view.shares b result.0.0
+        ⊎ StopsAt set.now (take 1 two_entries) adder.view.shares b result.0.0) }
     ensures back { IsBack visitor result.1.0 }
     ensures lists { lists (part_after result.1.1.0 result.1.1.1) (name_number name) ≡ true }
 {

@@ -17,7 +17,7 @@ use Rattle.sched_model.specs.declared.machine.Machine.{Machine}
 use Rattle.lock_moves.proofs.Finding.{lists-part}
 use Rattle.lock_moves.specs.declared.content.Content.{Content}
 use Rattle.lock_moves.specs.declared.content.Content.TheVariants.{Out, Value, Ledger}
-use Rattle.lock_moves.specs.Sight.{Known, View, known, find_lock, without, refreshed, Holds, has_place, Rising, view_committed, raise}
+use Rattle.lock_moves.specs.Sight.{Known, View, known_part, find_lock, locks_without, refreshed_locks, Holds, has_place, Rising, view_committed, raise}
 use Rattle.lock_moves.specs.Agrees.{Fronts, Fits, Has, Agrees}
 use Rattle.lock_moves.specs.Plays.{Next, Kept, Placed, Decided, committed}
 use Rattle.lock_moves.proofs.Finding.{find-tail, find-without-same, find-without-other, find-refreshed, never, none_or, set_there, set_all, set_some}
@@ -72,11 +72,11 @@ recorded m limit base views h keeper latest id v h' f at whole left (inr new) = 
     is : h' ≡ h ++ new.0 ∷ []
     is = new.1 ∙ ap (λ z. z ++ new.0 ∷ []) whole
 
-find-refreshed-some : (m : Machine) (h : List Entry) (k : ℕ) (xs : List (ℕ × Known)) (x : Known) → find_lock k xs ≡ Some x → (y : Known) × (find_lock k (refreshed m h xs) ≡ Some y)
+find-refreshed-some : (m : Machine) (h : List Entry) (k : ℕ) (xs : List (ℕ × Known)) (x : Known) → find_lock k xs ≡ Some x → (y : Known) × (find_lock k (refreshed_locks m h xs) ≡ Some y)
 find-refreshed-some m h k [] x e = absurd (never x e)
 find-refreshed-some m h k (q ∷ xs) x e = dite (ℕ_discrete k q.0)
-    (λ is. (known (part_at m h q.0) q.1.names, ap (λ b. cond b (Some (known (part_at m h q.0) q.1.names)) (find_lock k (refreshed m h xs))) (eq-eqb k q.0 is)))
-    (λ ne. let t = find-refreshed-some m h k xs x (sym (find-tail k q.0 q.1 xs ne) ∙ e) in (t.0, find-tail k q.0 (known (part_at m h q.0) q.1.names) (refreshed m h xs) ne ∙ t.1))
+    (λ is. (known_part (part_at m h q.0) q.1.names, ap (λ b. cond b (Some (known_part (part_at m h q.0) q.1.names)) (find_lock k (refreshed_locks m h xs))) (eq-eqb k q.0 is)))
+    (λ ne. let t = find-refreshed-some m h k xs x (sym (find-tail k q.0 q.1 xs ne) ∙ e) in (t.0, find-tail k q.0 (known_part (part_at m h q.0) q.1.names) (refreshed_locks m h xs) ne ∙ t.1))
 
 option_case : (P : Option Known → Type 0) (o : Option Known) → P None → ((x : Known) → P (Some x)) → P o
 option_case P None none_is some_is = none_is
@@ -122,7 +122,7 @@ module _ {V : Type 0} (part : V → StatePart) (suits : Machine → ℕ → V �
       refl in
       let stage : (q : ℕ) → q < 64 → get_or words' (147 + q) 0 ≡ get_or s.words (147 + q) 0 = λ q l. get_or-set_other s.words 17 (147 + q) 0 0 (λ e. absurd (omega (arith, e))) in
       let no_book : (i : ℕ) (u : View) (x : Known) → get_elem? (set s.views id w) i ≡ some u → find_lock 17 u.seen.held ≡ Some x → ⊥ = λ i u x e q. set_all (λ _ u. (x : Known) → find_lock 17 u.seen.held ≡ Some x → ⊥) s.views id w
-      (λ y e. let t = find-refreshed v.seen.input h' 17 (without 17 v.seen.held) y e in never t.0 (sym (find-without-same 17 v.seen.held) ∙ t.1))
+      (λ y e. let t = find-refreshed v.seen.input h' 17 (locks_without 17 v.seen.held) y e in never t.0 (sym (find-without-same 17 v.seen.held) ∙ t.1))
       (λ i u other e x q. other (sym (r.locks.held i u 17 x e q).owned ∙ old.owned))
       i u e x q in
       let f = recorded m limit base s.views h r.keeper r.latest id v h' r.fronts at whole left next in (
@@ -148,11 +148,11 @@ module _ {V : Type 0} (part : V → StatePart) (suits : Machine → ℕ → V �
                 ));
             taken = λ j l nz. dite (ℕ_discrete j 17)
                 (λ is. absurd (nz (ap (λ (n : ℕ). get_or words' n 0) is ∙ here)))
-                (λ ne. set_some (λ u. Holds j u.seen) s.views id v w at (λ p. find-refreshed-some v.seen.input h' j (without 17 v.seen.held) p.0 (find-without-other 17 j v.seen.held ne ∙ p.1)) (r.owner j)
+                (λ ne. set_some (λ u. Holds j u.seen) s.views id v w at (λ p. find-refreshed-some v.seen.input h' j (locks_without 17 v.seen.held) p.0 (find-without-other 17 j v.seen.held ne ∙ p.1)) (r.owner j)
                 (r.locks.taken j l (λ e. nz (get_or-set_other s.words 17 j 0 0 ne ∙ e))));
             held = λ i u j x q e. set_all (λ i u. (j : ℕ) (x : Known) → find_lock j u.seen.held ≡ Some x → Has part m words' homes' h' r.owner i u j x) s.views id w
-                (λ j y e. let t = find-refreshed v.seen.input h' j (without 17 v.seen.held) y e in
-                let ne : j ≢ 17 = λ is. never t.0 (sym (find-without-same 17 v.seen.held) ∙ (ap (λ (n : ℕ). find_lock n (without 17 v.seen.held)) (sym is) ∙ t.1)) in
+                (λ j y e. let t = find-refreshed v.seen.input h' j (locks_without 17 v.seen.held) y e in
+                let ne : j ≢ 17 = λ is. never t.0 (sym (find-without-same 17 v.seen.held) ∙ (ap (λ (n : ℕ). find_lock n (locks_without 17 v.seen.held)) (sym is) ∙ t.1)) in
                 let o = r.locks.held id v j t.0 at (sym (find-without-other 17 j v.seen.held ne) ∙ t.1) in record {
                   below = o.below;
                   owned = o.owned;
@@ -175,12 +175,12 @@ module _ {V : Type 0} (part : V → StatePart) (suits : Machine → ℕ → V �
             free = λ j y n low e q l. let ne : j ≢ 17 = λ is. absurd (omega (arith, low, is)) in
                 r.names.free j y n low (sym (get_or-set_other s.words 17 j 0 0 ne) ∙ e) (sym (set_else s.homes 17 j (some (Ledger b)) ne) ∙ q) l ∙ ap (λ (p : ℕ). eqb p j) (sym (word n l));
             held = λ i u j x n e q l. set_all (λ _ u. (j : ℕ) (x : Known) (n : ℕ) → find_lock j u.seen.held ≡ Some x → n < 128 → has_place n x.names ≡ eqb (get_or words' (18 + n) 0) j) s.views id w
-                (λ j y n e l. let t = find-refreshed v.seen.input h' j (without 17 v.seen.held) y e in
+                (λ j y n e l. let t = find-refreshed v.seen.input h' j (locks_without 17 v.seen.held) y e in
                 ap (has_place n) t.3 ∙ (r.names.held id v j t.0 n at (still 17 j v.seen.held t.0 t.1) l ∙ ap (λ (p : ℕ). eqb p j) (sym (word n l))))
                 (λ i u _ e j x n q l. r.names.held i u j x n e q l ∙ ap (λ (p : ℕ). eqb p j) (sym (word n l)))
                 i u e j x n q l;
             moment = λ i u j x e q. set_all (λ _ u. (j : ℕ) (x : Known) → find_lock j u.seen.held ≡ Some x → u.seen.now ≡ get_or words' 146 0) s.views id w
-                (λ j y e. let t = find-refreshed v.seen.input h' j (without 17 v.seen.held) y e in r.names.moment id v j t.0 at (still 17 j v.seen.held t.0 t.1) ∙ sym clock)
+                (λ j y e. let t = find-refreshed v.seen.input h' j (locks_without 17 v.seen.held) y e in r.names.moment id v j t.0 at (still 17 j v.seen.held t.0 t.1) ∙ sym clock)
                 (λ i u _ e j x q. r.names.moment i u j x e q ∙ sym clock)
                 i u e j x q;
             settled = λ _. (
@@ -189,7 +189,7 @@ module _ {V : Type 0} (part : V → StatePart) (suits : Machine → ℕ → V �
             );
             apart = λ n l e. r.names.apart n l (sym (word n l) ∙ e);
             moving = λ i u x j n e q o l. absurd (set_all (λ _ u. (x : Known) → find_lock 17 u.seen.held ≡ Some x → ⊥) s.views id w
-                (λ y e. let t = find-refreshed v.seen.input h' 17 (without 17 v.seen.held) y e in never t.0 (sym (find-without-same 17 v.seen.held) ∙ t.1))
+                (λ y e. let t = find-refreshed v.seen.input h' 17 (locks_without 17 v.seen.held) y e in never t.0 (sym (find-without-same 17 v.seen.held) ∙ t.1))
                 (λ i u other e x q. other (sym (r.locks.held i u 17 x e q).owned ∙ old.owned))
                 i u e x q);
           };

@@ -12,7 +12,7 @@ use Rattle.sched_model.specs.declared.event.Entry.{Entry}
 use Rattle.sched_model.specs.declared.machine.Machine.{Machine}
 use Rattle.lock_moves.specs.declared.content.Content.{Content}
 use Rattle.lock_moves.specs.declared.content.Content.TheVariants.{Value, Ledger}
-use Rattle.lock_moves.specs.Sight.{Known, known, find_lock, without, refreshed, has_place}
+use Rattle.lock_moves.specs.Sight.{Known, known_part, find_lock, locks_without, refreshed_locks, has_place}
 
 -- a part lists the names whose home is its lock
 pub lists-part : (m : Machine) (h : List Entry) (k n : ℕ) → k < 17 → n < 128 → NamesStandOnce m h → lists (part_at m h k) n ≡ eqb (home_at m h n) k
@@ -42,46 +42,46 @@ find-head k x xs = ap (λ b. cond b (Some x) (find_lock k xs)) (eq-eqb k k refl)
 pub find-tail : (k j : ℕ) (x : Known) (xs : List (ℕ × Known)) → k ≢ j → find_lock k ((j, x) ∷ xs) ≡ find_lock k xs
 find-tail k j x xs ne = ap (λ b. cond b (Some x) (find_lock k xs)) (ne_eqb k j ne)
 
-pub find-without-same : (k : ℕ) (xs : List (ℕ × Known)) → find_lock k (without k xs) ≡ None
+pub find-without-same : (k : ℕ) (xs : List (ℕ × Known)) → find_lock k (locks_without k xs) ≡ None
 find-without-same k [] = refl
 find-without-same k (x ∷ xs) = dite (ℕ_discrete k x.0)
-    (λ e. ap (λ b. find_lock k (cond b (without k xs) (x ∷ without k xs))) (eq-eqb k x.0 e) ∙ find-without-same k xs)
-    (λ ne. ap (λ b. find_lock k (cond b (without k xs) (x ∷ without k xs))) (ne_eqb k x.0 ne) ∙ (find-tail k x.0 x.1 (without k xs) ne ∙ find-without-same k xs))
+    (λ e. ap (λ b. find_lock k (cond b (locks_without k xs) (x ∷ locks_without k xs))) (eq-eqb k x.0 e) ∙ find-without-same k xs)
+    (λ ne. ap (λ b. find_lock k (cond b (locks_without k xs) (x ∷ locks_without k xs))) (ne_eqb k x.0 ne) ∙ (find-tail k x.0 x.1 (locks_without k xs) ne ∙ find-without-same k xs))
 
-pub find-without-other : (k j : ℕ) (xs : List (ℕ × Known)) → j ≢ k → find_lock j (without k xs) ≡ find_lock j xs
+pub find-without-other : (k j : ℕ) (xs : List (ℕ × Known)) → j ≢ k → find_lock j (locks_without k xs) ≡ find_lock j xs
 find-without-other k j [] ne = refl
 find-without-other k j (x ∷ xs) ne = dite (ℕ_discrete k x.0)
-    (λ e. ap (λ b. find_lock j (cond b (without k xs) (x ∷ without k xs))) (eq-eqb k x.0 e) ∙ (find-without-other k j xs ne ∙ sym (find-tail j x.0 x.1 xs (λ same. ne (same ∙ sym e)))))
-    (λ other. ap (λ b. find_lock j (cond b (without k xs) (x ∷ without k xs))) (ne_eqb k x.0 other) ∙ ap (λ o. cond (eqb j x.0) (Some x.1) o) (find-without-other k j xs ne))
+    (λ e. ap (λ b. find_lock j (cond b (locks_without k xs) (x ∷ locks_without k xs))) (eq-eqb k x.0 e) ∙ (find-without-other k j xs ne ∙ sym (find-tail j x.0 x.1 xs (λ same. ne (same ∙ sym e)))))
+    (λ other. ap (λ b. find_lock j (cond b (locks_without k xs) (x ∷ locks_without k xs))) (ne_eqb k x.0 other) ∙ ap (λ o. cond (eqb j x.0) (Some x.1) o) (find-without-other k j xs ne))
 
-pub find-refreshed : (m : Machine) (h : List Entry) (k : ℕ) (xs : List (ℕ × Known)) (y : Known) → find_lock k (refreshed m h xs) ≡ Some y → (x : Known) × (find_lock k xs ≡ Some x) × (y.part ≡ part_at m h k) × (y.names ≡ x.names)
+pub find-refreshed : (m : Machine) (h : List Entry) (k : ℕ) (xs : List (ℕ × Known)) (y : Known) → find_lock k (refreshed_locks m h xs) ≡ Some y → (x : Known) × (find_lock k xs ≡ Some x) × (y.part ≡ part_at m h k) × (y.names ≡ x.names)
 find-refreshed m h k [] y e = absurd (never y e)
 find-refreshed m h k (x ∷ xs) y e = dite (ℕ_discrete k x.0)
-    (λ here. let is : known (part_at m h x.0) x.1.names ≡ y = some_same (known (part_at m h x.0) x.1.names) y (sym (ap (λ b. cond b (Some (known (part_at m h x.0) x.1.names)) (find_lock k (refreshed m h xs))) (eq-eqb k x.0 here)) ∙ e) in (
+    (λ here. let is : known_part (part_at m h x.0) x.1.names ≡ y = some_same (known_part (part_at m h x.0) x.1.names) y (sym (ap (λ b. cond b (Some (known_part (part_at m h x.0) x.1.names)) (find_lock k (refreshed_locks m h xs))) (eq-eqb k x.0 here)) ∙ e) in (
       x.1,
       ap (λ b. cond b (Some x.1) (find_lock k xs)) (eq-eqb k x.0 here),
       ap (λ (z : Known). z.part) (sym is) ∙ ap (part_at m h) (sym here),
       ap (λ (z : Known). z.names) (sym is),
     ))
-    (λ other. let t = find-refreshed m h k xs y (sym (find-tail k x.0 (known (part_at m h x.0) x.1.names) (refreshed m h xs) other) ∙ e) in (
+    (λ other. let t = find-refreshed m h k xs y (sym (find-tail k x.0 (known_part (part_at m h x.0) x.1.names) (refreshed_locks m h xs) other) ∙ e) in (
       t.0,
       find-tail k x.0 x.1 xs other ∙ t.1,
       t.2,
       t.3,
     ))
 
-pub find-refreshed-is : (m : Machine) (h : List Entry) (k : ℕ) (xs : List (ℕ × Known)) (x : Known) → find_lock k xs ≡ Some x → find_lock k (refreshed m h xs) ≡ Some (known (part_at m h k) x.names)
+pub find-refreshed-is : (m : Machine) (h : List Entry) (k : ℕ) (xs : List (ℕ × Known)) (x : Known) → find_lock k xs ≡ Some x → find_lock k (refreshed_locks m h xs) ≡ Some (known_part (part_at m h k) x.names)
 find-refreshed-is m h k [] x e = absurd (never x e)
 find-refreshed-is m h k (q ∷ xs) x e = dite (ℕ_discrete k q.0)
     (λ is. let same : q.1 ≡ x = some_same q.1 x (sym (ap (λ b. cond b (Some q.1) (find_lock k xs)) (eq-eqb k q.0 is)) ∙ e) in
-    ap (λ b. cond b (Some (known (part_at m h q.0) q.1.names)) (find_lock k (refreshed m h xs))) (eq-eqb k q.0 is) ∙ (λ i. Some (known (part_at m h (sym is i)) (same i).names)))
-    (λ ne. find-tail k q.0 (known (part_at m h q.0) q.1.names) (refreshed m h xs) ne ∙ find-refreshed-is m h k xs x (sym (find-tail k q.0 q.1 xs ne) ∙ e))
+    ap (λ b. cond b (Some (known_part (part_at m h q.0) q.1.names)) (find_lock k (refreshed_locks m h xs))) (eq-eqb k q.0 is) ∙ (λ i. Some (known_part (part_at m h (sym is i)) (same i).names)))
+    (λ ne. find-tail k q.0 (known_part (part_at m h q.0) q.1.names) (refreshed_locks m h xs) ne ∙ find-refreshed-is m h k xs x (sym (find-tail k q.0 q.1 xs ne) ∙ e))
 
-pub find-refreshed-none : (m : Machine) (h : List Entry) (k : ℕ) (xs : List (ℕ × Known)) → find_lock k xs ≡ None → find_lock k (refreshed m h xs) ≡ None
+pub find-refreshed-none : (m : Machine) (h : List Entry) (k : ℕ) (xs : List (ℕ × Known)) → find_lock k xs ≡ None → find_lock k (refreshed_locks m h xs) ≡ None
 find-refreshed-none m h k [] e = refl
 find-refreshed-none m h k (q ∷ xs) e = dite (ℕ_discrete k q.0)
     (λ is. absurd (never q.1 (sym e ∙ ap (λ b. cond b (Some q.1) (find_lock k xs)) (eq-eqb k q.0 is))))
-    (λ ne. find-tail k q.0 (known (part_at m h q.0) q.1.names) (refreshed m h xs) ne ∙ find-refreshed-none m h k xs (sym (find-tail k q.0 q.1 xs ne) ∙ e))
+    (λ ne. find-tail k q.0 (known_part (part_at m h q.0) q.1.names) (refreshed_locks m h xs) ne ∙ find-refreshed-none m h k xs (sym (find-tail k q.0 q.1 xs ne) ∙ e))
 
 -- a list in which no lock is found is empty
 pub none_held : (xs : List (ℕ × Known)) → ((k : ℕ) → find_lock k xs ≡ None) → xs ≡ []

@@ -6,9 +6,9 @@ use Rattle.sched_model.specs.declared.event.Entry.{Entry}
 use Rattle.sched_model.specs.declared.machine.Machine.{Machine}
 use Rattle.journal_core.specs.Parts.{StatePart, lists}
 use Rattle.journal_core.specs.Histories.{part_at, home_at, now_at, decides_at, NamesStandOnce}
-use Rattle.lock_moves.specs.Sight.{Known, Seen, Sitting, known, find_lock, has_place, without, Holds, HoldsBelow, IsCurrent, KnowsBelow, AllBelow, took_book, book_known, gave, moved_name, committed_view, tried_again, raise}
+use Rattle.lock_moves.specs.Sight.{Known, Seen, Sitting, known_part, find_lock, has_place, locks_without, Holds, HoldsBelow, IsCurrent, KnowsBelow, AllBelow, took_book, book_known, after_give, moved_name, committed_view, tried_again, raise}
 use Rattle.lock_moves.specs.Plays.{Current, Kept, Placed, Decided}
-use Rattle.lock_moves.specs.Sets.{seeing, HasTaken, IsAsKnown, HasName}
+use Rattle.lock_moves.specs.Sets.{sitting_with, HasTaken, IsAsKnown, HasName}
 use Rattle.lock_moves.proofs.Finding.{some_same, never, find-tail, find-without-same, find-without-other, find-refreshed-is, find-refreshed-none}
 use Rattle.lock_moves.proofs.Naming.{names_after, after_here, after_else, find-renamed-is, find-renamed-none}
 
@@ -18,10 +18,6 @@ all_below n v others j x found = dite (dec_lt j n) (λ low. low) (λ high. absur
 
 pub holds_known : (m : Machine) (n : ℕ) (h : List Entry) (v : Seen) → KnowsBelow m n h v → HoldsBelow n v
 holds_known m n h v k = record { holds = λ j low. ((k.knows j low).0, (k.knows j low).1); others = k.others }
-
--- a seat that holds nothing
-pub holds_none : (v : Seen) → v.held ≡ [] → HoldsBelow 0 v
-holds_none v none = record { holds = λ k low. absurd (omega (arith, low)); others = λ k high. ap (find_lock k) none }
 
 -- one lock more
 pub holds_more : (n : ℕ) (x : Known) (v w : Seen) → w.held ≡ (n, x) ∷ v.held → HoldsBelow n v → HoldsBelow (n + 1) w
@@ -33,15 +29,15 @@ holds_more n x v w is h = record {
 }
 
 -- the last lock is put back
-pub holds_less : (n : ℕ) (v : Seen) → HoldsBelow (n + 1) v → HoldsBelow n (gave n v)
+pub holds_less : (n : ℕ) (v : Seen) → HoldsBelow (n + 1) v → HoldsBelow n (after_give n v)
 holds_less n v h = record {
   holds = λ j low. let z = h.holds j (omega (arith, low)) in (z.0, find-without-other n j v.held (λ e. absurd (omega (arith, e, low))) ∙ z.1);
   others = λ j high. dite (ℕ_discrete j n)
-      (λ e. subst (λ (i : ℕ). find_lock i (without n v.held) ≡ None) (sym e) (find-without-same n v.held))
+      (λ e. subst (λ (i : ℕ). find_lock i (locks_without n v.held) ≡ None) (sym e) (find-without-same n v.held))
       (λ ne. find-without-other n j v.held ne ∙ h.others j (omega (arith, high, ne)));
 }
 
-pub knows_less : (m : Machine) (n : ℕ) (h : List Entry) (v : Seen) → KnowsBelow m (n + 1) h v → KnowsBelow m n h (gave n v)
+pub knows_less : (m : Machine) (n : ℕ) (h : List Entry) (v : Seen) → KnowsBelow m (n + 1) h v → KnowsBelow m n h (after_give n v)
 knows_less m n h v k = record {
   knows = λ j low. let z = k.knows j (omega (arith, low)) in (z.0, find-without-other n j v.held (λ e. absurd (omega (arith, e, low))) ∙ z.1, z.2);
   others = (holds_less n v (holds_known m (n + 1) h v k)).others;
@@ -49,10 +45,10 @@ knows_less m n h v k = record {
 
 -- a lock more was taken
 pub taken_below : (n k : ℕ) (part : StatePart) (old new : Sitting) → HasTaken k part (tried_again n k old.view) old new → HoldsBelow k old.view → HoldsBelow (k + 1) new.view
-taken_below n k part old new t h = holds_more k (known part t.0) (tried_again n k old.view) new.view (ap (λ (s : Sitting). s.view.held) t.2) (record { holds = h.holds; others = h.others })
+taken_below n k part old new t h = holds_more k (known_part part t.0) (tried_again n k old.view) new.view (ap (λ (s : Sitting). s.view.held) t.2) (record { holds = h.holds; others = h.others })
 
 -- the book was taken
-pub book_below : (n now : ℕ) (h : List Entry) (old new : Sitting) → new ≡ seeing old (took_book h now (tried_again n 17 old.view)) → HoldsBelow 17 old.view → HoldsBelow 18 new.view
+pub book_below : (n now : ℕ) (h : List Entry) (old new : Sitting) → new ≡ sitting_with old (took_book h now (tried_again n 17 old.view)) → HoldsBelow 17 old.view → HoldsBelow 18 new.view
 book_below n now h old new is below = holds_more 17 book_known (tried_again n 17 old.view) new.view (ap (λ (s : Sitting). s.view.held) is) (record { holds = below.holds; others = below.others })
 
 -- what is known of a lock, of which the value's part is that of the state
@@ -67,16 +63,16 @@ known_current m h k part v once low is z = (
 -- the book is put back
 pub committed_holds : (h : List Entry) (v : Seen) → HoldsBelow 18 v → HoldsBelow 17 (committed_view h v)
 committed_holds h v all = let less = holds_less 17 v all in record {
-  holds = λ k low. let z = less.holds k low in (known (part_at v.input h k) z.0.names, find-refreshed-is v.input h k (without 17 v.held) z.0 z.1);
-  others = λ k high. find-refreshed-none v.input h k (without 17 v.held) (less.others k high);
+  holds = λ k low. let z = less.holds k low in (known_part (part_at v.input h k) z.0.names, find-refreshed-is v.input h k (locks_without 17 v.held) z.0 z.1);
+  others = λ k high. find-refreshed-none v.input h k (locks_without 17 v.held) (less.others k high);
 }
 
 -- the book is put back with the history h, to which the names of the view belong
 pub committed_knows : (m : Machine) (h : List Entry) (v : Seen) → v.input ≡ m → HoldsBelow 18 v → Placed v h → KnowsBelow m 17 h (committed_view h v)
 committed_knows m h v input all placed = record {
   knows = λ k low. let z = all.holds k (omega (arith, low)) in (
-    known (part_at v.input h k) z.0.names,
-    find-refreshed-is v.input h k (without 17 v.held) z.0 (find-without-other 17 k v.held (λ e. absurd (omega (arith, e, low))) ∙ z.1),
+    known_part (part_at v.input h k) z.0.names,
+    find-refreshed-is v.input h k (locks_without 17 v.held) z.0 (find-without-other 17 k v.held (λ e. absurd (omega (arith, e, low))) ∙ z.1),
     record {
       part = ap (λ (q : Machine). part_at q h k) input;
       names = λ n small. placed.0 k z.0 n low z.1 small ∙ ap (λ (q : Machine). eqb (home_at q h n) k) input;
@@ -85,7 +81,7 @@ committed_knows m h v input all placed = record {
   others = (committed_holds h v all).others;
 }
 
-pub knows_of : (m : Machine) (h f : List Entry) (old new : Sitting) → new ≡ seeing old (committed_view h old.view) → h ≡ f → old.view.input ≡ m → HoldsBelow 18 old.view → Placed old.view f → KnowsBelow m 17 f new.view
+pub knows_of : (m : Machine) (h f : List Entry) (old new : Sitting) → new ≡ sitting_with old (committed_view h old.view) → h ≡ f → old.view.input ≡ m → HoldsBelow 18 old.view → Placed old.view f → KnowsBelow m 17 f new.view
 knows_of m h f old new is same input all placed =
     subst (λ (s : Sitting). KnowsBelow m 17 f s.view) (sym is) (subst (λ (l : List Entry). KnowsBelow m 17 f (committed_view l old.view)) (sym same) (committed_knows m f old.view input all placed))
 
@@ -110,7 +106,7 @@ decided_none f h v front nobody same r low =
 -- a name was moved
 pub moved_holds : (n to b : ℕ) (v : Seen) → HoldsBelow b v → HoldsBelow b (moved_name n to v)
 moved_holds n to b v all = record {
-  holds = λ k low. let z = all.holds k low in (known z.0.part (names_after n to k z.0), find-renamed-is n to k v.held z.0 z.1);
+  holds = λ k low. let z = all.holds k low in (known_part z.0.part (names_after n to k z.0), find-renamed-is n to k v.held z.0 z.1);
   others = λ k high. find-renamed-none n to k v.held (all.others k high);
 }
 
@@ -119,7 +115,7 @@ pub moved_placed : (m : Machine) (n to : ℕ) (f h : List Entry) (v : Seen) → 
     → now_at m f ≡ now_at m h → Placed (moved_name n to v) h
 moved_placed m n to f h v input front all current homes home now = (
   λ k x p low found small. let z = all.holds k (omega (arith, low)) in
-      let is : known z.0.part (names_after n to k z.0) ≡ x = some_same (known z.0.part (names_after n to k z.0)) x (sym (find-renamed-is n to k v.held z.0 z.1) ∙ found) in
+      let is : known_part z.0.part (names_after n to k z.0) ≡ x = some_same (known_part z.0.part (names_after n to k z.0)) x (sym (find-renamed-is n to k v.held z.0 z.1) ∙ found) in
       ap (λ (y : Known). has_place p y.names) (sym is) ∙ dite (ℕ_discrete p n)
       (λ e. subst (λ (q : ℕ). has_place q (names_after n to k z.0) ≡ eqb (home_at v.input h q) k) (sym e) (after_here n to k z.0 ∙ (ap (λ (j : ℕ). eqb j k) (sym home) ∙ ap (λ (q : Machine). eqb (home_at q h n) k) (sym input))))
       (λ ne. after_else n to k p z.0 ne ∙ ((current.0 k z.0 low z.1).1 p small ∙ ap (λ (j : ℕ). eqb j k) ((λ i. home_at (input i) (front i) p) ∙ homes p small ne ∙ ap (λ (q : Machine). home_at q h p) (sym input)))),

@@ -22,9 +22,3 @@ core_below m r e = below r 64 (first_holds (nat_lt r 64) _ e)
 pub name_below : (m : Machine) (name : NameId) → has_name m name ≡ true → name_number name < 128
 name_below m (Res r) e = let low = core_below m r.0 e in omega (arith, low)
 name_below m (Dom d) e = let low = below d.0 64 (first_holds (nat_lt d.0 64) _ e) in omega (arith, low)
-
-pub word_below : (m : Machine) (w : WordId) → has_word m w ≡ true → word_index w < 211
-word_below m (Lock k) e = let low = below k.0 18 e in omega (arith, low)
-word_below m (Name name) e = let low = name_below m name e in omega (arith, low)
-word_below m Now e = omega arith
-word_below m (Stage r) e = let low = core_below m r.0 e in omega (arith, low)

@@ -11,7 +11,7 @@ use Rattle.journal_core.specs.Histories.{decides_at, home_at}
 use Rattle.sched_model.specs.declared.event.Entry.{Entry}
 use Rattle.sched_model.specs.declared.machine.Machine.{Machine}
 use Rattle.lock_moves.specs.declared.content.Content.{Content}
-use Rattle.lock_moves.specs.Sight.{Known, View, known, find_lock, Holds, has_place, without_name, renamed, raise, view_moved_name, view_with_now}
+use Rattle.lock_moves.specs.Sight.{Known, View, known_part, find_lock, Holds, has_place, without_name, renamed_locks, raise, view_moved_name, view_with_now}
 use Rattle.lock_moves.specs.Agrees.{Has, Agrees}
 use Rattle.lock_moves.specs.Plays.{named, timed, looked}
 use Rattle.lock_moves.proofs.Finding.{find-tail, some_same, never, none_or, set_all, set_some}
@@ -22,33 +22,33 @@ use Rattle.lock_moves.proofs.Taking.{unmoved}
 abbrev pub names_after : ℕ → ℕ → ℕ → Known → List ℕ
 names_after n to j x = cond (eqb to j) (n ∷ x.names) (without_name n x.names)
 
-pub find-renamed : (n to k : ℕ) (xs : List (ℕ × Known)) (y : Known) → find_lock k (renamed n to xs) ≡ Some y → (x : Known) × (find_lock k xs ≡ Some x) × (y ≡ known x.part (names_after n to k x))
+pub find-renamed : (n to k : ℕ) (xs : List (ℕ × Known)) (y : Known) → find_lock k (renamed_locks n to xs) ≡ Some y → (x : Known) × (find_lock k xs ≡ Some x) × (y ≡ known_part x.part (names_after n to k x))
 find-renamed n to k [] y e = absurd (never y e)
-find-renamed n to k (q ∷ xs) y e = let z : Known = known q.1.part (names_after n to q.0 q.1) in dite (ℕ_discrete k q.0)
+find-renamed n to k (q ∷ xs) y e = let z : Known = known_part q.1.part (names_after n to q.0 q.1) in dite (ℕ_discrete k q.0)
     (λ here. (
       q.1,
       ap (λ b. cond b (Some q.1) (find_lock k xs)) (eq-eqb k q.0 here),
-      sym (some_same z y (sym (ap (λ b. cond b (Some z) (find_lock k (renamed n to xs))) (eq-eqb k q.0 here)) ∙ e)) ∙ (λ i. known q.1.part (names_after n to (sym here i) q.1)),
+      sym (some_same z y (sym (ap (λ b. cond b (Some z) (find_lock k (renamed_locks n to xs))) (eq-eqb k q.0 here)) ∙ e)) ∙ (λ i. known_part q.1.part (names_after n to (sym here i) q.1)),
     ))
-    (λ other. let t = find-renamed n to k xs y (sym (find-tail k q.0 z (renamed n to xs) other) ∙ e) in (t.0, find-tail k q.0 q.1 xs other ∙ t.1, t.2))
+    (λ other. let t = find-renamed n to k xs y (sym (find-tail k q.0 z (renamed_locks n to xs) other) ∙ e) in (t.0, find-tail k q.0 q.1 xs other ∙ t.1, t.2))
 
 -- what is found once the name n was moved to the lock `to`
-pub find-renamed-is : (n to k : ℕ) (xs : List (ℕ × Known)) (x : Known) → find_lock k xs ≡ Some x → find_lock k (renamed n to xs) ≡ Some (known x.part (names_after n to k x))
+pub find-renamed-is : (n to k : ℕ) (xs : List (ℕ × Known)) (x : Known) → find_lock k xs ≡ Some x → find_lock k (renamed_locks n to xs) ≡ Some (known_part x.part (names_after n to k x))
 find-renamed-is n to k [] x e = absurd (never x e)
-find-renamed-is n to k (q ∷ xs) x e = let z : Known = known q.1.part (names_after n to q.0 q.1) in dite (ℕ_discrete k q.0)
+find-renamed-is n to k (q ∷ xs) x e = let z : Known = known_part q.1.part (names_after n to q.0 q.1) in dite (ℕ_discrete k q.0)
     (λ is. let same : q.1 ≡ x = some_same q.1 x (sym (ap (λ b. cond b (Some q.1) (find_lock k xs)) (eq-eqb k q.0 is)) ∙ e) in
-    ap (λ b. cond b (Some z) (find_lock k (renamed n to xs))) (eq-eqb k q.0 is) ∙ (λ i. Some (known (same i).part (names_after n to (sym is i) (same i)))))
-    (λ ne. find-tail k q.0 z (renamed n to xs) ne ∙ find-renamed-is n to k xs x (sym (find-tail k q.0 q.1 xs ne) ∙ e))
+    ap (λ b. cond b (Some z) (find_lock k (renamed_locks n to xs))) (eq-eqb k q.0 is) ∙ (λ i. Some (known_part (same i).part (names_after n to (sym is i) (same i)))))
+    (λ ne. find-tail k q.0 z (renamed_locks n to xs) ne ∙ find-renamed-is n to k xs x (sym (find-tail k q.0 q.1 xs ne) ∙ e))
 
-pub find-renamed-none : (n to k : ℕ) (xs : List (ℕ × Known)) → find_lock k xs ≡ None → find_lock k (renamed n to xs) ≡ None
+pub find-renamed-none : (n to k : ℕ) (xs : List (ℕ × Known)) → find_lock k xs ≡ None → find_lock k (renamed_locks n to xs) ≡ None
 find-renamed-none n to k [] e = refl
 find-renamed-none n to k (q ∷ xs) e = dite (ℕ_discrete k q.0)
     (λ is. absurd (never q.1 (sym e ∙ ap (λ b. cond b (Some q.1) (find_lock k xs)) (eq-eqb k q.0 is))))
-    (λ ne. find-tail k q.0 (known q.1.part (names_after n to q.0 q.1)) (renamed n to xs) ne ∙ find-renamed-none n to k xs (sym (find-tail k q.0 q.1 xs ne) ∙ e))
+    (λ ne. find-tail k q.0 (known_part q.1.part (names_after n to q.0 q.1)) (renamed_locks n to xs) ne ∙ find-renamed-none n to k xs (sym (find-tail k q.0 q.1 xs ne) ∙ e))
 
 -- and what was found before
-was_none : (n to k : ℕ) (xs : List (ℕ × Known)) → find_lock k (renamed n to xs) ≡ None → find_lock k xs ≡ None
-was_none n to k xs e = none_or (find_lock k xs) (λ x f. never (known x.part (names_after n to k x)) (sym e ∙ find-renamed-is n to k xs x f))
+was_none : (n to k : ℕ) (xs : List (ℕ × Known)) → find_lock k (renamed_locks n to xs) ≡ None → find_lock k xs ≡ None
+was_none n to k xs e = none_or (find_lock k xs) (λ x f. never (known_part x.part (names_after n to k x)) (sym e ∙ find-renamed-is n to k xs x f))
 
 pub gone : (n : ℕ) (xs : List ℕ) → has_place n (without_name n xs) ≡ false
 gone n [] = refl
@@ -104,7 +104,7 @@ module _ {V : Type 0} (part : V → StatePart) (suits : Machine → ℕ → V �
           suited = λ j y q e home. subst (λ (t : ℕ). suits m t y) (sym clock) (r.suited j y q (sym (lock j (omega (arith, q))) ∙ e) home);
           locks = record {
             free = λ j q e. r.locks.free j q (sym (lock j q) ∙ e);
-            taken = λ j q nz. set_some (λ u. Holds j u.seen) s.views id v w at (λ p. (known p.0.part (names_after n to j p.0), find-renamed-is n to j v.seen.held p.0 p.1)) (r.owner j) (r.locks.taken j q (λ e. nz (lock j q ∙ e)));
+            taken = λ j q nz. set_some (λ u. Holds j u.seen) s.views id v w at (λ p. (known_part p.0.part (names_after n to j p.0), find-renamed-is n to j v.seen.held p.0 p.1)) (r.owner j) (r.locks.taken j q (λ e. nz (lock j q ∙ e)));
             held = λ i u j x e q. set_all (λ i u. (j : ℕ) (x : Known) → find_lock j u.seen.held ≡ Some x → Has part m words' s.homes h r.owner i u j x) s.views id w
                 (λ j y q. let t = find-renamed n to j v.seen.held y q in let o = r.locks.held id v j t.0 at t.1 in record {
                   below = o.below;

@@ -10,7 +10,7 @@ use Rattle.atomic_table.proofs.Lists.{set_else, at_longer}
 use Rattle.journal_core.specs.Parts.{StatePart}
 use Rattle.sched_model.specs.declared.event.Entry.{Entry}
 use Rattle.sched_model.specs.declared.machine.Machine.{Machine}
-use Rattle.lock_moves.specs.Sight.{Known, View, find_lock, Holds, has_place, Rising, longer, view_lessened, view_newcomer, view_joined, spent_view}
+use Rattle.lock_moves.specs.Sight.{Known, View, find_lock, Holds, has_place, Rising, longer_history, view_lessened, view_newcomer, view_joined, spent_view}
 use Rattle.lock_moves.specs.Agrees.{shares_of, Has, Agrees}
 use Rattle.lock_moves.proofs.Finding.{never, set_there, set_all, set_some}
 use Rattle.lock_moves.proofs.Moving.{Begins, shares-set, fronts_same, has_moved, Names_of, names_of, names_none, names_viewed, Stages_of, stages_of, stages_viewed}
@@ -47,7 +47,7 @@ bool_case P true is isnt = is refl
 bool_case P false is isnt = isnt refl
 
 -- what is true of both is true of the longer
-pub longer_case : (P : List Entry → Type 0) (xs ys : List Entry) → (length ys ≤ length xs → P xs) → (length xs ≤ length ys → P ys) → P (longer xs ys)
+pub longer_case : (P : List Entry → Type 0) (xs ys : List Entry) → (length ys ≤ length xs → P xs) → (length xs ≤ length ys → P ys) → P (longer_history xs ys)
 longer_case P xs ys left right = bool_case (λ b. P (cond b ys xs)) (leb (length xs) (length ys)) (λ e. right (leb-true (length xs) (length ys) e)) (λ e. left (le_of_lt (leb-false (length xs) (length ys) e)))
 
 abbrev passed : (ℕ → ℕ) → ℕ → ℕ → ℕ → ℕ

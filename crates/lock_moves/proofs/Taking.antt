@@ -17,7 +17,7 @@ use Rattle.sched_model.specs.declared.machine.Machine.{Machine}
 use Rattle.lock_moves.proofs.Finding.{lists-part}
 use Rattle.lock_moves.specs.declared.content.Content.{Content}
 use Rattle.lock_moves.specs.declared.content.Content.TheVariants.{Out, Value, Ledger}
-use Rattle.lock_moves.specs.Sight.{Known, View, known, has_place, find_lock, Holds, AllBelow, without, view_took, view_turned_away, with_out, view_gave}
+use Rattle.lock_moves.specs.Sight.{Known, View, known_part as known, has_place, find_lock, Holds, AllBelow, locks_without, view_took, view_turned_away, with_out, view_gave}
 use Rattle.lock_moves.specs.Agrees.{Fits, Has, Agrees}
 use Rattle.lock_moves.specs.Plays.{Lists, IsPartOfSome, tried, settled, fetched, put_back}
 use Rattle.lock_moves.proofs.Finding.{find-head, find-tail, find-without-same, find-without-other, some_same, never, set_all, set_some, listed, listed-has}
@@ -41,9 +41,9 @@ set_found (x ∷ xs) (suc i) zero = refl
 set_found (x ∷ xs) (suc i) (suc j) = set_found xs i j
 
 -- what is still held was held before
-pub still : (k j : ℕ) (xs : List (ℕ × Known)) (x : Known) → find_lock j (without k xs) ≡ Some x → find_lock j xs ≡ Some x
+pub still : (k j : ℕ) (xs : List (ℕ × Known)) (x : Known) → find_lock j (locks_without k xs) ≡ Some x → find_lock j xs ≡ Some x
 still k j xs x f = dite (ℕ_discrete j k)
-    (λ e. absurd (never x (sym (ap (λ (n : ℕ). find_lock n (without k xs)) e ∙ find-without-same k xs) ∙ f)))
+    (λ e. absurd (never x (sym (ap (λ (n : ℕ). find_lock n (locks_without k xs)) e ∙ find-without-same k xs) ∙ f)))
     (λ ne. sym (find-without-other k j xs ne) ∙ f)
 
 module _ {V : Type 0} where

@@ -12,6 +12,7 @@ use Rattle.journal_core.specs.Histories.{part_at, home_at, now_at, decides_at, I
 use Rattle.lock_moves.specs.declared.content.Content.{Content}
 use Rattle.lock_moves.specs.declared.content.Content.TheVariants.{Out, Value, Ledger}
 use Rattle.lock_moves.specs.Sight.{Known, View, find_lock, Holds, has_place, Rising, raise}
+use Rattle.lock_moves.specs.Words.{lock_count, word_count, name_word, moment_word, stage_word}
 
 abbrev pub shares_of : List View → ℕ
 shares_of [] = 0
@@ -30,12 +31,12 @@ pub record Fronts (m : Machine) (limit base : ℕ) (views : List View) (h : List
 
 -- each free value suits the machine at the moment that the moment word has
 abbrev pub Suited : {V : Type 0} → (Machine → ℕ → V → Type 0) → Machine → List ℕ → List (maybe.Option (Content V)) → Type 0
-Suited suits m words homes = (k : ℕ) (y : _) → k < 17 → slice_index words k ≡ 0 → get_elem? homes k ≡ some (some (Value y)) → suits m (slice_index words 146) y
+Suited suits m words homes = (k : ℕ) (y : _) → k < 17 → slice_index words k ≡ 0 → get_elem? homes k ≡ some (some (Value y)) → suits m (slice_index words moment_word) y
 
 module _ {V : Type 0} (part : V → StatePart) (m : Machine) where
   -- what is true of a lock k that the seat id holds, with the view v
   pub record Has (words : List ℕ) (homes : List (maybe.Option (Content V))) (h : List Entry) (owner : ℕ → ℕ) (id : ℕ) (v : View) (k : ℕ) (x : Known) : Type 0 where
-    pub below : k < 18
+    pub below : k < lock_count
     pub owned : owner k ≡ id
     pub shut : slice_index words k ≡ 1
     pub agrees : k < 17 → x.part ≡ part_at m h k
@@ -43,15 +44,15 @@ module _ {V : Type 0} (part : V → StatePart) (m : Machine) where
     pub slot : v.out ≢ suc k → get_elem? homes k ≡ some (some Out)
 
   -- the names: a lock's names, in the value or in the holder's view, are those whose word is the lock; where the book is free each word is the name's home;
-  -- a seat that holds a lock has the moment. The word of the name n is word 18 + n
+  -- a seat that holds a lock has the moment.
   pub record Names (words : List ℕ) (homes : List (maybe.Option (Content V))) (views : List View) (h : List Entry) : Type 0 where
-    pub free : (k : ℕ) (y : V) (n : ℕ) → k < 17 → slice_index words k ≡ 0 → get_elem? homes k ≡ some (some (Value y)) → n < 128 → lists (part y) n ≡ eqb (slice_index words (18 + n)) k
-    pub held : (id : ℕ) (v : View) (k : ℕ) (x : Known) (n : ℕ) → get_elem? views id ≡ some v → find_lock k v.seen.held ≡ Some x → n < 128 → has_place n x.names ≡ eqb (slice_index words (18 + n)) k
-    pub moment : (id : ℕ) (v : View) (k : ℕ) (x : Known) → get_elem? views id ≡ some v → find_lock k v.seen.held ≡ Some x → v.seen.now ≡ slice_index words 146
-    pub settled : slice_index words 17 ≡ 0 → ((n : ℕ) → n < 128 → slice_index words (18 + n) ≡ home_at m h n) × (slice_index words 146 ≡ now_at m h)
-    pub apart : (n : ℕ) → n < 128 → slice_index words (18 + n) ≢ 17
+    pub free : (k : ℕ) (y : V) (n : ℕ) → k < 17 → slice_index words k ≡ 0 → get_elem? homes k ≡ some (some (Value y)) → n < 128 → lists (part y) n ≡ eqb (slice_index words (name_word n)) k
+    pub held : (id : ℕ) (v : View) (k : ℕ) (x : Known) (n : ℕ) → get_elem? views id ≡ some v → find_lock k v.seen.held ≡ Some x → n < 128 → has_place n x.names ≡ eqb (slice_index words (name_word n)) k
+    pub moment : (id : ℕ) (v : View) (k : ℕ) (x : Known) → get_elem? views id ≡ some v → find_lock k v.seen.held ≡ Some x → v.seen.now ≡ slice_index words moment_word
+    pub settled : slice_index words 17 ≡ 0 → ((n : ℕ) → n < 128 → slice_index words (name_word n) ≡ home_at m h n) × (slice_index words moment_word ≡ now_at m h)
+    pub apart : (n : ℕ) → n < 128 → slice_index words (name_word n) ≢ 17
     -- the holder of the book has moved no name of a lock that it does not hold
-    pub moving : (id : ℕ) (v : View) (x : Known) (j n : ℕ) → get_elem? views id ≡ some v → find_lock 17 v.seen.held ≡ Some x → find_lock j v.seen.held ≡ None → n < 128 → eqb (slice_index words (18 + n)) j ≡ eqb (home_at m h n) j
+    pub moving : (id : ℕ) (v : View) (x : Known) (j n : ℕ) → get_elem? views id ≡ some v → find_lock 17 v.seen.held ≡ Some x → find_lock j v.seen.held ≡ None → n < 128 → eqb (slice_index words (name_word n)) j ≡ eqb (home_at m h n) j
 
 module _ {V : Type 0} (part : V → StatePart) (m : Machine) (limit : ℕ) where
   -- what lies in the slot of the free lock k
@@ -62,14 +63,14 @@ module _ {V : Type 0} (part : V → StatePart) (m : Machine) (limit : ℕ) where
 
   -- the locks: a lock's word is taken exactly where some seat holds the lock, a free lock's value is its part of the state, and so is what the holder knows
   pub record Locks (words : List ℕ) (homes : List (maybe.Option (Content V))) (views : List View) (h : List Entry) (owner : ℕ → ℕ) : Type 0 where
-    pub free : (k : ℕ) → k < 18 → slice_index words k ≡ 0 → (y : Content V) × (get_elem? homes k ≡ some (some y)) × Fits h k y
-    pub taken : (k : ℕ) → k < 18 → slice_index words k ≢ 0 → (v : View) × (get_elem? views (owner k) ≡ some v) × Holds k v.seen
+    pub free : (k : ℕ) → k < lock_count → slice_index words k ≡ 0 → (y : Content V) × (get_elem? homes k ≡ some (some y)) × Fits h k y
+    pub taken : (k : ℕ) → k < lock_count → slice_index words k ≢ 0 → (v : View) × (get_elem? views (owner k) ≡ some v) × Holds k v.seen
     pub held : (id : ℕ) (v : View) (k : ℕ) (x : Known) → get_elem? views id ≡ some v → find_lock k v.seen.held ≡ Some x → Has part m words homes h owner id v k x
 
--- the stage words: each counts the decisions of its core in the history, and one more where the holder of the book names the core. The word of the core r is word 147 + r
+-- the stage words: each counts the decisions of its core in the history, and one more where the holder of the book names the core.
 pub record Stages (words : List ℕ) (views : List View) (h : List Entry) : Type 0 where
-  pub settled : slice_index words 17 ≡ 0 → (r : ℕ) → r < 64 → slice_index words (147 + r) ≡ decides_at h r
-  pub raised : (id : ℕ) (v : View) (x : Known) (r : ℕ) → get_elem? views id ≡ some v → find_lock 17 v.seen.held ≡ Some x → r < 64 → slice_index words (147 + r) ≡ decides_at h r + raise r v.seen
+  pub settled : slice_index words 17 ≡ 0 → (r : ℕ) → r < 64 → slice_index words (stage_word r) ≡ decides_at h r
+  pub raised : (id : ℕ) (v : View) (x : Known) (r : ℕ) → get_elem? views id ≡ some v → find_lock 17 v.seen.held ≡ Some x → r < 64 → slice_index words (stage_word r) ≡ decides_at h r + raise r v.seen
   pub nobody : (id : ℕ) (v : View) → get_elem? views id ≡ some v → find_lock 17 v.seen.held ≡ None → v.seen.named ≡ 0
 
 -- the rule: there is one history, a sound one, with which all of this agrees
@@ -79,8 +80,8 @@ pub record Agrees {V : Type 0} (part : V → StatePart) (suits : Machine → ℕ
   pub keeper : ℕ → ℕ
   pub latest : ℕ
   pub sound : IsSound m history
-  pub wide : length s.words ≡ 211
-  pub deep : length s.homes ≡ 18
+  pub wide : length s.words ≡ word_count
+  pub deep : length s.homes ≡ lock_count
   pub locks : Locks part m limit s.words s.homes s.views history owner
   pub names : Names part m s.words s.homes s.views history
   pub suited : Suited suits m s.words s.homes

@@ -1,5 +1,5 @@
 -- What a set is made of, and what is in it at its end.
-use Rattle.std.specs.Prelude.{◌≡◌, ℕ, ◌+◌, ◌<◌, List, Bool, true, false, length, slice_index, slice_index_or}
+use Rattle.std.specs.Prelude.{◌≡◌, ℕ, ◌<◌, List, Bool, true, false, length, slice_index, slice_index_or}
 use mathlib.Core.Option.{some}
 use lib.ListN.{get_elem?}
 use Rattle.journal_core.specs.Parts.{StatePart}
@@ -9,6 +9,7 @@ use Rattle.journal_core.specs.Histories.{part_at, home_at, now_at, decides_at}
 use Rattle.journal_core.specs.Books.{Chronicle}
 use Rattle.lock_moves.specs.declared.content.Content.{Content}
 use Rattle.lock_moves.specs.declared.content.Content.TheVariants.{Value}
+use Rattle.lock_moves.specs.Words.{lock_count, word_count, name_word, moment_word, stage_word}
 
 -- the values are the 17 parts of the book's state, in the order of their locks
 pub record AreParts {V : Type 0} (part : V → StatePart) (suits : Machine → ℕ → V → Type 0) (b : Chronicle) (values : List V) : Type 0 where
@@ -18,11 +19,11 @@ pub record AreParts {V : Type 0} (part : V → StatePart) (suits : Machine → �
 
 -- the words at the opening: the locks are free, and the names, the moment and the stages are those of the book's state
 pub record IsOpening (b : Chronicle) (words : List ℕ) : Type 0 where
-  pub wide : length words ≡ 211
-  pub free : (k : ℕ) → k < 18 → slice_index words k ≡ 0
-  pub names : (n : ℕ) → n < 128 → slice_index words (18 + n) ≡ home_at b.input b.history n
-  pub moment : slice_index words 146 ≡ now_at b.input b.history
-  pub stages : (r : ℕ) → r < 64 → slice_index words (147 + r) ≡ decides_at b.history r
+  pub wide : length words ≡ word_count
+  pub free : (k : ℕ) → k < lock_count → slice_index words k ≡ 0
+  pub names : (n : ℕ) → n < 128 → slice_index words (name_word n) ≡ home_at b.input b.history n
+  pub moment : slice_index words moment_word ≡ now_at b.input b.history
+  pub stages : (r : ℕ) → r < 64 → slice_index words (stage_word r) ≡ decides_at b.history r
 
 -- at the end the slots of the locks but the book's have the parts of the state of the history h, in the order of the locks
 abbrev pub HaveParts : {V : Type 0} → (V → StatePart) → (Machine → ℕ → V → Type 0) → Machine → List Entry → List (Content V) → Type 0

@@ -10,6 +10,7 @@ use Rattle.journal_core.specs.Books.{Chronicle}
 use Rattle.lock_moves.specs.declared.content.Content.{Content}
 use Rattle.lock_moves.specs.declared.content.Content.TheVariants.{Out, Value, Ledger}
 use Rattle.lock_moves.specs.Sight.{Known, Seen, View, find_lock, has_place, view_took, view_took_book, view_turned_away, with_out, view_gave, view_committed, view_moved_name, view_with_now, raise, view_naming, view_has_loaded}
+use Rattle.lock_moves.specs.Words.{name_word, moment_word, stage_word}
 
 -- the parts, the names and the moment that the view knows are those of the state to which its front leads
 abbrev pub Current : Seen → Type 0
@@ -44,9 +45,9 @@ Kept v h = (k : ℕ) → k < 17 → find_lock k v.held ≡ None → part_at v.in
 -- and no other held lock, the moment is the seat's, and under the book a stage word is the number of decisions, and one more for the core that is named
 abbrev pub Tells : ℕ → ℕ → Seen → Type 0
 Tells i r v = ((k : ℕ) (x : Known) → i ≡ k → find_lock k v.held ≡ Some x → r ≡ 1)
-    × ((k : ℕ) (x : Known) (n : ℕ) → i ≡ 18 + n → find_lock k v.held ≡ Some x → n < 128 → has_place n x.names ≡ eqb r k)
-    × ((k : ℕ) (x : Known) → i ≡ 146 → find_lock k v.held ≡ Some x → v.now ≡ r)
-    × ((q : ℕ) (x : Known) → i ≡ 147 + q → find_lock 17 v.held ≡ Some x → q < 64 → r ≡ decides_at v.front q + raise q v)
+    × ((k : ℕ) (x : Known) (n : ℕ) → i ≡ name_word n → find_lock k v.held ≡ Some x → n < 128 → has_place n x.names ≡ eqb r k)
+    × ((k : ℕ) (x : Known) → i ≡ moment_word → find_lock k v.held ≡ Some x → v.now ≡ r)
+    × ((q : ℕ) (x : Known) → i ≡ stage_word q → find_lock 17 v.held ≡ Some x → q < 64 → r ≡ decides_at v.front q + raise q v)
 
 -- a seat in the midst of a call: what the table keeps of it, and the slots that are out with it
 abbrev Sat : Type 0 → Type 0
@@ -85,7 +86,7 @@ module _ {V : Type 0} where
 
   -- the name of the word moves to the lock that was stored
   abbrev pub named : Step (Content V) → Sat V → ℕ → Sat V → Type 0
-  named st m r m' = (n : ℕ) → st.word ≡ 18 + n → m' ≡ (view_moved_name n st.first m.0, m.1)
+  named st m r m' = (n : ℕ) → st.word ≡ name_word n → m' ≡ (view_moved_name n st.first m.0, m.1)
 
   -- the moment was stored
   abbrev pub timed : Step (Content V) → Sat V → ℕ → Sat V → Type 0
@@ -93,8 +94,8 @@ module _ {V : Type 0} where
 
   -- the number found is at least that of the decisions in some history that begins with the front: the book's at that moment
   abbrev pub loaded : Step (Content V) → Sat V → ℕ → Sat V → Type 0
-  loaded st m n m' = (r : ℕ) → st.word ≡ 147 + r → r < 64 → (m' ≡ (view_has_loaded r n m.0, m.1)) × ((h : List Entry) × IsPrefix m.0.seen.front h × (decides_at h r ≤ n))
+  loaded st m n m' = (r : ℕ) → st.word ≡ stage_word r → r < 64 → (m' ≡ (view_has_loaded r n m.0, m.1)) × ((h : List Entry) × IsPrefix m.0.seen.front h × (decides_at h r ≤ n))
 
   -- the stage word was raised by one
   abbrev pub raised : Step (Content V) → Sat V → ℕ → Sat V → Type 0
-  raised st m n m' = (r : ℕ) → st.word ≡ 147 + r → m' ≡ (view_naming r m.0, m.1)
+  raised st m n m' = (r : ℕ) → st.word ≡ stage_word r → m' ≡ (view_naming r m.0, m.1)

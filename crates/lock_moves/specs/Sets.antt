@@ -3,7 +3,7 @@ use Rattle.std.specs.Prelude.{◌≡◌, ℕ, List, true, Some}
 use Rattle.atomic_table.specs.Seated.{TableId}
 use Rattle.journal_core.specs.Parts.{StatePart}
 use Rattle.journal_core.specs.Books.{Chronicle}
-use Rattle.lock_moves.specs.Sight.{Known, Seen, Sitting, find_lock, has_place, took}
+use Rattle.lock_moves.specs.Sight.{Known, Seen, Sitting, find_lock, has_place, after_take}
 use Rattle.lock_moves.specs.Plays.{Lists}
 
 -- a set: its table, and the book that it was opened with
@@ -17,12 +17,12 @@ pub record Taken (V : Type 0) : Type 0 where
   pub value : V
 
 -- the seat with this view
-abbrev pub seeing : Sitting → Seen → Sitting
-seeing s v = record s { view = v }
+abbrev pub sitting_with : Sitting → Seen → Sitting
+sitting_with s v = record s { view = v }
 
 -- the seat `old`, whose view is v for the tries that were refused, has taken the lock k, whose value has this part; the view has the names that the part lists
 abbrev pub HasTaken : ℕ → StatePart → Seen → Sitting → Sitting → Type 0
-HasTaken k part v old new = (names : List ℕ) × (now : ℕ) × (new ≡ seeing old (took k part names now v)) × Lists part names
+HasTaken k part v old new = (names : List ℕ) × (now : ℕ) × (new ≡ sitting_with old (after_take k part names now v)) × Lists part names
 
 -- the value is the lock's part as the seat knows it, and lists the names that the seat has for the lock
 abbrev pub IsAsKnown : ℕ → StatePart → Seen → Type 0

@@ -38,12 +38,12 @@ pub record Sitting : Type 0 where
   pub id : ℕ
   pub view : Seen
 
-abbrev pub known : StatePart → List ℕ → Known
-known part names = record { part = part; names = names }
+abbrev pub known_part : StatePart → List ℕ → Known
+known_part part names = record { part = part; names = names }
 
 -- the book's lock guards no part and no name
 abbrev pub book_known : Known
-book_known = known no_part []
+book_known = known_part no_part []
 
 -- what is known of the lock k, if it is held
 abbrev pub find_lock : ℕ → List (ℕ × Known) → Option Known
@@ -51,14 +51,14 @@ find_lock k [] = None
 find_lock k (x ∷ xs) = cond (eqb k x.0) (Some x.1) (find_lock k xs)
 
 -- the locks but k
-abbrev pub without : ℕ → List (ℕ × Known) → List (ℕ × Known)
-without k [] = []
-without k (x ∷ xs) = cond (eqb k x.0) (without k xs) (x ∷ without k xs)
+abbrev pub locks_without : ℕ → List (ℕ × Known) → List (ℕ × Known)
+locks_without k [] = []
+locks_without k (x ∷ xs) = cond (eqb k x.0) (locks_without k xs) (x ∷ locks_without k xs)
 
 -- the same locks, with the parts of the state to which the history h leads
-abbrev pub refreshed : Machine → List Entry → List (ℕ × Known) → List (ℕ × Known)
-refreshed m h [] = []
-refreshed m h (x ∷ xs) = (x.0, known (part_at m h x.0) x.1.names) ∷ refreshed m h xs
+abbrev pub refreshed_locks : Machine → List Entry → List (ℕ × Known) → List (ℕ × Known)
+refreshed_locks m h [] = []
+refreshed_locks m h (x ∷ xs) = (x.0, known_part (part_at m h x.0) x.1.names) ∷ refreshed_locks m h xs
 
 -- the lock k is held
 abbrev pub Holds : ℕ → Seen → Type 0
@@ -99,8 +99,8 @@ Rising [] = ⊤
 Rising (q ∷ qs) = AllAbove q qs × Rising qs
 
 -- the longer of two histories
-abbrev pub longer : List Entry → List Entry → List Entry
-longer xs ys = cond (leb (length xs) (length ys)) ys xs
+abbrev pub longer_history : List Entry → List Entry → List Entry
+longer_history xs ys = cond (leb (length xs) (length ys)) ys xs
 
 -- the numbers below n that stand in one of the lists, in order
 abbrev pub both_places : List ℕ → List ℕ → ℕ → List ℕ
@@ -108,8 +108,8 @@ both_places xs ys zero = []
 both_places xs ys (suc n) = both_places xs ys n ++ cond (has_place n xs || has_place n ys) (n ∷ []) []
 
 -- the lock k was taken, whose value is the part and lists the names, at the moment t
-abbrev pub took : ℕ → StatePart → List ℕ → ℕ → Seen → Seen
-took k part names t v = record v { held = (k, known part names) ∷ v.held; now = t }
+abbrev pub after_take : ℕ → StatePart → List ℕ → ℕ → Seen → Seen
+after_take k part names t v = record v { held = (k, known_part part names) ∷ v.held; now = t }
 
 -- the book was taken, whose history is h
 abbrev pub took_book : List Entry → ℕ → Seen → Seen
@@ -121,21 +121,21 @@ without_name n [] = []
 without_name n (x ∷ xs) = cond (eqb n x) (without_name n xs) (x ∷ without_name n xs)
 
 -- the same locks, with the name n in the lock `to` alone
-abbrev pub renamed : ℕ → ℕ → List (ℕ × Known) → List (ℕ × Known)
-renamed n to [] = []
-renamed n to (x ∷ xs) = (x.0, known x.1.part (cond (eqb to x.0) (n ∷ x.1.names) (without_name n x.1.names))) ∷ renamed n to xs
+abbrev pub renamed_locks : ℕ → ℕ → List (ℕ × Known) → List (ℕ × Known)
+renamed_locks n to [] = []
+renamed_locks n to (x ∷ xs) = (x.0, known_part x.1.part (cond (eqb to x.0) (n ∷ x.1.names) (without_name n x.1.names))) ∷ renamed_locks n to xs
 
 -- the name n was moved to the lock `to`
 abbrev pub moved_name : ℕ → ℕ → Seen → Seen
-moved_name n to v = record v { held = renamed n to v.held }
+moved_name n to v = record v { held = renamed_locks n to v.held }
 
 -- 1 where the view names the core r
 abbrev pub raise : ℕ → Seen → ℕ
 raise r v = cond (eqb (suc r) v.named) 1 0
 
 -- the stage word of the core r was raised
-abbrev pub naming : ℕ → Seen → Seen
-naming r v = record v { named = suc r }
+abbrev pub after_naming : ℕ → Seen → Seen
+after_naming r v = record v { named = suc r }
 
 -- the stage word of the core r was loaded, and was n
 abbrev pub has_loaded : ℕ → ℕ → Seen → Seen
@@ -154,12 +154,12 @@ abbrev pub tried_again : ℕ → ℕ → Seen → Seen
 tried_again n k v = record v { refused = replicate n k ++ v.refused }
 
 -- what a seat that holds nothing may have changed by tries alone
-abbrev pub searched : List ℕ → ℕ → Seen → Seen
-searched refused t v = record v { refused = refused; held = []; now = t }
+abbrev pub after_search : List ℕ → ℕ → Seen → Seen
+after_search refused t v = record v { refused = refused; held = []; now = t }
 
 -- the lock k was put back
-abbrev pub gave : ℕ → Seen → Seen
-gave k v = record v { held = without k v.held }
+abbrev pub after_give : ℕ → Seen → Seen
+after_give k v = record v { held = locks_without k v.held }
 
 -- the own places with that of the entry by which the history h is longer than the front, if it is
 abbrev pub places_after : Seen → List Entry → List ℕ
@@ -167,26 +167,26 @@ places_after v h = cond (eqb (length h) (length v.front)) v.own (v.own ++ length
 
 -- the book was put back, with the history h
 abbrev pub committed_view : List Entry → Seen → Seen
-committed_view h v = record v { front = h; own = places_after v h; held = refreshed v.input h (without 17 v.held); named = 0 }
+committed_view h v = record v { front = h; own = places_after v h; held = refreshed_locks v.input h (locks_without 17 v.held); named = 0 }
 
 -- a seat that has done nothing yet
-abbrev pub fresh : Machine → ℕ → List Entry → ℕ → Seen
-fresh m limit h shares = record { input = m; limit = limit; front = h; own = []; shares = shares; takes = 0; refused = []; held = []; now = 0; named = 0; loaded = (0, 0); loads = 0 }
+abbrev pub fresh_view : Machine → ℕ → List Entry → ℕ → Seen
+fresh_view m limit h shares = record { input = m; limit = limit; front = h; own = []; shares = shares; takes = 0; refused = []; held = []; now = 0; named = 0; loaded = (0, 0); loads = 0 }
 
 -- the first seat of a set
 abbrev pub opening_view : Chronicle → Seen
-opening_view b = fresh b.input b.limit b.history 1024
+opening_view b = fresh_view b.input b.limit b.history 1024
 
 -- one part was given to a new seat; the new seat
-abbrev pub lessened : Seen → Seen
-lessened v = record v { shares = v.shares - 1 }
+abbrev pub after_sharing : Seen → Seen
+after_sharing v = record v { shares = v.shares - 1 }
 
 abbrev pub newcomer : Seen → Seen
-newcomer v = fresh v.input v.limit v.front 1
+newcomer v = fresh_view v.input v.limit v.front 1
 
 -- another seat was taken in
-abbrev pub joined : Seen → Seen → Seen
-joined v w = record v { front = longer v.front w.front; own = both_places v.own w.own (length (longer v.front w.front)); shares = v.shares + w.shares }
+abbrev pub after_join : Seen → Seen → Seen
+after_join v w = record v { front = longer_history v.front w.front; own = both_places v.own w.own (length (longer_history v.front w.front)); shares = v.shares + w.shares }
 
 -- What the table keeps of a seat: what the seat knows, and 0, or 1 more than the lock whose slot is out with the seat in the midst of a call
 pub record View : Type 0 where
@@ -211,17 +211,17 @@ no_machine = record { config = record { granularity = 0; processors = 0; horizon
 
 -- a seat that was joined away
 abbrev pub spent_view : View
-spent_view = at_rest (fresh no_machine 0 [] 0)
+spent_view = at_rest (fresh_view no_machine 0 [] 0)
 
 -- how the steps change what the table keeps
 abbrev pub view_took : ℕ → StatePart → List ℕ → ℕ → View → View
-view_took k part names t v = record { seen = took k part names t v.seen; out = suc k }
+view_took k part names t v = record { seen = after_take k part names t v.seen; out = suc k }
 
 abbrev pub view_took_book : List Entry → ℕ → View → View
 view_took_book h t v = record { seen = took_book h t v.seen; out = 18 }
 
 abbrev pub view_gave : ℕ → View → View
-view_gave k v = at_rest (gave k v.seen)
+view_gave k v = at_rest (after_give k v.seen)
 
 abbrev pub view_committed : List Entry → View → View
 view_committed h v = at_rest (committed_view h v.seen)
@@ -236,19 +236,19 @@ abbrev pub view_with_now : ℕ → View → View
 view_with_now t v = with_seen (with_now t v.seen) v
 
 abbrev pub view_naming : ℕ → View → View
-view_naming r v = with_seen (naming r v.seen) v
+view_naming r v = with_seen (after_naming r v.seen) v
 
 abbrev pub view_has_loaded : ℕ → ℕ → View → View
 view_has_loaded r n v = with_seen (has_loaded r n v.seen) v
 
 abbrev pub view_lessened : View → View
-view_lessened v = with_seen (lessened v.seen) v
+view_lessened v = with_seen (after_sharing v.seen) v
 
 abbrev pub view_newcomer : View → View
 view_newcomer v = at_rest (newcomer v.seen)
 
 abbrev pub view_joined : View → View → View
-view_joined v w = with_seen (joined v.seen w.seen) v
+view_joined v w = with_seen (after_join v.seen w.seen) v
 
 abbrev pub view_opening : Chronicle → View
 view_opening b = at_rest (opening_view b)

@@ -21,16 +21,33 @@ abbrev pub has_name : Machine → NameId → Bool
 has_name m (Res r) = has_core m r.0
 has_name m (Dom d) = nat_lt d.0 64 && is_name m.config (64 + d.0)
 
+-- how many locks there are, and how many words
+abbrev pub lock_count : ℕ
+lock_count = 18
+
+abbrev pub word_count : ℕ
+word_count = 211
+
+-- the word of a name, the one of the moment, and the one of a core's stage
+abbrev pub name_word : ℕ → ℕ
+name_word n = 18 + n
+
+abbrev pub moment_word : ℕ
+moment_word = 146
+
+abbrev pub stage_word : ℕ → ℕ
+stage_word r = 147 + r
+
 -- the number of a word
 abbrev pub word_index : WordId → ℕ
 word_index (Lock k) = k.0
-word_index (Name n) = 18 + name_number n
-word_index Now = 146
-word_index (Stage r) = 147 + r.0
+word_index (Name n) = name_word (name_number n)
+word_index Now = moment_word
+word_index (Stage r) = stage_word r.0
 
 -- whether there is such a word: a lock's number is at most 17, and a name or a core is one of the input
 abbrev pub has_word : Machine → WordId → Bool
-has_word m (Lock k) = nat_lt k.0 18
+has_word m (Lock k) = nat_lt k.0 lock_count
 has_word m (Name n) = has_name m n
 has_word m Now = true
 has_word m (Stage r) = has_core m r.0

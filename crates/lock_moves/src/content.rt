@@ -10,6 +10,18 @@ use journal_core::Book;
 use sched_base::{DomId, ResId};
 use std::marker::Model;
 
+/// How many locks there are.
+pub(crate) const LOCKS: usize = 18;
+
+/// The word of the moment. It comes after those of the locks and of 128 names.
+pub(crate) const NOW: usize = 146;
+
+/// The word of the first core's stage.
+pub(crate) const STAGES: usize = 147;
+
+/// How many words there are.
+pub(crate) const WORDS: usize = 211;
+
 /// The number of a lock: a pool's from 0 to 15, 16 for the tool's, 17 for the book's.
 #[derive(Clone, Copy, Debug, PartialEq, Eq)]
 pub struct LockId(pub u8);
@@ -50,9 +62,9 @@ impl WordId {
     {
         match self {
             WordId::Lock(lock) => lock.0 as usize,
-            WordId::Name(name) => 18 + name.number(),
-            WordId::Now => 146,
-            WordId::Stage(r) => 147 + r.0 as usize,
+            WordId::Name(name) => LOCKS + name.number(),
+            WordId::Now => NOW,
+            WordId::Stage(r) => STAGES + r.0 as usize,
         }
     }
 }

@@ -5,9 +5,10 @@ ghost use Rattle.std.specs.Slots.{slots_items, slots_filled, slots_len};
 ghost use Rattle.journal_core.specs.Histories.{home_at, NamesStandOnce};
 ghost use Rattle.lock_moves.specs.declared.content.Content.TheVariants.{Value, Ledger};
 ghost use Rattle.lock_moves.specs.Sight.{opening_view, has_place};
+ghost use Rattle.lock_moves.specs.Words.{lock_count};
 ghost use Rattle.lock_moves.specs.Opened.{AreParts, IsOpening, HaveParts, HaveValues, HasFirst, AreFirst};
 
-use crate::content::{Content, Part};
+use crate::content::{Content, LOCKS, NOW, Part, STAGES, WORDS};
 use crate::seat::LockSeat;
 use crate::set::LockSet;
 use atomic_table::{Closed, Table};
@@ -32,18 +33,18 @@ fn lock_listing<V: Part>(values: &[V], book: &Book, name: usize) -> u64
 }
 
 // The words of the table at the opening.
-fn words_of<V: Part>(values: &[V], book: &Book) -> [u64; 211]
+fn words_of<V: Part>(values: &[V], book: &Book) -> [u64; WORDS]
     requires parts { AreParts V.part V.suits book.now values.now }
     requires once { NamesStandOnce book.now.input book.now.history }
     ensures { IsOpening book.now result }
 {
-    let mut words = [0u64; 211];
+    let mut words = [0u64; WORDS];
     for n in 0..128 {
-        words[18 + n] = lock_listing(values, book, n);
+        words[LOCKS + n] = lock_listing(values, book, n);
     }
-    words[146] = book.now().0;
+    words[NOW] = book.now().0;
     for r in 0..64 {
-        words[147 + r] = u64::from(book.decides(ResId(r as u8)));
+        words[STAGES + r] = u64::from(book.decides(ResId(r as u8)));
     }
     words
 }
@@ -62,10 +63,12 @@ fn stowed<V: Part>(alloc: Global, values: Vec<V>, book: Book) -> Result<Vec<Cont
 
 // Takes the values out of their slots, in the order of the locks.
 fn take_out<V: Drop>(closed: &mut Closed<Content<V>, Global>, values: &mut Vec<V>)
-    requires full { (slots_len closed.old.slots ≡ 18) × HasFirst (slots_filled closed.old.slots) }
+    requires full { (slots_len closed.old.slots ≡ lock_count)
+        × HasFirst (slots_filled closed.old.slots) }
     requires values { HaveValues (slots_items closed.old.slots) }
     requires room { (values.old.items ≡ []) × (17 ≤ vec_capacity values.old) }
-    ensures empty { (k : ℕ) → k < slots_len closed.new.slots → slice_index_or (slots_filled closed.new.slots) k false ≡ false }
+    ensures empty { (k : ℕ) → k < slots_len closed.new.slots →
+        slice_index_or (slots_filled closed.new.slots) k false ≡ false }
     ensures first { AreFirst 17 (slots_items closed.old.slots) values.new.items }
     ensures capacity { vec_capacity values.new ≡ vec_capacity values.old }
 {
@@ -106,13 +109,16 @@ impl<V: Part> LockSet<V> {
         requires set { seat.table ≡ self.table }
         requires only { seat.view.shares ≡ 1024 }
         requires nothing { seat.view.held ≡ [] }
-        ensures full { (slots_len result.0.slots ≡ 18) × HasFirst (slots_filled result.0.slots) }
-        ensures parts { HaveParts V.part V.suits seat.view.input seat.view.front (slots_items result.0.slots) }
+        ensures full { (slots_len result.0.slots ≡ lock_count)
+            × HasFirst (slots_filled result.0.slots) }
+        ensures parts { HaveParts V.part V.suits seat.view.input seat.view.front
+            (slots_items result.0.slots) }
         ensures once { NamesStandOnce seat.view.input seat.view.front }
         ensures input { result.1.input ≡ seat.view.input }
         ensures limit { result.1.limit ≡ seat.view.limit }
         ensures history { result.1.history ≡ seat.view.front }
-        ensures own { (p : ℕ) → length self.opened.history ≤ p → p < length seat.view.front → has_place p seat.view.own ≡ true }
+        ensures own { (p : ℕ) → length self.opened.history ≤ p → p < length seat.view.front →
+            has_place p seat.view.own ≡ true }
     {
         let LockSet { table } = self;
         let LockSeat { badge } = seat;
@@ -133,7 +139,8 @@ impl<V: Part> LockSet<V> {
         ensures input { result.input ≡ seat.view.input }
         ensures limit { result.limit ≡ seat.view.limit }
         ensures history { result.history ≡ seat.view.front }
-        ensures own { (p : ℕ) → length self.opened.history ≤ p → p < length seat.view.front → has_place p seat.view.own ≡ true }
+        ensures own { (p : ℕ) → length self.opened.history ≤ p → p < length seat.view.front →
+            has_place p seat.view.own ≡ true }
     {
         let (mut closed, book) = self.ended(seat);
         for k in 0..17 {
@@ -156,7 +163,8 @@ impl<V: Part> LockSet<V> {
         ensures input { result.1.input ≡ seat.view.input }
         ensures limit { result.1.limit ≡ seat.view.limit }
         ensures history { result.1.history ≡ seat.view.front }
-        ensures own { (p : ℕ) → length self.opened.history ≤ p → p < length seat.view.front → has_place p seat.view.own ≡ true }
+        ensures own { (p : ℕ) → length self.opened.history ≤ p → p < length seat.view.front →
+            has_place p seat.view.own ≡ true }
         ensures capacity { vec_capacity result.0 ≡ vec_capacity room }
     {
         let (mut closed, book) = self.ended(seat);

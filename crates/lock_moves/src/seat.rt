@@ -32,7 +32,8 @@ impl Model for LockSeat {
 // The seat of a badge, which is blank from then on.
 pub(crate) fn seated<V>(badge: &mut Badge<View>) -> Seat<Content<V>, View>
     requires { badge.old.views ≡ first_of_views badge.old.views ∷ [] }
-    ensures { (result.table_id ≡ badge.old.table_id) × (result.id ≡ badge.old.id) × (result.me ≡ (first_of_views badge.old.views, [])) }
+    ensures { (result.table_id ≡ badge.old.table_id) × (result.id ≡ badge.old.id)
+        × (result.me ≡ (first_of_views badge.old.views, [])) }
 {
     mem::replace(badge, Badge::blank()).into_seat()
 }

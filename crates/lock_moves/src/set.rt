@@ -6,12 +6,12 @@ ghost use Rattle.sched_model.specs.declared.event.Entry.{Entry};
 ghost use Rattle.sched_model.specs.Runs.{IsRun};
 ghost use Rattle.journal_core.specs.Parts.{lists};
 ghost use Rattle.journal_core.specs.Histories.{decides_at, NamesStandOnce};
-ghost use Rattle.lock_moves.specs.Sight.{Known, find_lock, Holds, AllBelow, took_book, turned_away, gave, committed_view, lessened, newcomer, joined, moved_name, with_now, tried_again, searched, naming, has_loaded};
+ghost use Rattle.lock_moves.specs.Sight.{Known, find_lock, Holds, AllBelow, took_book, turned_away, after_give, committed_view, after_sharing, newcomer, after_join, moved_name, with_now, tried_again, after_search, after_naming, has_loaded};
 ghost use Rattle.lock_moves.specs.Plays.{Current, IsPartOfSome, Next, Kept, Placed, Decided, Tells};
-ghost use Rattle.lock_moves.specs.Sets.{seeing, HasTaken, IsAsKnown, HasName};
-ghost use Rattle.lock_moves.specs.Words.{name_number, has_name, has_core, has_word, word_index};
+ghost use Rattle.lock_moves.specs.Sets.{sitting_with, HasTaken, IsAsKnown, HasName};
+ghost use Rattle.lock_moves.specs.Words.{name_number, has_name, has_core, has_word, lock_count, word_index};
 
-use crate::content::{Content, Held, HeldBook, LockId, NameId, Part, WordId};
+use crate::content::{Content, Held, HeldBook, LockId, NOW, NameId, Part, WordId};
 use crate::rule::{
     Agreement, Clock, Commit, Cut, Fetch, Glue, Load, Look, Name, Put, Raise, Settle, Take,
     TakeBook,
@@ -34,14 +34,16 @@ pub struct LockSet<V: Part> {
 }
 
 impl<V: Part> Model for LockSet<V> {
-    ghost use Rattle.std.specs.Prelude.{◌≡◌};
     ghost use Rattle.lock_moves.specs.Sets.{LockTable};
 
     ghost Value = { LockTable };
 
     ghost view = { λ s. record { table = s.table.shared.table_id; opened = s.table.shared.key.value } };
 
-    ghost invariant = { λ s. (s.table.shared.table_id.words ≡ 211) × (s.table.shared.table_id.slots ≡ 18) };
+    ghost use Rattle.std.specs.Prelude.{◌≡◌};
+    ghost use Rattle.lock_moves.specs.Words.{lock_count, word_count};
+
+    ghost invariant = { λ s. (s.table.shared.table_id.words ≡ word_count) × (s.table.shared.table_id.slots ≡ lock_count) };
 }
 
 impl<V: Part> LockSet<V> {
@@ -50,7 +52,11 @@ impl<V: Part> LockSet<V> {
         requires set { seat.old.table ≡ self.now.table }
         requires number { lock.0 < 17 }
         requires order { AllBelow lock.0 seat.old.view.held }
-        ensures { MatchOption result (seat.new ≡ seeing seat.old (turned_away lock.0 seat.old.view)) (λ h. (h.lock ≡ lock.0) × HasTaken lock.0 (V.part h.value) seat.old.view seat.old seat.new × V.suits seat.old.view.input seat.new.view.now h.value × ((j : ℕ) (x : Known) → find_lock j seat.old.view.held ≡ Some x → seat.new.view.now ≡ seat.old.view.now) × IsPartOfSome lock.0 (V.part h.value) seat.old.view) }
+        ensures { MatchOption result (seat.new ≡ sitting_with seat.old (turned_away lock.0 seat.old.view))
+            (λ h. (h.lock ≡ lock.0) × HasTaken lock.0 (V.part h.value) seat.old.view seat.old
+            seat.new × V.suits seat.old.view.input seat.new.view.now h.value
+            × ((j : ℕ) (x : Known) → find_lock j seat.old.view.held ≡ Some x → seat.new.view.now
+            ≡ seat.old.view.now) × IsPartOfSome lock.0 (V.part h.value) seat.old.view) }
     {
         let number = lock.0 as usize;
         let mut me = seated::<V>(&mut seat.badge);
@@ -77,7 +83,7 @@ impl<V: Part> LockSet<V> {
         requires number { h.lock < 17 }
         requires known { IsAsKnown h.lock (V.part h.value) seat.old.view }
         requires suits { V.suits seat.old.view.input seat.old.view.now h.value }
-        ensures { seat.new ≡ seeing seat.old (gave h.lock seat.old.view) }
+        ensures { seat.new ≡ sitting_with seat.old (after_give h.lock seat.old.view) }
     {
         let Held { lock, value } = h;
         let number = lock.0 as usize;
@@ -96,7 +102,13 @@ impl<V: Part> LockSet<V> {
     fn try_book(&self, seat: &mut LockSeat) -> Option<HeldBook>
         requires set { seat.old.table ≡ self.now.table }
         requires order { AllBelow 17 seat.old.view.held }
-        ensures { MatchOption result (seat.new ≡ seeing seat.old (turned_away 17 seat.old.view)) (λ b. ((now : ℕ) × (seat.new ≡ seeing seat.old (took_book b.history now seat.old.view))) × (b.input ≡ seat.old.view.input) × (b.limit ≡ seat.old.view.limit) × IsPrefix seat.old.view.front b.history × Current seat.new.view × ((k : ℕ) (x : Known) → find_lock k seat.old.view.held ≡ Some x → seat.new.view.now ≡ seat.old.view.now) × (seat.old.view.shares ≡ 1024 → b.history ≡ seat.old.view.front)) }
+        ensures { MatchOption result (seat.new ≡ sitting_with seat.old (turned_away 17 seat.old.view))
+            (λ b. ((now : ℕ) × (seat.new ≡ sitting_with seat.old (took_book b.history now seat.old.view)))
+            × (b.input ≡ seat.old.view.input) × (b.limit ≡ seat.old.view.limit)
+            × IsPrefix seat.old.view.front b.history × Current seat.new.view
+            × ((k : ℕ) (x : Known) → find_lock k seat.old.view.held ≡ Some x → seat.new.view.now
+            ≡ seat.old.view.now) × (seat.old.view.shares ≡ 1024 → b.history
+            ≡ seat.old.view.front)) }
     {
         let mut me = seated::<V>(&mut seat.badge);
         let found = self
@@ -127,7 +139,7 @@ impl<V: Part> LockSet<V> {
         requires placed { Placed seat.old.view b.history }
         requires decided { Decided seat.old.view b.history }
         requires names { NamesStandOnce b.input b.history }
-        ensures { seat.new ≡ seeing seat.old (committed_view b.history seat.old.view) }
+        ensures { seat.new ≡ sitting_with seat.old (committed_view b.history seat.old.view) }
     {
         let HeldBook { book } = b;
         book.tell();
@@ -146,7 +158,7 @@ impl<V: Part> LockSet<V> {
     pub fn split(&self, seat: &mut LockSeat) -> LockSeat
         requires set { seat.old.table ≡ self.now.table }
         requires two { 1 < seat.old.view.shares }
-        ensures kept { seat.new ≡ seeing seat.old (lessened seat.old.view) }
+        ensures kept { seat.new ≡ sitting_with seat.old (after_sharing seat.old.view) }
         ensures new { (result.table ≡ seat.old.table) × (result.view ≡ newcomer seat.old.view) }
     {
         let mut me = seated::<V>(&mut seat.badge);
@@ -161,7 +173,7 @@ impl<V: Part> LockSet<V> {
     pub fn join(&self, into: &mut LockSeat, seat: LockSeat)
         requires sets { (into.old.table ≡ self.now.table) × (seat.table ≡ self.now.table) }
         requires nothing { seat.view.held ≡ [] }
-        ensures { into.new ≡ seeing into.old (joined into.old.view seat.view) }
+        ensures { into.new ≡ sitting_with into.old (after_join into.old.view seat.view) }
     {
         let mut me = seated::<V>(&mut into.badge);
         let LockSeat { badge } = seat;
@@ -193,7 +205,8 @@ impl<V: Part> LockSet<V> {
         requires from { HasName from.old.lock (name_number name) seat.old.view }
         requires number { to.old.lock < 17 }
         requires to { Holds to.old.lock seat.old.view }
-        ensures view { seat.new ≡ seeing seat.old (moved_name (name_number name) to.old.lock seat.old.view) }
+        ensures view { seat.new ≡ sitting_with seat.old
+            (moved_name (name_number name) to.old.lock seat.old.view) }
         ensures from { from.new ≡ from.old }
         ensures to { to.new ≡ to.old }
     {
@@ -208,23 +221,23 @@ impl<V: Part> LockSet<V> {
         requires from { HasName from.0 (name_number name) seat.old.view }
         requires number { to.0 < 17 }
         requires to { Holds to.0 seat.old.view }
-        ensures { seat.new ≡ seeing seat.old (moved_name (name_number name) to.0 seat.old.view) }
+        ensures { seat.new ≡ sitting_with seat.old (moved_name (name_number name) to.0 seat.old.view) }
     {
         let mut me = seated::<V>(&mut seat.badge);
         self.table
             .shared
-            .store::<Name>(&mut me, 18 + name.number(), to.0 as u64);
+            .store::<Name>(&mut me, WordId::Name(name).index(), to.0 as u64);
         seat.badge = me.into_badge();
     }
 
     /// Sets the moment, under all locks.
     pub fn set_now(&self, seat: &mut LockSeat, t: Moment)
         requires set { seat.old.table ≡ self.now.table }
-        requires all { (k : ℕ) → k < 18 → Holds k seat.old.view }
-        ensures { seat.new ≡ seeing seat.old (with_now t.0 seat.old.view) }
+        requires all { (k : ℕ) → k < lock_count → Holds k seat.old.view }
+        ensures { seat.new ≡ sitting_with seat.old (with_now t.0 seat.old.view) }
     {
         let mut me = seated::<V>(&mut seat.badge);
-        self.table.shared.store::<Clock>(&mut me, 146, t.0);
+        self.table.shared.store::<Clock>(&mut me, NOW, t.0);
         seat.badge = me.into_badge();
     }
 
@@ -234,9 +247,11 @@ impl<V: Part> LockSet<V> {
         requires number { lock.0 < 17 }
         requires order { AllBelow lock.0 seat.old.view.held }
         ensures lock { result.lock ≡ lock.0 }
-        ensures taken { (n : ℕ) × HasTaken lock.0 (V.part result.value) (tried_again n lock.0 seat.old.view) seat.old seat.new }
+        ensures taken { (n : ℕ) × HasTaken lock.0 (V.part result.value)
+            (tried_again n lock.0 seat.old.view) seat.old seat.new }
         ensures suits { V.suits seat.old.view.input seat.new.view.now result.value }
-        ensures still { (j : ℕ) (x : Known) → find_lock j seat.old.view.held ≡ Some x → seat.new.view.now ≡ seat.old.view.now }
+        ensures still { (j : ℕ) (x : Known) → find_lock j seat.old.view.held ≡ Some x →
+            seat.new.view.now ≡ seat.old.view.now }
         ensures state { IsPartOfSome lock.0 (V.part result.value) seat.old.view }
     {
         for _ in rt.forever() {
@@ -252,12 +267,15 @@ impl<V: Part> LockSet<V> {
     pub fn take_book<R: Wait>(&self, rt: &R, seat: &mut LockSeat) -> HeldBook
         requires set { seat.old.table ≡ self.now.table }
         requires order { AllBelow 17 seat.old.view.held }
-        ensures taken { (n : ℕ) × (now : ℕ) × (seat.new ≡ seeing seat.old (took_book result.history now (tried_again n 17 seat.old.view))) }
+        ensures taken { (n : ℕ) × (now : ℕ)
+            × (seat.new ≡ sitting_with seat.old (took_book result.history now
+            (tried_again n 17 seat.old.view))) }
         ensures input { result.input ≡ seat.old.view.input }
         ensures limit { result.limit ≡ seat.old.view.limit }
         ensures begins { IsPrefix seat.old.view.front result.history }
         ensures current { Current seat.new.view }
-        ensures still { (k : ℕ) (x : Known) → find_lock k seat.old.view.held ≡ Some x → seat.new.view.now ≡ seat.old.view.now }
+        ensures still { (k : ℕ) (x : Known) → find_lock k seat.old.view.held ≡ Some x →
+            seat.new.view.now ≡ seat.old.view.now }
         ensures alone { seat.old.view.shares ≡ 1024 → result.history ≡ seat.old.view.front }
     {
         for _ in rt.forever() {
@@ -274,7 +292,9 @@ impl<V: Part> LockSet<V> {
         requires set { seat.old.table ≡ self.now.table }
         requires name { has_name seat.old.view.input name ≡ true }
         requires nothing { seat.old.view.held ≡ [] }
-        ensures taken { (refused : List ℕ) × (t : ℕ) × HasTaken result.lock (V.part result.value) (searched refused t seat.old.view) seat.old seat.new }
+        ensures taken { (refused : List ℕ) × (t : ℕ)
+            × HasTaken result.lock (V.part result.value) (after_search refused t seat.old.view) seat.old
+            seat.new }
         ensures suits { V.suits seat.old.view.input seat.new.view.now result.value }
         ensures number { result.lock < 17 }
         ensures lists { lists (V.part result.value) (name_number name) ≡ true }
@@ -307,13 +327,13 @@ impl<V: Part> LockSet<V> {
         requires held { Next seat.old.view.front b.now.history }
         requires home { (k : ℕ) × HasName k r.0 seat.old.view }
         requires nobody { seat.old.view.named ≡ 0 }
-        ensures { seat.new ≡ seeing seat.old (naming r.0 seat.old.view) }
+        ensures { seat.new ≡ sitting_with seat.old (after_naming r.0 seat.old.view) }
     {
         b.book.tell();
         let mut me = seated::<V>(&mut seat.badge);
         self.table
             .shared
-            .fetch_add::<Raise>(&mut me, 147 + r.0 as usize, 1);
+            .fetch_add::<Raise>(&mut me, WordId::Stage(r).index(), 1);
         seat.badge = me.into_badge();
     }
 
@@ -322,11 +342,15 @@ impl<V: Part> LockSet<V> {
     pub fn read_stage(&self, seat: &mut LockSeat, r: ResId) -> u64
         requires set { seat.old.table ≡ self.now.table }
         requires core { has_core seat.old.view.input r.0 ≡ true }
-        ensures kept { seat.new ≡ seeing seat.old (has_loaded r.0 result seat.old.view) }
-        ensures counts { (h : List Entry) × IsPrefix seat.old.view.front h × (decides_at h r.0 ≤ result) }
+        ensures kept { seat.new ≡ sitting_with seat.old (has_loaded r.0 result seat.old.view) }
+        ensures counts { (h : List Entry) × IsPrefix seat.old.view.front h
+            × (decides_at h r.0 ≤ result) }
     {
         let mut me = seated::<V>(&mut seat.badge);
-        let found = self.table.shared.load::<Load>(&mut me, 147 + r.0 as usize);
+        let found = self
+            .table
+            .shared
+            .load::<Load>(&mut me, WordId::Stage(r).index());
         seat.badge = me.into_badge();
         found
     }

@@ -9,7 +9,7 @@ use Rattle.sched_model.specs.declared.action.Action.{Action}
 use Rattle.sched_model.specs.declared.action.Action.TheVariants.{Moved}
 use Rattle.sched_model.specs.declared.state.Pool.{Pool}
 use Rattle.sched_model.specs.declared.state.State.{State}
-use Rattle.sched_base.specs.Numbers.{pool as pool_number}
+use Rattle.sched_base.specs.Numbers.{pool as pool_number, core}
 use Rattle.sched_base.specs.declared.PoolId.{PoolId}
 use Rattle.sched_model.specs.declared.machine.Machine.{Machine}
 use Rattle.sched_model.specs.Actions.{home_of, home_of_core, home_of_domain}
@@ -68,24 +68,24 @@ module _ (w : Told) (slots : List (Option Seen)) (tool : Tool) (parts : AreParts
 
 -- from when on a core may leave the pool of its home
 pub leaves-there : (w : Told) (slots : List (Option Seen)) (tool : Tool) → AreParts w slots tool → (r i : ℕ) → i < length slots → (result : Option Moment) → home_of_core (state_of w) r ≡ Some i
-    → ForSome (at_place slots i) (λ seen. result ≡ ready_in seen.granularity seen.pool (Moved r)) → (at_place slots i ≡ None → result ≡ None) → result ≡ leaves_at w.input.config.granularity (state_of w) r
+    → ForSome (at_place slots i) (λ seen. result ≡ ready_in seen.granularity seen.pool (Moved (core r))) → (at_place slots i ≡ None → result ≡ None) → result ≡ leaves_at w.input.config.granularity (state_of w) r
 leaves-there w slots tool parts r i low result home some none = by_slot (at_place slots i) refl ∙ sym (ap (λ (o : Option ℕ). elim o as (λ _. Option Moment) [ None ↦ None | Some k ↦ by_pool (at_place s.pools k) ]) home)
   where
     s : State
     s = state_of w
 
     by_pool : Option Pool → Option Moment
-    by_pool o = elim o as (λ _. Option Moment) [ None ↦ None | Some pool ↦ ready_in w.input.config.granularity pool (Moved r) ]
+    by_pool o = elim o as (λ _. Option Moment) [ None ↦ None | Some pool ↦ ready_in w.input.config.granularity pool (Moved (core r)) ]
 
     by_slot : (o : Option Seen) → at_place slots i ≡ o → result ≡ by_pool (at_place s.pools i)
     by_slot None is = none is ∙ sym (ap by_pool (pool-there w slots tool parts i low ∙ ap pool_at is))
     by_slot (Some seen) is =
         let suits : SlotSuits w.input s.now seen = (stands w slots tool parts i low).suits seen is in
-        some seen is ∙ ap (λ (g : ℕ). ready_in g seen.pool (Moved r)) suits.granularity ∙ sym (ap by_pool (pool-there w slots tool parts i low ∙ ap pool_at is))
+        some seen is ∙ ap (λ (g : ℕ). ready_in g seen.pool (Moved (core r))) suits.granularity ∙ sym (ap by_pool (pool-there w slots tool parts i low ∙ ap pool_at is))
 
 pub leaves-nowhere : (g : ℕ) (s : State) (r : ℕ) → home_of_core s r ≡ None → None ≡ leaves_at g s r
 leaves-nowhere g s r home =
-    sym (ap (λ (o : Option ℕ). elim o as (λ _. Option Moment) [ None ↦ None | Some i ↦ elim (at_place s.pools i) as (λ _. Option Moment) [ None ↦ None | Some pool ↦ ready_in g pool (Moved r) ] ]) home)
+    sym (ap (λ (o : Option ℕ). elim o as (λ _. Option Moment) [ None ↦ None | Some i ↦ elim (at_place s.pools i) as (λ _. Option Moment) [ None ↦ None | Some pool ↦ ready_in g pool (Moved (core r)) ] ]) home)
 
 -- each place is the pool of its number, also past the last
 module _ (w : Told) (slots : List (Option Seen)) (tool : Tool) (parts : AreParts w slots tool) where

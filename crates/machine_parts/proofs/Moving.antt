@@ -53,10 +53,6 @@ domain-way part None d to kind is = absurd (cc)
 domain-way part (Some (core_to k t)) d to kind is = absurd (cc)
 domain-way part (Some (domain_to k i)) d to kind is = (let first : domain_number k ≡ d = cc in let second : pool_number i ≡ to = cc in ap (λ (x : DomId). Some (domain_to x.0 i)) first ∙ ap (λ (x : PoolId). Some (domain_to d.0 x.0)) second)
 
-pub no-way : (part : ToolPart) (o : Option UnderWay) → option_map (move_of part) o ≡ None → o ≡ None
-no-way part None is = refl
-no-way part (Some way) is = absurd (cc)
-
 module _ (m : Machine) (checked : IsChecked m) (entries : List Entry) (run : IsRun m entries) (t : ℕ) where
   abbrev s : State
   s = state_after m entries
@@ -71,10 +67,10 @@ module _ (m : Machine) (checked : IsChecked m) (entries : List Entry) (run : IsR
       cc
 
   -- a core that leaves its pool is asked of the pool alone
-  leaving-alone : (r : ℕ) → under_way_of s ≡ Some (core_to r None) → is_enabled m s t (Moved r) ≡ enabled_at_home m s t (Moved r)
+  leaving-alone : (r : ℕ) → under_way_of s ≡ Some (core_to r None) → is_enabled m s t (Moved (core_number r)) ≡ enabled_at_home m s t (Moved (core_number r))
   leaving-alone r way = by_free (test_at s.free r (free_ready t)) refl
     where
-      by_free : (b : Bool) → test_at s.free r (free_ready t) ≡ b → (b || enabled_at_home m s t (Moved r)) ≡ enabled_at_home m s t (Moved r)
+      by_free : (b : Bool) → test_at s.free r (free_ready t) ≡ b → (b || enabled_at_home m s t (Moved (core_number r))) ≡ enabled_at_home m s t (Moved (core_number r))
       by_free false is = refl
       by_free true is =
           let f = some-test_at s.free r (free_ready t) is in
@@ -82,11 +78,11 @@ module _ (m : Machine) (checked : IsChecked m) (entries : List Entry) (run : IsR
           absurd (not-both r (f.0) (f.0).target way f.1 refl aims)
 
   -- a core of no pool is asked of the tool alone
-  joining-alone : (r i : ℕ) → under_way_of s ≡ Some (core_to r (Some i)) → is_enabled m s t (Moved r) ≡ may_join s t
+  joining-alone : (r i : ℕ) → under_way_of s ≡ Some (core_to r (Some i)) → is_enabled m s t (Moved (core_number r)) ≡ may_join s t
   joining-alone r i way =
       let found = core_joins s r i way in
       let none : home_of_core s r ≡ None = (pools_keep_their_own m checked entries run).free r found.0 found.1 in
-      ap (λ (b : Bool). test_at s.free r (free_ready t) || b) (sym (no-home m s t (Moved r) none)) ∙ or-false (test_at s.free r (free_ready t))
+      ap (λ (b : Bool). test_at s.free r (free_ready t) || b) (sym (no-home m s t (Moved (core_number r)) none)) ∙ or-false (test_at s.free r (free_ready t))
       ∙ sym (ap (joins_at s t) way)
     where
       or-false : (b : Bool) → (b || false) ≡ b
@@ -94,22 +90,22 @@ module _ (m : Machine) (checked : IsChecked m) (entries : List Entry) (run : IsR
       or-false false = refl
 
   -- the move of what is on its way, by what is asked of it
-  pub first-leaving : (r : ℕ) (ready : Bool) → under_way_of s ≡ Some (core_to r None) → ready ≡ enabled_at_home m s t (Moved r) → cond ready (Some (Moved r)) None ≡ move_first m s t (under_way_of s)
-  first-leaving r ready way is = ap (λ (b : Bool). cond b (Some (Moved r)) None) (is ∙ sym (leaving-alone r way)) ∙ sym (ap (move_first m s t) way)
+  pub first-leaving : (r : ℕ) (ready : Bool) → under_way_of s ≡ Some (core_to r None) → ready ≡ enabled_at_home m s t (Moved (core_number r)) → cond ready (Some (Moved (core_number r))) None ≡ move_first m s t (under_way_of s)
+  first-leaving r ready way is = ap (λ (b : Bool). cond b (Some (Moved (core_number r))) None) (is ∙ sym (leaving-alone r way)) ∙ sym (ap (move_first m s t) way)
 
-  pub first-joining : (r i : ℕ) (ready : Bool) → under_way_of s ≡ Some (core_to r (Some i)) → ready ≡ may_join s t → cond ready (Some (Moved r)) None ≡ move_first m s t (under_way_of s)
-  first-joining r i ready way is = ap (λ (b : Bool). cond b (Some (Moved r)) None) (is ∙ sym (joining-alone r i way)) ∙ sym (ap (move_first m s t) way)
+  pub first-joining : (r i : ℕ) (ready : Bool) → under_way_of s ≡ Some (core_to r (Some i)) → ready ≡ may_join s t → cond ready (Some (Moved (core_number r))) None ≡ move_first m s t (under_way_of s)
+  first-joining r i ready way is = ap (λ (b : Bool). cond b (Some (Moved (core_number r))) None) (is ∙ sym (joining-alone r i way)) ∙ sym (ap (move_first m s t) way)
 
 -- the same in the state that a trail leads to
 module _ (w : Told) (goes : GoesOn w) (t : ℕ) where
-  pub leaving-first : (r : ℕ) (ready : Bool) → under_way_of (state_of w) ≡ Some (core_to r None) → ready ≡ enabled_at_home w.input (state_of w) t (Moved r)
-      → cond ready (Some (Moved r)) None ≡ move_first w.input (state_of w) t (under_way_of (state_of w))
+  pub leaving-first : (r : ℕ) (ready : Bool) → under_way_of (state_of w) ≡ Some (core_to r None) → ready ≡ enabled_at_home w.input (state_of w) t (Moved (core_number r))
+      → cond ready (Some (Moved (core_number r))) None ≡ move_first w.input (state_of w) t (under_way_of (state_of w))
   leaving-first r ready =
-      subst (λ (s : State). under_way_of s ≡ Some (core_to r None) → ready ≡ enabled_at_home w.input s t (Moved r) → cond ready (Some (Moved r)) None ≡ move_first w.input s t (under_way_of s))
+      subst (λ (s : State). under_way_of s ≡ Some (core_to r None) → ready ≡ enabled_at_home w.input s t (Moved (core_number r)) → cond ready (Some (Moved (core_number r))) None ≡ move_first w.input s t (under_way_of s))
       (sym (state_of-is w)) (first-leaving w.input goes.checked w.history goes.run t r ready)
 
   pub joining-first : (r i : ℕ) (ready : Bool) → under_way_of (state_of w) ≡ Some (core_to r (Some i)) → ready ≡ may_join (state_of w) t
-      → cond ready (Some (Moved r)) None ≡ move_first w.input (state_of w) t (under_way_of (state_of w))
+      → cond ready (Some (Moved (core_number r))) None ≡ move_first w.input (state_of w) t (under_way_of (state_of w))
   joining-first r i ready =
-      subst (λ (s : State). under_way_of s ≡ Some (core_to r (Some i)) → ready ≡ may_join s t → cond ready (Some (Moved r)) None ≡ move_first w.input s t (under_way_of s))
+      subst (λ (s : State). under_way_of s ≡ Some (core_to r (Some i)) → ready ≡ may_join s t → cond ready (Some (Moved (core_number r))) None ≡ move_first w.input s t (under_way_of s))
       (sym (state_of-is w)) (first-joining w.input goes.checked w.history goes.run t r i ready)

@@ -7,7 +7,7 @@ use Rattle.std.proofs.Math.Seq.{drop-cons}
 use Rattle.sched_model.specs.declared.action.Action.{Action}
 use Rattle.sched_model.specs.Places.{at_place}
 use Rattle.pool_laws.specs.Order.{IsNotAfter, kind_place, subject_place}
-use Rattle.order_laws.proofs.Stretches.{not_after_itself}
+use Rattle.pool_laws.proofs.ActionOrder.{not_after_itself}
 use Rattle.actor_laws.specs.First.{ComesEarliest, IsEarliest}
 use Rattle.machine_parts.specs.Ranks.{IsSmall, rank_of, earlier_action}
 

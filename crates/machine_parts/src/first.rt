@@ -25,7 +25,7 @@ fn if_ready(ready: bool, action: Action) -> Option<Action>
 /// Whether a core that is on its way out of its pool may leave it at t.
 fn core_ready(slots: &[PoolSlot], tool: &ToolState, at: &Trail, r: ResId, t: Moment) -> bool
     requires parts { AreParts at.now slots.now tool.now }
-    ensures { result ≡ enabled_at_home at.now.input (state_of at.now) t.0 (Moved r.0) }
+    ensures { result ≡ enabled_at_home at.now.input (state_of at.now) t.0 (Moved r) }
 {
     match tool.home_of_core(r) {
         None => false,
@@ -36,7 +36,7 @@ fn core_ready(slots: &[PoolSlot], tool: &ToolState, at: &Trail, r: ResId, t: Mom
 /// Whether a domain that is on its way may leave its pool.
 fn domain_ready(slots: &[PoolSlot], tool: &ToolState, at: &Trail, d: DomId) -> bool
     requires parts { AreParts at.now slots.now tool.now }
-    ensures { (t : ℕ) → result ≡ enabled_at_home at.now.input (state_of at.now) t (DomMoved d.0) }
+    ensures { (t : ℕ) → result ≡ enabled_at_home at.now.input (state_of at.now) t (DomMoved d) }
 {
     match tool.home_of_domain(d) {
         None => false,
@@ -47,18 +47,19 @@ fn domain_ready(slots: &[PoolSlot], tool: &ToolState, at: &Trail, d: DomId) -> b
 /// The move of what is on its way, where it may come at t.
 fn move_first(slots: &[PoolSlot], tool: &ToolState, at: &Trail, t: Moment) -> Option<Action>
     requires parts { AreParts at.now slots.now tool.now }
-    ensures { result ≡ move_first_of at.now.input (state_of at.now) t.0 (under_way_of (state_of at.now)) }
+    ensures { result ≡ move_first_of at.now.input (state_of at.now) t.0
+        (under_way_of (state_of at.now)) }
 {
     match tool.moving() {
         None => None,
         Some(Move::Res { r, to: None }) => if_ready(
             core_ready(slots, tool, at, r, t),
-            Action::Moved(r.0),
+            Action::Moved(r),
         ),
-        Some(Move::Res { r, to: Some(_) }) => if_ready(tool.free_ready(t), Action::Moved(r.0)),
+        Some(Move::Res { r, to: Some(_) }) => if_ready(tool.free_ready(t), Action::Moved(r)),
         Some(Move::Dom { d, .. }) => if_ready(
             domain_ready(slots, tool, at, d),
-            Action::DomMoved(d.0),
+            Action::DomMoved(d),
         ),
     }
 }

@@ -4,7 +4,7 @@ ghost use Rattle.std.specs.Prelude.{◌≡◌, None, option_map};
 ghost use Rattle.sched_base.specs.Numbers.{moment};
 ghost use Rattle.sched_model.specs.Machine.{first_enabled, next_in_horizon};
 ghost use Rattle.journal_core.specs.Parts.{under_way_of};
-ghost use Rattle.actor_laws.specs.Next.{leaves_at, leaving_at, within};
+ghost use Rattle.actor_laws.specs.Next.{leaves_at, leaving_at, number_within};
 ghost use Rattle.pool_slots.specs.Places.{state_of};
 ghost use Rattle.machine_parts.specs.Parts.{AreNexts, AreParts};
 
@@ -29,7 +29,8 @@ fn core_next(slots: &[PoolSlot], tool: &ToolState, at: &Trail, r: ResId) -> Opti
 /// From when on the core that is on its way out of its pool may leave it.
 fn leaving_next(slots: &[PoolSlot], tool: &ToolState, at: &Trail) -> Option<Moment>
     requires parts { AreParts at.now slots.now tool.now }
-    ensures { result ≡ leaving_at at.now.input.config.granularity (state_of at.now) (under_way_of (state_of at.now)) }
+    ensures { result ≡ leaving_at at.now.input.config.granularity (state_of at.now)
+        (under_way_of (state_of at.now)) }
 {
     match tool.moving() {
         Some(Move::Res { r, to: None }) => core_next(slots, tool, at, r),
@@ -39,7 +40,7 @@ fn leaving_next(slots: &[PoolSlot], tool: &ToolState, at: &Trail) -> Option<Mome
 
 /// The moment, where it is not past the horizon.
 fn up_to(horizon: Moment, next: Option<Moment>) -> Option<Moment>
-    ensures { result ≡ option_map moment (within horizon.0 next) }
+    ensures { result ≡ option_map moment (number_within horizon.0 next) }
 {
     match next {
         Some(at) if at.0 <= horizon.0 => next,

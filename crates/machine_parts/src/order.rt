@@ -26,17 +26,17 @@ pub fn rank_of_action(action: Action) -> u32
     match action {
         Action::Stall => rank(0, 0, 0),
         Action::Xl => rank(1, 0, 0),
-        Action::Moved(r) => rank(2, r, 0),
-        Action::DomMoved(d) => rank(3, d, 0),
+        Action::Moved(r) => rank(2, r.0, 0),
+        Action::DomMoved(d) => rank(3, d.0, 0),
         Action::Wake(VcpuId { dom, n }) => rank(4, dom.0, n),
-        Action::Block(p) => rank(5, p, 0),
-        Action::Slice(r) => rank(6, r, 0),
+        Action::Block(p) => rank(5, p.0, 0),
+        Action::Slice(r) => rank(6, r.0, 0),
         Action::Repl(UnitId { dom, n }) => rank(7, dom.0, n),
-        Action::Refill(d) => rank(8, d, 0),
-        Action::Arrive(p) => rank(9, p, 0),
-        Action::Decide(r) => rank(10, r, 0),
-        Action::Leave(p) => rank(11, p, 0),
-        Action::Save(r) => rank(12, r, 0),
+        Action::Refill(d) => rank(8, d.0, 0),
+        Action::Arrive(p) => rank(9, p.0, 0),
+        Action::Decide(r) => rank(10, r.0, 0),
+        Action::Leave(p) => rank(11, p.0, 0),
+        Action::Save(r) => rank(12, r.0, 0),
     }
 }
 

@@ -1,7 +1,7 @@
 -- Lists of workers: each is of the hall, and together they have as many parts as before.
 use Rattle.std.proofs.Common.{◌≡◌, ◌∙◌, ◌++◌, ◌+◌, ◌-◌, ◌<◌, ℕ, suc, List, [], ◌∷◌, length, get_or, refl, ap, subst, arith}
 use Rattle.std.proofs.lemmas.List.Sums.{sum_by-cons, sum_by_push}
-use Rattle.lock_moves.specs.Sets.{LockTable, seeing}
+use Rattle.lock_moves.specs.Sets.{LockTable, sitting_with}
 use Rattle.hall.specs.Seats.{IsOf, Seated, Stays}
 use Rattle.pcpu_threads.specs.Workers.{AllWorked, HasWorked, OneEach, all_taken_in, lessened_by, shares_of, taken_in}
 
@@ -32,7 +32,7 @@ shares-stay (x ∷ old) (y ∷ new) len each =
 
 -- one part more was given away
 pub less-more : (s : Seated) (k : ℕ) → lessened_by 1 (lessened_by k s) ≡ lessened_by (k + 1) s
-less-more s k = let e : s.sitting.view.shares - k - 1 ≡ s.sitting.view.shares - (k + 1) = omega arith in ap (λ (n : ℕ). record s { sitting = seeing s.sitting (record s.sitting.view { shares = n }) }) e
+less-more s k = let e : s.sitting.view.shares - k - 1 ≡ s.sitting.view.shares - (k + 1) = omega arith in ap (λ (n : ℕ). record s { sitting = sitting_with s.sitting (record s.sitting.view { shares = n }) }) e
 
 -- what is said of two seats is said of the same two
 pub worked-is : (hall : LockTable) (n domains p : ℕ) (old new first last : Seated) → old ≡ first → new ≡ last → HasWorked hall n domains p old new → HasWorked hall n domains p first last

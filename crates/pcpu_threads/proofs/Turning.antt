@@ -11,7 +11,7 @@ use Rattle.sched_model.specs.declared.event.Event.TheVariants as event
 use Rattle.sched_model.specs.declared.machine.Machine.{Machine}
 use Rattle.sched_model.specs.declared.state.State.{State}
 use Rattle.sched_model.specs.Machine.{event_of, first_enabled}
-use Rattle.sched_model.specs.Runs.{IsNext, IsRun, IsWholeRun, Reached, action_of, after_entries, after_entry, begun}
+use Rattle.sched_model.specs.Runs.{IsNext, IsRun, IsWholeRun, Reached, action_of, after_entries, after_entry, run_start}
 use Rattle.sched_model.proofs.RunLemmas.{action_of-event_of, after_entries-append}
 use Rattle.run_laws.specs.RunLaws.{IsOrderedFrom, IsOrderedRun, TakesFirst}
 use Rattle.journal_core.specs.Books.{Chronicle}
@@ -41,7 +41,7 @@ ordered-append m from [] e ordered first = (first, tt)
 ordered-append m from (x ∷ entries) e ordered first = (ordered.0, ordered-append m (after_entry m from x) entries e ordered.1 first)
 
 ordered-more : (m : Machine) (h longer : List Entry) (e : Entry) → IsOrderedRun m h → IsRun m longer → longer ≡ h ++ e ∷ [] → TakesFirst m (state_at m h) (action_of e.event) → IsOrderedRun m longer
-ordered-more m h longer e ordered run is first = record { run = run; ordered = subst (IsOrderedFrom m (begun m)) (sym is) (ordered-append m (begun m) h e ordered.ordered first) }
+ordered-more m h longer e ordered run is first = record { run = run; ordered = subst (IsOrderedFrom m (run_start m)) (sym is) (ordered-append m (run_start m) h e ordered.ordered first) }
 
 -- the event of the first action takes it
 takes-first : (m : Machine) (s : State) (action : Action) (e : Event) → first_enabled m s s.now ≡ Some action → e ≡ event_of m s s.now action → TakesFirst m s (action_of e)
@@ -83,7 +83,7 @@ module _ (old new : Seated) (stays : Stays old new) where
 
   -- a Finish ends the run
   over-finish : (before : List Entry) (t : Moment) → (reached_by m (before ++ record { at = t; event = event.Finish } ∷ [])).over ≡ true
-  over-finish before t = ap (λ (r : Reached). r.over) (after_entries-append m (begun m) before (record { at = t; event = event.Finish }))
+  over-finish before t = ap (λ (r : Reached). r.over) (after_entries-append m (run_start m) before (record { at = t; event = event.Finish }))
 
   ended-whole : IsWholeRun m new.sitting.view.front → IsEnded run_end.Finished (book_seen new.sitting.view)
   ended-whole whole = record {

@@ -13,8 +13,8 @@ use Rattle.sched_model.specs.declared.state.State.{State}
 use Rattle.sched_model.specs.Machine.{event_of}
 use Rattle.journal_core.specs.Histories.{state_at}
 use Rattle.actor_laws.specs.Actors.{first_by}
-use Rattle.lock_moves.specs.Sets.{LockTable, seeing}
-use Rattle.lock_moves.specs.Sight.{joined, newcomer}
+use Rattle.lock_moves.specs.Sets.{LockTable, sitting_with}
+use Rattle.lock_moves.specs.Sight.{after_join, newcomer}
 use Rattle.hall.specs.Seats.{IsOf, Seated, Stays}
 
 -- how many of the 1024 parts the seats have together
@@ -36,7 +36,7 @@ pub record AreWorkers (hall : LockTable) (seat : Seated) (workers : List Seated)
 
 -- the seat that has given so many of its parts away
 abbrev pub lessened_by : ℕ → Seated → Seated
-lessened_by n s = record s { sitting = seeing s.sitting (record s.sitting.view { shares = s.sitting.view.shares - n }) }
+lessened_by n s = record s { sitting = sitting_with s.sitting (record s.sitting.view { shares = s.sitting.view.shares - n }) }
 
 -- the worker was split from the seat, and has done nothing yet
 pub record IsNew (from worker : Seated) : Type 0 where
@@ -45,7 +45,7 @@ pub record IsNew (from worker : Seated) : Type 0 where
 
 -- the seat that has taken in another one
 abbrev pub taken_in : Seated → Seated → Seated
-taken_in worker s = record s { sitting = seeing s.sitting (joined s.sitting.view worker.sitting.view) }
+taken_in worker s = record s { sitting = sitting_with s.sitting (after_join s.sitting.view worker.sitting.view) }
 
 -- the same of several, the last of them first
 abbrev pub all_taken_in : List Seated → Seated → Seated

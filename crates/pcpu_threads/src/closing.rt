@@ -42,7 +42,8 @@ pub fn join_all(hall: &Hall, seat: &mut HallSeat, workers: Vec<HallSeat>)
     requires workers { All (IsOf hall.now) workers.items }
     ensures joined { seat.new ≡ all_taken_in workers.items seat.old }
     ensures of { IsOf hall.now seat.new }
-    ensures shares { seat.new.sitting.view.shares ≡ seat.old.sitting.view.shares + shares_of workers.items }
+    ensures shares { seat.new.sitting.view.shares
+        ≡ seat.old.sitting.view.shares + shares_of workers.items }
 {
     let mut workers = workers;
     while let Some(worker) = workers.pop() {

@@ -3,6 +3,4 @@ pub mod Looking
 pub mod Resting
 pub mod Reading
 pub mod Watching
-pub mod Crewing
-pub mod Closing
 pub mod Crossing

@@ -24,31 +24,6 @@ use Rattle.pcpu_watch.proofs.Counting.{ends-more, moment-same, one-more, part-sa
 abbrev seen_by : Scribe → List Entry
 seen_by s = front_of s.seat
 
--- a seat that did nothing, and one that looked at the book
-pub sees-same : (hall : LockTable) (s : Seated) → IsOf hall s → SeesOn hall s s
-sees-same hall s of = record { of = of; begins = prefix_refl s.sitting.view.front; shares = refl }
-
-pub sees-looked : (hall : LockTable) (old new : Seated) → IsOf hall old → Stays old new → Looked old.sitting.view new.sitting.view → SeesOn hall old new
-sees-looked hall old new of stays looked = record { of = of-stays hall old new of stays; begins = looked.begins; shares = stays.shares }
-
-pub sees-trans : (hall : LockTable) (a b c : Seated) → SeesOn hall a b → SeesOn hall b c → SeesOn hall a c
-sees-trans hall a b c u v = record {
-  of = v.of;
-  begins = prefix_trans a.sitting.view.front b.sitting.view.front c.sitting.view.front u.begins v.begins;
-  shares = v.shares ∙ u.shares;
-}
-
-pub reads-same : (hall : LockTable) (s : Scribe) → IsScribe hall s → ReadsOn hall s s
-reads-same hall s is = record { is = is; begins = prefix_refl (has_read s); shares = refl; cores = refl }
-
-pub reads-trans : (hall : LockTable) (a b c : Scribe) → ReadsOn hall a b → ReadsOn hall b c → ReadsOn hall a c
-reads-trans hall a b c u v = record {
-  is = v.is;
-  begins = prefix_trans (has_read a) (has_read b) (has_read c) u.begins v.begins;
-  shares = v.shares ∙ u.shares;
-  cores = v.cores ∙ u.cores;
-}
-
 -- the length of what was read
 pub read-length : (hall : LockTable) (s : Scribe) → IsScribe hall s → length (has_read s) ≡ s.read
 read-length hall s is = length-take-le s.read (seen_by s) is.inside
@@ -160,10 +135,3 @@ module _ (hall : LockTable) (s t : Scribe) (is : IsScribe hall s) (seat : t.seat
     ended = ended ∙ all;
     pending = ap (λ (w : Desk). w.pending) writer;
   }
-
--- a look that shows a beginning of the front, and no more than was read, shows a beginning of that
-pub shows-read : (front : List Entry) (read : ℕ) (look : Look) → read ≤ length front → look.entries ≤ read → look.moment.0 ≡ last_moment (take look.entries front) → ShowsBeginning (take read front) look
-shows-read front read look inside low last = record {
-  inside = omega (arith, low, length-take-le read front inside);
-  last = last ∙ ap last_moment (sym (take-take look.entries read front low));
-}

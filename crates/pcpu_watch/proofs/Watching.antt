@@ -6,7 +6,7 @@ use Rattle.std.proofs.lemmas.Option.{slice_get_within}
 use Rattle.sched_model.specs.declared.event.Entry.{Entry}
 use Rattle.sched_report.specs.Stays.{last_moment}
 use Rattle.status_board.specs.Boards.{Desk, Watch}
-use Rattle.status_board.specs.Counts.{counted}
+use Rattle.status_board.specs.Counts.{entry_count}
 use Rattle.lock_moves.specs.Sets.{LockTable}
 use Rattle.pcpu_watch.specs.declared.looks.Look.{Look}
 use Rattle.pcpu_watch.specs.declared.scribe.Scribe.{Scribe}
@@ -19,14 +19,14 @@ use Rattle.pcpu_watch.proofs.Looking.{look-new, looks-pushed, looks-still}
 use Rattle.pcpu_watch.proofs.Reading.{read-length}
 
 -- so few entries are all counted
-few-counted : (h : List Entry) (n : ℕ) → length h ≡ n → n ≤ 2 ^ 32 → counted h ≡ length h
+few-counted : (h : List Entry) (n : ℕ) → length h ≡ n → n ≤ 2 ^ 32 → entry_count h ≡ length h
 few-counted h n len few = omega (arith, len, few)
 
 -- what is told of all that was read shows that
 pub shows-all : (h : List Entry) (n : ℕ) → length h ≡ n → n ≤ 2 ^ 32 → ShowsBeginning h (look_of h)
 shows-all h n len few = let all = few-counted h n len few in record {
   inside = omega (arith, all);
-  last = ap last_moment (sym (take_all (counted h) h (omega (arith, all))));
+  last = ap last_moment (sym (take_all (entry_count h) h (omega (arith, all))));
 }
 
 module _ (hall : LockTable) (w : Watcher) (is : IsWatch hall w) where
@@ -94,13 +94,3 @@ module _ (hall : LockTable) (w : Watcher) (is : IsWatch hall w) where
   -- with at least one look there is one for each moment that ended, and one more
   pub looks-so-far : 0 < length w.looks.items → LooksSoFar (has_read w.scribe) w.looks.items
   looks-so-far some = record { count = (let a = is.scribe.ended in let b = is.ended in omega (arith, some, a, b)); each = is.looks }
-
-pub stays-same : (hall : LockTable) (w : Watcher) → IsWatch hall w → StaysWatch hall w w
-stays-same hall w is = record { of = is.scribe.of; shares = refl; room = refl }
-
-pub stays-trans : (hall : LockTable) (a b c : Watcher) → StaysWatch hall a b → StaysWatch hall b c → StaysWatch hall a c
-stays-trans hall a b c u v = record { of = v.of; shares = v.shares ∙ u.shares; room = v.room ∙ u.room }
-
--- no look is made yet, and nothing is read
-pub no-looks : (h : List Entry) → EachIsLook h []
-no-looks h k look at = absurd (omega (arith, slice_get_within [] k look at))

@@ -3,7 +3,7 @@ use Rattle.std.specs.Prelude.{◌≡◌, ℕ, suc, ◌<◌, ◌≤◌, ◌^◌, 
 use Rattle.sched_base.specs.Numbers.{moment}
 use Rattle.sched_model.specs.declared.event.Entry.{Entry}
 use Rattle.sched_report.specs.Stays.{last_moment}
-use Rattle.status_board.specs.Counts.{counted}
+use Rattle.status_board.specs.Counts.{entry_count}
 use Rattle.pcpu_watch.specs.declared.looks.Look.{Look}
 use Rattle.pcpu_watch.specs.Moments.{ends, moment_of}
 
@@ -20,7 +20,7 @@ pub record FitIn (looks : List Look) (room taken : ℕ) : Type 0 where
 
 -- what is seen of these entries: how many they are, and the moment of the last one
 abbrev pub look_of : List Entry → Look
-look_of entries = record { entries = counted entries; moment = moment (last_moment entries) }
+look_of entries = record { entries = entry_count entries; moment = moment (last_moment entries) }
 
 -- the look is that of a beginning of the history
 pub record ShowsBeginning (history : List Entry) (look : Look) : Type 0 where

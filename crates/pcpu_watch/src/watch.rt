@@ -3,7 +3,7 @@
 ghost use Rattle.std.specs.Prelude.{◌≡◌, ◌<◌, IfSome, OnOk, length};
 ghost use mathlib.Core.List.{IsPrefix};
 ghost use Rattle.pcpu_watch.specs.Looks.{look_of};
-ghost use Rattle.pcpu_watch.specs.Readers.{learned};
+ghost use Rattle.pcpu_watch.specs.Readers.{learned_entries};
 ghost use Rattle.pcpu_watch.specs.Scribes.{CanWrite, HasWritten, ReadsOn};
 ghost use Rattle.pcpu_watch.specs.Watches.{CanLook, HasLooked, StaysWatch};
 
@@ -26,7 +26,7 @@ pub(crate) struct Watcher {
 /// Learns what was told, if something was.
 fn learn(told: Option<Told>, reader: &mut BoardReader)
     requires cores { IfSome told (λ t. t.cores ≡ reader.old.cores) }
-    ensures seen { reader.new.seen ≡ learned told reader.old.seen }
+    ensures seen { reader.new.seen ≡ learned_entries told reader.old.seen }
     ensures cores { reader.new.cores ≡ reader.old.cores }
 {
     if let Some(told) = told {
@@ -38,7 +38,7 @@ fn learn(told: Option<Told>, reader: &mut BoardReader)
 fn read_turn(told: Option<Told>, reader: &mut BoardReader) -> Look
     requires cores { IfSome told (λ t. t.cores ≡ reader.old.cores) }
     ensures look { result ≡ look_of reader.new.seen }
-    ensures later { IsPrefix (learned told reader.old.seen) reader.new.seen }
+    ensures later { IsPrefix (learned_entries told reader.old.seen) reader.new.seen }
     ensures cores { reader.new.cores ≡ reader.old.cores }
 {
     learn(told, reader);

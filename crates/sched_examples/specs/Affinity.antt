@@ -3,7 +3,7 @@ use Rattle.std.specs.Prelude.{List, [], ◌∷◌, Some, None, Ok, Err, true, co
 use Rattle.sched_base.specs.Numbers.{moment, span, processor, core, core_set}
 use Rattle.sched_model.specs.declared.event.Entry.{Entry}
 use Rattle.sched_model.specs.declared.machine.Machine.{Machine}
-use Rattle.sched_examples.specs.Words.{unit, vcpu, forever, credit2_pool, credit2_domain, pinned, xl, no_reading, at}
+use Rattle.sched_examples.specs.Words.{unit, vcpu, endless_script, credit2_pool, credit2_domain, pinned_domain, xl, no_reading, at}
 use Rattle.sched_model.specs.declared.event.Event.TheVariants as event
 use Rattle.sched_model.specs.declared.event.Refusal.TheVariants as refusal
 use Rattle.sched_model.specs.declared.event.Reply.TheVariants as reply
@@ -18,7 +18,7 @@ machine_pins_of_the_file = record {
     processors = 2;
     horizon = moment 1000000;
     pools = credit2_pool (codes "Pool-0") 3 1000 ∷ [];
-    domains = pinned (core_set 1 ∷ core_set 1 ∷ []) (credit2_domain (codes "a") 0 256 0 (forever ∷ forever ∷ [])) ∷ [];
+    domains = pinned_domain (core_set 1 ∷ core_set 1 ∷ []) (credit2_domain (codes "a") 0 256 0 (endless_script ∷ endless_script ∷ [])) ∷ [];
   };
   work = record {
     stalls = [];
@@ -52,7 +52,7 @@ machine_pin_by_command = record {
     processors = 2;
     horizon = moment 1000000;
     pools = credit2_pool (codes "Pool-0") 3 1000 ∷ [];
-    domains = credit2_domain (codes "a") 0 256 0 (forever ∷ forever ∷ []) ∷ [];
+    domains = credit2_domain (codes "a") 0 256 0 (endless_script ∷ endless_script ∷ []) ∷ [];
   };
   work = record {
     stalls = [];
@@ -95,7 +95,7 @@ machine_pins_are_refused = record {
     processors = 3;
     horizon = moment 1000000;
     pools = credit2_pool (codes "Pool-0") 3 1000 ∷ [];
-    domains = credit2_domain (codes "a") 0 256 0 (forever ∷ forever ∷ []) ∷ [];
+    domains = credit2_domain (codes "a") 0 256 0 (endless_script ∷ endless_script ∷ []) ∷ [];
   };
   work = record {
     stalls = [];
@@ -140,7 +140,7 @@ machine_pin_and_refusals = record {
     processors = 3;
     horizon = moment 1000000;
     pools = credit2_pool (codes "Pool-0") 3 1000 ∷ [];
-    domains = credit2_domain (codes "a") 0 256 0 (forever ∷ forever ∷ []) ∷ [];
+    domains = credit2_domain (codes "a") 0 256 0 (endless_script ∷ endless_script ∷ []) ∷ [];
   };
   work = record {
     stalls = [];

@@ -3,7 +3,7 @@ use Rattle.std.specs.Prelude.{List, [], ◌∷◌, Some, None, Ok, Err, true, fa
 use Rattle.sched_base.specs.Numbers.{moment, span, processor, core, pool}
 use Rattle.sched_model.specs.declared.event.Entry.{Entry}
 use Rattle.sched_model.specs.declared.machine.Machine.{Machine}
-use Rattle.sched_examples.specs.Words.{unit, vcpu, window, new_window, frame, forever, arinc_pool, arinc_domain, stall, xl, at}
+use Rattle.sched_examples.specs.Words.{unit, vcpu, window, new_window, frame, endless_script, arinc_pool, arinc_domain, stall, xl, at}
 use Rattle.sched_model.specs.declared.event.Event.TheVariants as event
 use Rattle.sched_model.specs.declared.event.Refusal.TheVariants as refusal
 use Rattle.sched_model.specs.declared.event.Reply.TheVariants as reply
@@ -19,7 +19,7 @@ machine_windows_of_a_frame = record {
     processors = 1;
     horizon = moment 20000000;
     pools = arinc_pool (codes "Pool-0") 1 (Some (frame 10000000 (window 0 0 4000000 ∷ window 1 0 3000000 ∷ []))) ∷ [];
-    domains = arinc_domain (codes "a") 0 (forever ∷ []) ∷ arinc_domain (codes "b") 0 (forever ∷ []) ∷ [];
+    domains = arinc_domain (codes "a") 0 (endless_script ∷ []) ∷ arinc_domain (codes "b") 0 (endless_script ∷ []) ∷ [];
   };
   work = record {
     stalls = [];
@@ -80,7 +80,7 @@ machine_guest_sleeps_in_its_window = record {
     pools = arinc_pool (codes "Pool-0") 1 (Some (frame 10000000 (window 0 0 4000000 ∷ window 1 0 3000000 ∷ []))) ∷ [];
     domains =
         arinc_domain (codes "a") 0 ((span 1000000 ∷ span 2000000 ∷ []) ∷ []) ∷
-        arinc_domain (codes "b") 0 (forever ∷ []) ∷
+        arinc_domain (codes "b") 0 (endless_script ∷ []) ∷
         [];
   };
   work = record {
@@ -123,7 +123,7 @@ machine_stall_over_two_frames = record {
     processors = 1;
     horizon = moment 26000000;
     pools = arinc_pool (codes "Pool-0") 1 (Some (frame 10000000 (window 0 0 4000000 ∷ window 1 0 3000000 ∷ []))) ∷ [];
-    domains = arinc_domain (codes "a") 0 (forever ∷ []) ∷ arinc_domain (codes "b") 0 (forever ∷ []) ∷ [];
+    domains = arinc_domain (codes "a") 0 (endless_script ∷ []) ∷ arinc_domain (codes "b") 0 (endless_script ∷ []) ∷ [];
   };
   work = record {
     stalls = stall 1000000 0 24000000 ∷ [];
@@ -156,7 +156,7 @@ machine_frames_by_command = record {
     processors = 2;
     horizon = moment 3000000;
     pools = arinc_pool (codes "Pool-0") 1 (Some (frame 10000000 (window 0 0 4000000 ∷ window 1 0 3000000 ∷ []))) ∷ [];
-    domains = arinc_domain (codes "a") 0 (forever ∷ []) ∷ arinc_domain (codes "b") 0 (forever ∷ []) ∷ [];
+    domains = arinc_domain (codes "a") 0 (endless_script ∷ []) ∷ arinc_domain (codes "b") 0 (endless_script ∷ []) ∷ [];
   };
   work = record {
     stalls = [];

@@ -3,7 +3,7 @@ use Rattle.std.specs.Prelude.{List, [], ◌∷◌, Some, None, Ok, true, pos, ne
 use Rattle.sched_base.specs.Numbers.{moment, span, processor, core, domain}
 use Rattle.sched_model.specs.declared.event.Entry.{Entry}
 use Rattle.sched_model.specs.declared.machine.Machine.{Machine}
-use Rattle.sched_examples.specs.Words.{unit, vcpu, forever, credit2_pool, credit2_domain, stall, xl, at}
+use Rattle.sched_examples.specs.Words.{unit, vcpu, endless_script, credit2_pool, credit2_domain, stall, xl, at}
 use Rattle.sched_model.specs.declared.event.Event.TheVariants as event
 use Rattle.sched_model.specs.declared.event.Reply.TheVariants as reply
 use Rattle.sched_model.specs.declared.command.Command.TheVariants as command
@@ -17,7 +17,7 @@ machine_capped_domain = record {
     processors = 2;
     horizon = moment 10000000;
     pools = credit2_pool (codes "Pool-0") 3 1000 ∷ [];
-    domains = credit2_domain (codes "a") 0 256 25 (forever ∷ forever ∷ []) ∷ [];
+    domains = credit2_domain (codes "a") 0 256 25 (endless_script ∷ endless_script ∷ []) ∷ [];
   };
   work = record {
     stalls = [];
@@ -69,7 +69,7 @@ machine_late_refill = record {
     processors = 2;
     horizon = moment 25000000;
     pools = credit2_pool (codes "Pool-0") 3 1000 ∷ [];
-    domains = credit2_domain (codes "a") 0 256 500 (forever ∷ forever ∷ []) ∷ [];
+    domains = credit2_domain (codes "a") 0 256 500 (endless_script ∷ endless_script ∷ []) ∷ [];
   };
   work = record {
     stalls = stall 5000000 0 16500000 ∷ [];
@@ -125,7 +125,7 @@ machine_cap_in_mid_run = record {
     processors = 1;
     horizon = moment 13000000;
     pools = credit2_pool (codes "Pool-0") 1 1000 ∷ [];
-    domains = credit2_domain (codes "a") 0 256 0 (forever ∷ []) ∷ [];
+    domains = credit2_domain (codes "a") 0 256 0 (endless_script ∷ []) ∷ [];
   };
   work = record {
     stalls = [];
@@ -166,7 +166,7 @@ machine_overrun_is_paid_back = record {
     processors = 1;
     horizon = moment 40000000;
     pools = credit2_pool (codes "Pool-0") 1 1000 ∷ [];
-    domains = credit2_domain (codes "a") 0 256 25 (forever ∷ []) ∷ [];
+    domains = credit2_domain (codes "a") 0 256 25 (endless_script ∷ []) ∷ [];
   };
   work = record {
     stalls = stall 1000000 0 10500000 ∷ [];

@@ -3,7 +3,7 @@ use Rattle.std.specs.Prelude.{List, [], ◌∷◌, Some, None, Ok, Err, true, fa
 use Rattle.sched_base.specs.Numbers.{moment, span, processor, core, domain, pool}
 use Rattle.sched_model.specs.declared.event.Entry.{Entry}
 use Rattle.sched_model.specs.declared.machine.Machine.{Machine}
-use Rattle.sched_examples.specs.Words.{unit, vcpu, forever, credit2_pool, rtds_pool, credit2_domain, rtds_domain, xl, no_reading, at}
+use Rattle.sched_examples.specs.Words.{unit, vcpu, endless_script, credit2_pool, rtds_pool, credit2_domain, rtds_domain, xl, no_reading, at}
 use Rattle.sched_model.specs.declared.event.Event.TheVariants as event
 use Rattle.sched_model.specs.declared.event.Refusal.TheVariants as refusal
 use Rattle.sched_model.specs.declared.event.Reply.TheVariants as reply
@@ -20,7 +20,7 @@ machine_pause_and_unpause = record {
     processors = 1;
     horizon = moment 1000000;
     pools = credit2_pool (codes "Pool-0") 1 1000 ∷ [];
-    domains = credit2_domain (codes "a") 0 256 0 (forever ∷ []) ∷ [];
+    domains = credit2_domain (codes "a") 0 256 0 (endless_script ∷ []) ∷ [];
   };
   work = record {
     stalls = [];
@@ -55,8 +55,8 @@ machine_core_changes_pool = record {
     horizon = moment 1000000;
     pools = credit2_pool (codes "Pool-0") 3 1000 ∷ rtds_pool (codes "rt") 4 ∷ [];
     domains =
-        credit2_domain (codes "a") 0 256 0 (forever ∷ forever ∷ []) ∷
-        rtds_domain (codes "b") 1 10000000 5000000 true (forever ∷ forever ∷ []) ∷
+        credit2_domain (codes "a") 0 256 0 (endless_script ∷ endless_script ∷ []) ∷
+        rtds_domain (codes "b") 1 10000000 5000000 true (endless_script ∷ endless_script ∷ []) ∷
         [];
   };
   work = record {
@@ -109,7 +109,7 @@ machine_domain_migrates = record {
     processors = 3;
     horizon = moment 1000000;
     pools = credit2_pool (codes "Pool-0") 3 1000 ∷ rtds_pool (codes "rt") 4 ∷ [];
-    domains = credit2_domain (codes "a") 0 256 0 (forever ∷ (span 500000 ∷ span 500000 ∷ []) ∷ []) ∷ [];
+    domains = credit2_domain (codes "a") 0 256 0 (endless_script ∷ (span 500000 ∷ span 500000 ∷ []) ∷ []) ∷ [];
   };
   work = record {
     stalls = [];
@@ -157,7 +157,7 @@ machine_refusals = record {
     processors = 2;
     horizon = moment 1000000;
     pools = credit2_pool (codes "Pool-0") 1 1000 ∷ rtds_pool (codes "hold") 2 ∷ [];
-    domains = credit2_domain (codes "a") 0 256 0 (forever ∷ []) ∷ [];
+    domains = credit2_domain (codes "a") 0 256 0 (endless_script ∷ []) ∷ [];
   };
   work = record {
     stalls = [];
@@ -224,7 +224,7 @@ machine_new_pool_is_listed = record {
     processors = 2;
     horizon = moment 1000000;
     pools = credit2_pool (codes "Pool-0") 1 1000 ∷ rtds_pool (codes "hold") 2 ∷ [];
-    domains = credit2_domain (codes "a") 0 256 0 (forever ∷ []) ∷ [];
+    domains = credit2_domain (codes "a") 0 256 0 (endless_script ∷ []) ∷ [];
   };
   work = record {
     stalls = [];

@@ -3,7 +3,7 @@ use Rattle.std.specs.Prelude.{List, [], ◌∷◌, Some, None, Ok, true, codes}
 use Rattle.sched_base.specs.Numbers.{moment, span, processor, core}
 use Rattle.sched_model.specs.declared.event.Entry.{Entry}
 use Rattle.sched_model.specs.declared.machine.Machine.{Machine}
-use Rattle.sched_examples.specs.Words.{unit, vcpu, forever, credit2_pool, credit2_domain, stall, xl, at}
+use Rattle.sched_examples.specs.Words.{unit, vcpu, endless_script, credit2_pool, credit2_domain, stall, xl, at}
 use Rattle.sched_model.specs.declared.event.Event.TheVariants as event
 use Rattle.sched_model.specs.declared.event.Reply.TheVariants as reply
 use Rattle.sched_model.specs.declared.command.Command.TheVariants as command
@@ -42,7 +42,7 @@ machine_two_weights = record {
     processors = 1;
     horizon = moment 16000000;
     pools = credit2_pool (codes "Pool-0") 1 1000 ∷ [];
-    domains = credit2_domain (codes "a") 0 256 0 (forever ∷ []) ∷ credit2_domain (codes "b") 0 512 0 (forever ∷ []) ∷ [];
+    domains = credit2_domain (codes "a") 0 256 0 (endless_script ∷ []) ∷ credit2_domain (codes "b") 0 512 0 (endless_script ∷ []) ∷ [];
   };
   work = record {
     stalls = [];
@@ -90,7 +90,7 @@ machine_reset_after_a_stall = record {
     processors = 1;
     horizon = moment 35000000;
     pools = credit2_pool (codes "Pool-0") 1 1000 ∷ [];
-    domains = credit2_domain (codes "a") 0 256 0 (forever ∷ []) ∷ [];
+    domains = credit2_domain (codes "a") 0 256 0 (endless_script ∷ []) ∷ [];
   };
   work = record {
     stalls = stall 500000 0 34500000 ∷ [];
@@ -123,8 +123,8 @@ machine_weight_in_mid_run = record {
     horizon = moment 20000000;
     pools = credit2_pool (codes "Pool-0") 1 1000 ∷ [];
     domains =
-        credit2_domain (codes "a") 0 45001 0 (forever ∷ []) ∷
-        credit2_domain (codes "b") 0 60000 0 (forever ∷ []) ∷
+        credit2_domain (codes "a") 0 45001 0 (endless_script ∷ []) ∷
+        credit2_domain (codes "b") 0 60000 0 (endless_script ∷ []) ∷
         [];
   };
   work = record {

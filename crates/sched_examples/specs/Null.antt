@@ -3,7 +3,7 @@ use Rattle.std.specs.Prelude.{List, [], ◌∷◌, Some, None, Ok, Err, false, c
 use Rattle.sched_base.specs.Numbers.{moment, span, processor, core, domain, pool}
 use Rattle.sched_model.specs.declared.event.Entry.{Entry}
 use Rattle.sched_model.specs.declared.machine.Machine.{Machine}
-use Rattle.sched_examples.specs.Words.{unit, vcpu, forever, rtds_pool, null_pool, null_domain, xl, at}
+use Rattle.sched_examples.specs.Words.{unit, vcpu, endless_script, rtds_pool, null_pool, null_domain, xl, at}
 use Rattle.sched_model.specs.declared.event.Event.TheVariants as event
 use Rattle.sched_model.specs.declared.event.Refusal.TheVariants as refusal
 use Rattle.sched_model.specs.declared.event.Reply.TheVariants as reply
@@ -20,9 +20,9 @@ machine_core_is_kept = record {
     horizon = moment 2000000;
     pools = null_pool (codes "Pool-0") 3 ∷ [];
     domains =
-        null_domain (codes "a") 0 (forever ∷ []) ∷
+        null_domain (codes "a") 0 (endless_script ∷ []) ∷
         null_domain (codes "b") 0 ((span 1000000 ∷ span 1000000 ∷ []) ∷ []) ∷
-        null_domain (codes "c") 0 (forever ∷ []) ∷
+        null_domain (codes "c") 0 (endless_script ∷ []) ∷
         [];
   };
   work = record {
@@ -63,9 +63,9 @@ machine_no_weight = record {
     horizon = moment 2000000;
     pools = null_pool (codes "Pool-0") 3 ∷ [];
     domains =
-        null_domain (codes "a") 0 (forever ∷ []) ∷
+        null_domain (codes "a") 0 (endless_script ∷ []) ∷
         null_domain (codes "b") 0 ((span 1000000 ∷ span 1000000 ∷ []) ∷ []) ∷
-        null_domain (codes "c") 0 (forever ∷ []) ∷
+        null_domain (codes "c") 0 (endless_script ∷ []) ∷
         [];
   };
   work = record {
@@ -106,7 +106,7 @@ machine_core_is_freed = record {
     processors = 2;
     horizon = moment 1000000;
     pools = null_pool (codes "Pool-0") 1 ∷ rtds_pool (codes "rt") 2 ∷ [];
-    domains = null_domain (codes "a") 0 (forever ∷ []) ∷ null_domain (codes "b") 0 (forever ∷ []) ∷ [];
+    domains = null_domain (codes "a") 0 (endless_script ∷ []) ∷ null_domain (codes "b") 0 (endless_script ∷ []) ∷ [];
   };
   work = record {
     stalls = [];
@@ -148,9 +148,9 @@ machine_core_is_kept_while_away = record {
     horizon = moment 10000000;
     pools = null_pool (codes "Pool-0") 3 ∷ [];
     domains =
-        null_domain (codes "a") 0 (forever ∷ []) ∷
+        null_domain (codes "a") 0 (endless_script ∷ []) ∷
         null_domain (codes "b") 0 ((span 1000000 ∷ span 9000000 ∷ []) ∷ []) ∷
-        null_domain (codes "c") 0 (forever ∷ []) ∷
+        null_domain (codes "c") 0 (endless_script ∷ []) ∷
         [];
   };
   work = record {
@@ -203,8 +203,8 @@ machine_cores_of_four = record {
     horizon = moment 1500000;
     pools = null_pool (codes "Pool-0") 3 ∷ [];
     domains =
-        null_domain (codes "a") 0 (forever ∷ (span 1000000 ∷ span 500000 ∷ []) ∷ forever ∷ forever ∷ (span 500000 ∷ span 1000000 ∷ []) ∷ []) ∷
-        null_domain (codes "b") 0 (forever ∷ []) ∷
+        null_domain (codes "a") 0 (endless_script ∷ (span 1000000 ∷ span 500000 ∷ []) ∷ endless_script ∷ endless_script ∷ (span 500000 ∷ span 1000000 ∷ []) ∷ []) ∷
+        null_domain (codes "b") 0 (endless_script ∷ []) ∷
         [];
   };
   work = record {

@@ -3,7 +3,7 @@ use Rattle.std.specs.Prelude.{List, [], ◌∷◌, Some, None, Ok, true, false, 
 use Rattle.sched_base.specs.Numbers.{moment, span, processor, core, domain}
 use Rattle.sched_model.specs.declared.event.Entry.{Entry}
 use Rattle.sched_model.specs.declared.machine.Machine.{Machine}
-use Rattle.sched_examples.specs.Words.{unit, vcpu, window, frame, forever, credit2_pool, rtds_pool, arinc_pool, credit2_domain, rtds_domain, arinc_domain, stall, xl, at}
+use Rattle.sched_examples.specs.Words.{unit, vcpu, window, frame, endless_script, credit2_pool, rtds_pool, arinc_pool, credit2_domain, rtds_domain, arinc_domain, stall, xl, at}
 use Rattle.sched_model.specs.declared.event.Event.TheVariants as event
 use Rattle.sched_model.specs.declared.command.Command.TheVariants as command
 use Rattle.sched_model.specs.declared.command.Which.TheVariants as which
@@ -24,14 +24,14 @@ machine_first_entries = record {
         credit2_domain (codes "Domain-0") 0 512 0 ((span 300000 ∷ span 1700000 ∷ []) ∷ (span 200000 ∷ span 4800000 ∷ []) ∷ []) ∷
         credit2_domain (codes "web1") 0 256 0 ((span 2000000 ∷ span 3000000 ∷ []) ∷ (span 2000000 ∷ span 5000000 ∷ []) ∷ []) ∷
         credit2_domain (codes "web2") 0 256 0 ((span 2500000 ∷ span 2500000 ∷ []) ∷ (span 1000000 ∷ span 9000000 ∷ []) ∷ []) ∷
-        credit2_domain (codes "db") 0 1024 0 (forever ∷ (span 4000000 ∷ span 2000000 ∷ []) ∷ (span 3000000 ∷ span 3000000 ∷ []) ∷ []) ∷
-        credit2_domain (codes "batch1") 0 64 50 (forever ∷ forever ∷ []) ∷
-        credit2_domain (codes "batch2") 0 64 0 (forever ∷ []) ∷
+        credit2_domain (codes "db") 0 1024 0 (endless_script ∷ (span 4000000 ∷ span 2000000 ∷ []) ∷ (span 3000000 ∷ span 3000000 ∷ []) ∷ []) ∷
+        credit2_domain (codes "batch1") 0 64 50 (endless_script ∷ endless_script ∷ []) ∷
+        credit2_domain (codes "batch2") 0 64 0 (endless_script ∷ []) ∷
         credit2_domain (codes "mail") 0 256 0 ((span 500000 ∷ span 9500000 ∷ []) ∷ []) ∷
         rtds_domain (codes "audio") 1 10000000 2000000 false ((span 1500000 ∷ span 8500000 ∷ []) ∷ []) ∷
-        rtds_domain (codes "video") 1 20000000 8000000 false (forever ∷ (span 5000000 ∷ span 15000000 ∷ []) ∷ []) ∷
-        rtds_domain (codes "logger") 1 50000000 5000000 true (forever ∷ []) ∷
-        arinc_domain (codes "fly") 2 (forever ∷ forever ∷ []) ∷
+        rtds_domain (codes "video") 1 20000000 8000000 false (endless_script ∷ (span 5000000 ∷ span 15000000 ∷ []) ∷ []) ∷
+        rtds_domain (codes "logger") 1 50000000 5000000 true (endless_script ∷ []) ∷
+        arinc_domain (codes "fly") 2 (endless_script ∷ endless_script ∷ []) ∷
         arinc_domain (codes "nav") 2 ((span 6000000 ∷ span 44000000 ∷ []) ∷ []) ∷
         [];
   };

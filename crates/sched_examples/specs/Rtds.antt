@@ -3,7 +3,7 @@ use Rattle.std.specs.Prelude.{List, [], ◌∷◌, Some, None, Ok, true, false, 
 use Rattle.sched_base.specs.Numbers.{moment, span, processor, core}
 use Rattle.sched_model.specs.declared.event.Entry.{Entry}
 use Rattle.sched_model.specs.declared.machine.Machine.{Machine}
-use Rattle.sched_examples.specs.Words.{unit, vcpu, forever, rtds_pool, rtds_domain, stall, xl, at}
+use Rattle.sched_examples.specs.Words.{unit, vcpu, endless_script, rtds_pool, rtds_domain, stall, xl, at}
 use Rattle.sched_model.specs.declared.event.Event.TheVariants as event
 use Rattle.sched_model.specs.declared.event.Reply.TheVariants as reply
 use Rattle.sched_model.specs.declared.command.Command.TheVariants as command
@@ -18,8 +18,8 @@ machine_budgets_and_deadlines = record {
     horizon = moment 20000000;
     pools = rtds_pool (codes "Pool-0") 1 ∷ [];
     domains =
-        rtds_domain (codes "a") 0 10000000 4000000 false (forever ∷ []) ∷
-        rtds_domain (codes "b") 0 20000000 5000000 false (forever ∷ []) ∷
+        rtds_domain (codes "a") 0 10000000 4000000 false (endless_script ∷ []) ∷
+        rtds_domain (codes "b") 0 20000000 5000000 false (endless_script ∷ []) ∷
         [];
   };
   work = record {
@@ -75,8 +75,8 @@ machine_stall_past_the_due = record {
     horizon = moment 5000000;
     pools = rtds_pool (codes "Pool-0") 1 ∷ [];
     domains =
-        rtds_domain (codes "a") 0 10000000 4000000 false (forever ∷ []) ∷
-        rtds_domain (codes "b") 0 20000000 5000000 false (forever ∷ []) ∷
+        rtds_domain (codes "a") 0 10000000 4000000 false (endless_script ∷ []) ∷
+        rtds_domain (codes "b") 0 20000000 5000000 false (endless_script ∷ []) ∷
         [];
   };
   work = record {
@@ -110,7 +110,7 @@ machine_late_replenishment = record {
     processors = 1;
     horizon = moment 35000000;
     pools = rtds_pool (codes "Pool-0") 1 ∷ [];
-    domains = rtds_domain (codes "a") 0 10000000 4000000 false (forever ∷ []) ∷ [];
+    domains = rtds_domain (codes "a") 0 10000000 4000000 false (endless_script ∷ []) ∷ [];
   };
   work = record {
     stalls = stall 5000000 0 30000000 ∷ [];
@@ -149,8 +149,8 @@ machine_extra_time = record {
     horizon = moment 14000000;
     pools = rtds_pool (codes "Pool-0") 1 ∷ [];
     domains =
-        rtds_domain (codes "a") 0 10000000 4000000 true (forever ∷ []) ∷
-        rtds_domain (codes "b") 0 10000000 5000000 false (forever ∷ []) ∷
+        rtds_domain (codes "a") 0 10000000 4000000 true (endless_script ∷ []) ∷
+        rtds_domain (codes "b") 0 10000000 5000000 false (endless_script ∷ []) ∷
         [];
   };
   work = record {
@@ -202,7 +202,7 @@ machine_new_budget = record {
     processors = 1;
     horizon = moment 10000000;
     pools = rtds_pool (codes "Pool-0") 1 ∷ [];
-    domains = rtds_domain (codes "a") 0 10000000 4000000 false (forever ∷ []) ∷ [];
+    domains = rtds_domain (codes "a") 0 10000000 4000000 false (endless_script ∷ []) ∷ [];
   };
   work = record {
     stalls = [];
@@ -289,7 +289,7 @@ machine_urgent_wake = record {
     horizon = moment 10000000;
     pools = rtds_pool (codes "Pool-0") 1 ∷ [];
     domains =
-        rtds_domain (codes "a") 0 20000000 10000000 false (forever ∷ []) ∷
+        rtds_domain (codes "a") 0 20000000 10000000 false (endless_script ∷ []) ∷
         rtds_domain (codes "b") 0 10000000 4000000 false ((span 2000000 ∷ span 3000000 ∷ []) ∷ []) ∷
         [];
   };

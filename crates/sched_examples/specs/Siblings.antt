@@ -3,7 +3,7 @@ use Rattle.std.specs.Prelude.{List, [], ◌∷◌, Some, None, true, codes}
 use Rattle.sched_base.specs.Numbers.{moment, span, processor, core}
 use Rattle.sched_model.specs.declared.event.Entry.{Entry}
 use Rattle.sched_model.specs.declared.machine.Machine.{Machine}
-use Rattle.sched_examples.specs.Words.{unit, vcpu, forever, credit2_pool, credit2_domain, stall, at}
+use Rattle.sched_examples.specs.Words.{unit, vcpu, endless_script, credit2_pool, credit2_domain, stall, at}
 use Rattle.sched_model.specs.declared.event.Event.TheVariants as event
 
 -- a core of two processors, and three vCPUs
@@ -14,7 +14,7 @@ machine_siblings_meet = record {
     processors = 2;
     horizon = moment 1000000;
     pools = credit2_pool (codes "Pool-0") 1 1000 ∷ [];
-    domains = credit2_domain (codes "a") 0 256 0 (forever ∷ forever ∷ forever ∷ []) ∷ [];
+    domains = credit2_domain (codes "a") 0 256 0 (endless_script ∷ endless_script ∷ endless_script ∷ []) ∷ [];
   };
   work = record {
     stalls = [];
@@ -49,7 +49,7 @@ machine_sibling_stalls = record {
     processors = 2;
     horizon = moment 1500000;
     pools = credit2_pool (codes "Pool-0") 1 1000 ∷ [];
-    domains = credit2_domain (codes "a") 0 256 0 (forever ∷ forever ∷ forever ∷ []) ∷ [];
+    domains = credit2_domain (codes "a") 0 256 0 (endless_script ∷ endless_script ∷ endless_script ∷ []) ∷ [];
   };
   work = record {
     stalls = stall 500000 1 1000000 ∷ [];

@@ -34,8 +34,8 @@ abbrev pub vcpu : ℕ → ℕ → VcpuId
 vcpu d n = record { dom = domain_number d; n = n }
 
 -- the script of a vCPU that always runs
-abbrev pub forever : List Span
-forever = []
+abbrev pub endless_script : List Span
+endless_script = []
 
 -- a window of a frame: the unit n of the domain d runs for a span
 abbrev pub window : ℕ → ℕ → ℕ → FrameEntry
@@ -82,8 +82,8 @@ abbrev pub null_domain : List ℕ → ℕ → List (List Span) → DomConfig
 null_domain name home guests = record { name = name; home = pool_number home; guests = guests; params = dom_params.Null; pins = [] }
 
 -- a domain with a set of cores for each of its units
-abbrev pub pinned : List Cores → DomConfig → DomConfig
-pinned pins domain = record domain { pins = pins }
+abbrev pub pinned_domain : List Cores → DomConfig → DomConfig
+pinned_domain pins domain = record domain { pins = pins }
 
 -- a processor stalls at a moment for a span
 abbrev pub stall : ℕ → ℕ → ℕ → StallLine

@@ -16,10 +16,6 @@ rose_after old middle new earlier rose = record {
   higher = λ below. grind (arith, rose.higher, rose.kept);
 }
 
--- one more is a rise
-pub rose_one_more : (count : ℕ) → count < 2 ^ 64 → Rose count (one_more count)
-rose_one_more count fits = record { kept = omega arith; higher = λ below. omega arith }
-
 -- a count that stays at 0 never rose
 pub never_rose : Rose 0 0 → ⊥
 never_rose rose = let step : 0 < 0 = rose.higher (λ e. cc) in omega arith

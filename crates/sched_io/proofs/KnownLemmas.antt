@@ -18,29 +18,6 @@ appends_both (Some old) (Some was) None piece more before after = absurd after
 appends_both (Some old) (Some was) (Some all) piece more before after =
     rw (after, before) (append_assoc old piece more)
 
--- nothing was read
-pub consumes_nothing : (known : Option (List ℕ)) → Consumes known known []
-consumes_nothing None = tt
-consumes_nothing (Some all) = refl
-
--- one piece was read after another
-pub consumes_both : (first second third : Option (List ℕ)) (piece more : List ℕ) →
-    Consumes first second piece → Consumes second third more → Consumes first third (piece ++ more)
-consumes_both None second third piece more before after = tt
-consumes_both (Some old) None third piece more before after = absurd before
-consumes_both (Some old) (Some was) None piece more before after = absurd after
-consumes_both (Some old) (Some was) (Some all) piece more before after =
-    rw (before, after) (sym (append_assoc piece more all))
-
--- what was read up to the end is all that there was
-pub consumed_whole : (first second third : Option (List ℕ)) (piece : List ℕ) →
-    Consumes first second piece → Consumes second third [] → IsAtEnd third → IfSome first (λ all. piece ≡ all)
-consumed_whole None second third piece before after end = tt
-consumed_whole (Some old) None third piece before after end = absurd before
-consumed_whole (Some old) (Some was) None piece before after end = absurd after
-consumed_whole (Some old) (Some was) (Some all) piece before after end =
-    rw (before, after, end) (sym (append-nil piece))
-
 -- a front of the rest moves to what is done
 pub moved_front : (done rest piece : List ℕ) (count : ℕ) → done ++ rest ≡ piece →
     (done ++ take count rest) ++ take (length rest - count) (drop count rest) ≡ piece

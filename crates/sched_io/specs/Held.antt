@@ -20,5 +20,5 @@ is_unreadable None = true
 is_unreadable (Some bytes) = nat_lt most_bytes (length bytes)
 
 -- bytes that are not told
-abbrev pub untold : Option (List ℕ)
-untold = None
+abbrev pub untold_bytes : Option (List ℕ)
+untold_bytes = None

@@ -2,7 +2,7 @@
 
 ghost use Rattle.std.specs.Prelude.{◌≡◌, ◌≤◌, ℕ, List, None, OnOk, length, IfOk, IfSome, IsErrOf, if◌then◌else◌};
 ghost use Rattle.sched_io.specs.Faults.{Rose, one_more};
-ghost use Rattle.sched_io.specs.Held.{most_bytes, untold};
+ghost use Rattle.sched_io.specs.Held.{most_bytes, untold_bytes};
 
 use crate::store::{MOST_BYTES, ReadErr, Store};
 use std::alloc::Global;
@@ -45,7 +45,8 @@ impl<'a, R> FileStore<'a, R> {
 /// All that a reader gives up to its end, which is a read of no byte. It takes at most 1,048,576 reads and 536,870,912
 /// bytes.
 fn read_whole<F: Read>(alloc: Global, file: &mut F) -> Result<Vec<u8>, ReadErr>
-    ensures whole { IfOk result (λ bytes. IfSome (F.remaining file.old) (λ all. bytes.items ≡ all)) }
+    ensures whole { IfOk result (λ bytes.
+        IfSome (F.remaining file.old) (λ all. bytes.items ≡ all)) }
     ensures bound { IfOk result (λ bytes. length bytes.items ≤ most_bytes) }
 {
     let mut bytes = Vec::new(alloc);
@@ -76,7 +77,7 @@ fn read_named<R: Files>(files: &R, alloc: Global, name: &str) -> Result<Vec<u8>,
 }
 
 impl<R: Files> Store for FileStore<'_, R> {
-    ghost held = { λ _ _. untold };
+    ghost held = { λ _ _. untold_bytes };
 
     ghost faults = { λ store _. store };
 
@@ -85,9 +86,9 @@ impl<R: Files> Store for FileStore<'_, R> {
     fn read_all(&mut self, alloc: Global, name: &str) -> Result<Vec<u8>, ReadErr>
         ensures faults { IsErrOf result ReadErr.Failed → self.new ≡ one_more self.old }
         ensures no_fault { OnOk result (self.new ≡ self.old) }
-        ensures answer { IfOk result (λ bytes. IfSome untold (λ all. bytes.items ≡ all)) }
+        ensures answer { IfOk result (λ bytes. IfSome untold_bytes (λ all. bytes.items ≡ all)) }
         ensures bound { IfOk result (λ bytes. length bytes.items ≤ most_bytes) }
-        ensures same { (other : List ℕ) → untold ≡ untold }
+        ensures same { (other : List ℕ) → untold_bytes ≡ untold_bytes }
         ensures counts { (other : List ℕ) → self.old ≤ self.new }
         ensures cause { IsErrOf result ReadErr.Failed → Rose self.old self.new }
         ensures no_memory { IsErrOf result ReadErr.NoMemory → self.new ≡ self.old }

@@ -33,7 +33,8 @@ impl Model for MemSink {
 impl MemSink {
     /// An empty sink for this many bytes, whose calls of `put` with the listed numbers, from 1, fail.
     pub fn room(alloc: Global, room: usize, fails: &[u32]) -> Result<MemSink, NoMemory>
-        ensures { IfOk result (λ sink. sink ≡ record { bytes = []; room = room; fails = fails.now; calls = 0; faults = 0 }) }
+        ensures { IfOk result (λ sink. sink
+            ≡ record { bytes = []; room = room; fails = fails.now; calls = 0; faults = 0 }) }
     {
         let plan = Plan::new(alloc, fails)?;
         let bytes = Vec::with_capacity(alloc, room)?;
@@ -59,13 +60,17 @@ impl Sink for MemSink {
     /// pass the room.
     fn put(&mut self, piece: &[u8]) -> Result<(), Failed>
         ensures fails { is_err result ≡ put_fails self.old piece.now }
-        ensures bytes { self.new.bytes ≡ (if is_err result then self.old.bytes else self.old.bytes ++ piece.now) }
+        ensures bytes { self.new.bytes ≡ (if is_err result then self.old.bytes else self.old.bytes
+            ++ piece.now) }
         ensures calls { self.new.calls ≡ one_more self.old.calls }
-        ensures faults { self.new.faults ≡ (if is_err result then one_more self.old.faults else self.old.faults) }
+        ensures faults { self.new.faults
+            ≡ (if is_err result then one_more self.old.faults else self.old.faults) }
         ensures room { self.new.room ≡ self.old.room }
         ensures listed { self.new.fails ≡ self.old.fails }
-        ensures appended { OnOk result (Adds (Some self.old.bytes) (Some self.new.bytes) piece.now) }
-        ensures prefix { OnErr result (AddsPart (Some self.old.bytes) (Some self.new.bytes) piece.now) }
+        ensures appended { OnOk result (Adds (Some self.old.bytes) (Some self.new.bytes)
+            piece.now) }
+        ensures prefix { OnErr result (AddsPart (Some self.old.bytes) (Some self.new.bytes)
+            piece.now) }
         ensures counts { self.old.faults ≤ self.new.faults }
         ensures cause { OnErr result (Rose self.old.faults self.new.faults) }
     {

@@ -30,7 +30,8 @@ impl Model for MemStore {
 impl MemStore {
     /// A store with no name, whose calls of `read_all` with the listed numbers, from 1, fail.
     pub fn room(alloc: Global, fails: &[u32]) -> Result<MemStore, NoMemory>
-        ensures { IfOk result (λ store. store ≡ record { files = []; fails = fails.now; calls = 0; faults = 0 }) }
+        ensures { IfOk result (λ store. store
+            ≡ record { files = []; fails = fails.now; calls = 0; faults = 0 }) }
     {
         Ok(MemStore {
             files: Shelf::new(alloc),
@@ -41,7 +42,8 @@ impl MemStore {
     /// Replaces what a name holds. After `NoMemory` the store is as before.
     pub fn set(&mut self, alloc: Global, name: &str, bytes: &[u8]) -> Result<(), NoMemory>
         ensures held { OnOk result (bytes_under name.now self.new.files ≡ Some bytes.now) }
-        ensures others { OnOk result ((other : List ℕ) → other ≢ name.now → bytes_under other self.new.files ≡ bytes_under other self.old.files) }
+        ensures others { OnOk result ((other : List ℕ) → other ≢ name.now →
+            bytes_under other self.new.files ≡ bytes_under other self.old.files) }
         ensures listed { self.new.fails ≡ self.old.fails }
         ensures calls { self.new.calls ≡ self.old.calls }
         ensures faults { self.new.faults ≡ self.old.faults }
@@ -53,7 +55,8 @@ impl MemStore {
 
 /// The bytes that the next call answers, where it does not fail.
 fn readable<'a>(files: &'a Shelf, plan: &Plan, name: &str) -> Option<&'a [u8]>
-    ensures none { IsNone result ↔ IsTrue (is_listed plan.now.fails.items plan.now.calls || is_unreadable (bytes_under name.now files.now)) }
+    ensures none { IsNone result ↔ IsTrue (is_listed plan.now.fails.items plan.now.calls
+        || is_unreadable (bytes_under name.now files.now)) }
     ensures bytes { IfSome result (λ bytes. bytes_under name.now files.now ≡ Some bytes.now) }
     ensures bound { IfSome result (λ bytes. length bytes.now ≤ most_bytes) }
 {
@@ -72,14 +75,19 @@ impl Store for MemStore {
     /// holds more than 536,870,912 bytes. A call that ends with `NoMemory` is not counted.
     fn read_all(&mut self, alloc: Global, name: &str) -> Result<Vec<u8>, ReadErr>
         ensures fails { IsErrOf result ReadErr.Failed ↔ IsTrue (read_fails self.old name.now) }
-        ensures bytes { IfOk result (λ bytes. bytes_under name.now self.old.files ≡ Some bytes.items) }
+        ensures bytes { IfOk result (λ bytes. bytes_under name.now self.old.files
+            ≡ Some bytes.items) }
         ensures files { self.new.files ≡ self.old.files }
         ensures listed { self.new.fails ≡ self.old.fails }
-        ensures calls { ¬ IsErrOf result ReadErr.NoMemory → self.new.calls ≡ one_more self.old.calls }
-        ensures faults { self.new.faults ≡ (if read_fails self.old name.now then one_more self.old.faults else self.old.faults) }
-        ensures answer { IfOk result (λ bytes. IfSome (bytes_under name.now self.old.files) (λ all. bytes.items ≡ all)) }
+        ensures calls { ¬ IsErrOf result ReadErr.NoMemory → self.new.calls
+            ≡ one_more self.old.calls }
+        ensures faults { self.new.faults
+            ≡ (if read_fails self.old name.now then one_more self.old.faults else self.old.faults) }
+        ensures answer { IfOk result (λ bytes.
+            IfSome (bytes_under name.now self.old.files) (λ all. bytes.items ≡ all)) }
         ensures bound { IfOk result (λ bytes. length bytes.items ≤ most_bytes) }
-        ensures same { (other : List ℕ) → bytes_under other self.new.files ≡ bytes_under other self.old.files }
+        ensures same { (other : List ℕ) → bytes_under other self.new.files
+            ≡ bytes_under other self.old.files }
         ensures counts { (other : List ℕ) → self.old.faults ≤ self.new.faults }
         ensures cause { IsErrOf result ReadErr.Failed → Rose self.old.faults self.new.faults }
         ensures no_memory { IsErrOf result ReadErr.NoMemory → self.new ≡ self.old }

@@ -2,7 +2,7 @@
 
 ghost use Rattle.std.specs.Prelude.{◌≡◌, ◌≤◌, ◌+◌, ◌<◌, OnOk, OnErr, IfOk, None, length, is_err, if◌then◌else◌};
 ghost use Rattle.sched_io.specs.Faults.{Rose, one_more};
-ghost use Rattle.sched_io.specs.Held.{untold};
+ghost use Rattle.sched_io.specs.Held.{untold_bytes};
 ghost use Rattle.sched_io.specs.Puts.{Adds, AddsPart};
 ghost use Rattle.std.specs.Io.KnownBytes.{Appends};
 
@@ -53,7 +53,8 @@ impl<'a, P> OutSink<'a, P> {
 /// Writes all of the piece, in as many writes as the writer asks for. A write that takes nothing of what is left
 /// fails.
 fn write_whole<W: Write>(writer: &mut W, piece: &[u8]) -> Result<(), Failed>
-    ensures whole { OnOk result (Appends (W.contents writer.old) (W.contents writer.new) piece.now) }
+    ensures whole { OnOk result (Appends (W.contents writer.old) (W.contents writer.new)
+        piece.now) }
 {
     let mut rest = piece;
     while !rest.is_empty() {
@@ -77,7 +78,7 @@ fn print_whole<P: Print>(output: &P, piece: &[u8], faults: &mut u64) -> Result<(
 }
 
 impl<P: Print> Sink for OutSink<'_, P> {
-    ghost told = { λ _. untold };
+    ghost told = { λ _. untold_bytes };
 
     ghost faults = { λ sink. sink.faults };
 
@@ -86,12 +87,14 @@ impl<P: Print> Sink for OutSink<'_, P> {
     /// Keeps the piece; where it does not fit behind what is kept, that is written first, and a piece longer than a block is written at once.
     /// It answers `Failed` where a write fails or takes nothing of what is left. Then nothing is kept.
     fn put(&mut self, piece: &[u8]) -> Result<(), Failed>
-        ensures faults { self.new.faults ≡ (if is_err result then one_more self.old.faults else self.old.faults) }
-        ensures appended { OnOk result (Adds untold untold piece.now) }
-        ensures prefix { OnErr result (AddsPart untold untold piece.now) }
+        ensures faults { self.new.faults
+            ≡ (if is_err result then one_more self.old.faults else self.old.faults) }
+        ensures appended { OnOk result (Adds untold_bytes untold_bytes piece.now) }
+        ensures prefix { OnErr result (AddsPart untold_bytes untold_bytes piece.now) }
         ensures counts { self.old.faults ≤ self.new.faults }
         ensures cause { OnErr result (Rose self.old.faults self.new.faults) }
-        ensures fits { self.old.kept + length piece.now ≤ 65536 → self.new.kept ≡ self.old.kept + length piece.now }
+        ensures fits { self.old.kept + length piece.now ≤ 65536 → self.new.kept
+            ≡ self.old.kept + length piece.now }
         ensures lost { OnErr result (self.new.kept ≡ 0) }
     {
         if piece.len() > BLOCK - self.block.len() {
@@ -106,9 +109,10 @@ impl<P: Print> Sink for OutSink<'_, P> {
 
     /// Writes what is kept. It answers `Failed` where a write fails or takes nothing of what is left.
     fn flush(&mut self) -> Result<(), Failed>
-        ensures faults { self.new.faults ≡ (if is_err result then one_more self.old.faults else self.old.faults) }
+        ensures faults { self.new.faults
+            ≡ (if is_err result then one_more self.old.faults else self.old.faults) }
         ensures none_kept { self.new.kept ≡ 0 }
-        ensures told { untold ≡ untold }
+        ensures told { untold_bytes ≡ untold_bytes }
         ensures counts { self.old.faults ≤ self.new.faults }
         ensures cause { OnErr result (Rose self.old.faults self.new.faults) }
     {

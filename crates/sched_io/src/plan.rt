@@ -41,7 +41,8 @@ impl Plan {
     pub(crate) fn count(&mut self, failed: bool)
         ensures fails { self.new.fails ≡ self.old.fails }
         ensures calls { self.new.calls ≡ one_more self.old.calls }
-        ensures faults { self.new.faults ≡ (if failed then one_more self.old.faults else self.old.faults) }
+        ensures faults { self.new.faults
+            ≡ (if failed then one_more self.old.faults else self.old.faults) }
         ensures counts { self.old.faults ≤ self.new.faults }
         ensures rose { IsTrue failed → Rose self.old.faults self.new.faults }
     {

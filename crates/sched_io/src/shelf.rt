@@ -47,7 +47,8 @@ impl Shelf {
     /// Replaces what a name holds.
     pub(crate) fn set(&mut self, alloc: Global, name: &str, bytes: &[u8]) -> Result<(), NoMemory>
         ensures held { OnOk result (bytes_under name.now self.new ≡ Some bytes.now) }
-        ensures others { OnOk result ((other : List ℕ) → other ≢ name.now → bytes_under other self.new ≡ bytes_under other self.old) }
+        ensures others { OnOk result ((other : List ℕ) → other ≢ name.now →
+            bytes_under other self.new ≡ bytes_under other self.old) }
         ensures no_memory { OnErr result (self.new ≡ self.old) }
     {
         let key = String::from_str(alloc, name)?;

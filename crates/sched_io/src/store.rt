@@ -51,10 +51,12 @@ pub trait Store {
     /// `Failed` comes where the name is not there, holds more, or could not be read; the name's count of faults then
     /// rose. After `NoMemory` the store is as before.
     fn read_all(&mut self, alloc: Global, name: &str) -> Result<Vec<u8>, ReadErr>
-        ensures answer { IfOk result (λ bytes. IfSome (held self.old name.now) (λ all. bytes.items ≡ all)) }
+        ensures answer { IfOk result (λ bytes.
+            IfSome (held self.old name.now) (λ all. bytes.items ≡ all)) }
         ensures bound { IfOk result (λ bytes. length bytes.items ≤ most_bytes) }
         ensures same { (other : List ℕ) → held self.new other ≡ held self.old other }
         ensures counts { (other : List ℕ) → faults self.old other ≤ faults self.new other }
-        ensures cause { IsErrOf result ReadErr.Failed → Rose (faults self.old name.now) (faults self.new name.now) }
+        ensures cause { IsErrOf result ReadErr.Failed →
+            Rose (faults self.old name.now) (faults self.new name.now) }
         ensures no_memory { IsErrOf result ReadErr.NoMemory → self.new ≡ self.old };
 }

@@ -84,7 +84,8 @@ impl Sink for SureSink {
     fn flush(&mut self) -> Result<(), Failed>
         ensures sure { IsOk result }
         ensures unchanged { self.new ≡ self.old }
-        ensures told { (if self.new.over then None else Some self.new.bytes) ≡ (if self.old.over then None else Some self.old.bytes) }
+        ensures told { (if self.new.over then None else Some self.new.bytes)
+            ≡ (if self.old.over then None else Some self.old.bytes) }
     {
         Ok(())
     }

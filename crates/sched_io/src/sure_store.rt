@@ -40,7 +40,8 @@ impl SureStore {
     pub fn set(&mut self, alloc: Global, name: &str, bytes: &[u8]) -> Result<(), NoMemory>
         requires { length bytes.now ≤ most_bytes }
         ensures held { OnOk result (bytes_if_set name.now self.new ≡ bytes.now) }
-        ensures others { OnOk result ((other : List ℕ) → other ≢ name.now → bytes_if_set other self.new ≡ bytes_if_set other self.old) }
+        ensures others { OnOk result ((other : List ℕ) → other ≢ name.now →
+            bytes_if_set other self.new ≡ bytes_if_set other self.old) }
         ensures no_memory { OnErr result (self.new ≡ self.old) }
     {
         self.files.set(alloc, name, bytes)
@@ -58,7 +59,8 @@ impl Store for SureStore {
         ensures unchanged { self.new ≡ self.old }
         ensures answer { IfOk result (λ bytes. bytes.items ≡ bytes_if_set name.now self.old) }
         ensures bound { IfOk result (λ bytes. length bytes.items ≤ most_bytes) }
-        ensures same { (other : List ℕ) → Some (bytes_if_set other self.new) ≡ Some (bytes_if_set other self.old) }
+        ensures same { (other : List ℕ) → Some (bytes_if_set other self.new)
+            ≡ Some (bytes_if_set other self.old) }
         ensures no_memory { IsErrOf result ReadErr.NoMemory → self.new ≡ self.old }
     {
         match self.files.get(name) {

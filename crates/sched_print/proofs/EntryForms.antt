@@ -34,7 +34,7 @@ prints_stall t ht = search rules
 prints_xl : (t : ℕ) → t < 2 ^ 63 → Prints (form.xl (form.entry t)) (decimal t)
 prints_xl t ht = search rules
 
-prints_moved : (t : ℕ) → t < 2 ^ 63 → Prints (form.moved (form.entry t)) (decimal t)
+prints_moved : (t : ℕ) → t < 2 ^ 63 → Prints (form.moved_form (form.entry t)) (decimal t)
 prints_moved t ht = search rules
 
 prints_dom_moved : (t : ℕ) → t < 2 ^ 63 → Prints (form.dom_moved (form.entry t)) (decimal t)

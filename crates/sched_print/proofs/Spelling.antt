@@ -4,7 +4,7 @@ use Rattle.std.specs.Prelude.{Result, Ok, Err, ⊤, nat_le, ◌==◌, decimal, m
 use Rattle.std.proofs.lemmas.Fmt.{decimal_digit, decimal_step}
 use Rattle.std.proofs.lemmas.Bool.Decides.{nat_tests}
 use Rattle.sched_model.specs.declared.event.Entry.{Entry}
-use Rattle.sched_print.specs.Reading.{Form, Done, Word, Number, Either, read, word_at, better, goes_on, digits_at, number_at, ◌>>=◌}
+use Rattle.sched_print.specs.Reading.{Form, Done, Word, Number, Either, read, word_at, better_reading, goes_on, digits_at, number_at, ◌>>=◌}
 use Rattle.sched_print.proofs.Numbers.{is_digit, is_plain}
 
 -- t is a text of the form, and stands for e
@@ -93,12 +93,6 @@ reached_word f ih [] bytes left h r = reached_empty_word f bytes left (ih bytes 
 reached_word f ih (c ∷ w) [] left h r = reached_none (Word (c ∷ w) f) [] left h cc
 reached_word f ih (c ∷ w) (b ∷ bytes) left h r =
     reached_byte f b c w bytes left (b == c) h refl (λ q. reached_word f ih w bytes left h q) r
-
--- what a number at the front is
-pub record IsNumberAt (low high : ℕ) (bytes : List ℕ) (n : ℕ) (rest : List ℕ) : Type 0 where
-  pub least : low ≤ n
-  pub below : n < high
-  pub text : bytes ≡ decimal n ++ rest
 
 abbrev DigitsSound : ℕ → ℕ → List ℕ → ℕ × List ℕ → Type 0
 DigitsSound high n bytes found = (found.0 < high) × (n ≤ found.0) × (decimal n ++ bytes ≡ decimal found.0 ++ found.1)
@@ -197,7 +191,7 @@ reached_number low high f ih bytes left h (Ok found) g r =
     )
 reached_number low high f ih bytes left h (Err n) g r = reached_none (Number low high f) bytes left h (g ∙ cc)
 
-reached_either : (f g : Form) (bytes : List ℕ) (left : ℕ) → ReachedAll f → ReachedAll g → IsFormed f → IsFormed g → (a b : Result Entry ℕ) → read f bytes ≡ a → read g bytes ≡ b → better a b ≡ Err left → Reached (Either f g) bytes left
+reached_either : (f g : Form) (bytes : List ℕ) (left : ℕ) → ReachedAll f → ReachedAll g → IsFormed f → IsFormed g → (a b : Result Entry ℕ) → read f bytes ≡ a → read g bytes ≡ b → better_reading a b ≡ Err left → Reached (Either f g) bytes left
 reached_either f g bytes left ihf ihg hf hg (Ok e) b p q r = absurd cc
 reached_either f g bytes left ihf ihg hf hg (Err m) (Ok e) p q r = absurd cc
 reached_either f g bytes left ihf ihg hf hg (Err m) (Err n) p q r =

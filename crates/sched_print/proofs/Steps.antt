@@ -4,12 +4,12 @@ use Rattle.std.specs.Prelude.{Result, Ok, Err, codes}
 use Rattle.sched_base.specs.declared.UnitId.{UnitId}
 use Rattle.sched_base.specs.Numbers.{domain}
 use Rattle.sched_model.specs.declared.event.Entry.{Entry}
-use Rattle.sched_print.specs.Reading.{Form, read, better, word_at, number_at, ◌>>=◌}
+use Rattle.sched_print.specs.Reading.{Form, read, better_reading, word_at, number_at, ◌>>=◌}
 use Rattle.sched_print.specs.Forms.{unit, unit_at}
 
 -- of two that were read the better one
-pub joined : {a b c d v : Result Entry ℕ} → v ≡ better a b → a ≡ c → b ≡ d → v ≡ better c d
-joined {a} {b} {c} {d} {v} e p q = e ∙ ap (λ x. better x b) p ∙ ap (λ y. better c y) q
+pub joined : {a b c d v : Result Entry ℕ} → v ≡ better_reading a b → a ≡ c → b ≡ d → v ≡ better_reading c d
+joined {a} {b} {c} {d} {v} e p q = e ∙ ap (λ x. better_reading x b) p ∙ ap (λ y. better_reading c y) q
 
 -- a unit is read alone, and then what follows it
 pub read-unit : (f : UnitId → Form) (bytes : List ℕ) → read (unit f) bytes ≡ (unit_at bytes >>= λ x. read (f x.0) x.1)

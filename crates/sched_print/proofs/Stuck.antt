@@ -4,7 +4,7 @@ use Rattle.std.specs.Prelude.{Result, Ok, Err, ◌==◌, decimal, min}
 use Rattle.std.proofs.lemmas.Fmt.{decimal_digit, decimal_step, decimal_by_steps}
 use Rattle.std.proofs.lemmas.Bool.Decides.{nat_tests}
 use Rattle.sched_model.specs.declared.event.Entry.{Entry}
-use Rattle.sched_print.specs.Reading.{Form, Done, Word, Number, Either, read, word_at, better, digits_at, number_at, ◌>>=◌}
+use Rattle.sched_print.specs.Reading.{Form, Done, Word, Number, Either, read, word_at, better_reading, digits_at, number_at, ◌>>=◌}
 use Rattle.sched_print.proofs.Numbers.{is_plain, Fits, number_at-plain, number_at-decimal, number_at-zero}
 use Rattle.sched_print.proofs.Spelling.{Spells, Begins, IsFormed, plain_start, same_byte, digits_shrinks, NumberGives, number_gives, reached}
 
@@ -31,7 +31,7 @@ sound_number : (low high : ℕ) (f : ℕ → Form) → ((n : ℕ) → SoundAll (
 sound_number low high f ih bytes e h (Ok found) g r = (found.0, g.0, g.1, found.1, g.2, ih found.0 found.1 e (h.3 found.0).1 r)
 sound_number low high f ih bytes e h (Err n) g r = absurd cc
 
-sound_either : (f g : Form) (bytes : List ℕ) (e : Entry) → SoundAll f → SoundAll g → IsFormed f → IsFormed g → (a b : Result Entry ℕ) → read f bytes ≡ a → read g bytes ≡ b → better a b ≡ Ok e → Spells (Either f g) bytes e
+sound_either : (f g : Form) (bytes : List ℕ) (e : Entry) → SoundAll f → SoundAll g → IsFormed f → IsFormed g → (a b : Result Entry ℕ) → read f bytes ≡ a → read g bytes ≡ b → better_reading a b ≡ Ok e → Spells (Either f g) bytes e
 sound_either f g bytes e ihf ihg hf hg (Ok d) b p q r = inl (ihf bytes e hf (p ∙ r))
 sound_either f g bytes e ihf ihg hf hg (Err m) (Ok d) p q r = inr (ihg bytes e hg (q ∙ r))
 sound_either f g bytes e ihf ihg hf hg (Err m) (Err n) p q r = absurd cc
@@ -187,7 +187,7 @@ stuck_number low high f ih bytes left h r front rest e (s, y, (m, least, below, 
       | inr x ↦ stuck_within low high m f bytes left h r least below front rest x.0 e x.1
     ]
 
-stuck_either : (f g : Form) (bytes : List ℕ) (left : ℕ) → StuckAll f → StuckAll g → IsFormed f → IsFormed g → (a b : Result Entry ℕ) → read f bytes ≡ a → read g bytes ≡ b → better a b ≡ Err left
+stuck_either : (f g : Form) (bytes : List ℕ) (left : ℕ) → StuckAll f → StuckAll g → IsFormed f → IsFormed g → (a b : Result Entry ℕ) → read f bytes ≡ a → read g bytes ≡ b → better_reading a b ≡ Err left
     → (front rest : List ℕ) → bytes ≡ front ++ rest → Begins (Either f g) front → left ≤ length rest
 stuck_either f g bytes left ihf ihg hf hg (Ok d) b p q r front rest e begins = absurd cc
 stuck_either f g bytes left ihf ihg hf hg (Err m) (Ok d) p q r front rest e begins = absurd cc

@@ -179,8 +179,8 @@ xl f = Word (codes " xl ") (Number 1 4097 (λ k. answers k f))
 abbrev pub moved_to_pool : ResId → (Event → Form) → Form
 moved_to_pool r f = Word (codes " pool ") (pool_number (λ i. f (event.Moved r (Some i))))
 
-abbrev pub moved : (Event → Form) → Form
-moved f = Word (codes " moved c") (core_number (λ r. Word (codes " free") (f (event.Moved r None)) <|> moved_to_pool r f))
+abbrev pub moved_form : (Event → Form) → Form
+moved_form f = Word (codes " moved c") (core_number (λ r. Word (codes " free") (f (event.Moved r None)) <|> moved_to_pool r f))
 
 abbrev pub dom_moved : (Event → Form) → Form
 dom_moved f = Word (codes " dom-moved d") (domain_number (λ d. Word (codes " pool ") (pool_number (λ i. f (event.DomMoved d i)))))
@@ -258,7 +258,7 @@ abbrev pub events : (Event → Form) → Form
 events f =
     stall f
     <|> xl f
-    <|> moved f
+    <|> moved_form f
     <|> dom_moved f
     <|> wake f
     <|> block f
@@ -277,11 +277,11 @@ abbrev pub entry : ℕ → Event → Form
 entry t e = Done (record { at = moment t; event = e })
 
 -- the text of the answer to the command k ends here
-abbrev pub answered : ℕ → ℕ → Reply → Form
-answered t k r = entry t (event.Xl k (Ok r))
+abbrev pub answered_form : ℕ → ℕ → Reply → Form
+answered_form t k r = entry t (event.Xl k (Ok r))
 
-abbrev pub refused : ℕ → ℕ → Refusal → Form
-refused t k r = entry t (event.Xl k (Err r))
+abbrev pub refused_form : ℕ → ℕ → Refusal → Form
+refused_form t k r = entry t (event.Xl k (Err r))
 
 -- all entries
 abbrev pub entries : Form

@@ -51,14 +51,14 @@ end_at e [] = Ok e
 end_at e (b ∷ bytes) = Err (length (b ∷ bytes))
 
 -- the first that was read, or the one that came further
-abbrev pub better : Result Entry ℕ → Result Entry ℕ → Result Entry ℕ
-better (Ok e) other = Ok e
-better (Err left) (Ok e) = Ok e
-better (Err left) (Err other) = Err (min left other)
+abbrev pub better_reading : Result Entry ℕ → Result Entry ℕ → Result Entry ℕ
+better_reading (Ok e) other = Ok e
+better_reading (Err left) (Ok e) = Ok e
+better_reading (Err left) (Err other) = Err (min left other)
 
 -- the entry whose text the bytes are, or how many bytes are left where they are no text of the form
 abbrev pub read : Form → List ℕ → Result Entry ℕ
 read (Done e) bytes = end_at e bytes
 read (Word word f) bytes = word_at word bytes >>= read f
 read (Number low high f) bytes = number_at low high bytes >>= λ x. read (f x.0) x.1
-read (Either f g) bytes = better (read f bytes) (read g bytes)
+read (Either f g) bytes = better_reading (read f bytes) (read g bytes)

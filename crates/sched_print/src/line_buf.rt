@@ -99,7 +99,8 @@ impl LineBuf {
     pub fn put_two_fields(&mut self, before: &[u8], n: u64, between: &[u8], m: u64)
         requires { length self.old + length before.now + length between.now + 40 ≤ 192 }
         ensures bytes { self.new ≡ self.old ++ before.now ++ decimal n ++ between.now ++ decimal m }
-        ensures length { length self.new ≤ length self.old + length before.now + length between.now + 40 }
+        ensures length { length self.new ≤ length self.old + length before.now + length between.now
+            + 40 }
     {
         self.put_field(before, n);
         self.put_field(between, m);

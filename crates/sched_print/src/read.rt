@@ -44,7 +44,7 @@ fn moved_to_pool(at: Moment, r: ResId, bytes: &[u8]) -> Result<Entry, Left>
 }
 
 fn moved(at: Moment, bytes: &[u8]) -> Result<Entry, Left>
-    ensures { result ≡ read (form.moved (form.entry at.0)) bytes.now }
+    ensures { result ≡ read (form.moved_form (form.entry at.0)) bytes.now }
 {
     let rest = word(bytes, b" moved c")?;
     let (r, rest) = small_number(rest, 64)?;

@@ -34,13 +34,13 @@ fn refused(at: Moment, k: u32, refusal: Refusal) -> Entry
 }
 
 fn done(at: Moment, k: u32, bytes: &[u8]) -> Result<Entry, Left>
-    ensures { result ≡ read (form.done (form.answered at.0 k)) bytes.now }
+    ensures { result ≡ read (form.done (form.answered_form at.0 k)) bytes.now }
 {
     closing(bytes, b" ok", answered(at, k, Reply::Done))
 }
 
 fn pools(at: Moment, k: u32, bytes: &[u8]) -> Result<Entry, Left>
-    ensures { result ≡ read (form.pools (form.answered at.0 k)) bytes.now }
+    ensures { result ≡ read (form.pools (form.answered_form at.0 k)) bytes.now }
 {
     let rest = word(bytes, b" ok pools ")?;
     let (pools, rest) = any_number(rest)?;
@@ -56,7 +56,8 @@ fn pool_counts(
     kind: SchedKind,
     bytes: &[u8],
 ) -> Result<Entry, Left>
-    ensures { result ≡ read (Word (kind_spelling kind) (form.pool_counts pool kind (form.answered at.0 k))) bytes.now }
+    ensures { result ≡ read (Word (kind_spelling kind)
+        (form.pool_counts pool kind (form.answered_form at.0 k))) bytes.now }
 {
     let rest = word(bytes, kind_word(kind))?;
     let rest = word(rest, b" cpus ")?;
@@ -73,7 +74,7 @@ fn pool_counts(
 }
 
 fn pool_reply(at: Moment, k: u32, bytes: &[u8]) -> Result<Entry, Left>
-    ensures { result ≡ read (form.pool_reply (form.answered at.0 k)) bytes.now }
+    ensures { result ≡ read (form.pool_reply (form.answered_form at.0 k)) bytes.now }
 {
     let rest = word(bytes, b" ok pool ")?;
     let (pool, rest) = small_number(rest, 16)?;
@@ -86,7 +87,7 @@ fn pool_reply(at: Moment, k: u32, bytes: &[u8]) -> Result<Entry, Left>
 }
 
 fn weight(at: Moment, k: u32, bytes: &[u8]) -> Result<Entry, Left>
-    ensures { result ≡ read (form.weight (form.answered at.0 k)) bytes.now }
+    ensures { result ≡ read (form.weight (form.answered_form at.0 k)) bytes.now }
 {
     let rest = word(bytes, b" ok weight ")?;
     let (weight, rest) = any_number(rest)?;
@@ -96,7 +97,7 @@ fn weight(at: Moment, k: u32, bytes: &[u8]) -> Result<Entry, Left>
 }
 
 fn rate(at: Moment, k: u32, bytes: &[u8]) -> Result<Entry, Left>
-    ensures { result ≡ read (form.rate (form.answered at.0 k)) bytes.now }
+    ensures { result ≡ read (form.rate (form.answered_form at.0 k)) bytes.now }
 {
     let rest = word(bytes, b" ok ratelimit ")?;
     let (limit, rest) = any_number(rest)?;
@@ -104,7 +105,7 @@ fn rate(at: Moment, k: u32, bytes: &[u8]) -> Result<Entry, Left>
 }
 
 fn rtds(at: Moment, k: u32, bytes: &[u8]) -> Result<Entry, Left>
-    ensures { result ≡ read (form.rtds (form.answered at.0 k)) bytes.now }
+    ensures { result ≡ read (form.rtds (form.answered_form at.0 k)) bytes.now }
 {
     let rest = word(bytes, b" ok period ")?;
     let (period, rest) = any_number(rest)?;
@@ -128,7 +129,7 @@ fn rtds(at: Moment, k: u32, bytes: &[u8]) -> Result<Entry, Left>
 }
 
 fn replies(at: Moment, k: u32, bytes: &[u8]) -> Result<Entry, Left>
-    ensures { result ≡ read (form.replies (form.answered at.0 k)) bytes.now }
+    ensures { result ≡ read (form.replies (form.answered_form at.0 k)) bytes.now }
 {
     let last = rtds(at, k, bytes);
     let last = better(rate(at, k, bytes), last);
@@ -139,7 +140,7 @@ fn replies(at: Moment, k: u32, bytes: &[u8]) -> Result<Entry, Left>
 }
 
 fn syntax(at: Moment, k: u32, bytes: &[u8]) -> Result<Entry, Left>
-    ensures { result ≡ read (form.syntax (form.refused at.0 k)) bytes.now }
+    ensures { result ≡ read (form.syntax (form.refused_form at.0 k)) bytes.now }
 {
     let rest = word(bytes, b" refused 1 Syntax place ")?;
     let (place, rest) = any_number(rest)?;
@@ -147,13 +148,13 @@ fn syntax(at: Moment, k: u32, bytes: &[u8]) -> Result<Entry, Left>
 }
 
 fn no_pool(at: Moment, k: u32, bytes: &[u8]) -> Result<Entry, Left>
-    ensures { result ≡ read (form.no_pool (form.refused at.0 k)) bytes.now }
+    ensures { result ≡ read (form.no_pool (form.refused_form at.0 k)) bytes.now }
 {
     closing(bytes, b" refused 2 NoPool", refused(at, k, Refusal::NoPool))
 }
 
 fn name_taken(at: Moment, k: u32, bytes: &[u8]) -> Result<Entry, Left>
-    ensures { result ≡ read (form.name_taken (form.refused at.0 k)) bytes.now }
+    ensures { result ≡ read (form.name_taken (form.refused_form at.0 k)) bytes.now }
 {
     let rest = word(bytes, b" refused 3 NameTaken pool ")?;
     let (pool, rest) = small_number(rest, 16)?;
@@ -162,7 +163,7 @@ fn name_taken(at: Moment, k: u32, bytes: &[u8]) -> Result<Entry, Left>
 }
 
 fn no_domain(at: Moment, k: u32, bytes: &[u8]) -> Result<Entry, Left>
-    ensures { result ≡ read (form.no_domain (form.refused at.0 k)) bytes.now }
+    ensures { result ≡ read (form.no_domain (form.refused_form at.0 k)) bytes.now }
 {
     closing(
         bytes,
@@ -172,7 +173,7 @@ fn no_domain(at: Moment, k: u32, bytes: &[u8]) -> Result<Entry, Left>
 }
 
 fn no_cpu(at: Moment, k: u32, bytes: &[u8]) -> Result<Entry, Left>
-    ensures { result ≡ read (form.no_cpu (form.refused at.0 k)) bytes.now }
+    ensures { result ≡ read (form.no_cpu (form.refused_form at.0 k)) bytes.now }
 {
     let rest = word(bytes, b" refused 5 NoCpu cpu ")?;
     let (cpu, rest) = any_number(rest)?;
@@ -180,7 +181,7 @@ fn no_cpu(at: Moment, k: u32, bytes: &[u8]) -> Result<Entry, Left>
 }
 
 fn cpu_taken(at: Moment, k: u32, bytes: &[u8]) -> Result<Entry, Left>
-    ensures { result ≡ read (form.cpu_taken (form.refused at.0 k)) bytes.now }
+    ensures { result ≡ read (form.cpu_taken (form.refused_form at.0 k)) bytes.now }
 {
     let rest = word(bytes, b" refused 6 CpuTaken cpu ")?;
     let (cpu, rest) = any_number(rest)?;
@@ -191,7 +192,7 @@ fn cpu_taken(at: Moment, k: u32, bytes: &[u8]) -> Result<Entry, Left>
 }
 
 fn cpu_elsewhere(at: Moment, k: u32, bytes: &[u8]) -> Result<Entry, Left>
-    ensures { result ≡ read (form.cpu_elsewhere (form.refused at.0 k)) bytes.now }
+    ensures { result ≡ read (form.cpu_elsewhere (form.refused_form at.0 k)) bytes.now }
 {
     let rest = word(bytes, b" refused 7 CpuElsewhere cpu ")?;
     let (cpu, rest) = any_number(rest)?;
@@ -199,7 +200,7 @@ fn cpu_elsewhere(at: Moment, k: u32, bytes: &[u8]) -> Result<Entry, Left>
 }
 
 fn last_cpu(at: Moment, k: u32, bytes: &[u8]) -> Result<Entry, Left>
-    ensures { result ≡ read (form.last_cpu (form.refused at.0 k)) bytes.now }
+    ensures { result ≡ read (form.last_cpu (form.refused_form at.0 k)) bytes.now }
 {
     let rest = word(bytes, b" refused 8 LastCpu pool ")?;
     let (pool, rest) = small_number(rest, 16)?;
@@ -211,7 +212,7 @@ fn last_cpu(at: Moment, k: u32, bytes: &[u8]) -> Result<Entry, Left>
 }
 
 fn pool_holds(at: Moment, k: u32, bytes: &[u8]) -> Result<Entry, Left>
-    ensures { result ≡ read (form.pool_holds (form.refused at.0 k)) bytes.now }
+    ensures { result ≡ read (form.pool_holds (form.refused_form at.0 k)) bytes.now }
 {
     let rest = word(bytes, b" refused 9 PoolHolds pool ")?;
     let (pool, rest) = small_number(rest, 16)?;
@@ -235,7 +236,7 @@ fn pool_holds(at: Moment, k: u32, bytes: &[u8]) -> Result<Entry, Left>
 }
 
 fn pool_zero(at: Moment, k: u32, bytes: &[u8]) -> Result<Entry, Left>
-    ensures { result ≡ read (form.pool_zero (form.refused at.0 k)) bytes.now }
+    ensures { result ≡ read (form.pool_zero (form.refused_form at.0 k)) bytes.now }
 {
     closing(
         bytes,
@@ -251,14 +252,15 @@ fn wrong_kind(
     kind: SchedKind,
     bytes: &[u8],
 ) -> Result<Entry, Left>
-    ensures { result ≡ read (Word (kind_spelling kind) (form.refused at.0 k (Refusal.WrongSched pool kind))) bytes.now }
+    ensures { result ≡ read (Word (kind_spelling kind)
+        (form.refused_form at.0 k (Refusal.WrongSched pool kind))) bytes.now }
 {
     let refusal = Refusal::WrongSched { pool, kind };
     closing(bytes, kind_word(kind), refused(at, k, refusal))
 }
 
 fn wrong_sched(at: Moment, k: u32, bytes: &[u8]) -> Result<Entry, Left>
-    ensures { result ≡ read (form.wrong_sched (form.refused at.0 k)) bytes.now }
+    ensures { result ≡ read (form.wrong_sched (form.refused_form at.0 k)) bytes.now }
 {
     let rest = word(bytes, b" refused 11 WrongSched pool ")?;
     let (pool, rest) = small_number(rest, 16)?;
@@ -271,7 +273,8 @@ fn wrong_sched(at: Moment, k: u32, bytes: &[u8]) -> Result<Entry, Left>
 }
 
 fn range_of(at: Moment, k: u32, param: Param, bytes: &[u8]) -> Result<Entry, Left>
-    ensures { result ≡ read (Word (param_spelling param) (form.range_of param (form.refused at.0 k))) bytes.now }
+    ensures { result ≡ read (Word (param_spelling param)
+        (form.range_of param (form.refused_form at.0 k))) bytes.now }
 {
     let rest = word(bytes, param_word(param))?;
     let rest = word(rest, b" ")?;
@@ -280,7 +283,7 @@ fn range_of(at: Moment, k: u32, param: Param, bytes: &[u8]) -> Result<Entry, Lef
 }
 
 fn range(at: Moment, k: u32, bytes: &[u8]) -> Result<Entry, Left>
-    ensures { result ≡ read (form.range (form.refused at.0 k)) bytes.now }
+    ensures { result ≡ read (form.range (form.refused_form at.0 k)) bytes.now }
 {
     let rest = word(bytes, b" refused 12 Range ")?;
     let last = range_of(at, k, Param::Run, rest);
@@ -293,7 +296,7 @@ fn range(at: Moment, k: u32, bytes: &[u8]) -> Result<Entry, Left>
 }
 
 fn pool_empty(at: Moment, k: u32, bytes: &[u8]) -> Result<Entry, Left>
-    ensures { result ≡ read (form.pool_empty (form.refused at.0 k)) bytes.now }
+    ensures { result ≡ read (form.pool_empty (form.refused_form at.0 k)) bytes.now }
 {
     let rest = word(bytes, b" refused 13 PoolEmpty pool ")?;
     let (pool, rest) = small_number(rest, 16)?;
@@ -302,7 +305,7 @@ fn pool_empty(at: Moment, k: u32, bytes: &[u8]) -> Result<Entry, Left>
 }
 
 fn arinc_one(at: Moment, k: u32, bytes: &[u8]) -> Result<Entry, Left>
-    ensures { result ≡ read (form.arinc_one (form.refused at.0 k)) bytes.now }
+    ensures { result ≡ read (form.arinc_one (form.refused_form at.0 k)) bytes.now }
 {
     let rest = word(bytes, b" refused 14 ArincOne pool ")?;
     let (pool, rest) = small_number(rest, 16)?;
@@ -311,7 +314,7 @@ fn arinc_one(at: Moment, k: u32, bytes: &[u8]) -> Result<Entry, Left>
 }
 
 fn pools_full(at: Moment, k: u32, bytes: &[u8]) -> Result<Entry, Left>
-    ensures { result ≡ read (form.pools_full (form.refused at.0 k)) bytes.now }
+    ensures { result ≡ read (form.pools_full (form.refused_form at.0 k)) bytes.now }
 {
     closing(
         bytes,
@@ -321,7 +324,7 @@ fn pools_full(at: Moment, k: u32, bytes: &[u8]) -> Result<Entry, Left>
 }
 
 fn frame_long(at: Moment, k: u32, bytes: &[u8]) -> Result<Entry, Left>
-    ensures { result ≡ read (form.frame_long (form.refused at.0 k)) bytes.now }
+    ensures { result ≡ read (form.frame_long (form.refused_form at.0 k)) bytes.now }
 {
     let rest = word(bytes, b" refused 16 FrameLong sum ")?;
     let (sum, rest) = any_number(rest)?;
@@ -331,7 +334,7 @@ fn frame_long(at: Moment, k: u32, bytes: &[u8]) -> Result<Entry, Left>
 }
 
 fn no_vcpu(at: Moment, k: u32, bytes: &[u8]) -> Result<Entry, Left>
-    ensures { result ≡ read (form.no_vcpu (form.refused at.0 k)) bytes.now }
+    ensures { result ≡ read (form.no_vcpu (form.refused_form at.0 k)) bytes.now }
 {
     closing(
         bytes,
@@ -341,7 +344,7 @@ fn no_vcpu(at: Moment, k: u32, bytes: &[u8]) -> Result<Entry, Left>
 }
 
 fn low_refusals(at: Moment, k: u32, bytes: &[u8]) -> Result<Entry, Left>
-    ensures { result ≡ read (form.low_refusals (form.refused at.0 k)) bytes.now }
+    ensures { result ≡ read (form.low_refusals (form.refused_form at.0 k)) bytes.now }
 {
     let last = pool_holds(at, k, bytes);
     let last = better(last_cpu(at, k, bytes), last);
@@ -355,7 +358,7 @@ fn low_refusals(at: Moment, k: u32, bytes: &[u8]) -> Result<Entry, Left>
 }
 
 fn high_refusals(at: Moment, k: u32, bytes: &[u8]) -> Result<Entry, Left>
-    ensures { result ≡ read (form.high_refusals (form.refused at.0 k)) bytes.now }
+    ensures { result ≡ read (form.high_refusals (form.refused_form at.0 k)) bytes.now }
 {
     let last = no_vcpu(at, k, bytes);
     let last = better(frame_long(at, k, bytes), last);

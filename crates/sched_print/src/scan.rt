@@ -2,7 +2,7 @@
 //! left behind the longest beginning of it.
 
 ghost use Rattle.std.specs.Prelude.{◌≡◌, ◌+◌, ◌-◌, ◌*◌, ◌^◌, ◌<◌, ◌≤◌, Some, None, IfOk, if◌then◌else◌};
-ghost use Rattle.sched_print.specs.Reading.{Done, Word, read, Gives, word_at, goes_on, digits_at, number_at, end_at, better as better_of};
+ghost use Rattle.sched_print.specs.Reading.{Done, Word, read, Gives, word_at, goes_on, digits_at, number_at, end_at, better_reading as better_of};
 ghost use Rattle.sched_print.specs.Forms.{unit_at, vcpu_at};
 
 use sched_base::{DomId, UnitId, VcpuId};

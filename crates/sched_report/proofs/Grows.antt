@@ -12,7 +12,7 @@ use Rattle.sched_model.specs.Pool.{same_choice}
 use Rattle.sched_report.specs.declared.choice.Choice.{Choice}
 use Rattle.sched_report.specs.declared.tally.CoreTally.{CoreTally}
 use Rattle.sched_report.specs.Stays.{Decision, Stay, choice_in, choices, decisions_from, stay_begun, stays_from, end_of_stay, last_or}
-use Rattle.sched_report.specs.Tallies.{core_after, ended, ended_time, begins}
+use Rattle.sched_report.specs.Tallies.{core_after, ended_span, ended_time, begins}
 use Rattle.sched_report.proofs.Folds.{told}
 
 -- the choice, where it is one of the core r
@@ -52,14 +52,14 @@ cur-is_last k (c ∷ cs) = cur-is_last (core_after k c) cs ∙ ap (λ o. last_un
 
 -- the time that a choice ends on the core, of a unit that passes the test
 abbrev pub charge : (UnitId → Bool) → CoreTally → Choice → ℕ
-charge p k c = elim k.cur [ None ↦ 0 | Some u ↦ cond (p u) (ended k c) 0 ]
+charge p k c = elim k.cur [ None ↦ 0 | Some u ↦ cond (p u) (ended_span k c) 0 ]
 
 pub ended_time-more : (p : UnitId → Bool) (k : CoreTally) (cs : List Choice) (c : Choice) → ended_time p k (cs ++ c ∷ []) ≡ ended_time p k cs + charge p (fold core_after k cs) c
 ended_time-more p k [] c = omega arith
 ended_time-more p k (x ∷ cs) c = omega (arith, ended_time-more p (core_after k x) cs c)
 
 charge-all : (cur : Option UnitId) (since : Moment) (run decides : ℕ) (c : Choice)
-    → let k : CoreTally = record { cur = cur; since = since; run = run; decides = decides } in charge (λ u. true) k c ≡ ended k c
+    → let k : CoreTally = record { cur = cur; since = since; run = run; decides = decides } in charge (λ u. true) k c ≡ ended_span k c
 charge-all None since run decides c = refl
 charge-all (Some u) since run decides c = refl
 

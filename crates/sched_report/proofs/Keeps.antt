@@ -21,7 +21,7 @@ use Rattle.sched_report.specs.declared.tally.UnitTally.{UnitTally}
 use Rattle.sched_report.specs.declared.tally.CoreTally.{CoreTally}
 use Rattle.sched_report.specs.Reports.{cores as core_numbers, units as unit_ids, IsSized}
 use Rattle.sched_report.specs.Stays.{Decision, choice_in, choices, decisions_from, renewed_by, renewals}
-use Rattle.sched_report.specs.Tallies.{nothing_done, undecided, place_of, has_place, tally_at, renewed, core_after, units_after, units_renewed, cores_with, units_with, ended_time, begins, lateness_on, core_tally, unit_tally, IsShort, UnitWithin, CoreWithin, IsTally}
+use Rattle.sched_report.specs.Tallies.{nothing_done, undecided_core as undecided, place_of, has_place, tally_at, with_renewal, core_after, units_after, units_renewed, cores_with, units_with, ended_time, begins, lateness_on, core_tally, unit_tally, IsShort, UnitWithin, CoreWithin, IsTally}
 use Rattle.sched_report.proofs.Grows.{chosen_at, choices-more, last_unit, decisions-more, cur-is_last, charge, ended_time-more, last-more}
 use Rattle.sched_report.proofs.InOrder.{length-numbers, get_or-numbers, map-same, set-numbers}
 use Rattle.sched_report.proofs.Steps.{tally_at-changed, tally_at-after, sum-more, length-with, length-renewed}
@@ -137,8 +137,8 @@ module _ (config : Config) (es : List Entry) (e : Entry) where
     renewed-at u has units all None = λ i. record (tally_at units (place_of u)) { repl = sym (add-zero (tally_at units (place_of u)).repl) i }
     renewed-at u has units all (Some w) =
         let t : UnitTally = tally_at units (place_of u) in
-        tally_at-changed w u renewed units has all
-        ∙ elim (same_unit w u) as (λ b. cond b (renewed t) t ≡ record t { repl = t.repl + cond b 1 0 }) [ true ↦ refl | false ↦ λ i. record t { repl = sym (add-zero t.repl) i } ]
+        tally_at-changed w u with_renewal units has all
+        ∙ elim (same_unit w u) as (λ b. cond b (with_renewal t) t ≡ record t { repl = t.repl + cond b 1 0 }) [ true ↦ refl | false ↦ λ i. record t { repl = sym (add-zero t.repl) i } ]
 
     units-more : (units : List UnitTally) → length units ≡ 2048
         → ((u : UnitId) → has_place u ≡ true → tally_at units (place_of u) ≡ unit_tally config es u)

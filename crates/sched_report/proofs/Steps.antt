@@ -11,7 +11,7 @@ use Rattle.sched_report.specs.declared.choice.Choice.{Choice}
 use Rattle.sched_report.specs.declared.tally.UnitTally.{UnitTally}
 use Rattle.sched_report.specs.declared.tally.CoreTally.{CoreTally}
 use Rattle.sched_report.specs.Stays.{choice_in, choices}
-use Rattle.sched_report.specs.Tallies.{nothing_done, undecided, place_of, has_place, tally_at, changed_at, found, picked, renewed, ended, after_found, units_after, units_renewed, units_with, begins, lateness_on}
+use Rattle.sched_report.specs.Tallies.{nothing_done, undecided_core, place_of, has_place, tally_at, changed_at, with_ended_stay, with_begun_stay as picked, with_renewal, ended_span, after_found, units_after, units_renewed, units_with, begins, lateness_on}
 use Rattle.sched_report.proofs.Folds.{told}
 use Rattle.sched_report.proofs.Grows.{chosen_at, choices-more, charge}
 use Rattle.sched_report.proofs.Sums.{sum_by-same, sum_at, sum_beyond}
@@ -66,13 +66,13 @@ module _ (u : UnitId) (has : has_place u ≡ true) where
   at units = tally_at units (place_of u)
 
   found-at : (o : Option UnitId) (time late : ℕ) (units : List UnitTally) → length units ≡ 2048
-      → at (elim o as (λ _. List UnitTally) [ None ↦ units | Some w ↦ changed_at (place_of w) (found time late) units ])
+      → at (elim o as (λ _. List UnitTally) [ None ↦ units | Some w ↦ changed_at (place_of w) (with_ended_stay time late) units ])
       ≡ record (at units) { run = (at units).run + elim o as (λ _. ℕ) [ None ↦ 0 | Some w ↦ cond (same_unit w u) time 0 ]; late = (at units).late + cond (is_unit o u) late 0 }
   found-at None time late units all = λ i. record (at units) { run = sym (add-zero (at units).run) i; late = sym (add-zero (at units).late) i }
   found-at (Some w) time late units all =
       let t : UnitTally = at units in
-      tally_at-changed w u (found time late) units has all
-      ∙ elim (same_unit w u) as (λ b. cond b (found time late t) t ≡ record t { run = t.run + cond b time 0; late = t.late + cond b late 0 }) [
+      tally_at-changed w u (with_ended_stay time late) units has all
+      ∙ elim (same_unit w u) as (λ b. cond b (with_ended_stay time late t) t ≡ record t { run = t.run + cond b time 0; late = t.late + cond b late 0 }) [
         | true ↦ refl
         | false ↦ λ i. record t { run = sym (add-zero t.run) i; late = sym (add-zero t.late) i }
       ]
@@ -107,19 +107,19 @@ length-after k c units =
     elim (same_choice k.cur c.unit) as (λ b. length (cond b found_units (elim c.unit as (λ _. List UnitTally) [ None ↦ found_units | Some w ↦ changed_at (place_of w) picked found_units ])) ≡ length found_units) [
       | true ↦ refl
       | false ↦ length-found c.unit picked found_units
-    ] ∙ length-found k.cur (found (ended k c) c.late.0) units
+    ] ∙ length-found k.cur (with_ended_stay (ended_span k c) c.late.0) units
 
 pub length-with : (cores : List CoreTally) (units : List UnitTally) (o : Option Choice) → length (units_with o cores units) ≡ length units
 length-with cores units None = refl
 length-with cores units (Some c) =
-    elim (nat_lt c.core.0 (length cores)) as (λ b. length (cond b (units_after (get_or cores c.core.0 undecided) c units) units) ≡ length units) [
-      | true ↦ length-after (get_or cores c.core.0 undecided) c units
+    elim (nat_lt c.core.0 (length cores)) as (λ b. length (cond b (units_after (get_or cores c.core.0 undecided_core) c units) units) ≡ length units) [
+      | true ↦ length-after (get_or cores c.core.0 undecided_core) c units
       | false ↦ refl
     ]
 
 pub length-renewed : (units : List UnitTally) (o : Option UnitId) → length (units_renewed o units) ≡ length units
 length-renewed units None = refl
-length-renewed units (Some u) = length-changed (place_of u) renewed units
+length-renewed units (Some u) = length-changed (place_of u) with_renewal units
 
 -- the time, the stays and the lateness that a choice gives the unit, where the core was in this state
 abbrev pub given : CoreTally → Choice → UnitId → UnitTally → UnitTally
@@ -132,8 +132,8 @@ given k c u t = record t {
 pub tally_at-after : (k : CoreTally) (c : Choice) (u : UnitId) (units : List UnitTally) → has_place u ≡ true → length units ≡ 2048
     → tally_at (units_after k c units) (place_of u) ≡ given k c u (tally_at units (place_of u))
 tally_at-after k c u units has all =
-    picked-at u has k.cur c.unit (after_found k c units) (length-found k.cur (found (ended k c) c.late.0) units ∙ all)
-    ∙ ap (λ (t : UnitTally). let after : UnitTally = record t { picks = t.picks + begins u (record { before = k.cur; choice = c }) } in after) (found-at u has k.cur (ended k c) c.late.0 units all)
+    picked-at u has k.cur c.unit (after_found k c units) (length-found k.cur (with_ended_stay (ended_span k c) c.late.0) units ∙ all)
+    ∙ ap (λ (t : UnitTally). let after : UnitTally = record t { picks = t.picks + begins u (record { before = k.cur; choice = c }) } in after) (found-at u has k.cur (ended_span k c) c.late.0 units all)
 
 -- what is summed over the cores, after one entry more
 module _ (F : List Choice → ℕ) (more : List Choice → Choice → ℕ) (grows : (cs : List Choice) (c : Choice) → F (cs ++ c ∷ []) ≡ F cs + more cs c) (es : List Entry) (e : Entry) where

@@ -16,15 +16,15 @@ use Rattle.sched_report.specs.declared.line.CoreLine.{CoreLine}
 use Rattle.sched_report.specs.Reports.{cores as core_numbers, units as unit_ids, stays_of, decisions_on, unit_line, core_line, report_of}
 use Rattle.sched_report.specs.Lines.{text_of_unit, text_of_core, text_of_end, report_lines}
 use Rattle.sched_report.specs.Stays.{Stay, Decision, choices, decisions, stays, last_moment, span}
-use Rattle.sched_report.specs.Tallies.{undecided, place_of, has_place, tally_at, ended_time, open_time, begins, lateness_on, core_tally, unit_tally, unit_line_by, core_line_by, IsTally}
+use Rattle.sched_report.specs.Tallies.{undecided_core, place_of, has_place, tally_at, ended_time, open_time, begins, lateness_on, core_tally, unit_tally, unit_line_by, core_line_by, IsTally}
 use Rattle.sched_report.proofs.Folds.{weigh, ended-stays}
 use Rattle.sched_report.proofs.Grows.{is_of, begins-stays, run-is_ended, decides-count}
 use Rattle.sched_report.proofs.Sums.{sum_by-filter, length-filter, sum_by-flat_map, sum_by-same, sum_by-plus, sum_by-map}
 use Rattle.sched_report.proofs.InOrder.{length-numbers, get_or-numbers}
 
 -- the stays of a core have ended or go on
-stays-time : (p : UnitId → Bool) (es : List Entry) (r : ℕ) → sum_by (weigh p) (stays r es) ≡ ended_time p undecided (choices r es) + open_time p (last_moment es) (core_tally es r)
-stays-time p es r = omega (arith, ended-stays p (last_moment es) undecided (choices r es))
+stays-time : (p : UnitId → Bool) (es : List Entry) (r : ℕ) → sum_by (weigh p) (stays r es) ≡ ended_time p undecided_core (choices r es) + open_time p (last_moment es) (core_tally es r)
+stays-time p es r = omega (arith, ended-stays p (last_moment es) undecided_core (choices r es))
 
 module _ (config : Config) (es : List Entry) (u : UnitId) where
   abbrev q : Stay → Bool
@@ -41,8 +41,8 @@ module _ (config : Config) (es : List Entry) (u : UnitId) where
   run-told cores are =
       sum_by-filter q span (flat_map (λ r. stays r es) rs)
       ∙ sum_by-flat_map (weigh p) (λ r. stays r es) rs
-      ∙ sum_by-same (λ r. sum_by (weigh p) (stays r es)) (λ r. ended_time p undecided (choices r es) + open_time p (last_moment es) (core_tally es r)) rs (stays-time p es)
-      ∙ sum_by-plus (λ r. ended_time p undecided (choices r es)) (λ r. open_time p (last_moment es) (core_tally es r)) rs
+      ∙ sum_by-same (λ r. sum_by (weigh p) (stays r es)) (λ r. ended_time p undecided_core (choices r es) + open_time p (last_moment es) (core_tally es r)) rs (stays-time p es)
+      ∙ sum_by-plus (λ r. ended_time p undecided_core (choices r es)) (λ r. open_time p (last_moment es) (core_tally es r)) rs
       ∙ ap (λ n. (unit_tally config es u).run + n) (sym (ap (sum_by (open_time p (last_moment es))) are ∙ sum_by-map (open_time p (last_moment es)) (core_tally es) rs))
 
   picks-told : length (stays_of config es u) ≡ (unit_tally config es u).picks
@@ -69,8 +69,8 @@ module _ (config : Config) (es : List Entry) (u : UnitId) where
 pub core-told : (es : List Entry) (r : ℕ) → core_line_by (core_tally es r) (last_moment es) r ≡ core_line es r
 core-told es r =
     let time : (core_tally es r).run + open_time (λ w. true) (last_moment es) (core_tally es r) ≡ sum_by span (stays r es) =
-    omega (arith, stays-time (λ w. true) es r, run-is_ended undecided (choices r es)) in
-    let decides : (core_tally es r).decides ≡ length (choices r es) = omega (arith, decides-count undecided (choices r es)) in
+    omega (arith, stays-time (λ w. true) es r, run-is_ended undecided_core (choices r es)) in
+    let decides : (core_tally es r).decides ≡ length (choices r es) = omega (arith, decides-count undecided_core (choices r es)) in
     λ i. record { core = core_number r; run = time i; idle = last_moment es - time i; decides = decides i }
 
 get-front : {X : Type 0} (xs ys : List X) (i : ℕ) → i < length xs → slice_get (xs ++ ys) i ≡ slice_get xs i

@@ -16,5 +16,5 @@ pub record Told : Type 0 where
   pub entries : List Entry
 
 -- these
-abbrev pub told : Config → List Entry → Told
-told config entries = record { config = config; entries = entries }
+abbrev pub told_entries : Config → List Entry → Told
+told_entries config entries = record { config = config; entries = entries }

@@ -21,8 +21,8 @@ abbrev pub nothing_done : UnitTally
 nothing_done = record { run = 0; picks = 0; repl = 0; late = 0 }
 
 -- a core that has not decided
-abbrev pub undecided : CoreTally
-undecided = record { cur = None; since = moment 0; run = 0; decides = 0 }
+abbrev pub undecided_core : CoreTally
+undecided_core = record { cur = None; since = moment 0; run = 0; decides = 0 }
 
 -- where the tally of the unit stands: each domain has 32 places
 abbrev pub place_of : UnitId → Option ℕ
@@ -43,20 +43,20 @@ changed_at None f tallies = tallies
 changed_at (Some i) f tallies = slice_set tallies i (f (slice_index_or tallies i nothing_done))
 
 -- a decision found the unit: so much time ended, and so late it was
-abbrev pub found : ℕ → ℕ → UnitTally → UnitTally
-found ended late t = record t { run = t.run + ended; late = t.late + late }
+abbrev pub with_ended_stay : ℕ → ℕ → UnitTally → UnitTally
+with_ended_stay ended_span late t = record t { run = t.run + ended_span; late = t.late + late }
 
 -- a stay of the unit began
-abbrev pub picked : UnitTally → UnitTally
-picked t = record t { picks = t.picks + 1 }
+abbrev pub with_begun_stay : UnitTally → UnitTally
+with_begun_stay t = record t { picks = t.picks + 1 }
 
 -- the unit was replenished
-abbrev pub renewed : UnitTally → UnitTally
-renewed t = record t { repl = t.repl + 1 }
+abbrev pub with_renewal : UnitTally → UnitTally
+with_renewal t = record t { repl = t.repl + 1 }
 
 -- how long the stay was that the choice ends, 0 where it ends none
-abbrev pub ended : CoreTally → Choice → ℕ
-ended core c = elim core.cur [ None ↦ 0 | Some u ↦ (if same_choice core.cur c.unit then 0 else c.at.0 - core.since.0) ]
+abbrev pub ended_span : CoreTally → Choice → ℕ
+ended_span core c = elim core.cur [ None ↦ 0 | Some u ↦ (if same_choice core.cur c.unit then 0 else c.at.0 - core.since.0) ]
 
 -- a core after a choice
 abbrev pub core_after : CoreTally → Choice → CoreTally
@@ -64,17 +64,17 @@ core_after core c =
     record {
       cur = (if same_choice core.cur c.unit then core.cur else c.unit);
       since = (if same_choice core.cur c.unit then core.since else c.at);
-      run = core.run + ended core c;
+      run = core.run + ended_span core c;
       decides = core.decides + 1;
     }
 
 -- the units after a choice of the core: the one that it found
 abbrev pub after_found : CoreTally → Choice → List UnitTally → List UnitTally
-after_found core c tallies = elim core.cur [ None ↦ tallies | Some u ↦ changed_at (place_of u) (found (ended core c) c.late.0) tallies ]
+after_found core c tallies = elim core.cur [ None ↦ tallies | Some u ↦ changed_at (place_of u) (with_ended_stay (ended_span core c) c.late.0) tallies ]
 
 -- and the one whose stay begins
 abbrev pub after_picked : CoreTally → Choice → List UnitTally → List UnitTally
-after_picked core c tallies = (if same_choice core.cur c.unit then tallies else elim c.unit [ None ↦ tallies | Some u ↦ changed_at (place_of u) picked tallies ])
+after_picked core c tallies = (if same_choice core.cur c.unit then tallies else elim c.unit [ None ↦ tallies | Some u ↦ changed_at (place_of u) with_begun_stay tallies ])
 
 -- the units after a choice of the core
 abbrev pub units_after : CoreTally → Choice → List UnitTally → List UnitTally
@@ -83,7 +83,7 @@ units_after core c tallies = after_picked core c (after_found core c tallies)
 -- the units after a replenishment, where there is one
 abbrev pub units_renewed : Option UnitId → List UnitTally → List UnitTally
 units_renewed None tallies = tallies
-units_renewed (Some u) tallies = changed_at (place_of u) renewed tallies
+units_renewed (Some u) tallies = changed_at (place_of u) with_renewal tallies
 
 -- the time up to the last moment of a stay that goes on, where its unit passes the test
 abbrev pub open_time : (UnitId → Bool) → ℕ → CoreTally → ℕ
@@ -91,12 +91,12 @@ open_time p last core = elim core.cur [ None ↦ 0 | Some u ↦ (if p u then las
 
 -- the tally of the core r after the entries
 abbrev pub core_tally : List Entry → ℕ → CoreTally
-core_tally entries r = fold core_after undecided (choices r entries)
+core_tally entries r = fold core_after undecided_core (choices r entries)
 
 -- the time of the stays that these choices of a core end, of units that pass the test
 abbrev pub ended_time : (UnitId → Bool) → CoreTally → List Choice → ℕ
 ended_time p core [] = 0
-ended_time p core (c ∷ cs) = elim core.cur [ None ↦ 0 | Some u ↦ (if p u then ended core c else 0) ] + ended_time p (core_after core c) cs
+ended_time p core (c ∷ cs) = elim core.cur [ None ↦ 0 | Some u ↦ (if p u then ended_span core c else 0) ] + ended_time p (core_after core c) cs
 
 -- 1 where a stay of the unit begins with the decision
 abbrev pub begins : UnitId → Decision → ℕ
@@ -110,7 +110,7 @@ lateness_on u d = (if is_unit d.before u then d.choice.late.0 else 0)
 abbrev pub unit_tally : Config → List Entry → UnitId → UnitTally
 unit_tally config entries u =
     record {
-      run = sum_by (λ r. ended_time (λ w. same_unit w u) undecided (choices r entries)) (core_numbers config);
+      run = sum_by (λ r. ended_time (λ w. same_unit w u) undecided_core (choices r entries)) (core_numbers config);
       picks = sum_by (λ r. sum_by (begins u) (decisions r entries)) (core_numbers config);
       repl = length (filter (λ w. same_unit w u) (renewals entries));
       late = sum_by (λ r. sum_by (lateness_on u) (decisions r entries)) (core_numbers config);
@@ -124,12 +124,12 @@ pub record IsShort (c : Choice) : Type 0 where
 -- the cores after an entry that makes this choice, where it makes one; a core that is not there changes nothing
 abbrev pub cores_with : Option Choice → List CoreTally → List CoreTally
 cores_with None cores = cores
-cores_with (Some c) cores = slice_set cores c.core.0 (core_after (slice_index_or cores c.core.0 undecided) c)
+cores_with (Some c) cores = slice_set cores c.core.0 (core_after (slice_index_or cores c.core.0 undecided_core) c)
 
 -- the units after it
 abbrev pub units_with : Option Choice → List CoreTally → List UnitTally → List UnitTally
 units_with None cores units = units
-units_with (Some c) cores units = (if nat_lt c.core.0 (length cores) then units_after (slice_index_or cores c.core.0 undecided) c units else units)
+units_with (Some c) cores units = (if nat_lt c.core.0 (length cores) then units_after (slice_index_or cores c.core.0 undecided_core) c units else units)
 
 -- the numbers of a unit that so many times, stays and replenishments give at most
 pub record UnitWithin (times stays renewals : ℕ) (t : UnitTally) : Type 0 where
@@ -149,7 +149,7 @@ UnitsWithin times stays renewals tallies = (i : ℕ) → UnitWithin times stays 
 
 -- the same of cores
 abbrev pub CoresWithin : ℕ → List CoreTally → Type 0
-CoresWithin count tallies = (i : ℕ) → CoreWithin count (slice_index_or tallies i undecided)
+CoresWithin count tallies = (i : ℕ) → CoreWithin count (slice_index_or tallies i undecided_core)
 
 -- what the report keeps is the tally of the entries: the names of the units, the units' tallies by place, the cores' tallies by number,
 -- the number of entries and the last moment

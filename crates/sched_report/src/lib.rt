@@ -44,12 +44,12 @@ pub struct Report {
 }
 
 impl Model for Report {
-    ghost use Rattle.sched_report.specs.Pasts.{Told, told};
+    ghost use Rattle.sched_report.specs.Pasts.{Told, told_entries};
     ghost use Rattle.sched_report.specs.Tallies.{IsTally};
 
     ghost Value = { Told };
 
-    ghost view = { λ r. told r.config.value r.past.value };
+    ghost view = { λ r. told_entries r.config.value r.past.value };
 
     ghost invariant = { λ r. IsTally r.config.value r.past.value r.names.items r.units.items r.cores.items r.entries r.last.0 };
 }
@@ -107,7 +107,8 @@ impl Report {
     pub fn put_line(&self, i: u32, out: &mut LineBuf)
         requires below { i < length (report_lines (report_of self.now.config self.now.entries)) }
         requires empty { out.old ≡ [] }
-        ensures { slice_get (report_lines (report_of self.now.config self.now.entries)) i ≡ Some out.new }
+        ensures { slice_get (report_lines (report_of self.now.config self.now.entries)) i
+            ≡ Some out.new }
     {
         let i = i as usize;
         let units = self.names.len();

@@ -13,7 +13,9 @@ use sched_model::config::DomConfig;
 
 /// Adds the units of a domain, of which there are count.
 fn push_units(names: &mut Vec<UnitId>, d: u8, count: u8) -> Result<(), NoMemory>
-    ensures { IfOk result (λ done. names.new.items ≡ names.old.items ++ map (λ k. let u : UnitRecord = record { dom = domain d; n = k } in u) (numbers_from 0 count)) }
+    ensures { IfOk result (λ done. names.new.items ≡ names.old.items
+        ++ map (λ k. let u : UnitRecord = record { dom = domain d; n = k } in u)
+        (numbers_from 0 count)) }
 {
     for n in 0..count {
         names.push(UnitId { dom: DomId(d), n })?;
@@ -31,7 +33,8 @@ pub fn push_names(
     requires granularity { (1 ≤ g) × (g ≤ 4) }
     requires guests { AllByRecursion (λ (x : DomRecord). length x.guests ≤ 32) domains.now }
     requires few { d + length domains.now ≤ 64 }
-    ensures { IfOk result (λ done. names.new.items ≡ names.old.items ++ units_from g d domains.now) }
+    ensures { IfOk result (λ done. names.new.items ≡ names.old.items
+        ++ units_from g d domains.now) }
 {
     match domains {
         [] => Ok(()),

@@ -93,7 +93,7 @@ pub fn place_of(u: UnitId) -> Option<usize>
 
 /// How long the stay was that the choice ends, 0 where it ends none.
 fn ended(core: &CoreTally, c: &Choice) -> u64
-    ensures { result ≡ tallies.ended core.now c.now }
+    ensures { result ≡ tallies.ended_span core.now c.now }
 {
     if core.cur.is_none() || is_kept(core.cur, c.unit) {
         0
@@ -200,7 +200,8 @@ pub fn count_entry(cores: &mut [CoreTally], units: &mut [UnitTally], e: &Entry)
     requires units { UnitsWithin 4294967294 4294967294 4294967294 units.old }
     requires cores { CoresWithin 4294967294 cores.old }
     ensures cores { cores.new ≡ tallies.cores_with (choice_in e.now) cores.old }
-    ensures units { units.new ≡ tallies.units_renewed (renewed_by e.now.event) (tallies.units_with (choice_in e.now) cores.old units.old) }
+    ensures units { units.new ≡ tallies.units_renewed (renewed_by e.now.event)
+        (tallies.units_with (choice_in e.now) cores.old units.old) }
     ensures short { IfSome (choice_in e.now) IsShort }
 {
     if let Some(c) = choice_in(e) {

@@ -11,24 +11,24 @@ use Rattle.sched_model.specs.Places.{numbers_from}
 use Rattle.sched_report.specs.declared.choice.Choice.{Choice}
 use Rattle.sched_report.specs.declared.tally.CoreTally.{CoreTally}
 use Rattle.sched_report.specs.Stays.{choice_in, choices, last_moment}
-use Rattle.sched_report.specs.Tallies.{undecided, core_tally, core_after, core_line_by, open_time, ended}
+use Rattle.sched_report.specs.Tallies.{undecided_core, core_tally, core_after, core_line_by, open_time, ended_span}
 use Rattle.sched_report.proofs.Grows.{chosen_at, choices-more, last-more}
 use Rattle.sched_report.proofs.Tells.{core-told}
 use Rattle.status_board.specs.declared.core_sums.CoreSums.{CoreSums}
 use Rattle.status_board.specs.declared.totals.CoreTotals.{CoreTotals}
 use Rattle.status_board.specs.declared.totals.Totals.{Totals}
-use Rattle.status_board.specs.Counts.{capped}
+use Rattle.status_board.specs.Counts.{capped_sum}
 use Rattle.status_board.specs.Sums.{AreSums, kept_of, sums_after, no_sums, cores_after, totals_in}
 use Rattle.status_board.specs.Totals.{of_line, core_totals, totals_of}
 
-pub capped-twice : (a b : ℕ) → capped (capped a + b) ≡ capped (a + b)
+pub capped-twice : (a b : ℕ) → capped_sum (capped_sum a + b) ≡ capped_sum (a + b)
 capped-twice a b = omega arith
 
 after-kept : (k : CoreTally) (c : Choice) → sums_after (kept_of k) c ≡ kept_of (core_after k c)
-after-kept k c = λ i. record { cur = (core_after k c).cur; since = (core_after k c).since; run = capped-twice k.run (ended k c) i; decides = capped-twice k.decides 1 i }
+after-kept k c = λ i. record { cur = (core_after k c).cur; since = (core_after k c).since; run = capped-twice k.run (ended_span k c) i; decides = capped-twice k.decides 1 i }
 
 tally-more : (es : List Entry) (e : Entry) (r : ℕ) → core_tally (es ++ e ∷ []) r ≡ fold core_after (core_tally es r) (chosen_at r (choice_in e))
-tally-more es e r = ap (fold core_after undecided) (choices-more r es e) ∙ fold-append core_after undecided (choices r es) (chosen_at r (choice_in e))
+tally-more es e r = ap (fold core_after undecided_core) (choices-more r es e) ∙ fold-append core_after undecided_core (choices r es) (chosen_at r (choice_in e))
 
 -- the cores are kept by an entry that makes this choice, where it makes one
 module _ (es : List Entry) (cores : List CoreSums) (all : length cores ≡ 64) (are : (r : ℕ) → r < 64 → get_or cores r no_sums ≡ kept_of (core_tally es r)) where
@@ -50,9 +50,9 @@ module _ (es : List Entry) (cores : List CoreSums) (all : length cores ≡ 64) (
   length-after (Some c) = length-set cores c.core.0 (sums_after (get_or cores c.core.0 no_sums) c) ∙ all
 
 pub kept-more : (es : List Entry) (e : Entry) (count last : ℕ) (cores : List CoreSums) → AreSums es count last cores
-    → AreSums (es ++ e ∷ []) (capped (count + 1)) e.at.0 (cores_after (choice_in e) cores)
+    → AreSums (es ++ e ∷ []) (capped_sum (count + 1)) e.at.0 (cores_after (choice_in e) cores)
 kept-more es e count last cores are = record {
-  count_is = ap (λ n. capped (n + 1)) are.count_is ∙ capped-twice (length es) 1 ∙ ap capped (sym (length-append es (e ∷ [])));
+  count_is = ap (λ n. capped_sum (n + 1)) are.count_is ∙ capped-twice (length es) 1 ∙ ap capped_sum (sym (length-append es (e ∷ [])));
   last_is = sym (last-more 0 es e);
   all = length-after es cores are.all are.cores_are (choice_in e);
   cores_are = λ r low. kept-by es cores are.all are.cores_are (choice_in e) r low ∙ ap kept_of (sym (tally-more es e r));
@@ -70,8 +70,8 @@ kept-none es cores none all are = subst (λ l. AreSums l 0 0 cores) (sym none) (
 -- what is kept of a core tells its line in a report
 line-told : (k : CoreTally) (last r : ℕ) → totals_in last (kept_of k) ≡ of_line last (core_line_by k last r)
 line-told k last r =
-    let run : capped (capped k.run + open_time (λ u. true) last k) ≡ capped (k.run + open_time (λ u. true) last k) = capped-twice k.run (open_time (λ u. true) last k) in
-    λ i. record { run = record { 0 = run i }; idle = record { 0 = last - run i }; decides = capped k.decides }
+    let run : capped_sum (capped_sum k.run + open_time (λ u. true) last k) ≡ capped_sum (k.run + open_time (λ u. true) last k) = capped-twice k.run (open_time (λ u. true) last k) in
+    λ i. record { run = record { 0 = run i }; idle = record { 0 = last - run i }; decides = capped_sum k.decides }
 
 first-totals : {X Y : Type 0} (f : X → Y) (g : ℕ → Y) (d : X) (a n : ℕ) (xs : List X) → n ≤ length xs → ((i : ℕ) → i < n → f (get_or xs i d) ≡ g (a + i))
     → map f (take n xs) ≡ map g (numbers_from a n)

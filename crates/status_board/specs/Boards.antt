@@ -4,7 +4,7 @@ use mathlib.Core.List.{IsPrefix}
 use mathlib.Core.Option.{some}
 use lib.ListN.{get_elem?}
 use Rattle.sched_model.specs.declared.event.Entry.{Entry}
-use Rattle.status_board.specs.Counts.{counted}
+use Rattle.status_board.specs.Counts.{entry_count}
 
 -- a writer: how many cores its board shows, the entries that it published, and those that it added since
 pub record Desk : Type 0 where
@@ -30,8 +30,8 @@ abbrev pub nothing_seen : ℕ → Watch
 nothing_seen cores = record { cores = cores; seen = [] }
 
 -- the longer of two lists, the first where both count the same
-abbrev pub longer : List Entry → List Entry → List Entry
-longer seen told = (if nat_lt (counted seen) (counted told) then told else seen)
+abbrev pub longer_list : List Entry → List Entry → List Entry
+longer_list seen told = (if nat_lt (entry_count seen) (entry_count told) then told else seen)
 
 -- the rule: what each thread has seen begins the published entries
 abbrev pub BeginAll : List Entry → List (List Entry) → Type 0

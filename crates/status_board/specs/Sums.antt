@@ -7,22 +7,22 @@ use Rattle.sched_model.specs.declared.event.Entry.{Entry}
 use Rattle.sched_report.specs.declared.choice.Choice.{Choice}
 use Rattle.sched_report.specs.declared.tally.CoreTally.{CoreTally}
 use Rattle.sched_report.specs.Stays.{last_moment}
-use Rattle.sched_report.specs.Tallies.{undecided, core_tally, core_after, open_time}
+use Rattle.sched_report.specs.Tallies.{undecided_core, core_tally, core_after, open_time}
 use Rattle.status_board.specs.declared.core_sums.CoreSums.{CoreSums}
 use Rattle.status_board.specs.declared.totals.CoreTotals.{CoreTotals}
-use Rattle.status_board.specs.Counts.{capped, counted}
+use Rattle.status_board.specs.Counts.{capped_sum, entry_count}
 
 -- what is kept of the tally
 abbrev pub kept_of : CoreTally → CoreSums
-kept_of k = record { cur = k.cur; since = k.since; run = capped k.run; decides = capped k.decides }
+kept_of k = record { cur = k.cur; since = k.since; run = capped_sum k.run; decides = capped_sum k.decides }
 
 -- the tally of these sums
 abbrev pub tally_in : CoreSums → CoreTally
 tally_in s = record { cur = s.cur; since = s.since; run = s.run; decides = s.decides }
 
 -- the choice of the unit, or of none, at the moment
-abbrev pub chosen : Moment → Option UnitId → Choice
-chosen at unit = record { core = core_number 0; at = at; unit = unit; late = span 0 }
+abbrev pub choice_of : Moment → Option UnitId → Choice
+choice_of at unit = record { core = core_number 0; at = at; unit = unit; late = span 0 }
 
 -- a core after a choice
 abbrev pub sums_after : CoreSums → Choice → CoreSums
@@ -30,7 +30,7 @@ sums_after s c = kept_of (core_after (tally_in s) c)
 
 -- a core that has not decided
 abbrev pub no_sums : CoreSums
-no_sums = kept_of undecided
+no_sums = kept_of undecided_core
 
 -- the cores after an entry that makes this choice, where it makes one; a core that is not there changes nothing
 abbrev pub cores_after : Option Choice → List CoreSums → List CoreSums
@@ -40,12 +40,12 @@ cores_after (Some c) cores = slice_set cores c.core.0 (sums_after (slice_index_o
 -- what a core did up to the last moment
 abbrev pub totals_in : ℕ → CoreSums → CoreTotals
 totals_in last s =
-    let run = capped (s.run + open_time (λ u. true) last (tally_in s)) in
+    let run = capped_sum (s.run + open_time (λ u. true) last (tally_in s)) in
     record { run = span run; idle = span (last - run); decides = s.decides }
 
 -- what is kept is that of these entries
 pub record AreSums (entries : List Entry) (count last : ℕ) (cores : List CoreSums) : Type 0 where
-  pub count_is : count ≡ counted entries
+  pub count_is : count ≡ entry_count entries
   pub last_is : last ≡ last_moment entries
   pub all : length cores ≡ 64
   pub cores_are : (r : ℕ) → r < 64 → slice_index_or cores r no_sums ≡ kept_of (core_tally entries r)

@@ -8,12 +8,12 @@ use Rattle.sched_report.specs.Reports.{core_line}
 use Rattle.sched_report.specs.Stays.{last_moment}
 use Rattle.status_board.specs.declared.totals.Totals.{Totals}
 use Rattle.status_board.specs.declared.totals.CoreTotals.{CoreTotals}
-use Rattle.status_board.specs.Counts.{capped, counted}
+use Rattle.status_board.specs.Counts.{capped_sum, entry_count}
 
 -- a core whose line in the report this is: the time of the stays on it, the rest of the time up to the last moment, and the number
 -- of its decisions
 abbrev pub of_line : ℕ → CoreLine → CoreTotals
-of_line last line = record { run = span (capped line.run); idle = span (last - capped line.run); decides = capped line.decides }
+of_line last line = record { run = span (capped_sum line.run); idle = span (last - capped_sum line.run); decides = capped_sum line.decides }
 
 -- the totals of the core r
 abbrev pub core_totals : List Entry → ℕ → CoreTotals
@@ -24,7 +24,7 @@ core_totals entries r = of_line (last_moment entries) (core_line entries r)
 abbrev pub totals_of : ℕ → List Entry → Totals
 totals_of cores entries =
     record {
-      entries = counted entries;
+      entries = entry_count entries;
       moment = moment (last_moment entries);
       cores = record { items = map (core_totals entries) (numbers_from 0 cores) };
     }

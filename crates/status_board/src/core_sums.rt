@@ -34,7 +34,7 @@ fn is_kept(cur: Option<UnitId>, chosen: Option<UnitId>) -> bool
 impl CoreSums {
     ghost use Rattle.std.specs.Prelude.{◌≡◌, true};
     ghost use Rattle.sched_report.specs.Tallies as tallies;
-    ghost use Rattle.status_board.specs.Sums.{chosen, sums_after, tally_in, totals_in};
+    ghost use Rattle.status_board.specs.Sums.{choice_of, sums_after, tally_in, totals_in};
 
     /// A core that has not decided.
     pub(crate) const NONE: CoreSums = CoreSums {
@@ -46,7 +46,7 @@ impl CoreSums {
 
     /// How long the stay was that the choice ends, 0 where it ends none.
     fn ended(&self, at: Moment, unit: Option<UnitId>) -> u64
-        ensures { result ≡ tallies.ended (tally_in self.now) (chosen at unit) }
+        ensures { result ≡ tallies.ended_span (tally_in self.now) (choice_of at unit) }
     {
         if self.cur.is_none() || is_kept(self.cur, unit) {
             0
@@ -57,7 +57,7 @@ impl CoreSums {
 
     /// The core after it chose the unit, or none, at the moment.
     fn decided(&self, at: Moment, unit: Option<UnitId>) -> CoreSums
-        ensures { result ≡ sums_after self.now (chosen at unit) }
+        ensures { result ≡ sums_after self.now (choice_of at unit) }
     {
         let kept = is_kept(self.cur, unit);
         CoreSums {

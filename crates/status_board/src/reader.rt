@@ -3,7 +3,7 @@
 ghost use Rattle.std.specs.Prelude.{◌≡◌, ◌≤◌, List, IfSome, MatchOption};
 ghost use mathlib.Core.List.{IsPrefix};
 ghost use Rattle.left_right.specs.Sides.{view};
-ghost use Rattle.status_board.specs.Boards.{longer};
+ghost use Rattle.status_board.specs.Boards.{longer_list};
 ghost use Rattle.status_board.specs.Totals.{totals_of};
 
 use crate::rule::{Seat, Seen};
@@ -60,7 +60,8 @@ fn enter(seat: Seat, cores: u8) -> (Seat, Option<Sight>)
     requires { cores ≤ 64 }
     ensures later { IfSome result.1 (λ s. IsPrefix (view seat.place) s.list.value) }
     ensures totals { IfSome result.1 (λ s. s.totals ≡ totals_of cores s.list.value) }
-    ensures seat { MatchOption result.1 (view result.0.place ≡ view seat.place) (λ s. view result.0.place ≡ s.list.value) }
+    ensures seat { MatchOption result.1 (view result.0.place ≡ view seat.place)
+        (λ s. view result.0.place ≡ s.list.value) }
 {
     match seat.enter_as::<Seen>() {
         Ok(reading) => {
@@ -91,7 +92,7 @@ impl BoardReader {
     /// Takes in what the writer told: from then on the reader shows no less. The `Told` is to be one of the same board.
     pub fn learn(&mut self, told: Told)
         requires cores { told.cores ≡ self.old.cores }
-        ensures seen { self.new.seen ≡ longer self.old.seen told.list }
+        ensures seen { self.new.seen ≡ longer_list self.old.seen told.list }
         ensures cores { self.new.cores ≡ self.old.cores }
     {
         if told.reader.totals.entries > self.totals.entries {

@@ -35,7 +35,8 @@ impl Model for BoardWriter {
 fn seat_told(author: &mut Author) -> Option<Seat>
     ensures told { IfSome result (λ s. view s.place ≡ view author.old.desk.place) }
     ensures shown { author.new.desk.shown ≡ author.old.desk.shown }
-    ensures pending { drop author.new.behind author.new.log.items ≡ drop author.old.behind author.old.log.items }
+    ensures pending { drop author.new.behind author.new.log.items
+        ≡ drop author.old.behind author.old.log.items }
     ensures view { view author.new.desk.place ≡ view author.old.desk.place }
 {
     let mut seat = author.factory().reader().ok()?;
@@ -46,7 +47,8 @@ fn seat_told(author: &mut Author) -> Option<Seat>
 /// Publishes what is pending.
 fn published<R: Wait>(author: Author, rt: &R) -> (Author, ())
     requires { view author.desk.place ≡ author.desk.shown.value }
-    ensures shown { result.0.desk.shown.value ≡ author.desk.shown.value ++ drop author.behind author.log.items }
+    ensures shown { result.0.desk.shown.value ≡ author.desk.shown.value
+        ++ drop author.behind author.log.items }
     ensures pending { drop result.0.behind result.0.log.items ≡ [] }
     ensures view { view result.0.desk.place ≡ result.0.desk.shown.value }
 {
@@ -59,14 +61,19 @@ impl BoardWriter {
     pub(crate) fn over(author: Author, cores: u8) -> BoardWriter
         requires cores { cores ≤ 64 }
         requires view { view author.desk.place ≡ author.desk.shown.value }
-        ensures { result ≡ record { cores = cores; published = author.desk.shown.value; pending = drop author.behind author.log.items } }
+        ensures { result ≡ record {
+          cores = cores;
+          published = author.desk.shown.value;
+          pending = drop author.behind author.log.items;
+        } }
     {
         BoardWriter { author, cores }
     }
 
     /// Adds an entry to those that wait to be published. Its one error is want of memory, and then nothing is changed.
     pub fn add(&mut self, _alloc: Global, e: &Entry) -> Result<(), NoMemory>
-        ensures added { OnOk result (self.new ≡ record self.old { pending = self.old.pending ++ e.now ∷ [] }) }
+        ensures added { OnOk result (self.new
+            ≡ record self.old { pending = self.old.pending ++ e.now ∷ [] }) }
         ensures unchanged { OnErr result (self.new ≡ self.old) }
     {
         self.author.append(*e).map_err(|_| NoMemory)
@@ -74,7 +81,11 @@ impl BoardWriter {
 
     /// Publishes the entries that wait, all at once. It may wait for readers that are at the board.
     pub fn publish<R: Wait>(&mut self, rt: &R)
-        ensures { self.new ≡ record self.old { published = self.old.published ++ self.old.pending; pending = [] } }
+        ensures { self.new ≡ record self.old {
+          published = self.old.published
+              ++ self.old.pending;
+          pending = [];
+        } }
     {
         replace_with(&mut self.author, rt, published)
     }

@@ -17,7 +17,7 @@ use Rattle.sched_model.specs.declared.work.CommandLine.{CommandLine}
 use Rattle.sched_model.specs.Commands.{pool_of_plan, reply_of}
 use Rattle.sched_model.specs.Machine.{after, after_command, answer_of, event_of, is_enabled, verdict}
 use Rattle.sched_model.specs.Places.{at_place}
-use Rattle.sched_model.specs.Pool.{settled}
+use Rattle.sched_model.specs.Pool.{settled_pool}
 use Rattle.cpupool.specs.Tool.{Tool, tool_of}
 use Rattle.pool_core.specs.Seen.{Seen, seen_at}
 use Rattle.pool_slots.specs.Told.{Told}
@@ -78,7 +78,7 @@ pub answer-is : (m : Machine) (s : State) (line : CommandLine) (v : Result Plan 
 answer-is m s line v says = ap (λ (r : Result Plan Refusal). elim r as (λ _. Result Reply Refusal) [ Err fault ↦ Err fault | Ok p ↦ Ok (reply_of p) ]) says
 
 -- what a plan that keeps the pools makes of what stands at its place
-carried-keeps : (m : Machine) (t : ℕ) (p : Plan) → KeepsPools p → (o : Option Pool) → carried_at m t p o ≡ option_map (λ (pool : Pool). settled t (changed_by m t p pool)) o
+carried-keeps : (m : Machine) (t : ℕ) (p : Plan) → KeepsPools p → (o : Option Pool) → carried_at m t p o ≡ option_map (λ (pool : Pool). settled_pool t (changed_by m t p pool)) o
 carried-keeps m t (plan.PoolList pool answer) keeps o = refl
 carried-keeps m t (plan.PoolCreate i name kind answer) keeps o = absurd keeps
 carried-keeps m t (plan.PoolDestroy i answer) keeps o = absurd keeps
@@ -95,7 +95,7 @@ carried-keeps m t (plan.ArincSet i frame answer) keeps o = refl
 carried-keeps m t (plan.Pin d unit cores answer) keeps o = refl
 
 -- a place whose pool was changed and looked at
-looked-pool : (t : ℕ) (f : Pool → Pool) (o : Option Seen) → pool_at (changed_slot t (λ seen. f seen.pool) o) ≡ option_map (λ (pool : Pool). settled t (f pool)) (pool_at o)
+looked-pool : (t : ℕ) (f : Pool → Pool) (o : Option Seen) → pool_at (changed_slot t (λ seen. f seen.pool) o) ≡ option_map (λ (pool : Pool). settled_pool t (f pool)) (pool_at o)
 looked-pool t f None = refl
 looked-pool t f (Some seen) = refl
 
@@ -103,7 +103,7 @@ looked-suits : (m : Machine) (now t : ℕ) (f : Seen → Pool) (o : Option Seen)
 looked-suits m now t f None is suits x at = absurd (cc)
 looked-suits m now t f (Some seen) is suits x at =
     let was : SlotSuits m now seen = suits seen refl in
-    let there : seen_at t (settled t (f seen)) seen ≡ x = cc in
+    let there : seen_at t (settled_pool t (f seen)) seen ≡ x = cc in
     subst (SlotSuits m now) there (record { granularity = was.granularity; latest = (omega (arith, is)) })
 
 pub has-carried : (w : Told) (t : ℕ) (p : Plan) (i k : ℕ) (slots : List (Option Seen)) (read new : Option Seen) → KeepsPools p → t ≡ (state_of w).now → at_place slots i ≡ read → k ≡ i → ForSome (at_place slots i) (SlotSuits w.input (state_of w).now)

@@ -21,14 +21,14 @@ use Rattle.sched_model.specs.Actions.{home_of_core}
 use Rattle.sched_model.specs.Commands.{is_kind}
 use Rattle.sched_model.specs.Machine.{after, enabled_at_home, event_of, free_ready, is_enabled}
 use Rattle.sched_model.specs.Places.{at_place, change_at, clear_at, put_at, test_at}
-use Rattle.sched_model.specs.Pool.{enabled_in, settled}
+use Rattle.sched_model.specs.Pool.{enabled_in, settled_pool}
 use Rattle.sched_laws.specs.StateLaws.{PoolsKeepTheirOwn}
 use Rattle.sched_laws.proofs.EachPlace.{found_at, is_empty, none_found, place_below}
 use Rattle.sched_laws.proofs.Lists.{some_is}
 use Rattle.sched_laws.proofs.PoolsLaw.{pools_keep_their_own}
 use Rattle.journal_core.specs.Parts.{Outline, ToolPart, UnderWay, core_to, domain_to, under_way_of}
 use Rattle.plain_pool.specs.Cores as plain
-use Rattle.cpupool.specs.Arrived.{EndsTheMove, action_of, arrived, but_for_free, core_home, domain_home, pools_after, size_at, with_core as with_core_flag, with_domain, without_domain}
+use Rattle.cpupool.specs.Arrived.{EndsTheMove, action_of, after_arrival, but_for_free, core_home, domain_home, pools_after, size_at, with_core as with_core_flag, with_domain, without_domain}
 use Rattle.cpupool.specs.Steps.{move_of}
 use Rattle.cpupool.specs.Tool.{Tool, ends_of, tool_of}
 use Rattle.cpupool.specs.declared.moves.Move.{Move}
@@ -86,7 +86,7 @@ in_use-after kind places (domain_to d j) = by_home (domain_home places d)
 abbrev arrived-by : Tool → Option UnderWay → Tool
 arrived-by tool o = elim o [ None ↦ tool | Some way ↦ record tool { part = record tool.part { pools = pools_after tool.part.pools way; under_way = None } } ]
 
-keeps-arrived : (tool : Tool) (o : Option UnderWay) → tool.part.under_way ≡ o → KeepsCounts tool.part (arrived tool).part
+keeps-arrived : (tool : Tool) (o : Option UnderWay) → tool.part.under_way ≡ o → KeepsCounts tool.part (after_arrival tool).part
 keeps-arrived tool None is = subst (λ (x : Tool). KeepsCounts tool.part x.part) (sym (ap (arrived-by tool) is)) (record { in_use = λ kind. refl; commands = refl })
 keeps-arrived tool (Some way) is = subst (λ (x : Tool). KeepsCounts tool.part x.part) (sym (ap (arrived-by tool) is)) (record { in_use = λ kind. in_use-after kind tool.part.pools way; commands = refl })
 
@@ -95,8 +95,8 @@ pub keeps-moved : (m : Machine) (s : State) (t : ℕ) (way : UnderWay) (free : L
     → new ≡ but_for_free free (tool_of m (after m s t (action_of way))) → KeepsCounts old.part new.part
 keeps-moved m s t way free old new is ends known left =
     let tool : Tool = but_for_free free (tool_of m s) in
-    let same : new ≡ arrived tool = left ∙ sym (arrived-seen m s t way free is ends) in
-    let keeps : KeepsCounts tool.part (arrived tool).part = keeps-arrived tool tool.part.under_way refl in
+    let same : new ≡ after_arrival tool = left ∙ sym (arrived-seen m s t way free is ends) in
+    let keeps : KeepsCounts tool.part (after_arrival tool).part = keeps-arrived tool tool.part.under_way refl in
     subst (λ (x : Tool). KeepsCounts x.part new.part) known (subst (λ (x : Tool). KeepsCounts (tool_of m s).part x.part) (sym same) (record { in_use = keeps.in_use; commands = keeps.commands }))
 
 -- an action that may come begins where the parts stand
@@ -116,16 +116,16 @@ pub move-told : (part : ToolPart) (o : Option UnderWay) (r : ℕ) (to : Option �
 move-told part o r to told is tells = tells ∙ ap (option_map (move_of part)) is
 
 -- a core that is to have no pool is in one, where it may move
-pub leaves-some : (w : Told) (goes : GoesOn w) (tool : Tool) → tool_of w.input (state_of w) ≡ tool → (r : ℕ) → is_enabled w.input (state_of w) (state_of w).now (Moved r) ≡ true → tool.part.under_way ≡ Some (core_to r None)
+pub leaves-some : (w : Told) (goes : GoesOn w) (tool : Tool) → tool_of w.input (state_of w) ≡ tool → (r : ℕ) → is_enabled w.input (state_of w) (state_of w).now (Moved (core_number r)) ≡ true → tool.part.under_way ≡ Some (core_to r None)
     → (home : Option PoolId) → home ≡ option_map pool_number (home_of_core (state_of w) r) → home ≡ None → ⊥
 leaves-some w goes tool known r on way home told none =
     let m : Machine = w.input in
     let s : State = state_of w in
     let under : under_way_of s ≡ Some (core_to r None) = ap (λ (x : Tool). x.part.under_way) known ∙ way in
     let nowhere : home_of_core s r ≡ None = no-number _ (sym told ∙ none) in
-    let first : None ≡ move_first m s s.now (under_way_of s) = leaving-first w goes s.now r false under (no-home m s s.now (Moved r) nowhere) in
-    let moves : move_first m s s.now (under_way_of s) ≡ Some (Moved r) = ap (move_first m s s.now) under ∙ ap (λ (b : Bool). cond b (Some (Moved r)) None) on in
-    let never : None ≡ Some (Moved r) = first ∙ moves in
+    let first : None ≡ move_first m s s.now (under_way_of s) = leaving-first w goes s.now r false under (no-home m s s.now (Moved (core_number r)) nowhere) in
+    let moves : move_first m s s.now (under_way_of s) ≡ Some (Moved (core_number r)) = ap (move_first m s s.now) under ∙ ap (λ (b : Bool). cond b (Some (Moved (core_number r))) None) on in
+    let never : None ≡ Some (Moved (core_number r)) = first ∙ moves in
     cc
 
 module _ (w : Told) (goes : GoesOn w) where
@@ -143,7 +143,7 @@ mapped-some : {X Y : Type 0} (f : X → Y) (o : Option X) (x : X) (y : Y) → o 
 mapped-some f o x y at is = (let same : Some (f x) ≡ Some y = sym (ap (option_map f) at) ∙ is in cc)
 
 -- a core that may move
-module _ (w : Told) (tool : Tool) (t r : ℕ) (begins : Begins w tool t (Moved r)) where
+module _ (w : Told) (tool : Tool) (t r : ℕ) (begins : Begins w tool t (Moved (core_number r))) where
   abbrev m : Machine
   m = w.input
 
@@ -151,9 +151,9 @@ module _ (w : Told) (tool : Tool) (t r : ℕ) (begins : Begins w tool t (Moved r
   s = state_of w
 
   abbrev left : State
-  left = after w.input (state_of w) (state_of w).now (Moved r)
+  left = after w.input (state_of w) (state_of w).now (Moved (core_number r))
 
-  pub ends-it : EndsTheMove m s s.now (Moved r)
+  pub ends-it : EndsTheMove m s s.now (Moved (core_number r))
   ends-it = record { free = λ k c at. (own-of w begins.goes).free k c at; last = (one-move-of w begins.goes).after_core s.now r begins.enabled }
 
   -- what is on its way
@@ -200,7 +200,7 @@ module _ (w : Told) (tool : Tool) (t r : ℕ) (begins : Begins w tool t (Moved r
     pub free-there : IsSome (at_place tool.part.free r)
     free-there = ap is_some (free-of r ∙ ap (option_map ends_of) joining.1)
 
-    pub event-joins : event.Moved (core_number r) (Some (pool_number i)) ≡ event_of m s s.now (Moved r)
+    pub event-joins : event.Moved (core_number r) (Some (pool_number i)) ≡ event_of m s s.now (Moved (core_number r))
     event-joins =
         sym (ap (λ (o : Option FreeCore). event.Moved (core_number r) (elim o as (λ _. Option PoolId) [ None ↦ None | Some c ↦ option_map pool_number c.target ])) joining.1
         ∙ ap (λ (o : Option ℕ). event.Moved (core_number r) (option_map pool_number o)) joining.2)
@@ -238,23 +238,23 @@ module _ (w : Told) (tool : Tool) (t r : ℕ) (begins : Begins w tool t (Moved r
         pub joins-siblings : ForSome slot (λ seen. length ends ≡ seen.granularity)
         joins-siblings seen here = ap length ends-joining ∙ ((range-of w begins.goes).free r coming joining.1).count ∙ sym (stands.suits seen here).granularity
 
-        module _ (event : Event) (ev : event ≡ event_of m s s.now (Moved r)) (new : Option Seen) (made : new ≡ option_map (λ seen. seen_at t (settled t (pools.with_core r ends seen.pool)) seen) slot) where
-          joined-at : (o : Option Seen) → pool_at (option_map (λ seen. seen_at t (settled t (pools.with_core r ends seen.pool)) seen) o) ≡ option_map (steps.with_core s.now r coming) (pool_at o)
+        module _ (event : Event) (ev : event ≡ event_of m s s.now (Moved (core_number r))) (new : Option Seen) (made : new ≡ option_map (λ seen. seen_at t (settled_pool t (pools.with_core r ends seen.pool)) seen) slot) where
+          joined-at : (o : Option Seen) → pool_at (option_map (λ seen. seen_at t (settled_pool t (pools.with_core r ends seen.pool)) seen) o) ≡ option_map (steps.with_core s.now r coming) (pool_at o)
           joined-at None = refl
           joined-at (Some seen) =
-              ap (λ (n : ℕ). Some (settled n (pools.with_core r ends seen.pool))) begins.now
-              ∙ ap (λ (l : List Moment). Some (settled s.now (pools.with_core r l seen.pool))) ends-joining
+              ap (λ (n : ℕ). Some (settled_pool n (pools.with_core r ends seen.pool))) begins.now
+              ∙ ap (λ (l : List Moment). Some (settled_pool s.now (pools.with_core r l seen.pool))) ends-joining
 
           pub stands-joined : StandsAt (told_event w t event) i new
           stands-joined =
-              stands-changed w tool t (Moved r) begins event ev i (option_map (steps.with_core s.now r coming)) slot new join-steps.own stands (ap pool_at made ∙ joined-at slot)
-              (subst (λ (o : Option Seen). ForSome o (SlotSuits m s.now)) (sym made) (suits-at (λ seen. settled t (pools.with_core r ends seen.pool)) slot stands.suits))
+              stands-changed w tool t (Moved (core_number r)) begins event ev i (option_map (steps.with_core s.now r coming)) slot new join-steps.own stands (ap pool_at made ∙ joined-at slot)
+              (subst (λ (o : Option Seen). ForSome o (SlotSuits m s.now)) (sym made) (suits-at (λ seen. settled_pool t (pools.with_core r ends seen.pool)) slot stands.suits))
 
     -- the tool, which has the core no more
     module _ (new : Tool) (done : new ≡ but_for_free (clear_at r tool.part.free) (tool_of m left)) where
-      pub acted-joins : (event : Event) → event ≡ event_of m s s.now (Moved r) → HasActedOn w i (told_event w t event) new
+      pub acted-joins : (event : Event) → event ≡ event_of m s s.now (Moved (core_number r)) → HasActedOn w i (told_event w t event) new
       acted-joins event ev =
-          acted-on w tool t (Moved r) begins event ev i (option_map (steps.with_core s.now r coming)) new join-steps.own
+          acted-on w tool t (Moved (core_number r)) begins event ev i (option_map (steps.with_core s.now r coming)) new join-steps.own
           (knows-left (clear_at r tool.part.free) new done (ap (map (option_map ends_of)) join-steps.free ∙ map-set (option_map ends_of) s.free r None ∙ ap (λ (x : Tool). clear_at r x.part.free) begins.known))
 
       pub counts-joins : KeepsCounts tool.part new.part
@@ -289,25 +289,25 @@ module _ (w : Told) (tool : Tool) (t r : ℕ) (begins : Begins w tool t (Moved r
     same-pool : (seen : Seen) → slot ≡ Some seen → seen.pool ≡ pool
     same-pool seen here = (let known = seen-here in let at = known.1 in let same : known.0 ≡ seen = cc in ap (λ (x : Seen). x.pool) (sym same) ∙ known.2)
 
-    pub event-leaves : event.Moved (core_number r) None ≡ event_of m s s.now (Moved r)
+    pub event-leaves : event.Moved (core_number r) None ≡ event_of m s s.now (Moved (core_number r))
     event-leaves = sym (ap (λ (o : Option FreeCore). event.Moved (core_number r) (elim o as (λ _. Option PoolId) [ None ↦ None | Some c ↦ option_map pool_number c.target ])) not-free)
 
     pub leaves-now : ForSome slot (λ seen. IsNow seen t)
     leaves-now = is-now i slot stands
 
-    may-leave : enabled_in m.config.granularity s.now pool (Moved r) ≡ true
+    may-leave : enabled_in m.config.granularity s.now pool (Moved (core_number r)) ≡ true
     may-leave =
-        let may : Pool → Bool = λ p. enabled_in m.config.granularity s.now p (Moved r) in
+        let may : Pool → Bool = λ p. enabled_in m.config.granularity s.now p (Moved (core_number r)) in
         let by_free : Option FreeCore → Bool = λ o. elim o [ None ↦ false | Some c ↦ free_ready s.now c ] in
         let by_home : Option ℕ → Bool = λ o. elim o [ None ↦ false | Some k ↦ test_at s.pools k may ] in
         let by_pool : Option Pool → Bool = λ o. elim o [ None ↦ false | Some p ↦ may p ] in
-        sym (ap (λ (o : Option FreeCore). by_free o || enabled_at_home m s s.now (Moved r)) not-free ∙ ap by_home home ∙ ap by_pool there.1) ∙ begins.enabled
+        sym (ap (λ (o : Option FreeCore). by_free o || enabled_at_home m s s.now (Moved (core_number r))) not-free ∙ ap by_home home ∙ ap by_pool there.1) ∙ begins.enabled
 
-    pub leaves-ready : ForSome slot (λ seen. enabled_in seen.granularity t seen.pool (Moved r) ≡ true)
+    pub leaves-ready : ForSome slot (λ seen. enabled_in seen.granularity t seen.pool (Moved (core_number r)) ≡ true)
     leaves-ready seen here =
-        ap (λ (g : ℕ). enabled_in g t seen.pool (Moved r)) (stands.suits seen here).granularity
-        ∙ ap (λ (n : ℕ). enabled_in m.config.granularity n seen.pool (Moved r)) begins.now
-        ∙ ap (λ (p : Pool). enabled_in m.config.granularity s.now p (Moved r)) (same-pool seen here)
+        ap (λ (g : ℕ). enabled_in g t seen.pool (Moved (core_number r))) (stands.suits seen here).granularity
+        ∙ ap (λ (n : ℕ). enabled_in m.config.granularity n seen.pool (Moved (core_number r))) begins.now
+        ∙ ap (λ (p : Pool). enabled_in m.config.granularity s.now p (Moved (core_number r))) (same-pool seen here)
         ∙ may-leave
 
     -- the tool has a place for the core, and not the core
@@ -323,16 +323,16 @@ module _ (w : Told) (tool : Tool) (t r : ℕ) (begins : Begins w tool t (Moved r
     pub none-free : at_place tool.part.free r ≡ None
     none-free = free-of r ∙ ap (option_map ends_of) not-free
 
-    module _ (event : Event) (ev : event ≡ event_of m s s.now (Moved r)) where
-      module _ (new : Option Seen) (made : new ≡ option_map (λ seen. seen_at t (settled t (pools.without_core r seen.pool)) seen) slot) where
-        left-at : (o : Option Seen) → pool_at (option_map (λ seen. seen_at t (settled t (pools.without_core r seen.pool)) seen) o) ≡ option_map (steps.without_core s.now r) (pool_at o)
+    module _ (event : Event) (ev : event ≡ event_of m s s.now (Moved (core_number r))) where
+      module _ (new : Option Seen) (made : new ≡ option_map (λ seen. seen_at t (settled_pool t (pools.without_core r seen.pool)) seen) slot) where
+        left-at : (o : Option Seen) → pool_at (option_map (λ seen. seen_at t (settled_pool t (pools.without_core r seen.pool)) seen) o) ≡ option_map (steps.without_core s.now r) (pool_at o)
         left-at None = refl
-        left-at (Some seen) = ap (λ (n : ℕ). Some (settled n (pools.without_core r seen.pool))) begins.now
+        left-at (Some seen) = ap (λ (n : ℕ). Some (settled_pool n (pools.without_core r seen.pool))) begins.now
 
         pub stands-left : StandsAt (told_event w t event) i new
         stands-left =
-            stands-changed w tool t (Moved r) begins event ev i (option_map (steps.without_core s.now r)) slot new leave-steps.own stands (ap pool_at made ∙ left-at slot)
-            (subst (λ (o : Option Seen). ForSome o (SlotSuits m s.now)) (sym made) (suits-at (λ seen. settled t (pools.without_core r seen.pool)) slot stands.suits))
+            stands-changed w tool t (Moved (core_number r)) begins event ev i (option_map (steps.without_core s.now r)) slot new leave-steps.own stands (ap pool_at made ∙ left-at slot)
+            (subst (λ (o : Option Seen). ForSome o (SlotSuits m s.now)) (sym made) (suits-at (λ seen. settled_pool t (pools.without_core r seen.pool)) slot stands.suits))
 
     -- the tool, which has the core
     module _ (ends : List Moment) (is : ForSome slot (λ seen. option_map plain.ends_of (at_place seen.pool.resources r) ≡ Some ends)) (new : Tool) (done : new ≡ but_for_free (put_at r ends tool.part.free) (tool_of m left)) where
@@ -341,10 +341,10 @@ module _ (w : Told) (tool : Tool) (t r : ℕ) (begins : Begins w tool t (Moved r
           let known = seen-here in
           mapped-some plain.ends_of (at_place pool.resources r) going ends core-there.1 (ap (λ (p : Pool). option_map plain.ends_of (at_place p.resources r)) (sym known.2) ∙ is known.0 known.1)
 
-      pub acted-leaves : (event : Event) → event ≡ event_of m s s.now (Moved r) → HasActedOn w i (told_event w t event) new
+      pub acted-leaves : (event : Event) → event ≡ event_of m s s.now (Moved (core_number r)) → HasActedOn w i (told_event w t event) new
       acted-leaves event ev =
           let free : FreeCore = record { target = None; stall_ends = plain.ends_of going } in
-          acted-on w tool t (Moved r) begins event ev i (option_map (steps.without_core s.now r)) new leave-steps.own
+          acted-on w tool t (Moved (core_number r)) begins event ev i (option_map (steps.without_core s.now r)) new leave-steps.own
           (knows-left (put_at r ends tool.part.free) new done
           (ap (map (option_map ends_of)) leave-steps.free ∙ map-set (option_map ends_of) s.free r (Some free)
           ∙ ap (λ (l : List Moment). put_at r l (map (option_map ends_of) s.free)) (sym ends-going) ∙ ap (λ (x : Tool). put_at r ends x.part.free) begins.known))

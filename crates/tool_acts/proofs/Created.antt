@@ -1,4 +1,5 @@
 -- A plan that makes a pool is that of a command that asks for one.
+use Rattle.sched_model.specs.Checked.{most_span}
 use Rattle.std.proofs.Common.{◌≡◌, ℕ, Bool, true, false, List, length, refl, subst}
 use Rattle.std.specs.Prelude.{Option, Some, None, Result, Ok, Err, option_map, sum_by, nat_lt, nat_le, ◌/◌, ◌&&◌, ◌||◌, ◌==◌, not, is_some, unwrap_or}
 use Rattle.sched_base.specs.Numbers.{pool as pool_number}
@@ -117,7 +118,7 @@ judged_asks m s (command.RtdsDom which (Some v) period budget extra) =
 judged_asks m s (command.Pause which) = on_domain m s _ which _ (λ d i pool domain. of_ok _ _ tt)
 judged_asks m s (command.Unpause which) = on_domain m s _ which _ (λ d i pool domain. of_ok _ _ tt)
 judged_asks m s (command.ArincSet which major entries) =
-    on_pool m s _ which _ (λ i pool. on_demand m s _ (is_kind kinds.Arinc653 (kind_of pool.scheduler.records)) _ _ (on_demand m s _ (in_range 1 10000000000000 major) _ _ (on_frame m s _ i major entries)))
+    on_pool m s _ which _ (λ i pool. on_demand m s _ (is_kind kinds.Arinc653 (kind_of pool.scheduler.records)) _ _ (on_demand m s _ (in_range 1 most_span major) _ _ (on_frame m s _ i major entries)))
 judged_asks m s (command.Pin which vcpu cpus) =
     on_domain m s _ which _ (λ d i pool domain. on_demand m s _ (has_vcpu domain vcpu) _ _ (on_refused m s _ (cpu_fault m.config.processors cpus) _ (on_refused m s _ (elsewhere_fault m.config pool cpus) _ (of_ok _ _ tt))))
 

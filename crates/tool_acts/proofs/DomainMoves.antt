@@ -32,15 +32,15 @@ use Rattle.sched_model.specs.Machine.{after, event_of, home_pool, is_enabled, is
 use Rattle.sched_model.specs.Opening.{no_pool}
 use Rattle.sched_model.specs.Places.{at_place, change_at, numbers_from}
 use Rattle.sched_model.specs.Policy.{credit2_record, default_dom_params, kind_of, rtds_record}
-use Rattle.sched_model.specs.Pool.{enabled_in, event_in, settled, unit_count, with_domain, without_domain}
-use Rattle.sched_model.specs.Runs.{IsRun, begun}
+use Rattle.sched_model.specs.Pool.{enabled_in, event_in, settled_pool, unit_count, with_domain, without_domain}
+use Rattle.sched_model.specs.Runs.{IsRun, run_start}
 use Rattle.sched_laws.specs.StateLaws.{state_after}
 use Rattle.sched_laws.proofs.EachPlace.{is_empty, place_below}
 use Rattle.sched_laws.proofs.Lists.{is_some_at, some_is, test_at-some}
 use Rattle.sched_laws.proofs.Opened.{each_get}
 use Rattle.sched_laws.proofs.PoolsLaw.{pools_keep_their_own}
 use Rattle.sched_ops.specs.Conditions.{AreDomParams}
-use Rattle.sched_ops.specs.Told.{stored_of}
+use Rattle.sched_model.specs.Policy.{stored_of}
 use Rattle.sched_ranges.specs.Ranges.{DomainInRange}
 use Rattle.journal_core.specs.Parts.{Outline, ToolPart, UnderWay, core_to, domain_to, outline_of, tool_of as part_of_tool, under_way_of}
 use Rattle.part_laws.proofs.Alike.{mover_of}
@@ -52,7 +52,7 @@ use Rattle.move_laws.proofs.Law.{has_one_move}
 use Rattle.move_laws.proofs.Whose.{moving_answers}
 use Rattle.tool_laws.specs.ToolSteps.{DomainSteps}
 use Rattle.tool_laws.proofs.Steps.{tool_steps}
-use Rattle.cpupool.specs.Arrived.{EndsTheMove, action_of, arrived, but_for_free, core_home, domain_home, handed_over, pools_after, size_at, with_core, with_domain as with_size, without_domain as without_size}
+use Rattle.cpupool.specs.Arrived.{EndsTheMove, action_of, after_arrival, but_for_free, core_home, domain_home, handed_over, pools_after, size_at, with_core, with_domain as with_size, without_domain as without_size}
 use Rattle.cpupool.specs.Steps.{kind_at, move_of}
 use Rattle.cpupool.specs.Tool.{Tool, tool_of}
 use Rattle.cpupool.specs.declared.moves.Move.TheVariants as move
@@ -93,7 +93,7 @@ pub record Finds (m : Machine) (s : State) (d i j : ℕ) : Type 0 where
   pub other : j ≢ i
   pub target : is_some (at_place s.pools j) ≡ true
   pub absent : ForSome (at_place s.pools j) (λ pool. at_place pool.domains d ≡ None)
-  pub ends : EndsTheMove m s s.now (DomMoved d)
+  pub ends : EndsTheMove m s s.now (DomMoved (domain_number d))
 
 -- in every state of a run
 module _ (m : Machine) (checked : IsChecked m) (entries : List Entry) (run : IsRun m entries) (d : ℕ) where
@@ -109,7 +109,7 @@ module _ (m : Machine) (checked : IsChecked m) (entries : List Entry) (run : IsR
       (test_at-some at_end.pools j (λ (p : Pool). is_some (at_place p.domains d)) q there (is_some_at (at_place q.domains d) x here))
       (test_at-some at_end.pools i (λ (p : Pool). is_some (at_place p.domains d)) pool at (is_some_at (at_place pool.domains d) domain has))))
 
-  finds-here : (on : is_enabled m at_end at_end.now (DomMoved d) ≡ true) (f : Moving at_end d) → Finds m at_end d f.home f.target.0
+  finds-here : (on : is_enabled m at_end at_end.now (DomMoved (domain_number d)) ≡ true) (f : Moving at_end d) → Finds m at_end d f.home f.target.0
   finds-here on f =
       let other : f.target.0 ≢ f.home = moves-away m checked entries run f.home d f.pool f.domain f.target f.pool_at f.domain_at f.moving in
       record {
@@ -121,19 +121,19 @@ module _ (m : Machine) (checked : IsChecked m) (entries : List Entry) (run : IsR
         moving = f.moving;
         way = moving_answers at_end few d f;
         other = other;
-        target = (housed_from m checked [] entries (begun m) refl tt run (housed_opening m checked)).movers f.home d f.target
+        target = (housed_from m checked [] entries (run_start m) refl tt run (housed_opening m checked)).movers f.home d f.target
             (ap (λ (o : Option Pool). mover_of o d) f.pool_at ∙ ap (option_map (λ (x : Domain). x.moving)) f.domain_at ∙ ap (λ (o : Option PoolId). Some o) f.moving);
         absent = absent-there f.home f.target.0 f.pool f.domain f.pool_at f.domain_at other;
         ends = record { free = (pools_keep_their_own m checked entries run).free; last = (has_one_move m checked entries run).after_domain at_end.now d on };
       }
 
-  finds-any : is_enabled m at_end at_end.now (DomMoved d) ≡ true → (i : ℕ) × (j : ℕ) × Finds m at_end d i j
+  finds-any : is_enabled m at_end at_end.now (DomMoved (domain_number d)) ≡ true → (i : ℕ) × (j : ℕ) × Finds m at_end d i j
   finds-any on = (let f = domain_found m at_end at_end.now d on in (f.home, f.target.0, finds-here on f))
 
 -- where the move may come
-pub finds-some : (w : Told) → GoesOn w → (d : ℕ) → is_enabled w.input (state_of w) (state_of w).now (DomMoved d) ≡ true → (i : ℕ) × (j : ℕ) × Finds w.input (state_of w) d i j
+pub finds-some : (w : Told) → GoesOn w → (d : ℕ) → is_enabled w.input (state_of w) (state_of w).now (DomMoved (domain_number d)) ≡ true → (i : ℕ) × (j : ℕ) × Finds w.input (state_of w) d i j
 finds-some w goes d =
-    subst (λ (s : State). is_enabled w.input s s.now (DomMoved d) ≡ true → (i : ℕ) × (j : ℕ) × Finds w.input s d i j) (sym (state_of-is w)) (finds-any w.input goes.checked w.history goes.run d)
+    subst (λ (s : State). is_enabled w.input s s.now (DomMoved (domain_number d)) ≡ true → (i : ℕ) × (j : ℕ) × Finds w.input s d i j) (sym (state_of-is w)) (finds-any w.input goes.checked w.history goes.run d)
 
 same-some : {X : Type 0} (o : Option X) (a b : X) → o ≡ Some a → o ≡ Some b → a ≡ b
 same-some o a b is too = cc
@@ -142,7 +142,7 @@ way-target : (d j k : ℕ) → Some (domain_to d j) ≡ Some (domain_to d k) →
 way-target d j k is = cc
 
 -- the route, as the tool tells it
-pub route-is : (w : Told) (tool : Tool) (t : ℕ) (d : DomId) → Begins w tool t (DomMoved d.0) → (n : DomId) (from to : PoolId) (kind : SchedKind) → option_map (move_of tool.part) tool.part.under_way ≡ Some (move.Dom n to kind) → home_of_domain (state_of w) d.0 ≡ Some from.0
+pub route-is : (w : Told) (tool : Tool) (t : ℕ) (d : DomId) → Begins w tool t (DomMoved d) → (n : DomId) (from to : PoolId) (kind : SchedKind) → option_map (move_of tool.part) tool.part.under_way ≡ Some (move.Dom n to kind) → home_of_domain (state_of w) d.0 ≡ Some from.0
     → MovesDomain w t (record { d = d; from = from; to = to; kind = kind })
 route-is w tool t d begins n from to kind told home =
     let f = finds-some w begins.goes d.0 begins.enabled in
@@ -162,13 +162,13 @@ route-is w tool t d begins n from to kind told home =
     }
 
 -- something is told: a domain
-pub domain-told : (w : Told) (tool : Tool) (t d : ℕ) → Begins w tool t (DomMoved d) → (j : ℕ) × (option_map (move_of tool.part) tool.part.under_way ≡ Some (move.Dom (domain_number d) (pool_number j) (kind_at tool.part j)))
+pub domain-told : (w : Told) (tool : Tool) (t d : ℕ) → Begins w tool t (DomMoved (domain_number d)) → (j : ℕ) × (option_map (move_of tool.part) tool.part.under_way ≡ Some (move.Dom (domain_number d) (pool_number j) (kind_at tool.part j)))
 domain-told w tool t d begins =
     let f = finds-some w begins.goes d begins.enabled in
     (f.1, ap (λ (x : Tool). option_map (move_of tool.part) x.part.under_way) (sym begins.known) ∙ ap (option_map (move_of tool.part)) f.2.way)
 
 -- it has a home
-pub home-told : (w : Told) (tool : Tool) (t d : ℕ) → Begins w tool t (DomMoved d) → home_of_domain (state_of w) d ≡ None → ⊥
+pub home-told : (w : Told) (tool : Tool) (t d : ℕ) → Begins w tool t (DomMoved (domain_number d)) → home_of_domain (state_of w) d ≡ None → ⊥
 home-told w tool t d begins none = (let f = finds-some w begins.goes d begins.enabled in let home = f.2.home in cc)
 
 -- what a pool tells of the first unit of a domain
@@ -207,12 +207,12 @@ slot-there w i slot stands there = by_slot slot refl
     by_slot (Some seen) is = (seen, is, stands-there w i slot stands ∙ ap pool_at is)
 
 -- a place whose cores are looked at, where that is asked
-looked-pool : (looks : Bool) (t : ℕ) (seen : Seen) → pool_at (looked_at looks t (Some seen)) ≡ Some (cond looks (settled t seen.pool) seen.pool)
+looked-pool : (looks : Bool) (t : ℕ) (seen : Seen) → pool_at (looked_at looks t (Some seen)) ≡ Some (cond looks (settled_pool t seen.pool) seen.pool)
 looked-pool true t seen = refl
 looked-pool false t seen = refl
 
 looked-suits : (m : Machine) (now t : ℕ) → t ≡ now → (looks : Bool) (seen : Seen) → SlotSuits m now seen → ForSome (looked_at looks t (Some seen)) (SlotSuits m now)
-looked-suits m now t is true seen suits x at = some-out (SlotSuits m now) (seen_at t (settled t seen.pool) seen) x at (record { granularity = suits.granularity; latest = omega (arith, is) })
+looked-suits m now t is true seen suits x at = some-out (SlotSuits m now) (seen_at t (settled_pool t seen.pool) seen) x at (record { granularity = suits.granularity; latest = omega (arith, is) })
 looked-suits m now t is false seen suits x at = some-out (SlotSuits m now) seen x at suits
 
 granular : (g : ℕ) → IsGranularity g → 0 < g
@@ -243,7 +243,7 @@ in_use-arrived kind (domain_to d j) pools = elim (domain_home pools d) as (λ o.
   ]
 ]
 
-pub counts-arrived : (tool : Tool) → KeepsCounts tool.part (arrived tool).part
+pub counts-arrived : (tool : Tool) → KeepsCounts tool.part (after_arrival tool).part
 counts-arrived tool =
     elim tool.part.under_way as (λ o. KeepsCounts tool.part (elim o as (λ _. Tool) [ None ↦ tool | Some way ↦ record tool { part = record tool.part { pools = pools_after tool.part.pools way; under_way = None } } ]).part) [
       | None ↦ record { in_use = λ kind. refl; commands = refl }
@@ -274,11 +274,11 @@ module _ (w : Told) (t : ℕ) (route : DomainRoute) (moves : MovesDomain w t rou
       let to : f.1 ≡ j = way-target d f.1 j (sym f.2.way ∙ moves.way) in
       subst (λ (k : ℕ). Finds m s d k j) home (subst (λ (k : ℕ). Finds m s d f.0 k) to f.2)
 
-  pub begins : Begins w (tool_of m s) t (DomMoved d)
+  pub begins : Begins w (tool_of m s) t (DomMoved (domain_number d))
   begins = record { goes = moves.goes; now = moves.now; known = refl; enabled = moves.enabled }
 
   abbrev after_it : State
-  after_it = after m s s.now (DomMoved d)
+  after_it = after m s s.now (DomMoved (domain_number d))
 
   steps : DomainSteps m s s.now d i j finds.domain
   steps = (tool_steps m s s.now).domain d i finds.pool finds.domain (pool_number j) finds.home finds.pool_at finds.domain_at finds.moving
@@ -296,14 +296,14 @@ module _ (w : Told) (t : ℕ) (route : DomainRoute) (moves : MovesDomain w t rou
   now-there = steps.joins.now ∙ steps.leaves.now
 
   -- what is printed
-  pub event-is : event.DomMoved route.d route.to ≡ event_of m s s.now (DomMoved d)
+  pub event-is : event.DomMoved route.d route.to ≡ event_of m s s.now (DomMoved (domain_number d))
   event-is =
-      let home : home_pool m s (DomMoved d) ≡ finds.pool =
+      let home : home_pool m s (DomMoved (domain_number d)) ≡ finds.pool =
       ap (λ (o : Option ℕ). elim o as (λ _. Pool) [ None ↦ no_pool m.config | Some k ↦ unwrap_or (at_place s.pools k) (no_pool m.config) ]) finds.home ∙ ap (λ (o : Option Pool). unwrap_or o (no_pool m.config)) finds.pool_at in
-      let printed : event_in m.config.granularity s.now finds.pool (DomMoved d) ≡ event.DomMoved (domain_number d) (pool_number j) =
+      let printed : event_in m.config.granularity s.now finds.pool (DomMoved (domain_number d)) ≡ event.DomMoved (domain_number d) (pool_number j) =
       ap (λ (o : Option Domain). event.DomMoved (domain_number d) (elim o as (λ _. PoolId) [ None ↦ pool_number 0 | Some x ↦ unwrap_or x.moving (pool_number 0) ])) finds.domain_at
       ∙ ap (λ (o : Option PoolId). event.DomMoved (domain_number d) (unwrap_or o (pool_number 0))) finds.moving in
-      sym (ap (λ (p : Pool). event_in m.config.granularity s.now p (DomMoved d)) home ∙ printed)
+      sym (ap (λ (p : Pool). event_in m.config.granularity s.now p (DomMoved (domain_number d))) home ∙ printed)
 
   -- the slot that the domain leaves
   module _ (old : Option Seen) (stands : StandsAt w i old) where
@@ -330,11 +330,11 @@ module _ (w : Told) (t : ℕ) (route : DomainRoute) (moves : MovesDomain w t rou
         (subst (λ (o : Option Domain). 1 ≤ units_at m.config.granularity o) (sym (domain-in seen is)) has)
 
     -- it may be taken
-    pub may-leave : ForSome old (λ seen. enabled_in seen.granularity seen.latest seen.pool (DomMoved d) ≡ true)
+    pub may-leave : ForSome old (λ seen. enabled_in seen.granularity seen.latest seen.pool (DomMoved (domain_number d)) ≡ true)
     may-leave seen is =
-        let comes = comes-there w moves.goes (DomMoved d) i moves.enabled moves.home in
+        let comes = comes-there w moves.goes (DomMoved (domain_number d)) i moves.enabled moves.home in
         let same : comes.pool ≡ seen.pool = same-some (at_place s.pools i) comes.pool seen.pool comes.at (stands-there w i old stands ∙ ap pool_at is) in
-        subst (λ (p : Pool). enabled_in m.config.granularity s.now p (DomMoved d) ≡ true) same comes.enabled
+        subst (λ (p : Pool). enabled_in m.config.granularity s.now p (DomMoved (domain_number d)) ≡ true) same comes.enabled
 
     -- the pool that it has left
     abbrev taken : DomPart → Seen → Seen
@@ -355,11 +355,11 @@ module _ (w : Told) (t : ℕ) (route : DomainRoute) (moves : MovesDomain w t rou
         let gone : Seen = taken part f.0 in
         let made : new ≡ looked_at looks t (Some gone) = looked ∙ ap (looked_at looks t) (is ∙ ap (option_map (taken part)) f.1) in
         let pool : pool_at new ≡ at_place after_it.pools i =
-        ap pool_at made ∙ looked-pool looks t gone ∙ ap (λ (b : Bool). Some (cond b (settled t gone.pool) gone.pool)) (tells f.0 f.1) ∙ ap (λ (n : ℕ). Some (left_by n d f.0.pool)) moves.now
+        ap pool_at made ∙ looked-pool looks t gone ∙ ap (λ (b : Bool). Some (cond b (settled_pool t gone.pool) gone.pool)) (tells f.0 f.1) ∙ ap (λ (n : ℕ). Some (left_by n d f.0.pool)) moves.now
         ∙ sym (left-there ∙ ap (option_map (left_by s.now d)) f.2) in
         let fits : SlotSuits m s.now gone = record { granularity = (stands.suits f.0 f.1).granularity; latest = (stands.suits f.0 f.1).latest } in
         let suits : ForSome new (SlotSuits m s.now) = subst (λ (o : Option Seen). ForSome o (SlotSuits m s.now)) (sym made) (looked-suits m s.now t moves.now looks gone fits) in
-        stands-next w (tool_of m s) t (DomMoved d) begins (event_of m s s.now (DomMoved d)) refl i new stands.place pool suits now-there
+        stands-next w (tool_of m s) t (DomMoved (domain_number d)) begins (event_of m s s.now (DomMoved (domain_number d))) refl i new stands.place pool suits now-there
 
     pub has-left : (part : DomPart) → part.d ≡ route.d → ForSome old (λ seen. part.granularity ≡ seen.granularity) → ForSome old (λ seen. at_place seen.pool.domains d ≡ Some part.domain) → IsPart part → HasLeft w route part
     has-left part number granularity domain is =
@@ -411,7 +411,7 @@ module _ (w : Told) (t : ℕ) (route : DomainRoute) (moves : MovesDomain w t rou
 
       -- the pool that it has joined
       abbrev given : DomParams → Seen → Seen
-      given params seen = with_spare (seen.spare - unit_count part.granularity joining) (seen_at t (settled t (with_domain seen.granularity t part.d.0 joining params seen.pool)) seen)
+      given params seen = with_spare (seen.spare - unit_count part.granularity joining) (seen_at t (settled_pool t (with_domain seen.granularity t part.d.0 joining params seen.pool)) seen)
 
       pub stands-joined : (params : DomParams) (new : Option Seen) → ((records : Records) → kind_of records ≡ route.kind → params ≡ default_dom_params records) → new ≡ option_map (given params) old → StandsAt (told_moved w t route) j new
       stands-joined params new default is =
@@ -421,15 +421,15 @@ module _ (w : Told) (t : ℕ) (route : DomainRoute) (moves : MovesDomain w t rou
           let made : new ≡ Some here = is ∙ ap (option_map (given params)) f.1 in
           let pool : pool_at new ≡ at_place after_it.pools j =
           ap pool_at made
-          ∙ ap (λ (g : ℕ). Some (settled t (with_domain g t part.d.0 joining params f.0.pool))) suits.granularity
-          ∙ ap (λ (n : ℕ). Some (settled n (with_domain m.config.granularity n part.d.0 joining params f.0.pool))) moves.now
-          ∙ ap (λ (x : DomId). Some (settled s.now (with_domain m.config.granularity s.now x.0 joining params f.0.pool))) gone.number
-          ∙ ap (λ (x : Domain). Some (settled s.now (with_domain m.config.granularity s.now d (record x { moving = None }) params f.0.pool))) same-domain
-          ∙ ap (λ (p : DomParams). Some (settled s.now (with_domain m.config.granularity s.now d (record finds.domain { moving = None }) p f.0.pool))) (default f.0.pool.scheduler.records (kind-there f.0 f.1))
+          ∙ ap (λ (g : ℕ). Some (settled_pool t (with_domain g t part.d.0 joining params f.0.pool))) suits.granularity
+          ∙ ap (λ (n : ℕ). Some (settled_pool n (with_domain m.config.granularity n part.d.0 joining params f.0.pool))) moves.now
+          ∙ ap (λ (x : DomId). Some (settled_pool s.now (with_domain m.config.granularity s.now x.0 joining params f.0.pool))) gone.number
+          ∙ ap (λ (x : Domain). Some (settled_pool s.now (with_domain m.config.granularity s.now d (record x { moving = None }) params f.0.pool))) same-domain
+          ∙ ap (λ (p : DomParams). Some (settled_pool s.now (with_domain m.config.granularity s.now d (record finds.domain { moving = None }) p f.0.pool))) (default f.0.pool.scheduler.records (kind-there f.0 f.1))
           ∙ sym (joined-there ∙ ap (option_map (joined_by m.config.granularity s.now d finds.domain)) f.2) in
           let now = moves.now in
           let fits : SlotSuits m s.now here = record { granularity = suits.granularity; latest = omega (arith, now) } in
-          stands-next w (tool_of m s) t (DomMoved d) begins (event_of m s s.now (DomMoved d)) refl j new stands.place pool (λ x at. some-out (SlotSuits m s.now) here x (sym made ∙ at) fits) now-there
+          stands-next w (tool_of m s) t (DomMoved (domain_number d)) begins (event_of m s s.now (DomMoved (domain_number d))) refl j new stands.place pool (λ x at. some-out (SlotSuits m s.now) here x (sym made ∙ at) fits) now-there
 
   -- the tool after it
   module _ (tool : Tool) (known : tool_of m s ≡ tool) where
@@ -451,11 +451,11 @@ module _ (w : Told) (t : ℕ) (route : DomainRoute) (moves : MovesDomain w t rou
         sym (is ∙ ap ends (sym steps.free))
 
     pub acted-after : (new : Tool) → new ≡ but_for_free free (tool_of m after_it) → HasActed w i j (told_moved w t route) new
-    acted-after new is = acted w (tool_of m s) t (DomMoved d) begins (event_of m s s.now (DomMoved d)) refl i j new now-there others-there (known-after new is)
+    acted-after new is = acted w (tool_of m s) t (DomMoved (domain_number d)) begins (event_of m s s.now (DomMoved (domain_number d))) refl i j new now-there others-there (known-after new is)
 
     pub counts-after : (new : Tool) → new ≡ but_for_free free (tool_of m after_it) → KeepsCounts tool.part new.part
     counts-after new is =
-        let ended : arrived tool ≡ new = ap arrived (sym known) ∙ arrived-seen m s s.now (domain_to d j) free moves.way finds.ends ∙ sym is in
+        let ended : after_arrival tool ≡ new = ap after_arrival (sym known) ∙ arrived-seen m s s.now (domain_to d j) free moves.way finds.ends ∙ sym is in
         subst (λ (x : Tool). KeepsCounts tool.part x.part) ended (counts-arrived tool)
 
   -- the places of the two pools

@@ -27,12 +27,12 @@ use Rattle.sched_laws.proofs.EachPlace.{place_below}
 use Rattle.sched_laws.proofs.Opened.{each_get}
 use Rattle.sched_records.specs.Records.{HasRecords, IsRecorded}
 use Rattle.sched_records.proofs.Law.{has_records}
-use Rattle.sched_ops.specs.Told as told
 use Rattle.unit_state.specs.Seen as guests
 use Rattle.pool_core.specs.Domains.{unit_id}
 use Rattle.pool_core.specs.Params as params
 use Rattle.pool_core.specs.Seen.{Seen}
-use Rattle.cpupool.specs.Facts.{KeepsFacts, KeepsValues, rate_at, stored_from, stored_in, stored_of, units_at}
+use Rattle.cpupool.specs.Facts.{KeepsFacts, KeepsValues, rate_at, stored_from, stored_in, stored_at}
+use Rattle.sched_model.specs.Policy.{stored_of}
 use Rattle.cpupool.specs.Tool.{tool_of}
 use Rattle.pool_slots.specs.Told.{Told}
 use Rattle.pool_slots.specs.Places.{AllStand, GoesOn, SlotSuits, state_of}
@@ -41,22 +41,15 @@ use Rattle.pool_slots.proofs.Standing.{pool_at}
 use Rattle.machine_parts.specs.Parts.{AreParts}
 use Rattle.machine_parts.proofs.AtPlaces.{pool-anywhere}
 
--- the set values of a unit, as its scheduler tells them and as commands are judged by them
-stored-same : (records : Records) (d n : ℕ) → told.stored_of records (unit_id d n) ≡ stored_of records d n
-stored-same (Credit2Pool records) d n = refl
-stored-same (RtdsPool domains) d n = refl
-stored-same (ArincPool records) d n = refl
-stored-same (NullPool kept) d n = refl
-
 -- where each of the units has a value, these are all of them
 stored-all : (records : Records) (d first count : ℕ) (values : List Stored) → map Some values ≡ params.stored_units records d (numbers_from first count) → values ≡ stored_from records d first count
 stored-all records d first zero [] is = refl
 stored-all records d first zero (v ∷ values) is = absurd (cc)
 stored-all records d first (suc count) [] is = absurd (cc)
 stored-all records d first (suc count) (v ∷ values) is =
-    let head : Some v ≡ told.stored_of records (unit_id d first) = cc in
+    let head : Some v ≡ stored_of records (unit_id d first) = cc in
     let rest : map Some values ≡ params.stored_units records d (numbers_from (suc first) count) = cc in
-    let here : stored_of records d first ≡ Some v = sym (head ∙ stored-same records d first) in
+    let here : stored_of records (unit_id d first) ≡ Some v = sym head in
     ap (λ xs. v ∷ xs) (stored-all records d (suc first) count values rest)
     ∙ sym (ap (λ (o : Option Stored). elim o as (λ _. List Stored) [ None ↦ [] | Some x ↦ x ∷ stored_from records d (suc first) count ]) here)
 
@@ -89,11 +82,11 @@ units_by g d o = elim o [ None ↦ [] | Some pool ↦ units_in g pool d ]
 rate-is : (s : State) (i : PoolId) (d : Option DomId) → rate_at s (record { pool = Some i; dom = d }) ≡ rate_by (at_place s.pools i.0)
 rate-is s i d = refl
 
-units-are : (g : ℕ) (s : State) (i : PoolId) (d : Option DomId) → units_at g s (record { pool = Some i; dom = d }) ≡ units_by g d (at_place s.pools i.0)
+units-are : (g : ℕ) (s : State) (i : PoolId) (d : Option DomId) → stored_at g s (record { pool = Some i; dom = d }) ≡ units_by g d (at_place s.pools i.0)
 units-are g s i None = elim (at_place s.pools i.0) as (λ o. [] ≡ units_by g None o) [ None ↦ refl | Some pool ↦ refl ]
 units-are g s i (Some d) = refl
 
-no-units : (g : ℕ) (s : State) (d : Option DomId) → units_at g s (record { pool = None; dom = d }) ≡ []
+no-units : (g : ℕ) (s : State) (d : Option DomId) → stored_at g s (record { pool = None; dom = d }) ≡ []
 no-units g s None = refl
 no-units g s (Some d) = refl
 
@@ -101,8 +94,8 @@ no-units g s (Some d) = refl
 pub rate-nowhere : (s : State) (subject : Subject) → subject.pool ≡ None → 0 ≡ rate_at s subject
 rate-nowhere s subject none = sym (ap (λ (o : Option PoolId). rate_at s (record { pool = o; dom = subject.dom })) none)
 
-pub units-nowhere : (g : ℕ) (s : State) (subject : Subject) → subject.pool ≡ None → [] ≡ units_at g s subject
-units-nowhere g s subject none = sym (ap (λ (o : Option PoolId). units_at g s (record { pool = o; dom = subject.dom })) none ∙ no-units g s subject.dom)
+pub units-nowhere : (g : ℕ) (s : State) (subject : Subject) → subject.pool ≡ None → [] ≡ stored_at g s subject
+units-nowhere g s subject none = sym (ap (λ (o : Option PoolId). stored_at g s (record { pool = o; dom = subject.dom })) none ∙ no-units g s subject.dom)
 
 -- a subject with a pool, by its place
 module _ (w : Told) (slots : List (Option Seen)) (goes : GoesOn w) (all : AllStand w slots) (subject : Subject) (i : PoolId) (at : subject.pool ≡ Some i) where
@@ -121,8 +114,8 @@ module _ (w : Told) (slots : List (Option Seen)) (goes : GoesOn w) (all : AllSta
   rate-there : rate_at s subject ≡ rate_by (pool_at (at_place slots i.0))
   rate-there = ap (λ (o : Option PoolId). rate_at s (record { pool = o; dom = subject.dom })) at ∙ rate-is s i subject.dom ∙ ap rate_by there
 
-  units-there : units_at g s subject ≡ units_by g subject.dom (pool_at (at_place slots i.0))
-  units-there = ap (λ (o : Option PoolId). units_at g s (record { pool = o; dom = subject.dom })) at ∙ units-are g s i subject.dom ∙ ap (units_by g subject.dom) there
+  units-there : stored_at g s subject ≡ units_by g subject.dom (pool_at (at_place slots i.0))
+  units-there = ap (λ (o : Option PoolId). stored_at g s (record { pool = o; dom = subject.dom })) at ∙ units-are g s i subject.dom ∙ ap (units_by g subject.dom) there
 
   pub rate-told : (rate : ℕ) → ForSome (at_place slots i.0) (λ seen. rate ≡ rate_of seen.pool.scheduler.records) → (at_place slots i.0 ≡ None → rate ≡ 0) → rate ≡ rate_at s subject
   rate-told rate some none = by_slot (at_place slots i.0) refl ∙ sym rate-there
@@ -132,7 +125,7 @@ module _ (w : Told) (slots : List (Option Seen)) (goes : GoesOn w) (all : AllSta
       by_slot (Some seen) is = some seen is ∙ sym (ap (λ (x : Option Seen). rate_by (pool_at x)) is)
 
   pub units-told : (values : List Stored) → ForSome (at_place slots i.0) (λ seen. map Some values ≡ params.stored_in seen.granularity seen.pool.domains seen.pool.scheduler.records subject.dom)
-      → (at_place slots i.0 ≡ None → values ≡ []) → values ≡ units_at g s subject
+      → (at_place slots i.0 ≡ None → values ≡ []) → values ≡ stored_at g s subject
   units-told values some none = by_slot (at_place slots i.0) refl ∙ sym units-there
     where
       by_slot : (o : Option Seen) → at_place slots i.0 ≡ o → values ≡ units_by g subject.dom (pool_at (at_place slots i.0))
@@ -145,7 +138,7 @@ module _ (w : Told) (slots : List (Option Seen)) (goes : GoesOn w) (all : AllSta
           stored-in g seen.pool subject.dom values given ∙ sym (ap (λ (x : Option Seen). units_by g subject.dom (pool_at x)) is)
 
 -- where each of the units has a value, so many are kept
-stored-count : (records : Records) (d first count : ℕ) → ((n : ℕ) → n < first + count → (x : Stored) × (stored_of records d n ≡ Some x)) → length (stored_from records d first count) ≡ count
+stored-count : (records : Records) (d first count : ℕ) → ((n : ℕ) → n < first + count → (x : Stored) × (stored_of records (unit_id d n) ≡ Some x)) → length (stored_from records d first count) ≡ count
 stored-count records d first zero has = refl
 stored-count records d first (suc count) has =
     let here = has first (omega arith) in
@@ -157,7 +150,7 @@ item_below [] n low = absurd (omega (arith, low))
 item_below (y ∷ xs) zero low = (y, refl)
 item_below (y ∷ xs) (suc n) low = item_below xs n (omega (arith, low))
 
-stored-each : (records : Records) (d count : ℕ) → IsRecorded records d count → (n : ℕ) → n < 0 + count → (x : Stored) × (stored_of records d n ≡ Some x)
+stored-each : (records : Records) (d count : ℕ) → IsRecorded records d count → (n : ℕ) → n < 0 + count → (x : Stored) × (stored_of records (unit_id d n) ≡ Some x)
 stored-each (Credit2Pool records) d count kept n low = (stored.Credit2 kept.domain.weight kept.domain.cap, ap (option_map (λ (x : Credit2Domain). stored.Credit2 x.weight x.cap)) kept.at)
 stored-each (RtdsPool domains) d count kept n low =
     let item = item_below kept.records n (let same = kept.units in omega (arith, low, same)) in

@@ -20,7 +20,7 @@ use Rattle.sched_model.specs.Policy.{default_pool_params, kind_of}
 use Rattle.sched_laws.proofs.Bools.{and_right}
 use Rattle.sched_laws.proofs.EachPlace.{place_below}
 use Rattle.journal_core.specs.Parts.{ToolPart, outline_of, under_way_of, tool_of as part_of_tool}
-use Rattle.cpupool.specs.Advanced.{advanced, empty_outline}
+use Rattle.cpupool.specs.Advanced.{after_advance, empty_outline}
 use Rattle.cpupool.specs.Steps.{command_comes}
 use Rattle.cpupool.specs.Tool.{Tool, tool_of}
 use Rattle.cpupool.proofs.AdvanceLemmas.{advanced-seen}
@@ -78,11 +78,11 @@ module _ (m : Machine) (s : State) (t : ℕ) (enabled : is_enabled m s t Xl ≡ 
 
     -- what the tool keeps after an accepted command
     module _ (line : CommandLine) (p : Plan) (says : verdict m s line ≡ Ok p) (new : Tool) (told : new ≡ tool_of m (after_command m t line s)) where
-      pub advanced-is : new ≡ advanced tool p
-      advanced-is = told ∙ sym (advanced-seen m s idle t line p says) ∙ ap (λ (x : Tool). advanced x p) known
+      pub advanced-is : new ≡ after_advance tool p
+      advanced-is = told ∙ sym (advanced-seen m s idle t line p says) ∙ ap (λ (x : Tool). after_advance x p) known
 
 -- a plan that keeps the pools leaves the outlines
-pub pools-kept : (tool : Tool) (p : Plan) → KeepsPools p → (advanced tool p).part.pools ≡ tool.part.pools
+pub pools-kept : (tool : Tool) (p : Plan) → KeepsPools p → (after_advance tool p).part.pools ≡ tool.part.pools
 pools-kept tool (plan.PoolList pool answer) keeps = refl
 pools-kept tool (plan.PoolCreate i name kind answer) keeps = absurd keeps
 pools-kept tool (plan.PoolDestroy i answer) keeps = absurd keeps
@@ -97,10 +97,6 @@ pools-kept tool (plan.Pause d answer) keeps = refl
 pools-kept tool (plan.Unpause d answer) keeps = refl
 pools-kept tool (plan.ArincSet i frame answer) keeps = refl
 pools-kept tool (plan.Pin d unit cores answer) keeps = refl
-
--- one command more is over
-pub one-over : (tool : Tool) (p : Plan) → (advanced tool p).part.next_command ≡ suc tool.part.next_command
-one-over tool p = refl
 
 -- after a command that is refused, and after one that keeps the pools
 module _ (m : Machine) (now : ℕ) (tool new : Tool) (shelves : Shelves) (are : AreSpares m now tool.part shelves) where
@@ -171,8 +167,8 @@ module _ (w : Told) (slots : List (Option Seen)) (tool : Tool) (parts : AreParts
         pub parts-new : AreParts (xl_told w) (slice_set slots k slot) new
         parts-new = parts-carried w slots tool parts enabled accepted.line accepted.next p i.0 (slice_set slots k slot) new new-low accepted.accepted (ap (pool_of_plan s) makes.is) new-carried told
 
-        advanced-new : new ≡ advanced tool (plan.PoolCreate i makes.name kind makes.answer)
-        advanced-new = advanced-is m s s.now enabled tool parts.known accepted.line p accepted.accepted new told ∙ ap (advanced tool) makes.is
+        advanced-new : new ≡ after_advance tool (plan.PoolCreate i makes.name kind makes.answer)
+        advanced-new = advanced-is m s s.now enabled tool parts.known accepted.line p accepted.accepted new told ∙ ap (after_advance tool) makes.is
 
         pub spares-new : AreSpares m s.now new.part left
         spares-new =
@@ -235,8 +231,8 @@ module _ (w : Told) (slots : List (Option Seen)) (tool : Tool) (parts : AreParts
         pub parts-gone : AreParts (xl_told w) (slice_set slots k slot) new
         parts-gone = parts-carried w slots tool parts enabled accepted.line accepted.next p i.0 (slice_set slots k slot) new gone-low accepted.accepted (ap (pool_of_plan s) destroys.is) gone-carried told
 
-        advanced-gone : new ≡ advanced tool (plan.PoolDestroy i destroys.answer)
-        advanced-gone = advanced-is m s s.now enabled tool parts.known accepted.line p accepted.accepted new told ∙ ap (advanced tool) destroys.is
+        advanced-gone : new ≡ after_advance tool (plan.PoolDestroy i destroys.answer)
+        advanced-gone = advanced-is m s s.now enabled tool parts.known accepted.line p accepted.accepted new told ∙ ap (after_advance tool) destroys.is
 
         pub spares-gone : AreSpares m s.now new.part left
         spares-gone =

@@ -19,7 +19,7 @@ use Rattle.sched_model.specs.declared.state.State.{State}
 use Rattle.sched_model.specs.declared.work.StallLine.{StallLine}
 use Rattle.sched_model.specs.Actions.{change_pool, home_of_core}
 use Rattle.sched_model.specs.Checked.{IsCheckedStall}
-use Rattle.sched_model.specs.Machine.{after, after_stall, event_of, is_enabled, stall_end_of, stalled}
+use Rattle.sched_model.specs.Machine.{after, after_stall, event_of, is_enabled, stall_end_of, with_stall_end}
 use Rattle.sched_model.specs.Opening.{core_count}
 use Rattle.sched_model.specs.Places.{at_place, change_at, change_item}
 use Rattle.sched_model.specs.Pool.{change_processor, processor_of}
@@ -210,7 +210,7 @@ module _ (w : Told) (t : ℕ) (line : StallLine) (next : IsNextStall w t line No
     with_end : State → State
     with_end s = record s { free = change_at r (λ (c : FreeCore). record c { stall_ends = change_item (line.cpu.0 % w.input.config.granularity) (λ old. moment end.0) c.stall_ends }) s.free }
 
-    stalled-none : (s : State) → home_of_core s r ≡ None → stalled w.input.config.granularity line.cpu.0 end.0 s ≡ with_end s
+    stalled-none : (s : State) → home_of_core s r ≡ None → with_stall_end w.input.config.granularity line.cpu.0 end.0 s ≡ with_end s
     unfolding with_end
     stalled-none s none = ap (λ (o : Option ℕ). elim o as (λ _. State) [ None ↦ with_end s | Some i ↦ change_pool i (change_processor w.input.config.granularity line.cpu.0 (λ q. record q { stall_end = moment end.0 })) s ]) none
 
@@ -219,10 +219,10 @@ module _ (w : Told) (t : ℕ) (line : StallLine) (next : IsNextStall w t line No
     left-none =
         let s : State = state_of w in
         ap (λ (o : Option StallLine). elim o as (λ _. State) [ None ↦ s | Some l ↦ after_stall w.input.config.granularity s.now l s ]) next.line_is
-        ∙ ap (λ (e : Moment). let x : State = record (stalled w.input.config.granularity line.cpu.0 e.0 s) { next_stall = suc s.next_stall } in x) (sym end-none)
+        ∙ ap (λ (e : Moment). let x : State = record (with_stall_end w.input.config.granularity line.cpu.0 e.0 s) { next_stall = suc s.next_stall } in x) (sym end-none)
         ∙ ap (λ (x : State). let y : State = record x { next_stall = suc s.next_stall } in y) (stalled-none s next.home_is)
 
-    module _ (new : Tool) (left : new ≡ tool_of w.input (stalled w.input.config.granularity line.cpu.0 end.0 (counted_state w))) where
+    module _ (new : Tool) (left : new ≡ tool_of w.input (with_stall_end w.input.config.granularity line.cpu.0 end.0 (counted_state w))) where
       new-is : new ≡ tool_of w.input (with_end (counted_state w))
       new-is = left ∙ ap (tool_of w.input) (stalled-none (counted_state w) next.home_is)
 

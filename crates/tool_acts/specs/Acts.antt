@@ -28,9 +28,10 @@ pub record HasActed (w : Told) (i j : ℕ) (next : Told) (tool : Tool) : Type 0 
   pub known : tool_of next.input (state_of next) ≡ tool
   pub others : (k : ℕ) → k ≢ i → k ≢ j → k ≢ tool_lock → part_at next.input next.history k ≡ part_at w.input w.history k
 
--- the same of one pool; of none
+-- the same, where one pool changed
 abbrev pub HasActedOn : Told → ℕ → Told → Tool → Type 0
 HasActedOn w i next tool = HasActed w i i next tool
 
+-- the same, where no pool changed
 abbrev pub HasActedAlone : Told → Told → Tool → Type 0
 HasActedAlone w next tool = HasActed w tool_lock tool_lock next tool

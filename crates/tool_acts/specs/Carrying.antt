@@ -12,7 +12,7 @@ use Rattle.sched_model.specs.declared.work.CommandLine.{CommandLine}
 use Rattle.sched_model.specs.Machine.{event_of, verdict}
 use Rattle.sched_model.specs.Places.{at_place}
 use Rattle.sched_model.specs.Policy.{kind_of}
-use Rattle.sched_model.specs.Pool.{settled}
+use Rattle.sched_model.specs.Pool.{settled_pool}
 use Rattle.sched_ops.specs.Conditions.{IsChange}
 use Rattle.unit_state.specs.Seen.{units_at}
 use Rattle.pool_core.specs.Params.{AreGiven}
@@ -34,7 +34,7 @@ pub record IsAccepted (w : Told) (p : Plan) : Type 0 where
 
 -- the place with its pool changed at t, and its cores looked at
 abbrev pub changed_slot : ℕ → (Seen → Pool) → Option Seen → Option Seen
-changed_slot t f slot = option_map (λ (seen : Seen). seen_at t (settled t (f seen)) seen) slot
+changed_slot t f slot = option_map (λ (seen : Seen). seen_at t (settled_pool t (f seen)) seen) slot
 
 -- the place with its pool as a plan leaves it that neither makes nor destroys it
 abbrev pub carried_slot : Machine → ℕ → Plan → Option Seen → Option Seen

@@ -5,7 +5,7 @@ use Rattle.sched_model.specs.declared.action.Action.TheVariants.{DomMoved}
 use Rattle.sched_model.specs.Actions.{home_of_domain}
 use Rattle.sched_model.specs.Machine.{is_enabled, event_of}
 use Rattle.sched_model.specs.Places.{at_place}
-use Rattle.sched_model.specs.Pool.{settled}
+use Rattle.sched_model.specs.Pool.{settled_pool}
 use Rattle.journal_core.specs.Parts.{domain_to, tool_of as part_of_tool, under_way_of}
 use Rattle.cpupool.specs.Steps.{kind_at}
 use Rattle.unit_state.specs.Parts.{IsPart}
@@ -21,14 +21,14 @@ use Rattle.tool_acts.specs.declared.domains.DomainRoute.{DomainRoute}
 pub record MovesDomain (w : Told) (t : ℕ) (route : DomainRoute) : Type 0 where
   pub goes : GoesOn w
   pub now : t ≡ (state_of w).now
-  pub enabled : is_enabled w.input (state_of w) (state_of w).now (DomMoved route.d.0) ≡ true
+  pub enabled : is_enabled w.input (state_of w) (state_of w).now (DomMoved route.d) ≡ true
   pub home : home_of_domain (state_of w) route.d.0 ≡ Some route.from.0
   pub way : under_way_of (state_of w) ≡ Some (domain_to route.d.0 route.to.0)
   pub kind_is : route.kind ≡ kind_at (part_of_tool (state_of w)) route.to.0
 
 -- the trail with the entry of the domain's move at t
 abbrev pub told_moved : Told → ℕ → DomainRoute → Told
-told_moved w t route = told_event w t (event_of w.input (state_of w) (state_of w).now (DomMoved route.d.0))
+told_moved w t route = told_event w t (event_of w.input (state_of w) (state_of w).now (DomMoved route.d))
 
 -- what has left its pool: the domain of the route, as the pool had it
 pub record HasLeft (w : Told) (route : DomainRoute) (part : DomPart) : Type 0 where
@@ -39,4 +39,4 @@ pub record HasLeft (w : Told) (route : DomainRoute) (part : DomPart) : Type 0 wh
 
 -- the place with the cores of its pool looked at, where that is asked
 abbrev pub looked_at : Bool → ℕ → Option Seen → Option Seen
-looked_at looks t slot = (if looks then option_map (λ (seen : Seen). seen_at t (settled t seen.pool) seen) slot else slot)
+looked_at looks t slot = (if looks then option_map (λ (seen : Seen). seen_at t (settled_pool t seen.pool) seen) slot else slot)

@@ -30,7 +30,8 @@ fn remove(slot: &mut PoolSlot, r: ResId, t: Moment)
 /// A domain of the pool is moving to another one.
 fn migrate(slot: &mut PoolSlot, d: DomId, from: PoolId, to: PoolId, t: Moment)
     requires now { ForSome slot.old (λ seen. IsNow seen t.0) }
-    ensures { slot.new ≡ changed_slot t.0 (λ seen. (if from.0 == to.0 then seen.pool else set_moving d.0 to.0 seen.pool)) slot.old }
+    ensures { slot.new ≡ changed_slot t.0
+        (λ seen. (if from.0 == to.0 then seen.pool else set_moving d.0 to.0 seen.pool)) slot.old }
 {
     if from.0 == to.0 {
         slot.settle(t);
@@ -42,8 +43,11 @@ fn migrate(slot: &mut PoolSlot, d: DomId, from: PoolId, to: PoolId, t: Moment)
 /// The rate limit of the pool, in microseconds, where one is given.
 fn set_rate(slot: &mut PoolSlot, limit: Option<u32>, t: Moment)
     requires now { ForSome slot.old (λ seen. IsNow seen t.0) }
-    requires change { ForSome slot.old (λ seen. ForSome limit (λ us. TakesChange seen (changes.Rate us))) }
-    ensures { slot.new ≡ changed_slot t.0 (λ seen. elim limit as (λ _. Pool) [ None ↦ seen.pool | Some us ↦ set_params (changes.Rate us) t.0 seen.pool ]) slot.old }
+    requires change { ForSome slot.old (λ seen.
+        ForSome limit (λ us. TakesChange seen (changes.Rate us))) }
+    ensures { slot.new ≡ changed_slot t.0
+        (λ seen. elim limit as (λ _. Pool)
+        [ None ↦ seen.pool | Some us ↦ set_params (changes.Rate us) t.0 seen.pool ]) slot.old }
 {
     match limit {
         None => slot.settle(t),
@@ -55,8 +59,11 @@ fn set_rate(slot: &mut PoolSlot, limit: Option<u32>, t: Moment)
 fn set_units(slot: &mut PoolSlot, d: DomId, first: u8, count: u8, given: RtdsGiven, t: Moment)
     requires some { IsSome slot.old }
     requires now { ForSome slot.old (λ seen. IsNow seen t.0) }
-    requires takes { ForSome slot.old (λ seen. TakesUnits seen d.0 first count (AreGiven given.period given.budget)) }
-    ensures { slot.new ≡ changed_slot t.0 (λ seen. set_rtds t.0 d.0 given.period given.budget given.extra (numbers_from first count) seen.pool) slot.old }
+    requires takes { ForSome slot.old (λ seen.
+        TakesUnits seen d.0 first count (AreGiven given.period given.budget)) }
+    ensures { slot.new ≡ changed_slot t.0
+        (λ seen. set_rtds t.0 d.0 given.period given.budget given.extra (numbers_from first count)
+        seen.pool) slot.old }
 {
     slot.set_units(d, first, count, given, t);
 }
@@ -65,7 +72,8 @@ fn set_units(slot: &mut PoolSlot, d: DomId, first: u8, count: u8, given: RtdsGiv
 fn unpause(slot: &mut PoolSlot, at: &Trail, d: DomId, t: Moment)
     requires now { ForSome slot.old (λ seen. IsNow seen t.0) }
     requires suits { ForSome slot.old (SlotSuits at.now.input (state_of at.now).now) }
-    ensures { slot.new ≡ changed_slot t.0 (λ seen. unpause_spec at.now.input.config.granularity d.0 seen.pool) slot.old }
+    ensures { slot.new ≡ changed_slot t.0
+        (λ seen. unpause_spec at.now.input.config.granularity d.0 seen.pool) slot.old }
 {
     slot.unpause(d, t);
 }

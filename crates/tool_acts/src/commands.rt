@@ -76,7 +76,8 @@ fn home_of_plan(tool: &ToolState, at: &Trail, plan: &Plan) -> Option<PoolId>
 fn kind_of(slots: &[PoolSlot], tool: &ToolState, at: &Trail, i: PoolId) -> SchedKind
     requires parts { AreParts at.now slots.now tool.now }
     requires there { IsSome (at_place (state_of at.now).pools i.0) }
-    ensures { ForSome (at_place (state_of at.now).pools i.0) (λ pool. result ≡ kind_of_spec pool.scheduler.records) }
+    ensures { ForSome (at_place (state_of at.now).pools i.0)
+        (λ pool. result ≡ kind_of_spec pool.scheduler.records) }
 {
     let list = Command::PoolList {
         pool: Some(Which::Number(u64::from(i.0))),

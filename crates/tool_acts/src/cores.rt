@@ -24,10 +24,11 @@ pub fn join_core(
     i: PoolId,
     t: Moment,
 ) -> Event
-    requires begins { Begins at.now tool.old t.0 (Moved r.0) }
+    requires begins { Begins at.now tool.old t.0 (Moved r) }
     requires way { tool.old.part.under_way ≡ Some (core_to r.0 (Some i.0)) }
     requires stands { StandsAt at.now i.0 slot.old }
-    ensures event { result ≡ event_of at.now.input (state_of at.now) (state_of at.now).now (Moved r.0) }
+    ensures event { result ≡ event_of at.now.input (state_of at.now) (state_of at.now).now
+        (Moved r) }
     ensures stands { StandsAt (told_event at.now t.0 result) i.0 slot.new }
     ensures acted { HasActedOn at.now i.0 (told_event at.now t.0 result) tool.new }
     ensures counts { KeepsCounts tool.old.part tool.new.part }
@@ -47,11 +48,12 @@ pub fn leave_core(
     i: PoolId,
     t: Moment,
 ) -> Event
-    requires begins { Begins at.now tool.old t.0 (Moved r.0) }
+    requires begins { Begins at.now tool.old t.0 (Moved r) }
     requires way { tool.old.part.under_way ≡ Some (core_to r.0 None) }
     requires home { home_of_core (state_of at.now) r.0 ≡ Some i.0 }
     requires stands { StandsAt at.now i.0 slot.old }
-    ensures event { result ≡ event_of at.now.input (state_of at.now) (state_of at.now).now (Moved r.0) }
+    ensures event { result ≡ event_of at.now.input (state_of at.now) (state_of at.now).now
+        (Moved r) }
     ensures stands { StandsAt (told_event at.now t.0 result) i.0 slot.new }
     ensures acted { HasActedOn at.now i.0 (told_event at.now t.0 result) tool.new }
     ensures counts { KeepsCounts tool.old.part tool.new.part }
@@ -73,8 +75,10 @@ pub fn move_core(
 ) -> Event
     requires parts { AreParts at.now slots.old tool.old }
     requires now { t.0 ≡ (state_of at.now).now }
-    requires enabled { is_enabled at.now.input (state_of at.now) (state_of at.now).now (Moved r.0) ≡ true }
-    ensures event { result ≡ event_of at.now.input (state_of at.now) (state_of at.now).now (Moved r.0) }
+    requires enabled { is_enabled at.now.input (state_of at.now) (state_of at.now).now (Moved r)
+        ≡ true }
+    ensures event { result ≡ event_of at.now.input (state_of at.now) (state_of at.now).now
+        (Moved r) }
     ensures parts { AreParts (told_event at.now t.0 result) slots.new tool.new }
     ensures counts { KeepsCounts tool.old.part tool.new.part }
 {
@@ -103,9 +107,11 @@ fn leave_home(
 ) -> Event
     requires parts { AreParts at.now slots.old tool.old }
     requires now { t.0 ≡ (state_of at.now).now }
-    requires enabled { is_enabled at.now.input (state_of at.now) (state_of at.now).now (Moved r.0) ≡ true }
+    requires enabled { is_enabled at.now.input (state_of at.now) (state_of at.now).now (Moved r)
+        ≡ true }
     requires way { tool.old.part.under_way ≡ Some (core_to r.0 None) }
-    ensures event { result ≡ event_of at.now.input (state_of at.now) (state_of at.now).now (Moved r.0) }
+    ensures event { result ≡ event_of at.now.input (state_of at.now) (state_of at.now).now
+        (Moved r) }
     ensures parts { AreParts (told_event at.now t.0 result) slots.new tool.new }
     ensures counts { KeepsCounts tool.old.part tool.new.part }
 {

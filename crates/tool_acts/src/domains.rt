@@ -36,7 +36,8 @@ pub struct DomainRoute {
 
 /// The parameters with which a domain joins a pool of this scheduler.
 fn default_dom_params(kind: SchedKind) -> DomParams
-    ensures default { (records : Records) → kind_of records ≡ kind → result ≡ default_dom_params_spec records }
+    ensures default { (records : Records) → kind_of records ≡ kind → result
+        ≡ default_dom_params_spec records }
     ensures fit { AreDomParams kind result }
 {
     match kind {
@@ -57,7 +58,8 @@ fn default_dom_params(kind: SchedKind) -> DomParams
 /// Whether the pool has the null scheduler, as it tells of the first unit of a domain that is there.
 fn is_null(slot: &PoolSlot, d: DomId) -> bool
     requires some { IsSome slot.now }
-    requires units { ForSome slot.now (λ seen. 1 ≤ units_at seen.granularity (at_place seen.pool.domains d.0)) }
+    requires units { ForSome slot.now (λ seen. 1
+        ≤ units_at seen.granularity (at_place seen.pool.domains d.0)) }
     ensures { ForSome slot.now (λ seen. result ≡ is_null_spec seen.pool.scheduler.records) }
 {
     let facts = slot.facts(Some(d));
@@ -101,7 +103,7 @@ pub fn join_pool(slot: &mut PoolSlot, at: &Trail, route: DomainRoute, part: DomP
 
 /// The domain that is on its way, and where it comes from and goes to, where its move may come at t.
 pub fn route_of(tool: &ToolState, at: &Trail, d: DomId, t: Moment) -> DomainRoute
-    requires { Begins at.now tool.now t.0 (DomMoved d.0) }
+    requires { Begins at.now tool.now t.0 (DomMoved d) }
     ensures number { result.d ≡ d }
     ensures moves { MovesDomain at.now t.0 result }
 {
@@ -118,7 +120,8 @@ pub fn route_of(tool: &ToolState, at: &Trail, d: DomId, t: Moment) -> DomainRout
 pub fn end_move(tool: &mut ToolState, at: &Trail, route: DomainRoute, t: Moment) -> Event
     requires moves { MovesDomain at.now t.0 route }
     requires known { tool_of at.now.input (state_of at.now) ≡ tool.old }
-    ensures event { result ≡ event_of at.now.input (state_of at.now) (state_of at.now).now (DomMoved route.d.0) }
+    ensures event { result ≡ event_of at.now.input (state_of at.now) (state_of at.now).now
+        (DomMoved route.d) }
     ensures acted { HasActed at.now route.from.0 route.to.0 (told_moved at.now t.0 route) tool.new }
     ensures counts { KeepsCounts tool.old.part tool.new.part }
 {
@@ -142,10 +145,12 @@ pub fn move_between(
     requires known { tool_of at.now.input (state_of at.now) ≡ tool.old }
     requires leaves { StandsAt at.now route.from.0 from.old }
     requires joins { StandsAt at.now route.to.0 to.old }
-    ensures event { result ≡ event_of at.now.input (state_of at.now) (state_of at.now).now (DomMoved route.d.0) }
+    ensures event { result ≡ event_of at.now.input (state_of at.now) (state_of at.now).now
+        (DomMoved route.d) }
     ensures left { StandsAt (told_event at.now t.0 result) route.from.0 from.new }
     ensures joined { StandsAt (told_event at.now t.0 result) route.to.0 to.new }
-    ensures acted { HasActed at.now route.from.0 route.to.0 (told_event at.now t.0 result) tool.new }
+    ensures acted { HasActed at.now route.from.0 route.to.0 (told_event at.now t.0 result)
+        tool.new }
     ensures counts { KeepsCounts tool.old.part tool.new.part }
 {
     let part = leave_pool(from, at, route, t);
@@ -164,8 +169,10 @@ pub fn move_domain(
 ) -> Event
     requires parts { AreParts at.now slots.old tool.old }
     requires now { t.0 ≡ (state_of at.now).now }
-    requires enabled { is_enabled at.now.input (state_of at.now) (state_of at.now).now (DomMoved d.0) ≡ true }
-    ensures event { result ≡ event_of at.now.input (state_of at.now) (state_of at.now).now (DomMoved d.0) }
+    requires enabled { is_enabled at.now.input (state_of at.now) (state_of at.now).now (DomMoved d)
+        ≡ true }
+    ensures event { result ≡ event_of at.now.input (state_of at.now) (state_of at.now).now
+        (DomMoved d) }
     ensures parts { AreParts (told_event at.now t.0 result) slots.new tool.new }
     ensures counts { KeepsCounts tool.old.part tool.new.part }
 {

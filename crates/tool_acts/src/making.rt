@@ -15,7 +15,8 @@ use sched_model::config::SchedKind;
 pub(crate) fn create(slot: &mut PoolSlot, spares: &mut Spares, at: &Trail, kind: SchedKind)
     requires empty { slot.old ≡ None }
     requires some { 0 < length (shelf_of kind spares.old).pools }
-    requires suit { All (IsSpare at.now.input (state_of at.now).now kind) (shelf_of kind spares.old).pools }
+    requires suit { All (IsSpare at.now.input (state_of at.now).now kind)
+        (shelf_of kind spares.old).pools }
     ensures { HasMade at.now.input (state_of at.now).now kind spares.old spares.new slot.new }
 {
     let spare = spares.take(kind);

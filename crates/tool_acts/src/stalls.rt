@@ -23,7 +23,8 @@ pub fn stall_in(slot: &mut PoolSlot, at: &Trail, i: u8, line: StallLine, t: Mome
     requires stands { StandsAt at.now i slot.old }
     ensures event { result ≡ event_of at.now.input (state_of at.now) (state_of at.now).now Stall }
     ensures stands { StandsAt (told_event at.now t.0 result) i slot.new }
-    ensures acted { HasActedOn at.now i (told_event at.now t.0 result) (one_stall_more (tool_of at.now.input (state_of at.now))) }
+    ensures acted { HasActedOn at.now i (told_event at.now t.0 result)
+        (one_stall_more (tool_of at.now.input (state_of at.now))) }
 {
     let until = slot.stall(line.cpu, Moment(t.0 + line.span.0));
     Event::Stall { p: line.cpu, until }
@@ -47,7 +48,8 @@ pub fn stall(slots: &mut [PoolSlot], tool: &mut ToolState, at: &Trail, g: u8, t:
     requires parts { AreParts at.now slots.old tool.old }
     requires granularity { g ≡ at.now.input.config.granularity }
     requires now { t.0 ≡ (state_of at.now).now }
-    requires enabled { is_enabled at.now.input (state_of at.now) (state_of at.now).now Stall ≡ true }
+    requires enabled { is_enabled at.now.input (state_of at.now) (state_of at.now).now Stall
+        ≡ true }
     ensures event { result ≡ event_of at.now.input (state_of at.now) (state_of at.now).now Stall }
     ensures parts { AreParts (told_event at.now t.0 result) slots.new tool.new }
     ensures counts { KeepsCounts tool.old.part tool.new.part }

@@ -4,7 +4,7 @@ ghost use Rattle.std.specs.Prelude.{◌≡◌, [], Some, slice_get};
 ghost use Rattle.sched_model.specs.Checked.{IsCheckedCommand};
 ghost use Rattle.sched_model.specs.Commands.{judge};
 ghost use Rattle.sched_model.specs.Machine.{verdict};
-ghost use Rattle.cpupool.specs.Facts.{rate_at, units_at};
+ghost use Rattle.cpupool.specs.Facts.{rate_at, stored_at};
 ghost use Rattle.pool_slots.specs.Places.{AllStand, GoesOn, state_of};
 ghost use Rattle.machine_parts.specs.Parts.{AreParts};
 
@@ -33,7 +33,8 @@ fn facts_of(slots: &[PoolSlot], at: &Trail, subject: Subject) -> Facts
     requires goes { GoesOn at.now }
     requires stand { AllStand at.now slots.now }
     ensures rate { result.rate ≡ rate_at (state_of at.now) subject }
-    ensures units { result.units ≡ units_at at.now.input.config.granularity (state_of at.now) subject }
+    ensures units { result.units ≡ stored_at at.now.input.config.granularity (state_of at.now)
+        subject }
 {
     let Some(pool) = subject.pool else {
         return no_facts();
@@ -69,7 +70,8 @@ pub(crate) fn verdict_of(
     line: &CommandLine,
 ) -> Result<Plan, Refusal>
     requires parts { AreParts at.now slots.now tool.now }
-    requires next { slice_get at.now.input.work.commands (state_of at.now).next_command ≡ Some line.now }
+    requires next { slice_get at.now.input.work.commands (state_of at.now).next_command
+        ≡ Some line.now }
     ensures { result ≡ verdict at.now.input (state_of at.now) line.now }
 {
     match &line.command {

@@ -3,7 +3,7 @@ use Rattle.std.proofs.Common.{◌≡◌, ◌<◌, ◌≤◌, ◌+◌, ◌-◌, �
 use Rattle.std.specs.Prelude.{decimal, if◌then◌else◌, nat_lt, ◌==◌}
 use Rattle.std.proofs.Math.Nat.{mod-lt, mul-le-mul_left}
 use Rattle.std.proofs.lemmas.Fmt.{length-decimal-le}
-use Rattle.work_file.specs.Load.{script_text, guests_text, params_text, name_text, home_text, domain_text, domains_text, next_number_text, numbers_text, second_pool_text, top_text, pools_text, load_domains, is_rt, drawn, after_draw, after_guests, after_script, after_domains}
+use Rattle.work_file.specs.Load.{script_text, guests_text, params_text, name_text, home_text, domain_text, domains_text, next_number_text, numbers_text, second_pool_text, top_text, pools_text, load_domains, is_rt, drawn_value, after_draw, after_guests, after_script, after_domains}
 
 -- a text has at most so many bytes
 record IsShort (n : ℕ) (t : List ℕ) : Type 0 where
@@ -26,14 +26,14 @@ either false p q = q
 number : (n : ℕ) → n < 10 ^ 10 → IsShort 10 (decimal n)
 number n small = record { most = length-decimal-le 10 n (omega arith) small (omega (arith, small)) }
 
-span : (k c x : ℕ) → 0 < k → k ≤ 50 → c ≤ 100000 → IsShort 10 (decimal (c * (1 + drawn k x)))
+span : (k c x : ℕ) → 0 < k → k ≤ 50 → c ≤ 100000 → IsShort 10 (decimal (c * (1 + drawn_value k x)))
 span k c x some few less =
-    let most : drawn k x < k = mod-lt (x / 65536) some in
-    let sum : 1 + drawn k x ≤ 50 = omega (arith, most, few) in
-    let product : c * (1 + drawn k x) ≤ c * 50 = mul-le-mul_left c sum in
-    number (c * (1 + drawn k x)) (omega (arith, product, less))
+    let most : drawn_value k x < k = mod-lt (x / 65536) some in
+    let sum : 1 + drawn_value k x ≤ 50 = omega (arith, most, few) in
+    let product : c * (1 + drawn_value k x) ≤ c * 50 = mul-le-mul_left c sum in
+    number (c * (1 + drawn_value k x)) (omega (arith, product, less))
 
-millis : (x : ℕ) → IsShort 10 (decimal (100000 * (1 + drawn 50 x)))
+millis : (x : ℕ) → IsShort 10 (decimal (100000 * (1 + drawn_value 50 x)))
 millis x = span 50 100000 x (omega arith) (omega arith) (omega arith)
 
 script : (x : ℕ) → IsShort 24 (script_text x)
@@ -48,7 +48,7 @@ two_scripts x y = both (both (both (both (exactly (codes "guests = [")) (script 
 
 guests : (x : ℕ) → IsShort 62 (guests_text x)
 unfolding guests_text
-guests x = either (drawn 2 (after_draw x) == 0) (one_script (after_draw x)) (two_scripts (after_draw x) (after_script (after_draw x)))
+guests x = either (drawn_value 2 (after_draw x) == 0) (one_script (after_draw x)) (two_scripts (after_draw x) (after_script (after_draw x)))
 
 params : (rt : Bool) (x : ℕ) → IsShort 50 (params_text rt x)
 unfolding params_text

@@ -7,15 +7,15 @@ abbrev pub after_draw : ℕ → ℕ
 after_draw x = (x * 1103515245 + 12345) % 2 ^ 31
 
 -- the value, below k, of the draw that led to this state
-abbrev pub drawn : ℕ → ℕ → ℕ
-drawn k x = x / 65536 % k
+abbrev pub drawn_value : ℕ → ℕ → ℕ
+drawn_value k x = x / 65536 % k
 
 -- the script of a vCPU, one span of running and one of sleep, by the two draws behind this state
 unfoldable pub script_text : ℕ → List ℕ
 script_text x =
     let run = after_draw x in
     let sleep = after_draw run in
-    codes "[" ++ decimal (100000 * (1 + drawn 50 run)) ++ codes ", " ++ decimal (100000 * (1 + drawn 50 sleep)) ++ codes "]"
+    codes "[" ++ decimal (100000 * (1 + drawn_value 50 run)) ++ codes ", " ++ decimal (100000 * (1 + drawn_value 50 sleep)) ++ codes "]"
 
 -- the state behind a script's draws
 abbrev pub after_script : ℕ → ℕ
@@ -25,7 +25,7 @@ after_script x = after_draw (after_draw x)
 unfoldable pub guests_text : ℕ → List ℕ
 guests_text x =
     let count = after_draw x in
-    if drawn 2 count == 0
+    if drawn_value 2 count == 0
     then codes "guests = [" ++ script_text count ++ codes "]\n"
     else codes "guests = [" ++ script_text count ++ codes ", " ++ script_text (after_script count) ++ codes "]\n"
 
@@ -33,7 +33,7 @@ guests_text x =
 unfoldable pub after_guests : ℕ → ℕ
 after_guests x =
     let count = after_draw x in
-    if drawn 2 count == 0 then after_script count else after_script (after_script count)
+    if drawn_value 2 count == 0 then after_script count else after_script (after_script count)
 
 -- each fourth domain has its home in the second pool, where there is one
 abbrev pub is_rt : ℕ → ℕ → Bool
@@ -41,8 +41,8 @@ is_rt processors i = nat_lt 1 processors && i % 4 == 3
 
 -- the lines of a domain's scheduler, by the draw behind this state
 unfoldable pub params_text : Bool → ℕ → List ℕ
-params_text false x = codes "weight = " ++ decimal (64 * (1 + drawn 8 (after_draw x))) ++ codes "\n"
-params_text true x = codes "period_us = 10000\nbudget_us = " ++ decimal (1000 * (1 + drawn 5 (after_draw x))) ++ codes "\n"
+params_text false x = codes "weight = " ++ decimal (64 * (1 + drawn_value 8 (after_draw x))) ++ codes "\n"
+params_text true x = codes "period_us = 10000\nbudget_us = " ++ decimal (1000 * (1 + drawn_value 5 (after_draw x))) ++ codes "\n"
 
 -- the name of domain i
 unfoldable pub name_text : ℕ → List ℕ
@@ -98,7 +98,7 @@ unfoldable pub stall_text : ℕ → ℕ → ℕ → List ℕ
 stall_text processors k x =
     let cpu = after_draw x in
     let span = after_draw cpu in
-    decimal (9000000 * k) ++ codes " stall " ++ decimal (drawn processors cpu) ++ codes " " ++ decimal (100000 * (1 + drawn 30 span)) ++ codes "\n"
+    decimal (9000000 * k) ++ codes " stall " ++ decimal (drawn_value processors cpu) ++ codes " " ++ decimal (100000 * (1 + drawn_value 30 span)) ++ codes "\n"
 
 -- the state behind the draws of the first n stalls
 unfoldable pub after_stalls : ℕ → ℕ → ℕ

@@ -17,13 +17,13 @@ abbrev pub before : Reading → Before
 before r = record { line = r.line; last = r.last.0; stalls = length r.stalls; commands = length r.commands }
 
 -- the work behind these stalls and commands
-abbrev pub joined : List StallLine → List CommandLine → Result Work WorkFault → Result Work WorkFault
-joined stalls commands (Ok w) = Ok (record { stalls = stalls ++ w.stalls; commands = commands ++ w.commands })
-joined stalls commands (Err fault) = Err fault
+abbrev pub joined_work : List StallLine → List CommandLine → Result Work WorkFault → Result Work WorkFault
+joined_work stalls commands (Ok w) = Ok (record { stalls = stalls ++ w.stalls; commands = commands ++ w.commands })
+joined_work stalls commands (Err fault) = Err fault
 
 -- the work of what is read and of more lines, or the first fault
 abbrev pub work_from : Config → Reading → List (List ℕ) → Result Work WorkFault
-work_from config r lines = joined r.stalls r.commands (work_behind config (before r) lines)
+work_from config r lines = joined_work r.stalls r.commands (work_behind config (before r) lines)
 
 -- the fault is that of the line with this number, unless memory was wanted
 abbrev pub IsLineFault : WorkFault → ℕ → Option WorkCause → Type 0

@@ -1,7 +1,7 @@
 //! Texts that are made from a number: a domain file and a work file of any size.
 
 ghost use Rattle.std.specs.Prelude.{◌≡◌, ◌+◌, ◌-◌, ◌<◌, ◌≤◌, ◌^◌, ◌++◌, Bool, length, IfOk, OnOk};
-ghost use Rattle.work_file.specs.Load.{after_draw, drawn, script_text, after_script, guests_text, after_guests, is_rt as rt, params_text, name_text, home_text, domain_text, after_domain, domains_text, after_domains, next_number_text, numbers_text, top_text, second_pool_text, pools_text, stall_text, after_stalls, stalls_text, load_domains, load_work};
+ghost use Rattle.work_file.specs.Load.{after_draw, drawn_value, script_text, after_script, guests_text, after_guests, is_rt as rt, params_text, name_text, home_text, domain_text, after_domain, domains_text, after_domains, next_number_text, numbers_text, top_text, second_pool_text, pools_text, stall_text, after_stalls, stalls_text, load_domains, load_work};
 ghost use Rattle.sched_model.specs.Checked.{IsWithin};
 
 use sched_base::NoMemory;
@@ -20,7 +20,7 @@ impl Draws {
         requires state { self.old.state < 2 ^ 31 }
         ensures state { self.new.state ≡ after_draw self.old.state }
         ensures small { self.new.state < 2 ^ 31 }
-        ensures value { result ≡ drawn k self.new.state }
+        ensures value { result ≡ drawn_value k self.new.state }
         ensures below { result < k }
     {
         let next = (u64::from(self.state) * 1_103_515_245 + 12_345) % 0x8000_0000;
@@ -79,7 +79,8 @@ fn put_params(
     is_rt: bool,
 ) -> Result<(), NoMemory>
     requires { draws.old.state < 2 ^ 31 }
-    ensures text { OnOk result (out.new.items ≡ out.old.items ++ params_text is_rt draws.old.state) }
+    ensures text { OnOk result (out.new.items ≡ out.old.items
+        ++ params_text is_rt draws.old.state) }
     ensures state { draws.new.state ≡ after_draw draws.old.state }
     ensures small { draws.new.state < 2 ^ 31 }
 {
@@ -131,7 +132,8 @@ fn put_domain(
     i: u8,
 ) -> Result<(), NoMemory>
     requires { draws.old.state < 2 ^ 31 }
-    ensures text { OnOk result (out.new.items ≡ out.old.items ++ domain_text processors i draws.old.state) }
+    ensures text { OnOk result (out.new.items ≡ out.old.items
+        ++ domain_text processors i draws.old.state) }
     ensures state { OnOk result (draws.new.state ≡ after_domain draws.old.state) }
     ensures small { draws.new.state < 2 ^ 31 }
 {
@@ -152,7 +154,8 @@ fn put_domains(
     domains: u8,
 ) -> Result<(), NoMemory>
     requires { draws.old.state < 2 ^ 31 }
-    ensures text { OnOk result (out.new.items ≡ out.old.items ++ domains_text processors domains draws.old.state) }
+    ensures text { OnOk result (out.new.items ≡ out.old.items
+        ++ domains_text processors domains draws.old.state) }
     ensures state { OnOk result (draws.new.state ≡ after_domains domains draws.old.state) }
     ensures small { draws.new.state < 2 ^ 31 }
 {
@@ -229,7 +232,8 @@ fn put_stall(
 ) -> Result<(), NoMemory>
     requires processors { 1 ≤ processors }
     requires state { draws.old.state < 2 ^ 31 }
-    ensures text { OnOk result (out.new.items ≡ out.old.items ++ stall_text processors k draws.old.state) }
+    ensures text { OnOk result (out.new.items ≡ out.old.items
+        ++ stall_text processors k draws.old.state) }
     ensures state { draws.new.state ≡ after_script draws.old.state }
     ensures small { draws.new.state < 2 ^ 31 }
 {
@@ -252,7 +256,8 @@ fn put_stalls(
     requires processors { 1 ≤ processors }
     requires count { count < 255 }
     requires state { draws.old.state < 2 ^ 31 }
-    ensures text { OnOk result (out.new.items ≡ out.old.items ++ stalls_text processors count draws.old.state) }
+    ensures text { OnOk result (out.new.items ≡ out.old.items
+        ++ stalls_text processors count draws.old.state) }
 {
     for k in 0..count {
         put_stall(alloc, out, draws, processors, k + 1)?;

@@ -42,9 +42,17 @@ impl Reading {
     /// Adds a stall.
     fn add_stall(&mut self, stall: StallLine) -> Result<(), WorkFault>
         requires { length self.old.stalls ≤ 4096 }
-        ensures ok { OnOk result (self.new ≡ record self.old { line = next_line self.old.line; last = stall.at; stalls = self.old.stalls ++ stall ∷ [] }) }
-        ensures place { OnOk result (fault_at self.old.last.0 (length self.old.stalls) stall.at.0 ≡ None) }
-        ensures fault { IfErr result (λ fault. IsLineFault fault self.old.line (fault_at self.old.last.0 (length self.old.stalls) stall.at.0)) }
+        ensures ok { OnOk result (self.new
+            ≡ record self.old {
+              line = next_line self.old.line;
+              last = stall.at;
+              stalls = self.old.stalls ++ stall ∷ [];
+            }) }
+        ensures place { OnOk result (fault_at self.old.last.0 (length self.old.stalls) stall.at.0
+            ≡ None) }
+        ensures fault { IfErr result (λ fault.
+            IsLineFault fault self.old.line
+            (fault_at self.old.last.0 (length self.old.stalls) stall.at.0)) }
     {
         if let Some(cause) = place_fault(self.last, self.stalls.len(), stall.at) {
             return Err(WorkFault::Bad {
@@ -63,9 +71,17 @@ impl Reading {
     /// Adds a command.
     fn add_command(&mut self, command: CommandLine) -> Result<(), WorkFault>
         requires { length self.old.commands ≤ 4096 }
-        ensures ok { OnOk result (self.new ≡ record self.old { line = next_line self.old.line; last = command.at; commands = self.old.commands ++ command ∷ [] }) }
-        ensures place { OnOk result (fault_at self.old.last.0 (length self.old.commands) command.at.0 ≡ None) }
-        ensures fault { IfErr result (λ fault. IsLineFault fault self.old.line (fault_at self.old.last.0 (length self.old.commands) command.at.0)) }
+        ensures ok { OnOk result (self.new
+            ≡ record self.old {
+              line = next_line self.old.line;
+              last = command.at;
+              commands = self.old.commands ++ command ∷ [];
+            }) }
+        ensures place { OnOk result (fault_at self.old.last.0 (length self.old.commands)
+            command.at.0 ≡ None) }
+        ensures fault { IfErr result (λ fault.
+            IsLineFault fault self.old.line
+            (fault_at self.old.last.0 (length self.old.commands) command.at.0)) }
     {
         let at = command.at;
         if let Some(cause) = place_fault(self.last, self.commands.len(), at) {
@@ -85,9 +101,12 @@ impl Reading {
     /// Reads one line more.
     pub(crate) fn take(&mut self, config: &Config, line: &[u8]) -> Result<(), WorkFault>
         requires { IsCheckedReading config.now self.old }
-        ensures ok { OnOk result ((lines : List (List ℕ)) → work_from config.now self.old (line.now ∷ lines) ≡ work_from config.now self.new lines) }
+        ensures ok { OnOk result ((lines : List (List ℕ)) →
+            work_from config.now self.old (line.now ∷ lines)
+            ≡ work_from config.now self.new lines) }
         ensures checked { OnOk result (IsCheckedReading config.now self.new) }
-        ensures fault { IfErr result (λ fault. (lines : List (List ℕ)) → IsFault fault (work_from config.now self.old (line.now ∷ lines))) }
+        ensures fault { IfErr result (λ fault. (lines : List (List ℕ)) →
+            IsFault fault (work_from config.now self.old (line.now ∷ lines))) }
     {
         match read_line(config, line) {
             Err(cause) => Err(WorkFault::Bad {
@@ -107,7 +126,8 @@ impl Reading {
     pub(crate) fn finish(mut self, config: &Config, line: &[u8]) -> Result<Work, WorkFault>
         requires { IsCheckedReading config.now self }
         ensures work { IfOk result (λ work. work_from config.now self (line.now ∷ []) ≡ Ok work) }
-        ensures fault { IfErr result (λ fault. IsFault fault (work_from config.now self (line.now ∷ []))) }
+        ensures fault { IfErr result (λ fault.
+            IsFault fault (work_from config.now self (line.now ∷ []))) }
         ensures checked { IfOk result (IsCheckedWork config.now) }
     {
         match self.take(config, line) {

@@ -81,19 +81,6 @@ pub handed_nothing : (answer : Status) (old new : ℕ) (result : Status) → IsH
 handed_nothing answer old new result (inl is) none = subst PutsNothing is none
 handed_nothing answer old new result (inr cut) none = absurd (subst PutsNothing cut.0 none)
 
--- the sink is as before, or all was put, unless it failed
-pub puts_or_not : {P : Type 0} (answer : Status) → (PutsNothing answer → P) → (PutsWhole answer → P) → (answer ≡ status.WriteFault → P) → P
-puts_or_not {P} status.Ok nothing whole fault = whole tt
-puts_or_not {P} (status.Full n) nothing whole fault = whole tt
-puts_or_not {P} (status.NotRun k) nothing whole fault = whole tt
-puts_or_not {P} status.WriteFault nothing whole fault = fault refl
-puts_or_not {P} status.NoMemory nothing whole fault = nothing tt
-puts_or_not {P} status.ReadFault nothing whole fault = nothing tt
-puts_or_not {P} status.BadToml nothing whole fault = nothing tt
-puts_or_not {P} (status.BadDomains f) nothing whole fault = nothing tt
-puts_or_not {P} (status.BadWork f) nothing whole fault = nothing tt
-puts_or_not {P} status.Usage nothing whole fault = nothing tt
-
 -- a status with which all was put is the one before
 pub handed_whole : (answer : Status) (old new : ℕ) (result : Status) → IsHandedOn answer old new result → PutsWhole result → PutsWhole answer
 handed_whole answer old new result (inl is) whole = subst PutsWhole is whole

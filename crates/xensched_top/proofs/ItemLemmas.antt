@@ -29,9 +29,6 @@ pub record PutSoFar {X : Type 0} (f : X → List ℕ) (items : List X) (before n
   pub adds : Adds before now (flat_map f (take i items))
   pub counts : old ≤ new
 
-pub put_starts : {X : Type 0} (f : X → List ℕ) (items : List X) (before : Option (List ℕ)) (count : ℕ) → PutSoFar f items before before count count 0
-put_starts f items before count = record { adds = adds_nothing before; counts = omega arith }
-
 pub put_more : {X : Type 0} {f : X → List ℕ} {items : List X} {before now after : Option (List ℕ)} {old new newer i : ℕ} (x : X) (piece : List ℕ) →
     PutSoFar f items before now old new i → slice_get items i ≡ Some x → piece ≡ f x → Adds now after piece → new ≤ newer → PutSoFar f items before after old newer (i + 1)
 put_more {X} {f} {items} {before} {now} {after} {old} {new} {newer} {i} x piece far found is put risen = record {

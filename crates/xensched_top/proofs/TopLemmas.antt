@@ -10,7 +10,7 @@ use Rattle.sched_model.specs.declared.machine.Machine.{Machine}
 use Rattle.xensched_top.specs.declared.status.Status.{Status}
 use Rattle.xensched_top.specs.declared.status.Status.TheVariants as status
 use Rattle.work_file.specs.declared.fault.WorkFault.{WorkFault}
-use Rattle.command_line.specs.Commands.{asked, command_of}
+use Rattle.command_line.specs.Commands.{asked_of as asked, command_of}
 use Rattle.command_line.specs.declared.command.Command.{Command}
 use Rattle.sched_io.specs.Faults.{Rose}
 use Rattle.sched_io.specs.Puts.{Adds, AddsPart}

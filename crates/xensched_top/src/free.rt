@@ -56,7 +56,8 @@ fn make_run<R: Threads + Wait + Sync>(
 /// Writes the entries of the book, one put a line.
 fn put_entries<K: Sink>(book: &Book, sink: &mut K) -> Result<(), Failed>
     ensures whole { OnOk result (Adds (K.told sink.old) (K.told sink.new) (text book.now.history)) }
-    ensures part { OnErr result (AddsPart (K.told sink.old) (K.told sink.new) (text book.now.history)) }
+    ensures part { OnErr result (AddsPart (K.told sink.old) (K.told sink.new)
+        (text book.now.history)) }
     ensures counts { K.faults sink.old ≤ K.faults sink.new }
     ensures cause { OnErr result (Rose (K.faults sink.old) (K.faults sink.new)) }
 {
@@ -82,7 +83,9 @@ fn add_entries(book: &Book, report: &mut Report)
 
 /// Writes the schedule of a run that has ended so, with at most this many entries.
 fn put_schedule<K: Sink>(book: &Book, end: RunEnd, limit: u32, sink: &mut K) -> Status
-    ensures written { (m : Machine) → HasEnded end false limit m book.now.history → Writes false Form.Schedule limit m (K.told sink.old) (K.told sink.new) (K.faults sink.old) (K.faults sink.new) result }
+    ensures written { (m : Machine) → HasEnded end false limit m book.now.history →
+        Writes false Form.Schedule limit m (K.told sink.old) (K.told sink.new) (K.faults sink.old)
+        (K.faults sink.new) result }
     ensures nothing { PutsNothing result → sink.new ≡ sink.old }
     ensures counts { K.faults sink.old ≤ K.faults sink.new }
 {
@@ -102,7 +105,8 @@ fn write_schedule<R: Threads + Wait + Sync, K: Sink>(
 ) -> Status
     requires checked { IsChecked machine.now }
     requires limit { IsWithin 1 4000000 limit }
-    ensures written { Writes false Form.Schedule limit machine.now (K.told sink.old) (K.told sink.new) (K.faults sink.old) (K.faults sink.new) result }
+    ensures written { Writes false Form.Schedule limit machine.now (K.told sink.old)
+        (K.told sink.new) (K.faults sink.old) (K.faults sink.new) result }
     ensures nothing { PutsNothing result → sink.new ≡ sink.old }
     ensures counts { K.faults sink.old ≤ K.faults sink.new }
 {
@@ -125,7 +129,9 @@ fn put_run_report<K: Sink>(
     sink: &mut K,
 ) -> Status
     requires empty { report.old.entries ≡ [] }
-    ensures written { (m : Machine) → HasEnded end false limit m book.now.history → report.old.config ≡ m.config → Writes false Form.Report limit m (K.told sink.old) (K.told sink.new) (K.faults sink.old) (K.faults sink.new) result }
+    ensures written { (m : Machine) → HasEnded end false limit m book.now.history →
+        report.old.config ≡ m.config → Writes false Form.Report limit m (K.told sink.old)
+        (K.told sink.new) (K.faults sink.old) (K.faults sink.new) result }
     ensures nothing { PutsNothing result → sink.new ≡ sink.old }
     ensures counts { K.faults sink.old ≤ K.faults sink.new }
 {
@@ -149,7 +155,8 @@ fn write_run_report<R: Threads + Wait + Sync, K: Sink>(
     requires limit { IsWithin 1 4000000 limit }
     requires empty { report.old.entries ≡ [] }
     requires config { report.old.config ≡ machine.now.config }
-    ensures written { Writes false Form.Report limit machine.now (K.told sink.old) (K.told sink.new) (K.faults sink.old) (K.faults sink.new) result }
+    ensures written { Writes false Form.Report limit machine.now (K.told sink.old) (K.told sink.new)
+        (K.faults sink.old) (K.faults sink.new) result }
     ensures nothing { PutsNothing result → sink.new ≡ sink.old }
     ensures counts { K.faults sink.old ≤ K.faults sink.new }
 {
@@ -173,7 +180,8 @@ fn write_report<R: Threads + Wait + Sync, K: Sink>(
 ) -> Status
     requires checked { IsChecked machine.now }
     requires limit { IsWithin 1 4000000 limit }
-    ensures written { Writes false Form.Report limit machine.now (K.told sink.old) (K.told sink.new) (K.faults sink.old) (K.faults sink.new) result }
+    ensures written { Writes false Form.Report limit machine.now (K.told sink.old) (K.told sink.new)
+        (K.faults sink.old) (K.faults sink.new) result }
     ensures nothing { PutsNothing result → sink.new ≡ sink.old }
     ensures counts { K.faults sink.old ≤ K.faults sink.new }
 {
@@ -198,7 +206,8 @@ pub(crate) fn write_free<R: Threads + Wait + Sync, K: Sink>(
 ) -> Status
     requires checked { IsChecked machine.now }
     requires limit { IsWithin 1 4000000 limit }
-    ensures written { Writes false form limit machine.now (K.told sink.old) (K.told sink.new) (K.faults sink.old) (K.faults sink.new) result }
+    ensures written { Writes false form limit machine.now (K.told sink.old) (K.told sink.new)
+        (K.faults sink.old) (K.faults sink.new) result }
     ensures nothing { PutsNothing result → sink.new ≡ sink.old }
     ensures counts { K.faults sink.old ≤ K.faults sink.new }
 {

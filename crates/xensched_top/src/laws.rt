@@ -7,6 +7,8 @@ ghost use Rattle.xensched_top.specs.Schedules.{EndsWithin, FillsLimit, schedule}
 
 /// Where the ordered run is asked, the machine and the limit alone determine the entries that are written.
 pub fn law_ordered_entries()
-    ensures ends { (limit : ℕ) (m : Machine) (entries : List Entry) → EndsWithin true limit m entries → entries ≡ schedule limit m }
-    ensures fills { (limit : ℕ) (m : Machine) (entries : List Entry) → FillsLimit true limit m entries → entries ≡ schedule limit m }
+    ensures ends { (limit : ℕ) (m : Machine) (entries : List Entry) →
+        EndsWithin true limit m entries → entries ≡ schedule limit m }
+    ensures fills { (limit : ℕ) (m : Machine) (entries : List Entry) →
+        FillsLimit true limit m entries → entries ≡ schedule limit m }
 {}

@@ -86,8 +86,10 @@ fn put_watch_line(book: &Book, looks: &Looks, number: u32, line: &mut LineBuf)
 
 /// Writes the looks and how the run ended, one put a line.
 fn put_watch<K: Sink>(book: &Book, looks: &Looks, sink: &mut K) -> Result<(), Failed>
-    ensures whole { OnOk result (Adds (K.told sink.old) (K.told sink.new) (text_of_watch looks.now.items book.now.history)) }
-    ensures part { OnErr result (AddsPart (K.told sink.old) (K.told sink.new) (text_of_watch looks.now.items book.now.history)) }
+    ensures whole { OnOk result (Adds (K.told sink.old) (K.told sink.new)
+        (text_of_watch looks.now.items book.now.history)) }
+    ensures part { OnErr result (AddsPart (K.told sink.old) (K.told sink.new)
+        (text_of_watch looks.now.items book.now.history)) }
     ensures counts { K.faults sink.old ≤ K.faults sink.new }
     ensures cause { OnErr result (Rose (K.faults sink.old) (K.faults sink.new)) }
 {
@@ -106,7 +108,9 @@ fn put_watch<K: Sink>(book: &Book, looks: &Looks, sink: &mut K) -> Result<(), Fa
 /// Writes what was seen of a run that has ended so, with at most this many entries.
 fn put_watched<K: Sink>(book: &Book, end: RunEnd, limit: u32, looks: &Looks, sink: &mut K) -> Status
     requires looks { AreLooks book.now.history looks.now.items }
-    ensures written { (m : Machine) → HasEnded end false limit m book.now.history → Writes false Form.Watch limit m (K.told sink.old) (K.told sink.new) (K.faults sink.old) (K.faults sink.new) result }
+    ensures written { (m : Machine) → HasEnded end false limit m book.now.history →
+        Writes false Form.Watch limit m (K.told sink.old) (K.told sink.new) (K.faults sink.old)
+        (K.faults sink.new) result }
     ensures nothing { PutsNothing result → sink.new ≡ sink.old }
     ensures counts { K.faults sink.old ≤ K.faults sink.new }
 {
@@ -126,7 +130,8 @@ pub(crate) fn write_watched<R: Threads + Wait + Sync, K: Sink>(
 ) -> Status
     requires checked { IsChecked machine.now }
     requires limit { IsWithin 1 4000000 limit }
-    ensures written { Writes false Form.Watch limit machine.now (K.told sink.old) (K.told sink.new) (K.faults sink.old) (K.faults sink.new) result }
+    ensures written { Writes false Form.Watch limit machine.now (K.told sink.old) (K.told sink.new)
+        (K.faults sink.old) (K.faults sink.new) result }
     ensures nothing { PutsNothing result → sink.new ≡ sink.old }
     ensures counts { K.faults sink.old ≤ K.faults sink.new }
 {

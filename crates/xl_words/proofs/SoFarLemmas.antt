@@ -10,14 +10,6 @@ pub record IsReadSoFar {X : Type 0} (read : List ℕ → Option X) (word : List 
   pub count : length (parts 44 word) ≡ length done + length (parts 44 rest)
   pub items : each_of read (parts 44 word) ≡ option_map (λ xs. done ++ xs) (each_of read (parts 44 rest))
 
-nothing_before : {X : Type 0} (o : Option (List X)) → o ≡ option_map (λ xs. [] ++ xs) o
-nothing_before None = refl
-nothing_before (Some xs) = refl
-
--- nothing is done at first
-pub read_none : {X : Type 0} (read : List ℕ → Option X) (word : List ℕ) → IsReadSoFar read word [] word
-read_none read word = record { count = omega arith; items = nothing_before (each_of read (parts 44 word)) }
-
 -- more than 64 items
 pub read_full : {X : Type 0} (read : List ℕ → Option X) (word : List ℕ) (done : List X) (rest : List ℕ) → IsReadSoFar read word done rest → 64 ≤ length done → list_of read word ≡ None
 read_full read word done rest h full =

@@ -14,9 +14,9 @@ abbrev pub ◌>>=◌ : {A B : Type 0} → Result A Syntax → (A → Result B Sy
 (Err fault) >>= next = Err fault
 
 -- the value, or a fault at the place
-abbrev pub needed : {X : Type 0} → ℕ → Option X → Result X Syntax
-needed place None = at place
-needed place (Some x) = Ok x
+abbrev pub needed_value : {X : Type 0} → ℕ → Option X → Result X Syntax
+needed_value place None = at place
+needed_value place (Some x) = Ok x
 
 -- what the word at this place stands for, and the words behind it
 abbrev pub field : {X : Type 0} → (List ℕ → Option X) → ℕ → List (List ℕ) → Result (X × List (List ℕ)) Syntax
@@ -40,7 +40,7 @@ pool_list (word ∷ words) = do
 unfoldable pub pool_create : List (List ℕ) → Result Command Syntax
 pool_create words = do
   given ← options new_pool_rules 1 (record { name = None; sched = None }) words
-  name ← needed given.1 given.0.name
+  name ← needed_value given.1 given.0.name
   Ok (command.PoolCreate name given.0.sched)
 
 -- POOL
@@ -100,22 +100,22 @@ unpause words = do
 unfoldable pub credit2_domain : List (List ℕ) → Result Command Syntax
 credit2_domain words = do
   given ← options credit2_domain_rules 1 (record { dom = None; weight = None; cap = None }) words
-  dom ← needed given.1 given.0.dom
+  dom ← needed_value given.1 given.0.dom
   Ok (command.Credit2Dom dom given.0.weight given.0.cap)
 
 -- -s -p POOL [-r US], in any order
 unfoldable pub credit2_pool : List (List ℕ) → Result Command Syntax
 credit2_pool words = do
   given ← options credit2_pool_rules 1 (record { of_pool = None; pool = None; limit = None }) words
-  of_pool ← needed given.1 given.0.of_pool
-  pool ← needed given.1 given.0.pool
+  of_pool ← needed_value given.1 given.0.of_pool
+  pool ← needed_value given.1 given.0.pool
   Ok (command.Credit2Pool pool given.0.limit)
 
 -- -d DOM [-v VCPU or all] [-p US] [-b US] [-e 0 or 1], in any order
 unfoldable pub sched_rtds : List (List ℕ) → Result Command Syntax
 sched_rtds words = do
   given ← options rtds_rules 1 (record { dom = None; vcpu = None; period = None; budget = None; extra = None }) words
-  dom ← needed given.1 given.0.dom
+  dom ← needed_value given.1 given.0.dom
   Ok (command.RtdsDom dom (unwrap_or given.0.vcpu None) given.0.period given.0.budget given.0.extra)
 
 -- POOL MAJOR DOM:UNIT:RUN,..
@@ -137,14 +137,14 @@ vcpu_pin words = do
   Ok (command.Pin dom.0 vcpu.0 cpus.0)
 
 -- the further of two faults
-abbrev pub further : Syntax → Syntax → Syntax
-further one two = record { place = max one.place two.place }
+abbrev pub further_fault : Syntax → Syntax → Syntax
+further_fault one two = record { place = max one.place two.place }
 
 -- a command that has two forms: the reading by one of them, or the furthest place over both
 abbrev pub either_form : Result Command Syntax → Result Command Syntax → Result Command Syntax
 either_form (Ok c) other = Ok c
 either_form (Err one) (Ok c) = Ok c
-either_form (Err one) (Err two) = Err (further one two)
+either_form (Err one) (Err two) = Err (further_fault one two)
 
 -- the command that the words spell, or the place of the first word with which no command's words go on, or the count of words where they end too early
 unfoldable pub reading : List (List ℕ) → Result Command Syntax

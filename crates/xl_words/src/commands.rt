@@ -160,7 +160,8 @@ fn credit2_pool(rest: &[u8]) -> Result<Command, Syntax>
 
 /// `sched-credit2`, by the form that the words have, or the furthest place over both forms.
 pub(crate) fn sched_credit2(rest: &[u8]) -> Result<Command, Syntax>
-    ensures value { result ≡ grammar.either_form (grammar.credit2_domain (words rest.now)) (grammar.credit2_pool (words rest.now)) }
+    ensures value { result ≡ grammar.either_form (grammar.credit2_domain (words rest.now))
+        (grammar.credit2_pool (words rest.now)) }
     ensures checked { IfOk result IsCheckedCommand }
 {
     match credit2_domain(rest) {

@@ -15,7 +15,9 @@ use sched_model::command::{Syntax, Which};
 
 /// A pool or a domain at this place, and what follows it.
 pub(crate) fn which_at(place: u32, rest: &[u8]) -> Result<(Which, &[u8]), Syntax>
-    ensures value { MatchResult result (λ found. field which_of place (words rest.now) ≡ Ok (found.0, words found.1.now)) (λ fault. field which_of place (words rest.now) ≡ Err fault) }
+    ensures value { MatchResult result (λ found. field which_of place (words rest.now)
+        ≡ Ok (found.0, words found.1.now)) (λ fault. field which_of place (words rest.now)
+        ≡ Err fault) }
     ensures checked { IfOk result (λ found. IsCheckedWhich found.0) }
 {
     let Some((word, rest)) = next_word(rest) else {
@@ -29,7 +31,9 @@ pub(crate) fn which_at(place: u32, rest: &[u8]) -> Result<(Which, &[u8]), Syntax
 
 /// A number at this place, and what follows it.
 pub(crate) fn number_at(place: u32, rest: &[u8]) -> Result<(u64, &[u8]), Syntax>
-    ensures value { MatchResult result (λ found. field number_of place (words rest.now) ≡ Ok (found.0, words found.1.now)) (λ fault. field number_of place (words rest.now) ≡ Err fault) }
+    ensures value { MatchResult result (λ found. field number_of place (words rest.now)
+        ≡ Ok (found.0, words found.1.now)) (λ fault. field number_of place (words rest.now)
+        ≡ Err fault) }
     ensures checked { IfOk result (λ found. IsNumber found.0) }
 {
     let Some((word, rest)) = next_word(rest) else {
@@ -43,7 +47,9 @@ pub(crate) fn number_at(place: u32, rest: &[u8]) -> Result<(u64, &[u8]), Syntax>
 
 /// A name at this place, and what follows it.
 pub(crate) fn name_at(place: u32, rest: &[u8]) -> Result<(Name, &[u8]), Syntax>
-    ensures value { MatchResult result (λ found. field name_of place (words rest.now) ≡ Ok (found.0, words found.1.now)) (λ fault. field name_of place (words rest.now) ≡ Err fault) }
+    ensures value { MatchResult result (λ found. field name_of place (words rest.now)
+        ≡ Ok (found.0, words found.1.now)) (λ fault. field name_of place (words rest.now)
+        ≡ Err fault) }
     ensures checked { IfOk result (λ found. is_name found.0 ≡ true) }
 {
     let Some((word, rest)) = next_word(rest) else {

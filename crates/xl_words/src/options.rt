@@ -95,7 +95,13 @@ impl RtdsOfDomain {
 
     /// No option is given.
     pub(crate) const fn none() -> RtdsOfDomain
-        ensures { result ≡ record { dom = None; vcpu = None; period = None; budget = None; extra = None } }
+        ensures { result ≡ record {
+          dom = None;
+          vcpu = None;
+          period = None;
+          budget = None;
+          extra = None;
+        } }
     {
         RtdsOfDomain {
             dom: None,

@@ -11,7 +11,8 @@ fn find_byte(bytes: &[u8], separator: u8) -> Option<usize>
 
 /// The bytes before the first separator, and those after it, or `None` where there is no separator.
 pub fn cut(bytes: &[u8], separator: u8) -> (&[u8], Option<&[u8]>)
-    ensures parts { MatchOption result.1 (parts separator bytes.now ≡ result.0.now ∷ []) (λ rest. parts separator bytes.now ≡ result.0.now ∷ parts separator rest.now) }
+    ensures parts { MatchOption result.1 (parts separator bytes.now ≡ result.0.now ∷ [])
+        (λ rest. parts separator bytes.now ≡ result.0.now ∷ parts separator rest.now) }
     ensures two { IfSome result.1 (λ rest. 2 ≤ length (parts separator bytes.now)) }
     ensures shorter { IfSome result.1 (λ rest. length rest.now < length bytes.now) }
     ensures within { length result.0.now ≤ length bytes.now }
@@ -24,7 +25,8 @@ pub fn cut(bytes: &[u8], separator: u8) -> (&[u8], Option<&[u8]>)
 
 /// The bytes as a word that nothing follows, or `None` where there are none.
 fn last_word(bytes: &[u8]) -> Option<(&[u8], &[u8])>
-    ensures { MatchOption result (length bytes.now ≡ 0) (λ found. (0 < length bytes.now) × (found.0.now ≡ bytes.now) × (found.1.now ≡ [])) }
+    ensures { MatchOption result (length bytes.now ≡ 0) (λ found. (0 < length bytes.now)
+        × (found.0.now ≡ bytes.now) × (found.1.now ≡ [])) }
 {
     if bytes.is_empty() {
         None
@@ -35,7 +37,8 @@ fn last_word(bytes: &[u8]) -> Option<(&[u8], &[u8])>
 
 /// The first word and what follows it, or `None` where there is no word. Words are the longest runs without a space.
 pub fn next_word(bytes: &[u8]) -> Option<(&[u8], &[u8])>
-    ensures words { MatchOption result (words bytes.now ≡ []) (λ found. words bytes.now ≡ found.0.now ∷ words found.1.now) }
+    ensures words { MatchOption result (words bytes.now ≡ []) (λ found. words bytes.now
+        ≡ found.0.now ∷ words found.1.now) }
     ensures shorter { IfSome result (λ found. length found.1.now < length bytes.now) }
 {
     let mut rest = bytes;

@@ -4,7 +4,7 @@ use Rattle.sched_model.specs.Runs.{IsNext}
 use Rattle.journal_core.specs.Books.{Chronicle}
 use Rattle.journal_core.specs.Histories.{reached_by}
 use Rattle.lock_moves.specs.Sight.{Seen, Sitting, committed_view}
-use Rattle.hall.specs.Steps.{KnowsAfter, deciding}
+use Rattle.hall.specs.Steps.{KnowsAfter, deciding_view}
 use Rattle.hall.proofs.Entering.{knows-committed}
 use Rattle.hall.proofs.book.enter.Goals as goal
 
@@ -15,7 +15,7 @@ pub returns-clause-knows : goal.returns-clause-knows
 returns-clause-knows c =
     let h : List Entry = c.args.book.history ++ c.args.entry ∷ [] in
     let old : Seen = c.args.seat.now.view in
-    let v : Seen = deciding c.args.entry.event old in
+    let v : Seen = deciding_view c.args.entry.event old in
     let after : KnowsAfter h v (committed_view h v) = knows-committed h v in
     let named : c.raise_stage.new.seat.view ≡ v = ap (λ (s : Sitting). s.view) c.raise_stage.ensures in
     let history : c.commit.new.self.history ≡ h = c.commit.ensures.added ∙ ap (λ (b : Chronicle). b.history ++ c.args.entry ∷ []) c.get_mut.ensures.value in

@@ -2,7 +2,7 @@ use Rattle.std.proofs.Common.{◌≡◌, ◌+◌, ℕ, [], ◌∷◌, length, le
 use Rattle.lock_moves.specs.Sight.{Sitting, KnowsBelow}
 use Rattle.lock_moves.specs.Sets.{Taken}
 use Rattle.lock_example.specs.declared.counter.Counter.{Counter}
-use Rattle.lock_example.specs.Example.{adding, two_entries}
+use Rattle.lock_example.specs.Example.{adding_machine, two_entries}
 use Rattle.lock_example.specs.Holding.{AreFrom}
 use Rattle.lock_moves.proofs.Finding.{none_held}
 use Rattle.lock_example.proofs.Holding.{from_front}
@@ -28,8 +28,8 @@ put_last-requires-clause-below g c =
     let all = c.take_rest.ensures.all in
     let same = ap (λ (x : Taken Counter). x.lock) c.add_second.ensures.tool in
     let e : 17 ≡ c.add_second.new.tool.lock + 1 = omega (arith, f.1, len, all, same) in
-    subst (λ (s : Sitting). KnowsBelow adding (c.add_second.new.tool.lock + 1) two_entries s.view) (sym c.new_home-home.ensures.same)
-    (subst (λ (n : ℕ). KnowsBelow adding n two_entries c.add_second.new.seat.view) e c.in_default-add_second.ensures.below)
+    subst (λ (s : Sitting). KnowsBelow adding_machine (c.add_second.new.tool.lock + 1) two_entries s.view) (sym c.new_home-home.ensures.same)
+    (subst (λ (n : ℕ). KnowsBelow adding_machine n two_entries c.add_second.new.seat.view) e c.in_default-add_second.ensures.below)
 
 pub put_rest-requires-clause-order : goal.put_rest-requires-clause-order
 put_rest-requires-clause-order g c = (from_front 1 c.pop.new.self.items c.in-Some.tool (subst (AreFrom 1) c.in-Some.ensures.items c.take_rest.ensures.order)).0
@@ -38,7 +38,7 @@ pub put_rest-requires-clause-below : goal.put_rest-requires-clause-below
 put_rest-requires-clause-below g c =
     let f = from_front 1 c.pop.new.self.items c.in-Some.tool (subst (AreFrom 1) c.in-Some.ensures.items c.take_rest.ensures.order) in
     let same = ap (λ (x : Taken Counter). x.lock) c.add_second.ensures.tool in
-    subst (λ (n : ℕ). KnowsBelow adding n two_entries c.put_last.new.seat.view) (same ∙ f.1) c.put_last.ensures.below
+    subst (λ (n : ℕ). KnowsBelow adding_machine n two_entries c.put_last.new.seat.view) (same ∙ f.1) c.put_last.ensures.below
 
 pub returns-clause-nothing : goal.returns-clause-nothing
 returns-clause-nothing g c =

@@ -1,7 +1,7 @@
 use Rattle.std.proofs.Common.{◌≡◌, List, [], ◌∷◌, ◌++◌, inr, take, sym, ap, ◌∙◌, arith}
 use Rattle.sched_model.specs.declared.event.Entry.{Entry}
 use Rattle.lock_moves.specs.Sight.{Seen, Sitting, HoldsBelow}
-use Rattle.lock_example.specs.Example.{adding, is_added, two_entries}
+use Rattle.lock_example.specs.Example.{adding_machine, is_added, two_entries}
 use Rattle.lock_example.proofs.Checks.{homes_first, now_first, decides_first, once-second}
 use Rattle.lock_moves.proofs.Holding.{book_below, kept_all, placed_at, placed_of, decided_none, decided_of, once_of, knows_of}
 use Rattle.lock_example.proofs.adding.add_first.Goals as goal
@@ -19,7 +19,7 @@ commit-requires-clause-kept g c = let t = c.take_book-book.ensures.taken in kept
 
 pub commit-requires-clause-placed : goal.commit-requires-clause-placed
 commit-requires-clause-placed g c = let t = c.take_book-book.ensures.taken in let v : Seen = c.take_book-book.new.seat.view in let w = c.if-not-write_first.ensures.written in
-    placed_of v c.write_first.new.book.history (take 1 two_entries) w.1 (placed_at adding [] (take 1 two_entries) v (ap (λ (s : Sitting). s.view.input) t.2 ∙ c.requires.stands.input) (ap (λ (s : Sitting). s.view.front) t.2 ∙ w.0) c.take_book-book.ensures.current homes_first now_first)
+    placed_of v c.write_first.new.book.history (take 1 two_entries) w.1 (placed_at adding_machine [] (take 1 two_entries) v (ap (λ (s : Sitting). s.view.input) t.2 ∙ c.requires.stands.input) (ap (λ (s : Sitting). s.view.front) t.2 ∙ w.0) c.take_book-book.ensures.current homes_first now_first)
 
 pub commit-requires-clause-decided : goal.commit-requires-clause-decided
 commit-requires-clause-decided g c = let t = c.take_book-book.ensures.taken in let v : Seen = c.take_book-book.new.seat.view in let w = c.if-not-write_first.ensures.written in
@@ -27,11 +27,11 @@ commit-requires-clause-decided g c = let t = c.take_book-book.ensures.taken in l
 
 pub commit-requires-clause-names : goal.commit-requires-clause-names
 commit-requires-clause-names g c =
-    once_of c.write_first.new.book.input adding c.write_first.new.book.history (take 1 two_entries) (c.write_first.ensures.input ∙ (c.take_book-book.ensures.input ∙ c.requires.stands.input)) c.if-not-write_first.ensures.written.1 once-second
+    once_of c.write_first.new.book.input adding_machine c.write_first.new.book.history (take 1 two_entries) (c.write_first.ensures.input ∙ (c.take_book-book.ensures.input ∙ c.requires.stands.input)) c.if-not-write_first.ensures.written.1 once-second
 
 pub returns-clause-below : goal.returns-clause-below
 returns-clause-below g c = let t = c.take_book-book.ensures.taken in let v : Seen = c.take_book-book.new.seat.view in let w = c.if-not-write_first.ensures.written in
-    let input : v.input ≡ adding = ap (λ (s : Sitting). s.view.input) t.2 ∙ c.requires.stands.input in
+    let input : v.input ≡ adding_machine = ap (λ (s : Sitting). s.view.input) t.2 ∙ c.requires.stands.input in
     let all : HoldsBelow 18 v = book_below t.0 t.1 c.take_book-book.result.history c.args.seat.now c.take_book-book.new.seat t.2 c.requires.below in
-    knows_of adding c.write_first.new.book.history (take 1 two_entries) c.take_book-book.new.seat c.commit.new.seat c.commit.ensures w.1 input all
-    (placed_at adding [] (take 1 two_entries) v input (ap (λ (s : Sitting). s.view.front) t.2 ∙ w.0) c.take_book-book.ensures.current homes_first now_first)
+    knows_of adding_machine c.write_first.new.book.history (take 1 two_entries) c.take_book-book.new.seat c.commit.new.seat c.commit.ensures w.1 input all
+    (placed_at adding_machine [] (take 1 two_entries) v input (ap (λ (s : Sitting). s.view.front) t.2 ∙ w.0) c.take_book-book.ensures.current homes_first now_first)

@@ -20,7 +20,7 @@ bounds-slots-from c =
 pub returns-in-None : goal.returns-in-None
 returns-in-None c =
     let w = c.args.at.now in
-    no-home w.input (state_of w) c.args.t.0 (Moved c.args.r.0) (no-number _ (sym (c.home_of_core.ensures w.input (state_of w) c.requires.parts.known) ∙ c.in-None.is))
+    no-home w.input (state_of w) c.args.t.0 (Moved c.args.r) (no-number _ (sym (c.home_of_core.ensures w.input (state_of w) c.requires.parts.known) ∙ c.in-None.is))
 
 -- and else where its home lets it
 pub returns-in-Some : goal.returns-in-Some
@@ -32,6 +32,6 @@ returns-in-Some c =
     let read : at_place c.args.slots.now c.in-Some.i.0 ≡ c.index-slots-from.result =
     ap (at_place c.args.slots.now) (sym c.from.ensures) ∙ get_or_default c.args.slots.now c.from.result None c.index-slots-from.result low_read ∙ sym c.index-slots-from.is in
     let here : (o : Option Seen) → at_place c.args.slots.now c.in-Some.i.0 ≡ o → c.index-slots-from.result ≡ o = λ o is. sym read ∙ is in
-    at-home w.input (state_of w) c.args.t.0 (Moved c.args.r.0) c.in-Some.i.0 c.moved_ready.result home
-    (told-there w c.args.slots.now c.args.tool.now c.requires.parts c.in-Some.i.0 low c.args.t.0 (Moved c.args.r.0) c.moved_ready.result
+    at-home w.input (state_of w) c.args.t.0 (Moved c.args.r) c.in-Some.i.0 c.moved_ready.result home
+    (told-there w c.args.slots.now c.args.tool.now c.requires.parts c.in-Some.i.0 low c.args.t.0 (Moved c.args.r) c.moved_ready.result
     (λ seen is. c.moved_ready.ensures.pool seen (here (Some seen) is)) (λ is. c.moved_ready.ensures.empty (here None is)))

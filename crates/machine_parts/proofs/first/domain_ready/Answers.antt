@@ -20,7 +20,7 @@ bounds-slots-from c =
 pub returns-in-None : goal.returns-in-None
 returns-in-None c =
     let w = c.args.at.now in
-    λ t. no-home w.input (state_of w) t (DomMoved c.args.d.0) (no-number _ (sym (c.home_of_domain.ensures w.input (state_of w) c.requires.parts.known) ∙ c.in-None.is))
+    λ t. no-home w.input (state_of w) t (DomMoved c.args.d) (no-number _ (sym (c.home_of_domain.ensures w.input (state_of w) c.requires.parts.known) ∙ c.in-None.is))
 
 -- and else where its home lets it
 pub returns-in-Some : goal.returns-in-Some
@@ -32,6 +32,6 @@ returns-in-Some c =
     let read : at_place c.args.slots.now c.in-Some.i.0 ≡ c.index-slots-from.result =
     ap (at_place c.args.slots.now) (sym c.from.ensures) ∙ get_or_default c.args.slots.now c.from.result None c.index-slots-from.result low_read ∙ sym c.index-slots-from.is in
     let here : (o : Option Seen) → at_place c.args.slots.now c.in-Some.i.0 ≡ o → c.index-slots-from.result ≡ o = λ o is. sym read ∙ is in
-    λ t. at-home w.input (state_of w) t (DomMoved c.args.d.0) c.in-Some.i.0 c.dom_ready.result home
-    (told-there w c.args.slots.now c.args.tool.now c.requires.parts c.in-Some.i.0 low t (DomMoved c.args.d.0) c.dom_ready.result
+    λ t. at-home w.input (state_of w) t (DomMoved c.args.d) c.in-Some.i.0 c.dom_ready.result home
+    (told-there w c.args.slots.now c.args.tool.now c.requires.parts c.in-Some.i.0 low t (DomMoved c.args.d) c.dom_ready.result
     (λ seen is. c.dom_ready.ensures.pool seen (here (Some seen) is) t) (λ is. c.dom_ready.ensures.empty (here None is)))

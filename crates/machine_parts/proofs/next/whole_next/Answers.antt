@@ -6,10 +6,10 @@ use Rattle.sched_model.specs.declared.state.State.{State}
 use Rattle.sched_model.specs.Checked.{most_span}
 use Rattle.sched_model.specs.Machine.{first_enabled}
 use Rattle.journal_core.specs.Parts.{under_way_of}
-use Rattle.core_state.specs.Firsts.{earlier}
+use Rattle.core_state.specs.Firsts.{earlier_moment}
 use Rattle.cpupool.specs.Coming.{tool_may_act}
 use Rattle.cpupool.specs.Dues.{IsLeastLater}
-use Rattle.actor_laws.specs.Next.{ArePoolsNexts, IsSoonest, IsWholeNext, leaving_at, within}
+use Rattle.actor_laws.specs.Next.{ArePoolsNexts, IsSoonest, IsWholeNext, leaving_at, number_within}
 use Rattle.pool_slots.specs.Places.{state_of}
 use Rattle.pool_slots.proofs.Going.{early, state_of-is}
 use Rattle.machine_parts.proofs.Firsts.{pools-nexts}
@@ -31,10 +31,10 @@ returns c =
     let due : Option Moment = c.next_due.result in
     let next : Option Moment = c.earlier.result in
     let leaving : Option Moment = c.leaving_next.result in
-    let is_next : next ≡ earlier due (earlier leaving c.soonest.result) = c.earlier.ensures ∙ ap (earlier due) c.earlier-others.ensures in
+    let is_next : next ≡ earlier_moment due (earlier_moment leaving c.soonest.result) = c.earlier.ensures ∙ ap (earlier_moment due) c.earlier-others.ensures in
     let least : IsSoonest (due ∷ leaving ∷ nexts) next =
     subst (λ (o : Option Moment). IsSoonest (due ∷ leaving ∷ nexts) o) (sym is_next)
-    (sooner_more due (leaving ∷ nexts) (earlier leaving c.soonest.result) (sooner_more leaving nexts c.soonest.result c.soonest.ensures)) in
+    (sooner_more due (leaving ∷ nexts) (earlier_moment leaving c.soonest.result) (sooner_more leaving nexts c.soonest.result c.soonest.ensures)) in
     let least_of : IsSoonest (due ∷ leaving_at g (state_of w) (under_way_of (state_of w)) ∷ nexts) next =
     subst (λ (o : Option Moment). IsSoonest (due ∷ o ∷ nexts) next) c.leaving_next.ensures least in
     let quiet : first_enabled w.input (state_of w) (state_of w).now ≡ None = subst (λ (t : ℕ). first_enabled w.input (state_of w) t ≡ None) c.requires.now c.requires.quiet in
@@ -43,4 +43,4 @@ returns c =
     let whole : IsWholeNext w.input (state_of w) next =
     subst (λ (s : State). first_enabled w.input s s.now ≡ None → ArePoolsNexts g s.pools nexts → IsLeastLater s.now (tool_may_act w.input s) due → IsSoonest (due ∷ leaving_at g s (under_way_of s) ∷ nexts) next → IsWholeNext w.input s next) (sym (state_of-is w))
     (c.law_whole_next.ensures w.input goes.checked w.history goes.run nexts due next) quiet (pools-nexts w c.args.slots.now c.args.tool.now c.requires.parts nexts c.requires.nexts) later least_of in
-    c.up_to.ensures ∙ ap (λ (h : ℕ). option_map moment (within h next)) c.requires.horizon ∙ ap (option_map moment) (sym whole.in_horizon)
+    c.up_to.ensures ∙ ap (λ (h : ℕ). option_map moment (number_within h next)) c.requires.horizon ∙ ap (option_map moment) (sym whole.in_horizon)

@@ -1,6 +1,6 @@
 use Rattle.std.proofs.Common.{◌≡◌, ◌∙◌, ap, subst, sym}
 use Rattle.std.specs.Prelude.{None, Some}
-use Rattle.cpupool.specs.Advanced.{advanced}
+use Rattle.cpupool.specs.Advanced.{after_advance}
 use Rattle.cpupool.specs.Tool.{Tool}
 use Rattle.sched_model.specs.Commands.{pool_of_plan}
 use Rattle.pool_slots.specs.Places.{state_of}
@@ -31,7 +31,7 @@ returns-in-Some-clause-pools c =
     let s = state_of w in
     let line = c.requires.accepted.line in
     let told = c.advance.ensures w.input s s.now line c.requires.parts.known c.requires.accepted.accepted in
-    let is : c.advance.new.self ≡ advanced c.args.tool.now c.args.plan = advanced-is w.input s s.now c.requires.enabled c.args.tool.now c.requires.parts.known line c.args.plan c.requires.accepted.accepted c.advance.new.self told in
+    let is : c.advance.new.self ≡ after_advance c.args.tool.now c.args.plan = advanced-is w.input s s.now c.requires.enabled c.args.tool.now c.requires.parts.known line c.args.plan c.requires.accepted.accepted c.advance.new.self told in
     ap (λ (x : Tool). x.part.pools) is ∙ pools-kept c.args.tool.now c.args.plan c.requires.keeps
 
 pub returns-in-Some-clause-over : goal.returns-in-Some-clause-over
@@ -40,7 +40,7 @@ returns-in-Some-clause-over c =
     let s = state_of w in
     let line = c.requires.accepted.line in
     let told = c.advance.ensures w.input s s.now line c.requires.parts.known c.requires.accepted.accepted in
-    let is : c.advance.new.self ≡ advanced c.args.tool.now c.args.plan = advanced-is w.input s s.now c.requires.enabled c.args.tool.now c.requires.parts.known line c.args.plan c.requires.accepted.accepted c.advance.new.self told in
+    let is : c.advance.new.self ≡ after_advance c.args.tool.now c.args.plan = advanced-is w.input s s.now c.requires.enabled c.args.tool.now c.requires.parts.known line c.args.plan c.requires.accepted.accepted c.advance.new.self told in
     ap (λ (x : Tool). x.part.next_command) is
 
 -- no place changes
@@ -58,7 +58,7 @@ returns-in_default-clause-pools c =
     let s = state_of w in
     let line = c.requires.accepted.line in
     let told = c.advance.ensures w.input s s.now line c.requires.parts.known c.requires.accepted.accepted in
-    let is : c.advance.new.self ≡ advanced c.args.tool.now c.args.plan = advanced-is w.input s s.now c.requires.enabled c.args.tool.now c.requires.parts.known line c.args.plan c.requires.accepted.accepted c.advance.new.self told in
+    let is : c.advance.new.self ≡ after_advance c.args.tool.now c.args.plan = advanced-is w.input s s.now c.requires.enabled c.args.tool.now c.requires.parts.known line c.args.plan c.requires.accepted.accepted c.advance.new.self told in
     ap (λ (x : Tool). x.part.pools) is ∙ pools-kept c.args.tool.now c.args.plan c.requires.keeps
 
 pub returns-in_default-clause-over : goal.returns-in_default-clause-over
@@ -67,5 +67,5 @@ returns-in_default-clause-over c =
     let s = state_of w in
     let line = c.requires.accepted.line in
     let told = c.advance.ensures w.input s s.now line c.requires.parts.known c.requires.accepted.accepted in
-    let is : c.advance.new.self ≡ advanced c.args.tool.now c.args.plan = advanced-is w.input s s.now c.requires.enabled c.args.tool.now c.requires.parts.known line c.args.plan c.requires.accepted.accepted c.advance.new.self told in
+    let is : c.advance.new.self ≡ after_advance c.args.tool.now c.args.plan = advanced-is w.input s s.now c.requires.enabled c.args.tool.now c.requires.parts.known line c.args.plan c.requires.accepted.accepted c.advance.new.self told in
     ap (λ (x : Tool). x.part.next_command) is

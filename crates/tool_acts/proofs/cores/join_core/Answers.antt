@@ -5,7 +5,7 @@ use Rattle.sched_base.specs.declared.ResId.{ResId}
 use Rattle.sched_model.specs.declared.action.Action.TheVariants.{Moved}
 use Rattle.sched_model.specs.Machine.{after}
 use Rattle.sched_model.specs.Places.{at_place, clear_at}
-use Rattle.sched_model.specs.Pool.{settled}
+use Rattle.sched_model.specs.Pool.{settled_pool}
 use Rattle.journal_core.specs.Parts.{core_to}
 use Rattle.cpupool.specs.Arrived.{but_for_free}
 use Rattle.cpupool.specs.Tool.{Tool, tool_of}
@@ -50,10 +50,10 @@ returns-clause-stands c =
     let begins = c.requires.begins in
     stands-joined c.args.at.now c.args.tool.now t c.args.r.0 begins c.args.i.0 c.requires.way core.result.stall_ends core.ensures.ends c.args.slot.now c.requires.stands
     _ (event-joins c.args.at.now c.args.tool.now t c.args.r.0 begins c.args.i.0 c.requires.way) c.attach.new.self
-    (subst (λ (r : ResId). c.attach.new.self ≡ option_map (λ (seen : Seen). seen_at t (settled t (with_core r.0 core.result.stall_ends seen.pool)) seen) c.args.slot.now) core.ensures.core c.attach.ensures)
+    (subst (λ (r : ResId). c.attach.new.self ≡ option_map (λ (seen : Seen). seen_at t (settled_pool t (with_core r.0 core.result.stall_ends seen.pool)) seen) c.args.slot.now) core.ensures.core c.attach.ensures)
 
 -- what the tool knows in the end
-done : (c : After-move_done) → c.move_done.new.self ≡ but_for_free (clear_at c.args.r.0 c.args.tool.now.part.free) (tool_of c.args.at.now.input (after c.args.at.now.input (state_of c.args.at.now) (state_of c.args.at.now).now (Moved c.args.r.0)))
+done : (c : After-move_done) → c.move_done.new.self ≡ but_for_free (clear_at c.args.r.0 c.args.tool.now.part.free) (tool_of c.args.at.now.input (after c.args.at.now.input (state_of c.args.at.now) (state_of c.args.at.now).now (Moved c.args.r)))
 done c =
     let w = c.args.at.now in
     let s = state_of w in

@@ -41,7 +41,7 @@ returns-clause-stands c =
 
 -- what the tool knows in the end
 done : (c : After-move_done)
-    → c.move_done.new.self ≡ but_for_free (put_at c.args.r.0 c.detach-core.result.stall_ends c.args.tool.now.part.free) (tool_of c.args.at.now.input (after c.args.at.now.input (state_of c.args.at.now) (state_of c.args.at.now).now (Moved c.args.r.0)))
+    → c.move_done.new.self ≡ but_for_free (put_at c.args.r.0 c.detach-core.result.stall_ends c.args.tool.now.part.free) (tool_of c.args.at.now.input (after c.args.at.now.input (state_of c.args.at.now) (state_of c.args.at.now).now (Moved c.args.r)))
 done c =
     let w = c.args.at.now in
     let s = state_of w in

@@ -2,7 +2,7 @@ use Rattle.std.proofs.Common.{◌≡◌, ◌∙◌, ap, sym}
 use Rattle.std.specs.Prelude.{None}
 use Rattle.journal_core.specs.Parts.{under_way_of}
 use Rattle.cpupool.specs.Tool.{Tool}
-use Rattle.cpupool.specs.Advanced.{advanced}
+use Rattle.cpupool.specs.Advanced.{after_advance}
 use Rattle.cpupool.proofs.AdvanceLemmas.{advanced-seen}
 use Rattle.cpupool.proofs.tool.ToolState.advance.Goals as goal
 
@@ -10,4 +10,4 @@ use Rattle.cpupool.proofs.tool.ToolState.advance.Goals as goal
 pub returns : goal.returns
 returns c = λ m s t line same accepted.
     let idle : under_way_of s ≡ None = ap (λ (tool : Tool). tool.part.under_way) same ∙ c.requires.idle in
-    c.carry_out.ensures ∙ ap (λ (tool : Tool). advanced tool c.args.p.now) (sym same) ∙ advanced-seen m s idle t line c.args.p.now accepted
+    c.carry_out.ensures ∙ ap (λ (tool : Tool). after_advance tool c.args.p.now) (sym same) ∙ advanced-seen m s idle t line c.args.p.now accepted

@@ -1,7 +1,7 @@
 use Rattle.std.proofs.Common.{◌≡◌, ◌∙◌, Some, ap, sym}
 use Rattle.journal_core.specs.Parts.{under_way_of}
 use Rattle.cpupool.specs.Tool.{Tool}
-use Rattle.cpupool.specs.Arrived.{arrived}
+use Rattle.cpupool.specs.Arrived.{after_arrival}
 use Rattle.cpupool.proofs.ArrivedLemmas.{arrived-seen}
 use Rattle.cpupool.proofs.tool.ToolState.move_done.Goals as goal
 
@@ -9,4 +9,4 @@ use Rattle.cpupool.proofs.tool.ToolState.move_done.Goals as goal
 pub returns-clause-state : goal.returns-clause-state
 returns-clause-state c = λ m s t way free same is ends.
     let on_its_way : under_way_of s ≡ Some way = ap (λ (tool : Tool). tool.part.under_way) same ∙ is in
-    c.end_move.ensures ∙ ap arrived (sym same) ∙ arrived-seen m s t way free on_its_way ends
+    c.end_move.ensures ∙ ap after_arrival (sym same) ∙ arrived-seen m s t way free on_its_way ends

@@ -15,9 +15,9 @@ pub perform_in_pool-requires-clause-home : goal.perform_in_pool-requires-clause-
 perform_in_pool-requires-clause-home c =
     let in_self = c.self.inside in
     let w = in_self.trail in
-    let told : option_map pool_number (pool_of_event in_self.granularity (state_of w) c.args.action) ≡ Some c.in-Some.i = sym (c.pool_of_event.ensures w.input (state_of w) c.self.invariant.parts.known) ∙ c.in-Some.is in
+    let told : option_map pool_number (pool_of_event in_self.granularity (state_of w) c.args.action) ≡ Some c.in-Some.i = sym (c.pool_of_event.ensures w.input (state_of w) c.self.invariant.0.parts.known) ∙ c.in-Some.is in
     sym (ap (λ (x : Standing). pool_of_event x.machine.config.granularity x.state c.args.action) c.self.view_is)
-    ∙ ap (λ (g : ℕ). pool_of_event g (state_of w) c.args.action) (sym c.self.invariant.granularity_is) ∙ told-pool _ c.in-Some.i told
+    ∙ ap (λ (g : ℕ). pool_of_event g (state_of w) c.args.action) (sym c.self.invariant.0.granularity_is) ∙ told-pool _ c.in-Some.i told
 
 pub perform_by_tool-requires-clause-enabled : goal.perform_by_tool-requires-clause-enabled
 perform_by_tool-requires-clause-enabled c = first-comes c.args.self.now.machine c.args.self.now.state c.args.action c.requires
@@ -26,6 +26,6 @@ pub perform_by_tool-requires-clause-no_pool : goal.perform_by_tool-requires-clau
 perform_by_tool-requires-clause-no_pool c =
     let in_self = c.self.inside in
     let w = in_self.trail in
-    let told : option_map pool_number (pool_of_event in_self.granularity (state_of w) c.args.action) ≡ None = sym (c.pool_of_event.ensures w.input (state_of w) c.self.invariant.parts.known) ∙ c.in-None.is in
+    let told : option_map pool_number (pool_of_event in_self.granularity (state_of w) c.args.action) ≡ None = sym (c.pool_of_event.ensures w.input (state_of w) c.self.invariant.0.parts.known) ∙ c.in-None.is in
     sym (ap (λ (x : Standing). pool_of_event x.machine.config.granularity x.state c.args.action) c.self.view_is)
-    ∙ ap (λ (g : ℕ). pool_of_event g (state_of w) c.args.action) (sym c.self.invariant.granularity_is) ∙ told-none _ told
+    ∙ ap (λ (g : ℕ). pool_of_event g (state_of w) c.args.action) (sym c.self.invariant.0.granularity_is) ∙ told-none _ told

@@ -1,4 +1,4 @@
-use Rattle.std.proofs.Common.{◌≡◌, ◌≢◌, ◌∙◌, ℕ, true, List, length, sym, ap, subst, arith}
+use Rattle.std.proofs.Common.{◌≡◌, ◌≢◌, ◌∙◌, ◌<◌, ℕ, true, List, length, sym, ap, subst, arith}
 use Rattle.std.specs.Prelude.{Option, None, Some}
 use Rattle.sched_base.specs.declared.Moment.{Moment}
 use Rattle.sched_model.specs.declared.action.Action.{Action}
@@ -7,9 +7,9 @@ use Rattle.sched_model.specs.Places.{at_place}
 use Rattle.pool_core.specs.Seen.{Seen}
 use Rattle.pool_slots.specs.Places.{state_of}
 use Rattle.pool_slots.proofs.Stepping.{few-pools}
-use Rattle.engine.specs.Running.{IsFirstOfPlace, IsNextOfPlace, IsRunning, pool_of_event}
+use Rattle.engine.specs.Running.{IsFirstOfPlace, IsIdleFrom, IsNextOfPlace, IsRunning, pool_of_event}
 use Rattle.engine.specs.Standing.{Standing}
-use Rattle.engine.proofs.Kept.{written}
+use Rattle.engine.proofs.Kept.{idle-more, written}
 use Rattle.engine.proofs.Performing.{own-event, running-same, running-stepped}
 use Rattle.engine.proofs.engine.Engine.perform_in_pool.Goals as goal
 
@@ -20,9 +20,9 @@ read_one-requires-clause-place c =
     let home : pool_of_event w.input.config.granularity (state_of w) c.args.action ≡ Some c.args.i = ap (λ (x : Standing). pool_of_event x.machine.config.granularity x.state c.args.action) c.self.view_is ∙ c.requires.home in
     let on : is_enabled w.input (state_of w) (state_of w).now c.args.action ≡ true = ap (λ (x : Standing). is_enabled x.machine x.state x.state.now c.args.action) c.self.view_is ∙ c.requires.enabled in
     let own = own-event w.input.config.granularity (state_of w) c.args.action c.args.i home in
-    let low = few-pools w c.self.invariant.parts.goes in_self.moment.0 c.self.invariant.now_is c.args.action own.0 on c.args.i own.1 in
+    let low = few-pools w c.self.invariant.0.parts.goes in_self.moment.0 c.self.invariant.0.now_is c.args.action own.0 on c.args.i own.1 in
     let stand = c.perform_among-event.ensures.stand in
-    let count : length c.perform_among-event.new.slots ≡ length in_self.slots.items = stand.count ∙ sym c.self.invariant.parts.stand.count in
+    let count : length c.perform_among-event.new.slots ≡ length in_self.slots.items = stand.count ∙ sym c.self.invariant.0.parts.stand.count in
     let read : length c.as_slice.result.now ≡ 16 = ap length (c.as_slice.ensures.value ∙ written in_self.slots c.perform_among-event.new.slots count) ∙ stand.count in
     omega (arith, low, read)
 
@@ -33,10 +33,10 @@ invariant_of-self c =
     let home : pool_of_event w.input.config.granularity (state_of w) c.args.action ≡ Some c.args.i = ap (λ (x : Standing). pool_of_event x.machine.config.granularity x.state c.args.action) c.self.view_is ∙ c.requires.home in
     let on : is_enabled w.input (state_of w) (state_of w).now c.args.action ≡ true = ap (λ (x : Standing). is_enabled x.machine x.state x.state.now c.args.action) c.self.view_is ∙ c.requires.enabled in
     let own = own-event w.input.config.granularity (state_of w) c.args.action c.args.i home in
-    let low = few-pools w c.self.invariant.parts.goes in_self.moment.0 c.self.invariant.now_is c.args.action own.0 on c.args.i own.1 in
+    let low = few-pools w c.self.invariant.0.parts.goes in_self.moment.0 c.self.invariant.0.now_is c.args.action own.0 on c.args.i own.1 in
     let e = c.perform_among-event.ensures in
     let left : List (Option Seen) = c.perform_among-event.new.slots in
-    let count : length left ≡ length in_self.slots.items = e.stand.count ∙ sym c.self.invariant.parts.stand.count in
+    let count : length left ≡ length in_self.slots.items = e.stand.count ∙ sym c.self.invariant.0.parts.stand.count in
     let slots = written in_self.slots left count in
     let read : c.as_slice.result.now ≡ left = c.as_slice.ensures.value ∙ slots in
     let r = c.read_one.ensures in
@@ -50,6 +50,11 @@ invariant_of-self c =
     let first = subst (λ (xs : List (Option Seen)). IsFirstOfPlace in_self.moment.0 (at_place xs c.args.i) (at_place c.read_one.new.firsts c.args.i)) read r.first in
     let next = subst (λ (xs : List (Option Seen)). at_place c.read_one.new.firsts c.args.i ≡ None → IsNextOfPlace (at_place xs c.args.i) (at_place c.read_one.new.nexts c.args.i)) read r.next in
     let running : IsRunning c.add.new.self in_self.moment.0 in_self.horizon.0 in_self.granularity left in_self.tool in_self.spares c.read_one.new.firsts c.read_one.new.nexts =
-    running-stepped w c.add.new.self in_self.moment.0 in_self.horizon.0 in_self.granularity c.args.i in_self.slots.items left in_self.tool in_self.spares in_self.firsts.items in_self.nexts.items c.self.invariant
+    running-stepped w c.add.new.self in_self.moment.0 in_self.horizon.0 in_self.granularity c.args.i in_self.slots.items left in_self.tool in_self.spares in_self.firsts.items in_self.nexts.items c.self.invariant.0
     c.perform_among-event.result c.add.ensures low e.step e.stand others c.read_one.new.firsts c.read_one.new.nexts count_firsts count_nexts other_firsts other_nexts first next in
-    running-same c.add.new.self in_self.moment.0 in_self.horizon.0 in_self.granularity in_self.tool in_self.spares _ left _ c.read_one.new.firsts _ c.read_one.new.nexts slots firsts nexts running
+    let fits : c.args.i < length in_self.firsts.items = (let k = c.self.invariant.0.kept.count_firsts in let s = c.self.invariant.0.parts.stand.count in omega (arith, low, k, s)) in
+    let most = c.at_least-self-inside.ensures in (
+      running-same c.add.new.self in_self.moment.0 in_self.horizon.0 in_self.granularity in_self.tool in_self.spares _ left _ c.read_one.new.firsts _ c.read_one.new.nexts slots firsts nexts running,
+      subst (IsIdleFrom c.at_least-self-inside.result) (sym firsts)
+          (idle-more c.args.i in_self.busy c.at_least-self-inside.result in_self.firsts.items c.read_one.new.firsts fits count_firsts other_firsts most.not_less most.other most.most c.self.invariant.1),
+    )

@@ -3,8 +3,8 @@ use Rattle.sched_model.specs.declared.machine.Machine.{Machine}
 use Rattle.sched_model.specs.Checked.{IsChecked}
 use Rattle.journal_core.specs.Parts.{lists, tool_lock, tool_part}
 use Rattle.lock_moves.specs.Plays.{IsPartOfSome}
-use Rattle.lock_moves.specs.Sets.{IsAsKnown, LockTable, seeing}
-use Rattle.lock_moves.specs.Sight.{gave}
+use Rattle.lock_moves.specs.Sets.{IsAsKnown, LockTable, sitting_with}
+use Rattle.lock_moves.specs.Sight.{after_give}
 use Rattle.lock_moves.specs.Words.{name_number}
 use Rattle.hall.specs.declared.value.PartState.{PartState}
 use Rattle.hall.specs.declared.value.PartState.TheVariants.{Pool, Tool}
@@ -37,7 +37,7 @@ returns-in-Tool-clause-nothing g c =
     only-gone k c.lock_of-held.new.seat c.take_book-book.new.seat c.put_book.new.seat c.unlock.new.seat
     (sought-only k (part_of_value c.lock_of-held.result.value) t.0 t.1 c.args.seat.now c.lock_of-held.new.seat t.2)
     c.take_book-book.ensures.locks (keeps-all k c.take_book-book.new.seat.view c.put_book.new.seat.view c.put_book.ensures.locks)
-    (subst (λ (j : ℕ). c.unlock.new.seat ≡ seeing c.put_book.new.seat (gave j c.put_book.new.seat.view)) (c.new.ensures.lock ∙ c.lock-lock.ensures) c.unlock.ensures)
+    (subst (λ (j : ℕ). c.unlock.new.seat ≡ sitting_with c.put_book.new.seat (after_give j c.put_book.new.seat.view)) (c.new.ensures.lock ∙ c.lock-lock.ensures) c.unlock.ensures)
 
 pub returns-in-Tool-clause-done : goal.returns-in-Tool-clause-done
 returns-in-Tool-clause-done g c =

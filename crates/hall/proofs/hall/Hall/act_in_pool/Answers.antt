@@ -1,7 +1,7 @@
 use Rattle.std.proofs.Common.{◌≡◌, ℕ, sym, subst}
 use Rattle.sched_model.specs.Checked.{IsChecked}
-use Rattle.lock_moves.specs.Sets.{LockTable, seeing}
-use Rattle.lock_moves.specs.Sight.{Sitting, gave}
+use Rattle.lock_moves.specs.Sets.{LockTable, sitting_with}
+use Rattle.lock_moves.specs.Sight.{Sitting, after_give}
 use Rattle.hall.specs.Settling.{HoldsOnly}
 use Rattle.hall.proofs.Locking.{gave_keeps}
 use Rattle.hall.proofs.UnderOne.{done-held, fills-held, only-gone, same-sight}
@@ -12,7 +12,7 @@ returns-clause-nothing g c =
     only-gone c.args.lock.0 c.read_word.new.seat c.take_book-book.new.seat c.settle-done.new.seat c.unlock.new.seat
     (subst (λ (s : Sitting). HoldsOnly c.args.lock.0 s.view) (sym c.read_word.ensures.same) c.requires.only)
     c.take_book-book.ensures.locks c.settle-done.ensures.others
-    (subst (λ (k : ℕ). c.unlock.new.seat ≡ seeing c.settle-done.new.seat (gave k c.settle-done.new.seat.view)) c.new.ensures.lock c.unlock.ensures)
+    (subst (λ (k : ℕ). c.unlock.new.seat ≡ sitting_with c.settle-done.new.seat (after_give k c.settle-done.new.seat.view)) c.new.ensures.lock c.unlock.ensures)
 
 pub returns-clause-done : goal.returns-clause-done
 returns-clause-done g c =

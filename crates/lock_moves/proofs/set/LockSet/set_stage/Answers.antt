@@ -1,6 +1,6 @@
 use Rattle.std.proofs.Common.{rules, ℕ, ◌<◌, [], ◌∷◌, sym, ap, ◌∙◌, subst}
 use Rattle.journal_core.specs.Books.{Chronicle}
-use Rattle.lock_moves.specs.Sight.{Seen, Holds, naming, view_naming}
+use Rattle.lock_moves.specs.Sight.{Seen, Holds, after_naming, view_naming}
 use Rattle.lock_moves.specs.Rests.{first_of_views}
 use Rattle.lock_moves.specs.Plays.{Next}
 use Rattle.lock_moves.proofs.Named.{core_below}
@@ -29,7 +29,7 @@ invariant_of-seat g c = let is = c.fetch_add.ensures.2 c.args.r.0 (search rules)
 
 pub returns : goal.returns
 returns g c = let is = c.fetch_add.ensures.2 c.args.r.0 (search rules) in
-    let view = ap (λ l. (first_of_views l).seen) c.into_badge.ensures.2 ∙ (ap (λ z. z.0.seen) is ∙ (ap (λ z. naming c.args.r.0 z.0.seen) c.seated-me.ensures.2 ∙ ap (λ z. naming c.args.r.0 z.view) c.seat.view_is)) in
+    let view = ap (λ l. (first_of_views l).seen) c.into_badge.ensures.2 ∙ (ap (λ z. z.0.seen) is ∙ (ap (λ z. after_naming c.args.r.0 z.0.seen) c.seated-me.ensures.2 ∙ ap (λ z. after_naming c.args.r.0 z.view) c.seat.view_is)) in
     let table = c.into_badge.ensures.0 ∙ (c.fetch_add.ensures.0 ∙ (c.seated-me.ensures.0 ∙ ap (λ z. z.table) c.seat.view_is)) in
     let id = c.into_badge.ensures.1 ∙ (c.fetch_add.ensures.1 ∙ (c.seated-me.ensures.1 ∙ ap (λ z. z.id) c.seat.view_is)) in
     λ i. record { table = table i; id = id i; view = view i }

@@ -2,7 +2,7 @@ use Rattle.std.proofs.Common.{rules, ◌≡◌, ◌<◌, ℕ, List, [], ◌∷�
 use Rattle.atomic_table.specs.Table.{Me, rest}
 use Rattle.lock_moves.specs.declared.content.Content.{Content}
 use Rattle.lock_moves.specs.declared.content.Content.TheVariants.{Out, Value}
-use Rattle.lock_moves.specs.Sight.{Known, Seen, View, AllBelow, find_lock, known, view_took, with_out}
+use Rattle.lock_moves.specs.Sight.{Known, Seen, View, AllBelow, find_lock, known_part, view_took, with_out}
 use Rattle.lock_moves.specs.Rests.{first_of_views}
 use Rattle.lock_moves.specs.Plays.{Lists, IsPartOfSome}
 use Rattle.lock_moves.proofs.Finding.{find-head, value_out}
@@ -32,7 +32,7 @@ load-requires g c = let t = c.compare_exchange-found.ensures.2.0 c.if-found-ne0.
     let slots : rest c.compare_exchange-found.new.seat.me.1 ≡ [] = ap (λ z. rest z.1) t.3 ∙ ap (λ z. z.1) is in (
       search rules,
       search rules,
-      settles_at g.V.Part.part g.V.Part.suits _ _ _ _ _ _ w k (c.exchange-content.ensures.3 ∙ (λ i. (view i, (k, Out) ∷ slots i))) refl (known (g.V.Part.part t.0) t.1, find-head k (known (g.V.Part.part t.0) t.1) v.seen.held) rests.2,
+      settles_at g.V.Part.part g.V.Part.suits _ _ _ _ _ _ w k (c.exchange-content.ensures.3 ∙ (λ i. (view i, (k, Out) ∷ slots i))) refl (known_part (g.V.Part.part t.0) t.1, find-head k (known_part (g.V.Part.part t.0) t.1) v.seen.held) rests.2,
     )
 
 pub returns : goal.returns
