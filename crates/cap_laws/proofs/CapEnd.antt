@@ -5,6 +5,7 @@ use Rattle.std.specs.Prelude.{Option, Some, None, max, is_some, sum_by, ◌&&◌
 use Rattle.std.specs.List.{list_any}
 use Rattle.std.proofs.lemmas.Int.{ints}
 use Rattle.std.proofs.lemmas.List.Sums.{sum_by-cons}
+use Rattle.std.proofs.lemmas.Bool.{and_from}
 use Rattle.sched_base.specs.Credit2Numbers.{above_zero}
 use Rattle.sched_model.specs.declared.event.Event.{Event}
 use Rattle.sched_model.specs.declared.event.Entry.{Entry}
@@ -12,7 +13,7 @@ use Rattle.sched_model.specs.declared.machine.Machine.{Machine}
 use Rattle.sched_model.specs.declared.state.State.{State}
 use Rattle.sched_model.specs.declared.state.Credit2Domain.{Credit2Domain}
 use Rattle.sched_model.specs.Runs.{Reached, IsRunFrom, after_entry, after_entries}
-use Rattle.sched_laws.proofs.Bools.{or_left, or_right, both}
+use Rattle.sched_base.proofs.Bools.{or_left, or_right}
 use Rattle.term_laws.specs.RtdsTerm.{Leg, late_of, leg_from, moves}
 use Rattle.term_laws.proofs.Time.{time_goes_on}
 use Rattle.cap_laws.specs.CapTerm.{PlacedLeg, CapTerm, next_decision, taken_for, domain_legs, cap_set, settings, refills, credit2_in, shared_span, meets, is_set_after}
@@ -115,7 +116,7 @@ calm_by m d r past first (entry ∷ entries) n after begun none = λ open_still.
         let a : nat_lt past n ≡ true = grind (arith, after) in
         let b : nat_lt first n ≡ true = grind (arith, begun) in
         let c : nat_lt n (next_decision r (suc n) entries) ≡ true = grind (arith, low) in
-        let here : (nat_lt past n && nat_lt first n && nat_lt n (next_decision r (suc n) entries)) ≡ true = both _ _ (both _ _ a b) c in
+        let here : (nat_lt past n && nat_lt first n && nat_lt n (next_decision r (suc n) entries)) ≡ true = and_from _ _ (and_from _ _ a b) c in
         let head = or_left (nat_lt past n && nat_lt first n && nat_lt n (next_decision r (suc n) entries)) (list_any (λ k. nat_lt past k && nat_lt first k && nat_lt k (next_decision r (suc n) entries)) (settings m d (suc n) entries)) found in
         cc)
 

@@ -1,7 +1,7 @@
 -- The budget and what the running units hold are together at most the total of the cap, wherever a term may begin.
 use Rattle.sched_laws.proofs.Lists.{some_same}
 use Rattle.std.proofs.Common.{◌≡◌, ◌≤◌, ◌<◌, ℕ, suc, Bool, true, false, refl, arith, ap, subst, sym, ◌∙◌, inl, inr, cond}
-use Rattle.std.specs.Prelude.{Option, Some, None, option_map, max, is_some, ◌||◌, ℤ, pos, ◌+ℤ◌, ◌-ℤ◌, ◌≤ℤ◌}
+use Rattle.std.specs.Prelude.{Option, Some, None, option_map, max, is_some, ◌||◌, ℤ, pos, ◌-ℤ◌}
 use Rattle.std.proofs.lemmas.Int.{ints}
 use Rattle.sched_base.specs.Credit2Numbers.{above_zero, total}
 use Rattle.sched_model.specs.declared.event.Entry.{Entry}

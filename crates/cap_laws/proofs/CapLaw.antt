@@ -4,6 +4,7 @@ use Rattle.std.specs.Prelude.{Option, Some, None, is_some, sum_by, ◌&&◌, ◌
 use Rattle.std.specs.List.{All, AllByRecursion, list_any}
 use Rattle.std.proofs.lemmas.List.Elements.{All-from_recursion}
 use Rattle.std.proofs.lemmas.List.Sums.{sum_by-cons}
+use Rattle.std.proofs.lemmas.Bool.{not-true}
 use Rattle.sched_base.specs.Credit2Numbers.{above_zero, total}
 use Rattle.sched_model.specs.declared.event.Event.{Event}
 use Rattle.sched_model.specs.declared.event.Entry.{Entry}
@@ -14,7 +15,7 @@ use Rattle.sched_model.specs.Opening.{opening, core_count}
 use Rattle.sched_model.specs.Runs.{Reached, run_start as begun, IsRunFrom, IsRun, after_entry, after_entries}
 use Rattle.sched_laws.specs.StateLaws.{state_after}
 use Rattle.sched_laws.proofs.Lists.{AllByRecursion-map}
-use Rattle.sched_laws.proofs.Bools.{and_left, and_right, not_true, or_left, or_right}
+use Rattle.sched_base.proofs.Bools.{and_left, and_right, or_left, or_right}
 use Rattle.term_laws.proofs.Time.{time_goes_on}
 use Rattle.cap_laws.specs.CapTerm.{PlacedLeg, CapTerm, domain_legs, cap_set, settings, refills, cap_after, begins_term, term_from, terms_begun, credit2_in, first_cap, cap_terms, shared_span, meets, is_set_after, KeepsCap}
 use Rattle.cap_laws.proofs.CapTracks.{cap_at, CapTracks}
@@ -137,8 +138,8 @@ module _ (m : Machine) (d : ℕ) (K : State → Type 0) (tracks : CapTracks m d 
   -- what is kept of all legs is what the law says
   keeps : (term : CapTerm) → (term.ends_by_setting ≡ false → disturbed_rest m d K tracks set term nobody last 0 entries ≡ 0 → time_rest m d K tracks set term nobody last 0 entries ≤ term.budget + late_rest m d K tracks set term nobody last 0 entries) → KeepsCap set placed term
   keeps term kept spoken =
-      let plain : term.ends_by_setting ≡ false = not_true term.ends_by_setting (and_left (not term.ends_by_setting) (not (list_any (λ leg. meets term leg && is_set_after set term leg) placed)) spoken) in
-      let clear = not_true (list_any (λ leg. meets term leg && is_set_after set term leg) placed) (and_right (not term.ends_by_setting) (not (list_any (λ leg. meets term leg && is_set_after set term leg) placed)) spoken) in
+      let plain : term.ends_by_setting ≡ false = not-true term.ends_by_setting (and_left (not term.ends_by_setting) (not (list_any (λ leg. meets term leg && is_set_after set term leg) placed)) spoken) in
+      let clear = not-true (list_any (λ leg. meets term leg && is_set_after set term leg) placed) (and_right (not term.ends_by_setting) (not (list_any (λ leg. meets term leg && is_set_after set term leg) placed)) spoken) in
       let none = none_disturbs set term placed clear in
       let times = whole_sum (core_count m.config) d (shared_span term) last entries in
       let lates = whole_sum (core_count m.config) d (late_of_met term) last entries in

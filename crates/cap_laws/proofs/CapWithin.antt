@@ -18,6 +18,7 @@ use Rattle.cap_laws.proofs.CoreSums.{over, total_over, total_same, total_one}
 use Rattle.cap_laws.proofs.CapLegs.{OpenLeg, Opens, to_close, rest, opens_after, DecidesNone, decides, Tracked, closes_none, tracked_after, late_is}
 use Rattle.cap_laws.proofs.CapStep.{left_over, budgeted, part, late_part, Within, closed_by, closes_here, in_term, cap_there, cap_of, cap_stays}
 use Rattle.cap_laws.proofs.CapEnd.{late_of_met, disturbs, later_none, EndsLate, open_fits, Calm, calm_by, HasSettings, settings_follow, ends_late, some_clash}
+use Rattle.sched_laws.proofs.Lists.{none_without}
 
 -- a term begins where it is said to, and does not end before the moment from which it is followed
 pub term_starts : (m : Machine) (d : ℕ) (s : State) (entries : List Entry) (percent t0 n : ℕ) → (term_from m s d percent t0 n entries).from ≡ t0
@@ -67,10 +68,6 @@ ends_by m d e ends none = go (refills d e) (moves d e) refl refl
     go a true is_a is_b = (move_quiet d e is_b, inr is_b)
     go true false is_a is_b = (refill_quiet d e is_a, inl (is_a, is_b))
     go false false is_a is_b = absurd (let all : ends_term m d e ≡ false = ap (λ (x : Bool). x || is_some (cap_set m d e) || moves d e) is_a ∙ ap (λ (o : Option ℕ). is_some o || moves d e) none ∙ is_b in cc)
-
-none_set : {X : Type 0} (o : Option X) → is_some o ≡ false → o ≡ None
-none_set None is = refl
-none_set (Some x) is = absurd (cc)
 
 over_none : {X : Type 0} (f g : X → ℕ) (o : Option X) → ((x : X) → o ≡ Some x → f x ≡ g x) → over f o ≡ over g o
 over_none f g None same = refl
@@ -197,7 +194,7 @@ module _ (m : Machine) (d : ℕ) (K : State → Type 0) (tracks : CapTracks m d 
           let starts : t0 ≡ term.from = ap (λ (z : CapTerm). z.from) is2 in
           let until : entry.at.0 ≡ term.until = ap (λ (z : CapTerm). z.until) is2 in
           let last_is : n ≡ term.last = ap (λ (z : CapTerm). z.last) is2 in
-          let not_set : cap_set m d entry.event ≡ None = none_set (cap_set m d entry.event) (ap (λ (z : CapTerm). z.ends_by_setting) is2 ∙ plain) in
+          let not_set : cap_set m d entry.event ≡ None = none_without (cap_set m d entry.event) (ap (λ (z : CapTerm). z.ends_by_setting) is2 ∙ plain) in
           let by = ends_by m d entry.event ends not_set in
           let closes = closes_none high d n entry opens by.0 in
           let times = closes.parts (shared_span term) last entries in

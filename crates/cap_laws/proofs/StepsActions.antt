@@ -4,15 +4,16 @@ use Rattle.sched_base.specs.Numbers.{domain}
 use Rattle.std.proofs.Common.{◌≡◌, ℕ, true, refl, subst, sym, ◌∙◌}
 use Rattle.std.specs.Prelude.{Option, Some, None, slice_get}
 use Rattle.std.proofs.Math.Decide.{ℕ_discrete}
+use Rattle.std.proofs.lemmas.Bool.{ne_eqb}
 use Rattle.sched_model.specs.declared.action.Action.{Action}
 use Rattle.sched_model.specs.declared.action.Action.TheVariants.{Xl, DomMoved, Refill, Decide}
 use Rattle.sched_model.specs.declared.machine.Machine.{Machine}
 use Rattle.sched_model.specs.declared.work.CommandLine.{CommandLine}
 use Rattle.sched_model.specs.declared.state.State.{State}
-use Rattle.sched_model.specs.Checked.{IsChecked}
+use Rattle.sched_model.specs.CheckedMachine.{IsChecked}
 use Rattle.sched_model.specs.Machine.{is_enabled, event_of, after, verdict}
 use Rattle.term_laws.proofs.ActsIn.{acts_in}
-use Rattle.term_laws.proofs.Deciding.{decides, same_no}
+use Rattle.term_laws.proofs.Deciding.{decides}
 use Rattle.cap_laws.proofs.StepsSame.{same_refl}
 use Rattle.cap_laws.proofs.StepsSameAt.{SameAt, LeavesIt, PlanLeaves, sat_after}
 use Rattle.cap_laws.proofs.StepsSameMoved.{sat_dom_moved}
@@ -57,7 +58,7 @@ module _ (m : Machine) (checked : IsChecked m) (d : ℕ) (s : State) (k : Stands
     | yes same ↦ (
         let own : is_enabled m s s.now (DomMoved (domain d)) ≡ true → Stands m (after m s s.now (DomMoved (domain d))) → HomeOf d (after m s s.now (DomMoved (domain d))) → Gives (DomMoved (domain d)) = λ on2 k3 home3. moved_gives m d s k k3 (acts_in m s s.now (DomMoved (domain d)) on2) home3 in
         subst (λ (n : ℕ). is_enabled m s s.now (DomMoved (domain n)) ≡ true → Stands m (after m s s.now (DomMoved (domain n))) → HomeOf d (after m s s.now (DomMoved (domain n))) → Gives (DomMoved (domain n))) (sym same) own on k2 home2)
-    | no other ↦ by_same (DomMoved (domain e)) k2 (record { late = λ r. refl; stays = same_no e d other; sets = refl; refill = refl }) (sat_dom_moved d e other home.home home.pool home.there m.config.granularity s.now s same_now)
+    | no other ↦ by_same (DomMoved (domain e)) k2 (record { late = λ r. refl; stays = ne_eqb e d other; sets = refl; refill = refl }) (sat_dom_moved d e other home.home home.pool home.there m.config.granularity s.now s same_now)
   ]
 
   refill_any : (e : ℕ) → is_enabled m s s.now (Refill (domain e)) ≡ true → Stands m (after m s s.now (Refill (domain e))) → Gives (Refill (domain e))
@@ -65,7 +66,7 @@ module _ (m : Machine) (checked : IsChecked m) (d : ℕ) (s : State) (k : Stands
     | yes same ↦ (
         let own : is_enabled m s s.now (Refill (domain d)) ≡ true → Stands m (after m s s.now (Refill (domain d))) → Gives (Refill (domain d)) = λ on2 k3. refill_gives m checked d s k k3 (acts_in m s s.now (Refill (domain d)) on2) home holds in
         subst (λ (n : ℕ). is_enabled m s s.now (Refill (domain n)) ≡ true → Stands m (after m s s.now (Refill (domain n))) → Gives (Refill (domain n))) (sym same) own on k2)
-    | no other ↦ by_leaving (Refill (domain e)) other on k2 (record { late = λ r. refl; stays = refl; sets = refl; refill = same_no e d other })
+    | no other ↦ by_leaving (Refill (domain e)) other on k2 (record { late = λ r. refl; stays = refl; sets = refl; refill = ne_eqb e d other })
   ]
 
   pub action_gives : (action : Action) → is_enabled m s s.now action ≡ true → Stands m (after m s s.now action) → HomeOf d (after m s s.now action) → Gives action

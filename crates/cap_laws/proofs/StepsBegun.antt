@@ -1,5 +1,5 @@
 -- The opening: no core has a unit, and each budget is that of the cap.
-use Rattle.std.proofs.Common.{◌≡◌, ◌+◌, ◌-◌, ℕ, length, refl, subst, sym, ◌∙◌, inl, inr}
+use Rattle.std.proofs.Common.{◌≡◌, ◌-◌, ℕ, refl, subst, ◌∙◌, inl, inr}
 use Rattle.std.specs.Prelude.{Option, Some, None, pos}
 use Rattle.sched_base.specs.Credit2Numbers.{total}
 use Rattle.sched_model.specs.declared.config.PoolParams.{PoolParams}
@@ -7,7 +7,6 @@ use Rattle.sched_model.specs.declared.config.PoolParams.TheVariants as pool_para
 use Rattle.sched_model.specs.declared.config.DomParams.{DomParams}
 use Rattle.sched_model.specs.declared.config.DomParams.TheVariants as dom_params
 use Rattle.sched_model.specs.declared.machine.Machine.{Machine}
-use Rattle.sched_model.specs.declared.state.Pool.{Pool}
 use Rattle.sched_model.specs.declared.state.Resource.{Resource}
 use Rattle.sched_model.specs.declared.state.Credit2Domain.{Credit2Domain}
 use Rattle.sched_model.specs.declared.state.Records.{Records}
@@ -15,12 +14,11 @@ use Rattle.sched_model.specs.declared.state.Records.TheVariants.{Credit2Pool, Rt
 use Rattle.sched_model.specs.Places.{at_place}
 use Rattle.sched_model.specs.Credit2.{fresh_domain}
 use Rattle.sched_model.specs.Policy.{credit2_record, joined_records, fresh_records}
-use Rattle.sched_model.specs.Opening.{opening, most_pools, core_count}
+use Rattle.sched_model.specs.Opening.{opening}
 use Rattle.sched_model.specs.Actions.{home_of_core, home_of_domain}
 use Rattle.sched_laws.proofs.EachPlace.{by_option, is_empty, read_put_at, EachPlace-empty}
-use Rattle.sched_laws.proofs.Opened.{read_pools}
 use Rattle.term_laws.proofs.SamePool.{cur_in}
-use Rattle.term_laws.proofs.Beginning.{nobody_runs, records_keep}
+use Rattle.term_laws.proofs.Beginning.{nobody_runs, records_at_first}
 use Rattle.cap_laws.specs.CapTerm.{credit2_in}
 use Rattle.cap_laws.proofs.CapTracks.{number_in, on_core}
 use Rattle.cap_laws.proofs.StepsState.{unit_of_number, on_core_cur}
@@ -53,7 +51,4 @@ pub full_at_first : (m : Machine) (d : ℕ) (x : Credit2Domain) → credit2_in (
 full_at_first m d x =
     by_option (λ (o : Option Credit2Domain). o ≡ Some x → x.budget ≡ pos (total x.cap)) (home_of_domain (opening m) d) _ _ (λ none is. absurd (cc))
     (λ i found. by_option (λ (o : Option Credit2Domain). o ≡ Some x → x.budget ≡ pos (total x.cap)) (at_place (opening m).pools i) None (λ p. credit2_record p.scheduler.records d) (λ none is. absurd (cc))
-    (λ p at is. (
-    let q = read_pools m.config 0 (most_pools - length m.config.pools) m.config.pools i p at in
-    let all : AllFull p.scheduler.records = subst (λ (y : Pool). AllFull y.scheduler.records) (sym q.2) (records_keep AllFull full_joined m.config.granularity (0 + i) 0 m.config.domains _ (full_fresh q.0.params (length m.config.domains) (core_count m.config))) in
-    all d x is)))
+    (λ p at is. records_at_first AllFull full_joined full_fresh m i p at d x is))

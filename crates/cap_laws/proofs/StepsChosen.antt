@@ -7,9 +7,10 @@ use Rattle.sched_base.specs.Credit2Numbers.{above_zero, raise, take, quota, tota
 use Rattle.sched_model.specs.declared.state.Credit2Unit.{Credit2Unit}
 use Rattle.sched_model.specs.declared.state.Credit2Domain.{Credit2Domain}
 use Rattle.sched_model.specs.Places.{change_item}
-use Rattle.sched_model.specs.Eligible.{has_budget}
+use Rattle.sched_model.specs.EligibleUnits.{has_budget}
 use Rattle.sched_model.specs.Credit2.{burn_unit, burn_units, give_back, take_budget}
 use Rattle.sched_laws.proofs.EachPlace.{by_cond}
+use Rattle.sched_ranges.proofs.Budgets.{taken_low}
 use Rattle.sched_laws.proofs.Sound.{read_change_item}
 use Rattle.cap_laws.proofs.StepsDomain.{item_at, ArePast, past_item, burned_now, held_after, is_capped, Kept, kept_same, kept_trans, kept_map, kept_burned}
 
@@ -168,9 +169,6 @@ pub from_burned : (t j : ℕ) (x : Credit2Domain) (z : Credit2Unit) → slice_ge
 from_burned t j x z at = elim (read_change_item j j (λ (y : Credit2Unit). record y { burned = Some t }) x.units z at) [ inl was ↦ absurd (was.0 refl) | inr r ↦ sym (ap (λ (w : Credit2Unit). w.burned) r.3) ]
 
 -- what is left of a budget, and the part that is taken of it
-pub part_low : (b : ℤ) (q : ℕ) → pos 0 ≤ℤ b → pos 0 ≤ℤ take b q
-part_low b q low = omega (arith, ints, clamps, low)
-
 above_sum : (a b : ℤ) → pos 0 ≤ℤ a → pos 0 ≤ℤ b → above_zero a + above_zero b ≤ above_zero (a +ℤ b)
 above_sum (pos a) (pos b) la lb = omega arith
 above_sum (negsuc a) b la lb = absurd (omega (arith, ints, la))
@@ -178,7 +176,7 @@ above_sum (pos a) (negsuc b) la lb = absurd (omega (arith, ints, lb))
 
 pub split_budget : (b : ℤ) (q : ℕ) → pos 0 ≤ℤ b → above_zero (b -ℤ take b q) + above_zero (take b q) ≤ above_zero b
 split_budget b q low =
-    let p = part_low b q low in
+    let p = taken_low b q low in
     let r : pos 0 ≤ℤ (b -ℤ take b q) = omega (arith, ints, clamps, low) in
     let e : (b -ℤ take b q) +ℤ take b q ≡ b = rejoin b (take b q) in
     subst (λ (z : ℤ). above_zero (b -ℤ take b q) + above_zero (take b q) ≤ above_zero z) e (above_sum (b -ℤ take b q) (take b q) r p)

@@ -2,13 +2,14 @@
 use Rattle.std.proofs.Common.{◌≡◌, ◌<◌, ◌≤◌, ◌+◌, ◌-◌, ℕ, true, refl, arith, ap, subst, sym, ◌∙◌}
 use Rattle.std.specs.Prelude.{Option, Some, None, slice_get, length, ℤ, pos, ◌+ℤ◌, ◌-ℤ◌, ◌≤ℤ◌}
 use Rattle.std.proofs.lemmas.Int.{ints}
+use Rattle.sched_ranges.proofs.Budgets.{taken_low}
 use Rattle.sched_base.specs.Credit2Numbers.{above_zero, quota, total}
 use Rattle.sched_model.specs.declared.state.Credit2Unit.{Credit2Unit}
 use Rattle.sched_model.specs.declared.state.Credit2Domain.{Credit2Domain}
-use Rattle.sched_model.specs.Eligible.{has_budget}
+use Rattle.sched_model.specs.EligibleUnits.{has_budget}
 use Rattle.cap_laws.proofs.CapTracks.{Stops, GivesBack}
 use Rattle.cap_laws.proofs.StepsDomain.{ArePast, Kept, kept_same, kept_trans}
-use Rattle.cap_laws.proofs.StepsChosen.{own_charged, was_reset, has_taken, now_from, chosen_domain, part_of, given_by, own_cap, own_is, own_other, own_past, reset_cap, reset_budget, reset_kept, taken_cap, taken_is, taken_other, holds_taken, from_cap, from_budget, from_other, from_holds, from_burned, part_low, split_budget, budget_above}
+use Rattle.cap_laws.proofs.StepsChosen.{own_charged, was_reset, has_taken, now_from, chosen_domain, part_of, given_by, own_cap, own_is, own_other, own_past, reset_cap, reset_budget, reset_kept, taken_cap, taken_is, taken_other, holds_taken, from_cap, from_budget, from_other, from_holds, from_burned, split_budget, budget_above}
 
 -- a core decides at t: it had this unit of the domain, and now has that; the domain's record x becomes y, and the unit takes so much
 pub record DomainDecides (t : ℕ) (had has : Option ℕ) (taken : ℤ) (x y : Credit2Domain) : Type 0 where
@@ -75,10 +76,10 @@ module _ (most most2 t k : ℕ) (x : Credit2Domain) (past : ArePast t x.units) w
       pays_low : (had : Option ℕ) → 0 < x.cap → has_budget (own had) ≡ true → pos 0 ≤ℤ (again had).budget
       pays_low had some pays = subst (λ (b : ℤ). pos 0 ≤ℤ b) (sym (reset_budget most2 t k (own had))) (budget_above (own had) (subst (λ n. 0 < n) (sym (own_cap most t had x)) some) pays)
 
-  taken_low : (had has : Option ℕ) → 0 < x.cap → ((j : ℕ) → has ≡ Some j → has_budget (own had) ≡ true) → pos 0 ≤ℤ taken_by has (again had)
-  taken_low had None some pays = omega (arith, ints)
-  taken_low had (Some j) some pays =
-      part_low (again had).budget (quota (total (again had).cap) (length (again had).units))
+  paid_low : (had has : Option ℕ) → 0 < x.cap → ((j : ℕ) → has ≡ Some j → has_budget (own had) ≡ true) → pos 0 ≤ℤ taken_by has (again had)
+  paid_low had None some pays = omega (arith, ints)
+  paid_low had (Some j) some pays =
+      taken_low (again had).budget (quota (total (again had).cap) (length (again had).units))
       (subst (λ (b : ℤ). pos 0 ≤ℤ b) (sym (reset_budget most2 t k (own had))) (budget_above (own had) (subst (λ n. 0 < n) (sym (own_cap most t had x)) some) (pays j refl)))
 
   fits : (given : ℤ) (had has : Option ℕ) → 0 < x.cap → ((j : ℕ) → has ≡ Some j → has_budget (own had) ≡ true) → (own had).budget ≡ x.budget +ℤ given → Fits given had has
@@ -109,7 +110,7 @@ module _ (most most2 t k : ℕ) (x : Credit2Domain) (past : ArePast t x.units) w
     budget = λ some. fits (pos 0) None has some pays (omega (arith, ints));
     nothing = nothing None has;
     takes = takes None has;
-    low = λ some. taken_low None has some pays;
+    low = λ some. paid_low None has some pays;
   }
   domain_decides (Some i) has runs pays =
       let s = (runs i refl).1 in
@@ -122,7 +123,7 @@ module _ (most most2 t k : ℕ) (x : Credit2Domain) (past : ArePast t x.units) w
         budget = λ some. fits (given_by most t s.from s.unit) (Some i) has some pays (ap (λ (y : Credit2Domain). y.budget) (own_is most t i s.from x s.unit some s.at s.burned));
         nothing = nothing (Some i) has;
         takes = takes (Some i) has;
-        low = λ some. taken_low (Some i) has some pays;
+        low = λ some. paid_low (Some i) has some pays;
       }
     where
       back : (b : ℕ) (h : ℤ) → b ≤ t → pos b +ℤ h ≡ pos t +ℤ (h -ℤ pos (t - b))

@@ -15,14 +15,15 @@ use Rattle.sched_model.specs.declared.state.Credit2Unit.{Credit2Unit}
 use Rattle.sched_model.specs.declared.state.Credit2Domain.{Credit2Domain}
 use Rattle.sched_model.specs.declared.state.Credit2Records.{Credit2Records}
 use Rattle.sched_model.specs.Places.{at_place}
-use Rattle.sched_model.specs.Eligible.{Decision}
+use Rattle.sched_model.specs.EligibleUnits.{Decision}
 use Rattle.sched_model.specs.Policy.{decision_of, decision_by, kind_of, credit2_record}
 use Rattle.sched_model.specs.Pool.{ask_of, after_decide, decided_core, same_choice, settled_pool, home_cores, reconsidered_core}
 use Rattle.sched_laws.proofs.EachPlace.{by_test, at_place-change_each}
+use Rattle.sched_laws.proofs.OnePlace.{decided_cur}
 use Rattle.term_laws.proofs.RtdsSteps.{at_place-set_other}
 use Rattle.term_laws.proofs.SamePool.{cur_in}
 use Rattle.term_laws.proofs.TermPool.{at_place-put_at}
-use Rattle.term_laws.proofs.Track.{cur_decided, kind_decided}
+use Rattle.term_laws.proofs.Track.{kind_decided}
 use Rattle.cap_laws.proofs.CapTracks.{Stops, Takes, Decides, number_in}
 use Rattle.cap_laws.proofs.StepsDomain.{ArePast}
 use Rattle.cap_laws.proofs.StepsRecords.{RecordDecides, PoolDecides, pool_decides}
@@ -60,7 +61,7 @@ module _ (g t : ℕ) (n : ℕ) (c : Resource) (p : Pool) (at : at_place p.resour
   settles = same_settled d t (after_decide g t n c p) (after_decide g t n c p) (same_refl d (after_decide g t n c p))
 
   pub cur_here : cur_in (at_place next_pool.resources n) ≡ the_decision.unit
-  cur_here = settles.curs n ∙ ap cur_in (at_place-put_at n (decided_core t the_decision c) c p.resources at) ∙ cur_decided t the_decision c
+  cur_here = settles.curs n ∙ ap cur_in (at_place-put_at n (decided_core t the_decision c) c p.resources at) ∙ decided_cur t the_decision c
 
   pub core_next : (c2 : Resource) × (at_place next_pool.resources n ≡ Some c2)
   core_next =
@@ -77,7 +78,7 @@ module _ (g t : ℕ) (n : ℕ) (c : Resource) (p : Pool) (at : at_place p.resour
   -- the dues of the cores that have a unit of the domain
   due_here : (y : Credit2Domain) (j : ℕ) → credit2_record the_decision.records d ≡ Some y → has ≡ Some j → due_in (at_place next_pool.resources n) ≡ the_decision.due
   due_here y j is own =
-      settles.dues y is n j (ap (number_in d) (ap cur_in (at_place-put_at n (decided_core t the_decision c) c p.resources at) ∙ cur_decided t the_decision c) ∙ own)
+      settles.dues y is n j (ap (number_in d) (ap cur_in (at_place-put_at n (decided_core t the_decision c) c p.resources at) ∙ decided_cur t the_decision c) ∙ own)
       ∙ ap due_in (at_place-put_at n (decided_core t the_decision c) c p.resources at) ∙ due_decided t the_decision c
 
   due_there : (y : Credit2Domain) (k j : ℕ) → credit2_record the_decision.records d ≡ Some y → n ≢ k → number_in d (cur_in (at_place p.resources k)) ≡ Some j → due_in (at_place next_pool.resources k) ≡ due_in (at_place p.resources k)

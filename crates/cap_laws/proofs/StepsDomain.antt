@@ -8,7 +8,6 @@ use Rattle.sched_model.specs.declared.state.Credit2Domain.{Credit2Domain}
 use Rattle.sched_model.specs.Places.{change_item}
 use Rattle.sched_model.specs.Credit2.{burn_unit, burn_units}
 use Rattle.sched_laws.proofs.Sound.{read_change_item}
-use Rattle.sched_ranges.proofs.Budget.{get_map}
 use Rattle.cap_laws.proofs.CapTracks.{Stops}
 
 -- an element that is changed, and one that is not
@@ -31,9 +30,6 @@ past_item t i f units here past n b z at is = elim (read_change_item i n f units
   | inl was ↦ past n b z was.1 is
   | inr r ↦ here r.0 b r.1 (ap (λ (w : Credit2Unit). w.burned) r.3 ∙ is)
 ]
-
-pub past_map : (t : ℕ) (f : Credit2Unit → Credit2Unit) (units : List Credit2Unit) → ((n b : ℕ) (y : Credit2Unit) → slice_get units n ≡ Some y → (f y).burned ≡ Some b → b ≤ t) → ArePast t (map f units)
-past_map t f units here n b z at is = (let r = get_map f units n z at in here n b r.0 r.1 (ap (λ (w : Credit2Unit). w.burned) r.2 ∙ is))
 
 -- a running unit charged up to t
 abbrev pub burned_from : ℕ → ℕ → ℕ → Credit2Domain → Credit2Unit → Credit2Unit

@@ -10,7 +10,7 @@ use Rattle.sched_model.specs.declared.state.Pool.{Pool}
 use Rattle.sched_model.specs.declared.state.Credit2Domain.{Credit2Domain}
 use Rattle.sched_model.specs.Places.{at_place, test_at}
 use Rattle.sched_model.specs.Policy.{credit2_record}
-use Rattle.sched_laws.proofs.Bools.{clash}
+use Rattle.sched_base.proofs.Bools.{clash}
 use Rattle.term_laws.specs.RtdsTerm.{late_of, moves}
 use Rattle.term_laws.proofs.SamePool.{cur_in}
 use Rattle.term_laws.proofs.ReachedStates.{Known}

@@ -2,8 +2,8 @@
 use Rattle.sched_base.specs.Numbers.{domain as domain_number}
 use Rattle.std.proofs.Common.{◌≡◌, ℕ, Bool, true, false, List, refl, ap, subst, sym, ◌∙◌, cond, inl, inr}
 use Rattle.std.specs.Prelude.{Option, Some, None, is_some, ◌==◌, ◌||◌}
-use Rattle.std.specs.List.{list_any}
 use Rattle.std.proofs.Math.Decide.{ℕ_discrete}
+use Rattle.std.proofs.lemmas.Bool.{eq-eqb}
 use Rattle.sched_base.specs.declared.PoolId.{PoolId}
 use Rattle.sched_base.specs.declared.UnitId.{UnitId}
 use Rattle.sched_model.specs.declared.action.Action.TheVariants.{DomMoved}
@@ -11,11 +11,10 @@ use Rattle.sched_model.specs.declared.machine.Machine.{Machine}
 use Rattle.sched_model.specs.declared.state.State.{State}
 use Rattle.sched_model.specs.declared.state.Pool.{Pool}
 use Rattle.sched_model.specs.declared.state.Domain.{Domain}
-use Rattle.sched_model.specs.declared.state.Resource.{Resource}
 use Rattle.sched_model.specs.declared.state.Records.{Records}
 use Rattle.sched_model.specs.declared.state.Records.TheVariants.{Credit2Pool}
 use Rattle.sched_model.specs.declared.state.Credit2Domain.{Credit2Domain}
-use Rattle.sched_model.specs.Places.{at_place, put_at, test_at, change_at, numbered_items, numbers_from}
+use Rattle.sched_model.specs.Places.{at_place, put_at, test_at, change_at, numbers_from}
 use Rattle.sched_model.specs.Credit2.{fresh_domain}
 use Rattle.sched_model.specs.Policy.{default_dom_params, joined_records, credit2_record}
 use Rattle.sched_model.specs.Policy as policy
@@ -23,28 +22,17 @@ use Rattle.sched_model.specs.Pool.{settled_pool, without_domain, is_of_domain, u
 use Rattle.sched_model.specs.Actions.{change_pool}
 use Rattle.sched_model.specs.Machine.{after, event_of, left_by, joined_by, is_null}
 use Rattle.sched_laws.proofs.EachPlace.{by_cond, at_place-put_at, read_change_at, read_put_at, place_below}
-use Rattle.sched_laws.proofs.Bools.{and_left, and_right, not_true, or_left, or_right, is_same, clash}
-use Rattle.sched_laws.proofs.Lists.{test_at-some, some-test_at, none_passes, at_numbered, is_some_at, some_is, test_at-clear_at_false}
+use Rattle.sched_base.proofs.Bools.{or_right, clash}
+use Rattle.sched_laws.proofs.Lists.{test_at-some, some_is, test_at-clear_at_false}
 use Rattle.term_laws.proofs.SamePool.{cur_in}
 use Rattle.term_laws.proofs.ActsIn.{ActsIn, home_pools_same}
-use Rattle.term_laws.proofs.Moving.{CoresKeep, left_keeps, joined_keeps}
+use Rattle.term_laws.proofs.Moving.{came_moved, mover, mover_off}
 use Rattle.term_laws.proofs.Beginning.{queue_keeps}
+use Rattle.term_laws.proofs.TermState.{one_home}
 use Rattle.cap_laws.specs.CapTerm.{refills, cap_set}
 use Rattle.cap_laws.proofs.CapTracks.{cap_at, number_in, on_core}
 use Rattle.cap_laws.proofs.StepsState.{Stands, HomeOf, home_is, credit2_is, on_is, no_unit_there}
 use Rattle.cap_laws.proofs.StepsHolds.{StepGives, cap_of}
-
--- a pool after the change of one was there before, with the units on its cores
-pub record Came (pools : List (Option Pool)) (i : ℕ) (q : Pool) : Type 0 where
-  pub pool : Pool
-  pub at : at_place pools i ≡ Some pool
-  pub curs : (r : ℕ) → cur_in (at_place q.resources r) ≡ cur_in (at_place pool.resources r)
-
-came_changed : (j : ℕ) (f : Pool → Pool) (pools : List (Option Pool)) (i : ℕ) (q : Pool) → CoresKeep f → at_place (change_at j f pools) i ≡ Some q → Came pools i q
-came_changed j f pools i q keeps at = elim (read_change_at j i f pools q at) [
-  | inl was ↦ record { pool = q; at = was.1; curs = λ r. refl }
-  | inr x ↦ record { pool = x.0; at = subst (λ n. at_place pools n ≡ Some x.0) (sym x.2) x.1; curs = λ r. subst (λ (z : Pool). cur_in (at_place z.resources r) ≡ cur_in (at_place (x.0).resources r)) x.3 (keeps x.0 r) }
-]
 
 -- the record of a domain that has joined with default parameters has no cap
 put_is : (d : ℕ) (x y : Credit2Domain) (places : List (Option Credit2Domain)) → at_place (put_at d x places) d ≡ Some y → x ≡ y
@@ -81,27 +69,25 @@ module _ (m : Machine) (d : ℕ) (s : State) (k : Stands m s) (k2 : Stands m (af
   abbrev g : ℕ
   g = m.config.granularity
 
-  mover : (x : Domain) × (at_place a.pool.domains d ≡ Some x) × (is_some x.moving ≡ true)
-  mover = some-test_at a.pool.domains d (λ domain. is_some domain.moving) (and_left (test_at a.pool.domains d (λ domain. is_some domain.moving)) _ a.enabled)
+  the_mover : (x : Domain) × (at_place a.pool.domains d ≡ Some x) × (is_some x.moving ≡ true)
+  the_mover = mover m s d a
 
   there : test_at a.pool.domains d (λ x. true) ≡ true
-  there = (let x = mover in test_at-some a.pool.domains d (λ y. true) x.0 x.1 refl)
+  there = (let x = the_mover in test_at-some a.pool.domains d (λ y. true) x.0 x.1 refl)
 
   nobody : (r : ℕ) → number_in d (cur_in (at_place a.pool.resources r)) ≡ None
   nobody r =
-      let none = at_numbered (λ (x : Resource). (is_of_domain d x.cur || is_of_domain d x.saving) ≡ false) 0 a.pool.resources
-      (none_passes (λ (e : ℕ × Resource). is_of_domain d e.1.cur || is_of_domain d e.1.saving) (numbered_items 0 a.pool.resources) (not_true (list_any (λ (e : ℕ × Resource). is_of_domain d e.1.cur || is_of_domain d e.1.saving) (numbered_items 0 a.pool.resources)) (and_right (test_at a.pool.domains d (λ domain. is_some domain.moving)) _ a.enabled))) in
       elim (at_place a.pool.resources r) as (λ o. at_place a.pool.resources r ≡ o → number_in d (cur_in o) ≡ None) [
         | None ↦ λ is. refl
-        | Some c ↦ λ is. not_of_it d c.cur (or_left (is_of_domain d c.cur) (is_of_domain d c.saving) (none r c is))
+        | Some c ↦ λ is. not_of_it d c.cur (mover_off m s d a r c is)
       ] refl
 
-  to : (j : PoolId) × ((mover).0.moving ≡ Some j)
-  to = (let x = mover in some_is x.0.moving x.2)
+  to : (j : PoolId) × ((the_mover).0.moving ≡ Some j)
+  to = (let x = the_mover in some_is x.0.moving x.2)
 
-  state_is : s2 ≡ change_pool (to).0.0 (joined_by g s.now d (mover).0) (change_pool a.j (left_by s.now d) s)
+  state_is : s2 ≡ change_pool (to).0.0 (joined_by g s.now d (the_mover).0) (change_pool a.j (left_by s.now d) s)
   state_is =
-      let x = mover in
+      let x = the_mover in
       let j = to in
       ap (λ (o : Option ℕ). elim o as (λ _. State) [
         | None ↦ s
@@ -126,15 +112,14 @@ module _ (m : Machine) (d : ℕ) (s : State) (k : Stands m s) (k2 : Stands m (af
   abbrev left : List (Option Pool)
   left = change_at a.j (left_by s.now d) s.pools
 
-  at_home : at_place (change_at (to).0.0 (joined_by g s.now d (mover).0) left) home2.home ≡ Some home2.pool
+  at_home : at_place (change_at (to).0.0 (joined_by g s.now d (the_mover).0) left) home2.home ≡ Some home2.pool
   at_home = sym (ap (λ (x : State). at_place x.pools home2.home) state_is) ∙ home2.at
 
   -- no core has a unit of it afterwards
   nobody_now : (r : ℕ) → on_core s2 d r ≡ None
   nobody_now r =
-      let c1 = came_changed (to).0.0 (joined_by g s.now d (mover).0) left home2.home home2.pool (joined_keeps g s.now d (mover).0) at_home in
-      let c2 = came_changed a.j (left_by s.now d) s.pools home2.home c1.pool (left_keeps s.now d) c1.at in
-      on_is m s2 k2.known d home2.home home2.pool home2.at home2.there r ∙ ap (number_in d) (c1.curs r ∙ c2.curs r) ∙ before c2.pool c2.at
+      let came = came_moved g s.now d s home2.home home2.pool home2.at in
+      on_is m s2 k2.known d home2.home home2.pool home2.at home2.there r ∙ ap (number_in d) (came.2 r) ∙ before came.0 came.1
     where
       before : (p : Pool) → at_place s.pools home2.home ≡ Some p → number_in d (cur_in (at_place p.resources r)) ≡ None
       before p at =
@@ -148,16 +133,13 @@ module _ (m : Machine) (d : ℕ) (s : State) (k : Stands m s) (k2 : Stands m (af
 
   -- its record has no cap, if it has one
   no_cap : (y : Credit2Domain) → credit2_record home2.pool.scheduler.records d ≡ Some y → y.cap ≡ 0
-  no_cap y is = elim (read_change_at (to).0.0 home2.home (joined_by g s.now d (mover).0) left home2.pool at_home) [
-    | inr x ↦ joined_by_cap g s.now d (mover).0 x.0 y (ap (λ (q : Pool). credit2_record q.scheduler.records d) x.3 ∙ is)
+  no_cap y is = elim (read_change_at (to).0.0 home2.home (joined_by g s.now d (the_mover).0) left home2.pool at_home) [
+    | inr x ↦ joined_by_cap g s.now d (the_mover).0 x.0 y (ap (λ (q : Pool). credit2_record q.scheduler.records d) x.3 ∙ is)
     | inl was ↦ absurd (elim (read_change_at a.j home2.home (left_by s.now d) s.pools home2.pool was.1) [
       | inr x ↦ (
           let gone : test_at home2.pool.domains d (λ z. true) ≡ false = subst (λ (q : Pool). test_at q.domains d (λ z. true) ≡ false) x.3 (left_has_not s.now d x.0) in
           clash (test_at home2.pool.domains d (λ z. true)) home2.there gone)
-      | inl old ↦ (
-          let x = some-test_at home2.pool.domains d (λ z. true) home2.there in
-          let y2 = some-test_at a.pool.domains d (λ z. true) there in
-          old.0 (k.known.apart.domains home2.home a.j d (test_at-some s.pools home2.home (λ p. is_some (at_place p.domains d)) home2.pool old.1 (is_some_at (at_place home2.pool.domains d) x.0 x.1)) (test_at-some s.pools a.j (λ p. is_some (at_place p.domains d)) a.pool a.at (is_some_at (at_place a.pool.domains d) y2.0 y2.1))))
+      | inl old ↦ old.0 (one_home s home2.home a.j home2.pool a.pool d k.known.apart old.1 a.at home2.there there)
     ])
   ]
 
@@ -176,13 +158,13 @@ module _ (m : Machine) (d : ℕ) (s : State) (k : Stands m s) (k2 : Stands m (af
     tracks = record {
       stays = λ r is. nobody_now r ∙ sym (nobody_then r);
       decides = λ r late is. absurd (cc);
-      cap = cap_now ∙ sym (ap (λ (b : Bool). cond b 0 (cap_at s d)) (is_same d d refl));
+      cap = cap_now ∙ sym (ap (λ (b : Bool). cond b 0 (cap_at s d)) (eq-eqb d d refl));
       moved = λ r is. nobody_then r;
       set_budget = λ percent y is y_is. absurd (cc);
       set_stops = λ percent y is y_is n stop stops. absurd (cc);
       refilled = λ x y is x_is some y_is. absurd (cc);
       decided = λ r late x y is x_is some y_is. absurd (cc);
-      goes = λ x y ends late x_is some y_is. absurd (clash (d == d) (is_same d d refl) (or_right (refills d (event_of m s s.now (DomMoved (domain_number d))) || is_some (cap_set m d (event_of m s s.now (DomMoved (domain_number d))))) (d == d) ends));
+      goes = λ x y ends late x_is some y_is. absurd (clash (d == d) (eq-eqb d d refl) (or_right (refills d (event_of m s s.now (DomMoved (domain_number d))) || is_some (cap_set m d (event_of m s s.now (DomMoved (domain_number d))))) (d == d) ends));
     };
     holds = λ x is r n on. absurd (let none = nobody_now r in cc);
   }

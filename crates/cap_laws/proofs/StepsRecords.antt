@@ -1,9 +1,9 @@
 -- The decision of a Credit2 pool, and what becomes of one domain of it.
-use Rattle.term_laws.proofs.Deciding.{same_no}
 use Rattle.std.proofs.Common.{◌≡◌, ◌<◌, ◌≤◌, ◌+◌, ◌*◌, ℕ, zero, suc, Bool, true, false, List, refl, arith, ap, subst, sym, ◌∙◌, cond}
 use Rattle.std.specs.Prelude.{Option, Some, None, option_map, slice_get, map, min, ◌==◌, ℤ, pos, negsuc, ◌+ℤ◌, ◌≤ℤ◌}
 use Rattle.std.proofs.lemmas.Int.{ints}
 use Rattle.std.proofs.Math.Decide.{ℕ_discrete}
+use Rattle.std.proofs.lemmas.Bool.{ne_eqb}
 use Rattle.sched_base.specs.Numbers.{moment}
 use Rattle.sched_base.specs.Credit2Numbers.{above_zero, raise, slice}
 use Rattle.sched_base.specs.declared.Moment.{Moment}
@@ -15,10 +15,10 @@ use Rattle.sched_model.specs.declared.state.Credit2Domain.{Credit2Domain}
 use Rattle.sched_model.specs.declared.state.Credit2Records.{Credit2Records}
 use Rattle.sched_model.specs.declared.state.Records.TheVariants.{Credit2Pool}
 use Rattle.sched_model.specs.Places.{at_place, change_at, change_item}
-use Rattle.sched_model.specs.Eligible.{Decision, has_budget}
+use Rattle.sched_model.specs.EligibleUnits.{Decision, has_budget}
 use Rattle.sched_model.specs.Credit2.{max_weight, burn_unit, burn_units, burn_all, change_domain, give_back, burn_cur, choice, domain_has_budget, reset, resets_for, take_budget, best_other, slice_of, set_running, switch_off, decide, credit2_decision}
 use Rattle.sched_laws.proofs.EachPlace.{at_place-change_each}
-use Rattle.sched_laws.specs.Known.{IfUnit}
+use Rattle.sched_laws.specs.PoolFacts.{IfUnit}
 use Rattle.sched_laws.proofs.Sound.{change_at-twice}
 use Rattle.sched_ranges.proofs.Decided.{choice_pays}
 use Rattle.term_laws.proofs.RtdsSteps.{at_place-change_at, at_place-change_at_other}
@@ -49,7 +49,7 @@ change_seen {X} e d n f F places none some =
           subst (λ (k : ℕ). at_place (change_at e f places) k ≡ option_map (F (cond (e == d) (Some n) None)) (at_place places k)) same
           (at_place-change_at e f places ∙ sym (map_as (F (Some n)) f (at_place places e) some) ∙ ap (λ (c : Bool). option_map (F (cond c (Some n) None)) (at_place places e)) (sym b)))
       | no differs ↦ (
-          let b : (e == d) ≡ false = same_no e d differs in
+          let b : (e == d) ≡ false = ne_eqb e d differs in
           at_place-change_at_other e d f places differs ∙ sym (map_same (F None) (at_place places d) none) ∙ ap (λ (c : Bool). option_map (F (cond c (Some n) None)) (at_place places d)) (sym b))
     ]
 

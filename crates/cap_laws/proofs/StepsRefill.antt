@@ -4,6 +4,7 @@ use Rattle.std.proofs.Common.{◌≡◌, ◌<◌, ◌*◌, ℕ, true, false, ref
 use Rattle.std.specs.Prelude.{Option, Some, None, option_map, ◌==◌, ℤ, pos, ◌+ℤ◌, ◌-ℤ◌, ◌≤ℤ◌}
 use Rattle.std.specs.Int.{int_min}
 use Rattle.std.proofs.lemmas.Int.{ints, clamps}
+use Rattle.std.proofs.lemmas.Bool.{eq-eqb}
 use Rattle.sched_base.specs.Credit2Numbers.{total}
 use Rattle.sched_model.specs.declared.action.Action.TheVariants.{Refill}
 use Rattle.sched_model.specs.declared.machine.Machine.{Machine}
@@ -13,14 +14,14 @@ use Rattle.sched_model.specs.declared.state.Records.{Records}
 use Rattle.sched_model.specs.declared.state.Records.TheVariants.{Credit2Pool}
 use Rattle.sched_model.specs.declared.state.Credit2Unit.{Credit2Unit}
 use Rattle.sched_model.specs.declared.state.Credit2Domain.{Credit2Domain}
-use Rattle.sched_model.specs.Checked.{IsChecked}
+use Rattle.sched_model.specs.CheckedMachine.{IsChecked}
 use Rattle.sched_model.specs.Places.{at_place, test_at}
 use Rattle.sched_model.specs.Credit2.{max_weight, burn_unit, burn_units, periods, held_by_running, refill_domain}
 use Rattle.sched_model.specs.Policy as policy
 use Rattle.sched_model.specs.Policy.{credit2_record}
 use Rattle.sched_model.specs.Pool.{after_in, settled_pool, with_records}
 use Rattle.sched_model.specs.Machine.{after, event_of}
-use Rattle.sched_laws.proofs.Bools.{clash, is_same, or_left}
+use Rattle.sched_base.proofs.Bools.{clash, or_left}
 use Rattle.sched_ranges.proofs.Budget.{get_map}
 use Rattle.term_laws.proofs.RtdsSteps.{at_place-change_at}
 use Rattle.term_laws.proofs.SamePool.{cur_in}
@@ -123,7 +124,7 @@ module _ (m : Machine) (checked : IsChecked m) (d : ℕ) (s : State) (k : Stands
   }
     where
       ends_not : ends_term m d (event_of m s s.now (Refill (domain d))) ≡ false → ⊥
-      ends_not ends = clash (d == d) (is_same d d refl) (or_left (d == d) _ (or_left _ _ ends))
+      ends_not ends = clash (d == d) (eq-eqb d d refl) (or_left (d == d) _ (or_left _ _ ends))
 
 pub refill_gives : (m : Machine) → IsChecked m → (d : ℕ) (s : State) → Stands m s → Stands m (after m s s.now (Refill (domain d))) → ActsIn m s s.now (Refill (domain d)) → HomeOf d s → StateHolds d s → StepGives m d s (after m s s.now (Refill (domain d))) (event_of m s s.now (Refill (domain d)))
 refill_gives m checked d s k k2 a home holds =

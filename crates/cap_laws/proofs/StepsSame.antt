@@ -18,7 +18,7 @@ use Rattle.sched_model.specs.Policy.{credit2_record, rtds_record}
 use Rattle.sched_model.specs.Pool as pools
 use Rattle.sched_model.specs.declared.action.Action.{Action}
 use Rattle.sched_model.specs.declared.action.Action.TheVariants.{Refill, Decide}
-use Rattle.sched_model.specs.Pool.{after_in, settled_pool, home_cores, reconsidered_core, change_core, change_processor, change_vcpu, change_domain, change_cores_of, set_pending, with_doing, queue_unit, started_on, set_leaving, set_moving, pause, unpause, is_of_domain}
+use Rattle.sched_model.specs.Pool.{settled_pool, change_core, change_domain}
 use Rattle.sched_laws.proofs.Events.{LikePlace, LikePlaces, like_look, like_change_at, like_change_each, like_map, KeepsCore, KeptByCommands, KeptByParts, commands_of, kept_settled}
 use Rattle.sched_laws.proofs.Lists.{test_at-change_at}
 use Rattle.term_laws.proofs.RtdsSteps.{at_place-change_at_other}

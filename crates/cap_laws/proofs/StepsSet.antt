@@ -2,6 +2,7 @@
 use Rattle.std.proofs.Common.{◌≡◌, ◌+◌, ℕ, Bool, true, refl, arith, ap, subst, sym, ◌∙◌, cond}
 use Rattle.std.specs.Prelude.{Option, Some, None, option_map, is_some, ℤ, pos, ◌+ℤ◌}
 use Rattle.std.proofs.lemmas.Int.{ints}
+use Rattle.std.proofs.lemmas.Bool.{eq-eqb}
 use Rattle.sched_base.specs.Numbers.{moment, domain as domain_number}
 use Rattle.sched_base.specs.Credit2Numbers.{total}
 use Rattle.sched_base.specs.declared.UnitId.{UnitId}
@@ -17,7 +18,6 @@ use Rattle.sched_model.specs.Credit2.{max_weight, burn_unit, burn_units, set_wei
 use Rattle.sched_model.specs.Policy.{credit2_record, changed_records}
 use Rattle.sched_model.specs.Pool.{set_params, settled_pool, is_of_domain}
 use Rattle.sched_laws.proofs.EachPlace.{by_cond, at_place-change_each}
-use Rattle.sched_laws.proofs.Bools.{is_same}
 use Rattle.sched_ranges.proofs.Budget.{get_map}
 use Rattle.term_laws.proofs.RtdsSteps.{at_place-change_at}
 use Rattle.term_laws.proofs.SamePool.{cur_in}
@@ -117,7 +117,7 @@ module _ (d t n : ℕ) (weight : Option ℕ) (p : Pool) where
   marks r c = cond (is_of_domain d c.cur) (record c { pending = true; due = Some (moment t) }) c
 
   of_it : (c : Resource) (j : ℕ) → number_in d c.cur ≡ Some j → is_of_domain d c.cur ≡ true
-  of_it c j is = (let u = unit_of_number d j c.cur is in subst (λ (o : Option UnitId). is_of_domain d o ≡ true) (sym u.1) (is_same (u.0).dom.0 d u.2))
+  of_it c j is = (let u = unit_of_number d j c.cur is in subst (λ (o : Option UnitId). is_of_domain d o ≡ true) (sym u.1) (eq-eqb (u.0).dom.0 d u.2))
 
   mid_core : (r : ℕ) → at_place mid.resources r ≡ option_map (marks (0 + r)) (at_place p.resources r)
   mid_core r = at_place-change_each 0 r marks p.resources

@@ -1,9 +1,10 @@
 -- What a state tells of a domain, read from the pool that has it.
 use Rattle.term_laws.proofs.Beginning.{home_pool_of}
 use Rattle.std.proofs.Common.{◌≡◌, ◌≢◌, ◌<◌, ◌≤◌, ◌+◌, ◌-◌, ◌*◌, ◌/◌, ℕ, suc, Bool, true, false, length, refl, arith, ap, subst, sym, ◌∙◌, cond}
-use Rattle.std.specs.Prelude.{Option, Some, None, is_some, slice_get, unwrap_or, ◌==◌}
+use Rattle.std.specs.Prelude.{Option, Some, None, slice_get, unwrap_or, ◌==◌}
 use Rattle.std.proofs.Math.Decide.{ℕ_discrete}
 use Rattle.std.proofs.lemmas.Nat.{le-div}
+use Rattle.std.proofs.lemmas.Bool.{eq-eqb, and_from}
 use Rattle.sched_base.specs.declared.Moment.{Moment}
 use Rattle.sched_base.specs.declared.UnitId.{UnitId}
 use Rattle.sched_model.specs.declared.machine.Machine.{Machine}
@@ -16,23 +17,22 @@ use Rattle.sched_model.specs.declared.state.Credit2Records.{Credit2Records}
 use Rattle.sched_model.specs.declared.state.Records.{Records}
 use Rattle.sched_model.specs.declared.state.Records.TheVariants.{Credit2Pool}
 use Rattle.sched_model.specs.Places.{at_place, test_at}
-use Rattle.sched_model.specs.Checked.{IsChecked}
+use Rattle.sched_model.specs.CheckedMachine.{IsChecked}
 use Rattle.sched_model.specs.Opening.{core_count}
 use Rattle.sched_model.specs.Policy.{credit2_record}
 use Rattle.sched_model.specs.Actions.{home_of_core, home_of_domain}
 use Rattle.sched_model.specs.Runs.{Reached}
-use Rattle.sched_laws.specs.Each.{EachPlace}
-use Rattle.sched_laws.proofs.Bools.{both, is_same}
+use Rattle.sched_laws.specs.EachPlace.{EachPlace}
 use Rattle.sched_laws.proofs.Choices.{same_unit_same}
-use Rattle.sched_laws.specs.Known.{IfUnit}
+use Rattle.sched_laws.specs.PoolFacts.{IfUnit}
 use Rattle.sched_laws.proofs.Counts.{total_two}
 use Rattle.sched_laws.specs.Counts.{one_at}
-use Rattle.sched_laws.proofs.EachPlace.{found_at, none_found, by_option, place_below, is_empty}
+use Rattle.sched_laws.proofs.EachPlace.{by_option, place_below, is_empty}
 use Rattle.sched_laws.proofs.Kept.{IsApart}
-use Rattle.sched_laws.proofs.Lists.{test_at-some, some-test_at, is_some_at, item_below}
+use Rattle.sched_laws.proofs.Lists.{item_below}
 use Rattle.sched_laws.proofs.OnePlace.{one_same}
-use Rattle.sched_laws.specs.Known.{core_places}
-use Rattle.sched_laws.specs.Known.{UnitsAreOwn, IsThere}
+use Rattle.sched_laws.specs.PoolFacts.{core_places}
+use Rattle.sched_laws.specs.PoolFacts.{UnitsAreOwn, IsThere}
 use Rattle.sched_laws.proofs.SiblingsLaw.{some_processor}
 use Rattle.sched_ranges.specs.Ranges.{IsUnitOf}
 use Rattle.sched_ranges.specs.Budgets.{BudgetFits, Nobody}
@@ -42,7 +42,8 @@ use Rattle.sched_records.specs.Records.{HasRecords}
 use Rattle.sched_records.proofs.Law.{has_records}
 use Rattle.term_laws.specs.RtdsTerm.{core_in}
 use Rattle.term_laws.proofs.SamePool.{cur_in}
-use Rattle.term_laws.proofs.TermState.{core_is_in}
+use Rattle.sched_laws.proofs.PoolsLaw.{home_is as domain_home}
+use Rattle.term_laws.proofs.TermState.{core_is_in, has_domain, one_home}
 use Rattle.term_laws.proofs.ReachedStates.{IsReached, Known, knows}
 use Rattle.cap_laws.specs.CapTerm.{credit2_in}
 use Rattle.cap_laws.proofs.CapTracks.{number_in, on_core, due_at}
@@ -84,11 +85,8 @@ unit_of_number d n (Some u) is = go (u.dom.0 == d) refl is
     go true same is2 = (u, refl, grind (arith, same), cc)
     go false same is2 = absurd (cc)
 
-pub number_of_unit : (d : ℕ) (u : UnitId) → u.dom.0 ≡ d → number_in d (Some u) ≡ Some u.n
-number_of_unit d u same = ap (λ (b : Bool). cond b (Some u.n) None) (is_same u.dom.0 d same)
-
 same_units : (u v : UnitId) → u.dom.0 ≡ v.dom.0 → u.n ≡ v.n → u ≡ v
-same_units u v a b = same_unit_same u v (both (u.dom.0 == v.dom.0) (u.n == v.n) (is_same u.dom.0 v.dom.0 a) (is_same u.n v.n b))
+same_units u v a b = same_unit_same u v (and_from (u.dom.0 == v.dom.0) (u.n == v.n) (eq-eqb u.dom.0 v.dom.0 a) (eq-eqb u.n v.n b))
 
 pub on_core_cur : (s : State) (d r : ℕ) → on_core s d r ≡ number_in d (cur_in (core_in s r))
 on_core_cur s d r = go (core_in s r)
@@ -102,27 +100,11 @@ pub no_unit_there : (s : State) (d i k r : ℕ) (p q : Pool) (c : Resource) → 
 no_unit_there s d i k r p q c apart at there at_k own has ne = is_empty (number_in d c.cur) (λ n is. (
     let u = unit_of_number d n c.cur is in
     let in_q : IsThere q.domains u.0 = subst (IfUnit (IsThere q.domains)) u.1 (own.cores r c has).cur in
-    let in_q2 : test_at q.domains d (λ x. true) ≡ true = subst (λ e. test_at q.domains e (λ x. true) ≡ true) u.2 in_q in
-    let x = some-test_at q.domains d (λ x. true) in_q2 in
-    let y = some-test_at p.domains d (λ x. true) there in
-    ne (apart.domains k i d (test_at-some s.pools k (λ p. is_some (at_place p.domains d)) q at_k (is_some_at (at_place q.domains d) x.0 x.1)) (test_at-some s.pools i (λ p. is_some (at_place p.domains d)) p at (is_some_at (at_place p.domains d) y.0 y.1)))))
+    ne (one_home s k i q p d apart at_k at (subst (λ e. test_at q.domains e (λ x. true) ≡ true) u.2 in_q) there)))
 
 module _ (m : Machine) (s : State) (k : Known m s) (d i : ℕ) (p : Pool) (at : at_place s.pools i ≡ Some p) (there : test_at p.domains d (λ x. true) ≡ true) where
-  has_here : test_at s.pools i (λ p. is_some (at_place p.domains d)) ≡ true
-  has_here = (let y = some-test_at p.domains d (λ x. true) there in test_at-some s.pools i (λ p. is_some (at_place p.domains d)) p at (is_some_at (at_place p.domains d) y.0 y.1))
-
   pub home_is : home_of_domain s d ≡ Some i
-  home_is =
-      elim (home_of_domain s d) as (λ o. home_of_domain s d ≡ o → o ≡ Some i) [
-        | None ↦ λ is. absurd (
-            let no = none_found 0 i (λ p. is_some (at_place p.domains d)) s.pools p is at in
-            let y = some-test_at p.domains d (λ x. true) there in
-            let yes = is_some_at (at_place p.domains d) y.0 y.1 in
-            cc)
-        | Some j ↦ λ is. (
-            let f = found_at j (λ p. is_some (at_place p.domains d)) s.pools is in
-            ap (λ k. Some k) (k.apart.domains j i d (test_at-some s.pools j (λ p. is_some (at_place p.domains d)) f.0 f.1 f.2) has_here))
-      ] refl
+  home_is = domain_home s i d k.apart (has_domain s i d p at there)
 
   pub credit2_is : credit2_in s d ≡ credit2_record p.scheduler.records d
   credit2_is =

@@ -20,11 +20,11 @@ use Rattle.sched_model.specs.Places.{at_place, test_at}
 use Rattle.sched_model.specs.Actions.{home_of_core, home_of_domain}
 use Rattle.sched_model.specs.Commands.{domain_of, domain_named}
 use Rattle.sched_model.specs.Runs.{action_of}
-use Rattle.sched_laws.proofs.Bools.{clash}
-use Rattle.sched_laws.specs.Known.{IfUnit}
+use Rattle.sched_base.proofs.Bools.{clash}
+use Rattle.sched_laws.specs.PoolFacts.{IfUnit}
 use Rattle.sched_laws.proofs.EachPlace.{by_option, by_cond, found_at, is_empty}
 use Rattle.sched_laws.proofs.Lists.{test_at-some, some-test_at, some_is}
-use Rattle.sched_laws.specs.Known.{IsThere}
+use Rattle.sched_laws.specs.PoolFacts.{IsThere}
 use Rattle.term_laws.specs.RtdsTerm.{late_of, late_now, moves}
 use Rattle.term_laws.proofs.SamePool.{cur_in}
 use Rattle.term_laws.proofs.ReachedStates.{Known}

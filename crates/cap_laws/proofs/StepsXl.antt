@@ -1,6 +1,7 @@
 -- A line with a command: it sets the cap of the domain, or leaves the domain as it is.
 use Rattle.std.proofs.Common.{◌≡◌, ℕ, suc, Bool, true, false, refl, ap, sym, ◌∙◌, cond}
 use Rattle.std.specs.Prelude.{Option, Some, None, Result, Ok, Err, option_map, is_some, slice_get, nat_le, not, ◌&&◌, ◌==◌, pos}
+use Rattle.std.proofs.lemmas.Bool.{eq-eqb}
 use Rattle.sched_base.specs.Numbers.{domain as domain_number}
 use Rattle.sched_base.specs.Credit2Numbers.{total}
 use Rattle.sched_model.specs.declared.action.Action.TheVariants.{Xl}
@@ -23,7 +24,7 @@ use Rattle.sched_model.specs.Pool.{settled_pool, set_params, unit_count}
 use Rattle.sched_model.specs.Actions.{change_pool}
 use Rattle.sched_model.specs.Commands.{is_kind, carried_out, pool_of_plan}
 use Rattle.sched_model.specs.Machine.{after, after_command, event_of, verdict, settled_at, is_enabled, is_move_under_way}
-use Rattle.sched_laws.proofs.Bools.{clash, is_same, or_left, or_right}
+use Rattle.sched_base.proofs.Bools.{clash, or_left, or_right}
 use Rattle.sched_laws.proofs.Lists.{some-test_at}
 use Rattle.sched_records.specs.Records.{IsRecorded}
 use Rattle.term_laws.specs.RtdsTerm.{moves}
@@ -94,7 +95,7 @@ module _ (m : Machine) (d : ℕ) (s : State) (k : Stands m s) (k2 : Stands m (af
   sets = event_sets m s d s.now line is_line ∙ ap (verdict_cap d) is_plan ∙ ap (λ (b : Bool). cond b (Some n) None) (same d)
     where
       same : (a : ℕ) → (a == a) ≡ true
-      same a = is_same a a refl
+      same a = eq-eqb a a refl
 
   is_n : (percent : ℕ) → cap_set m d (event_of m s s.now Xl) ≡ Some percent → percent ≡ n
   is_n percent is = (let e : Some percent ≡ Some n = sym is ∙ sets in cc)

@@ -3,6 +3,7 @@ use Rattle.std.proofs.Common.{◌≡◌, ◌≢◌, ◌≤◌, ◌<◌, ◌+◌,
 use Rattle.std.specs.Prelude.{Option, Some, None, is_some, ℤ, pos, int_lt, ◌+ℤ◌, ◌-ℤ◌, slice_get, option_map, ◌&&◌, ◌||◌, ◌==◌}
 use Rattle.std.specs.List.{list_any}
 use Rattle.std.proofs.Math.Decide.{ℕ_discrete}
+use Rattle.std.proofs.lemmas.Bool.{false_from_ne_true, cases_Bool, or_cases, and_from}
 use Rattle.sched_base.specs.Numbers.{domain as domain_number}
 use Rattle.sched_base.specs.Credit2Numbers.{total, quota, take, burned_credit}
 use Rattle.sched_base.specs.declared.UnitId.{UnitId}
@@ -20,14 +21,15 @@ use Rattle.sched_model.specs.declared.state.Records.TheVariants.{Credit2Pool}
 use Rattle.sched_model.specs.declared.ask.Ask.{Ask}
 use Rattle.sched_model.specs.Places.{at_place, change_at, change_item, has_unit}
 use Rattle.sched_model.specs.State.{is_runnable}
-use Rattle.sched_model.specs.Eligible.{is_allowed, is_eligible, passes, eligible_units as eligible, has_budget}
+use Rattle.sched_model.specs.EligibleUnits.{is_allowed, is_eligible, passes, eligible_units as eligible, has_budget}
 use Rattle.sched_model.specs.Credit2 as credit2
 use Rattle.sched_model.specs.Credit2.{burn_unit, change_unit, change_domain, give_back, take_budget, credit_of, domain_has_budget, is_within_limit, greatest_unit, max_weight}
 use Rattle.sched_model.specs.Policy.{is_better, better_waits}
 use Rattle.sched_model.specs.Pool.{home_cores, ask_of}
-use Rattle.sched_laws.proofs.Bools.{and_left, and_right, both, one_of, either, clash}
+use Rattle.sched_base.proofs.Bools.{and_left, and_right, clash}
 use Rattle.sched_laws.proofs.Choices.{at_unit}
 use Rattle.sched_laws.proofs.EachPlace.{by_option, by_cond}
+use Rattle.sched_laws.proofs.Lists.{slice_get-change_item}
 use Rattle.turn_laws.proofs.BestUnits.{is_best, none_best}
 use Rattle.turn_laws.specs.Stretches.{units}
 use Rattle.turn_laws.specs.Turns.{is_funded, ahead}
@@ -36,9 +38,8 @@ use Rattle.turn_laws.proofs.Changed.{at_place-change_at, at_place-change_at_othe
 use Rattle.turn_laws.proofs.Waiting.{any_after, any_has, less_waits, filter_has, has_filter}
 use Rattle.credit2_turns.specs.Credit2Turns.{face, faces, IsStill, HasUnit}
 use Rattle.credit2_turns.proofs.Credit2Faces.{credit_at, credit_is, above, ahead_is, credits_change, faces_change, face_units, same_most, fewer_above, some_behind, above_most, face_of_unit, credit_order, greatest_scan}
-use Rattle.credit2_turns.proofs.Credit2Steps.{get_change_own, change_item_same, change_at_same, Has, has_change, burn_same, burn_credit, credit_then, credit_kept, gives, funded_gives, funded_takes, takes_funded, funded_runs, gives_budget, again_no_more, takes_less, LeavesOthers, gives_leaves, takes_leaves, runs_leaves}
+use Rattle.credit2_turns.proofs.Credit2Steps.{change_item_same, change_at_same, Has, has_change, burn_same, burn_credit, credit_then, credit_kept, gives, funded_gives, funded_takes, takes_funded, funded_runs, gives_budget, again_no_more, takes_less, LeavesOthers, gives_leaves, takes_leaves, runs_leaves}
 use Rattle.turn_laws.specs.Turns as turns
-use Rattle.turn_laws.proofs.Tests.{no_true}
 
 -- two units of one domain differ in their index
 other_index : (u w : UnitId) → (u ≡ w → ⊥) → u.dom.0 ≡ w.dom.0 → u.n ≢ w.n
@@ -222,7 +223,7 @@ module _ (m : Machine) (t : ℕ) (queue : List UnitId) (affinity : List (Option 
         }
 
     chosen_may : (w : UnitId) → chosen ≡ Some w → May w
-    chosen_may w is = elim (either c.leaving) [
+    chosen_may w is = elim (cases_Bool c.leaving) [
       | inl goes ↦ absurd (let e : None ≡ Some w = sym (ap (λ b. cond b None (cond within own (greatest_unit burned own waiting))) goes) ∙ is in cc)
       | inr stays ↦ by_within within (sym (chosen_is stays) ∙ is)
     ]
@@ -252,7 +253,7 @@ module _ (m : Machine) (t : ℕ) (queue : List UnitId) (affinity : List (Option 
     budget_at w d has at = sym (ap (λ (b : Credit2Records). domain_has_budget b w) burned_is ∙ ap (λ (o : Option Credit2Domain). elim o as (λ _. Bool) [ None ↦ false | Some x ↦ has_budget x ]) at) ∙ has
 
     secure_then : (k : ℕ) (u : UnitId) → runs u ≡ true → is_allowed scheduler home k u ≡ true → Has (λ (x : Credit2Domain). is_funded x u.n ≡ true) (then chosen).domains u.dom.0 → SecureThen m t pool r c k u
-    secure_then k u run allowed has = both (runs u && is_allowed scheduler home k u) _ (both (runs u) _ run allowed) (ap (λ (y : Records). turns.keeps y (next m t pool r c) home k t u) records_next ∙ funded_keeps (then chosen) u has)
+    secure_then k u run allowed has = and_from (runs u && is_allowed scheduler home k u) _ (and_from (runs u) _ run allowed) (ap (λ (y : Records). turns.keeps y (next m t pool r c) home k t u) records_next ∙ funded_keeps (then chosen) u has)
 
     there_gives : (i n : ℕ) (d : Credit2Domain) → is_some (slice_get d.units n) ≡ true → is_some (slice_get (gives i d).units n) ≡ true
     there_gives i n d there =
@@ -425,7 +426,7 @@ module _ (m : Machine) (t : ℕ) (queue : List UnitId) (affinity : List (Option 
           let is2 : (is_allowed scheduler home k e && domain_has_budget (then_of (Some u) (Some u)) e) ≡ true = sym (ap (λ (y : Records). is_allowed scheduler home k e && passes y (next m t pool r c) home k t e) records_again) ∙ is in
           let allowed = and_left (is_allowed scheduler home k e) _ is2 in
           let less = budget_less e (and_right (is_allowed scheduler home k e) _ is2) in
-          (both (is_allowed scheduler home k e) _ allowed less.0, both (is_allowed scheduler home k e) _ allowed less.1)
+          (and_from (is_allowed scheduler home k e) _ allowed less.0, and_from (is_allowed scheduler home k e) _ allowed less.1)
 
       -- its credit charged to now is its credit
       own_credit : credit_of (change_unit u (burn_unit (max_weight (then_of (Some u) (Some u))) t) (then_of (Some u) (Some u))) u ≡ credit_of records u
@@ -437,7 +438,7 @@ module _ (m : Machine) (t : ℕ) (queue : List UnitId) (affinity : List (Option 
           let o2 = (takes_leaves u.n (gives u.n h.domain)).own o1.0 o1.1 in
           let o3 = (runs_leaves u.n None (second h.domain)).own o2.0 o2.1 in
           let y : Credit2Unit = record o3.0 { burned = Some t } in
-          let get : slice_get (last h.domain).units u.n ≡ Some y = get_change_own u.n (λ (x : Credit2Unit). record x { burned = Some t }) (running None u.n (second h.domain)).units ∙ ap (option_map (λ (x : Credit2Unit). record x { burned = Some t })) o3.1 in
+          let get : slice_get (last h.domain).units u.n ≡ Some y = slice_get-change_item u.n (λ (x : Credit2Unit). record x { burned = Some t }) (running None u.n (second h.domain)).units ∙ ap (option_map (λ (x : Credit2Unit). record x { burned = Some t })) o3.1 in
           let weight : (last h.domain).weight ≡ h.domain.weight = (takes_leaves u.n (gives u.n h.domain)).weight ∙ (gives_leaves u.n h.domain).weight in
           let residual : o3.0.residual ≡ h.record_of.residual = o3.3 ∙ o2.3 ∙ o1.3 in
           let credit : o3.0.credit ≡ h.record_of.credit = o3.2 ∙ o2.2 ∙ o1.2 in
@@ -458,10 +459,10 @@ module _ (m : Machine) (t : ℕ) (queue : List UnitId) (affinity : List (Option 
 
       again_stirs_none : is_allowed scheduler home r u ≡ true → (is_within_limit records c.since.0 t ≡ true) ⊎ ((e : UnitId) → has_unit waiting e ≡ true → int_lt (credit_of burned u) (credit_of burned e) ≡ false) → StirsNone m t pool r c
       again_stirs_none allowed why = record {
-        own = no_true _ (λ stirred. (
+        own = false_from_ne_true _ (λ stirred. (
             let test : UnitId → Bool = λ e. is_eligible (next m t pool r c) home r t e && is_better (next m t pool r c).records u c.since.0 t e in
             let h : (not (is_allowed scheduler home r u) || list_any test (next m t pool r c).queue) ≡ true = sym (ap (λ (o : Option UnitId). better_waits o c.since.0 t r home (next m t pool r c)) cur) ∙ stirred in
-            elim (one_of (not (is_allowed scheduler home r u)) (list_any test (next m t pool r c).queue) h) [
+            elim (or_cases (not (is_allowed scheduler home r u)) (list_any test (next m t pool r c).queue) h) [
               | inl barred ↦ clash (not (is_allowed scheduler home r u)) barred (ap not allowed)
               | inr some ↦ (
                   let e = any_has test queue (any_after test (decision m t pool r c).unit queue some) in
@@ -487,7 +488,7 @@ module _ (m : Machine) (t : ℕ) (queue : List UnitId) (affinity : List (Option 
         let got : Has (λ (y : Credit2Domain). has_budget y ≡ true) (given (Some u)).domains u.dom.0 =
         has_change (λ (y : Credit2Domain). is_funded y u.n ≡ true) (λ (y : Credit2Domain). has_budget y ≡ true) u.dom.0 u.dom.0 (gives u.n) records.domains has (λ same d at f. gives_budget u.n d f) (λ ne y f. absurd (ne refl)) in
         let budget : domain_has_budget burned u ≡ true = ap (λ (b : Credit2Records). domain_has_budget b u) (burned_is ∙ ap given cur) ∙ ap (λ (o : Option Credit2Domain). elim o as (λ _. Bool) [ None ↦ false | Some d ↦ has_budget d ]) got.at ∙ got.fact in
-        let goes_on : (ask.runnable && is_allowed scheduler home r u && domain_has_budget burned u) ≡ true = both (ask.runnable && is_allowed scheduler home r u) _ (both ask.runnable _ run (and_right (runs u) _ two)) budget in
+        let goes_on : (ask.runnable && is_allowed scheduler home r u && domain_has_budget burned u) ≡ true = and_from (ask.runnable && is_allowed scheduler home r u) _ (and_from ask.runnable _ run (and_right (runs u) _ two)) budget in
         ap (λ (o : Option UnitId). elim o as (λ _. Option UnitId) [ None ↦ None | Some w ↦ cond (ask.runnable && is_allowed scheduler home r w && domain_has_budget burned w) (Some w) None ]) cur ∙ ap (λ b. cond b (Some u) None) goes_on
 
     limit_burned : burned.limit ≡ records.limit
@@ -542,7 +543,7 @@ module _ (m : Machine) (t : ℕ) (queue : List UnitId) (affinity : List (Option 
         let empty : waiting ≡ [] = (none_best (credit_order burned) (greatest_scan burned) own waiting best).1 in
         let burned_same : burned ≡ records = burned_is ∙ ap given cur in
         record {
-          own = no_true _ (λ stirred. (
+          own = false_from_ne_true _ (λ stirred. (
               let h : list_any (is_eligible scheduler home r t) queue ≡ true = sym (ap (λ (o : Option UnitId). better_waits o c.since.0 t r home scheduler) cur) ∙ fewer r c stirred in
               let w = any_has (is_eligible scheduler home r t) queue h in
               let waits = filter_has (is_eligible (record scheduler { records = Credit2Pool burned }) home r t) queue w.0 w.1 (ap (λ (b : Credit2Records). is_allowed scheduler home r w.0 && domain_has_budget b w.0) burned_same ∙ w.2) in

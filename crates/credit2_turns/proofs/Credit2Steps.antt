@@ -2,17 +2,18 @@
 use Rattle.std.proofs.Common.{◌≡◌, ◌≢◌, ◌<◌, ◌-◌, ◌/◌, ◌%◌, ℕ, zero, suc, Bool, true, false, not, List, [], ◌∷◌, refl, arith, ap, cond, subst, sym, ◌∙◌, length}
 use Rattle.std.specs.Prelude.{Option, Some, None, is_some, ℤ, pos, int_lt, ◌+ℤ◌, ◌-ℤ◌, option_map, slice_get, ◌&&◌, ◌||◌, ◌==◌}
 use Rattle.std.proofs.Math.Decide.{ℕ_discrete}
+use Rattle.std.proofs.lemmas.Bool.{not-true, and_from}
 use Rattle.sched_base.specs.declared.UnitId.{UnitId}
 use Rattle.sched_base.specs.Credit2Numbers.{charge, burned_credit, burned_residual, total, quota, take}
 use Rattle.sched_model.specs.declared.state.Credit2Records.{Credit2Records}
 use Rattle.sched_model.specs.declared.state.Credit2Domain.{Credit2Domain}
 use Rattle.sched_model.specs.declared.state.Credit2Unit.{Credit2Unit}
 use Rattle.sched_model.specs.Places.{at_place, change_at, change_item}
-use Rattle.sched_model.specs.Eligible.{has_budget}
+use Rattle.sched_model.specs.EligibleUnits.{has_budget}
 use Rattle.sched_model.specs.Credit2.{burn_unit, change_unit, give_back, take_budget, credit_of}
-use Rattle.sched_laws.proofs.Bools.{and_left, and_right, both, or_more, not_true}
+use Rattle.sched_base.proofs.Bools.{and_left, and_right, or_more}
 use Rattle.sched_laws.proofs.EachPlace.{by_option, by_cond}
-use Rattle.sched_laws.proofs.Lists.{length_change_item}
+use Rattle.sched_laws.proofs.Lists.{length_change_item, slice_get-change_item}
 use Rattle.turn_laws.specs.Turns.{is_funded}
 use Rattle.turn_laws.proofs.Changed.{at_place-change_at, at_place-change_at_other}
 use Rattle.credit2_turns.proofs.Credit2Numbers.{sum_above, sum_least, take_above, rest_least, rest_less, rest_kept, minus_none}
@@ -25,11 +26,6 @@ get_change_other zero zero f (x ∷ xs) other = absurd (other refl)
 get_change_other zero (suc n) f (x ∷ xs) other = refl
 get_change_other (suc i) zero f (x ∷ xs) other = refl
 get_change_other (suc i) (suc n) f (x ∷ xs) other = get_change_other i n f xs (λ e. other (ap suc e))
-
-pub get_change_own : {X : Type 0} (n : ℕ) (f : X → X) (xs : List X) → slice_get (change_item n f xs) n ≡ option_map f (slice_get xs n)
-get_change_own n f [] = refl
-get_change_own zero f (x ∷ xs) = refl
-get_change_own (suc n) f (x ∷ xs) = get_change_own n f xs
 
 pub change_item_same : {X : Type 0} (n : ℕ) (f : X → X) (xs : List X) → ((x : X) → slice_get xs n ≡ Some x → f x ≡ x) → change_item n f xs ≡ xs
 change_item_same n f [] same = refl
@@ -117,7 +113,7 @@ pub credit_then : (records : Credit2Records) (u : UnitId) (f : Credit2Domain →
 credit_then records u f d x at get =
     let h : Credit2Domain → Credit2Domain = λ y. record y { units = change_item u.n (f y) y.units } in
     let a : at_place (change_at u.dom.0 h records.domains) u.dom.0 ≡ Some (h d) = at_place-change_at u.dom.0 h records.domains ∙ ap (option_map h) at in
-    let b : slice_get (change_item u.n (f d) d.units) u.n ≡ Some (f d x) = get_change_own u.n (f d) d.units ∙ ap (option_map (f d)) get in
+    let b : slice_get (change_item u.n (f d) d.units) u.n ≡ Some (f d x) = slice_get-change_item u.n (f d) d.units ∙ ap (option_map (f d)) get in
     ap (λ (o : Option Credit2Domain). elim o as (λ _. ℤ) [ None ↦ pos 0 | Some y ↦ elim (slice_get y.units u.n) as (λ _. ℤ) [ None ↦ pos 0 | Some z ↦ z.credit ] ]) a
     ∙ ap (λ (o : Option Credit2Unit). elim o as (λ _. ℤ) [ None ↦ pos 0 | Some z ↦ z.credit ]) b
 
@@ -132,10 +128,10 @@ held_above d n = elim (slice_get d.units n) as (λ _. Bool) [ None ↦ false | S
 funded_parts : (d : Credit2Domain) (n : ℕ) → (d.cap == 0) ≡ false → is_funded d n ≡ true → (int_lt d.budget (pos 0) ≡ false) × (held_above d n ≡ true)
 funded_parts d n capped funded =
     let two : (not (int_lt d.budget (pos 0)) && held_above d n) ≡ true = sym (ap (λ b. b || (not (int_lt d.budget (pos 0)) && held_above d n)) capped) ∙ funded in
-    (not_true (int_lt d.budget (pos 0)) (and_left (not (int_lt d.budget (pos 0))) _ two), and_right (not (int_lt d.budget (pos 0))) _ two)
+    (not-true (int_lt d.budget (pos 0)) (and_left (not (int_lt d.budget (pos 0))) _ two), and_right (not (int_lt d.budget (pos 0))) _ two)
 
 funded_of : (d : Credit2Domain) (n : ℕ) → int_lt d.budget (pos 0) ≡ false → held_above d n ≡ true → is_funded d n ≡ true
-funded_of d n owes holds = or_later (d.cap == 0) (both (not (int_lt d.budget (pos 0))) _ (ap not owes) holds)
+funded_of d n owes holds = or_later (d.cap == 0) (and_from (not (int_lt d.budget (pos 0))) _ (ap not owes) holds)
 
 -- another unit of the domain stays funded while the core's own gives back, or a chosen one takes, or one goes on or off
 pub funded_gives : (i n : ℕ) (d : Credit2Domain) → n ≢ i → ((x : Credit2Unit) → slice_get d.units i ≡ Some x → int_lt x.held (pos 0) ≡ false) → is_funded d n ≡ true → is_funded (gives i d) n ≡ true
@@ -168,7 +164,7 @@ takes_funded n d has there =
     (λ capped. (
     let some : int_lt (pos 0) d.budget ≡ true = sym (ap (λ b. b || int_lt (pos 0) d.budget) capped) ∙ has in
     funded_of (record d { budget = d.budget -ℤ taken; units = change_item n (λ x. record x { held = taken }) d.units }) n (rest_least d.budget most some)
-    (ap (λ (o : Option Credit2Unit). elim o as (λ _. Bool) [ None ↦ false | Some y ↦ int_lt (pos 0) y.held ]) (get_change_own n (λ x. record x { held = taken }) d.units)
+    (ap (λ (o : Option Credit2Unit). elim o as (λ _. Bool) [ None ↦ false | Some y ↦ int_lt (pos 0) y.held ]) (slice_get-change_item n (λ x. record x { held = taken }) d.units)
     ∙ by_unit taken (slice_get d.units n) there (take_above d.budget most some (grind arith)))))
   where
     by_unit : (taken : ℤ) (o : Option Credit2Unit) → is_some o ≡ true → int_lt (pos 0) taken ≡ true → elim (option_map (λ (x : Credit2Unit). record x { held = taken }) o) as (λ _. Bool) [ None ↦ false | Some y ↦ int_lt (pos 0) y.held ] ≡ true
@@ -238,7 +234,7 @@ changes_own : (i : ℕ) (f : Credit2Unit → Credit2Unit) (d : Credit2Domain) (b
 changes_own i f d b same = record {
   weight = refl;
   units = λ n other. get_change_other i n f d.units other;
-  own = λ x at. (f x, get_change_own i f d.units ∙ ap (option_map f) at, (same x).0, (same x).1);
+  own = λ x at. (f x, slice_get-change_item i f d.units ∙ ap (option_map f) at, (same x).0, (same x).1);
 }
 
 leaves_itself : (i : ℕ) (d : Credit2Domain) → LeavesOthers i d d

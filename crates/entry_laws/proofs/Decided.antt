@@ -9,6 +9,7 @@ use Rattle.std.proofs.lemmas.List.Sums.{sum_by-cons}
 use Rattle.sched_base.specs.Credit2Numbers.{above_zero, resets, total, refill}
 use Rattle.sched_base.specs.declared.UnitId.{UnitId}
 use Rattle.sched_base.specs.declared.Moment.{Moment}
+use Rattle.sched_base.proofs.Lists.{each_get}
 use Rattle.sched_model.specs.declared.machine.Machine.{Machine}
 use Rattle.sched_model.specs.declared.ask.Ask.{Ask}
 use Rattle.sched_model.specs.declared.state.Scheduler.{Scheduler}
@@ -21,15 +22,14 @@ use Rattle.sched_model.specs.declared.state.RtdsUnit.{RtdsUnit}
 use Rattle.sched_model.specs.Places.{at_place, clear_at}
 use Rattle.sched_model.specs.State.{has_come}
 use Rattle.sched_model.specs.Arinc.{Window, present_window}
-use Rattle.sched_model.specs.Eligible.{Decision}
+use Rattle.sched_model.specs.EligibleUnits.{Decision}
 use Rattle.sched_model.specs.Policy as policy
 use Rattle.sched_model.specs.Policy.{decision_by, arinc_decision, credit2_record, next_refill}
 use Rattle.sched_model.specs.Credit2 as credit2
 use Rattle.sched_model.specs.Rtds as rtds
 use Rattle.sched_model.specs.NullScheduler as null
-use Rattle.sched_model.specs.Checked.{IsChecked, most_span}
+use Rattle.sched_model.specs.CheckedMachine.{IsChecked, most_span}
 use Rattle.sched_laws.proofs.EachPlace.{by_option, by_cond, place_below, read_change_at}
-use Rattle.sched_laws.proofs.Opened.{each_get}
 use Rattle.sched_ranges.specs.Ranges.{Credit2UnitInRange, Credit2InRange, RecordsInRange}
 use Rattle.sched_ranges.proofs.Credit2.{c_burn_cur}
 use Rattle.sched_ranges.specs.Fits.{Credit2Fits, UnitFits}

@@ -3,6 +3,7 @@ use Rattle.std.proofs.Common.{◌≡◌, ◌<◌, ◌≤◌, ◌+◌, ◌*◌, �
 use Rattle.std.specs.Prelude.{Option, Some, None, is_some, is_none, unwrap_or, slice_get, ◌&&◌, ◌||◌}
 use Rattle.std.specs.List.{list_any, list_all}
 use Rattle.std.specs.Option.{IfSome}
+use Rattle.std.proofs.lemmas.Bool.{or_cases}
 use Rattle.sched_base.specs.Numbers.{span, core, pool as pool_number, domain}
 use Rattle.sched_base.specs.declared.Span.{Span}
 use Rattle.sched_base.specs.declared.PoolId.{PoolId}
@@ -23,17 +24,17 @@ use Rattle.sched_model.specs.declared.state.RtdsUnit.{RtdsUnit}
 use Rattle.sched_model.specs.Places.{at_place, numbered_items, test_at, is_unit, has_unit}
 use Rattle.sched_model.specs.State.{is_runnable, is_awake, is_up, has_come}
 use Rattle.sched_model.specs.Opening.{core_count}
-use Rattle.sched_model.specs.Eligible.{Decision}
+use Rattle.sched_model.specs.EligibleUnits.{Decision}
 use Rattle.sched_model.specs.Policy as policy
 use Rattle.sched_model.specs.Policy.{decision_of, rtds_record}
 use Rattle.sched_model.specs.Pool as pools
 use Rattle.sched_model.specs.Pool.{enabled_in, event_in, ask_of, guest_of, processor_of, vcpu_of, vcpu_for, is_open, is_held, first_up, lowest_up, lateness, decision_at, saving_among, done_at, is_of_domain}
-use Rattle.sched_model.specs.Checked.{IsChecked, most_span}
-use Rattle.sched_laws.proofs.Bools.{and_left, and_right, one_of}
+use Rattle.sched_model.specs.CheckedMachine.{IsChecked, most_span}
+use Rattle.sched_base.proofs.Bools.{and_left, and_right}
 use Rattle.sched_laws.proofs.EachPlace.{by_option, by_cond, found_at}
 use Rattle.sched_laws.proofs.Lists.{some-test_at, some_is}
 use Rattle.sched_laws.proofs.Choices.{at_unit, is_unit_same, decision_has}
-use Rattle.sched_laws.specs.Known.{IfUnit}
+use Rattle.sched_laws.specs.PoolFacts.{IfUnit}
 use Rattle.sched_ranges.specs.Ranges.{IsUnitOf, PoolInRange}
 use Rattle.sched_ranges.specs.Fits.{RtdsFits}
 use Rattle.sched_ranges.proofs.Records.{DecisionFits, decision_fits, replenish_fits}
@@ -101,7 +102,7 @@ module _ (m : Machine) (checked : IsChecked m) (t : ℕ) (pool : Pool) (low : t 
 
   -- a unit that is replenished
   queued_low : (u : UnitId) → (has_unit pool.scheduler.queue u || is_some (pools.core_of pool u)) ≡ true → IsUnit u
-  queued_low u is = unit_low m checked u (elim (one_of (has_unit pool.scheduler.queue u) (is_some (pools.core_of pool u)) is) [
+  queued_low u is = unit_low m checked u (elim (or_cases (has_unit pool.scheduler.queue u) (is_some (pools.core_of pool u)) is) [
     | inl waits ↦ at_unit (IsUnitOf m) u pool.scheduler.queue waits fits.queue
     | inr runs ↦ (
         let r = some_is (pools.core_of pool u) runs in

@@ -9,6 +9,7 @@ use Rattle.std.proofs.lemmas.List.Elements.{recursion_from_All}
 use Rattle.std.proofs.lemmas.List.Sums.{sum_by-cons}
 use Rattle.sched_base.specs.Numbers.{span, pool as pool_number, domain as domain_number}
 use Rattle.sched_base.specs.declared.UnitId.{UnitId}
+use Rattle.sched_base.proofs.Lists.{each_get}
 use Rattle.sched_model.specs.declared.machine.Machine.{Machine}
 use Rattle.sched_model.specs.declared.command.Command.{Command}
 use Rattle.sched_model.specs.declared.command.Command.TheVariants as command
@@ -35,14 +36,13 @@ use Rattle.sched_model.specs.declared.state.Records.TheVariants.{Credit2Pool, Rt
 use Rattle.sched_model.specs.declared.work.CommandLine.{CommandLine}
 use Rattle.sched_model.specs.Places.{at_place, first_place, first_empty, numbered_items}
 use Rattle.sched_model.specs.Opening.{core_count}
-use Rattle.sched_model.specs.Checked.{IsChecked, IsCheckedCommand, IsCheckedEntry, IsCheckedRange, IsGivenNumber, IsNumber, most_span}
+use Rattle.sched_model.specs.CheckedMachine.{IsChecked, IsCheckedCommand, IsCheckedEntry, IsCheckedRange, IsGivenNumber, IsNumber, most_span}
 use Rattle.sched_model.specs.Actions.{home_of_core, home_of_domain}
 use Rattle.sched_model.specs.Policy.{kind_of, rate_of, rtds_record, credit2_record}
 use Rattle.sched_model.specs.Pool.{unit_count}
 use Rattle.sched_model.specs.Machine.{verdict, answer_of}
 use Rattle.sched_model.specs.Commands.{in_range, is_kind, name_fault, pool_named, last_core_fault, rtds_fault, rtds_units, cpu_fault, elsewhere_fault, has_vcpu, judge, pool_of, domain_of, with_pool, with_domain, demand, demand_range, refused_by, judge_frame, frame_entry, frame_entries, cores_in, domains_in, judge_rtds, reply_of}
 use Rattle.sched_laws.proofs.EachPlace.{by_option, by_cond, found_at, place_below}
-use Rattle.sched_laws.proofs.Opened.{each_get}
 use Rattle.sched_ranges.specs.Ranges.{RecordsInRange}
 use Rattle.sched_ranges.proofs.Rtds.{fit_unit}
 use Rattle.sched_ranges.specs.Fits.{RtdsFits}

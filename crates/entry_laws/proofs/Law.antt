@@ -5,10 +5,12 @@ use Rattle.std.specs.Prelude.{Option, Some, None, Result, Ok, Err, unwrap_or, op
 use Rattle.std.specs.List.{All, AllByRecursion}
 use Rattle.std.specs.Option.{IfSome}
 use Rattle.std.proofs.lemmas.List.Elements.{recursion_from_All, All-from_recursion}
+use Rattle.std.proofs.lemmas.Bool.{or_cases}
 use Rattle.sched_base.specs.Numbers.{pool as pool_number, core}
 use Rattle.sched_base.specs.declared.Moment.{Moment}
 use Rattle.sched_base.specs.declared.ProcId.{ProcId}
 use Rattle.sched_base.specs.declared.PoolId.{PoolId}
+use Rattle.sched_base.proofs.Lists.{each_get}
 use Rattle.sched_model.specs.declared.machine.Machine.{Machine}
 use Rattle.sched_model.specs.declared.action.Action.{Action}
 use Rattle.sched_model.specs.declared.action.Action.TheVariants.{Stall, Xl, Moved}
@@ -25,16 +27,14 @@ use Rattle.sched_model.specs.declared.work.StallLine.{StallLine}
 use Rattle.sched_model.specs.declared.work.CommandLine.{CommandLine}
 use Rattle.sched_model.specs.Places.{at_place, test_at}
 use Rattle.sched_model.specs.Opening.{no_pool}
-use Rattle.sched_model.specs.Checked.{IsChecked, IsCheckedStall, IsCheckedCommandLine, most_span}
+use Rattle.sched_model.specs.CheckedMachine.{IsChecked, IsCheckedStall, IsCheckedCommandLine, most_span}
 use Rattle.sched_model.specs.Actions.{home_of, home_of_core}
 use Rattle.sched_model.specs.Pool.{enabled_in, event_in}
 use Rattle.sched_model.specs.Machine.{is_enabled, is_move_under_way, enabled_at_home, free_ready, home_pool, event_of, answer_of, stall_end_of, next_in_horizon, next_moment}
 use Rattle.sched_model.specs.Runs.{Reached, IsNext, IsNextEvent, IsRun, IsRunFrom, action_of, end_of, run_start, after_entry, after_entries}
 use Rattle.sched_model.proofs.RunLemmas.{IsRunFrom-append, after_entries-append}
-use Rattle.sched_laws.proofs.Bools.{one_of}
 use Rattle.sched_laws.proofs.EachPlace.{by_option, place_below}
 use Rattle.sched_laws.proofs.Lists.{some-test_at}
-use Rattle.sched_laws.proofs.Opened.{each_get}
 use Rattle.sched_ranges.specs.Ranges.{IsNear}
 use Rattle.sched_ranges.proofs.Walk.{NearProcessor}
 use Rattle.sched_ranges.proofs.Law.{fits_in_runs, max_low}
@@ -126,7 +126,7 @@ module _ (m : Machine) (checked : IsChecked m) where
 
     moved_printable : (r : ℕ) → is_enabled m s t (Moved (core r)) ≡ true → IsPrintableEvent (event_of m s t (Moved (core r)))
     moved_printable r on = (
-      elim (one_of (test_at s.free r (free_ready t)) (enabled_at_home m s t (Moved (core r))) on) [
+      elim (or_cases (test_at s.free r (free_ready t)) (enabled_at_home m s t (Moved (core r))) on) [
         | inl free ↦ (let x = some-test_at s.free r (free_ready t) free in let b = place_below s.free r x.0 x.1 in let e = known.range.free_places in let few = cores_few m checked in omega (arith, b, e, few))
         | inr home ↦ (home_printable (Moved (core r)) home).0
       ],

@@ -8,6 +8,7 @@ use Rattle.std.specs.Option.{IfSome}
 use Rattle.sched_base.specs.declared.UnitId.{UnitId}
 use Rattle.sched_base.specs.declared.VcpuId.{VcpuId}
 use Rattle.sched_base.specs.declared.PoolId.{PoolId}
+use Rattle.sched_base.proofs.Lists.{each_get}
 use Rattle.sched_model.specs.declared.machine.Machine.{Machine}
 use Rattle.sched_model.specs.declared.config.DomConfig.{DomConfig}
 use Rattle.sched_model.specs.declared.state.State.{State}
@@ -18,11 +19,10 @@ use Rattle.sched_model.specs.declared.state.FreeCore.{FreeCore}
 use Rattle.sched_model.specs.declared.state.Vcpu.{Vcpu}
 use Rattle.sched_model.specs.Places.{at_place, numbered_items}
 use Rattle.sched_model.specs.Opening.{core_count}
-use Rattle.sched_model.specs.Checked.{IsChecked, IsCheckedDomain, most_span}
+use Rattle.sched_model.specs.CheckedMachine.{IsChecked, IsCheckedDomain, most_span}
 use Rattle.sched_model.specs.Actions.{home_of_core}
 use Rattle.sched_model.specs.Pool.{vcpu_of}
 use Rattle.sched_laws.proofs.EachPlace.{place_below, found_at, by_option}
-use Rattle.sched_laws.proofs.Opened.{each_get}
 use Rattle.sched_ranges.specs.Ranges.{IsUnitOf, PoolInRange, StateInRange}
 use Rattle.sched_ranges.proofs.Law.{StateFits}
 use Rattle.part_laws.proofs.Housed.{Housed}

@@ -36,11 +36,6 @@ pub home-apart : (m : Machine) (h : List Entry) (n : ℕ) → home_at m h n ≢ 
 unfolding home_at
 home-apart m h n = home_cases (λ (k : ℕ). k ≢ 17) m.config (state_at m h) n (λ is k low e. absurd (omega (arith, low, e))) (λ is e. absurd (omega (arith, e)))
 
--- a name of the input has a part as its home
-pub home-below : (m : Machine) (h : List Entry) (n : ℕ) → is_name m.config n ≡ true → home_at m h n ≤ 16
-unfolding home_at
-home-below m h n named = home_cases (λ (k : ℕ). k ≤ 16) m.config (state_at m h) n (λ is k low. low) (λ is. absurd (true≢false (sym named ∙ is)))
-
 -- what has no part as its home is nowhere
 pub home-none : (m : Machine) (h : List Entry) (n : ℕ) → 17 ≤ home_at m h n → home_at m h n ≡ 255
 unfolding home_at

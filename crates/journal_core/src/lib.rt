@@ -38,7 +38,8 @@ impl Model for Book {
 
     ghost view = { λ b. chronicle b.config.value b.work.value b.entries.items b.limit };
 
-    ghost invariant = { λ b. IsKept (chronicle b.config.value b.work.value b.entries.items b.limit) (vec_capacity b.entries) b.moment.0 b.decides };
+    ghost invariant = { λ b. IsKept (chronicle b.config.value b.work.value b.entries.items b.limit)
+        (vec_capacity b.entries) b.moment.0 b.decides };
 }
 
 // The moment that an entry leads to from the moment now.

@@ -11,45 +11,19 @@ use Rattle.sched_model.specs.declared.event.Refusal.{Refusal}
 use Rattle.sched_model.specs.declared.machine.Machine.{Machine}
 use Rattle.sched_model.specs.declared.plan.Plan.{Plan}
 use Rattle.sched_model.specs.declared.plan.Plan.TheVariants as plan
-use Rattle.sched_model.specs.declared.state.Pool.{Pool}
 use Rattle.sched_model.specs.declared.state.State.{State}
 use Rattle.sched_model.specs.declared.work.CommandLine.{CommandLine}
 use Rattle.sched_model.specs.declared.work.StallLine.{StallLine}
 use Rattle.sched_model.specs.Actions.{home_of, home_of_core, home_of_domain}
-use Rattle.sched_model.specs.Commands.{carried_out, change_home, pool_of_plan}
+use Rattle.sched_model.specs.Commands.{carried_out, pool_of_plan}
 use Rattle.sched_model.specs.Machine.{is_enabled, is_move_under_way, after, after_at_home, after_command, after_dom_moved, after_moved, after_stall, settled_at, verdict}
 use Rattle.sched_model.specs.Places.{at_place}
 use Rattle.sched_model.specs.Runs.{Reached, IsNextEvent, IsRunFrom, action_of, after_entry, after_event}
-use Rattle.sched_laws.proofs.EachPlace.{by_cond, by_option}
+use Rattle.sched_laws.proofs.EachPlace.{by_option}
 use Rattle.turn_laws.specs.Turns.{how_many, one}
 use Rattle.stretch_laws.proofs.LegRuns.{action_in}
 use Rattle.moment_laws.specs.Moments.{is_end, is_line}
-
--- the same moment, and as many stalls and commands done
-abbrev SameClock : State → State → Type 0
-SameClock a b = (a.now ≡ b.now) × (a.next_stall ≡ b.next_stall) × (a.next_command ≡ b.next_command)
-
-kept : (s : State) → SameClock s s
-kept s = (refl, refl, refl)
-
-home_clock : (d : ℕ) (f : Pool → Pool) (s : State) → SameClock (change_home d f s) s
-home_clock d f s = by_option (λ (x : State). SameClock x s) (home_of_domain s d) _ _ (λ none. kept s) (λ i is. (refl, refl, refl))
-
-carried_clock : (m : Machine) (t : ℕ) (p : Plan) (s : State) → SameClock (carried_out m t p s) s
-carried_clock m t (plan.PoolList pool answer) s = kept s
-carried_clock m t (plan.Migrate d i j answer) s = by_cond (λ (x : State). SameClock x s) _ _ _ (λ same. kept s) (λ other. (refl, refl, refl))
-carried_clock m t (plan.Credit2Dom d weight percent answer) s = home_clock d.0 _ s
-carried_clock m t (plan.Credit2Pool i None answer) s = kept s
-carried_clock m t (plan.Credit2Pool i (Some us) answer) s = (refl, refl, refl)
-carried_clock m t (plan.RtdsDom d first count period budget extra answer) s = home_clock d.0 _ s
-carried_clock m t (plan.Pause d answer) s = home_clock d.0 _ s
-carried_clock m t (plan.Unpause d answer) s = home_clock d.0 _ s
-carried_clock m t (plan.Pin d unit cores answer) s = home_clock d.0 _ s
-carried_clock m t p s = (refl, refl, refl)
-
-settled_clock : (t : ℕ) (o : Option ℕ) (s : State) → SameClock (settled_at t o s) s
-settled_clock t None s = kept s
-settled_clock t (Some i) s = (refl, refl, refl)
+use Rattle.sched_laws.proofs.Clock.{SameClock, same_clock, carried_clock, settled_clock}
 
 -- a command is one line more
 command_clock : (m : Machine) (t : ℕ) (line : CommandLine) (s : State) → SameClock (after_command m t line s) (record s { next_command = suc s.next_command })
@@ -59,7 +33,7 @@ command_clock m t line s = by_verdict (verdict m s line)
     next = record s { next_command = suc s.next_command }
 
     by_verdict : (v : Result Plan Refusal) → SameClock (elim v as (λ _. State) [ Err fault ↦ next | Ok p ↦ settled_at t (pool_of_plan s p) (carried_out m t p next) ]) next
-    by_verdict (Err fault) = kept next
+    by_verdict (Err fault) = same_clock next
     by_verdict (Ok p) =
         let a = settled_clock t (pool_of_plan s p) (carried_out m t p next) in
         let b = carried_clock m t p next in
@@ -75,21 +49,21 @@ moved_clock : (t r : ℕ) (s : State) → SameClock (after_moved t r s) s
 moved_clock t r s =
     let Q : State → Type 0 = λ next. SameClock next s in
     by_option Q (at_place s.free r) _ _
-    (λ is. by_option Q (home_of_core s r) _ _ (λ is2. kept s)
-    (λ i is2. by_option Q (at_place s.pools i) _ _ (λ is3. kept s)
-    (λ pool is3. by_option Q (at_place pool.resources r) _ _ (λ is4. kept s) (λ c is4. (refl, refl, refl)))))
-    (λ c is. by_option Q c.target _ _ (λ is2. kept s) (λ i is2. (refl, refl, refl)))
+    (λ is. by_option Q (home_of_core s r) _ _ (λ is2. same_clock s)
+    (λ i is2. by_option Q (at_place s.pools i) _ _ (λ is3. same_clock s)
+    (λ pool is3. by_option Q (at_place pool.resources r) _ _ (λ is4. same_clock s) (λ c is4. (refl, refl, refl)))))
+    (λ c is. by_option Q c.target _ _ (λ is2. same_clock s) (λ i is2. (refl, refl, refl)))
 
 dom_moved_clock : (g t d : ℕ) (s : State) → SameClock (after_dom_moved g t d s) s
 dom_moved_clock g t d s =
     let Q : State → Type 0 = λ next. SameClock next s in
-    by_option Q (home_of_domain s d) _ _ (λ is. kept s)
-    (λ i is. by_option Q (at_place s.pools i) _ _ (λ is2. kept s)
-    (λ pool is2. by_option Q (at_place pool.domains d) _ _ (λ is3. kept s)
-    (λ domain is3. by_option Q domain.moving _ _ (λ is4. kept s) (λ j is4. (refl, refl, refl)))))
+    by_option Q (home_of_domain s d) _ _ (λ is. same_clock s)
+    (λ i is. by_option Q (at_place s.pools i) _ _ (λ is2. same_clock s)
+    (λ pool is2. by_option Q (at_place pool.domains d) _ _ (λ is3. same_clock s)
+    (λ domain is3. by_option Q domain.moving _ _ (λ is4. same_clock s) (λ j is4. (refl, refl, refl)))))
 
 inside_clock : (g t : ℕ) (s : State) (action : Action) → SameClock (after_at_home g s t action) s
-inside_clock g t s action = by_option (λ (x : State). SameClock x s) (home_of g s action) _ _ (λ none. kept s) (λ i is. (refl, refl, refl))
+inside_clock g t s action = by_option (λ (x : State). SameClock x s) (home_of g s action) _ _ (λ none. same_clock s) (λ i is. (refl, refl, refl))
 
 -- how many lines are left to do
 abbrev pub lines_left : Machine → State → ℕ

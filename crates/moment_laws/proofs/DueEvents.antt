@@ -1,6 +1,7 @@
 -- What is to come of a pool at a moment, as a number: dues of cores, vCPUs that are ripe, deadlines and refills; and what changes of one core, one vCPU or the records do to it.
 use Rattle.std.proofs.Common.{◌≡◌, ◌≤◌, ◌+◌, ◌-◌, ℕ, zero, suc, Bool, true, false, not, List, [], ◌∷◌, refl, arith, ap, subst, sym, ◌∙◌}
 use Rattle.std.specs.Prelude.{Option, Some, None, nat_le, slice_get, option_map, ◌==◌, ◌&&◌, ◌||◌, ◌/◌}
+use Rattle.std.proofs.lemmas.Bool.{and_from}
 use Rattle.sched_base.specs.Numbers.{moment, span}
 use Rattle.sched_base.specs.declared.Moment.{Moment}
 use Rattle.sched_base.specs.declared.Span.{Span}
@@ -19,7 +20,7 @@ use Rattle.sched_model.specs.Places.{at_place, change_at, change_each, change_it
 use Rattle.sched_model.specs.State.{has_come}
 use Rattle.sched_model.specs.Pool.{change_core, change_processor, change_vcpu, change_cores_of, with_doing, started_on, settled_pool, stopped_vcpu}
 use Rattle.sched_laws.proofs.Events.{LikePlaces, like_change_at, like_change_each, like_map, like_of_domain, capped, IsMarked, KeptByCommands, kept_settled}
-use Rattle.sched_laws.proofs.Bools.{and_left, both, or_more, clash}
+use Rattle.sched_base.proofs.Bools.{and_left, or_more, clash}
 use Rattle.sched_laws.specs.Counts.{total}
 use Rattle.turn_laws.specs.Turns.{one, how_many}
 use Rattle.turn_laws.specs.Stretches.{units}
@@ -182,7 +183,7 @@ module _ (t : ℕ) where
 
   -- what commands do to the marks, the queue and the paused domains
   marked_calms : (c d : Resource) → IsMarked c d → Calms c d
-  marked_calms c d marked e = both (has_come t c.due) (not c.pending) (subst (λ (o : Option Moment). has_come t o ≡ true) marked.keeps.due (and_left (has_come t d.due) _ e)) (still c.pending refl)
+  marked_calms c d marked e = and_from (has_come t c.due) (not c.pending) (subst (λ (o : Option Moment). has_come t o ≡ true) marked.keeps.due (and_left (has_come t d.due) _ e)) (still c.pending refl)
     where
       still : (b : Bool) → c.pending ≡ b → not b ≡ true
       still true is = absurd (clash _ e (pending_none t d (marked.keeps.pending is)))

@@ -3,6 +3,7 @@ use Rattle.sched_base.specs.Numbers.{core, domain as domain_number}
 use Rattle.std.proofs.Common.{◌≡◌, ◌≤◌, ◌<◌, ◌+◌, ◌*◌, ℕ, Bool, true, List, [], ◌∷◌, ◌++◌, refl, arith, ap, subst, sym, ◌∙◌, ◌⊎◌, inl, inr}
 use Rattle.std.specs.Prelude.{Option, Some, is_some, slice_get, ◌==◌}
 use Rattle.std.specs.Option.{IfSome}
+use Rattle.std.proofs.lemmas.Bool.{eqb-true}
 use Rattle.sched_base.specs.declared.UnitId.{UnitId}
 use Rattle.sched_model.specs.declared.action.Action.{Action}
 use Rattle.sched_model.specs.declared.action.Action.TheVariants.{Stall, Xl, Moved, DomMoved}
@@ -20,10 +21,11 @@ use Rattle.sched_model.specs.declared.state.State.{State}
 use Rattle.sched_model.specs.Places.{at_place, has_unit}
 use Rattle.sched_model.specs.Machine.{is_enabled, after, after_at_home, enabled_at_home}
 use Rattle.sched_model.specs.Runs.{Reached, IsRun, IsNextEvent, action_of, run_start, after_entry, after_event, after_entries}
-use Rattle.sched_model.specs.Checked.{IsChecked}
-use Rattle.sched_laws.specs.Each.{EachPlace}
+use Rattle.sched_model.specs.CheckedMachine.{IsChecked}
+use Rattle.sched_model.proofs.RunLemmas.{after_entries-append}
+use Rattle.sched_laws.specs.EachPlace.{EachPlace}
 use Rattle.sched_laws.specs.StateLaws.{state_after}
-use Rattle.sched_laws.proofs.Bools.{and_left, and_right}
+use Rattle.sched_base.proofs.Bools.{and_left, and_right}
 use Rattle.sched_laws.proofs.EachPlace.{by_option}
 use Rattle.sched_laws.proofs.Kept.{IsApart}
 use Rattle.sched_laws.proofs.Lists.{is_some_at}
@@ -36,13 +38,12 @@ use Rattle.move_laws.proofs.Counted.{in_all}
 use Rattle.move_laws.proofs.Staying.{same_home, same_stall, adds_line}
 use Rattle.move_laws.proofs.Ending.{moved_ends, dom_moved_ends}
 use Rattle.turn_laws.specs.Turns.{one, how_many}
-use Rattle.turn_laws.proofs.StretchFalls.{push_assoc, after_push}
+use Rattle.turn_laws.proofs.StretchFalls.{push_assoc}
 use Rattle.credit2_turns.proofs.Credit2Steps.{Has}
 use Rattle.stretch_laws.proofs.LegRuns.{action_in}
 use Rattle.moment_laws.specs.Moments.{is_cause, is_line, are_at}
 use Rattle.moment_laws.proofs.DueInPools.{takes}
 use Rattle.moment_laws.proofs.DueInStates.{of_pools, IsReadyPool, command_less, stall_less, moved_less, dom_moved_less, home_lowers}
-use Rattle.turn_laws.proofs.Tests.{is_number}
 use Rattle.credit2_turns.specs.Credit2Turns.{HasUnit}
 use Rattle.stretch_laws.proofs.ReachedDecisions.{PoolOf, cur_unit, cur_there, has_record, waiting_unit, waiting_there}
 
@@ -134,9 +135,9 @@ moment_lowers m checked t (e ∷ moment) before run at =
     let s : State = state_after m before in
     let parts = split_run m (run_start m) before (e ∷ moment) run in
     let next = parts.1.0 in
-    let now : s.now ≡ t = sym next.moment ∙ is_number e.at.0 t (and_left (e.at.0 == t) _ at) in
+    let now : s.now ≡ t = sym next.moment ∙ eqb-true e.at.0 t (and_left (e.at.0 == t) _ at) in
     let here = event_lowers m checked s (is_apart m checked before parts.0) (ready_pools m checked before parts.0) e.event (after_entries m (run_start m) before).over next.event in
     let here_t = subst (λ k. one (is_cause e.event) + to_come k (after_entry m (after_entries m (run_start m) before) e).state ≤ 2 * one (is_line e.event) + to_come k s) now here in
     let rest = moment_lowers m checked t moment (before ++ e ∷ []) (subst (IsRun m) (sym (push_assoc before e moment)) run) (and_right (e.at.0 == t) _ at) in
-    let same : to_come t (state_after m (before ++ e ∷ [])) ≡ to_come t (after_entry m (after_entries m (run_start m) before) e).state = ap (λ (x : Reached). to_come t x.state) (after_push m (run_start m) before e) in
+    let same : to_come t (state_after m (before ++ e ∷ [])) ≡ to_come t (after_entry m (after_entries m (run_start m) before) e).state = ap (λ (x : Reached). to_come t x.state) (after_entries-append m (run_start m) before e) in
     omega (arith, here_t, rest, same)

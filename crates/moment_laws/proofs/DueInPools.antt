@@ -5,6 +5,7 @@ use Rattle.std.specs.List.{AllByRecursion}
 use Rattle.std.proofs.lemmas.List.Elements.{recursion_from_All}
 use Rattle.std.proofs.lemmas.Nat.{div-add-mod'}
 use Rattle.std.proofs.lemmas.Option.{slice_get_cases, slice_get_within}
+use Rattle.std.proofs.lemmas.Bool.{and_from}
 use Rattle.sched_base.specs.Credit2Numbers.{refill_span}
 use Rattle.sched_base.specs.Numbers.{moment, span, core, processor}
 use Rattle.sched_base.specs.declared.Moment.{Moment}
@@ -23,11 +24,11 @@ use Rattle.sched_model.specs.declared.state.Records.TheVariants.{Credit2Pool, Rt
 use Rattle.sched_model.specs.declared.state.Resource.{Resource}
 use Rattle.sched_model.specs.declared.state.RtdsUnit.{RtdsUnit}
 use Rattle.sched_model.specs.declared.state.Vcpu.{Vcpu}
-use Rattle.sched_model.specs.Checked.{IsChecked, IsCheckedDomain, IsCheckedScript, IsWithin, most_span}
+use Rattle.sched_model.specs.CheckedMachine.{IsChecked, IsCheckedDomain, IsCheckedScript, IsWithin, most_span}
 use Rattle.sched_model.specs.Places.{at_place, change_item, has_unit}
 use Rattle.sched_model.specs.State.{has_come, is_runnable}
 use Rattle.sched_model.specs.Opening.{core_count}
-use Rattle.sched_model.specs.Eligible.{Decision, rtds_unit}
+use Rattle.sched_model.specs.EligibleUnits.{Decision, rtds_unit}
 use Rattle.sched_model.specs.Credit2 as credit2
 use Rattle.sched_model.specs.Rtds as rtds
 use Rattle.sched_model.specs.Policy as policy
@@ -35,12 +36,12 @@ use Rattle.sched_model.specs.Policy.{decision_of, rtds_record}
 use Rattle.sched_model.specs.Pool as pools
 use Rattle.sched_model.specs.Pool.{enabled_in, after_in, settled_pool, change_core, change_processor, change_vcpu, with_doing, first_up, vcpu_of, guest_of, processor_of, done_at, ask_of, decided_core, same_choice}
 use Rattle.sched_laws.proofs.Events.{kept_opened}
-use Rattle.sched_laws.proofs.Bools.{and_left, and_right, both, clash}
+use Rattle.sched_base.proofs.Bools.{and_left, and_right, clash}
+use Rattle.sched_base.proofs.Lists.{each_get}
 use Rattle.sched_laws.proofs.Counts.{total-change_at, total-put_at}
 use Rattle.sched_laws.specs.Counts.{total}
 use Rattle.sched_laws.proofs.EachPlace.{by_cond, by_option, by_test}
 use Rattle.sched_laws.proofs.Lists.{some-test_at}
-use Rattle.sched_laws.proofs.Opened.{each_get}
 use Rattle.sched_ranges.proofs.Rtds.{fit_unit}
 use Rattle.sched_ranges.specs.Fits.{RtdsFits}
 use Rattle.sched_ranges.proofs.Records.{RecordsFit, replenish_fits}
@@ -263,7 +264,7 @@ module _ (m : Machine) (checked : IsChecked m) (t : ℕ) (pool : Pool) (fits : P
 
       by_due : (o : Option Moment) → (has_come t (option_map (λ (due : Moment). moment (min (t + budget) due.0)) o) && not c.pending) ≡ true → (has_come t o && not c.pending) ≡ true
       by_due None is = is
-      by_due (Some due) is = both (nat_le due.0 t) (not c.pending) (sooner due.0 (and_left (nat_le (min (t + budget) due.0) t) _ is)) (and_right (nat_le (min (t + budget) due.0) t) _ is)
+      by_due (Some due) is = and_from (nat_le due.0 t) (not c.pending) (sooner due.0 (and_left (nat_le (min (t + budget) due.0) t) _ is)) (and_right (nat_le (min (t + budget) due.0) t) _ is)
 
   repls : (u : UnitId) → enabled_in g t pool (Repl u) ≡ true → of_pool t (pools.after_replenish t u pool) + 1 ≤ of_pool t pool
   repls u on =

@@ -22,7 +22,7 @@ use Rattle.sched_model.specs.declared.state.Resource.{Resource}
 use Rattle.sched_model.specs.declared.state.RtdsUnit.{RtdsUnit}
 use Rattle.sched_model.specs.declared.state.State.{State}
 use Rattle.sched_model.specs.declared.work.CommandLine.{CommandLine}
-use Rattle.sched_model.specs.Checked.{IsChecked}
+use Rattle.sched_model.specs.CheckedMachine.{IsChecked}
 use Rattle.sched_model.specs.Places.{at_place, put_at, clear_at, change_at, test_at, numbers_from}
 use Rattle.sched_model.specs.Opening.{empty_pool, fresh_core, core_count}
 use Rattle.sched_model.specs.Credit2 as credit2
@@ -34,8 +34,8 @@ use Rattle.sched_model.specs.Actions.{home_of, home_of_core, home_of_domain, cha
 use Rattle.sched_model.specs.Commands.{carried_out, change_home, set_rtds, set_rtds_unit, pool_of_plan}
 use Rattle.sched_model.specs.Machine.{after, after_command, after_moved, after_dom_moved, after_at_home, enabled_at_home, verdict, settled_at, stall_end_of, left_by, joined_by, is_null}
 use Rattle.sched_laws.proofs.Events.{kept_marked, kept_pause, kept_queue_units, kept_set_leaving, kept_unpause, kept_withdrawn}
-use Rattle.sched_laws.specs.Each.{EachPlace}
-use Rattle.sched_laws.proofs.Bools.{clash}
+use Rattle.sched_laws.specs.EachPlace.{EachPlace}
+use Rattle.sched_base.proofs.Bools.{clash}
 use Rattle.sched_laws.proofs.Counts.{total-change_at, total-clear_at}
 use Rattle.sched_laws.specs.Counts.{total}
 use Rattle.sched_laws.proofs.EachPlace.{by_cond, by_option}

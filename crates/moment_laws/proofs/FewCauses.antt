@@ -3,6 +3,7 @@ use Rattle.std.proofs.Common.{◌≡◌, ◌≤◌, ◌+◌, ◌-◌, ◌/◌, �
 use Rattle.std.specs.Prelude.{Option, Some, None, is_some, slice_get, map}
 use Rattle.std.proofs.lemmas.List.{length-append}
 use Rattle.std.proofs.lemmas.List.Sums.{sum_by-cons}
+use Rattle.std.proofs.lemmas.Bool.{cases_Bool}
 use Rattle.sched_base.specs.Numbers.{domain as domain_number}
 use Rattle.sched_base.specs.declared.VcpuId.{VcpuId}
 use Rattle.sched_model.specs.declared.config.DomConfig.{DomConfig}
@@ -16,17 +17,16 @@ use Rattle.sched_model.specs.declared.state.Records.TheVariants.{Credit2Pool, Rt
 use Rattle.sched_model.specs.declared.state.Resource.{Resource}
 use Rattle.sched_model.specs.declared.state.RtdsUnit.{RtdsUnit}
 use Rattle.sched_model.specs.declared.state.State.{State}
-use Rattle.sched_model.specs.Checked.{IsChecked}
+use Rattle.sched_model.specs.CheckedMachine.{IsChecked}
 use Rattle.sched_model.specs.Places.{at_place, numbers_from}
 use Rattle.sched_model.specs.Actions.{vcpus_from, units_from}
 use Rattle.sched_model.specs.Pool.{unit_count}
 use Rattle.sched_model.specs.Runs.{IsRun, run_start}
 use Rattle.sched_laws.specs.StateLaws.{state_after}
-use Rattle.sched_laws.proofs.Bools.{either}
 use Rattle.sched_laws.specs.Counts.{total}
 use Rattle.sched_laws.proofs.Kept.{IsApart}
 use Rattle.sched_laws.proofs.Lists.{some_is, test_at-some}
-use Rattle.sched_laws.proofs.Opened.{length_map_numbers}
+use Rattle.sched_laws.proofs.Opened.{length_map_numbers, units_from-more}
 use Rattle.sched_laws.proofs.Reached.{is_apart}
 use Rattle.sched_laws.proofs.StillWaits.{split_run}
 use Rattle.sched_ranges.specs.Ranges.{PoolInRange, RecordsInRange}
@@ -46,7 +46,6 @@ use Rattle.moment_laws.proofs.NumberedSums.{of_place, over_none, over_sum, over_
 use Rattle.move_laws.specs.Moves.{HasOneMove}
 use Rattle.move_laws.proofs.Counted.{in_all_is}
 use Rattle.move_laws.proofs.Law.{has_one_move}
-use Rattle.stretch_laws.proofs.RecordCounts.{units_length}
 
 -- what is to come of the domain d in the records
 abbrev of_record : ℕ → Records → ℕ → ℕ
@@ -88,7 +87,7 @@ limits m =
     let configs : List DomConfig = m.config.domains in
     let g : ℕ = m.config.granularity in
     let a = over_list guests_of vcpus_from_length (λ k. refl) (λ k x xs. vcpus_length k x xs) 0 configs in
-    let b = over_list (units_of g) (units_from_length g) (λ k. refl) (λ k x xs. units_length g k x xs) 0 configs in
+    let b = over_list (units_of g) (units_from_length g) (λ k. refl) (λ k x xs. units_from-more g k x xs) 0 configs in
     let c = over_list itself (λ k xs. length xs) (λ k. refl) (λ k x xs. grind arith) 0 configs in
     let d = over_sum n (λ d. of_place guests_of (slice_get configs d)) (λ d. of_place (units_of g) (slice_get configs d)) in
     let e = over_sum n (λ d. of_place guests_of (slice_get configs d) + of_place (units_of g) (slice_get configs d)) (λ d. of_place itself (slice_get configs d)) in
@@ -158,7 +157,7 @@ module _ (m : Machine) (checked : IsChecked m) (before : List Entry) (run : IsRu
     few_records records is d x has = omega arith
 
     dom_there : (d : ℕ) → 1 ≤ of_dom t d pool → is_some (at_place pool.domains d) ≡ true
-    dom_there d some = elim (either (is_some (at_place pool.domains d))) [
+    dom_there d some = elim (cases_Bool (is_some (at_place pool.domains d))) [
       | inl is ↦ is
       | inr none ↦ absurd (
           let a = place_none (of_domain t) (at_place pool.domains d) none in
@@ -167,7 +166,7 @@ module _ (m : Machine) (checked : IsChecked m) (before : List Entry) (run : IsRu
     ]
 
     dom_few : (d : ℕ) → of_dom t d pool ≤ limit m d
-    dom_few d = elim (either (is_some (at_place pool.domains d))) [
+    dom_few d = elim (cases_Bool (is_some (at_place pool.domains d))) [
       | inl is ↦ (
           let x = some_is (at_place pool.domains d) is in
           let range = ranges.domains d x.0 x.1 in

@@ -5,6 +5,7 @@ use Rattle.std.proofs.Common.{◌≡◌, ◌≢◌, ◌≤◌, ◌+◌, ℕ, zer
 use Rattle.std.specs.Prelude.{Option, Some, None, is_some, int_lt, pos, cond, ◌&&◌, ◌||◌, ◌==◌}
 use Rattle.std.specs.List.{list_any, list_all}
 use Rattle.std.proofs.Math.Decide.{ℕ_discrete}
+use Rattle.std.proofs.lemmas.Bool.{false_from_ne_true, eqb-true}
 use Rattle.sched_base.specs.Credit2Numbers.{resets as resets_of}
 use Rattle.sched_base.specs.declared.Cores.{Cores}
 use Rattle.sched_base.specs.declared.UnitId.{UnitId}
@@ -26,7 +27,7 @@ use Rattle.sched_model.specs.declared.action.Action.{Action}
 use Rattle.sched_model.specs.declared.action.Action.TheVariants.{Moved, Decide}
 use Rattle.sched_model.specs.Places.{at_place, clear_at, numbered_items, test_at}
 use Rattle.sched_model.specs.Arinc.{Window, present_window}
-use Rattle.sched_model.specs.Eligible.{Decision}
+use Rattle.sched_model.specs.EligibleUnits.{Decision}
 use Rattle.sched_model.specs.Credit2 as credit2
 use Rattle.sched_model.specs.Rtds as rtds
 use Rattle.sched_model.specs.NullScheduler as null
@@ -38,9 +39,10 @@ use Rattle.sched_model.specs.Pool.{enabled_in, after_in, after_decide, settled_p
 use Rattle.sched_model.specs.Actions.{home_of_core, change_pool}
 use Rattle.sched_model.specs.Machine.{is_enabled, after, event_of}
 use Rattle.sched_model.specs.Runs.{Reached, IsRun, IsNextEvent, action_of, run_start, after_entry, after_event, after_entries}
-use Rattle.sched_model.specs.Checked.{IsChecked}
+use Rattle.sched_model.specs.CheckedMachine.{IsChecked}
+use Rattle.sched_model.proofs.RunLemmas.{after_entries-append}
 use Rattle.sched_laws.specs.StateLaws.{state_after, has_core_at}
-use Rattle.sched_laws.proofs.Bools.{and_left, and_right, or_right, clash}
+use Rattle.sched_base.proofs.Bools.{and_left, and_right, or_right, clash}
 use Rattle.sched_laws.proofs.Counts.{some_numbered}
 use Rattle.sched_laws.proofs.EachPlace.{read_change_at, place_below, by_cond}
 use Rattle.sched_laws.proofs.Kept.{IsApart}
@@ -51,12 +53,13 @@ use Rattle.turn_laws.specs.Stretches.{cores}
 use Rattle.turn_laws.specs.Turns.{total_over, how_many, one}
 use Rattle.turn_laws.specs.GoodDecisions.{decision}
 use Rattle.turn_laws.proofs.Sums.{many_is, many_none, total_at_most, grows, falls, one_most}
-use Rattle.turn_laws.proofs.StretchFalls.{push_assoc, after_push}
+use Rattle.turn_laws.proofs.StretchFalls.{push_assoc}
 use Rattle.stretch_laws.proofs.LegRuns.{action_in}
 use Rattle.stretch_laws.proofs.CoresByRecords.{IsKeptTest, last_of, Counted, counts, counted_core, core_counted, counted_after}
 use Rattle.moment_laws.specs.Moments.{is_cause, are_at}
 use Rattle.moment_laws.proofs.MomentParts.{is_reset, resets, ResetsFew}
-use Rattle.turn_laws.proofs.Tests.{is_number, no_true, or_later}
+use Rattle.moment_laws.proofs.DueEvents.{one_less}
+use Rattle.turn_laws.proofs.Tests.{or_later}
 use Rattle.stretch_laws.proofs.ReachedDecisions.{reset_of, printed_reset}
 
 -- the last reset was at the moment
@@ -172,10 +175,6 @@ waits_counted t s r waits = (let f = some_numbered (counts (may_reset t) r) 0 s.
 counted_waits : (t : ℕ) (s : State) (i r : ℕ) → Counted (may_reset t) s i r → waits_for_reset t s r ≡ true
 counted_waits t s i r counted = (let f = some-test_at s.pools i (counts (may_reset t) r) counted in any_numbered (counts (may_reset t) r) 0 i f.0 s.pools f.1 f.2)
 
-one_no_more : (a b : Bool) → (b ≡ true → a ≡ true) → one b ≤ one a
-one_no_more a false to = (let x = one_most a in omega arith)
-one_no_more a true to = (let e = to refl in rw e (omega arith))
-
 -- where one of the numbers grows by one at most, and the others do not
 rises : (n i : ℕ) (f h : ℕ → ℕ) → h i ≤ f i + 1 → ((r : ℕ) → r ≢ i → h r ≤ f r) → total_over n h ≤ total_over n f + 1
 rises zero i f h own others = omega arith
@@ -207,7 +206,7 @@ module _ (m : Machine) (s : State) (apart : IsApart s) (places : (i : ℕ) (pool
   no_rise : (action : Action) → is_enabled m s s.now action ≡ true → ((r : ℕ) → action ≡ Moved (core r) → ⊥) → left (after m s s.now action) ≤ left s
   no_rise action on other =
       let a = grows (cores m) 0 (λ r. one (waits_for_reset s.now s r)) (λ r. one (waits_for_reset s.now (after m s s.now action) r))
-      (λ r low. (let b = one_no_more (waits_for_reset s.now s r) (waits_for_reset s.now (after m s s.now action) r) (was action on r (other r)) in omega (arith, b))) in
+      (λ r low. (let b = one_less (waits_for_reset s.now s r) (waits_for_reset s.now (after m s s.now action) r) (was action on r (other r)) in omega (arith, b))) in
       let none = many_none (cores m) in
       omega (arith, a, none)
 
@@ -215,7 +214,7 @@ module _ (m : Machine) (s : State) (apart : IsApart s) (places : (i : ℕ) (pool
   move_rises q on =
       rises (cores m) q (λ r. one (waits_for_reset s.now s r)) (λ r. one (waits_for_reset s.now (after m s s.now (Moved (core q))) r))
       (let a = one_most (waits_for_reset s.now (after m s s.now (Moved (core q))) q) in omega (arith, a))
-      (λ r other. one_no_more (waits_for_reset s.now s r) (waits_for_reset s.now (after m s s.now (Moved (core q))) r) (was (Moved (core q)) on r (λ e. other (moved q r e))))
+      (λ r other. one_less (waits_for_reset s.now s r) (waits_for_reset s.now (after m s s.now (Moved (core q))) r) (was (Moved (core q)) on r (λ e. other (moved q r e))))
     where
       moved : (a b : ℕ) → Moved (core a) ≡ Moved (core b) → b ≡ a
       moved a b e = (let same : core b ≡ core a = cc in ap (λ (x : ResId). x.0) same)
@@ -240,7 +239,7 @@ module _ (m : Machine) (s : State) (apart : IsApart s) (places : (i : ℕ) (pool
           let has_i : has_core_at s i r ≡ true = test_at-some s.pools i (λ x. is_some (at_place x.resources r)) pool p.1 (is_some_at (at_place pool.resources r) c.0 c.1) in
           let decides : after_in g s.now pool (Decide (core r)) ≡ after_decide g s.now r c.0 pool = ap (λ (o : Option Resource). elim o as (λ _. Pool) [ None ↦ pool | Some x ↦ after_decide g s.now r x pool ]) c.1 in
           let records : (f pool).scheduler.records ≡ (decision m s.now pool r c.0).records = ap (λ (x : Pool). x.scheduler.records) decides in
-          let later : waits_for_reset s.now (after m s s.now (Decide (core r))) r ≡ false = ap (λ (x : State). waits_for_reset s.now x r) is_next ∙ no_true (waits_for_reset s.now next r) (λ waits. (
+          let later : waits_for_reset s.now (after m s s.now (Decide (core r))) r ≡ false = ap (λ (x : State). waits_for_reset s.now x r) is_next ∙ false_from_ne_true (waits_for_reset s.now next r) (λ waits. (
           let k = waits_counted s.now next r waits in
           let n = counted_core (may_reset s.now) next k.0 r k.1 in
           elim (read_change_at i k.0 f s.pools n.0 n.2) [
@@ -255,7 +254,7 @@ module _ (m : Machine) (s : State) (apart : IsApart s) (places : (i : ℕ) (pool
           let none = many_none (cores m) in
           let all = falls (cores m) 0 1 r (λ q. one (waits_for_reset s.now s q)) (λ q. one (waits_for_reset s.now (after m s s.now (Decide (core r))) q)) (omega (arith, low, count))
           (let a = ap one now in let b = ap one later in omega (arith, a, b))
-          (λ q other. (let b = one_no_more (waits_for_reset s.now s q) (waits_for_reset s.now (after m s s.now (Decide (core r))) q) (was (Decide (core r)) on q (λ e. absurd (cc))) in omega (arith, b))) in
+          (λ q other. (let b = one_less (waits_for_reset s.now s q) (waits_for_reset s.now (after m s s.now (Decide (core r))) q) (was (Decide (core r)) on q (λ e. absurd (cc))) in omega (arith, b))) in
           omega (arith, all, none)
 
   -- what is left falls with each reset and rises with causes alone
@@ -280,11 +279,11 @@ module _ (m : Machine) (checked : IsChecked m) (t : ℕ) where
       let s : State = state_after m before in
       let parts = split_run m (run_start m) before (e ∷ moment) run in
       let next = parts.1.0 in
-      let now : s.now ≡ t = sym next.moment ∙ is_number e.at.0 t (and_left (e.at.0 == t) _ at) in
+      let now : s.now ≡ t = sym next.moment ∙ eqb-true e.at.0 t (and_left (e.at.0 == t) _ at) in
       let here = event_lowers m s (is_apart m checked before parts.0) (places_for_cores m checked before parts.0) e.event (after_entries m (run_start m) before).over next.event in
       let here_t = subst (λ k. one (is_reset e.event) + total_over (cores m) (λ r. one (waits_for_reset k (after_entry m (after_entries m (run_start m) before) e).state r)) ≤ one (is_cause e.event) + total_over (cores m) (λ r. one (waits_for_reset k s r))) now here in
       let rest = moment_lowers moment (before ++ e ∷ []) (subst (IsRun m) (sym (push_assoc before e moment)) run) (and_right (e.at.0 == t) _ at) in
-      let same : left_at (state_after m (before ++ e ∷ [])) ≡ left_at (after_entry m (after_entries m (run_start m) before) e).state = ap (λ (x : Reached). left_at x.state) (after_push m (run_start m) before e) in
+      let same : left_at (state_after m (before ++ e ∷ [])) ≡ left_at (after_entry m (after_entries m (run_start m) before) e).state = ap (λ (x : Reached). left_at x.state) (after_entries-append m (run_start m) before e) in
       omega (arith, here_t, rest, same)
 
 pub resets_few : (m : Machine) → IsChecked m → ResetsFew m

@@ -2,6 +2,7 @@
 use Rattle.std.proofs.Common.{mod-lt, ◌≡◌, ◌≤◌, ◌<◌, ◌+◌, ◌-◌, ◌*◌, ℕ, zero, suc, Bool, true, false, not, List, [], ◌∷◌, refl, arith, ap, subst, sym, ◌∙◌, cond, ◌⊎◌, inl, inr}
 use Rattle.std.specs.Prelude.{Option, Some, None, is_some, nat_le, nat_lt, slice_get, map, min, max, ℤ, pos, negsuc, int_lt, ◌==◌, ◌&&◌, ◌||◌, ◌%◌, ◌/◌}
 use Rattle.std.proofs.lemmas.Nat.{div-add-mod'}
+use Rattle.std.proofs.lemmas.Bool.{lt-leb}
 use Rattle.sched_base.specs.Credit2Numbers.{above_zero, slice, raise as raised}
 use Rattle.sched_base.specs.declared.Cores.{Cores}
 use Rattle.sched_base.specs.declared.UnitId.{UnitId}
@@ -19,13 +20,13 @@ use Rattle.sched_model.specs.declared.state.Scheduler.{Scheduler}
 use Rattle.sched_model.specs.Places.{at_place, change_at, change_each, change_item, has_unit}
 use Rattle.sched_model.specs.State.{has_come}
 use Rattle.sched_model.specs.Arinc.{Window, window_from, window_at, present_window}
-use Rattle.sched_model.specs.Eligible.{Decision, is_allowed, is_eligible, eligible_units, has_budget}
+use Rattle.sched_model.specs.EligibleUnits.{Decision, is_allowed, is_eligible, eligible_units, has_budget}
 use Rattle.sched_model.specs.Credit2 as credit2
 use Rattle.sched_model.specs.Rtds as rtds
 use Rattle.sched_model.specs.NullScheduler as null
 use Rattle.sched_model.specs.Policy as policy
 use Rattle.sched_model.specs.Policy.{decision_of}
-use Rattle.sched_laws.proofs.Bools.{and_right}
+use Rattle.sched_base.proofs.Bools.{and_right}
 use Rattle.sched_laws.specs.Counts.{total}
 use Rattle.sched_laws.proofs.EachPlace.{by_cond, by_option}
 use Rattle.turn_laws.proofs.BestUnits.{is_best}
@@ -40,9 +41,6 @@ use Rattle.moment_laws.proofs.DueEvents.{of_credit2, of_rtds, of_records, is_dea
 pub record DecidesLater (t : ℕ) (before : Records) (d : Decision) : Type 0 where
   pub due : has_come t d.due ≡ false
   pub records : of_records t d.records ≤ of_records t before
-
-later_is : (t n : ℕ) → t < n → nat_le n t ≡ false
-later_is t n low = grind arith
 
 -- ARINC 653: the window ends later
 until_later : (start ahead last : ℕ) (entries : List FrameEntry) → start + ahead < last → start + ahead < (window_from start ahead last entries).until
@@ -69,7 +67,7 @@ arinc_later : (ask : Ask) (scheduler : Scheduler) (records : ArincRecords) → (
 arinc_later ask scheduler records some None is = record { due = refl; records = omega arith }
 arinc_later ask scheduler records some (Some window) is =
     record {
-      due = later_is ask.at.0 window.until (by_frame records.frame refl (by_cond (λ (o : Option Window). Some window ≡ o → Some window ≡ present_window records ask.at.0) ask.leaving None (present_window records ask.at.0) (λ goes e. absurd (cc)) (λ stays e. e) is));
+      due = lt-leb window.until ask.at.0 (by_frame records.frame refl (by_cond (λ (o : Option Window). Some window ≡ o → Some window ≡ present_window records ask.at.0) ask.leaving None (present_window records ask.at.0) (λ goes e. absurd (cc)) (λ stays e. e) is));
       records = omega arith;
     }
   where
@@ -124,7 +122,7 @@ module _ (ask : Ask) (queue : List UnitId) (affinity : List (Option (List Cores)
       let c = same_deadlines ask.at.0 w (λ x. record x { burned = Some ask.at.0 }) (rtds.switch_off ask.cur rtds_burned) (λ x. refl) in
       let left = rtds_left w is in
       let some : 0 < rtds.budget_left rtds_burned w = grind (arith, left) in
-      record { due = later_is ask.at.0 (ask.at.0 + rtds.budget_left rtds_burned w) (omega (arith, some)); records = omega (arith, a, b, c) }
+      record { due = lt-leb (ask.at.0 + rtds.budget_left rtds_burned w) ask.at.0 (omega (arith, some)); records = omega (arith, a, b, c) }
 
 -- Credit2: a refill changes by itself and with the cap alone, and the chosen unit holds some budget where its domain is capped
 pub same_refills : (t d : ℕ) (f : Credit2Domain → Credit2Domain) (domains : List (Option Credit2Domain)) → ((x : Credit2Domain) → (f x).refill ≡ x.refill) → total (of_credit2 t) (change_at d f domains) ≤ total (of_credit2 t) domains
@@ -302,7 +300,7 @@ module _ (ask : Ask) (queue : List UnitId) (affinity : List (Option (List Cores)
         let d = off_less ask.cur (taken w) in
         let e = same_refills t w.dom.0 (λ (x : Credit2Domain). record x { units = change_item w.n (λ (y : Credit2Unit). record y { burned = Some t }) x.units }) (credit2.switch_off ask.cur (taken w)).domains (λ x. refl) in
         let some = slice_lasts w (taken w) (lasts w is) in
-        record { due = later_is t (t + credit2.slice_of ask scheduler (taken w) w) (omega (arith, some)); records = omega (arith, a, b, c, d, e) }
+        record { due = lt-leb (t + credit2.slice_of ask scheduler (taken w) w) t (omega (arith, some)); records = omega (arith, a, b, c, d, e) }
 
 -- what a decision needs of the pool
 pub record IsReady (ask : Ask) (queue : List UnitId) (records : Records) : Type 0 where

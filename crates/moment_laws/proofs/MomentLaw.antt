@@ -2,7 +2,7 @@
 use Rattle.std.proofs.Common.{◌≡◌, ◌≤◌, ◌+◌, ℕ, true, List, ◌++◌, arith, length}
 use Rattle.sched_model.specs.declared.event.Entry.{Entry}
 use Rattle.sched_model.specs.declared.machine.Machine.{Machine}
-use Rattle.sched_model.specs.Checked.{IsChecked}
+use Rattle.sched_model.specs.CheckedMachine.{IsChecked}
 use Rattle.sched_model.specs.Runs.{IsRun}
 use Rattle.stretch_laws.proofs.StretchLaw.{stretch_ends}
 use Rattle.moment_laws.specs.Moments.{are_at, causes, most_in_moment, most_turns_in_moment}

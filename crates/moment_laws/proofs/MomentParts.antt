@@ -5,6 +5,7 @@ use Rattle.std.proofs.lemmas.List.{length-replicate}
 use Rattle.std.proofs.lemmas.List.Sums.{sum_by-cons}
 use Rattle.std.proofs.Math.Decide.{dec_lt}
 use Rattle.std.proofs.Math.Nat.{mul-le-mul_left, mul-le-mul_right}
+use Rattle.std.proofs.lemmas.Bool.{eqb-true, and_from}
 use Rattle.sched_base.specs.declared.UnitId.{UnitId}
 use Rattle.sched_model.specs.declared.event.Event.{Event}
 use Rattle.sched_model.specs.declared.event.Event.TheVariants as event
@@ -12,7 +13,7 @@ use Rattle.sched_model.specs.declared.event.Entry.{Entry}
 use Rattle.sched_model.specs.declared.machine.Machine.{Machine}
 use Rattle.sched_model.specs.Places.{put_at, clear_at}
 use Rattle.sched_model.specs.Runs.{IsRun, run_start}
-use Rattle.sched_laws.proofs.Bools.{and_left, and_right, both}
+use Rattle.sched_base.proofs.Bools.{and_left, and_right}
 use Rattle.sched_laws.proofs.EachPlace.{at_place-put_at_other, at_place-clear_at, at_place-clear_at_other, length_set}
 use Rattle.sched_laws.proofs.StillWaits.{split_run}
 use Rattle.turn_laws.specs.Stretches.{Legs, cores, units, legs_with, legs_after, leg_of, open_legs, has_no_older_leg, is_in_stretch, is_stretch}
@@ -20,8 +21,8 @@ use Rattle.turn_laws.specs.Turns.{total_over, how_many, one, most_turns}
 use Rattle.turn_laws.proofs.Sums.{many_is, many_none, total_at_most, grows, falls, one_most}
 use Rattle.turn_laws.proofs.StretchFalls.{legs_push, push_assoc}
 use Rattle.moment_laws.specs.Moments.{is_cause, is_end, causes, are_at, most_in_moment, most_turns_in_moment}
-use Rattle.turn_laws.proofs.Tests.{is_number}
 use Rattle.turn_laws.proofs.TurnsBound.{most_turns_fit}
+use Rattle.stretch_laws.proofs.LegRuns.{legs_after_count}
 
 -- a decision that ends a leg of another moment; one that resets credits
 abbrev pub is_old : ℕ → Legs → Event → Bool
@@ -141,7 +142,7 @@ module _ (t n : ℕ) where
   olds_lower : (entries : List Entry) (legs : Legs) → length legs ≤ n → are_at t entries ≡ true → olds legs entries ≤ old_total legs
   olds_lower [] legs low at = omega arith
   olds_lower (e ∷ entries) legs low at =
-      let now : e.at.0 ≡ t = is_number e.at.0 t (and_left (e.at.0 == t) _ at) in
+      let now : e.at.0 ≡ t = eqb-true e.at.0 t (and_left (e.at.0 == t) _ at) in
       let a = event_lowers e.event legs low in
       let count = length_kept e.event legs in
       let rest = olds_lower entries (legs_with t e.event legs) (omega (arith, count, low)) (and_right (e.at.0 == t) _ at) in
@@ -157,8 +158,8 @@ olds_few t n entries legs low at =
 
 -- a stretch goes on
 stretch_push : (legs : Legs) (entries : List Entry) (e : Entry) → is_stretch legs entries ≡ true → is_in_stretch e.at.0 (legs_after legs entries) e.event ≡ true → is_stretch legs (entries ++ e ∷ []) ≡ true
-stretch_push legs [] e is on = both (is_in_stretch e.at.0 legs e.event) true on refl
-stretch_push legs (x ∷ entries) e is on = both (is_in_stretch x.at.0 legs x.event) _ (and_left _ _ is) (stretch_push (legs_with x.at.0 x.event legs) entries e (and_right (is_in_stretch x.at.0 legs x.event) _ is) on)
+stretch_push legs [] e is on = and_from (is_in_stretch e.at.0 legs e.event) true on refl
+stretch_push legs (x ∷ entries) e is on = and_from (is_in_stretch x.at.0 legs x.event) _ (and_left _ _ is) (stretch_push (legs_with x.at.0 x.event legs) entries e (and_right (is_in_stretch x.at.0 legs x.event) _ is) on)
 
 legs_both : (legs : Legs) (a b : List Entry) → legs_after legs (a ++ b) ≡ legs_after (legs_after legs a) b
 legs_both legs [] b = refl
@@ -237,10 +238,6 @@ moment_fits g c n x b low =
     let i : 2 * (c + n + 1) * (2 * (g + 1) * (x + 1)) ≡ 4 * (g + 1) * (c + n + 1) * (x + 1) = grind arith in
     omega (arith, d, i)
 
-legs_length : (entries : List Entry) (legs : Legs) → length (legs_after legs entries) ≡ length legs
-legs_length [] legs = refl
-legs_length (e ∷ entries) legs = legs_length entries (legs_with e.at.0 e.event legs) ∙ length_kept e.at.0 0 e.event legs
-
 -- a moment has one end at most; and no more resets than causes and cores
 abbrev pub EndsOnce : Machine → Type 0
 EndsOnce m = (before moment : List Entry) (t : ℕ) → IsRun m (before ++ moment) → are_at t moment ≡ true → ends moment ≤ 1
@@ -252,7 +249,7 @@ ResetsFew m = (before moment : List Entry) (t : ℕ) → IsRun m (before ++ mome
 pub moment_turns : (m : Machine) → EndsOnce m → ResetsFew m → StretchesEnd m (most_turns m) → (before moment : List Entry) (t : ℕ) → IsRun m (before ++ moment) → are_at t moment ≡ true → length moment + 1 ≤ most_turns_in_moment m (causes moment)
 moment_turns m one_end resets_few end before moment t run at =
     let legs : Legs = open_legs m before in
-    let size : length legs ≡ cores m = legs_length before (replicate (cores m) None) ∙ length-replicate (cores m) None in
+    let size : length legs ≡ cores m = legs_after_count before (replicate (cores m) None) ∙ length-replicate (cores m) None in
     let all = moment_pieces m (most_turns m) end before moment run in
     let few = between_few legs moment in
     let old = olds_few t (cores m) moment legs (omega (arith, size)) at in

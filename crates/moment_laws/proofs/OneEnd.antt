@@ -2,6 +2,7 @@
 use Rattle.std.proofs.Common.{◌≡◌, ◌≤◌, ◌<◌, ◌+◌, ℕ, Bool, true, false, List, [], ◌∷◌, ◌++◌, refl, arith, ap, cond, subst, sym, ◌∙◌}
 use Rattle.std.specs.Prelude.{Option, Some, None, is_some, filter, min, nat_le, nat_lt, ◌&&◌, ◌==◌}
 use Rattle.std.proofs.Math.Decide.{dec_le}
+use Rattle.std.proofs.lemmas.Bool.{ltb-true, eqb-true}
 use Rattle.sched_model.specs.declared.event.Event.{Event}
 use Rattle.sched_model.specs.declared.event.Event.TheVariants as event
 use Rattle.sched_model.specs.declared.event.Entry.{Entry}
@@ -10,13 +11,12 @@ use Rattle.sched_model.specs.declared.state.State.{State}
 use Rattle.sched_model.specs.Machine.{first_enabled, moments, next_moment, next_in_horizon}
 use Rattle.sched_model.specs.Places.{least_number}
 use Rattle.sched_model.specs.Runs.{Reached, IsRun, IsRunFrom, IsNextEvent, action_of, run_start, after_entry, after_entries, after_event}
-use Rattle.sched_laws.proofs.Bools.{and_left, and_right}
+use Rattle.sched_base.proofs.Bools.{and_left, and_right}
 use Rattle.sched_laws.proofs.EachPlace.{by_option, by_cond}
 use Rattle.sched_laws.proofs.StillWaits.{split_run}
 use Rattle.turn_laws.specs.Turns.{one}
 use Rattle.moment_laws.specs.Moments.{are_at, is_end}
 use Rattle.moment_laws.proofs.MomentParts.{ends}
-use Rattle.turn_laws.proofs.Tests.{is_number}
 
 -- the least of the numbers that pass a test passes it
 least_passes : (test : ℕ → Bool) (ns : List ℕ) (k : ℕ) → least_number (filter test ns) ≡ Some k → test k ≡ true
@@ -34,9 +34,6 @@ least_passes test (n ∷ ns) k is =
       | no high ↦ (let second : l ≡ k = omega (arith, same, high) in subst (λ x. test x ≡ true) second (rest l at))
     ])
 
-lt_of : (a b : ℕ) → nat_lt a b ≡ true → a < b
-lt_of a b is = grind arith
-
 strictly_later : (m : Machine) (s : State) (next : ℕ) → next_in_horizon m s ≡ Some next → s.now < next
 strictly_later m s next is =
     by_option (λ (o : Option ℕ). o ≡ Some next → s.now < next) (next_moment m s s.now) None (λ k. cond (nat_le k m.config.horizon.0) (Some k) None)
@@ -44,7 +41,7 @@ strictly_later m s next is =
     (λ k found. by_cond (λ (o : Option ℕ). o ≡ Some next → s.now < next) (nat_le k m.config.horizon.0) (Some k) None
     (λ within e. (
     let same : k ≡ next = cc in
-    let later = lt_of s.now k (and_left (nat_lt s.now k) _ (least_passes (λ l. nat_lt s.now l && is_some (first_enabled m s l)) (moments m s) k found)) in
+    let later = ltb-true s.now k (and_left (nat_lt s.now k) _ (least_passes (λ l. nat_lt s.now l && is_some (first_enabled m s l)) (moments m s) k found)) in
     omega (arith, later, same)))
     (λ past e. absurd (cc))) is
 
@@ -56,7 +53,7 @@ module _ (m : Machine) (t : ℕ) where
       absurd (
       let later = strictly_later m from.state n.0 next.1 in
       let moment : e.at.0 ≡ n.0 = run.0.moment in
-      let same = is_number e.at.0 t (and_left (e.at.0 == t) _ at) in
+      let same = eqb-true e.at.0 t (and_left (e.at.0 == t) _ at) in
       omega (arith, later, moment, same, now))
   past event.Finish from [] is next now run at = refl
   past event.Finish from (e ∷ entries) is next now run at = absurd (let over : true ≡ false = run.0.goes_on in cc)
@@ -65,7 +62,7 @@ module _ (m : Machine) (t : ℕ) where
   one_end_from : (entries : List Entry) (from : Reached) → IsRunFrom m from entries → are_at t entries ≡ true → ends entries ≤ 1
   one_end_from [] from run at = omega arith
   one_end_from (e ∷ entries) from run at =
-      let here : from.state.now ≡ t = sym run.0.moment ∙ is_number e.at.0 t (and_left (e.at.0 == t) _ at) in
+      let here : from.state.now ≡ t = sym run.0.moment ∙ eqb-true e.at.0 t (and_left (e.at.0 == t) _ at) in
       let rest = one_end_from entries (after_entry m from e) run.1 (and_right (e.at.0 == t) _ at) in
       elim (is_end e.event) as (λ b. is_end e.event ≡ b → one b + ends entries ≤ 1) [
         | true ↦ λ is. (let none = past e.event from entries is run.0.event here run.1 (and_right (e.at.0 == t) _ at) in let zero_ends : ends entries ≡ 0 = ap ends none in omega (arith, zero_ends))

@@ -2,17 +2,19 @@
 use Rattle.std.proofs.Common.{◌≡◌, ◌≤◌, ◌+◌, ◌*◌, ℕ, Bool, true, false, List, [], ◌∷◌, ◌++◌, refl, arith, ap, subst, sym, ◌∙◌, length}
 use Rattle.std.specs.Prelude.{◌==◌}
 use Rattle.std.proofs.Math.Nat.{mul-le-mul_left}
+use Rattle.std.proofs.lemmas.Bool.{eq-eqb, and_from}
 use Rattle.sched_model.specs.declared.event.Entry.{Entry}
 use Rattle.sched_model.specs.declared.machine.Machine.{Machine}
-use Rattle.sched_model.specs.Checked.{IsChecked}
+use Rattle.sched_model.specs.CheckedMachine.{IsChecked}
 use Rattle.sched_model.specs.Opening.{opening}
 use Rattle.sched_model.specs.Runs.{Reached, IsRun, run_start, after_entries}
+use Rattle.sched_model.proofs.RunLemmas.{after_entries-append}
 use Rattle.sched_laws.specs.StateLaws.{state_after}
-use Rattle.sched_laws.proofs.Bools.{both, and_left, and_right, is_same}
+use Rattle.sched_base.proofs.Bools.{and_left, and_right}
 use Rattle.sched_laws.proofs.StillWaits.{split_run}
 use Rattle.turn_laws.specs.Stretches.{cores, units}
 use Rattle.turn_laws.specs.Turns.{how_many, one}
-use Rattle.turn_laws.proofs.StretchFalls.{after_push, push_assoc}
+use Rattle.turn_laws.proofs.StretchFalls.{push_assoc}
 use Rattle.moment_laws.specs.Moments.{are_at, causes, is_cause, is_end, is_line, most_causes, most_due, most_in_any_moment, most_in_moments, whole_moments, work_lines}
 use Rattle.moment_laws.proofs.ActionClock.{event_goes, lines_few}
 use Rattle.moment_laws.proofs.FewCauses.{causes_few}
@@ -24,8 +26,8 @@ how_many_push test [] e = omega arith
 how_many_push test (x ∷ xs) e = (let r = how_many_push test xs e in omega (arith, r))
 
 at_push : (t : ℕ) (xs : List Entry) (e : Entry) → are_at t xs ≡ true → e.at.0 ≡ t → are_at t (xs ++ e ∷ []) ≡ true
-at_push t [] e at now = both (e.at.0 == t) true (is_same e.at.0 t now) refl
-at_push t (x ∷ xs) e at now = both (x.at.0 == t) _ (and_left (x.at.0 == t) _ at) (at_push t xs e (and_right (x.at.0 == t) _ at) now)
+at_push t [] e at now = and_from (e.at.0 == t) true (eq-eqb e.at.0 t now) refl
+at_push t (x ∷ xs) e at now = and_from (x.at.0 == t) _ (and_left (x.at.0 == t) _ at) (at_push t xs e (and_right (x.at.0 == t) _ at) now)
 
 -- each moment has a for each of its entries that pass q, and b besides, of those that pass p at most
 abbrev pub EachMoment : Machine → (Entry → Bool) → (Entry → Bool) → ℕ → ℕ → Type 0
@@ -52,7 +54,7 @@ module _ (m : Machine) (p q : Entry → Bool) (a b : ℕ) (each : EachMoment m p
       let of_moment : a * how_many q (moment ++ e ∷ []) ≡ a * how_many q moment + a * one (q e) = ap (λ k. a * k) count_q ∙ grind arith in
       elim (is_end e.event) as (λ k. is_end e.event ≡ k → how_many p moment + (one (p e) + how_many p entries) ≤ a * (how_many q moment + (one (q e) + how_many q entries)) + ((one k + ends entries) + 1) * b) [
         | false ↦ λ goes. (
-            let pushed : (state_after m (before ++ (moment ++ e ∷ []))).now ≡ now = ap (λ xs. (state_after m xs).now) (sym joined) ∙ ap (λ (x : Reached). x.state.now) (after_push m (run_start m) (before ++ moment) e) ∙ (event_goes m (after_entries m (run_start m) (before ++ moment)) e.event next.event).0 goes in
+            let pushed : (state_after m (before ++ (moment ++ e ∷ []))).now ≡ now = ap (λ xs. (state_after m xs).now) (sym joined) ∙ ap (λ (x : Reached). x.state.now) (after_entries-append m (run_start m) (before ++ moment) e) ∙ (event_goes m (after_entries m (run_start m) (before ++ moment)) e.event next.event).0 goes in
             let rest = pieces entries (moment ++ e ∷ []) before run3 (subst (λ t. are_at t (moment ++ e ∷ []) ≡ true) (sym pushed) more) in
             let all : a * (how_many q (moment ++ e ∷ []) + how_many q entries) ≡ a * how_many q (moment ++ e ∷ []) + a * how_many q entries = grind arith in
             omega (arith, rest, count_p, spread, of_moment, all))

@@ -3,7 +3,7 @@
 ghost use Rattle.std.specs.Prelude.{◌≤◌, ◌+◌, ◌*◌, ℕ, List, length};
 ghost use Rattle.sched_model.specs.declared.event.Entry.{Entry};
 ghost use Rattle.sched_model.specs.declared.machine.Machine.{Machine};
-ghost use Rattle.sched_model.specs.Checked.{IsChecked};
+ghost use Rattle.sched_model.specs.CheckedMachine.{IsChecked};
 ghost use Rattle.sched_model.specs.Runs.{IsRun};
 ghost use Rattle.moment_laws.specs.Moments.{IsOfMoment, causes, lines, whole_moments, work_lines, most_causes, most_due, most_in_any_moment, most_in_moment, most_in_moments, most_turns_in_moment};
 

@@ -1,6 +1,5 @@
 -- At the opening each core is free or in a pool, and each domain in its pool.
 use Rattle.sched_laws.proofs.Lists.{item_below}
-use Rattle.part_laws.proofs.Places.{some_map}
 use Rattle.std.proofs.Common.{◌≡◌, ◌<◌, ◌+◌, ℕ, zero, suc, Bool, true, false, List, [], ◌∷◌, ◌++◌, length, refl, arith, ap, subst, sym, ◌∙◌, ◌⊎◌, inl, inr, cond, replicate}
 use Rattle.std.specs.Prelude.{Option, Some, None, is_some, option_map, map, slice_get, ◌==◌, ◌||◌, ◌-◌}
 use Rattle.std.specs.List.{list_any}
@@ -8,6 +7,7 @@ use Rattle.std.proofs.lemmas.List.{length-replicate}
 use Rattle.std.proofs.lemmas.List.Elements.{recursion_from_All}
 use Rattle.sched_base.specs.Numbers.{moment}
 use Rattle.sched_base.specs.declared.PoolId.{PoolId}
+use Rattle.sched_base.proofs.Lists.{each_get}
 use Rattle.sched_model.specs.declared.config.Config.{Config}
 use Rattle.sched_model.specs.declared.config.DomConfig.{DomConfig}
 use Rattle.sched_model.specs.declared.config.PoolConfig.{PoolConfig}
@@ -19,9 +19,10 @@ use Rattle.sched_model.specs.declared.state.Resource.{Resource}
 use Rattle.sched_model.specs.Places.{at_place, put_at, numbers_from}
 use Rattle.sched_model.specs.State.{has_core}
 use Rattle.sched_model.specs.Opening.{opening, opening_free, opening_pool, opening_pools, with_domains, with_configured, empty_pool, fresh_core, core_count}
-use Rattle.sched_model.specs.Checked.{IsChecked, IsCheckedDomain}
+use Rattle.sched_model.specs.CheckedMachine.{IsChecked, IsCheckedDomain}
+use Rattle.sched_model.proofs.PlaceLemmas.{is_some-option_map}
 use Rattle.sched_laws.proofs.EachPlace.{by_cond, is_empty, EachPlace-empty, at_place-put_at, length_set}
-use Rattle.sched_laws.proofs.Opened.{joining_domain, read_map, read_pools, each_get, with_domains-resources, with_configured-domains}
+use Rattle.sched_laws.proofs.Opened.{joining_domain, read_map, read_pools, with_domains-resources, with_configured-domains}
 use Rattle.part_laws.proofs.Looks.{moving_in}
 use Rattle.part_laws.proofs.Alike.{core_of, mover_of, target_of}
 use Rattle.part_laws.proofs.Housed.{Housed, never, after_put}
@@ -126,7 +127,7 @@ module _ (m : Machine) (checked : IsChecked m) where
       let i : ℕ = c.0.home.0 in
       let start : Pool = record (empty_pool config p.0.params) { resources = map (λ r. cond (has_core p.0.cores r) (Some (fresh_core (replicate config.granularity (moment 0)))) None) (numbers_from 0 (core_count config)) } in
       let len : length start.domains ≡ length config.domains = length-replicate (length config.domains) None in
-      (i, ap (λ o. is_some (mover_of o d)) (opening_at i p.0 p.1) ∙ some_map (λ (x : Domain). x.moving) (at_place (opening_pool config i p.0).domains d) ∙ (let e : 0 + d ≡ d = omega arith in subst (λ n. is_some (at_place (with_domains config.granularity i 0 config.domains start).domains n) ≡ true) e (joined_here config.granularity i 0 d config.domains start c.0 c.1 refl (omega (arith, low, len)))))
+      (i, ap (λ o. is_some (mover_of o d)) (opening_at i p.0 p.1) ∙ is_some-option_map (λ (x : Domain). x.moving) (at_place (opening_pool config i p.0).domains d) ∙ (let e : 0 + d ≡ d = omega arith in subst (λ n. is_some (at_place (with_domains config.granularity i 0 config.domains start).domains n) ≡ true) e (joined_here config.granularity i 0 d config.domains start c.0 c.1 refl (omega (arith, low, len)))))
 
   aimless : (r i : ℕ) → target_of (opening m) r ≡ Some (Some i) → ⊥
   aimless r i is = by_free (at_place (opening m).free r) refl is

@@ -3,6 +3,7 @@ use Rattle.sched_laws.proofs.Judged.{Fits, verdict_fits_next}
 use Rattle.std.proofs.Common.{◌≡◌, ◌≢◌, ◌<◌, ℕ, zero, suc, true, false, not, List, [], ◌∷◌, length, refl, arith, ap, subst, sym, ◌∙◌, ◌⊎◌, inl, inr, replicate}
 use Rattle.std.specs.Prelude.{Option, Some, None, Ok, Err, is_some, option_map, ◌&&◌, ◌||◌, ◌==◌, nat_le}
 use Rattle.std.specs.List.{list_any}
+use Rattle.std.proofs.lemmas.Bool.{not-true}
 use mathlib.Core.Logic.{dite}
 use native.Mathlib.Decide.{ℕ_discrete}
 use Rattle.sched_base.specs.Numbers.{pool as pool_number}
@@ -26,11 +27,12 @@ use Rattle.sched_model.specs.Actions.{change_pool}
 use Rattle.sched_model.specs.Commands.{carried_out, change_home, set_rtds, pool_of_plan, cores_in, domains_in}
 use Rattle.sched_model.specs.Policy.{default_pool_params}
 use Rattle.sched_model.specs.Machine.{is_move_under_way, verdict, settled_at, after_command}
-use Rattle.sched_laws.specs.Each.{EachPlace}
+use Rattle.sched_model.proofs.PlaceLemmas.{is_some-option_map}
+use Rattle.sched_laws.specs.EachPlace.{EachPlace}
 use Rattle.sched_laws.proofs.EachPlace.{by_cond, at_place-put_at_other, at_place-clear_at_other, at_place-clear_at, EachPlace-empty, is_empty}
 use Rattle.sched_laws.proofs.Lists.{none_passes, at_numbered}
-use Rattle.sched_laws.proofs.Bools.{and_right, not_true, or_left, or_right, clash}
-use Rattle.part_laws.proofs.Places.{some_change_at, at_place-change_at, at_place-change_at_other, some_map}
+use Rattle.sched_base.proofs.Bools.{and_right, or_left, or_right, clash}
+use Rattle.part_laws.proofs.Places.{some_change_at, at_place-change_at, at_place-change_at_other}
 use Rattle.part_laws.proofs.Looks.{has_core_in, moving_in, looks_change_core, looks_withdrawn, looks_pause, looks_unpause, looks_set_params}
 use Rattle.part_laws.proofs.Alike.{core_of, mover_of, target_of, Alike, at_itself, alike_change, alike_change_home, alike_settled_at, looks_itself, looks_rtds}
 
@@ -209,7 +211,7 @@ movers_set d e i pool j is =
 some_moving : (d e i : ℕ) (pool : Pool) → is_some (moving_in (set_moving d i pool) e) ≡ is_some (moving_in pool e)
 some_moving d e i pool =
     let f : Domain → Domain = λ x. record x { moving = Some (pool_number i) } in
-    some_map (λ (x : Domain). x.moving) (at_place (change_at d f pool.domains) e) ∙ some_change_at d e f pool.domains ∙ sym (some_map (λ (x : Domain). x.moving) (at_place pool.domains e))
+    is_some-option_map (λ (x : Domain). x.moving) (at_place (change_at d f pool.domains) e) ∙ some_change_at d e f pool.domains ∙ sym (is_some-option_map (λ (x : Domain). x.moving) (at_place pool.domains e))
 
 -- a domain of the pool i is to move to another, which is there
 housed_moving : (m : Machine) (d i j : ℕ) (s : State) → is_some (at_place s.pools j) ≡ true → j ≢ i → Housed m s → Housed m (change_pool i (set_moving d j) s)
@@ -301,4 +303,4 @@ housed_line m t line s still h =
 pub housed_command : (m : Machine) (t : ℕ) (line : Option CommandLine) (s : State) → elim line [ None ↦ false | Some l ↦ nat_le l.at.0 t && not (is_move_under_way s) ] ≡ true → Housed m s
     → Housed m (elim line as (λ _. State) [ None ↦ s | Some l ↦ after_command m t l s ])
 housed_command m t None s on h = h
-housed_command m t (Some l) s on h = housed_line m t l s (no_moves s (not_true (is_move_under_way s) (and_right (nat_le l.at.0 t) (not (is_move_under_way s)) on))) h
+housed_command m t (Some l) s on h = housed_line m t l s (no_moves s (not-true (is_move_under_way s) (and_right (nat_le l.at.0 t) (not (is_move_under_way s)) on))) h

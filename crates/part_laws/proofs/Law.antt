@@ -1,7 +1,6 @@
 -- The law of parts, from what is kept.
-use Rattle.part_laws.proofs.Places.{some_map}
-use Rattle.sched_laws.proofs.Bools.{clash, and_left, and_right, either}
-use Rattle.std.proofs.lemmas.Bool.{lt-ltb, ltb-true}
+use Rattle.sched_base.proofs.Bools.{clash, and_left, and_right}
+use Rattle.std.proofs.lemmas.Bool.{lt-ltb, ltb-true, cases_Bool}
 use Rattle.sched_model.proofs.RunLemmas.{IsRunFrom-append, after_entries-append}
 use Rattle.std.proofs.Common.{◌≡◌, ◌≢◌, ◌<◌, ◌≤◌, ◌-◌, ℕ, zero, suc, Bool, true, false, eqb, List, [], ◌∷◌, ◌++◌, length, refl, arith, ap, subst, sym, ◌∙◌, inl, inr, eq-eqb, eqb-true, ne_eqb, cond}
 use Rattle.std.specs.Prelude.{Option, Some, None, is_some, option_map, take, slice_get, map, nat_lt, ◌&&◌}
@@ -20,9 +19,10 @@ use Rattle.sched_model.specs.declared.state.State.{State}
 use Rattle.sched_model.specs.declared.work.StallLine.{StallLine}
 use Rattle.sched_model.specs.Places.{at_place, first_place, test_at}
 use Rattle.sched_model.specs.Opening.{core_count}
-use Rattle.sched_model.specs.Checked.{IsChecked}
+use Rattle.sched_model.specs.CheckedMachine.{IsChecked}
 use Rattle.sched_model.specs.Machine.{is_enabled, after, after_stall, after_at_home}
 use Rattle.sched_model.specs.Runs.{Reached, action_of, end_of, after_quiet, after_event, IsNext, IsNextEvent, IsRunFrom, IsRun, run_start, after_entry, after_entries}
+use Rattle.sched_model.proofs.PlaceLemmas.{is_some-option_map}
 use Rattle.sched_laws.specs.StateLaws.{state_after}
 use Rattle.sched_laws.proofs.EachPlace.{found_at, none_found, place_below}
 use Rattle.sched_laws.proofs.Lists.{test_at-some, some_is}
@@ -133,14 +133,14 @@ module _ (m : Machine) (s : State) (apart : IsApart s) (places : HasPlaces m s) 
 
   -- what a pool lists is a name of the input
   listed_name : (k : ℕ) → Listed k ≡ true → is_name m.config n ≡ true
-  listed_name k is = let p = listed_pool k is in elim (either (nat_lt n 64)) [
+  listed_name k is = let p = listed_pool k is in elim (cases_Bool (nat_lt n 64)) [
     | inl low ↦ (let c = some_is (at_place p.0.resources n) (sym (core_listed low p.0) ∙ p.2) in let b = place_below p.0.resources n c.0 c.1 in let e = places.cores k p.0 p.1 in core_name low ∙ lt-ltb n (core_count m.config) (omega (arith, b, e)))
     | inr high ↦ (let x = some_is (at_place p.0.domains (n - 64)) (sym (domain_listed high p.0) ∙ p.2) in let b = place_below p.0.domains (n - 64) x.0 x.1 in let e = places.domains k p.0 p.1 in domain_name high ∙ lt-ltb (n - 64) (length m.config.domains) (omega (arith, b, e)))
   ]
 
   -- no two pools list it
   listed_once : (k j : ℕ) → Listed k ≡ true → Listed j ≡ true → k ≡ j
-  listed_once k j a b = let p = listed_pool k a in let q = listed_pool j b in elim (either (nat_lt n 64)) [
+  listed_once k j a b = let p = listed_pool k a in let q = listed_pool j b in elim (cases_Bool (nat_lt n 64)) [
     | inl low ↦ apart.cores k j n (test_at-some s.pools k (λ pool. is_some (at_place pool.resources n)) p.0 p.1 (sym (core_listed low p.0) ∙ p.2)) (test_at-some s.pools j (λ pool. is_some (at_place pool.resources n)) q.0 q.1 (sym (core_listed low q.0) ∙ q.2))
     | inr high ↦ apart.domains k j (n - 64) (test_at-some s.pools k (λ pool. is_some (at_place pool.domains (n - 64))) p.0 p.1 (sym (domain_listed high p.0) ∙ p.2)) (test_at-some s.pools j (λ pool. is_some (at_place pool.domains (n - 64))) q.0 q.1 (sym (domain_listed high q.0) ∙ q.2))
   ]
@@ -170,7 +170,7 @@ module _ (m : Machine) (s : State) (apart : IsApart s) (places : HasPlaces m s) 
 
   -- a name that no pool lists is a free core's
   free_or_listed : is_name m.config n ≡ true → ((k : ℕ) → Listed k ≡ true → ⊥) → Free ≡ true
-  free_or_listed named none = elim (either (nat_lt n 64)) [
+  free_or_listed named none = elim (cases_Bool (nat_lt n 64)) [
     | inl low ↦ elim (h.cores n (ltb-true n (core_count m.config) (sym (core_name low) ∙ named))) [
       | inl free ↦ ap (λ b. b && is_some (at_place s.free n)) low ∙ free
       | inr p ↦ absurd (none p.0 (core_here (at_place s.pools p.0) low p.1))
@@ -184,7 +184,7 @@ module _ (m : Machine) (s : State) (apart : IsApart s) (places : HasPlaces m s) 
 
       domain_here : (o : Option Pool) → nat_lt n 64 ≡ false → is_some (mover_of o (n - 64)) ≡ true → elim o as (λ _. Bool) [ None ↦ false | Some pool ↦ pool_lists n pool ] ≡ true
       domain_here None high is = is
-      domain_here (Some pool) high is = domain_listed high pool ∙ (sym (some_map (λ (x : Domain). x.moving) (at_place pool.domains (n - 64))) ∙ is)
+      domain_here (Some pool) high is = domain_listed high pool ∙ (sym (is_some-option_map (λ (x : Domain). x.moving) (at_place pool.domains (n - 64))) ∙ is)
 
   -- the home of what a pool lists, and of a free core
   home_listed : (k : ℕ) → Listed k ≡ true → home_in m.config s n ≡ k

@@ -9,9 +9,8 @@ use Rattle.sched_model.specs.Places.{at_place, change_each}
 use Rattle.sched_model.specs.declared.state.Pool.{Pool}
 use Rattle.sched_model.specs.declared.state.Scheduler.{Scheduler}
 use Rattle.sched_model.specs.Policy as policy
-use Rattle.sched_model.specs.Policy.{decision_of, dequeue_domain, rtds_record}
 use Rattle.sched_model.specs.Pool as pools
-use Rattle.sched_model.specs.Pool.{enabled_in, after_in, settled_pool, home_cores, reconsidered_core, change_core, change_processor, change_vcpu, change_domain, change_cores_of, set_pending, with_doing, queue_unit, started_on, decided_core, same_choice, ask_of, set_leaving, set_moving, pause, unpause, set_params, without_domain, with_domain, with_records, is_of_domain}
+use Rattle.sched_model.specs.Pool.{change_core, change_domain, pause, unpause, set_params}
 use Rattle.sched_laws.proofs.Events.{like_look, KeepsCore, Anyway, KeptByCommands, KeptByParts, commands_of, kept_withdrawn, kept_pause, kept_unpause, kept_marked}
 use Rattle.part_laws.proofs.Places.{some_change_at, seen_change_at, some_change_each, some_put_at}
 

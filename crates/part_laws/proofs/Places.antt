@@ -2,8 +2,10 @@
 use Rattle.std.proofs.Common.{◌≡◌, ◌+◌, ℕ, zero, suc, List, [], ◌∷◌, refl, ap, sym, ◌∙◌}
 use Rattle.std.specs.Prelude.{Option, Some, None, is_some, option_map}
 use Rattle.sched_model.specs.Places.{at_place, put_at, change_at, change_each}
+use Rattle.sched_model.proofs.PlaceLemmas.{is_some-option_map}
+pub use Rattle.sched_model.proofs.PlaceLemmas.{at_place-change_at_other}
 use Rattle.sched_laws.proofs.EachPlace.{at_place-change_each}
-pub use Rattle.sched_laws.proofs.EachPlace.{at_place-change_at, at_place-change_at_other}
+pub use Rattle.sched_laws.proofs.EachPlace.{at_place-change_at}
 
 pub some_change_at : {X : Type 0} (i j : ℕ) (f : X → X) (places : List (Option X)) → is_some (at_place (change_at i f places) j) ≡ is_some (at_place places j)
 some_change_at zero j f [] = refl
@@ -23,12 +25,8 @@ seen_change_at zero (suc j) f look same (p ∷ places) = refl
 seen_change_at (suc i) zero f look same (p ∷ places) = refl
 seen_change_at (suc i) (suc j) f look same (p ∷ places) = seen_change_at i j f look same places
 
-pub some_map : {X Y : Type 0} (f : X → Y) (o : Option X) → is_some (option_map f o) ≡ is_some o
-some_map f None = refl
-some_map f (Some x) = refl
-
 pub some_change_each : {X : Type 0} (j : ℕ) (f : ℕ → X → X) (places : List (Option X)) → is_some (at_place (change_each 0 f places) j) ≡ is_some (at_place places j)
-some_change_each j f places = ap is_some (at_place-change_each 0 j f places) ∙ some_map (f (0 + j)) (at_place places j)
+some_change_each j f places = ap is_some (at_place-change_each 0 j f places) ∙ is_some-option_map (f (0 + j)) (at_place places j)
 
 -- where something stands at i already
 pub some_put_at : {X : Type 0} (i j : ℕ) (x y : X) (places : List (Option X)) → at_place places i ≡ Some y → is_some (at_place (put_at i x places) j) ≡ is_some (at_place places j)

@@ -4,7 +4,7 @@ ghost use Rattle.std.specs.Prelude.{List};
 ghost use Rattle.sched_model.specs.declared.event.Entry.{Entry};
 ghost use Rattle.sched_model.specs.declared.machine.Machine.{Machine};
 ghost use Rattle.sched_model.specs.Runs.{IsRun};
-ghost use Rattle.sched_model.specs.Checked.{IsChecked};
+ghost use Rattle.sched_model.specs.CheckedMachine.{IsChecked};
 ghost use Rattle.journal_core.specs.Histories.{NamesStandOnce};
 
 /// In every state of a run each core and each domain is listed by the part of its home, and by no other: a core by its pool, or by the

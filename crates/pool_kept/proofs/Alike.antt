@@ -12,16 +12,16 @@ use Rattle.sched_model.specs.declared.state.Scheduler.{Scheduler}
 use Rattle.sched_model.specs.declared.state.Pool.{Pool}
 use Rattle.sched_model.specs.Places.{at_place, change_at, is_unit}
 use Rattle.sched_model.specs.Pool.{core_of, unit_count}
-use Rattle.sched_laws.specs.Each.{EachPlace}
+use Rattle.sched_laws.specs.EachPlace.{EachPlace}
 use Rattle.sched_laws.proofs.Events.{LikePlaces, like_look, like_change_at}
 use Rattle.sched_laws.proofs.EachPlace.{found_at, none_found}
 use Rattle.sched_laws.proofs.Choices.{is_unit_same}
 use Rattle.sched_laws.proofs.Counts.{same_unit_refl}
-use Rattle.sched_laws.proofs.Bools.{clash}
+use Rattle.sched_base.proofs.Bools.{clash}
 use Rattle.sched_ops.specs.Conditions.{is_member, is_on, may_be_on}
 use Rattle.sched_ops.specs.Seen.{units_of}
 use Rattle.pool_kept.specs.Holds.{HasMembers, HasMember, AreOn}
-use Rattle.running_laws.specs.Running.{keeps_records}
+use Rattle.running_laws.specs.RunningUnits.{keeps_records}
 
 -- two lists of places are alike, as far as the measure tells
 pub record AreAlike {X Y : Type 0} (measure : X → Y) (old next : List (Option X)) : Type 0 where

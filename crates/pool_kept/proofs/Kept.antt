@@ -20,21 +20,21 @@ use Rattle.sched_model.specs.declared.state.Resource.{Resource}
 use Rattle.sched_model.specs.declared.state.Pool.{Pool}
 use Rattle.sched_model.specs.Places.{at_place, put_at, clear_at, change_at, numbers_from}
 use Rattle.sched_model.specs.State.{is_runnable, unit_runnable}
-use Rattle.sched_model.specs.Eligible.{Decision}
+use Rattle.sched_model.specs.EligibleUnits.{Decision}
 use Rattle.sched_model.specs.Opening.{fresh_core}
 use Rattle.sched_model.specs.Policy.{decision_of, fresh_records}
 use Rattle.sched_model.specs.Pool as pools
 use Rattle.sched_model.specs.Pool.{after_in, ask_of, change_processor, decided_core, enabled_in, pause, same_choice, set_leaving, set_moving, set_params, settled_pool, unit_count, unpause, vcpu_of, with_domain, without_domain}
-use Rattle.sched_laws.specs.Each.{EachPlace}
-use Rattle.sched_laws.proofs.EachPlace.{EachPlace-empty, EachPlace-change_at, EachPlace-put_at, EachPlace-clear_at, by_option, by_test, by_cond}
+use Rattle.sched_laws.specs.EachPlace.{EachPlace}
+use Rattle.sched_laws.proofs.EachPlace.{EachPlace-empty, EachPlace-change_at, EachPlace-put_at, EachPlace-clear_at, by_option, by_test, by_cond, at_place-replicate}
 use Rattle.sched_laws.proofs.Kept.{IsKept}
 use Rattle.sched_laws.proofs.Known.{known_pools}
-use Rattle.sched_laws.specs.Known.{IsKnownPool}
+use Rattle.sched_laws.specs.PoolFacts.{IsKnownPool}
 use Rattle.sched_laws.proofs.Counts.{total_none}
 use Rattle.sched_laws.proofs.Lists.{some-test_at}
-use Rattle.sched_laws.specs.Known.{CurRuns, core_places}
-use Rattle.sched_laws.specs.Known.{CoreIsOwn}
-use Rattle.sched_laws.specs.Known.{CoreIsSound}
+use Rattle.sched_laws.specs.PoolFacts.{CurRuns, core_places}
+use Rattle.sched_laws.specs.PoolFacts.{CoreIsOwn}
+use Rattle.sched_laws.specs.PoolFacts.{CoreIsSound}
 use Rattle.sched_laws.proofs.Steps.{IsKeptAt}
 use Rattle.sched_records.proofs.Counts.{keeps_parted}
 use Rattle.sched_records.specs.Counts.{Matches, KeepsPool}
@@ -44,7 +44,7 @@ use Rattle.pool_kept.specs.Holds.{Holds, HasMembers, HasMember, AreOn, HaveProce
 use Rattle.pool_kept.proofs.Alike.{Alike, is_alike_refl, alike_members, alike_units, alike_on, alike_since}
 use Rattle.pool_kept.proofs.Steps as steps
 use Rattle.sched_laws.proofs.Events.{kept_settled, kept_by_event, kept_processor, kept_set_leaving, kept_pause, kept_unpause, kept_queue_units}
-use Rattle.pool_kept.proofs.Members.{at_empty, joined, members_stay, members_joined, members_parted}
+use Rattle.pool_kept.proofs.Members.{joined, members_stay, members_joined, members_parted}
 use Rattle.pool_kept.proofs.Units as units
 use Rattle.pool_kept.proofs.On as on
 use Rattle.pool_kept.proofs.Started as started
@@ -215,7 +215,7 @@ module _ (g t : ℕ) where
       → H (record { scheduler = record { queue = []; affinity = replicate domains None; records = fresh_records params domains cores }; domains = replicate domains None; resources = replicate places None })
   opened domains cores places params some =
       let pool : Pool = record { scheduler = record { queue = []; affinity = replicate domains None; records = fresh_records params domains cores }; domains = replicate domains None; resources = replicate places None } in
-      let no_domain : (d : ℕ) → at_place pool.domains d ≡ None = at_empty {X = Domain} domains in
+      let no_domain : (d : ℕ) → at_place pool.domains d ≡ None = at_place-replicate {X = Domain} domains in
       join pool some
       (record {
         own = record { queue = tt; cores = EachPlace-empty (CoreIsOwn pool.domains) places };
@@ -231,7 +231,7 @@ module _ (g t : ℕ) where
       (record {
         members = record {
           places = length-replicate domains None ∙ sym (length-replicate domains None);
-          units = λ d. ap (option_map length) (at_empty {X = List Cores} domains d) ∙ sym (ap (option_map (unit_count g)) (no_domain d));
+          units = λ d. ap (option_map length) (at_place-replicate {X = List Cores} domains d) ∙ sym (ap (option_map (unit_count g)) (no_domain d));
         };
         units = EachPlace-empty (HasMember pool) places;
         on = record {

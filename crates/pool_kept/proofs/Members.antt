@@ -21,8 +21,8 @@ use Rattle.sched_model.specs.Policy as policy
 use Rattle.sched_model.specs.Pool as pools
 use Rattle.sched_model.specs.Pool.{unit_count}
 use Rattle.sched_laws.proofs.Awake.{part_past}
-use Rattle.sched_laws.proofs.Bools.{and_right}
-use Rattle.sched_laws.proofs.EachPlace.{EachPlace-empty, is_empty, at_place-put_at, at_place-put_at_other, at_place-clear_at, at_place-clear_at_other, length_set}
+use Rattle.sched_base.proofs.Bools.{and_right}
+use Rattle.sched_laws.proofs.EachPlace.{at_place-put_at, at_place-put_at_other, at_place-clear_at, at_place-clear_at_other, length_set}
 use Rattle.sched_laws.proofs.Lists.{some-test_at}
 use Rattle.sched_records.specs.Records.{IsRecorded}
 use Rattle.sched_records.proofs.Measured.{read_measured}
@@ -32,10 +32,6 @@ use Rattle.sched_ops.specs.Conditions.{is_member}
 use Rattle.sched_ops.specs.Seen.{units_of}
 use Rattle.pool_kept.specs.Holds.{HasMembers}
 use Rattle.pool_kept.proofs.Alike.{units_in, units_of_is}
-
--- a pool without domains has none at any place
-pub at_empty : {X : Type 0} (n i : ℕ) → at_place {X = X} (replicate n None) i ≡ None
-at_empty {X} n i = is_empty (at_place (replicate n None) i) (λ x at. EachPlace-empty {X = X} (λ y. ⊥) n i x at)
 
 -- a unit with a vCPU that is awake is one of the domain's
 unit_within : (g : ℕ) → 0 < g → (d : Domain) (n : ℕ) → unit_runnable g d n ≡ true → n < unit_count g d

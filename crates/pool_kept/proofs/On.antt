@@ -4,7 +4,7 @@ use Rattle.std.proofs.Common.{◌≡◌, ◌≢◌, ◌≤◌, ℕ, Bool, true, 
 use Rattle.std.specs.Prelude.{Option, Some, None, is_some, not, slice_get, ◌&&◌}
 use Rattle.std.specs.Option.{ForSome}
 use Rattle.std.proofs.Math.Decide.{ℕ_discrete}
-use Rattle.std.proofs.lemmas.Bool.{or_right as or_second}
+use Rattle.std.proofs.lemmas.Bool.{or_right as or_second, or_cases, not-true, and_from}
 use Rattle.sched_base.specs.declared.Moment.{Moment}
 use Rattle.sched_base.specs.declared.UnitId.{UnitId}
 use Rattle.sched_model.specs.declared.action.Action.TheVariants.{Moved, DomMoved}
@@ -19,27 +19,27 @@ use Rattle.sched_model.specs.declared.state.Records.{Records}
 use Rattle.sched_model.specs.declared.state.Pool.{Pool}
 use Rattle.sched_model.specs.Places.{at_place, put_at, clear_at, change_at, is_unit}
 use Rattle.sched_model.specs.State.{is_runnable}
-use Rattle.sched_model.specs.Eligible.{Decision}
+use Rattle.sched_model.specs.EligibleUnits.{Decision}
 use Rattle.sched_model.specs.Opening.{fresh_core}
 use Rattle.sched_model.specs.Policy.{decision_of, fresh_records}
 use Rattle.sched_model.specs.Pool as pools
 use Rattle.sched_model.specs.Pool.{ask_of, change_core, core_of, decided_core, enabled_in, is_of_domain, unit_count, without_domain}
-use Rattle.sched_laws.specs.Each.{EachPlace}
-use Rattle.sched_laws.proofs.EachPlace.{EachPlace-change_at, EachPlace-put_at, EachPlace-clear_at, place_below, at_place-put_at, at_place-put_at_other, at_place-clear_at_other, by_cond}
+use Rattle.sched_laws.specs.EachPlace.{EachPlace}
+use Rattle.sched_laws.proofs.EachPlace.{EachPlace-change_at, EachPlace-put_at, EachPlace-clear_at, place_below, at_place-put_at, at_place-put_at_other, at_place-clear_at_other, by_cond, at_place-replicate}
 use Rattle.sched_laws.proofs.Choices.{is_unit_same}
 use Rattle.sched_laws.proofs.Counts.{same_unit_refl, total_two}
 use Rattle.sched_laws.specs.Counts.{one_at}
-use Rattle.sched_laws.proofs.OnePlace.{one_same}
-use Rattle.sched_laws.specs.Known.{core_places, places}
-use Rattle.sched_laws.proofs.Bools.{and_left, and_right, both, clash, not_true, one_of, or_left, or_more}
+use Rattle.sched_laws.proofs.OnePlace.{one_same, decided_cur}
+use Rattle.sched_laws.specs.PoolFacts.{core_places, places}
+use Rattle.sched_base.proofs.Bools.{and_left, and_right, clash, or_left, or_more}
 use Rattle.sched_records.specs.Counts.{KeepsPool}
 use Rattle.sched_ops.specs.Conditions.{is_member, is_on, may_be_on}
 use Rattle.pool_kept.specs.Holds.{HasMembers, HasMember, AreOn}
 use Rattle.running_laws.proofs.Law as running
-use Rattle.running_laws.specs.Running.{keeps_records, has_record, is_on_after}
+use Rattle.running_laws.specs.RunningUnits.{keeps_records, has_record, is_on_after}
 use Rattle.pool_kept.proofs.Alike.{alike_change_at, alike_is, core_found, found_core, may_is, may_same}
-use Rattle.pool_kept.proofs.Members.{at_empty, joined, member_elsewhere, member_recorded}
-use Rattle.pool_kept.proofs.Units.{decided_cur, goes_empty, none_of_domain, other_domain}
+use Rattle.pool_kept.proofs.Members.{joined, member_elsewhere, member_recorded}
+use Rattle.pool_kept.proofs.Units.{goes_empty, none_of_domain, other_domain}
 
 -- a unit is on where it may be, as far as the scheduler keeps records
 may_of : (records : Records) (u : UnitId) → (keeps_records records ≡ true → is_on records u ≡ true) → may_be_on records u ≡ true
@@ -85,20 +85,20 @@ module _ (g : ℕ) (t r : ℕ) (c : Resource) (pool : Pool) (at : at_place pool.
               let unit : decision.unit ≡ Some u = sym (decided_cur t decision c) ∙ ap (λ (d : Resource). d.cur) x_is ∙ is in
               let found = member_recorded g pool u has keeps (chosen u unit) in
               or_more (is_unit decision.unit u && has_record old u) (is_on old u && not (is_unit c.cur u))
-              (both (is_unit decision.unit u) (has_record old u) (is_own decision.unit u unit) (running.recorded old u found.0 found.1 found.2 ∙ sym kind ∙ recorded))
+              (and_from (is_unit decision.unit u) (has_record old u) (is_own decision.unit u unit) (running.recorded old u found.0 found.1 found.2 ∙ sym kind ∙ recorded))
           | no other ↦
               let at_old : at_place pool.resources k ≡ Some x = sym (at_place-put_at_other r k now pool.resources other) ∙ at_k in
               or_second (is_unit decision.unit u && has_record old u) (is_on old u && not (is_unit c.cur u))
-              (both (is_on old u) (not (is_unit c.cur u)) (on_of old u (sym kind ∙ recorded) (on.own k x at_old u is)) (ap not (not_shared most k x u other at_old is)))
+              (and_from (is_on old u) (not (is_unit c.cur u)) (on_of old u (sym kind ∙ recorded) (on.own k x at_old u is)) (ap not (not_shared most k x u other at_old is)))
         ]);
-        off = λ u is. elim (one_of (is_unit decision.unit u && has_record old u) (is_on old u && not (is_unit c.cur u)) (sym (is_now u) ∙ is)) [
+        off = λ u is. elim (or_cases (is_unit decision.unit u && has_record old u) (is_on old u && not (is_unit c.cur u)) (sym (is_now u) ∙ is)) [
           | inl taken ↦
               core_found next r now u at_now (decided_cur t decision c ∙ is_unit_same decision.unit u (and_left (is_unit decision.unit u) (has_record old u) taken))
           | inr stays ↦
               let found = found_core pool u (on.off u (and_left (is_on old u) (not (is_unit c.cur u)) stays)) in
               let other : found.0 ≢ r = λ e. (
               let same : c ≡ found.1 = (let at_r : at_place pool.resources r ≡ Some found.1 = subst (λ (j : ℕ). at_place pool.resources j ≡ Some found.1) e found.2 in cc) in
-              clash (is_unit c.cur u) (is_own c.cur u (ap (λ (d : Resource). d.cur) same ∙ found.3)) (not_true (is_unit c.cur u) (and_right (is_on old u) (not (is_unit c.cur u)) stays))) in
+              clash (is_unit c.cur u) (is_own c.cur u (ap (λ (d : Resource). d.cur) same ∙ found.3)) (not-true (is_unit c.cur u) (and_right (is_on old u) (not (is_unit c.cur u)) stays))) in
               core_found next found.0 found.1 u (at_place-put_at_other r found.0 now pool.resources other ∙ found.2) found.3
         ];
       }
@@ -162,9 +162,9 @@ on_parted g t d pool enabled on =
 -- where no domain has joined, no unit is on
 pub none_on : (params : PoolParams) (domains cores : ℕ) (u : UnitId) → is_on (fresh_records params domains cores) u ≡ false
 none_on (pool_params.Credit2 limit) domains cores u =
-    ap (λ (o : Option Credit2Domain). elim o as (λ _. Bool) [ None ↦ false | Some d ↦ elim (slice_get d.units u.n) as (λ _. Bool) [ None ↦ false | Some x ↦ is_some x.burned ] ]) (at_empty {X = Credit2Domain} domains u.dom.0)
+    ap (λ (o : Option Credit2Domain). elim o as (λ _. Bool) [ None ↦ false | Some d ↦ elim (slice_get d.units u.n) as (λ _. Bool) [ None ↦ false | Some x ↦ is_some x.burned ] ]) (at_place-replicate {X = Credit2Domain} domains u.dom.0)
 none_on pool_params.Rtds domains cores u =
-    ap (λ (o : Option (List RtdsUnit)). elim (elim o as (λ _. Option RtdsUnit) [ None ↦ None | Some units ↦ slice_get units u.n ]) as (λ _. Bool) [ None ↦ false | Some x ↦ is_some x.burned ]) (at_empty {X = List RtdsUnit} domains u.dom.0)
+    ap (λ (o : Option (List RtdsUnit)). elim (elim o as (λ _. Option RtdsUnit) [ None ↦ None | Some units ↦ slice_get units u.n ]) as (λ _. Bool) [ None ↦ false | Some x ↦ is_some x.burned ]) (at_place-replicate {X = List RtdsUnit} domains u.dom.0)
 none_on other domains cores u = refl
 
 -- a save leaves each core its own unit

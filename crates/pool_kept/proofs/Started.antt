@@ -19,21 +19,21 @@ use Rattle.sched_model.specs.declared.state.Resource.{Resource}
 use Rattle.sched_model.specs.declared.state.Pool.{Pool}
 use Rattle.sched_model.specs.Places.{at_place, put_at, clear_at, change_at, change_item, numbers_from, test_at}
 use Rattle.sched_model.specs.State.{is_up}
-use Rattle.sched_model.specs.Eligible.{Decision}
+use Rattle.sched_model.specs.EligibleUnits.{Decision}
 use Rattle.sched_model.specs.Opening.{fresh_core}
 use Rattle.sched_model.specs.Policy as policy
 use Rattle.sched_model.specs.Policy.{decision_of}
 use Rattle.sched_model.specs.Pool as pools
 use Rattle.sched_model.specs.Pool.{ask_of, change_core, change_domain, change_processor, change_vcpu, decided_core, with_doing, enabled_in, guest_of, same_choice, set_moving, set_params, started_on, unit_count, with_domain, without_domain}
 use Rattle.sched_laws.proofs.EachPlace.{read_change_at, read_clear_at, read_put_at, at_place-put_at, place_below, at_place-put_at_other, at_place-clear_at_other, by_option, by_test}
-use Rattle.sched_laws.specs.Known.{IsKnownPool}
+use Rattle.sched_laws.specs.PoolFacts.{IsKnownPool}
 use Rattle.sched_laws.proofs.Sound.{read_change_item, processor_of_is, guest_of_is}
-use Rattle.sched_laws.specs.Known.{AreSound}
+use Rattle.sched_laws.specs.PoolFacts.{AreSound}
 use Rattle.sched_laws.proofs.Counts.{total_two}
 use Rattle.sched_laws.specs.Counts.{one_at}
 use Rattle.sched_laws.proofs.OnePlace.{one_same}
-use Rattle.sched_laws.specs.Known.{core_places}
-use Rattle.sched_laws.proofs.Bools.{and_left, and_right}
+use Rattle.sched_laws.specs.PoolFacts.{core_places}
+use Rattle.sched_base.proofs.Bools.{and_left, and_right}
 use Rattle.pool_kept.specs.Holds.{HaveProcessors}
 use Rattle.pool_kept.proofs.Alike.{AreAlike, alike_like, alike_change_at}
 use Rattle.sched_laws.proofs.Events.{LikePlaces, like_change_at, capped, like_of_domain, like_map, IsMarked, Enabled, KeptByCommands, KeptBySteps, kept_opened, kept_withdrawn, kept_marked, kept_queue_units, kept_pending}

@@ -1,7 +1,6 @@
 -- The steps after which a pool is like the one before: all but a Decide and a Save, and what comes and goes.
 use Rattle.std.proofs.Common.{◌≡◌, ℕ, List, refl, ap, length}
-use Rattle.std.specs.Prelude.{Option, Some, None, ◌+◌, ◌-◌, ◌/◌}
-use Rattle.std.proofs.lemmas.List.{length-map}
+use Rattle.std.specs.Prelude.{Option, Some, ◌+◌, ◌-◌, ◌/◌}
 use Rattle.sched_base.specs.Numbers.{pool as pool_number}
 use Rattle.sched_base.specs.declared.Cores.{Cores}
 use Rattle.sched_base.specs.declared.UnitId.{UnitId}
@@ -18,19 +17,14 @@ use Rattle.sched_model.specs.Policy.{rtds_record, pinned_cores, changed_affinity
 use Rattle.sched_model.specs.Pool as pools
 use Rattle.sched_model.specs.Pool.{after_in, settled_pool, home_cores, reconsidered_core, change_core, change_processor, change_vcpu, change_domain, change_cores_of, set_pending, with_doing, started_on, set_leaving, set_moving, pause, unpause, set_params, with_records, is_of_domain, unit_count}
 use Rattle.sched_laws.proofs.Events.{capped, like_of_domain, KeepsCore, KeptByCommands, KeptByParts, commands_of, kept_by_parts, kept_withdrawn, kept_marked}
-use Rattle.sched_laws.proofs.Lists.{length_change_item}
+use Rattle.sched_laws.proofs.Lists.{length-pinned_cores}
 use Rattle.sched_ops.specs.Conditions.{is_on}
 use Rattle.running_laws.proofs.Law as running
-use Rattle.running_laws.specs.Running.{keeps_records}
+use Rattle.running_laws.specs.RunningUnits.{keeps_records}
 use Rattle.pool_kept.proofs.Alike.{AreAlike, Alike, core_face, alike_refl, alike_like, alike_change_at, is_alike_refl, is_alike_trans}
 
--- the sets of cores set: as many as before
-pinned_length : (unit : Option ℕ) (cores : Cores) (sets : List Cores) → length (pinned_cores unit cores sets) ≡ length sets
-pinned_length None cores sets = length-map sets (λ old. cores)
-pinned_length (Some n) cores sets = length_change_item n (λ old. cores) sets
-
 changed_sets : (change : ParamChange) (affinity : List (Option (List Cores))) → AreAlike length affinity (changed_affinity change affinity)
-changed_sets (changes.Pin d unit cores) affinity = alike_change_at length d.0 (pinned_cores unit cores) affinity (pinned_length unit cores)
+changed_sets (changes.Pin d unit cores) affinity = alike_change_at length d.0 (pinned_cores unit cores) affinity (length-pinned_cores unit cores)
 changed_sets change affinity = alike_refl length affinity
 
 module _ (g : ℕ) where

@@ -4,6 +4,7 @@ use Rattle.std.proofs.Common.{◌≡◌, ◌≢◌, ◌<◌, ℕ, true, false, L
 use Rattle.std.specs.Prelude.{Option, Some, None, is_none, is_some, nat_lt, not, ◌&&◌, ◌||◌, ◌==◌}
 use Rattle.std.specs.List.{AllByRecursion}
 use Rattle.std.specs.Option.{ForSome}
+use Rattle.std.proofs.lemmas.Bool.{eq-eqb, not-true}
 use Rattle.sched_base.specs.declared.Cores.{Cores}
 use Rattle.sched_base.specs.declared.Moment.{Moment}
 use Rattle.sched_base.specs.declared.UnitId.{UnitId}
@@ -14,19 +15,19 @@ use Rattle.sched_model.specs.declared.state.Resource.{Resource}
 use Rattle.sched_model.specs.declared.state.Pool.{Pool}
 use Rattle.sched_model.specs.Places.{at_place, put_at, clear_at, test_at}
 use Rattle.sched_model.specs.State.{is_runnable}
-use Rattle.sched_model.specs.Eligible.{Decision}
+use Rattle.sched_model.specs.EligibleUnits.{Decision}
 use Rattle.sched_model.specs.Opening.{fresh_core}
 use Rattle.sched_model.specs.Policy.{decision_of}
 use Rattle.sched_model.specs.Pool as pools
 use Rattle.sched_model.specs.Pool.{ask_of, change_core, decided_core, enabled_in, is_of_domain, same_choice, unit_count, without_domain}
-use Rattle.sched_laws.specs.Each.{EachPlace}
+use Rattle.sched_laws.specs.EachPlace.{EachPlace}
 use Rattle.sched_laws.proofs.EachPlace.{EachPlace-change_at, EachPlace-put_at, EachPlace-clear_at, at_place-put_at_other, at_place-clear_at_other, by_cond, by_test}
 use Rattle.sched_laws.proofs.Lists.{AllByRecursion-map, none_passes, at_numbered, some-test_at}
 use Rattle.sched_laws.proofs.Choices.{decision_has}
-use Rattle.sched_laws.specs.Known.{IfUnit}
+use Rattle.sched_laws.specs.PoolFacts.{IfUnit}
 use Rattle.sched_laws.proofs.Sound.{none_is}
-use Rattle.sched_laws.proofs.OnePlace.{same_choice_same}
-use Rattle.sched_laws.proofs.Bools.{and_left, and_right, clash, is_same, not_true, or_left, or_right}
+use Rattle.sched_laws.proofs.OnePlace.{decided_cur}
+use Rattle.sched_base.proofs.Bools.{and_left, and_right, clash, or_left, or_right}
 use Rattle.sched_ops.specs.Conditions.{is_member}
 use Rattle.sched_ops.specs.Seen.{units_of}
 use Rattle.pool_kept.specs.Holds.{HasMembers, HasMember}
@@ -35,10 +36,10 @@ use Rattle.pool_kept.proofs.Members.{joined, member_elsewhere, runnable_member}
 -- none of the cores has a unit of a domain that goes
 pub none_of_domain : (g t d : ℕ) (pool : Pool) → enabled_in g t pool (DomMoved (domain_number d)) ≡ true → EachPlace (λ (c : Resource). (is_of_domain d c.cur || is_of_domain d c.saving) ≡ false) pool.resources
 none_of_domain g t d pool on =
-    at_numbered (λ (c : Resource). (is_of_domain d c.cur || is_of_domain d c.saving) ≡ false) 0 pool.resources (none_passes _ _ (not_true _ (and_right (test_at pool.domains d (λ x. is_some x.moving)) _ on)))
+    at_numbered (λ (c : Resource). (is_of_domain d c.cur || is_of_domain d c.saving) ≡ false) 0 pool.resources (none_passes _ _ (not-true _ (and_right (test_at pool.domains d (λ x. is_some x.moving)) _ on)))
 
 pub other_domain : (d : ℕ) (o : Option UnitId) (u : UnitId) → is_of_domain d o ≡ false → o ≡ Some u → u.dom.0 ≢ d
-other_domain d o u none is e = clash (u.dom.0 == d) (is_same u.dom.0 d e) (sym (ap (is_of_domain d) is) ∙ none)
+other_domain d o u none is e = clash (u.dom.0 == d) (eq-eqb u.dom.0 d e) (sym (ap (is_of_domain d) is) ∙ none)
 
 -- a core that goes has no unit
 pub goes_empty : (g t r : ℕ) (pool : Pool) → enabled_in g t pool (Moved (core r)) ≡ true → (c : Resource) × (at_place pool.resources r ≡ Some c) × (c.cur ≡ None)
@@ -48,10 +49,6 @@ goes_empty g t r pool on =
     let three : (c.leaving && is_none c.cur && is_none c.saving) ≡ true =
     and_left _ _ (and_left (c.leaving && is_none c.cur && is_none c.saving && not c.pending) _ (and_left (c.leaving && is_none c.cur && is_none c.saving && not c.pending && pools.is_open c) _ found.2)) in
     (c, found.1, none_is c.cur (and_right c.leaving _ (and_left (c.leaving && is_none c.cur) _ three)))
-
--- the core's own unit is the one that was decided
-pub decided_cur : (t : ℕ) (decision : Decision) (c : Resource) → (decided_core t decision c).cur ≡ decision.unit
-decided_cur t decision c = by_test (λ (d : Resource). d.cur ≡ decision.unit) (same_choice decision.unit c.cur) _ _ (λ is. sym (same_choice_same decision.unit c.cur is)) (λ is. refl)
 
 for_some : (P : UnitId → Type 0) (o : Option UnitId) → IfUnit P o → ForSome o P
 for_some P o here u is = subst (IfUnit P) is here

@@ -9,8 +9,8 @@ use Rattle.sched_model.specs.declared.state.Vcpu.{Vcpu}
 use Rattle.sched_model.specs.declared.state.Pool.{Pool}
 use Rattle.sched_model.specs.Places.{at_place}
 use Rattle.sched_model.specs.Pool.{core_of, guest_of, unit_count, vcpu_of}
-use Rattle.sched_laws.specs.Each.{EachPlace}
-use Rattle.sched_laws.specs.Known.{IsKnownPool}
+use Rattle.sched_laws.specs.EachPlace.{EachPlace}
+use Rattle.sched_laws.specs.PoolFacts.{IsKnownPool}
 use Rattle.sched_records.specs.Counts.{KeepsPool}
 use Rattle.sched_ops.specs.Conditions.{is_member, is_on, may_be_on}
 

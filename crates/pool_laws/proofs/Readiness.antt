@@ -7,6 +7,7 @@ use Rattle.sched_base.specs.Numbers.{moment}
 use Rattle.sched_base.specs.declared.UnitId.{UnitId}
 use Rattle.sched_base.specs.declared.VcpuId.{VcpuId}
 use Rattle.sched_base.specs.declared.Moment.{Moment}
+use Rattle.sched_base.proofs.Bools.{and_true}
 use Rattle.sched_model.specs.State.{has_come, is_up}
 use Rattle.sched_model.specs.declared.action.Action.{Action}
 use Rattle.sched_model.specs.declared.action.Action.TheVariants.{Stall, Xl, Moved, DomMoved, Wake, Block, Slice, Repl, Refill, Arrive, Decide, Leave, Save}
@@ -18,11 +19,11 @@ use Rattle.sched_model.specs.declared.state.Processor.{Processor}
 use Rattle.sched_model.specs.declared.state.Vcpu.{Vcpu}
 use Rattle.sched_model.specs.declared.state.Domain.{Domain}
 use Rattle.sched_model.specs.declared.state.Pool.{Pool}
-use Rattle.sched_model.specs.Eligible.{rtds_unit}
+use Rattle.sched_model.specs.EligibleUnits.{rtds_unit}
 use Rattle.sched_model.specs.Places.{at_place, first_place, has_unit, test_at}
 use Rattle.sched_model.specs.Policy.{rtds_record, next_refill, replenish_due}
 use Rattle.sched_model.specs.Pool.{enabled_in, is_held, is_open, first_up, lowest_up, processor_of, vcpu_of, guest_of, done_at, core_of}
-use Rattle.pool_laws.specs.Ready.{moment_if, later_moment, end_of, first_end, end_where, lowest_end, may_move, work_end, slice_end, deadline_of, sibling_end, gathers, ready_in}
+use Rattle.pool_laws.specs.ReadyMoments.{moment_if, later_moment, end_of, first_end, end_where, lowest_end, may_move, work_end, slice_end, deadline_of, sibling_end, gathers, ready_in}
 
 come_when : (t : ℕ) (condition : Bool) (at : Option Moment) → has_come t (moment_if condition at) ≡ (condition && has_come t at)
 come_when t true at = refl
@@ -35,7 +36,7 @@ and_false : (a : Bool) → false ≡ (a && false)
 and_false true = refl
 and_false false = refl
 
-come_later : (t : ℕ) (a b : Option Moment) → has_come t (later_moment a b) ≡ (has_come t a && has_come t b)
+pub come_later : (t : ℕ) (a b : Option Moment) → has_come t (later_moment a b) ≡ (has_come t a && has_come t b)
 come_later t None b = refl
 come_later t (Some a) None = and_false (nat_le a.0 t)
 come_later t (Some a) (Some b) = max_test t a.0 b.0
@@ -53,10 +54,6 @@ come_where t test (Some c) = come_when t (test c) (first_end c) ∙ ap (λ (b : 
 and_turn : (a b c : Bool) → ((a && b) && c) ≡ (b && (a && c))
 and_turn true b c = refl
 and_turn false b c = and_false b
-
-and_true : (a : Bool) → (a && true) ≡ a
-and_true true = refl
-and_true false = refl
 
 -- a core's events
 moved : (t : ℕ) (c : Option Resource) → elim c as (λ _. Bool) [ None ↦ false | Some x ↦ x.leaving && is_none x.cur && is_none x.saving && not x.pending && is_open x && first_up t x ] ≡ has_come t (end_where may_move c)

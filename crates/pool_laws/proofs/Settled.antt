@@ -1,19 +1,14 @@
 -- Looking at the cores of a pool again, and at one of them alone.
 use Rattle.std.proofs.Common.{◌≡◌, ℕ, zero, suc, ◌+◌, List, [], ◌∷◌, Bool, true, false, refl, sym, ◌∙◌, ap, arith}
-use Rattle.std.specs.Prelude.{Option, Some, None, option_map, ◌||◌, if◌then◌else◌, ◌^◌}
+use Rattle.std.specs.Prelude.{Option, Some, None, option_map, ◌||◌, if◌then◌else◌}
 use Rattle.sched_model.specs.declared.state.Resource.{Resource}
 use Rattle.sched_model.specs.declared.state.Scheduler.{Scheduler}
 use Rattle.sched_model.specs.declared.state.Pool.{Pool}
 use Rattle.sched_model.specs.Places.{change_at, change_each}
 use Rattle.sched_model.specs.Policy.{better_waits}
-use Rattle.sched_model.specs.Pool.{settled_pool, reconsidered_core, change_core, cores_from, home_cores}
-use Rattle.pool_laws.specs.Settling.{IsSettled, settled_core}
-
--- the set of the pool's cores depends on which there are alone
-cores_each : (r n : ℕ) (f : ℕ → Resource → Resource) (cores : List (Option Resource)) → cores_from r (change_each n f cores) ≡ cores_from r cores
-cores_each r n f [] = refl
-cores_each r n f (None ∷ cores) = ap (λ (k : ℕ). 0 + k) (cores_each (suc r) (suc n) f cores)
-cores_each r n f (Some c ∷ cores) = ap (λ (k : ℕ). 2 ^ r + k) (cores_each (suc r) (suc n) f cores)
+use Rattle.sched_model.specs.Pool.{settled_pool, reconsidered_core, change_core, home_cores}
+use Rattle.sched_model.proofs.PlaceLemmas.{cores_from-change_each, cores_from-change_at}
+use Rattle.pool_laws.specs.CoreLooks.{IsSettled, settled_core}
 
 or_again : (a b : Bool) → ((a || b) || b) ≡ (a || b)
 or_again true b = refl
@@ -46,16 +41,9 @@ pub settled_again : (t : ℕ) (pool : Pool) → IsSettled t (settled_pool t pool
 settled_again t pool =
     let home = home_cores pool in
     let scheduler = pool.scheduler in
-    let same : home_cores (settled_pool t pool) ≡ home = cores_each 0 0 (reconsidered_core t home scheduler) pool.resources in
+    let same : home_cores (settled_pool t pool) ≡ home = cores_from-change_each 0 0 (reconsidered_core t home scheduler) pool.resources in
     ap (λ (k : ℕ). record pool { resources = change_each 0 (reconsidered_core t k scheduler) (change_each 0 (reconsidered_core t home scheduler) pool.resources) }) same
     ∙ ap (λ (cores : List (Option Resource)). record pool { resources = cores }) (again_each 0 (reconsidered_core t home scheduler) pool.resources (again_core t home scheduler))
-
-cores_change : (r i : ℕ) (f : Resource → Resource) (cores : List (Option Resource)) → cores_from r (change_at i f cores) ≡ cores_from r cores
-cores_change r i f [] = refl
-cores_change r zero f (None ∷ cores) = refl
-cores_change r zero f (Some c ∷ cores) = refl
-cores_change r (suc i) f (None ∷ cores) = ap (λ (k : ℕ). 0 + k) (cores_change (suc r) i f cores)
-cores_change r (suc i) f (Some c ∷ cores) = ap (λ (k : ℕ). 2 ^ r + k) (cores_change (suc r) i f cores)
 
 abbrev rest_of : List (Option Resource) → List (Option Resource)
 rest_of [] = []
@@ -94,7 +82,7 @@ each_alone n (suc i) look f (c ∷ cores) same =
 pub settled_alone : (t r : ℕ) (f : Resource → Resource) (pool : Pool) → IsSettled t pool → settled_pool t (change_core r f pool) ≡ settled_core t r f pool
 settled_alone t r f pool settled_before =
     let home = home_cores pool in
-    let same : home_cores (change_core r f pool) ≡ home = cores_change 0 r f pool.resources in
+    let same : home_cores (change_core r f pool) ≡ home = cores_from-change_at 0 r f pool.resources in
     let before : change_each 0 (reconsidered_core t home pool.scheduler) pool.resources ≡ pool.resources = ap (λ (x : Pool). x.resources) settled_before in
     ap (λ (k : ℕ). record pool { resources = change_each 0 (reconsidered_core t k pool.scheduler) (change_at r f pool.resources) }) same
     ∙ ap (λ (cores : List (Option Resource)). record pool { resources = cores }) (each_alone 0 r (reconsidered_core t home pool.scheduler) f pool.resources before)

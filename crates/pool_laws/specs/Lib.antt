@@ -1,3 +1,3 @@
-pub mod Ready
-pub mod Settling
+pub mod ReadyMoments
+pub mod CoreLooks
 pub mod Order

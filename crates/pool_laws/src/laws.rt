@@ -6,8 +6,8 @@ ghost use Rattle.sched_model.specs.declared.action.Action.{Action};
 ghost use Rattle.sched_model.specs.declared.state.Resource.{Resource};
 ghost use Rattle.sched_model.specs.declared.state.Pool.{Pool};
 ghost use Rattle.sched_model.specs.Pool.{enabled_in, settled_pool, change_core};
-ghost use Rattle.pool_laws.specs.Ready.{ready_in};
-ghost use Rattle.pool_laws.specs.Settling.{IsSettled, settled_core};
+ghost use Rattle.pool_laws.specs.ReadyMoments.{ready_in};
+ghost use Rattle.pool_laws.specs.CoreLooks.{IsSettled, settled_core};
 
 /// An event of a pool may come at a moment exactly where that is not before its own: so a heap of these moments by subject tells
 /// the first event of a kind.

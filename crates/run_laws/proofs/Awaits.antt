@@ -1,9 +1,10 @@
 -- Tests of a moment that wait for moments: once passed they stay passed, and they come to be passed at a moment of a list.
-use Rattle.std.proofs.Common.{◌≡◌, ℕ, ◌≤◌, ◌<◌, Bool, true, false, List, [], ◌∷◌, refl, sym, ◌∙◌, arith, inl, inr, ◌⊎◌}
+use Rattle.std.proofs.Common.{◌≡◌, ℕ, ◌≤◌, ◌<◌, Bool, true, false, List, [], ◌∷◌, refl, sym, ◌∙◌, arith, inl, inr}
 use Rattle.std.specs.Prelude.{Option, Some, None, nat_le, ◌&&◌, ◌||◌}
 use Rattle.std.specs.List.{list_any}
-use Rattle.std.proofs.lemmas.Bool.{leb-true, le-leb, false≢true}
+use Rattle.std.proofs.lemmas.Bool.{leb-true, le-leb, false≢true, cases_Bool, or_right, or_parts, or_cases, and_from}
 use Rattle.std.proofs.lemmas.Bool.Decides.{leb_tells}
+use Rattle.sched_base.proofs.Bools.{and_left, and_right, or_more}
 use Rattle.run_laws.proofs.Named.{Has}
 
 -- a moment of the list, after t and not after u, at which the test passes
@@ -41,73 +42,41 @@ Awaits-wider moments more test wider w = record {
   begins = λ t u off on. (let b = w.begins t u off on in record { at = b.at; named = wider b.at b.named; later = b.later; soon = b.soon; passes = b.passes });
 }
 
--- what a conjunction and a disjunction say of their parts
-pub and-true : (a b : Bool) → a ≡ true → b ≡ true → (a && b) ≡ true
-and-true a b h k = rw (h, k) refl
-
-pub and-left : (a b : Bool) → (a && b) ≡ true → a ≡ true
-and-left true b h = refl
-and-left false b h = h
-
-pub and-right : (a b : Bool) → (a && b) ≡ true → b ≡ true
-and-right true b h = h
-and-right false b h = absurd (false≢true h)
-
 and-false : (a b : Bool) → a ≡ true → (a && b) ≡ false → b ≡ false
 and-false true b h k = k
 and-false false b h k = absurd (false≢true h)
 
-or-left : (a b : Bool) → a ≡ true → (a || b) ≡ true
-or-left true b h = refl
-or-left false b h = absurd (false≢true h)
-
-or-right : (a b : Bool) → b ≡ true → (a || b) ≡ true
-or-right true b h = refl
-or-right false b h = h
-
-or-cases : (a b : Bool) → (a || b) ≡ true → (a ≡ true) ⊎ (b ≡ true)
-or-cases true b h = inl refl
-or-cases false b h = inr h
-
-or-none : (a b : Bool) → (a || b) ≡ false → (a ≡ false) × (b ≡ false)
-or-none true b h = absurd (false≢true (sym h))
-or-none false b h = (refl, h)
-
-bool-cases : (b : Bool) → (b ≡ true) ⊎ (b ≡ false)
-bool-cases true = inl refl
-bool-cases false = inr refl
-
 -- where the first test passes already, the second one begins
 begins-second : (moments : List ℕ) (f g : ℕ → Bool) → Awaits moments f → Awaits moments g → (t u : ℕ) → f t ≡ true → (f t && g t) ≡ false → (f u && g u) ≡ true → Begins moments (λ n. f n && g n) t u
 begins-second moments f g w v t u passed off on =
-    let b = v.begins t u (and-false (f t) (g t) passed off) (and-right (f u) (g u) on) in
-    record { at = b.at; named = b.named; later = b.later; soon = b.soon; passes = and-true (f b.at) (g b.at) (w.stays t b.at (omega (arith, b.later)) passed) b.passes }
+    let b = v.begins t u (and-false (f t) (g t) passed off) (and_right (f u) (g u) on) in
+    record { at = b.at; named = b.named; later = b.later; soon = b.soon; passes = and_from (f b.at) (g b.at) (w.stays t b.at (omega (arith, b.later)) passed) b.passes }
 
 -- where it does not, the first one begins, and the second one then or later
 begins-first : (moments : List ℕ) (f g : ℕ → Bool) → Awaits moments f → Awaits moments g → (t u : ℕ) → f t ≡ false → (f u && g u) ≡ true → Begins moments (λ n. f n && g n) t u
 begins-first moments f g w v t u off on =
-    let b = w.begins t u off (and-left (f u) (g u) on) in
-    elim (bool-cases (g b.at)) [
-      | inl there ↦ record { at = b.at; named = b.named; later = b.later; soon = b.soon; passes = and-true (f b.at) (g b.at) b.passes there }
+    let b = w.begins t u off (and_left (f u) (g u) on) in
+    elim (cases_Bool (g b.at)) [
+      | inl there ↦ record { at = b.at; named = b.named; later = b.later; soon = b.soon; passes = and_from (f b.at) (g b.at) b.passes there }
       | inr later ↦
-          let c = v.begins b.at u later (and-right (f u) (g u) on) in
-          record { at = c.at; named = c.named; later = omega (arith, b.later, c.later); soon = c.soon; passes = and-true (f c.at) (g c.at) (w.stays b.at c.at (omega (arith, c.later)) b.passes) c.passes }
+          let c = v.begins b.at u later (and_right (f u) (g u) on) in
+          record { at = c.at; named = c.named; later = omega (arith, b.later, c.later); soon = c.soon; passes = and_from (f c.at) (g c.at) (w.stays b.at c.at (omega (arith, c.later)) b.passes) c.passes }
     ]
 
 pub Awaits-and : (moments : List ℕ) (f g : ℕ → Bool) → Awaits moments f → Awaits moments g → Awaits moments (λ t. f t && g t)
 Awaits-and moments f g w v = record {
-  stays = λ t u h is. and-true (f u) (g u) (w.stays t u h (and-left (f t) (g t) is)) (v.stays t u h (and-right (f t) (g t) is));
-  begins = λ t u off on. (elim (bool-cases (f t)) [ inl passed ↦ begins-second moments f g w v t u passed off on | inr not_yet ↦ begins-first moments f g w v t u not_yet on ]);
+  stays = λ t u h is. and_from (f u) (g u) (w.stays t u h (and_left (f t) (g t) is)) (v.stays t u h (and_right (f t) (g t) is));
+  begins = λ t u off on. (elim (cases_Bool (f t)) [ inl passed ↦ begins-second moments f g w v t u passed off on | inr not_yet ↦ begins-first moments f g w v t u not_yet on ]);
 }
 
 pub Awaits-or : (moments : List ℕ) (f g : ℕ → Bool) → Awaits moments f → Awaits moments g → Awaits moments (λ t. f t || g t)
 Awaits-or moments f g w v = record {
-  stays = λ t u h is. (elim (or-cases (f t) (g t) is) [ inl a ↦ or-left (f u) (g u) (w.stays t u h a) | inr b ↦ or-right (f u) (g u) (v.stays t u h b) ]);
+  stays = λ t u h is. (elim (or_cases (f t) (g t) is) [ inl a ↦ or_more (f u) (g u) (w.stays t u h a) | inr b ↦ or_right (f u) (g u) (v.stays t u h b) ]);
   begins = λ t u off on. (
-      let none = or-none (f t) (g t) off in
-      elim (or-cases (f u) (g u) on) [
-        | inl a ↦ (let b = w.begins t u none.0 a in record { at = b.at; named = b.named; later = b.later; soon = b.soon; passes = or-left (f b.at) (g b.at) b.passes })
-        | inr c ↦ (let b = v.begins t u none.1 c in record { at = b.at; named = b.named; later = b.later; soon = b.soon; passes = or-right (f b.at) (g b.at) b.passes })
+      let none = or_parts (f t) (g t) off in
+      elim (or_cases (f u) (g u) on) [
+        | inl a ↦ (let b = w.begins t u none.0 a in record { at = b.at; named = b.named; later = b.later; soon = b.soon; passes = or_more (f b.at) (g b.at) b.passes })
+        | inr c ↦ (let b = v.begins t u none.1 c in record { at = b.at; named = b.named; later = b.later; soon = b.soon; passes = or_right (f b.at) (g b.at) b.passes })
       ]);
 }
 

@@ -3,6 +3,7 @@ use Rattle.std.proofs.Common.{◌≡◌, Bool, true, false, List, [], ◌∷◌,
 use Rattle.std.specs.Prelude.{Some, None, find}
 use Rattle.std.specs.List.{AllByRecursion}
 use Rattle.std.proofs.lemmas.List.Elements.{All-from_recursion}
+use Rattle.sched_base.proofs.Lists.{none_from_find}
 use Rattle.sched_model.specs.declared.machine.Machine.{Machine}
 use Rattle.sched_model.specs.declared.state.State.{State}
 use Rattle.sched_model.specs.Actions.{candidates}
@@ -25,14 +26,6 @@ Found-from_find {X} test (y ∷ ys) x is =
       | false ↦ λ off found. (
           let f = Found-from_find test ys x found in
           record { before = y ∷ f.before; behind = f.behind; whole = ap (λ zs. y ∷ zs) f.whole; passes = f.passes; none_before = (off, f.none_before) })
-    ] refl is
-
-none_from_find : {X : Type 0} (test : X → Bool) (xs : List X) → find test xs ≡ None → AllByRecursion (λ y. test y ≡ false) xs
-none_from_find test [] is = tt
-none_from_find {X} test (y ∷ ys) is =
-    elim (test y) as (λ b. test y ≡ b → cond b (Some y) (find test ys) ≡ None → AllByRecursion (λ z. test z ≡ false) (y ∷ ys)) [
-      | true ↦ λ on found. absurd (cc)
-      | false ↦ λ off found. (off, none_from_find test ys found)
     ] refl is
 
 pub first_is : (m : Machine) (s : State) (t : ℕ) → IsFirst m s t (first_enabled m s t)

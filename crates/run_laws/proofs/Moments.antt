@@ -2,8 +2,9 @@
 use Rattle.std.proofs.Common.{◌≡◌, ◌≢◌, ℕ, ◌≤◌, Bool, true, false, List, [], ◌∷◌, refl, subst, sym, ◌∙◌, arith, inl, inr, cond}
 use Rattle.std.specs.Prelude.{Option, Some, None, find, filter, is_some, nat_lt, min, ◌&&◌, ◌||◌}
 use Rattle.std.specs.List.{list_any}
-use Rattle.std.proofs.lemmas.Bool.{ltb-true, lt-ltb, false≢true}
+use Rattle.std.proofs.lemmas.Bool.{ltb-true, lt-ltb, false≢true, and_from}
 use Rattle.std.proofs.lemmas.Bool.Decides.{leb_tells}
+use Rattle.sched_base.proofs.Bools.{and_left, and_right}
 use Rattle.sched_model.specs.declared.machine.Machine.{Machine}
 use Rattle.sched_model.specs.declared.state.State.{State}
 use Rattle.sched_model.specs.Places.{least_number}
@@ -11,7 +12,7 @@ use Rattle.sched_model.specs.Actions.{candidates}
 use Rattle.sched_model.specs.Machine.{is_enabled, first_enabled, moments, next_moment}
 use Rattle.run_laws.specs.RunLaws.{IsNextMoment}
 use Rattle.run_laws.proofs.Named.{Has}
-use Rattle.run_laws.proofs.Awaits.{Awaits, Awaits-any, Awaits-same, and-true, and-left, and-right}
+use Rattle.run_laws.proofs.Awaits.{Awaits, Awaits-any, Awaits-same}
 use Rattle.run_laws.proofs.Rows.{Awaits-enabled}
 
 -- something is found where something passes the test
@@ -85,16 +86,16 @@ next_moment_is m s t still =
     let test : ℕ → Bool = λ later. nat_lt t later && is_some (first_enabled m s later) in
     elim (next_moment m s t) as (λ o. next_moment m s t ≡ o → IsNextMoment m s t o) [
       | None ↦ λ is later after. none_from (first_enabled m s later)
-          (λ on. (let b = w.begins t later off on in none-least (filter test (moments m s)) b.at is (Has-filter test (moments m s) b.at b.named (and-true (nat_lt t b.at) (is_some (first_enabled m s b.at)) (lt-ltb t b.at b.later) b.passes))))
+          (λ on. (let b = w.begins t later off on in none-least (filter test (moments m s)) b.at is (Has-filter test (moments m s) b.at b.named (and_from (nat_lt t b.at) (is_some (first_enabled m s b.at)) (lt-ltb t b.at b.later) b.passes))))
       | Some n ↦ λ is. (
           let passed = passes-filter test (moments m s) n (Has-least (filter test (moments m s)) n is) in
           record {
-            later = ltb-true t n (and-left (nat_lt t n) (is_some (first_enabled m s n)) passed);
-            something = some_there (first_enabled m s n) (and-right (nat_lt t n) (is_some (first_enabled m s n)) passed);
+            later = ltb-true t n (and_left (nat_lt t n) (is_some (first_enabled m s n)) passed);
+            something = some_there (first_enabled m s n) (and_right (nat_lt t n) (is_some (first_enabled m s n)) passed);
             nothing_between = λ between after before. none_from (first_enabled m s between)
                 (λ on. (
                 let b = w.begins t between off on in
-                let h = least-le (filter test (moments m s)) n b.at is (Has-filter test (moments m s) b.at b.named (and-true (nat_lt t b.at) (is_some (first_enabled m s b.at)) (lt-ltb t b.at b.later) b.passes)) in
+                let h = least-le (filter test (moments m s)) n b.at is (Has-filter test (moments m s) b.at b.named (and_from (nat_lt t b.at) (is_some (first_enabled m s b.at)) (lt-ltb t b.at b.later) b.passes)) in
                 omega (arith, h, b.soon, before)));
           })
     ] refl

@@ -24,7 +24,7 @@ use Rattle.sched_model.specs.declared.work.StallLine.{StallLine}
 use Rattle.sched_model.specs.declared.work.CommandLine.{CommandLine}
 use Rattle.sched_model.specs.Places.{at_place, numbered_items, test_at, first_place, has_unit}
 use Rattle.sched_model.specs.State.{has_come, is_up}
-use Rattle.sched_model.specs.Eligible.{rtds_unit}
+use Rattle.sched_model.specs.EligibleUnits.{rtds_unit}
 use Rattle.sched_model.specs.Policy as policy
 use Rattle.sched_model.specs.Pool.{first_up, lowest_up, processor_of, vcpu_of, guest_of, done_at, is_held, is_open, core_of, enabled_in}
 use Rattle.sched_model.specs.Actions.{home_of}

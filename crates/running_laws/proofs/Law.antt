@@ -10,18 +10,18 @@ use Rattle.sched_model.specs.declared.state.Records.{Records}
 use Rattle.sched_model.specs.declared.state.Records.TheVariants.{Credit2Pool, RtdsPool, ArincPool, NullPool}
 use Rattle.sched_model.specs.declared.state.Scheduler.{Scheduler}
 use Rattle.sched_model.specs.Places.{put_at, clear_at, test_at, is_unit}
-use Rattle.sched_model.specs.Eligible.{Decision}
+use Rattle.sched_model.specs.EligibleUnits.{Decision}
 use Rattle.sched_model.specs.Policy.{decision_of, replenish, refill, changed_records, joined_records, parted_records}
 use Rattle.sched_model.specs.Credit2 as credit2
 use Rattle.sched_model.specs.Rtds as rtds
-use Rattle.sched_laws.proofs.Bools.{clash}
+use Rattle.sched_base.proofs.Bools.{clash}
 use Rattle.sched_laws.proofs.EachPlace.{read_put_at, read_clear_at}
 use Rattle.sched_laws.proofs.Lists.{test_at-some, some-test_at}
 use Rattle.sched_records.specs.Records.{IsRecorded}
 use Rattle.sched_records.proofs.Shape.{shape_decision, shape_replenished, shape_refilled, shape_changed}
 use Rattle.sched_records.specs.Counts.{shape}
 use Rattle.sched_ops.specs.Conditions.{is_on}
-use Rattle.running_laws.specs.Running.{keeps_records, has_record, is_on_after}
+use Rattle.running_laws.specs.RunningUnits.{keeps_records, has_record, is_on_after}
 use Rattle.running_laws.proofs.OneUnit.{cond_same, test_item, test_item-replicate, test_item_low}
 use Rattle.running_laws.proofs.Words.{word_on, itself, always, on_is, record_is, on_recorded, never_said, word_decides, word_replenished, word_refilled, word_changed, word_joined, word_parted}
 

@@ -1,17 +1,13 @@
 -- What the steps of RTDS make of a word on whether a unit is on.
-use Rattle.std.proofs.Common.{◌≡◌, ℕ, Bool, false, List, refl, ap, sym, cond}
+use Rattle.std.proofs.Common.{◌≡◌, ℕ, Bool, false, List, refl, ap, cond}
 use Rattle.std.specs.Prelude.{Option, Some, None, is_some}
 use Rattle.sched_base.specs.declared.UnitId.{UnitId}
 use Rattle.sched_model.specs.declared.state.RtdsUnit.{RtdsUnit}
 use Rattle.sched_model.specs.Places.{change_item, same_unit, is_unit}
 use Rattle.sched_model.specs.Rtds.{burn_to, burn_cur, replenish, change_unit, set_running, switch_off}
-use Rattle.sched_laws.proofs.EachPlace.{by_option}
 use Rattle.sched_laws.proofs.Lists.{test_at-change_at}
+use Rattle.sched_laws.proofs.RtdsUnits.{burned_on}
 use Rattle.running_laws.proofs.OneUnit.{test_item, test_unit, test_item-change_item, test_item-change_to, test_unit-change}
-
--- a unit that was charged is as much on as before
-burned_on : (t : ℕ) (x : RtdsUnit) → is_some (burn_to t x).burned ≡ is_some x.burned
-burned_on t x = by_option (λ (y : RtdsUnit). is_some y.burned ≡ is_some x.burned) x.burned x _ (λ is. refl) (λ from is. ap is_some (sym is))
 
 abbrev pub units_in : List RtdsUnit → List RtdsUnit
 units_in units = units

@@ -14,7 +14,7 @@ use Rattle.sched_model.specs.declared.state.Records.TheVariants.{Credit2Pool, Rt
 use Rattle.sched_model.specs.declared.state.Scheduler.{Scheduler}
 use Rattle.sched_model.specs.Places.{at_place, clear_at, is_unit}
 use Rattle.sched_model.specs.Arinc.{Window, present_window}
-use Rattle.sched_model.specs.Eligible.{Decision}
+use Rattle.sched_model.specs.EligibleUnits.{Decision}
 use Rattle.sched_model.specs.Policy.{decision_by, arinc_decision, replenish, refill, changed_records, joined_records, parted_records}
 use Rattle.sched_model.specs.Credit2 as credit2
 use Rattle.sched_model.specs.Rtds as rtds
@@ -22,7 +22,7 @@ use Rattle.sched_model.specs.NullScheduler as null
 use Rattle.sched_laws.proofs.EachPlace.{by_cond}
 use Rattle.sched_laws.proofs.Lists.{test_at-put_at_other, test_at-clear_at}
 use Rattle.sched_ops.specs.Conditions.{is_on}
-use Rattle.running_laws.specs.Running.{has_record}
+use Rattle.running_laws.specs.RunningUnits.{has_record}
 use Rattle.running_laws.proofs.OneUnit.{cond_same, test_item, test_unit_more, test_unit_false}
 use Rattle.running_laws.proofs.Credit2Units as of_credit2
 use Rattle.running_laws.proofs.Credit2Units.{credit2_word}

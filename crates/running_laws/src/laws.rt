@@ -10,7 +10,7 @@ ghost use Rattle.sched_model.specs.declared.state.Scheduler.{Scheduler};
 ghost use Rattle.sched_model.specs.Policy.{decision_of, replenish, refill, changed_records, joined_records, parted_records};
 ghost use Rattle.sched_records.specs.Records.{IsRecorded};
 ghost use Rattle.sched_ops.specs.Conditions.{is_on};
-ghost use Rattle.running_laws.specs.Running.{keeps_records, has_record, is_on_after};
+ghost use Rattle.running_laws.specs.RunningUnits.{keeps_records, has_record, is_on_after};
 
 /// Of all records, reached or not: a decision puts the chosen unit on, where the records have it, and takes the core's own unit off,
 /// unless that is the chosen one. Every other unit stays on or off at a decision, and every unit at a replenishment, a refill and a

@@ -1,6 +1,7 @@
 -- The numbers of schedule units.
 use Rattle.std.specs.Prelude.{ℕ, ◌+◌, ◌*◌, ◌==◌, ◌&&◌, Bool}
 use Rattle.sched_base.specs.declared.UnitId.{UnitId}
+use Rattle.sched_base.specs.Numbers.{domain}
 
 -- the number of a unit; two units of one number are the same
 abbrev pub number_of : UnitId → ℕ
@@ -9,3 +10,7 @@ number_of u = u.dom.0 * 256 + u.n
 -- whether two units are the same
 abbrev pub same_unit : UnitId → UnitId → Bool
 same_unit u w = u.dom.0 == w.dom.0 && u.n == w.n
+
+-- stands where there is no unit to name
+abbrev pub no_unit : UnitId
+no_unit = record { dom = domain 0; n = 0 }

@@ -14,7 +14,7 @@ use Rattle.sched_model.specs.Opening.{empty_pool, core_count}
 use Rattle.sched_model.specs.Policy as policy
 use Rattle.sched_model.specs.Pool as pools
 use Rattle.sched_model.specs.Pool.{change_core, change_domain, set_params, with_domain}
-use Rattle.sched_laws.specs.Each.{EachAt}
+use Rattle.sched_laws.specs.EachPlace.{EachAt}
 use Rattle.sched_laws.proofs.EachPlace.{EachAt-change_at, EachAt-put_at, EachPlace-empty}
 use Rattle.sched_laws.proofs.Kept.{IsKeptInside}
 use Rattle.sched_laws.proofs.Events.{LikePlaces, like_change_at, like_change_each, EachAt-like, KeepsCore, Anyway, KeptByCommands, KeptByParts, commands_of, kept_settled, kept_processor, kept_by_parts, kept_set_leaving, kept_withdrawn, kept_pause, kept_unpause, kept_marked, kept_queue_units}

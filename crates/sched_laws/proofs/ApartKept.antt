@@ -14,13 +14,13 @@ use Rattle.sched_model.specs.declared.state.Pool.{Pool}
 use Rattle.sched_model.specs.declared.state.FreeCore.{FreeCore}
 use Rattle.sched_model.specs.Opening.{fresh_core}
 use Rattle.sched_model.specs.declared.action.Action.{Action}
-use Rattle.sched_model.specs.Pool.{settled_pool as settled, without_domain}
+use Rattle.sched_model.specs.Pool.{settled_pool, without_domain}
 use Rattle.sched_model.specs.declared.action.Action.TheVariants.{Stall, Xl, Moved, DomMoved}
 use Rattle.sched_model.specs.Policy.{default_dom_params}
 use Rattle.sched_model.specs.Actions.{home_of, home_of_core, home_of_domain, change_pool}
 use Rattle.sched_model.specs.Commands.{carried_out, change_home, pool_of_plan}
 use Rattle.sched_model.specs.Machine.{is_enabled, after, after_at_home, after_stall, after_command, after_moved, after_dom_moved, with_stall_end, verdict, settled_at, with_core_in, without_core_in, left_by, joined_by, is_null}
-use Rattle.sched_laws.specs.Each.{EachAt}
+use Rattle.sched_laws.specs.EachPlace.{EachAt}
 use Rattle.sched_laws.proofs.EachPlace.{EachAt-change_at, EachAt-change_to, EachAt-put_at, read_put_at, read_clear_at, by_option, by_cond}
 use Rattle.sched_laws.proofs.Lists.{some-test_at, test_at-some, some_is, is_some_at}
 use Rattle.sched_laws.proofs.Kept.{IsApart, IsStayingAction, kept_change, kept_staying}
@@ -155,7 +155,7 @@ apart_detached g t r i c s has apart =
     let C : ℕ → ℕ → Type 0 = λ j q. (has_core_at s j q ≡ true) × (q ≢ r) in
     let D : ℕ → ℕ → Type 0 = λ j d. has_domain_at s j d ≡ true in
     let only : AllOnly C D (without_core_in t r i c s) =
-    EachAt-change_to (λ j. HasOnly (Was j) (D j)) (λ j. HasOnly (C j) (D j)) i (λ pool. settled t (record pool { resources = clear_at r pool.resources })) s.pools (only_itself s)
+    EachAt-change_to (λ j. HasOnly (Was j) (D j)) (λ j. HasOnly (C j) (D j)) i (λ pool. settled_pool t (record pool { resources = clear_at r pool.resources })) s.pools (only_itself s)
     (λ j pool other here. only_map (Was j) (D j) (C j) (D j) pool (λ q h. (h, λ e. other (apart.cores j i r (subst (λ x. has_core_at s j x ≡ true) e h) has))) (λ d h. h) here)
     (λ pool at here. (only_inside (C i) (D i) g).settles t _ (record {
       cores = λ q c2 at2. (let w = read_clear_at r q pool.resources c2 at2 in (here.cores q c2 w.1, w.0));
@@ -187,7 +187,7 @@ apart_dom_moved g t d i j domain s has apart =
     (λ k pool other here. only_map (C k) (Was k) (C k) (Gone k) pool (λ q h. h) (λ e h. (h, λ same. other (apart.domains k i d (subst (λ x. has_domain_at s k x ≡ true) same h) has))) here)
     (λ pool at here.
     let out : HasOnly (C i) (Gone i) (without_domain d pool) = record { cores = here.cores; domains = λ e x at2. (let w = read_clear_at d e pool.domains x at2 in (here.domains e x w.1, w.0)) } in
-    by_cond (HasOnly (C i) (Gone i)) (is_null pool.scheduler.records) (settled t (without_domain d pool)) (without_domain d pool) (λ is. (only_inside (C i) (Gone i) g).settles t _ out) (λ is. out)) in
+    by_cond (HasOnly (C i) (Gone i)) (is_null pool.scheduler.records) (settled_pool t (without_domain d pool)) (without_domain d pool) (λ is. (only_inside (C i) (Gone i) g).settles t _ out) (λ is. out)) in
     let only : AllOnly C D next =
     EachAt-change_to (λ k. HasOnly (C k) (Gone k)) (λ k. HasOnly (C k) (D k)) j (joined_by g t d domain) left.pools gone
     (λ k pool other here. only_map (C k) (Gone k) (C k) (D k) pool (λ q h. h) (λ e h. inl h) here)

@@ -2,6 +2,7 @@
 use Rattle.std.proofs.Common.{◌≡◌, ◌≢◌, ℕ, Bool, true, false, not, List, [], ◌∷◌, refl, subst, sym, ◌∙◌, ap}
 use Rattle.std.specs.Prelude.{Option, Some, None, is_some, slice_get, ◌&&◌, ◌||◌, ◌==◌, ◌/◌, ◌%◌, slice_index_or, bit_and}
 use Rattle.std.specs.List.{list_any, AllByRecursion}
+use Rattle.std.proofs.lemmas.Bool.{eq-eqb, not-true, and_from}
 use Rattle.sched_base.specs.Numbers.{core_set, domain}
 use Rattle.sched_base.specs.declared.UnitId.{UnitId}
 use Rattle.sched_base.specs.declared.Cores.{Cores}
@@ -14,7 +15,7 @@ use Rattle.sched_model.specs.declared.state.Records.{Records}
 use Rattle.sched_model.specs.declared.state.RtdsUnit.{RtdsUnit}
 use Rattle.sched_model.specs.State.{has_come, has_core}
 use Rattle.sched_model.specs.declared.state.Records.TheVariants.{Credit2Pool, RtdsPool, ArincPool, NullPool}
-use Rattle.sched_model.specs.Eligible.{is_eligible, is_allowed, cores_of, passes, rtds_unit}
+use Rattle.sched_model.specs.EligibleUnits.{is_eligible, is_allowed, cores_of, passes, rtds_unit}
 use Rattle.sched_model.specs.Policy as policy
 use Rattle.sched_model.specs.Policy.{better_waits, parted_records}
 use Rattle.sched_model.specs.Rtds.{is_before}
@@ -22,15 +23,15 @@ use Rattle.sched_model.specs.Pool.{enabled_in, settled_pool, home_cores, reconsi
 use Rattle.sched_model.specs.declared.action.Action.TheVariants.{DomMoved}
 use Rattle.sched_model.specs.Machine.{is_null}
 use Rattle.sched_model.specs.Laws.{is_more_urgent}
-use Rattle.sched_laws.specs.Each.{EachAt, EachPlace}
+use Rattle.sched_model.proofs.PlaceLemmas.{cores_from-change_each, cores_from-change_at}
+use Rattle.sched_laws.specs.EachPlace.{EachAt, EachPlace}
 use Rattle.sched_laws.proofs.EachPlace.{EachAt-change_at, read_change_each, by_cond}
 use Rattle.sched_laws.proofs.Lists.{AllByRecursion-map, none_passes, at_numbered}
 use Rattle.sched_laws.proofs.OwnUnits.{moving_not_staying}
-use Rattle.sched_laws.specs.Known.{UnitsAreOwn, IsStaying}
+use Rattle.sched_laws.specs.PoolFacts.{UnitsAreOwn, IsStaying}
 use Rattle.sched_laws.proofs.Due.{window_of}
-use Rattle.sched_laws.proofs.Bools.{and_left, and_right, both, not_true, not_false, or_left, or_right, is_same}
+use Rattle.sched_base.proofs.Bools.{and_left, and_right, not_false, or_left, or_right}
 use Rattle.sched_laws.proofs.EachPlace.{at_place-clear_at_other}
-use Rattle.sched_laws.proofs.HomeCores.{home_change_each, home_change_at}
 
 -- nobody waits for the core at t
 abbrev pub calm : ℕ → ℕ → Scheduler → ℕ → Resource → Bool
@@ -58,7 +59,7 @@ pub list_any_same : (a b : UnitId → Bool) (xs : List UnitId) → AllByRecursio
 list_any_same a b [] same = refl
 list_any_same a b (u ∷ xs) same = ap (λ x. x || list_any a xs) same.0 ∙ ap (λ x. b u || x) (list_any_same a b xs same.1)
 
-each_of : (P : UnitId → Type 0) → ((u : UnitId) → P u) → (xs : List UnitId) → AllByRecursion P xs
+pub each_of : (P : UnitId → Type 0) → ((u : UnitId) → P u) → (xs : List UnitId) → AllByRecursion P xs
 each_of P all [] = tt
 each_of P all (u ∷ xs) = (all u, each_of P all xs)
 
@@ -76,7 +77,7 @@ none_better t home scheduler r since None none = ap not none
 none_better t home scheduler r since (Some w) none =
     let allowed : is_allowed scheduler home r w ≡ true = not_false _ (or_left (not (is_allowed scheduler home r w)) (list_any (λ u. is_eligible scheduler home r t u && policy.is_better scheduler.records w since t u) scheduler.queue) none) in
     let no = or_right (not (is_allowed scheduler home r w)) (list_any (λ u. is_eligible scheduler home r t u && policy.is_better scheduler.records w since t u) scheduler.queue) none in
-    both (is_allowed scheduler home r w) _ allowed (ap not (list_any_less (λ u. is_eligible scheduler home r t u && policy.is_better scheduler.records w since t u) (λ u. is_eligible scheduler home r t u && is_more_urgent scheduler.records w u)
+    and_from (is_allowed scheduler home r w) _ allowed (ap not (list_any_less (λ u. is_eligible scheduler home r t u && policy.is_better scheduler.records w since t u) (λ u. is_eligible scheduler home r t u && is_more_urgent scheduler.records w u)
     (λ u is. and_both (is_eligible scheduler home r t u) _ _ (urgent_better scheduler.records w u since t) is) scheduler.queue no))
 
 -- looking at the cores makes them calm
@@ -88,12 +89,12 @@ calm_settled t pool r c at =
     by_cond (CoreIsCalm t home pool.scheduler r) old.0.leaving old.0 (record old.0 { pending = old.0.pending || better_waits old.0.cur old.0.since.0 t r home pool.scheduler })
     (λ is stays. absurd (let e : true ≡ false = sym is ∙ stays in cc))
     (λ is stays decided low. none_better t home pool.scheduler r old.0.since.0 old.0.cur (or_right old.0.pending _ decided)) in
-    subst (λ h. CoreIsCalm t h pool.scheduler r c) (sym (home_change_each 0 0 (reconsidered_core t home pool.scheduler) pool.resources)) (subst (CoreIsCalm t home pool.scheduler r) old.2 here)
+    subst (λ h. CoreIsCalm t h pool.scheduler r c) (sym (cores_from-change_each 0 0 (reconsidered_core t home pool.scheduler) pool.resources)) (subst (CoreIsCalm t home pool.scheduler r) old.2 here)
 
 pub calm_change_processor : (g t p : ℕ) (f : Processor → Processor) (pool : Pool) → IsCalm t pool → IsCalm t (change_processor g p f pool)
 calm_change_processor g t p f pool calms =
     let change : Resource → Resource = λ c. record c { processors = change_item (p % g) f c.processors } in
-    subst (λ h. EachAt (CoreIsCalm t h pool.scheduler) (change_at (p / g) change pool.resources)) (sym (home_change_at 0 (p / g) change pool.resources))
+    subst (λ h. EachAt (CoreIsCalm t h pool.scheduler) (change_at (p / g) change pool.resources)) (sym (cores_from-change_at 0 (p / g) change pool.resources))
     (EachAt-change_at (CoreIsCalm t (home_cores pool) pool.scheduler) (p / g) change pool.resources calms (λ c at here. here))
 
 -- the same at a later moment of the same window
@@ -139,7 +140,7 @@ pub calm_without_domain : (g t d : ℕ) (pool : Pool) → is_null pool.scheduler
 calm_without_domain g t d pool null on own calms r c at stays decided low = by_cur c.cur (or_left (is_of_domain d c.cur) (is_of_domain d c.saving) (none r c at)) (calms r c at stays decided low)
   where
     none : EachPlace (λ (x : Resource). (is_of_domain d x.cur || is_of_domain d x.saving) ≡ false) pool.resources
-    none = at_numbered (λ (x : Resource). (is_of_domain d x.cur || is_of_domain d x.saving) ≡ false) 0 pool.resources (none_passes _ _ (not_true _ (and_right (test_at pool.domains d (λ x. is_some x.moving)) _ on)))
+    none = at_numbered (λ (x : Resource). (is_of_domain d x.cur || is_of_domain d x.saving) ≡ false) 0 pool.resources (none_passes _ _ (not-true _ (and_right (test_at pool.domains d (λ x. is_some x.moving)) _ on)))
 
     others : AllByRecursion (λ (u : UnitId). u.dom.0 ≢ d) pool.scheduler.queue
     others = AllByRecursion-map (IsStaying pool.domains) (λ u. u.dom.0 ≢ d) (λ u staying. moving_not_staying d pool.domains u (and_left (test_at pool.domains d (λ x. is_some x.moving)) _ on) staying) pool.scheduler.queue own.queue
@@ -153,7 +154,7 @@ calm_without_domain g t d pool null on own calms r c at stays decided low = by_c
         ∙ ap (λ b. is_allowed pool.scheduler (home_cores pool) r u && b) (passes_parted pool.scheduler.records (policy.part d pool.scheduler) pool.scheduler d (home_cores pool) r t u null other)
 
     not_of : (w : UnitId) → is_of_domain d (Some w) ≡ false → w.dom.0 ≢ d
-    not_of w is e = (let h : (w.dom.0 == d) ≡ true = is_same w.dom.0 d e in let f : true ≡ false = sym h ∙ is in absurd (cc))
+    not_of w is e = (let h : (w.dom.0 == d) ≡ true = eq-eqb w.dom.0 d e in let f : true ≡ false = sym h ∙ is in absurd (cc))
 
     by_cur : (cur : Option UnitId) → is_of_domain d cur ≡ false
         → elim cur as (λ _. Bool) [ None ↦ not (list_any (is_eligible pool.scheduler (home_cores pool) r t) pool.scheduler.queue) | Some w ↦ is_allowed pool.scheduler (home_cores pool) r w && not (list_any (λ u. is_eligible pool.scheduler (home_cores pool) r t u && is_more_urgent pool.scheduler.records w u) pool.scheduler.queue) ] ≡ true

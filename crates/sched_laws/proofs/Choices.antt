@@ -2,6 +2,7 @@
 use Rattle.std.proofs.Common.{◌≡◌, Bool, true, List, [], ◌∷◌, subst, sym, ap, cond, arith, inl, inr}
 use Rattle.std.specs.List.{AllByRecursion}
 use Rattle.std.specs.Prelude.{Option, Some, None, ◌&&◌, ◌||◌, int_lt, nat_lt}
+use Rattle.std.proofs.lemmas.Bool.{or_cases}
 use Rattle.sched_base.specs.declared.UnitId.{UnitId}
 use Rattle.sched_model.specs.Places.{is_unit, has_unit, same_unit}
 use Rattle.sched_model.specs.declared.state.Scheduler.{Scheduler}
@@ -10,7 +11,7 @@ use Rattle.sched_model.specs.declared.state.Credit2Records.{Credit2Records}
 use Rattle.sched_model.specs.declared.state.RtdsUnit.{RtdsUnit}
 use Rattle.sched_model.specs.declared.state.Records.TheVariants.{Credit2Pool, RtdsPool, ArincPool, NullPool}
 use Rattle.sched_model.specs.declared.ask.Ask.{Ask}
-use Rattle.sched_model.specs.Eligible.{Decision, is_allowed, is_eligible, is_placed, eligible_units}
+use Rattle.sched_model.specs.EligibleUnits.{Decision, is_allowed, is_eligible, is_placed, eligible_units}
 use Rattle.sched_model.specs.Arinc.{Window}
 use Rattle.sched_model.specs.Policy.{decision_of, decision_by, arinc_decision}
 use Rattle.sched_model.specs.Credit2 as credit2
@@ -18,8 +19,8 @@ use Rattle.sched_model.specs.Rtds as rtds
 use Rattle.sched_model.specs.NullScheduler as null
 use Rattle.sched_laws.proofs.Lists.{AllByRecursion-filter}
 use Rattle.sched_laws.proofs.EachPlace.{by_option, by_cond}
-use Rattle.sched_laws.proofs.Bools.{and_left, and_right, one_of}
-use Rattle.sched_laws.specs.Known.{IfUnit}
+use Rattle.sched_base.proofs.Bools.{and_left, and_right}
+use Rattle.sched_laws.specs.PoolFacts.{IfUnit}
 
 -- one of two tests passes
 -- the test of sameness
@@ -33,7 +34,7 @@ is_unit_same (Some w) u is = ap (λ x. Some x) (same_unit_same w u is)
 -- a unit of the list has what each has
 pub at_unit : (P : UnitId → Type 0) (u : UnitId) (units : List UnitId) → has_unit units u ≡ true → AllByRecursion P units → P u
 at_unit P u [] has each = absurd (cc)
-at_unit P u (w ∷ units) has each = elim (one_of (same_unit u w) (has_unit units u) has) [
+at_unit P u (w ∷ units) has each = elim (or_cases (same_unit u w) (has_unit units u) has) [
   | inl is ↦ subst P (sym (same_unit_same u w is)) each.0
   | inr rest ↦ at_unit P u units rest each.1
 ]
@@ -83,7 +84,7 @@ module _ (P : UnitId → Type 0) where
         (λ u is.
         let goes : Bool = is_unit ask.cur u && ask.runnable in
         let waits : Bool = has_unit scheduler.queue u && is_eligible scheduler ask.home.0 ask.core.0 ask.at.0 u in
-        by_cond (IfUnit P) (goes || waits) (Some u) None (λ may. elim (one_of goes waits may) [
+        by_cond (IfUnit P) (goes || waits) (Some u) None (λ may. elim (or_cases goes waits may) [
           | inl cur ↦ own u (is_unit_same ask.cur u (and_left (is_unit ask.cur u) ask.runnable cur)) (and_right (is_unit ask.cur u) ask.runnable cur)
           | inr there ↦ at_unit P u scheduler.queue (and_left (has_unit scheduler.queue u) (is_eligible scheduler ask.home.0 ask.core.0 ask.at.0 u) there) waiting
         ]) (λ may. tt))

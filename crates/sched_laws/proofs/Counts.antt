@@ -1,12 +1,14 @@
 -- How often something stands in a list and at places.
 use Rattle.std.proofs.Common.{◌≡◌, ◌≢◌, ◌≤◌, ◌+◌, ℕ, zero, suc, Bool, true, false, List, [], ◌∷◌, ◌++◌, refl, arith, subst, sym, ◌∙◌, ap, cond}
-use Rattle.std.specs.Prelude.{Option, Some, None, filter, sum_by, count_by, ◌||◌}
+use Rattle.std.specs.Prelude.{Option, Some, None, filter, sum_by, count_by, ◌||◌, not}
+use Rattle.std.proofs.lemmas.Bool.{or_from}
+use Rattle.sched_base.proofs.Bools.{or_left, or_right}
 use Rattle.std.specs.List.{list_any, AllByRecursion}
 use Rattle.std.proofs.lemmas.List.Sums.{sum_by-cons}
 use Rattle.std.proofs.Math.Decide.{dec_le}
 use Rattle.sched_base.specs.declared.UnitId.{UnitId}
-use Rattle.sched_model.specs.Places.{at_place, put_at, clear_at, change_at, change_each, numbered_items, has_unit, same_unit}
-use Rattle.sched_laws.specs.Each.{EachPlace}
+use Rattle.sched_model.specs.Places.{at_place, put_at, clear_at, change_at, change_each, numbered_items, has_unit, without_unit, same_unit}
+use Rattle.sched_laws.specs.EachPlace.{EachPlace}
 use Rattle.sched_laws.proofs.Choices.{same_unit_same}
 use Rattle.sched_laws.specs.Counts.{total, one, times}
 
@@ -186,3 +188,18 @@ times_has P u (w ∷ units) each some =
       | true ↦ λ is e. subst P (sym (same_unit_same u w is)) each.0
       | false ↦ λ is e. times_has P u units each.1 (omega (arith, e))
     ] refl some
+
+-- a queue without a unit that does not wait is the same, and one that a unit left has it no more
+pub without_absent : (u : UnitId) (units : List UnitId) → has_unit units u ≡ false → without_unit u units ≡ units
+without_absent u [] absent = refl
+without_absent u (x ∷ units) absent =
+    let e : same_unit u x ≡ false = or_left _ _ absent in
+    rw e (ap (λ (xs : List UnitId). x ∷ xs) (without_absent u units (or_right (same_unit u x) _ absent)))
+
+pub gone_without : (u : UnitId) (units : List UnitId) → has_unit (without_unit u units) u ≡ false
+gone_without u [] = refl
+gone_without u (x ∷ units) =
+    elim (same_unit u x) as (λ b. same_unit u x ≡ b → has_unit (cond (not b) (x ∷ without_unit u units) (without_unit u units)) u ≡ false) [
+      | true ↦ λ is. gone_without u units
+      | false ↦ λ is. or_from (same_unit u x) (has_unit (without_unit u units) u) is (gone_without u units)
+    ] refl

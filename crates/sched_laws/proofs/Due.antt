@@ -21,13 +21,13 @@ use Rattle.sched_model.specs.declared.state.Records.TheVariants.{Credit2Pool, Rt
 use Rattle.sched_model.specs.Opening.{fresh_core}
 use Rattle.sched_model.specs.Arinc.{window_at, window_unit, present_window}
 use Rattle.sched_model.specs.declared.ask.Ask.{Ask}
-use Rattle.sched_model.specs.Eligible.{Decision}
+use Rattle.sched_model.specs.EligibleUnits.{Decision}
 use Rattle.sched_model.specs.Policy as policy
 use Rattle.sched_model.specs.Policy.{rtds_record, decision_of, decision_by, arinc_decision, changed_records, joined_records, parted_records}
 use Rattle.sched_model.specs.Pool as pools
 use Rattle.sched_model.specs.Pool.{change_core, change_cores_of, decided_core as decided, same_choice, ask_of, set_pending, set_params, without_domain, with_domain}
 use Rattle.std.proofs.lemmas.List.{length-map}
-use Rattle.sched_laws.specs.Each.{EachPlace}
+use Rattle.sched_laws.specs.EachPlace.{EachPlace}
 use Rattle.sched_laws.proofs.EachPlace.{EachPlace-change_at, EachPlace-put_at, EachPlace-clear_at, read_change_each, by_option, by_test}
 use Rattle.sched_base.specs.Numbers.{span}
 use Rattle.sched_base.specs.declared.Span.{Span}
@@ -37,7 +37,7 @@ use Rattle.sched_laws.proofs.Fits.{ChangeFits}
 use Rattle.sched_laws.proofs.Records as records_lemmas
 use Rattle.sched_laws.proofs.Records.{IsNoFrame}
 use Rattle.sched_laws.proofs.Window.{FitsMajor, unit_steady}
-use Rattle.sched_laws.proofs.Bools.{false_before}
+use Rattle.sched_base.proofs.Bools.{false_before}
 use Rattle.sched_laws.proofs.Events.{LikePlaces, EachAt-like, capped, like_of_domain, KeepsCore, Anyway, KeptByCommands, KeptByParts, commands_of, kept_marked, kept_queue_units}
 use Rattle.sched_laws.proofs.EachPlace.{length_set, length_change_each}
 

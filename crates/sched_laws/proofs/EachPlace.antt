@@ -1,7 +1,7 @@
 -- What holds of everything that stands at a place, and the changes that keep it.
 use Rattle.std.proofs.Common.{slice_set, ◌<◌, length, ◌≡◌, ◌≢◌, ◌+◌, ℕ, zero, suc, Bool, true, false, List, [], ◌∷◌, refl, arith, ap, subst, sym, ◌∙◌, ◌⊎◌, inl, inr}
 use Rattle.std.specs.Prelude.{Option, Some, None, option_map, replicate, cond}
-use Rattle.sched_laws.specs.Each.{EachAt, EachPlace}
+use Rattle.sched_laws.specs.EachPlace.{EachAt, EachPlace}
 use Rattle.sched_model.specs.Places.{at_place, put_at, clear_at, change_at, change_each, first_place}
 
 -- what stands at a place after a change of one place: what stood there, or what was changed
@@ -75,9 +75,6 @@ at_place-put_at_other i j x places other = at_place-set_other i j (Some x) place
 
 pub at_place-clear_at_other : {X : Type 0} (i j : ℕ) (places : List (Option X)) → j ≢ i → at_place (clear_at i places) j ≡ at_place places j
 at_place-clear_at_other i j places other = at_place-set_other i j None places (λ e. other (sym e))
-
-pub at_place-change_at_other : {X : Type 0} (i j : ℕ) (f : X → X) (places : List (Option X)) → j ≢ i → at_place (change_at i f places) j ≡ at_place places j
-at_place-change_at_other i j f places other = at_place-set_other i j (option_map f (at_place places i)) places (λ e. other (sym e))
 
 -- what stands at a place that is changed
 pub at_place-change_at : {X : Type 0} (i : ℕ) (f : X → X) (places : List (Option X)) → at_place (change_at i f places) i ≡ option_map f (at_place places i)
@@ -186,3 +183,8 @@ by_test Q false a b when else = else refl
 pub by_cond : {Y : Type 0} (Q : Y → Type 0) (test : Bool) (a b : Y) → (test ≡ true → Q a) → (test ≡ false → Q b) → Q (cond test a b)
 by_cond Q true a b when else = when refl
 by_cond Q false a b when else = else refl
+
+pub at_place-replicate : {X : Type 0} (n i : ℕ) → at_place {X = X} (replicate n None) i ≡ None
+at_place-replicate zero i = refl
+at_place-replicate (suc n) zero = refl
+at_place-replicate (suc n) (suc i) = at_place-replicate n i

@@ -24,10 +24,10 @@ use Rattle.sched_model.specs.Policy as policy
 use Rattle.sched_model.specs.Policy.{dequeue_domain, rtds_record}
 use Rattle.sched_model.specs.Pool as pools
 use Rattle.sched_model.specs.Pool.{enabled_in, after_in, settled_pool, home_cores, reconsidered_core, change_core, change_processor, change_vcpu, change_domain, change_cores_of, set_pending, set_leaving, with_doing, queue_unit, started_on, with_records, pause, unpause, unit_of, core_of, processor_of, vcpu_of, guest_of, is_idle, is_held, is_of_domain, unit_count}
-use Rattle.sched_laws.specs.Each.{EachAt}
+use Rattle.sched_laws.specs.EachPlace.{EachAt}
 use Rattle.sched_laws.proofs.EachPlace.{by_option, by_test, by_cond, length_set, length_change_each, read_change_at}
 use Rattle.sched_laws.proofs.Lists.{length_change_item, read_change_item}
-use Rattle.sched_laws.proofs.Bools.{and_left, or_more}
+use Rattle.sched_base.proofs.Bools.{and_left, or_more}
 
 -- what stands at a place of each of two lists is related, or nothing stands at either
 abbrev pub LikePlace : {X : Type 0} → (X → X → Type 0) → Option X → Option X → Type 0

@@ -20,7 +20,7 @@ use Rattle.sched_model.specs.Places.{at_place, change_item}
 use Rattle.sched_model.specs.Actions.{home_of, home_of_core, home_of_domain}
 use Rattle.sched_model.specs.Commands.{carried_out, change_home, pool_of_plan}
 use Rattle.sched_model.specs.Machine.{after, after_at_home, after_stall, after_command, after_moved, after_dom_moved, verdict, settled_at, stall_end_of}
-use Rattle.sched_laws.specs.Each.{EachPlace}
+use Rattle.sched_laws.specs.EachPlace.{EachPlace}
 use Rattle.sched_laws.proofs.EachPlace.{EachPlace-change_at, EachPlace-put_at, EachPlace-clear_at, by_option, by_cond}
 use Rattle.sched_laws.proofs.Steps.{IsKeptAt, IsKeptTo, FreeFits, NextEnds}
 

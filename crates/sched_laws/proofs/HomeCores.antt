@@ -3,7 +3,7 @@ use Rattle.std.proofs.Common.{◌≡◌, ◌<◌, ◌+◌, ◌*◌, ◌/◌, ◌
 use Rattle.std.specs.Prelude.{◌^◌, ◌==◌, Option, Some, None, is_some}
 use Rattle.std.proofs.Math.Nat.{div-div-eq-div-mul, pow-succ'}
 use Rattle.std.proofs.lemmas.Nat.{div-mul-add, mod-mul-add}
-use Rattle.sched_model.specs.Places.{at_place, change_at, change_each}
+use Rattle.sched_model.specs.Places.{at_place}
 use Rattle.sched_model.specs.State.{has_core}
 use Rattle.sched_model.specs.Pool.{cores_from}
 use Rattle.sched_model.specs.declared.state.Resource.{Resource}
@@ -54,15 +54,3 @@ home_has (c ∷ cores) (suc r) =
     let half : (x * 2 + bit_of c) / 2 ≡ x = div-mul-add x 2 (bit_of c) (bit_small c) in
     let shift : (x * 2 + bit_of c) / 2 ^ suc r ≡ x / 2 ^ r = ap (λ y. (x * 2 + bit_of c) / y) p ∙ sym (div-div-eq-div-mul (x * 2 + bit_of c) 2 (2 ^ r)) ∙ ap (λ y. y / 2 ^ r) half in
     ap (λ y. has_core y (suc r)) (cores_cons c cores) ∙ ap (λ y. y % 2 == 1) shift ∙ home_has cores r
-
--- a change of cores leaves which there are
-pub home_change_each : (k n : ℕ) (f : ℕ → Resource → Resource) (cores : List (Option Resource)) → cores_from k (change_each n f cores) ≡ cores_from k cores
-home_change_each k n f [] = refl
-home_change_each k n f (None ∷ cores) = ap (λ x. 0 + x) (home_change_each (suc k) (suc n) f cores)
-home_change_each k n f (Some c ∷ cores) = (let r = home_change_each (suc k) (suc n) f cores in ap (λ x. 2 ^ k + x) r)
-
-pub home_change_at : (k i : ℕ) (f : Resource → Resource) (cores : List (Option Resource)) → cores_from k (change_at i f cores) ≡ cores_from k cores
-home_change_at k i f [] = refl
-home_change_at k zero f (None ∷ cores) = refl
-home_change_at k zero f (Some c ∷ cores) = refl
-home_change_at k (suc i) f (c ∷ cores) = ap (λ x. cond (is_some c) (2 ^ k) 0 + x) (home_change_at (suc k) i f cores)

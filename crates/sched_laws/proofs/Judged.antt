@@ -28,38 +28,19 @@ use Rattle.sched_model.specs.Policy.{kind_of}
 use Rattle.sched_model.specs.Pool.{unit_count}
 use Rattle.sched_model.specs.Commands.{in_range, is_kind, name_fault, last_core_fault, rtds_fault, rtds_units, cpu_fault, elsewhere_fault, has_vcpu, judge, pool_of, domain_of, with_pool, with_domain, demand, demand_range, refused_by, judge_frame, frame_entries, cores_in, domains_in, judge_rtds, demand_kind}
 use Rattle.sched_laws.proofs.EachPlace.{by_option}
-use Rattle.sched_laws.proofs.Bools.{and_left, one_of, and_right}
-use Rattle.std.proofs.lemmas.Bool.{ltb-true}
+use Rattle.sched_base.proofs.Bools.{and_left, and_right}
+use Rattle.std.proofs.lemmas.Bool.{ltb-true, or_cases}
 use Rattle.std.specs.Option.{IfSome}
 use Rattle.std.specs.Result.{IfOk}
 use Rattle.sched_base.specs.declared.Span.{Span}
 use Rattle.sched_model.specs.declared.command.Syntax.{Syntax}
-use Rattle.sched_model.specs.Checked.{IsChecked, IsGranularity, IsWithin, most_span}
+use Rattle.sched_model.specs.CheckedMachine.{IsChecked, IsGranularity, IsWithin, most_span}
 use Rattle.sched_model.specs.Opening.{core_count}
 use Rattle.sched_laws.proofs.Granularity.{by_granularity}
 use Rattle.sched_laws.proofs.Lists.{is_some_at}
 use Rattle.sched_laws.proofs.Fits.{ChangeFits, RtdsFits}
 use Rattle.sched_model.specs.declared.state.RtdsUnit.{RtdsUnit}
-
--- the pool i is there
-abbrev pub HasPool : State → ℕ → Type 0
-HasPool s i = is_some (at_place s.pools i) ≡ true
-
--- the same, and P holds of it
-pub record AtPool (s : State) (i : ℕ) (P : Pool → Type 0) : Type 0 where
-  pub pool : Pool
-  pub at : at_place s.pools i ≡ Some pool
-  pub meets : P pool
-
--- the domain d is in a pool, and P holds of them
-pub record AtDomain (s : State) (d : ℕ) (P : Pool → Domain → Type 0) : Type 0 where
-  pub home : ℕ
-  pub pool : Pool
-  pub domain : Domain
-  pub is_home : home_of_domain s d ≡ Some home
-  pub at : at_place s.pools home ≡ Some pool
-  pub has : at_place pool.domains d ≡ Some domain
-  pub meets : P pool domain
+use Rattle.sched_laws.specs.Finds.{IsThere, FindsPool, FindsDomain}
 
 abbrev IsEmpty : Pool → Type 0
 IsEmpty pool = ((cores_in pool == 0) ≡ true) × ((domains_in pool == 0) ≡ true)
@@ -81,31 +62,31 @@ pub record AreTerms (period budget : Option Span) (units : List RtdsUnit) : Type
 
 -- what is found of the plan of an accepted command
 abbrev pub Passed : Machine → State → Command → Plan → Type 0
-Passed m s c (plan.PoolList pool answer) = IfSome pool (λ i. HasPool s i.0)
+Passed m s c (plan.PoolList pool answer) = IfSome pool (λ i. IsThere s i.0)
 Passed m s c (plan.PoolCreate i name kind answer) =
     ((at_place s.pools i.0 ≡ None) × (i.0 < length s.pools)) × (given : Option SchedKind) × (c ≡ command.PoolCreate name given) × (kind ≡ unwrap_or given kinds.Credit2)
-Passed m s c (plan.PoolDestroy i answer) = AtPool s i.0 IsEmpty
-Passed m s c (plan.PoolRename i name answer) = HasPool s i.0
+Passed m s c (plan.PoolDestroy i answer) = FindsPool s i.0 IsEmpty
+Passed m s c (plan.PoolRename i name answer) = IsThere s i.0
 Passed m s c (plan.CpuAdd i core answer) =
-    AtPool s i.0 (λ pool. not (is_kind kinds.Arinc653 (kind_of pool.scheduler.records) && nat_lt 0 (cores_in pool)) ≡ true) × (home_of_core s core.0 ≡ None) × (IsChecked m → core.0 < core_count m.config)
-Passed m s c (plan.CpuRemove i core answer) = AtPool s i.0 (λ pool. is_some (at_place pool.resources core.0) ≡ true)
-Passed m s c (plan.Migrate d i j answer) = (home_of_domain s d.0 ≡ Some i.0) × AtPool s i.0 (λ pool. is_some (at_place pool.domains d.0) ≡ true) × HasPool s j.0
+    FindsPool s i.0 (λ pool. not (is_kind kinds.Arinc653 (kind_of pool.scheduler.records) && nat_lt 0 (cores_in pool)) ≡ true) × (home_of_core s core.0 ≡ None) × (IsChecked m → core.0 < core_count m.config)
+Passed m s c (plan.CpuRemove i core answer) = FindsPool s i.0 (λ pool. is_some (at_place pool.resources core.0) ≡ true)
+Passed m s c (plan.Migrate d i j answer) = (home_of_domain s d.0 ≡ Some i.0) × FindsPool s i.0 (λ pool. is_some (at_place pool.domains d.0) ≡ true) × IsThere s j.0
 Passed m s c (plan.Credit2Dom d weight percent answer) =
-    AtDomain s d.0 (λ pool domain. (kind_of pool.scheduler.records ≡ kinds.Credit2) × ChangeFits (changes.Dom d weight percent)) × (which : Which) × (c ≡ command.Credit2Dom which weight percent)
-Passed m s c (plan.Credit2Pool i limit answer) = AtPool s i.0 (λ pool. (kind_of pool.scheduler.records ≡ kinds.Credit2) × IfSome limit (λ (us : ℕ). us ≤ 500000))
+    FindsDomain s d.0 (λ pool domain. (kind_of pool.scheduler.records ≡ kinds.Credit2) × ChangeFits (changes.Dom d weight percent)) × (which : Which) × (c ≡ command.Credit2Dom which weight percent)
+Passed m s c (plan.Credit2Pool i limit answer) = FindsPool s i.0 (λ pool. (kind_of pool.scheduler.records ≡ kinds.Credit2) × IfSome limit (λ (us : ℕ). us ≤ 500000))
 Passed m s c (plan.RtdsDom d first count period budget extra answer) =
-    AtDomain s d.0 (λ pool domain. (kind_of pool.scheduler.records ≡ kinds.Rtds) × AreUnits m.config.granularity domain first count × AreTerms period budget (rtds_units pool d.0 first count))
-Passed m s c (plan.Pause d answer) = AtDomain s d.0 (λ pool domain. Unit {0})
-Passed m s c (plan.Unpause d answer) = AtDomain s d.0 (λ pool domain. Unit {0})
-Passed m s c (plan.ArincSet i frame answer) = AtPool s i.0 (λ pool. (kind_of pool.scheduler.records ≡ kinds.Arinc653) × ChangeFits (changes.Frame frame))
-Passed m s c (plan.Pin d unit cores answer) = AtDomain s d.0 (λ pool domain. IfSome unit (λ (n : ℕ). (v : ℕ) × (n ≡ v / m.config.granularity) × (v < length domain.vcpus)))
+    FindsDomain s d.0 (λ pool domain. (kind_of pool.scheduler.records ≡ kinds.Rtds) × AreUnits m.config.granularity domain first count × AreTerms period budget (rtds_units pool d.0 first count))
+Passed m s c (plan.Pause d answer) = FindsDomain s d.0 (λ pool domain. Unit {0})
+Passed m s c (plan.Unpause d answer) = FindsDomain s d.0 (λ pool domain. Unit {0})
+Passed m s c (plan.ArincSet i frame answer) = FindsPool s i.0 (λ pool. (kind_of pool.scheduler.records ≡ kinds.Arinc653) × ChangeFits (changes.Frame frame))
+Passed m s c (plan.Pin d unit cores answer) = FindsDomain s d.0 (λ pool domain. IfSome unit (λ (n : ℕ). (v : ℕ) × (n ≡ v / m.config.granularity) × (v < length domain.vcpus)))
 
 -- what a plan promises of the pools
 abbrev pub Fits : State → Plan → Type 0
 Fits s (plan.PoolCreate i name kind answer) = (at_place s.pools i.0 ≡ None) × (i.0 < length s.pools)
 Fits s (plan.PoolDestroy i answer) = (pool : Pool) → at_place s.pools i.0 ≡ Some pool → IsEmpty pool
-Fits s (plan.CpuAdd i core answer) = HasPool s i.0
-Fits s (plan.Migrate d i j answer) = HasPool s j.0
+Fits s (plan.CpuAdd i core answer) = IsThere s i.0
+Fits s (plan.Migrate d i j answer) = IsThere s j.0
 Fits s (plan.Credit2Dom d weight percent answer) =
     ChangeFits (changes.Dom d weight percent) × ((j : ℕ) (pool : Pool) → home_of_domain s d.0 ≡ Some j → at_place s.pools j ≡ Some pool → kind_of pool.scheduler.records ≡ kinds.Credit2)
 Fits s (plan.Credit2Pool i limit answer) = IfSome limit (λ (us : ℕ). us ≤ 500000)
@@ -114,10 +95,10 @@ Fits s (plan.ArincSet i frame answer) = ChangeFits (changes.Frame frame)
 Fits s _ = Unit {0}
 
 -- what is found of a pool or of a domain's pool holds of it by its number
-at_pool : {P : Pool → Type 0} (s : State) (i : ℕ) → AtPool s i P → (pool : Pool) → at_place s.pools i ≡ Some pool → P pool
+at_pool : {P : Pool → Type 0} (s : State) (i : ℕ) → FindsPool s i P → (pool : Pool) → at_place s.pools i ≡ Some pool → P pool
 at_pool {P} s i found pool at = (let at2 = found.at in let e : found.pool ≡ pool = cc in subst P e found.meets)
 
-at_home : {P : Pool → Domain → Type 0} (s : State) (d : ℕ) (found : AtDomain s d P) (j : ℕ) (pool : Pool) → home_of_domain s d ≡ Some j → at_place s.pools j ≡ Some pool → P pool found.domain
+at_home : {P : Pool → Domain → Type 0} (s : State) (d : ℕ) (found : FindsDomain s d P) (j : ℕ) (pool : Pool) → home_of_domain s d ≡ Some j → at_place s.pools j ≡ Some pool → P pool found.domain
 at_home {P} s d found j pool home at =
     let home2 = found.is_home in
     let e : j ≡ found.home = cc in
@@ -151,7 +132,7 @@ at_most low high None within = tt
 at_most low high (Some n) within = within.most
 
 pub rate_fits : (us : ℕ) → (us == 0 || in_range 100 500000 us) ≡ true → us ≤ 500000
-rate_fits us is = elim (one_of (us == 0) (in_range 100 500000 us) is) [ inl none ↦ (let e : us ≡ 0 = grind (arith, none) in omega (arith, e)) | inr some ↦ (is_within 100 500000 us some).most ]
+rate_fits us is = elim (or_cases (us == 0) (in_range 100 500000 us) is) [ inl none ↦ (let e : us ≡ 0 = grind (arith, none) in omega (arith, e)) | inr some ↦ (is_within 100 500000 us some).most ]
 
 -- the parameters in range, in nanoseconds
 rtds_given : (period budget : Option ℕ) (p b : ℕ) → IsWithin 10 1000000000 (unwrap_or period p) → IsWithin 10 (unwrap_or period p) (unwrap_or budget b) → RtdsFits (microseconds period) (microseconds budget)
@@ -223,13 +204,13 @@ module _ (m : Machine) (s : State) (asked : Command) where
 
   -- the domain as it was found
   abbrev Found : ℕ → Pool → Domain → Type 1
-  Found d pool domain = (P : Pool → Domain → Type 0) → P pool domain → AtDomain s d P
+  Found d pool domain = (P : Pool → Domain → Type 0) → P pool domain → FindsDomain s d P
 
   on_domain : (which : Which) (next : ℕ → ℕ → Pool → Domain → Result Plan Refusal) → ((d i : ℕ) (pool : Pool) (domain : Domain) → Found d pool domain → F (next d i pool domain)) → F (with_domain m s which next)
   on_domain which next goes =
       by_domain F m s which next tt (λ d i pool domain named home at has. goes d i pool domain (λ P meets. record { home = i; pool = pool; domain = domain; is_home = home; at = at; has = has; meets = meets }))
 
-  there : (i : ℕ) (pool : Pool) → at_place s.pools i ≡ Some pool → HasPool s i
+  there : (i : ℕ) (pool : Pool) → at_place s.pools i ≡ Some pool → IsThere s i
   there i pool at = is_some_at (at_place s.pools i) pool at
 
   homeless : (cpu : ℕ) (o : Option ℕ) → option_map (λ home. refusal.CpuTaken cpu (pool_number home)) o ≡ None → o ≡ None

@@ -30,7 +30,7 @@ use Rattle.sched_model.specs.declared.work.CommandLine.{CommandLine}
 use Rattle.sched_model.specs.declared.work.StallLine.{StallLine}
 use Rattle.sched_model.specs.Machine.{is_enabled, after, after_at_home, after_stall, after_command, with_stall_end, verdict, settled_at}
 use Rattle.sched_laws.specs.StateLaws.{has_core_at, has_domain_at}
-use Rattle.sched_laws.specs.Each.{EachAt, EachPlace}
+use Rattle.sched_laws.specs.EachPlace.{EachAt, EachPlace}
 use Rattle.sched_laws.proofs.EachPlace.{EachAt-change_at, EachAt-put_at, EachAt-clear_at, by_option, by_cond}
 
 -- a core that has just joined

@@ -19,25 +19,26 @@ use Rattle.sched_model.specs.Pool as pools
 use Rattle.sched_model.specs.declared.action.Action.{Action}
 use Rattle.sched_model.specs.Pool.{enabled_in, after_in, change_domain, set_pending, unpause, set_params, without_domain, is_of_domain}
 use Rattle.sched_model.specs.declared.action.Action.TheVariants.{Moved, DomMoved, Wake, Block, Slice, Repl, Refill, Arrive, Decide, Leave, Save}
-use Rattle.sched_laws.specs.Each.{EachPlace}
+use Rattle.sched_laws.specs.EachPlace.{EachPlace}
 use Rattle.sched_laws.proofs.EachPlace.{EachPlace-put_at, EachPlace-clear_at, EachPlace-empty, read_change_each, read_change_at, by_option, by_cond}
 use Rattle.sched_laws.proofs.Lists.{AllByRecursion-map, AllByRecursion-filter, none_passes, at_numbered, some-test_at, test_at-change_at_other, test_at-clear_at}
 use Rattle.sched_laws.proofs.Counts.{total-change_each, total-put_at_empty, total-clear_at, total_none, times-filter_yes, times-filter_no}
 use Rattle.sched_laws.specs.Counts.{total, one}
 use Rattle.sched_laws.proofs.Awake.{part_past}
-use Rattle.sched_laws.specs.Known.{AreSound}
-use Rattle.sched_laws.specs.Known.{UnitsAreOwn, IsStaying}
+use Rattle.sched_laws.specs.PoolFacts.{AreSound}
+use Rattle.sched_laws.specs.PoolFacts.{UnitsAreOwn, IsStaying}
 use Rattle.sched_laws.proofs.Kept.{IsKept, IsFresh, passes_at}
 use Rattle.std.proofs.Math.Decide.{ℕ_discrete}
 use Rattle.std.proofs.lemmas.Nat.{le-div}
+use Rattle.std.proofs.lemmas.Bool.{eq-eqb, not-true}
 use Rattle.sched_laws.proofs.EachPlace.{read_put_at}
 use Rattle.sched_laws.proofs.Lists.{test_at-put_at_other, test_at-change_at_false, test_at-change_at_more, test_at-clear_at_false}
 use Rattle.sched_laws.proofs.OwnUnits.{units_are_own, moving_not_staying}
 use Rattle.sched_laws.proofs.Sound.{cores_are_sound, some_if_all, none_is}
 use Rattle.sched_laws.proofs.OnePlace.{off_is, on_is, both_of, one_settled, one_change_core, one_change_processor, one_scheduler, one_marked, one_queue_unit, one_less, one_after_wake, one_after_block, one_after_arrive, one_after_leave, one_after_save, one_after_replenish, one_after_decide}
-use Rattle.sched_laws.specs.Known.{core_places, CurRuns, OneBut, OnePlace}
-use Rattle.sched_laws.proofs.Bools.{and_left, and_right, not_true, or_left, or_more, is_same}
-use Rattle.sched_laws.specs.Known.{IsKnownPool}
+use Rattle.sched_laws.specs.PoolFacts.{core_places, CurRuns, OneBut, OnePlace}
+use Rattle.sched_base.proofs.Bools.{and_left, and_right, or_left, or_more}
+use Rattle.sched_laws.specs.PoolFacts.{IsKnownPool}
 
 -- the number is one of the list
 abbrev pub Member : ℕ → List ℕ → Type 0
@@ -115,7 +116,7 @@ module _ (g : ℕ) (some : 0 < g) where
             (λ r c here u. by_cond (λ (x : Resource). x.cur ≡ Some u → (runnable_among g (change_at d f pool.domains) u ≡ true) ⊎ (x.pending ≡ true)) (is_of_domain d c.cur) (set_pending c) c
             (λ is e. inr refl)
             (λ is e. elim (here u e) [
-              | inl runs ↦ inl (other u (λ same_d. (let of : is_of_domain d c.cur ≡ true = rw e (is_same u.dom.0 d same_d) in cc)) ∙ runs)
+              | inl runs ↦ inl (other u (λ same_d. (let of : is_of_domain d c.cur ≡ true = rw e (eq-eqb u.dom.0 d same_d) in cc)) ∙ runs)
               | inr pending ↦ inr pending
             ]));
       }
@@ -220,7 +221,7 @@ module _ (g : ℕ) (some : 0 < g) where
   one_without : (t d : ℕ) (pool : Pool) → enabled_in g t pool (DomMoved (domain_number d)) ≡ true → UnitsAreOwn pool → One0 pool → One0 (without_domain d pool)
   one_without t d pool on own one =
       let moving = and_left (test_at pool.domains d (λ x. is_some x.moving)) _ on in
-      let none = at_numbered (λ (c : Resource). (is_of_domain d c.cur || is_of_domain d c.saving) ≡ false) 0 pool.resources (none_passes _ _ (not_true _ (and_right (test_at pool.domains d (λ x. is_some x.moving)) _ on))) in
+      let none = at_numbered (λ (c : Resource). (is_of_domain d c.cur || is_of_domain d c.saving) ≡ false) 0 pool.resources (none_passes _ _ (not-true _ (and_right (test_at pool.domains d (λ x. is_some x.moving)) _ on))) in
       let same : (u : UnitId) → u.dom.0 ≢ d → runnable_among g (clear_at d pool.domains) u ≡ is_runnable g pool u = λ u e. test_at-clear_at d u.dom.0 (λ x. unit_runnable g x u.n) pool.domains e in
       record {
         most = one.most;
@@ -231,7 +232,7 @@ module _ (g : ℕ) (some : 0 < g) where
         waits = AllByRecursion-map (λ u. IsStaying pool.domains u × (is_runnable g pool u ≡ true)) (λ u. runnable_among g (clear_at d pool.domains) u ≡ true)
             (λ u both. same u (moving_not_staying d pool.domains u moving both.0) ∙ both.1) pool.scheduler.queue (both_of (IsStaying pool.domains) (λ u. is_runnable g pool u ≡ true) pool.scheduler.queue own.queue one.waits);
         cur = λ r c at u is. elim (one.cur r c at u is) [
-          | inl runs ↦ inl (same u (λ e. (let of : is_of_domain d c.cur ≡ true = rw is (is_same u.dom.0 d e) in let no_cur : is_of_domain d c.cur ≡ false = or_left (is_of_domain d c.cur) (is_of_domain d c.saving) (none r c at) in cc)) ∙ runs)
+          | inl runs ↦ inl (same u (λ e. (let of : is_of_domain d c.cur ≡ true = rw is (eq-eqb u.dom.0 d e) in let no_cur : is_of_domain d c.cur ≡ false = or_left (is_of_domain d c.cur) (is_of_domain d c.saving) (none r c at) in cc)) ∙ runs)
           | inr pending ↦ inr pending
         ];
       }

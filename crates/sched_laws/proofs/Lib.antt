@@ -32,6 +32,7 @@ pub mod Records
 pub mod HomeCores
 pub mod NullWalk
 pub mod NullLaw
-pub mod Bools
 pub mod Reached
 pub mod Granularity
+pub mod RtdsUnits
+pub mod Clock

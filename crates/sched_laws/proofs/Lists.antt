@@ -1,12 +1,20 @@
 -- What holds of each element of a list, and of what stands at a place.
-use Rattle.std.proofs.Common.{arith, length, ◌≡◌, ◌≢◌, ◌<◌, ℕ, zero, suc, Bool, true, false, List, [], ◌∷◌, ◌++◌, refl, subst, ap, cond, ◌⊎◌, inl, inr}
-use Rattle.std.specs.Prelude.{Option, Some, None, is_some, option_map, filter, ◌&&◌, ◌||◌, slice_get}
+use Rattle.std.proofs.Common.{arith, length, ◌≡◌, ◌≢◌, ◌<◌, ℕ, zero, suc, Bool, true, false, List, [], ◌∷◌, ◌++◌, refl, subst, ap, cond, ◌⊎◌, inl, inr, ◌≤◌}
+use Rattle.std.specs.Prelude.{Option, Some, None, is_some, option_map, filter, ◌&&◌, ◌||◌, slice_get, slice_index_or}
+use Rattle.std.proofs.lemmas.Option.{slice_get-get_or}
 use Rattle.std.specs.List.{list_any, AllByRecursion}
 use Rattle.std.specs.Option.{IfSome}
+use Rattle.std.proofs.lemmas.Bool.{and_from}
+use Rattle.std.proofs.lemmas.List.{length-map}
+use Rattle.std.proofs.lemmas.Bool.Decides.{nat_tests}
 use Rattle.sched_model.specs.Places.{at_place, put_at, clear_at, change_at, change_item, test_at, numbered_items}
-use Rattle.sched_laws.specs.Each.{EachPlace}
-use Rattle.sched_laws.proofs.EachPlace.{at_place-change_at_other, at_place-put_at_other, at_place-clear_at_other, at_place-clear_at}
-use Rattle.sched_laws.proofs.Bools.{both}
+use Rattle.sched_model.proofs.PlaceLemmas.{at_place-change_at_other}
+use Rattle.sched_laws.specs.EachPlace.{EachPlace}
+use Rattle.sched_laws.proofs.EachPlace.{at_place-put_at_other, at_place-clear_at_other, at_place-clear_at}
+use Rattle.sched_base.specs.declared.Cores.{Cores}
+use Rattle.sched_base.specs.declared.Moment.{Moment}
+use Rattle.sched_model.specs.State.{has_come}
+use Rattle.sched_model.specs.Policy.{pinned_cores}
 
 pub AllByRecursion-map : {X : Type 0} (P Q : X → Type 0) → ((x : X) → P x → Q x) → (xs : List X) → AllByRecursion P xs → AllByRecursion Q xs
 AllByRecursion-map P Q to [] each = tt
@@ -116,8 +124,8 @@ pub test_at-change_at_more : {X : Type 0} (i j : ℕ) (f : X → X) (test : X �
 test_at-change_at_more i j f test places more passes = test_at-change_at_keeps i j f test places (λ x e at. more x) passes
 
 pub and_more : (a b c : Bool) → (a && b) ≡ true → (b ≡ true → c ≡ true) → (a && c) ≡ true
-and_more true b c both to = to both
-and_more false b c both to = absurd (cc)
+and_more true b c and_from to = to and_from
+and_more false b c and_from to = absurd (cc)
 
 pub test_at-put_at_other : {X : Type 0} (i j : ℕ) (x : X) (test : X → Bool) (places : List (Option X)) → j ≢ i → test_at (put_at i x places) j test ≡ test_at places j test
 test_at-put_at_other i j x test places other = test_at-same places (put_at i x places) j test (at_place-put_at_other i j x places other)
@@ -167,3 +175,21 @@ slice_get-change_item_other zero zero f (x ∷ xs) other = absurd (other refl)
 slice_get-change_item_other zero (suc j) f (x ∷ xs) other = refl
 slice_get-change_item_other (suc i) zero f (x ∷ xs) other = refl
 slice_get-change_item_other (suc i) (suc j) f (x ∷ xs) other = slice_get-change_item_other i j f xs (λ e. other (ap suc e))
+
+-- inside a list it does not matter what is read behind it
+pub same_read : {X : Type 0} (xs : List X) (i : ℕ) (d e : X) → i < length xs → slice_index_or xs i d ≡ slice_index_or xs i e
+same_read xs i d e low = (let a = slice_get-get_or xs i d low in let b = slice_get-get_or xs i e low in cc)
+
+pub none_without : {X : Type 0} (o : Option X) → is_some o ≡ false → o ≡ None
+none_without None is = refl
+none_without (Some x) is = absurd (cc)
+
+-- pins keep how many sets of cores there are
+pub length-pinned_cores : (unit : Option ℕ) (cores : Cores) (sets : List Cores) → length (pinned_cores unit cores sets) ≡ length sets
+length-pinned_cores None cores sets = length-map sets (λ old. cores)
+length-pinned_cores (Some n) cores sets = length_change_item n (λ old. cores) sets
+
+-- a moment that has come is there, and is not after t
+pub has_come-le : (t : ℕ) (o : Option Moment) → has_come t o ≡ true → (at : Moment) × (o ≡ Some at) × (at.0 ≤ t)
+has_come-le t None come = absurd (cc)
+has_come-le t (Some at) come = (at, refl, grind (arith, nat_tests, come))

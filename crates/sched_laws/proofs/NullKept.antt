@@ -12,21 +12,21 @@ use Rattle.sched_model.specs.declared.state.Records.{Records}
 use Rattle.sched_model.specs.declared.state.Records.TheVariants.{Credit2Pool, RtdsPool, ArincPool, NullPool}
 use Rattle.sched_model.specs.Places.{at_place, put_at, clear_at, same_unit}
 use Rattle.sched_model.specs.declared.ask.Ask.{Ask}
-use Rattle.sched_model.specs.Eligible.{Decision, is_placed}
+use Rattle.sched_model.specs.EligibleUnits.{Decision, is_placed}
 use Rattle.sched_model.specs.Policy.{decision_by}
 use Rattle.sched_model.specs.NullScheduler as null
 use Rattle.sched_model.specs.Pool as pools
 use Rattle.sched_model.specs.Pool.{ask_of, decided_core, same_choice}
-use Rattle.sched_laws.specs.Each.{EachAt}
+use Rattle.sched_laws.specs.EachPlace.{EachAt}
 use Rattle.sched_laws.proofs.Records.{decided_is}
 use Rattle.sched_laws.proofs.EachPlace.{read_put_at, read_clear_at, by_test, by_cond}
 use Rattle.sched_laws.proofs.Lists.{AllByRecursion-map}
 use Rattle.sched_laws.proofs.Choices.{null_has}
-use Rattle.sched_laws.specs.Known.{IfUnit}
+use Rattle.sched_laws.specs.PoolFacts.{IfUnit}
 use Rattle.sched_laws.proofs.Counts.{total_at, total_two, same_unit_other}
 use Rattle.sched_laws.specs.Counts.{times, one_at}
 use Rattle.sched_laws.proofs.OnePlace.{one_same, same_choice_same, there_each}
-use Rattle.sched_laws.specs.Known.{OnePlace, core_places}
+use Rattle.sched_laws.specs.PoolFacts.{OnePlace, core_places}
 use Rattle.sched_laws.proofs.EachPlace.{at_place-put_at, at_place-put_at_other, at_place-clear_at_other, place_below, length_set}
 
 -- the units for which the cores are kept, where the pool is a null pool

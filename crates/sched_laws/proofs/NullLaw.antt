@@ -4,6 +4,7 @@ use Rattle.std.proofs.Common.{◌≡◌, ◌≤◌, ℕ, zero, suc, Bool, true, 
 use Rattle.std.specs.Prelude.{Option, Some, None, is_some, unwrap_or, filter, ◌&&◌, ◌+◌}
 use Rattle.std.specs.List.{list_any, list_all}
 use Rattle.std.proofs.Math.Decide.{dec_le}
+use Rattle.std.proofs.lemmas.Bool.{cases_Bool, or_cases, not-true}
 use Rattle.sched_base.specs.declared.UnitId.{UnitId}
 use Rattle.sched_model.specs.declared.event.Event.{Event}
 use Rattle.sched_model.specs.declared.event.Entry.{Entry}
@@ -19,14 +20,14 @@ use Rattle.sched_model.specs.Places.{at_place, clear_at, numbered_items, is_unit
 use Rattle.sched_model.specs.State.{is_runnable, is_up, has_core}
 use Rattle.sched_model.specs.Opening.{no_pool}
 use Rattle.sched_model.specs.declared.ask.Ask.{Ask}
-use Rattle.sched_model.specs.Eligible.{Decision, is_allowed, is_eligible, is_placed, has_place, is_taken, passes}
+use Rattle.sched_model.specs.EligibleUnits.{Decision, is_allowed, is_eligible, is_placed, has_place, is_taken, passes}
 use Rattle.sched_model.specs.Policy.{decision_of, decision_by}
 use Rattle.sched_model.specs.NullScheduler as null
 use Rattle.sched_model.specs.Pool.{home_cores, ask_of, decision_at}
 use Rattle.sched_model.specs.Actions.{home_of_core}
 use Rattle.sched_model.specs.Machine.{event_of, home_pool}
 use Rattle.sched_model.specs.Runs.{IsRun, IsNextEvent, action_of, run_start}
-use Rattle.sched_model.specs.Checked.{IsChecked}
+use Rattle.sched_model.specs.CheckedMachine.{IsChecked}
 use Rattle.sched_laws.specs.StateLaws.{state_after}
 use Rattle.sched_laws.specs.NullLaws.{Keeps, IsGiven, NoUnitHasTwoCores, chosen_by, DecidesIn, StayEndsWithCause, GivenUnitsGoNowhereElse, RunsUnlessHindered, GivenUnitsRun}
 use Rattle.sched_laws.proofs.Lists.{none_passes, some_is, is_some_at, test_at-some}
@@ -34,7 +35,7 @@ use Rattle.sched_laws.proofs.Choices.{is_unit_same}
 use Rattle.sched_laws.proofs.Counts.{total_some, times_has, same_unit_refl}
 use Rattle.sched_laws.specs.Counts.{times, one_at}
 use Rattle.sched_laws.proofs.OnePlace.{one_at_some}
-use Rattle.sched_laws.specs.Known.{core_places}
+use Rattle.sched_laws.specs.PoolFacts.{core_places}
 use Rattle.sched_laws.proofs.PoolsLaw.{IsKnown, known_in_runs}
 use Rattle.sched_laws.proofs.SiblingsLaw.{some_processor}
 use Rattle.sched_laws.proofs.StillWaits.{core_home, split_run}
@@ -43,7 +44,7 @@ use Rattle.sched_laws.proofs.Waiting.{quiet_event, saves_none, nobody_waits}
 use Rattle.sched_laws.proofs.HomeCores.{home_has}
 use Rattle.sched_laws.proofs.NullKept.{KeptFits, goes_on}
 use Rattle.sched_laws.proofs.NullWalk.{IsKeptPool, null_is_kept}
-use Rattle.sched_laws.proofs.Bools.{and_left, and_right, not_true, or_left, or_right, one_of, either, clash}
+use Rattle.sched_base.proofs.Bools.{and_left, and_right, or_left, or_right, clash}
 use Rattle.sched_laws.proofs.EachPlace.{by_option, by_cond}
 
 pub kept_in_runs : (m : Machine) → IsChecked m → (entries : List Entry) → IsRun m entries → IsKnown (IsKeptPool m.config.granularity) (state_after m entries)
@@ -108,11 +109,11 @@ cause m checked entries next run pool r c u on own =
     let s : State = state_after m entries in
     let known = kept_in_runs m checked entries (split_run m (run_start m) entries (next ∷ []) run).0 in
     let fits = fits_of g pool on.kept (known.pools on.i pool on.at) on.keeps in
-    elim (either c.leaving) [
+    elim (cases_Bool c.leaving) [
       | inl leaves ↦ inr (inl leaves)
-      | inr stays ↦ elim (either (is_runnable g pool u)) [
+      | inr stays ↦ elim (cases_Bool (is_runnable g pool u)) [
         | inr stops ↦ inr (inr (inl stops))
-        | inl runs ↦ elim (either (is_allowed pool.scheduler (home_cores pool) r u)) [
+        | inl runs ↦ elim (cases_Bool (is_allowed pool.scheduler (home_cores pool) r u)) [
           | inr barred ↦ inr (inr (inr barred))
           | inl allowed ↦ (
               let at_kept : at_place on.kept r ≡ Some u = fits.cur r c on.core_at u own in
@@ -156,9 +157,9 @@ module _ (ask : Ask) (scheduler : Scheduler) (kept : List (Option UnitId)) (keep
   earliest_may is =
       let eligible_u = earliest_passes (is_eligible scheduler ask.home.0 ask.core.0 ask.at.0) scheduler.queue u is in
       let passed : passes (NullPool kept) scheduler ask.home.0 ask.core.0 ask.at.0 u ≡ true = subst (λ (x : Records). passes x scheduler ask.home.0 ask.core.0 ask.at.0 u ≡ true) keeps (and_right (is_allowed scheduler ask.home.0 ask.core.0 u) _ eligible_u) in
-      elim (one_of (is_placed scheduler kept ask.home.0 ask.core.0 u) (not (has_place scheduler kept ask.home.0 u) && not (is_taken scheduler kept ask.home.0 ask.core.0)) passed) [
+      elim (or_cases (is_placed scheduler kept ask.home.0 ask.core.0 u) (not (has_place scheduler kept ask.home.0 u) && not (is_taken scheduler kept ask.home.0 ask.core.0)) passed) [
         | inl placed ↦ inl placed
-        | inr free ↦ inr (not_true (has_place scheduler kept ask.home.0 u) (and_left (not (has_place scheduler kept ask.home.0 u)) _ free))
+        | inr free ↦ inr (not-true (has_place scheduler kept ask.home.0 u) (and_left (not (has_place scheduler kept ask.home.0 u)) _ free))
       ]
 
   choice_may : null.choice ask scheduler kept ≡ Some u → MayCome scheduler kept ask.home.0 ask.core.0 u
@@ -207,7 +208,7 @@ module _ (m : Machine) (checked : IsChecked m) (before : List Entry) (last : Ent
   at_kept = given_at pool.scheduler given.kept (home_cores pool) r u given.placed
 
   none_eligible : list_any (is_eligible pool.scheduler (home_cores pool) r (state_after m before).now) pool.scheduler.queue ≡ false
-  none_eligible = (let calm = nobody_waits m checked before last run ends i pool at r c has in not_true _ (rw (none, stays, up) at calm))
+  none_eligible = (let calm = nobody_waits m checked before last run ends i pool at r c has in not-true _ (rw (none, stays, up) at calm))
 
   eligible : is_eligible pool.scheduler (home_cores pool) r (state_after m before).now u ≡ true
   eligible =

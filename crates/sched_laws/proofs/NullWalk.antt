@@ -3,6 +3,7 @@ use Rattle.std.proofs.Common.{◌≡◌, ◌<◌, ℕ, true, false, List, refl, 
 use Rattle.std.specs.Prelude.{Option, Some, None, is_some, length, replicate, ◌&&◌, ◌||◌, ◌==◌}
 use Rattle.std.specs.List.{list_all}
 use Rattle.std.proofs.lemmas.List.{length-replicate}
+use Rattle.std.proofs.lemmas.Bool.{not-true}
 use Rattle.sched_base.specs.Numbers.{moment, pool as pool_number, core, domain as domain_number}
 use Rattle.sched_base.specs.declared.Moment.{Moment}
 use Rattle.sched_base.specs.declared.UnitId.{UnitId}
@@ -26,17 +27,17 @@ use Rattle.sched_model.specs.Policy.{changed_records, joined_records, parted_rec
 use Rattle.sched_model.specs.NullScheduler as null
 use Rattle.sched_model.specs.Pool as pools
 use Rattle.sched_model.specs.Pool.{enabled_in, change_core, change_domain, set_params, without_domain, with_domain, is_of_domain, is_held, is_open, first_up}
-use Rattle.sched_laws.specs.Each.{EachPlace}
+use Rattle.sched_laws.specs.EachPlace.{EachPlace}
 use Rattle.sched_laws.proofs.EachPlace.{read_put_at, read_clear_at, EachPlace-empty}
 use Rattle.sched_laws.proofs.Lists.{none_passes, at_numbered}
 use Rattle.sched_laws.proofs.Kept.{IsKept, IsFresh, passes_at}
 use Rattle.sched_laws.proofs.Sound.{some_if_all}
 use Rattle.sched_laws.proofs.Events.{LikePlaces, like_change_at, capped, like_of_domain, like_map, like_was, KeepsCore, Enabled, KeptByCommands, KeptByParts, commands_of, kept_settled, kept_processor, kept_by_parts, kept_set_leaving, kept_withdrawn, kept_pause, kept_unpause, kept_marked, kept_queue_units}
 use Rattle.sched_laws.proofs.Known.{known_pools}
-use Rattle.sched_laws.specs.Known.{IsKnownPool}
+use Rattle.sched_laws.specs.PoolFacts.{IsKnownPool}
 use Rattle.sched_laws.proofs.Records as records_lemmas
 use Rattle.sched_laws.proofs.NullKept.{kept_of, KeptFits, NullFits, null_fits, fits_none, read_released, at_released, length_released, fits_after_decide}
-use Rattle.sched_laws.proofs.Bools.{and_left, and_right, not_true, or_left}
+use Rattle.sched_base.proofs.Bools.{and_left, and_right, or_left}
 use Rattle.sched_laws.proofs.EachPlace.{length_set}
 
 -- the core has the same cur, and saves the same unit or none
@@ -158,7 +159,7 @@ module _ (g : ℕ) where
   n_without_domain t d pool on fits = by_records pool.scheduler.records fits
     where
       none : EachPlace (λ (x : Resource). (is_of_domain d x.cur || is_of_domain d x.saving) ≡ false) pool.resources
-      none = at_numbered (λ (x : Resource). (is_of_domain d x.cur || is_of_domain d x.saving) ≡ false) 0 pool.resources (none_passes _ _ (not_true _ (and_right (test_at pool.domains d (λ x. is_some x.moving)) _ on)))
+      none = at_numbered (λ (x : Resource). (is_of_domain d x.cur || is_of_domain d x.saving) ≡ false) 0 pool.resources (none_passes _ _ (not-true _ (and_right (test_at pool.domains d (λ x. is_some x.moving)) _ on)))
 
       less : List (Option UnitId) → List (Option UnitId)
       less kept = null.kept_without (λ u. u.dom.0 == d) kept

@@ -2,6 +2,7 @@
 use Rattle.std.proofs.Common.{◌≡◌, ◌≢◌, ◌<◌, ◌≤◌, ℕ, suc, Bool, true, false, not, List, [], ◌∷◌, refl, arith, subst, sym, ◌∙◌, ap, cond, ◌⊎◌, inl, inr}
 use Rattle.std.specs.Prelude.{Option, Some, None, ◌&&◌, ◌||◌, ◌+◌, ◌*◌, ◌/◌, ◌%◌}
 use Rattle.std.specs.List.{list_any, AllByRecursion}
+use Rattle.std.proofs.lemmas.Bool.{not-true}
 use Rattle.sched_base.specs.Numbers.{moment}
 use Rattle.sched_base.specs.declared.Moment.{Moment}
 use Rattle.sched_base.specs.declared.UnitId.{UnitId}
@@ -19,7 +20,7 @@ use Rattle.sched_model.specs.declared.state.Pool.{Pool}
 use Rattle.sched_model.specs.declared.state.Scheduler.{Scheduler}
 use Rattle.sched_model.specs.declared.state.Records.{Records}
 use Rattle.sched_model.specs.State.{is_awake, is_runnable, runnable_among}
-use Rattle.sched_model.specs.Eligible.{Decision}
+use Rattle.sched_model.specs.EligibleUnits.{Decision}
 use Rattle.sched_model.specs.Policy as policy
 use Rattle.sched_model.specs.Policy.{decision_of, after_decision, rtds_record}
 use Rattle.sched_model.specs.Pool as pools
@@ -27,14 +28,14 @@ use Rattle.sched_model.specs.Pool.{settled_pool, home_cores, reconsidered_core, 
 use Rattle.sched_laws.proofs.EachPlace.{EachAt-change_to, EachPlace-change_at, EachPlace-put_at, EachPlace-change_each, by_option, by_test, by_cond}
 use Rattle.sched_laws.proofs.Lists.{AllByRecursion-map, AllByRecursion-push, AllByRecursion-filter, none_passes, at_numbered}
 use Rattle.sched_laws.proofs.Choices.{is_unit_same, same_unit_same, decision_has}
-use Rattle.sched_laws.specs.Known.{IfUnit}
+use Rattle.sched_laws.specs.PoolFacts.{IfUnit}
 use Rattle.sched_laws.proofs.Counts.{same_unit_refl, same_unit_other, total-change_at, total-change_at_same, total-change_each, total-put_at, total_at, total_two, total_none, times-push, times-filter_yes, times-filter_no, times_none, times_some}
 use Rattle.sched_laws.specs.Counts.{total, one, one_at, times}
 use Rattle.sched_laws.proofs.Awake.{runnable-same, runnable-other, runnable-more}
 use Rattle.sched_laws.proofs.Sound.{guest_of_is, change_at-twice}
-use Rattle.sched_laws.specs.Known.{AreSound}
-use Rattle.sched_laws.proofs.Bools.{and_left, and_right, not_true, not_false, or_left, or_right, or_more}
-use Rattle.sched_laws.specs.Known.{core_places, places, CurRuns, OneBut, OnePlace}
+use Rattle.sched_laws.specs.PoolFacts.{AreSound}
+use Rattle.sched_base.proofs.Bools.{and_left, and_right, not_false, or_left, or_right, or_more}
+use Rattle.sched_laws.specs.PoolFacts.{core_places, places, CurRuns, OneBut, OnePlace}
 
 -- the core keeps its units, and stays pending
 abbrev pub KeepsUnits : Resource → Resource → Type 0
@@ -99,8 +100,8 @@ on_some u n (Some c ∷ cores) some =
 
 pub off_is : (pool : Pool) (u : UnitId) → pools.is_off pool u ≡ true → places pool u ≡ 0
 off_is pool u off =
-    let a = times_none u pool.scheduler.queue (not_true _ (and_left (not (has_unit pool.scheduler.queue u)) _ off)) in
-    let b = off_each u 0 pool.resources (not_true _ (and_right (not (has_unit pool.scheduler.queue u)) _ off)) in
+    let a = times_none u pool.scheduler.queue (not-true _ (and_left (not (has_unit pool.scheduler.queue u)) _ off)) in
+    let b = off_each u 0 pool.resources (not-true _ (and_right (not (has_unit pool.scheduler.queue u)) _ off)) in
     omega (arith, a, b)
 
 pub on_is : (pool : Pool) (u : UnitId) → pools.is_off pool u ≡ false → 1 ≤ places pool u
@@ -349,6 +350,10 @@ same_choice_same None None is = refl
 same_choice_same None (Some w) is = absurd (cc)
 same_choice_same (Some u) None is = absurd (cc)
 same_choice_same (Some u) (Some w) is = ap (λ x. Some x) (same_unit_same u w is)
+
+-- the core has the unit that was decided for it
+pub decided_cur : (t : ℕ) (decision : Decision) (c : Resource) → (decided_core t decision c).cur ≡ decision.unit
+decided_cur t decision c = by_test (λ (d : Resource). d.cur ≡ decision.unit) (same_choice decision.unit c.cur) _ _ (λ is. sym (same_choice_same decision.unit c.cur is)) (λ is. refl)
 
 times_without : (u : UnitId) (units : List UnitId) → times u (without_unit u units) ≡ 0
 times_without u units = times-filter_no u (λ w. not (same_unit u w)) units (rw (same_unit_refl u) refl)

@@ -12,21 +12,21 @@ use Rattle.sched_model.specs.declared.state.Pool.{Pool}
 use Rattle.sched_model.specs.State.{is_runnable}
 use Rattle.sched_model.specs.Runs.{IsRun}
 use Rattle.sched_model.specs.Laws.{count, count_in}
-use Rattle.sched_model.specs.Checked.{IsChecked}
+use Rattle.sched_model.specs.CheckedMachine.{IsChecked}
 use Rattle.sched_laws.specs.StateLaws.{state_after, UnitsHaveOnePlace}
 use Rattle.sched_laws.proofs.Lists.{if_some, some-test_at, test_at-some, is_some_at}
-use Rattle.sched_laws.specs.Known.{IfUnit}
+use Rattle.sched_laws.specs.PoolFacts.{IfUnit}
 use Rattle.sched_laws.specs.StateLaws.{has_domain_at}
 use Rattle.sched_laws.proofs.PoolsLaw.{IsKnown, known_in_runs}
 use Rattle.sched_laws.proofs.SiblingsLaw.{some_processor}
 use Rattle.sched_laws.proofs.OwnUnits.{there_if_staying}
-use Rattle.sched_laws.specs.Known.{UnitsAreOwn, IsThere, IsStaying}
+use Rattle.sched_laws.specs.PoolFacts.{UnitsAreOwn, IsThere, IsStaying}
 use Rattle.sched_laws.proofs.Counts.{total_is, total_at, total_some, total_one, times_is, times_has, some_numbered}
 use Rattle.sched_laws.specs.Counts.{total, times, one_at}
 use Rattle.sched_laws.proofs.OnePlace.{one_at_some}
-use Rattle.sched_laws.specs.Known.{core_places, places}
+use Rattle.sched_laws.specs.PoolFacts.{core_places, places}
 use Rattle.sched_laws.proofs.Known.{known_pools}
-use Rattle.sched_laws.specs.Known.{IsKnownPool}
+use Rattle.sched_laws.specs.PoolFacts.{IsKnownPool}
 
 -- the definition's count, as the proofs have it
 count_in_is : (pool : Pool) (u : UnitId) → count_in pool u ≡ places pool u

@@ -1,12 +1,13 @@
 -- What the opening has.
 use Rattle.std.proofs.lemmas.List.Elements.{recursion_from_All}
-use Rattle.std.proofs.Common.{◌≡◌, ◌≤◌, ℕ, zero, suc, true, false, List, [], ◌∷◌, ◌++◌, refl, arith, subst, sym, ◌∙◌, ap, cond, ◌⊎◌, inl, inr, length}
-use Rattle.std.specs.Prelude.{Option, Some, None, is_some, replicate, map, slice_get, ◌==◌, ◌-◌, ◌+◌, ◌&&◌}
+use Rattle.std.proofs.Common.{◌≡◌, ◌≤◌, ℕ, zero, suc, true, false, List, [], ◌∷◌, ◌++◌, refl, arith, subst, sym, ◌∙◌, ap, cond, ◌⊎◌, inl, inr, length, length-append}
+use Rattle.std.specs.Prelude.{Option, Some, None, is_some, replicate, map, slice_get, ◌==◌, ◌-◌, ◌+◌, ◌&&◌, ◌/◌}
 use Rattle.sched_base.specs.Numbers.{moment, domain as domain_number}
 use Rattle.sched_base.specs.declared.Cores.{Cores}
 use Rattle.sched_base.specs.declared.UnitId.{UnitId}
+use Rattle.sched_base.proofs.Lists.{each_get}
 use Rattle.std.proofs.lemmas.Option.{cond_some}
-use Rattle.std.specs.List.{list_any, AllByRecursion}
+use Rattle.std.specs.List.{list_any}
 use Rattle.sched_model.specs.declared.config.Config.{Config}
 use Rattle.sched_model.specs.declared.config.PoolConfig.{PoolConfig}
 use Rattle.sched_model.specs.declared.config.DomConfig.{DomConfig}
@@ -22,12 +23,13 @@ use Rattle.sched_model.specs.State.{has_core, is_runnable}
 use Rattle.sched_model.specs.Pool as pools
 use Rattle.sched_model.specs.Pool.{with_domain, set_params, queue_units, queue_if_off}
 use Rattle.sched_model.specs.Opening.{opening, opening_free, opening_pool, opening_pools, with_domains, with_configured, with_pins, fresh_core, fresh_vcpu, core_count, most_pools}
-use Rattle.sched_laws.specs.Each.{EachPlace}
+use Rattle.sched_laws.specs.EachPlace.{EachPlace}
 use Rattle.sched_laws.proofs.EachPlace.{read_put_at, is_empty, by_cond, EachPlace-empty}
-use Rattle.sched_model.specs.Checked.{IsChecked, IsCheckedDomain, DomParamsPass}
+use Rattle.sched_model.specs.CheckedMachine.{IsChecked, IsCheckedDomain, DomParamsPass}
 use Rattle.sched_laws.proofs.Lists.{none_passes, some-test_at, some_is}
 use Rattle.sched_laws.proofs.Kept.{IsKept, IsApart}
 use Rattle.sched_laws.specs.StateLaws.{has_core_at, has_domain_at}
+use Rattle.sched_model.specs.Actions.{units_from}
 
 -- what the queue gains changes neither domains nor cores
 pub queue_if_off-domains : (g : ℕ) (u : UnitId) (pool : Pool) → (queue_if_off g u pool).domains ≡ pool.domains
@@ -58,7 +60,7 @@ pins_keep I keeps d n (cores ∷ pins) pool here = pins_keep I keeps d (suc n) p
 pub with_pins-domains : (d n : ℕ) (pins : List Cores) (pool : Pool) → (with_pins d n pins pool).domains ≡ pool.domains
 with_pins-domains d n pins pool = pins_keep (λ p. p.domains ≡ pool.domains) (λ e k cores p same. same) d n pins pool refl
 
-with_pins-resources : (d n : ℕ) (pins : List Cores) (pool : Pool) → (with_pins d n pins pool).resources ≡ pool.resources
+pub with_pins-resources : (d n : ℕ) (pins : List Cores) (pool : Pool) → (with_pins d n pins pool).resources ≡ pool.resources
 with_pins-resources d n pins pool = pins_keep (λ p. p.resources ≡ pool.resources) (λ e k cores p same. same) d n pins pool refl
 
 -- the domain of the file
@@ -175,12 +177,6 @@ module _ (m : Machine) (I : Pool → Type 0) (kept : IsKept m.config.granularity
       let r = read_pools m.config 0 (most_pools - length m.config.pools) m.config.pools i x at in
       subst I (sym r.2) (kept_opening_pool (0 + i) r.0)
 
--- what each has, read at a place
-pub each_get : {X : Type 0} (P : X → Type 0) (xs : List X) (i : ℕ) (x : X) → AllByRecursion P xs → slice_get xs i ≡ Some x → P x
-each_get P [] i x each at = absurd (cc)
-each_get P (y ∷ xs) zero x each at = let e : y ≡ x = cc in subst P e each.0
-each_get P (y ∷ xs) (suc i) x each at = each_get P xs i x each.1 at
-
 -- what the pins keep, and each checked domain that joins, the domains of the file do
 pub opened_keeps : (m : Machine) → IsChecked m → (i : ℕ) (p : PoolConfig) → slice_get m.config.pools i ≡ Some p → (I : Pool → Type 0)
     → ((d : ℕ) (joining : DomConfig) (pool : Pool) → slice_get m.config.domains d ≡ Some joining → IsCheckedDomain m.config joining → DomParamsPass p.kind joining.params → I pool → I (with_domain m.config.granularity 0 d (joining_domain joining) joining.params pool))
@@ -228,3 +224,10 @@ apart_opening m checked = record {
     free_none config r c at =
         by_cond (λ (o : Option FreeCore). o ≡ Some c → list_any (λ (pool : PoolConfig). has_core pool.cores r) config.pools ≡ false) (list_any (λ (pool : PoolConfig). has_core pool.cores r) config.pools) None _
         (λ is e. absurd (cc)) (λ is e. is) at
+
+-- how many units the domain of the file has, and those after it
+pub units_from-more : (g d : ℕ) (c : DomConfig) (configs : List DomConfig) → length (units_from g d (c ∷ configs)) ≡ (length c.guests + g - 1) / g + length (units_from g (suc d) configs)
+units_from-more g d c configs =
+    let unit : ℕ → UnitId = λ n. record { dom = domain_number d; n = n } in
+    length-append (map unit (numbers_from 0 ((length c.guests + g - 1) / g))) (units_from g (suc d) configs)
+    ∙ ap (λ k. k + length (units_from g (suc d) configs)) (length_map_numbers unit 0 ((length c.guests + g - 1) / g))

@@ -2,6 +2,7 @@
 use Rattle.std.proofs.Common.{◌≡◌, ◌≢◌, ℕ, true, false, not, List, refl, arith, subst, sym, ◌∙◌, ap}
 use Rattle.std.specs.List.{AllByRecursion}
 use Rattle.std.specs.Prelude.{Option, Some, None, is_some, is_none, replicate, ◌||◌, ◌==◌}
+use Rattle.std.proofs.lemmas.Bool.{not-true}
 use Rattle.sched_base.specs.Numbers.{pool as pool_number, domain as domain_number}
 use Rattle.sched_base.specs.declared.UnitId.{UnitId}
 use Rattle.sched_model.specs.declared.config.DomParams.{DomParams}
@@ -12,21 +13,21 @@ use Rattle.sched_model.specs.declared.state.Pool.{Pool}
 use Rattle.sched_model.specs.declared.state.Records.{Records}
 use Rattle.sched_model.specs.State.{is_runnable, unit_runnable}
 use Rattle.sched_model.specs.Opening.{fresh_core, core_count}
-use Rattle.sched_model.specs.Eligible.{Decision}
+use Rattle.sched_model.specs.EligibleUnits.{Decision}
 use Rattle.sched_model.specs.Policy as policy
 use Rattle.sched_model.specs.Policy.{decision_of, dequeue_domain}
 use Rattle.sched_model.specs.Pool as pools
 use Rattle.sched_model.specs.Pool.{enabled_in, change_core, change_domain, change_cores_of, queue_unit, decided_core, same_choice, ask_of, set_moving, without_domain, with_domain, with_records, is_of_domain}
 use Rattle.sched_model.specs.declared.action.Action.TheVariants.{DomMoved}
-use Rattle.sched_laws.specs.Each.{EachPlace}
+use Rattle.sched_laws.specs.EachPlace.{EachPlace}
 use Rattle.sched_laws.proofs.EachPlace.{EachPlace-change_at, EachPlace-put_at, EachPlace-clear_at, EachPlace-empty, by_test}
 use Rattle.sched_laws.proofs.Lists.{AllByRecursion-map, AllByRecursion-push, AllByRecursion-filter, none_passes, at_numbered, test_at-some, some-test_at, test_at-change_at, test_at-change_at_other, test_at-put_at, test_at-clear_at}
 use Rattle.sched_laws.proofs.Choices.{decision_has}
-use Rattle.sched_laws.specs.Known.{IfUnit}
+use Rattle.sched_laws.specs.PoolFacts.{IfUnit}
 use Rattle.sched_laws.proofs.Kept.{IsKept, IsFresh}
 use Rattle.sched_laws.proofs.Events.{LikePlaces, EachAt-like, capped, like_of_domain, KeepsCore, Anyway, KeptByCommands, KeptByParts, commands_of, kept_settled, kept_processor, kept_by_parts, kept_set_leaving, kept_cores_pending, kept_pause, kept_unpause, kept_marked, kept_queue_units}
-use Rattle.sched_laws.proofs.Bools.{and_left, and_right, not_true, or_left, or_right}
-use Rattle.sched_laws.specs.Known.{IsThere, IsStaying, CoreIsOwn, UnitsAreOwn}
+use Rattle.sched_base.proofs.Bools.{and_left, and_right, or_left, or_right}
+use Rattle.sched_laws.specs.PoolFacts.{IsThere, IsStaying, CoreIsOwn, UnitsAreOwn}
 
 pub there_if_staying : (domains : List (Option Domain)) (u : UnitId) → IsStaying domains u → IsThere domains u
 there_if_staying domains u staying = let r = some-test_at domains u.dom.0 (λ d. is_none d.moving) staying in test_at-some domains u.dom.0 (λ d. true) r.0 r.1 refl
@@ -149,7 +150,7 @@ moving_not_staying d domains u moving staying e =
 own_without_domain : (g t d : ℕ) (pool : Pool) → enabled_in g t pool (DomMoved (domain_number d)) ≡ true → UnitsAreOwn pool → UnitsAreOwn (without_domain d pool)
 own_without_domain g t d pool on own =
     let moving = and_left (test_at pool.domains d (λ x. is_some x.moving)) _ on in
-    let none = at_numbered (λ (c : Resource). (is_of_domain d c.cur || is_of_domain d c.saving) ≡ false) 0 pool.resources (none_passes _ _ (not_true _ (and_right (test_at pool.domains d (λ x. is_some x.moving)) _ on))) in
+    let none = at_numbered (λ (c : Resource). (is_of_domain d c.cur || is_of_domain d c.saving) ≡ false) 0 pool.resources (none_passes _ _ (not-true _ (and_right (test_at pool.domains d (λ x. is_some x.moving)) _ on))) in
     record {
       queue = AllByRecursion-map (IsStaying pool.domains) (IsStaying (clear_at d pool.domains))
           (λ u staying. test_at-clear_at d u.dom.0 (λ x. is_none x.moving) pool.domains (moving_not_staying d pool.domains u moving staying) ∙ staying) pool.scheduler.queue own.queue;

@@ -11,8 +11,8 @@ use Rattle.sched_model.specs.declared.state.Pool.{Pool}
 use Rattle.sched_model.specs.declared.state.FreeCore.{FreeCore}
 use Rattle.sched_model.specs.Actions.{home_of_core, home_of_domain}
 use Rattle.sched_model.specs.Runs.{IsRun}
-use Rattle.sched_laws.specs.Each.{EachPlace}
-use Rattle.sched_model.specs.Checked.{IsChecked}
+use Rattle.sched_laws.specs.EachPlace.{EachPlace}
+use Rattle.sched_model.specs.CheckedMachine.{IsChecked}
 use Rattle.sched_laws.specs.StateLaws.{state_after, IsOfPool, PoolsKeepTheirOwn}
 use Rattle.sched_laws.proofs.EachPlace.{found_at, none_found, is_empty}
 use Rattle.sched_laws.proofs.Lists.{AllByRecursion-map, some-test_at, test_at-some, is_some_at}
@@ -23,7 +23,7 @@ use Rattle.sched_laws.specs.StateLaws.{has_domain_at}
 use Rattle.sched_laws.proofs.ApartKept.{apart_after}
 use Rattle.sched_laws.proofs.Opened.{kept_opening, apart_opening}
 use Rattle.sched_laws.proofs.OwnUnits.{there_if_staying, units_are_own, if_unit}
-use Rattle.sched_laws.specs.Known.{UnitsAreOwn, IsThere, IsStaying}
+use Rattle.sched_laws.specs.PoolFacts.{UnitsAreOwn, IsThere, IsStaying}
 
 -- a pool that has the domain is its home
 pub home_is : (s : State) (i d : ℕ) → IsApart s → has_domain_at s i d ≡ true → home_of_domain s d ≡ Some i

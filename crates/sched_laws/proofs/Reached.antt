@@ -14,14 +14,14 @@ use Rattle.sched_model.specs.State.{is_runnable}
 use Rattle.sched_model.specs.Opening.{core_count}
 use Rattle.sched_model.specs.Actions.{home_of_core, home_of_domain}
 use Rattle.sched_model.specs.Runs.{IsRun}
-use Rattle.sched_model.specs.Checked.{IsChecked}
+use Rattle.sched_model.specs.CheckedMachine.{IsChecked}
 use Rattle.sched_laws.specs.StateLaws.{state_after, has_core_at, has_domain_at}
 use Rattle.sched_laws.proofs.Counts.{times_is, same_unit_refl}
 use Rattle.sched_laws.specs.Counts.{times}
 use Rattle.sched_laws.proofs.Kept.{IsApart}
-use Rattle.sched_laws.specs.Known.{UnitsAreOwn}
-use Rattle.sched_laws.specs.Known.{OnePlace}
-use Rattle.sched_laws.specs.Known.{CoreIsSound}
+use Rattle.sched_laws.specs.PoolFacts.{UnitsAreOwn}
+use Rattle.sched_laws.specs.PoolFacts.{OnePlace}
+use Rattle.sched_laws.specs.PoolFacts.{CoreIsSound}
 use Rattle.sched_laws.proofs.PoolsLaw.{home_is}
 use Rattle.sched_laws.proofs.StillWaits.{core_home}
 use Rattle.sched_laws.proofs.Due.{FrameFits}

@@ -21,16 +21,16 @@ use Rattle.sched_model.specs.Pool.{home_cores}
 use Rattle.sched_model.specs.Commands.{set_rtds_unit}
 use Rattle.sched_model.specs.Machine.{is_enabled, first_enabled, moments, next_moment, next_in_horizon, after}
 use Rattle.sched_model.specs.Runs.{Reached, action_of, end_of, after_quiet, after_event, IsNextEvent, IsRunFrom, IsRun, run_start, after_entry, after_entries}
-use Rattle.sched_model.specs.Checked.{IsChecked}
+use Rattle.sched_model.specs.CheckedMachine.{IsChecked}
 use Rattle.std.proofs.lemmas.List.{length-map}
-use Rattle.sched_laws.specs.Each.{EachPlace}
+use Rattle.sched_laws.specs.EachPlace.{EachPlace}
 use Rattle.sched_laws.proofs.EachPlace.{EachPlace-empty, by_option, by_cond}
 use Rattle.std.proofs.Math.Decide.{dec_le}
 use Rattle.sched_laws.proofs.Kept.{IsApart}
 use Rattle.sched_laws.proofs.ApartKept.{apart_after}
 use Rattle.sched_laws.proofs.OwnUnits.{units_are_own}
-use Rattle.sched_laws.specs.Known.{UnitsAreOwn}
-use Rattle.sched_laws.proofs.Opened.{length_map_numbers, joining_domain, each_get, kept_opening, apart_opening, with_domains-resources, read_map, read_pools, pins_keep, domains_keep}
+use Rattle.sched_laws.specs.PoolFacts.{UnitsAreOwn}
+use Rattle.sched_laws.proofs.Opened.{length_map_numbers, joining_domain, kept_opening, apart_opening, with_domains-resources, read_map, read_pools, pins_keep, domains_keep}
 use Rattle.std.proofs.lemmas.List.Elements.{recursion_from_All}
 use Rattle.sched_base.specs.declared.UnitId.{UnitId}
 use Rattle.sched_base.specs.declared.Cores.{Cores}
@@ -43,7 +43,7 @@ use Rattle.sched_model.specs.declared.config.PoolParams.TheVariants as pool_para
 use Rattle.sched_model.specs.declared.config.ParamChange.TheVariants as changes
 use Rattle.sched_model.specs.declared.state.ArincRecords.{ArincRecords}
 use Rattle.sched_model.specs.declared.state.Domain.{Domain}
-use Rattle.sched_model.specs.Checked.{IsCheckedPool, PoolParamsPass}
+use Rattle.sched_model.specs.CheckedMachine.{IsCheckedPool, PoolParamsPass}
 use Rattle.sched_model.specs.Policy.{default_pool_params, fresh_records, join, rtds_record, default_dom_params}
 use Rattle.sched_model.specs.Pool.{change_domain, queue_units, queue_if_off, queue_unit, with_domain, is_off, unit_count}
 use Rattle.sched_laws.proofs.Window.{FitsMajor}
@@ -51,10 +51,11 @@ use Rattle.sched_laws.proofs.Due.{FrameFits, SameWindows, arinc_of, same_changed
 use Rattle.sched_laws.proofs.Calm.{IsCalm, calm_settled, calm_change_processor, calm_later, calm_without_domain}
 use Rattle.sched_laws.proofs.Events.{kept_settled, kept_processor, kept_by_parts, kept_set_leaving, kept_withdrawn, kept_pause, kept_unpause}
 use Rattle.sched_laws.proofs.Steps.{IsKeptAt, FreeFits, step_after}
-use Rattle.sched_laws.proofs.Bools.{and_left}
+use Rattle.sched_base.proofs.Bools.{and_left}
 use Rattle.sched_laws.proofs.Lists.{length_change_item}
 use Rattle.sched_laws.proofs.Free.{free_after}
 use Rattle.sched_base.specs.declared.Span.{Span}
+use Rattle.sched_base.proofs.Lists.{each_get}
 
 -- a pool without a frame, as each new one is
 default_frame : (kind : SchedKind) (domains cores : ℕ) → FrameFits (fresh_records (default_pool_params kind) domains cores)

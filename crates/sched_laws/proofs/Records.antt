@@ -14,12 +14,14 @@ use Rattle.sched_model.specs.declared.ask.Ask.{Ask}
 use Rattle.sched_model.specs.declared.state.Scheduler.{Scheduler}
 use Rattle.sched_model.specs.Arinc.{Window, present_window}
 use Rattle.sched_model.specs.Credit2 as credit2
-use Rattle.sched_model.specs.Eligible.{Decision}
+use Rattle.sched_model.specs.EligibleUnits.{Decision}
 use Rattle.sched_model.specs.NullScheduler as null
 use Rattle.sched_model.specs.Policy as policy
-use Rattle.sched_model.specs.Policy.{changed_records, arinc_decision, decision_by, joined_records}
+use Rattle.sched_model.specs.Policy.{changed_records, arinc_decision, decision_by, joined_records, default_pool_params, fresh_records, kind_of}
 use Rattle.sched_model.specs.Rtds as rtds
 use Rattle.sched_laws.proofs.EachPlace.{by_cond}
+use Rattle.sched_model.specs.declared.config.SchedKind.{SchedKind}
+use Rattle.sched_model.specs.declared.config.SchedKind.TheVariants as kinds
 
 -- what a scheduler's decision makes of its records: they are its own kind's, and those of ARINC 653 are the same
 abbrev pub Decided : Records → Records → Type 0
@@ -85,3 +87,8 @@ module _ {X : Type 0} (f : Records → X) (of_credit2 : (a b : Credit2Records) �
   same_changed (RtdsPool domains) (changes.«Unit» u period budget extra) t none = of_rtds _ domains
   same_changed records (changes.Frame frame) t none = absurd none
   same_changed records change t none = refl
+
+-- fresh records are of the scheduler whose parameters they get
+pub kind_default : (kind : SchedKind) (domains cores : ℕ) → kind_of (fresh_records (default_pool_params kind) domains cores) ≡ kind
+kind_default kinds.Credit2 domains cores = refl
+kind_default a domains cores = refl

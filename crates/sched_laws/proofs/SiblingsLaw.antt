@@ -3,11 +3,11 @@ use Rattle.std.proofs.Common.{◌<◌, ℕ, List, arith}
 use Rattle.sched_model.specs.declared.event.Entry.{Entry}
 use Rattle.sched_model.specs.declared.machine.Machine.{Machine}
 use Rattle.sched_model.specs.Runs.{IsRun}
-use Rattle.sched_model.specs.Checked.{IsChecked, IsGranularity}
+use Rattle.sched_model.specs.CheckedMachine.{IsChecked, IsGranularity}
 use Rattle.sched_laws.specs.StateLaws.{state_after, SiblingsRunOneUnit}
 use Rattle.sched_laws.proofs.PoolsLaw.{known_in_runs}
 use Rattle.sched_laws.proofs.Sound.{cores_are_sound}
-use Rattle.sched_laws.specs.Known.{AreSound}
+use Rattle.sched_laws.specs.PoolFacts.{AreSound}
 
 pub some_processor : (g : ℕ) → IsGranularity g → 0 < g
 some_processor g is = grind arith

@@ -10,26 +10,27 @@ use Rattle.sched_model.specs.declared.state.Doing.{Doing}
 use Rattle.sched_model.specs.declared.state.Doing.TheVariants.{Guest, Idle, Held}
 use Rattle.sched_model.specs.declared.state.Stage.TheVariants.{Open, Decided}
 use Rattle.std.proofs.lemmas.Nat.{div-mul-add, mod-mul-add}
+use Rattle.std.proofs.lemmas.Bool.{not-true}
 use Rattle.sched_model.specs.declared.state.Processor.{Processor}
 use Rattle.sched_model.specs.declared.state.Resource.{Resource}
 use Rattle.sched_model.specs.Places.{at_place, put_at, change_at, change_item, test_at, numbers_from, is_unit}
 use Rattle.sched_model.specs.declared.state.Pool.{Pool}
 use Rattle.sched_model.specs.State.{is_awake, is_up, is_runnable}
 use Rattle.sched_model.specs.Opening.{fresh_core, core_count}
-use Rattle.sched_model.specs.Eligible.{Decision}
+use Rattle.sched_model.specs.EligibleUnits.{Decision}
 use Rattle.sched_model.specs.Policy as policy
 use Rattle.sched_model.specs.Policy.{decision_of}
 use Rattle.sched_model.specs.Pool as pools
 use Rattle.sched_model.specs.Pool.{enabled_in, change_core, change_processor, change_vcpu, change_domain, change_cores_of, with_doing, started_on, decided_core as decided, same_choice, ask_of, set_params}
 use Rattle.sched_model.specs.declared.action.Action.TheVariants.{Arrive}
-use Rattle.sched_laws.specs.Each.{EachPlace}
+use Rattle.sched_laws.specs.EachPlace.{EachPlace}
 use Rattle.sched_laws.proofs.EachPlace.{EachPlace-change_at, EachPlace-put_at, EachPlace-clear_at, EachPlace-empty, found_at, by_option, by_test, by_cond}
 use Rattle.sched_laws.proofs.Choices.{is_unit_same}
 pub use Rattle.sched_laws.proofs.Lists.{read_change_item}
 use Rattle.sched_laws.proofs.Kept.{IsKept, IsFresh, passes_at}
-use Rattle.sched_laws.proofs.Bools.{and_left, and_right, not_true, clash}
+use Rattle.sched_base.proofs.Bools.{and_left, and_right, clash}
 use Rattle.sched_laws.proofs.Events.{EachAt-like, capped, like_of_domain, IsMarked, Enabled, KeptByCommands, KeptBySteps, kept_settled, kept_by_event, kept_set_leaving, kept_withdrawn, kept_pause, kept_unpause, kept_marked, kept_queue_units, kept_pending}
-use Rattle.sched_laws.specs.Known.{CoreIsSound, AreSound}
+use Rattle.sched_laws.specs.PoolFacts.{CoreIsSound, AreSound}
 
 -- a change that the test does not see
 pub list_any-change_item : {X : Type 0} (i : ℕ) (f : X → X) (test : X → Bool) (xs : List X) → ((x : X) → slice_get xs i ≡ Some x → test (f x) ≡ test x) → list_any test (change_item i f xs) ≡ list_any test xs
@@ -258,7 +259,7 @@ module _ (g : ℕ) (some : 0 < g) where
     blocks = λ p v pool guest on. sound_blocks t p v pool guest;
     arrives = sound_after_arrive t;
     decides = λ r c pool at on. sound_after_decide t r c pool at (passes_at pool.resources r (λ (x : Resource). list_all pools.is_held x.processors && pools.is_open x && pools.first_up t x) c at on);
-    leaves = λ p c pool at on. sound_after_leave t p c pool at (not_true (pools.is_open c) (passes_at pool.resources (p / g) (λ (x : Resource). not (pools.is_open x)) c at (and_left (test_at pool.resources (p / g) (λ (x : Resource). not (pools.is_open x))) _ on)));
+    leaves = λ p c pool at on. sound_after_leave t p c pool at (not-true (pools.is_open c) (passes_at pool.resources (p / g) (λ (x : Resource). not (pools.is_open x)) c at (and_left (test_at pool.resources (p / g) (λ (x : Resource). not (pools.is_open x))) _ on)));
     saves = λ r c u pool at is on. sound_change_core r pools.saved_core pool (λ x there core. sound_same x _ refl refl refl (λ e. refl) (λ e. e) core);
     replenishes = λ u pool on sound. sound;
     dues = λ r u x old pool on is. sound_change_core r (pools.due_within t x.budget) pool (λ c there core. sound_same c _ refl refl refl (λ e. e) (λ e. e) core);

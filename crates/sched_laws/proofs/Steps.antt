@@ -21,12 +21,12 @@ use Rattle.sched_model.specs.declared.state.FreeCore.{FreeCore}
 use Rattle.sched_model.specs.Opening.{fresh_core, empty_pool}
 use Rattle.sched_model.specs.Policy.{rtds_record, default_pool_params, default_dom_params}
 use Rattle.sched_model.specs.declared.action.Action.{Action}
-use Rattle.sched_model.specs.Pool.{enabled_in, after_in, settled_pool as settled, change_processor, set_leaving, set_moving, pause, unpause, set_params, without_domain, with_domain}
+use Rattle.sched_model.specs.Pool.{enabled_in, after_in, settled_pool, change_processor, set_leaving, set_moving, pause, unpause, set_params, without_domain, with_domain}
 use Rattle.sched_model.specs.declared.action.Action.TheVariants.{Stall, Xl, Moved, DomMoved}
 use Rattle.sched_model.specs.Actions.{home_of, home_of_core, home_of_domain, change_pool}
 use Rattle.sched_model.specs.Commands.{carried_out, set_rtds, set_rtds_unit, pool_of_plan, rtds_units}
 use Rattle.sched_model.specs.Machine.{is_enabled, after, after_stall, after_command, after_moved, verdict, settled_at, with_core_in, without_core_in, left_by, joined_by, is_null, stall_end_of}
-use Rattle.sched_laws.specs.Each.{EachAt, EachPlace}
+use Rattle.sched_laws.specs.EachPlace.{EachAt, EachPlace}
 use Rattle.sched_laws.proofs.EachPlace.{EachAt-change_at, EachAt-change_to, EachAt-put_at, EachAt-clear_at, read_change_at, at_place-clear_at, is_empty, by_option, by_cond}
 use Rattle.sched_laws.proofs.Lists.{test_at-some, is_some_at, get_later}
 use Rattle.sched_laws.proofs.Kept.{IsApart, IsKept, passes_at}
@@ -43,7 +43,7 @@ use Rattle.sched_model.specs.declared.state.Resource.{Resource}
 pub record IsKeptTo (m : Machine) (t : ℕ) (End : ℕ → Type 0) (Ends : List Moment → Type 0) (Comes : ℕ → Domain → Type 0) (Acts : Action → Type 0) (B I H : Pool → Type 0) : Type 0 where
   pub stays : (pool : Pool) → B pool → I pool
   pub weakens : (pool : Pool) → I pool → H pool
-  pub settles : (pool : Pool) → H pool → I (settled t pool)
+  pub settles : (pool : Pool) → H pool → I (settled_pool t pool)
   pub stalls : (p end : ℕ) (pool : Pool) → End end → B pool → I (change_processor m.config.granularity p (λ q. record q { stall_end = moment end }) pool)
   pub acts : (pool : Pool) (action : Action) → Acts action → enabled_in m.config.granularity t pool action ≡ true → B pool → H (after_in m.config.granularity t pool action)
   pub leaves : (r : ℕ) (pool : Pool) → H pool → H (set_leaving r pool)
@@ -90,10 +90,10 @@ module _ {m : Machine} {t : ℕ} {End : ℕ → Type 0} {Ends : List Moment → 
   step_change i f s keeps each = EachAt-change_to (λ j. B) (λ j. I) i f s.pools each (λ j pool other here. kept.stays pool here) keeps
 
   step_at : (s : State) (action : Action) (home : Option ℕ) → Acts action → elim home [ None ↦ false | Some i ↦ test_at s.pools i (λ pool. enabled_in m.config.granularity t pool action) ] ≡ true
-      → EachPlace B s.pools → EachPlace I (elim home as (λ _. State) [ None ↦ s | Some i ↦ change_pool i (λ pool. settled t (after_in m.config.granularity t pool action)) s ]).pools
+      → EachPlace B s.pools → EachPlace I (elim home as (λ _. State) [ None ↦ s | Some i ↦ change_pool i (λ pool. settled_pool t (after_in m.config.granularity t pool action)) s ]).pools
   step_at s action None of on each = stay s each
   step_at s action (Some i) of on each =
-      step_change i (λ pool. settled t (after_in m.config.granularity t pool action)) s
+      step_change i (λ pool. settled_pool t (after_in m.config.granularity t pool action)) s
       (λ pool at here. kept.settles (after_in m.config.granularity t pool action) (kept.acts pool action of (passes_at s.pools i (λ p. enabled_in m.config.granularity t p action) pool at on) here)) each
 
   half_all : (i : ℕ) (pools : List (Option Pool)) → EachPlace I pools → EachAt (Half i) pools
@@ -103,8 +103,8 @@ module _ {m : Machine} {t : ℕ} {End : ℕ → Type 0} {Ends : List Moment → 
   half_change i f s keeps each =
       EachAt-change_to (λ j. B) (Half i) i f s.pools each (λ j pool other here. (lessens pool here, λ e. kept.stays pool here)) (λ pool at here. (keeps pool at here, λ e. absurd (e refl)))
 
-  settle_half : (i : ℕ) (s : State) → EachAt (Half i) s.pools → EachPlace I (change_pool i (settled t) s).pools
-  settle_half i s half = EachAt-change_to (Half i) (λ j. I) i (settled t) s.pools half (λ j pool other here. here.1 other) (λ pool at here. kept.settles pool here.0)
+  settle_half : (i : ℕ) (s : State) → EachAt (Half i) s.pools → EachPlace I (change_pool i (settled_pool t) s).pools
+  settle_half i s half = EachAt-change_to (Half i) (λ j. I) i (settled_pool t) s.pools half (λ j pool other here. here.1 other) (λ pool at here. kept.settles pool here.0)
 
   settle_home : (home : Option ℕ) (f : Pool → Pool) (s : State) → ((i : ℕ) (pool : Pool) → home ≡ Some i → at_place s.pools i ≡ Some pool → B pool → H (f pool)) → EachPlace B s.pools → EachPlace I (settled_at t home (elim home as (λ _. State) [ None ↦ s | Some i ↦ change_pool i f s ])).pools
   settle_home None f s keeps each = stay s each
@@ -147,7 +147,7 @@ module _ {m : Machine} {t : ℕ} {End : ℕ → Type 0} {Ends : List Moment → 
   step_plan (plan.CpuAdd i core answer) s good each = settle_half i.0 (carried_out m t (plan.CpuAdd i core answer) s) (half_all i.0 s.pools (stay s each))
   step_plan (plan.CpuRemove i core answer) s good each = settle_half i.0 (change_pool i.0 (set_leaving core.0) s) (half_change i.0 (set_leaving core.0) s (λ pool at here. kept.leaves core.0 pool (lessens pool here)) each)
   step_plan (plan.Migrate d i j answer) s good each =
-      by_cond (λ (next : State). EachPlace I (change_pool i.0 (settled t) next).pools) (i.0 == j.0) s (change_pool i.0 (set_moving d.0 j.0) s)
+      by_cond (λ (next : State). EachPlace I (change_pool i.0 (settled_pool t) next).pools) (i.0 == j.0) s (change_pool i.0 (set_moving d.0 j.0) s)
       (λ is. settle_half i.0 s (half_all i.0 s.pools (stay s each))) (λ is. settle_half i.0 (change_pool i.0 (set_moving d.0 j.0) s) (half_change i.0 (set_moving d.0 j.0) s (λ pool at here. kept.moves d.0 j.0 pool (lessens pool here)) each))
   step_plan (plan.Credit2Dom d weight percent answer) s good each = settle_home (home_of_domain s d.0) (set_params (changes.Dom d weight percent) t) s (λ i pool is at. kept.changes (changes.Dom d weight percent) pool good.0) each
   step_plan (plan.Credit2Pool i None answer) s good each = settle_half i.0 s (half_all i.0 s.pools (stay s each))
@@ -182,12 +182,12 @@ module _ {m : Machine} {t : ℕ} {End : ℕ → Type 0} {Ends : List Moment → 
   step_moved_home r (Some i) s on each =
       by_option (λ (next : State). EachPlace I next.pools) (at_place s.pools i) _ _ (λ is. stay s each)
       (λ pool is. by_option (λ (next : State). EachPlace I next.pools) (at_place pool.resources r) _ _ (λ is2. stay s each)
-      (λ c is2. step_change i (λ x. settled t (record x { resources = clear_at r x.resources })) s
+      (λ c is2. step_change i (λ x. settled_pool t (record x { resources = clear_at r x.resources })) s
       (λ x at here. kept.settles (record x { resources = clear_at r x.resources }) (kept.core_goes r x (passes_at s.pools i (λ p. enabled_in m.config.granularity t p (Moved (core_number r))) x at on) here)) each))
 
   step_attached : (r i : ℕ) (c : FreeCore) (s : State) → at_place s.free r ≡ Some c → IsApart s → FreeFits Ends s → EachPlace B s.pools → EachPlace I (with_core_in t r i c s).pools
   step_attached r i c s is apart fits each =
-      step_change i (λ pool. settled t (record pool { resources = put_at r (fresh_core c.stall_ends) pool.resources })) (record s { free = clear_at r s.free })
+      step_change i (λ pool. settled_pool t (record pool { resources = put_at r (fresh_core c.stall_ends) pool.resources })) (record s { free = clear_at r s.free })
       (λ pool at here. kept.settles (record pool { resources = put_at r (fresh_core c.stall_ends) pool.resources }) (kept.core_comes r c.stall_ends pool
       (is_empty (at_place pool.resources r) (λ x has. apart.free i r (is_some_at (at_place s.free r) c is) (test_at-some s.pools i (λ p. is_some (at_place p.resources r)) pool at (is_some_at (at_place pool.resources r) x has)))) (fits r c is) here)) each
 
@@ -199,11 +199,11 @@ module _ {m : Machine} {t : ℕ} {End : ℕ → Type 0} {Ends : List Moment → 
 
   step_left : (d : ℕ) (pool : Pool) → enabled_in m.config.granularity t pool (DomMoved (domain_number d)) ≡ true → B pool → I (left_by t d pool)
   step_left d pool on here =
-      by_cond I (is_null pool.scheduler.records) (settled t (without_domain d pool)) (without_domain d pool) (λ is. kept.settles (without_domain d pool) (kept.domain_goes d pool on here)) (λ is. kept.domain_leaves d pool is on here)
+      by_cond I (is_null pool.scheduler.records) (settled_pool t (without_domain d pool)) (without_domain d pool) (λ is. kept.settles (without_domain d pool) (kept.domain_goes d pool on here)) (λ is. kept.domain_leaves d pool is on here)
 
   left_without : (d : ℕ) (pool : Pool) → at_place (left_by t d pool).domains d ≡ None
   left_without d pool =
-      by_cond (λ (next : Pool). at_place next.domains d ≡ None) (is_null pool.scheduler.records) (settled t (without_domain d pool)) (without_domain d pool) (λ is. at_place-clear_at d pool.domains) (λ is. at_place-clear_at d pool.domains)
+      by_cond (λ (next : Pool). at_place next.domains d ≡ None) (is_null pool.scheduler.records) (settled_pool t (without_domain d pool)) (without_domain d pool) (λ is. at_place-clear_at d pool.domains) (λ is. at_place-clear_at d pool.domains)
 
   step_move : (d i j : ℕ) (pool : Pool) (domain : Domain) (s : State) → IsApart s → at_place s.pools i ≡ Some pool → at_place pool.domains d ≡ Some domain → enabled_in m.config.granularity t pool (DomMoved (domain_number d)) ≡ true
       → EachPlace B s.pools → EachPlace I (change_pool j (joined_by m.config.granularity t d domain) (change_pool i (left_by t d) s)).pools

@@ -25,14 +25,15 @@ use Rattle.sched_model.specs.State.{is_up}
 use Rattle.sched_model.specs.Opening.{fresh_core, empty_pool}
 use Rattle.sched_model.specs.Policy.{rtds_record, default_dom_params}
 use Rattle.sched_model.specs.declared.action.Action.{Action}
-use Rattle.sched_model.specs.Pool.{enabled_in, after_in, settled_pool as settled, change_processor, change_domain, set_leaving, set_moving, pause, unpause, set_params, without_domain, with_domain, is_held, is_open, first_up, with_doing, processor_of, guest_of}
+use Rattle.sched_model.specs.Pool.{enabled_in, after_in, settled_pool, change_processor, change_domain, set_leaving, set_moving, pause, unpause, set_params, without_domain, with_domain, is_held, is_open, first_up, with_doing, processor_of, guest_of}
 use Rattle.sched_model.specs.declared.action.Action.TheVariants.{Stall, Xl, Moved, DomMoved, Block, Arrive, Decide, Leave}
 use Rattle.sched_model.specs.Actions.{home_of, home_of_core, home_of_domain, change_pool}
 use Rattle.sched_model.specs.Commands.{carried_out, change_home, set_rtds, set_rtds_unit, pool_of_plan}
 use Rattle.sched_model.specs.Machine.{is_enabled, after, after_stall, after_command, after_moved, after_dom_moved, verdict, settled_at, with_core_in, without_core_in, left_by, joined_by, is_null}
 use Rattle.sched_model.specs.Runs.{Reached, action_of, end_of, after_quiet, after_event, IsNextEvent, IsRunFrom, IsRun, run_start, after_entry, after_entries}
-use Rattle.sched_model.specs.Checked.{IsChecked}
+use Rattle.sched_model.specs.CheckedMachine.{IsChecked}
 use Rattle.std.proofs.Math.Bool.{and-false}
+use Rattle.std.proofs.lemmas.Bool.{not-true, and_from}
 use Rattle.sched_laws.specs.RunLaws.{core_waits, waits_in, waits, IsNoDecideOf, StillWaits}
 use Rattle.sched_laws.specs.StateLaws.{state_after}
 use Rattle.sched_laws.proofs.EachPlace.{by_option, by_cond, none_found, found_at}
@@ -42,13 +43,13 @@ use Rattle.sched_laws.proofs.Steps.{kept_after}
 use Rattle.sched_laws.specs.StateLaws.{has_core_at}
 use Rattle.sched_laws.proofs.ApartKept.{apart_after}
 use Rattle.sched_laws.proofs.Sound.{cores_are_sound, list_any_get, processor_of_is}
-use Rattle.sched_laws.specs.Known.{AreSound}
+use Rattle.sched_laws.specs.PoolFacts.{AreSound}
 use Rattle.sched_laws.proofs.PoolsLaw.{IsKnown, known_in_runs}
 use Rattle.sched_laws.proofs.SiblingsLaw.{some_processor}
 use Rattle.sched_laws.proofs.Judged.{Fits, verdict_fits_next}
 use Rattle.sched_laws.proofs.Waits.{w_change_processor, w_commands, w_steps, w_set_params, w_with_domain}
 use Rattle.sched_laws.proofs.Events.{kept_settled, kept_by_event, kept_set_leaving, kept_withdrawn, kept_pause, kept_unpause}
-use Rattle.sched_laws.proofs.Bools.{and_left, and_right, both, not_true}
+use Rattle.sched_base.proofs.Bools.{and_left, and_right}
 
 -- a pool with a core has one
 some_core : {X : Type 0} (n i : ℕ) (x : X) (places : List (Option X)) → at_place places i ≡ Some x → (length (numbered_items n places) == 0) ≡ true → ⊥
@@ -70,10 +71,10 @@ module _ (g p i : ℕ) where
   wait_change j f s keeps w = test_at-change_at_keeps j i f (waits_in g p) s.pools (λ pool e at. keeps pool at) w
 
   wait_at : (s : State) (t : ℕ) (action : Action) → (action ≡ Decide (core_number (p / g)) → ⊥) → (home : Option ℕ) → elim home [ None ↦ false | Some j ↦ test_at s.pools j (λ pool. enabled_in g t pool action) ] ≡ true
-      → WaitsAt s → WaitsAt (elim home as (λ _. State) [ None ↦ s | Some j ↦ change_pool j (λ pool. settled t (after_in g t pool action)) s ])
+      → WaitsAt s → WaitsAt (elim home as (λ _. State) [ None ↦ s | Some j ↦ change_pool j (λ pool. settled_pool t (after_in g t pool action)) s ])
   wait_at s t action other None on w = w
   wait_at s t action other (Some j) on w =
-      wait_change j (λ pool. settled t (after_in g t pool action)) s (λ pool at here. kept_settled (w_commands g p) t (after_in g t pool action) (kept_by_event (w_steps g p t) pool action (other, passes_at s.pools j (λ x. enabled_in g t x action) pool at on) here)) w
+      wait_change j (λ pool. settled_pool t (after_in g t pool action)) s (λ pool at here. kept_settled (w_commands g p) t (after_in g t pool action) (kept_by_event (w_steps g p t) pool action (other, passes_at s.pools j (λ x. enabled_in g t x action) pool at on) here)) w
 
   wait_change_home : (d : ℕ) (f : Pool → Pool) (s : State) → ((pool : Pool) → W pool → W (f pool)) → WaitsAt s → WaitsAt (change_home d f s)
   wait_change_home d f s keeps w = by_option WaitsAt (home_of_domain s d) _ _ (λ is. w) (λ j is. wait_change j f s (λ pool at. keeps pool) w)
@@ -108,7 +109,7 @@ module _ (g p i : ℕ) where
 
   wait_settled_at : (t : ℕ) (home : Option ℕ) (s : State) → WaitsAt s → WaitsAt (settled_at t home s)
   wait_settled_at t None s w = w
-  wait_settled_at t (Some j) s w = wait_change j (settled t) s (λ pool at. kept_settled (w_commands g p) t pool) w
+  wait_settled_at t (Some j) s w = wait_change j (settled_pool t) s (λ pool at. kept_settled (w_commands g p) t pool) w
 
   wait_command : (m : Machine) → m.config.granularity ≡ g → (t : ℕ) (line : CommandLine) (s : State) → WaitsAt s → WaitsAt (after_command m t line s)
   wait_command m same t line s w =
@@ -153,7 +154,7 @@ module _ (m : Machine) (p : ℕ) where
 
   wait_detached : (i t r j : ℕ) (c : Resource) (s : State) → Known s → test_at s.pools j (λ pool. enabled_in m.config.granularity t pool (Moved (core_number r))) ≡ true → WaitsAt m.config.granularity p i s → WaitsAt m.config.granularity p i (without_core_in t r j c s)
   wait_detached i t r j c s known on w =
-      wait_change m.config.granularity p i j (λ pool. settled t (record pool { resources = clear_at r pool.resources })) s
+      wait_change m.config.granularity p i j (λ pool. settled_pool t (record pool { resources = clear_at r pool.resources })) s
       (λ pool at here. kept_settled (w_commands m.config.granularity p) t (record pool { resources = clear_at r pool.resources })
       (test_at-clear_at r (p / m.config.granularity) (core_waits (p % m.config.granularity)) pool.resources (λ e. (
       let here_on = passes_at s.pools j (λ x. enabled_in m.config.granularity t x (Moved (core_number r))) pool at on in
@@ -162,7 +163,7 @@ module _ (m : Machine) (p : ℕ) where
       let at_r : at_place pool.resources r ≡ Some d = subst (λ k. at_place pool.resources k ≡ Some d) e f.1 in
       let may = passes_at pool.resources r (λ (x : Resource). x.leaving && is_none x.cur && is_none x.saving && not x.pending && is_open x && first_up t x) d at_r here_on in
       let four = and_left (d.leaving && is_none d.cur && is_none d.saving && not d.pending) (is_open d) (and_left (d.leaving && is_none d.cur && is_none d.saving && not d.pending && is_open d) (first_up t d) may) in
-      let free : d.pending ≡ false = not_true d.pending (and_right (d.leaving && is_none d.cur && is_none d.saving) (not d.pending) four) in
+      let free : d.pending ≡ false = not-true d.pending (and_right (d.leaving && is_none d.cur && is_none d.saving) (not d.pending) four) in
       let held = held_any (p % m.config.granularity) d.processors (and_right (is_open d) _ f.2) in
       let g2 = (known.pools j pool at r d at_r).gathers (and_left (is_open d) _ f.2) held in
       (let e2 : true ≡ false = sym g2.0 ∙ free in absurd (cc)))) ∙ here)) w
@@ -175,7 +176,7 @@ module _ (m : Machine) (p : ℕ) where
 
   wait_attached : (i t r j : ℕ) (c : FreeCore) (s : State) → at_place s.free r ≡ Some c → IsApart s → WaitsAt m.config.granularity p i s → WaitsAt m.config.granularity p i (with_core_in t r j c s)
   wait_attached i t r j c s is apart w =
-      wait_change m.config.granularity p i j (λ pool. settled t (record pool { resources = put_at r (fresh_core c.stall_ends) pool.resources })) (record s { free = clear_at r s.free })
+      wait_change m.config.granularity p i j (λ pool. settled_pool t (record pool { resources = put_at r (fresh_core c.stall_ends) pool.resources })) (record s { free = clear_at r s.free })
       (λ pool at here. kept_settled (w_commands m.config.granularity p) t (record pool { resources = put_at r (fresh_core c.stall_ends) pool.resources })
       (test_at-put_at_other r (p / m.config.granularity) (fresh_core c.stall_ends) (core_waits (p % m.config.granularity)) pool.resources (λ e. (
       let f = some-test_at pool.resources (p / m.config.granularity) (core_waits (p % m.config.granularity)) here in
@@ -205,7 +206,7 @@ module _ (m : Machine) (p : ℕ) where
       (λ j is4. wait_change m.config.granularity p i j.0 (joined_by m.config.granularity t d domain) (change_pool k (left_by t d) s)
       (λ x at here. kept_settled (w_commands m.config.granularity p) t (with_domain m.config.granularity t d (record domain { moving = None }) (default_dom_params x.scheduler.records) x) (w_with_domain m.config.granularity p t d (record domain { moving = None }) (default_dom_params x.scheduler.records) x here))
       (wait_change m.config.granularity p i k (left_by t d) s
-      (λ x at here. by_cond (λ (y : Pool). waits_in m.config.granularity p y ≡ true) (is_null x.scheduler.records) (settled t (without_domain d x)) (without_domain d x) (λ null. kept_settled (w_commands m.config.granularity p) t (without_domain d x) here) (λ null. here)) w)))))
+      (λ x at here. by_cond (λ (y : Pool). waits_in m.config.granularity p y ≡ true) (is_null x.scheduler.records) (settled_pool t (without_domain d x)) (without_domain d x) (λ null. kept_settled (w_commands m.config.granularity p) t (without_domain d x) here) (λ null. here)) w)))))
 
   wait_after : (i t : ℕ) (s : State) (action : Action) → Known s → (action ≡ Decide (core_number (p / m.config.granularity)) → ⊥) → is_enabled m s t action ≡ true → WaitsAt m.config.granularity p i s → WaitsAt m.config.granularity p i (after m s t action)
   wait_after i t s Stall known other on w = wait_stall m.config.granularity p i t (slice_get m.work.stalls s.next_stall) s w
@@ -272,7 +273,7 @@ module _ (m : Machine) (checked : IsChecked m) (p : ℕ) where
       let r = processor_of_is G pool p q.0 q.1 in
       let same : r.0 ≡ c = (let e1 = r.1 in let e2 = f.1 in cc) in
       let at_q : slice_get c.processors (p % G) ≡ Some q.0 = subst (λ (x : Resource). slice_get x.processors (p % G) ≡ Some q.0) same r.2 in
-      let waits_c : core_waits (p % G) (record c { processors = change_item (p % G) (with_doing Held) c.processors }) ≡ true = both (is_open c) _ open_c (held_here (p % G) c.processors q.0 at_q) in
+      let waits_c : core_waits (p % G) (record c { processors = change_item (p % G) (with_doing Held) c.processors }) ≡ true = and_from (is_open c) _ open_c (held_here (p % G) c.processors q.0 at_q) in
       by_option (λ (next : Pool). waits_in G p (change_processor G p (with_doing Held) next) ≡ true) (guest_of G pool p) _ _
       (λ is. test_at-change_at_here (p / G) (λ (x : Resource). record x { processors = change_item (p % G) (with_doing Held) x.processors }) (core_waits (p % G)) pool.resources c f.1 waits_c)
       (λ v is. test_at-change_at_here (p / G) (λ (x : Resource). record x { processors = change_item (p % G) (with_doing Held) x.processors }) (core_waits (p % G)) pool.resources c f.1 waits_c)
@@ -282,11 +283,11 @@ module _ (m : Machine) (checked : IsChecked m) (p : ℕ) where
       some_processor_of (Some q) test is = (q, refl, is)
 
   arrives_at : (s : State) (t : ℕ) (home : Option ℕ) → elim home [ None ↦ false | Some j ↦ test_at s.pools j (λ pool. enabled_in m.config.granularity t pool (Arrive (processor p))) ] ≡ true
-      → (i : ℕ) × WaitsAt m.config.granularity p i (elim home as (λ _. State) [ None ↦ s | Some j ↦ change_pool j (λ pool. settled t (after_in m.config.granularity t pool (Arrive (processor p)))) s ])
+      → (i : ℕ) × WaitsAt m.config.granularity p i (elim home as (λ _. State) [ None ↦ s | Some j ↦ change_pool j (λ pool. settled_pool t (after_in m.config.granularity t pool (Arrive (processor p)))) s ])
   arrives_at s t None on = absurd (cc)
   arrives_at s t (Some i) on =
       let f = some-test_at s.pools i (λ pool. enabled_in m.config.granularity t pool (Arrive (processor p))) on in
-      (i, test_at-change_at_here i (λ pool. settled t (after_in m.config.granularity t pool (Arrive (processor p)))) (waits_in m.config.granularity p) s.pools f.0 f.1 (kept_settled (w_commands m.config.granularity p) t (after_in m.config.granularity t f.0 (Arrive (processor p))) (arrives_in t f.0 f.2)))
+      (i, test_at-change_at_here i (λ pool. settled_pool t (after_in m.config.granularity t pool (Arrive (processor p)))) (waits_in m.config.granularity p) s.pools f.0 f.1 (kept_settled (w_commands m.config.granularity p) t (after_in m.config.granularity t f.0 (Arrive (processor p))) (arrives_in t f.0 f.2)))
 
   here_arrived : (e : Event) (action : Option Action) (from : Reached) → action ≡ Some (Arrive (processor p)) → IsNextEvent m from.state e action → IsKnown (AreSound m.config.granularity) from.state → Here (after_event m e action from).state
   here_arrived e None from is next known = absurd (cc)

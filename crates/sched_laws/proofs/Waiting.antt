@@ -1,10 +1,11 @@
 -- The law of waiting: where nothing may happen, no core that may be used is pending, and no due has come.
 use Rattle.sched_base.specs.Numbers.{core, domain, processor}
-use Rattle.std.proofs.Common.{◌≡◌, ◌<◌, ◌≤◌, ℕ, zero, suc, Bool, true, false, not, List, [], ◌∷◌, ◌++◌, refl, arith, subst, sym, ap, cond, inl, inr}
-use Rattle.std.specs.Prelude.{Option, Some, None, is_some, is_none, slice_get, length, map, find, ◌&&◌, ◌||◌, ◌+◌, ◌-◌, ◌*◌, ◌/◌, ◌%◌}
+use Rattle.std.proofs.Common.{◌≡◌, ◌<◌, ◌≤◌, ℕ, zero, suc, Bool, true, false, not, List, [], ◌∷◌, ◌++◌, refl, arith, subst, sym, ap, inl, inr}
+use Rattle.std.specs.Prelude.{Option, Some, None, is_some, is_none, slice_get, length, map, ◌&&◌, ◌||◌, ◌+◌, ◌-◌, ◌*◌, ◌/◌, ◌%◌}
 use Rattle.std.specs.List.{list_any, list_all, AllByRecursion}
 use Rattle.std.proofs.lemmas.Nat.{div-mul-add, mod-mul-add, div-add-mod'}
 use Rattle.std.proofs.Math.Decide.{dec_le}
+use Rattle.std.proofs.lemmas.Bool.{cases_Bool, not-true, and_from}
 use Rattle.sched_model.specs.declared.event.Event.{Event}
 use Rattle.sched_model.specs.declared.event.Entry.{Entry}
 use Rattle.sched_model.specs.declared.state.Processor.{Processor}
@@ -21,30 +22,22 @@ use Rattle.sched_model.specs.declared.action.Action.TheVariants.{Stall, Xl, Move
 use Rattle.sched_model.specs.Actions.{home_of_core, candidates, vcpus_from, units_from}
 use Rattle.sched_model.specs.Machine.{is_enabled, first_enabled}
 use Rattle.sched_model.specs.Runs.{action_of, IsNextEvent, IsRun, run_start}
-use Rattle.sched_model.specs.Checked.{IsChecked}
+use Rattle.sched_model.specs.CheckedMachine.{IsChecked}
 use Rattle.sched_laws.specs.StateLaws.{state_after}
 use Rattle.sched_laws.specs.RunLaws.{NobodyWaits}
 use Rattle.sched_laws.proofs.Lists.{test_at-some, is_some_at}
 use Rattle.sched_laws.proofs.Sound.{cores_are_sound}
-use Rattle.sched_laws.specs.Known.{AreSound, CoreIsSound}
+use Rattle.sched_laws.specs.PoolFacts.{AreSound, CoreIsSound}
 use Rattle.sched_laws.proofs.SiblingsLaw.{some_processor}
 use Rattle.sched_laws.proofs.PoolsLaw.{known_in_runs}
 use Rattle.sched_laws.proofs.StillWaits.{core_home, split_run}
 use Rattle.sched_laws.proofs.Calm.{calm}
 use Rattle.sched_laws.proofs.Ready.{IsReady, ready_in_runs}
-use Rattle.sched_laws.proofs.Bools.{and_left, and_right, both, not_true, either, clash}
+use Rattle.sched_base.proofs.Bools.{and_left, and_right, clash}
+use Rattle.sched_base.proofs.Lists.{none_from_find}
 use Rattle.sched_laws.proofs.EachPlace.{place_below}
 
--- where none is found, none passes
-none_of : {X : Type 0} (test : X → Bool) (xs : List X) → find test xs ≡ None → AllByRecursion (λ x. test x ≡ false) xs
-none_of test [] none = tt
-none_of {X} test (x ∷ xs) none =
-    elim (test x) as (λ b. test x ≡ b → cond b (Some x) (find test xs) ≡ None → (test x ≡ false) × AllByRecursion (λ y. test y ≡ false) xs) [
-      | true ↦ λ is h. absurd (cc)
-      | false ↦ λ is h. (is, none_of test xs h)
-    ] refl none
-
-parts_of : {X : Type 0} (P : X → Type 0) (xs ys : List X) → AllByRecursion P (xs ++ ys) → AllByRecursion P xs × AllByRecursion P ys
+pub parts_of : {X : Type 0} (P : X → Type 0) (xs ys : List X) → AllByRecursion P (xs ++ ys) → AllByRecursion P xs × AllByRecursion P ys
 parts_of P [] ys each = (tt, each)
 parts_of P (x ∷ xs) ys each = (let r = parts_of P xs ys each.1 in ((each.0, r.0), r.1))
 
@@ -136,7 +129,7 @@ module _ (m : Machine) (s : State) (checked : IsChecked m) (ready : IsReady m s)
   Off action = is_enabled m s s.now action ≡ false
 
   all_off : AllByRecursion Off (to_save m)
-  all_off = after_two Off Stall Xl (to_save m) (none_of (is_enabled m s s.now) (candidates m.config) quiet)
+  all_off = after_two Off Stall Xl (to_save m) (none_from_find (is_enabled m s s.now) (candidates m.config) quiet)
 
   leave_off : AllByRecursion Off (to_leave m)
   leave_off = (parts_of Off (to_leave m) (map (λ n. Save (core n)) (numbers_from 0 (core_count m.config))) all_off).0
@@ -211,37 +204,37 @@ module _ (m : Machine) (s : State) (checked : IsChecked m) (ready : IsReady m s)
   leave_on : (k : ℕ) (q : Processor) → slice_get c.processors k ≡ Some q → is_held q ≡ true → k < length c.processors → is_open c ≡ false → ⊥
   leave_on k q at_k held low closed =
       clash (enabled_in m.config.granularity s.now pool (Leave (processor (r * m.config.granularity + k))))
-      (both _ _ (core_test k (λ x. not (is_open x)) low (ap not closed)) (rw (processor_is k q at_k low) (both (is_held q) (is_up s.now q) held (all_have (is_up s.now) c.processors k q up at_k))))
+      (and_from _ _ (core_test k (λ x. not (is_open x)) low (ap not closed)) (rw (processor_is k q at_k low) (and_from (is_held q) (is_up s.now q) held (all_have (is_up s.now) c.processors k q up at_k))))
       (no_leave k low)
 
   arrive_on : (k : ℕ) (q : Processor) → slice_get c.processors k ≡ Some q → is_held q ≡ false → k < length c.processors → c.pending ≡ true → is_open c ≡ true → is_none c.saving ≡ true → ⊥
   arrive_on k q at_k free low pending open_c none =
       clash (enabled_in m.config.granularity s.now pool (Arrive (processor (r * m.config.granularity + k))))
-      (both _ _ (core_test k (λ x. x.pending && is_open x && is_none x.saving) low (both (c.pending && is_open c) (is_none c.saving) (both c.pending (is_open c) pending open_c) none))
-      (rw (processor_is k q at_k low) (both (not (is_held q)) (is_up s.now q) (ap not free) (all_have (is_up s.now) c.processors k q up at_k))))
+      (and_from _ _ (core_test k (λ x. x.pending && is_open x && is_none x.saving) low (and_from (c.pending && is_open c) (is_none c.saving) (and_from c.pending (is_open c) pending open_c) none))
+      (rw (processor_is k q at_k low) (and_from (not (is_held q)) (is_up s.now q) (ap not free) (all_have (is_up s.now) c.processors k q up at_k))))
       (no_arrive k low)
 
   decide_on : list_all is_held c.processors ≡ true → is_open c ≡ true → ⊥
   decide_on all open_c =
       clash (enabled_in m.config.granularity s.now pool (Decide (core r)))
-      (test_at-some pool.resources r (λ x. list_all is_held x.processors && is_open x && first_up s.now x) c has (both (list_all is_held c.processors && is_open c) (first_up s.now c) (both (list_all is_held c.processors) (is_open c) all open_c) core_first)) no_decide
+      (test_at-some pool.resources r (λ x. list_all is_held x.processors && is_open x && first_up s.now x) c has (and_from (list_all is_held c.processors && is_open c) (first_up s.now c) (and_from (list_all is_held c.processors) (is_open c) all open_c) core_first)) no_decide
 
   save_on : is_some c.saving ≡ true → list_any is_held c.processors ≡ false → ⊥
   save_on some none =
       clash (enabled_in m.config.granularity s.now pool (Save (core r)))
-      (test_at-some pool.resources r (λ x. is_some x.saving && not (list_any is_held x.processors) && first_up s.now x) c has (both (is_some c.saving && not (list_any is_held c.processors)) (first_up s.now c) (both (is_some c.saving) (not (list_any is_held c.processors)) some (ap not none)) core_first)) no_save
+      (test_at-some pool.resources r (λ x. is_some x.saving && not (list_any is_held x.processors) && first_up s.now x) c has (and_from (is_some c.saving && not (list_any is_held c.processors)) (first_up s.now c) (and_from (is_some c.saving) (not (list_any is_held c.processors)) some (ap not none)) core_first)) no_save
 
   not_pending : c.pending ≡ true → ⊥
   not_pending pending =
-      elim (either (is_open c)) [
+      elim (cases_Bool (is_open c)) [
         | inr closed ↦ (let f = some_passes is_held c.processors (known_core.decided closed) in leave_on f.0 f.1 f.2 f.3 f.4 closed)
-        | inl open_c ↦ elim (either (list_all is_held c.processors)) [
+        | inl open_c ↦ elim (cases_Bool (list_all is_held c.processors)) [
           | inl all ↦ decide_on all open_c
           | inr some ↦ (
               let f = some_fails is_held c.processors some in
-              elim (either (is_none c.saving)) [
+              elim (cases_Bool (is_none c.saving)) [
                 | inl none ↦ arrive_on f.0 f.1 f.2 f.3 f.4 pending open_c none
-                | inr saves_one ↦ elim (either (list_any is_held c.processors)) [
+                | inr saves_one ↦ elim (cases_Bool (list_any is_held c.processors)) [
                   | inl any ↦ clash (is_none c.saving) (rw (known_core.gathers open_c any).1 refl) saves_one
                   | inr nobody ↦ save_on (some_not_none c.saving saves_one) nobody
                 ]
@@ -255,9 +248,9 @@ module _ (m : Machine) (s : State) (checked : IsChecked m) (ready : IsReady m s)
 
   pub saves_none : is_some c.saving ≡ true → ⊥
   saves_none saves =
-      elim (either (list_any is_held c.processors)) [
+      elim (cases_Bool (list_any is_held c.processors)) [
         | inr nobody ↦ save_on saves nobody
-        | inl any ↦ elim (either (is_open c)) [
+        | inl any ↦ elim (cases_Bool (is_open c)) [
           | inl open_c ↦ clash (is_some c.saving) saves (rw (known_core.gathers open_c any).1 refl)
           | inr closed ↦ (let f = some_passes is_held c.processors any in leave_on f.0 f.1 f.2 f.3 f.4 closed)
         ]
@@ -266,12 +259,12 @@ module _ (m : Machine) (s : State) (checked : IsChecked m) (ready : IsReady m s)
   not_due : has_come s.now c.due ≡ true → c.pending ≡ false → ⊥
   not_due come decided =
       clash (enabled_in m.config.granularity s.now pool (Slice (core r)))
-      (test_at-some pool.resources r (λ x. has_come s.now x.due && not x.pending && first_up s.now x) c has (both (has_come s.now c.due && not c.pending) (first_up s.now c) (both (has_come s.now c.due) (not c.pending) come (ap not decided)) core_first)) no_slice
+      (test_at-some pool.resources r (λ x. has_come s.now x.due && not x.pending && first_up s.now x) c has (and_from (has_come s.now c.due && not c.pending) (first_up s.now c) (and_from (has_come s.now c.due) (not c.pending) come (ap not decided)) core_first)) no_slice
 
   is_calm : c.leaving ≡ false → calm s.now (home_cores pool) pool.scheduler r c ≡ true
   is_calm stays =
-      let decided : c.pending ≡ false = (elim (either c.pending) [ inl p ↦ absurd (not_pending p) | inr p ↦ p ]) in
-      let low : has_come s.now c.due ≡ false = (elim (either (has_come s.now c.due)) [ inl p ↦ absurd (not_due p decided) | inr p ↦ p ]) in
+      let decided : c.pending ≡ false = (elim (cases_Bool c.pending) [ inl p ↦ absurd (not_pending p) | inr p ↦ p ]) in
+      let low : has_come s.now c.due ≡ false = (elim (cases_Bool (has_come s.now c.due)) [ inl p ↦ absurd (not_due p decided) | inr p ↦ p ]) in
       (ready.pools i pool at).calms r c has stays decided low
 
 pub quiet_event : (m : Machine) (s : State) (e : Event) (action : Option Action) → action ≡ None → IsNextEvent m s e action → first_enabled m s s.now ≡ None
@@ -286,7 +279,7 @@ nobody_waits m checked before last run is i pool at r c has =
     let ready : IsReady m s = ready_in_runs m checked before parts.0 in
     let known = known_in_runs m (AreSound m.config.granularity) (cores_are_sound m.config.granularity (some_processor m.config.granularity checked.config.granularity)) checked before parts.0 in
     implied (not c.leaving && list_all (is_up s.now) c.processors) (calm s.now (home_cores pool) pool.scheduler r c)
-    (λ may. is_calm m s checked ready (λ j p at_j. known.pools j p at_j) quiet i r pool c at has (and_right (not c.leaving) (list_all (is_up s.now) c.processors) may) (not_true c.leaving (and_left (not c.leaving) (list_all (is_up s.now) c.processors) may)))
+    (λ may. is_calm m s checked ready (λ j p at_j. known.pools j p at_j) quiet i r pool c at has (and_right (not c.leaving) (list_all (is_up s.now) c.processors) may) (not-true c.leaving (and_left (not c.leaving) (list_all (is_up s.now) c.processors) may)))
   where
     implied : (a b : Bool) → (a ≡ true → b ≡ true) → (not a || b) ≡ true
     implied true b to = to refl

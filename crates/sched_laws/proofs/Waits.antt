@@ -1,6 +1,7 @@
 -- A processor that has arrived is held, and its core's stage open, until the core decides.
 use Rattle.std.proofs.Common.{◌≡◌, ℕ, zero, suc, Bool, true, false, not, List, [], ◌∷◌, refl, subst, sym, ◌∙◌, ap, inl, inr}
 use Rattle.std.specs.Prelude.{Option, Some, None, slice_get, ◌+◌, ◌*◌, ◌/◌, ◌%◌}
+use Rattle.std.proofs.lemmas.Bool.{not-true, and_from}
 use Rattle.sched_base.specs.Numbers.{moment, core}
 use Rattle.sched_base.specs.declared.VcpuId.{VcpuId}
 use Rattle.sched_model.specs.declared.config.ParamChange.{ParamChange}
@@ -23,7 +24,7 @@ use Rattle.sched_laws.proofs.Lists.{test_at-change_at_keeps, test_at-put_at_othe
 use Rattle.sched_laws.proofs.Events.{LikePlaces, like_is, like_map, capped, like_of_domain, IsMarked, Enabled, KeptByCommands, KeptBySteps, kept_marked, kept_queue_units, kept_pending}
 use Rattle.sched_laws.proofs.Sound.{processor_of_is, guest_of_is}
 use Rattle.sched_laws.proofs.Kept.{passes_at}
-use Rattle.sched_laws.proofs.Bools.{and_left, and_right, both, not_true}
+use Rattle.sched_base.proofs.Bools.{and_left, and_right}
 
 -- whether the i-th processor is held
 abbrev held_at : ℕ → List Processor → Bool
@@ -66,7 +67,7 @@ module _ (g p : ℕ) where
 
   w_marked : (c d : Resource) → IsMarked c d → LetsWait c d
   w_marked c d marked here =
-      both (is_open d) _ (elim marked.stage [
+      and_from (is_open d) _ (elim marked.stage [
         | inl same ↦ ap (λ st. elim st as (λ _. Bool) [ Open ↦ true | Decided ↦ false ]) same ∙ and_left (is_open c) (held_at (p % g) c.processors) here
         | inr opened ↦ ap (λ st. elim st as (λ _. Bool) [ Open ↦ true | Decided ↦ false ]) opened.0
       ]) (subst (λ ps. held_at (p % g) ps ≡ true) (sym marked.processors) (and_right (is_open c) (held_at (p % g) c.processors) here))
@@ -75,7 +76,7 @@ module _ (g p : ℕ) where
   pub w_change_processor : (q : ℕ) (f : Processor → Processor) (pool : Pool) → ((x : Processor) → processor_of g pool q ≡ Some x → is_held x ≡ true → is_held (f x) ≡ true) → W pool → W (change_processor g q f pool)
   w_change_processor q f pool keeps w =
       w_change_core (q / g) (λ c. record c { processors = change_item (q % g) f c.processors }) pool
-      (λ c e at here. both (is_open c) _ (and_left (is_open c) (held_at (p % g) c.processors) here)
+      (λ c e at here. and_from (is_open c) _ (and_left (is_open c) (held_at (p % g) c.processors) here)
       (held_at-change_item (p % g) (q % g) f c.processors (λ x e2 at2 held. keeps x (rw (processor_of, at) at2) held) (and_right (is_open c) (held_at (p % g) c.processors) here))) w
 
   w_started_on : (t q : ℕ) (v : VcpuId) (pool : Pool) → ((x : Processor) → processor_of g pool q ≡ Some x → is_held x ≡ true → ⊥) → W pool → W (started_on g t q v pool)
@@ -127,7 +128,7 @@ module _ (g p : ℕ) where
     blocks = λ q v pool guest on. w_blocks t q v pool guest;
     arrives = λ q pool on. w_after_arrive t q pool;
     decides = λ r c pool at on w. test_at-put_at_other r (p / g) _ (core_waits (p % g)) pool.resources (λ e. on.0 (ap (λ n. Decide (core n)) (sym e))) ∙ w;
-    leaves = λ q c pool at on. w_after_leave t q c pool at (not_true (is_open c) (passes_at pool.resources (q / g) (λ (x : Resource). not (is_open x)) c at (and_left (test_at pool.resources (q / g) (λ (x : Resource). not (is_open x))) _ on.1)));
+    leaves = λ q c pool at on. w_after_leave t q c pool at (not-true (is_open c) (passes_at pool.resources (q / g) (λ (x : Resource). not (is_open x)) c at (and_left (test_at pool.resources (q / g) (λ (x : Resource). not (is_open x))) _ on.1)));
     saves = λ r c u pool at is on. w_change_core r pools.saved_core pool (λ x e there old. old);
     replenishes = λ u pool on w. w;
     dues = λ r u x old pool on is. w_change_core r (pools.due_within t x.budget) pool (λ c e at here. here);

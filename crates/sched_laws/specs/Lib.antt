@@ -1,6 +1,7 @@
-pub mod Each
+pub mod EachPlace
 pub mod StateLaws
 pub mod RunLaws
 pub mod NullLaws
 pub mod Counts
-pub mod Known
+pub mod PoolFacts
+pub mod Finds

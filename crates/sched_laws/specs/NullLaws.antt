@@ -13,10 +13,10 @@ use Rattle.sched_model.specs.declared.state.Resource.{Resource}
 use Rattle.sched_model.specs.declared.state.Records.TheVariants.{NullPool}
 use Rattle.sched_model.specs.Places.{at_place}
 use Rattle.sched_model.specs.State.{is_runnable, is_up}
-use Rattle.sched_model.specs.Eligible.{is_allowed, is_placed}
+use Rattle.sched_model.specs.EligibleUnits.{is_allowed, is_placed}
 use Rattle.sched_model.specs.Pool.{home_cores}
 use Rattle.sched_model.specs.Runs.{action_of}
-use Rattle.sched_laws.specs.Each.{EachPlace}
+use Rattle.sched_laws.specs.EachPlace.{EachPlace}
 
 -- the pool is one of the null scheduler, which keeps these units for its cores
 abbrev pub Keeps : Pool → List (Option UnitId) → Type 0

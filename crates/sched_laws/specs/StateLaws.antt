@@ -17,7 +17,7 @@ use Rattle.sched_model.specs.Laws.{count, runs_somewhere}
 use Rattle.sched_model.specs.Pool.{unit_of}
 use Rattle.sched_model.specs.Actions.{home_of_core, home_of_domain}
 use Rattle.sched_model.specs.Runs.{run_start, after_entries}
-use Rattle.sched_laws.specs.Each.{EachAt, EachPlace}
+use Rattle.sched_laws.specs.EachPlace.{EachAt, EachPlace}
 
 -- the state that the entries lead to
 abbrev pub state_after : Machine → List Entry → State

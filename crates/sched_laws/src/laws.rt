@@ -9,7 +9,7 @@ ghost use Rattle.sched_model.specs.declared.action.Action.TheVariants.{Arrive};
 ghost use Rattle.sched_model.specs.Runs.{IsRun, action_of};
 ghost use Rattle.sched_laws.specs.NullLaws.{GivenUnitsGoNowhereElse, GivenUnitsRun, NoUnitHasTwoCores, StayEndsWithCause};
 ghost use Rattle.sched_laws.specs.RunLaws.{IsNoDecideOf, NobodyWaits, StillWaits};
-ghost use Rattle.sched_model.specs.Checked.{IsChecked};
+ghost use Rattle.sched_model.specs.CheckedMachine.{IsChecked};
 ghost use Rattle.sched_laws.specs.StateLaws.{state_after, PoolsKeepTheirOwn, SiblingsRunOneUnit, UnitsHaveOnePlace};
 
 /// The units that wait in a pool, or are on its cores, are of domains whose home is the pool. A free core has no home.

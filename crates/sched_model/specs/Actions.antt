@@ -59,3 +59,11 @@ candidates config =
 -- the pool i changed by f; all else stays
 abbrev pub change_pool : ℕ → (Pool → Pool) → State → State
 change_pool i f s = record s { pools = change_at i f s.pools }
+
+-- an event of one pool: no stall, no command, and no move to another pool
+abbrev pub IsOfPool : Action → Type 0
+IsOfPool Stall = ⊥
+IsOfPool Xl = ⊥
+IsOfPool (Moved r) = ⊥
+IsOfPool (DomMoved d) = ⊥
+IsOfPool _ = Unit {0}

@@ -6,7 +6,7 @@ use Rattle.sched_model.specs.Places.{at_place, change_at, change_each, change_it
 use Rattle.sched_model.specs.State.{Scheduler, Credit2Records, Credit2Domain, Credit2Unit}
 use Rattle.sched_model.specs.declared.state.Records.TheVariants.{Credit2Pool}
 use Rattle.sched_base.specs.Credit2Numbers.{above_zero, burned_credit, burned_residual, start_credit, resets, raise, slice, refill_span, total, quota, take, refill}
-use Rattle.sched_model.specs.Eligible.{Ask, Decision, is_allowed, has_budget, eligible_units as eligible}
+use Rattle.sched_model.specs.EligibleUnits.{Ask, Decision, is_allowed, has_budget, eligible_units as eligible}
 
 -- the greatest weight of the pool's domains
 abbrev pub max_weight : Credit2Records → ℕ

@@ -8,7 +8,7 @@ use Rattle.sched_model.specs.declared.state.Resource.{Resource}
 use Rattle.sched_model.specs.Places.{at_place, numbered_items, is_unit, same_unit}
 use Rattle.sched_model.specs.State.{Machine, Pool, State, Records, is_runnable, is_up}
 use Rattle.sched_model.specs.declared.state.Records.TheVariants.{Credit2Pool, RtdsPool, ArincPool, NullPool}
-use Rattle.sched_model.specs.Eligible.{is_eligible, is_allowed}
+use Rattle.sched_model.specs.EligibleUnits.{is_eligible, is_allowed}
 use Rattle.sched_model.specs.Rtds.{unit_before}
 use Rattle.sched_model.specs.Pool.{home_cores, is_held, is_open, unit_of}
 use Rattle.sched_model.specs.Actions.{units_from}

@@ -1,8 +1,8 @@
 pub mod Places
 pub mod State
-pub mod Lent
+pub mod Loans
 pub mod Ranks
-pub mod Eligible
+pub mod EligibleUnits
 pub mod Arinc
 pub mod Credit2
 pub mod Rtds
@@ -15,4 +15,5 @@ pub mod Commands
 pub mod Machine
 pub mod Runs
 pub mod Laws
-pub mod Checked
+pub mod CheckedMachine
+pub mod Standing

@@ -21,7 +21,7 @@ use Rattle.sched_model.specs.declared.event.Reply.{Reply}
 use Rattle.sched_model.specs.declared.event.Reply.TheVariants as reply
 use Rattle.sched_model.specs.Opening.{fresh_core, no_pool}
 use Rattle.sched_model.specs.Policy.{default_dom_params}
-use Rattle.sched_model.specs.Pool.{Action, enabled_in, after_in, event_in, settled_pool as settled, done_at, change_processor, with_domain, without_domain}
+use Rattle.sched_model.specs.Pool.{Action, enabled_in, after_in, event_in, settled_pool, done_at, change_processor, with_domain, without_domain}
 use Rattle.sched_model.specs.declared.action.Action.TheVariants.{Stall, Xl, Moved, DomMoved}
 use Rattle.sched_model.specs.Actions.{home_of_core, home_of_domain, home_of, candidates, change_pool}
 use Rattle.sched_model.specs.Commands.{judge, reply_of, pool_of_plan, carried_out}
@@ -128,7 +128,7 @@ verdict m s line = elim line.command [ Err fault ↦ Err (refusal.Syntax fault.p
 -- the cores of the pool looked at, where there is one
 abbrev pub settled_at : ℕ → Option ℕ → State → State
 settled_at t None s = s
-settled_at t (Some i) s = change_pool i (settled t) s
+settled_at t (Some i) s = change_pool i (settled_pool t) s
 
 -- the state after a line with a command
 abbrev pub after_command : Machine → ℕ → CommandLine → State → State
@@ -143,12 +143,12 @@ answer_of m s line = elim (verdict m s line) [ Err fault ↦ Err fault | Ok plan
 -- a core of no pool joins the pool i
 abbrev pub with_core_in : ℕ → ℕ → ℕ → FreeCore → State → State
 with_core_in t r i c s =
-    change_pool i (λ pool. settled t (record pool { resources = put_at r (fresh_core c.stall_ends) pool.resources })) (record s { free = clear_at r s.free })
+    change_pool i (λ pool. settled_pool t (record pool { resources = put_at r (fresh_core c.stall_ends) pool.resources })) (record s { free = clear_at r s.free })
 
 -- a core of the pool i becomes free
 abbrev pub without_core_in : ℕ → ℕ → ℕ → Resource → State → State
 without_core_in t r i c s =
-    record (change_pool i (λ pool. settled t (record pool { resources = clear_at r pool.resources })) s) {
+    record (change_pool i (λ pool. settled_pool t (record pool { resources = clear_at r pool.resources })) s) {
       free = put_at r (record { target = None; stall_ends = map (λ p. p.stall_end) c.processors }) s.free;
     }
 
@@ -172,11 +172,11 @@ is_null (NullPool kept) = true
 
 -- the pool that a domain left; a null pool's cores are looked at, since one of them may have become free for a waiting unit
 abbrev pub left_by : ℕ → ℕ → Pool → Pool
-left_by t d pool = (if is_null pool.scheduler.records then settled t (without_domain d pool) else without_domain d pool)
+left_by t d pool = (if is_null pool.scheduler.records then settled_pool t (without_domain d pool) else without_domain d pool)
 
 -- the domain joins its new pool with that scheduler's default parameters
 abbrev pub joined_by : ℕ → ℕ → ℕ → Domain → Pool → Pool
-joined_by g t d domain pool = settled t (with_domain g t d (record domain { moving = None }) (default_dom_params pool.scheduler.records) pool)
+joined_by g t d domain pool = settled_pool t (with_domain g t d (record domain { moving = None }) (default_dom_params pool.scheduler.records) pool)
 
 -- the state after the domain is moved
 abbrev pub after_dom_moved : ℕ → ℕ → ℕ → State → State
@@ -208,7 +208,7 @@ event_of m s t action = event_in m.config.granularity t (home_pool m s action) a
 
 -- the state after an action at its subject's home: the event of the pool, and then its cores that are to decide anew
 abbrev pub after_at_home : ℕ → State → ℕ → Action → State
-after_at_home g s t action = elim (home_of g s action) [ None ↦ s | Some i ↦ change_pool i (λ pool. settled t (after_in g t pool action)) s ]
+after_at_home g s t action = elim (home_of g s action) [ None ↦ s | Some i ↦ change_pool i (λ pool. settled_pool t (after_in g t pool action)) s ]
 
 -- the state after an action that is enabled at t
 abbrev pub after : Machine → State → ℕ → Action → State

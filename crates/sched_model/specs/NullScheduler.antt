@@ -4,7 +4,7 @@ use Rattle.sched_base.specs.declared.UnitId.{UnitId}
 use Rattle.sched_model.specs.Places.{put_at, clear_at, same_unit}
 use Rattle.sched_model.specs.State.{Scheduler}
 use Rattle.sched_model.specs.declared.state.Records.TheVariants.{NullPool}
-use Rattle.sched_model.specs.Eligible.{Ask, Decision, is_placed, eligible_units}
+use Rattle.sched_model.specs.EligibleUnits.{Ask, Decision, is_placed, eligible_units}
 
 -- the units kept for the cores, without those that pass the test
 abbrev pub kept_without : (UnitId → Bool) → List (Option UnitId) → List (Option UnitId)

@@ -19,7 +19,7 @@ use Rattle.sched_model.specs.Places.{at_place, put_at, clear_at, change_at, chan
 use Rattle.sched_model.specs.State.{Scheduler, Records, Credit2Domain, RtdsUnit}
 use Rattle.sched_model.specs.declared.state.Records.TheVariants.{Credit2Pool, RtdsPool, ArincPool, NullPool}
 use Rattle.sched_model.specs.Arinc.{Window, present_window}
-use Rattle.sched_model.specs.Eligible.{Ask, Decision, is_allowed, is_eligible, rtds_unit}
+use Rattle.sched_model.specs.EligibleUnits.{Ask, Decision, is_allowed, is_eligible, rtds_unit}
 use Rattle.sched_model.specs.Credit2 as credit2
 use Rattle.sched_model.specs.Rtds as rtds
 use Rattle.sched_model.specs.NullScheduler as null

@@ -3,6 +3,7 @@ use Rattle.sched_base.specs.Numbers.{moment, span, processor, core, domain, core
 use Rattle.std.specs.Prelude.{ℕ, ◌+◌, ◌-◌, ◌*◌, ◌/◌, ◌%◌, ◌^◌, ◌==◌, ◌&&◌, ◌||◌, suc, Bool, true, false, not, List, [], ◌∷◌, Option, Some, None, is_none, is_some, option_map, unwrap_or, slice_get, slice_index_or, length, if◌then◌else◌, min, pos, Ok}
 use Rattle.std.specs.List.{list_any, list_all}
 use Rattle.sched_base.specs.declared.UnitId.{UnitId}
+pub use Rattle.sched_base.specs.Units.{no_unit}
 use Rattle.sched_base.specs.declared.Moment.{Moment}
 use Rattle.sched_base.specs.declared.VcpuId.{VcpuId}
 use Rattle.sched_model.specs.declared.event.Event.{Event}
@@ -23,9 +24,9 @@ use Rattle.sched_model.specs.declared.config.DomParams.{DomParams}
 use Rattle.sched_model.specs.declared.config.ParamChange.{ParamChange}
 use Rattle.sched_model.specs.declared.config.ParamChange.TheVariants as changes
 use Rattle.sched_model.specs.Credit2.{periods}
-use Rattle.sched_model.specs.Eligible.{Ask, Decision}
+use Rattle.sched_model.specs.EligibleUnits.{Ask, Decision}
 use Rattle.sched_model.specs.Policy as policy
-use Rattle.sched_model.specs.Policy.{decision_of, after_decision, better_waits, enqueue, rtds_record, credit2_record, default_dom_params}
+use Rattle.sched_model.specs.Policy.{decision_of, after_decision, better_waits, enqueue, rtds_record, credit2_record}
 
 -- the set of these cores, of which the first has the number r
 abbrev pub cores_from : ℕ → List (Option Resource) → ℕ
@@ -297,10 +298,6 @@ after_in g t pool (Save r) = elim (at_place pool.resources r.0) [ None ↦ pool 
 -- stands where there is no vCPU to name
 abbrev pub no_vcpu : VcpuId
 no_vcpu = record { dom = domain 0; n = 0 }
-
--- stands where there is no unit to name
-abbrev pub no_unit : UnitId
-no_unit = record { dom = domain 0; n = 0 }
 
 -- the RTDS record of the unit after its replenishment
 abbrev pub replenished_unit : ℕ → UnitId → Pool → Option RtdsUnit

@@ -6,7 +6,7 @@ use Rattle.sched_base.specs.RtdsNumbers.{burned_left, burned_level, next_deadlin
 use Rattle.sched_model.specs.Places.{change_at, change_item}
 use Rattle.sched_model.specs.State.{Scheduler, RtdsUnit}
 use Rattle.sched_model.specs.declared.state.Records.TheVariants.{RtdsPool}
-use Rattle.sched_model.specs.Eligible.{Ask, Decision, is_allowed, eligible_units, rtds_unit}
+use Rattle.sched_model.specs.EligibleUnits.{Ask, Decision, is_allowed, eligible_units, rtds_unit}
 
 -- the unit charged for a span
 abbrev pub burn : ℕ → RtdsUnit → RtdsUnit

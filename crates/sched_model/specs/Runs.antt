@@ -8,6 +8,7 @@ use Rattle.sched_model.specs.Opening.{opening}
 use Rattle.sched_model.specs.Pool.{Action}
 use Rattle.sched_model.specs.declared.action.Action.TheVariants.{Stall, Xl, Moved, DomMoved, Wake, Block, Slice, Repl, Refill, Arrive, Decide, Leave, Save}
 use Rattle.sched_model.specs.Machine.{is_enabled, first_enabled, event_of, after, next_in_horizon}
+use Rattle.sched_base.specs.Numbers.{moment}
 
 -- the action whose event it is, where it is one of an action
 abbrev pub action_of : Event → Option Action
@@ -84,3 +85,7 @@ IsRun m entries = IsRunFrom m (run_start m) entries
 -- the entries are a run that is over
 abbrev pub IsWholeRun : Machine → List Entry → Type 0
 IsWholeRun m entries = IsRun m entries × ((after_entries m (run_start m) entries).over ≡ true)
+
+-- the entry of an action that may come now
+abbrev pub entry_of : Machine → State → Action → Entry
+entry_of m s action = record { at = moment s.now; event = event_of m s s.now action }

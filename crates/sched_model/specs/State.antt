@@ -1,5 +1,5 @@
 -- The machine, and words on its state.
-use Rattle.std.specs.Prelude.{ℕ, ◌*◌, ◌/◌, ◌%◌, ◌^◌, ◌==◌, ◌&&◌, Bool, false, not, List, Option, Some, None, is_none, take, drop, nat_le}
+use Rattle.std.specs.Prelude.{ℕ, ◌*◌, ◌&&◌, Bool, false, not, List, Option, Some, None, is_none, take, drop, nat_le}
 use Rattle.std.specs.List.{list_any}
 use Rattle.sched_base.specs.declared.UnitId.{UnitId}
 use Rattle.sched_base.specs.declared.Moment.{Moment}
@@ -7,6 +7,7 @@ use Rattle.sched_model.specs.declared.state.Processor.{Processor}
 use Rattle.sched_model.specs.declared.state.Vcpu.{Vcpu}
 use Rattle.sched_model.specs.declared.state.Domain.{Domain}
 use Rattle.sched_model.specs.Places.{at_place}
+pub use Rattle.sched_base.specs.CoreSets.{has_core}
 pub use Rattle.sched_model.specs.declared.machine.Machine.{Machine}
 pub use Rattle.sched_model.specs.declared.state.FreeCore.{FreeCore}
 pub use Rattle.sched_model.specs.declared.state.Credit2Unit.{Credit2Unit}
@@ -47,7 +48,3 @@ has_come t (Some m) = nat_le m.0 t
 -- whether the processor is not stalled
 abbrev pub is_up : ℕ → Processor → Bool
 is_up t p = nat_le p.stall_end.0 t
-
--- whether the core is in the set
-abbrev pub has_core : ℕ → ℕ → Bool
-has_core cores r = (cores / 2 ^ r) % 2 == 1

@@ -3,6 +3,14 @@
 use crate::short::Short;
 use sched_base::{DomId, Moment, PoolId, ResId, Span};
 
+/// The RTDS parameters that a command gives, in nanoseconds; what it does not give stays as it was set.
+#[derive(Clone, Copy, Debug, PartialEq, Eq)]
+pub struct RtdsGiven {
+    pub period: Option<Span>,
+    pub budget: Option<Span>,
+    pub extra: Option<bool>,
+}
+
 /// The set values of a unit: for RTDS the newest set ones, which may wait for the next replenishment.
 #[derive(Clone, Copy, Debug, PartialEq, Eq)]
 pub enum Stored {

@@ -23,7 +23,7 @@ impl<T> Model for Row<T> {
 impl<T> Row<T> {
     ghost use Rattle.std.specs.Prelude.{◌≡◌, ◌<◌, ◌==◌, ◌++◌, ◌∷◌, ◌↔◌, [], IsSome, IfSome, length, slice_index_or, slice_set, OnOk, OnErr};
     ghost use Rattle.std.specs.Borrow.{sem};
-    ghost use Rattle.sched_model.specs.Lent.{row_lends_item, row_lends_get};
+    ghost use Rattle.sched_model.specs.Loans.{row_lends_item, row_lends_get};
 
     /// The list of a vector. It takes no memory.
     pub fn from_vec(items: Vec<T>) -> Row<T>

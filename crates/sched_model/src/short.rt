@@ -20,7 +20,7 @@ impl<T, const N: usize> Model for Short<T, N> {
 impl<T, const N: usize> Short<T, N> {
     ghost use Rattle.std.specs.Prelude.{◌≡◌, ◌==◌, ◌↔◌, ◌<◌, ◌≤◌, IsSome, IfSome, length, slice_index_or};
     ghost use Rattle.std.specs.Borrow.{sem};
-    ghost use Rattle.sched_model.specs.Lent.{short_lends_get};
+    ghost use Rattle.sched_model.specs.Loans.{short_lends_get};
 
     /// The items, at most N.
     pub fn as_slice(&self) -> &[T]

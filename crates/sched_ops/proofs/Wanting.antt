@@ -11,7 +11,7 @@ use Rattle.sched_model.specs.declared.state.Scheduler.{Scheduler}
 use Rattle.sched_model.specs.Places.{at_place}
 use Rattle.sched_model.specs.Policy.{better_waits}
 use Rattle.sched_model.specs.State.{has_core}
-use Rattle.sched_ops.specs.Wanted.{is_asked, is_wanted, IsAnswer}
+use Rattle.sched_ops.specs.WantedCores.{is_asked, is_wanted, IsAnswer}
 use Rattle.sched_ops.proofs.Bits.{front_first, front_rest}
 
 -- the bits of a set are those of the places from one on

@@ -16,8 +16,8 @@ use Rattle.sched_model.specs.declared.state.Records.TheVariants.{Credit2Pool, Rt
 use Rattle.sched_model.specs.declared.ask.Ask.{Ask}
 use Rattle.sched_model.specs.declared.state.Scheduler.{Scheduler}
 use Rattle.sched_model.specs.Places.{at_place, has_unit}
-use Rattle.sched_model.specs.Eligible.{rtds_unit}
-use Rattle.sched_model.specs.Checked.{IsWithin, most_span}
+use Rattle.sched_model.specs.EligibleUnits.{rtds_unit}
+use Rattle.sched_model.specs.CheckedMachine.{IsWithin, most_span}
 use Rattle.sched_ranges.specs.Ranges.{IsFrame}
 use Rattle.sched_ops.specs.Seen.{Seen, units_of}
 

@@ -1,6 +1,6 @@
 pub mod Seen
 pub mod Conditions
 pub mod Timers
-pub mod Wanted
+pub mod WantedCores
 pub mod Told
 pub mod Examples

@@ -2,12 +2,13 @@
 use Rattle.std.specs.Prelude.{ℕ, ◌≡◌, [], Some, None, length, replicate}
 use Rattle.sched_base.specs.declared.UnitId.{UnitId}
 use Rattle.sched_model.specs.declared.config.PoolParams.{PoolParams}
+use Rattle.sched_model.specs.declared.config.SchedKind.{SchedKind}
 use Rattle.sched_model.specs.declared.state.Records.{Records}
 use Rattle.sched_model.specs.declared.state.Records.TheVariants.{Credit2Pool, RtdsPool, ArincPool, NullPool}
 use Rattle.sched_model.specs.declared.state.Scheduler.{Scheduler}
 use Rattle.sched_model.specs.Places.{at_place, without_unit}
-use Rattle.sched_model.specs.Eligible.{Decision}
-use Rattle.sched_model.specs.Policy.{fresh_records}
+use Rattle.sched_model.specs.EligibleUnits.{Decision}
+use Rattle.sched_model.specs.Policy.{fresh_records, default_pool_params}
 use Rattle.sched_ops.specs.declared.choice.Choice.{Choice}
 
 -- the waiting units in order of arrival, the sets of cores and the records; how many units may still join; and the greatest moment that was given
@@ -19,6 +20,10 @@ pub record Seen : Type 0 where
 -- a scheduler with these parameters and no domain, on a machine of so many domains and cores
 abbrev pub vacant_scheduler : PoolParams → ℕ → ℕ → Scheduler
 vacant_scheduler params domains cores = record { queue = []; affinity = replicate domains None; records = fresh_records params domains cores }
+
+-- what is seen of a scheduler without memory: it has its default parameters, no domain and no place for one
+abbrev pub bare_seen : SchedKind → Seen
+bare_seen kind = record { scheduler = vacant_scheduler (default_pool_params kind) 0 0; spare = 0; latest = 0 }
 
 -- the places for cores of a scheduler that has some
 abbrev pub core_places : Records → ℕ

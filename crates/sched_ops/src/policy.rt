@@ -27,11 +27,11 @@ pub trait Policy: Drop {
     ghost use Rattle.sched_model.specs.Places.{at_place, has_unit};
     ghost use Rattle.sched_model.specs.State.{has_core};
     ghost use Rattle.sched_model.specs.Policy.{decision_of, after_decision, enqueue as enqueue_spec, join as join_spec, part as part_spec, set_params as set_params_spec, rate_of, kind_of, default_pool_params};
-    ghost use Rattle.sched_laws.specs.Each.{EachPlace};
+    ghost use Rattle.sched_laws.specs.EachPlace.{EachPlace};
     ghost use Rattle.sched_ops.specs.Seen.{Seen, Tells, vacant_scheduler, restarted_scheduler, dequeue as dequeue_spec, units_of, with_scheduler, seen_at};
     ghost use Rattle.sched_ops.specs.Conditions.{IsNow, IsAsked, IsAway, HasNoneBusy, ArePoolParams, AreDomParams, IsChange, Keeps, is_member, is_vacant, has_joined};
     ghost use Rattle.sched_ops.specs.Timers.{timer_at, is_due, timer_event, after_timer};
-    ghost use Rattle.sched_ops.specs.Wanted.{MayAsk, is_wanted};
+    ghost use Rattle.sched_ops.specs.WantedCores.{MayAsk, is_wanted};
     ghost use Rattle.sched_ops.specs.Told.{IsInRange};
     ghost use Rattle.sched_model.specs.Policy.{stored_of};
 
@@ -56,7 +56,9 @@ pub trait Policy: Drop {
     fn restart(&mut self, params: &PoolParams)
         requires vacant { is_vacant (seen self.old).scheduler ≡ true }
         requires params { ArePoolParams (kind_of (seen self.old).scheduler.records) params.now }
-        ensures { seen self.new ≡ with_scheduler (restarted_scheduler params.now (seen self.old).scheduler) (seen self.old) };
+        ensures { seen self.new
+            ≡ with_scheduler (restarted_scheduler params.now (seen self.old).scheduler)
+            (seen self.old) };
 
     /// The domain joins at t, with so many units, 1 to 32. Its units may have all cores; none of them waits yet.
     fn join(&mut self, d: DomId, units: u8, params: &DomParams, t: Moment)
@@ -84,18 +86,23 @@ pub trait Policy: Drop {
     /// The unit, which neither waits nor is on, waits behind all others.
     fn enqueue(&mut self, u: UnitId)
         requires away { IsAway (seen self.old).scheduler u }
-        ensures { seen self.new ≡ with_scheduler (enqueue_spec u (seen self.old).scheduler) (seen self.old) };
+        ensures { seen self.new
+            ≡ with_scheduler (enqueue_spec u (seen self.old).scheduler) (seen self.old) };
 
     /// The unit, which waits, waits no more.
     fn dequeue(&mut self, u: UnitId)
         requires waits { has_unit (seen self.old).scheduler.queue u ≡ true }
-        ensures { seen self.new ≡ with_scheduler (dequeue_spec u (seen self.old).scheduler) (seen self.old) };
+        ensures { seen self.new
+            ≡ with_scheduler (dequeue_spec u (seen self.old).scheduler) (seen self.old) };
 
     /// Decides for a core. The chosen unit is on then and waits no more; the core's own, where it is another, is not on.
     fn choose(&mut self, ask: &Ask) -> Choice
         requires asked { IsAsked (seen self.old) ask.now }
         ensures answer { Tells result (decision_of ask.now (seen self.old).scheduler) }
-        ensures after { seen self.new ≡ seen_at ask.now.at.0 (after_decision (decision_of ask.now (seen self.old).scheduler) (seen self.old).scheduler) (seen self.old) };
+        ensures after { seen self.new
+            ≡ seen_at ask.now.at.0
+            (after_decision (decision_of ask.now (seen self.old).scheduler)
+            (seen self.old).scheduler) (seen self.old) };
 
     /// The cores that are to decide anew at t: of the cores at these places each that is neither leaving nor to decide already, and
     /// that has none while a unit waits for it, or whose own unit is not allowed on it, or for which a better one waits. A core's own
@@ -104,7 +111,9 @@ pub trait Policy: Drop {
         requires now { IsNow (seen self.now) t.0 }
         requires few { length cores.now ≤ 64 }
         requires asks { EachPlace (MayAsk t.0 (seen self.now).scheduler) cores.now }
-        ensures { (r : ℕ) → has_core result.0 r ≡ is_wanted t.0 home.0 (seen self.now).scheduler r (at_place cores.now r) };
+        ensures { (r : ℕ)
+            → has_core result.0 r
+            ≡ is_wanted t.0 home.0 (seen self.now).scheduler r (at_place cores.now r) };
 
     /// The first timer, by domain and unit, whose moment has come at t; where there is none, the one of the least moment. `None`
     /// where no timer is armed. A replenishment is armed while its unit waits or is on.
@@ -116,14 +125,17 @@ pub trait Policy: Drop {
         requires now { IsNow (seen self.old) t.0 }
         requires due { is_due t.0 (seen self.old).scheduler which ≡ true }
         ensures event { result ≡ timer_event t.0 (seen self.old).scheduler which }
-        ensures after { seen self.new ≡ seen_at t.0 (after_timer t.0 (seen self.old).scheduler which) (seen self.old) };
+        ensures after { seen self.new
+            ≡ seen_at t.0 (after_timer t.0 (seen self.old).scheduler which) (seen self.old) };
 
     /// Changes parameters at t. Those of an RTDS unit wait for its next replenishment.
     fn set_params(&mut self, change: &ParamChange, t: Moment)
         requires now { IsNow (seen self.old) t.0 }
         requires change { IsChange (kind_of (seen self.old).scheduler.records)
             (seen self.old).scheduler change.now }
-        ensures { seen self.new ≡ seen_at t.0 (set_params_spec change.now t.0 (seen self.old).scheduler) (seen self.old) };
+        ensures { seen self.new
+            ≡ seen_at t.0 (set_params_spec change.now t.0 (seen self.old).scheduler)
+            (seen self.old) };
 
     /// The set values of a unit; for RTDS the newest ones.
     fn stored(&self, u: UnitId) -> Stored

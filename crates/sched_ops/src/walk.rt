@@ -5,7 +5,7 @@ ghost use Rattle.sched_base.specs.Numbers.{core};
 ghost use Rattle.sched_model.specs.State.{has_core};
 ghost use Rattle.sched_model.specs.Places.{at_place};
 ghost use Rattle.sched_model.specs.declared.state.Resource.{Resource as ResourceRecord};
-ghost use Rattle.sched_ops.specs.Wanted.{is_asked, IsAnswer};
+ghost use Rattle.sched_ops.specs.WantedCores.{is_asked, IsAnswer};
 
 use sched_base::{Cores, Moment, ResId, UnitId};
 use sched_model::state::Resource;

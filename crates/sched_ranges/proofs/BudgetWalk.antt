@@ -21,16 +21,16 @@ use Rattle.sched_model.specs.declared.action.Action.TheVariants.{Moved}
 use Rattle.sched_model.specs.Places.{at_place, put_at, clear_at, change_at, numbers_from}
 use Rattle.sched_model.specs.Opening.{fresh_core, core_count}
 use Rattle.sched_model.specs.Policy as policy
-use Rattle.sched_model.specs.Policy.{rtds_record, changed_records, joined_records, parted_records, fresh_records, decision_of, decision_by, arinc_decision, default_dom_params, default_pool_params}
+use Rattle.sched_model.specs.Policy.{rtds_record, changed_records, joined_records, parted_records, fresh_records, decision_of, decision_by, default_dom_params, default_pool_params}
 use Rattle.sched_model.specs.Pool as pools
-use Rattle.sched_model.specs.Pool.{enabled_in, after_in, settled_pool, home_cores, reconsidered_core, change_core, change_processor, change_vcpu, change_domain, change_cores_of, with_doing, started_on, set_leaving, set_moving, set_pending, pause, unpause, set_params, without_domain, with_domain, is_of_domain, is_held, is_open, first_up, processor_of, guest_of, decided_core, same_choice, ask_of}
+use Rattle.sched_model.specs.Pool.{enabled_in, change_core, change_domain, set_params, without_domain, with_domain, is_open, first_up, decided_core, same_choice, ask_of}
 use Rattle.sched_laws.proofs.EachPlace.{EachPlace-empty, by_option, by_test, at_place-put_at, at_place-put_at_other, at_place-clear_at_other, place_below, EachAt-clear_at, EachAt-put_at}
 use Rattle.sched_laws.proofs.Lists.{AllByRecursion-map, some-test_at}
 use Rattle.sched_laws.proofs.Kept.{IsKept}
 use Rattle.sched_laws.proofs.Sound.{none_is}
 use Rattle.sched_laws.proofs.Known.{known_pools}
-use Rattle.sched_laws.specs.Known.{IsKnownPool}
-use Rattle.sched_laws.proofs.Bools.{and_left, and_right}
+use Rattle.sched_laws.specs.PoolFacts.{IsKnownPool}
+use Rattle.sched_base.proofs.Bools.{and_left, and_right}
 use Rattle.std.proofs.lemmas.Nat.{le-div}
 use Rattle.sched_base.specs.declared.Span.{Span}
 use Rattle.sched_base.specs.Credit2Numbers.{start_credit}
@@ -39,16 +39,16 @@ use Rattle.sched_model.specs.declared.config.DomConfig.{DomConfig}
 use Rattle.sched_model.specs.declared.ask.Ask.{Ask}
 use Rattle.sched_model.specs.declared.state.Credit2Unit.{Credit2Unit}
 use Rattle.sched_model.specs.declared.state.Credit2Domain.{Credit2Domain}
-use Rattle.sched_model.specs.Eligible.{Decision}
-use Rattle.sched_model.specs.Checked.{IsChecked}
+use Rattle.sched_model.specs.EligibleUnits.{Decision}
+use Rattle.sched_model.specs.CheckedMachine.{IsChecked}
 use Rattle.sched_model.specs.Commands.{set_rtds_unit}
 use Rattle.sched_model.specs.Credit2.{domain_has_budget}
 use Rattle.sched_laws.proofs.Choices.{decision_has}
-use Rattle.sched_laws.specs.Known.{IfUnit}
+use Rattle.sched_laws.specs.PoolFacts.{IfUnit}
 use Rattle.sched_laws.proofs.Counts.{total_at}
 use Rattle.sched_laws.specs.Counts.{times, one_at}
 use Rattle.sched_laws.proofs.OnePlace.{one_same, both_of, there_each, same_choice_same}
-use Rattle.sched_laws.specs.Known.{OnePlace, core_places}
+use Rattle.sched_laws.specs.PoolFacts.{OnePlace, core_places}
 use Rattle.sched_laws.proofs.Fits.{ChangeFits}
 use Rattle.sched_laws.proofs.Records.{same_joined, same_decision}
 use Rattle.sched_laws.proofs.Events.{LikePlaces, like_change_at, capped, like_of_domain, like_is, like_map, KeepsCore, KeptByCommands, KeptByParts, commands_of, kept_settled, kept_processor, kept_by_parts, kept_set_leaving, kept_withdrawn, kept_pause, kept_unpause, kept_marked, kept_queue_units}

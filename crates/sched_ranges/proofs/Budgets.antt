@@ -20,7 +20,7 @@ use Rattle.sched_ranges.proofs.Budget.{get_map, helds_item, lasts_item, held_wea
 use Rattle.sched_ranges.specs.Budgets.{lasts, helds, HeldFits, BudgetFits, Nobody}
 
 -- the part that a unit takes of a budget above 0
-div_small : (a b : ℕ) → a / b ≤ a
+pub div_small : (a b : ℕ) → a / b ≤ a
 div_small a zero = grind arith
 div_small a (suc b) =
     let d : a / suc b * suc b + a % suc b ≡ a = div-add-mod' a (suc b) in
@@ -33,7 +33,7 @@ quota_small cap units low = max_low (total cap / units) (let d = div_small (tota
     max_low : (a : ℕ) → a ≤ 640000000 → max a 500000 ≤ 640000000
     max_low a x = grind (arith, x)
 
-taken_low : (b : ℤ) (q : ℕ) → pos 0 ≤ℤ b → pos 0 ≤ℤ take b q
+pub taken_low : (b : ℤ) (q : ℕ) → pos 0 ≤ℤ b → pos 0 ≤ℤ take b q
 taken_low b q low = omega (arith, ints, clamps, low)
 
 taken_most : (b : ℤ) (q : ℕ) → q ≤ 640000000 → take b q ≤ℤ pos 640000000

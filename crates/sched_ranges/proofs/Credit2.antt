@@ -13,15 +13,15 @@ use Rattle.sched_model.specs.declared.state.Credit2Unit.{Credit2Unit}
 use Rattle.sched_model.specs.declared.state.Credit2Domain.{Credit2Domain}
 use Rattle.sched_model.specs.declared.state.Credit2Records.{Credit2Records}
 use Rattle.sched_model.specs.Places.{at_place, change_item, numbered_items}
-use Rattle.sched_model.specs.Checked.{IsWithin}
+use Rattle.sched_model.specs.CheckedMachine.{IsWithin}
 use Rattle.sched_model.specs.Credit2.{max_weight, burn_unit, burn_units, burn_all, change_domain, change_unit, give_back, burn_cur, reset, take_budget, set_running, switch_off, refill_domain, refilled_pool, first_refill, fresh_domain, set_weight, set_cap, set_domain}
-use Rattle.sched_laws.specs.Each.{EachPlace}
+use Rattle.sched_laws.specs.EachPlace.{EachPlace}
 use Rattle.sched_laws.proofs.EachPlace.{EachPlace-change_at, EachPlace-change_each, by_option, by_cond, length_set, length_change_each}
 use Rattle.sched_ranges.proofs.Rtds.{AllByRecursion-change_item, still_last}
 use Rattle.sched_ranges.specs.Fits.{UnitFits, Credit2DomainFits, Credit2Fits}
 
 -- the greatest weight is one
-max_small : (a b : ℕ) → a ≤ 65535 → b ≤ 65535 → max a b ≤ 65535
+pub max_small : (a b : ℕ) → a ≤ 65535 → b ≤ 65535 → max a b ≤ 65535
 max_small a b x y = grind (arith, x, y)
 
 fold_small : (t n acc : ℕ) (domains : List (Option Credit2Domain)) → acc ≤ 65535 → EachPlace (Credit2DomainFits t) domains → fold max acc (map (λ (e : ℕ × Credit2Domain). e.1.weight) (numbered_items n domains)) ≤ 65535

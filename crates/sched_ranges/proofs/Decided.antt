@@ -5,6 +5,7 @@ use Rattle.std.specs.List.{AllByRecursion}
 use Rattle.std.specs.Option.{IfSome}
 use Rattle.std.proofs.lemmas.Int.{ints}
 use Rattle.std.proofs.Math.Decide.{ℕ_discrete}
+use Rattle.std.proofs.lemmas.Bool.{or_cases}
 use Rattle.sched_base.specs.Credit2Numbers.{raise}
 use Rattle.sched_base.specs.declared.UnitId.{UnitId}
 use Rattle.sched_model.specs.declared.ask.Ask.{Ask}
@@ -14,14 +15,14 @@ use Rattle.sched_model.specs.declared.state.Credit2Records.{Credit2Records}
 use Rattle.sched_model.specs.declared.state.Scheduler.{Scheduler}
 use Rattle.sched_model.specs.declared.state.Records.TheVariants.{Credit2Pool}
 use Rattle.sched_model.specs.Places.{at_place, change_item}
-use Rattle.sched_model.specs.Eligible.{is_allowed, is_eligible, has_budget}
+use Rattle.sched_model.specs.EligibleUnits.{is_allowed, is_eligible, has_budget}
 use Rattle.sched_model.specs.Credit2.{max_weight, burn_unit, burn_units, burn_all, change_domain, change_unit, give_back, burn_cur, own_candidate, choice, is_within_limit, domain_has_budget, reset, take_budget, set_running, switch_off, refill_domain, refilled_pool, set_weight, set_cap, set_domain}
-use Rattle.sched_laws.specs.Each.{EachAt}
-use Rattle.sched_laws.proofs.Bools.{and_right, one_of}
+use Rattle.sched_laws.specs.EachPlace.{EachAt}
+use Rattle.sched_base.proofs.Bools.{and_right}
 use Rattle.sched_laws.proofs.EachPlace.{EachAt-change_to, EachAt-change_at, EachAt-change_each, read_change_each, by_option, by_cond}
 use Rattle.sched_laws.proofs.Lists.{AllByRecursion-filter, item_below}
 use Rattle.sched_laws.proofs.Choices.{greatest_has}
-use Rattle.sched_laws.specs.Known.{IfUnit}
+use Rattle.sched_laws.specs.PoolFacts.{IfUnit}
 use Rattle.sched_laws.proofs.Sound.{read_change_item, change_at-twice}
 use Rattle.sched_ranges.proofs.Budget.{get_map, b_weaker, b_burn_units, b_same, b_running, b_own, own_domain}
 use Rattle.sched_ranges.specs.Budgets.{BudgetFits, Nobody}
@@ -105,7 +106,7 @@ module _ (t : ℕ) (C : ℕ → ℕ → Type 0) where
 
   -- the choice is of a domain that may run
   has_pays : (d : Credit2Domain) → has_budget d ≡ true → (d.cap ≡ 0) ⊎ (pos 0 ≤ℤ d.budget)
-  has_pays d has = elim (one_of (d.cap == 0) (int_lt (pos 0) d.budget) has) [ inl none ↦ inl (grind (arith, none)) | inr some ↦ inr (above d.budget some) ]
+  has_pays d has = elim (or_cases (d.cap == 0) (int_lt (pos 0) d.budget) has) [ inl none ↦ inl (grind (arith, none)) | inr some ↦ inr (above d.budget some) ]
     where
       above : (b : ℤ) → int_lt (pos 0) b ≡ true → pos 0 ≤ℤ b
       above (pos n) is = omega (arith, ints)

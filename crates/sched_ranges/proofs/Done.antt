@@ -4,6 +4,7 @@ use Rattle.std.specs.Prelude.{Option, Some, None, unwrap_or, pos, neg_ℤ, ◌�
 use Rattle.std.proofs.lemmas.List.Elements.{All-from_recursion, recursion_from_All}
 use Rattle.sched_base.specs.declared.Moment.{Moment}
 use Rattle.sched_base.specs.declared.Span.{Span}
+use Rattle.sched_base.proofs.Lists.{each_get}
 use Rattle.sched_model.specs.declared.event.Entry.{Entry}
 use Rattle.sched_model.specs.declared.machine.Machine.{Machine}
 use Rattle.sched_model.specs.declared.state.Pool.{Pool}
@@ -17,10 +18,9 @@ use Rattle.sched_model.specs.declared.state.Records.TheVariants.{Credit2Pool, Rt
 use Rattle.sched_model.specs.Places.{at_place}
 use Rattle.sched_model.specs.Opening.{core_count}
 use Rattle.sched_model.specs.Runs.{IsRun}
-use Rattle.sched_model.specs.Checked.{IsChecked, IsCheckedDomain, IsCheckedScript, most_span}
+use Rattle.sched_model.specs.CheckedMachine.{IsChecked, IsCheckedDomain, IsCheckedScript, most_span}
 use Rattle.sched_laws.specs.StateLaws.{state_after}
 use Rattle.sched_laws.proofs.Lists.{AllByRecursion-map, if_some, item_below}
-use Rattle.sched_laws.proofs.Opened.{each_get}
 use Rattle.sched_laws.proofs.SiblingsLaw.{some_processor}
 use Rattle.sched_laws.proofs.Reached as reached
 use Rattle.sched_ranges.specs.Ranges.{IsNear, IsPast, VcpuInRange, DomainInRange, IsUnitOf, CoreInRange, RtdsInRange, Credit2UnitInRange, Credit2InRange, IsFrame, RecordsInRange, PoolInRange, StateInRange}
@@ -79,22 +79,22 @@ rtds_in_range t x fits = record {
     spread l b k e = subst (λ (z : ℕ). l * z ≡ l * 10000 + l * k) (sym e) (grind arith)
 
 -- what the units of a domain hold, and the moments of their last charges, added up
-pub helds_most : (t cap : ℕ) (ys : List Credit2Unit) → ((n : ℕ) (y : Credit2Unit) → slice_get ys n ≡ Some y → HeldFits t cap ⊥ ⊥ y) → helds ys ≤ℤ pos (640000000 * length ys)
+helds_most : (t cap : ℕ) (ys : List Credit2Unit) → ((n : ℕ) (y : Credit2Unit) → slice_get ys n ≡ Some y → HeldFits t cap ⊥ ⊥ y) → helds ys ≤ℤ pos (640000000 * length ys)
 helds_most t cap [] fits = omega (arith, ints)
 helds_most t cap (y ∷ ys) fits = (let a = (fits 0 y refl).most in let b = helds_most t cap ys (λ n z at. fits (suc n) z at) in omega (arith, ints, a, b))
 
-pub helds_least : (t cap : ℕ) (ys : List Credit2Unit) → ((n : ℕ) (y : Credit2Unit) → slice_get ys n ≡ Some y → HeldFits t cap ⊥ ⊥ y) → neg_ℤ (pos (lasts t ys)) ≤ℤ helds ys
+helds_least : (t cap : ℕ) (ys : List Credit2Unit) → ((n : ℕ) (y : Credit2Unit) → slice_get ys n ≡ Some y → HeldFits t cap ⊥ ⊥ y) → neg_ℤ (pos (lasts t ys)) ≤ℤ helds ys
 helds_least t cap [] fits = omega (arith, ints)
 helds_least t cap (y ∷ ys) fits = (let a = (fits 0 y refl).least in let b = helds_least t cap ys (λ n z at. fits (suc n) z at) in omega (arith, ints, a, b))
 
-pub lasts_most : (t cap : ℕ) (ys : List Credit2Unit) → ((n : ℕ) (y : Credit2Unit) → slice_get ys n ≡ Some y → HeldFits t cap ⊥ ⊥ y) → lasts t ys ≤ length ys * t
+lasts_most : (t cap : ℕ) (ys : List Credit2Unit) → ((n : ℕ) (y : Credit2Unit) → slice_get ys n ≡ Some y → HeldFits t cap ⊥ ⊥ y) → lasts t ys ≤ length ys * t
 lasts_most t cap [] fits = omega arith
 lasts_most t cap (y ∷ ys) fits = (let a = (fits 0 y refl).last in let b = lasts_most t cap ys (λ n z at. fits (suc n) z at) in let r : suc (length ys) * t ≡ t + length ys * t = grind arith in omega (arith, a, b, r))
 
-pub times_few : (n t : ℕ) → n ≤ 32 → n * t ≤ 32 * t
+times_few : (n t : ℕ) → n ≤ 32 → n * t ≤ 32 * t
 times_few n t low = (let split : 32 ≡ n + (32 - n) = omega (arith, low) in subst (λ (z : ℕ). n * t ≤ z * t) (sym split) (let r : (n + (32 - n)) * t ≡ n * t + (32 - n) * t = grind arith in omega (arith, r)))
 
-pub units_in_range : (t weight cap : ℕ) (ys : List Credit2Unit) → weight ≤ 65535 → AllByRecursion (UnitFits t weight) ys → ((n : ℕ) (y : Credit2Unit) → slice_get ys n ≡ Some y → HeldFits t cap ⊥ ⊥ y) → AllByRecursion (Credit2UnitInRange t) ys
+units_in_range : (t weight cap : ℕ) (ys : List Credit2Unit) → weight ≤ 65535 → AllByRecursion (UnitFits t weight) ys → ((n : ℕ) (y : Credit2Unit) → slice_get ys n ≡ Some y → HeldFits t cap ⊥ ⊥ y) → AllByRecursion (Credit2UnitInRange t) ys
 units_in_range t weight cap [] low each held = tt
 units_in_range t weight cap (y ∷ ys) low each held = (
   record {
@@ -108,8 +108,8 @@ units_in_range t weight cap (y ∷ ys) low each held = (
   units_in_range t weight cap ys low each.1 (λ n z at. held (suc n) z at),
 )
 
-credit2_in_range : (m : Machine) (t dom : ℕ) (d : Credit2Domain) → length d.units ≤ 32 → Credit2DomainFits t d → BudgetFits t (CountIs m dom) Nobody Nobody d → Credit2InRange t d
-credit2_in_range m t dom d few fits budget = record {
+pub credit2_in_range : (t : ℕ) (counts : ℕ → Type 0) (d : Credit2Domain) → length d.units ≤ 32 → Credit2DomainFits t d → BudgetFits t counts Nobody Nobody d → Credit2InRange t d
+credit2_in_range t counts d few fits budget = record {
   weight = fits.weight;
   cap = fits.cap;
   refill = if_some d.refill (λ (r : ℕ). r ≤ t + 10000000) fits.refill;
@@ -153,7 +153,7 @@ records_in_range : (m : Machine) → IsChecked m → (t : ℕ) (records : Record
 records_in_range m checked t (Credit2Pool records) cores credit fits = (
   fits.places,
   fits.limit,
-  λ d x at. (let budget = (credit records refl).budgets d x at in credit2_in_range m t d x (units_few m checked t d x records fits.places at budget) (fits.domains d x at) budget),
+  λ d x at. (let budget = (credit records refl).budgets d x at in credit2_in_range t (CountIs m d) x (units_few m checked t d x records fits.places at budget) (fits.domains d x at) budget),
 )
 records_in_range m checked t (RtdsPool domains) cores credit fits = (fits.places, λ d units at. All-from_recursion (RtdsInRange t) units (AllByRecursion-map (RtdsFits t) (RtdsInRange t) (rtds_in_range t) units (fits.units d units at)))
 records_in_range m checked t (ArincPool records) cores credit fits = (fits.installed, if_some records.frame IsFrame (λ frame has. record { some_span = (let l = (fits.major frame has).least in omega (arith, l)); fits = fits.fits frame has; bounded = (fits.major frame has).most }))

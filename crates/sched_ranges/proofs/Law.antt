@@ -8,6 +8,7 @@ use Rattle.std.proofs.lemmas.List.Elements.{recursion_from_All}
 use Rattle.sched_base.specs.Numbers.{moment, domain as domain_number}
 use Rattle.sched_base.specs.declared.Moment.{Moment}
 use Rattle.sched_base.specs.declared.Span.{Span}
+use Rattle.sched_base.proofs.Lists.{each_get}
 use Rattle.sched_model.specs.declared.event.Event.{Event}
 use Rattle.sched_model.specs.declared.event.Entry.{Entry}
 use Rattle.sched_model.specs.declared.machine.Machine.{Machine}
@@ -30,16 +31,16 @@ use Rattle.sched_model.specs.declared.state.Resource.{Resource}
 use Rattle.sched_model.specs.Places.{at_place}
 use Rattle.sched_model.specs.State.{has_core}
 use Rattle.sched_model.specs.Opening.{opening, opening_pool, opening_free, fresh_core, fresh_vcpu, core_count}
-use Rattle.sched_model.specs.Checked.{IsChecked, IsCheckedPool, IsCheckedDomain, IsCheckedScript, IsCheckedStall, DomParamsPass, most_span}
+use Rattle.sched_model.specs.CheckedMachine.{IsChecked, IsCheckedPool, IsCheckedDomain, IsCheckedScript, IsCheckedStall, DomParamsPass, most_span}
 use Rattle.sched_model.specs.Actions.{home_of_core}
 use Rattle.sched_model.specs.Machine.{is_enabled, after, next_in_horizon, next_moment, stall_end_of}
 use Rattle.sched_model.specs.Runs.{Reached, action_of, end_of, after_quiet, after_event, IsNextEvent, IsRunFrom, IsRun, run_start, after_entry, after_entries}
-use Rattle.sched_laws.specs.Each.{EachPlace}
+use Rattle.sched_laws.specs.EachPlace.{EachPlace}
 use Rattle.sched_laws.specs.StateLaws.{state_after}
 use Rattle.sched_laws.proofs.EachPlace.{EachPlace-empty, by_option, by_cond}
 use Rattle.sched_laws.proofs.Kept.{IsApart}
 use Rattle.sched_laws.proofs.ApartKept.{apart_after}
-use Rattle.sched_laws.proofs.Opened.{each_get, read_map, read_pools, apart_opening, joining_domain, length_map_numbers, kept_opening, opened_keeps}
+use Rattle.sched_laws.proofs.Opened.{read_map, read_pools, apart_opening, joining_domain, length_map_numbers, kept_opening, opened_keeps}
 use Rattle.sched_laws.proofs.Steps.{FreeFits, step_after}
 use Rattle.sched_laws.proofs.Free.{free_after}
 use Rattle.sched_laws.proofs.Ready.{next_later}
@@ -48,7 +49,7 @@ use Rattle.sched_ranges.proofs.Records.{ParamsFit, opened_fits, later_fits}
 use Rattle.sched_ranges.proofs.Walk.{DomFits, NearEnd, NearProcessor, CoreFits, PoolFits, EndsFit, r_set_params, r_with_domain, fresh_core_fits}
 use Rattle.sched_laws.proofs.SiblingsLaw.{some_processor}
 use Rattle.sched_laws.proofs.Known.{known_pools}
-use Rattle.sched_laws.specs.Known.{IsKnownPool}
+use Rattle.sched_laws.specs.PoolFacts.{IsKnownPool}
 use Rattle.sched_ranges.proofs.BudgetWalk.{WholePool, CreditFits, whole_steps, n_later, n_fresh, n_set_params, n_with_domain}
 
 -- what is kept of every state
@@ -138,7 +139,7 @@ fits_from m checked from [] run fits = fits
 fits_from m checked from (entry ∷ entries) run fits = fits_from m checked (after_entry m from entry) entries run.1 (fits_event m checked entry.event (action_of entry.event) from run.0.event fits)
 
 -- the opening
-params_pass : (kind : SchedKind) (params : DomParams) → DomParamsPass kind params → ParamsFit params
+pub params_pass : (kind : SchedKind) (params : DomParams) → DomParamsPass kind params → ParamsFit params
 params_pass kinds.Credit2 (dom_params.Credit2 weight percent) passed = passed
 params_pass kinds.Rtds (dom_params.Rtds period budget extra) passed = (passed.0, record { least = passed.1.least; most = (let a = passed.0.most in let b = passed.1.most in omega (arith, a, b)) })
 params_pass kind dom_params.Arinc653 passed = tt

@@ -20,7 +20,7 @@ use Rattle.sched_model.specs.Actions.{home_of, home_of_core, home_of_domain}
 use Rattle.sched_model.specs.Commands.{carried_out, change_home, pool_of_plan}
 use Rattle.sched_model.specs.Machine.{is_enabled, after, after_at_home, after_stall, after_command, after_moved, after_dom_moved, verdict, settled_at}
 use Rattle.sched_model.specs.Runs.{IsRun}
-use Rattle.sched_model.specs.Checked.{IsChecked}
+use Rattle.sched_model.specs.CheckedMachine.{IsChecked}
 use Rattle.sched_laws.specs.StateLaws.{state_after}
 use Rattle.sched_laws.proofs.EachPlace.{by_option, by_cond, length_set}
 use Rattle.sched_laws.proofs.Opened.{length_map_numbers}

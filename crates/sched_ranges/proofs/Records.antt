@@ -29,10 +29,10 @@ use Rattle.sched_model.specs.declared.state.Records.TheVariants.{Credit2Pool, Rt
 use Rattle.sched_model.specs.declared.state.Scheduler.{Scheduler}
 use Rattle.sched_model.specs.Places.{at_place, clear_at, same_unit}
 use Rattle.sched_model.specs.Arinc.{Window, window_at, present_window}
-use Rattle.sched_model.specs.Eligible.{Decision, rtds_unit}
-use Rattle.sched_model.specs.Checked.{IsWithin, most_span, PoolParamsPass}
+use Rattle.sched_model.specs.EligibleUnits.{Decision, rtds_unit}
+use Rattle.sched_model.specs.CheckedMachine.{IsWithin, most_span, PoolParamsPass}
 use Rattle.sched_model.specs.Policy as policy
-use Rattle.sched_model.specs.Policy.{decision_by, decision_of, arinc_decision, joined_records, parted_records, changed_records, fresh_records, default_dom_params, default_pool_params, rtds_record}
+use Rattle.sched_model.specs.Policy.{decision_by, arinc_decision, joined_records, parted_records, changed_records, fresh_records, default_dom_params, default_pool_params, rtds_record}
 use Rattle.sched_model.specs.Credit2 as credit2
 use Rattle.sched_model.specs.Rtds as rtds
 use Rattle.sched_model.specs.NullScheduler as null

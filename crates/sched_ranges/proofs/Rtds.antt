@@ -8,16 +8,16 @@ use Rattle.sched_base.specs.Numbers.{moment}
 use Rattle.sched_base.specs.RtdsNumbers.{burned_left, burned_level, next_deadline}
 use Rattle.sched_base.specs.declared.Moment.{Moment}
 use Rattle.sched_base.specs.declared.UnitId.{UnitId}
+use Rattle.sched_base.proofs.Lists.{each_get}
 use Rattle.sched_model.specs.declared.ask.Ask.{Ask}
 use Rattle.sched_model.specs.declared.state.RtdsUnit.{RtdsUnit}
 use Rattle.sched_model.specs.declared.state.Records.TheVariants.{RtdsPool}
 use Rattle.sched_model.specs.declared.state.Scheduler.{Scheduler}
 use Rattle.sched_model.specs.Places.{at_place, change_item}
-use Rattle.sched_model.specs.Eligible.{Decision, rtds_unit}
-use Rattle.sched_model.specs.Checked.{IsWithin, most_span}
+use Rattle.sched_model.specs.EligibleUnits.{Decision, rtds_unit}
+use Rattle.sched_model.specs.CheckedMachine.{IsWithin, most_span}
 use Rattle.sched_model.specs.Rtds.{burn, burn_to, replenish, change_unit, budget_left, burn_cur, set_running, switch_off, choice, decide, rtds_decision, fresh_units}
 use Rattle.sched_laws.proofs.EachPlace.{EachPlace-change_at, by_option, by_cond, length_set}
-use Rattle.sched_laws.proofs.Opened.{each_get}
 use Rattle.sched_ranges.specs.Fits.{used_budget, RtdsFits, RtdsFit}
 
 -- when a unit was charged last, seen from a later moment

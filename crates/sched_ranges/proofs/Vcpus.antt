@@ -9,13 +9,13 @@ use Rattle.std.proofs.Math.Decide.{ℕ_discrete}
 use Rattle.sched_base.specs.Numbers.{moment, span}
 use Rattle.sched_base.specs.declared.Moment.{Moment}
 use Rattle.sched_base.specs.declared.Span.{Span}
+use Rattle.sched_base.proofs.Lists.{each_get}
 use Rattle.sched_model.specs.declared.state.Vcpu.{Vcpu}
 use Rattle.sched_model.specs.State.{has_come}
 use Rattle.sched_model.specs.Opening.{fresh_vcpu}
 use Rattle.sched_model.specs.Pool.{woken_vcpu, put_to_sleep, stopped_vcpu, done_at}
-use Rattle.sched_model.specs.Checked.{IsWithin, most_span, IsCheckedScript}
+use Rattle.sched_model.specs.CheckedMachine.{IsWithin, most_span, IsCheckedScript}
 use Rattle.sched_laws.proofs.EachPlace.{by_option}
-use Rattle.sched_laws.proofs.Opened.{each_get}
 
 -- a vCPU that sleeps is at an odd place of its script and is not started; one that is awake is at an even one; one without a script never sleeps
 pub record VcpuFits (t : ℕ) (script : List Span) (x : Vcpu) : Type 0 where

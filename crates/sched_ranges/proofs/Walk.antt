@@ -27,20 +27,20 @@ use Rattle.sched_model.specs.declared.state.Pool.{Pool}
 use Rattle.sched_model.specs.Places.{at_place, put_at, clear_at, change_at, change_item, numbers_from, same_unit}
 use Rattle.sched_model.specs.State.{is_awake, is_runnable, unit_runnable, has_come}
 use Rattle.sched_model.specs.Opening.{fresh_core, core_count}
-use Rattle.sched_model.specs.Eligible.{Decision}
-use Rattle.sched_model.specs.Checked.{IsChecked, IsCheckedDomain, IsCheckedScript, most_span}
+use Rattle.sched_model.specs.EligibleUnits.{Decision}
+use Rattle.sched_model.specs.CheckedMachine.{IsChecked, IsCheckedDomain, IsCheckedScript, most_span}
 use Rattle.sched_model.specs.Commands.{set_rtds_unit}
 use Rattle.sched_model.specs.Policy as policy
-use Rattle.sched_model.specs.Policy.{decision_of, after_decision, rtds_record, default_dom_params, default_pool_params, changed_records, parted_records, changed_affinity}
+use Rattle.sched_model.specs.Policy.{decision_of, rtds_record, default_dom_params, changed_affinity}
 use Rattle.sched_model.specs.Pool as pools
-use Rattle.sched_model.specs.Pool.{enabled_in, after_in, settled_pool, home_cores, reconsidered_core, change_core, change_processor, change_vcpu, change_domain, change_cores_of, with_doing as does, started_on, decided_core, same_choice, ask_of, set_leaving, set_moving, set_pending, pause, unpause, set_params, without_domain, with_domain, is_of_domain, is_held, vcpu_of, processor_of, guest_of, vcpu_for}
-use Rattle.sched_laws.specs.Each.{EachAt, EachPlace}
-use Rattle.sched_laws.proofs.Bools.{and_left, and_right}
+use Rattle.sched_model.specs.Pool.{enabled_in, change_core, change_processor, change_vcpu, change_domain, change_cores_of, with_doing as does, started_on, decided_core, same_choice, ask_of, set_params, without_domain, with_domain, vcpu_of, guest_of, vcpu_for}
+use Rattle.sched_laws.specs.EachPlace.{EachAt, EachPlace}
+use Rattle.sched_base.proofs.Bools.{and_left, and_right}
+use Rattle.sched_base.proofs.Lists.{each_get}
 use Rattle.sched_laws.proofs.EachPlace.{EachAt-change_at, EachAt-put_at, EachAt-clear_at, EachPlace-change_at, EachPlace-put_at, EachPlace-clear_at, EachPlace-empty, by_option, by_test, by_cond, length_set}
 use Rattle.sched_laws.proofs.Lists.{AllByRecursion-push, AllByRecursion-filter, some-test_at, length_change_item}
-use Rattle.sched_laws.proofs.Opened.{each_get}
 use Rattle.sched_laws.proofs.Choices.{decision_has}
-use Rattle.sched_laws.specs.Known.{IfUnit}
+use Rattle.sched_laws.specs.PoolFacts.{IfUnit}
 use Rattle.sched_laws.proofs.Awake.{part_past}
 use Rattle.sched_laws.proofs.Sound.{read_change_item, none_is}
 use Rattle.sched_laws.proofs.Fits.{ChangeFits, RtdsFits}

@@ -22,8 +22,8 @@ use Rattle.sched_model.specs.declared.state.Records.TheVariants.{Credit2Pool, Rt
 use Rattle.sched_model.specs.declared.state.Pool.{Pool}
 use Rattle.sched_model.specs.declared.state.State.{State}
 use Rattle.sched_model.specs.Opening.{core_count, most_pools}
-use Rattle.sched_model.specs.Checked.{IsWithin, most_span}
-use Rattle.sched_laws.specs.Each.{EachAt, EachPlace}
+use Rattle.sched_model.specs.CheckedMachine.{IsWithin, most_span}
+use Rattle.sched_laws.specs.EachPlace.{EachAt, EachPlace}
 
 -- the moment is at most a longest span after t
 abbrev pub IsNear : ℕ → Moment → Type 0

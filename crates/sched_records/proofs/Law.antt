@@ -10,8 +10,8 @@ use Rattle.sched_model.specs.declared.state.Pool.{Pool}
 use Rattle.sched_model.specs.Places.{at_place}
 use Rattle.sched_model.specs.Pool.{unit_count}
 use Rattle.sched_model.specs.Runs.{IsRun}
-use Rattle.sched_model.specs.Checked.{IsChecked}
-use Rattle.sched_laws.specs.Each.{EachPlace}
+use Rattle.sched_model.specs.CheckedMachine.{IsChecked}
+use Rattle.sched_laws.specs.EachPlace.{EachPlace}
 use Rattle.sched_laws.specs.StateLaws.{state_after}
 use Rattle.sched_laws.proofs.ApartKept.{apart_after}
 use Rattle.sched_laws.proofs.Induction.{kept_by_runs}
@@ -22,7 +22,7 @@ use Rattle.sched_records.specs.Records.{IsRecorded, IsUnrecorded, HasRecords}
 use Rattle.sched_records.proofs.Measured.{read_measured, none_measured}
 use Rattle.sched_records.specs.Counts.{shape, units_in}
 use Rattle.sched_records.specs.Counts.{CountsFit, KeepsPool}
-use Rattle.sched_records.proofs.Walk.{AnyEnd, AnyEnds, SomeUnit, records_steps}
+use Rattle.sched_records.proofs.Walk.{records_steps}
 use Rattle.sched_records.proofs.Opening.{opening_keeps}
 
 keeps_in_runs : (m : Machine) → IsChecked m → (entries : List Entry) → IsRun m entries → IsKnown (KeepsPool m.config.granularity) (state_after m entries)

@@ -6,6 +6,7 @@ use Rattle.std.proofs.lemmas.List.Elements.{recursion_from_All}
 use Rattle.std.proofs.lemmas.Nat.{le-div}
 use Rattle.sched_base.specs.Numbers.{domain as domain_number}
 use Rattle.sched_base.specs.declared.Cores.{Cores}
+use Rattle.sched_base.proofs.Lists.{each_get}
 use Rattle.sched_model.specs.declared.config.Config.{Config}
 use Rattle.sched_model.specs.declared.config.PoolConfig.{PoolConfig}
 use Rattle.sched_model.specs.declared.config.DomConfig.{DomConfig}
@@ -23,9 +24,9 @@ use Rattle.sched_model.specs.declared.state.Pool.{Pool}
 use Rattle.sched_model.specs.Policy.{changed_records, fresh_records, kind_of}
 use Rattle.sched_model.specs.Pool.{unit_count, with_domain}
 use Rattle.sched_model.specs.Opening.{opening, opening_pool, fresh_vcpu, core_count}
-use Rattle.sched_model.specs.Checked.{IsChecked, IsCheckedPool, IsCheckedDomain, PoolParamsPass, DomParamsPass}
-use Rattle.sched_laws.specs.Each.{EachPlace}
-use Rattle.sched_laws.proofs.Opened.{each_get, read_pools, joining_domain, opened_keeps}
+use Rattle.sched_model.specs.CheckedMachine.{IsChecked, IsCheckedPool, IsCheckedDomain, PoolParamsPass, DomParamsPass}
+use Rattle.sched_laws.specs.EachPlace.{EachPlace}
+use Rattle.sched_laws.proofs.Opened.{read_pools, joining_domain, opened_keeps}
 use Rattle.sched_laws.proofs.SiblingsLaw.{some_processor}
 use Rattle.sched_records.specs.Counts.{Matches, KeepsPool}
 use Rattle.sched_records.proofs.Walk.{keeps_empty, k_set_params, k_with_domain}

@@ -16,7 +16,7 @@ use Rattle.sched_model.specs.declared.state.Records.TheVariants.{Credit2Pool, Rt
 use Rattle.sched_model.specs.declared.state.Scheduler.{Scheduler}
 use Rattle.sched_model.specs.Places.{change_item}
 use Rattle.sched_model.specs.Policy as policy
-use Rattle.sched_model.specs.Policy.{decision_by, arinc_decision, changed_records}
+use Rattle.sched_model.specs.Policy.{decision_by, changed_records}
 use Rattle.sched_model.specs.Credit2 as credit2
 use Rattle.sched_model.specs.Rtds as rtds
 use Rattle.sched_laws.proofs.EachPlace.{by_option, by_cond}

@@ -24,7 +24,7 @@ use Rattle.sched_model.specs.State.{is_runnable}
 use Rattle.sched_model.specs.Policy as policy
 use Rattle.sched_model.specs.Policy.{rtds_record, default_dom_params, default_pool_params, changed_records, fresh_records, kind_of}
 use Rattle.sched_model.specs.Pool as pools
-use Rattle.sched_model.specs.Pool.{after_in, change_domain, change_vcpu, ask_of, guest_of, pause, unpause, set_params, unit_count, with_domain}
+use Rattle.sched_model.specs.Pool.{change_domain, ask_of, set_params, unit_count, with_domain}
 use Rattle.sched_laws.proofs.EachPlace.{EachPlace-empty, is_empty, by_option, by_cond}
 use Rattle.sched_laws.proofs.Steps.{IsKeptAt}
 use Rattle.sched_laws.proofs.Events.{Anyway, KeptByCommands, KeptByParts, commands_of, kept_by_parts, kept_pause, kept_unpause, kept_marked}

@@ -12,7 +12,7 @@ use Rattle.sched_model.specs.declared.state.Records.TheVariants.{Credit2Pool, Rt
 use Rattle.sched_model.specs.declared.state.Domain.{Domain}
 use Rattle.sched_model.specs.declared.state.Pool.{Pool}
 use Rattle.sched_model.specs.Pool.{unit_count}
-use Rattle.sched_laws.specs.Each.{EachAt, EachPlace}
+use Rattle.sched_laws.specs.EachPlace.{EachAt, EachPlace}
 
 abbrev pub measures_of : {X : Type 0} → (X → ℕ) → List (Option X) → List (Option ℕ)
 measures_of measure [] = []

@@ -9,7 +9,7 @@ use Rattle.sched_model.specs.declared.state.Records.TheVariants.{Credit2Pool, Rt
 use Rattle.sched_model.specs.declared.state.Pool.{Pool}
 use Rattle.sched_model.specs.Places.{at_place}
 use Rattle.sched_model.specs.Pool.{unit_count}
-use Rattle.sched_laws.specs.Each.{EachAt, EachPlace}
+use Rattle.sched_laws.specs.EachPlace.{EachAt, EachPlace}
 
 -- Credit2 has a record of the domain d, with so many units
 pub record HasCredit2Record (records : Credit2Records) (d count : ℕ) : Type 0 where

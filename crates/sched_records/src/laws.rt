@@ -4,8 +4,8 @@ ghost use Rattle.std.specs.Prelude.{List};
 ghost use Rattle.sched_model.specs.declared.event.Entry.{Entry};
 ghost use Rattle.sched_model.specs.declared.machine.Machine.{Machine};
 ghost use Rattle.sched_model.specs.Runs.{IsRun};
-ghost use Rattle.sched_model.specs.Checked.{IsChecked};
-ghost use Rattle.sched_laws.specs.Each.{EachPlace};
+ghost use Rattle.sched_model.specs.CheckedMachine.{IsChecked};
+ghost use Rattle.sched_laws.specs.EachPlace.{EachPlace};
 ghost use Rattle.sched_laws.specs.StateLaws.{state_after};
 ghost use Rattle.sched_records.specs.Records.{HasRecords};
 

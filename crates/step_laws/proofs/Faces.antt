@@ -12,12 +12,10 @@ use Rattle.sched_model.specs.declared.state.Scheduler.{Scheduler}
 use Rattle.sched_model.specs.declared.state.Pool.{Pool}
 use Rattle.sched_model.specs.Places.{at_place, put_at, change_at, change_each, change_item}
 use Rattle.sched_model.specs.declared.ask.Ask.{Ask}
-use Rattle.sched_model.specs.Eligible.{Decision}
+use Rattle.sched_model.specs.EligibleUnits.{Decision}
 use Rattle.sched_model.specs.Policy as policy
-use Rattle.sched_model.specs.Policy.{kind_of, decision_by, decision_of, after_decision, better_waits}
+use Rattle.sched_model.specs.Policy.{kind_of, decision_of, after_decision}
 use Rattle.sched_model.specs.Pool.{after_in, settled_pool, reconsidered_core, change_core, change_processor, change_vcpu, with_doing, woken_vcpu, put_to_sleep, stopped_vcpu, started_on, vcpu_for, ask_of, decided_core, same_choice, open_if_left, after_arrive, after_decide, after_leave, saved_core, with_records, due_within, guest_of, is_held, home_cores, set_pending}
-use Rattle.sched_model.specs.Policy.{rtds_record}
-use Rattle.sched_model.specs.Policy.{arinc_decision}
 use Rattle.std.specs.List.{list_any}
 use Rattle.sched_model.specs.declared.state.Doing.TheVariants.{Guest, Idle, Held}
 use Rattle.sched_laws.proofs.EachPlace.{by_option, by_cond, by_test}

@@ -1,5 +1,5 @@
 -- Which parts an event of a pool changes.
-use Rattle.sched_laws.proofs.EachPlace.{at_place-change_at, at_place-change_at_other}
+use Rattle.sched_laws.proofs.EachPlace.{at_place-change_at}
 use Rattle.std.proofs.Common.{◌≡◌, ◌≢◌, ℕ, zero, suc, ◌-◌, List, [], ◌∷◌, map, take, Bool, true, false, refl, sym, ◌∙◌, ap}
 use Rattle.std.specs.Prelude.{Option, Some, None, option_map, is_some, eqb, nat_lt, if◌then◌else◌, length}
 use Rattle.sched_model.specs.declared.action.Action.{Action}
@@ -10,22 +10,18 @@ use Rattle.sched_model.specs.declared.state.Pool.{Pool}
 use Rattle.sched_model.specs.declared.state.State.{State}
 use Rattle.sched_model.specs.Places.{at_place, change_at, first_place}
 use Rattle.sched_model.specs.Pool.{settled_pool, after_in}
-use Rattle.sched_model.specs.Actions.{home_of, change_pool}
+use Rattle.sched_model.specs.Actions.{IsOfPool, home_of, change_pool}
 use Rattle.sched_model.specs.Machine.{after, after_at_home}
+use Rattle.sched_model.proofs.PlaceLemmas.{at_place-map, at_place-change_at_other}
 use Rattle.journal_core.specs.Parts.{Outline, UnderWay, core_to, domain_to, ToolPart, tool_part, pool_part, outline_of, first_answer, core_leaving, domain_moving, core_joining, leaving_pool, under_way_of, tool_of, part_of, pool_lists, is_name, no_home, home_in, tool_lock}
 use Rattle.step_laws.specs.Faces.{Face, DomainFace, domain_face, is_leaving, face_of}
-use Rattle.step_laws.specs.Steps.{IsOfPool, ChangesPool}
+use Rattle.step_laws.specs.Steps.{ChangesPool}
 use Rattle.step_laws.proofs.Faces.{face_kept, seen_change_at}
 
 -- places that are seen
 map-seen : {X Y Z : Type 0} (see : X → Y) (f : Option X → Z) (h : Option Y → Z) (places : List (Option X)) → ((o : Option X) → f o ≡ h (option_map see o)) → map f places ≡ map h (map (option_map see) places)
 map-seen see f h [] same = refl
 map-seen see f h (o ∷ places) same = ap (λ z. z ∷ map f places) (same o) ∙ ap (λ zs. h (option_map see o) ∷ zs) (map-seen see f h places same)
-
-at_place-seen : {X Y : Type 0} (see : X → Y) (places : List (Option X)) (n : ℕ) → at_place (map (option_map see) places) n ≡ option_map see (at_place places n)
-at_place-seen see [] n = refl
-at_place-seen see (o ∷ places) zero = refl
-at_place-seen see (o ∷ places) (suc n) = at_place-seen see places n
 
 is_some-seen : {X Y : Type 0} (see : X → Y) (o : Option X) → is_some o ≡ is_some (option_map see o)
 is_some-seen see None = refl
@@ -72,8 +68,8 @@ lists_by_face n face = (if nat_lt n 64 then is_some (at_place face.cores n) else
 
 lists_is : (n : ℕ) (pool : Pool) → pool_lists n pool ≡ lists_by_face n (face_of pool)
 lists_is n pool =
-    ap (λ (b : Bool). if nat_lt n 64 then b else is_some (at_place pool.domains (n - 64))) (is_some-seen is_leaving (at_place pool.resources n) ∙ ap is_some (sym (at_place-seen is_leaving pool.resources n)))
-    ∙ ap (λ (b : Bool). if nat_lt n 64 then is_some (at_place (face_of pool).cores n) else b) (is_some-seen domain_face (at_place pool.domains (n - 64)) ∙ ap is_some (sym (at_place-seen domain_face pool.domains (n - 64))))
+    ap (λ (b : Bool). if nat_lt n 64 then b else is_some (at_place pool.domains (n - 64))) (is_some-seen is_leaving (at_place pool.resources n) ∙ ap is_some (sym (at_place-map is_leaving pool.resources n)))
+    ∙ ap (λ (b : Bool). if nat_lt n 64 then is_some (at_place (face_of pool).cores n) else b) (is_some-seen domain_face (at_place pool.domains (n - 64)) ∙ ap is_some (sym (at_place-map domain_face pool.domains (n - 64))))
 
 pub first_answer-change_at : {X Z : Type 0} (ask : ℕ → X → Option Z) (n i : ℕ) (f : X → X) (places : List (Option X)) → ((k : ℕ) (x : X) → ask k (f x) ≡ ask k x)
     → first_answer ask n (change_at i f places) ≡ first_answer ask n places

@@ -1,21 +1,12 @@
 -- What an event of one pool leaves as it was.
 use Rattle.std.specs.Prelude.{ℕ, ◌≡◌, ◌≢◌, option_map}
 use Rattle.sched_model.specs.declared.action.Action.{Action}
-use Rattle.sched_model.specs.declared.action.Action.TheVariants.{Stall, Xl, Moved, DomMoved}
 use Rattle.sched_model.specs.declared.machine.Machine.{Machine}
 use Rattle.sched_model.specs.declared.state.State.{State}
 use Rattle.sched_model.specs.Places.{at_place}
 use Rattle.sched_model.specs.Pool.{settled_pool, after_in}
 use Rattle.sched_model.specs.Machine.{after}
 use Rattle.journal_core.specs.Parts.{part_of, home_in}
-
--- the action is one of one pool alone: no stall, no command, and no move between pools
-abbrev pub IsOfPool : Action → Type 0
-IsOfPool Stall = ⊥
-IsOfPool Xl = ⊥
-IsOfPool (Moved r) = ⊥
-IsOfPool (DomMoved d) = ⊥
-IsOfPool _ = Unit {0}
 
 -- the state after an action of the pool i at t: the pool has done it and its cores were looked at; every other part, the tool's too, each home and
 -- the moment are as before

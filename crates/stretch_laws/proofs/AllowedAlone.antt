@@ -3,14 +3,14 @@ use Rattle.std.proofs.Common.{◌≡◌, ◌+◌, ◌*◌, ℕ, zero, suc, true,
 use Rattle.std.specs.Prelude.{Option, Some, None, bit_and, ◌^◌, ◌==◌, ◌||◌}
 use Rattle.std.proofs.lemmas.Nat.Bits.{and_pow}
 use Rattle.std.specs.Int.{bit_at}
+use Rattle.std.proofs.lemmas.Bool.{cases_Bool}
 use Rattle.sched_base.specs.declared.UnitId.{UnitId}
 use Rattle.sched_model.specs.declared.state.Resource.{Resource}
 use Rattle.sched_model.specs.declared.state.Scheduler.{Scheduler}
 use Rattle.sched_model.specs.Places.{at_place}
 use Rattle.sched_model.specs.State.{has_core}
-use Rattle.sched_model.specs.Eligible.{is_allowed, cores_of}
+use Rattle.sched_model.specs.EligibleUnits.{is_allowed, cores_of}
 use Rattle.sched_model.specs.Pool.{cores_from}
-use Rattle.sched_laws.proofs.Bools.{either}
 use Rattle.turn_laws.proofs.Tests.{or_later}
 use Rattle.turn_laws.specs.Stretches.{cores}
 
@@ -40,7 +40,7 @@ no_bit : (k r : ℕ) → has_core k r ≡ false → bit_at k r ≡ 0
 no_bit k r none = grind arith
 
 has_or_none : (k r : ℕ) → (has_core k r || bit_and k (2 ^ r) == 0) ≡ true
-has_or_none k r = elim (either (has_core k r)) [
+has_or_none k r = elim (cases_Bool (has_core k r)) [
   | inl has ↦ rw has refl
   | inr none ↦ (
       let a = and_pow k r in

@@ -2,6 +2,7 @@
 use Rattle.std.proofs.Common.{◌≡◌, ◌≤◌, ℕ, Bool, true, false, not, List, refl, arith, ap, cond, subst, sym, ◌∙◌, inl, inr}
 use Rattle.std.specs.Prelude.{Option, Some, None, ◌&&◌, ◌||◌}
 use Rattle.std.specs.List.{list_any}
+use Rattle.std.proofs.lemmas.Bool.{false_from_ne_true, or_cases, and_from}
 use Rattle.sched_base.specs.declared.UnitId.{UnitId}
 use Rattle.sched_base.specs.declared.Cores.{Cores}
 use Rattle.sched_model.specs.declared.machine.Machine.{Machine}
@@ -16,10 +17,10 @@ use Rattle.sched_model.specs.declared.ask.Ask.{Ask}
 use Rattle.sched_model.specs.Places.{has_unit, is_unit, same_unit}
 use Rattle.sched_model.specs.State.{is_runnable}
 use Rattle.sched_model.specs.Arinc.{Window, present_window, window_unit}
-use Rattle.sched_model.specs.Eligible.{is_allowed, is_eligible}
+use Rattle.sched_model.specs.EligibleUnits.{is_allowed, is_eligible}
 use Rattle.sched_model.specs.Policy.{arinc_decision, choice_of_window}
 use Rattle.sched_model.specs.Pool.{home_cores, ask_of}
-use Rattle.sched_laws.proofs.Bools.{and_left, and_right, both, one_of, or_more, clash}
+use Rattle.sched_base.proofs.Bools.{and_left, and_right, or_more, clash}
 use Rattle.sched_laws.proofs.Choices.{is_unit_same, at_unit}
 use Rattle.sched_laws.proofs.Counts.{same_unit_refl}
 use Rattle.turn_laws.specs.Stretches.{units}
@@ -27,8 +28,8 @@ use Rattle.turn_laws.specs.Turns.{keeps, ahead}
 use Rattle.turn_laws.specs.GoodDecisions.{DecidesWell, SecureThen, decision, next, Standing}
 use Rattle.turn_laws.proofs.Waiting.{any_after, any_has, less_waits}
 use Rattle.sched_model.specs.Policy.{is_better, better_waits}
-use Rattle.sched_model.specs.Eligible.{passes}
-use Rattle.turn_laws.proofs.Tests.{no_true, or_later}
+use Rattle.sched_model.specs.EligibleUnits.{passes}
+use Rattle.turn_laws.proofs.Tests.{or_later}
 
 module _ (m : Machine) (t : ℕ) (queue : List UnitId) (affinity : List (Option (List Cores))) (arinc : ArincRecords) (domains : List (Option Domain)) (resources : List (Option Resource)) (r : ℕ) (c : Resource) where
   abbrev scheduler : Scheduler
@@ -96,10 +97,10 @@ module _ (m : Machine) (t : ℕ) (queue : List UnitId) (affinity : List (Option 
 
   module _ (standing : Standing m pool r c) (allowed : (u : UnitId) → is_allowed scheduler home r u ≡ true) where
     secure_next : (u : UnitId) → runs u ≡ true → window_unit arinc t ≡ Some u → SecureThen m t pool r c r u
-    secure_next u runs_u is = both (runs u && is_allowed scheduler home r u) _ (both (runs u) _ runs_u (allowed u)) (keeps_next r u ∙ ap (λ o. is_unit o u) is ∙ same_unit_refl u)
+    secure_next u runs_u is = and_from (runs u && is_allowed scheduler home r u) _ (and_from (runs u) _ runs_u (allowed u)) (keeps_next r u ∙ ap (λ o. is_unit o u) is ∙ same_unit_refl u)
 
     runs_chosen : (w : UnitId) → may w ≡ true → runs w ≡ true
-    runs_chosen w is = elim (one_of (is_unit ask.cur w && ask.runnable) (has_unit queue w && is_eligible scheduler home r t w) is) [
+    runs_chosen w is = elim (or_cases (is_unit ask.cur w && ask.runnable) (has_unit queue w && is_eligible scheduler home r t w) is) [
       | inl own ↦ (
           let cur : c.cur ≡ Some w = is_unit_same c.cur w (and_left (is_unit c.cur w) ask.runnable own) in
           sym (ap (λ (o : Option UnitId). elim o as (λ _. Bool) [ None ↦ false | Some u ↦ is_runnable m.config.granularity pool u ]) cur) ∙ and_right (is_unit c.cur w) ask.runnable own)
@@ -107,17 +108,17 @@ module _ (m : Machine) (t : ℕ) (queue : List UnitId) (affinity : List (Option 
     ]
 
     some_unit : (w : UnitId) → may w ≡ true → 1 ≤ units m
-    some_unit w is = elim (one_of (is_unit ask.cur w && ask.runnable) (has_unit queue w && is_eligible scheduler home r t w) is) [
+    some_unit w is = elim (or_cases (is_unit ask.cur w && ask.runnable) (has_unit queue w && is_eligible scheduler home r t w) is) [
       | inl own ↦ (standing.own w (is_unit_same c.cur w (and_left (is_unit c.cur w) ask.runnable own))).1
       | inr waits ↦ standing.counted w (and_left (has_unit queue w) _ waits)
     ]
 
     -- the core's own unit, which is the window's, is not stirred; nor is a core that idles and has no unit that may have it
     own_stays : (u : UnitId) → c.cur ≡ Some u → window_unit arinc t ≡ Some u → better_waits c.cur c.since.0 t r home (next m t pool r c) ≡ false
-    own_stays u cur is = no_true _ (λ stirred. (
+    own_stays u cur is = false_from_ne_true _ (λ stirred. (
         let old = others_stay r c stirred in
         let h : (not (is_allowed scheduler home r u) || list_any (λ w. is_eligible scheduler home r t w && not (same_unit w u)) queue) ≡ true = sym (ap (λ (o : Option UnitId). better_waits o c.since.0 t r home scheduler) cur) ∙ old in
-        elim (one_of (not (is_allowed scheduler home r u)) (list_any (λ w. is_eligible scheduler home r t w && not (same_unit w u)) queue) h) [
+        elim (or_cases (not (is_allowed scheduler home r u)) (list_any (λ w. is_eligible scheduler home r t w && not (same_unit w u)) queue) h) [
           | inl barred ↦ clash (not (is_allowed scheduler home r u)) barred (ap not (allowed u))
           | inr some ↦ (
               let w = any_has (λ w. is_eligible scheduler home r t w && not (same_unit w u)) queue some in
@@ -128,12 +129,12 @@ module _ (m : Machine) (t : ℕ) (queue : List UnitId) (affinity : List (Option 
         ]))
 
     idle_stays : c.leaving ≡ false → c.cur ≡ None → (decision m t pool r c).unit ≡ None → better_waits c.cur c.since.0 t r home (next m t pool r c) ≡ false
-    idle_stays stays cur none = no_true _ (λ stirred. (
+    idle_stays stays cur none = false_from_ne_true _ (λ stirred. (
         let old = others_stay r c stirred in
         let h : list_any (is_eligible scheduler home r t) queue ≡ true = sym (ap (λ (o : Option UnitId). better_waits o c.since.0 t r home scheduler) cur) ∙ old in
         let w = any_has (is_eligible scheduler home r t) queue h in
         let is : window_unit arinc t ≡ Some w.0 = is_unit_same (window_unit arinc t) w.0 (and_right (is_allowed scheduler home r w.0) _ w.2) in
-        let waits : (has_unit queue w.0 && is_eligible scheduler home r t w.0) ≡ true = both _ _ w.1 w.2 in
+        let waits : (has_unit queue w.0 && is_eligible scheduler home r t w.0) ≡ true = and_from _ _ w.1 w.2 in
         let can : may w.0 ≡ true = or_later (is_unit ask.cur w.0 && ask.runnable) waits in
         let chosen : (decision m t pool r c).unit ≡ Some w.0 = unit_next stays ∙ ap (choice_of_window ask scheduler) is ∙ ap (λ b. cond b (Some w.0) None) can in
         let e : None ≡ Some w.0 = sym none ∙ chosen in
@@ -150,7 +151,7 @@ module _ (m : Machine) (t : ℕ) (queue : List UnitId) (affinity : List (Option 
       kept = λ stays u cur secure. (
           let is : window_unit arinc t ≡ Some u = is_unit_same (window_unit arinc t) u (and_right (runs u && is_allowed scheduler home r u) _ secure) in
           let runs_u = and_left (runs u) _ (and_left (runs u && is_allowed scheduler home r u) _ secure) in
-          let own : (is_unit ask.cur u && ask.runnable) ≡ true = both (is_unit c.cur u) ask.runnable (ap (λ o. is_unit o u) cur ∙ same_unit_refl u) (ap (λ (o : Option UnitId). elim o as (λ _. Bool) [ None ↦ false | Some x ↦ is_runnable m.config.granularity pool x ]) cur ∙ runs_u) in
+          let own : (is_unit ask.cur u && ask.runnable) ≡ true = and_from (is_unit c.cur u) ask.runnable (ap (λ o. is_unit o u) cur ∙ same_unit_refl u) (ap (λ (o : Option UnitId). elim o as (λ _. Bool) [ None ↦ false | Some x ↦ is_runnable m.config.granularity pool x ]) cur ∙ runs_u) in
           let can : may u ≡ true = or_more _ _ own in
           let none = ahead_next u in (
             u,
@@ -161,5 +162,5 @@ module _ (m : Machine) (t : ℕ) (queue : List UnitId) (affinity : List (Option 
       few = λ u. (let none = ahead_next u in omega (arith, none));
       others = λ k x u other at cur secure. (
           let none = ahead_next u in
-          (both (runs u && is_allowed scheduler home k u) _ (and_left (runs u && is_allowed scheduler home k u) _ secure) (keeps_next k u ∙ and_right (runs u && is_allowed scheduler home k u) _ secure), omega (arith, none)));
+          (and_from (runs u && is_allowed scheduler home k u) _ (and_left (runs u && is_allowed scheduler home k u) _ secure) (keeps_next k u ∙ and_right (runs u && is_allowed scheduler home k u) _ secure), omega (arith, none)));
     }

@@ -3,6 +3,7 @@ use Rattle.std.proofs.Common.{◌≡◌, ◌≢◌, ◌+◌, ◌-◌, ℕ, zero,
 use Rattle.std.specs.Prelude.{Option, Some, None, Result, Ok, Err, is_some, slice_get, nat_lt, nat_le, ◌==◌, ◌&&◌, ◌||◌, ◌/◌}
 use Rattle.std.specs.List.{list_any}
 use Rattle.std.proofs.lemmas.List.Elements.{recursion_from_All}
+use Rattle.std.proofs.lemmas.Bool.{not-true, and_from}
 use Rattle.sched_base.specs.Numbers.{core as core_number, domain as domain_number}
 use Rattle.sched_base.specs.declared.PoolId.{PoolId}
 use Rattle.sched_base.specs.declared.ResId.{ResId}
@@ -35,7 +36,7 @@ use Rattle.sched_model.specs.declared.action.Action.{Action}
 use Rattle.sched_model.specs.declared.action.Action.TheVariants.{Stall, Xl, Moved, DomMoved}
 use Rattle.sched_model.specs.Places.{at_place, numbered_items}
 use Rattle.sched_model.specs.State.{has_core}
-use Rattle.sched_model.specs.Checked.{IsChecked, IsCheckedPool, PoolParamsPass}
+use Rattle.sched_model.specs.CheckedMachine.{IsChecked, IsCheckedPool, PoolParamsPass}
 use Rattle.sched_model.specs.Policy.{kind_of, fresh_records}
 use Rattle.sched_model.specs.Opening.{opening, opening_free, with_domains, with_configured, with_pins, core_count, most_pools}
 use Rattle.sched_model.specs.Actions.{home_of, home_of_core, home_of_domain}
@@ -43,13 +44,14 @@ use Rattle.sched_model.specs.Commands.{is_kind, cores_in, carried_out, change_ho
 use Rattle.sched_model.specs.Machine.{is_enabled, is_move_under_way, after, after_at_home, after_stall, after_command, after_moved, after_dom_moved, verdict, settled_at}
 use Rattle.sched_laws.proofs.Judged.{Passed, verdict_passed}
 use Rattle.sched_laws.proofs.Records.{same_decision}
-use Rattle.sched_laws.specs.Each.{EachAt}
+use Rattle.sched_laws.specs.EachPlace.{EachAt}
 use Rattle.sched_laws.specs.StateLaws.{state_after}
-use Rattle.sched_laws.proofs.Bools.{and_right, both, not_true, or_right, clash}
+use Rattle.sched_base.proofs.Bools.{and_right, or_right, clash}
+use Rattle.sched_base.proofs.Lists.{each_get}
 use Rattle.sched_laws.proofs.EachPlace.{EachAt-change_at, EachAt-put_at, read_clear_at, by_option, by_cond}
 use Rattle.sched_laws.proofs.Induction.{kept_by_runs}
 use Rattle.sched_laws.proofs.Lists.{at_numbered, none_passes, is_some_at}
-use Rattle.sched_laws.proofs.Opened.{each_get, read_map, read_pools, opened_core, joining_domain}
+use Rattle.sched_laws.proofs.Opened.{read_map, read_pools, opened_core, joining_domain}
 use Rattle.stretch_laws.proofs.CoresByRecords.{IsKeptTest, Counted, Aims, Comes, counted_core, core_counted, counted_after, gives_params, gives_with_domain}
 use Rattle.stretch_laws.proofs.ReachedDecisions.{PoolOf}
 use Rattle.turn_laws.specs.Turns.{one}
@@ -83,7 +85,7 @@ added s i pool at passes r counted =
     let same : now.0 ≡ pool = (let a = now.2 in cc) in
     let arinc : is_arinc pool.scheduler.records ≡ true = subst (λ (p : Pool). is_arinc p.scheduler.records ≡ true) same now.4 in
     let some = some_core 0 r now.1 pool.resources (subst (λ (p : Pool). at_place p.resources r ≡ Some now.1) same now.3) in
-    clash (is_kind kinds.Arinc653 (kind_of pool.scheduler.records) && nat_lt 0 (cores_in pool)) (both _ _ arinc some) (not_true _ passes)
+    clash (is_kind kinds.Arinc653 (kind_of pool.scheduler.records) && nat_lt 0 (cores_in pool)) (and_from _ _ arinc some) (not-true _ passes)
 
 verdict_adds : (m : Machine) (s : State) (line : CommandLine) (p : Plan) → verdict m s line ≡ Ok p → Adds s p
 verdict_adds m s line p is = (let passed = verdict_passed m s line p is in by_plan passed.0 p passed.2)
@@ -200,7 +202,7 @@ no_aim m s t on r i aims = by_line (slice_get m.work.commands s.next_command) on
     by_line : (line : Option CommandLine) → elim line as (λ _. Bool) [ None ↦ false | Some l ↦ nat_le l.at.0 t && not (is_move_under_way s) ] ≡ true → ⊥
     by_line None is = absurd (cc)
     by_line (Some l) is =
-        let still : is_move_under_way s ≡ false = not_true _ (and_right (nat_le l.at.0 t) _ is) in
+        let still : is_move_under_way s ≡ false = not-true _ (and_right (nat_le l.at.0 t) _ is) in
         let none = none_passes (λ (e : ℕ × FreeCore). is_some e.1.target) (numbered_items 0 s.free) (or_right _ _ still) in
         let here = at_numbered (λ (c : FreeCore). is_some c.target ≡ false) 0 s.free none r aims.core aims.at in
         clash (is_some aims.core.target) (is_some_at aims.core.target i aims.target) here

@@ -1,6 +1,7 @@
 -- Which cores are in pools whose records pass a test: each action brings such a pool no core but one that is moved to it.
 use Rattle.std.proofs.Common.{◌≡◌, ℕ, suc, Bool, true, false, List, [], ◌∷◌, refl, ◌⊎◌, inl, inr}
 use Rattle.std.specs.Prelude.{Option, Some, None, Ok, Err, is_some, slice_get, unwrap_or, ◌==◌, ◌&&◌, ◌+◌, ◌/◌}
+use Rattle.std.proofs.lemmas.Bool.{and_from}
 use Rattle.sched_base.specs.Numbers.{moment, span, domain as domain_number, core as core_number}
 use Rattle.sched_base.specs.declared.Span.{Span}
 use Rattle.sched_base.specs.declared.UnitId.{UnitId}
@@ -33,8 +34,8 @@ use Rattle.sched_model.specs.Pool.{enabled_in, after_in, settled_pool, change_pr
 use Rattle.sched_model.specs.Actions.{home_of, home_of_core, home_of_domain, change_pool}
 use Rattle.sched_model.specs.Commands.{carried_out, change_home, set_rtds, pool_of_plan}
 use Rattle.sched_model.specs.Machine.{is_enabled, after, after_stall, after_command, after_moved, after_dom_moved, verdict, settled_at, stall_end_of, left_by, joined_by, is_null}
-use Rattle.sched_laws.specs.Each.{EachAt}
-use Rattle.sched_laws.proofs.Bools.{and_left, and_right, both}
+use Rattle.sched_laws.specs.EachPlace.{EachAt}
+use Rattle.sched_base.proofs.Bools.{and_left, and_right}
 use Rattle.sched_laws.proofs.Events.{Anyway, KeptByParts, commands_of, kept_by_parts, kept_pause, kept_unpause, kept_marked, kept_queue_units}
 use Rattle.sched_laws.proofs.Apart.{HasOnly, only_inside, only_with_domain}
 use Rattle.sched_laws.proofs.EachPlace.{EachAt-change_at, EachAt-put_at, EachAt-clear_at, EachPlace-empty, by_option, by_cond}
@@ -278,7 +279,7 @@ counted_core test s i r counted =
     (p.0, c.0, p.1, c.1, and_left (test p.0.scheduler.records) _ p.2)
 
 pub core_counted : (test : Records → Bool) (s : State) (i r : ℕ) (pool : Pool) (c : Resource) → at_place s.pools i ≡ Some pool → at_place pool.resources r ≡ Some c → test pool.scheduler.records ≡ true → Counted test s i r
-core_counted test s i r pool c at has passes = test_at-some s.pools i (counts test r) pool at (both (test pool.scheduler.records) _ passes (is_some_at (at_place pool.resources r) c has))
+core_counted test s i r pool c at has passes = test_at-some s.pools i (counts test r) pool at (and_from (test pool.scheduler.records) _ passes (is_some_at (at_place pool.resources r) c has))
 
 -- a core that is counted after an action was counted before it, or came
 pub counted_after : (m : Machine) (t : ℕ) (test : Records → Bool) → IsKeptTest t test → (s : State) (action : Action) → is_enabled m s t action ≡ true → (i r : ℕ) → Counted test (after m s t action) i r → Counted test s i r ⊎ Comes s action i r

@@ -12,10 +12,10 @@ use Rattle.sched_model.specs.declared.state.Credit2Domain.{Credit2Domain}
 use Rattle.sched_model.specs.declared.state.Credit2Records.{Credit2Records}
 use Rattle.sched_model.specs.declared.state.RtdsUnit.{RtdsUnit}
 use Rattle.sched_model.specs.Places.{at_place, change_item}
-use Rattle.sched_model.specs.Eligible.{rtds_unit}
+use Rattle.sched_model.specs.EligibleUnits.{rtds_unit}
 use Rattle.sched_model.specs.Rtds as rtds
 use Rattle.sched_model.specs.Credit2.{max_weight, burn_unit, burn_units, burn_all, change_domain, change_unit, give_back, burn_cur, reset, take_budget, set_running, switch_off, refill_domain, refilled_pool, set_weight, set_cap, set_domain}
-use Rattle.sched_laws.specs.Each.{EachAt}
+use Rattle.sched_laws.specs.EachPlace.{EachAt}
 use Rattle.sched_laws.proofs.EachPlace.{EachAt-change_at, EachAt-change_each, by_option, by_cond}
 use Rattle.sched_laws.proofs.Lists.{length_change_item}
 use Rattle.sched_laws.proofs.Sound.{read_change_item}

@@ -4,6 +4,7 @@ use Rattle.std.specs.Prelude.{Option, Some, None, slice_get, map, nat_lt, int_lt
 use Rattle.std.specs.List.{AllByRecursion}
 use Rattle.std.proofs.lemmas.Int.{ints, clamps}
 use Rattle.std.proofs.Math.Decide.{ℕ_discrete}
+use Rattle.std.proofs.lemmas.Bool.{or_cases}
 use Rattle.sched_base.specs.Numbers.{domain as domain_number}
 use Rattle.sched_base.specs.Credit2Numbers.{raise, take}
 use Rattle.sched_base.specs.declared.UnitId.{UnitId}
@@ -18,7 +19,7 @@ use Rattle.sched_model.specs.declared.state.Scheduler.{Scheduler}
 use Rattle.sched_model.specs.declared.state.Pool.{Pool}
 use Rattle.sched_model.specs.declared.state.Resource.{Resource}
 use Rattle.sched_model.specs.Places.{at_place, put_at, change_item, has_unit, same_unit}
-use Rattle.sched_model.specs.Eligible.{Decision, is_allowed, is_eligible, has_budget, eligible_units, rtds_unit}
+use Rattle.sched_model.specs.EligibleUnits.{Decision, is_allowed, is_eligible, has_budget, eligible_units, rtds_unit}
 use Rattle.sched_model.specs.Rtds as rtds
 use Rattle.sched_model.specs.Rtds.{budget_left, foremost_unit, unit_before}
 use Rattle.sched_model.specs.Credit2 as credit2
@@ -26,11 +27,11 @@ use Rattle.sched_model.specs.Policy.{decision_of, decision_by}
 use Rattle.sched_model.specs.Pool as pools
 use Rattle.sched_model.specs.Pool.{ask_of, decided_core, same_choice}
 use Rattle.sched_laws.proofs.Records.{same_decision}
-use Rattle.sched_laws.specs.Each.{EachAt}
-use Rattle.sched_laws.proofs.Bools.{and_right, one_of, or_more}
+use Rattle.sched_laws.specs.EachPlace.{EachAt}
+use Rattle.sched_base.proofs.Bools.{and_right, or_more}
 use Rattle.sched_laws.proofs.Counts.{same_unit_refl}
 use Rattle.sched_laws.proofs.Choices.{decision_has}
-use Rattle.sched_laws.specs.Known.{IfUnit}
+use Rattle.sched_laws.specs.PoolFacts.{IfUnit}
 use Rattle.sched_laws.proofs.EachPlace.{EachAt-change_to, EachAt-change_at, EachAt-change_each, at_place-put_at, at_place-put_at_other, at_place-clear_at_other, place_below, by_option, by_test, by_cond}
 use Rattle.sched_laws.proofs.Lists.{AllByRecursion-filter}
 use Rattle.sched_laws.proofs.OnePlace.{same_choice_same}
@@ -160,7 +161,7 @@ module _ (t : ℕ) (u : UnitId) where
       (λ x at here. by_cond (Paid u.dom.0) (x.cap == 0) x _ (λ free n y get same_d same_n. inl (none x.cap free))
       (λ capped n y get same_d same_n. elim (read_change_item u.n n (λ (z : Credit2Unit). record z { held = take x.budget (limit x) }) x.units y get) [
         | inl was ↦ absurd (was.0 same_n)
-        | inr r ↦ inr (subst (λ (z : Credit2Unit). pos 0 ≤ℤ z.held) r.3 (least x.budget (limit x) (elim (one_of (x.cap == 0) (int_lt (pos 0) x.budget) (here refl)) [ inl free ↦ absurd (clash free capped) | inr some ↦ some ])))
+        | inr r ↦ inr (subst (λ (z : Credit2Unit). pos 0 ≤ℤ z.held) r.3 (least x.budget (limit x) (elim (or_cases (x.cap == 0) (int_lt (pos 0) x.budget) (here refl)) [ inl free ↦ absurd (clash free capped) | inr some ↦ some ])))
       ]))
     where
       none : (cap : ℕ) → (cap == 0) ≡ true → cap ≡ 0

@@ -10,6 +10,7 @@ use Rattle.sched_base.specs.Numbers.{moment, span, domain as domain_number, core
 use Rattle.sched_base.specs.Credit2Numbers.{quota, total as credit2_total}
 use Rattle.sched_base.specs.declared.Span.{Span}
 use Rattle.sched_base.specs.declared.UnitId.{UnitId}
+use Rattle.sched_base.proofs.Lists.{each_get}
 use Rattle.sched_model.specs.declared.config.DomConfig.{DomConfig}
 use Rattle.sched_model.specs.declared.config.SchedKind.{SchedKind}
 use Rattle.sched_model.specs.declared.config.ParamChange.TheVariants as changes
@@ -31,7 +32,7 @@ use Rattle.sched_model.specs.declared.action.Action.TheVariants.{Stall, Decide}
 use Rattle.sched_model.specs.Places.{at_place, numbers_from, test_at}
 use Rattle.sched_model.specs.State.{has_core}
 use Rattle.sched_model.specs.Opening.{core_count, fresh_core, with_configured, with_domains, empty_pool, no_pool}
-use Rattle.sched_model.specs.Eligible.{Decision, rtds_unit}
+use Rattle.sched_model.specs.EligibleUnits.{Decision, rtds_unit}
 use Rattle.sched_model.specs.Policy.{decision_of, default_pool_params, default_dom_params, fresh_records, rtds_record}
 use Rattle.sched_model.specs.Commands.{set_rtds_unit}
 use Rattle.sched_model.specs.Pool as pools
@@ -39,16 +40,17 @@ use Rattle.sched_model.specs.Pool.{ask_of, decision_at, enabled_in, after_in, se
 use Rattle.sched_model.specs.Actions.{home_of_core, change_pool}
 use Rattle.sched_model.specs.Machine.{after, is_enabled, event_of, home_pool}
 use Rattle.sched_model.specs.Runs.{Reached, IsRun, IsNextEvent, action_of, run_start, after_event, after_entries}
-use Rattle.sched_model.specs.Checked.{IsChecked}
-use Rattle.sched_laws.specs.Each.{EachPlace}
+use Rattle.sched_model.specs.CheckedMachine.{IsChecked}
+use Rattle.sched_model.proofs.RunLemmas.{after_entries-append}
+use Rattle.sched_laws.specs.EachPlace.{EachPlace}
 use Rattle.sched_laws.specs.StateLaws.{state_after}
 use Rattle.sched_laws.proofs.EachPlace.{EachAt-change_to, EachPlace-empty, length_set, place_below, by_option, by_cond}
 use Rattle.sched_laws.proofs.Free.{now_after}
 use Rattle.sched_laws.proofs.Kept.{IsKept}
 use Rattle.sched_laws.proofs.Lists.{some-test_at, test_at-some, is_some_at}
-use Rattle.sched_laws.proofs.Opened.{each_get, read_map, read_pools, with_configured-resources}
+use Rattle.sched_laws.proofs.Opened.{read_map, read_pools, with_configured-resources}
 use Rattle.sched_laws.proofs.OwnUnits.{units_are_own}
-use Rattle.sched_laws.specs.Known.{UnitsAreOwn}
+use Rattle.sched_laws.specs.PoolFacts.{UnitsAreOwn}
 use Rattle.sched_laws.proofs.Reached as reached
 use Rattle.sched_laws.proofs.Ready.{next_later}
 use Rattle.sched_laws.proofs.Steps.{IsKeptTo, step_after}
@@ -59,7 +61,7 @@ use Rattle.sched_ranges.proofs.Records.{RecordsFit}
 use Rattle.sched_ranges.specs.Fits.{RtdsFits}
 use Rattle.turn_laws.specs.Stretches.{Legs, cores, open_legs, legs_after, legs_with, leg_of, has_no_older_leg, units}
 use Rattle.turn_laws.proofs.Changed.{at_place-change_at}
-use Rattle.turn_laws.proofs.StretchFalls.{legs_push, push_assoc, after_push}
+use Rattle.turn_laws.proofs.StretchFalls.{legs_push, push_assoc}
 use Rattle.stretch_laws.proofs.ReachedDecisions.{PoolOf, stands}
 use Rattle.stretch_laws.proofs.LegCharges.{Lasts, limit}
 use Rattle.stretch_laws.proofs.LegDecides.{FreeHolds, w_after_decide, legs_other}
@@ -113,7 +115,7 @@ legs_count t (event.Decide r None due late reset) legs = length_set r.0 None leg
 legs_count t (event.Decide r (Some u) due late reset) legs = length_set r.0 (Some t) legs
 legs_count t e legs = refl
 
-legs_after_count : (entries : List Entry) (legs : Legs) → length (legs_after legs entries) ≡ length legs
+pub legs_after_count : (entries : List Entry) (legs : Legs) → length (legs_after legs entries) ≡ length legs
 legs_after_count [] legs = refl
 legs_after_count (e ∷ entries) legs = legs_after_count entries (legs_with e.at.0 e.event legs) ∙ legs_count e.at.0 e.event legs
 
@@ -307,7 +309,7 @@ module _ (m : Machine) (checked : IsChecked m) where
     legged_entry =
         let parts = split_run m (run_start m) before (e ∷ []) run in
         let now : e.at.0 ≡ s.now = parts.1.0.moment in
-        let same : after_entries m (run_start m) (before ++ e ∷ []) ≡ after_event m e.event (action_of e.event) (after_entries m (run_start m) before) = after_push m (run_start m) before e in
+        let same : after_entries m (run_start m) (before ++ e ∷ []) ≡ after_event m e.event (action_of e.event) (after_entries m (run_start m) before) = after_entries-append m (run_start m) before e in
         let later : StateFits m (after_event m e.event (action_of e.event) (after_entries m (run_start m) before)).state = subst (λ (x : Reached). StateFits m x.state) same (fits_in_runs m checked (before ++ e ∷ []) run) in
         let next_legs : open_legs m (before ++ e ∷ []) ≡ legs_with s.now e.event legs = legs_push (replicate (cores m) None) before e ∙ ap (λ t. legs_with t e.event legs) now in
         subst (λ (x : Reached). Then (open_legs m (before ++ e ∷ [])) x.state) (sym same) (subst (λ (l : Legs). Then l (after_event m e.event (action_of e.event) (after_entries m (run_start m) before)).state) (sym next_legs) (by_event e.event parts.1.0.event later))

@@ -24,7 +24,7 @@ use Rattle.sched_model.specs.declared.state.Records.TheVariants.{Credit2Pool, Rt
 use Rattle.sched_model.specs.declared.action.Action.TheVariants.{Decide}
 use Rattle.sched_model.specs.Places.{at_place, put_at, clear_at, numbers_from}
 use Rattle.sched_model.specs.Opening.{fresh_core}
-use Rattle.sched_model.specs.Eligible.{rtds_unit}
+use Rattle.sched_model.specs.EligibleUnits.{rtds_unit}
 use Rattle.sched_model.specs.Rtds as rtds
 use Rattle.sched_model.specs.Credit2 as credit2
 use Rattle.sched_model.specs.Policy as policy
@@ -32,7 +32,7 @@ use Rattle.sched_model.specs.Policy.{rtds_record, changed_records, joined_record
 use Rattle.sched_model.specs.Commands.{set_rtds_unit}
 use Rattle.sched_model.specs.Pool as pools
 use Rattle.sched_model.specs.Pool.{change_core, change_domain, set_moving, set_params, without_domain, with_domain}
-use Rattle.sched_laws.specs.Each.{EachAt}
+use Rattle.sched_laws.specs.EachPlace.{EachAt}
 use Rattle.sched_laws.proofs.Events.{LikePlaces, like_was, like_map, like_change_at, like_of_domain, capped, KeepsCore, KeptByCommands, KeptByParts, commands_of, kept_withdrawn, kept_marked, kept_queue_units}
 use Rattle.sched_laws.proofs.EachPlace.{EachAt-put_at, EachAt-clear_at, EachPlace-empty, read_put_at, read_clear_at, by_option}
 use Rattle.turn_laws.specs.Stretches.{Legs, cores}

@@ -2,6 +2,7 @@
 use Rattle.std.proofs.Common.{◌≡◌, ◌≢◌, ◌≤◌, ◌<◌, ℕ, zero, suc, Bool, true, false, not, List, [], ◌∷◌, refl, arith, ap, cond, subst, sym, ◌∙◌, ◌⊎◌, inl, inr, length}
 use Rattle.std.specs.Prelude.{Option, Some, None, filter, ◌&&◌, ◌||◌}
 use Rattle.std.specs.List.{list_any}
+use Rattle.std.proofs.lemmas.Bool.{false_from_ne_true, cases_Bool, or_cases, and_from}
 use Rattle.sched_base.specs.declared.UnitId.{UnitId}
 use Rattle.sched_base.specs.declared.Cores.{Cores}
 use Rattle.sched_model.specs.declared.machine.Machine.{Machine}
@@ -14,11 +15,11 @@ use Rattle.sched_model.specs.declared.state.Records.TheVariants.{NullPool}
 use Rattle.sched_model.specs.declared.ask.Ask.{Ask}
 use Rattle.sched_model.specs.Places.{at_place, put_at, clear_at, has_unit, is_unit, same_unit}
 use Rattle.sched_model.specs.State.{is_runnable, has_core}
-use Rattle.sched_model.specs.Eligible.{is_allowed, is_eligible, is_placed, passes, eligible_units}
+use Rattle.sched_model.specs.EligibleUnits.{is_allowed, is_eligible, is_placed, passes, eligible_units}
 use Rattle.sched_model.specs.NullScheduler as null
 use Rattle.sched_model.specs.Policy.{is_better, better_waits}
 use Rattle.sched_model.specs.Pool.{home_cores, ask_of}
-use Rattle.sched_laws.proofs.Bools.{and_left, and_right, both, one_of, either, or_more, clash}
+use Rattle.sched_base.proofs.Bools.{and_left, and_right, or_more, clash}
 use Rattle.sched_laws.proofs.Choices.{is_unit_same, same_unit_same, at_unit}
 use Rattle.sched_laws.proofs.Counts.{same_unit_refl}
 use Rattle.sched_laws.proofs.EachPlace.{place_below, at_place-put_at, at_place-put_at_other, at_place-clear_at_other}
@@ -29,7 +30,7 @@ use Rattle.turn_laws.specs.Stretches.{units}
 use Rattle.turn_laws.specs.Turns.{keeps, ahead}
 use Rattle.turn_laws.specs.GoodDecisions.{DecidesWell, StirsNone, SecureThen, decision, next, Standing}
 use Rattle.turn_laws.proofs.Waiting.{any_after, any_has, less_waits}
-use Rattle.turn_laws.proofs.Tests.{no_true, or_later}
+use Rattle.turn_laws.proofs.Tests.{or_later}
 
 -- a core is kept for a unit for which it is kept: nothing changes
 released_none : (u : UnitId) (kept : List (Option UnitId)) → ((q : ℕ) → at_place kept q ≡ Some u → ⊥) → null.kept_without (same_unit u) kept ≡ kept
@@ -168,12 +169,12 @@ module _ (m : Machine) (t : ℕ) (queue : List UnitId) (affinity : List (Option 
         let at : at_place kept_next r ≡ Some w = ap (λ k. at_place k r) same ∙ at_place-put_at r w (null.kept_without (same_unit w) kept) (let a = inside in let b = length_released (same_unit w) kept in omega (arith, a, b)) in
         let has : has_core home r ≡ true = home_has resources r ∙ is_some_at (at_place resources r) c standing.at in
         let allowed = allowed_chosen w chosen in
-        let placed : is_placed scheduler kept_next home r w ≡ true = both (is_unit (at_place kept_next r) w && has_core home r) _ (both (is_unit (at_place kept_next r) w) _ (ap (λ o. is_unit o w) at ∙ same_unit_refl w) has) allowed in
-        both (runs w && is_allowed scheduler home r w) _ (both (runs w) _ (runs_chosen w chosen) allowed) (keeps_next r w ∙ placed)
+        let placed : is_placed scheduler kept_next home r w ≡ true = and_from (is_unit (at_place kept_next r) w && has_core home r) _ (and_from (is_unit (at_place kept_next r) w) _ (ap (λ o. is_unit o w) at ∙ same_unit_refl w) has) allowed in
+        and_from (runs w && is_allowed scheduler home r w) _ (and_from (runs w) _ (runs_chosen w chosen) allowed) (keeps_next r w ∙ placed)
 
     -- what another core's own unit was given, it has still
     placed_then : (k : ℕ) (x : Resource) (u : UnitId) → k ≢ r → at_place resources k ≡ Some x → x.cur ≡ Some u → at_place kept k ≡ Some u → at_place kept_next k ≡ Some u
-    placed_then k x u other at cur kept_k = elim (either c.leaving) [
+    placed_then k x u other at cur kept_k = elim (cases_Bool c.leaving) [
       | inl goes ↦ ap (λ b. at_place (cond b (clear_at r kept) (kept_by choice)) k) goes ∙ at_place-clear_at_other r k kept other ∙ kept_k
       | inr stays ↦ ap (λ xs. at_place xs k) (kept_stays stays) ∙ by_choice choice refl
     ]
@@ -184,7 +185,7 @@ module _ (m : Machine) (t : ℕ) (queue : List UnitId) (affinity : List (Option 
             let chosen = choice_of c.cur w refl is in
             let apart = standing.others k x u other at cur in
             at_place-put_at_other r k w (null.kept_without (same_unit w) kept) other
-            ∙ at_released (same_unit w) kept k u kept_k (no_true (same_unit w u) (λ same. (
+            ∙ at_released (same_unit w) kept k u kept_k (false_from_ne_true (same_unit w u) (λ same. (
             let e : w ≡ u = same_unit_same w u same in
             elim chosen [
               | inl own ↦ apart.1 (own.0 ∙ ap (λ y. Some y) e)
@@ -195,14 +196,14 @@ module _ (m : Machine) (t : ℕ) (queue : List UnitId) (affinity : List (Option 
     none_better : (u : UnitId) → c.cur ≡ Some u → is_allowed scheduler home r u ≡ true → better_waits c.cur c.since.0 t r home scheduler ≡ false
     none_better u cur allowed =
         ap (λ (o : Option UnitId). better_waits o c.since.0 t r home scheduler) cur
-        ∙ no_true (not (is_allowed scheduler home r u) || list_any (λ w. is_eligible scheduler home r t w && false) queue) (λ is. elim (one_of (not (is_allowed scheduler home r u)) (list_any (λ w. is_eligible scheduler home r t w && false) queue) is) [
+        ∙ false_from_ne_true (not (is_allowed scheduler home r u) || list_any (λ w. is_eligible scheduler home r t w && false) queue) (λ is. elim (or_cases (not (is_allowed scheduler home r u)) (list_any (λ w. is_eligible scheduler home r t w && false) queue) is) [
           | inl barred ↦ clash (not (is_allowed scheduler home r u)) barred (ap not allowed)
           | inr some ↦ (let w = any_has (λ w. is_eligible scheduler home r t w && false) queue some in clash false (and_right (is_eligible scheduler home r t w.0) false w.2) refl)
         ])
 
     stirs_none : kept_next ≡ kept → better_waits c.cur c.since.0 t r home scheduler ≡ false → StirsNone m t pool r c
     stirs_none same none = record {
-      own = no_true _ (λ is. clash (better_waits c.cur c.since.0 t r home scheduler) (others_stay same r c is) none);
+      own = false_from_ne_true _ (λ is. clash (better_waits c.cur c.since.0 t r home scheduler) (others_stay same r c is) none);
       others = λ k x other at stirred. others_stay same k x stirred;
     }
 
@@ -218,7 +219,7 @@ module _ (m : Machine) (t : ℕ) (queue : List UnitId) (affinity : List (Option 
       kept = λ stays u cur secure. (
           let placed : is_placed scheduler kept home r u ≡ true = and_right (runs u && is_allowed scheduler home r u) _ secure in
           let two = and_left (runs u && is_allowed scheduler home r u) _ secure in
-          let goes_on : (ask.runnable && is_placed scheduler kept home r u) ≡ true = both ask.runnable _ (ap (λ (o : Option UnitId). elim o as (λ _. Bool) [ None ↦ false | Some x ↦ is_runnable m.config.granularity pool x ]) cur ∙ and_left (runs u) _ two) placed in
+          let goes_on : (ask.runnable && is_placed scheduler kept home r u) ≡ true = and_from ask.runnable _ (ap (λ (o : Option UnitId). elim o as (λ _. Bool) [ None ↦ false | Some x ↦ is_runnable m.config.granularity pool x ]) cur ∙ and_left (runs u) _ two) placed in
           let chose : choice ≡ Some u = ap (λ (o : Option UnitId). elim o as (λ _. Option UnitId) [ None ↦ null.placed_or_earliest ask scheduler kept | Some w ↦ cond (ask.runnable && is_placed scheduler kept home r w) (Some w) (null.placed_or_earliest ask scheduler kept) ]) cur ∙ ap (λ b. cond b (Some u) (null.placed_or_earliest ask scheduler kept)) goes_on in
           let at_r : at_place kept r ≡ Some u = is_unit_same (at_place kept r) u (and_left (is_unit (at_place kept r) u) _ (and_left (is_unit (at_place kept r) u && has_core home r) _ placed)) in
           let same : kept_next ≡ kept = kept_stays stays ∙ ap kept_by chose ∙ kept_again r u kept at_r (λ q at_q. fits.once q r u at_q at_r) in
@@ -237,6 +238,6 @@ module _ (m : Machine) (t : ℕ) (queue : List UnitId) (affinity : List (Option 
           let rest = and_left (is_unit (at_place kept k) u && has_core home k) _ placed in
           let at_k : at_place kept k ≡ Some u = is_unit_same (at_place kept k) u (and_left (is_unit (at_place kept k) u) _ rest) in
           let then = placed_then k x u other at cur at_k in
-          let placed2 : is_placed scheduler kept_next home k u ≡ true = both (is_unit (at_place kept_next k) u && has_core home k) _ (both (is_unit (at_place kept_next k) u) _ (ap (λ o. is_unit o u) then ∙ same_unit_refl u) (and_right (is_unit (at_place kept k) u) _ rest)) (and_right (runs u) _ two) in
-          (both (runs u && is_allowed scheduler home k u) _ two (keeps_next k u ∙ placed2), omega (arith, none)));
+          let placed2 : is_placed scheduler kept_next home k u ≡ true = and_from (is_unit (at_place kept_next k) u && has_core home k) _ (and_from (is_unit (at_place kept_next k) u) _ (ap (λ o. is_unit o u) then ∙ same_unit_refl u) (and_right (is_unit (at_place kept k) u) _ rest)) (and_right (runs u) _ two) in
+          (and_from (runs u && is_allowed scheduler home k u) _ two (keeps_next k u ∙ placed2), omega (arith, none)));
     }

@@ -6,7 +6,6 @@ use Rattle.std.specs.Prelude.{Option, Some, None, is_some, slice_get, unwrap_or,
 use Rattle.sched_base.specs.RtdsNumbers.{burned_left, burned_level}
 use Rattle.sched_base.specs.Credit2Numbers.{quota, total as credit2_total}
 use Rattle.sched_model.specs.Opening.{core_count}
-use Rattle.sched_laws.proofs.Opened.{each_get}
 use Rattle.sched_ranges.specs.Fits.{UnitFits}
 use Rattle.sched_ranges.proofs.Records.{RecordsFit}
 use Rattle.sched_ranges.proofs.Law.{fits_in_runs}
@@ -30,29 +29,31 @@ use Rattle.sched_model.specs.declared.state.RtdsUnit.{RtdsUnit}
 use Rattle.sched_model.specs.declared.state.ArincRecords.{ArincRecords}
 use Rattle.sched_model.specs.declared.config.DomConfig.{DomConfig}
 use Rattle.std.specs.Option.{IfSome}
+use Rattle.std.proofs.lemmas.Bool.{false_from_ne_true, eqb-true}
 use Rattle.sched_model.specs.declared.state.Credit2Records.{Credit2Records}
 use Rattle.sched_model.specs.declared.state.Credit2Domain.{Credit2Domain}
 use Rattle.sched_model.specs.declared.state.Credit2Unit.{Credit2Unit}
 use Rattle.sched_model.specs.Places.{at_place, has_unit, same_unit, test_at}
 use Rattle.sched_model.specs.Opening.{no_pool}
-use Rattle.sched_model.specs.Eligible.{Decision, is_allowed, rtds_unit}
+use Rattle.sched_model.specs.EligibleUnits.{Decision, is_allowed, rtds_unit}
 use Rattle.sched_model.specs.Rtds.{burn_to}
 use Rattle.sched_model.specs.Policy.{decision_of}
 use Rattle.sched_model.specs.Pool.{home_cores, ask_of, decision_at, unit_count}
 use Rattle.sched_model.specs.Actions.{home_of_core, units_from}
 use Rattle.sched_model.specs.Machine.{event_of, home_pool}
 use Rattle.sched_model.specs.Runs.{IsRun, IsNextEvent, action_of, run_start}
-use Rattle.sched_model.specs.Checked.{IsChecked}
+use Rattle.sched_model.specs.CheckedMachine.{IsChecked}
 use Rattle.sched_laws.specs.StateLaws.{state_after}
-use Rattle.sched_laws.proofs.Bools.{and_left, and_right}
+use Rattle.sched_base.proofs.Bools.{and_left, and_right}
+use Rattle.sched_base.proofs.Lists.{each_get}
 use Rattle.sched_laws.proofs.Choices.{at_unit}
 use Rattle.sched_laws.proofs.Counts.{times_some, total_at, total_two, same_unit_refl}
 use Rattle.sched_laws.specs.Counts.{total, times, one_at}
 use Rattle.sched_laws.proofs.Lists.{some-test_at, some_is, is_some_at, test_at-some}
 use Rattle.sched_laws.proofs.NullKept.{KeptFits, kept_of}
 use Rattle.sched_laws.proofs.OwnUnits.{there_if_staying}
-use Rattle.sched_laws.specs.Known.{IsStaying}
-use Rattle.sched_laws.specs.Known.{OnePlace, core_places}
+use Rattle.sched_laws.specs.PoolFacts.{IsStaying}
+use Rattle.sched_laws.specs.PoolFacts.{OnePlace, core_places}
 use Rattle.sched_laws.proofs.Reached.{one_place, null_fits, units_are_own, core_is_whole, is_apart}
 use Rattle.sched_laws.proofs.SiblingsLaw.{some_processor}
 use Rattle.sched_laws.proofs.StillWaits.{core_home, split_run}
@@ -76,7 +77,6 @@ use Rattle.stretch_laws.proofs.NullDecision.{null_well}
 use Rattle.stretch_laws.proofs.RtdsDecision.{rtds_well}
 use Rattle.stretch_laws.proofs.RtdsKeys as rtds_keys
 use Rattle.credit2_turns.proofs.Credit2Faces as credit2_faces
-use Rattle.turn_laws.proofs.Tests.{is_number, no_true}
 
 -- a pool of the state that the entries lead to
 pub record PoolOf (m : Machine) (before : List Entry) (pool : Pool) : Type 0 where
@@ -174,7 +174,7 @@ module _ (m : Machine) (checked : IsChecked m) (before : List Entry) (pool : Poo
 
   -- a unit on a core waits nowhere
   on_core : (k : ℕ) (x : Resource) (u : UnitId) → at_place pool.resources k ≡ Some x → x.cur ≡ Some u → has_unit pool.scheduler.queue u ≡ false
-  on_core k x u at cur = no_true _ (λ waits. (
+  on_core k x u at cur = false_from_ne_true _ (λ waits. (
       let a = times_some u pool.scheduler.queue waits in
       let b = total_at (core_places u) k x pool.resources at in
       let d = one_own u x.cur cur in
@@ -297,7 +297,7 @@ reset_of _ = 0
 decide_event : (t : ℕ) (legs : Legs) (r : ℕ) (e : Event) → is_in_stretch t legs e ≡ true → action_of e ≡ Some (Decide (core_number r)) → (has_no_older_leg t legs r ≡ true) × (reset_of e ≡ 0)
 decide_event t legs r (event.Decide core unit due late reset) on is =
     let same : core.0 ≡ r = (let e : Decide (core_number core.0) ≡ Decide (core_number r) = cc in cc) in
-    (subst (λ k. has_no_older_leg t legs k ≡ true) same (and_right (reset == 0) _ on), is_number reset 0 (and_left (reset == 0) _ on))
+    (subst (λ k. has_no_older_leg t legs k ≡ true) same (and_right (reset == 0) _ on), eqb-true reset 0 (and_left (reset == 0) _ on))
 decide_event t legs r e on is = absurd (cc)
 
 -- the resets that a decision prints are those that it makes

@@ -1,17 +1,15 @@
 -- Records of the units of the file's domains are as many as the machine has units, at most.
-use Rattle.std.proofs.Common.{◌≡◌, ◌≤◌, ◌+◌, ◌-◌, ◌/◌, ℕ, zero, suc, true, List, [], ◌∷◌, refl, arith, ap, sym, ◌∙◌, length, length-append}
+use Rattle.std.proofs.Common.{◌≡◌, ◌≤◌, ◌+◌, ◌-◌, ◌/◌, ℕ, zero, suc, true, List, [], ◌∷◌, refl, arith, ap, sym, ◌∙◌, length}
 use Rattle.std.specs.Prelude.{Option, Some, None, ℤ, slice_get, map}
 use Rattle.std.proofs.lemmas.List.{length-map}
-use Rattle.sched_base.specs.Numbers.{domain as domain_number}
-use Rattle.sched_base.specs.declared.UnitId.{UnitId}
 use Rattle.sched_model.specs.declared.config.DomConfig.{DomConfig}
 use Rattle.sched_model.specs.declared.state.RtdsUnit.{RtdsUnit}
 use Rattle.sched_model.specs.declared.state.Credit2Domain.{Credit2Domain}
 use Rattle.sched_model.specs.declared.state.Credit2Unit.{Credit2Unit}
-use Rattle.sched_model.specs.Places.{at_place, numbers_from}
+use Rattle.sched_model.specs.Places.{at_place}
 use Rattle.sched_model.specs.Actions.{units_from}
 use Rattle.sched_laws.specs.Counts.{total}
-use Rattle.sched_laws.proofs.Opened.{length_map_numbers}
+use Rattle.sched_laws.proofs.Opened.{units_from-more}
 use Rattle.turn_laws.specs.Turns.{how_many}
 use Rattle.turn_laws.proofs.Sums.{how_many_most}
 use Rattle.credit2_turns.specs.Credit2Turns.{Face, face, faces}
@@ -22,24 +20,17 @@ use Rattle.turn_laws.specs.Stretches.{units}
 abbrev pub CountsFor : {X : Type 0} → ℕ → (X → ℕ) → List DomConfig → List (Option X) → Type 0
 CountsFor {X} g f configs places = (d : ℕ) (x : X) → at_place places d ≡ Some x → (config : DomConfig) × (slice_get configs d ≡ Some config) × (f x ≤ (length config.guests + g - 1) / g)
 
-pub units_length : (g k : ℕ) (config : DomConfig) (configs : List DomConfig) → length (units_from g k (config ∷ configs)) ≡ (length config.guests + g - 1) / g + length (units_from g (suc k) configs)
-units_length g k config configs =
-    let units : List UnitId = map (λ n. record { dom = domain_number k; n = n }) (numbers_from 0 ((length config.guests + g - 1) / g)) in
-    let a = length-append units (units_from g (suc k) configs) in
-    let b = length_map_numbers {X = UnitId} (λ n. record { dom = domain_number k; n = n }) 0 ((length config.guests + g - 1) / g) in
-    omega (arith, a, b)
-
 pub counted_units : {X : Type 0} (g k : ℕ) (f : X → ℕ) (configs : List DomConfig) (places : List (Option X)) → CountsFor g f configs places → total f places ≤ length (units_from g k configs)
 counted_units g k f configs [] counts = omega arith
 counted_units g k f [] (None ∷ places) counts = counted_units g (suc k) f [] places (λ d x at. absurd (let r = counts (suc d) x at in let e = r.1 in cc))
 counted_units g k f [] (Some y ∷ places) counts = absurd (let r = counts zero y refl in let e = r.1 in cc)
 counted_units g k f (config ∷ configs) (None ∷ places) counts = (
     let rest = counted_units g (suc k) f configs places (λ d x at. counts (suc d) x at) in
-    let size = units_length g k config configs in
+    let size = units_from-more g k config configs in
     omega (arith, rest, size))
 counted_units g k f (config ∷ configs) (Some y ∷ places) counts = (
     let rest = counted_units g (suc k) f configs places (λ d x at. counts (suc d) x at) in
-    let size = units_length g k config configs in
+    let size = units_from-more g k config configs in
     let here = counts zero y refl in
     let same : config ≡ here.0 = (let e = here.1 in cc) in
     let few = here.2 in

@@ -2,6 +2,7 @@
 use Rattle.std.proofs.Common.{◌≡◌, ◌≤◌, ◌+◌, ℕ, Bool, true, false, not, List, [], refl, arith, ap, cond, subst, sym, ◌∙◌, ◌⊎◌, inl, inr}
 use Rattle.std.specs.Prelude.{Option, Some, None, ◌&&◌, ◌||◌, nat_lt}
 use Rattle.std.specs.List.{list_any}
+use Rattle.std.proofs.lemmas.Bool.{false_from_ne_true, or_cases, and_from}
 use Rattle.sched_base.specs.declared.UnitId.{UnitId}
 use Rattle.sched_base.specs.declared.Cores.{Cores}
 use Rattle.sched_model.specs.declared.machine.Machine.{Machine}
@@ -15,12 +16,12 @@ use Rattle.sched_model.specs.declared.state.Records.TheVariants.{RtdsPool}
 use Rattle.sched_model.specs.declared.ask.Ask.{Ask}
 use Rattle.sched_model.specs.Places.{has_unit}
 use Rattle.sched_model.specs.State.{is_runnable}
-use Rattle.sched_model.specs.Eligible.{is_allowed, is_eligible, passes, eligible_units as eligible, rtds_unit}
+use Rattle.sched_model.specs.EligibleUnits.{is_allowed, is_eligible, passes, eligible_units as eligible, rtds_unit}
 use Rattle.sched_model.specs.Rtds as rtds
 use Rattle.sched_model.specs.Rtds.{unit_before, budget_left, foremost_unit, burn_to}
 use Rattle.sched_model.specs.Policy.{is_better, better_waits}
 use Rattle.sched_model.specs.Pool.{home_cores, ask_of}
-use Rattle.sched_laws.proofs.Bools.{and_left, and_right, both, one_of, clash}
+use Rattle.sched_base.proofs.Bools.{and_left, and_right, clash}
 use Rattle.sched_laws.proofs.Choices.{at_unit}
 use Rattle.sched_laws.specs.Counts.{total}
 use Rattle.turn_laws.proofs.BestUnits.{is_best, none_best}
@@ -30,7 +31,6 @@ use Rattle.turn_laws.specs.GoodDecisions.{DecidesWell, StirsNone, Secure, Secure
 use Rattle.turn_laws.proofs.Waiting.{any_after, any_has, less_waits, filter_has, has_filter}
 use Rattle.stretch_laws.proofs.RtdsKeys.{Key, key, keys, Keys, key_at, keys_change, both_before, before_is, left_is, passes_is, ahead_is, keys_before, fewer_before, some_behind, before_most, before_order, foremost_scan}
 use Rattle.turn_laws.specs.Turns as turns
-use Rattle.turn_laws.proofs.Tests.{no_true}
 
 module _ (m : Machine) (t : ℕ) (queue : List UnitId) (affinity : List (Option (List Cores))) (xs : List (Option (List RtdsUnit))) (domains : List (Option Domain)) (resources : List (Option Resource)) (r : ℕ) (c : Resource) where
   abbrev scheduler : Scheduler
@@ -164,7 +164,7 @@ module _ (m : Machine) (t : ℕ) (queue : List UnitId) (affinity : List (Option 
     chosen_may w is = elim (is_best (before_order burned) (foremost_scan burned) own waiting w is).source [ inl e ↦ (own_may w e).1 | inr has ↦ waiting_may w has ]
 
     secure_next : (k : ℕ) (w : UnitId) → runs w ≡ true → is_allowed scheduler home k w ≡ true → nat_lt 0 (budget_left xs w) ≡ true → SecureThen m t pool r c k w
-    secure_next k w run allowed left = both (runs w && is_allowed scheduler home k w) _ (both (runs w) _ run allowed) (keeps_next k w ∙ left)
+    secure_next k w run allowed left = and_from (runs w && is_allowed scheduler home k w) _ (and_from (runs w) _ run allowed) (keeps_next k w ∙ left)
 
     -- a unit with a budget left has a record, so not all run before it
     behind : (w : UnitId) → nat_lt 0 (budget_left xs w) ≡ true → ahead (RtdsPool xs) w + 1 ≤ units m
@@ -181,7 +181,7 @@ module _ (m : Machine) (t : ℕ) (queue : List UnitId) (affinity : List (Option 
     none_stirred : (u : UnitId) → c.cur ≡ Some u → is_allowed scheduler home r u ≡ true → ((e : UnitId) → has_unit waiting e ≡ true → unit_before burned e u ≡ false) → better_waits c.cur c.since.0 t r home scheduler ≡ false
     none_stirred u cur allowed least =
         ap (λ (o : Option UnitId). better_waits o c.since.0 t r home scheduler) cur
-        ∙ no_true (not (is_allowed scheduler home r u) || list_any (λ w. is_eligible scheduler home r t w && unit_before xs w u) queue) (λ is. elim (one_of (not (is_allowed scheduler home r u)) (list_any (λ w. is_eligible scheduler home r t w && unit_before xs w u) queue) is) [
+        ∙ false_from_ne_true (not (is_allowed scheduler home r u) || list_any (λ w. is_eligible scheduler home r t w && unit_before xs w u) queue) (λ is. elim (or_cases (not (is_allowed scheduler home r u)) (list_any (λ w. is_eligible scheduler home r t w && unit_before xs w u) queue) is) [
           | inl barred ↦ clash (not (is_allowed scheduler home r u)) barred (ap not allowed)
           | inr some ↦ (
               let w = any_has (λ w. is_eligible scheduler home r t w && unit_before xs w u) queue some in
@@ -191,7 +191,7 @@ module _ (m : Machine) (t : ℕ) (queue : List UnitId) (affinity : List (Option 
 
     stirs_none : better_waits c.cur c.since.0 t r home scheduler ≡ false → StirsNone m t pool r c
     stirs_none none = record {
-      own = no_true _ (λ is. clash (better_waits c.cur c.since.0 t r home scheduler) (others_stay r c is) none);
+      own = false_from_ne_true _ (λ is. clash (better_waits c.cur c.since.0 t r home scheduler) (others_stay r c is) none);
       others = λ k x other at stirred. others_stay k x stirred;
     }
 
@@ -200,7 +200,7 @@ module _ (m : Machine) (t : ℕ) (queue : List UnitId) (affinity : List (Option 
         let two = and_left (runs u && is_allowed scheduler home r u) _ secure in
         let run : ask.runnable ≡ true = ap (λ (o : Option UnitId). elim o as (λ _. Bool) [ None ↦ false | Some x ↦ is_runnable m.config.granularity pool x ]) cur ∙ and_left (runs u) _ two in
         let left : nat_lt 0 (budget_left burned u) ≡ true = ap (nat_lt 0) (left_same burned xs burned_keys u) ∙ and_right (runs u && is_allowed scheduler home r u) _ secure in
-        let goes_on : (ask.runnable && is_allowed scheduler home r u && nat_lt 0 (budget_left burned u)) ≡ true = both (ask.runnable && is_allowed scheduler home r u) _ (both ask.runnable _ run (and_right (runs u) _ two)) left in
+        let goes_on : (ask.runnable && is_allowed scheduler home r u && nat_lt 0 (budget_left burned u)) ≡ true = and_from (ask.runnable && is_allowed scheduler home r u) _ (and_from ask.runnable _ run (and_right (runs u) _ two)) left in
         ap (λ (o : Option UnitId). elim o as (λ _. Option UnitId) [ None ↦ None | Some w ↦ cond (ask.runnable && is_allowed scheduler home r w && nat_lt 0 (budget_left burned w)) (Some w) None ]) cur ∙ ap (λ b. cond b (Some u) None) goes_on
 
     kept_by : c.leaving ≡ false → (u : UnitId) → c.cur ≡ Some u → Secure m t pool r c r u → (o : Option UnitId) → foremost_unit burned own waiting ≡ o
@@ -234,7 +234,7 @@ module _ (m : Machine) (t : ℕ) (queue : List UnitId) (affinity : List (Option 
       kept = λ stays u cur secure. kept_by stays u cur secure (foremost_unit burned own waiting) refl;
       idle = λ stays cur none. (
           let empty : waiting ≡ [] = (none_best (before_order burned) (foremost_scan burned) own waiting (sym (chosen_is stays) ∙ sym unit_next ∙ none)).1 in
-          stirs_none (ap (λ (o : Option UnitId). better_waits o c.since.0 t r home scheduler) cur ∙ no_true (list_any (is_eligible scheduler home r t) queue) (λ is. (
+          stirs_none (ap (λ (o : Option UnitId). better_waits o c.since.0 t r home scheduler) cur ∙ false_from_ne_true (list_any (is_eligible scheduler home r t) queue) (λ is. (
           let w = any_has (is_eligible scheduler home r t) queue is in
           let waits = filter_has (is_eligible (record scheduler { records = RtdsPool burned }) home r t) queue w.0 w.1 (eligible_burned r w.0 ∙ w.2) in
           clash (has_unit waiting w.0) waits (ap (λ l. has_unit l w.0) empty)))));

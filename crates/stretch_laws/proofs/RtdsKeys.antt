@@ -1,14 +1,15 @@
 -- The keys of RTDS units, which alone decide which of them comes first.
 use Rattle.std.proofs.Common.{◌≡◌, ◌≤◌, ◌+◌, ℕ, zero, suc, Bool, true, false, not, List, [], ◌∷◌, refl, arith, ap, sym, ◌∙◌, ◌⊎◌, inl, inr}
 use Rattle.std.specs.Prelude.{Option, Some, None, map, option_map, slice_get, nat_lt, ◌&&◌, ◌||◌, ◌==◌}
+use Rattle.std.proofs.lemmas.Bool.{cases_Bool}
 use Rattle.sched_base.specs.declared.UnitId.{UnitId}
 use Rattle.sched_model.specs.declared.state.RtdsUnit.{RtdsUnit}
 use Rattle.sched_model.specs.declared.state.Scheduler.{Scheduler}
 use Rattle.sched_model.specs.declared.state.Records.TheVariants.{RtdsPool}
 use Rattle.sched_model.specs.Places.{at_place, change_at, change_item}
-use Rattle.sched_model.specs.Eligible.{rtds_unit, passes}
+use Rattle.sched_model.specs.EligibleUnits.{rtds_unit, passes}
 use Rattle.sched_model.specs.Rtds.{is_before, unit_before, budget_left, foremost_unit, change_unit}
-use Rattle.sched_laws.proofs.Bools.{either, clash}
+use Rattle.sched_base.proofs.Bools.{clash}
 use Rattle.sched_laws.specs.Counts.{total}
 use Rattle.sched_laws.proofs.EachPlace.{by_option}
 use Rattle.turn_laws.specs.Turns.{how_many, one, goes_before, ahead}
@@ -134,7 +135,7 @@ both_least (Some a) (Some b) None before not_before = refl
 both_least (Some a) (Some b) (Some e) before not_before = key_least a b e before not_before
 
 pub both_trans : (a b e : Option Key) → both_before a b ≡ true → both_before b e ≡ true → both_before a e ≡ true
-both_trans a b e x y = elim (either (both_before a e)) [
+both_trans a b e x y = elim (cases_Bool (both_before a e)) [
   | inl is ↦ is
   | inr not ↦ absurd (clash (both_before a b) x (both_least b e a y not))
 ]

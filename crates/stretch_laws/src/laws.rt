@@ -3,7 +3,7 @@
 ghost use Rattle.std.specs.Prelude.{◌≤◌, List, length};
 ghost use Rattle.sched_model.specs.declared.event.Entry.{Entry};
 ghost use Rattle.sched_model.specs.declared.machine.Machine.{Machine};
-ghost use Rattle.sched_model.specs.Checked.{IsChecked};
+ghost use Rattle.sched_model.specs.CheckedMachine.{IsChecked};
 ghost use Rattle.turn_laws.specs.Stretches.{most_in_stretch};
 ghost use Rattle.turn_laws.specs.Turns.{most_turns};
 ghost use Rattle.stretch_laws.specs.StretchEnds.{IsStretchOf};

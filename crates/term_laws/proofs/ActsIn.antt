@@ -1,7 +1,7 @@
 -- An action in the pool of its subject, and what holds of the pool that has a unit's domain.
 use Rattle.sched_base.specs.Numbers.{core, domain}
 use Rattle.std.proofs.Common.{◌≡◌, ◌≢◌, ℕ, Bool, true, false, List, refl, ap, subst, sym, ◌∙◌, ◌⊎◌, inl, inr}
-use Rattle.std.specs.Prelude.{Option, Some, None, option_map, unwrap_or, is_some}
+use Rattle.std.specs.Prelude.{Option, Some, None, option_map, unwrap_or}
 use Rattle.sched_base.specs.declared.UnitId.{UnitId}
 use Rattle.sched_model.specs.declared.action.Action.{Action}
 use Rattle.sched_model.specs.declared.action.Action.TheVariants.{DomMoved, Repl, Decide}
@@ -17,7 +17,7 @@ use Rattle.sched_model.specs.Actions.{home_of, change_pool}
 use Rattle.sched_model.specs.Machine.{is_enabled, enabled_at_home, after, after_at_home, home_pool, event_of}
 use Rattle.sched_model.specs.Runs.{action_of}
 use Rattle.sched_laws.proofs.Kept.{IsApart}
-use Rattle.sched_laws.proofs.Lists.{test_at-some, some-test_at, is_some_at}
+use Rattle.sched_laws.proofs.Lists.{some-test_at}
 use Rattle.term_laws.specs.RtdsTerm.{late_of, taken_by, moves, opened_by}
 use Rattle.sched_model.specs.declared.event.Entry.{Entry}
 use Rattle.term_laws.proofs.RtdsSteps.{at_place-change_at, at_place-change_at_other}
@@ -82,13 +82,6 @@ module _ (m : Machine) (u : UnitId) (s : State) (t : ℕ) (action : Action) (a :
 -- the pool is the unit's home
 pub home_pools_same : (s : State) (i j : ℕ) (p q : Pool) → at_place s.pools i ≡ Some p → at_place s.pools j ≡ Some q → i ≡ j → p ≡ q
 home_pools_same s i j p q at_i at_j e = (let at2 : at_place s.pools j ≡ Some p = subst (λ k. at_place s.pools k ≡ Some p) e at_i in cc)
-
--- two pools that have the unit's domain are one
-pub one_home : (s : State) (i j : ℕ) (p q : Pool) (u : UnitId) → IsApart s → at_place s.pools i ≡ Some p → at_place s.pools j ≡ Some q → test_at p.domains u.dom.0 (λ x. true) ≡ true → test_at q.domains u.dom.0 (λ x. true) ≡ true → i ≡ j
-one_home s i j p q u apart at_i at_j in_p in_q =
-    let x = some-test_at p.domains u.dom.0 (λ k. true) in_p in
-    let y = some-test_at q.domains u.dom.0 (λ k. true) in_q in
-    apart.domains i j u.dom.0 (test_at-some s.pools i (λ p. is_some (at_place p.domains u.dom.0)) p at_i (is_some_at (at_place p.domains u.dom.0) x.0 x.1)) (test_at-some s.pools j (λ p. is_some (at_place p.domains u.dom.0)) q at_j (is_some_at (at_place q.domains u.dom.0) y.0 y.1))
 
 -- an action that decides, replenishes and moves no domain
 pub record IsOrdinary (m : Machine) (u : UnitId) (s : State) (t : ℕ) (action : Action) : Type 0 where

@@ -29,8 +29,8 @@ use Rattle.sched_model.specs.Machine.{is_enabled, after, after_at_home, after_mo
 use Rattle.sched_model.specs.Opening.{fresh_core}
 use Rattle.sched_model.specs.Places.{at_place, put_at, clear_at, change_at, test_at, numbered_items, numbers_from}
 use Rattle.sched_model.specs.Policy.{rtds_record, kind_of, default_dom_params}
-use Rattle.sched_model.specs.Pool.{enabled_in, after_in, settled_pool as settled, set_params, change_processor, set_leaving, set_moving, pause, unpause, with_domain, without_domain, is_open, first_up}
-use Rattle.sched_laws.proofs.Bools.{and_left, and_right}
+use Rattle.sched_model.specs.Pool.{enabled_in, after_in, settled_pool, set_params, change_processor, set_leaving, set_moving, pause, unpause, with_domain, without_domain, is_open, first_up}
+use Rattle.sched_base.proofs.Bools.{and_left, and_right}
 use Rattle.sched_laws.proofs.EachPlace.{at_place-change_at, at_place-set_other, by_option, by_cond, is_empty}
 use Rattle.sched_laws.proofs.Kept.{IsApart, passes_at}
 use Rattle.sched_laws.proofs.Lists.{test_at-some, some-test_at, is_some_at}
@@ -55,7 +55,7 @@ IfOk P (Err fault) = Unit {0}
 -- kept by each step of the pool of the domain d at t, where these actions and plans may come in s
 pub record KeptAtHome (m : Machine) (s : State) (t d : ℕ) (May : Action → Type 0) (Leaves : Plan → Type 0) (P : Pool → Type 0) : Type 0 where
   pub there : (q : Pool) → P q → test_at q.domains d (λ x. true) ≡ true
-  pub settles : (q : Pool) → P q → P (settled t q)
+  pub settles : (q : Pool) → P q → P (settled_pool t q)
   pub acts : (q : Pool) (action : Action) → May action → P q → P (after_in m.config.granularity t q action)
   pub stalls : (n end : ℕ) (q : Pool) → P q → P (change_processor m.config.granularity n (λ x. record x { stall_end = moment end }) q)
   pub leaves : (r : ℕ) (q : Pool) → P q → P (set_leaving r q)
@@ -85,7 +85,7 @@ module _ {P : Pool → Type 0} (i : ℕ) where
       ]
 
   -- a domain leaves its pool for another one
-  pub at_dom_moved : (g t d : ℕ) (s : State) → ((q : Pool) → P q → P (settled t q)) → ((q : Pool) → P q → P (without_domain d q)) → ((joining : Domain) (q : Pool) → P q → P (with_domain g t d joining (default_dom_params q.scheduler.records) q))
+  pub at_dom_moved : (g t d : ℕ) (s : State) → ((q : Pool) → P q → P (settled_pool t q)) → ((q : Pool) → P q → P (without_domain d q)) → ((joining : Domain) (q : Pool) → P q → P (with_domain g t d joining (default_dom_params q.scheduler.records) q))
       → HoldsAt i P s → HoldsAt i P (after_dom_moved g t d s)
   at_dom_moved g t d s settles parts joins a =
       by_option (HoldsAt i P) (home_of_domain s d) _ _ (λ is. a)
@@ -107,7 +107,7 @@ module _ {m : Machine} {s : State} {t d : ℕ} {May : Action → Type 0} {Leaves
   at_home : (action : Action) → May action → At s → At (after_at_home m.config.granularity s t action)
   at_home action may a =
       by_option At (home_of m.config.granularity s action) _ _ (λ is. a)
-      (λ j is. at_change i j (λ pool. settled t (after_in m.config.granularity t pool action)) s (λ q at e here. kept.settles _ (kept.acts q action may here)) a)
+      (λ j is. at_change i j (λ pool. settled_pool t (after_in m.config.granularity t pool action)) s (λ q at e here. kept.settles _ (kept.acts q action may here)) a)
 
   -- the commands
   at_change_home : (e : ℕ) (f : Pool → Pool) (s : State) → ((q : Pool) → at_place s.pools i ≡ Some q → home_of_domain s e ≡ Some i → P q → P (f q)) → At s → At (change_home e f s)
@@ -147,7 +147,7 @@ module _ {m : Machine} {s : State} {t d : ℕ} {May : Action → Type 0} {Leaves
 
   at_settled : (home : Option ℕ) (s : State) → At s → At (settled_at t home s)
   at_settled None s a = a
-  at_settled (Some j) s a = at_change i j (settled t) s (λ q at e. kept.settles q) a
+  at_settled (Some j) s a = at_change i j (settled_pool t) s (λ q at e. kept.settles q) a
 
   at_plan : (v : Result Plan Refusal) → ((p : Plan) → v ≡ Ok p → Fits (record s { next_command = suc s.next_command }) p) → IfOk Leaves v → At s
       → At (elim v as (λ _. State) [ Err fault ↦ record s { next_command = suc s.next_command } | Ok plan ↦ settled_at t (pool_of_plan s plan) (carried_out m t plan (record s { next_command = suc s.next_command })) ])
@@ -157,14 +157,14 @@ module _ {m : Machine} {s : State} {t d : ℕ} {May : Action → Type 0} {Leaves
   -- a core joins, where the pool has none there, or goes without a unit
   at_attached : (r j : ℕ) (c : FreeCore) → IsApart s → at_place s.free r ≡ Some c → At s → At (with_core_in t r j c s)
   at_attached r j c apart free a =
-      at_change i j (λ pool. settled t (record pool { resources = put_at r (fresh_core c.stall_ends) pool.resources })) (record s { free = clear_at r s.free })
+      at_change i j (λ pool. settled_pool t (record pool { resources = put_at r (fresh_core c.stall_ends) pool.resources })) (record s { free = clear_at r s.free })
       (λ q at e here. kept.settles _ (kept.core_comes r c.stall_ends q
       (is_empty (at_place q.resources r) (λ x there. apart.free i r (is_some_at (at_place s.free r) c free) (test_at-some s.pools i (λ x. is_some (at_place x.resources r)) q at (is_some_at (at_place q.resources r) x there)))) here))
       (record { pool = a.pool; at = a.at; same = a.same })
 
   at_detached : (r j : ℕ) (c : Resource) → test_at s.pools j (λ pool. enabled_in m.config.granularity t pool (Moved (core_number r))) ≡ true → At s → At (without_core_in t r j c s)
   at_detached r j c on a =
-      let b = at_change i j (λ pool. settled t (record pool { resources = clear_at r pool.resources })) s
+      let b = at_change i j (λ pool. settled_pool t (record pool { resources = clear_at r pool.resources })) s
       (λ q at e here.
       let may = passes_at s.pools j (λ x. enabled_in m.config.granularity t x (Moved (core_number r))) q (subst (λ k. at_place s.pools k ≡ Some q) (sym e) at) on in
       let x = some-test_at q.resources r (λ c. c.leaving && is_none c.cur && is_none c.saving && not c.pending && is_open c && first_up t c) may in

@@ -19,13 +19,13 @@ use Rattle.sched_model.specs.declared.state.Records.{Records}
 use Rattle.sched_model.specs.declared.state.Records.TheVariants.{Credit2Pool, RtdsPool}
 use Rattle.sched_model.specs.Places.{at_place, put_at, test_at, numbers_from}
 use Rattle.sched_model.specs.State.{is_runnable, has_core}
-use Rattle.sched_model.specs.Eligible.{rtds_unit}
+use Rattle.sched_model.specs.EligibleUnits.{rtds_unit}
 use Rattle.sched_model.specs.Policy as policy
 use Rattle.sched_model.specs.Policy.{kind_of, joined_records, changed_records, fresh_records}
 use Rattle.sched_model.specs.Rtds as rtds
 use Rattle.sched_model.specs.Pool.{queue_units, queue_if_off, with_domain, is_off, unit_count}
 use Rattle.sched_model.specs.Opening.{opening, with_domains, with_configured, most_pools, core_count, fresh_core, empty_pool, fresh_vcpu}
-use Rattle.sched_model.specs.Checked.{IsChecked}
+use Rattle.sched_model.specs.CheckedMachine.{IsChecked}
 use Rattle.sched_laws.proofs.EachPlace.{by_cond, read_put_at, EachPlace-empty}
 use Rattle.sched_laws.proofs.Lists.{test_at-some, some_same}
 use Rattle.sched_laws.proofs.Opened.{read_pools, read_map, with_domains-resources, pins_keep, domains_keep}
@@ -122,7 +122,7 @@ module _ (Q : Records → Type 0) (joined : (records : Records) (params : DomPar
       subst Q (sym (pins_keep (λ (p : Pool). p.scheduler.records ≡ (with_domain g 0 d x joining.params pool).scheduler.records) (λ e n cores p same. pin_keeps p.scheduler.records e n cores ∙ same) d 0 joining.pins (with_domain g 0 d x joining.params pool) refl ∙ queue_keeps g d (numbers_from 0 (unit_count g x)) put))
       (joined pool.scheduler.records joining.params d (unit_count g x) here)
 
-  pub records_keep : (g i d : ℕ) (domains : List DomConfig) (pool : Pool) → Q pool.scheduler.records → Q (with_domains g i d domains pool).scheduler.records
+  records_keep : (g i d : ℕ) (domains : List DomConfig) (pool : Pool) → Q pool.scheduler.records → Q (with_domains g i d domains pool).scheduler.records
   records_keep g i d domains = domains_keep g i (λ p. Q p.scheduler.records) d domains (λ k joining pool at home here. configured_keep g (d + k) joining pool here)
 
 full_fresh : (params : PoolParams) (domains cores : ℕ) → AllFull (fresh_records params domains cores)
@@ -133,8 +133,13 @@ full_fresh pool_params.Rtds n cores domains is u x at = absurd (none (at_place d
     none (Some units) e at2 = EachPlace-empty {X = List RtdsUnit} (λ y. ⊥) n u.dom.0 units (subst (λ ds. at_place ds u.dom.0 ≡ Some units) (sym (rtds_same (replicate n None) domains is)) e)
 full_fresh other n cores domains is u x at = absurd (cc)
 
+-- what fresh records have, and the records keep while a domain joins, the records have at the opening
+pub records_at_first : (Q : Records → Type 0) → ((records : Records) (params : DomParams) (d count : ℕ) → Q records → Q (joined_records records params d count 0)) → ((params : PoolParams) (domains cores : ℕ) → Q (fresh_records params domains cores))
+    → (m : Machine) (i : ℕ) (p : Pool) → at_place (opening m).pools i ≡ Some p → Q p.scheduler.records
+records_at_first Q joined fresh m i p at =
+    let q = read_pools m.config 0 (most_pools - length m.config.pools) m.config.pools i p at in
+    subst (λ (x : Pool). Q x.scheduler.records) (sym q.2) (records_keep Q joined m.config.granularity (0 + i) 0 m.config.domains _ (fresh q.0.params (length m.config.domains) (core_count m.config)))
+
 -- each RTDS record at the opening
 pub full_opening : (m : Machine) (i : ℕ) (p : Pool) → at_place (opening m).pools i ≡ Some p → AllFull p.scheduler.records
-full_opening m i p at =
-    let q = read_pools m.config 0 (most_pools - length m.config.pools) m.config.pools i p at in
-    subst (λ (x : Pool). AllFull x.scheduler.records) (sym q.2) (records_keep AllFull full_joined m.config.granularity (0 + i) 0 m.config.domains _ (full_fresh q.0.params (length m.config.domains) (core_count m.config)))
+full_opening = records_at_first AllFull full_joined full_fresh

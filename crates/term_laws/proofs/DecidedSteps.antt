@@ -12,7 +12,7 @@ use Rattle.sched_model.specs.declared.state.State.{State}
 use Rattle.sched_model.specs.declared.state.Pool.{Pool}
 use Rattle.sched_model.specs.declared.state.Resource.{Resource}
 use Rattle.sched_model.specs.Places.{at_place, test_at, is_unit}
-use Rattle.sched_model.specs.Eligible.{Decision}
+use Rattle.sched_model.specs.EligibleUnits.{Decision}
 use Rattle.sched_model.specs.Policy.{decision_of, kind_of}
 use Rattle.sched_model.specs.Pool.{after_decide, ask_of, decided_core, lateness}
 use Rattle.sched_model.specs.Machine.{after, event_of}
@@ -23,12 +23,12 @@ use Rattle.term_laws.specs.RtdsTerm.{late_now, late_of, taken_by}
 use Rattle.term_laws.proofs.RtdsSteps.{at_place-set_other}
 use Rattle.term_laws.proofs.SamePool.{seen}
 use Rattle.term_laws.proofs.TermPool.{not_chosen}
-use Rattle.term_laws.proofs.TermState.{PoolHas, WithinTerm, core_is_in, within_decides, off_decides_in, other_decides_in, foreign_not_chosen}
+use Rattle.term_laws.proofs.TermState.{PoolHas, WithinTerm, core_is_in, one_home, within_decides, off_decides_in, other_decides_in, foreign_not_chosen}
 use Rattle.term_laws.proofs.TermSums.{StepOff, StepOn}
 use Rattle.term_laws.proofs.TermsOfRuns.{TrackOff, TrackOn}
 use Rattle.term_laws.proofs.Track.{OffHome, OnHome, is_rtds_pool, home_chosen, home_passed, home_other, kind_decided}
 use Rattle.term_laws.proofs.ReachedStates.{Known}
-use Rattle.term_laws.proofs.ActsIn.{home_after, away_after, home_pools_same, one_home}
+use Rattle.term_laws.proofs.ActsIn.{home_after, away_after, home_pools_same}
 use Rattle.term_laws.proofs.Deciding.{Tracks, Decides, OverPool, off_home_stable, on_home_stable, over_stable, cur_core, cur_of_seen_unit, late_other, taken_yes, taken_no}
 
 unit_yes : (o : Option UnitId) (u : UnitId) → o ≡ Some u → is_unit o u ≡ true
@@ -50,7 +50,7 @@ module _ (m : Machine) (u : UnitId) (s : State) (n : ℕ) (k : Known m s) (d : D
   foreign : (home : ℕ) (p : Pool) → at_place s.pools home ≡ Some p → test_at p.domains u.dom.0 (λ x. true) ≡ true → d.acts.j ≢ home → is_unit decision.unit u ≡ false
   foreign home p at there ne =
       foreign_not_chosen m.config.granularity s.now u n d.core the_pool (k.own d.acts.j the_pool d.acts.at) d.has
-      (λ here. ne (one_home s d.acts.j home the_pool p u k.apart d.acts.at at here there))
+      (λ here. ne (one_home s d.acts.j home the_pool p u.dom.0 k.apart d.acts.at at here there))
 
   takes : is_unit decision.unit u ≡ true → taken_by u (event_of m s s.now (Decide (core n))) ≡ Some n
   takes is = taken_yes m u s s.now n (subst (λ (x : Decision). is_unit x.unit u ≡ true) d.unit is)
@@ -128,7 +128,7 @@ module _ (m : Machine) (u : UnitId) (s : State) (n : ℕ) (k : Known m s) (d : D
         elim (ℕ_discrete n r) [
           | yes e ↦ subst (λ x. WithinTerm u deadline left (Some (x, b)) s → StepOn (WithinTerm u deadline) u deadline left x b s entry_here next_here) e (own_decides_step b) w
           | no ne ↦ (
-              let passed = other_decides_in m u deadline left r b n s s.now d.acts.j the_pool d.core k.apart ((k.one d.acts.j the_pool d.acts.at).most u) (λ here i p at there. one_home s d.acts.j i the_pool p u k.apart d.acts.at at here there) (k.own d.acts.j the_pool d.acts.at) d.acts.at d.has ne w in
+              let passed = other_decides_in m u deadline left r b n s s.now d.acts.j the_pool d.core k.apart ((k.one d.acts.j the_pool d.acts.at).most u) (k.own d.acts.j the_pool d.acts.at) d.acts.at d.has ne w in
               inl (late_other m s s.now n r ne, taken_no m u s s.now n passed.0, refl, passed.1))
         ]
 

@@ -1,6 +1,6 @@
 -- A core decides: what its entry tells, and what becomes of a unit.
-use Rattle.std.proofs.Common.{◌≡◌, ◌≢◌, ◌≤◌, ℕ, Bool, true, false, List, refl, arith, ap, sym, ◌∙◌, cond}
-use Rattle.std.specs.Prelude.{Option, Some, None, option_map, ◌==◌, ◌+◌}
+use Rattle.std.proofs.Common.{◌≡◌, ◌≢◌, ◌≤◌, ℕ, Bool, true, false, List, refl, ap, sym, ◌∙◌, cond}
+use Rattle.std.specs.Prelude.{Option, Some, None, option_map, ◌+◌}
 use Rattle.sched_base.specs.Numbers.{moment, span, core as core_number}
 use Rattle.sched_base.specs.declared.Span.{Span}
 use Rattle.sched_base.specs.declared.Moment.{Moment}
@@ -13,14 +13,14 @@ use Rattle.sched_model.specs.declared.state.Resource.{Resource}
 use Rattle.sched_model.specs.declared.state.RtdsUnit.{RtdsUnit}
 use Rattle.sched_model.specs.declared.state.Records.TheVariants.{RtdsPool}
 use Rattle.sched_model.specs.Places.{at_place, test_at, is_unit}
-use Rattle.sched_model.specs.Eligible.{Decision}
+use Rattle.sched_model.specs.EligibleUnits.{Decision}
 use Rattle.sched_model.specs.Policy.{decision_of}
 use Rattle.sched_model.specs.Pool.{after_in, after_decide, ask_of, decision_at, lateness, is_held, is_open, first_up}
 use Rattle.std.specs.Prelude.{◌&&◌}
 use Rattle.std.specs.List.{list_all}
+use Rattle.std.proofs.lemmas.Bool.{eq-eqb, ne_eqb}
 use Rattle.sched_model.specs.Machine.{is_enabled, home_pool, event_of}
 use Rattle.sched_laws.proofs.Kept.{IsApart}
-use Rattle.sched_laws.proofs.Bools.{is_same}
 use Rattle.sched_laws.proofs.Lists.{some-test_at}
 use Rattle.term_laws.specs.RtdsTerm.{late_of, taken_by}
 use Rattle.term_laws.proofs.SamePool.{seen, cur_in}
@@ -111,9 +111,6 @@ cur_core (Some c) u is = (c, refl, is)
 pub cur_of_seen_unit : (o : Option Resource) (u : UnitId) (due : Option Moment) → seen o ≡ Some (u, due) → cur_in o ≡ Some u
 cur_of_seen_unit o u due is = (let c = core_seen o u due is in ap cur_in c.1 ∙ c.2)
 
-pub same_no : (a b : ℕ) → a ≢ b → (a == b) ≡ false
-same_no a b ne = elim (a == b) as (λ x. (a == b) ≡ x → x ≡ false) [ true ↦ λ is. absurd (ne (grind (arith, is))) | false ↦ λ is. refl ] refl
-
 -- a decision
 pub record Decides (m : Machine) (s : State) (t n : ℕ) : Type 0 where
   pub acts : ActsIn m s t (Decide (core_number n))
@@ -135,12 +132,12 @@ decides m s t n on =
       has = x.1;
       next = ap (λ (o : Option Resource). elim o as (λ _. Pool) [ None ↦ a.pool | Some c ↦ after_decide g t n c a.pool ]) x.1;
       unit = sym (ap (λ (p : Pool). decision_at g t p n) a.pool_is ∙ ap (λ (o : Option Resource). elim o as (λ _. Decision) [ None ↦ record { unit = None; due = None; reset = 0; records = a.pool.scheduler.records } | Some c ↦ decision_of (ask_of g t a.pool n c) a.pool.scheduler ]) x.1);
-      late = ap (λ (b : Bool). cond b (Some (elim (at_place (home_pool m s (Decide (core_number n))).resources n) as (λ _. Span) [ None ↦ span 0 | Some c ↦ span (lateness t c) ]).0) None) (is_same n n refl)
+      late = ap (λ (b : Bool). cond b (Some (elim (at_place (home_pool m s (Decide (core_number n))).resources n) as (λ _. Span) [ None ↦ span 0 | Some c ↦ span (lateness t c) ]).0) None) (eq-eqb n n refl)
           ∙ ap (λ (o : Option Resource). Some (elim o as (λ _. Span) [ None ↦ span 0 | Some c ↦ span (lateness t c) ]).0) there;
     }
 
 pub late_other : (m : Machine) (s : State) (t n r : ℕ) → n ≢ r → late_of r (event_of m s t (Decide (core_number n))) ≡ None
-late_other m s t n r ne = ap (λ (b : Bool). cond b (Some (elim (at_place (home_pool m s (Decide (core_number n))).resources n) as (λ _. Span) [ None ↦ span 0 | Some c ↦ span (lateness t c) ]).0) None) (same_no n r ne)
+late_other m s t n r ne = ap (λ (b : Bool). cond b (Some (elim (at_place (home_pool m s (Decide (core_number n))).resources n) as (λ _. Span) [ None ↦ span 0 | Some c ↦ span (lateness t c) ]).0) None) (ne_eqb n r ne)
 
 pub taken_yes : (m : Machine) (u : UnitId) (s : State) (t n : ℕ) → is_unit (decision_at m.config.granularity t (home_pool m s (Decide (core_number n))) n).unit u ≡ true → taken_by u (event_of m s t (Decide (core_number n))) ≡ Some n
 taken_yes m u s t n is = ap (λ (b : Bool). cond b (Some n) None) is

@@ -1,6 +1,6 @@
 -- A domain moves to another pool: what becomes of a unit.
 use Rattle.sched_base.specs.Numbers.{domain as domain_number}
-use Rattle.std.proofs.Common.{◌≡◌, ◌≢◌, ◌<◌, ◌+◌, ℕ, true, false, List, length, refl, ap, subst, sym, ◌∙◌, inl, inr}
+use Rattle.std.proofs.Common.{◌≡◌, ◌≢◌, ◌<◌, ◌+◌, ℕ, Bool, true, false, List, length, refl, ap, subst, sym, ◌∙◌, inl, inr}
 use Rattle.std.specs.Prelude.{Option, Some, None, option_map, is_some, ◌==◌, ◌||◌}
 use Rattle.std.specs.List.{list_any}
 use Rattle.std.proofs.Math.Decide.{ℕ_discrete}
@@ -19,23 +19,24 @@ use Rattle.sched_model.specs.Policy.{default_dom_params}
 use Rattle.sched_model.specs.Actions.{home_of_domain, change_pool}
 use Rattle.sched_model.specs.Machine.{after, event_of, after_dom_moved, left_by, joined_by, is_null}
 use Rattle.sched_laws.proofs.EachPlace.{by_option, by_cond, at_place-change_each}
-use Rattle.sched_laws.proofs.Bools.{and_left, and_right, not_true, or_left, is_same}
+use Rattle.sched_base.proofs.Bools.{and_left, and_right, or_left}
 use Rattle.sched_laws.proofs.Lists.{test_at-some, some-test_at, none_passes, at_numbered}
-use Rattle.sched_laws.specs.Known.{IsThere}
+use Rattle.sched_laws.specs.PoolFacts.{IsThere}
 use Rattle.sched_laws.proofs.Opened.{with_domain-resources}
-use Rattle.part_laws.proofs.Alike.{mover_of}
 use Rattle.term_laws.specs.RtdsTerm.{moves}
 use Rattle.term_laws.proofs.SamePool.{cur_in}
 use Rattle.term_laws.proofs.TermPool.{OffPool, OnPool}
 use Rattle.term_laws.proofs.RtdsSteps.{at_place-change_at, at_place-change_at_other}
 use Rattle.std.specs.Option.{IfSome}
-use Rattle.term_laws.proofs.TermState.{PoolHas, WithinTerm}
+use Rattle.std.proofs.lemmas.Bool.{eq-eqb, ne_eqb, not-true}
+use Rattle.term_laws.proofs.TermState.{PoolHas, WithinTerm, one_home}
 use Rattle.term_laws.proofs.TermSums.{StepOff, StepOn}
 use Rattle.term_laws.proofs.TermsOfRuns.{TrackOff, TrackOn}
 use Rattle.term_laws.proofs.Track.{OffHome, OnHome}
 use Rattle.term_laws.proofs.ReachedStates.{Known}
-use Rattle.term_laws.proofs.ActsIn.{IsStable, ActsIn, home_pools_same, one_home, moved_after}
-use Rattle.term_laws.proofs.Deciding.{Tracks, OverPool, off_home_stable, on_home_stable, off_pool_stable, on_pool_stable, over_stable, cur_core, cur_of_seen_unit, same_no}
+use Rattle.term_laws.proofs.ActsIn.{IsStable, ActsIn, home_pools_same, moved_after}
+use Rattle.term_laws.proofs.Beginning.{home_pool_of}
+use Rattle.term_laws.proofs.Deciding.{Tracks, OverPool, off_home_stable, on_home_stable, off_pool_stable, on_pool_stable, over_stable, cur_core, cur_of_seen_unit}
 
 -- the cores of a pool keep their units
 abbrev pub CoresKeep : (Pool → Pool) → Type 0
@@ -81,13 +82,24 @@ came_changed s mid j f keeps came i q at =
         let c = came i x is in
         (c.0, c.1, λ r. subst (λ (y : Pool). cur_in (at_place y.resources r) ≡ cur_in (at_place x.resources r)) same (keeps x r) ∙ c.2 r)
 
-came_moved : (g t d : ℕ) (s : State) → CameFrom s (after_dom_moved g t d s)
+pub came_moved : (g t d : ℕ) (s : State) → CameFrom s (after_dom_moved g t d s)
 came_moved g t d s =
     by_option (CameFrom s) (home_of_domain s d) _ _ (λ is. came_same s)
     (λ i is. by_option (CameFrom s) (at_place s.pools i) _ _ (λ is2. came_same s)
     (λ pool is2. by_option (CameFrom s) (at_place pool.domains d) _ _ (λ is3. came_same s)
     (λ domain is3. by_option (CameFrom s) domain.moving _ _ (λ is4. came_same s)
     (λ j is4. came_changed s (change_pool i (left_by t d) s) j.0 (joined_by g t d domain) (joined_keeps g t d domain) (came_changed s s i (left_by t d) (left_keeps t d) (came_same s))))))
+
+-- the domain that moves is in its pool, and none of its units is on a core there
+pub mover : (m : Machine) (s : State) (d : ℕ) (a : ActsIn m s s.now (DomMoved (domain_number d))) → (x : Domain) × (at_place a.pool.domains d ≡ Some x) × (is_some x.moving ≡ true)
+mover m s d a = some-test_at a.pool.domains d (λ domain. is_some domain.moving) (and_left (test_at a.pool.domains d (λ domain. is_some domain.moving)) _ a.enabled)
+
+pub mover_off : (m : Machine) (s : State) (d : ℕ) (a : ActsIn m s s.now (DomMoved (domain_number d))) (r : ℕ) (c : Resource) → at_place a.pool.resources r ≡ Some c → is_of_domain d c.cur ≡ false
+mover_off m s d a r c at =
+    let passes : ℕ × Resource → Bool = λ e. is_of_domain d e.1.cur || is_of_domain d e.1.saving in
+    let none = at_numbered (λ (x : Resource). (is_of_domain d x.cur || is_of_domain d x.saving) ≡ false) 0 a.pool.resources
+    (none_passes passes (numbered_items 0 a.pool.resources) (not-true (list_any passes (numbered_items 0 a.pool.resources)) (and_right (test_at a.pool.domains d (λ domain. is_some domain.moving)) _ a.enabled))) in
+    or_left (is_of_domain d c.cur) (is_of_domain d c.saving) (none r c at)
 
 module _ (m : Machine) (u : UnitId) (s : State) (d : ℕ) (k : Known m s) (a : ActsIn m s s.now (DomMoved (domain_number d))) (at : Moment) where
   abbrev pub moved_entry : Entry
@@ -98,38 +110,33 @@ module _ (m : Machine) (u : UnitId) (s : State) (d : ℕ) (k : Known m s) (a : A
 
   -- the pool has the domain
   has_domain : d ≡ u.dom.0 → test_at a.pool.domains u.dom.0 (λ x. true) ≡ true
-  has_domain e =
-      let x = some-test_at a.pool.domains d (λ domain. is_some domain.moving) (and_left (test_at a.pool.domains d (λ domain. is_some domain.moving)) _ a.enabled) in
-      subst (λ n. test_at a.pool.domains n (λ x. true) ≡ true) e (test_at-some a.pool.domains d (λ x. true) x.0 x.1 refl)
+  has_domain e = (let x = mover m s d a in subst (λ n. test_at a.pool.domains n (λ x. true) ≡ true) e (test_at-some a.pool.domains d (λ x. true) x.0 x.1 refl))
 
   -- no core of it has a unit of the domain
   nobody : d ≡ u.dom.0 → (r : ℕ) → cur_in (at_place a.pool.resources r) ≡ Some u → ⊥
   nobody e r is =
-      let none = at_numbered (λ (x : Resource). (is_of_domain d x.cur || is_of_domain d x.saving) ≡ false) 0 a.pool.resources
-      (none_passes (λ (e : ℕ × Resource). is_of_domain d e.1.cur || is_of_domain d e.1.saving) (numbered_items 0 a.pool.resources) (not_true (list_any (λ (e : ℕ × Resource). is_of_domain d e.1.cur || is_of_domain d e.1.saving) (numbered_items 0 a.pool.resources)) (and_right (test_at a.pool.domains d (λ domain. is_some domain.moving)) _ a.enabled))) in
       let c = cur_core (at_place a.pool.resources r) u is in
-      let off = or_left (is_of_domain d c.0.cur) (is_of_domain d c.0.saving) (none r c.0 c.1) in
-      let off2 : is_of_domain d (Some u) ≡ false = subst (λ o. is_of_domain d o ≡ false) c.2 off in
-      let on : (u.dom.0 == d) ≡ true = is_same u.dom.0 d (sym e) in
+      let off : is_of_domain d (Some u) ≡ false = subst (λ o. is_of_domain d o ≡ false) c.2 (mover_off m s d a r c.0 c.1) in
+      let on : (u.dom.0 == d) ≡ true = eq-eqb u.dom.0 d (sym e) in
       cc
 
   -- so a unit of the domain is on no core
   not_on : (Q : Pool → Type 0) → IsStable u Q → (r : ℕ) → ((p : Pool) → Q p → cur_in (at_place p.resources r) ≡ Some u) → d ≡ u.dom.0 → PoolHas Q s → ⊥
   not_on Q stable r on e w =
-      let same = home_pools_same s w.home a.j w.pool a.pool w.at a.at (one_home s w.home a.j w.pool a.pool u k.apart w.at a.at (stable.there w.pool w.has) (has_domain e)) in
+      let same = home_pools_same s w.home a.j w.pool a.pool w.at a.at (one_home s w.home a.j w.pool a.pool u.dom.0 k.apart w.at a.at (stable.there w.pool w.has) (has_domain e)) in
       nobody e r (subst (λ (p : Pool). cur_in (at_place p.resources r) ≡ Some u) same (on w.pool w.has))
 
   moves_no : d ≢ u.dom.0 → moves u.dom.0 (event_of m s s.now (DomMoved (domain_number d))) ≡ false
-  moves_no ne = same_no d u.dom.0 ne
+  moves_no ne = ne_eqb d u.dom.0 ne
 
   moves_yes : d ≡ u.dom.0 → moves u.dom.0 (event_of m s s.now (DomMoved (domain_number d))) ≡ true
-  moves_yes e = is_same d u.dom.0 e
+  moves_yes e = eq-eqb d u.dom.0 e
 
   -- the unit's domain has a home after it too, where the unit is on no core
   off_moved : (low : u.dom.0 < length m.config.domains) → Known m moved_next → d ≡ u.dom.0 → Tracks u None s → Tracks u None moved_next
   off_moved low k2 e w =
       let h = k2.housed.domains u.dom.0 low in
-      let p = pool_of (at_place moved_next.pools h.0) h.1 in
+      let p = home_pool_of (at_place moved_next.pools h.0) u.dom.0 h.1 in
       record {
         home = h.0;
         pool = p.0;
@@ -142,18 +149,10 @@ module _ (m : Machine) (u : UnitId) (s : State) (d : ℕ) (k : Known m s) (a : A
               let c = cur_core (at_place came.0.resources r) u is2 in
               let own = ((k.own h.0 came.0 came.1).cores r c.0 c.1).cur in
               let there : IsThere came.0.domains u = subst (λ o. IfSome o (IsThere came.0.domains)) c.2 own in
-              let same = home_pools_same s h.0 w.home came.0 w.pool came.1 w.at (one_home s h.0 w.home came.0 w.pool u k.apart came.1 w.at there w.has.there) in
+              let same = home_pools_same s h.0 w.home came.0 w.pool came.1 w.at (one_home s h.0 w.home came.0 w.pool u.dom.0 k.apart came.1 w.at there w.has.there) in
               w.has.none r (subst (λ (q : Pool). cur_in (at_place q.resources r) ≡ Some u) same is2));
         };
       }
-    where
-      pool_of : (o : Option Pool) → is_some (mover_of o u.dom.0) ≡ true → (p : Pool) × (o ≡ Some p) × (test_at p.domains u.dom.0 (λ x. true) ≡ true)
-      pool_of None is = absurd (cc)
-      pool_of (Some p) is = (p, refl, by_domain (at_place p.domains u.dom.0) refl is)
-        where
-          by_domain : (o2 : Option Domain) → at_place p.domains u.dom.0 ≡ o2 → is_some (option_map (λ (x : Domain). x.moving) o2) ≡ true → test_at p.domains u.dom.0 (λ x. true) ≡ true
-          by_domain None is2 e2 = absurd (cc)
-          by_domain (Some x) is2 e2 = test_at-some p.domains u.dom.0 (λ x. true) x is2 refl
 
   pub track_off_moved : (low : u.dom.0 < length m.config.domains) → Known m moved_next → Tracks u None s → TrackOff (Tracks u) u moved_entry moved_next
   track_off_moved low k2 w = elim (ℕ_discrete d u.dom.0) [

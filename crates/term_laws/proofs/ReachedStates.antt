@@ -8,12 +8,12 @@ use Rattle.sched_model.specs.declared.machine.Machine.{Machine}
 use Rattle.sched_model.specs.declared.state.State.{State}
 use Rattle.sched_model.specs.declared.state.Pool.{Pool}
 use Rattle.sched_model.specs.Places.{at_place}
-use Rattle.sched_model.specs.Checked.{IsChecked}
+use Rattle.sched_model.specs.CheckedMachine.{IsChecked}
 use Rattle.sched_model.specs.Machine.{after}
 use Rattle.sched_model.specs.Runs.{Reached, action_of, end_of, after_quiet, after_event, after_entry, after_entries, run_start, IsNext, IsRun}
 use Rattle.sched_laws.proofs.Kept.{IsApart}
-use Rattle.sched_laws.specs.Known.{UnitsAreOwn}
-use Rattle.sched_laws.specs.Known.{OnePlace}
+use Rattle.sched_laws.specs.PoolFacts.{UnitsAreOwn}
+use Rattle.sched_laws.specs.PoolFacts.{OnePlace}
 use Rattle.sched_laws.proofs.Reached.{is_apart, units_are_own, one_place}
 use Rattle.sched_ranges.specs.Ranges.{StateInRange}
 use Rattle.sched_ranges.proofs.Done.{in_range}

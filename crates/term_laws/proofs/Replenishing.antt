@@ -16,29 +16,30 @@ use Rattle.sched_model.specs.declared.state.RtdsUnit.{RtdsUnit}
 use Rattle.sched_model.specs.declared.state.Records.{Records}
 use Rattle.sched_model.specs.declared.state.Records.TheVariants.{RtdsPool}
 use Rattle.sched_model.specs.Places.{at_place, test_at, change_at, same_unit, has_unit}
-use Rattle.sched_model.specs.Eligible.{rtds_unit}
+use Rattle.sched_model.specs.EligibleUnits.{rtds_unit}
 use Rattle.sched_model.specs.Policy as policy
 use Rattle.sched_model.specs.Policy.{kind_of, rtds_record}
 use Rattle.sched_model.specs.Rtds as rtds
 use Rattle.sched_model.specs.Pool.{after_replenish, due_within, core_of, with_records, lowest_up, replenished_unit}
 use Rattle.sched_model.specs.Machine.{after, home_pool, event_of}
 use Rattle.sched_laws.proofs.EachPlace.{by_option, found_at}
-use Rattle.sched_laws.proofs.Bools.{and_left, and_right}
+use Rattle.sched_base.proofs.Bools.{and_left, and_right}
 use Rattle.sched_laws.proofs.Choices.{same_unit_same}
 use Rattle.sched_laws.proofs.Kept.{IsApart}
 use Rattle.sched_laws.proofs.Counts.{same_unit_refl}
 use Rattle.sched_laws.proofs.Lists.{test_at-some, some_is, some_same}
 use Rattle.sched_laws.proofs.Records.{same_replenish}
+use Rattle.sched_laws.proofs.RtdsUnits.{rtds_unit-same, rtds_unit-none, rtds_unit-other}
 use Rattle.term_laws.specs.RtdsTerm.{Term, term_end, opened_by}
-use Rattle.term_laws.proofs.RtdsSteps.{at_place-change_at, at_place-change_at_other, rtds_unit-same, rtds_unit-none, rtds_unit-other}
+use Rattle.term_laws.proofs.RtdsSteps.{at_place-change_at, at_place-change_at_other}
 use Rattle.term_laws.proofs.SamePool.{seen, cur_in}
 use Rattle.term_laws.proofs.TermPool.{OffPool, OnPool, core_seen, burned_to, on_replenished, off_replenished, on_other_replenished, off_other_replenished}
-use Rattle.term_laws.proofs.TermState.{PoolHas, WithinTerm}
+use Rattle.term_laws.proofs.TermState.{PoolHas, WithinTerm, one_home}
 use Rattle.term_laws.proofs.TermSums.{StepOff, StepOn}
 use Rattle.term_laws.proofs.TermsOfRuns.{TrackOff, TrackOn, begun_on}
 use Rattle.term_laws.proofs.Track.{OffHome, OnHome, is_rtds_pool, rtds_same}
 use Rattle.term_laws.proofs.ReachedStates.{Known}
-use Rattle.term_laws.proofs.ActsIn.{IsStable, ActsIn, home_after, away_after, home_pools_same, one_home}
+use Rattle.term_laws.proofs.ActsIn.{IsStable, ActsIn, home_after, away_after, home_pools_same}
 use Rattle.term_laws.proofs.Deciding.{Tracks, OverPool, off_home_stable, on_home_stable, off_pool_stable, on_pool_stable, over_stable, over_is, cur_of_seen_unit}
 
 -- each core keeps its unit
@@ -194,7 +195,7 @@ module _ (m : Machine) (u : UnitId) (s : State) (v : UnitId) (k : Known m s) (a 
     own_term_over w is =
         let e : v ≡ u = same_unit_same v u is in
         let there : test_at a.pool.domains u.dom.0 (λ x. true) ≡ true = subst (λ (x : UnitId). test_at a.pool.domains x.dom.0 (λ y. true) ≡ true) e there_here in
-        let j = one_home s a.j w.home a.pool w.pool u k.apart a.at w.at there w.has.5 in
+        let j = one_home s a.j w.home a.pool w.pool u.dom.0 k.apart a.at w.at there w.has.5 in
         let same : a.pool ≡ w.pool = home_pools_same s a.j w.home a.pool w.pool a.at w.at j in
         let due = is_due_rtds u s.now a.pool.scheduler.records (subst (λ x. policy.replenish_due a.pool.scheduler.records s.now x ≡ true) e due_here) in
         let ds : due.0 ≡ w.has.0 = rtds_same due.0 w.has.0 (sym due.1 ∙ ap (λ (p : Pool). p.scheduler.records) same ∙ w.has.1) in
@@ -271,7 +272,7 @@ module _ (m : Machine) (u : UnitId) (s : State) (k : Known m s) (a : ActsIn m s 
 
   -- the pool that has the unit is the one where it is replenished
   here : (Q : Pool → Type 0) → IsStable u Q → PoolHas Q s → Q a.pool
-  here Q stable w = subst Q (home_pools_same s w.home a.j w.pool a.pool w.at a.at (one_home s w.home a.j w.pool a.pool u k.apart w.at a.at (stable.there w.pool w.has) there_own)) w.has
+  here Q stable w = subst Q (home_pools_same s w.home a.j w.pool a.pool w.at a.at (one_home s w.home a.j w.pool a.pool u.dom.0 k.apart w.at a.at (stable.there w.pool w.has) there_own)) w.has
 
   pub opened_within : (core : Option ℕ) → Tracks u core s → WithinTerm u the_unit.deadline term.budget (begun_on s.now core) (after m s s.now (Repl u))
   opened_within None w =

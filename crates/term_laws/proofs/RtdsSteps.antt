@@ -1,57 +1,23 @@
 -- What the decisions of an RTDS pool do to a unit's record.
 use Rattle.std.proofs.Common.{◌≡◌, ◌≢◌, ◌≤◌, ◌+◌, ◌-◌, ℕ, true, false, List, refl, arith, ap, subst, sym, ◌∙◌, ◌⊎◌, inl, inr, nat_lt}
-use Rattle.std.proofs.Math.Decide.{ℕ_discrete}
-use Rattle.std.specs.Prelude.{Option, Some, None, slice_get, option_map}
+use Rattle.std.specs.Prelude.{Option, Some, None, option_map}
 use Rattle.sched_base.specs.Numbers.{moment}
 use Rattle.sched_base.specs.declared.UnitId.{UnitId}
 use Rattle.sched_base.specs.RtdsNumbers.{burned_left}
-use Rattle.sched_model.specs.Places.{at_place, change_at, change_item, same_unit, is_unit}
+use Rattle.sched_model.specs.Places.{at_place, change_at, same_unit, is_unit}
 use Rattle.sched_model.specs.declared.state.Scheduler.{Scheduler}
 use Rattle.sched_model.specs.declared.state.RtdsUnit.{RtdsUnit}
 use Rattle.sched_model.specs.declared.state.Records.TheVariants.{RtdsPool}
 use Rattle.sched_model.specs.declared.ask.Ask.{Ask}
-use Rattle.sched_model.specs.Eligible.{Decision, rtds_unit}
+use Rattle.sched_model.specs.EligibleUnits.{Decision, rtds_unit}
 use Rattle.sched_model.specs.Rtds.{burn, burn_to, change_unit, set_running, switch_off, burn_cur, budget_left, rtds_decision, choice, decide}
 use Rattle.sched_laws.proofs.EachPlace.{by_cond}
 pub use Rattle.sched_laws.proofs.EachPlace.{at_place-change_at, at_place-set_other}
-use Rattle.sched_laws.proofs.Lists.{slice_get-change_item, slice_get-change_item_other}
 use Rattle.sched_laws.proofs.Choices.{same_unit_same}
+use Rattle.sched_laws.proofs.RtdsUnits.{rtds_unit-same, rtds_unit-other}
 
 pub at_place-change_at_other : {X : Type 0} (i j : ℕ) (f : X → X) (places : List (Option X)) → i ≢ j → at_place (change_at i f places) j ≡ at_place places j
 at_place-change_at_other i j f places other = at_place-set_other i j (option_map f (at_place places i)) places other
-
--- the unit's record after a change of it
-rtds_unit-changed : (u : UnitId) (f : RtdsUnit → RtdsUnit) (domains : List (Option (List RtdsUnit))) → rtds_unit (change_unit u f domains) u ≡ option_map f (rtds_unit domains u)
-rtds_unit-changed u f domains =
-    ap (λ (o : Option (List RtdsUnit)). elim o as (λ _. Option RtdsUnit) [ None ↦ None | Some units ↦ slice_get units u.n ]) (at_place-change_at u.dom.0 (change_item u.n f) domains)
-    ∙ there (at_place domains u.dom.0)
-  where
-    there : (o : Option (List RtdsUnit))
-        → elim (option_map (change_item u.n f) o) as (λ _. Option RtdsUnit) [ None ↦ None | Some units ↦ slice_get units u.n ] ≡ option_map f (elim o as (λ _. Option RtdsUnit) [ None ↦ None | Some units ↦ slice_get units u.n ])
-    there None = refl
-    there (Some units) = slice_get-change_item u.n f units
-
-pub rtds_unit-same : (u : UnitId) (f : RtdsUnit → RtdsUnit) (domains : List (Option (List RtdsUnit))) (x : RtdsUnit) → rtds_unit domains u ≡ Some x → rtds_unit (change_unit u f domains) u ≡ Some (f x)
-rtds_unit-same u f domains x at = rtds_unit-changed u f domains ∙ ap (option_map f) at
-
-pub rtds_unit-none : (u : UnitId) (f : RtdsUnit → RtdsUnit) (domains : List (Option (List RtdsUnit))) → rtds_unit domains u ≡ None → rtds_unit (change_unit u f domains) u ≡ None
-rtds_unit-none u f domains at = rtds_unit-changed u f domains ∙ ap (option_map f) at
-
--- and after one of another unit
-pub rtds_unit-other : (w u : UnitId) (f : RtdsUnit → RtdsUnit) (domains : List (Option (List RtdsUnit))) → same_unit w u ≡ false → rtds_unit (change_unit w f domains) u ≡ rtds_unit domains u
-rtds_unit-other w u f domains other =
-    elim (ℕ_discrete w.dom.0 u.dom.0) [
-      | yes e ↦ (
-          let n : w.n ≢ u.n = λ e2. (grind (arith, e, e2, other)) in
-          subst (λ (d : ℕ). elim (at_place (change_at w.dom.0 (change_item w.n f) domains) d) as (λ _. Option RtdsUnit) [ None ↦ None | Some units ↦ slice_get units u.n ] ≡ elim (at_place domains d) as (λ _. Option RtdsUnit) [ None ↦ None | Some units ↦ slice_get units u.n ]) e
-          (ap (λ (o : Option (List RtdsUnit)). elim o as (λ _. Option RtdsUnit) [ None ↦ None | Some units ↦ slice_get units u.n ]) (at_place-change_at w.dom.0 (change_item w.n f) domains)
-          ∙ there (at_place domains w.dom.0) n))
-      | no ne ↦ ap (λ (o : Option (List RtdsUnit)). elim o as (λ _. Option RtdsUnit) [ None ↦ None | Some units ↦ slice_get units u.n ]) (at_place-change_at_other w.dom.0 u.dom.0 (change_item w.n f) domains ne)
-    ]
-  where
-    there : (o : Option (List RtdsUnit)) → w.n ≢ u.n → elim (option_map (change_item w.n f) o) as (λ _. Option RtdsUnit) [ None ↦ None | Some units ↦ slice_get units u.n ] ≡ elim o as (λ _. Option RtdsUnit) [ None ↦ None | Some units ↦ slice_get units u.n ]
-    there None n = refl
-    there (Some units) n = slice_get-change_item_other w.n u.n f units n
 
 -- a record of a unit without extra time: so much is left at most, up to this deadline
 pub record Has (left deadline : ℕ) (x : RtdsUnit) : Type 0 where

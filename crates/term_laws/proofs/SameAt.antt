@@ -15,16 +15,15 @@ use Rattle.sched_model.specs.declared.state.Pool.{Pool}
 use Rattle.sched_model.specs.declared.state.Records.{Records}
 use Rattle.sched_model.specs.declared.state.RtdsUnit.{RtdsUnit}
 use Rattle.sched_model.specs.declared.state.Records.TheVariants.{RtdsPool, Credit2Pool}
-use Rattle.sched_model.specs.Eligible.{rtds_unit}
+use Rattle.sched_model.specs.EligibleUnits.{rtds_unit}
 use Rattle.sched_model.specs.Policy as policy
-use Rattle.sched_model.specs.Policy.{rtds_record, kind_of}
+use Rattle.sched_model.specs.Policy.{kind_of}
 use Rattle.sched_model.specs.Rtds as rtds
 use Rattle.sched_model.specs.declared.action.Action.{Action}
 use Rattle.sched_model.specs.Pool.{set_params, set_pending}
 use Rattle.sched_model.specs.Commands.{is_kind}
 use Rattle.sched_model.specs.Machine.{after, verdict}
 use Rattle.sched_laws.proofs.EachPlace.{by_cond}
-use Rattle.term_laws.proofs.RtdsSteps.{rtds_unit-same, rtds_unit-none, rtds_unit-other}
 use Rattle.term_laws.proofs.AtHome.{HoldsAt, KeptAtHome, IsNoDom, at_after, IfOk}
 use Rattle.sched_laws.proofs.Events.{KeptByCommands, kept_by_parts, kept_processor, kept_set_leaving, kept_withdrawn, kept_pause, kept_unpause}
 use Rattle.term_laws.proofs.SamePool.{Same, same_of, cur_in, IsPlain, charged, same_trans, same_change_each, same_settled, same_parts, same_commands, same_change_domain}
@@ -37,10 +36,11 @@ use Rattle.sched_model.specs.declared.event.Refusal.{Refusal}
 use Rattle.sched_model.specs.Opening.{fresh_core}
 use Rattle.sched_model.specs.Machine.{is_enabled}
 use Rattle.sched_laws.proofs.Kept.{IsApart}
-use Rattle.sched_laws.proofs.Records.{IsNoFrame, same_changed as kinds_changed}
+use Rattle.sched_laws.proofs.Records.{IsNoFrame, same_changed}
 use Rattle.sched_model.specs.declared.config.Frame.{Frame}
 use Rattle.term_laws.proofs.SamePool.{seen}
 use Rattle.sched_laws.proofs.Choices.{same_unit_same}
+use Rattle.sched_laws.proofs.RtdsUnits.{rtds_unit-same, rtds_unit-none, rtds_unit-other}
 
 module _ (w : UnitId) where
   -- a change of an RTDS unit's parameters, which waits for the next replenishment
@@ -58,7 +58,7 @@ module _ (w : UnitId) where
   same_records : (change : ParamChange) (t : ℕ) (p : Pool) → IsNoFrame change → ((domains : List (Option (List RtdsUnit))) → (domains2 : List (Option (List RtdsUnit))) × (policy.changed_records (RtdsPool domains) change t ≡ RtdsPool domains2) × (charged (rtds_unit domains2 w) ≡ charged (rtds_unit domains w)))
       → (affinity : _) → Same w p (record p { scheduler = record p.scheduler { affinity = affinity; records = policy.changed_records p.scheduler.records change t } })
   same_records change t p none same affinity =
-      same_of w _ _ (λ r. refl) (λ domains is. (let x = same domains in (x.0, ap (λ (y : Records). policy.changed_records y change t) is ∙ x.1, x.2))) refl (kinds_changed kind_of (λ a b. refl) (λ a b. refl) p.scheduler.records change t none)
+      same_of w _ _ (λ r. refl) (λ domains is. (let x = same domains in (x.0, ap (λ (y : Records). policy.changed_records y change t) is ∙ x.1, x.2))) refl (same_changed kind_of (λ a b. refl) (λ a b. refl) p.scheduler.records change t none)
 
   kinds_framed : (frame : Frame) (t : ℕ) (records : Records) → kind_of (policy.changed_records records (changes.Frame frame) t) ≡ kind_of records
   kinds_framed frame t (Credit2Pool records) = refl
@@ -85,7 +85,7 @@ module _ (w : UnitId) where
     cores = λ domains is. absurd (not_rtds q domains kind is);
     records = λ domains is. absurd (not_rtds q domains kind is);
     there = refl;
-    kinds = kinds_changed kind_of (λ a b. refl) (λ a b. refl) q.scheduler.records (changes.Dom d weight (Some n)) t tt;
+    kinds = same_changed kind_of (λ a b. refl) (λ a b. refl) q.scheduler.records (changes.Dom d weight (Some n)) t tt;
   }
     where
       curs_each : (f : ℕ → Resource → Resource) (cores : List (Option Resource)) → ((k : ℕ) (c : Resource) → (f k c).cur ≡ c.cur) → (n : ℕ) → cur_in (at_place (change_each 0 f cores) n) ≡ cur_in (at_place cores n)

@@ -10,13 +10,13 @@ use Rattle.sched_model.specs.declared.state.Pool.{Pool}
 use Rattle.sched_model.specs.declared.state.Scheduler.{Scheduler}
 use Rattle.sched_model.specs.declared.state.RtdsUnit.{RtdsUnit}
 use Rattle.sched_model.specs.declared.state.Records.TheVariants.{RtdsPool}
-use Rattle.sched_model.specs.Eligible.{rtds_unit}
+use Rattle.sched_model.specs.EligibleUnits.{rtds_unit}
 use Rattle.sched_model.specs.Policy as policy
 use Rattle.sched_model.specs.Policy.{kind_of}
 use Rattle.sched_laws.proofs.Records.{same_refill as kinds_refill}
 use Rattle.sched_model.specs.Pool as pools
 use Rattle.sched_model.specs.declared.action.Action.{Action}
-use Rattle.sched_model.specs.Pool.{after_in, settled_pool, home_cores, reconsidered_core, change_core, change_processor, change_vcpu, change_domain, change_cores_of, set_pending, with_doing, queue_unit, started_on, set_leaving, set_moving, pause, unpause, is_of_domain}
+use Rattle.sched_model.specs.Pool.{settled_pool, change_domain}
 use Rattle.sched_model.specs.declared.action.Action.TheVariants.{DomMoved, Repl, Decide}
 use Rattle.sched_laws.proofs.Events.{like_look, LikePlaces, like_change_at, like_change_each, like_map, KeepsCore, KeptByCommands, KeptByParts, commands_of, kept_settled}
 use Rattle.sched_laws.proofs.Lists.{test_at-change_at}

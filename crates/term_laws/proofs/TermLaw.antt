@@ -13,7 +13,7 @@ use Rattle.sched_model.specs.declared.event.Entry.{Entry}
 use Rattle.sched_model.specs.declared.machine.Machine.{Machine}
 use Rattle.sched_model.specs.declared.state.State.{State}
 use Rattle.sched_model.specs.Places.{same_unit}
-use Rattle.sched_model.specs.Checked.{IsChecked}
+use Rattle.sched_model.specs.CheckedMachine.{IsChecked}
 use Rattle.sched_model.specs.Machine.{is_enabled, event_of, after}
 use Rattle.sched_model.specs.Runs.{Reached, action_of, end_of, after_quiet, after_event, after_entry, IsNext, IsNextEvent}
 use Rattle.sched_laws.proofs.ApartKept.{apart_after}

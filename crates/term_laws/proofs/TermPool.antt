@@ -14,7 +14,7 @@ use Rattle.sched_model.specs.declared.state.Records.{Records}
 use Rattle.sched_model.specs.declared.state.RtdsUnit.{RtdsUnit}
 use Rattle.sched_model.specs.declared.state.Records.TheVariants.{RtdsPool}
 use Rattle.sched_model.specs.declared.ask.Ask.{Ask}
-use Rattle.sched_model.specs.Eligible.{Decision, rtds_unit}
+use Rattle.sched_model.specs.EligibleUnits.{Decision, rtds_unit}
 use Rattle.sched_model.specs.Policy.{decision_of, decision_by}
 use Rattle.sched_model.specs.Rtds.{rtds_decision}
 use Rattle.sched_model.specs.Pool.{ask_of, after_decide, decided_core, same_choice}
@@ -25,12 +25,13 @@ use Rattle.sched_model.specs.Pool.{core_of, after_replenish, due_within, with_re
 use Rattle.std.specs.Prelude.{min}
 use Rattle.sched_laws.proofs.EachPlace.{by_option, none_found, found_at, at_place-put_at as put_within, place_below}
 use Rattle.sched_laws.proofs.Choices.{same_unit_same, is_unit_same, decision_has}
-use Rattle.sched_laws.specs.Known.{IfUnit}
+use Rattle.sched_laws.specs.PoolFacts.{IfUnit}
 use Rattle.std.specs.List.{AllByRecursion}
-use Rattle.sched_laws.specs.Known.{places, core_places}
+use Rattle.sched_laws.specs.PoolFacts.{places, core_places}
 use Rattle.sched_laws.proofs.Counts.{same_unit_refl, total_at}
 use Rattle.sched_laws.specs.Counts.{times, one, one_at}
-use Rattle.term_laws.proofs.RtdsSteps.{Recorded, recorded_other, Chosen, Passed, decides_on, decides_off, at_place-set_other, at_place-change_at, at_place-change_at_other, burned_kept, rtds_unit-same}
+use Rattle.sched_laws.proofs.RtdsUnits.{rtds_unit-same}
+use Rattle.term_laws.proofs.RtdsSteps.{Recorded, recorded_other, Chosen, Passed, decides_on, decides_off, at_place-set_other, at_place-change_at, at_place-change_at_other, burned_kept}
 use Rattle.term_laws.proofs.SamePool.{Same, seen, charged}
 
 -- the record is still there, and as much is charged of it

@@ -2,7 +2,7 @@
 use Rattle.std.proofs.Common.{◌≡◌, ◌≢◌, ◌≤◌, ℕ, true, false, refl, ap, subst, sym, ◌∙◌, ◌⊎◌, inl, inr}
 use Rattle.std.specs.Prelude.{Option, Some, None, is_some, option_map, unwrap_or, ◌-◌}
 use Rattle.sched_base.specs.Numbers.{moment, core as core_number}
-use Rattle.sched_model.specs.Eligible.{Decision}
+use Rattle.sched_model.specs.EligibleUnits.{Decision}
 use Rattle.sched_model.specs.Opening.{no_pool}
 use Rattle.sched_model.specs.Policy.{decision_of}
 use Rattle.sched_model.specs.Pool.{after_in, after_decide, ask_of, decision_at, settled_pool}
@@ -11,7 +11,7 @@ use Rattle.sched_model.specs.Machine.{home_pool}
 use Rattle.term_laws.proofs.RtdsSteps.{at_place-change_at, at_place-change_at_other}
 use Rattle.sched_base.specs.declared.UnitId.{UnitId}
 use Rattle.sched_model.specs.declared.state.Resource.{Resource}
-use Rattle.sched_model.specs.Places.{at_place, change_at, is_unit, same_unit}
+use Rattle.sched_model.specs.Places.{at_place, change_at, is_unit, same_unit, test_at}
 use Rattle.sched_model.specs.declared.machine.Machine.{Machine}
 use Rattle.sched_model.specs.declared.state.State.{State}
 use Rattle.sched_model.specs.declared.state.Pool.{Pool}
@@ -19,17 +19,18 @@ use Rattle.sched_model.specs.declared.action.Action.TheVariants.{Decide}
 use Rattle.sched_model.specs.Actions.{home_of_core}
 use Rattle.sched_model.specs.Machine.{after}
 use Rattle.term_laws.specs.RtdsTerm.{core_in}
-use Rattle.sched_laws.proofs.EachPlace.{found_at, none_found, by_option}
+use Rattle.sched_laws.specs.StateLaws.{has_domain_at}
+use Rattle.sched_laws.proofs.StillWaits.{core_home}
 use Rattle.sched_laws.proofs.Lists.{test_at-some, some-test_at, is_some_at, AllByRecursion-map, some_same}
 use Rattle.sched_laws.proofs.OwnUnits.{there_if_staying}
-use Rattle.sched_laws.specs.Known.{UnitsAreOwn, IsThere, IsStaying}
+use Rattle.sched_laws.specs.PoolFacts.{UnitsAreOwn, IsThere, IsStaying}
 use Rattle.sched_laws.proofs.Choices.{decision_has, same_unit_same}
-use Rattle.sched_laws.specs.Known.{IfUnit}
+use Rattle.sched_laws.specs.PoolFacts.{IfUnit}
 use Rattle.std.proofs.Math.Decide.{ℕ_discrete}
 use Rattle.sched_laws.proofs.Kept.{IsApart}
 use Rattle.term_laws.proofs.SamePool.{same_refl, same_settled}
 use Rattle.term_laws.proofs.TermPool.{OffPool, OnPool, off_same, on_same, on_decides, off_decides, other_decides, not_chosen, core_seen}
-use Rattle.sched_laws.specs.Known.{places}
+use Rattle.sched_laws.specs.PoolFacts.{places}
 use Rattle.term_laws.proofs.TermSums.{Within}
 
 -- the pool that has the unit, with what holds of it
@@ -44,26 +45,23 @@ abbrev pub WithinTerm : UnitId → ℕ → Within
 WithinTerm u deadline left None s = PoolHas (OffPool u left deadline) s
 WithinTerm u deadline left (Some leg) s = PoolHas (OnPool u left deadline leg.0 leg.1) s
 
+-- the home of a core
+home_of_core_is : (s : State) (i r : ℕ) (pool : Pool) (c : Resource) → IsApart s → at_place s.pools i ≡ Some pool → at_place pool.resources r ≡ Some c → home_of_core s r ≡ Some i
+home_of_core_is s i r pool c apart at has = core_home s i r apart (test_at-some s.pools i (λ p. is_some (at_place p.resources r)) pool at (is_some_at (at_place pool.resources r) c has))
+
 -- the core is found in the state, since no core is in two pools
 pub core_is_in : (s : State) (i r : ℕ) (pool : Pool) (c : Resource) → IsApart s → at_place s.pools i ≡ Some pool → at_place pool.resources r ≡ Some c → core_in s r ≡ Some c
 core_is_in s i r pool c apart at has =
-    by_option (λ (o : Option Resource). o ≡ Some c) (home_of_core s r) None _
-    (λ is. absurd (let no = none_found 0 i (λ p. is_some (at_place p.resources r)) s.pools pool is at in let yes = is_some_at (at_place pool.resources r) c has in cc))
-    (λ j is.
-    let f = found_at j (λ p. is_some (at_place p.resources r)) s.pools is in
-    let e = apart.cores j i r (test_at-some s.pools j (λ p. is_some (at_place p.resources r)) f.0 f.1 f.2) (test_at-some s.pools i (λ p. is_some (at_place p.resources r)) pool at (is_some_at (at_place pool.resources r) c has)) in
-    subst (λ k. elim (at_place s.pools k) as (λ _. Option Resource) [ None ↦ None | Some x ↦ at_place x.resources r ] ≡ Some c) (sym e)
-    (by_option (λ (o : Option Resource). o ≡ Some c) (at_place s.pools i) None (λ x. at_place x.resources r) (λ none. absurd (cc)) (λ x is_x. (let same : pool ≡ x = cc in subst (λ (y : Pool). at_place y.resources r ≡ Some c) same has))))
+    ap (λ (o : Option ℕ). elim o as (λ _. Option Resource) [ None ↦ None | Some k ↦ elim (at_place s.pools k) as (λ _. Option Resource) [ None ↦ None | Some x ↦ at_place x.resources r ] ]) (home_of_core_is s i r pool c apart at has)
+    ∙ ap (λ (o : Option Pool). elim o as (λ _. Option Resource) [ None ↦ None | Some x ↦ at_place x.resources r ]) at
+    ∙ has
 
--- the home of a core
-pub home_of_core_is : (s : State) (i r : ℕ) (pool : Pool) (c : Resource) → IsApart s → at_place s.pools i ≡ Some pool → at_place pool.resources r ≡ Some c → home_of_core s r ≡ Some i
-home_of_core_is s i r pool c apart at has =
-    elim (home_of_core s r) as (λ o. home_of_core s r ≡ o → o ≡ Some i) [
-      | None ↦ λ is. absurd (let no = none_found 0 i (λ p. is_some (at_place p.resources r)) s.pools pool is at in let yes = is_some_at (at_place pool.resources r) c has in cc)
-      | Some j ↦ λ is. (
-          let f = found_at j (λ p. is_some (at_place p.resources r)) s.pools is in
-          ap (λ k. Some k) (apart.cores j i r (test_at-some s.pools j (λ p. is_some (at_place p.resources r)) f.0 f.1 f.2) (test_at-some s.pools i (λ p. is_some (at_place p.resources r)) pool at (is_some_at (at_place pool.resources r) c has))))
-    ] refl
+-- a pool has the domain, and two that have it are one
+pub has_domain : (s : State) (i d : ℕ) (p : Pool) → at_place s.pools i ≡ Some p → test_at p.domains d (λ x. true) ≡ true → has_domain_at s i d ≡ true
+has_domain s i d p at there = (let x = some-test_at p.domains d (λ k. true) there in test_at-some s.pools i (λ q. is_some (at_place q.domains d)) p at (is_some_at (at_place p.domains d) x.0 x.1))
+
+pub one_home : (s : State) (i j : ℕ) (p q : Pool) (d : ℕ) → IsApart s → at_place s.pools i ≡ Some p → at_place s.pools j ≡ Some q → test_at p.domains d (λ x. true) ≡ true → test_at q.domains d (λ x. true) ≡ true → i ≡ j
+one_home s i j p q d apart at_i at_j in_p in_q = apart.domains i j d (has_domain s i d p at_i in_p) (has_domain s j d q at_j in_q)
 
 -- the core that the unit is on decides
 pub within_decides : (m : Machine) (u : UnitId) (deadline left r b : ℕ) (s : State) (t : ℕ) → IsApart s → WithinTerm u deadline left (Some (r, b)) s
@@ -143,22 +141,16 @@ off_decides_in m u deadline left n s t j q c apart own at has w =
             | inr stays ↦ inr (subst (λ (x : Decision). is_unit x.unit u ≡ false) d.unit stays.0, subst (λ x. WithinTerm u deadline left None x) (sym d.state) (record { home = j; pool = settled_pool t next; at = there; has = off_same u left deadline next (settled_pool t next) (same_settled u t next next (same_refl u next)) stays.1 }))
           ])
       | no ne ↦ inr (
-        subst (λ (x : Decision). is_unit x.unit u ≡ false) d.unit (foreign_not_chosen g t u n c q own has (λ there. ne (one_home s j w.home q w.pool u apart at w.at there w.has.there))),
+        subst (λ (x : Decision). is_unit x.unit u ≡ false) d.unit (foreign_not_chosen g t u n c q own has (λ there. ne (one_home s j w.home q w.pool u.dom.0 apart at w.at there w.has.there))),
         subst (λ x. WithinTerm u deadline left None x) (sym d.state) (record { home = w.home; pool = w.pool; at = at_place-change_at_other j w.home f s.pools ne ∙ w.at; has = w.has }),
       )
     ]
-  where
-    one_home : (s : State) (a b : ℕ) (p1 p2 : Pool) (v : UnitId) → IsApart s → at_place s.pools a ≡ Some p1 → at_place s.pools b ≡ Some p2 → IsThere p1.domains v → IsThere p2.domains v → a ≡ b
-    one_home s a b p1 p2 v apart2 at1 at2 in1 in2 =
-        let x = some-test_at p1.domains v.dom.0 (λ k. true) in1 in
-        let y = some-test_at p2.domains v.dom.0 (λ k. true) in2 in
-        apart2.domains a b v.dom.0 (test_at-some s.pools a (λ p. is_some (at_place p.domains v.dom.0)) p1 at1 (is_some_at (at_place p1.domains v.dom.0) x.0 x.1)) (test_at-some s.pools b (λ p. is_some (at_place p.domains v.dom.0)) p2 at2 (is_some_at (at_place p2.domains v.dom.0) y.0 y.1))
 
 -- another core than the unit's decides, and never for the unit
-pub other_decides_in : (m : Machine) (u : UnitId) (deadline left r b n : ℕ) (s : State) (t j : ℕ) (q : Pool) (c : Resource) → IsApart s → places q u ≤ 1 → (IsThere q.domains u → (i : ℕ) (p : Pool) → at_place s.pools i ≡ Some p → IsThere p.domains u → j ≡ i) → UnitsAreOwn q
+pub other_decides_in : (m : Machine) (u : UnitId) (deadline left r b n : ℕ) (s : State) (t j : ℕ) (q : Pool) (c : Resource) → IsApart s → places q u ≤ 1 → UnitsAreOwn q
     → at_place s.pools j ≡ Some q → at_place q.resources n ≡ Some c → n ≢ r → WithinTerm u deadline left (Some (r, b)) s
     → (is_unit (decision_at m.config.granularity t (home_pool m s (Decide (core_number n))) n).unit u ≡ false) × WithinTerm u deadline left (Some (r, b)) (after m s t (Decide (core_number n)))
-other_decides_in m u deadline left r b n s t j q c apart most one_home own at has ne_r w =
+other_decides_in m u deadline left r b n s t j q c apart most own at has ne_r w =
     let g = m.config.granularity in
     let d = decides_at m s t j n q c apart at has in
     let f : Pool → Pool = λ pool. settled_pool t (after_in g t pool (Decide (core_number n))) in
@@ -174,7 +166,7 @@ other_decides_in m u deadline left r b n s t j q c apart most one_home own at ha
             subst (λ x. WithinTerm u deadline left (Some (r, b)) x) (sym d.state) (record { home = j; pool = settled_pool t next; at = there; has = on_same u left deadline r b next (settled_pool t next) (same_settled u t next next (same_refl u next)) (other_decides g t u left deadline r b n c q has ne_r not_u on) }),
           ))
       | no ne ↦ (
-        subst (λ (x : Decision). is_unit x.unit u ≡ false) d.unit (foreign_not_chosen g t u n c q own has (λ there. ne (one_home there w.home w.pool w.at w.has.there))),
+        subst (λ (x : Decision). is_unit x.unit u ≡ false) d.unit (foreign_not_chosen g t u n c q own has (λ there. ne (one_home s j w.home q w.pool u.dom.0 apart at w.at there w.has.there))),
         subst (λ x. WithinTerm u deadline left (Some (r, b)) x) (sym d.state) (record { home = w.home; pool = w.pool; at = at_place-change_at_other j w.home f s.pools ne ∙ w.at; has = w.has }),
       )
     ]

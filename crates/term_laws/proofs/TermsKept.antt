@@ -15,11 +15,11 @@ use Rattle.sched_model.specs.declared.state.RtdsUnit.{RtdsUnit}
 use Rattle.sched_model.specs.declared.state.Records.{Records}
 use Rattle.sched_model.specs.declared.state.Records.TheVariants.{RtdsPool}
 use Rattle.sched_model.specs.Places.{at_place, test_at, same_unit}
-use Rattle.sched_model.specs.Eligible.{rtds_unit}
+use Rattle.sched_model.specs.EligibleUnits.{rtds_unit}
 use Rattle.sched_model.specs.Policy.{rtds_record}
 use Rattle.sched_model.specs.Opening.{opening}
 use Rattle.sched_model.specs.Actions.{home_of_domain}
-use Rattle.sched_model.specs.Checked.{IsChecked}
+use Rattle.sched_model.specs.CheckedMachine.{IsChecked}
 use Rattle.sched_model.specs.Machine.{event_of}
 use Rattle.sched_model.specs.Runs.{Reached, run_start, after_entry, IsNext, IsRunFrom, IsRun}
 use Rattle.sched_laws.specs.StateLaws.{state_after}

@@ -15,13 +15,15 @@ use Rattle.sched_model.specs.declared.state.Records.{Records}
 use Rattle.sched_model.specs.declared.state.Records.TheVariants.{RtdsPool}
 use Rattle.sched_model.specs.declared.state.RtdsUnit.{RtdsUnit}
 use Rattle.sched_model.specs.Places.{at_place, is_unit, test_at}
-use Rattle.sched_model.specs.Eligible.{Decision, rtds_unit}
+use Rattle.sched_model.specs.EligibleUnits.{Decision, rtds_unit}
 use Rattle.sched_model.specs.Policy.{decision_of, decision_by, kind_of}
 use Rattle.sched_model.specs.Rtds as rtds
 use Rattle.sched_model.specs.Pool.{ask_of, after_decide, decided_core}
 use Rattle.sched_laws.proofs.Choices.{is_unit_same}
 use Rattle.sched_laws.proofs.Counts.{same_unit_refl}
-use Rattle.term_laws.proofs.RtdsSteps.{rtds_unit-same, rtds_unit-none, rtds_unit-other, at_place-set_other}
+use Rattle.sched_laws.proofs.RtdsUnits.{rtds_unit-same, rtds_unit-none, rtds_unit-other}
+use Rattle.sched_laws.proofs.OnePlace.{decided_cur}
+use Rattle.term_laws.proofs.RtdsSteps.{at_place-set_other}
 use Rattle.term_laws.proofs.SamePool.{Same, seen, cur_in, charged}
 use Rattle.term_laws.proofs.TermPool.{seen_decided, at_place-put_at}
 
@@ -135,21 +137,6 @@ burned_other : (u : UnitId) (cur : Option UnitId) (t : ℕ) (domains : List (Opt
 burned_other u None t domains is = refl
 burned_other u (Some w) t domains is = rtds_unit-other w u (rtds.burn_to t) domains is
 
--- the unit of the core that decided
-pub cur_decided : (t : ℕ) (d : Decision) (c : Resource) → (decided_core t d c).cur ≡ d.unit
-cur_decided t d c = from
-  where
-    back : (o : Option UnitId) → option_map (λ (z : UnitId × Option Moment). z.0) (option_map {U = UnitId × Option Moment} (λ (u : UnitId). (u, d.due)) o) ≡ o
-    back None = refl
-    back (Some u) = refl
-
-    forth : (x : Resource) (o : Option UnitId) → x.cur ≡ o → option_map (λ (z : UnitId × Option Moment). z.0) (seen (Some x)) ≡ x.cur
-    forth x None is = ap (λ (y : Option UnitId). option_map (λ (z : UnitId × Option Moment). z.0) (option_map {U = UnitId × Option Moment} (λ (u : UnitId). (u, x.due)) y)) is ∙ sym is
-    forth x (Some u) is = ap (λ (y : Option UnitId). option_map (λ (z : UnitId × Option Moment). z.0) (option_map {U = UnitId × Option Moment} (λ (u : UnitId). (u, x.due)) y)) is ∙ sym is
-
-    from : (decided_core t d c).cur ≡ d.unit
-    from = sym (forth (decided_core t d c) (decided_core t d c).cur refl) ∙ ap (option_map (λ (z : UnitId × Option Moment). z.0)) (seen_decided t d c) ∙ back d.unit
-
 pub not_unit : (u : UnitId) (o : Option UnitId) → is_unit o u ≡ false → o ≡ Some u → ⊥
 not_unit u o other is = (let s = same_unit_refl u in let e : is_unit (Some u) u ≡ false = subst (λ x. is_unit x u ≡ false) is other in cc)
 
@@ -165,7 +152,7 @@ module _ (g t : ℕ) (u : UnitId) (n : ℕ) (c : Resource) (p : Pool) (at : at_p
   the_decision = decision_of (ask_of g t p n c) p.scheduler
 
   cur_here : cur_in (at_place (after_decide g t n c p).resources n) ≡ the_decision.unit
-  cur_here = ap cur_in (at_place-put_at n (decided_core t the_decision c) c p.resources at) ∙ cur_decided t the_decision c
+  cur_here = ap cur_in (at_place-put_at n (decided_core t the_decision c) c p.resources at) ∙ decided_cur t the_decision c
 
   cur_there : (k : ℕ) → n ≢ k → at_place (after_decide g t n c p).resources k ≡ at_place p.resources k
   cur_there k ne = at_place-set_other n k (Some (decided_core t the_decision c)) p.resources ne

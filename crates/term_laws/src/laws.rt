@@ -6,7 +6,7 @@ ghost use Rattle.sched_base.specs.RtdsNumbers.{next_deadline};
 ghost use Rattle.sched_base.specs.declared.UnitId.{UnitId};
 ghost use Rattle.sched_model.specs.declared.event.Entry.{Entry};
 ghost use Rattle.sched_model.specs.declared.machine.Machine.{Machine};
-ghost use Rattle.sched_model.specs.Checked.{IsChecked};
+ghost use Rattle.sched_model.specs.CheckedMachine.{IsChecked};
 ghost use Rattle.sched_model.specs.Runs.{IsRun};
 ghost use Rattle.sched_laws.specs.StateLaws.{state_after};
 ghost use Rattle.term_laws.specs.Grid.{IsTermAround};

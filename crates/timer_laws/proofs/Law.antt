@@ -6,7 +6,7 @@ use Rattle.sched_base.specs.declared.Moment.{Moment}
 use Rattle.sched_model.specs.declared.state.Scheduler.{Scheduler}
 use Rattle.sched_ops.specs.declared.timer.Timer.{Timer}
 use Rattle.sched_ops.specs.Timers.{Armed, timers, timer_at}
-use Rattle.timer_laws.specs.Armed.{armed_at, IsNotAfter}
+use Rattle.timer_laws.specs.TimerOrder.{armed_at, IsNotAfter}
 use Rattle.timer_laws.proofs.Scan.{next_none, next_one, next_first, next_least}
 use Rattle.timer_laws.proofs.Listed.{to_list, of_list}
 use Rattle.timer_laws.proofs.Order.{in_order}

@@ -11,13 +11,14 @@ use Rattle.sched_model.specs.declared.state.Records.{Records}
 use Rattle.sched_model.specs.declared.state.Records.TheVariants.{Credit2Pool, RtdsPool, ArincPool, NullPool}
 use Rattle.sched_model.specs.declared.state.Scheduler.{Scheduler}
 use Rattle.sched_model.specs.Places.{at_place, numbered_items, has_unit}
-use Rattle.sched_model.specs.Eligible.{rtds_unit}
+use Rattle.sched_model.specs.EligibleUnits.{rtds_unit}
 use Rattle.sched_ops.specs.Conditions.{is_on}
 use Rattle.sched_ops.specs.declared.timer.Timer.{Timer}
 use Rattle.sched_ops.specs.declared.timer.Timer.TheVariants.{Repl, Refill}
 use Rattle.sched_ops.specs.Timers.{Armed, unit_timers, replenishments, refills, timers}
-use Rattle.timer_laws.specs.Armed.{armed_at}
-use Rattle.timer_laws.proofs.Scan.{each-append, append-each}
+use Rattle.timer_laws.specs.TimerOrder.{armed_at}
+use Rattle.timer_laws.proofs.Scan.{each-append}
+use Rattle.sched_laws.proofs.Waiting.{parts_of}
 
 -- what holds of each thing and its place holds of all that are numbered, and back
 pub to_numbered : {X : Type 0} (P : ℕ × X → Type 0) (n : ℕ) (places : List (Option X)) → ((i m : ℕ) (x : X) → n + i ≡ m → at_place places i ≡ Some x → P (m, x)) → AllByRecursion P (numbered_items n places)
@@ -81,7 +82,7 @@ module _ (P : Armed → Type 0) where
 
     of_replenishments : (domains : List (ℕ × List RtdsUnit)) → AllByRecursion P (replenishments queue domains) → AllByRecursion (λ (e : ℕ × List RtdsUnit). AllByRecursion P (unit_timers queue e.0 0 e.1)) domains
     of_replenishments [] each = tt
-    of_replenishments (e ∷ domains) each = (let r = append-each P (unit_timers queue e.0 0 e.1) (replenishments queue domains) each in (r.0, of_replenishments domains r.1))
+    of_replenishments (e ∷ domains) each = (let r = parts_of P (unit_timers queue e.0 0 e.1) (replenishments queue domains) each in (r.0, of_replenishments domains r.1))
 
   -- the refills of these domains
   abbrev pub OfRefill : ℕ × Credit2Domain → Type 0

@@ -13,7 +13,7 @@ use Rattle.sched_model.specs.Places.{numbered_items}
 use Rattle.sched_ops.specs.declared.timer.Timer.{Timer}
 use Rattle.sched_ops.specs.declared.timer.Timer.TheVariants.{Repl, Refill}
 use Rattle.sched_ops.specs.Timers.{Armed, unit_timers, replenishments, refills, timers_in, timers}
-use Rattle.timer_laws.specs.Armed.{IsNotAfter, domain_place}
+use Rattle.timer_laws.specs.TimerOrder.{IsNotAfter, domain_place}
 use Rattle.timer_laws.proofs.Scan.{AreInOrder, in_order-append}
 use Rattle.timer_laws.proofs.Listed.{unit_of, is_busy, to_numbered, to_units, to_replenishments, to_refills, OfRefill}
 

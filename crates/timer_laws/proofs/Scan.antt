@@ -5,16 +5,12 @@ use Rattle.std.specs.List.{AllByRecursion}
 use Rattle.std.proofs.lemmas.Bool.{leb-true, leb-false, ltb-true, ltb-false}
 use Rattle.sched_laws.proofs.Lists.{AllByRecursion-map}
 use Rattle.sched_ops.specs.Timers.{Armed, first_due, soonest_timer}
-use Rattle.timer_laws.specs.Armed.{IsNotAfter}
+use Rattle.timer_laws.specs.TimerOrder.{IsNotAfter}
 
 -- what holds of each of two lists holds of both, one after the other, and back
 pub each-append : {X : Type 0} (P : X → Type 0) (xs ys : List X) → AllByRecursion P xs → AllByRecursion P ys → AllByRecursion P (xs ++ ys)
 each-append P [] ys front back = back
 each-append P (x ∷ xs) ys front back = (front.0, each-append P xs ys front.1 back)
-
-pub append-each : {X : Type 0} (P : X → Type 0) (xs ys : List X) → AllByRecursion P (xs ++ ys) → AllByRecursion P xs × AllByRecursion P ys
-append-each P [] ys each = (tt, each)
-append-each P (x ∷ xs) ys each = (let r = append-each P xs ys each.1 in ((each.0, r.0), r.1))
 
 -- no timer comes before those ahead of it in the list
 abbrev pub AreInOrder : List Armed → Type 0

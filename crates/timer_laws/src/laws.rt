@@ -6,7 +6,7 @@ ghost use Rattle.sched_model.specs.declared.state.Scheduler.{Scheduler};
 ghost use Rattle.sched_model.specs.State.{has_come};
 ghost use Rattle.sched_ops.specs.declared.timer.Timer.{Timer};
 ghost use Rattle.sched_ops.specs.Timers.{Armed, timer_at, is_due};
-ghost use Rattle.timer_laws.specs.Armed.{armed_at, IsNotAfter};
+ghost use Rattle.timer_laws.specs.TimerOrder.{armed_at, IsNotAfter};
 
 /// Of all schedulers, reached or not: the timer at t is one that is armed, and is told with its moment. It is the first by domain and
 /// unit of those whose moment has come, and where no moment has come it has the least. There is none only where no timer is armed.

@@ -1,9 +1,10 @@
 -- The best of some units: a scan that keeps the better of two units ends at one of them, and none of them is better.
 use Rattle.std.proofs.Common.{◌≡◌, Bool, true, false, List, [], ◌∷◌, cond, refl, subst, sym, ◌∙◌, ◌⊎◌, inl, inr}
 use Rattle.std.specs.Prelude.{Option, Some, None}
+use Rattle.std.proofs.lemmas.Bool.{or_cases}
 use Rattle.sched_base.specs.declared.UnitId.{UnitId}
 use Rattle.sched_model.specs.Places.{has_unit, same_unit}
-use Rattle.sched_laws.proofs.Bools.{one_of, or_more}
+use Rattle.sched_base.proofs.Bools.{or_more}
 use Rattle.sched_laws.proofs.Choices.{same_unit_same}
 use Rattle.sched_laws.proofs.Counts.{same_unit_refl}
 use Rattle.turn_laws.proofs.Tests.{or_later}
@@ -33,7 +34,7 @@ module _ {better : UnitId → UnitId → Bool} {pick : Option UnitId → List Un
 
   -- a unit and those behind it
   with_first : (u : UnitId) (xs : List UnitId) (w : UnitId) → better u w ≡ false → ((e : UnitId) → has_unit xs e ≡ true → better e w ≡ false) → (e : UnitId) → has_unit (u ∷ xs) e ≡ true → better e w ≡ false
-  with_first u xs w first behind e has = elim (one_of (same_unit e u) (has_unit xs e) has) [ inl same ↦ subst (λ x. better x w ≡ false) (sym (same_unit_same e u same)) first | inr rest ↦ behind e rest ]
+  with_first u xs w first behind e has = elim (or_cases (same_unit e u) (has_unit xs e) has) [ inl same ↦ subst (λ x. better x w ≡ false) (sym (same_unit_same e u same)) first | inr rest ↦ behind e rest ]
 
   -- the scan went on with the unit
   from_unit : (best : Option UnitId) (u : UnitId) (xs : List UnitId) (w : UnitId) → IsBest better (Some u) xs w → ((b : UnitId) → best ≡ Some b → better u b ≡ true) → IsBest better best (u ∷ xs) w

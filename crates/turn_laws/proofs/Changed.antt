@@ -10,19 +10,16 @@ use Rattle.sched_model.specs.declared.state.Resource.{Resource}
 use Rattle.sched_model.specs.declared.state.Scheduler.{Scheduler}
 use Rattle.sched_model.specs.Places.{at_place, change_at}
 use Rattle.sched_model.specs.State.{is_runnable, runnable_among}
-use Rattle.sched_model.specs.Eligible.{is_allowed}
+use Rattle.sched_model.specs.EligibleUnits.{is_allowed}
 use Rattle.sched_model.specs.Pool.{home_cores, settled_pool, reconsidered_core}
-use Rattle.sched_laws.proofs.HomeCores.{home_change_at}
+use Rattle.sched_model.proofs.PlaceLemmas.{is_some-option_map, cores_from-change_at}
+pub use Rattle.sched_model.proofs.PlaceLemmas.{at_place-change_at_other}
 use Rattle.sched_laws.proofs.EachPlace.{at_place-change_each}
-pub use Rattle.sched_laws.proofs.EachPlace.{at_place-change_at, at_place-change_at_other}
+pub use Rattle.sched_laws.proofs.EachPlace.{at_place-change_at}
 use Rattle.turn_laws.specs.Stretches.{cores, units}
 use Rattle.turn_laws.specs.Turns.{one, turns, turns_in, weight_of, meeting, is_stirred, is_secure, keeps, ahead}
 use Rattle.turn_laws.proofs.Sums.{many}
 use Rattle.turn_laws.proofs.Looking.{turns_settled}
-
-is_some-option_map : {X Y : Type 0} (f : X → Y) (o : Option X) → is_some (option_map f o) ≡ is_some o
-is_some-option_map f None = refl
-is_some-option_map f (Some x) = refl
 
 -- the same units run
 pub turns_runs : (g weight most t home : ℕ) (runs runs2 : UnitId → Bool) (scheduler : Scheduler) (r : ℕ) (c : Resource) → ((u : UnitId) → runs2 u ≡ runs u) → turns g weight most runs2 t home scheduler r c ≡ turns g weight most runs t home scheduler r c
@@ -74,7 +71,7 @@ module _ (m : Machine) (t : ℕ) (pool : Pool) where
   changed scheduler domains r b h c at same own others =
       let next : Pool = record { scheduler = scheduler; domains = domains; resources = change_at r h pool.resources } in
       let g : ℕ = m.config.granularity in
-      let home : home_cores next ≡ home_cores pool = home_change_at 0 r h pool.resources in
+      let home : home_cores next ≡ home_cores pool = cores_from-change_at 0 r h pool.resources in
       let to : (k : ℕ) (o : Option Resource) → at_place next.resources k ≡ o → turns_in m t next k ≡ elim o as (λ _. ℕ) [ None ↦ 0 | Some x ↦ under scheduler k x ] = λ k o e.
       ap (λ (p : Option Resource). elim p as (λ _. ℕ) [ None ↦ 0 | Some x ↦ turns g (weight_of m) (units m) (is_runnable g next) t (home_cores next) scheduler k x ]) e
       ∙ ap (λ (n : ℕ). elim o as (λ _. ℕ) [ None ↦ 0 | Some x ↦ turns g (weight_of m) (units m) (is_runnable g next) t n scheduler k x ]) home

@@ -2,8 +2,10 @@
 use Rattle.std.proofs.Common.{◌≡◌, ◌≢◌, ◌≤◌, ◌+◌, ◌-◌, ◌*◌, ℕ, suc, Bool, true, false, not, List, refl, arith, ap, cond, subst, sym, ◌∙◌, length, ◌⊎◌, inl, inr}
 use Rattle.std.specs.Prelude.{Option, Some, None, is_some, ◌&&◌, ◌||◌, option_map, slice_set}
 use Rattle.std.specs.List.{list_all}
+use Rattle.std.proofs.lemmas.Bool.{cases_Bool}
 use Rattle.sched_base.specs.Numbers.{moment}
 use Rattle.sched_base.specs.declared.UnitId.{UnitId}
+use Rattle.sched_base.proofs.Bools.{and_false}
 use Rattle.sched_model.specs.declared.machine.Machine.{Machine}
 use Rattle.sched_model.specs.declared.state.Pool.{Pool}
 use Rattle.sched_model.specs.declared.state.Resource.{Resource}
@@ -11,13 +13,12 @@ use Rattle.sched_model.specs.declared.state.Stage.TheVariants.{Decided}
 use Rattle.sched_model.specs.declared.state.Scheduler.{Scheduler}
 use Rattle.sched_model.specs.Places.{at_place, put_at}
 use Rattle.sched_model.specs.State.{is_runnable}
-use Rattle.sched_model.specs.Eligible.{Decision}
+use Rattle.sched_model.specs.EligibleUnits.{Decision}
 use Rattle.sched_model.specs.Pool as pools
-use Rattle.sched_model.specs.Pool.{home_cores, is_held, is_open, ask_of, decided_core, same_choice}
-use Rattle.sched_laws.proofs.Bools.{either}
-use Rattle.sched_laws.proofs.Choices.{same_unit_same}
+use Rattle.sched_model.specs.Pool.{home_cores, is_held, is_open, decided_core, same_choice}
 use Rattle.sched_laws.proofs.Counts.{same_unit_refl}
 use Rattle.sched_laws.proofs.EachPlace.{by_option, by_test}
+use Rattle.sched_laws.proofs.OnePlace.{same_choice_same}
 use Rattle.turn_laws.specs.Stretches.{cores, units}
 use Rattle.turn_laws.specs.Turns.{one, how_many, weight_of, chances, changes_left, meeting, is_stirred, is_secure, ahead}
 use Rattle.turn_laws.proofs.Sums.{many, many_is, many_none, one_most, how_many_all, weighs_less, weighs_no_more}
@@ -25,22 +26,12 @@ use Rattle.turn_laws.proofs.Changed.{Falls, under, changed}
 use Rattle.turn_laws.proofs.Meetings.{meeting_open, meeting_decided, meeting_most, cond_most}
 use Rattle.turn_laws.specs.GoodDecisions as good
 
-same_choice_is : (a b : Option UnitId) → same_choice a b ≡ true → a ≡ b
-same_choice_is None None same = refl
-same_choice_is None (Some u) same = absurd (cc)
-same_choice_is (Some u) None same = absurd (cc)
-same_choice_is (Some u) (Some w) same = ap (λ x. Some x) (same_unit_same u w same)
-
 -- the core after its decision
 decided_parts : (t : ℕ) (decision : Decision) (c : Resource)
     → ((decided_core t decision c).processors ≡ c.processors) × (is_open (decided_core t decision c) ≡ false) × ((decided_core t decision c).cur ≡ decision.unit) × ((decided_core t decision c).leaving ≡ c.leaving) × ((decided_core t decision c).pending ≡ false)
 decided_parts t decision c =
     by_test (λ (x : Resource). (x.processors ≡ c.processors) × (is_open x ≡ false) × (x.cur ≡ decision.unit) × (x.leaving ≡ c.leaving) × (x.pending ≡ false)) (same_choice decision.unit c.cur) _ _
-    (λ is. (refl, refl, sym (same_choice_is decision.unit c.cur is), refl, refl)) (λ is. (refl, refl, refl, refl, refl))
-
-and_false : (b : Bool) → (b && false) ≡ false
-and_false true = refl
-and_false false = refl
+    (λ is. (refl, refl, sym (same_choice_same decision.unit c.cur is), refl, refl)) (λ is. (refl, refl, refl, refl, refl))
 
 stirred_less : (pending leaving a b : Bool) → (a ≡ true → b ≡ true) → (pending || (not leaving && a)) ≡ true → (pending || (not leaving && b)) ≡ true
 stirred_less true leaving a b to is = refl
@@ -140,7 +131,7 @@ module _ (m : Machine) (t : ℕ) (pool : Pool) (r : ℕ) (c : Resource) where
       ∙ ap (λ p. cond p (ahead pool.scheduler.records u) (suc (units m))) unsafe
 
   outcome : c.pending ≡ true → DecidesWell → Outcome
-  outcome pending well = elim (either c.leaving) [
+  outcome pending well = elim (cases_Bool c.leaving) [
     | inl goes ↦ inr (let a = none_now (well.leaves goes) in let b = leaving_now goes pending in omega (arith, a, b))
     | inr stays ↦ by_unit stays decision.unit refl c.cur refl
   ]
@@ -166,12 +157,12 @@ module _ (m : Machine) (t : ℕ) (pool : Pool) (r : ℕ) (c : Resource) where
 
       by_unit : c.leaving ≡ false → (unit : Option UnitId) → decision.unit ≡ unit → (cur : Option UnitId) → c.cur ≡ cur → Outcome
       by_unit stays None is None cur = inl (ap (λ x. same_choice x c.cur) is ∙ ap (λ x. same_choice None x) cur, (let a = none_now is in let b = idle_before stays cur in omega (arith, a, b)), well.idle stays cur is)
-      by_unit stays None is (Some u) cur = elim (either (is_secure (is_runnable m.config.granularity pool) t (home_cores pool) pool.scheduler r u)) [
+      by_unit stays None is (Some u) cur = elim (cases_Bool (is_secure (is_runnable m.config.granularity pool) t (home_cores pool) pool.scheduler r u)) [
         | inl secure ↦ absurd (let k = well.kept stays u cur secure in let e : None ≡ Some k.0 = sym is ∙ k.1 in cc)
         | inr unsafe ↦ inr (let a = none_now is in let b = unsafe_before u stays cur unsafe in omega (arith, a, b))
       ]
       by_unit stays (Some w) is None cur = inr (let chosen = well.chosen stays w is in let now = some_now w is stays chosen.0 in let b = idle_before stays cur in let low = chosen.1 in omega (arith, now, b, low))
-      by_unit stays (Some w) is (Some u) cur = elim (either (is_secure (is_runnable m.config.granularity pool) t (home_cores pool) pool.scheduler r u)) [
+      by_unit stays (Some w) is (Some u) cur = elim (cases_Bool (is_secure (is_runnable m.config.granularity pool) t (home_cores pool) pool.scheduler r u)) [
         | inl secure ↦ by_secure stays w is u cur secure
         | inr unsafe ↦ inr (let chosen = well.chosen stays w is in let now = some_now w is stays chosen.0 in let b = unsafe_before u stays cur unsafe in let low = chosen.1 in omega (arith, now, b, low))
       ]

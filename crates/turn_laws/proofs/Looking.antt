@@ -10,8 +10,8 @@ use Rattle.sched_model.specs.Places.{at_place, change_each}
 use Rattle.sched_model.specs.State.{is_runnable}
 use Rattle.sched_model.specs.Policy.{better_waits}
 use Rattle.sched_model.specs.Pool.{home_cores, reconsidered_core, settled_pool}
+use Rattle.sched_model.proofs.PlaceLemmas.{cores_from-change_each}
 use Rattle.sched_laws.proofs.EachPlace.{at_place-change_each, by_cond}
-use Rattle.sched_laws.proofs.HomeCores.{home_change_each}
 use Rattle.turn_laws.specs.Stretches.{units}
 use Rattle.turn_laws.specs.Turns.{one, turns, turns_in, is_secure, weight_of, ahead, meeting, changes_left}
 
@@ -47,7 +47,7 @@ turns_settled m t pool r =
     let home : ℕ = home_cores pool in
     let f : ℕ → Resource → Resource = reconsidered_core t home pool.scheduler in
     let at : at_place (change_each 0 f pool.resources) r ≡ option_map (f r) (at_place pool.resources r) = (let e : 0 + r ≡ r = omega arith in rw e at (at_place-change_each 0 r f pool.resources)) in
-    ap (λ h. elim (at_place (change_each 0 f pool.resources) r) as (λ _. ℕ) [ None ↦ 0 | Some c ↦ turns m.config.granularity (weight_of m) (units m) (is_runnable m.config.granularity pool) t h pool.scheduler r c ]) (home_change_each 0 0 f pool.resources)
+    ap (λ h. elim (at_place (change_each 0 f pool.resources) r) as (λ _. ℕ) [ None ↦ 0 | Some c ↦ turns m.config.granularity (weight_of m) (units m) (is_runnable m.config.granularity pool) t h pool.scheduler r c ]) (cores_from-change_each 0 0 f pool.resources)
     ∙ ap (λ (o : Option Resource). elim o as (λ _. ℕ) [ None ↦ 0 | Some c ↦ turns m.config.granularity (weight_of m) (units m) (is_runnable m.config.granularity pool) t home pool.scheduler r c ]) at
     ∙ by_core (at_place pool.resources r)
   where

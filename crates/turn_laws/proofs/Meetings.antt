@@ -2,6 +2,7 @@
 use Rattle.std.proofs.Common.{◌≡◌, ◌≢◌, ◌≤◌, ◌<◌, ◌+◌, ◌-◌, ◌*◌, ◌/◌, ◌%◌, ℕ, suc, Bool, true, false, not, List, [], ◌∷◌, ◌++◌, refl, arith, ap, cond, subst, sym, ◌∙◌, length}
 use Rattle.std.specs.Prelude.{Option, Some, None, is_some, is_none, slice_get, ◌&&◌}
 use Rattle.std.specs.List.{list_any}
+use Rattle.std.proofs.lemmas.Bool.{not-true}
 use Rattle.sched_base.specs.Numbers.{moment, core, processor}
 use Rattle.sched_base.specs.declared.UnitId.{UnitId}
 use Rattle.sched_model.specs.declared.machine.Machine.{Machine}
@@ -19,12 +20,12 @@ use Rattle.sched_model.specs.declared.state.Records.TheVariants.{Credit2Pool}
 use Rattle.sched_model.specs.declared.action.Action.TheVariants.{Arrive, Leave, Save}
 use Rattle.sched_model.specs.Places.{at_place, change_at, change_item, test_at}
 use Rattle.sched_model.specs.State.{is_awake, is_runnable, is_up}
-use Rattle.sched_model.specs.Eligible.{is_allowed}
+use Rattle.sched_model.specs.EligibleUnits.{is_allowed}
 use Rattle.sched_model.specs.Pool as pools
 use Rattle.sched_model.specs.Pool.{enabled_in, home_cores, is_held, is_open, with_doing, change_vcpu, change_processor, change_core, open_if_left, saved_core, first_up}
-use Rattle.sched_laws.specs.Each.{EachPlace}
+use Rattle.sched_laws.specs.EachPlace.{EachPlace}
 use Rattle.sched_laws.proofs.Awake.{runnable-same}
-use Rattle.sched_laws.proofs.Bools.{and_left, and_right, not_true}
+use Rattle.sched_base.proofs.Bools.{and_left, and_right}
 use Rattle.sched_laws.proofs.EachPlace.{by_option, by_cond}
 use Rattle.sched_laws.proofs.Lists.{some-test_at, length_change_item}
 use Rattle.sched_laws.proofs.Sound.{change_at-twice, processor_of_is}
@@ -123,7 +124,7 @@ module _ (m : Machine) (some : 0 < m.config.granularity) (t : ℕ) (pool : Pool)
       let same : found.0 ≡ c = (let e = found.1 in let e2 = there.1 in cc) in
       let at : slice_get c.processors (p % g) ≡ Some q = subst (λ (x : Resource). slice_get x.processors (p % g) ≡ Some q) same found.2 in
       let stirred : is_stirred t (home_cores pool) pool.scheduler (p / g) c ≡ true = (let pending = and_left c.pending (is_open c) both in rw pending refl) in
-      let less = meeting_arrives g (p % g) (is_stirred t (home_cores pool) pool.scheduler (p / g) c) c q stirred (and_right c.pending (is_open c) both) (whole (p / g) c there.1) at (not_true (is_held q) (and_left (not (is_held q)) (is_up t q) free)) in
+      let less = meeting_arrives g (p % g) (is_stirred t (home_cores pool) pool.scheduler (p / g) c) c q stirred (and_right c.pending (is_open c) both) (whole (p / g) c there.1) at (not-true (is_held q) (and_left (not (is_held q)) (is_up t q) free)) in
       let none = many_none (cores m) in
       by_option (λ (next : Pool). Falls m t pool (change_processor g p (with_doing Held) next) (p / g)) (pools.guest_of g pool p) pool (λ v. change_vcpu v (pools.stopped_vcpu t) pool)
       (λ is2. changed m t pool pool.scheduler pool.domains (p / g) 0 (λ x. record x { processors = change_item (p % g) (with_doing Held) x.processors }) c there.1 (λ u. refl) (omega (arith, less, none)) (others_same (p / g)))
@@ -158,7 +159,7 @@ module _ (m : Machine) (some : 0 < m.config.granularity) (t : ℕ) (pool : Pool)
       let same : found.0 ≡ c = (let e = found.1 in cc) in
       let at : slice_get c.processors (p % g) ≡ Some q = subst (λ (x : Resource). slice_get x.processors (p % g) ≡ Some q) same found.2 in
       let same2 : there.0 ≡ c = (let e = there.1 in cc) in
-      let closed : is_open c ≡ false = subst (λ (x : Resource). is_open x ≡ false) same2 (not_true (is_open there.0) there.2) in
+      let closed : is_open c ≡ false = subst (λ (x : Resource). is_open x ≡ false) same2 (not-true (is_open there.0) there.2) in
       by_option (λ (next : Pool). Falls m t pool (change_core (p / g) open_if_left next) (p / g)) (pools.vcpu_for g pool c (p % g)) (change_processor g p (with_doing Idle) pool) (λ v. pools.started_on g t p v pool)
       (λ none. leave_as p c q Idle pool.domains (λ u. refl) is closed at (and_left (is_held q) (is_up t q) held) refl)
       (λ v is3. leave_as p c q (Guest v) (change_vcpu v (λ x. record x { started = Some (moment t) }) pool).domains (λ u. runnable-same g some v (λ x. record x { started = Some (moment t) }) (λ x. refl) pool u) is closed at (and_left (is_held q) (is_up t q) held) refl)))

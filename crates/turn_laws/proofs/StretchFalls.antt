@@ -17,10 +17,11 @@ use Rattle.sched_model.specs.Pool as pools
 use Rattle.sched_model.specs.Pool.{enabled_in, after_in, settled_pool, is_held, is_open, first_up}
 use Rattle.sched_model.specs.Actions.{home_of, home_of_core, change_pool}
 use Rattle.sched_model.specs.Machine.{enabled_at_home, after_at_home}
-use Rattle.sched_model.specs.Runs.{Reached, IsRun, IsNextEvent, action_of, run_start, after_event, after_entry, after_entries}
-use Rattle.sched_model.specs.Checked.{IsChecked}
+use Rattle.sched_model.specs.Runs.{Reached, IsRun, IsNextEvent, action_of, run_start, after_event, after_entries}
+use Rattle.sched_model.specs.CheckedMachine.{IsChecked}
+use Rattle.sched_model.proofs.RunLemmas.{after_entries-append}
 use Rattle.sched_laws.specs.StateLaws.{state_after}
-use Rattle.sched_laws.proofs.Bools.{and_left, and_right}
+use Rattle.sched_base.proofs.Bools.{and_left, and_right}
 use Rattle.sched_laws.proofs.EachPlace.{place_below}
 use Rattle.sched_laws.proofs.Lists.{some-test_at}
 use Rattle.sched_laws.proofs.Reached.{core_is_sound, core_is_whole, places_for_cores}
@@ -38,10 +39,6 @@ use Rattle.turn_laws.proofs.CoreEvents.{state_falls}
 pub legs_push : (legs : Legs) (entries : List Entry) (e : Entry) → legs_after legs (entries ++ e ∷ []) ≡ legs_with e.at.0 e.event (legs_after legs entries)
 legs_push legs [] e = refl
 legs_push legs (x ∷ entries) e = legs_push (legs_with x.at.0 x.event legs) entries e
-
-pub after_push : (m : Machine) (from : Reached) (entries : List Entry) (e : Entry) → after_entries m from (entries ++ e ∷ []) ≡ after_entry m (after_entries m from entries) e
-after_push m from [] e = refl
-after_push m from (x ∷ entries) e = after_push m (after_entry m from x) entries e
 
 pub push_assoc : (xs : List Entry) (e : Entry) (ys : List Entry) → (xs ++ e ∷ []) ++ ys ≡ xs ++ e ∷ ys
 push_assoc [] e ys = refl
@@ -119,7 +116,7 @@ module _ (m : Machine) (checked : IsChecked m) (well : DecidesWellNext m) where
     pub entry_falls : turns_left m (state_after m (before ++ e ∷ [])) + 1 ≤ turns_left m s
     entry_falls =
         let parts = split_run m (run_start m) before (e ∷ []) run in
-        subst (λ (x : Reached). turns_left m x.state + 1 ≤ turns_left m s) (sym (after_push m (run_start m) before e)) (by_event e.event refl goes_on parts.1.0.event)
+        subst (λ (x : Reached). turns_left m x.state + 1 ≤ turns_left m s) (sym (after_entries-append m (run_start m) before e)) (by_event e.event refl goes_on parts.1.0.event)
 
   pub stretch_falls : (stretch before : List Entry) → IsRun m (before ++ stretch) → is_stretch (open_legs m before) stretch ≡ true → length stretch ≤ turns_left m (state_after m before)
   stretch_falls [] before run is = omega arith

@@ -5,7 +5,7 @@ use Rattle.std.specs.List.{list_any, list_all}
 use Rattle.std.proofs.Math.Decide.{ℕ_discrete}
 use Rattle.std.proofs.Math.Nat.{mul-le-mul_left}
 use Rattle.sched_model.specs.Places.{change_item}
-use Rattle.sched_laws.proofs.Bools.{or_left, or_right, and_left, and_right}
+use Rattle.sched_base.proofs.Bools.{or_left, or_right, and_left, and_right}
 use Rattle.sched_model.specs.Places.{at_place}
 use Rattle.sched_laws.specs.Counts.{total}
 use Rattle.turn_laws.specs.Turns.{total_over, one, how_many}

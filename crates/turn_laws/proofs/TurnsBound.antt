@@ -12,7 +12,7 @@ use Rattle.sched_model.specs.Places.{at_place}
 use Rattle.sched_model.specs.State.{is_runnable}
 use Rattle.sched_model.specs.Pool.{home_cores, is_held, is_open}
 use Rattle.sched_model.specs.Actions.{home_of_core}
-use Rattle.sched_laws.specs.Each.{EachPlace}
+use Rattle.sched_laws.specs.EachPlace.{EachPlace}
 use Rattle.turn_laws.specs.Stretches.{cores, units, most_in_stretch}
 use Rattle.turn_laws.specs.Turns.{how_many, turns, turns_in, turns_left, core_turns, weight_of, chances, changes_left, meeting, is_stirred, is_secure, ahead, IsBounded, most_turns}
 use Rattle.turn_laws.proofs.Sums.{many_is, total_at_most, one_most, how_many_most, weighs_no_more}

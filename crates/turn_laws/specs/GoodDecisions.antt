@@ -9,7 +9,7 @@ use Rattle.sched_model.specs.declared.machine.Machine.{Machine}
 use Rattle.sched_model.specs.declared.state.Pool.{Pool}
 use Rattle.sched_model.specs.declared.state.Resource.{Resource}
 use Rattle.sched_model.specs.declared.state.Scheduler.{Scheduler}
-use Rattle.sched_model.specs.Eligible.{Decision}
+use Rattle.sched_model.specs.EligibleUnits.{Decision}
 use Rattle.sched_model.specs.Places.{at_place, has_unit}
 use Rattle.sched_model.specs.Policy.{decision_of, after_decision, better_waits}
 use Rattle.sched_model.specs.Pool.{home_cores, ask_of, decided_core}

@@ -17,10 +17,10 @@ use Rattle.sched_model.specs.Actions.{home_of_core}
 use Rattle.sched_model.specs.Arinc.{window_unit}
 use Rattle.sched_model.specs.Credit2.{credit_of}
 use Rattle.sched_model.specs.Rtds.{is_before, budget_left}
-use Rattle.sched_model.specs.Eligible.{is_allowed, is_placed, rtds_unit}
+use Rattle.sched_model.specs.EligibleUnits.{is_allowed, is_placed, rtds_unit}
 use Rattle.sched_model.specs.Policy.{better_waits}
 use Rattle.sched_model.specs.Pool.{home_cores, is_held, is_open}
-use Rattle.sched_laws.specs.Each.{EachPlace}
+use Rattle.sched_laws.specs.EachPlace.{EachPlace}
 use Rattle.sched_laws.specs.Counts.{total}
 use Rattle.turn_laws.specs.Stretches.{cores, units}
 

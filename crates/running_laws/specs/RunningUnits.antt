@@ -5,7 +5,7 @@ use Rattle.sched_model.specs.declared.ask.Ask.{Ask}
 use Rattle.sched_model.specs.declared.state.Records.{Records}
 use Rattle.sched_model.specs.declared.state.Records.TheVariants.{Credit2Pool, RtdsPool, ArincPool, NullPool}
 use Rattle.sched_model.specs.Places.{at_place, is_unit}
-use Rattle.sched_model.specs.Eligible.{Decision, rtds_unit}
+use Rattle.sched_model.specs.EligibleUnits.{Decision, rtds_unit}
 use Rattle.sched_ops.specs.Conditions.{is_on}
 
 -- whether the scheduler keeps a record of each unit: Credit2 and RTDS do

@@ -14,7 +14,7 @@ use Rattle.sched_model.specs.declared.state.Pool.{Pool}
 use Rattle.sched_model.specs.State.{is_runnable, runnable_among}
 use Rattle.sched_model.specs.Pool as pools
 use Rattle.sched_model.specs.Pool.{decided_core as decided}
-use Rattle.sched_laws.specs.Each.{EachPlace}
+use Rattle.sched_laws.specs.EachPlace.{EachPlace}
 use Rattle.sched_laws.specs.Counts.{total, one_at, times}
 
 -- the unit, if there is one, has the property
