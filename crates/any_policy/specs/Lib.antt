@@ -1,1 +1,1 @@
-pub mod Any
+pub mod AnyPolicy

@@ -1,6 +1,6 @@
 //! One of the four schedulers.
 
-ghost use Rattle.any_policy.specs.Any.{seen_of};
+ghost use Rattle.any_policy.specs.AnyPolicy.{seen_of};
 
 use arinc_frame::Arinc;
 use credit2_core::Credit2;
@@ -38,16 +38,12 @@ macro_rules! call {
 
 impl AnyPolicy {
     ghost use Rattle.std.specs.Prelude.{◌≡◌};
-    ghost use Rattle.sched_model.specs.Policy.{default_pool_params, kind_of};
-    ghost use Rattle.sched_ops.specs.Seen.{vacant_scheduler};
+    ghost use Rattle.sched_model.specs.Policy.{kind_of};
+    ghost use Rattle.sched_ops.specs.Seen.{bare_seen};
 
     /// The scheduler of this kind, with its default parameters. It has no domain and no place for one, and holds no memory yet.
     pub fn empty(kind: SchedKind) -> Self
-        ensures seen { seen_of result ≡ record {
-          scheduler = vacant_scheduler (default_pool_params kind) 0 0;
-          spare = 0;
-          latest = 0;
-        } }
+        ensures seen { seen_of result ≡ bare_seen kind }
         ensures kind { kind_of (seen_of result).scheduler.records ≡ kind }
     {
         match kind {

@@ -7,15 +7,15 @@ use Rattle.sched_model.specs.declared.state.ArincRecords.{ArincRecords}
 use Rattle.sched_model.specs.declared.state.Records.TheVariants.{ArincPool}
 use Rattle.sched_model.specs.Arinc.{window_unit}
 use Rattle.sched_model.specs.Places.{has_unit, is_unit, same_unit}
-use Rattle.sched_model.specs.Eligible.{is_allowed_by, is_eligible}
+use Rattle.sched_model.specs.EligibleUnits.{is_allowed_by, is_eligible}
 use Rattle.sched_laws.proofs.Choices.{same_unit_same}
 use Rattle.sched_laws.proofs.Counts.{same_unit_refl}
 use Rattle.plain_policy.specs.Parts.{scheduler_of}
 use Rattle.pool_units.specs.Units.{Units}
 use Rattle.pool_units.proofs.Waiting.{any_of_one, any_of_none}
-use Rattle.arinc_frame.specs.Waiting.{awaited_unit, is_other}
+use Rattle.arinc_frame.specs.WaitingUnits.{awaited_unit, is_other}
 use Rattle.std.proofs.Math.Bool.{and-false, and-true}
-use Rattle.sched_laws.proofs.Bools.{and_left, and_right}
+use Rattle.sched_base.proofs.Bools.{and_left, and_right}
 
 is_some_cond : (b : Bool) (u : UnitId) → is_some (cond b (Some u) None) ≡ b
 is_some_cond true u = refl

@@ -1,13 +1,13 @@
 -- A window stays the same, with its end, until that end.
-use Rattle.std.proofs.Common.{◌≡◌, ◌<◌, ◌≤◌, ◌+◌, ◌-◌, ◌*◌, ◌/◌, ◌%◌, ℕ, Bool, true, false, List, [], ◌∷◌, refl, arith, subst, sym, ◌∙◌, ap}
+use Rattle.std.proofs.Common.{◌≡◌, ◌<◌, ◌≤◌, ◌+◌, ◌-◌, ◌%◌, ℕ, Bool, true, false, List, [], ◌∷◌, refl, arith, subst, sym, ◌∙◌, ap}
 use Rattle.std.specs.Prelude.{Option, Some, None, nat_lt}
 use Rattle.std.specs.Option.{ForSome}
-use Rattle.std.proofs.lemmas.Nat.{mod-mul-add, div-add-mod'}
+use Rattle.std.proofs.lemmas.Nat.{div-add-mod'}
 use Rattle.sched_model.specs.declared.config.Frame.{Frame}
 use Rattle.sched_model.specs.declared.config.FrameEntry.{FrameEntry}
 use Rattle.sched_model.specs.declared.state.ArincRecords.{ArincRecords}
 use Rattle.sched_model.specs.Arinc.{Window, window_from, window_at, present_window}
-use Rattle.sched_laws.proofs.Window.{until_last}
+use Rattle.sched_laws.proofs.Window.{until_last, mod_more, mod_self}
 use Rattle.sched_ranges.specs.Ranges.{IsFrame}
 use Rattle.plain_policy.specs.Frames.{window_of}
 use Rattle.arinc_frame.specs.declared.window.Present.{Present}
@@ -32,15 +32,6 @@ same_window start ahead more last (e ∷ entries) low =
           ∙ ap (λ a. window_from (start + e.run.0) a last entries) shift
           ∙ same_window (start + e.run.0) (ahead - e.run.0) more last entries (subst (λ k. k < (window_from (start + e.run.0) (ahead - e.run.0) last entries).until) (sym at) below))
     ] refl low
-
-mod_more : (x more k : ℕ) → x % k + more < k → (x + more) % k ≡ x % k + more
-mod_more x more k low =
-    let d : x / k * k + x % k ≡ x = div-add-mod' x k in
-    let e : x + more ≡ x / k * k + (x % k + more) = omega (arith, d) in
-    ap (λ y. y % k) e ∙ mod-mul-add (x / k) k (x % k + more) low
-
-mod_self : (x k : ℕ) → x % k ≤ x
-mod_self x k = (let d : x / k * k + x % k ≡ x = div-add-mod' x k in omega (arith, d))
 
 -- the window of a moment after the installation is that of each moment up to its end
 window_steady : (installed : ℕ) (frame : Frame) (from t : ℕ) → IsFrame frame → installed ≤ from → from ≤ t → t < (window_at installed frame from).until → window_at installed frame t ≡ window_at installed frame from

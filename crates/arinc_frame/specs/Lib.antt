@@ -1,2 +1,2 @@
 pub mod Frames
-pub mod Waiting
+pub mod WaitingUnits

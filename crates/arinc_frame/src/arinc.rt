@@ -1,6 +1,6 @@
 //! ARINC 653 as a scheduler of a pool.
 
-ghost use Rattle.sched_model.specs.Checked.{most_span};
+ghost use Rattle.sched_model.specs.CheckedMachine.{most_span};
 ghost use Rattle.std.specs.Prelude.{◌≡◌, ◌≤◌, ◌<◌, ℕ};
 ghost use Rattle.std.specs.Option.{ForSome};
 ghost use Rattle.sched_model.specs.declared.state.Records.TheVariants.{ArincPool};
@@ -13,7 +13,7 @@ ghost use Rattle.plain_policy.specs.Parts.{scheduler_of};
 ghost use Rattle.sched_ops.specs.Conditions.{ArePoolParams};
 ghost use Rattle.sched_ops.specs.Seen.{Tells};
 ghost use Rattle.arinc_frame.specs.Frames.{IsPresent};
-ghost use Rattle.arinc_frame.specs.Waiting.{awaited_unit as awaited_spec, chosen_unit as chosen_spec, if_allowed as if_allowed_spec, if_waits as if_waits_spec, is_other as is_other_spec};
+ghost use Rattle.arinc_frame.specs.WaitingUnits.{awaited_unit as awaited_spec, chosen_unit as chosen_spec, if_allowed as if_allowed_spec, if_waits as if_waits_spec, is_other as is_other_spec};
 
 use crate::window::{Present, copy_frame, copy_of, found_at, window_now};
 use plain_units::units::{is_same, is_there};
@@ -46,7 +46,11 @@ impl Model for Arinc {
 
     ghost Value = { Seen };
 
-    ghost view = { λ a. record { scheduler = scheduler_of a.units.queue a.units.affinity (ArincPool a.records); spare = a.units.spare; latest = a.latest } };
+    ghost view = { λ a. record {
+      scheduler = scheduler_of a.units.queue a.units.affinity (ArincPool a.records);
+      spare = a.units.spare;
+      latest = a.latest;
+    } };
 
     ghost invariant = { λ a. IsReady a.records a.present a.latest };
 }
@@ -181,16 +185,11 @@ fn decide(units: &PoolUnits, records: &ArincRecords, present: Option<Present>, a
 impl Arinc {
     ghost use Rattle.std.specs.Prelude.{◌≡◌};
     ghost use Rattle.sched_model.specs.declared.config.SchedKind.TheVariants as kinds;
-    ghost use Rattle.sched_model.specs.Policy.{default_pool_params};
-    ghost use Rattle.sched_ops.specs.Seen.{vacant_scheduler};
+    ghost use Rattle.sched_ops.specs.Seen.{bare_seen};
 
     /// No domain, no place for one and no frame. It has no memory.
     pub fn empty() -> Self
-        ensures { result ≡ record {
-          scheduler = vacant_scheduler (default_pool_params kinds.Arinc653) 0 0;
-          spare = 0;
-          latest = 0;
-        } }
+        ensures { result ≡ bare_seen kinds.Arinc653 }
     {
         Arinc {
             units: PoolUnits::empty(),

@@ -1,6 +1,6 @@
 //! The window of a frame at a moment, kept from one question to the next.
 
-ghost use Rattle.sched_model.specs.Checked.{most_span};
+ghost use Rattle.sched_model.specs.CheckedMachine.{most_span};
 ghost use Rattle.std.specs.Prelude.{◌≡◌, ◌≤◌, option_map};
 ghost use Rattle.std.specs.Option.{ForSome};
 ghost use Rattle.sched_model.specs.Arinc.{present_window as present_window_spec};

@@ -1,17 +1,17 @@
 -- A walk along a list that is in order, from its last node to the one before.
 use Rattle.std.proofs.Common.{◌≡◌, ℕ, ◌+◌, ◌<◌, List, [], ◌∷◌, ◌++◌, length, map, Bool, true, false, refl, sym, ◌∙◌, ap, subst, inl, inr, arith, append_assoc, length-append}
 use Rattle.std.specs.Prelude.{◌||◌, ◌&&◌, ◌==◌, not, if◌then◌else◌, nat_lt, Option, Some, None}
-use Rattle.std.proofs.lemmas.Bool.{cases_lt}
+use Rattle.std.proofs.lemmas.Bool.{cases_lt, eq-eqb, le-ltb}
 use Rattle.std.proofs.lemmas.Bool.Decides.{nat_tests}
-use Rattle.std.proofs.lemmas.List.{append-nil}
+use Rattle.sched_base.proofs.Bools.{or_left, or_right}
 use Rattle.unit_ring.specs.declared.Node.{Node}
 use Rattle.unit_ring.specs.Lists.{Item, Lists, has_node, last_from, last_in, prev_from, prev_of, node, without_in}
 use Rattle.arrival_queue.specs.declared.key.Key.{Key}
 use Rattle.arrival_queue.specs.Queues.{Queued, queued_unit, is_less, goes_before}
 use Rattle.arrival_queue.specs.Order.{GoesBeforeAll, IsInOrder}
 use Rattle.arrival_queue.specs.Tables.{Apart, EachPasses, PassesOn, all_items, arrival_at, comes_before, first_node, key_at, rank, shown_unit}
-use Rattle.arrival_queue.proofs.Splits.{same_test, or_left, or_right, Apart-out, has_node-split}
-use Rattle.arrival_queue.proofs.Ranks.{rank-mono, not_less_test}
+use Rattle.arrival_queue.proofs.Splits.{Apart-out, has_node-split}
+use Rattle.arrival_queue.proofs.Ranks.{rank-mono}
 use Rattle.arrival_queue.proofs.Ordering.{before_trans}
 use Rattle.arrival_queue.proofs.Walking.{Apart-left, has_left}
 
@@ -53,7 +53,7 @@ none_last (x ∷ xs) e = absurd (some_last (node x.node) xs e)
 prev-split : (before : Option Node) (front rest : List Item) (x : Item) → has_node x.node front ≡ false
     → prev_from before x.node (front ++ x ∷ rest) ≡ last_from before front
 prev-split before [] rest x none =
-    ap (λ (t : Bool). if t then before else prev_from (Some (node x.node)) x.node rest) (same_test x.node x.node refl)
+    ap (λ (t : Bool). if t then before else prev_from (Some (node x.node)) x.node rest) (eq-eqb x.node x.node refl)
 prev-split before (y ∷ front) rest x none =
     ap (λ (t : Bool). if t then before else prev_from (Some (node y.node)) x.node (front ++ x ∷ rest)) (or_left (y.node == x.node) (has_node x.node front) none)
     ∙ prev-split (Some (node y.node)) front rest x (or_right (y.node == x.node) (has_node x.node front) none)
@@ -82,7 +82,7 @@ here ring p k at place n apart s is_some =
     let has : has_node e.x.node ring.first ≡ true =
     ap (has_node e.x.node) is
     ∙ has_node-split e.x.node e.front s.after e.x
-    ∙ ap (λ (t : Bool). t || has_node e.x.node (e.front ++ s.after)) (same_test e.x.node e.x.node refl)
+    ∙ ap (λ (t : Bool). t || has_node e.x.node (e.front ++ s.after)) (eq-eqb e.x.node e.x.node refl)
     in
     record {
       x = e.x;
@@ -142,7 +142,7 @@ by_number false true t s more e = e
 by_number false false t s more e = more e
 
 is_below : (a b : ℕ) → nat_lt a b ≡ true → (b < a + 1 → ⊥)
-is_below a b e more = let none = not_less_test a b (omega (arith, more)) in absurd (cc)
+is_below a b e more = let none = le-ltb a b (omega (arith, more)) in absurd (cc)
 
 module _ (keys : List Key) (arrivals : List ℕ) (items : List Item) (key : Key) (a : ℕ) where
   by_arrival : (x y : Item) → nat_lt (rank arrivals items (arrival_at arrivals x.node)) (rank arrivals items (arrival_at arrivals y.node)) ≡ true

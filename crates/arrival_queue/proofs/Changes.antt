@@ -4,6 +4,7 @@ use Rattle.std.specs.Prelude.{◌==◌, ◌||◌, if◌then◌else◌, Option, S
 use Rattle.std.proofs.lemmas.List.{append-nil, length-map, map-append}
 use Rattle.sched_base.specs.declared.UnitId.{UnitId}
 use Rattle.sched_base.specs.Units.{number_of}
+use Rattle.sched_base.proofs.Bools.{clash, or_left, or_right}
 use Rattle.unit_places.specs.Places.{has_place}
 use Rattle.unit_places.proofs.Placed.{same_number}
 use Rattle.unit_ring.specs.declared.Node.{Node}
@@ -11,12 +12,12 @@ use Rattle.unit_ring.specs.Lists as l
 use Rattle.unit_ring.specs.Lists.{Item, Lists, item, has_node, after_take, after_give, after_append as appended, without_in}
 use Rattle.arrival_queue.specs.declared.key.Key.{Key}
 use Rattle.arrival_queue.specs.Queues as q
-use Rattle.arrival_queue.specs.Queues.{Queued, Queues, queued_unit, goes_before, put_first, list_with, has_unit, holds, list_without, rank_in, rank_of, count, after_insert, closed_up, after_remove, after_move}
+use Rattle.arrival_queue.specs.Queues.{Queued, Queues, queued_unit, goes_before, list_with, has_unit, holds, list_without, rank_in, rank_of, count, after_insert, closed_up, after_remove, after_move}
 use Rattle.arrival_queue.specs.Tables.{Tabled, IsQueue, all_items, has_number, arrival_at, rank, shown_unit, queues_of, comes_before, put_ring, node_of, first_unit}
 use Rattle.arrival_queue.specs.Filters.{first_that}
-use Rattle.std.proofs.lemmas.Bool.{cases_eq}
-use Rattle.arrival_queue.proofs.Splits.{Tabled-mine, same_test, other_test, or_left, or_right}
-use Rattle.arrival_queue.proofs.Ranks.{rank-in, rank-out, rank-test, rank-all, rank-most, not_less_test, one_if}
+use Rattle.std.proofs.lemmas.Bool.{cases_eq, eq-eqb, ne_eqb, le-ltb}
+use Rattle.arrival_queue.proofs.Splits.{Tabled-mine}
+use Rattle.arrival_queue.proofs.Ranks.{rank-in, rank-out, rank-test, rank-all, rank-most, one_if}
 use Rattle.arrival_queue.proofs.Views.{map_kept, map_put, alike, shown_new, map_closed, has_unit-shown, rank_in-split, PutSplit, put_split}
 use Rattle.arrival_queue.proofs.Walking.{Tabled-left, Tabled-right, has_left, live-append, or_group}
 use Rattle.arrival_queue.proofs.Steps.{Found}
@@ -67,20 +68,20 @@ module _ (ring : Lists) (keys : List Key) (ns : List ℕ) (n : ℕ) (u : UnitId)
   all = all_items ring
 
   late : (b : ℕ) → b < a → one_if (nat_lt a b) ≡ 0
-  late b less = ap one_if (not_less_test a b (omega (arith, less)))
+  late b less = ap one_if (le-ltb a b (omega (arith, less)))
 
   same_after : (after lft rgt : List Item) → all ≡ lft ++ rgt → after ≡ lft ++ item n u ∷ rgt → (b : ℕ) → b < a → rank (set ns n a) after b ≡ rank ns all b
   same_after after lft rgt was is b less = omega (arith, more_rank all after lft rgt ns n u a b was is none low, late b less)
 
   mine_after : (after lft rgt : List Item) → all ≡ lft ++ rgt → after ≡ lft ++ item n u ∷ rgt → rank (set ns n a) after a ≡ count (queues_of ring keys ns)
   mine_after after lft rgt was is =
-      let no : one_if (nat_lt a a) ≡ 0 = ap one_if (not_less_test a a (omega arith)) in
+      let no : one_if (nat_lt a a) ≡ 0 = ap one_if (le-ltb a a (omega arith)) in
       omega (arith, more_rank all after lft rgt ns n u a a was is none low, no, rank-all (length ns) a ns all a last (omega arith), count-is ring keys ns)
 
   tests : (b : ℕ) → b < a → nat_lt (count (queues_of ring keys ns)) (rank ns all b) ≡ nat_lt a b
   tests b less =
-      not_less_test (count (queues_of ring keys ns)) (rank ns all b) (omega (arith, rank-most ns all b, count-is ring keys ns))
-      ∙ sym (not_less_test a b (omega (arith, less)))
+      le-ltb (count (queues_of ring keys ns)) (rank ns all b) (omega (arith, rank-most ns all b, count-is ring keys ns))
+      ∙ sym (le-ltb a b (omega (arith, less)))
 
   none_first : has_node n ring.first ≡ false
   none_first = has_left n ring.first ring.second none
@@ -133,7 +134,7 @@ Agree-none k n (x ∷ xs) number node = (
 
 Agree-split : (k n : ℕ) (lft rgt : List Item) (x : Item) → number_of x.unit ≡ k → x.node ≡ n → has_number k (lft ++ rgt) ≡ false → has_node n (lft ++ rgt) ≡ false
     → Agree k n (lft ++ x ∷ rgt)
-Agree-split k n [] rgt x is_k is_n number node = (same_test (number_of x.unit) k is_k ∙ sym (same_test x.node n is_n), Agree-none k n rgt number node)
+Agree-split k n [] rgt x is_k is_n number node = (eq-eqb (number_of x.unit) k is_k ∙ sym (eq-eqb x.node n is_n), Agree-none k n rgt number node)
 Agree-split k n (y ∷ lft) rgt x is_k is_n number node = (
   or_left (number_of y.unit == k) (has_number k (lft ++ rgt)) number ∙ sym (or_left (y.node == n) (has_node n (lft ++ rgt)) node),
   Agree-split k n lft rgt x is_k is_n (or_right (number_of y.unit == k) (has_number k (lft ++ rgt)) number) (or_right (y.node == n) (has_node n (lft ++ rgt)) node),
@@ -265,18 +266,6 @@ pub first_that-shown : (p : UnitId → Bool) (keys : List Key) (ns : List ℕ) (
 first_that-shown p keys ns all [] = refl
 first_that-shown p keys ns all (x ∷ xs) = ap (λ (o : Option UnitId). if p x.unit then Some x.unit else o) (first_that-shown p keys ns all xs)
 
--- whether a unit has a node
-pub some_number : (k : ℕ) (n : Node) (xs : List Item) → node_of k xs ≡ Some n → has_number k xs ≡ true
-some_number k n [] e = absurd (cc)
-some_number k n (x ∷ xs) e =
-    elim (cases_eq (number_of x.unit) k) [
-      | inl is ↦ ap (λ (t : Bool). t || has_number k xs) (same_test (number_of x.unit) k is)
-      | inr other ↦
-          let fails = other_test (number_of x.unit) k other in
-          ap (λ (t : Bool). t || has_number k xs) fails
-          ∙ some_number k n xs (sym (ap (λ (t : Bool). if t then Some (record { 0 = x.node }) else node_of k xs) fails) ∙ e)
-    ]
-
 some_none : (n : Node) → Some n ≡ None → ⊥
 some_none n e = cc
 
@@ -285,10 +274,10 @@ none_number k [] e = refl
 none_number k (x ∷ xs) e =
     elim (cases_eq (number_of x.unit) k) [
       | inl is ↦
-          let here : Some (record { 0 = x.node }) ≡ None = sym (ap (λ (t : Bool). if t then Some (record { 0 = x.node }) else node_of k xs) (same_test (number_of x.unit) k is)) ∙ e in
+          let here : Some (record { 0 = x.node }) ≡ None = sym (ap (λ (t : Bool). if t then Some (record { 0 = x.node }) else node_of k xs) (eq-eqb (number_of x.unit) k is)) ∙ e in
           absurd (some_none (record { 0 = x.node }) here)
       | inr other ↦
-          let fails = other_test (number_of x.unit) k other in
+          let fails = ne_eqb (number_of x.unit) k other in
           ap (λ (t : Bool). t || has_number k xs) fails
           ∙ none_number k xs (sym (ap (λ (t : Bool). if t then Some (record { 0 = x.node }) else node_of k xs) fails) ∙ e)
     ]
@@ -307,20 +296,15 @@ found_place places next ns ring u n f t low =
     let mine = Tabled-mine places next ns f.lft f.rgt f.x (subst (Tabled places next ns) f.is t) in
     subst (λ (w : UnitId). has_place w ≡ true) (sym (same_number u f.x.unit low mine.2 f.number)) mine.2
 
--- no test answers both
-pub none_here : (b : Bool) → b ≡ true → b ≡ false → ⊥
-none_here true yes_here e = cc
-none_here false e no_here = cc
-
 -- a unit without a place is not among the items
 pub no_place : (places next : ℕ) (ns : List ℕ) (u : UnitId) (xs : List Item) → Tabled places next ns xs → u.n < 256 → has_place u ≡ false
     → has_number (number_of u) xs ≡ false
 no_place places next ns u [] t low none = refl
 no_place places next ns u (x ∷ xs) t low none =
     let other : number_of x.unit ≡ number_of u → ⊥ = λ e.
-    none_here (has_place u) (subst (λ (w : UnitId). has_place w ≡ true) (sym (same_number u x.unit low t.2 e)) t.2) none
+    clash (has_place u) (subst (λ (w : UnitId). has_place w ≡ true) (sym (same_number u x.unit low t.2 e)) t.2) none
     in
-    ap (λ (b : Bool). b || has_number (number_of u) xs) (other_test (number_of x.unit) (number_of u) other)
+    ap (λ (b : Bool). b || has_number (number_of u) xs) (ne_eqb (number_of x.unit) (number_of u) other)
     ∙ no_place places next ns u xs t.3 low none
 
 -- no more are left than the list without the unit

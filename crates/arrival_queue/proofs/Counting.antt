@@ -3,9 +3,9 @@ use Rattle.std.proofs.Common.{◌≡◌, ℕ, ◌+◌, ◌≤◌, List, [], ◌�
 use Rattle.std.specs.Prelude.{◌==◌, ◌||◌, ◌&&◌, if◌then◌else◌, count_by}
 use Rattle.std.proofs.lemmas.List.Sums.{sum_by-cons, sum_by-append}
 use Rattle.sched_base.specs.declared.UnitId.{UnitId}
+use Rattle.sched_base.proofs.Bools.{or_left, or_right}
 use Rattle.arrival_queue.specs.Queues.{Queued, put_first, is_of, has_unit, list_without, rank_in}
 use Rattle.arrival_queue.specs.Order.{has_rank}
-use Rattle.arrival_queue.proofs.Splits.{or_left, or_right}
 
 -- 1 where the test passes
 abbrev pub one_if : Bool → ℕ

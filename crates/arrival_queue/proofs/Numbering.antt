@@ -2,7 +2,7 @@
 use Rattle.std.proofs.Common.{◌≡◌, ℕ, zero, suc, ◌+◌, ◌<◌, ◌≤◌, List, [], ◌∷◌, length, map, get_or, Bool, refl, sym, ◌∙◌, ap, subst, inl, inr, arith}
 use Rattle.std.specs.Prelude.{nat_lt, Option}
 use Rattle.std.proofs.Math.ListN.{get_or-map}
-use Rattle.std.proofs.lemmas.Bool.{cases_lt}
+use Rattle.std.proofs.lemmas.Bool.{cases_lt, lt-ltb, le-ltb}
 use Rattle.std.proofs.lemmas.List.{get_or_default, length-map}
 use Rattle.std.proofs.lemmas.List.Sums.{count_by-le-length, sum_by-append}
 use Rattle.unit_ring.specs.declared.Node.{Node}
@@ -10,7 +10,7 @@ use Rattle.unit_ring.specs.Lists.{Item, Lists}
 use Rattle.arrival_queue.specs.declared.key.Key.{Key}
 use Rattle.arrival_queue.specs.Queues.{Queued, queued_unit}
 use Rattle.arrival_queue.specs.Tables.{Tabled, IsQueue, all_items, arrival_at, key_at, rank, shown_unit, count_below, queues_of}
-use Rattle.arrival_queue.proofs.Ranks.{less_test, not_less_test, one_if, rank-cons}
+use Rattle.arrival_queue.proofs.Ranks.{one_if, rank-cons}
 use Rattle.arrival_queue.proofs.Walking.{Tabled-left, Tabled-right}
 
 below-cons : (n : ℕ) (ns : List ℕ) (a : ℕ) → count_below (n ∷ ns) a ≡ one_if (nat_lt n a) + count_below ns a
@@ -27,10 +27,10 @@ below-mono (n ∷ ns) a b low =
     let at_b = below-cons n ns b in
     elim (cases_lt n a) [
       | inl less ↦
-          let one : one_if (nat_lt n a) ≡ 1 = ap one_if (less_test n a less) in
-          let two : one_if (nat_lt n b) ≡ 1 = ap one_if (less_test n b (omega (arith, less, low))) in
+          let one : one_if (nat_lt n a) ≡ 1 = ap one_if (lt-ltb n a less) in
+          let two : one_if (nat_lt n b) ≡ 1 = ap one_if (lt-ltb n b (omega (arith, less, low))) in
           omega (arith, rest, one, two, at_a, at_b)
-      | inr more ↦ let none : one_if (nat_lt n a) ≡ 0 = ap one_if (not_less_test n a more) in omega (arith, rest, none, at_a, at_b)
+      | inr more ↦ let none : one_if (nat_lt n a) ≡ 0 = ap one_if (le-ltb n a more) in omega (arith, rest, none, at_a, at_b)
     ]
 
 -- a number of the list counts for those above it
@@ -39,8 +39,8 @@ below-strict [] i b low less = absurd (omega (arith, low))
 below-strict (n ∷ ns) zero b low less =
     let at_a = below-cons n ns n in
     let at_b = below-cons n ns b in
-    let none : one_if (nat_lt n n) ≡ 0 = ap one_if (not_less_test n n (omega arith)) in
-    let one : one_if (nat_lt n b) ≡ 1 = ap one_if (less_test n b less) in
+    let none : one_if (nat_lt n n) ≡ 0 = ap one_if (le-ltb n n (omega arith)) in
+    let one : one_if (nat_lt n b) ≡ 1 = ap one_if (lt-ltb n b less) in
     omega (arith, at_a, at_b, none, one, below-mono ns n b (omega (arith, less)))
 below-strict (n ∷ ns) (suc i) b low less =
     let a = get_or ns i 0 in
@@ -49,18 +49,18 @@ below-strict (n ∷ ns) (suc i) b low less =
     let at_b = below-cons n ns b in
     elim (cases_lt n a) [
       | inl is ↦
-          let one : one_if (nat_lt n a) ≡ 1 = ap one_if (less_test n a is) in
-          let two : one_if (nat_lt n b) ≡ 1 = ap one_if (less_test n b (omega (arith, less, is))) in
+          let one : one_if (nat_lt n a) ≡ 1 = ap one_if (lt-ltb n a is) in
+          let two : one_if (nat_lt n b) ≡ 1 = ap one_if (lt-ltb n b (omega (arith, less, is))) in
           omega (arith, rest, one, two, at_a, at_b)
-      | inr more ↦ let none : one_if (nat_lt n a) ≡ 0 = ap one_if (not_less_test n a more) in omega (arith, rest, none, at_a, at_b)
+      | inr more ↦ let none : one_if (nat_lt n a) ≡ 0 = ap one_if (le-ltb n a more) in omega (arith, rest, none, at_a, at_b)
     ]
 
 below-test : (ns : List ℕ) (i b : ℕ) → i < length ns → nat_lt (count_below ns (get_or ns i 0)) (count_below ns b) ≡ nat_lt (get_or ns i 0) b
 below-test ns i b low =
     let a = get_or ns i 0 in
     elim (cases_lt a b) [
-      | inl less ↦ less_test (count_below ns a) (count_below ns b) (below-strict ns i b low less) ∙ sym (less_test a b less)
-      | inr more ↦ not_less_test (count_below ns a) (count_below ns b) (below-mono ns b a more) ∙ sym (not_less_test a b more)
+      | inl less ↦ lt-ltb (count_below ns a) (count_below ns b) (below-strict ns i b low less) ∙ sym (lt-ltb a b less)
+      | inr more ↦ le-ltb (count_below ns a) (count_below ns b) (below-mono ns b a more) ∙ sym (le-ltb a b more)
     ]
 
 -- the new number of a node's arrival

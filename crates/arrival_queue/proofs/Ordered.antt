@@ -1,15 +1,13 @@
 -- Each call keeps the order of the lists, each unit once, and the ranks.
 use Rattle.std.proofs.Common.{◌≡◌, ℕ, ◌+◌, ◌-◌, ◌<◌, ◌≤◌, List, [], ◌∷◌, ◌++◌, length, map, Bool, true, false, refl, sym, ◌∙◌, ap, subst, inl, inr, arith, append_assoc, length-append}
 use Rattle.std.specs.Prelude.{◌==◌, ◌&&◌, if◌then◌else◌, count_by, nat_lt}
-use Rattle.std.proofs.lemmas.Bool.{cases_lt, cases_eq}
+use Rattle.std.proofs.lemmas.Bool.{cases_lt, cases_eq, eq-eqb, ne_eqb, lt-ltb, le-ltb, ltb-true}
 use Rattle.std.proofs.lemmas.List.{length-map, map-append}
 use Rattle.sched_base.specs.declared.UnitId.{UnitId}
 use Rattle.sched_base.specs.Units.{number_of}
 use Rattle.arrival_queue.specs.declared.key.Key.{Key}
 use Rattle.arrival_queue.specs.Queues.{Queued, Queues, queued_unit, goes_before, list_with, is_of, has_unit, holds, list_without, rank_in, rank_of, count, after_insert, after_append, closed_up, after_remove, after_move}
 use Rattle.arrival_queue.specs.Order.{GoesBeforeAll, IsInOrder, ArrivedBeforeAll, IsInArrival, has_rank, EachRankOnce, EachUnitOnce, IsOrdered}
-use Rattle.arrival_queue.proofs.Ranks.{less_test, not_less_test}
-use Rattle.arrival_queue.proofs.Splits.{same_test, other_test}
 use Rattle.arrival_queue.proofs.Changes.{rank_in-append}
 use Rattle.arrival_queue.proofs.Counting.{one_if, one-most, count-cons, count-append, count-put, length-put, count-map, count-alike, count-same, count-without, length-without, without-append, count-absent, count-here, has_unit-append, count-rank}
 use Rattle.arrival_queue.proofs.Ordering.{before_trans, before_other, closed-test, closed_before}
@@ -26,7 +24,7 @@ RanksBelow n (e ∷ es) = (e.rank < n) × RanksBelow n es
 pub lacks-rank : (r : ℕ) (es : List Queued) → count_by (has_rank r) es ≡ 0 → LacksRank r es
 lacks-rank r [] none = tt
 lacks-rank r (e ∷ es) none = (
-  λ is. let one : one_if (has_rank r e) ≡ 1 = ap one_if (same_test e.rank r is) in absurd (omega (arith, one, none, count-cons (has_rank r) e es)),
+  λ is. let one : one_if (has_rank r e) ≡ 1 = ap one_if (eq-eqb e.rank r is) in absurd (omega (arith, one, none, count-cons (has_rank r) e es)),
   lacks-rank r es (omega (arith, none, count-cons (has_rank r) e es)),
 )
 
@@ -36,7 +34,7 @@ ranks-below n (e ∷ es) none = (
   elim (cases_lt e.rank n) [
     | inl less ↦ less
     | inr more ↦
-        let one : one_if (has_rank e.rank e) ≡ 1 = ap one_if (same_test e.rank e.rank refl) in
+        let one : one_if (has_rank e.rank e) ≡ 1 = ap one_if (eq-eqb e.rank e.rank refl) in
         absurd (omega (arith, one, none e.rank more, count-cons (has_rank e.rank) e es))
   ],
   ranks-below n es (λ r more. omega (arith, none r more, count-cons (has_rank r) e es)),
@@ -112,13 +110,10 @@ arrival-without u (e ∷ es) order =
       | false ↦ (arrived-without e u es order.0, arrival-without u es order.1)
     ]
 
-less_of : (a b : ℕ) → nat_lt a b ≡ true → a < b
-less_of a b e = elim (cases_lt a b) [ inl less ↦ less | inr more ↦ let none = not_less_test a b more in absurd (cc) ]
-
 arrived-closed : (r : ℕ) (a : Queued) (es : List Queued) → (a.rank ≡ r → ⊥) → LacksRank r es → ArrivedBeforeAll a es → ArrivedBeforeAll (closed_up r a) (map (closed_up r) es)
 arrived-closed r a [] other lacks all = tt
 arrived-closed r a (e ∷ es) other lacks all = (
-  less_of _ _ (closed-test r a.rank e.rank other lacks.0 ∙ less_test a.rank e.rank all.0),
+  ltb-true _ _ (closed-test r a.rank e.rank other lacks.0 ∙ lt-ltb a.rank e.rank all.0),
   arrived-closed r a es other lacks.1 all.1,
 )
 
@@ -134,7 +129,7 @@ count-all : (q : Queues) → count q ≡ length (all q)
 count-all q = sym (length-append q.sorted q.others)
 
 past_none : (es : List Queued) (r : ℕ) → EachRankOnce es → length es ≤ r → count_by (has_rank r) es ≡ 0
-past_none es r once past = once r ∙ ap one_if (not_less_test r (length es) past)
+past_none es r once past = once r ∙ ap one_if (le-ltb r (length es) past)
 
 left_none : (r : ℕ) (xs ys : List Queued) → count_by (has_rank r) (xs ++ ys) ≡ 0 → count_by (has_rank r) xs ≡ 0
 left_none r xs ys none = omega (arith, none, count-append (has_rank r) xs ys)
@@ -147,21 +142,21 @@ one_more : (r n m : ℕ) → m ≡ n + 1 → one_if (n == r) + one_if (nat_lt r 
 one_more r n m more =
     elim (cases_lt r n) [
       | inl less ↦
-          let a : one_if (nat_lt r n) ≡ 1 = ap one_if (less_test r n less) in
-          let b : one_if (n == r) ≡ 0 = ap one_if (other_test n r (λ e. omega (arith, e, less))) in
-          let c : one_if (nat_lt r m) ≡ 1 = ap one_if (less_test r m (omega (arith, less, more))) in
+          let a : one_if (nat_lt r n) ≡ 1 = ap one_if (lt-ltb r n less) in
+          let b : one_if (n == r) ≡ 0 = ap one_if (ne_eqb n r (λ e. omega (arith, e, less))) in
+          let c : one_if (nat_lt r m) ≡ 1 = ap one_if (lt-ltb r m (omega (arith, less, more))) in
           omega (arith, a, b, c)
       | inr past ↦
-          let a : one_if (nat_lt r n) ≡ 0 = ap one_if (not_less_test r n past) in
+          let a : one_if (nat_lt r n) ≡ 0 = ap one_if (le-ltb r n past) in
           elim (cases_eq n r) [
             | inl is ↦
-                let b : one_if (n == r) ≡ 1 = ap one_if (same_test n r is) in
-                let c : one_if (nat_lt r m) ≡ 1 = ap one_if (less_test r m (omega (arith, is, more))) in
+                let b : one_if (n == r) ≡ 1 = ap one_if (eq-eqb n r is) in
+                let c : one_if (nat_lt r m) ≡ 1 = ap one_if (lt-ltb r m (omega (arith, is, more))) in
                 omega (arith, a, b, c)
             | inr other ↦
-                let b : one_if (n == r) ≡ 0 = ap one_if (other_test n r other) in
+                let b : one_if (n == r) ≡ 0 = ap one_if (ne_eqb n r other) in
                 let low : m ≤ r = elim (cases_lt n r) [ inl less ↦ omega (arith, less, more) | inr most ↦ absurd (other (omega (arith, past, most))) ] in
-                let c : one_if (nat_lt r m) ≡ 0 = ap one_if (not_less_test r m low) in
+                let c : one_if (nat_lt r m) ≡ 0 = ap one_if (le-ltb r m low) in
                 omega (arith, a, b, c)
           ]
     ]
@@ -183,7 +178,7 @@ more_units es ds new none counts once w =
           let same : count_by (is_of w) es ≡ count_by (is_of new.unit) es = count-same (is_of w) (is_of new.unit) es (λ x. ap (λ (k : ℕ). number_of x.unit == k) (sym is)) in
           omega (arith, counts (is_of w), one-most (is_of w new), same, none)
       | inr other ↦
-          let zero_here : one_if (is_of w new) ≡ 0 = ap one_if (other_test (number_of new.unit) (number_of w) other) in
+          let zero_here : one_if (is_of w new) ≡ 0 = ap one_if (ne_eqb (number_of new.unit) (number_of w) other) in
           let most = once w in
           omega (arith, counts (is_of w), zero_here, most)
     ]
@@ -252,17 +247,17 @@ module _ (q : Queues) (u : UnitId) (here : holds q u ≡ true) (ordered : IsOrde
 
   mine_low : rank_of q u < length (all q)
   mine_low =
-      let one : one_if (rank_of q u == rank_of q u) ≡ 1 = ap one_if (same_test (rank_of q u) (rank_of q u) refl) in
+      let one : one_if (rank_of q u == rank_of q u) ≡ 1 = ap one_if (eq-eqb (rank_of q u) (rank_of q u) refl) in
       elim (cases_lt (rank_of q u) (length (all q))) [
         | inl less ↦ less
         | inr past ↦
-            let none : one_if (nat_lt (rank_of q u) (length (all q))) ≡ 0 = ap one_if (not_less_test (rank_of q u) (length (all q)) past) in
+            let none : one_if (nat_lt (rank_of q u) (length (all q))) ≡ 0 = ap one_if (le-ltb (rank_of q u) (length (all q)) past) in
             absurd (omega (arith, one, none, rest_ranks (rank_of q u)))
       ]
 
   rest_lacks : count_by (has_rank (rank_of q u)) rest ≡ 0
   rest_lacks =
-      let one : one_if (rank_of q u == rank_of q u) ≡ 1 = ap one_if (same_test (rank_of q u) (rank_of q u) refl) in
+      let one : one_if (rank_of q u == rank_of q u) ≡ 1 = ap one_if (eq-eqb (rank_of q u) (rank_of q u) refl) in
       omega (arith, one, one-most (nat_lt (rank_of q u) (length (all q))), rest_ranks (rank_of q u))
 
   rest_parts : rest ≡ list_without u q.sorted ++ list_without u q.others
@@ -288,24 +283,24 @@ module _ (q : Queues) (u : UnitId) (here : holds q u ≡ true) (ordered : IsOrde
   low_same r less x _ =
       elim (cases_lt (rank_of q u) x.rank) [
         | inl over ↦
-            ap (λ (t : Bool). (if t then x.rank - 1 else x.rank) == r) (less_test (rank_of q u) x.rank over)
-            ∙ other_test (x.rank - 1) r (λ e. omega (arith, e, over, less)) ∙ sym (other_test x.rank r (λ e. omega (arith, e, over, less)))
-        | inr under ↦ ap (λ (t : Bool). (if t then x.rank - 1 else x.rank) == r) (not_less_test (rank_of q u) x.rank under)
+            ap (λ (t : Bool). (if t then x.rank - 1 else x.rank) == r) (lt-ltb (rank_of q u) x.rank over)
+            ∙ ne_eqb (x.rank - 1) r (λ e. omega (arith, e, over, less)) ∙ sym (ne_eqb x.rank r (λ e. omega (arith, e, over, less)))
+        | inr under ↦ ap (λ (t : Bool). (if t then x.rank - 1 else x.rank) == r) (le-ltb (rank_of q u) x.rank under)
       ]
 
   high_same : (r : ℕ) → rank_of q u ≤ r → (x : Queued) → has_rank (rank_of q u) x ≡ false → has_rank r (closed_up (rank_of q u) x) ≡ has_rank (r + 1) x
   high_same r low x other =
       elim (cases_lt (rank_of q u) x.rank) [
         | inl over ↦
-            ap (λ (t : Bool). (if t then x.rank - 1 else x.rank) == r) (less_test (rank_of q u) x.rank over)
+            ap (λ (t : Bool). (if t then x.rank - 1 else x.rank) == r) (lt-ltb (rank_of q u) x.rank over)
             ∙ elim (cases_eq (x.rank - 1) r) [
-              | inl is ↦ same_test (x.rank - 1) r is ∙ sym (same_test x.rank (r + 1) (omega (arith, is, over)))
-              | inr differ ↦ other_test (x.rank - 1) r differ ∙ sym (other_test x.rank (r + 1) (λ e. differ (omega (arith, e))))
+              | inl is ↦ eq-eqb (x.rank - 1) r is ∙ sym (eq-eqb x.rank (r + 1) (omega (arith, is, over)))
+              | inr differ ↦ ne_eqb (x.rank - 1) r differ ∙ sym (ne_eqb x.rank (r + 1) (λ e. differ (omega (arith, e))))
             ]
         | inr under ↦
-            ap (λ (t : Bool). (if t then x.rank - 1 else x.rank) == r) (not_less_test (rank_of q u) x.rank under)
-            ∙ other_test x.rank r (λ e. let same = same_test x.rank (rank_of q u) (omega (arith, e, under, low)) in absurd (clash (has_rank (rank_of q u) x) same other))
-            ∙ sym (other_test x.rank (r + 1) (λ e. omega (arith, e, under, low)))
+            ap (λ (t : Bool). (if t then x.rank - 1 else x.rank) == r) (le-ltb (rank_of q u) x.rank under)
+            ∙ ne_eqb x.rank r (λ e. let same = eq-eqb x.rank (rank_of q u) (omega (arith, e, under, low)) in absurd (clash (has_rank (rank_of q u) x) same other))
+            ∙ sym (ne_eqb x.rank (r + 1) (λ e. omega (arith, e, under, low)))
       ]
     where
       clash : (b : Bool) → b ≡ true → b ≡ false → ⊥
@@ -319,23 +314,23 @@ module _ (q : Queues) (u : UnitId) (here : holds q u ≡ true) (ordered : IsOrde
       elim (cases_lt r (rank_of q u)) [
         | inl less ↦
             let same = count-alike (λ x. has_rank r (closed_up (rank_of q u) x)) (has_rank r) (has_rank (rank_of q u)) rest (low_same r less) rest_lacks in
-            let a : one_if (rank_of q u == r) ≡ 0 = ap one_if (other_test (rank_of q u) r (λ e. omega (arith, e, less))) in
-            let b : one_if (nat_lt r (length (all q))) ≡ 1 = ap one_if (less_test r (length (all q)) (omega (arith, less, mine_low))) in
+            let a : one_if (rank_of q u == r) ≡ 0 = ap one_if (ne_eqb (rank_of q u) r (λ e. omega (arith, e, less))) in
+            let b : one_if (nat_lt r (length (all q))) ≡ 1 = ap one_if (lt-ltb r (length (all q)) (omega (arith, less, mine_low))) in
             let c : one_if (nat_lt r (length (map (closed_up (rank_of q u)) rest))) ≡ 1 =
-            ap one_if (less_test r (length (map (closed_up (rank_of q u)) rest)) (omega (arith, less, mine_low, rest_length, short)))
+            ap one_if (lt-ltb r (length (map (closed_up (rank_of q u)) rest)) (omega (arith, less, mine_low, rest_length, short)))
             in
             omega (arith, through, same, a, b, c, rest_ranks r)
         | inr low ↦
             let same = count-alike (λ x. has_rank r (closed_up (rank_of q u) x)) (has_rank (r + 1)) (has_rank (rank_of q u)) rest (high_same r low) rest_lacks in
-            let a : one_if (rank_of q u == r + 1) ≡ 0 = ap one_if (other_test (rank_of q u) (r + 1) (λ e. omega (arith, e, low))) in
+            let a : one_if (rank_of q u == r + 1) ≡ 0 = ap one_if (ne_eqb (rank_of q u) (r + 1) (λ e. omega (arith, e, low))) in
             let shifted : one_if (nat_lt (r + 1) (length (all q))) ≡ one_if (nat_lt r (length (map (closed_up (rank_of q u)) rest))) =
             elim (cases_lt (r + 1) (length (all q))) [
               | inl less ↦
-                  ap one_if (less_test (r + 1) (length (all q)) less)
-                  ∙ sym (ap one_if (less_test r (length (map (closed_up (rank_of q u)) rest)) (omega (arith, less, rest_length, short))))
+                  ap one_if (lt-ltb (r + 1) (length (all q)) less)
+                  ∙ sym (ap one_if (lt-ltb r (length (map (closed_up (rank_of q u)) rest)) (omega (arith, less, rest_length, short))))
               | inr past ↦
-                  ap one_if (not_less_test (r + 1) (length (all q)) past)
-                  ∙ sym (ap one_if (not_less_test r (length (map (closed_up (rank_of q u)) rest)) (omega (arith, past, rest_length, short))))
+                  ap one_if (le-ltb (r + 1) (length (all q)) past)
+                  ∙ sym (ap one_if (le-ltb r (length (map (closed_up (rank_of q u)) rest)) (omega (arith, past, rest_length, short))))
             ]
             in
             omega (arith, through, same, a, shifted, rest_ranks (r + 1))

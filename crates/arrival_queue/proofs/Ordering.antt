@@ -1,26 +1,18 @@
 -- That one goes before another is a strict order, and how it meets a change of ranks.
-use Rattle.std.proofs.Common.{◌≡◌, ◌⊎◌, ℕ, ◌-◌, ◌<◌, ◌≤◌, Bool, true, false, refl, sym, ◌∙◌, ap, inl, inr, arith}
+use Rattle.std.proofs.Common.{◌≡◌, ℕ, ◌-◌, ◌<◌, ◌≤◌, Bool, true, false, refl, sym, ◌∙◌, ap, inl, inr, arith}
 use Rattle.std.specs.Prelude.{◌||◌, ◌&&◌, not, if◌then◌else◌, nat_lt, int_lt}
 use Rattle.std.proofs.lemmas.Int.{ints}
 use Rattle.std.specs.Cmp.{IsStrictWeakOrder}
 use Rattle.std.proofs.lemmas.List.Sorted.{IsStrictWeakOrder-by_number}
-use Rattle.std.proofs.lemmas.Bool.{cases_lt}
+use Rattle.std.proofs.lemmas.Bool.{cases_lt, cases_Bool, false_from_ne_true, lt-ltb, le-ltb}
+use Rattle.sched_base.proofs.Bools.{clash}
 use Rattle.arrival_queue.specs.declared.key.Key.{Key}
 use Rattle.arrival_queue.specs.Queues.{Queued, is_less, goes_before, closed_up}
-use Rattle.arrival_queue.proofs.Ranks.{less_test, not_less_test}
-
-clash : (b : Bool) → b ≡ true → b ≡ false → ⊥
-clash true is is_not = cc
-clash false is is_not = cc
-
-unless : (t : Bool) → (t ≡ true → ⊥) → t ≡ false
-unless true never = absurd (never refl)
-unless false never = refl
 
 int_order : IsStrictWeakOrder int_lt
 int_order = record {
-  one_way = λ x y h. unless (int_lt y x) (λ e. omega (arith, ints, h, e));
-  chain = λ x y z a b. unless (int_lt x z) (λ e. omega (arith, ints, a, b, e));
+  one_way = λ x y h. false_from_ne_true (int_lt y x) (λ e. omega (arith, ints, h, e));
+  chain = λ x y z a b. false_from_ne_true (int_lt x z) (λ e. omega (arith, ints, a, b, e));
 }
 
 -- by one order, then by another
@@ -76,13 +68,9 @@ by_rank = IsStrictWeakOrder-by_number (λ (a : Queued). a.rank)
 before_order : IsStrictWeakOrder goes_before
 before_order = then_order (λ (a b : Queued). is_less a.key b.key) (λ (a b : Queued). nat_lt a.rank b.rank) by_key by_rank
 
-yes_or_no : (t : Bool) → (t ≡ true) ⊎ (t ≡ false)
-yes_or_no true = inl refl
-yes_or_no false = inr refl
-
 pub before_trans : (a b c : Queued) → goes_before a b ≡ true → goes_before b c ≡ true → goes_before a c ≡ true
 before_trans a b c ab bc =
-    elim (yes_or_no (goes_before a c)) [
+    elim (cases_Bool (goes_before a c)) [
       | inl is ↦ is
       | inr none ↦ absurd (clash (goes_before a b) ab (before_order.chain a c b none (before_order.one_way b c bc)))
     ]
@@ -90,7 +78,7 @@ before_trans a b c ab bc =
 -- of two with different ranks one goes before the other
 pub before_other : (a b : Queued) → goes_before a b ≡ false → (a.rank ≡ b.rank → ⊥) → goes_before b a ≡ true
 before_other a b neither other =
-    elim (yes_or_no (goes_before b a)) [
+    elim (cases_Bool (goes_before b a)) [
       | inl is ↦ is
       | inr none ↦
           let ties : (x y : Queued) → goes_before x y ≡ false → goes_before y x ≡ false → nat_lt x.rank y.rank ≡ false =
@@ -100,10 +88,10 @@ before_other a b neither other =
           let ba = ties b a none neither in
           absurd
           (elim (cases_lt a.rank b.rank) [
-            | inl less ↦ clash (nat_lt a.rank b.rank) (less_test a.rank b.rank less) ab
+            | inl less ↦ clash (nat_lt a.rank b.rank) (lt-ltb a.rank b.rank less) ab
             | inr more ↦
                 elim (cases_lt b.rank a.rank) [
-                  | inl less ↦ clash (nat_lt b.rank a.rank) (less_test b.rank a.rank less) ba
+                  | inl less ↦ clash (nat_lt b.rank a.rank) (lt-ltb b.rank a.rank less) ba
                   | inr most ↦ other (omega (arith, more, most))
                 ]
           ])
@@ -114,33 +102,33 @@ pub closed-test : (r a b : ℕ) → (a ≡ r → ⊥) → (b ≡ r → ⊥) → 
 closed-test r a b other_a other_b =
     elim (cases_lt r a) [
       | inl over_a ↦
-          ap (λ (t : Bool). nat_lt (if t then a - 1 else a) (if nat_lt r b then b - 1 else b)) (less_test r a over_a)
+          ap (λ (t : Bool). nat_lt (if t then a - 1 else a) (if nat_lt r b then b - 1 else b)) (lt-ltb r a over_a)
           ∙ elim (cases_lt r b) [
-            | inl over_b ↦ ap (λ (t : Bool). nat_lt (a - 1) (if t then b - 1 else b)) (less_test r b over_b) ∙ both over_a over_b
-            | inr under_b ↦ ap (λ (t : Bool). nat_lt (a - 1) (if t then b - 1 else b)) (not_less_test r b under_b) ∙ over over_a under_b
+            | inl over_b ↦ ap (λ (t : Bool). nat_lt (a - 1) (if t then b - 1 else b)) (lt-ltb r b over_b) ∙ both over_a over_b
+            | inr under_b ↦ ap (λ (t : Bool). nat_lt (a - 1) (if t then b - 1 else b)) (le-ltb r b under_b) ∙ over over_a under_b
           ]
       | inr under_a ↦
-          ap (λ (t : Bool). nat_lt (if t then a - 1 else a) (if nat_lt r b then b - 1 else b)) (not_less_test r a under_a)
+          ap (λ (t : Bool). nat_lt (if t then a - 1 else a) (if nat_lt r b then b - 1 else b)) (le-ltb r a under_a)
           ∙ elim (cases_lt r b) [
-            | inl over_b ↦ ap (λ (t : Bool). nat_lt a (if t then b - 1 else b)) (less_test r b over_b) ∙ under under_a over_b
-            | inr under_b ↦ ap (λ (t : Bool). nat_lt a (if t then b - 1 else b)) (not_less_test r b under_b)
+            | inl over_b ↦ ap (λ (t : Bool). nat_lt a (if t then b - 1 else b)) (lt-ltb r b over_b) ∙ under under_a over_b
+            | inr under_b ↦ ap (λ (t : Bool). nat_lt a (if t then b - 1 else b)) (le-ltb r b under_b)
           ]
     ]
   where
     both : r < a → r < b → nat_lt (a - 1) (b - 1) ≡ nat_lt a b
     both over_a over_b =
         elim (cases_lt a b) [
-          | inl less ↦ less_test (a - 1) (b - 1) (omega (arith, less, over_a)) ∙ sym (less_test a b less)
-          | inr more ↦ not_less_test (a - 1) (b - 1) (omega (arith, more)) ∙ sym (not_less_test a b more)
+          | inl less ↦ lt-ltb (a - 1) (b - 1) (omega (arith, less, over_a)) ∙ sym (lt-ltb a b less)
+          | inr more ↦ le-ltb (a - 1) (b - 1) (omega (arith, more)) ∙ sym (le-ltb a b more)
         ]
 
     over : r < a → b ≤ r → nat_lt (a - 1) b ≡ nat_lt a b
-    over over_a under_b = not_less_test (a - 1) b (omega (arith, over_a, under_b)) ∙ sym (not_less_test a b (omega (arith, over_a, under_b)))
+    over over_a under_b = le-ltb (a - 1) b (omega (arith, over_a, under_b)) ∙ sym (le-ltb a b (omega (arith, over_a, under_b)))
 
     under : a ≤ r → r < b → nat_lt a (b - 1) ≡ nat_lt a b
     under under_a over_b =
         let less : a < r = strict a r under_a other_a in
-        less_test a (b - 1) (omega (arith, less, over_b)) ∙ sym (less_test a b (omega (arith, less, over_b)))
+        lt-ltb a (b - 1) (omega (arith, less, over_b)) ∙ sym (lt-ltb a b (omega (arith, less, over_b)))
       where
         strict : (m n : ℕ) → m ≤ n → (m ≡ n → ⊥) → m < n
         strict m n low other = elim (cases_lt m n) [ inl less ↦ less | inr more ↦ absurd (other (omega (arith, low, more))) ]

@@ -1,19 +1,13 @@
 -- Ranks: how many arrived earlier.
-use Rattle.std.proofs.Common.{◌≡◌, ℕ, ◌+◌, ◌<◌, ◌≤◌, List, [], ◌∷◌, ◌++◌, length, set, Bool, true, false, refl, sym, ◌∙◌, ap, inl, inr, arith}
+use Rattle.std.proofs.Common.{◌≡◌, ℕ, ◌+◌, ◌<◌, ◌≤◌, List, [], ◌∷◌, ◌++◌, length, set, Bool, false, refl, sym, ◌∙◌, ap, inl, inr, arith}
 use Rattle.std.specs.Prelude.{◌==◌, if◌then◌else◌, nat_lt}
-use Rattle.std.proofs.lemmas.Bool.{cases_lt}
-use Rattle.std.proofs.lemmas.Bool.Decides.{nat_tests}
+use Rattle.std.proofs.lemmas.Bool.{cases_lt, lt-ltb, le-ltb}
 use Rattle.std.proofs.lemmas.List.{get_or-set_same, get_or-set_other}
 use Rattle.std.proofs.lemmas.List.Sums.{count_by-le-length, sum_by-append}
+use Rattle.sched_base.proofs.Bools.{or_left, or_right}
 use Rattle.unit_ring.specs.Lists.{Item, has_node}
 use Rattle.arrival_queue.specs.Tables.{Tabled, rank, arrival_at}
-use Rattle.arrival_queue.proofs.Splits.{or_left, or_right, not_same, count-split}
-
-pub less_test : (a b : ℕ) → a < b → nat_lt a b ≡ true
-less_test a b low = grind (arith, nat_tests, low)
-
-pub not_less_test : (a b : ℕ) → b ≤ a → nat_lt a b ≡ false
-not_less_test a b low = grind (arith, nat_tests, low)
+use Rattle.arrival_queue.proofs.Splits.{not_same, count-split}
 
 -- 1 where the test passes
 abbrev pub one_if : Bool → ℕ
@@ -35,10 +29,10 @@ rank-mono arrivals (x ∷ xs) a b low =
     let n = arrival_at arrivals x.node in
     elim (cases_lt n a) [
       | inl less ↦
-          let one : one_if (nat_lt n a) ≡ 1 = ap one_if (less_test n a less) in
-          let two : one_if (nat_lt n b) ≡ 1 = ap one_if (less_test n b (omega (arith, less, low))) in
+          let one : one_if (nat_lt n a) ≡ 1 = ap one_if (lt-ltb n a less) in
+          let two : one_if (nat_lt n b) ≡ 1 = ap one_if (lt-ltb n b (omega (arith, less, low))) in
           omega (arith, rest, one, two, at_a, at_b)
-      | inr more ↦ let none : one_if (nat_lt n a) ≡ 0 = ap one_if (not_less_test n a more) in omega (arith, rest, none, at_a, at_b)
+      | inr more ↦ let none : one_if (nat_lt n a) ≡ 0 = ap one_if (le-ltb n a more) in omega (arith, rest, none, at_a, at_b)
     ]
 
 -- the rank after an item's arrival is more than the item's
@@ -48,8 +42,8 @@ rank-strict arrivals l r x b low =
     let a = arrival_at arrivals x.node in
     let here = count-split (λ (y : Item). nat_lt (arrival_at arrivals y.node) a) l r x in
     let there = count-split (λ (y : Item). nat_lt (arrival_at arrivals y.node) b) l r x in
-    let none : one_if (nat_lt a a) ≡ 0 = ap one_if (not_less_test a a (omega arith)) in
-    let one : one_if (nat_lt a b) ≡ 1 = ap one_if (less_test a b low) in
+    let none : one_if (nat_lt a a) ≡ 0 = ap one_if (le-ltb a a (omega arith)) in
+    let one : one_if (nat_lt a b) ≡ 1 = ap one_if (lt-ltb a b low) in
     omega (arith, here, there, none, one, rank-mono arrivals (l ++ r) a b (omega (arith, low)))
 
 -- ranks compare as arrivals do
@@ -58,8 +52,8 @@ pub rank-test : (arrivals : List ℕ) (l r : List Item) (x : Item) (b : ℕ)
 rank-test arrivals l r x b =
     let a = arrival_at arrivals x.node in
     elim (cases_lt a b) [
-      | inl less ↦ less_test (rank arrivals (l ++ x ∷ r) a) (rank arrivals (l ++ x ∷ r) b) (rank-strict arrivals l r x b less) ∙ sym (less_test a b less)
-      | inr more ↦ not_less_test (rank arrivals (l ++ x ∷ r) a) (rank arrivals (l ++ x ∷ r) b) (rank-mono arrivals (l ++ x ∷ r) b a more) ∙ sym (not_less_test a b more)
+      | inl less ↦ lt-ltb (rank arrivals (l ++ x ∷ r) a) (rank arrivals (l ++ x ∷ r) b) (rank-strict arrivals l r x b less) ∙ sym (lt-ltb a b less)
+      | inr more ↦ le-ltb (rank arrivals (l ++ x ∷ r) a) (rank arrivals (l ++ x ∷ r) b) (rank-mono arrivals (l ++ x ∷ r) b a more) ∙ sym (le-ltb a b more)
     ]
 
 -- another node's arrival is written
@@ -94,7 +88,7 @@ pub rank-all : (places next : ℕ) (arrivals : List ℕ) (xs : List Item) (b : �
 rank-all places next arrivals [] b t rise = refl
 rank-all places next arrivals (x ∷ xs) b t rise =
     let n = arrival_at arrivals x.node in
-    let one : one_if (nat_lt n b) ≡ 1 = ap one_if (less_test n b (omega (arith, t.1, rise))) in
+    let one : one_if (nat_lt n b) ≡ 1 = ap one_if (lt-ltb n b (omega (arith, t.1, rise))) in
     omega (arith, one, rank-cons arrivals x xs b, rank-all places next arrivals xs b t.3 rise)
 
 pub rank-most : (arrivals : List ℕ) (xs : List Item) (b : ℕ) → rank arrivals xs b ≤ length xs

@@ -1,25 +1,18 @@
 -- What one item among others does to what is known of a list of items.
 use Rattle.std.proofs.Common.{◌≡◌, ℕ, ◌+◌, ◌<◌, ◌≤◌, List, [], ◌∷◌, ◌++◌, length, set, Bool, true, false, refl, sym, ◌∙◌, ap, inl, inr, arith, length-append}
 use Rattle.std.specs.Prelude.{◌==◌, ◌||◌, if◌then◌else◌, Option, Some, None, count_by}
-use Rattle.std.proofs.lemmas.Bool.{cases_eq}
-use Rattle.std.proofs.lemmas.Bool.Decides.{nat_tests}
+use Rattle.std.proofs.lemmas.Bool.{cases_eq, eq-eqb, ne_eqb}
 use Rattle.std.proofs.lemmas.List.{get_or-set_other}
 use Rattle.std.proofs.lemmas.List.Sums.{sum_by-append}
 use Rattle.sched_base.specs.Units.{number_of}
+use Rattle.sched_base.proofs.Bools.{or_left, or_right}
 use Rattle.unit_places.specs.Places.{has_place}
 use Rattle.unit_ring.specs.declared.Node.{Node}
 use Rattle.unit_ring.specs.Lists.{Item, has_node}
 use Rattle.arrival_queue.specs.Tables.{Apart, Tabled, has_number, node_of, arrival_at}
 
--- tests
-pub same_test : (a b : ℕ) → a ≡ b → (a == b) ≡ true
-same_test a b e = grind (arith, nat_tests, e)
-
-pub other_test : (a b : ℕ) → (a ≡ b → ⊥) → (a == b) ≡ false
-other_test a b ne = grind (arith, nat_tests, ne)
-
 pub not_same : (a b : ℕ) → (a == b) ≡ false → a ≡ b → ⊥
-not_same a b test e = let yes = same_test a b e in absurd (cc)
+not_same a b test e = let yes = eq-eqb a b e in absurd (cc)
 
 or_swap : (a b c : Bool) → (a || (b || c)) ≡ (b || (a || c))
 or_swap true true c = refl
@@ -27,20 +20,12 @@ or_swap true false c = refl
 or_swap false true c = refl
 or_swap false false c = refl
 
-pub or_left : (a b : Bool) → (a || b) ≡ false → a ≡ false
-or_left true b e = absurd (cc)
-or_left false b e = refl
-
-pub or_right : (a b : Bool) → (a || b) ≡ false → b ≡ false
-or_right true b e = absurd (cc)
-or_right false b e = e
-
 pub or_false : (a b : Bool) → a ≡ false → b ≡ false → (a || b) ≡ false
 or_false a b none e = ap (λ (t : Bool). t || b) none ∙ e
 
 test_swap : (a b : ℕ) → (a == b) ≡ (b == a)
 test_swap a b =
-    elim (cases_eq a b) [ inl e ↦ same_test a b e ∙ sym (same_test b a (sym e)) | inr ne ↦ other_test a b ne ∙ sym (other_test b a (λ e. ne (sym e))) ]
+    elim (cases_eq a b) [ inl e ↦ eq-eqb a b e ∙ sym (eq-eqb b a (sym e)) | inr ne ↦ ne_eqb a b ne ∙ sym (ne_eqb b a (λ e. ne (sym e))) ]
 
 pub has_node-split : (m : ℕ) (l r : List Item) (new : Item) → has_node m (l ++ new ∷ r) ≡ (new.node == m || has_node m (l ++ r))
 has_node-split m [] r new = refl
@@ -109,14 +94,14 @@ node_of-none k (x ∷ xs) e =
 
 pub node_of-other : (k : ℕ) (l r : List Item) (new : Item) → (number_of new.unit ≡ k → ⊥) → node_of k (l ++ new ∷ r) ≡ node_of k (l ++ r)
 node_of-other k [] r new ne =
-    ap (λ (t : Bool). if t then Some (record { 0 = new.node }) else node_of k r) (other_test (number_of new.unit) k ne)
+    ap (λ (t : Bool). if t then Some (record { 0 = new.node }) else node_of k r) (ne_eqb (number_of new.unit) k ne)
 node_of-other k (x ∷ l) r new ne =
     ap (λ (o : Option Node). if number_of x.unit == k then Some (record { 0 = x.node }) else o) (node_of-other k l r new ne)
 
 pub node_of-mine : (l r : List Item) (new : Item) → has_number (number_of new.unit) (l ++ r) ≡ false
     → node_of (number_of new.unit) (l ++ new ∷ r) ≡ Some (record { 0 = new.node })
 node_of-mine [] r new none =
-    ap (λ (t : Bool). if t then Some (record { 0 = new.node }) else node_of (number_of new.unit) r) (same_test (number_of new.unit) (number_of new.unit) refl)
+    ap (λ (t : Bool). if t then Some (record { 0 = new.node }) else node_of (number_of new.unit) r) (eq-eqb (number_of new.unit) (number_of new.unit) refl)
 node_of-mine (x ∷ l) r new none =
     ap (λ (t : Bool). if t then Some (record { 0 = x.node }) else node_of (number_of new.unit) (l ++ new ∷ r)) (or_left (number_of x.unit == number_of new.unit) (has_number (number_of new.unit) (l ++ r)) none)
     ∙ node_of-mine l r new (or_right (number_of x.unit == number_of new.unit) (has_number (number_of new.unit) (l ++ r)) none)

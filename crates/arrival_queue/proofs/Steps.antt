@@ -1,10 +1,11 @@
 -- The tables after each step on the ring.
 use Rattle.std.proofs.Common.{◌≡◌, ℕ, ◌+◌, ◌-◌, ◌<◌, List, [], ◌∷◌, ◌++◌, length, set, Bool, true, false, refl, sym, ◌∙◌, ap, subst, inl, inr, arith, append_assoc}
 use Rattle.std.specs.Prelude.{◌==◌, ◌||◌, if◌then◌else◌, Option, Some, None}
-use Rattle.std.proofs.lemmas.Bool.{cases_eq}
+use Rattle.std.proofs.lemmas.Bool.{cases_eq, eq-eqb, ne_eqb}
 use Rattle.std.proofs.lemmas.List.{append-nil}
 use Rattle.sched_base.specs.declared.UnitId.{UnitId}
 use Rattle.sched_base.specs.Units.{number_of}
+use Rattle.sched_base.proofs.Bools.{or_right}
 use Rattle.unit_places.specs.Places.{has_place, index_of}
 use Rattle.unit_places.proofs.Placed.{same_place}
 use Rattle.unit_ring.specs.declared.Node.{Node}
@@ -13,7 +14,7 @@ use Rattle.unit_ring.specs.Lists.{Item, Lists, item, has_node, is_live, room_of,
 use Rattle.arrival_queue.specs.declared.key.Key.{Key}
 use Rattle.arrival_queue.specs.Queues.{put_first}
 use Rattle.arrival_queue.specs.Tables.{Apart, Tabled, IsQueue, all_items, has_number, node_of, first_node, put_ring, ring_with}
-use Rattle.arrival_queue.proofs.Splits.{Tabled-mine, same_test, other_test, or_right, has_node-split, node_of-mine, Apart-out, TakenOut}
+use Rattle.arrival_queue.proofs.Splits.{Tabled-mine, has_node-split, node_of-mine, Apart-out, TakenOut}
 use Rattle.arrival_queue.proofs.Keeping.{kept_in, kept_out}
 use Rattle.arrival_queue.proofs.Views.{found_node, found_none, put_split, UnitSplit, unit_split, put_before_in-none, without_in-split}
 use Rattle.arrival_queue.proofs.Walking.{Apart-left, live-append}
@@ -47,7 +48,7 @@ other_lacks m (x ∷ xs) ys apart has =
     elim (cases_eq x.node m) [
       | inl is ↦
           or_right (has_node m xs) (has_node m ys) (sym (live-append m xs ys) ∙ subst (λ (k : ℕ). has_node k (xs ++ ys) ≡ false) is apart.0)
-      | inr other ↦ other_lacks m xs ys apart.2 (sym (ap (λ (t : Bool). t || has_node m xs) (other_test x.node m other)) ∙ has)
+      | inr other ↦ other_lacks m xs ys apart.2 (sym (ap (λ (t : Bool). t || has_node m xs) (ne_eqb x.node m other)) ∙ has)
     ]
 
 pub found_ring : (p : Item → Bool) (new : Item) (ring : Lists) (at : Option Node) → Apart (all_items ring) → at ≡ first_node p ring.first
@@ -93,13 +94,13 @@ without_in-append n (x ∷ xs) ys =
       | false ↦ ap (λ (zs : List Item). x ∷ zs) (without_in-append n xs ys)
     ]
 
-some_has : (k : ℕ) (n : Node) (xs : List Item) → node_of k xs ≡ Some n → has_number k xs ≡ true
+pub some_has : (k : ℕ) (n : Node) (xs : List Item) → node_of k xs ≡ Some n → has_number k xs ≡ true
 some_has k n [] e = absurd (cc)
 some_has k n (x ∷ xs) e =
     elim (cases_eq (number_of x.unit) k) [
-      | inl is ↦ ap (λ (t : Bool). t || has_number k xs) (same_test (number_of x.unit) k is)
+      | inl is ↦ ap (λ (t : Bool). t || has_number k xs) (eq-eqb (number_of x.unit) k is)
       | inr other ↦
-          let no = other_test (number_of x.unit) k other in
+          let no = ne_eqb (number_of x.unit) k other in
           ap (λ (t : Bool). t || has_number k xs) no
           ∙ some_has k n xs (sym (ap (λ (t : Bool). if t then Some (record { 0 = x.node }) else node_of k xs) no) ∙ e)
     ]
@@ -128,7 +129,7 @@ found ring u n apart e =
     let node_is : s.x.node ≡ n.0 = ap (λ (o : Option Node). elim o as (λ _. ℕ) [ None ↦ 0 | Some m ↦ m.0 ]) both in
     let none : has_node n.0 (s.lft ++ s.rgt) ≡ false = subst (λ (k : ℕ). has_node k (s.lft ++ s.rgt) ≡ false) node_is out.node in
     let here : has_node n.0 (all_items ring) ≡ true =
-    ap (has_node n.0) s.is ∙ has_node-split n.0 s.lft s.rgt s.x ∙ ap (λ (t : Bool). t || has_node n.0 (s.lft ++ s.rgt)) (same_test s.x.node n.0 node_is)
+    ap (has_node n.0) s.is ∙ has_node-split n.0 s.lft s.rgt s.x ∙ ap (λ (t : Bool). t || has_node n.0 (s.lft ++ s.rgt)) (eq-eqb s.x.node n.0 node_is)
     in
     record {
       lft = s.lft;

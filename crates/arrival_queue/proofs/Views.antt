@@ -1,18 +1,19 @@
 -- What callers see, with one item more, with one less, and with one moved.
-use Rattle.std.proofs.Common.{◌≡◌, ◌⊎◌, ℕ, ◌-◌, ◌<◌, List, [], ◌∷◌, ◌++◌, length, map, set, Bool, true, false, refl, sym, ◌∙◌, ap, subst, inl, inr, arith}
+use Rattle.std.proofs.Common.{◌≡◌, ℕ, ◌-◌, ◌<◌, List, [], ◌∷◌, ◌++◌, length, map, set, Bool, true, false, refl, sym, ◌∙◌, ap, subst, inl, inr, arith}
 use Rattle.std.specs.Prelude.{◌==◌, ◌&&◌, ◌||◌, not, if◌then◌else◌, Option, Some, None, nat_lt, pos}
-use Rattle.std.proofs.lemmas.Bool.{cases_eq, cases_lt}
+use Rattle.std.proofs.lemmas.Bool.{cases_eq, cases_lt, cases_Bool, eq-eqb, ne_eqb, lt-ltb, le-ltb}
 use Rattle.std.proofs.lemmas.List.{get_or-set_same, get_or-set_other}
 use Rattle.sched_base.specs.declared.UnitId.{UnitId}
 use Rattle.sched_base.specs.Units.{number_of}
+use Rattle.sched_base.proofs.Bools.{or_left, or_right}
 use Rattle.unit_ring.specs.declared.Node.{Node}
 use Rattle.unit_ring.specs.Lists as l
-use Rattle.unit_ring.specs.Lists.{Item, Lists, item, has_node}
+use Rattle.unit_ring.specs.Lists.{Item, item, has_node}
 use Rattle.arrival_queue.specs.declared.key.Key.{Key}
-use Rattle.arrival_queue.specs.Queues.{Queued, queued_unit, is_less, goes_before, put_first, has_unit, list_without, rank_in, closed_up}
+use Rattle.arrival_queue.specs.Queues.{Queued, queued_unit, is_less, goes_before, put_first, has_unit, rank_in, closed_up}
 use Rattle.arrival_queue.specs.Tables.{Apart, Tabled, has_number, key_at, arrival_at, rank, shown_unit, comes_before, first_node}
-use Rattle.arrival_queue.proofs.Splits.{same_test, other_test, not_same, or_left, or_right}
-use Rattle.arrival_queue.proofs.Ranks.{arrival-set, rank-out, rank-test, less_test, not_less_test, one_if}
+use Rattle.arrival_queue.proofs.Splits.{not_same}
+use Rattle.arrival_queue.proofs.Ranks.{arrival-set, rank-out, rank-test, one_if}
 
 key-set : (keys : List Key) (n m : ℕ) (key : Key) → (m == n) ≡ false → key_at (set keys n key) m ≡ key_at keys m
 key-set keys n m key other = get_or-set_other keys n m key (record { first = pos 0; second = 0 }) (not_same m n other)
@@ -93,13 +94,13 @@ closed_rank arrivals lft rgt old b =
     let test = rank-test arrivals lft rgt old b in
     elim (cases_lt a b) [
       | inl less ↦
-          let is_less_here : nat_lt (rank arrivals all a) (rank arrivals all b) ≡ true = test ∙ less_test a b less in
-          let one : one_if (nat_lt a b) ≡ 1 = ap one_if (less_test a b less) in
+          let is_less_here : nat_lt (rank arrivals all a) (rank arrivals all b) ≡ true = test ∙ lt-ltb a b less in
+          let one : one_if (nat_lt a b) ≡ 1 = ap one_if (lt-ltb a b less) in
           let count : rank arrivals (lft ++ rgt) b ≡ rank arrivals all b - 1 = omega (arith, more, one) in
           count ∙ sym (ap (λ (t : Bool). if t then rank arrivals all b - 1 else rank arrivals all b) is_less_here)
       | inr later ↦
-          let is_not : nat_lt (rank arrivals all a) (rank arrivals all b) ≡ false = test ∙ not_less_test a b later in
-          let zero_more : one_if (nat_lt a b) ≡ 0 = ap one_if (not_less_test a b later) in
+          let is_not : nat_lt (rank arrivals all a) (rank arrivals all b) ≡ false = test ∙ le-ltb a b later in
+          let zero_more : one_if (nat_lt a b) ≡ 0 = ap one_if (le-ltb a b later) in
           let count : rank arrivals (lft ++ rgt) b ≡ rank arrivals all b = omega (arith, more, zero_more) in
           count ∙ sym (ap (λ (t : Bool). if t then rank arrivals all b - 1 else rank arrivals all b) is_not)
     ]
@@ -121,7 +122,7 @@ pub rank_in-split : (u : UnitId) (keys : List Key) (arrivals : List ℕ) (all lf
     → number_of old.unit ≡ number_of u → has_number (number_of u) (lft ++ rgt) ≡ false
     → rank_in u (map (shown_unit keys arrivals all) (lft ++ old ∷ rgt)) ≡ rank arrivals all (arrival_at arrivals old.node)
 rank_in-split u keys arrivals all [] rgt old is none =
-    ap (λ (t : Bool). if t then rank arrivals all (arrival_at arrivals old.node) else rank_in u (map (shown_unit keys arrivals all) rgt)) (same_test (number_of old.unit) (number_of u) is)
+    ap (λ (t : Bool). if t then rank arrivals all (arrival_at arrivals old.node) else rank_in u (map (shown_unit keys arrivals all) rgt)) (eq-eqb (number_of old.unit) (number_of u) is)
 rank_in-split u keys arrivals all (x ∷ lft) rgt old is none =
     ap (λ (t : Bool). if t then rank arrivals all (arrival_at arrivals x.node) else rank_in u (map (shown_unit keys arrivals all) (lft ++ old ∷ rgt))) (or_left (number_of x.unit == number_of u) (has_number (number_of u) (lft ++ rgt)) none)
     ∙ rank_in-split u keys arrivals all lft rgt old is (or_right (number_of x.unit == number_of u) (has_number (number_of u) (lft ++ rgt)) none)
@@ -136,7 +137,7 @@ without_in-none n (x ∷ xs) none =
 pub without_in-split : (n : ℕ) (lft rgt : List Item) (old : Item) → old.node ≡ n → has_node n (lft ++ rgt) ≡ false
     → l.without_in n (lft ++ old ∷ rgt) ≡ lft ++ rgt
 without_in-split n [] rgt old is none =
-    ap (λ (t : Bool). if t then l.without_in n rgt else old ∷ l.without_in n rgt) (same_test old.node n is) ∙ without_in-none n rgt none
+    ap (λ (t : Bool). if t then l.without_in n rgt else old ∷ l.without_in n rgt) (eq-eqb old.node n is) ∙ without_in-none n rgt none
 without_in-split n (x ∷ lft) rgt old is none =
     ap (λ (t : Bool). if t then l.without_in n (lft ++ old ∷ rgt) else x ∷ l.without_in n (lft ++ old ∷ rgt)) (or_left (x.node == n) (has_node n (lft ++ rgt)) none)
     ∙ ap (λ (ys : List Item). x ∷ ys) (without_in-split n lft rgt old is (or_right (x.node == n) (has_node n (lft ++ rgt)) none))
@@ -152,18 +153,14 @@ pub record FoundNode (p : Item → Bool) (new : Item) (at : ℕ) (xs : List Item
   pub has : has_node at xs ≡ true
   pub put : l.put_before_in at new xs ≡ put_first p new xs
 
-test_cases : (t : Bool) → (t ≡ true) ⊎ (t ≡ false)
-test_cases true = inl refl
-test_cases false = inr refl
-
 pub found_node : (p : Item → Bool) (new : Item) (at : Node) (xs : List Item) → Apart xs → first_node p xs ≡ Some at → FoundNode p new at.0 xs
 found_node p new at [] apart e = absurd (cc)
 found_node p new at (x ∷ xs) apart e =
-    elim (test_cases (p x)) [
+    elim (cases_Bool (p x)) [
       | inl passes ↦
           let here : Some (record { 0 = x.node }) ≡ Some at = sym (ap (λ (t : Bool). if t then Some (record { 0 = x.node }) else first_node p xs) passes) ∙ e in
           let is : x.node ≡ at.0 = ap (λ (o : Option Node). elim o as (λ _. ℕ) [ None ↦ 0 | Some n ↦ n.0 ]) here in
-          let same = same_test x.node at.0 is in
+          let same = eq-eqb x.node at.0 is in
           record {
             has = ap (λ (t : Bool). t || has_node at.0 xs) same;
             put = ap (λ (t : Bool). if t then new ∷ x ∷ l.put_before_in at.0 new xs else x ∷ l.put_before_in at.0 new xs) same
@@ -172,7 +169,7 @@ found_node p new at (x ∷ xs) apart e =
           }
       | inr fails ↦
           let rest : FoundNode p new at.0 xs = found_node p new at xs apart.2 (sym (ap (λ (t : Bool). if t then Some (record { 0 = x.node }) else first_node p xs) fails) ∙ e) in
-          let other : (x.node == at.0) ≡ false = other_test x.node at.0 (λ (same : x.node ≡ at.0).
+          let other : (x.node == at.0) ≡ false = ne_eqb x.node at.0 (λ (same : x.node ≡ at.0).
           let none : has_node at.0 xs ≡ false = subst (λ (m : ℕ). has_node m xs ≡ false) same apart.0 in
           let has = rest.has in absurd (cc))
           in
@@ -187,7 +184,7 @@ found_node p new at (x ∷ xs) apart e =
 pub found_none : (p : Item → Bool) (new : Item) (xs : List Item) → first_node p xs ≡ None → xs ++ new ∷ [] ≡ put_first p new xs
 found_none p new [] e = refl
 found_none p new (x ∷ xs) e =
-    elim (test_cases (p x)) [
+    elim (cases_Bool (p x)) [
       | inl passes ↦
           let here : Some (record { 0 = x.node }) ≡ None = sym (ap (λ (t : Bool). if t then Some (record { 0 = x.node }) else first_node p xs) passes) ∙ e in
           absurd (cc)
@@ -206,7 +203,7 @@ pub record PutSplit (p : Item → Bool) (new : Item) (xs : List Item) : Type 0 w
 pub put_split : (p : Item → Bool) (new : Item) (xs : List Item) → PutSplit p new xs
 put_split p new [] = record { lft = []; rgt = []; was = refl; is = refl }
 put_split p new (x ∷ xs) =
-    elim (test_cases (p x)) [
+    elim (cases_Bool (p x)) [
       | inl passes ↦
           record { lft = []; rgt = x ∷ xs; was = refl; is = ap (λ (t : Bool). if t then new ∷ x ∷ xs else x ∷ put_first p new xs) passes }
       | inr fails ↦
@@ -233,6 +230,6 @@ unit_split k (x ∷ xs) e =
     elim (cases_eq (number_of x.unit) k) [
       | inl is ↦ record { lft = []; rgt = xs; x = x; is = refl; number = is }
       | inr other ↦
-          let rest = unit_split k xs (sym (ap (λ (t : Bool). t || has_number k xs) (other_test (number_of x.unit) k other)) ∙ e) in
+          let rest = unit_split k xs (sym (ap (λ (t : Bool). t || has_number k xs) (ne_eqb (number_of x.unit) k other)) ∙ e) in
           record { lft = x ∷ rest.lft; rgt = rest.rgt; x = rest.x; is = ap (λ (ys : List Item). x ∷ ys) rest.is; number = rest.number }
     ]

@@ -1,13 +1,13 @@
 -- A walk along a list, from its first node to the next.
 use Rattle.std.proofs.Common.{◌≡◌, ℕ, zero, suc, ◌+◌, ◌<◌, List, [], ◌∷◌, ◌++◌, length, drop, Bool, true, false, refl, sym, ◌∙◌, ap, subst, inl, inr, arith}
-use Rattle.std.proofs.lemmas.Bool.{cases_eq}
+use Rattle.std.proofs.lemmas.Bool.{cases_eq, eq-eqb, ne_eqb}
 use Rattle.std.specs.Prelude.{◌==◌, ◌||◌, if◌then◌else◌, Option, Some, None}
 use Rattle.unit_ring.specs.declared.Node.{Node}
 use Rattle.unit_ring.specs.Lists.{Item, Lists, has_node, is_live, first_in, next_in, next_of, node, unit_in, unit_of}
-use Rattle.arrival_queue.specs.Tables.{Apart, Tabled, all_items, has_number, first_node, first_unit}
+use Rattle.arrival_queue.specs.Tables.{Apart, Tabled, all_items, has_number, first_unit}
 use Rattle.sched_base.specs.declared.UnitId.{UnitId}
 use Rattle.sched_base.specs.Units.{number_of}
-use Rattle.arrival_queue.proofs.Splits.{same_test, other_test, or_left, or_right}
+use Rattle.sched_base.proofs.Bools.{or_left, or_right}
 
 pub has_left : (m : ℕ) (xs ys : List Item) → has_node m (xs ++ ys) ≡ false → has_node m xs ≡ false
 has_left m [] ys none = refl
@@ -51,7 +51,7 @@ pub at_node : (xs : List Item) (k : ℕ) (n : Node) → Apart xs → first_in (d
 at_node [] zero n apart e = absurd (none_first n e)
 at_node [] (suc k) n apart e = absurd (none_first n e)
 at_node (x ∷ xs) zero n apart e =
-    let same = same_test x.node x.node refl in
+    let same = eq-eqb x.node x.node refl in
     record {
       x = x;
       rest = xs;
@@ -67,7 +67,7 @@ at_node (y ∷ xs) (suc k) n apart e =
     let there = at_node xs k n apart.2 e in
     let more : suc k ≡ k + 1 = omega arith in
     let other : (y.node == there.x.node) ≡ false =
-    other_test y.node there.x.node (λ (same : y.node ≡ there.x.node).
+    ne_eqb y.node there.x.node (λ (same : y.node ≡ there.x.node).
     let no : has_node there.x.node xs ≡ false = subst (λ (m : ℕ). has_node m xs ≡ false) same apart.0 in
     let yes = there.has in absurd (cc))
     in
@@ -99,7 +99,7 @@ Tabled-has places next m arrivals [] t has = absurd (cc)
 Tabled-has places next m arrivals (x ∷ xs) t has =
     elim (cases_eq x.node m) [
       | inl is ↦ omega (arith, is, t.0)
-      | inr other ↦ Tabled-has places next m arrivals xs t.3 (sym (ap (λ (test : Bool). test || has_node m xs) (other_test x.node m other)) ∙ has)
+      | inr other ↦ Tabled-has places next m arrivals xs t.3 (sym (ap (λ (test : Bool). test || has_node m xs) (ne_eqb x.node m other)) ∙ has)
     ]
 
 pub Tabled-left : (places next : ℕ) (arrivals : List ℕ) (xs ys : List Item) → Tabled places next arrivals (xs ++ ys) → Tabled places next arrivals xs

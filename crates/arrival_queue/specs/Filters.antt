@@ -1,16 +1,13 @@
 -- Which units a search passes over.
-use Rattle.std.specs.Prelude.{ℕ, ◌/◌, ◌%◌, ◌^◌, ◌==◌, Bool, true, if◌then◌else◌, List, [], ◌∷◌, Option, Some, None}
+use Rattle.std.specs.Prelude.{Bool, true, if◌then◌else◌, List, [], ◌∷◌, Option, Some, None}
 use Rattle.sched_base.specs.declared.Cores.{Cores}
 use Rattle.sched_base.specs.declared.ResId.{ResId}
 use Rattle.sched_base.specs.declared.UnitId.{UnitId}
 use Rattle.sched_base.specs.CoreSets.{is_allowed}
+pub use Rattle.sched_base.specs.CoreSets.{has_core as has_domain}
 use Rattle.unit_places.specs.Masks.{mask_of}
 use Rattle.arrival_queue.specs.declared.walks.Allowed.{Allowed}
 use Rattle.arrival_queue.specs.Queues.{Queued}
-
--- whether the domain is in the set of domains
-abbrev pub has_domain : ℕ → ℕ → Bool
-has_domain domains d = (domains / 2 ^ d) % 2 == 1
 
 -- whether the domain is in the set, where there is one
 abbrev pub in_domains : Option Allowed → UnitId → Bool

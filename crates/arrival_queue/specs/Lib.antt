@@ -2,4 +2,4 @@ pub mod Queues
 pub mod Order
 pub mod Filters
 pub mod Tables
-pub mod Whole
+pub mod WholeTables

@@ -32,7 +32,7 @@ impl Model for ArrivalQueue {
 
     ghost Value = { Queues };
 
-    ghost use Rattle.arrival_queue.specs.Whole.{seen_queues, IsWhole};
+    ghost use Rattle.arrival_queue.specs.WholeTables.{seen_queues, IsWhole};
 
     ghost view = { λ a. seen_queues a.tables };
 

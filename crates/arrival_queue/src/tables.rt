@@ -4,9 +4,9 @@ ghost use Rattle.std.specs.Prelude.{◌≡◌, ℕ, ◌+◌, ◌<◌, ◌≤◌,
 ghost use Rattle.std.specs.Option.{ForSome};
 ghost use Rattle.sched_base.specs.Units.{number_of};
 ghost use Rattle.unit_places.specs.Places.{has_place as placed, index_of as place_index};
-ghost use Rattle.unit_ring.specs.Lists.{item, no_unit, has_node, is_live, lists_without as ring_without, after_give, after_take as ring_taken, after_append as ring_appended, empty_lists, room_of};
+ghost use Rattle.unit_ring.specs.Lists.{item, no_unit, has_node, is_live, lists_without as ring_without, after_give, after_take, after_append, empty_lists, room_of};
 ghost use Rattle.arrival_queue.specs.Tables.{all_items, arrival_at, count_below, comes_before, first_node, has_number, node_of, PassesOn, put_ring, ring_with, Tabled};
-ghost use Rattle.arrival_queue.specs.Whole.{IsTables, seen_queues};
+ghost use Rattle.arrival_queue.specs.WholeTables.{IsTables, seen_queues};
 
 use crate::key::{Key, is_less};
 use sched_base::{NoMemory, Steps, UnitId};
@@ -200,8 +200,8 @@ pub fn append<L: Ledger>(
     ensures tables { IsTables tables.new }
     ensures fresh { has_node result.0 (all_items tables.old.ring) ≡ false }
     ensures number { result.0 < length tables.old.arrivals.items }
-    ensures ring { tables.new.ring ≡ ring_taken
-        (ring_appended tables.old.ring 1 (item result.0 u)) }
+    ensures ring { tables.new.ring ≡ after_take
+        (after_append tables.old.ring 1 (item result.0 u)) }
     ensures keys { tables.new.keys.items ≡ slice_set tables.old.keys.items result.0 key }
     ensures arrivals { tables.new.arrivals.items
         ≡ slice_set tables.old.arrivals.items result.0 arrival }

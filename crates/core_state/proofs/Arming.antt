@@ -9,15 +9,15 @@ use Rattle.sched_base.specs.declared.Moment.{Moment}
 use Rattle.sched_model.specs.declared.action.Action.TheVariants.{Moved, Block, Slice, Arrive, Decide, Leave, Save}
 use Rattle.sched_model.specs.declared.state.Resource.{Resource}
 use Rattle.sched_model.specs.declared.state.Processor.{Processor}
-use Rattle.sched_model.specs.Checked.{IsGranularity}
+use Rattle.sched_model.specs.CheckedMachine.{IsGranularity}
 use Rattle.sched_model.specs.Places.{at_place}
 use Rattle.sched_model.specs.Pool.{is_held}
 use Rattle.due_heap.specs.Dues.{due_of}
-use Rattle.pool_laws.specs.Ready.{moment_if, later_moment, end_of, end_where, slice_end, may_move, gathers}
+use Rattle.pool_laws.specs.ReadyMoments.{moment_if, later_moment, end_of, end_where, slice_end, may_move, gathers}
 use Rattle.core_state.specs.declared.dues.Dues.{Dues}
 use Rattle.core_state.specs.Seen.{Seen, processor_among}
 use Rattle.core_state.specs.Ends.{may_decide, may_save, parts, ready_among, sibling_among}
-use Rattle.core_state.specs.Kept.{AgreesBut, AreArmedBut, AreArmed, with_core_ends, with_processor_ends}
+use Rattle.core_state.specs.CoreState.{AgreesBut, AreArmedBut, AreArmed, with_core_ends, with_processor_ends}
 
 -- a number armed with its moment has it, and each other number has what it had
 armed_at : (from i : ℕ) (dues : List (Option Moment)) (ends : ℕ → Option Moment) → length dues ≡ 64 → (64 ≤ from → ends from ≡ None)

@@ -12,22 +12,21 @@ use Rattle.sched_model.specs.declared.action.Action.TheVariants.{Moved, Block, S
 use Rattle.sched_model.specs.declared.state.Processor.{Processor}
 use Rattle.sched_model.specs.declared.state.Resource.{Resource}
 use Rattle.sched_model.specs.declared.state.Stage.TheVariants.{Open, Decided}
-use Rattle.sched_model.specs.Checked.{IsGranularity}
+use Rattle.sched_model.specs.CheckedMachine.{IsGranularity}
 use Rattle.sched_model.specs.Places.{at_place, change_at, change_item, clear_at, first_place}
 use Rattle.sched_model.specs.Pool.{cores_from, is_held, open_if_left, same_choice}
-use Rattle.sched_model.proofs.PlaceLemmas.{at_place-change_at_other}
-use Rattle.plain_credit2.proofs.Items.{at_place-change_at}
-use Rattle.sched_laws.specs.Each.{EachPlace}
+use Rattle.sched_model.proofs.PlaceLemmas.{at_place-change_at_other, cores_from-change_at}
+use Rattle.sched_laws.specs.EachPlace.{EachPlace}
 use Rattle.due_heap.specs.Dues.{due_of}
-use Rattle.pool_laws.specs.Ready.{later_moment as later, end_of, end_where, slice_end, may_move, gathers}
+use Rattle.pool_laws.specs.ReadyMoments.{later_moment as later, end_of, end_where, slice_end, may_move, gathers}
 use Rattle.core_state.specs.declared.dues.Dues.{Dues}
 use Rattle.core_state.specs.Seen.{Seen, chosen_core, processor_among, with_sibling, without_works}
 use Rattle.core_state.specs.Ends.{may_decide, may_save, parts, ready_among}
-use Rattle.core_state.specs.Kept.{AgreesBut, AreArmed, AreArmedBut, AreEmpty, IsKept, MayRearm}
+use Rattle.core_state.specs.CoreState.{AgreesBut, AreArmed, AreArmedBut, AreEmpty, IsKept, MayRearm}
 use Rattle.core_state.proofs.Arming.{block_past, but, other_core, processor_same, sibling_past, sibling_same, few_places}
 use Rattle.sched_laws.proofs.SiblingsLaw.{some_processor}
-use Rattle.sched_laws.proofs.HomeCores.{home_change_at}
 use Rattle.sched_laws.proofs.Lists.{length_change_item}
+use Rattle.sched_laws.proofs.EachPlace.{at_place-change_at, at_place-replicate}
 
 -- what is seen of these cores and works
 abbrev pub seen_of : ℕ → List (Option Resource) → List (Option Moment) → Seen
@@ -243,7 +242,7 @@ placed_kept {g} {r} {home} {home'} {first} {first'} {cores} {next} {now} {works}
 pub changed_kept : (r : ℕ) (f : Resource → Resource) {g home : ℕ} {first : Option ℕ} {cores now : List (Option Resource)} {works after so : List (Option Moment)} {dues dues' : Dues} → IsKept (seen_of g cores works) home first dues → IsChange g r cores (change_at r f cores) works after → now ≡ change_at r f cores → so ≡ after
     → AreArmed (seen_of g now so) dues' → IsKept (seen_of g now so) home first dues'
 changed_kept r f {cores = cores} kept change is is_so armed = placed_kept kept change is is_so
-    (kept.is_home ∙ sym (home_change_at 0 r f cores) ∙ ap (cores_from 0) (sym is)) (kept.is_first ∙ sym (first_change 0 r f cores) ∙ ap (first_place 0 (λ (c : Resource). true)) (sym is)) armed
+    (kept.is_home ∙ sym (cores_from-change_at 0 r f cores) ∙ ap (cores_from 0) (sym is)) (kept.is_first ∙ sym (first_change 0 r f cores) ∙ ap (first_place 0 (λ (c : Resource). true)) (sym is)) armed
 
 pub some_has : (g : ℕ) (core : Resource) → length core.processors ≡ g → (c : Resource) → Some core ≡ Some c → length c.processors ≡ g
 some_has g core has c is = let same : core ≡ c = cc in ap (λ (x : Resource). length x.processors) (sym same) ∙ has
@@ -254,12 +253,6 @@ none_has g c is = absurd (cc)
 -- what is seen after it
 pub seen_is : {g : ℕ} {now next : List (Option Resource)} {so after : List (Option Moment)} → now ≡ next → so ≡ after → seen_of g now so ≡ seen_of g next after
 seen_is {g} {now} {next} {so} {after} is is_so = ap (λ (xs : List (Option Resource)). seen_of g xs so) is ∙ ap (λ (ws : List (Option Moment)). seen_of g next ws) is_so
-
--- nothing is there at first
-none_there : {X : Type 0} (n i : ℕ) → at_place {X = X} (replicate n None) i ≡ None
-none_there zero i = refl
-none_there (suc n) zero = refl
-none_there (suc n) (suc i) = none_there n i
 
 no_cores : (r n : ℕ) → cores_from r (replicate n None) ≡ 0
 no_cores r zero = refl
@@ -273,7 +266,7 @@ agrees : (dues : List (Option Moment)) (ends : ℕ → Option Moment) → dues �
 agrees dues ends is none = record {
   ids = ap length is;
   below = λ i h. absurd (omega (arith, h));
-  above = λ i h. ap (λ (ds : List (Option Moment)). due_of ds i) is ∙ none_there 64 i ∙ sym (none i);
+  above = λ i h. ap (λ (ds : List (Option Moment)). due_of ds i) is ∙ at_place-replicate 64 i ∙ sym (none i);
 }
 
 pub vacant_kept : (g n : ℕ) (cores : List (Option Resource)) (works : List (Option Moment)) (dues : Dues) → IsGranularity g → n * g ≤ 64 → cores ≡ replicate n None → works ≡ replicate 64 None → AreEmpty dues
@@ -284,20 +277,20 @@ vacant_kept g n cores works dues granularity few is is_works empty =
         granularity = granularity;
         places = subst (λ (k : ℕ). k * g ≤ 64) (sym (length-replicate n None)) few;
         works = refl;
-        cores = λ i c there. let none = none_there {X = Resource} n i in absurd (cc);
+        cores = λ i c there. let none = at_place-replicate {X = Resource} n i in absurd (cc);
       };
       is_home = sym (no_cores 0 n);
       is_first = sym (no_first 0 n);
       armed =
           let seen : Seen = seen_of g (replicate n None) (replicate 64 None) in
           record {
-            moves = agrees dues.moves (λ i. ready_among seen (Moved (core_number i))) empty.moves (λ i. ap (λ (o : Option Resource). end_where may_move o) (none_there n i));
-            slices = agrees dues.slices (λ i. ready_among seen (Slice (core_number i))) empty.slices (λ i. ap slice_end (none_there n i));
-            decides = agrees dues.decides (λ i. ready_among seen (Decide (core_number i))) empty.decides (λ i. ap (λ (o : Option Resource). end_where may_decide o) (none_there n i));
-            saves = agrees dues.saves (λ i. ready_among seen (Save (core_number i))) empty.saves (λ i. ap (λ (o : Option Resource). end_where may_save o) (none_there n i));
-            blocks = agrees dues.blocks (λ i. ready_among seen (Block (processor i))) empty.blocks (λ i. block_past seen i (none_there n (i / g)));
-            arrives = agrees dues.arrives (λ i. ready_among seen (Arrive (processor i))) empty.arrives (λ i. sibling_past g i gathers (λ q. not (is_held q)) (replicate n None) (none_there n (i / g)));
-            leaves = agrees dues.leaves (λ i. ready_among seen (Leave (processor i))) empty.leaves (λ i. sibling_past g i parts is_held (replicate n None) (none_there n (i / g)));
+            moves = agrees dues.moves (λ i. ready_among seen (Moved (core_number i))) empty.moves (λ i. ap (λ (o : Option Resource). end_where may_move o) (at_place-replicate n i));
+            slices = agrees dues.slices (λ i. ready_among seen (Slice (core_number i))) empty.slices (λ i. ap slice_end (at_place-replicate n i));
+            decides = agrees dues.decides (λ i. ready_among seen (Decide (core_number i))) empty.decides (λ i. ap (λ (o : Option Resource). end_where may_decide o) (at_place-replicate n i));
+            saves = agrees dues.saves (λ i. ready_among seen (Save (core_number i))) empty.saves (λ i. ap (λ (o : Option Resource). end_where may_save o) (at_place-replicate n i));
+            blocks = agrees dues.blocks (λ i. ready_among seen (Block (processor i))) empty.blocks (λ i. block_past seen i (at_place-replicate n (i / g)));
+            arrives = agrees dues.arrives (λ i. ready_among seen (Arrive (processor i))) empty.arrives (λ i. sibling_past g i gathers (λ q. not (is_held q)) (replicate n None) (at_place-replicate n (i / g)));
+            leaves = agrees dues.leaves (λ i. ready_among seen (Leave (processor i))) empty.leaves (λ i. sibling_past g i parts is_held (replicate n None) (at_place-replicate n (i / g)));
           };
     })
 

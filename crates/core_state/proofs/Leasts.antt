@@ -12,7 +12,7 @@ use Rattle.core_state.specs.declared.dues.Dues.{Dues}
 use Rattle.core_state.specs.Seen.{Seen}
 use Rattle.core_state.specs.Ends.{ready_within, ready_among}
 use Rattle.core_state.specs.Firsts.{IsFirstCome, IsNotLater, IsLeast, earlier_moment}
-use Rattle.core_state.specs.Kept.{AreArmed, AgreesBut}
+use Rattle.core_state.specs.CoreState.{AreArmed, AgreesBut}
 
 -- the first number of a set that has come is that of the events of its kind
 first_alike : (dues ends : ℕ → Option Moment) (t : ℕ) (o : Option ℕ) → ((i : ℕ) → dues i ≡ ends i) → IsFirstCome dues t o → IsFirstCome ends t o

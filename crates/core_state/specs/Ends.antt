@@ -8,7 +8,7 @@ use Rattle.sched_model.specs.declared.state.Processor.{Processor}
 use Rattle.sched_model.specs.declared.state.Resource.{Resource}
 use Rattle.sched_model.specs.Places.{at_place, first_place}
 use Rattle.sched_model.specs.Pool.{is_held, is_open}
-use Rattle.pool_laws.specs.Ready.{moment_if, later_moment, end_of, end_where, slice_end, may_move, gathers}
+use Rattle.pool_laws.specs.ReadyMoments.{moment_if, later_moment, end_of, end_where, slice_end, may_move, gathers}
 use Rattle.core_state.specs.Seen.{Seen, processor_among}
 
 -- the end of the stall of the pool's lowest processor, where these are the cores

@@ -1,4 +1,4 @@
 pub mod Ends
 pub mod Firsts
-pub mod Kept
+pub mod CoreState
 pub mod Seen

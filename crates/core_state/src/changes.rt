@@ -1,9 +1,7 @@
 //! Changes of one core among those of a pool.
 
-ghost use Rattle.std.specs.Prelude.{◌≡◌, ◌+◌, ◌/◌, ◌%◌, ◌^◌, ◌<◌, min};
-ghost use Rattle.sched_base.specs.Numbers.{moment};
+ghost use Rattle.std.specs.Prelude.{◌≡◌, ◌+◌, ◌/◌, ◌%◌, ◌^◌, ◌<◌};
 ghost use Rattle.sched_model.specs.Places.{change_at, change_item, clear_at};
-ghost use Rattle.sched_model.specs.Pool.{due_within};
 ghost use Rattle.core_state.specs.Seen.{chosen_core, leaving_core, pending_by, stalled_to, with_sibling, without_works as without_works_spec};
 
 use plain_units::units::is_same_choice;
@@ -64,33 +62,6 @@ pub fn choose_at(
         && let Some(c) = place
     {
         choose(t, unit, due, c);
-    }
-}
-
-/// The due, or the moment at which the budget is used up, if that is earlier.
-fn sooner(t: Moment, budget: u64, due: Moment) -> Moment
-    ensures { result ≡ moment (min (t.0 + budget) due.0) }
-{
-    Moment(t.0.saturating_add(budget).min(due.0))
-}
-
-/// The core asks again after the budget at the latest, where it is to ask again at all.
-fn bring_due(t: Moment, budget: u64, c: &mut Resource)
-    ensures { c.new ≡ due_within t.0 budget c.old }
-{
-    if let Some(due) = c.due {
-        c.due = Some(sooner(t, budget, due));
-    }
-}
-
-/// The same of the core at this place.
-pub fn bring_due_at(r: ResId, t: Moment, budget: u64, cores: &mut Row<Option<Resource>>)
-    ensures { cores.new ≡ change_at r.0 (due_within t.0 budget) cores.old }
-{
-    if let Some(place) = cores.get_mut(r.0 as usize)
-        && let Some(c) = place
-    {
-        bring_due(t, budget, c);
     }
 }
 

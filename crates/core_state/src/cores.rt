@@ -5,9 +5,7 @@ ghost use Rattle.std.specs.Option.{option_copied};
 ghost use Rattle.sched_model.specs.Places.{first_place, is_unit};
 ghost use Rattle.core_state.specs.Seen.{stall_until as stall_until_spec};
 
-use crate::changes::{
-    bring_due_at, choose_at, clear_works, set_leaving, set_pending_by, set_stall_end,
-};
+use crate::changes::{choose_at, clear_works, set_leaving, set_pending_by, set_stall_end};
 use crate::dues::{
     Dues, IDS, advance, earlier, empty_dues, first_due_core, first_due_processor, least_of, rearm,
 };
@@ -17,6 +15,7 @@ use plain_pool::cores::{core_at, core_of, first_core, has_domain, home_cores, is
 use plain_pool::doing::{change_doing, set_pending};
 use plain_pool::events::{open_if_left, take_saved};
 use plain_pool::leaving::take_place;
+use plain_pool::replenishing::bring_due_at;
 use sched_base::{DomId, Moment, NoMemory, ProcId, ResId, UnitId, VcpuId};
 use sched_model::row::{Row, empty_places};
 use sched_model::state::{Doing, Processor, Resource};
@@ -44,11 +43,17 @@ impl Model for CoreState {
 
     ghost Value = { Seen };
 
-    ghost use Rattle.core_state.specs.Kept.{IsKept};
+    ghost use Rattle.core_state.specs.CoreState.{IsKept};
 
-    ghost view = { λ a. record { resources = a.cores; works = a.works; granularity = a.granularity } };
+    ghost view = { λ a. record {
+      resources = a.cores;
+      works = a.works;
+      granularity = a.granularity;
+    } };
 
-    ghost invariant = { λ a. IsKept (record { resources = a.cores; works = a.works; granularity = a.granularity }) a.home a.first a.dues };
+    ghost invariant = { λ a. IsKept
+        (record { resources = a.cores; works = a.works; granularity = a.granularity }) a.home
+        a.first a.dues };
 }
 
 /// The number of the first core, where there are few places.
@@ -89,14 +94,14 @@ impl CoreState {
     ghost use Rattle.std.specs.Option.{option_copied};
     ghost use Rattle.sched_model.specs.declared.action.Action.TheVariants.{Moved, Block, Slice, Arrive, Decide, Leave, Save};
     ghost use Rattle.sched_model.specs.declared.state.Doing.TheVariants as doing;
-    ghost use Rattle.sched_model.specs.Checked.{IsGranularity};
+    ghost use Rattle.sched_model.specs.CheckedMachine.{IsGranularity};
     ghost use Rattle.sched_model.specs.declared.state.Resource.{Resource as ResourceRecord};
     ghost use Rattle.sched_model.specs.Places.{at_place, clear_at, first_place, is_unit, numbered_items, put_at};
     ghost use Rattle.sched_model.specs.Pool.{cores_from, is_of_domain, with_doing, due_within, open_if_left as open_if_left_spec, saved_core, saving_among, set_pending as set_pending_spec};
     ghost use Rattle.core_state.specs.Seen.{changed_core, changed_processor, chosen_core, leaving_core, pending_by, processor_among, stall_until, stalled_to, vacant_cores, with_work, without_works};
     ghost use Rattle.core_state.specs.Ends.{lowest_among, ready_among, ready_within};
     ghost use Rattle.core_state.specs.Firsts.{IsFirstCore, IsFirstProcessor, IsLeast};
-    ghost use Rattle.core_state.specs.Kept.{KeepsCores};
+    ghost use Rattle.core_state.specs.CoreState.{KeepsCores};
 
     /// No core yet, with so many places for cores of 1, 2 or 4 processors each, at most 64 processors in all.
     pub fn room(alloc: Global, granularity: u8, places: u8) -> Result<CoreState, NoMemory>
@@ -286,13 +291,14 @@ impl CoreState {
         ensures { self.new ≡ changed_core r.0 (due_within t.0 budget) self.old }
     {
         let g = self.granularity;
-        bring_due_at(r, t, budget, &mut self.cores);
+        bring_due_at(r.0 as usize, t, budget, &mut self.cores);
         rearm(&mut self.dues, g, r, &self.cores, &self.works);
     }
 
     /// The processor does this, and the work of the vCPU that it runs is done then.
     fn set_doing(&mut self, p: ProcId, doing: Doing, work: Option<Moment>)
-        ensures { self.new ≡ with_work p.0 work (changed_processor p.0 (with_doing doing) self.old) }
+        ensures { self.new
+            ≡ with_work p.0 work (changed_processor p.0 (with_doing doing) self.old) }
     {
         let g = self.granularity;
         let r = p.0 / g;
@@ -303,7 +309,8 @@ impl CoreState {
 
     /// The processor is held: it waits for its siblings.
     pub fn hold(&mut self, p: ProcId)
-        ensures { self.new ≡ with_work p.0 None (changed_processor p.0 (with_doing doing.Held) self.old) }
+        ensures { self.new
+            ≡ with_work p.0 None (changed_processor p.0 (with_doing doing.Held) self.old) }
     {
         self.set_doing(p, Doing::Held, None);
     }
@@ -318,7 +325,8 @@ impl CoreState {
 
     /// The processor idles.
     pub fn idle(&mut self, p: ProcId)
-        ensures { self.new ≡ with_work p.0 None (changed_processor p.0 (with_doing doing.Idle) self.old) }
+        ensures { self.new
+            ≡ with_work p.0 None (changed_processor p.0 (with_doing doing.Idle) self.old) }
     {
         self.set_doing(p, Doing::Idle, None);
     }

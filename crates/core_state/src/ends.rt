@@ -5,7 +5,7 @@ ghost use Rattle.std.specs.Option.{option_copied};
 ghost use Rattle.sched_model.specs.declared.state.Processor.{Processor as ProcessorRecord};
 ghost use Rattle.sched_model.specs.Places.{at_place, first_place};
 ghost use Rattle.sched_model.specs.Pool.{is_held as is_held_spec};
-ghost use Rattle.pool_laws.specs.Ready.{moment_if as when_spec, later_moment as later_spec, end_of, end_where, first_end as first_end_spec, may_move as may_move_spec, gathers as gathers_spec, slice_end as slice_end_spec};
+ghost use Rattle.pool_laws.specs.ReadyMoments.{moment_if as when_spec, later_moment as later_spec, end_of, end_where, first_end as first_end_spec, may_move as may_move_spec, gathers as gathers_spec, slice_end as slice_end_spec};
 ghost use Rattle.core_state.specs.Seen.{processor_among, sibling_of as sibling_of_spec};
 ghost use Rattle.core_state.specs.Ends.{may_decide as may_decide_spec, may_save as may_save_spec, parts as parts_spec, sibling_end, lowest_among};
 

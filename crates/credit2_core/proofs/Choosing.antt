@@ -10,13 +10,13 @@ use Rattle.sched_model.specs.declared.state.Scheduler.{Scheduler}
 use Rattle.sched_model.specs.declared.state.Credit2Records.{Credit2Records}
 use Rattle.sched_model.specs.declared.state.Records.TheVariants.{Credit2Pool}
 use Rattle.sched_model.specs.Places.{same_unit, without_unit}
-use Rattle.sched_model.specs.Eligible.{eligible_units}
+use Rattle.sched_model.specs.EligibleUnits.{eligible_units}
 use Rattle.sched_model.specs.Credit2.{greatest_unit, credit_of, choice, own_candidate, is_within_limit, best_other}
-use Rattle.sched_laws.proofs.Bools.{either}
-use Rattle.plain_credit2.specs.Waiting.{scheduler_of}
+use Rattle.plain_credit2.specs.WaitingUnits.{scheduler_of}
 use Rattle.plain_credit2.proofs.Items.{filter-both}
 use Rattle.credit2_core.specs.Choice.{may_take, best_of, credit_or_0}
 use Rattle.std.proofs.Math.Bool.{or_assoc, and_comm, and-false}
+use Rattle.std.proofs.lemmas.Bool.{cases_Bool}
 
 or-false : (b : Bool) → b ≡ (b || false)
 or-false true = refl
@@ -52,13 +52,13 @@ above_greater records own best u =
     ] refl
   where
     greater : (a b c : ℤ) → int_lt b c ≡ true → int_lt a c ≡ (int_lt a b || int_lt a c)
-    greater a b c is = elim (either (int_lt a b)) [
+    greater a b c is = elim (cases_Bool (int_lt a b)) [
       | inl low ↦ (let e : int_lt a c ≡ true = grind (arith, ints, is, low) in rw (low, e) refl)
       | inr high ↦ rw high refl
     ]
 
     no_greater : (a b c : ℤ) → int_lt b c ≡ false → int_lt a b ≡ (int_lt a b || int_lt a c)
-    no_greater a b c is = elim (either (int_lt a b)) [
+    no_greater a b c is = elim (cases_Bool (int_lt a b)) [
       | inl low ↦ rw low refl
       | inr high ↦ (let e : int_lt a c ≡ false = grind (arith, ints, is, high) in rw (high, e) refl)
     ]

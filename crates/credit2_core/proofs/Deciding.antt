@@ -10,18 +10,18 @@ use Rattle.sched_model.specs.declared.state.Records.TheVariants.{Credit2Pool}
 use Rattle.sched_model.specs.Places.{has_unit}
 use Rattle.sched_model.specs.Credit2.{burn_all, burn_cur, reset, switch_off, choice, decide, domain_has_budget}
 use Rattle.sched_model.specs.Policy.{decision_by}
-use Rattle.plain_credit2.specs.Waiting.{scheduler_of}
+use Rattle.plain_credit2.specs.WaitingUnits.{scheduler_of}
 use Rattle.sched_laws.proofs.EachPlace.{length_change_each}
 use Rattle.sched_laws.proofs.Choices.{decision_has, at_unit}
-use Rattle.sched_laws.specs.Known.{IfUnit}
+use Rattle.sched_laws.specs.PoolFacts.{IfUnit}
 use Rattle.sched_ranges.proofs.Decided.{choice_pays, unit_rec}
 use Rattle.sched_ops.specs.Conditions.{IsOwnOf}
 use Rattle.runq.specs.Queue.{Queue}
 use Rattle.queue_laws.specs.Arrivals.{arrivals}
-use Rattle.credit2_core.specs.declared.held.Held.{Held}
+use Rattle.credit2_core.specs.declared.state.Credit2State.{Credit2State}
 use Rattle.credit2_core.specs.Choice.{records_after_run}
 use Rattle.credit2_core.specs.Places.{has_joined, count_at}
-use Rattle.credit2_core.specs.Held.{IsHeld, IsLineOf, IsSameRoom, scheduler_in}
+use Rattle.credit2_core.specs.Credit2State.{IsSound, IsLineOf, IsSameRoom, scheduler_in}
 use Rattle.credit2_core.proofs.Lists.{each_has}
 use Rattle.credit2_core.proofs.Members.{count_there, waits_off}
 use Rattle.credit2_core.proofs.Ranges.{Few, range_later, range_idle, range_ran}
@@ -33,20 +33,20 @@ length_reset t zero records = refl
 length_reset t (suc k) records = length_change_each 0 _ (burn_all t records).domains ∙ length_change_each 0 _ records.domains
 
 -- the core idles
-pub held_idle : (h : Held) (ask : Ask) → IsHeld h → h.latest ≤ ask.at.0 → IsLineOf h.affinity (switch_off ask.cur (burn_cur ask.cur ask.at.0 h.records)) h.queue.units → IsHeld (record h { records = switch_off ask.cur (burn_cur ask.cur ask.at.0 h.records); latest = ask.at.0 })
-held_idle h ask held past line =
+pub sound_idle : (h : Credit2State) (ask : Ask) → IsSound h → h.latest ≤ ask.at.0 → IsLineOf h.affinity (switch_off ask.cur (burn_cur ask.cur ask.at.0 h.records)) h.queue.units → IsSound (record h { records = switch_off ask.cur (burn_cur ask.cur ask.at.0 h.records); latest = ask.at.0 })
+sound_idle h ask sound past line =
     let burned : Credit2Records = burn_cur ask.cur ask.at.0 h.records in
     let one = alike_burn_cur ask.cur ask.at.0 h.records in
     let two = alike_switch_off ask.cur burned in
     record {
-      range = range_idle ask (scheduler_in h) h.records (range_later h.latest ask.at.0 h.records past held.range);
-      counts = held.counts ∙ sym (two.counts ∙ one.counts);
+      range = range_idle ask (scheduler_in h) h.records (range_later h.latest ask.at.0 h.records past sound.range);
+      counts = sound.counts ∙ sym (two.counts ∙ one.counts);
       line = line;
-      masks = held.masks;
-      free = held.free;
-      refills = held.refills ∙ sym (two.refills ∙ one.refills);
-      room = held.room;
-      small = held.small;
+      masks = sound.masks;
+      free = sound.free;
+      refills = sound.refills ∙ sym (two.refills ∙ one.refills);
+      room = sound.room;
+      small = sound.small;
     }
 
 -- the choice is the core's own unit, or one that waits
@@ -59,28 +59,28 @@ choice_from ask scheduler records u own is =
     subst (λ (o : Option UnitId). IfUnit P (decide ask scheduler burned o).unit) is chosen
 
 -- the core runs the chosen unit
-pub held_ran : (h : Held) (ask : Ask) (u : UnitId) (k : ℕ) (q : Queue) → IsHeld h → h.latest ≤ ask.at.0 → IsOwnOf (scheduler_in h) ask.cur → choice ask (scheduler_of (arrivals h.queue.units) h.affinity (burn_cur ask.cur ask.at.0 h.records)) (burn_cur ask.cur ask.at.0 h.records) ≡ Some u
-    → IsLineOf h.affinity (records_after_run ask.cur ask.at.0 k u (burn_cur ask.cur ask.at.0 h.records)) q.units → IsSameRoom h.queue q → IsHeld (record h { records = records_after_run ask.cur ask.at.0 k u (burn_cur ask.cur ask.at.0 h.records); queue = q; latest = ask.at.0 })
-held_ran h ask u k q held past own is line room =
+pub sound_ran : (h : Credit2State) (ask : Ask) (u : UnitId) (k : ℕ) (q : Queue) → IsSound h → h.latest ≤ ask.at.0 → IsOwnOf (scheduler_in h) ask.cur → choice ask (scheduler_of (arrivals h.queue.units) h.affinity (burn_cur ask.cur ask.at.0 h.records)) (burn_cur ask.cur ask.at.0 h.records) ≡ Some u
+    → IsLineOf h.affinity (records_after_run ask.cur ask.at.0 k u (burn_cur ask.cur ask.at.0 h.records)) q.units → IsSameRoom h.queue q → IsSound (record h { records = records_after_run ask.cur ask.at.0 k u (burn_cur ask.cur ask.at.0 h.records); queue = q; latest = ask.at.0 })
+sound_ran h ask u k q sound past own is line room =
     let burned : Credit2Records = burn_cur ask.cur ask.at.0 h.records in
     let chosen : choice ask (scheduler_in h) burned ≡ Some u = is in
     let from : (ask.cur ≡ Some u) ⊎ (has_unit (arrivals h.queue.units) u ≡ true) = choice_from ask (scheduler_in h) h.records u refl chosen in
     let pays : domain_has_budget burned u ≡ true = subst (IfUnit (λ w. domain_has_budget burned w ≡ true)) chosen (choice_pays ask.at.0 Few ask (scheduler_in h) burned) in
-    let joined : has_joined h.affinity u ≡ true = elim from [ inl cur ↦ (own u cur).member | inr waits ↦ at_unit (λ w. has_joined h.affinity w ≡ true) u (arrivals h.queue.units) waits held.line.joined ] in
-    let off : (ask.cur ≡ Some u) ⊎ ((y : Credit2Unit) → unit_rec h.records u ≡ Some y → y.burned ≡ None) = elim from [ inl cur ↦ inl cur | inr waits ↦ inr (waits_off (arrivals h.queue.units) h.records u held.line.off waits) ] in
+    let joined : has_joined h.affinity u ≡ true = elim from [ inl cur ↦ (own u cur).member | inr waits ↦ at_unit (λ w. has_joined h.affinity w ≡ true) u (arrivals h.queue.units) waits sound.line.joined ] in
+    let off : (ask.cur ≡ Some u) ⊎ ((y : Credit2Unit) → unit_rec h.records u ≡ Some y → y.burned ≡ None) = elim from [ inl cur ↦ inl cur | inr waits ↦ inr (waits_off (arrivals h.queue.units) h.records u sound.line.off waits) ] in
     let one = alike_burn_cur ask.cur ask.at.0 h.records in
     let two = alike_ran ask.cur ask.at.0 k u burned in
-    let all = held.room in
+    let all = sound.room in
     let same = room.room in
     record {
       range = range_ran ask (scheduler_in h) h.records u k pays
-          (λ x at. (let low = ltb-true u.n (count_at h.affinity u.dom.0) joined in let e = count_there h.affinity h.records.domains u.dom.0 x held.counts at in omega (arith, low, e)))
-          off (range_later h.latest ask.at.0 h.records past held.range);
-      counts = held.counts ∙ sym (two.counts ∙ one.counts);
+          (λ x at. (let low = ltb-true u.n (count_at h.affinity u.dom.0) joined in let e = count_there h.affinity h.records.domains u.dom.0 x sound.counts at in omega (arith, low, e)))
+          off (range_later h.latest ask.at.0 h.records past sound.range);
+      counts = sound.counts ∙ sym (two.counts ∙ one.counts);
       line = line;
-      masks = held.masks;
-      free = held.free;
-      refills = held.refills ∙ sym (two.refills ∙ one.refills);
+      masks = sound.masks;
+      free = sound.free;
+      refills = sound.refills ∙ sym (two.refills ∙ one.refills);
       room = omega (arith, all, same);
-      small = held.small;
+      small = sound.small;
     }

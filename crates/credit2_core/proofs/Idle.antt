@@ -9,13 +9,12 @@ use Rattle.sched_model.specs.declared.state.Credit2Domain.{Credit2Domain}
 use Rattle.sched_model.specs.declared.state.Credit2Records.{Credit2Records}
 use Rattle.sched_model.specs.Places.{at_place, change_at, change_item}
 use Rattle.sched_model.specs.Credit2.{max_weight, burn_unit, burn_units, change_domain, give_back, burn_cur, take_budget, set_running, switch_off, refill_domain, refilled_pool, set_weight, set_cap, set_domain, credit_of}
-use Rattle.sched_laws.proofs.EachPlace.{by_option, by_cond}
+use Rattle.sched_laws.proofs.EachPlace.{by_option, by_cond, at_place-change_at}
 use Rattle.sched_laws.proofs.Sound.{change_at-twice}
 use Rattle.sched_ranges.proofs.Budget.{get_map}
 use Rattle.sched_ranges.proofs.Decided.{unit_rec}
 use Rattle.sched_ranges.specs.Budgets.{AllRunOnly}
 use Rattle.plain_credit2.specs.Bounds.{own_charged, credit_at}
-use Rattle.plain_credit2.proofs.Items.{at_place-change_at}
 use Rattle.plain_credit2.proofs.Steps.{burn_cur-own}
 use Rattle.arrival_queue.specs.Queues.{Queued}
 use Rattle.queue_laws.specs.Arrivals.{arrivals}

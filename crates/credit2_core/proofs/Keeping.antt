@@ -16,15 +16,15 @@ use Rattle.sched_model.specs.declared.state.Credit2Domain.{Credit2Domain}
 use Rattle.sched_model.specs.declared.state.Credit2Records.{Credit2Records}
 use Rattle.sched_model.specs.declared.state.Records.TheVariants.{Credit2Pool}
 use Rattle.sched_model.specs.Places.{at_place, put_at, clear_at, change_at, has_unit}
-use Rattle.sched_model.specs.Checked.{IsWithin}
-use Rattle.sched_model.specs.Eligible.{cores_of}
+use Rattle.sched_model.specs.CheckedMachine.{IsWithin}
+use Rattle.sched_model.specs.EligibleUnits.{cores_of}
 use Rattle.sched_model.specs.State.{has_come}
 use Rattle.sched_model.specs.Policy.{next_refill, pinned_cores as pinned}
 use Rattle.sched_model.specs.Credit2.{max_weight, credit_of, refill_domain, refilled_pool, set_weight, set_cap, set_domain, change_domain, fresh_domain}
-use Rattle.sched_laws.proofs.Bools.{clash, not_true, is_same, either}
+use Rattle.sched_base.proofs.Bools.{clash}
 use Rattle.sched_laws.proofs.Choices.{at_unit}
-use Rattle.sched_laws.proofs.EachPlace.{at_place-put_at, at_place-put_at_other, at_place-clear_at_other, at_place-clear_at, EachAt-put_at, EachAt-clear_at, EachPlace-empty, by_option, at_place-change_at_other}
-use Rattle.sched_laws.proofs.Lists.{length_change_item}
+use Rattle.sched_laws.proofs.EachPlace.{at_place-put_at, at_place-put_at_other, at_place-clear_at_other, at_place-clear_at, EachAt-put_at, EachAt-clear_at, EachPlace-empty, by_option, at_place-change_at}
+use Rattle.sched_laws.proofs.Lists.{length_change_item, if_some}
 use Rattle.sched_ranges.specs.Budgets.{BudgetFits, Nobody}
 use Rattle.sched_ranges.specs.Fits.{Credit2DomainFits}
 use Rattle.sched_ranges.proofs.Decided.{unit_rec, r_set_domain}
@@ -32,26 +32,26 @@ use Rattle.sched_ranges.specs.Budgets.{AllRunOnly, RunsOnly}
 use Rattle.sched_ops.specs.Conditions.{is_on, is_vacant, IsAway, HasNoneBusy, Keeps, IsWeight, IsCap}
 use Rattle.sched_ops.specs.Seen.{Seen, with_scheduler, restarted_scheduler}
 use Rattle.sched_model.specs.declared.config.PoolParams.TheVariants as pool_params
-use Rattle.plain_credit2.specs.Waiting.{scheduler_of}
-use Rattle.plain_credit2.proofs.Items.{at_place-change_at}
-use Rattle.arrival_queue.proofs.Ranks.{less_test}
+use Rattle.sched_model.proofs.PlaceLemmas.{at_place-change_at_other}
+use Rattle.plain_credit2.specs.WaitingUnits.{scheduler_of}
 use Rattle.arrival_queue.specs.Queues.{Queued}
 use Rattle.runq.specs.Queue.{after_insert, empty_queue as empty}
 use Rattle.queue_laws.specs.Arrivals.{arrivals}
-use Rattle.credit2_core.specs.declared.held.Held.{Held}
+use Rattle.queue_laws.proofs.Arrivals.{length-arrivals}
+use Rattle.credit2_core.specs.declared.state.Credit2State.{Credit2State}
 use Rattle.credit2_core.specs.Keys.{key_in}
 use Rattle.credit2_core.specs.Places.{set_counts, unit_counts, count_all, count_at, has_joined, refill_of, refills_of}
 use Rattle.credit2_core.specs.Domains.{masked_cores, refreshed_cores}
-use Rattle.credit2_core.specs.Held.{InRange, IsFree, IsHeld, IsLineOf, AreMasks, scheduler_in, seen_in}
-use Rattle.credit2_core.proofs.Lists.{each_has, queued_have, length-arrivals, length-placed}
+use Rattle.credit2_core.specs.Credit2State.{InRange, IsFree, IsSound, IsLineOf, AreMasks, scheduler_in, seen_in}
+use Rattle.credit2_core.proofs.Lists.{each_has, queued_have, length-placed}
 use Rattle.credit2_core.proofs.Waiting.{IsOrdered}
 use Rattle.credit2_core.proofs.Rooms.{no_more_wait, count_all-put, count_all-clear}
 use Rattle.credit2_core.proofs.Members.{IsElsewhere, joined_small, record_of, waits_off}
 use Rattle.credit2_core.proofs.Idle.{IsOff, each_keeps, idle_set_domain}
-use Rattle.credit2_core.proofs.Ranges.{if_some, range_later, range_refilled, range_set_domain, range_limit, range_joined, range_parted}
+use Rattle.credit2_core.proofs.Ranges.{range_later, range_refilled, range_set_domain, range_limit, range_joined, range_parted}
 use Rattle.credit2_core.proofs.Same.{map-set, map-change_at, counts_refilled, counts_set_domain, refills_changed, refills_written, refills_put}
 use Rattle.credit2_core.proofs.Lines.{line_records, line_refilled, line_pushed}
-use Rattle.std.proofs.lemmas.Bool.{ltb-true}
+use Rattle.std.proofs.lemmas.Bool.{ltb-true, lt-ltb, eq-eqb, cases_Bool, not-true}
 
 -- whether a unit is on, and whether its record says that it runs
 off_on : (records : Credit2Records) (u : UnitId) → IsOff records u → is_on (Credit2Pool records) u ≡ false
@@ -71,66 +71,66 @@ on_off records u off y is = (
     by_burned None e = refl
     by_burned (Some b) e = absurd cc
 
-pub keeps_line : (h : Held) → IsHeld h → Keeps (seen_in h)
-keeps_line h held = record {
-  apart = held.line.apart;
-  members = λ u there. at_unit (λ w. has_joined h.affinity w ≡ true) u (arrivals h.queue.units) there held.line.joined;
-  off = λ u there. off_on h.records u (waits_off (arrivals h.queue.units) h.records u held.line.off there);
+pub keeps_line : (h : Credit2State) → IsSound h → Keeps (seen_in h)
+keeps_line h sound = record {
+  apart = sound.line.apart;
+  members = λ u there. at_unit (λ w. has_joined h.affinity w ≡ true) u (arrivals h.queue.units) there sound.line.joined;
+  off = λ u there. off_on h.records u (waits_off (arrivals h.queue.units) h.records u sound.line.off there);
 }
 
 -- one more waits
-pub held_pushed : (h : Held) (u : UnitId) → IsHeld h → IsAway (scheduler_in h) u → IsOrdered h.queue.units → IsHeld (record h { queue = after_insert h.queue u (neg_ℤ (credit_of h.records u)) }) × (0 < h.queue.spare)
-held_pushed h u held away ordered =
+pub sound_pushed : (h : Credit2State) (u : UnitId) → IsSound h → IsAway (scheduler_in h) u → IsOrdered h.queue.units → IsSound (record h { queue = after_insert h.queue u (neg_ℤ (credit_of h.records u)) }) × (0 < h.queue.spare)
+sound_pushed h u sound away ordered =
     let es : List Queued = h.queue.units in
-    let small = joined_small h.latest h.records h.affinity u held.range held.counts away.member in
-    let line = line_pushed h.affinity h.records u es ordered (omega (arith, small)) away.waits_not away.member (on_off h.records u away.off) held.line in
+    let small = joined_small h.latest h.records h.affinity u sound.range sound.counts away.member in
+    let line = line_pushed h.affinity h.records u es ordered (omega (arith, small)) away.waits_not away.member (on_off h.records u away.off) sound.line in
     let grown = length-placed (record { unit = u; key = key_in h.records u; rank = length es }) es in
     let few = no_more_wait h.affinity (arrivals (after_insert h.queue u (neg_ℤ (credit_of h.records u))).units) line.apart line.joined in
     let all = length-arrivals (after_insert h.queue u (neg_ℤ (credit_of h.records u))).units in
-    let room = held.room in
+    let room = sound.room in
     let spare : 0 < h.queue.spare = omega (arith, grown, few, all, room) in (
       record {
-        range = held.range;
-        counts = held.counts;
+        range = sound.range;
+        counts = sound.counts;
         line = line;
-        masks = held.masks;
-        free = held.free;
-        refills = held.refills;
+        masks = sound.masks;
+        free = sound.free;
+        refills = sound.refills;
         room = omega (arith, room, grown, spare);
-        small = held.small;
+        small = sound.small;
       },
       spare,
     )
 
 -- the domain is refilled
-pub held_refilled : (h : Held) (d t : ℕ) → IsHeld h → h.latest ≤ t → has_come t (next_refill (Credit2Pool h.records) d) ≡ true
-    → IsHeld (record h { records = refilled_pool t d h.records; refills = slice_set h.refills d (refill_of (at_place (refilled_pool t d h.records).domains d)); latest = t })
-held_refilled h d t held past come = record {
-  range = range_refilled t d h.records come (range_later h.latest t h.records past held.range);
-  counts = held.counts ∙ sym (counts_refilled t d h.records);
-  line = line_refilled h.affinity t d h.records h.queue.units held.line;
-  masks = held.masks;
-  free = held.free;
-  refills = ap (λ (rs : List (Option Moment)). slice_set rs d (refill_of (at_place (refilled_pool t d h.records).domains d))) held.refills ∙ refills_written d (refill_domain (max_weight h.records) t) h.records.domains;
-  room = held.room;
-  small = held.small;
+pub sound_refilled : (h : Credit2State) (d t : ℕ) → IsSound h → h.latest ≤ t → has_come t (next_refill (Credit2Pool h.records) d) ≡ true
+    → IsSound (record h { records = refilled_pool t d h.records; refills = slice_set h.refills d (refill_of (at_place (refilled_pool t d h.records).domains d)); latest = t })
+sound_refilled h d t sound past come = record {
+  range = range_refilled t d h.records come (range_later h.latest t h.records past sound.range);
+  counts = sound.counts ∙ sym (counts_refilled t d h.records);
+  line = line_refilled h.affinity t d h.records h.queue.units sound.line;
+  masks = sound.masks;
+  free = sound.free;
+  refills = ap (λ (rs : List (Option Moment)). slice_set rs d (refill_of (at_place (refilled_pool t d h.records).domains d))) sound.refills ∙ refills_written d (refill_domain (max_weight h.records) t) h.records.domains;
+  room = sound.room;
+  small = sound.small;
 }
 
 -- the domain has a new weight or cap
-pub held_set_domain : (h : Held) (d t : ℕ) (weight percent : Option ℕ) → IsHeld h → h.latest ≤ t → ForSome weight IsWeight → ForSome percent IsCap
-    → IsHeld (record h { records = set_domain t d weight percent h.records; refills = slice_set h.refills d (refill_of (at_place (set_domain t d weight percent h.records).domains d)); latest = t })
-held_set_domain h d t weight percent held past weighs caps =
+pub sound_set_domain : (h : Credit2State) (d t : ℕ) (weight percent : Option ℕ) → IsSound h → h.latest ≤ t → ForSome weight IsWeight → ForSome percent IsCap
+    → IsSound (record h { records = set_domain t d weight percent h.records; refills = slice_set h.refills d (refill_of (at_place (set_domain t d weight percent h.records).domains d)); latest = t })
+sound_set_domain h d t weight percent sound past weighs caps =
     let weighted : Credit2Records = change_domain d (set_weight weight) h.records in
     let last : List (Option Credit2Domain) = (set_domain t d weight percent h.records).domains in
     record {
-      range = range_set_domain t d weight percent h.records (if_some weight (IsWithin 1 65535) weighs) (if_some percent (λ (c : ℕ). c ≤ 6400) caps) (range_later h.latest t h.records past held.range);
-      counts = held.counts ∙ sym (counts_set_domain t d weight percent h.records);
-      line = line_records h.affinity h.records (set_domain t d weight percent h.records) h.queue.units (idle_set_domain t d weight percent h.records) (r_set_domain t (IsElsewhere (arrivals h.queue.units)) d weight percent h.records held.line.off) held.line;
-      masks = held.masks;
-      free = held.free;
-      refills = ap (λ (rs : List (Option Moment)). slice_set rs d (refill_of (at_place last d))) (held.refills ∙ sym (refills_changed d (set_weight weight) h.records (weight_refill weight))) ∙ refills_written d (set_cap (max_weight weighted) t percent) weighted.domains;
-      room = held.room;
-      small = held.small;
+      range = range_set_domain t d weight percent h.records (if_some weight (IsWithin 1 65535) weighs) (if_some percent (λ (c : ℕ). c ≤ 6400) caps) (range_later h.latest t h.records past sound.range);
+      counts = sound.counts ∙ sym (counts_set_domain t d weight percent h.records);
+      line = line_records h.affinity h.records (set_domain t d weight percent h.records) h.queue.units (idle_set_domain t d weight percent h.records) (r_set_domain t (IsElsewhere (arrivals h.queue.units)) d weight percent h.records sound.line.off) sound.line;
+      masks = sound.masks;
+      free = sound.free;
+      refills = ap (λ (rs : List (Option Moment)). slice_set rs d (refill_of (at_place last d))) (sound.refills ∙ sym (refills_changed d (set_weight weight) h.records (weight_refill weight))) ∙ refills_written d (set_cap (max_weight weighted) t percent) weighted.domains;
+      room = sound.room;
+      small = sound.small;
     }
   where
     weight_refill : (weight : Option ℕ) (x : Credit2Domain) → (set_weight weight x).refill ≡ x.refill
@@ -138,16 +138,16 @@ held_set_domain h d t weight percent held past weighs caps =
     weight_refill (Some w) x = refl
 
 -- the pool has a new rate limit, and perhaps another last reset
-pub held_limit : (h : Held) (limit t : ℕ) (last : Option ℕ) → IsHeld h → h.latest ≤ t → limit ≤ 500000 → IsHeld (record h { records = record h.records { limit = limit; last_reset = last }; latest = t })
-held_limit h limit t last held past low = record {
-  range = range_limit t limit last h.records low (range_later h.latest t h.records past held.range);
-  counts = held.counts;
-  line = record { apart = held.line.apart; joined = held.line.joined; indices = held.line.indices; keys = held.line.keys; off = held.line.off };
-  masks = held.masks;
-  free = held.free;
-  refills = held.refills;
-  room = held.room;
-  small = held.small;
+pub sound_limit : (h : Credit2State) (limit t : ℕ) (last : Option ℕ) → IsSound h → h.latest ≤ t → limit ≤ 500000 → IsSound (record h { records = record h.records { limit = limit; last_reset = last }; latest = t })
+sound_limit h limit t last sound past low = record {
+  range = range_limit t limit last h.records low (range_later h.latest t h.records past sound.range);
+  counts = sound.counts;
+  line = record { apart = sound.line.apart; joined = sound.line.joined; indices = sound.line.indices; keys = sound.line.keys; off = sound.line.off };
+  masks = sound.masks;
+  free = sound.free;
+  refills = sound.refills;
+  room = sound.room;
+  small = sound.small;
 }
 
 -- tables of as many units have as many units
@@ -187,7 +187,7 @@ masks_refreshed affinity next masks now d same written low are u joined =
   where
     elsewhere : (o : Option (List Cores)) → u.dom.0 ≢ d → elim o as (λ _. Cores) [ None ↦ mask_of masks u | Some sets ↦ masked_cores masks d sets (length sets) u ] ≡ mask_of masks u
     elsewhere None other = refl
-    elsewhere (Some sets) other = (let e : (u.dom.0 == d) ≡ false = elim (either (u.dom.0 == d)) [ inl is ↦ absurd (other (grind (arith, is))) | inr is ↦ is ] in rw e refl)
+    elsewhere (Some sets) other = (let e : (u.dom.0 == d) ≡ false = elim (cases_Bool (u.dom.0 == d)) [ inl is ↦ absurd (other (grind (arith, is))) | inr is ↦ is ] in rw e refl)
 
     by_sets : (o : Option (List Cores)) → at_place next u.dom.0 ≡ o → has_joined next u ≡ true → u.dom.0 ≡ d → elim o as (λ _. Cores) [ None ↦ mask_of masks u | Some sets ↦ masked_cores masks d sets (length sets) u ] ≡ core_set (cores_of next u)
     by_sets None is joined here = absurd (
@@ -195,7 +195,7 @@ masks_refreshed affinity next masks now d same written low are u joined =
         let z : count_at next u.dom.0 ≡ 0 = ap (λ (p : Option (List Cores)). elim p as (λ _. ℕ) [ None ↦ 0 | Some sets ↦ length sets ]) is in
         omega (arith, l, z))
     by_sets (Some sets) is joined here =
-        let a : (u.dom.0 == d) ≡ true = is_same u.dom.0 d here in
+        let a : (u.dom.0 == d) ≡ true = eq-eqb u.dom.0 d here in
         let b : nat_lt u.n (length sets) ≡ true = subst (λ (p : Option (List Cores)). nat_lt u.n (elim p as (λ _. ℕ) [ None ↦ 0 | Some s ↦ length s ]) ≡ true) is joined in
         let left : masked_cores masks d sets (length sets) u ≡ slice_index_or sets u.n (core_set 0) = rw (a, b) refl in
         left ∙ ap (λ (p : Option (List Cores)). core_set (elim p as (λ _. ℕ) [ None ↦ 0 | Some s ↦ (slice_index_or s u.n (core_set 0)).0 ])) (sym is)
@@ -250,33 +250,33 @@ free_pinned true affinity d unit cores free = record { all = λ is. (free_elsewh
         let same = length_pinned unit cores sets in
         let low : n < length sets = omega (arith, l, z, same) in
         let u : UnitId = record { dom = domain d; n = n } in
-        let here : nat_lt n (count_at affinity d) ≡ true = subst (λ (o : Option (List Cores)). nat_lt n (elim o as (λ _. ℕ) [ None ↦ 0 | Some s ↦ length s ]) ≡ true) (sym at) (less_test n (length sets) low) in
+        let here : nat_lt n (count_at affinity d) ≡ true = subst (λ (o : Option (List Cores)). nat_lt n (elim o as (λ _. ℕ) [ None ↦ 0 | Some s ↦ length s ]) ≡ true) (sym at) (lt-ltb n (length sets) low) in
         let was : (slice_index_or sets n (core_set 0)).0 ≡ 2 ^ 64 - 1 = sym (ap (λ (o : Option (List Cores)). elim o as (λ _. ℕ) [ None ↦ 0 | Some s ↦ (slice_index_or s n (core_set 0)).0 ]) at) ∙ free.all refl u here in
         ap (λ (o : Option (List Cores)). elim o as (λ _. ℕ) [ None ↦ 0 | Some s ↦ (slice_index_or s n (core_set 0)).0 ]) there ∙ pinned_all unit cores sets n all low was
 
-pub held_pinned : (h : Held) (d t : ℕ) (unit : Option ℕ) (cores : Cores) (now : List Cores) → IsHeld h → h.latest ≤ t → ((u : UnitId) → u.n < 256 → mask_of now u ≡ refreshed_cores h.masks (change_at d (pinned unit cores) h.affinity) d u)
-    → IsHeld (record h { affinity = change_at d (pinned unit cores) h.affinity; masks = now; latest = t; unpinned = h.unpinned && cores.0 == 2 ^ 64 - 1 })
-held_pinned h d t unit cores now held past written =
+pub sound_pinned : (h : Credit2State) (d t : ℕ) (unit : Option ℕ) (cores : Cores) (now : List Cores) → IsSound h → h.latest ≤ t → ((u : UnitId) → u.n < 256 → mask_of now u ≡ refreshed_cores h.masks (change_at d (pinned unit cores) h.affinity) d u)
+    → IsSound (record h { affinity = change_at d (pinned unit cores) h.affinity; masks = now; latest = t; unpinned = h.unpinned && cores.0 == 2 ^ 64 - 1 })
+sound_pinned h d t unit cores now sound past written =
     let next : List (Option (List Cores)) = change_at d (pinned unit cores) h.affinity in
     let same : set_counts next ≡ set_counts h.affinity = map-change_at (λ (o : Option (List Cores)). option_map length o) d (pinned unit cores) h.affinity (λ x at. ap (λ k. Some k) (length_pinned unit cores x)) in
     let all = count_all_same next h.affinity same in
     let stays : (u : UnitId) → has_joined h.affinity u ≡ true → has_joined next u ≡ true = λ u joined. subst (λ k. nat_lt u.n k ≡ true) (sym (count_same next h.affinity u.dom.0 same)) joined in
     let back : (u : UnitId) → has_joined next u ≡ true → has_joined h.affinity u ≡ true = λ u joined. subst (λ k. nat_lt u.n k ≡ true) (count_same next h.affinity u.dom.0 same) joined in
-    let room = held.room in
-    let small = held.small in
+    let room = sound.room in
+    let small = sound.small in
     record {
-      range = range_later h.latest t h.records past held.range;
-      counts = same ∙ held.counts;
+      range = range_later h.latest t h.records past sound.range;
+      counts = same ∙ sound.counts;
       line = record {
-        apart = held.line.apart;
-        joined = each_has (arrivals h.queue.units) (λ u. has_joined next u ≡ true) (λ u there. stays u (at_unit (λ w. has_joined h.affinity w ≡ true) u (arrivals h.queue.units) there held.line.joined));
-        indices = held.line.indices;
-        keys = held.line.keys;
-        off = held.line.off;
+        apart = sound.line.apart;
+        joined = each_has (arrivals h.queue.units) (λ u. has_joined next u ≡ true) (λ u there. stays u (at_unit (λ w. has_joined h.affinity w ≡ true) u (arrivals h.queue.units) there sound.line.joined));
+        indices = sound.line.indices;
+        keys = sound.line.keys;
+        off = sound.line.off;
       };
-      masks = masks_refreshed h.affinity next h.masks now d (λ e other. at_place-change_at_other d e (pinned unit cores) h.affinity other) written (λ u joined. (let l = joined_small h.latest h.records h.affinity u held.range held.counts (back u joined) in omega (arith, l))) held.masks;
-      free = free_pinned h.unpinned h.affinity d unit cores held.free;
-      refills = held.refills;
+      masks = masks_refreshed h.affinity next h.masks now d (λ e other. at_place-change_at_other d e (pinned unit cores) h.affinity other) written (λ u joined. (let l = joined_small h.latest h.records h.affinity u sound.range sound.counts (back u joined) in omega (arith, l))) sound.masks;
+      free = free_pinned h.unpinned h.affinity d unit cores sound.free;
+      refills = sound.refills;
       room = omega (arith, room, all);
       small = omega (arith, small, all);
     }
@@ -295,26 +295,26 @@ line_elsewhere affinity next records after d es sets places other only line = re
 }
 
 -- the domain parts
-pub held_parted : (h : Held) (d k : ℕ) → IsHeld h → HasNoneBusy (scheduler_in h) d → k ≡ count_at h.affinity d
-    → IsHeld (record h { records = record h.records { domains = clear_at d h.records.domains }; affinity = clear_at d h.affinity; refills = slice_set h.refills d (refill_of (at_place (clear_at d h.records.domains) d)); spare = h.spare + k })
-held_parted h d k held idle is =
+pub sound_parted : (h : Credit2State) (d k : ℕ) → IsSound h → HasNoneBusy (scheduler_in h) d → k ≡ count_at h.affinity d
+    → IsSound (record h { records = record h.records { domains = clear_at d h.records.domains }; affinity = clear_at d h.affinity; refills = slice_set h.refills d (refill_of (at_place (clear_at d h.records.domains) d)); spare = h.spare + k })
+sound_parted h d k sound idle is =
     let after : Credit2Records = record h.records { domains = clear_at d h.records.domains } in
     let all = count_all-clear d h.affinity in
-    let room = held.room in
-    let small = held.small in
+    let room = sound.room in
+    let small = sound.small in
     record {
-      range = range_parted h.latest d h.records held.range;
-      counts = map-set (λ (o : Option (List Cores)). option_map length o) d None h.affinity ∙ ap (λ (ks : List (Option ℕ)). slice_set ks d None) held.counts ∙ sym (map-set (λ (o : Option Credit2Domain). option_map (λ (x : Credit2Domain). length x.units) o) d None h.records.domains);
+      range = range_parted h.latest d h.records sound.range;
+      counts = map-set (λ (o : Option (List Cores)). option_map length o) d None h.affinity ∙ ap (λ (ks : List (Option ℕ)). slice_set ks d None) sound.counts ∙ sym (map-set (λ (o : Option Credit2Domain). option_map (λ (x : Credit2Domain). length x.units) o) d None h.records.domains);
       line = line_elsewhere h.affinity (clear_at d h.affinity) h.records after d h.queue.units (λ e other. at_place-clear_at_other d e h.affinity other) (λ e other. at_place-clear_at_other d e h.records.domains other)
-          (λ u there same. clash (has_unit (arrivals h.queue.units) u) there (idle.waiting u same)) (EachAt-clear_at (λ e (x : Credit2Domain). RunsOnly (IsElsewhere (arrivals h.queue.units) e) x.units) d h.records.domains held.line.off) held.line;
+          (λ u there same. clash (has_unit (arrivals h.queue.units) u) there (idle.waiting u same)) (EachAt-clear_at (λ e (x : Credit2Domain). RunsOnly (IsElsewhere (arrivals h.queue.units) e) x.units) d h.records.domains sound.line.off) sound.line;
       masks = λ u joined. (
           let other : u.dom.0 ≢ d = λ e. (let l = ltb-true u.n (count_at (clear_at d h.affinity) u.dom.0) joined in let z : count_at (clear_at d h.affinity) u.dom.0 ≡ 0 = ap (λ (p : Option (List Cores)). elim p as (λ _. ℕ) [ None ↦ 0 | Some s ↦ length s ]) (subst (λ j. at_place (clear_at d h.affinity) j ≡ None) (sym e) (at_place-clear_at d h.affinity)) in omega (arith, l, z)) in
           let place : at_place (clear_at d h.affinity) u.dom.0 ≡ at_place h.affinity u.dom.0 = at_place-clear_at_other d u.dom.0 h.affinity other in
-          held.masks u (subst (λ (o : Option (List Cores)). nat_lt u.n (elim o as (λ _. ℕ) [ None ↦ 0 | Some s ↦ length s ]) ≡ true) place joined)
+          sound.masks u (subst (λ (o : Option (List Cores)). nat_lt u.n (elim o as (λ _. ℕ) [ None ↦ 0 | Some s ↦ length s ]) ≡ true) place joined)
           ∙ ap (λ (o : Option (List Cores)). core_set (elim o as (λ _. ℕ) [ None ↦ 0 | Some s ↦ (slice_index_or s u.n (core_set 0)).0 ])) (sym place));
       free = free_elsewhere h.unpinned h.affinity (clear_at d h.affinity) d (λ e other. at_place-clear_at_other d e h.affinity other)
-          (λ n joined. absurd (let l = ltb-true n (count_at (clear_at d h.affinity) d) joined in let z : count_at (clear_at d h.affinity) d ≡ 0 = ap (λ (p : Option (List Cores)). elim p as (λ _. ℕ) [ None ↦ 0 | Some s ↦ length s ]) (at_place-clear_at d h.affinity) in omega (arith, l, z))) held.free;
-      refills = ap (λ (rs : List (Option Moment)). slice_set rs d (refill_of (at_place (clear_at d h.records.domains) d))) held.refills ∙ refills_put d None h.records.domains;
+          (λ n joined. absurd (let l = ltb-true n (count_at (clear_at d h.affinity) d) joined in let z : count_at (clear_at d h.affinity) d ≡ 0 = ap (λ (p : Option (List Cores)). elim p as (λ _. ℕ) [ None ↦ 0 | Some s ↦ length s ]) (at_place-clear_at d h.affinity) in omega (arith, l, z))) sound.free;
+      refills = ap (λ (rs : List (Option Moment)). slice_set rs d (refill_of (at_place (clear_at d h.records.domains) d))) sound.refills ∙ refills_put d None h.records.domains;
       room = omega (arith, room, all, is);
       small = omega (arith, small, all, is);
     }
@@ -325,9 +325,9 @@ replicate_get zero n x y at = absurd cc
 replicate_get (suc k) zero x y at = cc
 replicate_get (suc k) (suc n) x y at = replicate_get k n x y at
 
-pub held_joined : (h : Held) (d weight percent count t : ℕ) (sets now : List Cores) → IsHeld h → d < length h.affinity → at_place h.affinity d ≡ None → count ≤ 32 → count ≤ h.spare → IsWithin 1 65535 weight → percent ≤ 6400 → h.latest ≤ t
+pub sound_joined : (h : Credit2State) (d weight percent count t : ℕ) (sets now : List Cores) → IsSound h → d < length h.affinity → at_place h.affinity d ≡ None → count ≤ 32 → count ≤ h.spare → IsWithin 1 65535 weight → percent ≤ 6400 → h.latest ≤ t
     → sets ≡ replicate count (core_set (2 ^ 64 - 1)) → ((u : UnitId) → u.n < 256 → mask_of now u ≡ refreshed_cores h.masks (put_at d sets h.affinity) d u)
-    → IsHeld (record {
+    → IsSound (record {
       records = record h.records { domains = put_at d (fresh_domain weight percent count t) h.records.domains };
       affinity = put_at d sets h.affinity;
       queue = h.queue;
@@ -337,20 +337,20 @@ pub held_joined : (h : Held) (d weight percent count t : ℕ) (sets now : List C
       latest = t;
       unpinned = h.unpinned;
     })
-held_joined h d weight percent count t sets now held inside absent few fits within low past each written =
+sound_joined h d weight percent count t sets now sound inside absent few fits within low past each written =
     let long : length sets ≡ count = ap length each ∙ length-replicate count (core_set (2 ^ 64 - 1)) in
     let fresh : Credit2Domain = fresh_domain weight percent count t in
     let new : Credit2Unit = record { credit = pos start_credit; residual = 0; held = pos 0; burned = None } in
     let after : Credit2Records = record h.records { domains = put_at d fresh h.records.domains } in
     let next : List (Option (List Cores)) = put_at d sets h.affinity in
     let all = count_all-put d sets h.affinity inside absent in
-    let room = held.room in
-    let small = held.small in
-    let range : InRange t after = range_joined t d weight percent count h.records within low few (range_later h.latest t h.records past held.range) in
+    let room = sound.room in
+    let small = sound.small in
+    let range : InRange t after = range_joined t d weight percent count h.records within low few (range_later h.latest t h.records past sound.range) in
     let counts : set_counts next ≡ unit_counts after.domains =
     map-set (λ (o : Option (List Cores)). option_map length o) d (Some sets) h.affinity
     ∙ ap (λ k. slice_set (set_counts h.affinity) d (Some k)) (long ∙ sym (length-replicate count new))
-    ∙ ap (λ (ks : List (Option ℕ)). slice_set ks d (Some (length fresh.units))) held.counts
+    ∙ ap (λ (ks : List (Option ℕ)). slice_set ks d (Some (length fresh.units))) sound.counts
     ∙ sym (map-set (λ (o : Option Credit2Domain). option_map (λ (x : Credit2Domain). length x.units) o) d (Some fresh) h.records.domains)
     in
     record {
@@ -358,20 +358,20 @@ held_joined h d weight percent count t sets now held inside absent few fits with
       counts = counts;
       line = line_elsewhere h.affinity next h.records after d h.queue.units (λ e other. at_place-put_at_other d e sets h.affinity other) (λ e other. at_place-put_at_other d e fresh h.records.domains other)
           (λ u there same. (
-          let joined = at_unit (λ w. has_joined h.affinity w ≡ true) u (arrivals h.queue.units) there held.line.joined in
+          let joined = at_unit (λ w. has_joined h.affinity w ≡ true) u (arrivals h.queue.units) there sound.line.joined in
           let l = ltb-true u.n (count_at h.affinity u.dom.0) joined in
           let z : count_at h.affinity u.dom.0 ≡ 0 = ap (λ (p : Option (List Cores)). elim p as (λ _. ℕ) [ None ↦ 0 | Some s ↦ length s ]) (subst (λ j. at_place h.affinity j ≡ None) (sym same) absent) in
           omega (arith, l, z)))
-          (EachAt-put_at (λ e (x : Credit2Domain). RunsOnly (IsElsewhere (arrivals h.queue.units) e) x.units) d fresh h.records.domains held.line.off (λ n y at. inl (subst (λ (z : Credit2Unit). z.burned ≡ None) (replicate_get count n new y at) refl))) held.line;
-      masks = masks_refreshed h.affinity next h.masks now d (λ e other. at_place-put_at_other d e sets h.affinity other) written (λ u joined. (let l = joined_small t after next u range counts joined in omega (arith, l))) held.masks;
+          (EachAt-put_at (λ e (x : Credit2Domain). RunsOnly (IsElsewhere (arrivals h.queue.units) e) x.units) d fresh h.records.domains sound.line.off (λ n y at. inl (subst (λ (z : Credit2Unit). z.burned ≡ None) (replicate_get count n new y at) refl))) sound.line;
+      masks = masks_refreshed h.affinity next h.masks now d (λ e other. at_place-put_at_other d e sets h.affinity other) written (λ u joined. (let l = joined_small t after next u range counts joined in omega (arith, l))) sound.masks;
       free = free_elsewhere h.unpinned h.affinity next d (λ e other. at_place-put_at_other d e sets h.affinity other) (λ n joined. (
           let there : at_place next d ≡ Some sets = at_place-put_at d sets h.affinity inside in
           let low : nat_lt n (length sets) ≡ true = subst (λ (o : Option (List Cores)). nat_lt n (elim o as (λ _. ℕ) [ None ↦ 0 | Some s ↦ length s ]) ≡ true) there joined in
           let few_enough : n < count = (let l = ltb-true n (length sets) low in omega (arith, l, long)) in
           ap (λ (o : Option (List Cores)). elim o as (λ _. ℕ) [ None ↦ 0 | Some s ↦ (slice_index_or s n (core_set 0)).0 ]) there
           ∙ ap (λ (s : List Cores). (slice_index_or s n (core_set 0)).0) each
-          ∙ ap (λ (x : Cores). x.0) (get_or-replicate count n (core_set (2 ^ 64 - 1)) (core_set 0) few_enough))) held.free;
-      refills = ap (λ (rs : List (Option Moment)). slice_set rs d (refill_of (at_place (put_at d fresh h.records.domains) d))) held.refills ∙ refills_put d (Some fresh) h.records.domains;
+          ∙ ap (λ (x : Cores). x.0) (get_or-replicate count n (core_set (2 ^ 64 - 1)) (core_set 0) few_enough))) sound.free;
+      refills = ap (λ (rs : List (Option Moment)). slice_set rs d (refill_of (at_place (put_at d fresh h.records.domains) d))) sound.refills ∙ refills_put d (Some fresh) h.records.domains;
       room = omega (arith, room, all, long, fits);
       small = omega (arith, small, all, long, fits);
     }
@@ -403,12 +403,12 @@ nobody_waits affinity (u ∷ units) empty joined = absurd (
     omega (arith, l, z))
 
 -- a pool that no domain has joined begins anew
-pub restarted_is : (h : Held) (limit : ℕ) → IsHeld h → is_vacant (scheduler_in h) ≡ true → seen_in (record h { records = record h.records { limit = limit; last_reset = None } }) ≡ with_scheduler (restarted_scheduler (pool_params.Credit2 limit) (scheduler_in h)) (seen_in h)
-restarted_is h limit held vacant =
-    let none : list_any is_some h.affinity ≡ false = not_true (list_any is_some h.affinity) vacant in
+pub restarted_is : (h : Credit2State) (limit : ℕ) → IsSound h → is_vacant (scheduler_in h) ≡ true → seen_in (record h { records = record h.records { limit = limit; last_reset = None } }) ≡ with_scheduler (restarted_scheduler (pool_params.Credit2 limit) (scheduler_in h)) (seen_in h)
+restarted_is h limit sound vacant =
+    let none : list_any is_some h.affinity ≡ false = not-true (list_any is_some h.affinity) vacant in
     let sets : h.affinity ≡ replicate (length h.affinity) None = all_empty h.affinity none in
-    let places : h.records.domains ≡ replicate (length h.affinity) None = all_empty_too h.affinity h.records.domains held.counts none in
-    let nobody : arrivals h.queue.units ≡ [] = nobody_waits h.affinity (arrivals h.queue.units) sets held.line.joined in
+    let places : h.records.domains ≡ replicate (length h.affinity) None = all_empty_too h.affinity h.records.domains sound.counts none in
+    let nobody : arrivals h.queue.units ≡ [] = nobody_waits h.affinity (arrivals h.queue.units) sets sound.line.joined in
     let seen : List UnitId → List (Option (List Cores)) → List (Option Credit2Domain) → Seen = λ units affinity domains.
     record { scheduler = scheduler_of units affinity (record { limit = limit; last_reset = None; domains = domains }); spare = h.spare; latest = h.latest }
     in
@@ -426,9 +426,9 @@ empty_count : (n : ℕ) → count_all (replicate n None) ≡ 0
 empty_count zero = refl
 empty_count (suc n) = empty_count n
 
-pub held_fresh : (domains units latest : ℕ) (masks : List Cores) → domains ≤ 64 → units ≤ 256
-    → IsHeld (record { records = record { limit = 1000; last_reset = None; domains = replicate domains None }; affinity = replicate domains None; queue = empty units; masks = masks; refills = replicate domains None; spare = units; latest = latest; unpinned = true })
-held_fresh n units latest masks few small =
+pub sound_fresh : (domains units latest : ℕ) (masks : List Cores) → domains ≤ 64 → units ≤ 256
+    → IsSound (record { records = record { limit = 1000; last_reset = None; domains = replicate domains None }; affinity = replicate domains None; queue = empty units; masks = masks; refills = replicate domains None; spare = units; latest = latest; unpinned = true })
+sound_fresh n units latest masks few small =
     let records : Credit2Records = record { limit = 1000; last_reset = None; domains = replicate n None } in
     let long : length records.domains ≡ n = length-replicate n None in
     let all = empty_count n in
@@ -448,20 +448,20 @@ held_fresh n units latest masks few small =
     }
 
 -- where no domain has joined, no unit is pinned
-pub held_unpinned : (h : Held) → IsHeld h → is_vacant (scheduler_in h) ≡ true → IsHeld (record h { unpinned = true })
-held_unpinned h held vacant = record {
-  range = held.range;
-  counts = held.counts;
-  line = held.line;
-  masks = held.masks;
+pub sound_unpinned : (h : Credit2State) → IsSound h → is_vacant (scheduler_in h) ≡ true → IsSound (record h { unpinned = true })
+sound_unpinned h sound vacant = record {
+  range = sound.range;
+  counts = sound.counts;
+  line = sound.line;
+  masks = sound.masks;
   free = record {
     all = λ is u joined. absurd (
-        let none : list_any is_some h.affinity ≡ false = not_true (list_any is_some h.affinity) vacant in
+        let none : list_any is_some h.affinity ≡ false = not-true (list_any is_some h.affinity) vacant in
         let l = ltb-true u.n (count_at h.affinity u.dom.0) joined in
         let z : count_at h.affinity u.dom.0 ≡ 0 = ap (λ (a : List (Option (List Cores))). count_at a u.dom.0) (all_empty h.affinity none) ∙ count_empty (length h.affinity) u.dom.0 in
         omega (arith, l, z));
   };
-  refills = held.refills;
-  room = held.room;
-  small = held.small;
+  refills = sound.refills;
+  room = sound.room;
+  small = sound.small;
 }

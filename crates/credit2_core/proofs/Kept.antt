@@ -1,7 +1,7 @@
 -- What is kept beside the records and the queue: the set of the domains that may run, the first unit that waits of one of them, and the
 -- greatest weight.
 use Rattle.std.proofs.Common.{◌≡◌, ◌^◌, ◌-◌, ◌≢◌, ◌<◌, ◌≤◌, ℕ, zero, suc, Bool, true, false, not, List, [], ◌∷◌, ◌++◌, length, map, refl, ap, subst, sym, ◌∙◌, cond, arith, inl, inr}
-use Rattle.std.specs.Prelude.{Option, Some, None, slice_set, filter, fold, max, int_lt, nat_lt, ◌==◌, ◌&&◌, ◌||◌, bit_and, if◌then◌else◌}
+use Rattle.std.specs.Prelude.{Option, Some, None, filter, fold, max, int_lt, nat_lt, ◌==◌, ◌&&◌, ◌||◌, bit_and, if◌then◌else◌}
 use Rattle.std.specs.List.{AllByRecursion}
 use Rattle.std.proofs.Math.Decide.{ℕ_discrete}
 use Rattle.std.proofs.lemmas.List.{get_or_past}
@@ -12,9 +12,8 @@ use Rattle.sched_base.specs.CoreSets.{has_core}
 use Rattle.sched_model.specs.declared.state.Credit2Domain.{Credit2Domain}
 use Rattle.sched_model.specs.declared.state.Credit2Records.{Credit2Records}
 use Rattle.sched_model.specs.Places.{at_place, change_at, change_each, change_item, numbered_items, same_unit, is_unit}
-use Rattle.sched_model.specs.Eligible.{has_budget, is_allowed_by}
+use Rattle.sched_model.specs.EligibleUnits.{has_budget, is_allowed_by}
 use Rattle.sched_model.specs.Credit2.{max_weight, change_domain, domain_has_budget, greatest_unit, credit_of, give_back, reset, take_budget, set_running, switch_off}
-use Rattle.sched_laws.proofs.Bools.{either}
 use Rattle.sched_laws.proofs.EachPlace.{by_option, by_cond}
 use Rattle.plain_credit2.specs.Bounds.{own_charged, reset_by}
 use Rattle.plain_credit2.proofs.Steps.{reset-each}
@@ -22,10 +21,10 @@ use Rattle.arrival_queue.specs.Filters.{first_that, has_domain}
 use Rattle.arrival_queue.specs.Queues.{Queued, list_without, is_of, closed_up}
 use Rattle.queue_laws.proofs.Removed.{is_of_same}
 use Rattle.runq.specs.Queue.{Queue}
-use Rattle.credit2_core.specs.declared.held.Held.{Held}
+use Rattle.credit2_core.specs.declared.state.Credit2State.{Credit2State}
 use Rattle.credit2_core.specs.declared.line.Ready.{Ready}
 use Rattle.credit2_core.specs.Places.{has_joined}
-use Rattle.credit2_core.specs.Held.{IsFree}
+use Rattle.credit2_core.specs.Credit2State.{IsFree}
 use Rattle.credit2_core.specs.Choice.{first_ready, first_with}
 use Rattle.credit2_core.specs.Domains.{may_run_at, AreRunnable, AreRunnableBut}
 use Rattle.credit2_core.specs.Whole.{IsReadyIn, IsReadyBut, stays_first}
@@ -33,6 +32,7 @@ use Rattle.credit2_core.proofs.Idle.{set_other}
 use Rattle.credit2_core.proofs.Lists.{same_unit-swap}
 use Rattle.credit2_core.proofs.Tables.{first_that-same}
 use Rattle.std.proofs.Math.Bool.{and-true}
+use Rattle.std.proofs.lemmas.Bool.{cases_Bool}
 
 -- the weights of the domains
 abbrev weights : ℕ → List (Option Credit2Domain) → List ℕ
@@ -106,7 +106,7 @@ pub spared_switch_off : (cur : Option UnitId) (records : Credit2Records) → IsS
 spared_switch_off None records = record { runs = λ i. refl; weight = refl }
 spared_switch_off (Some u) records = spared_set_running None u records
 
-pub ready_spared : (h next : Held) (ready : Ready) → next.queue ≡ h.queue → IsSpared h.records next.records → IsReadyIn h ready → IsReadyIn next ready
+pub ready_spared : (h next : Credit2State) (ready : Ready) → next.queue ≡ h.queue → IsSpared h.records next.records → IsReadyIn h ready → IsReadyIn next ready
 ready_spared h next ready same spared is = record {
   domains = record { each = λ i. is.domains.each i ∙ sym (spared.runs i) };
   first = is.first ∙ first_that-same (domain_has_budget h.records) (domain_has_budget next.records) h.queue.units (λ u. sym (spared.runs u.dom.0)) ∙ ap (λ (q : Queue). first_ready next.records q.units) (sym same);
@@ -124,7 +124,7 @@ but_again d stands f records es ready keeps but = record {
   most = but.most ∙ sym (weight_changed d f records keeps);
 }
 
-pub but_of : (d : ℕ) (stands : Bool) (h : Held) (ready : Ready) → IsReadyIn h ready → IsReadyBut d stands h.records h.queue.units ready
+pub but_of : (d : ℕ) (stands : Bool) (h : Credit2State) (ready : Ready) → IsReadyIn h ready → IsReadyBut d stands h.records h.queue.units ready
 but_of d stands h ready is = record {
   domains = λ i other. is.domains.each i;
   first = λ stand. is.first ∙ sym (first_runnable h.records ready.domains h.queue.units is.domains);
@@ -142,7 +142,7 @@ runnable_again d set now may domains few but is others there = record {
 }
   where
     within : (may_run_at (at_place domains d) && nat_lt d 64) ≡ may_run_at (at_place domains d)
-    within = elim (either (nat_lt d 64)) [
+    within = elim (cases_Bool (nat_lt d 64)) [
       | inl low ↦ rw low (and-true (may_run_at (at_place domains d)))
       | inr high ↦ (
           let long : length domains ≤ d = grind (arith, high, few) in
@@ -166,9 +166,9 @@ first_passes p (e ∷ es) u is =
 fewer_pass : (p q : UnitId → Bool) (es : List Queued) → ((u : UnitId) → q u ≡ true → p u ≡ true) → ((u : UnitId) → first_that p es ≡ Some u → q u ≡ true) → first_that q es ≡ first_that p es
 fewer_pass p q [] fewer passes = refl
 fewer_pass p q (e ∷ es) fewer passes =
-    elim (either (q e.unit)) [
+    elim (cases_Bool (q e.unit)) [
       | inl is ↦ (let both : p e.unit ≡ true = fewer e.unit is in rw (is, both) refl)
-      | inr is_not ↦ elim (either (p e.unit)) [
+      | inr is_not ↦ elim (cases_Bool (p e.unit)) [
         | inl first ↦ absurd (let e1 : q e.unit ≡ true = passes e.unit (rw first refl) in cc)
         | inr neither ↦ rw (is_not, neither) (fewer_pass p q es fewer (λ u found. passes u (rw neither found)))
       ]

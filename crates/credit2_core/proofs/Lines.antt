@@ -11,6 +11,7 @@ use Rattle.sched_model.specs.Places.{has_unit, without_unit, same_unit}
 use Rattle.sched_model.specs.Credit2.{burn_cur, reset, take_budget, change_domain, set_running, switch_off, refilled_pool}
 use Rattle.sched_laws.proofs.Lists.{AllByRecursion-filter, AllByRecursion-push}
 use Rattle.sched_laws.proofs.Choices.{same_unit_same}
+use Rattle.sched_laws.proofs.Counts.{without_absent}
 use Rattle.sched_ranges.proofs.Decided.{IsCur, r_burn_cur, r_reset, r_take, r_refilled, r_switch_off, r_set_running, unit_rec}
 use Rattle.sched_ranges.specs.Budgets.{AllRunOnly}
 use Rattle.sched_ops.specs.Conditions.{IsApart}
@@ -19,10 +20,11 @@ use Rattle.arrival_queue.specs.Queues.{Queued, queued_unit, list_with, list_with
 use Rattle.runq.specs.Queue.{Queue, after_remove}
 use Rattle.queue_laws.specs.Arrivals.{arrivals}
 use Rattle.queue_laws.proofs.Once.{keys_placed, keys_removed}
+use Rattle.queue_laws.proofs.Arrivals.{length-arrivals}
 use Rattle.credit2_core.specs.Keys.{HasCredits, key_in}
 use Rattle.credit2_core.specs.Places.{has_joined}
-use Rattle.credit2_core.specs.Held.{IsLineOf, IsSameRoom}
-use Rattle.credit2_core.proofs.Lists.{apart_push, apart_without, has_unit-without, has_unit-push, without-absent, length-arrivals}
+use Rattle.credit2_core.specs.Credit2State.{IsLineOf, IsSameRoom}
+use Rattle.credit2_core.proofs.Lists.{apart_push, apart_without, has_unit-without, has_unit-push}
 use Rattle.credit2_core.proofs.Waiting.{IsOrdered, has_arrived, removed_arrivals, placed_arrivals}
 use Rattle.credit2_core.proofs.Members.{IsElsewhere}
 use Rattle.credit2_core.proofs.Idle.{IsOff, KeepsIdle, keys_kept, idle_burn_cur, idle_take, idle_set_running, idle_switch_off, idle_refilled}
@@ -96,7 +98,7 @@ module _ (affinity : List (Option (List Cores))) where
       times_one [] apart has = absurd cc
       times_one (w ∷ units) apart has =
           elim (same_unit u w) as (λ b. same_unit u w ≡ b → length (cond (not b) (w ∷ without_unit u units) (without_unit u units)) + 1 ≡ length (w ∷ units)) [
-            | true ↦ λ is. (let e : without_unit u units ≡ units = without-absent u units (subst (λ (x : UnitId). has_unit units x ≡ false) (sym (same_unit_same u w is)) apart.0) in rw e (omega arith))
+            | true ↦ λ is. (let e : without_unit u units ≡ units = without_absent u units (subst (λ (x : UnitId). has_unit units x ≡ false) (sym (same_unit_same u w is)) apart.0) in rw e (omega arith))
             | false ↦ λ is. (let r = times_one units apart.1 (rest is) in omega (arith, r))
           ] refl
         where
@@ -114,7 +116,7 @@ module _ (affinity : List (Option (List Cores))) where
 
   kept : (records : Credit2Records) (u : UnitId) (old : Queue) → u.n < 256 → queues.has_unit u old.units ≡ false → IsLineOf affinity records old.units → IsLeft records u old old
   kept records u old low absent line = record {
-    order = sym (without-absent u (arrivals old.units) (sym (has_arrived u old.units low line.indices) ∙ absent));
+    order = sym (without_absent u (arrivals old.units) (sym (has_arrived u old.units low line.indices) ∙ absent));
     line = line;
     room = record { room = refl };
   }

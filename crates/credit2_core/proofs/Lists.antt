@@ -1,10 +1,10 @@
 -- Lists of units, with one more or one less, and what holds of each unit that is queued.
-use Rattle.std.proofs.Common.{◌≡◌, ◌+◌, ℕ, Bool, true, false, not, List, [], ◌∷◌, ◌++◌, length, map, refl, ap, subst, sym, ◌∙◌, cond, arith, inl, inr}
+use Rattle.std.proofs.Common.{◌≡◌, ◌+◌, ℕ, Bool, true, false, not, List, [], ◌∷◌, ◌++◌, length, map, refl, subst, sym, cond, arith, inl, inr}
 use Rattle.std.specs.Prelude.{◌||◌, if◌then◌else◌, nat_lt}
 use Rattle.std.specs.List.{AllByRecursion}
 use Rattle.sched_base.specs.declared.UnitId.{UnitId}
 use Rattle.sched_model.specs.Places.{has_unit, without_unit, same_unit}
-use Rattle.sched_laws.proofs.Bools.{or_left, or_right, or_more, either}
+use Rattle.sched_base.proofs.Bools.{or_left, or_right, or_more}
 use Rattle.sched_laws.proofs.Choices.{same_unit_same}
 use Rattle.sched_laws.proofs.Counts.{same_unit_refl}
 use Rattle.sched_ops.specs.Conditions.{IsApart}
@@ -14,14 +14,14 @@ use Rattle.queue_laws.proofs.Once.{each_closed}
 use Rattle.queue_laws.proofs.Removed.{each_without}
 use Rattle.queue_laws.proofs.Arrivals.{each_arrived}
 use Rattle.std.proofs.Math.Bool.{or-true}
-use Rattle.std.proofs.lemmas.Bool.{or_from}
+use Rattle.std.proofs.lemmas.Bool.{or_from, cases_Bool}
 
 pub has_unit-push : (w u : UnitId) (units : List UnitId) → has_unit units w ≡ false → same_unit w u ≡ false → has_unit (units ++ u ∷ []) w ≡ false
 has_unit-push w u [] absent other = or_from (same_unit w u) false other refl
 has_unit-push w u (x ∷ units) absent other = or_from (same_unit w x) (has_unit (units ++ u ∷ []) w) (or_left _ _ absent) (has_unit-push w u units (or_right (same_unit w x) _ absent) other)
 
 pub same_unit-swap : (u w : UnitId) → same_unit u w ≡ false → same_unit w u ≡ false
-same_unit-swap u w other = elim (either (same_unit w u)) [
+same_unit-swap u w other = elim (cases_Bool (same_unit w u)) [
   | inl is ↦ (let e = same_unit_same w u is in absurd (let r = same_unit_refl w in let f : same_unit w w ≡ false = subst (λ (x : UnitId). same_unit x w ≡ false) (sym e) other in cc))
   | inr is ↦ is
 ]
@@ -41,14 +41,6 @@ has_unit-without w u (x ∷ units) absent =
       | false ↦ has_unit-without w u units (or_right (same_unit w x) _ absent)
     ]
 
-pub gone_without : (u : UnitId) (units : List UnitId) → has_unit (without_unit u units) u ≡ false
-gone_without u [] = refl
-gone_without u (x ∷ units) =
-    elim (same_unit u x) as (λ b. same_unit u x ≡ b → has_unit (cond (not b) (x ∷ without_unit u units) (without_unit u units)) u ≡ false) [
-      | true ↦ λ is. gone_without u units
-      | false ↦ λ is. or_from (same_unit u x) (has_unit (without_unit u units) u) is (gone_without u units)
-    ] refl
-
 pub apart_without : (u : UnitId) (units : List UnitId) → IsApart units → IsApart (without_unit u units)
 apart_without u [] apart = tt
 apart_without u (x ∷ units) apart =
@@ -56,12 +48,6 @@ apart_without u (x ∷ units) apart =
       | true ↦ (has_unit-without x u units apart.0, apart_without u units apart.1)
       | false ↦ apart_without u units apart.1
     ]
-
-pub without-absent : (u : UnitId) (units : List UnitId) → has_unit units u ≡ false → without_unit u units ≡ units
-without-absent u [] absent = refl
-without-absent u (x ∷ units) absent =
-    let e : same_unit u x ≡ false = or_left _ _ absent in
-    rw e (ap (λ (xs : List UnitId). x ∷ xs) (without-absent u units (or_right (same_unit u x) _ absent)))
 
 -- what holds of each item holds after one is put, and of the new one too
 pub All-put : {X : Type 0} (P : X → Type 0) (t : X → Bool) (x : X) (xs : List X) → P x → AllByRecursion P xs → AllByRecursion P (put_first t x xs)
@@ -98,17 +84,6 @@ length-put t x (y ∷ xs) =
       | true ↦ omega arith
       | false ↦ (let r = length-put t x xs in omega (arith, r))
     ]
-
-length-arrived : (es : List Queued) → length (arrival_order es) ≡ length es
-length-arrived [] = refl
-length-arrived (e ∷ es) = (let r = length-put (λ (x : Queued). nat_lt e.rank x.rank) e (arrival_order es) in let q = length-arrived es in omega (arith, r, q))
-
-length-units : (es : List Queued) → length (map (λ (e : Queued). e.unit) es) ≡ length es
-length-units [] = refl
-length-units (e ∷ es) = (let r = length-units es in omega (arith, r))
-
-pub length-arrivals : (es : List Queued) → length (arrivals es) ≡ length es
-length-arrivals es = length-units (arrival_order es) ∙ length-arrived es
 
 pub length-placed : (e : Queued) (es : List Queued) → length (list_with e es) ≡ length es + 1
 length-placed e es = length-put _ e es

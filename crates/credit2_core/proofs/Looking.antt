@@ -6,17 +6,17 @@ use Rattle.sched_base.specs.declared.UnitId.{UnitId}
 use Rattle.sched_model.specs.declared.state.Resource.{Resource}
 use Rattle.sched_model.specs.Places.{at_place}
 use Rattle.sched_model.specs.Policy.{better_waits}
-use Rattle.sched_model.specs.Eligible.{is_allowed_by}
+use Rattle.sched_model.specs.EligibleUnits.{is_allowed_by}
 use Rattle.sched_model.specs.Credit2.{is_within_limit, max_weight, change_unit, burn_unit, credit_of, domain_has_budget, is_better}
-use Rattle.sched_laws.specs.Each.{EachPlace}
+use Rattle.sched_laws.specs.EachPlace.{EachPlace}
 use Rattle.sched_laws.proofs.EachPlace.{place_below}
 use Rattle.sched_ops.specs.Conditions.{IsOwnOf}
-use Rattle.sched_ops.specs.Wanted.{MayAsk, is_wanted}
+use Rattle.sched_ops.specs.WantedCores.{MayAsk, is_wanted}
 use Rattle.queue_laws.specs.Arrivals.{arrivals}
-use Rattle.credit2_core.specs.declared.held.Held.{Held}
+use Rattle.credit2_core.specs.declared.state.Credit2State.{Credit2State}
 use Rattle.credit2_core.specs.declared.line.Ready.{Ready}
 use Rattle.credit2_core.specs.Choice.{may_take, best_of}
-use Rattle.credit2_core.specs.Held.{IsHeld, scheduler_in}
+use Rattle.credit2_core.specs.Credit2State.{IsSound, scheduler_in}
 use Rattle.credit2_core.specs.Whole.{IsReadyIn}
 use Rattle.credit2_core.proofs.Choosing.{some_passes, better_passes}
 use Rattle.credit2_core.proofs.Kept.{free_allows}
@@ -24,17 +24,17 @@ use Rattle.credit2_core.proofs.Waiting.{IsOrdered, first_greatest, first_of_none
 use Rattle.std.proofs.Math.Bool.{and-false}
 
 -- no unit is ready, and each may be on every core
-pub record IsQuiet (h : Held) (ready : Ready) : Type 0 where
-  pub held : IsHeld h
+pub record IsQuiet (h : Credit2State) (ready : Ready) : Type 0 where
+  pub sound : IsSound h
   pub kept : IsReadyIn h ready
   pub ordered : IsOrdered h.queue.units
   pub none : ready.first ≡ None
   pub free : h.unpinned ≡ true
 
-module _ (h : Held) (ready : Ready) (quiet : IsQuiet h ready) where
+module _ (h : Credit2State) (ready : Ready) (quiet : IsQuiet h ready) where
   best_none : (home core : ℕ) → best_of (arrivals h.queue.units) h.affinity home core h.records ≡ None
   best_none home core =
-      sym (first_greatest h.records (may_take h.affinity home core h.records) h.queue.units quiet.ordered quiet.held.line.keys)
+      sym (first_greatest h.records (may_take h.affinity home core h.records) h.queue.units quiet.ordered quiet.sound.line.keys)
       ∙ first_of_none (is_allowed_by h.affinity home core) (domain_has_budget h.records) h.queue.units (sym quiet.kept.first ∙ quiet.none)
 
   none_better : (cur : Option UnitId) (since t core home : ℕ) → core < 64 → IsOwnOf (scheduler_in h) cur → better_waits cur since t core home (scheduler_in h) ≡ false
@@ -44,7 +44,7 @@ module _ (h : Held) (ready : Ready) (quiet : IsQuiet h ready) where
       let within : Bool = not (is_within_limit h.records since t) in
       let burned = credit_of (change_unit u (burn_unit (max_weight h.records) t) h.records) u in
       let any : Bool = list_any (λ w. p w && is_better h.records u since t w) (arrivals h.queue.units) in
-      let allowed : is_allowed_by h.affinity home core u ≡ true = free_allows h.unpinned h.affinity home core u quiet.held.free quiet.free (own u refl).member low in
+      let allowed : is_allowed_by h.affinity home core u ≡ true = free_allows h.unpinned h.affinity home core u quiet.sound.free quiet.free (own u refl).member low in
       ap (λ (b : Bool). not b || any) allowed
       ∙ sym (better_passes h.records within burned p (arrivals h.queue.units))
       ∙ ap (λ (o : Option UnitId). elim o as (λ _. Bool) [ None ↦ false | Some w ↦ within && int_lt burned (credit_of h.records w) ]) (best_none home core)

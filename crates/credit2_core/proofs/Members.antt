@@ -1,7 +1,6 @@
 -- The units of the domains that have joined, by their sets of cores and by their records.
 use Rattle.std.proofs.Common.{◌≡◌, ◌<◌, ℕ, zero, suc, true, false, List, [], ◌∷◌, length, refl, ap, ◌∙◌, arith, inl, inr}
 use Rattle.std.specs.Prelude.{Option, Some, None, option_map, slice_get}
-use Rattle.std.specs.List.{AllByRecursion}
 use Rattle.sched_base.specs.Numbers.{domain}
 use Rattle.sched_base.specs.declared.Cores.{Cores}
 use Rattle.sched_base.specs.declared.UnitId.{UnitId}
@@ -11,12 +10,12 @@ use Rattle.sched_model.specs.declared.state.Credit2Unit.{Credit2Unit}
 use Rattle.sched_model.specs.declared.state.Credit2Domain.{Credit2Domain}
 use Rattle.sched_model.specs.declared.state.Credit2Records.{Credit2Records}
 use Rattle.sched_model.specs.Places.{at_place, has_unit}
-use Rattle.sched_laws.proofs.Bools.{clash}
+use Rattle.sched_base.proofs.Bools.{clash}
 use Rattle.sched_laws.proofs.EachPlace.{place_below}
 use Rattle.sched_ranges.proofs.Decided.{unit_rec}
 use Rattle.sched_ranges.specs.Budgets.{AllRunOnly}
 use Rattle.credit2_core.specs.Places.{set_counts, unit_counts, count_at, has_joined}
-use Rattle.credit2_core.specs.Held.{InRange}
+use Rattle.credit2_core.specs.Credit2State.{InRange}
 use Rattle.std.proofs.lemmas.Bool.{ltb-true}
 
 -- how many units there are at a place, by either table

@@ -1,9 +1,7 @@
 -- The numbers of the records stay in range.
-use Rattle.std.proofs.Common.{◌≡◌, ◌<◌, ◌≤◌, ◌+◌, ℕ, true, length, refl, subst, sym, arith, ◌⊎◌}
+use Rattle.std.proofs.Common.{◌≡◌, ◌<◌, ◌≤◌, ℕ, true, length, refl, subst, sym, arith, ◌⊎◌}
 use Rattle.std.specs.Prelude.{Option, Some, None}
-use Rattle.std.specs.Option.{IfSome, ForSome}
-use Rattle.std.proofs.lemmas.Int.{ints}
-use Rattle.std.proofs.lemmas.List.Elements.{All-from_recursion}
+use Rattle.std.specs.Option.{IfSome}
 use Rattle.sched_base.specs.declared.UnitId.{UnitId}
 use Rattle.sched_model.specs.declared.ask.Ask.{Ask}
 use Rattle.sched_model.specs.declared.state.Credit2Unit.{Credit2Unit}
@@ -11,10 +9,9 @@ use Rattle.sched_model.specs.declared.state.Credit2Domain.{Credit2Domain}
 use Rattle.sched_model.specs.declared.state.Credit2Records.{Credit2Records}
 use Rattle.sched_model.specs.declared.state.Scheduler.{Scheduler}
 use Rattle.sched_model.specs.Places.{at_place, put_at, clear_at}
-use Rattle.sched_model.specs.Checked.{IsWithin}
+use Rattle.sched_model.specs.CheckedMachine.{IsWithin}
 use Rattle.sched_model.specs.Credit2.{burn_cur, switch_off, set_domain, refilled_pool, fresh_domain, domain_has_budget}
 use Rattle.sched_laws.proofs.EachPlace.{EachPlace-put_at, EachPlace-clear_at, EachAt-put_at, EachAt-clear_at, length_set}
-use Rattle.sched_ranges.specs.Ranges.{Credit2UnitInRange, Credit2InRange}
 use Rattle.sched_ranges.proofs.Credit2.{c_burn_cur, c_reset, c_take, c_switch_off, c_set_running, c_fresh, c_set_domain, c_later}
 use Rattle.sched_ranges.specs.Fits.{Credit2DomainFits, Credit2Fits}
 use Rattle.sched_ranges.specs.Budgets.{BudgetFits, Nobody}
@@ -22,39 +19,24 @@ use Rattle.sched_ranges.proofs.Budgets.{b_later, b_fresh}
 use Rattle.sched_ranges.proofs.Decided.{s_refilled, s_set_domain, decides_unit, decides_idle, unit_rec}
 use Rattle.sched_ranges.specs.Budgets.{Budgets, None2}
 use Rattle.sched_ranges.proofs.Records.{refill_fits}
-use Rattle.sched_ranges.proofs.Done.{helds_most, helds_least, lasts_most, times_few, units_in_range}
+use Rattle.sched_ranges.proofs.Done.{credit2_in_range}
 use Rattle.sched_model.specs.State.{has_come}
 use Rattle.sched_model.specs.Policy.{next_refill}
 use Rattle.sched_model.specs.declared.state.Records.TheVariants.{Credit2Pool}
 use Rattle.plain_units.specs.Fits as plain
 use Rattle.credit2_core.specs.Choice.{records_after_run}
-use Rattle.credit2_core.specs.Held.{InRange}
+use Rattle.credit2_core.specs.Credit2State.{InRange}
 
 -- a domain has 32 units at most
 abbrev pub Few : ℕ → ℕ → Type 0
 Few d k = k ≤ 32
-
-pub if_some : {X : Type 0} (o : Option X) (P : X → Type 0) → ForSome o P → IfSome o P
-if_some None P all = tt
-if_some (Some x) P all = all x refl
-
-domain_in_range : (t : ℕ) (d : Credit2Domain) → Credit2DomainFits t d → BudgetFits t (λ k. k ≤ 32) Nobody Nobody d → Credit2InRange t d
-domain_in_range t d fits budget = record {
-  weight = fits.weight;
-  cap = fits.cap;
-  refill = if_some d.refill (λ (r : ℕ). r ≤ t + 10000000) fits.refill;
-  count = budget.count;
-  units = All-from_recursion (Credit2UnitInRange t) d.units (units_in_range t d.weight d.cap d.units fits.weight.most fits.units budget.units);
-  budget_most = (let few = budget.count in let h = budget.high in let l = helds_least t d.cap d.units budget.units in let k = lasts_most t d.cap d.units budget.units in let n = times_few (length d.units) t few in omega (arith, ints, h, l, k, n));
-  budget_least = (let few = budget.count in let h = budget.low in let l = helds_most t d.cap d.units budget.units in let k = lasts_most t d.cap d.units budget.units in let n = times_few (length d.units) t few in omega (arith, ints, h, l, k, n, few));
-}
 
 -- the ranges that the plain machine asks
 pub plain_fits : (t : ℕ) (records : Credit2Records) → InRange t records → plain.Credit2Fits t records
 plain_fits t records range = record {
   few_domains = range.few;
   limit = range.credits.limit;
-  domains = λ d x at. domain_in_range t x (range.credits.domains d x at) (range.budgets d x at);
+  domains = λ d x at. (let budget = range.budgets d x at in credit2_in_range t (Few d) x budget.count (range.credits.domains d x at) budget);
 }
 
 pub range_later : (t next : ℕ) (records : Credit2Records) → t ≤ next → InRange t records → InRange next records

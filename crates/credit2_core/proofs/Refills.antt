@@ -1,14 +1,13 @@
 -- The first refill of a pool, by the heap of its domains' refills.
 use Rattle.std.proofs.Common.{◌≡◌, ◌≤◌, ◌<◌, ◌+◌, ℕ, zero, suc, Bool, true, false, List, [], ◌∷◌, refl, ap, subst, sym, ◌∙◌, arith, cond, inl, inr}
 use Rattle.std.specs.Prelude.{Option, Some, None, is_some, option_map, slice_index_or, nat_le, nat_lt}
-use Rattle.std.proofs.lemmas.Bool.{cases_lt}
+use Rattle.std.proofs.lemmas.Bool.{cases_lt, lt-ltb, le-ltb}
 use Rattle.sched_base.specs.Numbers.{moment, domain}
 use Rattle.sched_base.specs.declared.Moment.{Moment}
 use Rattle.sched_model.specs.declared.state.Credit2Domain.{Credit2Domain}
 use Rattle.sched_model.specs.Places.{at_place, numbered_items}
 use Rattle.sched_ops.specs.declared.timer.Timer.TheVariants.{Refill}
 use Rattle.sched_ops.specs.Timers.{Armed, refills, first_due, soonest_timer}
-use Rattle.arrival_queue.proofs.Ranks.{less_test, not_less_test}
 use Rattle.due_heap.specs.Dues.{GoesFirst}
 use Rattle.credit2_core.specs.Places.{refill_of, refills_of}
 
@@ -66,7 +65,7 @@ stays n best (Some x ∷ domains) low = by_refill (stays (suc n) best domains (�
   where
     by_refill : soonest_timer (Some best) (refills (numbered_items (suc n) domains)) ≡ Some best → (o : Option ℕ) → x.refill ≡ o → soonest_timer (Some best) (elim o as (λ _. List Armed) [ None ↦ refills (numbered_items (suc n) domains) | Some at ↦ (moment at, Refill (domain n)) ∷ refills (numbered_items (suc n) domains) ]) ≡ Some best
     by_refill rest None is = rest
-    by_refill rest (Some r) is = ap (λ (b : Bool). soonest_timer (Some (cond b (moment r, Refill (domain n)) best)) (refills (numbered_items (suc n) domains))) (not_less_test r best.0.0 (low 0 (moment r) (ap (option_map moment) is))) ∙ rest
+    by_refill rest (Some r) is = ap (λ (b : Bool). soonest_timer (Some (cond b (moment r, Refill (domain n)) best)) (refills (numbered_items (suc n) domains))) (le-ltb r best.0.0 (low 0 (moment r) (ap (option_map moment) is))) ∙ rest
 
 -- the best so far, where there is one, is later
 abbrev IsLater : Moment → Option Armed → Type 0
@@ -94,7 +93,7 @@ soonest_is n best (Some x ∷ domains) zero at is first later = by_refill x.refi
     chosen r None same later = alone r same
     chosen r (Some b) same later =
         let low : r < b.0.0 = subst (λ (m : Moment). m.0 < b.0.0) (sym same) later in
-        let e = less_test r b.0.0 low in
+        let e = lt-ltb r b.0.0 low in
         ap (λ (z : Bool). soonest_timer (Some (cond z (moment r, Refill (domain n)) b)) (refills (numbered_items (suc n) domains))) e ∙ alone r same
 
     by_refill : (o : Option ℕ) → x.refill ≡ o → option_map moment o ≡ Some at → soonest_timer best (elim o as (λ _. List Armed) [ None ↦ refills (numbered_items (suc n) domains) | Some at ↦ (moment at, Refill (domain n)) ∷ refills (numbered_items (suc n) domains) ]) ≡ Some (at, Refill (domain (n + 0)))

@@ -2,14 +2,13 @@
 use Rattle.std.proofs.Common.{◌≡◌, ◌<◌, ◌≤◌, ◌+◌, ℕ, zero, suc, Bool, true, false, List, [], ◌∷◌, length, refl, subst, arith, ◌⊎◌, inl, inr}
 use Rattle.std.specs.Prelude.{Option, ◌==◌, ◌&&◌, ◌||◌, if◌then◌else◌, nat_lt}
 use Rattle.std.specs.List.{AllByRecursion}
-use Rattle.std.proofs.lemmas.Bool.{cases_lt, eqb-true, ltb-true}
+use Rattle.std.proofs.lemmas.Bool.{cases_lt, eqb-true, ltb-true, lt-ltb, le-ltb, eq-eqb, or_cases}
 use Rattle.sched_base.specs.Units.{number_of}
 use Rattle.sched_base.specs.declared.Cores.{Cores}
 use Rattle.sched_base.specs.declared.UnitId.{UnitId}
 use Rattle.sched_model.specs.declared.state.Credit2Records.{Credit2Records}
-use Rattle.sched_laws.proofs.Bools.{and_left, and_right, one_of, or_left, or_right, is_same}
+use Rattle.sched_base.proofs.Bools.{and_left, and_right, or_left, or_right}
 use Rattle.arrival_queue.specs.Queues.{Queued, queued_unit, list_with, list_without, is_of, has_unit}
-use Rattle.arrival_queue.proofs.Ranks.{less_test, not_less_test}
 use Rattle.queue_laws.specs.Arrivals.{arrivals}
 use Rattle.credit2_core.specs.Keys.{KeysWhere, HasCredits, key_in, is_passed}
 use Rattle.credit2_core.specs.Places.{has_joined, count_at}
@@ -19,13 +18,13 @@ use Rattle.std.proofs.Math.Bool.{or-true}
 -- a unit that is passed was passed before, or is the next
 passed_next : (d n : ℕ) (w : UnitId) → is_passed d (n + 1) w ≡ true → (is_passed d n w ≡ true) ⊎ ((w.dom.0 ≡ d) × (w.n ≡ n))
 passed_next d n w is =
-    elim (one_of (nat_lt w.dom.0 d) (w.dom.0 == d && nat_lt w.n (n + 1)) is) [
+    elim (or_cases (nat_lt w.dom.0 d) (w.dom.0 == d && nat_lt w.n (n + 1)) is) [
       | inl low ↦ inl (rw low refl)
       | inr here ↦ (
           let at : (w.dom.0 == d) ≡ true = and_left (w.dom.0 == d) (nat_lt w.n (n + 1)) here in
           let before : w.n < n + 1 = ltb-true w.n (n + 1) (and_right (w.dom.0 == d) (nat_lt w.n (n + 1)) here) in
           elim (cases_lt w.n n) [
-            | inl less ↦ inl (let e = less_test w.n n less in rw (at, e) (or-true (nat_lt w.dom.0 d)))
+            | inl less ↦ inl (let e = lt-ltb w.n n less in rw (at, e) (or-true (nat_lt w.dom.0 d)))
             | inr more ↦ inr (eqb-true w.dom.0 d at, omega arith)
           ])
     ]
@@ -37,7 +36,7 @@ passed_other u e other is = elim (passed_next u.dom.0 u.n e.unit is) [
   | inr same ↦ absurd (
       let dom = same.0 in
       let n = same.1 in
-      let s : is_of u e ≡ true = is_same (number_of e.unit) (number_of u) (omega (arith, dom, n)) in
+      let s : is_of u e ≡ true = eq-eqb (number_of e.unit) (number_of u) (omega (arith, dom, n)) in
       cc)
 ]
 
@@ -63,7 +62,7 @@ module _ (records : Credit2Records) where
   keys_first (e ∷ es) = (λ is. absurd (none e.unit is), keys_first es)
     where
       none : (w : UnitId) → is_passed 0 0 w ≡ true → ⊥
-      none w is = elim (one_of (nat_lt w.dom.0 0) (w.dom.0 == 0 && nat_lt w.n 0) is) [
+      none w is = elim (or_cases (nat_lt w.dom.0 0) (w.dom.0 == 0 && nat_lt w.n 0) is) [
         | inl low ↦ (let l = ltb-true w.dom.0 0 low in omega (arith, l))
         | inr here ↦ (let l = ltb-true w.n 0 (and_right (w.dom.0 == 0) (nat_lt w.n 0) here) in omega (arith, l))
       ]
@@ -73,14 +72,14 @@ module _ (records : Credit2Records) where
   keys_next affinity d es joined keys = each es (queued_have (λ u. has_joined affinity u ≡ true) es joined) keys
     where
       passed : (w : UnitId) → has_joined affinity w ≡ true → is_passed (d + 1) 0 w ≡ true → is_passed d (count_at affinity d) w ≡ true
-      passed w there is = elim (one_of (nat_lt w.dom.0 (d + 1)) (w.dom.0 == d + 1 && nat_lt w.n 0) is) [
+      passed w there is = elim (or_cases (nat_lt w.dom.0 (d + 1)) (w.dom.0 == d + 1 && nat_lt w.n 0) is) [
         | inr here ↦ absurd (let l = ltb-true w.n 0 (and_right (w.dom.0 == d + 1) (nat_lt w.n 0) here) in omega (arith, l))
         | inl low ↦ elim (cases_lt w.dom.0 d) [
-          | inl less ↦ (let e = less_test w.dom.0 d less in rw e refl)
+          | inl less ↦ (let e = lt-ltb w.dom.0 d less in rw e refl)
           | inr more ↦ (
               let l = ltb-true w.dom.0 (d + 1) low in
               let dom : w.dom.0 ≡ d = omega (arith, l, more) in
-              let e : (w.dom.0 == d) ≡ true = is_same w.dom.0 d dom in
+              let e : (w.dom.0 == d) ≡ true = eq-eqb w.dom.0 d dom in
               let n : nat_lt w.n (count_at affinity d) ≡ true = subst (λ k. nat_lt w.n (count_at affinity k) ≡ true) dom there in
               rw (e, n) (or-true (nat_lt w.dom.0 d)))
         ]
@@ -101,7 +100,7 @@ module _ (records : Credit2Records) where
 
       inside : (w : UnitId) → has_joined affinity w ≡ true → is_passed (length affinity) 0 w ≡ true
       inside w there = elim (cases_lt w.dom.0 (length affinity)) [
-        | inl low ↦ (let e = less_test w.dom.0 (length affinity) low in rw e refl)
+        | inl low ↦ (let e = lt-ltb w.dom.0 (length affinity) low in rw e refl)
         | inr high ↦ absurd (let l = ltb-true w.n (count_at affinity w.dom.0) there in let z = outside affinity w.dom.0 high in omega (arith, l, z))
       ]
 

@@ -5,17 +5,17 @@ use Rattle.std.specs.List.{AllByRecursion}
 use Rattle.std.proofs.Math.Decide.{ℕ_discrete}
 use Rattle.std.proofs.lemmas.List.{length-map, replicate-append-replicate}
 use Rattle.std.proofs.Common.{length-append}
-use Rattle.std.proofs.lemmas.Bool.{cases_lt, ltb-true}
+use Rattle.std.proofs.lemmas.Bool.{cases_lt, ltb-true, le-ltb}
 use Rattle.sched_base.specs.Numbers.{domain}
 use Rattle.sched_base.specs.declared.Cores.{Cores}
 use Rattle.sched_base.specs.declared.UnitId.{UnitId}
 use Rattle.sched_model.specs.Places.{at_place, numbers_from, has_unit, same_unit, put_at, clear_at}
+use Rattle.sched_model.proofs.PlaceLemmas.{length-numbers_from}
 use Rattle.sched_laws.proofs.Choices.{same_unit_same}
 use Rattle.sched_laws.proofs.Counts.{same_unit_refl, times_none}
 use Rattle.sched_laws.specs.Counts.{times}
-use Rattle.sched_ranges.proofs.Queue.{no_longer}
+use Rattle.sched_ranges.proofs.Queue.{no_longer, times-append}
 use Rattle.sched_ops.specs.Conditions.{IsApart}
-use Rattle.arrival_queue.proofs.Ranks.{not_less_test}
 use Rattle.credit2_core.specs.Places.{count_all, count_at, has_joined}
 
 times-apart : (u : UnitId) (units : List UnitId) → IsApart units → times u units ≤ 1
@@ -32,10 +32,6 @@ units_in d [] = []
 units_in d (None ∷ affinity) = units_in (suc d) affinity
 units_in d (Some sets ∷ affinity) = map (λ n. record { dom = domain d; n = n }) (numbers_from 0 (length sets)) ++ units_in (suc d) affinity
 
-length-numbers : (a c : ℕ) → length (numbers_from a c) ≡ c
-length-numbers a zero = refl
-length-numbers a (suc c) = (let r = length-numbers (suc a) c in omega (arith, r))
-
 length-units_in : (d : ℕ) (affinity : List (Option (List Cores))) → length (units_in d affinity) ≡ count_all affinity
 unfolding units_in
 length-units_in d [] = refl
@@ -43,12 +39,8 @@ length-units_in d (None ∷ affinity) = length-units_in (suc d) affinity
 length-units_in d (Some sets ∷ affinity) =
     let own : List UnitId = map (λ n. record { dom = domain d; n = n }) (numbers_from 0 (length sets)) in
     length-append own (units_in (suc d) affinity)
-    ∙ ap (λ k. k + length (units_in (suc d) affinity)) (length-map (numbers_from 0 (length sets)) (λ (n : ℕ). record { dom = domain d; n = n }) ∙ length-numbers 0 (length sets))
+    ∙ ap (λ k. k + length (units_in (suc d) affinity)) (length-map (numbers_from 0 (length sets)) (λ (n : ℕ). record { dom = domain d; n = n }) ∙ length-numbers_from 0 (length sets))
     ∙ ap (λ k. length sets + k) (length-units_in (suc d) affinity)
-
-times-append : (u : UnitId) (xs ys : List UnitId) → times u (xs ++ ys) ≡ times u xs + times u ys
-times-append u [] ys = omega arith
-times-append u (x ∷ xs) ys = (let r = times-append u xs ys in omega (arith, r))
 
 numbers_have : (d k a c : ℕ) → a ≤ k → k < a + c → 1 ≤ times (record { dom = domain d; n = k }) (map (λ n. record { dom = domain d; n = n }) (numbers_from a c))
 numbers_have d k a zero low high = absurd (omega (arith, low, high))

@@ -1,5 +1,5 @@
 -- The set of the domains that may run, and the table of the sets of cores by unit.
-use Rattle.std.proofs.Common.{◌≡◌, ◌<◌, ◌+◌, ◌*◌, ◌/◌, ◌%◌, ◌^◌, ℕ, zero, suc, Bool, true, false, List, [], ◌∷◌, length, refl, ap, sym, ◌∙◌, cond, arith}
+use Rattle.std.proofs.Common.{◌≡◌, ◌+◌, ◌*◌, ◌/◌, ◌%◌, ◌^◌, ℕ, zero, suc, Bool, true, false, List, [], ◌∷◌, refl, ap, sym, ◌∙◌, cond, arith}
 use Rattle.std.specs.Prelude.{Option, Some, None, ◌==◌, ◌&&◌, if◌then◌else◌, filter, nat_lt, slice_index_or}
 use Rattle.std.specs.List.{AllByRecursion}
 use Rattle.std.proofs.Math.Nat.{div-div-eq-div-mul}
@@ -11,16 +11,16 @@ use Rattle.sched_base.specs.declared.UnitId.{UnitId}
 use Rattle.sched_model.specs.declared.state.Credit2Domain.{Credit2Domain}
 use Rattle.sched_model.specs.declared.state.Credit2Records.{Credit2Records}
 use Rattle.sched_model.specs.Places.{at_place}
-use Rattle.sched_model.specs.Eligible.{has_budget, cores_of, is_allowed_by}
+use Rattle.sched_model.specs.EligibleUnits.{has_budget, cores_of, is_allowed_by}
 use Rattle.sched_model.specs.Credit2.{domain_has_budget}
-use Rattle.arrival_queue.proofs.Ranks.{not_less_test}
 use Rattle.arrival_queue.specs.Filters.{first_that, has_domain, may_run}
 use Rattle.arrival_queue.specs.Queues.{Queued}
 use Rattle.credit2_core.specs.Places.{has_joined}
 use Rattle.credit2_core.specs.Domains.{may_run_at, may_run_bit, AreRunnable, set_of, masked_cores}
 use Rattle.credit2_core.specs.Choice.{may_take}
-use Rattle.credit2_core.specs.Held.{AreMasks}
+use Rattle.credit2_core.specs.Credit2State.{AreMasks}
 use Rattle.std.proofs.Math.Bool.{and_comm}
+use Rattle.std.proofs.lemmas.Bool.{le-ltb}
 
 -- the lowest bit of a number, and the others
 low_bit : (place : Option Credit2Domain) (r : ℕ) → ((may_run_bit place + 2 * r) % 2 == 1) ≡ may_run_at place
@@ -77,11 +77,5 @@ passes_each affinity masks records set core home (u ∷ units) runnable are join
 -- the masks, before one is written
 pub masked_none : (masks : List Cores) (d : ℕ) (sets : List Cores) (u : UnitId) → mask_of masks u ≡ masked_cores masks d sets 0 u
 masked_none masks d sets u =
-    let e : nat_lt u.n 0 ≡ false = not_less_test u.n 0 (omega arith) in
+    let e : nat_lt u.n 0 ≡ false = le-ltb u.n 0 (omega arith) in
     elim (u.dom.0 == d) as (λ b. mask_of masks u ≡ (if b && nat_lt u.n 0 then slice_index_or sets u.n (core_set 0) else mask_of masks u)) [ true ↦ rw e refl | false ↦ refl ]
-
--- what is read of a place that is there
-pub same_read : {X : Type 0} (xs : List X) (k : ℕ) (a b : X) → k < length xs → slice_index_or xs k a ≡ slice_index_or xs k b
-same_read [] k a b inside = absurd (omega (arith, inside))
-same_read (x ∷ xs) zero a b inside = refl
-same_read (x ∷ xs) (suc k) a b inside = same_read xs k a b (omega (arith, inside))

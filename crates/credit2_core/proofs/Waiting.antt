@@ -4,12 +4,12 @@ use Rattle.std.specs.Prelude.{ℕ, Option, Some, None, filter, not, ◌||◌, �
 use Rattle.std.specs.List.{AllByRecursion}
 use Rattle.std.proofs.lemmas.Int.{ints}
 use Rattle.std.proofs.lemmas.List.{append-nil}
+use Rattle.std.proofs.lemmas.Bool.{cases_Bool}
 use Rattle.sched_base.specs.declared.UnitId.{UnitId}
 use Rattle.sched_model.specs.declared.state.Credit2Records.{Credit2Records}
 use Rattle.sched_model.specs.Places.{without_unit}
 use Rattle.sched_model.specs.Places as places
 use Rattle.sched_model.specs.Credit2.{greatest_unit, credit_of, is_within_limit, is_better, change_unit, burn_unit, max_weight}
-use Rattle.sched_laws.proofs.Bools.{either}
 use Rattle.arrival_queue.specs.declared.key.Key.{Key}
 use Rattle.arrival_queue.specs.Queues.{Queued, queued_unit, list_with, list_without, rank_in, closed_up, has_unit, is_less, goes_before}
 use Rattle.arrival_queue.specs.Filters.{first_that}
@@ -58,7 +58,7 @@ pub has_arrived : (u : UnitId) (es : List Queued) → u.n < 256 → AreSmall (ar
 has_arrived u es low small = sym (laws.has_arrived u es low (queued_have (λ (w : UnitId). w.n < 256) es small))
 
 less_key : (a b : ℤ) → is_less (record { first = neg_ℤ a; second = 0 }) (record { first = neg_ℤ b; second = 0 }) ≡ int_lt b a
-less_key a b = elim (either (int_lt b a)) [
+less_key a b = elim (cases_Bool (int_lt b a)) [
   | inl is ↦ (let e : int_lt (neg_ℤ a) (neg_ℤ b) ≡ true = lower a b is in rw (e, is) refl)
   | inr is ↦ (let e : int_lt (neg_ℤ a) (neg_ℤ b) ≡ false = higher a b is in rw (e, is) (no_less (int_lt (neg_ℤ b) (neg_ℤ a))))
 ]
@@ -94,7 +94,7 @@ greatest_own records own units =
 
 -- of two units in the order of the queue the second has no more credit
 no_richer : (records : Credit2Records) (a b : Queued) → a.key ≡ key_in records a.unit → b.key ≡ key_in records b.unit → goes_before a b ≡ true → int_lt (credit_of records a.unit) (credit_of records b.unit) ≡ false
-no_richer records a b own other before = elim (either (int_lt (credit_of records a.unit) (credit_of records b.unit))) [
+no_richer records a b own other before = elim (cases_Bool (int_lt (credit_of records a.unit) (credit_of records b.unit))) [
   | inl is ↦ (
       let first : is_less a.key b.key ≡ false =
       ap (λ (k : Key). is_less k b.key) own ∙ ap (is_less (key_in records a.unit)) other ∙ less_key (credit_of records a.unit) (credit_of records b.unit)

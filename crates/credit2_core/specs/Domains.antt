@@ -6,7 +6,7 @@ use Rattle.sched_base.specs.declared.Cores.{Cores}
 use Rattle.sched_base.specs.declared.UnitId.{UnitId}
 use Rattle.sched_model.specs.declared.state.Credit2Domain.{Credit2Domain}
 use Rattle.sched_model.specs.Places.{at_place}
-use Rattle.sched_model.specs.Eligible.{has_budget}
+use Rattle.sched_model.specs.EligibleUnits.{has_budget}
 use Rattle.arrival_queue.specs.Filters.{has_domain}
 
 -- 1 where the cap lets the domain run

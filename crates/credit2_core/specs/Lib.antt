@@ -3,6 +3,6 @@ pub mod Places
 pub mod Domains
 pub mod Choice
 pub mod Timing
-pub mod Held
+pub mod Credit2State
 pub mod Room
 pub mod Whole

@@ -7,27 +7,27 @@ use Rattle.sched_model.specs.Credit2.{max_weight}
 use Rattle.arrival_queue.specs.Filters.{first_that, has_domain}
 use Rattle.arrival_queue.specs.Queues.{Queued}
 use Rattle.sched_ops.specs.Seen.{Seen, vacant_scheduler}
-use Rattle.credit2_core.specs.declared.held.Held.{Held}
+use Rattle.credit2_core.specs.declared.state.Credit2State.{Credit2State}
 use Rattle.credit2_core.specs.declared.line.Ready.{Ready}
 use Rattle.credit2_core.specs.Choice.{first_ready}
 use Rattle.credit2_core.specs.Domains.{AreRunnable, AreRunnableBut}
-use Rattle.credit2_core.specs.Held.{IsHeld, seen_in}
+use Rattle.credit2_core.specs.Credit2State.{IsSound, seen_in}
 
 -- a pool with this rate limit, without places for domains
 abbrev pub bare_pool : ℕ → ℕ → Seen
 bare_pool limit latest = record { scheduler = vacant_scheduler (pool_params.Credit2 limit) 0 0; spare = 0; latest = latest }
 
 -- what callers see of what is kept; without memory a rate limit and the greatest moment given
-abbrev pub seen_by : Option Held → ℕ → ℕ → Seen
+abbrev pub seen_by : Option Credit2State → ℕ → ℕ → Seen
 seen_by None limit early = bare_pool limit early
 seen_by (Some h) limit early = seen_in h
 
 -- what is kept, where there is any, holds
-abbrev pub IsWhole : Option Held → Type 0
-IsWhole held = ForSome held IsHeld
+abbrev pub IsWhole : Option Credit2State → Type 0
+IsWhole state = ForSome state IsSound
 
 -- the set is that of the domains that may run, the unit the first that waits of one of them, and the weight the greatest
-pub record IsReadyIn (h : Held) (ready : Ready) : Type 0 where
+pub record IsReadyIn (h : Credit2State) (ready : Ready) : Type 0 where
   pub domains : AreRunnable h.records.domains ready.domains
   pub first : ready.first ≡ first_ready h.records h.queue.units
   pub most : ready.most ≡ max_weight h.records
@@ -44,6 +44,6 @@ stays_first ready d true = has_domain ready.domains d
 stays_first ready d false = elim ready.first [ None ↦ true | Some u ↦ not (u.dom.0 == d) ]
 
 -- and so is what is kept beside it
-pub record IsReady (held : Option Held) (ready : Ready) : Type 0 where
-  pub whole : IsWhole held
-  pub rest : ForSome held (λ (h : Held). IsReadyIn h ready)
+pub record IsReady (state : Option Credit2State) (ready : Ready) : Type 0 where
+  pub whole : IsWhole state
+  pub rest : ForSome state (λ (h : Credit2State). IsReadyIn h ready)

@@ -3,10 +3,10 @@
 ghost use Rattle.std.specs.Prelude.{◌≡◌, ◌≤◌};
 ghost use Rattle.credit2_core.specs.Whole.{seen_by};
 
-use crate::held::Held;
 use crate::line::{Ready, ready_in};
 use crate::room::DEFAULT_LIMIT;
-use crate::{decide, params, room, small, timers, wanted};
+use crate::state::Credit2State;
+use crate::{decide, params, queue, room, timers, wanted};
 use sched_base::{Cores, DomId, Moment, NoMemory, UnitId};
 use sched_model::ask::Ask;
 use sched_model::config::{DomParams, ParamChange, PoolParams};
@@ -24,7 +24,7 @@ use std::mem;
 /// the records, with the rate limit in microseconds.
 #[derive(Drop)]
 pub struct Credit2 {
-    held: Option<Held>,
+    state: Option<Credit2State>,
     limit: u32,
     early: u64,
     ready: Ready,
@@ -37,18 +37,18 @@ impl Model for Credit2 {
 
     ghost use Rattle.credit2_core.specs.Whole.{seen_by, IsReady};
 
-    ghost view = { λ a. seen_by a.held a.limit a.early };
+    ghost view = { λ a. seen_by a.state a.limit a.early };
 
-    ghost invariant = { λ a. IsReady a.held a.ready };
+    ghost invariant = { λ a. IsReady a.state a.ready };
 }
 
 /// The greatest moment that was given, in nanoseconds.
-fn latest_of(held: &Option<Held>, early: u64) -> u64
-    ensures { result ≡ (seen_by held.now 0 early).latest }
+fn latest_of(state: &Option<Credit2State>, early: u64) -> u64
+    ensures { result ≡ (seen_by state.now 0 early).latest }
 {
-    match held {
+    match state {
         None => early,
-        Some(held) => held.latest,
+        Some(state) => state.latest,
     }
 }
 
@@ -70,7 +70,7 @@ impl Credit2 {
         ensures { result ≡ bare_pool 1000 0 }
     {
         Credit2 {
-            held: None,
+            state: None,
             limit: DEFAULT_LIMIT,
             early: 0,
             ready: Ready {
@@ -86,21 +86,21 @@ impl Policy for Credit2 {
     ghost seen = { λ s. s };
 
     fn reserve(&mut self, alloc: Global, places: Places, units: usize) -> Result<(), NoMemory> {
-        let latest = latest_of(&self.held, self.early);
-        let held = room::reserve(alloc, places.domains, units, latest)?;
-        self.ready = ready_in(&held);
-        drop(mem::replace(&mut self.held, Some(held)));
+        let latest = latest_of(&self.state, self.early);
+        let state = room::reserve(alloc, places.domains, units, latest)?;
+        self.ready = ready_in(&state);
+        drop(mem::replace(&mut self.state, Some(state)));
         Ok(())
     }
 
     fn restart(&mut self, params: &PoolParams) {
         if let PoolParams::Credit2 { limit } = params {
             let limit = *limit;
-            match &mut self.held {
+            match &mut self.state {
                 None => self.limit = limit,
-                Some(held) => {
-                    small::restart(held, limit);
-                    self.ready = ready_in(held);
+                Some(state) => {
+                    queue::restart(state, limit);
+                    self.ready = ready_in(state);
                 }
             }
         }
@@ -108,32 +108,32 @@ impl Policy for Credit2 {
 
     fn join(&mut self, d: DomId, units: u8, params: &DomParams, t: Moment) {
         if let DomParams::Credit2 { weight, cap } = *params {
-            if let Some(held) = &mut self.held {
-                params::join(held, &mut self.ready, d, units, weight, cap, t);
+            if let Some(state) = &mut self.state {
+                params::join(state, &mut self.ready, d, units, weight, cap, t);
             }
         }
     }
 
     fn part(&mut self, d: DomId) {
-        if let Some(held) = &mut self.held {
-            params::part(held, &mut self.ready, d);
+        if let Some(state) = &mut self.state {
+            params::part(state, &mut self.ready, d);
         }
     }
 
     fn enqueue(&mut self, u: UnitId) {
-        if let Some(held) = &mut self.held {
-            small::enqueue(held, &mut self.ready, u);
+        if let Some(state) = &mut self.state {
+            queue::enqueue(state, &mut self.ready, u);
         }
     }
 
     fn dequeue(&mut self, u: UnitId) {
-        if let Some(held) = &mut self.held {
-            small::dequeue(held, &mut self.ready, u);
+        if let Some(state) = &mut self.state {
+            queue::dequeue(state, &mut self.ready, u);
         }
     }
 
     fn choose(&mut self, ask: &Ask) -> Choice {
-        match &mut self.held {
+        match &mut self.state {
             None => {
                 self.early = ask.at.0;
                 Choice {
@@ -142,63 +142,63 @@ impl Policy for Credit2 {
                     reset: 0,
                 }
             }
-            Some(held) => decide::choose(held, &mut self.ready, ask),
+            Some(state) => decide::choose(state, &mut self.ready, ask),
         }
     }
 
     fn wanted(&self, cores: &[Option<Resource>], t: Moment, home: Cores) -> Cores {
-        match &self.held {
+        match &self.state {
             None => Cores(0),
-            Some(held) => wanted::wanted(held, &self.ready, cores, t, home),
+            Some(state) => wanted::wanted(state, &self.ready, cores, t, home),
         }
     }
 
     fn timer_due(&self, t: Moment) -> Option<(Moment, Timer)> {
-        match &self.held {
+        match &self.state {
             None => None,
-            Some(held) => timers::timer_due(held, t),
+            Some(state) => timers::timer_due(state, t),
         }
     }
 
     fn timer(&mut self, which: Timer, t: Moment) -> Event {
         match which {
             Timer::Repl(u) => no_event(u.dom),
-            Timer::Refill(d) => match &mut self.held {
+            Timer::Refill(d) => match &mut self.state {
                 None => no_event(d),
-                Some(held) => timers::refill(held, &mut self.ready, d, t),
+                Some(state) => timers::refill(state, &mut self.ready, d, t),
             },
         }
     }
 
     fn set_params(&mut self, change: &ParamChange, t: Moment) {
-        match &mut self.held {
+        match &mut self.state {
             None => {
                 if let ParamChange::Rate { limit } = change {
                     self.limit = *limit;
                 }
                 self.early = t.0;
             }
-            Some(held) => params::set_params(held, &mut self.ready, change, t),
+            Some(state) => params::set_params(state, &mut self.ready, change, t),
         }
     }
 
     fn stored(&self, u: UnitId) -> Stored {
-        match &self.held {
+        match &self.state {
             None => Stored::Null,
-            Some(held) => small::stored(held, u),
+            Some(state) => queue::stored(state, u),
         }
     }
 
     fn rate(&self) -> u32 {
-        match &self.held {
+        match &self.state {
             None => self.limit,
-            Some(held) => held.records.limit,
+            Some(state) => state.records.limit,
         }
     }
 
     fn keeps(&self) {
-        if let Some(held) = &self.held {
-            small::keeps(held);
+        if let Some(state) = &self.state {
+            queue::keeps(state);
         }
     }
 }

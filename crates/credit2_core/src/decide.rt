@@ -1,6 +1,6 @@
 //! The decision for a core. Moments are in nanoseconds.
 
-ghost use Rattle.sched_model.specs.Checked.{most_span};
+ghost use Rattle.sched_model.specs.CheckedMachine.{most_span};
 ghost use Rattle.std.specs.Prelude.{◌≡◌, ◌≤◌, ◌<◌, length, Some, None, true, false};
 ghost use Rattle.queue_laws.specs.Arrivals.{arrivals};
 ghost use Rattle.sched_model.specs.Places.{without_unit, has_unit, is_unit};
@@ -9,14 +9,14 @@ ghost use Rattle.sched_model.specs.Credit2.{burn_cur as burn_cur_spec, decide, r
 ghost use Rattle.sched_ops.specs.Seen.{Tells, seen_at};
 ghost use Rattle.sched_ops.specs.Conditions.{IsAsked};
 ghost use Rattle.plain_credit2.specs.Bounds.{PoolFits};
-ghost use Rattle.credit2_core.specs.Held.{IsFree, IsHeld, IsLine, IsSameRoom, AreMasks, scheduler_in, seen_in};
+ghost use Rattle.credit2_core.specs.Credit2State.{IsFree, IsSound, IsLine, IsSameRoom, AreMasks, scheduler_in, seen_in};
 ghost use Rattle.credit2_core.specs.Choice.{records_after_run};
 ghost use Rattle.credit2_core.specs.Whole.{IsReadyIn};
 
 use crate::choice::{choice, leave, reset_pool};
-use crate::held::Held;
 use crate::line::{Ready, follow};
 use crate::slice::take_slice;
+use crate::state::Credit2State;
 use plain_credit2::choice::resets_for;
 use plain_credit2::running::{charge, set_running, switch_off};
 use plain_units::units::is_there;
@@ -25,43 +25,43 @@ use sched_model::ask::Ask;
 use sched_ops::Choice;
 
 /// The core's own unit is charged.
-fn charge_own(held: &mut Held, ready: &mut Ready, ask: &Ask)
-    requires held { IsHeld held.old }
-    requires ready { IsReadyIn held.old ready.old }
-    requires asked { IsAsked (seen_in held.old) ask.now }
-    ensures records { held.new.records ≡ burn_cur_spec ask.now.cur ask.now.at.0 held.old.records }
-    ensures fits { PoolFits ask.now.at.0 held.new.records }
-    ensures line { IsLine held.new }
-    ensures ready { IsReadyIn held.new ready.new }
-    ensures rest { held.new ≡ record held.old { records = held.new.records } }
+fn charge_own(state: &mut Credit2State, ready: &mut Ready, ask: &Ask)
+    requires sound { IsSound state.old }
+    requires ready { IsReadyIn state.old ready.old }
+    requires asked { IsAsked (seen_in state.old) ask.now }
+    ensures records { state.new.records ≡ burn_cur_spec ask.now.cur ask.now.at.0 state.old.records }
+    ensures fits { PoolFits ask.now.at.0 state.new.records }
+    ensures line { IsLine state.new }
+    ensures ready { IsReadyIn state.new ready.new }
+    ensures rest { state.new ≡ record state.old { records = state.new.records } }
 {
     if let Some(u) = ask.cur {
-        charge(ready.most, u, ask.at, &mut held.records);
-        *ready = follow(held, *ready, u.dom, true);
+        charge(ready.most, u, ask.at, &mut state.records);
+        *ready = follow(state, *ready, u.dom, true);
     }
 }
 
 /// The core's own unit runs no more.
-fn stop_own(held: &mut Held, ask: &Ask)
-    requires { IsLine held.old }
-    ensures records { held.new.records ≡ switch_off_spec ask.now.cur held.old.records }
-    ensures line { IsLine held.new }
-    ensures rest { held.new ≡ record held.old
-        { records = held.new.records; latest = ask.now.at.0 } }
+fn stop_own(state: &mut Credit2State, ask: &Ask)
+    requires { IsLine state.old }
+    ensures records { state.new.records ≡ switch_off_spec ask.now.cur state.old.records }
+    ensures line { IsLine state.new }
+    ensures rest { state.new ≡ record state.old
+        { records = state.new.records; latest = ask.now.at.0 } }
 {
-    switch_off(ask.cur, &mut held.records);
-    held.latest = ask.at.0;
+    switch_off(ask.cur, &mut state.records);
+    state.latest = ask.at.0;
 }
 
 /// The unit, which does not wait, runs from the moment of the question.
-fn start(held: &mut Held, ask: &Ask, u: UnitId)
-    requires line { IsLine held.old }
-    requires waits_not { has_unit (arrivals held.old.queue.units) u ≡ false }
-    ensures records { held.new.records ≡ set_running_spec (Some ask.now.at.0) u held.old.records }
-    ensures line { IsLine held.new }
-    ensures rest { held.new ≡ record held.old { records = held.new.records } }
+fn start(state: &mut Credit2State, ask: &Ask, u: UnitId)
+    requires line { IsLine state.old }
+    requires waits_not { has_unit (arrivals state.old.queue.units) u ≡ false }
+    ensures records { state.new.records ≡ set_running_spec (Some ask.now.at.0) u state.old.records }
+    ensures line { IsLine state.new }
+    ensures rest { state.new ≡ record state.old { records = state.new.records } }
 {
-    set_running(Some(ask.at.0), u, &mut held.records);
+    set_running(Some(ask.at.0), u, &mut state.records);
 }
 
 /// Whether the first unit of those that wait still is it, once the unit waits no more and so many resets were made.
@@ -73,35 +73,35 @@ fn stands(first: Option<UnitId>, u: UnitId, resets: u64) -> bool
 }
 
 /// The core runs the unit: the resets that it calls for are made, and it takes its budget.
-fn run_unit(held: &mut Held, ready: &mut Ready, ask: &Ask, u: UnitId) -> Choice
-    requires ready { IsReadyIn held.old ready.old }
+fn run_unit(state: &mut Credit2State, ready: &mut Ready, ask: &Ask, u: UnitId) -> Choice
+    requires ready { IsReadyIn state.old ready.old }
     requires core { ask.now.core.0 < 64 }
     requires early { ask.now.at.0 ≤ most_span }
-    requires fits { PoolFits ask.now.at.0 held.old.records }
-    requires limit { held.old.records.limit ≤ 500000 }
-    requires few { length held.old.records.domains ≤ 64 }
-    requires places { length held.old.affinity ≤ 64 }
-    requires line { IsLine held.old }
-    requires masks { AreMasks held.old.affinity held.old.masks }
-    requires free { IsFree held.old.unpinned held.old.affinity }
-    ensures tells { Tells result (decide ask.now (scheduler_in held.old) held.old.records
+    requires fits { PoolFits ask.now.at.0 state.old.records }
+    requires limit { state.old.records.limit ≤ 500000 }
+    requires few { length state.old.records.domains ≤ 64 }
+    requires places { length state.old.affinity ≤ 64 }
+    requires line { IsLine state.old }
+    requires masks { AreMasks state.old.affinity state.old.masks }
+    requires free { IsFree state.old.unpinned state.old.affinity }
+    ensures tells { Tells result (decide ask.now (scheduler_in state.old) state.old.records
         (Some u)) }
-    ensures records { held.new.records ≡ records_after_run ask.now.cur ask.now.at.0
-        (resets_for_spec ask.now.at.0 u held.old.records) u held.old.records }
-    ensures order { arrivals held.new.queue.units ≡ without_unit u (arrivals held.old.queue.units) }
-    ensures line { IsLine held.new }
-    ensures ready { IsReadyIn held.new ready.new }
-    ensures room { IsSameRoom held.old.queue held.new.queue }
-    ensures rest { held.new ≡ record held.old
-        { records = held.new.records; queue = held.new.queue; latest = ask.now.at.0 } }
+    ensures records { state.new.records ≡ records_after_run ask.now.cur ask.now.at.0
+        (resets_for_spec ask.now.at.0 u state.old.records) u state.old.records }
+    ensures order { arrivals state.new.queue.units ≡ without_unit u (arrivals state.old.queue.units) }
+    ensures line { IsLine state.new }
+    ensures ready { IsReadyIn state.new ready.new }
+    ensures room { IsSameRoom state.old.queue state.new.queue }
+    ensures rest { state.new ≡ record state.old
+        { records = state.new.records; queue = state.new.queue; latest = ask.now.at.0 } }
 {
-    leave(held, u);
-    let resets = resets_for(ask.at, u, &held.records);
-    reset_pool(held, ask.at, resets);
+    leave(state, u);
+    let resets = resets_for(ask.at, u, &state.records);
+    reset_pool(state, ask.at, resets);
     let stands = stands(ready.first, u, resets);
-    let long = take_slice(held, ready, ask, u, stands);
-    stop_own(held, ask);
-    start(held, ask, u);
+    let long = take_slice(state, ready, ask, u, stands);
+    stop_own(state, ask);
+    start(state, ask, u);
     Choice {
         unit: Some(u),
         due: Some(Moment(ask.at.0 + long)),
@@ -110,15 +110,15 @@ fn run_unit(held: &mut Held, ready: &mut Ready, ask: &Ask, u: UnitId) -> Choice
 }
 
 /// The core idles.
-fn idle(held: &mut Held, ask: &Ask) -> Choice
-    requires { IsLine held.old }
-    ensures tells { Tells result (decide ask.now (scheduler_in held.old) held.old.records None) }
-    ensures records { held.new.records ≡ switch_off_spec ask.now.cur held.old.records }
-    ensures line { IsLine held.new }
-    ensures rest { held.new ≡ record held.old
-        { records = held.new.records; latest = ask.now.at.0 } }
+fn idle(state: &mut Credit2State, ask: &Ask) -> Choice
+    requires { IsLine state.old }
+    ensures tells { Tells result (decide ask.now (scheduler_in state.old) state.old.records None) }
+    ensures records { state.new.records ≡ switch_off_spec ask.now.cur state.old.records }
+    ensures line { IsLine state.new }
+    ensures rest { state.new ≡ record state.old
+        { records = state.new.records; latest = ask.now.at.0 } }
 {
-    stop_own(held, ask);
+    stop_own(state, ask);
     Choice {
         unit: None,
         due: None,
@@ -127,20 +127,20 @@ fn idle(held: &mut Held, ask: &Ask) -> Choice
 }
 
 /// Decides for a core: its own unit is charged first, and then the choice is made of it and the first that waits and may run.
-pub fn choose(held: &mut Held, ready: &mut Ready, ask: &Ask) -> Choice
-    requires held { IsHeld held.old }
-    requires ready { IsReadyIn held.old ready.old }
-    requires asked { IsAsked (seen_in held.old) ask.now }
-    ensures answer { Tells result (decision_of ask.now (scheduler_in held.old)) }
-    ensures after { seen_in held.new ≡ seen_at ask.now.at.0
-        (after_decision (decision_of ask.now (scheduler_in held.old)) (scheduler_in held.old))
-        (seen_in held.old) }
-    ensures held { IsHeld held.new }
-    ensures ready { IsReadyIn held.new ready.new }
+pub fn choose(state: &mut Credit2State, ready: &mut Ready, ask: &Ask) -> Choice
+    requires sound { IsSound state.old }
+    requires ready { IsReadyIn state.old ready.old }
+    requires asked { IsAsked (seen_in state.old) ask.now }
+    ensures answer { Tells result (decision_of ask.now (scheduler_in state.old)) }
+    ensures after { seen_in state.new ≡ seen_at ask.now.at.0
+        (after_decision (decision_of ask.now (scheduler_in state.old)) (scheduler_in state.old))
+        (seen_in state.old) }
+    ensures sound { IsSound state.new }
+    ensures ready { IsReadyIn state.new ready.new }
 {
-    charge_own(held, ready, ask);
-    match choice(held, ready, ask) {
-        None => idle(held, ask),
-        Some(u) => run_unit(held, ready, ask, u),
+    charge_own(state, ready, ask);
+    match choice(state, ready, ask) {
+        None => idle(state, ask),
+        Some(u) => run_unit(state, ready, ask, u),
     }
 }

@@ -9,7 +9,7 @@ ghost use Rattle.sched_model.specs.Places.{at_place};
 ghost use Rattle.credit2_core.specs.Places.{refill_of, count_at as count_at_spec};
 ghost use Rattle.credit2_core.specs.Domains.{may_run_at, may_run_bit, set_of, masked_cores};
 
-use due_heap::DueHeap;
+use due_heap::{DueHeap, put_id};
 use plain_credit2::choice::has_budget;
 use plain_credit2::running::domain_at;
 use sched_base::{Cores, DomId, Moment, UnitId};
@@ -55,11 +55,11 @@ pub fn with_domain(set: u64, d: DomId, is_in: bool) -> u64
     ensures others { (i : ℕ) → i ≢ d.0 → has_domain result i ≡ has_domain set i }
     ensures there { has_domain result d.0 ≡ (is_in && nat_lt d.0 64) }
 {
-    if d.0 >= 64 {
-        return set;
+    if d.0 < 64 {
+        put_id(set, d.0 as u16, is_in)
+    } else {
+        set
     }
-    let bit = 1u64 << d.0;
-    if is_in { set | bit } else { set & !bit }
 }
 
 /// Writes the sets of cores of a domain's units into the table.

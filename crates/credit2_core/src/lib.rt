@@ -5,12 +5,12 @@ mod choice;
 pub mod credit2;
 mod decide;
 mod domains;
-mod held;
 mod line;
 mod params;
+mod queue;
 mod room;
 mod slice;
-mod small;
+mod state;
 mod timers;
 mod wanted;
 

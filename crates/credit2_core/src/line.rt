@@ -7,15 +7,15 @@ ghost use Rattle.queue_laws.specs.Arrivals.{arrivals};
 ghost use Rattle.sched_model.specs.Credit2.{credit_of as credit_of_spec};
 ghost use Rattle.credit2_core.specs.Keys.{HasCredits, KeysWhere, is_passed};
 ghost use Rattle.credit2_core.specs.Places.{has_joined};
-ghost use Rattle.sched_model.specs.Eligible.{is_allowed_by};
-ghost use Rattle.credit2_core.specs.Held.{AreMasks, IsFree, IsLine, IsSameLine};
+ghost use Rattle.sched_model.specs.EligibleUnits.{is_allowed_by};
+ghost use Rattle.credit2_core.specs.Credit2State.{AreMasks, IsFree, IsLine, IsSameLine};
 ghost use Rattle.arrival_queue.specs.Filters.{has_domain as domain_in};
 ghost use Rattle.credit2_core.specs.Choice.{best_of, richer_of, first_ready as first_ready_spec, first_with as first_with_spec};
 ghost use Rattle.credit2_core.specs.Domains.{AreRunnable};
 ghost use Rattle.credit2_core.specs.Whole.{IsReadyIn, IsReadyBut, stays_first};
 
 use crate::domains::{count_at, may_run, runnable_domains, with_domain};
-use crate::held::Held;
+use crate::state::Credit2State;
 use arrival_queue::has_domain;
 use plain_credit2::running::{credit_of, max_weight};
 use plain_units::eligible::is_allowed;
@@ -75,17 +75,17 @@ pub fn rekey_all(queue: &mut Runq, records: &Credit2Records, affinity: &[Option<
 
 /// The unit of greatest credit of those that wait and may take the core; among equals the earlier. The set is that of the domains
 /// that may run.
-fn best_waiting(held: &Held, runnable: u64, core: ResId, home: Cores) -> Option<UnitId>
-    requires set { AreRunnable held.now.records.domains runnable }
+fn best_waiting(state: &Credit2State, runnable: u64, core: ResId, home: Cores) -> Option<UnitId>
+    requires set { AreRunnable state.now.records.domains runnable }
     requires core { core.0 < 64 }
-    requires line { IsLine held.now }
-    requires masks { AreMasks held.now.affinity held.now.masks }
-    ensures { result ≡ best_of (arrivals held.now.queue.units) held.now.affinity home.0 core.0
-        held.now.records }
+    requires line { IsLine state.now }
+    requires masks { AreMasks state.now.affinity state.now.masks }
+    ensures { result ≡ best_of (arrivals state.now.queue.units) state.now.affinity home.0 core.0
+        state.now.records }
 {
-    held.queue.law_order();
+    state.queue.law_order();
     let allowed = Allowed(runnable);
-    held.queue.first_on(&allowed, &held.masks, core, home)
+    state.queue.first_on(&allowed, &state.masks, core, home)
 }
 
 /// What is kept from change to change, so that neither a decision nor a question makes it: the set of the domains that may run, with bit d
@@ -98,23 +98,23 @@ pub struct Ready {
 }
 
 /// The first unit that waits of a domain that may run. The set is that of these domains.
-pub fn first_ready(held: &Held, domains: u64) -> Option<UnitId>
-    requires { AreRunnable held.now.records.domains domains }
-    ensures { result ≡ first_ready_spec held.now.records held.now.queue.units }
+pub fn first_ready(state: &Credit2State, domains: u64) -> Option<UnitId>
+    requires { AreRunnable state.now.records.domains domains }
+    ensures { result ≡ first_ready_spec state.now.records state.now.queue.units }
 {
-    held.queue.first_where(&Allowed(domains))
+    state.queue.first_where(&Allowed(domains))
 }
 
 /// All that is kept, made of the whole pool.
-pub fn ready_in(held: &Held) -> Ready
-    requires { length held.now.records.domains ≤ 64 }
-    ensures { IsReadyIn held.now result }
+pub fn ready_in(state: &Credit2State) -> Ready
+    requires { length state.now.records.domains ≤ 64 }
+    ensures { IsReadyIn state.now result }
 {
-    let domains = runnable_domains(held.records.domains.as_slice());
+    let domains = runnable_domains(state.records.domains.as_slice());
     Ready {
         domains,
-        first: first_ready(held, domains),
-        most: max_weight(&held.records),
+        first: first_ready(state, domains),
+        most: max_weight(&state.records),
     }
 }
 
@@ -133,12 +133,12 @@ fn keeps_first(ready: Ready, d: DomId, may_run: bool) -> bool
 
 /// What is kept, once the record of one domain was written. The unit that stands, as the first by the set that was kept, stays the first
 /// unless the domain may run only now, or is the unit's own and may run no more; else the first is looked for.
-pub fn follow(held: &Held, ready: Ready, d: DomId, stands: bool) -> Ready
-    requires few { length held.now.records.domains ≤ 64 }
-    requires but { IsReadyBut d.0 stands held.now.records held.now.queue.units ready }
-    ensures { IsReadyIn held.now result }
+pub fn follow(state: &Credit2State, ready: Ready, d: DomId, stands: bool) -> Ready
+    requires few { length state.now.records.domains ≤ 64 }
+    requires but { IsReadyBut d.0 stands state.now.records state.now.queue.units ready }
+    ensures { IsReadyIn state.now result }
 {
-    let may = may_run(held.records.domains.as_slice(), d);
+    let may = may_run(state.records.domains.as_slice(), d);
     let domains = with_domain(ready.domains, d, may);
     if stands && keeps_first(ready, d, may) {
         return Ready {
@@ -149,7 +149,7 @@ pub fn follow(held: &Held, ready: Ready, d: DomId, stands: bool) -> Ready
     }
     Ready {
         domains,
-        first: first_ready(held, domains),
+        first: first_ready(state, domains),
         most: ready.most,
     }
 }
@@ -185,33 +185,33 @@ pub fn first_with(records: &Credit2Records, ready: Ready, u: UnitId) -> Option<U
 
 /// Whether a unit that has joined may be on the core. Where none was pinned, each may be on every core.
 #[inline]
-pub fn may_be_on(held: &Held, u: UnitId, core: ResId, home: Cores) -> bool
-    requires free { IsFree held.now.unpinned held.now.affinity }
-    requires joined { has_joined held.now.affinity u ≡ true }
+pub fn may_be_on(state: &Credit2State, u: UnitId, core: ResId, home: Cores) -> bool
+    requires free { IsFree state.now.unpinned state.now.affinity }
+    requires joined { has_joined state.now.affinity u ≡ true }
     requires core { core.0 < 64 }
-    ensures { result ≡ is_allowed_by held.now.affinity home.0 core.0 u }
+    ensures { result ≡ is_allowed_by state.now.affinity home.0 core.0 u }
 {
-    held.unpinned || is_allowed(held.affinity.as_slice(), home, core, u)
+    state.unpinned || is_allowed(state.affinity.as_slice(), home, core, u)
 }
 
 /// As `best_waiting`. Where the first unit of a domain that may run may take the core, no other one is looked for.
-pub fn best_ready(held: &Held, ready: &Ready, core: ResId, home: Cores) -> Option<UnitId>
-    requires ready { IsReadyIn held.now ready.now }
-    requires free { IsFree held.now.unpinned held.now.affinity }
+pub fn best_ready(state: &Credit2State, ready: &Ready, core: ResId, home: Cores) -> Option<UnitId>
+    requires ready { IsReadyIn state.now ready.now }
+    requires free { IsFree state.now.unpinned state.now.affinity }
     requires core { core.0 < 64 }
-    requires line { IsLine held.now }
-    requires masks { AreMasks held.now.affinity held.now.masks }
-    ensures { result ≡ best_of (arrivals held.now.queue.units) held.now.affinity home.0 core.0
-        held.now.records }
+    requires line { IsLine state.now }
+    requires masks { AreMasks state.now.affinity state.now.masks }
+    ensures { result ≡ best_of (arrivals state.now.queue.units) state.now.affinity home.0 core.0
+        state.now.records }
 {
-    held.queue.law_order();
+    state.queue.law_order();
     match ready.first {
         None => None,
         Some(u) => {
-            if may_be_on(held, u, core, home) {
+            if may_be_on(state, u, core, home) {
                 Some(u)
             } else {
-                best_waiting(held, ready.domains, core, home)
+                best_waiting(state, ready.domains, core, home)
             }
         }
     }

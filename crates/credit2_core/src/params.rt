@@ -11,14 +11,14 @@ ghost use Rattle.sched_model.specs.Places.{at_place};
 ghost use Rattle.sched_model.specs.Policy.{join as join_spec, part as part_spec, set_params as set_params_spec};
 ghost use Rattle.sched_ops.specs.Seen.{Seen, seen_at, units_of};
 ghost use Rattle.sched_ops.specs.Conditions.{IsNow, IsWeight, IsCap, HasNoneBusy, IsChange, has_joined as joined_spec};
-ghost use Rattle.credit2_core.specs.Held.{IsHeld, scheduler_in, seen_in};
+ghost use Rattle.credit2_core.specs.Credit2State.{IsSound, scheduler_in, seen_in};
 ghost use Rattle.arrival_queue.specs.Filters.{first_that, has_domain};
 ghost use Rattle.credit2_core.specs.Domains.{AreRunnableBut, refreshed_cores};
 ghost use Rattle.credit2_core.specs.Whole.{IsReadyIn};
 
 use crate::domains::{count_at, rearm, set_masks};
-use crate::held::Held;
 use crate::line::{Ready, follow};
+use crate::state::Credit2State;
 use plain_credit2::credit2;
 use plain_credit2::running::max_weight;
 use plain_policy::params;
@@ -42,20 +42,20 @@ fn refresh(masks: &mut Masks, affinity: &[Option<Pins>], d: DomId)
 }
 
 /// What is kept follows the domain, whose record was written; its weight may be another.
-fn reweigh(held: &Held, ready: &mut Ready, d: DomId)
-    requires few { length held.now.records.domains ≤ 64 }
-    requires domains { AreRunnableBut d.0 held.now.records.domains ready.old.domains }
+fn reweigh(state: &Credit2State, ready: &mut Ready, d: DomId)
+    requires few { length state.now.records.domains ≤ 64 }
+    requires domains { AreRunnableBut d.0 state.now.records.domains ready.old.domains }
     requires first { ready.old.first ≡ first_that (λ u. has_domain ready.old.domains u.dom.0)
-        held.now.queue.units }
-    ensures { IsReadyIn held.now ready.new }
+        state.now.queue.units }
+    ensures { IsReadyIn state.now ready.new }
 {
-    ready.most = max_weight(&held.records);
-    *ready = follow(held, *ready, d, true);
+    ready.most = max_weight(&state.records);
+    *ready = follow(state, *ready, d, true);
 }
 
 /// The domain joins at t, with so many units, 1 to 32. Its units may have all cores.
 pub fn join(
-    held: &mut Held,
+    state: &mut Credit2State,
     ready: &mut Ready,
     d: DomId,
     units: u8,
@@ -63,93 +63,93 @@ pub fn join(
     cap: u32,
     t: Moment,
 )
-    requires held { IsHeld held.old }
-    requires ready { IsReadyIn held.old ready.old }
-    requires place { d.0 < length held.old.affinity }
-    requires absent { at_place held.old.affinity d.0 ≡ None }
+    requires sound { IsSound state.old }
+    requires ready { IsReadyIn state.old ready.old }
+    requires place { d.0 < length state.old.affinity }
+    requires absent { at_place state.old.affinity d.0 ≡ None }
     requires few { units ≤ 32 }
-    requires room { units ≤ held.old.spare }
+    requires room { units ≤ state.old.spare }
     requires weight { IsWeight weight }
     requires cap { IsCap cap }
-    requires now { IsNow (seen_in held.old) t.0 }
-    ensures scheduler { scheduler_in held.new ≡ join_spec d.0 units (dom_params.Credit2 weight cap)
-        t.0 (scheduler_in held.old) }
-    ensures spare { held.new.spare ≡ held.old.spare - units }
-    ensures latest { held.new.latest ≡ t.0 }
-    ensures held { IsHeld held.new }
-    ensures ready { IsReadyIn held.new ready.new }
+    requires now { IsNow (seen_in state.old) t.0 }
+    ensures scheduler { scheduler_in state.new ≡ join_spec d.0 units (dom_params.Credit2 weight cap)
+        t.0 (scheduler_in state.old) }
+    ensures spare { state.new.spare ≡ state.old.spare - units }
+    ensures latest { state.new.latest ≡ t.0 }
+    ensures sound { IsSound state.new }
+    ensures ready { IsReadyIn state.new ready.new }
 {
     let sets = copies(Cores(u64::MAX), units);
-    set_place(&mut held.affinity, d.0, Some(sets));
-    refresh(&mut held.masks, held.affinity.as_slice(), d);
+    set_place(&mut state.affinity, d.0, Some(sets));
+    refresh(&mut state.masks, state.affinity.as_slice(), d);
     let domain = credit2::fresh_domain(weight, cap, units, t);
-    set_place(&mut held.records.domains, d.0, Some(domain));
-    rearm(&mut held.refills, held.records.domains.as_slice(), d);
-    held.spare -= units as usize;
-    held.latest = t.0;
-    reweigh(held, ready, d);
+    set_place(&mut state.records.domains, d.0, Some(domain));
+    rearm(&mut state.refills, state.records.domains.as_slice(), d);
+    state.spare -= units as usize;
+    state.latest = t.0;
+    reweigh(state, ready, d);
 }
 
 /// The domain parts. None of its units waits or is on.
-pub fn part(held: &mut Held, ready: &mut Ready, d: DomId)
-    requires held { IsHeld held.old }
-    requires ready { IsReadyIn held.old ready.old }
-    requires joined { joined_spec (scheduler_in held.old) d.0 ≡ true }
-    requires idle { HasNoneBusy (scheduler_in held.old) d.0 }
-    ensures scheduler { scheduler_in held.new ≡ part_spec d.0 (scheduler_in held.old) }
-    ensures spare { held.new.spare ≡ held.old.spare + units_of (scheduler_in held.old) d.0 }
-    ensures latest { held.new.latest ≡ held.old.latest }
-    ensures held { IsHeld held.new }
-    ensures ready { IsReadyIn held.new ready.new }
+pub fn part(state: &mut Credit2State, ready: &mut Ready, d: DomId)
+    requires sound { IsSound state.old }
+    requires ready { IsReadyIn state.old ready.old }
+    requires joined { joined_spec (scheduler_in state.old) d.0 ≡ true }
+    requires idle { HasNoneBusy (scheduler_in state.old) d.0 }
+    ensures scheduler { scheduler_in state.new ≡ part_spec d.0 (scheduler_in state.old) }
+    ensures spare { state.new.spare ≡ state.old.spare + units_of (scheduler_in state.old) d.0 }
+    ensures latest { state.new.latest ≡ state.old.latest }
+    ensures sound { IsSound state.new }
+    ensures ready { IsReadyIn state.new ready.new }
 {
-    let units = count_at(held.affinity.as_slice(), d);
-    set_place(&mut held.affinity, d.0, None);
-    set_place(&mut held.records.domains, d.0, None);
-    rearm(&mut held.refills, held.records.domains.as_slice(), d);
-    held.spare += units as usize;
-    reweigh(held, ready, d);
+    let units = count_at(state.affinity.as_slice(), d);
+    set_place(&mut state.affinity, d.0, None);
+    set_place(&mut state.records.domains, d.0, None);
+    rearm(&mut state.refills, state.records.domains.as_slice(), d);
+    state.spare += units as usize;
+    reweigh(state, ready, d);
 }
 
 /// The domain's weight and cap change at t, where they are given.
 pub fn set_domain(
-    held: &mut Held,
+    state: &mut Credit2State,
     ready: &mut Ready,
     d: DomId,
     weight: Option<u32>,
     cap: Option<u32>,
     t: Moment,
 )
-    requires held { IsHeld held.old }
-    requires ready { IsReadyIn held.old ready.old }
-    requires joined { joined_spec (scheduler_in held.old) d.0 ≡ true }
+    requires sound { IsSound state.old }
+    requires ready { IsReadyIn state.old ready.old }
+    requires joined { joined_spec (scheduler_in state.old) d.0 ≡ true }
     requires weight { ForSome weight IsWeight }
     requires cap { ForSome cap IsCap }
-    requires now { IsNow (seen_in held.old) t.0 }
-    ensures seen { seen_in held.new ≡ seen_at t.0
-        (set_params_spec (changes.Dom d weight cap) t.0 (scheduler_in held.old))
-        (seen_in held.old) }
-    ensures held { IsHeld held.new }
-    ensures ready { IsReadyIn held.new ready.new }
+    requires now { IsNow (seen_in state.old) t.0 }
+    ensures seen { seen_in state.new ≡ seen_at t.0
+        (set_params_spec (changes.Dom d weight cap) t.0 (scheduler_in state.old))
+        (seen_in state.old) }
+    ensures sound { IsSound state.new }
+    ensures ready { IsReadyIn state.new ready.new }
 {
-    credit2::set_domain(t, d, weight, cap, &mut held.records);
-    rearm(&mut held.refills, held.records.domains.as_slice(), d);
-    held.latest = t.0;
-    reweigh(held, ready, d);
+    credit2::set_domain(t, d, weight, cap, &mut state.records);
+    rearm(&mut state.refills, state.records.domains.as_slice(), d);
+    state.latest = t.0;
+    reweigh(state, ready, d);
 }
 
 /// The rate limit, in microseconds, changes at t.
-pub fn set_rate(held: &mut Held, limit: u32, t: Moment)
-    requires held { IsHeld held.old }
+pub fn set_rate(state: &mut Credit2State, limit: u32, t: Moment)
+    requires sound { IsSound state.old }
     requires limit { limit ≤ 500000 }
-    requires now { IsNow (seen_in held.old) t.0 }
-    ensures seen { seen_in held.new ≡ seen_at t.0
-        (set_params_spec (changes.Rate limit) t.0 (scheduler_in held.old)) (seen_in held.old) }
-    ensures held { IsHeld held.new }
-    ensures rest { held.new ≡ record held.old
-        { records = record held.old.records { limit = limit }; latest = t.0 } }
+    requires now { IsNow (seen_in state.old) t.0 }
+    ensures seen { seen_in state.new ≡ seen_at t.0
+        (set_params_spec (changes.Rate limit) t.0 (scheduler_in state.old)) (seen_in state.old) }
+    ensures sound { IsSound state.new }
+    ensures rest { state.new ≡ record state.old
+        { records = record state.old.records { limit = limit }; latest = t.0 } }
 {
-    held.records.limit = limit;
-    held.latest = t.0;
+    state.records.limit = limit;
+    state.latest = t.0;
 }
 
 /// Whether each unit may have all cores still, where some units are given this set.
@@ -160,44 +160,44 @@ fn stay_unpinned(unpinned: bool, cores: Cores) -> bool
 }
 
 /// The set of cores of one of the domain's units, or of all of them, changes at t.
-pub fn pin(held: &mut Held, d: DomId, unit: Option<u8>, cores: Cores, t: Moment)
-    requires held { IsHeld held.old }
-    requires joined { joined_spec (scheduler_in held.old) d.0 ≡ true }
-    requires now { IsNow (seen_in held.old) t.0 }
-    ensures seen { seen_in held.new ≡ seen_at t.0
-        (set_params_spec (changes.Pin d unit cores) t.0 (scheduler_in held.old))
-        (seen_in held.old) }
-    ensures held { IsHeld held.new }
-    ensures rest { held.new ≡ record held.old {
-      affinity = held.new.affinity;
-      masks = held.new.masks;
+pub fn pin(state: &mut Credit2State, d: DomId, unit: Option<u8>, cores: Cores, t: Moment)
+    requires sound { IsSound state.old }
+    requires joined { joined_spec (scheduler_in state.old) d.0 ≡ true }
+    requires now { IsNow (seen_in state.old) t.0 }
+    ensures seen { seen_in state.new ≡ seen_at t.0
+        (set_params_spec (changes.Pin d unit cores) t.0 (scheduler_in state.old))
+        (seen_in state.old) }
+    ensures sound { IsSound state.new }
+    ensures rest { state.new ≡ record state.old {
+      affinity = state.new.affinity;
+      masks = state.new.masks;
       latest = t.0;
-      unpinned = held.new.unpinned;
+      unpinned = state.new.unpinned;
     } }
 {
-    params::pin(d, unit, cores, &mut held.affinity);
-    refresh(&mut held.masks, held.affinity.as_slice(), d);
-    held.unpinned = stay_unpinned(held.unpinned, cores);
-    held.latest = t.0;
+    params::pin(d, unit, cores, &mut state.affinity);
+    refresh(&mut state.masks, state.affinity.as_slice(), d);
+    state.unpinned = stay_unpinned(state.unpinned, cores);
+    state.latest = t.0;
 }
 
 /// The parameters change at t.
-pub fn set_params(held: &mut Held, ready: &mut Ready, change: &ParamChange, t: Moment)
-    requires held { IsHeld held.old }
-    requires ready { IsReadyIn held.old ready.old }
-    requires now { IsNow (seen_in held.old) t.0 }
-    requires change { IsChange kinds.Credit2 (scheduler_in held.old) change.now }
-    ensures seen { seen_in held.new ≡ seen_at t.0
-        (set_params_spec change.now t.0 (scheduler_in held.old)) (seen_in held.old) }
-    ensures held { IsHeld held.new }
-    ensures ready { IsReadyIn held.new ready.new }
+pub fn set_params(state: &mut Credit2State, ready: &mut Ready, change: &ParamChange, t: Moment)
+    requires sound { IsSound state.old }
+    requires ready { IsReadyIn state.old ready.old }
+    requires now { IsNow (seen_in state.old) t.0 }
+    requires change { IsChange kinds.Credit2 (scheduler_in state.old) change.now }
+    ensures seen { seen_in state.new ≡ seen_at t.0
+        (set_params_spec change.now t.0 (scheduler_in state.old)) (seen_in state.old) }
+    ensures sound { IsSound state.new }
+    ensures ready { IsReadyIn state.new ready.new }
 {
     match change {
         ParamChange::Dom { dom, weight, cap } => {
-            set_domain(held, ready, *dom, *weight, *cap, t);
+            set_domain(state, ready, *dom, *weight, *cap, t);
         }
-        ParamChange::Rate { limit } => set_rate(held, *limit, t),
-        ParamChange::Pin { dom, unit, cores } => pin(held, *dom, *unit, *cores, t),
+        ParamChange::Rate { limit } => set_rate(state, *limit, t),
+        ParamChange::Pin { dom, unit, cores } => pin(state, *dom, *unit, *cores, t),
         _ => {}
     }
 }

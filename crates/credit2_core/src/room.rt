@@ -4,10 +4,10 @@ ghost use Rattle.std.specs.Prelude.{◌≡◌, ◌≤◌, IfOk, replicate, None}
 ghost use Rattle.sched_model.specs.declared.config.PoolParams.TheVariants as pool_params;
 ghost use Rattle.sched_ops.specs.Seen.{Seen, vacant_scheduler};
 ghost use Rattle.runq.specs.Queue.{empty_queue};
-ghost use Rattle.credit2_core.specs.Held.{IsHeld, seen_in};
+ghost use Rattle.credit2_core.specs.Credit2State.{IsSound, seen_in};
 ghost use Rattle.credit2_core.specs.Room.{IsFresh};
 
-use crate::held::Held;
+use crate::state::Credit2State;
 use due_heap::DueHeap;
 use runq::Runq;
 use sched_base::NoMemory;
@@ -36,7 +36,12 @@ fn empty_lists(
 
 /// The memory for so many domains, at most 64, and so many units, at most 256. No domain has joined. The greatest moment given
 /// is latest.
-pub fn reserve(alloc: Global, domains: u8, units: usize, latest: u64) -> Result<Held, NoMemory>
+pub fn reserve(
+    alloc: Global,
+    domains: u8,
+    units: usize,
+    latest: u64,
+) -> Result<Credit2State, NoMemory>
     requires domains { domains ≤ 64 }
     requires units { units ≤ 256 }
     ensures { IfOk result (IsFresh domains units latest) }
@@ -45,7 +50,7 @@ pub fn reserve(alloc: Global, domains: u8, units: usize, latest: u64) -> Result<
     let records = empty_places(alloc, places)?;
     let affinity = empty_places(alloc, places)?;
     let (queue, masks, refills) = empty_lists(alloc, places, units)?;
-    Ok(Held {
+    Ok(Credit2State {
         records: Credit2Records {
             limit: DEFAULT_LIMIT,
             last_reset: None,

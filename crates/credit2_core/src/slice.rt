@@ -4,13 +4,13 @@ ghost use Rattle.std.specs.Prelude.{◌≡◌, ◌≤◌, ◌<◌, length};
 ghost use Rattle.queue_laws.specs.Arrivals.{arrivals};
 ghost use Rattle.sched_model.specs.Credit2.{change_domain, max_weight, take_budget};
 ghost use Rattle.plain_credit2.specs.Bounds.{PoolParamsFit};
-ghost use Rattle.credit2_core.specs.Held.{IsFree, IsLine, AreMasks};
+ghost use Rattle.credit2_core.specs.Credit2State.{IsFree, IsLine, AreMasks};
 ghost use Rattle.credit2_core.specs.Whole.{IsReadyIn, IsReadyBut};
 ghost use Rattle.credit2_core.specs.Choice.{best_of, credit_or_0, slice_beside as slice_beside_spec};
 
 use crate::choice::other_credit;
-use crate::held::Held;
 use crate::line::{Ready, follow};
+use crate::state::Credit2State;
 use plain_credit2::choice::slice_in;
 use plain_credit2::running::{domain_at, take_at};
 use sched_base::UnitId;
@@ -33,27 +33,33 @@ fn slice_beside(records: &Credit2Records, most: u32, u: UnitId, other: i64) -> u
 
 /// The chosen unit takes its budget; how long it runs. What is kept beside the records follows; its first unit stands where no
 /// other one of the queue has come to be the first.
-pub fn take_slice(held: &mut Held, ready: &mut Ready, ask: &Ask, u: UnitId, stands: bool) -> u64
-    requires ready { IsReadyBut u.dom.0 stands held.old.records held.old.queue.units ready.old }
+pub fn take_slice(
+    state: &mut Credit2State,
+    ready: &mut Ready,
+    ask: &Ask,
+    u: UnitId,
+    stands: bool,
+) -> u64
+    requires ready { IsReadyBut u.dom.0 stands state.old.records state.old.queue.units ready.old }
     requires core { ask.now.core.0 < 64 }
-    requires few { length held.old.records.domains ≤ 64 }
-    requires params { PoolParamsFit held.old.records }
-    requires taken { PoolParamsFit (change_domain u.dom.0 (take_budget u.n) held.old.records) }
-    requires limit { held.old.records.limit ≤ 500000 }
-    requires line { IsLine held.old }
-    requires masks { AreMasks held.old.affinity held.old.masks }
-    requires free { IsFree held.old.unpinned held.old.affinity }
-    ensures records { held.new.records ≡ change_domain u.dom.0 (take_budget u.n) held.old.records }
-    ensures line { IsLine held.new }
-    ensures ready { IsReadyIn held.new ready.new }
-    ensures slice { result ≡ slice_beside_spec held.new.records u
-        (credit_or_0 held.new.records (best_of (arrivals held.new.queue.units) held.new.affinity
-        ask.now.home.0 ask.now.core.0 held.new.records)) }
+    requires few { length state.old.records.domains ≤ 64 }
+    requires params { PoolParamsFit state.old.records }
+    requires taken { PoolParamsFit (change_domain u.dom.0 (take_budget u.n) state.old.records) }
+    requires limit { state.old.records.limit ≤ 500000 }
+    requires line { IsLine state.old }
+    requires masks { AreMasks state.old.affinity state.old.masks }
+    requires free { IsFree state.old.unpinned state.old.affinity }
+    ensures records { state.new.records ≡ change_domain u.dom.0 (take_budget u.n) state.old.records }
+    ensures line { IsLine state.new }
+    ensures ready { IsReadyIn state.new ready.new }
+    ensures slice { result ≡ slice_beside_spec state.new.records u
+        (credit_or_0 state.new.records (best_of (arrivals state.new.queue.units) state.new.affinity
+        ask.now.home.0 ask.now.core.0 state.new.records)) }
     ensures short { result ≤ 500000000 }
-    ensures rest { held.new ≡ record held.old { records = held.new.records } }
+    ensures rest { state.new ≡ record state.old { records = state.new.records } }
 {
-    take_at(u, &mut held.records);
-    *ready = follow(held, *ready, u.dom, stands);
-    let other = other_credit(held, ready, ask);
-    slice_beside(&held.records, ready.most, u, other)
+    take_at(u, &mut state.records);
+    *ready = follow(state, *ready, u.dom, stands);
+    let other = other_credit(state, ready, ask);
+    slice_beside(&state.records, ready.most, u, other)
 }

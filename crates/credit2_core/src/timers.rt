@@ -6,13 +6,13 @@ ghost use Rattle.sched_ops.specs.declared.timer.Timer.TheVariants as timers;
 ghost use Rattle.sched_ops.specs.Seen.{seen_at};
 ghost use Rattle.sched_ops.specs.Conditions.{IsNow};
 ghost use Rattle.sched_ops.specs.Timers.{timer_at, is_due, timer_event, after_timer, first_due as first_due_spec, refills};
-ghost use Rattle.credit2_core.specs.Held.{IsHeld, scheduler_in, seen_in};
+ghost use Rattle.credit2_core.specs.Credit2State.{IsSound, scheduler_in, seen_in};
 ghost use Rattle.credit2_core.specs.Whole.{IsReadyIn};
 ghost use Rattle.credit2_core.specs.Timing.{come_at, periods_at as periods_at_spec, budget_at as budget_at_spec};
 
 use crate::domains::rearm;
-use crate::held::Held;
 use crate::line::{Ready, follow};
+use crate::state::Credit2State;
 use plain_credit2::credit2;
 use plain_credit2::domain::periods;
 use plain_credit2::running::domain_at;
@@ -49,17 +49,17 @@ fn first_due(n: u8, t: Moment, domains: &[Option<Credit2Domain>]) -> Option<(Mom
 }
 
 /// The first refill, by domain, that has come at t; where there is none, the one of the least moment.
-pub fn timer_due(held: &Held, t: Moment) -> Option<(Moment, Timer)>
-    requires { IsHeld held.now }
-    ensures { result ≡ timer_at t.0 (scheduler_in held.now) }
+pub fn timer_due(state: &Credit2State, t: Moment) -> Option<(Moment, Timer)>
+    requires { IsSound state.now }
+    ensures { result ≡ timer_at t.0 (scheduler_in state.now) }
 {
-    match held.refills.least() {
+    match state.refills.least() {
         None => None,
         Some((at, d)) => {
             if at.0 > t.0 {
                 Some((at, Timer::Refill(DomId(d as u8))))
             } else {
-                first_due(0, t, held.records.domains.as_slice())
+                first_due(0, t, state.records.domains.as_slice())
             }
         }
     }
@@ -86,25 +86,25 @@ fn budget_at(records: &Credit2Records, d: DomId) -> i64
 }
 
 /// The domain's refill, which has come at t: its budget is filled, and the next refill is armed.
-pub fn refill(held: &mut Held, ready: &mut Ready, d: DomId, t: Moment) -> Event
-    requires held { IsHeld held.old }
-    requires ready { IsReadyIn held.old ready.old }
-    requires now { IsNow (seen_in held.old) t.0 }
-    requires due { is_due t.0 (scheduler_in held.old) (timers.Refill d) ≡ true }
-    ensures event { result ≡ timer_event t.0 (scheduler_in held.old) (timers.Refill d) }
-    ensures after { seen_in held.new ≡ seen_at t.0
-        (after_timer t.0 (scheduler_in held.old) (timers.Refill d)) (seen_in held.old) }
-    ensures held { IsHeld held.new }
-    ensures ready { IsReadyIn held.new ready.new }
+pub fn refill(state: &mut Credit2State, ready: &mut Ready, d: DomId, t: Moment) -> Event
+    requires sound { IsSound state.old }
+    requires ready { IsReadyIn state.old ready.old }
+    requires now { IsNow (seen_in state.old) t.0 }
+    requires due { is_due t.0 (scheduler_in state.old) (timers.Refill d) ≡ true }
+    ensures event { result ≡ timer_event t.0 (scheduler_in state.old) (timers.Refill d) }
+    ensures after { seen_in state.new ≡ seen_at t.0
+        (after_timer t.0 (scheduler_in state.old) (timers.Refill d)) (seen_in state.old) }
+    ensures sound { IsSound state.new }
+    ensures ready { IsReadyIn state.new ready.new }
 {
-    let periods = periods_at(&held.records, d, t);
-    credit2::refill(t, d, &mut held.records);
-    rearm(&mut held.refills, held.records.domains.as_slice(), d);
-    held.latest = t.0;
-    *ready = follow(held, *ready, d, true);
+    let periods = periods_at(&state.records, d, t);
+    credit2::refill(t, d, &mut state.records);
+    rearm(&mut state.refills, state.records.domains.as_slice(), d);
+    state.latest = t.0;
+    *ready = follow(state, *ready, d, true);
     Event::Refill {
         d,
         periods,
-        budget: budget_at(&held.records, d),
+        budget: budget_at(&state.records, d),
     }
 }

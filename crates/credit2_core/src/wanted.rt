@@ -3,60 +3,60 @@
 ghost use Rattle.std.specs.Prelude.{◌≡◌, ◌≤◌, ℕ, length};
 ghost use Rattle.sched_model.specs.State.{has_core};
 ghost use Rattle.sched_model.specs.Places.{at_place};
-ghost use Rattle.sched_laws.specs.Each.{EachPlace};
+ghost use Rattle.sched_laws.specs.EachPlace.{EachPlace};
 ghost use Rattle.sched_ops.specs.Conditions.{IsNow};
-ghost use Rattle.sched_ops.specs.Wanted.{MayAsk, is_wanted};
-ghost use Rattle.credit2_core.specs.Held.{IsHeld, scheduler_in, seen_in};
+ghost use Rattle.sched_ops.specs.WantedCores.{MayAsk, is_wanted};
+ghost use Rattle.credit2_core.specs.Credit2State.{IsSound, scheduler_in, seen_in};
 ghost use Rattle.credit2_core.specs.Whole.{IsReadyIn};
 
 use crate::choice::better_waits;
-use crate::held::Held;
 use crate::line::Ready;
+use crate::state::Credit2State;
 use sched_base::{Cores, Moment};
 use sched_model::state::Resource;
 use sched_ops::wanted_where;
 
 /// The cores that are to decide anew at t, of those at these places, each asked by itself.
 fn wanted_by_core(
-    held: &Held,
+    state: &Credit2State,
     ready: &Ready,
     cores: &[Option<Resource>],
     t: Moment,
     home: Cores,
 ) -> Cores
-    requires held { IsHeld held.now }
-    requires now { IsNow (seen_in held.now) t.0 }
-    requires ready { IsReadyIn held.now ready.now }
+    requires sound { IsSound state.now }
+    requires now { IsNow (seen_in state.now) t.0 }
+    requires ready { IsReadyIn state.now ready.now }
     requires few { length cores.now ≤ 64 }
-    requires asks { EachPlace (MayAsk t.0 (scheduler_in held.now)) cores.now }
-    ensures { (r : ℕ) → has_core result.0 r ≡ is_wanted t.0 home.0 (scheduler_in held.now) r
+    requires asks { EachPlace (MayAsk t.0 (scheduler_in state.now)) cores.now }
+    ensures { (r : ℕ) → has_core result.0 r ≡ is_wanted t.0 home.0 (scheduler_in state.now) r
         (at_place cores.now r) }
 {
     wanted_where(cores, |core, cur, since| {
-        better_waits(held, ready, cur, since, t, core, home)
+        better_waits(state, ready, cur, since, t, core, home)
     })
 }
 
 /// The cores that are to decide anew at t, of those at these places. Where no unit waits of a domain that may run, and none was pinned,
 /// there is none.
 pub fn wanted(
-    held: &Held,
+    state: &Credit2State,
     ready: &Ready,
     cores: &[Option<Resource>],
     t: Moment,
     home: Cores,
 ) -> Cores
-    requires held { IsHeld held.now }
-    requires now { IsNow (seen_in held.now) t.0 }
-    requires ready { IsReadyIn held.now ready.now }
+    requires sound { IsSound state.now }
+    requires now { IsNow (seen_in state.now) t.0 }
+    requires ready { IsReadyIn state.now ready.now }
     requires few { length cores.now ≤ 64 }
-    requires asks { EachPlace (MayAsk t.0 (scheduler_in held.now)) cores.now }
-    ensures { (r : ℕ) → has_core result.0 r ≡ is_wanted t.0 home.0 (scheduler_in held.now) r
+    requires asks { EachPlace (MayAsk t.0 (scheduler_in state.now)) cores.now }
+    ensures { (r : ℕ) → has_core result.0 r ≡ is_wanted t.0 home.0 (scheduler_in state.now) r
         (at_place cores.now r) }
 {
-    held.queue.law_order();
-    if ready.first.is_none() && held.unpinned {
+    state.queue.law_order();
+    if ready.first.is_none() && state.unpinned {
         return Cores(0);
     }
-    wanted_by_core(held, ready, cores, t, home)
+    wanted_by_core(state, ready, cores, t, home)
 }

@@ -14,7 +14,7 @@ not_past t x a None b first none = refl
 not_past t None a (Some y) b first none = let e : true ≡ false = first in absurd (cc)
 not_past t (Some x) a (Some y) b first none = grind (arith, nat_tests, first, none)
 
-past_of : (t : ℕ) (at : Moment) → at.0 ≤ t → is_past t (Some at) ≡ true
+pub past_of : (t : ℕ) (at : Moment) → at.0 ≤ t → is_past t (Some at) ≡ true
 past_of t at low = grind (arith, nat_tests, low)
 
 -- an id has come where the test says so

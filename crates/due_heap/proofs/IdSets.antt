@@ -4,7 +4,7 @@ use Rattle.std.specs.Prelude.{◌==◌, ◌&&◌, ◌||◌, not}
 use Rattle.std.specs.Int.{bit_at, bit_not, trailing_zeros}
 use Rattle.std.proofs.lemmas.Bool.{cases_lt}
 use Rattle.std.proofs.lemmas.Nat.{and_le_l}
-use Rattle.std.proofs.lemmas.Nat.Bits.{bit_at-lt, bit_at_and, bit_at_not, bit_at_or, bit_at_set_same, bit_at_set_other, bit_at_clear_same, bit_at_clear_other, bit_at-trailing_zeros}
+use Rattle.std.proofs.lemmas.Nat.Bits.{bit_at-lt, bit_at_above, bit_at_and, bit_at_not, bit_at_or, bit_at_set_same, bit_at_set_other, bit_at_clear_same, bit_at_clear_other, bit_at-trailing_zeros}
 use Rattle.due_heap.specs.Words.{ChangesId, IsLowest, has_id}
 
 -- whether a number is one
@@ -14,22 +14,29 @@ is_one bit = bit == 1
 put : (set id : ℕ) → id < 64 → ChangesId id true set (bit_or set (1 * 2 ^ id % 2 ^ 64))
 put set id few = record {
   here = ap is_one (bit_at_set_same w64 set id few);
-  others = λ other h ne. ap is_one (bit_at_set_other w64 set id few other ne);
+  others = λ other ne. ap is_one (bit_at_set_other w64 set id few other ne);
 }
 
-pub cleared : (set id : ℕ) → id < 64 → ChangesId id false set (bit_and set (bit_not w64 (1 * 2 ^ id % 2 ^ 64)))
-cleared set id few = record {
+-- a number of 64 bits has no bit from 64 on, nor has one that has fewer bits
+no_bit : (set mask id : ℕ) → set < 2 ^ 64 → 64 ≤ id → bit_at (bit_and set mask) id ≡ bit_at set id
+no_bit set mask id fits past = (let none = bit_at_above set 64 id fits past in bit_at_and set mask id ∙ ap (λ (k : ℕ). min k (bit_at mask id)) none ∙ omega (arith, none))
+
+pub cleared : (set id : ℕ) → set < 2 ^ 64 → id < 64 → ChangesId id false set (bit_and set (bit_not w64 (1 * 2 ^ id % 2 ^ 64)))
+cleared set id fits few = record {
   here = ap is_one (bit_at_clear_same w64 set id few);
-  others = λ other h ne. ap is_one (bit_at_clear_other w64 set id few other h ne);
+  others = λ other ne. ap is_one (elim (cases_lt other 64) [
+    | inl low ↦ bit_at_clear_other w64 set id few other low ne
+    | inr past ↦ no_bit set (bit_not w64 (1 * 2 ^ id % 2 ^ 64)) other fits past
+  ]);
 }
 
 pub put_wanted : (set id : ℕ) (wanted : Bool) → id < 64 → wanted ≡ true → ChangesId id wanted set (bit_or set (1 * 2 ^ id % 2 ^ 64))
 put_wanted set id true few is = put set id few
 put_wanted set id false few is = let wrong : false ≡ true = is in absurd (cc)
 
-pub put_unwanted : (set id : ℕ) (wanted : Bool) → id < 64 → wanted ≡ false → ChangesId id wanted set (bit_and set (bit_not w64 (1 * 2 ^ id % 2 ^ 64)))
-put_unwanted set id true few is = let wrong : true ≡ false = is in absurd (cc)
-put_unwanted set id false few is = cleared set id few
+pub put_unwanted : (set id : ℕ) (wanted : Bool) → set < 2 ^ 64 → id < 64 → wanted ≡ false → ChangesId id wanted set (bit_and set (bit_not w64 (1 * 2 ^ id % 2 ^ 64)))
+put_unwanted set id true fits few is = let wrong : true ≡ false = is in absurd (cc)
+put_unwanted set id false fits few is = cleared set id fits few
 
 -- a set without an id that it had is a smaller number
 pub less : (set id mask : ℕ) → has_id set id ≡ true → ChangesId id false set (bit_and set mask) → bit_and set mask < set

@@ -6,12 +6,13 @@ use Rattle.std.proofs.lemmas.Bool.{cases_lt}
 use Rattle.std.proofs.lemmas.Bool.Decides.{nat_tests}
 use Rattle.std.proofs.lemmas.List.{get_or-set_same, get_or-set_other, get_or_past, length-set}
 use Rattle.sched_base.specs.declared.Moment.{Moment}
+use Rattle.sched_base.proofs.Bools.{and_left, and_right}
 use Rattle.due_heap.specs.declared.set.Words.{Words}
 use Rattle.due_heap.specs.Dues.{IsArmed, GoesFirst, HasCome, due_of}
 use Rattle.due_heap.specs.Winners.{precedes, is_past, has_come}
 use Rattle.due_heap.specs.Words.{AreWords, ChangesId, IsFirstAmong, IsFirstCome, IsLowest, TakesDue, first_with, has_id, is_later}
 use Rattle.due_heap.proofs.Tree.{armed_below, precedes-goes_first}
-use Rattle.due_heap.proofs.Descent.{is_come}
+use Rattle.due_heap.proofs.Descent.{is_come, past_of}
 
 -- ---- the order by moment, then by id
 
@@ -46,7 +47,7 @@ among_fewer moments more fewer None within is = λ id at has armed. is id at (wi
 among_fewer moments more fewer (Some due) within is = (is.0, λ id at has armed. is.1 id at (within id at armed has) armed)
 
 module _ (moments : List (Option Moment)) (fewer more : ℕ → Bool) (id : ℕ)
-    (within : (other : ℕ) (m : Moment) → IsArmed moments other m → more other ≡ true → other ≢ id → fewer other ≡ true) where
+    (within : (other : ℕ) → more other ≡ true → other ≢ id → fewer other ≡ true) where
   -- an armed id goes before whatever moment it has
   same_id : (at m : Moment) (w : Moment) (i : ℕ) (other : ℕ) → other ≡ id → IsArmed moments id at → IsArmed moments other m → GoesFirst w i at id → GoesFirst w i m other
   same_id at m w i other e armed be here =
@@ -60,18 +61,18 @@ module _ (moments : List (Option Moment)) (fewer more : ℕ → Bool) (id : ℕ)
   pub among_more : (first : Option (Moment × ℕ)) (due : Option Moment) → due_of moments id ≡ due
       → IsFirstAmong moments fewer first → IsFirstAmong moments more (first_with first due id)
   among_more None None armed is = λ other m has be.
-      elim (ℕ_discrete other id) [ yes e ↦ not_armed m other e armed be | no ne ↦ is other m (within other m be has ne) be ]
+      elim (ℕ_discrete other id) [ yes e ↦ not_armed m other e armed be | no ne ↦ is other m (within other has ne) be ]
   among_more (Some due) None armed is = (
     is.0,
     λ other m has be.
-        elim (ℕ_discrete other id) [ yes e ↦ absurd (not_armed m other e armed be) | no ne ↦ is.1 other m (within other m be has ne) be ],
+        elim (ℕ_discrete other id) [ yes e ↦ absurd (not_armed m other e armed be) | no ne ↦ is.1 other m (within other has ne) be ],
   )
   among_more None (Some at) armed is = (
     armed,
     λ other m has be.
         elim (ℕ_discrete other id) [
           | yes e ↦ same_id at m at id other e armed be (goes_first-same at id)
-          | no ne ↦ absurd (is other m (within other m be has ne) be)
+          | no ne ↦ absurd (is other m (within other has ne) be)
         ],
   )
   among_more (Some due) (Some at) armed is = by (precedes (Some at) id (Some due.0) due.1) refl
@@ -80,7 +81,7 @@ module _ (moments : List (Option Moment)) (fewer more : ℕ → Bool) (id : ℕ)
       first_of_two w i here rest other m has be =
           elim (ℕ_discrete other id) [
             | yes e ↦ same_id at m w i other e armed be here
-            | no ne ↦ goes_first-trans w i due.0 due.1 m other rest (is.1 other m (within other m be has ne) be)
+            | no ne ↦ goes_first-trans w i due.0 due.1 m other rest (is.1 other m (within other has ne) be)
           ]
 
       by : (b : Bool) → precedes (Some at) id (Some due.0) due.1 ≡ b → IsFirstAmong moments more (if b then Some (at, id) else Some due)
@@ -88,12 +89,9 @@ module _ (moments : List (Option Moment)) (fewer more : ℕ → Bool) (id : ℕ)
       by false after = (is.0, first_of_two due.0 due.1 (precedes-goes_first due.0 due.1 at id after) (goes_first-same due.0 due.1))
 
 -- an id that is no longer to be looked at was so before, but for the one looked at now
-pub looked_before : (moments : List (Option Moment)) (among id rest rest_new : ℕ) → length moments ≤ 64 → ChangesId id false rest rest_new
-    → (other : ℕ) (m : Moment) → IsArmed moments other m → (has_id among other && not (has_id rest_new other)) ≡ true → other ≢ id
-    → (has_id among other && not (has_id rest other)) ≡ true
-looked_before moments among id rest rest_new few change other m armed has ne =
-    let lt = armed_below moments other m armed in
-    ap (λ (b : Bool). has_id among other && not b) (sym (change.others other (omega (arith, lt, few)) ne)) ∙ has
+pub looked_before : (among id rest rest_new : ℕ) → ChangesId id false rest rest_new
+    → (other : ℕ) → (has_id among other && not (has_id rest_new other)) ≡ true → other ≢ id → (has_id among other && not (has_id rest other)) ≡ true
+looked_before among id rest rest_new change other has ne = ap (λ (b : Bool). has_id among other && not b) (sym (change.others other ne)) ∙ has
 
 -- where none is left to be looked at, each was
 pub all_looked_at : (among rest : ℕ) → ((id : ℕ) → has_id rest id ≡ false) → (id : ℕ) → has_id among id ≡ true → (has_id among id && not (has_id rest id)) ≡ true
@@ -117,12 +115,12 @@ pub come_more : (moments : List (Option Moment)) (t among id rest rest_new come 
 come_more moments t among id rest rest_new come come_new low without put are = record {
   left = λ other few has. elim (ℕ_discrete other id) [
     | yes e ↦ subst (λ (k : ℕ). has_id among k ≡ true) (sym e) (are.left id low.few low.has)
-    | no ne ↦ are.left other few (sym (without.others other few ne) ∙ has)
+    | no ne ↦ are.left other few (sym (without.others other ne) ∙ has)
   ];
   come_is = λ other few. elim (ℕ_discrete other id) [
     | yes e ↦ subst (λ (k : ℕ). has_id come_new k ≡ (not (has_id rest_new k) && (has_id among k && has_come moments t k))) (sym e)
         (put.here ∙ now_looked (has_id rest_new id) (has_id among id) (has_come moments t id) without.here (are.left id low.few low.has))
-    | no ne ↦ put.others other few ne ∙ are.come_is other few ∙ ap (λ (b : Bool). not b && (has_id among other && has_come moments t other)) (sym (without.others other few ne))
+    | no ne ↦ put.others other ne ∙ are.come_is other few ∙ ap (λ (b : Bool). not b && (has_id among other && has_come moments t other)) (sym (without.others other ne))
   ];
 }
 
@@ -130,27 +128,19 @@ come_more moments t among id rest rest_new come come_new low without put are = r
 abbrev pub is_sifted : List (Option Moment) → ℕ → ℕ → ℕ → ℕ → Bool
 is_sifted moments t among rest id = (has_id among id && not (has_id rest id)) && not (has_come moments t id)
 
-and_left : (p q : Bool) → (p && q) ≡ true → p ≡ true
-and_left true q both = refl
-and_left false q both = both
-
-and_right : (p q : Bool) → (p && q) ≡ true → q ≡ true
-and_right true q both = both
-and_right false q both = let wrong : false ≡ true = both in absurd (cc)
-
 not_both : (b : Bool) → b ≡ true → not b ≡ true → ⊥
 not_both true is is_not = let wrong : false ≡ true = is_not in absurd (cc)
 not_both false is is_not = let wrong : false ≡ true = is in absurd (cc)
 
-pub sift_more : (moments : List (Option Moment)) (t among id rest rest_new : ℕ) → length moments ≤ 64 → ChangesId id false rest rest_new
+pub sift_more : (moments : List (Option Moment)) (t among id rest rest_new : ℕ) → ChangesId id false rest rest_new
     → (first : Option (Moment × ℕ)) (due : Option Moment) → due_of moments id ≡ due → (come : Bool) → come ≡ has_come moments t id
     → IsFirstAmong moments (is_sifted moments t among rest) first
     → IsFirstAmong moments (is_sifted moments t among rest_new) (first_with first (if come then None else due) id)
-sift_more moments t among id rest rest_new few change first due is = by
+sift_more moments t among id rest rest_new change first due is = by
   where
-    before : (other : ℕ) (m : Moment) → IsArmed moments other m → is_sifted moments t among rest_new other ≡ true → other ≢ id → is_sifted moments t among rest other ≡ true
-    before other m armed has ne =
-        ap (λ (b : Bool). b && not (has_come moments t other)) (looked_before moments among id rest rest_new few change other m armed (and_left (has_id among other && not (has_id rest_new other)) (not (has_come moments t other)) has) ne)
+    before : (other : ℕ) → is_sifted moments t among rest_new other ≡ true → other ≢ id → is_sifted moments t among rest other ≡ true
+    before other has ne =
+        ap (λ (b : Bool). b && not (has_come moments t other)) (looked_before among id rest rest_new change other (and_left (has_id among other && not (has_id rest_new other)) (not (has_come moments t other)) has) ne)
         ∙ and_right (has_id among other && not (has_id rest_new other)) (not (has_come moments t other)) has
 
     by : (come : Bool) → come ≡ has_come moments t id → IsFirstAmong moments (is_sifted moments t among rest) first
@@ -161,7 +151,7 @@ sift_more moments t among id rest rest_new few change first due is = by
           | yes e ↦
               absurd (not_both (has_come moments t id) (sym come)
               (subst (λ (k : ℕ). not (has_come moments t k) ≡ true) e (and_right (has_id among other && not (has_id rest_new other)) (not (has_come moments t other)) has)))
-          | no ne ↦ before other m armed has ne
+          | no ne ↦ before other has ne
         ]) so_far
     by false come so_far = among_more moments (is_sifted moments t among rest) (is_sifted moments t among rest_new) id before first due is so_far
 
@@ -179,8 +169,8 @@ pub taken : (moments : List (Option Moment)) (id : ℕ) (due : Option Moment) (o
     → AreWords moments old → AreWords (set moments id due) new
 taken moments id due old new below takes are = record {
   few = let len = length-set moments id due in let few = are.few in omega (arith, len, few);
-  come = λ other few. word other few old.come new.come (is_past old.told.0) (is_past new.told.0) (ap (λ (t : Moment). is_past t.0) (sym takes.told)) takes.come (are.come other few);
-  later = λ other few. word other few old.later new.later (is_later old.told.0) (is_later new.told.0) (ap (λ (t : Moment). is_later t.0) (sym takes.told)) takes.later (are.later other few);
+  come = λ other few. word other old.come new.come (is_past old.told.0) (is_past new.told.0) (ap (λ (t : Moment). is_past t.0) (sym takes.told)) takes.come (are.come other few);
+  later = λ other few. word other old.later new.later (is_later old.told.0) (is_later new.told.0) (ap (λ (t : Moment). is_later t.0) (sym takes.told)) takes.later (are.later other few);
   soon = λ other at armed after.
       let late : old.told.0 < at.0 = subst (λ (t : Moment). t.0 < at.0) takes.told after in
       elim (ℕ_discrete other id) [
@@ -193,19 +183,16 @@ taken moments id due old new below takes are = record {
       ];
 }
   where
-    word : (other : ℕ) → other < 64 → (w v : ℕ) (old_test new_test : Option Moment → Bool) → old_test ≡ new_test → ChangesId id (old_test due) w v
+    word : (other w v : ℕ) (old_test new_test : Option Moment → Bool) → old_test ≡ new_test → ChangesId id (old_test due) w v
         → has_id w other ≡ old_test (due_of moments other) → has_id v other ≡ new_test (due_of (set moments id due) other)
-    word other few w v old_test new_test tests change was =
+    word other w v old_test new_test tests change was =
         elim (ℕ_discrete other id) [
           | yes e ↦ subst (λ (k : ℕ). has_id v k ≡ new_test (due_of (set moments id due) k)) (sym e)
               (change.here ∙ ap old_test (sym (get_or-set_same moments id due None below)) ∙ ap (λ (f : Option Moment → Bool). f (due_of (set moments id due) id)) tests)
-          | no ne ↦ change.others other few ne ∙ was ∙ ap old_test (sym (get_or-set_other moments id other due None ne)) ∙ ap (λ (f : Option Moment → Bool). f (due_of (set moments id due) other)) tests
+          | no ne ↦ change.others other ne ∙ was ∙ ap old_test (sym (get_or-set_other moments id other due None ne)) ∙ ap (λ (f : Option Moment → Bool). f (due_of (set moments id due) other)) tests
         ]
 
 -- ---- a later moment told
-
-past_is : (t : ℕ) (at : Moment) → at.0 ≤ t → is_past t (Some at) ≡ true
-past_is t at low = grind (arith, nat_tests, low)
 
 not_past_is : (t : ℕ) (at : Moment) → t < at.0 → is_past t (Some at) ≡ false
 not_past_is t at high = grind (arith, nat_tests, high)
@@ -215,7 +202,7 @@ past_same told t None le none = refl
 past_same told t (Some at) le none =
     elim (cases_lt told at.0) [
       | inl lt ↦ not_past_is t at (none at refl lt) ∙ sym (not_past_is told at lt)
-      | inr ge ↦ past_is t at (omega (arith, ge, le)) ∙ sym (past_is told at ge)
+      | inr ge ↦ past_of t at (omega (arith, ge, le)) ∙ sym (past_of told at ge)
     ]
 
 -- where no id comes up to t, what has come at t had come at the moment told
@@ -241,7 +228,7 @@ come_of : (t : ℕ) (at : Moment) → is_past t (Some at) ≡ true → at.0 ≤ 
 come_of t at e = grind (arith, nat_tests, e)
 
 still : (told t : ℕ) (at : Moment) → told ≤ t → is_past told (Some at) ≡ true → is_past t (Some at) ≡ true
-still told t at le past = let low = come_of told at past in past_is t at (omega (arith, low, le))
+still told t at le past = let low = come_of told at past in past_of t at (omega (arith, low, le))
 
 past_more : (told t : ℕ) (due : Option Moment) → told ≤ t → (is_past told due || (is_later told due && is_past t due)) ≡ is_past t due
 past_more told t None le = refl
@@ -360,7 +347,7 @@ pub looked_more : (moments : List (Option Moment)) (t id rest rest_new : ℕ) �
     → AreLookedAt moments t rest → AreLookedAt moments t rest_new
 looked_more moments t id rest rest_new change not_come are = λ other few none. elim (ℕ_discrete other id) [
   | yes e ↦ subst (λ (k : ℕ). has_come moments t k ≡ false) (sym e) not_come
-  | no ne ↦ are other few (sym (change.others other few ne) ∙ none)
+  | no ne ↦ are other few (sym (change.others other ne) ∙ none)
 ]
 
 pub looked_some : (moments : List (Option Moment)) (t id rest : ℕ) → IsLowest rest id → has_come moments t id ≡ true

@@ -1,19 +1,15 @@
 -- Sets of ids below 64 as words, with a bit an id, and what the words of a set of moments tell.
-use Rattle.std.specs.Prelude.{ℕ, ◌≤◌, ◌<◌, ◌==◌, ◌≡◌, ◌≢◌, ◌&&◌, not, is_some, Bool, true, false, Option, Some, None, List, length, if◌then◌else◌}
-use Rattle.std.specs.Int.{bit_at}
+use Rattle.std.specs.Prelude.{ℕ, ◌≤◌, ◌<◌, ◌≡◌, ◌≢◌, ◌&&◌, not, is_some, Bool, true, false, Option, Some, None, List, length, if◌then◌else◌}
 use Rattle.sched_base.specs.declared.Moment.{Moment}
+pub use Rattle.sched_base.specs.CoreSets.{has_core as has_id}
 use Rattle.due_heap.specs.declared.set.Words.{Words}
 use Rattle.due_heap.specs.Dues.{due_of, IsArmed, GoesFirst}
 use Rattle.due_heap.specs.Winners.{has_come, is_past, precedes}
 
--- whether the set has the id
-abbrev pub has_id : ℕ → ℕ → Bool
-has_id set id = bit_at set id == 1
-
 -- the new set has the id as wanted, and every other id as the old one
 pub record ChangesId (id : ℕ) (wanted : Bool) (old new : ℕ) : Type 0 where
   pub here : has_id new id ≡ wanted
-  pub others : (other : ℕ) → other < 64 → other ≢ id → has_id new other ≡ has_id old other
+  pub others : (other : ℕ) → other ≢ id → has_id new other ≡ has_id old other
 
 -- the id is the lowest of the set
 pub record IsLowest (set id : ℕ) : Type 0 where

@@ -14,6 +14,7 @@ mod bits;
 mod order;
 mod set;
 
+pub use bits::{lowest, put_id, without};
 use order::{due_of, has_come, sooner};
 use sched_base::{Moment, NoMemory};
 pub use set::DueSet;

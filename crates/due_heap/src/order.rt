@@ -1,6 +1,6 @@
 //! Which of two ids goes first, and whether an id's moment has come.
 
-ghost use Rattle.std.specs.Prelude.{◌≡◌};
+ghost use Rattle.std.specs.Prelude.{◌≡◌, Some};
 ghost use Rattle.due_heap.specs.Dues as dues;
 ghost use Rattle.due_heap.specs.Winners as winners;
 
@@ -17,12 +17,19 @@ pub fn due_of(moments: &[Option<Moment>], id: u16) -> Option<Moment>
     }
 }
 
+/// Whether an id with its moment goes before another with its own: by moment, then by id.
+pub fn goes_before(at: Moment, id: u16, other: Moment, other_id: u16) -> bool
+    ensures { result ≡ winners.precedes (Some at) id (Some other) other_id }
+{
+    at.0 < other.0 || (at.0 == other.0 && id < other_id)
+}
+
 /// Whether an id goes before another: by moment, those that are not armed last, then by id.
 fn is_before(moments: &[Option<Moment>], a: u16, b: u16) -> bool
     ensures { result ≡ winners.is_before moments.now a b }
 {
     match (due_of(moments, a), due_of(moments, b)) {
-        (Some(x), Some(y)) => x.0 < y.0 || (x.0 == y.0 && a < b),
+        (Some(x), Some(y)) => goes_before(x, a, y, b),
         (Some(_), None) => true,
         (None, Some(_)) => false,
         (None, None) => a < b,

@@ -6,11 +6,11 @@
 
 ghost use Rattle.std.specs.Prelude.{ℕ, ◌≡◌, ◌<◌, ◌≤◌, ◌^◌, ◌&&◌, not, true, false, if◌then◌else◌, length, IsTrue, IfNone, IfSome};
 ghost use Rattle.due_heap.specs.Dues.{IsArmed, GoesFirst};
-ghost use Rattle.due_heap.specs.Winners.{precedes, has_come as has_come_spec};
+ghost use Rattle.due_heap.specs.Winners.{has_come as has_come_spec};
 ghost use Rattle.due_heap.specs.Words.{AreWords, IsFirstAmong, IsFirstCome, TakesDue, first_with as first_with_spec, has_id};
 
 use crate::bits::{difference, lowest, put_id, union, without};
-use crate::order::{due_of, has_come};
+use crate::order::{due_of, goes_before, has_come};
 use sched_base::{Moment, NoMemory};
 use std::alloc::Global;
 use std::marker::Model;
@@ -47,13 +47,6 @@ impl Model for DueSet {
     ghost view = { λ a. a.moments.items };
 
     ghost invariant = { λ a. AreWords a.moments.items a.words };
-}
-
-/// Whether an id with its moment goes before another with its own: by moment, then by id.
-fn goes_before(at: Moment, id: u16, other: Moment, other_id: u16) -> bool
-    ensures { result ≡ precedes (Some at) id (Some other) other_id }
-{
-    at.0 < other.0 || (at.0 == other.0 && id < other_id)
 }
 
 /// An id takes its moment, or none.

@@ -14,25 +14,25 @@ use Rattle.sched_model.specs.declared.state.Pool.{Pool}
 use Rattle.sched_model.specs.declared.state.Processor.{Processor}
 use Rattle.sched_model.specs.declared.state.Resource.{Resource}
 use Rattle.sched_model.specs.declared.state.Vcpu.{Vcpu}
-use Rattle.sched_model.specs.Checked.{IsGranularity}
+use Rattle.sched_model.specs.CheckedMachine.{IsGranularity}
 use Rattle.sched_model.specs.Places.{at_place, change_at, is_unit, put_at, test_at}
 use Rattle.sched_model.specs.Policy.{decision_of, replenish, rtds_record}
-use Rattle.sched_model.specs.Eligible.{Decision}
+use Rattle.sched_model.specs.EligibleUnits.{Decision}
 use Rattle.sched_model.specs.Pool as pools
 use Rattle.sched_model.specs.Pool.{after_in, change_processor, change_vcpu, with_doing, enabled_in, guest_of, processor_of, put_to_sleep, started_on, stopped_vcpu, taken_at, unit_of, woken_vcpu}
 use Rattle.sched_model.specs.State.{is_awake, is_runnable, is_up}
 use Rattle.sched_laws.proofs.Choices.{is_unit_same}
 use Rattle.sched_laws.proofs.EachPlace.{by_option, by_test, by_cond, found_at}
-use Rattle.sched_laws.proofs.Bools.{and_left, and_right}
-use Rattle.sched_laws.specs.Known.{IsKnownPool}
+use Rattle.sched_base.proofs.Bools.{and_left, and_right}
+use Rattle.sched_laws.specs.PoolFacts.{IsKnownPool}
 use Rattle.sched_laws.proofs.Lists.{some-test_at}
 use Rattle.plain_pool.specs.Fits.{vcpu_among}
 use Rattle.core_state.specs.Seen.{processor_among}
 use Rattle.core_state.proofs.Arming.{core_of_past}
 use Rattle.unit_state.specs.Seen.{done_among}
-use Rattle.pool_core.specs.Doing.{parted_with, work_of}
-use Rattle.pool_core.specs.Kept.{AreWorks}
-use Rattle.pool_core.specs.Waking.{done_started, idles_among, joined_works, woken_works}
+use Rattle.pool_core.specs.ProcessorEvents.{parted_with, work_of}
+use Rattle.pool_core.specs.PoolState.{AreWorks}
+use Rattle.pool_core.specs.Wakes.{done_started, idles_among, joined_works, woken_works}
 use Rattle.pool_core.proofs.Asking.{only_guest, only_there}
 use Rattle.pool_core.proofs.Processors.{idle_runs_none, held_runs_none}
 use Rattle.pool_core.proofs.Works.{works_core, works_freed, works_same, works_started, works_stopped, works_woken}

@@ -9,24 +9,24 @@ use Rattle.sched_model.specs.declared.action.Action.TheVariants.{Block, Wake}
 use Rattle.sched_model.specs.declared.state.Pool.{Pool}
 use Rattle.sched_model.specs.declared.state.Resource.{Resource}
 use Rattle.sched_model.specs.declared.state.Vcpu.{Vcpu}
-use Rattle.sched_model.specs.Checked.{most_span}
+use Rattle.sched_model.specs.CheckedMachine.{most_span}
 use Rattle.sched_model.specs.Places.{change_each}
 use Rattle.sched_model.specs.declared.state.Doing.TheVariants.{Held}
 use Rattle.sched_model.specs.Pool.{after_arrive, after_block, after_in, change_processor, change_vcpu, with_doing, stopped_vcpu, cores_from, done_at, enabled_in, guest_of, reconsidered_core, settled_pool, vcpu_of}
 use Rattle.sched_model.specs.State.{has_come}
-use Rattle.sched_laws.proofs.Bools.{and_left}
+use Rattle.sched_base.proofs.Bools.{and_left}
 use Rattle.sched_laws.proofs.EachPlace.{by_cond}
+use Rattle.sched_laws.proofs.Lists.{has_come-le}
 use Rattle.plain_pool.specs.Fits.{vcpu_among}
 use Rattle.pool_kept.specs.Holds.{Holds}
 use Rattle.pool_kept.proofs.Kept as kept
-use Rattle.unit_state.specs.Kept.{KeepsGuests}
+use Rattle.unit_state.specs.Guests.{KeepsGuests}
 use Rattle.unit_state.specs.Seen.{Seen as GuestsSeen, done_among, is_due_among}
-use Rattle.unit_state.proofs.GuestLemmas.{come_there}
 use Rattle.unit_state.proofs.PlaceLemmas.{vcpu_there}
 use Rattle.core_state.specs.Seen.{Seen as CoresSeen}
 use Rattle.sched_ops.specs.Seen.{Seen as SchedulerSeen}
-use Rattle.pool_core.specs.Doing.{IsMoved}
-use Rattle.pool_core.specs.Kept.{AreWorks, IsKept}
+use Rattle.pool_core.specs.ProcessorEvents.{IsMoved}
+use Rattle.pool_core.specs.PoolState.{AreWorks, IsKept}
 use Rattle.pool_core.specs.Seen.{Seen, seen_after, pool_of}
 use Rattle.pool_core.proofs.Works.{works_each}
 
@@ -113,7 +113,7 @@ pub wake_still : (t : ℕ) (v : VcpuId) (guests : GuestsSeen) → KeepsGuests gu
 wake_still t v guests keeps due x there =
     let at = vcpu_there guests.domains v x there in
     let sleeps : has_come t x.asleep_until ≡ true = subst (λ (o : Option Vcpu). has_come t (elim o as (λ _. Option Moment) [ None ↦ None | Some y ↦ y.asleep_until ]) ≡ true) there due in
-    let until = come_there t x.asleep_until sleeps in
+    let until = has_come-le t x.asleep_until sleeps in
     ((keeps.guests v.dom.0 at.0 at.1).vcpus v.n x at.2).still until.0 until.1
 
 -- the event of a processor that runs the vCPU

@@ -11,21 +11,21 @@ use Rattle.sched_model.specs.declared.state.Vcpu.{Vcpu}
 use Rattle.sched_model.specs.Places.{at_place, change_item, has_unit, is_unit}
 use Rattle.sched_model.specs.Pool.{change_vcpu, guest_of, is_off, saving_among, unit_count, unit_of}
 use Rattle.sched_model.specs.State.{is_runnable}
-use Rattle.sched_laws.specs.Each.{EachPlace}
-use Rattle.sched_laws.proofs.Bools.{or_left}
+use Rattle.sched_laws.specs.EachPlace.{EachPlace}
+use Rattle.sched_base.proofs.Bools.{or_left}
 use Rattle.sched_laws.proofs.Counts.{total_at, total_two, times_has, times_some, same_unit_refl}
 use Rattle.sched_laws.specs.Counts.{one_at}
 use Rattle.sched_laws.proofs.Lists.{at_numbered, length_change_item, none_passes}
 use Rattle.sched_laws.proofs.OnePlace.{off_is, one_same}
-use Rattle.sched_laws.specs.Known.{OnePlace, core_places}
-use Rattle.sched_laws.specs.Known.{IsKnownPool}
+use Rattle.sched_laws.specs.PoolFacts.{OnePlace, core_places}
+use Rattle.sched_laws.specs.PoolFacts.{IsKnownPool}
 use Rattle.sched_laws.proofs.Sound.{guest_of_is}
 use Rattle.sched_ops.specs.Conditions.{IsAway, is_on}
 use Rattle.pool_kept.proofs.Alike.{Alike, alike_change_at, alike_members, alike_refl, core_face, found_core}
 use Rattle.pool_kept.proofs.Members.{runnable_member}
 use Rattle.pool_kept.specs.Holds.{Holds}
-use Rattle.sched_ops.specs.Wanted.{MayAsk}
-use Rattle.pool_core.specs.Waking.{is_held_among}
+use Rattle.sched_ops.specs.WantedCores.{MayAsk}
+use Rattle.pool_core.specs.Wakes.{is_held_among}
 use Rattle.pool_core.proofs.Processors.{same_number}
 use Rattle.std.proofs.Math.Bool.{and-false}
 use Rattle.std.proofs.lemmas.Bool.{false_from_ne_true}

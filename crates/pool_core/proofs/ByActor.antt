@@ -3,7 +3,7 @@ use Rattle.std.proofs.Common.{◌≡◌, ◌≢◌, ◌≤◌, ◌<◌, ◌+◌,
 use Rattle.std.specs.Prelude.{Option, Some, None, ◌==◌, ◌&&◌}
 use Rattle.std.proofs.Math.Decide.{ℕ_discrete}
 use Rattle.std.proofs.Math.Nat.{mul-div_cancel, mul-mod_left}
-use Rattle.std.proofs.lemmas.Bool.{cases_lt, eqb-true, false_from_ne_true}
+use Rattle.std.proofs.lemmas.Bool.{cases_lt, eqb-true, false_from_ne_true, eq-eqb}
 use Rattle.std.proofs.lemmas.Bool.Decides.{nat_tests}
 use Rattle.sched_base.specs.declared.DomId.{DomId}
 use Rattle.sched_base.specs.declared.Moment.{Moment}
@@ -20,10 +20,10 @@ use Rattle.sched_model.specs.declared.state.Pool.{Pool}
 use Rattle.sched_model.specs.declared.state.Vcpu.{Vcpu}
 use Rattle.sched_model.specs.Places.{first_place}
 use Rattle.sched_model.specs.Pool.{done_at, enabled_in, vcpu_of}
-use Rattle.sched_laws.proofs.Bools.{clash, is_same}
+use Rattle.sched_base.proofs.Bools.{clash}
 use Rattle.plain_pool.specs.Fits.{vcpu_among}
 use Rattle.pool_laws.proofs.Readiness.{ready}
-use Rattle.unit_state.specs.Kept.{KeepsGuests}
+use Rattle.unit_state.specs.Guests.{KeepsGuests}
 use Rattle.unit_state.specs.Seen.{Seen as GuestsSeen, done_among, is_due_among}
 use Rattle.unit_state.proofs.GuestLemmas.{vcpu_bounds}
 use Rattle.core_state.specs.Seen.{Seen as CoresSeen}
@@ -70,7 +70,7 @@ lowest_leads g p (Some r) own = (r, own)
 
 -- a core's first processor is the pool's lowest, where the core is the pool's first
 pub lowest_of : (g r p : ℕ) (pool : Pool) → p ≡ r * g → first_place 0 (λ c. true) pool.resources ≡ Some r → is_lowest g pool p ≡ true
-lowest_of g r p pool is first = ap (λ (o : Option ℕ). elim o as (λ _. Bool) [ None ↦ false | Some k ↦ leads g k p ]) first ∙ is_same p (r * g) is
+lowest_of g r p pool is first = ap (λ (o : Option ℕ). elim o as (λ _. Bool) [ None ↦ false | Some k ↦ leads g k p ]) first ∙ eq-eqb p (r * g) is
 
 -- and no other
 pub not_lowest : (g r p : ℕ) (o : Option ℕ) (pool : Pool) → 0 < g → p ≡ r * g → first_place 0 (λ c. true) pool.resources ≡ o → ((k : ℕ) → o ≡ Some k → k ≢ r) → is_lowest g pool p ≡ false
@@ -108,19 +108,19 @@ module _ (g t : ℕ) (pool : Pool) (p : ProcId) where
   no_block off = only_none g t pool (Proc p) 5 (λ n. Block (processor n)) p.0 (λ j n. refl) (λ j own. sym (eqb-true p.0 j own)) off
 
   a_block : enabled_in g t pool (Block p) ≡ true → IsFirstByIn 5 6 g t pool (Proc p) (Some (Block p))
-  a_block on = only_one g t pool (Proc p) 5 (λ n. Block (processor n)) p.0 (λ j n. refl) (λ j own. sym (eqb-true p.0 j own)) refl (is_same p.0 p.0 refl) on
+  a_block on = only_one g t pool (Proc p) 5 (λ n. Block (processor n)) p.0 (λ j n. refl) (λ j own. sym (eqb-true p.0 j own)) refl (eq-eqb p.0 p.0 refl) on
 
   no_arrive : enabled_in g t pool (Arrive p) ≡ false → IsFirstByIn 9 10 g t pool (Proc p) None
   no_arrive off = only_none g t pool (Proc p) 9 (λ n. Arrive (processor n)) p.0 (λ j n. refl) (λ j own. sym (eqb-true p.0 j own)) off
 
   an_arrive : enabled_in g t pool (Arrive p) ≡ true → IsFirstByIn 9 10 g t pool (Proc p) (Some (Arrive p))
-  an_arrive on = only_one g t pool (Proc p) 9 (λ n. Arrive (processor n)) p.0 (λ j n. refl) (λ j own. sym (eqb-true p.0 j own)) refl (is_same p.0 p.0 refl) on
+  an_arrive on = only_one g t pool (Proc p) 9 (λ n. Arrive (processor n)) p.0 (λ j n. refl) (λ j own. sym (eqb-true p.0 j own)) refl (eq-eqb p.0 p.0 refl) on
 
   no_leave : enabled_in g t pool (Leave p) ≡ false → IsFirstByIn 11 12 g t pool (Proc p) None
   no_leave off = only_none g t pool (Proc p) 11 (λ n. Leave (processor n)) p.0 (λ j n. refl) (λ j own. sym (eqb-true p.0 j own)) off
 
   a_leave : enabled_in g t pool (Leave p) ≡ true → IsFirstByIn 11 12 g t pool (Proc p) (Some (Leave p))
-  a_leave on = only_one g t pool (Proc p) 11 (λ n. Leave (processor n)) p.0 (λ j n. refl) (λ j own. sym (eqb-true p.0 j own)) refl (is_same p.0 p.0 refl) on
+  a_leave on = only_one g t pool (Proc p) 11 (λ n. Leave (processor n)) p.0 (λ j n. refl) (λ j own. sym (eqb-true p.0 j own)) refl (eq-eqb p.0 p.0 refl) on
 
   -- the timers, by the pool's lowest processor and by any other
   timer_own : (a : Action) → 7 ≤ kind_place a → kind_place a < 9 → is_lowest g pool p.0 ≡ true → is_by_processor g pool p.0 a ≡ true
@@ -152,7 +152,7 @@ module _ (g t : ℕ) (pool : Pool) (p : ProcId) where
 
     an_own : (k : ℕ) (make : ℕ → Action) → ((j n : ℕ) → action_at k j n ≡ make j) → ((j : ℕ) → is_by g pool (Proc p) (make j) ≡ leads g j p.0) → kind_place (make r) ≡ k → enabled_in g t pool (make r) ≡ true
         → IsFirstByIn k (suc k) g t pool (Proc p) (Some (make r))
-    an_own k make made by kind on = only_one g t pool (Proc p) k make r made (λ j own. led g r j p.0 some is (sym (by j) ∙ own)) kind (by r ∙ is_same p.0 (r * g) is) on
+    an_own k make made by kind on = only_one g t pool (Proc p) k make r made (λ j own. led g r j p.0 some is (sym (by j) ∙ own)) kind (by r ∙ eq-eqb p.0 (r * g) is) on
 
     pub slice_first : enabled_in g t pool (Block p) ≡ false → enabled_in g t pool (Slice (core r)) ≡ true → IsFirstByIn 4 9 g t pool (Proc p) (Some (Slice (core r)))
     slice_first off on = after_block 9 (Some (Slice (core r))) off (widened (is_by g pool (Proc p)) g t pool 6 7 9 (Slice (core r)) (omega arith) (an_own 6 (λ n. Slice (core n)) (λ j n. refl) (λ j. refl) refl on))
@@ -257,7 +257,7 @@ module _ (t : ℕ) (d : DomId) (guests : GuestsSeen) (cores : CoresSeen) (s : Sc
   wakes_first n due before =
       let pool : Pool = pool_of guests cores s in
       of_all guests.granularity t pool (Dom d) (Some (Wake (its d n))) (widened (is_by guests.granularity pool (Dom d)) guests.granularity t pool 4 5 13 (Wake (its d n)) (omega arith)
-      (one_at (is_by guests.granularity pool (Dom d)) guests.granularity t pool 4 (Wake (its d n)) refl (is_same d.0 d.0 refl) (wakes n ∙ due) (λ i k own on.
+      (one_at (is_by guests.granularity pool (Dom d)) guests.granularity t pool 4 (Wake (its d n)) refl (eq-eqb d.0 d.0 refl) (wakes n ∙ due) (λ i k own on.
       let e = numbered i k own in
       subst (IsNotAfter (Wake (its d n))) (sym e) (after k (sym (wakes k) ∙ subst (λ (a : Action). enabled_in guests.granularity t pool a ≡ true) e on)))))
     where

@@ -14,7 +14,7 @@ use Rattle.sched_model.specs.Pool.{unit_count}
 use Rattle.sched_laws.proofs.Counts.{times_has, times_some}
 use Rattle.sched_laws.proofs.EachPlace.{at_place-put_at}
 use Rattle.sched_laws.proofs.Lists.{some-test_at}
-use Rattle.sched_laws.specs.Known.{IsStaying}
+use Rattle.sched_laws.specs.PoolFacts.{IsStaying}
 use Rattle.sched_ops.specs.Conditions.{is_on}
 use Rattle.sched_ops.specs.Seen.{units_of}
 use Rattle.pool_kept.proofs.Alike.{found_core}

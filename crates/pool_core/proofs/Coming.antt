@@ -13,21 +13,20 @@ use Rattle.sched_model.specs.declared.state.Scheduler.{Scheduler}
 use Rattle.sched_model.specs.declared.state.Pool.{Pool}
 use Rattle.sched_model.specs.declared.state.Processor.{Processor}
 use Rattle.sched_model.specs.declared.state.Resource.{Resource}
-use Rattle.sched_model.specs.Checked.{most_span}
+use Rattle.sched_model.specs.CheckedMachine.{most_span}
 use Rattle.sched_model.specs.Opening.{fresh_core}
 use Rattle.sched_model.specs.Places.{at_place, clear_at, put_at}
 use Rattle.sched_model.specs.Pool.{unit_count}
-use Rattle.sched_laws.proofs.EachPlace.{at_place-clear_at, at_place-clear_at_other, at_place-put_at, at_place-put_at_other}
+use Rattle.sched_laws.proofs.EachPlace.{at_place-clear_at, at_place-clear_at_other, at_place-put_at, at_place-put_at_other, at_place-replicate}
 use Rattle.plain_pool.specs.Cores.{fresh_processor}
 use Rattle.core_state.specs.Seen.{Seen as CoresSeen, processor_among, stalled_to, vacant_cores as vacant_cores, without_works}
 use Rattle.core_state.proofs.ChangeLemmas.{without_works-other, without_works-own}
 use Rattle.pool_kept.specs.Holds.{Holds}
 use Rattle.pool_kept.proofs.Kept.{opened}
-use Rattle.pool_kept.proofs.Members.{at_empty}
 use Rattle.sched_ops.specs.Conditions.{is_vacant}
 use Rattle.sched_ops.specs.Seen.{Seen as SchedulerSeen, core_places, restarted_scheduler, vacant_scheduler as vacant_scheduler}
 use Rattle.unit_state.specs.Seen.{Seen as GuestsSeen, vacant_guests as vacant_guests}
-use Rattle.pool_core.specs.Kept.{AreWorks, IsKept}
+use Rattle.pool_core.specs.PoolState.{AreWorks, IsKept}
 use Rattle.pool_core.specs.Seen.{IsEmpty, guest_among, pool_of, with_core, with_stall, without_core}
 use Rattle.pool_core.proofs.Processors.{processor_changed, processor_other, run_by}
 use Rattle.pool_core.proofs.Works.{done_by}
@@ -106,9 +105,9 @@ works_stalled g p end works pool are q = are q ∙ ap (done_by pool.domains) (el
 -- no processor of places without a core runs anything
 pub works_vacant : (g n : ℕ) (pool : Pool) → pool.resources ≡ replicate n None → AreWorks g (replicate 64 None) pool
 works_vacant g n pool none q =
-    at_empty 64 q
+    at_place-replicate 64 q
     ∙ sym (ap (λ (cores : List (Option Resource)). done_by pool.domains (guest_among g cores q)) none
-    ∙ ap (λ (o : Option Resource). done_by pool.domains (run_by (elim o as (λ _. Option Processor) [ None ↦ None | Some c ↦ slice_get c.processors (q % g) ]))) (at_empty n (q / g)))
+    ∙ ap (λ (o : Option Resource). done_by pool.domains (run_by (elim o as (λ _. Option Processor) [ None ↦ None | Some c ↦ slice_get c.processors (q % g) ]))) (at_place-replicate n (q / g)))
 
 -- a pool that has nothing yet
 pub room_kept : (params : PoolParams) (g domains places units : ℕ) (guests : GuestsSeen) (cores : CoresSeen) (s : SchedulerSeen) → 0 < g → guests ≡ vacant_guests g domains units → cores ≡ vacant_cores g places

@@ -11,21 +11,20 @@ use Rattle.sched_model.specs.declared.state.Domain.{Domain}
 use Rattle.sched_model.specs.declared.state.Pool.{Pool}
 use Rattle.sched_model.specs.declared.state.Resource.{Resource}
 use Rattle.sched_model.specs.declared.state.Vcpu.{Vcpu}
-use Rattle.sched_model.specs.Checked.{most_span}
+use Rattle.sched_model.specs.CheckedMachine.{most_span}
 use Rattle.sched_model.specs.Places.{at_place, change_at, numbers_from, test_at}
 use Rattle.sched_model.specs.Policy as policy
 use Rattle.sched_model.specs.Pool.{change_domain, done_at, is_of_domain, pause, set_moving, set_params, set_pending, unit_count, unpause, withdrawn_pool}
 use Rattle.sched_model.proofs.PlaceLemmas.{at_place-change_at_other}
-use Rattle.sched_laws.proofs.EachPlace.{by_cond, by_option}
-use Rattle.plain_credit2.proofs.Items.{at_place-change_at}
+use Rattle.sched_laws.proofs.EachPlace.{by_cond, by_option, at_place-change_at}
 use Rattle.unit_state.specs.Seen.{Seen as GuestsSeen}
 use Rattle.core_state.specs.Seen.{Seen as CoresSeen}
 use Rattle.sched_ops.specs.Seen.{Seen as SchedulerSeen}
 use Rattle.pool_kept.specs.Holds.{Holds}
 use Rattle.pool_kept.proofs.Kept.{changes as kept_changes, later}
-use Rattle.pool_core.specs.Kept.{AreWorks, IsKept}
+use Rattle.pool_core.specs.PoolState.{AreWorks, IsKept}
 use Rattle.pool_core.specs.Seen.{guest_among, pool_of}
-use Rattle.pool_core.specs.Waking.{KeepsRoom}
+use Rattle.pool_core.specs.Wakes.{KeepsRoom}
 use Rattle.pool_core.proofs.Giving.{queued_same}
 use Rattle.pool_core.proofs.Works.{done_by, works_each}
 

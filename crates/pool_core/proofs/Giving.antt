@@ -24,7 +24,7 @@ use Rattle.sched_laws.proofs.EachPlace.{at_place-put_at_other, by_cond, read_put
 use Rattle.sched_records.specs.Counts.{Matches}
 use Rattle.sched_ops.specs.Conditions.{AreDomParams}
 use Rattle.unit_state.specs.Seen.{done_among}
-use Rattle.pool_core.specs.Kept.{AreWorks}
+use Rattle.pool_core.specs.PoolState.{AreWorks}
 use Rattle.pool_core.specs.Seen.{guest_among}
 use Rattle.pool_core.proofs.Works.{done_by}
 

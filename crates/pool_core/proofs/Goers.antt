@@ -3,7 +3,7 @@ use Rattle.std.proofs.Common.{◌≡◌, ◌<◌, ◌/◌, ℕ, Bool, true, fals
 use Rattle.std.specs.Prelude.{Option, Some, None, option_map, is_none, is_some, not, slice_get, ◌&&◌}
 use Rattle.std.specs.List.{list_any}
 use Rattle.std.specs.Option.{ForSome}
-use Rattle.std.proofs.lemmas.Bool.{lt-ltb, false_from_ne_true}
+use Rattle.std.proofs.lemmas.Bool.{lt-ltb, false_from_ne_true, and_from}
 use Rattle.sched_base.specs.Numbers.{domain as domain_number}
 use Rattle.sched_base.specs.declared.Cores.{Cores}
 use Rattle.sched_base.specs.declared.Moment.{Moment}
@@ -16,14 +16,14 @@ use Rattle.sched_model.specs.declared.state.Vcpu.{Vcpu}
 use Rattle.sched_model.specs.Places.{at_place, has_unit, numbers_from, test_at}
 use Rattle.sched_model.specs.Pool.{change_domain, enabled_in, is_of_domain, is_off, queue_units, unit_count, unit_of, unpause, vcpu_of}
 use Rattle.sched_model.specs.State.{is_awake, is_runnable, unit_runnable, vcpus_of_unit}
-use Rattle.sched_laws.proofs.Bools.{and_left, both, or_left}
+use Rattle.sched_base.proofs.Bools.{and_left, or_left}
 use Rattle.sched_laws.proofs.Counts.{times_has, times_some, total_at}
 use Rattle.sched_laws.specs.Counts.{one_at}
 use Rattle.sched_laws.proofs.Lists.{is_some_at, some-test_at}
 use Rattle.sched_laws.proofs.OnePlace.{off_is, one_same}
-use Rattle.sched_laws.specs.Known.{OnePlace, core_places}
+use Rattle.sched_laws.specs.PoolFacts.{OnePlace, core_places}
 use Rattle.sched_laws.proofs.OwnUnits.{moving_not_staying}
-use Rattle.sched_laws.specs.Known.{IsStaying}
+use Rattle.sched_laws.specs.PoolFacts.{IsStaying}
 use Rattle.sched_ops.specs.Conditions.{HasNoneBusy, has_joined, is_on}
 use Rattle.sched_ops.specs.Seen.{units_of}
 use Rattle.unit_state.specs.Parts.{IsStill}
@@ -32,14 +32,14 @@ use Rattle.pool_kept.proofs.Alike.{found_core}
 use Rattle.pool_kept.proofs.Units.{none_of_domain, other_domain}
 use Rattle.pool_kept.specs.Holds.{AreOn, HasMembers, Holds}
 use Rattle.pool_core.specs.Domains.{MayQueue, unit_id}
-use Rattle.pool_core.specs.Waking.{is_held_among}
+use Rattle.pool_core.specs.Wakes.{is_held_among}
 use Rattle.pool_core.proofs.Asking.{guest_at}
 use Rattle.pool_core.proofs.Withdrawing.{units_known, waits_by}
 
 -- a unit that has no place is not on
 nowhere_off : (g : ℕ) (pool : Pool) (u : UnitId) → AreOn pool → has_unit pool.scheduler.queue u ≡ false → is_held_among pool.resources u ≡ false → is_on pool.scheduler.records u ≡ false
 nowhere_off g pool u on waits_not none = false_from_ne_true (is_on pool.scheduler.records u) (λ is.
-    let off : is_off pool u ≡ true = both (not (has_unit pool.scheduler.queue u)) (not (is_held_among pool.resources u)) (ap not waits_not) (ap not none) in
+    let off : is_off pool u ≡ true = and_from (not (has_unit pool.scheduler.queue u)) (not (is_held_among pool.resources u)) (ap not waits_not) (ap not none) in
     let found = found_core pool u (on.off u is) in
     let here : one_at u found.1.cur ≡ 1 = ap (one_at u) found.3 ∙ one_same u in
     let some = total_at (core_places u) found.0 found.1 pool.resources found.2 in

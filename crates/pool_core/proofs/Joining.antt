@@ -7,7 +7,7 @@ use Rattle.sched_model.specs.declared.state.Pool.{Pool}
 use Rattle.sched_model.specs.declared.state.Processor.{Processor}
 use Rattle.sched_model.specs.Pool as pools
 use Rattle.sched_model.specs.Pool.{core_of, joined_siblings, processor_of, started_on, unit_of}
-use Rattle.pool_core.specs.Waking.{idles_among}
+use Rattle.pool_core.specs.Wakes.{idles_among}
 
 -- a sibling's processor is one of those of the places
 pub sibling_below : (g r n places : ℕ) → 0 < g → places * g ≤ 64 → r < places → r * g + n % g < 64

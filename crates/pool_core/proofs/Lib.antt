@@ -2,7 +2,6 @@ pub mod Processors
 pub mod Works
 pub mod Asking
 pub mod Settled
-pub mod Cleared
 pub mod Marking
 pub mod ActedWorks
 pub mod Joining

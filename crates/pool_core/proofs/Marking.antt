@@ -1,16 +1,15 @@
 -- Each core of a set made pending, one after another; and the cores that the scheduler wants.
-use Rattle.std.proofs.Common.{◌≡◌, ◌≢◌, ◌<◌, ◌+◌, ◌^◌, ℕ, zero, suc, Bool, true, false, List, [], ◌∷◌, refl, sym, ap, subst, ◌∙◌, arith, inl, inr}
+use Rattle.std.proofs.Common.{◌≡◌, ◌≢◌, ◌+◌, ℕ, zero, suc, Bool, true, false, List, [], ◌∷◌, refl, sym, ap, subst, ◌∙◌, arith, inl, inr}
 use Rattle.std.specs.Prelude.{Option, Some, None, option_map, not, ◌&&◌, if◌then◌else◌}
-use Rattle.std.specs.Int.{trailing_zeros, w64}
 use Rattle.std.proofs.lemmas.Bool.{cases_eq}
+use Rattle.due_heap.specs.Words.{ChangesId, IsLowest}
 use Rattle.sched_model.specs.declared.state.Resource.{Resource}
 use Rattle.sched_model.specs.declared.state.Scheduler.{Scheduler}
 use Rattle.sched_model.specs.Places.{at_place, change_at, change_each}
 use Rattle.sched_model.specs.Pool.{reconsidered_core, set_pending}
 use Rattle.sched_model.specs.State.{has_core}
-use Rattle.sched_ops.specs.Wanted.{is_wanted}
-use Rattle.pool_core.specs.Settling.{pending_where}
-use Rattle.pool_core.proofs.Cleared.{least_gone, least_there, others_stay, without_least}
+use Rattle.sched_ops.specs.WantedCores.{is_wanted}
+use Rattle.pool_core.specs.CoreLooks.{pending_where}
 use Rattle.pool_core.proofs.Settled.{unwanted, wanted}
 
 -- changes that are the same at each place
@@ -65,44 +64,38 @@ none_marked set cores = sym (same_each 0 (marked set set) (λ n c. c) cores (λ 
     by_bit c false = refl
 
 -- the least of what is left
-pub least_marked : (set rest : ℕ) (cores : List (Option Resource)) → 0 < rest → rest < 2 ^ 64 → ((i : ℕ) → has_core rest i ≡ true → has_core set i ≡ true)
-    → change_at (trailing_zeros w64 rest) set_pending (change_each 0 (marked set rest) cores) ≡ change_each 0 (marked set (without_least rest)) cores
-least_marked set rest cores some fits within = one_place (trailing_zeros w64 rest) 0 set_pending (marked set rest) (marked set (without_least rest)) cores mine others
+pub least_marked : (set rest next r : ℕ) (cores : List (Option Resource)) → IsLowest rest r → ChangesId r false rest next → ((i : ℕ) → has_core rest i ≡ true → has_core set i ≡ true)
+    → change_at r set_pending (change_each 0 (marked set rest) cores) ≡ change_each 0 (marked set next) cores
+least_marked set rest next r cores low change within = one_place r 0 set_pending (marked set rest) (marked set next) cores mine others
   where
-    mine : (c : Resource) → set_pending (marked set rest (0 + trailing_zeros w64 rest) c) ≡ marked set (without_least rest) (0 + trailing_zeros w64 rest) c
+    mine : (c : Resource) → set_pending (marked set rest (0 + r) c) ≡ marked set next (0 + r) c
     mine c =
-        let e : 0 + trailing_zeros w64 rest ≡ trailing_zeros w64 rest = omega arith in
-        let there = least_there rest some fits in
-        let inside = within (trailing_zeros w64 rest) there in
-        let gone = least_gone rest some fits in
+        let e : 0 + r ≡ r = omega arith in
         ap (λ (n : ℕ). set_pending (marked set rest n c)) e
-        ∙ ap (λ (b : Bool). set_pending (if b && not (has_core rest (trailing_zeros w64 rest)) then set_pending c else c)) inside
-        ∙ ap (λ (b : Bool). set_pending (if not b then set_pending c else c)) there
-        ∙ sym (ap (λ (n : ℕ). marked set (without_least rest) n c) e ∙ ap (λ (b : Bool). if b && not (has_core (without_least rest) (trailing_zeros w64 rest)) then set_pending c else c) inside ∙ ap (λ (b : Bool). if not b then set_pending c else c) gone)
+        ∙ ap (λ (b : Bool). set_pending (if b && not (has_core rest r) then set_pending c else c)) (within r low.has)
+        ∙ ap (λ (b : Bool). set_pending (if not b then set_pending c else c)) low.has
+        ∙ sym (ap (λ (n : ℕ). marked set next n c) e ∙ ap (λ (b : Bool). if b && not (has_core next r) then set_pending c else c) (within r low.has) ∙ ap (λ (b : Bool). if not b then set_pending c else c) change.here)
 
-    others : (i : ℕ) (c : Resource) → i ≢ trailing_zeros w64 rest → marked set rest (0 + i) c ≡ marked set (without_least rest) (0 + i) c
+    others : (i : ℕ) (c : Resource) → i ≢ r → marked set rest (0 + i) c ≡ marked set next (0 + i) c
     others i c other =
         let e : 0 + i ≡ i = omega arith in
         ap (λ (n : ℕ). marked set rest n c) e
-        ∙ ap (λ (b : Bool). if has_core set i && not b then set_pending c else c) (sym (others_stay rest some fits i other))
-        ∙ sym (ap (λ (n : ℕ). marked set (without_least rest) n c) e)
+        ∙ ap (λ (b : Bool). if has_core set i && not b then set_pending c else c) (sym (change.others i other))
+        ∙ sym (ap (λ (n : ℕ). marked set next n c) e)
 
 -- what is left stays within the set
-pub still_within : (set rest : ℕ) → 0 < rest → rest < 2 ^ 64 → ((i : ℕ) → has_core rest i ≡ true → has_core set i ≡ true) → (i : ℕ) → has_core (without_least rest) i ≡ true → has_core set i ≡ true
-still_within set rest some fits within i there = elim (cases_eq i (trailing_zeros w64 rest)) [
+pub still_within : (set rest next r : ℕ) → ChangesId r false rest next → ((i : ℕ) → has_core rest i ≡ true → has_core set i ≡ true) → (i : ℕ) → has_core next i ≡ true → has_core set i ≡ true
+still_within set rest next r change within i there = elim (cases_eq i r) [
   | inl same ↦
-      let clash : false ≡ true = sym (least_gone rest some fits) ∙ ap (λ (n : ℕ). has_core (without_least rest) n) (sym same) ∙ there in
+      let clash : false ≡ true = sym change.here ∙ ap (has_core next) (sym same) ∙ there in
       absurd (cc)
-  | inr other ↦ within i (sym (others_stay rest some fits i other) ∙ there)
+  | inr other ↦ within i (sym (change.others i other) ∙ there)
 ]
 
 -- after the last
-pub all_marked : (set : ℕ) (cores : List (Option Resource)) → change_each 0 (marked set 0) cores ≡ change_each 0 (pending_where set) cores
-all_marked set cores = same_each 0 (marked set 0) (pending_where set) cores (λ i c at. by_bit c (has_core set (0 + i)) (has_core 0 (0 + i)) (none (0 + i)))
+pub all_marked : (set rest : ℕ) (cores : List (Option Resource)) → ((i : ℕ) → has_core rest i ≡ false) → change_each 0 (marked set rest) cores ≡ change_each 0 (pending_where set) cores
+all_marked set rest cores none = same_each 0 (marked set rest) (pending_where set) cores (λ i c at. by_bit c (has_core set (0 + i)) (has_core rest (0 + i)) (none (0 + i)))
   where
-    none : (i : ℕ) → has_core 0 i ≡ false
-    none i = grind arith
-
     by_bit : (c : Resource) (a b : Bool) → b ≡ false → (if a && not b then set_pending c else c) ≡ (if a then set_pending c else c)
     by_bit c true true is = absurd (cc)
     by_bit c true false is = refl

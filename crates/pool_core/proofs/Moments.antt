@@ -11,22 +11,22 @@ use Rattle.sched_model.specs.declared.action.Action.TheVariants.{Stall, Xl, Move
 use Rattle.sched_model.specs.declared.state.Domain.{Domain}
 use Rattle.sched_model.specs.declared.state.Pool.{Pool}
 use Rattle.sched_model.specs.declared.state.Scheduler.{Scheduler}
-use Rattle.plain_pool.specs.Own.{IsOfPool}
-use Rattle.pool_laws.specs.Ready.{end_of, later_moment, lowest_end, ready_in, work_end}
+use Rattle.sched_model.specs.Actions.{IsOfPool}
+use Rattle.pool_laws.specs.ReadyMoments.{end_of, later_moment, lowest_end, ready_in, work_end}
 use Rattle.pool_laws.proofs.Readiness.{ready}
 use Rattle.pool_kept.specs.Holds.{AreOn}
 use Rattle.sched_ops.specs.Seen.{Seen as SchedulerSeen}
 use Rattle.sched_ops.specs.Timers.{Armed, action_of, timer_at}
 use Rattle.sched_ops.specs.declared.timer.Timer.{Timer}
 use Rattle.sched_ops.specs.declared.timer.Timer.TheVariants as timer
-use Rattle.timer_laws.specs.Armed.{armed_at}
+use Rattle.timer_laws.specs.TimerOrder.{armed_at}
 use Rattle.timer_laws.proofs.Law as law
 use Rattle.unit_state.specs.Seen.{Seen as GuestsSeen, wake_among}
 use Rattle.core_state.specs.Ends.{ready_within}
 use Rattle.core_state.specs.Firsts.{IsLeast, IsNotLater, earlier_moment}
 use Rattle.core_state.specs.Seen.{Seen as CoresSeen, processor_among}
 use Rattle.core_state.proofs.Leasts.{both, least_earlier, late_some, least_same}
-use Rattle.pool_core.specs.Kept.{AreWorks}
+use Rattle.pool_core.specs.PoolState.{AreWorks}
 use Rattle.pool_core.specs.Order.{IsNextMoment}
 use Rattle.pool_core.specs.Seen.{pool_of}
 use Rattle.pool_core.proofs.Order.{timer_ready}
@@ -90,7 +90,7 @@ of_pool g pool (Moved r) at is = absurd (cc)
 of_pool g pool (DomMoved d) at is = absurd (cc)
 of_pool g pool a at is = tt
 
-come_then : (at : Moment) → has_come at.0 (Some at) ≡ true
+pub come_then : (at : Moment) → has_come at.0 (Some at) ≡ true
 come_then at = grind (arith, nat_tests)
 
 not_before : (at : Moment) (t : ℕ) (o : Option Moment) → IsNotLater (Some at) o → has_come t o ≡ true → at.0 ≤ t

@@ -1,8 +1,8 @@
 -- The first event of a pool, from the first of each kind.
 use Rattle.std.proofs.Common.{◌≡◌, ◌≤◌, ◌<◌, ℕ, suc, List, Bool, true, false, refl, sym, ap, subst, ◌∙◌, inl, inr, arith}
-use Rattle.std.specs.Prelude.{Option, Some, None, option_map, ◌==◌, ◌&&◌, ◌||◌, is_some, nat_le, max, if◌then◌else◌}
+use Rattle.std.specs.Prelude.{Option, Some, None, option_map, ◌==◌, ◌&&◌, ◌||◌, is_some, nat_le, if◌then◌else◌}
 use Rattle.std.proofs.Math.Decide.{ℕ_discrete}
-use Rattle.std.proofs.lemmas.Bool.{cases_lt, false_from_ne_true}
+use Rattle.std.proofs.lemmas.Bool.{cases_lt, false_from_ne_true, and_from}
 use Rattle.std.proofs.lemmas.Bool.Decides.{nat_tests}
 use Rattle.sched_base.specs.Numbers.{domain, moment, core as core_number, processor}
 use Rattle.sched_base.specs.declared.Moment.{Moment}
@@ -19,10 +19,10 @@ use Rattle.sched_model.specs.declared.state.Scheduler.{Scheduler}
 use Rattle.sched_model.specs.Places.{has_unit}
 use Rattle.sched_model.specs.Policy.{next_refill, rtds_record}
 use Rattle.sched_model.specs.Pool.{core_of, enabled_in}
-use Rattle.sched_laws.proofs.Bools.{and_left, both as and_both, clash}
-use Rattle.plain_pool.specs.Own.{IsOfPool}
-use Rattle.pool_laws.specs.Ready.{deadline_of, end_of, later_moment, lowest_end, ready_in, moment_if, work_end}
-use Rattle.pool_laws.proofs.Readiness.{ready}
+use Rattle.sched_base.proofs.Bools.{and_left, clash}
+use Rattle.sched_model.specs.Actions.{IsOfPool}
+use Rattle.pool_laws.specs.ReadyMoments.{deadline_of, end_of, later_moment, lowest_end, ready_in, moment_if, work_end}
+use Rattle.pool_laws.proofs.Readiness.{ready, come_later}
 use Rattle.pool_kept.specs.Holds.{AreOn}
 use Rattle.pool_kept.proofs.Alike.{found_core}
 use Rattle.sched_ops.specs.Conditions.{is_on, may_be_on}
@@ -30,18 +30,18 @@ use Rattle.sched_ops.specs.Seen.{Seen as SchedulerSeen}
 use Rattle.sched_ops.specs.Timers.{Armed, action_of, timer_at}
 use Rattle.sched_ops.specs.declared.timer.Timer.{Timer}
 use Rattle.sched_ops.specs.declared.timer.Timer.TheVariants as timer
-use Rattle.timer_laws.specs.Armed.{armed_at, IsNotAfter as IsTimerNotAfter}
+use Rattle.timer_laws.specs.TimerOrder.{armed_at, IsNotAfter as IsTimerNotAfter}
 use Rattle.timer_laws.proofs.Law as law
 use Rattle.unit_state.specs.Seen.{Seen as GuestsSeen, is_due_among, IsNotAfter as IsVcpuNotAfter}
 use Rattle.core_state.specs.Ends.{ready_among}
 use Rattle.core_state.specs.Firsts.{IsFirstCome}
 use Rattle.core_state.specs.Seen.{Seen as CoresSeen, processor_among}
-use Rattle.pool_core.specs.Kept.{AreWorks}
+use Rattle.pool_core.specs.PoolState.{AreWorks}
 use Rattle.pool_core.specs.Seen.{pool_of}
 use Rattle.pool_core.specs.Order.{IsFirstEnabled, IsFirstIn, IsFirstWhere, is_any, IsNotAfter, index_place, kind_place, subject_place}
 use Rattle.std.proofs.Math.Bool.{and-false}
-use Rattle.unit_state.proofs.GuestLemmas.{come_there}
 use Rattle.pool_laws.proofs.ActionOrder.{action_at, later_kind, of_kind}
+use Rattle.sched_laws.proofs.Lists.{has_come-le}
 
 -- the events of a pool are those from the wakes on
 pub from_wakes : (a : Action) → IsOfPool a → 4 ≤ kind_place a
@@ -113,14 +113,6 @@ deadline_is pool u on = by pool.scheduler.records refl
 pub timer_ready : (g : ℕ) (pool : Pool) → AreOn pool → (x : Timer) → ready_in g pool (action_of x) ≡ later_moment (armed_at pool.scheduler x) (lowest_end pool)
 timer_ready g pool on (timer.Repl u) = ap (λ (a : Option Moment). later_moment a (lowest_end pool)) (sym (deadline_is pool u on))
 timer_ready g pool on (timer.Refill d) = refl
-
-both_come : (t : ℕ) (a b : Option Moment) → has_come t (later_moment a b) ≡ (has_come t a && has_come t b)
-both_come t None b = refl
-both_come t (Some a) None = sym (and-false (nat_le a.0 t))
-both_come t (Some a) (Some b) = greater a.0 b.0
-  where
-    greater : (m n : ℕ) → nat_le (max m n) t ≡ (nat_le m t && nat_le n t)
-    greater m n = grind (arith, nat_tests)
 
 module _ (test : Action → Bool) (g t : ℕ) (pool : Pool) where
   -- no event of a kind
@@ -224,7 +216,7 @@ module _ (g t : ℕ) (pool : Pool) where
 
   -- of the timers
   pub timer_may : AreOn pool → (x : Timer) → enabled_in g t pool (action_of x) ≡ (has_come t (armed_at pool.scheduler x) && has_come t (lowest_end pool))
-  timer_may on x = ready g t pool (action_of x) ∙ ap (has_come t) (timer_ready g pool on x) ∙ both_come t (armed_at pool.scheduler x) (lowest_end pool)
+  timer_may on x = ready g t pool (action_of x) ∙ ap (has_come t) (timer_ready g pool on x) ∙ come_later t (armed_at pool.scheduler x) (lowest_end pool)
 
   pub no_timer : ((x : Timer) → enabled_in g t pool (action_of x) ≡ false) → IsFirstIn 7 9 g t pool None
   no_timer none = joined is_any g t pool 7 8 9 None (omega arith)
@@ -239,7 +231,7 @@ module _ (g t : ℕ) (pool : Pool) where
 
   pub first_timer : AreOn pool → (x : Timer) → has_come t (armed_at pool.scheduler x) ≡ true → has_come t (lowest_end pool) ≡ true
       → ((other : Timer) → has_come t (armed_at pool.scheduler other) ≡ true → IsTimerNotAfter x other) → IsFirstIn 7 9 g t pool (Some (action_of x))
-  first_timer on (timer.Repl u) due up first = widened is_any g t pool 7 8 9 (Repl u) (omega arith) (one_at is_any g t pool 7 (Repl u) refl refl (timer_may on (timer.Repl u) ∙ and_both _ _ due up) (λ i n own may.
+  first_timer on (timer.Repl u) due up first = widened is_any g t pool 7 8 9 (Repl u) (omega arith) (one_at is_any g t pool 7 (Repl u) refl refl (timer_may on (timer.Repl u) ∙ and_from _ _ due up) (λ i n own may.
       let w : UnitId = record { dom = domain i; n = n } in
       let order = first (timer.Repl w) (and_left _ _ (sym (timer_may on (timer.Repl w)) ∙ may)) in
       record { by_kind = omega arith; then_by_subject = λ same. order.by_domain; then_by_index = λ same also. order.then_by_unit also }))
@@ -247,20 +239,20 @@ module _ (g t : ℕ) (pool : Pool) where
       (none_at is_any g t pool 7 (λ i n own.
       let w : UnitId = record { dom = domain i; n = n } in
       false_from_ne_true _ (λ may. never_both t pool.scheduler w d.0 (and_left _ _ (sym (timer_may on (timer.Repl w)) ∙ may)) due)))
-      (one_at is_any g t pool 8 (Refill d) refl refl (timer_may on (timer.Refill d) ∙ and_both _ _ due up) (λ i n own may.
+      (one_at is_any g t pool 8 (Refill d) refl refl (timer_may on (timer.Refill d) ∙ and_from _ _ due up) (λ i n own may.
       let order = first (timer.Refill (domain i)) (and_left _ _ (sym (timer_may on (timer.Refill (domain i))) ∙ may)) in
       record { by_kind = omega arith; then_by_subject = λ same. order.by_domain; then_by_index = λ same also. omega arith }))
 
 -- the timer at t, where its moment has not come: none has come
 pub timers_late : (t : ℕ) (s : Scheduler) (x : Armed) → timer_at t s ≡ Some x → t < x.0.0 → (other : Timer) → has_come t (armed_at s other) ≡ false
-timers_late t s x is late other = false_from_ne_true _ (λ may. let at = come_there t (armed_at s other) may in let first = law.first t s x is other at.0 at.1 at.2 in let come = first.0 in omega (arith, late, come))
+timers_late t s x is late other = false_from_ne_true _ (λ may. let at = has_come-le t (armed_at s other) may in let first = law.first t s x is other at.0 at.1 at.2 in let come = first.0 in omega (arith, late, come))
 
 -- where its moment has come: it is the first of those that have
 pub timer_come : (t : ℕ) (s : Scheduler) (x : Armed) → timer_at t s ≡ Some x → x.0.0 ≤ t → has_come t (armed_at s x.1) ≡ true
 timer_come t s x is come = ap (has_come t) (law.armed t s x is) ∙ (let e : nat_le x.0.0 t ≡ true = grind (arith, nat_tests, come) in e)
 
 pub timers_first : (t : ℕ) (s : Scheduler) (x : Armed) → timer_at t s ≡ Some x → (other : Timer) → has_come t (armed_at s other) ≡ true → IsTimerNotAfter x.1 other
-timers_first t s x is other may = let at = come_there t (armed_at s other) may in (law.first t s x is other at.0 at.1 at.2).1
+timers_first t s x is other may = let at = has_come-le t (armed_at s other) may in (law.first t s x is other at.0 at.1 at.2).1
 
 -- from when on a block may come
 pub block_is : (guests : GuestsSeen) (cores : CoresSeen) (s : SchedulerSeen) → cores.granularity ≡ guests.granularity → AreWorks guests.granularity cores.works (pool_of guests cores s)

@@ -10,16 +10,16 @@ use Rattle.sched_model.specs.declared.state.Pool.{Pool}
 use Rattle.sched_model.specs.declared.state.Vcpu.{Vcpu}
 use Rattle.sched_model.specs.Places.{at_place, clear_at}
 use Rattle.sched_model.specs.Pool.{done_at, enabled_in, is_of_domain, unit_count, unit_of, without_domain}
-use Rattle.sched_laws.proofs.Bools.{or_left}
+use Rattle.sched_base.proofs.Bools.{or_left}
 use Rattle.sched_laws.proofs.EachPlace.{at_place-clear_at_other}
-use Rattle.sched_laws.specs.Known.{IsKnownPool}
+use Rattle.sched_laws.specs.PoolFacts.{IsKnownPool}
 use Rattle.sched_ops.specs.Seen.{Seen as SchedulerSeen, units_of}
 use Rattle.unit_state.specs.Seen.{Seen as GuestsSeen}
 use Rattle.core_state.specs.Seen.{Seen as CoresSeen}
 use Rattle.pool_kept.specs.Holds.{Holds}
 use Rattle.pool_kept.proofs.Kept.{domain_goes}
 use Rattle.pool_kept.proofs.Units.{none_of_domain, other_domain}
-use Rattle.pool_core.specs.Kept.{AreWorks, IsKept}
+use Rattle.pool_core.specs.PoolState.{AreWorks, IsKept}
 use Rattle.pool_core.specs.Seen.{Seen, guest_among, pool_of, with_spare}
 use Rattle.pool_core.proofs.Asking.{guest_at}
 use Rattle.pool_core.proofs.Withdrawing.{units_known}

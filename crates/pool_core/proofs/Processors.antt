@@ -10,8 +10,7 @@ use Rattle.sched_model.specs.declared.state.Resource.{Resource}
 use Rattle.sched_model.specs.Places.{at_place, change_at, change_each, change_item}
 use Rattle.sched_model.specs.Pool.{with_doing}
 use Rattle.sched_model.proofs.PlaceLemmas.{at_place-change_at_other}
-use Rattle.sched_laws.proofs.EachPlace.{at_place-change_each}
-use Rattle.plain_credit2.proofs.Items.{at_place-change_at}
+use Rattle.sched_laws.proofs.EachPlace.{at_place-change_each, at_place-change_at}
 use Rattle.core_state.specs.Seen.{processor_among, with_sibling}
 use Rattle.sched_laws.proofs.Lists.{slice_get-change_item, slice_get-change_item_other}
 

@@ -15,7 +15,7 @@ use Rattle.unit_state.specs.Seen as guests
 use Rattle.core_state.specs.Seen as cores
 use Rattle.pool_core.specs.Domains.{MayQueue, unit_id}
 use Rattle.pool_core.specs.Seen.{pool_of}
-use Rattle.pool_core.specs.Waking.{KeepsRoom}
+use Rattle.pool_core.specs.Wakes.{KeepsRoom}
 use Rattle.std.proofs.lemmas.Bool.{false_from_ne_true}
 
 -- a unit does not wait that is nowhere in the queue

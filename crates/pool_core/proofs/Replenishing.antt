@@ -12,7 +12,7 @@ use Rattle.sched_model.specs.declared.state.RtdsUnit.{RtdsUnit}
 use Rattle.sched_model.specs.Places.{has_unit}
 use Rattle.sched_model.specs.Policy.{replenish, replenish_due, rtds_record}
 use Rattle.sched_model.specs.Pool.{after_replenish, change_core, core_of, due_within, enabled_in, lowest_up, with_records}
-use Rattle.sched_laws.proofs.Bools.{and_left, and_right}
+use Rattle.sched_base.proofs.Bools.{and_left, and_right}
 use Rattle.sched_ops.specs.Conditions.{is_on, may_be_on}
 use Rattle.plain_pool.proofs.Replenished.{replenished-there}
 use Rattle.pool_kept.specs.Holds.{Holds}

@@ -9,7 +9,7 @@ use Rattle.sched_model.specs.declared.config.ParamChange.TheVariants as changes
 use Rattle.sched_model.specs.declared.state.Pool.{Pool}
 use Rattle.sched_model.specs.declared.state.RtdsUnit.{RtdsUnit}
 use Rattle.sched_model.specs.declared.state.Scheduler.{Scheduler}
-use Rattle.sched_model.specs.Checked.{most_span}
+use Rattle.sched_model.specs.CheckedMachine.{most_span}
 use Rattle.sched_model.specs.Commands.{set_rtds, set_rtds_unit}
 use Rattle.sched_model.specs.Policy as policy
 use Rattle.sched_model.specs.Policy.{rtds_record}
@@ -21,7 +21,7 @@ use Rattle.core_state.specs.Seen.{Seen as CoresSeen}
 use Rattle.pool_kept.specs.Holds.{Holds}
 use Rattle.pool_kept.proofs.Kept.{changes as kept_changes, later}
 use Rattle.pool_core.specs.Domains.{unit_id}
-use Rattle.pool_core.specs.Kept.{AreWorks, IsKept}
+use Rattle.pool_core.specs.PoolState.{AreWorks, IsKept}
 use Rattle.pool_core.specs.Params.{unit_set, units_set}
 use Rattle.pool_core.specs.Seen.{pool_of}
 use Rattle.pool_core.proofs.Commanding.{works_changed}

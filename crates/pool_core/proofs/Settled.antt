@@ -6,7 +6,7 @@ use Rattle.sched_model.specs.declared.state.Scheduler.{Scheduler}
 use Rattle.sched_model.specs.Places.{change_at, change_each}
 use Rattle.sched_model.specs.Policy.{better_waits}
 use Rattle.sched_model.specs.Pool.{reconsidered_core, set_pending}
-use Rattle.pool_core.specs.Settling.{change_first}
+use Rattle.pool_core.specs.CoreLooks.{change_first}
 
 -- one place more
 first-more : {X : Type 0} (n k : ℕ) (f : ℕ → X → X) (places : List (Option X)) → change_at n (f (k + n)) (change_first n k f places) ≡ change_first (suc n) k f places

@@ -19,13 +19,13 @@ use Rattle.sched_model.specs.Pool as pools
 use Rattle.sched_model.specs.Pool.{after_in, change_core, change_processor, change_vcpu, cores_from, with_doing, guest_of, home_cores, is_held, is_off, put_to_sleep, reconsidered_core, set_pending, settled_pool as settled, started_on, stopped_vcpu, unit_of}
 use Rattle.sched_model.specs.State.{is_runnable}
 use Rattle.sched_laws.proofs.EachPlace.{at_place-change_each, by_cond, by_option}
-use Rattle.pool_laws.specs.Settling.{IsSettled}
+use Rattle.pool_laws.specs.CoreLooks.{IsSettled}
 use Rattle.pool_laws.proofs.Settled.{settled_alone}
 use Rattle.unit_state.specs.Seen.{Seen as GuestsSeen}
 use Rattle.core_state.specs.Seen.{Seen as CoresSeen}
 use Rattle.sched_ops.specs.Seen.{Seen as SchedulerSeen}
-use Rattle.pool_core.specs.Kept.{IsAtRest, IsKept}
-use Rattle.pool_core.specs.Waking.{is_queued_by}
+use Rattle.pool_core.specs.PoolState.{IsAtRest, IsKept}
+use Rattle.pool_core.specs.Wakes.{is_queued_by}
 
 -- a pool whose mark says nothing
 pub unsettled : {t : ℕ} {guests : GuestsSeen} {cores : CoresSeen} {s : SchedulerSeen} → IsKept t guests cores s → IsAtRest false t guests cores s

@@ -8,12 +8,12 @@ use Rattle.sched_model.specs.declared.facts.Stored.{Stored}
 use Rattle.sched_model.specs.declared.state.Domain.{Domain}
 use Rattle.sched_model.specs.declared.state.Records.{Records}
 use Rattle.sched_model.specs.declared.state.Scheduler.{Scheduler}
-use Rattle.sched_model.specs.Checked.{IsGranularity}
+use Rattle.sched_model.specs.CheckedMachine.{IsGranularity}
 use Rattle.sched_model.specs.Places.{at_place, numbers_from}
 use Rattle.sched_ops.specs.Conditions.{is_member}
 use Rattle.sched_ops.specs.Seen.{units_of}
 use Rattle.sched_model.specs.Policy.{stored_of}
-use Rattle.unit_state.specs.Kept.{KeepsGuests}
+use Rattle.unit_state.specs.Guests.{KeepsGuests}
 use Rattle.unit_state.specs.Seen.{Seen, units_at}
 use Rattle.pool_core.specs.Domains.{unit_id}
 use Rattle.pool_core.specs.Params.{stored_units}

@@ -2,22 +2,23 @@
 use Rattle.std.proofs.Common.{◌≡◌, ◌<◌, ◌≤◌, ◌+◌, ℕ, Bool, true, false, List, [], ◌∷◌, refl, sym, ap, subst, ◌∙◌, cond, arith}
 use Rattle.std.specs.Prelude.{◌&&◌, ◌||◌, ◌==◌, not, nat_lt, filter, slice_set, Option, Some, None, option_map}
 use Rattle.std.specs.List.{AllByRecursion}
-use Rattle.std.proofs.lemmas.Bool.{ltb-true, true_from_ne_false}
+use Rattle.std.proofs.lemmas.Bool.{ltb-true, true_from_ne_false, not-true}
 use Rattle.std.proofs.lemmas.List.{set-get_or}
 use Rattle.sched_base.specs.declared.UnitId.{UnitId}
 use Rattle.sched_model.specs.declared.state.Domain.{Domain}
 use Rattle.sched_model.specs.declared.state.Pool.{Pool}
 use Rattle.sched_model.specs.declared.state.Resource.{Resource}
 use Rattle.sched_model.specs.declared.state.Scheduler.{Scheduler}
-use Rattle.sched_model.specs.Places.{at_place, change_at, has_unit, is_unit, same_unit, test_at, without_unit}
+use Rattle.sched_model.specs.Places.{at_place, change_at, has_unit, is_unit, same_unit, test_at}
 use Rattle.sched_model.specs.Policy.{dequeue_domain}
 use Rattle.sched_model.specs.Pool.{is_of_domain, is_off, set_pending, unit_count}
 use Rattle.sched_model.specs.State.{is_runnable}
-use Rattle.sched_laws.proofs.Bools.{and_left, not_true, or_left, or_right}
-use Rattle.sched_laws.proofs.Counts.{some_numbered, times-filter_yes, times_none, times_some}
+use Rattle.sched_base.proofs.Bools.{and_left}
+use Rattle.sched_laws.proofs.Counts.{some_numbered, times-filter_yes, times_none, times_some, without_absent}
 use Rattle.sched_laws.specs.Counts.{times}
 use Rattle.sched_laws.proofs.Lists.{AllByRecursion-map}
-use Rattle.sched_laws.specs.Known.{OnePlace, core_places}
+use Rattle.sched_laws.specs.PoolFacts.{OnePlace, core_places}
+use Rattle.sched_laws.proofs.Calm.{each_of}
 use Rattle.sched_ops.specs.Seen.{Seen as SchedulerSeen, dequeue, units_of, with_scheduler}
 use Rattle.plain_pool.specs.Marks.{pending_of}
 use Rattle.pool_kept.specs.Holds.{HasMembers}
@@ -25,7 +26,7 @@ use Rattle.pool_kept.proofs.Alike.{units_in, units_of_is}
 use Rattle.pool_kept.proofs.Members.{runnable_member}
 use Rattle.unit_state.specs.Seen.{units_at}
 use Rattle.pool_core.specs.Domains.{unit_id}
-use Rattle.pool_core.specs.Waking.{is_held_among}
+use Rattle.pool_core.specs.Wakes.{is_held_among}
 use Rattle.pool_core.proofs.Asking.{off_by, waits_not}
 
 -- a core that has the unit has a place of it
@@ -49,7 +50,7 @@ waits_by g pool u one = by_both (is_runnable g pool u) (is_held_among pool.resou
     by_both : (runs held : Bool) → is_runnable g pool u ≡ runs → is_held_among pool.resources u ≡ held → has_unit pool.scheduler.queue u ≡ (runs && not held)
     by_both false false is has =
         let off : is_off pool u ≡ true = off_by g pool u one ∙ ap (λ (b : Bool). not (b || is_held_among pool.resources u)) is ∙ ap (λ (b : Bool). not (false || b)) has in
-        not_true (has_unit pool.scheduler.queue u) (and_left (not (has_unit pool.scheduler.queue u)) (not (is_held_among pool.resources u)) off)
+        not-true (has_unit pool.scheduler.queue u) (and_left (not (has_unit pool.scheduler.queue u)) (not (is_held_among pool.resources u)) off)
     by_both false true is has = held_waits_not has
     by_both true true is has = held_waits_not has
     by_both true false is has = true_from_ne_false (has_unit pool.scheduler.queue u) (λ e.
@@ -67,13 +68,6 @@ as_often u a b same = by_both (has_unit a u) (has_unit b u) refl refl
     by_both true false e f = absurd (let some = times_some u a e in let none = times_none u b f in omega (arith, same, some, none))
     by_both false true e f = absurd (let some = times_some u b f in let none = times_none u a e in omega (arith, same, some, none))
 
--- where a unit does not wait, the queue without it is the queue
-without_absent : (u : UnitId) (queue : List UnitId) → has_unit queue u ≡ false → without_unit u queue ≡ queue
-without_absent u [] none = refl
-without_absent u (w ∷ queue) none =
-    ap (λ (b : Bool). cond (not b) (w ∷ without_unit u queue) (without_unit u queue)) (or_left (same_unit u w) (has_unit queue u) none)
-    ∙ ap (λ (rest : List UnitId). w ∷ rest) (without_absent u queue (or_right (same_unit u w) (has_unit queue u) none))
-
 pub dequeue_absent : (u : UnitId) (seen : SchedulerSeen) → has_unit seen.scheduler.queue u ≡ false → seen ≡ with_scheduler (dequeue u seen.scheduler) seen
 dequeue_absent u seen none = ap (λ (queue : List UnitId). with_scheduler (record seen.scheduler { queue = queue }) seen) (sym (without_absent u seen.scheduler.queue none))
 
@@ -82,10 +76,6 @@ filter_alike : (a b : UnitId → Bool) (units : List UnitId) → AllByRecursion 
 filter_alike a b [] same = refl
 filter_alike a b (u ∷ units) same =
     ap (λ (x : Bool). cond x (u ∷ filter a units) (filter a units)) same.0 ∙ ap (λ (rest : List UnitId). cond (b u) (u ∷ rest) rest) (filter_alike a b units same.1)
-
-all_units : (P : UnitId → Type 0) → ((u : UnitId) → P u) → (units : List UnitId) → AllByRecursion P units
-all_units P each [] = tt
-all_units P each (u ∷ units) = (each u, all_units P each units)
 
 -- one test after another
 filter_twice : (a b : UnitId → Bool) (units : List UnitId) → filter a (filter b units) ≡ filter (λ u. a u && b u) units
@@ -124,14 +114,14 @@ filter_true (u ∷ units) = ap (λ (rest : List UnitId). u ∷ rest) (filter_tru
 pub below_first : (d : ℕ) (seen : SchedulerSeen) → seen ≡ with_scheduler (without_below d 0 seen.scheduler) seen
 below_first d seen =
     ap (λ (queue : List UnitId). with_scheduler (record seen.scheduler { queue = queue }) seen)
-    (sym (filter_true seen.scheduler.queue) ∙ filter_alike (λ u. true) (is_past d 0) seen.scheduler.queue (all_units (λ u. true ≡ is_past d 0 u) (past_first d) seen.scheduler.queue))
+    (sym (filter_true seen.scheduler.queue) ∙ filter_alike (λ u. true) (is_past d 0) seen.scheduler.queue (each_of (λ u. true ≡ is_past d 0 u) (past_first d) seen.scheduler.queue))
 
 -- one more
 pub below_next : (d n : ℕ) (scheduler : Scheduler) → dequeue (unit_id d n) (without_below d n scheduler) ≡ without_below d (n + 1) scheduler
 below_next d n scheduler =
     ap (λ (queue : List UnitId). record scheduler { queue = queue })
     (filter_twice (λ u. not (same_unit (unit_id d n) u)) (is_past d n) scheduler.queue
-    ∙ filter_alike (λ u. not (same_unit (unit_id d n) u) && is_past d n u) (is_past d (n + 1)) scheduler.queue (all_units (λ u. (not (same_unit (unit_id d n) u) && is_past d n u) ≡ is_past d (n + 1) u) (past_next d n) scheduler.queue))
+    ∙ filter_alike (λ u. not (same_unit (unit_id d n) u) && is_past d n u) (is_past d (n + 1)) scheduler.queue (each_of (λ u. (not (same_unit (unit_id d n) u) && is_past d n u) ≡ is_past d (n + 1) u) (past_next d n) scheduler.queue))
 
 -- the next one waits as before
 pub below_waits : (d n : ℕ) (scheduler : Scheduler) → has_unit (without_below d n scheduler).queue (unit_id d n) ≡ has_unit scheduler.queue (unit_id d n)

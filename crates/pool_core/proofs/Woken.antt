@@ -12,7 +12,7 @@ use Rattle.plain_pool.specs.Fits.{vcpu_among}
 use Rattle.unit_state.specs.Seen.{change_among, is_awake_among, is_due_among}
 use Rattle.unit_state.proofs.GuestLemmas.{come_among}
 use Rattle.unit_state.proofs.PlaceLemmas.{vcpu_among-change_among}
-use Rattle.pool_core.specs.Waking.{done_started, joined_works, woken_works}
+use Rattle.pool_core.specs.Wakes.{done_started, joined_works, woken_works}
 
 -- a vCPU that woke is awake
 pub woken_awake : (t : ℕ) (v : VcpuId) (domains : List (Option Domain)) → is_due_among t domains v ≡ true → is_awake_among (change_among v woken_vcpu domains) v ≡ true

@@ -7,7 +7,7 @@ use Rattle.sched_model.specs.declared.action.Actor.TheVariants.{Proc, Dom, Tool}
 use Rattle.sched_model.specs.declared.state.Pool.{Pool}
 use Rattle.sched_model.specs.Places.{first_place}
 use Rattle.sched_model.specs.Pool.{enabled_in}
-use Rattle.plain_pool.specs.Own.{IsOfPool}
+use Rattle.sched_model.specs.Actions.{IsOfPool}
 use Rattle.pool_core.specs.Order.{IsFirstWhere, IsNotAfter}
 
 -- whether the processor is the first of the core

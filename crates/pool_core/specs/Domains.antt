@@ -5,7 +5,7 @@ use Rattle.sched_base.specs.declared.UnitId.{UnitId}
 use Rattle.sched_model.specs.declared.state.Pool.{Pool}
 use Rattle.sched_model.specs.Places.{has_unit}
 use Rattle.sched_ops.specs.Conditions.{is_member, is_on}
-use Rattle.pool_core.specs.Waking.{is_held_among}
+use Rattle.pool_core.specs.Wakes.{is_held_among}
 
 -- the unit n of the domain d
 abbrev pub unit_id : ℕ → ℕ → UnitId

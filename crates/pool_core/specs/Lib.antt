@@ -1,9 +1,9 @@
 pub mod Seen
-pub mod Kept
-pub mod Settling
-pub mod Doing
+pub mod PoolState
+pub mod CoreLooks
+pub mod ProcessorEvents
 pub mod Order
-pub mod Waking
+pub mod Wakes
 pub mod Domains
 pub mod Params
 pub mod Actors

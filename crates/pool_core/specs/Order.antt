@@ -4,7 +4,7 @@ use Rattle.sched_base.specs.declared.Moment.{Moment}
 use Rattle.sched_model.specs.declared.action.Action.{Action}
 use Rattle.sched_model.specs.declared.state.Pool.{Pool}
 use Rattle.sched_model.specs.Pool.{enabled_in}
-use Rattle.plain_pool.specs.Own.{IsOfPool}
+use Rattle.sched_model.specs.Actions.{IsOfPool}
 pub use Rattle.pool_laws.specs.Order.{kind_place, subject_place, index_place, IsNotAfter}
 
 -- the event passes the test and may come at t, its kind has a place from one number on and below another, and no event from the first

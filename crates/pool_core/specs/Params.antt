@@ -10,7 +10,7 @@ use Rattle.sched_model.specs.declared.facts.Stored.{Stored}
 use Rattle.sched_model.specs.declared.state.Domain.{Domain}
 use Rattle.sched_model.specs.declared.state.Records.{Records}
 use Rattle.sched_model.specs.declared.state.Scheduler.{Scheduler}
-use Rattle.sched_model.specs.Checked.{IsWithin}
+use Rattle.sched_model.specs.CheckedMachine.{IsWithin}
 use Rattle.sched_model.specs.Places.{at_place, numbers_from}
 use Rattle.sched_model.specs.Policy.{rtds_record, set_params}
 use Rattle.sched_ops.specs.Seen.{units_of}

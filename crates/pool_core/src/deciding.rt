@@ -1,17 +1,18 @@
 //! What a core asks its scheduler, and the timers of a scheduler. g is the number of a core's processors.
 
 ghost use Rattle.std.specs.Prelude.{◌≡◌, true, false, None, Some};
-ghost use Rattle.sched_base.specs.Numbers.{core_set, span};
+ghost use Rattle.sched_base.specs.Numbers.{core_set};
 ghost use Rattle.sched_model.specs.declared.action.Action.TheVariants.{Decide, Repl};
 ghost use Rattle.sched_model.specs.State.{runnable_among};
-ghost use Rattle.sched_model.specs.Pool.{after_in, cores_from, enabled_in, event_in, lateness};
+ghost use Rattle.sched_model.specs.Pool.{after_in, cores_from, enabled_in, event_in};
 ghost use Rattle.sched_ops.specs.Conditions.{IsNow};
 ghost use Rattle.pool_kept.specs.Holds.{Holds};
 ghost use Rattle.pool_core.specs.Seen.{pool_of};
 ghost use Rattle.sched_ops.specs.Seen.{Seen as SchedulerSeen};
 
 use core_state::CoreState;
-use sched_base::{Cores, Moment, ResId, Span, UnitId};
+use plain_pool::deciding::lateness_of;
+use sched_base::{Cores, Moment, ResId, UnitId};
 use sched_model::ask::Ask;
 use sched_model::event::Event;
 use sched_model::state::Resource;
@@ -50,16 +51,6 @@ fn ask_of(guests: &Guests, home: Cores, t: Moment, r: ResId, c: &Resource) -> As
         at: t,
         core: r,
         home,
-    }
-}
-
-/// How much later than its due the core decides at t.
-fn lateness_of(t: Moment, c: &Resource) -> Span
-    ensures { result ≡ span (lateness t.0 c.now) }
-{
-    match c.due {
-        None => Span(0),
-        Some(due) => Span(t.0.saturating_sub(due.0)),
     }
 }
 

@@ -1,28 +1,18 @@
 //! What the processors of a core do. g is the number of a core's processors.
 
 ghost use Rattle.std.specs.Prelude.{◌≡◌, ◌≤◌, ◌<◌, ◌/◌, ◌%◌, ◌*◌, ℕ, true, IfSome, None, slice_set};
-ghost use Rattle.sched_model.specs.Pool.{after_arrive, after_block, taken_at, unit_of as unit_of_spec};
+ghost use Rattle.sched_model.specs.Pool.{after_arrive, after_block, taken_at};
 ghost use Rattle.sched_model.specs.State.{has_come};
 ghost use Rattle.sched_ops.specs.Seen.{Seen as SchedulerSeen};
 ghost use Rattle.unit_state.specs.Seen.{IsNow, done_among, is_awake_among};
 ghost use Rattle.pool_core.specs.Seen.{guest_among, pool_of};
-ghost use Rattle.pool_core.specs.Doing.{IsMoved, IsParting, work_of};
+ghost use Rattle.pool_core.specs.ProcessorEvents.{IsMoved, IsParting, work_of};
 
 use core_state::CoreState;
+use plain_pool::waking::unit_of;
 use sched_base::{Moment, ProcId, ResId, UnitId, VcpuId};
 use sched_model::state::Doing;
 use unit_state::Guests;
-
-/// The unit of a vCPU.
-pub fn unit_of(g: u8, v: VcpuId) -> UnitId
-    requires { 0 < g }
-    ensures { result ≡ unit_of_spec g v }
-{
-    UnitId {
-        dom: v.dom,
-        n: v.n / g,
-    }
-}
 
 /// The vCPU that the processor runs.
 pub fn guest_of(cores: &CoreState, p: ProcId) -> Option<VcpuId>

@@ -7,7 +7,7 @@ ghost use Rattle.sched_model.specs.Places.{at_place, change_each, clear_at, has_
 ghost use Rattle.sched_model.specs.Policy.{dequeue_domain as dequeue_domain_spec, kind_of};
 ghost use Rattle.sched_model.specs.Pool.{is_of_domain as is_of_domain_spec, pause as pause_spec, queue_if_off as queue_if_off_spec, queue_units as queue_units_spec, set_moving as set_moving_spec, unit_count as unit_count_spec, unpause as unpause_spec, with_domain, without_domain};
 ghost use Rattle.sched_model.specs.State.{runnable_among};
-ghost use Rattle.sched_laws.specs.Known.{OnePlace};
+ghost use Rattle.sched_laws.specs.PoolFacts.{OnePlace};
 ghost use Rattle.sched_ops.specs.Seen.{dequeue as dequeue_spec, units_of, with_scheduler};
 ghost use Rattle.core_state.specs.Seen.{Seen as CoresSeen, changed_core};
 ghost use Rattle.plain_pool.specs.Marks.{pending_of};
@@ -16,7 +16,7 @@ ghost use Rattle.unit_state.specs.Parts.{IsPart, IsStill};
 ghost use Rattle.pool_kept.specs.Holds.{AreOn, HasMembers, Holds};
 ghost use Rattle.pool_core.specs.Seen.{pool_of};
 ghost use Rattle.pool_core.specs.Domains.{MayQueue, unit_id};
-ghost use Rattle.pool_core.specs.Waking.{is_held_among, KeepsRoom};
+ghost use Rattle.pool_core.specs.Wakes.{is_held_among, KeepsRoom};
 
 use core_state::CoreState;
 use plain_pool::domains::unit_count;

@@ -2,13 +2,13 @@
 
 ghost use Rattle.std.specs.Prelude.{◌≡◌, ℕ};
 ghost use Rattle.sched_model.specs.Pool.{enabled_in};
-ghost use Rattle.pool_laws.specs.Ready.{ready_in};
+ghost use Rattle.pool_laws.specs.ReadyMoments.{ready_in};
 ghost use Rattle.pool_kept.specs.Holds.{AreOn};
 ghost use Rattle.unit_state.specs.Seen.{Seen as GuestsSeen};
 ghost use Rattle.core_state.specs.Firsts.{IsLeast};
 ghost use Rattle.sched_ops.specs.Seen.{Seen as SchedulerSeen};
 ghost use Rattle.sched_ops.specs.Timers.{action_of as action_of_spec};
-ghost use Rattle.pool_core.specs.Kept.{AreWorks};
+ghost use Rattle.pool_core.specs.PoolState.{AreWorks};
 ghost use Rattle.pool_core.specs.Order.{IsFirstEnabled, IsFirstIn, IsNextMoment};
 ghost use Rattle.pool_core.specs.Seen.{pool_of};
 

@@ -16,4 +16,3 @@ pub mod units;
 mod waking;
 
 pub use pool::PoolState;
-pub use units::RtdsGiven;

@@ -14,9 +14,10 @@ ghost use Rattle.pool_core.specs.Seen.{pool_of};
 
 use crate::domains::runs_one_of;
 use core_state::CoreState;
+use plain_pool::leaving::stall_ends_of;
 use sched_base::{DomId, Moment, ResId, UnitId};
 use sched_model::config::ParamChange;
-use sched_model::facts::{Facts, ResPart, StallEnds, StoredList};
+use sched_model::facts::{Facts, ResPart, StoredList};
 use sched_model::short::Short;
 use sched_model::state::Resource;
 use sched_ops::Policy;
@@ -133,17 +134,6 @@ pub fn facts<P: Policy>(guests: &Guests, policy: &P, d: Option<DomId>) -> Facts
         rate: policy.rate(),
         units: stored_values(guests, policy, d),
     }
-}
-
-/// The ends of the stalls of the core's processors.
-fn stall_ends_of(c: &Resource) -> StallEnds
-    ensures { result ≡ ends_of c.now }
-{
-    let mut stall_ends = Short::new();
-    for p in c.processors.as_slice() {
-        stall_ends.push(p.stall_end);
-    }
-    stall_ends
 }
 
 /// The core with the number r, as it moves to another pool: the ends of the stalls of its processors.

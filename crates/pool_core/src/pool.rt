@@ -7,7 +7,7 @@ use crate::domains::{join, pause, set_moving, take, unpause};
 use crate::due::{first_enabled, next_moment};
 use crate::params::{facts, part_of, set_params};
 use crate::settling::settle;
-use crate::units::{RtdsGiven, set_units};
+use crate::units::set_units;
 use crate::waking::{is_queued, save, wake};
 use core_state::CoreState;
 use plain_pool::cores::has_come;
@@ -16,7 +16,7 @@ use sched_base::{DomId, Moment, NoMemory, PoolId, ProcId, ResId, UnitId, VcpuId}
 use sched_model::action::{Action, Actor};
 use sched_model::config::{DomParams, ParamChange, PoolParams};
 use sched_model::event::Event;
-use sched_model::facts::{Facts, ResPart};
+use sched_model::facts::{Facts, ResPart, RtdsGiven};
 use sched_ops::{Places, Policy, Timer};
 use std::alloc::Global;
 use std::marker::Model;
@@ -42,16 +42,22 @@ impl<P: Policy> Model for PoolState<P> {
 
     ghost Value = { Seen };
 
-    ghost use Rattle.pool_core.specs.Kept.{IsAtRest};
+    ghost use Rattle.pool_core.specs.PoolState.{IsAtRest};
 
-    ghost view = { λ a. record { pool = pool_of a.guests a.cores (P.seen a.policy); granularity = a.guests.granularity; spare = a.guests.spare; latest = a.latest.0; in_use = a.in_use } };
+    ghost view = { λ a. record {
+      pool = pool_of a.guests a.cores (P.seen a.policy);
+      granularity = a.guests.granularity;
+      spare = a.guests.spare;
+      latest = a.latest.0;
+      in_use = a.in_use;
+    } };
 
     ghost invariant = { λ a. IsAtRest a.settled a.latest.0 a.guests a.cores (P.seen a.policy) };
 }
 
 impl<P: Policy> PoolState<P> {
     ghost use Rattle.std.specs.Prelude.{◌≡◌, ℕ, ◌≤◌, ◌<◌, ◌+◌, ◌-◌, ◌*◌, true, false, is_some, IsTrue, IfOk, None, Some, length, map, option_map};
-    ghost use Rattle.sched_model.specs.Checked.{IsGranularity};
+    ghost use Rattle.sched_model.specs.CheckedMachine.{IsGranularity};
     ghost use Rattle.sched_model.specs.State.{has_core as has_bit};
     ghost use Rattle.sched_model.specs.Commands.{set_rtds};
     ghost use Rattle.sched_model.specs.Places.{at_place, numbers_from};
@@ -60,10 +66,10 @@ impl<P: Policy> PoolState<P> {
     ghost use Rattle.sched_ops.specs.Seen.{restarted_scheduler};
     ghost use Rattle.core_state.specs.Seen.{stall_until};
     ghost use Rattle.plain_pool.specs.Cores.{ends_of};
-    ghost use Rattle.pool_laws.specs.Ready.{ready_in};
-    ghost use Rattle.pool_laws.specs.Settling.{IsSettled};
+    ghost use Rattle.pool_laws.specs.ReadyMoments.{ready_in};
+    ghost use Rattle.pool_laws.specs.CoreLooks.{IsSettled};
     ghost use Rattle.pool_kept.specs.Holds.{Holds};
-    ghost use Rattle.plain_pool.specs.Own.{IsOfPool};
+    ghost use Rattle.sched_model.specs.Actions.{IsOfPool};
     ghost use Rattle.pool_core.specs.Params.{AreGiven, stored_in};
     ghost use Rattle.unit_state.specs.Parts.{IsPart};
     ghost use Rattle.unit_state.specs.Seen.{units_at};
@@ -89,7 +95,8 @@ impl<P: Policy> PoolState<P> {
         requires vacant { is_vacant (P.seen policy).scheduler ≡ true }
         requires early { (P.seen policy).latest ≡ 0 }
         ensures { IfOk result (λ pool. pool
-            ≡ vacant_pool (default_pool_params (kind_of (P.seen policy).scheduler.records)) granularity
+            ≡ vacant_pool (default_pool_params (kind_of (P.seen policy).scheduler.records))
+            granularity
             places.domains places.cores units) }
     {
         let mut policy = policy;
@@ -243,7 +250,8 @@ impl<P: Policy> PoolState<P> {
         requires room { unit_count part.granularity part.domain ≤ self.old.spare }
         requires params { AreDomParams (kind_of self.old.pool.scheduler.records) params.now }
         ensures { self.new ≡ with_spare (self.old.spare - unit_count part.granularity part.domain)
-            (seen_at t.0 (settled_pool t.0 (with_domain self.old.granularity t.0 part.d.0 part.domain
+            (seen_at t.0 (settled_pool t.0
+            (with_domain self.old.granularity t.0 part.d.0 part.domain
             params.now self.old.pool)) self.old) }
     {
         join(
@@ -408,7 +416,8 @@ impl<P: Policy> PoolState<P> {
     /// already, nothing changes but by the look at the cores.
     pub fn pause(&mut self, d: DomId, t: Moment)
         requires now { IsNow self.old t.0 }
-        ensures { self.new ≡ seen_at t.0 (settled_pool t.0 (pause_spec d.0 self.old.pool)) self.old }
+        ensures { self.new
+            ≡ seen_at t.0 (settled_pool t.0 (pause_spec d.0 self.old.pool)) self.old }
     {
         pause(&mut self.guests, &mut self.cores, &mut self.policy, d);
         self.latest = t;

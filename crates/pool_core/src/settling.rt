@@ -3,12 +3,13 @@
 ghost use Rattle.std.specs.Prelude.{◌≡◌};
 ghost use Rattle.sched_model.specs.Places.{change_each};
 ghost use Rattle.sched_model.specs.Pool.{cores_from, reconsidered_core};
-ghost use Rattle.sched_laws.specs.Each.{EachPlace};
+ghost use Rattle.sched_laws.specs.EachPlace.{EachPlace};
 ghost use Rattle.sched_ops.specs.Conditions.{IsNow};
-ghost use Rattle.sched_ops.specs.Wanted.{MayAsk};
-ghost use Rattle.pool_core.specs.Settling.{pending_where};
+ghost use Rattle.sched_ops.specs.WantedCores.{MayAsk};
+ghost use Rattle.pool_core.specs.CoreLooks.{pending_where};
 
 use core_state::CoreState;
+use due_heap::{lowest, without};
 use sched_base::{Cores, Moment, ResId};
 use sched_ops::Policy;
 
@@ -18,10 +19,9 @@ fn set_all_pending(cores: &mut CoreState, set: Cores)
         { resources = change_each 0 (pending_where set.0) cores.old.resources } }
 {
     let mut rest = set.0;
-    while rest != 0 {
-        let r = rest.trailing_zeros();
+    while let Some(r) = lowest(rest) {
         cores.set_pending(ResId(r as u8));
-        rest &= !(1 << r);
+        rest = without(rest, r);
     }
 }
 

@@ -8,16 +8,8 @@ ghost use Rattle.pool_core.specs.Params.{AreGiven, unit_set, units_set};
 
 use sched_base::{DomId, Moment, Span, UnitId};
 use sched_model::config::ParamChange;
-use sched_model::facts::Stored;
+use sched_model::facts::{RtdsGiven, Stored};
 use sched_ops::Policy;
-
-/// The RTDS parameters that a command gives, in nanoseconds; what it does not give stays as it was set.
-#[derive(Clone, Copy, Debug, PartialEq, Eq)]
-pub struct RtdsGiven {
-    pub period: Option<Span>,
-    pub budget: Option<Span>,
-    pub extra: Option<bool>,
-}
 
 /// The unit has the new parameters from its next replenishment on. Another scheduler keeps what it has.
 fn set_unit<P: Policy>(policy: &mut P, u: UnitId, given: RtdsGiven, t: Moment)

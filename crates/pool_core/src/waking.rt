@@ -8,12 +8,12 @@ ghost use Rattle.pool_kept.specs.Holds.{Holds};
 ghost use Rattle.sched_ops.specs.Seen.{Seen as SchedulerSeen};
 ghost use Rattle.unit_state.specs.Seen.{IsNow, is_awake_among, is_due_among};
 ghost use Rattle.pool_core.specs.Seen.{pool_of};
-ghost use Rattle.pool_core.specs.Doing.{IsMoved};
-ghost use Rattle.pool_core.specs.Waking.{done_started, idles_among, is_held_among, is_queued as is_queued_spec, is_queued_by, joined_works, woken_works, KeepsRoom};
+ghost use Rattle.pool_core.specs.ProcessorEvents.{IsMoved};
+ghost use Rattle.pool_core.specs.Wakes.{done_started, idles_among, is_held_among, is_queued as is_queued_spec, is_queued_by, joined_works, woken_works, KeepsRoom};
 
-use crate::doing::unit_of;
 use core_state::CoreState;
 use plain_pool::cores::is_idle;
+use plain_pool::waking::unit_of;
 use sched_base::{Moment, ProcId, ResId, UnitId, VcpuId};
 use sched_model::event::Event;
 use sched_ops::Policy;

@@ -12,21 +12,21 @@ use Rattle.sched_model.specs.declared.state.Domain.{Domain}
 use Rattle.sched_model.specs.declared.state.Vcpu.{Vcpu}
 use Rattle.sched_model.specs.declared.config.ParamChange.TheVariants as changes
 use Rattle.sched_model.specs.Actions.{units_from}
-use Rattle.sched_model.specs.Checked.{IsCheckedConfig, IsCheckedDomain, IsGranularity}
+use Rattle.sched_model.specs.CheckedMachine.{IsCheckedConfig, IsCheckedDomain, IsGranularity}
 use Rattle.sched_model.specs.Opening.{fresh_vcpu, with_configured, with_domains, with_pins}
 use Rattle.sched_model.specs.Places.{numbers_from, put_at}
 use Rattle.sched_model.specs.Pool.{set_params, settled_pool, unit_count, with_domain}
 use Rattle.sched_laws.proofs.EachPlace.{at_place-put_at_other, length_set}
-use Rattle.sched_laws.proofs.Opened.{length_map_numbers, with_configured-resources, with_domain-domains, with_domain-resources}
+use Rattle.sched_laws.proofs.Opened.{length_map_numbers, with_configured-resources, with_domain-domains, with_domain-resources, with_pins-domains}
 use Rattle.sched_ops.specs.Conditions.{has_joined}
 use Rattle.sched_ops.specs.Seen.{units_of}
-use Rattle.unit_state.specs.Kept.{units_in}
+use Rattle.unit_state.specs.Guests.{units_in}
 use Rattle.unit_state.specs.Parts.{IsPart}
 use Rattle.unit_state.proofs.PlaceLemmas.{units_in-put_at}
 use Rattle.pool_core.specs.Seen.{Seen, seen_at, with_spare}
-use Rattle.pool_opening.specs.Opened.{IsOpening, IsStill, configured_pool, configured_if, fresh_domain, after_joining, unit_total, units_at_home, units_if_home, units_in_all, with_all, with_pool}
+use Rattle.pool_opening.specs.OpeningPool.{IsOpening, IsStill, configured_pool, configured_if, fresh_domain, after_joining, unit_total, units_at_home, units_if_home, units_in_all, with_all, with_pool}
 use Rattle.pool_opening.proofs.Guests.{fresh_guests, fresh_still}
-use Rattle.pool_opening.proofs.Pinning.{domains_pinned, has_come_in, kind_joined, kind_pinned, sets_joined, sets_pinned, units_come_in}
+use Rattle.pool_opening.proofs.Pinning.{has_come_in, kind_joined, kind_pinned, sets_joined, sets_pinned, units_come_in}
 use Rattle.pool_opening.proofs.Steady.{stays}
 
 -- the units of the first domain, and those of the others
@@ -61,7 +61,7 @@ module _ (config : Config) (home : PoolConfig) (d : ℕ) (joining : DomConfig) (
   }
 
   domains_after : after.domains ≡ put_at d (fresh_domain joining) seen.pool.domains
-  domains_after = domains_pinned d 0 joining.pins before_pins ∙ with_domain-domains config.granularity 0 d (fresh_domain joining) joining.params seen.pool
+  domains_after = with_pins-domains d 0 joining.pins before_pins ∙ with_domain-domains config.granularity 0 d (fresh_domain joining) joining.params seen.pool
 
   -- the next domain may come
   pub goes_on : d < length config.domains → unit_total config.granularity joining ≤ seen.spare → IsOpening config home (d + 1) (configured_pool config.granularity d joining seen)

@@ -3,6 +3,7 @@ use Rattle.std.proofs.Common.{inl, inr, ◌≡◌, ℕ, subst, arith}
 use Rattle.std.proofs.lemmas.List.Elements.{recursion_from_All}
 use Rattle.std.specs.Prelude.{Option, Some, None, slice_get}
 use Rattle.std.specs.Option.{ForSome, IfSome}
+use Rattle.sched_base.proofs.Lists.{each_get}
 use Rattle.sched_model.specs.declared.config.Config.{Config}
 use Rattle.sched_model.specs.declared.config.DomConfig.{DomConfig}
 use Rattle.sched_model.specs.declared.config.DomParams.{DomParams}
@@ -13,8 +14,7 @@ use Rattle.sched_model.specs.declared.config.PoolParams.{PoolParams}
 use Rattle.sched_model.specs.declared.config.PoolParams.TheVariants as pool_params
 use Rattle.sched_model.specs.declared.config.SchedKind.{SchedKind}
 use Rattle.sched_model.specs.declared.config.SchedKind.TheVariants as kinds
-use Rattle.sched_model.specs.Checked.{DomParamsPass, IsCheckedConfig, IsCheckedDomain, IsCheckedFrame, IsCheckedPool, PoolParamsPass}
-use Rattle.sched_laws.proofs.Opened.{each_get}
+use Rattle.sched_model.specs.CheckedMachine.{DomParamsPass, IsCheckedConfig, IsCheckedDomain, IsCheckedFrame, IsCheckedPool, PoolParamsPass}
 use Rattle.sched_ops.specs.Conditions.{AreDomParams, ArePoolParams}
 use Rattle.sched_ranges.specs.Ranges.{IsFrame}
 

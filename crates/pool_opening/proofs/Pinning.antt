@@ -94,7 +94,3 @@ kind_pinned d n (cores ∷ pins) pool = kind_pinned d (suc n) pins (pin_set d n 
 pub sets_pinned : (d n : ℕ) (pins : List Cores) (pool : Pool) → length (with_pins d n pins pool).scheduler.affinity ≡ length pool.scheduler.affinity
 sets_pinned d n [] pool = refl
 sets_pinned d n (cores ∷ pins) pool = sets_pinned d (suc n) pins (pin_set d n cores pool) ∙ length_set d (option_map (pinned_cores (Some n) cores) (at_place pool.scheduler.affinity d)) pool.scheduler.affinity
-
-pub domains_pinned : (d n : ℕ) (pins : List Cores) (pool : Pool) → (with_pins d n pins pool).domains ≡ pool.domains
-domains_pinned d n [] pool = refl
-domains_pinned d n (cores ∷ pins) pool = domains_pinned d (suc n) pins (pin_set d n cores pool)

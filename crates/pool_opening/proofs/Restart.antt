@@ -16,20 +16,15 @@ use Rattle.sched_model.specs.Policy.{default_pool_params, fresh_records, kind_of
 use Rattle.sched_model.specs.declared.work.Work.{Work}
 use Rattle.sched_model.specs.Opening.{core_count, empty_pool, most_pools, opening, opening_pool, opening_pools}
 use Rattle.sched_model.specs.Places.{at_place, numbers_from}
-use Rattle.sched_laws.specs.Each.{EachPlace}
+use Rattle.sched_laws.specs.EachPlace.{EachPlace}
 use Rattle.sched_laws.proofs.EachPlace.{EachPlace-empty, is_empty}
 use Rattle.sched_ops.specs.Conditions.{ArePoolParams}
 use Rattle.sched_ops.specs.Seen.{restarted_scheduler, vacant_scheduler}
-use Rattle.plain_opening.specs.Opened.{opening_core}
-use Rattle.unit_state.specs.Kept.{units_in}
+use Rattle.plain_opening.specs.OpeningPool.{opening_core}
+use Rattle.unit_state.specs.Guests.{units_in}
 use Rattle.pool_core.specs.Seen.{Seen, vacant_pool as vacant_pool}
-use Rattle.pool_opening.specs.Opened.{IsOpening, IsPending, kinds_of, most_units, opening_seen, with_cores}
+use Rattle.pool_opening.specs.OpeningPool.{IsOpening, IsPending, kinds_of, most_units, opening_seen, with_cores}
 use Rattle.pool_opening.proofs.Attaching.{all_pending}
-
--- a scheduler is of the kind whose parameters it has
-pub kind_default : (kind : SchedKind) (domains cores : ℕ) → kind_of (fresh_records (default_pool_params kind) domains cores) ≡ kind
-kind_default kinds.Credit2 domains cores = refl
-kind_default a domains cores = refl
 
 pub kind_given : (kind : SchedKind) (params : PoolParams) (domains cores : ℕ) → ArePoolParams kind params → kind_of (fresh_records params domains cores) ≡ kind
 kind_given kinds.Credit2 (pool_params.Credit2 limit) domains cores fits = refl

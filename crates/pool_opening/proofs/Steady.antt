@@ -7,9 +7,9 @@ use Rattle.sched_model.specs.declared.state.Scheduler.{Scheduler}
 use Rattle.sched_model.specs.Places.{change_each}
 use Rattle.sched_model.specs.Policy.{better_waits}
 use Rattle.sched_model.specs.Pool.{home_cores, reconsidered_core, settled_pool}
-use Rattle.sched_laws.specs.Each.{EachPlace}
+use Rattle.sched_laws.specs.EachPlace.{EachPlace}
 use Rattle.pool_core.specs.Seen.{Seen, seen_at}
-use Rattle.pool_opening.specs.Opened.{IsPending, IsStill, with_pool}
+use Rattle.pool_opening.specs.OpeningPool.{IsPending, IsStill, with_pool}
 
 -- a core that is to decide
 core_stays : (t home r : ℕ) (scheduler : Scheduler) (c : Resource) → IsPending c → reconsidered_core t home scheduler r c ≡ c

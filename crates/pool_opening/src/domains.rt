@@ -1,11 +1,11 @@
 //! The domains of a pool come in, each with the sets of cores of its units. Those with another home are passed by.
 
 ghost use Rattle.std.specs.Prelude.{◌≡◌, ◌≤◌, ◌<◌, ◌+◌, ◌∷◌, [], true, Some, OnOk, length, slice_get};
-ghost use Rattle.sched_model.specs.Checked.{IsCheckedConfig, IsCheckedDomain};
+ghost use Rattle.sched_model.specs.CheckedMachine.{IsCheckedConfig, IsCheckedDomain};
 ghost use Rattle.sched_model.specs.Opening.{with_pins};
 ghost use Rattle.sched_ops.specs.Conditions.{has_joined};
 ghost use Rattle.sched_ops.specs.Seen.{units_of};
-ghost use Rattle.pool_opening.specs.Opened.{IsOpening, IsStill, configured_pool, configured_if, after_joining, unit_total, units_at_home, units_if_home, with_all, with_pool};
+ghost use Rattle.pool_opening.specs.OpeningPool.{IsOpening, IsStill, configured_pool, configured_if, after_joining, unit_total, units_at_home, units_if_home, with_all, with_pool};
 
 use plain_opening::rows::fresh_vcpus;
 use pool_core::pool::PoolState;

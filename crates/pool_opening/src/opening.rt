@@ -1,15 +1,15 @@
 //! A pool at its opening, and one that is not in use.
 
 ghost use Rattle.std.specs.Prelude.{◌≡◌, ◌+◌, Some, true, IfOk, length, slice_get};
-ghost use Rattle.sched_model.specs.Checked.{IsCheckedConfig};
+ghost use Rattle.sched_model.specs.CheckedMachine.{IsCheckedConfig};
 ghost use Rattle.sched_model.specs.declared.work.Work.{Work};
 ghost use Rattle.sched_model.specs.Opening.{core_count as core_count_spec, opening};
 ghost use Rattle.sched_model.specs.Places.{at_place};
 ghost use Rattle.sched_model.specs.Policy.{default_pool_params, kind_of};
 ghost use Rattle.sched_ops.specs.Conditions.{is_vacant};
-ghost use Rattle.unit_state.specs.Kept.{units_in};
+ghost use Rattle.unit_state.specs.Guests.{units_in};
 ghost use Rattle.pool_core.specs.Seen.{vacant_pool};
-ghost use Rattle.pool_opening.specs.Opened.{kinds_of, most_units, opening_seen};
+ghost use Rattle.pool_opening.specs.OpeningPool.{kinds_of, most_units, opening_seen};
 
 use crate::cores::attach_all;
 use crate::domains::join_all;

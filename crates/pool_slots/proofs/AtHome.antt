@@ -2,52 +2,27 @@
 use Rattle.std.proofs.Common.{◌≡◌, ◌∙◌, ℕ, true, refl, sym, ap, subst}
 use Rattle.std.specs.Prelude.{Option, Some, None, unwrap_or}
 use Rattle.sched_model.specs.declared.action.Action.{Action}
-use Rattle.sched_model.specs.declared.action.Action.TheVariants.{Stall, Xl, Moved, DomMoved, Wake, Block, Slice, Repl, Refill, Arrive, Decide, Leave, Save}
+use Rattle.sched_model.specs.declared.action.Action.TheVariants.{Stall, Xl, Moved, DomMoved}
 use Rattle.sched_model.specs.declared.machine.Machine.{Machine}
 use Rattle.sched_model.specs.declared.state.Pool.{Pool}
 use Rattle.sched_model.specs.declared.state.State.{State}
-use Rattle.sched_model.specs.Actions.{home_of}
+use Rattle.sched_model.specs.Actions.{IsOfPool, home_of}
 use Rattle.sched_model.specs.Machine.{is_enabled, event_of, home_pool}
 use Rattle.sched_model.specs.Opening.{no_pool}
 use Rattle.sched_model.specs.Places.{at_place}
 use Rattle.sched_model.specs.Pool.{event_in}
-use Rattle.plain_pool.specs.Own.{IsOfPool}
-use Rattle.step_laws.specs.Steps as steps
 use Rattle.order_laws.specs.OrderLaws.{ComesInPool}
 use Rattle.order_laws.proofs.Home.{pool_is_home}
 use Rattle.pool_slots.specs.Told.{Told}
 use Rattle.pool_slots.specs.Places.{GoesOn, state_of}
 use Rattle.pool_slots.proofs.Going.{state_of-is}
 
-pub own-same : (action : Action) → IsOfPool action → steps.IsOfPool action
-own-same Stall own = own
-own-same Xl own = own
-own-same (Moved r) own = own
-own-same (DomMoved d) own = own
-own-same (Wake v) own = own
-own-same (Block p) own = own
-own-same (Slice r) own = own
-own-same (Repl u) own = own
-own-same (Refill d) own = own
-own-same (Arrive p) own = own
-own-same (Decide r) own = own
-own-same (Leave p) own = own
-own-same (Save r) own = own
-
 event-home : (m : Machine) (s : State) (t : ℕ) (action : Action) → IsOfPool action → event_of m s t action ≡ event_in m.config.granularity t (home_pool m s action) action
 event-home m s t Stall own = absurd own
 event-home m s t Xl own = absurd own
 event-home m s t (Moved r) own = absurd own
 event-home m s t (DomMoved d) own = absurd own
-event-home m s t (Wake v) own = refl
-event-home m s t (Block p) own = refl
-event-home m s t (Slice r) own = refl
-event-home m s t (Repl u) own = refl
-event-home m s t (Refill d) own = refl
-event-home m s t (Arrive p) own = refl
-event-home m s t (Decide r) own = refl
-event-home m s t (Leave p) own = refl
-event-home m s t (Save r) own = refl
+event-home m s t action own = refl
 
 -- the event of a pool that is the home
 pub event-there : (m : Machine) (s : State) (t : ℕ) (action : Action) (i : ℕ) (pool : Pool) → IsOfPool action → home_of m.config.granularity s action ≡ Some i → at_place s.pools i ≡ Some pool

@@ -1,30 +1,21 @@
 -- A domain of the machine that a pool has not yet has room there.
-use Rattle.std.proofs.Common.{◌≡◌, ◌∙◌, ◌≤◌, ◌<◌, ℕ, zero, suc, ◌+◌, ◌-◌, ◌/◌, List, [], ◌∷◌, length, length-append, map, refl, sym, ap, subst, arith}
+use Rattle.std.proofs.Common.{◌≡◌, ◌∙◌, ◌≤◌, ◌<◌, ℕ, zero, suc, ◌+◌, ◌-◌, ◌/◌, List, [], ◌∷◌, length, refl, sym, ap, subst, arith}
 use Rattle.std.specs.Prelude.{Option, Some, None, slice_get}
 use Rattle.std.proofs.lemmas.Option.{slice_get_within}
-use Rattle.sched_base.specs.Numbers.{domain as domain_number}
-use Rattle.sched_base.specs.declared.UnitId.{UnitId}
 use Rattle.sched_model.specs.declared.config.DomConfig.{DomConfig}
 use Rattle.sched_model.specs.declared.state.Domain.{Domain}
 use Rattle.sched_model.specs.Actions.{units_from}
-use Rattle.sched_model.specs.Places.{at_place, numbers_from}
+use Rattle.sched_model.specs.Places.{at_place}
 use Rattle.sched_model.specs.Pool.{unit_count}
-use Rattle.sched_laws.proofs.Opened.{length_map_numbers}
+use Rattle.sched_laws.proofs.Opened.{units_from-more}
 use Rattle.sched_ranges.specs.Ranges.{DomainInRange, PoolInRange}
 use Rattle.pool_core.specs.Seen.{Seen, IsNow}
 use Rattle.pool_slots.specs.Told.{Told}
 use Rattle.pool_slots.specs.Places.{GoesOn, StandsAt, state_of}
-use Rattle.unit_state.specs.Kept.{units_in}
+use Rattle.unit_state.specs.Guests.{units_in}
 use Rattle.pool_slots.specs.Rooms.{IsPlaced, most_units}
 use Rattle.pool_slots.proofs.Going.{early, range-of}
 use Rattle.pool_slots.proofs.Standing.{stands-there}
-
--- how many units the domain of the file has, and those after it
-units-more : (g d : ℕ) (c : DomConfig) (configs : List DomConfig) → length (units_from g d (c ∷ configs)) ≡ (length c.guests + g - 1) / g + length (units_from g (suc d) configs)
-units-more g d c configs =
-    let unit : ℕ → UnitId = λ n. record { dom = domain_number d; n = n } in
-    length-append (map unit (numbers_from 0 ((length c.guests + g - 1) / g))) (units_from g (suc d) configs)
-    ∙ ap (λ k. k + length (units_from g (suc d) configs)) (length_map_numbers unit 0 ((length c.guests + g - 1) / g))
 
 -- the units of a domain of the file
 abbrev file_units : ℕ → DomConfig → ℕ
@@ -43,11 +34,11 @@ units-low g n (None ∷ places) [] follows = (let rest = units-low g (suc n) pla
 units-low g n (Some x ∷ places) [] follows = absurd (let f = follows 0 x refl in let none = f.1 in cc)
 units-low g n (None ∷ places) (c ∷ configs) follows =
     let rest = units-low g (suc n) places configs (λ k x at. follows (suc k) x at) in
-    let more = units-more g n c configs in
+    let more = units_from-more g n c configs in
     omega (arith, rest, more)
 units-low g n (Some x ∷ places) (c ∷ configs) follows =
     let rest = units-low g (suc n) places configs (λ k y at. follows (suc k) y at) in
-    let more = units-more g n c configs in
+    let more = units_from-more g n c configs in
     let f = follows 0 x refl in
     let head : f.0 ≡ c = (let at = f.1 in cc) in
     let same = same-units g x f.0 c f.2 head in
@@ -57,24 +48,24 @@ units-low g n (Some x ∷ places) (c ∷ configs) follows =
 units-room : (g n d : ℕ) (places : List (Option Domain)) (configs : List DomConfig) (c : DomConfig) → Follows places configs → at_place places d ≡ None → slice_get configs d ≡ Some c
     → units_in g places + file_units g c ≤ length (units_from g n configs)
 units-room g n d places [] c follows absent at = absurd (cc)
-units-room g n zero [] (b ∷ configs) c follows absent at = (let more = units-more g n b configs in let same : file_units g b ≡ file_units g c = (let e : b ≡ c = cc in ap (file_units g) e) in omega (arith, more, same))
+units-room g n zero [] (b ∷ configs) c follows absent at = (let more = units_from-more g n b configs in let same : file_units g b ≡ file_units g c = (let e : b ≡ c = cc in ap (file_units g) e) in omega (arith, more, same))
 units-room g n zero (Some x ∷ places) (b ∷ configs) c follows absent at = absurd (cc)
 units-room g n zero (None ∷ places) (b ∷ configs) c follows absent at =
     let rest = units-low g (suc n) places configs (λ k x is. follows (suc k) x is) in
-    let more = units-more g n b configs in
+    let more = units_from-more g n b configs in
     let same : file_units g b ≡ file_units g c = (let e : b ≡ c = cc in ap (file_units g) e) in
     omega (arith, rest, more, same)
 units-room g n (suc d) [] (b ∷ configs) c follows absent at =
     let rest = units-room g (suc n) d [] configs c (λ k x is. absurd (cc)) refl at in
-    let more = units-more g n b configs in
+    let more = units_from-more g n b configs in
     omega (arith, rest, more)
 units-room g n (suc d) (None ∷ places) (b ∷ configs) c follows absent at =
     let rest = units-room g (suc n) d places configs c (λ k x is. follows (suc k) x is) absent at in
-    let more = units-more g n b configs in
+    let more = units_from-more g n b configs in
     omega (arith, rest, more)
 units-room g n (suc d) (Some x ∷ places) (b ∷ configs) c follows absent at =
     let rest = units-room g (suc n) d places configs c (λ k y is. follows (suc k) y is) absent at in
-    let more = units-more g n b configs in
+    let more = units_from-more g n b configs in
     let f = follows 0 x refl in
     let head : f.0 ≡ b = (let here = f.1 in cc) in
     let same = same-units g x f.0 b f.2 head in

@@ -5,7 +5,7 @@ use Rattle.sched_model.specs.declared.action.Action.{Action}
 use Rattle.sched_model.specs.declared.event.Entry.{Entry}
 use Rattle.sched_model.specs.declared.machine.Machine.{Machine}
 use Rattle.sched_model.specs.declared.state.State.{State}
-use Rattle.sched_model.specs.Checked.{most_span}
+use Rattle.sched_model.specs.CheckedMachine.{most_span}
 use Rattle.sched_model.specs.Machine.{is_enabled, event_of, after}
 use Rattle.sched_model.specs.Runs.{Reached, IsNext, run_start, after_entry}
 use Rattle.sched_model.proofs.RunLemmas.{after_entries-append, IsRunFrom-append, IsNext-action, after_entry-action}
@@ -68,7 +68,3 @@ module _ (w : Told) (goes : GoesOn w) (action : Action) (on : is_enabled w.input
 pub entry-is : (w : Told) (action : Action) (e : Entry) → e.at ≡ moment (state_of w).now → e.event ≡ event_of w.input (state_of w) (state_of w).now action
     → e ≡ record { at = moment (state_of w).now; event = event_of w.input (state_of w) (state_of w).now action }
 entry-is w action e at event = ap₂ (λ a v. let x : Entry = record { at = a; event = v } in x) at event
-
--- what a book tells, after one entry more
-pub told-more : (w new : Told) (e : Entry) → new.input ≡ w.input → new.history ≡ w.history ++ e ∷ [] → new ≡ told_more w e
-told-more w new e input history = ap₂ (λ m h. let x : Told = record { input = m; history = h } in x) input history

@@ -13,7 +13,7 @@ use Rattle.sched_model.specs.Places.{at_place, clear_at, put_at}
 use Rattle.journal_core.specs.Parts.{Outline, ToolPart}
 use Rattle.pool_core.specs.Seen.{Seen}
 use Rattle.pool_slots.specs.Spares.{IsSpare, Shelf, Shelves, shelf_of, shelf_with, shelves_with}
-use Rattle.pool_slots.specs.Counts.{AreSpares, HasSpares, KeepsCounts, configured_of, in_use_of, made_by, makes_at}
+use Rattle.pool_slots.specs.Counts.{AreSpares, HasSpares, configured_of, in_use_of, made_by, makes_at}
 
 -- one more on both sides, where one more is counted by a test
 one-more : (test : Bool) (x y : ℕ) → x ≡ suc y → cond test (suc x) x ≡ suc (cond test (suc y) y)
@@ -85,15 +85,11 @@ made-next kind (l ∷ lines) (suc n) line at makes = both (makes_at kind l) (mad
 -- a scheduler is this one, or another whose shelf stays
 pub kind-itself : (kind : SchedKind) → is_kind kind kind ≡ true
 kind-itself kinds.Credit2 = refl
-kind-itself kinds.Rtds = refl
-kind-itself kinds.Arinc653 = refl
-kind-itself kinds.Null = refl
+kind-itself kind = refl
 
 pub shelf-filled : (kind : SchedKind) (seen : Seen) (shelves : Shelves) → shelf_of kind (shelves_with kind seen shelves) ≡ shelf_with seen (shelf_of kind shelves)
 shelf-filled kinds.Credit2 seen shelves = refl
-shelf-filled kinds.Rtds seen shelves = refl
-shelf-filled kinds.Arinc653 seen shelves = refl
-shelf-filled kinds.Null seen shelves = refl
+shelf-filled kind seen shelves = refl
 
 pub record IsOther (other kind : SchedKind) : Type 0 where
   pub differs : is_kind other kind ≡ false
@@ -101,21 +97,10 @@ pub record IsOther (other kind : SchedKind) : Type 0 where
 
 pub this-or-other : (other kind : SchedKind) → (other ≡ kind) ⊎ IsOther other kind
 this-or-other kinds.Credit2 kinds.Credit2 = inl refl
-this-or-other kinds.Credit2 kinds.Rtds = inr (record { differs = refl; stays = λ seen shelves. refl })
-this-or-other kinds.Credit2 kinds.Arinc653 = inr (record { differs = refl; stays = λ seen shelves. refl })
-this-or-other kinds.Credit2 kinds.Null = inr (record { differs = refl; stays = λ seen shelves. refl })
-this-or-other kinds.Rtds kinds.Credit2 = inr (record { differs = refl; stays = λ seen shelves. refl })
 this-or-other kinds.Rtds kinds.Rtds = inl refl
-this-or-other kinds.Rtds kinds.Arinc653 = inr (record { differs = refl; stays = λ seen shelves. refl })
-this-or-other kinds.Rtds kinds.Null = inr (record { differs = refl; stays = λ seen shelves. refl })
-this-or-other kinds.Arinc653 kinds.Credit2 = inr (record { differs = refl; stays = λ seen shelves. refl })
-this-or-other kinds.Arinc653 kinds.Rtds = inr (record { differs = refl; stays = λ seen shelves. refl })
 this-or-other kinds.Arinc653 kinds.Arinc653 = inl refl
-this-or-other kinds.Arinc653 kinds.Null = inr (record { differs = refl; stays = λ seen shelves. refl })
-this-or-other kinds.Null kinds.Credit2 = inr (record { differs = refl; stays = λ seen shelves. refl })
-this-or-other kinds.Null kinds.Rtds = inr (record { differs = refl; stays = λ seen shelves. refl })
-this-or-other kinds.Null kinds.Arinc653 = inr (record { differs = refl; stays = λ seen shelves. refl })
 this-or-other kinds.Null kinds.Null = inl refl
+this-or-other other kind = inr (record { differs = refl; stays = λ seen shelves. refl })
 
 -- what a statement on all schedulers needs: this one, and each other one
 each-kind : (Q : SchedKind → Type 0) (kind : SchedKind) → Q kind → ((other : SchedKind) → IsOther other kind → Q other) → (k : SchedKind) → Q k
@@ -162,16 +147,10 @@ spares-passed m now part next shelves in_use over are = record { counts = λ kin
 all-left : (P : Seen → Type 0) (seen : Seen) (shelf : Shelf) → All P (shelf_with seen shelf).pools → All P shelf.pools
 all-left P seen shelf all = (All-pop P (shelf.pools ++ seen ∷ []) shelf.pools (Some seen) refl all).0
 
-last-out : (P : Seen → Type 0) (seen : Seen) (shelf : Shelf) → All P (shelf_with seen shelf).pools → P seen
-last-out P seen shelf all = (All-pop P (shelf.pools ++ seen ∷ []) shelf.pools (Some seen) refl all).1
-
 -- the pool that was taken for a command that makes one
 module _ (m : Machine) (now : ℕ) (kind : SchedKind) (part : ToolPart) (shelves left : Shelves) (seen : Seen) (taken : shelves ≡ shelves_with kind seen left) (are : AreSpares m now part shelves) where
   shelf-was : shelf_of kind shelves ≡ shelf_with seen (shelf_of kind left)
   shelf-was = ap (shelf_of kind) taken ∙ shelf-filled kind seen left
-
-  pub spare-taken : IsSpare m now kind seen
-  spare-taken = last-out (IsSpare m now kind) seen (shelf_of kind left) (subst (λ (shelf : Shelf). All (IsSpare m now kind) shelf.pools) shelf-was (are.suit kind))
 
   module _ (next : ToolPart) (i : ℕ) (outline : Outline) (line : CommandLine) (empty : at_place part.pools i ≡ None) (inside : i < length part.pools) (is : outline.kind ≡ kind) (comes : next.pools ≡ put_at i outline part.pools)
       (at : slice_get m.work.commands part.next_command ≡ Some line) (makes : makes_at kind line ≡ true) (over : next.next_command ≡ suc part.next_command) where

@@ -1,5 +1,5 @@
 -- The room of a pool stays as its domains keep their vCPUs.
-use Rattle.std.proofs.Common.{◌≡◌, ◌≤◌, ◌<◌, ◌∙◌, ℕ, ◌+◌, ◌-◌, ◌/◌, ◌&&◌, Bool, true, false, List, [], ◌∷◌, length, map, refl, sym, ap, subst, arith}
+use Rattle.std.proofs.Common.{◌≡◌, ◌≤◌, ◌<◌, ◌∙◌, ℕ, ◌+◌, ◌-◌, ◌/◌, Bool, true, false, List, [], ◌∷◌, length, map, refl, sym, ap, subst, arith}
 use Rattle.std.specs.Prelude.{Option, Some, None, option_map, unwrap_or}
 use Rattle.sched_base.specs.Numbers.{domain as domain_number, pool as pool_number, span}
 use Rattle.sched_base.specs.declared.Span.{Span}
@@ -13,12 +13,12 @@ use Rattle.sched_model.specs.declared.state.Pool.{Pool}
 use Rattle.sched_model.specs.Commands.{set_rtds, set_rtds_unit}
 use Rattle.sched_model.specs.Places.{at_place, numbers_from, put_at, test_at}
 use Rattle.sched_model.specs.Policy as policy
-use Rattle.sched_model.specs.Pool.{change_domain, is_off, marked_pool, pause, queue_if_off, queue_units, set_moving, set_params, settled_pool, unit_count, unpause, with_domain, without_domain}
-use Rattle.sched_model.specs.State.{is_runnable}
+use Rattle.sched_model.specs.Pool.{change_domain, marked_pool, pause, set_moving, set_params, settled_pool, unit_count, unpause, with_domain, without_domain}
 use Rattle.sched_laws.proofs.EachPlace.{by_cond, by_option}
+use Rattle.sched_laws.proofs.Opened.{queue_units-domains}
 use Rattle.step_laws.specs.Faces.{DomainFace, Face, domain_face}
 use Rattle.step_laws.proofs.Faces.{face_kept}
-use Rattle.unit_state.specs.Kept.{units_in}
+use Rattle.unit_state.specs.Guests.{units_in}
 use Rattle.unit_state.proofs.PlaceLemmas.{units_in-put_at, units_in-clear_at, units_in-change_at}
 use Rattle.pool_core.specs.Seen.{Seen, seen_after, seen_at, with_spare}
 use Rattle.pool_slots.specs.Rooms.{IsPlaced}
@@ -67,13 +67,6 @@ placed-same seen t pool same placed = record { used = placed.used; roomy = recor
 pub placed-still : (seen : Seen) (pool : Pool) → units_in seen.granularity pool.domains ≡ units_in seen.granularity seen.pool.domains → IsPlaced seen → IsPlaced (record seen { pool = pool })
 placed-still seen pool same placed = record { used = placed.used; roomy = record { room = ap (λ n. n + seen.spare) same ∙ placed.roomy.room } }
 
--- the units that wait are no matter
-domains-queued : (g d : ℕ) (ns : List ℕ) (pool : Pool) → (queue_units g d ns pool).domains ≡ pool.domains
-domains-queued g d [] pool = refl
-domains-queued g d (n ∷ ns) pool =
-    domains-queued g d ns (queue_if_off g (record { dom = domain_number d; n = n }) pool)
-    ∙ by_cond (λ (next : Pool). next.domains ≡ pool.domains) (is_runnable g pool (record { dom = domain_number d; n = n }) && is_off pool (record { dom = domain_number d; n = n })) _ _ (λ on. refl) (λ off. refl)
-
 pub units-paused : (g d : ℕ) (pool : Pool) → units_in g (pause d pool).domains ≡ units_in g pool.domains
 units-paused g d pool =
     by_cond (λ (next : Pool). units_in g next.domains ≡ units_in g pool.domains) (test_at pool.domains d (λ domain. domain.paused)) _ _ (λ already. refl) (λ not_yet. units_in-change_at g d (λ domain. record domain { paused = true }) pool.domains (λ x. refl))
@@ -85,16 +78,13 @@ pub units-unpaused : (g d : ℕ) (pool : Pool) → units_in g (unpause g d pool)
 units-unpaused g d pool =
     by_option (λ (next : Pool). units_in g next.domains ≡ units_in g pool.domains) (at_place pool.domains d) _ _ (λ none. refl)
     (λ x at. by_cond (λ (next : Pool). units_in g next.domains ≡ units_in g pool.domains) x.paused _ _
-    (λ is. ap (units_in g) (domains-queued g d (numbers_from 0 (unit_count g x)) (change_domain d (λ y. record y { paused = false }) pool)) ∙ units_in-change_at g d (λ y. record y { paused = false }) pool.domains (λ y. refl))
+    (λ is. ap (units_in g) (queue_units-domains g d (numbers_from 0 (unit_count g x)) (change_domain d (λ y. record y { paused = false }) pool)) ∙ units_in-change_at g d (λ y. record y { paused = false }) pool.domains (λ y. refl))
     (λ is. refl))
 
 domains-marked : (change : ParamChange) (t : ℕ) (pool : Pool) → (marked_pool change t pool).domains ≡ pool.domains
 domains-marked (changes.Dom d weight (Some cap)) t pool = refl
 domains-marked (changes.Dom d weight None) t pool = refl
-domains-marked (changes.Rate limit) t pool = refl
-domains-marked (changes.«Unit» u period budget extra) t pool = refl
-domains-marked (changes.Frame frame) t pool = refl
-domains-marked (changes.Pin d unit cores) t pool = refl
+domains-marked change t pool = refl
 
 pub units-set : (g t : ℕ) (change : ParamChange) (pool : Pool) → units_in g (set_params change t pool).domains ≡ units_in g pool.domains
 units-set g t change pool = ap (units_in g) (domains-marked change t (record pool { scheduler = policy.set_params change t pool.scheduler }))
@@ -116,7 +106,7 @@ placed-given_here : (seen : Seen) (t d : ℕ) (x : Domain) (params : DomParams) 
 placed-given_here seen t d x params inside absent room placed =
     let g = seen.granularity in
     let queued : units_in g (with_domain g t d x params seen.pool).domains ≡ units_in g (put_at d x seen.pool.domains) =
-    ap (units_in g) (domains-queued g d (numbers_from 0 (unit_count g x)) (record seen.pool { domains = put_at d x seen.pool.domains; scheduler = policy.join d (unit_count g x) params t seen.pool.scheduler })) in
+    ap (units_in g) (queue_units-domains g d (numbers_from 0 (unit_count g x)) (record seen.pool { domains = put_at d x seen.pool.domains; scheduler = policy.join d (unit_count g x) params t seen.pool.scheduler })) in
     let put = units_in-put_at g d x seen.pool.domains inside absent in
     let all = placed.roomy.room in
     record { used = placed.used; roomy = record { room = omega (arith, queued, put, all, room) } }

@@ -7,7 +7,7 @@ use Rattle.sched_model.specs.declared.machine.Machine.{Machine}
 use Rattle.sched_model.specs.declared.state.Domain.{Domain}
 use Rattle.sched_model.specs.declared.state.Pool.{Pool}
 use Rattle.sched_model.specs.declared.state.Records.{Records}
-use Rattle.sched_model.specs.declared.state.Records.TheVariants.{Credit2Pool, RtdsPool, ArincPool, NullPool}
+use Rattle.sched_model.specs.declared.state.Records.TheVariants.{NullPool}
 use Rattle.sched_model.specs.declared.state.Scheduler.{Scheduler}
 use Rattle.sched_model.specs.Opening.{core_count, empty_pool}
 use Rattle.sched_model.specs.Places.{at_place}
@@ -16,18 +16,14 @@ use Rattle.sched_ops.specs.Conditions.{ArePoolParams}
 use Rattle.sched_ops.specs.Seen.{core_places, restarted_scheduler}
 use Rattle.sched_ranges.specs.Ranges.{PoolInRange, RecordsInRange}
 use Rattle.pool_core.specs.Seen.{Seen, IsEmpty}
+use Rattle.pool_core.proofs.Coming.{all_empty}
 use Rattle.pool_slots.specs.Told.{Told}
 use Rattle.pool_slots.specs.Places.{GoesOn, StandsAt, state_of}
-use Rattle.unit_state.specs.Kept.{units_in}
+use Rattle.unit_state.specs.Guests.{units_in}
 use Rattle.pool_slots.specs.Rooms.{IsPlaced}
 use Rattle.pool_slots.specs.Spares.{HasCorePlaces, IsSpare, made_seen}
 use Rattle.pool_slots.proofs.Going.{range-of}
 use Rattle.pool_slots.proofs.Standing.{stands-there}
-
--- places without anything
-pub empty-places : {X : Type 0} (places : List (Option X)) → ((n : ℕ) → at_place places n ≡ None) → places ≡ replicate (length places) None
-empty-places [] none = refl
-empty-places (x ∷ places) none = ap₂ (λ (y : Option _) (ys : List (Option _)). y ∷ ys) (none 0) (empty-places places (λ n. none (suc n)))
 
 pub no-units : (g : ℕ) (places : List (Option Domain)) → ((n : ℕ) → at_place places n ≡ None) → units_in g places ≡ 0
 no-units g [] none = refl
@@ -36,13 +32,9 @@ no-units g (Some d ∷ places) none = absurd (let here = none 0 in cc)
 
 -- the records of a pool with new parameters are those of the machine's empty pool
 fresh-places : (cores domains : ℕ) (params : PoolParams) (records : Records) → HasCorePlaces cores records → ArePoolParams (kind_of records) params → fresh_records params domains (core_places records) ≡ fresh_records params domains cores
-fresh-places cores domains (pool_params.Credit2 limit) records places params = refl
-fresh-places cores domains pool_params.Rtds records places params = refl
-fresh-places cores domains (pool_params.Arinc653 frame) records places params = refl
-fresh-places cores domains pool_params.Null (Credit2Pool records) places params = absurd params
-fresh-places cores domains pool_params.Null (RtdsPool records) places params = absurd params
-fresh-places cores domains pool_params.Null (ArincPool records) places params = absurd params
 fresh-places cores domains pool_params.Null (NullPool kept) places params = ap (fresh_records pool_params.Null domains) places
+fresh-places cores domains pool_params.Null records places params = absurd params
+fresh-places cores domains other records places params = refl
 
 -- a spare pool that is opened
 abbrev pub reopened : PoolParams → Seen → Seen
@@ -59,10 +51,10 @@ module _ (m : Machine) (now : ℕ) (params : PoolParams) (seen : Seen) (spare : 
       (fresh-places (core_count m.config) (length m.config.domains) params seen.pool.scheduler.records spare.suits.records given)
 
   made-domains : seen.pool.domains ≡ (empty_pool m.config params).domains
-  made-domains = empty-places seen.pool.domains spare.idle.empty.domains ∙ ap (λ n. replicate n None) spare.suits.domains
+  made-domains = all_empty seen.pool.domains spare.idle.empty.domains ∙ ap (λ n. replicate n None) spare.suits.domains
 
   made-cores : seen.pool.resources ≡ (empty_pool m.config params).resources
-  made-cores = empty-places seen.pool.resources spare.idle.empty.cores ∙ ap (λ n. replicate n None) spare.suits.cores
+  made-cores = all_empty seen.pool.resources spare.idle.empty.cores ∙ ap (λ n. replicate n None) spare.suits.cores
 
   made-pool : made ≡ empty_pool m.config params
   made-pool =
@@ -79,10 +71,8 @@ module _ (m : Machine) (now : ℕ) (params : PoolParams) (seen : Seen) (spare : 
 
 -- a pool of the machine that is in use no longer
 core-places : (m : Machine) (t : ℕ) (records : Records) → RecordsInRange m t records → HasCorePlaces (core_count m.config) records
-core-places m t (Credit2Pool records) range = tt
-core-places m t (RtdsPool records) range = tt
-core-places m t (ArincPool records) range = tt
 core-places m t (NullPool kept) range = range
+core-places m t records range = tt
 
 pub shut-spare : (w : Told) → GoesOn w → (i : ℕ) (seen : Seen) → StandsAt w i (Some seen) → IsEmpty seen.pool → IsPlaced seen
     → IsSpare w.input (state_of w).now (kind_of seen.pool.scheduler.records) (record seen { in_use = false })

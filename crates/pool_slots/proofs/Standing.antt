@@ -11,11 +11,10 @@ use Rattle.sched_model.specs.declared.state.Pool.{Pool}
 use Rattle.sched_model.specs.declared.state.State.{State}
 use Rattle.sched_model.specs.Places.{at_place}
 use Rattle.sched_model.specs.Pool.{enabled_in, event_in, after_in, settled_pool}
-use Rattle.sched_model.specs.Actions.{home_of}
+use Rattle.sched_model.specs.Actions.{IsOfPool, home_of}
 use Rattle.sched_model.specs.Machine.{is_enabled, event_of, after}
 use Rattle.journal_core.specs.Parts.{StatePart, pool_part, tool_part, tool_of, part_of}
 use Rattle.journal_core.specs.Histories.{part_at}
-use Rattle.plain_pool.specs.Own.{IsOfPool}
 use Rattle.pool_core.specs.Seen.{Seen, IsNow, seen_after}
 use Rattle.step_laws.specs.Steps as steps
 use Rattle.step_laws.proofs.PoolSteps.{pool_step}
@@ -23,7 +22,7 @@ use Rattle.order_laws.specs.OrderLaws.{ComesInPool}
 use Rattle.pool_slots.specs.Told.{Told, told_more}
 use Rattle.pool_slots.specs.Places.{GoesOn, HasStepped, SlotSuits, StandsAt, slot_part, state_of}
 use Rattle.pool_slots.proofs.Going.{part_of-is, early, goes-on, state-on}
-use Rattle.pool_slots.proofs.AtHome.{own-same, event-there, comes-there}
+use Rattle.pool_slots.proofs.AtHome.{event-there, comes-there}
 
 abbrev pool_in : StatePart → Option Pool
 pool_in (pool_part o) = o
@@ -82,7 +81,7 @@ module _ (w : Told) (goes : GoesOn w) (i t : ℕ) (now : t ≡ (state_of w).now)
 
       left-there : at_place (after m s s.now action).pools i ≡ Some (settled_pool t (after_in seen.granularity t seen.pool action))
       left-there =
-          (pool_step m s s.now action i (own-same action own) home).own
+          (pool_step m s s.now action i own home).own
           ∙ ap (option_map (λ pool. settled_pool s.now (after_in m.config.granularity s.now pool action))) there
           ∙ ap (λ n. Some (settled_pool n (after_in m.config.granularity n seen.pool action))) (sym now)
           ∙ ap (λ g. Some (settled_pool t (after_in g t seen.pool action))) (sym suits.granularity)
@@ -100,7 +99,7 @@ module _ (w : Told) (goes : GoesOn w) (action : Action) (own : IsOfPool action) 
   next = told_more w e
 
   changes : steps.ChangesPool w.input (state_of w) (state_of w).now action i
-  changes = pool_step w.input (state_of w) (state_of w).now action i (own-same action own) home
+  changes = pool_step w.input (state_of w) (state_of w).now action i own home
 
   now-on : (state_of w).now ≡ (state_of next).now
   now-on = sym (ap (λ (x : State). x.now) (state-on w goes action on e is) ∙ changes.now)

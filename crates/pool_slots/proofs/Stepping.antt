@@ -2,19 +2,17 @@
 use mathlib.Core.Logic.{dite}
 use native.Mathlib.Decide.{ℕ_discrete}
 use Rattle.std.proofs.Common.{◌≡◌, ◌∙◌, ℕ, ◌<◌, true, List, length, sym, ap, subst, arith, length-set, get_or-set_other}
-use Rattle.std.specs.Prelude.{Option, Some, None, slice_index_or, slice_set}
+use Rattle.std.specs.Prelude.{Option, Some, None, slice_set}
 use Rattle.std.proofs.lemmas.Grind.{get_or-set_at}
-use Rattle.std.proofs.lemmas.Option.{slice_get-get_or}
 use Rattle.sched_base.specs.Numbers.{moment}
 use Rattle.sched_model.specs.declared.action.Action.{Action}
 use Rattle.sched_model.specs.declared.event.Event.{Event}
 use Rattle.sched_model.specs.declared.event.Entry.{Entry}
-use Rattle.sched_model.specs.Actions.{home_of}
+use Rattle.sched_model.specs.Actions.{IsOfPool, home_of}
 use Rattle.sched_model.specs.Machine.{is_enabled, event_of, after}
 use Rattle.sched_model.specs.Places.{at_place}
 use Rattle.sched_laws.proofs.EachPlace.{place_below}
 use Rattle.journal_core.specs.Parts.{pool_part, part_of}
-use Rattle.plain_pool.specs.Own.{IsOfPool}
 use Rattle.pool_core.specs.Seen.{Seen}
 use Rattle.pool_slots.specs.Told.{Told, told_more}
 use Rattle.pool_slots.specs.Places.{AllStand, GoesOn, HasStepped, SlotSuits, StandsAt, state_of}
@@ -22,10 +20,6 @@ use Rattle.pool_slots.proofs.Going.{entry-is, range-of, state-on}
 use Rattle.pool_slots.proofs.AtHome.{comes-there}
 use Rattle.pool_slots.proofs.Standing.{here-on, other-on, stepped}
 use Rattle.pool_slots.proofs.Rooming.{some-out}
-
--- what stands in a list does not depend on what is told past its end
-pub any-default : {X : Type 0} (xs : List X) (i : ℕ) (d e : X) → i < length xs → slice_index_or xs i d ≡ slice_index_or xs i e
-any-default xs i d e low = (let a = slice_get-get_or xs i d low in let b = slice_get-get_or xs i e low in cc)
 
 module _ (w : Told) (goes : GoesOn w) (t : ℕ) (now : t ≡ (state_of w).now) (action : Action) (own : IsOfPool action) (on : is_enabled w.input (state_of w) (state_of w).now action ≡ true) (i : ℕ) (home : home_of w.input.config.granularity (state_of w) action ≡ Some i) where
   -- the pool is one of the 16

@@ -1,6 +1,6 @@
 -- How many units still have room in a pool.
 use Rattle.std.specs.Prelude.{ℕ, ◌≡◌, ◌+◌, true}
-use Rattle.unit_state.specs.Kept.{units_in}
+use Rattle.unit_state.specs.Guests.{units_in}
 use Rattle.pool_core.specs.Seen.{Seen}
 
 -- the most units that a machine has

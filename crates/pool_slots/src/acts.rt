@@ -10,12 +10,11 @@ use sched_model::event::Event;
 impl PoolSlot {
     ghost use Rattle.std.specs.Prelude.{◌≡◌, true, false, None, Some};
     ghost use Rattle.std.specs.Option.{ForSome, IfSome, IsSome};
-    ghost use Rattle.sched_model.specs.Actions.{home_of};
+    ghost use Rattle.sched_model.specs.Actions.{IsOfPool, home_of};
     ghost use Rattle.sched_model.specs.Machine.{is_enabled, event_of, after};
     ghost use Rattle.sched_model.specs.Policy.{kind_of};
     ghost use Rattle.sched_ops.specs.Conditions.{ArePoolParams};
     ghost use Rattle.journal_core.specs.Parts.{part_of};
-    ghost use Rattle.plain_pool.specs.Own.{IsOfPool};
     ghost use Rattle.pool_core.specs.Seen.{IsEmpty};
     ghost use Rattle.pool_slots.specs.Told.{told_more};
     ghost use Rattle.pool_slots.specs.Places.{GoesOn, StandsAt, slot_part, state_of};

@@ -1,10 +1,9 @@
 //! The places of all pools of a machine, of which one acts.
 
 ghost use Rattle.std.specs.Prelude.{◌≡◌, ◌≢◌, ℕ, true, Some};
-ghost use Rattle.sched_model.specs.Actions.{home_of};
+ghost use Rattle.sched_model.specs.Actions.{IsOfPool, home_of};
 ghost use Rattle.sched_model.specs.Machine.{is_enabled, event_of, after};
 ghost use Rattle.sched_model.specs.Places.{at_place};
-ghost use Rattle.plain_pool.specs.Own.{IsOfPool};
 ghost use Rattle.pool_slots.specs.Told.{told_more};
 ghost use Rattle.pool_slots.specs.Places.{AllStand, GoesOn, HasStepped, state_of};
 

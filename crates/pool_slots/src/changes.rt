@@ -3,10 +3,9 @@
 
 use crate::slot::PoolSlot;
 use crate::trail::Trail;
-use pool_core::RtdsGiven;
 use sched_base::{DomId, Moment, PoolId, ResId};
 use sched_model::config::{DomParams, ParamChange};
-use sched_model::facts::ResPart;
+use sched_model::facts::{ResPart, RtdsGiven};
 use unit_state::DomPart;
 
 impl PoolSlot {
@@ -35,7 +34,8 @@ impl PoolSlot {
         requires siblings { ForSome self.old (λ seen. length core.now.stall_ends
             ≡ seen.granularity) }
         ensures { self.new ≡ option_map (λ seen.
-            seen_at t.0 (settled_pool t.0 (with_core core.now.r.0 core.now.stall_ends seen.pool)) seen)
+            seen_at t.0 (settled_pool t.0 (with_core core.now.r.0 core.now.stall_ends seen.pool))
+            seen)
             self.old }
     {
         let Some(pool) = &mut self.state else {
@@ -69,7 +69,8 @@ impl PoolSlot {
             (λ seen. IsChange (kind_of seen.pool.scheduler.records) seen.pool.scheduler
             change.now) }
         ensures { self.new ≡ option_map (λ seen.
-            seen_at t.0 (settled_pool t.0 (set_params_spec change.now t.0 seen.pool)) seen) self.old }
+            seen_at t.0 (settled_pool t.0 (set_params_spec change.now t.0 seen.pool)) seen)
+            self.old }
     {
         let Some(pool) = &mut self.state else {
             return;
@@ -120,7 +121,8 @@ impl PoolSlot {
     pub fn unpause(&mut self, d: DomId, t: Moment)
         requires now { ForSome self.old (λ seen. IsNow seen t.0) }
         ensures { self.new ≡ option_map (λ seen.
-            seen_at t.0 (settled_pool t.0 (unpause_spec seen.granularity d.0 seen.pool)) seen) self.old }
+            seen_at t.0 (settled_pool t.0 (unpause_spec seen.granularity d.0 seen.pool)) seen)
+            self.old }
     {
         let Some(pool) = &mut self.state else {
             return;

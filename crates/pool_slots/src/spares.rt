@@ -22,7 +22,10 @@ impl Model for Shelf {
 
     ghost Value = { ShelfSeen };
 
-    ghost view = { λ a. record { pools = map (λ b. b.value) a.pools.items; capacity = vec_capacity a.pools } };
+    ghost view = { λ a. record {
+      pools = map (λ b. b.value) a.pools.items;
+      capacity = vec_capacity a.pools;
+    } };
 }
 
 impl Shelf {
@@ -77,9 +80,15 @@ impl Model for Spares {
 
     ghost Value = { Shelves };
 
-    ghost view = { λ a. record { credit2 = a.credit2; rtds = a.rtds; arinc = a.arinc; null = a.null } };
+    ghost view = { λ a. record {
+      credit2 = a.credit2;
+      rtds = a.rtds;
+      arinc = a.arinc;
+      null = a.null;
+    } };
 
-    ghost invariant = { λ a. AreIdle (record { credit2 = a.credit2; rtds = a.rtds; arinc = a.arinc; null = a.null }) };
+    ghost invariant = { λ a. AreIdle
+        (record { credit2 = a.credit2; rtds = a.rtds; arinc = a.arinc; null = a.null }) };
 }
 
 impl Spares {

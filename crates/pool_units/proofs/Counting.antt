@@ -1,6 +1,6 @@
 -- The units of a pool, counted: no more of them wait than have joined.
 use Rattle.std.proofs.Common.{◌≡◌, ◌≤◌, ◌<◌, ◌+◌, ℕ, zero, suc, Bool, true, false, ◌||◌, List, [], ◌∷◌, ◌++◌, refl, arith, subst, sym, cond, length}
-use Rattle.std.specs.Prelude.{Option, Some, None, replicate, map}
+use Rattle.std.specs.Prelude.{Option, Some, None, replicate}
 use Rattle.std.specs.List.{AllByRecursion}
 use Rattle.std.proofs.Math.Decide.{ℕ_discrete}
 use Rattle.std.proofs.lemmas.List.{length-append}
@@ -8,15 +8,13 @@ use Rattle.sched_base.specs.Numbers.{domain}
 use Rattle.sched_base.specs.declared.UnitId.{UnitId}
 use Rattle.sched_base.specs.declared.Cores.{Cores}
 use Rattle.sched_model.specs.Places.{at_place, put_at, clear_at, change_at, has_unit, same_unit}
-use Rattle.sched_model.specs.Policy.{pinned_cores}
 use Rattle.sched_ops.specs.Conditions.{IsApart}
 use Rattle.sched_laws.proofs.Choices.{same_unit_same}
 use Rattle.sched_laws.proofs.Counts.{times_none, same_unit_refl}
 use Rattle.sched_laws.specs.Counts.{one, times}
-use Rattle.sched_ranges.proofs.Queue.{no_longer}
+use Rattle.sched_ranges.proofs.Queue.{no_longer, times-append}
 use Rattle.pool_units.specs.Units.{units_in, unit_count, is_member}
 use Rattle.std.proofs.lemmas.Bool.{ltb-true}
-use Rattle.sched_laws.proofs.Lists.{length_change_item}
 
 -- the number of units after a domain joined, parted, or had other sets of cores
 pub unit_count-put_at : (d : ℕ) (sets : List Cores) (affinity : List (Option (List Cores))) → at_place affinity d ≡ None → unit_count (put_at d sets affinity) ≤ unit_count affinity + length sets
@@ -32,14 +30,6 @@ unit_count-clear_at zero (None ∷ places) = omega arith
 unit_count-clear_at zero (Some x ∷ places) = omega arith
 unit_count-clear_at (suc d) (None ∷ places) = unit_count-clear_at d places
 unit_count-clear_at (suc d) (Some x ∷ places) = (let r = unit_count-clear_at d places in omega (arith, r))
-
-length-map_same : {X : Type 0} (y : X) (xs : List X) → length (map (λ (x : X). y) xs) ≡ length xs
-length-map_same y [] = refl
-length-map_same y (x ∷ xs) = (let r = length-map_same y xs in grind (arith, r))
-
-pub length-pinned : (unit : Option ℕ) (cores : Cores) (sets : List Cores) → length (pinned_cores unit cores sets) ≡ length sets
-length-pinned None cores sets = length-map_same cores sets
-length-pinned (Some n) cores sets = length_change_item n (λ old. cores) sets
 
 pub unit_count-change_at : (d : ℕ) (f : List Cores → List Cores) (affinity : List (Option (List Cores))) → ((sets : List Cores) → length (f sets) ≡ length sets) → unit_count (change_at d f affinity) ≡ unit_count affinity
 unit_count-change_at d f [] same = refl
@@ -83,10 +73,6 @@ length-all_units d (Some sets ∷ places) =
     let f = length-first_units d (length sets) in
     let r = length-all_units (suc d) places in
     omega (arith, a, f, r)
-
-times-append : (u : UnitId) (xs ys : List UnitId) → times u (xs ++ ys) ≡ times u xs + times u ys
-times-append u [] ys = omega arith
-times-append u (x ∷ xs) ys = (let r = times-append u xs ys in omega (arith, r))
 
 times-first_units : (u : UnitId) (n : ℕ) → u.n < n → 1 ≤ times u (first_units u.dom.0 n)
 times-first_units u zero low = absurd (omega (arith, low))

@@ -7,15 +7,16 @@ use Rattle.sched_base.specs.declared.UnitId.{UnitId}
 use Rattle.sched_base.specs.declared.Cores.{Cores}
 use Rattle.sched_model.specs.Places.{at_place, has_unit, same_unit, without_unit}
 use Rattle.sched_model.specs.Policy.{pinned_cores, all_cores}
+use Rattle.sched_laws.proofs.EachPlace.{at_place-replicate}
 use Rattle.sched_laws.proofs.Choices.{same_unit_same}
-use Rattle.sched_laws.proofs.Counts.{same_unit_refl}
+use Rattle.sched_laws.proofs.Counts.{same_unit_refl, without_absent, gone_without}
+use Rattle.sched_laws.proofs.Lists.{length-pinned_cores}
 use Rattle.unit_places.specs.Places.{has_place, index_of}
 use Rattle.unit_places.proofs.Placed.{placed, low_unit}
 use Rattle.pool_units.specs.Units.{Units, units_in, is_member, HasNoneWaiting, after_join, after_part, after_enqueue, after_dequeue, pinned_in, vacant_units}
 use Rattle.pool_units.specs.Marks.{is_marked, IsMarked}
-use Rattle.pool_units.proofs.Counting.{units_in-change_at, length-pinned}
-use Rattle.pool_units.proofs.Waiting.{without_absent}
-use Rattle.pool_units.proofs.Whole.{has_unit-push, at_empty, whole_joined, whole_parted, whole_enqueued, whole_dequeued, whole_pinned, whole_vacant}
+use Rattle.pool_units.proofs.Counting.{units_in-change_at}
+use Rattle.pool_units.proofs.Whole.{has_unit-push, whole_joined, whole_parted, whole_enqueued, whole_dequeued, whole_pinned, whole_vacant}
 use Rattle.std.proofs.Math.Bool.{or-false}
 
 -- a mark that is set is that of one unit alone
@@ -37,15 +38,6 @@ no_mark : (n k : ℕ) → slice_index_or (replicate n false) k false ≡ false
 no_mark zero k = refl
 no_mark (suc n) zero = refl
 no_mark (suc n) (suc k) = no_mark n k
-
--- a unit of a queue without another one
-gone : (u : UnitId) (units : List UnitId) → has_unit (without_unit u units) u ≡ false
-gone u [] = refl
-gone u (x ∷ units) =
-    elim (cases_Bool (same_unit u x)) [
-      | inl same ↦ rw same (gone u units)
-      | inr other ↦ rw (other, other) (gone u units)
-    ]
 
 kept : (u w : UnitId) (units : List UnitId) → same_unit w u ≡ false → has_unit (without_unit u units) w ≡ has_unit units w
 kept u w [] other = refl
@@ -94,7 +86,7 @@ few_set (suc d) zero most p (q ∷ affinity) small few = few 0
 few_set (suc d) (suc k) most p (q ∷ affinity) small few = few_set d k most p affinity small (λ j. few (suc j))
 
 none_in_empty : (domains d : ℕ) → units_in (replicate domains None) d ≡ 0
-none_in_empty domains d = ap (λ (o : Option (List Cores)). elim o as (λ _. ℕ) [ None ↦ 0 | Some sets ↦ length sets ]) (at_empty domains d)
+none_in_empty domains d = ap (λ (o : Option (List Cores)). elim o as (λ _. ℕ) [ None ↦ 0 | Some sets ↦ length sets ]) (at_place-replicate domains d)
 
 pub marked_vacant : (domains spare : ℕ) → domains ≤ 64 → spare ≤ 256 → IsMarked (replicate (32 * domains) false) (vacant_units domains spare)
 marked_vacant domains spare low few =
@@ -137,7 +129,7 @@ marked_pinned d unit cores marks units marked =
       waiting = marked.waiting;
       places = (let was = marked.places in omega (arith, same, was));
       domains = (let was = marked.domains in omega (arith, same, was));
-      few = λ k. (let n = units_in-change_at d k (pinned_cores unit cores) units.affinity (length-pinned unit cores) in let was = marked.few k in omega (arith, n, was));
+      few = λ k. (let n = units_in-change_at d k (pinned_cores unit cores) units.affinity (length-pinned_cores unit cores) in let was = marked.few k in omega (arith, n, was));
     }
 
 pub marked_enqueued : (u : UnitId) (marks : List Bool) (units : Units) → is_member units.affinity u ≡ true → has_unit units.queue u ≡ false → IsMarked marks units → IsMarked (slice_set marks (index_of u) true) (after_enqueue u units)
@@ -164,7 +156,7 @@ marked_dequeued u marks units waits marked =
       whole = whole_dequeued u units marked.whole;
       waiting = λ w. elim (cases_Bool (same_unit w u)) [
         | inl same ↦ subst (λ (x : UnitId). is_marked (slice_set marks (index_of u) false) x ≡ has_unit (without_unit u units.queue) x) (sym (same_unit_same w u same))
-            (set_here marks u false place low ∙ sym (gone u units.queue))
+            (set_here marks u false place low ∙ sym (gone_without u units.queue))
         | inr other ↦ set_elsewhere marks u w false place other ∙ marked.waiting w ∙ sym (kept u w units.queue other)
       ];
       places = (let was = marked.places in simp length-set was);

@@ -1,9 +1,9 @@
 -- What is asked of all waiting units, where one unit alone can answer it.
 use Rattle.std.proofs.Common.{◌≡◌, Bool, true, false, ◌||◌, ◌&&◌, List, [], ◌∷◌, refl, subst, sym, ◌∙◌, ap, cond}
-use Rattle.std.specs.Prelude.{Some, None, not, filter}
+use Rattle.std.specs.Prelude.{Some, None, filter}
 use Rattle.std.specs.List.{list_any}
 use Rattle.sched_base.specs.declared.UnitId.{UnitId}
-use Rattle.sched_model.specs.Places.{has_unit, same_unit, without_unit}
+use Rattle.sched_model.specs.Places.{has_unit, same_unit}
 use Rattle.sched_model.specs.NullScheduler.{earliest_unit}
 use Rattle.sched_laws.proofs.Choices.{same_unit_same}
 use Rattle.sched_laws.proofs.Counts.{same_unit_refl}
@@ -54,12 +54,3 @@ first_of_one w test (x ∷ units) only =
 pub any_of_none : (test : UnitId → Bool) (units : List UnitId) → ((u : UnitId) → test u ≡ false) → list_any test units ≡ false
 any_of_none test [] none = refl
 any_of_none test (x ∷ units) none = (let fails = none x in rw fails (any_of_none test units none))
-
--- a unit that is not there is not taken out
-pub without_absent : (u : UnitId) (units : List UnitId) → has_unit units u ≡ false → without_unit u units ≡ units
-without_absent u [] absent = refl
-without_absent u (w ∷ units) absent =
-    elim (same_unit u w) as (λ b. (b || has_unit units u) ≡ false → cond (not b) (w ∷ without_unit u units) (without_unit u units) ≡ w ∷ units) [
-      | true ↦ λ e. absurd (let f : ◌≡◌ {A = Bool} true false = e in cc)
-      | false ↦ λ e. ap (λ us. w ∷ us) (without_absent u units e)
-    ] absent

@@ -1,5 +1,5 @@
 -- Each change of the units of a pool keeps that they are whole.
-use Rattle.std.proofs.Common.{◌≡◌, ◌≤◌, ◌<◌, ℕ, zero, suc, Bool, true, false, ◌||◌, List, [], ◌∷◌, ◌++◌, refl, arith, subst, sym, ◌∙◌, ap, cond, length}
+use Rattle.std.proofs.Common.{◌≡◌, ◌≤◌, ◌<◌, ℕ, Bool, true, false, ◌||◌, List, [], ◌∷◌, ◌++◌, refl, arith, subst, sym, ◌∙◌, ap, cond, length}
 use Rattle.std.specs.Prelude.{Option, Some, None, nat_lt, replicate, not, filter, is_some, unwrap_or}
 use Rattle.std.specs.List.{list_any}
 use Rattle.std.proofs.Math.Decide.{ℕ_discrete}
@@ -10,10 +10,11 @@ use Rattle.sched_model.specs.Places.{at_place, put_at, clear_at, has_unit, same_
 use Rattle.sched_model.specs.Policy.{pinned_cores, all_cores}
 use Rattle.sched_ops.specs.Conditions.{IsApart}
 use Rattle.sched_laws.proofs.Choices.{same_unit_same}
-use Rattle.sched_laws.proofs.EachPlace.{at_place-put_at_other, at_place-clear_at_other}
+use Rattle.sched_laws.proofs.EachPlace.{at_place-put_at_other, at_place-clear_at_other, at_place-replicate}
 use Rattle.sched_laws.proofs.Counts.{same_unit_refl}
+use Rattle.sched_laws.proofs.Lists.{length-pinned_cores}
 use Rattle.pool_units.specs.Units.{Units, IsWhole, is_member, HasNoneWaiting, after_join, after_part, after_enqueue, after_dequeue, pinned_in, vacant_units as vacant}
-use Rattle.pool_units.proofs.Counting.{unit_count-put_at, unit_count-clear_at, unit_count-change_at, units_in-change_at, unit_count-empty, length-pinned, waiting_count}
+use Rattle.pool_units.proofs.Counting.{unit_count-put_at, unit_count-clear_at, unit_count-change_at, units_in-change_at, unit_count-empty, waiting_count}
 use Rattle.std.proofs.Math.Bool.{or-false}
 
 pub has_unit-push : (u w : UnitId) (units : List UnitId) → has_unit (units ++ w ∷ []) u ≡ (has_unit units u || same_unit u w)
@@ -134,8 +135,8 @@ pub whole_pinned : (d : ℕ) (unit : Option ℕ) (cores : Cores) (units : Units)
 whole_pinned d unit cores units whole =
     record {
       apart = whole.apart;
-      members = λ u has. (let same = units_in-change_at d u.dom.0 (pinned_cores unit cores) units.affinity (length-pinned unit cores) in ap (nat_lt u.n) same ∙ whole.members u has);
-      room = (let same = unit_count-change_at d (pinned_cores unit cores) units.affinity (length-pinned unit cores) in let was = whole.room in omega (arith, same, was));
+      members = λ u has. (let same = units_in-change_at d u.dom.0 (pinned_cores unit cores) units.affinity (length-pinned_cores unit cores) in ap (nat_lt u.n) same ∙ whole.members u has);
+      room = (let same = unit_count-change_at d (pinned_cores unit cores) units.affinity (length-pinned_cores unit cores) in let was = whole.room in omega (arith, same, was));
     }
 
 pub whole_vacant : (domains spare : ℕ) → spare ≤ 256 → IsWhole (vacant domains spare)
@@ -156,23 +157,15 @@ room_to_wait u units member absent whole =
     omega (arith, few, all, was)
 
 -- where no domain has joined, all places are empty, and no unit waits
-none_joined : (affinity : List (Option (List Cores))) → not (list_any is_some affinity) ≡ true → affinity ≡ replicate (length affinity) None
-none_joined [] vacant = refl
-none_joined (None ∷ places) vacant = ap (λ (ps : List (Option (List Cores))). None ∷ ps) (none_joined places vacant)
-none_joined (Some sets ∷ places) vacant = absurd (cc)
-
-pub at_empty : (domains k : ℕ) → ◌≡◌ {A = Option (List Cores)} (at_place (replicate domains None) k) None
-at_empty zero k = refl
-at_empty (suc domains) zero = refl
-at_empty (suc domains) (suc k) = at_empty domains k
+pub affinity_of_vacant : (affinity : List (Option (List Cores))) → not (list_any is_some affinity) ≡ true → affinity ≡ replicate (length affinity) None
+affinity_of_vacant [] vacant = refl
+affinity_of_vacant (None ∷ places) vacant = ap (λ (ps : List (Option (List Cores))). None ∷ ps) (affinity_of_vacant places vacant)
+affinity_of_vacant (Some sets ∷ places) vacant = absurd (cc)
 
 none_waits : (queue : List UnitId) → ((u : UnitId) → has_unit queue u ≡ true → ⊥) → queue ≡ []
 none_waits [] none = refl
 none_waits (u ∷ queue) none = absurd (none u (let s = same_unit_refl u in rw s refl))
 
-pub affinity_of_vacant : (affinity : List (Option (List Cores))) → not (list_any is_some affinity) ≡ true → affinity ≡ replicate (length affinity) None
-affinity_of_vacant affinity vacant = none_joined affinity vacant
-
 pub queue_of_vacant : (queue : List UnitId) (affinity : List (Option (List Cores))) → ((u : UnitId) → has_unit queue u ≡ true → is_member affinity u ≡ true) → not (list_any is_some affinity) ≡ true → queue ≡ []
 queue_of_vacant queue affinity members vacant =
-    none_waits queue (λ u has. none_in u affinity (ap (λ (ps : List (Option (List Cores))). at_place ps u.dom.0) (none_joined affinity vacant) ∙ at_empty (length affinity) u.dom.0) (members u has))
+    none_waits queue (λ u has. none_in u affinity (ap (λ (ps : List (Option (List Cores))). at_place ps u.dom.0) (affinity_of_vacant affinity vacant) ∙ at_place-replicate (length affinity) u.dom.0) (members u has))

@@ -7,7 +7,7 @@ ghost use Rattle.std.specs.Prelude.{◌≡◌, ◌≤◌, ◌<◌, Some, None, t
 ghost use Rattle.std.specs.List.{list_any};
 ghost use Rattle.sched_model.specs.Places.{at_place, change_at, has_unit};
 ghost use Rattle.sched_model.specs.Policy.{pinned_cores};
-ghost use Rattle.sched_model.specs.Eligible.{is_allowed_by};
+ghost use Rattle.sched_model.specs.EligibleUnits.{is_allowed_by};
 ghost use Rattle.sched_ops.specs.Conditions.{IsApart};
 
 mod marks;
@@ -44,9 +44,14 @@ impl Model for PoolUnits {
 
     ghost Value = { Units };
 
-    ghost view = { λ a. record { queue = a.queue; affinity = unwrap_or a.affinity []; spare = a.spare } };
+    ghost view = { λ a. record {
+      queue = a.queue;
+      affinity = unwrap_or a.affinity [];
+      spare = a.spare;
+    } };
 
-    ghost invariant = { λ a. IsMarked a.marks (record { queue = a.queue; affinity = unwrap_or a.affinity []; spare = a.spare }) };
+    ghost invariant = { λ a. IsMarked a.marks
+        (record { queue = a.queue; affinity = unwrap_or a.affinity []; spare = a.spare }) };
 }
 
 /// The domain's units have these sets of cores from now on, where there is a place for the domain.

@@ -1,17 +1,12 @@
 -- The order of arrival of a sorted queue.
-use Rattle.std.proofs.Common.{◌≡◌, ◌≢◌, ◌⊎◌, ℕ, ◌<◌, List, [], ◌∷◌, ◌++◌, map, Bool, true, false, refl, sym, ◌∙◌, ap, subst, inl, inr, arith, append_assoc}
+use Rattle.std.proofs.Common.{◌≡◌, ◌≢◌, ℕ, ◌<◌, List, [], ◌∷◌, ◌++◌, map, Bool, true, false, refl, sym, ◌∙◌, ap, subst, inl, inr, arith, append_assoc, suc, length}
 use Rattle.std.specs.Prelude.{if◌then◌else◌, nat_lt}
 use Rattle.std.specs.List.{AllByRecursion}
-use Rattle.std.proofs.lemmas.Bool.{cases_lt}
+use Rattle.std.proofs.lemmas.Bool.{cases_lt, cases_Bool, lt-ltb, le-ltb}
 use Rattle.sched_base.specs.declared.UnitId.{UnitId}
 use Rattle.arrival_queue.specs.declared.key.Key.{Key}
 use Rattle.arrival_queue.specs.Queues.{Queued, queued_unit, goes_before, put_first, list_with}
-use Rattle.arrival_queue.proofs.Ranks.{less_test, not_less_test}
 use Rattle.queue_laws.specs.Arrivals.{arrival_order, arrivals, LacksRank, RanksBelow}
-
-pub test_cases : (t : Bool) → (t ≡ true) ⊎ (t ≡ false)
-test_cases true = inl refl
-test_cases false = inr refl
 
 -- an item put by its rank
 abbrev pub ins : Queued → List Queued → List Queued
@@ -20,21 +15,21 @@ ins e xs = put_first (λ x. nat_lt e.rank x.rank) e xs
 -- two items of different ranks may be put in either order
 ins_less : (a b : Queued) → a.rank < b.rank → (xs : List Queued) → ins a (ins b xs) ≡ ins b (ins a xs)
 ins_less a b low [] =
-    let e1 = less_test a.rank b.rank low in
-    let e2 = not_less_test b.rank a.rank (omega (arith, low)) in
+    let e1 = lt-ltb a.rank b.rank low in
+    let e2 = le-ltb b.rank a.rank (omega (arith, low)) in
     simp (e1, e2) refl
 ins_less a b low (x ∷ xs) =
-    let e1 = less_test a.rank b.rank low in
-    let e2 = not_less_test b.rank a.rank (omega (arith, low)) in
+    let e1 = lt-ltb a.rank b.rank low in
+    let e2 = le-ltb b.rank a.rank (omega (arith, low)) in
     let rest = ins_less a b low xs in
     elim (cases_lt a.rank x.rank) [
-      | inl a_less ↦ let e3 = less_test a.rank x.rank a_less in elim (cases_lt b.rank x.rank) [
-        | inl b_less ↦ let e4 = less_test b.rank x.rank b_less in simp (e1, e2, e3, e4) refl
-        | inr b_more ↦ let e4 = not_less_test b.rank x.rank b_more in simp (e2, e3, e4) refl
+      | inl a_less ↦ let e3 = lt-ltb a.rank x.rank a_less in elim (cases_lt b.rank x.rank) [
+        | inl b_less ↦ let e4 = lt-ltb b.rank x.rank b_less in simp (e1, e2, e3, e4) refl
+        | inr b_more ↦ let e4 = le-ltb b.rank x.rank b_more in simp (e2, e3, e4) refl
       ]
       | inr a_more ↦
-          let e3 = not_less_test a.rank x.rank a_more in
-          let e4 = not_less_test b.rank x.rank (omega (arith, low, a_more)) in
+          let e3 = le-ltb a.rank x.rank a_more in
+          let e4 = le-ltb b.rank x.rank (omega (arith, low, a_more)) in
           simp (e3, e4) (ap (λ (ys : List Queued). x ∷ ys) rest)
     ]
 
@@ -68,7 +63,7 @@ each_arrived P (e ∷ es) each = each_put P (λ x. nat_lt e.rank x.rank) e (arri
 ins_last : (e : Queued) (xs : List Queued) → RanksBelow e.rank xs → ins e xs ≡ xs ++ e ∷ []
 ins_last e [] below = refl
 ins_last e (x ∷ xs) below =
-    let e1 = not_less_test e.rank x.rank (omega (arith, below.0)) in
+    let e1 = le-ltb e.rank x.rank (omega (arith, below.0)) in
     simp e1 (ap (λ (ys : List Queued). x ∷ ys) (ins_last e xs below.1))
 
 -- where an item is put, the list falls into what is before it and what is after it
@@ -82,7 +77,7 @@ pub put_split : (p : Queued → Bool) (new : Queued) (xs : List Queued) → PutS
 put_split p new [] = record { lft = []; rgt = []; was = refl; is = refl }
 put_split p new (x ∷ xs) =
     let rest = put_split p new xs in
-    elim (test_cases (p x)) [
+    elim (cases_Bool (p x)) [
       | inl passes ↦
           record { lft = []; rgt = x ∷ xs; was = refl; is = ap (λ (t : Bool). if t then new ∷ x ∷ xs else x ∷ put_first p new xs) passes }
       | inr fails ↦
@@ -135,3 +130,16 @@ arrivals_appended u key r es below =
     let same = append-nil es in
     arrivals_split es [] (queued_unit u key r) (subst (λ (xs : List Queued). RanksBelow r xs) (sym same) below)
     ∙ ap (λ (xs : List Queued). arrivals xs ++ u ∷ []) same
+
+-- each unit comes once into the order of arrival
+pub length-arrivals : (es : List Queued) → length (arrivals es) ≡ length es
+length-arrivals [] = refl
+length-arrivals (e ∷ es) = put (arrival_order es) ∙ ap suc (length-arrivals es)
+  where
+    put : (xs : List Queued) → length (map (λ (x : Queued). x.unit) (ins e xs)) ≡ suc (length (map (λ (x : Queued). x.unit) xs))
+    put [] = refl
+    put (x ∷ xs) =
+        elim (nat_lt e.rank x.rank) as (λ t. length (map (λ (y : Queued). y.unit) (if t then e ∷ x ∷ xs else x ∷ ins e xs)) ≡ suc (suc (length (map (λ (y : Queued). y.unit) xs)))) [
+          | true ↦ refl
+          | false ↦ ap suc (put xs)
+        ]

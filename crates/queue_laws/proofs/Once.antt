@@ -2,56 +2,36 @@
 use Rattle.std.proofs.Common.{◌≡◌, ℕ, ◌≤◌, List, [], ◌∷◌, length, map, refl, ◌∙◌, ap, inl, inr, arith}
 use Rattle.std.specs.Prelude.{count_by, nat_lt}
 use Rattle.std.specs.List.{AllByRecursion}
-use Rattle.std.proofs.lemmas.Bool.{cases_lt}
+use Rattle.std.proofs.lemmas.Bool.{cases_Bool, eq-eqb, le-ltb}
 use Rattle.sched_base.specs.declared.UnitId.{UnitId}
 use Rattle.sched_base.specs.Units.{number_of}
 use Rattle.arrival_queue.specs.declared.key.Key.{Key}
 use Rattle.arrival_queue.specs.Queues.{Queued, queued_unit, goes_before, is_of, list_with, list_without, closed_up}
 use Rattle.arrival_queue.specs.Order.{has_rank, EachRankOnce, EachUnitOnce}
-use Rattle.arrival_queue.proofs.Ranks.{not_less_test}
-use Rattle.arrival_queue.proofs.Splits.{same_test}
 use Rattle.arrival_queue.proofs.Counting.{one_if, one-most, count-cons}
-use Rattle.queue_laws.specs.Arrivals.{LacksRank, HasRanks, RanksBelow, LacksUnit, HasUnits, HasKeys}
-use Rattle.queue_laws.proofs.Arrivals.{each_put, test_cases}
+use Rattle.arrival_queue.proofs.Ordered.{ranks-below, lacks-rank}
+use Rattle.queue_laws.specs.Arrivals.{HasRanks, RanksBelow, LacksUnit, HasUnits, HasKeys}
+use Rattle.queue_laws.proofs.Arrivals.{each_put}
 use Rattle.queue_laws.proofs.Removed.{each_without}
-
-lacks_count : (r : ℕ) (es : List Queued) → count_by (has_rank r) es ≡ 0 → LacksRank r es
-lacks_count r [] none = tt
-lacks_count r (e ∷ es) none = (
-  λ (is : e.rank ≡ r). let one : one_if (has_rank r e) ≡ 1 = ap one_if (same_test e.rank r is) in absurd (omega (arith, one, none, count-cons (has_rank r) e es)),
-  lacks_count r es (omega (arith, none, count-cons (has_rank r) e es)),
-)
 
 ranks_most : (es : List Queued) → ((r : ℕ) → count_by (has_rank r) es ≤ 1) → HasRanks es
 ranks_most [] most = tt
 ranks_most (e ∷ es) most =
-    let one : one_if (has_rank e.rank e) ≡ 1 = ap one_if (same_test e.rank e.rank refl) in
-    (lacks_count e.rank es (omega (arith, one, most e.rank, count-cons (has_rank e.rank) e es)), ranks_most es (λ r. omega (arith, most r, count-cons (has_rank r) e es)))
+    let one : one_if (has_rank e.rank e) ≡ 1 = ap one_if (eq-eqb e.rank e.rank refl) in
+    (lacks-rank e.rank es (omega (arith, one, most e.rank, count-cons (has_rank e.rank) e es)), ranks_most es (λ r. omega (arith, most r, count-cons (has_rank r) e es)))
 
 -- no two units have one rank
 pub once_ranks : (es : List Queued) → EachRankOnce es → HasRanks es
 once_ranks es once = ranks_most es (λ r. omega (arith, once r, one-most (nat_lt r (length es))))
 
-below_count : (n : ℕ) (es : List Queued) → ((r : ℕ) → n ≤ r → count_by (has_rank r) es ≡ 0) → RanksBelow n es
-below_count n [] none = tt
-below_count n (e ∷ es) none = (
-  elim (cases_lt e.rank n) [
-    | inl less ↦ less
-    | inr more ↦
-        let one : one_if (has_rank e.rank e) ≡ 1 = ap one_if (same_test e.rank e.rank refl) in
-        absurd (omega (arith, one, none e.rank more, count-cons (has_rank e.rank) e es))
-  ],
-  below_count n es (λ r more. omega (arith, none r more, count-cons (has_rank r) e es)),
-)
-
 -- each rank is below the count of the units
 pub once_below : (es : List Queued) → EachRankOnce es → RanksBelow (length es) es
-once_below es once = below_count (length es) es (λ r more. once r ∙ ap one_if (not_less_test r (length es) more))
+once_below es once = ranks-below (length es) es (λ r more. once r ∙ ap one_if (le-ltb r (length es) more))
 
 lacks_unit : (u : UnitId) (es : List Queued) → count_by (is_of u) es ≡ 0 → LacksUnit u es
 lacks_unit u [] none = tt
 lacks_unit u (e ∷ es) none = (
-  elim (test_cases (is_of u e)) [
+  elim (cases_Bool (is_of u e)) [
     | inl is ↦ let one : one_if (is_of u e) ≡ 1 = ap one_if is in absurd (omega (arith, one, none, count-cons (is_of u) e es))
     | inr other ↦ other
   ],
@@ -62,7 +42,7 @@ lacks_unit u (e ∷ es) none = (
 pub once_units : (es : List Queued) → EachUnitOnce es → HasUnits es
 once_units [] once = tt
 once_units (e ∷ es) once =
-    let one : one_if (is_of e.unit e) ≡ 1 = ap one_if (same_test (number_of e.unit) (number_of e.unit) refl) in
+    let one : one_if (is_of e.unit e) ≡ 1 = ap one_if (eq-eqb (number_of e.unit) (number_of e.unit) refl) in
     (lacks_unit e.unit es (omega (arith, one, once e.unit, count-cons (is_of e.unit) e es)), once_units es (λ u. omega (arith, once u, count-cons (is_of u) e es)))
 
 -- a fact of each item that is no matter of ranks stays where one is put, where one goes, and where ranks close up

@@ -2,16 +2,14 @@
 use Rattle.std.proofs.Common.{◌≡◌, ◌≢◌, ℕ, ◌-◌, ◌<◌, ◌≤◌, List, [], ◌∷◌, ◌++◌, map, Bool, true, false, refl, sym, ◌∙◌, ap, subst, inl, inr, arith, append_assoc}
 use Rattle.std.specs.Prelude.{◌==◌, ◌||◌, ◌&&◌, if◌then◌else◌, nat_lt, not}
 use Rattle.std.specs.List.{AllByRecursion}
-use Rattle.std.proofs.lemmas.Bool.{cases_eq, cases_lt}
+use Rattle.std.proofs.lemmas.Bool.{cases_eq, cases_lt, cases_Bool, eq-eqb, ne_eqb, lt-ltb, le-ltb}
 use Rattle.sched_base.specs.declared.UnitId.{UnitId}
 use Rattle.sched_base.specs.Units.{number_of}
 use Rattle.sched_model.specs.Places.{same_unit, without_unit, has_unit as has}
 use Rattle.arrival_queue.specs.declared.key.Key.{Key}
 use Rattle.arrival_queue.specs.Queues.{Queued, queued_unit, goes_before, is_of, put_first, list_with, list_without, rank_in, closed_up, has_unit}
-use Rattle.arrival_queue.proofs.Ranks.{less_test, not_less_test}
-use Rattle.arrival_queue.proofs.Splits.{other_test, same_test}
 use Rattle.queue_laws.specs.Arrivals.{arrival_order, arrivals, LacksRank, HasRanks, LacksUnit, HasUnits, HasIndices}
-use Rattle.queue_laws.proofs.Arrivals.{ins, each_put, each_arrived, arrived_split, put_split, test_cases}
+use Rattle.queue_laws.proofs.Arrivals.{ins, each_put, each_arrived, arrived_split, put_split}
 
 -- each item has a lower rank than those that follow it
 abbrev Rising : List Queued → Type 0
@@ -27,11 +25,11 @@ rising_put e [] apart rising = (tt, tt)
 rising_put e (x ∷ xs) apart rising =
     elim (cases_lt e.rank x.rank) [
       | inl less ↦
-          let e1 = less_test e.rank x.rank less in
+          let e1 = lt-ltb e.rank x.rank less in
           let first : e.rank < x.rank = less in
           simp e1 ((first, later e.rank x.rank xs (omega (arith, less)) rising.0), rising)
       | inr more ↦
-          let e1 = not_less_test e.rank x.rank more in
+          let e1 = le-ltb e.rank x.rank more in
           let above : x.rank < e.rank = omega (arith, more, apart.0) in
           simp e1 (each_put (λ (y : Queued). x.rank < y.rank) (λ y. nat_lt e.rank y.rank) e xs above rising.0, rising_put e xs apart.1 rising.1)
     ]
@@ -47,7 +45,7 @@ rising_arrived (e ∷ es) ranks = rising_put e (arrival_order es) (apart_of e es
 -- an item of the lowest rank is put in front
 ins_first : (e : Queued) (xs : List Queued) → AllByRecursion (λ (y : Queued). e.rank < y.rank) xs → ins e xs ≡ e ∷ xs
 ins_first e [] below = refl
-ins_first e (x ∷ xs) below = let e1 = less_test e.rank x.rank below.0 in simp e1 refl
+ins_first e (x ∷ xs) below = let e1 = lt-ltb e.rank x.rank below.0 in simp e1 refl
 
 -- a fact of each item stays where a unit goes
 pub each_without : (P : Queued → Type 0) (u : UnitId) (xs : List Queued) → AllByRecursion P xs → AllByRecursion P (list_without u xs)
@@ -64,13 +62,13 @@ without_other u e [] other rising = simp other refl
 without_other u e (x ∷ xs) other rising =
     elim (cases_lt e.rank x.rank) [
       | inl less ↦
-          let e1 = less_test e.rank x.rank less in
+          let e1 = lt-ltb e.rank x.rank less in
           let above : AllByRecursion (λ (y : Queued). e.rank < y.rank) (list_without u (x ∷ xs)) =
           each_without (λ (y : Queued). e.rank < y.rank) u (x ∷ xs) (less, later e.rank x.rank xs (omega (arith, less)) rising.0) in
           let put : ins e (x ∷ xs) ≡ e ∷ x ∷ xs = simp e1 refl in
           ap (list_without u) put ∙ ap (λ (t : Bool). if t then list_without u (x ∷ xs) else e ∷ list_without u (x ∷ xs)) other ∙ sym (ins_first e (list_without u (x ∷ xs)) above)
       | inr more ↦
-          let e1 = not_less_test e.rank x.rank more in
+          let e1 = le-ltb e.rank x.rank more in
           let put : ins e (x ∷ xs) ≡ x ∷ ins e xs = simp e1 refl in
           let rest = without_other u e xs other rising.1 in
           ap (list_without u) put ∙ elim (is_of u x) as (λ t. (if t then list_without u (ins e xs) else x ∷ list_without u (ins e xs)) ≡ ins e (if t then list_without u xs else x ∷ list_without u xs)) [
@@ -95,7 +93,7 @@ arrived_without : (u : UnitId) (es : List Queued) → HasRanks es → arrival_or
 arrived_without u [] ranks = refl
 arrived_without u (e ∷ es) ranks =
     let rest = arrived_without u es ranks.1 in
-    elim (test_cases (is_of u e)) [
+    elim (cases_Bool (is_of u e)) [
       | inl mine ↦
           ap arrival_order (ap (λ (t : Bool). if t then list_without u es else e ∷ list_without u es) mine)
           ∙ rest ∙ sym (without_own u (λ y. nat_lt e.rank y.rank) e (arrival_order es) mine)
@@ -108,29 +106,29 @@ arrived_without u (e ∷ es) ranks =
 closed_test : (r : ℕ) (x y : Queued) → x.rank ≢ r → y.rank ≢ r → nat_lt (closed_up r x).rank (closed_up r y).rank ≡ nat_lt x.rank y.rank
 closed_test r x y no_x no_y =
     elim (cases_lt r x.rank) [
-      | inl a ↦ let e1 = less_test r x.rank a in elim (cases_lt r y.rank) [
-        | inl b ↦ let e2 = less_test r y.rank b in simp (e1, e2) (minus (x.rank) (y.rank) (omega (arith, a)) (omega (arith, b)))
+      | inl a ↦ let e1 = lt-ltb r x.rank a in elim (cases_lt r y.rank) [
+        | inl b ↦ let e2 = lt-ltb r y.rank b in simp (e1, e2) (minus (x.rank) (y.rank) (omega (arith, a)) (omega (arith, b)))
         | inr b ↦
-            let e2 = not_less_test r y.rank b in
-            let e3 = not_less_test (x.rank - 1) y.rank (omega (arith, a, b)) in
-            let e4 = not_less_test x.rank y.rank (omega (arith, a, b)) in
+            let e2 = le-ltb r y.rank b in
+            let e3 = le-ltb (x.rank - 1) y.rank (omega (arith, a, b)) in
+            let e4 = le-ltb x.rank y.rank (omega (arith, a, b)) in
             simp (e1, e2) (e3 ∙ sym e4)
       ]
-      | inr a ↦ let e1 = not_less_test r x.rank a in elim (cases_lt r y.rank) [
+      | inr a ↦ let e1 = le-ltb r x.rank a in elim (cases_lt r y.rank) [
         | inl b ↦
-            let e2 = less_test r y.rank b in
-            let e3 = less_test x.rank (y.rank - 1) (omega (arith, a, b, no_x)) in
-            let e4 = less_test x.rank y.rank (omega (arith, a, b)) in
+            let e2 = lt-ltb r y.rank b in
+            let e3 = lt-ltb x.rank (y.rank - 1) (omega (arith, a, b, no_x)) in
+            let e4 = lt-ltb x.rank y.rank (omega (arith, a, b)) in
             simp (e1, e2) (e3 ∙ sym e4)
-        | inr b ↦ let e2 = not_less_test r y.rank b in simp (e1, e2) refl
+        | inr b ↦ let e2 = le-ltb r y.rank b in simp (e1, e2) refl
       ]
     ]
   where
     minus : (a b : ℕ) → 0 < a → 0 < b → nat_lt (a - 1) (b - 1) ≡ nat_lt a b
     minus a b some_a some_b =
         elim (cases_lt a b) [
-          | inl less ↦ less_test (a - 1) (b - 1) (omega (arith, less, some_a)) ∙ sym (less_test a b less)
-          | inr more ↦ not_less_test (a - 1) (b - 1) (omega (arith, more, some_b)) ∙ sym (not_less_test a b more)
+          | inl less ↦ lt-ltb (a - 1) (b - 1) (omega (arith, less, some_a)) ∙ sym (lt-ltb a b less)
+          | inr more ↦ le-ltb (a - 1) (b - 1) (omega (arith, more, some_b)) ∙ sym (le-ltb a b more)
         ]
 
 ins_closed : (r : ℕ) (e : Queued) (xs : List Queued) → e.rank ≢ r → LacksRank r xs → ins (closed_up r e) (map (closed_up r) xs) ≡ map (closed_up r) (ins e xs)
@@ -160,17 +158,17 @@ same_number u w low_u low_w =
     elim (cases_eq u.dom.0 w.dom.0) [
       | inl d ↦ elim (cases_eq u.n w.n) [
         | inl n ↦
-            let e1 = same_test u.dom.0 w.dom.0 d in
-            let e2 = same_test u.n w.n n in
-            same_test (number_of w) (number_of u) (omega (arith, d, n)) ∙ sym (ap (λ (t : Bool). t && (u.n == w.n)) e1 ∙ e2)
+            let e1 = eq-eqb u.dom.0 w.dom.0 d in
+            let e2 = eq-eqb u.n w.n n in
+            eq-eqb (number_of w) (number_of u) (omega (arith, d, n)) ∙ sym (ap (λ (t : Bool). t && (u.n == w.n)) e1 ∙ e2)
         | inr n ↦
-            let e1 = same_test u.dom.0 w.dom.0 d in
-            let e2 = other_test u.n w.n n in
-            other_test (number_of w) (number_of u) (λ same. n (omega (arith, d, same))) ∙ sym (ap (λ (t : Bool). t && (u.n == w.n)) e1 ∙ e2)
+            let e1 = eq-eqb u.dom.0 w.dom.0 d in
+            let e2 = ne_eqb u.n w.n n in
+            ne_eqb (number_of w) (number_of u) (λ same. n (omega (arith, d, same))) ∙ sym (ap (λ (t : Bool). t && (u.n == w.n)) e1 ∙ e2)
       ]
       | inr d ↦
-          let e1 = other_test u.dom.0 w.dom.0 d in
-          other_test (number_of w) (number_of u) (λ same. d (omega (arith, same, low_u, low_w))) ∙ sym (ap (λ (t : Bool). t && (u.n == w.n)) e1)
+          let e1 = ne_eqb u.dom.0 w.dom.0 d in
+          ne_eqb (number_of w) (number_of u) (λ same. d (omega (arith, same, low_u, low_w))) ∙ sym (ap (λ (t : Bool). t && (u.n == w.n)) e1)
     ]
 
 pub is_of_same : (u : UnitId) (e : Queued) → u.n < 256 → e.unit.n < 256 → is_of u e ≡ same_unit u e.unit
@@ -196,10 +194,6 @@ arrivals_removed u r es ranks low lows lacks =
     ∙ ap (map (λ (e : Queued). e.unit)) (arrived_without u es ranks)
     ∙ units_without u (arrival_order es) low (each_arrived (λ (e : Queued). e.unit.n < 256) es lows)
 
--- the rest of a list has no other item with the rank of a unit of it
-lacks_without : (r : ℕ) (u : UnitId) (es : List Queued) → LacksRank r es → LacksRank r (list_without u es)
-lacks_without r u es lacks = each_without (λ (e : Queued). e.rank ≢ r) u es lacks
-
 without-none : (u : UnitId) (es : List Queued) → LacksUnit u es → list_without u es ≡ es
 without-none u [] lacks = refl
 without-none u (e ∷ es) lacks = let e1 = lacks.0 in simp e1 (ap (λ (xs : List Queued). e ∷ xs) (without-none u es lacks.1))
@@ -223,7 +217,7 @@ stands u [] units has = absurd (cc)
 stands u (e ∷ es) units has =
     elim (cases_eq (number_of e.unit) (number_of u)) [
       | inl same ↦
-          let e1 : is_of u e ≡ true = same_test (number_of e.unit) (number_of u) same in
+          let e1 : is_of u e ≡ true = eq-eqb (number_of e.unit) (number_of u) same in
           record {
             lft = [];
             rgt = es;
@@ -234,7 +228,7 @@ stands u (e ∷ es) units has =
             rank = ap (λ (t : Bool). if t then e.rank else rank_in u es) e1;
           }
       | inr other ↦
-          let e1 : is_of u e ≡ false = other_test (number_of e.unit) (number_of u) other in
+          let e1 : is_of u e ≡ false = ne_eqb (number_of e.unit) (number_of u) other in
           let s = stands u es units.1 (sym (ap (λ (t : Bool). t || has_unit u es) e1) ∙ has) in
           record {
             lft = e ∷ s.lft;
@@ -262,7 +256,7 @@ lacks_rgt [] r x ranks = apart r ranks.0
     apart r lacks = lacks
 lacks_rgt (e ∷ l) r x ranks = lacks_rgt l r x ranks.1
 
-each-append : (P : Queued → Type 0) (l r : List Queued) → AllByRecursion P l → AllByRecursion P r → AllByRecursion P (l ++ r)
+pub each-append : (P : Queued → Type 0) (l r : List Queued) → AllByRecursion P l → AllByRecursion P r → AllByRecursion P (l ++ r)
 each-append P [] r left right = right
 each-append P (x ∷ l) r left right = (left.0, each-append P l r left.1 right)
 
@@ -293,7 +287,7 @@ unit_of_number u w low_u low_w same =
           let d : w.dom.0 ≡ u.dom.0 = omega (arith, e, n) in
           let by_index : w ≡ record { dom = w.dom; n = u.n } = ap (λ (k : ℕ). record { dom = w.dom; n = k }) n in
           by_index ∙ ap (λ (k : ℕ). record { dom = record { 0 = k }; n = u.n }) d
-      | inr other ↦ let f : true ≡ false = sym same ∙ other_test (number_of w) (number_of u) other in absurd (cc)
+      | inr other ↦ let f : true ≡ false = sym same ∙ ne_eqb (number_of w) (number_of u) other in absurd (cc)
     ]
 
 -- a unit of a list, put at another place among the first of them: its arrival stays

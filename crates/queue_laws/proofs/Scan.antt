@@ -2,33 +2,29 @@
 use Rattle.std.proofs.Common.{◌≡◌, ◌≤◌, List, [], ◌∷◌, map, Bool, true, false, refl, sym, ◌∙◌, ap, inl, inr}
 use Rattle.std.specs.Prelude.{◌||◌, ◌&&◌, if◌then◌else◌, nat_lt, not, filter, Option, Some, None}
 use Rattle.std.specs.List.{AllByRecursion}
-use Rattle.std.proofs.lemmas.Bool.{cases_lt}
+use Rattle.std.proofs.lemmas.Bool.{cases_lt, cases_Bool, lt-ltb, le-ltb}
 use Rattle.sched_base.specs.declared.UnitId.{UnitId}
+use Rattle.sched_base.proofs.Bools.{and_left}
 use Rattle.arrival_queue.specs.declared.key.Key.{Key}
 use Rattle.arrival_queue.specs.Queues.{Queued, is_less, goes_before}
 use Rattle.arrival_queue.specs.Filters.{first_that}
-use Rattle.arrival_queue.proofs.Ranks.{less_test, not_less_test}
 use Rattle.arrival_queue.specs.Order.{GoesBeforeAll, IsInOrder}
 use Rattle.queue_laws.specs.Arrivals.{arrival_order, arrivals, HasKeys, least_by, own_or}
-use Rattle.queue_laws.proofs.Arrivals.{ins, each_arrived, test_cases}
+use Rattle.queue_laws.proofs.Arrivals.{ins, each_arrived}
 use Rattle.queue_laws.proofs.Keys.{less_asym, less_trans, less_back}
 
 -- the units that pass, in the order of the items
 abbrev passing : (UnitId → Bool) → List Queued → List UnitId
 passing p xs = filter p (map (λ (e : Queued). e.unit) xs)
 
-and_true : (a b : Bool) → (a && b) ≡ true → a ≡ true
-and_true true b e = refl
-and_true false b e = e
-
 -- an item goes before another only where its key is no greater
 pub not_after : (x y : Queued) → goes_before x y ≡ true → is_less y.key x.key ≡ false
 not_after x y before =
-    elim (test_cases (is_less x.key y.key)) [
+    elim (cases_Bool (is_less x.key y.key)) [
       | inl less ↦ less_asym x.key y.key less
       | inr not_less ↦
           let rest : (not (is_less y.key x.key) && nat_lt x.rank y.rank) ≡ true = sym (ap (λ (t : Bool). t || (not (is_less y.key x.key) && nat_lt x.rank y.rank)) not_less) ∙ before in
-          no_more (is_less y.key x.key) (and_true (not (is_less y.key x.key)) (nat_lt x.rank y.rank) rest)
+          no_more (is_less y.key x.key) (and_left (not (is_less y.key x.key)) (nat_lt x.rank y.rank) rest)
     ]
   where
     no_more : (t : Bool) → not t ≡ true → t ≡ false
@@ -38,11 +34,11 @@ not_after x y before =
 -- and one that arrived later goes before another only by its key
 by_key : (x y : Queued) → goes_before x y ≡ true → y.rank ≤ x.rank → is_less x.key y.key ≡ true
 by_key x y before late =
-    elim (test_cases (is_less x.key y.key)) [
+    elim (cases_Bool (is_less x.key y.key)) [
       | inl less ↦ less
       | inr not_less ↦
           let rest : (not (is_less y.key x.key) && nat_lt x.rank y.rank) ≡ true = sym (ap (λ (t : Bool). t || (not (is_less y.key x.key) && nat_lt x.rank y.rank)) not_less) ∙ before in
-          let none : nat_lt x.rank y.rank ≡ false = not_less_test x.rank y.rank late in
+          let none : nat_lt x.rank y.rank ≡ false = le-ltb x.rank y.rank late in
           absurd (no_such (not (is_less y.key x.key)) (nat_lt x.rank y.rank) rest none)
     ]
   where
@@ -86,14 +82,14 @@ module _ (key : UnitId → Key) (p : UnitId → Bool) (e : Queued) (own_key : e.
   found passes best (x ∷ xs) keys leads beats =
       elim (cases_lt e.rank x.rank) [
         | inl less ↦
-            let e1 = less_test e.rank x.rank less in
+            let e1 = lt-ltb e.rank x.rank less in
             let put : ins e (x ∷ xs) ≡ e ∷ x ∷ xs = ap (λ (t : Bool). if t then e ∷ x ∷ xs else x ∷ ins e xs) e1 in
             ap (λ (ys : List Queued). least_by key best (passing p ys)) put
             ∙ ap (λ (t : Bool). least_by key best (if t then e.unit ∷ passing p (x ∷ xs) else passing p (x ∷ xs))) passes
             ∙ taken best (passing p (x ∷ xs)) beats
             ∙ stays (x ∷ xs) keys (none_less (x ∷ xs) leads)
         | inr more ↦
-            let e1 = not_less_test e.rank x.rank more in
+            let e1 = le-ltb e.rank x.rank more in
             let put : ins e (x ∷ xs) ≡ x ∷ ins e xs = ap (λ (t : Bool). if t then e ∷ x ∷ xs else x ∷ ins e xs) e1 in
             let strict : is_less (key e.unit) (key x.unit) ≡ true = ap (λ (k : Key). is_less k (key x.unit)) (sym own_key) ∙ ap (is_less e.key) (sym keys.0) ∙ by_key e x leads.0 more in
             ap (λ (ys : List Queued). least_by key best (passing p ys)) put
@@ -128,7 +124,7 @@ pub first_is_least : (key : UnitId → Key) (p : UnitId → Bool) (es : List Que
 first_is_least key p [] sorted keys = refl
 first_is_least key p (e ∷ es) sorted keys =
     let rest = first_is_least key p es sorted.1 keys.1 in
-    elim (test_cases (p e.unit)) [
+    elim (cases_Bool (p e.unit)) [
       | inl passes ↦
           ap (λ (t : Bool). if t then Some e.unit else first_that p es) passes
           ∙ sym (found key p e keys.0 passes None (arrival_order es) (each_arrived (λ (x : Queued). x.key ≡ key x.unit) es keys.1) (each_arrived (λ (x : Queued). goes_before e x ≡ true) es (leads e es sorted.0)) tt)
@@ -141,10 +137,10 @@ first_is_least key p (e ∷ es) sorted keys =
 own_step : (key : UnitId → Key) (own u : UnitId) (w : Option UnitId) → own_or key (if is_less (key u) (key own) then u else own) w ≡ own_or key own (Some (own_or key u w))
 own_step key own u None = refl
 own_step key own u (Some w) =
-    elim (test_cases (is_less (key u) (key own))) [
+    elim (cases_Bool (is_less (key u) (key own))) [
       | inl u_own ↦
           ap (λ (t : Bool). own_or key (if t then u else own) (Some w)) u_own
-          ∙ elim (test_cases (is_less (key w) (key u))) [
+          ∙ elim (cases_Bool (is_less (key w) (key u))) [
             | inl w_u ↦
                 let w_own = less_trans (key w) (key u) (key own) w_u u_own in
                 simp (w_u, w_own) refl
@@ -152,7 +148,7 @@ own_step key own u (Some w) =
           ]
       | inr u_own ↦
           ap (λ (t : Bool). own_or key (if t then u else own) (Some w)) u_own
-          ∙ elim (test_cases (is_less (key w) (key u))) [
+          ∙ elim (cases_Bool (is_less (key w) (key u))) [
             | inl w_u ↦ simp w_u refl
             | inr w_u ↦
                 let w_own = less_back (key w) (key u) (key own) w_u u_own in

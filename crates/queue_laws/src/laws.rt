@@ -28,7 +28,8 @@ pub fn law_arrivals()
         ≡ arrivals (es ++ others) ++ u ∷ [] }
     ensures removed { (u : UnitId) → (es : List Queued) → HasRanks es → HasUnits es → u.n < 256 →
         HasIndices es → has_unit u es ≡ true →
-        arrivals (map (closed_up (rank_in u es)) (list_without u es)) ≡ without_unit u (arrivals es) }
+        arrivals (map (closed_up (rank_in u es)) (list_without u es))
+        ≡ without_unit u (arrivals es) }
     ensures moved { (u : UnitId) → (key : Key) → (es others : List Queued) →
         HasRanks (es ++ others) → HasUnits (es ++ others) → u.n < 256 → HasIndices (es ++ others) →
         has_unit u (es ++ others) ≡ true →

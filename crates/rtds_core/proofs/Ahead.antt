@@ -7,7 +7,7 @@ use Rattle.sched_base.specs.CoreSets.{has_core, is_allowed}
 use Rattle.sched_base.specs.declared.Cores.{Cores}
 use Rattle.sched_base.specs.declared.UnitId.{UnitId}
 use Rattle.sched_model.specs.declared.state.RtdsUnit.{RtdsUnit}
-use Rattle.sched_model.specs.Eligible.{rtds_unit, is_allowed_by}
+use Rattle.sched_model.specs.EligibleUnits.{rtds_unit, is_allowed_by}
 use Rattle.sched_model.specs.Policy.{better_waits}
 use Rattle.sched_model.specs.Rtds.{unit_before, is_before}
 use Rattle.arrival_queue.specs.declared.key.Key.{Key}
@@ -19,8 +19,8 @@ use Rattle.queue_laws.proofs.Scan.{not_after}
 use Rattle.rtds_queue.specs.Lists.{Lists}
 use Rattle.sched_ops.specs.Conditions.{IsOwnOf}
 use Rattle.rtds_core.specs.Best.{queue_of, goes_first, AreMasks, AreQueued, IsEligible}
-use Rattle.rtds_core.specs.Kept.{IsShaped, seen_of}
-use Rattle.rtds_core.specs.Wanted.{decides_anew}
+use Rattle.rtds_core.specs.RtdsParts.{IsShaped, seen_of}
+use Rattle.rtds_core.specs.WantedCores.{decides_anew}
 use Rattle.rtds_core.proofs.Calls.{first_is}
 use Rattle.rtds_core.proofs.Changed.{member_record, sets_of}
 use Rattle.rtds_core.proofs.First.{IsKnown, before_by_key, first_ahead, key_in, key_is, some_first}

@@ -1,7 +1,7 @@
 -- The timers of the ids, and the first of them.
 use Rattle.std.proofs.Common.{◌≡◌, ◌≤◌, ◌<◌, ◌+◌, ℕ, zero, suc, Bool, true, false, List, [], ◌∷◌, length, refl, sym, ◌∙◌, ap, subst, arith, inl, inr}
 use Rattle.std.specs.Prelude.{Option, Some, None, nat_le, nat_lt, if◌then◌else◌}
-use Rattle.std.proofs.lemmas.Bool.{cases_eq, cases_lt, le-ltb, lt-ltb}
+use Rattle.std.proofs.lemmas.Bool.{cases_eq, cases_lt, le-ltb, lt-ltb, lt-leb}
 use Rattle.std.proofs.lemmas.Bool.Decides.{nat_tests}
 use Rattle.sched_base.specs.declared.Moment.{Moment}
 use Rattle.sched_ops.specs.declared.timer.Timer.TheVariants.{Repl}
@@ -9,9 +9,6 @@ use Rattle.sched_ops.specs.Timers.{Armed, first_due, soonest_timer}
 use Rattle.due_heap.specs.Dues.{IsArmed, GoesFirst}
 use Rattle.rtds_core.specs.Alarms.{armed_timers, unit_of, next_of, timer_of}
 use Rattle.due_heap.proofs.Tree.{armed_below}
-
-is_late : (t a : ℕ) → t < a → nat_le a t ≡ false
-is_late t a late = grind (arith, nat_tests, late)
 
 has_come : (t a : ℕ) → a ≤ t → nat_le a t ≡ true
 has_come t a come = grind (arith, nat_tests, come)
@@ -27,7 +24,7 @@ pub none_due : (t n : ℕ) (dues : List (Option Moment)) → ((id : ℕ) (at : M
 none_due t n [] late = refl
 none_due t n (None ∷ dues) late = none_due t (suc n) dues (λ id at is. late (suc id) at is)
 none_due t n (Some m ∷ dues) late =
-    ap (λ (b : Bool). if b then Some (m, Repl (unit_of n)) else first_due t (armed_timers (suc n) dues)) (is_late t m.0 (late 0 m refl))
+    ap (λ (b : Bool). if b then Some (m, Repl (unit_of n)) else first_due t (armed_timers (suc n) dues)) (lt-leb m.0 t (late 0 m refl))
     ∙ none_due t (suc n) dues (λ id at is. late (suc id) at is)
 
 -- the best so far stays the best where no due is sooner
@@ -125,7 +122,7 @@ first_come t n (Some m ∷ dues) (suc id) at there come first =
       | inl less ↦ less
       | inr low ↦ absurd (let f = first 0 m refl low in omega (arith, f))
     ] in
-    ap (λ (b : Bool). if b then Some (m, Repl (unit_of n)) else first_due t (armed_timers (suc n) dues)) (is_late t m.0 late)
+    ap (λ (b : Bool). if b then Some (m, Repl (unit_of n)) else first_due t (armed_timers (suc n) dues)) (lt-leb m.0 t late)
     ∙ first_come t (suc n) dues id at there come (λ other k is low. (let f = first (suc other) k is low in omega (arith, f)))
     ∙ ap (λ (k : ℕ). Some (at, Repl (unit_of k))) e
 

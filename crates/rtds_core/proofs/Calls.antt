@@ -8,17 +8,17 @@ use Rattle.unit_places.specs.Masks.{mask_of}
 use Rattle.sched_base.specs.declared.Cores.{Cores}
 use Rattle.sched_base.specs.declared.Moment.{Moment}
 use Rattle.sched_base.specs.declared.UnitId.{UnitId}
-use Rattle.sched_model.specs.Checked.{IsWithin}
+use Rattle.sched_model.specs.CheckedMachine.{IsWithin}
 use Rattle.sched_model.specs.Places.{at_place, has_unit}
 use Rattle.sched_model.specs.declared.state.RtdsUnit.{RtdsUnit}
-use Rattle.sched_model.specs.Eligible.{rtds_unit, cores_of}
-use Rattle.sched_laws.proofs.Bools.{either, clash, and_left, and_right}
+use Rattle.sched_model.specs.EligibleUnits.{rtds_unit, cores_of}
+use Rattle.sched_base.proofs.Bools.{clash, and_left, and_right}
 use Rattle.sched_laws.proofs.Lists.{AllByRecursion-map}
 use Rattle.arrival_queue.specs.Queues.{Queued, queued_unit}
 use Rattle.rtds_queue.specs.Lists.{Lists, count}
 use Rattle.queue_laws.proofs.Once.{once_units}
 use Rattle.rtds_core.specs.Best.{queue_of, IsEligible, AreQueued, AreMasks}
-use Rattle.rtds_core.specs.Kept.{IsShaped, IsKept}
+use Rattle.rtds_core.specs.RtdsParts.{IsShaped, IsKept}
 use Rattle.rtds_core.proofs.Queues.{IsOrdered}
 use Rattle.rtds_core.proofs.Changed.{IsLow, low_unit}
 use Rattle.rtds_core.proofs.Units.{apart_arrivals}
@@ -31,7 +31,7 @@ use Rattle.sched_model.specs.declared.state.Records.TheVariants.{RtdsPool}
 use Rattle.sched_model.specs.Policy.{replenish_due, joined_records, all_cores}
 use Rattle.sched_model.specs.Places.{put_at}
 use Rattle.sched_model.specs.Rtds.{own_candidate, choice, foremost_unit, budget_left, unit_before, fresh_units}
-use Rattle.sched_model.specs.Eligible.{eligible_units, is_allowed, is_eligible}
+use Rattle.sched_model.specs.EligibleUnits.{eligible_units, is_allowed, is_eligible}
 use Rattle.sched_ops.specs.Seen.{Seen}
 use Rattle.rtds_core.proofs.Steps.{kept_later}
 use Rattle.sched_ops.specs.Conditions.{IsAsked, IsOwn, IsOwnOf, AreDomParams, IsTerm, Keeps, is_on}
@@ -39,7 +39,7 @@ use Rattle.arrival_queue.specs.Filters.{first_that, may_run}
 use Rattle.plain_policy.specs.Parts.{scheduler_of}
 use Rattle.queue_laws.specs.Arrivals.{least_by}
 use Rattle.queue_laws.proofs.Once.{once_ranks}
-use Rattle.rtds_core.specs.Kept.{seen_of}
+use Rattle.rtds_core.specs.RtdsParts.{seen_of}
 use Rattle.rtds_core.specs.Best.{list_of}
 use Rattle.rtds_core.proofs.Changed.{member_record, record_member, sets_of}
 use Rattle.rtds_core.proofs.First.{IsKnown, test, key_in, first_waits, scan_of_first, known_passes}
@@ -47,6 +47,7 @@ use Rattle.rtds_core.proofs.Keeping.{low_queued, waiting_known}
 use Rattle.rtds_core.proofs.Chosen.{IsOwnUnit, IsReplenished}
 use Rattle.rtds_core.proofs.Joining.{Sets, kept_joined}
 use Rattle.std.proofs.Math.Bool.{and-false}
+use Rattle.std.proofs.lemmas.Bool.{cases_Bool}
 
 -- what callers see of the parts, with this queue
 abbrev pub seen_queue : List (Option (List RtdsUnit)) → List (Option (List Cores)) → ℕ → ℕ → List UnitId → Seen
@@ -128,7 +129,7 @@ own_known domains ask scheduler = by_cur ask.cur
   where
     by_cur : (cur : Option UnitId) → IfSome (elim cur as (λ _. Option UnitId) [ None ↦ None | Some u ↦ (if ask.runnable && is_allowed scheduler ask.home.0 ask.core.0 u && nat_lt 0 (budget_left domains u) then Some u else None) ]) (IsKnown domains)
     by_cur None = tt
-    by_cur (Some u) = elim (either (ask.runnable && is_allowed scheduler ask.home.0 ask.core.0 u && nat_lt 0 (budget_left domains u))) [
+    by_cur (Some u) = elim (cases_Bool (ask.runnable && is_allowed scheduler ask.home.0 ask.core.0 u && nat_lt 0 (budget_left domains u))) [
       | inl is_so ↦ subst (λ (b : Bool). IfSome (if b then Some u else None) (IsKnown domains)) (sym is_so) (with_budget u (rtds_unit domains u) refl (last ask.runnable (is_allowed scheduler ask.home.0 ask.core.0 u) (nat_lt 0 (budget_left domains u)) is_so))
       | inr not_so ↦ subst (λ (b : Bool). IfSome (if b then Some u else None) (IsKnown domains)) (sym not_so) tt
     ]
@@ -154,7 +155,7 @@ choice_of_first domains affinity q masks ask stays order is queued_unit are =
 
 -- the chosen unit has a record
 pub choice_known : (domains : List (Option (List RtdsUnit))) (ask : Ask) (scheduler : Scheduler) → IfSome (choice ask scheduler domains) (IsKnown domains)
-choice_known domains ask scheduler = elim (either ask.leaving) [
+choice_known domains ask scheduler = elim (cases_Bool ask.leaving) [
   | inl leaves ↦ subst (λ (b : Bool). IfSome (if b then None else foremost_unit domains (own_candidate ask scheduler domains) (filter may (scheduler.queue))) (IsKnown domains)) (sym leaves) tt
   | inr stays ↦ subst (λ (b : Bool). IfSome (if b then None else foremost_unit domains (own_candidate ask scheduler domains) (filter may (scheduler.queue))) (IsKnown domains)) (sym stays) (walk (own_candidate ask scheduler domains) scheduler.queue (own_known domains ask scheduler))
 ]
@@ -171,7 +172,7 @@ choice_known domains ask scheduler = elim (either ask.leaving) [
 
     walk : (best : Option UnitId) (units : List UnitId) → IfSome best (IsKnown domains) → IfSome (foremost_unit domains best (filter may units)) (IsKnown domains)
     walk best [] known = known
-    walk best (u ∷ units) known = elim (either (may u)) [
+    walk best (u ∷ units) known = elim (cases_Bool (may u)) [
       | inl passes ↦
           subst (λ (b : Bool). IfSome (foremost_unit domains best (if b then u ∷ filter may units else filter may units)) (IsKnown domains)) (sym passes)
           (next best u (filter may units) (known_passes domains scheduler.affinity ask.home.0 ask.core.0 ask.at.0 u passes) known (λ b k. walk b units k))

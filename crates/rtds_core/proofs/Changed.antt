@@ -1,25 +1,25 @@
 -- The records after a change of one unit, and what they have in common with the sets of cores.
-use Rattle.std.proofs.Common.{◌≡◌, ◌≢◌, ◌≤◌, ◌<◌, ◌+◌, ◌*◌, ℕ, zero, suc, true, false, List, [], ◌∷◌, refl, arith, ap, subst, sym, ◌∙◌, length, nat_lt}
+use Rattle.std.proofs.Common.{◌≡◌, ◌≤◌, ◌<◌, ◌+◌, ℕ, zero, suc, true, List, [], ◌∷◌, refl, arith, ap, subst, sym, ◌∙◌, length, nat_lt}
 use Rattle.std.proofs.Math.Decide.{ℕ_discrete}
-use Rattle.std.specs.Prelude.{Option, Some, None, slice_get, slice_set, option_map, unwrap_or, ◌-◌}
-use Rattle.std.specs.Option.{IfSome}
+use Rattle.std.specs.Prelude.{Option, Some, None, slice_get, slice_set, option_map}
 use Rattle.std.proofs.lemmas.Bool.Decides.{nat_tests}
 use Rattle.std.proofs.lemmas.List.Elements.{All-from_recursion}
 use Rattle.sched_base.specs.declared.Cores.{Cores}
 use Rattle.sched_base.specs.declared.UnitId.{UnitId}
 use Rattle.unit_places.specs.Places.{has_place}
 use Rattle.unit_places.proofs.Placed.{placed}
-use Rattle.sched_model.specs.Places.{at_place, change_at, change_item, same_unit}
+use Rattle.sched_model.specs.Places.{at_place, change_at, change_item}
 use Rattle.sched_model.specs.declared.state.RtdsUnit.{RtdsUnit}
-use Rattle.sched_model.specs.Eligible.{rtds_unit}
+use Rattle.sched_model.specs.EligibleUnits.{rtds_unit}
 use Rattle.sched_model.specs.Rtds.{change_unit}
 use Rattle.sched_laws.proofs.EachPlace.{by_option, place_below, length_set, EachPlace-change_at, at_place-set_other, at_place-change_at}
-use Rattle.sched_laws.proofs.Lists.{AllByRecursion-map, length_change_item, slice_get-change_item_other, slice_get-change_item}
+use Rattle.sched_laws.proofs.Lists.{AllByRecursion-map, item_below, length_change_item}
 use Rattle.sched_ranges.specs.Ranges.{RtdsInRange}
 use Rattle.sched_ranges.specs.Fits.{RtdsFits, RtdsFit}
+use Rattle.sched_ranges.proofs.Done.{rtds_in_range}
 use Rattle.plain_units.specs.Fits as plain
 use Rattle.rtds_core.specs.Alarms.{id_of}
-use Rattle.rtds_core.specs.Kept.{IsShaped, size, total}
+use Rattle.rtds_core.specs.RtdsParts.{IsShaped, size, total}
 use Rattle.std.proofs.lemmas.Option.{slice_get_within}
 
 pub at_place-set : {X : Type 0} (i : ℕ) (o : Option X) (places : List (Option X)) → i < length places → at_place (slice_set places i o) i ≡ o
@@ -30,28 +30,6 @@ at_place-set (suc i) o (p ∷ places) inside = at_place-set i o places (omega (a
 -- the record that is there after a change of its unit, and after one of another
 abbrev pub unit_in : Option (List RtdsUnit) → ℕ → Option RtdsUnit
 unit_in o n = elim o as (λ _. Option RtdsUnit) [ None ↦ None | Some units ↦ slice_get units n ]
-
-pub read_same : (u : UnitId) (f : RtdsUnit → RtdsUnit) (domains : List (Option (List RtdsUnit))) (x : RtdsUnit) → rtds_unit domains u ≡ Some x → rtds_unit (change_unit u f domains) u ≡ Some (f x)
-read_same u f domains x at = ap (λ (o : Option (List RtdsUnit)). unit_in o u.n) (at_place-change_at u.dom.0 (change_item u.n f) domains) ∙ there (at_place domains u.dom.0) at
-  where
-    there : (o : Option (List RtdsUnit)) → unit_in o u.n ≡ Some x → unit_in (option_map (change_item u.n f) o) u.n ≡ Some (f x)
-    there None is = absurd (cc)
-    there (Some units) is = slice_get-change_item u.n f units ∙ ap (option_map f) is
-
-pub read_other : (w u : UnitId) (f : RtdsUnit → RtdsUnit) (domains : List (Option (List RtdsUnit))) → same_unit w u ≡ false → rtds_unit (change_unit w f domains) u ≡ rtds_unit domains u
-read_other w u f domains other =
-    elim (ℕ_discrete w.dom.0 u.dom.0) [
-      | yes e ↦ (
-          let n : w.n ≢ u.n = λ e2. (grind (arith, e, e2, other)) in
-          subst (λ (d : ℕ). unit_in (at_place (change_at w.dom.0 (change_item w.n f) domains) d) u.n ≡ unit_in (at_place domains d) u.n) e
-          (ap (λ (o : Option (List RtdsUnit)). unit_in o u.n) (at_place-change_at w.dom.0 (change_item w.n f) domains)
-          ∙ there (at_place domains w.dom.0) n))
-      | no ne ↦ ap (λ (o : Option (List RtdsUnit)). unit_in o u.n) (at_place-set_other w.dom.0 u.dom.0 _ domains ne)
-    ]
-  where
-    there : (o : Option (List RtdsUnit)) → w.n ≢ u.n → unit_in (option_map (change_item w.n f) o) u.n ≡ unit_in o u.n
-    there None n = refl
-    there (Some units) n = slice_get-change_item_other w.n u.n f units n
 
 -- the counts of the units stay
 sizes_changed : (u : UnitId) (f : RtdsUnit → RtdsUnit) (domains : List (Option (List RtdsUnit))) (d : ℕ) → option_map length (at_place (change_unit u f domains) d) ≡ option_map length (at_place domains d)
@@ -88,11 +66,6 @@ pub total_set : {X : Type 0} (i : ℕ) (o : Option (List X)) (places : List (Opt
 total_set i o [] inside = absurd (omega (arith, inside))
 total_set zero o (p ∷ places) inside = omega arith
 total_set (suc i) o (p ∷ places) inside = (let r = total_set i o places (omega (arith, inside)) in omega (arith, r))
-
-pub get_there : {X : Type 0} (xs : List X) (n : ℕ) → n < length xs → (x : X) × (slice_get xs n ≡ Some x)
-get_there [] n inside = absurd (omega (arith, inside))
-get_there (x ∷ xs) zero inside = (x, refl)
-get_there (x ∷ xs) (suc n) inside = get_there xs n (omega (arith, inside))
 
 -- the units of the domain of a unit that has a record
 pub record Home (domains : List (Option (List RtdsUnit))) (u : UnitId) : Type 0 where
@@ -150,7 +123,7 @@ pub record_of : (domains : List (Option (List RtdsUnit))) (affinity : List (Opti
 record_of domains affinity u sets is at inside =
     let s = same_size (at_place affinity u.dom.0) (at_place domains u.dom.0) sets (sym (is.same u.dom.0)) at in
     let long = s.2 in
-    let there = get_there s.0 u.n (omega (arith, inside, long)) in
+    let there = item_below s.0 u.n (omega (arith, inside, long)) in
     (there.0, ap (λ (o : Option (List RtdsUnit)). unit_in o u.n) s.1 ∙ there.1)
 
 abbrev pub count_in : Option (List Cores) → ℕ
@@ -170,30 +143,5 @@ record_member domains affinity u x is at =
     ap (λ (o : Option (List Cores)). nat_lt u.n (count_in o)) s.at ∙ (let i = s.inside in grind (arith, nat_tests, i))
 
 -- the ranges that the plain machine asks for
-spread : (level budget rest : ℕ) → budget ≡ 10000 + rest → level * budget ≡ level * 10000 + level * rest
-spread level budget rest e = subst (λ (z : ℕ). level * z ≡ level * 10000 + level * rest) (sym e) (grind arith)
-
-in_range : (t : ℕ) (x : RtdsUnit) → RtdsFits t x → RtdsInRange t x
-in_range t x fits = record {
-  period = fits.period;
-  budget = fits.budget;
-  next_period = fits.next_period;
-  next_budget = fits.next_budget;
-  left = fits.left;
-  level = (
-      let least = fits.budget.least in
-      let split : x.budget ≡ 10000 + (x.budget - 10000) = omega (arith, least) in
-      let product : x.level * x.budget ≡ x.level * 10000 + x.level * (x.budget - 10000) = spread x.level x.budget (x.budget - 10000) split in
-      let spent = fits.spent in
-      let last = fits.last in
-      omega (arith, product, spent, last));
-  deadline = fits.deadline;
-  burned = by_last x.burned fits.last;
-}
-  where
-    by_last : (o : Option ℕ) → unwrap_or o t ≤ t → IfSome o (λ (b : ℕ). b ≤ t)
-    by_last None low = tt
-    by_last (Some b) low = low
-
 pub plain_fits : (t : ℕ) (domains : List (Option (List RtdsUnit))) → length domains ≤ 64 → RtdsFit t domains → plain.RtdsFits t domains
-plain_fits t domains few fit = record { few_domains = few; domains = λ d units at. All-from_recursion (RtdsInRange t) units (AllByRecursion-map (RtdsFits t) (RtdsInRange t) (in_range t) units (fit d units at)) }
+plain_fits t domains few fit = record { few_domains = few; domains = λ d units at. All-from_recursion (RtdsInRange t) units (AllByRecursion-map (RtdsFits t) (RtdsInRange t) (rtds_in_range t) units (fit d units at)) }

@@ -8,32 +8,33 @@ use Rattle.sched_base.specs.declared.Moment.{Moment}
 use Rattle.sched_base.specs.declared.UnitId.{UnitId}
 use Rattle.sched_model.specs.Places.{has_unit, same_unit, without_unit}
 use Rattle.sched_model.specs.declared.state.RtdsUnit.{RtdsUnit}
-use Rattle.sched_model.specs.Eligible.{rtds_unit}
+use Rattle.sched_model.specs.EligibleUnits.{rtds_unit}
 use Rattle.sched_model.specs.Rtds.{burn_to, replenish, change_unit, burn_cur, set_running, switch_off}
-use Rattle.sched_laws.proofs.Bools.{either, clash}
+use Rattle.sched_base.proofs.Bools.{clash}
 use Rattle.sched_laws.proofs.Choices.{same_unit_same}
-use Rattle.sched_laws.proofs.Counts.{same_unit_refl}
+use Rattle.sched_laws.proofs.Counts.{same_unit_refl, without_absent}
 use Rattle.sched_laws.proofs.EachPlace.{by_option}
+use Rattle.sched_laws.proofs.RtdsUnits.{rtds_unit-same, rtds_unit-other, burned_on}
 use Rattle.sched_ranges.proofs.Rtds.{rtds_burned, rtds_running, rtds_off, rtds_replenished, fit_unit}
 use Rattle.sched_ranges.specs.Fits.{RtdsFits}
 use Rattle.rtds_queue.specs.Lists.{Lists, holds, after_remove, after_renew}
-use Rattle.queue_laws.proofs.Arrivals.{test_cases}
 use Rattle.rtds_core.specs.Alarms.{id_of, with_due}
 use Rattle.rtds_core.specs.Best.{queue_of, key_by, queues_without, dues_with, dues_without, run_from, deadline_in}
-use Rattle.rtds_core.specs.Kept.{IsKept, renewed_if, rearmed_dues}
+use Rattle.rtds_core.specs.RtdsParts.{IsKept, renewed_if, rearmed_dues}
 use Rattle.rtds_core.proofs.Queues.{IsOrdered, queue_removed, queue_renewed}
-use Rattle.rtds_core.proofs.Changed.{low_unit, read_same, read_other}
+use Rattle.rtds_core.proofs.Changed.{low_unit}
 use Rattle.rtds_core.proofs.Units.{has_without}
 use Rattle.sched_model.specs.declared.ask.Ask.{Ask}
 use Rattle.sched_model.specs.declared.state.Records.TheVariants.{RtdsPool}
 use Rattle.sched_model.specs.Rtds.{choice, decide}
 use Rattle.sched_model.specs.Policy.{decision_of, after_decision}
 use Rattle.sched_ops.specs.Seen.{seen_at}
-use Rattle.rtds_core.specs.Kept.{seen_of}
+use Rattle.rtds_core.specs.RtdsParts.{seen_of}
 use Rattle.rtds_core.proofs.First.{IsKnown}
 use Rattle.rtds_core.proofs.Keeping.{low_queued, waiting_known, queued_other}
-use Rattle.rtds_core.proofs.Steps.{without_absent, tells_waiting, kept_removed, kept_like, kept_set, kept_renewed}
+use Rattle.rtds_core.proofs.Steps.{tells_waiting, kept_removed, kept_like, kept_set, kept_renewed}
 use Rattle.std.proofs.Math.Bool.{or-false}
+use Rattle.std.proofs.lemmas.Bool.{cases_Bool}
 
 -- a core's own unit: it has a record, and does not wait
 pub record IsOwnUnit (domains : List (Option (List RtdsUnit))) (q : Lists) (u : UnitId) : Type 0 where
@@ -47,19 +48,16 @@ set_set zero a b (o ∷ dues) = refl
 set_set (suc i) a b (o ∷ dues) = ap (λ (xs : List (Option Moment)). o ∷ xs) (set_set i a b dues)
 
 pub known_changed : (u w : UnitId) (f : RtdsUnit → RtdsUnit) (domains : List (Option (List RtdsUnit))) → IsKnown domains w → IsKnown (change_unit u f domains) w
-known_changed u w f domains known = elim (either (same_unit u w)) [
+known_changed u w f domains known = elim (cases_Bool (same_unit u w)) [
   | inl same ↦
       let e : u ≡ w = same_unit_same u w same in
-      record { unit = f known.unit; at = subst (λ (v : UnitId). rtds_unit (change_unit u f domains) v ≡ Some (f known.unit)) e (read_same u f domains known.unit (subst (λ (v : UnitId). rtds_unit domains v ≡ Some known.unit) (sym e) known.at)) }
-  | inr other ↦ record { unit = known.unit; at = read_other u w f domains other ∙ known.at }
+      record { unit = f known.unit; at = subst (λ (v : UnitId). rtds_unit (change_unit u f domains) v ≡ Some (f known.unit)) e (rtds_unit-same u f domains known.unit (subst (λ (v : UnitId). rtds_unit domains v ≡ Some known.unit) (sym e) known.at)) }
+  | inr other ↦ record { unit = known.unit; at = rtds_unit-other u w f domains other ∙ known.at }
 ]
 
 -- a charge keeps the deadline, and whether the unit is on
 pub burned_deadline : (t : ℕ) (x : RtdsUnit) → (burn_to t x).deadline ≡ x.deadline
 burned_deadline t x = by_option (λ (y : RtdsUnit). y.deadline ≡ x.deadline) x.burned _ _ (λ is. refl) (λ from is. refl)
-
-pub burned_on : (t : ℕ) (x : RtdsUnit) → is_some (burn_to t x).burned ≡ is_some x.burned
-burned_on t x = by_option (λ (y : RtdsUnit). is_some y.burned ≡ is_some x.burned) x.burned _ _ (λ is. refl) (λ from is. ap (λ (o : Option ℕ). is_some o) (sym is))
 
 module _ (affinity : List (Option (List Cores))) (q : Lists) (masks : List Cores) (spare t : ℕ) where
   -- the core's own unit is charged
@@ -71,7 +69,7 @@ module _ (affinity : List (Option (List Cores))) (q : Lists) (masks : List Cores
 
   own_charged : (cur : Option UnitId) (domains : List (Option (List RtdsUnit))) → IfSome cur (IsOwnUnit domains q) → IfSome cur (IsOwnUnit (burn_cur cur t domains) q)
   own_charged None domains own = tt
-  own_charged (Some u) domains own = record { unit = burn_to t own.unit; at = read_same u (burn_to t) domains own.unit own.at; waits_not = own.waits_not }
+  own_charged (Some u) domains own = record { unit = burn_to t own.unit; at = rtds_unit-same u (burn_to t) domains own.unit own.at; waits_not = own.waits_not }
 
   -- it runs no more
   kept_stopped : (cur : Option UnitId) (domains : List (Option (List RtdsUnit))) (dues : List (Option Moment)) → IfSome cur (IsOwnUnit domains q) → IsKept domains affinity q masks dues spare t → IsKept (switch_off cur domains) affinity q masks (dues_without cur dues) spare t
@@ -92,7 +90,7 @@ module _ (affinity : List (Option (List Cores))) (q : Lists) (masks : List Cores
       let domains2 : List (Option (List RtdsUnit)) = set_running (Some t) u domains in
       let due : with_due u (Some (moment (deadline_in domains u))) dues ≡ with_due u (Some (moment x.deadline)) dues = ap (λ (d : ℕ). with_due u (Some (moment d)) dues) (deadline_is domains u x known.at) in
       subst (λ (ds : List (Option Moment)). IsKept domains2 affinity (queues_without (Some u) q) masks ds spare t) (sym due)
-      (elim (test_cases (holds q u)) [
+      (elim (cases_Bool (holds q u)) [
         | inl here ↦
             let waiting : has_unit (queue_of q) u ≡ true = tells_waiting domains affinity q masks dues spare t u x kept known.at ∙ here in
             let gone = kept_removed domains affinity q masks dues spare t u order waiting kept in
@@ -113,7 +111,7 @@ module _ (affinity : List (Option (List Cores))) (q : Lists) (masks : List Cores
 
   -- the queue without the chosen unit
   queue_taken : (u : UnitId) (domains : List (Option (List RtdsUnit))) (dues : List (Option Moment)) → IsKnown domains u → IsOrdered q → IsKept domains affinity q masks dues spare t → queue_of (queues_without (Some u) q) ≡ without_unit u (queue_of q)
-  queue_taken u domains dues known order kept = elim (test_cases (holds q u)) [
+  queue_taken u domains dues known order kept = elim (cases_Bool (holds q u)) [
     | inl here ↦ ap (λ (b : Bool). queue_of (if b then after_remove q u else q)) here ∙ queue_removed q u order (low_unit domains affinity u known.unit kept.shape known.at).byte (low_queued domains affinity q kept.shape kept.queued) here
     | inr other ↦ ap (λ (b : Bool). queue_of (if b then after_remove q u else q)) other ∙ sym (without_absent u (queue_of q) (tells_waiting domains affinity q masks dues spare t u known.unit kept known.at ∙ other))
   ]
@@ -184,7 +182,7 @@ module _ (domains : List (Option (List RtdsUnit))) (affinity : List (Option (Lis
           (ap (λ (o : Option ℕ). if is_some o then Some (moment (replenish t is.unit).deadline) else None) on) kept)
         where
           waits_not : has_unit (queue_of q) u ≡ false
-          waits_not = elim (either (has_unit (queue_of q) u)) [
+          waits_not = elim (cases_Bool (has_unit (queue_of q) u)) [
             | inl waiting ↦
                 let k = waiting_known domains q u kept.queued waiting in
                 let same : is.unit ≡ k.0 = some_same is.unit k.0 (sym is.at ∙ k.1) in

@@ -7,26 +7,27 @@ use Rattle.std.proofs.lemmas.Bool.Decides.{nat_tests}
 use Rattle.std.proofs.lemmas.Int.{ints}
 use Rattle.sched_base.specs.declared.Cores.{Cores}
 use Rattle.sched_base.specs.declared.UnitId.{UnitId}
-use Rattle.sched_base.specs.CoreSets.{is_allowed as allowed}
+use Rattle.sched_base.specs.CoreSets.{is_allowed}
 use Rattle.unit_places.specs.Masks.{mask_of}
 use Rattle.sched_model.specs.declared.state.RtdsUnit.{RtdsUnit}
 use Rattle.sched_model.specs.declared.state.Records.TheVariants.{RtdsPool}
-use Rattle.sched_model.specs.Eligible.{rtds_unit, is_eligible, is_allowed_by, cores_of}
+use Rattle.sched_model.specs.EligibleUnits.{rtds_unit, is_eligible, is_allowed_by, cores_of}
 use Rattle.sched_model.specs.Rtds.{foremost_unit, unit_before, is_before}
-use Rattle.sched_laws.proofs.Bools.{and_right}
+use Rattle.sched_base.proofs.Bools.{and_right}
 use Rattle.arrival_queue.specs.declared.key.Key.{Key}
 use Rattle.arrival_queue.specs.Queues.{Queued, is_less}
 use Rattle.arrival_queue.specs.Filters.{first_that, may_run}
 use Rattle.arrival_queue.specs.Order.{IsInOrder}
 use Rattle.rtds_queue.specs.Lists.{Lists, key_of, rtds_key}
 use Rattle.queue_laws.specs.Arrivals.{arrival_order, HasRanks, HasKeys, least_by, own_or}
-use Rattle.queue_laws.proofs.Arrivals.{ins, test_cases}
+use Rattle.queue_laws.proofs.Arrivals.{ins}
 use Rattle.queue_laws.proofs.Scan.{first_is_least, least_by_own}
 use Rattle.queue_laws.proofs.Keys.{less_trans, less_back}
 use Rattle.plain_policy.specs.Parts.{scheduler_of}
 use Rattle.rtds_core.specs.Best.{queue_of, key_by, IsEligible, IsSpent, AreQueued, AreMasks, list_of, goes_first}
 use Rattle.rtds_core.proofs.Queues.{arrivals_swap}
 use Rattle.std.proofs.Math.Bool.{and-false, or-false}
+use Rattle.std.proofs.lemmas.Bool.{cases_Bool}
 
 -- the unit has a record
 pub record IsKnown (domains : List (Option (List RtdsUnit))) (u : UnitId) : Type 0 where
@@ -127,7 +128,7 @@ module _ (domains : List (Option (List RtdsUnit))) (affinity : List (Option (Lis
       let some : nat_lt 0 each.0.unit.left ≡ true = (let l = each.0.left in grind (arith, nat_tests, l)) in
       let and_true : (b : Bool) → (b && true) ≡ b = λ b. elim b as (λ b. (b && true) ≡ b) [ true ↦ refl | false ↦ refl ] in
       let same : test e.unit ≡ may_run masks (record { 0 = core }) (record { 0 = home }) e.unit =
-      with_record e.unit each.0.unit each.0.at ∙ ap (λ (b : Bool). is_allowed_by affinity home core e.unit && b) some ∙ and_true (is_allowed_by affinity home core e.unit) ∙ sym (ap (λ (k : ℕ). allowed k core home) sets.0) in
+      with_record e.unit each.0.unit each.0.at ∙ ap (λ (b : Bool). is_allowed_by affinity home core e.unit && b) some ∙ and_true (is_allowed_by affinity home core e.unit) ∙ sym (ap (λ (k : ℕ). is_allowed k core home) sets.0) in
       ap (λ (b : Bool). if b then Some e.unit else first_that test es) same
       ∙ ap (λ (o : Option UnitId). if may_run masks (record { 0 = core }) (record { 0 = home }) e.unit then Some e.unit else o) (first_by_mask masks are es each.1 sets.1)
 
@@ -198,9 +199,9 @@ module _ (domains : List (Option (List RtdsUnit))) (affinity : List (Option (Lis
   any_less own best [] = or-false (is_less (key_in domains best) (key_in domains own))
   any_less own best (u ∷ units) =
       let rest : List UnitId → Bool = list_any (λ w. is_less (key_in domains w) (key_in domains own)) in
-      elim (test_cases (is_less (key_in domains u) (key_in domains best))) [
+      elim (cases_Bool (is_less (key_in domains u) (key_in domains best))) [
         | inl less ↦
-            elim (test_cases (is_less (key_in domains best) (key_in domains own))) [
+            elim (cases_Bool (is_less (key_in domains best) (key_in domains own))) [
               | inl ahead ↦
                   let both_ahead : is_less (key_in domains u) (key_in domains own) ≡ true = less_trans (key_in domains u) (key_in domains best) (key_in domains own) less ahead in
                   ap (λ (b : Bool). b || (is_less (key_in domains u) (key_in domains own) || rest units)) ahead
@@ -213,7 +214,7 @@ module _ (domains : List (Option (List RtdsUnit))) (affinity : List (Option (Lis
                   ∙ sym (ap (λ (b : Bool). is_ahead (least_by (key_in domains) (Some (if b then u else best)) units) own) less)
             ]
         | inr not_less ↦
-            elim (test_cases (is_less (key_in domains best) (key_in domains own))) [
+            elim (cases_Bool (is_less (key_in domains best) (key_in domains own))) [
               | inl ahead ↦
                   ap (λ (b : Bool). b || (is_less (key_in domains u) (key_in domains own) || rest units)) ahead
                   ∙ sym (ap (λ (b : Bool). b || rest units) ahead)

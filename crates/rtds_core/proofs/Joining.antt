@@ -9,13 +9,13 @@ use Rattle.unit_places.specs.Masks.{mask_of}
 use Rattle.sched_base.specs.declared.Cores.{Cores}
 use Rattle.sched_base.specs.declared.Moment.{Moment}
 use Rattle.sched_base.specs.declared.UnitId.{UnitId}
-use Rattle.sched_model.specs.Checked.{IsWithin, most_span}
+use Rattle.sched_model.specs.CheckedMachine.{IsWithin, most_span}
 use Rattle.sched_model.specs.Places.{at_place, has_unit, change_item}
 use Rattle.sched_model.specs.declared.state.RtdsUnit.{RtdsUnit}
-use Rattle.sched_model.specs.Eligible.{rtds_unit}
-use Rattle.sched_laws.specs.Each.{EachPlace}
-use Rattle.sched_laws.proofs.Bools.{either, clash, both, is_same}
-use Rattle.sched_laws.proofs.Lists.{length_change_item}
+use Rattle.sched_model.specs.EligibleUnits.{rtds_unit}
+use Rattle.sched_laws.specs.EachPlace.{EachPlace}
+use Rattle.sched_base.proofs.Bools.{clash}
+use Rattle.sched_laws.proofs.Lists.{length-pinned_cores}
 use Rattle.sched_laws.proofs.EachPlace.{place_below, length_set}
 use Rattle.sched_ranges.specs.Fits.{RtdsFits}
 use Rattle.due_heap.specs.Dues.{due_of}
@@ -24,27 +24,28 @@ use Rattle.arrival_queue.specs.Queues.{has_unit as has_queued}
 use Rattle.rtds_queue.specs.Lists.{Lists, count}
 use Rattle.rtds_core.specs.Alarms.{id_of}
 use Rattle.rtds_core.specs.Best.{queue_of, IsEligible, IsSpent, AreQueued, AreMasks}
-use Rattle.rtds_core.specs.Kept.{IsShaped, IsKept, due_for, total}
+use Rattle.rtds_core.specs.RtdsParts.{IsShaped, IsKept, due_for, total}
 use Rattle.rtds_core.proofs.Queues.{IsOrdered, waits}
 use Rattle.rtds_core.proofs.Changed.{IsLow, low_unit}
 use Rattle.rtds_core.proofs.Timing.{due_alike, armed_alike}
 use Rattle.std.specs.Prelude.{slice_index_or}
 use Rattle.std.proofs.lemmas.List.{length-replicate}
 use Rattle.sched_base.specs.Numbers.{core_set}
+use Rattle.sched_base.proofs.Lists.{each_get}
 use Rattle.sched_model.specs.Places.{change_at, put_at, clear_at}
 use Rattle.sched_model.specs.Policy.{pinned_cores, all_cores}
 use Rattle.sched_model.specs.Rtds.{fresh_units}
 use Rattle.sched_laws.proofs.EachPlace.{EachPlace-put_at, EachPlace-clear_at, EachPlace-empty}
-use Rattle.sched_laws.proofs.Opened.{each_get}
 use Rattle.sched_ranges.proofs.Rtds.{rtds_fresh}
 use Rattle.rtds_queue.specs.Lists.{empty_lists}
-use Rattle.rtds_core.specs.Kept.{size}
+use Rattle.rtds_core.specs.RtdsParts.{size}
 use Rattle.rtds_core.specs.Masks.{is_named}
 use Rattle.sched_laws.proofs.EachPlace.{at_place-set_other, at_place-change_at}
 use Rattle.rtds_core.proofs.Changed.{at_place-set, total_set, unit_in}
 use Rattle.rtds_core.proofs.Keeping.{waiting_known, low_queued}
 use Rattle.std.proofs.Math.Decide.{ℕ_discrete}
 use Rattle.std.proofs.Math.Bool.{and-false, or-true}
+use Rattle.std.proofs.lemmas.Bool.{eq-eqb, cases_Bool, and_from}
 use Rattle.arrival_queue.proofs.Counting.{has_unit-append}
 
 -- the queues' units have the records that they had
@@ -55,7 +56,7 @@ queued_by domains domains2 q same is = record {
 }
   where
     own : (e : Queued) (es : List Queued) → has_queued e.unit (e ∷ es) ≡ true
-    own e es = ap (λ (b : Bool). b || has_queued e.unit es) (is_same (number_of e.unit) (number_of e.unit) refl)
+    own e es = ap (λ (b : Bool). b || has_queued e.unit es) (eq-eqb (number_of e.unit) (number_of e.unit) refl)
 
     eligible : (es : List Queued) → ((e : Queued) → has_queued e.unit es ≡ true → has_queued e.unit (q.eligible ++ q.spent) ≡ true) → AllByRecursion (IsEligible domains) es → AllByRecursion (IsEligible domains2) es
     eligible [] within each = tt
@@ -94,7 +95,7 @@ absent_size (Some xs) (Some ys) same none = absurd (cc)
 
 -- a unit without a record does not wait
 not_waiting : (domains : List (Option (List RtdsUnit))) (q : Lists) (w : UnitId) → AreQueued domains q → rtds_unit domains w ≡ None → has_unit (queue_of q) w ≡ false
-not_waiting domains q w queued none = elim (either (has_unit (queue_of q) w)) [
+not_waiting domains q w queued none = elim (cases_Bool (has_unit (queue_of q) w)) [
   | inl waiting ↦ (let k = waiting_known domains q w queued waiting in let f : ◌≡◌ {A = Option RtdsUnit} None (Some k.0) = sym none ∙ k.1 in absurd (cc))
   | inr not_so ↦ not_so
 ]
@@ -123,13 +124,13 @@ abbrev sets_in : Option (List Cores) → ℕ → ℕ
 sets_in o n = elim o as (λ _. ℕ) [ None ↦ 0 | Some units ↦ (slice_index_or units n (core_set 0)).0 ]
 
 named_all : (d : ℕ) (u : UnitId) → d ≡ u.dom.0 → u.n < 32 → is_named d None u ≡ true
-named_all d u e low = both (u.dom.0 == d) (nat_lt u.n 32) (is_same u.dom.0 d (sym e)) (grind (arith, nat_tests, low))
+named_all d u e low = and_from (u.dom.0 == d) (nat_lt u.n 32) (eq-eqb u.dom.0 d (sym e)) (grind (arith, nat_tests, low))
 
 not_named : (d : ℕ) (unit : Option ℕ) (u : UnitId) → d ≢ u.dom.0 → is_named d unit u ≡ false
 not_named d unit u ne = by_unit unit
   where
     other : (u.dom.0 == d) ≡ false
-    other = elim (either (u.dom.0 == d)) [
+    other = elim (cases_Bool (u.dom.0 == d)) [
       | inl same ↦ absurd (ne (let s : u.dom.0 ≡ d = grind (arith, nat_tests, same) in sym s))
       | inr not_so ↦ not_so
     ]
@@ -269,12 +270,6 @@ module _ (domains : List (Option (List RtdsUnit))) (affinity : List (Option (Lis
       same_sizes (Some xs) None same = absurd (cc)
       same_sizes (Some xs) (Some ys) same = cc
 
--- sets of cores are changed
-length_pinned : (unit : Option ℕ) (cores : Cores) (sets : List Cores) → length (pinned_cores unit cores sets) ≡ length sets
-length_pinned None cores [] = refl
-length_pinned None cores (x ∷ sets) = ap suc (length_pinned None cores sets)
-length_pinned (Some n) cores sets = length_change_item n (λ old. cores) sets
-
 get_mapped : (cores : Cores) (sets : List Cores) (n : ℕ) → n < length sets → slice_index_or (map (λ old. cores) sets) n (core_set 0) ≡ cores
 get_mapped cores [] n inside = absurd (omega (arith, inside))
 get_mapped cores (x ∷ sets) zero inside = refl
@@ -299,7 +294,7 @@ pinned_set masks masks2 d None cores u old set e inside few was =
     ap (λ (c : Cores). c.0) (set u (omega (arith, inside, few)) ∙ ap (λ (b : Bool). if b then cores else mask_of masks u) (named_all d u e (omega (arith, inside, few))) ∙ sym (get_mapped cores old u.n inside))
 pinned_set masks masks2 d (Some n) cores u old set e inside few was = elim (ℕ_discrete n u.n) [
   | yes same ↦
-      let named : is_named d (Some n) u ≡ true = both (u.dom.0 == d) (u.n == n) (is_same u.dom.0 d (sym e)) (is_same u.n n (sym same)) in
+      let named : is_named d (Some n) u ≡ true = and_from (u.dom.0 == d) (u.n == n) (eq-eqb u.dom.0 d (sym e)) (eq-eqb u.n n (sym same)) in
       ap (λ (c : Cores). c.0) (set u (omega (arith, inside, few)) ∙ ap (λ (b : Bool). if b then cores else mask_of masks u) named
       ∙ sym (subst (λ (k : ℕ). slice_index_or (change_item k (λ x. cores) old) u.n (core_set 0) ≡ cores) (sym same) (get_changed cores old u.n inside)))
   | no ne ↦
@@ -309,7 +304,7 @@ pinned_set masks masks2 d (Some n) cores u old set e inside few was = elim (ℕ_
 ]
   where
     other_index : n ≢ u.n → is_named d (Some n) u ≡ false
-    other_index ne = elim (either (u.n == n)) [
+    other_index ne = elim (cases_Bool (u.n == n)) [
       | inl same ↦ absurd (ne (let s : u.n ≡ n = grind (arith, nat_tests, same) in sym s))
       | inr not_so ↦ ap (λ (b : Bool). (u.dom.0 == d) && b) not_so ∙ and-false (u.dom.0 == d)
     ]
@@ -353,14 +348,14 @@ kept_pinned domains affinity q masks masks2 dues spare t d unit cores set kept =
       where
         there : (o : Option (List Cores)) → option_map length o ≡ option_map length (option_map (pinned_cores unit cores) o)
         there None = refl
-        there (Some sets) = ap Some (sym (length_pinned unit cores sets))
+        there (Some sets) = ap Some (sym (length-pinned_cores unit cores sets))
 
     named : (u : UnitId) (sets : List Cores) → d ≡ u.dom.0 → u.n < length sets → (o : Option (List Cores)) → at_place affinity u.dom.0 ≡ o → option_map (pinned_cores unit cores) o ≡ Some sets → (mask_of masks2 u).0 ≡ sets_in (option_map (pinned_cores unit cores) o) u.n
     named u sets e inside None at is = absurd (cc)
     named u sets e inside (Some old) at is =
         let same : pinned_cores unit cores old ≡ sets = cc in
         let l = ap (λ (xs : List Cores). length xs) same in
-        let k = length_pinned unit cores old in
+        let k = length-pinned_cores unit cores old in
         let n : u.n < length old = omega (arith, inside, l, k) in
         pinned_set masks masks2 d unit cores u old set e n (small_sets domains affinity kept.shape u.dom.0 old at)
         (kept.sets.each u old at n ∙ ap (λ (o : Option (List Cores)). sets_in o u.n) at)

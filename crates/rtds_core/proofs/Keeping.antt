@@ -3,29 +3,31 @@ use Rattle.std.proofs.Common.{◌≡◌, ◌<◌, ◌+◌, ℕ, suc, Bool, true,
 use Rattle.std.specs.Prelude.{Option, Some, None, ◌||◌, ◌==◌, if◌then◌else◌}
 use Rattle.std.specs.List.{AllByRecursion}
 use Rattle.std.proofs.lemmas.Bool.Decides.{nat_tests}
+use Rattle.std.proofs.lemmas.Bool.{cases_Bool, eq-eqb, or_cases}
 use Rattle.sched_base.specs.Units.{number_of}
 use Rattle.sched_base.specs.declared.Cores.{Cores}
 use Rattle.sched_base.specs.declared.Moment.{Moment}
 use Rattle.sched_base.specs.declared.UnitId.{UnitId}
 use Rattle.sched_model.specs.Places.{has_unit, same_unit}
 use Rattle.sched_model.specs.declared.state.RtdsUnit.{RtdsUnit}
-use Rattle.sched_model.specs.Eligible.{rtds_unit}
+use Rattle.sched_model.specs.EligibleUnits.{rtds_unit}
 use Rattle.sched_model.specs.Rtds.{change_unit}
-use Rattle.sched_laws.proofs.Bools.{either, clash, one_of, or_left, or_right, is_same}
+use Rattle.sched_base.proofs.Bools.{clash, or_left, or_right}
 use Rattle.sched_laws.proofs.Choices.{same_unit_same}
 use Rattle.sched_laws.proofs.Lists.{AllByRecursion-map, AllByRecursion-push}
+use Rattle.sched_laws.proofs.RtdsUnits.{rtds_unit-same, rtds_unit-other}
 use Rattle.arrival_queue.specs.Queues.{Queued, queued_unit as queued, is_of, put_first, goes_before, list_without as without, closed_up}
 use Rattle.arrival_queue.specs.Queues.{has_unit as has_queued}
 use Rattle.rtds_queue.specs.Lists.{Lists, key_of, holds, count, rank_of, put, after_remove, after_renew}
 use Rattle.queue_laws.specs.Arrivals.{arrival_order, arrivals, HasUnits, HasIndices}
-use Rattle.queue_laws.proofs.Arrivals.{test_cases, each_arrived}
-use Rattle.queue_laws.proofs.Removed.{each_without, stands}
+use Rattle.queue_laws.proofs.Arrivals.{each_arrived, length-arrivals}
+use Rattle.queue_laws.proofs.Removed.{each_without, stands, each-append}
 use Rattle.queue_laws.proofs.Once.{once_units, each_placed, each_closed}
 use Rattle.rtds_core.specs.Best.{queue_of, key_by, IsEligible, IsSpent, AreQueued}
-use Rattle.rtds_core.specs.Kept.{IsShaped, IsKept}
-use Rattle.rtds_core.proofs.Queues.{IsOrdered, each-append, waits}
-use Rattle.rtds_core.proofs.Changed.{low_unit, read_same, read_other}
-use Rattle.rtds_core.proofs.Units.{few_units, all_names, count_names, known_named, apart_arrivals, length_arrivals}
+use Rattle.rtds_core.specs.RtdsParts.{IsShaped, IsKept}
+use Rattle.rtds_core.proofs.Queues.{IsOrdered, waits}
+use Rattle.rtds_core.proofs.Changed.{low_unit}
+use Rattle.rtds_core.proofs.Units.{few_units, all_names, count_names, known_named, apart_arrivals}
 use Rattle.arrival_queue.proofs.Counting.{has_unit-append, without-append}
 
 -- the units of the queues have small numbers
@@ -44,7 +46,7 @@ waiting_known domains q w queued has = arrived_known (q.eligible ++ q.spent)
   where
     in_units : (es : List Queued) → AllByRecursion (λ e. (x : RtdsUnit) × (rtds_unit domains e.unit ≡ Some x) × (x.burned ≡ None)) es → has_unit (map (λ (e : Queued). e.unit) es) w ≡ true → (x : RtdsUnit) × (rtds_unit domains w ≡ Some x) × (x.burned ≡ None)
     in_units [] each has = absurd (cc)
-    in_units (e ∷ es) each has = elim (one_of (same_unit w e.unit) (has_unit (map (λ (x : Queued). x.unit) es) w) has) [
+    in_units (e ∷ es) each has = elim (or_cases (same_unit w e.unit) (has_unit (map (λ (x : Queued). x.unit) es) w) has) [
       | inl is ↦ subst (λ (v : UnitId). (x : RtdsUnit) × (rtds_unit domains v ≡ Some x) × (x.burned ≡ None)) (sym (same_unit_same w e.unit is)) each.0
       | inr rest ↦ in_units es each.1 rest
     ]
@@ -54,8 +56,8 @@ waiting_known domains q w queued has = arrived_known (q.eligible ++ q.spent)
 
 -- an item of another unit
 item_other : (u : UnitId) (e : Queued) → is_of u e ≡ false → same_unit u e.unit ≡ false
-item_other u e other = elim (either (same_unit u e.unit)) [
-  | inl same ↦ absurd (clash (is_of u e) (subst (λ (v : UnitId). (number_of e.unit == number_of v) ≡ true) (sym (same_unit_same u e.unit same)) (is_same (number_of e.unit) (number_of e.unit) refl)) other)
+item_other u e other = elim (cases_Bool (same_unit u e.unit)) [
+  | inl same ↦ absurd (clash (is_of u e) (subst (λ (v : UnitId). (number_of e.unit == number_of v) ≡ true) (sym (same_unit_same u e.unit same)) (eq-eqb (number_of e.unit) (number_of e.unit) refl)) other)
   | inr not_so ↦ not_so
 ]
 
@@ -63,14 +65,14 @@ module _ (u : UnitId) (f : RtdsUnit → RtdsUnit) (domains : List (Option (List 
   eligible_other : (es : List Queued) → has_queued u es ≡ false → AllByRecursion (IsEligible domains) es → AllByRecursion (IsEligible (change_unit u f domains)) es
   eligible_other [] none each = tt
   eligible_other (e ∷ es) none each = (
-    record { unit = each.0.unit; at = read_other u e.unit f domains (item_other u e (or_left (is_of u e) (has_queued u es) none)) ∙ each.0.at; off = each.0.off; left = each.0.left; key = each.0.key },
+    record { unit = each.0.unit; at = rtds_unit-other u e.unit f domains (item_other u e (or_left (is_of u e) (has_queued u es) none)) ∙ each.0.at; off = each.0.off; left = each.0.left; key = each.0.key },
     eligible_other es (or_right (is_of u e) (has_queued u es) none) each.1,
   )
 
   spent_other : (es : List Queued) → has_queued u es ≡ false → AllByRecursion (IsSpent domains) es → AllByRecursion (IsSpent (change_unit u f domains)) es
   spent_other [] none each = tt
   spent_other (e ∷ es) none each = (
-    record { unit = each.0.unit; at = read_other u e.unit f domains (item_other u e (or_left (is_of u e) (has_queued u es) none)) ∙ each.0.at; off = each.0.off; left = each.0.left },
+    record { unit = each.0.unit; at = rtds_unit-other u e.unit f domains (item_other u e (or_left (is_of u e) (has_queued u es) none)) ∙ each.0.at; off = each.0.off; left = each.0.left },
     spent_other es (or_right (is_of u e) (has_queued u es) none) each.1,
   )
 
@@ -84,17 +86,17 @@ module _ (u : UnitId) (f : RtdsUnit → RtdsUnit) (domains : List (Option (List 
   -- a change that is no matter of the queues
   pub queued_like : ((x : RtdsUnit) → (f x).left ≡ x.left) → ((x : RtdsUnit) → (f x).burned ≡ x.burned) → ((x : RtdsUnit) → key_by (f x) ≡ key_by x) → (q : Lists) → AreQueued domains q → AreQueued (change_unit u f domains) q
   queued_like lefts ons keys q is = record {
-    eligible = AllByRecursion-map (IsEligible domains) (IsEligible (change_unit u f domains)) (λ e el. elim (either (same_unit u e.unit)) [
+    eligible = AllByRecursion-map (IsEligible domains) (IsEligible (change_unit u f domains)) (λ e el. elim (cases_Bool (same_unit u e.unit)) [
       | inl same ↦
-          let at : rtds_unit (change_unit u f domains) e.unit ≡ Some (f el.unit) = subst (λ (v : UnitId). rtds_unit (change_unit u f domains) v ≡ Some (f el.unit)) (same_unit_same u e.unit same) (read_same u f domains el.unit (subst (λ (v : UnitId). rtds_unit domains v ≡ Some el.unit) (sym (same_unit_same u e.unit same)) el.at)) in
+          let at : rtds_unit (change_unit u f domains) e.unit ≡ Some (f el.unit) = subst (λ (v : UnitId). rtds_unit (change_unit u f domains) v ≡ Some (f el.unit)) (same_unit_same u e.unit same) (rtds_unit-same u f domains el.unit (subst (λ (v : UnitId). rtds_unit domains v ≡ Some el.unit) (sym (same_unit_same u e.unit same)) el.at)) in
           record { unit = f el.unit; at = at; off = ons el.unit ∙ el.off; left = (let l = el.left in let e1 = lefts el.unit in omega (arith, l, e1)); key = el.key ∙ sym (ap key_of (keys el.unit)) }
-      | inr other ↦ record { unit = el.unit; at = read_other u e.unit f domains other ∙ el.at; off = el.off; left = el.left; key = el.key }
+      | inr other ↦ record { unit = el.unit; at = rtds_unit-other u e.unit f domains other ∙ el.at; off = el.off; left = el.left; key = el.key }
     ]) q.eligible is.eligible;
-    spent = AllByRecursion-map (IsSpent domains) (IsSpent (change_unit u f domains)) (λ e sp. elim (either (same_unit u e.unit)) [
+    spent = AllByRecursion-map (IsSpent domains) (IsSpent (change_unit u f domains)) (λ e sp. elim (cases_Bool (same_unit u e.unit)) [
       | inl same ↦
-          let at : rtds_unit (change_unit u f domains) e.unit ≡ Some (f sp.unit) = subst (λ (v : UnitId). rtds_unit (change_unit u f domains) v ≡ Some (f sp.unit)) (same_unit_same u e.unit same) (read_same u f domains sp.unit (subst (λ (v : UnitId). rtds_unit domains v ≡ Some sp.unit) (sym (same_unit_same u e.unit same)) sp.at)) in
+          let at : rtds_unit (change_unit u f domains) e.unit ≡ Some (f sp.unit) = subst (λ (v : UnitId). rtds_unit (change_unit u f domains) v ≡ Some (f sp.unit)) (same_unit_same u e.unit same) (rtds_unit-same u f domains sp.unit (subst (λ (v : UnitId). rtds_unit domains v ≡ Some sp.unit) (sym (same_unit_same u e.unit same)) sp.at)) in
           record { unit = f sp.unit; at = at; off = ons sp.unit ∙ sp.off; left = lefts sp.unit ∙ sp.left }
-      | inr other ↦ record { unit = sp.unit; at = read_other u e.unit f domains other ∙ sp.at; off = sp.off; left = sp.left }
+      | inr other ↦ record { unit = sp.unit; at = rtds_unit-other u e.unit f domains other ∙ sp.at; off = sp.off; left = sp.left }
     ]) q.spent is.spent;
   }
 
@@ -115,7 +117,7 @@ queued_removed domains q u is = record {
 
 none_without : (u : UnitId) (es : List Queued) → has_queued u (without u es) ≡ false
 none_without u [] = refl
-none_without u (e ∷ es) = elim (test_cases (is_of u e)) [
+none_without u (e ∷ es) = elim (cases_Bool (is_of u e)) [
   | inl mine ↦ ap (λ (b : Bool). has_queued u (if b then without u es else e ∷ without u es)) mine ∙ none_without u es
   | inr other ↦ ap (λ (b : Bool). has_queued u (if b then without u es else e ∷ without u es)) other ∙ ap (λ (b : Bool). b || has_queued u (without u es)) other ∙ none_without u es
 ]
@@ -124,7 +126,7 @@ none_without u (e ∷ es) = elim (test_cases (is_of u e)) [
 pub queued_renewed : (domains : List (Option (List RtdsUnit))) (q : Lists) (u : UnitId) (f : RtdsUnit → RtdsUnit) (x : RtdsUnit) → rtds_unit domains u ≡ Some x → (f x).burned ≡ None → 0 < (f x).left → AreQueued domains q → AreQueued (change_unit u f domains) (after_renew q u (key_by (f x)))
 queued_renewed domains q u f x at off left is = record {
   eligible = each_placed (IsEligible (change_unit u f domains)) (queued u (key_of (key_by (f x))) (rank_of q u)) (without u q.eligible)
-      (record { unit = f x; at = read_same u f domains x at; off = off; left = left; key = refl })
+      (record { unit = f x; at = rtds_unit-same u f domains x at; off = off; left = left; key = refl })
       (eligible_other u f domains (without u q.eligible) (none_without u q.eligible) (each_without (IsEligible domains) u q.eligible is.eligible));
   spent = spent_other u f domains (without u q.spent) (none_without u q.spent) (each_without (IsSpent domains) u q.spent is.spent);
 }
@@ -184,13 +186,13 @@ room_left domains affinity q masks dues spare latest u x kept order at none =
     let apart = apart_arrivals all (once_units all order.units) (low_queued domains affinity q kept.shape kept.queued) in
     let few = few_units (u ∷ queue_of q) (all_names 0 domains) (none, apart) within in
     let n = count_names 0 domains in
-    let l = length_arrivals all in
+    let l = length-arrivals all in
     let c = length-append q.eligible q.spent in
     let room = kept.room in
     omega (arith, few, n, l, c, room)
   where
     within : (w : UnitId) → has_unit (u ∷ queue_of q) w ≡ true → has_unit (all_names 0 domains) w ≡ true
-    within w has = elim (one_of (same_unit w u) (has_unit (queue_of q) w) has) [
+    within w has = elim (or_cases (same_unit w u) (has_unit (queue_of q) w) has) [
       | inl same ↦ subst (λ (v : UnitId). has_unit (all_names 0 domains) v ≡ true) (sym (same_unit_same w u same)) (known_named domains u x at)
       | inr waits ↦ (let k = waiting_known domains q w kept.queued waits in known_named domains w k.0 k.1)
     ]

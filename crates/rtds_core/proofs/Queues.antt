@@ -9,23 +9,20 @@ use Rattle.arrival_queue.specs.Order.{IsInOrder, EachRankOnce, EachUnitOnce}
 use Rattle.rtds_queue.specs.declared.RtdsKey.{RtdsKey}
 use Rattle.rtds_queue.specs.Lists.{Lists, key_of, holds, count, rank_of, put, after_remove, after_renew}
 use Rattle.queue_laws.specs.Arrivals.{arrival_order, arrivals, LacksRank, HasRanks, RanksBelow, HasIndices}
-use Rattle.queue_laws.proofs.Arrivals.{ins, test_cases, arrived_split, arrivals_placed, arrivals_appended}
+use Rattle.queue_laws.proofs.Arrivals.{ins, arrived_split, arrivals_placed, arrivals_appended}
 use Rattle.queue_laws.proofs.Removed.{arrivals_removed, arrivals_moved, has_arrived, lacks_own}
 use Rattle.queue_laws.proofs.Once.{once_ranks, once_below, once_units}
 use Rattle.rtds_core.specs.Best.{queue_of}
 use Rattle.arrival_queue.proofs.Counting.{without-append, has_unit-append}
 use Rattle.arrival_queue.proofs.Changes.{rank_in-append}
 use Rattle.std.proofs.lemmas.List.{append-nil}
+use Rattle.std.proofs.lemmas.Bool.{cases_Bool}
 
 -- what the queues tell of themselves
 pub record IsOrdered (q : Lists) : Type 0 where
   pub order : IsInOrder q.eligible
   pub ranks : EachRankOnce (q.eligible ++ q.spent)
   pub units : EachUnitOnce (q.eligible ++ q.spent)
-
-pub each-append : (P : Queued → Type 0) (l r : List Queued) → AllByRecursion P l → AllByRecursion P r → AllByRecursion P (l ++ r)
-each-append P [] r left right = right
-each-append P (x ∷ l) r left right = (left.0, each-append P l r left.1 right)
 
 right_part : (P : Queued → Type 0) (l r : List Queued) → AllByRecursion P (l ++ r) → AllByRecursion P r
 right_part P [] r each = each

@@ -5,43 +5,34 @@ use Rattle.sched_base.specs.Numbers.{moment}
 use Rattle.sched_base.specs.declared.Cores.{Cores}
 use Rattle.sched_base.specs.declared.Moment.{Moment}
 use Rattle.sched_base.specs.declared.UnitId.{UnitId}
-use Rattle.sched_model.specs.Checked.{most_span}
+use Rattle.sched_model.specs.CheckedMachine.{most_span}
 use Rattle.sched_model.specs.Places.{has_unit, same_unit, without_unit, change_item}
 use Rattle.sched_model.specs.declared.state.RtdsUnit.{RtdsUnit}
-use Rattle.sched_model.specs.Eligible.{rtds_unit}
+use Rattle.sched_model.specs.EligibleUnits.{rtds_unit}
 use Rattle.sched_model.specs.Rtds.{change_unit}
-use Rattle.sched_laws.proofs.Bools.{either, or_left, or_right}
 use Rattle.sched_laws.proofs.Choices.{same_unit_same}
-use Rattle.sched_laws.proofs.Counts.{same_unit_refl}
+use Rattle.sched_laws.proofs.Counts.{same_unit_refl, gone_without}
 use Rattle.sched_laws.proofs.Lists.{AllByRecursion-map, length_change_item}
+use Rattle.sched_laws.proofs.RtdsUnits.{rtds_unit-same, rtds_unit-other}
 use Rattle.sched_ranges.proofs.Rtds.{rtds_later, fit_change_unit}
 use Rattle.sched_ranges.specs.Fits.{RtdsFits}
 use Rattle.arrival_queue.specs.Queues.{queued_unit as queued}
 use Rattle.rtds_queue.specs.Lists.{Lists, holds, put, after_remove, after_renew}
 use Rattle.rtds_core.specs.Alarms.{with_due}
 use Rattle.rtds_core.specs.Best.{queue_of, key_by, AreQueued}
-use Rattle.rtds_core.specs.Kept.{IsKept, due_for}
+use Rattle.rtds_core.specs.RtdsParts.{IsKept, due_for}
 use Rattle.rtds_core.proofs.Queues.{IsOrdered, waits, queue_put, queue_removed, queue_renewed}
-use Rattle.rtds_core.proofs.Changed.{IsLow, low_unit, read_same, read_other, shape_changed, total_changed}
+use Rattle.rtds_core.proofs.Changed.{IsLow, low_unit, shape_changed, total_changed}
 use Rattle.rtds_core.proofs.Units.{same_sym, has_pushed, has_without}
 use Rattle.rtds_core.proofs.Timing.{due_alike, due_of_record, armed_changed, armed_alike}
 use Rattle.plain_policy.proofs.RtdsLemmas.{change_unit-none}
 use Rattle.rtds_core.proofs.Keeping.{low_queued, waiting_known, queued_other, queued_put, queued_removed, queued_renewed, count_put, count_removed, count_renewed, room_left}
 use Rattle.std.proofs.Math.Bool.{or-false, or-true}
-
--- a list without a unit that is not there
-pub without_absent : (u : UnitId) (units : List UnitId) → has_unit units u ≡ false → without_unit u units ≡ units
-without_absent u [] none = refl
-without_absent u (w ∷ units) none =
-    ap (λ (b : Bool). if not b then w ∷ without_unit u units else without_unit u units) (or_left (same_unit u w) (has_unit units u) none)
-    ∙ ap (λ (us : List UnitId). w ∷ us) (without_absent u units (or_right (same_unit u w) (has_unit units u) none))
+use Rattle.std.proofs.lemmas.Bool.{cases_Bool}
 
 -- the others of a list without a unit
 others_stay : (u w : UnitId) (units : List UnitId) → same_unit u w ≡ false → has_unit (without_unit u units) w ≡ has_unit units w
 others_stay u w units other = has_without u w units ∙ ap (λ (b : Bool). not b && has_unit units w) other
-
-own_gone : (u : UnitId) (units : List UnitId) → has_unit (without_unit u units) u ≡ false
-own_gone u units = has_without u u units ∙ ap (λ (b : Bool). not b && has_unit units u) (same_unit_refl u)
 
 module _ (domains : List (Option (List RtdsUnit))) (affinity : List (Option (List Cores))) (q : Lists) (masks : List Cores) (dues : List (Option Moment)) (spare : ℕ) where
   -- whether a unit waits is told by the queues
@@ -103,7 +94,7 @@ module _ (domains : List (Option (List RtdsUnit))) (affinity : List (Option (Lis
             armed_changed (queue_of q) (queue_of (after_remove q u)) domains domains dues u None low kept.armed
             (λ w other. due_alike (queue_of q) (queue_of (after_remove q u)) domains domains w refl (ap (λ (us : List UnitId). has_unit us w) queue2 ∙ others_stay u w (queue_of q) other))
             (due_of_record (queue_of (after_remove q u)) domains u known.0 known.1
-            ∙ ap (λ (b : Bool). if b || is_some known.0.burned then Some (moment known.0.deadline) else None) (ap (λ (us : List UnitId). has_unit us u) queue2 ∙ own_gone u (queue_of q))
+            ∙ ap (λ (b : Bool). if b || is_some known.0.burned then Some (moment known.0.deadline) else None) (ap (λ (us : List UnitId). has_unit us u) queue2 ∙ gone_without u (queue_of q))
             ∙ ap (λ (o : Option ℕ). if is_some o then Some (moment known.0.deadline) else None) known.2);
       }
 
@@ -118,16 +109,16 @@ module _ (domains : List (Option (List RtdsUnit))) (affinity : List (Option (Lis
     room = (let t = total_changed u.dom.0 (change_item u.n f) domains (λ units. length_change_item u.n f units) in let r = kept.room in omega (arith, r, t));
     few = (let t = total_changed u.dom.0 (change_item u.n f) domains (λ units. length_change_item u.n f units) in let r = kept.few in omega (arith, r, t));
     sets = kept.sets;
-    armed = armed_alike (queue_of q) (queue_of q) domains (change_unit u f domains) dues kept.armed (λ w. elim (either (same_unit u w)) [
+    armed = armed_alike (queue_of q) (queue_of q) domains (change_unit u f domains) dues kept.armed (λ w. elim (cases_Bool (same_unit u w)) [
       | inl same ↦ subst (λ (v : UnitId). due_for (queue_of q) (change_unit u f domains) v ≡ due_for (queue_of q) domains v) (same_unit_same u w same) (own (rtds_unit domains u) refl)
-      | inr other ↦ due_alike (queue_of q) (queue_of q) domains (change_unit u f domains) w (read_other u w f domains other) refl
+      | inr other ↦ due_alike (queue_of q) (queue_of q) domains (change_unit u f domains) w (rtds_unit-other u w f domains other) refl
     ]);
   }
     where
       own : (o : Option RtdsUnit) → rtds_unit domains u ≡ o → due_for (queue_of q) (change_unit u f domains) u ≡ due_for (queue_of q) domains u
       own None at = ap (λ (ds : List (Option (List RtdsUnit))). due_for (queue_of q) ds u) (change_unit-none domains u f at)
       own (Some x) at =
-          due_of_record (queue_of q) (change_unit u f domains) u (f x) (read_same u f domains x at)
+          due_of_record (queue_of q) (change_unit u f domains) u (f x) (rtds_unit-same u f domains x at)
           ∙ ap (λ (b : Bool). if has_unit (queue_of q) u || b then Some (moment (f x).deadline) else None) (ons x)
           ∙ ap (λ (d : ℕ). if has_unit (queue_of q) u || is_some x.burned then Some (moment d) else None) (deadlines x)
           ∙ sym (due_of_record (queue_of q) domains u x at)
@@ -145,8 +136,8 @@ module _ (domains : List (Option (List RtdsUnit))) (affinity : List (Option (Lis
     sets = kept.sets;
     armed =
         armed_changed (queue_of q) (queue_of q) domains (change_unit u f domains) dues u o (low_unit domains affinity u x kept.shape at) kept.armed
-        (λ w other. due_alike (queue_of q) (queue_of q) domains (change_unit u f domains) w (read_other u w f domains other) refl)
-        (due_of_record (queue_of q) (change_unit u f domains) u (f x) (read_same u f domains x at)
+        (λ w other. due_alike (queue_of q) (queue_of q) domains (change_unit u f domains) w (rtds_unit-other u w f domains other) refl)
+        (due_of_record (queue_of q) (change_unit u f domains) u (f x) (rtds_unit-same u f domains x at)
         ∙ ap (λ (b : Bool). if b || is_some (f x).burned then Some (moment (f x).deadline) else None) none ∙ due);
   }
     where
@@ -172,8 +163,8 @@ module _ (domains : List (Option (List RtdsUnit))) (affinity : List (Option (Lis
         sets = kept.sets;
         armed =
             armed_changed (queue_of q) (queue_of q2) domains (change_unit u f domains) dues u (Some (moment (f x).deadline)) low kept.armed
-            (λ w other. due_alike (queue_of q) (queue_of q2) domains (change_unit u f domains) w (read_other u w f domains other) (ap (λ (us : List UnitId). has_unit us w) queue2))
-            (due_of_record (queue_of q2) (change_unit u f domains) u (f x) (read_same u f domains x at)
+            (λ w other. due_alike (queue_of q) (queue_of q2) domains (change_unit u f domains) w (rtds_unit-other u w f domains other) (ap (λ (us : List UnitId). has_unit us w) queue2))
+            (due_of_record (queue_of q2) (change_unit u f domains) u (f x) (rtds_unit-same u f domains x at)
             ∙ ap (λ (b : Bool). if b || is_some (f x).burned then Some (moment (f x).deadline) else None) (ap (λ (us : List UnitId). has_unit us u) queue2 ∙ has));
       }
     where

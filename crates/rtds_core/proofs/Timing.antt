@@ -1,21 +1,22 @@
 -- The armed moments after a change, and the timers that they are.
 use Rattle.std.proofs.Common.{◌≡◌, ◌≤◌, ◌<◌, ◌+◌, ◌-◌, ◌*◌, ◌/◌, ◌%◌, ℕ, zero, suc, Bool, true, false, List, [], ◌∷◌, ◌++◌, refl, arith, ap, subst, sym, ◌∙◌, inl, inr, length, take, drop}
 use Rattle.std.specs.Prelude.{Option, Some, None, slice_get, is_some, ◌||◌, ◌==◌, if◌then◌else◌}
+use Rattle.std.proofs.lemmas.Bool.{eq-eqb, cases_Bool, and_from}
 use Rattle.sched_base.specs.Numbers.{moment, domain}
 use Rattle.sched_base.specs.declared.Moment.{Moment}
 use Rattle.sched_base.specs.declared.UnitId.{UnitId}
 use Rattle.sched_model.specs.Places.{at_place, has_unit, same_unit, numbered_items}
 use Rattle.sched_model.specs.declared.state.RtdsUnit.{RtdsUnit}
-use Rattle.sched_model.specs.Eligible.{rtds_unit}
-use Rattle.sched_laws.specs.Each.{EachPlace}
-use Rattle.sched_laws.proofs.Bools.{either, clash, both, is_same}
+use Rattle.sched_model.specs.EligibleUnits.{rtds_unit}
+use Rattle.sched_laws.specs.EachPlace.{EachPlace}
+use Rattle.sched_base.proofs.Bools.{clash}
 use Rattle.sched_laws.proofs.Choices.{same_unit_same}
 use Rattle.sched_laws.proofs.EachPlace.{length_set, at_place-set_other}
 use Rattle.sched_ops.specs.declared.timer.Timer.TheVariants.{Repl}
 use Rattle.sched_ops.specs.Timers.{Armed, unit_timers, replenishments}
 use Rattle.due_heap.specs.Dues.{due_of, IsArmed}
 use Rattle.rtds_core.specs.Alarms.{armed_timers, unit_of, id_of, with_due}
-use Rattle.rtds_core.specs.Kept.{AreArmed, due_for}
+use Rattle.rtds_core.specs.RtdsParts.{AreArmed, due_for}
 use Rattle.rtds_core.proofs.Armed.{none_armed}
 use Rattle.rtds_core.proofs.Changed.{IsLow, at_place-set, unit_in}
 
@@ -24,7 +25,7 @@ same_id : (u w : UnitId) → u.n < 32 → w.n < 32 → id_of u ≡ id_of w → s
 same_id u w low_u low_w same =
     let n : u.n ≡ w.n = omega (arith, same, low_u, low_w) in
     let d : u.dom.0 ≡ w.dom.0 = omega (arith, same, n) in
-    both (u.dom.0 == w.dom.0) (u.n == w.n) (is_same u.dom.0 w.dom.0 d) (is_same u.n w.n n)
+    and_from (u.dom.0 == w.dom.0) (u.n == w.n) (eq-eqb u.dom.0 w.dom.0 d) (eq-eqb u.n w.n n)
 
 -- what a unit's moment depends on
 pub due_alike : (queue queue2 : List UnitId) (domains domains2 : List (Option (List RtdsUnit))) (w : UnitId) → rtds_unit domains2 w ≡ rtds_unit domains w → has_unit queue2 w ≡ has_unit queue w → due_for queue2 domains2 w ≡ due_for queue domains w
@@ -40,7 +41,7 @@ pub armed_changed : (queue queue2 : List UnitId) (domains domains2 : List (Optio
     → ((w : UnitId) → same_unit u w ≡ false → due_for queue2 domains2 w ≡ due_for queue domains w) → due_for queue2 domains2 u ≡ o → AreArmed queue2 domains2 (with_due u o dues)
 armed_changed queue queue2 domains domains2 dues u o low is others own = record {
   count = length_set (id_of u) o dues ∙ is.count;
-  each = λ w low_w. elim (either (same_unit u w)) [
+  each = λ w low_w. elim (cases_Bool (same_unit u w)) [
     | inl same ↦
         let e : u ≡ w = same_unit_same u w same in
         let count = is.count in

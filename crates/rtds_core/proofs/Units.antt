@@ -5,8 +5,8 @@ use Rattle.sched_base.specs.Numbers.{domain}
 use Rattle.sched_base.specs.declared.UnitId.{UnitId}
 use Rattle.sched_model.specs.Places.{at_place, has_unit, same_unit, without_unit}
 use Rattle.sched_model.specs.declared.state.RtdsUnit.{RtdsUnit}
-use Rattle.sched_model.specs.Eligible.{rtds_unit}
-use Rattle.sched_laws.proofs.Bools.{either, clash, or_left, or_right, both, is_same}
+use Rattle.sched_model.specs.EligibleUnits.{rtds_unit}
+use Rattle.sched_base.proofs.Bools.{clash, or_left, or_right}
 use Rattle.sched_laws.proofs.Choices.{same_unit_same}
 use Rattle.sched_laws.proofs.Counts.{same_unit_refl}
 use Rattle.sched_laws.proofs.EachPlace.{by_option}
@@ -16,9 +16,9 @@ use Rattle.arrival_queue.specs.Queues.{has_unit as has_queued}
 use Rattle.queue_laws.specs.Arrivals.{arrival_order, arrivals, LacksUnit, HasUnits, HasIndices}
 use Rattle.queue_laws.proofs.Arrivals.{ins}
 use Rattle.queue_laws.proofs.Removed.{has_arrived}
-use Rattle.rtds_core.specs.Kept.{total}
+use Rattle.rtds_core.specs.RtdsParts.{total}
 use Rattle.std.proofs.Math.Bool.{or-false, or-true, or_assoc, and-false}
-use Rattle.std.proofs.lemmas.Bool.{or_right as or_second}
+use Rattle.std.proofs.lemmas.Bool.{or_right as or_second, eq-eqb, cases_Bool, and_from}
 
 pub same_sym : (u w : UnitId) → same_unit u w ≡ same_unit w u
 same_sym u w = grind arith
@@ -32,7 +32,7 @@ pub has_without : (u w : UnitId) (units : List UnitId) → has_unit (without_uni
 has_without u w [] = sym (and-false (not (same_unit u w)))
 has_without u w (x ∷ units) =
     let rest = has_without u w units in
-    elim (either (same_unit u x)) [
+    elim (cases_Bool (same_unit u x)) [
       | inl mine ↦
           let is : u ≡ x = same_unit_same u x mine in
           ap (λ (b : Bool). has_unit (if not b then x ∷ without_unit u units else without_unit u units) w) mine ∙ rest
@@ -60,7 +60,7 @@ filter_short p (u ∷ units) =
 without_short : (u : UnitId) (units : List UnitId) → has_unit units u ≡ true → length (without_unit u units) + 1 ≤ length units
 without_short u [] has = absurd (cc)
 without_short u (x ∷ units) has =
-    elim (either (same_unit u x)) [
+    elim (cases_Bool (same_unit u x)) [
       | inl mine ↦
           let short = filter_short (λ w. not (same_unit u w)) units in
           subst (λ (b : Bool). length (if not b then x ∷ without_unit u units else without_unit u units) + 1 ≤ length (x ∷ units)) (sym mine) (omega (arith, short))
@@ -76,11 +76,11 @@ few_units [] pool apart within = omega arith
 few_units (x ∷ units) pool apart within =
     let here : has_unit pool x ≡ true = within x (ap (λ (b : Bool). b || has_unit units x) (same_unit_refl x)) in
     let short = without_short x pool here in
-    let rest = few_units units (without_unit x pool) apart.1 (λ w has. has_without x w pool ∙ both (not (same_unit x w)) (has_unit pool w) (apart_from w has) (within w (later w has))) in
+    let rest = few_units units (without_unit x pool) apart.1 (λ w has. has_without x w pool ∙ and_from (not (same_unit x w)) (has_unit pool w) (apart_from w has) (within w (later w has))) in
     omega (arith, short, rest)
   where
     apart_from : (w : UnitId) → has_unit units w ≡ true → not (same_unit x w) ≡ true
-    apart_from w has = elim (either (same_unit x w)) [
+    apart_from w has = elim (cases_Bool (same_unit x w)) [
       | inl same ↦ absurd (clash (has_unit units x) (subst (λ (v : UnitId). has_unit units v ≡ true) (sym (same_unit_same x w same)) has) apart.0)
       | inr other ↦ ap not other
     ]
@@ -115,7 +115,7 @@ has_name : {X : Type 0} (k j i : ℕ) (xs : List X) (x : X) → slice_get xs i �
 has_name k j i [] x at = absurd (cc)
 has_name k j zero (y ∷ xs) x at =
     let e : j + 0 ≡ j = omega arith in
-    ap (λ (b : Bool). b || has_unit (names k (suc j) xs) (record { dom = domain k; n = j + 0 })) (both (k == k) ((j + 0) == j) (is_same k k refl) (is_same (j + 0) j e))
+    ap (λ (b : Bool). b || has_unit (names k (suc j) xs) (record { dom = domain k; n = j + 0 })) (and_from (k == k) ((j + 0) == j) (eq-eqb k k refl) (eq-eqb (j + 0) j e))
 has_name k j (suc i) (y ∷ xs) x at =
     let e : suc j + i ≡ j + suc i = omega arith in
     let rest : has_unit (names k (suc j) xs) (record { dom = domain k; n = j + suc i }) ≡ true = subst (λ (n : ℕ). has_unit (names k (suc j) xs) (record { dom = domain k; n = n }) ≡ true) e (has_name k (suc j) i xs x at) in
@@ -176,16 +176,4 @@ apart_arrivals (e ∷ es) units lows =
         elim (nat_lt e.rank x.rank) as (λ t. IsApart (map (λ (y : Queued). y.unit) (if t then e ∷ x ∷ xs else x ∷ ins e xs))) [
           | true ↦ (none, apart)
           | false ↦ (has_ins x.unit e xs ∙ ap (λ (b : Bool). b || has_unit (map (λ (y : Queued). y.unit) xs) x.unit) (same_sym x.unit e.unit ∙ other) ∙ apart.0, put_apart e xs apart.1 rest)
-        ]
-
-pub length_arrivals : (es : List Queued) → length (arrivals es) ≡ length es
-length_arrivals [] = refl
-length_arrivals (e ∷ es) = put (arrival_order es) ∙ ap suc (length_arrivals es)
-  where
-    put : (xs : List Queued) → length (map (λ (x : Queued). x.unit) (ins e xs)) ≡ suc (length (map (λ (x : Queued). x.unit) xs))
-    put [] = refl
-    put (x ∷ xs) =
-        elim (nat_lt e.rank x.rank) as (λ t. length (map (λ (y : Queued). y.unit) (if t then e ∷ x ∷ xs else x ∷ ins e xs)) ≡ suc (suc (length (map (λ (y : Queued). y.unit) xs)))) [
-          | true ↦ refl
-          | false ↦ ap suc (put xs)
         ]

@@ -11,16 +11,16 @@ use Rattle.arrival_queue.specs.Queues.{Queued}
 use Rattle.rtds_queue.specs.Lists.{Lists}
 use Rattle.queue_laws.specs.Arrivals.{arrivals}
 use Rattle.rtds_core.specs.Best.{queue_of, IsEligible, IsSpent}
-use Rattle.rtds_core.specs.Kept.{IsKept}
+use Rattle.rtds_core.specs.RtdsParts.{IsKept}
 use Rattle.std.specs.List.{list_any}
+use Rattle.std.proofs.lemmas.Bool.{not-true}
 use Rattle.sched_model.specs.declared.config.PoolParams.TheVariants as pool_params
 use Rattle.sched_model.specs.declared.state.Scheduler.{Scheduler}
 use Rattle.sched_model.specs.declared.state.Records.TheVariants.{RtdsPool}
-use Rattle.sched_laws.proofs.Bools.{not_true}
 use Rattle.sched_ops.specs.Seen.{restarted_scheduler}
 use Rattle.sched_ops.specs.Conditions.{is_vacant}
 use Rattle.queue_laws.specs.Arrivals.{arrivals}
-use Rattle.rtds_core.specs.Kept.{seen_of}
+use Rattle.rtds_core.specs.RtdsParts.{seen_of}
 use Rattle.rtds_core.proofs.Joining.{no_record, absent_size}
 
 -- places that are all empty
@@ -40,7 +40,7 @@ with_parts us a ds = record { queue = us; affinity = a; records = RtdsPool ds }
 pub vacant_same : (domains : List (Option (List RtdsUnit))) (affinity : List (Option (List Cores))) (q : Lists) (masks : List Cores) (dues : List (Option Moment)) (spare latest : ℕ) → IsKept domains affinity q masks dues spare latest
     → is_vacant (seen_of domains affinity q spare latest).scheduler ≡ true → restarted_scheduler pool_params.Rtds (seen_of domains affinity q spare latest).scheduler ≡ (seen_of domains affinity q spare latest).scheduler
 vacant_same domains affinity q masks dues spare latest kept vacant =
-    let sets : (d : ℕ) → at_place affinity d ≡ None = none_some affinity (not_true (list_any is_some affinity) vacant) in
+    let sets : (d : ℕ) → at_place affinity d ≡ None = none_some affinity (not-true (list_any is_some affinity) vacant) in
     let records : (d : ℕ) → at_place domains d ≡ None = λ d. absent_size (at_place domains d) (at_place affinity d) (kept.shape.same d) (sets d) in
     let both_empty : q.eligible ++ q.spent ≡ [] = ap (λ (es : List Queued). es ++ q.spent) (no_eligible records q.eligible kept.queued.eligible) ∙ no_spent records q.spent kept.queued.spent in
     ap (λ (us : List UnitId). with_parts us (replicate (length affinity) None) (replicate (length affinity) None)) (sym (ap arrivals both_empty))

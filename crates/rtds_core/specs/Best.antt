@@ -8,7 +8,7 @@ use Rattle.sched_base.specs.declared.Moment.{Moment}
 use Rattle.sched_base.specs.declared.UnitId.{UnitId}
 use Rattle.sched_model.specs.declared.state.RtdsUnit.{RtdsUnit}
 use Rattle.sched_model.specs.Places.{at_place}
-use Rattle.sched_model.specs.Eligible.{cores_of, rtds_unit}
+use Rattle.sched_model.specs.EligibleUnits.{cores_of, rtds_unit}
 use Rattle.sched_model.specs.Rtds.{budget_left, unit_before, set_running}
 use Rattle.arrival_queue.specs.Queues.{Queued}
 use Rattle.rtds_queue.specs.declared.RtdsKey.{RtdsKey}

@@ -1,6 +1,6 @@
 pub mod Alarms
 pub mod Best
-pub mod Kept
+pub mod RtdsParts
 pub mod Masks
-pub mod Outside
-pub mod Wanted
+pub mod RtdsView
+pub mod WantedCores

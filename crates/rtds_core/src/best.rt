@@ -1,6 +1,6 @@
 //! The unit that a core takes: its own, or the first of the queue that may have the core.
 
-ghost use Rattle.sched_model.specs.Checked.{most_span};
+ghost use Rattle.sched_model.specs.CheckedMachine.{most_span};
 ghost use Rattle.std.specs.Prelude.{◌≡◌, ◌+◌, ◌<◌, ◌≤◌, ◌++◌, Some};
 ghost use Rattle.std.specs.Option.{ForSome};
 ghost use Rattle.sched_base.specs.declared.UnitId.{UnitId as UnitName};
@@ -10,11 +10,10 @@ ghost use Rattle.arrival_queue.specs.Order.{IsInOrder, EachRankOnce, EachUnitOnc
 ghost use Rattle.plain_policy.specs.Parts.{scheduler_of};
 ghost use Rattle.rtds_core.specs.Alarms.{id_of};
 ghost use Rattle.rtds_core.specs.Best.{queue_of, key_by, AreQueued, AreMasks, list_of, goes_first as goes_first_spec, due_at, deadline_in, run_from, queues_without, dues_with, dues_without};
-ghost use Rattle.rtds_core.specs.Kept.{IsShaped};
+ghost use Rattle.rtds_core.specs.RtdsParts.{IsShaped};
 
 use crate::alarms::Alarms;
-use crate::records::set_running;
-use plain_policy::rtds::{own_candidate, rtds_unit, unit_before};
+use plain_policy::rtds::{budget_left, own_candidate, rtds_unit, set_running, unit_before};
 use rtds_queue::{RtdsKey, RtdsQueues};
 use sched_base::{Cores, Moment, ResId, UnitId};
 use sched_model::ask::Ask;
@@ -30,16 +29,6 @@ pub fn key_of(x: &RtdsUnit) -> RtdsKey
     RtdsKey {
         level: x.level,
         deadline: Moment(x.deadline),
-    }
-}
-
-/// The budget that is left to the unit, in nanoseconds.
-fn budget_left(domains: &[Option<RtdsUnits>], u: UnitId) -> u64
-    ensures { result ≡ budget_left_spec domains.now u }
-{
-    match rtds_unit(domains, u) {
-        None => 0,
-        Some(unit) => unit.left,
     }
 }
 

@@ -7,10 +7,10 @@
 
 mod alarms;
 mod best;
-mod held;
 mod masks;
 mod records;
 mod rtds;
+mod state;
 mod wanted;
 
 pub use rtds::Rtds;

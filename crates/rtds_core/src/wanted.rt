@@ -4,9 +4,9 @@ ghost use Rattle.std.specs.Prelude.{◌≡◌, ◌≤◌, ◌<◌, ℕ, length, 
 ghost use Rattle.sched_base.specs.CoreSets.{has_core as has, is_allowed as allowed};
 ghost use Rattle.sched_model.specs.Places.{at_place};
 ghost use Rattle.arrival_queue.specs.Order.{IsInOrder};
-ghost use Rattle.sched_ops.specs.Wanted.{IsAnswer};
+ghost use Rattle.sched_ops.specs.WantedCores.{IsAnswer};
 ghost use Rattle.rtds_core.specs.Best.{AreQueued, goes_first as goes_first_spec};
-ghost use Rattle.rtds_core.specs.Wanted.{IsAhead, decides_anew, first_for, is_barred as is_barred_spec};
+ghost use Rattle.rtds_core.specs.WantedCores.{IsAhead, decides_anew, first_for, is_barred as is_barred_spec};
 
 use crate::best::goes_first;
 use plain_policy::rtds::unit_before;

@@ -36,7 +36,11 @@ impl Model for RtdsQueues {
 
     ghost Value = { Lists };
 
-    ghost view = { λ a. record { eligible = a.queue.sorted; spent = a.queue.others; spare = a.queue.spare } };
+    ghost view = { λ a. record {
+      eligible = a.queue.sorted;
+      spent = a.queue.others;
+      spare = a.queue.spare;
+    } };
 }
 
 /// The key by level, then by deadline.

@@ -4,6 +4,7 @@ use Rattle.std.specs.Prelude.{Option, Some, None, not, is_some, filter, replicat
 use Rattle.std.specs.List.{list_any}
 use Rattle.sched_base.specs.declared.UnitId.{UnitId}
 use Rattle.sched_base.specs.declared.Cores.{Cores}
+use Rattle.sched_base.proofs.Bools.{and_left, and_right, and_true, and_false}
 use Rattle.sched_model.specs.declared.config.PoolParams.{PoolParams}
 use Rattle.sched_model.specs.declared.config.PoolParams.TheVariants as pool_params
 use Rattle.sched_model.specs.declared.config.SchedKind.TheVariants as kinds
@@ -11,7 +12,7 @@ use Rattle.sched_model.specs.declared.state.Records.{Records}
 use Rattle.sched_model.specs.declared.state.Records.TheVariants.{NullPool}
 use Rattle.sched_model.specs.State.{has_core}
 use Rattle.sched_model.specs.Places.{at_place, has_unit, is_unit, same_unit}
-use Rattle.sched_model.specs.Eligible.{is_allowed_by, is_placed, is_taken, has_place, is_eligible, eligible_units}
+use Rattle.sched_model.specs.EligibleUnits.{is_allowed_by, is_placed, is_taken, has_place, is_eligible, eligible_units}
 use Rattle.sched_model.specs.NullScheduler.{earliest_unit}
 use Rattle.sched_model.specs.Policy.{fresh_records}
 use Rattle.sched_laws.proofs.Choices.{same_unit_same}
@@ -22,22 +23,6 @@ use Rattle.plain_policy.specs.Parts.{scheduler_of}
 use Rattle.pool_units.specs.Units.{Units, is_member}
 use Rattle.pool_units.proofs.Waiting.{first_of_one, any_of_none}
 use Rattle.pool_units.proofs.Whole.{affinity_of_vacant, queue_of_vacant}
-
-and_true : (b : Bool) → (b && true) ≡ b
-and_true true = refl
-and_true false = refl
-
-and_false : (b : Bool) → (b && false) ≡ false
-and_false true = refl
-and_false false = refl
-
-left_of : (a b : Bool) → (a && b) ≡ true → a ≡ true
-left_of true b both = refl
-left_of false b both = absurd (cc)
-
-right_of : (a b : Bool) → (a && b) ≡ true → b ≡ true
-right_of true b both = both
-right_of false b both = absurd (cc)
 
 or_false : (b : Bool) → (b || false) ≡ b
 or_false true = refl
@@ -54,8 +39,8 @@ pub given_to_kept : (units : Units) (kept : List (Option UnitId)) (home core : �
     → is_placed (scheduler_of units.queue units.affinity (NullPool kept)) kept home core w ≡ true
 given_to_kept units kept home core w at may =
     let own : is_unit (at_place kept core) w ≡ true = ap (λ (o : Option UnitId). is_unit o w) at ∙ same_unit_refl w in
-    let here : has_core home core ≡ true = left_of (has_core home core) (is_allowed_by units.affinity home core w) may in
-    let allowed : is_allowed_by units.affinity home core w ≡ true = right_of (has_core home core) (is_allowed_by units.affinity home core w) may in
+    let here : has_core home core ≡ true = and_left (has_core home core) (is_allowed_by units.affinity home core w) may in
+    let allowed : is_allowed_by units.affinity home core w ≡ true = and_right (has_core home core) (is_allowed_by units.affinity home core w) may in
     rw (own, here, allowed) refl
 
 -- where the core is given to a unit, that one alone is eligible for it
@@ -67,7 +52,7 @@ first_of_placed units kept home core w at placed =
     ∙ ap (λ b. cond b (Some w) None) (and_true (has_unit units.queue w))
   where
     allowed : is_allowed_by units.affinity home core w ≡ true
-    allowed = right_of (is_unit (at_place kept core) w && has_core home core) (is_allowed_by units.affinity home core w) placed
+    allowed = and_right (is_unit (at_place kept core) w && has_core home core) (is_allowed_by units.affinity home core w) placed
 
     taken : is_taken (scheduler_of units.queue units.affinity (NullPool kept)) kept home core ≡ true
     taken = ap (λ (o : Option UnitId). elim o as (λ _. Bool) [ None ↦ false | Some u ↦ is_placed (scheduler_of units.queue units.affinity (NullPool kept)) kept home core u ]) at ∙ placed
@@ -79,9 +64,9 @@ first_of_placed units kept home core w at placed =
     only u is =
         let given : Bool = is_placed (scheduler_of units.queue units.affinity (NullPool kept)) kept home core u in
         let nowhere : Bool = not (has_place (scheduler_of units.queue units.affinity (NullPool kept)) kept home u) in
-        let passes_rule : (given || (nowhere && not (is_taken (scheduler_of units.queue units.affinity (NullPool kept)) kept home core))) ≡ true = right_of (is_allowed_by units.affinity home core u) _ is in
+        let passes_rule : (given || (nowhere && not (is_taken (scheduler_of units.queue units.affinity (NullPool kept)) kept home core))) ≡ true = and_right (is_allowed_by units.affinity home core u) _ is in
         let own : given ≡ true = sym (or_false given) ∙ ap (λ b. given || b) (sym (and_false nowhere)) ∙ ap (λ b. given || (nowhere && not b)) (sym taken) ∙ passes_rule in
-        let there : is_unit (at_place kept core) u ≡ true = left_of (is_unit (at_place kept core) u) (has_core home core) (left_of (is_unit (at_place kept core) u && has_core home core) (is_allowed_by units.affinity home core u) own) in
+        let there : is_unit (at_place kept core) u ≡ true = and_left (is_unit (at_place kept core) u) (has_core home core) (and_left (is_unit (at_place kept core) u && has_core home core) (is_allowed_by units.affinity home core u) own) in
         let same : same_unit w u ≡ true = ap (λ o. is_unit o u) (sym at) ∙ there in
         sym (same_unit_same w u same)
 

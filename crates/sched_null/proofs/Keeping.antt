@@ -2,13 +2,13 @@
 use Rattle.std.proofs.Common.{◌≡◌, ℕ, zero, suc, Bool, true, false, List, [], ◌∷◌, refl, arith, subst, sym, ◌∙◌, ap, cond, inl, inr}
 use Rattle.std.specs.Prelude.{Option, Some, None}
 use Rattle.sched_base.specs.declared.UnitId.{UnitId}
-use Rattle.sched_model.specs.Places.{at_place, clear_at, is_unit, same_unit}
+use Rattle.sched_model.specs.Places.{at_place, clear_at, same_unit}
 use Rattle.sched_model.specs.NullScheduler.{kept_without, kept_for}
 use Rattle.sched_laws.proofs.Choices.{same_unit_same}
 use Rattle.sched_laws.proofs.Counts.{same_unit_refl}
 use Rattle.sched_laws.proofs.EachPlace.{read_put_at, read_clear_at, length_set}
 use Rattle.sched_laws.proofs.NullKept.{read_released, length_released}
-use Rattle.sched_null.specs.Keeping.{IsKept}
+use Rattle.sched_null.specs.KeptCores.{IsKept}
 
 pub kept_leave : (core : ℕ) (kept : List (Option UnitId)) → IsKept kept → IsKept (clear_at core kept)
 kept_leave core kept is =
@@ -66,8 +66,3 @@ keep_same (suc core) u (Some w ∷ kept) others at =
 
 pub kept_already : (core : ℕ) (u : UnitId) (kept : List (Option UnitId)) → IsKept kept → at_place kept core ≡ Some u → kept ≡ kept_for core u kept
 kept_already core u kept is at = sym (keep_same core u kept (λ q there. is.once q core u there at) at)
-
--- what stands there, by a test
-pub unit_there : (there : Option UnitId) (u : UnitId) → is_unit there u ≡ true → there ≡ Some u
-unit_there None u is = absurd (cc)
-unit_there (Some w) u is = ap Some (same_unit_same w u is)

@@ -21,7 +21,7 @@ pub struct Kept {
 impl Model for Kept {
     ghost use Rattle.std.specs.Prelude.{List, Option, [], unwrap_or};
     ghost use Rattle.sched_base.specs.declared.UnitId.{UnitId as UnitName};
-    ghost use Rattle.sched_null.specs.Keeping.{IsKept};
+    ghost use Rattle.sched_null.specs.KeptCores.{IsKept};
 
     ghost Value = { List (Option UnitName) };
 
@@ -64,7 +64,8 @@ fn release_unit(places: &mut Option<Row<Option<UnitId>>>, u: UnitId)
 
 /// No core is kept for a unit of the domain any more.
 fn release_units(places: &mut Option<Row<Option<UnitId>>>, d: DomId)
-    ensures { unwrap_or places.new [] ≡ kept_without (λ u. u.dom.0 == d.0) (unwrap_or places.old []) }
+    ensures { unwrap_or places.new []
+        ≡ kept_without (λ u. u.dom.0 == d.0) (unwrap_or places.old []) }
 {
     if let Some(kept) = places {
         release_domain(d, kept);

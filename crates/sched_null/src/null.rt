@@ -4,7 +4,7 @@ ghost use Rattle.std.specs.Prelude.{◌≡◌, ◌≤◌, ◌<◌, ◌&&◌, ℕ
 ghost use Rattle.sched_model.specs.Places.{has_unit};
 ghost use Rattle.sched_model.specs.declared.state.Records.TheVariants.{NullPool};
 ghost use Rattle.sched_model.specs.State.{has_core as has_core_spec};
-ghost use Rattle.sched_model.specs.Eligible.{is_allowed_by, is_placed as is_placed_spec, eligible_units};
+ghost use Rattle.sched_model.specs.EligibleUnits.{is_allowed_by, is_placed as is_placed_spec, eligible_units};
 ghost use Rattle.sched_model.specs.Policy.{better_waits};
 ghost use Rattle.sched_model.specs.NullScheduler.{earliest_unit, choice as choice_spec, null_decision};
 ghost use Rattle.plain_policy.specs.Parts.{scheduler_of};
@@ -41,7 +41,12 @@ impl Model for Null {
 
     ghost Value = { Seen };
 
-    ghost view = { λ a. record { scheduler = scheduler_of a.units.queue a.units.affinity (NullPool a.kept); spare = a.units.spare; latest = a.latest } };
+    ghost view = { λ a.
+        record {
+          scheduler = scheduler_of a.units.queue a.units.affinity (NullPool a.kept);
+          spare = a.units.spare;
+          latest = a.latest;
+        } };
 }
 
 /// Whether the unit may have a core that is kept for it: the core is one of the pool's, and is allowed.
@@ -177,16 +182,11 @@ fn decide(units: &PoolUnits, kept: &mut Kept, ask: &Ask) -> Choice
 impl Null {
     ghost use Rattle.std.specs.Prelude.{◌≡◌};
     ghost use Rattle.sched_model.specs.declared.config.SchedKind.TheVariants as kinds;
-    ghost use Rattle.sched_model.specs.Policy.{default_pool_params};
-    ghost use Rattle.sched_ops.specs.Seen.{vacant_scheduler};
+    ghost use Rattle.sched_ops.specs.Seen.{bare_seen};
 
     /// No domain and no place for one, and no core. It has no memory.
     pub fn empty() -> Self
-        ensures { result ≡ record {
-          scheduler = vacant_scheduler (default_pool_params kinds.Null) 0 0;
-          spare = 0;
-          latest = 0;
-        } }
+        ensures { result ≡ bare_seen kinds.Null }
     {
         Null {
             units: PoolUnits::empty(),

@@ -1,33 +1,23 @@
 -- Which units have a place, and that no two have the same.
-use Rattle.std.proofs.Common.{◌≡◌, ◌<◌, ℕ, Bool, true, false, refl, ◌∙◌, ap, arith}
-use Rattle.std.specs.Prelude.{◌&&◌, nat_lt}
+use Rattle.std.proofs.Common.{◌≡◌, ◌<◌, ℕ, true, ◌∙◌, ap, arith}
+use Rattle.std.specs.Prelude.{nat_lt}
 use Rattle.std.proofs.lemmas.Bool.Decides.{nat_tests}
+use Rattle.std.proofs.lemmas.Bool.{and_from}
 use Rattle.sched_base.specs.declared.UnitId.{UnitId}
 use Rattle.sched_base.specs.Units.{number_of}
+use Rattle.sched_base.proofs.Bools.{and_left, and_right}
 use Rattle.unit_places.specs.Places.{has_place, index_of}
-
-both : (a b : Bool) → a ≡ true → b ≡ true → (a && b) ≡ true
-both true b x y = y
-both false b x y = absurd (cc)
-
-left : (a b : Bool) → (a && b) ≡ true → a ≡ true
-left true b is = refl
-left false b is = absurd (cc)
-
-right : (a b : Bool) → (a && b) ≡ true → b ≡ true
-right true b is = is
-right false b is = absurd (cc)
 
 -- a unit of the first 64 domains and one of the first 32 of its domain has a place
 pub placed : (u : UnitId) → u.dom.0 < 64 → u.n < 32 → has_place u ≡ true
-placed u d n = both (nat_lt u.dom.0 64) (nat_lt u.n 32) (grind (arith, nat_tests, d)) (grind (arith, nat_tests, n))
+placed u d n = and_from (nat_lt u.dom.0 64) (nat_lt u.n 32) (grind (arith, nat_tests, d)) (grind (arith, nat_tests, n))
 
 -- and no other
 pub low_domain : (u : UnitId) → has_place u ≡ true → u.dom.0 < 64
-low_domain u has = (let t = left (nat_lt u.dom.0 64) (nat_lt u.n 32) has in grind (arith, nat_tests, t))
+low_domain u has = (let t = and_left (nat_lt u.dom.0 64) (nat_lt u.n 32) has in grind (arith, nat_tests, t))
 
 pub low_unit : (u : UnitId) → has_place u ≡ true → u.n < 32
-low_unit u has = (let t = right (nat_lt u.dom.0 64) (nat_lt u.n 32) has in grind (arith, nat_tests, t))
+low_unit u has = (let t = and_right (nat_lt u.dom.0 64) (nat_lt u.n 32) has in grind (arith, nat_tests, t))
 
 -- its number is below 2048
 pub low_index : (u : UnitId) → has_place u ≡ true → index_of u < 2048

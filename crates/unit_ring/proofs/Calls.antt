@@ -1,8 +1,6 @@
 -- The calls that move a node, each as what callers see of it.
 use Rattle.std.proofs.Common.{◌≡◌, ℕ, zero, suc, ◌+◌, ◌-◌, ◌<◌, ◌≤◌, List, [], ◌∷◌, ◌++◌, length, set, Bool, true, false, refl, sym, ◌∙◌, ap, subst, inl, inr, arith, length-set, length-append}
-use Rattle.std.specs.Prelude.{◌||◌, if◌then◌else◌, Option, None}
-use Rattle.unit_ring.specs.declared.Node.{Node}
-use Rattle.std.proofs.lemmas.Bool.{cases_eq}
+use Rattle.std.specs.Prelude.{◌==◌, ◌||◌, if◌then◌else◌, None}
 use Rattle.std.proofs.lemmas.List.{get_or-set_same}
 use Rattle.sched_base.specs.declared.UnitId.{UnitId}
 use Rattle.unit_ring.specs.Lists as l
@@ -78,13 +76,11 @@ without_live f g us n ring live =
     ∙ fenced-without n (nodes_of f) (second_of f) (free_of f) (live_high f g us n ring live)
     ∙ ap (fenced_numbers (numbers_without n (nodes_of f)) (numbers_without n (second_of f))) (without-lacks n (free_of f) (live_lacks_free f g us n ring live))
 
--- a node with its unit at the end of a list
-items-end : (us : List UnitId) (n : ℕ) (u : UnitId) (xs : List ℕ) → Lacks n xs → n < length us
-    → items (set us n u) (xs ++ n ∷ []) ≡ items us xs ++ item n u ∷ []
-items-end us n u xs lacks low =
-    items-append (set us n u) xs (n ∷ [])
-    ∙ ap (λ (zs : List Item). zs ++ item n (unit_at (set us n u) n) ∷ []) (items-set us n u xs lacks)
-    ∙ ap (λ (w : UnitId). items us xs ++ item n w ∷ []) (get_or-set_same us n u no_unit low)
+-- what holds of list 0 and of list 1
+of_lists : (P : ℕ → Type 0) → P 0 → P 1 → (k : ℕ) → k ≤ 1 → P k
+of_lists P first second zero low = first
+of_lists P first second (suc zero) low = second
+of_lists P first second (suc (suc k)) low = absurd (omega (arith, low))
 
 spare_less : (n : ℕ) (zs rest : List ℕ) → zs ≡ n ∷ rest → length rest ≡ length zs - 1
 spare_less n zs rest e =
@@ -92,6 +88,37 @@ spare_less n zs rest e =
 
 abbrev lists : List Item → List Item → ℕ → Lists
 lists xs ys k = record { first = xs; second = ys; spare = k }
+
+append_taken : (ls : Lists) (k : ℕ) (x : Item) → after_append (after_take ls) k x ≡ after_take (after_append ls k x)
+append_taken ls k x =
+    elim (k == 0) as (λ t. (if t then record (after_take ls) { first = ls.first ++ x ∷ [] } else record (after_take ls) { second = ls.second ++ x ∷ [] }) ≡ after_take (if t then record ls { first = ls.first ++ x ∷ [] } else record ls { second = ls.second ++ x ∷ [] })) [
+      | true ↦ refl
+      | false ↦ refl
+    ]
+
+-- what the links hold once a node went to the end of a list; the lists had these items before
+module _ (f g : List ℕ) (us : List UnitId) (n : ℕ) (u : UnitId) (xs ys zs : List ℕ) (first second : List Item)
+    (whole : IsChain f g (chain f)) (places : length us ≡ length f) (plain_first : Plain xs) (plain_second : Plain ys) (plain_free : Plain zs)
+    (is_first : items us xs ≡ first) (is_second : items us ys ≡ second) (mine : unit_at us n ≡ u) where
+  end_of : (ws : List ℕ) (before : List Item) → items us ws ≡ before → items us (ws ++ n ∷ []) ≡ before ++ item n u ∷ []
+  end_of ws before is =
+      items-append us ws (n ∷ []) ∙ ap (λ (vs : List Item). vs ++ item n (unit_at us n) ∷ []) is ∙ ap (λ (w : UnitId). before ++ item n w ∷ []) mine
+
+  ended : (k : ℕ) → k ≤ 1 → chain f ≡ put_before (k + 1) n (fenced_numbers xs ys zs)
+      → IsRing f g us × (lists_of f us ≡ after_append (lists first second (length zs)) k (item n u))
+  ended = of_lists (λ k. chain f ≡ put_before (k + 1) n (fenced_numbers xs ys zs) → IsRing f g us × (lists_of f us ≡ after_append (lists first second (length zs)) k (item n u)))
+      (λ moved. (let m = made f g us (xs ++ n ∷ []) ys zs whole (moved ∙ fenced-first_end n xs ys zs plain_first plain_second plain_free) places in (
+        m.ring,
+        m.lists
+            ∙ ap (λ (vs : List Item). lists vs (items us ys) (length zs)) (end_of xs first is_first)
+            ∙ ap (λ (vs : List Item). lists (first ++ item n u ∷ []) vs (length zs)) is_second,
+      )))
+      (λ moved. (let m = made f g us xs (ys ++ n ∷ []) zs whole (moved ∙ fenced-second_end n xs ys zs plain_first plain_second plain_free) places in (
+        m.ring,
+        m.lists
+            ∙ ap (λ (vs : List Item). lists vs (items us (ys ++ n ∷ [])) (length zs)) is_first
+            ∙ ap (λ (vs : List Item). lists first vs (length zs)) (end_of ys second is_second),
+      )))
 
 -- a call's links and units, as they are after the first free node went before another number
 module _ (f g f2 g2 : List ℕ) (us : List UnitId) (n : ℕ) (u : UnitId) (ring : IsRing f g us) (first : FirstFree f n)
@@ -102,50 +129,21 @@ module _ (f g f2 g2 : List ℕ) (us : List UnitId) (n : ℕ) (u : UnitId) (ring 
   low : n < length us
   low = subst (λ (k : ℕ). n < k) (sym ring.places) (free_below f g us n ring first)
 
-  pub pushed_first : chain f2 ≡ put_before 1 n (numbers_without n (chain f))
-      → IsRing f2 g2 (set us n u) × (lists_of f2 (set us n u) ≡ after_take (after_append (lists_of f us) 0 (item n u)))
-  pushed_first moved =
-      let parts = ring_parted f g us ring in
-      let lacks = parts.free_only n first.has in
-      let free : Plain first.rest = Plain-tail n first.rest (subst Plain first.is parts.free) in
-      let is : chain f2 ≡ fenced_numbers (nodes_of f ++ n ∷ []) (second_of f) first.rest =
-      moved ∙ ap (put_before 1 n) (without_free f g us n ring first) ∙ fenced-first_end n (nodes_of f) (second_of f) first.rest parts.first parts.second free
-      in
-      let m = made f2 g2 (set us n u) (nodes_of f ++ n ∷ []) (second_of f) first.rest whole is places in (
-        m.ring,
-        m.lists
-            ∙ ap (λ (xs : List Item). lists xs (items (set us n u) (second_of f)) (length first.rest)) (items-end us n u (nodes_of f) lacks.0 low)
-            ∙ ap (λ (ys : List Item). lists (items us (nodes_of f) ++ item n u ∷ []) ys (length first.rest)) (items-set us n u (second_of f) lacks.1)
-            ∙ ap (lists (items us (nodes_of f) ++ item n u ∷ []) (items us (second_of f))) (spare_less n (free_of f) first.rest first.is),
-      )
-
-  pub pushed_second : chain f2 ≡ put_before 2 n (numbers_without n (chain f))
-      → IsRing f2 g2 (set us n u) × (lists_of f2 (set us n u) ≡ after_take (after_append (lists_of f us) 1 (item n u)))
-  pushed_second moved =
-      let parts = ring_parted f g us ring in
-      let lacks = parts.free_only n first.has in
-      let free : Plain first.rest = Plain-tail n first.rest (subst Plain first.is parts.free) in
-      let is : chain f2 ≡ fenced_numbers (nodes_of f) (second_of f ++ n ∷ []) first.rest =
-      moved ∙ ap (put_before 2 n) (without_free f g us n ring first) ∙ fenced-second_end n (nodes_of f) (second_of f) first.rest parts.first parts.second free
-      in
-      let m = made f2 g2 (set us n u) (nodes_of f) (second_of f ++ n ∷ []) first.rest whole is places in (
-        m.ring,
-        m.lists
-            ∙ ap (λ (xs : List Item). lists xs (items (set us n u) (second_of f ++ n ∷ [])) (length first.rest)) (items-set us n u (nodes_of f) lacks.0)
-            ∙ ap (λ (ys : List Item). lists (items us (nodes_of f)) ys (length first.rest)) (items-end us n u (second_of f) lacks.1 low)
-            ∙ ap (lists (items us (nodes_of f)) (items us (second_of f) ++ item n u ∷ [])) (spare_less n (free_of f) first.rest first.is),
-      )
-
   -- at the end of either list
   pub pushed : (k : ℕ) → k ≤ 1 → chain f2 ≡ put_before (k + 1) n (numbers_without n (chain f))
       → IsRing f2 g2 (set us n u) × (lists_of f2 (set us n u) ≡ after_take (after_append (lists_of f us) k (item n u)))
   pushed k either moved =
-      let Goal : ℕ → Type 0 = λ j. IsRing f2 g2 (set us n u) × (lists_of f2 (set us n u) ≡ after_take (after_append (lists_of f us) j (item n u))) in
-      let Moved : ℕ → Type 0 = λ j. chain f2 ≡ put_before (j + 1) n (numbers_without n (chain f)) in
-      elim (cases_eq k 0) [
-        | inl e ↦ subst Goal (sym e) (pushed_first (subst Moved e moved))
-        | inr other ↦ let one : k ≡ 1 = omega arith in subst Goal (sym one) (pushed_second (subst Moved one moved))
-      ]
+      let parts = ring_parted f g us ring in
+      let lacks = parts.free_only n first.has in
+      let free : Plain first.rest = Plain-tail n first.rest (subst Plain first.is parts.free) in
+      let e = ended f2 g2 (set us n u) n u (nodes_of f) (second_of f) first.rest (items us (nodes_of f)) (items us (second_of f)) whole places parts.first parts.second free
+      (items-set us n u (nodes_of f) lacks.0) (items-set us n u (second_of f) lacks.1) (get_or-set_same us n u no_unit low) k either (moved ∙ ap (put_before (k + 1) n) (without_free f g us n ring first))
+      in (
+        e.0,
+        e.1
+            ∙ ap (λ (s : ℕ). after_append (lists (items us (nodes_of f)) (items us (second_of f)) s) k (item n u)) (spare_less n (free_of f) first.rest first.is)
+            ∙ append_taken (lists_of f us) k (item n u),
+      )
 
   pub inserted : (at : ℕ) → is_live (lists_of f us) at ≡ true → chain f2 ≡ put_before at n (numbers_without n (chain f))
       → IsRing f2 g2 (set us n u) × (lists_of f2 (set us n u) ≡ after_take (l.put_before (lists_of f us) at (item n u)))
@@ -167,21 +165,22 @@ module _ (f g f2 g2 : List ℕ) (us : List UnitId) (n : ℕ) (u : UnitId) (ring 
             ∙ ap (lists (l.put_before_in at (item n u) (items us (nodes_of f))) (l.put_before_in at (item n u) (items us (second_of f)))) (spare_less n (free_of f) first.rest first.is),
       )
 
+-- what is told of a live node is told by the list that has it
+by_list : {X : Type 0} (f g : List ℕ) (us : List UnitId) (n : ℕ) → IsRing f g us → is_live (lists_of f us) n ≡ true → (told : List Item → X) (x : X)
+    → (Has n (nodes_of f) → x ≡ told (items us (nodes_of f))) → (Has n (second_of f) → x ≡ told (items us (second_of f)))
+    → x ≡ (if has_node n (items us (nodes_of f)) then told (items us (nodes_of f)) else told (items us (second_of f)))
+by_list {X} f g us n ring live told x first second =
+    let pick : Bool → X = λ t. if t then told (items us (nodes_of f)) else told (items us (second_of f)) in
+    elim (live_in f us n live) [
+      | inl has ↦ first has ∙ sym (ap pick (Has-has_node us n (nodes_of f) has))
+      | inr has ↦ second has ∙ sym (ap pick (has_node-lacks us n (nodes_of f) ((ring_parted f g us ring).second_only n has).0))
+    ]
+
 -- the unit of a live node
 pub unit_of_live : (f g : List ℕ) (us : List UnitId) (n : ℕ) → IsRing f g us → is_live (lists_of f us) n ≡ true
-    → unit_of (lists_of f us) n ≡ unit_at us n
+    → unit_at us n ≡ unit_of (lists_of f us) n
 unit_of_live f g us n ring live =
-    let parts = ring_parted f g us ring in
-    elim (live_in f us n live) [
-      | inl has ↦
-          ap (λ (t : Bool). if t then unit_in n (items us (nodes_of f)) else unit_in n (items us (second_of f)))
-          (Has-has_node us n (nodes_of f) has)
-          ∙ unit_in-items us n (nodes_of f) has
-      | inr has ↦
-          ap (λ (t : Bool). if t then unit_in n (items us (nodes_of f)) else unit_in n (items us (second_of f)))
-          (has_node-lacks us n (nodes_of f) (parts.second_only n has).0)
-          ∙ unit_in-items us n (second_of f) has
-    ]
+    by_list f g us n ring live (unit_in n) (unit_at us n) (λ has. sym (unit_in-items us n (nodes_of f) has)) (λ has. sym (unit_in-items us n (second_of f) has))
 
 -- a call's links, as they are after a live node went before a fence
 module _ (f g f2 g2 : List ℕ) (us : List UnitId) (n : ℕ) (ring : IsRing f g us) (live : is_live (lists_of f us) n ≡ true)
@@ -212,121 +211,51 @@ module _ (f g f2 g2 : List ℕ) (us : List UnitId) (n : ℕ) (ring : IsRing f g 
             ∙ ap (lists (l.without_in n (items us (nodes_of f))) (l.without_in n (items us (second_of f)))) more,
       )
 
-  end_of : (xs : List ℕ) → items us (xs ++ n ∷ []) ≡ items us xs ++ item n (unit_of (lists_of f us) n) ∷ []
-  end_of xs =
-      items-append us xs (n ∷ []) ∙ ap (λ (w : UnitId). items us xs ++ item n w ∷ []) (sym (unit_of_live f g us n ring live))
-
-  pub shifted_first : chain f2 ≡ put_before 1 n (numbers_without n (chain f))
-      → IsRing f2 g2 us × (lists_of f2 us ≡ after_append (l.lists_without (lists_of f us) n) 0 (item n (unit_of (lists_of f us) n)))
-  shifted_first moved =
-      let is : chain f2 ≡ fenced_numbers (numbers_without n (nodes_of f) ++ n ∷ []) (numbers_without n (second_of f)) (free_of f) =
-      moved
-      ∙ ap (put_before 1 n) (without_live f g us n ring live)
-      ∙ fenced-first_end n (numbers_without n (nodes_of f)) (numbers_without n (second_of f)) (free_of f) first_without second_without (ring_parted f g us ring).free
-      in
-      let m = made f2 g2 us (numbers_without n (nodes_of f) ++ n ∷ []) (numbers_without n (second_of f)) (free_of f) whole is kept_places in (
-        m.ring,
-        m.lists
-            ∙ ap (λ (xs : List Item). lists xs (items us (numbers_without n (second_of f))) (length (free_of f))) (end_of (numbers_without n (nodes_of f)))
-            ∙ ap (λ (xs : List Item). lists (xs ++ item n (unit_of (lists_of f us) n) ∷ []) (items us (numbers_without n (second_of f))) (length (free_of f))) (items-without us n (nodes_of f))
-            ∙ ap (λ (ys : List Item). lists (l.without_in n (items us (nodes_of f)) ++ item n (unit_of (lists_of f us) n) ∷ []) ys (length (free_of f))) (items-without us n (second_of f)),
-      )
-
-  pub shifted_second : chain f2 ≡ put_before 2 n (numbers_without n (chain f))
-      → IsRing f2 g2 us × (lists_of f2 us ≡ after_append (l.lists_without (lists_of f us) n) 1 (item n (unit_of (lists_of f us) n)))
-  shifted_second moved =
-      let is : chain f2 ≡ fenced_numbers (numbers_without n (nodes_of f)) (numbers_without n (second_of f) ++ n ∷ []) (free_of f) =
-      moved
-      ∙ ap (put_before 2 n) (without_live f g us n ring live)
-      ∙ fenced-second_end n (numbers_without n (nodes_of f)) (numbers_without n (second_of f)) (free_of f) first_without second_without (ring_parted f g us ring).free
-      in
-      let m = made f2 g2 us (numbers_without n (nodes_of f)) (numbers_without n (second_of f) ++ n ∷ []) (free_of f) whole is kept_places in (
-        m.ring,
-        m.lists
-            ∙ ap (λ (xs : List Item). lists xs (items us (numbers_without n (second_of f) ++ n ∷ [])) (length (free_of f))) (items-without us n (nodes_of f))
-            ∙ ap (λ (ys : List Item). lists (l.without_in n (items us (nodes_of f))) ys (length (free_of f))) (end_of (numbers_without n (second_of f)))
-            ∙ ap (λ (ys : List Item). lists (l.without_in n (items us (nodes_of f))) (ys ++ item n (unit_of (lists_of f us) n) ∷ []) (length (free_of f))) (items-without us n (second_of f)),
-      )
-
   -- to the end of either list
   pub shifted : (k : ℕ) → k ≤ 1 → chain f2 ≡ put_before (k + 1) n (numbers_without n (chain f))
       → IsRing f2 g2 us × (lists_of f2 us ≡ after_append (l.lists_without (lists_of f us) n) k (item n (unit_of (lists_of f us) n)))
   shifted k either moved =
-      let Goal : ℕ → Type 0 = λ j. IsRing f2 g2 us × (lists_of f2 us ≡ after_append (l.lists_without (lists_of f us) n) j (item n (unit_of (lists_of f us) n))) in
-      let Moved : ℕ → Type 0 = λ j. chain f2 ≡ put_before (j + 1) n (numbers_without n (chain f)) in
-      elim (cases_eq k 0) [
-        | inl e ↦ subst Goal (sym e) (shifted_first (subst Moved e moved))
-        | inr other ↦ let one : k ≡ 1 = omega arith in subst Goal (sym one) (shifted_second (subst Moved one moved))
-      ]
+      ended f2 g2 us n (unit_of (lists_of f us) n) (numbers_without n (nodes_of f)) (numbers_without n (second_of f)) (free_of f)
+      (l.without_in n (items us (nodes_of f))) (l.without_in n (items us (second_of f))) whole kept_places first_without second_without (ring_parted f g us ring).free
+      (items-without us n (nodes_of f)) (items-without us n (second_of f)) (unit_of_live f g us n ring live) k either (moved ∙ ap (put_before (k + 1) n) (without_live f g us n ring live))
 
 -- the chain has the fence after either list
 pub chain_has_end : (f g : List ℕ) (us : List UnitId) (k : ℕ) → IsRing f g us → k ≤ 1 → Has (k + 1) (chain f)
-chain_has_end f g us k ring either =
-    let Goal : ℕ → Type 0 = λ j. Has (j + 1) (chain f) in
-    elim (cases_eq k 0) [
-      | inl e ↦ subst Goal (sym e) (chain_has_1 f g us ring)
-      | inr other ↦ let one : k ≡ 1 = omega arith in subst Goal (sym one) (chain_has_2 f g us ring)
-    ]
+chain_has_end f g us k ring = of_lists (λ j. Has (j + 1) (chain f)) (chain_has_1 f g us ring) (chain_has_2 f g us ring) k
 
 -- where the links lead from the fence before a list, and from a live node
 pub first_is : (f g : List ℕ) (us : List UnitId) (k : ℕ) → IsRing f g us → k ≤ 1
     → as_node (link f k) ≡ first_in (list_of (lists_of f us) k)
-first_is f g us k ring either =
+first_is f g us k ring =
     let parts = ring_parted f g us ring in
-    let path = ring_path f g us ring in
-    let Goal : ℕ → Type 0 = λ j. as_node (link f j) ≡ first_in (list_of (lists_of f us) j) in
-    elim (cases_eq k 0) [
-      | inl e ↦
-          subst Goal (sym e)
-          (first_in-items f g us 0 1 (nodes_of f) (second_of f ++ 2 ∷ (free_of f ++ 3 ∷ [])) path (high (nodes_of f) parts.first) (omega arith))
-      | inr other ↦
-          let one : k ≡ 1 = omega arith in
-          subst Goal (sym one)
-          (first_in-items f g us 1 2 (second_of f) (free_of f ++ 3 ∷ []) (second_path f g us ring) (high (second_of f) parts.second) (omega arith))
-    ]
+    of_lists (λ j. as_node (link f j) ≡ first_in (list_of (lists_of f us) j))
+    (first_in-items f g us 0 1 (nodes_of f) (second_of f ++ 2 ∷ (free_of f ++ 3 ∷ [])) (ring_path f g us ring) (high (nodes_of f) parts.first) (omega arith))
+    (first_in-items f g us 1 2 (second_of f) (free_of f ++ 3 ∷ []) (second_path f g us ring) (high (second_of f) parts.second) (omega arith)) k
 
 pub next_is : (f g : List ℕ) (us : List UnitId) (n : ℕ) → IsRing f g us → is_live (lists_of f us) n ≡ true
     → as_node (link f n) ≡ next_of (lists_of f us) n
 next_is f g us n ring live =
     let parts = ring_parted f g us ring in
-    elim (live_in f us n live) [
-      | inl has ↦
-          next_in-items f g us 0 n 1 (nodes_of f) (second_of f ++ 2 ∷ (free_of f ++ 3 ∷ [])) (ring_path f g us ring) parts.first_distinct (high (nodes_of f) parts.first) (omega arith) has
-          ∙ sym (ap (λ (t : Bool). if t then next_in n (items us (nodes_of f)) else next_in n (items us (second_of f))) (Has-has_node us n (nodes_of f) has))
-      | inr has ↦
-          next_in-items f g us 1 n 2 (second_of f) (free_of f ++ 3 ∷ []) (second_path f g us ring) parts.second_distinct (high (second_of f) parts.second) (omega arith) has
-          ∙ sym (ap (λ (t : Bool). if t then next_in n (items us (nodes_of f)) else next_in n (items us (second_of f))) (has_node-lacks us n (nodes_of f) (parts.second_only n has).0))
-    ]
+    by_list f g us n ring live (next_in n) (as_node (link f n))
+    (next_in-items f g us 0 n 1 (nodes_of f) (second_of f ++ 2 ∷ (free_of f ++ 3 ∷ [])) (ring_path f g us ring) parts.first_distinct (high (nodes_of f) parts.first) (omega arith))
+    (next_in-items f g us 1 n 2 (second_of f) (free_of f ++ 3 ∷ []) (second_path f g us ring) parts.second_distinct (high (second_of f) parts.second) (omega arith))
 
 -- the same back: from the fence after a list, and from a live node
 pub last_is : (f g : List ℕ) (us : List UnitId) (k : ℕ) → IsRing f g us → k ≤ 1
     → as_node (link g (k + 1)) ≡ last_in (list_of (lists_of f us) k)
-last_is f g us k ring either =
+last_is f g us k ring =
     let parts = ring_parted f g us ring in
-    let Goal : ℕ → Type 0 = λ j. as_node (link g (j + 1)) ≡ last_in (list_of (lists_of f us) j) in
-    elim (cases_eq k 0) [
-      | inl e ↦
-          subst Goal (sym e)
-          (last_from-items f g us 0 1 None (nodes_of f) (second_of f ++ 2 ∷ (free_of f ++ 3 ∷ [])) (ring_path f g us ring) (high (nodes_of f) parts.first) (as_node-fence 0 (omega arith)))
-      | inr other ↦
-          let one : k ≡ 1 = omega arith in
-          subst Goal (sym one)
-          (last_from-items f g us 1 2 None (second_of f) (free_of f ++ 3 ∷ []) (second_path f g us ring) (high (second_of f) parts.second) (as_node-fence 1 (omega arith)))
-    ]
+    of_lists (λ j. as_node (link g (j + 1)) ≡ last_in (list_of (lists_of f us) j))
+    (last_from-items f g us 0 1 None (nodes_of f) (second_of f ++ 2 ∷ (free_of f ++ 3 ∷ [])) (ring_path f g us ring) (high (nodes_of f) parts.first) (as_node-fence 0 (omega arith)))
+    (last_from-items f g us 1 2 None (second_of f) (free_of f ++ 3 ∷ []) (second_path f g us ring) (high (second_of f) parts.second) (as_node-fence 1 (omega arith))) k
 
 pub prev_is : (f g : List ℕ) (us : List UnitId) (n : ℕ) → IsRing f g us → is_live (lists_of f us) n ≡ true
     → as_node (link g n) ≡ prev_of (lists_of f us) n
 prev_is f g us n ring live =
     let parts = ring_parted f g us ring in
-    let pick : Bool → Option Node = λ t. if t then prev_from None n (items us (nodes_of f)) else prev_from None n (items us (second_of f)) in
-    elim (live_in f us n live) [
-      | inl has ↦
-          prev_from-items f g us 0 n 1 None (nodes_of f) (second_of f ++ 2 ∷ (free_of f ++ 3 ∷ [])) (ring_path f g us ring) (high (nodes_of f) parts.first) (as_node-fence 0 (omega arith)) has
-          ∙ sym (ap pick (Has-has_node us n (nodes_of f) has))
-      | inr has ↦
-          prev_from-items f g us 1 n 2 None (second_of f) (free_of f ++ 3 ∷ []) (second_path f g us ring) (high (second_of f) parts.second) (as_node-fence 1 (omega arith)) has
-          ∙ sym (ap pick (has_node-lacks us n (nodes_of f) (parts.second_only n has).0))
-    ]
+    by_list f g us n ring live (prev_from None n) (as_node (link g n))
+    (prev_from-items f g us 0 n 1 None (nodes_of f) (second_of f ++ 2 ∷ (free_of f ++ 3 ∷ [])) (ring_path f g us ring) (high (nodes_of f) parts.first) (as_node-fence 0 (omega arith)))
+    (prev_from-items f g us 1 n 2 None (second_of f) (free_of f ++ 3 ∷ []) (second_path f g us ring) (high (second_of f) parts.second) (as_node-fence 1 (omega arith)))
 
 -- what is read at a live node
 pub read_unit : (f g : List ℕ) (us : List UnitId) (lists : Lists) (n : ℕ) (u : UnitId) → IsRing f g us → lists_of f us ≡ lists
@@ -334,7 +263,7 @@ pub read_unit : (f g : List ℕ) (us : List UnitId) (lists : Lists) (n : ℕ) (u
 read_unit f g us lists n u ring view live read =
     let live_here : is_live (lists_of f us) n ≡ true = subst (λ (ls : Lists). is_live ls n ≡ true) (sym view) live in
     read
-    ∙ sym (unit_of_live f g us n ring live_here)
+    ∙ unit_of_live f g us n ring live_here
     ∙ ap (λ (ls : Lists). unit_of ls n) view
 
 -- the numbers of nodes so far: what they lack, and how many there are
@@ -419,24 +348,15 @@ list_low f g us k ring either =
     let one = below f g (chain f) ring.whole 1 (chain_has_1 f g us ring) in omega (arith, either, one)
 
 pub list_below : (f g : List ℕ) (us : List UnitId) (k : ℕ) → IsRing f g us → k ≤ 1 → link f k < length f
-list_below f g us zero ring either = first_below f g (chain f) (length f) ring.whole.path ring.whole.below.1 (chain_has_1 f g us ring)
-list_below f g us (suc zero) ring either = after_below f g (chain f) ring.whole 1 (chain_has_1 f g us ring) (λ e. omega (arith, e))
-list_below f g us (suc (suc k)) ring either = absurd (omega (arith, either))
-
--- the fence after a list, and where the links back lead
-has_end : (f g : List ℕ) (us : List UnitId) (k : ℕ) → IsRing f g us → k ≤ 1 → Has (k + 1) (chain f)
-has_end f g us k ring either =
-    let Goal : ℕ → Type 0 = λ j. Has (j + 1) (chain f) in
-    elim (cases_eq k 0) [
-      | inl e ↦ subst Goal (sym e) (chain_has_1 f g us ring)
-      | inr other ↦ let one : k ≡ 1 = omega arith in subst Goal (sym one) (chain_has_2 f g us ring)
-    ]
+list_below f g us k ring =
+    of_lists (λ j. link f j < length f) (first_below f g (chain f) (length f) ring.whole.path ring.whole.below.1 (chain_has_1 f g us ring))
+    (after_below f g (chain f) ring.whole 1 (chain_has_1 f g us ring) (λ e. omega (arith, e))) k
 
 pub end_low : (f g : List ℕ) (us : List UnitId) (k : ℕ) → IsRing f g us → k ≤ 1 → k + 1 < length f
-end_low f g us k ring either = below f g (chain f) ring.whole (k + 1) (has_end f g us k ring either)
+end_low f g us k ring either = below f g (chain f) ring.whole (k + 1) (chain_has_end f g us k ring either)
 
 pub end_below : (f g : List ℕ) (us : List UnitId) (k : ℕ) → IsRing f g us → k ≤ 1 → link g (k + 1) < length f
-end_below f g us k ring either = before_below f g (chain f) ring.whole (k + 1) (has_end f g us k ring either)
+end_below f g us k ring either = before_below f g (chain f) ring.whole (k + 1) (chain_has_end f g us k ring either)
 
 pub live_prev : (f g : List ℕ) (us : List UnitId) (n : ℕ) → IsRing f g us → is_live (lists_of f us) n ≡ true → link g n < length f
 live_prev f g us n ring live = before_below f g (chain f) ring.whole n (live_has f g us n ring live)

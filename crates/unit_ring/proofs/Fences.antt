@@ -1,9 +1,9 @@
 -- The three lists between the fences of a chain.
 use Rattle.std.proofs.Common.{◌≡◌, ◌⊎◌, ℕ, ◌≤◌, List, [], ◌∷◌, ◌++◌, Bool, refl, sym, ◌∙◌, ap, subst, inl, inr, arith, append_assoc}
 use Rattle.std.specs.Prelude.{if◌then◌else◌}
-use Rattle.std.proofs.lemmas.Bool.{cases_eq}
+use Rattle.std.proofs.lemmas.Bool.{cases_eq, eq-eqb, ne_eqb}
 use Rattle.unit_ring.specs.Chains.{Path, Lacks, Has, Distinct, chain, numbers_before, numbers_after, fenced_numbers, nodes_of, second_of, free_of, numbers_without, put_before}
-use Rattle.unit_ring.proofs.Linking.{same_test, other_test, without-same, without-other, put_before-same, put_before-other, put_before-lacks, Lacks-Has}
+use Rattle.unit_ring.proofs.Linking.{without-same, without-other, put_before-same, put_before-other, put_before-lacks, Lacks-Has}
 
 pub Has-left : (m : ℕ) (xs ws : List ℕ) → Has m xs → Has m (xs ++ ws)
 Has-left m [] ws has = absurd has
@@ -76,15 +76,15 @@ put_before-append at n (x ∷ xs) ys =
     ]
 
 pub until-append : (m : ℕ) (xs ys : List ℕ) → Lacks m xs → numbers_before m (xs ++ m ∷ ys) ≡ xs
-until-append m [] ys lacks = ap (λ (t : Bool). if t then [] else m ∷ numbers_before m ys) (same_test m m refl)
+until-append m [] ys lacks = ap (λ (t : Bool). if t then [] else m ∷ numbers_before m ys) (eq-eqb m m refl)
 until-append m (x ∷ xs) ys lacks =
-    ap (λ (t : Bool). if t then [] else x ∷ numbers_before m (xs ++ m ∷ ys)) (other_test x m (λ e. lacks.0 (sym e)))
+    ap (λ (t : Bool). if t then [] else x ∷ numbers_before m (xs ++ m ∷ ys)) (ne_eqb x m (λ e. lacks.0 (sym e)))
     ∙ ap (λ (zs : List ℕ). x ∷ zs) (until-append m xs ys lacks.1)
 
 pub past-append : (m : ℕ) (xs ys : List ℕ) → Lacks m xs → numbers_after m (xs ++ m ∷ ys) ≡ ys
-past-append m [] ys lacks = ap (λ (t : Bool). if t then ys else numbers_after m ys) (same_test m m refl)
+past-append m [] ys lacks = ap (λ (t : Bool). if t then ys else numbers_after m ys) (eq-eqb m m refl)
 past-append m (x ∷ xs) ys lacks =
-    ap (λ (t : Bool). if t then xs ++ m ∷ ys else numbers_after m (xs ++ m ∷ ys)) (other_test x m (λ e. lacks.0 (sym e)))
+    ap (λ (t : Bool). if t then xs ++ m ∷ ys else numbers_after m (xs ++ m ∷ ys)) (ne_eqb x m (λ e. lacks.0 (sym e)))
     ∙ past-append m xs ys lacks.1
 
 -- a list has none of the fences

@@ -1,14 +1,13 @@
 -- The nodes of a list with their units.
 use Rattle.std.proofs.Common.{◌≡◌, ◌⊎◌, ℕ, ◌<◌, ◌≤◌, List, [], ◌∷◌, ◌++◌, length, set, Bool, true, false, refl, sym, ◌∙◌, ap, inl, inr, arith}
 use Rattle.std.specs.Prelude.{◌==◌, ◌||◌, if◌then◌else◌, Option, Some, None, nat_lt}
-use Rattle.std.proofs.lemmas.Bool.{cases_eq}
+use Rattle.std.proofs.lemmas.Bool.{cases_eq, eq-eqb, ne_eqb}
 use Rattle.std.proofs.lemmas.Bool.Decides.{nat_tests}
 use Rattle.std.proofs.lemmas.List.{get_or-set_same, get_or-set_other}
 use Rattle.sched_base.specs.declared.UnitId.{UnitId}
 use Rattle.unit_ring.specs.declared.Node.{Node}
 use Rattle.unit_ring.specs.Lists.{Item, item, node, no_unit, has_node, unit_in, first_in, next_in, last_from, prev_from, without_in, put_before_in}
 use Rattle.unit_ring.specs.Chains.{link, Path, Lacks, Has, Distinct, unit_at, items, as_node, numbers_without, put_before}
-use Rattle.unit_ring.proofs.Linking.{same_test, other_test}
 
 pub items-append : (us : List UnitId) (xs ys : List ℕ) → items us (xs ++ ys) ≡ items us xs ++ items us ys
 items-append us [] ys = refl
@@ -53,7 +52,7 @@ has_node-Has us n (x ∷ xs) e =
       | inl is ↦ inl (sym is)
       | inr other ↦
           let rest : has_node n (items us xs) ≡ true =
-          sym (ap (λ (t : Bool). t || has_node n (items us xs)) (other_test x n other)) ∙ e
+          sym (ap (λ (t : Bool). t || has_node n (items us xs)) (ne_eqb x n other)) ∙ e
           in
           inr (has_node-Has us n xs rest)
     ]
@@ -61,15 +60,15 @@ has_node-Has us n (x ∷ xs) e =
 pub has_node-lacks : (us : List UnitId) (n : ℕ) (xs : List ℕ) → Lacks n xs → has_node n (items us xs) ≡ false
 has_node-lacks us n [] lacks = refl
 has_node-lacks us n (x ∷ xs) lacks =
-    ap (λ (t : Bool). t || has_node n (items us xs)) (other_test x n (λ e. lacks.0 (sym e))) ∙ has_node-lacks us n xs lacks.1
+    ap (λ (t : Bool). t || has_node n (items us xs)) (ne_eqb x n (λ e. lacks.0 (sym e))) ∙ has_node-lacks us n xs lacks.1
 
 pub Has-has_node : (us : List UnitId) (n : ℕ) (xs : List ℕ) → Has n xs → has_node n (items us xs) ≡ true
 Has-has_node us n [] has = absurd has
 Has-has_node us n (x ∷ xs) has =
     elim (cases_eq x n) [
-      | inl is ↦ ap (λ (t : Bool). t || has_node n (items us xs)) (same_test x n is)
+      | inl is ↦ ap (λ (t : Bool). t || has_node n (items us xs)) (eq-eqb x n is)
       | inr other ↦
-          ap (λ (t : Bool). t || has_node n (items us xs)) (other_test x n other)
+          ap (λ (t : Bool). t || has_node n (items us xs)) (ne_eqb x n other)
           ∙ Has-has_node us n xs (elim has [ inl is ↦ absurd (other (sym is)) | inr later ↦ later ])
     ]
 
@@ -78,9 +77,9 @@ unit_in-items us n [] has = absurd has
 unit_in-items us n (x ∷ xs) has =
     elim (cases_eq x n) [
       | inl is ↦
-          ap (λ (t : Bool). if t then unit_at us x else unit_in n (items us xs)) (same_test x n is) ∙ ap (unit_at us) is
+          ap (λ (t : Bool). if t then unit_at us x else unit_in n (items us xs)) (eq-eqb x n is) ∙ ap (unit_at us) is
       | inr other ↦
-          ap (λ (t : Bool). if t then unit_at us x else unit_in n (items us xs)) (other_test x n other)
+          ap (λ (t : Bool). if t then unit_at us x else unit_in n (items us xs)) (ne_eqb x n other)
           ∙ unit_in-items us n xs (elim has [ inl is ↦ absurd (other (sym is)) | inr later ↦ later ])
     ]
 
@@ -110,11 +109,11 @@ next_in-items f g us x n e (y ∷ ys) rest path distinct high low has =
       | inl is ↦
           ap (λ (k : ℕ). as_node (link f k)) (sym is)
           ∙ first_in-items f g us y e ys rest path.2 (λ m later. high m (inr later)) low
-          ∙ sym (ap (λ (t : Bool). if t then first_in (items us ys) else next_in n (items us ys)) (same_test y n is))
+          ∙ sym (ap (λ (t : Bool). if t then first_in (items us ys) else next_in n (items us ys)) (eq-eqb y n is))
       | inr other ↦
           let later : Has n ys = elim has [ inl is ↦ absurd (other (sym is)) | inr later ↦ later ] in
           next_in-items f g us y n e ys rest path.2 distinct.1 (λ m has_m. high m (inr has_m)) low later
-          ∙ sym (ap (λ (t : Bool). if t then first_in (items us ys) else next_in n (items us ys)) (other_test y n other))
+          ∙ sym (ap (λ (t : Bool). if t then first_in (items us ys) else next_in n (items us ys)) (ne_eqb y n other))
     ]
 
 -- the links back lead from the fence after a list to its last node, and from a node to the one before it
@@ -135,9 +134,9 @@ prev_from-items f g us x n e before (y ∷ ys) rest path high starts has =
           ap (λ (k : ℕ). as_node (link g k)) (sym is)
           ∙ ap as_node path.1
           ∙ starts
-          ∙ sym (ap (λ (t : Bool). if t then before else prev_from (Some (node y)) n (items us ys)) (same_test y n is))
+          ∙ sym (ap (λ (t : Bool). if t then before else prev_from (Some (node y)) n (items us ys)) (eq-eqb y n is))
       | inr other ↦
           prev_from-items f g us y n e (Some (node y)) ys rest path.2 (λ m has_m. high m (inr has_m)) (as_node-node y (high y (inl refl)))
           (elim has [ inl is ↦ absurd (other (sym is)) | inr later ↦ later ])
-          ∙ sym (ap (λ (t : Bool). if t then before else prev_from (Some (node y)) n (items us ys)) (other_test y n other))
+          ∙ sym (ap (λ (t : Bool). if t then before else prev_from (Some (node y)) n (items us ys)) (ne_eqb y n other))
     ]

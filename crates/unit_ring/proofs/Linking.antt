@@ -1,30 +1,23 @@
 -- Links that lead along a list lead along it without a number, and with a number before another.
-use Rattle.std.proofs.Common.{◌≡◌, ◌⊎◌, ℕ, zero, suc, ◌+◌, ◌-◌, ◌<◌, List, [], ◌∷◌, length, set, Bool, true, false, refl, sym, ◌∙◌, ap, subst, inl, inr, arith, length-set}
-use Rattle.std.specs.Prelude.{◌==◌, if◌then◌else◌}
-use Rattle.std.proofs.lemmas.Bool.{cases_eq}
-use Rattle.std.proofs.lemmas.Bool.Decides.{nat_tests}
+use Rattle.std.proofs.Common.{◌≡◌, ◌⊎◌, ℕ, zero, suc, ◌+◌, ◌-◌, ◌<◌, List, [], ◌∷◌, length, set, Bool, refl, sym, ◌∙◌, ap, subst, inl, inr, arith, length-set}
+use Rattle.std.specs.Prelude.{if◌then◌else◌}
+use Rattle.std.proofs.lemmas.Bool.{cases_eq, eq-eqb, ne_eqb}
 use Rattle.std.proofs.lemmas.List.{get_or-set_same, get_or-set_other}
 use Rattle.unit_ring.specs.Chains.{link, Path, Lacks, Has, Distinct, Below, EndsIn, IsChain, follow, chain, numbers_without, put_before, after_without, before_without, after_with, before_with}
 
-pub same_test : (a b : ℕ) → a ≡ b → (a == b) ≡ true
-same_test a b e = grind (arith, nat_tests, e)
-
-pub other_test : (a b : ℕ) → (a ≡ b → ⊥) → (a == b) ≡ false
-other_test a b ne = grind (arith, nat_tests, ne)
-
 pub without-same : (n y : ℕ) (ys : List ℕ) → y ≡ n → numbers_without n (y ∷ ys) ≡ numbers_without n ys
-without-same n y ys e = ap (λ (t : Bool). if t then numbers_without n ys else y ∷ numbers_without n ys) (same_test y n e)
+without-same n y ys e = ap (λ (t : Bool). if t then numbers_without n ys else y ∷ numbers_without n ys) (eq-eqb y n e)
 
 pub without-other : (n y : ℕ) (ys : List ℕ) → (y ≡ n → ⊥) → numbers_without n (y ∷ ys) ≡ y ∷ numbers_without n ys
-without-other n y ys ne = ap (λ (t : Bool). if t then numbers_without n ys else y ∷ numbers_without n ys) (other_test y n ne)
+without-other n y ys ne = ap (λ (t : Bool). if t then numbers_without n ys else y ∷ numbers_without n ys) (ne_eqb y n ne)
 
 pub put_before-same : (at n y : ℕ) (ys : List ℕ) → y ≡ at → put_before at n (y ∷ ys) ≡ n ∷ y ∷ put_before at n ys
 put_before-same at n y ys e =
-    ap (λ (t : Bool). if t then n ∷ y ∷ put_before at n ys else y ∷ put_before at n ys) (same_test y at e)
+    ap (λ (t : Bool). if t then n ∷ y ∷ put_before at n ys else y ∷ put_before at n ys) (eq-eqb y at e)
 
 pub put_before-other : (at n y : ℕ) (ys : List ℕ) → (y ≡ at → ⊥) → put_before at n (y ∷ ys) ≡ y ∷ put_before at n ys
 put_before-other at n y ys ne =
-    ap (λ (t : Bool). if t then n ∷ y ∷ put_before at n ys else y ∷ put_before at n ys) (other_test y at ne)
+    ap (λ (t : Bool). if t then n ∷ y ∷ put_before at n ys else y ∷ put_before at n ys) (ne_eqb y at ne)
 
 pub Lacks-Has : (m n : ℕ) (ys : List ℕ) → Lacks m ys → Has n ys → m ≡ n → ⊥
 Lacks-Has m n [] lacks has e = has

@@ -1,6 +1,6 @@
 -- What each call makes of the lists that callers see.
-use Rattle.std.proofs.Common.{◌≡◌, ◌⊎◌, ℕ, ◌<◌, ◌≤◌, List, [], ◌∷◌, ◌++◌, length, Bool, true, false, refl, sym, ◌∙◌, ap, subst, inl, inr, arith}
-use Rattle.std.specs.Prelude.{◌||◌}
+use Rattle.std.proofs.Common.{◌≡◌, ◌⊎◌, ℕ, ◌<◌, ◌≤◌, List, [], ◌∷◌, ◌++◌, length, true, refl, sym, ◌∙◌, ap, subst, inl, inr, arith}
+use Rattle.std.proofs.lemmas.Bool.{or_cases}
 use Rattle.sched_base.specs.declared.UnitId.{UnitId}
 use Rattle.unit_ring.specs.Lists.{has_node, is_live}
 use Rattle.unit_ring.specs.Chains.{link, Path, Has, Distinct, IsChain, IsRing, chain, fenced_numbers, nodes_of, second_of, free_of, items, lists_of}
@@ -48,14 +48,9 @@ chain_has_free f g us n ring has =
     (Has-right n (nodes_of f) (1 ∷ (second_of f ++ 2 ∷ (free_of f ++ 3 ∷ [])))
     (inr (Has-right n (second_of f) (2 ∷ (free_of f ++ 3 ∷ [])) (inr (Has-left n (free_of f) (3 ∷ []) has)))))
 
--- a live node stands in one of the lists
-live_cases : (a b : Bool) → (a || b) ≡ true → (a ≡ true) ⊎ (b ≡ true)
-live_cases true b e = inl refl
-live_cases false b e = inr e
-
 pub live_in : (f : List ℕ) (us : List UnitId) (n : ℕ) → is_live (lists_of f us) n ≡ true → Has n (nodes_of f) ⊎ Has n (second_of f)
 live_in f us n live =
-    elim (live_cases (has_node n (items us (nodes_of f))) (has_node n (items us (second_of f))) live) [
+    elim (or_cases (has_node n (items us (nodes_of f))) (has_node n (items us (second_of f))) live) [
       | inl first ↦ inl (has_node-Has us n (nodes_of f) first)
       | inr second ↦ inr (has_node-Has us n (second_of f) second)
     ]

@@ -1,7 +1,7 @@
 -- The two lists of a ring: nodes with their units, in order.
 use Rattle.std.specs.Prelude.{ℕ, ◌==◌, ◌||◌, ◌+◌, ◌-◌, Bool, false, if◌then◌else◌, List, [], ◌∷◌, ◌++◌, length, Option, Some, None}
 use Rattle.sched_base.specs.declared.UnitId.{UnitId}
-use Rattle.sched_base.specs.Numbers.{domain}
+pub use Rattle.sched_base.specs.Units.{no_unit}
 use Rattle.unit_ring.specs.declared.Node.{Node}
 
 -- a node and its unit
@@ -35,10 +35,6 @@ is_live lists n = has_node n lists.first || has_node n lists.second
 -- the list of that number
 abbrev pub list_of : Lists → ℕ → List Item
 list_of lists k = (if k == 0 then lists.first else lists.second)
-
--- the unit of a node that has none
-abbrev pub no_unit : UnitId
-no_unit = record { dom = domain 0; n = 0 }
 
 -- the unit of a node of the list
 abbrev pub unit_in : ℕ → List Item → UnitId

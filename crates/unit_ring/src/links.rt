@@ -76,7 +76,8 @@ impl Model for Nodes {
 
     ghost view = { λ a. links_of a.base (slots_items a.row) };
 
-    ghost invariant = { λ a. IsRow a.row a.base × (lease_ptr a.lease ≡ slots_ptr a.row) × (lease_len a.lease ≡ slots_len a.row) × (lease_heap a.lease ≡ a.alloc) };
+    ghost invariant = { λ a. IsRow a.row a.base × (lease_ptr a.lease ≡ slots_ptr a.row)
+        × (lease_len a.lease ≡ slots_len a.row) × (lease_heap a.lease ≡ a.alloc) };
 }
 
 // A mark for the type checker: `proofs/Crossing.antt` has the proof.
@@ -135,7 +136,7 @@ impl Nodes {
         requires next { link self.now.after n < length self.now.after }
         ensures { result ≡ link self.now.after n }
     {
-        nodes::next(&self.row, self.base, n)
+        nodes::number(&self.row, self.row.get(n as usize).after)
     }
 
     /// The number before one.
@@ -144,7 +145,7 @@ impl Nodes {
         requires last { link self.now.before n < length self.now.after }
         ensures { result ≡ link self.now.before n }
     {
-        nodes::prev(&self.row, self.base, n)
+        nodes::number(&self.row, self.row.get(n as usize).before)
     }
 
     /// Takes a number out of its place.
@@ -179,7 +180,8 @@ impl Nodes {
         requires place { Has at (chain self.old.after) }
         requires apart { at ≢ n }
         ensures whole { IsChain self.new.after self.new.before (chain self.new.after) }
-        ensures moved { chain self.new.after ≡ put_before at n (numbers_without n (chain self.old.after)) }
+        ensures moved { chain self.new.after
+            ≡ put_before at n (numbers_without n (chain self.old.after)) }
         ensures size { length self.new.after ≡ length self.old.after }
         ensures units { self.new.units ≡ self.old.units }
     {

@@ -1,8 +1,8 @@
 //! The nodes of a ring in raw memory, with pointers from each to the one after it and the one before it.
 
-ghost use Rattle.std.specs.Prelude.{◌≡◌, ℕ, ◌<◌};
+ghost use Rattle.std.specs.Prelude.{◌≡◌, ℕ, ◌*◌, ◌<◌};
 ghost use Rattle.core.specs.Mem.Slots.{slots_items, slots_ptr, slots_len, slots_filled, IsFull, SamePlaces};
-ghost use denote.RawPtr.{InBlock};
+ghost use denote.RawPtr.{InBlock, ◌+ₚ◌};
 ghost use Rattle.unit_ring.specs.Nodes.{node_at, place, with_after, with_before};
 
 use core::slots::Slots;
@@ -42,37 +42,17 @@ pub fn based(row: Slots<NodeRecord>) -> (Slots<NodeRecord>, Address)
     }
 }
 
-/// The number of the node after one.
-pub fn next(nodes: &Slots<NodeRecord>, base: Address, n: u32) -> u32
+/// The number of the node that lies there.
+pub fn number(nodes: &Slots<NodeRecord>, at: Address) -> u32
     ghost to: { ℕ }
-    requires base { slots_ptr nodes.now ≡ base.ptr }
     requires full { IsFull nodes.now }
-    requires below { n < slots_len nodes.now }
-    requires after { (node_at (slots_items nodes.now) n).after ≡ place base to }
+    requires place { at.ptr ≡ slots_ptr nodes.now +ₚ to * 24 }
     requires target { to < slots_len nodes.now }
     ensures { result ≡ (node_at (slots_items nodes.now) to).number }
 {
     unsafe {
-        let node = base.ptr.add(n as usize);
-        let after = (*node).after.ptr;
-        (*after).number
-    }
-}
-
-/// The number of the node before one.
-pub fn prev(nodes: &Slots<NodeRecord>, base: Address, n: u32) -> u32
-    ghost to: { ℕ }
-    requires base { slots_ptr nodes.now ≡ base.ptr }
-    requires full { IsFull nodes.now }
-    requires below { n < slots_len nodes.now }
-    requires before { (node_at (slots_items nodes.now) n).before ≡ place base to }
-    requires target { to < slots_len nodes.now }
-    ensures { result ≡ (node_at (slots_items nodes.now) to).number }
-{
-    unsafe {
-        let node = base.ptr.add(n as usize);
-        let before = (*node).before.ptr;
-        (*before).number
+        let node = at.ptr;
+        (*node).number
     }
 }
 

@@ -1,8 +1,8 @@
 -- What the guests of a pool keep: after a change of one vCPU, or of one domain, and as time passes.
 use Rattle.std.proofs.lemmas.Option.{slice_get_within}
 use Rattle.std.proofs.Common.{◌≡◌, ◌≢◌, ◌≤◌, ◌<◌, ◌+◌, ◌-◌, ◌*◌, ◌/◌, ◌%◌, ◌⊎◌, ℕ, zero, suc, Bool, true, false, List, [], ◌∷◌, ◌∙◌, refl, sym, ap, subst, arith, length, inl, inr}
-use Rattle.std.specs.Prelude.{Option, Some, None, option_map, is_none, is_some, slice_get, nat_le, replicate}
-use Rattle.std.specs.List.{All, AllByRecursion}
+use Rattle.std.specs.Prelude.{Option, Some, None, option_map, is_none, slice_get, replicate}
+use Rattle.std.specs.List.{AllByRecursion}
 use Rattle.std.proofs.lemmas.Bool.Decides.{nat_tests}
 use Rattle.sched_base.specs.Numbers.{moment, span}
 use Rattle.sched_base.specs.declared.Moment.{Moment}
@@ -10,25 +10,20 @@ use Rattle.sched_base.specs.declared.Span.{Span}
 use Rattle.sched_base.specs.declared.VcpuId.{VcpuId}
 use Rattle.sched_model.specs.declared.state.Vcpu.{Vcpu}
 use Rattle.sched_model.specs.declared.state.Domain.{Domain}
-use Rattle.sched_model.specs.Checked.{IsCheckedScript, IsGranularity, most_span}
+use Rattle.sched_model.specs.CheckedMachine.{IsCheckedScript, IsGranularity, most_span}
 use Rattle.sched_model.specs.Places.{at_place, put_at, clear_at, change_at, change_item, AllPlaces}
 use Rattle.sched_model.specs.State.{has_come}
 use Rattle.sched_model.specs.Opening.{fresh_vcpu}
 use Rattle.sched_model.specs.Pool.{woken_vcpu, put_to_sleep, stopped_vcpu, done_at, unit_count}
-use Rattle.sched_laws.specs.Each.{EachAt, EachPlace}
+use Rattle.sched_laws.specs.EachPlace.{EachPlace}
 use Rattle.sched_laws.proofs.EachPlace.{EachAt-change_to, EachPlace-change_at, EachPlace-put_at, EachPlace-clear_at, EachPlace-empty, place_below, length_set}
-use Rattle.sched_laws.proofs.Lists.{some_is, length_change_item}
+use Rattle.sched_laws.proofs.Lists.{length_change_item, has_come-le}
 use Rattle.sched_ranges.proofs.Vcpus.{VcpuFits as VcpuStands, vcpu_fresh, vcpu_woken, vcpu_slept, vcpu_stopped, vcpu_started}
 use Rattle.plain_pool.specs.Fits.{DomainFits, VcpuFits, vcpu_among}
-use Rattle.unit_state.specs.Seen.{Seen, IsNow, vacant_guests, change_among, done_among, wake_among, is_awake_among, is_due_among}
+use Rattle.unit_state.specs.Seen.{Seen, IsNow, vacant_guests, change_among, done_among, is_awake_among, is_due_among}
 use Rattle.unit_state.specs.Parts.{IsGuest, HasGuests, IsStill, IsRunPlace, IsSleepPlace}
-use Rattle.unit_state.specs.Kept.{KeepsGuests, units_in}
+use Rattle.unit_state.specs.Guests.{KeepsGuests, units_in}
 use Rattle.unit_state.proofs.PlaceLemmas.{read_change_item, vcpu_there, vcpu_in, units_in-put_at, units_in-clear_at, units_in-change_at}
-
--- a moment that has come is there, and has come later too
-pub come_there : (t : ℕ) (o : Option Moment) → has_come t o ≡ true → (a : Moment) × (o ≡ Some a) × (a.0 ≤ t)
-come_there t None come = absurd (cc)
-come_there t (Some a) come = (a, refl, grind (arith, nat_tests, come))
 
 come_later : (t s : ℕ) (o : Option Moment) → t ≤ s → has_come t o ≡ true → has_come s o ≡ true
 come_later t s None past come = come
@@ -95,7 +90,7 @@ guest_fresh script checked = guest_stands 0 0 script (fresh_vcpu script) (omega 
 
 guest_woken : (t : ℕ) (x : Vcpu) → t ≤ most_span → has_come t x.asleep_until ≡ true → IsGuest t x → IsGuest t (woken_vcpu x)
 guest_woken t x early come guest =
-    let there = come_there t x.asleep_until come in
+    let there = has_come-le t x.asleep_until come in
     let still : x.started ≡ None = guest.still there.0 there.1 in
     guest_stands most_span t x.script (woken_vcpu x) (omega arith) guest.script
     (λ from e. absurd (let f : None ≡ Some from = sym still ∙ e in cc))

@@ -9,12 +9,12 @@ use Rattle.sched_model.specs.declared.state.Domain.{Domain}
 use Rattle.sched_model.specs.Places.{at_place, put_at, clear_at, change_at, change_item}
 use Rattle.sched_model.specs.Pool.{stopped_vcpu, unit_count}
 use Rattle.sched_model.proofs.PlaceLemmas.{at_place-change_at_other}
-use Rattle.sched_laws.proofs.EachPlace.{at_place-put_at_other, at_place-clear_at_other, by_option}
-use Rattle.plain_credit2.proofs.Items.{get-change_item, at_place-change_at}
+use Rattle.sched_laws.proofs.EachPlace.{at_place-put_at_other, at_place-clear_at_other, by_option, at_place-change_at}
+use Rattle.plain_credit2.proofs.Items.{get-change_item}
 use Rattle.plain_pool.specs.Fits.{vcpu_among}
-use Rattle.unit_state.specs.Seen.{change_among, wake_among, units_at}
-use Rattle.unit_state.specs.Kept.{units_in}
-use Rattle.sched_laws.proofs.Lists.{length_change_item, slice_get-change_item_other}
+use Rattle.unit_state.specs.Seen.{change_among, wake_among}
+use Rattle.unit_state.specs.Guests.{units_in}
+use Rattle.sched_laws.proofs.Lists.{slice_get-change_item_other}
 
 -- two vCPUs are not the same
 abbrev pub AreOthers : VcpuId → VcpuId → Type 0

@@ -13,9 +13,10 @@ use Rattle.sched_model.specs.State.{has_come}
 use Rattle.plain_pool.specs.Fits.{vcpu_among}
 use Rattle.due_heap.specs.Dues.{due_of, IsArmed, HasCome}
 use Rattle.unit_state.specs.Seen.{Seen, IsNotAfter, change_among, wake_among, is_due_among}
-use Rattle.unit_state.specs.Kept.{KeepsGuests, AreSleepers, vcpu_id}
+use Rattle.unit_state.specs.Guests.{KeepsGuests, AreSleepers, vcpu_id}
 use Rattle.unit_state.proofs.PlaceLemmas.{AreOthers, vcpu_in, wake_in, vcpu_among-change_among_other}
-use Rattle.unit_state.proofs.GuestLemmas.{among_there, come_there, vcpu_bounds}
+use Rattle.unit_state.proofs.GuestLemmas.{among_there, vcpu_bounds}
+use Rattle.sched_laws.proofs.Lists.{has_come-le}
 
 -- two vCPUs of which one is another have other ids
 pub ids_apart : (d n e k : ℕ) → n < 32 → k < 32 → e * 32 + k ≡ d * 32 + n → (e ≡ d) × (k ≡ n)
@@ -112,7 +113,7 @@ sleeps_armed seen dues v at keeps are sleeps =
 -- a vCPU whose wake moment has come has an id that is due, and the least such id is of the first
 pub due_come : (seen : Seen) (dues : List (Option Moment)) (t : ℕ) (v : VcpuId) → KeepsGuests seen → AreSleepers seen.domains dues → is_due_among t seen.domains v ≡ true → (v.n < 32) × HasCome dues t (v.dom.0 * 32 + v.n)
 due_come seen dues t v keeps are due =
-    let come = come_there t (wake_among seen.domains v) due in
+    let come = has_come-le t (wake_among seen.domains v) due in
     let armed = sleeps_armed seen dues v come.0 keeps are come.1 in
     (armed.0, record { at = come.0; armed = armed.1; come = come.2 })
 

@@ -1,3 +1,3 @@
-pub mod Kept
+pub mod Guests
 pub mod Parts
 pub mod Seen

@@ -1,10 +1,10 @@
 -- What a domain keeps, in a pool and on its way from one pool to another. Moments and spans are in nanoseconds.
-use Rattle.std.specs.Prelude.{ℕ, ◌≡◌, ◌≤◌, ◌<◌, ◌*◌, ◌%◌, ◌⊎◌, List, Option, Some, None, slice_get, length}
+use Rattle.std.specs.Prelude.{ℕ, ◌≡◌, ◌≤◌, ◌<◌, ◌*◌, ◌%◌, ◌⊎◌, List, Some, None, slice_get, length}
 use Rattle.sched_base.specs.declared.Moment.{Moment}
 use Rattle.sched_base.specs.declared.Span.{Span}
 use Rattle.sched_model.specs.declared.state.Vcpu.{Vcpu}
 use Rattle.sched_model.specs.declared.state.Domain.{Domain}
-use Rattle.sched_model.specs.Checked.{IsCheckedScript, IsGranularity, most_span}
+use Rattle.sched_model.specs.CheckedMachine.{IsCheckedScript, IsGranularity, most_span}
 use Rattle.unit_state.specs.declared.part.DomPart.{DomPart}
 
 -- the place is one of a run of the script, or 0 where the script is empty

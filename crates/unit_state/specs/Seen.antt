@@ -1,11 +1,11 @@
 -- What callers see of a pool's guests, what its calls ask, and what a change of one vCPU or one domain makes of it.
-use Rattle.std.specs.Prelude.{ℕ, suc, ◌≡◌, ◌≤◌, ◌+◌, ◌^◌, Bool, true, false, List, [], ◌∷◌, Option, Some, None, replicate, is_some, if◌then◌else◌}
+use Rattle.std.specs.Prelude.{ℕ, suc, ◌≡◌, ◌≤◌, ◌+◌, ◌^◌, Bool, false, List, [], ◌∷◌, Option, Some, None, replicate, is_some, if◌then◌else◌}
 use Rattle.sched_base.specs.declared.Moment.{Moment}
 use Rattle.sched_base.specs.declared.PoolId.{PoolId}
 use Rattle.sched_base.specs.declared.VcpuId.{VcpuId}
 use Rattle.sched_model.specs.declared.state.Vcpu.{Vcpu}
 use Rattle.sched_model.specs.declared.state.Domain.{Domain}
-use Rattle.sched_model.specs.Checked.{most_span}
+use Rattle.sched_model.specs.CheckedMachine.{most_span}
 use Rattle.sched_model.specs.Places.{at_place, change_at, change_item, test_at}
 use Rattle.sched_model.specs.State.{is_awake, has_come}
 use Rattle.sched_model.specs.Pool.{done_at, unit_count}

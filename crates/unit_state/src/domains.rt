@@ -36,11 +36,22 @@ impl Model for Guests {
 
     ghost Value = { Seen };
 
-    ghost use Rattle.unit_state.specs.Kept.{KeepsGuests, AreSleepers};
+    ghost use Rattle.unit_state.specs.Guests.{KeepsGuests, AreSleepers};
 
-    ghost view = { λ a. record { domains = a.domains; granularity = a.granularity; spare = a.spare; latest = a.latest.0 } };
+    ghost view = { λ a. record {
+      domains = a.domains;
+      granularity = a.granularity;
+      spare = a.spare;
+      latest = a.latest.0;
+    } };
 
-    ghost invariant = { λ a. KeepsGuests (record { domains = a.domains; granularity = a.granularity; spare = a.spare; latest = a.latest.0 }) × AreSleepers a.domains a.sleepers };
+    ghost invariant = { λ a. KeepsGuests
+        (record {
+          domains = a.domains;
+          granularity = a.granularity;
+          spare = a.spare;
+          latest = a.latest.0;
+        }) × AreSleepers a.domains a.sleepers };
 }
 
 /// The domain with this number, where these are the domains.
@@ -113,13 +124,13 @@ impl Guests {
     ghost use Rattle.sched_base.specs.declared.Moment.{Moment};
     ghost use Rattle.sched_model.specs.declared.state.Vcpu.{Vcpu as VcpuRecord};
     ghost use Rattle.sched_model.specs.declared.state.Domain.{Domain as DomainRecord};
-    ghost use Rattle.sched_model.specs.Checked.{IsGranularity};
+    ghost use Rattle.sched_model.specs.CheckedMachine.{IsGranularity};
     ghost use Rattle.sched_model.specs.Places.{at_place, change_at, clear_at, put_at};
     ghost use Rattle.sched_model.specs.State.{has_come, has_core as has_bit, runnable_among};
     ghost use Rattle.sched_model.specs.Pool.{put_to_sleep, stopped_vcpu, unit_count as unit_count_spec, woken_vcpu};
     ghost use Rattle.unit_state.specs.Seen.{IsNow, IsNotAfter, change_among, done_among, is_awake_among, is_due_among, is_paused_among, start_among, target_among, units_at, vacant_guests, wake_among};
     ghost use Rattle.unit_state.specs.Parts.{IsPart, IsStill};
-    ghost use Rattle.unit_state.specs.Kept.{KeepsGuests};
+    ghost use Rattle.unit_state.specs.Guests.{KeepsGuests};
 
     /// Guests of no domain yet, with places for so many domains, at most 64, and room for so many units, at most 256, of 1, 2 or 4
     /// vCPUs each.

@@ -3,7 +3,7 @@
 ghost use Rattle.std.specs.Prelude.{◌≡◌, ◌≢◌, ◌+◌, ◌*◌, ◌/◌, ◌%◌, ◌<◌, ℕ, length, slice_set};
 ghost use Rattle.due_heap.specs.Dues.{due_of};
 ghost use Rattle.unit_state.specs.Seen.{wake_among};
-ghost use Rattle.unit_state.specs.Kept.{vcpu_id};
+ghost use Rattle.unit_state.specs.Guests.{vcpu_id};
 
 use due_heap::DueHeap;
 use plain_pool::vcpus::vcpu_of;

@@ -2,10 +2,10 @@ use Rattle.std.proofs.Common.{◌≡◌, ℕ, true, false, refl, sym, ◌∙◌,
 use Rattle.std.specs.Prelude.{Option, Some, None, is_some, ◌&&◌, if◌then◌else◌}
 use Rattle.sched_base.specs.declared.UnitId.{UnitId}
 use Rattle.sched_model.specs.Arinc.{window_unit}
-use Rattle.sched_model.specs.Eligible.{is_allowed_by}
+use Rattle.sched_model.specs.EligibleUnits.{is_allowed_by}
 use Rattle.sched_model.specs.Places.{has_unit}
 use Rattle.pool_units.specs.Units.{Units}
-use Rattle.arinc_frame.specs.Waiting.{awaited_unit, if_allowed, if_waits, is_other}
+use Rattle.arinc_frame.specs.WaitingUnits.{awaited_unit, if_allowed, if_waits, is_other}
 use Rattle.arinc_frame.proofs.Deciding.{some_eligible, some_better}
 use Rattle.arinc_frame.proofs.arinc.is_wanted.Goals as goal
 

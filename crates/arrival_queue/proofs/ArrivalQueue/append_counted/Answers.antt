@@ -6,7 +6,7 @@ use Rattle.arrival_queue.specs.Queues.{Queues, Queued, holds, after_insert, afte
 use Rattle.arrival_queue.proofs.Changes.{seen_is, absent_is, append_seen}
 use Rattle.arrival_queue.specs.Order.{IsOrdered}
 use Rattle.arrival_queue.proofs.Ordered.{ordered-appended}
-use Rattle.arrival_queue.specs.Whole.{seen_queues}
+use Rattle.arrival_queue.specs.WholeTables.{seen_queues}
 use Rattle.arrival_queue.proofs.ArrivalQueue.append_counted.Given.{Over}
 use Rattle.arrival_queue.proofs.ArrivalQueue.append_counted.Goals as goal
 

@@ -4,8 +4,9 @@ use Rattle.sched_base.specs.Units.{number_of}
 use Rattle.unit_ring.specs.declared.Node.{Node}
 use Rattle.arrival_queue.specs.Queues.{Queues, holds}
 use Rattle.arrival_queue.specs.Tables.{all_items, node_of, has_number}
-use Rattle.arrival_queue.proofs.Changes.{holds-is, some_number, none_number}
+use Rattle.arrival_queue.proofs.Changes.{holds-is, none_number}
 use Rattle.arrival_queue.proofs.ArrivalQueue.has.Goals as goal
+use Rattle.arrival_queue.proofs.Steps.{some_has}
 
 pub returns : goal.returns
 returns c =
@@ -13,7 +14,7 @@ returns c =
     let items = all_items c.self.inside.tables.ring in
     let told : (o : Option Node) → node_of number items ≡ o → is_some o ≡ has_number number items =
     λ o. elim o as (λ (x : Option Node). node_of number items ≡ x → is_some x ≡ has_number number items) [
-      | Some n ↦ λ is. sym (some_number number n items is)
+      | Some n ↦ λ is. sym (some_has number n items is)
       | None ↦ λ is. sym (none_number number items is)
     ]
     in

@@ -5,7 +5,7 @@ use Rattle.arrival_queue.specs.Tables.{all_items, comes_before, put_ring}
 use Rattle.arrival_queue.proofs.Changes.{seen_is, absent_is, insert_seen}
 use Rattle.arrival_queue.specs.Order.{IsOrdered}
 use Rattle.arrival_queue.proofs.Ordered.{ordered-inserted}
-use Rattle.arrival_queue.specs.Whole.{seen_queues}
+use Rattle.arrival_queue.specs.WholeTables.{seen_queues}
 use Rattle.arrival_queue.proofs.Back.{passes_on}
 use Rattle.arrival_queue.proofs.ArrivalQueue.insert_counted.Given.{Over}
 use Rattle.arrival_queue.proofs.ArrivalQueue.insert_counted.Goals as goal

@@ -1,14 +1,15 @@
 use Rattle.std.proofs.Common.{◌≡◌, ◌<◌, true, false, length, map, refl, sym, ◌∙◌, ap, subst, arith, rules}
 use Rattle.sched_base.specs.Units.{number_of}
+use Rattle.sched_base.proofs.Bools.{clash}
 use Rattle.unit_ring.specs.Lists as l
 use Rattle.unit_ring.specs.Lists.{Lists, item, after_give, after_take}
 use Rattle.arrival_queue.specs.Queues as q
 use Rattle.arrival_queue.specs.Queues.{Queues, Queued, holds, after_insert, after_remove, after_move}
 use Rattle.arrival_queue.specs.Tables.{PassesOn, all_items, comes_before, has_number, shown_unit}
 use Rattle.arrival_queue.proofs.Steps.{found}
-use Rattle.arrival_queue.proofs.Changes.{absent_is, moved_seen, none_number, none_here, found_low, found_place, length-left}
+use Rattle.arrival_queue.proofs.Changes.{absent_is, moved_seen, none_number, found_low, found_place, length-left}
 use Rattle.arrival_queue.specs.Order.{IsOrdered}
-use Rattle.arrival_queue.specs.Whole.{seen_queues as seen}
+use Rattle.arrival_queue.specs.WholeTables.{seen_queues as seen}
 use Rattle.arrival_queue.proofs.Back.{passes_on, on-without, on_same}
 use Rattle.arrival_queue.proofs.Ordered.{ordered-moved}
 use Rattle.arrival_queue.proofs.ArrivalQueue.move_counted.Given.{Over}
@@ -69,4 +70,4 @@ pub returns-in-None-clause-after : goal.returns-in-None-clause-after
 returns-in-None-clause-after g c =
     let none : has_number (number_of c.args.u) (all_items c.self.inside.tables.ring) ≡ false = none_number (number_of c.args.u) (all_items c.self.inside.tables.ring) (sym c.find.ensures ∙ c.in-None.is) in
     let here : has_number (number_of c.args.u) (all_items c.self.inside.tables.ring) ≡ true = absent_is c.args.u c.self.inside.tables.ring c.self.inside.tables.ring c.self.inside.tables.keys.items c.self.inside.tables.arrivals.items c.args.self.now true refl c.self.view_is c.requires in
-    absurd (none_here (has_number (number_of c.args.u) (all_items c.self.inside.tables.ring)) here none)
+    absurd (clash (has_number (number_of c.args.u) (all_items c.self.inside.tables.ring)) here none)

@@ -4,17 +4,17 @@ use Rattle.unit_ring.specs.Lists as l
 use Rattle.unit_ring.specs.Lists.{Lists, item, after_give, after_take}
 use Rattle.arrival_queue.specs.Queues.{Queues, holds, after_remove}
 use Rattle.arrival_queue.specs.Tables.{all_items}
-use Rattle.arrival_queue.proofs.Steps.{found}
-use Rattle.arrival_queue.proofs.Changes.{holds-is, seen_is, remove_seen, some_number, none_number}
+use Rattle.arrival_queue.proofs.Steps.{found, some_has}
+use Rattle.arrival_queue.proofs.Changes.{holds-is, seen_is, remove_seen, none_number}
 use Rattle.arrival_queue.specs.Order.{IsOrdered}
-use Rattle.arrival_queue.specs.Whole.{seen_queues}
+use Rattle.arrival_queue.specs.WholeTables.{seen_queues}
 use Rattle.arrival_queue.proofs.Ordered.{ordered-removed}
 use Rattle.arrival_queue.proofs.ArrivalQueue.remove_counted.Given.{Over}
 use Rattle.arrival_queue.proofs.ArrivalQueue.remove_counted.Goals as goal
 
 here : (g : Over) (c : goal.After-take g) → true ≡ holds c.args.self.now c.args.u
 here g c =
-    sym (some_number (number_of c.args.u) c.in-Some.n (all_items c.self.inside.tables.ring) (sym c.find.ensures ∙ c.in-Some.is))
+    sym (some_has (number_of c.args.u) c.in-Some.n (all_items c.self.inside.tables.ring) (sym c.find.ensures ∙ c.in-Some.is))
     ∙ sym (holds-is c.args.u c.self.inside.tables.ring c.self.inside.tables.keys.items c.self.inside.tables.arrivals.items)
     ∙ ap (λ (qs : Queues). holds qs c.args.u) c.self.view_is
 

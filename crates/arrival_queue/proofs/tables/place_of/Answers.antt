@@ -4,7 +4,7 @@ use Rattle.unit_ring.specs.Lists.{Item, is_live, item, no_unit}
 use Rattle.std.specs.Prelude.{Bool, Option, Some}
 use Rattle.arrival_queue.specs.declared.key.Key.{Key}
 use Rattle.arrival_queue.specs.declared.tables.Tables.{Tables}
-use Rattle.arrival_queue.specs.Whole.{IsTables}
+use Rattle.arrival_queue.specs.WholeTables.{IsTables}
 use Rattle.arrival_queue.specs.Tables.{comes_before}
 use Rattle.arrival_queue.proofs.Walking.{at_live, Tabled-left, Tabled-has}
 use Rattle.arrival_queue.proofs.Back.{Here, Stands, here, stepped, found_here, found_end}

@@ -5,7 +5,7 @@ use Rattle.sched_base.specs.declared.Moment.{Moment}
 use Rattle.sched_model.specs.declared.state.Resource.{Resource}
 use Rattle.sched_model.specs.Places.{at_place}
 use Rattle.core_state.specs.Seen.{Seen}
-use Rattle.core_state.specs.Kept.{AreArmedBut, with_core_ends}
+use Rattle.core_state.specs.CoreState.{AreArmedBut, with_core_ends}
 use Rattle.core_state.proofs.Arming.{few_places, core_past, core_armed, core_of_sibling_past, sibling_armed, all_armed}
 use Rattle.core_state.proofs.dues.rearm.Goals as goal
 

@@ -1,5 +1,5 @@
 use Rattle.std.proofs.Common.{◌+◌, ◌*◌}
-use Rattle.core_state.specs.Kept.{AreArmedBut}
+use Rattle.core_state.specs.CoreState.{AreArmedBut}
 use Rattle.core_state.proofs.dues.rearm.Given as goal
 
 abbrev pub invariant-loop-i : goal.invariant-loop-i

@@ -4,4 +4,4 @@ use Rattle.credit2_core.proofs.choice.better_than.Goals as goal
 
 pub burned_credit_by-requires-clause-fits : goal.burned_credit_by-requires-clause-fits
 burned_credit_by-requires-clause-fits c =
-    pool_in_range c.args.t.0 c.args.held.now.records c.requires.now.early (plain_fits c.args.t.0 c.args.held.now.records (range_later c.args.held.now.latest c.args.t.0 c.args.held.now.records c.requires.now.after c.requires.held.range))
+    pool_in_range c.args.t.0 c.args.state.now.records c.requires.now.early (plain_fits c.args.t.0 c.args.state.now.records (range_later c.args.state.now.latest c.args.t.0 c.args.state.now.records c.requires.now.after c.requires.sound.range))

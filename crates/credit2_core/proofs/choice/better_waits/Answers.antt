@@ -5,16 +5,16 @@ use Rattle.sched_base.specs.declared.UnitId.{UnitId}
 use Rattle.sched_model.specs.declared.state.Credit2Records.{Credit2Records}
 use Rattle.sched_model.specs.Policy.{better_waits}
 use Rattle.sched_model.specs.Credit2.{is_within_limit, max_weight, change_unit, burn_unit, credit_of, is_better}
-use Rattle.sched_model.specs.Eligible.{is_allowed_by}
+use Rattle.sched_model.specs.EligibleUnits.{is_allowed_by}
 use Rattle.queue_laws.specs.Arrivals.{arrivals}
-use Rattle.credit2_core.specs.Held.{scheduler_in}
+use Rattle.credit2_core.specs.Credit2State.{scheduler_in}
 use Rattle.credit2_core.specs.Choice.{may_take, is_better_of, best_of}
 use Rattle.credit2_core.proofs.Choosing.{some_passes, better_passes}
 use Rattle.credit2_core.proofs.choice.better_waits.Goals as goal
 
 pub returns-in-None : goal.returns-in-None
 returns-in-None c =
-    let h = c.args.held.now in
+    let h = c.args.state.now in
     c.is_some.ensures ∙ ap is_some c.best_ready.ensures ∙ some_passes h.records (may_take h.affinity c.args.home.0 c.args.core.0 h.records) (arrivals h.queue.units)
     ∙ ap (λ (cur : Option UnitId). better_waits cur c.args.since.0 c.args.t.0 c.args.core.0 c.args.home.0 (scheduler_in h)) (sym c.in-None.is)
 
@@ -24,7 +24,7 @@ same_form records own since t (Some u) = refl
 
 pub returns-else-not-may_be_on : goal.returns-else-not-may_be_on
 returns-else-not-may_be_on c =
-    let h = c.args.held.now in
+    let h = c.args.state.now in
     let own : UnitId = c.in-Some.own in
     let p : UnitId → Bool = may_take h.affinity c.args.home.0 c.args.core.0 h.records in
     let allowed : is_allowed_by h.affinity c.args.home.0 c.args.core.0 own ≡ true = sym c.may_be_on.ensures ∙ c.if-not-may_be_on.false in

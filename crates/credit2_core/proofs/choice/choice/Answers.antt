@@ -3,7 +3,7 @@ use Rattle.std.specs.Prelude.{Some, is_some, ◌&&◌, filter}
 use Rattle.sched_model.specs.declared.ask.Ask.{Ask}
 use Rattle.sched_model.specs.Credit2.{own_candidate, is_within_limit}
 use Rattle.queue_laws.specs.Arrivals.{arrivals}
-use Rattle.credit2_core.specs.Held.{scheduler_in}
+use Rattle.credit2_core.specs.Credit2State.{scheduler_in}
 use Rattle.credit2_core.specs.Choice.{may_take, richer_of}
 use Rattle.credit2_core.proofs.Choosing.{choice_scans}
 use Rattle.credit2_core.proofs.Waiting.{greatest_own}
@@ -12,7 +12,7 @@ use Rattle.credit2_core.proofs.choice.choice.Goals as goal
 
 pub returns-in-Some : goal.returns-in-Some
 returns-in-Some c =
-    let h = c.args.held.now in
+    let h = c.args.state.now in
     let ask : Ask = c.args.ask.now in
     let own : own_candidate ask (scheduler_in h) h.records ≡ Some c.in-Some.u = sym c.own_candidate-own.ensures ∙ c.in-Some.is in
     let scans : (true && is_within_limit h.records ask.since.0 ask.at.0) ≡ false = elim c.else-is_some.branch [

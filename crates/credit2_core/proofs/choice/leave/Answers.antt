@@ -9,9 +9,9 @@ use Rattle.credit2_core.proofs.Lists.{queued_have}
 use Rattle.credit2_core.proofs.Lines.{IsLeft, line_left}
 use Rattle.credit2_core.proofs.choice.leave.Goals as goal
 
-left : (c : goal.After-remove) → IsLeft c.args.held.now.affinity c.args.held.now.records c.args.u c.args.held.now.queue c.remove.new.self
+left : (c : goal.After-remove) → IsLeft c.args.state.now.affinity c.args.state.now.records c.args.u c.args.state.now.queue c.remove.new.self
 left c =
-    line_left c.args.held.now.affinity c.args.held.now.records c.args.u c.args.held.now.queue c.remove.new.self c.remove.result
+    line_left c.args.state.now.affinity c.args.state.now.records c.args.u c.args.state.now.queue c.remove.new.self c.remove.result
     (record { order = c.law_order.ensures.order; ranks = c.law_order.ensures.ranks; units = c.law_order.ensures.units }) (omega arith) c.remove.ensures.answer c.remove.ensures.gone c.remove.ensures.none c.requires
 
 pub returns-clause-order : goal.returns-clause-order
@@ -27,7 +27,7 @@ pub returns-clause-first : goal.returns-clause-first
 returns-clause-first c p other = by_answer c.remove.result c.remove.ensures.gone c.remove.ensures.none
   where
     old : Queue
-    old = c.args.held.now.queue
+    old = c.args.state.now.queue
 
     left_first : first_that p (after_remove old c.args.u).units ≡ first_that p old.units
     left_first = first_left p c.args.u (rank_in c.args.u old.units) old.units (omega arith) (queued_have (λ (w : UnitId). w.n < 256) old.units c.requires.indices) other

@@ -3,7 +3,7 @@ use Rattle.std.specs.Prelude.{List, Option, Some, None}
 use Rattle.sched_base.specs.declared.UnitId.{UnitId}
 use Rattle.sched_model.specs.declared.state.Credit2Records.{Credit2Records}
 use Rattle.sched_model.specs.Credit2.{domain_has_budget, is_within_limit}
-use Rattle.sched_model.specs.Eligible.{is_allowed_by}
+use Rattle.sched_model.specs.EligibleUnits.{is_allowed_by}
 use Rattle.arrival_queue.specs.Queues.{Queued}
 use Rattle.queue_laws.specs.Arrivals.{arrivals}
 use Rattle.credit2_core.specs.Choice.{best_of, may_take, is_better_of, first_ready}
@@ -17,27 +17,27 @@ none_within records own since t (Some u) within = rw within refl
 
 pub returns-then-is_within_limit : goal.returns-then-is_within_limit
 returns-then-is_within_limit c =
-    let held = c.args.held.now in
-    let within : is_within_limit held.records c.args.since.0 c.args.t.0 ≡ true = sym c.is_within_limit.ensures ∙ c.if-is_within_limit.true in
-    sym (none_within held.records c.args.own c.args.since.0 c.args.t.0 (best_of (arrivals held.queue.units) held.affinity c.args.home.0 c.args.core.0 held.records) within)
+    let state = c.args.state.now in
+    let within : is_within_limit state.records c.args.since.0 c.args.t.0 ≡ true = sym c.is_within_limit.ensures ∙ c.if-is_within_limit.true in
+    sym (none_within state.records c.args.own c.args.since.0 c.args.t.0 (best_of (arrivals state.queue.units) state.affinity c.args.home.0 c.args.core.0 state.records) within)
 
 pub returns-then-not-better_than : goal.returns-then-not-better_than
 returns-then-not-better_than c =
-    let held = c.args.held.now in
-    let records : Credit2Records = held.records in
-    let es : List Queued = held.queue.units in
+    let state = c.args.state.now in
+    let records : Credit2Records = state.records in
+    let es : List Queued = state.queue.units in
     let own : UnitId = c.args.own in
     let out : is_within_limit records c.args.since.0 c.args.t.0 ≡ false = sym c.is_within_limit.ensures ∙ c.if-is_within_limit.false in
     let worse_first : is_better_of records own c.args.since.0 c.args.t.0 (first_ready records es) ≡ false =
     ap (is_better_of records own c.args.since.0 c.args.t.0) (sym c.requires.ready.first) ∙ sym (c.better_than.ensures c.args.since.0 out) ∙ c.if-not-better_than.true
     in
     sym (
-    ap (is_better_of records own c.args.since.0 c.args.t.0) (sym (first_greatest records (may_take held.affinity c.args.home.0 c.args.core.0 records) es (record { order = c.law_order.ensures.order; ranks = c.law_order.ensures.ranks; units = c.law_order.ensures.units }) c.requires.held.line.keys))
-    ∙ none_better records own c.args.since.0 c.args.t.0 (is_allowed_by held.affinity c.args.home.0 c.args.core.0) (domain_has_budget records) es c.law_order.ensures.order c.requires.held.line.keys worse_first
+    ap (is_better_of records own c.args.since.0 c.args.t.0) (sym (first_greatest records (may_take state.affinity c.args.home.0 c.args.core.0 records) es (record { order = c.law_order.ensures.order; ranks = c.law_order.ensures.ranks; units = c.law_order.ensures.units }) c.requires.sound.line.keys))
+    ∙ none_better records own c.args.since.0 c.args.t.0 (is_allowed_by state.affinity c.args.home.0 c.args.core.0) (domain_has_budget records) es c.law_order.ensures.order c.requires.sound.line.keys worse_first
     )
 
 pub returns : goal.returns
 returns c =
-    let held = c.args.held.now in
-    let out : is_within_limit held.records c.args.since.0 c.args.t.0 ≡ false = sym c.is_within_limit.ensures ∙ c.if-is_within_limit.false in
-    c.better_than-2.ensures c.args.since.0 out ∙ ap (is_better_of held.records c.args.own c.args.since.0 c.args.t.0) c.best_ready-best.ensures
+    let state = c.args.state.now in
+    let out : is_within_limit state.records c.args.since.0 c.args.t.0 ≡ false = sym c.is_within_limit.ensures ∙ c.if-is_within_limit.false in
+    c.better_than-2.ensures c.args.since.0 out ∙ ap (is_better_of state.records c.args.own c.args.since.0 c.args.t.0) c.best_ready-best.ensures

@@ -8,8 +8,8 @@ use Rattle.sched_laws.proofs.EachPlace.{length_set}
 use Rattle.plain_credit2.specs.Bounds.{PoolFits, own_charged}
 use Rattle.plain_credit2.proofs.Ranges.{pool_in_range}
 use Rattle.plain_credit2.proofs.Steps.{burn_cur_fits, burn_cur-own}
-use Rattle.credit2_core.specs.declared.held.Held.{Held}
-use Rattle.credit2_core.specs.Held.{IsLineOf}
+use Rattle.credit2_core.specs.declared.state.Credit2State.{Credit2State}
+use Rattle.credit2_core.specs.Credit2State.{IsLineOf}
 use Rattle.credit2_core.specs.Whole.{IsReadyBut}
 use Rattle.credit2_core.proofs.Kept.{but_of, but_again, own_weight}
 use Rattle.credit2_core.proofs.Ranges.{plain_fits, range_later}
@@ -20,21 +20,21 @@ pub charge-requires-clause-most : goal.charge-requires-clause-most
 charge-requires-clause-most c = c.requires.ready.most
 
 pub charge-requires-clause-fits : goal.charge-requires-clause-fits
-charge-requires-clause-fits c = plain_fits c.args.ask.now.at.0 c.args.held.now.records (range_later c.args.held.now.latest c.args.ask.now.at.0 c.args.held.now.records c.requires.asked.now.after c.requires.held.range)
+charge-requires-clause-fits c = plain_fits c.args.ask.now.at.0 c.args.state.now.records (range_later c.args.state.now.latest c.args.ask.now.at.0 c.args.state.now.records c.requires.asked.now.after c.requires.sound.range)
 
 pub follow-requires-clause-few : goal.follow-requires-clause-few
 follow-requires-clause-few c =
-    let records : Credit2Records = c.args.held.now.records in
+    let records : Credit2Records = c.args.state.now.records in
     let u : UnitId = c.in-Some.u in
     let f = own_charged (max_weight records) c.args.ask.now.at.0 u.n in
     let is = ap (λ (r : Credit2Records). length r.domains) (c.charge.ensures ∙ burn_cur-own u c.args.ask.now.at.0 records) in
     let long = length_set u.dom.0 (option_map f (at_place records.domains u.dom.0)) records.domains in
-    let few = c.requires.held.range.few in
+    let few = c.requires.sound.range.few in
     omega (arith, is, long, few)
 
 pub follow-requires-clause-but : goal.follow-requires-clause-but
 follow-requires-clause-but c =
-    let h : Held = c.args.held.now in
+    let h : Credit2State = c.args.state.now in
     let u : UnitId = c.in-Some.u in
     let f = own_charged (max_weight h.records) c.args.ask.now.at.0 u.n in
     subst (λ (r : Credit2Records). IsReadyBut u.dom.0 true r h.queue.units c.args.ready.now) (sym (c.charge.ensures ∙ burn_cur-own u c.args.ask.now.at.0 h.records))
@@ -43,15 +43,15 @@ follow-requires-clause-but c =
 pub returns-in-Some-clause-fits : goal.returns-in-Some-clause-fits
 returns-in-Some-clause-fits c =
     subst (PoolFits c.args.ask.now.at.0) (sym c.charge.ensures)
-    (burn_cur_fits (Some c.in-Some.u) c.args.ask.now.at.0 c.args.held.now.records c.requires.asked.now.early
-    (plain_fits c.args.ask.now.at.0 c.args.held.now.records (range_later c.args.held.now.latest c.args.ask.now.at.0 c.args.held.now.records c.requires.asked.now.after c.requires.held.range)))
+    (burn_cur_fits (Some c.in-Some.u) c.args.ask.now.at.0 c.args.state.now.records c.requires.asked.now.early
+    (plain_fits c.args.ask.now.at.0 c.args.state.now.records (range_later c.args.state.now.latest c.args.ask.now.at.0 c.args.state.now.records c.requires.asked.now.after c.requires.sound.range)))
 
 pub returns-in-Some-clause-line : goal.returns-in-Some-clause-line
 returns-in-Some-clause-line c =
-    subst (λ (r : Credit2Records). IsLineOf c.args.held.now.affinity r c.args.held.now.queue.units) (sym c.charge.ensures)
-    (line_burn_cur c.args.held.now.affinity (Some c.in-Some.u) c.args.ask.now.at.0 c.args.held.now.records c.args.held.now.queue.units c.requires.held.line)
+    subst (λ (r : Credit2Records). IsLineOf c.args.state.now.affinity r c.args.state.now.queue.units) (sym c.charge.ensures)
+    (line_burn_cur c.args.state.now.affinity (Some c.in-Some.u) c.args.ask.now.at.0 c.args.state.now.records c.args.state.now.queue.units c.requires.sound.line)
 
 pub returns-in_default-clause-fits : goal.returns-in_default-clause-fits
 returns-in_default-clause-fits c =
-    pool_in_range c.args.ask.now.at.0 c.args.held.now.records c.requires.asked.now.early
-    (plain_fits c.args.ask.now.at.0 c.args.held.now.records (range_later c.args.held.now.latest c.args.ask.now.at.0 c.args.held.now.records c.requires.asked.now.after c.requires.held.range))
+    pool_in_range c.args.ask.now.at.0 c.args.state.now.records c.requires.asked.now.early
+    (plain_fits c.args.ask.now.at.0 c.args.state.now.records (range_later c.args.state.now.latest c.args.ask.now.at.0 c.args.state.now.records c.requires.asked.now.after c.requires.sound.range))

@@ -12,93 +12,93 @@ use Rattle.plain_credit2.proofs.Steps.{reset_params, taken_params}
 use Rattle.queue_laws.specs.Arrivals.{arrivals}
 use Rattle.arrival_queue.specs.Filters.{first_that, has_domain}
 use Rattle.credit2_core.specs.declared.line.Ready.{Ready}
-use Rattle.credit2_core.specs.declared.held.Held.{Held}
-use Rattle.credit2_core.specs.Held.{scheduler_in}
+use Rattle.credit2_core.specs.declared.state.Credit2State.{Credit2State}
+use Rattle.credit2_core.specs.Credit2State.{scheduler_in}
 use Rattle.credit2_core.specs.Choice.{slice_beside, credit_or_0, best_of}
 use Rattle.credit2_core.proofs.Kept.{IsSpared, ready_spared, first_runnable, spared_reset, spared_switch_off, spared_set_running}
-use Rattle.credit2_core.proofs.Lists.{gone_without}
 use Rattle.credit2_core.proofs.Choosing.{other_best}
 use Rattle.credit2_core.proofs.Deciding.{length_reset}
 use Rattle.credit2_core.proofs.decide.run_unit.Goals as goal
+use Rattle.sched_laws.proofs.Counts.{gone_without}
 
 pub take_slice-long-requires-clause-ready : goal.take_slice-long-requires-clause-ready
 take_slice-long-requires-clause-ready c =
-    let h : Held = c.args.held.now in
-    let left : Held = c.leave.new.held in
+    let h : Credit2State = c.args.state.now in
+    let left : Credit2State = c.leave.new.state in
     let kept : Ready = c.args.ready.now in
-    let first : left.records ≡ h.records = ap (λ (x : Held). x.records) c.leave.ensures.rest in
-    let begun : c.reset_pool.new.held.records ≡ reset c.args.ask.now.at.0 c.resets_for-resets.result h.records = c.reset_pool.ensures.records ∙ ap (reset c.args.ask.now.at.0 c.resets_for-resets.result) first in
-    let spared : IsSpared h.records c.reset_pool.new.held.records = subst (IsSpared h.records) (sym begun) (spared_reset c.args.ask.now.at.0 c.resets_for-resets.result h.records) in
+    let first : left.records ≡ h.records = ap (λ (x : Credit2State). x.records) c.leave.ensures.rest in
+    let begun : c.reset_pool.new.state.records ≡ reset c.args.ask.now.at.0 c.resets_for-resets.result h.records = c.reset_pool.ensures.records ∙ ap (reset c.args.ask.now.at.0 c.resets_for-resets.result) first in
+    let spared : IsSpared h.records c.reset_pool.new.state.records = subst (IsSpared h.records) (sym begun) (spared_reset c.args.ask.now.at.0 c.resets_for-resets.result h.records) in
     let p : UnitId → Bool = λ w. has_domain kept.domains w.dom.0 in
     let was : kept.first ≡ first_that p h.queue.units = c.requires.ready.first ∙ sym (first_runnable h.records kept.domains h.queue.units c.requires.ready.domains) in
     record {
       domains = λ i other. c.requires.ready.domains.each i ∙ sym (spared.runs i);
       first = λ stand.
-          let none : c.reset_pool.new.held ≡ left = c.reset_pool.ensures.none (c.stands-stands.ensures.none stand) in
+          let none : c.reset_pool.new.state ≡ left = c.reset_pool.ensures.none (c.stands-stands.ensures.none stand) in
           let other : is_unit (first_that p h.queue.units) c.args.u ≡ false = ap (λ (o : Option UnitId). is_unit o c.args.u) (sym was) ∙ c.stands-stands.ensures.other stand in
-          was ∙ sym (c.leave.ensures.first p other) ∙ ap (λ (x : Held). first_that p x.queue.units) (sym none);
+          was ∙ sym (c.leave.ensures.first p other) ∙ ap (λ (x : Credit2State). first_that p x.queue.units) (sym none);
       most = c.requires.ready.most ∙ sym spared.weight;
     }
 
 pub returns-clause-ready : goal.returns-clause-ready
 returns-clause-ready c =
-    let taken : Held = c.take_slice-long.new.held in
-    let off : Held = c.stop_own.new.held in
+    let taken : Credit2State = c.take_slice-long.new.state in
+    let off : Credit2State = c.stop_own.new.state in
     let kept : Ready = c.take_slice-long.new.ready in
     let one : IsSpared taken.records off.records = subst (IsSpared taken.records) (sym c.stop_own.ensures.records) (spared_switch_off c.args.ask.now.cur taken.records) in
-    let two : IsSpared off.records c.start.new.held.records = subst (IsSpared off.records) (sym c.start.ensures.records) (spared_set_running (Some c.args.ask.now.at.0) c.args.u off.records) in
-    ready_spared off c.start.new.held kept (ap (λ (x : Held). x.queue) c.start.ensures.rest) two (ready_spared taken off kept (ap (λ (x : Held). x.queue) c.stop_own.ensures.rest) one c.take_slice-long.ensures.ready)
+    let two : IsSpared off.records c.start.new.state.records = subst (IsSpared off.records) (sym c.start.ensures.records) (spared_set_running (Some c.args.ask.now.at.0) c.args.u off.records) in
+    ready_spared off c.start.new.state kept (ap (λ (x : Credit2State). x.queue) c.start.ensures.rest) two (ready_spared taken off kept (ap (λ (x : Credit2State). x.queue) c.stop_own.ensures.rest) one c.take_slice-long.ensures.ready)
 
 pub take_slice-long-requires-clause-few : goal.take_slice-long-requires-clause-few
 take_slice-long-requires-clause-few c =
-    let first : c.leave.new.held.records ≡ c.args.held.now.records = ap (λ (h : Held). h.records) c.leave.ensures.rest in
+    let first : c.leave.new.state.records ≡ c.args.state.now.records = ap (λ (h : Credit2State). h.records) c.leave.ensures.rest in
     let e = ap (λ (r : Credit2Records). length r.domains) (c.reset_pool.ensures.records ∙ ap (reset c.args.ask.now.at.0 c.resets_for-resets.result) first) in
-    let l = length_reset c.args.ask.now.at.0 c.resets_for-resets.result c.args.held.now.records in
+    let l = length_reset c.args.ask.now.at.0 c.resets_for-resets.result c.args.state.now.records in
     let f = c.requires.few in
     omega (arith, e, l, f)
 
 pub take_slice-long-requires-clause-params : goal.take_slice-long-requires-clause-params
 take_slice-long-requires-clause-params c =
-    let first : c.leave.new.held.records ≡ c.args.held.now.records = ap (λ (h : Held). h.records) c.leave.ensures.rest in
-    let e : c.reset_pool.new.held.records ≡ reset c.args.ask.now.at.0 c.resets_for-resets.result c.args.held.now.records = c.reset_pool.ensures.records ∙ ap (reset c.args.ask.now.at.0 c.resets_for-resets.result) first in
-    subst PoolParamsFit (sym e) (reset_params c.args.ask.now.at.0 c.resets_for-resets.result c.args.held.now.records c.requires.fits)
+    let first : c.leave.new.state.records ≡ c.args.state.now.records = ap (λ (h : Credit2State). h.records) c.leave.ensures.rest in
+    let e : c.reset_pool.new.state.records ≡ reset c.args.ask.now.at.0 c.resets_for-resets.result c.args.state.now.records = c.reset_pool.ensures.records ∙ ap (reset c.args.ask.now.at.0 c.resets_for-resets.result) first in
+    subst PoolParamsFit (sym e) (reset_params c.args.ask.now.at.0 c.resets_for-resets.result c.args.state.now.records c.requires.fits)
 
 pub take_slice-long-requires-clause-taken : goal.take_slice-long-requires-clause-taken
 take_slice-long-requires-clause-taken c =
-    let first : c.leave.new.held.records ≡ c.args.held.now.records = ap (λ (h : Held). h.records) c.leave.ensures.rest in
-    let e : c.reset_pool.new.held.records ≡ reset c.args.ask.now.at.0 c.resets_for-resets.result c.args.held.now.records = c.reset_pool.ensures.records ∙ ap (reset c.args.ask.now.at.0 c.resets_for-resets.result) first in
-    subst (λ (r : Credit2Records). PoolParamsFit (change_domain c.args.u.dom.0 (take_budget c.args.u.n) r)) (sym e) (taken_params c.args.ask.now.at.0 c.resets_for-resets.result c.args.u c.args.held.now.records c.requires.fits)
+    let first : c.leave.new.state.records ≡ c.args.state.now.records = ap (λ (h : Credit2State). h.records) c.leave.ensures.rest in
+    let e : c.reset_pool.new.state.records ≡ reset c.args.ask.now.at.0 c.resets_for-resets.result c.args.state.now.records = c.reset_pool.ensures.records ∙ ap (reset c.args.ask.now.at.0 c.resets_for-resets.result) first in
+    subst (λ (r : Credit2Records). PoolParamsFit (change_domain c.args.u.dom.0 (take_budget c.args.u.n) r)) (sym e) (taken_params c.args.ask.now.at.0 c.resets_for-resets.result c.args.u c.args.state.now.records c.requires.fits)
 
 pub start-requires-clause-waits_not : goal.start-requires-clause-waits_not
 start-requires-clause-waits_not c =
-    let left : c.stop_own.new.held.queue ≡ c.reset_pool.new.held.queue = ap (λ (h : Held). h.queue) c.stop_own.ensures.rest ∙ ap (λ (h : Held). h.queue) c.take_slice-long.ensures.rest in
-    let order : arrivals c.stop_own.new.held.queue.units ≡ without_unit c.args.u (arrivals c.args.held.now.queue.units) = ap (λ q. arrivals q.units) left ∙ c.reset_pool.ensures.order ∙ c.leave.ensures.order in
-    subst (λ (units : List UnitId). has_unit units c.args.u ≡ false) (sym order) (gone_without c.args.u (arrivals c.args.held.now.queue.units))
+    let left : c.stop_own.new.state.queue ≡ c.reset_pool.new.state.queue = ap (λ (h : Credit2State). h.queue) c.stop_own.ensures.rest ∙ ap (λ (h : Credit2State). h.queue) c.take_slice-long.ensures.rest in
+    let order : arrivals c.stop_own.new.state.queue.units ≡ without_unit c.args.u (arrivals c.args.state.now.queue.units) = ap (λ q. arrivals q.units) left ∙ c.reset_pool.ensures.order ∙ c.leave.ensures.order in
+    subst (λ (units : List UnitId). has_unit units c.args.u ≡ false) (sym order) (gone_without c.args.u (arrivals c.args.state.now.queue.units))
 
 pub returns-clause-tells : goal.returns-clause-tells
 returns-clause-tells c =
-    let h : Held = c.args.held.now in
+    let h : Credit2State = c.args.state.now in
     let ask : Ask = c.args.ask.now in
     let u : UnitId = c.args.u in
     let q : List UnitId = arrivals h.queue.units in
     let m : ℕ = resets_for ask.at.0 u h.records in
     let taken : Credit2Records = change_domain u.dom.0 (take_budget u.n) (reset ask.at.0 m h.records) in
-    let first : c.leave.new.held.records ≡ h.records = ap (λ (x : Held). x.records) c.leave.ensures.rest in
+    let first : c.leave.new.state.records ≡ h.records = ap (λ (x : Credit2State). x.records) c.leave.ensures.rest in
     let resets : c.resets_for-resets.result ≡ m = c.resets_for-resets.ensures.exact ∙ ap (resets_for ask.at.0 u) first in
-    let begun : c.reset_pool.new.held.records ≡ reset ask.at.0 m h.records = c.reset_pool.ensures.records ∙ ap (λ (k : ℕ). reset ask.at.0 k c.leave.new.held.records) resets ∙ ap (reset ask.at.0 m) first in
-    let records : c.take_slice-long.new.held.records ≡ taken = c.take_slice-long.ensures.records ∙ ap (change_domain u.dom.0 (take_budget u.n)) begun in
-    let order : arrivals c.take_slice-long.new.held.queue.units ≡ without_unit u q = ap (λ (x : Held). arrivals x.queue.units) c.take_slice-long.ensures.rest ∙ c.reset_pool.ensures.order ∙ c.leave.ensures.order in
-    let sets : c.take_slice-long.new.held.affinity ≡ h.affinity = ap (λ (x : Held). x.affinity) c.take_slice-long.ensures.rest ∙ ap (λ (x : Held). x.affinity) c.reset_pool.ensures.rest ∙ ap (λ (x : Held). x.affinity) c.leave.ensures.rest in
+    let begun : c.reset_pool.new.state.records ≡ reset ask.at.0 m h.records = c.reset_pool.ensures.records ∙ ap (λ (k : ℕ). reset ask.at.0 k c.leave.new.state.records) resets ∙ ap (reset ask.at.0 m) first in
+    let records : c.take_slice-long.new.state.records ≡ taken = c.take_slice-long.ensures.records ∙ ap (change_domain u.dom.0 (take_budget u.n)) begun in
+    let order : arrivals c.take_slice-long.new.state.queue.units ≡ without_unit u q = ap (λ (x : Credit2State). arrivals x.queue.units) c.take_slice-long.ensures.rest ∙ c.reset_pool.ensures.order ∙ c.leave.ensures.order in
+    let sets : c.take_slice-long.new.state.affinity ≡ h.affinity = ap (λ (x : Credit2State). x.affinity) c.take_slice-long.ensures.rest ∙ ap (λ (x : Credit2State). x.affinity) c.reset_pool.ensures.rest ∙ ap (λ (x : Credit2State). x.affinity) c.leave.ensures.rest in
     let best : List UnitId → List (Option (List Cores)) → Credit2Records → ℤ = λ units affinity r. credit_or_0 r (best_of units affinity ask.home.0 ask.core.0 r) in
-    let other : best (arrivals c.take_slice-long.new.held.queue.units) c.take_slice-long.new.held.affinity c.take_slice-long.new.held.records ≡ best_other ask (scheduler_in h) taken u =
-    ap (λ (units : List UnitId). best units c.take_slice-long.new.held.affinity c.take_slice-long.new.held.records) order
-    ∙ ap (λ (affinity : List (Option (List Cores))). best (without_unit u q) affinity c.take_slice-long.new.held.records) sets
+    let other : best (arrivals c.take_slice-long.new.state.queue.units) c.take_slice-long.new.state.affinity c.take_slice-long.new.state.records ≡ best_other ask (scheduler_in h) taken u =
+    ap (λ (units : List UnitId). best units c.take_slice-long.new.state.affinity c.take_slice-long.new.state.records) order
+    ∙ ap (λ (affinity : List (Option (List Cores))). best (without_unit u q) affinity c.take_slice-long.new.state.records) sets
     ∙ ap (best (without_unit u q) h.affinity) records
     ∙ other_best ask q h.affinity h.records taken u
     in
     let long : c.take_slice-long.result ≡ slice_of ask (scheduler_in h) taken u =
     c.take_slice-long.ensures.slice
-    ∙ ap (λ (w : ℤ). slice_beside c.take_slice-long.new.held.records u w) other
+    ∙ ap (λ (w : ℤ). slice_beside c.take_slice-long.new.state.records u w) other
     ∙ ap (λ (r : Credit2Records). slice_beside r u (best_other ask (scheduler_in h) taken u)) records
     in
     record { unit = refl; due = ap (λ (k : ℕ). Some (moment (ask.at.0 + k))) long; reset = resets }

@@ -1,10 +1,10 @@
 use Rattle.std.proofs.Common.{sym, subst}
 use Rattle.sched_model.specs.declared.state.Credit2Records.{Credit2Records}
-use Rattle.credit2_core.specs.Held.{IsLineOf}
+use Rattle.credit2_core.specs.Credit2State.{IsLineOf}
 use Rattle.credit2_core.proofs.Lines.{line_set_running}
 use Rattle.credit2_core.proofs.decide.start.Goals as goal
 
 pub returns-clause-line : goal.returns-clause-line
 returns-clause-line c =
-    subst (λ (r : Credit2Records). IsLineOf c.args.held.now.affinity r c.args.held.now.queue.units) (sym c.set_running.ensures)
-    (line_set_running c.args.held.now.affinity c.args.ask.now.at.0 c.args.u c.args.held.now.records c.args.held.now.queue.units c.requires.waits_not c.requires.line)
+    subst (λ (r : Credit2Records). IsLineOf c.args.state.now.affinity r c.args.state.now.queue.units) (sym c.set_running.ensures)
+    (line_set_running c.args.state.now.affinity c.args.ask.now.at.0 c.args.u c.args.state.now.records c.args.state.now.queue.units c.requires.waits_not c.requires.line)

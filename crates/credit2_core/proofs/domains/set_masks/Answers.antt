@@ -1,11 +1,12 @@
 use Rattle.std.proofs.Common.{◌≡◌, ◌∙◌, sym, subst, arith, ℕ, length}
 use Rattle.unit_places.specs.Masks.{mask_of}
 use Rattle.credit2_core.specs.Domains.{masked_cores}
-use Rattle.credit2_core.proofs.Tables.{masked_none, same_read}
+use Rattle.credit2_core.proofs.Tables.{masked_none}
 use Rattle.unit_places.proofs.Written.{written_more}
 use Rattle.sched_base.specs.Numbers.{core_set}
 use Rattle.std.specs.Prelude.{slice_index_or}
 use Rattle.credit2_core.proofs.domains.set_masks.Goals as goal
+use Rattle.sched_laws.proofs.Lists.{same_read}
 
 pub loop-n-init : goal.loop-n-init
 loop-n-init c = λ u low. masked_none c.args.masks.now c.args.d.0 c.args.sets.now u

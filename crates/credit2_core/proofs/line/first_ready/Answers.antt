@@ -4,5 +4,5 @@ use Rattle.credit2_core.proofs.line.first_ready.Goals as goal
 
 pub returns : goal.returns
 returns c =
-    let held = c.args.held.now in
-    c.first_where.ensures ∙ first_runnable held.records c.args.domains held.queue.units c.requires
+    let state = c.args.state.now in
+    c.first_where.ensures ∙ first_runnable state.records c.args.domains state.queue.units c.requires

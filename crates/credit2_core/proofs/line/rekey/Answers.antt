@@ -6,11 +6,11 @@ use Rattle.sched_model.specs.Credit2.{credit_of}
 use Rattle.runq.specs.Queue.{Queue, after_rekey}
 use Rattle.arrival_queue.specs.Queues.{Queued, has_unit, rank_in}
 use Rattle.credit2_core.specs.Keys.{KeysWhere, is_passed, key_in}
-use Rattle.credit2_core.specs.Held.{IsSameLine}
-use Rattle.credit2_core.proofs.Lists.{length-arrivals}
+use Rattle.credit2_core.specs.Credit2State.{IsSameLine}
 use Rattle.credit2_core.proofs.Waiting.{moved_arrivals}
 use Rattle.credit2_core.proofs.Rekeying.{keys_moved, keys_absent}
 use Rattle.credit2_core.proofs.line.rekey.Goals as goal
+use Rattle.queue_laws.proofs.Arrivals.{length-arrivals}
 
 rekeyed_is : (c : goal.After-rekey) → c.rekey.new.self ≡ after_rekey c.args.queue.now c.args.u (neg_ℤ (credit_of c.args.records.now c.args.u))
 rekeyed_is c =

@@ -1,5 +1,5 @@
 use Rattle.credit2_core.specs.Keys.{KeysWhere, is_passed}
-use Rattle.credit2_core.specs.Held.{IsSameLine}
+use Rattle.credit2_core.specs.Credit2State.{IsSameLine}
 use Rattle.credit2_core.proofs.line.rekey_all.Given as goal
 
 abbrev pub invariant-loop-d : goal.invariant-loop-d

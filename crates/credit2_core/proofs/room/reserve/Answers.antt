@@ -5,7 +5,7 @@ use Rattle.sched_base.specs.declared.Moment.{Moment}
 use Rattle.sched_model.specs.declared.state.Credit2Domain.{Credit2Domain}
 use Rattle.runq.specs.Queue.{Queue, empty_queue}
 use Rattle.credit2_core.specs.Room.{IsFresh}
-use Rattle.credit2_core.proofs.Keeping.{held_fresh}
+use Rattle.credit2_core.proofs.Keeping.{sound_fresh}
 use Rattle.credit2_core.proofs.room.reserve.Goals as goal
 
 pub returns : goal.returns
@@ -19,4 +19,4 @@ returns c =
     (subst (λ affinity. Fresh (replicate n None) affinity c.in_ok-queue.queue c.in_ok-queue.refills) (sym c.in_ok-affinity.ensures)
     (subst (λ queue. Fresh (replicate n None) (replicate n None) queue c.in_ok-queue.refills) (sym c.in_ok-queue.ensures.queue)
     (subst (λ refills. Fresh (replicate n None) (replicate n None) (empty_queue c.args.units) refills) (sym c.in_ok-queue.ensures.refills)
-    (record { held = held_fresh n c.args.units c.args.latest masks c.requires.domains c.requires.units; seen = refl }))))
+    (record { sound = sound_fresh n c.args.units c.args.latest masks c.requires.domains c.requires.units; seen = refl }))))

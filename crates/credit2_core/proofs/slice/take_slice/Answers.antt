@@ -2,7 +2,7 @@ use Rattle.std.proofs.Common.{sym, subst}
 use Rattle.sched_model.specs.declared.state.Credit2Records.{Credit2Records}
 use Rattle.plain_credit2.specs.Bounds.{PoolParamsFit}
 use Rattle.sched_model.specs.Credit2.{take_budget}
-use Rattle.credit2_core.specs.Held.{IsLineOf}
+use Rattle.credit2_core.specs.Credit2State.{IsLineOf}
 use Rattle.credit2_core.specs.Whole.{IsReadyBut}
 use Rattle.credit2_core.proofs.Kept.{but_again, take_weight}
 use Rattle.credit2_core.proofs.Lines.{line_take}
@@ -10,12 +10,12 @@ use Rattle.credit2_core.proofs.slice.take_slice.Goals as goal
 
 pub other_credit-other-requires-clause-line : goal.other_credit-other-requires-clause-line
 other_credit-other-requires-clause-line c =
-    subst (λ (r : Credit2Records). IsLineOf c.args.held.now.affinity r c.args.held.now.queue.units) (sym c.take_at.ensures)
-    (line_take c.args.held.now.affinity c.args.u c.args.held.now.records c.args.held.now.queue.units c.requires.line)
+    subst (λ (r : Credit2Records). IsLineOf c.args.state.now.affinity r c.args.state.now.queue.units) (sym c.take_at.ensures)
+    (line_take c.args.state.now.affinity c.args.u c.args.state.now.records c.args.state.now.queue.units c.requires.line)
 
 pub follow-requires-clause-but : goal.follow-requires-clause-but
 follow-requires-clause-but c =
-    let h = c.args.held.now in
+    let h = c.args.state.now in
     subst (λ (r : Credit2Records). IsReadyBut c.args.u.dom.0 c.args.stands r h.queue.units c.args.ready.now) (sym c.take_at.ensures)
     (but_again c.args.u.dom.0 c.args.stands (take_budget c.args.u.n) h.records h.queue.units c.args.ready.now (take_weight c.args.u.n) c.requires.ready)
 
@@ -24,5 +24,5 @@ slice_beside-requires-clause-params c = subst PoolParamsFit (sym c.take_at.ensur
 
 pub returns-clause-line : goal.returns-clause-line
 returns-clause-line c =
-    subst (λ (r : Credit2Records). IsLineOf c.args.held.now.affinity r c.args.held.now.queue.units) (sym c.take_at.ensures)
-    (line_take c.args.held.now.affinity c.args.u c.args.held.now.records c.args.held.now.queue.units c.requires.line)
+    subst (λ (r : Credit2Records). IsLineOf c.args.state.now.affinity r c.args.state.now.queue.units) (sym c.take_at.ensures)
+    (line_take c.args.state.now.affinity c.args.u c.args.state.now.records c.args.state.now.queue.units c.requires.line)

@@ -21,7 +21,7 @@ first_some (Some x) soon e = refl
 
 pub returns-in-None : goal.returns-in-None
 returns-in-None c =
-    let h = c.args.held.now in
+    let h = c.args.state.now in
     let domains : List (Option Credit2Domain) = h.records.domains in
     let none : (i : ℕ) (at : Moment) → refill_of (at_place domains i) ≡ Some at → ⊥ = λ i at is. c.in-None.ensures.none i at (ap (λ (rs : List (Option Moment)). slice_index_or rs i None) c.requires.refills ∙ due_is domains i ∙ is) in
     let empty : refills (numbered_items 0 domains) ≡ [] = none_armed c.args.t.0 0 domains none in
@@ -29,7 +29,7 @@ returns-in-None c =
 
 pub returns-then-at-t : goal.returns-then-at-t
 returns-then-at-t c =
-    let h = c.args.held.now in
+    let h = c.args.state.now in
     let domains : List (Option Credit2Domain) = h.records.domains in
     let same : (i : ℕ) → slice_index_or h.refills i None ≡ refill_of (at_place domains i) = λ i. ap (λ (rs : List (Option Moment)). slice_index_or rs i None) c.requires.refills ∙ due_is domains i in
     let is : refill_of (at_place domains c.in-Some.d) ≡ Some c.in-Some.at = sym (same c.in-Some.d) ∙ c.in-Some.ensures.armed in
@@ -41,7 +41,7 @@ returns-then-at-t c =
 
 pub returns-else-at-t : goal.returns-else-at-t
 returns-else-at-t c =
-    let h = c.args.held.now in
+    let h = c.args.state.now in
     let domains : List (Option Credit2Domain) = h.records.domains in
     let is : refill_of (at_place domains c.in-Some.d) ≡ Some c.in-Some.at = sym (ap (λ (rs : List (Option Moment)). slice_index_or rs c.in-Some.d None) c.requires.refills ∙ due_is domains c.in-Some.d) ∙ c.in-Some.ensures.armed in
     let come : c.in-Some.at.0 ≤ c.args.t.0 = c.if-at-t.false in

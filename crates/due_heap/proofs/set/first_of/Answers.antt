@@ -10,7 +10,7 @@ loop-id-preserved c =
     let fewer : ℕ → Bool = λ id. has_id c.args.set id && not (has_id c.loop-id.rest id) in
     let more : ℕ → Bool = λ id. has_id c.args.set id && not (has_id c.without-rest.result id) in
     subst (λ (first : Option (Moment × ℕ)). IsFirstAmong c.args.moments.now more first) (sym c.first_with-first.ensures)
-    (among_more c.args.moments.now fewer more c.in-Some.id (looked_before c.args.moments.now c.args.set c.in-Some.id c.loop-id.rest c.without-rest.result c.requires c.without-rest.ensures.change) c.loop-id.first c.due_of.result
+    (among_more c.args.moments.now fewer more c.in-Some.id (looked_before c.args.set c.in-Some.id c.loop-id.rest c.without-rest.result c.without-rest.ensures.change) c.loop-id.first c.due_of.result
     (sym c.due_of.ensures) c.loop-id.invariant)
 
 pub returns : goal.returns

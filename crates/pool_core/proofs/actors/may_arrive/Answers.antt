@@ -1,6 +1,6 @@
 use Rattle.std.proofs.Common.{◌∙◌, ◌/◌, ℕ, sym, ap}
 use Rattle.sched_model.specs.Places.{test_at}
-use Rattle.pool_laws.specs.Ready.{gathers}
+use Rattle.pool_laws.specs.ReadyMoments.{gathers}
 use Rattle.pool_core.proofs.ByActor.{and_then, and_stop}
 use Rattle.pool_core.proofs.actors.may_arrive.Goals as goal
 

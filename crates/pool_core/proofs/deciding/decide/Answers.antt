@@ -9,7 +9,7 @@ use Rattle.sched_model.specs.declared.ask.Ask.{Ask}
 use Rattle.sched_model.specs.declared.event.Event.TheVariants.{Decide}
 use Rattle.sched_model.specs.declared.state.Pool.{Pool}
 use Rattle.sched_model.specs.declared.state.Resource.{Resource}
-use Rattle.sched_model.specs.Eligible.{Decision}
+use Rattle.sched_model.specs.EligibleUnits.{Decision}
 use Rattle.sched_model.specs.Places.{change_at}
 use Rattle.sched_model.specs.Policy.{after_decision, decision_of}
 use Rattle.sched_model.specs.Pool.{after_decide, ask_of, lateness}

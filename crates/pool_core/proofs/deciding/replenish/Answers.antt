@@ -7,7 +7,7 @@ use Rattle.sched_model.specs.declared.state.RtdsUnit.{RtdsUnit}
 use Rattle.sched_model.specs.Places.{has_unit}
 use Rattle.sched_model.specs.Policy.{replenish, replenish_due, rtds_record}
 use Rattle.sched_model.specs.Pool.{core_of, due_within, lowest_up}
-use Rattle.sched_laws.proofs.Bools.{and_left, and_right}
+use Rattle.sched_base.proofs.Bools.{and_left, and_right}
 use Rattle.core_state.specs.Seen.{Seen as CoresSeen, changed_core}
 use Rattle.sched_ops.specs.Seen.{Seen as SchedulerSeen}
 use Rattle.pool_core.specs.Seen.{pool_of}

@@ -3,7 +3,7 @@ use Rattle.std.specs.Prelude.{Option, Some, None}
 use Rattle.sched_base.specs.Numbers.{moment}
 use Rattle.sched_base.specs.declared.Moment.{Moment}
 use Rattle.sched_model.specs.declared.state.Pool.{Pool}
-use Rattle.pool_laws.specs.Ready.{later_moment, lowest_end, ready_in}
+use Rattle.pool_laws.specs.ReadyMoments.{later_moment, lowest_end, ready_in}
 use Rattle.sched_ops.specs.Timers.{action_of}
 use Rattle.core_state.specs.Firsts.{IsLeast}
 use Rattle.pool_core.specs.Seen.{pool_of}

@@ -1,6 +1,6 @@
 use Rattle.std.proofs.Common.{◌≡◌}
 use Rattle.plain_pool.specs.Marks.{due_now_of}
-use Rattle.pool_core.specs.Settling.{change_first}
+use Rattle.pool_core.specs.CoreLooks.{change_first}
 use Rattle.pool_core.proofs.params.make_cores_due.Given as goal
 
 abbrev pub invariant-loop-r : goal.invariant-loop-r

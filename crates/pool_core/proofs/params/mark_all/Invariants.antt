@@ -1,6 +1,6 @@
 use Rattle.std.proofs.Common.{◌≡◌}
 use Rattle.plain_pool.specs.Marks.{pending_each}
-use Rattle.pool_core.specs.Settling.{change_first}
+use Rattle.pool_core.specs.CoreLooks.{change_first}
 use Rattle.pool_core.proofs.params.mark_all.Given as goal
 
 abbrev pub invariant-loop-r : goal.invariant-loop-r

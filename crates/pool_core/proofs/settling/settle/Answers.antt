@@ -5,7 +5,7 @@ use Rattle.sched_model.specs.declared.state.Scheduler.{Scheduler}
 use Rattle.sched_model.specs.Places.{at_place}
 use Rattle.sched_model.specs.Pool.{cores_from}
 use Rattle.sched_model.specs.State.{has_core}
-use Rattle.sched_ops.specs.Wanted.{is_wanted}
+use Rattle.sched_ops.specs.WantedCores.{is_wanted}
 use Rattle.pool_core.proofs.Marking.{wanted_marked}
 use Rattle.pool_core.proofs.settling.settle.Goals as goal
 

@@ -6,7 +6,7 @@ use Rattle.sched_model.specs.Places.{first_place, is_unit}
 use Rattle.sched_model.specs.Pool.{unit_of}
 use Rattle.core_state.proofs.ChangeLemmas.{first_below}
 use Rattle.pool_core.specs.Seen.{pool_of}
-use Rattle.pool_core.specs.Waking.{idles_among}
+use Rattle.pool_core.specs.Wakes.{idles_among}
 use Rattle.pool_core.proofs.Joining.{not_joined, sibling_below}
 use Rattle.pool_core.proofs.waking.join_siblings.Goals as goal
 

@@ -4,11 +4,11 @@ use Rattle.sched_base.specs.declared.UnitId.{UnitId}
 use Rattle.sched_model.specs.declared.state.Pool.{Pool}
 use Rattle.sched_model.specs.Pool.{change_vcpu, is_off, joined_siblings, queue_unit, unit_of, woken_vcpu}
 use Rattle.sched_model.specs.State.{is_runnable, runnable_among}
-use Rattle.sched_laws.proofs.Bools.{or_left, or_right}
+use Rattle.sched_base.proofs.Bools.{or_left, or_right}
 use Rattle.sched_ops.specs.Seen.{Seen as SchedulerSeen}
 use Rattle.unit_state.specs.Seen.{Seen as GuestsSeen, is_awake_among}
 use Rattle.pool_core.specs.Seen.{pool_of}
-use Rattle.pool_core.specs.Waking.{done_started, is_held_among, joined_works}
+use Rattle.pool_core.specs.Wakes.{done_started, is_held_among, joined_works}
 use Rattle.pool_core.proofs.Asking.{off_by, woken_away}
 use Rattle.pool_core.proofs.Woken.{alone_works, beside_works, woke_alone, woke_beside, woken_awake}
 use Rattle.pool_core.proofs.waking.wake.Goals as goal

@@ -1,6 +1,6 @@
 use Rattle.std.proofs.Common.{◌≡◌, ◌-◌}
-use Rattle.plain_opening.specs.Opened.{opening_core}
-use Rattle.pool_opening.specs.Opened.{with_cores}
+use Rattle.plain_opening.specs.OpeningPool.{opening_core}
+use Rattle.pool_opening.specs.OpeningPool.{with_cores}
 use Rattle.pool_opening.proofs.Attaching.{places_to}
 use Rattle.pool_opening.proofs.cores.attach_all.Given as goal
 

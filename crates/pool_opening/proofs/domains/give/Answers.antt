@@ -4,7 +4,7 @@ use Rattle.sched_model.specs.Opening.{fresh_vcpu}
 use Rattle.sched_ops.specs.Conditions.{has_joined}
 use Rattle.sched_ops.specs.Seen.{units_of}
 use Rattle.pool_core.specs.Seen.{Seen}
-use Rattle.pool_opening.specs.Opened.{IsStill, unit_total}
+use Rattle.pool_opening.specs.OpeningPool.{IsStill, unit_total}
 use Rattle.pool_opening.proofs.Joining.{given, joined_came, part_fits, still_joined_in, units_came}
 use Rattle.pool_opening.proofs.Parameters.{domain_fits}
 use Rattle.pool_opening.proofs.domains.give.Goals as goal

@@ -2,7 +2,7 @@ use Rattle.std.proofs.Common.{◌∙◌, ◌+◌, List, ap, subst, sym, arith, l
 use Rattle.sched_base.specs.declared.Cores.{Cores}
 use Rattle.sched_model.specs.Opening.{with_pins}
 use Rattle.pool_core.specs.Seen.{Seen}
-use Rattle.pool_opening.specs.Opened.{IsOpening, with_pool}
+use Rattle.pool_opening.specs.OpeningPool.{IsOpening, with_pool}
 use Rattle.pool_opening.proofs.Joining.{goes_on, pins_fit}
 use Rattle.pool_opening.proofs.domains.join.Goals as goal
 

@@ -2,7 +2,7 @@ use Rattle.std.proofs.Common.{◌≡◌, ◌∙◌, subst, sym, true}
 use Rattle.sched_ops.specs.Conditions.{has_joined}
 use Rattle.sched_ops.specs.Seen.{units_of}
 use Rattle.pool_core.specs.Seen.{Seen}
-use Rattle.pool_opening.specs.Opened.{IsStill}
+use Rattle.pool_opening.specs.OpeningPool.{IsStill}
 use Rattle.pool_opening.proofs.Joining.{pinned_still}
 use Rattle.pool_opening.proofs.Pinning.{still_joined, still_units}
 use Rattle.pool_opening.proofs.domains.pin.Goals as goal

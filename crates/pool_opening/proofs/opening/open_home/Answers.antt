@@ -3,9 +3,10 @@ use Rattle.sched_model.specs.Policy.{kind_of}
 use Rattle.pool_core.specs.Seen.{Seen}
 use Rattle.pool_opening.proofs.Joining.{few_at_home}
 use Rattle.pool_opening.proofs.Parameters.{pool_fits}
-use Rattle.pool_opening.proofs.Restart.{begins, begun, kind_default, opens, stands_at}
-use Rattle.pool_opening.specs.Opened.{IsOpening, units_at_home, with_all}
+use Rattle.pool_opening.proofs.Restart.{begins, begun, opens, stands_at}
+use Rattle.pool_opening.specs.OpeningPool.{IsOpening, units_at_home, with_all}
 use Rattle.pool_opening.proofs.opening.open_home.Goals as goal
+use Rattle.sched_laws.proofs.Records.{kind_default}
 
 pub open-requires-clause-params : goal.open-requires-clause-params
 open-requires-clause-params g c =

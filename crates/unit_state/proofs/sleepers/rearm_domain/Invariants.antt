@@ -1,7 +1,7 @@
 use Rattle.std.proofs.Common.{◌≡◌, ◌≢◌, ◌+◌, ◌*◌, ◌<◌, ℕ, length}
 use Rattle.due_heap.specs.Dues.{due_of}
 use Rattle.unit_state.specs.Seen.{wake_among}
-use Rattle.unit_state.specs.Kept.{vcpu_id}
+use Rattle.unit_state.specs.Guests.{vcpu_id}
 use Rattle.unit_state.proofs.sleepers.rearm_domain.Given as goal
 
 abbrev pub invariant-loop-n : goal.invariant-loop-n

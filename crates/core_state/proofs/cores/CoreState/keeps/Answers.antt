@@ -1,5 +1,5 @@
 use Rattle.std.proofs.Common.{subst}
-use Rattle.core_state.specs.Kept.{KeepsCores}
+use Rattle.core_state.specs.CoreState.{KeepsCores}
 use Rattle.core_state.proofs.cores.CoreState.keeps.Goals as goal
 
 pub returns : goal.returns

@@ -4,7 +4,7 @@ use Rattle.std.specs.Prelude.{Option}
 use Rattle.sched_model.specs.declared.action.Action.TheVariants.{Moved}
 use Rattle.sched_model.specs.declared.state.Resource.{Resource}
 use Rattle.sched_model.specs.Places.{at_place}
-use Rattle.pool_laws.specs.Ready.{end_where, may_move}
+use Rattle.pool_laws.specs.ReadyMoments.{end_where, may_move}
 use Rattle.core_state.specs.Seen.{Seen}
 use Rattle.core_state.specs.Ends.{ready_among}
 use Rattle.core_state.proofs.cores.CoreState.move_end.Goals as goal

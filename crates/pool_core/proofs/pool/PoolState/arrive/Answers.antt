@@ -1,7 +1,7 @@
 use Rattle.std.proofs.Common.{◌≡◌, ◌≤◌, true, refl, sym, subst, arith}
 use Rattle.sched_model.specs.declared.action.Action.TheVariants.{Arrive}
 use Rattle.sched_model.specs.declared.state.Pool.{Pool}
-use Rattle.pool_laws.specs.Settling.{IsSettled}
+use Rattle.pool_laws.specs.CoreLooks.{IsSettled}
 use Rattle.sched_model.specs.Pool.{enabled_in}
 use Rattle.std.specs.Prelude.{IsTrue, None, slice_set}
 use Rattle.pool_core.specs.Seen.{IsNow, Seen, pool_of}

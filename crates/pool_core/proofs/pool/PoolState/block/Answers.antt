@@ -2,7 +2,7 @@ use Rattle.std.proofs.Common.{◌≡◌, ◌≤◌, ℕ, true, refl, sym, ap, su
 use Rattle.std.specs.Prelude.{IsTrue, Some, None, slice_set}
 use Rattle.sched_model.specs.declared.action.Action.TheVariants.{Block}
 use Rattle.sched_model.specs.declared.state.Pool.{Pool}
-use Rattle.pool_laws.specs.Settling.{IsSettled}
+use Rattle.pool_laws.specs.CoreLooks.{IsSettled}
 use Rattle.sched_model.specs.Pool.{enabled_in, guest_of}
 use Rattle.pool_core.specs.Seen.{IsNow, Seen, guest_among, pool_of}
 use Rattle.pool_core.proofs.Acting.{acted, block_done, block_happens}

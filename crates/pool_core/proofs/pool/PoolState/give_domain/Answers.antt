@@ -8,7 +8,7 @@ use Rattle.sched_ops.specs.Conditions.{AreDomParams}
 use Rattle.unit_state.specs.Seen.{Seen as GuestsSeen}
 use Rattle.pool_kept.specs.Holds.{Holds}
 use Rattle.pool_kept.proofs.Kept.{domain_comes, later}
-use Rattle.pool_core.specs.Kept.{AreWorks}
+use Rattle.pool_core.specs.PoolState.{AreWorks}
 use Rattle.pool_core.specs.Seen.{IsNow, Seen, pool_of}
 use Rattle.pool_core.proofs.Giving.{matches, works_given}
 use Rattle.pool_core.proofs.Spared.{unsettled}

@@ -4,11 +4,11 @@ use Rattle.std.specs.Prelude.{IsTrue, Option, slice_set}
 use Rattle.sched_base.specs.declared.VcpuId.{VcpuId}
 use Rattle.sched_model.specs.declared.action.Action.TheVariants.{Leave}
 use Rattle.sched_model.specs.declared.state.Pool.{Pool}
-use Rattle.pool_laws.specs.Settling.{IsSettled}
-use Rattle.sched_model.specs.Checked.{IsGranularity}
+use Rattle.pool_laws.specs.CoreLooks.{IsSettled}
+use Rattle.sched_model.specs.CheckedMachine.{IsGranularity}
 use Rattle.sched_model.specs.Pool.{enabled_in, taken_at}
-use Rattle.pool_core.specs.Doing.{parted_with, work_of}
-use Rattle.pool_core.specs.Kept.{AreWorks}
+use Rattle.pool_core.specs.ProcessorEvents.{parted_with, work_of}
+use Rattle.pool_core.specs.PoolState.{AreWorks}
 use Rattle.pool_core.specs.Seen.{IsNow, Seen, pool_of}
 use Rattle.pool_core.proofs.Acting.{acted, happened_is}
 use Rattle.pool_core.proofs.ActedWorks.{few_processors, may_leave, works_parted}

@@ -1,6 +1,6 @@
 use Rattle.std.proofs.Common.{sym, subst}
 use Rattle.sched_model.specs.declared.state.Pool.{Pool}
-use Rattle.pool_laws.specs.Settling.{IsSettled}
+use Rattle.pool_laws.specs.CoreLooks.{IsSettled}
 use Rattle.pool_laws.proofs.Settled.{settled_again}
 use Rattle.core_state.specs.Seen.{Seen as CoresSeen}
 use Rattle.pool_core.specs.Seen.{pool_of}

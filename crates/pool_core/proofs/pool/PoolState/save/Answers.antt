@@ -1,11 +1,11 @@
 use Rattle.std.proofs.Common.{◌≡◌, ◌≤◌, true, sym, ap, subst, ◌∙◌, arith}
 use Rattle.std.specs.Prelude.{IsTrue}
-use Rattle.pool_laws.specs.Settling.{IsSettled}
+use Rattle.pool_laws.specs.CoreLooks.{IsSettled}
 use Rattle.sched_model.specs.declared.action.Action.TheVariants.{Save}
 use Rattle.sched_model.specs.declared.state.Pool.{Pool}
 use Rattle.sched_model.specs.Pool.{enabled_in, saved_at}
 use Rattle.sched_model.specs.State.{is_runnable}
-use Rattle.pool_core.specs.Waking.{is_queued}
+use Rattle.pool_core.specs.Wakes.{is_queued}
 use Rattle.core_state.specs.Seen.{Seen as CoresSeen}
 use Rattle.pool_core.specs.Seen.{IsNow, Seen, pool_of}
 use Rattle.pool_core.proofs.Acting.{acted, unmoved}

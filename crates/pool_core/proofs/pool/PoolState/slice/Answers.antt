@@ -2,7 +2,7 @@ use Rattle.std.proofs.Common.{◌≡◌, ◌≤◌, true, refl, sym, ap, subst, 
 use Rattle.std.specs.Prelude.{IsTrue}
 use Rattle.sched_model.specs.declared.action.Action.TheVariants.{Slice}
 use Rattle.sched_model.specs.declared.state.Pool.{Pool}
-use Rattle.pool_laws.specs.Settling.{IsSettled}
+use Rattle.pool_laws.specs.CoreLooks.{IsSettled}
 use Rattle.sched_model.specs.Pool.{enabled_in}
 use Rattle.core_state.specs.Seen.{Seen as CoresSeen}
 use Rattle.pool_core.specs.Seen.{IsNow, Seen, pool_of}

@@ -1,13 +1,13 @@
 use Rattle.std.proofs.Common.{◌≡◌, ◌≤◌, ◌*◌, ℕ, true, sym, subst, ◌∙◌, arith, length}
 use Rattle.std.specs.Prelude.{IsTrue}
-use Rattle.pool_laws.specs.Settling.{IsSettled}
+use Rattle.pool_laws.specs.CoreLooks.{IsSettled}
 use Rattle.sched_model.specs.declared.action.Action.TheVariants.{Wake}
 use Rattle.sched_model.specs.declared.state.Pool.{Pool}
-use Rattle.sched_model.specs.Checked.{IsGranularity}
+use Rattle.sched_model.specs.CheckedMachine.{IsGranularity}
 use Rattle.sched_model.specs.Pool.{enabled_in}
 use Rattle.unit_state.specs.Seen.{is_due_among}
 use Rattle.pool_core.specs.Seen.{IsNow, Seen, pool_of}
-use Rattle.pool_core.specs.Waking.{woken_works}
+use Rattle.pool_core.specs.Wakes.{woken_works}
 use Rattle.pool_core.proofs.Acting.{acted, wake_due, wake_still}
 use Rattle.pool_core.proofs.ActedWorks.{works_wake}
 use Rattle.pool_core.proofs.Spared.{mark_kept, spared_wake}

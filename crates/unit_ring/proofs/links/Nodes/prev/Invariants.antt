@@ -1,7 +1,6 @@
-use Rattle.core.specs.Mem.Slots.{slots_items}
-use Rattle.unit_ring.specs.Chains.{link}
-use Rattle.unit_ring.specs.Nodes.{links_of}
+use Rattle.core.specs.Mem.Slots.{slots_ptr}
+use Rattle.unit_ring.specs.Nodes.{number_at}
 use Rattle.unit_ring.proofs.links.Nodes.prev.Given as goal
 
-abbrev pub ghost-prev : goal.ghost-prev
-ghost-prev a = link (links_of a.base (slots_items a.nodes.now)).before a.n
+abbrev pub ghost-number : goal.ghost-number
+ghost-number a = number_at (record { ptr = slots_ptr a.nodes.now }) a.at

@@ -4,7 +4,7 @@ use Rattle.sched_model.specs.Places.{at_place, put_at}
 use Rattle.sched_model.specs.Pool.{unit_count}
 use Rattle.due_heap.specs.Dues.{due_of}
 use Rattle.unit_state.specs.Seen.{Seen, wake_among}
-use Rattle.unit_state.specs.Kept.{KeepsGuests, AreSleepers, vcpu_id}
+use Rattle.unit_state.specs.Guests.{KeepsGuests, AreSleepers, vcpu_id}
 use Rattle.unit_state.proofs.GuestLemmas.{guests_later, keeps_added}
 use Rattle.unit_state.proofs.PlaceLemmas.{wake_among-put_at_other}
 use Rattle.unit_state.proofs.SleeperLemmas.{sleepers_replaced}

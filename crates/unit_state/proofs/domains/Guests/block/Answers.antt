@@ -6,7 +6,7 @@ use Rattle.sched_model.specs.State.{has_come}
 use Rattle.sched_model.specs.Pool.{done_at, put_to_sleep}
 use Rattle.plain_pool.specs.Fits.{vcpu_among}
 use Rattle.unit_state.specs.Seen.{Seen, IsNow, done_among, wake_among}
-use Rattle.unit_state.specs.Kept.{KeepsGuests, AreSleepers}
+use Rattle.unit_state.specs.Guests.{KeepsGuests, AreSleepers}
 use Rattle.unit_state.proofs.GuestLemmas.{all_fit, come_among, keeps_slept}
 use Rattle.unit_state.proofs.SleeperLemmas.{id_below, sleepers_changed}
 use Rattle.unit_state.proofs.domains.Guests.block.Goals as goal

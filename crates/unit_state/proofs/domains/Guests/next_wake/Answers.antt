@@ -2,7 +2,7 @@ use Rattle.std.proofs.Common.{◌≡◌, ◌≤◌, ◌/◌, ◌%◌, ◌+◌, �
 use Rattle.sched_base.specs.declared.Moment.{Moment}
 use Rattle.sched_base.specs.declared.VcpuId.{VcpuId}
 use Rattle.unit_state.specs.Seen.{Seen, wake_among}
-use Rattle.unit_state.specs.Kept.{vcpu_id}
+use Rattle.unit_state.specs.Guests.{vcpu_id}
 use Rattle.unit_state.proofs.SleeperLemmas.{armed_sleeps, sleeps_armed, none_sleeps}
 use Rattle.unit_state.proofs.domains.Guests.next_wake.Goals as goal
 

@@ -2,7 +2,7 @@ use Rattle.std.proofs.Common.{List, Option, sym, subst}
 use Rattle.std.specs.Prelude.{replicate, None}
 use Rattle.sched_base.specs.declared.Moment.{Moment}
 use Rattle.sched_model.specs.declared.state.Domain.{Domain}
-use Rattle.unit_state.specs.Kept.{KeepsGuests, AreSleepers}
+use Rattle.unit_state.specs.Guests.{KeepsGuests, AreSleepers}
 use Rattle.unit_state.proofs.GuestLemmas.{keeps_vacant}
 use Rattle.unit_state.proofs.SleeperLemmas.{sleepers_none}
 use Rattle.unit_state.proofs.domains.Guests.room.Goals as goal

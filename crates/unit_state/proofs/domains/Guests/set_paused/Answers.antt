@@ -2,7 +2,7 @@ use Rattle.std.proofs.Common.{List, Option, refl, sym, subst}
 use Rattle.sched_model.specs.declared.state.Domain.{Domain}
 use Rattle.sched_model.specs.Places.{change_at}
 use Rattle.unit_state.specs.Seen.{Seen}
-use Rattle.unit_state.specs.Kept.{KeepsGuests, AreSleepers}
+use Rattle.unit_state.specs.Guests.{KeepsGuests, AreSleepers}
 use Rattle.unit_state.proofs.GuestLemmas.{keeps_domain}
 use Rattle.unit_state.proofs.PlaceLemmas.{wake_among-change_at}
 use Rattle.unit_state.proofs.SleeperLemmas.{sleepers_same}

@@ -7,7 +7,7 @@ use Rattle.sched_laws.proofs.EachPlace.{place_below}
 use Rattle.due_heap.specs.Dues.{due_of}
 use Rattle.unit_state.specs.Seen.{Seen, wake_among}
 use Rattle.unit_state.specs.Parts.{IsStill}
-use Rattle.unit_state.specs.Kept.{KeepsGuests, AreSleepers, vcpu_id}
+use Rattle.unit_state.specs.Guests.{KeepsGuests, AreSleepers, vcpu_id}
 use Rattle.unit_state.proofs.GuestLemmas.{guests_still, keeps_taken}
 use Rattle.unit_state.proofs.PlaceLemmas.{wake_among-clear_at_other}
 use Rattle.unit_state.proofs.SleeperLemmas.{sleepers_replaced}

@@ -6,7 +6,7 @@ use Rattle.sched_model.specs.declared.state.Domain.{Domain}
 use Rattle.sched_model.specs.Pool.{woken_vcpu}
 use Rattle.plain_pool.specs.Fits.{vcpu_among}
 use Rattle.unit_state.specs.Seen.{Seen, IsNow, wake_among, is_due_among}
-use Rattle.unit_state.specs.Kept.{KeepsGuests, AreSleepers}
+use Rattle.unit_state.specs.Guests.{KeepsGuests, AreSleepers}
 use Rattle.unit_state.proofs.GuestLemmas.{all_fit, come_among, keeps_woken}
 use Rattle.unit_state.proofs.SleeperLemmas.{id_below, sleepers_changed}
 use Rattle.unit_state.proofs.domains.Guests.wake.Goals as goal

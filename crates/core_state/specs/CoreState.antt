@@ -1,0 +1,84 @@
+-- What a pool's cores keep.
+use Rattle.sched_base.specs.Numbers.{core as core_number, processor as processor_number}
+use Rattle.std.specs.Prelude.{ℕ, ◌≡◌, ◌≤◌, ◌<◌, ◌*◌, true, List, Option, None, length, replicate, slice_set, not, ◌+◌}
+use Rattle.sched_base.specs.declared.Moment.{Moment}
+use Rattle.sched_model.specs.declared.action.Action.TheVariants.{Moved, Block, Slice, Arrive, Decide, Leave, Save}
+use Rattle.sched_model.specs.declared.state.Resource.{Resource}
+use Rattle.sched_model.specs.CheckedMachine.{IsGranularity}
+use Rattle.sched_model.specs.Places.{first_place}
+use Rattle.sched_model.specs.Pool.{cores_from, is_held}
+use Rattle.sched_laws.specs.EachPlace.{EachPlace}
+use Rattle.pool_laws.specs.ReadyMoments.{end_of, end_where, gathers, later_moment, slice_end, may_move}
+use Rattle.due_heap.specs.Dues.{due_of}
+use Rattle.core_state.specs.declared.dues.Dues.{Dues}
+use Rattle.core_state.specs.Seen.{Seen, sibling_of}
+use Rattle.core_state.specs.Ends.{may_decide, may_save, parts, ready_among, sibling_end}
+
+-- each core has 1, 2 or 4 processors, and there are places for at most 64 processors
+pub record KeepsCores (seen : Seen) : Type 0 where
+  pub granularity : IsGranularity seen.granularity
+  pub places : length seen.resources * seen.granularity ≤ 64
+  pub works : length seen.works ≡ 64
+  pub cores : EachPlace (λ (c : Resource). length c.processors ≡ seen.granularity) seen.resources
+
+-- a set of 64 has for each number its moment, but for those numbers that are not below `from` and below `to`
+pub record AgreesBut (from to : ℕ) (dues : List (Option Moment)) (ends : ℕ → Option Moment) : Type 0 where
+  pub ids : length dues ≡ 64
+  pub below : (i : ℕ) → i < from → due_of dues i ≡ ends i
+  pub above : (i : ℕ) → to ≤ i → due_of dues i ≡ ends i
+
+-- each set has its moments, but for those of such cores and of such processors
+pub record AreArmedBut (core core_end processor processor_end : ℕ) (seen : Seen) (dues : Dues) : Type 0 where
+  pub moves : AgreesBut core core_end dues.moves (λ r. ready_among seen (Moved (core_number r)))
+  pub slices : AgreesBut core core_end dues.slices (λ r. ready_among seen (Slice (core_number r)))
+  pub decides : AgreesBut core core_end dues.decides (λ r. ready_among seen (Decide (core_number r)))
+  pub saves : AgreesBut core core_end dues.saves (λ r. ready_among seen (Save (core_number r)))
+  pub blocks : AgreesBut processor processor_end dues.blocks (λ p. ready_among seen (Block (processor_number p)))
+  pub arrives : AgreesBut processor processor_end dues.arrives (λ p. ready_among seen (Arrive (processor_number p)))
+  pub leaves : AgreesBut processor processor_end dues.leaves (λ p. ready_among seen (Leave (processor_number p)))
+
+-- each set has its moments
+abbrev pub AreArmed : Seen → Dues → Type 0
+AreArmed seen dues = AreArmedBut 0 0 0 0 seen dues
+
+-- the core r and its processors may be armed anew: each set has the moments of all others
+pub record MayRearm (r : ℕ) (seen : Seen) (dues : Dues) : Type 0 where
+  pub granularity : IsGranularity seen.granularity
+  pub places : length seen.resources * seen.granularity ≤ 64
+  pub others : AreArmedBut r (r + 1) (r * seen.granularity) (r * seen.granularity + seen.granularity) seen dues
+
+-- beside that: the set of the cores, the first of them, and the sets of moments
+pub record IsKept (seen : Seen) (home : ℕ) (first : Option ℕ) (dues : Dues) : Type 0 where
+  pub cores : KeepsCores seen
+  pub is_home : home ≡ cores_from 0 seen.resources
+  pub is_first : first ≡ first_place 0 (λ (c : Resource). true) seen.resources
+  pub armed : AreArmed seen dues
+
+-- sets of 64 without a moment
+pub record AreEmpty (dues : Dues) : Type 0 where
+  pub moves : dues.moves ≡ replicate 64 None
+  pub slices : dues.slices ≡ replicate 64 None
+  pub decides : dues.decides ≡ replicate 64 None
+  pub saves : dues.saves ≡ replicate 64 None
+  pub blocks : dues.blocks ≡ replicate 64 None
+  pub arrives : dues.arrives ≡ replicate 64 None
+  pub leaves : dues.leaves ≡ replicate 64 None
+
+-- the sets with the core's own moments
+abbrev pub with_core_ends : ℕ → Option Resource → Dues → Dues
+with_core_ends r core dues =
+    record dues {
+      moves = slice_set dues.moves r (end_where may_move core);
+      slices = slice_set dues.slices r (slice_end core);
+      decides = slice_set dues.decides r (end_where may_decide core);
+      saves = slice_set dues.saves r (end_where may_save core);
+    }
+
+-- the sets with the own moments of the processor p, which is the i-th of the core, and whose work is done then
+abbrev pub with_processor_ends : ℕ → Option Resource → ℕ → Option Moment → Dues → Dues
+with_processor_ends p core i work dues =
+    record dues {
+      blocks = slice_set dues.blocks p (later_moment work (end_of (sibling_of core i)));
+      arrives = slice_set dues.arrives p (sibling_end gathers (λ q. not (is_held q)) core (sibling_of core i));
+      leaves = slice_set dues.leaves p (sibling_end parts is_held core (sibling_of core i));
+    }

@@ -1,0 +1,91 @@
+//! The calls that change only the queue, or nothing.
+
+ghost use Rattle.std.specs.Prelude.{◌≡◌, true, Some, ◌≤◌};
+ghost use Rattle.sched_model.specs.declared.config.PoolParams.TheVariants as pool_params;
+ghost use Rattle.sched_model.specs.Places.{has_unit};
+ghost use Rattle.sched_model.specs.Policy.{enqueue as enqueue_spec, rate_of};
+ghost use Rattle.sched_ops.specs.Seen.{with_scheduler, restarted_scheduler, dequeue as dequeue_spec};
+ghost use Rattle.sched_ops.specs.Conditions.{IsAway, Keeps, is_member, is_vacant};
+ghost use Rattle.sched_ops.specs.Told.{IsInRange};
+ghost use Rattle.sched_model.specs.Policy.{stored_of};
+ghost use Rattle.credit2_core.specs.Credit2State.{IsSound, scheduler_in, seen_in};
+ghost use Rattle.credit2_core.specs.Whole.{IsReadyIn};
+
+use crate::choice::leave;
+use crate::line::{Ready, first_ready, first_with, key_of};
+use crate::state::Credit2State;
+use plain_credit2::running::domain_at;
+use plain_units::units::is_there;
+use sched_base::UnitId;
+use sched_model::facts::Stored;
+
+/// The unit waits behind all others. It is the first where it may run and has more credit than the one that was.
+pub fn enqueue(state: &mut Credit2State, ready: &mut Ready, u: UnitId)
+    requires sound { IsSound state.old }
+    requires ready { IsReadyIn state.old ready.old }
+    requires away { IsAway (scheduler_in state.old) u }
+    ensures seen { seen_in state.new ≡ with_scheduler (enqueue_spec u (scheduler_in state.old))
+        (seen_in state.old) }
+    ensures sound { IsSound state.new }
+    ensures ready { IsReadyIn state.new ready.new }
+{
+    let key = key_of(&state.records, u);
+    state.queue.law_order();
+    state.queue.insert(u, key);
+    state.queue.law_order();
+    ready.first = first_with(&state.records, *ready, u);
+}
+
+/// The unit waits no more. Where it was the first, the next one is looked for.
+pub fn dequeue(state: &mut Credit2State, ready: &mut Ready, u: UnitId)
+    requires sound { IsSound state.old }
+    requires ready { IsReadyIn state.old ready.old }
+    ensures seen { seen_in state.new ≡ with_scheduler (dequeue_spec u (scheduler_in state.old))
+        (seen_in state.old) }
+    ensures sound { IsSound state.new }
+    ensures ready { IsReadyIn state.new ready.new }
+{
+    leave(state, u);
+    if is_there(ready.first, u) {
+        ready.first = first_ready(state, ready.domains);
+    }
+}
+
+/// Begins anew with this rate limit, in microseconds, and no reset yet.
+pub fn restart(state: &mut Credit2State, limit: u32)
+    requires sound { IsSound state.old }
+    requires vacant { is_vacant (scheduler_in state.old) ≡ true }
+    requires limit { limit ≤ 500000 }
+    ensures seen { seen_in state.new ≡ with_scheduler
+        (restarted_scheduler (pool_params.Credit2 limit) (scheduler_in state.old))
+        (seen_in state.old) }
+    ensures sound { IsSound state.new }
+{
+    state.records.limit = limit;
+    state.records.last_reset = None;
+    state.unpinned = true;
+}
+
+/// The weight and the cap of the unit's domain.
+pub fn stored(state: &Credit2State, u: UnitId) -> Stored
+    requires sound { IsSound state.now }
+    requires member { is_member (scheduler_in state.now) u ≡ true }
+    ensures value { stored_of (scheduler_in state.now).records u ≡ Some result }
+    ensures range { IsInRange result }
+{
+    match domain_at(state.records.domains.as_slice(), u.dom) {
+        None => Stored::Null,
+        Some(d) => Stored::Credit2 {
+            weight: d.weight,
+            cap: d.cap,
+        },
+    }
+}
+
+/// Tells what holds of the units that wait.
+pub fn keeps(state: &Credit2State)
+    requires { IsSound state.now }
+    ensures { Keeps (seen_in state.now) }
+{
+    let _ = state;
+}

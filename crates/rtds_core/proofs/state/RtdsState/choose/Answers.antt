@@ -1,0 +1,119 @@
+use Rattle.std.proofs.Common.{◌≡◌, ◌≤◌, ◌∙◌, ap, sym, subst, List, Option, arith, refl}
+use Rattle.std.specs.Option.{IfSome}
+use Rattle.sched_base.specs.declared.Cores.{Cores}
+use Rattle.sched_base.specs.declared.UnitId.{UnitId}
+use Rattle.sched_base.specs.declared.Moment.{Moment}
+use Rattle.sched_model.specs.declared.state.RtdsUnit.{RtdsUnit}
+use Rattle.sched_model.specs.declared.state.Records.TheVariants.{RtdsPool}
+use Rattle.sched_model.specs.Rtds.{burn_cur, switch_off, choice, budget_left}
+use Rattle.sched_model.specs.Policy.{decision_of, after_decision}
+use Rattle.sched_ops.specs.Seen.{Seen, seen_at}
+use Rattle.plain_policy.specs.Parts.{scheduler_of}
+use Rattle.rtds_queue.specs.Lists.{Lists}
+use Rattle.rtds_core.specs.Best.{queue_of, AreQueued, queues_without, dues_with, dues_without, run_from}
+use Rattle.rtds_core.specs.RtdsParts.{IsShaped, seen_of}
+use Rattle.rtds_core.proofs.Changed.{plain_fits}
+use Rattle.rtds_core.proofs.Queues.{IsOrdered}
+use Rattle.rtds_core.proofs.First.{IsKnown}
+use Rattle.rtds_core.proofs.Chosen.{kept_charged, kept_chosen, seen_chosen}
+use Rattle.rtds_core.proofs.Calls.{own_low, choice_known, kept_as, kept_asked, own_asked, known_low}
+use Rattle.rtds_core.proofs.state.RtdsState.choose.Goals as goal
+
+pub burn_cur-requires-clause-fits : goal.burn_cur-requires-clause-fits
+burn_cur-requires-clause-fits c =
+    let i = c.self.inside in
+    let ask = c.args.ask.now in
+    let later = kept_asked i.domains i.affinity i.queues i.masks i.alarms i.spare i.latest ask c.args.self.now c.self.view_is c.requires.asked c.self.invariant in
+    let places = c.self.invariant.shape.places in
+    let most = c.self.invariant.shape.few in
+    plain_fits ask.at.0 i.domains (omega (arith, places, most)) later.fits
+
+pub pick-chosen-requires-clause-queues : goal.pick-chosen-requires-clause-queues
+pick-chosen-requires-clause-queues c =
+    let i = c.self.inside in
+    let ask = c.args.ask.now in
+    let later = kept_asked i.domains i.affinity i.queues i.masks i.alarms i.spare i.latest ask c.args.self.now c.self.view_is c.requires.asked c.self.invariant in
+    let own = own_asked i.domains i.affinity i.queues i.spare i.latest ask c.args.self.now c.self.view_is c.requires.asked c.self.invariant.shape in
+    let charged = kept_charged i.affinity i.queues i.masks i.spare ask.at.0 ask.cur i.domains i.alarms own later in
+    subst (λ (ds : List (Option (List RtdsUnit))). AreQueued ds i.queues) (sym (c.as_slice.ensures ∙ c.burn_cur.ensures.domains)) charged.queued
+
+pub pick-chosen-requires-clause-shape : goal.pick-chosen-requires-clause-shape
+pick-chosen-requires-clause-shape c =
+    let i = c.self.inside in
+    let ask = c.args.ask.now in
+    let later = kept_asked i.domains i.affinity i.queues i.masks i.alarms i.spare i.latest ask c.args.self.now c.self.view_is c.requires.asked c.self.invariant in
+    let own = own_asked i.domains i.affinity i.queues i.spare i.latest ask c.args.self.now c.self.view_is c.requires.asked c.self.invariant.shape in
+    let charged = kept_charged i.affinity i.queues i.masks i.spare ask.at.0 ask.cur i.domains i.alarms own later in
+    subst (λ (a : List (Option (List Cores))). IsShaped c.as_slice.result.now a) (sym c.as_slice-2.ensures)
+    (subst (λ (ds : List (Option (List RtdsUnit))). IsShaped ds i.affinity) (sym (c.as_slice.ensures ∙ c.burn_cur.ensures.domains)) charged.shape)
+
+pub due_of-due-requires-clause-left : goal.due_of-due-requires-clause-left
+due_of-due-requires-clause-left c u =
+    subst (λ (ds : List (Option (List RtdsUnit))). budget_left ds u ≤ 1000000000000) (sym c.as_slice-3.ensures) (c.burn_cur.ensures.left u)
+
+pub stop-requires : goal.stop-requires
+stop-requires c =
+    let i = c.self.inside in
+    let ask = c.args.ask.now in
+    let own = own_asked i.domains i.affinity i.queues i.spare i.latest ask c.args.self.now c.self.view_is c.requires.asked c.self.invariant.shape in
+    record { known = λ u is. (own_low i.domains i.affinity i.queues ask.cur c.self.invariant.shape own u is).id }
+
+pub start-requires : goal.start-requires
+start-requires c =
+    let i = c.self.inside in
+    let ask = c.args.ask.now in
+    let later = kept_asked i.domains i.affinity i.queues i.masks i.alarms i.spare i.latest ask c.args.self.now c.self.view_is c.requires.asked c.self.invariant in
+    let own = own_asked i.domains i.affinity i.queues i.spare i.latest ask c.args.self.now c.self.view_is c.requires.asked c.self.invariant.shape in
+    let charged = kept_charged i.affinity i.queues i.masks i.spare ask.at.0 ask.cur i.domains i.alarms own later in
+    let burned : List (Option (List RtdsUnit)) = burn_cur ask.cur ask.at.0 i.domains in
+    let order : IsOrdered i.queues = record { order = c.law_order.ensures.order; ranks = c.law_order.ensures.ranks; units = c.law_order.ensures.units } in
+    let slice : c.as_slice.result.now ≡ burned = c.as_slice.ensures ∙ c.burn_cur.ensures.domains in
+    let chosen : c.pick-chosen.result ≡ choice ask (seen_of i.domains i.affinity i.queues i.spare i.latest).scheduler burned =
+    c.pick-chosen.ensures ∙ ap (λ (a : List (Option (List Cores))). choice ask (scheduler_of (queue_of i.queues) a (RtdsPool c.as_slice.result.now)) c.as_slice.result.now) c.as_slice-2.ensures
+    ∙ ap (λ (ds : List (Option (List RtdsUnit))). choice ask (scheduler_of (queue_of i.queues) i.affinity (RtdsPool ds)) ds) slice in
+    let known : IfSome c.pick-chosen.result (IsKnown burned) = subst (λ (o : Option UnitId). IfSome o (IsKnown burned)) (sym chosen) (choice_known burned ask (seen_of i.domains i.affinity i.queues i.spare i.latest).scheduler) in
+    record { known = λ u is. (known_low burned i.affinity c.pick-chosen.result charged.shape known u is).id }
+
+pub invariant_of-self : goal.invariant_of-self
+invariant_of-self c =
+    let i = c.self.inside in
+    let ask = c.args.ask.now in
+    let later = kept_asked i.domains i.affinity i.queues i.masks i.alarms i.spare i.latest ask c.args.self.now c.self.view_is c.requires.asked c.self.invariant in
+    let own = own_asked i.domains i.affinity i.queues i.spare i.latest ask c.args.self.now c.self.view_is c.requires.asked c.self.invariant.shape in
+    let charged = kept_charged i.affinity i.queues i.masks i.spare ask.at.0 ask.cur i.domains i.alarms own later in
+    let burned : List (Option (List RtdsUnit)) = burn_cur ask.cur ask.at.0 i.domains in
+    let order : IsOrdered i.queues = record { order = c.law_order.ensures.order; ranks = c.law_order.ensures.ranks; units = c.law_order.ensures.units } in
+    let slice : c.as_slice.result.now ≡ burned = c.as_slice.ensures ∙ c.burn_cur.ensures.domains in
+    let chosen : c.pick-chosen.result ≡ choice ask (seen_of i.domains i.affinity i.queues i.spare i.latest).scheduler burned =
+    c.pick-chosen.ensures ∙ ap (λ (a : List (Option (List Cores))). choice ask (scheduler_of (queue_of i.queues) a (RtdsPool c.as_slice.result.now)) c.as_slice.result.now) c.as_slice-2.ensures
+    ∙ ap (λ (ds : List (Option (List RtdsUnit))). choice ask (scheduler_of (queue_of i.queues) i.affinity (RtdsPool ds)) ds) slice in
+    let known : IfSome c.pick-chosen.result (IsKnown burned) = subst (λ (o : Option UnitId). IfSome o (IsKnown burned)) (sym chosen) (choice_known burned ask (seen_of i.domains i.affinity i.queues i.spare i.latest).scheduler) in
+    let off : c.stop.new.domains ≡ switch_off ask.cur burned = c.stop.ensures.domains ∙ ap (switch_off ask.cur) c.burn_cur.ensures.domains in
+    let domains : c.start.new.domains ≡ run_from ask.at.0 c.pick-chosen.result (switch_off ask.cur burned) = c.start.ensures.domains ∙ ap (run_from ask.at.0 c.pick-chosen.result) off in
+    let alarms : c.start.new.alarms ≡ dues_with (switch_off ask.cur burned) c.pick-chosen.result (dues_without ask.cur i.alarms) =
+    c.start.ensures.alarms ∙ ap (λ (ds : List (Option (List RtdsUnit))). dues_with ds c.pick-chosen.result c.stop.new.alarms) off
+    ∙ ap (λ (dues : List (Option Moment)). dues_with (switch_off ask.cur burned) c.pick-chosen.result dues) c.stop.ensures.alarms in
+    kept_as (run_from ask.at.0 c.pick-chosen.result (switch_off ask.cur burned)) c.start.new.domains i.affinity i.affinity (queues_without c.pick-chosen.result i.queues) c.start.new.queues i.masks
+    (dues_with (switch_off ask.cur burned) c.pick-chosen.result (dues_without ask.cur i.alarms)) c.start.new.alarms i.spare ask.at.0 domains refl c.start.ensures.queues alarms
+    (kept_chosen i.affinity i.queues i.masks i.spare ask.at.0 ask.cur c.pick-chosen.result i.domains i.alarms own known order later)
+
+pub returns-clause-after : goal.returns-clause-after
+returns-clause-after c =
+    let i = c.self.inside in
+    let ask = c.args.ask.now in
+    let later = kept_asked i.domains i.affinity i.queues i.masks i.alarms i.spare i.latest ask c.args.self.now c.self.view_is c.requires.asked c.self.invariant in
+    let own = own_asked i.domains i.affinity i.queues i.spare i.latest ask c.args.self.now c.self.view_is c.requires.asked c.self.invariant.shape in
+    let charged = kept_charged i.affinity i.queues i.masks i.spare ask.at.0 ask.cur i.domains i.alarms own later in
+    let burned : List (Option (List RtdsUnit)) = burn_cur ask.cur ask.at.0 i.domains in
+    let order : IsOrdered i.queues = record { order = c.law_order.ensures.order; ranks = c.law_order.ensures.ranks; units = c.law_order.ensures.units } in
+    let slice : c.as_slice.result.now ≡ burned = c.as_slice.ensures ∙ c.burn_cur.ensures.domains in
+    let chosen : c.pick-chosen.result ≡ choice ask (seen_of i.domains i.affinity i.queues i.spare i.latest).scheduler burned =
+    c.pick-chosen.ensures ∙ ap (λ (a : List (Option (List Cores))). choice ask (scheduler_of (queue_of i.queues) a (RtdsPool c.as_slice.result.now)) c.as_slice.result.now) c.as_slice-2.ensures
+    ∙ ap (λ (ds : List (Option (List RtdsUnit))). choice ask (scheduler_of (queue_of i.queues) i.affinity (RtdsPool ds)) ds) slice in
+    let known : IfSome c.pick-chosen.result (IsKnown burned) = subst (λ (o : Option UnitId). IfSome o (IsKnown burned)) (sym chosen) (choice_known burned ask (seen_of i.domains i.affinity i.queues i.spare i.latest).scheduler) in
+    let off : c.stop.new.domains ≡ switch_off ask.cur burned = c.stop.ensures.domains ∙ ap (switch_off ask.cur) c.burn_cur.ensures.domains in
+    let domains : c.start.new.domains ≡ run_from ask.at.0 c.pick-chosen.result (switch_off ask.cur burned) = c.start.ensures.domains ∙ ap (run_from ask.at.0 c.pick-chosen.result) off in
+    ap (λ (ds : List (Option (List RtdsUnit))). seen_of ds i.affinity c.start.new.queues i.spare ask.at.0) domains
+    ∙ ap (λ (q : Lists). seen_of (run_from ask.at.0 c.pick-chosen.result (switch_off ask.cur burned)) i.affinity q i.spare ask.at.0) c.start.ensures.queues
+    ∙ seen_chosen i.affinity i.queues i.masks i.spare ask.at.0 ask c.pick-chosen.result i.domains i.alarms i.latest refl own known order later chosen
+    ∙ ap (λ (s : Seen). seen_at ask.at.0 (after_decision (decision_of ask s.scheduler) s.scheduler) s) c.self.view_is
