@@ -1,13 +1,12 @@
 -- What an accepted command does to the tool's part is what it does to the state.
 use Rattle.sched_base.specs.Numbers.{pool as pool_number}
-use Rattle.std.proofs.Common.{◌≡◌, ◌+◌, ℕ, zero, suc, Bool, true, false, not, List, [], ◌∷◌, Option, Some, None, Result, Ok, Err, length, map, refl, sym, ◌∙◌, ap, cond, add-zero, zero-add, arith}
+use Rattle.std.proofs.Common.{◌≡◌, ◌+◌, ℕ, zero, suc, Bool, true, false, not, List, [], ◌∷◌, Option, Some, None, Result, Ok, Err, length, map, refl, sym, ◌∙◌, ap, cond, zero-add}
 use Rattle.std.specs.Prelude.{◌==◌, ◌&&◌, ◌||◌, is_some, option_map, slice_set, replicate}
 use Rattle.std.proofs.lemmas.List.{map-set}
 use Rattle.sched_base.specs.declared.Name.{Name}
 use Rattle.sched_base.specs.declared.Moment.{Moment}
 use Rattle.sched_model.specs.declared.config.ParamChange.TheVariants as changes
 use Rattle.sched_model.specs.declared.config.SchedKind.{SchedKind}
-use Rattle.sched_model.specs.declared.config.SchedKind.TheVariants as kinds
 use Rattle.sched_base.specs.declared.DomId.{DomId}
 use Rattle.sched_base.specs.declared.PoolId.{PoolId}
 use Rattle.sched_base.specs.declared.ResId.{ResId}
@@ -24,18 +23,20 @@ use Rattle.sched_model.specs.declared.state.Resource.{Resource}
 use Rattle.sched_model.specs.declared.state.State.{State}
 use Rattle.sched_model.specs.Places.{at_place, change_at, put_at, clear_at, numbers_from}
 use Rattle.sched_model.specs.Opening.{empty_pool, core_count}
-use Rattle.sched_model.specs.Policy.{kind_of, fresh_records, default_pool_params}
+use Rattle.sched_model.specs.Policy.{default_pool_params}
 use Rattle.sched_model.specs.Pool.{settled_pool, set_params, pause, unpause, set_moving, set_leaving, change_domain}
 use Rattle.sched_model.specs.Actions.{home_of_domain, change_pool}
 use Rattle.sched_model.specs.Commands.{carried_out, change_home, set_rtds, pool_of_plan}
 use Rattle.sched_model.specs.Machine.{verdict, after_command, settled_at}
+use Rattle.sched_model.proofs.PlaceLemmas.{at_place-map}
 use Rattle.journal_core.specs.Parts.{Outline, UnderWay, ToolPart, core_to, domain_to, outline_of, first_answer, leaving_pool, core_leaving, domain_moving, core_joining, under_way_of, tool_of as part_of_tool}
 use Rattle.cpupool.specs.Tool.{Tool, tool_of, ends_of, entry_of}
-use Rattle.cpupool.specs.Judging.{has_core}
-use Rattle.cpupool.specs.Advanced.{empty_outline, after_advance, carried_part, has_domain_at}
-use Rattle.cpupool.proofs.SubjectLemmas.{at_place-map, flag-there, there-map, length-map as length_map}
-use Rattle.cpupool.proofs.OpenedLemmas.{map_none}
+use Rattle.cpupool.specs.Verdicts.{has_core}
+use Rattle.cpupool.specs.ToolAdvance.{empty_outline, after_advance, carried_part, has_domain_at}
+use Rattle.cpupool.proofs.AnswerLemmas.{answer_change, answer_put, changed_answer, clear_none, no_answer, none_at, none_either, or_else, put_none}
+use Rattle.cpupool.proofs.SubjectLemmas.{flag-there, there-map, length-map as length_map, map_none}
 use Rattle.cpupool.proofs.SightLemmas.{IsStill, map_change, outline_still, leaving_still, settled_still, params_still, withdrawn_still, pause_still, unpause_still, rtds_still}
+use Rattle.sched_laws.proofs.Records.{kind_default}
 
 -- the tool sees the same of both states
 record IsSame (a b : State) : Type 0 where
@@ -67,17 +68,6 @@ same_part a b same =
     ∙ ap (λ x. part_by b.names (map (option_map outline_of) b.pools) (first_answer leaving_pool 0 b.pools) b.free x a.next_command) same.stall
     ∙ ap (λ x. part_by b.names (map (option_map outline_of) b.pools) (first_answer leaving_pool 0 b.pools) b.free b.next_stall x) same.command
 
--- one place changed without a change of its answer
-pub answer_change : {X Y : Type 0} (h : ℕ → X → Option Y) (f : X → X) → ((n : ℕ) (x : X) → h n (f x) ≡ h n x) → (i n : ℕ) (places : List (Option X)) → first_answer h n (change_at i f places) ≡ first_answer h n places
-answer_change h f same i n [] = refl
-answer_change h f same zero n (None ∷ places) = refl
-answer_change {X} {Y} h f same zero n (Some x ∷ places) =
-    ap (λ (o : Option Y). elim o [ Some y ↦ Some y | None ↦ first_answer h (suc n) places ]) (same n x)
-answer_change h f same (suc i) n (None ∷ places) = answer_change h f same i (suc n) places
-answer_change {X} {Y} h f same (suc i) n (Some x ∷ places) =
-    let answer : Option Y → Option Y = λ rest. elim (h n x) [ Some y ↦ Some y | None ↦ rest ] in
-    ap answer (answer_change h f same i (suc n) places)
-
 still_pool : (i : ℕ) (f : Pool → Pool) (s : State) → ((pool : Pool) → IsStill (f pool) pool) → part_of_tool (change_pool i f s) ≡ part_of_tool s
 still_pool i f s same = same_part (change_pool i f s) s (record {
   names = refl;
@@ -95,99 +85,14 @@ still_settled : (t : ℕ) (o : Option ℕ) (s : State) → part_of_tool (settled
 still_settled t None s = refl
 still_settled t (Some i) s = still_pool i (settled_pool t) s (settled_still t)
 
--- an answer, or else another
-abbrev answer_else : {Y : Type 0} → Option Y → Option Y → Option Y
-answer_else o rest = elim o [ Some y ↦ Some y | None ↦ rest ]
-
--- no place answers, and one is changed so that it does
-pub first_none : {X Y : Type 0} (h : ℕ → X → Option Y) (n : ℕ) (x : X) (places : List (Option X)) → first_answer h n (Some x ∷ places) ≡ None → (h n x ≡ None) × (first_answer h (suc n) places ≡ None)
-first_none {X} {Y} h n x places none = split (h n x) none
-  where
-    split : (o : Option Y) → answer_else o (first_answer h (suc n) places) ≡ None → (o ≡ None) × (first_answer h (suc n) places ≡ None)
-    split None none = (refl, none)
-    split (Some y) none = cc
-
-abbrev changed_answer : {X Y : Type 0} → (X → Option Y) → Option X → Option Y
-changed_answer f None = None
-changed_answer f (Some x) = f x
-
-answer_put : {X Y : Type 0} (h : ℕ → X → Option Y) (f : X → X) (i n : ℕ) (places : List (Option X)) → first_answer h n places ≡ None
-    → first_answer h n (change_at i f places) ≡ changed_answer (λ x. h (n + i) (f x)) (at_place places i)
-answer_put h f i n [] none = refl
-answer_put h f zero n (None ∷ places) none = none
-answer_put {X} {Y} h f zero n (Some x ∷ places) none =
-    let rest = (first_none h n x places none).1 in
-    let answer : Option Y → Option Y → Option Y = λ o r. elim o [ Some y ↦ Some y | None ↦ r ] in
-    ap (answer (h n (f x))) rest
-    ∙ elim (h n (f x)) as (λ o. answer o None ≡ o) [ Some y ↦ refl | None ↦ refl ]
-    ∙ ap (λ k. h k (f x)) (sym (add-zero n))
-answer_put h f (suc i) n (None ∷ places) none = answer_put h f i (suc n) places none ∙ ap (λ k. changed_answer (λ x. h k (f x)) (at_place places i)) (next n i)
-  where
-    next : (n i : ℕ) → suc n + i ≡ n + suc i
-    next n i = omega arith
-answer_put {X} {Y} h f (suc i) n (Some x ∷ places) none =
-    let split = first_none h n x places none in
-    let answer : Option Y → Option Y = λ o. elim o [ Some y ↦ Some y | None ↦ first_answer h (suc n) (change_at i f places) ] in
-    let next : suc n + i ≡ n + suc i = omega arith in
-    ap answer split.0 ∙ answer_put h f i (suc n) places split.1 ∙ ap (λ k. changed_answer (λ x. h k (f x)) (at_place places i)) next
-
-pub none_at : {X Y : Type 0} (h : ℕ → X → Option Y) (i n : ℕ) (places : List (Option X)) (x : X) → first_answer h n places ≡ None → at_place places i ≡ Some x → h (n + i) x ≡ None
-none_at h i n [] x none there = cc
-none_at h zero n (None ∷ places) x none there = cc
-none_at h zero n (Some y ∷ places) x none there =
-    let same : y ≡ x = cc in
-    ap (λ k. h k x) (add-zero n) ∙ ap (h n) (sym same) ∙ (first_none h n y places none).0
-none_at h (suc i) n (None ∷ places) x none there = ap (λ k. h k x) (next n i) ∙ none_at h i (suc n) places x none there
-  where
-    next : (n i : ℕ) → n + suc i ≡ suc n + i
-    next n i = omega arith
-none_at h (suc i) n (Some y ∷ places) x none there =
-    let next : n + suc i ≡ suc n + i = omega arith in
-    ap (λ k. h k x) next ∙ none_at h i (suc n) places x (first_none h n y places none).1 there
-
--- a place made empty, or given what does not answer
-put_none : {X Y : Type 0} (h : ℕ → X → Option Y) (x : X) → ((n : ℕ) → h n x ≡ None) → (i n : ℕ) (places : List (Option X)) → first_answer h n places ≡ None → first_answer h n (put_at i x places) ≡ None
-put_none h x quiet i n [] none = none
-put_none {X} {Y} h x quiet zero n (None ∷ places) none = ap (λ (o : Option Y). elim o [ Some y ↦ Some y | None ↦ first_answer h (suc n) places ]) (quiet n) ∙ none
-put_none {X} {Y} h x quiet zero n (Some z ∷ places) none = ap (λ (o : Option Y). elim o [ Some y ↦ Some y | None ↦ first_answer h (suc n) places ]) (quiet n) ∙ (first_none h n z places none).1
-put_none h x quiet (suc i) n (None ∷ places) none = put_none h x quiet i (suc n) places none
-put_none {X} {Y} h x quiet (suc i) n (Some z ∷ places) none =
-    ap (λ (o : Option Y). elim o [ Some y ↦ Some y | None ↦ first_answer h (suc n) (put_at i x places) ]) (first_none h n z places none).0 ∙ put_none h x quiet i (suc n) places (first_none h n z places none).1
-
-clear_none : {X Y : Type 0} (h : ℕ → X → Option Y) (i n : ℕ) (places : List (Option X)) → first_answer h n places ≡ None → first_answer h n (clear_at i places) ≡ None
-clear_none h i n [] none = none
-clear_none h zero n (None ∷ places) none = none
-clear_none h zero n (Some z ∷ places) none = (first_none h n z places none).1
-clear_none h (suc i) n (None ∷ places) none = clear_none h i (suc n) places none
-clear_none {X} {Y} h (suc i) n (Some z ∷ places) none =
-    ap (λ (o : Option Y). elim o [ Some y ↦ Some y | None ↦ first_answer h (suc n) (clear_at i places) ]) (first_none h n z places none).0 ∙ clear_none h i (suc n) places (first_none h n z places none).1
-
--- nothing is on its way from the pools, nor from the cores of none
-abbrev pub or_else : Option UnderWay → Option UnderWay → Option UnderWay
-or_else a b = elim a [ Some way ↦ Some way | None ↦ b ]
-
-pub none_either : (a b : Option UnderWay) → or_else a b ≡ None → (a ≡ None) × (b ≡ None)
-none_either None b none = (refl, none)
-none_either (Some way) b none = cc
-
 -- a pool without cores and domains
 no_flags : (X : Type 0) (n : ℕ) → map (is_some {T = X}) (replicate n None) ≡ replicate n false
 no_flags X zero = refl
 no_flags X (suc n) = ap (λ rest. false ∷ rest) (no_flags X n)
 
-no_answer : {X Y : Type 0} (h : ℕ → X → Option Y) (n count : ℕ) → first_answer h n (replicate count None) ≡ None
-no_answer h n zero = refl
-no_answer h n (suc count) = no_answer h (suc n) count
-
-default_kind : (kind : SchedKind) (domains cores : ℕ) → kind_of (fresh_records (default_pool_params kind) domains cores) ≡ kind
-default_kind kinds.Credit2 domains cores = refl
-default_kind kinds.Rtds domains cores = refl
-default_kind kinds.Arinc653 domains cores = refl
-default_kind kinds.Null domains cores = refl
-
 empty_seen : (m : Machine) (s : State) (kind : SchedKind) → outline_of (empty_pool m.config (default_pool_params kind)) ≡ empty_outline (tool_of m s) kind
 empty_seen m s kind =
-    let kinds_same = default_kind kind (length m.config.domains) (core_count m.config) in
+    let kinds_same = kind_default kind (length m.config.domains) (core_count m.config) in
     let cores = no_flags Resource (core_count m.config) in
     let domains = map_none (λ (d : Domain). length d.vcpus) (length m.config.domains) ∙ ap (λ n. replicate n None) (sym (length_map entry_of m.config.domains)) in
     cc (kinds_same, cores, domains)

@@ -16,23 +16,25 @@ use Rattle.sched_model.specs.declared.state.Records.TheVariants.{Credit2Pool, Rt
 use Rattle.sched_model.specs.declared.state.Resource.{Resource}
 use Rattle.sched_model.specs.declared.state.State.{State}
 use Rattle.sched_model.specs.Places.{at_place, change_at, put_at, clear_at, first_place, numbers_from}
-use Rattle.sched_model.specs.Policy.{kind_of, joined_records, parted_records, default_dom_params}
+use Rattle.sched_model.specs.Policy.{kind_of, parted_records, default_dom_params}
 use Rattle.sched_model.specs.Pool as pools
 use Rattle.sched_model.specs.Pool.{settled_pool, queue_units, unit_count}
 use Rattle.sched_model.specs.Actions.{home_of_core, change_pool}
 use Rattle.sched_model.specs.Opening.{fresh_core}
 use Rattle.sched_model.specs.Policy as policy
 use Rattle.sched_model.specs.Machine.{after, after_moved, after_dom_moved, with_core_in, without_core_in, left_by, joined_by, is_null, is_move_under_way}
+use Rattle.sched_model.proofs.PlaceLemmas.{at_place-map}
 use Rattle.journal_core.specs.Parts.{Outline, UnderWay, core_to, domain_to, outline_of, first_answer, leaving_pool, core_leaving, domain_moving, core_joining, under_way_of}
-use Rattle.sched_laws.proofs.Records.{same_joined}
 use Rattle.cpupool.specs.Tool.{Tool, tool_of}
-use Rattle.cpupool.specs.Arrived.{with_core, with_domain, without_domain, size_at, handed_over, core_home, pools_after, after_arrival, action_of, but_for_free, EndsTheMove}
+use Rattle.cpupool.specs.Verdicts.{core_home}
+use Rattle.cpupool.specs.ToolArrival.{with_core, with_domain, without_domain, size_at, handed_over, pools_after, after_arrival, action_of, but_for_free, EndsTheMove}
+use Rattle.cpupool.proofs.OpenedLemmas.{joined_kind}
 use Rattle.cpupool.proofs.AlikeLemmas.{IsAlike, queued_alike}
 use Rattle.cpupool.proofs.SightLemmas.{core_sight, domain_sight, outline_still, settled_still}
-use Rattle.cpupool.proofs.SubjectLemmas.{at_place-map, core_home-seen, domain_home-seen}
+use Rattle.cpupool.proofs.SubjectLemmas.{core_home-seen, domain_home-seen}
 use Rattle.cpupool.proofs.WayLemmas.{under_way-seen}
 use Rattle.cpupool.proofs.StallLemmas.{map_changed}
-use Rattle.cpupool.proofs.AdvanceLemmas.{none_at, none_either, or_else}
+use Rattle.cpupool.proofs.AnswerLemmas.{none_at, none_either, or_else}
 
 -- the place that answers
 abbrev Found : {X Y : Type 0} → (ℕ → X → Option Y) → ℕ → List (Option X) → Y → Type 0
@@ -223,9 +225,6 @@ parted_kind (Credit2Pool records) d = refl
 parted_kind (RtdsPool domains) d = refl
 parted_kind (ArincPool records) d = refl
 parted_kind (NullPool kept) d = refl
-
-joined_kind : (records : Records) (params : DomParams) (d count t : ℕ) → kind_of (joined_records records params d count t) ≡ kind_of records
-joined_kind = same_joined kind_of (λ a b. refl) (λ a b. refl)
 
 abbrev size_of : Domain → ℕ
 size_of domain = length domain.vcpus

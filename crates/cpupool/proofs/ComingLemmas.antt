@@ -8,12 +8,12 @@ use Rattle.sched_model.specs.declared.state.State.{State}
 use Rattle.sched_model.specs.declared.action.Action.TheVariants.{Stall, Xl}
 use Rattle.sched_model.specs.Places.{at_place, test_at}
 use Rattle.sched_model.specs.Machine.{is_enabled, free_ready}
+use Rattle.sched_model.proofs.PlaceLemmas.{at_place-map}
 use Rattle.journal_core.specs.Parts.{UnderWay, core_to, domain_to, under_way_of}
 use Rattle.cpupool.specs.Tool.{tool_of, ends_of}
 use Rattle.cpupool.specs.Steps.{stall_comes, joining_ready, first_end_up}
 use Rattle.cpupool.specs.Dues.{is_anything_due}
-use Rattle.cpupool.specs.Coming.{joins_at, may_join, tool_may_act}
-use Rattle.cpupool.proofs.SubjectLemmas.{at_place-map}
+use Rattle.cpupool.specs.ToolActions.{joins_at, may_join, tool_may_act}
 use Rattle.cpupool.proofs.WayLemmas.{command-seen}
 use Rattle.cpupool.proofs.ArrivedLemmas.{core_joins}
 

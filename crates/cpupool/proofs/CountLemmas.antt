@@ -9,7 +9,7 @@ use Rattle.sched_model.specs.Places.{numbered_items, first_empty}
 use Rattle.sched_model.specs.Pool.{cores_from}
 use Rattle.sched_model.specs.Commands.{cores_in, domains_in, last_core_fault}
 use Rattle.journal_core.specs.Parts.{outline_of}
-use Rattle.cpupool.specs.Judging.{core_total, domain_total, flags_from, last_core}
+use Rattle.cpupool.specs.Verdicts.{core_total, domain_total, flags_from, last_core}
 use Rattle.cpupool.proofs.SubjectLemmas.{first_place-map}
 
 -- one more is counted first

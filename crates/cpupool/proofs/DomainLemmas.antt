@@ -28,7 +28,7 @@ use Rattle.sched_model.specs.Pool.{unit_count}
 use Rattle.sched_model.specs.Commands.{demand, demand_range, in_range, is_kind, has_vcpu, refused_by, rtds_fault, rtds_units, judge_rtds}
 use Rattle.cpupool.specs.Tool.{tool_of}
 use Rattle.cpupool.specs.Facts.{HasValues, stored_from}
-use Rattle.cpupool.specs.Judging.{given_range, seen_limit, seen_weight, weight_reply, rtds_reply, seen_rtds, seen_rtds_units, seen_rtds_guest}
+use Rattle.cpupool.specs.Verdicts.{given_range, seen_limit, seen_weight, weight_reply, rtds_reply, seen_rtds, seen_rtds_units, seen_rtds_guest}
 use Rattle.cpupool.proofs.FactLemmas.{weight-known, units-stored, fault-stored, reply-stored, one-stored, rtds_stored}
 use Rattle.cpupool.proofs.NumberLemmas.{unit_of_vcpu}
 

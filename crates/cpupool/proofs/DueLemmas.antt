@@ -12,22 +12,22 @@ use Rattle.cpupool.specs.Steps.{stall_comes, command_comes, joining_ready, first
 use Rattle.cpupool.specs.Dues.{is_anything_due, IsLeastLater, has_come, sooner_moment, later_than, stall_at, command_at, joining_at, first_end, soonest_moment}
 
 -- a moment after which something is due
-later_least : (t : ℕ) (at : Option ℕ) → IsLeastLater t (has_come at) (later_than t at)
+later_least : (t : ℕ) (at : Option Moment) → IsLeastLater t (has_come at) (later_than t at)
 later_least t None = λ later after. refl
 later_least t (Some at) = (omega arith, grind (arith, nat_tests), λ later after before. grind (arith, nat_tests))
 
-either_come : (a b : Option ℕ) (t : ℕ) → has_come (sooner_moment a b) t ≡ has_come a t || has_come b t
+either_come : (a b : Option Moment) (t : ℕ) → has_come (sooner_moment a b) t ≡ has_come a t || has_come b t
 either_come None b t = refl
-either_come (Some a) None t = elim (nat_le a t) as (λ x. x ≡ x || false) [ true ↦ refl | false ↦ refl ]
+either_come (Some a) None t = elim (nat_le a.0 t) as (λ x. x ≡ x || false) [ true ↦ refl | false ↦ refl ]
 either_come (Some a) (Some b) t = grind (arith, nat_tests)
 
 stall_come : (tool : Tool) (t : ℕ) → has_come (stall_at tool) t ≡ stall_comes tool t
-stall_come tool t = elim (slice_get tool.stalls tool.part.next_stall) as (λ o. has_come (option_map (λ (line : StallLine). line.at.0) o) t ≡ (elim o [ None ↦ false | Some line ↦ nat_le line.at.0 t ])) [ None ↦ refl | Some line ↦ refl ]
+stall_come tool t = elim (slice_get tool.stalls tool.part.next_stall) as (λ o. has_come (option_map (λ (line : StallLine). line.at) o) t ≡ (elim o [ None ↦ false | Some line ↦ nat_le line.at.0 t ])) [ None ↦ refl | Some line ↦ refl ]
 
 command_come : (tool : Tool) (t : ℕ) → has_come (command_at tool) t ≡ command_comes tool t
 command_come tool t = by_idle (is_none tool.part.under_way) (slice_get tool.commands tool.part.next_command)
   where
-    by_idle : (idle : Bool) (o : Option CommandLine) → has_come (cond idle (option_map (λ (line : CommandLine). line.at.0) o) None) t ≡ (elim o [ None ↦ false | Some line ↦ nat_le line.at.0 t && idle ])
+    by_idle : (idle : Bool) (o : Option CommandLine) → has_come (cond idle (option_map (λ (line : CommandLine). line.at) o) None) t ≡ (elim o [ None ↦ false | Some line ↦ nat_le line.at.0 t && idle ])
     by_idle true None = refl
     by_idle true (Some line) = elim (nat_le line.at.0 t) as (λ b. b ≡ b && true) [ true ↦ refl | false ↦ refl ]
     by_idle false None = refl

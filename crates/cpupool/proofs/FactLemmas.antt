@@ -3,6 +3,7 @@ use Rattle.sched_base.specs.Numbers.{span, domain as domain_number, pool as pool
 use Rattle.std.proofs.Common.{◌≡◌, ◌+◌, ◌/◌, ◌<◌, ◌≤◌, ℕ, zero, suc, Bool, true, false, List, [], ◌∷◌, Option, Some, None, length, map, take, drop, refl, sym, ◌∙◌, ap, subst, add-zero, arith}
 use Rattle.std.specs.Prelude.{option_map, unwrap_or, slice_get, cond}
 use Rattle.sched_base.specs.declared.UnitId.{UnitId}
+use Rattle.sched_model.specs.declared.command.Command.{Command}
 use Rattle.sched_model.specs.declared.command.Which.{Which}
 use Rattle.sched_model.specs.declared.event.Refusal.{Refusal}
 use Rattle.sched_model.specs.declared.event.Refusal.TheVariants as refusal
@@ -17,7 +18,7 @@ use Rattle.sched_model.specs.declared.state.Credit2Records.{Credit2Records}
 use Rattle.sched_model.specs.declared.state.Domain.{Domain}
 use Rattle.sched_model.specs.declared.state.Pool.{Pool}
 use Rattle.sched_model.specs.declared.state.Records.{Records}
-use Rattle.sched_model.specs.declared.state.Records.TheVariants.{Credit2Pool, RtdsPool}
+use Rattle.sched_model.specs.declared.state.Records.TheVariants.{Credit2Pool, RtdsPool, ArincPool, NullPool}
 use Rattle.sched_model.specs.declared.state.RtdsUnit.{RtdsUnit}
 use Rattle.sched_model.specs.declared.state.State.{State}
 use Rattle.sched_model.specs.Actions.{home_of_domain}
@@ -25,9 +26,12 @@ use Rattle.sched_model.specs.Places.{at_place}
 use Rattle.sched_model.specs.Policy.{rate_of, rtds_record}
 use Rattle.sched_model.specs.Pool.{unit_count}
 use Rattle.sched_model.specs.Commands.{pool_of, domain_of, in_range, rtds_fault, rtds_units}
-use Rattle.cpupool.specs.Facts.{pool_subject, domain_subject, no_subject, stored_from, stored_in, rate_at, stored_at}
+use Rattle.sched_laws.specs.EachPlace.{EachPlace}
+use Rattle.sched_laws.proofs.Lists.{item_below}
+use Rattle.sched_records.specs.Records.{HasRecords, IsRecorded}
+use Rattle.cpupool.specs.Facts.{KeepsFacts, pool_subject, domain_subject, no_subject, stored_from, stored_in, rate_at, stored_at}
 use Rattle.sched_model.specs.Policy.{stored_of}
-use Rattle.cpupool.specs.Judging.{weight_reply, stored_fault, rtds_reply}
+use Rattle.cpupool.specs.Verdicts.{weight_reply, stored_fault, rtds_reply}
 
 -- the rate limit of the pool that is named
 pub rate-known : (s : State) (which : Which) (i : ℕ) (pool : Pool) → pool_of s which ≡ Some i → at_place s.pools i ≡ Some pool → rate_at s (pool_subject s which) ≡ rate_of pool.scheduler.records
@@ -125,3 +129,29 @@ one-stored records d first (suc count) (suc k) below all =
           let next : suc first + k ≡ first + suc k = omega arith in
           one-stored records d (suc first) count k (omega arith) (omega arith) ∙ ap (λ n. stored_from records d n 1) next
     ] all
+
+-- where each of the units has a value, so many are kept
+stored-count : (records : Records) (d first count : ℕ) → ((n : ℕ) → n < first + count → (x : Stored) × (stored_of records (unit_at d n) ≡ Some x)) → length (stored_from records d first count) ≡ count
+stored-count records d first zero has = refl
+stored-count records d first (suc count) has =
+    let here = has first (omega arith) in
+    let rest = stored-count records d (suc first) count (λ n low. has n (omega (arith, low))) in
+    ap (λ (o : Option Stored). length (elim o as (λ _. List Stored) [ None ↦ [] | Some x ↦ x ∷ stored_from records d (suc first) count ])) here.1 ∙ ap suc rest
+
+stored-each : (records : Records) (d count : ℕ) → IsRecorded records d count → (n : ℕ) → n < 0 + count → (x : Stored) × (stored_of records (unit_at d n) ≡ Some x)
+stored-each (Credit2Pool records) d count kept n low = (stored.Credit2 kept.domain.weight kept.domain.cap, ap (option_map (λ (x : Credit2Domain). stored.Credit2 x.weight x.cap)) kept.at)
+stored-each (RtdsPool domains) d count kept n low =
+    let item = item_below kept.records n (let same = kept.units in omega (arith, low, same)) in
+    (rtds_stored item.0, ap (option_map rtds_stored) (ap (λ (o : Option (List RtdsUnit)). elim o as (λ _. Option RtdsUnit) [ None ↦ None | Some units ↦ slice_get units n ]) kept.at ∙ item.1))
+stored-each (ArincPool records) d count kept n low = (stored.Arinc653, refl)
+stored-each (NullPool cores) d count kept n low = (stored.Null, refl)
+
+-- where the schedulers keep records of all units, they keep values of those of the domain that a command names
+pub facts-kept : (m : Machine) (s : State) (c : Command) → EachPlace (HasRecords m.config.granularity) s.pools → KeepsFacts m s c
+facts-kept m s c recorded = λ d named i pool domain home there here.
+    let has = recorded i pool there in
+    let count = unit_count m.config.granularity domain in
+    record {
+      some_unit = has.some_unit d.0 domain here;
+      all_units = stored-count pool.scheduler.records d.0 0 count (stored-each pool.scheduler.records d.0 count (has.recorded d.0 domain here));
+    }

@@ -8,7 +8,7 @@ use Rattle.sched_model.specs.Pool.{cores_from}
 use Rattle.sched_model.specs.State.{has_core}
 use Rattle.sched_model.specs.declared.state.Resource.{Resource}
 use Rattle.sched_laws.proofs.HomeCores.{home_has}
-use Rattle.cpupool.specs.Judging.{flags_from}
+use Rattle.cpupool.specs.Verdicts.{flags_from}
 
 -- a core of a pool where a free one is
 abbrev core_for : Option (List Moment) → Option Resource

@@ -1,5 +1,5 @@
 -- The answer to a command by what the tool knows is the answer of the definitions.
-use Rattle.sched_model.specs.Checked.{most_span}
+use Rattle.sched_model.specs.CheckedMachine.{most_span}
 use Rattle.sched_base.specs.Numbers.{domain as domain_number}
 use Rattle.std.proofs.Common.{◌≡◌, ◌/◌, Some, None, refl, ◌∙◌, ap}
 use Rattle.sched_model.specs.declared.command.Command.{Command}
@@ -16,7 +16,7 @@ use Rattle.journal_core.specs.Parts.{outline_of}
 use Rattle.cpupool.specs.Tool.{tool_of}
 use Rattle.sched_model.specs.Pool.{unit_count}
 use Rattle.cpupool.specs.Facts.{facts_of, KeepsFacts, no_subject}
-use Rattle.cpupool.specs.Judging.{seen_judge}
+use Rattle.cpupool.specs.Verdicts.{seen_judge}
 use Rattle.cpupool.proofs.SubjectLemmas.{flag-there, core_home-seen}
 use Rattle.cpupool.proofs.CountLemmas.{cores-seen, domains-seen, places-count, first_empty-map, last_core-seen}
 use Rattle.cpupool.proofs.NamedLemmas.{named_outline, named_size}

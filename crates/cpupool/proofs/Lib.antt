@@ -11,6 +11,7 @@ pub mod ListLemmas
 pub mod JudgeLemmas
 pub mod OutlineLemmas
 pub mod AlikeLemmas
+pub mod AnswerLemmas
 pub mod SightLemmas
 pub mod OpenedLemmas
 pub mod AdvanceLemmas

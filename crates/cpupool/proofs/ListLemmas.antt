@@ -21,7 +21,7 @@ use Rattle.sched_model.specs.Commands.{demand, domain_of, frame_entry, frame_ent
 use Rattle.journal_core.specs.Parts.{outline_of}
 use Rattle.cpupool.specs.declared.outline.DomainEntry.{DomainEntry}
 use Rattle.cpupool.specs.Tool.{tool_of, entry_of}
-use Rattle.cpupool.specs.Judging.{guests_in, seen_entry, seen_entries, seen_frame, seen_guest, seen_cores, seen_elsewhere}
+use Rattle.cpupool.specs.Verdicts.{guests_in, seen_entry, seen_entries, seen_frame, seen_guest, seen_cores, seen_elsewhere}
 use Rattle.cpupool.proofs.SubjectLemmas.{domain-seen}
 use Rattle.cpupool.proofs.CountLemmas.{cores-set}
 

@@ -12,10 +12,11 @@ use Rattle.sched_model.specs.declared.state.State.{State}
 use Rattle.sched_model.specs.Actions as actions
 use Rattle.sched_model.specs.Places.{at_place}
 use Rattle.sched_model.specs.Commands.{pool_of, domain_of, with_pool, with_domain}
+use Rattle.sched_model.proofs.PlaceLemmas.{at_place-map}
 use Rattle.journal_core.specs.Parts.{Outline, outline_of}
 use Rattle.cpupool.specs.Tool.{tool_of}
-use Rattle.cpupool.specs.Judging.{SeenPool, SeenDomain, with_outline, with_size, home_of_domain}
-use Rattle.cpupool.proofs.SubjectLemmas.{at_place-map, pool-seen, domain-seen, domain_home-seen}
+use Rattle.cpupool.specs.Verdicts.{SeenPool, SeenDomain, with_outline, with_size, domain_home}
+use Rattle.cpupool.proofs.SubjectLemmas.{pool-seen, domain-seen, domain_home-seen}
 
 module _ (m : Machine) (s : State) where
   -- the pool that is named
@@ -49,7 +50,7 @@ module _ (m : Machine) (s : State) where
       let sized : ℕ → ℕ → Outline → Option ℕ → Option SeenDomain = λ d i pool o. option_map (λ vcpus. record { d = d; i = i; pool = pool; vcpus = vcpus }) o in
       let placed : ℕ → ℕ → Option Outline → Option SeenDomain = λ d i o. elim o [ None ↦ None | Some pool ↦ sized d i pool (at_place pool.domains d) ] in
       let homed : ℕ → Option ℕ → Option SeenDomain = λ d o. elim o [ None ↦ None | Some i ↦ placed d i (at_place (map (option_map outline_of) s.pools) i) ] in
-      let seen : Option ℕ → Option SeenDomain = λ o. elim o [ None ↦ None | Some d ↦ homed d (home_of_domain (tool_of m s).part d) ] in
+      let seen : Option ℕ → Option SeenDomain = λ o. elim o [ None ↦ None | Some d ↦ homed d (domain_home (tool_of m s).part.pools d) ] in
       let there : ℕ → ℕ → Pool → Option Domain → Result Plan Refusal = λ d i pool o. elim o [ None ↦ Err refusal.NoDomain | Some domain ↦ follows d i pool domain ] in
       let at_home : ℕ → ℕ → Option Pool → Result Plan Refusal = λ d i o. elim o [ None ↦ Err refusal.NoDomain | Some pool ↦ there d i pool (at_place pool.domains d) ] in
       let home : ℕ → Option ℕ → Result Plan Refusal = λ d o. elim o [ None ↦ Err refusal.NoDomain | Some i ↦ at_home d i (at_place s.pools i) ] in

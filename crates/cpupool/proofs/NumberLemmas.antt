@@ -1,11 +1,10 @@
 -- Counts of units.
-use Rattle.std.proofs.Common.{◌≡◌, ◌+◌, ◌-◌, ◌*◌, ◌/◌, ◌^◌, ◌≤◌, ◌<◌, ℕ, zero, suc, length, List, ◌∷◌, ◌∙◌, ap, add-one, add-zero, zero-add, true, false, cond, sym, map, [], ◌++◌, refl, arith}
-use Rattle.std.specs.Prelude.{replicate}
-use Rattle.std.proofs.lemmas.List.{replicate-append-replicate}
+use Rattle.std.proofs.Common.{◌≡◌, ◌+◌, ◌-◌, ◌*◌, ◌/◌, ◌^◌, ◌≤◌, ◌<◌, ℕ, zero, suc, List, ◌∷◌, ◌∙◌, ap, add-one, add-zero, zero-add, true, false, cond, sym, map, [], ◌++◌, arith}
 use Rattle.std.proofs.lemmas.List.Sums.{sum_by-cons}
 use Rattle.std.specs.Prelude.{if◌then◌else◌}
 use Rattle.sched_model.specs.Places.{numbers_from}
-use Rattle.cpupool.specs.Judging.{is_named, named_among}
+use Rattle.sched_model.proofs.PlaceLemmas.{numbers_from-first}
+use Rattle.cpupool.specs.Verdicts.{is_named, named_among}
 use Rattle.std.proofs.Math.Nat.{div-lt_iff_lt-mul, div-zero, le-mul_of_pos_right, lt-div-mul-add}
 
 -- a domain has at most as many units as vCPUs
@@ -16,16 +15,10 @@ few_units g vcpus some =
     let least : (vcpus + g - 1) / g < vcpus + 1 = (div-lt_iff_lt-mul {k = g} {x = vcpus + g - 1} {y = vcpus + 1} some).1 below in
     omega arith
 
--- the numbers from r up to n begin with r
-pub numbers_step : (r n : ℕ) → r < n → numbers_from r (n - r) ≡ r ∷ numbers_from (r + 1) (n - (r + 1))
-numbers_step r n below =
-    let left : n - r ≡ suc (n - (r + 1)) = omega arith in
-    rw (left, add-one) refl
-
 -- the set of the named cores from r up to n begins with r, where that is named
 pub named_step : (g : ℕ) (ranges : List (ℕ × ℕ)) (r n : ℕ) → r < n → named_among g ranges (numbers_from r (n - r)) ≡ (if is_named g ranges r then 2 ^ r else 0) + named_among g ranges (numbers_from (r + 1) (n - (r + 1)))
 named_step g ranges r n below =
-    ap (named_among g ranges) (numbers_step r n below)
+    ap (named_among g ranges) (numbers_from-first r n below)
     ∙ sum_by-cons (λ (k : ℕ). (if is_named g ranges k then 2 ^ k else 0)) r (numbers_from (r + 1) (n - (r + 1)))
 
 -- the same where r is named, and where it is not
@@ -56,8 +49,3 @@ map_numbers_more f n = rw add-one (numbers_from_more f 0 n ∙ ap (λ k. map f (
     numbers_from_more f first (suc n) =
         let next : suc first + n ≡ first + suc n = omega arith in
         ap (λ rest. f first ∷ rest) (numbers_from_more f (suc first) n ∙ ap (λ k. map f (numbers_from (suc first) n) ++ f k ∷ []) next)
-
--- so many numbers
-pub length_numbers : {X : Type 0} (f : ℕ → X) (first n : ℕ) → length (map f (numbers_from first n)) ≡ n
-length_numbers f first zero = refl
-length_numbers f first (suc n) = ap suc (length_numbers f (suc first) n)

@@ -1,6 +1,6 @@
 -- What the tool keeps at the opening is its part of the state at the opening.
 use Rattle.sched_base.specs.Numbers.{moment, domain as domain_number}
-use Rattle.std.proofs.Common.{◌≡◌, ◌-◌, ℕ, zero, suc, Bool, true, false, List, [], ◌∷◌, ◌++◌, Option, Some, None, length, map, refl, sym, ◌∙◌, ap, cond}
+use Rattle.std.proofs.Common.{◌≡◌, ◌-◌, ℕ, suc, Bool, true, false, List, [], ◌∷◌, ◌++◌, Option, Some, None, length, map, refl, sym, ◌∙◌, ap, cond}
 use Rattle.std.specs.Prelude.{◌==◌, is_some, option_map, replicate, slice_set}
 use Rattle.std.specs.List.{list_any}
 use Rattle.std.proofs.lemmas.List.{map-append}
@@ -22,19 +22,17 @@ use Rattle.sched_model.specs.declared.state.Records.TheVariants.{Credit2Pool, Rt
 use Rattle.sched_model.specs.declared.state.Resource.{Resource}
 use Rattle.sched_model.specs.Places.{put_at, numbers_from}
 use Rattle.sched_model.specs.State.{has_core}
-use Rattle.sched_model.specs.Policy.{kind_of, fresh_records, joined_records, changed_records, join}
+use Rattle.sched_model.specs.Policy.{kind_of, fresh_records, changed_records, join, joined_records}
 use Rattle.sched_model.specs.Pool.{with_domain, set_params, queue_units, unit_count}
 use Rattle.sched_model.specs.Opening.{opening, opening_pool, opening_pools, opening_free, empty_pool, with_domains, with_configured, with_pins, fresh_core, fresh_vcpu, core_count}
-use Rattle.journal_core.specs.Parts.{Outline, UnderWay, core_to, outline_of, first_answer, core_leaving, domain_moving, core_joining, leaving_pool, under_way_of}
 use Rattle.sched_laws.proofs.Records.{same_joined}
+use Rattle.journal_core.specs.Parts.{Outline, UnderWay, core_to, outline_of, first_answer, core_leaving, domain_moving, core_joining, leaving_pool, under_way_of}
 use Rattle.cpupool.specs.Tool.{Tool, tool_of, ends_of}
-use Rattle.cpupool.specs.OpenedTool.{opened_tool}
+use Rattle.cpupool.specs.OpeningTool.{opened_tool}
 use Rattle.cpupool.proofs.AlikeLemmas.{IsAlike, alike, chained, queued_alike}
-use Rattle.cpupool.proofs.SubjectLemmas.{length-map as length_map}
-use Rattle.cpupool.specs.Opened.{kind_of_params, size_at_home, opened_outline, opened_outlines, opened_free}
-
-joined_kind : (records : Records) (params : DomParams) (d count t : ℕ) → kind_of (joined_records records params d count t) ≡ kind_of records
-joined_kind = same_joined kind_of (λ a b. refl) (λ a b. refl)
+use Rattle.cpupool.proofs.SubjectLemmas.{length-map as length_map, map_none}
+use Rattle.cpupool.specs.OpeningPools.{kind_of_params, size_at_home, opened_outline, opened_outlines, opened_free}
+use Rattle.cpupool.proofs.AnswerLemmas.{no_answer, put_none}
 
 pinned_records : (records : Records) (d n t : ℕ) (cores : Cores) → changed_records records (changes.Pin (domain_number d) (Some n) cores) t ≡ records
 pinned_records (Credit2Pool records) d n t cores = refl
@@ -48,6 +46,9 @@ pinned_alike d n [] pool = alike pool
 pinned_alike d n (cores ∷ pins) pool =
     let next : Pool = set_params (changes.Pin (domain_number d) (Some n) cores) 0 pool in
     chained (with_pins d (suc n) pins next) next pool (pinned_alike d (suc n) pins next) (record { kind = ap kind_of (pinned_records pool.scheduler.records d n 0 cores); resources = refl; domains = refl })
+
+pub joined_kind : (records : Records) (params : DomParams) (d count t : ℕ) → kind_of (joined_records records params d count t) ≡ kind_of records
+joined_kind = same_joined kind_of (λ a b. refl) (λ a b. refl)
 
 -- a domain that joins
 joined_alike : (g t d : ℕ) (joining : Domain) (params : DomParams) (pool : Pool) → IsAlike (with_domain g t d joining params pool) (record pool { domains = put_at d joining pool.domains })
@@ -181,54 +182,24 @@ cores_still x stays test n (k ∷ ns) =
       | false ↦ cores_still x stays test (suc n) ns
     ]
 
--- no domain is moving where a fresh one is put
--- the answer, or else the rest's
-abbrev answer_or : Option UnderWay → Option UnderWay → Option UnderWay
-answer_or o rest = elim o [ Some way ↦ Some way | None ↦ rest ]
-
-later : (n : ℕ) (x : Domain) (places : List (Option Domain)) → first_answer domain_moving n (Some x ∷ places) ≡ None → first_answer domain_moving (suc n) places ≡ None
-later n x places still = split (domain_moving n x) still
-  where
-    split : (o : Option UnderWay) → answer_or o (first_answer domain_moving (suc n) places) ≡ None → first_answer domain_moving (suc n) places ≡ None
-    split None still = still
-    split (Some way) still = cc
-
-put_still : (joining : DomConfig) (n d : ℕ) (places : List (Option Domain)) → first_answer domain_moving n places ≡ None → first_answer domain_moving n (put_at d (fresh_domain joining) places) ≡ None
-put_still joining n d [] still = still
-put_still joining n zero (None ∷ places) still = still
-put_still joining n zero (Some x ∷ places) still = later n x places still
-put_still joining n (suc d) (None ∷ places) still = put_still joining (suc n) d places still
-put_still joining n (suc d) (Some x ∷ places) still =
-    let rest = put_still joining (suc n) d places (later n x places still) in
-    split (domain_moving n x) still rest
-  where
-    split : (o : Option UnderWay) → answer_or o (first_answer domain_moving (suc n) places) ≡ None
-        → first_answer domain_moving (suc n) (put_at d (fresh_domain joining) places) ≡ None
-        → answer_or o (first_answer domain_moving (suc n) (put_at d (fresh_domain joining) places)) ≡ None
-    split None still rest = rest
-    split (Some way) still rest = cc
-
+-- no domain is moving where fresh ones are put
 places_still : (i d : ℕ) (domains : List DomConfig) (places : List (Option Domain)) → first_answer domain_moving 0 places ≡ None → first_answer domain_moving 0 (placed i d domains places) ≡ None
 places_still i d [] places still = still
 places_still i d (joining ∷ domains) places still =
     places_still i (suc d) domains (cond (joining.home.0 == i) (put_at d (fresh_domain joining) places) places)
-    (elim (joining.home.0 == i) as (λ b. first_answer domain_moving 0 (cond b (put_at d (fresh_domain joining) places) places) ≡ None) [ true ↦ put_still joining 0 d places still | false ↦ still ])
-
-none_still : {X Y : Type 0} (f : ℕ → X → Option Y) (n count : ℕ) → first_answer f n (replicate count None) ≡ None
-none_still f n zero = refl
-none_still f n (suc count) = none_still f (suc n) count
+    (elim (joining.home.0 == i) as (λ b. first_answer domain_moving 0 (cond b (put_at d (fresh_domain joining) places) places) ≡ None) [ true ↦ put_none domain_moving (fresh_domain joining) (λ n. refl) d 0 places still | false ↦ still ])
 
 -- nothing is on its way from a pool at the opening
 pool_still : (config : Config) (k i : ℕ) (pool : PoolConfig) → leaving_pool k (opening_pool config i pool) ≡ None
 pool_still config k i pool =
     let same = pool_alike config i pool in
     let cores = ap (first_answer core_leaving 0) same.resources ∙ cores_still (fresh_core (replicate config.granularity (moment 0))) refl (has_core pool.cores) 0 (numbers_from 0 (core_count config)) in
-    let domains = ap (first_answer domain_moving 0) same.domains ∙ places_still i 0 config.domains (replicate (length config.domains) None) (none_still domain_moving 0 (length config.domains)) in
+    let domains = ap (first_answer domain_moving 0) same.domains ∙ places_still i 0 config.domains (replicate (length config.domains) None) (no_answer domain_moving 0 (length config.domains)) in
     let answer : Option UnderWay → Option UnderWay = λ o. elim o [ Some way ↦ Some way | None ↦ first_answer domain_moving 0 (opening_pool config i pool).domains ] in
     ap answer cores ∙ domains
 
 pools_still : (config : Config) (k i : ℕ) (pools : List PoolConfig) (spare : ℕ) → first_answer leaving_pool k (opening_pools config i pools ++ replicate spare None) ≡ None
-pools_still config k i [] spare = none_still leaving_pool k spare
+pools_still config k i [] spare = no_answer leaving_pool k spare
 pools_still config k i (pool ∷ pools) spare =
     let answer : Option UnderWay → Option UnderWay = λ o. elim o [ Some way ↦ Some way | None ↦ first_answer leaving_pool (suc k) (opening_pools config (suc i) pools ++ replicate spare None) ] in
     ap answer (pool_still config k i pool) ∙ pools_still config (suc k) (suc i) pools spare
@@ -246,11 +217,6 @@ way_opened : (m : Machine) → under_way_of (opening m) ≡ None
 way_opened m =
     let answer : Option UnderWay → Option UnderWay = λ o. elim o [ Some way ↦ Some way | None ↦ first_answer core_joining 0 (opening m).free ] in
     ap answer (pools_still m.config 0 0 m.config.pools (16 - length m.config.pools)) ∙ free_still m.config 0 (numbers_from 0 (core_count m.config))
-
--- nothing changed is nothing
-pub map_none : {X Y : Type 0} (f : X → Y) (n : ℕ) → map (option_map f) (replicate n None) ≡ replicate n None
-map_none f zero = refl
-map_none f (suc n) = ap (λ xs. None ∷ xs) (map_none f n)
 
 -- what the tool keeps at the opening
 pub tool_opened : (config : Config) (work : Work) → opened_tool config work ≡ tool_of (record { config = config; work = work }) (opening (record { config = config; work = work }))

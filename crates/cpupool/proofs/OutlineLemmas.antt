@@ -2,7 +2,7 @@
 use Rattle.std.proofs.Common.{◌≡◌, ℕ, suc, List, [], ◌∷◌, length, refl, ap}
 use Rattle.sched_model.specs.declared.config.DomConfig.{DomConfig}
 use Rattle.sched_model.specs.declared.config.PoolConfig.{PoolConfig}
-use Rattle.cpupool.specs.Opened.{opened_outlines}
+use Rattle.cpupool.specs.OpeningPools.{opened_outlines}
 
 -- as many as pools
 pub length_outlines : (cores : ℕ) (domains : List DomConfig) (i : ℕ) (pools : List PoolConfig) → length (opened_outlines cores domains i pools) ≡ length pools

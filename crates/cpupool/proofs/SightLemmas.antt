@@ -16,7 +16,7 @@ use Rattle.sched_model.specs.declared.state.RtdsUnit.{RtdsUnit}
 use Rattle.sched_model.specs.Places.{at_place, change_at, change_each, test_at, numbers_from}
 use Rattle.sched_model.specs.Policy as policy
 use Rattle.sched_model.specs.Policy.{kind_of, changed_records, rtds_record}
-use Rattle.sched_model.specs.Pool.{settled_pool, reconsidered_core, home_cores, set_params, marked_pool as marked, change_cores_of, is_of_domain, set_pending, withdrawn_pool as withdrawn, change_domain, pause, unpause, queue_units, unit_count}
+use Rattle.sched_model.specs.Pool.{settled_pool, reconsidered_core, home_cores, set_params, marked_pool, change_cores_of, is_of_domain, set_pending, withdrawn_pool, change_domain, pause, unpause, queue_units, unit_count}
 use Rattle.sched_model.specs.Commands.{set_rtds_unit, set_rtds}
 use Rattle.journal_core.specs.Parts.{UnderWay, core_to, domain_to, outline_of, first_answer, leaving_pool, core_leaving, domain_moving}
 use Rattle.cpupool.proofs.AlikeLemmas.{queued_alike}
@@ -115,7 +115,7 @@ changed_kind (RtdsPool domains) (changes.Frame frame) t = refl
 changed_kind (ArincPool records) (changes.Frame frame) t = refl
 changed_kind records change t = refl
 
-marked_still : (change : ParamChange) (t : ℕ) (p : Pool) → IsStill (marked change t p) p
+marked_still : (change : ParamChange) (t : ℕ) (p : Pool) → IsStill (marked_pool change t p) p
 marked_still (changes.Dom d weight (Some cap)) t p = of_domain_still d.0 (λ c. record c { pending = true; due = Some (moment t) }) p (λ c. refl)
 marked_still (changes.Frame frame) t p = cores_still p (λ r c. set_pending c) (λ r c. refl)
 marked_still change t p = still p
@@ -123,12 +123,12 @@ marked_still change t p = still p
 pub params_still : (change : ParamChange) (t : ℕ) (p : Pool) → IsStill (set_params change t p) p
 params_still change t p =
     let next : Pool = record p { scheduler = policy.set_params change t p.scheduler } in
-    and_then (marked change t next) next p (marked_still change t next) (record { kind = changed_kind p.scheduler.records change t; cores = refl; domains = refl })
+    and_then (marked_pool change t next) next p (marked_still change t next) (record { kind = changed_kind p.scheduler.records change t; cores = refl; domains = refl })
 
-pub withdrawn_still : (d : ℕ) (p : Pool) → IsStill (withdrawn d p) p
+pub withdrawn_still : (d : ℕ) (p : Pool) → IsStill (withdrawn_pool d p) p
 withdrawn_still d p =
     let next : Pool = record p { scheduler = policy.dequeue_domain d p.scheduler } in
-    and_then (withdrawn d p) next p (of_domain_still d set_pending next (λ c. refl)) (record { kind = refl; cores = refl; domains = refl })
+    and_then (withdrawn_pool d p) next p (of_domain_still d set_pending next (λ c. refl)) (record { kind = refl; cores = refl; domains = refl })
 
 domain_still : (d : ℕ) (f : Domain → Domain) (p : Pool) → ((x : Domain) → domain_sight (f x) ≡ domain_sight x) → IsStill (change_domain d f p) p
 domain_still d f p same = record { kind = refl; cores = refl; domains = map_change domain_sight f same d p.domains }
@@ -136,9 +136,9 @@ domain_still d f p same = record { kind = refl; cores = refl; domains = map_chan
 pub pause_still : (d : ℕ) (p : Pool) → IsStill (pause d p) p
 pause_still d p =
     let next : Pool = change_domain d (λ domain. record domain { paused = true }) p in
-    elim (test_at p.domains d (λ domain. domain.paused)) as (λ b. IsStill (cond b p (withdrawn d next)) p) [
+    elim (test_at p.domains d (λ domain. domain.paused)) as (λ b. IsStill (cond b p (withdrawn_pool d next)) p) [
       | true ↦ still p
-      | false ↦ and_then (withdrawn d next) next p (withdrawn_still d next) (domain_still d (λ domain. record domain { paused = true }) p (λ x. refl))
+      | false ↦ and_then (withdrawn_pool d next) next p (withdrawn_still d next) (domain_still d (λ domain. record domain { paused = true }) p (λ x. refl))
     ]
 
 pub unpause_still : (g d : ℕ) (p : Pool) → IsStill (unpause g d p) p

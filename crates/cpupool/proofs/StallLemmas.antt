@@ -10,11 +10,11 @@ use Rattle.sched_model.specs.Places.{at_place, change_at, change_item}
 use Rattle.sched_model.specs.Actions.{home_of_core, change_pool}
 use Rattle.sched_model.specs.Pool.{change_processor}
 use Rattle.sched_model.specs.Machine.{stall_end_of, with_stall_end}
+use Rattle.sched_model.proofs.PlaceLemmas.{at_place-map}
 use Rattle.journal_core.specs.Parts.{UnderWay, ToolPart, first_answer, core_joining, leaving_pool, tool_of as part_of_tool}
 use Rattle.cpupool.specs.Tool.{ends_of}
 use Rattle.cpupool.specs.Dues.{free_stall_end, free_stalled}
-use Rattle.cpupool.proofs.SubjectLemmas.{at_place-map}
-use Rattle.cpupool.proofs.AdvanceLemmas.{answer_change}
+use Rattle.cpupool.proofs.AnswerLemmas.{answer_change}
 
 -- a place changed, seen through g
 pub map_changed : {X Y : Type 0} (g : X → Y) (f : X → X) (h : Y → Y) → ((x : X) → g (f x) ≡ h (g x)) → (i : ℕ) (places : List (Option X)) → map (option_map g) (change_at i f places) ≡ change_at i h (map (option_map g) places)

@@ -1,7 +1,8 @@
 -- What the tool finds by what it knows is what the definitions find in the state.
 use Rattle.sched_base.specs.Numbers.{domain as domain_number, pool as pool_number}
 use Rattle.std.proofs.Common.{◌≡◌, ℕ, zero, suc, Bool, true, false, List, [], ◌∷◌, length, map, refl, ◌∙◌, ap, nat_lt}
-use Rattle.std.specs.Prelude.{Option, Some, None, is_some, option_map, slice_index_or, bytes_eq, cond}
+use Rattle.std.specs.Prelude.{Option, Some, None, is_some, option_map, replicate, slice_index_or, bytes_eq, cond}
+use Rattle.sched_base.specs.declared.PoolId.{PoolId}
 use Rattle.sched_model.specs.declared.config.DomConfig.{DomConfig}
 use Rattle.sched_model.specs.declared.command.Command.{Command}
 use Rattle.sched_model.specs.declared.command.Command.TheVariants as command
@@ -14,16 +15,16 @@ use Rattle.sched_model.specs.declared.state.Pool.{Pool}
 use Rattle.sched_model.specs.Places.{at_place, first_place}
 use Rattle.sched_model.specs.Actions as actions
 use Rattle.sched_model.specs.Commands.{pool_of, domain_of, domain_named}
+use Rattle.sched_model.proofs.PlaceLemmas.{is_some-option_map, at_place-map}
 use Rattle.journal_core.specs.Parts.{outline_of}
-use Rattle.cpupool.specs.Tool.{tool_of, entry_of}
+use Rattle.cpupool.specs.Tool.{tool_of, entry_of, number_of_pool}
 use Rattle.cpupool.specs.Facts.{subject_of, pool_subject, domain_subject}
-use Rattle.cpupool.specs.Judging.{seen_pool, seen_domain, seen_subject, seen_pool_subject, seen_domain_subject, entry_named, has_core, home_of_core, home_of_domain, seen_core_pool, seen_domain_pool}
+use Rattle.cpupool.specs.Verdicts.{seen_pool, seen_domain, seen_subject, seen_pool_subject, seen_domain_subject, entry_named, has_core, core_home, domain_home}
 
--- what stands at a place, each place changed
-pub at_place-map : {X Y : Type 0} (f : X → Y) (places : List (Option X)) (n : ℕ) → at_place (map (option_map f) places) n ≡ option_map f (at_place places n)
-at_place-map f [] n = refl
-at_place-map f (x ∷ places) zero = refl
-at_place-map f (x ∷ places) (suc n) = at_place-map f places n
+-- a pool is told by its number
+pub pool_told : (i : Option PoolId) (n : Option ℕ) → option_map number_of_pool i ≡ n → i ≡ option_map pool_number n
+pool_told None n is = ap (option_map pool_number) is
+pool_told (Some i) n is = ap (option_map pool_number) is
 
 -- the first place that passes, each place changed
 pub first_place-map : {X Y : Type 0} (f : X → Y) (test : Y → Bool) (n : ℕ) (places : List (Option X)) → first_place n test (map (option_map f) places) ≡ first_place n (λ x. test (f x)) places
@@ -49,13 +50,8 @@ flag-there [] n = refl
 flag-there (x ∷ places) zero = refl
 flag-there (x ∷ places) (suc n) = flag-there places n
 
--- whether something stands at a place, each place changed
-pub is_some-map : {X Y : Type 0} (f : X → Y) (x : Option X) → is_some (option_map f x) ≡ is_some x
-is_some-map f None = refl
-is_some-map f (Some x) = refl
-
 pub there-map : {X Y : Type 0} (f : X → Y) (places : List (Option X)) (n : ℕ) → is_some (at_place (map (option_map f) places) n) ≡ is_some (at_place places n)
-there-map f places n = ap is_some (at_place-map f places n) ∙ is_some-map f (at_place places n)
+there-map f places n = ap is_some (at_place-map f places n) ∙ is_some-option_map f (at_place places n)
 
 -- the domain with a name
 pub domain_named-seen : (d : ℕ) (name : List ℕ) (domains : List DomConfig) → entry_named d name (map entry_of domains) ≡ domain_named d name domains
@@ -80,37 +76,34 @@ pub length-map : {X Y : Type 0} (f : X → Y) (xs : List X) → length (map f xs
 length-map f [] = refl
 length-map f (x ∷ xs) = ap suc (length-map f xs)
 
+-- nothing changed is nothing
+pub map_none : {X Y : Type 0} (f : X → Y) (n : ℕ) → map (option_map f) (replicate n None) ≡ replicate n None
+map_none f zero = refl
+map_none f (suc n) = ap (λ xs. None ∷ xs) (map_none f n)
+
 -- the domain that a command names
 pub domain-seen : (m : Machine) (s : State) (which : Which) → seen_domain (tool_of m s) which ≡ domain_of m which
 domain-seen m s (Name name) = domain_named-seen 0 name m.config.domains
 domain-seen m s (Number d) = ap (λ n. cond (nat_lt d n) (Some d) None) (length-map entry_of m.config.domains)
 
 -- the home of a core
-pub core_home-seen : (m : Machine) (s : State) (r : ℕ) → home_of_core (tool_of m s).part r ≡ actions.home_of_core s r
+pub core_home-seen : (m : Machine) (s : State) (r : ℕ) → core_home (tool_of m s).part.pools r ≡ actions.home_of_core s r
 core_home-seen m s r =
     first_place-map outline_of (λ o. has_core o r) 0 s.pools
     ∙ first_place-same (λ (pool : Pool). has_core (outline_of pool) r) (λ (pool : Pool). is_some (at_place pool.resources r)) 0 s.pools (λ pool. flag-there pool.resources r)
 
--- the pool of a core
-pub core_pool_seen : (m : Machine) (s : State) (r : ℕ) → seen_core_pool (tool_of m s) r ≡ option_map pool_number (actions.home_of_core s r)
-core_pool_seen m s r = ap (option_map pool_number) (core_home-seen m s r)
-
 -- the home of a domain
-pub domain_home-seen : (m : Machine) (s : State) (d : ℕ) → home_of_domain (tool_of m s).part d ≡ actions.home_of_domain s d
+pub domain_home-seen : (m : Machine) (s : State) (d : ℕ) → domain_home (tool_of m s).part.pools d ≡ actions.home_of_domain s d
 domain_home-seen m s d =
     first_place-map outline_of (λ o. is_some (at_place o.domains d)) 0 s.pools
     ∙ first_place-same (λ (pool : Pool). is_some (at_place (outline_of pool).domains d)) (λ (pool : Pool). is_some (at_place pool.domains d)) 0 s.pools (λ pool. there-map _ pool.domains d)
-
--- the pool of a domain
-pub domain_pool_seen : (m : Machine) (s : State) (d : ℕ) → seen_domain_pool (tool_of m s) d ≡ option_map pool_number (actions.home_of_domain s d)
-domain_pool_seen m s d = ap (option_map pool_number) (domain_home-seen m s d)
 
 pub pool_subject-seen : (m : Machine) (s : State) (which : Which) → seen_pool_subject (tool_of m s) which ≡ pool_subject s which
 pool_subject-seen m s which = ap (λ i. record { pool = option_map pool_number i; dom = None }) (pool-seen m s which)
 
 pub domain_subject-seen : (m : Machine) (s : State) (which : Which) (seen otherwise : Subject) → seen ≡ otherwise → seen_domain_subject (tool_of m s) which seen ≡ domain_subject m s which otherwise
 domain_subject-seen m s which seen otherwise same =
-    let found : Option ℕ → Subject = λ o. elim o [ None ↦ seen | Some d ↦ record { pool = option_map pool_number (home_of_domain (tool_of m s).part d); dom = Some (domain_number d) } ] in
+    let found : Option ℕ → Subject = λ o. elim o [ None ↦ seen | Some d ↦ record { pool = option_map pool_number (domain_home (tool_of m s).part.pools d); dom = Some (domain_number d) } ] in
     ap found (domain-seen m s which)
     ∙ elim (domain_of m which) as (λ o. found o ≡ (elim o [ None ↦ otherwise | Some d ↦ record { pool = option_map pool_number (actions.home_of_domain s d); dom = Some (domain_number d) } ])) [
       | None ↦ same

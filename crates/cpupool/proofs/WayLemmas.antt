@@ -12,11 +12,11 @@ use Rattle.sched_model.specs.declared.state.State.{State}
 use Rattle.sched_model.specs.declared.action.Action.TheVariants.{Xl}
 use Rattle.sched_model.specs.Places.{numbered_items}
 use Rattle.sched_model.specs.Machine.{is_move_under_way, is_enabled}
+use Rattle.sched_model.proofs.PlaceLemmas.{is_some-option_map}
 use Rattle.journal_core.specs.Parts.{UnderWay, core_to, first_answer, core_leaving, domain_moving, core_joining, leaving_pool, under_way_of}
 use Rattle.cpupool.specs.Tool.{tool_of}
 use Rattle.cpupool.specs.declared.steps.ToolEvent.TheVariants as tool_event
 use Rattle.cpupool.specs.Steps.{stall_comes, command_comes, next_event, enabled_event, move_of}
-use Rattle.cpupool.proofs.SubjectLemmas.{is_some-map}
 
 -- some place answers
 any_answers : {X Y : Type 0} (f : ℕ → X → Option Y) (test : X → Bool) → ((n : ℕ) (x : X) → is_some (f n x) ≡ test x) → (n : ℕ) (places : List (Option X)) → is_some (first_answer f n places) ≡ list_any (λ e. test e.1) (numbered_items n places)
@@ -32,10 +32,10 @@ leaves : (r : ℕ) (c : Resource) → is_some (core_leaving r c) ≡ c.leaving
 leaves r c = elim c.leaving as (λ b. is_some (cond b (Some (core_to r None)) None) ≡ b) [ true ↦ refl | false ↦ refl ]
 
 moves : (d : ℕ) (domain : Domain) → is_some (domain_moving d domain) ≡ is_some domain.moving
-moves d domain = is_some-map _ domain.moving
+moves d domain = is_some-option_map _ domain.moving
 
 joins : (r : ℕ) (c : FreeCore) → is_some (core_joining r c) ≡ is_some c.target
-joins r c = is_some-map _ c.target
+joins r c = is_some-option_map _ c.target
 
 -- one answer or the other
 either : (a b : Option UnderWay) → is_some (elim a [ Some way ↦ Some way | None ↦ b ]) ≡ is_some a || is_some b
@@ -56,7 +56,7 @@ under_way-seen s =
 
 -- what is told of a move is there where something is on its way
 pub way_seen : (m : Machine) (s : State) → is_some (option_map (move_of (tool_of m s).part) (tool_of m s).part.under_way) ≡ is_move_under_way s
-way_seen m s = is_some-map (move_of (tool_of m s).part) (under_way_of s) ∙ under_way-seen s
+way_seen m s = is_some-option_map (move_of (tool_of m s).part) (under_way_of s) ∙ under_way-seen s
 
 not_some : {X : Type 0} (x : Option X) → is_none x ≡ not (is_some x)
 not_some None = refl

@@ -27,39 +27,39 @@ abbrev pub free_stalled : ToolPart → ℕ → ℕ → ℕ → ToolPart
 free_stalled part r i end = record part { free = change_at r (change_item i (λ old. moment end)) part.free }
 
 -- a moment that is there has come at t
-abbrev pub has_come : Option ℕ → ℕ → Bool
+abbrev pub has_come : Option Moment → ℕ → Bool
 has_come None t = false
-has_come (Some at) t = nat_le at t
+has_come (Some at) t = nat_le at.0 t
 
 -- the sooner of the moments that are there
-abbrev pub sooner_moment : Option ℕ → Option ℕ → Option ℕ
+abbrev pub sooner_moment : Option Moment → Option Moment → Option Moment
 sooner_moment None b = b
 sooner_moment (Some a) None = Some a
-sooner_moment (Some a) (Some b) = Some (min a b)
+sooner_moment (Some a) (Some b) = Some (moment (min a.0 b.0))
 
 -- the moment, or the next after t where that is later
-abbrev pub later_than : ℕ → Option ℕ → Option Moment
+abbrev pub later_than : ℕ → Option Moment → Option Moment
 later_than t None = None
-later_than t (Some at) = Some (moment (max at (t + 1)))
+later_than t (Some at) = Some (moment (max at.0 (t + 1)))
 
 -- the moments of the next stall and of the next command, and the one at which the core of no pool may join its pool
-abbrev pub stall_at : Tool → Option ℕ
-stall_at tool = option_map (λ (line : StallLine). line.at.0) (slice_get tool.stalls tool.part.next_stall)
+abbrev pub stall_at : Tool → Option Moment
+stall_at tool = option_map (λ (line : StallLine). line.at) (slice_get tool.stalls tool.part.next_stall)
 
-abbrev pub command_at : Tool → Option ℕ
-command_at tool = (if is_none tool.part.under_way then option_map (λ (line : CommandLine). line.at.0) (slice_get tool.commands tool.part.next_command) else None)
+abbrev pub command_at : Tool → Option Moment
+command_at tool = (if is_none tool.part.under_way then option_map (λ (line : CommandLine). line.at) (slice_get tool.commands tool.part.next_command) else None)
 
-abbrev pub first_end : Option (List Moment) → Option ℕ
+abbrev pub first_end : Option (List Moment) → Option Moment
 first_end None = None
 first_end (Some []) = None
-first_end (Some (end ∷ ends)) = Some end.0
+first_end (Some (end ∷ ends)) = Some end
 
-abbrev pub joining_at : ToolPart → Option UnderWay → Option ℕ
+abbrev pub joining_at : ToolPart → Option UnderWay → Option Moment
 joining_at part None = None
 joining_at part (Some (core_to r None)) = None
 joining_at part (Some (core_to r (Some i))) = first_end (at_place part.free r)
 joining_at part (Some (domain_to d i)) = None
 
 -- the soonest of the three
-abbrev pub soonest_moment : Tool → Option ℕ
+abbrev pub soonest_moment : Tool → Option Moment
 soonest_moment tool = sooner_moment (stall_at tool) (sooner_moment (command_at tool) (joining_at tool.part tool.part.under_way))

@@ -1,6 +1,6 @@
 -- What a command is judged by besides the tool's part of the state.
-use Rattle.sched_base.specs.Numbers.{span, domain as domain_number, pool as pool_number}
-use Rattle.std.specs.Prelude.{◌≡◌, ◌≤◌, ℕ, zero, suc, length, List, [], ◌∷◌, Option, Some, None, option_map}
+use Rattle.sched_base.specs.Numbers.{domain as domain_number, pool as pool_number}
+use Rattle.std.specs.Prelude.{◌≡◌, ◌≤◌, ℕ, zero, suc, length, List, [], ◌∷◌, Some, None, option_map}
 use Rattle.std.specs.Option.{ForSome}
 use Rattle.sched_model.specs.declared.command.Command.{Command}
 use Rattle.sched_model.specs.declared.command.Command.TheVariants as command
@@ -8,17 +8,13 @@ use Rattle.sched_model.specs.declared.command.Which.{Which}
 use Rattle.sched_model.specs.declared.facts.Facts.{Facts}
 use Rattle.sched_model.specs.declared.facts.Subject.{Subject}
 use Rattle.sched_model.specs.declared.facts.Stored.{Stored}
-use Rattle.sched_model.specs.declared.facts.Stored.TheVariants as stored
 use Rattle.sched_model.specs.Places.{at_place}
 use Rattle.sched_model.specs.declared.machine.Machine.{Machine}
 use Rattle.sched_model.specs.declared.state.Domain.{Domain}
 use Rattle.sched_model.specs.declared.state.Pool.{Pool}
 use Rattle.sched_model.specs.declared.state.State.{State}
 use Rattle.sched_model.specs.declared.state.Records.{Records}
-use Rattle.sched_model.specs.declared.state.Credit2Domain.{Credit2Domain}
-use Rattle.sched_model.specs.declared.state.RtdsUnit.{RtdsUnit}
-use Rattle.sched_model.specs.declared.state.Records.TheVariants.{Credit2Pool, RtdsPool, ArincPool, NullPool}
-use Rattle.sched_model.specs.Policy.{rate_of, rtds_record, credit2_record, stored_of}
+use Rattle.sched_model.specs.Policy.{rate_of, stored_of}
 use Rattle.sched_model.specs.Pool.{unit_count}
 use Rattle.sched_model.specs.Actions.{home_of_domain}
 use Rattle.sched_model.specs.Commands.{pool_of, domain_of}

@@ -1,9 +1,11 @@
 -- What the tool knows: of the machine what commands are judged by, its workload, and the tool's part of the state.
-use Rattle.std.specs.Prelude.{◌≡◌, ◌≤◌, ℕ, List, length, map}
+use Rattle.std.specs.Prelude.{◌≡◌, ◌≤◌, ℕ, List, length, map, option_map}
 use Rattle.sched_model.specs.declared.config.DomConfig.{DomConfig}
 use Rattle.sched_model.specs.declared.work.StallLine.{StallLine}
 use Rattle.sched_model.specs.declared.work.CommandLine.{CommandLine}
+use Rattle.sched_base.specs.declared.DomId.{DomId}
 use Rattle.sched_base.specs.declared.Moment.{Moment}
+use Rattle.sched_base.specs.declared.PoolId.{PoolId}
 use Rattle.sched_model.specs.declared.state.Domain.{Domain}
 use Rattle.sched_model.specs.declared.machine.Machine.{Machine}
 use Rattle.sched_model.specs.declared.state.FreeCore.{FreeCore}
@@ -51,10 +53,17 @@ size_of d = length d.vcpus
 abbrev pub ends_of : FreeCore → List Moment
 ends_of c = c.stall_ends
 
+-- the number of a pool, and of a domain
+abbrev pub number_of_pool : PoolId → ℕ
+number_of_pool i = i.0
+
+abbrev pub number_of_domain : DomId → ℕ
+number_of_domain d = d.0
+
 -- what is on its way
 abbrev pub way_of : Way → UnderWay
-way_of (way.Core r to) = core_to r to
-way_of (way.Domain d to) = domain_to d to
+way_of (way.Core r to) = core_to r.0 (option_map number_of_pool to)
+way_of (way.Domain d to) = domain_to d.0 to.0
 
 -- a core has 1 to 4 processors, there are at most 64 of these and at most 64 domains, and at most 4096 stalls and commands
 pub record IsKnown (granularity processors domains stalls commands : ℕ) : Type 0 where

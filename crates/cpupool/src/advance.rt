@@ -3,9 +3,9 @@
 ghost use Rattle.std.specs.Prelude.{◌≡◌, ◌≤◌, ◌+◌, false, Some, None, length, replicate, slice_set};
 
 use crate::outline::{CoreFlags, DomainSizes, Outline, Outlines, PoolNames, Way};
-use crate::pools::{has_core, outline_at, size_in};
+use crate::pools::{has_core, item_at, size_in};
 use crate::tool::ToolState;
-use sched_base::Name;
+use sched_base::{DomId, Name, PoolId, ResId};
 use sched_model::config::SchedKind;
 use sched_model::plan::Plan;
 use sched_model::short::Short;
@@ -38,20 +38,20 @@ fn no_domains(domains: usize) -> DomainSizes
 
 /// Puts a pool, or none, at the place i.
 #[tactic(auto, using(crate::proofs::PlaceLemmas::set_past))]
-fn put_pool(pools: &mut Outlines, i: u8, pool: Option<Outline>)
-    ensures { pools.new ≡ slice_set pools.old i pool }
+fn put_pool(pools: &mut Outlines, i: PoolId, pool: Option<Outline>)
+    ensures { pools.new ≡ slice_set pools.old i.0 pool }
 {
-    if let Some(place) = pools.get_mut(i as usize) {
+    if let Some(place) = pools.get_mut(i.0 as usize) {
         *place = pool;
     }
 }
 
 /// Puts a name, or none, at the place i.
 #[tactic(auto, using(crate::proofs::PlaceLemmas::set_past))]
-fn put_name(names: &mut PoolNames, i: u8, name: Option<Name>)
-    ensures { names.new ≡ slice_set names.old i name }
+fn put_name(names: &mut PoolNames, i: PoolId, name: Option<Name>)
+    ensures { names.new ≡ slice_set names.old i.0 name }
 {
-    if let Some(place) = names.get_mut(i as usize) {
+    if let Some(place) = names.get_mut(i.0 as usize) {
         *place = name;
     }
 }
@@ -64,13 +64,14 @@ impl ToolState {
     ghost use Rattle.sched_model.specs.Machine.{verdict, after_command};
     ghost use Rattle.sched_model.specs.Places.{at_place};
     ghost use Rattle.cpupool.specs.Tool.{tool_of};
-    ghost use Rattle.cpupool.specs.Advanced.{empty_outline as empty_outline_spec, has_core_at as has_core_at_spec, has_domain_at as has_domain_at_spec, after_advance, carried_part};
+    ghost use Rattle.cpupool.specs.ToolAdvance.{empty_outline as empty_outline_spec, has_core_at as has_core_at_spec, has_domain_at as has_domain_at_spec, after_advance};
 
     /// The next command is accepted with this plan: it is over, and what it does to the tool's part is done.
     pub fn advance(&mut self, p: &Plan)
         requires left { self.old.part.next_command < length self.old.commands }
         requires idle { self.old.part.under_way ≡ None }
-        ensures { (m : Machine) → (s : State) → (t : ℕ) → (line : Line) → tool_of m s ≡ self.old → verdict m s line ≡ Ok p.now
+        ensures { (m : Machine) → (s : State) → (t : ℕ) → (line : Line) → tool_of m s ≡ self.old
+            → verdict m s line ≡ Ok p.now
             → self.new ≡ tool_of m (after_command m t line s) }
     {
         self.carry_out(p);
@@ -90,35 +91,32 @@ impl ToolState {
                 ..
             } => {
                 let outline = self.empty_outline(*kind);
-                put_name(&mut self.names, pool.0, Some(name.duplicate()));
-                put_pool(&mut self.pools, pool.0, Some(outline));
+                put_name(&mut self.names, *pool, Some(name.duplicate()));
+                put_pool(&mut self.pools, *pool, Some(outline));
             }
             Plan::PoolDestroy { pool, .. } => {
-                put_name(&mut self.names, pool.0, None);
-                put_pool(&mut self.pools, pool.0, None);
+                put_name(&mut self.names, *pool, None);
+                put_pool(&mut self.pools, *pool, None);
             }
             Plan::PoolRename { pool, name, .. } => {
-                put_name(&mut self.names, pool.0, Some(name.duplicate()));
+                put_name(&mut self.names, *pool, Some(name.duplicate()));
             }
             Plan::CpuAdd { pool, core, .. } => {
-                if self.has_free(core.0) {
+                if self.has_free(*core) {
                     self.under_way = Some(Way::Core {
-                        r: core.0,
-                        to: Some(pool.0),
+                        r: *core,
+                        to: Some(*pool),
                     });
                 }
             }
             Plan::CpuRemove { pool, core, .. } => {
-                if self.has_core_at(pool.0, core.0) {
-                    self.under_way = Some(Way::Core {
-                        r: core.0,
-                        to: None,
-                    });
+                if self.has_core_at(*pool, *core) {
+                    self.under_way = Some(Way::Core { r: *core, to: None });
                 }
             }
             Plan::Migrate { dom, from, to, .. } => {
-                if from.0 != to.0 && self.has_domain_at(from.0, dom.0) {
-                    self.under_way = Some(Way::Domain { d: dom.0, to: to.0 });
+                if from.0 != to.0 && self.has_domain_at(*from, *dom) {
+                    self.under_way = Some(Way::Domain { d: *dom, to: *to });
                 }
             }
             _ => {}
@@ -138,30 +136,29 @@ impl ToolState {
     }
 
     /// Whether no pool has the core r.
-    fn has_free(&self, r: u8) -> bool
-        ensures { result ≡ is_some (at_place self.now.part.free r) }
+    fn has_free(&self, r: ResId) -> bool
+        ensures { result ≡ is_some (at_place self.now.part.free r.0) }
     {
-        let free = self.free.as_slice();
-        (r as usize) < free.len() && free[r as usize].is_some()
+        item_at(self.free.as_slice(), r.0 as usize).is_some()
     }
 
     /// Whether the pool i has the core r.
-    fn has_core_at(&self, i: u8, r: u8) -> bool
-        ensures { result ≡ has_core_at_spec self.now.part i r }
+    fn has_core_at(&self, i: PoolId, r: ResId) -> bool
+        ensures { result ≡ has_core_at_spec self.now.part i.0 r.0 }
     {
-        match outline_at(self.pools.as_slice(), i as usize) {
+        match item_at(self.pools.as_slice(), i.0 as usize) {
             None => false,
-            Some(pool) => has_core(pool, r as usize),
+            Some(pool) => has_core(pool, r),
         }
     }
 
     /// Whether the pool i has the domain d.
-    fn has_domain_at(&self, i: u8, d: u8) -> bool
-        ensures { result ≡ has_domain_at_spec self.now.part i d }
+    fn has_domain_at(&self, i: PoolId, d: DomId) -> bool
+        ensures { result ≡ has_domain_at_spec self.now.part i.0 d.0 }
     {
-        match outline_at(self.pools.as_slice(), i as usize) {
+        match item_at(self.pools.as_slice(), i.0 as usize) {
             None => false,
-            Some(pool) => size_in(pool, d as usize).is_some(),
+            Some(pool) => size_in(pool, d).is_some(),
         }
     }
 }

@@ -1,83 +1,84 @@
 //! The end of a move: the home of a core or of a domain is its target.
 
-ghost use Rattle.std.specs.Prelude.{◌≡◌, slice_set};
+ghost use Rattle.std.specs.Prelude.{◌≡◌, option_map, slice_set};
 ghost use Rattle.sched_model.specs.Places.{change_at};
-ghost use Rattle.cpupool.specs.Arrived.{with_core, with_domain as with_domain_spec, without_domain as without_domain_spec, size_at as size_at_spec, handed_over, core_freed, core_arrived, domain_arrived, pools_after};
-ghost use Rattle.cpupool.specs.Tool.{way_of};
+ghost use Rattle.cpupool.specs.ToolArrival.{with_core, with_domain as with_domain_spec, without_domain as without_domain_spec, size_at as size_at_spec, handed_over, core_freed, core_arrived, domain_arrived, pools_after};
+ghost use Rattle.cpupool.specs.Tool.{number_of_pool, way_of};
 
 use crate::outline::{CoreFlags, DomainSizes, Outlines, Way};
-use crate::pools::{core_home, domain_home, outline_at, size_in};
+use crate::pools::{core_home, domain_home, item_at, size_in};
 use crate::tool::ToolState;
+use sched_base::{DomId, PoolId, ResId};
 
 /// Puts a flag at the place of the core r.
 #[tactic(auto, using(crate::proofs::PlaceLemmas::set_past))]
-fn put_flag(flags: &mut CoreFlags, r: usize, there: bool)
-    ensures { flags.new ≡ slice_set flags.old r there }
+fn put_flag(flags: &mut CoreFlags, r: ResId, there: bool)
+    ensures { flags.new ≡ slice_set flags.old r.0 there }
 {
-    if let Some(place) = flags.get_mut(r) {
+    if let Some(place) = flags.get_mut(r.0 as usize) {
         *place = there;
     }
 }
 
 /// Puts the number of vCPUs, or nothing, at the place of the domain d.
 #[tactic(auto, using(crate::proofs::PlaceLemmas::set_past))]
-fn put_size(sizes: &mut DomainSizes, d: usize, size: Option<u8>)
-    ensures { sizes.new ≡ slice_set sizes.old d size }
+fn put_size(sizes: &mut DomainSizes, d: DomId, size: Option<u8>)
+    ensures { sizes.new ≡ slice_set sizes.old d.0 size }
 {
-    if let Some(place) = sizes.get_mut(d) {
+    if let Some(place) = sizes.get_mut(d.0 as usize) {
         *place = size;
     }
 }
 
 /// The pool i has the core r from now on, or has it no more.
 #[tactic(auto, using(crate::proofs::PlaceLemmas::set_past))]
-fn set_core(pools: &mut Outlines, i: usize, r: usize, there: bool)
-    ensures { pools.new ≡ change_at i (with_core r there) pools.old }
+fn set_core(pools: &mut Outlines, i: PoolId, r: ResId, there: bool)
+    ensures { pools.new ≡ change_at i.0 (with_core r.0 there) pools.old }
 {
-    if let Some(place) = pools.get_mut(i) {
-        if let Some(pool) = place {
-            put_flag(&mut pool.cores, r, there);
-        }
+    if let Some(place) = pools.get_mut(i.0 as usize)
+        && let Some(pool) = place
+    {
+        put_flag(&mut pool.cores, r, there);
     }
 }
 
 /// The pool i has the domain d, with so many vCPUs, from now on.
 #[tactic(auto, using(crate::proofs::PlaceLemmas::set_past))]
-fn add_domain(pools: &mut Outlines, i: usize, d: usize, vcpus: u8)
-    ensures { pools.new ≡ change_at i (with_domain_spec d vcpus) pools.old }
+fn add_domain(pools: &mut Outlines, i: PoolId, d: DomId, vcpus: u8)
+    ensures { pools.new ≡ change_at i.0 (with_domain_spec d.0 vcpus) pools.old }
 {
-    if let Some(place) = pools.get_mut(i) {
-        if let Some(pool) = place {
-            put_size(&mut pool.domains, d, Some(vcpus));
-        }
+    if let Some(place) = pools.get_mut(i.0 as usize)
+        && let Some(pool) = place
+    {
+        put_size(&mut pool.domains, d, Some(vcpus));
     }
 }
 
 /// The pool i has the domain d no more.
 #[tactic(auto, using(crate::proofs::PlaceLemmas::set_past))]
-fn remove_domain(pools: &mut Outlines, i: usize, d: usize)
-    ensures { pools.new ≡ change_at i (without_domain_spec d) pools.old }
+fn remove_domain(pools: &mut Outlines, i: PoolId, d: DomId)
+    ensures { pools.new ≡ change_at i.0 (without_domain_spec d.0) pools.old }
 {
-    if let Some(place) = pools.get_mut(i) {
-        if let Some(pool) = place {
-            put_size(&mut pool.domains, d, None);
-        }
+    if let Some(place) = pools.get_mut(i.0 as usize)
+        && let Some(pool) = place
+    {
+        put_size(&mut pool.domains, d, None);
     }
 }
 
 /// How many vCPUs the domain d has, where the pool i has it.
-fn size_at(pools: &Outlines, i: usize, d: usize) -> Option<u8>
-    ensures { result ≡ size_at_spec pools.now i d }
+fn size_at(pools: &Outlines, i: PoolId, d: DomId) -> Option<u8>
+    ensures { result ≡ size_at_spec pools.now i.0 d.0 }
 {
-    match outline_at(pools.as_slice(), i) {
+    match item_at(pools.as_slice(), i.0 as usize) {
         None => None,
         Some(pool) => size_in(pool, d),
     }
 }
 
 /// The domain d is in the pool j in place of the pool i.
-fn hand_over(pools: &mut Outlines, d: usize, i: usize, j: usize)
-    ensures { pools.new ≡ handed_over d i j pools.old }
+fn hand_over(pools: &mut Outlines, d: DomId, i: PoolId, j: PoolId)
+    ensures { pools.new ≡ handed_over d.0 i.0 j.0 pools.old }
 {
     if let Some(vcpus) = size_at(pools, i, d) {
         remove_domain(pools, i, d);
@@ -86,30 +87,30 @@ fn hand_over(pools: &mut Outlines, d: usize, i: usize, j: usize)
 }
 
 /// The pool that has the core r has it no more.
-fn free_core(pools: &mut Outlines, r: usize)
-    ensures { pools.new ≡ core_freed r pools.old }
+fn free_core(pools: &mut Outlines, r: ResId)
+    ensures { pools.new ≡ core_freed r.0 pools.old }
 {
-    if let Some(i) = core_home(0, pools.as_slice(), r) {
-        set_core(pools, i as usize, r, false);
+    if let Some(i) = core_home(PoolId(0), pools.as_slice(), r) {
+        set_core(pools, i, r, false);
     }
 }
 
 /// The core r is at its target.
-fn arrive_core(pools: &mut Outlines, r: usize, to: Option<u8>)
-    ensures { pools.new ≡ core_arrived r to pools.old }
+fn arrive_core(pools: &mut Outlines, r: ResId, to: Option<PoolId>)
+    ensures { pools.new ≡ core_arrived r.0 (option_map number_of_pool to) pools.old }
 {
     match to {
         None => free_core(pools, r),
-        Some(i) => set_core(pools, i as usize, r, true),
+        Some(i) => set_core(pools, i, r, true),
     }
 }
 
 /// The domain d is in the pool j.
-fn arrive_domain(pools: &mut Outlines, d: usize, j: usize)
-    ensures { pools.new ≡ domain_arrived d j pools.old }
+fn arrive_domain(pools: &mut Outlines, d: DomId, j: PoolId)
+    ensures { pools.new ≡ domain_arrived d.0 j.0 pools.old }
 {
-    if let Some(i) = domain_home(0, pools.as_slice(), d) {
-        hand_over(pools, d, i as usize, j);
+    if let Some(i) = domain_home(PoolId(0), pools.as_slice(), d) {
+        hand_over(pools, d, i, j);
     }
 }
 
@@ -118,8 +119,8 @@ fn arrive(pools: &mut Outlines, way: Way)
     ensures { pools.new ≡ pools_after pools.old (way_of way) }
 {
     match way {
-        Way::Core { r, to } => arrive_core(pools, r as usize, to),
-        Way::Domain { d, to } => arrive_domain(pools, d as usize, to as usize),
+        Way::Core { r, to } => arrive_core(pools, r, to),
+        Way::Domain { d, to } => arrive_domain(pools, d, to),
     }
 }
 
@@ -131,7 +132,7 @@ impl ToolState {
     ghost use Rattle.sched_model.specs.Machine.{after};
     ghost use Rattle.journal_core.specs.Parts.{UnderWay};
     ghost use Rattle.cpupool.specs.Tool.{tool_of};
-    ghost use Rattle.cpupool.specs.Arrived.{after_arrival, action_of, but_for_free, EndsTheMove};
+    ghost use Rattle.cpupool.specs.ToolArrival.{after_arrival, action_of, but_for_free, EndsTheMove};
 
     /// What was on its way is there: its home is its target, and nothing is on its way any more.
     ///
@@ -139,8 +140,10 @@ impl ToolState {
     pub fn move_done(&mut self)
         requires { IsSome self.old.part.under_way }
         ensures idle { self.new.part.under_way ≡ None }
-        ensures state { (m : Machine) → (s : State) → (t : ℕ) → (way : UnderWay) → (free : List (Option (List Moment))) → but_for_free free (tool_of m s) ≡ self.old
-            → self.old.part.under_way ≡ Some way → EndsTheMove m s t (action_of way) → self.new ≡ but_for_free free (tool_of m (after m s t (action_of way))) }
+        ensures state { (m : Machine) → (s : State) → (t : ℕ) → (way : UnderWay)
+            → (free : List (Option (List Moment))) → but_for_free free (tool_of m s) ≡ self.old
+            → self.old.part.under_way ≡ Some way → EndsTheMove m s t (action_of way)
+            → self.new ≡ but_for_free free (tool_of m (after m s t (action_of way))) }
     {
         self.end_move();
     }

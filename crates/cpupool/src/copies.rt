@@ -1,9 +1,9 @@
 //! Commands and workloads once more.
 
-ghost use Rattle.std.specs.Prelude.{◌≡◌, ◌∷◌, [], IfOk};
+ghost use Rattle.std.specs.Prelude.{◌≡◌, IfOk};
 
 use sched_base::NoMemory;
-use sched_model::command::{ArincEntry, ArincList, Command, CpuList, Which};
+use sched_model::command::{ArincEntry, ArincList, Command, Which};
 use sched_model::row::Row;
 use sched_model::short::Short;
 use sched_model::work::{CommandLine, Commands, Stalls, Work};
@@ -44,13 +44,15 @@ fn same_entries(entries: &ArincList) -> ArincList
     all
 }
 
-/// The ranges of processors once more.
-fn same_ranges(ranges: &CpuList) -> CpuList
-    ensures { result ≡ ranges.now }
+/// The items once more, where each is copied.
+pub(crate) fn same_items<T: Copy + Default + Drop, const N: usize>(
+    items: &Short<T, N>,
+) -> Short<T, N>
+    ensures { result ≡ items.now }
 {
     let mut all = Short::new();
-    for range in ranges.as_slice() {
-        all.push(*range);
+    for item in items.as_slice() {
+        all.push(*item);
     }
     all
 }
@@ -126,7 +128,7 @@ fn same_command(c: &Command) -> Command
         Command::Pin { dom, vcpu, cpus } => Command::Pin {
             dom: same_which(dom),
             vcpu: *vcpu,
-            cpus: same_ranges(cpus),
+            cpus: same_items(cpus),
         },
     }
 }

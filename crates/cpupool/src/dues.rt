@@ -4,43 +4,43 @@ ghost use Rattle.std.specs.Prelude.{◌≡◌, ◌^◌, ◌<◌};
 ghost use Rattle.sched_model.specs.Places.{at_place};
 ghost use Rattle.cpupool.specs.Dues.{sooner_moment as sooner_spec, later_than as later_than_spec, first_end as first_end_spec};
 
-use crate::moves::ends_at;
 use crate::outline::Way;
+use crate::pools::item_at;
 use crate::tool::ToolState;
-use sched_base::Moment;
+use sched_base::{Moment, ResId};
 use sched_model::facts::StallEnds;
 
 /// The sooner of the moments that are there.
-fn sooner(a: Option<u64>, b: Option<u64>) -> Option<u64>
+fn sooner(a: Option<Moment>, b: Option<Moment>) -> Option<Moment>
     ensures { result ≡ sooner_spec a b }
 {
     match (a, b) {
         (None, b) => b,
         (Some(a), None) => Some(a),
-        (Some(a), Some(b)) => Some(a.min(b)),
+        (Some(a), Some(b)) => Some(Moment(a.0.min(b.0))),
     }
 }
 
 /// The moment, or the next after t where that is later.
-fn later_than(t: u64, at: Option<u64>) -> Option<Moment>
-    requires { t < 2 ^ 63 }
-    ensures { result ≡ later_than_spec t at }
+fn later_than(t: Moment, at: Option<Moment>) -> Option<Moment>
+    requires { t.0 < 2 ^ 63 }
+    ensures { result ≡ later_than_spec t.0 at }
 {
     match at {
         None => None,
-        Some(at) => Some(Moment(at.max(t + 1))),
+        Some(at) => Some(Moment(at.0.max(t.0 + 1))),
     }
 }
 
 /// The end of the stall of the first processor of the core r, where no pool has that.
-fn first_end(free: &[Option<StallEnds>], r: usize) -> Option<u64>
-    ensures { result ≡ first_end_spec (at_place free.now r) }
+fn first_end(free: &[Option<StallEnds>], r: ResId) -> Option<Moment>
+    ensures { result ≡ first_end_spec (at_place free.now r.0) }
 {
-    match ends_at(free, r) {
+    match item_at(free, r.0 as usize) {
         None => None,
         Some(ends) => match ends.as_slice() {
             [] => None,
-            [end, ..] => Some(end.0),
+            [end, ..] => Some(*end),
         },
     }
 }
@@ -50,7 +50,7 @@ impl ToolState {
     ghost use Rattle.sched_model.specs.declared.machine.Machine.{Machine};
     ghost use Rattle.sched_model.specs.declared.state.State.{State};
     ghost use Rattle.cpupool.specs.Tool.{tool_of};
-    ghost use Rattle.cpupool.specs.Coming.{tool_may_act};
+    ghost use Rattle.cpupool.specs.ToolActions.{tool_may_act};
     ghost use Rattle.cpupool.specs.Dues.{IsLeastLater, is_anything_due, stall_at as stall_at_spec, command_at as command_at_spec, joining_at as joining_at_spec, soonest_moment, later_than as later_than_spec};
 
     /// The least moment after t at which a stall or a command may come, or a core of no pool may join one; `None` where
@@ -61,30 +61,30 @@ impl ToolState {
         ensures state { (m : Machine) → (s : State) → tool_of m s ≡ self.now →
             IsLeastLater t.0 (tool_may_act m s) result }
     {
-        self.soonest_after(t.0)
+        self.soonest_after(t)
     }
 
     /// The soonest of the three moments, or the next after t where that is later.
-    fn soonest_after(&self, t: u64) -> Option<Moment>
-        requires { t < 2 ^ 63 }
-        ensures { result ≡ later_than_spec t (soonest_moment self.now) }
+    fn soonest_after(&self, t: Moment) -> Option<Moment>
+        requires { t.0 < 2 ^ 63 }
+        ensures { result ≡ later_than_spec t.0 (soonest_moment self.now) }
     {
         let others = sooner(self.command_at(), self.joining_at());
         later_than(t, sooner(self.stall_at(), others))
     }
 
     /// The moment of the next stall.
-    fn stall_at(&self) -> Option<u64>
+    fn stall_at(&self) -> Option<Moment>
         ensures { result ≡ stall_at_spec self.now }
     {
         match self.stalls.as_slice().get(self.next_stall as usize) {
             None => None,
-            Some(line) => Some(line.at.0),
+            Some(line) => Some(line.at),
         }
     }
 
     /// The moment of the next command, while nothing is on its way.
-    fn command_at(&self) -> Option<u64>
+    fn command_at(&self) -> Option<Moment>
         ensures { result ≡ command_at_spec self.now }
     {
         if self.under_way.is_some() {
@@ -92,16 +92,16 @@ impl ToolState {
         }
         match self.commands.as_slice().get(self.next_command as usize) {
             None => None,
-            Some(line) => Some(line.at.0),
+            Some(line) => Some(line.at),
         }
     }
 
     /// The moment at which the core of no pool that is to join one may do so.
-    fn joining_at(&self) -> Option<u64>
+    fn joining_at(&self) -> Option<Moment>
         ensures { result ≡ joining_at_spec self.now.part self.now.part.under_way }
     {
         match self.under_way {
-            Some(Way::Core { r, to: Some(_) }) => first_end(self.free.as_slice(), r as usize),
+            Some(Way::Core { r, to: Some(_) }) => first_end(self.free.as_slice(), r),
             _ => None,
         }
     }

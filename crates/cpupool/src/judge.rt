@@ -1,20 +1,45 @@
 //! Commands, judged.
 
+ghost use Rattle.std.specs.Prelude.{◌≡◌};
+ghost use Rattle.sched_model.specs.Commands.{reply_of as reply_of_spec};
+
 use crate::tool::ToolState;
 use sched_model::command::Command;
-use sched_model::event::Refusal;
+use sched_model::event::{Refusal, Reply};
 use sched_model::facts::Facts;
 use sched_model::plan::Plan;
+
+/// The answer to an accepted command.
+pub fn reply_of(plan: &Plan) -> Reply
+    ensures { result ≡ reply_of_spec plan.now }
+{
+    match plan {
+        Plan::PoolList { reply, .. } => *reply,
+        Plan::PoolCreate { reply, .. } => *reply,
+        Plan::PoolDestroy { reply, .. } => *reply,
+        Plan::PoolRename { reply, .. } => *reply,
+        Plan::CpuAdd { reply, .. } => *reply,
+        Plan::CpuRemove { reply, .. } => *reply,
+        Plan::Migrate { reply, .. } => *reply,
+        Plan::Credit2Dom { reply, .. } => *reply,
+        Plan::Credit2Pool { reply, .. } => *reply,
+        Plan::RtdsDom { reply, .. } => *reply,
+        Plan::Pause { reply, .. } => *reply,
+        Plan::Unpause { reply, .. } => *reply,
+        Plan::ArincSet { reply, .. } => *reply,
+        Plan::Pin { reply, .. } => *reply,
+    }
+}
 
 impl ToolState {
     ghost use Rattle.std.specs.Prelude.{◌≡◌};
     ghost use Rattle.sched_model.specs.declared.machine.Machine.{Machine};
     ghost use Rattle.sched_model.specs.declared.state.State.{State};
-    ghost use Rattle.sched_model.specs.Checked.{IsCheckedCommand};
+    ghost use Rattle.sched_model.specs.CheckedMachine.{IsCheckedCommand};
     ghost use Rattle.sched_model.specs.Commands.{judge as judge_spec};
     ghost use Rattle.cpupool.specs.Tool.{tool_of};
     ghost use Rattle.cpupool.specs.Facts.{facts_of, KeepsFacts};
-    ghost use Rattle.cpupool.specs.Judging.{seen_judge as seen_judge_spec};
+    ghost use Rattle.cpupool.specs.Verdicts.{seen_judge as seen_judge_spec};
 
     /// What the command will do, or why it is refused: the first check that fails.
     ///
@@ -22,7 +47,8 @@ impl ToolState {
     #[tactic(auto, using(crate::proofs::JudgeLemmas::judge_seen))]
     pub fn judge(&self, c: &Command, facts: &Facts) -> Result<Plan, Refusal>
         requires { IsCheckedCommand c.now }
-        ensures { (m : Machine) → (s : State) → tool_of m s ≡ self.now → facts_of m s c.now ≡ facts.now → KeepsFacts m s c.now
+        ensures { (m : Machine) → (s : State) → tool_of m s ≡ self.now
+            → facts_of m s c.now ≡ facts.now → KeepsFacts m s c.now
             → result ≡ judge_spec m s c.now }
     {
         self.seen_judge(c, facts)

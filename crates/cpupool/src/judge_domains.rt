@@ -2,12 +2,12 @@
 
 ghost use Rattle.std.specs.Prelude.{◌≡◌, ◌+◌, ◌-◌, ◌/◌, ◌*◌, ◌^◌, ◌<◌, ◌≤◌, option_map, take, drop};
 ghost use Rattle.sched_base.specs.Numbers.{span};
-ghost use Rattle.sched_model.specs.Checked.{IsGivenNumber};
-ghost use Rattle.cpupool.specs.Judging.{weight_reply as weight_reply_spec, given_range as given_range_spec, stored_fault as stored_fault_spec, rtds_reply as rtds_reply_spec, seen_guest as seen_guest_spec, seen_rtds};
+ghost use Rattle.sched_model.specs.CheckedMachine.{IsGivenNumber};
+ghost use Rattle.cpupool.specs.Verdicts.{weight_reply as weight_reply_spec, given_range as given_range_spec, stored_fault as stored_fault_spec, rtds_reply as rtds_reply_spec, seen_guest as seen_guest_spec, seen_rtds};
 
 use crate::pools::{core_total, kind_of};
 use crate::tool::ToolState;
-use sched_base::{DomId, PoolId, Span};
+use sched_base::{DomId, Span};
 use sched_model::command::Which;
 use sched_model::config::SchedKind;
 use sched_model::event::{Param, Refusal, Reply};
@@ -137,7 +137,7 @@ fn unit_count(g: u8, vcpus: u8) -> u8
 
 /// The plan for so many units of the domain d from first on, whose set values are these. Periods and budgets are in microseconds.
 fn plan_rtds(
-    d: u8,
+    d: DomId,
     first: u8,
     count: u8,
     units: &[Stored],
@@ -147,7 +147,7 @@ fn plan_rtds(
 ) -> Result<Plan, Refusal>
     requires period { IsGivenNumber period }
     requires budget { IsGivenNumber budget }
-    ensures { result ≡ seen_rtds d first count units.now period budget extra }
+    ensures { result ≡ seen_rtds d.0 first count units.now period budget extra }
 {
     if let Some(fault) = stored_fault(period, budget, units) {
         return Err(fault);
@@ -155,7 +155,7 @@ fn plan_rtds(
     let asks = period.is_none() && budget.is_none() && extra.is_none();
     let reply = if asks { rtds_reply(units) } else { Reply::Done };
     Ok(Plan::RtdsDom {
-        dom: DomId(d),
+        dom: d,
         first,
         count,
         period: span_of(period),
@@ -178,8 +178,8 @@ fn one_unit(units: &[Stored], n: usize) -> &[Stored]
 
 impl ToolState {
     ghost use Rattle.std.specs.Prelude.{◌≡◌};
-    ghost use Rattle.sched_model.specs.Checked.{IsGivenNumber};
-    ghost use Rattle.cpupool.specs.Judging.{seen_migrate, seen_pause, seen_unpause, seen_credit2_dom, seen_credit2_pool, seen_rtds_units, seen_rtds_dom};
+    ghost use Rattle.sched_model.specs.CheckedMachine.{IsGivenNumber};
+    ghost use Rattle.cpupool.specs.Verdicts.{seen_migrate, seen_pause, seen_unpause, seen_credit2_dom, seen_credit2_pool, seen_rtds_units, seen_rtds_dom};
 
     /// `cpupool-migrate DOM POOL`
     pub(crate) fn judge_migrate(&self, which: &Which, target: &Which) -> Result<Plan, Refusal>
@@ -192,14 +192,12 @@ impl ToolState {
             return Err(Refusal::NoPool);
         };
         if core_total(new.pool) == 0 {
-            return Err(Refusal::PoolEmpty {
-                pool: PoolId(new.i),
-            });
+            return Err(Refusal::PoolEmpty { pool: new.i });
         }
         Ok(Plan::Migrate {
-            dom: DomId(named.d),
-            from: PoolId(named.i),
-            to: PoolId(new.i),
+            dom: named.d,
+            from: named.i,
+            to: new.i,
             reply: Reply::Done,
         })
     }
@@ -211,7 +209,7 @@ impl ToolState {
         match self.named_domain(which) {
             None => Err(Refusal::NoDomain),
             Some(named) => Ok(Plan::Pause {
-                dom: DomId(named.d),
+                dom: named.d,
                 reply: Reply::Done,
             }),
         }
@@ -224,7 +222,7 @@ impl ToolState {
         match self.named_domain(which) {
             None => Err(Refusal::NoDomain),
             Some(named) => Ok(Plan::Unpause {
-                dom: DomId(named.d),
+                dom: named.d,
                 reply: Reply::Done,
             }),
         }
@@ -245,7 +243,7 @@ impl ToolState {
         };
         if kind_of(named.pool) != SchedKind::Credit2 {
             return Err(Refusal::WrongSched {
-                pool: PoolId(named.i),
+                pool: named.i,
                 kind: kind_of(named.pool),
             });
         }
@@ -258,7 +256,7 @@ impl ToolState {
             Reply::Done
         };
         Ok(Plan::Credit2Dom {
-            dom: DomId(named.d),
+            dom: named.d,
             weight,
             cap,
             reply,
@@ -277,7 +275,7 @@ impl ToolState {
         let Some(named) = self.named_pool(which) else {
             return Err(Refusal::NoPool);
         };
-        let pool = PoolId(named.i);
+        let pool = named.i;
         if kind_of(named.pool) != SchedKind::Credit2 {
             return Err(Refusal::WrongSched {
                 pool,
@@ -309,7 +307,7 @@ impl ToolState {
     /// The plan for the unit of the vCPU, or for all units of the domain d, which has so many vCPUs.
     fn plan_units(
         &self,
-        d: u8,
+        d: DomId,
         vcpus: u8,
         guest: Option<u8>,
         units: &[Stored],
@@ -319,7 +317,7 @@ impl ToolState {
     ) -> Result<Plan, Refusal>
         requires period { IsGivenNumber period }
         requires budget { IsGivenNumber budget }
-        ensures { result ≡ seen_rtds_units self.now d vcpus guest units.now period budget extra }
+        ensures { result ≡ seen_rtds_units self.now d.0 vcpus guest units.now period budget extra }
     {
         match guest {
             None => {
@@ -352,7 +350,7 @@ impl ToolState {
         };
         if kind_of(named.pool) != SchedKind::Rtds {
             return Err(Refusal::WrongSched {
-                pool: PoolId(named.i),
+                pool: named.i,
                 kind: kind_of(named.pool),
             });
         }

@@ -3,16 +3,16 @@
 ghost use Rattle.std.specs.Prelude.{◌≡◌, ◌*◌, ◌^◌, ◌≤◌, length, sum_by};
 ghost use Rattle.std.specs.List.{All};
 ghost use Rattle.sched_model.specs.declared.command.ArincEntry.{ArincEntry as EntryRecord};
-ghost use Rattle.sched_model.specs.Checked.{IsCheckedEntry};
+ghost use Rattle.sched_model.specs.CheckedMachine.{IsCheckedEntry};
 ghost use Rattle.sched_model.specs.Commands.{cpu_fault as cpu_fault_spec};
 ghost use Rattle.sched_model.specs.Places.{numbers_from};
-ghost use Rattle.cpupool.specs.Judging.{is_named as is_named_spec, named_among};
+ghost use Rattle.cpupool.specs.Verdicts.{is_named as is_named_spec, named_among};
 
 use crate::judge_domains::guest_of;
 use crate::outline::Outline;
 use crate::pools::{core_set, kind_of};
 use crate::tool::ToolState;
-use sched_base::{Cores, DomId, PoolId, Span};
+use sched_base::{Cores, DomId, PoolId, ResId, Span};
 use sched_model::command::{ArincEntry, ArincList, CpuList, Which};
 use sched_model::config::{Frame, FrameEntry, FrameList, SchedKind};
 use sched_model::event::{Param, Refusal, Reply};
@@ -52,11 +52,11 @@ fn cpu_fault(processors: u8, ranges: &[(u64, u64)]) -> Option<Refusal>
 }
 
 /// Whether one of the ranges has a processor of the core r, where a core has g processors.
-fn is_named(g: u8, ranges: &[(u64, u64)], r: u8) -> bool
+fn is_named(g: u8, ranges: &[(u64, u64)], r: ResId) -> bool
     requires { 1 ≤ g }
-    ensures { result ≡ is_named_spec g ranges.now r }
+    ensures { result ≡ is_named_spec g ranges.now r.0 }
 {
-    let first = r as u64 * g as u64;
+    let first = r.0 as u64 * g as u64;
     let last = first + g as u64 - 1;
     ranges
         .iter()
@@ -65,31 +65,31 @@ fn is_named(g: u8, ranges: &[(u64, u64)], r: u8) -> bool
 
 /// The set of those of the first cores, so many, that have a processor in one of the ranges.
 #[tactic(auto, using(crate::proofs::NumberLemmas::named_in, crate::proofs::NumberLemmas::named_out))]
-fn named_set(g: u8, ranges: &[(u64, u64)], cores: u8) -> u64
+fn named_set(g: u8, ranges: &[(u64, u64)], cores: u8) -> Cores
     requires some { 1 ≤ g }
     requires few { cores ≤ 64 }
-    ensures { result ≡ named_among g ranges.now (numbers_from 0 cores) }
+    ensures { result.0 ≡ named_among g ranges.now (numbers_from 0 cores) }
 {
     let mut set = 0u64;
     for r in 0..cores {
-        if is_named(g, ranges, r) {
+        if is_named(g, ranges, ResId(r)) {
             set += 1u64 << r;
         }
     }
-    set
+    Cores(set)
 }
 
 impl ToolState {
     ghost use Rattle.std.specs.Prelude.{◌≡◌, ◌+◌, ◌/◌, ◌≤◌, length, option_map};
     ghost use Rattle.std.specs.List.{All};
-    ghost use Rattle.sched_model.specs.Checked.{IsCheckedEntry};
-    ghost use Rattle.cpupool.specs.Judging.{guests_in as guests_in_spec, seen_entry, seen_entries, entries_behind, seen_frame, seen_arinc_set, seen_cores, seen_elsewhere, seen_pin};
+    ghost use Rattle.sched_model.specs.CheckedMachine.{IsCheckedEntry};
+    ghost use Rattle.cpupool.specs.Verdicts.{guests_in as guests_in_spec, seen_entry, seen_entries, entries_behind, seen_frame, seen_arinc_set, seen_cores, seen_elsewhere, seen_pin};
 
     /// How many vCPUs the domain d of the machine has.
-    fn guests_in(&self, d: u8) -> Option<u8>
-        ensures { result ≡ guests_in_spec self.now d }
+    fn guests_in(&self, d: DomId) -> Option<u8>
+        ensures { result ≡ guests_in_spec self.now d.0 }
     {
-        match self.domains.as_slice().get(d as usize) {
+        match self.domains.as_slice().get(d.0 as usize) {
             None => None,
             Some(domain) => Some(domain.vcpus),
         }
@@ -116,7 +116,7 @@ impl ToolState {
             });
         }
         Ok(FrameEntry {
-            dom: DomId(d),
+            dom: d,
             unit: e.unit as u8,
             run: Span(e.run),
         })
@@ -140,10 +140,10 @@ impl ToolState {
     }
 
     /// The plan for a new frame of the pool i.
-    fn plan_frame(&self, i: u8, major: u64, entries: &[ArincEntry]) -> Result<Plan, Refusal>
+    fn plan_frame(&self, i: PoolId, major: u64, entries: &[ArincEntry]) -> Result<Plan, Refusal>
         requires few { length entries.now ≤ 64 }
         requires checked { All IsCheckedEntry entries.now }
-        ensures { result ≡ seen_frame self.now i major entries.now }
+        ensures { result ≡ seen_frame self.now i.0 major entries.now }
     {
         let frame = self.frame_entries(Short::new(), entries)?;
         let sum = run_total(entries);
@@ -151,7 +151,7 @@ impl ToolState {
             return Err(Refusal::FrameLong { sum, major });
         }
         Ok(Plan::ArincSet {
-            pool: PoolId(i),
+            pool: i,
             frame: Frame {
                 major: Span(major),
                 entries: frame,
@@ -175,7 +175,7 @@ impl ToolState {
         };
         if kind_of(named.pool) != SchedKind::Arinc653 {
             return Err(Refusal::WrongSched {
-                pool: PoolId(named.i),
+                pool: named.i,
                 kind: kind_of(named.pool),
             });
         }
@@ -196,7 +196,7 @@ impl ToolState {
             return Cores(u64::MAX);
         }
         let cores = self.processors / self.granularity;
-        Cores(named_set(self.granularity, ranges, cores))
+        named_set(self.granularity, ranges, cores)
     }
 
     /// Why the ranges may not be taken for a domain of the pool: they name no core of the pool.
@@ -206,7 +206,7 @@ impl ToolState {
         match ranges {
             [] => None,
             [range, ..] => {
-                if self.cores_of(ranges).0 & core_set(pool) == 0 {
+                if self.cores_of(ranges).0 & core_set(pool).0 == 0 {
                     Some(Refusal::CpuElsewhere { cpu: range.0 })
                 } else {
                     None
@@ -246,7 +246,7 @@ impl ToolState {
             return Err(fault);
         }
         Ok(Plan::Pin {
-            dom: DomId(named.d),
+            dom: named.d,
             unit: self.unit_of(guest),
             cores: self.cores_of(ranges),
             reply: Reply::Done,

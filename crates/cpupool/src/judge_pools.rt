@@ -1,7 +1,7 @@
 //! The commands on pools and their cores, judged. The first check that fails gives the refusal.
 
 ghost use Rattle.std.specs.Prelude.{◌≡◌};
-ghost use Rattle.cpupool.specs.Judging.{last_core as last_core_spec};
+ghost use Rattle.cpupool.specs.Verdicts.{last_core as last_core_spec};
 
 use crate::outline::Outline;
 use crate::pools::{
@@ -16,24 +16,21 @@ use sched_model::event::{Refusal, Reply};
 use sched_model::plan::Plan;
 
 /// Why a core may not be taken from the pool i: it is the pool's only one, and the pool has a domain.
-fn last_core(i: u8, pool: &Outline) -> Option<Refusal>
-    ensures { result ≡ last_core_spec i pool.now }
+fn last_core(i: PoolId, pool: &Outline) -> Option<Refusal>
+    ensures { result ≡ last_core_spec i.0 pool.now }
 {
     if core_total(pool) != 1 {
         return None;
     }
-    match first_domain(0, pool.domains.as_slice()) {
+    match first_domain(DomId(0), pool.domains.as_slice()) {
         None => None,
-        Some(d) => Some(Refusal::LastCpu {
-            pool: PoolId(i),
-            dom: DomId(d),
-        }),
+        Some(dom) => Some(Refusal::LastCpu { pool: i, dom }),
     }
 }
 
 impl ToolState {
     ghost use Rattle.std.specs.Prelude.{◌≡◌, ◌==◌, true, not};
-    ghost use Rattle.cpupool.specs.Judging.{taken_name, seen_pool_list, seen_pool_create, seen_pool_destroy, seen_pool_rename, seen_cpu_add, seen_cpu_remove};
+    ghost use Rattle.cpupool.specs.Verdicts.{taken_name, seen_pool_list, seen_pool_create, seen_pool_destroy, seen_pool_rename, seen_cpu_add, seen_cpu_remove};
 
     /// `cpupool-list`
     fn list_pools(&self) -> Plan
@@ -59,13 +56,13 @@ impl ToolState {
             return Err(Refusal::NoPool);
         };
         let reply = Reply::Pool {
-            pool: PoolId(named.i),
+            pool: named.i,
             kind: kind_of(named.pool),
             cpus: core_total(named.pool) * self.granularity as u64,
             domains: domain_total(named.pool),
         };
         Ok(Plan::PoolList {
-            pool: Some(PoolId(named.i)),
+            pool: Some(named.i),
             reply,
         })
     }
@@ -74,25 +71,23 @@ impl ToolState {
     fn any_named(&self, name: &Name) -> Option<Refusal>
         ensures { result ≡ taken_name self.now.part name.now (λ i. true) }
     {
-        match place_named(0, self.names.as_slice(), name) {
+        match place_named(PoolId(0), self.names.as_slice(), name) {
             None => None,
-            Some(i) => Some(Refusal::NameTaken { pool: PoolId(i) }),
+            Some(pool) => Some(Refusal::NameTaken { pool }),
         }
     }
 
     /// Why the pool i may not have the name: another pool has it.
-    fn other_named(&self, i: u8, name: &Name) -> Option<Refusal>
-        ensures { result ≡ taken_name self.now.part name.now (λ other. not (other == i)) }
+    fn other_named(&self, i: PoolId, name: &Name) -> Option<Refusal>
+        ensures { result ≡ taken_name self.now.part name.now (λ other. not (other == i.0)) }
     {
-        match place_named(0, self.names.as_slice(), name) {
+        match place_named(PoolId(0), self.names.as_slice(), name) {
             None => None,
-            Some(other) => {
-                if other == i {
+            Some(pool) => {
+                if pool.0 == i.0 {
                     None
                 } else {
-                    Some(Refusal::NameTaken {
-                        pool: PoolId(other),
-                    })
+                    Some(Refusal::NameTaken { pool })
                 }
             }
         }
@@ -109,10 +104,10 @@ impl ToolState {
         if let Some(fault) = self.any_named(name) {
             return Err(fault);
         }
-        match first_empty_place(0, self.pools.as_slice()) {
+        match first_empty_place(PoolId(0), self.pools.as_slice()) {
             None => Err(Refusal::PoolsFull),
-            Some(i) => Ok(Plan::PoolCreate {
-                pool: PoolId(i),
+            Some(pool) => Ok(Plan::PoolCreate {
+                pool,
                 name: name.duplicate(),
                 kind: sched.unwrap_or(SchedKind::Credit2),
                 reply: Reply::Done,
@@ -127,8 +122,8 @@ impl ToolState {
         let Some(named) = self.named_pool(which) else {
             return Err(Refusal::NoPool);
         };
-        let pool = PoolId(named.i);
-        if named.i == 0 {
+        let pool = named.i;
+        if pool.0 == 0 {
             return Err(Refusal::PoolZero);
         }
         let cores = core_total(named.pool);
@@ -158,7 +153,7 @@ impl ToolState {
             return Err(fault);
         }
         Ok(Plan::PoolRename {
-            pool: PoolId(named.i),
+            pool: named.i,
             name: name.duplicate(),
             reply: Reply::Done,
         })
@@ -174,21 +169,16 @@ impl ToolState {
         if cpu >= self.processors as u64 {
             return Err(Refusal::NoCpu { cpu });
         }
-        let r = cpu as u8 / self.granularity;
-        if let Some(home) = core_home(0, self.pools.as_slice(), r as usize) {
-            return Err(Refusal::CpuTaken {
-                cpu,
-                pool: PoolId(home),
-            });
+        let core = ResId(cpu as u8 / self.granularity);
+        if let Some(pool) = core_home(PoolId(0), self.pools.as_slice(), core) {
+            return Err(Refusal::CpuTaken { cpu, pool });
         }
         if kind_of(named.pool) == SchedKind::Arinc653 && core_total(named.pool) > 0 {
-            return Err(Refusal::ArincOne {
-                pool: PoolId(named.i),
-            });
+            return Err(Refusal::ArincOne { pool: named.i });
         }
         Ok(Plan::CpuAdd {
-            pool: PoolId(named.i),
-            core: ResId(r),
+            pool: named.i,
+            core,
             reply: Reply::Done,
         })
     }
@@ -203,16 +193,16 @@ impl ToolState {
         if cpu >= self.processors as u64 {
             return Err(Refusal::NoCpu { cpu });
         }
-        let r = cpu as u8 / self.granularity;
-        if !has_core(named.pool, r as usize) {
+        let core = ResId(cpu as u8 / self.granularity);
+        if !has_core(named.pool, core) {
             return Err(Refusal::CpuElsewhere { cpu });
         }
         if let Some(fault) = last_core(named.i, named.pool) {
             return Err(fault);
         }
         Ok(Plan::CpuRemove {
-            pool: PoolId(named.i),
-            core: ResId(r),
+            pool: named.i,
+            core,
             reply: Reply::Done,
         })
     }

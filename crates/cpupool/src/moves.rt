@@ -1,14 +1,12 @@
 //! What is on its way, and the cores that no pool has.
 
 ghost use Rattle.std.specs.Prelude.{◌≡◌, option_map, slice_set};
-ghost use Rattle.sched_base.specs.Numbers.{pool as pool_number};
-ghost use Rattle.std.specs.Option.{option_copied};
 ghost use Rattle.sched_model.specs.Places.{at_place};
 ghost use Rattle.cpupool.specs.Steps.{first_end_up};
 
+use crate::copies::same_items;
 use crate::outline::{FreeCores, Way};
-use crate::pools::{kind_of, outline_at};
-use crate::reading::same_ends;
+use crate::pools::{item_at, kind_of};
 use crate::tool::ToolState;
 use sched_base::{DomId, Moment, PoolId, ResId};
 use sched_model::config::SchedKind;
@@ -28,46 +26,25 @@ pub enum Move {
     },
 }
 
-/// The ends of the stalls of the core r, where no pool has it.
-pub(crate) fn ends_at(free: &[Option<StallEnds>], r: usize) -> Option<&StallEnds>
-    ensures { option_copied result ≡ at_place free.now r }
-{
-    if r < free.len() {
-        free[r].as_ref()
-    } else {
-        None
-    }
-}
-
 /// Whether no pool has the core r, and its first processor is up at t.
-fn is_first_up(t: u64, free: &[Option<StallEnds>], r: usize) -> bool
-    ensures { result ≡ first_end_up t (at_place free.now r) }
+fn is_first_up(t: Moment, free: &[Option<StallEnds>], r: ResId) -> bool
+    ensures { result ≡ first_end_up t.0 (at_place free.now r.0) }
 {
-    match ends_at(free, r) {
+    match item_at(free, r.0 as usize) {
         None => false,
         Some(ends) => match ends.as_slice() {
             [] => false,
-            [end, ..] => end.0 <= t,
+            [end, ..] => end.0 <= t.0,
         },
-    }
-}
-
-/// The number of the pool, where there is one.
-fn target_of(to: Option<u8>) -> Option<PoolId>
-    ensures { result ≡ option_map pool_number to }
-{
-    match to {
-        None => None,
-        Some(i) => Some(PoolId(i)),
     }
 }
 
 /// Puts the ends of stalls at the place of the core r, or nothing.
 #[tactic(auto, using(crate::proofs::PlaceLemmas::set_past))]
-pub(crate) fn put_ends(free: &mut FreeCores, r: usize, ends: Option<StallEnds>)
-    ensures { free.new ≡ slice_set free.old r ends }
+pub(crate) fn put_ends(free: &mut FreeCores, r: ResId, ends: Option<StallEnds>)
+    ensures { free.new ≡ slice_set free.old r.0 ends }
 {
-    if let Some(place) = free.get_mut(r) {
+    if let Some(place) = free.get_mut(r.0 as usize) {
         *place = ends;
     }
 }
@@ -90,13 +67,13 @@ impl ToolState {
     ghost use Rattle.sched_model.specs.Machine.{is_move_under_way};
     ghost use Rattle.cpupool.specs.Tool.{tool_of};
     ghost use Rattle.cpupool.specs.Steps.{kind_at as kind_at_spec, move_of, joining_ready};
-    ghost use Rattle.cpupool.specs.Coming.{may_join};
+    ghost use Rattle.cpupool.specs.ToolActions.{may_join};
 
     /// The scheduler of the pool i.
-    fn kind_at(&self, i: u8) -> SchedKind
-        ensures { result ≡ kind_at_spec self.now.part i }
+    fn kind_at(&self, i: PoolId) -> SchedKind
+        ensures { result ≡ kind_at_spec self.now.part i.0 }
     {
-        match outline_at(self.pools.as_slice(), i as usize) {
+        match item_at(self.pools.as_slice(), i.0 as usize) {
             None => SchedKind::Null,
             Some(pool) => kind_of(pool),
         }
@@ -117,13 +94,10 @@ impl ToolState {
     {
         match self.under_way {
             None => None,
-            Some(Way::Core { r, to }) => Some(Move::Res {
-                r: ResId(r),
-                to: target_of(to),
-            }),
+            Some(Way::Core { r, to }) => Some(Move::Res { r, to }),
             Some(Way::Domain { d, to }) => Some(Move::Dom {
-                d: DomId(d),
-                to: PoolId(to),
+                d,
+                to,
                 kind: self.kind_at(to),
             }),
         }
@@ -135,17 +109,15 @@ impl ToolState {
         ensures state { (m : Machine) → (s : State) → tool_of m s ≡ self.now → result
             ≡ may_join s t.0 }
     {
-        self.joins(t.0)
+        self.joins(t)
     }
 
     /// The same, by what the tool keeps.
-    fn joins(&self, t: u64) -> bool
-        ensures { result ≡ joining_ready self.now.part t self.now.part.under_way }
+    fn joins(&self, t: Moment) -> bool
+        ensures { result ≡ joining_ready self.now.part t.0 self.now.part.under_way }
     {
         match self.under_way {
-            Some(Way::Core { r, to: Some(_) }) => {
-                is_first_up(t, self.free.as_slice(), r as usize)
-            }
+            Some(Way::Core { r, to: Some(_) }) => is_first_up(t, self.free.as_slice(), r),
             _ => false,
         }
     }
@@ -162,7 +134,7 @@ impl ToolState {
         } }
     {
         let ResPart { r, stall_ends } = r;
-        put_ends(&mut self.free, r.0 as usize, Some(stall_ends));
+        put_ends(&mut self.free, r, Some(stall_ends));
     }
 
     /// Takes a core that no pool has.
@@ -173,12 +145,11 @@ impl ToolState {
         ensures rest { self.new ≡ record self.old
             { part = record self.old.part { free = clear_at r.0 self.old.part.free } } }
     {
-        let place = r.0 as usize;
-        let stall_ends = match ends_at(self.free.as_slice(), place) {
+        let stall_ends = match item_at(self.free.as_slice(), r.0 as usize) {
             None => unreachable!(),
-            Some(ends) => same_ends(ends),
+            Some(ends) => same_items(ends),
         };
-        put_ends(&mut self.free, place, None);
+        put_ends(&mut self.free, r, None);
         ResPart { r, stall_ends }
     }
 }

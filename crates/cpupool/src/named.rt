@@ -1,49 +1,50 @@
 //! The pools and domains that commands name.
 
 use crate::outline::Outline;
-use crate::pools::{outline_at, size_in};
+use crate::pools::{item_at, size_in};
 use crate::tool::ToolState;
+use sched_base::{DomId, PoolId};
 use sched_model::command::Which;
 
 /// A pool that a command names: its number, and what the tool knows of it.
 #[derive(Clone, Copy)]
 pub(crate) struct NamedPool<'a> {
-    pub(crate) i: u8,
+    pub(crate) i: PoolId,
     pub(crate) pool: &'a Outline,
 }
 
 /// A domain that a command names: its number, its home, what the tool knows of that, and the number of the domain's vCPUs.
 #[derive(Clone, Copy)]
 pub(crate) struct NamedDomain<'a> {
-    pub(crate) d: u8,
-    pub(crate) i: u8,
+    pub(crate) d: DomId,
+    pub(crate) i: PoolId,
     pub(crate) pool: &'a Outline,
     pub(crate) vcpus: u8,
 }
 
 impl ToolState {
     ghost use Rattle.std.specs.Prelude.{◌≡◌, option_map};
-    ghost use Rattle.cpupool.specs.Judging.{seen_outline, seen_size, seen_at};
-    ghost use Rattle.cpupool.specs.Named.{named_pool as named_pool_spec, named_domain as named_domain_spec};
+    ghost use Rattle.cpupool.specs.Verdicts.{seen_outline, seen_size, seen_at};
+    ghost use Rattle.cpupool.specs.NamedDomains.{named_pool as named_pool_spec, named_domain as named_domain_spec};
 
     /// The pool that a command names, with what the tool knows of it.
     pub(crate) fn named_pool(&self, which: &Which) -> Option<NamedPool>
         ensures { option_map named_pool_spec result ≡ seen_outline self.now which.now }
     {
         let i = self.pool_of(which)?;
-        match outline_at(self.pools.as_slice(), i as usize) {
+        match item_at(self.pools.as_slice(), i.0 as usize) {
             None => None,
             Some(pool) => Some(NamedPool { i, pool }),
         }
     }
 
     /// The domain d, where the pool i has it.
-    fn domain_in(&self, d: u8, i: u8) -> Option<NamedDomain>
-        ensures { option_map named_domain_spec result ≡ seen_at self.now.part d i }
+    fn domain_in(&self, d: DomId, i: PoolId) -> Option<NamedDomain>
+        ensures { option_map named_domain_spec result ≡ seen_at self.now.part d.0 i.0 }
     {
-        match outline_at(self.pools.as_slice(), i as usize) {
+        match item_at(self.pools.as_slice(), i.0 as usize) {
             None => None,
-            Some(pool) => match size_in(pool, d as usize) {
+            Some(pool) => match size_in(pool, d) {
                 None => None,
                 Some(vcpus) => Some(NamedDomain { d, i, pool, vcpus }),
             },
@@ -55,7 +56,7 @@ impl ToolState {
         ensures { option_map named_domain_spec result ≡ seen_size self.now which.now }
     {
         let d = self.domain_of(which)?;
-        let i = self.domain_home(d)?;
+        let i = self.domain_pool(d)?;
         self.domain_in(d, i)
     }
 }

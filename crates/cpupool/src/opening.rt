@@ -1,20 +1,18 @@
 //! What the tool keeps at the opening.
 
-ghost use Rattle.std.specs.Prelude.{◌≡◌, ◌+◌, ◌-◌, ◌/◌, ◌≤◌, ◌<◌, ◌++◌, ◌==◌, Some, None, map, length, replicate, option_map, IfOk};
+ghost use Rattle.std.specs.Prelude.{◌≡◌, ◌+◌, ◌-◌, ◌/◌, ◌≤◌, ◌<◌, ◌++◌, ◌==◌, Some, None, map, length, replicate, IfOk};
 ghost use Rattle.std.specs.List.{All, list_any};
 ghost use Rattle.sched_base.specs.Numbers.{moment};
-ghost use Rattle.sched_model.specs.declared.config.DomConfig.{DomConfig as DomainRecord};
 ghost use Rattle.sched_model.specs.declared.config.PoolConfig.{PoolConfig as PoolRecord};
-ghost use Rattle.sched_model.specs.Checked.{IsCheckedDomain};
 ghost use Rattle.sched_model.specs.Places.{numbers_from};
 ghost use Rattle.sched_model.specs.State.{has_core as has_core_spec};
 ghost use Rattle.cpupool.specs.Tool.{entry_of as entry_of_spec};
-ghost use Rattle.cpupool.specs.Opened.{kind_of_params, size_at_home, opened_outline as opened_outline_spec, opened_outlines as opened_outlines_spec, opened_free as opened_free_spec, HasFewGuests};
+ghost use Rattle.cpupool.specs.OpeningPools.{kind_of_params, size_at_home, opened_outline as opened_outline_spec, opened_outlines as opened_outlines_spec, opened_free as opened_free_spec, HasFewGuests};
 
 use crate::outline::{
     CoreFlags, DomainEntry, DomainSizes, FreeCores, Outline, Outlines, PoolNames,
 };
-use sched_base::{Moment, NoMemory};
+use sched_base::{Cores, Moment, NoMemory, PoolId, ResId, has_core};
 use sched_model::config::{DomConfig, PoolConfig, PoolParams, SchedKind};
 use sched_model::facts::StallEnds;
 use sched_model::row::Row;
@@ -54,14 +52,14 @@ pub(crate) fn opened_entries(
 
 /// How many vCPUs each domain has whose home is the pool i.
 #[tactic(auto, using(std::proofs::lemmas::List::map_more))]
-fn sizes_at_home(i: u8, domains: &[DomConfig]) -> DomainSizes
+fn sizes_at_home(i: PoolId, domains: &[DomConfig]) -> DomainSizes
     requires few { length domains.now ≤ 64 }
     requires guests { All HasFewGuests domains.now }
-    ensures { result ≡ map (size_at_home i) domains.now }
+    ensures { result ≡ map (size_at_home i.0) domains.now }
 {
     let mut sizes = Short::new();
     for d in domains {
-        sizes.push(if d.home.0 == i {
+        sizes.push(if d.home.0 == i.0 {
             Some(d.guests.len() as u8)
         } else {
             None
@@ -70,37 +68,29 @@ fn sizes_at_home(i: u8, domains: &[DomConfig]) -> DomainSizes
     sizes
 }
 
-/// Whether the set has the core.
-fn has_core(set: u64, r: u8) -> bool
-    requires { r < 64 }
-    ensures { result ≡ has_core_spec set r }
-{
-    (set >> r) % 2 == 1
-}
-
 /// Which of the first cores, so many, are in the set.
-#[tactic(auto, using(crate::proofs::NumberLemmas::map_numbers_more, crate::proofs::NumberLemmas::length_numbers))]
-fn flags_of(set: u64, cores: u8) -> CoreFlags
+#[tactic(auto, using(crate::proofs::NumberLemmas::map_numbers_more, sched_laws::proofs::Opened::length_map_numbers))]
+fn flags_of(set: Cores, cores: u8) -> CoreFlags
     requires { cores ≤ 64 }
-    ensures { result ≡ map (has_core_spec set) (numbers_from 0 cores) }
+    ensures { result ≡ map (has_core_spec set.0) (numbers_from 0 cores) }
 {
     let mut flags = Short::new();
     for r in 0..cores {
-        flags.push(has_core(set, r));
+        flags.push(has_core(set, ResId(r)));
     }
     flags
 }
 
 /// The pool i as the tool knows it, on a machine of so many cores.
-fn opened_outline(i: u8, cores: u8, domains: &[DomConfig], pool: &PoolConfig) -> Outline
+fn opened_outline(i: PoolId, cores: u8, domains: &[DomConfig], pool: &PoolConfig) -> Outline
     requires cores { cores ≤ 64 }
     requires few { length domains.now ≤ 64 }
     requires guests { All HasFewGuests domains.now }
-    ensures { result ≡ opened_outline_spec cores domains.now i pool.now }
+    ensures { result ≡ opened_outline_spec cores domains.now i.0 pool.now }
 {
     Outline {
         kind: kind_of_params(&pool.params),
-        cores: flags_of(pool.cores, cores),
+        cores: flags_of(Cores(pool.cores), cores),
         domains: sizes_at_home(i, domains),
     }
 }
@@ -108,24 +98,24 @@ fn opened_outline(i: u8, cores: u8, domains: &[DomConfig], pool: &PoolConfig) ->
 /// The pools as the tool knows them, of which the first has the number i, behind those that stand already.
 fn add_outlines(
     outlines: Outlines,
-    i: u8,
+    i: PoolId,
     cores: u8,
     domains: &[DomConfig],
     pools: &[PoolConfig],
 ) -> Outlines
     requires room { length outlines + length pools.now ≤ 16 }
-    requires number { i + length pools.now ≤ 16 }
+    requires number { i.0 + length pools.now ≤ 16 }
     requires cores { cores ≤ 64 }
     requires few { length domains.now ≤ 64 }
     requires guests { All HasFewGuests domains.now }
-    ensures { result ≡ outlines ++ opened_outlines_spec cores domains.now i pools.now }
+    ensures { result ≡ outlines ++ opened_outlines_spec cores domains.now i.0 pools.now }
 {
     match pools {
         [] => outlines,
         [pool, rest @ ..] => {
             let mut more = outlines;
             more.push(Some(opened_outline(i, cores, domains, pool)));
-            add_outlines(more, i + 1, cores, domains, rest)
+            add_outlines(more, PoolId(i.0 + 1), cores, domains, rest)
         }
     }
 }
@@ -153,7 +143,7 @@ pub(crate) fn opened_outlines(cores: u8, domains: &[DomConfig], pools: &[PoolCon
     ensures { result ≡ opened_outlines_spec cores domains.now 0 pools.now
         ++ replicate (16 - length pools.now) None }
 {
-    let outlines = add_outlines(Short::new(), 0, cores, domains, pools);
+    let outlines = add_outlines(Short::new(), PoolId(0), cores, domains, pools);
     with_spare_pools(outlines, 16 - pools.len())
 }
 
@@ -198,18 +188,16 @@ fn no_stalls(processors: u8) -> StallEnds
 }
 
 /// Whether one of the pools has the core.
-fn is_taken(pools: &[PoolConfig], r: u8) -> bool
-    requires { r < 64 }
-    ensures { result ≡ list_any (λ (pool : PoolRecord). has_core_spec pool.cores r) pools.now }
+fn is_taken(pools: &[PoolConfig], r: ResId) -> bool
+    ensures { result ≡ list_any (λ (pool : PoolRecord). has_core_spec pool.cores r.0) pools.now }
 {
-    pools.iter().any(|pool| has_core(pool.cores, r))
+    pools.iter().any(|pool| has_core(Cores(pool.cores), r))
 }
 
 /// The core r of so many processors, where no pool has it.
-fn free_core(processors: u8, pools: &[PoolConfig], r: u8) -> Option<StallEnds>
-    requires core { r < 64 }
-    requires processors { processors ≤ 4 }
-    ensures { result ≡ opened_free_spec processors pools.now r }
+fn free_core(processors: u8, pools: &[PoolConfig], r: ResId) -> Option<StallEnds>
+    requires { processors ≤ 4 }
+    ensures { result ≡ opened_free_spec processors pools.now r.0 }
 {
     if is_taken(pools, r) {
         None
@@ -219,7 +207,7 @@ fn free_core(processors: u8, pools: &[PoolConfig], r: u8) -> Option<StallEnds>
 }
 
 /// The cores that no pool has, of so many cores of so many processors each.
-#[tactic(auto, using(crate::proofs::NumberLemmas::map_numbers_more, crate::proofs::NumberLemmas::length_numbers))]
+#[tactic(auto, using(crate::proofs::NumberLemmas::map_numbers_more, sched_laws::proofs::Opened::length_map_numbers))]
 pub(crate) fn opened_free(processors: u8, cores: u8, pools: &[PoolConfig]) -> FreeCores
     requires cores { cores ≤ 64 }
     requires processors { processors ≤ 4 }
@@ -227,7 +215,7 @@ pub(crate) fn opened_free(processors: u8, cores: u8, pools: &[PoolConfig]) -> Fr
 {
     let mut free = Short::new();
     for r in 0..cores {
-        free.push(free_core(processors, pools, r));
+        free.push(free_core(processors, pools, ResId(r)));
     }
     free
 }

@@ -1,6 +1,6 @@
 //! What the tool keeps of domains and pools, and of what is on its way.
 
-use sched_base::Name;
+use sched_base::{DomId, Name, PoolId, ResId};
 use sched_model::config::SchedKind;
 use sched_model::facts::StallEnds;
 use sched_model::short::Short;
@@ -47,6 +47,6 @@ pub(crate) type FreeCores = Short<Option<StallEnds>, 64>;
 /// What is on its way: a core to a pool, or to none; or a domain to a pool.
 #[derive(Clone, Copy, Debug, PartialEq, Eq)]
 pub(crate) enum Way {
-    Core { r: u8, to: Option<u8> },
-    Domain { d: u8, to: u8 },
+    Core { r: ResId, to: Option<PoolId> },
+    Domain { d: DomId, to: PoolId },
 }

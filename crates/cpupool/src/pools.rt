@@ -1,37 +1,38 @@
 //! What the tool finds among the names and the pools that it keeps.
 
-ghost use Rattle.std.specs.Prelude.{◌≡◌, ◌+◌, ◌≤◌, ◌<◌, ◌^◌, false, true, is_some, length, option_map, slice_index_or, bytes_eq, count_by};
+ghost use Rattle.std.specs.Prelude.{◌≡◌, ◌+◌, ◌≤◌, ◌<◌, true, is_some, length, option_map, bytes_eq, count_by};
 ghost use Rattle.std.specs.Option.{option_copied};
 ghost use Rattle.sched_model.specs.Places.{at_place, first_place, first_empty};
 ghost use Rattle.journal_core.specs.Parts.{Outline as PoolOutline};
-ghost use Rattle.cpupool.specs.Judging.{entry_named, has_core as has_core_spec, core_total as core_total_spec, domain_total as domain_total_spec, flags_from};
+ghost use Rattle.cpupool.specs.Tool.{number_of_domain, number_of_pool};
+ghost use Rattle.cpupool.specs.Verdicts.{entry_named, has_core as has_core_spec, core_total as core_total_spec, domain_total as domain_total_spec, flags_from};
 
 use crate::outline::{DomainEntry, Outline};
-use sched_base::Name;
+use sched_base::{Cores, DomId, Name, PoolId, ResId};
 use sched_model::config::SchedKind;
 
 /// The first place with this name, where the first of these has the number i.
-pub(crate) fn place_named(i: u8, names: &[Option<Name>], name: &Name) -> Option<u8>
-    requires { i + length names.now ≤ 16 }
-    ensures { result ≡ first_place i (bytes_eq name.now) names.now }
+pub(crate) fn place_named(i: PoolId, names: &[Option<Name>], name: &Name) -> Option<PoolId>
+    requires { i.0 + length names.now ≤ 16 }
+    ensures { option_map number_of_pool result ≡ first_place i.0 (bytes_eq name.now) names.now }
 {
     match names {
         [] => None,
-        [None, rest @ ..] => place_named(i + 1, rest, name),
+        [None, rest @ ..] => place_named(PoolId(i.0 + 1), rest, name),
         [Some(other), rest @ ..] => {
             if name.is(other.as_bytes()) {
                 Some(i)
             } else {
-                place_named(i + 1, rest, name)
+                place_named(PoolId(i.0 + 1), rest, name)
             }
         }
     }
 }
 
 /// The first domain with this name, where the first of these has the number d.
-pub(crate) fn domain_named(d: u8, domains: &[DomainEntry], name: &Name) -> Option<u8>
-    requires { d + length domains.now ≤ 64 }
-    ensures { result ≡ entry_named d name.now domains.now }
+pub(crate) fn domain_named(d: DomId, domains: &[DomainEntry], name: &Name) -> Option<DomId>
+    requires { d.0 + length domains.now ≤ 64 }
+    ensures { option_map number_of_domain result ≡ entry_named d.0 name.now domains.now }
 {
     match domains {
         [] => None,
@@ -39,21 +40,21 @@ pub(crate) fn domain_named(d: u8, domains: &[DomainEntry], name: &Name) -> Optio
             if name.is(domain.name.as_bytes()) {
                 Some(d)
             } else {
-                domain_named(d + 1, rest, name)
+                domain_named(DomId(d.0 + 1), rest, name)
             }
         }
     }
 }
 
 /// The first place without a pool, where the first of these has the number i.
-pub(crate) fn first_empty_place(i: u8, pools: &[Option<Outline>]) -> Option<u8>
-    requires { i + length pools.now ≤ 16 }
-    ensures { result ≡ first_empty i pools.now }
+pub(crate) fn first_empty_place(i: PoolId, pools: &[Option<Outline>]) -> Option<PoolId>
+    requires { i.0 + length pools.now ≤ 16 }
+    ensures { option_map number_of_pool result ≡ first_empty i.0 pools.now }
 {
     match pools {
         [] => None,
         [None, ..] => Some(i),
-        [Some(_), rest @ ..] => first_empty_place(i + 1, rest),
+        [Some(_), rest @ ..] => first_empty_place(PoolId(i.0 + 1), rest),
     }
 }
 
@@ -66,11 +67,11 @@ pub(crate) fn count_of<T>(places: &[Option<T>]) -> u64
 }
 
 /// What stands at the place i.
-pub(crate) fn outline_at(pools: &[Option<Outline>], i: usize) -> Option<&Outline>
-    ensures { option_copied result ≡ at_place pools.now i }
+pub fn item_at<T>(places: &[Option<T>], i: usize) -> Option<&T>
+    ensures { option_copied result ≡ at_place places.now i }
 {
-    if i < pools.len() {
-        pools[i].as_ref()
+    if i < places.len() {
+        places[i].as_ref()
     } else {
         None
     }
@@ -84,17 +85,19 @@ pub(crate) fn kind_of(pool: &Outline) -> SchedKind
 }
 
 /// Whether the pool has the core.
-pub(crate) fn has_core(pool: &Outline, r: usize) -> bool
-    ensures { result ≡ has_core_spec pool.now r }
+pub(crate) fn has_core(pool: &Outline, r: ResId) -> bool
+    ensures { result ≡ has_core_spec pool.now r.0 }
 {
+    let r = r.0 as usize;
     let cores = pool.cores.as_slice();
     r < cores.len() && cores[r]
 }
 
 /// How many vCPUs the domain has, where the pool has it.
-pub(crate) fn size_in(pool: &Outline, d: usize) -> Option<u8>
-    ensures { result ≡ at_place pool.now.domains d }
+pub(crate) fn size_in(pool: &Outline, d: DomId) -> Option<u8>
+    ensures { result ≡ at_place pool.now.domains d.0 }
 {
+    let d = d.0 as usize;
     let domains = pool.domains.as_slice();
     if d < domains.len() { domains[d] } else { None }
 }
@@ -116,65 +119,66 @@ pub(crate) fn domain_total(pool: &Outline) -> u64
 }
 
 /// The first pool that has the core, where the first of these has the number i.
-pub(crate) fn core_home(i: u8, pools: &[Option<Outline>], r: usize) -> Option<u8>
-    requires { i + length pools.now ≤ 16 }
-    ensures { result ≡ first_place i (λ (o : PoolOutline). has_core_spec o r) pools.now }
+pub(crate) fn core_home(i: PoolId, pools: &[Option<Outline>], r: ResId) -> Option<PoolId>
+    requires { i.0 + length pools.now ≤ 16 }
+    ensures { option_map number_of_pool result
+        ≡ first_place i.0 (λ (o : PoolOutline). has_core_spec o r.0) pools.now }
 {
     match pools {
         [] => None,
-        [None, rest @ ..] => core_home(i + 1, rest, r),
+        [None, rest @ ..] => core_home(PoolId(i.0 + 1), rest, r),
         [Some(pool), rest @ ..] => {
             if has_core(pool, r) {
                 Some(i)
             } else {
-                core_home(i + 1, rest, r)
+                core_home(PoolId(i.0 + 1), rest, r)
             }
         }
     }
 }
 
 /// The first pool that has the domain, where the first of these has the number i.
-pub(crate) fn domain_home(i: u8, pools: &[Option<Outline>], d: usize) -> Option<u8>
-    requires { i + length pools.now ≤ 16 }
-    ensures { result ≡ first_place i (λ (o : PoolOutline). is_some (at_place o.domains d))
-        pools.now }
+pub(crate) fn domain_home(i: PoolId, pools: &[Option<Outline>], d: DomId) -> Option<PoolId>
+    requires { i.0 + length pools.now ≤ 16 }
+    ensures { option_map number_of_pool result
+        ≡ first_place i.0 (λ (o : PoolOutline). is_some (at_place o.domains d.0)) pools.now }
 {
     match pools {
         [] => None,
-        [None, rest @ ..] => domain_home(i + 1, rest, d),
+        [None, rest @ ..] => domain_home(PoolId(i.0 + 1), rest, d),
         [Some(pool), rest @ ..] => {
             if size_in(pool, d).is_some() {
                 Some(i)
             } else {
-                domain_home(i + 1, rest, d)
+                domain_home(PoolId(i.0 + 1), rest, d)
             }
         }
     }
 }
 
 /// The first domain that is there, where the first of these has the number d.
-pub(crate) fn first_domain(d: u8, domains: &[Option<u8>]) -> Option<u8>
-    requires { d + length domains.now ≤ 64 }
-    ensures { result ≡ first_place d (λ vcpus. true) domains.now }
+pub(crate) fn first_domain(d: DomId, domains: &[Option<u8>]) -> Option<DomId>
+    requires { d.0 + length domains.now ≤ 64 }
+    ensures { option_map number_of_domain result ≡ first_place d.0 (λ vcpus. true) domains.now }
 {
     match domains {
         [] => None,
-        [None, rest @ ..] => first_domain(d + 1, rest),
+        [None, rest @ ..] => first_domain(DomId(d.0 + 1), rest),
         [Some(_), ..] => Some(d),
     }
 }
 
 /// The set of the pool's cores.
-pub(crate) fn core_set(pool: &Outline) -> u64
-    ensures { result ≡ flags_from 0 pool.now.cores }
+pub(crate) fn core_set(pool: &Outline) -> Cores
+    ensures { result.0 ≡ flags_from 0 pool.now.cores }
 {
     set_of(pool.cores.as_slice())
 }
 
 /// The set of the cores that are there.
-pub(crate) fn set_of(cores: &[bool]) -> u64
+pub(crate) fn set_of(cores: &[bool]) -> Cores
     requires { length cores.now ≤ 64 }
-    ensures { result ≡ flags_from 0 cores.now }
+    ensures { result.0 ≡ flags_from 0 cores.now }
 {
     let mut set = 0u64;
     for r in 0..cores.len() {
@@ -182,5 +186,5 @@ pub(crate) fn set_of(cores: &[bool]) -> u64
             set += 1u64 << r;
         }
     }
-    set
+    Cores(set)
 }

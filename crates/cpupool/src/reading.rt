@@ -1,15 +1,16 @@
 //! What the tool keeps, read from the whole state.
 
-ghost use Rattle.std.specs.Prelude.{◌≡◌, ℕ, ◌+◌, ◌≤◌, ◌<◌, ◌^◌, Some, None, is_some, option_map, length, map};
+ghost use Rattle.std.specs.Prelude.{◌≡◌, ◌+◌, ◌≤◌, ◌<◌, Some, None, is_some, option_map, length, map};
 ghost use Rattle.std.specs.Option.{ForSome};
 ghost use Rattle.sched_model.specs.Policy.{kind_of as kind_of_spec};
 ghost use Rattle.journal_core.specs.Parts.{outline_of as outline_of_spec, first_answer, core_leaving as core_leaving_spec, domain_moving as domain_moving_spec, core_joining as core_joining_spec, leaving_pool as leaving_pool_spec, under_way_of as under_way_of_spec};
 ghost use Rattle.cpupool.specs.Tool.{way_of, size_of as size_of_spec, ends_of as ends_of_spec};
-ghost use Rattle.cpupool.specs.Fitting.{DomainFits, PoolFits, StateFits};
+ghost use Rattle.cpupool.specs.Fits.{DomainFits, PoolFits, StateFits};
 ghost use Rattle.sched_model.specs.Places.{AllPlaces};
 
+use crate::copies::same_items;
 use crate::outline::{CoreFlags, DomainSizes, FreeCores, Outline, Outlines, PoolNames, Way};
-use sched_base::Name;
+use sched_base::{DomId, Name, PoolId, ResId};
 use sched_model::config::SchedKind;
 use sched_model::facts::StallEnds;
 use sched_model::short::Short;
@@ -116,24 +117,13 @@ pub(crate) fn read_names(names: &[Option<Name>]) -> PoolNames
     all
 }
 
-/// The ends of stalls once more.
-pub(crate) fn same_ends(ends: &StallEnds) -> StallEnds
-    ensures { result ≡ ends.now }
-{
-    let mut all = Short::new();
-    for end in ends.as_slice() {
-        all.push(*end);
-    }
-    all
-}
-
 /// The ends of the stalls of the core's processors, where there is such a core.
 fn read_free_core(core: &Option<FreeCore>) -> Option<StallEnds>
     ensures { result ≡ option_map ends_of_spec core.now }
 {
     match core {
         None => None,
-        Some(core) => Some(same_ends(&core.stall_ends)),
+        Some(core) => Some(same_items(&core.stall_ends)),
     }
 }
 
@@ -151,76 +141,79 @@ pub(crate) fn read_free(free: &[Option<FreeCore>]) -> FreeCores
 }
 
 /// The first of the cores that is leaving, where the first of these has the number r.
-fn core_leaving(r: u8, cores: &[Option<Resource>]) -> Option<Way>
-    requires { r + length cores.now ≤ 64 }
-    ensures { option_map way_of result ≡ first_answer core_leaving_spec r cores.now }
+fn core_leaving(r: ResId, cores: &[Option<Resource>]) -> Option<Way>
+    requires { r.0 + length cores.now ≤ 64 }
+    ensures { option_map way_of result ≡ first_answer core_leaving_spec r.0 cores.now }
 {
     match cores {
         [] => None,
-        [None, rest @ ..] => core_leaving(r + 1, rest),
+        [None, rest @ ..] => core_leaving(ResId(r.0 + 1), rest),
         [Some(c), rest @ ..] => {
             if c.leaving {
                 Some(Way::Core { r, to: None })
             } else {
-                core_leaving(r + 1, rest)
+                core_leaving(ResId(r.0 + 1), rest)
             }
         }
     }
 }
 
 /// The first of the domains that is moving, where the first of these has the number d.
-fn domain_moving(d: u8, domains: &[Option<Domain>]) -> Option<Way>
-    requires { d + length domains.now ≤ 64 }
-    ensures { option_map way_of result ≡ first_answer domain_moving_spec d domains.now }
+fn domain_moving(d: DomId, domains: &[Option<Domain>]) -> Option<Way>
+    requires { d.0 + length domains.now ≤ 64 }
+    ensures { option_map way_of result ≡ first_answer domain_moving_spec d.0 domains.now }
 {
     match domains {
         [] => None,
-        [None, rest @ ..] => domain_moving(d + 1, rest),
+        [None, rest @ ..] => domain_moving(DomId(d.0 + 1), rest),
         [Some(domain), rest @ ..] => match domain.moving {
-            Some(to) => Some(Way::Domain { d, to: to.0 }),
-            None => domain_moving(d + 1, rest),
+            Some(to) => Some(Way::Domain { d, to }),
+            None => domain_moving(DomId(d.0 + 1), rest),
         },
     }
 }
 
 /// What is on its way from the pool i.
-fn leaving_pool(i: u8, pool: &Pool) -> Option<Way>
+fn leaving_pool(i: PoolId, pool: &Pool) -> Option<Way>
     requires { PoolFits pool.now }
-    ensures { option_map way_of result ≡ leaving_pool_spec i pool.now }
+    ensures { option_map way_of result ≡ leaving_pool_spec i.0 pool.now }
 {
-    match core_leaving(0, pool.resources.as_slice()) {
+    match core_leaving(ResId(0), pool.resources.as_slice()) {
         Some(way) => Some(way),
-        None => domain_moving(0, pool.domains.as_slice()),
+        None => domain_moving(DomId(0), pool.domains.as_slice()),
     }
 }
 
 /// What is on its way from one of the pools, where the first of these has the number i.
-fn leaving_pools(i: u8, pools: &[Option<Pool>]) -> Option<Way>
-    requires few { i + length pools.now ≤ 16 }
+fn leaving_pools(i: PoolId, pools: &[Option<Pool>]) -> Option<Way>
+    requires few { i.0 + length pools.now ≤ 16 }
     requires fits { AllPlaces PoolFits pools.now }
-    ensures { option_map way_of result ≡ first_answer leaving_pool_spec i pools.now }
+    ensures { option_map way_of result ≡ first_answer leaving_pool_spec i.0 pools.now }
 {
     match pools {
         [] => None,
-        [None, rest @ ..] => leaving_pools(i + 1, rest),
+        [None, rest @ ..] => leaving_pools(PoolId(i.0 + 1), rest),
         [Some(pool), rest @ ..] => match leaving_pool(i, pool) {
             Some(way) => Some(way),
-            None => leaving_pools(i + 1, rest),
+            None => leaving_pools(PoolId(i.0 + 1), rest),
         },
     }
 }
 
 /// The first of the cores that is to join a pool, where the first of these has the number r.
-fn core_joining(r: u8, free: &[Option<FreeCore>]) -> Option<Way>
-    requires { r + length free.now ≤ 64 }
-    ensures { option_map way_of result ≡ first_answer core_joining_spec r free.now }
+fn core_joining(r: ResId, free: &[Option<FreeCore>]) -> Option<Way>
+    requires { r.0 + length free.now ≤ 64 }
+    ensures { option_map way_of result ≡ first_answer core_joining_spec r.0 free.now }
 {
     match free {
         [] => None,
-        [None, rest @ ..] => core_joining(r + 1, rest),
+        [None, rest @ ..] => core_joining(ResId(r.0 + 1), rest),
         [Some(core), rest @ ..] => match core.target {
-            Some(to) => Some(Way::Core { r, to: Some(to) }),
-            None => core_joining(r + 1, rest),
+            Some(to) => Some(Way::Core {
+                r,
+                to: Some(PoolId(to)),
+            }),
+            None => core_joining(ResId(r.0 + 1), rest),
         },
     }
 }
@@ -230,8 +223,8 @@ pub(crate) fn under_way_of(state: &State) -> Option<Way>
     requires { StateFits state.now }
     ensures { option_map way_of result ≡ under_way_of_spec state.entry.now }
 {
-    match leaving_pools(0, state.pools.as_slice()) {
+    match leaving_pools(PoolId(0), state.pools.as_slice()) {
         Some(way) => Some(way),
-        None => core_joining(0, state.free.as_slice()),
+        None => core_joining(ResId(0), state.free.as_slice()),
     }
 }

@@ -3,10 +3,11 @@
 ghost use Rattle.std.specs.Prelude.{◌≡◌, max, slice_get};
 ghost use Rattle.sched_base.specs.Numbers.{moment};
 
-use crate::moves::{ends_at, put_end, put_ends};
-use crate::reading::same_ends;
+use crate::copies::same_items;
+use crate::moves::{put_end, put_ends};
+use crate::pools::item_at;
 use crate::tool::ToolState;
-use sched_base::{Moment, ProcId};
+use sched_base::{Moment, ProcId, ResId};
 use sched_model::facts::StallEnds;
 
 impl ToolState {
@@ -23,9 +24,11 @@ impl ToolState {
     /// A processor whose core no pool has stalls up to the later of its old end and this moment, which is answered.
     pub fn stall_free(&mut self, p: ProcId, until: Moment) -> Moment
         requires { IsSome (at_place self.old.part.free (p.0 / self.old.granularity)) }
-        ensures end { (m : Machine) → (s : State) → tool_of m s ≡ self.old → home_of_core s (p.0 / m.config.granularity) ≡ None
+        ensures end { (m : Machine) → (s : State) → tool_of m s ≡ self.old
+            → home_of_core s (p.0 / m.config.granularity) ≡ None
             → result ≡ moment (stall_end_of m.config.granularity s p.0 until.0) }
-        ensures state { (m : Machine) → (s : State) → tool_of m s ≡ self.old → home_of_core s (p.0 / m.config.granularity) ≡ None
+        ensures state { (m : Machine) → (s : State) → tool_of m s ≡ self.old
+            → home_of_core s (p.0 / m.config.granularity) ≡ None
             → self.new ≡ tool_of m (with_stall_end m.config.granularity p.0 result.0 s) }
     {
         self.stall_end(p, until)
@@ -42,11 +45,11 @@ impl ToolState {
               (p.0 % self.old.granularity) result.0;
         } }
     {
-        let r = (p.0 / self.granularity) as usize;
+        let r = ResId(p.0 / self.granularity);
         let i = (p.0 % self.granularity) as usize;
-        let mut ends = match ends_at(self.free.as_slice(), r) {
+        let mut ends = match item_at(self.free.as_slice(), r.0 as usize) {
             None => unreachable!(),
-            Some(ends) => same_ends(ends),
+            Some(ends) => same_items(ends),
         };
         let end = later_end(&ends, i, until);
         put_end(&mut ends, i, end);

@@ -30,22 +30,22 @@ impl ToolState {
     }
 
     /// Whether the next stall may come at t.
-    pub(crate) fn stall_comes(&self, t: u64) -> bool
-        ensures { result ≡ stall_comes_spec self.now t }
+    pub(crate) fn stall_comes(&self, t: Moment) -> bool
+        ensures { result ≡ stall_comes_spec self.now t.0 }
     {
         match self.stalls.as_slice().get(self.next_stall as usize) {
             None => false,
-            Some(line) => line.at.0 <= t,
+            Some(line) => line.at.0 <= t.0,
         }
     }
 
     /// Whether the next command may come at t.
-    pub(crate) fn command_comes(&self, t: u64) -> bool
-        ensures { result ≡ command_comes_spec self.now t }
+    pub(crate) fn command_comes(&self, t: Moment) -> bool
+        ensures { result ≡ command_comes_spec self.now t.0 }
     {
         match self.commands.as_slice().get(self.next_command as usize) {
             None => false,
-            Some(line) => line.at.0 <= t && self.under_way.is_none(),
+            Some(line) => line.at.0 <= t.0 && self.under_way.is_none(),
         }
     }
 
@@ -56,12 +56,12 @@ impl ToolState {
         ensures { (m : Machine) → (s : State) → tool_of m s ≡ self.now → result
             ≡ enabled_event m s t.0 }
     {
-        self.next_event(t.0)
+        self.next_event(t)
     }
 
     /// The stall or the command that may come at t.
-    fn next_event(&self, t: u64) -> Option<ToolEvent>
-        ensures { result ≡ next_event self.now t }
+    fn next_event(&self, t: Moment) -> Option<ToolEvent>
+        ensures { result ≡ next_event self.now t.0 }
     {
         if self.stall_comes(t) {
             Some(ToolEvent::Stall(self.next_stall))
@@ -92,7 +92,8 @@ impl ToolState {
         requires idle { self.old.part.under_way ≡ None }
         ensures next { self.new ≡ record self.old
             { part = record self.old.part { next_command = suc self.old.part.next_command } } }
-        ensures state { (m : Machine) → (s : State) → (t : ℕ) → (line : Line) → (refusal : Refusal) → tool_of m s ≡ self.old → verdict m s line ≡ Err refusal
+        ensures state { (m : Machine) → (s : State) → (t : ℕ) → (line : Line) → (refusal : Refusal)
+            → tool_of m s ≡ self.old → verdict m s line ≡ Err refusal
             → self.new ≡ tool_of m (after_command m t line s) }
     {
         self.next_command += 1;

@@ -3,7 +3,7 @@
 use crate::copies::same_work;
 use crate::opening::{opened_entries, opened_free, opened_names, opened_outlines};
 use crate::outline::{DomainEntry, FreeCores, Outlines, PoolNames, Way};
-use crate::pools::{core_home, domain_home, domain_named, outline_at, place_named, set_of};
+use crate::pools::{core_home, domain_home, domain_named, place_named, set_of};
 use crate::reading::{read_cores, read_free, read_names, read_pools, under_way_of};
 use sched_base::{DomId, NoMemory, PoolId, ResId};
 use sched_model::command::{Command, Which};
@@ -53,7 +53,8 @@ impl Model for ToolState {
       };
     } };
 
-    ghost invariant = { λ t. IsKnown t.granularity t.processors (length t.domains) (length t.stalls) (length t.commands) };
+    ghost invariant = { λ t. IsKnown t.granularity t.processors (length t.domains) (length t.stalls)
+        (length t.commands) };
 }
 
 impl ToolState {
@@ -63,15 +64,15 @@ impl ToolState {
     ghost use Rattle.sched_model.specs.declared.machine.Machine.{Machine};
     ghost use Rattle.sched_model.specs.declared.state.State.{State as StateRecord};
     ghost use Rattle.journal_core.specs.Parts.{tool_of as part_of_tool};
-    ghost use Rattle.cpupool.specs.Tool.{tool_of};
+    ghost use Rattle.cpupool.specs.Tool.{number_of_domain, number_of_pool, tool_of};
     ghost use Rattle.cpupool.specs.Facts.{subject_of};
-    ghost use Rattle.cpupool.specs.Fitting.{StateFits};
-    ghost use Rattle.cpupool.specs.OpenedTool.{opened_tool};
-    ghost use Rattle.sched_model.specs.Checked.{IsChecked, IsCheckedConfig, IsCheckedWork};
+    ghost use Rattle.cpupool.specs.Fits.{StateFits};
+    ghost use Rattle.cpupool.specs.OpeningTool.{opened_tool};
+    ghost use Rattle.sched_model.specs.CheckedMachine.{IsChecked, IsCheckedConfig, IsCheckedWork};
     ghost use Rattle.sched_model.specs.Opening.{opening};
     ghost use Rattle.sched_model.specs.Places.{at_place};
     ghost use Rattle.sched_model.specs.State.{has_core as has_bit};
-    ghost use Rattle.cpupool.specs.Judging.{seen_pool, seen_domain, seen_subject, seen_pool_subject, seen_domain_subject, seen_core_pool, seen_domain_pool, home_of_domain as home_of_domain_spec};
+    ghost use Rattle.cpupool.specs.Verdicts.{seen_pool, seen_domain, seen_subject, seen_pool_subject, seen_domain_subject, core_home as core_home_spec, domain_home as domain_home_spec};
 
     /// What the tool keeps of the machine at its opening. It keeps a copy of the workload. All memory is taken here.
     pub fn open(alloc: Global, config: &Config, work: &Work) -> Result<ToolState, NoMemory>
@@ -129,16 +130,16 @@ impl ToolState {
     }
 
     /// The pool that a command names.
-    pub(crate) fn pool_of(&self, which: &Which) -> Option<u8>
-        ensures pool { result ≡ seen_pool self.now which.now }
+    pub(crate) fn pool_of(&self, which: &Which) -> Option<PoolId>
+        ensures pool { option_map number_of_pool result ≡ seen_pool self.now which.now }
     {
         match which {
-            Which::Name(name) => place_named(0, self.names.as_slice(), name),
+            Which::Name(name) => place_named(PoolId(0), self.names.as_slice(), name),
             Which::Number(i) => {
                 let i = *i as usize;
                 let pools = self.pools.as_slice();
                 if i < pools.len() && pools[i].is_some() {
-                    Some(i as u8)
+                    Some(PoolId(i as u8))
                 } else {
                     None
                 }
@@ -147,15 +148,15 @@ impl ToolState {
     }
 
     /// The domain that a command names.
-    pub(crate) fn domain_of(&self, which: &Which) -> Option<u8>
-        ensures domain { result ≡ seen_domain self.now which.now }
+    pub(crate) fn domain_of(&self, which: &Which) -> Option<DomId>
+        ensures domain { option_map number_of_domain result ≡ seen_domain self.now which.now }
     {
         match which {
-            Which::Name(name) => domain_named(0, self.domains.as_slice(), name),
+            Which::Name(name) => domain_named(DomId(0), self.domains.as_slice(), name),
             Which::Number(d) => {
                 let d = *d;
                 if d < self.domains.len() as u64 {
-                    Some(d as u8)
+                    Some(DomId(d as u8))
                 } else {
                     None
                 }
@@ -173,12 +174,9 @@ impl ToolState {
 
     /// The same, by what the tool keeps.
     fn core_pool(&self, r: ResId) -> Option<PoolId>
-        ensures { result ≡ seen_core_pool self.now r.0 }
+        ensures { option_map number_of_pool result ≡ core_home_spec self.now.part.pools r.0 }
     {
-        match core_home(0, self.pools.as_slice(), r.0 as usize) {
-            None => None,
-            Some(i) => Some(PoolId(i)),
-        }
+        core_home(PoolId(0), self.pools.as_slice(), r)
     }
 
     /// The pool that has the domain, where one has it.
@@ -190,13 +188,10 @@ impl ToolState {
     }
 
     /// The same, by what the tool keeps.
-    fn domain_pool(&self, d: DomId) -> Option<PoolId>
-        ensures { result ≡ seen_domain_pool self.now d.0 }
+    pub(crate) fn domain_pool(&self, d: DomId) -> Option<PoolId>
+        ensures { option_map number_of_pool result ≡ domain_home_spec self.now.part.pools d.0 }
     {
-        match self.domain_home(d.0) {
-            None => None,
-            Some(i) => Some(PoolId(i)),
-        }
+        domain_home(PoolId(0), self.pools.as_slice(), d)
     }
 
     /// The cores of no pool, with bit r for the core r.
@@ -204,44 +199,30 @@ impl ToolState {
     pub fn free_cores(&self) -> u64
         ensures { (r : ℕ) → has_bit result r ≡ is_some (at_place self.now.part.free r) }
     {
-        set_of(read_cores(self.free.as_slice()).as_slice())
-    }
-
-    /// The number of the pool that has the domain.
-    pub(crate) fn domain_home(&self, d: u8) -> Option<u8>
-        ensures { result ≡ home_of_domain_spec self.now.part d }
-    {
-        domain_home(0, self.pools.as_slice(), d as usize)
+        set_of(read_cores(self.free.as_slice()).as_slice()).0
     }
 
     /// The pool alone as the subject of a command.
+    #[tactic(auto, using(crate::proofs::SubjectLemmas::pool_told))]
     fn pool_subject(&self, which: &Which) -> Subject
         ensures { result ≡ seen_pool_subject self.now which.now }
     {
-        match self.pool_of(which) {
-            None => Subject {
-                pool: None,
-                dom: None,
-            },
-            Some(i) => Subject {
-                pool: Some(PoolId(i)),
-                dom: None,
-            },
+        Subject {
+            pool: self.pool_of(which),
+            dom: None,
         }
     }
 
     /// The domain and its home as the subject of a command, or else this subject.
+    #[tactic(auto, using(crate::proofs::SubjectLemmas::pool_told))]
     fn domain_subject(&self, which: &Which, otherwise: Subject) -> Subject
         ensures { result ≡ seen_domain_subject self.now which.now otherwise }
     {
         match self.domain_of(which) {
             None => otherwise,
             Some(d) => Subject {
-                pool: match self.domain_home(d) {
-                    None => None,
-                    Some(i) => Some(PoolId(i)),
-                },
-                dom: Some(DomId(d)),
+                pool: self.domain_pool(d),
+                dom: Some(d),
             },
         }
     }

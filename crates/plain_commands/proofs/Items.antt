@@ -3,7 +3,7 @@ use Rattle.std.proofs.Common.{◌≡◌, ◌<◌, ◌∙◌, ℕ, List, length, 
 use Rattle.std.specs.Prelude.{Option, Some, option_map, slice_index_or}
 use Rattle.sched_model.specs.Places.{change_at}
 use Rattle.sched_model.proofs.PlaceLemmas.{at_place-change_at}
-use Rattle.sched_laws.specs.Each.{EachPlace}
+use Rattle.sched_laws.specs.EachPlace.{EachPlace}
 use Rattle.plain_pool.proofs.FitsLemmas.{at_place-item}
 
 -- what is there has what holds at each place

@@ -1,8 +1,8 @@
 //! An accepted command, carried out on the state at the moment t. The home of a domain is the number of the pool that has it.
 
-ghost use Rattle.sched_model.specs.Checked.{most_span};
+ghost use Rattle.sched_model.specs.CheckedMachine.{most_span};
 ghost use Rattle.std.specs.Prelude.{◌≡◌, ◌≤◌, ◌<◌, ◌+◌, ℕ, None, Some, length, slice_set, if◌then◌else◌, ◌==◌};
-ghost use Rattle.sched_laws.specs.Each.{EachPlace};
+ghost use Rattle.sched_laws.specs.EachPlace.{EachPlace};
 ghost use Rattle.sched_model.specs.declared.config.ParamChange.TheVariants as changes;
 ghost use Rattle.sched_model.specs.declared.state.FreeCore.{FreeCore as FreeCoreRecord};
 ghost use Rattle.sched_model.specs.declared.state.State.{State as StateRecord};
@@ -12,15 +12,16 @@ ghost use Rattle.sched_model.specs.Places.{at_place, put_at, clear_at, change_at
 ghost use Rattle.sched_model.specs.Pool as pool_spec;
 ghost use Rattle.plain_policy.specs.Parameters.{ChangeFits};
 ghost use Rattle.plain_pool.specs.Fits.{PoolFits};
-ghost use Rattle.plain_opening.specs.Opened.{FewWait};
-ghost use Rattle.plain_commands.specs.Carried.{FitsAt, PlanFits, HasSpare, spares_after};
+ghost use Rattle.plain_opening.specs.OpeningPool.{FewWait};
+ghost use Rattle.plain_commands.specs.PlanEffects.{FitsAt, PlanFits, HasSpare, spares_after};
 
 use crate::pools::{
-    RtdsGiven, pause_at, set_leaving_at, set_moving_at, set_params_at, set_rtds_at, unpause_at,
+    pause_at, set_leaving_at, set_moving_at, set_params_at, set_rtds_at, unpause_at,
 };
 use plain_policy::places::set_place;
 use sched_base::{DomId, Moment, Name, ResId};
 use sched_model::config::ParamChange;
+use sched_model::facts::RtdsGiven;
 use sched_model::machine::Machine;
 use sched_model::plan::Plan;
 use sched_model::row::Row;

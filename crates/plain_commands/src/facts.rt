@@ -1,19 +1,18 @@
 //! What a command is judged by besides the tool's own state.
 
 ghost use Rattle.std.specs.Prelude.{◌≡◌, ◌+◌, ◌≤◌, ◌<◌, ◌++◌, [], length, Some, None};
-ghost use Rattle.std.specs.Option.{option_copied};
-ghost use Rattle.sched_model.specs.Places.{at_place};
 ghost use Rattle.cpupool.specs.Facts.{stored_from, stored_in, rate_at as rate_at_spec, stored_at as stored_at_spec};
 ghost use Rattle.sched_model.specs.Policy.{stored_of as stored_of_spec};
-ghost use Rattle.sched_laws.specs.Each.{EachPlace};
+ghost use Rattle.sched_laws.specs.EachPlace.{EachPlace};
 ghost use Rattle.plain_pool.specs.Fits.{PoolFits};
 
+use cpupool::pools::item_at;
 use plain_policy::records::{credit2_record, rate_of, rtds_record};
 use plain_pool::domains::unit_count;
 use sched_base::{DomId, Span, UnitId};
 use sched_model::facts::{Facts, Stored, StoredList, Subject};
 use sched_model::short::Short;
-use sched_model::state::{Domain, Pool, Records, State};
+use sched_model::state::{Pool, Records, State};
 
 /// The set values that the scheduler keeps for the unit; for RTDS the newest ones.
 fn stored_of(records: &Records, u: UnitId) -> Option<Stored>
@@ -55,18 +54,6 @@ fn push_stored(records: &Records, d: DomId, first: u8, count: u8, values: &mut S
     }
 }
 
-/// The domain of the pool.
-fn domain_at(domains: &[Option<Domain>], d: DomId) -> Option<&Domain>
-    ensures { option_copied result ≡ at_place domains.now d.0 }
-{
-    let place = d.0 as usize;
-    if place < domains.len() {
-        domains[place].as_ref()
-    } else {
-        None
-    }
-}
-
 /// The values of all units of the domain d of the pool.
 fn push_stored_in(g: u8, pool: &Pool, d: DomId, values: &mut StoredList)
     requires some { 0 < g }
@@ -75,21 +62,9 @@ fn push_stored_in(g: u8, pool: &Pool, d: DomId, values: &mut StoredList)
     requires empty { values.old ≡ [] }
     ensures { values.new ≡ stored_in g pool.now d.0 }
 {
-    if let Some(domain) = domain_at(pool.domains.as_slice(), d) {
+    if let Some(domain) = item_at(pool.domains.as_slice(), d.0 as usize) {
         let count = unit_count(g, domain);
         push_stored(&pool.scheduler.records, d, 0, count, values);
-    }
-}
-
-/// The pool with this number.
-fn pool_at(pools: &[Option<Pool>], i: u8) -> Option<&Pool>
-    ensures { option_copied result ≡ at_place pools.now i }
-{
-    let place = i as usize;
-    if place < pools.len() {
-        pools[place].as_ref()
-    } else {
-        None
     }
 }
 
@@ -99,7 +74,7 @@ fn rate_at(s: &State, subject: Subject) -> u32
 {
     match subject.pool {
         None => 0,
-        Some(i) => match pool_at(s.pools.as_slice(), i.0) {
+        Some(i) => match item_at(s.pools.as_slice(), i.0 as usize) {
             None => 0,
             Some(pool) => rate_of(&pool.scheduler.records),
         },
@@ -114,12 +89,11 @@ fn stored_at(g: u8, s: &State, subject: Subject) -> StoredList
     ensures { result ≡ stored_at_spec g s.entry.now subject }
 {
     let mut values = Short::new();
-    if let Some(d) = subject.dom {
-        if let Some(i) = subject.pool {
-            if let Some(pool) = pool_at(s.pools.as_slice(), i.0) {
-                push_stored_in(g, pool, d, &mut values);
-            }
-        }
+    if let Some(d) = subject.dom
+        && let Some(i) = subject.pool
+        && let Some(pool) = item_at(s.pools.as_slice(), i.0 as usize)
+    {
+        push_stored_in(g, pool, d, &mut values);
     }
     values
 }

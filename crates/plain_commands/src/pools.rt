@@ -1,15 +1,15 @@
 //! What an accepted command does to the pool that it names. Each changes the pool i, where there is one.
 
-ghost use Rattle.sched_model.specs.Checked.{most_span};
+ghost use Rattle.sched_model.specs.CheckedMachine.{most_span};
 ghost use Rattle.std.specs.Prelude.{◌≡◌, ◌≤◌, ◌<◌, ◌+◌, ℕ, length};
-ghost use Rattle.sched_laws.specs.Each.{EachPlace};
+ghost use Rattle.sched_laws.specs.EachPlace.{EachPlace};
 ghost use Rattle.sched_model.specs.Places.{change_at, numbers_from};
 ghost use Rattle.sched_model.specs.Pool as pool_spec;
 ghost use Rattle.sched_model.specs.Commands.{set_rtds as set_rtds_spec, set_rtds_unit as set_rtds_unit_spec};
 ghost use Rattle.plain_policy.specs.Parameters.{ChangeFits};
 ghost use Rattle.plain_pool.specs.Fits.{PoolFits};
-ghost use Rattle.plain_opening.specs.Opened.{FewWait};
-ghost use Rattle.plain_commands.specs.Carried.{FitsAt};
+ghost use Rattle.plain_opening.specs.OpeningPool.{FewWait};
+ghost use Rattle.plain_commands.specs.PlanEffects.{FitsAt};
 
 use plain_policy::rtds::{rtds_unit, set_next};
 use plain_pool::leaving::set_leaving;
@@ -17,6 +17,7 @@ use plain_pool::params::set_params;
 use plain_pool::pausing::{pause, set_moving, unpause};
 use sched_base::{DomId, Moment, ResId, Span, UnitId};
 use sched_model::config::ParamChange;
+use sched_model::facts::RtdsGiven;
 use sched_model::row::Row;
 use sched_model::state::{Pool, Records};
 
@@ -80,14 +81,6 @@ pub fn set_params_at(i: usize, change: ParamChange, t: Moment, pools: &mut Row<O
     {
         set_params(change, t, pool);
     }
-}
-
-/// The RTDS parameters that a command gives; what it does not give stays.
-#[derive(Clone, Copy)]
-pub struct RtdsGiven {
-    pub period: Option<Span>,
-    pub budget: Option<Span>,
-    pub extra: Option<bool>,
 }
 
 /// The unit has the new parameters from its next replenishment on. Another scheduler keeps what it has.

@@ -2,8 +2,8 @@
 use Rattle.std.proofs.Common.{◌≡◌, ◌<◌, ℕ, zero, suc, List, [], ◌∷◌, ◌++◌, ◌∙◌, refl, sym, ap, subst, arith, length, Bool, true, false, cond}
 use Rattle.std.specs.Prelude.{filter, ◌&&◌, Option, Some, None, option_map, slice_get, slice_set, slice_index_or}
 use Rattle.std.specs.List.{All}
-use Rattle.sched_model.specs.Places.{at_place, change_at, change_item}
-use Rattle.sched_laws.specs.Each.{EachPlace}
+use Rattle.sched_model.specs.Places.{change_item}
+use Rattle.sched_laws.specs.EachPlace.{EachPlace}
 
 -- an item that is there, put back changed
 pub change_item-put : {X : Type 0} (n : ℕ) (f : X → X) (xs : List X) (x : X) → slice_get xs n ≡ Some x → slice_set xs n (f x) ≡ change_item n f xs
@@ -62,9 +62,3 @@ filter-both {X} p q (x ∷ xs) = elim (q x) as (λ b. filter p (cond b (x ∷ fi
     | false ↦ filter-both p q xs
   ]
 ]
-
--- what stands at the changed place
-pub at_place-change_at : {X : Type 0} (i : ℕ) (f : X → X) (places : List (Option X)) → at_place (change_at i f places) i ≡ option_map f (at_place places i)
-at_place-change_at i f [] = refl
-at_place-change_at zero f (p ∷ places) = refl
-at_place-change_at (suc i) f (p ∷ places) = at_place-change_at i f places

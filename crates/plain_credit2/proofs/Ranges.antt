@@ -14,19 +14,13 @@ use Rattle.sched_model.specs.declared.state.Credit2Domain.{Credit2Domain}
 use Rattle.sched_model.specs.declared.state.Credit2Records.{Credit2Records}
 use Rattle.sched_model.specs.Places.{at_place, numbered_items}
 use Rattle.sched_model.specs.Credit2.{burn_unit, burn_units, held_by_running}
-use Rattle.sched_model.specs.Checked.{IsWithin, most_span}
-use Rattle.sched_laws.specs.Each.{EachPlace}
+use Rattle.sched_model.specs.CheckedMachine.{IsWithin, most_span}
+use Rattle.sched_laws.specs.EachPlace.{EachPlace}
 use Rattle.sched_ranges.specs.Ranges.{Credit2InRange, Credit2UnitInRange}
+use Rattle.sched_ranges.proofs.Credit2.{max_small}
+use Rattle.sched_ranges.proofs.Budgets.{div_small}
 use Rattle.plain_units.specs.Fits.{Credit2Fits}
 use Rattle.plain_credit2.specs.Bounds.{UnitFits, ParamsFit, DomainFits, PoolFits, PoolParamsFit, amount_held}
-
--- a part is no more than the whole
-div-small : (a b : ℕ) → a / b ≤ a
-div-small a zero = grind arith
-div-small a (suc b) =
-    let d : a / suc b * suc b + a % suc b ≡ a = div-add-mod' a (suc b) in
-    let e : a / suc b * suc b ≡ a / suc b * b + a / suc b = grind arith in
-    omega (arith, d, e)
 
 times-small : (e k : ℕ) → k ≤ 65535 → e * k ≤ 65535 * e
 times-small e k low = (let split : 65535 ≡ k + (65535 - k) = omega (arith, low) in subst (λ (z : ℕ). e * k ≤ z * e) (sym split) (let r : (k + (65535 - k)) * e ≡ e * k + (65535 - k) * e = grind arith in omega (arith, r)))
@@ -34,7 +28,7 @@ times-small e k low = (let split : 65535 ≡ k + (65535 - k) = omega (arith, low
 -- what a unit of a domain is charged for a span
 charge-small : (residual weight most elapsed : ℕ) → residual < 65536 → most ≤ 65535 → elapsed ≤ most_span → charge residual most elapsed / weight ≤ 655350000000065535
 charge-small residual weight most elapsed low small short =
-    let d = div-small (charge residual most elapsed) weight in
+    let d = div_small (charge residual most elapsed) weight in
     let e = times-small elapsed most small in
     omega (arith, d, e, low, short)
 
@@ -154,13 +148,10 @@ weights-most n acc zero (Some e ∷ domains) d at =
 weights-most n acc (suc i) (None ∷ domains) d at = weights-most (suc n) acc i domains d at
 weights-most n acc (suc i) (Some e ∷ domains) d at = weights-most (suc n) (max acc e.weight) i domains d at
 
-max-small : (a b : ℕ) → a ≤ 65535 → b ≤ 65535 → max a b ≤ 65535
-max-small a b x y = grind (arith, x, y)
-
 weights-small : (n acc : ℕ) (domains : List (Option Credit2Domain)) → acc ≤ 65535 → EachPlace (λ (d : Credit2Domain). d.weight ≤ 65535) domains → fold max acc (map (λ (e : ℕ × Credit2Domain). e.1.weight) (numbered_items n domains)) ≤ 65535
 weights-small n acc [] low each = low
 weights-small n acc (None ∷ domains) low each = weights-small (suc n) acc domains low (λ i x at. each (suc i) x at)
-weights-small n acc (Some d ∷ domains) low each = weights-small (suc n) (max acc d.weight) domains (max-small acc d.weight low (each 0 d refl)) (λ i x at. each (suc i) x at)
+weights-small n acc (Some d ∷ domains) low each = weights-small (suc n) (max acc d.weight) domains (max_small acc d.weight low (each 0 d refl)) (λ i x at. each (suc i) x at)
 
 -- the parameters of domains, and the units of one
 pub record ParamsBounded (d : Credit2Domain) : Type 0 where

@@ -3,7 +3,7 @@ use Rattle.std.proofs.Common.{◌≡◌, ◌<◌, ◌≤◌, ◌%◌, ℕ, zero,
 use Rattle.std.specs.Prelude.{Option, Some, None, option_map, slice_get, slice_set, slice_index_or, map, ◌==◌, pos, if◌then◌else◌}
 use Rattle.std.specs.Option.{ForSome}
 use Rattle.std.proofs.Math.Nat.{mod-lt}
-use Rattle.sched_model.specs.Checked.{IsWithin, most_span}
+use Rattle.sched_model.specs.CheckedMachine.{IsWithin, most_span}
 use Rattle.std.proofs.lemmas.Int.{ints}
 use Rattle.std.proofs.lemmas.List.Elements.{All-map}
 use Rattle.sched_base.specs.declared.UnitId.{UnitId}
@@ -13,7 +13,7 @@ use Rattle.sched_model.specs.declared.state.Credit2Domain.{Credit2Domain}
 use Rattle.sched_model.specs.declared.state.Credit2Records.{Credit2Records}
 use Rattle.sched_model.specs.Places.{change_at, change_each, change_item}
 use Rattle.sched_model.specs.Credit2.{max_weight, burn_unit, burn_units, burn_cur, change_domain, give_back, reset, take_budget, set_weight}
-use Rattle.sched_laws.specs.Each.{EachPlace}
+use Rattle.sched_laws.specs.EachPlace.{EachPlace}
 use Rattle.sched_laws.proofs.EachPlace.{EachPlace-change_at, EachPlace-change_each, by_option, by_cond}
 use Rattle.sched_laws.proofs.Sound.{change_at-twice}
 use Rattle.sched_ranges.specs.Ranges.{Credit2InRange, Credit2UnitInRange}

@@ -8,7 +8,7 @@ use Rattle.sched_model.specs.declared.state.Credit2Records.{Credit2Records}
 use Rattle.sched_model.specs.Places.{change_item}
 use Rattle.sched_model.specs.Credit2.{max_weight, burn_unit, burn_units, give_back}
 use Rattle.sched_base.specs.Credit2Numbers.{above_zero, raise}
-use Rattle.sched_laws.specs.Each.{EachPlace}
+use Rattle.sched_laws.specs.EachPlace.{EachPlace}
 
 -- a unit that may be charged at t: it is in range, or was charged once since it was
 pub record UnitFits (t : ℕ) (x : Credit2Unit) : Type 0 where

@@ -2,10 +2,10 @@
 
 ghost use Rattle.std.specs.Prelude.{◌≡◌, ◌<◌, ◌≤◌, ◌-ℤ◌, [], filter, None};
 ghost use Rattle.sched_base.specs.Credit2Numbers.{slice as slice_spec, above_zero as above_zero_spec};
-ghost use Rattle.sched_model.specs.Eligible.{has_budget as has_budget_spec};
+ghost use Rattle.sched_model.specs.EligibleUnits.{has_budget as has_budget_spec};
 ghost use Rattle.sched_model.specs.Credit2.{domain_has_budget as domain_has_budget_spec, is_within_limit as is_within_limit_spec, greatest_unit as greatest_spec, own_candidate as own_candidate_spec, choice as choice_spec, resets_for as resets_for_spec, best_other as best_other_spec, slice_of as slice_of_spec};
 ghost use Rattle.plain_credit2.specs.Bounds.{PoolParamsFit, ParamsFit};
-ghost use Rattle.plain_credit2.specs.Waiting.{scheduler_of, contends as contends_spec, richer_unit as richer_spec, slice_in as slice_in_spec};
+ghost use Rattle.plain_credit2.specs.WaitingUnits.{scheduler_of, contends as contends_spec, richer_unit as richer_spec, slice_in as slice_in_spec};
 
 use crate::running::{credit_of, domain_at, max_weight};
 use crate::units::{above_zero, unit_at};

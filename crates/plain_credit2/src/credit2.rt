@@ -1,13 +1,13 @@
 //! Credit2: the unit with the greatest credit runs. Moments and spans are in nanoseconds.
 
-ghost use Rattle.sched_model.specs.Checked.{most_span};
+ghost use Rattle.sched_model.specs.CheckedMachine.{most_span};
 ghost use Rattle.std.specs.Prelude.{◌≡◌, ◌<◌, ◌≤◌, Some, None};
 ghost use Rattle.sched_model.specs.declared.state.Records.TheVariants.{Credit2Pool};
 ghost use Rattle.sched_model.specs.Credit2.{domain_has_budget as domain_has_budget_spec, is_better as is_better_spec, decide as decide_spec, credit2_decision};
 ghost use Rattle.plain_units.specs.Fits.{Credit2Fits};
 ghost use Rattle.plain_units.specs.Tells.{Tells};
 ghost use Rattle.plain_credit2.specs.Bounds.{PoolFits};
-ghost use Rattle.plain_credit2.specs.Waiting.{scheduler_of};
+ghost use Rattle.plain_credit2.specs.WaitingUnits.{scheduler_of};
 
 use crate::choice::{choice, domain_has_budget, is_within_limit, resets_for, slice_of};
 pub use crate::domain::periods;
@@ -103,7 +103,8 @@ pub fn choose(
     ensures decided { Tells result (credit2_decision ask.now
         (scheduler_of queue.now affinity.now records.old) records.old) }
     ensures records { Credit2Pool records.new
-        ≡ (credit2_decision ask.now (scheduler_of queue.now affinity.now records.old) records.old).records }
+        ≡ (credit2_decision ask.now
+        (scheduler_of queue.now affinity.now records.old) records.old).records }
 {
     burn_cur(ask.cur, ask.at, records);
     match choice(ask, queue, affinity, records) {

@@ -1,6 +1,6 @@
 //! The record of one domain, with its units. Moments, spans and budgets are in nanoseconds.
 
-ghost use Rattle.sched_model.specs.Checked.{most_span};
+ghost use Rattle.sched_model.specs.CheckedMachine.{most_span};
 ghost use Rattle.std.specs.Prelude.{◌≡◌, ◌≤◌, ◌<◌, ◌+◌, ◌^◌, map, length, sum_by, Some, slice_get, FitsSigned, ◌+ℤ◌};
 ghost use Rattle.sched_base.specs.Credit2Numbers.{raise as raise_spec, take as take_spec, quota as quota_spec, total as total_spec, refill as refill_spec};
 ghost use Rattle.sched_model.specs.declared.state.Credit2Unit.{Credit2Unit as UnitRecord};

@@ -3,8 +3,8 @@
 ghost use Rattle.std.specs.Prelude.{◌≡◌, ◌≤◌, map};
 ghost use Rattle.std.specs.Option.{ForSome};
 ghost use Rattle.sched_model.specs.Credit2.{set_weight as set_weight_spec, set_cap as set_cap_spec, first_refill as first_refill_spec, fresh_domain as fresh_domain_spec, set_domain as set_domain_spec, change_domain};
-ghost use Rattle.sched_model.specs.Checked.{IsWithin, most_span};
-ghost use Rattle.sched_laws.specs.Each.{EachPlace};
+ghost use Rattle.sched_model.specs.CheckedMachine.{IsWithin, most_span};
+ghost use Rattle.sched_laws.specs.EachPlace.{EachPlace};
 ghost use Rattle.plain_units.specs.Fits.{Credit2Fits};
 ghost use Rattle.plain_credit2.specs.Bounds.{DomainFits, cut_unit, emptied_unit};
 

@@ -1,6 +1,6 @@
 //! The record of one unit. Moments and spans are in nanoseconds.
 
-ghost use Rattle.sched_model.specs.Checked.{most_span};
+ghost use Rattle.sched_model.specs.CheckedMachine.{most_span};
 ghost use Rattle.std.specs.Prelude.{◌≡◌, ◌≤◌, ◌==◌, if◌then◌else◌, slice_get, slice_set, pos, neg_ℤ, ◌-ℤ◌, ◌≤ℤ◌};
 ghost use Rattle.sched_base.specs.Credit2Numbers.{raise as raise_spec, above_zero as above_zero_spec};
 ghost use Rattle.sched_model.specs.declared.state.Credit2Unit.{Credit2Unit as UnitRecord};

@@ -1,5 +1,5 @@
 -- The queue of a pool only grows while domains join it.
-use Rattle.std.proofs.Common.{◌≡◌, ◌≤◌, ◌+◌, ℕ, suc, true, false, ◌&&◌, List, [], ◌∷◌, ◌++◌, ◌∙◌, length, refl, sym, ap, subst, cond, arith}
+use Rattle.std.proofs.Common.{◌≡◌, ◌≤◌, ◌+◌, ℕ, suc, true, false, ◌&&◌, List, [], ◌∷◌, ◌++◌, length, refl, sym, ap, subst, cond, arith}
 use Rattle.std.specs.Prelude.{Some, None, map, ◌==◌}
 use Rattle.std.proofs.lemmas.List.{length-append}
 use Rattle.sched_base.specs.Numbers.{domain}
@@ -16,8 +16,10 @@ use Rattle.sched_model.specs.declared.state.Records.TheVariants.{Credit2Pool, Rt
 use Rattle.sched_model.specs.Policy.{join, pinned_cores, changed_records}
 use Rattle.sched_model.specs.State.{is_runnable}
 use Rattle.sched_model.specs.Pool.{queue_if_off, queue_units, queue_unit, is_off, with_domain, unit_count, set_params}
-use Rattle.plain_opening.specs.Opened.{configured_if}
+use Rattle.plain_opening.specs.OpeningPool.{configured_if}
 use Rattle.sched_model.specs.Opening.{fresh_vcpu, with_pins, with_configured, with_domains}
+use Rattle.sched_laws.proofs.Opened.{queue_units-resources, with_pins-resources}
+pub use Rattle.sched_laws.proofs.Opened.{with_configured-resources as cores_by_configured}
 
 -- how many units wait
 abbrev pub waiting : Pool → ℕ
@@ -87,25 +89,6 @@ pinned_once d n cores pool =
 -- where at most 256 units wait behind all domains, so they do behind the first
 pub room_of_first : (g i d : ℕ) (joining : DomConfig) (domains : List DomConfig) (pool : Pool) → waiting (with_domains g i d (joining ∷ domains) pool) ≤ 256 → waiting (configured_if g i d joining pool) ≤ 256
 room_of_first g i d joining domains pool room = let more = grows_by_domains g i (suc d) domains (configured_if g i d joining pool) in omega arith
-
--- the cores stay as they are
-cores_by_units : (g d : ℕ) (ns : List ℕ) (pool : Pool) → (queue_units g d ns pool).resources ≡ pool.resources
-cores_by_units g d [] pool = refl
-cores_by_units g d (n ∷ ns) pool =
-    let u : UnitId = record { dom = domain d; n = n } in
-    cores_by_units g d ns (queue_if_off g u pool)
-    ∙ elim (is_runnable g pool u && is_off pool u) as (λ b. (cond b (queue_unit u pool) pool).resources ≡ pool.resources) [ true ↦ refl | false ↦ refl ]
-
-cores_by_pins : (d n : ℕ) (pins : List Cores) (pool : Pool) → (with_pins d n pins pool).resources ≡ pool.resources
-cores_by_pins d n [] pool = refl
-cores_by_pins d n (cores ∷ pins) pool = cores_by_pins d (suc n) pins _
-
--- the same where a domain joins
-pub cores_by_configured : (g d : ℕ) (joining : DomConfig) (pool : Pool) → (with_configured g d joining pool).resources ≡ pool.resources
-cores_by_configured g d joining pool =
-    cores_by_pins d 0 joining.pins (with_domain g 0 d (fresh_domain joining) joining.params pool)
-    ∙ cores_by_units g d (numbers_from 0 (unit_count g (fresh_domain joining)))
-    (record pool { domains = put_at d (fresh_domain joining) pool.domains; scheduler = join d (unit_count g (fresh_domain joining)) joining.params 0 pool.scheduler })
 
 -- room for the units of a domain, whose vCPUs are those of the file
 pub room_of_domain : (g d : ℕ) (joining : DomConfig) (pool : Pool) (vcpus : List Vcpu) → vcpus ≡ map fresh_vcpu joining.guests → waiting (with_configured g d joining pool) ≤ 256

@@ -5,11 +5,11 @@ use Rattle.sched_model.specs.declared.config.Config.{Config}
 use Rattle.sched_model.specs.declared.config.PoolConfig.{PoolConfig}
 use Rattle.sched_model.specs.declared.machine.Machine.{Machine}
 use Rattle.sched_model.specs.declared.state.Pool.{Pool}
-use Rattle.sched_model.specs.Checked.{IsChecked}
+use Rattle.sched_model.specs.CheckedMachine.{IsChecked}
 use Rattle.sched_model.specs.Opening.{opening_pools, opening_pool}
 use Rattle.sched_model.specs.Places.{at_place}
 use Rattle.sched_ranges.proofs.Done.{in_range}
-use Rattle.plain_opening.specs.Opened.{FewWait, AllFewWait}
+use Rattle.plain_opening.specs.OpeningPool.{FewWait, AllFewWait}
 
 -- where it holds of all that stands at a place
 each_few : (config : Config) (i : ℕ) (pools : List PoolConfig) (rest : List (Option Pool)) → ((k : ℕ) (x : Pool) → at_place (opening_pools config i pools ++ rest) k ≡ Some x → FewWait x)

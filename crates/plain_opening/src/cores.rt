@@ -7,7 +7,7 @@ ghost use Rattle.sched_model.specs.Places.{numbers_from};
 ghost use Rattle.sched_model.specs.State.{has_core as has_core_spec};
 ghost use Rattle.sched_model.specs.Opening.{opening_free as opening_free_spec};
 ghost use Rattle.sched_model.specs.declared.config.PoolConfig.{PoolConfig as PoolRecord};
-ghost use Rattle.plain_opening.specs.Opened.{opening_core};
+ghost use Rattle.plain_opening.specs.OpeningPool.{opening_core};
 
 use plain_pool::leaving::fresh_core;
 use sched_base::{Moment, NoMemory, ResId};

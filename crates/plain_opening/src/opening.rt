@@ -2,11 +2,11 @@
 
 ghost use Rattle.std.specs.Prelude.{◌≡◌, ℕ, ◌+◌, ◌-◌, ◌≤◌, ◌<◌, ◌*◌, ◌∷◌, ◌++◌, [], List, Option, Some, None, IfOk, OnOk, replicate, length, map, slice_get};
 ghost use Rattle.sched_model.specs.declared.config.PoolConfig.{PoolConfig as PoolConfigRecord};
-ghost use Rattle.sched_model.specs.Checked.{IsChecked, IsCheckedConfig};
+ghost use Rattle.sched_model.specs.CheckedMachine.{IsChecked, IsCheckedConfig};
 ghost use Rattle.sched_model.specs.Opening.{with_pins as with_pins_spec, with_configured as with_configured_spec, with_domains as with_domains_spec, opening_pool as opening_pool_spec, opening_pools as opening_pools_spec, opening};
 ghost use Rattle.std.specs.List.{All};
 ghost use Rattle.plain_policy.specs.Parameters.{ParamsFit};
-ghost use Rattle.plain_opening.specs.Opened.{FewWait, AllFewWait, JoinFits, configured_if as configured_if_spec};
+ghost use Rattle.plain_opening.specs.OpeningPool.{FewWait, AllFewWait, JoinFits, configured_if as configured_if_spec};
 
 use crate::cores::{free_cores, fresh_cores};
 use crate::rows::fresh_vcpus;

@@ -2,9 +2,10 @@
 
 ghost use Rattle.std.specs.Prelude.{◌≡◌, ◌+◌, ◌≤◌, ◌<◌, ◌/◌, ◌∷◌, [], List, Option, Some, None, IfOk, replicate, length, map};
 ghost use Rattle.sched_model.specs.Opening.{empty_pool as empty_pool_spec, core_count as core_count_spec};
-ghost use Rattle.sched_model.specs.Policy.{fresh_records as fresh_records_spec, default_pool_params as default_pool_params_spec};
-ghost use Rattle.plain_opening.specs.Opened.{spare_for as spare_for_spec, spares_of};
+ghost use Rattle.sched_model.specs.Policy.{fresh_records as fresh_records_spec};
+ghost use Rattle.plain_opening.specs.OpeningPool.{spare_for as spare_for_spec, spares_of};
 
+use plain_policy::params::default_pool_params;
 use sched_base::NoMemory;
 use sched_model::command::Command;
 use sched_model::config::{Config, Frame, FrameList, PoolParams, SchedKind};
@@ -123,18 +124,6 @@ pub fn empty_pool(alloc: Global, config: &Config, params: &PoolParams) -> Result
     pool_of_cores(alloc, config, params, resources)
 }
 
-/// The parameters that a pool has where none are given.
-pub fn default_params(kind: SchedKind) -> PoolParams
-    ensures { result ≡ default_pool_params_spec kind }
-{
-    match kind {
-        SchedKind::Credit2 => PoolParams::Credit2 { limit: 1000 },
-        SchedKind::Rtds => PoolParams::Rtds,
-        SchedKind::Arinc653 => PoolParams::Arinc653 { frame: None },
-        SchedKind::Null => PoolParams::Null,
-    }
-}
-
 /// The pool that the command on the line makes, where it makes one: of Credit2, unless it names another scheduler.
 fn spare_for(alloc: Global, config: &Config, line: &CommandLine) -> Result<Option<Pool>, NoMemory>
     requires { 0 < config.now.granularity }
@@ -146,7 +135,7 @@ fn spare_for(alloc: Global, config: &Config, line: &CommandLine) -> Result<Optio
                 None => SchedKind::Credit2,
                 Some(kind) => *kind,
             };
-            Ok(Some(empty_pool(alloc, config, &default_params(kind))?))
+            Ok(Some(empty_pool(alloc, config, &default_pool_params(kind))?))
         }
         _ => Ok(None),
     }

@@ -4,28 +4,23 @@ use Rattle.std.specs.Prelude.{Option, Some, None, option_map, slice_get, slice_s
 use Rattle.std.specs.List.{AllByRecursion}
 use Rattle.std.proofs.lemmas.List.Elements.{recursion_from_All}
 use Rattle.sched_base.specs.declared.UnitId.{UnitId}
+use Rattle.sched_base.proofs.Lists.{each_get}
 use Rattle.sched_model.specs.declared.state.RtdsUnit.{RtdsUnit}
 use Rattle.sched_model.specs.Places.{at_place, change_item}
-use Rattle.sched_model.specs.Eligible.{rtds_unit}
+use Rattle.sched_model.specs.EligibleUnits.{rtds_unit}
 use Rattle.sched_model.specs.Rtds.{change_unit, burn_to, burn_cur, budget_left}
-use Rattle.sched_laws.specs.Each.{EachPlace}
+use Rattle.sched_laws.specs.EachPlace.{EachPlace}
 use Rattle.sched_laws.proofs.EachPlace.{EachPlace-change_at, by_option, by_cond}
-use Rattle.sched_laws.proofs.Opened.{each_get}
 use Rattle.sched_ranges.specs.Ranges.{RtdsInRange}
 use Rattle.sched_ranges.proofs.Rtds.{AllByRecursion-change_item}
 use Rattle.plain_units.specs.Fits.{RtdsFits}
+use Rattle.plain_credit2.proofs.Items.{change_item-none}
 
 -- an item that is there is changed as it is
 change_item-there : {X : Type 0} (i : ℕ) (f : X → X) (xs : List X) (x : X) → slice_get xs i ≡ Some x → change_item i (λ y. f x) xs ≡ change_item i f xs
 change_item-there i f [] x there = refl
 change_item-there zero f (y ∷ xs) x there = let same : y ≡ x = cc in ap (λ z. f z ∷ xs) (sym same)
 change_item-there (suc i) f (y ∷ xs) x there = ap (λ ys. y ∷ ys) (change_item-there i f xs x there)
-
--- one that is not there is not changed
-change_item-none : {X : Type 0} (i : ℕ) (f : X → X) (xs : List X) → slice_get xs i ≡ None → change_item i f xs ≡ xs
-change_item-none i f [] none = refl
-change_item-none zero f (y ∷ xs) none = absurd (cc)
-change_item-none (suc i) f (y ∷ xs) none = ap (λ ys. y ∷ ys) (change_item-none i f xs none)
 
 -- what stands at a place, put there again
 slice_set-same : {X : Type 0} (xs : List X) (i : ℕ) (d : X) → slice_set xs i (slice_index_or xs i d) ≡ xs

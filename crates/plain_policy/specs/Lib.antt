@@ -1,3 +1,4 @@
 pub mod Frames
 pub mod Parts
 pub mod Parameters
+pub mod Replenishments

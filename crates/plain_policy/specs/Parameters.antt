@@ -1,7 +1,7 @@
 -- The ranges of the parameters that are given.
 use Rattle.std.specs.Prelude.{◌≤◌, ℕ, Option}
 use Rattle.std.specs.Option.{ForSome}
-use Rattle.sched_model.specs.Checked.{IsWithin}
+use Rattle.sched_model.specs.CheckedMachine.{IsWithin}
 use Rattle.sched_model.specs.declared.config.DomParams.{DomParams}
 use Rattle.sched_model.specs.declared.config.DomParams.TheVariants as dom_params
 use Rattle.sched_model.specs.declared.config.ParamChange.{ParamChange}

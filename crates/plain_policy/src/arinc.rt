@@ -1,11 +1,11 @@
 //! ARINC 653: the window of a frame at a moment, and the unit that it is for.
 
-ghost use Rattle.sched_model.specs.Checked.{most_span};
+ghost use Rattle.sched_model.specs.CheckedMachine.{most_span};
 ghost use Rattle.std.specs.Prelude.{◌≡◌, ◌+◌, ◌<◌, ◌≤◌, ◌^◌, [], sum_by, option_map};
 ghost use Rattle.std.specs.Option.{ForSome};
 ghost use Rattle.sched_model.specs.Arinc.{window_from as window_from_spec, window_at as window_at_spec, present_window as present_window_spec};
 ghost use Rattle.sched_model.specs.declared.state.Records.TheVariants.{ArincPool};
-ghost use Rattle.sched_model.specs.Eligible.{passes as passes_spec};
+ghost use Rattle.sched_model.specs.EligibleUnits.{passes as passes_spec};
 ghost use Rattle.sched_model.specs.Policy.{choice_of_window as choice_of_window_spec, decision_by};
 ghost use Rattle.plain_units.specs.Fits.{IsFrame};
 ghost use Rattle.plain_units.specs.Tells.{Tells};

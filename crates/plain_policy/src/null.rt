@@ -4,7 +4,7 @@ ghost use Rattle.std.specs.Prelude.{◌≡◌, ℕ, ◌+◌, ◌<◌, ◌≤◌,
 ghost use Rattle.std.specs.List.{list_any};
 ghost use Rattle.sched_base.specs.declared.UnitId.{UnitId as UnitName};
 ghost use Rattle.sched_model.specs.declared.state.Records.TheVariants.{NullPool};
-ghost use Rattle.sched_model.specs.Eligible.{is_placed as is_placed_spec, is_taken as is_taken_spec, passes as passes_spec};
+ghost use Rattle.sched_model.specs.EligibleUnits.{is_placed as is_placed_spec, is_taken as is_taken_spec, passes as passes_spec};
 ghost use Rattle.sched_model.specs.Places.{at_place, numbered_items, same_unit};
 ghost use Rattle.sched_model.specs.State.{has_core as has_core_spec};
 ghost use Rattle.sched_model.specs.NullScheduler.{kept_without, kept_for, placed_or_earliest, choice as choice_spec, null_decision};

@@ -1,6 +1,6 @@
 //! The parameters of pools and domains, and the domains that join and part.
 
-ghost use Rattle.sched_model.specs.Checked.{most_span};
+ghost use Rattle.sched_model.specs.CheckedMachine.{most_span};
 ghost use Rattle.std.specs.Prelude.{◌≡◌, ◌≤◌};
 ghost use Rattle.sched_model.specs.Places.{change_at};
 ghost use Rattle.sched_model.specs.Policy.{default_pool_params as default_pool_params_spec, default_dom_params as default_dom_params_spec, pinned_cores, joined_records, join as join_spec, parted_records, part as part_spec, set_params as set_params_spec};

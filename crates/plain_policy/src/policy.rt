@@ -1,9 +1,9 @@
 //! What a scheduler decides for its pool, by a scan of the waiting units.
 
-ghost use Rattle.sched_model.specs.Checked.{most_span};
+ghost use Rattle.sched_model.specs.CheckedMachine.{most_span};
 ghost use Rattle.std.specs.Prelude.{◌≡◌, ◌<◌, ◌≤◌, ◌&&◌};
 ghost use Rattle.std.specs.List.{list_any};
-ghost use Rattle.sched_model.specs.Eligible.{passes as passes_spec, is_eligible as is_eligible_spec};
+ghost use Rattle.sched_model.specs.EligibleUnits.{passes as passes_spec, is_eligible as is_eligible_spec};
 ghost use Rattle.sched_model.specs.Policy.{decision_by, decision_of, after_decision, is_better as is_better_spec, better_waits as better_waits_spec, replenish as replenish_spec, refill as refill_spec};
 ghost use Rattle.plain_units.specs.Fits.{RecordsFit};
 ghost use Rattle.plain_units.specs.Tells.{Tells};

@@ -1,18 +1,19 @@
 //! RTDS: the unit with the least level, and of those the least deadline, runs as long as its budget lasts.
 
-ghost use Rattle.sched_model.specs.Checked.{most_span};
+ghost use Rattle.sched_model.specs.CheckedMachine.{most_span};
 ghost use Rattle.std.specs.Prelude.{◌≡◌, ◌+◌, ◌<◌, ◌≤◌, ◌^◌, [], ◌∷◌, Some};
 ghost use Rattle.std.specs.Option.{option_copied};
 ghost use Rattle.sched_base.specs.declared.UnitId.{UnitId as UnitName};
 ghost use Rattle.sched_model.specs.declared.state.RtdsUnit.{RtdsUnit as RtdsRecord};
 ghost use Rattle.sched_model.specs.declared.state.Records.TheVariants.{RtdsPool};
 ghost use Rattle.sched_model.specs.Places.{at_place, change_item};
-ghost use Rattle.sched_model.specs.Eligible.{rtds_unit as rtds_unit_spec, passes as passes_spec, eligible_units};
+ghost use Rattle.sched_model.specs.EligibleUnits.{rtds_unit as rtds_unit_spec, passes as passes_spec, eligible_units};
 ghost use Rattle.sched_model.specs.Rtds.{burn as burn_spec, burn_to as burn_to_spec, replenish as replenish_spec, change_unit, is_before as is_before_spec, unit_before as unit_before_spec, foremost_unit as foremost_spec, budget_left as budget_left_spec, own_candidate as own_candidate_spec, burn_cur as burn_cur_spec, set_running as set_running_spec, choice as choice_spec, decide as decide_spec, rtds_decision, fresh_units as fresh_units_spec};
 ghost use Rattle.sched_ranges.specs.Ranges.{RtdsInRange};
 ghost use Rattle.plain_units.specs.Fits.{RtdsFits};
 ghost use Rattle.plain_units.specs.Tells.{Tells};
 ghost use Rattle.plain_policy.specs.Parts.{scheduler_of};
+ghost use Rattle.plain_policy.specs.Replenishments.{printed_event};
 
 use crate::places::copies;
 use plain_units::decided::Decided;
@@ -20,6 +21,7 @@ use plain_units::eligible::is_allowed;
 use sched_base::{DomId, Moment, Span, UnitId};
 use sched_model::ask::Ask;
 use sched_model::config::Pins;
+use sched_model::event::Event;
 use sched_model::row::Row;
 use sched_model::state::{RtdsUnit, RtdsUnits};
 
@@ -42,6 +44,28 @@ pub fn rtds_unit(domains: &[Option<RtdsUnits>], u: UnitId) -> Option<&RtdsUnit>
     match units_of(domains, u.dom) {
         None => None,
         Some(units) => units.as_slice().get(u.n as usize),
+    }
+}
+
+/// What is printed of the unit's replenishment; zeros where there is no such unit.
+pub fn replenishment(u: UnitId, unit: Option<RtdsUnit>) -> Event
+    ensures { result ≡ printed_event u unit }
+{
+    match unit {
+        None => Event::Repl {
+            u,
+            start: Moment(0),
+            deadline: Moment(0),
+            budget: Span(0),
+            extra: false,
+        },
+        Some(x) => Event::Repl {
+            u,
+            start: Moment(x.deadline.saturating_sub(x.period)),
+            deadline: Moment(x.deadline),
+            budget: Span(x.budget),
+            extra: x.extra,
+        },
     }
 }
 
@@ -193,7 +217,7 @@ fn burn_unit(t: Moment, u: UnitId, domains: &mut Row<Option<RtdsUnits>>)
 }
 
 /// The unit runs from a moment, or runs no more.
-fn set_running(from: Option<u64>, u: UnitId, domains: &mut Row<Option<RtdsUnits>>)
+pub fn set_running(from: Option<u64>, u: UnitId, domains: &mut Row<Option<RtdsUnits>>)
     ensures { domains.new ≡ set_running_spec from u domains.old }
 {
     if let Some(x) = rtds_unit(domains.as_slice(), u) {
@@ -223,7 +247,7 @@ pub fn unit_before(domains: &[Option<RtdsUnits>], u: UnitId, w: UnitId) -> bool
 }
 
 /// The budget that is left to the unit, in nanoseconds.
-fn budget_left(domains: &[Option<RtdsUnits>], u: UnitId) -> u64
+pub fn budget_left(domains: &[Option<RtdsUnits>], u: UnitId) -> u64
     ensures { result ≡ budget_left_spec domains.now u }
 {
     match rtds_unit(domains, u) {
@@ -309,7 +333,7 @@ fn choice(
 }
 
 /// The core's own unit is charged up to t. No unit has more left than the longest budget then.
-fn burn_cur(cur: Option<UnitId>, t: Moment, domains: &mut Row<Option<RtdsUnits>>)
+pub fn burn_cur(cur: Option<UnitId>, t: Moment, domains: &mut Row<Option<RtdsUnits>>)
     requires fits { RtdsFits t.0 domains.old }
     requires early { t.0 ≤ most_span }
     ensures domains { domains.new ≡ burn_cur_spec cur t.0 domains.old }

@@ -8,11 +8,11 @@ use Rattle.sched_model.specs.declared.state.Scheduler.{Scheduler}
 use Rattle.sched_model.specs.declared.state.Pool.{Pool}
 use Rattle.sched_model.specs.declared.action.Action.TheVariants.{Decide}
 use Rattle.sched_model.specs.Places.{at_place, change_at}
-use Rattle.sched_model.specs.Eligible.{Decision}
+use Rattle.sched_model.specs.EligibleUnits.{Decision}
 use Rattle.sched_model.specs.Policy.{decision_of, after_decision}
 use Rattle.sched_model.specs.Pool.{after_in, after_decide, ask_of, decided_core}
 use Rattle.plain_units.specs.Tells.{Tells}
-use Rattle.plain_pool.specs.Deciding.{decided_by}
+use Rattle.plain_pool.specs.Decisions.{decided_by}
 use Rattle.plain_units.specs.declared.decided.Decided.{Decided}
 
 -- the core, by the answer and by the decision

@@ -1,16 +1,17 @@
 -- What stands at one place, where each has the property.
 use Rattle.std.proofs.Common.{◌≡◌, ◌≤◌, ◌+◌, ◌*◌, ◌<◌, ℕ, zero, suc, List, [], ◌∷◌, length, refl, sym, subst, arith}
 use Rattle.std.specs.Prelude.{Option, Some, None, slice_get, slice_index_or}
-use Rattle.std.specs.List.{AllByRecursion}
+use Rattle.std.proofs.lemmas.Option.{slice_get_past}
 use Rattle.sched_base.specs.declared.VcpuId.{VcpuId}
 use Rattle.sched_base.specs.declared.UnitId.{UnitId}
+use Rattle.sched_base.proofs.Lists.{each_get}
 use Rattle.sched_model.specs.declared.state.Vcpu.{Vcpu}
 use Rattle.sched_model.specs.declared.state.Pool.{Pool}
 use Rattle.sched_model.specs.declared.state.Resource.{Resource}
 use Rattle.sched_model.specs.Pool.{vcpu_for}
 use Rattle.sched_model.specs.declared.state.Domain.{Domain}
 use Rattle.sched_model.specs.Places.{at_place, first_place, is_unit, AllPlaces}
-use Rattle.sched_laws.proofs.EachPlace.{found_at}
+use Rattle.sched_laws.proofs.EachPlace.{found_at, place_below}
 use Rattle.plain_pool.specs.Fits.{DomainFits, VcpuFits, vcpu_among}
 
 -- what stands at a place has the property
@@ -21,32 +22,20 @@ at_place-fits P (None ∷ places) (suc i) x all there = at_place-fits P places i
 at_place-fits {X} P (Some y ∷ places) zero x all there = let same : y ≡ x = cc in subst P same all.0
 at_place-fits P (Some y ∷ places) (suc i) x all there = at_place-fits P places i x all.1 there
 
--- an item of a list has the property
-pub slice_get-fits : {X : Type 0} (P : X → Type 0) (xs : List X) (i : ℕ) (x : X) → AllByRecursion P xs → slice_get xs i ≡ Some x → P x
-slice_get-fits P [] i x all there = absurd cc
-slice_get-fits {X} P (y ∷ xs) zero x all there = let same : y ≡ x = cc in subst P same all.0
-slice_get-fits P (y ∷ xs) (suc i) x all there = slice_get-fits P xs i x all.1 there
-
 -- a vCPU of the domains fits
 pub vcpu_among-fits : (domains : List (Option Domain)) (v : VcpuId) (x : Vcpu) → AllPlaces DomainFits domains → vcpu_among domains v ≡ Some x → VcpuFits x
 vcpu_among-fits domains v x all there =
     elim (at_place domains v.dom.0) as (λ o. at_place domains v.dom.0 ≡ o → (elim o as (λ _. Option Vcpu) [ None ↦ None | Some d ↦ slice_get d.vcpus v.n ]) ≡ Some x → VcpuFits x) [
       | None ↦ λ is got. absurd cc
-      | Some d ↦ λ is got. slice_get-fits VcpuFits d.vcpus v.n x (at_place-fits DomainFits domains v.dom.0 d all is).vcpus got
+      | Some d ↦ λ is got. each_get VcpuFits d.vcpus v.n x (at_place-fits DomainFits domains v.dom.0 d all is).vcpus got
     ] refl there
-
--- past the end of a list there is nothing
-slice_get-past : {X : Type 0} (xs : List X) (i : ℕ) → length xs ≤ i → slice_get xs i ≡ None
-slice_get-past [] i past = refl
-slice_get-past (x ∷ xs) zero past = absurd (omega arith)
-slice_get-past (x ∷ xs) (suc i) past = slice_get-past xs i (omega arith)
 
 -- past the 32nd there is no vCPU
 pub vcpu_among-past : (domains : List (Option Domain)) (v : VcpuId) → AllPlaces DomainFits domains → 32 ≤ v.n → vcpu_among domains v ≡ None
 vcpu_among-past domains v all past =
     elim (at_place domains v.dom.0) as (λ o. at_place domains v.dom.0 ≡ o → (elim o as (λ _. Option Vcpu) [ None ↦ None | Some d ↦ slice_get d.vcpus v.n ]) ≡ None) [
       | None ↦ λ is. refl
-      | Some d ↦ λ is. let few : length d.vcpus ≤ 32 = (at_place-fits DomainFits domains v.dom.0 d all is).few in slice_get-past d.vcpus v.n (omega arith)
+      | Some d ↦ λ is. let few : length d.vcpus ≤ 32 = (at_place-fits DomainFits domains v.dom.0 d all is).few in slice_get_past d.vcpus v.n (omega arith)
     ] refl
 
 -- past the 32nd no processor has a vCPU
@@ -55,12 +44,6 @@ vcpu_for-past g pool c i u is all past =
     let v : VcpuId = record { dom = u.dom; n = u.n * g + i } in
     let none : vcpu_among pool.domains v ≡ None = vcpu_among-past pool.domains v all past in
     rw is (rw (none, vcpu_for) refl)
-
--- a place that has something is inside
-pub at_place-inside : {X : Type 0} (places : List (Option X)) (i : ℕ) (x : X) → at_place places i ≡ Some x → i < length places
-at_place-inside [] i x there = absurd cc
-at_place-inside (y ∷ places) zero x there = omega arith
-at_place-inside (y ∷ places) (suc i) x there = let rest = at_place-inside places i x there in omega arith
 
 -- what was read at a place inside stands there
 pub at_place-item : {X : Type 0} (places : List (Option X)) (i : ℕ) (o : Option X) → i < length places → o ≡ slice_index_or places i o → at_place places i ≡ o
@@ -80,4 +63,4 @@ place-fits P places i x all inside is = at_place-fits P places i x all (at_place
 
 -- a core that is found is inside
 pub core_of-inside : (cores : List (Option Resource)) (u : UnitId) (r : ℕ) → first_place 0 (λ (c : Resource). is_unit c.cur u) cores ≡ Some r → r < length cores
-core_of-inside cores u r found = let there = found_at r (λ (c : Resource). is_unit c.cur u) cores found in at_place-inside cores r there.0 there.1
+core_of-inside cores u r found = let there = found_at r (λ (c : Resource). is_unit c.cur u) cores found in place_below cores r there.0 there.1

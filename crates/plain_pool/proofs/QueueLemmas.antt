@@ -1,5 +1,5 @@
 -- Units that are queued one after another.
-use Rattle.std.proofs.Common.{◌≡◌, ◌∙◌, ◌≤◌, ◌<◌, ◌-◌, ◌+◌, ℕ, suc, List, [], ◌∷◌, length, refl, sym, ap, arith, length-append}
+use Rattle.std.proofs.Common.{◌≡◌, ◌∙◌, ◌≤◌, ◌<◌, ◌-◌, ◌+◌, ℕ, List, [], ◌∷◌, length, sym, ap, arith, length-append}
 use Rattle.std.specs.Prelude.{true, false, cond, ◌&&◌}
 use Rattle.sched_base.specs.Numbers.{domain}
 use Rattle.sched_base.specs.declared.UnitId.{UnitId}
@@ -7,6 +7,7 @@ use Rattle.sched_model.specs.declared.state.Pool.{Pool}
 use Rattle.sched_model.specs.Places.{numbers_from}
 use Rattle.sched_model.specs.State.{is_runnable}
 use Rattle.sched_model.specs.Pool.{is_off, queue_unit, queue_if_off, queue_units}
+use Rattle.sched_model.proofs.PlaceLemmas.{numbers_from-first}
 
 -- a unit may come to wait, and none waits no longer
 pub queue_if_off-grows : (g : ℕ) (u : UnitId) (pool : Pool) → length pool.scheduler.queue ≤ length (queue_if_off g u pool).scheduler.queue
@@ -23,21 +24,6 @@ queue_units-grows g d (n ∷ ns) pool =
     let one = queue_if_off-grows g u pool in
     let rest = queue_units-grows g d ns (queue_if_off g u pool) in
     omega arith
-
--- the cores stay
-pub queue_if_off-cores : (g : ℕ) (u : UnitId) (pool : Pool) → (queue_if_off g u pool).resources ≡ pool.resources
-queue_if_off-cores g u pool =
-    elim (is_runnable g pool u && is_off pool u) as (λ b. (cond b (queue_unit u pool) pool).resources ≡ pool.resources) [
-      | true ↦ refl
-      | false ↦ refl
-    ]
-
--- the first of the numbers
-numbers_from-first : (n count : ℕ) → n < count → numbers_from n (count - n) ≡ n ∷ numbers_from (n + 1) (count - (n + 1))
-numbers_from-first n count below =
-    let e : count - n ≡ suc (count - (n + 1)) = omega arith in
-    let f : suc n ≡ n + 1 = omega arith in
-    rw e (ap (λ (m : ℕ). n ∷ numbers_from m (count - (n + 1))) f)
 
 -- one unit more is queued
 pub queue_units-turn : (g d n count : ℕ) (pool initial : Pool) → n < count

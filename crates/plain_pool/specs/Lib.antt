@@ -1,8 +1,7 @@
 pub mod Cores
-pub mod Deciding
+pub mod Decisions
 pub mod Fits
 pub mod Marks
-pub mod Own
 pub mod Records
 pub mod Rows
-pub mod Waking
+pub mod Wakes

@@ -1,6 +1,6 @@
 //! A core decides. g is the number of a core's processors, t the moment.
 
-ghost use Rattle.sched_model.specs.Checked.{most_span};
+ghost use Rattle.sched_model.specs.CheckedMachine.{most_span};
 ghost use Rattle.std.specs.Prelude.{◌≡◌, ◌≤◌, ◌<◌, length, IsTrue, false, None, Some};
 ghost use Rattle.std.specs.Option.{option_copied};
 ghost use Rattle.sched_base.specs.Numbers.{span};
@@ -8,7 +8,7 @@ ghost use Rattle.sched_model.specs.declared.action.Action.TheVariants.{Decide};
 ghost use Rattle.sched_model.specs.Places.{at_place, change_at};
 ghost use Rattle.sched_model.specs.Pool.{enabled_in, after_in, event_in, ask_of as ask_of_spec, lateness};
 ghost use Rattle.plain_units.specs.Fits.{RecordsFit};
-ghost use Rattle.plain_pool.specs.Deciding.{decided_by};
+ghost use Rattle.plain_pool.specs.Decisions.{decided_by};
 ghost use Rattle.plain_pool.specs.Fits.{PoolFits};
 
 use crate::cores::{core_at, home_cores};

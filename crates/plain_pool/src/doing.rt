@@ -15,7 +15,8 @@ use sched_model::state::{Doing, Pool, Resource};
 /// The core's processor at this place does this.
 #[tactic(auto, using(plain_units::proofs::Places::past_the_end))]
 fn set_doing(c: &mut Resource, i: usize, doing: Doing)
-    ensures { c.new ≡ record c.old { processors = change_item i (with_doing doing) c.old.processors } }
+    ensures { c.new
+        ≡ record c.old { processors = change_item i (with_doing doing) c.old.processors } }
 {
     if let Some(p) = c.processors.get_mut(i) {
         p.doing = doing;

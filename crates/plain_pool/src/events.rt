@@ -1,13 +1,13 @@
 //! The events of one pool, before its cores are looked at. g is the number of a core's processors, t the moment.
 
-ghost use Rattle.sched_model.specs.Checked.{most_span};
+ghost use Rattle.sched_model.specs.CheckedMachine.{most_span};
 ghost use Rattle.std.specs.Prelude.{◌≡◌, ◌+◌, ◌*◌, ◌<◌, ◌≤◌, ◌/◌, ◌%◌, length, IsTrue, Some, None, true};
 ghost use Rattle.sched_model.specs.declared.action.Action.TheVariants.{Slice, Arrive, Leave, Save};
 ghost use Rattle.sched_model.specs.Places.{change_at};
 ghost use Rattle.sched_model.specs.Pool.{enabled_in, after_in, event_in, vcpu_for as vcpu_for_spec, open_if_left as open_if_left_spec, saved_core, saving_among};
 ghost use Rattle.plain_units.specs.Fits.{RecordsFit};
 ghost use Rattle.plain_pool.specs.Fits.{PoolFits};
-ghost use Rattle.plain_pool.specs.Own.{IsOfPool};
+ghost use Rattle.sched_model.specs.Actions.{IsOfPool};
 
 use crate::cores::{any_held, core_at};
 use crate::deciding::decide;

@@ -56,7 +56,7 @@ pub fn put_core(r: ResId, stall_ends: &StallEnds, pool: &mut Pool)
 }
 
 /// The ends of the stalls of the core's processors.
-fn stall_ends_of(c: &Resource) -> StallEnds
+pub fn stall_ends_of(c: &Resource) -> StallEnds
     ensures { result ≡ ends_of c.now }
 {
     let mut stall_ends = Short::new();
@@ -106,7 +106,8 @@ pub fn set_leaving(r: ResId, pool: &mut Pool)
 /// The stall of the core's processor at this place ends at this moment.
 #[tactic(auto, using(plain_units::proofs::Places::past_the_end))]
 fn set_end(c: &mut Resource, i: usize, end: u64)
-    ensures { c.new ≡ record c.old { processors = change_item i (stalled_to end) c.old.processors } }
+    ensures { c.new
+        ≡ record c.old { processors = change_item i (stalled_to end) c.old.processors } }
 {
     if let Some(p) = c.processors.get_mut(i) {
         p.stall_end = Moment(end);

@@ -1,6 +1,6 @@
 //! Changes of a pool's parameters. t is the moment.
 
-ghost use Rattle.sched_model.specs.Checked.{most_span};
+ghost use Rattle.sched_model.specs.CheckedMachine.{most_span};
 ghost use Rattle.std.specs.Prelude.{◌≡◌, ◌≤◌};
 ghost use Rattle.sched_model.specs.Places.{change_each};
 ghost use Rattle.sched_model.specs.Pool.{set_params as set_params_spec};

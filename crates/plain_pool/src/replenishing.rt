@@ -1,6 +1,6 @@
 //! Replenishments of RTDS units and refills of Credit2 domains. g is the number of a core's processors, t the moment.
 
-ghost use Rattle.sched_model.specs.Checked.{most_span};
+ghost use Rattle.sched_model.specs.CheckedMachine.{most_span};
 ghost use Rattle.std.specs.Prelude.{◌≡◌, ◌+◌, ◌≤◌, IsTrue, Some, length, min, true};
 ghost use Rattle.sched_base.specs.Numbers.{moment};
 ghost use Rattle.sched_model.specs.declared.action.Action.TheVariants.{Repl, Refill};
@@ -38,7 +38,7 @@ fn bring_due(t: Moment, budget: u64, c: &mut Resource)
 }
 
 /// The same of the core at this place.
-fn bring_due_at(r: usize, t: Moment, budget: u64, cores: &mut Row<Option<Resource>>)
+pub fn bring_due_at(r: usize, t: Moment, budget: u64, cores: &mut Row<Option<Resource>>)
     ensures { cores.new ≡ change_at r (due_within t.0 budget) cores.old }
 {
     if let Some(place) = cores.get_mut(r)

@@ -1,6 +1,6 @@
 //! The closure: which cores are to decide anew after an event.
 
-ghost use Rattle.sched_model.specs.Checked.{most_span};
+ghost use Rattle.sched_model.specs.CheckedMachine.{most_span};
 ghost use Rattle.std.specs.Prelude.{◌≡◌, ◌<◌, ◌≤◌, length};
 ghost use Rattle.sched_model.specs.Places.{change_each};
 ghost use Rattle.sched_model.specs.Pool.{reconsidered_core, settled_pool};

@@ -1,6 +1,6 @@
 //! The vCPUs of a pool's domains.
 
-ghost use Rattle.sched_model.specs.Checked.{most_span};
+ghost use Rattle.sched_model.specs.CheckedMachine.{most_span};
 ghost use Rattle.std.specs.Prelude.{◌≡◌, ◌<◌, ◌≤◌, ◌+◌, ◌%◌, option_map, Some, slice_get, slice_index_or};
 ghost use Rattle.std.specs.Option.{option_copied, IfSome, ForSome};
 ghost use Rattle.std.specs.List.{All, AllByRecursion};
@@ -150,7 +150,8 @@ fn wake_at(domain: &mut Domain, n: usize)
 pub fn wake_vcpu(domains: &mut Row<Option<Domain>>, v: VcpuId)
     requires { AllPlaces DomainFits domains.old }
     ensures { domains.new ≡ change_at v.dom.0
-        (λ (d : DomainRecord). record d { vcpus = change_item v.n woken_vcpu d.vcpus }) domains.old }
+        (λ (d : DomainRecord). record d { vcpus = change_item v.n woken_vcpu d.vcpus })
+        domains.old }
 {
     if let Some(place) = domains.get_mut(v.dom.0 as usize)
         && let Some(domain) = place

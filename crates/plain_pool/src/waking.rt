@@ -1,11 +1,11 @@
 //! A vCPU wakes, or sleeps. g is the number of a core's processors, t the moment.
 
-ghost use Rattle.sched_model.specs.Checked.{most_span};
+ghost use Rattle.sched_model.specs.CheckedMachine.{most_span};
 ghost use Rattle.std.specs.Prelude.{◌≡◌, ◌+◌, ◌*◌, ◌<◌, ◌≤◌, ◌/◌, ◌%◌, length, IsTrue, true, false, None, Some, if◌then◌else◌};
 ghost use Rattle.sched_model.specs.declared.action.Action.TheVariants.{Wake, Block};
 ghost use Rattle.sched_model.specs.Pool.{enabled_in, after_in, event_in, unit_of as unit_of_spec, is_off as is_off_spec, joined_siblings};
 ghost use Rattle.plain_pool.specs.Fits.{PoolFits};
-ghost use Rattle.plain_pool.specs.Waking.{idles_at, after_placing};
+ghost use Rattle.plain_pool.specs.Wakes.{idles_at, after_placing};
 
 use crate::cores::{core_of, is_idle, is_on_core};
 use crate::doing::{change_doing, set_pending, take};
@@ -19,7 +19,7 @@ use sched_model::event::Event;
 use sched_model::state::{Doing, Pool};
 
 /// The unit of a vCPU.
-fn unit_of(g: u8, v: VcpuId) -> UnitId
+pub fn unit_of(g: u8, v: VcpuId) -> UnitId
     requires { 0 < g }
     ensures { result ≡ unit_of_spec g v }
 {

@@ -1,6 +1,6 @@
 //! What a scheduler would decide, with its records left as they are.
 
-ghost use Rattle.sched_model.specs.Checked.{most_span};
+ghost use Rattle.sched_model.specs.CheckedMachine.{most_span};
 ghost use Rattle.std.specs.Prelude.{◌≡◌, ◌<◌, ◌≤◌, length, Some};
 ghost use Rattle.sched_model.specs.Credit2.{credit2_decision};
 ghost use Rattle.sched_model.specs.Rtds.{rtds_decision};
@@ -12,7 +12,7 @@ ghost use Rattle.sched_model.specs.declared.action.Action.TheVariants.{Decide};
 ghost use Rattle.sched_model.specs.declared.state.Records.TheVariants.{RtdsPool, NullPool};
 ghost use Rattle.plain_units.specs.Fits.{Credit2Fits, RtdsFits, RecordsFit};
 ghost use Rattle.plain_units.specs.Tells.{Tells};
-ghost use Rattle.plain_credit2.specs.Waiting.{scheduler_of as credit2_scheduler};
+ghost use Rattle.plain_credit2.specs.WaitingUnits.{scheduler_of as credit2_scheduler};
 ghost use Rattle.plain_policy.specs.Parts.{scheduler_of};
 ghost use Rattle.plain_pool.specs.Fits.{PoolFits};
 ghost use Rattle.plain_telling.specs.Rooms.{AsLarge, HasRoom};

@@ -1,9 +1,9 @@
 //! What a replenishment and a refill would print, with the scheduler's records left as they are.
 
-ghost use Rattle.sched_model.specs.Checked.{most_span};
+ghost use Rattle.sched_model.specs.CheckedMachine.{most_span};
 ghost use Rattle.std.specs.Prelude.{◌≡◌, ◌≤◌, length, pos};
 ghost use Rattle.sched_model.specs.declared.action.Action.TheVariants.{Repl, Refill};
-ghost use Rattle.sched_model.specs.Eligible.{rtds_unit as rtds_unit_spec};
+ghost use Rattle.sched_model.specs.EligibleUnits.{rtds_unit as rtds_unit_spec};
 ghost use Rattle.sched_model.specs.Policy.{rtds_record as rtds_record_spec, credit2_record as credit2_record_spec, replenish as replenish_spec, refill as refill_spec};
 ghost use Rattle.sched_model.specs.Pool.{event_in, replenished_unit as replenished_spec};
 ghost use Rattle.sched_model.specs.Credit2.{refilled_pool as refilled_spec};
@@ -20,7 +20,7 @@ use plain_credit2::credit2;
 use plain_credit2::running::domain_at;
 use plain_policy::records::credit2_record;
 use plain_policy::rtds;
-use sched_base::{DomId, Moment, Span, UnitId};
+use sched_base::{DomId, Moment, UnitId};
 use sched_model::event::Event;
 use sched_model::row::Row;
 use sched_model::state::{Credit2Domain, Credit2Records, Pool, Records, RtdsUnit, RtdsUnits};
@@ -65,22 +65,7 @@ pub fn replenish(g: u8, t: Moment, u: UnitId, pool: &Pool, scratch: &mut Scratch
     ensures event { result ≡ event_in g t.0 pool.now (Repl u) }
     ensures room { AsLarge scratch.new scratch.old }
 {
-    match replenished(t, u, &pool.scheduler.records, scratch) {
-        None => Event::Repl {
-            u,
-            start: Moment(0),
-            deadline: Moment(0),
-            budget: Span(0),
-            extra: false,
-        },
-        Some(x) => Event::Repl {
-            u,
-            start: Moment(x.deadline.saturating_sub(x.period)),
-            deadline: Moment(x.deadline),
-            budget: Span(x.budget),
-            extra: x.extra,
-        },
-    }
+    rtds::replenishment(u, replenished(t, u, &pool.scheduler.records, scratch))
 }
 
 /// The budget that is left to the domain.

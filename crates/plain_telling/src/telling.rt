@@ -1,12 +1,12 @@
 //! What an event of one pool would print. g is the number of a core's processors, t the moment.
 
-ghost use Rattle.sched_model.specs.Checked.{most_span};
+ghost use Rattle.sched_model.specs.CheckedMachine.{most_span};
 ghost use Rattle.std.specs.Prelude.{◌≡◌, ◌<◌, ◌≤◌, ◌/◌, ◌%◌, IsTrue, true};
 ghost use Rattle.sched_model.specs.declared.action.Action.TheVariants.{Block, Leave, Save};
 ghost use Rattle.sched_model.specs.Pool.{enabled_in, event_in};
 ghost use Rattle.plain_units.specs.Fits.{RecordsFit};
 ghost use Rattle.plain_pool.specs.Fits.{PoolFits};
-ghost use Rattle.plain_pool.specs.Own.{IsOfPool};
+ghost use Rattle.sched_model.specs.Actions.{IsOfPool};
 ghost use Rattle.plain_telling.specs.Rooms.{AsLarge, HasRoom};
 
 use crate::deciding::decide;

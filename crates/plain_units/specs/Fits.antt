@@ -7,7 +7,7 @@ use Rattle.sched_model.specs.declared.state.Credit2Records.{Credit2Records}
 use Rattle.sched_model.specs.declared.state.RtdsUnit.{RtdsUnit}
 use Rattle.sched_model.specs.declared.state.Records.{Records}
 use Rattle.sched_model.specs.declared.state.Records.TheVariants.{Credit2Pool, RtdsPool, ArincPool, NullPool}
-use Rattle.sched_laws.specs.Each.{EachPlace}
+use Rattle.sched_laws.specs.EachPlace.{EachPlace}
 pub use Rattle.sched_ranges.specs.Ranges.{IsFrame}
 use Rattle.sched_ranges.specs.Ranges.{Credit2InRange, RtdsInRange}
 

@@ -1,6 +1,6 @@
 -- What an answer tells of a decision.
 use Rattle.std.specs.Prelude.{◌≡◌}
-use Rattle.sched_model.specs.Eligible.{Decision}
+use Rattle.sched_model.specs.EligibleUnits.{Decision}
 use Rattle.plain_units.specs.declared.decided.Decided.{Decided}
 
 -- the answer is the decision's unit, due and number of resets

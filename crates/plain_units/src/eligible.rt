@@ -2,7 +2,7 @@
 
 ghost use Rattle.std.specs.Prelude.{◌≡◌, ◌<◌, slice_index_or};
 ghost use Rattle.sched_base.specs.Numbers.{core_set};
-ghost use Rattle.sched_model.specs.Eligible.{cores_of as cores_of_spec, is_allowed_by};
+ghost use Rattle.sched_model.specs.EligibleUnits.{cores_of as cores_of_spec, is_allowed_by};
 
 use sched_base::{Cores, ResId, UnitId};
 use sched_model::config::Pins;

@@ -1,9 +1,9 @@
 -- From what an action of the tool changes in the state to what it leaves of the parts.
 use mathlib.Core.Logic.{dite}
 use native.Mathlib.Decide.{ℕ_discrete}
-use Rattle.std.proofs.Common.{◌≡◌, ◌≢◌, ◌∙◌, ℕ, ◌<◌, List, length, sym, ap, subst, arith, ne_eqb, cond, length-set, get_or-set_other}
+use Rattle.std.proofs.Common.{◌≡◌, ◌≢◌, ◌∙◌, ℕ, zero, suc, ◌<◌, List, [], ◌∷◌, length, refl, sym, ap, subst, arith, ne_eqb, cond, length-set, get_or-set_other}
 use Rattle.std.proofs.lemmas.Grind.{get_or-set_at}
-use Rattle.std.specs.Prelude.{Option, None, slice_set}
+use Rattle.std.specs.Prelude.{Option, None, Some, option_map, slice_set}
 use Rattle.std.specs.Option.{ForSome}
 use Rattle.sched_base.specs.Numbers.{moment}
 use Rattle.sched_model.specs.declared.action.Action.{Action}
@@ -14,11 +14,12 @@ use Rattle.sched_model.specs.declared.state.Pool.{Pool}
 use Rattle.sched_model.specs.declared.state.State.{State}
 use Rattle.sched_model.specs.Machine.{event_of, after}
 use Rattle.sched_model.specs.Places.{at_place}
+use Rattle.sched_laws.proofs.Lists.{some_same}
 use Rattle.journal_core.specs.Parts.{part_of, pool_part, tool_part, tool_lock, tool_of as part_of_tool}
 use Rattle.journal_core.specs.Histories.{part_at}
 use Rattle.cpupool.specs.Tool.{Tool, tool_of}
 use Rattle.tool_laws.specs.ToolSteps.{ChangesNoPool, ChangesPlace}
-use Rattle.pool_core.specs.Seen.{Seen}
+use Rattle.pool_core.specs.Seen.{Seen, seen_at}
 use Rattle.pool_slots.specs.Told.{Told}
 use Rattle.pool_slots.specs.Places.{AllStand, GoesOn, SlotSuits, StandsAt, state_of}
 use Rattle.pool_slots.proofs.Going.{entry-is, goes-on, part_of-is, state-on}
@@ -79,6 +80,17 @@ module _ (w : Told) (tool : Tool) (t : ℕ) (action : Action) (begins : Begins w
   pub stands-changed : (i : ℕ) (f : Option Pool → Option Pool) (old new : Option Seen) → ChangesPlace (state_of w) left i f → StandsAt w i old → pool_at new ≡ f (pool_at old) → ForSome new (SlotSuits w.input (state_of w).now) → StandsAt next i new
   stands-changed i f old new changes stands made suits = stands-next i new stands.place (made ∙ ap f (sym (stands-there w i old stands)) ∙ sym changes.own) suits changes.now
 
+-- a place whose pool is changed at the moment that is now
+pub suits-seen : (m : Machine) (now t : ℕ) (f : Seen → Pool) → t ≡ now → (o : Option Seen) → ForSome o (SlotSuits m now) → ForSome (option_map (λ (seen : Seen). seen_at t (f seen) seen) o) (SlotSuits m now)
+suits-seen m now t f is None suits x at = absurd (cc)
+suits-seen m now t f is (Some seen) suits x at = (let was = suits seen refl in subst (SlotSuits m now) (some_same at) (record { granularity = was.granularity; latest = omega (arith, is) }))
+
+-- a place that is written twice
+set-twice : {X : Type 0} (xs : List X) (i : ℕ) (x : X) → slice_set (slice_set xs i x) i x ≡ slice_set xs i x
+set-twice [] i x = refl
+set-twice (y ∷ xs) zero x = refl
+set-twice (y ∷ xs) (suc i) x = ap (λ ys. y ∷ ys) (set-twice xs i x)
+
 -- a place that an act leaves as it was
 pub stays-there : (w : Told) (i j : ℕ) (next : Told) (tool : Tool) → HasActed w i j next tool → next.input ≡ w.input → (k : ℕ) (slot : Option Seen) → k ≢ i → k ≢ j → StandsAt w k slot → StandsAt next k slot
 stays-there w i j next tool acted input k slot first second stands = record {
@@ -121,16 +133,4 @@ module _ (w : Told) (slots : List (Option Seen)) (all : AllStand w slots) (next 
   }
 
   pub parts-on : (i : ℕ) (a : Option Seen) → HasActedOn w i next tool → StandsAt next i a → AreParts next (slice_set slots i a) tool
-  parts-on i a acted here = record {
-    goes = acted.goes;
-    known = acted.known;
-    stand = record {
-      count = length-set slots i a ∙ all.count;
-      each = λ k low. dite (ℕ_discrete k i)
-          (λ (is : k ≡ i).
-          let inside : i < length slots = (let count = all.count in omega (arith, low, is, count)) in
-          let there : a ≡ at_place (slice_set slots i a) k = sym (get_or-set_at slots i k a None is inside) in
-          subst (λ (x : Option Seen). StandsAt next k x) there (subst (λ (n : ℕ). StandsAt next n a) (sym is) here))
-          (λ ne. subst (λ (x : Option Seen). StandsAt next k x) (sym (get_or-set_other slots i k a None ne)) (stays-there w i i next tool acted input k (at_place slots k) ne ne (all.each k low)));
-    };
-  }
+  parts-on i a acted here = subst (λ (xs : List (Option Seen)). AreParts next xs tool) (set-twice slots i a) (parts-both i i a a acted here here (λ is. refl))

@@ -1,7 +1,9 @@
 -- The parts of the machine after the next command.
-use Rattle.std.proofs.Common.{◌≡◌, ◌∙◌, ◌<◌, ℕ, suc, true, List, refl, sym, ap, subst, arith}
+use Rattle.std.proofs.Common.{◌≡◌, ◌∙◌, ◌<◌, ℕ, suc, true, List, refl, sym, ap, subst}
 use Rattle.std.specs.Prelude.{Option, Some, None, Result, Ok, Err, option_map, slice_get, slice_set}
 use Rattle.std.specs.Option.{ForSome}
+use Rattle.sched_base.specs.Numbers.{pool as pool_number}
+use Rattle.sched_base.specs.declared.PoolId.{PoolId}
 use Rattle.sched_model.specs.declared.action.Action.TheVariants.{Xl}
 use Rattle.sched_model.specs.declared.event.Event.{Event}
 use Rattle.sched_model.specs.declared.event.Event.TheVariants as event
@@ -19,16 +21,17 @@ use Rattle.sched_model.specs.Machine.{after, after_command, answer_of, event_of,
 use Rattle.sched_model.specs.Places.{at_place}
 use Rattle.sched_model.specs.Pool.{settled_pool}
 use Rattle.cpupool.specs.Tool.{Tool, tool_of}
-use Rattle.pool_core.specs.Seen.{Seen, seen_at}
+use Rattle.pool_core.specs.Seen.{Seen}
 use Rattle.pool_slots.specs.Told.{Told}
 use Rattle.pool_slots.specs.Places.{SlotSuits, StandsAt, state_of}
 use Rattle.pool_slots.proofs.Standing.{pool_at}
 use Rattle.tool_laws.specs.ToolSteps.{ChangesPlace, CommandSteps, carried_at, changed_by}
 use Rattle.tool_laws.proofs.Steps.{tool_steps}
 use Rattle.machine_parts.specs.Parts.{AreParts}
+use Rattle.machine_parts.proofs.AtPlaces.{no-number, number-of}
 use Rattle.tool_acts.specs.Acts.{Begins, told_event}
-use Rattle.tool_acts.specs.Carrying.{HasCarried, KeepsPools, carried_slot, changed_slot, xl_told}
-use Rattle.tool_acts.proofs.Acting.{acted-alone, acted-on, parts-alone, parts-on, stands-changed}
+use Rattle.tool_acts.specs.CarriedPlans.{HasCarried, KeepsPools, carried_slot, changed_slot, xl_told}
+use Rattle.tool_acts.proofs.Acting.{acted-alone, acted-on, parts-alone, parts-on, stands-changed, suits-seen}
 
 module _ (w : Told) (slots : List (Option Seen)) (tool : Tool) (parts : AreParts w slots tool) (enabled : is_enabled w.input (state_of w) (state_of w).now Xl ≡ true) where
   abbrev m : Machine
@@ -54,7 +57,7 @@ module _ (w : Told) (slots : List (Option Seen)) (tool : Tool) (parts : AreParts
     pub parts-refused : (fault : Refusal) (new : Tool) → verdict m s line ≡ Err fault → new ≡ tool_of m (after_command m s.now line s) → AreParts (xl_told w) slots new
     parts-refused fault new says told = parts-alone w slots parts.stand (xl_told w) new refl (acted-alone w tool s.now Xl begins _ refl new (steps.refused fault says) (known new told))
 
-    pub parts-homeless : (p : Plan) (new : Tool) → verdict m s line ≡ Ok p → pool_of_plan s p ≡ None → new ≡ tool_of m (after_command m s.now line s) → AreParts (xl_told w) slots new
+    parts-homeless : (p : Plan) (new : Tool) → verdict m s line ≡ Ok p → pool_of_plan s p ≡ None → new ≡ tool_of m (after_command m s.now line s) → AreParts (xl_told w) slots new
     parts-homeless p new says home told = parts-alone w slots parts.stand (xl_told w) new refl (acted-alone w tool s.now Xl begins _ refl new (steps.none p says home) (known new told))
 
     pub parts-carried : (p : Plan) (i : ℕ) (next : List (Option Seen)) (new : Tool) → i < 16 → verdict m s line ≡ Ok p → pool_of_plan s p ≡ Some i → HasCarried w s.now p i slots next → new ≡ tool_of m (after_command m s.now line s)
@@ -65,6 +68,12 @@ module _ (w : Told) (slots : List (Option Seen)) (tool : Tool) (parts : AreParts
         stands-changed w tool s.now Xl begins _ refl i (carried_at m s.now p) (at_place slots i) carried.slot changes (parts.stand.each i low) carried.made carried.suits in
         subst (λ (xs : List (Option Seen)). AreParts (xl_told w) xs new) (sym carried.only)
         (parts-on w slots parts.stand (xl_told w) new refl i carried.slot (acted-on w tool s.now Xl begins _ refl i (carried_at m s.now p) new changes (known new told)) stands)
+
+    -- the same where the plan may have a home, of which this is told
+    pub parts-changed : (p : Plan) (home : Option PoolId) (next : List (Option Seen)) (new : Tool) → ((i : ℕ) → pool_of_plan s p ≡ Some i → i < 16) → verdict m s line ≡ Ok p → home ≡ option_map pool_number (pool_of_plan s p)
+        → ForSome home (λ i. HasCarried w s.now p i.0 slots next) → (home ≡ None → next ≡ slots) → new ≡ tool_of m (after_command m s.now line s) → AreParts (xl_told w) next new
+    parts-changed p None next new low says lives carried stays told = subst (λ (xs : List (Option Seen)). AreParts (xl_told w) xs new) (sym (stays refl)) (parts-homeless p new says (no-number _ (sym lives)) told)
+    parts-changed p (Some i) next new low says lives carried stays told = (let home = number-of _ i (sym lives) in parts-carried p i.0 next new (low i.0 home) says home (carried i refl) told)
 
 -- what is printed of the next command
 module _ (m : Machine) (s : State) (line : CommandLine) (is : slice_get m.work.commands s.next_command ≡ Some line) (k : ℕ) (next : k ≡ suc s.next_command) where
@@ -79,42 +88,24 @@ answer-is m s line v says = ap (λ (r : Result Plan Refusal). elim r as (λ _. R
 
 -- what a plan that keeps the pools makes of what stands at its place
 carried-keeps : (m : Machine) (t : ℕ) (p : Plan) → KeepsPools p → (o : Option Pool) → carried_at m t p o ≡ option_map (λ (pool : Pool). settled_pool t (changed_by m t p pool)) o
-carried-keeps m t (plan.PoolList pool answer) keeps o = refl
 carried-keeps m t (plan.PoolCreate i name kind answer) keeps o = absurd keeps
 carried-keeps m t (plan.PoolDestroy i answer) keeps o = absurd keeps
-carried-keeps m t (plan.PoolRename i name answer) keeps o = refl
-carried-keeps m t (plan.CpuAdd i core answer) keeps o = refl
-carried-keeps m t (plan.CpuRemove i core answer) keeps o = refl
-carried-keeps m t (plan.Migrate d i j answer) keeps o = refl
-carried-keeps m t (plan.Credit2Dom d weight percent answer) keeps o = refl
-carried-keeps m t (plan.Credit2Pool i limit answer) keeps o = refl
-carried-keeps m t (plan.RtdsDom d first count period budget extra answer) keeps o = refl
-carried-keeps m t (plan.Pause d answer) keeps o = refl
-carried-keeps m t (plan.Unpause d answer) keeps o = refl
-carried-keeps m t (plan.ArincSet i frame answer) keeps o = refl
-carried-keeps m t (plan.Pin d unit cores answer) keeps o = refl
+carried-keeps m t p keeps o = refl
 
 -- a place whose pool was changed and looked at
 looked-pool : (t : ℕ) (f : Pool → Pool) (o : Option Seen) → pool_at (changed_slot t (λ seen. f seen.pool) o) ≡ option_map (λ (pool : Pool). settled_pool t (f pool)) (pool_at o)
 looked-pool t f None = refl
 looked-pool t f (Some seen) = refl
 
-looked-suits : (m : Machine) (now t : ℕ) (f : Seen → Pool) (o : Option Seen) → t ≡ now → ForSome o (SlotSuits m now) → ForSome (changed_slot t f o) (SlotSuits m now)
-looked-suits m now t f None is suits x at = absurd (cc)
-looked-suits m now t f (Some seen) is suits x at =
-    let was : SlotSuits m now seen = suits seen refl in
-    let there : seen_at t (settled_pool t (f seen)) seen ≡ x = cc in
-    subst (SlotSuits m now) there (record { granularity = was.granularity; latest = (omega (arith, is)) })
-
-pub has-carried : (w : Told) (t : ℕ) (p : Plan) (i k : ℕ) (slots : List (Option Seen)) (read new : Option Seen) → KeepsPools p → t ≡ (state_of w).now → at_place slots i ≡ read → k ≡ i → ForSome (at_place slots i) (SlotSuits w.input (state_of w).now)
-    → new ≡ carried_slot w.input t p read → HasCarried w t p i slots (slice_set slots k new)
-has-carried w t p i k slots read new keeps now at is suits made =
+pub has-carried : (w : Told) (t : ℕ) (p : Plan) (i : ℕ) (slots : List (Option Seen)) (read new : Option Seen) → KeepsPools p → t ≡ (state_of w).now → at_place slots i ≡ read → ForSome (at_place slots i) (SlotSuits w.input (state_of w).now)
+    → new ≡ carried_slot w.input t p read → HasCarried w t p i slots (slice_set slots i new)
+has-carried w t p i slots read new keeps now at suits made =
     let same : new ≡ carried_slot w.input t p (at_place slots i) = made ∙ ap (carried_slot w.input t p) (sym at) in
     record {
       slot = new;
-      only = ap (λ (n : ℕ). slice_set slots n new) is;
+      only = refl;
       made = ap pool_at same ∙ looked-pool t (changed_by w.input t p) (at_place slots i) ∙ sym (carried-keeps w.input t p keeps (pool_at (at_place slots i)));
-      suits = subst (λ (o : Option Seen). ForSome o (SlotSuits w.input (state_of w).now)) (sym same) (looked-suits w.input (state_of w).now t (λ seen. changed_by w.input t p seen.pool) (at_place slots i) now suits);
+      suits = subst (λ (o : Option Seen). ForSome o (SlotSuits w.input (state_of w).now)) (sym same) (suits-seen w.input (state_of w).now t (λ seen. settled_pool t (changed_by w.input t p seen.pool)) now (at_place slots i) suits);
     }
 
 -- the same with an entry of that event at that moment

@@ -1,5 +1,5 @@
 -- The move of a core: what it makes of the place of its pool, and of what the tool knows.
-use Rattle.std.proofs.Common.{◌≡◌, ◌<◌, ◌∙◌, ℕ, zero, suc, Bool, true, false, List, [], ◌∷◌, length, map, refl, sym, ap, subst, arith, cond}
+use Rattle.std.proofs.Common.{◌≡◌, ◌<◌, ◌∙◌, ℕ, Bool, true, false, List, [], length, map, refl, sym, ap, subst, arith, cond}
 use Rattle.std.specs.Prelude.{◌||◌, Option, Some, None, is_some, option_map}
 use Rattle.std.specs.Option.{ForSome, IsSome}
 use Rattle.std.proofs.lemmas.List.{map-set}
@@ -9,7 +9,6 @@ use Rattle.sched_base.specs.declared.PoolId.{PoolId}
 use Rattle.sched_base.specs.declared.ResId.{ResId}
 use Rattle.sched_model.specs.declared.action.Action.{Action}
 use Rattle.sched_model.specs.declared.action.Action.TheVariants.{Moved}
-use Rattle.sched_model.specs.declared.config.SchedKind.{SchedKind}
 use Rattle.sched_model.specs.declared.event.Event.{Event}
 use Rattle.sched_model.specs.declared.event.Event.TheVariants as event
 use Rattle.sched_model.specs.declared.machine.Machine.{Machine}
@@ -18,32 +17,32 @@ use Rattle.sched_model.specs.declared.state.Pool.{Pool}
 use Rattle.sched_model.specs.declared.state.Resource.{Resource}
 use Rattle.sched_model.specs.declared.state.State.{State}
 use Rattle.sched_model.specs.Actions.{home_of_core}
-use Rattle.sched_model.specs.Commands.{is_kind}
 use Rattle.sched_model.specs.Machine.{after, enabled_at_home, event_of, free_ready, is_enabled}
-use Rattle.sched_model.specs.Places.{at_place, change_at, clear_at, put_at, test_at}
+use Rattle.sched_model.specs.Places.{at_place, clear_at, put_at, test_at}
 use Rattle.sched_model.specs.Pool.{enabled_in, settled_pool}
+use Rattle.sched_model.proofs.PlaceLemmas.{at_place-map}
 use Rattle.sched_laws.specs.StateLaws.{PoolsKeepTheirOwn}
 use Rattle.sched_laws.proofs.EachPlace.{found_at, is_empty, none_found, place_below}
-use Rattle.sched_laws.proofs.Lists.{some_is}
+use Rattle.sched_laws.proofs.Lists.{some_is, none_without}
 use Rattle.sched_laws.proofs.PoolsLaw.{pools_keep_their_own}
-use Rattle.journal_core.specs.Parts.{Outline, ToolPart, UnderWay, core_to, domain_to, under_way_of}
+use Rattle.journal_core.specs.Parts.{ToolPart, UnderWay, core_to, under_way_of}
 use Rattle.plain_pool.specs.Cores as plain
-use Rattle.cpupool.specs.Arrived.{EndsTheMove, action_of, after_arrival, but_for_free, core_home, domain_home, pools_after, size_at, with_core as with_core_flag, with_domain, without_domain}
+use Rattle.cpupool.specs.ToolArrival.{EndsTheMove, but_for_free}
 use Rattle.cpupool.specs.Steps.{move_of}
 use Rattle.cpupool.specs.Tool.{Tool, ends_of, tool_of}
 use Rattle.cpupool.specs.declared.moves.Move.{Move}
 use Rattle.cpupool.specs.declared.moves.Move.TheVariants as move
-use Rattle.cpupool.proofs.ArrivedLemmas.{arrived-seen, core_joins}
-use Rattle.cpupool.proofs.SubjectLemmas.{at_place-map, length-map}
+use Rattle.cpupool.proofs.ArrivedLemmas.{core_joins}
+use Rattle.cpupool.proofs.SubjectLemmas.{length-map}
 use Rattle.actor_laws.specs.First.{move_first}
 use Rattle.move_laws.specs.Moves.{HasOneMove}
 use Rattle.move_laws.proofs.Law.{has_one_move}
 use Rattle.tool_laws.specs.ToolSteps as steps
-use Rattle.tool_laws.specs.ToolSteps.{ChangesPlace, JoinSteps, LeaveSteps}
+use Rattle.tool_laws.specs.ToolSteps.{JoinSteps, LeaveSteps}
 use Rattle.tool_laws.proofs.Steps.{tool_steps}
 use Rattle.pool_core.specs.Seen as pools
 use Rattle.pool_core.specs.Seen.{IsNow, Seen, seen_at}
-use Rattle.pool_slots.specs.Counts.{KeepsCounts, in_use_of}
+use Rattle.pool_slots.specs.Counts.{KeepsCounts}
 use Rattle.pool_slots.specs.Told.{Told}
 use Rattle.pool_slots.specs.Places.{GoesOn, SlotSuits, StandsAt, state_of}
 use Rattle.pool_slots.proofs.Going.{early, range-of, state_of-is}
@@ -52,52 +51,9 @@ use Rattle.machine_parts.specs.Parts.{AreParts}
 use Rattle.machine_parts.proofs.AtPlaces.{no-home, no-number}
 use Rattle.machine_parts.proofs.Moving.{core-way, leaving-first}
 use Rattle.tool_acts.specs.Acts.{Begins, HasActedOn, told_event}
-use Rattle.tool_acts.proofs.Acting.{acted-on, stands-changed}
+use Rattle.tool_acts.proofs.Acting.{acted-on, stands-changed, suits-seen}
+use Rattle.tool_acts.proofs.Arriving.{keeps-moved}
 use Rattle.tool_acts.proofs.Stalling.{known-of, place-has}
-
--- a change that keeps the scheduler of each pool keeps how many pools of a scheduler there are
-in_use-changed : (kind : SchedKind) (i : ℕ) (f : Outline → Outline) (places : List (Option Outline)) → ((o : Outline) → (f o).kind ≡ o.kind) → in_use_of kind (change_at i f places) ≡ in_use_of kind places
-in_use-changed kind i f [] keeps = refl
-in_use-changed kind zero f (None ∷ places) keeps = refl
-in_use-changed kind zero f (Some o ∷ places) keeps = ap (λ (k : SchedKind). cond (is_kind kind k) (suc (in_use_of kind places)) (in_use_of kind places)) (keeps o)
-in_use-changed kind (suc i) f (None ∷ places) keeps = in_use-changed kind i f places keeps
-in_use-changed kind (suc i) f (Some o ∷ places) keeps = ap (λ (n : ℕ). cond (is_kind kind o.kind) (suc n) n) (in_use-changed kind i f places keeps)
-
--- and so does the end of a move
-in_use-after : (kind : SchedKind) (places : List (Option Outline)) (way : UnderWay) → in_use_of kind (pools_after places way) ≡ in_use_of kind places
-in_use-after kind places (core_to r (Some i)) = in_use-changed kind i (with_core_flag r true) places (λ o. refl)
-in_use-after kind places (core_to r None) = by_home (core_home places r)
-  where
-    by_home : (o : Option ℕ) → in_use_of kind (elim o as (λ _. List (Option Outline)) [ None ↦ places | Some i ↦ change_at i (with_core_flag r false) places ]) ≡ in_use_of kind places
-    by_home None = refl
-    by_home (Some i) = in_use-changed kind i (with_core_flag r false) places (λ o. refl)
-in_use-after kind places (domain_to d j) = by_home (domain_home places d)
-  where
-    by_size : (i : ℕ) (o : Option ℕ) → in_use_of kind (elim o as (λ _. List (Option Outline)) [ None ↦ places | Some vcpus ↦ change_at j (with_domain d vcpus) (change_at i (without_domain d) places) ]) ≡ in_use_of kind places
-    by_size i None = refl
-    by_size i (Some vcpus) = in_use-changed kind j (with_domain d vcpus) (change_at i (without_domain d) places) (λ o. refl) ∙ in_use-changed kind i (without_domain d) places (λ o. refl)
-
-    by_home : (o : Option ℕ)
-        → in_use_of kind (elim o as (λ _. List (Option Outline)) [ None ↦ places | Some i ↦ elim (size_at places i d) as (λ _. List (Option Outline)) [ None ↦ places | Some vcpus ↦ change_at j (with_domain d vcpus) (change_at i (without_domain d) places) ] ]) ≡ in_use_of kind places
-    by_home None = refl
-    by_home (Some i) = by_size i (size_at places i d)
-
--- what the tool keeps, by what is on its way
-abbrev arrived-by : Tool → Option UnderWay → Tool
-arrived-by tool o = elim o [ None ↦ tool | Some way ↦ record tool { part = record tool.part { pools = pools_after tool.part.pools way; under_way = None } } ]
-
-keeps-arrived : (tool : Tool) (o : Option UnderWay) → tool.part.under_way ≡ o → KeepsCounts tool.part (after_arrival tool).part
-keeps-arrived tool None is = subst (λ (x : Tool). KeepsCounts tool.part x.part) (sym (ap (arrived-by tool) is)) (record { in_use = λ kind. refl; commands = refl })
-keeps-arrived tool (Some way) is = subst (λ (x : Tool). KeepsCounts tool.part x.part) (sym (ap (arrived-by tool) is)) (record { in_use = λ kind. in_use-after kind tool.part.pools way; commands = refl })
-
--- the end of a move keeps the counts of the pools, whatever cores of no pool there are
-pub keeps-moved : (m : Machine) (s : State) (t : ℕ) (way : UnderWay) (free : List (Option (List Moment))) (old new : Tool) → under_way_of s ≡ Some way → EndsTheMove m s t (action_of way) → tool_of m s ≡ old
-    → new ≡ but_for_free free (tool_of m (after m s t (action_of way))) → KeepsCounts old.part new.part
-keeps-moved m s t way free old new is ends known left =
-    let tool : Tool = but_for_free free (tool_of m s) in
-    let same : new ≡ after_arrival tool = left ∙ sym (arrived-seen m s t way free is ends) in
-    let keeps : KeepsCounts tool.part (after_arrival tool).part = keeps-arrived tool tool.part.under_way refl in
-    subst (λ (x : Tool). KeepsCounts x.part new.part) known (subst (λ (x : Tool). KeepsCounts (tool_of m s).part x.part) (sym same) (record { in_use = keeps.in_use; commands = keeps.commands }))
 
 -- an action that may come begins where the parts stand
 pub parts-begin : (w : Told) (slots : List (Option Seen)) (tool : Tool) → AreParts w slots tool → (t : ℕ) (action : Action) → t ≡ (state_of w).now → is_enabled w.input (state_of w) (state_of w).now action ≡ true → Begins w tool t action
@@ -134,10 +90,6 @@ module _ (w : Told) (goes : GoesOn w) where
 
   pub own-of : PoolsKeepTheirOwn (state_of w)
   own-of = subst PoolsKeepTheirOwn (sym (state_of-is w)) (pools_keep_their_own w.input goes.checked w.history goes.run)
-
-none-there : {X : Type 0} (o : Option X) → is_some o ≡ false → o ≡ None
-none-there None none = refl
-none-there (Some x) none = absurd (cc)
 
 mapped-some : {X Y : Type 0} (f : X → Y) (o : Option X) (x : X) (y : Y) → o ≡ Some x → option_map f o ≡ Some y → y ≡ f x
 mapped-some f o x y at is = (let same : Some (f x) ≡ Some y = sym (ap (option_map f) at) ∙ is in cc)
@@ -176,15 +128,6 @@ module _ (w : Told) (tool : Tool) (t r : ℕ) (begins : Begins w tool t (Moved (
       let limit = early w begins.goes in
       let now = begins.now in
       record { after = omega (arith, late, now); early = omega (arith, limit, now) }
-
-  suits-at : (f : Seen → Pool) (o : Option Seen) → ForSome o (SlotSuits m s.now) → ForSome (option_map (λ (seen : Seen). seen_at t (f seen) seen) o) (SlotSuits m s.now)
-  suits-at f None suits x at = absurd (cc)
-  suits-at f (Some seen) suits x at =
-      let old = suits seen refl in
-      let g : x.granularity ≡ seen.granularity = cc in
-      let l : x.latest ≡ t = cc in
-      let now = begins.now in
-      record { granularity = g ∙ old.granularity; latest = omega (arith, l, now) }
 
   -- to the pool i
   module _ (i : ℕ) (way : tool.part.under_way ≡ Some (core_to r (Some i))) where
@@ -233,7 +176,7 @@ module _ (w : Told) (tool : Tool) (t r : ℕ) (begins : Begins w tool t (Moved (
             omega (arith, places, all, low)
 
         pub joins-absent : ForSome slot (λ seen. at_place seen.pool.resources r ≡ None)
-        joins-absent seen here = none-there (at_place seen.pool.resources r) (none_found 0 i (λ p. is_some (at_place p.resources r)) s.pools seen.pool ((own-of w begins.goes).free r coming joining.1) (pool-here seen here))
+        joins-absent seen here = none_without (at_place seen.pool.resources r) (none_found 0 i (λ p. is_some (at_place p.resources r)) s.pools seen.pool ((own-of w begins.goes).free r coming joining.1) (pool-here seen here))
 
         pub joins-siblings : ForSome slot (λ seen. length ends ≡ seen.granularity)
         joins-siblings seen here = ap length ends-joining ∙ ((range-of w begins.goes).free r coming joining.1).count ∙ sym (stands.suits seen here).granularity
@@ -248,7 +191,7 @@ module _ (w : Told) (tool : Tool) (t r : ℕ) (begins : Begins w tool t (Moved (
           pub stands-joined : StandsAt (told_event w t event) i new
           stands-joined =
               stands-changed w tool t (Moved (core_number r)) begins event ev i (option_map (steps.with_core s.now r coming)) slot new join-steps.own stands (ap pool_at made ∙ joined-at slot)
-              (subst (λ (o : Option Seen). ForSome o (SlotSuits m s.now)) (sym made) (suits-at (λ seen. settled_pool t (pools.with_core r ends seen.pool)) slot stands.suits))
+              (subst (λ (o : Option Seen). ForSome o (SlotSuits m s.now)) (sym made) (suits-seen m s.now t (λ seen. settled_pool t (pools.with_core r ends seen.pool)) begins.now slot stands.suits))
 
     -- the tool, which has the core no more
     module _ (new : Tool) (done : new ≡ but_for_free (clear_at r tool.part.free) (tool_of m left)) where
@@ -332,7 +275,7 @@ module _ (w : Told) (tool : Tool) (t r : ℕ) (begins : Begins w tool t (Moved (
         pub stands-left : StandsAt (told_event w t event) i new
         stands-left =
             stands-changed w tool t (Moved (core_number r)) begins event ev i (option_map (steps.without_core s.now r)) slot new leave-steps.own stands (ap pool_at made ∙ left-at slot)
-            (subst (λ (o : Option Seen). ForSome o (SlotSuits m s.now)) (sym made) (suits-at (λ seen. settled_pool t (pools.without_core r seen.pool)) slot stands.suits))
+            (subst (λ (o : Option Seen). ForSome o (SlotSuits m s.now)) (sym made) (suits-seen m s.now t (λ seen. settled_pool t (pools.without_core r seen.pool)) begins.now slot stands.suits))
 
     -- the tool, which has the core
     module _ (ends : List Moment) (is : ForSome slot (λ seen. option_map plain.ends_of (at_place seen.pool.resources r) ≡ Some ends)) (new : Tool) (done : new ≡ but_for_free (put_at r ends tool.part.free) (tool_of m left)) where

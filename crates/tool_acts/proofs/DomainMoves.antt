@@ -1,5 +1,5 @@
 -- The move of a domain: what it finds, what it leaves of its two pools, and what the tool knows after it.
-use Rattle.std.proofs.Common.{◌≡◌, ◌≢◌, ◌≤◌, ◌<◌, ◌∙◌, ◌+◌, ◌-◌, ℕ, zero, suc, Bool, true, false, List, [], ◌∷◌, length, map, refl, sym, ap, subst, arith, cond, get_or-set_other, inl, inr, length-set}
+use Rattle.std.proofs.Common.{◌≡◌, ◌≢◌, ◌≤◌, ◌<◌, ◌∙◌, ◌+◌, ◌-◌, ℕ, zero, suc, Bool, true, false, List, [], ◌∷◌, length, map, refl, sym, ap, subst, arith, cond, get_or-set_other, length-set}
 use Rattle.std.specs.Prelude.{Option, Some, None, is_some, option_map, slice_index_or, slice_set, unwrap_or}
 use Rattle.std.specs.Option.{ForSome}
 use Rattle.std.proofs.lemmas.List.Elements.{recursion_from_All}
@@ -8,6 +8,7 @@ use Rattle.sched_base.specs.declared.DomId.{DomId}
 use Rattle.sched_base.specs.declared.Moment.{Moment}
 use Rattle.sched_base.specs.declared.PoolId.{PoolId}
 use Rattle.sched_base.specs.declared.UnitId.{UnitId}
+use Rattle.sched_base.proofs.Lists.{each_get}
 use Rattle.sched_model.specs.declared.action.Action.TheVariants.{DomMoved}
 use Rattle.sched_model.specs.declared.config.DomParams.{DomParams}
 use Rattle.sched_model.specs.declared.config.SchedKind.{SchedKind}
@@ -26,23 +27,23 @@ use Rattle.sched_model.specs.declared.state.Records.TheVariants.{Credit2Pool, Rt
 use Rattle.sched_model.specs.declared.state.RtdsUnit.{RtdsUnit}
 use Rattle.sched_model.specs.declared.state.State.{State}
 use Rattle.sched_model.specs.Actions.{home_of_domain}
-use Rattle.sched_model.specs.Commands.{is_kind}
-use Rattle.sched_model.specs.Checked.{IsChecked, IsCheckedDomain, IsGranularity}
+use Rattle.sched_model.specs.CheckedMachine.{IsChecked, IsCheckedDomain}
 use Rattle.sched_model.specs.Machine.{after, event_of, home_pool, is_enabled, is_null, joined_by, left_by}
 use Rattle.sched_model.specs.Opening.{no_pool}
-use Rattle.sched_model.specs.Places.{at_place, change_at, numbers_from}
+use Rattle.sched_model.specs.Places.{at_place, numbers_from}
 use Rattle.sched_model.specs.Policy.{credit2_record, default_dom_params, kind_of, rtds_record}
 use Rattle.sched_model.specs.Pool.{enabled_in, event_in, settled_pool, unit_count, with_domain, without_domain}
 use Rattle.sched_model.specs.Runs.{IsRun, run_start}
 use Rattle.sched_laws.specs.StateLaws.{state_after}
 use Rattle.sched_laws.proofs.EachPlace.{is_empty, place_below}
-use Rattle.sched_laws.proofs.Lists.{is_some_at, some_is, test_at-some}
-use Rattle.sched_laws.proofs.Opened.{each_get}
+use Rattle.sched_laws.proofs.Lists.{is_some_at, some_is, test_at-some, same_read}
 use Rattle.sched_laws.proofs.PoolsLaw.{pools_keep_their_own}
+use Rattle.sched_laws.proofs.SiblingsLaw.{some_processor}
 use Rattle.sched_ops.specs.Conditions.{AreDomParams}
 use Rattle.sched_model.specs.Policy.{stored_of}
+use Rattle.sched_model.proofs.PlaceLemmas.{at_place-map}
 use Rattle.sched_ranges.specs.Ranges.{DomainInRange}
-use Rattle.journal_core.specs.Parts.{Outline, ToolPart, UnderWay, core_to, domain_to, outline_of, tool_of as part_of_tool, under_way_of}
+use Rattle.journal_core.specs.Parts.{Outline, ToolPart, UnderWay, domain_to, outline_of, tool_of as part_of_tool, under_way_of}
 use Rattle.part_laws.proofs.Alike.{mover_of}
 use Rattle.part_laws.proofs.Begun.{housed_opening}
 use Rattle.part_laws.proofs.Law.{housed_from, moves-away}
@@ -52,12 +53,10 @@ use Rattle.move_laws.proofs.Law.{has_one_move}
 use Rattle.move_laws.proofs.Whose.{moving_answers}
 use Rattle.tool_laws.specs.ToolSteps.{DomainSteps}
 use Rattle.tool_laws.proofs.Steps.{tool_steps}
-use Rattle.cpupool.specs.Arrived.{EndsTheMove, action_of, after_arrival, but_for_free, core_home, domain_home, handed_over, pools_after, size_at, with_core, with_domain as with_size, without_domain as without_size}
+use Rattle.cpupool.specs.ToolArrival.{EndsTheMove, action_of, but_for_free}
 use Rattle.cpupool.specs.Steps.{kind_at, move_of}
 use Rattle.cpupool.specs.Tool.{Tool, tool_of}
 use Rattle.cpupool.specs.declared.moves.Move.TheVariants as move
-use Rattle.cpupool.proofs.ArrivedLemmas.{arrived-seen}
-use Rattle.cpupool.proofs.SubjectLemmas.{at_place-map}
 use Rattle.unit_state.specs.declared.part.DomPart.{DomPart}
 use Rattle.unit_state.specs.Parts.{IsPart}
 use Rattle.unit_state.specs.Seen.{units_at}
@@ -65,20 +64,21 @@ use Rattle.pool_core.specs.Domains.{unit_id}
 use Rattle.pool_core.specs.Params.{stored_units}
 use Rattle.pool_core.specs.Seen.{IsNow, Seen, seen_at, with_spare}
 use Rattle.pool_core.proofs.Comers.{some_units}
-use Rattle.pool_slots.specs.Counts.{KeepsCounts, in_use_of}
+use Rattle.pool_slots.specs.Counts.{KeepsCounts}
 use Rattle.pool_slots.specs.Told.{Told}
 use Rattle.pool_slots.specs.Places.{GoesOn, SlotSuits, StandsAt, state_of}
 use Rattle.pool_slots.proofs.AtHome.{comes-there}
 use Rattle.pool_slots.proofs.Going.{early, range-of, state_of-is}
 use Rattle.pool_slots.proofs.Rooming.{some-out}
 use Rattle.pool_slots.proofs.Standing.{pool_at, stands-there}
-use Rattle.pool_slots.proofs.Stepping.{any-default}
 use Rattle.machine_parts.specs.Parts.{AreParts}
 use Rattle.machine_parts.proofs.AtPlaces.{domain_below}
 use Rattle.tool_acts.specs.Acts.{Begins, HasActed}
 use Rattle.tool_acts.specs.DomainMoves.{HasLeft, MovesDomain, looked_at, told_moved}
 use Rattle.tool_acts.specs.declared.domains.DomainRoute.{DomainRoute}
 use Rattle.tool_acts.proofs.Acting.{acted, parts-both, stands-next}
+use Rattle.tool_acts.proofs.Arriving.{keeps-moved}
+use Rattle.tool_acts.proofs.Stalling.{place-has}
 
 -- what the move of the domain d from the pool i to the pool j finds: the domain there, which is on its way; another pool, which is there
 -- and has no such domain; and nothing is on its way after it
@@ -200,11 +200,10 @@ told-other (NullPool kept) u x is other = absurd (other (cc))
 
 -- the pool of a slot that is there
 pub slot-there : (w : Told) (i : ℕ) (slot : Option Seen) → StandsAt w i slot → is_some (at_place (state_of w).pools i) ≡ true → (seen : Seen) × (slot ≡ Some seen) × (at_place (state_of w).pools i ≡ Some seen.pool)
-slot-there w i slot stands there = by_slot slot refl
-  where
-    by_slot : (o : Option Seen) → slot ≡ o → (seen : Seen) × (slot ≡ Some seen) × (at_place (state_of w).pools i ≡ Some seen.pool)
-    by_slot None is = absurd (let none : at_place (state_of w).pools i ≡ None = stands-there w i slot stands ∙ ap pool_at is in cc)
-    by_slot (Some seen) is = (seen, is, stands-there w i slot stands ∙ ap pool_at is)
+slot-there w i slot stands there =
+    let pool = some_is (at_place (state_of w).pools i) there in
+    let here = place-has w i slot stands pool.0 pool.1 in
+    (here.0, here.1, pool.1 ∙ ap (λ (p : Pool). Some p) (sym here.2))
 
 -- a place whose cores are looked at, where that is asked
 looked-pool : (looks : Bool) (t : ℕ) (seen : Seen) → pool_at (looked_at looks t (Some seen)) ≡ Some (cond looks (settled_pool t seen.pool) seen.pool)
@@ -214,41 +213,6 @@ looked-pool false t seen = refl
 looked-suits : (m : Machine) (now t : ℕ) → t ≡ now → (looks : Bool) (seen : Seen) → SlotSuits m now seen → ForSome (looked_at looks t (Some seen)) (SlotSuits m now)
 looked-suits m now t is true seen suits x at = some-out (SlotSuits m now) (seen_at t (settled_pool t seen.pool) seen) x at (record { granularity = suits.granularity; latest = omega (arith, is) })
 looked-suits m now t is false seen suits x at = some-out (SlotSuits m now) seen x at suits
-
-granular : (g : ℕ) → IsGranularity g → 0 < g
-granular g (inl one) = omega (arith, one)
-granular g (inr (inl two)) = omega (arith, two)
-granular g (inr (inr four)) = omega (arith, four)
-
--- what arrives leaves each pool its scheduler
-in_use-change : (kind : SchedKind) (i : ℕ) (f : Outline → Outline) → ((o : Outline) → (f o).kind ≡ o.kind) → (pools : List (Option Outline)) → in_use_of kind (change_at i f pools) ≡ in_use_of kind pools
-in_use-change kind zero f same [] = refl
-in_use-change kind (suc i) f same [] = refl
-in_use-change kind zero f same (None ∷ pools) = refl
-in_use-change kind zero f same (Some o ∷ pools) = ap (λ (k : SchedKind). cond (is_kind kind k) (suc (in_use_of kind pools)) (in_use_of kind pools)) (same o)
-in_use-change kind (suc i) f same (None ∷ pools) = in_use-change kind i f same pools
-in_use-change kind (suc i) f same (Some o ∷ pools) = ap (λ (n : ℕ). cond (is_kind kind o.kind) (suc n) n) (in_use-change kind i f same pools)
-
-in_use-arrived : (kind : SchedKind) (way : UnderWay) (pools : List (Option Outline)) → in_use_of kind (pools_after pools way) ≡ in_use_of kind pools
-in_use-arrived kind (core_to r None) pools = elim (core_home pools r) as (λ o. in_use_of kind (elim o as (λ _. List (Option Outline)) [ None ↦ pools | Some i ↦ change_at i (with_core r false) pools ]) ≡ in_use_of kind pools) [
-  | None ↦ refl
-  | Some i ↦ in_use-change kind i (with_core r false) (λ o. refl) pools
-]
-in_use-arrived kind (core_to r (Some i)) pools = in_use-change kind i (with_core r true) (λ o. refl) pools
-in_use-arrived kind (domain_to d j) pools = elim (domain_home pools d) as (λ o. in_use_of kind (elim o as (λ _. List (Option Outline)) [ None ↦ pools | Some i ↦ handed_over d i j pools ]) ≡ in_use_of kind pools) [
-  | None ↦ refl
-  | Some i ↦ elim (size_at pools i d) as (λ o. in_use_of kind (elim o as (λ _. List (Option Outline)) [ None ↦ pools | Some vcpus ↦ change_at j (with_size d vcpus) (change_at i (without_size d) pools) ]) ≡ in_use_of kind pools) [
-    | None ↦ refl
-    | Some vcpus ↦ in_use-change kind j (with_size d vcpus) (λ o. refl) (change_at i (without_size d) pools) ∙ in_use-change kind i (without_size d) (λ o. refl) pools
-  ]
-]
-
-pub counts-arrived : (tool : Tool) → KeepsCounts tool.part (after_arrival tool).part
-counts-arrived tool =
-    elim tool.part.under_way as (λ o. KeepsCounts tool.part (elim o as (λ _. Tool) [ None ↦ tool | Some way ↦ record tool { part = record tool.part { pools = pools_after tool.part.pools way; under_way = None } } ]).part) [
-      | None ↦ record { in_use = λ kind. refl; commands = refl }
-      | Some way ↦ record { in_use = λ kind. in_use-arrived kind way tool.part.pools; commands = refl }
-    ]
 
 -- the move of a route
 module _ (w : Told) (t : ℕ) (route : DomainRoute) (moves : MovesDomain w t route) where
@@ -325,7 +289,7 @@ module _ (w : Told) (t : ℕ) (route : DomainRoute) (moves : MovesDomain w t rou
         let range : DomainInRange m s.now d finds.domain = ((range-of w moves.goes).pools i finds.pool finds.pool_at).domains d finds.domain finds.domain_at in
         let file : IsCheckedDomain m.config range.config = each_get (IsCheckedDomain m.config) m.config.domains d range.config (recursion_from_All (IsCheckedDomain m.config) m.config.domains moves.goes.checked.config.domains) range.at in
         let some : 1 ≤ length finds.domain.vcpus = (let count = range.count in let guest = file.some_guest in omega (arith, count, guest)) in
-        let has : 1 ≤ unit_count m.config.granularity finds.domain = some_units m.config.granularity finds.domain (granular m.config.granularity moves.goes.checked.config.granularity) some in
+        let has : 1 ≤ unit_count m.config.granularity finds.domain = some_units m.config.granularity finds.domain (some_processor m.config.granularity moves.goes.checked.config.granularity) some in
         subst (λ (g : ℕ). 1 ≤ units_at g (at_place seen.pool.domains d)) (sym (stands.suits seen is).granularity)
         (subst (λ (o : Option Domain). 1 ≤ units_at m.config.granularity o) (sym (domain-in seen is)) has)
 
@@ -454,9 +418,7 @@ module _ (w : Told) (t : ℕ) (route : DomainRoute) (moves : MovesDomain w t rou
     acted-after new is = acted w (tool_of m s) t (DomMoved (domain_number d)) begins (event_of m s s.now (DomMoved (domain_number d))) refl i j new now-there others-there (known-after new is)
 
     pub counts-after : (new : Tool) → new ≡ but_for_free free (tool_of m after_it) → KeepsCounts tool.part new.part
-    counts-after new is =
-        let ended : after_arrival tool ≡ new = ap after_arrival (sym known) ∙ arrived-seen m s s.now (domain_to d j) free moves.way finds.ends ∙ sym is in
-        subst (λ (x : Tool). KeepsCounts tool.part x.part) ended (counts-arrived tool)
+    counts-after new is = keeps-moved m s s.now (domain_to d j) free tool new moves.way finds.ends known is
 
   -- the places of the two pools
   module _ (slots : List (Option Seen)) (tool : Tool) (parts : AreParts w slots tool) where
@@ -472,12 +434,12 @@ module _ (w : Told) (t : ℕ) (route : DomainRoute) (moves : MovesDomain w t rou
         omega (arith, low, places, count)
 
     pub from-stands : (default : Option Seen) → StandsAt w i (slice_index_or slots i default)
-    from-stands default = subst (StandsAt w i) (any-default slots i None default from-below) (parts.stand.each i (let low = from-below in let count = parts.stand.count in omega (arith, low, count)))
+    from-stands default = subst (StandsAt w i) (same_read slots i None default from-below) (parts.stand.each i (let low = from-below in let count = parts.stand.count in omega (arith, low, count)))
 
     pub to-stands : (new default : Option Seen) → StandsAt w j (slice_index_or (slice_set slots i new) j default)
     to-stands new default =
         let inside : j < length (slice_set slots i new) = (let low = to-below in let same = length-set slots i new in omega (arith, low, same)) in
-        let here : at_place slots j ≡ slice_index_or (slice_set slots i new) j default = sym (get_or-set_other slots i j new None finds.other) ∙ any-default (slice_set slots i new) j None default inside in
+        let here : at_place slots j ≡ slice_index_or (slice_set slots i new) j default = sym (get_or-set_other slots i j new None finds.other) ∙ same_read (slice_set slots i new) j None default inside in
         subst (StandsAt w j) here (parts.stand.each j (let low = to-below in let count = parts.stand.count in omega (arith, low, count)))
 
     pub parts-moved : (a b : Option Seen) (new : Tool) → HasActed w i j (told_moved w t route) new → StandsAt (told_moved w t route) i a → StandsAt (told_moved w t route) j b → AreParts (told_moved w t route) (slice_set (slice_set slots i a) j b) new

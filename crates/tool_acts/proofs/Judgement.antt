@@ -1,37 +1,27 @@
 -- What the next command is judged by, as the places of the pools tell it.
-use Rattle.std.proofs.Common.{◌≡◌, ◌∙◌, ◌<◌, ◌+◌, ℕ, zero, suc, List, [], ◌∷◌, length, refl, sym, ap, subst, arith}
-use Rattle.std.specs.Prelude.{Option, Some, None, map, option_map, slice_get}
+use Rattle.std.proofs.Common.{◌≡◌, ◌∙◌, ◌<◌, ℕ, zero, suc, List, [], ◌∷◌, refl, sym, ap, subst, arith}
+use Rattle.std.specs.Prelude.{Option, Some, None, map}
 use Rattle.std.specs.Option.{ForSome}
-use Rattle.std.proofs.lemmas.List.Elements.{recursion_from_All}
-use Rattle.sched_base.specs.Numbers.{span}
 use Rattle.sched_base.specs.declared.DomId.{DomId}
 use Rattle.sched_base.specs.declared.PoolId.{PoolId}
-use Rattle.sched_model.specs.declared.command.Command.{Command}
 use Rattle.sched_model.specs.declared.facts.Stored.{Stored}
-use Rattle.sched_model.specs.declared.facts.Stored.TheVariants as stored
 use Rattle.sched_model.specs.declared.facts.Subject.{Subject}
-use Rattle.sched_model.specs.declared.state.Credit2Domain.{Credit2Domain}
 use Rattle.sched_model.specs.declared.state.Domain.{Domain}
 use Rattle.sched_model.specs.declared.state.Pool.{Pool}
 use Rattle.sched_model.specs.declared.state.Records.{Records}
-use Rattle.sched_model.specs.declared.state.Records.TheVariants.{Credit2Pool, RtdsPool, ArincPool, NullPool}
-use Rattle.sched_model.specs.declared.state.RtdsUnit.{RtdsUnit}
 use Rattle.sched_model.specs.declared.state.State.{State}
-use Rattle.sched_model.specs.declared.work.CommandLine.{CommandLine}
-use Rattle.sched_model.specs.Checked.{IsCheckedCommandLine}
 use Rattle.sched_model.specs.Places.{at_place, numbers_from}
 use Rattle.sched_model.specs.Policy.{rate_of}
 use Rattle.sched_model.specs.Pool.{unit_count}
-use Rattle.sched_laws.specs.Each.{EachPlace}
+use Rattle.sched_laws.specs.EachPlace.{EachPlace}
 use Rattle.sched_laws.proofs.EachPlace.{place_below}
-use Rattle.sched_laws.proofs.Opened.{each_get}
-use Rattle.sched_records.specs.Records.{HasRecords, IsRecorded}
+use Rattle.sched_records.specs.Records.{HasRecords}
 use Rattle.sched_records.proofs.Law.{has_records}
 use Rattle.unit_state.specs.Seen as guests
 use Rattle.pool_core.specs.Domains.{unit_id}
 use Rattle.pool_core.specs.Params as params
 use Rattle.pool_core.specs.Seen.{Seen}
-use Rattle.cpupool.specs.Facts.{KeepsFacts, KeepsValues, rate_at, stored_from, stored_in, stored_at}
+use Rattle.cpupool.specs.Facts.{rate_at, stored_from, stored_in, stored_at}
 use Rattle.sched_model.specs.Policy.{stored_of}
 use Rattle.cpupool.specs.Tool.{tool_of}
 use Rattle.pool_slots.specs.Told.{Told}
@@ -90,13 +80,6 @@ no-units : (g : ℕ) (s : State) (d : Option DomId) → stored_at g s (record { 
 no-units g s None = refl
 no-units g s (Some d) = refl
 
--- a subject without a pool
-pub rate-nowhere : (s : State) (subject : Subject) → subject.pool ≡ None → 0 ≡ rate_at s subject
-rate-nowhere s subject none = sym (ap (λ (o : Option PoolId). rate_at s (record { pool = o; dom = subject.dom })) none)
-
-pub units-nowhere : (g : ℕ) (s : State) (subject : Subject) → subject.pool ≡ None → [] ≡ stored_at g s subject
-units-nowhere g s subject none = sym (ap (λ (o : Option PoolId). stored_at g s (record { pool = o; dom = subject.dom })) none ∙ no-units g s subject.dom)
-
 -- a subject with a pool, by its place
 module _ (w : Told) (slots : List (Option Seen)) (goes : GoesOn w) (all : AllStand w slots) (subject : Subject) (i : PoolId) (at : subject.pool ≡ Some i) where
   abbrev g : ℕ
@@ -137,44 +120,6 @@ module _ (w : Told) (slots : List (Option Seen)) (goes : GoesOn w) (all : AllSta
           some seen is ∙ ap (λ (k : ℕ). params.stored_in k seen.pool.domains seen.pool.scheduler.records subject.dom) suits.granularity in
           stored-in g seen.pool subject.dom values given ∙ sym (ap (λ (x : Option Seen). units_by g subject.dom (pool_at x)) is)
 
--- where each of the units has a value, so many are kept
-stored-count : (records : Records) (d first count : ℕ) → ((n : ℕ) → n < first + count → (x : Stored) × (stored_of records (unit_id d n) ≡ Some x)) → length (stored_from records d first count) ≡ count
-stored-count records d first zero has = refl
-stored-count records d first (suc count) has =
-    let here = has first (omega arith) in
-    let rest = stored-count records d (suc first) count (λ n low. has n (omega (arith, low))) in
-    ap (λ (o : Option Stored). length (elim o as (λ _. List Stored) [ None ↦ [] | Some x ↦ x ∷ stored_from records d (suc first) count ])) here.1 ∙ ap suc rest
-
-pub item_below : {X : Type 0} (xs : List X) (n : ℕ) → n < length xs → (y : X) × (slice_get xs n ≡ Some y)
-item_below [] n low = absurd (omega (arith, low))
-item_below (y ∷ xs) zero low = (y, refl)
-item_below (y ∷ xs) (suc n) low = item_below xs n (omega (arith, low))
-
-stored-each : (records : Records) (d count : ℕ) → IsRecorded records d count → (n : ℕ) → n < 0 + count → (x : Stored) × (stored_of records (unit_id d n) ≡ Some x)
-stored-each (Credit2Pool records) d count kept n low = (stored.Credit2 kept.domain.weight kept.domain.cap, ap (option_map (λ (x : Credit2Domain). stored.Credit2 x.weight x.cap)) kept.at)
-stored-each (RtdsPool domains) d count kept n low =
-    let item = item_below kept.records n (let same = kept.units in omega (arith, low, same)) in
-    let value : RtdsUnit → Stored = λ (x : RtdsUnit). stored.Rtds (span x.next_period) (span x.next_budget) x.next_extra in
-    (value item.0, ap (option_map value) (ap (λ (o : Option (List RtdsUnit)). elim o as (λ _. Option RtdsUnit) [ None ↦ None | Some units ↦ slice_get units n ]) kept.at ∙ item.1))
-stored-each (ArincPool records) d count kept n low = (stored.Arinc653, refl)
-stored-each (NullPool cores) d count kept n low = (stored.Null, refl)
-
-module _ (w : Told) (goes : GoesOn w) where
-  pub recorded : EachPlace (HasRecords w.input.config.granularity) (state_of w).pools
-  recorded = subst (λ (s : State). EachPlace (HasRecords w.input.config.granularity) s.pools) (sym (state_of-is w)) (has_records w.input goes.checked w.history goes.run)
-
-  values-kept : (d : ℕ) → KeepsValues w.input.config.granularity (state_of w) d
-  values-kept d i pool domain home there is =
-      let has = recorded i pool there in
-      let g = w.input.config.granularity in
-      record {
-        some_unit = has.some_unit d domain is;
-        all_units = stored-count pool.scheduler.records d 0 (unit_count g domain) (stored-each pool.scheduler.records d (unit_count g domain) (has.recorded d domain is));
-      }
-
-  pub facts-kept : (c : Command) → KeepsFacts w.input (state_of w) c
-  facts-kept c = λ d is. values-kept d.0
-
-  -- the next line with a command has passed the checks
-  pub line-checked : (line : CommandLine) → slice_get w.input.work.commands (state_of w).next_command ≡ Some line → IsCheckedCommandLine line
-  line-checked line is = each_get IsCheckedCommandLine w.input.work.commands (state_of w).next_command line (recursion_from_All IsCheckedCommandLine w.input.work.commands goes.checked.work.commands) is
+-- the schedulers keep records of all units
+pub recorded : (w : Told) → GoesOn w → EachPlace (HasRecords w.input.config.granularity) (state_of w).pools
+recorded w goes = subst (λ (s : State). EachPlace (HasRecords w.input.config.granularity) s.pools) (sym (state_of-is w)) (has_records w.input goes.checked w.history goes.run)

@@ -1,4 +1,5 @@
 pub mod Acting
+pub mod Arriving
 pub mod Judgement
 pub mod Taking
 pub mod Created

@@ -1,6 +1,6 @@
 -- The spare pools after the next command, and what the tool keeps.
 use Rattle.std.proofs.Common.{◌≡◌, ◌∙◌, ◌≤◌, ◌<◌, ℕ, suc, Bool, true, false, List, length, refl, sym, ap, subst, arith}
-use Rattle.std.specs.Prelude.{Option, Some, None, Ok, is_none, is_some, nat_le, option_map, slice_get, slice_set, ◌&&◌}
+use Rattle.std.specs.Prelude.{Option, Some, None, Ok, is_none, is_some, nat_le, option_map, slice_get, slice_index_or, slice_set, ◌&&◌}
 use Rattle.std.specs.Option.{ForSome, IsSome}
 use Rattle.std.proofs.lemmas.Option.{slice_get_within}
 use Rattle.sched_model.specs.declared.action.Action.TheVariants.{Xl}
@@ -17,14 +17,17 @@ use Rattle.sched_model.specs.Machine.{after_command, is_enabled, verdict}
 use Rattle.sched_model.specs.Opening.{most_pools}
 use Rattle.sched_model.specs.Places.{at_place, clear_at, put_at}
 use Rattle.sched_model.specs.Policy.{default_pool_params, kind_of}
-use Rattle.sched_laws.proofs.Bools.{and_right}
+use Rattle.sched_model.proofs.PlaceLemmas.{at_place-map}
+use Rattle.sched_base.proofs.Bools.{and_right}
+use Rattle.sched_laws.proofs.Lists.{same_read}
 use Rattle.sched_laws.proofs.EachPlace.{place_below}
+use Rattle.sched_laws.proofs.Sound.{none_is}
 use Rattle.journal_core.specs.Parts.{ToolPart, outline_of, under_way_of, tool_of as part_of_tool}
-use Rattle.cpupool.specs.Advanced.{after_advance, empty_outline}
+use Rattle.cpupool.specs.ToolAdvance.{after_advance, empty_outline}
 use Rattle.cpupool.specs.Steps.{command_comes}
 use Rattle.cpupool.specs.Tool.{Tool, tool_of}
 use Rattle.cpupool.proofs.AdvanceLemmas.{advanced-seen}
-use Rattle.cpupool.proofs.SubjectLemmas.{at_place-map, length-map}
+use Rattle.cpupool.proofs.SubjectLemmas.{length-map}
 use Rattle.cpupool.proofs.WayLemmas.{command-seen}
 use Rattle.pool_core.specs.Seen.{Seen, IsEmpty}
 use Rattle.pool_slots.specs.Counts.{AreSpares, in_use_of, makes_at}
@@ -38,8 +41,8 @@ use Rattle.machine_parts.specs.Parts.{AreParts}
 use Rattle.machine_parts.proofs.AtPlaces.{nothing-there, seen-there}
 use Rattle.tool_laws.specs.Plans.{Finds, FindsPool, HasNothing}
 use Rattle.tool_laws.specs.ToolSteps.{carried_at}
-use Rattle.tool_acts.specs.Carrying.{HasCarried, IsAccepted, KeepsPools, xl_told}
-use Rattle.tool_acts.specs.Making.{DestroysPool, HasGone, HasMade, MakesPool, MayGo}
+use Rattle.tool_acts.specs.CarriedPlans.{HasCarried, IsAccepted, KeepsPools, xl_told}
+use Rattle.tool_acts.specs.MadePools.{DestroysPool, HasGone, HasMade, MakesPool, MayGo}
 use Rattle.tool_acts.proofs.Carried.{parts-carried}
 use Rattle.tool_acts.proofs.Created.{line-makes}
 use Rattle.pool_slots.proofs.Keeping.{spares-created, spares-destroyed, spares-passed, spares-room}
@@ -51,16 +54,12 @@ record Comes (tool : Tool) : Type 0 where
   pub next : slice_get tool.commands tool.part.next_command ≡ Some line
   pub idle : tool.part.under_way ≡ None
 
-nothing : {X : Type 0} (o : Option X) → is_none o ≡ true → o ≡ None
-nothing None is = refl
-nothing (Some x) is = absurd (cc)
-
 comes : (tool : Tool) (t : ℕ) → command_comes tool t ≡ true → Comes tool
 comes tool t may = by_line (slice_get tool.commands tool.part.next_command) refl may
   where
     by_line : (o : Option CommandLine) → slice_get tool.commands tool.part.next_command ≡ o → (elim o as (λ _. Bool) [ None ↦ false | Some line ↦ nat_le line.at.0 t && is_none tool.part.under_way ]) ≡ true → Comes tool
     by_line None is e = absurd (cc)
-    by_line (Some line) is e = record { line = line; next = is; idle = nothing tool.part.under_way (and_right (nat_le line.at.0 t) (is_none tool.part.under_way) e) }
+    by_line (Some line) is e = record { line = line; next = is; idle = none_is tool.part.under_way (and_right (nat_le line.at.0 t) (is_none tool.part.under_way) e) }
 
 module _ (m : Machine) (s : State) (t : ℕ) (enabled : is_enabled m s t Xl ≡ true) where
   coming : Comes (tool_of m s)
@@ -83,20 +82,9 @@ module _ (m : Machine) (s : State) (t : ℕ) (enabled : is_enabled m s t Xl ≡ 
 
 -- a plan that keeps the pools leaves the outlines
 pub pools-kept : (tool : Tool) (p : Plan) → KeepsPools p → (after_advance tool p).part.pools ≡ tool.part.pools
-pools-kept tool (plan.PoolList pool answer) keeps = refl
 pools-kept tool (plan.PoolCreate i name kind answer) keeps = absurd keeps
 pools-kept tool (plan.PoolDestroy i answer) keeps = absurd keeps
-pools-kept tool (plan.PoolRename i name answer) keeps = refl
-pools-kept tool (plan.CpuAdd i core answer) keeps = refl
-pools-kept tool (plan.CpuRemove i core answer) keeps = refl
-pools-kept tool (plan.Migrate d i j answer) keeps = refl
-pools-kept tool (plan.Credit2Dom d weight percent answer) keeps = refl
-pools-kept tool (plan.Credit2Pool i limit answer) keeps = refl
-pools-kept tool (plan.RtdsDom d first count period budget extra answer) keeps = refl
-pools-kept tool (plan.Pause d answer) keeps = refl
-pools-kept tool (plan.Unpause d answer) keeps = refl
-pools-kept tool (plan.ArincSet i frame answer) keeps = refl
-pools-kept tool (plan.Pin d unit cores answer) keeps = refl
+pools-kept tool p keeps = refl
 
 -- after a command that is refused, and after one that keeps the pools
 module _ (m : Machine) (now : ℕ) (tool new : Tool) (shelves : Shelves) (are : AreSpares m now tool.part shelves) where
@@ -122,8 +110,14 @@ module _ (w : Told) (slots : List (Option Seen)) (tool : Tool) (parts : AreParts
     says : verdict m s accepted.line ≡ Ok (plan.PoolCreate i makes.name kind makes.answer)
     says = accepted.accepted ∙ ap (λ (q : Plan). Ok q) makes.is
 
-    pub new-low : i.0 < 16
+    new-low : i.0 < 16
     new-low = (let inside = found.0 in let places = (range-of w parts.goes).pool_places in omega (arith, inside, places))
+
+    pub new-below : i.0 < length slots
+    new-below = (let low = new-low in let count = parts.stand.count in omega (arith, low, count))
+
+    pub new-read : (default : Option Seen) → at_place slots i.0 ≡ slice_index_or slots i.0 default
+    new-read default = same_read slots i.0 None default new-below
 
     pub new-empty : at_place slots i.0 ≡ None
     new-empty = nothing-there w slots tool parts i.0 found.1
@@ -150,22 +144,22 @@ module _ (w : Told) (slots : List (Option Seen)) (tool : Tool) (parts : AreParts
       pub new-spare : 0 < length (shelf_of kind shelves).pools
       new-spare = spare-there m kind (part_of_tool s) (shelf_of kind shelves) (are-here.counts kind) i.0 no-outline outlines-inside all-places accepted.line accepted.next asks
 
-      module _ (left : Shelves) (k : ℕ) (is : k ≡ i.0) (slot : Option Seen) (made : HasMade m s.now kind shelves left slot) (new : Tool) (told : new ≡ tool_of m (after_command m s.now accepted.line s)) where
+      module _ (left : Shelves) (slot : Option Seen) (made : HasMade m s.now kind shelves left slot) (new : Tool) (told : new ≡ tool_of m (after_command m s.now accepted.line s)) where
         new-suits : ForSome slot (SlotSuits m s.now)
         new-suits x at =
             let here : made_seen m.config (default_pool_params kind) made.spare.latest ≡ x = (let was = made.made in cc) in
             subst (SlotSuits m s.now) here (record { granularity = refl; latest = made.suits.suits.latest })
 
-        new-carried : HasCarried w s.now p i.0 slots (slice_set slots k slot)
+        new-carried : HasCarried w s.now p i.0 slots (slice_set slots i.0 slot)
         new-carried = record {
           slot = slot;
-          only = ap (λ (n : ℕ). slice_set slots n slot) is;
+          only = refl;
           made = ap pool_at made.made ∙ sym (ap (λ (q : Plan). carried_at m s.now q (pool_at (at_place slots i.0))) makes.is);
           suits = new-suits;
         }
 
-        pub parts-new : AreParts (xl_told w) (slice_set slots k slot) new
-        parts-new = parts-carried w slots tool parts enabled accepted.line accepted.next p i.0 (slice_set slots k slot) new new-low accepted.accepted (ap (pool_of_plan s) makes.is) new-carried told
+        pub parts-new : AreParts (xl_told w) (slice_set slots i.0 slot) new
+        parts-new = parts-carried w slots tool parts enabled accepted.line accepted.next p i.0 (slice_set slots i.0 slot) new new-low accepted.accepted (ap (pool_of_plan s) makes.is) new-carried told
 
         advanced-new : new ≡ after_advance tool (plan.PoolCreate i makes.name kind makes.answer)
         advanced-new = advanced-is m s s.now enabled tool parts.known accepted.line p accepted.accepted new told ∙ ap (after_advance tool) makes.is
@@ -187,8 +181,14 @@ module _ (w : Told) (slots : List (Option Seen)) (tool : Tool) (parts : AreParts
     pub gone-there : IsSome (at_place s.pools i.0)
     gone-there = ap (λ (o : Option Pool). is_some o) gone.at
 
-    pub gone-low : i.0 < 16
+    gone-low : i.0 < 16
     gone-low = (let below = place_below s.pools i.0 gone.pool gone.at in let places = (range-of w parts.goes).pool_places in omega (arith, below, places))
+
+    pub gone-below : i.0 < length slots
+    gone-below = (let low = gone-low in let count = parts.stand.count in omega (arith, low, count))
+
+    pub gone-read : (default : Option Seen) → at_place slots i.0 ≡ slice_index_or slots i.0 default
+    gone-read default = same_read slots i.0 None default gone-below
 
     gone-seen : (seen : Seen) × (at_place slots i.0 ≡ Some seen) × (seen.pool ≡ gone.pool) × (seen.granularity ≡ m.config.granularity)
     gone-seen = seen-there w slots tool parts i.0 gone.pool gone.at
@@ -219,17 +219,17 @@ module _ (w : Told) (slots : List (Option Seen)) (tool : Tool) (parts : AreParts
             room = spares-room m s.now kind (part_of_tool s) shelves gone-are i.0 (outline_of gone.pool) gone-outline gone-kind;
           })
 
-      module _ (left : Shelves) (k : ℕ) (is : k ≡ i.0) (slot : Option Seen) (went : HasGone m s.now kind shelves left slot) (new : Tool) (told : new ≡ tool_of m (after_command m s.now accepted.line s)) where
-        gone-carried : HasCarried w s.now p i.0 slots (slice_set slots k slot)
+      module _ (left : Shelves) (slot : Option Seen) (went : HasGone m s.now kind shelves left slot) (new : Tool) (told : new ≡ tool_of m (after_command m s.now accepted.line s)) where
+        gone-carried : HasCarried w s.now p i.0 slots (slice_set slots i.0 slot)
         gone-carried = record {
           slot = slot;
-          only = ap (λ (n : ℕ). slice_set slots n slot) is;
+          only = refl;
           made = ap pool_at went.gone ∙ sym (ap (λ (q : Plan). carried_at m s.now q (pool_at (at_place slots i.0))) destroys.is);
           suits = λ x at. absurd (let none = went.gone in cc);
         }
 
-        pub parts-gone : AreParts (xl_told w) (slice_set slots k slot) new
-        parts-gone = parts-carried w slots tool parts enabled accepted.line accepted.next p i.0 (slice_set slots k slot) new gone-low accepted.accepted (ap (pool_of_plan s) destroys.is) gone-carried told
+        pub parts-gone : AreParts (xl_told w) (slice_set slots i.0 slot) new
+        parts-gone = parts-carried w slots tool parts enabled accepted.line accepted.next p i.0 (slice_set slots i.0 slot) new gone-low accepted.accepted (ap (pool_of_plan s) destroys.is) gone-carried told
 
         advanced-gone : new ≡ after_advance tool (plan.PoolDestroy i destroys.answer)
         advanced-gone = advanced-is m s s.now enabled tool parts.known accepted.line p accepted.accepted new told ∙ ap (after_advance tool) destroys.is

@@ -18,22 +18,23 @@ use Rattle.sched_model.specs.declared.state.Processor.{Processor}
 use Rattle.sched_model.specs.declared.state.State.{State}
 use Rattle.sched_model.specs.declared.work.StallLine.{StallLine}
 use Rattle.sched_model.specs.Actions.{change_pool, home_of_core}
-use Rattle.sched_model.specs.Checked.{IsCheckedStall}
+use Rattle.sched_model.specs.CheckedMachine.{IsCheckedStall}
 use Rattle.sched_model.specs.Machine.{after, after_stall, event_of, is_enabled, stall_end_of, with_stall_end}
 use Rattle.sched_model.specs.Opening.{core_count}
 use Rattle.sched_model.specs.Places.{at_place, change_at, change_item}
 use Rattle.sched_model.specs.Pool.{change_processor, processor_of}
-use Rattle.sched_laws.proofs.Bools.{clash}
+use Rattle.sched_model.proofs.PlaceLemmas.{at_place-map}
+use Rattle.sched_base.proofs.Bools.{clash}
+use Rattle.sched_base.proofs.Lists.{each_get}
 use Rattle.sched_laws.proofs.EachPlace.{found_at, none_found}
 use Rattle.sched_laws.proofs.Granularity.{by_granularity}
-use Rattle.sched_laws.proofs.Opened.{each_get}
+use Rattle.sched_laws.proofs.Lists.{same_read}
 use Rattle.journal_core.specs.Parts.{ToolPart}
 use Rattle.part_laws.proofs.Alike.{core_of}
 use Rattle.core_state.specs.Seen.{stall_until}
 use Rattle.cpupool.specs.Tool.{Tool, ends_of, tool_of}
-use Rattle.cpupool.proofs.SubjectLemmas.{at_place-map}
 use Rattle.tool_laws.specs.ToolSteps as steps
-use Rattle.tool_laws.specs.ToolSteps.{ChangesNoPool, ChangesPlace, StallSteps, end_of_stall, stall_end_in}
+use Rattle.tool_laws.specs.ToolSteps.{StallSteps, end_of_stall, stall_end_in}
 use Rattle.tool_laws.proofs.Moving.{IsKnown, known_in_runs}
 use Rattle.tool_laws.proofs.Steps.{tool_steps}
 use Rattle.pool_core.specs.Seen.{Seen, with_stall}
@@ -42,7 +43,6 @@ use Rattle.pool_slots.specs.Told.{Told}
 use Rattle.pool_slots.specs.Places.{AllStand, GoesOn, SlotSuits, StandsAt, state_of, with_pool}
 use Rattle.pool_slots.proofs.Going.{early, state_of-is}
 use Rattle.pool_slots.proofs.Standing.{pool_at, stands-there}
-use Rattle.pool_slots.proofs.Stepping.{any-default}
 use Rattle.machine_parts.specs.Parts.{AreParts}
 use Rattle.machine_parts.proofs.AtPlaces.{core_below, no-number, number-of}
 use Rattle.tool_acts.specs.Acts.{Begins, HasActedAlone, HasActedOn, told_event}
@@ -62,12 +62,11 @@ place-has w i (Some seen) stands pool at = (seen, refl, (let there = stands-ther
 abbrev pub counted_state : Told → State
 counted_state w = record (state_of w) { next_stall = suc (state_of w).next_stall }
 
--- the place that is read, told by its number as a length
-pub stands-read : (w : Told) (slots : List (Option Seen)) → AllStand w slots → (i n : ℕ) → n ≡ i → (default : Option Seen) → i < length slots → StandsAt w i (slice_index_or slots n default)
-stands-read w slots all i n is default low =
+-- the place that is read
+pub stands-read : (w : Told) (slots : List (Option Seen)) → AllStand w slots → (i : ℕ) (default : Option Seen) → i < length slots → StandsAt w i (slice_index_or slots i default)
+stands-read w slots all i default low =
     let few : i < 16 = (let count = all.count in omega (arith, low, count)) in
-    let read : at_place slots i ≡ slice_index_or slots n default = any-default slots i None default low ∙ ap (λ (k : ℕ). slice_index_or slots k default) (sym is) in
-    subst (StandsAt w i) read (all.each i few)
+    subst (StandsAt w i) (same_read slots i None default low) (all.each i few)
 
 -- the later end, where the processor is there
 until-is : (o : Option Processor) (end : ℕ) → stall_until o (moment end) ≡ moment (elim o as (λ _. ℕ) [ None ↦ end | Some q ↦ max q.stall_end.0 end ])

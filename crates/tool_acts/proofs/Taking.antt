@@ -2,7 +2,6 @@
 use Rattle.std.proofs.Common.{◌≡◌, ◌∙◌, ◌≤◌, ◌<◌, ◌+◌, ℕ, zero, suc, true, List, [], ◌∷◌, length, refl, sym, ap, subst, arith, ◌⊎◌, inl, inr}
 use Rattle.std.specs.Prelude.{Option, Some, None, is_some, option_map, slice_get}
 use Rattle.std.specs.Option.{ForSome}
-use Rattle.sched_base.specs.Numbers.{domain as domain_number}
 use Rattle.sched_base.specs.declared.Span.{Span}
 use Rattle.sched_model.specs.declared.config.ParamChange.TheVariants as changes
 use Rattle.sched_model.specs.declared.config.SchedKind.{SchedKind}
@@ -10,7 +9,6 @@ use Rattle.sched_model.specs.declared.config.SchedKind.TheVariants as kinds
 use Rattle.sched_model.specs.declared.machine.Machine.{Machine}
 use Rattle.sched_model.specs.declared.plan.Plan.{Plan}
 use Rattle.sched_model.specs.declared.plan.Plan.TheVariants as plan
-use Rattle.sched_base.specs.declared.UnitId.{UnitId}
 use Rattle.sched_model.specs.declared.state.Domain.{Domain}
 use Rattle.sched_model.specs.declared.state.Records.{Records}
 use Rattle.sched_model.specs.declared.state.Records.TheVariants.{Credit2Pool, RtdsPool, ArincPool, NullPool}
@@ -27,7 +25,9 @@ use Rattle.sched_base.specs.declared.DomId.{DomId}
 use Rattle.sched_laws.proofs.EachPlace.{place_below}
 use Rattle.sched_laws.proofs.Fits.{RtdsFits}
 use Rattle.sched_laws.proofs.Judged.{Fits, verdict_fits}
+use Rattle.sched_laws.proofs.Lists.{item_below, some_is, some_same}
 use Rattle.sched_records.specs.Records.{IsRecorded}
+use Rattle.pool_core.specs.Domains.{unit_id}
 use Rattle.pool_core.specs.Params.{AreGiven}
 use Rattle.sched_model.specs.declared.state.Scheduler.{Scheduler}
 use Rattle.sched_ops.specs.Conditions.{IsCap, IsChange, IsWeight, has_joined}
@@ -41,26 +41,15 @@ use Rattle.pool_slots.proofs.Going.{range-of}
 use Rattle.pool_slots.proofs.Standing.{pool_at, stands-there}
 use Rattle.tool_laws.specs.Plans.{Finds, FindsDomain, FindsPool, IsThere}
 use Rattle.tool_laws.proofs.Judged.{plan_finds}
-use Rattle.tool_acts.specs.Carrying.{IsAccepted, KeepsPools, Takes, TakesChange, TakesUnits}
-use Rattle.tool_acts.proofs.Judgement.{item_below, recorded}
-
--- the unit n of the domain d
-abbrev unit_at : ℕ → ℕ → UnitId
-unit_at d n = record { dom = domain_number d; n = n }
+use Rattle.tool_acts.specs.CarriedPlans.{IsAccepted, KeepsPools, Takes, TakesChange, TakesUnits}
+use Rattle.tool_acts.proofs.Judgement.{recorded}
 
 -- the pool that a plan names, or the home of its domain, is there
-pub some-is : {X : Type 0} (o : Option X) → is_some o ≡ true → (x : X) × (o ≡ Some x)
-some-is None is = absurd (cc)
-some-is (Some x) is = (x, refl)
-
 there : (s : State) (i : ℕ) → IsThere s i → (pool : Pool) × (at_place s.pools i ≡ Some pool)
-there s i is = some-is (at_place s.pools i) is
-
-same-number : {X : Type 0} (a b : X) → Some a ≡ Some b → a ≡ b
-same-number a b is = cc
+there s i is = some_is (at_place s.pools i) is
 
 of_pool : (s : State) (k i : ℕ) → (pool : Pool) × (at_place s.pools k ≡ Some pool) → Some k ≡ Some i → (pool : Pool) × (at_place s.pools i ≡ Some pool)
-of_pool s k i found is = (found.0, subst (λ n. at_place s.pools n ≡ Some found.0) (same-number k i is) found.1)
+of_pool s k i found is = (found.0, subst (λ n. at_place s.pools n ≡ Some found.0) (some_same is) found.1)
 
 of_domain : (s : State) (d i : ℕ) (P : Pool → Domain → Type 0) → FindsDomain s d P → home_of_domain s d ≡ Some i → (pool : Pool) × (at_place s.pools i ≡ Some pool)
 of_domain s d i P finds home = of_pool s finds.home i (finds.pool, finds.at) (sym finds.is_home ∙ home)
@@ -117,7 +106,7 @@ pin-change kinds.Arinc653 scheduler d unit cores joined low = (joined, low)
 pin-change kinds.Null scheduler d unit cores joined low = (joined, low)
 
 -- an RTDS unit of the domain has a record, so some units are changed where some are named
-unit-there : (records : Records) (d count n : ℕ) → kind_of records ≡ kinds.Rtds → IsRecorded records d count → n < count → (x : RtdsUnit) × (rtds_record records (unit_at d n) ≡ Some x)
+unit-there : (records : Records) (d count n : ℕ) → kind_of records ≡ kinds.Rtds → IsRecorded records d count → n < count → (x : RtdsUnit) × (rtds_record records (unit_id d n) ≡ Some x)
 unit-there (Credit2Pool records) d count n kind kept low = absurd (cc)
 unit-there (RtdsPool domains) d count n kind kept low =
     let item = item_below kept.records n (let same = kept.units in omega (arith, low, same)) in
@@ -125,7 +114,7 @@ unit-there (RtdsPool domains) d count n kind kept low =
 unit-there (ArincPool records) d count n kind kept low = absurd (cc)
 unit-there (NullPool cores) d count n kind kept low = absurd (cc)
 
-some-units : (pool : Pool) (d first count : ℕ) (x : RtdsUnit) → rtds_record pool.scheduler.records (unit_at d first) ≡ Some x → 0 < count → rtds_units pool d first count ≡ [] → ⊥
+some-units : (pool : Pool) (d first count : ℕ) (x : RtdsUnit) → rtds_record pool.scheduler.records (unit_id d first) ≡ Some x → 0 < count → rtds_units pool d first count ≡ [] → ⊥
 some-units pool d first zero x is some none = omega (arith, some)
 some-units pool d first (suc count) x is some none =
     let there : rtds_units pool d first (suc count) ≡ x ∷ rtds_units pool d (suc first) count =
@@ -147,7 +136,7 @@ module _ (w : Told) (goes : GoesOn w) (i : ℕ) (seen : Seen) (stands : StandsAt
 
   -- the pool that was found is this one
   same-pool : (pool : Pool) (k : ℕ) → at_place s.pools k ≡ Some pool → k ≡ i → pool ≡ seen.pool
-  same-pool pool k at is = same-number pool seen.pool (sym at ∙ ap (at_place s.pools) is ∙ here)
+  same-pool pool k at is = some_same (sym at ∙ ap (at_place s.pools) is ∙ here)
 
   module _ (d : ℕ) (domain : Domain) (has : at_place seen.pool.domains d ≡ Some domain) where
     known : (x : List Cores) × (at_place seen.pool.scheduler.affinity d ≡ Some x) × (length x ≡ unit_count seen.granularity domain)
@@ -167,7 +156,7 @@ module _ (w : Told) (goes : GoesOn w) (i : ℕ) (seen : Seen) (stands : StandsAt
 
   found : (d : ℕ) (P : Pool → Domain → Type 0) → FindsDomain s d P → home_of_domain s d ≡ Some i → Found d P
   found d P finds home =
-      let same : finds.pool ≡ seen.pool = same-pool finds.pool finds.home finds.at (same-number finds.home i (sym finds.is_home ∙ home)) in
+      let same : finds.pool ≡ seen.pool = same-pool finds.pool finds.home finds.at (some_same (sym finds.is_home ∙ home)) in
       record {
         domain = finds.domain;
         has = subst (λ (pool : Pool). at_place pool.domains d ≡ Some finds.domain) same finds.has;
@@ -175,7 +164,7 @@ module _ (w : Told) (goes : GoesOn w) (i : ℕ) (seen : Seen) (stands : StandsAt
       }
 
   met : (k : ℕ) (P : Pool → Type 0) → FindsPool s k P → Some k ≡ Some i → P seen.pool
-  met k P finds home = subst P (same-pool finds.pool k finds.at (same-number k i home)) finds.meets
+  met k P finds home = subst P (same-pool finds.pool k finds.at (some_same home)) finds.meets
 
   takes-dom : (d : DomId) (weight cap : Option ℕ) → FindsDomain s d.0 (λ pool domain. (kind_of pool.scheduler.records ≡ kinds.Credit2) × ForSome weight IsWeight × ForSome cap IsCap) → home_of_domain s d.0 ≡ Some i → TakesChange seen (changes.Dom d weight cap)
   takes-dom d weight cap finds home =
@@ -211,20 +200,12 @@ module _ (w : Told) (goes : GoesOn w) (i : ℕ) (seen : Seen) (stands : StandsAt
       }
 
   plan-takes : (p : Plan) → Finds m s p → Fits s p → pool_of_plan s p ≡ Some i → Takes seen p
-  plan-takes (plan.PoolList pool answer) finds fits home = tt
-  plan-takes (plan.PoolCreate k name kind answer) finds fits home = tt
-  plan-takes (plan.PoolDestroy k answer) finds fits home = tt
-  plan-takes (plan.PoolRename k name answer) finds fits home = tt
-  plan-takes (plan.CpuAdd k core answer) finds fits home = tt
-  plan-takes (plan.CpuRemove k core answer) finds fits home = tt
-  plan-takes (plan.Migrate d k j answer) finds fits home = tt
   plan-takes (plan.Credit2Dom d weight cap answer) finds fits home = takes-dom d weight cap finds home
   plan-takes (plan.Credit2Pool k limit answer) finds fits home = takes-rate k.0 limit finds home
   plan-takes (plan.RtdsDom d first count period budget extra answer) finds fits home = takes-units d.0 first count period budget _ finds home (fits i seen.pool home here)
-  plan-takes (plan.Pause d answer) finds fits home = tt
-  plan-takes (plan.Unpause d answer) finds fits home = tt
   plan-takes (plan.ArincSet k frame answer) finds fits home = (let meets = met k.0 _ finds home in subst (λ (kind : SchedKind). IsChange kind seen.pool.scheduler (changes.Frame frame)) (sym meets.0) meets.1)
   plan-takes (plan.Pin d unit cores answer) finds fits home = takes-pin d unit cores finds home
+  plan-takes p finds fits home = tt
 
   pub takes-plan : (p : Plan) → IsAccepted w p → pool_of_plan s p ≡ Some i → Takes seen p
   takes-plan p accepted home = plan-takes p (accepted-finds w goes p accepted) (verdict_fits m s accepted.line p accepted.accepted) home

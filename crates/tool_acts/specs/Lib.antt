@@ -1,5 +1,5 @@
 pub mod Acts
-pub mod Carrying
-pub mod Making
+pub mod CarriedPlans
+pub mod MadePools
 pub mod DomainMoves
 pub mod Stalls

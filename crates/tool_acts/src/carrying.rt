@@ -1,7 +1,8 @@
 //! An accepted command, carried out on the place of its pool. After each the cores of the pool are looked at, also where nothing changed.
 
-ghost use Rattle.std.specs.Prelude.{◌≡◌, ◌==◌, None, Some, if◌then◌else◌};
+ghost use Rattle.std.specs.Prelude.{◌≡◌, ◌==◌, None, Some, option_map, if◌then◌else◌};
 ghost use Rattle.std.specs.Option.{ForSome, IsSome};
+ghost use Rattle.sched_base.specs.Numbers.{pool as pool_number};
 ghost use Rattle.sched_model.specs.declared.config.ParamChange.TheVariants as changes;
 ghost use Rattle.sched_model.specs.declared.state.Pool.{Pool};
 ghost use Rattle.sched_model.specs.Commands.{pool_of_plan, set_rtds};
@@ -10,12 +11,12 @@ ghost use Rattle.sched_model.specs.Pool.{set_leaving, set_moving, set_params, un
 ghost use Rattle.pool_core.specs.Params.{AreGiven};
 ghost use Rattle.pool_core.specs.Seen.{IsNow};
 ghost use Rattle.pool_slots.specs.Places.{AllStand, GoesOn, SlotSuits, StandsAt, state_of};
-ghost use Rattle.tool_acts.specs.Carrying.{HasCarried, IsAccepted, KeepsPools, Takes, TakesChange, TakesUnits, carried_slot, changed_slot};
+ghost use Rattle.tool_acts.specs.CarriedPlans.{HasCarried, IsAccepted, KeepsPools, Takes, TakesChange, TakesUnits, carried_slot, changed_slot};
 
-use pool_core::RtdsGiven;
 use pool_slots::{PoolSlot, Trail};
 use sched_base::{DomId, Moment, PoolId, ResId};
 use sched_model::config::ParamChange;
+use sched_model::facts::RtdsGiven;
 use sched_model::plan::Plan;
 
 /// A core of the pool is leaving.
@@ -109,14 +110,18 @@ fn carry(slot: &mut PoolSlot, at: &Trail, plan: Plan, t: Moment)
             budget,
             extra,
             ..
-        } => {
-            let given = RtdsGiven {
+        } => set_units(
+            slot,
+            dom,
+            first,
+            count,
+            RtdsGiven {
                 period,
                 budget,
                 extra,
-            };
-            set_units(slot, dom, first, count, given, t);
-        }
+            },
+            t,
+        ),
         Plan::Pause { dom, .. } => slot.pause(dom, t),
         Plan::Unpause { dom, .. } => unpause(slot, at, dom, t),
         Plan::ArincSet { frame, .. } => slot.set_params(&ParamChange::Frame { frame }, t),
@@ -143,15 +148,24 @@ fn carry_kept(slot: &mut PoolSlot, at: &Trail, i: u8, plan: Plan, t: Moment)
     carry(slot, at, plan, t);
 }
 
-/// The same among the places of all pools.
-pub(crate) fn carry_among(slots: &mut [PoolSlot], at: &Trail, i: PoolId, plan: Plan, t: Moment)
+/// The same among the places of all pools, where the plan has a pool.
+pub(crate) fn carry_among(
+    slots: &mut [PoolSlot],
+    at: &Trail,
+    home: Option<PoolId>,
+    plan: Plan,
+    t: Moment,
+)
     requires goes { GoesOn at.now }
     requires now { t.0 ≡ (state_of at.now).now }
     requires stand { AllStand at.now slots.old }
     requires accepted { IsAccepted at.now plan }
-    requires home { pool_of_plan (state_of at.now) plan ≡ Some i.0 }
+    requires home { home ≡ option_map pool_number (pool_of_plan (state_of at.now) plan) }
     requires keeps { KeepsPools plan }
-    ensures { HasCarried at.now t.0 plan i.0 slots.old slots.new }
+    ensures some { ForSome home (λ i. HasCarried at.now t.0 plan i.0 slots.old slots.new) }
+    ensures none { home ≡ None → slots.new ≡ slots.old }
 {
-    carry_kept(&mut slots[usize::from(i.0)], at, i.0, plan, t);
+    if let Some(i) = home {
+        carry_kept(&mut slots[i.0 as usize], at, i.0, plan, t);
+    }
 }

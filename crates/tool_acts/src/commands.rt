@@ -4,7 +4,7 @@ ghost use Rattle.std.specs.Prelude.{◌≡◌, None, true, false, option_map, su
 ghost use Rattle.std.specs.Option.{ForSome, IsSome};
 ghost use Rattle.sched_base.specs.Numbers.{pool as pool_number};
 ghost use Rattle.sched_model.specs.declared.action.Action.TheVariants.{Stall, Xl};
-ghost use Rattle.sched_model.specs.Commands.{pool_of_plan, reply_of as reply_of_spec};
+ghost use Rattle.sched_model.specs.Commands.{pool_of_plan};
 ghost use Rattle.sched_model.specs.Machine.{event_of, is_enabled};
 ghost use Rattle.sched_model.specs.Places.{at_place};
 ghost use Rattle.sched_model.specs.Policy.{kind_of as kind_of_spec};
@@ -13,12 +13,13 @@ ghost use Rattle.pool_slots.specs.Counts.{AreSpares};
 ghost use Rattle.pool_slots.specs.Places.{state_of};
 ghost use Rattle.machine_parts.specs.Parts.{AreParts};
 ghost use Rattle.tool_acts.specs.Acts.{told_event};
-ghost use Rattle.tool_acts.specs.Carrying.{IsAccepted, KeepsPools, xl_told};
-ghost use Rattle.tool_acts.specs.Making.{DestroysPool, MakesPool};
+ghost use Rattle.tool_acts.specs.CarriedPlans.{IsAccepted, KeepsPools, xl_told};
+ghost use Rattle.tool_acts.specs.MadePools.{DestroysPool, MakesPool};
 
 use crate::carrying::carry_among;
 use crate::making::{create, destroy};
 use crate::verdicts::{judged, verdict_of};
+use cpupool::judge::reply_of;
 use cpupool::{ToolEvent, ToolState};
 use pool_slots::{PoolSlot, Spares, Trail};
 use sched_base::{Moment, PoolId};
@@ -26,28 +27,6 @@ use sched_model::command::{Command, Which};
 use sched_model::config::SchedKind;
 use sched_model::event::{Event, Reply};
 use sched_model::plan::Plan;
-
-/// The answer to an accepted command.
-fn reply_of(plan: &Plan) -> Reply
-    ensures { result ≡ reply_of_spec plan.now }
-{
-    match plan {
-        Plan::PoolList { reply, .. } => *reply,
-        Plan::PoolCreate { reply, .. } => *reply,
-        Plan::PoolDestroy { reply, .. } => *reply,
-        Plan::PoolRename { reply, .. } => *reply,
-        Plan::CpuAdd { reply, .. } => *reply,
-        Plan::CpuRemove { reply, .. } => *reply,
-        Plan::Migrate { reply, .. } => *reply,
-        Plan::Credit2Dom { reply, .. } => *reply,
-        Plan::Credit2Pool { reply, .. } => *reply,
-        Plan::RtdsDom { reply, .. } => *reply,
-        Plan::Pause { reply, .. } => *reply,
-        Plan::Unpause { reply, .. } => *reply,
-        Plan::ArincSet { reply, .. } => *reply,
-        Plan::Pin { reply, .. } => *reply,
-    }
-}
 
 /// The pool whose cores are looked at after the command: the one that it names, or the home of the domain that it names.
 fn home_of_plan(tool: &ToolState, at: &Trail, plan: &Plan) -> Option<PoolId>
@@ -111,7 +90,7 @@ fn accept_new(
     ensures parts { AreParts (xl_told at.now) slots.new tool.new }
     ensures spares { AreSpares at.now.input (state_of at.now).now tool.new.part spares.new }
 {
-    create(&mut slots[usize::from(i.0)], spares, at, kind);
+    create(&mut slots[i.0 as usize], spares, at, kind);
     tool.advance(plan);
 }
 
@@ -133,7 +112,7 @@ fn accept_end(
     ensures spares { AreSpares at.now.input (state_of at.now).now tool.new.part spares.new }
 {
     let kind = kind_of(slots, tool, at, i);
-    destroy(&mut slots[usize::from(i.0)], spares, at, i.0, kind);
+    destroy(&mut slots[i.0 as usize], spares, at, i.0, kind);
     tool.advance(plan);
 }
 
@@ -150,9 +129,7 @@ fn accept_change(slots: &mut [PoolSlot], tool: &mut ToolState, at: &Trail, plan:
 {
     let home = home_of_plan(tool, at, &plan);
     tool.advance(&plan);
-    if let Some(i) = home {
-        carry_among(slots, at, i, plan, t);
-    }
+    carry_among(slots, at, home, plan, t);
 }
 
 /// The next command is accepted, with this plan.

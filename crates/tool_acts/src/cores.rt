@@ -84,7 +84,7 @@ pub fn move_core(
 {
     match tool.moving() {
         Some(Move::Res { to: Some(i), .. }) => join_core(
-            &mut slots[usize::from(i.0)],
+            &mut slots[i.0 as usize],
             tool,
             at,
             r,
@@ -118,5 +118,5 @@ fn leave_home(
     let Some(i) = tool.home_of_core(r) else {
         unreachable!();
     };
-    leave_core(&mut slots[usize::from(i.0)], tool, at, r, i, t)
+    leave_core(&mut slots[i.0 as usize], tool, at, r, i, t)
 }

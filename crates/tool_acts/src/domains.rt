@@ -177,7 +177,7 @@ pub fn move_domain(
     ensures counts { KeepsCounts tool.old.part tool.new.part }
 {
     let route = route_of(tool, at, d, t);
-    let part = leave_pool(&mut slots[usize::from(route.from.0)], at, route, t);
-    join_pool(&mut slots[usize::from(route.to.0)], at, route, part, t);
+    let part = leave_pool(&mut slots[route.from.0 as usize], at, route, t);
+    join_pool(&mut slots[route.to.0 as usize], at, route, part, t);
     end_move(tool, at, route, t)
 }

@@ -5,9 +5,9 @@ ghost use Rattle.std.specs.List.{All};
 ghost use Rattle.std.specs.Option.{ForSome, IsSome};
 ghost use Rattle.pool_slots.specs.Places.{GoesOn, StandsAt, state_of};
 ghost use Rattle.pool_slots.specs.Spares.{IsSpare, shelf_of};
-ghost use Rattle.tool_acts.specs.Making.{HasGone, HasMade, MayGo};
+ghost use Rattle.tool_acts.specs.MadePools.{HasGone, HasMade, MayGo};
 
-use plain_opening::spare::default_params;
+use plain_policy::params::default_pool_params;
 use pool_slots::{PoolSlot, Spares, Trail};
 use sched_model::config::SchedKind;
 
@@ -20,7 +20,7 @@ pub(crate) fn create(slot: &mut PoolSlot, spares: &mut Spares, at: &Trail, kind:
     ensures { HasMade at.now.input (state_of at.now).now kind spares.old spares.new slot.new }
 {
     let spare = spares.take(kind);
-    slot.open_with(at, spare, &default_params(kind));
+    slot.open_with(at, spare, &default_pool_params(kind));
 }
 
 /// The pool of the place i, which has this scheduler and neither a domain nor a core, becomes a spare one.

@@ -57,6 +57,6 @@ pub fn stall(slots: &mut [PoolSlot], tool: &mut ToolState, at: &Trail, g: u8, t:
     let line = tool.take_stall();
     match tool.home_of_core(ResId(line.cpu.0 / g)) {
         None => stall_in_none(tool, at, line, t),
-        Some(i) => stall_in(&mut slots[usize::from(i.0)], at, i.0, line, t),
+        Some(i) => stall_in(&mut slots[i.0 as usize], at, i.0, line, t),
     }
 }

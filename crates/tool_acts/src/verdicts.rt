@@ -1,7 +1,7 @@
 //! What is answered to the next command, by the tool and by the places of the pools.
 
 ghost use Rattle.std.specs.Prelude.{◌≡◌, [], Some, slice_get};
-ghost use Rattle.sched_model.specs.Checked.{IsCheckedCommand};
+ghost use Rattle.sched_model.specs.CheckedMachine.{IsCheckedCommand};
 ghost use Rattle.sched_model.specs.Commands.{judge};
 ghost use Rattle.sched_model.specs.Machine.{verdict};
 ghost use Rattle.cpupool.specs.Facts.{rate_at, stored_at};
@@ -39,7 +39,7 @@ fn facts_of(slots: &[PoolSlot], at: &Trail, subject: Subject) -> Facts
     let Some(pool) = subject.pool else {
         return no_facts();
     };
-    let i = usize::from(pool.0);
+    let i = pool.0 as usize;
     if i < slots.len() {
         slots[i].facts(subject.dom)
     } else {

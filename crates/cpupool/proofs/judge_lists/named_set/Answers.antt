@@ -1,6 +1,6 @@
 use Rattle.std.proofs.Common.{◌≡◌, ◌<◌, ◌∙◌, sym, arith, true, false}
 use Rattle.std.proofs.lemmas.Grind.{common_steps}
-use Rattle.cpupool.specs.Judging.{is_named}
+use Rattle.cpupool.specs.Verdicts.{is_named}
 use Rattle.cpupool.proofs.NumberLemmas.{named_in, named_out}
 use Rattle.cpupool.proofs.judge_lists.named_set.Goals as goal
 use Rattle.cpupool.proofs.judge_lists.named_set.Goals.{then-is_named, else-is_named}

@@ -1,6 +1,6 @@
 use Rattle.std.proofs.Common.{◌≡◌, ◌+◌, ◌-◌, ◌<◌, ◌^◌}
 use Rattle.sched_model.specs.Places.{numbers_from}
-use Rattle.cpupool.specs.Judging.{named_among}
+use Rattle.cpupool.specs.Verdicts.{named_among}
 use Rattle.cpupool.proofs.judge_lists.named_set.Given as goal
 
 abbrev pub invariant-loop-r : goal.invariant-loop-r

@@ -5,4 +5,4 @@ use Rattle.sched_model.specs.State.{has_core}
 use Rattle.cpupool.proofs.opening.flags_of.Given as goal
 
 abbrev pub invariant-loop-r : goal.invariant-loop-r
-invariant-loop-r l = l.flags ≡ map (has_core l.set) (numbers_from 0 l.r)
+invariant-loop-r l = l.flags ≡ map (has_core l.set.0) (numbers_from 0 l.r)

@@ -1,7 +1,7 @@
 use Rattle.std.proofs.Common.{◌≡◌}
 use Rattle.std.specs.Prelude.{map}
 use Rattle.sched_model.specs.Places.{numbers_from}
-use Rattle.cpupool.specs.Opened.{opened_free}
+use Rattle.cpupool.specs.OpeningPools.{opened_free}
 use Rattle.cpupool.proofs.opening.opened_free.Given as goal
 
 abbrev pub invariant-loop-r : goal.invariant-loop-r

@@ -1,5 +1,5 @@
 use Rattle.std.proofs.Common.{◌≡◌, ◌+◌, ◌<◌, ◌^◌, drop}
-use Rattle.cpupool.specs.Judging.{flags_from}
+use Rattle.cpupool.specs.Verdicts.{flags_from}
 use Rattle.cpupool.proofs.pools.set_of.Given as goal
 
 abbrev pub invariant-loop-r : goal.invariant-loop-r

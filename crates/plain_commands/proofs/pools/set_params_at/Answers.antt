@@ -1,5 +1,5 @@
 use Rattle.std.proofs.Common.{refl}
-use Rattle.plain_commands.specs.Carried.{FitsAt}
+use Rattle.plain_commands.specs.PlanEffects.{FitsAt}
 use Rattle.plain_commands.proofs.Items.{each-item}
 use Rattle.plain_commands.proofs.pools.set_params_at.Goals as goal
 

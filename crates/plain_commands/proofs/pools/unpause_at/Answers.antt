@@ -1,7 +1,7 @@
 use Rattle.std.proofs.Common.{refl}
 use Rattle.sched_model.specs.Pool.{unpause}
 use Rattle.plain_pool.specs.Fits.{PoolFits}
-use Rattle.plain_opening.specs.Opened.{FewWait}
+use Rattle.plain_opening.specs.OpeningPool.{FewWait}
 use Rattle.plain_commands.proofs.Items.{each-item, changed-item}
 use Rattle.plain_commands.proofs.pools.unpause_at.Goals as goal
 

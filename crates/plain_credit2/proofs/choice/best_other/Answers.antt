@@ -6,9 +6,9 @@ use Rattle.sched_model.specs.declared.ask.Ask.{Ask}
 use Rattle.sched_model.specs.declared.state.Credit2Records.{Credit2Records}
 use Rattle.sched_model.specs.declared.state.Scheduler.{Scheduler}
 use Rattle.sched_model.specs.Places.{same_unit}
-use Rattle.sched_model.specs.Eligible.{is_eligible}
+use Rattle.sched_model.specs.EligibleUnits.{is_eligible}
 use Rattle.sched_model.specs.Credit2.{greatest_unit, credit_of}
-use Rattle.plain_credit2.specs.Waiting.{scheduler_of}
+use Rattle.plain_credit2.specs.WaitingUnits.{scheduler_of}
 use Rattle.plain_credit2.proofs.Items.{filter-both}
 use Rattle.plain_credit2.proofs.choice.best_other.Goals as goal
 

@@ -1,5 +1,5 @@
 use Rattle.std.proofs.Common.{◌∙◌}
-use Rattle.plain_opening.specs.Opened.{opening_core}
+use Rattle.plain_opening.specs.OpeningPool.{opening_core}
 use Rattle.plain_opening.proofs.Growing.{numbers_one_more}
 use Rattle.plain_opening.proofs.cores.fresh_cores.Goals as goal
 

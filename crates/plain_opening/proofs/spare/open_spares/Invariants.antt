@@ -1,6 +1,6 @@
 use Rattle.std.proofs.Common.{◌≡◌, take}
 use Rattle.std.specs.Prelude.{map}
-use Rattle.plain_opening.specs.Opened.{spare_for}
+use Rattle.plain_opening.specs.OpeningPool.{spare_for}
 use Rattle.plain_opening.proofs.spare.open_spares.Given as goal
 
 abbrev pub invariant-loop-line : goal.invariant-loop-line

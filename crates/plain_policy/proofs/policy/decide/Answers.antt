@@ -1,5 +1,5 @@
 use Rattle.std.proofs.Common.{sym, ap, ◌∙◌, subst}
-use Rattle.sched_model.specs.Eligible.{Decision}
+use Rattle.sched_model.specs.EligibleUnits.{Decision}
 use Rattle.sched_model.specs.Policy.{decision_of}
 use Rattle.plain_units.specs.Tells.{Tells}
 use Rattle.plain_policy.proofs.Deciding.{decision_by-parts, after_decision-some, after_decision-none}

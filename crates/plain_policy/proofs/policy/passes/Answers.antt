@@ -4,7 +4,7 @@ use Rattle.sched_base.specs.declared.UnitId.{UnitId}
 use Rattle.sched_base.specs.declared.Cores.{Cores}
 use Rattle.sched_model.specs.declared.state.Records.{Records}
 use Rattle.sched_model.specs.declared.state.Records.TheVariants.{NullPool}
-use Rattle.sched_model.specs.Eligible.{passes}
+use Rattle.sched_model.specs.EligibleUnits.{passes}
 use Rattle.plain_policy.specs.Parts.{scheduler_of}
 use Rattle.plain_policy.proofs.policy.passes.Goals as goal
 

@@ -1,7 +1,7 @@
 use Rattle.std.proofs.Common.{◌≡◌, drop}
 use Rattle.std.specs.Prelude.{filter}
 use Rattle.sched_model.specs.declared.state.Records.TheVariants.{RtdsPool}
-use Rattle.sched_model.specs.Eligible.{is_eligible}
+use Rattle.sched_model.specs.EligibleUnits.{is_eligible}
 use Rattle.sched_model.specs.Rtds.{foremost_unit}
 use Rattle.plain_policy.specs.Parts.{scheduler_of}
 use Rattle.plain_policy.proofs.rtds.foremost.Given as goal

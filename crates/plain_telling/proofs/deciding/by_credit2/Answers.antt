@@ -1,6 +1,6 @@
 use Rattle.std.proofs.Common.{◌∙◌, sym, ap, length}
 use Rattle.sched_model.specs.declared.state.Credit2Records.{Credit2Records}
-use Rattle.plain_credit2.specs.Waiting.{scheduler_of}
+use Rattle.plain_credit2.specs.WaitingUnits.{scheduler_of}
 use Rattle.plain_telling.proofs.Places.{choose2-places}
 use Rattle.plain_telling.proofs.deciding.by_credit2.Goals as goal
 

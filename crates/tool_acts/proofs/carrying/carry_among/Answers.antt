@@ -1,31 +1,43 @@
-use Rattle.std.proofs.Common.{◌≡◌, ◌∙◌, ◌<◌, length, sym, ap, subst, arith}
-use Rattle.std.proofs.lemmas.List.{get_or_default}
-use Rattle.std.specs.Prelude.{None}
-use Rattle.sched_model.specs.Places.{at_place}
-use Rattle.pool_slots.specs.Places.{StandsAt}
+use Rattle.std.proofs.Common.{◌≡◌, ◌∙◌, ◌<◌, length, sym, subst, arith}
+use Rattle.std.specs.Prelude.{None, Some, slice_set}
+use Rattle.sched_base.specs.declared.PoolId.{PoolId}
+use Rattle.sched_model.specs.Commands.{pool_of_plan}
+use Rattle.sched_laws.proofs.Lists.{same_read, some_same}
+use Rattle.pool_slots.specs.Places.{state_of}
+use Rattle.machine_parts.proofs.AtPlaces.{number-of}
+use Rattle.tool_acts.specs.CarriedPlans.{HasCarried}
 use Rattle.tool_acts.proofs.Carried.{has-carried}
+use Rattle.tool_acts.proofs.Stalling.{stands-read}
 use Rattle.tool_acts.proofs.Taking.{home-low}
 use Rattle.tool_acts.proofs.carrying.carry_among.Goals as goal
+use Rattle.tool_acts.proofs.carrying.carry_among.Goals.{In-Some}
 
-pub bounds-slots-from : goal.bounds-slots-from
-bounds-slots-from c =
-    let low = home-low c.args.at.now c.requires.goes c.args.plan c.args.i.0 c.requires.accepted c.requires.home c.requires.keeps in
-    let count = c.requires.stand.count in
-    let from = c.from.ensures in
-    omega (arith, low, count, from)
+-- the pool of the plan
+home : (c : In-Some) → pool_of_plan (state_of c.args.at.now) c.args.plan ≡ Some c.in-Some.i.0
+home c = number-of _ c.in-Some.i (sym c.requires.home ∙ c.in-Some.is)
+
+low : (c : In-Some) → c.in-Some.i.0 < 16
+low c = home-low c.args.at.now c.requires.goes c.args.plan c.in-Some.i.0 c.requires.accepted (home c) c.requires.keeps
+
+below : (c : In-Some) → c.in-Some.i.0 < length c.args.slots.now
+below c = (let few = low c in let count = c.requires.stand.count in omega (arith, few, count))
+
+pub bounds-slots-i : goal.bounds-slots-i
+bounds-slots-i c = below (goal.at.bounds-slots-i c).In-Some
 
 pub carry_kept-requires-clause-stands : goal.carry_kept-requires-clause-stands
-carry_kept-requires-clause-stands c =
-    let slots = c.args.slots.now in
-    let low = home-low c.args.at.now c.requires.goes c.args.plan c.args.i.0 c.requires.accepted c.requires.home c.requires.keeps in
-    let low_read : c.from.result < length slots = (let count = c.requires.stand.count in let from = c.from.ensures in omega (arith, low, count, from)) in
-    let read : at_place slots c.args.i.0 ≡ c.index-slots-from.result = ap (at_place slots) (sym c.from.ensures) ∙ get_or_default slots c.from.result None c.index-slots-from.result low_read ∙ sym c.index-slots-from.is in
-    subst (StandsAt c.args.at.now c.args.i.0) (read ∙ c.index-slots-from.is) (c.requires.stand.each c.args.i.0 low)
+carry_kept-requires-clause-stands c = stands-read c.args.at.now c.args.slots.now c.requires.stand c.in-Some.i.0 c.index-slots-i.result (below (goal.at.carry_kept-requires-clause-stands c).In-Some)
 
-pub returns : goal.returns
-returns c =
+pub carry_kept-requires-clause-home : goal.carry_kept-requires-clause-home
+carry_kept-requires-clause-home c = home (goal.at.carry_kept-requires-clause-home c).In-Some
+
+pub returns-in-Some-clause-some : goal.returns-in-Some-clause-some
+returns-in-Some-clause-some c i is =
+    let at = (goal.at.returns-in-Some-clause-some c).In-Some in
+    let w = c.args.at.now in
     let slots = c.args.slots.now in
-    let low = home-low c.args.at.now c.requires.goes c.args.plan c.args.i.0 c.requires.accepted c.requires.home c.requires.keeps in
-    let low_read : c.from.result < length slots = (let count = c.requires.stand.count in let from = c.from.ensures in omega (arith, low, count, from)) in
-    let read = ap (at_place slots) (sym c.from.ensures) ∙ get_or_default slots c.from.result None c.index-slots-from.result low_read in
-    has-carried c.args.at.now c.args.t.0 c.args.plan c.args.i.0 c.from.result slots _ c.carry_kept.new.slot c.requires.keeps c.requires.now read c.from.ensures (c.requires.stand.each c.args.i.0 low).suits c.carry_kept.ensures
+    let k = c.in-Some.i.0 in
+    let new = c.carry_kept.new.slot in
+    let same : c.in-Some.i ≡ i = some_same (sym c.in-Some.is ∙ is) in
+    subst (λ (j : PoolId). HasCarried w c.args.t.0 c.args.plan j.0 slots (slice_set slots k new)) same
+    (has-carried w c.args.t.0 c.args.plan k slots _ new c.requires.keeps c.requires.now (same_read slots k None c.index-slots-i.result (below at)) (c.requires.stand.each k (low at)).suits c.carry_kept.ensures)

@@ -7,7 +7,7 @@ use Rattle.sched_model.specs.Machine.{after}
 use Rattle.sched_model.specs.Places.{at_place, clear_at}
 use Rattle.sched_model.specs.Pool.{settled_pool}
 use Rattle.journal_core.specs.Parts.{core_to}
-use Rattle.cpupool.specs.Arrived.{but_for_free}
+use Rattle.cpupool.specs.ToolArrival.{but_for_free}
 use Rattle.cpupool.specs.Tool.{Tool, tool_of}
 use Rattle.pool_core.specs.Seen.{Seen, seen_at, with_core}
 use Rattle.pool_slots.specs.Places.{state_of}

@@ -1,8 +1,7 @@
-use Rattle.std.proofs.Common.{◌≡◌, ◌<◌, ◌∙◌, ℕ, length, refl, sym, subst}
-use Rattle.std.specs.Prelude.{Some, slice_set}
+use Rattle.std.proofs.Common.{◌≡◌, ◌<◌, ◌∙◌, length, refl, sym}
+use Rattle.std.specs.Prelude.{Some}
 use Rattle.sched_model.specs.Actions.{home_of_core}
 use Rattle.pool_slots.specs.Places.{state_of}
-use Rattle.machine_parts.specs.Parts.{AreParts}
 use Rattle.machine_parts.proofs.AtPlaces.{core_below, number-of}
 use Rattle.tool_acts.specs.Acts.{told_event}
 use Rattle.tool_acts.proofs.Acting.{parts-on}
@@ -23,17 +22,16 @@ unreachable-requires c =
     let w = c.args.at.now in
     leaves-some w c.requires.parts.goes c.args.tool.now c.requires.parts.known c.args.r.0 c.requires.enabled c.requires.way c.home_of_core.result (c.home_of_core.ensures w.input (state_of w) c.requires.parts.known) c.in_default.is
 
-pub bounds-slots-from : goal.bounds-slots-from
-bounds-slots-from c = subst (λ (k : ℕ). k < length c.args.slots.now) (sym c.from.ensures) (below (goal.at.bounds-slots-from c).In-Some)
+pub bounds-slots-i : goal.bounds-slots-i
+bounds-slots-i c = below (goal.at.bounds-slots-i c).In-Some
 
 pub leave_core-requires-clause-home : goal.leave_core-requires-clause-home
 leave_core-requires-clause-home c = home (goal.at.leave_core-requires-clause-home c).In-Some
 
 pub leave_core-requires-clause-stands : goal.leave_core-requires-clause-stands
-leave_core-requires-clause-stands c = stands-read c.args.at.now c.args.slots.now c.requires.parts.stand c.in-Some.i.0 c.from.result c.from.ensures c.index-slots-from.result (below (goal.at.leave_core-requires-clause-stands c).In-Some)
+leave_core-requires-clause-stands c = stands-read c.args.at.now c.args.slots.now c.requires.parts.stand c.in-Some.i.0 c.index-slots-i.result (below (goal.at.leave_core-requires-clause-stands c).In-Some)
 
 pub returns-clause-parts : goal.returns-clause-parts
 returns-clause-parts c =
     let next = told_event c.args.at.now c.args.t.0 c.leave_core.result in
-    subst (λ (k : ℕ). AreParts next (slice_set c.args.slots.now k c.leave_core.new.slot) c.leave_core.new.tool) (sym c.from.ensures)
-    (parts-on c.args.at.now c.args.slots.now c.requires.parts.stand next c.leave_core.new.tool refl c.in-Some.i.0 c.leave_core.new.slot c.leave_core.ensures.acted c.leave_core.ensures.stands)
+    parts-on c.args.at.now c.args.slots.now c.requires.parts.stand next c.leave_core.new.tool refl c.in-Some.i.0 c.leave_core.new.slot c.leave_core.ensures.acted c.leave_core.ensures.stands

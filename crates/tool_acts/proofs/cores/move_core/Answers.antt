@@ -1,11 +1,10 @@
-use Rattle.std.proofs.Common.{◌≡◌, ◌<◌, ◌∙◌, ℕ, length, refl, sym, ap, subst, arith}
-use Rattle.std.specs.Prelude.{Option, None, Some, slice_set}
+use Rattle.std.proofs.Common.{◌≡◌, ◌<◌, ◌∙◌, length, refl, sym, ap, arith}
+use Rattle.std.specs.Prelude.{Option, None, Some}
 use Rattle.sched_base.specs.declared.PoolId.{PoolId}
 use Rattle.sched_model.specs.declared.action.Action.TheVariants.{Moved}
 use Rattle.journal_core.specs.Parts.{core_to}
 use Rattle.cpupool.specs.declared.moves.Move.{Move}
 use Rattle.cpupool.specs.declared.moves.Move.TheVariants as move
-use Rattle.machine_parts.specs.Parts.{AreParts}
 use Rattle.tool_acts.specs.Acts.{told_event}
 use Rattle.tool_acts.proofs.Acting.{parts-on}
 use Rattle.tool_acts.proofs.CoreMoves.{move-told, parts-begin, target-there, way-there, way-told}
@@ -30,15 +29,15 @@ below c =
     let count = c.requires.parts.stand.count in
     omega (arith, few, count)
 
-pub bounds-slots-from : goal.bounds-slots-from
-bounds-slots-from c = subst (λ (k : ℕ). k < length c.args.slots.now) (sym c.from.ensures) (below (goal.at.bounds-slots-from c).In-Some-Res-default-Some)
+pub bounds-slots-i : goal.bounds-slots-i
+bounds-slots-i c = below (goal.at.bounds-slots-i c).In-Some-Res-default-Some
 
 pub join_core-requires-clause-way : goal.join_core-requires-clause-way
 join_core-requires-clause-way c = way (goal.at.join_core-requires-clause-way c).In-Some-Res-default-Some
 
 pub join_core-requires-clause-stands : goal.join_core-requires-clause-stands
 join_core-requires-clause-stands c =
-    stands-read c.args.at.now c.args.slots.now c.requires.parts.stand c.in-Some-Res-default-Some.i.0 c.from.result c.from.ensures c.index-slots-from.result (below (goal.at.join_core-requires-clause-stands c).In-Some-Res-default-Some)
+    stands-read c.args.at.now c.args.slots.now c.requires.parts.stand c.in-Some-Res-default-Some.i.0 c.index-slots-i.result (below (goal.at.join_core-requires-clause-stands c).In-Some-Res-default-Some)
 
 pub leave_home-requires-clause-way : goal.leave_home-requires-clause-way
 leave_home-requires-clause-way c =
@@ -71,5 +70,4 @@ unreachable-requires-in-None c =
 pub returns-in-Some-Res-default-Some-clause-parts : goal.returns-in-Some-Res-default-Some-clause-parts
 returns-in-Some-Res-default-Some-clause-parts c =
     let next = told_event c.args.at.now c.args.t.0 c.join_core.result in
-    subst (λ (k : ℕ). AreParts next (slice_set c.args.slots.now k c.join_core.new.slot) c.join_core.new.tool) (sym c.from.ensures)
-    (parts-on c.args.at.now c.args.slots.now c.requires.parts.stand next c.join_core.new.tool refl c.in-Some-Res-default-Some.i.0 c.join_core.new.slot c.join_core.ensures.acted c.join_core.ensures.stands)
+    parts-on c.args.at.now c.args.slots.now c.requires.parts.stand next c.join_core.new.tool refl c.in-Some-Res-default-Some.i.0 c.join_core.new.slot c.join_core.ensures.acted c.join_core.ensures.stands

@@ -1,9 +1,8 @@
-use Rattle.std.proofs.Common.{◌≡◌, ◌/◌, ◌<◌, ℕ, length, refl, sym, subst, arith}
-use Rattle.std.specs.Prelude.{option_map, slice_set}
+use Rattle.std.proofs.Common.{◌≡◌, ◌/◌, ◌<◌, length, refl, arith}
+use Rattle.std.specs.Prelude.{option_map}
 use Rattle.sched_base.specs.Numbers.{pool as pool_number}
 use Rattle.sched_model.specs.Actions.{home_of_core}
 use Rattle.pool_slots.specs.Places.{state_of}
-use Rattle.machine_parts.specs.Parts.{AreParts}
 use Rattle.tool_acts.specs.Acts.{told_event}
 use Rattle.tool_acts.proofs.Acting.{parts-alone}
 use Rattle.tool_acts.proofs.Stalling.{counted_state, line-left, next-below, next-in, next-none, some-processor, stall-counts-in, stall-counts-none, stall-parts-in, stands-read, taken-is, taken-known}
@@ -47,8 +46,8 @@ stall_in_none-requires-clause-counted c =
     let line = c.take_stall-line in
     taken-is c.args.at.now c.args.slots.now c.args.tool.now c.requires.parts c.requires.enabled c.args.t.0 c.args.g c.requires.now c.requires.granularity line.result line.ensures.line line.new.self line.ensures.next
 
-pub bounds-slots-from : goal.bounds-slots-from
-bounds-slots-from c = subst (λ (k : ℕ). k < length c.args.slots.now) (sym c.from.ensures) (below (goal.at.bounds-slots-from c).In-Some)
+pub bounds-slots-i : goal.bounds-slots-i
+bounds-slots-i c = below (goal.at.bounds-slots-i c).In-Some
 
 pub stall_in-requires-clause-next : goal.stall_in-requires-clause-next
 stall_in-requires-clause-next c =
@@ -58,7 +57,7 @@ stall_in-requires-clause-next c =
 
 pub stall_in-requires-clause-stands : goal.stall_in-requires-clause-stands
 stall_in-requires-clause-stands c =
-    stands-read c.args.at.now c.args.slots.now c.requires.parts.stand c.in-Some.i.0 c.from.result c.from.ensures c.index-slots-from.result (below (goal.at.stall_in-requires-clause-stands c).In-Some)
+    stands-read c.args.at.now c.args.slots.now c.requires.parts.stand c.in-Some.i.0 c.index-slots-i.result (below (goal.at.stall_in-requires-clause-stands c).In-Some)
 
 pub returns-in-None-clause-parts : goal.returns-in-None-clause-parts
 returns-in-None-clause-parts c = parts-alone c.args.at.now c.args.slots.now c.requires.parts.stand (told_event c.args.at.now c.args.t.0 c.stall_in_none.result) c.stall_in_none.new.tool refl c.stall_in_none.ensures.acted
@@ -71,9 +70,8 @@ returns-in-None-clause-counts c =
 pub returns-in-Some-clause-parts : goal.returns-in-Some-clause-parts
 returns-in-Some-clause-parts c =
     let line = c.take_stall-line in
-    subst (λ (k : ℕ). AreParts (told_event c.args.at.now c.args.t.0 c.stall_in.result) (slice_set c.args.slots.now k c.stall_in.new.slot) line.new.self) (sym c.from.ensures)
-    (stall-parts-in c.args.at.now c.args.slots.now c.args.tool.now c.requires.parts c.requires.enabled c.args.t.0 c.args.g c.requires.now c.requires.granularity line.result line.ensures.line line.new.self line.ensures.next
-    c.in-Some.i.0 c.stall_in.result c.stall_in.new.slot c.stall_in.ensures.acted c.stall_in.ensures.stands)
+    stall-parts-in c.args.at.now c.args.slots.now c.args.tool.now c.requires.parts c.requires.enabled c.args.t.0 c.args.g c.requires.now c.requires.granularity line.result line.ensures.line line.new.self line.ensures.next
+    c.in-Some.i.0 c.stall_in.result c.stall_in.new.slot c.stall_in.ensures.acted c.stall_in.ensures.stands
 
 pub returns-in-Some-clause-counts : goal.returns-in-Some-clause-counts
 returns-in-Some-clause-counts c =

@@ -3,7 +3,8 @@ use Rattle.sched_model.specs.declared.facts.Facts.{Facts}
 use Rattle.sched_model.specs.declared.facts.Subject.{Subject}
 use Rattle.cpupool.specs.Facts.{facts_of, rate_at, stored_at}
 use Rattle.pool_slots.specs.Places.{state_of}
-use Rattle.tool_acts.proofs.Judgement.{facts-kept}
+use Rattle.cpupool.proofs.FactLemmas.{facts-kept}
+use Rattle.tool_acts.proofs.Judgement.{recorded}
 use Rattle.tool_acts.proofs.verdicts.judged.Goals as goal
 
 pub returns : goal.returns
@@ -14,4 +15,4 @@ returns c =
     let known = c.requires.parts.known in
     let by : Subject → Facts = λ x. record { rate = rate_at s x; units = stored_at m.config.granularity s x } in
     let facts : facts_of m s c.args.c.now ≡ c.facts_of-facts.result = sym (ap₂ (λ r u. let x : Facts = record { rate = r; units = u } in x) c.facts_of-facts.ensures.rate c.facts_of-facts.ensures.units ∙ ap by (c.subject.ensures m s known)) in
-    c.judge.ensures m s known facts (facts-kept w c.requires.parts.goes c.args.c.now)
+    c.judge.ensures m s known facts (facts-kept w.input (state_of w) c.args.c.now (recorded w c.requires.parts.goes))

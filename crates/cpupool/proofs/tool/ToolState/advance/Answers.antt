@@ -2,7 +2,7 @@ use Rattle.std.proofs.Common.{◌≡◌, ◌∙◌, ap, sym}
 use Rattle.std.specs.Prelude.{None}
 use Rattle.journal_core.specs.Parts.{under_way_of}
 use Rattle.cpupool.specs.Tool.{Tool}
-use Rattle.cpupool.specs.Advanced.{after_advance}
+use Rattle.cpupool.specs.ToolAdvance.{after_advance}
 use Rattle.cpupool.proofs.AdvanceLemmas.{advanced-seen}
 use Rattle.cpupool.proofs.tool.ToolState.advance.Goals as goal
 

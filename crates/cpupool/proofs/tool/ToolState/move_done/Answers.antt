@@ -1,7 +1,7 @@
 use Rattle.std.proofs.Common.{◌≡◌, ◌∙◌, Some, ap, sym}
 use Rattle.journal_core.specs.Parts.{under_way_of}
 use Rattle.cpupool.specs.Tool.{Tool}
-use Rattle.cpupool.specs.Arrived.{after_arrival}
+use Rattle.cpupool.specs.ToolArrival.{after_arrival}
 use Rattle.cpupool.proofs.ArrivedLemmas.{arrived-seen}
 use Rattle.cpupool.proofs.tool.ToolState.move_done.Goals as goal
 

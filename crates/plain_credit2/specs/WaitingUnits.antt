@@ -9,7 +9,7 @@ use Rattle.sched_model.specs.declared.state.Scheduler.{Scheduler}
 use Rattle.sched_model.specs.declared.state.Records.TheVariants.{Credit2Pool}
 use Rattle.sched_model.specs.declared.ask.Ask.{Ask}
 use Rattle.sched_model.specs.Places.{is_unit}
-use Rattle.sched_model.specs.Eligible.{is_allowed_by}
+use Rattle.sched_model.specs.EligibleUnits.{is_allowed_by}
 use Rattle.sched_model.specs.Credit2.{domain_has_budget, credit_of}
 
 -- the scheduler of these parts

@@ -1,17 +1,17 @@
 -- What the end of a move does to the tool's part.
 use Rattle.sched_base.specs.Numbers.{core, domain}
-use Rattle.std.specs.Prelude.{◌≡◌, ℕ, Bool, true, false, List, Option, Some, None, is_some, slice_set}
+use Rattle.std.specs.Prelude.{◌≡◌, ℕ, Bool, true, false, List, Option, Some, None, slice_set}
 use Rattle.std.specs.Option.{ForSome}
 use Rattle.sched_base.specs.declared.Moment.{Moment}
 use Rattle.sched_model.specs.declared.action.Action.{Action}
 use Rattle.sched_model.specs.declared.action.Action.TheVariants.{Moved, DomMoved}
 use Rattle.sched_model.specs.declared.machine.Machine.{Machine}
 use Rattle.sched_model.specs.declared.state.State.{State}
-use Rattle.sched_model.specs.Places.{at_place, put_at, clear_at, change_at, first_place}
+use Rattle.sched_model.specs.Places.{at_place, put_at, clear_at, change_at}
 use Rattle.sched_model.specs.Actions.{home_of_core}
 use Rattle.sched_model.specs.Machine.{after, is_move_under_way}
 use Rattle.journal_core.specs.Parts.{Outline, UnderWay, core_to, domain_to}
-use Rattle.cpupool.specs.Judging.{has_core}
+use Rattle.cpupool.specs.Verdicts.{core_home, domain_home}
 use Rattle.cpupool.specs.Tool.{Tool}
 
 -- the pool, which has the core r from now on, or has it no more
@@ -32,14 +32,6 @@ size_at pools i d = elim (at_place pools i) [ None ↦ None | Some o ↦ at_plac
 -- the domain d in the pool j in place of the pool i
 abbrev pub handed_over : ℕ → ℕ → ℕ → List (Option Outline) → List (Option Outline)
 handed_over d i j pools = elim (size_at pools i d) [ None ↦ pools | Some vcpus ↦ change_at j (with_domain d vcpus) (change_at i (without_domain d) pools) ]
-
--- the pool that has the core
-abbrev pub core_home : List (Option Outline) → ℕ → Option ℕ
-core_home pools r = first_place 0 (λ o. has_core o r) pools
-
--- the pool that has the domain
-abbrev pub domain_home : List (Option Outline) → ℕ → Option ℕ
-domain_home pools d = first_place 0 (λ o. is_some (at_place o.domains d)) pools
 
 -- the pools once the core r has no pool
 abbrev pub core_freed : ℕ → List (Option Outline) → List (Option Outline)

@@ -1,10 +1,9 @@
 -- The pools and domains that commands name, and the answers to commands, in what the tool knows.
-use Rattle.sched_model.specs.Checked.{most_span}
+use Rattle.sched_model.specs.CheckedMachine.{most_span}
 use Rattle.sched_base.specs.Numbers.{span, core as core_number, domain as domain_number, pool as pool_number, core_set}
 use Rattle.std.specs.Prelude.{ℕ, suc, ◌+◌, ◌-◌, ◌*◌, ◌/◌, ◌^◌, ◌==◌, ◌&&◌, ◌||◌, Bool, true, false, not, List, [], ◌∷◌, ◌++◌, Option, Some, None, Result, Ok, Err, is_none, is_some, option_map, unwrap_or, slice_get, slice_index_or, length, sum_by, count_by, take, drop, bit_and, bytes_eq, nat_lt, nat_le, if◌then◌else◌}
 use Rattle.std.specs.List.{list_any}
 use Rattle.sched_base.specs.declared.Cores.{Cores}
-use Rattle.sched_base.specs.declared.PoolId.{PoolId}
 use Rattle.sched_model.specs.declared.config.FrameEntry.{FrameEntry}
 use Rattle.sched_model.specs.declared.config.SchedKind.{SchedKind}
 use Rattle.sched_model.specs.declared.config.SchedKind.TheVariants as kinds
@@ -53,19 +52,12 @@ abbrev pub has_core : Outline → ℕ → Bool
 has_core o r = slice_index_or o.cores r false
 
 -- the pool that has the core
-abbrev pub home_of_core : ToolPart → ℕ → Option ℕ
-home_of_core part r = first_place 0 (λ o. has_core o r) part.pools
+abbrev pub core_home : List (Option Outline) → ℕ → Option ℕ
+core_home pools r = first_place 0 (λ o. has_core o r) pools
 
 -- the pool that has the domain
-abbrev pub home_of_domain : ToolPart → ℕ → Option ℕ
-home_of_domain part d = first_place 0 (λ o. is_some (at_place o.domains d)) part.pools
-
--- the pool that has a core, and the one that has a domain
-abbrev pub seen_core_pool : Tool → ℕ → Option PoolId
-seen_core_pool tool r = option_map pool_number (home_of_core tool.part r)
-
-abbrev pub seen_domain_pool : Tool → ℕ → Option PoolId
-seen_domain_pool tool d = option_map pool_number (home_of_domain tool.part d)
+abbrev pub domain_home : List (Option Outline) → ℕ → Option ℕ
+domain_home pools d = first_place 0 (λ o. is_some (at_place o.domains d)) pools
 
 -- a command that names this pool
 abbrev pub seen_pool_subject : Tool → Which → Subject
@@ -74,7 +66,7 @@ seen_pool_subject tool which = record { pool = option_map pool_number (seen_pool
 -- a command that names this domain, and otherwise what the subject is
 abbrev pub seen_domain_subject : Tool → Which → Subject → Subject
 seen_domain_subject tool which otherwise =
-    elim (seen_domain tool which) [ None ↦ otherwise | Some d ↦ record { pool = option_map pool_number (home_of_domain tool.part d); dom = Some (domain_number d) } ]
+    elim (seen_domain tool which) [ None ↦ otherwise | Some d ↦ record { pool = option_map pool_number (domain_home tool.part.pools d); dom = Some (domain_number d) } ]
 
 -- the subject of a command
 abbrev pub seen_subject : Tool → Command → Subject
@@ -124,7 +116,7 @@ seen_at part d i =
 
 -- the domain that a command names
 abbrev pub seen_size : Tool → Which → Option SeenDomain
-seen_size tool which = elim (seen_domain tool which) [ None ↦ None | Some d ↦ elim (home_of_domain tool.part d) [ None ↦ None | Some i ↦ seen_at tool.part d i ] ]
+seen_size tool which = elim (seen_domain tool which) [ None ↦ None | Some d ↦ elim (domain_home tool.part.pools d) [ None ↦ None | Some i ↦ seen_at tool.part d i ] ]
 
 -- what follows for the pool, or no such pool
 abbrev pub with_outline : Tool → Which → (ℕ → Outline → Result Plan Refusal) → Result Plan Refusal
@@ -167,7 +159,7 @@ seen_pool_rename tool which name =
 abbrev pub seen_cpu_add : Tool → Which → ℕ → Result Plan Refusal
 seen_cpu_add tool which cpu =
     with_outline tool which (λ i o. demand (nat_lt cpu tool.processors) (refusal.NoCpu cpu)
-    (refused_by (option_map (λ home. refusal.CpuTaken cpu (pool_number home)) (home_of_core tool.part (cpu / tool.granularity)))
+    (refused_by (option_map (λ home. refusal.CpuTaken cpu (pool_number home)) (core_home tool.part.pools (cpu / tool.granularity)))
     (demand (not (is_kind kinds.Arinc653 o.kind && nat_lt 0 (core_total o))) (refusal.ArincOne (pool_number i))
     (Ok (plan.CpuAdd (pool_number i) (core_number (cpu / tool.granularity)) reply.Done)))))
 

@@ -1,10 +1,10 @@
 -- The pools and domains that commands name, as the program hands them on.
 use Rattle.cpupool.specs.declared.named.NamedPool.{NamedPool}
 use Rattle.cpupool.specs.declared.named.NamedDomain.{NamedDomain}
-use Rattle.cpupool.specs.Judging.{SeenPool, SeenDomain}
+use Rattle.cpupool.specs.Verdicts.{SeenPool, SeenDomain}
 
 abbrev pub named_pool : NamedPool → SeenPool
-named_pool x = record { i = x.i; pool = x.pool.now }
+named_pool x = record { i = x.i.0; pool = x.pool.now }
 
 abbrev pub named_domain : NamedDomain → SeenDomain
-named_domain x = record { d = x.d; i = x.i; pool = x.pool.now; vcpus = x.vcpus }
+named_domain x = record { d = x.d.0; i = x.i.0; pool = x.pool.now; vcpus = x.vcpus }

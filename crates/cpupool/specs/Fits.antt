@@ -1,5 +1,5 @@
 -- The states whose numbers are in range.
-use Rattle.std.specs.Prelude.{◌≤◌, List, [], ◌∷◌, Option, Some, None, length}
+use Rattle.std.specs.Prelude.{◌≤◌, length}
 use Rattle.sched_model.specs.Places.{AllPlaces}
 use Rattle.sched_model.specs.declared.state.Domain.{Domain}
 use Rattle.sched_model.specs.declared.state.Pool.{Pool}

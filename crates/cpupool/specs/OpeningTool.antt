@@ -4,7 +4,7 @@ use Rattle.sched_model.specs.declared.config.Config.{Config}
 use Rattle.sched_model.specs.declared.config.PoolConfig.{PoolConfig}
 use Rattle.sched_model.specs.declared.work.Work.{Work}
 use Rattle.sched_model.specs.Places.{numbers_from}
-use Rattle.cpupool.specs.Opened.{opened_outlines, opened_free}
+use Rattle.cpupool.specs.OpeningPools.{opened_outlines, opened_free}
 use Rattle.cpupool.specs.Tool.{Tool, entry_of}
 
 abbrev pub opened_tool : Config → Work → Tool

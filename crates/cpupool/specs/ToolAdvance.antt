@@ -5,7 +5,7 @@ use Rattle.sched_model.specs.declared.plan.Plan.{Plan}
 use Rattle.sched_model.specs.declared.plan.Plan.TheVariants as plan
 use Rattle.sched_model.specs.Places.{at_place, put_at, clear_at}
 use Rattle.journal_core.specs.Parts.{Outline, ToolPart, core_to, domain_to}
-use Rattle.cpupool.specs.Judging.{has_core}
+use Rattle.cpupool.specs.Verdicts.{has_core}
 use Rattle.cpupool.specs.Tool.{Tool}
 
 -- a pool without cores and domains
