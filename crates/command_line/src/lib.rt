@@ -22,7 +22,8 @@ use tree::tree;
 
 /// The command that the words behind the program's own name are, or none where they are no command. An error says that memory was wanted.
 pub fn command_of(alloc: Global, words: &[String]) -> Result<Option<Command<'_>>, NoMemory>
-    ensures value { IfOk result (λ command. option_map asked_of command ≡ command_of_spec words.now) }
+    ensures value { IfOk result
+        (λ command. option_map asked_of command ≡ command_of_spec words.now) }
     ensures ranges { IfOk result (λ command. IfSome command IsInRange) }
 {
     match tree(alloc)?.try_get_matches_from(words) {

@@ -1,5 +1,5 @@
 -- The values of a machine that was read pass all checks.
-use Rattle.std.proofs.Common.{◌≡◌, ℕ, zero, suc, ◌+◌, ◌-◌, ◌*◌, ◌/◌, ◌^◌, ◌≤◌, ◌<◌, ℤ, pos, negsuc, true, leb, ltb, codes, List, [], ◌∷◌, ◌++◌, length, Option, Some, None, Result, Ok, Err, refl, sym, ap, subst, ◌∙◌, append_assoc, length-append, inl, inr, arith}
+use Rattle.std.proofs.Common.{◌≡◌, ℕ, suc, ◌+◌, ◌-◌, ◌*◌, ◌/◌, ◌^◌, ◌≤◌, ◌<◌, ℤ, pos, negsuc, true, leb, ltb, codes, List, [], ◌∷◌, ◌++◌, length, Option, Some, None, Result, Ok, Err, refl, sym, ap, subst, ◌∙◌, append_assoc, length-append, inl, inr, arith}
 use Rattle.std.specs.Prelude.{⊤, IfSome, slice_get}
 use Rattle.std.specs.Result.{IfOk}
 use Rattle.std.specs.List.{AllByRecursion, sum_by}
@@ -20,11 +20,11 @@ use Rattle.sched_model.specs.declared.config.PoolParams.{PoolParams}
 use Rattle.sched_model.specs.declared.config.PoolParams.TheVariants as pool_params
 use Rattle.sched_model.specs.declared.config.SchedKind.{SchedKind}
 use Rattle.sched_model.specs.declared.config.SchedKind.TheVariants as kinds
-use Rattle.sched_model.specs.Places.{numbers_from}
 use Rattle.sched_model.specs.State.{has_core}
 use Rattle.sched_model.specs.Opening.{core_count}
 use Rattle.sched_model.specs.Actions.{units_from}
-use Rattle.sched_model.specs.Checked.{IsWithin, IsGranularity, HasUnit, IsCheckedFrame, PoolParamsPass, IsCheckedPool, IsCheckedScript, DomParamsPass, IsCheckedDomain, IsCheckedConfig, most_span}
+use Rattle.sched_model.specs.CheckedMachine.{IsWithin, IsGranularity, HasUnit, IsCheckedFrame, PoolParamsPass, IsCheckedPool, IsCheckedScript, DomParamsPass, IsCheckedDomain, IsCheckedConfig, most_span}
+use Rattle.sched_model.proofs.PlaceLemmas.{length-numbers_from}
 use Rattle.toml.specs.Data.{Data, Members, get_member}
 use Rattle.dom_file.specs.declared.draft.EntryDraft.{EntryDraft}
 use Rattle.dom_file.specs.declared.draft.FrameDraft.{FrameDraft}
@@ -49,10 +49,6 @@ use Rattle.dom_file.proofs.CheckedPools.{IsCheckedHead, head_ok, IsFrameDraft, D
 use Rattle.dom_file.proofs.CheckedDomains.{IsDomainDraft, AreDomainDrafts, domains_ok}
 
 -- ---- units
-
-length-numbers_from : (n count : ℕ) → length (numbers_from n count) ≡ count
-length-numbers_from n zero = refl
-length-numbers_from n (suc count) = ap suc (length-numbers_from (suc n) count)
 
 -- the list of the units is as long as their counts add up to
 length-units_from : (g d : ℕ) (domains : List DomConfig) → length (units_from g d domains) ≡ total_units g domains

@@ -14,7 +14,7 @@ use Rattle.sched_model.specs.declared.config.SchedKind.TheVariants as kinds
 use Rattle.sched_model.specs.declared.config.DomConfig.{DomConfig}
 use Rattle.sched_model.specs.declared.config.DomParams.{DomParams}
 use Rattle.sched_model.specs.declared.config.DomParams.TheVariants as dom_params
-use Rattle.sched_model.specs.Checked.{IsWithin, IsCheckedScript, DomParamsPass, most_span}
+use Rattle.sched_model.specs.CheckedMachine.{IsWithin, IsCheckedScript, DomParamsPass, most_span}
 use Rattle.toml.specs.Data.{Data, Members, get_member}
 use Rattle.dom_file.specs.declared.draft.PoolDraft.{PoolDraft}
 use Rattle.dom_file.specs.declared.domain.HomePool.{HomePool}

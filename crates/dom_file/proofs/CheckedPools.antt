@@ -10,7 +10,7 @@ use Rattle.sched_base.specs.declared.Moment.{Moment}
 use Rattle.sched_base.specs.Names.{is_name}
 use Rattle.sched_model.specs.declared.config.SchedKind.{SchedKind}
 use Rattle.sched_model.specs.declared.config.SchedKind.TheVariants as kinds
-use Rattle.sched_model.specs.Checked.{IsWithin, IsGranularity, most_span}
+use Rattle.sched_model.specs.CheckedMachine.{IsWithin, IsGranularity, most_span}
 use Rattle.sched_model.specs.State.{has_core}
 use Rattle.toml.specs.Data.{Data, Members, get_member}
 use Rattle.dom_file.specs.declared.draft.EntryDraft.{EntryDraft}

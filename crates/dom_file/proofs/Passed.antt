@@ -1,17 +1,17 @@
 -- What is known where a check passed: one value, a list of values, and sets of cores.
-use Rattle.std.proofs.Common.{◌≡◌, ◌≢◌, ℕ, zero, suc, ◌+◌, ◌/◌, ◌^◌, ◌≤◌, ◌<◌, ℤ, pos, negsuc, Bool, true, false, cond, ◌&&◌, ◌||◌, leb, List, [], ◌∷◌, ◌++◌, length, Option, Some, None, Result, Ok, Err, bit_or, refl, sym, ap, subst, ◌∙◌, inl, inr, arith}
+use Rattle.std.proofs.Common.{◌≡◌, ◌≢◌, ℕ, zero, suc, ◌+◌, ◌/◌, ◌^◌, ◌≤◌, ◌<◌, ℤ, pos, negsuc, Bool, true, false, cond, ◌&&◌, leb, List, [], ◌∷◌, ◌++◌, length, Option, Some, None, Result, Ok, Err, bit_or, refl, sym, ap, subst, ◌∙◌, inl, inr, arith}
 use Rattle.std.specs.Prelude.{◌⊎◌, count_ones, slice_get}
 use Rattle.std.specs.List.{AllByRecursion, list_any}
 use Rattle.std.specs.Int.{bit_at}
 use Rattle.std.specs.Int.Count.{ones, ones_in}
 use Rattle.std.specs.Str.{bytes_eq}
 use Rattle.std.proofs.Math.Pow.{pow-lt}
-use Rattle.std.proofs.lemmas.Bool.{and_parts, cases_eq, leb-true, eqb-true, eq-eqb, false≢true}
+use Rattle.std.proofs.lemmas.Bool.{and_parts, cases_eq, leb-true, eqb-true, eq-eqb, false≢true, or_parts}
 use Rattle.std.proofs.lemmas.Nat.{le_or_l, or_lt}
 use Rattle.std.proofs.lemmas.Nat.Bits.{bit_at_or, bit_at-pow_other, bit_at-zero, bit_at-suc, bit_at_lowest}
 use Rattle.std.proofs.lemmas.Slice.Eq.{bytes_eq-Decides}
 use Rattle.sched_base.specs.Names.{is_name}
-use Rattle.sched_model.specs.Checked.{IsWithin}
+use Rattle.sched_model.specs.CheckedMachine.{IsWithin}
 use Rattle.sched_model.specs.State.{has_core}
 use Rattle.toml.specs.Data.{Data, Members, get_member, as_integer}
 use Rattle.dom_file.specs.declared.fault.TableName.{TableName}
@@ -46,11 +46,6 @@ okay E x = Ok x
 
 pub ok_is : {A : Type 0} (E : Type 0) (x y : A) → okay E x ≡ okay E y → x ≡ y
 ok_is E x y e = cc
-
--- a test of two parts that failed
-or_parts : (a b : Bool) → (a || b) ≡ false → (a ≡ false) × (b ≡ false)
-or_parts false b e = (refl, e)
-or_parts true b e = absurd (false≢true (sym e))
 
 -- a value that stands where a key is absent
 abbrev pub absent_or : {A E : Type 0} → Option Data → A → (Data → Result A E) → Result A E
@@ -122,11 +117,6 @@ get-Pairs R [] (z ∷ ys) i y h e = absurd h
 get-Pairs R (x ∷ xs) [] i y h e = absurd h
 get-Pairs R (x ∷ xs) (z ∷ ys) zero y h e = let same : z ≡ y = cc in (x, refl, subst (R x) same h.0)
 get-Pairs R (x ∷ xs) (z ∷ ys) (suc i) y h e = get-Pairs R xs ys i y h.1 e
-
-pub all-get : {A : Type 0} (P : A → Type 0) (xs : List A) (i : ℕ) (x : A) → AllByRecursion P xs → slice_get xs i ≡ Some x → P x
-all-get P [] i x h e = absurd cc
-all-get P (y ∷ xs) zero x h e = let same : y ≡ x = cc in subst P same h.0
-all-get P (y ∷ xs) (suc i) x h e = all-get P xs i x h.1 e
 
 pub all-push : {A : Type 0} (P : A → Type 0) (xs : List A) (y : A) → AllByRecursion P xs → P y → AllByRecursion P (xs ++ y ∷ [])
 all-push P [] y h p = (p, tt)

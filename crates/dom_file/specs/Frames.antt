@@ -2,7 +2,7 @@
 use Rattle.std.specs.Prelude.{ℕ, pos, nat_le, codes, List, [], ◌∷◌, length, Option, Some, None, Result, Ok, Err, if◌then◌else◌}
 use Rattle.std.specs.List.{sum_by}
 use Rattle.sched_base.specs.Numbers.{span}
-use Rattle.sched_model.specs.Checked.{most_span}
+use Rattle.sched_model.specs.CheckedMachine.{most_span}
 use Rattle.toml.specs.Data.{Data, Members, get_member}
 use Rattle.dom_file.specs.declared.draft.EntryDraft.{EntryDraft}
 use Rattle.dom_file.specs.declared.draft.FrameDraft.{FrameDraft}

@@ -2,7 +2,7 @@
 use Rattle.std.specs.Prelude.{◌%◌, ◌==◌, pos, codes, List, length, Result, Ok, Err, if◌then◌else◌}
 use Rattle.sched_base.specs.Numbers.{span}
 use Rattle.sched_base.specs.declared.Span.{Span}
-use Rattle.sched_model.specs.Checked.{most_span}
+use Rattle.sched_model.specs.CheckedMachine.{most_span}
 use Rattle.toml.specs.Data.{Data, Members}
 use Rattle.dom_file.specs.declared.fault.DomCause.{DomCause}
 use Rattle.dom_file.specs.declared.fault.DomCause.TheVariants.{Range}

@@ -2,7 +2,7 @@
 use Rattle.std.specs.Prelude.{◌≡◌, ℕ, ◌%◌, ◌==◌, pos, codes, List, [], ◌∷◌, Result, Ok, Err, if◌then◌else◌}
 use Rattle.sched_base.specs.Numbers.{moment}
 use Rattle.sched_base.specs.declared.Moment.{Moment}
-use Rattle.sched_model.specs.Checked.{IsWithin, most_span}
+use Rattle.sched_model.specs.CheckedMachine.{IsWithin, most_span}
 use Rattle.toml.specs.Data.{Members}
 use Rattle.dom_file.specs.declared.fault.TableName.TheVariants.{Top}
 use Rattle.dom_file.specs.declared.fault.DomCause.{DomCause}

@@ -2,7 +2,7 @@
 
 ghost use Rattle.std.specs.Prelude.{◌≡◌, ◌≤◌, [], map, length, IfOk};
 ghost use Rattle.std.specs.List.{All};
-ghost use Rattle.sched_model.specs.Checked.{IsWithin};
+ghost use Rattle.sched_model.specs.CheckedMachine.{IsWithin};
 ghost use Rattle.toml.specs.View.{table_view};
 ghost use Rattle.dom_file.specs.Steps.{Gives, GivesBy};
 ghost use Rattle.dom_file.specs.Heads.{IsHead};

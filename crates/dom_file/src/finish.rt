@@ -2,7 +2,7 @@
 
 ghost use Rattle.std.specs.Prelude.{◌≡◌, ◌≤◌, ◌*◌, [], length, IfOk};
 ghost use Rattle.std.specs.List.{All};
-ghost use Rattle.sched_model.specs.Checked.{IsWithin};
+ghost use Rattle.sched_model.specs.CheckedMachine.{IsWithin};
 ghost use Rattle.dom_file.specs.Steps.{Gives, GivesBy, each};
 ghost use Rattle.dom_file.specs.Finish.{number_below as below_of, entry_of, few_units as few_units_of, finished_pool, finished_pools, frame_of, params_of, total_units, unit_count_at as unit_count_of};
 

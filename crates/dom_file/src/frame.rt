@@ -2,7 +2,7 @@
 
 ghost use Rattle.std.specs.Prelude.{◌≡◌, ◌≤◌, ◌*◌, [], ◌∷◌, map, length, IfOk};
 ghost use Rattle.std.specs.List.{All, sum_by};
-ghost use Rattle.sched_model.specs.Checked.{most_span};
+ghost use Rattle.sched_model.specs.CheckedMachine.{most_span};
 ghost use Rattle.toml.specs.View.{view, table_view};
 ghost use Rattle.dom_file.specs.Steps.{Gives, each};
 ghost use Rattle.dom_file.specs.Frames.{entry_in, entry_of, entries_of, frame_entries_in, frame_in};

@@ -2,7 +2,7 @@
 
 ghost use Rattle.std.specs.Prelude.{◌≡◌, ◌%◌, IfOk};
 ghost use Rattle.toml.specs.View.{table_view};
-ghost use Rattle.sched_model.specs.Checked.{IsWithin};
+ghost use Rattle.sched_model.specs.CheckedMachine.{IsWithin};
 ghost use Rattle.dom_file.specs.Steps.{Gives};
 ghost use Rattle.dom_file.specs.Heads.{IsHead, format_in, granularity_in, head_of, horizon_in, processors_in};
 

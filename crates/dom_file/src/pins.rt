@@ -1,7 +1,7 @@
 //! The sets of cores that a domain's units are pinned to.
 
 ghost use Rattle.std.specs.Prelude.{◌≡◌, ◌≤◌, map, length, IfOk};
-ghost use Rattle.sched_model.specs.Checked.{IsWithin};
+ghost use Rattle.sched_model.specs.CheckedMachine.{IsWithin};
 ghost use Rattle.toml.specs.View.{view, table_view};
 ghost use Rattle.dom_file.specs.Heads.{IsHead};
 ghost use Rattle.dom_file.specs.Steps.{each};

@@ -2,7 +2,7 @@
 
 ghost use Rattle.std.specs.Prelude.{◌≡◌, ◌≢◌, ◌≤◌, Some, None, Ok, Err, map, option_map, codes, length, IfOk, IfErr, IfSome, MatchResult};
 ghost use Rattle.std.specs.List.{All};
-ghost use Rattle.sched_model.specs.Checked.{IsCheckedConfig, IsWithin};
+ghost use Rattle.sched_model.specs.CheckedMachine.{IsCheckedConfig, IsWithin};
 ghost use Rattle.toml.specs.View.{view, table_view};
 ghost use Rattle.dom_file.specs.declared.fault.DomFault.TheVariants.{NoMemory, BadToml};
 ghost use Rattle.dom_file.specs.declared.fault.TableName.TheVariants.{Top};

@@ -3,7 +3,7 @@
 ghost use Rattle.std.specs.Prelude.{◌≡◌, map, length, option_map, IfOk};
 ghost use Rattle.toml.specs.Data.{get_member};
 ghost use Rattle.toml.specs.View.{view, table_view};
-ghost use Rattle.sched_model.specs.Checked.{IsWithin};
+ghost use Rattle.sched_model.specs.CheckedMachine.{IsWithin};
 ghost use Rattle.dom_file.specs.Steps.{Sees};
 ghost use Rattle.dom_file.specs.Values.{array_of, elements_of, integer_of, name_of, number_of, number_or as number_or_of, required_value as required_of, table_of, text_of, truth_of};
 

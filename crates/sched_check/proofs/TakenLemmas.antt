@@ -4,7 +4,7 @@ use Rattle.sched_model.specs.declared.event.Entry.{Entry}
 use Rattle.sched_model.specs.declared.machine.Machine.{Machine}
 use Rattle.sched_model.specs.Runs.{Reached, IsRunFrom, after_entry, after_entries}
 use Rattle.run_laws.specs.RunLaws.{IsOrderedFrom}
-use Rattle.sched_check.specs.Taken.{AreTaken, IsTaken}
+use Rattle.sched_check.specs.Checking.{AreTaken, IsTaken}
 
 -- what is taken is a run
 pub taken-run : (m : Machine) (ordered : Bool) (from : Reached) (entries : List Entry) → AreTaken m ordered from entries → IsRunFrom m from entries

@@ -1,4 +1,4 @@
 pub mod Same
 pub mod Verdicts
-pub mod Taken
-pub mod Reaching
+pub mod Checking
+pub mod ReachedState

@@ -8,14 +8,10 @@ use Rattle.sched_model.specs.declared.event.Event.TheVariants as event
 use Rattle.sched_model.specs.declared.machine.Machine.{Machine}
 use Rattle.sched_model.specs.declared.state.State.{State}
 use Rattle.sched_model.specs.Machine.{is_enabled, first_enabled, event_of, next_in_horizon}
-use Rattle.sched_model.specs.Runs.{Reached, action_of, end_of}
+use Rattle.sched_model.specs.Runs.{Reached, action_of, end_of, entry_of}
 use Rattle.sched_check.specs.declared.verdict.NotStep.{NotStep}
 use Rattle.sched_check.specs.declared.verdict.NotStep.TheVariants as no
 use Rattle.sched_check.specs.Same.{same_action, same_event}
-
--- the entry of an action that may come now
-abbrev pub entry_of : Machine → State → Action → Entry
-entry_of m s action = record { at = moment s.now; event = event_of m s s.now action }
 
 -- the number that tells a stall or a command from those that are not next: the processor of a stall, the number of a command; the others
 -- are told by their action, which names their subject

@@ -3,8 +3,8 @@
 ghost use Rattle.std.specs.Prelude.{◌≡◌, ◌↔◌, false, IsOk, OnOk, OnErr};
 ghost use Rattle.sched_model.specs.Machine.{after};
 ghost use Rattle.sched_model.specs.Runs.{after_entry, after_quiet};
-ghost use Rattle.sched_check.specs.Taken.{IsDue, IsQuietDue, IsTaken};
-ghost use Rattle.sched_check.specs.Reaching.{state_after};
+ghost use Rattle.sched_check.specs.Checking.{IsDue, IsQuietDue, IsTaken};
+ghost use Rattle.sched_check.specs.ReachedState.{state_after};
 ghost use Rattle.sched_check.specs.Verdicts.{action_verdict, is_finish as is_finish_spec, moment_verdict, quiet_verdict};
 ghost use Rattle.sched_model.specs.Machine.{first_enabled, next_in_horizon};
 
@@ -95,18 +95,22 @@ pub struct Checker {
 }
 
 impl Model for Checker {
-    ghost use Rattle.sched_check.specs.Taken.{Checking};
+    ghost use Rattle.sched_check.specs.Checking.{Checking};
 
     ghost Value = { Checking };
 
-    ghost view = { λ c. record { machine = c.plain.machine; ordered = c.ordered; reached = record { state = c.plain.state; over = c.finished } } };
+    ghost view = { λ c. record {
+      machine = c.plain.machine;
+      ordered = c.ordered;
+      reached = record { state = c.plain.state; over = c.finished };
+    } };
 }
 
 impl Checker {
     ghost use Rattle.std.specs.Prelude.{◌≡◌, ◌↔◌, IfOk, IsOk, OnOk, OnErr};
-    ghost use Rattle.sched_model.specs.Checked.{IsChecked};
+    ghost use Rattle.sched_model.specs.CheckedMachine.{IsChecked};
     ghost use Rattle.sched_model.specs.Runs.{after_entry, run_start};
-    ghost use Rattle.sched_check.specs.Taken.{IsTaken};
+    ghost use Rattle.sched_check.specs.Checking.{IsTaken};
     ghost use Rattle.sched_check.specs.Verdicts.{verdict_of};
 
     /// A checker at the opening of the machine, whose values have passed the checks of the domain file and of the work file. Where

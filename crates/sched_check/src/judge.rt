@@ -2,11 +2,11 @@
 
 ghost use Rattle.std.specs.Prelude.{◌≡◌, ◌↔◌, true, Some, Ok, Err, IsOk, OnOk, OnErr, if◌then◌else◌};
 ghost use Rattle.sched_model.specs.Machine.{first_enabled, is_enabled, next_in_horizon};
-ghost use Rattle.sched_model.specs.Runs.{action_of as action_of_spec, end_of as end_of_spec};
+ghost use Rattle.sched_model.specs.Runs.{entry_of as entry_of_spec, action_of as action_of_spec, end_of as end_of_spec};
 ghost use Rattle.sched_check.specs.declared.verdict.NotStep.TheVariants as no;
 ghost use Rattle.sched_check.specs.Same.{same_event};
-ghost use Rattle.sched_check.specs.Taken.{HasTurn, IsDue, IsQuietDue};
-ghost use Rattle.sched_check.specs.Verdicts.{action_verdict, due_verdict, entry_of as entry_of_spec, first_refusal, is_named, number_of as number_of_spec, quiet_verdict, turn_refusal};
+ghost use Rattle.sched_check.specs.Checking.{HasTurn, IsDue, IsQuietDue};
+ghost use Rattle.sched_check.specs.Verdicts.{action_verdict, due_verdict, first_refusal, is_named, number_of as number_of_spec, quiet_verdict, turn_refusal};
 
 use crate::same::{is_same_action, is_same_event};
 use crate::verdict::NotStep;

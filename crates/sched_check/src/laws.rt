@@ -5,7 +5,7 @@ ghost use Rattle.sched_model.specs.declared.event.Entry.{Entry};
 ghost use Rattle.sched_model.specs.declared.machine.Machine.{Machine};
 ghost use Rattle.sched_model.specs.Runs.{IsRun, IsWholeRun, run_start};
 ghost use Rattle.run_laws.specs.RunLaws.{IsOrderedRun, IsOver};
-ghost use Rattle.sched_check.specs.Taken.{AreTaken, TakesOneMore};
+ghost use Rattle.sched_check.specs.Checking.{AreTaken, TakesOneMore};
 
 /// The lists of entries that are taken one after another are the runs of the machine, and where the first action that may come is asked
 /// for, the ordered ones; where a Finish was taken, they are whole. An entry more is taken exactly where it may come next.

@@ -1,6 +1,6 @@
 -- How counts of faults compose.
 use Rattle.std.proofs.Common.{ℕ, ◌^◌, ◌<◌, ◌≤◌, arith}
-use Rattle.sched_io.specs.Faults.{Rose, one_more}
+use Rattle.sched_io.specs.Faults.{Rose}
 
 -- a count that rose has risen later too
 pub rose_before : (old middle new : ℕ) → Rose old middle → middle ≤ new → Rose old new

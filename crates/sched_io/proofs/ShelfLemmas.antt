@@ -11,7 +11,7 @@ use Rattle.std.specs.Cmp.Lexicographic.{slice_cmp}
 use Rattle.std.proofs.lemmas.Bool.{false_from_ne_true}
 use Rattle.std.proofs.lemmas.Map.Text.{is_eq-slice_cmp, btree_map_updates_text}
 use Rattle.std.proofs.lemmas.Slice.Eq.{bytes_eq-Decides}
-use Rattle.sched_io.specs.Held.{bytes_under}
+use Rattle.sched_io.specs.HeldBytes.{bytes_under}
 
 -- the pairs as contracts see them
 abbrev pub plain : List (String Global × Vec ℕ Global) → List (List ℕ × List ℕ)

@@ -1,4 +1,4 @@
 pub mod Faults
 pub mod Puts
-pub mod Held
+pub mod HeldBytes
 pub mod Memory

@@ -2,7 +2,7 @@
 use Rattle.std.specs.Prelude.{ℕ, ◌+◌, ◌==◌, Bool, true, ◌||◌, List, ◌++◌, length, nat_lt, if◌then◌else◌}
 use Rattle.std.specs.List.{list_any}
 use Rattle.sched_io.specs.Faults.{one_more}
-use Rattle.sched_io.specs.Held.{bytes_under, is_unreadable}
+use Rattle.sched_io.specs.HeldBytes.{bytes_under, is_unreadable}
 
 -- names with bytes, the numbers of the calls that fail, how many calls were made and how many of them failed
 pub record StoreState : Type 0 where

@@ -2,7 +2,7 @@
 
 ghost use Rattle.std.specs.Prelude.{◌≡◌, ◌≤◌, ℕ, List, None, OnOk, length, IfOk, IfSome, IsErrOf, if◌then◌else◌};
 ghost use Rattle.sched_io.specs.Faults.{Rose, one_more};
-ghost use Rattle.sched_io.specs.Held.{most_bytes, untold_bytes};
+ghost use Rattle.sched_io.specs.HeldBytes.{most_bytes, untold_bytes};
 
 use crate::store::{MOST_BYTES, ReadErr, Store};
 use std::alloc::Global;

@@ -25,7 +25,13 @@ impl Model for MemSink {
 
     ghost Value = { SinkState };
 
-    ghost view = { λ a. record { bytes = a.bytes.items; room = a.room; fails = a.plan.fails.items; calls = a.plan.calls; faults = a.plan.faults } };
+    ghost view = { λ a. record {
+      bytes = a.bytes.items;
+      room = a.room;
+      fails = a.plan.fails.items;
+      calls = a.plan.calls;
+      faults = a.plan.faults;
+    } };
 
     ghost invariant = { λ a. (length a.bytes.items ≤ a.room) × (a.room ≤ vec_capacity a.bytes) };
 }

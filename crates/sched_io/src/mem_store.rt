@@ -2,7 +2,7 @@
 
 ghost use Rattle.std.specs.Prelude.{◌≡◌, ◌≢◌, ◌≤◌, ◌↔◌, ℕ, List, [], length, Some, OnOk, OnErr, IfOk, IfSome, IsErrOf, IsTrue, IsNone, ◌||◌, if◌then◌else◌};
 ghost use Rattle.sched_io.specs.Faults.{Rose, one_more};
-ghost use Rattle.sched_io.specs.Held.{bytes_under, is_unreadable, most_bytes};
+ghost use Rattle.sched_io.specs.HeldBytes.{bytes_under, is_unreadable, most_bytes};
 ghost use Rattle.sched_io.specs.Memory.{StoreState, is_listed, read_fails};
 
 use crate::plan::Plan;
@@ -24,7 +24,12 @@ impl Model for MemStore {
 
     ghost Value = { StoreState };
 
-    ghost view = { λ a. record { files = a.files; fails = a.plan.fails.items; calls = a.plan.calls; faults = a.plan.faults } };
+    ghost view = { λ a. record {
+      files = a.files;
+      fails = a.plan.fails.items;
+      calls = a.plan.calls;
+      faults = a.plan.faults;
+    } };
 }
 
 impl MemStore {

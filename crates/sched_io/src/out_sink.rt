@@ -2,7 +2,7 @@
 
 ghost use Rattle.std.specs.Prelude.{◌≡◌, ◌≤◌, ◌+◌, ◌<◌, OnOk, OnErr, IfOk, None, length, is_err, if◌then◌else◌};
 ghost use Rattle.sched_io.specs.Faults.{Rose, one_more};
-ghost use Rattle.sched_io.specs.Held.{untold_bytes};
+ghost use Rattle.sched_io.specs.HeldBytes.{untold_bytes};
 ghost use Rattle.sched_io.specs.Puts.{Adds, AddsPart};
 ghost use Rattle.std.specs.Io.KnownBytes.{Appends};
 

@@ -2,7 +2,7 @@
 
 ghost use Rattle.std.specs.Prelude.{◌≡◌, ◌≢◌, ℕ, List, [], Some, OnOk, OnErr};
 ghost use Rattle.std.specs.Option.{option_map};
-ghost use Rattle.sched_io.specs.Held.{bytes_under};
+ghost use Rattle.sched_io.specs.HeldBytes.{bytes_under};
 
 use sched_base::NoMemory;
 use std::alloc::Global;

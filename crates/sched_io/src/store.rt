@@ -2,7 +2,7 @@
 
 ghost use Rattle.std.specs.Prelude.{◌≡◌, ◌≤◌, ℕ, List, Option, length, IfOk, IfSome, IsErrOf};
 ghost use Rattle.sched_io.specs.Faults.{Rose};
-ghost use Rattle.sched_io.specs.Held.{most_bytes};
+ghost use Rattle.sched_io.specs.HeldBytes.{most_bytes};
 ghost use Rattle.sched_io.specs.declared.store.ReadErr.TheVariants.{NoMemory as out_of_memory};
 
 use std::alloc::{AllocError, AllocFailed, Global};

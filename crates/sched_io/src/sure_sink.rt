@@ -69,7 +69,8 @@ impl Sink for SureSink {
         ensures state { self.new ≡ after_sure_put self.old piece.now }
         ensures appended { OnOk result (Adds (if self.old.over then None else Some self.old.bytes)
             (if self.new.over then None else Some self.new.bytes) piece.now) }
-        ensures prefix { OnErr result (AddsPart (if self.old.over then None else Some self.old.bytes)
+        ensures prefix { OnErr result
+            (AddsPart (if self.old.over then None else Some self.old.bytes)
             (if self.new.over then None else Some self.new.bytes) piece.now) }
     {
         if self.over || piece.len() > self.room - self.bytes.len() {

@@ -1,7 +1,7 @@
 //! A store in memory that never fails.
 
 ghost use Rattle.std.specs.Prelude.{◌≡◌, ◌≢◌, ◌≤◌, ℕ, List, [], length, Some, OnOk, OnErr, IfOk, IfSome, IsErrOf};
-ghost use Rattle.sched_io.specs.Held.{bytes_if_set, most_bytes};
+ghost use Rattle.sched_io.specs.HeldBytes.{bytes_if_set, most_bytes};
 
 use crate::shelf::Shelf;
 use crate::store::{ReadErr, Store};
@@ -17,7 +17,7 @@ pub struct SureStore {
 
 impl Model for SureStore {
     ghost use Rattle.std.specs.Prelude.{ℕ, ◌≤◌, List, length};
-    ghost use Rattle.sched_io.specs.Held.{bytes_if_set, most_bytes};
+    ghost use Rattle.sched_io.specs.HeldBytes.{bytes_if_set, most_bytes};
 
     ghost Value = { List (List ℕ × List ℕ) };
 

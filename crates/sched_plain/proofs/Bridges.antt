@@ -1,11 +1,12 @@
 -- What the law of ranges says of a state, in the words of the calls below.
-use Rattle.std.proofs.Common.{◌≡◌, ◌≤◌, ◌<◌, ◌+◌, ◌-◌, ◌*◌, ◌/◌, ◌%◌, ℕ, zero, suc, List, [], ◌∷◌, length, refl, sym, subst, arith, inl, inr}
+use Rattle.std.proofs.Common.{◌≡◌, ◌≤◌, ◌-◌, ℕ, suc, List, [], ◌∷◌, refl, sym, subst, arith, inl, inr}
 use Rattle.std.specs.Prelude.{Option, Some, None, slice_get}
 use Rattle.std.specs.List.{AllByRecursion}
-use Rattle.std.specs.Option.{ForSome, IfSome}
 use Rattle.std.proofs.lemmas.List.Elements.{All-from_recursion, recursion_from_All}
-use Rattle.std.proofs.lemmas.Nat.{div-add-mod'}
+use Rattle.std.proofs.lemmas.Option.{slice_get_within}
+use Rattle.std.proofs.Math.Nat.{div-le_self}
 use Rattle.sched_base.specs.declared.Span.{Span}
+use Rattle.sched_base.proofs.Lists.{each_get}
 use Rattle.sched_model.specs.declared.config.DomConfig.{DomConfig}
 use Rattle.sched_model.specs.declared.machine.Machine.{Machine}
 use Rattle.sched_model.specs.declared.state.Vcpu.{Vcpu}
@@ -16,24 +17,20 @@ use Rattle.sched_model.specs.declared.state.Records.{Records}
 use Rattle.sched_model.specs.declared.state.Records.TheVariants.{Credit2Pool, RtdsPool, ArincPool, NullPool}
 use Rattle.sched_model.specs.Places.{at_place, AllPlaces}
 use Rattle.sched_model.specs.Opening.{core_count}
-use Rattle.sched_model.specs.Checked.{IsChecked, IsCheckedDomain, IsCheckedScript, IsWithin, IsGranularity, most_span}
-use Rattle.sched_laws.specs.Each.{EachPlace}
+use Rattle.sched_model.specs.CheckedMachine.{IsChecked, IsCheckedDomain, IsCheckedScript, IsWithin, IsGranularity, most_span}
+use Rattle.sched_laws.specs.EachPlace.{EachPlace}
 use Rattle.sched_laws.proofs.SiblingsLaw.{some_processor}
-use Rattle.sched_laws.proofs.Opened.{each_get}
+use Rattle.sched_laws.proofs.Lists.{item_below}
 use Rattle.sched_ranges.specs.Ranges.{VcpuInRange, DomainInRange, RecordsInRange, PoolInRange, StateInRange}
 use Rattle.plain_units.specs.Fits.{RecordsFit}
 use Rattle.plain_pool.specs.Fits.{PoolFits, DomainFits, VcpuFits}
+use Rattle.plain_commands.proofs.Planned.{for-some}
 use Rattle.sched_plain.specs.Fits.{FewGuests, MachineFits, PoolFitsAt, StateFits}
-use Rattle.sched_plain.specs.Reached.{Stands}
+use Rattle.sched_plain.specs.ReachedStates.{Stands}
 use Rattle.sched_plain.proofs.Reaching.{reached-in_range}
 
--- a value that is there has what any value that is there has
-for_some : {X : Type 0} {P Q : X → Type 0} (o : Option X) → IfSome o P → ((x : X) → P x → Q x) → ForSome o Q
-for_some None holds more x is = absurd (cc)
-for_some {X} {P} {Q} (Some y) holds more x is = (let same : y ≡ x = cc in subst Q same (more y holds))
-
 -- what holds at each place holds of each place in turn
-all-places : {X : Type 0} (P : X → Type 0) (places : List (Option X)) → EachPlace P places → AllPlaces P places
+pub all-places : {X : Type 0} (P : X → Type 0) (places : List (Option X)) → EachPlace P places → AllPlaces P places
 all-places P [] each = tt
 all-places P (None ∷ places) each = all-places P places (λ i x at. each (suc i) x at)
 all-places P (Some x ∷ places) each = (each 0 x refl, all-places P places (λ i y at. each (suc i) y at))
@@ -42,17 +39,6 @@ all-places P (Some x ∷ places) each = (each 0 x refl, all-places P places (λ 
 all-items : {X : Type 0} (P : X → Type 0) (xs : List X) → ((n : ℕ) (x : X) → slice_get xs n ≡ Some x → P x) → AllByRecursion P xs
 all-items P [] each = tt
 all-items P (x ∷ xs) each = (each 0 x refl, all-items P xs (λ n y at. each (suc n) y at))
-
--- a place within a list has an item
-pub item_below : {X : Type 0} (xs : List X) (n : ℕ) → n < length xs → (y : X) × (slice_get xs n ≡ Some y)
-item_below [] n low = absurd (omega (arith, low))
-item_below (y ∷ xs) zero low = (y, refl)
-item_below (y ∷ xs) (suc n) low = item_below xs n (omega (arith, low))
-
-item_inside : {X : Type 0} (xs : List X) (n : ℕ) (y : X) → slice_get xs n ≡ Some y → n < length xs
-item_inside [] n y at = absurd (cc)
-item_inside (x ∷ xs) zero y at = omega arith
-item_inside (x ∷ xs) (suc n) y at = (let r = item_inside xs n y at in omega (arith, r))
 
 -- the machine
 few_siblings : (g : ℕ) → IsGranularity g → g ≤ 4
@@ -73,25 +59,16 @@ machine-fits m checked = record {
   few_guests = few_guests m m.config.domains (recursion_from_All (IsCheckedDomain m.config) m.config.domains checked.config.domains);
 }
 
-div_low : (a g : ℕ) → 0 < g → a / g ≤ a
-div_low a g some =
-    let d : a / g * g + a % g ≡ a = div-add-mod' a g in
-    let more : a / g ≤ a / g * g = at_least (a / g) g some in
-    omega (arith, d, more)
-  where
-    at_least : (a g : ℕ) → 0 < g → a ≤ a * g
-    at_least a g some = (let split : g ≡ 1 + (g - 1) = omega (arith, some) in subst (λ (z : ℕ). a ≤ a * z) (sym split) (let r : a * (1 + (g - 1)) ≡ a + a * (g - 1) = grind arith in omega (arith, r)))
-
 pub few_cores : (m : Machine) → IsChecked m → core_count m.config ≤ 64
-few_cores m checked = (let low = div_low m.config.processors m.config.granularity (some_processor m.config.granularity checked.config.granularity) in let most = checked.config.processors.most in omega (arith, low, most))
+few_cores m checked = (let low = div-le_self m.config.processors m.config.granularity in let most = checked.config.processors.most in omega (arith, low, most))
 
 module _ (m : Machine) (checked : IsChecked m) (t : ℕ) (early : t ≤ most_span) where
   vcpu-fits : (script : List Span) (x : Vcpu) → IsCheckedScript script → VcpuInRange t script x → VcpuFits x
   vcpu-fits script x passed range = record {
     spans = All-from_recursion (λ (s : Span). s.0 ≤ most_span) x.script (subst (λ (xs : List Span). AllByRecursion (λ (s : Span). s.0 ≤ most_span) xs) (sym range.follows) (spans script (recursion_from_All (λ (s : Span). IsWithin 1 most_span s.0) script passed.spans)));
     place = range.place;
-    started = for_some x.started range.started (λ from past. omega (arith, past, early));
-    work_left = for_some x.work_left range.work (λ work low. low);
+    started = for-some x.started range.started (λ from past. omega (arith, past, early));
+    work_left = for-some x.work_left range.work (λ work low. low);
   }
     where
       spans : (xs : List Span) → AllByRecursion (λ (s : Span). IsWithin 1 most_span s.0) xs → AllByRecursion (λ (s : Span). s.0 ≤ most_span) xs
@@ -104,7 +81,7 @@ module _ (m : Machine) (checked : IsChecked m) (t : ℕ) (early : t ≤ most_spa
       record {
         few = (let count = range.count in let few = domain.few_guests in omega (arith, count, few));
         vcpus = all-items VcpuFits x.vcpus (λ n y at.
-            let inside = item_inside x.vcpus n y at in
+            let inside = slice_get_within x.vcpus n y at in
             let script = item_below range.config.guests n (let count = range.count in omega (arith, inside, count)) in
             vcpu-fits script.0 y (each_get IsCheckedScript range.config.guests n script.0 (recursion_from_All IsCheckedScript range.config.guests domain.scripts) script.1) (range.vcpus n y script.0 at script.1));
       }
@@ -119,7 +96,7 @@ module _ (m : Machine) (checked : IsChecked m) (t : ℕ) (early : t ≤ most_spa
   pub records-fit : (records : Records) → RecordsInRange m t records → RecordsFit t records
   records-fit (Credit2Pool records) range = record { few_domains = (let count = range.0 in let few = checked.config.few_domains in omega (arith, count, few)); limit = range.1; domains = range.2 }
   records-fit (RtdsPool domains) range = record { few_domains = (let count = range.0 in let few = checked.config.few_domains in omega (arith, count, few)); domains = range.1 }
-  records-fit (ArincPool records) range = for_some records.frame range.1 (λ frame is. is)
+  records-fit (ArincPool records) range = for-some records.frame range.1 (λ frame is. is)
   records-fit (NullPool kept) range = (let few = few_cores m checked in omega (arith, range, few))
 
 -- the moment is at most the longest span

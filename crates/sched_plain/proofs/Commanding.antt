@@ -9,52 +9,22 @@ use Rattle.sched_model.specs.declared.event.Reply.{Reply}
 use Rattle.sched_model.specs.declared.event.Reply.TheVariants as reply
 use Rattle.sched_model.specs.declared.machine.Machine.{Machine}
 use Rattle.sched_model.specs.declared.plan.Plan.{Plan}
-use Rattle.sched_model.specs.declared.plan.Plan.TheVariants as plan
-use Rattle.sched_model.specs.declared.state.Pool.{Pool}
 use Rattle.sched_model.specs.declared.state.State.{State}
 use Rattle.sched_model.specs.declared.work.CommandLine.{CommandLine}
-use Rattle.sched_model.specs.Actions.{home_of_domain}
-use Rattle.sched_model.specs.Commands.{carried_out, change_home, pool_of_plan, reply_of}
+use Rattle.sched_model.specs.Commands.{carried_out, pool_of_plan, reply_of}
 use Rattle.sched_model.specs.Machine.{after, after_command, answer_of, event_of, is_enabled, settled_at, verdict}
 use Rattle.sched_model.specs.Places.{at_place}
 use Rattle.sched_model.specs.Pool.{settled_pool}
 use Rattle.sched_model.proofs.PlaceLemmas.{at_place-change_at, at_place-change_at_other}
-use Rattle.sched_laws.specs.Each.{EachPlace}
-use Rattle.sched_laws.proofs.EachPlace.{by_cond, by_option, place_below}
-use Rattle.sched_plain.specs.Commanding.{IsAccepted}
+use Rattle.sched_laws.specs.EachPlace.{EachPlace}
+use Rattle.sched_laws.proofs.EachPlace.{place_below}
+use Rattle.sched_plain.specs.CommandList.{IsAccepted}
 use Rattle.sched_plain.specs.Fits.{PoolFitsAt}
-use Rattle.sched_plain.specs.Reached.{Stands}
+use Rattle.sched_plain.specs.ReachedStates.{Stands}
 use Rattle.sched_plain.proofs.Reaching.{stands-after}
 use Rattle.sched_plain.proofs.Bridges.{stands-pool}
 use Rattle.sched_plain.proofs.Performing.{settled-back}
-
--- no command changes the moment, nor how many commands are over
-abbrev SameClock : State → State → Type 0
-SameClock a b = (a.now ≡ b.now) × (a.next_command ≡ b.next_command)
-
-home-clock : (d : ℕ) (f : Pool → Pool) (s : State) → SameClock (change_home d f s) s
-home-clock d f s = by_option (λ (x : State). SameClock x s) (home_of_domain s d) _ _ (λ none. (refl, refl)) (λ i is. (refl, refl))
-
-carried-clock : (m : Machine) (t : ℕ) (p : Plan) (s : State) → SameClock (carried_out m t p s) s
-carried-clock m t (plan.PoolList pool answer) s = (refl, refl)
-carried-clock m t (plan.PoolCreate i name kind answer) s = (refl, refl)
-carried-clock m t (plan.PoolDestroy i answer) s = (refl, refl)
-carried-clock m t (plan.PoolRename i name answer) s = (refl, refl)
-carried-clock m t (plan.CpuAdd i core answer) s = (refl, refl)
-carried-clock m t (plan.CpuRemove i core answer) s = (refl, refl)
-carried-clock m t (plan.Migrate d i j answer) s = by_cond (λ (x : State). SameClock x s) _ _ _ (λ same. (refl, refl)) (λ other. (refl, refl))
-carried-clock m t (plan.Credit2Dom d weight percent answer) s = home-clock d.0 _ s
-carried-clock m t (plan.Credit2Pool i None answer) s = (refl, refl)
-carried-clock m t (plan.Credit2Pool i (Some us) answer) s = (refl, refl)
-carried-clock m t (plan.RtdsDom d first count period budget extra answer) s = home-clock d.0 _ s
-carried-clock m t (plan.Pause d answer) s = home-clock d.0 _ s
-carried-clock m t (plan.Unpause d answer) s = home-clock d.0 _ s
-carried-clock m t (plan.ArincSet i frame answer) s = (refl, refl)
-carried-clock m t (plan.Pin d unit cores answer) s = home-clock d.0 _ s
-
-settled-clock : (t : ℕ) (o : Option ℕ) (s : State) → SameClock (settled_at t o s) s
-settled-clock t None s = (refl, refl)
-settled-clock t (Some i) s = (refl, refl)
+use Rattle.sched_laws.proofs.Clock.{carried_clock, settled_clock}
 
 -- two numbers are one or two
 same_or_other : (j i : ℕ) → (j ≡ i) ⊎ (j ≢ i)
@@ -115,7 +85,7 @@ carried-fits m s line p stands enabled is accepted =
     let next : State = carried_out m s.now p (record s { next_command = suc s.next_command }) in
     let done : State = settled_at s.now (pool_of_plan s p) next in
     let there : Stands m done = subst (Stands m) (sym (command-state m s s.now line p is accepted)) (stands-after m s Xl stands enabled) in
-    let now : done.now ≡ s.now = (settled-clock s.now (pool_of_plan s p) next).0 ∙ (carried-clock m s.now p (record s { next_command = suc s.next_command })).0 in
+    let now : done.now ≡ s.now = (settled_clock s.now (pool_of_plan s p) next).0 ∙ (carried_clock m s.now p (record s { next_command = suc s.next_command })).0 in
     unsettled s.now (pool_of_plan s p) next (subst (λ n. EachPlace (PoolFitsAt n) done.pools) now (stands-pool m done there))
 
 -- the command is over
@@ -123,7 +93,7 @@ pub command-over : (m : Machine) (s : State) (t : ℕ) (line : CommandLine) (p :
 command-over m s t line p is accepted =
     let first : State = record s { next_command = suc s.next_command } in
     let next : State = carried_out m t p first in
-    ap (λ (x : State). x.next_command) (sym (command-state m s t line p is accepted)) ∙ (settled-clock t (pool_of_plan s p) next).1 ∙ (carried-clock m t p first).1
+    ap (λ (x : State). x.next_command) (sym (command-state m s t line p is accepted)) ∙ (settled_clock t (pool_of_plan s p) next).2 ∙ (carried_clock m t p first).2
 
 -- the state with one command more over
 abbrev pub one_over : State → State

@@ -1,9 +1,10 @@
 -- A domain that moves: what is in range on the way, what is printed, and what is left.
 use Rattle.std.proofs.Common.{◌≡◌, ◌≤◌, ◌∙◌, ℕ, zero, suc, Bool, true, false, List, [], ◌∷◌, length, refl, sym, ap, subst, arith}
-use Rattle.std.specs.Prelude.{Option, Some, None, is_some, unwrap_or, ◌&&◌, ◌==◌}
+use Rattle.std.specs.Prelude.{Option, Some, None, is_some, unwrap_or, ◌==◌}
 use Rattle.sched_base.specs.Numbers.{domain as domain_number, pool as pool_number}
 use Rattle.sched_base.specs.declared.PoolId.{PoolId}
 use Rattle.sched_base.specs.declared.UnitId.{UnitId}
+use Rattle.sched_base.proofs.Bools.{and_left}
 use Rattle.sched_model.specs.declared.action.Action.TheVariants.{DomMoved}
 use Rattle.sched_model.specs.declared.event.Event.TheVariants as event
 use Rattle.sched_model.specs.declared.machine.Machine.{Machine}
@@ -19,7 +20,7 @@ use Rattle.sched_model.specs.Machine.{after, event_of, is_enabled, home_pool, is
 use Rattle.sched_model.specs.Places.{at_place, change_at, clear_at, test_at, AllPlaces}
 use Rattle.sched_model.specs.Policy.{default_dom_params, parted_records}
 use Rattle.sched_model.specs.Pool.{enabled_in, event_in, settled_pool, reconsidered_core, home_cores, with_domain, without_domain}
-use Rattle.sched_laws.specs.Each.{EachPlace}
+use Rattle.sched_laws.specs.EachPlace.{EachPlace}
 use Rattle.sched_laws.proofs.EachPlace.{EachPlace-change_at, EachPlace-clear_at, by_cond, length_change_each, length_set}
 use Rattle.sched_laws.proofs.NullKept.{length_released}
 use Rattle.sched_ranges.specs.Ranges.{Credit2InRange, RtdsInRange}
@@ -28,7 +29,7 @@ use Rattle.plain_pool.specs.Fits.{DomainFits}
 use Rattle.plain_pool.proofs.FitsLemmas.{at_place-fits}
 use Rattle.sched_plain.specs.Fits.{PoolFitsAt}
 use Rattle.sched_plain.specs.Moves.{domain_in, target_in}
-use Rattle.sched_plain.specs.Reached.{Stands}
+use Rattle.sched_plain.specs.ReachedStates.{Stands}
 use Rattle.sched_plain.proofs.Reaching.{stands-after}
 use Rattle.sched_plain.proofs.Bridges.{stands-pool}
 use Rattle.sched_plain.proofs.Performing.{home_pool-there, settled-back}
@@ -76,11 +77,6 @@ left-fits t d pool fits =
 pub pools-left : (t d i : ℕ) (pools : List (Option Pool)) → EachPlace (PoolFitsAt t) pools → EachPlace (PoolFitsAt t) (change_at i (left_by t d) pools)
 pools-left t d i pools each = EachPlace-change_at (PoolFitsAt t) i (left_by t d) pools each (λ pool at fits. left-fits t d pool fits)
 
--- a test of two that passes passes the first
-and-left : (a b : Bool) → (a && b) ≡ true → a ≡ true
-and-left true b passes = refl
-and-left false b passes = absurd (cc)
-
 -- what is read through a value that is there
 some_through : {X Y : Type 0} (o : Option X) (f : X → Option Y) (y : Y) → elim o as (λ _. Option Y) [ None ↦ None | Some x ↦ f x ] ≡ Some y → (x : X) × (o ≡ Some x) × (f x ≡ Some y)
 some_through None f y is = absurd (cc)
@@ -90,7 +86,7 @@ module _ (m : Machine) (s : State) (t d : ℕ) where
   -- where the move may come, the domain is moving
   pub moving-there : (i : ℕ) (pool : Pool) → enabled_in m.config.granularity t pool (DomMoved (domain_number d)) ≡ true → at_place s.pools i ≡ Some pool → target_in d i s.pools ≡ None → ⊥
   moving-there i pool enabled there none =
-      let passes : test_at pool.domains d (λ (domain : Domain). is_some domain.moving) ≡ true = and-left (test_at pool.domains d (λ (domain : Domain). is_some domain.moving)) _ enabled in
+      let passes : test_at pool.domains d (λ (domain : Domain). is_some domain.moving) ≡ true = and_left (test_at pool.domains d (λ (domain : Domain). is_some domain.moving)) _ enabled in
       let away : elim (at_place pool.domains d) as (λ _. Option PoolId) [ None ↦ None | Some domain ↦ domain.moving ] ≡ None = subst (λ (o : Option Pool). elim (elim o as (λ _. Option Domain) [ None ↦ None | Some x ↦ at_place x.domains d ]) as (λ _. Option PoolId) [ None ↦ None | Some domain ↦ domain.moving ] ≡ None) there none in
       none_passes (at_place pool.domains d) passes away
     where

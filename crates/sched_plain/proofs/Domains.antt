@@ -14,7 +14,7 @@ use Rattle.sched_model.specs.Actions.{vcpus_from, units_from}
 use Rattle.sched_plain.proofs.Searching.{found_in_map}
 
 -- what lies behind the first
-behind : {X : Type 0} (y : X) (ys : List X) → take (length (y ∷ ys) - 1) (drop 1 (y ∷ ys)) ≡ ys
+pub behind : {X : Type 0} (y : X) (ys : List X) → take (length (y ∷ ys) - 1) (drop 1 (y ∷ ys)) ≡ ys
 behind y ys = grind (arith, common_steps)
 
 module _ (p : Action → Bool) (d : ℕ) where

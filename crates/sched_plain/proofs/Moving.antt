@@ -1,9 +1,8 @@
 -- What a core that moves leaves.
-use Rattle.std.proofs.Common.{◌≡◌, ℕ, zero, suc, List, [], ◌∷◌, length, refl, ap, arith}
-use Rattle.std.specs.Prelude.{Option, Some, None}
+use Rattle.std.proofs.Common.{◌≡◌, ℕ, List, length, arith}
+use Rattle.std.specs.Prelude.{Option}
 use Rattle.sched_model.specs.declared.state.Resource.{Resource}
 use Rattle.sched_model.specs.declared.state.Pool.{Pool}
-use Rattle.sched_model.specs.Places.{at_place, clear_at}
 use Rattle.sched_plain.specs.Fits.{PoolFitsAt}
 
 -- as many places for cores keep the numbers of a pool in range

@@ -2,7 +2,7 @@
 use Rattle.std.proofs.Common.{◌≡◌, ◌∙◌, ℕ, Bool, true, false, List, refl, sym, ap, subst, arith}
 use Rattle.std.specs.Prelude.{Option, Some, None, slice_set, option_map, unwrap_or}
 use Rattle.sched_model.specs.declared.action.Action.{Action}
-use Rattle.sched_model.specs.declared.action.Action.TheVariants.{Stall, Xl, Moved, DomMoved, Wake, Block, Slice, Repl, Refill, Arrive, Decide, Leave, Save}
+use Rattle.sched_model.specs.declared.action.Action.TheVariants.{Stall, Xl, Moved, DomMoved}
 use Rattle.sched_model.specs.declared.event.Event.{Event}
 use Rattle.sched_model.specs.declared.machine.Machine.{Machine}
 use Rattle.sched_model.specs.declared.state.Pool.{Pool}
@@ -10,12 +10,11 @@ use Rattle.sched_model.specs.declared.state.State.{State}
 use Rattle.sched_model.specs.Opening.{no_pool}
 use Rattle.sched_model.specs.Places.{at_place, test_at}
 use Rattle.sched_model.specs.Pool.{enabled_in, event_in, after_in, settled_pool, reconsidered_core, home_cores}
-use Rattle.sched_model.specs.Actions.{home_of, change_pool}
+use Rattle.sched_model.specs.Actions.{IsOfPool, home_of, change_pool}
 use Rattle.sched_model.specs.Machine.{is_enabled, enabled_at_home, event_of, after, after_at_home, home_pool}
 use Rattle.sched_laws.proofs.EachPlace.{at_place-put_at, length_change_each, place_below}
-use Rattle.plain_pool.specs.Own.{IsOfPool}
 use Rattle.sched_plain.specs.Fits.{PoolFitsAt}
-use Rattle.sched_plain.specs.Reached.{Stands}
+use Rattle.sched_plain.specs.ReachedStates.{Stands}
 use Rattle.sched_plain.proofs.Reaching.{stands-after}
 use Rattle.sched_plain.proofs.Bridges.{stands-pool}
 
@@ -37,45 +36,21 @@ module _ (m : Machine) (s : State) (t : ℕ) where
   enabled-home Xl own = absurd own
   enabled-home (Moved r) own = absurd own
   enabled-home (DomMoved d) own = absurd own
-  enabled-home (Wake v) own = refl
-  enabled-home (Block p) own = refl
-  enabled-home (Slice r) own = refl
-  enabled-home (Repl u) own = refl
-  enabled-home (Refill d) own = refl
-  enabled-home (Arrive p) own = refl
-  enabled-home (Decide r) own = refl
-  enabled-home (Leave p) own = refl
-  enabled-home (Save r) own = refl
+  enabled-home action own = refl
 
   pub after-home : (action : Action) → IsOfPool action → after m s t action ≡ after_at_home m.config.granularity s t action
   after-home Stall own = absurd own
   after-home Xl own = absurd own
   after-home (Moved r) own = absurd own
   after-home (DomMoved d) own = absurd own
-  after-home (Wake v) own = refl
-  after-home (Block p) own = refl
-  after-home (Slice r) own = refl
-  after-home (Repl u) own = refl
-  after-home (Refill d) own = refl
-  after-home (Arrive p) own = refl
-  after-home (Decide r) own = refl
-  after-home (Leave p) own = refl
-  after-home (Save r) own = refl
+  after-home action own = refl
 
   event-home : (action : Action) → IsOfPool action → event_of m s t action ≡ event_in m.config.granularity t (home_pool m s action) action
   event-home Stall own = absurd own
   event-home Xl own = absurd own
   event-home (Moved r) own = absurd own
   event-home (DomMoved d) own = absurd own
-  event-home (Wake v) own = refl
-  event-home (Block p) own = refl
-  event-home (Slice r) own = refl
-  event-home (Repl u) own = refl
-  event-home (Refill d) own = refl
-  event-home (Arrive p) own = refl
-  event-home (Decide r) own = refl
-  event-home (Leave p) own = refl
-  event-home (Save r) own = refl
+  event-home action own = refl
 
   -- an event that may come has a home
   pub no-home : (action : Action) → enabled_at_home m s t action ≡ true → home_of m.config.granularity s action ≡ None → ⊥

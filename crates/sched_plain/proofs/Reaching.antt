@@ -12,7 +12,7 @@ use Rattle.sched_model.specs.Runs.{Reached, IsNext, run_start, after_entry}
 use Rattle.sched_model.proofs.RunLemmas.{after_entries-append, IsRunFrom-append, IsNext-action, after_entry-action}
 use Rattle.sched_ranges.specs.Ranges.{StateInRange}
 use Rattle.sched_ranges.proofs.Done.{in_range}
-use Rattle.sched_plain.specs.Reached.{Reachable, Stands}
+use Rattle.sched_plain.specs.ReachedStates.{Reachable, Stands}
 
 -- one more entry
 reach-entry : (m : Machine) (s next : State) (entry : Entry) → Reachable m s → IsNext m (record { state = s; over = false }) entry → after_entry m (record { state = s; over = false }) entry ≡ record { state = next; over = false } → Reachable m next

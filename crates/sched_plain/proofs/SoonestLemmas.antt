@@ -1,11 +1,11 @@
 -- How the soonest moment is found, list by list.
-use Rattle.std.proofs.Common.{◌≡◌, ◌∙◌, ℕ, suc, map, Bool, true, false, List, [], ◌∷◌, ◌++◌, min, refl, sym, ap, cond, arith}
+use Rattle.std.proofs.Common.{◌≡◌, ◌∙◌, ◌<◌, ◌≤◌, ◌-◌, ℕ, suc, length, take, drop, get_or, map, Bool, true, false, List, [], ◌∷◌, ◌++◌, min, refl, sym, ap, cond, arith}
 use Rattle.std.specs.List.{cons_option}
-use Rattle.std.specs.Prelude.{Option, Some, None, filter, filter_map, nat_lt, is_some, option_map, slice_get, ◌&&◌}
-use Rattle.sched_model.specs.declared.work.StallLine.{StallLine}
-use Rattle.sched_model.specs.declared.work.CommandLine.{CommandLine}
+use Rattle.std.specs.Prelude.{Option, Some, None, filter, filter_map, nat_lt, is_some, ◌&&◌}
 use Rattle.std.proofs.lemmas.Bool.Decides.{nat_tests}
 use Rattle.std.proofs.lemmas.List.Elements.{filter-append}
+use Rattle.sched_base.specs.declared.Moment.{Moment}
+use Rattle.sched_model.specs.declared.machine.Machine.{Machine}
 use Rattle.sched_model.specs.declared.state.Processor.{Processor}
 use Rattle.sched_model.specs.declared.state.Resource.{Resource}
 use Rattle.sched_model.specs.declared.state.Domain.{Domain}
@@ -13,12 +13,11 @@ use Rattle.sched_model.specs.declared.state.Pool.{Pool}
 use Rattle.sched_model.specs.declared.state.FreeCore.{FreeCore}
 use Rattle.sched_model.specs.declared.state.Credit2Domain.{Credit2Domain}
 use Rattle.sched_model.specs.declared.state.RtdsUnit.{RtdsUnit}
-use Rattle.sched_model.specs.declared.machine.Machine.{Machine}
 use Rattle.sched_model.specs.declared.state.State.{State}
-use Rattle.sched_base.specs.declared.Moment.{Moment}
-use Rattle.sched_model.specs.Places.{least_number, numbered_items}
+use Rattle.sched_model.specs.Places.{AllPlaces, least_number, numbered_items}
 use Rattle.sched_model.specs.Machine.{some_of, joined_lists, first_enabled, core_moments, vcpu_moments, records_moments, pool_moments, moments}
-use Rattle.sched_plain.specs.Soonest.{lesser_moment, is_later, is_sooner, soonest_moment, soonest_of_each, soonest_of_places, line_moments, refill_moments}
+use Rattle.sched_plain.proofs.Domains.{behind}
+use Rattle.sched_plain.specs.Soonest.{lesser_moment, is_later, is_sooner, soonest_moment, soonest_of_places, line_moments, refill_moments}
 
 lesser-none : (a : Option ℕ) → lesser_moment a None ≡ a
 lesser-none None = refl
@@ -75,20 +74,6 @@ module _ (m : Machine) (s : State) (t : ℕ) (best : Option ℕ) where
       ∙ ap (lesser_moment best) (least-append (filter (is_later m s t) xs) (filter (is_later m s t) ys))
       ∙ lesser-assoc best (least_number (filter (is_later m s t) xs)) (least_number (filter (is_later m s t) ys))
 
-  -- of one moment that is none
-  pub soonest_of_other : (x : ℕ) → is_later m s t x ≡ false → soonest_moment m s t best (x ∷ []) ≡ best
-  unfolding soonest_moment
-  soonest_of_other x other = rw other (lesser-none best)
-
-  -- of one moment at which something may happen
-  pub soonest_of_one : (x : ℕ) → is_later m s t x ≡ true → soonest_moment m s t best (x ∷ []) ≡ lesser_moment best (Some x)
-  unfolding soonest_moment
-  soonest_of_one x later = rw later refl
-
-  -- the list one by one
-  pub soonest_of_cons : (x : ℕ) (xs : List ℕ) → soonest_moment m s t best (x ∷ xs) ≡ soonest_moment m s t (soonest_moment m s t best (x ∷ [])) xs
-  soonest_of_cons x xs = soonest_of_both (x ∷ []) xs
-
   -- two moments that may not be there, apart
   some_of-two : (a b : Option Moment) → some_of (a ∷ b ∷ []) ≡ some_of (a ∷ []) ++ some_of (b ∷ [])
   some_of-two None b = refl
@@ -108,17 +93,25 @@ module _ (m : Machine) (s : State) (t : ℕ) (best : Option ℕ) where
   unfolding soonest_moment
   soonest_of_later x later = later_cases best (nat_lt t x) (is_some (first_enabled m s x)) x later
 
+  -- of the lists joined, of which there is none
+  pub each_empty : {X : Type 0} (f : X → List ℕ) (xs : List X) → length xs < 1 → best ≡ soonest_moment m s t best (joined_lists f xs)
+  each_empty f [] none = sym soonest_of_none
+  each_empty f (x ∷ xs) none = absurd (omega (arith, none))
+
+  -- of the first and then of the others
+  pub each_more : {X : Type 0} (f : X → List ℕ) (xs : List X) (x : X) (a r : Option ℕ) → 1 ≤ length xs → x ≡ get_or xs 0 x → a ≡ soonest_moment m s t best (f x)
+      → r ≡ soonest_moment m s t a (joined_lists f (take (length xs - 1) (drop 1 xs))) → r ≡ soonest_moment m s t best (joined_lists f xs)
+  each_more f [] x a r some is first then = absurd (omega arith)
+  each_more f (y ∷ ys) x a r some is first then =
+      then ∙ ap (λ zs. soonest_moment m s t a (joined_lists f zs)) (behind y ys)
+      ∙ ap (λ b. soonest_moment m s t b (joined_lists f ys)) (first ∙ ap (λ z. soonest_moment m s t best (f z)) is) ∙ sym (soonest_of_both (f y) (joined_lists f ys))
+
+-- lists of one moment each, joined
+pub joined_map : {X : Type 0} (f : X → ℕ) (xs : List X) → joined_lists (λ x. f x ∷ []) xs ≡ map f xs
+joined_map f [] = refl
+joined_map f (x ∷ xs) = ap (λ ys. f x ∷ ys) (joined_map f xs)
+
 module _ (m : Machine) (s : State) (t : ℕ) where
-  -- one by one, of the lists joined
-  pub soonest_of_joined : {X : Type 0} (f : X → List ℕ) (best : Option ℕ) (xs : List X) → soonest_of_each m s t f best xs ≡ soonest_moment m s t best (joined_lists f xs)
-  soonest_of_joined f best [] = sym (soonest_of_none m s t best)
-  soonest_of_joined f best (x ∷ xs) = soonest_of_joined f (soonest_moment m s t best (f x)) xs ∙ sym (soonest_of_both m s t best (f x) (joined_lists f xs))
-
-  -- one by one, of one moment each
-  pub soonest_of_map : {X : Type 0} (f : X → ℕ) (best : Option ℕ) (xs : List X) → soonest_of_each m s t (λ x. f x ∷ []) best xs ≡ soonest_moment m s t best (map f xs)
-  soonest_of_map f best [] = sym (soonest_of_none m s t best)
-  soonest_of_map f best (x ∷ xs) = soonest_of_map f (soonest_moment m s t best (f x ∷ [])) xs ∙ sym (soonest_of_both m s t best (f x ∷ []) (map f xs))
-
   -- place by place, of the lists joined
   pub soonest_of_numbered : {X : Type 0} (f : X → List ℕ) (n : ℕ) (best : Option ℕ) (places : List (Option X)) → soonest_of_places m s t f best places ≡ soonest_moment m s t best (joined_lists (λ (e : ℕ × X). f e.1) (numbered_items n places))
   soonest_of_numbered f n best [] = sym (soonest_of_none m s t best)
@@ -128,9 +121,9 @@ module _ (m : Machine) (s : State) (t : ℕ) where
 
   -- the moments of a core, of its due and then of its processors
   pub core-soonest : (best so_far r : Option ℕ) (c : Resource) → so_far ≡ soonest_moment m s t best (some_of (c.due ∷ []))
-      → r ≡ soonest_of_each m s t (λ (p : Processor). p.stall_end.0 ∷ []) so_far c.processors → r ≡ soonest_moment m s t best (core_moments c)
+      → r ≡ soonest_moment m s t so_far (joined_lists (λ (p : Processor). p.stall_end.0 ∷ []) c.processors) → r ≡ soonest_moment m s t best (core_moments c)
   core-soonest best so_far r c first then =
-      then ∙ soonest_of_map (λ (p : Processor). p.stall_end.0) so_far c.processors ∙ ap (λ b. soonest_moment m s t b (map (λ (p : Processor). p.stall_end.0) c.processors)) first
+      then ∙ ap (soonest_moment m s t so_far) (joined_map (λ (p : Processor). p.stall_end.0) c.processors) ∙ ap (λ b. soonest_moment m s t b (map (λ (p : Processor). p.stall_end.0) c.processors)) first
       ∙ sym (soonest_of_both m s t best (some_of (c.due ∷ [])) (map (λ (p : Processor). p.stall_end.0) c.processors))
 
   -- those of a pool, of its cores, its domains and its scheduler
@@ -157,14 +150,6 @@ module _ (m : Machine) (s : State) (t : ℕ) where
       third ∙ ap (λ x. soonest_moment m s t x (line_moments m s)) (of_free ∙ ap (λ x. soonest_moment m s t x free) of_pools ∙ sym (soonest_of_both m s t None pools free))
       ∙ sym (soonest_of_both m s t None (pools ++ free) (line_moments m s))
 
-  -- those of the next lines
-  pub lines-soonest : (best so_far r : Option ℕ) (a b : Option Moment)
-      → a ≡ option_map (λ (line : StallLine). line.at) (slice_get m.work.stalls s.next_stall) → b ≡ option_map (λ (line : CommandLine). line.at) (slice_get m.work.commands s.next_command)
-      → so_far ≡ soonest_moment m s t best (some_of (a ∷ [])) → r ≡ soonest_moment m s t so_far (some_of (b ∷ [])) → r ≡ soonest_moment m s t best (line_moments m s)
-  lines-soonest best so_far r a b stall command first then =
-      then ∙ ap (λ x. soonest_moment m s t x (some_of (b ∷ []))) first ∙ sym (soonest_of_some m s t best a b)
-      ∙ ap (λ x. soonest_moment m s t best (some_of (x ∷ b ∷ []))) stall ∙ ap (λ x. soonest_moment m s t best (some_of (option_map (λ (line : StallLine). line.at) (slice_get m.work.stalls s.next_stall) ∷ x ∷ []))) command
-
 -- the refills that are there, one list of one or none for each domain
 refill_joined : (o : Option ℕ) (rest more : List ℕ) → rest ≡ more → elim o as (λ _. List ℕ) [ None ↦ [] | Some at ↦ at ∷ [] ] ++ rest ≡ cons_option o more
 refill_joined None rest more same = same
@@ -183,3 +168,9 @@ module _ (m : Machine) (s : State) (t : ℕ) where
   -- the deadlines of an RTDS pool
   pub deadlines-soonest : (best : Option ℕ) (domains : List (Option (List RtdsUnit))) → soonest_of_places m s t (λ (units : List RtdsUnit). map (λ (x : RtdsUnit). x.deadline) units) best domains ≡ soonest_moment m s t best (joined_lists (λ (e : ℕ × List RtdsUnit). map (λ (x : RtdsUnit). x.deadline) e.1) (numbered_items 0 domains))
   deadlines-soonest best domains = soonest_of_numbered m s t (λ (units : List RtdsUnit). map (λ (x : RtdsUnit). x.deadline) units) 0 best domains
+
+-- where nothing is asked of what stands at places, all have it
+pub places_have : {X : Type 0} (places : List (Option X)) → AllPlaces (λ x. Unit {0}) places
+places_have [] = tt
+places_have (None ∷ places) = places_have places
+places_have (Some x ∷ places) = (tt, places_have places)

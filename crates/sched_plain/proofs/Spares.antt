@@ -6,10 +6,10 @@ use Rattle.sched_model.specs.declared.plan.Plan.{Plan}
 use Rattle.sched_model.specs.declared.state.Pool.{Pool}
 use Rattle.sched_model.specs.declared.work.CommandLine.{CommandLine}
 use Rattle.sched_model.specs.Places.{at_place}
-use Rattle.plain_opening.specs.Opened.{spare_for}
-use Rattle.plain_commands.specs.Carried.{spares_after}
+use Rattle.plain_opening.specs.OpeningPool.{spare_for}
+use Rattle.plain_commands.specs.PlanEffects.{spares_after}
 use Rattle.plain_commands.proofs.Planned.{spares-kept}
-use Rattle.sched_plain.specs.Commanding.{HasSpares}
+use Rattle.sched_plain.specs.CommandList.{HasSpares}
 
 -- what f makes of an item stands at its place
 at_place-mapped : {X Y : Type 0} (f : X → Option Y) (xs : List X) (k : ℕ) (x : X) → slice_get xs k ≡ Some x → at_place (map f xs) k ≡ f x

@@ -5,17 +5,17 @@ use Rattle.std.proofs.lemmas.List.Elements.{recursion_from_All}
 use Rattle.sched_base.specs.Numbers.{moment, processor}
 use Rattle.sched_base.specs.declared.ProcId.{ProcId}
 use Rattle.sched_base.specs.declared.Moment.{Moment}
+use Rattle.sched_base.proofs.Lists.{each_get}
 use Rattle.sched_model.specs.declared.action.Action.TheVariants.{Stall}
 use Rattle.sched_model.specs.declared.event.Event.TheVariants as event
 use Rattle.sched_model.specs.declared.machine.Machine.{Machine}
 use Rattle.sched_model.specs.declared.state.State.{State}
 use Rattle.sched_model.specs.declared.work.StallLine.{StallLine}
 use Rattle.sched_model.specs.Actions.{home_of_core}
-use Rattle.sched_model.specs.Checked.{IsCheckedStall, most_span}
+use Rattle.sched_model.specs.CheckedMachine.{IsCheckedStall, most_span}
 use Rattle.sched_model.specs.Machine.{after, after_stall, event_of, stall_end_of, with_stall_end}
 use Rattle.sched_laws.proofs.EachPlace.{by_option}
-use Rattle.sched_laws.proofs.Opened.{each_get}
-use Rattle.sched_plain.specs.Reached.{Stands}
+use Rattle.sched_plain.specs.ReachedStates.{Stands}
 
 -- a stall changes no count of lines
 stalled-lines : (g p end : ℕ) (s : State) → (with_stall_end g p end s).next_stall ≡ s.next_stall

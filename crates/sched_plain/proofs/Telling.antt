@@ -11,7 +11,7 @@ use Rattle.sched_model.specs.Places.{at_place}
 use Rattle.sched_ranges.specs.Ranges.{RecordsInRange}
 use Rattle.plain_telling.specs.declared.scratch.Scratch.{Scratch}
 use Rattle.plain_telling.specs.Rooms.{HasPlaces, HasRoom}
-use Rattle.sched_plain.specs.Reached.{Stands}
+use Rattle.sched_plain.specs.ReachedStates.{Stands}
 use Rattle.sched_plain.proofs.Reaching.{reached-in_range}
 
 room : (m : Machine) (t : ℕ) (records : Records) (scratch : Scratch) → RecordsInRange m t records → HasPlaces (length m.config.domains) (core_count m.config) scratch → HasRoom records scratch

@@ -1,8 +1,7 @@
-pub mod Reached
+pub mod ReachedStates
 pub mod Fits
-pub mod Commanding
+pub mod CommandList
 pub mod Moves
 pub mod Search
 pub mod Soonest
 pub mod Stalls
-pub mod Standing

@@ -30,12 +30,7 @@ abbrev pub line_moments : Machine → State → List ℕ
 line_moments m s =
     some_of (option_map (λ (line : StallLine). line.at) (slice_get m.work.stalls s.next_stall) ∷ option_map (λ (line : CommandLine). line.at) (slice_get m.work.commands s.next_command) ∷ [])
 
--- the soonest of the best so far and of those that f names of each of the things
-abbrev pub soonest_of_each : {X : Type 0} → Machine → State → ℕ → (X → List ℕ) → Option ℕ → List X → Option ℕ
-soonest_of_each m s t f best [] = best
-soonest_of_each m s t f best (x ∷ xs) = soonest_of_each m s t f (soonest_moment m s t best (f x)) xs
-
--- the same of what stands at a place
+-- the soonest of the best so far and of those that f names of each of the things that stand at places
 abbrev pub soonest_of_places : {X : Type 0} → Machine → State → ℕ → (X → List ℕ) → Option ℕ → List (Option X) → Option ℕ
 soonest_of_places m s t f best [] = best
 soonest_of_places m s t f best (None ∷ places) = soonest_of_places m s t f best places

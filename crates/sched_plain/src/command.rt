@@ -1,53 +1,32 @@
 //! The commands of the workload: judged by what the tool keeps, and carried out where they are accepted.
 
 ghost use Rattle.std.specs.Prelude.{◌≡◌, ◌≤◌, ℕ, Some, Ok, true, length, slice_get};
-ghost use Rattle.sched_laws.specs.Each.{EachPlace};
+ghost use Rattle.sched_laws.specs.EachPlace.{EachPlace};
 ghost use Rattle.sched_model.specs.declared.action.Action.TheVariants as actions;
-ghost use Rattle.sched_model.specs.Checked.{IsCheckedCommand, most_span};
-ghost use Rattle.sched_model.specs.Commands.{judge, pool_of_plan as pool_of_plan_spec, reply_of as reply_of_spec};
+ghost use Rattle.sched_model.specs.CheckedMachine.{IsCheckedCommand, most_span};
+ghost use Rattle.sched_model.specs.Commands.{judge, pool_of_plan as pool_of_plan_spec};
 ghost use Rattle.sched_model.specs.Machine.{is_enabled, event_of, after, settled_at, verdict as verdict_spec};
 ghost use Rattle.sched_model.specs.Places.{change_at};
 ghost use Rattle.sched_model.specs.Pool.{settled_pool};
 ghost use Rattle.cpupool.specs.Tool.{KnowsMachine};
-ghost use Rattle.sched_plain.specs.Commanding.{HasSpares, IsAccepted};
+ghost use Rattle.sched_plain.specs.CommandList.{HasSpares, IsAccepted};
 ghost use Rattle.sched_plain.specs.Fits.{PoolFitsAt};
-ghost use Rattle.sched_plain.specs.Reached.{Stands};
+ghost use Rattle.sched_plain.specs.ReachedStates.{Stands};
 
 use crate::homes::home_of_domain;
 use cpupool::ToolState;
+use cpupool::judge::reply_of;
 use plain_commands::carry::carry_out;
 use plain_commands::facts::facts_at;
 use plain_pool::settle::settle;
 use sched_base::Moment;
 use sched_model::command::Command;
-use sched_model::event::{Event, Refusal, Reply};
+use sched_model::event::{Event, Refusal};
 use sched_model::machine::Machine;
 use sched_model::plan::Plan;
 use sched_model::row::Row;
 use sched_model::state::{Pool, State};
 use sched_model::work::CommandLine;
-
-/// The answer to an accepted command.
-pub(crate) fn reply_of(plan: &Plan) -> Reply
-    ensures { result ≡ reply_of_spec plan.now }
-{
-    match plan {
-        Plan::PoolList { reply, .. } => *reply,
-        Plan::PoolCreate { reply, .. } => *reply,
-        Plan::PoolDestroy { reply, .. } => *reply,
-        Plan::PoolRename { reply, .. } => *reply,
-        Plan::CpuAdd { reply, .. } => *reply,
-        Plan::CpuRemove { reply, .. } => *reply,
-        Plan::Migrate { reply, .. } => *reply,
-        Plan::Credit2Dom { reply, .. } => *reply,
-        Plan::Credit2Pool { reply, .. } => *reply,
-        Plan::RtdsDom { reply, .. } => *reply,
-        Plan::Pause { reply, .. } => *reply,
-        Plan::Unpause { reply, .. } => *reply,
-        Plan::ArincSet { reply, .. } => *reply,
-        Plan::Pin { reply, .. } => *reply,
-    }
-}
 
 /// The pool whose cores are looked at after the command: the one that it names, or the home of the domain that it names.
 fn pool_of_plan(s: &State, plan: &Plan) -> Option<usize>
@@ -114,10 +93,10 @@ fn settle_pool(t: Moment, i: usize, pools: &mut Row<Option<Pool>>)
     requires fits { EachPlace (PoolFitsAt t.0) pools.old }
     ensures { pools.new ≡ change_at i (settled_pool t.0) pools.old }
 {
-    if i < pools.len() {
-        if let Some(pool) = pools.item_mut(i) {
-            settle(t, pool);
-        }
+    if let Some(place) = pools.get_mut(i)
+        && let Some(pool) = place
+    {
+        settle(t, pool);
     }
 }
 

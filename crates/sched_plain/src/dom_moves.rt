@@ -1,16 +1,17 @@
 //! Domains that move from one pool to another. g is the number of a core's processors, t the moment.
 
-ghost use Rattle.sched_model.specs.Checked.{most_span};
+ghost use Rattle.sched_model.specs.CheckedMachine.{most_span};
 ghost use Rattle.std.specs.Prelude.{◌≡◌, ◌<◌, ◌≤◌, length, true};
 ghost use Rattle.sched_model.specs.declared.action.Action.TheVariants as actions;
 ghost use Rattle.sched_model.specs.Machine.{is_enabled, event_of, after, left_by, joined_by};
 ghost use Rattle.sched_model.specs.Places.{at_place, change_at};
-ghost use Rattle.sched_laws.specs.Each.{EachPlace};
+ghost use Rattle.sched_laws.specs.EachPlace.{EachPlace};
 ghost use Rattle.sched_plain.specs.Fits.{PoolFitsAt};
 ghost use Rattle.sched_plain.specs.Moves.{domain_in, target_in as target_in_spec};
-ghost use Rattle.sched_plain.specs.Reached.{Stands};
+ghost use Rattle.sched_plain.specs.ReachedStates.{Stands};
 
 use crate::homes::{home_of_domain, pool_at};
+use cpupool::pools::item_at;
 use plain_policy::params::default_dom_params;
 use plain_policy::records::is_null;
 use plain_pool::domains::{with_domain, without_domain};
@@ -26,15 +27,7 @@ pub(crate) fn target_in(s: &State, i: usize, d: DomId) -> Option<PoolId>
     ensures { result ≡ target_in_spec d.0 i s.entry.now.pools }
 {
     let pool = pool_at(s, i)?;
-    let domains = pool.domains.as_slice();
-    let place = d.0 as usize;
-    if place >= domains.len() {
-        return None;
-    }
-    match &domains[place] {
-        None => None,
-        Some(domain) => domain.moving,
-    }
+    item_at(pool.domains.as_slice(), d.0 as usize)?.moving
 }
 
 /// The domain leaves the pool; a null pool's cores are looked at, since one of them may have become free for a waiting unit.
@@ -59,12 +52,12 @@ fn leave_at(t: Moment, d: DomId, i: usize, pools: &mut Row<Option<Pool>>) -> Opt
     ensures domain { result ≡ domain_in d.0 i pools.old }
     ensures pools { pools.new ≡ change_at i (left_by t.0 d.0) pools.old }
 {
-    if i >= pools.len() {
-        return None;
-    }
-    match pools.item_mut(i) {
-        None => None,
-        Some(pool) => leave(t, d, pool),
+    if let Some(place) = pools.get_mut(i)
+        && let Some(pool) = place
+    {
+        leave(t, d, pool)
+    } else {
+        None
     }
 }
 
@@ -99,10 +92,10 @@ fn join_at(g: u8, t: Moment, d: DomId, joining: Domain, i: usize, pools: &mut Ro
         (change_at i (joined_by g t.0 d.0 joining) pools.old) }
     ensures { pools.new ≡ change_at i (joined_by g t.0 d.0 joining) pools.old }
 {
-    if i < pools.len() {
-        if let Some(pool) = pools.item_mut(i) {
-            join(g, t, d, joining, pool);
-        }
+    if let Some(place) = pools.get_mut(i)
+        && let Some(pool) = place
+    {
+        join(g, t, d, joining, pool);
     }
 }
 

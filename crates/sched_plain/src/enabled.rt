@@ -8,6 +8,7 @@ ghost use Rattle.sched_plain.specs.Fits.{MachineFits, StateFits};
 ghost use Rattle.sched_plain.specs.Search.{stall_due as stall_due_spec, command_due as command_due_spec};
 
 use crate::homes::{home_of, is_move_under_way, pool_at};
+use cpupool::pools::item_at;
 use plain_pool::pool::is_enabled_in;
 use sched_base::{Moment, ResId};
 use sched_model::action::Action;
@@ -49,12 +50,7 @@ fn free_ready(t: Moment, c: &FreeCore) -> bool
 fn is_free_ready(s: &State, t: Moment, r: ResId) -> bool
     ensures { result ≡ test_at s.entry.now.free r.0 (free_ready_spec t.0) }
 {
-    let place = r.0 as usize;
-    let free = s.free.as_slice();
-    if place >= free.len() {
-        return false;
-    }
-    match &free[place] {
+    match item_at(s.free.as_slice(), r.0 as usize) {
         None => false,
         Some(c) => free_ready(t, c),
     }

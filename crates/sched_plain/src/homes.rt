@@ -13,23 +13,10 @@ ghost use Rattle.sched_model.specs.Machine.{is_move_under_way as is_move_under_w
 ghost use Rattle.sched_plain.specs.Moves.{is_anything_moving};
 ghost use Rattle.plain_pool.specs.Fits.{PoolFits};
 
+use cpupool::pools::item_at;
 use sched_base::{DomId, ResId};
 use sched_model::action::Action;
 use sched_model::state::{Domain, FreeCore, Pool, Resource, State};
-
-/// Whether something stands at the place.
-fn has_core(cores: &[Option<Resource>], r: usize) -> bool
-    ensures { result ≡ is_some (at_place cores.now r) }
-{
-    r < cores.len() && cores[r].is_some()
-}
-
-/// Whether something stands at the place.
-fn has_domain(domains: &[Option<Domain>], d: usize) -> bool
-    ensures { result ≡ is_some (at_place domains.now d) }
-{
-    d < domains.len() && domains[d].is_some()
-}
 
 /// The pool that has the core, where the first of these has the number i.
 fn core_home(i: usize, pools: &[Option<Pool>], r: ResId) -> Option<usize>
@@ -41,7 +28,7 @@ fn core_home(i: usize, pools: &[Option<Pool>], r: ResId) -> Option<usize>
         [] => None,
         [None, rest @ ..] => core_home(i + 1, rest, r),
         [Some(pool), rest @ ..] => {
-            if has_core(pool.resources.as_slice(), r.0 as usize) {
+            if item_at(pool.resources.as_slice(), r.0 as usize).is_some() {
                 Some(i)
             } else {
                 core_home(i + 1, rest, r)
@@ -60,7 +47,7 @@ fn domain_home(i: usize, pools: &[Option<Pool>], d: DomId) -> Option<usize>
         [] => None,
         [None, rest @ ..] => domain_home(i + 1, rest, d),
         [Some(pool), rest @ ..] => {
-            if has_domain(pool.domains.as_slice(), d.0 as usize) {
+            if item_at(pool.domains.as_slice(), d.0 as usize).is_some() {
                 Some(i)
             } else {
                 domain_home(i + 1, rest, d)
@@ -89,12 +76,7 @@ pub fn home_of_domain(s: &State, d: DomId) -> Option<usize>
 pub fn pool_at(s: &State, i: usize) -> Option<&Pool>
     ensures { option_copied result ≡ at_place s.entry.now.pools i }
 {
-    let pools = s.pools.as_slice();
-    if i < pools.len() {
-        pools[i].as_ref()
-    } else {
-        None
-    }
+    item_at(s.pools.as_slice(), i)
 }
 
 /// The pool of the action's subject.
@@ -123,7 +105,8 @@ pub fn home_of(g: u8, s: &State, action: Action) -> Option<usize>
 /// Whether one of the cores is leaving, where the first of these has the number i.
 fn any_leaving(i: usize, cores: &[Option<Resource>]) -> bool
     requires { i + length cores.now < 2 ^ 64 }
-    ensures { result ≡ list_any (λ (c : ℕ × ResourceRecord). c.1.leaving) (numbered_items i cores.now) }
+    ensures { result
+        ≡ list_any (λ (c : ℕ × ResourceRecord). c.1.leaving) (numbered_items i cores.now) }
 {
     match cores {
         [] => false,

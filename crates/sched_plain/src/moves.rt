@@ -1,20 +1,22 @@
 //! Cores and domains that move from one pool to another. g is the number of a core's processors, t the moment.
 
-ghost use Rattle.sched_model.specs.Checked.{most_span};
+ghost use Rattle.sched_model.specs.CheckedMachine.{most_span};
 ghost use Rattle.std.specs.Prelude.{◌≡◌, ◌<◌, ◌≤◌, ◌^◌, length, true, Some, None, is_some, option_map};
 ghost use Rattle.sched_model.specs.declared.action.Action.TheVariants as actions;
 ghost use Rattle.sched_model.specs.Machine.{is_enabled, event_of, after, after_moved as after_moved_spec};
-ghost use Rattle.sched_model.specs.Places.{at_place, clear_at, put_at, change_at};
+ghost use Rattle.sched_model.specs.Places.{at_place, clear_at, change_at};
 ghost use Rattle.sched_model.specs.Pool.{settled_pool};
 ghost use Rattle.plain_units.specs.Fits.{RecordsFit};
 ghost use Rattle.plain_pool.specs.Cores.{ends_of};
 ghost use Rattle.plain_pool.specs.Fits.{PoolFits};
 ghost use Rattle.sched_plain.specs.Fits.{PoolFitsAt};
 ghost use Rattle.sched_plain.specs.Moves.{target_at as target_at_spec, with_core, without_core, without_its_core, ends_at};
-ghost use Rattle.sched_plain.specs.Reached.{Stands};
-ghost use Rattle.sched_laws.specs.Each.{EachPlace};
+ghost use Rattle.sched_plain.specs.ReachedStates.{Stands};
+ghost use Rattle.sched_laws.specs.EachPlace.{EachPlace};
 
 use crate::homes::home_of_core;
+use cpupool::pools::item_at;
+use plain_policy::places::set_place;
 use plain_pool::leaving::{put_core, take_core};
 use plain_pool::settle::settle;
 use sched_base::{Moment, PoolId, ResId};
@@ -28,22 +30,7 @@ use sched_model::state::{FreeCore, Pool, State};
 pub(crate) fn target_at(free: &[Option<FreeCore>], r: ResId) -> Option<u8>
     ensures { result ≡ target_at_spec free.now r.0 }
 {
-    let place = r.0 as usize;
-    if place >= free.len() {
-        return None;
-    }
-    match &free[place] {
-        None => None,
-        Some(c) => c.target,
-    }
-}
-
-/// Whether the core is one of no pool.
-fn is_free(free: &[Option<FreeCore>], r: ResId) -> bool
-    ensures { result ≡ is_some (at_place free.now r.0) }
-{
-    let place = r.0 as usize;
-    place < free.len() && free[place].is_some()
+    item_at(free, r.0 as usize)?.target
 }
 
 /// The core of no pool is taken out of its place.
@@ -56,22 +43,6 @@ fn take_free(r: ResId, free: &mut Row<Option<FreeCore>>) -> Option<FreeCore>
         free.replace(place, None)
     } else {
         None
-    }
-}
-
-/// The core is one of no pool, with these ends of its stalls.
-fn put_free(r: ResId, stall_ends: StallEnds, free: &mut Row<Option<FreeCore>>)
-    ensures { free.new ≡ put_at r.0 (record { target = None; stall_ends = stall_ends }) free.old }
-{
-    let place = r.0 as usize;
-    if place < free.len() {
-        free.replace(
-            place,
-            Some(FreeCore {
-                target: None,
-                stall_ends,
-            }),
-        );
     }
 }
 
@@ -97,10 +68,10 @@ fn join_core_at(
     requires fits { EachPlace (PoolFitsAt t.0) pools.old }
     ensures { pools.new ≡ change_at i (with_core t.0 r.0 stall_ends.now) pools.old }
 {
-    if i < pools.len() {
-        if let Some(pool) = pools.item_mut(i) {
-            join_core(t, r, stall_ends, pool);
-        }
+    if let Some(place) = pools.get_mut(i)
+        && let Some(pool) = place
+    {
+        join_core(t, r, stall_ends, pool);
     }
 }
 
@@ -123,12 +94,12 @@ fn part_core_at(t: Moment, r: ResId, i: usize, pools: &mut Row<Option<Pool>>) ->
     ensures ends { result ≡ ends_at r.0 i pools.old }
     ensures pools { pools.new ≡ change_at i (without_its_core t.0 r.0) pools.old }
 {
-    if i >= pools.len() {
-        return None;
-    }
-    match pools.item_mut(i) {
-        None => None,
-        Some(pool) => part_core(t, r, pool),
+    if let Some(place) = pools.get_mut(i)
+        && let Some(pool) = place
+    {
+        part_core(t, r, pool)
+    } else {
+        None
     }
 }
 
@@ -155,7 +126,11 @@ fn detach(t: Moment, r: ResId, s: &mut State)
 {
     if let Some(i) = home_of_core(s, r) {
         if let Some(ends) = part_core_at(t, r, i, &mut s.pools) {
-            put_free(r, ends, &mut s.free);
+            let free = FreeCore {
+                target: None,
+                stall_ends: ends,
+            };
+            set_place(&mut s.free, r.0, Some(free));
         }
     }
 }
@@ -171,7 +146,7 @@ pub fn move_core(m: &Machine, r: ResId, s: &mut State) -> Event
     match to {
         Some(i) => attach(Moment(t), r, i, s),
         None => {
-            if !is_free(s.free.as_slice(), r) {
+            if item_at(s.free.as_slice(), r.0 as usize).is_none() {
                 detach(Moment(t), r, s);
             }
         }

@@ -1,15 +1,14 @@
 //! Doing an action that may come, in the pool of its subject.
 
-ghost use Rattle.sched_model.specs.Checked.{most_span};
+ghost use Rattle.sched_model.specs.CheckedMachine.{most_span};
 ghost use Rattle.std.specs.Prelude.{◌≡◌, ◌<◌, ◌≤◌, true, Some};
 ghost use Rattle.sched_model.specs.Pool.{enabled_in, event_in, after_in, settled_pool};
-ghost use Rattle.sched_model.specs.Actions.{home_of as home_of_spec};
+ghost use Rattle.sched_model.specs.Actions.{IsOfPool, home_of as home_of_spec};
 ghost use Rattle.sched_model.specs.Machine.{is_enabled, event_of, after};
-ghost use Rattle.plain_pool.specs.Own.{IsOfPool};
 ghost use Rattle.cpupool.specs.Tool.{KnowsMachine};
-ghost use Rattle.sched_plain.specs.Commanding.{HasSpares};
+ghost use Rattle.sched_plain.specs.CommandList.{HasSpares};
 ghost use Rattle.sched_plain.specs.Fits.{PoolFitsAt};
-ghost use Rattle.sched_plain.specs.Reached.{Stands};
+ghost use Rattle.sched_plain.specs.ReachedStates.{Stands};
 
 use crate::command::command;
 use crate::dom_moves::move_domain;

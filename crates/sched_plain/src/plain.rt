@@ -2,9 +2,9 @@
 
 ghost use Rattle.std.specs.Prelude.{◌≡◌, ◌<◌, IfOk, length};
 ghost use Rattle.cpupool.specs.Tool.{tool_of};
-ghost use Rattle.plain_opening.specs.Opened.{spares_of};
+ghost use Rattle.plain_opening.specs.OpeningPool.{spares_of};
 ghost use Rattle.plain_telling.specs.Rooms.{HasPlaces};
-ghost use Rattle.sched_model.specs.Checked.{IsChecked};
+ghost use Rattle.sched_model.specs.CheckedMachine.{IsChecked};
 ghost use Rattle.sched_model.specs.Opening.{opening, core_count as core_count_spec};
 
 use crate::enabled::is_enabled;
@@ -39,7 +39,7 @@ pub struct Plain {
 }
 
 impl Model for Plain {
-    ghost use Rattle.sched_plain.specs.Standing.{Standing};
+    ghost use Rattle.sched_model.specs.Standing.{Standing};
 
     ghost Value = { Standing };
 
@@ -47,12 +47,14 @@ impl Model for Plain {
     ghost use Rattle.sched_model.specs.Opening.{core_count};
     ghost use Rattle.plain_telling.specs.Rooms.{HasPlaces};
     ghost use Rattle.cpupool.specs.Tool.{KnowsMachine};
-    ghost use Rattle.sched_plain.specs.Commanding.{HasSpares};
-    ghost use Rattle.sched_plain.specs.Reached.{Stands};
+    ghost use Rattle.sched_plain.specs.CommandList.{HasSpares};
+    ghost use Rattle.sched_plain.specs.ReachedStates.{Stands};
 
     ghost view = { λ p. record { machine = p.machine; state = p.state } };
 
-    ghost invariant = { λ p. Stands p.machine p.state × KnowsMachine p.machine p.tool × HasSpares p.machine p.state.next_command p.spares × HasPlaces (length p.machine.config.domains) (core_count p.machine.config) p.scratch };
+    ghost invariant = { λ p. Stands p.machine p.state × KnowsMachine p.machine p.tool
+        × HasSpares p.machine p.state.next_command p.spares
+        × HasPlaces (length p.machine.config.domains) (core_count p.machine.config) p.scratch };
 }
 
 /// The state of a machine at its opening, and what its tool knows then.
@@ -116,7 +118,7 @@ impl Plain {
     ghost use Rattle.std.specs.Prelude.{◌≡◌, true, None, Some, IfOk, option_map};
     ghost use Rattle.sched_base.specs.Numbers.{moment};
     ghost use Rattle.sched_model.specs.Opening.{opening};
-    ghost use Rattle.sched_model.specs.Checked.{IsChecked};
+    ghost use Rattle.sched_model.specs.CheckedMachine.{IsChecked};
     ghost use Rattle.sched_model.specs.Machine.{is_enabled as is_enabled_spec, first_enabled as first_enabled_spec, next_in_horizon, event_of, after};
 
     /// The machine at its opening. Its values have passed the checks of the domain file and of the work file.

@@ -7,15 +7,15 @@ ghost use Rattle.sched_model.specs.Machine.{is_enabled, event_of, after, stall_e
 ghost use Rattle.sched_model.specs.Places.{at_place, change_at};
 ghost use Rattle.sched_model.specs.Pool.{change_processor};
 ghost use Rattle.plain_pool.specs.Cores.{stalled_to};
-ghost use Rattle.sched_plain.specs.Reached.{Stands};
+ghost use Rattle.sched_plain.specs.ReachedStates.{Stands};
 ghost use Rattle.sched_plain.specs.Stalls.{end_in_pool as end_in_pool_spec, end_at_home as end_at_home_spec, end_among as end_among_spec, end_in_free as end_in_free_spec, ends_to, free_to};
 
 use crate::homes::{home_of_core, pool_at};
+use cpupool::pools::item_at;
 use plain_pool::leaving::set_stall_end;
 use plain_pool::pool::processor_of;
 use sched_base::{Moment, ProcId, ResId};
 use sched_model::event::Event;
-use sched_model::facts::StallEnds;
 use sched_model::machine::Machine;
 use sched_model::row::Row;
 use sched_model::state::{FreeCore, Pool, State};
@@ -57,11 +57,7 @@ fn end_in_free(g: u8, free: &[Option<FreeCore>], p: ProcId, end: u64) -> u64
     requires { 0 < g }
     ensures { result ≡ end_in_free_spec g free.now p.0 end }
 {
-    let r = (p.0 / g) as usize;
-    if r >= free.len() {
-        return end;
-    }
-    match &free[r] {
+    match item_at(free, (p.0 / g) as usize) {
         None => end,
         Some(c) => end_among(c.stall_ends.as_slice(), (p.0 % g) as usize, end),
     }
@@ -79,11 +75,12 @@ pub(crate) fn stall_end_of(g: u8, s: &State, p: ProcId, end: u64) -> u64
     }
 }
 
-/// The end at this place set.
-fn set_end_among(ends: &mut StallEnds, i: usize, end: u64)
-    ensures { ends.new ≡ ends_to i end ends.old }
+/// The end at this place of a core of no pool set.
+#[tactic(auto, using(plain_units::proofs::Places::past_the_end))]
+fn set_end_among(c: &mut FreeCore, i: usize, end: u64)
+    ensures { c.new ≡ record c.old { stall_ends = ends_to i end c.old.stall_ends } }
 {
-    if let Some(old) = ends.get_mut(i) {
+    if let Some(old) = c.stall_ends.get_mut(i) {
         *old = Moment(end);
     }
 }
@@ -93,11 +90,10 @@ fn set_end_in_free(g: u8, p: ProcId, end: u64, free: &mut Row<Option<FreeCore>>)
     requires { 0 < g }
     ensures { free.new ≡ free_to g p.0 end free.old }
 {
-    let r = (p.0 / g) as usize;
-    if r < free.len() {
-        if let Some(c) = free.item_mut(r) {
-            set_end_among(&mut c.stall_ends, (p.0 % g) as usize, end);
-        }
+    if let Some(place) = free.get_mut((p.0 / g) as usize)
+        && let Some(c) = place
+    {
+        set_end_among(c, (p.0 % g) as usize, end);
     }
 }
 
@@ -106,10 +102,10 @@ fn set_end_at_home(g: u8, p: ProcId, end: u64, i: usize, pools: &mut Row<Option<
     requires { 0 < g }
     ensures { pools.new ≡ change_at i (change_processor g p.0 (stalled_to end)) pools.old }
 {
-    if i < pools.len() {
-        if let Some(pool) = pools.item_mut(i) {
-            set_stall_end(g, p, end, pool);
-        }
+    if let Some(place) = pools.get_mut(i)
+        && let Some(pool) = place
+    {
+        set_stall_end(g, p, end, pool);
     }
 }
 

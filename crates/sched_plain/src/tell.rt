@@ -2,20 +2,20 @@
 
 ghost use Rattle.std.specs.Prelude.{◌≡◌, ◌<◌, ◌≤◌, true, Some, length, slice_get};
 ghost use Rattle.sched_model.specs.declared.action.Action.TheVariants as actions;
-ghost use Rattle.sched_model.specs.Actions.{home_of as home_of_spec};
+ghost use Rattle.sched_model.specs.Actions.{IsOfPool, home_of as home_of_spec};
 ghost use Rattle.sched_model.specs.Machine.{is_enabled, answer_of, event_of};
 ghost use Rattle.sched_model.specs.Opening.{core_count};
-ghost use Rattle.plain_pool.specs.Own.{IsOfPool};
 ghost use Rattle.plain_telling.specs.Rooms.{HasPlaces};
 ghost use Rattle.cpupool.specs.Tool.{KnowsMachine};
-ghost use Rattle.sched_plain.specs.Reached.{Stands};
+ghost use Rattle.sched_plain.specs.ReachedStates.{Stands};
 
-use crate::command::{reply_of, verdict};
+use crate::command::verdict;
 use crate::dom_moves::target_in;
 use crate::homes::{home_of, home_of_domain, pool_at};
 use crate::moves::target_at;
 use crate::stall::stall_end_of;
 use cpupool::ToolState;
+use cpupool::judge::reply_of;
 use plain_telling::scratch::Scratch;
 use plain_telling::telling::tell as tell_in;
 use sched_base::{DomId, Moment, PoolId, ResId};

@@ -11,7 +11,7 @@ use Rattle.sched_model.specs.declared.event.Param.TheVariants as param
 use Rattle.sched_model.specs.declared.event.Entry.{Entry}
 use Rattle.sched_print.specs.Line.{words, with_event}
 use Rattle.sched_print.specs.Ranges.{IsPrintable, IsPrintableEvent, IsMoment, IsCommandNumber}
-use Rattle.sched_print.specs.Reading.{Number, read, better_reading, word_at}
+use Rattle.sched_print.specs.Readers.{Number, read, better_reading, word_at}
 use Rattle.sched_print.specs.Forms.{answers, entries, entry, events}
 use Rattle.sched_print.proofs.Numbers.{is_plain, read_number, fits_number, fits_64, fits_32, fits_pool, fits_command, fits_below, number_at-space, number_at-last, number_at-u, number_at-v, number_at-hyphen, number_at-n, less-one}
 

@@ -4,7 +4,7 @@ use Rattle.std.specs.Prelude.{decimal}
 use Rattle.sched_model.specs.declared.event.Entry.{Entry}
 use Rattle.sched_print.specs.Line.{words}
 use Rattle.sched_print.specs.Ranges.{IsPrintable}
-use Rattle.sched_print.specs.Reading.{Form, Done, Word, Number, Either}
+use Rattle.sched_print.specs.Readers.{Form, Done, Word, Number, Either}
 use Rattle.sched_print.specs.Forms as form
 use Rattle.sched_print.proofs.Spelling.{Spells, IsFormed}
 

@@ -6,7 +6,7 @@ use Rattle.std.proofs.lemmas.List.{take-append-drop, take_all, length-take, leng
 use Rattle.std.proofs.lemmas.Grind.{common_steps}
 use Rattle.sched_model.specs.declared.event.Entry.{Entry}
 use Rattle.sched_print.specs.Line.{words}
-use Rattle.sched_print.specs.Reading.{Form, Done, Word, Number, Either, read}
+use Rattle.sched_print.specs.Readers.{Form, Done, Word, Number, Either, read}
 use Rattle.sched_print.specs.Forms.{entries}
 use Rattle.sched_print.specs.Places.{IsText, BeginsText, IsPlace}
 use Rattle.sched_print.proofs.Spelling.{Spells, Begins, IsFormed, reached}

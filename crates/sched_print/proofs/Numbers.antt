@@ -3,7 +3,7 @@ use Rattle.std.proofs.Common.{◌≡◌, ◌+◌, ◌-◌, ◌*◌, ◌/◌, ◌
 use Rattle.std.specs.Prelude.{Ok, Err, nat_le, ◌==◌, decimal}
 use Rattle.std.proofs.lemmas.Fmt.{decimal_digit, decimal_by_steps}
 use Rattle.std.proofs.lemmas.Bool.Decides.{nat_tests}
-use Rattle.sched_print.specs.Reading.{Form, Number, read, goes_on, digits_at, number_at, ◌>>=◌}
+use Rattle.sched_print.specs.Readers.{Form, Number, read, goes_on, digits_at, number_at, ◌>>=◌}
 
 abbrev pub is_digit : ℕ → Bool
 is_digit b = nat_le 48 b && nat_le b 57

@@ -3,8 +3,10 @@ use Rattle.std.proofs.Common.{◌≡◌, ◌≢◌, ◌+◌, ◌-◌, ◌*◌, �
 use Rattle.std.specs.Prelude.{Result, Ok, Err, ⊤, nat_le, ◌==◌, decimal, min}
 use Rattle.std.proofs.lemmas.Fmt.{decimal_digit, decimal_step}
 use Rattle.std.proofs.lemmas.Bool.Decides.{nat_tests}
+use Rattle.std.proofs.lemmas.Bool.{eqb-true}
+use Rattle.sched_base.proofs.Bools.{and_left, and_right}
 use Rattle.sched_model.specs.declared.event.Entry.{Entry}
-use Rattle.sched_print.specs.Reading.{Form, Done, Word, Number, Either, read, word_at, better_reading, goes_on, digits_at, number_at, ◌>>=◌}
+use Rattle.sched_print.specs.Readers.{Form, Done, Word, Number, Either, read, word_at, better_reading, goes_on, digits_at, number_at, ◌>>=◌}
 use Rattle.sched_print.proofs.Numbers.{is_digit, is_plain}
 
 -- t is a text of the form, and stands for e
@@ -45,14 +47,6 @@ inhabited (Either f g) h = let i = inhabited f h.0 in (i.0, i.1, inl i.2)
 begins_empty : (f : Form) → IsFormed f → Begins f []
 begins_empty f h = let i = inhabited f h in (i.0, i.1, i.2)
 
-and_left : (p q : Bool) → (p && q) ≡ true → p ≡ true
-and_left true q h = refl
-and_left false q h = h
-
-and_right : (p q : Bool) → (p && q) ≡ true → q ≡ true
-and_right true q h = h
-and_right false q h = cc
-
 pub plain_start : (f : Form) (t : List ℕ) (y : Entry) → starts_plain f ≡ true → Spells f t y → is_plain t ≡ true
 plain_start (Done e) t y h s = rw s.0 refl
 plain_start (Word [] f) t y h s = absurd cc
@@ -78,13 +72,10 @@ reached_longer_word : (f : Form) (b c : ℕ) (w bytes : List ℕ) (left : ℕ) �
 reached_longer_word f b c w bytes left e x =
     (b ∷ x.0, x.1, ap (λ rest. b ∷ rest) x.2, x.3, (x.4.0, x.4.1, (x.4.2.0, (let same : x.0 ++ x.4.0 ≡ w ++ x.4.2.0 = x.4.2.1 in cc), x.4.2.2)))
 
-pub same_byte : (b c : ℕ) → (b == c) ≡ true → b ≡ c
-same_byte b c e = grind (arith, nat_tests)
-
 reached_byte : (f : Form) (b c : ℕ) (w bytes : List ℕ) (left : ℕ) (test : Bool) → IsFormed f → (b == c) ≡ test
     → ((word_at w bytes >>= read f) ≡ Err left → Reached (Word w f) bytes left)
     → (cond test (word_at w bytes) (Err (length (b ∷ bytes))) >>= read f) ≡ Err left → Reached (Word (c ∷ w) f) (b ∷ bytes) left
-reached_byte f b c w bytes left true h e go r = reached_longer_word f b c w bytes left (same_byte b c e) (go r)
+reached_byte f b c w bytes left true h e go r = reached_longer_word f b c w bytes left (eqb-true b c e) (go r)
 reached_byte f b c w bytes left false h e go r = reached_none (Word (c ∷ w) f) (b ∷ bytes) left h cc
 
 reached_word : (f : Form) → ReachedAll f → (w bytes : List ℕ) (left : ℕ) → IsFormed f → (word_at w bytes >>= read f) ≡ Err left → Reached (Word w f) bytes left
@@ -162,14 +153,14 @@ number_digits low high b bytes false l some wide e g = refl
 number_zero : (low high : ℕ) (bytes : List ℕ) (test : Bool) → low < high → (low == 0) ≡ test
     → NumberGives low high (48 ∷ bytes) (cond test (Ok (0, bytes)) (Err (length (48 ∷ bytes))))
 number_zero low high bytes true some e =
-    let z : low ≡ 0 = same_byte low 0 e in
+    let z : low ≡ 0 = eqb-true low 0 e in
     (omega arith, omega arith, sym (ap (λ ds. ds ++ bytes) (decimal_digit 0 (omega arith))))
 number_zero low high bytes false some e = refl
 
 number_first : (low high b : ℕ) (bytes : List ℕ) (test : Bool) → low ≤ 1 → low < high → high ≤ 2 ^ 64 → (b == 48) ≡ test
     → NumberGives low high (b ∷ bytes) (cond test (cond (low == 0) (Ok (0, bytes)) (Err (length (b ∷ bytes)))) (cond (goes_on high 0 b) (Ok (digits_at high (b - 48) bytes)) (Err (length (b ∷ bytes)))))
 number_first low high b bytes true l some wide e =
-    let z : 48 ≡ b = sym (same_byte b 48 e) in
+    let z : 48 ≡ b = sym (eqb-true b 48 e) in
     let P : ℕ → Type 0 = λ c. NumberGives low high (c ∷ bytes) (cond (low == 0) (Ok (0, bytes)) (Err (length (c ∷ bytes)))) in
     subst P z (number_zero low high bytes (low == 0) some refl)
 number_first low high b bytes false l some wide e = number_digits low high b bytes (goes_on high 0 b) l some wide e refl

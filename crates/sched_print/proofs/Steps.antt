@@ -4,7 +4,7 @@ use Rattle.std.specs.Prelude.{Result, Ok, Err, codes}
 use Rattle.sched_base.specs.declared.UnitId.{UnitId}
 use Rattle.sched_base.specs.Numbers.{domain}
 use Rattle.sched_model.specs.declared.event.Entry.{Entry}
-use Rattle.sched_print.specs.Reading.{Form, read, better_reading, word_at, number_at, ◌>>=◌}
+use Rattle.sched_print.specs.Readers.{Form, read, better_reading, word_at, number_at, ◌>>=◌}
 use Rattle.sched_print.specs.Forms.{unit, unit_at}
 
 -- of two that were read the better one

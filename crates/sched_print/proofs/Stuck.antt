@@ -3,10 +3,11 @@ use Rattle.std.proofs.Common.{◌≡◌, ◌+◌, ◌/◌, ◌%◌, ◌^◌, ◌
 use Rattle.std.specs.Prelude.{Result, Ok, Err, ◌==◌, decimal, min}
 use Rattle.std.proofs.lemmas.Fmt.{decimal_digit, decimal_step, decimal_by_steps}
 use Rattle.std.proofs.lemmas.Bool.Decides.{nat_tests}
+use Rattle.std.proofs.lemmas.Bool.{eqb-true}
 use Rattle.sched_model.specs.declared.event.Entry.{Entry}
-use Rattle.sched_print.specs.Reading.{Form, Done, Word, Number, Either, read, word_at, better_reading, digits_at, number_at, ◌>>=◌}
+use Rattle.sched_print.specs.Readers.{Form, Done, Word, Number, Either, read, word_at, better_reading, digits_at, number_at, ◌>>=◌}
 use Rattle.sched_print.proofs.Numbers.{is_plain, Fits, number_at-plain, number_at-decimal, number_at-zero}
-use Rattle.sched_print.proofs.Spelling.{Spells, Begins, IsFormed, plain_start, same_byte, digits_shrinks, NumberGives, number_gives, reached}
+use Rattle.sched_print.proofs.Spelling.{Spells, Begins, IsFormed, plain_start, digits_shrinks, NumberGives, number_gives, reached}
 
 abbrev SoundAll : Form → Type 0
 SoundAll f = (bytes : List ℕ) (e : Entry) → IsFormed f → read f bytes ≡ Ok e → Spells f bytes e
@@ -16,7 +17,7 @@ sound_byte : (f : Form) (b c : ℕ) (w bytes : List ℕ) (e : Entry) (test : Boo
     → (cond test (word_at w bytes) (Err (length (b ∷ bytes))) >>= read f) ≡ Ok e → Spells (Word (c ∷ w) f) (b ∷ bytes) e
 sound_byte f b c w bytes e true t go r =
     let x = go r in
-    let same : b ≡ c = same_byte b c t in
+    let same : b ≡ c = eqb-true b c t in
     (x.0, (let rest : bytes ≡ w ++ x.0 = x.1 in cc), x.2)
 sound_byte f b c w bytes e false t go r = absurd cc
 

@@ -1,12 +1,13 @@
 -- A line and a text tell their entries.
-use Rattle.std.proofs.Common.{◌≡◌, ◌≢◌, ◌+◌, ℕ, Bool, true, false, List, [], ◌∷◌, ◌++◌, length, arith, refl, ◌∙◌, sym, ap, append_assoc, length-append, ◌&&◌}
+use Rattle.std.proofs.Common.{◌≡◌, ◌≢◌, ◌+◌, ℕ, true, List, [], ◌∷◌, ◌++◌, length, arith, refl, ◌∙◌, sym, ap, append_assoc, length-append}
 use Rattle.std.specs.Prelude.{Ok}
 use Rattle.std.specs.List.{All}
 use Rattle.std.proofs.lemmas.List.Elements.{All-nil, All-cons, All-head, All-tail}
+use Rattle.sched_base.proofs.Bools.{and_left, and_right}
 use Rattle.sched_model.specs.declared.event.Entry.{Entry}
 use Rattle.sched_print.specs.Line.{words, line, text}
 use Rattle.sched_print.specs.Ranges.{IsPrintable}
-use Rattle.sched_print.specs.Reading.{read}
+use Rattle.sched_print.specs.Readers.{read}
 use Rattle.sched_print.specs.Forms.{entries}
 use Rattle.sched_print.specs.Laws.{LinesTellEntries, LinesAreLines, TextsTellEntries}
 use Rattle.sched_print.proofs.Again.{again}
@@ -18,14 +19,6 @@ words_same d e hd he same =
     let second : read entries (words e) ≡ Ok e = again e he in
     let joined : read entries (words d) ≡ read entries (words e) = ap (read entries) same in
     cc
-
-and_left : (p q : Bool) → (p && q) ≡ true → p ≡ true
-and_left true q h = refl
-and_left false q h = h
-
-and_right : (p q : Bool) → (p && q) ≡ true → q ≡ true
-and_right true q h = h
-and_right false q h = cc
 
 no_newline_first : (b : ℕ) (bytes : List ℕ) → has_none (b ∷ bytes) ≡ true → b ≢ 10
 no_newline_first b bytes h e =

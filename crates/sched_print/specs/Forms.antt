@@ -18,7 +18,7 @@ use Rattle.sched_model.specs.declared.event.Reply.{Reply}
 use Rattle.sched_model.specs.declared.event.Reply.TheVariants as reply
 use Rattle.sched_model.specs.declared.event.Param.{Param}
 use Rattle.sched_model.specs.declared.event.Param.TheVariants as param
-use Rattle.sched_print.specs.Reading.{Form, Done, Word, Number, Either, ◌>>=◌, word_at, number_at}
+use Rattle.sched_print.specs.Readers.{Form, Done, Word, Number, Either, ◌>>=◌, word_at, number_at}
 
 -- a text of the one form or of the other
 infixr 5 ◌<|>◌

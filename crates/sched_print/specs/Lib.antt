@@ -1,6 +1,6 @@
 pub mod Line
 pub mod Ranges
-pub mod Reading
+pub mod Readers
 pub mod Forms
 pub mod Laws
 pub mod Places

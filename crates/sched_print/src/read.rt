@@ -1,7 +1,7 @@
 //! A line is read as its entry.
 
 ghost use Rattle.std.specs.Prelude.{◌≡◌};
-ghost use Rattle.sched_print.specs.Reading.{read};
+ghost use Rattle.sched_print.specs.Readers.{read};
 ghost use Rattle.sched_print.specs.Forms as form;
 
 use crate::read_answers::answers;

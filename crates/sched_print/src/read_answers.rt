@@ -1,7 +1,7 @@
 //! The answer to a command is read.
 
 ghost use Rattle.std.specs.Prelude.{◌≡◌, Ok, Err};
-ghost use Rattle.sched_print.specs.Reading.{Word, read};
+ghost use Rattle.sched_print.specs.Readers.{Word, read};
 ghost use Rattle.sched_print.specs.Line.{kind_word as kind_spelling, param_word as param_spelling};
 ghost use Rattle.sched_print.specs.Forms as form;
 

@@ -2,7 +2,7 @@
 //! left behind the longest beginning of it.
 
 ghost use Rattle.std.specs.Prelude.{◌≡◌, ◌+◌, ◌-◌, ◌*◌, ◌^◌, ◌<◌, ◌≤◌, Some, None, IfOk, if◌then◌else◌};
-ghost use Rattle.sched_print.specs.Reading.{Done, Word, read, Gives, word_at, goes_on, digits_at, number_at, end_at, better_reading as better_of};
+ghost use Rattle.sched_print.specs.Readers.{Done, Word, read, Gives, word_at, goes_on, digits_at, number_at, end_at, better_reading as better_of};
 ghost use Rattle.sched_print.specs.Forms.{unit_at, vcpu_at};
 
 use sched_base::{DomId, UnitId, VcpuId};
@@ -12,7 +12,7 @@ use sched_model::event::Entry;
 pub type Left = usize;
 
 /// The bytes behind the word.
-#[tactic(auto, unfolding(crate::specs::Reading::word_at))]
+#[tactic(auto, unfolding(crate::specs::Readers::word_at))]
 pub fn word<'a>(bytes: &'a [u8], word: &[u8]) -> Result<&'a [u8], Left>
     ensures { Gives (λ x. x.now) result (word_at word.now bytes.now) }
 {
@@ -47,7 +47,7 @@ fn with_digit(high: u64, n: u64, b: u8) -> Option<u64>
 }
 
 /// The number that began with n, as long as it is below the bound, and the bytes behind its digits.
-#[tactic(auto, unfolding(crate::specs::Reading::digits_at))]
+#[tactic(auto, unfolding(crate::specs::Readers::digits_at))]
 fn digits(high: u64, first: u64, bytes: &[u8]) -> (u64, &[u8])
     requires { first < high }
     ensures value { (result.0, result.1.now) ≡ digits_at high first bytes.now }
@@ -69,7 +69,7 @@ fn digits(high: u64, first: u64, bytes: &[u8]) -> (u64, &[u8])
 }
 
 /// The number at the front, which is at least `low` and below `high`, and the bytes behind it. It has no leading zero.
-#[tactic(auto, unfolding(crate::specs::Reading::number_at))]
+#[tactic(auto, unfolding(crate::specs::Readers::number_at))]
 pub fn number(bytes: &[u8], low: u64, high: u64) -> Result<(u64, &[u8]), Left>
     requires low { low ≤ 1 }
     requires high { 0 < high }

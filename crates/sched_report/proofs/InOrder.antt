@@ -1,5 +1,5 @@
 -- Numbers in order, and the units that have them.
-use Rattle.std.proofs.Common.{◌≡◌, ℕ, zero, suc, ◌+◌, List, [], ◌∷◌, ◌++◌, refl, sym, ap, ◌∙◌, arith, map, append_assoc, zero-add, add-zero, length, get_or, set, ◌<◌, ◌≤◌, ◌≢◌}
+use Rattle.std.proofs.Common.{◌≡◌, ℕ, zero, suc, ◌+◌, List, [], ◌∷◌, ◌++◌, refl, sym, ap, ◌∙◌, arith, map, append_assoc, zero-add, add-zero, get_or, set, ◌<◌, ◌≤◌, ◌≢◌}
 use Rattle.std.proofs.lemmas.List.{map-append}
 use Rattle.sched_base.specs.declared.UnitId.{UnitId}
 use Rattle.sched_base.specs.Numbers.{domain}
@@ -22,10 +22,6 @@ units-more d n before names after is more =
     let u : ℕ → UnitId = λ k. record { dom = domain d; n = k } in
     more ∙ ap (λ xs. xs ++ u n ∷ []) is ∙ append_assoc before (map u (numbers_from 0 n)) (u n ∷ [])
     ∙ ap (λ xs. before ++ xs) (sym (map-append u (numbers_from 0 n) (n ∷ [])) ∙ ap (map u) (ap (λ k. numbers_from 0 n ++ k ∷ []) (sym (zero-add n)) ∙ sym (numbers-more 0 n)))
-
-pub length-numbers : (a n : ℕ) → length (numbers_from a n) ≡ n
-length-numbers a zero = refl
-length-numbers a (suc n) = ap suc (length-numbers (suc a) n)
 
 -- what a function gives of the numbers, by place
 pub get_or-numbers : {X : Type 0} (f : ℕ → X) (a n i : ℕ) (d : X) → i < n → get_or (map f (numbers_from a n)) i d ≡ f (a + i)

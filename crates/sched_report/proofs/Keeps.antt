@@ -15,15 +15,16 @@ use Rattle.sched_model.specs.declared.event.Entry.{Entry}
 use Rattle.sched_model.specs.Places.{same_unit, numbers_from}
 use Rattle.sched_model.specs.Actions.{units_from}
 use Rattle.sched_model.specs.Opening.{core_count}
-use Rattle.sched_model.specs.Checked.{IsGranularity}
+use Rattle.sched_model.specs.CheckedMachine.{IsGranularity}
+use Rattle.sched_model.proofs.PlaceLemmas.{length-numbers_from}
 use Rattle.sched_report.specs.declared.choice.Choice.{Choice}
 use Rattle.sched_report.specs.declared.tally.UnitTally.{UnitTally}
 use Rattle.sched_report.specs.declared.tally.CoreTally.{CoreTally}
 use Rattle.sched_report.specs.Reports.{cores as core_numbers, units as unit_ids, IsSized}
 use Rattle.sched_report.specs.Stays.{Decision, choice_in, choices, decisions_from, renewed_by, renewals}
-use Rattle.sched_report.specs.Tallies.{nothing_done, undecided_core as undecided, place_of, has_place, tally_at, with_renewal, core_after, units_after, units_renewed, cores_with, units_with, ended_time, begins, lateness_on, core_tally, unit_tally, IsShort, UnitWithin, CoreWithin, IsTally}
+use Rattle.sched_report.specs.Tallies.{nothing_done, undecided_core, place_of, has_place, tally_at, with_renewal, core_after, units_after, units_renewed, cores_with, units_with, ended_time, begins, lateness_on, core_tally, unit_tally, IsShort, UnitWithin, CoreWithin, IsTally}
 use Rattle.sched_report.proofs.Grows.{chosen_at, choices-more, last_unit, decisions-more, cur-is_last, charge, ended_time-more, last-more}
-use Rattle.sched_report.proofs.InOrder.{length-numbers, get_or-numbers, map-same, set-numbers}
+use Rattle.sched_report.proofs.InOrder.{get_or-numbers, map-same, set-numbers}
 use Rattle.sched_report.proofs.Steps.{tally_at-changed, tally_at-after, sum-more, length-with, length-renewed}
 use Rattle.sched_report.proofs.Bounds.{within-with, within-renewed, cores_within-with}
 
@@ -63,10 +64,10 @@ module _ (config : Config) (es : List Entry) (e : Entry) where
   of_late u k c = lateness_on u (record { before = k.cur; choice = c })
 
   decisions-grow : (h : Decision → ℕ) (cs : List Choice) (c : Choice)
-      → sum_by h (decisions_from None (cs ++ c ∷ [])) ≡ sum_by h (decisions_from None cs) + h (record { before = (fold core_after undecided cs).cur; choice = c })
+      → sum_by h (decisions_from None (cs ++ c ∷ [])) ≡ sum_by h (decisions_from None cs) + h (record { before = (fold core_after undecided_core cs).cur; choice = c })
   decisions-grow h cs c =
       ap (sum_by h) (decisions-more None cs c) ∙ sum_by_push h (decisions_from None cs) (record { before = last_unit None cs; choice = c })
-      ∙ ap (λ o. sum_by h (decisions_from None cs) + h (record { before = o; choice = c })) (sym (cur-is_last undecided cs))
+      ∙ ap (λ o. sum_by h (decisions_from None cs) + h (record { before = o; choice = c })) (sym (cur-is_last undecided_core cs))
 
   -- the tally of a unit with what an entry gives
   abbrev with_gain : UnitId → Option Choice → Option UnitId → UnitTally → UnitTally
@@ -74,21 +75,21 @@ module _ (config : Config) (es : List Entry) (e : Entry) where
 
   unit_tally-more : (u : UnitId) → unit_tally config (es ++ e ∷ []) u ≡ with_gain u (choice_in e) (renewed_by e.event) (unit_tally config es u)
   unit_tally-more u =
-      let run = sum-more (ended_time (λ w. same_unit w u) undecided) (λ cs c. of_run u (fold core_after undecided cs) c) (ended_time-more (λ w. same_unit w u) undecided) es e n (choice_in e) refl in
-      let picks = sum-more (λ cs. sum_by (begins u) (decisions_from None cs)) (λ cs c. of_picks u (fold core_after undecided cs) c) (decisions-grow (begins u)) es e n (choice_in e) refl in
-      let late = sum-more (λ cs. sum_by (lateness_on u) (decisions_from None cs)) (λ cs c. of_late u (fold core_after undecided cs) c) (decisions-grow (lateness_on u)) es e n (choice_in e) refl in
+      let run = sum-more (ended_time (λ w. same_unit w u) undecided_core) (λ cs c. of_run u (fold core_after undecided_core cs) c) (ended_time-more (λ w. same_unit w u) undecided_core) es e n (choice_in e) refl in
+      let picks = sum-more (λ cs. sum_by (begins u) (decisions_from None cs)) (λ cs c. of_picks u (fold core_after undecided_core cs) c) (decisions-grow (begins u)) es e n (choice_in e) refl in
+      let late = sum-more (λ cs. sum_by (lateness_on u) (decisions_from None cs)) (λ cs c. of_late u (fold core_after undecided_core cs) c) (decisions-grow (lateness_on u)) es e n (choice_in e) refl in
       λ i. record { run = run i; picks = picks i; repl = renewals-more u es e i; late = late i }
 
   core_tally-more : (r : ℕ) (o : Option Choice) → choice_in e ≡ o → core_tally (es ++ e ∷ []) r ≡ fold core_after (core_tally es r) (chosen_at r o)
   core_tally-more r o is =
-      ap (fold core_after undecided) (choices-more r es e ∙ ap (λ x. choices r es ++ chosen_at r x) is) ∙ fold-append core_after undecided (choices r es) (chosen_at r o)
+      ap (fold core_after undecided_core) (choices-more r es e ∙ ap (λ x. choices r es ++ chosen_at r x) is) ∙ fold-append core_after undecided_core (choices r es) (chosen_at r o)
 
   module _ (cores : List CoreTally) (are : cores ≡ map (core_tally es) (numbers_from 0 n)) where
     many : length cores ≡ n
-    many = ap length are ∙ length-map (numbers_from 0 n) (core_tally es) ∙ length-numbers 0 n
+    many = ap length are ∙ length-map (numbers_from 0 n) (core_tally es) ∙ length-numbers_from 0 n
 
-    core-at : (r : ℕ) → r < n → get_or cores r undecided ≡ core_tally es r
-    core-at r below = ap (λ ks. get_or ks r undecided) are ∙ get_or-numbers (core_tally es) 0 n r undecided below ∙ ap (core_tally es) (zero-add r)
+    core-at : (r : ℕ) → r < n → get_or cores r undecided_core ≡ core_tally es r
+    core-at r below = ap (λ ks. get_or ks r undecided_core) are ∙ get_or-numbers (core_tally es) 0 n r undecided_core below ∙ ap (core_tally es) (zero-add r)
 
     cores-more : (o : Option Choice) → choice_in e ≡ o → cores_with o cores ≡ map (core_tally (es ++ e ∷ [])) (numbers_from 0 n)
     cores-more None is = are ∙ map-same (core_tally es) (core_tally (es ++ e ∷ [])) 0 n (λ k low high. core_tally-more k None is)
@@ -96,7 +97,7 @@ module _ (config : Config) (es : List Entry) (e : Entry) where
         let r = c.core.0 in
         let f : ℕ → CoreTally = core_tally es in
         let g : ℕ → CoreTally = core_tally (es ++ e ∷ []) in
-        let y : CoreTally = core_after (get_or cores r undecided) c in
+        let y : CoreTally = core_after (get_or cores r undecided_core) c in
         let same : (k : ℕ) → k ≢ r → g k ≡ f k = λ k apart. core_tally-more k (Some c) is ∙ ap (λ b. fold core_after (f k) (cond b (c ∷ []) [])) (ne_eqb r k (λ i. apart (sym i))) in
         elim (cases_lt r n) [
           | inl low ↦
@@ -106,13 +107,13 @@ module _ (config : Config) (es : List Entry) (e : Entry) where
               set_past cores r y (omega (arith, high, many)) ∙ are ∙ map-same f g 0 n (λ k low below. same k (λ i. omega (arith, i, below, high)))
         ]
 
-    gain-same : (of : CoreTally → Choice → ℕ) (c : Choice) → let there : ℕ = cond (nat_lt c.core.0 (length cores)) (of (get_or cores c.core.0 undecided) c) 0 in there ≡ gain of (Some c)
+    gain-same : (of : CoreTally → Choice → ℕ) (c : Choice) → let there : ℕ = cond (nat_lt c.core.0 (length cores)) (of (get_or cores c.core.0 undecided_core) c) 0 in there ≡ gain of (Some c)
     gain-same of c = elim (cases_lt c.core.0 n) [
       | inl low ↦
-          ap (λ b. cond b (of (get_or cores c.core.0 undecided) c) 0) (lt-ltb c.core.0 (length cores) (omega (arith, low, many)))
+          ap (λ b. cond b (of (get_or cores c.core.0 undecided_core) c) 0) (lt-ltb c.core.0 (length cores) (omega (arith, low, many)))
           ∙ ap (λ k. of k c) (core-at c.core.0 low) ∙ ap (λ b. cond b (of (core_tally es c.core.0) c) 0) (sym (lt-ltb c.core.0 n low))
       | inr high ↦
-          ap (λ b. cond b (of (get_or cores c.core.0 undecided) c) 0) (le-ltb c.core.0 (length cores) (omega (arith, high, many)))
+          ap (λ b. cond b (of (get_or cores c.core.0 undecided_core) c) 0) (le-ltb c.core.0 (length cores) (omega (arith, high, many)))
           ∙ ap (λ b. cond b (of (core_tally es c.core.0) c) 0) (sym (le-ltb c.core.0 n high))
     ]
 
@@ -125,7 +126,7 @@ module _ (config : Config) (es : List Entry) (e : Entry) where
       with-at None = λ i. record (at units) { run = sym (add-zero (at units).run) i; picks = sym (add-zero (at units).picks) i; late = sym (add-zero (at units).late) i }
       with-at (Some c) =
           let t : UnitTally = at units in
-          let k : CoreTally = get_or cores c.core.0 undecided in
+          let k : CoreTally = get_or cores c.core.0 undecided_core in
           elim (nat_lt c.core.0 (length cores)) as (λ b. at (cond b (units_after k c units) units) ≡ record t { run = t.run + cond b (of_run u k c) 0; picks = t.picks + cond b (of_picks u k c) 0; late = t.late + cond b (of_late u k c) 0 }) [
             | true ↦ tally_at-after k c u units has all
             | false ↦ λ i. record t { run = sym (add-zero t.run) i; picks = sym (add-zero t.picks) i; late = sym (add-zero t.late) i }
@@ -198,7 +199,7 @@ units-few g d (x ∷ domains) size guests =
       arith,
       length-append (map unit (numbers_from 0 count)) (units_from g (suc d) domains),
       length-map (numbers_from 0 count) unit,
-      length-numbers 0 count,
+      length-numbers_from 0 count,
       few_units g (length x.guests) size (guests 0 x (omega arith)),
       units-few g (suc d) domains size (λ k y below. guests (suc k) y (omega (arith, below))),
     )
@@ -218,9 +219,9 @@ same-all n i x = elim (cases_lt i n) [
   | inr high ↦ get_or_past (replicate n x) i x (omega (arith, length-replicate n x, high))
 ]
 
-undecided-all : (a n : ℕ) → replicate n undecided ≡ map (core_tally []) (numbers_from a n)
-undecided-all a zero = refl
-undecided-all a (suc n) = ap (λ ks. undecided ∷ ks) (undecided-all (suc a) n)
+undecided_core-all : (a n : ℕ) → replicate n undecided_core ≡ map (core_tally []) (numbers_from a n)
+undecided_core-all a zero = refl
+undecided_core-all a (suc n) = ap (λ ks. undecided_core ∷ ks) (undecided_core-all (suc a) n)
 
 no_tally : (config : Config) (u : UnitId) → nothing_done ≡ unit_tally config [] u
 no_tally config u =
@@ -231,7 +232,7 @@ nothing-at config places u None = no_tally config u
 nothing-at config places u (Some place) = same-all places place nothing_done ∙ no_tally config u
 
 pub kept_new : (config : Config) (names : List UnitId) → IsSized config → names ≡ unit_ids config
-    → IsTally config [] names (replicate 2048 nothing_done) (replicate (core_count config) undecided) 0 0
+    → IsTally config [] names (replicate 2048 nothing_done) (replicate (core_count config) undecided_core) 0 0
 kept_new config names sized are = record {
   names_are = are;
   have_places = ap (list_all has_place) are ∙ units-placed config.granularity 0 config.domains sized.granularity (omega (arith, sized.few_domains)) sized.few_guests;
@@ -239,9 +240,9 @@ kept_new config names sized are = record {
   few_cores = few_cores config.processors config.granularity sized.granularity sized.few_processors;
   all_places = length-replicate 2048 nothing_done;
   units_are = λ u has. nothing-at config 2048 u (place_of u);
-  cores_are = undecided-all 0 (core_count config);
+  cores_are = undecided_core-all 0 (core_count config);
   units_within = λ i. subst (UnitWithin 0 0 0) (sym (same-all 2048 i nothing_done)) (record { run = omega arith; picks = omega arith; repl = omega arith; late = omega arith });
-  cores_within = λ i. subst (CoreWithin 0) (sym (same-all (core_count config) i undecided)) (record { run = omega arith; decides = omega arith });
+  cores_within = λ i. subst (CoreWithin 0) (sym (same-all (core_count config) i undecided_core)) (record { run = omega arith; decides = omega arith });
   count_is = refl;
   few_entries = omega arith;
   last_is = refl;

@@ -11,7 +11,7 @@ use Rattle.sched_report.specs.declared.choice.Choice.{Choice}
 use Rattle.sched_report.specs.declared.tally.UnitTally.{UnitTally}
 use Rattle.sched_report.specs.declared.tally.CoreTally.{CoreTally}
 use Rattle.sched_report.specs.Stays.{choice_in, choices}
-use Rattle.sched_report.specs.Tallies.{nothing_done, undecided_core, place_of, has_place, tally_at, changed_at, with_ended_stay, with_begun_stay as picked, with_renewal, ended_span, after_found, units_after, units_renewed, units_with, begins, lateness_on}
+use Rattle.sched_report.specs.Tallies.{nothing_done, undecided_core, place_of, has_place, tally_at, changed_at, with_ended_stay, with_begun_stay, with_renewal, ended_span, after_found, units_after, units_renewed, units_with, begins, lateness_on}
 use Rattle.sched_report.proofs.Folds.{told}
 use Rattle.sched_report.proofs.Grows.{chosen_at, choices-more, charge}
 use Rattle.sched_report.proofs.Sums.{sum_by-same, sum_at, sum_beyond}
@@ -77,23 +77,23 @@ module _ (u : UnitId) (has : has_place u ≡ true) where
         | false ↦ λ i. record t { run = sym (add-zero t.run) i; late = sym (add-zero t.late) i }
       ]
 
-  picked-more : (w : UnitId) (units : List UnitTally) → length units ≡ 2048
-      → at (changed_at (place_of w) picked units) ≡ record (at units) { picks = (at units).picks + cond (same_unit w u) 1 0 }
-  picked-more w units all =
+  with_begun_stay-more : (w : UnitId) (units : List UnitTally) → length units ≡ 2048
+      → at (changed_at (place_of w) with_begun_stay units) ≡ record (at units) { picks = (at units).picks + cond (same_unit w u) 1 0 }
+  with_begun_stay-more w units all =
       let t : UnitTally = at units in
-      tally_at-changed w u picked units has all
-      ∙ elim (same_unit w u) as (λ b. cond b (picked t) t ≡ record t { picks = t.picks + cond b 1 0 }) [ true ↦ refl | false ↦ λ i. record t { picks = sym (add-zero t.picks) i } ]
+      tally_at-changed w u with_begun_stay units has all
+      ∙ elim (same_unit w u) as (λ b. cond b (with_begun_stay t) t ≡ record t { picks = t.picks + cond b 1 0 }) [ true ↦ refl | false ↦ λ i. record t { picks = sym (add-zero t.picks) i } ]
 
-  picked-at : (before chosen : Option UnitId) (units : List UnitTally) → length units ≡ 2048
-      → at (cond (same_choice before chosen) units (elim chosen as (λ _. List UnitTally) [ None ↦ units | Some w ↦ changed_at (place_of w) picked units ]))
+  with_begun_stay-at : (before chosen : Option UnitId) (units : List UnitTally) → length units ≡ 2048
+      → at (cond (same_choice before chosen) units (elim chosen as (λ _. List UnitTally) [ None ↦ units | Some w ↦ changed_at (place_of w) with_begun_stay units ]))
       ≡ record (at units) { picks = (at units).picks + elim chosen as (λ _. ℕ) [ None ↦ 0 | Some w ↦ cond (is_unit before w) 0 (cond (same_unit w u) 1 0) ] }
-  picked-at None None units all = λ i. record (at units) { picks = sym (add-zero (at units).picks) i }
-  picked-at (Some x) None units all = λ i. record (at units) { picks = sym (add-zero (at units).picks) i }
-  picked-at None (Some w) units all = picked-more w units all
-  picked-at (Some x) (Some w) units all =
-      elim (same_unit x w) as (λ b. at (cond b units (changed_at (place_of w) picked units)) ≡ record (at units) { picks = (at units).picks + cond b 0 (cond (same_unit w u) 1 0) }) [
+  with_begun_stay-at None None units all = λ i. record (at units) { picks = sym (add-zero (at units).picks) i }
+  with_begun_stay-at (Some x) None units all = λ i. record (at units) { picks = sym (add-zero (at units).picks) i }
+  with_begun_stay-at None (Some w) units all = with_begun_stay-more w units all
+  with_begun_stay-at (Some x) (Some w) units all =
+      elim (same_unit x w) as (λ b. at (cond b units (changed_at (place_of w) with_begun_stay units)) ≡ record (at units) { picks = (at units).picks + cond b 0 (cond (same_unit w u) 1 0) }) [
         | true ↦ λ i. record (at units) { picks = sym (add-zero (at units).picks) i }
-        | false ↦ picked-more w units all
+        | false ↦ with_begun_stay-more w units all
       ]
 
 length-found : (o : Option UnitId) (f : UnitTally → UnitTally) (units : List UnitTally)
@@ -104,9 +104,9 @@ length-found (Some w) f units = length-changed (place_of w) f units
 pub length-after : (k : CoreTally) (c : Choice) (units : List UnitTally) → length (units_after k c units) ≡ length units
 length-after k c units =
     let found_units : List UnitTally = after_found k c units in
-    elim (same_choice k.cur c.unit) as (λ b. length (cond b found_units (elim c.unit as (λ _. List UnitTally) [ None ↦ found_units | Some w ↦ changed_at (place_of w) picked found_units ])) ≡ length found_units) [
+    elim (same_choice k.cur c.unit) as (λ b. length (cond b found_units (elim c.unit as (λ _. List UnitTally) [ None ↦ found_units | Some w ↦ changed_at (place_of w) with_begun_stay found_units ])) ≡ length found_units) [
       | true ↦ refl
-      | false ↦ length-found c.unit picked found_units
+      | false ↦ length-found c.unit with_begun_stay found_units
     ] ∙ length-found k.cur (with_ended_stay (ended_span k c) c.late.0) units
 
 pub length-with : (cores : List CoreTally) (units : List UnitTally) (o : Option Choice) → length (units_with o cores units) ≡ length units
@@ -132,7 +132,7 @@ given k c u t = record t {
 pub tally_at-after : (k : CoreTally) (c : Choice) (u : UnitId) (units : List UnitTally) → has_place u ≡ true → length units ≡ 2048
     → tally_at (units_after k c units) (place_of u) ≡ given k c u (tally_at units (place_of u))
 tally_at-after k c u units has all =
-    picked-at u has k.cur c.unit (after_found k c units) (length-found k.cur (with_ended_stay (ended_span k c) c.late.0) units ∙ all)
+    with_begun_stay-at u has k.cur c.unit (after_found k c units) (length-found k.cur (with_ended_stay (ended_span k c) c.late.0) units ∙ all)
     ∙ ap (λ (t : UnitTally). let after : UnitTally = record t { picks = t.picks + begins u (record { before = k.cur; choice = c }) } in after) (found-at u has k.cur (ended_span k c) c.late.0 units all)
 
 -- what is summed over the cores, after one entry more

@@ -10,6 +10,7 @@ use Rattle.sched_model.specs.declared.config.Config.{Config}
 use Rattle.sched_model.specs.declared.event.Entry.{Entry}
 use Rattle.sched_model.specs.Places.{same_unit, is_unit}
 use Rattle.sched_model.specs.Opening.{core_count}
+use Rattle.sched_model.proofs.PlaceLemmas.{length-numbers_from}
 use Rattle.sched_report.specs.declared.tally.UnitTally.{UnitTally}
 use Rattle.sched_report.specs.declared.tally.CoreTally.{CoreTally}
 use Rattle.sched_report.specs.declared.line.CoreLine.{CoreLine}
@@ -20,7 +21,7 @@ use Rattle.sched_report.specs.Tallies.{undecided_core, place_of, has_place, tall
 use Rattle.sched_report.proofs.Folds.{weigh, ended-stays}
 use Rattle.sched_report.proofs.Grows.{is_of, begins-stays, run-is_ended, decides-count}
 use Rattle.sched_report.proofs.Sums.{sum_by-filter, length-filter, sum_by-flat_map, sum_by-same, sum_by-plus, sum_by-map}
-use Rattle.sched_report.proofs.InOrder.{length-numbers, get_or-numbers}
+use Rattle.sched_report.proofs.InOrder.{get_or-numbers}
 
 -- the stays of a core have ended or go on
 stays-time : (p : UnitId → Bool) (es : List Entry) (r : ℕ) → sum_by (weigh p) (stays r es) ≡ ended_time p undecided_core (choices r es) + open_time p (last_moment es) (core_tally es r)
@@ -85,7 +86,7 @@ get-back (x ∷ xs) ys (suc i) r is = get-back xs ys i r (omega (arith, is))
 
 module _ {config : Config} {es : List Entry} {names : List UnitId} {units : List UnitTally} {cores : List CoreTally} {count last : ℕ} (kept : IsTally config es names units cores count last) where
   pub many-cores : length cores ≡ core_count config
-  many-cores = ap length kept.cores_are ∙ length-map (core_numbers config) (core_tally es) ∙ length-numbers 0 (core_count config)
+  many-cores = ap length kept.cores_are ∙ length-map (core_numbers config) (core_tally es) ∙ length-numbers_from 0 (core_count config)
 
   pub few-cores : length cores ≤ 64
   few-cores = omega (arith, many-cores, kept.few_cores)
@@ -104,7 +105,7 @@ module _ {config : Config} {es : List Entry} {names : List UnitId} {units : List
   unit-lines = length-map (map (unit_line config es) (unit_ids config)) text_of_unit ∙ length-map (unit_ids config) (unit_line config es) ∙ ap length (sym kept.names_are)
 
   pub core-lines : length (map text_of_core (report_of config es).cores) ≡ length cores
-  core-lines = length-map (map (core_line es) (core_numbers config)) text_of_core ∙ length-map (core_numbers config) (core_line es) ∙ length-numbers 0 (core_count config) ∙ sym many-cores
+  core-lines = length-map (map (core_line es) (core_numbers config)) text_of_core ∙ length-map (core_numbers config) (core_line es) ∙ length-numbers_from 0 (core_count config) ∙ sym many-cores
 
   pub all-lines : length (report_lines (report_of config es)) ≡ length names + length cores + 1
   all-lines = omega (arith, length-append (of_units ++ of_cores) of_end, length-append of_units of_cores, unit-lines, core-lines)
@@ -130,7 +131,7 @@ module _ {config : Config} {es : List Entry} {names : List UnitId} {units : List
       ap (λ ks. get_or ks r d) kept.cores_are ∙ get_or-numbers (core_tally es) 0 (core_count config) r d there ∙ ap (core_tally es) (zero-add r) in
       let lines : List CoreLine = map (core_line es) (core_numbers config) in
       let line : slice_get lines r ≡ Some (core_line es r) =
-      slice_get-get_or lines r (core_line es r) (omega (arith, there, length-map (core_numbers config) (core_line es), length-numbers 0 (core_count config)))
+      slice_get-get_or lines r (core_line es r) (omega (arith, there, length-map (core_numbers config) (core_line es), length-numbers_from 0 (core_count config)))
       ∙ ap Some (get_or-numbers (core_line es) 0 (core_count config) r (core_line es r) there ∙ ap (core_line es) (zero-add r)) in
       get-front (of_units ++ of_cores) of_end i (omega (arith, is, below, unit-lines, core-lines, length-append of_units of_cores))
       ∙ get-back of_units of_cores i r (omega (arith, is, unit-lines))

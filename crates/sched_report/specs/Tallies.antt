@@ -1,8 +1,9 @@
 -- What a report keeps between entries: a tally of each core and of each unit, with the stays that have ended.
 use Rattle.sched_base.specs.Numbers.{moment, core as core_number}
-use Rattle.std.specs.Prelude.{◌≡◌, ◌≤◌, ◌<◌, ◌+◌, ◌-◌, ◌*◌, ◌^◌, ◌&&◌, ℕ, Bool, true, List, [], ◌∷◌, Option, Some, None, fold, map, filter, length, sum_by, nat_lt, slice_index_or, slice_set, if◌then◌else◌}
+use Rattle.std.specs.Prelude.{◌≡◌, ◌≤◌, ◌<◌, ◌+◌, ◌-◌, ◌*◌, ◌^◌, ℕ, Bool, true, List, [], ◌∷◌, Option, Some, None, fold, map, filter, length, sum_by, nat_lt, slice_index_or, slice_set, if◌then◌else◌}
 use Rattle.std.specs.List.{list_all}
 use Rattle.sched_base.specs.declared.UnitId.{UnitId}
+pub use Rattle.unit_places.specs.Places.{place_of, has_place}
 use Rattle.sched_model.specs.declared.config.Config.{Config}
 use Rattle.sched_model.specs.declared.event.Entry.{Entry}
 use Rattle.sched_model.specs.Places.{same_unit, is_unit}
@@ -23,14 +24,6 @@ nothing_done = record { run = 0; picks = 0; repl = 0; late = 0 }
 -- a core that has not decided
 abbrev pub undecided_core : CoreTally
 undecided_core = record { cur = None; since = moment 0; run = 0; decides = 0 }
-
--- where the tally of the unit stands: each domain has 32 places
-abbrev pub place_of : UnitId → Option ℕ
-place_of u = (if nat_lt u.dom.0 64 && nat_lt u.n 32 then Some (u.dom.0 * 32 + u.n) else None)
-
--- whether it has a place
-abbrev pub has_place : UnitId → Bool
-has_place u = nat_lt u.dom.0 64 && nat_lt u.n 32
 
 -- the tally at the place
 abbrev pub tally_at : List UnitTally → Option ℕ → UnitTally

@@ -28,7 +28,8 @@ use sched_print::LineBuf;
 use std::alloc::Global;
 use std::marker::Model;
 use std::snapshot::Snapshot;
-use tally::{CoreTally, PLACES, UnitTally, count_entry};
+use tally::{CoreTally, UnitTally, count_entry};
+use unit_places::PLACES;
 
 /// The report of a run. It keeps of its machine the names of the units and the number of cores, and takes all its memory when
 /// it is made. Contracts see the machine's config and the entries that were added.
@@ -51,7 +52,8 @@ impl Model for Report {
 
     ghost view = { λ r. told_entries r.config.value r.past.value };
 
-    ghost invariant = { λ r. IsTally r.config.value r.past.value r.names.items r.units.items r.cores.items r.entries r.last.0 };
+    ghost invariant = { λ r. IsTally r.config.value r.past.value r.names.items r.units.items
+        r.cores.items r.entries r.last.0 };
 }
 
 /// The units of the machine, in order.

@@ -11,15 +11,7 @@ ghost use Rattle.sched_report.specs.Tallies as tallies;
 use crate::choice::{Choice, choice_in, renewed_by};
 use sched_base::{Moment, UnitId};
 use sched_model::event::Entry;
-
-/// The most domains that a machine has.
-const DOMAINS: u8 = 64;
-
-/// The most units that a domain has.
-const UNITS_OF_DOMAIN: u8 = 32;
-
-/// How many places there are for units: one for each unit that there may be.
-pub const PLACES: usize = 2048;
+use unit_places::place_of;
 
 /// What a unit did up to now, but for a stay that goes on. Times are in nanoseconds.
 #[derive(Clone, Copy, Debug)]
@@ -76,18 +68,6 @@ fn is_kept(cur: Option<UnitId>, chosen: Option<UnitId>) -> bool
             None => false,
             Some(w) => is_same(u, w),
         },
-    }
-}
-
-/// Where the tally of the unit stands.
-pub fn place_of(u: UnitId) -> Option<usize>
-    ensures place { result ≡ tallies.place_of u }
-    ensures below { IfSome result (λ i. i < 2048) }
-{
-    if u.dom.0 < DOMAINS && u.n < UNITS_OF_DOMAIN {
-        Some(u.dom.0 as usize * UNITS_OF_DOMAIN as usize + u.n as usize)
-    } else {
-        None
     }
 }
 

@@ -10,12 +10,12 @@ use Rattle.run_laws.specs.RunLaws.{IsOrderedFrom}
 use Rattle.sched_print.specs.Line.{words, line, text}
 use Rattle.sched_print.specs.Ranges.{IsPrintable}
 use Rattle.sched_print.proofs.Texts.{words_same, lines_are_lines}
-use Rattle.sched_check.specs.Taken.{IsTaken}
+use Rattle.sched_check.specs.Checking.{IsTaken}
 use Rattle.entry_laws.proofs.Law.{printable_entries}
 use Rattle.sched_verdict.specs.declared.verdict.Cause.{Cause}
 use Rattle.sched_verdict.specs.declared.verdict.Cause.TheVariants as cause
 use Rattle.sched_verdict.specs.Lines.{HasNone, IsParted}
-use Rattle.sched_verdict.specs.Judged.{HoldsAt, IsNo, IsSchedule}
+use Rattle.sched_verdict.specs.Verdict.{HoldsAt, IsNo, IsSchedule}
 use Rattle.sched_verdict.specs.Laws.{NoIsNoRun}
 use Rattle.sched_verdict.proofs.Newlines.{none_is_no_line, nothing_is_no_line, line_then, parted_line}
 

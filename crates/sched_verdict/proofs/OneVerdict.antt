@@ -12,13 +12,13 @@ use Rattle.sched_print.specs.Places.{IsText, IsPlace}
 use Rattle.sched_print.specs.Ranges.{IsPrintable}
 use Rattle.sched_print.proofs.Texts.{words_same, lines_are_lines, texts_tell}
 use Rattle.sched_check.specs.declared.verdict.NotStep.{NotStep}
-use Rattle.sched_check.specs.Taken.{IsTaken}
+use Rattle.sched_check.specs.Checking.{IsTaken}
 use Rattle.sched_check.specs.Verdicts.{verdict_of}
 use Rattle.sched_verdict.specs.declared.verdict.Cause.{Cause}
 use Rattle.sched_verdict.specs.declared.verdict.Cause.TheVariants as cause
 use Rattle.sched_verdict.specs.declared.verdict.Verdict.TheVariants as verdict
 use Rattle.sched_verdict.specs.Lines.{IsParted}
-use Rattle.sched_verdict.specs.Judged.{HoldsAt, IsNoEntry, IsNoStep, IsNo, IsYes}
+use Rattle.sched_verdict.specs.Verdict.{HoldsAt, IsNoEntry, IsNoStep, IsNo, IsYes}
 use Rattle.sched_verdict.specs.Laws.{OneVerdict}
 use Rattle.sched_verdict.proofs.Newlines.{same_parts, line_then, parted_line}
 use Rattle.sched_verdict.proofs.NoRun.{no_is_no_schedule, not_before_taken, parted_not_cut, parted_not_empty}

@@ -1,9 +1,9 @@
 -- What is known after some lines of a schedule.
-use Rattle.std.proofs.Common.{◌≡◌, ℕ, ◌+◌, ◌<◌, ◌≤◌, Bool, true, false, List, [], ◌∷◌, ◌++◌, length, refl, sym, ap, ◌∙◌, subst, arith, append_assoc, length-append}
+use Rattle.std.proofs.Common.{◌≡◌, ℕ, ◌+◌, ◌≤◌, Bool, List, [], ◌∷◌, ◌++◌, length, sym, ap, ◌∙◌, subst, arith, append_assoc, length-append}
 use Rattle.std.proofs.lemmas.List.{append-nil}
 use Rattle.std.proofs.lemmas.Grind.{flat_map-append}
 use Rattle.std.proofs.lemmas.List.Concat.{flat_map-cons}
-use Rattle.std.proofs.lemmas.List.Elements.{All-nil, All-push}
+use Rattle.std.proofs.lemmas.List.Elements.{All-push}
 use Rattle.sched_model.specs.declared.event.Entry.{Entry}
 use Rattle.sched_model.specs.declared.machine.Machine.{Machine}
 use Rattle.sched_model.specs.Runs.{Reached, action_of, run_start, after_entry, after_entries}
@@ -11,10 +11,9 @@ use Rattle.sched_model.proofs.RunLemmas.{after_entries-append, IsRunFrom-append}
 use Rattle.run_laws.specs.RunLaws.{TakesFirst, IsOrderedFrom}
 use Rattle.sched_print.specs.Line.{words, line, text}
 use Rattle.sched_print.specs.Ranges.{IsPrintable}
-use Rattle.sched_check.specs.Taken.{Checking, IsTaken}
-use Rattle.sched_verdict.specs.declared.verdict.Cause.{Cause}
+use Rattle.sched_check.specs.Checking.{Checking, IsTaken}
 use Rattle.sched_verdict.specs.declared.verdict.Cause.TheVariants as cause
-use Rattle.sched_verdict.specs.Judged.{HoldsAt, IsBegun, IsNo, IsTakenLine, IsYes}
+use Rattle.sched_verdict.specs.Verdict.{IsBegun, IsTakenLine}
 
 -- these many lines passed, and the rest is left: they are the text of a run, and the checker has come to where it leads
 pub record SoFar (start now : Checking) (bytes rest : List ℕ) (passed : ℕ) : Type 0 where
@@ -24,7 +23,7 @@ pub record SoFar (start now : Checking) (bytes rest : List ℕ) (passed : ℕ) :
   pub room : passed + length rest ≤ length bytes
   pub here : now ≡ record start { reached = after_entries start.machine (run_start start.machine) front }
 
-text_next : (entries : List Entry) (e : Entry) → text (entries ++ e ∷ []) ≡ text entries ++ line e
+pub text_next : (entries : List Entry) (e : Entry) → text (entries ++ e ∷ []) ≡ text entries ++ line e
 text_next entries e = flat_map-append line entries (e ∷ []) ∙ ap (λ (z : List ℕ). text entries ++ z) (flat_map-cons line e [] ∙ append-nil (line e))
 
 IsOrderedFrom-append : (m : Machine) (from : Reached) (entries : List Entry) (entry : Entry) → IsOrderedFrom m from entries → TakesFirst m (after_entries m from entries).state (action_of entry.event) → IsOrderedFrom m from (entries ++ entry ∷ [])
@@ -62,6 +61,3 @@ so_far_more {start} {now} {later} {bytes} {rest} {more} {passed} far h =
           ∙ ap (λ (z : Checking). record z { reached = after_entry z.machine z.reached h.entry }) far.here
           ∙ ap (λ (r : Reached). record start { reached = r }) (sym (after_entries-append m (run_start m) far.front h.entry));
     }
-
-pub so_far_shorter : {now later : Checking} {rest more : List ℕ} → IsTakenLine now later rest more → length more < length rest
-so_far_shorter {now} {later} {rest} {more} h = let less : length more + 1 ≤ length rest = shorter h.entry rest more h.line in omega (arith, less)

@@ -2,10 +2,10 @@
 use Rattle.std.specs.Prelude.{◌≡◌, ℕ, Bool, List}
 use Rattle.sched_model.specs.declared.event.Entry.{Entry}
 use Rattle.sched_model.specs.declared.machine.Machine.{Machine}
-use Rattle.sched_model.specs.Checked.{IsChecked}
+use Rattle.sched_model.specs.CheckedMachine.{IsChecked}
 use Rattle.sched_verdict.specs.declared.verdict.Cause.{Cause}
 use Rattle.sched_verdict.specs.declared.verdict.Verdict.{Verdict}
-use Rattle.sched_verdict.specs.Judged.{IsNo, IsTextOfRun, IsVerdict}
+use Rattle.sched_verdict.specs.Verdict.{IsNo, IsTextOfRun, IsVerdict}
 
 -- where the verdict on a schedule of a checked machine is no, the bytes are the text of no whole run, or of none that is ordered where
 -- that was asked

@@ -1,4 +1,4 @@
 pub mod Lines
-pub mod Judged
+pub mod Verdict
 pub mod Laws
-pub mod Printed
+pub mod VerdictText

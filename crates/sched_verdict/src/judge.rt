@@ -1,11 +1,11 @@
 //! The bytes of a schedule are judged line by line.
 
 ghost use Rattle.std.specs.Prelude.{◌≡◌, ◌==◌, ◌+◌, ◌<◌, ◌≤◌, length, position, MatchOption, IfOk, IfErr};
-ghost use Rattle.sched_model.specs.Checked.{IsChecked};
+ghost use Rattle.sched_model.specs.CheckedMachine.{IsChecked};
 ghost use Rattle.sched_model.specs.Runs.{run_start};
 ghost use Rattle.sched_verdict.specs.declared.verdict.Verdict.TheVariants as verdict;
 ghost use Rattle.sched_verdict.specs.Lines.{HasNone, IsParted};
-ghost use Rattle.sched_verdict.specs.Judged.{HoldsAt, IsTakenLine, IsVerdict};
+ghost use Rattle.sched_verdict.specs.Verdict.{HoldsAt, IsTakenLine, IsVerdict};
 
 use crate::verdict::{Cause, Verdict};
 use sched_base::NoMemory;

@@ -1,7 +1,7 @@
 //! What is printed of a verdict.
 
 ghost use Rattle.std.specs.Prelude.{◌≡◌, ◌+◌, ◌≤◌, ◌++◌, length};
-ghost use Rattle.sched_verdict.specs.Printed.{step_words, cause_words, first_line, further_entry as further_spec};
+ghost use Rattle.sched_verdict.specs.VerdictText.{step_words, cause_words, first_line, further_entry as further_spec};
 
 use crate::verdict::{Cause, Verdict};
 use sched_check::verdict::NotStep;

@@ -2,7 +2,7 @@
 use Rattle.std.specs.Prelude.{ℕ, ◌==◌, ◌&&◌, ◌||◌, Bool, List, [], ◌∷◌, Some, None, Result, Ok, Err, length, slice_index, bytes_eq, nat_lt, nat_le, codes, if◌then◌else◌}
 use Rattle.std.specs.Option.{ok_or}
 use Rattle.sched_base.specs.Numbers.{moment, span, processor}
-use Rattle.sched_model.specs.Checked.{most_span, IsCheckedStall, IsCheckedCommandLine}
+use Rattle.sched_model.specs.CheckedMachine.{most_span, IsCheckedStall, IsCheckedCommandLine}
 use Rattle.sched_model.specs.declared.config.Config.{Config}
 use Rattle.xl_words.specs.Parts.{words}
 use Rattle.xl_words.specs.Values.{number_of}

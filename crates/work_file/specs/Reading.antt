@@ -1,7 +1,7 @@
 -- What a reader has read, and what it will have read behind more lines.
 use Rattle.std.specs.Prelude.{◌≡◌, ◌≤◌, ℕ, List, ◌++◌, Option, Some, Result, Ok, Err, length}
 use Rattle.std.specs.List.{All}
-use Rattle.sched_model.specs.Checked.{IsCheckedWork}
+use Rattle.sched_model.specs.CheckedMachine.{IsCheckedWork}
 use Rattle.sched_model.specs.declared.config.Config.{Config}
 use Rattle.sched_model.specs.declared.work.Work.{Work}
 use Rattle.sched_model.specs.declared.work.StallLine.{StallLine}

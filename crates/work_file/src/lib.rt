@@ -2,7 +2,7 @@
 #![tactic(auto)]
 
 ghost use Rattle.std.specs.Prelude.{◌≡◌, Ok, IfOk, IfErr};
-ghost use Rattle.sched_model.specs.Checked.{IsCheckedWork};
+ghost use Rattle.sched_model.specs.CheckedMachine.{IsCheckedWork};
 ghost use Rattle.std.specs.Str.Lines.{strip_carriage_return};
 ghost use Rattle.work_file.specs.Lines.{work_of, IsFault};
 

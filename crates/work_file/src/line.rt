@@ -1,7 +1,7 @@
 //! One line of the work file.
 
 ghost use Rattle.std.specs.Prelude.{◌≡◌, ◌≤◌, ◌^◌, ◌==◌, length, IfOk};
-ghost use Rattle.sched_model.specs.Checked.{IsCheckedStall, IsCheckedCommandLine};
+ghost use Rattle.sched_model.specs.CheckedMachine.{IsCheckedStall, IsCheckedCommandLine};
 ghost use Rattle.xl_words.specs.Parts.{words};
 ghost use Rattle.work_file.specs.Line.{is_silent as silent, number_within, stall_of, command_of, said_at, said_by, line_of, IsCheckedLine};
 

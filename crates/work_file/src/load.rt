@@ -2,7 +2,7 @@
 
 ghost use Rattle.std.specs.Prelude.{◌≡◌, ◌+◌, ◌-◌, ◌<◌, ◌≤◌, ◌^◌, ◌++◌, Bool, length, IfOk, OnOk};
 ghost use Rattle.work_file.specs.Load.{after_draw, drawn_value, script_text, after_script, guests_text, after_guests, is_rt as rt, params_text, name_text, home_text, domain_text, after_domain, domains_text, after_domains, next_number_text, numbers_text, top_text, second_pool_text, pools_text, stall_text, after_stalls, stalls_text, load_domains, load_work};
-ghost use Rattle.sched_model.specs.Checked.{IsWithin};
+ghost use Rattle.sched_model.specs.CheckedMachine.{IsWithin};
 
 use sched_base::NoMemory;
 use std::alloc::Global;

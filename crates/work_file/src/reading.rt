@@ -2,7 +2,7 @@
 
 ghost use Rattle.std.specs.Prelude.{◌≡◌, ◌<◌, ◌≤◌, ◌++◌, ◌∷◌, [], List, ℕ, None, Ok, length, OnOk, IfOk, IfErr};
 ghost use Rattle.sched_base.specs.Numbers.{moment};
-ghost use Rattle.sched_model.specs.Checked.{IsCheckedWork};
+ghost use Rattle.sched_model.specs.CheckedMachine.{IsCheckedWork};
 ghost use Rattle.work_file.specs.Lines.{place_fault as fault_at, next_line, IsFault};
 ghost use Rattle.work_file.specs.Reading.{IsCheckedReading, IsLineFault, work_from};
 

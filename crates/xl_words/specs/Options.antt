@@ -2,7 +2,7 @@
 use Rattle.std.specs.Prelude.{◌≡◌, ℕ, ◌+◌, Bool, true, false, List, [], ◌∷◌, Option, Some, None, Result, Ok, Err, option_map, is_none, bytes_eq, codes, take, drop, if◌then◌else◌}
 use Rattle.std.specs.Option.{IfSome, option_map_or}
 use Rattle.sched_base.specs.Names.{is_name}
-use Rattle.sched_model.specs.Checked.{IsCheckedWhich, IsGivenNumber}
+use Rattle.sched_model.specs.CheckedMachine.{IsCheckedWhich, IsGivenNumber}
 use Rattle.sched_model.specs.declared.command.Syntax.{Syntax}
 use Rattle.xl_words.specs.declared.options.NewPool.{NewPool}
 use Rattle.xl_words.specs.declared.options.Credit2OfDomain.{Credit2OfDomain}

@@ -1,16 +1,13 @@
 //! The commands, each from the words behind its name.
 
 ghost use Rattle.std.specs.Prelude.{◌≡◌, IfOk};
-ghost use Rattle.sched_model.specs.Checked.{IsCheckedCommand};
+ghost use Rattle.sched_model.specs.CheckedMachine.{IsCheckedCommand};
 ghost use Rattle.xl_words.specs.Parts.{words};
 ghost use Rattle.xl_words.specs.Grammar as grammar;
 
 use crate::fields::{end_at, name_at, number_at, which_at};
 use crate::lists::{read_cpus, read_entries};
-use crate::options::{
-    Credit2OfDomain, Credit2OfPool, NewPool, RtdsOfDomain, credit2_domain_options,
-    credit2_pool_options, new_pool_options, rtds_options,
-};
+use crate::options::{Credit2OfDomain, Credit2OfPool, NewPool, RtdsOfDomain, read_options};
 use crate::parts::next_word;
 use crate::values::read_vcpu;
 use sched_model::command::{Command, Syntax};
@@ -35,7 +32,11 @@ pub(crate) fn pool_create(rest: &[u8]) -> Result<Command, Syntax>
     ensures value { result ≡ grammar.pool_create (words rest.now) }
     ensures checked { IfOk result IsCheckedCommand }
 {
-    let (NewPool { name, sched }, place) = new_pool_options(NewPool::none(), 1, rest)?;
+    let none = NewPool {
+        name: None,
+        sched: None,
+    };
+    let (NewPool { name, sched }, place) = read_options(none, 1, rest)?;
     match name {
         Some(name) => Ok(Command::PoolCreate { name, sched }),
         None => Err(Syntax { place }),
@@ -129,7 +130,12 @@ fn credit2_domain(rest: &[u8]) -> Result<Command, Syntax>
     ensures value { result ≡ grammar.credit2_domain (words rest.now) }
     ensures checked { IfOk result IsCheckedCommand }
 {
-    let (given, place) = credit2_domain_options(Credit2OfDomain::none(), 1, rest)?;
+    let none = Credit2OfDomain {
+        dom: None,
+        weight: None,
+        cap: None,
+    };
+    let (given, place) = read_options(none, 1, rest)?;
     let Credit2OfDomain { dom, weight, cap } = given;
     match dom {
         Some(dom) => Ok(Command::Credit2Dom { dom, weight, cap }),
@@ -143,7 +149,12 @@ fn credit2_pool(rest: &[u8]) -> Result<Command, Syntax>
     ensures value { result ≡ grammar.credit2_pool (words rest.now) }
     ensures checked { IfOk result IsCheckedCommand }
 {
-    let (given, place) = credit2_pool_options(Credit2OfPool::none(), 1, rest)?;
+    let none = Credit2OfPool {
+        of_pool: None,
+        pool: None,
+        limit: None,
+    };
+    let (given, place) = read_options(none, 1, rest)?;
     let Credit2OfPool {
         of_pool,
         pool,
@@ -181,7 +192,14 @@ pub(crate) fn sched_rtds(rest: &[u8]) -> Result<Command, Syntax>
     ensures value { result ≡ grammar.sched_rtds (words rest.now) }
     ensures checked { IfOk result IsCheckedCommand }
 {
-    let (given, place) = rtds_options(RtdsOfDomain::none(), 1, rest)?;
+    let none = RtdsOfDomain {
+        dom: None,
+        vcpu: None,
+        period: None,
+        budget: None,
+        extra: None,
+    };
+    let (given, place) = read_options(none, 1, rest)?;
     let RtdsOfDomain {
         dom,
         vcpu,

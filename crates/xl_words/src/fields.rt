@@ -3,7 +3,7 @@
 ghost use Rattle.std.specs.Prelude.{◌≡◌, true, Ok, Err, MatchResult, IfOk};
 ghost use Rattle.std.specs.List.{All};
 ghost use Rattle.sched_base.specs.Names.{is_name};
-ghost use Rattle.sched_model.specs.Checked.{IsCheckedWhich, IsNumber, IsGivenNumber};
+ghost use Rattle.sched_model.specs.CheckedMachine.{IsCheckedWhich, IsNumber, IsGivenNumber};
 ghost use Rattle.xl_words.specs.Parts.{words};
 ghost use Rattle.xl_words.specs.Values.{which_of, number_of, name_of};
 ghost use Rattle.xl_words.specs.Grammar.{field, nothing_more};

@@ -2,7 +2,7 @@
 #![tactic(auto)]
 
 ghost use Rattle.std.specs.Prelude.{◌≡◌, IfOk};
-ghost use Rattle.sched_model.specs.Checked.{IsCheckedCommand};
+ghost use Rattle.sched_model.specs.CheckedMachine.{IsCheckedCommand};
 ghost use Rattle.xl_words.specs.Grammar.{command_of};
 
 mod commands;

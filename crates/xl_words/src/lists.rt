@@ -2,7 +2,7 @@
 
 ghost use Rattle.std.specs.Prelude.{◌≡◌, ◌≤◌, ◌∷◌, length, IfSome};
 ghost use Rattle.std.specs.List.{All};
-ghost use Rattle.sched_model.specs.Checked.{IsCheckedEntry, IsCheckedRange};
+ghost use Rattle.sched_model.specs.CheckedMachine.{IsCheckedEntry, IsCheckedRange};
 ghost use Rattle.xl_words.specs.Parts.{parts};
 ghost use Rattle.xl_words.specs.Values.{entry_of, range_of, range_from, entries_of, cpus_of, list_of};
 

@@ -3,7 +3,7 @@
 ghost use Rattle.std.specs.Prelude.{◌≡◌, ◌+◌, ◌^◌, ◌<◌, ◌≤◌, true, length, IfSome};
 ghost use Rattle.std.specs.List.{list_all};
 ghost use Rattle.sched_base.specs.Names.{is_name};
-ghost use Rattle.sched_model.specs.Checked.{IsNumber, IsCheckedWhich, IsGivenNumber};
+ghost use Rattle.sched_model.specs.CheckedMachine.{IsNumber, IsCheckedWhich, IsGivenNumber};
 ghost use Rattle.xl_words.specs.Values.{is_digit as digit, decimal, spells_number, number_of, name_of, which_of, vcpu_of, switch_of, kind_of};
 
 use sched_base::Name;

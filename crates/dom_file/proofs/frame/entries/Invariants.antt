@@ -1,6 +1,6 @@
 use Rattle.std.proofs.Common.{◌≡◌, ◌≤◌, length}
 use Rattle.std.specs.List.{All}
-use Rattle.sched_model.specs.Checked.{most_span}
+use Rattle.sched_model.specs.CheckedMachine.{most_span}
 use Rattle.toml.specs.View.{view}
 use Rattle.dom_file.specs.Frames.{entry_of}
 use Rattle.dom_file.proofs.Each.{Gathers}

@@ -1,7 +1,7 @@
 use Rattle.std.proofs.Common.{◌≡◌, refl, subst, sym}
 use Rattle.std.specs.Prelude.{None}
 use Rattle.sched_model.specs.Machine.{first_enabled}
-use Rattle.sched_plain.specs.Standing.{Standing}
+use Rattle.sched_model.specs.Standing.{Standing}
 use Rattle.sched_check.proofs.checker.take_quiet.Goals as goal
 
 pub pass_to-requires-clause-nothing : goal.pass_to-requires-clause-nothing

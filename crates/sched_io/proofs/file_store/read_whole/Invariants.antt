@@ -1,6 +1,6 @@
 use Rattle.std.proofs.Common.{◌≤◌, length}
 use Rattle.std.specs.Io.KnownBytes.{Consumes}
-use Rattle.sched_io.specs.Held.{most_bytes}
+use Rattle.sched_io.specs.HeldBytes.{most_bytes}
 use Rattle.sched_io.proofs.file_store.read_whole.Given as goal
 
 -- the bytes so far are what the file gave

@@ -1,9 +1,9 @@
 use Rattle.std.proofs.Common.{◌∙◌, arith, ap, subst, sym}
-use Rattle.sched_laws.specs.Each.{EachPlace}
+use Rattle.sched_laws.specs.EachPlace.{EachPlace}
 use Rattle.sched_model.specs.declared.state.State.{State}
 use Rattle.sched_model.specs.Machine.{settled_at}
 use Rattle.plain_commands.proofs.Planned.{has-spare, plan-fits}
-use Rattle.sched_plain.specs.Commanding.{HasSpares}
+use Rattle.sched_plain.specs.CommandList.{HasSpares}
 use Rattle.sched_plain.specs.Fits.{PoolFitsAt}
 use Rattle.sched_plain.proofs.Bridges.{stands-early, stands-machine, stands-pool, stands-state}
 use Rattle.sched_plain.proofs.Commanding.{accepted-state, carried-fit, command-over}
@@ -30,7 +30,7 @@ pub carry_out-requires-clause-spare : goal.carry_out-requires-clause-spare
 carry_out-requires-clause-spare c =
     let m = c.args.m.now in
     let s = c.args.s.now in
-    has-spare m s c.requires.accepted.line c.args.plan s.next_command c.args.spares.now (stands-machine m s c.requires.stands).few_siblings (λ i pool at. (stands-pool m s c.requires.stands i pool at).fits) c.requires.accepted.accepted
+    has-spare m s c.requires.accepted.line c.args.plan s.next_command c.args.spares.now c.requires.accepted.accepted
     (spare-next m s.next_command c.requires.accepted.line c.args.spares.now c.requires.spares c.requires.accepted.next)
 
 pub carry_out-requires-clause-fits : goal.carry_out-requires-clause-fits

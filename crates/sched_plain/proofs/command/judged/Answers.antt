@@ -4,7 +4,8 @@ use Rattle.sched_model.specs.declared.facts.Subject.{Subject}
 use Rattle.cpupool.specs.Facts.{facts_of, rate_at, stored_at}
 use Rattle.cpupool.specs.Tool.{tool_of}
 use Rattle.sched_plain.proofs.Bridges.{stands-pool}
-use Rattle.sched_plain.proofs.Judging.{facts-kept, stands-small}
+use Rattle.cpupool.proofs.FactLemmas.{facts-kept}
+use Rattle.sched_plain.proofs.Judging.{stands-recorded, stands-small}
 use Rattle.sched_plain.proofs.command.judged.Goals as goal
 
 pub read-requires : goal.read-requires
@@ -20,4 +21,4 @@ returns-clause-verdict c =
     let read : tool_of m s ≡ c.read.new.self = sym (c.requires.tool s) ∙ sym c.read.ensures in
     let by : Subject → Facts = λ x. record { rate = rate_at s x; units = stored_at m.config.granularity s x } in
     let facts : facts_of m s c.args.c.now ≡ c.facts_at-facts.result = sym (c.facts_at-facts.ensures ∙ ap by (c.subject-subject.ensures m s read)) in
-    c.judge.ensures m s read facts (facts-kept m s c.requires.stands c.args.c.now)
+    c.judge.ensures m s read facts (facts-kept m s c.args.c.now (stands-recorded m s c.requires.stands))

@@ -1,7 +1,7 @@
 use Rattle.std.proofs.Common.{◌∙◌, sym, subst}
 use Rattle.sched_model.specs.Machine.{joined_by}
 use Rattle.sched_model.specs.Places.{change_at}
-use Rattle.sched_laws.specs.Each.{EachPlace}
+use Rattle.sched_laws.specs.EachPlace.{EachPlace}
 use Rattle.sched_plain.specs.Fits.{PoolFitsAt}
 use Rattle.sched_plain.proofs.Bridges.{stands-early, stands-machine, stands-pool, stands-state}
 use Rattle.sched_plain.proofs.DomMoving.{domain-few, pools-joined, pools-left}

@@ -1,5 +1,5 @@
 use Rattle.std.proofs.Common.{ap, ◌∙◌}
-use Rattle.sched_print.specs.Reading.{end_at}
+use Rattle.sched_print.specs.Readers.{end_at}
 use Rattle.sched_print.proofs.read_answers.frame_long.Goals as goal
 
 pub returns : goal.returns

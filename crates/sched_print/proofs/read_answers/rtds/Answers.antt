@@ -1,6 +1,6 @@
 use Rattle.std.proofs.Common.{ap, ◌∙◌}
 use Rattle.std.specs.Prelude.{codes}
-use Rattle.sched_print.specs.Reading.{Word, Done, read}
+use Rattle.sched_print.specs.Readers.{Word, Done, read}
 use Rattle.sched_print.proofs.Steps.{joined}
 use Rattle.sched_print.proofs.read_answers.rtds.Goals as goal
 

@@ -1,7 +1,7 @@
 use Rattle.std.proofs.Common.{◌≡◌, ◌-◌, ℕ, List, length, take, sym, ap, ◌∙◌, subst, arith}
 use Rattle.std.specs.Prelude.{Ok, Err, min}
 use Rattle.std.proofs.lemmas.List.{length-take}
-use Rattle.sched_print.specs.Reading.{read}
+use Rattle.sched_print.specs.Readers.{read}
 use Rattle.sched_print.specs.Forms.{entries}
 use Rattle.sched_print.specs.Places.{IsPlace}
 use Rattle.sched_print.proofs.EntryForms.{formed_entries}

@@ -1,5 +1,5 @@
 use Rattle.std.proofs.Common.{◌≡◌, ◌<◌, ◌≤◌, length}
-use Rattle.sched_print.specs.Reading.{digits_at}
+use Rattle.sched_print.specs.Readers.{digits_at}
 use Rattle.sched_print.proofs.scan.digits.Given as goal
 
 abbrev pub invariant-loop-rest : goal.invariant-loop-rest

@@ -1,6 +1,6 @@
 use Rattle.std.proofs.Common.{◌≡◌, ◌<◌, ℕ, List, [], ◌∷◌, length, drop, length-drop, refl, sym, ◌∙◌, arith}
 use Rattle.std.specs.Prelude.{Err}
-use Rattle.sched_print.specs.Reading.{word_at}
+use Rattle.sched_print.specs.Readers.{word_at}
 use Rattle.sched_print.proofs.scan.word.Goals as goal
 
 -- no byte is left, and some of the word is

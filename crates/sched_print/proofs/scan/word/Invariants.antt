@@ -1,5 +1,5 @@
 use Rattle.std.proofs.Common.{◌≡◌, drop}
-use Rattle.sched_print.specs.Reading.{word_at}
+use Rattle.sched_print.specs.Readers.{word_at}
 use Rattle.sched_print.proofs.scan.word.Given as goal
 
 abbrev pub invariant-loop-c : goal.invariant-loop-c

@@ -4,7 +4,7 @@ use Rattle.std.specs.Option.{MatchOption}
 use Rattle.std.proofs.lemmas.Bool.{eqb-true, eqb-false}
 use Rattle.std.proofs.lemmas.List.Elements.{All-push}
 use Rattle.sched_model.specs.declared.command.ArincEntry.{ArincEntry}
-use Rattle.sched_model.specs.Checked.{IsCheckedEntry}
+use Rattle.sched_model.specs.CheckedMachine.{IsCheckedEntry}
 use Rattle.xl_words.specs.Parts.{parts}
 use Rattle.xl_words.specs.Values.{entry_of, entries_of}
 use Rattle.xl_words.proofs.SoFarLemmas.{IsReadSoFar, read_bad, read_full, read_last, read_next}

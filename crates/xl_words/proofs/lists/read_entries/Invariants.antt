@@ -1,6 +1,6 @@
 use Rattle.std.proofs.Common.{◌≤◌, length}
 use Rattle.std.specs.List.{All}
-use Rattle.sched_model.specs.Checked.{IsCheckedEntry}
+use Rattle.sched_model.specs.CheckedMachine.{IsCheckedEntry}
 use Rattle.xl_words.specs.Values.{entry_of}
 use Rattle.xl_words.proofs.SoFarLemmas.{IsReadSoFar}
 use Rattle.xl_words.proofs.lists.read_entries.Given as goal

@@ -1,6 +1,6 @@
 use Rattle.std.proofs.Common.{◌≤◌, length}
 use Rattle.std.specs.List.{All}
-use Rattle.sched_model.specs.Checked.{IsCheckedRange}
+use Rattle.sched_model.specs.CheckedMachine.{IsCheckedRange}
 use Rattle.xl_words.specs.Values.{range_of}
 use Rattle.xl_words.proofs.SoFarLemmas.{IsReadSoFar}
 use Rattle.xl_words.proofs.lists.read_ranges.Given as goal

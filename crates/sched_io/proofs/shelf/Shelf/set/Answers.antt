@@ -1,5 +1,5 @@
 use Rattle.std.proofs.Common.{Some, ap, ◌∙◌, rules}
-use Rattle.sched_io.specs.Held.{bytes_under}
+use Rattle.sched_io.specs.HeldBytes.{bytes_under}
 use Rattle.sched_io.proofs.ShelfLemmas.{set_held, set_others}
 use Rattle.sched_io.proofs.shelf.Shelf.set.Goals as goal
 

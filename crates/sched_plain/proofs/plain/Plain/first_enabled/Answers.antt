@@ -1,6 +1,6 @@
 use Rattle.std.proofs.Common.{◌≡◌, subst}
 use Rattle.sched_model.specs.Machine.{first_enabled}
-use Rattle.sched_plain.specs.Standing.{Standing}
+use Rattle.sched_model.specs.Standing.{Standing}
 use Rattle.sched_plain.proofs.Bridges.{stands-machine, stands-state}
 use Rattle.sched_plain.proofs.plain.Plain.first_enabled.Goals as goal
 

@@ -1,7 +1,7 @@
 use Rattle.std.proofs.Common.{◌≡◌, subst, sym}
 use Rattle.std.specs.Prelude.{Some, None}
 use Rattle.sched_model.specs.Machine.{first_enabled, next_in_horizon}
-use Rattle.sched_plain.specs.Standing.{Standing}
+use Rattle.sched_model.specs.Standing.{Standing}
 use Rattle.sched_plain.proofs.Reaching.{stands-next}
 use Rattle.sched_plain.proofs.plain.Plain.pass_to.Goals as goal
 
