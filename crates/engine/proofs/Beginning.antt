@@ -5,7 +5,7 @@ use Rattle.sched_base.specs.declared.Moment.{Moment}
 use Rattle.sched_model.specs.declared.action.Action.{Action}
 use Rattle.sched_model.specs.declared.machine.Machine.{Machine}
 use Rattle.sched_model.specs.declared.state.State.{State}
-use Rattle.sched_model.specs.Checked.{IsChecked}
+use Rattle.sched_model.specs.CheckedMachine.{IsChecked}
 use Rattle.sched_model.specs.Opening.{opening}
 use Rattle.journal_core.specs.Parts.{tool_of as part_of_tool}
 use Rattle.cpupool.specs.Tool.{Tool, tool_of}
@@ -15,8 +15,8 @@ use Rattle.pool_slots.specs.Places.{AllStand, GoesOn, state_of}
 use Rattle.pool_slots.specs.Spares.{Shelves}
 use Rattle.pool_slots.specs.Told.{Told, told_new}
 use Rattle.parts_opening.proofs.Placing.{state_new}
-use Rattle.engine.specs.Running.{AreKept, IsRunning}
-use Rattle.engine.specs.Standing.{Standing, standing_of}
+use Rattle.engine.specs.EngineState.{standing_of, AreKept, IsRunning}
+use Rattle.sched_model.specs.Standing.{Standing}
 
 module _ (m : Machine) (checked : IsChecked m) (w : Told) (is : w ≡ told_new m.config m.work) where
   state-opened : state_of w ≡ opening m

@@ -5,7 +5,7 @@ use Rattle.std.proofs.Common.{◌≡◌, ◌≢◌, ◌≤◌, ◌<◌, ◌+◌,
 use Rattle.std.proofs.Math.Decide.{dec_le}
 use Rattle.std.proofs.Math.ListN.{get_or-eq_default}
 use Rattle.std.proofs.lemmas.List.{with_items_is}
-use Rattle.std.specs.Prelude.{Option, Some, None, Vec}
+use Rattle.std.specs.Prelude.{Option, Some, None, Vec, max}
 use Rattle.std.specs.Vec.{with_items}
 use Rattle.sched_base.specs.declared.Moment.{Moment}
 use Rattle.sched_model.specs.declared.action.Action.{Action}
@@ -13,7 +13,7 @@ use Rattle.sched_model.specs.Places.{at_place}
 use Rattle.pool_core.specs.Seen.{Seen}
 use Rattle.pool_core.specs.Order.{IsFirstEnabled}
 use Rattle.machine_parts.specs.Parts.{AreFirsts}
-use Rattle.engine.specs.Running.{AreKept, IsFirstOfPlace, IsIdleFrom, IsNextOfPlace}
+use Rattle.engine.specs.EngineState.{AreKept, IsFirstOfPlace, IsIdleFrom, IsNextOfPlace}
 use Rattle.std.proofs.lemmas.List.{get_or-take, length-take-le}
 
 first-some : (t : ℕ) (slot : Option Seen) (first : Option Action) (seen : Seen) → slot ≡ Some seen → IsFirstOfPlace t slot first → IsFirstEnabled seen.granularity t seen.pool first
@@ -83,11 +83,11 @@ idle-less busy firsts some here idle = record {
 }
 
 -- one place more may have an event
-pub idle-more : (i busy more : ℕ) (firsts now_firsts : List (Option Action)) → i < length firsts → length now_firsts ≡ length firsts → ((k : ℕ) → k ≢ i → at_place now_firsts k ≡ at_place firsts k)
-    → busy ≤ more → i + 1 ≤ more → ((n : ℕ) → busy ≤ n → i + 1 ≤ n → more ≤ n) → IsIdleFrom busy firsts → IsIdleFrom more now_firsts
-idle-more i busy more firsts now_firsts low count same above beyond least idle = record {
-  few = least (length now_firsts) (let f = idle.few in omega (arith, f, count)) (omega (arith, low, count));
-  none = λ k high. same k (λ is. absurd (omega (arith, is, beyond, high))) ∙ idle.none k (omega (arith, above, high));
+pub idle-more : (i busy : ℕ) (firsts now_firsts : List (Option Action)) → i < length firsts → length now_firsts ≡ length firsts → ((k : ℕ) → k ≢ i → at_place now_firsts k ≡ at_place firsts k)
+    → IsIdleFrom busy firsts → IsIdleFrom (max busy (i + 1)) now_firsts
+idle-more i busy firsts now_firsts low count same idle = record {
+  few = (let f = idle.few in omega (arith, f, low, count));
+  none = λ k high. same k (λ is. absurd (omega (arith, is, high))) ∙ idle.none k (omega (arith, high));
 }
 
 -- the places up to there have what all have

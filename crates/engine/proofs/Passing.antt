@@ -1,17 +1,18 @@
 -- The end of a moment: nothing may come, and the run goes on at the next moment.
-use Rattle.std.proofs.Common.{◌≡◌, ◌<◌, ◌∙◌, ℕ, Bool, true, false, List, [], ◌∷◌, ◌++◌, length, refl, sym, ap, ap₂, subst, arith}
-use Rattle.std.specs.Prelude.{Option, Some, None, cond, nat_le}
+use Rattle.std.proofs.Common.{◌≡◌, ◌∙◌, ℕ, List, [], ◌∷◌, ◌++◌, length, refl, sym, ap, ap₂, subst, arith}
+use Rattle.std.specs.Prelude.{Option, Some, None}
+use Rattle.std.specs.Option.{ForSome}
 use Rattle.sched_base.specs.Numbers.{moment}
 use Rattle.sched_model.specs.declared.action.Action.{Action}
 use Rattle.sched_model.specs.declared.event.Event.TheVariants as event
 use Rattle.sched_model.specs.declared.event.Entry.{Entry}
 use Rattle.sched_model.specs.declared.machine.Machine.{Machine}
 use Rattle.sched_model.specs.declared.state.State.{State}
-use Rattle.sched_model.specs.Machine.{first_enabled, next_in_horizon, next_moment}
+use Rattle.sched_model.specs.Machine.{first_enabled, next_in_horizon}
 use Rattle.sched_model.specs.Places.{at_place}
 use Rattle.sched_model.specs.Runs.{Reached, IsNext, run_start, after_entry}
 use Rattle.sched_model.proofs.RunLemmas.{after_entries-append, IsRunFrom-append}
-use Rattle.run_laws.specs.RunLaws.{IsLeastLater, IsNextMoment}
+use Rattle.sched_laws.proofs.Ready.{next_later}
 use Rattle.journal_core.specs.Histories.{reached_by, part_at}
 use Rattle.journal_core.specs.Parts.{part_of}
 use Rattle.cpupool.specs.Tool.{Tool, tool_of}
@@ -23,33 +24,13 @@ use Rattle.pool_slots.specs.Counts.{AreSpares}
 use Rattle.pool_slots.specs.Spares.{Shelves}
 use Rattle.machine_parts.specs.Parts.{AreFirsts, AreParts}
 use Rattle.sched_base.specs.declared.Moment.{Moment}
-use Rattle.engine.specs.Running.{IsRunning}
-use Rattle.engine.specs.Standing.{Standing, standing_of}
+use Rattle.engine.specs.EngineState.{standing_of, IsRunning}
+use Rattle.sched_model.specs.Standing.{Standing}
+use Rattle.engine.proofs.Clock.{slot-later}
 use Rattle.engine.proofs.Quiet.{quiet-firsts}
 use Rattle.pool_slots.proofs.Keeping.{spares-later}
 
--- the moment that comes next is later
-next-later : (m : Machine) (s : State) (next : ℕ) → IsNextMoment m s s.now (next_moment m s s.now) → next_in_horizon m s ≡ Some next → s.now < next
-next-later m s next least_later is = by_next (next_moment m s s.now) refl
-  where
-    in-horizon : (n : ℕ) → cond (nat_le n m.config.horizon.0) (Some n) None ≡ Some next → n ≡ next
-    in-horizon n found = by_le (nat_le n m.config.horizon.0) found
-      where
-        by_le : (b : Bool) → cond b (Some n) None ≡ Some next → n ≡ next
-        by_le true h = cc
-        by_le false h = absurd (cc)
-
-    by_next : (o : Option ℕ) → next_moment m s s.now ≡ o → s.now < next
-    by_next None none =
-        let bad : (let o : Option ℕ = None in o) ≡ Some next = ap (λ (o : Option ℕ). elim o as (λ _. Option ℕ) [ None ↦ None | Some k ↦ cond (nat_le k m.config.horizon.0) (Some k) None ]) (sym none) ∙ is in
-        absurd (cc bad)
-    by_next (Some n) some =
-        let same : n ≡ next = in-horizon n (ap (λ (o : Option ℕ). elim o as (λ _. Option ℕ) [ None ↦ None | Some k ↦ cond (nat_le k m.config.horizon.0) (Some k) None ]) (sym some) ∙ is) in
-        let least : IsLeastLater m s s.now n = subst (IsNextMoment m s s.now) some least_later in
-        let later = least.later in
-        omega (arith, later, same)
-
-module _ (w : Told) (goes : GoesOn w) (next : ℕ) (law : IsNextMoment w.input (state_of w) (state_of w).now (next_moment w.input (state_of w) (state_of w).now)) (quiet : first_enabled w.input (state_of w) (state_of w).now ≡ None) (comes : next_in_horizon w.input (state_of w) ≡ Some next) (e : Entry) (is : e ≡ record { at = moment (state_of w).now; event = event.End (moment next) }) where
+module _ (w : Told) (goes : GoesOn w) (next : ℕ) (quiet : first_enabled w.input (state_of w) (state_of w).now ≡ None) (comes : next_in_horizon w.input (state_of w) ≡ Some next) (e : Entry) (is : e ≡ record { at = moment (state_of w).now; event = event.End (moment next) }) where
   abbrev m : Machine
   m = w.input
 
@@ -58,9 +39,6 @@ module _ (w : Told) (goes : GoesOn w) (next : ℕ) (law : IsNextMoment w.input (
 
   abbrev later : State
   later = record s { now = next }
-
-  pub on-later : s.now < next
-  on-later = next-later m s next law comes
 
   comes-next : IsNext m (reached_by m w.history) e
   comes-next = subst (λ (r : Reached). IsNext m r e) (sym (leads-to w goes)) (subst (IsNext m (open_at s)) (sym is) (record { goes_on = refl; moment = refl; event = (quiet, comes) }))
@@ -77,15 +55,12 @@ module _ (w : Told) (goes : GoesOn w) (next : ℕ) (law : IsNextMoment w.input (
   part-later : (k : ℕ) → part_at m (w.history ++ e ∷ []) k ≡ part_at m w.history k
   part-later k = part_of-is (told_more w e) k ∙ ap (λ (x : State). part_of x k) state-later ∙ sym (part_of-is w k)
 
-  suits-later : (slot : Option Seen) → ((x : Seen) → slot ≡ Some x → SlotSuits m s.now x) → (x : Seen) → slot ≡ Some x → SlotSuits m (state_of (told_more w e)).now x
-  suits-later slot suits x here =
-      let old = suits x here in
-      let low = old.latest in
-      let on = on-later in
-      subst (λ (n : ℕ). SlotSuits m n x) (sym (ap (λ (y : State). y.now) state-later)) (record { granularity = old.granularity; latest = omega (arith, low, on) })
-
   stands-later : (k : ℕ) (slot : Option Seen) → StandsAt w k slot → StandsAt (told_more w e) k slot
-  stands-later k slot stands = record { place = stands.place; part = stands.part ∙ sym (part-later k); suits = suits-later slot stands.suits }
+  stands-later k slot stands = record {
+    place = stands.place;
+    part = stands.part ∙ sym (part-later k);
+    suits = subst (λ (n : ℕ). ForSome slot (SlotSuits m n)) (sym (ap (λ (y : State). y.now) state-later)) (slot-later m s.now next slot (next_later m s next comes) stands.suits);
+  }
 
   pub parts-later : (slots : List (Option Seen)) (tool : Tool) → AreParts w slots tool → AreParts (told_more w e) slots tool
   parts-later slots tool parts = record {
@@ -96,7 +71,7 @@ module _ (w : Told) (goes : GoesOn w) (next : ℕ) (law : IsNextMoment w.input (
 
 -- what the engine keeps goes on, and where it stands
 module _ (w new : Told) (t next horizon g : ℕ) (slots : List (Option Seen)) (tool : Tool) (shelves : Shelves) (firsts : List (Option Action)) (nexts : List (Option Moment)) (running : IsRunning w t horizon g slots tool shelves firsts nexts)
-    (law : IsNextMoment w.input (state_of w) (state_of w).now (next_moment w.input (state_of w) (state_of w).now)) (quiet : first_enabled w.input (state_of w) (state_of w).now ≡ None) (comes : next_in_horizon w.input (state_of w) ≡ Some next)
+    (quiet : first_enabled w.input (state_of w) (state_of w).now ≡ None) (comes : next_in_horizon w.input (state_of w) ≡ Some next)
     (is : new ≡ told_more w (record { at = moment t; event = event.End (moment next) })) where
   abbrev ending : Entry
   ending = record { at = moment t; event = event.End (moment next) }
@@ -105,16 +80,16 @@ module _ (w new : Told) (t next horizon g : ℕ) (slots : List (Option Seen)) (t
   is-ending = ap (λ (n : ℕ). let x : Entry = record { at = moment n; event = event.End (moment next) } in x) running.now_is
 
   state-new : state_of new ≡ record (state_of w) { now = next }
-  state-new = ap state_of is ∙ state-later w running.parts.goes next law quiet comes ending is-ending
+  state-new = ap state_of is ∙ state-later w running.parts.goes next quiet comes ending is-ending
 
   pub running-later : (later_firsts : List (Option Action)) → length later_firsts ≡ length slots → AreFirsts next slots later_firsts → IsRunning new next horizon g slots tool shelves later_firsts nexts
   running-later later_firsts count are = record {
-    parts = subst (λ (x : Told). AreParts x slots tool) (sym is) (parts-later w running.parts.goes next law quiet comes ending is-ending slots tool running.parts);
+    parts = subst (λ (x : Told). AreParts x slots tool) (sym is) (parts-later w running.parts.goes next quiet comes ending is-ending slots tool running.parts);
     now_is = sym (ap (λ (s : State). s.now) state-new);
     horizon_is = running.horizon_is ∙ ap (λ (x : Told). x.input.config.horizon.0) (sym is);
     granularity_is = running.granularity_is ∙ ap (λ (x : Told). x.input.config.granularity) (sym is);
     spares = subst (λ (x : Told). AreSpares x.input next tool.part shelves) (sym is)
-        (spares-later w.input t next tool.part shelves (let on = on-later w running.parts.goes next law quiet comes ending is-ending in let now = running.now_is in omega (arith, on, now)) running.spares);
+        (spares-later w.input t next tool.part shelves (let on = next_later w.input (state_of w) next comes in let now = running.now_is in omega (arith, on, now)) running.spares);
     kept = record {
       count_firsts = count;
       count_nexts = running.kept.count_nexts;

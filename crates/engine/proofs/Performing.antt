@@ -1,17 +1,15 @@
 -- One event of a pool, or one act of the tool, and what the engine keeps after it.
 use Rattle.std.proofs.Common.{◌≡◌, ◌≢◌, ◌<◌, ◌∙◌, ℕ, List, length, refl, sym, ap, subst, arith}
-use Rattle.std.specs.Prelude.{Option, Some, None, option_map}
-use Rattle.sched_base.specs.Numbers.{moment, pool as pool_number}
-use Rattle.sched_base.specs.declared.PoolId.{PoolId}
+use Rattle.std.specs.Prelude.{Option, Some, None}
+use Rattle.sched_base.specs.Numbers.{moment}
 use Rattle.sched_model.specs.declared.action.Action.{Action}
-use Rattle.sched_model.specs.declared.action.Action.TheVariants.{Stall, Xl, Moved, DomMoved, Wake, Block, Slice, Repl, Refill, Arrive, Decide, Leave, Save}
+use Rattle.sched_model.specs.declared.action.Action.TheVariants.{Stall, Xl, Moved, DomMoved}
 use Rattle.sched_model.specs.declared.event.Event.{Event}
 use Rattle.sched_model.specs.declared.state.State.{State}
-use Rattle.sched_model.specs.Actions.{home_of}
+use Rattle.sched_model.specs.Actions.{IsOfPool, home_of}
 use Rattle.sched_model.specs.Places.{at_place}
 use Rattle.journal_core.specs.Parts.{StatePart, ToolPart, tool_part, part_of, tool_lock, tool_of as part_of_tool}
 use Rattle.cpupool.specs.Tool.{Tool, tool_of}
-use Rattle.plain_pool.specs.Own.{IsOfPool}
 use Rattle.pool_core.specs.Seen.{Seen}
 use Rattle.pool_slots.specs.Told.{Told}
 use Rattle.pool_slots.specs.Places.{AllStand, HasStepped, state_of}
@@ -21,7 +19,7 @@ use Rattle.pool_slots.specs.Told.{told_more}
 use Rattle.pool_slots.specs.Counts.{AreSpares}
 use Rattle.pool_slots.specs.Spares.{Shelves}
 use Rattle.machine_parts.specs.Parts.{AreParts}
-use Rattle.engine.specs.Running.{AreKept, IsFirstOfPlace, IsNextOfPlace, IsRunning, pool_of_event}
+use Rattle.engine.specs.EngineState.{AreKept, IsFirstOfPlace, IsNextOfPlace, IsRunning, pool_of_event}
 use Rattle.engine.proofs.Kept.{kept-one}
 
 -- an event that is of a pool is none of the tool's, and its home is that pool
@@ -30,24 +28,7 @@ own-event g s Stall i is = absurd (cc)
 own-event g s Xl i is = absurd (cc)
 own-event g s (Moved r) i is = absurd (cc)
 own-event g s (DomMoved d) i is = absurd (cc)
-own-event g s (Wake v) i is = (tt, is)
-own-event g s (Block p) i is = (tt, is)
-own-event g s (Slice r) i is = (tt, is)
-own-event g s (Repl u) i is = (tt, is)
-own-event g s (Refill d) i is = (tt, is)
-own-event g s (Arrive p) i is = (tt, is)
-own-event g s (Decide r) i is = (tt, is)
-own-event g s (Leave p) i is = (tt, is)
-own-event g s (Save r) i is = (tt, is)
-
--- the number that the tool tells
-pub told-pool : (o : Option ℕ) (i : PoolId) → option_map pool_number o ≡ Some i → o ≡ Some i.0
-told-pool None i is = absurd (cc)
-told-pool (Some k) i is = (let same : pool_number k ≡ i = cc in ap (λ (x : PoolId). Some x.0) same)
-
-pub told-none : (o : Option ℕ) → option_map pool_number o ≡ None → o ≡ None
-told-none None is = refl
-told-none (Some k) is = absurd (cc)
+own-event g s action i is = (tt, is)
 
 -- what the tool keeps of a state, out of its part
 tool-in : (part other : ToolPart) → (let a : StatePart = tool_part part in a) ≡ tool_part other → part ≡ other
@@ -71,9 +52,6 @@ parts-stepped w next i slots tool low input step stand known = record { goes = s
 module _ (w new : Told) (t horizon g i : ℕ) (slots left : List (Option Seen)) (tool : Tool) (shelves : Shelves) (firsts : List (Option Action)) (nexts : List (Option Moment)) (running : IsRunning w t horizon g slots tool shelves firsts nexts)
     (event : Event) (is : new ≡ told_more w (record { at = moment t; event = event })) (low : i < 16) (step : HasStepped w i (told_more w (record { at = moment t; event = event }))) (stand : AllStand (told_more w (record { at = moment t; event = event })) left)
     (others : (k : ℕ) → k ≢ i → at_place left k ≡ at_place slots k) where
-  pub count-left : length left ≡ length slots
-  count-left = stand.count ∙ sym running.parts.stand.count
-
   pub running-stepped : (now_firsts : List (Option Action)) (now_nexts : List (Option Moment)) → length now_firsts ≡ length firsts → length now_nexts ≡ length nexts
       → ((k : ℕ) → k ≢ i → at_place now_firsts k ≡ at_place firsts k) → ((k : ℕ) → k ≢ i → at_place now_nexts k ≡ at_place nexts k)
       → IsFirstOfPlace t (at_place left i) (at_place now_firsts i) → (at_place now_firsts i ≡ None → IsNextOfPlace (at_place left i) (at_place now_nexts i)) → IsRunning new t horizon g left tool shelves now_firsts now_nexts
@@ -83,16 +61,13 @@ module _ (w new : Told) (t horizon g i : ℕ) (slots left : List (Option Seen)) 
     horizon_is = running.horizon_is ∙ ap (λ (x : Told). x.input.config.horizon.0) (sym is);
     granularity_is = running.granularity_is ∙ ap (λ (x : Told). x.input.config.granularity) (sym is);
     spares = subst (λ (x : Told). AreSpares x.input t tool.part shelves) (sym is) running.spares;
-    kept = kept-one t i slots left firsts now_firsts nexts now_nexts running.kept count-left count_firsts count_nexts others same_firsts same_nexts first next;
+    kept = kept-one t i slots left firsts now_firsts nexts now_nexts running.kept (stand.count ∙ sym running.parts.stand.count) count_firsts count_nexts others same_firsts same_nexts first next;
   }
 
 -- the parts after an act of the tool
 module _ (w new : Told) (t horizon g : ℕ) (slots left : List (Option Seen)) (tool now_tool : Tool) (shelves now_shelves : Shelves) (firsts : List (Option Action)) (nexts : List (Option Moment)) (running : IsRunning w t horizon g slots tool shelves firsts nexts)
     (event : Event) (is : new ≡ told_more w (record { at = moment t; event = event })) (parts : AreParts (told_more w (record { at = moment t; event = event })) left now_tool) (now : (state_of (told_more w (record { at = moment t; event = event }))).now ≡ (state_of w).now)
     (spares : AreSpares w.input t now_tool.part now_shelves) where
-  pub count-acted : length left ≡ length slots
-  count-acted = parts.stand.count ∙ sym running.parts.stand.count
-
   pub running-acted : (now_firsts : List (Option Action)) (now_nexts : List (Option Moment)) → AreKept t left now_firsts now_nexts → IsRunning new t horizon g left now_tool now_shelves now_firsts now_nexts
   running-acted now_firsts now_nexts kept = record {
     parts = subst (λ (x : Told). AreParts x left now_tool) (sym is) parts;

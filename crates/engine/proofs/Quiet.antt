@@ -7,7 +7,7 @@ use Rattle.sched_model.specs.declared.event.Entry.{Entry}
 use Rattle.sched_model.specs.declared.machine.Machine.{Machine}
 use Rattle.sched_model.specs.declared.state.State.{State}
 use Rattle.sched_model.specs.Actions.{candidates}
-use Rattle.sched_model.specs.Checked.{IsChecked}
+use Rattle.sched_model.specs.CheckedMachine.{IsChecked}
 use Rattle.sched_model.specs.Machine.{first_enabled, is_enabled}
 use Rattle.sched_model.specs.Places.{at_place}
 use Rattle.sched_model.specs.Pool.{enabled_in}
@@ -28,7 +28,7 @@ use Rattle.pool_slots.proofs.Going.{range-of, state_of-is}
 use Rattle.pool_slots.proofs.Standing.{pool_at}
 use Rattle.machine_parts.specs.Parts.{AreFirsts, AreNexts, AreParts}
 use Rattle.machine_parts.proofs.AtPlaces.{pool-anywhere}
-use Rattle.engine.specs.Running.{IsNextOfPlace}
+use Rattle.engine.specs.EngineState.{IsNextOfPlace}
 
 -- no event of a pool may come where no action may
 nothing-comes : (m : Machine) (checked : IsChecked m) (entries : List Entry) (run : IsRun m entries) (t i : ℕ) (action : Action) → ComesInPool m (state_after m entries) t i action → first_enabled m (state_after m entries) t ≡ None → ⊥

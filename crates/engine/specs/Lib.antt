@@ -1,2 +1,1 @@
-pub mod Standing
-pub mod Running
+pub mod EngineState

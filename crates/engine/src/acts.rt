@@ -7,7 +7,7 @@ ghost use Rattle.pool_slots.specs.Counts.{AreSpares};
 ghost use Rattle.pool_slots.specs.Places.{state_of};
 ghost use Rattle.machine_parts.specs.Parts.{AreParts};
 ghost use Rattle.tool_acts.specs.Acts.{told_event};
-ghost use Rattle.engine.specs.Running.{pool_of_event};
+ghost use Rattle.engine.specs.EngineState.{pool_of_event};
 
 use cpupool::ToolState;
 use pool_slots::{PoolSlot, Spares, Trail};

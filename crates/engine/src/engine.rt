@@ -1,30 +1,18 @@
 //! The engine: a machine that steps from one entry of its run to the next.
 
-ghost use Rattle.std.specs.Prelude.{ℕ, ◌≤◌};
-
 use crate::acts::act_of_tool;
 use crate::homes::pool_of_event;
-use crate::keeping::{busy_places, first_places, none_times, read_all, read_firsts, read_one};
+use crate::keeping::{busy_places, none_times, read_all, read_firsts, read_one};
 use cpupool::ToolState;
 use machine_parts::{whole_first, whole_next};
 use parts_opening::{open_slots, open_spares};
 use pool_slots::{PoolSlot, Spares, Trail, perform_among};
-use run_laws::laws::law_next_moment;
 use sched_base::{Moment, NoMemory};
 use sched_model::action::Action;
 use sched_model::event::{Entry, Event};
 use sched_model::machine::Machine;
 use std::alloc::Global;
 use std::marker::Model;
-
-/// The greater of two numbers.
-fn at_least(a: usize, b: usize) -> usize
-    ensures not_less { a ≤ result }
-    ensures other { b ≤ result }
-    ensures most { (n : ℕ) → a ≤ n → b ≤ n → result ≤ n }
-{
-    if a < b { b } else { a }
-}
 
 /// As many pools as a machine has places for.
 const MOST_POOLS: u8 = 16;
@@ -48,15 +36,16 @@ pub struct Engine {
 }
 
 impl Model for Engine {
-    ghost use Rattle.engine.specs.Standing.{Standing, standing_of};
+    ghost use Rattle.sched_model.specs.Standing.{Standing};
 
     ghost Value = { Standing };
 
-    ghost use Rattle.engine.specs.Running.{IsIdleFrom, IsRunning};
+    ghost use Rattle.engine.specs.EngineState.{IsIdleFrom, IsRunning, standing_of};
 
     ghost view = { λ e. standing_of e.trail };
 
-    ghost invariant = { λ e. IsRunning e.trail e.moment.0 e.horizon.0 e.granularity e.slots.items e.tool e.spares e.firsts.items e.nexts.items
+    ghost invariant = { λ e. IsRunning e.trail e.moment.0 e.horizon.0 e.granularity e.slots.items
+        e.tool e.spares e.firsts.items e.nexts.items
         × IsIdleFrom e.busy e.firsts.items };
 }
 
@@ -65,8 +54,8 @@ impl Engine {
     ghost use Rattle.sched_model.specs.declared.action.Action.TheVariants as actions;
     ghost use Rattle.sched_base.specs.Numbers.{moment};
     ghost use Rattle.sched_model.specs.Opening.{opening};
-    ghost use Rattle.sched_model.specs.Checked.{IsChecked};
-    ghost use Rattle.engine.specs.Running.{pool_of_event as pool_of_event_spec};
+    ghost use Rattle.sched_model.specs.CheckedMachine.{IsChecked};
+    ghost use Rattle.engine.specs.EngineState.{pool_of_event as pool_of_event_spec};
     ghost use Rattle.sched_model.specs.Machine.{is_enabled, first_enabled as first_enabled_spec, next_in_horizon, event_of, after};
 
     /// The machine at its opening. Its values have passed the checks of the domain file and of the work file.
@@ -118,7 +107,7 @@ impl Engine {
         whole_first(
             self.slots.as_slice(),
             &self.tool,
-            first_places(self.firsts.as_slice(), self.busy),
+            &self.firsts[..self.busy],
             &self.trail,
             self.moment,
         )
@@ -168,7 +157,7 @@ impl Engine {
             self.firsts.as_mut_slice(),
             self.nexts.as_mut_slice(),
         );
-        self.busy = at_least(self.busy, i as usize + 1);
+        self.busy = self.busy.max(i as usize + 1);
         event
     }
 
@@ -230,7 +219,6 @@ impl Engine {
         requires next { next_in_horizon self.old.machine self.old.state ≡ Some next.0 }
         ensures { self.new ≡ record self.old { state = record self.old.state { now = next.0 } } }
     {
-        law_next_moment();
         self.trail.add(&Entry {
             at: self.moment,
             event: Event::End { next },

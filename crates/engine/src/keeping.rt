@@ -1,9 +1,9 @@
 //! What is kept of each pool, so that only a pool that changed is asked again.
 
-ghost use Rattle.std.specs.Prelude.{◌≡◌, ◌≢◌, ◌<◌, ◌≤◌, ℕ, None, length, take, IfOk};
+ghost use Rattle.std.specs.Prelude.{◌≡◌, ◌≢◌, ◌<◌, ℕ, None, length, IfOk};
 ghost use Rattle.sched_model.specs.Places.{at_place};
 ghost use Rattle.machine_parts.specs.Parts.{AreFirsts};
-ghost use Rattle.engine.specs.Running.{AreKept, IsFirstOfPlace, IsIdleFrom, IsNextOfPlace};
+ghost use Rattle.engine.specs.EngineState.{AreKept, IsFirstOfPlace, IsIdleFrom, IsNextOfPlace};
 
 use pool_slots::PoolSlot;
 use sched_base::{Moment, NoMemory};
@@ -71,14 +71,6 @@ pub(crate) fn busy_places(firsts: &[Option<Action>]) -> usize
         busy = before;
     }
     0
-}
-
-/// So many of the first places.
-pub(crate) fn first_places(firsts: &[Option<Action>], busy: usize) -> &[Option<Action>]
-    requires { busy ≤ length firsts.now }
-    ensures { result.now ≡ take busy firsts.now }
-{
-    &firsts[..busy]
 }
 
 /// What is kept of all pools, asked at t.

@@ -1,8 +1,8 @@
 //! One example, from its two files to its last entry.
 
 ghost use Rattle.std.specs.Prelude.{◌≤◌, IfOk, length};
-ghost use Rattle.sched_io.specs.Held.{most_bytes};
-ghost use Rattle.sched_model.specs.Checked.{IsChecked, IsCheckedConfig, IsCheckedWork};
+ghost use Rattle.sched_io.specs.HeldBytes.{most_bytes};
+ghost use Rattle.sched_model.specs.CheckedMachine.{IsChecked, IsCheckedConfig, IsCheckedWork};
 
 use crate::step::go_on;
 use crate::stop::Stop;

@@ -1,8 +1,7 @@
 -- The arrival that a seat keeps is one of a processor of the input.
 use Rattle.sched_base.specs.Numbers.{processor}
-use Rattle.std.proofs.Common.{◌≡◌, ◌<◌, ◌∙◌, ◌&&◌, ℕ, Bool, true, false, List, refl, sym, ap, subst, arith}
-use Rattle.std.specs.Prelude.{◌==◌, Option, Some, None, if◌then◌else◌}
-use Rattle.std.specs.Option.{ForSome}
+use Rattle.std.proofs.Common.{◌≡◌, ◌<◌, ◌∙◌, ◌&&◌, ℕ, Bool, true, false, List, sym, ap, subst, arith}
+use Rattle.std.specs.Prelude.{Option, Some, None}
 use Rattle.sched_base.specs.declared.ProcId.{ProcId}
 use Rattle.sched_model.specs.declared.action.Action.{Action}
 use Rattle.sched_model.specs.declared.action.Action.TheVariants.{Arrive}
@@ -19,14 +18,12 @@ use Rattle.sched_model.specs.Machine.{is_enabled}
 use Rattle.sched_model.specs.Places.{test_at}
 use Rattle.sched_model.specs.Runs.{action_of}
 use Rattle.sched_model.proofs.RunLemmas.{action_of-event_of, find_passes}
-use Rattle.sched_laws.proofs.Bools.{and_left}
+use Rattle.sched_base.proofs.Bools.{and_left}
 use Rattle.sched_laws.proofs.Lists.{some-test_at}
 use Rattle.actor_laws.specs.Actors.{is_by_actor}
 use Rattle.pool_core.specs.Actors.{is_by}
 use Rattle.journal_core.specs.Histories.{state_at}
-use Rattle.lock_moves.specs.Sight.{Seen}
-use Rattle.hall.specs.declared.seat.Arrival.{Arrival}
-use Rattle.hall.specs.Seats.{arrived_after}
+use Rattle.lock_moves.specs.SeatSight.{Seen}
 use Rattle.hall.specs.Turns.{HasActed, is_actor}
 
 -- an arrival is by the processor that arrives
@@ -52,25 +49,3 @@ arrival-few actor place e before old new acted there p is =
     let told : (let a : Option Action = Some acted.action in a) ≡ Some (Arrive p) = sym (action_of-event_of m s s.now acted.action) ∙ ap action_of (sym acted.is_event ∙ is) in
     let same : acted.action ≡ Arrive p = cc in
     arrives m s actor p.0 (subst (λ (a : Action). is_by_actor m s actor a ≡ true) same by) there
-
-kept-one : (gone : Bool) (b a : Arrival) → (if gone then None else Some b) ≡ Some a → (let o : Option Arrival = Some b in o) ≡ Some a
-kept-one true b a is = absurd (cc)
-kept-one false b a is = is
-
-pub arrived-few : (g n : ℕ) (before : List Entry) (e : Event) (kept : Option Arrival) → ForSome kept (λ a. a.p.0 < n) → ((p : ProcId) → e ≡ event.Arrive p → p.0 < n) → ForSome (arrived_after g before e kept) (λ a. a.p.0 < n)
-arrived-few g n before (event.Arrive p) kept few here a at = (let low = here p refl in let is : p ≡ a.p = cc in subst (λ (x : ProcId). x.0 < n) is low)
-arrived-few g n before (event.Leave p v) None few here a at = absurd (cc)
-arrived-few g n before (event.Leave p v) (Some b) few here a at = few a (kept-one (b.p.0 == p.0) b a at)
-arrived-few g n before (event.Stall p until) kept few here a at = few a at
-arrived-few g n before (event.Xl k answer) kept few here a at = few a at
-arrived-few g n before (event.Moved r to) kept few here a at = few a at
-arrived-few g n before (event.DomMoved d to) kept few here a at = few a at
-arrived-few g n before (event.Wake v) kept few here a at = few a at
-arrived-few g n before (event.Block p v) kept few here a at = few a at
-arrived-few g n before (event.Slice r) kept few here a at = few a at
-arrived-few g n before (event.Repl u start deadline budget extra) kept few here a at = few a at
-arrived-few g n before (event.Refill d periods budget) kept few here a at = few a at
-arrived-few g n before (event.Decide r unit due late reset) kept few here a at = few a at
-arrived-few g n before (event.Save r u queued) kept few here a at = few a at
-arrived-few g n before (event.End moment) kept few here a at = few a at
-arrived-few g n before event.Finish kept few here a at = few a at

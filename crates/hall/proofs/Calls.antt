@@ -1,7 +1,7 @@
 -- What a whole call of the hall has seen and done, from its steps: locks are taken, the book is taken, something is settled with it, and the locks go back.
 use mathlib.Core.List.{IsPrefix}
-use Rattle.std.proofs.Common.{◌≡◌, ◌∙◌, ◌++◌, ◌&&◌, ℕ, Bool, true, false, List, [], ◌∷◌, length, refl, sym, ap, subst, arith}
-use Rattle.std.specs.Prelude.{Some, None}
+use Rattle.std.proofs.Common.{◌≡◌, ◌∙◌, ◌++◌, ◌&&◌, ℕ, true, false, List, [], ◌∷◌, length, refl, sym, ap, subst, arith, ◌≤◌, ◌<◌, inl, inr}
+use Rattle.std.specs.Prelude.{Some, None, Option, Result, Ok, Err, IfOk, IfErr}
 use Rattle.sched_base.specs.Numbers.{moment}
 use Rattle.sched_base.specs.declared.Moment.{Moment}
 use Rattle.sched_model.specs.declared.action.Action.{Action}
@@ -12,11 +12,11 @@ use Rattle.sched_model.specs.declared.event.Event.TheVariants as event
 use Rattle.sched_model.specs.declared.machine.Machine.{Machine}
 use Rattle.sched_model.specs.declared.state.State.{State}
 use Rattle.sched_model.specs.Actions.{candidates}
-use Rattle.sched_model.specs.Checked.{IsChecked}
+use Rattle.sched_model.specs.CheckedMachine.{IsChecked}
 use Rattle.sched_model.specs.Machine.{event_of, first_enabled, is_enabled, next_in_horizon}
-use Rattle.sched_model.specs.Runs.{IsNext, IsRun, IsWholeRun}
-use Rattle.sched_model.proofs.RunLemmas.{find_passes}
-use Rattle.sched_laws.proofs.Bools.{and_right}
+use Rattle.sched_model.specs.Runs.{IsNext, IsRun, IsWholeRun, action_of}
+use Rattle.sched_model.proofs.RunLemmas.{find_passes, action_of-event_of}
+use Rattle.sched_base.proofs.Bools.{and_right}
 use Rattle.order_laws.proofs.Entries.{rest_when_over}
 use Rattle.actor_laws.specs.Actors.{first_by, is_by_actor}
 use Rattle.actor_laws.proofs.Whole.{none_comes}
@@ -26,16 +26,20 @@ use Rattle.engine.proofs.Clock.{first-comes}
 use Rattle.pool_slots.specs.Places.{GoesOn}
 use Rattle.pool_slots.specs.Told.{told_of}
 use Rattle.pool_slots.proofs.Going.{entry-is, goes-on, state_of-is}
-use Rattle.lock_moves.specs.Sight.{Sitting}
+use Rattle.lock_moves.specs.SeatSight.{Sitting}
 use Rattle.hall.specs.declared.turns.Done.{Done}
 use Rattle.hall.specs.declared.turns.Done.TheVariants as done
 use Rattle.hall.specs.declared.turns.Full.{Full}
 use Rattle.hall.specs.declared.turns.Turn.{Turn}
 use Rattle.hall.specs.declared.turns.Turn.TheVariants as turn
-use Rattle.hall.specs.Seats.{IsCountBefore}
-use Rattle.hall.specs.Settling.{DoneIn, FindsFull, FullWhole, Settles, SettlesEvent, SettlesFull, SettlesNothing, TurnIn, Turns, TurnsClose, TurnsFinish, TurnsOver, TurnsStep, state_in}
-use Rattle.hall.specs.Steps.{HasEntered, KeepsSight, SeesBook}
+use Rattle.hall.specs.Seats.{IsCountBefore, SeatStays}
+use Rattle.hall.specs.BookTurns.{DoneIn, FindsFull, FullWhole, Settles, SettlesEvent, SettlesFull, SettlesNothing, TurnIn, Turns, TurnsClose, TurnsFinish, TurnsOver, TurnsStep, state_in, AddsEvent}
+use Rattle.hall.specs.Steps.{HasEntered, KeepsSight, SeesBook, HasBook}
 use Rattle.hall.specs.Turns.{ActsFull, Added, HasActed, HasClosed, HasFinished, HasStepped, IsFull, IsOverAt, Looked, TurnsFull}
+use Rattle.lock_moves.specs.Plays.{Current}
+use Rattle.lock_moves.specs.Sets.{LockTable}
+use Rattle.hall.proofs.Parting.{run-held}
+use Rattle.std.proofs.lemmas.Bool.{cases_Bool}
 
 -- the first action of an actor may come
 pub actor-comes : (m : Machine) (s : State) (actor : Actor) (action : Action) → first_by m s actor ≡ Some action → is_enabled m s s.now action ≡ true
@@ -46,17 +50,13 @@ actor-comes m s actor action found =
 -- where an action may come, the run is not over
 pub goes-where : (b : Chronicle) → IsChecked b.input → IsRun b.input b.history → (action : Action) → is_enabled b.input (state_in b) (state_in b).now action ≡ true → GoesOn (told_of b)
 goes-where b checked run action on =
-    let m = b.input in
-    let h = b.history in
-    let s : State = state_at m h in
-    let same : state_in b ≡ s = state_of-is (told_of b) in
-    let comes : is_enabled m s s.now action ≡ true = subst (λ (x : State). is_enabled m x x.now action ≡ true) same on in
-    let goes : (over : Bool) → (reached_by m h).over ≡ over → over ≡ false = λ over is.
-    elim over as (λ b. (reached_by m h).over ≡ b → b ≡ false) [
-      | true ↦ λ ended. absurd (none_comes m checked h run s.now (rest_when_over m h run ended).now action comes)
-      | false ↦ λ ended. refl
-    ] is in
-    record { checked = checked; run = run; goes = goes (reached_by m h).over refl }
+    let s : State = state_at b.input b.history in
+    let comes : is_enabled b.input s s.now action ≡ true = subst (λ (x : State). is_enabled b.input x x.now action ≡ true) (state_of-is (told_of b)) on in
+    let goes : (reached_by b.input b.history).over ≡ false = elim (cases_Bool (reached_by b.input b.history).over) [
+      | inl ended ↦ absurd (none_comes b.input checked b.history run s.now (rest_when_over b.input b.history run ended).now action comes)
+      | inr goes ↦ goes
+    ] in
+    record { checked = checked; run = run; goes = goes }
 
 -- the history with the event of an action that may come is a run's beginning
 pub run-with : (b : Chronicle) → IsChecked b.input → IsRun b.input b.history → (action : Action) → is_enabled b.input (state_in b) (state_in b).now action ≡ true → (e : Event) → e ≡ event_of b.input (state_in b) (state_in b).now action
@@ -64,6 +64,43 @@ pub run-with : (b : Chronicle) → IsChecked b.input → IsRun b.input b.history
 run-with b checked run action on e is =
     let entry : Entry = record { at = moment (state_in b).now; event = e } in
     (goes-on (told_of b) (goes-where b checked run action on) action on entry (entry-is (told_of b) action entry refl is)).run
+
+-- the event of an action that may come was added to the book
+pub adds-event : (b : Chronicle) (s new : Sitting) (action : Action) (t : Moment) (place : ℕ) (e : Event) (decides : ℕ) (m : Machine) → b.input ≡ m → t.0 ≡ (state_in b).now → place ≡ length b.history → e ≡ event_of b.input (state_in b) (state_in b).now action
+    → HasEntered b (record { at = t; event = e }) s new → ((x : Event) → action_of x ≡ Some action → IsCountBefore m.config.granularity b.history x decides) → AddsEvent place e decides b s new
+adds-event b s new action t place e decides m input now place_is is entered count = record {
+  place_is = place_is;
+  entered = subst (λ (a : Moment). HasEntered b (record { at = a; event = e }) s new) (ap moment now) entered;
+  counted = subst (λ (x : Machine). IsCountBefore x.config.granularity b.history e decides) (sym input) (count e (ap action_of is ∙ action_of-event_of b.input (state_in b) (state_in b).now action));
+}
+
+-- the book went back as it was, since it had no room
+pub finds-full : (b : Chronicle) (s new : Sitting) (full : Full) → KeepsSight s new → full.events ≡ b.limit → length b.history ≤ b.limit → (length b.history < b.limit → ⊥) → FindsFull full b s new
+finds-full b s new full keeps events fits no_room = record { keeps = keeps; events = events; length_is = omega (arith, fits, no_room) }
+
+-- the action is the first one of the actor
+module _ (b : Chronicle) (s new : Sitting) (actor : Actor) (action : Action) (found : first_by b.input (state_in b) actor ≡ Some action) where
+  pub settles-event : (place : ℕ) (e : Event) (decides : ℕ) → e ≡ event_of b.input (state_in b) (state_in b).now action → AddsEvent place e decides b s new → SettlesEvent actor place e decides b s new
+  settles-event place e decides is adds = record { action = action; first = found; is_event = is; adds = adds }
+
+  pub settles-full : (full : Full) → FindsFull full b s new → SettlesFull actor full b s new
+  settles-full full finds = record { finds = finds; due = λ none. (let clash : (let o : Option Action = Some action in o) ≡ None = sym found ∙ none in cc) }
+
+-- what keeps the sight, or adds an entry, leaves the seat's hall and its parts
+pub kept-stays : (old new : Sitting) → KeepsSight old new → SeatStays old new
+kept-stays old new keeps = record { table = keeps.table; input = keeps.input; limit = keeps.limit; shares = keeps.shares }
+
+pub entered-stays : (b : Chronicle) (e : Entry) (old new : Sitting) → HasEntered b e old new → SeatStays old new
+entered-stays b e old new entered = record { table = entered.table; input = entered.input; limit = entered.limit; shares = entered.shares }
+
+-- so does a call that takes locks and the book, does the like, and gives the locks back
+pub call-stays : (b : Chronicle) (s0 s1 s2 s3 s4 : Sitting) → KeepsSight s0 s1 → SeesBook b s1 s2 → SeatStays s2 s3 → KeepsSight s3 s4 → SeatStays s0 s4
+call-stays b s0 s1 s2 s3 s4 took sees stays gave = record {
+  table = gave.table ∙ stays.table ∙ sees.table ∙ took.table;
+  input = gave.input ∙ stays.input ∙ sees.input ∙ took.input;
+  limit = gave.limit ∙ stays.limit ∙ sees.limit ∙ took.limit;
+  shares = gave.shares ∙ stays.shares ∙ sees.shares ∙ took.shares;
+}
 
 module _ (b : Chronicle) (s0 s1 s2 s3 s4 : Sitting) (took : KeepsSight s0 s1) (sees : SeesBook b s1 s2) (gave : KeepsSight s3 s4) (input : b.input ≡ s0.view.input) (checked : IsChecked b.input) (run : IsRun b.input b.history) where
   state-is : state_in b ≡ state_at s0.view.input b.history
@@ -125,7 +162,7 @@ module _ (b : Chronicle) (s0 s1 s2 s3 s4 : Sitting) (took : KeepsSight s0 s1) (s
     none = subst (λ (h : List Entry). first_by s0.view.input (state_at s0.view.input h) actor ≡ None) (sym (front-in settled.keeps)) (at-seat (λ m s. first_by m s actor ≡ None) settled.none);
   }
 
-  pub done-in : (actor : Actor) (d : Done) (decides : ℕ) → Settles actor d decides b s2 s3 → DoneIn actor d decides s0.view s4.view
+  done-in : (actor : Actor) (d : Done) (decides : ℕ) → Settles actor d decides b s2 s3 → DoneIn actor d decides s0.view s4.view
   done-in actor (done.Event place e) decides settled = event-in actor place e decides settled
   done-in actor done.Nothing decides settled = nothing-in actor decides settled
 
@@ -134,7 +171,7 @@ module _ (b : Chronicle) (s0 s1 s2 s3 s4 : Sitting) (took : KeepsSight s0 s1) (s
       let last : b.limit ≡ s4.view.limit = limit ∙ sym finds.keeps.limit ∙ sym gave.limit in
       record { events = finds.events ∙ last; length_is = ap length (front-in finds.keeps) ∙ finds.length_is ∙ last }
 
-  pub acts-full : (actor : Actor) (full : Full) → b.limit ≡ s2.view.limit → SettlesFull actor full b s2 s3 → ActsFull actor full s0.view s4.view
+  acts-full : (actor : Actor) (full : Full) → b.limit ≡ s2.view.limit → SettlesFull actor full b s2 s3 → ActsFull actor full s0.view s4.view
   acts-full actor full limit settled = record {
     looked = looked-in settled.finds.keeps;
     full_is = full-is full limit settled.finds;
@@ -180,13 +217,13 @@ module _ (b : Chronicle) (s0 s1 s2 s3 s4 : Sitting) (took : KeepsSight s0 s1) (s
     whole = subst (IsWholeRun s0.view.input) (sym (front-in settled.keeps)) (subst (λ (m : Machine). IsWholeRun m b.history) input settled.whole);
   }
 
-  pub turn-in : (t : Turn) (decides : ℕ) → Turns t decides b s2 s3 → TurnIn t decides s0.view s4.view
+  turn-in : (t : Turn) (decides : ℕ) → Turns t decides b s2 s3 → TurnIn t decides s0.view s4.view
   turn-in (turn.Stepped place e) decides settled = step-in place e decides settled
   turn-in (turn.Closed place next) decides settled = (b.history, close-in place next settled)
   turn-in (turn.Finished place) decides settled = (b.history, finish-in place settled)
   turn-in (turn.Over place) decides settled = over-in place settled
 
-  pub turns-full : (full : Full) → b.limit ≡ s2.view.limit → FullWhole full b s2 s3 → TurnsFull full s0.view s4.view
+  turns-full : (full : Full) → b.limit ≡ s2.view.limit → FullWhole full b s2 s3 → TurnsFull full s0.view s4.view
   turns-full full limit settled = record {
     looked = looked-in settled.finds.keeps;
     full_is = full-is full limit settled.finds;
@@ -195,3 +232,25 @@ module _ (b : Chronicle) (s0 s1 s2 s3 s4 : Sitting) (took : KeepsSight s0 s1) (s
       subst (λ (h : List Entry). IsNext s0.view.input (reached_by s0.view.input h) settled.due.0) (sym (front-in settled.finds.keeps)) (subst (λ (m : Machine). IsNext m (reached_by m b.history) settled.due.0) input settled.due.1),
     );
   }
+
+-- the same of a seat of a hall
+module _ (set hall : LockTable) (b : Chronicle) (s0 s1 s2 s3 s4 : Sitting) (took : KeepsSight s0 s1) (sees : SeesBook b s1 s2) (has : HasBook set b s2) (current : Current s2.view) (gave : KeepsSight s3 s4) (of : s0.view.input ≡ hall.opened.input) (of_hall : IsChecked hall.opened.input) where
+  input-held : b.input ≡ s0.view.input
+  input-held = has.input ∙ sees.input ∙ took.input
+
+  checked-held : IsChecked b.input
+  checked-held = subst IsChecked (sym (input-held ∙ of)) of_hall
+
+  pub done-held : (actor : Actor) (r : Result (Done × ℕ) Full) → IfOk r (λ d. Settles actor d.0 d.1 b s2 s3) → IfOk r (λ d. DoneIn actor d.0 d.1 s0.view s4.view)
+  done-held actor (Ok d) settled = done-in b s0 s1 s2 s3 s4 took sees gave input-held checked-held (run-held set b s2 has current) actor d.0 d.1 settled
+  done-held actor (Err full) settled = tt
+
+  pub fills-held : (actor : Actor) (r : Result (Done × ℕ) Full) → IfErr r (λ full. SettlesFull actor full b s2 s3) → IfErr r (λ full. ActsFull actor full s0.view s4.view)
+  fills-held actor (Ok d) settled = tt
+  fills-held actor (Err full) settled = acts-full b s0 s1 s2 s3 s4 took sees gave input-held checked-held (run-held set b s2 has current) actor full has.limit settled
+
+  pub turned-held : (t : Turn) (decides : ℕ) → Turns t decides b s2 s3 → TurnIn t decides s0.view s4.view
+  turned-held = turn-in b s0 s1 s2 s3 s4 took sees gave input-held checked-held (run-held set b s2 has current)
+
+  pub filled-held : (full : Full) → FullWhole full b s2 s3 → TurnsFull full s0.view s4.view
+  filled-held full = turns-full b s0 s1 s2 s3 s4 took sees gave input-held checked-held (run-held set b s2 has current) full has.limit

@@ -5,7 +5,7 @@ use native.Mathlib.Decide.{ℕ_discrete}
 use Rattle.sched_model.specs.declared.event.Entry.{Entry}
 use Rattle.journal_core.specs.Histories.{part_at}
 use Rattle.lock_moves.specs.Plays.{Current}
-use Rattle.lock_moves.specs.Sight.{Known, Seen, committed_view, find_lock, known_part, locks_without}
+use Rattle.lock_moves.specs.SeatSight.{Known, Seen, committed_view, find_lock, known_part, locks_without}
 use Rattle.lock_moves.proofs.Finding.{find-refreshed-is, find-refreshed-none, find-without-other, find-without-same}
 use Rattle.hall.specs.Steps.{KeepsLocks, KnowsAfter}
 

@@ -1,6 +1,6 @@
 -- The name that an action hands over, and the names that a seat has once it was moved.
 use Rattle.std.proofs.Common.{◌≡◌, ◌∙◌, ◌+◌, ◌<◌, ℕ, Bool, true, false, cond, eqb, List, [], ◌∷◌, ◌++◌, refl, sym, ap, ap₂, subst, eq-eqb, ne_eqb, eqb-true, arith}
-use Rattle.std.specs.Prelude.{◌&&◌, Option, Some, None, is_some, nat_lt, option_map, take}
+use Rattle.std.specs.Prelude.{◌&&◌, Option, Some, None, is_some, option_map, take}
 use Rattle.std.specs.Option.{ForSome}
 use mathlib.Core.Logic.{dite}
 use native.Mathlib.Decide.{ℕ_discrete}
@@ -8,7 +8,7 @@ use Rattle.sched_base.specs.Numbers.{core as core_number, domain as domain_numbe
 use Rattle.sched_base.specs.declared.DomId.{DomId}
 use Rattle.sched_base.specs.declared.PoolId.{PoolId}
 use Rattle.sched_model.specs.declared.action.Action.{Action}
-use Rattle.sched_model.specs.declared.action.Action.TheVariants.{Stall, Xl, Moved, DomMoved, Wake, Block, Slice, Repl, Refill, Arrive, Decide, Leave, Save}
+use Rattle.sched_model.specs.declared.action.Action.TheVariants.{Moved, DomMoved}
 use Rattle.sched_model.specs.declared.config.SchedKind.{SchedKind}
 use Rattle.sched_model.specs.declared.event.Entry.{Entry}
 use Rattle.sched_model.specs.declared.machine.Machine.{Machine}
@@ -20,11 +20,10 @@ use Rattle.sched_model.specs.Opening.{core_count}
 use Rattle.sched_model.specs.Places.{at_place, first_place}
 use Rattle.sched_laws.proofs.EachPlace.{found_at, is_empty, place_below}
 use Rattle.sched_laws.proofs.Lists.{some_is}
-use Rattle.journal_core.specs.Histories.{NamesStandOnce, home_at, moment_after, now_at, state_at}
+use Rattle.journal_core.specs.Histories.{NamesStandOnce, home_at, now_at, state_at}
 use Rattle.journal_core.specs.Parts.{UnderWay, core_to, domain_to, is_name, lists, no_home, part_of, pool_lists, tool_lock, under_way_of}
-use Rattle.journal_core.proofs.Grows.{now_at-append}
 use Rattle.part_laws.proofs.Law.{names_stand_once}
-use Rattle.tool_laws.specs.Listed.{HandsOver, ListsAsBefore, ListsNames, MovesNothing}
+use Rattle.tool_laws.specs.ListedNames.{HandsOver, ListsAsBefore, ListsNames, MovesNothing}
 use Rattle.tool_laws.proofs.Moving.{lists_names}
 use Rattle.cpupool.specs.Steps.{kind_at, move_of}
 use Rattle.cpupool.specs.Tool.{Tool, tool_of}
@@ -32,7 +31,7 @@ use Rattle.cpupool.specs.declared.moves.Move.TheVariants as move
 use Rattle.cpupool.proofs.ArrivedLemmas.{core_joins}
 use Rattle.pool_slots.specs.Places.{GoesOn, state_of}
 use Rattle.pool_slots.specs.Told.{Told, told_more}
-use Rattle.pool_slots.proofs.Going.{part_of-is, range-of, state-on, state_of-is}
+use Rattle.pool_slots.proofs.Going.{part_of-is, range-of, state-on, state_of-is, now_of-is}
 use Rattle.machine_parts.proofs.AtPlaces.{number-of}
 use Rattle.tool_acts.proofs.CoreMoves.{leaves-some, own-of, way-there}
 use Rattle.tool_acts.proofs.DomainMoves.{domain-told, finds-some}
@@ -40,28 +39,20 @@ use Rattle.tool_acts.proofs.Stalling.{known-of}
 use Rattle.lock_moves.specs.declared.content.LockId.{LockId}
 use Rattle.lock_moves.specs.declared.content.NameId.TheVariants.{Res, Dom}
 use Rattle.lock_moves.specs.Plays.{Current, Placed}
-use Rattle.lock_moves.specs.Sight.{HoldsBelow, Known, Seen, find_lock, has_place, moved_name}
+use Rattle.lock_moves.specs.SeatSight.{HoldsBelow, Known, Seen, find_lock, has_place, moved_name}
 use Rattle.lock_moves.specs.Words.{has_name, name_number}
 use Rattle.lock_moves.proofs.Holding.{moved_holds, name_at_home}
 use Rattle.lock_moves.proofs.Naming.{after_else, after_here, find-renamed, names_after}
 use Rattle.hall.specs.declared.whole.NameMove.{NameMove}
 use Rattle.hall.specs.Moves.{HandsName, HandsNameOver, MayHand, after_handing, lock_or_tool}
+use Rattle.hall.proofs.Processors.{core-inside, core-small, is_low}
+use Rattle.sched_laws.proofs.Free.{now_after}
 
 -- an action that is neither the move of a core nor that of a domain
 pub moves-nothing : (action : Action) → ((r : ℕ) → action ≡ Moved (core_number r) → ⊥) → ((d : ℕ) → action ≡ DomMoved (domain_number d) → ⊥) → MovesNothing action
-moves-nothing Stall core domain = tt
-moves-nothing Xl core domain = tt
 moves-nothing (Moved r) core domain = core r.0 refl
 moves-nothing (DomMoved d) core domain = domain d.0 refl
-moves-nothing (Wake v) core domain = tt
-moves-nothing (Block p) core domain = tt
-moves-nothing (Slice r) core domain = tt
-moves-nothing (Repl u) core domain = tt
-moves-nothing (Refill d) core domain = tt
-moves-nothing (Arrive p) core domain = tt
-moves-nothing (Decide r) core domain = tt
-moves-nothing (Leave p) core domain = tt
-moves-nothing (Save r) core domain = tt
+moves-nothing action core domain = tt
 
 -- a name whose home is a part is one of the input
 named-at : (m : Machine) (h : List Entry) (n a : ℕ) → a < 17 → home_at m h n ≡ a → is_name m.config n ≡ true
@@ -74,9 +65,6 @@ named-at m h n a low home = by_name (is_name m.config n) refl
     by_name : (b : Bool) → is_name m.config n ≡ b → is_name m.config n ≡ true
     by_name true is = is
     by_name false is = absurd (let none : no_home ≡ a = sym (ap (λ (b : Bool). cond b there no_home) is) ∙ home in omega (arith, none, low))
-
-low-number : (n : ℕ) → n < 64 → nat_lt n 64 ≡ true
-low-number n low = grind (arith, low)
 
 module _ (w : Told) (goes : GoesOn w) where
   abbrev m : Machine
@@ -95,14 +83,11 @@ module _ (w : Told) (goes : GoesOn w) where
   pub home-of-name : (a n : ℕ) → a < 17 → n < 128 → lists (part_of s a) n ≡ true → home_at m w.history n ≡ a
   home-of-name a n low small has = eqb-true (home_at m w.history n) a (sym (once-of a n low small) ∙ ap (λ p. lists p n) (part_of-is w a) ∙ has)
 
-  name-there : (a n : ℕ) → a < 17 → n < 128 → lists (part_of s a) n ≡ true → is_name m.config n ≡ true
+  pub name-there : (a n : ℕ) → a < 17 → n < 128 → lists (part_of s a) n ≡ true → is_name m.config n ≡ true
   name-there a n low small has = named-at m w.history n a low (home-of-name a n low small has)
 
   pool-low : (i : ℕ) → is_some (at_place s.pools i) ≡ true → i < 16
   pool-low i there = (let found = some_is (at_place s.pools i) there in let low = place_below s.pools i found.0 found.1 in let places = (range-of w goes).pool_places in omega (arith, low, places))
-
-  core-low : (r : ℕ) → r < core_count m.config → r < 64
-  core-low r low = (let few = (known-of w goes).few_cores in omega (arith, low, few))
 
   module _ (action : Action) where
     abbrev left : State
@@ -110,7 +95,7 @@ module _ (w : Told) (goes : GoesOn w) where
 
     hands-core : (r a b : ℕ) (from to : LockId) → r < 64 → a < 17 → b < 17 → from.0 ≡ a → to.0 ≡ b → HandsOver s left r a b → HandsNameOver w action (record { name = Res (core_number r); from = from; to = to })
     hands-core r a b from to small low_a low_b is_a is_b over = record {
-      name = ap₂ (λ p q. p && q) (low-number r small) (name-there a r low_a (omega (arith, small)) over.had);
+      name = ap₂ (λ p q. p && q) (is_low r 64 small) (name-there a r low_a (omega (arith, small)) over.had);
       from = subst (λ (k : ℕ). k < 17) (sym is_a) low_a;
       to = subst (λ (k : ℕ). k < 17) (sym is_b) low_b;
       over = subst (λ (k : ℕ). HandsOver s left r k to.0) (sym is_a) (subst (λ (k : ℕ). HandsOver s left r a k) (sym is_b) over);
@@ -118,7 +103,7 @@ module _ (w : Told) (goes : GoesOn w) where
 
     hands-domain : (d a b : ℕ) (from to : LockId) → d < 64 → a < 17 → b < 17 → from.0 ≡ a → to.0 ≡ b → HandsOver s left (64 + d) a b → HandsNameOver w action (record { name = Dom (domain_number d); from = from; to = to })
     hands-domain d a b from to small low_a low_b is_a is_b over = record {
-      name = ap₂ (λ p q. p && q) (low-number d small) (name-there a (64 + d) low_a (omega (arith, small)) over.had);
+      name = ap₂ (λ p q. p && q) (is_low d 64 small) (name-there a (64 + d) low_a (omega (arith, small)) over.had);
       from = subst (λ (k : ℕ). k < 17) (sym is_a) low_a;
       to = subst (λ (k : ℕ). k < 17) (sym is_b) low_b;
       over = subst (λ (k : ℕ). HandsOver s left (64 + d) k to.0) (sym is_a) (subst (λ (k : ℕ). HandsOver s left (64 + d) a k) (sym is_b) over);
@@ -148,7 +133,7 @@ module _ (w : Told) (goes : GoesOn w) where
         let none : home ≡ None = told ∙ ap (option_map pool_number) ((own-of w goes).free r c.0 c.1) in
         let low : r < core_count m.config = (let below = place_below s.free r c.0 c.1 in let places = (range-of w goes).free_places in omega (arith, below, places)) in
         let target : i.0 < 16 = pool-low i.0 ((known-of w goes).housed.aims r i.0 (ap (option_map (λ (x : FreeCore). x.target)) c.1 ∙ ap (λ (o : Option ℕ). Some o) c.2)) in
-        hands-core (Moved (core_number r)) r tool_lock i.0 a b (core-low r low) (omega arith) (omega (arith, target)) (from ∙ ap lock_or_tool none) is_to ((laws-of s.now).joins r c.0 i.0 c.1 c.2)
+        hands-core (Moved (core_number r)) r tool_lock i.0 a b (core-small w goes r low) (omega arith) (omega (arith, target)) (from ∙ ap lock_or_tool none) is_to ((laws-of s.now).joins r c.0 i.0 c.1 c.2)
     core-handed r on home None told way a b from is_to = by_home home told from
       where
         by_home : (o : Option PoolId) → o ≡ option_map pool_number (home_of_core s r) → a.0 ≡ lock_or_tool o → HandsNameOver w (Moved (core_number r)) (record { name = Res (core_number r); from = a; to = b })
@@ -158,9 +143,9 @@ module _ (w : Told) (goes : GoesOn w) where
             let there = found_at i.0 _ s.pools at_home in
             let core = some_is (at_place there.0.resources r) there.2 in
             let not_free : at_place s.free r ≡ None = is_empty (at_place s.free r) (λ c at. absurd (let none = (own-of w goes).free r c at in cc)) in
-            let low : r < core_count m.config = (let below = place_below there.0.resources r core.0 core.1 in let places = ((range-of w goes).pools i.0 there.0 there.1).core_places in omega (arith, below, places)) in
+            let low : r < core_count m.config = core-inside w goes i.0 r at_home in
             let pool : i.0 < 16 = (let below = place_below s.pools i.0 there.0 there.1 in let places = (range-of w goes).pool_places in omega (arith, below, places)) in
-            hands-core (Moved (core_number r)) r i.0 tool_lock a b (core-low r low) (omega (arith, pool)) (omega arith) from_is is_to ((laws-of s.now).leaves r i.0 there.0 core.0 not_free at_home there.1 core.1)
+            hands-core (Moved (core_number r)) r i.0 tool_lock a b (core-small w goes r low) (omega (arith, pool)) (omega arith) from_is is_to ((laws-of s.now).leaves r i.0 there.0 core.0 not_free at_home there.1 core.1)
 
     -- the domain that moves
     pub domain-handed : (d : ℕ) → is_enabled m s s.now (DomMoved (domain_number d)) ≡ true → (home : Option PoolId) → home ≡ option_map pool_number (home_of_domain s d) → (n : DomId) (to : PoolId) (kind : SchedKind) → option_map (move_of tool.part) tool.part.under_way ≡ Some (move.Dom n to kind)
@@ -180,22 +165,6 @@ module _ (w : Told) (goes : GoesOn w) where
         hands-domain (DomMoved (domain_number d)) d i j a b low (omega (arith, low_i)) (omega (arith, low_j)) (from ∙ ap lock_or_tool at_home) (is_to ∙ ap (λ (x : PoolId). x.0) (sym target))
         ((laws-of s.now).domain d i f.pool f.domain (pool_number j) f.home f.pool_at f.domain_at f.moving)
 
--- an event of an action keeps the moment
-moment-kept : (m : Machine) (s : State) (t : ℕ) (action : Action) (now : ℕ) → moment_after (event_of m s t action) now ≡ now
-moment-kept m s t Stall now = refl
-moment-kept m s t Xl now = refl
-moment-kept m s t (Moved r) now = refl
-moment-kept m s t (DomMoved d) now = refl
-moment-kept m s t (Wake v) now = refl
-moment-kept m s t (Block p) now = refl
-moment-kept m s t (Slice r) now = refl
-moment-kept m s t (Repl u) now = refl
-moment-kept m s t (Refill d) now = refl
-moment-kept m s t (Arrive p) now = refl
-moment-kept m s t (Decide r) now = refl
-moment-kept m s t (Leave p) now = refl
-moment-kept m s t (Save r) now = refl
-
 -- the names of a seat that holds all locks, and whose names are those of the state, after the entry of an action
 module _ (w : Told) (goes : GoesOn w) (action : Action) (on : is_enabled w.input (state_of w) (state_of w).now action ≡ true) (e : Entry) (is : e ≡ record { at = moment (state_of w).now; event = event_of w.input (state_of w) (state_of w).now action }) (next_goes : GoesOn (told_more w e))
     (v : Seen) (input : w.input ≡ v.input) (front : v.front ≡ w.history) (current : Current v) (all : HoldsBelow 18 v) where
@@ -207,7 +176,7 @@ module _ (w : Told) (goes : GoesOn w) (action : Action) (on : is_enabled w.input
 
   now-next : v.now ≡ now_at v.input history
   now-next =
-      current.1 ∙ (λ i. now_at (sym input i) (front i)) ∙ sym (now_at-append w.input w.history e ∙ ap (λ (x : Entry). moment_after x.event (now_at w.input w.history)) is ∙ moment-kept w.input (state_of w) (state_of w).now action (now_at w.input w.history))
+      current.1 ∙ (λ i. now_at (sym input i) (front i)) ∙ now_of-is w ∙ sym (now_of-is (told_more w e) ∙ ap (λ (x : State). x.now) (state-on w goes action on e is) ∙ now_after w.input (state_of w) (state_of w).now action)
       ∙ ap (λ (x : Machine). now_at x history) input
 
   had : (k n : ℕ) (x : Known) → k < 17 → find_lock k v.held ≡ Some x → n < 128 → has_place n x.names ≡ lists (part_of (state_of w) k) n

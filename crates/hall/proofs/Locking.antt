@@ -1,7 +1,6 @@
 -- What a seat knows of the values that it holds, when it takes a lock more or puts the last one back.
 use Rattle.std.proofs.Common.{◌≡◌, ◌∙◌, ℕ, ◌+◌, ◌<◌, ◌≤◌, [], List, ◌∷◌, ◌++◌, length, Some, None, refl, sym, ap, subst, arith}
 use Rattle.std.specs.Prelude.{Option}
-use Rattle.std.specs.Option.{ForSome}
 use Rattle.std.proofs.lemmas.List.{get_or_append_left, get_or_push, length_push}
 use mathlib.Core.Logic.{dite}
 use native.Mathlib.Decide.{ℕ_discrete}
@@ -11,16 +10,17 @@ use Rattle.sched_model.specs.Places.{at_place}
 use Rattle.journal_core.specs.Parts.{StatePart, ToolPart, pool_part, tool_part}
 use Rattle.journal_core.specs.Histories.{part_at, state_at}
 use Rattle.pool_core.specs.Seen.{Seen as PoolSeen}
-use Rattle.pool_slots.specs.Places.{SlotSuits, slot_part}
+use Rattle.pool_slots.specs.Places.{slot_part}
 use Rattle.pool_slots.proofs.Standing.{part_below, slot_part-is}
-use Rattle.lock_moves.specs.Sight.{Known, Seen, Sitting, HoldsBelow, find_lock, after_give, known_part as known, tried_again}
+use Rattle.lock_moves.specs.SeatSight.{Known, Seen, Sitting, HoldsBelow, find_lock, after_give, known_part as known, tried_again}
 use Rattle.lock_moves.specs.Sets.{HasTaken, IsAsKnown, sitting_with}
 use Rattle.lock_moves.specs.Plays.{IsPartOfSome}
 use Rattle.lock_moves.proofs.Finding.{find-head, find-without-other, none_held}
 use Rattle.lock_moves.proofs.Holding.{holds_less}
 use Rattle.hall.specs.declared.all.AllParts.{AllParts}
-use Rattle.hall.specs.Knowing.{KnowsAll, KnowsPool, KnowsPools, KnowsStill}
+use Rattle.hall.specs.SeatKnowledge.{KnowsAll, KnowsPool, KnowsPools, KnowsStill}
 use Rattle.hall.specs.Steps.{KeepsSight}
+use Rattle.hall.proofs.Parting.{held-all, pool-later}
 
 -- the part of a lock that is not the tool's is a place for a pool; the tool's part is the other
 abbrev IsPlace : StatePart → Type 0
@@ -63,10 +63,7 @@ keeps_on a b c f g = record {
 
 -- what is known of the first pools stays, where each of their locks is found as before, at the same moment
 still_of : (n : ℕ) (old new : Seen) → new.input ≡ old.input → ((k : ℕ) (x : Known) → k < n → find_lock k old.held ≡ Some x → (find_lock k new.held ≡ Some x) × (new.now ≡ old.now)) → KnowsStill n old new
-still_of n old new input found k slot low knows = let z = knows.known in let e = found k z.0 low z.1 in record {
-  known = (z.0, e.0, z.2, z.3);
-  suits = subst (λ (p : Machine × ℕ). ForSome slot (SlotSuits p.0 p.1)) (λ i. (sym input i, sym e.1 i)) knows.suits;
-}
+still_of n old new input found k slot low knows = (let z = knows.known in let e = found k z.0 low z.1 in pool-later old.now old new input e.1 (omega arith) k slot (e.0 ∙ sym z.1) knows)
 
 -- a lock was taken
 module _ (n k : ℕ) (part : StatePart) (old new : Sitting) (t : HasTaken k part (tried_again n k old.view) old new) where
@@ -123,9 +120,7 @@ pools_fewer slots all slot v more knows =
 -- all values are known, so their locks are held, and no other where the book's is not
 pub all_held : (all : AllParts) (v : Seen) → KnowsAll all v → find_lock 17 v.held ≡ None → HoldsBelow 17 v
 all_held all v knows book = record {
-  holds = λ k low. dite (ℕ_discrete k 16)
-      (λ is. let z = knows.tool.known in (z.0, ap (λ (j : ℕ). find_lock j v.held) is ∙ z.1))
-      (λ ne. let z = (knows.pools k (let count = knows.count in omega (arith, low, ne, count))).known in (z.0, z.1));
+  holds = held-all all v knows;
   others = λ k high. dite (ℕ_discrete k 17)
       (λ is. ap (λ (j : ℕ). find_lock j v.held) is ∙ book)
       (λ ne. knows.others k (omega (arith, high, ne)));

@@ -21,7 +21,7 @@ use Rattle.pool_slots.specs.Places.{AllStand, SlotSuits}
 use Rattle.pool_slots.specs.Told.{Told, told_new}
 use Rattle.pool_slots.proofs.Going.{now_of-is, part_of-is}
 use Rattle.parts_opening.proofs.Placing.{state_new}
-use Rattle.lock_moves.specs.Opened.{AreParts}
+use Rattle.lock_moves.specs.TableContent.{AreParts}
 use Rattle.hall.specs.declared.value.PartState.{PartState}
 use Rattle.hall.specs.declared.value.PartState.TheVariants as value
 use Rattle.hall.specs.declared.value.ToolKept.{ToolKept}

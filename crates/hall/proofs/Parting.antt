@@ -1,14 +1,16 @@
 -- From what a seat knows of all parts to the parts of the state where the book's history leads, and back.
-use Rattle.std.proofs.Common.{◌≡◌, ◌∙◌, ◌≤◌, ◌<◌, ℕ, sym, ap, subst, eqb, arith}
-use Rattle.std.specs.Prelude.{Option, None}
+use Rattle.std.proofs.Common.{◌≡◌, ◌≢◌, ◌∙◌, ◌≤◌, ◌<◌, ℕ, false, sym, ap, subst, eqb, arith}
+use Rattle.std.specs.Prelude.{Option, None, Some}
 use Rattle.std.specs.Option.{ForSome}
 use mathlib.Core.Logic.{dite}
 use native.Mathlib.Decide.{dec_lt}
 use Rattle.sched_model.specs.declared.machine.Machine.{Machine}
 use Rattle.sched_model.specs.declared.state.State.{State}
+use Rattle.sched_model.specs.CheckedMachine.{IsChecked}
 use Rattle.sched_model.specs.Places.{at_place}
+use Rattle.sched_model.specs.Runs.{IsRun}
 use Rattle.journal_core.specs.Books.{Chronicle}
-use Rattle.journal_core.specs.Histories.{NamesStandOnce, home_at, now_at, part_at}
+use Rattle.journal_core.specs.Histories.{NamesStandOnce, home_at, now_at, part_at, reached_by}
 use Rattle.journal_core.specs.Parts.{StatePart, ToolPart, lists, part_of, tool_lock, tool_part, tool_of as part_of_tool}
 use Rattle.part_laws.proofs.Law.{names_stand_once}
 use Rattle.cpupool.specs.Tool.{Tool, tool_of}
@@ -20,20 +22,31 @@ use Rattle.pool_slots.specs.Told.{Told, told_of}
 use Rattle.pool_slots.proofs.Going.{now_of-is, part_of-is}
 use Rattle.pool_slots.proofs.Keeping.{spares-later}
 use Rattle.machine_parts.specs.Parts.{AreParts}
+use Rattle.engine.proofs.Clock.{slot-later}
 use Rattle.lock_moves.specs.Plays.{Current, Placed}
 use Rattle.lock_moves.specs.Sets.{IsAsKnown, LockTable}
-use Rattle.lock_moves.specs.Sight.{Holds, HoldsBelow, Seen, Sitting, find_lock, known_part as known}
+use Rattle.lock_moves.specs.SeatSight.{Holds, HoldsBelow, Known, Seen, Sitting, find_lock, known_part as known}
 use Rattle.hall.specs.declared.all.AllParts.{AllParts}
-use Rattle.hall.specs.Knowing.{KnowsAll, KnowsPool, KnowsTool}
-use Rattle.hall.specs.Steps.{HasBook, KeepsLocksAt, KnowsAfter}
+use Rattle.hall.specs.SeatKnowledge.{KnowsAll, KnowsPool, KnowsTool}
+use Rattle.hall.specs.Steps.{HasBook, KeepsLocks, KeepsLocksAt, KeepsSight, KnowsAfter}
+use Rattle.hall.specs.Values.{ToolSuits}
 
 -- under the book, what the seat knows is of the state where the book's history leads
 module _ (set : LockTable) (b : Chronicle) (s : Sitting) (has : HasBook set b s) (current : Current s.view) where
   pub now-held : s.view.now ≡ (state_of (told_of b)).now
   now-held = current.1 ∙ (λ i. now_at (sym has.input i) (has.front i)) ∙ now_of-is (told_of b)
 
+  pub run-held : IsRun b.input b.history
+  run-held = subst (λ (m : Machine). IsRun m b.history) (sym has.input) (subst (IsRun s.view.input) has.front current.3.run)
+
+  pub goes-held : IsChecked b.input → (reached_by b.input b.history).over ≡ false → GoesOn (told_of b)
+  goes-held checked over = record { checked = checked; run = run-held; goes = over }
+
+  pub part-here : (k : ℕ) (x : Known) → k < 17 → find_lock k s.view.held ≡ Some x → x.part ≡ part_at b.input b.history k
+  part-here k x low found = (current.0 k x low found).0 ∙ (λ i. part_at (sym has.input i) (has.front i) k)
+
   pub part-held : (k : ℕ) (part : StatePart) → k < 17 → IsAsKnown k part s.view → part ≡ part_at b.input b.history k
-  part-held k part low as_known = as_known.2 ∙ (current.0 k as_known.0 low as_known.1).0 ∙ (λ i. part_at (sym has.input i) (has.front i) k)
+  part-held k part low as_known = as_known.2 ∙ part-here k as_known.0 low as_known.1
 
   pub stands-held : (k : ℕ) (slot : Option PoolSeen) → k < 16 → KnowsPool k slot s.view → StandsAt (told_of b) k slot
   stands-held k slot low knows = record {
@@ -55,11 +68,6 @@ module _ (set : LockTable) (b : Chronicle) (s : Sitting) (has : HasBook set b s)
     stand = record { count = knows.count; each = λ k low. stands-held k (at_place all.slots.items k) low (knows.pools k (let count = knows.count in omega (arith, low, count))) };
     known = tool-held all.tool.value.tool all.tool.value.spares knows.tool;
   }
-
-  pub spares-held : (all : AllParts) (t : ℕ) → t ≡ s.view.now → KnowsAll all s.view → AreSpares b.input t all.tool.value.tool.part all.tool.value.spares
-  spares-held all t now knows =
-      subst (λ (m : Machine). AreSpares m t all.tool.value.tool.part all.tool.value.spares) (sym has.input)
-      (subst (λ (n : ℕ). AreSpares s.view.input n all.tool.value.tool.part all.tool.value.spares) (sym now) knows.tool.suits.spares)
 
 -- a seat that knows all parts holds their locks
 pub held-all : (all : AllParts) (v : Seen) → KnowsAll all v → (k : ℕ) → k < 17 → Holds k v
@@ -118,32 +126,40 @@ module _ (next : Told) (old new : Seen) (input : next.input ≡ old.input) (same
 pub as-known : (k : ℕ) (part : StatePart) (old new : Seen) → find_lock k new.held ≡ find_lock k old.held → IsAsKnown k part old → IsAsKnown k part new
 as-known k part old new same is = (is.0, same ∙ is.1, is.2, is.3)
 
-slot-later : (m : Machine) (now later : ℕ) (slot : Option PoolSeen) → now ≤ later → ForSome slot (SlotSuits m now) → ForSome slot (SlotSuits m later)
-slot-later m now later slot past suits seen at = (let is = suits seen at in let latest = is.latest in record { granularity = is.granularity; latest = omega (arith, latest, past) })
+-- and so does a value, at the same moment or a later one
+module _ (now : ℕ) (old new : Seen) (same : new.input ≡ old.input) (moment : new.now ≡ now) (past : old.now ≤ now) where
+  pub pool-later : (k : ℕ) (slot : Option PoolSeen) → find_lock k new.held ≡ find_lock k old.held → KnowsPool k slot old → KnowsPool k slot new
+  pool-later k slot lock knows = record {
+    known = as-known k _ old new lock knows.known;
+    suits = subst (λ (p : Machine × ℕ). ForSome slot (SlotSuits p.0 p.1)) (λ i. (sym same i, sym moment i)) (slot-later old.input old.now now slot past knows.suits);
+  }
 
--- all parts stay known where the seat has the same of their locks, at the same moment or a later one
-module _ (now : ℕ) (old new : Seen) (same : new.input ≡ old.input) (locks : (k : ℕ) → k < 17 → find_lock k new.held ≡ find_lock k old.held) (others : (k : ℕ) → 17 < k → find_lock k old.held ≡ None → find_lock k new.held ≡ None) (moment : new.now ≡ now) (past : old.now ≤ now) where
-  pub knows-same : (all : AllParts) → KnowsAll all old → KnowsAll all new
-  knows-same all knows = record {
+  pub tool-later : (tool : Tool) (shelves : Shelves) → find_lock tool_lock new.held ≡ find_lock tool_lock old.held → KnowsTool tool shelves old → KnowsTool tool shelves new
+  tool-later tool shelves lock knows = record {
+    known = as-known tool_lock _ old new lock knows.known;
+    suits = subst (λ (p : Machine × ℕ). ToolSuits p.0 p.1 tool shelves) (λ i. (sym same i, sym moment i))
+        (record { knows = knows.suits.knows; spares = spares-later old.input old.now now tool.part shelves past knows.suits.spares });
+  }
+
+  -- all parts stay known where the seat has the same of their locks
+  pub knows-same : ((k : ℕ) → k < 17 → find_lock k new.held ≡ find_lock k old.held) → ((k : ℕ) → 17 < k → find_lock k old.held ≡ None → find_lock k new.held ≡ None) → (all : AllParts) → KnowsAll all old → KnowsAll all new
+  knows-same locks others all knows = record {
     count = knows.count;
-    pools = λ k low. let is = knows.pools k low in record {
-      known = as-known k _ old new (locks k (let count = knows.count in omega (arith, low, count))) is.known;
-      suits = subst (λ (m : Machine). ForSome (at_place all.slots.items k) (SlotSuits m new.now)) (sym same)
-          (subst (λ (n : ℕ). ForSome (at_place all.slots.items k) (SlotSuits old.input n)) (sym moment) (slot-later old.input old.now now (at_place all.slots.items k) past is.suits));
-    };
-    tool = record {
-      known = as-known tool_lock _ old new (locks tool_lock (omega arith)) knows.tool.known;
-      suits = record {
-        knows = λ at. knows.tool.suits.knows at ∙ ap (λ (m : Machine). tool_of m at) (sym same);
-        spares = subst (λ (m : Machine). AreSpares m new.now all.tool.value.tool.part all.tool.value.spares) (sym same)
-            (subst (λ (n : ℕ). AreSpares old.input n all.tool.value.tool.part all.tool.value.spares) (sym moment)
-            (spares-later old.input old.now now all.tool.value.tool.part all.tool.value.spares past knows.tool.suits.spares));
-      };
-    };
+    pools = λ k low. pool-later k (at_place all.slots.items k) (locks k (let count = knows.count in omega (arith, low, count))) (knows.pools k low);
+    tool = tool-later all.tool.value.tool all.tool.value.spares (locks tool_lock (omega arith)) knows.tool;
     others = λ k high. others k (omega (arith, high)) (knows.others k high);
   }
 
--- so they do where the book went back with the same parts
-module _ (now : ℕ) (old new : Seen) (same : new.input ≡ old.input) (keeps : KeepsLocksAt now old new) (past : old.now ≤ now) where
-  pub knows-later : (all : AllParts) → KnowsAll all old → KnowsAll all new
-  knows-later = knows-same now old new same keeps.locks keeps.others keeps.moment past
+  -- so they do where the book went back with the same parts
+  pub knows-later : KeepsLocksAt now old new → (all : AllParts) → KnowsAll all old → KnowsAll all new
+  knows-later keeps = knows-same keeps.locks keeps.others
+
+-- where it went back as it was
+pub knows-put : (old new : Sitting) → KeepsSight old new → KeepsLocks old.view new.view → (all : AllParts) → KnowsAll all old.view → KnowsAll all new.view
+knows-put old new keeps locks = knows-later old.view.now old.view new.view keeps.input locks.moment (omega arith) locks
+
+-- and where it was taken
+pub knows-taken : (all : AllParts) (old new : Seen) → new.input ≡ old.input → ((k : ℕ) → k ≢ 17 → find_lock k new.held ≡ find_lock k old.held) → ((k : ℕ) (x : Known) → find_lock k old.held ≡ Some x → new.now ≡ old.now) → KnowsAll all old → KnowsAll all new
+knows-taken all old new input locks still knows =
+    let tool = knows.tool.known in
+    knows-same old.now old new input (still tool_lock tool.0 tool.1) (omega arith) (λ k low. locks k (λ is. omega (arith, low, is))) (λ k high none. locks k (λ is. omega (arith, high, is)) ∙ none) all knows

@@ -12,37 +12,36 @@ use Rattle.sched_model.specs.declared.event.Entry.{Entry}
 use Rattle.sched_model.specs.declared.event.Event.{Event}
 use Rattle.sched_model.specs.declared.machine.Machine.{Machine}
 use Rattle.sched_model.specs.declared.state.State.{State}
-use Rattle.sched_model.specs.Actions.{home_of}
+use Rattle.sched_model.specs.Actions.{IsOfPool, home_of}
 use Rattle.sched_model.specs.Machine.{event_of, is_enabled}
 use Rattle.sched_model.specs.Places.{at_place}
 use Rattle.sched_model.specs.Runs.{IsNext}
 use Rattle.journal_core.specs.Books.{Chronicle}
 use Rattle.journal_core.specs.Histories.{reached_by}
 use Rattle.journal_core.specs.Parts.{tool_lock}
-use Rattle.cpupool.specs.Tool.{tool_of}
-use Rattle.plain_pool.specs.Own.{IsOfPool}
 use Rattle.pool_core.specs.Seen.{Seen as PoolSeen}
 use Rattle.pool_slots.specs.Counts.{AreSpares}
-use Rattle.pool_slots.specs.Places.{GoesOn, SlotSuits, state_of}
+use Rattle.pool_slots.specs.Places.{GoesOn, state_of}
 use Rattle.pool_slots.specs.Told.{Told, told_of}
 use Rattle.pool_slots.proofs.Going.{comes-next, entry-is, goes-on}
-use Rattle.pool_slots.proofs.Stepping.{any-default}
 use Rattle.machine_parts.specs.Parts.{AreParts}
+use Rattle.machine_parts.proofs.AtPlaces.{number-of, no-number}
 use Rattle.tool_acts.specs.Acts.{told_event}
-use Rattle.engine.specs.Running.{pool_of_event}
-use Rattle.engine.proofs.Performing.{own-event, told-none, told-pool}
+use Rattle.engine.specs.EngineState.{pool_of_event}
+use Rattle.engine.proofs.Performing.{own-event}
 use Rattle.lock_moves.specs.Plays.{Current, Kept, Placed}
 use Rattle.lock_moves.specs.Sets.{LockTable, sitting_with}
-use Rattle.lock_moves.specs.Sight.{HoldsBelow, Seen, Sitting}
+use Rattle.lock_moves.specs.SeatSight.{HoldsBelow, Seen, Sitting}
 use Rattle.lock_moves.proofs.Holding.{kept_all}
 use Rattle.hall.specs.declared.all.AllParts.{AllParts}
 use Rattle.hall.specs.declared.value.ToolKept.{ToolKept}
 use Rattle.hall.specs.declared.whole.NameMove.{NameMove}
-use Rattle.hall.specs.Knowing.{KnowsAll, KnowsPool, KnowsTool}
+use Rattle.hall.specs.SeatKnowledge.{KnowsAll, KnowsPool, KnowsTool}
 use Rattle.hall.specs.Moves.{HandsName, MayHand, after_handing}
 use Rattle.hall.specs.Steps.{HasBook, HasEntered, KeepsOthers, KnowsAfter}
 use Rattle.hall.proofs.Handing.{handed-holds, may-hand-over, placed-handed}
-use Rattle.hall.proofs.Parting.{as-known, holds-all, knows-after, now-held}
+use Rattle.hall.proofs.Parting.{holds-all, knows-after, now-held, pool-later, tool-later}
+use Rattle.sched_laws.proofs.Lists.{same_read}
 
 -- a move of a name keeps the moment, and the book in the seat's hands
 handed-now : (moved : Option NameMove) (v : Seen) → (after_handing moved v).now ≡ v.now
@@ -62,10 +61,10 @@ handed-book set b s (Some moved) has held = record {
 
 -- the event is of the pool that the tool tells, or of none
 pub of-pool : (m : Machine) (s : State) (action : Action) (g : ℕ) → g ≡ m.config.granularity → (o : Option PoolId) → o ≡ option_map pool_number (pool_of_event g s action) → (i : PoolId) → o ≡ Some i → IsOfPool action × (home_of m.config.granularity s action ≡ Some i.0)
-of-pool m s action g is o told i found = own-event m.config.granularity s action i.0 (ap (λ (n : ℕ). pool_of_event n s action) (sym is) ∙ told-pool (pool_of_event g s action) i (sym told ∙ found))
+of-pool m s action g is o told i found = own-event m.config.granularity s action i.0 (ap (λ (n : ℕ). pool_of_event n s action) (sym is) ∙ number-of (pool_of_event g s action) i (sym told ∙ found))
 
 pub of-none : (m : Machine) (s : State) (action : Action) (g : ℕ) → g ≡ m.config.granularity → (o : Option PoolId) → o ≡ option_map pool_number (pool_of_event g s action) → o ≡ None → pool_of_event m.config.granularity s action ≡ None
-of-none m s action g is o told found = ap (λ (n : ℕ). pool_of_event n s action) (sym is) ∙ told-none (pool_of_event g s action) (sym told ∙ found)
+of-none m s action g is o told found = ap (λ (n : ℕ). pool_of_event n s action) (sym is) ∙ no-number (pool_of_event g s action) (sym told ∙ found)
 
 module _ (set : LockTable) (b : Chronicle) (s : Sitting) (has : HasBook set b s) (current : Current s.view) (goes : GoesOn (told_of b)) (all : AllParts) (knows : KnowsAll all s.view) where
   abbrev w : Told
@@ -121,27 +120,18 @@ module _ (all left : AllParts) (old new : Seen) (knows : KnowsAll all old) (same
       subst (λ (x : Option PoolSeen). KnowsPool k x new) (sym (get_or-set_at all.slots.items i k slot None at inside)) (subst (λ (n : ℕ). KnowsPool n slot new) (sym at) here))
       (λ other.
       let was = knows.pools k (let count = knows.count in omega (arith, few, count)) in
-      subst (λ (x : Option PoolSeen). KnowsPool k x new) (sym (get_or-set_other all.slots.items i k slot None other)) (record {
-        known = as-known k _ old new (keeps.locks k (omega (arith, few)) other) was.known;
-        suits = subst (λ (m : Machine). ForSome (at_place all.slots.items k) (SlotSuits m new.now)) (sym same)
-            (subst (λ (n : ℕ). ForSome (at_place all.slots.items k) (SlotSuits old.input n)) (sym keeps.moment) was.suits);
-      })))
+      subst (λ (x : Option PoolSeen). KnowsPool k x new) (sym (get_or-set_other all.slots.items i k slot None other))
+      (pool-later old.now old new same keeps.moment (omega arith) k (at_place all.slots.items k) (keeps.locks k (omega (arith, few)) other) was)))
 
   pub knows-changed : left.slots.items ≡ slice_set all.slots.items i slot → left.tool.value ≡ all.tool.value → KnowsAll left new
   knows-changed slots tool = record {
     count = ap length slots ∙ length-set all.slots.items i slot ∙ knows.count;
     pools = λ k few. pool-changed left.slots.items slots k (let count = ap length slots ∙ length-set all.slots.items i slot ∙ knows.count in omega (arith, few, count));
-    tool = subst (λ (x : ToolKept). KnowsTool x.tool x.spares new) (sym tool) (record {
-      known = as-known tool_lock _ old new (keeps.locks tool_lock (omega arith) (λ is. omega (arith, is, low))) knows.tool.known;
-      suits = record {
-        knows = λ at. knows.tool.suits.knows at ∙ ap (λ (m : Machine). tool_of m at) (sym same);
-        spares = subst (λ (m : Machine). AreSpares m new.now all.tool.value.tool.part all.tool.value.spares) (sym same)
-            (subst (λ (n : ℕ). AreSpares old.input n all.tool.value.tool.part all.tool.value.spares) (sym keeps.moment) knows.tool.suits.spares);
-      };
-    });
+    tool = subst (λ (x : ToolKept). KnowsTool x.tool x.spares new) (sym tool)
+        (tool-later old.now old new same keeps.moment (omega arith) all.tool.value.tool all.tool.value.spares (keeps.locks tool_lock (omega arith) (λ is. omega (arith, is, low))) knows.tool);
     others = λ k high. keeps.others k (omega (arith, high)) (knows.others k high);
   }
 
 -- what is read at a place of the list is what stands there
 pub place-read : (slots : List (Option PoolSeen)) (n i : ℕ) (default : Option PoolSeen) (v : Seen) → n ≡ i → i < length slots → KnowsPool i (at_place slots i) v → KnowsPool i (slice_index_or slots n default) v
-place-read slots n i default v is low knows = subst (λ (x : Option PoolSeen). KnowsPool i x v) (any-default slots i None default low ∙ ap (λ (k : ℕ). slice_index_or slots k default) (sym is)) knows
+place-read slots n i default v is low knows = subst (λ (x : Option PoolSeen). KnowsPool i x v) (same_read slots i None default low ∙ ap (λ (k : ℕ). slice_index_or slots k default) (sym is)) knows

@@ -16,7 +16,7 @@ use Rattle.pool_slots.specs.Told.{told_of}
 use Rattle.pool_slots.proofs.Going.{leads-to}
 use Rattle.lock_moves.specs.Plays.{Current, Kept, Placed}
 use Rattle.lock_moves.specs.Sets.{LockTable}
-use Rattle.lock_moves.specs.Sight.{Known, Seen, Sitting, find_lock, known_part, with_now}
+use Rattle.lock_moves.specs.SeatSight.{Known, Seen, Sitting, find_lock, known_part, with_now}
 use Rattle.hall.specs.Steps.{HasBook, KeepsLocksAt, KnowsAfter}
 use Rattle.hall.proofs.Parting.{now-held}
 

@@ -1,8 +1,8 @@
 -- What a seat settles for an actor of one pool, whose lock it holds beside the book, and what it does before and after.
 use mathlib.Core.Logic.{dite}
 use native.Mathlib.Decide.{ℕ_discrete, dec_lt}
-use Rattle.std.proofs.Common.{◌≡◌, ◌≢◌, ◌∙◌, ◌≤◌, ◌<◌, ◌/◌, ◌+◌, ◌-◌, ◌&&◌, ℕ, true, false, true≢false, cond, List, [], length, refl, sym, ap, subst, arith}
-use Rattle.std.specs.Prelude.{Option, Some, None, Result, Ok, Err, IfOk, IfErr, is_some, nat_lt}
+use Rattle.std.proofs.Common.{◌≡◌, ◌≢◌, ◌∙◌, ◌<◌, ◌/◌, ◌+◌, ◌-◌, ◌&&◌, ℕ, true, false, true≢false, List, [], length, refl, sym, ap, subst, arith}
+use Rattle.std.specs.Prelude.{Option, Some, None, is_some, nat_lt}
 use Rattle.std.specs.Option.{ForSome, IsSome}
 use Rattle.sched_base.specs.Numbers.{core, moment, processor}
 use Rattle.sched_model.specs.declared.action.Action.{Action}
@@ -14,14 +14,12 @@ use Rattle.sched_model.specs.declared.machine.Machine.{Machine}
 use Rattle.sched_model.specs.declared.state.FreeCore.{FreeCore}
 use Rattle.sched_model.specs.declared.state.Pool.{Pool}
 use Rattle.sched_model.specs.declared.state.State.{State}
-use Rattle.sched_model.specs.Actions.{home_of, home_of_core}
-use Rattle.sched_model.specs.Checked.{IsChecked}
+use Rattle.sched_model.specs.Actions.{home_of}
+use Rattle.sched_model.specs.CheckedMachine.{IsChecked}
 use Rattle.sched_model.specs.Machine.{event_of, is_enabled}
 use Rattle.sched_model.specs.Places.{at_place}
 use Rattle.sched_model.specs.Runs.{IsRun, action_of}
-use Rattle.sched_model.proofs.RunLemmas.{action_of-event_of}
-use Rattle.sched_laws.proofs.Bools.{and_left, and_right}
-use Rattle.sched_laws.proofs.EachPlace.{found_at, place_below}
+use Rattle.sched_base.proofs.Bools.{and_left, and_right}
 use Rattle.sched_laws.proofs.Lists.{some_is}
 use Rattle.journal_core.specs.Books.{Chronicle}
 use Rattle.journal_core.specs.Histories.{state_at}
@@ -31,35 +29,29 @@ use Rattle.order_laws.proofs.Home.{pool_is_home}
 use Rattle.part_laws.proofs.Law.{some_mapped}
 use Rattle.actor_laws.specs.Actors.{first_by, has_actor}
 use Rattle.actor_laws.proofs.Actors.{first_in_pool, none_of_free}
-use Rattle.tool_laws.proofs.Moving.{known_in_runs}
+use Rattle.tool_laws.proofs.Names.{core_name, domain_name}
 use Rattle.pool_core.specs.Actors.{ComesFirstBy, IsFirstBy}
 use Rattle.pool_core.specs.Seen.{Seen as PoolSeen}
 use Rattle.pool_slots.specs.Places.{GoesOn, SlotSuits, StandsAt, slot_part, state_of}
 use Rattle.pool_slots.specs.Told.{told_of}
-use Rattle.pool_slots.proofs.Going.{part_of-is, range-of, state_of-is}
+use Rattle.pool_slots.proofs.Going.{part_of-is, state_of-is}
 use Rattle.pool_slots.proofs.Standing.{pool_at, stands-there}
 use Rattle.lock_moves.specs.declared.content.NameId.{NameId}
 use Rattle.lock_moves.specs.declared.content.NameId.TheVariants as name_id
 use Rattle.lock_moves.specs.Plays.{Current, IsPartOfSome}
 use Rattle.lock_moves.specs.Sets.{HasTaken, IsAsKnown, LockTable, sitting_with}
-use Rattle.lock_moves.specs.Sight.{Seen, Sitting, find_lock, after_give, known_part, after_search, locks_without}
+use Rattle.lock_moves.specs.SeatSight.{Seen, Sitting, find_lock, after_give, known_part, after_search, locks_without}
 use Rattle.lock_moves.specs.Words.{has_core, has_name, name_number}
 use Rattle.lock_moves.proofs.Finding.{find-head, find-tail, find-without-other, find-without-same, none_held}
-use Rattle.hall.specs.declared.turns.Done.{Done}
-use Rattle.hall.specs.declared.turns.Done.TheVariants as done
 use Rattle.hall.specs.declared.turns.Full.{Full}
-use Rattle.hall.specs.Knowing.{KnowsPool}
+use Rattle.hall.specs.SeatKnowledge.{KnowsPool}
 use Rattle.hall.specs.Seats.{IsCountBefore}
-use Rattle.hall.specs.Settling.{DoneIn, HoldsOnly, IsNamed, Settles, SettlesEvent, SettlesFull, SettlesNothing, state_in}
-use Rattle.hall.specs.Steps.{HasBook, HasEntered, KeepsLocks, KeepsOthers, KeepsSight, SeesBook}
-use Rattle.hall.specs.Turns.{ActsFull}
-use Rattle.hall.proofs.Calls.{acts-full, done-in, goes-where}
+use Rattle.hall.specs.BookTurns.{HoldsOnly, IsNamed, SettlesEvent, SettlesFull, SettlesNothing, state_in, FindsFull}
+use Rattle.hall.specs.Steps.{HasBook, HasEntered, KeepsLocks, KeepsOthers, KeepsSight}
+use Rattle.hall.proofs.Calls.{goes-where, adds-event, settles-event, settles-full}
 use Rattle.hall.proofs.Locking.{keeps_same, no_place, no_tool}
-use Rattle.hall.proofs.Parting.{now-held, part-held, stands-held}
-
--- the book's history is a run's beginning
-run-held : (set : LockTable) (b : Chronicle) (s : Sitting) → HasBook set b s → Current s.view → IsRun b.input b.history
-run-held set b s has current = subst (λ (m : Machine). IsRun m b.history) (sym has.input) (subst (IsRun s.view.input) has.front current.3.run)
+use Rattle.hall.proofs.Parting.{now-held, part-held, stands-held, run-held}
+use Rattle.hall.proofs.Processors.{arrival-small}
 
 module _ (set : LockTable) (b : Chronicle) (s : Sitting) (has : HasBook set b s) (current : Current s.view) (of_hall : IsChecked set.opened.input) (input : b.input ≡ set.opened.input)
     (i : ℕ) (low : i < 16) (slot : Option PoolSeen) (knows : KnowsPool i slot s.view) (some : IsSome slot) (t : ℕ) (now : t ≡ s.view.now)
@@ -127,38 +119,18 @@ module _ (set : LockTable) (b : Chronicle) (s : Sitting) (has : HasBook set b s)
     pub goes-held : GoesOn (told_of b)
     goes-held = goes-where b checked run action enabled-held
 
-    -- a core that a pool has is one of 64
+    -- the core of an arrival is one of 64
     pub few-held : (p : ℕ) → action ≡ Arrive (processor p) → p / set.opened.input.config.granularity < 64
-    few-held p arrives =
-        let r : ℕ = p / m.config.granularity in
-        let home : home_of_core (state_of (told_of b)) r ≡ Some i = subst (λ (a : Action). home_of m.config.granularity (state_of (told_of b)) a ≡ Some i) arrives home-held in
-        let f = found_at i (λ (pool : Pool). is_some (at_place pool.resources r)) (state_of (told_of b)).pools home in
-        let c = some_is (at_place f.0.resources r) f.2 in
-        let below = place_below f.0.resources r c.0 c.1 in
-        let cores = ((range-of (told_of b) goes-held).pools i f.0 f.1).core_places in
-        let few = (known_in_runs m checked b.history run).few_cores in
-        let small : r < 64 = omega (arith, below, cores, few) in
-        subst (λ (x : Machine). p / x.config.granularity < 64) input small
+    few-held = arrival-small (told_of b) goes-held action enabled-held set.opened.input input
 
-    pub full-held : (full : Full) (new : Sitting) → KeepsSight s new → full.events ≡ b.limit → length b.history ≤ b.limit → (length b.history < b.limit → ⊥) → SettlesFull actor full b s new
-    full-held full new keeps events fits no_room = record {
-      finds = record { keeps = keeps; events = events; length_is = omega (arith, fits, no_room) };
-      due = λ none. (let there_is : (let o : Option Action = None in o) ≡ Some action = sym none ∙ first-held ∙ is in absurd (cc));
-    }
+    pub full-held : (full : Full) (new : Sitting) → FindsFull full b s new → SettlesFull actor full b s new
+    full-held full new finds = settles-full b s new actor action (first-held ∙ is) full finds
 
     pub event-held : (place : ℕ) (e : Event) (decides : ℕ) (new : Sitting) → place ≡ length b.history → e ≡ event_of m (state_of (told_of b)) (state_of (told_of b)).now action
         → HasEntered b (record { at = moment t; event = e }) s new → ((x : Event) → action_of x ≡ Some action → IsCountBefore set.opened.input.config.granularity b.history x decides) → SettlesEvent actor place e decides b s new
-    event-held place e decides new place_is e_is entered count = record {
-      action = action;
-      first = first-held ∙ is;
-      is_event = e_is;
-      adds = record {
-        place_is = place_is;
-        entered = subst (λ (n : ℕ). HasEntered b (record { at = moment n; event = e }) s new) (now ∙ now-held set b s has current) entered;
-        counted = subst (λ (x : Machine). IsCountBefore x.config.granularity b.history e decides) (sym input)
-            (count e (ap action_of e_is ∙ action_of-event_of m (state_of (told_of b)) (state_of (told_of b)).now action));
-      };
-    }
+    event-held place e decides new place_is e_is entered count =
+        settles-event b s new actor action (first-held ∙ is) place e decides e_is
+        (adds-event b s new action (moment t) place e decides set.opened.input input (now ∙ now-held set b s has current) place_is e_is entered count)
 
 -- the lock is put back, and nothing is held
 pub only-gone : (k : ℕ) (s1 s2 s3 s4 : Sitting) → HoldsOnly k s1.view → ((j : ℕ) → j ≢ 17 → find_lock j s2.view.held ≡ find_lock j s1.view.held) → KeepsOthers k s2.view s3.view → s4 ≡ sitting_with s3 (after_give k s3.view) → s4.view.held ≡ []
@@ -173,26 +145,6 @@ only-gone k s1 s2 s3 s4 only locks others is =
 
 pub same-sight : (s0 s1 : Sitting) → s1 ≡ s0 → KeepsSight s0 s1
 same-sight s0 s1 same = subst (KeepsSight s0) (sym same) (keeps_same s0)
-
--- a whole call, from its steps
-module _ (set hall : LockTable) (b : Chronicle) (s0 s1 s2 s3 s4 : Sitting) (took : KeepsSight s0 s1) (sees : SeesBook b s1 s2) (has : HasBook set b s2) (current : Current s2.view) (gave_back : KeepsSight s3 s4)
-    (of_set : s0.view.input ≡ hall.opened.input) (of_hall : IsChecked hall.opened.input) where
-  input-held : b.input ≡ s0.view.input
-  input-held = has.input ∙ sees.input ∙ took.input
-
-  checked-held : IsChecked b.input
-  checked-held = subst IsChecked (sym (input-held ∙ of_set)) of_hall
-
-  pub done-held : (actor : Actor) (r : Result (Done × ℕ) Full) → IfOk r (λ d. Settles actor d.0 d.1 b s2 s3) → IfOk r (λ d. DoneIn actor d.0 d.1 s0.view s4.view)
-  done-held actor (Ok d) settled = done-in b s0 s1 s2 s3 s4 took sees gave_back input-held checked-held (run-held set b s2 has current) actor d.0 d.1 settled
-  done-held actor (Err full) settled = tt
-
-  pub idle-held : (actor : Actor) → SettlesNothing actor b s2 s3 → DoneIn actor done.Nothing 0 s0.view s4.view
-  idle-held actor settled = done-in b s0 s1 s2 s3 s4 took sees gave_back input-held checked-held (run-held set b s2 has current) actor done.Nothing 0 settled
-
-  pub fills-held : (actor : Actor) (r : Result (Done × ℕ) Full) → IfErr r (λ full. SettlesFull actor full b s2 s3) → IfErr r (λ full. ActsFull actor full s0.view s4.view)
-  fills-held actor (Ok d) settled = tt
-  fills-held actor (Err full) settled = acts-full b s0 s1 s2 s3 s4 took sees gave_back input-held checked-held (run-held set b s2 has current) actor full has.limit settled
 
 -- a lock was found and taken by a seat that held none
 module _ (k : ℕ) (part : StatePart) (refused : List ℕ) (t : ℕ) (s0 s1 : Sitting) (taken : HasTaken k part (after_search refused t s0.view) s0 s1) where
@@ -233,13 +185,13 @@ listed-has m (Proc p) name named pool listed =
     let has : has_core m r ≡ true = subst (λ (n : NameId). has_name m n ≡ true) same named.has in
     let low : nat_lt r 64 ≡ true = and_left (nat_lt r 64) (is_name m.config r) has in
     let here : pool_lists r pool ≡ true = subst (λ (n : NameId). pool_lists (name_number n) pool ≡ true) same listed in
-    sym (ap (λ b. cond b (is_some (at_place pool.resources r)) (is_some (at_place pool.domains (r - 64)))) low) ∙ here
+    sym (core_name r pool low) ∙ here
 listed-has m (Dom d) name named pool listed =
     let same : name ≡ name_id.Dom d = same-name (name_id.Dom d) name named.is in
     let here : pool_lists (64 + d.0) pool ≡ true = subst (λ (n : NameId). pool_lists (name_number n) pool ≡ true) same listed in
     let back : 64 + d.0 - 64 ≡ d.0 = omega arith in
     subst (λ (n : ℕ). is_some (at_place pool.domains n) ≡ true) back
-    (sym (ap (λ b. cond b (is_some (at_place pool.resources (64 + d.0))) (is_some (at_place pool.domains (64 + d.0 - 64)))) (high-name d.0)) ∙ here)
+    (sym (domain_name (64 + d.0) pool (high-name d.0)) ∙ here)
 listed-has m Tool name named pool listed = absurd (no-name name named.is)
 
 pub actor-there : (m : Machine) (now : ℕ) (actor : Actor) (name : NameId) → IsNamed m actor name → (slot : Option PoolSeen) → ForSome slot (SlotSuits m now) → lists (slot_part slot) (name_number name) ≡ true

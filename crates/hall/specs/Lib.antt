@@ -1,7 +1,7 @@
 pub mod Values
 pub mod Steps
 pub mod Seats
-pub mod Knowing
+pub mod SeatKnowledge
 pub mod Moves
 pub mod Turns
-pub mod Settling
+pub mod BookTurns

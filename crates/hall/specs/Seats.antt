@@ -5,10 +5,10 @@ use Rattle.sched_model.specs.declared.event.Entry.{Entry}
 use Rattle.sched_model.specs.declared.event.Event.{Event}
 use Rattle.sched_model.specs.declared.event.Event.TheVariants as event
 use Rattle.sched_model.specs.declared.machine.Machine.{Machine}
-use Rattle.sched_model.specs.Checked.{IsChecked}
+use Rattle.sched_model.specs.CheckedMachine.{IsChecked}
 use Rattle.journal_core.specs.Histories.{decides_at}
 use Rattle.lock_moves.specs.Sets.{LockTable}
-use Rattle.lock_moves.specs.Sight.{Sitting}
+use Rattle.lock_moves.specs.SeatSight.{Sitting}
 use Rattle.hall.specs.declared.seat.Arrival.{Arrival}
 
 -- a seat: what it has seen and holds, and its last arrival that it keeps, if it keeps one

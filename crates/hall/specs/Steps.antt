@@ -6,9 +6,9 @@ use Rattle.sched_model.specs.declared.event.Event.{Event}
 use Rattle.sched_model.specs.Runs.{action_of}
 use Rattle.journal_core.specs.Books.{Chronicle}
 use Rattle.journal_core.specs.Histories.{part_at}
-use Rattle.lock_moves.specs.Deciding.{who_decides}
+use Rattle.lock_moves.specs.Decisions.{who_decides}
 use Rattle.lock_moves.specs.Sets.{HasName, LockTable}
-use Rattle.lock_moves.specs.Sight.{Holds, Known, Seen, Sitting, find_lock, known_part}
+use Rattle.lock_moves.specs.SeatSight.{Holds, Known, Seen, Sitting, find_lock, known_part}
 use Rattle.lock_moves.specs.Words.{has_core}
 
 -- the seat has seen and done no more: it took locks of parts or gave them back

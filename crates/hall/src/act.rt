@@ -11,10 +11,10 @@ ghost use Rattle.journal_core.specs.Histories.{reached_by};
 ghost use Rattle.actor_laws.specs.Actors.{has_actor};
 ghost use Rattle.pool_core.specs.Actors.{IsFirstBy};
 ghost use Rattle.lock_moves.specs.Plays.{Current};
-ghost use Rattle.lock_moves.specs.Sight.{find_lock};
-ghost use Rattle.hall.specs.Knowing.{KnowsAll, KnowsPool};
+ghost use Rattle.lock_moves.specs.SeatSight.{find_lock};
+ghost use Rattle.hall.specs.SeatKnowledge.{KnowsAll, KnowsPool};
 ghost use Rattle.hall.specs.Seats.{IsCountBefore, IsOf, IsSeatOf, SeatStays, Stays};
-ghost use Rattle.hall.specs.Settling.{DoneIn, HoldsOnly, IsNamed, Settles, SettlesFull};
+ghost use Rattle.hall.specs.BookTurns.{DoneIn, HoldsOnly, IsNamed, Settles, SettlesFull};
 ghost use Rattle.hall.specs.Steps.{HasBook, KeepsOthers};
 ghost use Rattle.hall.specs.Turns.{ActsFull, IsDone, is_actor};
 

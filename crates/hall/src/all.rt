@@ -1,8 +1,8 @@
 //! All values at once, while all their locks are held.
 
 ghost use Rattle.std.specs.Prelude.{◌≡◌, ◌+◌, ◌<◌, None, []};
-ghost use Rattle.lock_moves.specs.Sight.{HoldsBelow, find_lock};
-ghost use Rattle.hall.specs.Knowing.{KnowsAll, KnowsPool, KnowsStill, KnowsTool};
+ghost use Rattle.lock_moves.specs.SeatSight.{HoldsBelow, find_lock};
+ghost use Rattle.hall.specs.SeatKnowledge.{KnowsAll, KnowsPool, KnowsStill, KnowsTool};
 ghost use Rattle.hall.specs.Steps.{KeepsSight};
 
 use crate::value::{PartState, ToolKept};

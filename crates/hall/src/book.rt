@@ -3,11 +3,11 @@
 ghost use Rattle.sched_base.specs.Numbers.{core};
 ghost use Rattle.std.specs.Prelude.{◌≡◌, ◌≢◌, ◌<◌, ◌++◌, ◌∷◌, [], ℕ, Some, length};
 ghost use Rattle.sched_model.specs.declared.action.Action.TheVariants.{Decide};
-ghost use Rattle.sched_model.specs.Checked.{IsChecked};
+ghost use Rattle.sched_model.specs.CheckedMachine.{IsChecked};
 ghost use Rattle.sched_model.specs.Runs.{IsNext, action_of};
 ghost use Rattle.journal_core.specs.Histories.{reached_by};
 ghost use Rattle.lock_moves.specs.Plays.{Current, Kept, Placed};
-ghost use Rattle.lock_moves.specs.Sight.{AllBelow, Known, find_lock};
+ghost use Rattle.lock_moves.specs.SeatSight.{AllBelow, Known, find_lock};
 ghost use Rattle.lock_moves.specs.Sets.{sitting_with};
 ghost use Rattle.hall.specs.Steps.{HasBook, HasCore, HasEntered, KeepsLocks, KeepsSight, KnowsAfter, SeesBook, deciding_view};
 

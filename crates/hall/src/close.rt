@@ -3,12 +3,12 @@
 ghost use Rattle.std.specs.Prelude.{◌≡◌, ◌<◌, [], None, Some, IfOk, IfErr, length};
 ghost use Rattle.sched_model.specs.Machine.{first_enabled};
 ghost use Rattle.lock_moves.specs.Plays.{Current};
-ghost use Rattle.lock_moves.specs.Sight.{find_lock};
+ghost use Rattle.lock_moves.specs.SeatSight.{find_lock};
 ghost use Rattle.pool_slots.specs.Places.{GoesOn, state_of};
 ghost use Rattle.pool_slots.specs.Told.{told_of};
-ghost use Rattle.hall.specs.Knowing.{KnowsAll};
+ghost use Rattle.hall.specs.SeatKnowledge.{KnowsAll};
 ghost use Rattle.hall.specs.Seats.{IsOf, Stays};
-ghost use Rattle.hall.specs.Settling.{FullWhole, Turns};
+ghost use Rattle.hall.specs.BookTurns.{FullWhole, Turns};
 ghost use Rattle.hall.specs.Steps.{HasBook};
 ghost use Rattle.hall.specs.Turns.{IsTurn, TurnsFull};
 

@@ -63,9 +63,9 @@ fn values_of(
 
 impl Hall {
     ghost use Rattle.std.specs.Prelude.{◌≡◌, ◌≤◌, ◌<◌, ℕ, [], true, None, IfOk, length, slice_get};
-    ghost use Rattle.sched_model.specs.Checked.{IsChecked};
+    ghost use Rattle.sched_model.specs.CheckedMachine.{IsChecked};
     ghost use Rattle.journal_core.specs.Books.{chronicle};
-    ghost use Rattle.lock_moves.specs.Sight.{after_join, after_sharing, newcomer, opening_view, has_place};
+    ghost use Rattle.lock_moves.specs.SeatSight.{after_join, after_sharing, newcomer, opening_view, has_place};
     ghost use Rattle.lock_moves.specs.Sets.{sitting_with};
     ghost use Rattle.hall.specs.Seats.{IsOf, Stays};
     ghost use Rattle.hall.specs.Turns.{IsWaiting, Looked};
@@ -128,8 +128,10 @@ impl Hall {
     pub fn join(&self, into: &mut HallSeat, seat: HallSeat)
         requires of { IsOf self.now into.old }
         requires other { IsOf self.now seat }
-        ensures { into.new ≡ record into.old
-            { sitting = sitting_with into.old.sitting (after_join into.old.sitting.view seat.sitting.view) } }
+        ensures { into.new ≡ record into.old {
+          sitting = sitting_with into.old.sitting
+              (after_join into.old.sitting.view seat.sitting.view);
+        } }
     {
         let HallSeat { seat, .. } = seat;
         self.set.join(&mut into.seat, seat);

@@ -1,13 +1,12 @@
 //! An event of the pool under one lock, while the book is in the seat's hands.
 
 ghost use Rattle.std.specs.Prelude.{◌≡◌, ◌<◌, true, Some, length};
-ghost use Rattle.sched_model.specs.Actions.{home_of};
+ghost use Rattle.sched_model.specs.Actions.{IsOfPool, home_of};
 ghost use Rattle.sched_model.specs.Machine.{event_of, is_enabled};
-ghost use Rattle.plain_pool.specs.Own.{IsOfPool};
 ghost use Rattle.pool_slots.specs.Places.{GoesOn, state_of};
 ghost use Rattle.pool_slots.specs.Told.{told_of};
 ghost use Rattle.lock_moves.specs.Plays.{Current};
-ghost use Rattle.hall.specs.Knowing.{KnowsPool};
+ghost use Rattle.hall.specs.SeatKnowledge.{KnowsPool};
 ghost use Rattle.hall.specs.Steps.{HasBook, HasEntered, KeepsOthers};
 
 use crate::book::enter;

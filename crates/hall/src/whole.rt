@@ -7,12 +7,12 @@ ghost use Rattle.sched_model.specs.declared.event.Event.TheVariants as events;
 ghost use Rattle.sched_model.specs.Machine.{event_of, first_enabled, is_enabled, next_in_horizon};
 ghost use Rattle.pool_slots.specs.Places.{GoesOn, state_of};
 ghost use Rattle.pool_slots.specs.Told.{told_of};
-ghost use Rattle.engine.specs.Running.{pool_of_event as pool_of_event_spec};
+ghost use Rattle.engine.specs.EngineState.{pool_of_event as pool_of_event_spec};
 ghost use Rattle.lock_moves.specs.Plays.{Current};
 ghost use Rattle.lock_moves.specs.Sets.{sitting_with};
-ghost use Rattle.lock_moves.specs.Sight.{Holds, find_lock};
+ghost use Rattle.lock_moves.specs.SeatSight.{Holds, find_lock};
 ghost use Rattle.cpupool.specs.Tool.{tool_of};
-ghost use Rattle.hall.specs.Knowing.{KnowsAll};
+ghost use Rattle.hall.specs.SeatKnowledge.{KnowsAll};
 ghost use Rattle.hall.specs.Moves.{HandsName, HandsNameOver, MayHand, after_handing, lock_or_tool};
 ghost use Rattle.hall.specs.Steps.{HasBook, HasEntered, KeepsLocks, KeepsLocksAt};
 

@@ -2,7 +2,7 @@
 
 ghost use Rattle.std.specs.Prelude.{◌≡◌};
 ghost use Rattle.hall.specs.Seats.{IsOf};
-ghost use Rattle.hall_trials.specs.Serving.{AreActors};
+ghost use Rattle.hall_trials.specs.TrialSeats.{AreActors};
 
 use crate::answers::{put_done, put_found, put_turn, put_waits};
 use crate::counting::CountingGate;

@@ -1,6 +1,6 @@
 //! The checker's judgement of a history.
 
-ghost use Rattle.sched_model.specs.Checked.{IsChecked};
+ghost use Rattle.sched_model.specs.CheckedMachine.{IsChecked};
 
 use journal_core::Book;
 use sched_base::NoMemory;

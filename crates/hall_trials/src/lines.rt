@@ -1,9 +1,9 @@
 //! The lines of the standard input.
 
 ghost use Rattle.std.specs.Prelude.{◌≡◌, ◌≤◌, IfOk};
-ghost use Rattle.sched_model.specs.Checked.{IsChecked};
+ghost use Rattle.sched_model.specs.CheckedMachine.{IsChecked};
 ghost use Rattle.hall.specs.Seats.{IsOf};
-ghost use Rattle.hall_trials.specs.Serving.{AreActors};
+ghost use Rattle.hall_trials.specs.TrialSeats.{AreActors};
 
 use crate::calls::run_calls;
 use crate::counting::CountingGate;

@@ -2,9 +2,9 @@
 
 ghost use Rattle.std.specs.Prelude.{◌≡◌, ◌≤◌, ◌+◌, true};
 ghost use Rattle.sched_model.specs.declared.config.Config.{Config as ConfigSpec};
-ghost use Rattle.sched_model.specs.Checked.{IsCheckedConfig};
+ghost use Rattle.sched_model.specs.CheckedMachine.{IsCheckedConfig};
 ghost use Rattle.hall.specs.Turns.{is_actor};
-ghost use Rattle.hall_trials.specs.Serving.{AreActors};
+ghost use Rattle.hall_trials.specs.TrialSeats.{AreActors};
 
 use sched_base::{DomId, ProcId};
 use sched_model::action::Actor;

@@ -3,7 +3,7 @@
 ghost use Rattle.std.specs.Prelude.{◌≡◌, ◌<◌, ◌+◌};
 ghost use Rattle.std.specs.List.{All};
 ghost use Rattle.hall.specs.Seats.{IsOf};
-ghost use Rattle.hall_trials.specs.Serving.{AreActors, MayServe};
+ghost use Rattle.hall_trials.specs.TrialSeats.{AreActors, MayServe};
 
 use crate::numbering::Actors;
 use hall::{Hall, HallSeat};

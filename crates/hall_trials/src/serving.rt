@@ -3,7 +3,7 @@
 ghost use Rattle.std.specs.Prelude.{◌≡◌, ◌≤◌, ◌+◌, true};
 ghost use Rattle.hall.specs.Seats.{IsOf};
 ghost use Rattle.hall.specs.Turns.{is_actor};
-ghost use Rattle.hall_trials.specs.Serving.{AreActors};
+ghost use Rattle.hall_trials.specs.TrialSeats.{AreActors};
 
 use crate::numbering::Actors;
 use hall::{Done, Hall, HallSeat, Turn};

@@ -2,7 +2,7 @@
 
 ghost use Rattle.std.specs.Prelude.{◌≡◌, ◌≤◌, ◌<◌, []};
 ghost use Rattle.hall.specs.Seats.{IsOf};
-ghost use Rattle.hall_trials.specs.Serving.{AreActors};
+ghost use Rattle.hall_trials.specs.TrialSeats.{AreActors};
 
 use crate::numbering::Actors;
 use hall::{Hall, HallSeat};

@@ -3,7 +3,7 @@
 ghost use Rattle.std.specs.Prelude.{◌≡◌, ◌≤◌};
 ghost use Rattle.hall.specs.Seats.{IsOf};
 ghost use Rattle.pcpu_threads.specs.Workers.{AreWorkers};
-ghost use Rattle.hall_trials.specs.Serving.{AreActors};
+ghost use Rattle.hall_trials.specs.TrialSeats.{AreActors};
 
 use crate::counting::CountingGate;
 use crate::numbering::Actors;

@@ -1,6 +1,7 @@
 -- What is computed of the example.
 use Rattle.std.proofs.Common.{◌≡◌, ℕ, zero, suc, ◌<◌, ◌≢◌, Bool, true, false, true≢false, eqb, List, [], ◌∷◌, take, ◌++◌, ◌≤◌, length, sym, refl, ap, ◌∙◌, arith, ne_eqb, eqb-true}
 use Rattle.std.specs.Prelude.{◌&&◌, ◌||◌, if◌then◌else◌}
+use Rattle.sched_base.proofs.Bools.{and_left, and_right}
 use Rattle.sched_model.specs.Places.{at_place}
 use mathlib.Core.Logic.{dite}
 use mathlib.Core.Option.{some, some-injective, some-ne-none}
@@ -10,33 +11,24 @@ use Rattle.sched_model.specs.declared.config.Config.{Config}
 use Rattle.sched_model.specs.declared.state.State.{State}
 use Rattle.sched_model.specs.declared.event.Entry.{Entry}
 use Rattle.journal_core.specs.Parts.{StatePart, pool_part, tool_part, tool_of, part_of, lists, home_in}
-use Rattle.sched_model.specs.Runs.{IsNext}
-use Rattle.journal_core.specs.Histories.{part_at, home_at, now_at, decides_at, state_at, reached_by, NamesStandOnce}
+use Rattle.journal_core.specs.Histories.{part_at, home_at, now_at, decides_at, state_at, NamesStandOnce}
 use Rattle.lock_moves.specs.declared.names.Names.{Names}
 use Rattle.lock_moves.specs.NameSets.{in_names, AreNamesOf}
-use Rattle.lock_example.specs.Example.{adding_machine, two_entries, is_added, has_moved, part_after, names_after, new_book}
+use Rattle.lock_example.specs.Example.{adding_machine, two_entries, part_after, names_after, new_book}
 use Rattle.lock_example.specs.declared.counter.Counter.{Counter}
 use Rattle.lock_example.specs.Counters.{AreNew}
-use Rattle.lock_moves.specs.Opened.{AreParts}
+use Rattle.lock_moves.specs.TableContent.{AreParts}
 
 -- whether the test holds of each number below k
 abbrev all_below : (ℕ → Bool) → ℕ → Bool
 all_below f zero = true
 all_below f (suc k) = f k && all_below f k
 
-left : (a b : Bool) → (a && b) ≡ true → a ≡ true
-left true b e = refl
-left false b e = absurd (true≢false (sym e))
-
-right : (a b : Bool) → (a && b) ≡ true → b ≡ true
-right true b e = e
-right false b e = absurd (true≢false (sym e))
-
 at_each : (f : ℕ → Bool) (k n : ℕ) → all_below f k ≡ true → n < k → f n ≡ true
 at_each f zero n all low = absurd (omega (arith, low))
 at_each f (suc k) n all low = dite (ℕ_discrete n k)
-    (λ is. ap f is ∙ left (f k) (all_below f k) all)
-    (λ ne. at_each f k n (right (f k) (all_below f k) all) (omega (arith, low, ne)))
+    (λ is. ap f is ∙ and_left (f k) (all_below f k) all)
+    (λ ne. at_each f k n (and_right (f k) (all_below f k) all) (omega (arith, low, ne)))
 
 abbrev same : Bool → Bool → Bool
 same true b = b
@@ -81,22 +73,23 @@ once-second = once-by (take 1 two_entries) refl
 pub once-third : NamesStandOnce adding_machine two_entries
 once-third = once-by two_entries refl
 
+-- what stands in a list with one more
+pub at_front : {X : Type 0} (x : X) (xs : List X) (j : ℕ) → j < length xs → get_elem? (xs ++ x ∷ []) j ≡ get_elem? xs j
+at_front x [] j low = absurd (omega (arith, low))
+at_front x (z ∷ zs) zero low = refl
+at_front x (z ∷ zs) (suc j) low = at_front x zs j (omega (arith, low))
+
+pub at_back : {X : Type 0} (x : X) (xs : List X) (j : ℕ) (y : X) → length xs ≤ j → get_elem? (xs ++ x ∷ []) j ≡ some y → (j ≡ length xs) × (y ≡ x)
+at_back x [] zero y high e = (refl, sym (some-injective x y e))
+at_back x [] (suc j) y high e = absurd (some-ne-none y (sym e))
+at_back x (z ∷ zs) zero y high e = absurd (omega (arith, high))
+at_back x (z ∷ zs) (suc j) y high e = let t = at_back x zs j y (omega (arith, high)) e in (ap suc t.0, t.1)
+
 -- one counter more
 pub new-snoc : (counters : List Counter) (x : Counter) → length counters ≡ x.lock → x.count ≡ 0 → AreNew counters → AreNew (counters ++ x ∷ [])
 new-snoc counters x len none new k y at = dite (dec_lt k (length counters))
-    (λ low. new k y (sym (at_front counters k low) ∙ at))
-    (λ high. let is = at_back counters k y (omega (arith, high)) at in (ap (λ (z : Counter). z.lock) is.1 ∙ (sym len ∙ sym is.0), ap (λ (z : Counter). z.count) is.1 ∙ none))
-  where
-    at_front : (xs : List Counter) (j : ℕ) → j < length xs → get_elem? (xs ++ x ∷ []) j ≡ get_elem? xs j
-    at_front [] j low = absurd (omega (arith, low))
-    at_front (z ∷ zs) zero low = refl
-    at_front (z ∷ zs) (suc j) low = at_front zs j (omega (arith, low))
-
-    at_back : (xs : List Counter) (j : ℕ) (y : Counter) → length xs ≤ j → get_elem? (xs ++ x ∷ []) j ≡ some y → (j ≡ length xs) × (y ≡ x)
-    at_back [] zero y high e = (refl, sym (some-injective x y e))
-    at_back [] (suc j) y high e = absurd (some-ne-none y (sym e))
-    at_back (z ∷ zs) zero y high e = absurd (omega (arith, high))
-    at_back (z ∷ zs) (suc j) y high e = let t = at_back zs j y (omega (arith, high)) e in (ap suc t.0, t.1)
+    (λ low. new k y (sym (at_front x counters k low) ∙ at))
+    (λ high. let is = at_back x counters k y (omega (arith, high)) at in (ap (λ (z : Counter). z.lock) is.1 ∙ (sym len ∙ sym is.0), ap (λ (z : Counter). z.count) is.1 ∙ none))
 
 -- the new counters are the parts of the book before the run
 pub new-parts : (counters : List Counter) → length counters ≡ 17 → AreNew counters → AreParts (λ (c : Counter). part_after c.lock c.count) (λ m now c. Unit {0}) new_book counters

@@ -1,19 +1,20 @@
 -- The values of the example's locks in order, and what a seat has that holds the tool's lock and the book alone.
-use Rattle.std.proofs.Common.{◌≡◌, ◌≢◌, ℕ, zero, suc, ◌+◌, ◌<◌, ◌≤◌, eqb, List, [], ◌∷◌, ◌++◌, length, Some, None, sym, refl, ap, ◌∙◌, subst, arith}
+use Rattle.std.proofs.Common.{◌≡◌, ◌≢◌, ℕ, zero, suc, ◌+◌, eqb, List, [], ◌∷◌, ◌++◌, length, Some, None, sym, refl, ap, ◌∙◌, subst, arith}
 use mathlib.Core.Logic.{dite}
-use mathlib.Core.Option.{some, some-injective, some-ne-none}
+use mathlib.Core.Option.{some, some-ne-none}
 use lib.ListN.{get_elem?}
 use native.Mathlib.Decide.{ℕ_discrete, dec_lt}
 use Rattle.sched_model.specs.declared.event.Entry.{Entry}
 use Rattle.journal_core.specs.Parts.{StatePart}
 use Rattle.journal_core.specs.Histories.{part_at, home_at}
-use Rattle.lock_moves.specs.Sight.{Known, Seen, Sitting, known_part, find_lock, locks_without, refreshed_locks, IsCurrent, after_take, took_book, book_known, after_give, committed_view, tried_again}
+use Rattle.lock_moves.specs.SeatSight.{Known, Seen, Sitting, known_part, find_lock, locks_without, refreshed_locks, IsCurrent, after_take, took_book, book_known, committed_view, tried_again}
 use Rattle.lock_moves.specs.Plays.{Kept, Placed}
 use Rattle.lock_moves.specs.Sets.{Taken, sitting_with}
 use Rattle.lock_moves.proofs.Finding.{never}
 use Rattle.lock_example.specs.Example.{adding_machine}
 use Rattle.lock_example.specs.declared.counter.Counter.{Counter}
-use Rattle.lock_example.specs.Holding.{AreFrom}
+use Rattle.lock_example.specs.Holders.{AreFrom}
+use Rattle.lock_example.proofs.Checks.{at_back, at_front}
 
 -- no value yet
 pub from_none : (first : ℕ) (xs : List (Taken Counter)) → xs ≡ [] → AreFrom first xs
@@ -22,19 +23,8 @@ from_none first xs none i x at = absurd (some-ne-none x (sym at ∙ ap (λ (l : 
 -- a value more
 pub from_snoc : (first : ℕ) (xs : List (Taken Counter)) (x : Taken Counter) → x.lock ≡ first + length xs → AreFrom first xs → AreFrom first (xs ++ x ∷ [])
 from_snoc first xs x lock each i y at = dite (dec_lt i (length xs))
-    (λ low. each i y (sym (at_front xs i low) ∙ at))
-    (λ high. let is = at_back xs i y (omega (arith, high)) at in ap (λ (z : Taken Counter). z.lock) is.1 ∙ (lock ∙ ap (λ n. first + n) (sym is.0)))
-  where
-    at_front : (zs : List (Taken Counter)) (j : ℕ) → j < length zs → get_elem? (zs ++ x ∷ []) j ≡ get_elem? zs j
-    at_front [] j low = absurd (omega (arith, low))
-    at_front (z ∷ zs) zero low = refl
-    at_front (z ∷ zs) (suc j) low = at_front zs j (omega (arith, low))
-
-    at_back : (zs : List (Taken Counter)) (j : ℕ) (z : Taken Counter) → length zs ≤ j → get_elem? (zs ++ x ∷ []) j ≡ some z → (j ≡ length zs) × (z ≡ x)
-    at_back [] zero z high e = (refl, sym (some-injective x z e))
-    at_back [] (suc j) z high e = absurd (some-ne-none z (sym e))
-    at_back (w ∷ zs) zero z high e = absurd (omega (arith, high))
-    at_back (w ∷ zs) (suc j) z high e = let t = at_back zs j z (omega (arith, high)) e in (ap suc t.0, t.1)
+    (λ low. each i y (sym (at_front x xs i low) ∙ at))
+    (λ high. let is = at_back x xs i y (omega (arith, high)) at in ap (λ (z : Taken Counter). z.lock) is.1 ∙ (lock ∙ ap (λ n. first + n) (sym is.0)))
 
 -- the last of the values, and those before it
 pub from_front : (first : ℕ) (xs : List (Taken Counter)) (x : Taken Counter) → AreFrom first (xs ++ x ∷ []) → AreFrom first xs × (x.lock ≡ first + length xs)
@@ -69,10 +59,6 @@ tool_known f v w x input held placed is = (
     names = λ n small. placed.0 16 x n (omega arith) (ap (find_lock 16) held) small ∙ ap (λ m. eqb (home_at m f n) 16) input;
   },
 )
-
--- then the tool's lock is put back, and no lock is held
-pub tool_given : (f : List Entry) (v w : Seen) (x : Known) → v.held ≡ holds_tool x → w ≡ committed_view f v → (after_give 16 w).held ≡ []
-tool_given f v w x held is = ap (λ (u : Seen). locks_without 16 u.held) is ∙ ap (λ l. locks_without 16 (refreshed_locks v.input f (locks_without 17 l))) held
 
 -- the parts whose locks are not held are as before, where all parts but the tool's are
 pub kept_tool : (f h : List Entry) (v : Seen) (x : Known) → v.input ≡ adding_machine → v.front ≡ f → v.held ≡ holds_tool x → ((k : ℕ) → k ≢ 16 → part_at adding_machine h k ≡ part_at adding_machine f k) → Kept v h

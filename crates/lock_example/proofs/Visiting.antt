@@ -1,7 +1,7 @@
 -- A lock that was taken is known, and put back it leaves the seat as it was.
 use Rattle.std.proofs.Common.{◌≡◌, ℕ, List, [], ◌∷◌, cond, refl, ap, ◌∙◌, eq-eqb}
 use Rattle.journal_core.specs.Parts.{StatePart}
-use Rattle.lock_moves.specs.Sight.{Seen, Sitting, known_part, find_lock, after_give, after_search}
+use Rattle.lock_moves.specs.SeatSight.{Seen, Sitting, known_part, find_lock, after_give, after_search}
 use Rattle.lock_moves.specs.Sets.{sitting_with, HasTaken, IsAsKnown}
 use Rattle.lock_moves.proofs.Finding.{find-head}
 use Rattle.lock_example.specs.Visits.{IsBack}

@@ -1,4 +1,4 @@
 pub mod Example
 pub mod Counters
 pub mod Visits
-pub mod Holding
+pub mod Holders

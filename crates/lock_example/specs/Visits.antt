@@ -2,7 +2,7 @@
 use Rattle.std.specs.Prelude.{◌≡◌, ℕ, true, List, []}
 use Rattle.lock_moves.specs.declared.content.NameId.{NameId}
 use Rattle.lock_moves.specs.Words.{has_name}
-use Rattle.lock_moves.specs.Sight.{Sitting, after_search}
+use Rattle.lock_moves.specs.SeatSight.{Sitting, after_search}
 use Rattle.lock_moves.specs.Sets.{LockTable, sitting_with}
 
 -- the seat is of the set and holds nothing, and the input has the name

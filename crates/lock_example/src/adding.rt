@@ -2,9 +2,9 @@
 
 ghost use Rattle.std.specs.Prelude.{◌≡◌, ◌+◌, ◌<◌, ◌≤◌, ◌⊎◌, [], IsFalse, IfOk, IfErr, OnOk, MatchBool, length, take, vec_capacity};
 ghost use mathlib.Core.List.{IsPrefix};
-ghost use Rattle.lock_moves.specs.Sight.{HoldsBelow, KnowsBelow};
+ghost use Rattle.lock_moves.specs.SeatSight.{HoldsBelow, KnowsBelow};
 ghost use Rattle.lock_example.specs.Example.{adding_machine, has_moved, is_added, two_entries};
-ghost use Rattle.lock_example.specs.Holding.{AreFrom, Stands, Differs, StopsAt};
+ghost use Rattle.lock_example.specs.Holders.{AreFrom, Stands, Differs, StopsAt};
 
 use crate::counter::Counter;
 use lock_moves::{Held, HeldBook, LockId, LockSeat, LockSet, NameId, WordId};

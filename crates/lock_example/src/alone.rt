@@ -2,7 +2,7 @@
 
 ghost use Rattle.std.specs.Prelude.{◌≡◌, [], IfErr, OnOk, take};
 ghost use Rattle.lock_example.specs.Example.{two_entries};
-ghost use Rattle.lock_example.specs.Holding.{Stands, StopsAt};
+ghost use Rattle.lock_example.specs.Holders.{Stands, StopsAt};
 
 use crate::adding::write_first;
 use crate::counter::Counter;

@@ -1,7 +1,7 @@
 //! The input of the example, its book and its locks.
 
 ghost use Rattle.std.specs.Prelude.{◌≡◌, IfOk, IfSome, length};
-ghost use Rattle.lock_moves.specs.Sight.{opening_view};
+ghost use Rattle.lock_moves.specs.SeatSight.{opening_view};
 ghost use Rattle.lock_example.specs.Example.{adding_machine, new_book, pool_name};
 ghost use Rattle.lock_example.specs.Counters.{AreNew};
 

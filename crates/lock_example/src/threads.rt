@@ -5,7 +5,7 @@ ghost use Rattle.std.specs.List.{All};
 ghost use Rattle.journal_core.specs.Parts.{lists};
 ghost use Rattle.lock_moves.specs.Words.{name_number};
 ghost use Rattle.lock_example.specs.Example.{part_after, two_entries};
-ghost use Rattle.lock_example.specs.Holding.{Stands, StopsAt};
+ghost use Rattle.lock_example.specs.Holders.{Stands, StopsAt};
 ghost use Rattle.lock_example.specs.Visits.{CanVisit, IsBack};
 
 use crate::adding::add_core;

@@ -12,9 +12,9 @@ use Rattle.sched_model.specs.declared.event.Entry.{Entry}
 use Rattle.sched_model.specs.declared.machine.Machine.{Machine}
 use Rattle.lock_moves.specs.declared.content.Content.{Content}
 use Rattle.lock_moves.specs.declared.content.Content.TheVariants.{Out, Value, Ledger}
-use Rattle.lock_moves.specs.Sight.{View, find_lock, has_place}
-use Rattle.lock_moves.specs.Agrees.{shares_of, Fits, Agrees}
-use Rattle.lock_moves.specs.Opened.{AreParts, HaveParts, AreFirst}
+use Rattle.lock_moves.specs.SeatSight.{View, find_lock, has_place}
+use Rattle.lock_moves.specs.Agreement.{shares_of, Fits, Agrees}
+use Rattle.lock_moves.specs.TableContent.{AreParts, HaveParts, AreFirst}
 use Rattle.lock_moves.proofs.Finding.{never}
 use Rattle.lock_moves.proofs.Taking.{value_same}
 

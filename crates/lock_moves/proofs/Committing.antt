@@ -14,23 +14,23 @@ use Rattle.journal_core.specs.Histories.{part_at, home_at, now_at, decides_at, I
 use Rattle.journal_core.proofs.Homes.{home-stays}
 use Rattle.sched_model.specs.declared.event.Entry.{Entry}
 use Rattle.sched_model.specs.declared.machine.Machine.{Machine}
-use Rattle.lock_moves.proofs.Finding.{lists-part}
 use Rattle.lock_moves.specs.declared.content.Content.{Content}
 use Rattle.lock_moves.specs.declared.content.Content.TheVariants.{Out, Value, Ledger}
-use Rattle.lock_moves.specs.Sight.{Known, View, known_part, find_lock, locks_without, refreshed_locks, Holds, has_place, Rising, view_committed, raise}
-use Rattle.lock_moves.specs.Agrees.{Fronts, Fits, Has, Agrees}
+use Rattle.lock_moves.specs.SeatSight.{Known, View, known_part, find_lock, locks_without, refreshed_locks, Holds, has_place, Rising, view_committed, raise}
+use Rattle.lock_moves.specs.Agreement.{Fronts, Fits, Has, Agrees}
 use Rattle.lock_moves.specs.Plays.{Next, Kept, Placed, Decided, committed}
-use Rattle.lock_moves.proofs.Finding.{find-tail, find-without-same, find-without-other, find-refreshed, never, none_or, set_there, set_all, set_some}
+use Rattle.lock_moves.proofs.Finding.{content_or, ledger_or, lists-part, find-tail, find-without-same, find-without-other, find-refreshed, never, none_or, set_there, set_all, set_some}
 use Rattle.lock_moves.proofs.Moving.{suited_step, Begins, fronts_same, shares_same}
 use Rattle.lock_moves.proofs.Places.{place_there, place_last, place_either, place_one, rising-snoc}
-use Rattle.lock_moves.proofs.Prefix.{prefix_refl, prefix_more, prefix_length, length_one_more}
+use Rattle.lock_moves.proofs.Prefix.{prefix_refl, prefix_more, prefix_length}
+use Rattle.std.proofs.lemmas.List.{length_push}
 use Rattle.lock_moves.proofs.Taking.{owned_by, owned_here, owned_else, still}
 
 -- the seat id adds the entry e
 fronts_extended : (m : Machine) (limit base : ℕ) (views : List View) (h : List Entry) (keeper : ℕ → ℕ) (latest id : ℕ) (v w : View) (e : Entry) → Fronts m limit base views h keeper latest → get_elem? views id ≡ some v
     → v.seen.front ≡ h → w.seen.input ≡ v.seen.input → w.seen.limit ≡ v.seen.limit → w.seen.front ≡ h ++ e ∷ [] → w.seen.own ≡ v.seen.own ++ length h ∷ [] → 0 < v.seen.shares → 0 < w.seen.shares
     → Fronts m limit base (set views id w) (h ++ e ∷ []) (owned_by keeper (length h) id) id
-fronts_extended m limit base views h keeper latest id v w e f at whole input limited front own old_left some_left = let n : ℕ = length h in let more = length_one_more h e in record {
+fronts_extended m limit base views h keeper latest id v w e f at whole input limited front own old_left some_left = let n : ℕ = length h in let more = length_push h e in record {
   same = set_all (λ _ u. 0 < u.seen.shares → u.seen.input ≡ m) views id w (λ _. input ∙ f.same id v at old_left) (λ j u _ e. f.same j u e);
   limits = set_all (λ _ u. 0 < u.seen.shares → u.seen.limit ≡ limit) views id w (λ _. limited ∙ f.limits id v at old_left) (λ j u _ e. f.limits j u e);
   begins = set_all (λ _ u. Begins (h ++ e ∷ []) u) views id w (subst (λ z. IsPrefix z (h ++ e ∷ [])) (sym front) (prefix_refl (h ++ e ∷ []))) (λ j u _ q. prefix_more u.seen.front h e (f.begins j u q));
@@ -61,7 +61,7 @@ recorded m limit base views h keeper latest id v h' f at whole left (inl none_ne
   where
     whole' : v.seen.front ≡ h
     whole' = whole
-recorded m limit base views h keeper latest id v h' f at whole left (inr new) = let more = length_one_more v.seen.front new.0 in let len = ap length new.1 in (
+recorded m limit base views h keeper latest id v h' f at whole left (inr new) = let more = length_push v.seen.front new.0 in let len = ap length new.1 in (
   owned_by keeper (length h) id,
   id,
   subst (λ z. Fronts m limit base (set views id (view_committed h' v)) z (owned_by keeper (length h) id) id) (sym is)
@@ -90,14 +90,6 @@ module _ {V : Type 0} (part : V → StatePart) (suits : Machine → ℕ → V �
   still_fits h h' j Out ne same fits = absurd fits
   still_fits h h' j (Value x) ne same fits = (fits.0, fits.1 ∙ sym (same fits.0))
   still_fits h h' j (Ledger b) ne same fits = absurd (ne fits.0)
-
-  abbrev ledger_or : Chronicle → Content V → Chronicle
-  ledger_or d (Ledger b) = b
-  ledger_or d _ = d
-
-  abbrev first_ledger : Chronicle → List (ℕ × Content V) → Chronicle
-  first_ledger d [] = d
-  first_ledger d (x ∷ xs) = ledger_or d x.1
 
   commits : (slots id : ℕ) (v : View) (b : Chronicle) (z : Known) → v.out ≡ 18 → find_lock 17 v.seen.held ≡ Some z → 0 < v.seen.shares → b.input ≡ v.seen.input → b.limit ≡ v.seen.limit → Next v.seen.front b.history → Kept v.seen b.history → Placed v.seen b.history → Decided v.seen b.history → IsSound v.seen.input b.history
       → Allows (Agrees part suits m limit base) slots id (v, (17, Ledger b) ∷ []) 17 (λ _. 0) (λ _. committed (step slots 17 0 0 none) (v, (17, Ledger b) ∷ []) 0)
@@ -201,7 +193,7 @@ module _ {V : Type 0} (part : V → StatePart) (suits : Machine → ℕ → V �
           fronts = f.2;
           all_shares = shares_same s.views id v w at refl r.all_shares;
         },
-        λ b' is. ap (λ (q : Chronicle). (view_committed q.history v, [])) (ap (first_ledger b) is),
+        λ b' is. ap (λ (q : Chronicle). (view_committed q.history v, [])) (ap (λ (l : List (ℕ × Content V)). ledger_or b (content_or (Ledger b) l)) is),
       )
 
   pub commits_at : (slots id : ℕ) (me : Mine) (v : View) (b : Chronicle) (z : Known) → me ≡ (v, (17, Ledger b) ∷ []) → v.out ≡ 18 → find_lock 17 v.seen.held ≡ Some z → 0 < v.seen.shares → b.input ≡ v.seen.input → b.limit ≡ v.seen.limit → Next v.seen.front b.history

@@ -9,9 +9,9 @@ use Rattle.sched_model.specs.declared.event.Entry.{Entry}
 use Rattle.sched_model.specs.Runs.{action_of}
 use Rattle.journal_core.specs.Histories.{decides_at, decision_of}
 use Rattle.journal_core.proofs.Grows.{decides_at-append}
-use Rattle.lock_moves.specs.Sight.{Seen, raise}
+use Rattle.lock_moves.specs.SeatSight.{Seen, raise}
 use Rattle.lock_moves.specs.Plays.{Decided}
-use Rattle.lock_moves.specs.Deciding.{who_decides}
+use Rattle.lock_moves.specs.Decisions.{who_decides}
 
 -- one entry more
 pub one_more : (h : List Entry) (entry : Entry) (r : ℕ) → decides_at (h ++ entry ∷ []) r ≡ decides_at h r + decision_of entry.event r
@@ -32,20 +32,7 @@ raises_none r = ap (λ b. let z : ℕ = cond b 1 0 in z) (ne_eqb (suc r) 0 (λ e
 -- the event counts for the core r exactly where a view that names its decider raises r
 decision_raises : (e : Event) (r : ℕ) → decision_of e r ≡ raised_by r (who_decides (action_of e))
 decision_raises (event.Decide core unit due late reset) r = ap (λ b. let z : ℕ = cond b 1 0 in z) (sym (eqb_flip core.0 r))
-decision_raises (event.End next) r = sym (raises_none r)
-decision_raises event.Finish r = sym (raises_none r)
-decision_raises (event.Stall p until) r = sym (raises_none r)
-decision_raises (event.Xl k answer) r = sym (raises_none r)
-decision_raises (event.Moved c to) r = sym (raises_none r)
-decision_raises (event.DomMoved d to) r = sym (raises_none r)
-decision_raises (event.Wake v) r = sym (raises_none r)
-decision_raises (event.Block p v) r = sym (raises_none r)
-decision_raises (event.Slice c) r = sym (raises_none r)
-decision_raises (event.Repl u start deadline budget extra) r = sym (raises_none r)
-decision_raises (event.Refill d periods budget) r = sym (raises_none r)
-decision_raises (event.Arrive p) r = sym (raises_none r)
-decision_raises (event.Leave p v) r = sym (raises_none r)
-decision_raises (event.Save c u queued) r = sym (raises_none r)
+decision_raises e r = sym (raises_none r)
 
 pub decided_added : (v : Seen) (entry : Entry) → v.named ≡ who_decides (action_of entry.event) → Decided v (v.front ++ entry ∷ [])
 decided_added v entry named r low = one_more v.front entry r ∙ ap (λ (n : ℕ). decides_at v.front r + n) (decision_raises entry.event r ∙ ap (raised_by r) (sym named))

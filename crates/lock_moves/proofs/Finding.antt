@@ -12,7 +12,7 @@ use Rattle.sched_model.specs.declared.event.Entry.{Entry}
 use Rattle.sched_model.specs.declared.machine.Machine.{Machine}
 use Rattle.lock_moves.specs.declared.content.Content.{Content}
 use Rattle.lock_moves.specs.declared.content.Content.TheVariants.{Value, Ledger}
-use Rattle.lock_moves.specs.Sight.{Known, known_part, find_lock, locks_without, refreshed_locks, has_place}
+use Rattle.lock_moves.specs.SeatSight.{Known, known_part, find_lock, locks_without, refreshed_locks, has_place}
 
 -- a part lists the names whose home is its lock
 pub lists-part : (m : Machine) (h : List Entry) (k n : ℕ) → k < 17 → n < 128 → NamesStandOnce m h → lists (part_at m h k) n ≡ eqb (home_at m h n) k
@@ -133,7 +133,7 @@ listed-has f (suc m) n l = dite (ℕ_discrete n m)
     ])
 
 module _ {V : Type 0} where
-  abbrev content_or : Content V → List (ℕ × Content V) → Content V
+  abbrev pub content_or : Content V → List (ℕ × Content V) → Content V
   content_or d [] = d
   content_or d (x ∷ xs) = x.1
 
@@ -141,7 +141,7 @@ module _ {V : Type 0} where
   value_or d (Value y) = y
   value_or d _ = d
 
-  abbrev ledger_or : Chronicle → Content V → Chronicle
+  abbrev pub ledger_or : Chronicle → Content V → Chronicle
   ledger_or d (Ledger b) = b
   ledger_or d _ = d
 

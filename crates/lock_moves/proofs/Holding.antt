@@ -6,7 +6,7 @@ use Rattle.sched_model.specs.declared.event.Entry.{Entry}
 use Rattle.sched_model.specs.declared.machine.Machine.{Machine}
 use Rattle.journal_core.specs.Parts.{StatePart, lists}
 use Rattle.journal_core.specs.Histories.{part_at, home_at, now_at, decides_at, NamesStandOnce}
-use Rattle.lock_moves.specs.Sight.{Known, Seen, Sitting, known_part, find_lock, has_place, locks_without, Holds, HoldsBelow, IsCurrent, KnowsBelow, AllBelow, took_book, book_known, after_give, moved_name, committed_view, tried_again, raise}
+use Rattle.lock_moves.specs.SeatSight.{Known, Seen, Sitting, known_part, find_lock, has_place, locks_without, Holds, HoldsBelow, IsCurrent, KnowsBelow, AllBelow, took_book, book_known, after_give, moved_name, committed_view, tried_again, raise}
 use Rattle.lock_moves.specs.Plays.{Current, Kept, Placed, Decided}
 use Rattle.lock_moves.specs.Sets.{sitting_with, HasTaken, IsAsKnown, HasName}
 use Rattle.lock_moves.proofs.Finding.{some_same, never, find-tail, find-without-same, find-without-other, find-refreshed-is, find-refreshed-none}

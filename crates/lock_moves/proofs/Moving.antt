@@ -1,5 +1,6 @@
 -- A step of one seat, at one lock, keeps the parts of the rule.
-use Rattle.std.proofs.Common.{◌≡◌, ℕ, zero, suc, ◌+◌, ◌<◌, ◌≤◌, ◌≢◌, ◌⊎◌, inl, inr, true, eqb, List, [], ◌∷◌, length, get_or, set, Some, None, sym, refl, ap, ◌∙◌, subst, ⊎_elim, arith, lt_irrefl, le_of_eq}
+use Rattle.std.proofs.Common.{◌≡◌, ℕ, zero, suc, ◌+◌, ◌<◌, ◌≤◌, ◌≢◌, ◌⊎◌, true, eqb, List, [], ◌∷◌, length, get_or, set, Some, None, sym, refl, ap, ◌∙◌, subst, ⊎_elim, arith, lt_irrefl, le_of_eq}
+use Rattle.std.proofs.lemmas.Bool.{cases_eq}
 use mathlib.Core.Logic.{dite}
 use mathlib.Core.Option.{some, none, some-injective, some-ne-none}
 use mathlib.Core.Option as maybe
@@ -13,8 +14,8 @@ use Rattle.sched_model.specs.declared.event.Entry.{Entry}
 use Rattle.sched_model.specs.declared.machine.Machine.{Machine}
 use Rattle.lock_moves.specs.declared.content.Content.{Content}
 use Rattle.lock_moves.specs.declared.content.Content.TheVariants.{Value}
-use Rattle.lock_moves.specs.Sight.{Known, View, find_lock, Holds, has_place, Rising, raise}
-use Rattle.lock_moves.specs.Agrees.{shares_of, Fronts, Fits, Has, Locks, Names, Stages, Suited}
+use Rattle.lock_moves.specs.SeatSight.{Known, View, find_lock, Holds, has_place, Rising, raise}
+use Rattle.lock_moves.specs.Agreement.{shares_of, Fronts, Fits, Has, Locks, Names, Stages, Suited}
 use Rattle.lock_moves.proofs.Finding.{never, set_there, set_all, set_some}
 
 pub shares-set : (l : List View) (i : ℕ) (v w : View) → get_elem? l i ≡ some v → shares_of (set l i w) + v.seen.shares ≡ shares_of l + w.seen.shares
@@ -69,9 +70,6 @@ stages_step h words words' views id w s same shut mine = record {
   nobody = λ i u e f. (set_all (λ _ u. Stages_of h words u) views id w mine (λ j u _ e. stages_of h words views s j u e) i u e).1 f;
 }
 
-pub same_or : (j k : ℕ) → (j ≡ k) ⊎ (j ≢ k)
-same_or j k = dite (ℕ_discrete j k) (λ e. inl e) (λ ne. inr ne)
-
 -- a step that changes no lock but k, and not the moment
 pub suited_step : {V : Type 0} (suits : Machine → ℕ → V → Type 0) (m : Machine) (words words' : List ℕ) (homes homes' : List (maybe.Option (Content V))) (k : ℕ) → Suited suits m words homes
     → ((j : ℕ) → j ≢ k → (get_or words' j 0 ≡ get_or words j 0) × (get_elem? homes' j ≡ get_elem? homes j)) → get_or words' 146 0 ≡ get_or words 146 0
@@ -80,7 +78,7 @@ pub suited_step : {V : Type 0} (suits : Machine → ℕ → V → Type 0) (m : M
 suited_step {V} suits m words words' homes homes' k r others clock here = λ j y low z home. ⊎_elim
     (λ (is : j ≡ k). here y (subst (λ (q : ℕ). q < 17) is low) (ap (λ (q : ℕ). get_or words' q 0) (sym is) ∙ z) (ap (get_elem? homes') (sym is) ∙ home))
     (λ ne. let o = others j ne in subst (λ (t : ℕ). suits m t y) (sym clock) (r j y low (sym o.0 ∙ z) (sym o.1 ∙ home)))
-    (same_or j k)
+    (cases_eq j k)
 
 module _ {V : Type 0} (part : V → StatePart) (m : Machine) (h : List Entry) where
   abbrev Slots : Type 0
@@ -145,12 +143,12 @@ module _ {V : Type 0} (part : V → StatePart) (m : Machine) (h : List Entry) wh
         free = λ j y n low z home l. ⊎_elim
             (λ (is : j ≡ k). free y n (subst (λ (q : ℕ). q < 17) is low) (ap (λ (q : ℕ). get_or words' q 0) (sym is) ∙ z) (ap (get_elem? homes') (sym is) ∙ home) l ∙ (λ i. eqb (sym (word n l) i) (sym is i)))
             (λ ne. let o = others j ne in r.free j y n low (sym o.0 ∙ z) (sym o.1 ∙ home) l ∙ ap (λ (q : ℕ). eqb q j) (sym (word n l)))
-            (same_or j k);
+            (cases_eq j k);
         held = λ i u j x n e f l. set_all (λ _ u. (j : ℕ) (x : Known) (n : ℕ) → find_lock j u.seen.held ≡ Some x → n < 128 → has_place n x.names ≡ eqb (get_or words' (18 + n) 0) j) views id w
             (λ j x n f l. ⊎_elim
             (λ (is : j ≡ k). held x n (ap (λ (q : ℕ). find_lock q w.seen.held) (sym is) ∙ f) l ∙ (λ i. eqb (sym (word n l) i) (sym is i)))
             (λ ne. r.held id v j x n at (sym (others j ne).2 ∙ f) l ∙ ap (λ (q : ℕ). eqb q j) (sym (word n l)))
-            (same_or j k))
+            (cases_eq j k))
             (λ i u _ e j x n f l. r.held i u j x n e f l ∙ ap (λ (q : ℕ). eqb q j) (sym (word n l)))
             i u e j x n f l;
         moment = λ i u j x e f. set_all (λ _ u. (j : ℕ) (x : Known) → find_lock j u.seen.held ≡ Some x → u.seen.now ≡ get_or words' 146 0) views id w

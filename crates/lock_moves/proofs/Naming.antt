@@ -11,8 +11,8 @@ use Rattle.journal_core.specs.Histories.{decides_at, home_at}
 use Rattle.sched_model.specs.declared.event.Entry.{Entry}
 use Rattle.sched_model.specs.declared.machine.Machine.{Machine}
 use Rattle.lock_moves.specs.declared.content.Content.{Content}
-use Rattle.lock_moves.specs.Sight.{Known, View, known_part, find_lock, Holds, has_place, without_name, renamed_locks, raise, view_moved_name, view_with_now}
-use Rattle.lock_moves.specs.Agrees.{Has, Agrees}
+use Rattle.lock_moves.specs.SeatSight.{Known, View, known_part, find_lock, Holds, has_place, without_name, renamed_locks, raise, view_moved_name, view_with_now}
+use Rattle.lock_moves.specs.Agreement.{Has, Agrees}
 use Rattle.lock_moves.specs.Plays.{named, timed, looked}
 use Rattle.lock_moves.proofs.Finding.{find-tail, some_same, never, none_or, set_all, set_some}
 use Rattle.lock_moves.proofs.Moving.{fronts_same, shares_same, locks_step, stages_step, stages_of}

@@ -17,9 +17,9 @@ use Rattle.sched_model.specs.declared.machine.Machine.{Machine}
 use Rattle.lock_moves.proofs.Finding.{lists-part}
 use Rattle.lock_moves.specs.declared.content.Content.{Content}
 use Rattle.lock_moves.specs.declared.content.Content.TheVariants.{Value, Ledger}
-use Rattle.lock_moves.specs.Sight.{Known, View, find_lock, has_place, Rising, view_opening}
-use Rattle.lock_moves.specs.Opened.{AreParts, IsOpening}
-use Rattle.lock_moves.specs.Agrees.{Agrees}
+use Rattle.lock_moves.specs.SeatSight.{Known, View, find_lock, has_place, Rising, view_opening}
+use Rattle.lock_moves.specs.TableContent.{AreParts, IsOpening}
+use Rattle.lock_moves.specs.Agreement.{Agrees}
 use Rattle.lock_moves.proofs.Finding.{never}
 use Rattle.lock_moves.proofs.Prefix.{prefix_refl}
 use Rattle.lock_moves.proofs.Taking.{value_same}

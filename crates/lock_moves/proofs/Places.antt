@@ -1,8 +1,10 @@
 -- Lists of places: what stands in them, and that they rise.
 use Rattle.std.proofs.Common.{◌≡◌, ◌⊎◌, inl, inr, ℕ, zero, suc, ◌<◌, Bool, true, false, true≢false, cond, eqb, ◌||◌, List, [], ◌∷◌, ◌++◌, sym, refl, ap, ◌∙◌, ⊎_elim, eq-eqb, ne_eqb, arith}
+use Rattle.std.proofs.lemmas.Bool.{or_right, or_cases}
+use Rattle.sched_base.proofs.Bools.{or_more}
 use mathlib.Core.Logic.{dite}
 use native.Mathlib.Decide.{ℕ_discrete}
-use Rattle.lock_moves.specs.Sight.{has_place, AllAbove, Rising, both_places}
+use Rattle.lock_moves.specs.SeatSight.{has_place, AllAbove, Rising, both_places}
 
 pub place_there : (p : ℕ) (xs ys : List ℕ) → has_place p xs ≡ true → has_place p (xs ++ ys) ≡ true
 place_there p [] ys e = absurd (true≢false (sym e))
@@ -41,28 +43,12 @@ pub rising-snoc : (xs : List ℕ) (n : ℕ) → ((p : ℕ) → has_place p xs �
 rising-snoc [] n below rising = (tt, tt)
 rising-snoc (x ∷ xs) n below rising = (
   above-snoc x xs n rising.0 (below x (ap (λ b. b || has_place x xs) (eq-eqb x x refl))),
-  rising-snoc xs n (λ p is. below p (either_true (eqb p x) (has_place p xs) is)) rising.1,
+  rising-snoc xs n (λ p is. below p (or_right (eqb p x) (has_place p xs) is)) rising.1,
 )
-  where
-    either_true : (a b : Bool) → b ≡ true → (a || b) ≡ true
-    either_true true b is = refl
-    either_true false b is = is
 
-case : (P : Bool → Type 0) (b : Bool) → (b ≡ true → P true) → (b ≡ false → P false) → P b
+pub case : (P : Bool → Type 0) (b : Bool) → (b ≡ true → P true) → (b ≡ false → P false) → P b
 case P true is isnt = is refl
 case P false is isnt = isnt refl
-
-or_case : (a b : Bool) → (a || b) ≡ true → (a ≡ true) ⊎ (b ≡ true)
-or_case true b e = inl refl
-or_case false b e = inr e
-
-or_left : (a b : Bool) → a ≡ true → (a || b) ≡ true
-or_left true b e = refl
-or_left false b e = absurd (true≢false (sym e))
-
-or_right : (a b : Bool) → b ≡ true → (a || b) ≡ true
-or_right true b e = refl
-or_right false b e = e
 
 abbrev last_of : ℕ → Bool → List ℕ
 last_of n b = cond b (n ∷ []) []
@@ -80,7 +66,7 @@ both-below p xs ys (suc n) e = ⊎_elim (λ l. let t = both-below p xs ys n l in
 pub both-either : (p : ℕ) (xs ys : List ℕ) (n : ℕ) → has_place p (both_places xs ys n) ≡ true → (has_place p xs ≡ true) ⊎ (has_place p ys ≡ true)
 both-either p xs ys zero e = absurd (true≢false (sym e))
 both-either p xs ys (suc n) e = ⊎_elim (λ l. both-either p xs ys n l)
-    (λ r. let t = in_last p n (has_place n xs || has_place n ys) r in or_case (has_place p xs) (has_place p ys) (ap (λ (q : ℕ). has_place q xs || has_place q ys) t.0 ∙ t.1))
+    (λ r. let t = in_last p n (has_place n xs || has_place n ys) r in or_cases (has_place p xs) (has_place p ys) (ap (λ (q : ℕ). has_place q xs || has_place q ys) t.0 ∙ t.1))
     (place_either p (both_places xs ys n) (last_of n (has_place n xs || has_place n ys)) e)
 
 both-has : (p : ℕ) (xs ys : List ℕ) (n : ℕ) → p < n → (has_place p xs || has_place p ys) ≡ true → has_place p (both_places xs ys n) ≡ true
@@ -92,7 +78,7 @@ both-has p xs ys (suc n) low e = dite (ℕ_discrete p n)
 
 -- what stands in one of them stands in both
 pub both-left : (p : ℕ) (xs ys : List ℕ) (n : ℕ) → p < n → has_place p xs ≡ true → has_place p (both_places xs ys n) ≡ true
-both-left p xs ys n low e = both-has p xs ys n low (or_left (has_place p xs) (has_place p ys) e)
+both-left p xs ys n low e = both-has p xs ys n low (or_more (has_place p xs) (has_place p ys) e)
 
 pub both-right : (p : ℕ) (xs ys : List ℕ) (n : ℕ) → p < n → has_place p ys ≡ true → has_place p (both_places xs ys n) ≡ true
 both-right p xs ys n low e = both-has p xs ys n low (or_right (has_place p xs) (has_place p ys) e)

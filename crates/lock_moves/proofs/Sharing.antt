@@ -1,5 +1,5 @@
 -- A seat is split in two, and two seats are view_joined.
-use Rattle.std.proofs.Common.{◌≡◌, ℕ, zero, suc, ◌+◌, ◌<◌, ◌≤◌, ◌≢◌, Bool, true, false, true≢false, cond, eqb, leb, List, [], ◌∷◌, ◌++◌, length, set, Some, sym, refl, ap, ◌∙◌, subst, ⊎_elim, eq-eqb, ne_eqb, arith, lt_irrefl, le_of_lt, leb-true, leb-false}
+use Rattle.std.proofs.Common.{◌≡◌, ℕ, zero, suc, ◌+◌, ◌<◌, ◌≤◌, ◌≢◌, true, false, true≢false, cond, eqb, leb, List, [], ◌∷◌, ◌++◌, length, set, Some, sym, refl, ap, ◌∙◌, subst, ⊎_elim, eq-eqb, ne_eqb, arith, lt_irrefl, le_of_lt, leb-true, leb-false}
 use mathlib.Core.Logic.{dite}
 use mathlib.Core.Option.{some, some-injective, some-ne-none}
 use native.Mathlib.Decide.{ℕ_discrete}
@@ -10,12 +10,12 @@ use Rattle.atomic_table.proofs.Lists.{set_else, at_longer}
 use Rattle.journal_core.specs.Parts.{StatePart}
 use Rattle.sched_model.specs.declared.event.Entry.{Entry}
 use Rattle.sched_model.specs.declared.machine.Machine.{Machine}
-use Rattle.lock_moves.specs.Sight.{Known, View, find_lock, Holds, has_place, Rising, longer_history, view_lessened, view_newcomer, view_joined, spent_view}
-use Rattle.lock_moves.specs.Agrees.{shares_of, Has, Agrees}
+use Rattle.lock_moves.specs.SeatSight.{Known, View, find_lock, Holds, has_place, Rising, longer_history, view_lessened, view_newcomer, view_joined, spent_view}
+use Rattle.lock_moves.specs.Agreement.{shares_of, Has, Agrees}
 use Rattle.lock_moves.proofs.Finding.{never, set_there, set_all, set_some}
 use Rattle.lock_moves.proofs.Moving.{Begins, shares-set, fronts_same, has_moved, Names_of, names_of, names_none, names_viewed, Stages_of, stages_of, stages_viewed}
 use Rattle.lock_moves.proofs.Prefix.{prefix_length}
-use Rattle.lock_moves.proofs.Places.{both-rising, both-either, both-left, both-right}
+use Rattle.lock_moves.proofs.Places.{case, both-rising, both-either, both-left, both-right}
 
 module _ {A : Type 0} where
   snoc_all : (P : ℕ → A → Type 0) (l : List A) (a : A) → ((j : ℕ) (b : A) → get_elem? l j ≡ some b → P j b) → ((j : ℕ) → P j a) → (j : ℕ) (b : A) → get_elem? (l ++ a ∷ []) j ≡ some b → P j b
@@ -42,13 +42,9 @@ prefix_whole (x ∷ xs) (y ∷ ys) p l = let t = prefix_whole xs ys (p.0, ap tai
     tail [] = []
     tail (x ∷ xs) = xs
 
-bool_case : (P : Bool → Type 0) (b : Bool) → (b ≡ true → P true) → (b ≡ false → P false) → P b
-bool_case P true is isnt = is refl
-bool_case P false is isnt = isnt refl
-
 -- what is true of both is true of the longer
 pub longer_case : (P : List Entry → Type 0) (xs ys : List Entry) → (length ys ≤ length xs → P xs) → (length xs ≤ length ys → P ys) → P (longer_history xs ys)
-longer_case P xs ys left right = bool_case (λ b. P (cond b ys xs)) (leb (length xs) (length ys)) (λ e. right (leb-true (length xs) (length ys) e)) (λ e. left (le_of_lt (leb-false (length xs) (length ys) e)))
+longer_case P xs ys left right = case (λ b. P (cond b ys xs)) (leb (length xs) (length ys)) (λ e. right (leb-true (length xs) (length ys) e)) (λ e. left (le_of_lt (leb-false (length xs) (length ys) e)))
 
 abbrev passed : (ℕ → ℕ) → ℕ → ℕ → ℕ → ℕ
 passed keeper other id p = cond (eqb (keeper p) other) id (keeper p)

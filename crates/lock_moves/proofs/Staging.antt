@@ -10,12 +10,12 @@ use Rattle.journal_core.specs.Histories.{decides_at}
 use Rattle.sched_model.specs.declared.event.Entry.{Entry}
 use Rattle.sched_model.specs.declared.machine.Machine.{Machine}
 use Rattle.lock_moves.specs.declared.content.Content.{Content}
-use Rattle.lock_moves.specs.Sight.{Known, View, find_lock, Holds, raise, view_naming, view_has_loaded}
-use Rattle.lock_moves.specs.Agrees.{Agrees}
+use Rattle.lock_moves.specs.SeatSight.{Known, View, find_lock, Holds, raise, view_naming, view_has_loaded}
+use Rattle.lock_moves.specs.Agreement.{Agrees}
 use Rattle.lock_moves.specs.Plays.{Next, loaded, raised}
 use Rattle.lock_moves.proofs.Finding.{never, set_all}
 use Rattle.journal_core.proofs.Grows.{decides_at-few}
-use Rattle.lock_moves.proofs.Prefix.{length_one_more}
+use Rattle.std.proofs.lemmas.List.{length_push}
 use Rattle.lock_moves.proofs.Moving.{fronts_same, shares_same, locks_step, names_step}
 use Rattle.lock_moves.proofs.Taking.{unmoved}
 
@@ -23,7 +23,7 @@ use Rattle.lock_moves.proofs.Taking.{unmoved}
 pub stage_fits : (front h : List Entry) (r limit : ℕ) → Next front h → length h ≤ limit → limit ≤ 4000000 → decides_at front r + 1 < 2 ^ 64
 stage_fits front h r limit next fits few = let most = decides_at-few front r in ⊎_elim
     (λ (e : h ≡ front). let len = ap length e in omega (arith, most, len, fits, few))
-    (λ (e : (e : Entry) × (h ≡ front ++ e ∷ [])). let len = ap length e.1 ∙ length_one_more front e.0 in omega (arith, most, len, fits, few))
+    (λ (e : (e : Entry) × (h ≡ front ++ e ∷ [])). let len = ap length e.1 ∙ length_push front e.0 in omega (arith, most, len, fits, few))
     next
 
 module _ {V : Type 0} (part : V → StatePart) (suits : Machine → ℕ → V → Type 0) (m : Machine) (limit base : ℕ) where

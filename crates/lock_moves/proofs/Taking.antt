@@ -1,7 +1,8 @@
 -- Taking a lock, and its slot going home empty and coming out again.
 use Rattle.std.proofs.Common.{◌≡◌, ℕ, zero, suc, ◌+◌, ◌<◌, ◌≢◌, cond, eqb, List, [], ◌∷◌, get_or, set, Some, sym, refl, ap, ◌∙◌, subst, ⊎_elim, eq-eqb, ne_eqb, arith, length-set, get_or-set_same, get_or-set_other}
+use Rattle.std.proofs.lemmas.Bool.{cases_eq}
 use mathlib.Core.Logic.{dite}
-use mathlib.Core.Option.{some, none, some-injective, some-ne-none}
+use mathlib.Core.Option.{some, none}
 use mathlib.Core.Option as maybe
 use native.Mathlib.Decide.{ℕ_discrete}
 use mathlib.Core.List.{IsPrefix}
@@ -17,11 +18,11 @@ use Rattle.sched_model.specs.declared.machine.Machine.{Machine}
 use Rattle.lock_moves.proofs.Finding.{lists-part}
 use Rattle.lock_moves.specs.declared.content.Content.{Content}
 use Rattle.lock_moves.specs.declared.content.Content.TheVariants.{Out, Value, Ledger}
-use Rattle.lock_moves.specs.Sight.{Known, View, known_part as known, has_place, find_lock, Holds, AllBelow, locks_without, view_took, view_turned_away, with_out, view_gave}
-use Rattle.lock_moves.specs.Agrees.{Fits, Has, Agrees}
+use Rattle.lock_moves.specs.SeatSight.{Known, View, known_part as known, has_place, find_lock, Holds, AllBelow, locks_without, view_took, view_turned_away, with_out, view_gave}
+use Rattle.lock_moves.specs.Agreement.{Fits, Has, Agrees}
 use Rattle.lock_moves.specs.Plays.{Lists, IsPartOfSome, tried, settled, fetched, put_back}
 use Rattle.lock_moves.proofs.Finding.{find-head, find-tail, find-without-same, find-without-other, some_same, never, set_all, set_some, listed, listed-has}
-use Rattle.lock_moves.proofs.Moving.{suited_step, fronts_same, shares_same, has_moved, locks_step, names_step, same_or, stages_step, stages_of}
+use Rattle.lock_moves.proofs.Moving.{suited_step, fronts_same, shares_same, has_moved, locks_step, names_step, stages_step, stages_of}
 
 abbrev pub owned_by : (ℕ → ℕ) → ℕ → ℕ → ℕ → ℕ
 owned_by owner k id j = cond (eqb j k) id (owner j)
@@ -173,95 +174,57 @@ module _ {V : Type 0} (part : V → StatePart) (suits : Machine → ℕ → V �
         ((λ e. absurd (ne e)), λ _. refl),
       ))
 
-  -- the empty slot of a lock that the seat holds goes home
+  -- the slot of a lock that the seat holds is filled or emptied, and the lock's word stays
+  shifts : (s : St) (r : Agrees part suits m limit base s) (id : ℕ) (v : View) (k out : ℕ) (slot : maybe.Option (Content V)) → Holds k v.seen → 0 < v.seen.shares → get_elem? s.views id ≡ some v → ((j : ℕ) → j ≢ k → v.out ≢ suc j) → (out ≢ suc k → slot ≡ some Out)
+      → Agrees part suits m limit base (record { words = set s.words k (get_or s.words k 0); homes = set s.homes k slot; views = set s.views id (with_out out v) })
+  shifts s r id v k out slot holds left at others filled = let x : ℕ = get_or s.words k 0 in let w : View = with_out out v in let old = r.locks.held id v k holds.0 at holds.1 in
+      let here : get_or (set s.words k x) k 0 ≡ 1 = get_or-set_same s.words k x 0 (let wide = r.wide in omega (arith, wide, old.below)) ∙ old.shut in
+      record {
+        history = r.history;
+        owner = r.owner;
+        keeper = r.keeper;
+        latest = r.latest;
+        sound = r.sound;
+        wide = length-set s.words k x ∙ r.wide;
+        deep = length-set s.homes k slot ∙ r.deep;
+        suited = suited_step suits m s.words (set s.words k x) s.homes (set s.homes k slot) k r.suited (λ j ne. (get_or-set_other s.words k j x 0 ne, set_else s.homes k j slot ne)) (set_found s.words k 146) (λ y _ z _. absurd (omega (arith, here, z)));
+        locks = locks_step part m r.history limit s.words (set s.words k x) s.homes (set s.homes k slot) s.views r.owner r.owner k id v w r.locks at
+            (λ j ne. (get_or-set_other s.words k j x 0 ne, set_else s.homes k j slot ne, refl, refl, (λ _. refl), others j ne))
+            (λ j u z other e f. other (sym (r.locks.held j u k z e f).owned ∙ old.owned))
+            (λ _ z. absurd (omega (arith, here, z)))
+            (λ _ _. (old.owned, holds))
+            (λ z f. let known = r.locks.held id v k z at f in record {
+              below = known.below;
+              owned = known.owned;
+              shut = here;
+              agrees = known.agrees;
+              book = known.book;
+              slot = λ ne. set_here s.homes k slot (omega (arith, r.deep, old.below)) ∙ ap some (filled ne);
+            });
+        names = names_step part m r.history s.words (set s.words k x) s.homes (set s.homes k slot) s.views k id v w r.names at
+            (λ j ne. (set_found s.words k j, set_else s.homes k j slot ne, refl))
+            (λ j _ _. set_found s.words k j)
+            (λ _ _ _ z _ _. absurd (omega (arith, here, z)))
+            (λ z n f l. r.names.held id v k z n at f l)
+            (λ j z f. r.names.moment id v j z at f)
+            (λ z. sym (set_found s.words k 17) ∙ z)
+            (λ z j n f q l. r.names.moving id v z j n at f q l);
+        stages = stages_step r.history s.words (set s.words k x) s.views id w r.stages (λ q _. set_found s.words k (147 + q)) (λ z. sym (set_found s.words k 17) ∙ z) (stages_of r.history s.words s.views r.stages id v at);
+        fronts = fronts_same m limit base s.views r.history r.keeper r.latest id v w r.fronts at refl refl refl refl left left;
+        all_shares = shares_same s.views id v w at refl r.all_shares;
+      }
+
+  -- the empty slot goes home
   pub settles : (slots id : ℕ) (v : View) (k : ℕ) → v.out ≡ suc k → Holds k v.seen → 0 < v.seen.shares
       → Allows (Agrees part suits m limit base) slots id (v, (k, Out) ∷ []) k (λ n. n) (settled (step slots k 0 0 none) (v, (k, Out) ∷ []))
-  settles slots id v k away holds left s r deep at small = let x : ℕ = get_or s.words k 0 in let w : View = with_out 0 v in let old = r.locks.held id v k holds.0 at holds.1 in let wide = r.wide in
-      let here : get_or (set s.words k x) k 0 ≡ 1 = get_or-set_same s.words k x 0 (omega (arith, old.below)) ∙ old.shut in (
-        w,
-        gives,
-        tt,
-        record {
-          history = r.history;
-          owner = r.owner;
-          keeper = r.keeper;
-          latest = r.latest;
-          sound = r.sound;
-          wide = length-set s.words k x ∙ r.wide;
-          deep = length-set s.homes k (some Out) ∙ r.deep;
-          suited = suited_step suits m s.words (set s.words k x) s.homes (set s.homes k (some Out)) k r.suited (λ j ne. (get_or-set_other s.words k j x 0 ne, set_else s.homes k j (some Out) ne)) (set_found s.words k 146) (λ y _ z _. absurd (omega (arith, here, z)));
-          locks = locks_step part m r.history limit s.words (set s.words k x) s.homes (set s.homes k (some Out)) s.views r.owner r.owner k id v w r.locks at
-              (λ j ne. (get_or-set_other s.words k j x 0 ne, set_else s.homes k j (some Out) ne, refl, refl, (λ _. refl), λ e. ne (omega (arith, away, e))))
-              (λ j u z other e f. other (sym (r.locks.held j u k z e f).owned ∙ old.owned))
-              (λ _ z. absurd (omega (arith, here, z)))
-              (λ _ _. (old.owned, holds))
-              (λ z f. let known = r.locks.held id v k z at f in record {
-                below = known.below;
-                owned = known.owned;
-                shut = here;
-                agrees = known.agrees;
-                book = known.book;
-                slot = λ _. set_here s.homes k (some Out) (omega (arith, r.deep, old.below));
-              });
-          names = names_step part m r.history s.words (set s.words k x) s.homes (set s.homes k (some Out)) s.views k id v w r.names at
-              (λ j ne. (set_found s.words k j, set_else s.homes k j (some Out) ne, refl))
-              (λ j _ _. set_found s.words k j)
-              (λ _ _ _ z _ _. absurd (omega (arith, here, z)))
-              (λ z n f l. r.names.held id v k z n at f l)
-              (λ j z f. r.names.moment id v j z at f)
-              (λ z. sym (set_found s.words k 17) ∙ z)
-              (λ z j n f q l. r.names.moving id v z j n at f q l);
-          stages = stages_step r.history s.words (set s.words k x) s.views id w r.stages (λ q _. set_found s.words k (147 + q)) (λ z. sym (set_found s.words k 17) ∙ z) (stages_of r.history s.words s.views r.stages id v at);
-          fronts = fronts_same m limit base s.views r.history r.keeper r.latest id v w r.fronts at refl refl refl refl left left;
-          all_shares = shares_same s.views id v w at refl r.all_shares;
-        },
-        refl,
-      )
+  settles slots id v k away holds left s r deep at small = (with_out 0 v, gives, tt, shifts s r id v k 0 (some Out) holds left at (λ j ne e. ne (omega (arith, away, e))) (λ _. refl), refl)
 
   -- it comes out again
   pub fetches : (slots id : ℕ) (v : View) (k : ℕ) → v.out ≡ 0 → Holds k v.seen → 0 < v.seen.shares
       → Allows (Agrees part suits m limit base) slots id (v, []) k (λ n. n) (fetched (step slots k 0 0 none) (v, []))
-  fetches slots id v k rest holds left s r deep at small = let x : ℕ = get_or s.words k 0 in let w : View = with_out (suc k) v in let old = r.locks.held id v k holds.0 at holds.1 in let wide = r.wide in
-      let here : get_or (set s.words k x) k 0 ≡ 1 = get_or-set_same s.words k x 0 (omega (arith, old.below)) ∙ old.shut in (
-        w,
-        takes k Out,
-        old.slot (λ e. absurd (omega (arith, rest, e))),
-        record {
-          history = r.history;
-          owner = r.owner;
-          keeper = r.keeper;
-          latest = r.latest;
-          sound = r.sound;
-          wide = length-set s.words k x ∙ r.wide;
-          deep = length-set s.homes k none ∙ r.deep;
-          suited = suited_step suits m s.words (set s.words k x) s.homes (set s.homes k none) k r.suited (λ j ne. (get_or-set_other s.words k j x 0 ne, set_else s.homes k j none ne)) (set_found s.words k 146) (λ y _ z _. absurd (omega (arith, here, z)));
-          locks = locks_step part m r.history limit s.words (set s.words k x) s.homes (set s.homes k none) s.views r.owner r.owner k id v w r.locks at
-              (λ j ne. (get_or-set_other s.words k j x 0 ne, set_else s.homes k j none ne, refl, refl, (λ _. refl), λ e. absurd (omega (arith, rest, e))))
-              (λ j u z other e f. other (sym (r.locks.held j u k z e f).owned ∙ old.owned))
-              (λ _ z. absurd (omega (arith, here, z)))
-              (λ _ _. (old.owned, holds))
-              (λ z f. let known = r.locks.held id v k z at f in record {
-                below = known.below;
-                owned = known.owned;
-                shut = here;
-                agrees = known.agrees;
-                book = known.book;
-                slot = λ ne. absurd (ne refl);
-              });
-          names = names_step part m r.history s.words (set s.words k x) s.homes (set s.homes k none) s.views k id v w r.names at
-              (λ j ne. (set_found s.words k j, set_else s.homes k j none ne, refl))
-              (λ j _ _. set_found s.words k j)
-              (λ _ _ _ z _ _. absurd (omega (arith, here, z)))
-              (λ z n f l. r.names.held id v k z n at f l)
-              (λ j z f. r.names.moment id v j z at f)
-              (λ z. sym (set_found s.words k 17) ∙ z)
-              (λ z j n f q l. r.names.moving id v z j n at f q l);
-          stages = stages_step r.history s.words (set s.words k x) s.views id w r.stages (λ q _. set_found s.words k (147 + q)) (λ z. sym (set_found s.words k 17) ∙ z) (stages_of r.history s.words s.views r.stages id v at);
-          fronts = fronts_same m limit base s.views r.history r.keeper r.latest id v w r.fronts at refl refl refl refl left left;
-          all_shares = shares_same s.views id v w at refl r.all_shares;
-        },
-        refl,
-      )
+  fetches slots id v k rest holds left s r deep at small =
+      let old = r.locks.held id v k holds.0 at holds.1 in
+      (with_out (suc k) v, takes k Out, old.slot (λ e. absurd (omega (arith, rest, e))), shifts s r id v k (suc k) none holds left at (λ j ne e. absurd (omega (arith, rest, e))) (λ ne. absurd (ne refl)), refl)
 
   -- a value that is the part which the view has goes home, and the lock is free
   pub puts : (slots id : ℕ) (v : View) (k : ℕ) (y : V) (z : Known) → k < 17 → v.out ≡ suc k → find_lock k v.seen.held ≡ Some z → part y ≡ z.part → Lists z.part z.names → suits v.seen.input v.seen.now y → 0 < v.seen.shares
@@ -299,7 +262,7 @@ module _ {V : Type 0} (part : V → StatePart) (suits : Machine → ℕ → V �
               (λ x j n f q l. ⊎_elim
               (λ (e : j ≡ k). (λ i. eqb (get_or s.words (18 + n) 0) (e i)) ∙ (sym (r.names.held id v k z n at found l) ∙ (sym (same n l) ∙ (ap (λ (p : StatePart). lists p n) (old.agrees low) ∙ (lists-part m r.history k n low l r.sound.names ∙ (λ i. eqb (home_at m r.history n) (sym e i)))))))
               (λ ne. r.names.moving id v x j n at (still k 17 v.seen.held x f) (sym (find-without-other k j v.seen.held ne) ∙ q) l)
-              (same_or j k));
+              (cases_eq j k));
           stages = stages_step r.history s.words (set s.words k 0) s.views id w r.stages (λ q l. get_or-set_other s.words k (147 + q) 0 0 (λ e. absurd (omega (arith, e, low))))
               (λ e. sym (get_or-set_other s.words k 17 0 0 (λ e. absurd (omega (arith, e, low)))) ∙ e)
               ((λ x q f l. r.stages.raised id v x q at (still k 17 v.seen.held x f) l), λ f. r.stages.nobody id v at (sym (find-without-other k 17 v.seen.held (λ e. absurd (omega (arith, e, low)))) ∙ f));

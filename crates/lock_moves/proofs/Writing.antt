@@ -15,8 +15,8 @@ use Rattle.sched_model.specs.declared.event.Entry.{Entry}
 use Rattle.sched_model.specs.declared.machine.Machine.{Machine}
 use Rattle.lock_moves.specs.declared.content.Content.{Content}
 use Rattle.lock_moves.specs.declared.content.Content.TheVariants.{Out, Value, Ledger}
-use Rattle.lock_moves.specs.Sight.{Known, View, book_known, find_lock, AllBelow, has_place, view_took_book, view_turned_away, raise}
-use Rattle.lock_moves.specs.Agrees.{Fits, Agrees}
+use Rattle.lock_moves.specs.SeatSight.{Known, View, book_known, find_lock, AllBelow, has_place, view_took_book, view_turned_away, raise}
+use Rattle.lock_moves.specs.Agreement.{Fits, Agrees}
 use Rattle.lock_moves.specs.Plays.{Current, tried_book}
 use Rattle.lock_moves.proofs.Finding.{find-head, find-tail, some_same, none_or, set_all}
 use Rattle.lock_moves.proofs.Moving.{suited_step, fronts_grown, shares_same, locks_step, names_step}

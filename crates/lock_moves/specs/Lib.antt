@@ -1,10 +1,10 @@
 pub mod Words
 pub mod NameSets
-pub mod Sight
+pub mod SeatSight
 pub mod Rests
-pub mod Agrees
+pub mod Agreement
 pub mod Plays
 pub mod Sets
-pub mod Opened
-pub mod Lent
-pub mod Deciding
+pub mod TableContent
+pub mod Loans
+pub mod Decisions

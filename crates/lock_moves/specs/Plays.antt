@@ -9,7 +9,7 @@ use Rattle.journal_core.specs.Histories.{part_at, home_at, now_at, decides_at, I
 use Rattle.journal_core.specs.Books.{Chronicle}
 use Rattle.lock_moves.specs.declared.content.Content.{Content}
 use Rattle.lock_moves.specs.declared.content.Content.TheVariants.{Out, Value, Ledger}
-use Rattle.lock_moves.specs.Sight.{Known, Seen, View, find_lock, has_place, view_took, view_took_book, view_turned_away, with_out, view_gave, view_committed, view_moved_name, view_with_now, raise, view_naming, view_has_loaded}
+use Rattle.lock_moves.specs.SeatSight.{Known, Seen, View, find_lock, has_place, view_took, view_took_book, view_turned_away, with_out, view_gave, view_committed, view_moved_name, view_with_now, raise, view_naming, view_has_loaded}
 use Rattle.lock_moves.specs.Words.{name_word, moment_word, stage_word}
 
 -- the parts, the names and the moment that the view knows are those of the state to which its front leads

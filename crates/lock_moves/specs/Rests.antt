@@ -1,7 +1,7 @@
 -- How a seat is read between two calls.
 use Rattle.std.specs.Prelude.{◌≡◌, ◌<◌, List, [], ◌∷◌}
 use Rattle.atomic_table.specs.declared.badge.Badge.{Badge}
-use Rattle.lock_moves.specs.Sight.{View, Sitting, spent_view}
+use Rattle.lock_moves.specs.SeatSight.{View, Sitting, spent_view}
 
 -- what the table keeps of the seat
 abbrev pub first_of_views : List View → View

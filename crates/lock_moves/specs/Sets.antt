@@ -3,7 +3,7 @@ use Rattle.std.specs.Prelude.{◌≡◌, ℕ, List, true, Some}
 use Rattle.atomic_table.specs.Seated.{TableId}
 use Rattle.journal_core.specs.Parts.{StatePart}
 use Rattle.journal_core.specs.Books.{Chronicle}
-use Rattle.lock_moves.specs.Sight.{Known, Seen, Sitting, find_lock, has_place, after_take}
+use Rattle.lock_moves.specs.SeatSight.{Known, Seen, Sitting, find_lock, has_place, after_take}
 use Rattle.lock_moves.specs.Plays.{Lists}
 
 -- a set: its table, and the book that it was opened with

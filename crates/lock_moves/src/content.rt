@@ -3,7 +3,7 @@
 ghost use Rattle.std.specs.Prelude.{◌≡◌, ◌<◌, ◌+◌};
 ghost use Rattle.std.specs.Borrow.{sem};
 ghost use Rattle.lock_moves.specs.Words.{name_number, word_index};
-ghost use Rattle.lock_moves.specs.Lent.{held_lends, held_book_lends};
+ghost use Rattle.lock_moves.specs.Loans.{held_lends, held_book_lends};
 
 use crate::names::Names;
 use journal_core::Book;

@@ -6,8 +6,8 @@ ghost use Rattle.sched_model.specs.declared.event.Entry.{Entry};
 ghost use Rattle.sched_model.specs.Runs.{action_of};
 ghost use Rattle.journal_core.specs.Histories.{decides_at, decision_of};
 ghost use Rattle.lock_moves.specs.Plays.{Decided};
-ghost use Rattle.lock_moves.specs.Sight.{Seen};
-ghost use Rattle.lock_moves.specs.Deciding.{who_decides};
+ghost use Rattle.lock_moves.specs.SeatSight.{Seen};
+ghost use Rattle.lock_moves.specs.Decisions.{who_decides};
 
 /// One entry more: each core has as many decisions as before, and one more exactly where the event is a decision of this core.
 pub fn law_decisions()

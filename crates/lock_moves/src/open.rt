@@ -4,9 +4,9 @@ ghost use Rattle.std.specs.Prelude.{◌≡◌, true, false, ℕ, ◌+◌, ◌<�
 ghost use Rattle.std.specs.Slots.{slots_items, slots_filled, slots_len};
 ghost use Rattle.journal_core.specs.Histories.{home_at, NamesStandOnce};
 ghost use Rattle.lock_moves.specs.declared.content.Content.TheVariants.{Value, Ledger};
-ghost use Rattle.lock_moves.specs.Sight.{opening_view, has_place};
+ghost use Rattle.lock_moves.specs.SeatSight.{opening_view, has_place};
 ghost use Rattle.lock_moves.specs.Words.{lock_count};
-ghost use Rattle.lock_moves.specs.Opened.{AreParts, IsOpening, HaveParts, HaveValues, HasFirst, AreFirst};
+ghost use Rattle.lock_moves.specs.TableContent.{AreParts, IsOpening, HaveParts, HaveValues, HasFirst, AreFirst};
 
 use crate::content::{Content, LOCKS, NOW, Part, STAGES, WORDS};
 use crate::seat::LockSeat;

@@ -9,10 +9,11 @@ pub(crate) struct Agreement;
 
 impl<V: Part> TableRule<Content<V>, View, Snapshot<Book>> for Agreement {
     ghost use Rattle.std.specs.Prelude.{length};
-    ghost use Rattle.lock_moves.specs.Agrees.{Agrees};
-    ghost use Rattle.lock_moves.specs.Sight.{view_opening};
+    ghost use Rattle.lock_moves.specs.Agreement.{Agrees};
+    ghost use Rattle.lock_moves.specs.SeatSight.{view_opening};
 
-    ghost holds = { λ key. Agrees V.part V.suits key.value.input key.value.limit (length key.value.history) };
+    ghost holds = { λ key. Agrees V.part V.suits key.value.input key.value.limit
+        (length key.value.history) };
 
     ghost first = { λ key. view_opening key.value };
 }
@@ -108,7 +109,7 @@ impl<V> Play<Content<V>, View> for Raise {
 pub(crate) struct Cut;
 
 impl Split<View> for Cut {
-    ghost use Rattle.lock_moves.specs.Sight.{view_lessened, view_newcomer};
+    ghost use Rattle.lock_moves.specs.SeatSight.{view_lessened, view_newcomer};
 
     ghost left = { view_lessened };
 
@@ -118,7 +119,7 @@ impl Split<View> for Cut {
 pub(crate) struct Glue;
 
 impl Join<View> for Glue {
-    ghost use Rattle.lock_moves.specs.Sight.{view_joined, spent_view};
+    ghost use Rattle.lock_moves.specs.SeatSight.{view_joined, spent_view};
 
     ghost both = { view_joined };
 

@@ -18,7 +18,7 @@ pub struct LockSeat {
 }
 
 impl Model for LockSeat {
-    ghost use Rattle.lock_moves.specs.Sight.{Sitting};
+    ghost use Rattle.lock_moves.specs.SeatSight.{Sitting};
 
     ghost Value = { Sitting };
 

@@ -6,7 +6,7 @@ ghost use Rattle.sched_model.specs.declared.event.Entry.{Entry};
 ghost use Rattle.sched_model.specs.Runs.{IsRun};
 ghost use Rattle.journal_core.specs.Parts.{lists};
 ghost use Rattle.journal_core.specs.Histories.{decides_at, NamesStandOnce};
-ghost use Rattle.lock_moves.specs.Sight.{Known, find_lock, Holds, AllBelow, took_book, turned_away, after_give, committed_view, after_sharing, newcomer, after_join, moved_name, with_now, tried_again, after_search, after_naming, has_loaded};
+ghost use Rattle.lock_moves.specs.SeatSight.{Known, find_lock, Holds, AllBelow, took_book, turned_away, after_give, committed_view, after_sharing, newcomer, after_join, moved_name, with_now, tried_again, after_search, after_naming, has_loaded};
 ghost use Rattle.lock_moves.specs.Plays.{Current, IsPartOfSome, Next, Kept, Placed, Decided, Tells};
 ghost use Rattle.lock_moves.specs.Sets.{sitting_with, HasTaken, IsAsKnown, HasName};
 ghost use Rattle.lock_moves.specs.Words.{name_number, has_name, has_core, has_word, lock_count, word_index};
@@ -38,12 +38,16 @@ impl<V: Part> Model for LockSet<V> {
 
     ghost Value = { LockTable };
 
-    ghost view = { λ s. record { table = s.table.shared.table_id; opened = s.table.shared.key.value } };
+    ghost view = { λ s. record {
+      table = s.table.shared.table_id;
+      opened = s.table.shared.key.value;
+    } };
 
     ghost use Rattle.std.specs.Prelude.{◌≡◌};
     ghost use Rattle.lock_moves.specs.Words.{lock_count, word_count};
 
-    ghost invariant = { λ s. (s.table.shared.table_id.words ≡ word_count) × (s.table.shared.table_id.slots ≡ lock_count) };
+    ghost invariant = { λ s. (s.table.shared.table_id.words ≡ word_count)
+        × (s.table.shared.table_id.slots ≡ lock_count) };
 }
 
 impl<V: Part> LockSet<V> {
@@ -52,7 +56,8 @@ impl<V: Part> LockSet<V> {
         requires set { seat.old.table ≡ self.now.table }
         requires number { lock.0 < 17 }
         requires order { AllBelow lock.0 seat.old.view.held }
-        ensures { MatchOption result (seat.new ≡ sitting_with seat.old (turned_away lock.0 seat.old.view))
+        ensures { MatchOption result
+            (seat.new ≡ sitting_with seat.old (turned_away lock.0 seat.old.view))
             (λ h. (h.lock ≡ lock.0) × HasTaken lock.0 (V.part h.value) seat.old.view seat.old
             seat.new × V.suits seat.old.view.input seat.new.view.now h.value
             × ((j : ℕ) (x : Known) → find_lock j seat.old.view.held ≡ Some x → seat.new.view.now
@@ -102,8 +107,10 @@ impl<V: Part> LockSet<V> {
     fn try_book(&self, seat: &mut LockSeat) -> Option<HeldBook>
         requires set { seat.old.table ≡ self.now.table }
         requires order { AllBelow 17 seat.old.view.held }
-        ensures { MatchOption result (seat.new ≡ sitting_with seat.old (turned_away 17 seat.old.view))
-            (λ b. ((now : ℕ) × (seat.new ≡ sitting_with seat.old (took_book b.history now seat.old.view)))
+        ensures { MatchOption result
+            (seat.new ≡ sitting_with seat.old (turned_away 17 seat.old.view))
+            (λ b. ((now : ℕ)
+            × (seat.new ≡ sitting_with seat.old (took_book b.history now seat.old.view)))
             × (b.input ≡ seat.old.view.input) × (b.limit ≡ seat.old.view.limit)
             × IsPrefix seat.old.view.front b.history × Current seat.new.view
             × ((k : ℕ) (x : Known) → find_lock k seat.old.view.held ≡ Some x → seat.new.view.now
@@ -221,7 +228,8 @@ impl<V: Part> LockSet<V> {
         requires from { HasName from.0 (name_number name) seat.old.view }
         requires number { to.0 < 17 }
         requires to { Holds to.0 seat.old.view }
-        ensures { seat.new ≡ sitting_with seat.old (moved_name (name_number name) to.0 seat.old.view) }
+        ensures { seat.new
+            ≡ sitting_with seat.old (moved_name (name_number name) to.0 seat.old.view) }
     {
         let mut me = seated::<V>(&mut seat.badge);
         self.table
@@ -293,7 +301,8 @@ impl<V: Part> LockSet<V> {
         requires name { has_name seat.old.view.input name ≡ true }
         requires nothing { seat.old.view.held ≡ [] }
         ensures taken { (refused : List ℕ) × (t : ℕ)
-            × HasTaken result.lock (V.part result.value) (after_search refused t seat.old.view) seat.old
+            × HasTaken result.lock (V.part result.value)
+            (after_search refused t seat.old.view) seat.old
             seat.new }
         ensures suits { V.suits seat.old.view.input seat.new.view.now result.value }
         ensures number { result.lock < 17 }

@@ -6,7 +6,7 @@ use std::marker::Model;
 pub struct View;
 
 impl Model for View {
-    ghost use Rattle.lock_moves.specs.Sight.{View, spent_view};
+    ghost use Rattle.lock_moves.specs.SeatSight.{View, spent_view};
 
     ghost Value = { View };
 

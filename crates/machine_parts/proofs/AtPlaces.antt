@@ -17,7 +17,7 @@ use Rattle.sched_model.specs.Machine.{enabled_at_home}
 use Rattle.sched_model.specs.Places.{at_place, test_at}
 use Rattle.sched_model.specs.Pool.{enabled_in}
 use Rattle.sched_laws.proofs.EachPlace.{found_at, place_below}
-use Rattle.pool_laws.specs.Ready.{ready_in}
+use Rattle.pool_laws.specs.ReadyMoments.{ready_in}
 use Rattle.cpupool.specs.Tool.{Tool}
 use Rattle.actor_laws.specs.Next.{leaves_at}
 use Rattle.pool_core.specs.Seen.{Seen}

@@ -1,28 +1,26 @@
 -- The move of what is on its way, told by the tool and by the pool that it leaves.
 use Rattle.std.proofs.Common.{◌≡◌, ◌≤◌, ℕ, Bool, true, false, List, refl, sym, ap, subst, arith, ◌∙◌, cond}
 use Rattle.std.specs.Prelude.{Option, Some, None, option_map, is_some, ◌||◌}
-use Rattle.sched_base.specs.Numbers.{core as core_number, domain as domain_number, pool as pool_number}
-use Rattle.sched_base.specs.declared.DomId.{DomId}
+use Rattle.sched_base.specs.Numbers.{core as core_number, pool as pool_number}
 use Rattle.sched_base.specs.declared.PoolId.{PoolId}
 use Rattle.sched_base.specs.declared.ResId.{ResId}
 use Rattle.sched_model.specs.declared.action.Action.TheVariants.{Moved}
-use Rattle.sched_model.specs.declared.config.SchedKind.{SchedKind}
 use Rattle.sched_model.specs.declared.event.Entry.{Entry}
 use Rattle.sched_model.specs.declared.machine.Machine.{Machine}
 use Rattle.sched_model.specs.declared.state.FreeCore.{FreeCore}
 use Rattle.sched_model.specs.declared.state.State.{State}
 use Rattle.sched_model.specs.Actions.{home_of_core}
-use Rattle.sched_model.specs.Checked.{IsChecked}
+use Rattle.sched_model.specs.CheckedMachine.{IsChecked}
 use Rattle.sched_model.specs.Machine.{is_enabled, enabled_at_home, free_ready}
 use Rattle.sched_model.specs.Places.{at_place, test_at}
 use Rattle.sched_model.specs.Runs.{IsRun}
 use Rattle.sched_laws.specs.StateLaws.{state_after}
-use Rattle.sched_laws.proofs.Bools.{and_left}
+use Rattle.sched_base.proofs.Bools.{and_left}
 use Rattle.sched_laws.proofs.Lists.{some-test_at}
 use Rattle.sched_laws.proofs.PoolsLaw.{pools_keep_their_own}
 use Rattle.journal_core.specs.Parts.{ToolPart, UnderWay, core_to, domain_to, under_way_of}
 use Rattle.cpupool.specs.declared.moves.Move.TheVariants as move
-use Rattle.cpupool.specs.Coming.{joins_at, may_join}
+use Rattle.cpupool.specs.ToolActions.{joins_at, may_join}
 use Rattle.cpupool.specs.Steps.{move_of}
 use Rattle.cpupool.proofs.ArrivedLemmas.{core_joins}
 use Rattle.move_laws.proofs.Counted.{in_all, in_all_is}
@@ -47,11 +45,6 @@ core-way part (Some (core_to k t)) r to is =
     back None = refl
     back (Some i) = refl
 core-way part (Some (domain_to d i)) r to is = absurd (cc)
-
-pub domain-way : (part : ToolPart) (o : Option UnderWay) (d : DomId) (to : PoolId) (kind : SchedKind) → option_map (move_of part) o ≡ Some (move.Dom d to kind) → o ≡ Some (domain_to d.0 to.0)
-domain-way part None d to kind is = absurd (cc)
-domain-way part (Some (core_to k t)) d to kind is = absurd (cc)
-domain-way part (Some (domain_to k i)) d to kind is = (let first : domain_number k ≡ d = cc in let second : pool_number i ≡ to = cc in ap (λ (x : DomId). Some (domain_to x.0 i)) first ∙ ap (λ (x : PoolId). Some (domain_to d.0 x.0)) second)
 
 module _ (m : Machine) (checked : IsChecked m) (entries : List Entry) (run : IsRun m entries) (t : ℕ) where
   abbrev s : State

@@ -6,9 +6,10 @@ use Rattle.std.proofs.lemmas.List.{take_rest}
 use Rattle.std.proofs.Math.Seq.{drop-cons}
 use Rattle.sched_model.specs.declared.action.Action.{Action}
 use Rattle.sched_model.specs.Places.{at_place}
-use Rattle.pool_laws.specs.Order.{IsNotAfter, kind_place, subject_place}
+use Rattle.pool_laws.specs.Order.{IsNotAfter}
 use Rattle.pool_laws.proofs.ActionOrder.{not_after_itself}
 use Rattle.actor_laws.specs.First.{ComesEarliest, IsEarliest}
+use Rattle.actor_laws.proofs.Whole.{not_after_both}
 use Rattle.machine_parts.specs.Ranks.{IsSmall, rank_of, earlier_action}
 
 -- a list that is not empty is its first and the rest
@@ -30,25 +31,6 @@ lower a b small other le =
     let r = other.0 in
     let j = other.1 in
     record { by_kind = omega (arith, s, i, r, j, le); then_by_subject = λ k. omega (arith, s, i, r, j, le, k); then_by_index = λ k e. omega (arith, s, i, r, j, le, k, e) }
-
-not_after_through : (a b c : Action) → IsNotAfter a b → IsNotAfter b c → IsNotAfter a c
-not_after_through a b c f g =
-    let kf = f.by_kind in
-    let kg = g.by_kind in
-    record {
-      by_kind = omega (arith, kf, kg);
-      then_by_subject = λ k. (let ab : kind_place a ≡ kind_place b = omega (arith, kf, kg, k) in let bc : kind_place b ≡ kind_place c = omega (arith, kf, kg, k) in let x = f.then_by_subject ab in let y = g.then_by_subject bc in omega (arith, x, y));
-      then_by_index = λ k s.
-          let ab : kind_place a ≡ kind_place b = omega (arith, kf, kg, k) in
-          let bc : kind_place b ≡ kind_place c = omega (arith, kf, kg, k) in
-          let x = f.then_by_subject ab in
-          let y = g.then_by_subject bc in
-          let sab : subject_place a ≡ subject_place b = omega (arith, x, y, s) in
-          let sbc : subject_place b ≡ subject_place c = omega (arith, x, y, s) in
-          let u = f.then_by_index ab sab in
-          let v = g.then_by_index bc sbc in
-          omega (arith, u, v);
-    }
 
 pub nothing_more : (firsts : List (Option Action)) (found : Option Action) → IsEarliest firsts found → IsEarliest (None ∷ firsts) found
 nothing_more firsts None all = λ i. elim i as (λ (k : ℕ). at_place (None ∷ firsts) k ≡ None) [ zero ↦ refl | suc k ↦ all k ]
@@ -83,5 +65,5 @@ one_more (Some a) firsts (Some b) small others found = by_rank (nat_le (rank_of 
     low = others b refl
 
     by_rank : (le : Bool) → nat_le (rank_of a) (rank_of b) ≡ le → IsEarliest (Some a ∷ firsts) (cond le (Some a) (Some b))
-    by_rank true is = comes_first a firsts (λ i other at. not_after_through a b other (lower a b (small a refl) low (grind (arith, is))) (found.first i other at))
+    by_rank true is = comes_first a firsts (λ i other at. not_after_both a b other (lower a b (small a refl) low (grind (arith, is))) (found.first i other at))
     by_rank false is = goes_before a b firsts (lower b a low (small a refl) (grind (arith, is))) found

@@ -21,7 +21,7 @@ use Rattle.pool_slots.specs.Places.{AllStand, SlotSuits, StandsAt, state_of}
 use Rattle.pool_slots.proofs.Going.{part_of-is, state_of-is}
 use Rattle.pool_slots.proofs.Rooming.{some-out}
 use Rattle.pool_slots.proofs.Standing.{part_below, pool_at, slot_part-is}
-use Rattle.parts_opening.specs.Opened.{IsOpened}
+use Rattle.parts_opening.specs.OpeningPool.{IsOpened}
 
 abbrev pub machine_of : Config → Work → Machine
 machine_of config work = record { config = config; work = work }
@@ -60,9 +60,6 @@ some_stands config work i seen low is =
 pub record AreFirst (config : Config) (n : ℕ) (slots : List (Option Seen)) : Type 0 where
   pub count : length slots ≡ n
   pub each : (work : Work) (k : ℕ) → k < n → StandsAt (told_new config work) k (at_place slots k)
-
-pub no_places : (config : Config) (slots : List (Option Seen)) → slots ≡ [] → AreFirst config 0 slots
-no_places config slots none = record { count = ap (λ (xs : List (Option Seen)). length xs) none; each = λ work k low. absurd (omega (arith, low)) }
 
 pub place_more : (config : Config) (n : ℕ) (slots : List (Option Seen)) (slot : Option Seen) → AreFirst config n slots → ((work : Work) → StandsAt (told_new config work) n slot) → AreFirst config (n + 1) (slots ++ slot ∷ [])
 place_more config n slots slot first stands = record {

@@ -10,20 +10,20 @@ use Rattle.sched_model.specs.declared.config.SchedKind.TheVariants as kinds
 use Rattle.sched_model.specs.declared.machine.Machine.{Machine}
 use Rattle.sched_model.specs.declared.state.Domain.{Domain}
 use Rattle.sched_model.specs.declared.state.Resource.{Resource}
-use Rattle.sched_model.specs.Checked.{IsChecked}
+use Rattle.sched_model.specs.CheckedMachine.{IsChecked}
 use Rattle.sched_model.specs.Opening.{core_count, opening}
 use Rattle.sched_model.specs.Places.{at_place}
 use Rattle.sched_model.specs.Policy.{default_pool_params, fresh_records}
 use Rattle.sched_laws.proofs.EachPlace.{EachPlace-empty, is_empty}
+use Rattle.sched_laws.proofs.Records.{kind_default}
 use Rattle.journal_core.specs.Parts.{tool_of}
 use Rattle.pool_core.specs.Seen.{Seen}
-use Rattle.pool_opening.proofs.Restart.{kind_default}
 use Rattle.pool_slots.specs.declared.counts.KindCounts.{KindCounts}
 use Rattle.pool_slots.specs.Counts.{AreSpares, HasSpares, configured_of, most_at_once}
 use Rattle.pool_slots.specs.Kinds.{count_of}
 use Rattle.pool_slots.specs.Spares.{HasCorePlaces, IsIdle, IsSpare, Shelf, Shelves, shelf_of, shelf_with, shelves_with}
 use Rattle.pool_slots.proofs.Keeping.{IsOther, shelf-filled}
-use Rattle.parts_opening.specs.Filled.{CanFill, filled_shelves, filled_for, filled_up, spare_seen}
+use Rattle.parts_opening.specs.OpeningShelves.{CanFill, filled_shelves, filled_for, filled_up, spare_seen}
 use Rattle.parts_opening.proofs.Tallying.{few_configured, in_use_new}
 
 -- a pool that is not in use is one that a command of the machine may make

@@ -10,7 +10,7 @@ use Rattle.sched_model.specs.declared.config.PoolConfig.{PoolConfig}
 use Rattle.sched_model.specs.declared.config.SchedKind.{SchedKind}
 use Rattle.sched_model.specs.declared.machine.Machine.{Machine}
 use Rattle.sched_model.specs.declared.state.Pool.{Pool}
-use Rattle.sched_model.specs.Checked.{IsChecked, IsCheckedConfig}
+use Rattle.sched_model.specs.CheckedMachine.{IsChecked, IsCheckedConfig}
 use Rattle.sched_model.specs.Commands.{is_kind}
 use Rattle.sched_model.specs.Opening.{core_count, opening, opening_pool, opening_pools, most_pools, with_configured, with_domains}
 use Rattle.sched_model.specs.Policy.{kind_of}

@@ -1,2 +1,2 @@
-pub mod Opened
-pub mod Filled
+pub mod OpeningPool
+pub mod OpeningShelves

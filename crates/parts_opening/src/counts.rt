@@ -2,7 +2,7 @@
 
 ghost use Rattle.std.specs.Prelude.{◌≡◌, ◌≤◌, length};
 ghost use Rattle.sched_model.specs.declared.config.SchedKind.{SchedKind as Kind};
-ghost use Rattle.sched_model.specs.Checked.{IsChecked};
+ghost use Rattle.sched_model.specs.CheckedMachine.{IsChecked};
 ghost use Rattle.sched_model.specs.Commands.{is_kind as is_kind_spec};
 ghost use Rattle.pool_slots.specs.Counts.{configured_of, made_by, makes_at, most_at_once};
 ghost use Rattle.pool_slots.specs.Kinds.{count_of};

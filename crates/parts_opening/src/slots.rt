@@ -2,11 +2,11 @@
 
 ghost use Rattle.std.specs.Prelude.{◌≡◌, ◌<◌, Some, IfOk, slice_get};
 ghost use Rattle.sched_model.specs.declared.work.Work.{Work};
-ghost use Rattle.sched_model.specs.Checked.{IsCheckedConfig};
-ghost use Rattle.pool_opening.specs.Opened.{kinds_of};
+ghost use Rattle.sched_model.specs.CheckedMachine.{IsCheckedConfig};
+ghost use Rattle.pool_opening.specs.OpeningPool.{kinds_of};
 ghost use Rattle.pool_slots.specs.Told.{told_new};
 ghost use Rattle.pool_slots.specs.Places.{AllStand, StandsAt};
-ghost use Rattle.parts_opening.specs.Opened.{IsOpened};
+ghost use Rattle.parts_opening.specs.OpeningPool.{IsOpened};
 
 use any_policy::AnyPolicy;
 use pool_opening::opened;

@@ -2,13 +2,13 @@
 
 ghost use Rattle.std.specs.Prelude.{◌≡◌, ◌≤◌, ◌+◌, ◌-◌, [], IfOk, OnOk, length};
 ghost use Rattle.sched_model.specs.declared.config.SchedKind.{SchedKind as Kind};
-ghost use Rattle.sched_model.specs.Checked.{IsChecked, IsCheckedConfig};
+ghost use Rattle.sched_model.specs.CheckedMachine.{IsChecked, IsCheckedConfig};
 ghost use Rattle.sched_model.specs.Opening.{opening};
 ghost use Rattle.journal_core.specs.Parts.{tool_of};
 ghost use Rattle.pool_slots.specs.Counts.{AreSpares, configured_of};
 ghost use Rattle.pool_slots.specs.Kinds.{count_of};
 ghost use Rattle.pool_slots.specs.Spares.{shelf_of};
-ghost use Rattle.parts_opening.specs.Filled.{CanFill, filled_shelves, filled_for, filled_up, spare_seen};
+ghost use Rattle.parts_opening.specs.OpeningShelves.{CanFill, filled_shelves, filled_for, filled_up, spare_seen};
 
 use crate::counts::{configured, most_of_each};
 use any_policy::AnyPolicy;

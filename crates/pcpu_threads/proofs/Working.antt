@@ -24,7 +24,8 @@ use Rattle.hall.specs.declared.turns.Waits.{Waits}
 use Rattle.hall.specs.declared.turns.Waits.TheVariants as waits
 use Rattle.hall.specs.Seats.{Seated, Stays}
 use Rattle.hall.specs.Turns.{ActsFull, HasActed, HasNothing, IsDone, IsWaiting, Looked}
-use Rattle.pcpu_threads.specs.Workers.{ActsAs, HasWorked, IsEventOf, IsFirstOfCore, IsFor, Rested, SeesSame, Works, entry_of}
+use Rattle.pcpu_threads.specs.Workers.{ActsAs, HasWorked, IsEventOf, IsFirstOfCore, IsFor, Rested, SeesSame, Works}
+use Rattle.sched_model.specs.Runs.{entry_of}
 use Rattle.pcpu_threads.proofs.Turning.{prefix_trans, stays_refl, stays_trans}
 
 -- one of the actors has the entry at the place
@@ -120,12 +121,6 @@ module _ (actor : Actor) (old new : Seated) (stays : Stays old new) where
   pub acts-said : (r : Result Done Full) → IfOk r (λ d. IsDone actor d old new) → IfErr r (λ full. ActsFull actor full old.sitting.view new.sitting.view) → ActsAs actor old new
   acts-said (Ok d) said full = acts-done d said
   acts-said (Err f) said full = acts-looked full.looked
-
--- a load of a stage word adds nothing
-pub same-waits : (g : ℕ) (p : ProcId) (r : Waits) (old new : Seated) → IsWaiting g p r old new → SeesSame old new
-same-waits g p waits.Still old new told = record { front = ap (λ (s : Seated). s.sitting.view.front) told.3.seat; own = ap (λ (s : Seated). s.sitting.view.own) told.3.seat }
-same-waits g p (waits.Gone n) old new told = record { front = ap (λ (s : Seated). s.sitting.view.front) told.2.seat; own = ap (λ (s : Seated). s.sitting.view.own) told.2.seat }
-same-waits g p waits.NotWaiting old new told = record { front = ap (λ (s : Seated). s.sitting.view.front) told.0; own = ap (λ (s : Seated). s.sitting.view.own) told.0 }
 
 -- an actor that rested in a part of the time
 module _ (a b c : Seated) (stays : Stays a b) (first : IsPrefix a.sitting.view.front b.sitting.view.front) (second : IsPrefix b.sitting.view.front c.sitting.view.front) where

@@ -6,7 +6,7 @@ use Rattle.sched_model.specs.Runs.{IsNext, IsRun, IsWholeRun}
 use Rattle.run_laws.specs.RunLaws.{IsOrderedRun}
 use Rattle.journal_core.specs.Books.{Chronicle}
 use Rattle.journal_core.specs.Histories.{reached_by}
-use Rattle.lock_moves.specs.Sight.{Seen}
+use Rattle.lock_moves.specs.SeatSight.{Seen}
 use Rattle.hall.specs.declared.turns.Full.{Full}
 use Rattle.hall.specs.declared.turns.Turn.{Turn}
 use Rattle.hall.specs.declared.turns.Turn.TheVariants as turn

@@ -2,20 +2,19 @@
 use Rattle.std.specs.Prelude.{◌≡◌, ◌≤◌, ◌<◌, ◌+◌, ◌-◌, ◌*◌, ◌/◌, ◌%◌, ◌⊎◌, ◌++◌, ◌∷◌, [], ℕ, List, Some, None, length, slice_index_or}
 use Rattle.std.specs.List.{All, sum_by}
 use mathlib.Core.List.{IsPrefix}
-use Rattle.sched_base.specs.Numbers.{domain, moment, processor}
+use Rattle.sched_base.specs.Numbers.{domain, processor}
 use Rattle.sched_base.specs.declared.ProcId.{ProcId}
 use Rattle.sched_model.specs.declared.action.Action.{Action}
 use Rattle.sched_model.specs.declared.action.Actor.{Actor}
 use Rattle.sched_model.specs.declared.action.Actor.TheVariants.{Proc, Dom, Tool}
 use Rattle.sched_model.specs.declared.event.Entry.{Entry}
 use Rattle.sched_model.specs.declared.machine.Machine.{Machine}
-use Rattle.sched_model.specs.declared.state.State.{State}
-use Rattle.sched_model.specs.Machine.{event_of}
 use Rattle.journal_core.specs.Histories.{state_at}
 use Rattle.actor_laws.specs.Actors.{first_by}
 use Rattle.lock_moves.specs.Sets.{LockTable, sitting_with}
-use Rattle.lock_moves.specs.Sight.{after_join, newcomer}
+use Rattle.lock_moves.specs.SeatSight.{after_join, newcomer}
 use Rattle.hall.specs.Seats.{IsOf, Seated, Stays}
+use Rattle.sched_model.specs.Runs.{entry_of}
 
 -- how many of the 1024 parts the seats have together
 abbrev pub shares_of : List Seated → ℕ
@@ -57,10 +56,6 @@ abbrev pub IsFor : ℕ → ℕ → Actor → Type 0
 IsFor n p (Proc q) = q.0 ≡ p
 IsFor n p (Dom d) = d.0 % n ≡ p
 IsFor n p Tool = ⊥
-
--- the entry of the action in a state
-abbrev pub entry_of : Machine → State → Action → Entry
-entry_of m s action = record { at = moment s.now; event = event_of m s s.now action }
 
 -- the place of the history has the entry of the first action of the actor in the state in which it stands
 pub record IsEventOf (m : Machine) (actor : Actor) (h : List Entry) (place : ℕ) : Type 0 where

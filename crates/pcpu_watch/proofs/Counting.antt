@@ -3,7 +3,7 @@ use mathlib.Core.List.{IsPrefix}
 use Rattle.std.proofs.Common.{◌≡◌, ◌∙◌, ◌++◌, ◌+◌, ◌≤◌, ℕ, zero, suc, cond, List, [], ◌∷◌, length, take, drop, sym, ap, arith}
 use Rattle.std.specs.Prelude.{Option, Some, None, slice_get}
 use Rattle.std.proofs.lemmas.List.{take-append-drop, take-append-le, take-take, take_all}
-use Rattle.std.proofs.lemmas.List.Sums.{count_by-le-length, sum_by-append, sum_by_push}
+use Rattle.std.proofs.lemmas.List.Sums.{sum_by-append, sum_by_push}
 use Rattle.std.proofs.lemmas.Option.{slice_get_within}
 use Rattle.sched_model.specs.declared.event.Entry.{Entry}
 use Rattle.sched_report.specs.Stays.{last_moment}
@@ -19,9 +19,6 @@ ends-append xs ys = sum_by-append one xs ys
 
 pub ends-more : (xs : List Entry) (e : Entry) → ends (xs ++ e ∷ []) ≡ ends xs + cond (is_end e.event) 1 0
 ends-more xs e = sum_by_push one xs e
-
-pub ends-few : (xs : List Entry) → ends xs ≤ length xs
-ends-few xs = count_by-le-length (λ (e : Entry). is_end e.event) xs
 
 module _ {A : Type 0} where
   -- what a list begins with

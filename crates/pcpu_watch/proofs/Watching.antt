@@ -14,7 +14,7 @@ use Rattle.pcpu_watch.specs.declared.watch.Watcher.{Watcher}
 use Rattle.pcpu_watch.specs.Moments.{ends, moment_of}
 use Rattle.pcpu_watch.specs.Looks.{EachIsLook, IsLook, LookList, LooksSoFar, ShowsBeginning, look_of}
 use Rattle.pcpu_watch.specs.Scribes.{CanWrite, HasWritten, KeepsReading, ReadsOn, has_read}
-use Rattle.pcpu_watch.specs.Watches.{HasLooked, IsWatch, StaysWatch}
+use Rattle.pcpu_watch.specs.Watcher.{HasLooked, IsWatch, StaysWatch}
 use Rattle.pcpu_watch.proofs.Looking.{look-new, looks-pushed, looks-still}
 use Rattle.pcpu_watch.proofs.Reading.{read-length}
 

@@ -2,7 +2,7 @@ pub mod Moments
 pub mod Looks
 pub mod Readers
 pub mod Scribes
-pub mod Watches
+pub mod Watcher
 pub mod Crews
 pub mod Seats
-pub mod Watched
+pub mod WatchedRun

@@ -7,7 +7,7 @@ ghost use Rattle.hall.specs.Seats.{IsOf, Stays};
 ghost use Rattle.pcpu_watch.specs.Looks.{LooksSoFar};
 ghost use Rattle.pcpu_watch.specs.Scribes.{SeesOn, front_of, shares_in};
 ghost use Rattle.pcpu_watch.specs.Seats.{AreTwo, place_of as place_of_spec};
-ghost use Rattle.pcpu_watch.specs.Watched.{IsWatched};
+ghost use Rattle.pcpu_watch.specs.WatchedRun.{IsWatched};
 
 use crate::ends::{WatchEnd, watch_end};
 use crate::entries::entry_at;

@@ -1,7 +1,7 @@
 //! How a watched run ends.
 
 ghost use Rattle.std.specs.Prelude.{◌≡◌};
-ghost use Rattle.pcpu_watch.specs.Watched.{end_of};
+ghost use Rattle.pcpu_watch.specs.WatchedRun.{end_of};
 
 use pcpu_threads::RunEnd;
 

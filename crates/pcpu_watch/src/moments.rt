@@ -2,7 +2,7 @@
 
 ghost use Rattle.std.specs.Prelude.{◌≡◌, ◌<◌, [], OnOk, length};
 ghost use Rattle.pcpu_watch.specs.Crews.{IsCrew, StaysCrew};
-ghost use Rattle.pcpu_watch.specs.Watches.{CanLook, HasLooked, IsWatch, StaysWatch};
+ghost use Rattle.pcpu_watch.specs.Watcher.{CanLook, HasLooked, IsWatch, StaysWatch};
 
 use crate::crew::{Crew, end_moment, work};
 use crate::watch::{Watcher, take_turns};

@@ -5,7 +5,7 @@ ghost use mathlib.Core.List.{IsPrefix};
 ghost use Rattle.pcpu_watch.specs.Looks.{look_of};
 ghost use Rattle.pcpu_watch.specs.Readers.{learned_entries};
 ghost use Rattle.pcpu_watch.specs.Scribes.{CanWrite, HasWritten, ReadsOn};
-ghost use Rattle.pcpu_watch.specs.Watches.{CanLook, HasLooked, StaysWatch};
+ghost use Rattle.pcpu_watch.specs.Watcher.{CanLook, HasLooked, StaysWatch};
 
 use crate::looks::{Look, Looks, shown};
 use crate::scribe::{Scribe, write_turn};

@@ -3,7 +3,7 @@
 ghost use Rattle.std.specs.Prelude.{◌≡◌, ◌<◌, [], length};
 ghost use Rattle.status_board.specs.Boards.{nothing_seen, nothing_written};
 ghost use Rattle.pcpu_watch.specs.Seats.{AreSeats};
-ghost use Rattle.pcpu_watch.specs.Watched.{IsWatched};
+ghost use Rattle.pcpu_watch.specs.WatchedRun.{IsWatched};
 
 use crate::crew::Crew;
 use crate::ending::{finish, give_up};

@@ -5,7 +5,7 @@ ghost use Rattle.hall.specs.Seats.{IsOf};
 ghost use Rattle.status_board.specs.Boards.{nothing_seen, nothing_written};
 ghost use Rattle.pcpu_watch.specs.Scribes.{shares_in};
 ghost use Rattle.pcpu_watch.specs.Seats.{AreSeats};
-ghost use Rattle.pcpu_watch.specs.Watched.{IsWatched, end_of};
+ghost use Rattle.pcpu_watch.specs.WatchedRun.{IsWatched, end_of};
 
 use crate::ends::WatchEnd;
 use crate::looks::Looks;

@@ -4,7 +4,7 @@
 ghost use Rattle.std.specs.Prelude.{◌≡◌, IfOk};
 ghost use Rattle.sched_model.specs.declared.config.PoolParams.{PoolParams as Params};
 ghost use Rattle.sched_ops.specs.Conditions.{ArePoolParams};
-ghost use Rattle.pool_threads.specs.Opens.{CanOpen, opened_with};
+ghost use Rattle.pool_threads.specs.OpeningPool.{CanOpen, opened_with};
 
 use any_policy::AnyPolicy;
 use pool_core::PoolState;

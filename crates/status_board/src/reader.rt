@@ -31,7 +31,8 @@ impl Model for BoardReader {
 
     ghost view = { λ r. record { cores = r.cores; seen = r.seen.value } };
 
-    ghost invariant = { λ r. IfSome r.seat (λ s. knows s.place ≡ r.seen.value) × (r.cores ≤ 64) × (r.totals ≡ totals_of r.cores r.seen.value) };
+    ghost invariant = { λ r. IfSome r.seat (λ s. knows s.place ≡ r.seen.value) × (r.cores ≤ 64)
+        × (r.totals ≡ totals_of r.cores r.seen.value) };
 }
 
 /// What a writer tells a reader: the entries that were published, and their totals.

@@ -26,9 +26,14 @@ impl Model for BoardWriter {
 
     ghost Value = { Desk };
 
-    ghost view = { λ w. record { cores = w.cores; published = w.author.desk.shown.value; pending = drop w.author.behind w.author.log.items } };
+    ghost view = { λ w. record {
+      cores = w.cores;
+      published = w.author.desk.shown.value;
+      pending = drop w.author.behind w.author.log.items;
+    } };
 
-    ghost invariant = { λ w. (w.cores ≤ 64) × (knows w.author.desk.place ≡ w.author.desk.shown.value) };
+    ghost invariant = { λ w. (w.cores ≤ 64)
+        × (knows w.author.desk.place ≡ w.author.desk.shown.value) };
 }
 
 /// A new seat at the board that knows what the writer has published, where there is a free one.

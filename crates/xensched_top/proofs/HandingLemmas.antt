@@ -9,7 +9,7 @@ use Rattle.sched_io.proofs.PutLemmas.{part_of_whole}
 use Rattle.sched_model.specs.declared.machine.Machine.{Machine}
 use Rattle.xensched_top.specs.declared.status.Status.{Status}
 use Rattle.xensched_top.specs.declared.status.Status.TheVariants as status
-use Rattle.xensched_top.specs.Answers.{Counts, Held, IsHandedOn, Outcome, PutsAll, PutsLimit, PutsNothing, PutsRefusal, PutsSome, PutsWhole}
+use Rattle.xensched_top.specs.Answers.{Counts, BytesOf, IsHandedOn, Outcome, PutsAll, PutsLimit, PutsNothing, PutsRefusal, PutsSome, PutsWhole}
 use Rattle.xensched_top.specs.Schedules.{PutsFirst, PutsPart, PutsRun}
 use Rattle.xensched_top.specs.Words.{Task, runs, writes, judges}
 
@@ -22,22 +22,22 @@ first_part : (ordered : Bool) (f : Form) (limit : ℕ) (m : Machine) (before aft
 first_part ordered f limit m before after h =
     record { entries = h.entries; run = inr h.fills; output = h.output; is = h.is; written = part_of_whole before after h.output h.written }
 
-all_some : (held : Held) (before after : Option (List ℕ)) (task : Task) → PutsAll held before after task → PutsSome held before after task
+all_some : (held : BytesOf) (before after : Option (List ℕ)) (task : Task) → PutsAll held before after task → PutsSome held before after task
 all_some held before after (runs r) h = (h.0, h.1, run_part r.ordered r.form r.limit h.0 before after h.2)
 all_some held before after (writes text) h = part_of_whole before after text h
 all_some held before after (judges ordered names schedule) h = (h.0, h.1, h.2, h.3, part_of_whole before after _ h.4.1)
 
-limit_some : (n : ℕ) (held : Held) (before after : Option (List ℕ)) (task : Task) → PutsLimit n held before after task → PutsSome held before after task
+limit_some : (n : ℕ) (held : BytesOf) (before after : Option (List ℕ)) (task : Task) → PutsLimit n held before after task → PutsSome held before after task
 limit_some n held before after (runs r) h = (h.0, h.1, first_part r.ordered r.form r.limit h.0 before after h.2.1)
 limit_some n held before after (writes text) h = absurd h
 limit_some n held before after (judges ordered names schedule) h = absurd h
 
-refusal_some : (k : ℕ) (held : Held) (before after : Option (List ℕ)) (task : Task) → PutsRefusal k held before after task → PutsSome held before after task
+refusal_some : (k : ℕ) (held : BytesOf) (before after : Option (List ℕ)) (task : Task) → PutsRefusal k held before after task → PutsSome held before after task
 refusal_some k held before after (runs r) h = absurd h
 refusal_some k held before after (writes text) h = absurd h
 refusal_some k held before after (judges ordered names schedule) h = (h.0, h.1, h.2, h.3, part_of_whole before after _ h.4.1)
 
-module _ (held : Held) (old new : Counts) (before after : Option (List ℕ)) (sink_old sink_middle sink_new : ℕ) (task : Task) where
+module _ (held : BytesOf) (old new : Counts) (before after : Option (List ℕ)) (sink_old sink_middle sink_new : ℕ) (task : Task) where
   -- with a count that rose no less
   goes_on : (answer : Status) → sink_middle ≤ sink_new → Outcome held old new before after sink_old sink_middle task answer → Outcome held old new before after sink_old sink_new task answer
   unfolding Outcome

@@ -17,14 +17,14 @@ use Rattle.sched_io.specs.Puts.{Adds, AddsPart}
 use Rattle.sched_io.proofs.FaultLemmas.{rose_after}
 use Rattle.sched_verdict.specs.declared.verdict.Verdict.{Verdict}
 use Rattle.sched_verdict.specs.declared.verdict.Verdict.TheVariants as verdict
-use Rattle.sched_verdict.specs.Judged.{IsTextOfRun, IsVerdict}
-use Rattle.sched_model.specs.Checked.{IsChecked}
+use Rattle.sched_verdict.specs.Verdict.{IsTextOfRun, IsVerdict}
+use Rattle.sched_model.specs.CheckedMachine.{IsChecked}
 use Rattle.sched_verdict.specs.Laws.{NoIsNoRun}
 use Rattle.sched_model.specs.declared.event.Entry.{Entry}
-use Rattle.sched_verdict.specs.Printed.{text_of_verdict}
+use Rattle.sched_verdict.specs.VerdictText.{text_of_verdict}
 use Rattle.xensched_top.specs.Words.{Source, of_files, of_seed, Request, Task, runs, writes, judges, task_in, task_of}
 use Rattle.xensched_top.proofs.FilesLemmas.{told}
-use Rattle.xensched_top.specs.Answers.{Held, Counts, Names, domain_bytes, work_bytes, IsMade, IsUnread, IsNotRead, IsNoToml, IsBadTable, IsBadWork, IsAccepted, IsRefusedAt, IsJudged, Judges, Refuses, RefusesName, Writes, WritesVerdict, Outcome, OfTexts, LeavesUnread, PutsAll, PutsLimit, PutsRefusal, PutsSome, Answers, ordered_answer, answer_to, SomethingFails, IsAnswer, IsAnswerOf, IsRunAnswer, IsOfTable}
+use Rattle.xensched_top.specs.Answers.{BytesOf, Counts, Names, domain_bytes, work_bytes, IsMade, IsUnread, IsNotRead, IsNoToml, IsBadTable, IsBadWork, IsAccepted, IsRefusedAt, IsJudged, Judges, Refuses, RefusesName, Writes, WritesVerdict, Outcome, OfTexts, LeavesUnread, PutsAll, PutsLimit, PutsRefusal, PutsSome, Answers, ordered_answer, answer_to, SomethingFails, IsAnswer, IsAnswerOf, IsRunAnswer, IsOfTable}
 use Rattle.xensched_top.specs.Files.{config_of, domains_refused, machine_of, with_work, work_of}
 use Rattle.xensched_top.specs.Schedules.{EndsWithin, FillsLimit}
 use Rattle.xensched_top.proofs.ScheduleLemmas.{is_whole-ends, is_whole-fills}
@@ -53,7 +53,7 @@ unfolding task_of
 unknown_task words found is none = sym (ap (option_map task_in) (sym (ap (option_map asked) is) ∙ none))
 
 -- the texts are refused
-pub refused_outcome : (held : Held) (old new : Counts) (before after : Option (List ℕ)) (sink_old sink_new : ℕ) (r : Request) (answer : Status) →
+pub refused_outcome : (held : BytesOf) (old new : Counts) (before after : Option (List ℕ)) (sink_old sink_new : ℕ) (r : Request) (answer : Status) →
     Refuses held old new r.source answer → Outcome held old new before after sink_old sink_new (runs r) answer
 unfolding Refuses Outcome
 refused_outcome held old new before after sink_old sink_new r status.Ok h = absurd h
@@ -68,7 +68,7 @@ refused_outcome held old new before after sink_old sink_new r (status.NotRun k) 
 refused_outcome held old new before after sink_old sink_new r status.NoMemory h = tt
 
 -- the run was to be written
-pub wrote_outcome : (held : Held) (old new : Counts) (before after : Option (List ℕ)) (sink_old sink_new : ℕ) (r : Request) (m : Machine) (answer : Status) →
+pub wrote_outcome : (held : BytesOf) (old new : Counts) (before after : Option (List ℕ)) (sink_old sink_new : ℕ) (r : Request) (m : Machine) (answer : Status) →
     IsMade held r.source m → Writes r.ordered r.form r.limit m before after sink_old sink_new answer → Outcome held old new before after sink_old sink_new (runs r) answer
 unfolding Writes Outcome
 wrote_outcome held old new before after sink_old sink_new r m status.Ok made h = (m, made, h)
@@ -83,28 +83,28 @@ wrote_outcome held old new before after sink_old sink_new r m (status.NotRun k) 
 wrote_outcome held old new before after sink_old sink_new r m status.NoMemory made h = tt
 
 -- a text was to be written
-pub text_outcome : (held : Held) (old new : Counts) (before after : Option (List ℕ)) (sink_old sink_new : ℕ) (text : List ℕ) →
+pub text_outcome : (held : BytesOf) (old new : Counts) (before after : Option (List ℕ)) (sink_old sink_new : ℕ) (text : List ℕ) →
     Adds before after text → Outcome held old new before after sink_old sink_new (writes text) status.Ok
 unfolding Outcome
 text_outcome held old new before after sink_old sink_new text h = h
 
-pub part_outcome : (held : Held) (old new : Counts) (before after : Option (List ℕ)) (sink_old sink_new : ℕ) (text : List ℕ) →
+pub part_outcome : (held : BytesOf) (old new : Counts) (before after : Option (List ℕ)) (sink_old sink_new : ℕ) (text : List ℕ) →
     AddsPart before after text → Rose sink_old sink_new → Outcome held old new before after sink_old sink_new (writes text) status.WriteFault
 unfolding Outcome
 part_outcome held old new before after sink_old sink_new text h rose = (h, rose)
 
-pub memory_outcome : (held : Held) (old new : Counts) (before after : Option (List ℕ)) (sink_old sink_new : ℕ) (task : Task) (answer : Status) → answer ≡ status.NoMemory →
+pub memory_outcome : (held : BytesOf) (old new : Counts) (before after : Option (List ℕ)) (sink_old sink_new : ℕ) (task : Task) (answer : Status) → answer ≡ status.NoMemory →
     Outcome held old new before after sink_old sink_new task answer
 unfolding Outcome
 memory_outcome held old new before after sink_old sink_new task answer is =
     subst (λ a. Outcome held old new before after sink_old sink_new task a) (sym is) tt
 
 -- what is said of an answer, where it is this one
-as_this : (held : Held) (old new : Counts) (before after : Option (List ℕ)) (sink_old sink_new : ℕ) (task : Task) (answer this : Status) →
+as_this : (held : BytesOf) (old new : Counts) (before after : Option (List ℕ)) (sink_old sink_new : ℕ) (task : Task) (answer this : Status) →
     Outcome held old new before after sink_old sink_new task answer → answer ≡ this → Outcome held old new before after sink_old sink_new task this
 as_this held old new before after sink_old sink_new task answer this h is = subst (λ a. Outcome held old new before after sink_old sink_new task a) is h
 
-module _ (held : Held) (old new : Counts) (before after : Option (List ℕ)) (sink_old sink_new : ℕ) (task : Task) (answer : Status) (h : Outcome held old new before after sink_old sink_new task answer) where
+module _ (held : BytesOf) (old new : Counts) (before after : Option (List ℕ)) (sink_old sink_new : ℕ) (task : Task) (answer : Status) (h : Outcome held old new before after sink_old sink_new task answer) where
   as_this_one : (this : Status) → answer ≡ this → Outcome held old new before after sink_old sink_new task this
   as_this_one this is = as_this held old new before after sink_old sink_new task answer this h is
 
@@ -203,16 +203,16 @@ work_refusal bytes lines fault (Ok config) e h = inr (refused_lines bytes lines 
 work_refusal bytes lines fault (Err other) e h = absurd h
 
 -- a file that counts as not read was not read
-not_read : (held : Held) (old new : Counts) (source : Source) → IsUnread held old new source → IsNotRead old new source
+not_read : (held : BytesOf) (old new : Counts) (source : Source) → IsUnread held old new source → IsNotRead old new source
 not_read held old new (of_files names) h = elim h [ inl rose ↦ inl rose | inr rose ↦ inr rose.1 ]
 not_read held old new (of_seed s processors domains) h = h
 
 -- this holds of what the two texts make, where their bytes are told
-abbrev OfMade : Held → Source → (Result Machine Status → Type 0) → Type 0
+abbrev OfMade : BytesOf → Source → (Result Machine Status → Type 0) → Type 0
 OfMade held source P = IfSome (domain_bytes held source) (λ d. IfSome (work_bytes held source) (λ w. P (machine_of d w)))
 
 -- the texts are refused, and nothing failed
-refused_texts : (held : Held) (old new : Counts) (source : Source) (answer : Status) → Refuses held old new source answer → ¬ IsNotRead old new source → OfMade held source (IsRefusal answer)
+refused_texts : (held : BytesOf) (old new : Counts) (source : Source) (answer : Status) → Refuses held old new source answer → ¬ IsNotRead old new source → OfMade held source (IsRefusal answer)
 unfolding Refuses
 refused_texts held old new source status.Ok h fine = absurd h
 refused_texts held old new source status.Usage h fine = absurd h
@@ -245,7 +245,7 @@ refusal_answers_run : (ordered : Bool) (limit : ℕ) (answer : Status) (made : R
 refusal_answers_run ordered limit answer made (inl none) = subst (λ (a : Status). IsRunAnswer ordered limit a made) (sym none) (memory_answers_run ordered limit made)
 refusal_answers_run ordered limit answer made (inr e) = subst (λ (r : Result Machine Status). IsRunAnswer ordered limit answer r) (sym e) (inr refl)
 
-refused_answer : (ordered : Bool) (limit : ℕ) (held : Held) (old new : Counts) (source : Source) (answer : Status) → Refuses held old new source answer →
+refused_answer : (ordered : Bool) (limit : ℕ) (held : BytesOf) (old new : Counts) (source : Source) (answer : Status) → Refuses held old new source answer →
     ¬ IsNotRead old new source → IsAnswer ordered limit held answer source
 unfolding IsAnswer
 refused_answer ordered limit held old new source answer h fine =
@@ -264,7 +264,7 @@ answers_full true limit m entries n is h = rw (is_whole-fills limit m entries h)
 answers_full false limit m entries n is h = inr (ap status.Full is)
 
 -- the answer of a run of a machine that the two texts make
-made_answer : (held : Held) (r : Request) (m : Machine) (answer : Status) → IsMade held r.source m → IsAnswerOf r.limit m answer r.ordered → IsAnswer r.ordered r.limit held answer r.source
+made_answer : (held : BytesOf) (r : Request) (m : Machine) (answer : Status) → IsMade held r.source m → IsAnswerOf r.limit m answer r.ordered → IsAnswer r.ordered r.limit held answer r.source
 unfolding IsAnswer
 made_answer held r m answer made h =
     both_told (domain_bytes held r.source) (work_bytes held r.source) (λ d w. machine_of d w ≡ Ok m) (λ d w. IsRunAnswer r.ordered r.limit answer (machine_of d w))
@@ -303,14 +303,14 @@ refusal_judged : (ordered : Bool) (bytes : List ℕ) (answer : Status) (made : R
 refusal_judged ordered bytes answer made (inl none) = subst (λ (a : Status). IsJudged ordered bytes a made) (sym none) (memory_judged ordered bytes made)
 refusal_judged ordered bytes answer made (inr e) = subst (λ (r : Result Machine Status). IsJudged ordered bytes answer r) (sym e) (inr refl)
 
-refused_files : (held : Held) (old new : Counts) (ordered : Bool) (names : Names) (schedule : List ℕ) (answer : Status) →
+refused_files : (held : BytesOf) (old new : Counts) (ordered : Bool) (names : Names) (schedule : List ℕ) (answer : Status) →
     Refuses held old new (of_files names) answer → ¬ IsNotRead old new (of_files names) → Answers held answer (judges ordered names schedule)
 refused_files held old new ordered names schedule answer h fine =
     three_told (held names.0) (held names.1) (held schedule) (λ d w. IsRefusal answer (machine_of d w)) (λ b. ⊤) (λ d w b. IsJudged ordered b answer (machine_of d w))
     (λ d w b refusal r. refusal_judged ordered b answer (machine_of d w) refusal)
     (refused_texts held old new (of_files names) answer h fine) (whatever (held schedule))
 
-judged : (held : Held) (old new : Counts) (before after : Option (List ℕ)) (sink_old sink_new : ℕ) (ordered : Bool) (names : Names) (schedule : List ℕ) (answer : Status) →
+judged : (held : BytesOf) (old new : Counts) (before after : Option (List ℕ)) (sink_old sink_new : ℕ) (ordered : Bool) (names : Names) (schedule : List ℕ) (answer : Status) →
     Outcome held old new before after sink_old sink_new (judges ordered names schedule) answer → ¬ SomethingFails old new sink_old sink_new (judges ordered names schedule) →
     Answers held answer (judges ordered names schedule)
 unfolding Outcome Refuses
@@ -336,7 +336,7 @@ judged held old new before after sink_old sink_new ordered names schedule status
     (λ d w b x y. memory_judged ordered b (machine_of d w)) (always_told (held names.0) (held names.1) (λ d w. ⊤) (λ d w. tt)) (whatever (held schedule))
 
 -- the outcome of a task is its answer, where nothing failed
-pub answers : (held : Held) (old new : Counts) (before after : Option (List ℕ)) (sink_old sink_new : ℕ) (task : Task) (answer : Status) →
+pub answers : (held : BytesOf) (old new : Counts) (before after : Option (List ℕ)) (sink_old sink_new : ℕ) (task : Task) (answer : Status) →
     Outcome held old new before after sink_old sink_new task answer → ¬ SomethingFails old new sink_old sink_new task → Answers held answer task
 unfolding Outcome Refuses
 answers held old new before after sink_old sink_new (runs r) status.Ok h fine =
@@ -364,7 +364,7 @@ answers held old new before after sink_old sink_new (writes text) (status.NotRun
 answers held old new before after sink_old sink_new (judges ordered names schedule) answer h fine = judged held old new before after sink_old sink_new ordered names schedule answer h fine
 
 -- want of memory is an answer to every task
-pub memory_answers : (held : Held) (task : Task) → Answers held status.NoMemory task
+pub memory_answers : (held : BytesOf) (task : Task) → Answers held status.NoMemory task
 unfolding IsAnswer
 memory_answers held (runs r) =
     always_told (domain_bytes held r.source) (work_bytes held r.source) (λ d w. IsRunAnswer r.ordered r.limit status.NoMemory (machine_of d w))
@@ -375,7 +375,7 @@ memory_answers held (judges ordered names schedule) =
     (λ d w b x y. memory_judged ordered b (machine_of d w)) (always_told (held names.0) (held names.1) (λ d w. ⊤) (λ d w. tt)) (whatever (held schedule))
 
 -- the files make a machine, and the schedule was to be judged
-pub verdict_outcome : (held : Held) (old new : Counts) (before after : Option (List ℕ)) (sink_old sink_new : ℕ) (ordered : Bool) (names : Names) (schedule bytes : List ℕ) (m : Machine) (answer : Status) →
+pub verdict_outcome : (held : BytesOf) (old new : Counts) (before after : Option (List ℕ)) (sink_old sink_new : ℕ) (ordered : Bool) (names : Names) (schedule bytes : List ℕ) (m : Machine) (answer : Status) →
     IsMade held (of_files names) m → IfSome (held schedule) (λ all. bytes ≡ all) → WritesVerdict ordered m bytes before after sink_old sink_new answer →
     Outcome held old new before after sink_old sink_new (judges ordered names schedule) answer
 unfolding WritesVerdict Outcome
@@ -394,7 +394,7 @@ verdict_outcome held old new before after sink_old sink_new ordered names schedu
 verdict_outcome held old new before after sink_old sink_new ordered names schedule bytes m status.NoMemory made is h = tt
 
 -- the files are refused
-pub unjudged_outcome : (held : Held) (old new : Counts) (before after : Option (List ℕ)) (sink_old sink_new : ℕ) (ordered : Bool) (names : Names) (schedule : List ℕ) (answer : Status) →
+pub unjudged_outcome : (held : BytesOf) (old new : Counts) (before after : Option (List ℕ)) (sink_old sink_new : ℕ) (ordered : Bool) (names : Names) (schedule : List ℕ) (answer : Status) →
     Refuses held old new (of_files names) answer → Outcome held old new before after sink_old sink_new (judges ordered names schedule) answer
 unfolding Refuses Outcome
 unjudged_outcome held old new before after sink_old sink_new ordered names schedule status.Ok h = absurd h
@@ -412,7 +412,7 @@ makes_some : (made : Result Machine Status) (m : Machine) → made ≡ Ok m → 
 makes_some made m e = search (rules, e)
 
 -- the schedule was not read
-pub unread_outcome : (held : Held) (old middle new : Counts) (before after : Option (List ℕ)) (sink_old sink_new : ℕ) (ordered : Bool) (names : Names) (schedule : List ℕ) (m : Machine) (answer : Status) →
+pub unread_outcome : (held : BytesOf) (old middle new : Counts) (before after : Option (List ℕ)) (sink_old sink_new : ℕ) (ordered : Bool) (names : Names) (schedule : List ℕ) (m : Machine) (answer : Status) →
     IsMade held (of_files names) m → old schedule ≤ middle schedule → RefusesName (middle schedule) (new schedule) answer →
     Outcome held old new before after sink_old sink_new (judges ordered names schedule) answer
 unfolding Outcome

@@ -5,10 +5,10 @@ use Rattle.pcpu_threads.specs.declared.ends.RunEnd.{RunEnd}
 use Rattle.pcpu_threads.specs.declared.ends.RunEnd.TheVariants as run_end
 use Rattle.pcpu_watch.specs.declared.looks.Look.{Look}
 use Rattle.pcpu_watch.specs.Looks.{AreLooks}
-use Rattle.pcpu_watch.specs.Watched.{IsWatched, end_of}
+use Rattle.pcpu_watch.specs.WatchedRun.{IsWatched, end_of}
 use Rattle.sched_model.specs.declared.machine.Machine.{Machine}
 use Rattle.xensched_top.specs.Ends.{HasEnded}
-use Rattle.xensched_top.specs.Watched.{look_lines, text_of_look}
+use Rattle.xensched_top.specs.WatchedRun.{look_lines, text_of_look}
 use Rattle.xensched_top.proofs.FreeLemmas.{free_ends}
 
 -- the line of a look, behind k lines

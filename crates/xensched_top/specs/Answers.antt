@@ -8,7 +8,7 @@ use Rattle.sched_io.specs.Puts.{Adds, AddsPart}
 use Rattle.sched_model.specs.declared.config.Config.{Config}
 use Rattle.sched_model.specs.declared.event.Entry.{Entry}
 use Rattle.sched_model.specs.declared.machine.Machine.{Machine}
-use Rattle.sched_model.specs.Checked.{IsChecked}
+use Rattle.sched_model.specs.CheckedMachine.{IsChecked}
 use Rattle.xensched_top.specs.declared.status.Status.{Status}
 use Rattle.xensched_top.specs.declared.status.Status.TheVariants as status
 use Rattle.work_file.specs.declared.fault.WorkFault.{WorkFault}
@@ -17,8 +17,8 @@ use Rattle.command_line.specs.declared.command.Form.{Form}
 use Rattle.work_file.specs.Load.{load_domains, load_work}
 use Rattle.sched_verdict.specs.declared.verdict.Verdict.{Verdict}
 use Rattle.sched_verdict.specs.declared.verdict.Verdict.TheVariants as verdict
-use Rattle.sched_verdict.specs.Judged.{IsTextOfRun, IsVerdict}
-use Rattle.sched_verdict.specs.Printed.{text_of_verdict}
+use Rattle.sched_verdict.specs.Verdict.{IsTextOfRun, IsVerdict}
+use Rattle.sched_verdict.specs.VerdictText.{text_of_verdict}
 use Rattle.xensched_top.specs.Words.{Source, of_files, of_seed, Request, Task, runs, writes, judges}
 use Rattle.xensched_top.specs.Schedules.{is_whole, PutsRun, PutsFirst, PutsPart}
 
@@ -27,35 +27,35 @@ abbrev pub Names : Type 0
 Names = List ℕ × List ℕ
 
 -- what the store tells of each name
-abbrev pub Held : Type 0
-Held = List ℕ → Option (List ℕ)
+abbrev pub BytesOf : Type 0
+BytesOf = List ℕ → Option (List ℕ)
 
 -- how often each name could not be read
 abbrev pub Counts : Type 0
 Counts = List ℕ → ℕ
 
 -- the bytes of the domain file, where they are told
-abbrev pub domain_bytes : Held → Source → Option (List ℕ)
+abbrev pub domain_bytes : BytesOf → Source → Option (List ℕ)
 domain_bytes held (of_files names) = held names.0
 domain_bytes held (of_seed s processors domains) = Some (load_domains s processors domains)
 
 -- the bytes of the work file, where they are told
-abbrev pub work_bytes : Held → Source → Option (List ℕ)
+abbrev pub work_bytes : BytesOf → Source → Option (List ℕ)
 work_bytes held (of_files names) = held names.1
 work_bytes held (of_seed s processors domains) = Some (load_work s processors domains)
 
 -- the two texts make this machine, whose values have passed all checks; where the bytes of both are told, it is the one of these bytes
-pub record IsMade (held : Held) (source : Source) (m : Machine) : Type 0 where
+pub record IsMade (held : BytesOf) (source : Source) (m : Machine) : Type 0 where
   pub checked : IsChecked m
   pub by_texts : IfSome (domain_bytes held source) (λ domains. IfSome (work_bytes held source) (λ work. machine_of domains work ≡ Ok m))
 
 -- the domain file could not be read; or it was accepted, and the work file could not; what is made is never unread
-abbrev pub IsUnread : Held → Counts → Counts → Source → Type 0
+abbrev pub IsUnread : BytesOf → Counts → Counts → Source → Type 0
 IsUnread held old new (of_files names) = Rose (old names.0) (new names.0) ⊎ (IfSome (held names.0) (λ domains. IsOk (config_of domains)) × Rose (old names.1) (new names.1))
 IsUnread held old new (of_seed s processors domains) = ⊥
 
 -- the domain file is no TOML document
-abbrev pub IsNoToml : Held → Source → Type 0
+abbrev pub IsNoToml : BytesOf → Source → Type 0
 IsNoToml held source = IfSome (domain_bytes held source) (λ domains. document domains ≡ None)
 
 -- the fault is one of a table
@@ -64,11 +64,11 @@ IsOfTable (dom_fault.Bad table index key cause) = ⊤
 IsOfTable fault = ⊥
 
 -- the table of the domain file is refused with this fault
-abbrev pub IsBadTable : Held → DomFault → Source → Type 0
+abbrev pub IsBadTable : BytesOf → DomFault → Source → Type 0
 IsBadTable held fault source = IsOfTable fault × IfSome (domain_bytes held source) (λ domains. config_of domains ≡ Err fault)
 
 -- the domain file is accepted, and the work file is refused with this fault
-abbrev pub IsBadWork : Held → WorkFault → Source → Type 0
+abbrev pub IsBadWork : BytesOf → WorkFault → Source → Type 0
 IsBadWork held fault source =
     IfSome (domain_bytes held source) (λ domains. IfSome (work_bytes held source) (λ work. IsOkAnd (config_of domains) (λ config. work_of config work ≡ Err fault)))
 
@@ -92,7 +92,7 @@ RefusesWork config bytes status.NoMemory = ⊤
 RefusesWork config bytes answer = ⊥
 
 -- why the texts give no machine, by the status that is answered then
-unfoldable pub Refuses : Held → Counts → Counts → Source → Status → Type 0
+unfoldable pub Refuses : BytesOf → Counts → Counts → Source → Status → Type 0
 Refuses held old new source status.ReadFault = IsUnread held old new source
 Refuses held old new source status.BadToml = IsNoToml held source
 Refuses held old new source (status.BadDomains fault) = IsBadTable held fault source
@@ -177,38 +177,38 @@ IsNotRead old new (of_files names) = Rose (old names.0) (new names.0) ⊎ Rose (
 IsNotRead old new (of_seed s processors domains) = ⊥
 
 -- the answer of a run of two texts whose bytes are told
-unfoldable pub IsAnswer : Bool → ℕ → Held → Status → Source → Type 0
+unfoldable pub IsAnswer : Bool → ℕ → BytesOf → Status → Source → Type 0
 IsAnswer ordered limit held answer source =
     IfSome (domain_bytes held source) (λ domains. IfSome (work_bytes held source) (λ work. IsRunAnswer ordered limit answer (machine_of domains work)))
 
 -- the texts of the run's request make a machine, and of both this holds
-abbrev pub OfMachine : Held → (Request → Machine → Type 0) → Request → Type 0
+abbrev pub OfMachine : BytesOf → (Request → Machine → Type 0) → Request → Type 0
 OfMachine held P r = (m : Machine) × IsMade held r.source m × P r m
 
 -- the two files make a machine, this is the verdict on the schedule, where its bytes are told, and of both this holds
-abbrev pub OfVerdict : Held → (Machine → Verdict → Type 0) → Bool → Names → List ℕ → Type 0
+abbrev pub OfVerdict : BytesOf → (Machine → Verdict → Type 0) → Bool → Names → List ℕ → Type 0
 OfVerdict held P ordered names schedule = (m : Machine) × (verdict : Verdict) × IsMade held (of_files names) m × IfSome (held schedule) (λ bytes. Judges m ordered bytes verdict) × P m verdict
 
 -- all that the task asks for was put
-abbrev pub PutsAll : Held → Option (List ℕ) → Option (List ℕ) → Task → Type 0
+abbrev pub PutsAll : BytesOf → Option (List ℕ) → Option (List ℕ) → Task → Type 0
 PutsAll held before after (runs r) = OfMachine held (λ r m. PutsRun r.ordered r.form r.limit m before after) r
 PutsAll held before after (writes text) = Adds before after text
 PutsAll held before after (judges ordered names schedule) = OfVerdict held (λ m verdict. IsAccepted verdict × Adds before after (text_of_verdict verdict)) ordered names schedule
 
 -- a run has more entries than the limit, which is n, and what is asked of its first n was put
-abbrev pub PutsLimit : ℕ → Held → Option (List ℕ) → Option (List ℕ) → Task → Type 0
+abbrev pub PutsLimit : ℕ → BytesOf → Option (List ℕ) → Option (List ℕ) → Task → Type 0
 PutsLimit n held before after (runs r) = OfMachine held (λ r m. IsFull n r.ordered r.form r.limit m before after) r
 PutsLimit n held before after (writes text) = ⊥
 PutsLimit n held before after (judges ordered names schedule) = ⊥
 
 -- the schedule is refused at line k, and that was put
-abbrev pub PutsRefusal : ℕ → Held → Option (List ℕ) → Option (List ℕ) → Task → Type 0
+abbrev pub PutsRefusal : ℕ → BytesOf → Option (List ℕ) → Option (List ℕ) → Task → Type 0
 PutsRefusal k held before after (runs r) = ⊥
 PutsRefusal k held before after (writes text) = ⊥
 PutsRefusal k held before after (judges ordered names schedule) = OfVerdict held (λ m verdict. IsRefusedAt k verdict × Adds before after (text_of_verdict verdict)) ordered names schedule
 
 -- a beginning was put of what is put where no put fails
-abbrev pub PutsSome : Held → Option (List ℕ) → Option (List ℕ) → Task → Type 0
+abbrev pub PutsSome : BytesOf → Option (List ℕ) → Option (List ℕ) → Task → Type 0
 PutsSome held before after (runs r) = OfMachine held (λ r m. PutsPart r.ordered r.form r.limit m before after) r
 PutsSome held before after (writes text) = AddsPart before after text
 PutsSome held before after (judges ordered names schedule) = OfVerdict held (λ m verdict. AddsPart before after (text_of_verdict verdict)) ordered names schedule
@@ -220,11 +220,11 @@ OfTexts P (writes text) = ⊥
 OfTexts P (judges ordered names schedule) = P (of_files names)
 
 -- both files are accepted, and the schedule could not be read
-abbrev pub IsUnreadSchedule : Held → Counts → Counts → Names → List ℕ → Type 0
+abbrev pub IsUnreadSchedule : BytesOf → Counts → Counts → Names → List ℕ → Type 0
 IsUnreadSchedule held old new names schedule = IfSome (held names.0) (λ domains. IfSome (held names.1) (λ work. IsOk (machine_of domains work))) × Rose (old schedule) (new schedule)
 
 -- a file that the task needs could not be read, and those before it are accepted
-abbrev pub LeavesUnread : Held → Counts → Counts → Task → Type 0
+abbrev pub LeavesUnread : BytesOf → Counts → Counts → Task → Type 0
 LeavesUnread held old new (runs r) = IsUnread held old new r.source
 LeavesUnread held old new (writes text) = ⊥
 LeavesUnread held old new (judges ordered names schedule) = IsUnread held old new (of_files names) ⊎ IsUnreadSchedule held old new names schedule
@@ -246,14 +246,14 @@ IsJudged ordered bytes answer (Err refusal) = UnlessNoMemory refusal answer
 IsJudged ordered bytes answer (Ok m) = (answer ≡ status.NoMemory) ⊎ ((verdict : Verdict) × Judges m ordered bytes verdict × (answer ≡ answer_to verdict))
 
 -- the answer of a task where nothing fails
-abbrev pub Answers : Held → Status → Task → Type 0
+abbrev pub Answers : BytesOf → Status → Task → Type 0
 Answers held answer (runs r) = IsAnswer r.ordered r.limit held answer r.source
 Answers held answer (writes text) = UnlessNoMemory status.Ok answer
 Answers held answer (judges ordered names schedule) =
     IfSome (held names.0) (λ domains. IfSome (held names.1) (λ work. IfSome (held schedule) (λ bytes. IsJudged ordered bytes answer (machine_of domains work))))
 
 -- how a task ends, by the status that is answered then
-unfoldable pub Outcome : Held → Counts → Counts → Option (List ℕ) → Option (List ℕ) → ℕ → ℕ → Task → Status → Type 0
+unfoldable pub Outcome : BytesOf → Counts → Counts → Option (List ℕ) → Option (List ℕ) → ℕ → ℕ → Task → Status → Type 0
 Outcome held old new before after sink_old sink_new task status.Ok = PutsAll held before after task
 Outcome held old new before after sink_old sink_new task (status.Full n) = PutsLimit n held before after task
 Outcome held old new before after sink_old sink_new task status.WriteFault = PutsSome held before after task × Rose sink_old sink_new

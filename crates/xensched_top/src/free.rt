@@ -5,7 +5,7 @@ ghost use Rattle.std.specs.Prelude.{◌≡◌, ◌≤◌, [], false, IfOk, OnOk,
 ghost use Rattle.sched_io.specs.Faults.{Rose};
 ghost use Rattle.sched_io.specs.Puts.{Adds, AddsPart};
 ghost use Rattle.sched_model.specs.declared.machine.Machine.{Machine};
-ghost use Rattle.sched_model.specs.Checked.{IsChecked, IsWithin};
+ghost use Rattle.sched_model.specs.CheckedMachine.{IsChecked, IsWithin};
 ghost use Rattle.sched_print.specs.Line.{text};
 ghost use Rattle.xensched_top.specs.Answers.{PutsNothing, Writes};
 ghost use Rattle.xensched_top.specs.Ends.{HasEnded};

@@ -4,12 +4,12 @@ ghost use Rattle.std.specs.Prelude.{◌≡◌, ◌≤◌, [], false, IfOk, OnOk,
 ghost use Rattle.sched_io.specs.Faults.{Rose};
 ghost use Rattle.sched_io.specs.Puts.{Adds, AddsPart};
 ghost use Rattle.sched_model.specs.declared.machine.Machine.{Machine};
-ghost use Rattle.sched_model.specs.Checked.{IsChecked, IsWithin};
+ghost use Rattle.sched_model.specs.CheckedMachine.{IsChecked, IsWithin};
 ghost use Rattle.sched_report.specs.Stays.{last_moment};
 ghost use Rattle.pcpu_watch.specs.Looks.{AreLooks};
 ghost use Rattle.xensched_top.specs.Answers.{PutsNothing, Writes};
 ghost use Rattle.xensched_top.specs.Ends.{HasEnded};
-ghost use Rattle.xensched_top.specs.Watched.{text_of_look, text_of_watch, watch_lines};
+ghost use Rattle.xensched_top.specs.WatchedRun.{text_of_look, text_of_watch, watch_lines};
 
 use crate::run::status_of;
 use crate::status::Status;

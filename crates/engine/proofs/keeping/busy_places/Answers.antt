@@ -1,5 +1,5 @@
 use Rattle.std.proofs.Common.{subst, arith}
-use Rattle.engine.specs.Running.{IsIdleFrom}
+use Rattle.engine.specs.EngineState.{IsIdleFrom}
 use Rattle.engine.proofs.Kept.{idle-all, idle-less}
 use Rattle.engine.proofs.keeping.busy_places.Goals as goal
 

@@ -1,4 +1,4 @@
-use Rattle.engine.specs.Running.{IsIdleFrom}
+use Rattle.engine.specs.EngineState.{IsIdleFrom}
 use Rattle.engine.proofs.keeping.busy_places.Given as goal
 
 -- from there on nothing may come

@@ -1,6 +1,6 @@
 use Rattle.std.proofs.Common.{◌≡◌, ◌<◌, ℕ, length}
 use Rattle.sched_model.specs.Places.{at_place}
-use Rattle.engine.specs.Running.{IsFirstOfPlace}
+use Rattle.engine.specs.EngineState.{IsFirstOfPlace}
 use Rattle.engine.proofs.keeping.read_firsts.Given as goal
 
 abbrev pub invariant-loop-i : goal.invariant-loop-i

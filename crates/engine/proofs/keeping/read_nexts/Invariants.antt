@@ -1,7 +1,7 @@
 use Rattle.std.proofs.Common.{◌≡◌, ◌<◌, ℕ, length}
 use Rattle.std.specs.Prelude.{None}
 use Rattle.sched_model.specs.Places.{at_place}
-use Rattle.engine.specs.Running.{IsNextOfPlace}
+use Rattle.engine.specs.EngineState.{IsNextOfPlace}
 use Rattle.engine.proofs.keeping.read_nexts.Given as goal
 
 abbrev pub invariant-loop-i : goal.invariant-loop-i

@@ -4,8 +4,8 @@ use Rattle.std.proofs.lemmas.List.{length_push}
 use mathlib.Core.Logic.{dite}
 use native.Mathlib.Decide.{dec_lt}
 use Rattle.pool_core.specs.Seen.{Seen as PoolSeen}
-use Rattle.lock_moves.specs.Sight.{HoldsBelow}
-use Rattle.hall.specs.Knowing.{KnowsPool}
+use Rattle.lock_moves.specs.SeatSight.{HoldsBelow}
+use Rattle.hall.specs.SeatKnowledge.{KnowsPool}
 use Rattle.hall.proofs.Locking.{all_held, held_none, keeps_on, pools_fewer, pools_still}
 use Rattle.hall.proofs.all.put_all.Goals as goal
 

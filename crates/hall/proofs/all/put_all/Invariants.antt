@@ -1,6 +1,6 @@
 use Rattle.std.proofs.Common.{◌≤◌, length}
-use Rattle.lock_moves.specs.Sight.{HoldsBelow}
-use Rattle.hall.specs.Knowing.{KnowsPools}
+use Rattle.lock_moves.specs.SeatSight.{HoldsBelow}
+use Rattle.hall.specs.SeatKnowledge.{KnowsPools}
 use Rattle.hall.specs.Steps.{KeepsSight}
 use Rattle.hall.proofs.all.put_all.Given as goal
 

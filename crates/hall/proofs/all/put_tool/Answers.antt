@@ -1,5 +1,5 @@
 use Rattle.std.proofs.Common.{◌≡◌, ℕ, subst}
-use Rattle.lock_moves.specs.Sight.{after_give}
+use Rattle.lock_moves.specs.SeatSight.{after_give}
 use Rattle.lock_moves.specs.Sets.{sitting_with}
 use Rattle.hall.proofs.Locking.{gave_below, gave_still}
 use Rattle.hall.proofs.all.put_tool.Goals as goal

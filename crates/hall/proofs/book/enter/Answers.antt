@@ -3,7 +3,7 @@ use Rattle.sched_model.specs.declared.event.Entry.{Entry}
 use Rattle.sched_model.specs.Runs.{IsNext}
 use Rattle.journal_core.specs.Books.{Chronicle}
 use Rattle.journal_core.specs.Histories.{reached_by}
-use Rattle.lock_moves.specs.Sight.{Seen, Sitting, committed_view}
+use Rattle.lock_moves.specs.SeatSight.{Seen, Sitting, committed_view}
 use Rattle.hall.specs.Steps.{KnowsAfter, deciding_view}
 use Rattle.hall.proofs.Entering.{knows-committed}
 use Rattle.hall.proofs.book.enter.Goals as goal

@@ -1,5 +1,5 @@
 use Rattle.std.proofs.Common.{sym, subst}
-use Rattle.lock_moves.specs.Sight.{Sitting}
+use Rattle.lock_moves.specs.SeatSight.{Sitting}
 use Rattle.hall.specs.Steps.{KeepsLocks}
 use Rattle.hall.proofs.Entering.{keeps-committed}
 use Rattle.hall.proofs.book.put_book.Goals as goal

@@ -1,5 +1,5 @@
 use Rattle.std.proofs.Common.{sym, ap, ◌∙◌}
-use Rattle.lock_moves.specs.Sight.{Seen, Sitting, book_known, find_lock}
+use Rattle.lock_moves.specs.SeatSight.{Seen, Sitting, book_known, find_lock}
 use Rattle.lock_moves.proofs.Finding.{find-head}
 use Rattle.hall.proofs.book.take_book.Goals as goal
 

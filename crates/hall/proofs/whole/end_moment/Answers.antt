@@ -4,7 +4,7 @@ use native.Mathlib.Decide.{dec_lt}
 use Rattle.sched_model.specs.declared.event.Entry.{Entry}
 use Rattle.sched_model.specs.declared.event.Event.TheVariants as event
 use Rattle.lock_moves.specs.Plays.{Kept, Placed}
-use Rattle.lock_moves.specs.Sight.{Holds, Sitting}
+use Rattle.lock_moves.specs.SeatSight.{Holds, Sitting}
 use Rattle.hall.specs.Steps.{KnowsAfter}
 use Rattle.hall.proofs.Resting.{end-next, end-now, kept-quiet, locks-quiet, placed-quiet}
 use Rattle.hall.proofs.whole.end_moment.Goals as goal

@@ -7,7 +7,7 @@ use Rattle.pool_slots.specs.Places.{state_of}
 use Rattle.pool_slots.specs.Told.{told_of}
 use Rattle.pool_slots.proofs.Stepping.{few-pools}
 use Rattle.hall.specs.declared.value.ToolKept.{ToolKept}
-use Rattle.hall.specs.Knowing.{KnowsPool}
+use Rattle.hall.specs.SeatKnowledge.{KnowsPool}
 use Rattle.hall.proofs.Performing.{knows-changed, of-none, of-pool, place-read}
 use Rattle.hall.proofs.Parting.{tool-held}
 use Rattle.hall.proofs.whole.perform.Goals as goal

@@ -1,7 +1,7 @@
 use Rattle.std.proofs.Common.{subst, arith}
 use denote.Param.Send.{sendable}
 use Rattle.hall.proofs.Crossing.{hall_sync}
-use Rattle.hall_trials.specs.Serving.{MayServe}
+use Rattle.hall_trials.specs.TrialSeats.{MayServe}
 use Rattle.hall_trials.proofs.numbering.Actors.TheSendSync as actors
 use Rattle.hall_trials.proofs.serving.Way.TheSendSync as way
 use Rattle.hall_trials.proofs.side_by_side.act_side_by_side.Goals as goal

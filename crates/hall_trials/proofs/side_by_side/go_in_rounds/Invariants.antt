@@ -1,7 +1,7 @@
 use Rattle.std.proofs.Common.{◌≡◌}
 use Rattle.std.specs.List.{All}
 use Rattle.hall.specs.Seats.{IsOf}
-use Rattle.hall_trials.specs.Serving.{MayServe}
+use Rattle.hall_trials.specs.TrialSeats.{MayServe}
 use Rattle.hall_trials.proofs.side_by_side.go_in_rounds.Given as goal
 
 abbrev pub invariant-loop : goal.invariant-loop

@@ -1,9 +1,9 @@
 use Rattle.std.proofs.Common.{◌≡◌, ◌+◌, ℕ, [], ◌∷◌, length, length-append, sym, ap, ◌∙◌, subst, arith}
-use Rattle.lock_moves.specs.Sight.{Sitting, KnowsBelow}
+use Rattle.lock_moves.specs.SeatSight.{Sitting, KnowsBelow}
 use Rattle.lock_moves.specs.Sets.{Taken}
 use Rattle.lock_example.specs.declared.counter.Counter.{Counter}
 use Rattle.lock_example.specs.Example.{adding_machine, two_entries}
-use Rattle.lock_example.specs.Holding.{AreFrom}
+use Rattle.lock_example.specs.Holders.{AreFrom}
 use Rattle.lock_moves.proofs.Finding.{none_held}
 use Rattle.lock_example.proofs.Holding.{from_front}
 use Rattle.lock_example.proofs.adding.add_core.Goals as goal

@@ -1,6 +1,6 @@
 use Rattle.std.proofs.Common.{◌≡◌, List, [], ◌∷◌, ◌++◌, inr, take, sym, ap, ◌∙◌, arith}
 use Rattle.sched_model.specs.declared.event.Entry.{Entry}
-use Rattle.lock_moves.specs.Sight.{Seen, Sitting, HoldsBelow}
+use Rattle.lock_moves.specs.SeatSight.{Seen, Sitting, HoldsBelow}
 use Rattle.lock_example.specs.Example.{adding_machine, is_added, two_entries}
 use Rattle.lock_example.proofs.Checks.{homes_first, now_first, decides_first, once-second}
 use Rattle.lock_moves.proofs.Holding.{book_below, kept_all, placed_at, placed_of, decided_none, decided_of, once_of, knows_of}

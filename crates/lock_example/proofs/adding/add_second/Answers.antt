@@ -1,6 +1,6 @@
 use Rattle.std.proofs.Common.{◌≡◌, ℕ, List, [], ◌∷◌, ◌++◌, inr, take, sym, ap, ◌∙◌, subst, arith}
 use Rattle.sched_model.specs.declared.event.Entry.{Entry}
-use Rattle.lock_moves.specs.Sight.{Seen, Sitting, Holds, moved_name, HoldsBelow}
+use Rattle.lock_moves.specs.SeatSight.{Seen, Sitting, Holds, moved_name, HoldsBelow}
 use Rattle.lock_moves.specs.Plays.{Placed}
 use Rattle.lock_moves.specs.Sets.{sitting_with, HasName}
 use Rattle.lock_example.specs.Example.{adding_machine, has_moved, two_entries}

@@ -1,5 +1,5 @@
 use Rattle.std.proofs.Common.{sym, subst, ◌∙◌, arith}
-use Rattle.lock_moves.specs.Sight.{Sitting, KnowsBelow}
+use Rattle.lock_moves.specs.SeatSight.{Sitting, KnowsBelow}
 use Rattle.lock_example.specs.Example.{adding_machine, two_entries, part_after}
 use Rattle.lock_example.proofs.Checks.{once-third}
 use Rattle.lock_moves.proofs.Holding.{known_current, knows_less}

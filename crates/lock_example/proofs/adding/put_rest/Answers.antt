@@ -1,7 +1,7 @@
 use Rattle.std.proofs.Common.{◌≡◌, ◌+◌, ℕ, [], ◌∷◌, length, length-append, ap, ◌∙◌, subst, arith}
-use Rattle.lock_moves.specs.Sight.{KnowsBelow}
+use Rattle.lock_moves.specs.SeatSight.{KnowsBelow}
 use Rattle.lock_example.specs.Example.{adding_machine, two_entries}
-use Rattle.lock_example.specs.Holding.{AreFrom}
+use Rattle.lock_example.specs.Holders.{AreFrom}
 use Rattle.lock_example.proofs.Holding.{from_front}
 use Rattle.lock_example.proofs.adding.put_rest.Goals as goal
 

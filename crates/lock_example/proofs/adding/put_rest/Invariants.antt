@@ -1,7 +1,7 @@
 use Rattle.std.proofs.Common.{◌+◌, ◌≤◌, length}
-use Rattle.lock_moves.specs.Sight.{KnowsBelow}
+use Rattle.lock_moves.specs.SeatSight.{KnowsBelow}
 use Rattle.lock_example.specs.Example.{adding_machine, two_entries}
-use Rattle.lock_example.specs.Holding.{AreFrom, Stands}
+use Rattle.lock_example.specs.Holders.{AreFrom, Stands}
 use Rattle.lock_example.proofs.adding.put_rest.Given as goal
 
 abbrev pub decreases-loop-last : goal.decreases-loop-last

@@ -1,5 +1,5 @@
 use Rattle.std.proofs.Common.{◌+◌, ◌≤◌, ℕ, [], ◌∷◌, length, length-append, sym, ap, ◌∙◌, subst, arith}
-use Rattle.lock_example.specs.Holding.{AreFrom}
+use Rattle.lock_example.specs.Holders.{AreFrom}
 use Rattle.lock_example.proofs.Holding.{from_none, from_snoc}
 use Rattle.lock_example.proofs.adding.take_rest.Goals as goal
 

@@ -1,6 +1,6 @@
 use Rattle.std.proofs.Common.{◌≡◌, ◌+◌, ◌≤◌, [], length, vec_capacity}
-use Rattle.lock_moves.specs.Sight.{HoldsBelow}
-use Rattle.lock_example.specs.Holding.{AreFrom, Stands}
+use Rattle.lock_moves.specs.SeatSight.{HoldsBelow}
+use Rattle.lock_example.specs.Holders.{AreFrom, Stands}
 use Rattle.lock_example.proofs.adding.take_rest.Given as goal
 
 abbrev pub invariant-loop-lock : goal.invariant-loop-lock

@@ -1,7 +1,7 @@
 use Rattle.std.proofs.Common.{◌≡◌, ℕ, List, [], ◌∷◌, ◌++◌, inr, take, sym, ap, ◌∙◌, subst, arith}
 use Rattle.sched_model.specs.declared.event.Entry.{Entry}
 use Rattle.journal_core.specs.Histories.{part_at}
-use Rattle.lock_moves.specs.Sight.{Known, Seen, Sitting, known_part, find_lock, book_known, committed_view}
+use Rattle.lock_moves.specs.SeatSight.{Known, Seen, Sitting, known_part, find_lock, book_known, committed_view}
 use Rattle.lock_moves.specs.Plays.{Placed}
 use Rattle.lock_moves.specs.Sets.{IsAsKnown}
 use Rattle.lock_example.specs.Example.{adding_machine, is_added, two_entries, part_after}

@@ -1,7 +1,7 @@
 use Rattle.std.proofs.Common.{sym, subst}
 use Rattle.journal_core.specs.Books.{Chronicle}
 use Rattle.journal_core.specs.Histories.{NamesStandOnce}
-use Rattle.lock_moves.specs.Opened.{AreParts}
+use Rattle.lock_moves.specs.TableContent.{AreParts}
 use Rattle.lock_example.specs.declared.counter.Counter.{Counter}
 use Rattle.lock_example.specs.Example.{part_after}
 use Rattle.lock_example.proofs.Checks.{new-parts, once-first}

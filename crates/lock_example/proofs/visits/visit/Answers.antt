@@ -1,4 +1,4 @@
-use Rattle.lock_moves.specs.Sight.{after_search}
+use Rattle.lock_moves.specs.SeatSight.{after_search}
 use Rattle.lock_example.proofs.Visiting.{taken-known, put_back}
 use Rattle.lock_example.proofs.visits.visit.Goals as goal
 

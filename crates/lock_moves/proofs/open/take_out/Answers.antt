@@ -4,7 +4,7 @@ use mathlib.Core.Option.{some, some-injective}
 use lib.ListN.{get_elem?}
 use Rattle.lock_moves.specs.declared.content.Content.{Content}
 use Rattle.lock_moves.specs.declared.content.Content.TheVariants.{Value}
-use Rattle.lock_moves.specs.Opened.{AreFirst}
+use Rattle.lock_moves.specs.TableContent.{AreFirst}
 use Rattle.lock_moves.proofs.Closing.{emptied_more, first_more}
 use Rattle.lock_moves.proofs.open.take_out.Goals as goal
 

@@ -1,6 +1,6 @@
 use Rattle.std.proofs.Common.{◌≡◌, ◌≤◌, vec_capacity}
 use Rattle.std.specs.Slots.{slots_filled, slots_items, slots_len}
-use Rattle.lock_moves.specs.Opened.{AreFirst}
+use Rattle.lock_moves.specs.TableContent.{AreFirst}
 use Rattle.lock_moves.proofs.Closing.{Emptied}
 use Rattle.lock_moves.proofs.open.take_out.Given as goal
 

@@ -3,11 +3,11 @@ use Rattle.std.specs.Prelude.{Option, None, option_map}
 use Rattle.sched_base.specs.Numbers.{moment}
 use Rattle.sched_base.specs.declared.Moment.{Moment}
 use Rattle.sched_model.specs.declared.state.State.{State}
-use Rattle.sched_model.specs.Checked.{most_span}
+use Rattle.sched_model.specs.CheckedMachine.{most_span}
 use Rattle.sched_model.specs.Machine.{first_enabled}
 use Rattle.journal_core.specs.Parts.{under_way_of}
 use Rattle.core_state.specs.Firsts.{earlier_moment}
-use Rattle.cpupool.specs.Coming.{tool_may_act}
+use Rattle.cpupool.specs.ToolActions.{tool_may_act}
 use Rattle.cpupool.specs.Dues.{IsLeastLater}
 use Rattle.actor_laws.specs.Next.{ArePoolsNexts, IsSoonest, IsWholeNext, leaving_at, number_within}
 use Rattle.pool_slots.specs.Places.{state_of}

@@ -1,5 +1,5 @@
 use Rattle.std.proofs.Common.{sym, subst}
-use Rattle.parts_opening.specs.Opened.{IsOpened}
+use Rattle.parts_opening.specs.OpeningPool.{IsOpened}
 use Rattle.parts_opening.proofs.slots.open_pool.Goals as goal
 
 pub returns : goal.returns

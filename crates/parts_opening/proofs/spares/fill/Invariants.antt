@@ -1,5 +1,5 @@
 use Rattle.std.proofs.Common.{◌≡◌}
-use Rattle.parts_opening.specs.Filled.{filled_shelves}
+use Rattle.parts_opening.specs.OpeningShelves.{filled_shelves}
 use Rattle.parts_opening.proofs.spares.fill.Given as goal
 
 abbrev pub invariant-loop-i : goal.invariant-loop-i

@@ -1,7 +1,7 @@
 use Rattle.std.proofs.Common.{◌∙◌, ◌∷◌, [], ◌≤◌, ℕ, length, length-append, ap, sym, subst, arith}
 use Rattle.std.specs.List.{All}
 use Rattle.std.proofs.lemmas.List.Elements.{All-push}
-use Rattle.lock_moves.specs.Sight.{newcomer}
+use Rattle.lock_moves.specs.SeatSight.{newcomer}
 use Rattle.hall.specs.Seats.{IsOf, Seated}
 use Rattle.pcpu_threads.specs.Workers.{IsNew, lessened_by, shares_of}
 use Rattle.pcpu_threads.proofs.Counting.{less-more, shares-push}

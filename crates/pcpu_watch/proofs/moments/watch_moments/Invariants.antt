@@ -1,6 +1,6 @@
 use Rattle.std.proofs.Common.{◌≡◌, length}
 use Rattle.pcpu_watch.specs.Crews.{StaysCrew}
-use Rattle.pcpu_watch.specs.Watches.{IsWatch, StaysWatch}
+use Rattle.pcpu_watch.specs.Watcher.{IsWatch, StaysWatch}
 use Rattle.pcpu_watch.proofs.moments.watch_moments.Given as goal
 
 abbrev pub invariant-loop : goal.invariant-loop

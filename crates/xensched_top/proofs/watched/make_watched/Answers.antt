@@ -1,7 +1,7 @@
 use Rattle.std.proofs.Common.{false, IfOk, ap, subst, sym}
 use Rattle.journal_core.specs.Books.{Chronicle}
 use Rattle.pcpu_watch.specs.Looks.{AreLooks}
-use Rattle.pcpu_watch.specs.Watched.{IsWatched, end_of}
+use Rattle.pcpu_watch.specs.WatchedRun.{IsWatched, end_of}
 use Rattle.xensched_top.specs.Ends.{HasEnded}
 use Rattle.xensched_top.proofs.WatchLemmas.{watched_ends, watched_looks}
 use Rattle.xensched_top.proofs.watched.make_watched.Goals as goal

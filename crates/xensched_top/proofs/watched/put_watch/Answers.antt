@@ -2,7 +2,7 @@ use Rattle.std.proofs.Common.{◌≡◌, ◌≤◌, ◌+◌, ℕ, List, length, 
 use Rattle.sched_io.specs.Puts.{AddsPart}
 use Rattle.sched_report.specs.Lines.{text_of_end}
 use Rattle.sched_report.specs.Stays.{last_moment}
-use Rattle.xensched_top.specs.Watched.{text_of_watch, watch_lines}
+use Rattle.xensched_top.specs.WatchedRun.{text_of_watch, watch_lines}
 use Rattle.xensched_top.proofs.ItemLemmas.{PutSoFar, put_ends, put_more, put_part}
 use Rattle.xensched_top.proofs.WatchLemmas.{lines-count}
 use Rattle.xensched_top.proofs.watched.put_watch.Goals as goal

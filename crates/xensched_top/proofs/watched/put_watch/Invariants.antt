@@ -1,5 +1,5 @@
 use Rattle.std.proofs.Common.{List, ℕ}
-use Rattle.xensched_top.specs.Watched.{watch_lines}
+use Rattle.xensched_top.specs.WatchedRun.{watch_lines}
 use Rattle.xensched_top.proofs.ItemLemmas.{PutSoFar}
 use Rattle.xensched_top.proofs.watched.put_watch.Given as goal
 

@@ -1,7 +1,7 @@
 use Rattle.std.proofs.Common.{◌≡◌, ℕ, ◌+◌, ap, sym, ◌∙◌, arith, length, Some}
 use Rattle.sched_report.specs.Lines.{text_of_end}
 use Rattle.sched_report.specs.Stays.{last_moment}
-use Rattle.xensched_top.specs.Watched.{text_of_look}
+use Rattle.xensched_top.specs.WatchedRun.{text_of_look}
 use Rattle.xensched_top.proofs.WatchLemmas.{last_line_at, look_line_at}
 use Rattle.xensched_top.proofs.watched.put_watch_line.Goals as goal
 

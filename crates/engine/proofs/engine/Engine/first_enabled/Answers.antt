@@ -1,7 +1,7 @@
 use Rattle.std.proofs.Common.{◌∙◌, ap}
 use Rattle.sched_model.specs.Machine.{first_enabled}
 use Rattle.pool_slots.specs.Places.{state_of}
-use Rattle.engine.specs.Standing.{Standing}
+use Rattle.sched_model.specs.Standing.{Standing}
 use Rattle.std.proofs.Common.{List, sym, subst}
 use Rattle.std.specs.Prelude.{Option, take}
 use Rattle.sched_model.specs.declared.action.Action.{Action}
@@ -15,8 +15,8 @@ whole_first-requires-clause-firsts c =
     let in_self = c.self.inside in
     let kept = c.self.invariant.0.kept in
     let taken : AreFirsts in_self.moment.0 in_self.slots.items (take in_self.busy in_self.firsts.items) = firsts-taken in_self.moment.0 in_self.busy in_self.slots.items in_self.firsts.items c.self.invariant.1 kept.firsts_are in
-    subst (λ (xs : List (Option Seen)). AreFirsts in_self.moment.0 xs c.first_places.result.now) (sym c.as_slice.ensures.value)
-    (subst (λ (xs : List (Option Action)). AreFirsts in_self.moment.0 in_self.slots.items xs) (sym (c.first_places.ensures ∙ ap (take in_self.busy) c.as_slice-2.ensures.value)) taken)
+    subst (λ (xs : List (Option Seen)). AreFirsts in_self.moment.0 xs (take in_self.busy c.deref.result.now)) (sym c.as_slice.ensures.value)
+    (subst (λ (xs : List (Option Action)). AreFirsts in_self.moment.0 in_self.slots.items (take in_self.busy xs)) (sym c.deref.ensures.value) taken)
 
 pub returns : goal.returns
 returns c =

@@ -5,7 +5,7 @@ use Rattle.sched_model.specs.Machine.{first_enabled}
 use Rattle.pool_slots.specs.Places.{state_of}
 use Rattle.pool_core.specs.Seen.{Seen}
 use Rattle.machine_parts.specs.Parts.{AreNexts}
-use Rattle.engine.specs.Standing.{Standing}
+use Rattle.sched_model.specs.Standing.{Standing}
 use Rattle.engine.proofs.Quiet.{quiet-nexts}
 use Rattle.engine.proofs.engine.Engine.next_moment.Goals as goal
 

@@ -3,7 +3,7 @@ use Rattle.std.specs.Prelude.{Option}
 use Rattle.pool_core.specs.Seen.{Seen}
 use Rattle.pool_slots.specs.Places.{AllStand}
 use Rattle.pool_slots.specs.Told.{told_new}
-use Rattle.engine.specs.Running.{AreKept, IsIdleFrom}
+use Rattle.engine.specs.EngineState.{AreKept, IsIdleFrom}
 use Rattle.engine.proofs.Beginning.{running-opened, standing-opened}
 use Rattle.engine.proofs.Kept.{written}
 use Rattle.engine.proofs.Performing.{running-same}

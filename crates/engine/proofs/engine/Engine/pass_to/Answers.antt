@@ -5,8 +5,8 @@ use Rattle.sched_model.specs.Machine.{first_enabled, next_in_horizon}
 use Rattle.machine_parts.specs.Parts.{AreFirsts}
 use Rattle.pool_core.specs.Seen.{Seen}
 use Rattle.pool_slots.specs.Places.{state_of}
-use Rattle.engine.specs.Running.{IsIdleFrom, IsRunning}
-use Rattle.engine.specs.Standing.{Standing}
+use Rattle.engine.specs.EngineState.{IsIdleFrom, IsRunning}
+use Rattle.sched_model.specs.Standing.{Standing}
 use Rattle.engine.proofs.Kept.{written}
 use Rattle.engine.proofs.Passing.{running-later, standing-later}
 use Rattle.engine.proofs.engine.Engine.pass_to.Goals as goal
@@ -22,7 +22,7 @@ invariant_of-self c =
     let are : AreFirsts c.args.next.0 in_self.slots.items c.read_firsts.new.firsts = subst (λ (slots : List (Option Seen)). AreFirsts c.args.next.0 slots c.read_firsts.new.firsts) c.as_slice.ensures.value c.read_firsts.ensures.firsts in (
       subst (λ (firsts : List (Option Action)). IsRunning c.add.new.self c.args.next.0 in_self.horizon.0 in_self.granularity in_self.slots.items in_self.tool in_self.spares firsts in_self.nexts.items) (sym same)
           (running-later w c.add.new.self in_self.moment.0 c.args.next.0 in_self.horizon.0 in_self.granularity in_self.slots.items in_self.tool in_self.spares in_self.firsts.items in_self.nexts.items c.self.invariant.0
-          (c.law_next_moment.ensures w.input (state_of w) (state_of w).now quiet) quiet comes c.add.ensures c.read_firsts.new.firsts count are),
+          quiet comes c.add.ensures c.read_firsts.new.firsts count are),
       subst (IsIdleFrom c.busy_places-self-inside.result) c.as_slice-2.ensures.value c.busy_places-self-inside.ensures,
     )
 
@@ -33,5 +33,5 @@ returns c =
     let quiet : first_enabled w.input (state_of w) (state_of w).now ≡ None = ap (λ (x : Standing). first_enabled x.machine x.state x.state.now) c.self.view_is ∙ c.requires.nothing in
     let comes : next_in_horizon w.input (state_of w) ≡ Some c.args.next.0 = ap (λ (x : Standing). next_in_horizon x.machine x.state) c.self.view_is ∙ c.requires.next in
     standing-later w c.add.new.self in_self.moment.0 c.args.next.0 in_self.horizon.0 in_self.granularity in_self.slots.items in_self.tool in_self.spares in_self.firsts.items in_self.nexts.items c.self.invariant.0
-    (c.law_next_moment.ensures w.input (state_of w) (state_of w).now quiet) quiet comes c.add.ensures
+    quiet comes c.add.ensures
     ∙ ap (λ (x : Standing). let y : Standing = record x { state = record x.state { now = c.args.next.0 } } in y) c.self.view_is

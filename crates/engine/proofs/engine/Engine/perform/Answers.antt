@@ -2,11 +2,11 @@ use Rattle.std.proofs.Common.{◌≡◌, ◌∙◌, ℕ, sym, ap}
 use Rattle.std.specs.Prelude.{None, Some, option_map}
 use Rattle.sched_base.specs.Numbers.{pool as pool_number}
 use Rattle.pool_slots.specs.Places.{state_of}
-use Rattle.engine.specs.Running.{pool_of_event}
-use Rattle.engine.specs.Standing.{Standing}
+use Rattle.engine.specs.EngineState.{pool_of_event}
+use Rattle.sched_model.specs.Standing.{Standing}
 use Rattle.engine.proofs.Clock.{first-comes}
-use Rattle.engine.proofs.Performing.{told-none, told-pool}
 use Rattle.engine.proofs.engine.Engine.perform.Goals as goal
+use Rattle.machine_parts.proofs.AtPlaces.{number-of, no-number}
 
 pub perform_in_pool-requires-clause-enabled : goal.perform_in_pool-requires-clause-enabled
 perform_in_pool-requires-clause-enabled c = first-comes c.args.self.now.machine c.args.self.now.state c.args.action c.requires
@@ -17,7 +17,7 @@ perform_in_pool-requires-clause-home c =
     let w = in_self.trail in
     let told : option_map pool_number (pool_of_event in_self.granularity (state_of w) c.args.action) ≡ Some c.in-Some.i = sym (c.pool_of_event.ensures w.input (state_of w) c.self.invariant.0.parts.known) ∙ c.in-Some.is in
     sym (ap (λ (x : Standing). pool_of_event x.machine.config.granularity x.state c.args.action) c.self.view_is)
-    ∙ ap (λ (g : ℕ). pool_of_event g (state_of w) c.args.action) (sym c.self.invariant.0.granularity_is) ∙ told-pool _ c.in-Some.i told
+    ∙ ap (λ (g : ℕ). pool_of_event g (state_of w) c.args.action) (sym c.self.invariant.0.granularity_is) ∙ number-of _ c.in-Some.i told
 
 pub perform_by_tool-requires-clause-enabled : goal.perform_by_tool-requires-clause-enabled
 perform_by_tool-requires-clause-enabled c = first-comes c.args.self.now.machine c.args.self.now.state c.args.action c.requires
@@ -28,4 +28,4 @@ perform_by_tool-requires-clause-no_pool c =
     let w = in_self.trail in
     let told : option_map pool_number (pool_of_event in_self.granularity (state_of w) c.args.action) ≡ None = sym (c.pool_of_event.ensures w.input (state_of w) c.self.invariant.0.parts.known) ∙ c.in-None.is in
     sym (ap (λ (x : Standing). pool_of_event x.machine.config.granularity x.state c.args.action) c.self.view_is)
-    ∙ ap (λ (g : ℕ). pool_of_event g (state_of w) c.args.action) (sym c.self.invariant.0.granularity_is) ∙ told-none _ told
+    ∙ ap (λ (g : ℕ). pool_of_event g (state_of w) c.args.action) (sym c.self.invariant.0.granularity_is) ∙ no-number _ told

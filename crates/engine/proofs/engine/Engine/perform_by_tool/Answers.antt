@@ -3,8 +3,8 @@ use Rattle.std.specs.Prelude.{Option}
 use Rattle.sched_model.specs.Machine.{after, is_enabled}
 use Rattle.pool_core.specs.Seen.{Seen}
 use Rattle.pool_slots.specs.Places.{state_of}
-use Rattle.engine.specs.Running.{AreKept, IsIdleFrom}
-use Rattle.engine.specs.Standing.{Standing}
+use Rattle.engine.specs.EngineState.{AreKept, IsIdleFrom}
+use Rattle.sched_model.specs.Standing.{Standing}
 use Rattle.engine.proofs.Clock.{now-done, standing-done}
 use Rattle.engine.proofs.Kept.{written}
 use Rattle.engine.proofs.Performing.{running-acted, running-same}

@@ -7,8 +7,8 @@ use Rattle.sched_model.specs.Places.{at_place}
 use Rattle.pool_core.specs.Seen.{Seen}
 use Rattle.pool_slots.specs.Places.{state_of}
 use Rattle.pool_slots.proofs.Stepping.{few-pools}
-use Rattle.engine.specs.Running.{IsFirstOfPlace, IsIdleFrom, IsNextOfPlace, IsRunning, pool_of_event}
-use Rattle.engine.specs.Standing.{Standing}
+use Rattle.engine.specs.EngineState.{IsFirstOfPlace, IsIdleFrom, IsNextOfPlace, IsRunning, pool_of_event}
+use Rattle.sched_model.specs.Standing.{Standing}
 use Rattle.engine.proofs.Kept.{idle-more, written}
 use Rattle.engine.proofs.Performing.{own-event, running-same, running-stepped}
 use Rattle.engine.proofs.engine.Engine.perform_in_pool.Goals as goal
@@ -52,9 +52,8 @@ invariant_of-self c =
     let running : IsRunning c.add.new.self in_self.moment.0 in_self.horizon.0 in_self.granularity left in_self.tool in_self.spares c.read_one.new.firsts c.read_one.new.nexts =
     running-stepped w c.add.new.self in_self.moment.0 in_self.horizon.0 in_self.granularity c.args.i in_self.slots.items left in_self.tool in_self.spares in_self.firsts.items in_self.nexts.items c.self.invariant.0
     c.perform_among-event.result c.add.ensures low e.step e.stand others c.read_one.new.firsts c.read_one.new.nexts count_firsts count_nexts other_firsts other_nexts first next in
-    let fits : c.args.i < length in_self.firsts.items = (let k = c.self.invariant.0.kept.count_firsts in let s = c.self.invariant.0.parts.stand.count in omega (arith, low, k, s)) in
-    let most = c.at_least-self-inside.ensures in (
+    let fits : c.args.i < length in_self.firsts.items = (let k = c.self.invariant.0.kept.count_firsts in let s = c.self.invariant.0.parts.stand.count in omega (arith, low, k, s)) in (
       running-same c.add.new.self in_self.moment.0 in_self.horizon.0 in_self.granularity in_self.tool in_self.spares _ left _ c.read_one.new.firsts _ c.read_one.new.nexts slots firsts nexts running,
-      subst (IsIdleFrom c.at_least-self-inside.result) (sym firsts)
-          (idle-more c.args.i in_self.busy c.at_least-self-inside.result in_self.firsts.items c.read_one.new.firsts fits count_firsts other_firsts most.not_less most.other most.most c.self.invariant.1),
+      subst (IsIdleFrom c.max-self-inside.result) (sym firsts)
+          (subst (λ (n : ℕ). IsIdleFrom n c.read_one.new.firsts) (sym c.max-self-inside.ensures) (idle-more c.args.i in_self.busy in_self.firsts.items c.read_one.new.firsts fits count_firsts other_firsts c.self.invariant.1)),
     )

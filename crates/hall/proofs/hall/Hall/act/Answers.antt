@@ -6,9 +6,10 @@ use Rattle.hall.specs.declared.seat.Arrival.{Arrival}
 use Rattle.hall.specs.declared.turns.Done.{Done}
 use Rattle.hall.specs.declared.turns.Done.TheVariants as done
 use Rattle.hall.specs.Seats.{Seated}
-use Rattle.hall.specs.Settling.{DoneIn}
+use Rattle.hall.specs.BookTurns.{DoneIn}
 use Rattle.hall.specs.Turns.{is_actor}
-use Rattle.hall.proofs.Arriving.{arrival-few, arrived-few}
+use Rattle.hall.proofs.Arriving.{arrival-few}
+use Rattle.hall.proofs.Processors.{kept-inside}
 use Rattle.hall.proofs.hall.Hall.act.Goals as goal
 
 pub invariant_of-seat-in-Event : goal.invariant_of-seat-in-Event
@@ -20,7 +21,7 @@ invariant_of-seat-in-Event g c =
     let told : DoneIn c.args.actor (done.Event c.in-Event.place e) decides s0.view s4.view = subst (λ (d : Done). DoneIn c.args.actor d decides s0.view s4.view) c.in-Event.is c.in_ok-done.ensures.done in
     let of_hall : s0.view.input ≡ c.args.self.now.opened.input = ap (λ (x : Seated). x.sitting.view.input) c.seat.view_is ∙ c.requires.of.input in
     let there : is_actor s0.view.input.config c.args.actor ≡ true = ap (λ (m : Machine). is_actor m.config c.args.actor) of_hall ∙ c.requires.actor in
-    let few = arrived-few s0.view.input.config.granularity s0.view.input.config.processors told.0 e c.seat.inside.arrived c.seat.invariant.processor (arrival-few c.args.actor c.in-Event.place e told.0 s0.view s4.view told.1 there) in
+    let few = kept-inside s0.view.input.config.processors s0.view.input.config.granularity told.0 e c.seat.inside.arrived (arrival-few c.args.actor c.in-Event.place e told.0 s0.view s4.view told.1 there) c.seat.invariant.processor in
     let same = c.arrived_after-seat-inside.ensures s0.view.input.config.granularity told.0 told.2 in
     record {
       nothing = c.act_for-found.ensures.nothing;

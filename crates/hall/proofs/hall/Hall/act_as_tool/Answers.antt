@@ -1,8 +1,10 @@
-use Rattle.std.proofs.Common.{◌∙◌, sym, ap, subst}
+use Rattle.std.proofs.Common.{◌∙◌, subst}
 use Rattle.sched_model.specs.declared.action.Actor.TheVariants.{Tool}
-use Rattle.sched_model.specs.Checked.{IsChecked}
+use Rattle.sched_model.specs.CheckedMachine.{IsChecked}
 use Rattle.lock_moves.specs.Sets.{LockTable}
-use Rattle.hall.proofs.UnderAll.{below-book, call-done, call-full, call-stays, knows-taken, stays-settled}
+use Rattle.hall.proofs.Calls.{call-stays, done-held, fills-held}
+use Rattle.hall.proofs.Parting.{knows-taken}
+use Rattle.hall.proofs.UnderAll.{below-book, stays-settled}
 use Rattle.hall.proofs.hall.Hall.act_as_tool.Goals as goal
 
 pub take_book-book-requires-clause-order : goal.take_book-book-requires-clause-order
@@ -17,20 +19,10 @@ put_all-requires-clause-set g c =
     ∙ c.take_book-book.ensures.has.table
 
 pub returns-clause-stays : goal.returns-clause-stays
-returns-clause-stays g c = call-stays c.self.inside.set c.take_book-book.result c.args.seat.now c.take_all-all.new.seat c.take_book-book.new.seat c.settle_tool-done.new.seat c.put_all.new.seat c.take_all-all.ensures.keeps c.take_book-book.ensures.sees c.put_all.ensures.keeps c.take_book-book.ensures.has c.take_book-book.ensures.current Tool c.settle_tool-done.result c.settle_tool-done.ensures.done c.settle_tool-done.ensures.full
+returns-clause-stays g c = call-stays c.take_book-book.result c.args.seat.now c.take_all-all.new.seat c.take_book-book.new.seat c.settle_tool-done.new.seat c.put_all.new.seat c.take_all-all.ensures.keeps c.take_book-book.ensures.sees (stays-settled Tool c.take_book-book.result c.take_book-book.new.seat c.settle_tool-done.new.seat c.settle_tool-done.result c.settle_tool-done.ensures.done c.settle_tool-done.ensures.full) c.put_all.ensures.keeps
 
 pub returns-clause-done : goal.returns-clause-done
-returns-clause-done g c =
-    let b = c.take_book-book.result in
-    let s0 = c.args.seat.now in
-    let input = c.take_book-book.ensures.has.input ∙ c.take_book-book.ensures.sees.input ∙ c.take_all-all.ensures.keeps.input ∙ c.requires.of.input ∙ sym (ap (λ (x : LockTable). x.opened.input) c.self.view_is) in
-    let checked : IsChecked b.input = subst IsChecked (sym input) c.self.invariant.checked in
-    call-done c.self.inside.set b s0 c.take_all-all.new.seat c.take_book-book.new.seat c.settle_tool-done.new.seat c.put_all.new.seat c.take_all-all.ensures.keeps c.take_book-book.ensures.sees c.put_all.ensures.keeps c.take_book-book.ensures.has c.take_book-book.ensures.current Tool c.settle_tool-done.result c.settle_tool-done.ensures.done c.settle_tool-done.ensures.full checked
+returns-clause-done g c = done-held c.self.inside.set c.args.self.now c.take_book-book.result c.args.seat.now c.take_all-all.new.seat c.take_book-book.new.seat c.settle_tool-done.new.seat c.put_all.new.seat c.take_all-all.ensures.keeps c.take_book-book.ensures.sees c.take_book-book.ensures.has c.take_book-book.ensures.current c.put_all.ensures.keeps c.requires.of.input (subst (λ (x : LockTable). IsChecked x.opened.input) c.self.view_is c.self.invariant.checked) Tool c.settle_tool-done.result c.settle_tool-done.ensures.done
 
 pub returns-clause-full : goal.returns-clause-full
-returns-clause-full g c =
-    let b = c.take_book-book.result in
-    let s0 = c.args.seat.now in
-    let input = c.take_book-book.ensures.has.input ∙ c.take_book-book.ensures.sees.input ∙ c.take_all-all.ensures.keeps.input ∙ c.requires.of.input ∙ sym (ap (λ (x : LockTable). x.opened.input) c.self.view_is) in
-    let checked : IsChecked b.input = subst IsChecked (sym input) c.self.invariant.checked in
-    call-full c.self.inside.set b s0 c.take_all-all.new.seat c.take_book-book.new.seat c.settle_tool-done.new.seat c.put_all.new.seat c.take_all-all.ensures.keeps c.take_book-book.ensures.sees c.put_all.ensures.keeps c.take_book-book.ensures.has c.take_book-book.ensures.current Tool c.settle_tool-done.result c.settle_tool-done.ensures.done c.settle_tool-done.ensures.full checked
+returns-clause-full g c = fills-held c.self.inside.set c.args.self.now c.take_book-book.result c.args.seat.now c.take_all-all.new.seat c.take_book-book.new.seat c.settle_tool-done.new.seat c.put_all.new.seat c.take_all-all.ensures.keeps c.take_book-book.ensures.sees c.take_book-book.ensures.has c.take_book-book.ensures.current c.put_all.ensures.keeps c.requires.of.input (subst (λ (x : LockTable). IsChecked x.opened.input) c.self.view_is c.self.invariant.checked) Tool c.settle_tool-done.result c.settle_tool-done.ensures.full

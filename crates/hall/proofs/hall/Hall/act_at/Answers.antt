@@ -1,18 +1,21 @@
 use Rattle.std.proofs.Common.{◌≡◌, ◌≢◌, ◌∙◌, ◌<◌, ℕ, true, sym, subst, arith}
 use Rattle.sched_model.specs.declared.machine.Machine.{Machine}
-use Rattle.sched_model.specs.Checked.{IsChecked}
+use Rattle.sched_model.specs.CheckedMachine.{IsChecked}
 use Rattle.journal_core.specs.Parts.{lists, tool_lock, tool_part}
 use Rattle.lock_moves.specs.Plays.{IsPartOfSome}
 use Rattle.lock_moves.specs.Sets.{IsAsKnown, LockTable, sitting_with}
-use Rattle.lock_moves.specs.Sight.{after_give}
+use Rattle.lock_moves.specs.SeatSight.{after_give}
 use Rattle.lock_moves.specs.Words.{name_number}
+use Rattle.std.specs.Prelude.{Ok}
+use Rattle.hall.specs.declared.turns.Done.TheVariants as done
 use Rattle.hall.specs.declared.value.PartState.{PartState}
 use Rattle.hall.specs.declared.value.PartState.TheVariants.{Pool, Tool}
-use Rattle.hall.specs.Settling.{IsNamed}
+use Rattle.hall.specs.BookTurns.{IsNamed}
 use Rattle.hall.specs.Values.{part_of_value, suits_value}
+use Rattle.hall.proofs.Calls.{done-held}
 use Rattle.hall.proofs.Locking.{gave_keeps}
 use Rattle.hall.proofs.Parting.{as-known}
-use Rattle.hall.proofs.UnderOne.{actor-there, free-settles, idle-held, keeps-all, lock-of-pool, lock-of-tool, only-gone, sought-keeps, sought-known, sought-only}
+use Rattle.hall.proofs.UnderOne.{actor-there, free-settles, keeps-all, lock-of-pool, lock-of-tool, only-gone, sought-keeps, sought-known, sought-only}
 use Rattle.hall.proofs.hall.Hall.act_at.Goals as goal
 
 pub act_in_pool-requires-clause-number : goal.act_in_pool-requires-clause-number
@@ -56,8 +59,8 @@ returns-in-Tool-clause-done g c =
     let book = c.take_book-book.ensures in
     let checked = (subst (λ (x : LockTable). IsChecked x.opened.input) c.self.view_is c.self.invariant.checked) in
     let apart : 16 ≢ 17 = λ e. omega (arith, e) in
-    idle-held _ c.args.self.now c.take_book-book.result s0 s1 s2 s3 c.unlock.new.seat took book.sees book.has book.current
-    (gave_keeps c.new.result.lock s3 c.unlock.new.seat c.unlock.ensures) c.requires.of.input checked c.args.actor
+    done-held _ c.args.self.now c.take_book-book.result s0 s1 s2 s3 c.unlock.new.seat took book.sees book.has book.current
+    (gave_keeps c.new.result.lock s3 c.unlock.new.seat c.unlock.ensures) c.requires.of.input checked c.args.actor (Ok (done.Nothing, 0))
     (free-settles _ c.args.self.now c.take_book-book.result s2 book.has book.current checked (book.has.input ∙ book.sees.input ∙ took.input ∙ c.requires.of.input) part
     (as-known tool_lock (tool_part part) s1.view s2.view (book.locks 16 apart) known) c.args.actor c.args.name c.requires.name
     (subst (λ (x : PartState). lists (part_of_value x) (name_number c.args.name) ≡ true) is c.lock_of-held.ensures.lists) s3 c.put_book.ensures.keeps)

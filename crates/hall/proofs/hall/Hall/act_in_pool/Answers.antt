@@ -1,10 +1,11 @@
 use Rattle.std.proofs.Common.{◌≡◌, ℕ, sym, subst}
-use Rattle.sched_model.specs.Checked.{IsChecked}
+use Rattle.sched_model.specs.CheckedMachine.{IsChecked}
 use Rattle.lock_moves.specs.Sets.{LockTable, sitting_with}
-use Rattle.lock_moves.specs.Sight.{Sitting, after_give}
-use Rattle.hall.specs.Settling.{HoldsOnly}
+use Rattle.lock_moves.specs.SeatSight.{Sitting, after_give}
+use Rattle.hall.specs.BookTurns.{HoldsOnly}
 use Rattle.hall.proofs.Locking.{gave_keeps}
-use Rattle.hall.proofs.UnderOne.{done-held, fills-held, only-gone, same-sight}
+use Rattle.hall.proofs.Calls.{done-held, fills-held}
+use Rattle.hall.proofs.UnderOne.{only-gone, same-sight}
 use Rattle.hall.proofs.hall.Hall.act_in_pool.Goals as goal
 
 pub returns-clause-nothing : goal.returns-clause-nothing

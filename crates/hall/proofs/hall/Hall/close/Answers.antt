@@ -61,7 +61,7 @@ returns-in-Some-clause-turn c =
     (c.len-place.ensures ∙ ap (λ (x : Chronicle). length x.history) c.get.ensures) c.end_moment.ensures.entered
 
 pub returns-clause-knows : goal.returns-clause-knows
-returns-clause-knows c = knows-later c.args.seat.now.view.now c.args.seat.now.view c.finish.new.seat.view c.finish.ensures.entered.input c.finish.ensures.locks (omega arith) c.args.all.now c.requires.knows
+returns-clause-knows c = knows-later c.args.seat.now.view.now c.args.seat.now.view c.finish.new.seat.view c.finish.ensures.entered.input c.finish.ensures.locks.moment (omega arith) c.finish.ensures.locks c.args.all.now c.requires.knows
 
 pub returns-clause-turn : goal.returns-clause-turn
 returns-clause-turn c =

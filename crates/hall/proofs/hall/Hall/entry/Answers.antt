@@ -7,7 +7,7 @@ use native.Mathlib.Decide.{ℕ_discrete}
 use Rattle.sched_model.specs.declared.event.Entry.{Entry}
 use Rattle.sched_model.specs.declared.machine.Machine.{Machine}
 use Rattle.journal_core.specs.Books.{Chronicle}
-use Rattle.lock_moves.specs.Sight.{Known, Seen, find_lock}
+use Rattle.lock_moves.specs.SeatSight.{Known, Seen, find_lock}
 use Rattle.lock_moves.proofs.Finding.{none_held}
 use Rattle.hall.specs.Steps.{KeepsLocks}
 use Rattle.hall.proofs.hall.Hall.entry.Goals as goal

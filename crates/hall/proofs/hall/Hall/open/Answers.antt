@@ -6,7 +6,7 @@ use Rattle.sched_model.specs.Opening.{opening}
 use Rattle.journal_core.specs.Parts.{tool_of as part_of_tool}
 use Rattle.pool_slots.specs.Counts.{AreSpares}
 use Rattle.journal_core.specs.Books.{Chronicle, chronicle}
-use Rattle.lock_moves.specs.Opened.{AreParts}
+use Rattle.lock_moves.specs.TableContent.{AreParts}
 use Rattle.hall.specs.declared.value.ToolKept.{ToolKept}
 use Rattle.hall.specs.Values.{part_of_value, suits_value}
 use Rattle.hall.proofs.Opening.{opened-parts}

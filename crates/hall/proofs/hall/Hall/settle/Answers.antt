@@ -1,11 +1,12 @@
 use Rattle.std.proofs.Common.{◌≡◌, ◌≤◌, ◌<◌, ◌∙◌, length, ap, subst}
 use Rattle.sched_model.specs.declared.event.Event.{Event}
-use Rattle.sched_model.specs.Checked.{IsChecked}
+use Rattle.sched_model.specs.CheckedMachine.{IsChecked}
 use Rattle.sched_model.specs.Runs.{action_of}
 use Rattle.std.specs.Prelude.{Some}
 use Rattle.journal_core.specs.Books.{Chronicle}
 use Rattle.lock_moves.specs.Sets.{LockTable}
 use Rattle.hall.specs.Seats.{IsCountBefore}
+use Rattle.hall.proofs.Calls.{finds-full}
 use Rattle.hall.proofs.UnderOne.{enabled-held, event-held, few-held, full-held, goes-held, home-held, nothing-held}
 use Rattle.hall.proofs.hall.Hall.settle.Goals as goal
 
@@ -14,10 +15,11 @@ returns-in_default-clause-done c = nothing-held c.args.self.now c.args.book c.ar
 
 pub returns-then-not-room_left-clause-full : goal.returns-then-not-room_left-clause-full
 returns-then-not-room_left-clause-full c =
-    full-held c.args.self.now c.args.book c.args.seat.now c.requires.has c.requires.current (subst (λ (x : LockTable). IsChecked x.opened.input) c.self.view_is c.self.invariant.checked) c.requires.input c.args.i c.requires.number c.args.slot.now c.requires.knows c.requires.some c.args.t.0 c.requires.now c.args.actor c.requires.actor c.args.found c.requires.found c.in-Some.action c.in-Some.is (record { events = c.limit-events.result }) c.put_book-then-not-room_left.new.seat c.put_book-then-not-room_left.ensures.keeps
+    full-held c.args.self.now c.args.book c.args.seat.now c.requires.has c.requires.current (subst (λ (x : LockTable). IsChecked x.opened.input) c.self.view_is c.self.invariant.checked) c.requires.input c.args.i c.requires.number c.args.slot.now c.requires.knows c.requires.some c.args.t.0 c.requires.now c.args.actor c.requires.actor c.args.found c.requires.found c.in-Some.action c.in-Some.is (record { events = c.limit-events.result }) c.put_book-then-not-room_left.new.seat
+    (finds-full c.args.book c.args.seat.now c.put_book-then-not-room_left.new.seat (record { events = c.limit-events.result }) c.put_book-then-not-room_left.ensures.keeps
     (c.limit-events.ensures ∙ ap (λ (x : Chronicle). x.limit) c.get-then-not-room_left.ensures)
     (subst (λ (x : Chronicle). length x.history ≤ x.limit) c.get.ensures c.tell.ensures.fits)
-    (subst (λ (x : Chronicle). length x.history < x.limit → ⊥) c.get-2.ensures (λ less. (let room = c.if-not-room_left.ensures.1 less in absurd (cc))))
+    (subst (λ (x : Chronicle). length x.history < x.limit → ⊥) c.get-2.ensures (λ less. (let room = c.if-not-room_left.ensures.1 less in absurd (cc)))))
 
 pub decides_before-decides-requires : goal.decides_before-decides-requires
 decides_before-decides-requires c = record { few = few-held c.args.self.now c.args.book c.args.seat.now c.requires.has c.requires.current (subst (λ (x : LockTable). IsChecked x.opened.input) c.self.view_is c.self.invariant.checked) c.requires.input c.args.i c.requires.number c.args.slot.now c.requires.knows c.requires.some c.args.t.0 c.requires.now c.args.actor c.requires.actor c.args.found c.requires.found c.in-Some.action c.in-Some.is }

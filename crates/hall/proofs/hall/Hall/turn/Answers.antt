@@ -1,8 +1,6 @@
-use Rattle.std.proofs.Common.{◌≡◌, ◌∙◌, ◌<◌, ◌≤◌, ◌-◌, true, false, true≢false, List, length, sym, ap, subst, arith}
+use Rattle.std.proofs.Common.{◌≡◌, ◌∙◌, ◌<◌, ◌≤◌, true, false, List, length, sym, ap, subst}
 use Rattle.std.specs.Prelude.{Option}
-use mathlib.Core.Logic.{dite}
-use native.Mathlib.Decide.{dec_lt}
-use Rattle.sched_model.specs.Checked.{IsChecked}
+use Rattle.sched_model.specs.CheckedMachine.{IsChecked}
 use Rattle.sched_model.specs.Machine.{first_enabled}
 use Rattle.journal_core.specs.Books.{Chronicle}
 use Rattle.journal_core.specs.Histories.{now_at, reached_by}
@@ -13,38 +11,37 @@ use Rattle.pool_slots.proofs.Going.{now_of-is}
 use Rattle.machine_parts.specs.Parts.{AreParts}
 use Rattle.lock_moves.specs.Sets.{LockTable}
 use Rattle.hall.specs.declared.value.ToolKept.{ToolKept}
-use Rattle.hall.proofs.Parting.{parts-held}
-use Rattle.hall.proofs.Turning.{full-turn, goes-held, knows-same, over-some, over-turn}
+use Rattle.hall.proofs.Calls.{finds-full}
+use Rattle.hall.proofs.Parting.{goes-held, knows-put, parts-held}
+use Rattle.hall.proofs.Turning.{over-turn, some-next}
 use Rattle.hall.proofs.hall.Hall.turn.Goals as goal
 
 pub returns-then-is_over-clause-knows : goal.returns-then-is_over-clause-knows
-returns-then-is_over-clause-knows c = knows-same c.args.self.now c.args.book c.args.seat.now c.requires.has c.requires.current c.args.all.now c.put_book.new.seat c.put_book.ensures.keeps c.put_book.ensures.locks c.requires.knows
+returns-then-is_over-clause-knows c = knows-put c.args.seat.now c.put_book.new.seat c.put_book.ensures.keeps c.put_book.ensures.locks c.args.all.now c.requires.knows
 
 pub returns-then-is_over-clause-turn : goal.returns-then-is_over-clause-turn
 returns-then-is_over-clause-turn c =
     let b = c.args.book in
     let over : (reached_by b.input b.history).over ≡ true = ap (λ (x : Chronicle). (reached_by x.input x.history).over) (sym c.get.ensures) ∙ sym c.if-is_over.ensures in
-    let count : c.len-place.result ≡ length b.history = c.len-place.ensures ∙ ap (λ (x : Chronicle). length x.history) c.get-then-is_over.ensures in
-    let some = over-some c.args.self.now b c.args.seat.now c.requires.has c.requires.current over in
-    over-turn c.args.self.now b c.args.seat.now c.requires.has c.requires.current (c.len-place.result - 1) c.put_book.new.seat c.put_book.ensures.keeps over (omega (arith, count, some))
+    over-turn c.args.self.now b c.args.seat.now c.requires.has c.requires.current c.len-place.result c.put_book.new.seat c.put_book.ensures.keeps over (c.len-place.ensures ∙ ap (λ (x : Chronicle). length x.history) c.get-then-is_over.ensures)
 
 pub returns-then-not-room_left-clause-knows : goal.returns-then-not-room_left-clause-knows
 returns-then-not-room_left-clause-knows c =
-    let put = c.put_book-then-not-room_left in
-    knows-same c.args.self.now c.args.book c.args.seat.now c.requires.has c.requires.current c.args.all.now put.new.seat put.ensures.keeps put.ensures.locks c.requires.knows
+    (let put = c.put_book-then-not-room_left in knows-put c.args.seat.now put.new.seat put.ensures.keeps put.ensures.locks c.args.all.now c.requires.knows)
 
 pub returns-then-not-room_left-clause-full : goal.returns-then-not-room_left-clause-full
 returns-then-not-room_left-clause-full c =
     let b = c.args.book in
+    let s = c.args.seat.now in
     let put = c.put_book-then-not-room_left in
     let checked : IsChecked b.input = subst IsChecked (ap (λ (x : LockTable). x.opened.input) c.self.view_is ∙ sym c.requires.input) c.self.invariant.checked in
     let over : (reached_by b.input b.history).over ≡ false = ap (λ (x : Chronicle). (reached_by x.input x.history).over) (sym c.get.ensures) ∙ sym c.if-is_over.ensures in
-    let fits : length b.history ≤ b.limit = subst (λ (x : Chronicle). length x.history ≤ x.limit) c.get-2.ensures c.tell.ensures.fits in
-    let count : length b.history ≡ b.limit = dite (dec_lt (length b.history) b.limit)
-    (λ less. absurd (true≢false (sym (c.if-not-room_left.ensures.1 (subst (λ (x : Chronicle). length x.history < x.limit) (sym c.get-3.ensures) less)))))
-    (λ full. omega (arith, full, fits)) in
-    full-turn c.args.self.now b c.args.seat.now c.requires.has c.requires.current (record { events = c.limit-events.result }) put.new.seat put.ensures.keeps
-    (c.limit-events.ensures ∙ ap (λ (x : Chronicle). x.limit) c.get-then-not-room_left.ensures) count checked over
+    record {
+      finds = finds-full b s put.new.seat (record { events = c.limit-events.result }) put.ensures.keeps (c.limit-events.ensures ∙ ap (λ (x : Chronicle). x.limit) c.get-then-not-room_left.ensures)
+          (subst (λ (x : Chronicle). length x.history ≤ x.limit) c.get-2.ensures c.tell.ensures.fits)
+          (subst (λ (x : Chronicle). length x.history < x.limit → ⊥) c.get-3.ensures (λ less. (let room = c.if-not-room_left.ensures.1 less in absurd (cc))));
+      due = some-next (told_of b) (goes-held c.args.self.now b s c.requires.has c.requires.current checked over);
+    }
 
 pub whole_first-requires-clause-parts : goal.whole_first-requires-clause-parts
 whole_first-requires-clause-parts c =

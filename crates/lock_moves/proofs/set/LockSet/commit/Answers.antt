@@ -4,7 +4,7 @@ use Rattle.journal_core.specs.Books.{Chronicle}
 use Rattle.journal_core.specs.Histories.{IsSound, NamesStandOnce}
 use Rattle.lock_moves.specs.declared.content.Content.{Content}
 use Rattle.lock_moves.specs.declared.content.Content.TheVariants.{Out, Ledger}
-use Rattle.lock_moves.specs.Sight.{View, Seen, Holds, with_out}
+use Rattle.lock_moves.specs.SeatSight.{View, Seen, Holds, with_out}
 use Rattle.lock_moves.specs.Rests.{first_of_views}
 use Rattle.lock_moves.specs.Plays.{Next, Kept, Placed, Decided}
 use Rattle.lock_moves.proofs.Taking.{fetches_at}

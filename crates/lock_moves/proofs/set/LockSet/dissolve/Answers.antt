@@ -4,7 +4,7 @@ use Rattle.sched_model.specs.declared.event.Entry.{Entry}
 use Rattle.sched_model.specs.declared.machine.Machine.{Machine}
 use Rattle.journal_core.specs.Histories.{NamesStandOnce}
 use Rattle.lock_moves.specs.declared.content.Content.{Content}
-use Rattle.lock_moves.specs.Opened.{HaveParts}
+use Rattle.lock_moves.specs.TableContent.{HaveParts}
 use Rattle.lock_moves.proofs.Closing.{are_parts}
 use Rattle.lock_moves.proofs.set.LockSet.dissolve.Goals as goal
 

@@ -4,8 +4,8 @@ use Rattle.journal_core.specs.Books.{Chronicle}
 use Rattle.journal_core.specs.Histories.{NamesStandOnce}
 use Rattle.lock_moves.specs.declared.content.Content.{Content}
 use Rattle.lock_moves.specs.declared.content.Content.TheVariants.{Ledger}
-use Rattle.lock_moves.specs.Opened.{HaveParts}
-use Rattle.lock_moves.specs.Sight.{Seen, has_place}
+use Rattle.lock_moves.specs.TableContent.{HaveParts}
+use Rattle.lock_moves.specs.SeatSight.{Seen, has_place}
 use Rattle.lock_moves.specs.Sets.{LockTable}
 use Rattle.lock_moves.specs.Rests.{first_of_views}
 use Rattle.lock_moves.proofs.Closing.{leaves, leaves_parts, leaves_names}

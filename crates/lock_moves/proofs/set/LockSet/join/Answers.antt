@@ -1,5 +1,5 @@
 use Rattle.std.proofs.Common.{rules, ◌≡◌, ℕ, ◌<◌, sym, ap, ◌∙◌, subst}
-use Rattle.lock_moves.specs.Sight.{View}
+use Rattle.lock_moves.specs.SeatSight.{View}
 use Rattle.lock_moves.specs.Rests.{first_of_views}
 use Rattle.lock_moves.proofs.Sharing.{joins}
 use Rattle.lock_moves.proofs.set.LockSet.join.Goals as goal

@@ -1,5 +1,5 @@
 use Rattle.std.proofs.Common.{◌≡◌, ◌<◌, ℕ, List, [], ◌∷◌, ◌++◌, replicate, Some, cond, sym, refl, ap, ◌∙◌, subst, eq-eqb}
-use Rattle.lock_moves.specs.Sight.{Known, Sitting, known_part, find_lock, after_search, after_give, after_take, tried_again}
+use Rattle.lock_moves.specs.SeatSight.{Known, Sitting, known_part, find_lock, after_search, after_give, after_take, tried_again}
 use Rattle.lock_moves.specs.Sets.{sitting_with}
 use Rattle.lock_moves.specs.Words.{name_number}
 use Rattle.lock_moves.proofs.Named.{name_below}

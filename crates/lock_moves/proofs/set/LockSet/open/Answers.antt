@@ -3,8 +3,8 @@ use Rattle.atomic_table.specs.Table.{opening}
 use Rattle.journal_core.specs.Books.{Chronicle}
 use Rattle.lock_moves.specs.declared.content.Content.{Content}
 use Rattle.lock_moves.specs.declared.content.Content.TheVariants.{Value, Ledger}
-use Rattle.lock_moves.specs.Sight.{view_opening}
-use Rattle.lock_moves.specs.Agrees.{Agrees}
+use Rattle.lock_moves.specs.SeatSight.{view_opening}
+use Rattle.lock_moves.specs.Agreement.{Agrees}
 use Rattle.lock_moves.proofs.Opening.{agrees_first}
 use Rattle.lock_moves.proofs.set.LockSet.open.Goals as goal
 

@@ -1,6 +1,6 @@
 use Rattle.std.proofs.Common.{rules, ℕ, ◌<◌, [], ◌∷◌, sym, ap, ◌∙◌, subst}
 use mathlib.Core.List.{IsPrefix}
-use Rattle.lock_moves.specs.Sight.{Seen, has_loaded, view_has_loaded}
+use Rattle.lock_moves.specs.SeatSight.{Seen, has_loaded, view_has_loaded}
 use Rattle.lock_moves.specs.Rests.{first_of_views}
 use Rattle.lock_moves.proofs.Named.{core_below}
 use Rattle.lock_moves.proofs.Staging.{loads_stage}

@@ -1,5 +1,5 @@
 use Rattle.std.proofs.Common.{rules, ℕ, ◌<◌, [], ◌∷◌, sym, ap, ◌∙◌, subst}
-use Rattle.lock_moves.specs.Sight.{Seen, Holds, view_moved_name}
+use Rattle.lock_moves.specs.SeatSight.{Seen, Holds, view_moved_name}
 use Rattle.lock_moves.specs.Sets.{HasName}
 use Rattle.lock_moves.specs.Rests.{first_of_views}
 use Rattle.lock_moves.specs.Words.{name_number}

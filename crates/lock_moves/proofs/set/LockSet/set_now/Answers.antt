@@ -1,5 +1,5 @@
 use Rattle.std.proofs.Common.{rules, ℕ, ◌<◌, sym, ap, subst}
-use Rattle.lock_moves.specs.Sight.{Seen, Holds}
+use Rattle.lock_moves.specs.SeatSight.{Seen, Holds}
 use Rattle.lock_moves.specs.Rests.{first_of_views}
 use Rattle.lock_moves.proofs.Naming.{sets_now_at}
 use Rattle.lock_moves.proofs.set.LockSet.set_now.Goals as goal

@@ -1,6 +1,6 @@
 use Rattle.std.proofs.Common.{rules, ℕ, ◌<◌, [], ◌∷◌, sym, ap, ◌∙◌, subst}
 use Rattle.journal_core.specs.Books.{Chronicle}
-use Rattle.lock_moves.specs.Sight.{Seen, Holds, after_naming, view_naming}
+use Rattle.lock_moves.specs.SeatSight.{Seen, Holds, after_naming, view_naming}
 use Rattle.lock_moves.specs.Rests.{first_of_views}
 use Rattle.lock_moves.specs.Plays.{Next}
 use Rattle.lock_moves.proofs.Named.{core_below}

@@ -2,7 +2,7 @@ use Rattle.std.proofs.Common.{rules, ◌≡◌, ◌<◌, ℕ, List, [], ◌∷�
 use Rattle.atomic_table.specs.Table.{Me, rest}
 use Rattle.lock_moves.specs.declared.content.Content.{Content}
 use Rattle.lock_moves.specs.declared.content.Content.TheVariants.{Out, Ledger}
-use Rattle.lock_moves.specs.Sight.{Known, View, AllBelow, book_known, view_took_book, with_out, Seen, find_lock}
+use Rattle.lock_moves.specs.SeatSight.{Known, View, AllBelow, book_known, view_took_book, with_out, Seen, find_lock}
 use mathlib.Core.List.{IsPrefix}
 use Rattle.journal_core.specs.Books.{Chronicle}
 use Rattle.lock_moves.specs.Plays.{Current}

@@ -2,7 +2,7 @@ use Rattle.std.proofs.Common.{rules, ◌≡◌, ◌<◌, ℕ, List, [], ◌∷�
 use Rattle.atomic_table.specs.Table.{Me, rest}
 use Rattle.lock_moves.specs.declared.content.Content.{Content}
 use Rattle.lock_moves.specs.declared.content.Content.TheVariants.{Out, Value}
-use Rattle.lock_moves.specs.Sight.{Known, Seen, View, AllBelow, find_lock, known_part, view_took, with_out}
+use Rattle.lock_moves.specs.SeatSight.{Known, Seen, View, AllBelow, find_lock, known_part, view_took, with_out}
 use Rattle.lock_moves.specs.Rests.{first_of_views}
 use Rattle.lock_moves.specs.Plays.{Lists, IsPartOfSome}
 use Rattle.lock_moves.proofs.Finding.{find-head, value_out}

@@ -2,7 +2,7 @@ use Rattle.std.proofs.Common.{rules, ◌≡◌, ℕ, suc, List, [], ◌∷◌, s
 use Rattle.atomic_table.specs.Table.{Me, rest}
 use Rattle.lock_moves.specs.declared.content.Content.{Content}
 use Rattle.lock_moves.specs.declared.content.Content.TheVariants.{Out, Value}
-use Rattle.lock_moves.specs.Sight.{View, Seen, with_out}
+use Rattle.lock_moves.specs.SeatSight.{View, Seen, with_out}
 use Rattle.lock_moves.specs.Sets.{Taken, IsAsKnown}
 use Rattle.lock_moves.specs.Rests.{first_of_views}
 use Rattle.lock_moves.proofs.Taking.{fetches_at, puts_at}

@@ -8,7 +8,7 @@ use Rattle.pool_core.specs.Seen.{Seen as PoolSeen}
 use Rattle.pool_slots.specs.Places.{SlotSuits, slot_part}
 use Rattle.pool_slots.specs.Spares.{Shelves}
 use Rattle.lock_moves.specs.Sets.{IsAsKnown}
-use Rattle.lock_moves.specs.Sight.{Seen, find_lock}
+use Rattle.lock_moves.specs.SeatSight.{Seen, find_lock}
 use Rattle.hall.specs.declared.all.AllParts.{AllParts}
 use Rattle.hall.specs.Values.{ToolSuits}
 

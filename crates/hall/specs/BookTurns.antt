@@ -19,7 +19,7 @@ use Rattle.pool_slots.specs.Places.{state_of}
 use Rattle.pool_slots.specs.Told.{told_of}
 use Rattle.lock_moves.specs.declared.content.NameId.{NameId}
 use Rattle.lock_moves.specs.declared.content.NameId.TheVariants as name_id
-use Rattle.lock_moves.specs.Sight.{Sitting, Seen, find_lock}
+use Rattle.lock_moves.specs.SeatSight.{Sitting, Seen, find_lock}
 use Rattle.lock_moves.specs.Words.{has_name}
 use Rattle.hall.specs.declared.turns.Done.{Done}
 use Rattle.hall.specs.declared.turns.Done.TheVariants as done

@@ -5,7 +5,7 @@ use mathlib.Core.Option.{some}
 use lib.ListN.{get_elem?}
 use Rattle.sched_model.specs.declared.event.Entry.{Entry}
 use Rattle.journal_core.specs.Books.{Chronicle}
-use Rattle.lock_moves.specs.Sight.{Sitting}
+use Rattle.lock_moves.specs.SeatSight.{Sitting}
 use Rattle.lock_moves.specs.Sets.{LockTable, Taken}
 use Rattle.lock_example.specs.declared.counter.Counter.{Counter}
 use Rattle.lock_example.specs.Example.{adding_machine}

@@ -11,7 +11,7 @@ use Rattle.journal_core.specs.Parts.{StatePart, lists}
 use Rattle.journal_core.specs.Histories.{part_at, home_at, now_at, decides_at, IsSound}
 use Rattle.lock_moves.specs.declared.content.Content.{Content}
 use Rattle.lock_moves.specs.declared.content.Content.TheVariants.{Out, Value, Ledger}
-use Rattle.lock_moves.specs.Sight.{Known, View, find_lock, Holds, has_place, Rising, raise}
+use Rattle.lock_moves.specs.SeatSight.{Known, View, find_lock, Holds, has_place, Rising, raise}
 use Rattle.lock_moves.specs.Words.{lock_count, word_count, name_word, moment_word, stage_word}
 
 abbrev pub shares_of : List View → ℕ

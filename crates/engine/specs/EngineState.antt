@@ -14,6 +14,7 @@ use Rattle.pool_slots.specs.Places.{state_of}
 use Rattle.pool_slots.specs.Spares.{Shelves}
 use Rattle.pool_slots.specs.Told.{Told}
 use Rattle.machine_parts.specs.Parts.{AreFirsts, AreParts}
+use Rattle.sched_model.specs.Standing.{Standing}
 
 -- the first event of what stands at a place that may come at t; nothing of an empty place
 abbrev pub IsFirstOfPlace : ℕ → Option Seen → Option Action → Type 0
@@ -53,3 +54,7 @@ pub record IsRunning (w : Told) (now horizon granularity : ℕ) (slots : List (O
   pub granularity_is : granularity ≡ w.input.config.granularity
   pub spares : AreSpares w.input now tool.part shelves
   pub kept : AreKept now slots firsts nexts
+
+-- where a trail leads
+abbrev pub standing_of : Told → Standing
+standing_of w = record { machine = w.input; state = state_of w }
