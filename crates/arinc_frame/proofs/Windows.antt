@@ -1,21 +1,17 @@
 -- A window stays the same, with its end, until that end.
-use Rattle.std.proofs.Common.{◌≡◌, ◌<◌, ◌≤◌, ◌+◌, ◌-◌, ◌%◌, ℕ, Bool, true, false, List, [], ◌∷◌, refl, arith, subst, sym, ◌∙◌, ap}
+use Rattle.std.proofs.Common.{◌≡◌, ◌<◌, ◌≤◌, ◌+◌, ◌-◌, ◌%◌, ℕ, true, false, List, [], ◌∷◌, refl, arith, subst, sym, ◌∙◌, ap}
 use Rattle.std.specs.Prelude.{Option, Some, None, nat_lt}
 use Rattle.std.specs.Option.{ForSome}
-use Rattle.std.proofs.lemmas.Nat.{div-add-mod'}
 use Rattle.sched_model.specs.declared.config.Frame.{Frame}
 use Rattle.sched_model.specs.declared.config.FrameEntry.{FrameEntry}
 use Rattle.sched_model.specs.declared.state.ArincRecords.{ArincRecords}
 use Rattle.sched_model.specs.Arinc.{Window, window_from, window_at, present_window}
-use Rattle.sched_laws.proofs.Window.{until_last, mod_more, mod_self}
+use Rattle.sched_laws.proofs.Window.{cons_window, until_last, mod_more, mod_self}
 use Rattle.sched_ranges.specs.Ranges.{IsFrame}
 use Rattle.plain_policy.specs.Frames.{window_of}
 use Rattle.arinc_frame.specs.declared.window.Present.{Present}
 use Rattle.arinc_frame.specs.Frames.{IsPresent}
 use Rattle.std.proofs.lemmas.Bool.{le-ltb, ltb-false, lt-ltb}
-
-abbrev cons_window : FrameEntry → ℕ → ℕ → ℕ → List FrameEntry → Bool → Window
-cons_window e start ahead last entries b = elim b as (λ _. Window) [ true ↦ record { unit = Some (record { dom = e.dom; n = e.unit }); until = start + e.run.0 } | false ↦ window_from (start + e.run.0) (ahead - e.run.0) last entries ]
 
 -- a later place of the frame that is before the window's end
 same_window : (start ahead more last : ℕ) (entries : List FrameEntry) → start + ahead + more < (window_from start ahead last entries).until → window_from start (ahead + more) last entries ≡ window_from start ahead last entries

@@ -17,7 +17,8 @@ use Rattle.arrival_queue.specs.Tables.{Tabled, IsQueue, all_items, has_number, a
 use Rattle.arrival_queue.specs.Filters.{first_that}
 use Rattle.std.proofs.lemmas.Bool.{cases_eq, eq-eqb, ne_eqb, le-ltb}
 use Rattle.arrival_queue.proofs.Splits.{Tabled-mine}
-use Rattle.arrival_queue.proofs.Ranks.{rank-in, rank-out, rank-test, rank-all, rank-most, one_if}
+use Rattle.arrival_queue.proofs.Ranks.{rank-in, rank-out, rank-test, rank-all, rank-most}
+use Rattle.sched_base.specs.Numbers.{one_if}
 use Rattle.arrival_queue.proofs.Views.{map_kept, map_put, alike, shown_new, map_closed, has_unit-shown, rank_in-split, PutSplit, put_split}
 use Rattle.arrival_queue.proofs.Walking.{Tabled-left, Tabled-right, has_left, live-append, or_group}
 use Rattle.arrival_queue.proofs.Steps.{Found}

@@ -6,10 +6,7 @@ use Rattle.sched_base.specs.declared.UnitId.{UnitId}
 use Rattle.sched_base.proofs.Bools.{or_left, or_right}
 use Rattle.arrival_queue.specs.Queues.{Queued, put_first, is_of, has_unit, list_without, rank_in}
 use Rattle.arrival_queue.specs.Order.{has_rank}
-
--- 1 where the test passes
-abbrev pub one_if : Bool → ℕ
-one_if t = (if t then 1 else 0)
+use Rattle.sched_base.specs.Numbers.{one_if}
 
 pub count-cons : (p : Queued → Bool) (e : Queued) (es : List Queued) → count_by p (e ∷ es) ≡ one_if (p e) + count_by p es
 count-cons p e es = sum_by-cons (λ (x : Queued). one_if (p x)) e es

@@ -10,7 +10,8 @@ use Rattle.unit_ring.specs.Lists.{Item, Lists}
 use Rattle.arrival_queue.specs.declared.key.Key.{Key}
 use Rattle.arrival_queue.specs.Queues.{Queued, queued_unit}
 use Rattle.arrival_queue.specs.Tables.{Tabled, IsQueue, all_items, arrival_at, key_at, rank, shown_unit, count_below, queues_of}
-use Rattle.arrival_queue.proofs.Ranks.{one_if, rank-cons}
+use Rattle.arrival_queue.proofs.Ranks.{rank-cons}
+use Rattle.sched_base.specs.Numbers.{one_if}
 use Rattle.arrival_queue.proofs.Walking.{Tabled-left, Tabled-right}
 
 below-cons : (n : ℕ) (ns : List ℕ) (a : ℕ) → count_below (n ∷ ns) a ≡ one_if (nat_lt n a) + count_below ns a

@@ -9,7 +9,8 @@ use Rattle.arrival_queue.specs.declared.key.Key.{Key}
 use Rattle.arrival_queue.specs.Queues.{Queued, Queues, queued_unit, goes_before, list_with, is_of, has_unit, holds, list_without, rank_in, rank_of, count, after_insert, after_append, closed_up, after_remove, after_move}
 use Rattle.arrival_queue.specs.Order.{GoesBeforeAll, IsInOrder, ArrivedBeforeAll, IsInArrival, has_rank, EachRankOnce, EachUnitOnce, IsOrdered}
 use Rattle.arrival_queue.proofs.Changes.{rank_in-append}
-use Rattle.arrival_queue.proofs.Counting.{one_if, one-most, count-cons, count-append, count-put, length-put, count-map, count-alike, count-same, count-without, length-without, without-append, count-absent, count-here, has_unit-append, count-rank}
+use Rattle.arrival_queue.proofs.Counting.{one-most, count-cons, count-append, count-put, length-put, count-map, count-alike, count-same, count-without, length-without, without-append, count-absent, count-here, has_unit-append, count-rank}
+use Rattle.sched_base.specs.Numbers.{one_if}
 use Rattle.arrival_queue.proofs.Ordering.{before_trans, before_other, closed-test, closed_before}
 
 -- no unit has the rank, and each has a rank below a number

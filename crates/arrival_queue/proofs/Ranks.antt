@@ -1,5 +1,5 @@
 -- Ranks: how many arrived earlier.
-use Rattle.std.proofs.Common.{◌≡◌, ℕ, ◌+◌, ◌<◌, ◌≤◌, List, [], ◌∷◌, ◌++◌, length, set, Bool, false, refl, sym, ◌∙◌, ap, inl, inr, arith}
+use Rattle.std.proofs.Common.{◌≡◌, ℕ, ◌+◌, ◌<◌, ◌≤◌, List, [], ◌∷◌, ◌++◌, length, set, false, refl, sym, ◌∙◌, ap, inl, inr, arith}
 use Rattle.std.specs.Prelude.{◌==◌, if◌then◌else◌, nat_lt}
 use Rattle.std.proofs.lemmas.Bool.{cases_lt, lt-ltb, le-ltb}
 use Rattle.std.proofs.lemmas.List.{get_or-set_same, get_or-set_other}
@@ -8,10 +8,7 @@ use Rattle.sched_base.proofs.Bools.{or_left, or_right}
 use Rattle.unit_ring.specs.Lists.{Item, has_node}
 use Rattle.arrival_queue.specs.Tables.{Tabled, rank, arrival_at}
 use Rattle.arrival_queue.proofs.Splits.{not_same, count-split}
-
--- 1 where the test passes
-abbrev pub one_if : Bool → ℕ
-one_if t = (if t then 1 else 0)
+use Rattle.sched_base.specs.Numbers.{one_if}
 
 pub rank-cons : (arrivals : List ℕ) (x : Item) (xs : List Item) (a : ℕ) → rank arrivals (x ∷ xs) a ≡ one_if (nat_lt (arrival_at arrivals x.node) a) + rank arrivals xs a
 rank-cons arrivals x xs a =

@@ -13,7 +13,8 @@ use Rattle.arrival_queue.specs.declared.key.Key.{Key}
 use Rattle.arrival_queue.specs.Queues.{Queued, queued_unit, is_less, goes_before, put_first, has_unit, rank_in, closed_up}
 use Rattle.arrival_queue.specs.Tables.{Apart, Tabled, has_number, key_at, arrival_at, rank, shown_unit, comes_before, first_node}
 use Rattle.arrival_queue.proofs.Splits.{not_same}
-use Rattle.arrival_queue.proofs.Ranks.{arrival-set, rank-out, rank-test, one_if}
+use Rattle.arrival_queue.proofs.Ranks.{arrival-set, rank-out, rank-test}
+use Rattle.sched_base.specs.Numbers.{one_if}
 
 key-set : (keys : List Key) (n m : ℕ) (key : Key) → (m == n) ≡ false → key_at (set keys n key) m ≡ key_at keys m
 key-set keys n m key other = get_or-set_other keys n m key (record { first = pos 0; second = 0 }) (not_same m n other)

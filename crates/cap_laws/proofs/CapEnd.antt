@@ -18,7 +18,8 @@ use Rattle.term_laws.specs.RtdsTerm.{Leg, late_of, leg_from, moves}
 use Rattle.term_laws.proofs.Time.{time_goes_on}
 use Rattle.cap_laws.specs.CapTerm.{PlacedLeg, CapTerm, next_decision, taken_for, domain_legs, cap_set, settings, refills, credit2_in, shared_span, meets, is_set_after}
 use Rattle.cap_laws.proofs.CapTracks.{cap_at, on_core, Stops, EventTracks, CapTracks}
-use Rattle.cap_laws.proofs.CoreSums.{over, total_over, total_two, above_most}
+use Rattle.cap_laws.proofs.CoreSums.{total_two, above_most}
+use Rattle.sched_laws.specs.Counts.{over, total_over}
 use Rattle.cap_laws.proofs.CapLegs.{OpenLeg, Opens, to_close, rest, DecidesNone, DecidesOne, decides}
 use Rattle.cap_laws.proofs.CapStep.{left_over, cap_there, cap_of, cap_stays, late_enough}
 

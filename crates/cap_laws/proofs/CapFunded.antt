@@ -13,7 +13,9 @@ use Rattle.sched_model.specs.Credit2.{held_by_running}
 use Rattle.term_laws.specs.RtdsTerm.{moves}
 use Rattle.cap_laws.specs.CapTerm.{PlacedLeg, cap_set, refills, ends_term, credit2_in}
 use Rattle.cap_laws.proofs.CapTracks.{cap_at, Stops, EventTracks, CapTracks}
-use Rattle.cap_laws.proofs.CoreSums.{over, total_over, total_same, total_le, total_none, above, above_least, above_rises}
+use Rattle.cap_laws.proofs.CoreSums.{total_same, total_none, above, above_least, above_rises}
+use Rattle.sched_laws.proofs.Counts.{total_over_le}
+use Rattle.sched_laws.specs.Counts.{over, total_over}
 use Rattle.cap_laws.proofs.CapLegs.{OpenLeg, Opens, opens_after, decides, Tracked, late_is}
 use Rattle.cap_laws.proofs.CapStep.{left_over, budgeted, part, late_part, Within, closed_by, closes_here, in_term, cap_there, cap_of, cap_stays}
 use Rattle.cap_laws.proofs.HeldBy.{held_at_least}
@@ -28,7 +30,7 @@ pub record Funded (cores t : ℕ) (s : State) (d : ℕ) (x : Credit2Domain) (ope
 pub funded_later : (cores t t2 : ℕ) (s : State) (d : ℕ) (x : Credit2Domain) (opens : Opens) → t ≤ t2 → Funded cores t s d x opens → Funded cores t2 s d x opens
 funded_later cores t t2 s d x opens later f = (
     let fits = f.fits in
-    let falls = total_le cores (left_over opens f.stop t2) (left_over opens f.stop t) (λ r low. less r (opens r)) in
+    let falls = total_over_le cores (left_over opens f.stop t2) (left_over opens f.stop t) (λ r low. less r (opens r)) in
     record { stop = f.stop; within = f.within; fits = omega (arith, fits, falls) })
   where
     less : (r : ℕ) (o : Option OpenLeg) → over (λ z. above_zero (f.stop r -ℤ pos (max z.from t2))) o ≤ over (λ z. above_zero (f.stop r -ℤ pos (max z.from t))) o

@@ -14,12 +14,13 @@ use Rattle.sched_model.specs.declared.state.Credit2Domain.{Credit2Domain}
 use Rattle.sched_model.specs.Opening.{opening, core_count}
 use Rattle.sched_model.specs.Runs.{Reached, run_start as begun, IsRunFrom, IsRun, after_entry, after_entries}
 use Rattle.sched_laws.specs.StateLaws.{state_after}
-use Rattle.sched_laws.proofs.Lists.{AllByRecursion-map}
+use Rattle.sched_base.proofs.Lists.{AllByRecursion-map}
 use Rattle.sched_base.proofs.Bools.{and_left, and_right, or_left, or_right}
 use Rattle.term_laws.proofs.Time.{time_goes_on}
 use Rattle.cap_laws.specs.CapTerm.{PlacedLeg, CapTerm, domain_legs, cap_set, settings, refills, cap_after, begins_term, term_from, terms_begun, credit2_in, first_cap, cap_terms, shared_span, meets, is_set_after, KeepsCap}
 use Rattle.cap_laws.proofs.CapTracks.{cap_at, CapTracks}
-use Rattle.cap_laws.proofs.CoreSums.{over, total_none}
+use Rattle.cap_laws.proofs.CoreSums.{total_none}
+use Rattle.sched_laws.specs.Counts.{over}
 use Rattle.cap_laws.proofs.CapLegs.{Opens, rest, opens_after, decides, Tracked, Closes, tracked_after}
 use Rattle.cap_laws.proofs.CapStep.{left_over, budgeted, closed_by, closes_here, cap_there}
 use Rattle.cap_laws.proofs.CapEnd.{late_of_met, disturbs, HasSettings, settings_follow}

@@ -11,7 +11,8 @@ use Rattle.sched_model.specs.declared.state.State.{State}
 use Rattle.term_laws.specs.RtdsTerm.{Leg, late_of, leg_from}
 use Rattle.cap_laws.specs.CapTerm.{PlacedLeg, next_decision, taken_for, domain_legs}
 use Rattle.cap_laws.proofs.CapTracks.{number_in, decided_for, on_core, EventTracks}
-use Rattle.cap_laws.proofs.CoreSums.{over, total_over, total_same, total_changed}
+use Rattle.cap_laws.proofs.CoreSums.{total_same, total_changed}
+use Rattle.sched_laws.specs.Counts.{over, total_over}
 
 -- an open leg: the unit's number, and the moment and the number of the decision at which the leg begins
 pub record OpenLeg : Type 0 where

@@ -19,7 +19,8 @@ use Rattle.sched_model.specs.Pool.{lateness}
 use Rattle.term_laws.specs.RtdsTerm.{core_in, late_now, moves}
 use Rattle.cap_laws.specs.CapTerm.{PlacedLeg, cap_set, refills, ends_term, cap_after, credit2_in}
 use Rattle.cap_laws.proofs.CapTracks.{cap_at, decided_for, on_core, due_at, Stops, GivesBack, Takes, Decides, EventTracks, CapTracks}
-use Rattle.cap_laws.proofs.CoreSums.{over, total_over, total_same, total_changed, above_rises, given_back, given_now}
+use Rattle.cap_laws.proofs.CoreSums.{total_same, total_changed, above_rises, given_back, given_now}
+use Rattle.sched_laws.specs.Counts.{over, total_over}
 use Rattle.cap_laws.proofs.CapLegs.{OpenLeg, Opens, opens_after, closed_at, begun_at, DecidesNone, DecidesOne, decides, Tracked, Closes, closes_none, closes_one, late_is}
 
 -- the budget, and what is left to the open legs of what they hold, counted from t0 on or from where they begin

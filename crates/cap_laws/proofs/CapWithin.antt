@@ -14,11 +14,13 @@ use Rattle.term_laws.specs.RtdsTerm.{moves}
 use Rattle.term_laws.proofs.Time.{time_goes_on}
 use Rattle.cap_laws.specs.CapTerm.{PlacedLeg, CapTerm, next_decision, cap_set, refills, ends_term, term_from, credit2_in, shared_span, meets, is_set_after}
 use Rattle.cap_laws.proofs.CapTracks.{cap_at, on_core, Stops, CapTracks}
-use Rattle.cap_laws.proofs.CoreSums.{over, total_over, total_same, total_one}
+use Rattle.cap_laws.proofs.CoreSums.{total_same, total_one}
+use Rattle.sched_laws.specs.Counts.{over, total_over}
 use Rattle.cap_laws.proofs.CapLegs.{OpenLeg, Opens, to_close, rest, opens_after, DecidesNone, decides, Tracked, closes_none, tracked_after, late_is}
 use Rattle.cap_laws.proofs.CapStep.{left_over, budgeted, part, late_part, Within, closed_by, closes_here, in_term, cap_there, cap_of, cap_stays}
 use Rattle.cap_laws.proofs.CapEnd.{late_of_met, disturbs, later_none, EndsLate, open_fits, Calm, calm_by, HasSettings, settings_follow, ends_late, some_clash}
 use Rattle.sched_laws.proofs.Lists.{none_without}
+use Rattle.sched_base.specs.Numbers.{one_if}
 
 -- a term begins where it is said to, and does not end before the moment from which it is followed
 pub term_starts : (m : Machine) (d : ℕ) (s : State) (entries : List Entry) (percent t0 n : ℕ) → (term_from m s d percent t0 n entries).from ≡ t0
@@ -73,9 +75,6 @@ over_none : {X : Type 0} (f g : X → ℕ) (o : Option X) → ((x : X) → o ≡
 over_none f g None same = refl
 over_none f g (Some x) same = same x refl
 
-abbrev counted : Bool → ℕ
-counted b = cond b 1 0
-
 module _ (m : Machine) (d : ℕ) (K : State → Type 0) (tracks : CapTracks m d K) (set : List ℕ) where
   abbrev high : ℕ
   high = core_count m.config
@@ -94,9 +93,9 @@ module _ (m : Machine) (d : ℕ) (K : State → Type 0) (tracks : CapTracks m d 
   undisturbed : (term : CapTerm) (placed : PlacedLeg) → disturbs set term placed ≡ 0 → 0 < shared_span term placed → is_set_after set term placed ≡ false
   undisturbed term placed none met =
       let is_met : meets term placed ≡ true = grind (arith, met) in
-      go (is_set_after set term placed) refl (sym (ap (λ (b : Bool). counted (b && is_set_after set term placed)) is_met) ∙ none)
+      go (is_set_after set term placed) refl (sym (ap (λ (b : Bool). one_if (b && is_set_after set term placed)) is_met) ∙ none)
     where
-      go : (b : Bool) → is_set_after set term placed ≡ b → counted b ≡ 0 → is_set_after set term placed ≡ false
+      go : (b : Bool) → is_set_after set term placed ≡ b → one_if b ≡ 0 → is_set_after set term placed ≡ false
       go true is e = absurd (omega (arith, e))
       go false is e = is
 

@@ -1,32 +1,16 @@
 -- Sums over the cores, and numbers above and below 0.
 use Rattle.std.proofs.Common.{◌≡◌, ◌≢◌, ◌≤◌, ◌<◌, ◌+◌, ◌-◌, ℕ, zero, suc, refl, arith, ap, ◌⊎◌, inl, inr}
-use Rattle.std.specs.Prelude.{Option, Some, None, ℤ, pos, negsuc, ◌+ℤ◌, ◌-ℤ◌, ◌≤ℤ◌}
+use Rattle.std.specs.Prelude.{ℤ, pos, negsuc, ◌+ℤ◌, ◌-ℤ◌, ◌≤ℤ◌}
 use Rattle.std.proofs.Math.Decide.{ℕ_discrete}
 use Rattle.std.proofs.lemmas.Int.{ints}
 use Rattle.sched_base.specs.Credit2Numbers.{above_zero}
-
--- what f makes of it, where there is one
-abbrev pub over : {X : Type 0} → (X → ℕ) → Option X → ℕ
-over f None = 0
-over f (Some x) = f x
-
--- what f makes of the numbers below n, added up
-abbrev pub total_over : ℕ → (ℕ → ℕ) → ℕ
-total_over zero f = 0
-total_over (suc n) f = total_over n f + f n
+use Rattle.sched_laws.specs.Counts.{total_over}
 
 pub total_same : (n : ℕ) (f g : ℕ → ℕ) → ((r : ℕ) → r < n → f r ≡ g r) → total_over n f ≡ total_over n g
 total_same zero f g same = refl
 total_same (suc n) f g same =
     let a = total_same n f g (λ r low. same r (omega (arith, low))) in
     let b = same n (omega arith) in
-    omega (arith, a, b)
-
-pub total_le : (n : ℕ) (f g : ℕ → ℕ) → ((r : ℕ) → r < n → f r ≤ g r) → total_over n f ≤ total_over n g
-total_le zero f g below = omega arith
-total_le (suc n) f g below =
-    let a = total_le n f g (λ r low. below r (omega (arith, low))) in
-    let b = below n (omega arith) in
     omega (arith, a, b)
 
 -- each is at most two others together

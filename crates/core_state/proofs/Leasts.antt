@@ -1,13 +1,12 @@
 -- The first number that has come, and the least of the moments of several dues.
-use Rattle.sched_base.specs.Numbers.{core, processor}
+use Rattle.sched_base.specs.Numbers.{core, processor, has_come}
 use Rattle.std.proofs.Common.{◌≡◌, ◌≤◌, ◌<◌, ◌⊎◌, ℕ, List, ◌∙◌, refl, sym, ap, subst, arith, inl, inr}
 use Rattle.std.specs.Prelude.{Bool, true, false, nat_le, Option, Some, None, if◌then◌else◌}
 use Rattle.std.proofs.lemmas.Bool.Decides.{nat_tests}
 use Rattle.sched_base.specs.declared.Moment.{Moment}
-use Rattle.sched_model.specs.State.{has_come}
 use Rattle.sched_model.specs.declared.action.Action.{Action}
-use Rattle.sched_model.specs.declared.action.Action.TheVariants.{Stall, Xl, Moved, DomMoved, Wake, Block, Slice, Repl, Refill, Arrive, Decide, Leave, Save}
-use Rattle.due_heap.specs.Dues.{due_of, IsArmed, GoesFirst, HasCome}
+use Rattle.sched_model.specs.declared.action.Action.TheVariants.{Block, Slice, Arrive, Decide, Leave, Save}
+use Rattle.due_heap.specs.Dues.{due_of, IsArmed, HasCome}
 use Rattle.core_state.specs.declared.dues.Dues.{Dues}
 use Rattle.core_state.specs.Seen.{Seen}
 use Rattle.core_state.specs.Ends.{ready_within, ready_among}

@@ -1,8 +1,7 @@
 -- The first of moments by number that has come, and the least of moments.
 use Rattle.std.specs.Prelude.{ℕ, ◌≡◌, ◌<◌, ◌≤◌, nat_le, true, false, Option, Some, None, if◌then◌else◌, option_map}
 use Rattle.sched_base.specs.declared.Moment.{Moment}
-use Rattle.sched_model.specs.State.{has_come}
-use Rattle.sched_base.specs.Numbers.{core, processor}
+use Rattle.sched_base.specs.Numbers.{core, processor, has_come}
 use Rattle.sched_base.specs.declared.ResId.{ResId}
 use Rattle.sched_base.specs.declared.ProcId.{ProcId}
 

@@ -2,7 +2,6 @@
 use Rattle.sched_base.specs.Numbers.{span, domain as domain_number, pool as pool_number}
 use Rattle.std.proofs.Common.{◌≡◌, ◌+◌, ◌/◌, ◌<◌, ◌≤◌, ℕ, zero, suc, Bool, true, false, List, [], ◌∷◌, Option, Some, None, length, map, take, drop, refl, sym, ◌∙◌, ap, subst, add-zero, arith}
 use Rattle.std.specs.Prelude.{option_map, unwrap_or, slice_get, cond}
-use Rattle.sched_base.specs.declared.UnitId.{UnitId}
 use Rattle.sched_model.specs.declared.command.Command.{Command}
 use Rattle.sched_model.specs.declared.command.Which.{Which}
 use Rattle.sched_model.specs.declared.event.Refusal.{Refusal}
@@ -32,6 +31,7 @@ use Rattle.sched_records.specs.Records.{HasRecords, IsRecorded}
 use Rattle.cpupool.specs.Facts.{KeepsFacts, pool_subject, domain_subject, no_subject, stored_from, stored_in, rate_at, stored_at}
 use Rattle.sched_model.specs.Policy.{stored_of}
 use Rattle.cpupool.specs.Verdicts.{weight_reply, stored_fault, rtds_reply}
+use Rattle.sched_base.specs.Units.{unit_id}
 
 -- the rate limit of the pool that is named
 pub rate-known : (s : State) (which : Which) (i : ℕ) (pool : Pool) → pool_of s which ≡ Some i → at_place s.pools i ≡ Some pool → rate_at s (pool_subject s which) ≡ rate_of pool.scheduler.records
@@ -73,20 +73,16 @@ weight-known records d (suc count) some all =
 abbrev pub rtds_stored : RtdsUnit → Stored
 rtds_stored x = stored.Rtds (span x.next_period) (span x.next_budget) x.next_extra
 
--- the unit n of the domain d
-abbrev pub unit_at : ℕ → ℕ → UnitId
-unit_at d n = record { dom = domain_number d; n = n }
-
 -- what is stored of the units of an RTDS pool are their records
 pub units-stored : (pool : Pool) (domains : List (Option (List RtdsUnit))) → pool.scheduler.records ≡ RtdsPool domains → (d first count : ℕ) → stored_from pool.scheduler.records d first count ≡ map rtds_stored (rtds_units pool d first count)
 units-stored pool domains is d first zero = refl
 units-stored pool domains is d first (suc count) =
     let by_stored : Option Stored → List Stored = λ o. elim o [ None ↦ [] | Some v ↦ v ∷ stored_from pool.scheduler.records d (suc first) count ] in
     let by_unit : Option RtdsUnit → List RtdsUnit = λ o. elim o [ None ↦ [] | Some x ↦ x ∷ rtds_units pool d (suc first) count ] in
-    let here : stored_of pool.scheduler.records (unit_at d first) ≡ option_map rtds_stored (rtds_record pool.scheduler.records (unit_at d first)) =
-    let P : Records → Type 0 = λ records. stored_of records (unit_at d first) ≡ option_map rtds_stored (rtds_record records (unit_at d first)) in subst P (sym is) refl in
+    let here : stored_of pool.scheduler.records (unit_id d first) ≡ option_map rtds_stored (rtds_record pool.scheduler.records (unit_id d first)) =
+    let P : Records → Type 0 = λ records. stored_of records (unit_id d first) ≡ option_map rtds_stored (rtds_record records (unit_id d first)) in subst P (sym is) refl in
     ap by_stored here
-    ∙ elim (rtds_record pool.scheduler.records (unit_at d first)) as (λ o. by_stored (option_map rtds_stored o) ≡ map rtds_stored (by_unit o)) [
+    ∙ elim (rtds_record pool.scheduler.records (unit_id d first)) as (λ o. by_stored (option_map rtds_stored o) ≡ map rtds_stored (by_unit o)) [
       | None ↦ refl
       | Some x ↦ ap (λ rest. rtds_stored x ∷ rest) (units-stored pool domains is d (suc first) count)
     ]
@@ -108,7 +104,7 @@ pub reply-stored : (pool : Pool) (d first count : ℕ) (asks : Bool) → 1 ≤ c
 reply-stored pool d first zero asks some = absurd (omega arith)
 reply-stored pool d first (suc count) asks some =
     let units : ℕ → Option RtdsUnit → List RtdsUnit = λ n o. elim o [ None ↦ [] | Some x ↦ x ∷ rtds_units pool d (suc first) n ] in
-    elim (rtds_record pool.scheduler.records (unit_at d first)) as (λ o. cond asks (rtds_reply (map rtds_stored (units count o))) reply.Done
+    elim (rtds_record pool.scheduler.records (unit_id d first)) as (λ o. cond asks (rtds_reply (map rtds_stored (units count o))) reply.Done
     ≡ (elim (slice_get (units 0 o) 0) [ None ↦ reply.Done | Some x ↦ cond asks (reply.Rtds (x.next_period / 1000) (x.next_budget / 1000) x.next_extra) reply.Done ])) [
       | None ↦ elim asks as (λ b. cond b reply.Done reply.Done ≡ reply.Done) [ true ↦ refl | false ↦ refl ]
       | Some x ↦ refl
@@ -119,11 +115,11 @@ pub one-stored : (records : Records) (d first count k : ℕ) → k < count → l
 one-stored records d first zero k below all = absurd (omega arith)
 one-stored records d first (suc count) zero below all =
     let units : ℕ → Option Stored → List Stored = λ n o. elim o [ None ↦ [] | Some v ↦ v ∷ stored_from records d (suc first) n ] in
-    elim (stored_of records (unit_at d first)) as (λ o. take 1 (units count o) ≡ units 0 o) [ None ↦ refl | Some v ↦ refl ]
+    elim (stored_of records (unit_id d first)) as (λ o. take 1 (units count o) ≡ units 0 o) [ None ↦ refl | Some v ↦ refl ]
     ∙ ap (λ n. stored_from records d n 1) (sym (add-zero first))
 one-stored records d first (suc count) (suc k) below all =
     let units : Option Stored → List Stored = λ o. elim o [ None ↦ [] | Some v ↦ v ∷ stored_from records d (suc first) count ] in
-    elim (stored_of records (unit_at d first)) as (λ o. length (units o) ≡ suc count → take 1 (drop (suc k) (units o)) ≡ stored_from records d (first + suc k) 1) [
+    elim (stored_of records (unit_id d first)) as (λ o. length (units o) ≡ suc count → take 1 (drop (suc k) (units o)) ≡ stored_from records d (first + suc k) 1) [
       | None ↦ λ full. absurd (omega arith)
       | Some v ↦ λ full.
           let next : suc first + k ≡ first + suc k = omega arith in
@@ -131,14 +127,14 @@ one-stored records d first (suc count) (suc k) below all =
     ] all
 
 -- where each of the units has a value, so many are kept
-stored-count : (records : Records) (d first count : ℕ) → ((n : ℕ) → n < first + count → (x : Stored) × (stored_of records (unit_at d n) ≡ Some x)) → length (stored_from records d first count) ≡ count
+stored-count : (records : Records) (d first count : ℕ) → ((n : ℕ) → n < first + count → (x : Stored) × (stored_of records (unit_id d n) ≡ Some x)) → length (stored_from records d first count) ≡ count
 stored-count records d first zero has = refl
 stored-count records d first (suc count) has =
     let here = has first (omega arith) in
     let rest = stored-count records d (suc first) count (λ n low. has n (omega (arith, low))) in
     ap (λ (o : Option Stored). length (elim o as (λ _. List Stored) [ None ↦ [] | Some x ↦ x ∷ stored_from records d (suc first) count ])) here.1 ∙ ap suc rest
 
-stored-each : (records : Records) (d count : ℕ) → IsRecorded records d count → (n : ℕ) → n < 0 + count → (x : Stored) × (stored_of records (unit_at d n) ≡ Some x)
+stored-each : (records : Records) (d count : ℕ) → IsRecorded records d count → (n : ℕ) → n < 0 + count → (x : Stored) × (stored_of records (unit_id d n) ≡ Some x)
 stored-each (Credit2Pool records) d count kept n low = (stored.Credit2 kept.domain.weight kept.domain.cap, ap (option_map (λ (x : Credit2Domain). stored.Credit2 x.weight x.cap)) kept.at)
 stored-each (RtdsPool domains) d count kept n low =
     let item = item_below kept.records n (let same = kept.units in omega (arith, low, same)) in

@@ -24,7 +24,7 @@ use Rattle.sched_model.specs.Places.{put_at, numbers_from}
 use Rattle.sched_model.specs.State.{has_core}
 use Rattle.sched_model.specs.Policy.{kind_of, fresh_records, changed_records, join, joined_records}
 use Rattle.sched_model.specs.Pool.{with_domain, set_params, queue_units, unit_count}
-use Rattle.sched_model.specs.Opening.{opening, opening_pool, opening_pools, opening_free, empty_pool, with_domains, with_configured, with_pins, fresh_core, fresh_vcpu, core_count}
+use Rattle.sched_model.specs.Opening.{opening, opening_pool, opening_pools, opening_free, empty_pool, with_domains, with_configured, with_pins, fresh_core, fresh_vcpu, core_count, fresh_domain}
 use Rattle.sched_laws.proofs.Records.{same_joined}
 use Rattle.journal_core.specs.Parts.{Outline, UnderWay, core_to, outline_of, first_answer, core_leaving, domain_moving, core_joining, leaving_pool, under_way_of}
 use Rattle.cpupool.specs.Tool.{Tool, tool_of, ends_of}
@@ -58,10 +58,6 @@ joined_alike g t d joining params pool =
     chained (queue_units g d (numbers_from 0 count) next) next (record pool { domains = put_at d joining pool.domains })
     (queued_alike g d (numbers_from 0 count) next)
     (record { kind = joined_kind pool.scheduler.records params d count t; resources = refl; domains = refl })
-
--- a domain at the opening
-abbrev fresh_domain : DomConfig → Domain
-fresh_domain joining = record { paused = false; moving = None; vcpus = map fresh_vcpu joining.guests }
 
 configured_alike : (g d : ℕ) (joining : DomConfig) (pool : Pool) → IsAlike (with_configured g d joining pool) (record pool { domains = put_at d (fresh_domain joining) pool.domains })
 configured_alike g d joining pool =

@@ -25,7 +25,7 @@ use Rattle.sched_model.specs.declared.facts.Stored.TheVariants as stored
 use Rattle.sched_model.specs.declared.plan.Plan.{Plan}
 use Rattle.sched_model.specs.declared.plan.Plan.TheVariants as plan
 use Rattle.sched_model.specs.Places.{at_place, first_place, first_empty, numbers_from}
-use Rattle.sched_model.specs.Policy.{all_cores}
+use Rattle.sched_base.specs.CoreSets.{every_core}
 use Rattle.sched_model.specs.Commands.{demand, in_range, is_kind, refused_by, cpu_fault}
 use Rattle.journal_core.specs.Parts.{Outline, ToolPart}
 use Rattle.cpupool.specs.declared.outline.DomainEntry.{DomainEntry}
@@ -317,7 +317,7 @@ named_among g ranges cores = sum_by (λ r. (if is_named g ranges r then 2 ^ r el
 
 -- the set of the cores that have a processor in one of the ranges; without a range, all
 abbrev pub seen_cores : Tool → List (ℕ × ℕ) → Cores
-seen_cores tool [] = all_cores
+seen_cores tool [] = every_core
 seen_cores tool (e ∷ ranges) = core_set (named_among tool.granularity (e ∷ ranges) (numbers_from 0 (tool.processors / tool.granularity)))
 
 -- the set of these cores, of which the first has the number r

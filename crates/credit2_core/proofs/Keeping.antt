@@ -5,7 +5,7 @@ use Rattle.std.specs.List.{AllByRecursion, list_any}
 use Rattle.std.specs.Option.{ForSome}
 use Rattle.std.proofs.Math.Decide.{ℕ_discrete}
 use Rattle.std.proofs.lemmas.List.{get_or-replicate, length-replicate, length-map}
-use Rattle.sched_base.specs.Numbers.{core_set, domain}
+use Rattle.sched_base.specs.Numbers.{core_set, domain, has_come}
 use Rattle.unit_places.specs.Masks.{mask_of}
 use Rattle.sched_base.specs.declared.Cores.{Cores}
 use Rattle.sched_base.specs.declared.Moment.{Moment}
@@ -18,7 +18,6 @@ use Rattle.sched_model.specs.declared.state.Records.TheVariants.{Credit2Pool}
 use Rattle.sched_model.specs.Places.{at_place, put_at, clear_at, change_at, has_unit}
 use Rattle.sched_model.specs.CheckedMachine.{IsWithin}
 use Rattle.sched_model.specs.EligibleUnits.{cores_of}
-use Rattle.sched_model.specs.State.{has_come}
 use Rattle.sched_model.specs.Policy.{next_refill, pinned_cores as pinned}
 use Rattle.sched_model.specs.Credit2.{max_weight, credit_of, refill_domain, refilled_pool, set_weight, set_cap, set_domain, change_domain, fresh_domain}
 use Rattle.sched_base.proofs.Bools.{clash}

@@ -9,7 +9,7 @@ use Rattle.sched_base.specs.declared.UnitId.{UnitId}
 use Rattle.sched_model.specs.declared.state.Credit2Records.{Credit2Records}
 use Rattle.sched_model.specs.Places.{has_unit, without_unit, same_unit}
 use Rattle.sched_model.specs.Credit2.{burn_cur, reset, take_budget, change_domain, set_running, switch_off, refilled_pool}
-use Rattle.sched_laws.proofs.Lists.{AllByRecursion-filter, AllByRecursion-push}
+use Rattle.sched_base.proofs.Lists.{AllByRecursion-push, AllByRecursion-filter}
 use Rattle.sched_laws.proofs.Choices.{same_unit_same}
 use Rattle.sched_laws.proofs.Counts.{without_absent}
 use Rattle.sched_ranges.proofs.Decided.{IsCur, r_burn_cur, r_reset, r_take, r_refilled, r_switch_off, r_set_running, unit_rec}

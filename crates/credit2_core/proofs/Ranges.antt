@@ -20,7 +20,7 @@ use Rattle.sched_ranges.proofs.Decided.{s_refilled, s_set_domain, decides_unit, 
 use Rattle.sched_ranges.specs.Budgets.{Budgets, None2}
 use Rattle.sched_ranges.proofs.Records.{refill_fits}
 use Rattle.sched_ranges.proofs.Done.{credit2_in_range}
-use Rattle.sched_model.specs.State.{has_come}
+use Rattle.sched_base.specs.Numbers.{has_come}
 use Rattle.sched_model.specs.Policy.{next_refill}
 use Rattle.sched_model.specs.declared.state.Records.TheVariants.{Credit2Pool}
 use Rattle.plain_units.specs.Fits as plain

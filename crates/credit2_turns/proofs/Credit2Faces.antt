@@ -10,7 +10,8 @@ use Rattle.sched_model.specs.Places.{at_place, change_at, change_item, numbered_
 use Rattle.sched_model.specs.Credit2.{credit_of, greatest_unit}
 use Rattle.sched_laws.specs.Counts.{total}
 use Rattle.turn_laws.proofs.BestUnits.{IsOrder, IsScan}
-use Rattle.turn_laws.specs.Turns.{how_many, one, ahead}
+use Rattle.turn_laws.specs.Turns.{how_many, ahead}
+use Rattle.sched_base.specs.Numbers.{one_if}
 use Rattle.turn_laws.proofs.Sums.{count_no_more, count_less, total_no_more, total_less}
 use Rattle.credit2_turns.proofs.Credit2Numbers.{lt_irrefl, lt_least, lt_trans}
 use Rattle.turn_laws.specs.Stretches.{units}
@@ -46,7 +47,7 @@ above z fs = total (λ (f : Face). how_many (λ c. int_lt z c) f.2) fs
 
 above_credits : (z : ℤ) (units : List Credit2Unit) → how_many (λ (x : Credit2Unit). int_lt z x.credit) units ≡ how_many (λ c. int_lt z c) (credits units)
 above_credits z [] = refl
-above_credits z (x ∷ units) = ap (λ n. one (int_lt z x.credit) + n) (above_credits z units)
+above_credits z (x ∷ units) = ap (λ n. one_if (int_lt z x.credit) + n) (above_credits z units)
 
 above_faces : (z : ℤ) (domains : List (Option Credit2Domain)) → total (λ (d : Credit2Domain). how_many (λ (x : Credit2Unit). int_lt z x.credit) d.units) domains ≡ above z (faces domains)
 above_faces z [] = refl

@@ -11,6 +11,7 @@ use Rattle.std.proofs.lemmas.Option.{slice_get_within}
 use Rattle.sched_base.specs.Numbers.{domain as domain_number}
 use Rattle.sched_base.specs.declared.Cores.{Cores}
 use Rattle.sched_base.specs.declared.Span.{Span}
+use Rattle.sched_base.proofs.Lists.{AllByRecursion-map}
 use Rattle.sched_model.specs.declared.config.Config.{Config}
 use Rattle.sched_model.specs.declared.config.DomConfig.{DomConfig}
 use Rattle.sched_model.specs.declared.config.Frame.{Frame}
@@ -106,10 +107,6 @@ both-Pairs P R Q gives [] [] all h = tt
 both-Pairs P R Q gives [] (y ∷ ys) all h = absurd h
 both-Pairs P R Q gives (x ∷ xs) [] all h = absurd h
 both-Pairs P R Q gives (x ∷ xs) (y ∷ ys) all h = (gives x y all.0 h.0, both-Pairs P R Q gives xs ys all.1 h.1)
-
-all-weaker : {A : Type 0} (P Q : A → Type 0) → ((x : A) → P x → Q x) → (xs : List A) → AllByRecursion P xs → AllByRecursion Q xs
-all-weaker P Q gives [] all = tt
-all-weaker P Q gives (x ∷ xs) all = (gives x all.0, all-weaker P Q gives xs all.1)
 
 abbrev RunIsWithin : FrameEntry → Type 0
 RunIsWithin e = IsWithin 1 most_span e.run.0
@@ -276,7 +273,7 @@ parts_ok h ds domains pools parts =
           let d = get-Pairs R ds pools i p parts.pairs at_i in
           let e = get-Pairs R ds pools j q parts.pairs at_j in
           parts.ds.names_apart i j d.0 e.0 d.1 e.1 (sym d.2.name ∙ named ∙ e.2.name);
-      domains = All-from_recursion (IsCheckedDomain config) domains (all-weaker (IsDomainDraft h ds) (IsCheckedDomain config) (domain_ok h config ds refl refl parts.pairs) domains parts.domains.drafts);
+      domains = All-from_recursion (IsCheckedDomain config) domains (AllByRecursion-map (IsDomainDraft h ds) (IsCheckedDomain config) (domain_ok h config ds refl refl parts.pairs) domains parts.domains.drafts);
       domain_names_apart = parts.domains.names_apart;
       few_units = omega (arith, length-units_from h.granularity 0 domains, parts.few_units);
     }

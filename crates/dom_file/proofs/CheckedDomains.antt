@@ -30,7 +30,8 @@ use Rattle.dom_file.specs.Cores.{cores_of}
 use Rattle.dom_file.specs.Guests.{span_of, script_of, scripts_of}
 use Rattle.dom_file.specs.Pins.{unit_count, pin_of, pins_in}
 use Rattle.dom_file.specs.Domains.{has_name, domain_name_in, home_place_in, home_at, home_in, domain_keys, period_in, budget_in, extra_in, params_in, domain_in, domains_in}
-use Rattle.dom_file.proofs.Passed.{bind_ok, at_ok, kept_not, ok_is, absent_or_ok, number_ok, number_or_ok, name_ok, array_ok, each_ok, length-Pairs, all-Pairs, all-push, length-push, none_passes, Apart, apart-push, other_name}
+use Rattle.dom_file.proofs.Passed.{bind_ok, at_ok, kept_not, ok_is, absent_or_ok, number_ok, number_or_ok, name_ok, array_ok, each_ok, length-Pairs, all-Pairs, length-push, none_passes, Apart, apart-push, other_name}
+use Rattle.sched_base.proofs.Lists.{AllByRecursion-push}
 use Rattle.dom_file.proofs.CheckedPools.{IsCheckedHead, cores_in_all, cores_ok}
 
 kept_check : {A E : Type 0} (b : Bool) (r : Result A E) (e : E) (y : A) → cond b r (Err e) ≡ Ok y → (b ≡ true) × (r ≡ Ok y)
@@ -222,7 +223,7 @@ next_domain : (head : Head) (pools : List PoolDraft) (domains : List DomConfig) 
 next_domain head pools domains domain before next =
     let used : (i : ℕ) (d : DomConfig) → slice_get domains i ≡ Some d → d.name ≡ domain.name → ⊥ = λ i d at_i same. other_name d.name domain.name (none_passes (λ e. bytes_eq e.name domain.name) domains i d next.new_name at_i) same in
     record {
-      drafts = all-push (IsDomainDraft head pools) domains domain before.drafts next.draft;
+      drafts = AllByRecursion-push (IsDomainDraft head pools) domains domain before.drafts next.draft;
       names_apart = apart-push ShareName domains domain before.names_apart used (λ i d at_i same. used i d at_i (sym same));
     }
 

@@ -31,7 +31,8 @@ use Rattle.dom_file.specs.Heads.{top_keys, format_in, granularity_in, processors
 use Rattle.dom_file.specs.Cores.{with_cores, is_taken, core_of, cores_of}
 use Rattle.dom_file.specs.Frames.{entry_in, entry_of, entries_of, frame_entries_in, frame_with, frame_in}
 use Rattle.dom_file.specs.Pools.{is_named, pool_name_in, sched_in, few_cores, cpus_in, pool_keys, limit_in, params_in, pool_in, pools_in, default_pool}
-use Rattle.dom_file.proofs.Passed.{bind_ok, at_ok, kept, kept_not, ok_is, number_ok, number_or_ok, name_ok, array_ok, each_ok, length-Pairs, all-Pairs, all-push, length-push, none_passes, Apart, apart-push, other_name, with_cores_ok, with_cores-le, no_core}
+use Rattle.dom_file.proofs.Passed.{bind_ok, at_ok, kept, kept_not, ok_is, number_ok, number_or_ok, name_ok, array_ok, each_ok, length-Pairs, all-Pairs, length-push, none_passes, Apart, apart-push, other_name, with_cores_ok, with_cores-le, no_core}
+use Rattle.sched_base.proofs.Lists.{AllByRecursion-push}
 
 -- ---- the top table
 
@@ -315,7 +316,7 @@ next_pool head pools pool before next =
     let taken : (r i : ℕ) (p : PoolDraft) → slice_get pools i ≡ Some p → has_core p.cores r ≡ true → has_core pool.cores r ≡ true → ⊥ = λ r i p at_i in_p in_pool. false≢true (sym (none_passes (λ q. has_core q.cores r) pools i p (next.free r in_pool) at_i) ∙ in_p) in
     let used : (i : ℕ) (p : PoolDraft) → slice_get pools i ≡ Some p → p.name ≡ pool.name → ⊥ = λ i p at_i same. other_name p.name pool.name (none_passes (λ q. bytes_eq q.name pool.name) pools i p next.new_name at_i) same in
     record {
-      drafts = all-push (IsPoolDraft head) pools pool before.drafts next.draft;
+      drafts = AllByRecursion-push (IsPoolDraft head) pools pool before.drafts next.draft;
       cores_apart = λ r. apart-push (HaveCore r) pools pool (before.cores_apart r) (λ i p at_i both. taken r i p at_i both.0 both.1) (λ i p at_i both. taken r i p at_i both.1 both.0);
       names_apart = apart-push HaveName pools pool before.names_apart used (λ i p at_i same. used i p at_i (sym same));
     }

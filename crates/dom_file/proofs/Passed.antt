@@ -118,10 +118,6 @@ get-Pairs R (x ∷ xs) [] i y h e = absurd h
 get-Pairs R (x ∷ xs) (z ∷ ys) zero y h e = let same : z ≡ y = cc in (x, refl, subst (R x) same h.0)
 get-Pairs R (x ∷ xs) (z ∷ ys) (suc i) y h e = get-Pairs R xs ys i y h.1 e
 
-pub all-push : {A : Type 0} (P : A → Type 0) (xs : List A) (y : A) → AllByRecursion P xs → P y → AllByRecursion P (xs ++ y ∷ [])
-all-push P [] y h p = (p, tt)
-all-push P (x ∷ xs) y h p = (h.0, all-push P xs y h.1 p)
-
 pub length-push : {A : Type 0} (xs : List A) (y : A) → length (xs ++ y ∷ []) ≡ length xs + 1
 length-push [] y = refl
 length-push (x ∷ xs) y = omega (arith, length-push xs y)

@@ -1,7 +1,8 @@
 -- The tree of winners. Its nodes are numbered: the root is 1, and below k are 2k and 2k + 1. With n ids the nodes below n hold winners,
 -- and the n nodes from n on are the leaves, one an id. The winner at a node is the first of the ids whose leaves are under it.
-use Rattle.std.specs.Prelude.{ℕ, zero, suc, ◌+◌, ◌-◌, ◌/◌, ◌^◌, ◌≤◌, ◌<◌, ◌==◌, ◌≡◌, ◌≢◌, nat_lt, nat_le, ◌||◌, ◌&&◌, Bool, true, false, if◌then◌else◌, Option, Some, None, List, length, slice_index_or}
+use Rattle.std.specs.Prelude.{ℕ, zero, suc, ◌+◌, ◌-◌, ◌/◌, ◌^◌, ◌≤◌, ◌<◌, ◌==◌, ◌≡◌, ◌≢◌, nat_lt, ◌||◌, ◌&&◌, Bool, true, false, if◌then◌else◌, Option, Some, None, List, length, slice_index_or}
 use Rattle.sched_base.specs.declared.Moment.{Moment}
+use Rattle.sched_base.specs.Numbers.{has_come}
 use Rattle.due_heap.specs.Dues.{due_of}
 
 -- whether an id with its moment goes before another with its own: by moment, none after all, then by id
@@ -19,14 +20,9 @@ is_before moments a b = precedes (due_of moments a) a (due_of moments b) b
 abbrev pub sooner_id : List (Option Moment) → ℕ → ℕ → ℕ
 sooner_id moments a b = (if is_before moments b a then b else a)
 
--- whether there is a moment and it has come at t
-abbrev pub is_past : ℕ → Option Moment → Bool
-is_past t None = false
-is_past t (Some at) = nat_le at.0 t
-
 -- whether an id is armed with a moment that has come at t
-abbrev pub has_come : List (Option Moment) → ℕ → ℕ → Bool
-has_come moments t id = is_past t (due_of moments id)
+abbrev pub is_due : List (Option Moment) → ℕ → ℕ → Bool
+is_due moments t id = has_come t (due_of moments id)
 
 -- the winner at a node: a leaf's is its own id
 abbrev pub winner : List ℕ → ℕ → ℕ

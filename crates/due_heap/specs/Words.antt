@@ -4,7 +4,8 @@ use Rattle.sched_base.specs.declared.Moment.{Moment}
 pub use Rattle.sched_base.specs.CoreSets.{has_core as has_id}
 use Rattle.due_heap.specs.declared.set.Words.{Words}
 use Rattle.due_heap.specs.Dues.{due_of, IsArmed, GoesFirst}
-use Rattle.due_heap.specs.Winners.{has_come, is_past, precedes}
+use Rattle.due_heap.specs.Winners.{is_due, precedes}
+use Rattle.sched_base.specs.Numbers.{has_come}
 
 -- the new set has the id as wanted, and every other id as the old one
 pub record ChangesId (id : ℕ) (wanted : Bool) (old new : ℕ) : Type 0 where
@@ -19,19 +20,19 @@ pub record IsLowest (set id : ℕ) : Type 0 where
 
 -- whether there is a moment and it is after t
 abbrev pub is_later : ℕ → Option Moment → Bool
-is_later t due = is_some due && not (is_past t due)
+is_later t due = is_some due && not (has_come t due)
 
 -- what the words tell is so of the ids that have these moments
 pub record AreWords (moments : List (Option Moment)) (words : Words) : Type 0 where
   pub few : length moments ≤ 64
-  pub come : (id : ℕ) → id < 64 → has_id words.come id ≡ is_past words.told.0 (due_of moments id)
+  pub come : (id : ℕ) → id < 64 → has_id words.come id ≡ has_come words.told.0 (due_of moments id)
   pub later : (id : ℕ) → id < 64 → has_id words.later id ≡ is_later words.told.0 (due_of moments id)
   pub soon : (id : ℕ) (at : Moment) → IsArmed moments id at → words.told.0 < at.0 → GoesFirst words.soon words.next at id
 
 -- the words after an id got its moment, or none: a later id still does not go before the bound
 pub record TakesDue (id : ℕ) (due : Option Moment) (old new : Words) : Type 0 where
   pub told : new.told ≡ old.told
-  pub come : ChangesId id (is_past old.told.0 due) old.come new.come
+  pub come : ChangesId id (has_come old.told.0 due) old.come new.come
   pub later : ChangesId id (is_later old.told.0 due) old.later new.later
   pub soon : (at : Moment) → due ≡ Some at → old.told.0 < at.0 → GoesFirst new.soon new.next at id
   pub others : (at : Moment) (other : ℕ) → GoesFirst old.soon old.next at other → GoesFirst new.soon new.next at other
@@ -49,5 +50,5 @@ IsFirstAmong moments among (Some due) = IsArmed moments due.1 due.0 × ((id : �
 
 -- the least id whose moment has come at t; none where none has
 abbrev pub IsFirstCome : List (Option Moment) → ℕ → Option ℕ → Type 0
-IsFirstCome moments t None = (id : ℕ) → has_come moments t id ≡ false
-IsFirstCome moments t (Some id) = (has_come moments t id ≡ true) × ((other : ℕ) → other < id → has_come moments t other ≡ false)
+IsFirstCome moments t None = (id : ℕ) → is_due moments t id ≡ false
+IsFirstCome moments t (Some id) = (is_due moments t id ≡ true) × ((other : ℕ) → other < id → is_due moments t other ≡ false)

@@ -15,7 +15,7 @@ mod order;
 mod set;
 
 pub use bits::{lowest, put_id, without};
-use order::{due_of, has_come, sooner};
+use order::{due_of, is_due, sooner};
 use sched_base::{Moment, NoMemory};
 pub use set::DueSet;
 use std::alloc::Global;
@@ -112,10 +112,10 @@ fn settle(moments: &[Option<Moment>], winners: &mut [u16], id: u16)
 fn below(moments: &[Option<Moment>], winners: &[u16], k: usize, t: Moment) -> usize
     requires few { length winners.now ≤ 2 ^ 16 }
     requires inner { k < length winners.now }
-    ensures { result ≡ (if tree.has_come moments.now t.0 (tree.winner winners.now (2 * k)) then 2 *
+    ensures { result ≡ (if tree.is_due moments.now t.0 (tree.winner winners.now (2 * k)) then 2 *
         k else 2 * k + 1) }
 {
-    if has_come(moments, winner(winners, 2 * k), t) {
+    if is_due(moments, winner(winners, 2 * k), t) {
         2 * k
     } else {
         2 * k + 1
@@ -126,9 +126,9 @@ fn below(moments: &[Option<Moment>], winners: &[u16], k: usize, t: Moment) -> us
 fn leftmost(moments: &[Option<Moment>], winners: &[u16], t: Moment) -> u16
     requires tree { IsTree moments.now winners.now }
     requires power { IsPowerOfTwo (length moments.now) }
-    requires root { tree.has_come moments.now t.0 (tree.winner winners.now 1) ≡ true }
-    ensures come { tree.has_come moments.now t.0 result ≡ true }
-    ensures first { (id : ℕ) → id < result → tree.has_come moments.now t.0 id ≡ false }
+    requires root { tree.is_due moments.now t.0 (tree.winner winners.now 1) ≡ true }
+    ensures come { tree.is_due moments.now t.0 result ≡ true }
+    ensures first { (id : ℕ) → id < result → tree.is_due moments.now t.0 id ≡ false }
 {
     let mut k = 1;
     while k < winners.len() {
@@ -192,7 +192,7 @@ impl DueHeap {
             ≤ other) }
     {
         let root = winner(self.winners.as_slice(), 1);
-        if !has_come(self.moments.as_slice(), root, t) {
+        if !is_due(self.moments.as_slice(), root, t) {
             return None;
         }
         Some(leftmost(self.moments.as_slice(), self.winners.as_slice(), t))

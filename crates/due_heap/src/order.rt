@@ -44,8 +44,8 @@ pub fn sooner(moments: &[Option<Moment>], a: u16, b: u16) -> u16
 }
 
 /// Whether an id is armed and its moment has come at t.
-pub fn has_come(moments: &[Option<Moment>], id: u16, t: Moment) -> bool
-    ensures { result ≡ winners.has_come moments.now t.0 id }
+pub fn is_due(moments: &[Option<Moment>], id: u16, t: Moment) -> bool
+    ensures { result ≡ winners.is_due moments.now t.0 id }
 {
     match due_of(moments, id) {
         None => false,

@@ -6,11 +6,11 @@
 
 ghost use Rattle.std.specs.Prelude.{ℕ, ◌≡◌, ◌<◌, ◌≤◌, ◌^◌, ◌&&◌, not, true, false, if◌then◌else◌, length, IsTrue, IfNone, IfSome};
 ghost use Rattle.due_heap.specs.Dues.{IsArmed, GoesFirst};
-ghost use Rattle.due_heap.specs.Winners.{has_come as has_come_spec};
+ghost use Rattle.due_heap.specs.Winners.{is_due as is_due_spec};
 ghost use Rattle.due_heap.specs.Words.{AreWords, IsFirstAmong, IsFirstCome, TakesDue, first_with as first_with_spec, has_id};
 
 use crate::bits::{difference, lowest, put_id, union, without};
-use crate::order::{due_of, goes_before, has_come};
+use crate::order::{due_of, goes_before, is_due};
 use sched_base::{Moment, NoMemory};
 use std::alloc::Global;
 use std::marker::Model;
@@ -127,16 +127,16 @@ fn still_due(due: Option<Moment>, come: bool) -> Option<Moment>
 fn sift(moments: &[Option<Moment>], set: u64, t: Moment) -> (u64, Option<(Moment, u16)>)
     requires { length moments.now ≤ 64 }
     ensures come { (id : ℕ) → id < 64 → has_id result.0 id
-        ≡ (has_id set id && has_come_spec moments.now t.0 id) }
+        ≡ (has_id set id && is_due_spec moments.now t.0 id) }
     ensures first { IsFirstAmong moments.now (λ id. has_id set id
-        && not (has_come_spec moments.now t.0 id)) result.1 }
+        && not (is_due_spec moments.now t.0 id)) result.1 }
 {
     let mut rest = set;
     let mut come = 0;
     let mut first = None;
     while let Some(id) = lowest(rest) {
         rest = without(rest, id);
-        let is_past = has_come(moments, id, t);
+        let is_past = is_due(moments, id, t);
         come = put_id(come, id, is_past);
         first = first_with(first, still_due(due_of(moments, id), is_past), id);
     }
@@ -183,7 +183,7 @@ fn first_by_look(moments: &[Option<Moment>], t: Moment, words: &Words) -> Option
 {
     let mut rest = union(words.come, words.later);
     while let Some(id) = lowest(rest) {
-        if has_come(moments, id, t) {
+        if is_due(moments, id, t) {
             return Some(id);
         }
         rest = without(rest, id);

@@ -10,7 +10,7 @@ use Rattle.sched_model.specs.declared.machine.Machine.{Machine}
 use Rattle.sched_model.specs.declared.state.State.{State}
 use Rattle.sched_model.specs.Machine.{first_enabled, next_in_horizon}
 use Rattle.sched_model.specs.Places.{at_place}
-use Rattle.sched_model.specs.Runs.{Reached, IsNext, run_start, after_entry}
+use Rattle.sched_model.specs.Runs.{Reached, IsNext, run_start, after_entry, open_at}
 use Rattle.sched_model.proofs.RunLemmas.{after_entries-append, IsRunFrom-append}
 use Rattle.sched_laws.proofs.Ready.{next_later}
 use Rattle.journal_core.specs.Histories.{reached_by, part_at}
@@ -19,7 +19,7 @@ use Rattle.cpupool.specs.Tool.{Tool, tool_of}
 use Rattle.pool_core.specs.Seen.{Seen}
 use Rattle.pool_slots.specs.Told.{Told, told_more}
 use Rattle.pool_slots.specs.Places.{GoesOn, SlotSuits, StandsAt, state_of}
-use Rattle.pool_slots.proofs.Going.{leads-to, open_at, part_of-is, state_of-is}
+use Rattle.pool_slots.proofs.Going.{leads-to, part_of-is, state_of-is}
 use Rattle.pool_slots.specs.Counts.{AreSpares}
 use Rattle.pool_slots.specs.Spares.{Shelves}
 use Rattle.machine_parts.specs.Parts.{AreFirsts, AreParts}

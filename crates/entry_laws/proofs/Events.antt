@@ -4,7 +4,7 @@ use Rattle.std.specs.Prelude.{Option, Some, None, is_some, is_none, unwrap_or, s
 use Rattle.std.specs.List.{list_any, list_all}
 use Rattle.std.specs.Option.{IfSome}
 use Rattle.std.proofs.lemmas.Bool.{or_cases}
-use Rattle.sched_base.specs.Numbers.{span, core, pool as pool_number, domain}
+use Rattle.sched_base.specs.Numbers.{span, core, pool as pool_number, domain, has_come}
 use Rattle.sched_base.specs.declared.Span.{Span}
 use Rattle.sched_base.specs.declared.PoolId.{PoolId}
 use Rattle.sched_base.specs.declared.UnitId.{UnitId}
@@ -22,13 +22,13 @@ use Rattle.sched_model.specs.declared.state.Processor.{Processor}
 use Rattle.sched_model.specs.declared.state.Vcpu.{Vcpu}
 use Rattle.sched_model.specs.declared.state.RtdsUnit.{RtdsUnit}
 use Rattle.sched_model.specs.Places.{at_place, numbered_items, test_at, is_unit, has_unit}
-use Rattle.sched_model.specs.State.{is_runnable, is_awake, is_up, has_come}
+use Rattle.sched_model.specs.State.{is_runnable, is_awake, is_up}
 use Rattle.sched_model.specs.Opening.{core_count}
 use Rattle.sched_model.specs.EligibleUnits.{Decision}
 use Rattle.sched_model.specs.Policy as policy
-use Rattle.sched_model.specs.Policy.{decision_of, rtds_record}
+use Rattle.sched_model.specs.Policy.{decision_of}
 use Rattle.sched_model.specs.Pool as pools
-use Rattle.sched_model.specs.Pool.{enabled_in, event_in, ask_of, guest_of, processor_of, vcpu_of, vcpu_for, is_open, is_held, first_up, lowest_up, lateness, decision_at, saving_among, done_at, is_of_domain}
+use Rattle.sched_model.specs.Pool.{enabled_in, event_in, ask_of, guest_of, processor_of, vcpu_of, is_open, is_held, first_up, lowest_up, lateness, saving_among, done_at, is_of_domain}
 use Rattle.sched_model.specs.CheckedMachine.{IsChecked, most_span}
 use Rattle.sched_base.proofs.Bools.{and_left, and_right}
 use Rattle.sched_laws.proofs.EachPlace.{by_option, by_cond, found_at}

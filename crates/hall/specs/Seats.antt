@@ -16,6 +16,10 @@ pub record Seated : Type 0 where
   pub sitting : Sitting
   pub arrived : Option Arrival
 
+-- how many of the 1024 parts of the history the seat has
+abbrev pub shares_in : Seated → ℕ
+shares_in s = s.sitting.view.shares
+
 -- between two calls a seat holds no lock, and an arrival that it keeps is one of a processor of the input
 pub record SitsFree (s : Sitting) (arrived : Option Arrival) : Type 0 where
   pub nothing : s.view.held ≡ []

@@ -20,7 +20,8 @@ use Rattle.sched_model.specs.Machine.{is_enabled, is_move_under_way, after, afte
 use Rattle.sched_model.specs.Places.{at_place}
 use Rattle.sched_model.specs.Runs.{Reached, IsNextEvent, IsRunFrom, action_of, after_entry, after_event}
 use Rattle.sched_laws.proofs.EachPlace.{by_option}
-use Rattle.turn_laws.specs.Turns.{how_many, one}
+use Rattle.turn_laws.specs.Turns.{how_many}
+use Rattle.sched_base.specs.Numbers.{one_if}
 use Rattle.stretch_laws.proofs.LegRuns.{action_in}
 use Rattle.moment_laws.specs.Moments.{is_end, is_line}
 use Rattle.sched_laws.proofs.Clock.{SameClock, same_clock, carried_clock, settled_clock}
@@ -117,7 +118,7 @@ dom_moved_goes : (m : Machine) (s : State) (d : ℕ) → Goes m s (after_dom_mov
 dom_moved_goes m s d = same_left m (after_dom_moved m.config.granularity s.now d s) s (dom_moved_clock m.config.granularity s.now d s)
 
 -- after an event that may come and ends no moment, the moment is the same; and each line takes one of those that are left
-pub event_goes : (m : Machine) (from : Reached) (ev : Event) → IsNextEvent m from.state ev (action_of ev) → (is_end ev ≡ false → (after_event m ev (action_of ev) from).state.now ≡ from.state.now) × (lines_left m (after_event m ev (action_of ev) from).state + one (is_line ev) ≤ lines_left m from.state)
+pub event_goes : (m : Machine) (from : Reached) (ev : Event) → IsNextEvent m from.state ev (action_of ev) → (is_end ev ≡ false → (after_event m ev (action_of ev) from).state.now ≡ from.state.now) × (lines_left m (after_event m ev (action_of ev) from).state + one_if (is_line ev) ≤ lines_left m from.state)
 event_goes m from (event.Stall p until) next = (let a = stall_goes m from.state from.state.now next.0 in (λ e. a.0, a.1))
 event_goes m from (event.Xl k answer) next = (let a = command_goes m from.state from.state.now next.0 in (λ e. a.0, a.1))
 event_goes m from (event.Moved r to) next = (let a = moved_goes m from.state r.0 in (λ e. a.0, a.1))

@@ -2,7 +2,7 @@
 use Rattle.std.proofs.Common.{◌≡◌, ◌≤◌, ◌+◌, ◌-◌, ℕ, zero, suc, Bool, true, false, not, List, [], ◌∷◌, refl, arith, ap, subst, sym, ◌∙◌}
 use Rattle.std.specs.Prelude.{Option, Some, None, nat_le, slice_get, option_map, ◌==◌, ◌&&◌, ◌||◌, ◌/◌}
 use Rattle.std.proofs.lemmas.Bool.{and_from}
-use Rattle.sched_base.specs.Numbers.{moment, span}
+use Rattle.sched_base.specs.Numbers.{moment, span, has_come, one_if}
 use Rattle.sched_base.specs.declared.Moment.{Moment}
 use Rattle.sched_base.specs.declared.Span.{Span}
 use Rattle.sched_base.specs.declared.VcpuId.{VcpuId}
@@ -17,12 +17,11 @@ use Rattle.sched_model.specs.declared.state.Resource.{Resource}
 use Rattle.sched_model.specs.declared.state.RtdsUnit.{RtdsUnit}
 use Rattle.sched_model.specs.declared.state.Vcpu.{Vcpu}
 use Rattle.sched_model.specs.Places.{at_place, change_at, change_each, change_item}
-use Rattle.sched_model.specs.State.{has_come}
 use Rattle.sched_model.specs.Pool.{change_core, change_processor, change_vcpu, change_cores_of, with_doing, started_on, settled_pool, stopped_vcpu}
 use Rattle.sched_laws.proofs.Events.{LikePlaces, like_change_at, like_change_each, like_map, like_of_domain, capped, IsMarked, KeptByCommands, kept_settled}
 use Rattle.sched_base.proofs.Bools.{and_left, or_more, clash}
 use Rattle.sched_laws.specs.Counts.{total}
-use Rattle.turn_laws.specs.Turns.{one, how_many}
+use Rattle.turn_laws.specs.Turns.{how_many}
 use Rattle.turn_laws.specs.Stretches.{units}
 
 -- the core is not pending, and its due has come
@@ -49,13 +48,13 @@ is_deadline_due t x = nat_le x.deadline t
 
 -- how many of each
 abbrev pub of_core : ℕ → Resource → ℕ
-of_core t c = one (is_overdue t c)
+of_core t c = one_if (is_overdue t c)
 
 abbrev pub of_domain : ℕ → Domain → ℕ
 of_domain t d = how_many (is_ripe t) d.vcpus
 
 abbrev pub of_credit2 : ℕ → Credit2Domain → ℕ
-of_credit2 t d = one (is_refill_due t d.refill)
+of_credit2 t d = one_if (is_refill_due t d.refill)
 
 abbrev pub of_rtds : ℕ → List RtdsUnit → ℕ
 of_rtds t units = how_many (is_deadline_due t) units
@@ -69,7 +68,7 @@ of_records t any = 0
 abbrev pub of_pool : ℕ → Pool → ℕ
 of_pool t pool = (total (of_core t) pool.resources + total (of_domain t) pool.domains) + of_records t pool.scheduler.records
 
-pub one_less : (a b : Bool) → (b ≡ true → a ≡ true) → one b ≤ one a
+pub one_less : (a b : Bool) → (b ≡ true → a ≡ true) → one_if b ≤ one_if a
 one_less true true to = omega arith
 one_less true false to = omega arith
 one_less false true to = absurd (let e = to refl in cc)

@@ -1,5 +1,5 @@
 -- In a moment each cause but a line takes one away of what is to come at its first state, and a command adds one at most.
-use Rattle.sched_base.specs.Numbers.{core, domain as domain_number}
+use Rattle.sched_base.specs.Numbers.{core, domain as domain_number, one_if}
 use Rattle.std.proofs.Common.{◌≡◌, ◌≤◌, ◌<◌, ◌+◌, ◌*◌, ℕ, Bool, true, List, [], ◌∷◌, ◌++◌, refl, arith, ap, subst, sym, ◌∙◌, ◌⊎◌, inl, inr}
 use Rattle.std.specs.Prelude.{Option, Some, is_some, slice_get, ◌==◌}
 use Rattle.std.specs.Option.{IfSome}
@@ -37,7 +37,7 @@ use Rattle.sched_ranges.proofs.Law.{fits_in_runs}
 use Rattle.move_laws.proofs.Counted.{in_all}
 use Rattle.move_laws.proofs.Staying.{same_home, same_stall, adds_line}
 use Rattle.move_laws.proofs.Ending.{moved_ends, dom_moved_ends}
-use Rattle.turn_laws.specs.Turns.{one, how_many}
+use Rattle.turn_laws.specs.Turns.{how_many}
 use Rattle.turn_laws.proofs.StretchFalls.{push_assoc}
 use Rattle.credit2_turns.proofs.Credit2Steps.{Has}
 use Rattle.stretch_laws.proofs.LegRuns.{action_in}
@@ -119,7 +119,7 @@ module _ (m : Machine) (checked : IsChecked m) (s : State) (apart : IsApart s) (
       let b = dom_moved_ends m s s.now d on in
       omega (arith, a, b)
 
-  event_lowers : (e : Event) (over : Bool) → IsNextEvent m s e (action_of e) → one (is_cause e) + to_come s.now (after_event m e (action_of e) (record { state = s; over = over })).state ≤ 2 * one (is_line e) + to_come s.now s
+  event_lowers : (e : Event) (over : Bool) → IsNextEvent m s e (action_of e) → one_if (is_cause e) + to_come s.now (after_event m e (action_of e) (record { state = s; over = over })).state ≤ 2 * one_if (is_line e) + to_come s.now s
   event_lowers (event.Stall p until) over next = (let a = stalls in omega (arith, a))
   event_lowers (event.Xl k answer) over next = (let a = commands in omega (arith, a))
   event_lowers (event.Moved r to) over next = (let a = core_moves r.0 next.0 in omega (arith, a))
@@ -137,7 +137,7 @@ moment_lowers m checked t (e ∷ moment) before run at =
     let next = parts.1.0 in
     let now : s.now ≡ t = sym next.moment ∙ eqb-true e.at.0 t (and_left (e.at.0 == t) _ at) in
     let here = event_lowers m checked s (is_apart m checked before parts.0) (ready_pools m checked before parts.0) e.event (after_entries m (run_start m) before).over next.event in
-    let here_t = subst (λ k. one (is_cause e.event) + to_come k (after_entry m (after_entries m (run_start m) before) e).state ≤ 2 * one (is_line e.event) + to_come k s) now here in
+    let here_t = subst (λ k. one_if (is_cause e.event) + to_come k (after_entry m (after_entries m (run_start m) before) e).state ≤ 2 * one_if (is_line e.event) + to_come k s) now here in
     let rest = moment_lowers m checked t moment (before ++ e ∷ []) (subst (IsRun m) (sym (push_assoc before e moment)) run) (and_right (e.at.0 == t) _ at) in
     let same : to_come t (state_after m (before ++ e ∷ [])) ≡ to_come t (after_entry m (after_entries m (run_start m) before) e).state = ap (λ (x : Reached). to_come t x.state) (after_entries-append m (run_start m) before e) in
     omega (arith, here_t, rest, same)

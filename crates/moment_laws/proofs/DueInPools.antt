@@ -7,7 +7,7 @@ use Rattle.std.proofs.lemmas.Nat.{div-add-mod'}
 use Rattle.std.proofs.lemmas.Option.{slice_get_cases, slice_get_within}
 use Rattle.std.proofs.lemmas.Bool.{and_from}
 use Rattle.sched_base.specs.Credit2Numbers.{refill_span}
-use Rattle.sched_base.specs.Numbers.{moment, span, core, processor}
+use Rattle.sched_base.specs.Numbers.{moment, span, core, processor, has_come, one_if}
 use Rattle.sched_base.specs.declared.Moment.{Moment}
 use Rattle.sched_base.specs.declared.Span.{Span}
 use Rattle.sched_base.specs.declared.UnitId.{UnitId}
@@ -26,7 +26,7 @@ use Rattle.sched_model.specs.declared.state.RtdsUnit.{RtdsUnit}
 use Rattle.sched_model.specs.declared.state.Vcpu.{Vcpu}
 use Rattle.sched_model.specs.CheckedMachine.{IsChecked, IsCheckedDomain, IsCheckedScript, IsWithin, most_span}
 use Rattle.sched_model.specs.Places.{at_place, change_item, has_unit}
-use Rattle.sched_model.specs.State.{has_come, is_runnable}
+use Rattle.sched_model.specs.State.{is_runnable}
 use Rattle.sched_model.specs.Opening.{core_count}
 use Rattle.sched_model.specs.EligibleUnits.{Decision, rtds_unit}
 use Rattle.sched_model.specs.Credit2 as credit2
@@ -47,7 +47,6 @@ use Rattle.sched_ranges.specs.Fits.{RtdsFits}
 use Rattle.sched_ranges.proofs.Records.{RecordsFit, replenish_fits}
 use Rattle.sched_ranges.proofs.Vcpus.{VcpuFits}
 use Rattle.sched_ranges.proofs.Walk.{DomFits, PoolFits}
-use Rattle.turn_laws.specs.Turns.{one}
 use Rattle.turn_laws.proofs.Sums.{how_many_changed}
 use Rattle.moment_laws.proofs.DueEvents.{of_pool, of_core, of_domain, of_credit2, of_rtds, of_records, is_overdue, is_ripe, ends_by, is_deadline_due, is_refill_due, less_commands, less_core, less_processor, less_settled, less_started_on, less_stopped, pending_none}
 use Rattle.moment_laws.proofs.LaterDues.{DecidesLater, IsReady, decides_later, burned_deadline}
@@ -100,8 +99,8 @@ module _ (m : Machine) (checked : IsChecked m) (t : ℕ) (pool : Pool) (fits : P
       let d : Domain = s.domain in
       let a = total-change_at (of_domain t) v.dom.0 h pool.domains d s.at in
       let b = how_many_changed (is_ripe t) v.n f d.vcpus x s.get in
-      let c = ap one ripe in
-      let e = ap one no_more in
+      let c = ap one_if ripe in
+      let e = ap one_if no_more in
       omega (arith, a, b, c, e)
 
   span_some : (script : List Span) → IsCheckedScript script → (n : ℕ) (w : Span) → slice_get script n ≡ Some w → 1 ≤ w.0
@@ -206,8 +205,8 @@ module _ (m : Machine) (checked : IsChecked m) (t : ℕ) (pool : Pool) (fits : P
       let c : Resource = found.0 in
       let f : Resource → Resource = λ x. record x { pending = true } in
       let a = total-change_at (of_core t) r f pool.resources c found.1 in
-      let before = ap one (and_left (is_overdue t c) (first_up t c) found.2) in
-      let after = ap one (pending_none t (f c) refl) in
+      let before = ap one_if (and_left (is_overdue t c) (first_up t c) found.2) in
+      let after = ap one_if (pending_none t (f c) refl) in
       omega (arith, a, before, after)
 
   -- a replenishment: the unit's next deadline is later, and its core asks again no sooner
@@ -243,8 +242,8 @@ module _ (m : Machine) (checked : IsChecked m) (t : ℕ) (pool : Pool) (fits : P
       (λ units at2 get. (
       let a = total-change_at (of_rtds t) u.dom.0 (change_item u.n (rtds.replenish t)) xs units at2 in
       let b = how_many_changed (is_deadline_due t) u.n (rtds.replenish t) units x get in
-      let before = ap one due in
-      let after = ap one (renewed_later x fit) in
+      let before = ap one_if due in
+      let after = ap one_if (renewed_later x fit) in
       omega (arith, a, b, before, after))) at
 
   replenishes : (u : UnitId) (records : Records) → pool.scheduler.records ≡ records → policy.replenish_due records t u ≡ true → of_records t (policy.replenish records t u) + 1 ≤ of_records t records
@@ -304,8 +303,8 @@ module _ (m : Machine) (checked : IsChecked m) (t : ℕ) (pool : Pool) (fits : P
       (λ x at e. (
       let r = refilled_later (credit2.max_weight rs) x x.refill refl e in
       let a = total-change_at (of_credit2 t) d (credit2.refill_domain (credit2.max_weight rs) t) rs.domains x at in
-      let before = ap one r.0 in
-      let after = ap one r.1 in
+      let before = ap one_if r.0 in
+      let after = ap one_if r.1 in
       omega (arith, a, before, after))) come
   refills_by d records come = absurd (cc)
 
@@ -336,7 +335,7 @@ module _ (m : Machine) (checked : IsChecked m) (t : ℕ) (pool : Pool) (fits : P
       let next : Resource = decided_core t decision c in
       let none : is_overdue t next ≡ false = by_test (λ (x : Resource). is_overdue t x ≡ false) (same_choice decision.unit c.cur) _ _ (λ is. ap (λ b. b && true) d.due) (λ is. ap (λ b. b && true) d.due) in
       let a = total-put_at (of_core t) r next c pool.resources at in
-      let zero_is = ap one none in
+      let zero_is = ap one_if none in
       let records = d.records in
       omega (arith, a, zero_is, records)
 

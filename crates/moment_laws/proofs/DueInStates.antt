@@ -1,7 +1,7 @@
 -- What is to come of a state at its moment falls by one with each cause that is no line, stays with a stall, and grows by one at most with a command.
 use Rattle.std.proofs.Common.{◌≡◌, ◌≤◌, ◌+◌, ◌/◌, ℕ, zero, suc, Bool, true, false, List, [], ◌∷◌, refl, arith, ap, length}
 use Rattle.std.specs.Prelude.{Option, Some, None, Ok, Err, replicate, slice_get, unwrap_or, ◌==◌, ◌&&◌, ◌||◌}
-use Rattle.sched_base.specs.Numbers.{moment, span, domain as domain_number, pool as pool_number}
+use Rattle.sched_base.specs.Numbers.{moment, span, domain as domain_number, pool as pool_number, one_if}
 use Rattle.sched_base.specs.declared.Span.{Span}
 use Rattle.sched_base.specs.declared.UnitId.{UnitId}
 use Rattle.sched_model.specs.declared.action.Action.{Action}
@@ -42,7 +42,7 @@ use Rattle.sched_laws.proofs.EachPlace.{by_cond, by_option}
 use Rattle.sched_laws.proofs.Lists.{some-test_at}
 use Rattle.sched_ranges.proofs.Walk.{PoolFits}
 use Rattle.move_laws.proofs.Totals.{total-put_at_more, total-clear_at_less, total-change_at_more}
-use Rattle.turn_laws.specs.Turns.{one, how_many}
+use Rattle.turn_laws.specs.Turns.{how_many}
 use Rattle.moment_laws.proofs.DueEvents.{IsLess, of_pool, of_core, of_domain, of_credit2, of_rtds, of_records, is_overdue, is_deadline_due, is_refill_due, one_less, total-change_at_less, less_commands, less_capped, less_domain, less_processor, less_settled}
 use Rattle.moment_laws.proofs.LaterDues.{IsReady, same_deadlines}
 use Rattle.moment_laws.proofs.DueInPools.{takes, acts_settled}
@@ -101,7 +101,7 @@ module _ (t : ℕ) where
       let next : Pool = record pool { resources = put_at r c pool.resources } in
       let a = total-put_at_more (of_core t) r c pool.resources in
       let b = less_settled t next in
-      let e = ap one none in
+      let e = ap one_if none in
       omega (arith, a, b, e)
 
   core_goes : (r : ℕ) (pool : Pool) → IsLess t pool (settled_pool t (record pool { resources = clear_at r pool.resources }))
@@ -113,7 +113,7 @@ module _ (t : ℕ) where
 
   fresh_none : (n : ℕ) (x : RtdsUnit) → is_deadline_due t x ≡ false → how_many (is_deadline_due t) (replicate n x) ≡ 0
   fresh_none zero x is = refl
-  fresh_none (suc n) x is = (let r = fresh_none n x is in let e = ap one is in omega (arith, r, e))
+  fresh_none (suc n) x is = (let r = fresh_none n x is in let e = ap one_if is in omega (arith, r, e))
 
   joins_records : (d count : ℕ) (records : Records) → of_records t (policy.joined_records records (default_dom_params records) d count t) ≤ of_records t records
   joins_records d count (Credit2Pool rs) = (let a = total-put_at_more (of_credit2 t) d (credit2.fresh_domain 256 0 count t) rs.domains in omega (arith, a))

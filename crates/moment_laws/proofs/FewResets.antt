@@ -1,6 +1,6 @@
 -- In a moment there are no more resets than causes and cores: a reset is of a core whose Credit2 pool had none at this moment, and only a move brings such a core.
 use Rattle.sched_base.specs.declared.ResId.{ResId}
-use Rattle.sched_base.specs.Numbers.{core}
+use Rattle.sched_base.specs.Numbers.{core, one_if}
 use Rattle.std.proofs.Common.{◌≡◌, ◌≢◌, ◌≤◌, ◌+◌, ℕ, zero, suc, Bool, true, false, not, List, [], ◌∷◌, ◌++◌, refl, arith, ap, subst, sym, ◌∙◌, length, inl, inr}
 use Rattle.std.specs.Prelude.{Option, Some, None, is_some, int_lt, pos, cond, ◌&&◌, ◌||◌, ◌==◌}
 use Rattle.std.specs.List.{list_any, list_all}
@@ -50,7 +50,8 @@ use Rattle.sched_laws.proofs.Lists.{some-test_at, test_at-some, is_some_at}
 use Rattle.sched_laws.proofs.Reached.{is_apart, places_for_cores}
 use Rattle.sched_laws.proofs.StillWaits.{split_run}
 use Rattle.turn_laws.specs.Stretches.{cores}
-use Rattle.turn_laws.specs.Turns.{total_over, how_many, one}
+use Rattle.turn_laws.specs.Turns.{how_many}
+use Rattle.sched_laws.specs.Counts.{total_over}
 use Rattle.turn_laws.specs.GoodDecisions.{decision}
 use Rattle.turn_laws.proofs.Sums.{many_is, many_none, total_at_most, grows, falls, one_most}
 use Rattle.turn_laws.proofs.StretchFalls.{push_assoc}
@@ -196,7 +197,7 @@ module _ (m : Machine) (s : State) (apart : IsApart s) (places : (i : ℕ) (pool
   g = m.config.granularity
 
   abbrev left : State → ℕ
-  left next = total_over (cores m) (λ r. one (waits_for_reset s.now next r))
+  left next = total_over (cores m) (λ r. one_if (waits_for_reset s.now next r))
 
   was : (action : Action) → is_enabled m s s.now action ≡ true → (r : ℕ) → (action ≡ Moved (core r) → ⊥) → waits_for_reset s.now (after m s s.now action) r ≡ true → waits_for_reset s.now s r ≡ true
   was action on r other waits =
@@ -205,14 +206,14 @@ module _ (m : Machine) (s : State) (apart : IsApart s) (places : (i : ℕ) (pool
 
   no_rise : (action : Action) → is_enabled m s s.now action ≡ true → ((r : ℕ) → action ≡ Moved (core r) → ⊥) → left (after m s s.now action) ≤ left s
   no_rise action on other =
-      let a = grows (cores m) 0 (λ r. one (waits_for_reset s.now s r)) (λ r. one (waits_for_reset s.now (after m s s.now action) r))
+      let a = grows (cores m) 0 (λ r. one_if (waits_for_reset s.now s r)) (λ r. one_if (waits_for_reset s.now (after m s s.now action) r))
       (λ r low. (let b = one_less (waits_for_reset s.now s r) (waits_for_reset s.now (after m s s.now action) r) (was action on r (other r)) in omega (arith, b))) in
       let none = many_none (cores m) in
       omega (arith, a, none)
 
   move_rises : (q : ℕ) → is_enabled m s s.now (Moved (core q)) ≡ true → left (after m s s.now (Moved (core q))) ≤ left s + 1
   move_rises q on =
-      rises (cores m) q (λ r. one (waits_for_reset s.now s r)) (λ r. one (waits_for_reset s.now (after m s s.now (Moved (core q))) r))
+      rises (cores m) q (λ r. one_if (waits_for_reset s.now s r)) (λ r. one_if (waits_for_reset s.now (after m s s.now (Moved (core q))) r))
       (let a = one_most (waits_for_reset s.now (after m s s.now (Moved (core q))) q) in omega (arith, a))
       (λ r other. one_less (waits_for_reset s.now s r) (waits_for_reset s.now (after m s s.now (Moved (core q))) r) (was (Moved (core q)) on r (λ e. other (moved q r e))))
     where
@@ -252,16 +253,16 @@ module _ (m : Machine) (s : State) (apart : IsApart s) (places : (i : ℕ) (pool
           let low = place_below pool.resources r c.0 c.1 in
           let count = places i pool p.1 in
           let none = many_none (cores m) in
-          let all = falls (cores m) 0 1 r (λ q. one (waits_for_reset s.now s q)) (λ q. one (waits_for_reset s.now (after m s s.now (Decide (core r))) q)) (omega (arith, low, count))
-          (let a = ap one now in let b = ap one later in omega (arith, a, b))
+          let all = falls (cores m) 0 1 r (λ q. one_if (waits_for_reset s.now s q)) (λ q. one_if (waits_for_reset s.now (after m s s.now (Decide (core r))) q)) (omega (arith, low, count))
+          (let a = ap one_if now in let b = ap one_if later in omega (arith, a, b))
           (λ q other. (let b = one_less (waits_for_reset s.now s q) (waits_for_reset s.now (after m s s.now (Decide (core r))) q) (was (Decide (core r)) on q (λ e. absurd (cc))) in omega (arith, b))) in
           omega (arith, all, none)
 
   -- what is left falls with each reset and rises with causes alone
-  event_lowers : (e : Event) (over : Bool) → IsNextEvent m s e (action_of e) → one (is_reset e) + left (after_event m e (action_of e) (record { state = s; over = over })).state ≤ one (is_cause e) + left s
+  event_lowers : (e : Event) (over : Bool) → IsNextEvent m s e (action_of e) → one_if (is_reset e) + left (after_event m e (action_of e) (record { state = s; over = over })).state ≤ one_if (is_cause e) + left s
   event_lowers (event.Decide r unit due late reset) over next = by_reset (reset == 0) refl
     where
-      by_reset : (b : Bool) → (reset == 0) ≡ b → one (not b) + left (after m s s.now (Decide r)) ≤ 0 + left s
+      by_reset : (b : Bool) → (reset == 0) ≡ b → one_if (not b) + left (after m s s.now (Decide r)) ≤ 0 + left s
       by_reset true is = (let a = no_rise (Decide r) next.0 (λ q e. absurd (cc)) in omega (arith, a))
       by_reset false is = (let a = reset_lowers (event.Decide r unit due late reset) r.0 next.0 next.1 (λ none. (let b : (reset == 0) ≡ true = grind (arith, none) in clash _ b is)) in omega (arith, a))
   event_lowers (event.Moved r to) over next = (let a = move_rises r.0 next.0 in omega (arith, a))
@@ -271,7 +272,7 @@ module _ (m : Machine) (s : State) (apart : IsApart s) (places : (i : ℕ) (pool
 
 module _ (m : Machine) (checked : IsChecked m) (t : ℕ) where
   abbrev left_at : State → ℕ
-  left_at s = total_over (cores m) (λ r. one (waits_for_reset t s r))
+  left_at s = total_over (cores m) (λ r. one_if (waits_for_reset t s r))
 
   moment_lowers : (moment before : List Entry) → IsRun m (before ++ moment) → are_at t moment ≡ true → resets moment ≤ how_many (λ (e : Entry). is_cause e.event) moment + left_at (state_after m before)
   moment_lowers [] before run at = omega arith
@@ -281,7 +282,7 @@ module _ (m : Machine) (checked : IsChecked m) (t : ℕ) where
       let next = parts.1.0 in
       let now : s.now ≡ t = sym next.moment ∙ eqb-true e.at.0 t (and_left (e.at.0 == t) _ at) in
       let here = event_lowers m s (is_apart m checked before parts.0) (places_for_cores m checked before parts.0) e.event (after_entries m (run_start m) before).over next.event in
-      let here_t = subst (λ k. one (is_reset e.event) + total_over (cores m) (λ r. one (waits_for_reset k (after_entry m (after_entries m (run_start m) before) e).state r)) ≤ one (is_cause e.event) + total_over (cores m) (λ r. one (waits_for_reset k s r))) now here in
+      let here_t = subst (λ k. one_if (is_reset e.event) + total_over (cores m) (λ r. one_if (waits_for_reset k (after_entry m (after_entries m (run_start m) before) e).state r)) ≤ one_if (is_cause e.event) + total_over (cores m) (λ r. one_if (waits_for_reset k s r))) now here in
       let rest = moment_lowers moment (before ++ e ∷ []) (subst (IsRun m) (sym (push_assoc before e moment)) run) (and_right (e.at.0 == t) _ at) in
       let same : left_at (state_after m (before ++ e ∷ [])) ≡ left_at (after_entry m (after_entries m (run_start m) before) e).state = ap (λ (x : Reached). left_at x.state) (after_entries-append m (run_start m) before e) in
       omega (arith, here_t, rest, same)
@@ -289,6 +290,6 @@ module _ (m : Machine) (checked : IsChecked m) (t : ℕ) where
 pub resets_few : (m : Machine) → IsChecked m → ResetsFew m
 resets_few m checked before moment t run at =
     let a = moment_lowers m checked t moment before run at in
-    let b = total_at_most (cores m) 1 (λ r. one (waits_for_reset t (state_after m before) r)) (λ r low. one_most (waits_for_reset t (state_after m before) r)) in
+    let b = total_at_most (cores m) 1 (λ r. one_if (waits_for_reset t (state_after m before) r)) (λ r low. one_most (waits_for_reset t (state_after m before) r)) in
     let e = many_is (cores m) 1 in
     omega (arith, a, b, e)

@@ -18,7 +18,7 @@ use Rattle.sched_model.specs.declared.state.Records.TheVariants.{Credit2Pool, Rt
 use Rattle.sched_model.specs.declared.state.RtdsUnit.{RtdsUnit}
 use Rattle.sched_model.specs.declared.state.Scheduler.{Scheduler}
 use Rattle.sched_model.specs.Places.{at_place, change_at, change_each, change_item, has_unit}
-use Rattle.sched_model.specs.State.{has_come}
+use Rattle.sched_base.specs.Numbers.{has_come}
 use Rattle.sched_model.specs.Arinc.{Window, window_from, window_at, present_window}
 use Rattle.sched_model.specs.EligibleUnits.{Decision, is_allowed, is_eligible, eligible_units, has_budget}
 use Rattle.sched_model.specs.Credit2 as credit2

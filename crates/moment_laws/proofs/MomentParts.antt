@@ -17,7 +17,9 @@ use Rattle.sched_base.proofs.Bools.{and_left, and_right}
 use Rattle.sched_laws.proofs.EachPlace.{at_place-put_at_other, at_place-clear_at, at_place-clear_at_other, length_set}
 use Rattle.sched_laws.proofs.StillWaits.{split_run}
 use Rattle.turn_laws.specs.Stretches.{Legs, cores, units, legs_with, legs_after, leg_of, open_legs, has_no_older_leg, is_in_stretch, is_stretch}
-use Rattle.turn_laws.specs.Turns.{total_over, how_many, one, most_turns}
+use Rattle.turn_laws.specs.Turns.{how_many, most_turns}
+use Rattle.sched_base.specs.Numbers.{one_if}
+use Rattle.sched_laws.specs.Counts.{total_over}
 use Rattle.turn_laws.proofs.Sums.{many_is, many_none, total_at_most, grows, falls, one_most}
 use Rattle.turn_laws.proofs.StretchFalls.{legs_push, push_assoc}
 use Rattle.moment_laws.specs.Moments.{is_cause, is_end, causes, are_at, most_in_moment, most_turns_in_moment}
@@ -36,11 +38,11 @@ is_reset _ = false
 -- how many entries are in no stretch, and how many end a leg of another moment
 abbrev pub between : Legs → List Entry → ℕ
 between legs [] = 0
-between legs (e ∷ entries) = one (not (is_in_stretch e.at.0 legs e.event)) + between (legs_with e.at.0 e.event legs) entries
+between legs (e ∷ entries) = one_if (not (is_in_stretch e.at.0 legs e.event)) + between (legs_with e.at.0 e.event legs) entries
 
 abbrev pub olds : Legs → List Entry → ℕ
 olds legs [] = 0
-olds legs (e ∷ entries) = one (is_old e.at.0 legs e.event) + olds (legs_with e.at.0 e.event legs) entries
+olds legs (e ∷ entries) = one_if (is_old e.at.0 legs e.event) + olds (legs_with e.at.0 e.event legs) entries
 
 abbrev pub resets : List Entry → ℕ
 resets entries = how_many (λ (e : Entry). is_reset e.event) entries
@@ -51,18 +53,18 @@ ends entries = how_many (λ (e : Entry). is_end e.event) entries
 -- how many of the entries have such an event
 pub counted_events : (test : Event → Bool) (entries : List Entry) → count_by (λ (e : Entry). test e.event) entries ≡ how_many (λ (e : Entry). test e.event) entries
 counted_events test [] = refl
-counted_events test (e ∷ entries) = sum_by-cons (λ (x : Entry). cond (test x.event) 1 0) e entries ∙ ap (λ k. one (test e.event) + k) (counted_events test entries)
+counted_events test (e ∷ entries) = sum_by-cons (λ (x : Entry). cond (test x.event) 1 0) e entries ∙ ap (λ k. one_if (test e.event) + k) (counted_events test entries)
 
 pub causes_are : (entries : List Entry) → causes entries ≡ how_many (λ (e : Entry). is_cause e.event) entries
 causes_are entries = counted_events is_cause entries
 
 -- an entry in no stretch is a cause, ends an old leg, resets, or ends the moment
-decide_low : (a b : Bool) → one (not (a && b)) ≤ one (not b) + one (not a)
+decide_low : (a b : Bool) → one_if (not (a && b)) ≤ one_if (not b) + one_if (not a)
 decide_low true true = omega arith
 decide_low true false = omega arith
 decide_low false b = (let x = one_most (not b) in omega (arith, x))
 
-one_between : (t : ℕ) (legs : Legs) (e : Event) → one (not (is_in_stretch t legs e)) ≤ one (is_cause e) + one (is_old t legs e) + one (is_reset e) + one (is_end e)
+one_between : (t : ℕ) (legs : Legs) (e : Event) → one_if (not (is_in_stretch t legs e)) ≤ one_if (is_cause e) + one_if (is_old t legs e) + one_if (is_reset e) + one_if (is_end e)
 one_between t legs (event.Decide r unit due late reset) = (let a = decide_low (reset == 0) (has_no_older_leg t legs r.0) in omega (arith, a))
 one_between t legs e = omega arith
 
@@ -72,25 +74,25 @@ between_few legs (e ∷ entries) = (let a = one_between e.at.0 legs e.event in l
 
 -- the cores with a leg of another moment
 abbrev older : ℕ → Legs → ℕ → ℕ
-older t legs r = one (not (has_no_older_leg t legs r))
+older t legs r = one_if (not (has_no_older_leg t legs r))
 
 same_number : (t : ℕ) → (t == t) ≡ true
 same_number t = grind arith
 
 -- a decision leaves its core no leg of another moment, and the other cores theirs
 left_none : (t r : ℕ) (unit : Option UnitId) (legs : Legs) → older t (leg_of t r unit legs) r ≡ 0
-left_none t r None legs = ap (λ (o : Option ℕ). one (not (elim o as (λ _. Bool) [ None ↦ true | Some run_start ↦ run_start == t ]))) (at_place-clear_at r legs)
+left_none t r None legs = ap (λ (o : Option ℕ). one_if (not (elim o as (λ _. Bool) [ None ↦ true | Some run_start ↦ run_start == t ]))) (at_place-clear_at r legs)
 left_none t r (Some u) legs = by_length legs r
   where
     by_length : (legs : Legs) (r : ℕ) → older t (put_at r t legs) r ≡ 0
     by_length [] zero = refl
     by_length [] (suc r) = refl
-    by_length (x ∷ legs) zero = ap (λ b. one (not b)) (same_number t)
+    by_length (x ∷ legs) zero = ap (λ b. one_if (not b)) (same_number t)
     by_length (x ∷ legs) (suc r) = by_length legs r
 
 others_keep : (t r k : ℕ) (unit : Option UnitId) (legs : Legs) → k ≢ r → older t (leg_of t r unit legs) k ≡ older t legs k
-others_keep t r k None legs other = ap (λ (o : Option ℕ). one (not (elim o as (λ _. Bool) [ None ↦ true | Some run_start ↦ run_start == t ]))) (at_place-clear_at_other r k legs other)
-others_keep t r k (Some u) legs other = ap (λ (o : Option ℕ). one (not (elim o as (λ _. Bool) [ None ↦ true | Some run_start ↦ run_start == t ]))) (at_place-put_at_other r k t legs other)
+others_keep t r k None legs other = ap (λ (o : Option ℕ). one_if (not (elim o as (λ _. Bool) [ None ↦ true | Some run_start ↦ run_start == t ]))) (at_place-clear_at_other r k legs other)
+others_keep t r k (Some u) legs other = ap (λ (o : Option ℕ). one_if (not (elim o as (λ _. Bool) [ None ↦ true | Some run_start ↦ run_start == t ]))) (at_place-put_at_other r k t legs other)
 
 -- a core that has a leg of another moment is one of the machine's
 old_inside : (t r n : ℕ) (legs : Legs) → length legs ≤ n → older t legs r ≡ 1 → r < n
@@ -135,7 +137,7 @@ module _ (t n : ℕ) where
   length_kept (event.Decide r (Some u) due late reset) legs = length_set r.0 (Some t) legs
   length_kept e legs = refl
 
-  event_lowers : (e : Event) (legs : Legs) → length legs ≤ n → old_total (legs_with t e legs) + one (is_old t legs e) ≤ old_total legs
+  event_lowers : (e : Event) (legs : Legs) → length legs ≤ n → old_total (legs_with t e legs) + one_if (is_old t legs e) ≤ old_total legs
   event_lowers (event.Decide r unit due late reset) legs low = decide_lowers r.0 unit legs low
   event_lowers e legs low = omega arith
 
@@ -146,7 +148,7 @@ module _ (t n : ℕ) where
       let a = event_lowers e.event legs low in
       let count = length_kept e.event legs in
       let rest = olds_lower entries (legs_with t e.event legs) (omega (arith, count, low)) (and_right (e.at.0 == t) _ at) in
-      subst (λ k. one (is_old k legs e.event) + olds (legs_with k e.event legs) entries ≤ old_total legs) (sym now) (omega (arith, a, rest))
+      subst (λ k. one_if (is_old k legs e.event) + olds (legs_with k e.event legs) entries ≤ old_total legs) (sym now) (omega (arith, a, rest))
 
 -- in one moment as many decisions end a leg of an earlier one as there are cores, at most
 pub olds_few : (t n : ℕ) (entries : List Entry) (legs : Legs) → length legs ≤ n → are_at t entries ≡ true → olds legs entries ≤ n
@@ -201,7 +203,7 @@ module _ (m : Machine) (most : ℕ) (end : StretchesEnd m most) where
           let more : is_stretch (open_legs m before) (stretch ++ e ∷ []) ≡ true = stretch_push (open_legs m before) stretch e is (subst (λ l. is_in_stretch e.at.0 l e.event ≡ true) (legs_both (replicate (cores m) None) before stretch) on) in
           let rest = again (stretch ++ e ∷ []) before (subst (λ xs. IsRun m (xs ++ entries)) joined run2) more in
           let rest2 : length (stretch ++ e ∷ []) + length entries ≤ most + between (legs_with e.at.0 e.event legs) entries * (most + 1) = subst (λ l. length (stretch ++ e ∷ []) + length entries ≤ most + between l entries * (most + 1)) (ap (open_legs m) (sym joined) ∙ sym same) rest in
-          let none : one (not (is_in_stretch e.at.0 legs e.event)) ≡ 0 = ap (λ b. one (not b)) on in
+          let none : one_if (not (is_in_stretch e.at.0 legs e.event)) ≡ 0 = ap (λ b. one_if (not b)) on in
           let size = length_push stretch e in
           let count : between legs (e ∷ entries) * (most + 1) ≡ between (legs_with e.at.0 e.event legs) entries * (most + 1) = ap (λ k. (k + between (legs_with e.at.0 e.event legs) entries) * (most + 1)) none ∙ grind arith in
           grind (arith, rest2, size, count)
@@ -212,7 +214,7 @@ module _ (m : Machine) (most : ℕ) (end : StretchesEnd m most) where
           let rest = again [] ((before ++ stretch) ++ e ∷ []) (subst (λ xs. IsRun m (xs ++ entries)) (sym nil) run2) refl in
           let rest2 : length entries ≤ most + between (legs_with e.at.0 e.event legs) entries * (most + 1) =
           (let r = subst (λ l. 0 + length entries ≤ most + between l entries * (most + 1)) (ap (open_legs m) nil ∙ sym same) rest in omega (arith, r)) in
-          let some : one (not (is_in_stretch e.at.0 legs e.event)) ≡ 1 = ap (λ b. one (not b)) off in
+          let some : one_if (not (is_in_stretch e.at.0 legs e.event)) ≡ 1 = ap (λ b. one_if (not b)) off in
           let count : between legs (e ∷ entries) * (most + 1) ≡ (most + 1) + between (legs_with e.at.0 e.event legs) entries * (most + 1) = ap (λ k. (k + between (legs_with e.at.0 e.event legs) entries) * (most + 1)) some ∙ grind arith in
           grind (arith, rest2, here, count)
 

@@ -4,12 +4,7 @@ use Rattle.std.specs.Prelude.{Option, Some, None, is_some, slice_get}
 use Rattle.std.proofs.Math.Decide.{dec_le}
 use Rattle.sched_model.specs.Places.{at_place}
 use Rattle.sched_laws.proofs.Counts.{total_none}
-use Rattle.sched_laws.specs.Counts.{total}
-use Rattle.turn_laws.specs.Turns.{total_over}
-
--- what f makes of what stands at a place, or 0
-abbrev pub of_place : {X : Type 0} → (X → ℕ) → Option X → ℕ
-of_place {X} f o = elim o as (λ _. ℕ) [ None ↦ 0 | Some x ↦ f x ]
+use Rattle.sched_laws.specs.Counts.{total, over, total_over}
 
 -- the first of the numbers, and the others
 pub over_first : (n : ℕ) (f : ℕ → ℕ) → total_over (suc n) f ≡ f 0 + total_over n (λ k. f (suc k))
@@ -24,24 +19,20 @@ pub over_sum : (n : ℕ) (f h : ℕ → ℕ) → total_over n (λ k. f k + h k) 
 over_sum zero f h = refl
 over_sum (suc n) f h = (let r = over_sum n f h in omega (arith, r))
 
-pub over_less : (n : ℕ) (f h : ℕ → ℕ) → ((k : ℕ) → k < n → f k ≤ h k) → total_over n f ≤ total_over n h
-over_less zero f h less = omega arith
-over_less (suc n) f h less = (let a = over_less n f h (λ k low. less k (omega (arith, low))) in let b = less n (omega arith) in omega (arith, a, b))
-
 -- places by their numbers
-pub total_numbers : {X : Type 0} (f : X → ℕ) (places : List (Option X)) → total f places ≡ total_over (length places) (λ k. of_place f (at_place places k))
+pub total_numbers : {X : Type 0} (f : X → ℕ) (places : List (Option X)) → total f places ≡ total_over (length places) (λ k. over f (at_place places k))
 total_numbers f [] = refl
 total_numbers {X} f (None ∷ places) =
     let whole : List (Option X) = None ∷ places in
     let r = total_numbers f places in
-    let a = over_first (length places) (λ k. of_place f (at_place whole k)) in
+    let a = over_first (length places) (λ k. over f (at_place whole k)) in
     let s : length whole ≡ suc (length places) = grind arith in
-    r ∙ sym (ap (λ n. total_over n (λ k. of_place f (at_place whole k))) s ∙ a ∙ omega arith)
+    r ∙ sym (ap (λ n. total_over n (λ k. over f (at_place whole k))) s ∙ a ∙ omega arith)
 total_numbers {X} f (Some x ∷ places) =
     let r = total_numbers f places in
-    let a = over_first (length places) (λ k. of_place f (at_place (Some x ∷ places) k)) in
+    let a = over_first (length places) (λ k. over f (at_place (Some x ∷ places) k)) in
     let s : length (Some x ∷ places) ≡ suc (length places) = grind arith in
-    ap (λ n. f x + n) r ∙ sym (ap (λ n. total_over n (λ k. of_place f (at_place (Some x ∷ places) k))) s ∙ a)
+    ap (λ n. f x + n) r ∙ sym (ap (λ n. total_over n (λ k. over f (at_place (Some x ∷ places) k))) s ∙ a)
 
 -- the sums in the other order
 pub total_swapped : {X : Type 0} (n : ℕ) (f : X → ℕ → ℕ) (places : List (Option X)) → total (λ x. total_over n (f x)) places ≡ total_over n (λ k. total (λ x. f x k) places)
@@ -73,23 +64,23 @@ total_most {X} b f (Some z ∷ places) most apart =
 
 -- what is summed for each element of a list
 pub over_list : {X : Type 0} (f : X → ℕ) (whole : ℕ → List X → ℕ) → ((k : ℕ) → whole k [] ≡ 0) → ((k : ℕ) (x : X) (xs : List X) → whole k (x ∷ xs) ≡ f x + whole (suc k) xs)
-    → (k : ℕ) (xs : List X) → total_over (length xs) (λ d. of_place f (slice_get xs d)) ≡ whole k xs
+    → (k : ℕ) (xs : List X) → total_over (length xs) (λ d. over f (slice_get xs d)) ≡ whole k xs
 over_list f whole none more k [] = sym (none k)
 over_list f whole none more k (x ∷ xs) =
     let r = over_list f whole none more (suc k) xs in
-    let a = over_first (length xs) (λ d. of_place f (slice_get (x ∷ xs) d)) in
+    let a = over_first (length xs) (λ d. over f (slice_get (x ∷ xs) d)) in
     let s : length (x ∷ xs) ≡ suc (length xs) = grind arith in
-    ap (λ n. total_over n (λ d. of_place f (slice_get (x ∷ xs) d))) s ∙ a ∙ ap (λ n. f x + n) r ∙ sym (more k x xs)
+    ap (λ n. total_over n (λ d. over f (slice_get (x ∷ xs) d))) s ∙ a ∙ ap (λ n. f x + n) r ∙ sym (more k x xs)
 
 pub total_sum : {X : Type 0} (f h : X → ℕ) (places : List (Option X)) → total (λ x. f x + h x) places ≡ total f places + total h places
 total_sum f h [] = refl
 total_sum f h (None ∷ places) = total_sum f h places
 total_sum f h (Some x ∷ places) = (let r = total_sum f h places in omega (arith, r))
 
-pub place_some : {X : Type 0} (f : X → ℕ) (o : Option X) → 1 ≤ of_place f o → is_some o ≡ true
+pub place_some : {X : Type 0} (f : X → ℕ) (o : Option X) → 1 ≤ over f o → is_some o ≡ true
 place_some f None some = absurd (omega (arith, some))
 place_some f (Some x) some = refl
 
-pub place_none : {X : Type 0} (f : X → ℕ) (o : Option X) → is_some o ≡ false → of_place f o ≡ 0
+pub place_none : {X : Type 0} (f : X → ℕ) (o : Option X) → is_some o ≡ false → over f o ≡ 0
 place_none f None none = refl
 place_none f (Some x) none = absurd (cc)

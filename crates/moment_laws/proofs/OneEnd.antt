@@ -14,7 +14,7 @@ use Rattle.sched_model.specs.Runs.{Reached, IsRun, IsRunFrom, IsNextEvent, actio
 use Rattle.sched_base.proofs.Bools.{and_left, and_right}
 use Rattle.sched_laws.proofs.EachPlace.{by_option, by_cond}
 use Rattle.sched_laws.proofs.StillWaits.{split_run}
-use Rattle.turn_laws.specs.Turns.{one}
+use Rattle.sched_base.specs.Numbers.{one_if}
 use Rattle.moment_laws.specs.Moments.{are_at, is_end}
 use Rattle.moment_laws.proofs.MomentParts.{ends}
 
@@ -64,7 +64,7 @@ module _ (m : Machine) (t : ℕ) where
   one_end_from (e ∷ entries) from run at =
       let here : from.state.now ≡ t = sym run.0.moment ∙ eqb-true e.at.0 t (and_left (e.at.0 == t) _ at) in
       let rest = one_end_from entries (after_entry m from e) run.1 (and_right (e.at.0 == t) _ at) in
-      elim (is_end e.event) as (λ b. is_end e.event ≡ b → one b + ends entries ≤ 1) [
+      elim (is_end e.event) as (λ b. is_end e.event ≡ b → one_if b + ends entries ≤ 1) [
         | true ↦ λ is. (let none = past e.event from entries is run.0.event here run.1 (and_right (e.at.0 == t) _ at) in let zero_ends : ends entries ≡ 0 = ap ends none in omega (arith, zero_ends))
         | false ↦ λ is. omega (arith, rest)
       ] refl

@@ -13,7 +13,8 @@ use Rattle.sched_laws.specs.StateLaws.{state_after}
 use Rattle.sched_base.proofs.Bools.{and_left, and_right}
 use Rattle.sched_laws.proofs.StillWaits.{split_run}
 use Rattle.turn_laws.specs.Stretches.{cores, units}
-use Rattle.turn_laws.specs.Turns.{how_many, one}
+use Rattle.turn_laws.specs.Turns.{how_many}
+use Rattle.sched_base.specs.Numbers.{one_if}
 use Rattle.turn_laws.proofs.StretchFalls.{push_assoc}
 use Rattle.moment_laws.specs.Moments.{are_at, causes, is_cause, is_end, is_line, most_causes, most_due, most_in_any_moment, most_in_moments, whole_moments, work_lines}
 use Rattle.moment_laws.proofs.ActionClock.{event_goes, lines_few}
@@ -21,7 +22,7 @@ use Rattle.moment_laws.proofs.FewCauses.{causes_few}
 use Rattle.moment_laws.proofs.MomentLaw.{moment_ends}
 use Rattle.moment_laws.proofs.MomentParts.{append_all, append_none, causes_are, counted_events, ends}
 
-how_many_push : (test : Entry → Bool) (xs : List Entry) (e : Entry) → how_many test (xs ++ e ∷ []) ≡ how_many test xs + one (test e)
+how_many_push : (test : Entry → Bool) (xs : List Entry) (e : Entry) → how_many test (xs ++ e ∷ []) ≡ how_many test xs + one_if (test e)
 how_many_push test [] e = omega arith
 how_many_push test (x ∷ xs) e = (let r = how_many_push test xs e in omega (arith, r))
 
@@ -50,9 +51,9 @@ module _ (m : Machine) (p q : Entry → Bool) (a b : ℕ) (each : EachMoment m p
       let more : are_at now (moment ++ e ∷ []) ≡ true = at_push now moment e at next.moment in
       let count_p = how_many_push p moment e in
       let count_q = how_many_push q moment e in
-      let spread : a * (how_many q moment + (one (q e) + how_many q entries)) ≡ a * how_many q moment + a * one (q e) + a * how_many q entries = grind arith in
-      let of_moment : a * how_many q (moment ++ e ∷ []) ≡ a * how_many q moment + a * one (q e) = ap (λ k. a * k) count_q ∙ grind arith in
-      elim (is_end e.event) as (λ k. is_end e.event ≡ k → how_many p moment + (one (p e) + how_many p entries) ≤ a * (how_many q moment + (one (q e) + how_many q entries)) + ((one k + ends entries) + 1) * b) [
+      let spread : a * (how_many q moment + (one_if (q e) + how_many q entries)) ≡ a * how_many q moment + a * one_if (q e) + a * how_many q entries = grind arith in
+      let of_moment : a * how_many q (moment ++ e ∷ []) ≡ a * how_many q moment + a * one_if (q e) = ap (λ k. a * k) count_q ∙ grind arith in
+      elim (is_end e.event) as (λ k. is_end e.event ≡ k → how_many p moment + (one_if (p e) + how_many p entries) ≤ a * (how_many q moment + (one_if (q e) + how_many q entries)) + ((one_if k + ends entries) + 1) * b) [
         | false ↦ λ goes. (
             let pushed : (state_after m (before ++ (moment ++ e ∷ []))).now ≡ now = ap (λ xs. (state_after m xs).now) (sym joined) ∙ ap (λ (x : Reached). x.state.now) (after_entries-append m (run_start m) (before ++ moment) e) ∙ (event_goes m (after_entries m (run_start m) (before ++ moment)) e.event next.event).0 goes in
             let rest = pieces entries (moment ++ e ∷ []) before run3 (subst (λ t. are_at t (moment ++ e ∷ []) ≡ true) (sym pushed) more) in

@@ -18,11 +18,11 @@ use Rattle.sched_model.specs.declared.state.Pool.{Pool}
 use Rattle.sched_model.specs.declared.state.Resource.{Resource}
 use Rattle.sched_model.specs.Places.{at_place, put_at, numbers_from}
 use Rattle.sched_model.specs.State.{has_core}
-use Rattle.sched_model.specs.Opening.{opening, opening_free, opening_pool, opening_pools, with_domains, with_configured, empty_pool, fresh_core, core_count}
+use Rattle.sched_model.specs.Opening.{opening, opening_free, opening_pool, opening_pools, with_domains, with_configured, empty_pool, fresh_core, core_count, fresh_domain}
 use Rattle.sched_model.specs.CheckedMachine.{IsChecked, IsCheckedDomain}
 use Rattle.sched_model.proofs.PlaceLemmas.{is_some-option_map}
 use Rattle.sched_laws.proofs.EachPlace.{by_cond, is_empty, EachPlace-empty, at_place-put_at, length_set}
-use Rattle.sched_laws.proofs.Opened.{joining_domain, read_map, read_pools, with_domains-resources, with_configured-domains}
+use Rattle.sched_laws.proofs.Opened.{read_map, read_pools, with_domains-resources, with_configured-domains}
 use Rattle.part_laws.proofs.Looks.{moving_in}
 use Rattle.part_laws.proofs.Alike.{core_of, mover_of, target_of}
 use Rattle.part_laws.proofs.Housed.{Housed, never, after_put}
@@ -51,14 +51,14 @@ step g i d joining pool = cond (joining.home.0 == i) (with_configured g d joinin
 
 step_length : (g i d : ℕ) (joining : DomConfig) (pool : Pool) → length (step g i d joining pool).domains ≡ length pool.domains
 step_length g i d joining pool = by_cond (λ (p : Pool). length p.domains ≡ length pool.domains) (joining.home.0 == i) (with_configured g d joining pool) pool
-    (λ is. ap length (with_configured-domains g d joining pool) ∙ length_set d (Some (joining_domain joining)) pool.domains) (λ is. refl)
+    (λ is. ap length (with_configured-domains g d joining pool) ∙ length_set d (Some (fresh_domain joining)) pool.domains) (λ is. refl)
 
 put_keeps : {X : Type 0} (i j : ℕ) (x : X) (places : List (Option X)) → is_some (at_place places j) ≡ true → is_some (at_place (put_at i x places) j) ≡ true
 put_keeps i j x places is = elim (after_put i j x places) [ inl was ↦ ap is_some was ∙ is | inr new ↦ ap is_some new.1 ]
 
 step_keeps : (g i d e : ℕ) (joining : DomConfig) (pool : Pool) → is_some (at_place pool.domains e) ≡ true → is_some (at_place (step g i d joining pool).domains e) ≡ true
 step_keeps g i d e joining pool is = by_cond (λ (p : Pool). is_some (at_place p.domains e) ≡ true) (joining.home.0 == i) (with_configured g d joining pool) pool
-    (λ home. ap (λ (l : List (Option Domain)). is_some (at_place l e)) (with_configured-domains g d joining pool) ∙ put_keeps d e (joining_domain joining) pool.domains is) (λ away. is)
+    (λ home. ap (λ (l : List (Option Domain)). is_some (at_place l e)) (with_configured-domains g d joining pool) ∙ put_keeps d e (fresh_domain joining) pool.domains is) (λ away. is)
 
 joined_keeps : (g i d e : ℕ) (domains : List DomConfig) (pool : Pool) → is_some (at_place pool.domains e) ≡ true → is_some (at_place (with_domains g i d domains pool).domains e) ≡ true
 joined_keeps g i d e [] pool is = is
@@ -66,7 +66,7 @@ joined_keeps g i d e (joining ∷ domains) pool is = joined_keeps g i (suc d) e 
 
 step_here : (g i d : ℕ) (joining : DomConfig) (pool : Pool) → joining.home.0 ≡ i → d < length pool.domains → is_some (at_place (step g i d joining pool).domains d) ≡ true
 step_here g i d joining pool home low = by_cond (λ (p : Pool). is_some (at_place p.domains d) ≡ true) (joining.home.0 == i) (with_configured g d joining pool) pool
-    (λ is. ap (λ (l : List (Option Domain)). is_some (at_place l d)) (with_configured-domains g d joining pool) ∙ ap is_some (at_place-put_at d (joining_domain joining) pool.domains low)) (λ away. absurd (grind (arith, away, home)))
+    (λ is. ap (λ (l : List (Option Domain)). is_some (at_place l d)) (with_configured-domains g d joining pool) ∙ ap is_some (at_place-put_at d (fresh_domain joining) pool.domains low)) (λ away. absurd (grind (arith, away, home)))
 
 -- a domain stands in its home
 joined_here : (g i d j : ℕ) (domains : List DomConfig) (pool : Pool) (c : DomConfig) → slice_get domains j ≡ Some c → c.home.0 ≡ i → d + j < length pool.domains → is_some (at_place (with_domains g i d domains pool).domains (d + j)) ≡ true
@@ -83,7 +83,7 @@ joined_here g i d (suc j) (joining ∷ domains) pool c at home low =
 -- no domain moves
 step_still : (g i d e : ℕ) (joining : DomConfig) (pool : Pool) (j : PoolId) → moving_in (step g i d joining pool) e ≡ Some (Some j) → moving_in pool e ≡ Some (Some j)
 step_still g i d e joining pool j = by_cond (λ (p : Pool). moving_in p e ≡ Some (Some j) → moving_in pool e ≡ Some (Some j)) (joining.home.0 == i) (with_configured g d joining pool) pool
-    (λ home is. elim (after_put d e (joining_domain joining) pool.domains) [
+    (λ home is. elim (after_put d e (fresh_domain joining) pool.domains) [
       | inl was ↦ ap (option_map (λ (x : Domain). x.moving)) (sym was) ∙ ap (λ (l : List (Option Domain)). option_map (λ (x : Domain). x.moving) (at_place l e)) (sym (with_configured-domains g d joining pool)) ∙ is
       | inr new ↦ (let no : Some None ≡ Some (Some j) = ap (option_map (λ (x : Domain). x.moving)) (sym new.1) ∙ ap (λ (l : List (Option Domain)). option_map (λ (x : Domain). x.moving) (at_place l e)) (sym (with_configured-domains g d joining pool)) ∙ is in absurd (cc))
     ])

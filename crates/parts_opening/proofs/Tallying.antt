@@ -12,10 +12,9 @@ use Rattle.sched_model.specs.declared.machine.Machine.{Machine}
 use Rattle.sched_model.specs.declared.state.Pool.{Pool}
 use Rattle.sched_model.specs.CheckedMachine.{IsChecked, IsCheckedConfig}
 use Rattle.sched_model.specs.Commands.{is_kind}
-use Rattle.sched_model.specs.Opening.{core_count, opening, opening_pool, opening_pools, most_pools, with_configured, with_domains}
+use Rattle.sched_model.specs.Opening.{core_count, opening, opening_pool, opening_pools, most_pools, with_configured, with_domains, fresh_domain}
 use Rattle.sched_model.specs.Policy.{kind_of}
 use Rattle.sched_laws.proofs.EachPlace.{by_cond}
-use Rattle.sched_laws.proofs.Opened.{joining_domain}
 use Rattle.journal_core.specs.Parts.{outline_of, tool_of}
 use Rattle.sched_ops.specs.Conditions.{ArePoolParams}
 use Rattle.pool_opening.proofs.Parameters.{pool_fits}
@@ -29,7 +28,7 @@ kind_domains g i d [] pool = refl
 kind_domains g i d (joining ∷ domains) pool =
     kind_domains g i (suc d) domains (cond (joining.home.0 == i) (with_configured g d joining pool) pool)
     ∙ by_cond (λ (p : Pool). kind_of p.scheduler.records ≡ kind_of pool.scheduler.records) (joining.home.0 == i) (with_configured g d joining pool) pool
-    (λ is. kind_pinned d 0 joining.pins _ ∙ kind_joined g d (joining_domain joining) joining.params pool) (λ is. refl)
+    (λ is. kind_pinned d 0 joining.pins _ ∙ kind_joined g d (fresh_domain joining) joining.params pool) (λ is. refl)
 
 -- a pool of the file has its own scheduler's parameters
 abbrev Fits : PoolConfig → Type 0

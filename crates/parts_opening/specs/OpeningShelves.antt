@@ -9,7 +9,7 @@ use Rattle.pool_core.specs.Seen.{Seen, vacant_pool}
 use Rattle.pool_slots.specs.declared.counts.KindCounts.{KindCounts}
 use Rattle.pool_slots.specs.Counts.{configured_of}
 use Rattle.pool_slots.specs.Kinds.{count_of}
-use Rattle.pool_slots.specs.Rooms.{most_units}
+use Rattle.unit_state.specs.Guests.{most_units}
 use Rattle.pool_slots.specs.Spares.{Shelf, Shelves, shelves_with}
 
 -- a pool of the scheduler that is not in use: it has the machine's places for domains and cores, and room for all units of a machine

@@ -4,16 +4,14 @@ use Rattle.std.proofs.lemmas.List.Sums.{sum_by-cons, sum_by_push}
 use Rattle.lock_moves.specs.Sets.{LockTable, sitting_with}
 use Rattle.hall.specs.Seats.{IsOf, Seated, Stays}
 use Rattle.pcpu_threads.specs.Workers.{AllWorked, HasWorked, OneEach, all_taken_in, lessened_by, shares_of, taken_in}
+use Rattle.hall.specs.Seats.{shares_in}
 
 -- a seat that stays is still of the hall
 pub of-stays : (hall : LockTable) (old new : Seated) → IsOf hall old → Stays old new → IsOf hall new
 of-stays hall old new of stays = record { table = stays.table ∙ of.table; input = stays.input ∙ of.input; limit = stays.limit ∙ of.limit }
 
-abbrev parts : Seated → ℕ
-parts s = s.sitting.view.shares
-
 pub shares-cons : (s : Seated) (seats : List Seated) → shares_of (s ∷ seats) ≡ s.sitting.view.shares + shares_of seats
-shares-cons s seats = sum_by-cons parts s seats
+shares-cons s seats = sum_by-cons shares_in s seats
 
 pub shares-push : (seats : List Seated) (s : Seated) → shares_of (seats ++ s ∷ []) ≡ shares_of seats + s.sitting.view.shares
 shares-push seats s = sum_by_push parts seats s

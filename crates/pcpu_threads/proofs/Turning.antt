@@ -11,7 +11,7 @@ use Rattle.sched_model.specs.declared.event.Event.TheVariants as event
 use Rattle.sched_model.specs.declared.machine.Machine.{Machine}
 use Rattle.sched_model.specs.declared.state.State.{State}
 use Rattle.sched_model.specs.Machine.{event_of, first_enabled}
-use Rattle.sched_model.specs.Runs.{IsNext, IsRun, IsWholeRun, Reached, action_of, after_entries, after_entry, run_start}
+use Rattle.sched_model.specs.Runs.{IsNext, IsRun, IsWholeRun, Reached, action_of, after_entries, run_start}
 use Rattle.sched_model.proofs.RunLemmas.{action_of-event_of, after_entries-append}
 use Rattle.run_laws.specs.RunLaws.{IsOrderedFrom, IsOrderedRun, TakesFirst}
 use Rattle.journal_core.specs.Books.{Chronicle}
@@ -24,6 +24,7 @@ use Rattle.hall.specs.Seats.{Seated, Stays}
 use Rattle.hall.specs.Turns.{Added, HasFinished, IsTurn, Looked, TurnsFull}
 use Rattle.pcpu_threads.specs.declared.ends.RunEnd.TheVariants as run_end
 use Rattle.pcpu_threads.specs.Ends.{Closes, IsEnded, book_seen, end_of}
+use Rattle.run_laws.proofs.Ordered.{IsOrderedFrom-append}
 
 -- a beginning of a beginning
 pub prefix_trans : {A : Type 0} (xs ys zs : List A) → IsPrefix xs ys → IsPrefix ys zs → IsPrefix xs zs
@@ -35,13 +36,8 @@ stays_refl s = record { table = refl; input = refl; limit = refl; shares = refl 
 pub stays_trans : (a b c : Seated) → Stays a b → Stays b c → Stays a c
 stays_trans a b c u v = record { table = v.table ∙ u.table; input = v.input ∙ u.input; limit = v.limit ∙ u.limit; shares = v.shares ∙ u.shares }
 
--- an entry that takes the first action goes on with an ordered run
-ordered-append : (m : Machine) (from : Reached) (entries : List Entry) (e : Entry) → IsOrderedFrom m from entries → TakesFirst m (after_entries m from entries).state (action_of e.event) → IsOrderedFrom m from (entries ++ e ∷ [])
-ordered-append m from [] e ordered first = (first, tt)
-ordered-append m from (x ∷ entries) e ordered first = (ordered.0, ordered-append m (after_entry m from x) entries e ordered.1 first)
-
 ordered-more : (m : Machine) (h longer : List Entry) (e : Entry) → IsOrderedRun m h → IsRun m longer → longer ≡ h ++ e ∷ [] → TakesFirst m (state_at m h) (action_of e.event) → IsOrderedRun m longer
-ordered-more m h longer e ordered run is first = record { run = run; ordered = subst (IsOrderedFrom m (run_start m)) (sym is) (ordered-append m (run_start m) h e ordered.ordered first) }
+ordered-more m h longer e ordered run is first = record { run = run; ordered = subst (IsOrderedFrom m (run_start m)) (sym is) (IsOrderedFrom-append m (run_start m) h e ordered.ordered first) }
 
 -- the event of the first action takes it
 takes-first : (m : Machine) (s : State) (action : Action) (e : Event) → first_enabled m s s.now ≡ Some action → e ≡ event_of m s s.now action → TakesFirst m s (action_of e)

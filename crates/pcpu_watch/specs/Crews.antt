@@ -1,10 +1,9 @@
 -- The caller and the workers of a run.
 use Rattle.std.specs.Prelude.{◌≡◌, ◌<◌, ◌+◌, ℕ, length}
 use Rattle.lock_moves.specs.Sets.{LockTable}
-use Rattle.hall.specs.Seats.{IsOf}
+use Rattle.hall.specs.Seats.{IsOf, shares_in}
 use Rattle.pcpu_threads.specs.Workers.{OneEach, shares_of}
 use Rattle.pcpu_watch.specs.declared.crew.Crew.{Crew}
-use Rattle.pcpu_watch.specs.Scribes.{shares_in}
 
 -- how many of the 1024 parts the crew has
 abbrev pub parts_of : Crew → ℕ

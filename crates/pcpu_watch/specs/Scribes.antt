@@ -3,18 +3,15 @@ use Rattle.std.specs.Prelude.{◌≡◌, ℕ, ◌<◌, ◌≤◌, ◌^◌, ◌++
 use mathlib.Core.List.{IsPrefix}
 use Rattle.sched_model.specs.declared.event.Entry.{Entry}
 use Rattle.lock_moves.specs.Sets.{LockTable}
-use Rattle.hall.specs.Seats.{IsOf, Seated}
+use Rattle.hall.specs.Seats.{IsOf, Seated, shares_in}
 use Rattle.pcpu_watch.specs.declared.looks.Look.{Look}
 use Rattle.pcpu_watch.specs.declared.scribe.Scribe.{Scribe}
 use Rattle.pcpu_watch.specs.Looks.{ShowsBeginning}
 use Rattle.pcpu_watch.specs.Moments.{ends, moment_of}
 
--- the entries that a seat has seen, and its parts of the 1024
+-- the entries that a seat has seen
 abbrev pub front_of : Seated → List Entry
 front_of s = s.sitting.view.front
-
-abbrev pub shares_in : Seated → ℕ
-shares_in s = s.sitting.view.shares
 
 -- the seat of the hall has seen more of the history, or as much
 pub record SeesOn (hall : LockTable) (old new : Seated) : Type 0 where

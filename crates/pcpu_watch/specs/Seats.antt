@@ -3,9 +3,8 @@ use Rattle.std.specs.Prelude.{◌≡◌, ◌+◌, ℕ, List}
 use Rattle.lock_moves.specs.Sets.{LockTable}
 use Rattle.hall.specs.declared.turns.Turn.{Turn}
 use Rattle.hall.specs.declared.turns.Turn.TheVariants as turn
-use Rattle.hall.specs.Seats.{IsOf, Seated}
+use Rattle.hall.specs.Seats.{IsOf, Seated, shares_in}
 use Rattle.pcpu_threads.specs.Workers.{OneEach, shares_of}
-use Rattle.pcpu_watch.specs.Scribes.{shares_in}
 
 -- the caller's seat, one worker for each processor, and the scribe's seat: they are of the hall, and together they have all parts
 pub record AreSeats (hall : LockTable) (seat : Seated) (workers : List Seated) (scribe : Seated) : Type 0 where

@@ -1,10 +1,10 @@
 -- What watches a run, from moment to moment.
 use Rattle.std.specs.Prelude.{◌≡◌, ◌<◌, ◌-◌, [], suc, length}
 use Rattle.lock_moves.specs.Sets.{LockTable}
-use Rattle.hall.specs.Seats.{IsOf}
+use Rattle.hall.specs.Seats.{IsOf, shares_in}
 use Rattle.pcpu_watch.specs.declared.watch.Watcher.{Watcher}
 use Rattle.pcpu_watch.specs.Looks.{EachIsLook}
-use Rattle.pcpu_watch.specs.Scribes.{IsScribe, ReadsBefore, has_read, shares_in}
+use Rattle.pcpu_watch.specs.Scribes.{IsScribe, ReadsBefore, has_read}
 
 -- between two moments: there is a look for each moment so far, and what the scribe has read is published: the entries of the moments before the last one
 pub record IsWatch (hall : LockTable) (w : Watcher) : Type 0 where

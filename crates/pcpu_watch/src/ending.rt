@@ -3,9 +3,9 @@
 ghost use Rattle.std.specs.Prelude.{◌≡◌, ◌+◌, ◌≤◌, ◌<◌, length, take};
 ghost use mathlib.Core.List.{IsPrefix};
 ghost use Rattle.sched_model.specs.Runs.{IsRun};
-ghost use Rattle.hall.specs.Seats.{IsOf, Stays};
+ghost use Rattle.hall.specs.Seats.{IsOf, Stays, shares_in};
 ghost use Rattle.pcpu_watch.specs.Looks.{LooksSoFar};
-ghost use Rattle.pcpu_watch.specs.Scribes.{SeesOn, front_of, shares_in};
+ghost use Rattle.pcpu_watch.specs.Scribes.{SeesOn, front_of};
 ghost use Rattle.pcpu_watch.specs.Seats.{AreTwo, place_of as place_of_spec};
 ghost use Rattle.pcpu_watch.specs.WatchedRun.{IsWatched};
 

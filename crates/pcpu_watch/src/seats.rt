@@ -1,8 +1,7 @@
 //! The seats of a watched run.
 
 ghost use Rattle.std.specs.Prelude.{◌≡◌, ◌≤◌, IfErr, IfOk};
-ghost use Rattle.hall.specs.Seats.{IsOf};
-ghost use Rattle.pcpu_watch.specs.Scribes.{shares_in};
+ghost use Rattle.hall.specs.Seats.{IsOf, shares_in};
 ghost use Rattle.pcpu_watch.specs.Seats.{AreSeats};
 
 use hall::{Hall, HallSeat};

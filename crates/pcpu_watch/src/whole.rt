@@ -1,9 +1,8 @@
 //! A watched run by one seat: it takes what else the run needs, and goes through it.
 
 ghost use Rattle.std.specs.Prelude.{◌≡◌, ◌≤◌, ◌<◌, [], IfOk, length};
-ghost use Rattle.hall.specs.Seats.{IsOf};
+ghost use Rattle.hall.specs.Seats.{IsOf, shares_in};
 ghost use Rattle.status_board.specs.Boards.{nothing_seen, nothing_written};
-ghost use Rattle.pcpu_watch.specs.Scribes.{shares_in};
 ghost use Rattle.pcpu_watch.specs.Seats.{AreSeats};
 ghost use Rattle.pcpu_watch.specs.WatchedRun.{IsWatched, end_of};
 

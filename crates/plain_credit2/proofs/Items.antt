@@ -1,9 +1,8 @@
 -- Changes of one item of a list, and what holds of each item.
-use Rattle.std.proofs.Common.{◌≡◌, ◌<◌, ℕ, zero, suc, List, [], ◌∷◌, ◌++◌, ◌∙◌, refl, sym, ap, subst, arith, length, Bool, true, false, cond}
-use Rattle.std.specs.Prelude.{filter, ◌&&◌, Option, Some, None, option_map, slice_get, slice_set, slice_index_or}
+use Rattle.std.proofs.Common.{◌≡◌, ◌<◌, ℕ, zero, suc, List, [], ◌∷◌, ◌++◌, ◌∙◌, refl, sym, ap, subst, arith, Bool, true, false, cond}
+use Rattle.std.specs.Prelude.{filter, ◌&&◌, Some, None, slice_get, slice_set}
 use Rattle.std.specs.List.{All}
 use Rattle.sched_model.specs.Places.{change_item}
-use Rattle.sched_laws.specs.EachPlace.{EachPlace}
 
 -- an item that is there, put back changed
 pub change_item-put : {X : Type 0} (n : ℕ) (f : X → X) (xs : List X) (x : X) → slice_get xs n ≡ Some x → slice_set xs n (f x) ≡ change_item n f xs
@@ -16,12 +15,6 @@ pub change_item-none : {X : Type 0} (n : ℕ) (f : X → X) (xs : List X) → sl
 change_item-none n f [] is = refl
 change_item-none zero f (y ∷ xs) is = absurd cc
 change_item-none (suc n) f (y ∷ xs) is = ap (λ ys. y ∷ ys) (change_item-none n f xs is)
-
--- the item after the change
-pub get-change_item : {X : Type 0} (n : ℕ) (f : X → X) (xs : List X) → slice_get (change_item n f xs) n ≡ option_map f (slice_get xs n)
-get-change_item n f [] = refl
-get-change_item zero f (y ∷ xs) = refl
-get-change_item (suc n) f (y ∷ xs) = get-change_item n f xs
 
 -- an item has what each has
 pub get_fits : {X : Type 0} (P : X → Type 0) (xs : List X) (n : ℕ) (x : X) → All P xs → slice_get xs n ≡ Some x → P x
@@ -42,12 +35,6 @@ pub get-change_item_fits : {X : Type 0} (P : X → Type 0) (n : ℕ) (f : X → 
 get-change_item_fits P n f [] y all is = absurd cc
 get-change_item_fits P zero f (x ∷ xs) y all is = let same : f x ≡ y = cc in subst P same (all 0 x (omega arith))
 get-change_item_fits P (suc n) f (x ∷ xs) y all is = get-change_item_fits P n f xs y (λ k d h. all (suc k) d (omega (arith, h))) is
-
--- what was read at a place has what each has
-pub place_fits : {X : Type 0} (P : X → Type 0) (places : List (Option X)) (i : ℕ) (o : Option X) (x : X) → EachPlace P places → i < length places → o ≡ slice_index_or places i o → o ≡ Some x → P x
-place_fits P [] i o x each inside read is = absurd (omega (arith, inside))
-place_fits P (p ∷ places) zero o x each inside read is = each 0 x (sym read ∙ is)
-place_fits P (p ∷ places) (suc i) o x each inside read is = place_fits P places i o x (λ j y at. each (suc j) y at) (omega (arith, inside)) read is
 
 -- the elements that pass two tests, in one go
 pub filter-both : {X : Type 0} (p q : X → Bool) (xs : List X) → filter p (filter q xs) ≡ filter (λ x. p x && q x) xs

@@ -6,7 +6,6 @@ use Rattle.sched_base.specs.Numbers.{domain}
 use Rattle.sched_base.specs.declared.UnitId.{UnitId}
 use Rattle.sched_base.specs.declared.Cores.{Cores}
 use Rattle.sched_model.specs.declared.config.DomConfig.{DomConfig}
-use Rattle.sched_model.specs.declared.state.Domain.{Domain}
 use Rattle.sched_model.specs.declared.state.Vcpu.{Vcpu}
 use Rattle.sched_model.specs.declared.state.Pool.{Pool}
 use Rattle.sched_model.specs.Places.{numbers_from, put_at, change_at}
@@ -17,8 +16,7 @@ use Rattle.sched_model.specs.Policy.{join, pinned_cores, changed_records}
 use Rattle.sched_model.specs.State.{is_runnable}
 use Rattle.sched_model.specs.Pool.{queue_if_off, queue_units, queue_unit, is_off, with_domain, unit_count, set_params}
 use Rattle.plain_opening.specs.OpeningPool.{configured_if}
-use Rattle.sched_model.specs.Opening.{fresh_vcpu, with_pins, with_configured, with_domains}
-use Rattle.sched_laws.proofs.Opened.{queue_units-resources, with_pins-resources}
+use Rattle.sched_model.specs.Opening.{fresh_vcpu, with_pins, with_configured, with_domains, fresh_domain}
 pub use Rattle.sched_laws.proofs.Opened.{with_configured-resources as cores_by_configured}
 
 -- how many units wait
@@ -46,10 +44,6 @@ grows_by_units g d (n ∷ ns) pool =
 pins_keep : (d n : ℕ) (pins : List Cores) (pool : Pool) → (with_pins d n pins pool).scheduler.queue ≡ pool.scheduler.queue
 pins_keep d n [] pool = refl
 pins_keep d n (cores ∷ pins) pool = pins_keep d (suc n) pins _
-
--- a domain at the opening
-abbrev pub fresh_domain : DomConfig → Domain
-fresh_domain joining = record { paused = false; moving = None; vcpus = map fresh_vcpu joining.guests }
 
 -- as many wait before its pins as after them
 pub pinned_waiting : (g d : ℕ) (joining : DomConfig) (pool : Pool) → waiting (with_configured g d joining pool) ≡ waiting (with_domain g 0 d (fresh_domain joining) joining.params pool)

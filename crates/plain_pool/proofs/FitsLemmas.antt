@@ -8,11 +8,11 @@ use Rattle.sched_base.proofs.Lists.{each_get}
 use Rattle.sched_model.specs.declared.state.Vcpu.{Vcpu}
 use Rattle.sched_model.specs.declared.state.Pool.{Pool}
 use Rattle.sched_model.specs.declared.state.Resource.{Resource}
-use Rattle.sched_model.specs.Pool.{vcpu_for}
+use Rattle.sched_model.specs.Pool.{vcpu_for, vcpu_among}
 use Rattle.sched_model.specs.declared.state.Domain.{Domain}
 use Rattle.sched_model.specs.Places.{at_place, first_place, is_unit, AllPlaces}
 use Rattle.sched_laws.proofs.EachPlace.{found_at, place_below}
-use Rattle.plain_pool.specs.Fits.{DomainFits, VcpuFits, vcpu_among}
+use Rattle.plain_pool.specs.Fits.{DomainFits, VcpuFits}
 
 -- what stands at a place has the property
 pub at_place-fits : {X : Type 0} (P : X → Type 0) (places : List (Option X)) (i : ℕ) (x : X) → AllPlaces P places → at_place places i ≡ Some x → P x

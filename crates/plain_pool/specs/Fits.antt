@@ -1,19 +1,14 @@
 -- The numbers of a pool are in range.
 use Rattle.sched_model.specs.CheckedMachine.{most_span}
-use Rattle.std.specs.Prelude.{◌≤◌, ◌<◌, List, [], ◌∷◌, Option, Some, None, slice_get, length}
+use Rattle.std.specs.Prelude.{◌≤◌, ◌<◌, [], ◌∷◌, length}
 use Rattle.std.specs.Option.{ForSome}
 use Rattle.std.specs.List.{All, AllByRecursion}
-use Rattle.sched_base.specs.declared.VcpuId.{VcpuId}
 use Rattle.sched_base.specs.declared.Moment.{Moment}
 use Rattle.sched_base.specs.declared.Span.{Span}
 use Rattle.sched_model.specs.declared.state.Vcpu.{Vcpu}
 use Rattle.sched_model.specs.declared.state.Domain.{Domain}
 use Rattle.sched_model.specs.declared.state.Pool.{Pool}
-use Rattle.sched_model.specs.Places.{at_place, AllPlaces}
-
--- the vCPU, where these are the domains
-abbrev pub vcpu_among : List (Option Domain) → VcpuId → Option Vcpu
-vcpu_among domains v = elim (at_place domains v.dom.0) [ None ↦ None | Some d ↦ slice_get d.vcpus v.n ]
+use Rattle.sched_model.specs.Places.{AllPlaces}
 
 -- the spans of its script, the moment from which its work is counted and the work left are at most 10^13 nanoseconds, and its place is
 -- one of at most 64

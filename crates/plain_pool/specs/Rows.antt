@@ -2,7 +2,8 @@
 use Rattle.std.specs.Prelude.{ℕ, Bool, false, Some, None}
 use Rattle.sched_base.specs.declared.VcpuId.{VcpuId}
 use Rattle.sched_model.specs.declared.state.Pool.{Pool}
-use Rattle.sched_model.specs.State.{has_come, is_up}
+use Rattle.sched_model.specs.State.{is_up}
+use Rattle.sched_base.specs.Numbers.{has_come}
 use Rattle.sched_model.specs.Pool.{vcpu_of, done_at, processor_of}
 
 -- whether the work of the vCPU is done at t

@@ -1,16 +1,14 @@
 //! The vCPUs of a pool's domains.
 
 ghost use Rattle.sched_model.specs.CheckedMachine.{most_span};
-ghost use Rattle.std.specs.Prelude.{◌≡◌, ◌<◌, ◌≤◌, ◌+◌, ◌%◌, option_map, Some, slice_get, slice_index_or};
-ghost use Rattle.std.specs.Option.{option_copied, IfSome, ForSome};
-ghost use Rattle.std.specs.List.{All, AllByRecursion};
-ghost use Rattle.sched_base.specs.Numbers.{moment, span};
+ghost use Rattle.std.specs.Prelude.{◌≡◌, ◌<◌, ◌≤◌, ◌+◌, ◌%◌, Some, slice_get, slice_index_or};
+ghost use Rattle.std.specs.Option.{option_copied};
+ghost use Rattle.sched_base.specs.Numbers.{span};
 ghost use Rattle.sched_model.specs.declared.state.Vcpu.{Vcpu as VcpuRecord};
 ghost use Rattle.sched_model.specs.declared.state.Domain.{Domain as DomainRecord};
-ghost use Rattle.sched_model.specs.Places.{change_at, change_item, at_place, AllPlaces};
-ghost use Rattle.sched_model.specs.Pool.{done_at as done_at_spec, put_to_sleep, stopped_vcpu, woken_vcpu};
-ghost use Rattle.plain_pool.specs.Fits.{DomainFits, VcpuFits, vcpu_among};
-
+ghost use Rattle.sched_model.specs.Places.{change_at, change_item, AllPlaces};
+ghost use Rattle.sched_model.specs.Pool.{done_at as done_at_spec, put_to_sleep, stopped_vcpu, woken_vcpu, vcpu_among};
+ghost use Rattle.plain_pool.specs.Fits.{DomainFits, VcpuFits};
 use sched_base::{Moment, Span, VcpuId};
 use sched_model::row::Row;
 use sched_model::state::{Domain, Vcpu};

@@ -19,14 +19,13 @@ use Rattle.sched_model.specs.Places.{at_place, change_at, is_unit, put_at, test_
 use Rattle.sched_model.specs.Policy.{decision_of, replenish, rtds_record}
 use Rattle.sched_model.specs.EligibleUnits.{Decision}
 use Rattle.sched_model.specs.Pool as pools
-use Rattle.sched_model.specs.Pool.{after_in, change_processor, change_vcpu, with_doing, enabled_in, guest_of, processor_of, put_to_sleep, started_on, stopped_vcpu, taken_at, unit_of, woken_vcpu}
+use Rattle.sched_model.specs.Pool.{after_in, change_processor, change_vcpu, with_doing, enabled_in, guest_of, processor_of, put_to_sleep, started_on, stopped_vcpu, taken_at, unit_of, woken_vcpu, vcpu_among}
 use Rattle.sched_model.specs.State.{is_awake, is_runnable, is_up}
 use Rattle.sched_laws.proofs.Choices.{is_unit_same}
 use Rattle.sched_laws.proofs.EachPlace.{by_option, by_test, by_cond, found_at}
 use Rattle.sched_base.proofs.Bools.{and_left, and_right}
 use Rattle.sched_laws.specs.PoolFacts.{IsKnownPool}
 use Rattle.sched_laws.proofs.Lists.{some-test_at}
-use Rattle.plain_pool.specs.Fits.{vcpu_among}
 use Rattle.core_state.specs.Seen.{processor_among}
 use Rattle.core_state.proofs.Arming.{core_of_past}
 use Rattle.unit_state.specs.Seen.{done_among}

@@ -1,5 +1,5 @@
 -- What a pool's state keeps after an event, and after its cores were looked at.
-use Rattle.sched_base.specs.Numbers.{processor}
+use Rattle.sched_base.specs.Numbers.{processor, has_come}
 use Rattle.std.proofs.Common.{◌≡◌, ◌≤◌, ℕ, Bool, true, false, List, refl, sym, ap, subst, ◌∙◌, arith}
 use Rattle.std.specs.Prelude.{Option, Some, None}
 use Rattle.sched_base.specs.declared.Moment.{Moment}
@@ -12,12 +12,10 @@ use Rattle.sched_model.specs.declared.state.Vcpu.{Vcpu}
 use Rattle.sched_model.specs.CheckedMachine.{most_span}
 use Rattle.sched_model.specs.Places.{change_each}
 use Rattle.sched_model.specs.declared.state.Doing.TheVariants.{Held}
-use Rattle.sched_model.specs.Pool.{after_arrive, after_block, after_in, change_processor, change_vcpu, with_doing, stopped_vcpu, cores_from, done_at, enabled_in, guest_of, reconsidered_core, settled_pool, vcpu_of}
-use Rattle.sched_model.specs.State.{has_come}
+use Rattle.sched_model.specs.Pool.{after_arrive, after_block, after_in, change_processor, change_vcpu, with_doing, stopped_vcpu, cores_from, done_at, enabled_in, guest_of, reconsidered_core, settled_pool, vcpu_of, vcpu_among}
 use Rattle.sched_base.proofs.Bools.{and_left}
 use Rattle.sched_laws.proofs.EachPlace.{by_cond}
 use Rattle.sched_laws.proofs.Lists.{has_come-le}
-use Rattle.plain_pool.specs.Fits.{vcpu_among}
 use Rattle.pool_kept.specs.Holds.{Holds}
 use Rattle.pool_kept.proofs.Kept as kept
 use Rattle.unit_state.specs.Guests.{KeepsGuests}

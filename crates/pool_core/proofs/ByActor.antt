@@ -4,24 +4,21 @@ use Rattle.std.specs.Prelude.{Option, Some, None, ◌==◌, ◌&&◌}
 use Rattle.std.proofs.Math.Decide.{ℕ_discrete}
 use Rattle.std.proofs.Math.Nat.{mul-div_cancel, mul-mod_left}
 use Rattle.std.proofs.lemmas.Bool.{cases_lt, eqb-true, false_from_ne_true, eq-eqb}
-use Rattle.std.proofs.lemmas.Bool.Decides.{nat_tests}
 use Rattle.sched_base.specs.declared.DomId.{DomId}
 use Rattle.sched_base.specs.declared.Moment.{Moment}
 use Rattle.sched_base.specs.declared.ProcId.{ProcId}
 use Rattle.sched_base.specs.declared.VcpuId.{VcpuId}
-use Rattle.sched_base.specs.Numbers.{domain, core, processor}
-use Rattle.sched_model.specs.State.{has_come}
+use Rattle.sched_base.specs.Numbers.{domain, core, processor, has_come}
 use Rattle.sched_model.specs.declared.action.Action.{Action}
-use Rattle.sched_model.specs.declared.action.Action.TheVariants.{Stall, Xl, Moved, DomMoved, Wake, Block, Slice, Repl, Refill, Arrive, Decide, Leave, Save}
+use Rattle.sched_model.specs.declared.action.Action.TheVariants.{Wake, Block, Slice, Arrive, Decide, Leave, Save}
 use Rattle.sched_model.specs.declared.action.Actor.{Actor}
 use Rattle.sched_model.specs.declared.action.Actor.TheVariants.{Proc, Dom}
 use Rattle.sched_model.specs.declared.state.Domain.{Domain}
 use Rattle.sched_model.specs.declared.state.Pool.{Pool}
 use Rattle.sched_model.specs.declared.state.Vcpu.{Vcpu}
 use Rattle.sched_model.specs.Places.{first_place}
-use Rattle.sched_model.specs.Pool.{done_at, enabled_in, vcpu_of}
+use Rattle.sched_model.specs.Pool.{done_at, enabled_in, vcpu_of, vcpu_among}
 use Rattle.sched_base.proofs.Bools.{clash}
-use Rattle.plain_pool.specs.Fits.{vcpu_among}
 use Rattle.pool_laws.proofs.Readiness.{ready}
 use Rattle.unit_state.specs.Guests.{KeepsGuests}
 use Rattle.unit_state.specs.Seen.{Seen as GuestsSeen, done_among, is_due_among}
@@ -29,7 +26,7 @@ use Rattle.unit_state.proofs.GuestLemmas.{vcpu_bounds}
 use Rattle.core_state.specs.Seen.{Seen as CoresSeen}
 use Rattle.sched_ops.specs.Seen.{Seen as SchedulerSeen}
 use Rattle.pool_core.specs.Actors.{IsFirstBy, IsFirstByIn, is_by, is_by_domain, is_by_processor, is_lowest, leads}
-use Rattle.pool_core.specs.Order.{IsFirstIn, IsNotAfter, index_place, kind_place, subject_place}
+use Rattle.pool_core.specs.Order.{IsFirstIn, IsNotAfter, kind_place}
 use Rattle.pool_core.specs.Seen.{pool_of}
 use Rattle.pool_core.proofs.Order.{from_wakes, is_of_pool, joined, none_at, one_at, to_saves, widened}
 use Rattle.pool_laws.proofs.ActionOrder.{action_at, not_after_itself, of_kind}

@@ -9,7 +9,8 @@ use Rattle.sched_model.specs.declared.config.DomParams.{DomParams}
 use Rattle.sched_model.specs.declared.state.Domain.{Domain}
 use Rattle.sched_model.specs.declared.state.Pool.{Pool}
 use Rattle.sched_model.specs.Places.{at_place, has_unit}
-use Rattle.sched_model.specs.Policy.{all_cores, join}
+use Rattle.sched_model.specs.Policy.{join}
+use Rattle.sched_base.specs.CoreSets.{every_core}
 use Rattle.sched_model.specs.Pool.{unit_count}
 use Rattle.sched_laws.proofs.Counts.{times_has, times_some}
 use Rattle.sched_laws.proofs.EachPlace.{at_place-put_at}
@@ -21,7 +22,8 @@ use Rattle.pool_kept.proofs.Alike.{found_core}
 use Rattle.pool_kept.proofs.Members.{joined, member_elsewhere}
 use Rattle.pool_kept.proofs.On.{on_joined}
 use Rattle.pool_kept.specs.Holds.{Holds}
-use Rattle.pool_core.specs.Domains.{MayQueue, unit_id}
+use Rattle.pool_core.specs.Domains.{MayQueue}
+use Rattle.sched_base.specs.Units.{unit_id}
 
 -- a domain has a unit
 pub some_units : (g : ℕ) (domain : Domain) → 0 < g → 1 ≤ length domain.vcpus → 1 ≤ unit_count g domain
@@ -54,8 +56,8 @@ module _ (g t d : ℕ) (pool : Pool) (holds : Holds g t pool) (absent : at_place
   comers_may n domain params low below = record {
     member =
         let count : units_of (join d (unit_count g domain) params t pool.scheduler) d ≡ unit_count g domain =
-        ap (λ (o : Option (List Cores)). elim o as (λ _. ℕ) [ None ↦ 0 | Some sets ↦ length sets ]) (at_place-put_at d (replicate (unit_count g domain) all_cores) pool.scheduler.affinity (subst (λ (k : ℕ). d < k) (sym holds.members.places) low))
-        ∙ length-replicate (unit_count g domain) all_cores in
+        ap (λ (o : Option (List Cores)). elim o as (λ _. ℕ) [ None ↦ 0 | Some sets ↦ length sets ]) (at_place-put_at d (replicate (unit_count g domain) every_core) pool.scheduler.affinity (subst (λ (k : ℕ). d < k) (sym holds.members.places) low))
+        ∙ length-replicate (unit_count g domain) every_core in
         lt-ltb n (units_of (join d (unit_count g domain) params t pool.scheduler) d) (subst (λ (k : ℕ). n < k) (sym count) below);
     waits_not = absent_waits_not n;
     off = λ none. by_on (is_on (join d (unit_count g domain) params t pool.scheduler).records (unit_id d n)) refl;

@@ -31,7 +31,8 @@ use Rattle.unit_state.specs.Seen.{is_paused_among, units_at}
 use Rattle.pool_kept.proofs.Alike.{found_core}
 use Rattle.pool_kept.proofs.Units.{none_of_domain, other_domain}
 use Rattle.pool_kept.specs.Holds.{AreOn, HasMembers, Holds}
-use Rattle.pool_core.specs.Domains.{MayQueue, unit_id}
+use Rattle.pool_core.specs.Domains.{MayQueue}
+use Rattle.sched_base.specs.Units.{unit_id}
 use Rattle.pool_core.specs.Wakes.{is_held_among}
 use Rattle.pool_core.proofs.Asking.{guest_at}
 use Rattle.pool_core.proofs.Withdrawing.{units_known, waits_by}

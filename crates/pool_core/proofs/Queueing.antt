@@ -13,7 +13,8 @@ use Rattle.sched_laws.proofs.EachPlace.{by_cond}
 use Rattle.sched_ops.specs.Seen as schedulers
 use Rattle.unit_state.specs.Seen as guests
 use Rattle.core_state.specs.Seen as cores
-use Rattle.pool_core.specs.Domains.{MayQueue, unit_id}
+use Rattle.pool_core.specs.Domains.{MayQueue}
+use Rattle.sched_base.specs.Units.{unit_id}
 use Rattle.pool_core.specs.Seen.{pool_of}
 use Rattle.pool_core.specs.Wakes.{KeepsRoom}
 use Rattle.std.proofs.lemmas.Bool.{false_from_ne_true}

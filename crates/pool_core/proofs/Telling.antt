@@ -15,7 +15,7 @@ use Rattle.sched_ops.specs.Seen.{units_of}
 use Rattle.sched_model.specs.Policy.{stored_of}
 use Rattle.unit_state.specs.Guests.{KeepsGuests}
 use Rattle.unit_state.specs.Seen.{Seen, units_at}
-use Rattle.pool_core.specs.Domains.{unit_id}
+use Rattle.sched_base.specs.Units.{unit_id}
 use Rattle.pool_core.specs.Params.{stored_units}
 
 -- these are the values of the units before n; those of the units up to count are to follow

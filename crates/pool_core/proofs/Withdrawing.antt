@@ -16,7 +16,7 @@ use Rattle.sched_model.specs.State.{is_runnable}
 use Rattle.sched_base.proofs.Bools.{and_left}
 use Rattle.sched_laws.proofs.Counts.{some_numbered, times-filter_yes, times_none, times_some, without_absent}
 use Rattle.sched_laws.specs.Counts.{times}
-use Rattle.sched_laws.proofs.Lists.{AllByRecursion-map}
+use Rattle.sched_base.proofs.Lists.{AllByRecursion-map}
 use Rattle.sched_laws.specs.PoolFacts.{OnePlace, core_places}
 use Rattle.sched_laws.proofs.Calm.{each_of}
 use Rattle.sched_ops.specs.Seen.{Seen as SchedulerSeen, dequeue, units_of, with_scheduler}
@@ -25,7 +25,7 @@ use Rattle.pool_kept.specs.Holds.{HasMembers}
 use Rattle.pool_kept.proofs.Alike.{units_in, units_of_is}
 use Rattle.pool_kept.proofs.Members.{runnable_member}
 use Rattle.unit_state.specs.Seen.{units_at}
-use Rattle.pool_core.specs.Domains.{unit_id}
+use Rattle.sched_base.specs.Units.{unit_id}
 use Rattle.pool_core.specs.Wakes.{is_held_among}
 use Rattle.pool_core.proofs.Asking.{off_by, waits_not}
 

@@ -6,10 +6,9 @@ use Rattle.sched_base.specs.declared.VcpuId.{VcpuId}
 use Rattle.sched_model.specs.declared.state.Domain.{Domain}
 use Rattle.sched_model.specs.declared.state.Pool.{Pool}
 use Rattle.sched_model.specs.declared.state.Vcpu.{Vcpu}
-use Rattle.sched_model.specs.Pool.{after_wake, change_vcpu, is_off, joined_siblings, queue_unit, unit_of, woken_vcpu}
+use Rattle.sched_model.specs.Pool.{after_wake, change_vcpu, is_off, joined_siblings, queue_unit, unit_of, woken_vcpu, vcpu_among, change_among}
 use Rattle.sched_model.specs.State.{is_runnable}
-use Rattle.plain_pool.specs.Fits.{vcpu_among}
-use Rattle.unit_state.specs.Seen.{change_among, is_awake_among, is_due_among}
+use Rattle.unit_state.specs.Seen.{is_awake_among, is_due_among}
 use Rattle.unit_state.proofs.GuestLemmas.{come_among}
 use Rattle.unit_state.proofs.PlaceLemmas.{vcpu_among-change_among}
 use Rattle.pool_core.specs.Wakes.{done_started, joined_works, woken_works}

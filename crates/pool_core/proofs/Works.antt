@@ -14,12 +14,11 @@ use Rattle.sched_model.specs.declared.state.Processor.{Processor}
 use Rattle.sched_model.specs.declared.state.Resource.{Resource}
 use Rattle.sched_model.specs.declared.state.Vcpu.{Vcpu}
 use Rattle.sched_model.specs.Places.{at_place, change_each}
-use Rattle.sched_model.specs.Pool.{change_core, change_processor, change_vcpu, with_doing, done_at, guest_of, processor_of, started_on, woken_vcpu}
+use Rattle.sched_model.specs.Pool.{change_core, change_processor, change_vcpu, with_doing, done_at, guest_of, processor_of, started_on, woken_vcpu, vcpu_among, change_among}
 use Rattle.pool_laws.specs.ReadyMoments.{work_end}
 use Rattle.sched_laws.proofs.EachPlace.{at_place-clear_at, at_place-clear_at_other}
-use Rattle.plain_pool.specs.Fits.{vcpu_among}
 use Rattle.core_state.specs.Seen.{processor_among}
-use Rattle.unit_state.specs.Seen.{change_among, done_among}
+use Rattle.unit_state.specs.Seen.{done_among}
 use Rattle.unit_state.proofs.PlaceLemmas.{AreOthers, vcpu_among-change_among, vcpu_among-change_among_other}
 use Rattle.pool_core.specs.PoolState.{AreWorks}
 use Rattle.pool_core.specs.Seen.{guest_among}

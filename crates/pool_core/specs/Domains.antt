@@ -1,15 +1,10 @@
 -- What a domain asks of its pool that joins it, pauses, goes on or parts.
-use Rattle.std.specs.Prelude.{ℕ, ◌≡◌, false, true}
-use Rattle.sched_base.specs.Numbers.{domain}
+use Rattle.std.specs.Prelude.{◌≡◌, false, true}
 use Rattle.sched_base.specs.declared.UnitId.{UnitId}
 use Rattle.sched_model.specs.declared.state.Pool.{Pool}
 use Rattle.sched_model.specs.Places.{has_unit}
 use Rattle.sched_ops.specs.Conditions.{is_member, is_on}
 use Rattle.pool_core.specs.Wakes.{is_held_among}
-
--- the unit n of the domain d
-abbrev pub unit_id : ℕ → ℕ → UnitId
-unit_id d n = record { dom = domain d; n = n }
 
 -- a unit that does not wait; one of a domain that joined, and on only where a core has it
 pub record MayQueue (pool : Pool) (u : UnitId) : Type 0 where

@@ -16,7 +16,7 @@ use Rattle.sched_model.specs.Policy.{rtds_record, set_params}
 use Rattle.sched_ops.specs.Seen.{units_of}
 use Rattle.sched_model.specs.Policy.{stored_of}
 use Rattle.unit_state.specs.Seen.{units_at}
-use Rattle.pool_core.specs.Domains.{unit_id}
+use Rattle.sched_base.specs.Units.{unit_id}
 
 -- the set values of the units of the domain d with these indices
 abbrev pub stored_units : Records → ℕ → List ℕ → List (Option Stored)

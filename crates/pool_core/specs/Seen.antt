@@ -16,6 +16,7 @@ use Rattle.core_state.specs.Seen as cores
 use Rattle.core_state.specs.Seen.{processor_among, stalled_to}
 use Rattle.sched_ops.specs.Seen as schedulers
 use Rattle.sched_ops.specs.Seen.{vacant_scheduler as vacant_scheduler}
+use Rattle.sched_ops.specs.Seen.{restarted_scheduler}
 
 -- the pool, how many processors a core has, how many units may still join, the greatest moment that was given, and whether the pool is in use
 pub record Seen : Type 0 where
@@ -77,3 +78,7 @@ without_core r pool = record pool { resources = clear_at r pool.resources }
 -- the pool with another end of the processor's stall
 abbrev pub with_stall : ℕ → ℕ → Moment → Pool → Pool
 with_stall g p end pool = change_processor g p (stalled_to end) pool
+
+-- a pool that was not in use, opened with the parameters
+abbrev pub reopened : PoolParams → Seen → Seen
+reopened params seen = record seen { pool = record seen.pool { scheduler = restarted_scheduler params seen.pool.scheduler }; in_use = true }

@@ -12,9 +12,9 @@ use Rattle.sched_model.specs.declared.state.Pool.{Pool}
 use Rattle.sched_model.specs.declared.state.Resource.{Resource}
 use Rattle.sched_model.specs.declared.state.Vcpu.{Vcpu}
 use Rattle.sched_model.specs.Places.{first_place, is_unit, numbered_items}
-use Rattle.sched_model.specs.Pool.{is_idle, is_off, unit_of, change_vcpu, woken_vcpu}
+use Rattle.sched_model.specs.Pool.{is_idle, is_off, unit_of, change_vcpu, woken_vcpu, change_among}
 use Rattle.sched_model.specs.State.{is_runnable}
-use Rattle.unit_state.specs.Seen.{change_among, done_among}
+use Rattle.unit_state.specs.Seen.{done_among}
 use Rattle.core_state.specs.Seen.{processor_among}
 use Rattle.sched_ops.specs.Seen as schedulers
 

@@ -1,8 +1,8 @@
 //! What the processors of a core do. g is the number of a core's processors.
 
-ghost use Rattle.std.specs.Prelude.{◌≡◌, ◌≤◌, ◌<◌, ◌/◌, ◌%◌, ◌*◌, ℕ, true, IfSome, None, slice_set};
+ghost use Rattle.std.specs.Prelude.{◌≡◌, ◌≤◌, ◌<◌, ◌/◌, ◌%◌, ◌*◌, true, IfSome, None, slice_set};
 ghost use Rattle.sched_model.specs.Pool.{after_arrive, after_block, taken_at};
-ghost use Rattle.sched_model.specs.State.{has_come};
+ghost use Rattle.sched_base.specs.Numbers.{has_come};
 ghost use Rattle.sched_ops.specs.Seen.{Seen as SchedulerSeen};
 ghost use Rattle.unit_state.specs.Seen.{IsNow, done_among, is_awake_among};
 ghost use Rattle.pool_core.specs.Seen.{guest_among, pool_of};

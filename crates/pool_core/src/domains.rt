@@ -15,7 +15,8 @@ ghost use Rattle.sched_ops.specs.Conditions.{AreDomParams, HasNoneBusy, IsNow, h
 ghost use Rattle.unit_state.specs.Parts.{IsPart, IsStill};
 ghost use Rattle.pool_kept.specs.Holds.{AreOn, HasMembers, Holds};
 ghost use Rattle.pool_core.specs.Seen.{pool_of};
-ghost use Rattle.pool_core.specs.Domains.{MayQueue, unit_id};
+ghost use Rattle.pool_core.specs.Domains.{MayQueue};
+ghost use Rattle.sched_base.specs.Units.{unit_id};
 ghost use Rattle.pool_core.specs.Wakes.{is_held_among, KeepsRoom};
 
 use core_state::CoreState;

@@ -8,7 +8,7 @@ ghost use Rattle.sched_ops.specs.Conditions.{IsChange, IsNow, is_member};
 ghost use Rattle.core_state.specs.Seen.{changed_core};
 ghost use Rattle.plain_pool.specs.Cores.{ends_of};
 ghost use Rattle.plain_pool.specs.Marks.{due_now_of, marked_cores, pending_each};
-ghost use Rattle.pool_core.specs.Domains.{unit_id};
+ghost use Rattle.sched_base.specs.Units.{unit_id};
 ghost use Rattle.pool_core.specs.Params.{AreKnown, stored_in, stored_units};
 ghost use Rattle.pool_core.specs.Seen.{pool_of};
 

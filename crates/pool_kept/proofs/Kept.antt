@@ -38,7 +38,8 @@ use Rattle.sched_laws.specs.PoolFacts.{CoreIsSound}
 use Rattle.sched_laws.proofs.Steps.{IsKeptAt}
 use Rattle.sched_records.proofs.Counts.{keeps_parted}
 use Rattle.sched_records.specs.Counts.{Matches, KeepsPool}
-use Rattle.sched_records.proofs.Walk.{AnyEnd, AnyEnds, SomeUnit, k_set_params, k_with_domain, keeps_empty, records_steps}
+use Rattle.sched_records.proofs.Walk.{AnyEnds, SomeUnit, k_set_params, k_with_domain, keeps_empty, records_steps}
+use Rattle.sched_laws.proofs.Ready.{NoEnd}
 use Rattle.sched_ops.specs.Conditions.{may_be_on}
 use Rattle.pool_kept.specs.Holds.{Holds, HasMembers, HasMember, AreOn, HaveProcessors}
 use Rattle.pool_kept.proofs.Alike.{Alike, is_alike_refl, alike_members, alike_units, alike_on, alike_since}
@@ -117,7 +118,7 @@ module _ (g t : ℕ) where
   known : 0 < g → IsKept g (IsKnownPool g)
   known some = known_pools g some
 
-  records : IsKeptAt (machine_of g) t AnyEnd AnyEnds (SomeUnit g) (KeepsPool g) (KeepsPool g)
+  records : IsKeptAt (machine_of g) t NoEnd AnyEnds (SomeUnit g) (KeepsPool g) (KeepsPool g)
   records = records_steps (machine_of g) t
 
   join : (pool : Pool) → 0 < g → IsKnownPool g pool → KeepsPool g pool → Rest g t pool → HaveProcessors g pool → H pool

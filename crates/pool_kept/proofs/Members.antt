@@ -32,6 +32,7 @@ use Rattle.sched_ops.specs.Conditions.{is_member}
 use Rattle.sched_ops.specs.Seen.{units_of}
 use Rattle.pool_kept.specs.Holds.{HasMembers}
 use Rattle.pool_kept.proofs.Alike.{units_in, units_of_is}
+use Rattle.sched_base.specs.CoreSets.{every_core}
 
 -- a unit with a vCPU that is awake is one of the domain's
 unit_within : (g : ℕ) → 0 < g → (d : Domain) (n : ℕ) → unit_runnable g d n ≡ true → n < unit_count g d
@@ -89,14 +90,14 @@ module _ (g : ℕ) where
 
   pub members_joined : (t d : ℕ) (domain : Domain) (params : DomParams) (pool : Pool) → d < length pool.domains → HasMembers g pool → HasMembers g (joined t d domain params pool)
   members_joined t d domain params pool low has =
-      let sets : List Cores = replicate (unit_count g domain) policy.all_cores in
+      let sets : List Cores = replicate (unit_count g domain) every_core in
       let low_sets : d < length pool.scheduler.affinity = subst (λ (n : ℕ). d < n) (sym has.places) low in
       record {
         places = length_set d (Some sets) pool.scheduler.affinity ∙ has.places ∙ sym (length_set d (Some domain) pool.domains);
         units = λ k. elim (ℕ_discrete k d) [
           | yes is ↦ subst (λ (j : ℕ). option_map length (at_place (put_at d sets pool.scheduler.affinity) j) ≡ option_map (unit_count g) (at_place (put_at d domain pool.domains) j)) (sym is)
               (ap (option_map length) (at_place-put_at d sets pool.scheduler.affinity low_sets)
-              ∙ ap (λ (n : ℕ). Some n) (length-replicate (unit_count g domain) policy.all_cores)
+              ∙ ap (λ (n : ℕ). Some n) (length-replicate (unit_count g domain) every_core)
               ∙ sym (ap (option_map (unit_count g)) (at_place-put_at d domain pool.domains low)))
           | no other ↦ ap (option_map length) (at_place-put_at_other d k sets pool.scheduler.affinity other) ∙ has.units k ∙ sym (ap (option_map (unit_count g)) (at_place-put_at_other d k domain pool.domains other))
         ];

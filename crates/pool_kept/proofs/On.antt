@@ -27,7 +27,7 @@ use Rattle.sched_model.specs.Pool.{ask_of, change_core, core_of, decided_core, e
 use Rattle.sched_laws.specs.EachPlace.{EachPlace}
 use Rattle.sched_laws.proofs.EachPlace.{EachPlace-change_at, EachPlace-put_at, EachPlace-clear_at, place_below, at_place-put_at, at_place-put_at_other, at_place-clear_at_other, by_cond, at_place-replicate}
 use Rattle.sched_laws.proofs.Choices.{is_unit_same}
-use Rattle.sched_laws.proofs.Counts.{same_unit_refl, total_two}
+use Rattle.sched_laws.proofs.Counts.{total_two}
 use Rattle.sched_laws.specs.Counts.{one_at}
 use Rattle.sched_laws.proofs.OnePlace.{one_same, decided_cur}
 use Rattle.sched_laws.specs.PoolFacts.{core_places, places}
@@ -40,6 +40,7 @@ use Rattle.running_laws.specs.RunningUnits.{keeps_records, has_record, is_on_aft
 use Rattle.pool_kept.proofs.Alike.{alike_change_at, alike_is, core_found, found_core, may_is, may_same}
 use Rattle.pool_kept.proofs.Members.{joined, member_elsewhere, member_recorded}
 use Rattle.pool_kept.proofs.Units.{goes_empty, none_of_domain, other_domain}
+use Rattle.sched_laws.proofs.Counts.{is_that_unit}
 
 -- a unit is on where it may be, as far as the scheduler keeps records
 may_of : (records : Records) (u : UnitId) → (keeps_records records ≡ true → is_on records u ≡ true) → may_be_on records u ≡ true
@@ -49,9 +50,6 @@ may_of records u on =
 
 on_of : (records : Records) (u : UnitId) → keeps_records records ≡ true → may_be_on records u ≡ true → is_on records u ≡ true
 on_of records u keeps may = sym (ap (λ (k : Bool). elim k as (λ _. Bool) [ true ↦ is_on records u | false ↦ true ]) keeps) ∙ sym (may_is records u) ∙ may
-
-is_own : (o : Option UnitId) (u : UnitId) → o ≡ Some u → is_unit o u ≡ true
-is_own o u is = ap (λ (x : Option UnitId). is_unit x u) is ∙ same_unit_refl u
 
 module _ (g : ℕ) (t r : ℕ) (c : Resource) (pool : Pool) (at : at_place pool.resources r ≡ Some c) where
   -- two cores have no unit in common
@@ -85,7 +83,7 @@ module _ (g : ℕ) (t r : ℕ) (c : Resource) (pool : Pool) (at : at_place pool.
               let unit : decision.unit ≡ Some u = sym (decided_cur t decision c) ∙ ap (λ (d : Resource). d.cur) x_is ∙ is in
               let found = member_recorded g pool u has keeps (chosen u unit) in
               or_more (is_unit decision.unit u && has_record old u) (is_on old u && not (is_unit c.cur u))
-              (and_from (is_unit decision.unit u) (has_record old u) (is_own decision.unit u unit) (running.recorded old u found.0 found.1 found.2 ∙ sym kind ∙ recorded))
+              (and_from (is_unit decision.unit u) (has_record old u) (is_that_unit decision.unit u unit) (running.recorded old u found.0 found.1 found.2 ∙ sym kind ∙ recorded))
           | no other ↦
               let at_old : at_place pool.resources k ≡ Some x = sym (at_place-put_at_other r k now pool.resources other) ∙ at_k in
               or_second (is_unit decision.unit u && has_record old u) (is_on old u && not (is_unit c.cur u))
@@ -98,7 +96,7 @@ module _ (g : ℕ) (t r : ℕ) (c : Resource) (pool : Pool) (at : at_place pool.
               let found = found_core pool u (on.off u (and_left (is_on old u) (not (is_unit c.cur u)) stays)) in
               let other : found.0 ≢ r = λ e. (
               let same : c ≡ found.1 = (let at_r : at_place pool.resources r ≡ Some found.1 = subst (λ (j : ℕ). at_place pool.resources j ≡ Some found.1) e found.2 in cc) in
-              clash (is_unit c.cur u) (is_own c.cur u (ap (λ (d : Resource). d.cur) same ∙ found.3)) (not-true (is_unit c.cur u) (and_right (is_on old u) (not (is_unit c.cur u)) stays))) in
+              clash (is_unit c.cur u) (is_that_unit c.cur u (ap (λ (d : Resource). d.cur) same ∙ found.3)) (not-true (is_unit c.cur u) (and_right (is_on old u) (not (is_unit c.cur u)) stays))) in
               core_found next found.0 found.1 u (at_place-put_at_other r found.0 now pool.resources other ∙ found.2) found.3
         ];
       }

@@ -39,6 +39,7 @@ use Rattle.pool_kept.proofs.Alike.{AreAlike, alike_like, alike_change_at}
 use Rattle.sched_laws.proofs.Events.{LikePlaces, like_change_at, capped, like_of_domain, like_map, IsMarked, Enabled, KeptByCommands, KeptBySteps, kept_opened, kept_withdrawn, kept_marked, kept_queue_units, kept_pending}
 use Rattle.pool_kept.proofs.Members.{joined}
 use Rattle.pool_kept.proofs.Units.{goes_empty}
+use Rattle.sched_model.specs.Pool.{vcpu_among, change_among}
 
 -- what the i-th processor of a core does
 abbrev doing_in : ℕ → Resource → Option Doing
@@ -124,26 +125,19 @@ doing_other zero i (suc k) j doing (o ∷ cores) other = refl
 doing_other (suc r) i zero j doing (o ∷ cores) other = refl
 doing_other (suc r) i (suc k) j doing (o ∷ cores) other = doing_other r i k j doing cores (λ e e2. other (ap suc e) e2)
 
--- the vCPU, where these are the domains
-abbrev vcpu_in : List (Option Domain) → VcpuId → Option Vcpu
-vcpu_in domains v = elim (at_place domains v.dom.0) [ None ↦ None | Some d ↦ slice_get d.vcpus v.n ]
-
-vcpu_there : (domains : List (Option Domain)) (v : VcpuId) (d : Domain) (x : Vcpu) → at_place domains v.dom.0 ≡ Some d → slice_get d.vcpus v.n ≡ Some x → vcpu_in domains v ≡ Some x
+vcpu_there : (domains : List (Option Domain)) (v : VcpuId) (d : Domain) (x : Vcpu) → at_place domains v.dom.0 ≡ Some d → slice_get d.vcpus v.n ≡ Some x → vcpu_among domains v ≡ Some x
 vcpu_there domains v d x at get = ap (λ (o : Option Domain). elim o as (λ _. Option Vcpu) [ None ↦ None | Some e ↦ slice_get e.vcpus v.n ]) at ∙ get
 
-vcpu_is : (domains : List (Option Domain)) (v : VcpuId) (x : Vcpu) → vcpu_in domains v ≡ Some x → (d : Domain) × (at_place domains v.dom.0 ≡ Some d) × (slice_get d.vcpus v.n ≡ Some x)
+vcpu_is : (domains : List (Option Domain)) (v : VcpuId) (x : Vcpu) → vcpu_among domains v ≡ Some x → (d : Domain) × (at_place domains v.dom.0 ≡ Some d) × (slice_get d.vcpus v.n ≡ Some x)
 vcpu_is domains v x is =
     by_option (λ (o : Option Vcpu). o ≡ Some x → (d : Domain) × (at_place domains v.dom.0 ≡ Some d) × (slice_get d.vcpus v.n ≡ Some x)) (at_place domains v.dom.0) None (λ d. slice_get d.vcpus v.n)
     (λ none e. absurd (cc)) (λ d at e. (d, at, e)) is
 
-abbrev change_vcpus : VcpuId → (Vcpu → Vcpu) → List (Option Domain) → List (Option Domain)
-change_vcpus v f domains = change_at v.dom.0 (λ d. record d { vcpus = change_item v.n f d.vcpus }) domains
-
 -- a vCPU after a change of one: another as before, or that one
-read_vcpu : (v w : VcpuId) (f : Vcpu → Vcpu) (domains : List (Option Domain)) (x : Vcpu) → vcpu_in (change_vcpus v f domains) w ≡ Some x
-    → ((w ≢ v) × (vcpu_in domains w ≡ Some x)) ⊎ ((y : Vcpu) × (w ≡ v) × (vcpu_in domains v ≡ Some y) × (f y ≡ x))
+read_vcpu : (v w : VcpuId) (f : Vcpu → Vcpu) (domains : List (Option Domain)) (x : Vcpu) → vcpu_among (change_among v f domains) w ≡ Some x
+    → ((w ≢ v) × (vcpu_among domains w ≡ Some x)) ⊎ ((y : Vcpu) × (w ≡ v) × (vcpu_among domains v ≡ Some y) × (f y ≡ x))
 read_vcpu v w f domains x is =
-    let now = vcpu_is (change_vcpus v f domains) w x is in
+    let now = vcpu_is (change_among v f domains) w x is in
     elim (read_change_at v.dom.0 w.dom.0 (λ (d : Domain). record d { vcpus = change_item v.n f d.vcpus }) domains now.0 now.1) [
       | inl was ↦ inl (λ e. was.0 (ap (λ (u : VcpuId). u.dom.0) e), vcpu_there domains w now.0 x was.1 now.2)
       | inr r ↦
@@ -176,7 +170,7 @@ leaver g t p pool on =
 module _ (g : ℕ) where
   -- each vCPU that is started is run by a processor, where these are the domains and cores
   abbrev Have : List (Option Domain) → List (Option Resource) → Type 0
-  Have domains cores = (v : VcpuId) (x : Vcpu) (from : Moment) → vcpu_in domains v ≡ Some x → x.started ≡ Some from → (p : ℕ) × (doing_at cores (p / g) (p % g) ≡ Some (Guest v))
+  Have domains cores = (v : VcpuId) (x : Vcpu) (from : Moment) → vcpu_among domains v ≡ Some x → x.started ≡ Some from → (p : ℕ) × (doing_at cores (p / g) (p % g) ≡ Some (Guest v))
 
   from_have : (pool : Pool) → Have pool.domains pool.resources → HaveProcessors g pool
   from_have pool have v x from is started = (let r = have v x from is started in (r.0, guest_is g pool r.0 ∙ ap guest_in r.1))
@@ -188,7 +182,7 @@ module _ (g : ℕ) where
   have_cores domains old next keeps have v x from is started = (let r = have v x from is started in (r.0, keeps (r.0 / g) (r.0 % g) v r.1))
 
   have_domains : (old next : List (Option Domain)) (cores : List (Option Resource))
-      → ((v : VcpuId) (x : Vcpu) (from : Moment) → vcpu_in next v ≡ Some x → x.started ≡ Some from → (y : Vcpu) × (vcpu_in old v ≡ Some y) × (y.started ≡ Some from)) → Have old cores → Have next cores
+      → ((v : VcpuId) (x : Vcpu) (from : Moment) → vcpu_among next v ≡ Some x → x.started ≡ Some from → (y : Vcpu) × (vcpu_among old v ≡ Some y) × (y.started ≡ Some from)) → Have old cores → Have next cores
   have_domains old next cores was have v x from is started = (let r = was v x from is started in have v r.0 from r.1 r.2)
 
   -- a processor that ran no vCPU does something else
@@ -199,7 +193,7 @@ module _ (g : ℕ) where
 
   -- a processor ends its vCPU, which is started no more
   have_frees : (p : ℕ) (v : VcpuId) (f : Vcpu → Vcpu) (doing : Doing) (domains : List (Option Domain)) (cores : List (Option Resource)) → doing_at cores (p / g) (p % g) ≡ Some (Guest v) → ((x : Vcpu) → (f x).started ≡ None)
-      → Have domains cores → Have (change_vcpus v f domains) (change_doing (p / g) (p % g) doing cores)
+      → Have domains cores → Have (change_among v f domains) (change_doing (p / g) (p % g) doing cores)
   have_frees p v f doing domains cores guest none have w x from is started =
       elim (read_vcpu v w f domains x is) [
         | inl was ↦
@@ -213,7 +207,7 @@ module _ (g : ℕ) where
 
   -- a processor that ran none takes a vCPU
   have_takes : (p : ℕ) (v : VcpuId) (f : Vcpu → Vcpu) (domains : List (Option Domain)) (cores : List (Option Resource)) (old : Doing) → doing_at cores (p / g) (p % g) ≡ Some old → ((w : VcpuId) → old ≡ Guest w → ⊥)
-      → Have domains cores → Have (change_vcpus v f domains) (change_doing (p / g) (p % g) (Guest v) cores)
+      → Have domains cores → Have (change_among v f domains) (change_doing (p / g) (p % g) (Guest v) cores)
   have_takes p v f domains cores old there none have w x from is started =
       elim (read_vcpu v w f domains x is) [
         | inl was ↦
@@ -282,10 +276,10 @@ module _ (g : ℕ) where
 
   started_woken : (v : VcpuId) (pool : Pool) → HaveProcessors g pool → HaveProcessors g (change_vcpu v pools.woken_vcpu pool)
   started_woken v pool have =
-      from_have (change_vcpu v pools.woken_vcpu pool) (have_domains pool.domains (change_vcpus v pools.woken_vcpu pool.domains) pool.resources
+      from_have (change_vcpu v pools.woken_vcpu pool) (have_domains pool.domains (change_among v pools.woken_vcpu pool.domains) pool.resources
       (λ w x from is started. elim (read_vcpu v w pools.woken_vcpu pool.domains x is) [
         | inl was ↦ (x, was.1, started)
-        | inr r ↦ (r.0, subst (λ (u : VcpuId). vcpu_in pool.domains u ≡ Some r.0) (sym r.1) r.2, ap (λ (y : Vcpu). y.started) r.3 ∙ started)
+        | inr r ↦ (r.0, subst (λ (u : VcpuId). vcpu_among pool.domains u ≡ Some r.0) (sym r.1) r.2, ap (λ (y : Vcpu). y.started) r.3 ∙ started)
       ]) (to_have pool have))
 
   started_frees : (p : ℕ) (v : VcpuId) (f : Vcpu → Vcpu) (doing : Doing) (pool : Pool) → guest_of g pool p ≡ Some v → ((x : Vcpu) → (f x).started ≡ None) → HaveProcessors g pool → HaveProcessors g (change_processor g p (with_doing doing) (change_vcpu v f pool))

@@ -19,10 +19,11 @@ use Rattle.sched_model.specs.EligibleUnits.{Decision}
 use Rattle.sched_model.specs.Opening.{fresh_core}
 use Rattle.sched_model.specs.Policy.{decision_of}
 use Rattle.sched_model.specs.Pool as pools
-use Rattle.sched_model.specs.Pool.{ask_of, change_core, decided_core, enabled_in, is_of_domain, same_choice, unit_count, without_domain}
+use Rattle.sched_model.specs.Pool.{ask_of, change_core, decided_core, enabled_in, is_of_domain, same_choice, without_domain}
 use Rattle.sched_laws.specs.EachPlace.{EachPlace}
 use Rattle.sched_laws.proofs.EachPlace.{EachPlace-change_at, EachPlace-put_at, EachPlace-clear_at, at_place-put_at_other, at_place-clear_at_other, by_cond, by_test}
-use Rattle.sched_laws.proofs.Lists.{AllByRecursion-map, none_passes, at_numbered, some-test_at}
+use Rattle.sched_laws.proofs.Lists.{none_passes, at_numbered, some-test_at}
+use Rattle.sched_base.proofs.Lists.{AllByRecursion-map}
 use Rattle.sched_laws.proofs.Choices.{decision_has}
 use Rattle.sched_laws.specs.PoolFacts.{IfUnit}
 use Rattle.sched_laws.proofs.Sound.{none_is}

@@ -1,7 +1,7 @@
 //! From when on events may come, and which cores a closure looks at.
 
 ghost use Rattle.std.specs.Prelude.{◌≡◌, ℕ};
-ghost use Rattle.sched_model.specs.State.{has_come};
+ghost use Rattle.sched_base.specs.Numbers.{has_come};
 ghost use Rattle.sched_model.specs.declared.action.Action.{Action};
 ghost use Rattle.sched_model.specs.declared.state.Resource.{Resource};
 ghost use Rattle.sched_model.specs.declared.state.Pool.{Pool};

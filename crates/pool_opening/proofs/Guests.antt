@@ -8,10 +8,9 @@ use Rattle.sched_base.specs.declared.Span.{Span}
 use Rattle.sched_model.specs.declared.config.DomConfig.{DomConfig}
 use Rattle.sched_model.specs.declared.state.Vcpu.{Vcpu}
 use Rattle.sched_model.specs.CheckedMachine.{IsCheckedScript}
-use Rattle.sched_model.specs.Opening.{fresh_vcpu}
+use Rattle.sched_model.specs.Opening.{fresh_vcpu, fresh_domain}
 use Rattle.unit_state.specs.Parts.{HasGuests, IsGuest, IsStill}
 use Rattle.unit_state.proofs.GuestLemmas.{guest_fresh}
-use Rattle.pool_opening.specs.OpeningPool.{fresh_domain}
 
 -- each vCPU of a domain is one at the opening
 fresh_at : (guests : List (List Span)) → AllByRecursion IsCheckedScript guests → (n : ℕ) (x : Vcpu) → slice_get (map fresh_vcpu guests) n ≡ Some x → IsGuest 0 x × (x.started ≡ None)

@@ -11,9 +11,9 @@ use Rattle.sched_model.specs.declared.state.Pool.{Pool}
 use Rattle.sched_model.specs.declared.state.Domain.{Domain}
 use Rattle.sched_model.specs.declared.state.Vcpu.{Vcpu}
 use Rattle.sched_model.specs.declared.config.ParamChange.TheVariants as changes
-use Rattle.sched_model.specs.Actions.{units_from}
+use Rattle.sched_model.specs.Actions.{units_from, configured_units}
 use Rattle.sched_model.specs.CheckedMachine.{IsCheckedConfig, IsCheckedDomain, IsGranularity}
-use Rattle.sched_model.specs.Opening.{fresh_vcpu, with_configured, with_domains, with_pins}
+use Rattle.sched_model.specs.Opening.{fresh_vcpu, with_configured, with_domains, with_pins, fresh_domain}
 use Rattle.sched_model.specs.Places.{numbers_from, put_at}
 use Rattle.sched_model.specs.Pool.{set_params, settled_pool, unit_count, with_domain}
 use Rattle.sched_laws.proofs.EachPlace.{at_place-put_at_other, length_set}
@@ -24,26 +24,26 @@ use Rattle.unit_state.specs.Guests.{units_in}
 use Rattle.unit_state.specs.Parts.{IsPart}
 use Rattle.unit_state.proofs.PlaceLemmas.{units_in-put_at}
 use Rattle.pool_core.specs.Seen.{Seen, seen_at, with_spare}
-use Rattle.pool_opening.specs.OpeningPool.{IsOpening, IsStill, configured_pool, configured_if, fresh_domain, after_joining, unit_total, units_at_home, units_if_home, units_in_all, with_all, with_pool}
+use Rattle.pool_opening.specs.OpeningPool.{IsOpening, IsStill, configured_pool, configured_if, after_joining, units_at_home, units_if_home, units_in_all, with_all, with_pool}
 use Rattle.pool_opening.proofs.Guests.{fresh_guests, fresh_still}
 use Rattle.pool_opening.proofs.Pinning.{has_come_in, kind_joined, kind_pinned, sets_joined, sets_pinned, units_come_in}
 use Rattle.pool_opening.proofs.Steady.{stays}
 
 -- the units of the first domain, and those of the others
-pub units_split : (g d : ℕ) (joining : DomConfig) (rest : List DomConfig) → units_in_all g d (joining ∷ rest) ≡ unit_total g joining + units_in_all g (suc d) rest
+pub units_split : (g d : ℕ) (joining : DomConfig) (rest : List DomConfig) → units_in_all g d (joining ∷ rest) ≡ configured_units g joining + units_in_all g (suc d) rest
 units_split g d joining rest =
-    length-append (map (λ (n : ℕ). _) (numbers_from 0 (unit_total g joining))) (units_from g (suc d) rest)
-    ∙ ap (λ (k : ℕ). k + units_in_all g (suc d) rest) (length_map_numbers _ 0 (unit_total g joining))
+    length-append (map (λ (n : ℕ). _) (numbers_from 0 (configured_units g joining))) (units_from g (suc d) rest)
+    ∙ ap (λ (k : ℕ). k + units_in_all g (suc d) rest) (length_map_numbers _ 0 (configured_units g joining))
 
 -- a domain at the opening has as many units as the file says
-pub count_fresh : (g : ℕ) (joining : DomConfig) → unit_count g (fresh_domain joining) ≡ unit_total g joining
+pub count_fresh : (g : ℕ) (joining : DomConfig) → unit_count g (fresh_domain joining) ≡ configured_units g joining
 count_fresh g joining = ap (λ (k : ℕ). (k + g - 1) / g) (length-map joining.guests fresh_vcpu)
 
 -- there are as many sets of cores as units, or none
-pub pins_fit : (config : Config) (joining : DomConfig) → IsCheckedDomain config joining → length joining.pins ≤ unit_total config.granularity joining
+pub pins_fit : (config : Config) (joining : DomConfig) → IsCheckedDomain config joining → length joining.pins ≤ configured_units config.granularity joining
 pins_fit config joining checked = elim checked.pins.count [
   | inl none ↦ rw none (omega arith)
-  | inr all ↦ let one : units_in_all config.granularity 0 (joining ∷ []) ≡ unit_total config.granularity joining + 0 = units_split config.granularity 0 joining [] in omega (arith, all, one)
+  | inr all ↦ let one : units_in_all config.granularity 0 (joining ∷ []) ≡ configured_units config.granularity joining + 0 = units_split config.granularity 0 joining [] in omega (arith, all, one)
 ]
 
 module _ (config : Config) (home : PoolConfig) (d : ℕ) (joining : DomConfig) (seen : Seen) (opening : IsOpening config home d seen) where
@@ -64,7 +64,7 @@ module _ (config : Config) (home : PoolConfig) (d : ℕ) (joining : DomConfig) (
   domains_after = with_pins-domains d 0 joining.pins before_pins ∙ with_domain-domains config.granularity 0 d (fresh_domain joining) joining.params seen.pool
 
   -- the next domain may come
-  pub goes_on : d < length config.domains → unit_total config.granularity joining ≤ seen.spare → IsOpening config home (d + 1) (configured_pool config.granularity d joining seen)
+  pub goes_on : d < length config.domains → configured_units config.granularity joining ≤ seen.spare → IsOpening config home (d + 1) (configured_pool config.granularity d joining seen)
   goes_on inside room = record {
     still = record { used = opening.still.used; early = opening.still.early; pending = rw (with_configured-resources config.granularity d joining seen.pool) opening.still.pending };
     granularity = opening.granularity;
@@ -77,7 +77,7 @@ module _ (config : Config) (home : PoolConfig) (d : ℕ) (joining : DomConfig) (
         let more : units_in seen.granularity (put_at d (fresh_domain joining) seen.pool.domains) ≡ units_in seen.granularity seen.pool.domains + unit_count seen.granularity (fresh_domain joining) =
         units_in-put_at seen.granularity d (fresh_domain joining) seen.pool.domains place (opening.absent d (omega arith)) in
         let now : units_in seen.granularity after.domains ≡ units_in seen.granularity (put_at d (fresh_domain joining) seen.pool.domains) = ap (units_in seen.granularity) domains_after in
-        let count : unit_count seen.granularity (fresh_domain joining) ≡ unit_total config.granularity joining = ap (λ (g : ℕ). unit_count g (fresh_domain joining)) opening.granularity ∙ count_fresh config.granularity joining in
+        let count : unit_count seen.granularity (fresh_domain joining) ≡ configured_units config.granularity joining = ap (λ (g : ℕ). unit_count g (fresh_domain joining)) opening.granularity ∙ count_fresh config.granularity joining in
         let before = opening.room in
         omega (arith, more, now, count, before, room);
   }
@@ -102,9 +102,9 @@ first_and_rest g i d joining rest seen = ap (λ (k : ℕ). with_all g i k rest (
     next = omega arith
 
     by_home : (b : Bool) → with_all g i (suc d) rest (cond b (configured_pool g d joining seen) seen)
-        ≡ record seen { pool = with_domains g i (suc d) rest (cond b (with_configured g d joining seen.pool) seen.pool); spare = seen.spare - (cond b (unit_total g joining) 0 + units_at_home g i rest) }
+        ≡ record seen { pool = with_domains g i (suc d) rest (cond b (with_configured g d joining seen.pool) seen.pool); spare = seen.spare - (cond b (configured_units g joining) 0 + units_at_home g i rest) }
     by_home true =
-        let left : seen.spare - unit_total g joining - units_at_home g i rest ≡ seen.spare - (unit_total g joining + units_at_home g i rest) = omega arith in
+        let left : seen.spare - configured_units g joining - units_at_home g i rest ≡ seen.spare - (configured_units g joining + units_at_home g i rest) = omega arith in
         ap (λ (k : ℕ). record seen { pool = with_domains g i (suc d) rest (with_configured g d joining seen.pool); spare = k }) left
     by_home false =
         let left : seen.spare - units_at_home g i rest ≡ seen.spare - (0 + units_at_home g i rest) = omega arith in
@@ -114,7 +114,7 @@ first_and_rest g i d joining rest seen = ap (λ (k : ℕ). with_all g i k rest (
 left_room : (g i d : ℕ) (joining : DomConfig) (rest : List DomConfig) (seen : Seen) → units_at_home g i (joining ∷ rest) ≤ seen.spare → units_at_home g i rest ≤ (configured_if g i d joining seen).spare
 left_room g i d joining rest seen = by_home (joining.home.0 == i)
   where
-    by_home : (b : Bool) → cond b (unit_total g joining) 0 + units_at_home g i rest ≤ seen.spare → units_at_home g i rest ≤ (cond b (configured_pool g d joining seen) seen).spare
+    by_home : (b : Bool) → cond b (configured_units g joining) 0 + units_at_home g i rest ≤ seen.spare → units_at_home g i rest ≤ (cond b (configured_pool g d joining seen) seen).spare
     by_home true room = omega (arith, room)
     by_home false room = omega (arith, room)
 
@@ -124,10 +124,10 @@ few_at_home g i d [] = omega arith
 few_at_home g i d (joining ∷ rest) =
     let split = units_split g d joining rest in
     let others = few_at_home g i (suc d) rest in
-    let first : units_if_home g i joining ≤ unit_total g joining = by_home (joining.home.0 == i) in
+    let first : units_if_home g i joining ≤ configured_units g joining = by_home (joining.home.0 == i) in
     omega (arith, split, others, first)
   where
-    by_home : (b : Bool) → ◌≤◌ (cond b (unit_total g joining) 0) (unit_total g joining)
+    by_home : (b : Bool) → ◌≤◌ (cond b (configured_units g joining) 0) (configured_units g joining)
     by_home true = omega arith
     by_home false = omega arith
 
@@ -160,7 +160,7 @@ pub pinned_still : (d n : ℕ) (cores : Cores) (seen : Seen) → IsStill seen �
 pinned_still d n cores seen still = stays (set_params (changes.Pin (domain d) (Some n) cores) 0 seen.pool) seen still.early still.pending
 
 -- a domain has at most 32 units
-pub few_units : (g : ℕ) (joining : DomConfig) → IsGranularity g → length joining.guests ≤ 32 → unit_total g joining ≤ 32
+pub few_units : (g : ℕ) (joining : DomConfig) → IsGranularity g → length joining.guests ≤ 32 → configured_units g joining ≤ 32
 few_units g joining one_of few = elim one_of [
   | inl one ↦ rw one (omega (arith, few))
   | inr more ↦ elim more [ inl two ↦ rw two (omega (arith, few)) | inr four ↦ rw four (omega (arith, few)) ]
@@ -174,7 +174,7 @@ module _ (config : Config) (home : PoolConfig) (d : ℕ) (joining : DomConfig) (
   pub joined_came : has_joined (after_joining config.granularity d joining seen).pool.scheduler d ≡ true
   joined_came = has_come_in config.granularity d (fresh_domain joining) joining.params seen.pool set_place
 
-  pub units_came : units_of (after_joining config.granularity d joining seen).pool.scheduler d ≡ unit_total config.granularity joining
+  pub units_came : units_of (after_joining config.granularity d joining seen).pool.scheduler d ≡ configured_units config.granularity joining
   units_came = units_come_in config.granularity d (fresh_domain joining) joining.params seen.pool set_place ∙ count_fresh config.granularity joining
 
 first_left : {X : Type 0} (i : ℕ) (xs : List X) (x : X) → slice_get xs i ≡ Some x → drop i xs ≡ x ∷ drop (suc i) xs

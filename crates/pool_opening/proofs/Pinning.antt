@@ -1,5 +1,5 @@
 -- What the scheduler keeps while a domain comes in and its units get their sets of cores.
-use Rattle.std.proofs.Common.{◌≡◌, ◌<◌, ℕ, zero, suc, true, ◌&&◌, List, [], ◌∷◌, refl, ap, ◌∙◌, length}
+use Rattle.std.proofs.Common.{◌≡◌, ◌<◌, ℕ, suc, true, ◌&&◌, List, [], ◌∷◌, refl, ap, ◌∙◌, length}
 use Rattle.std.specs.Prelude.{Option, Some, None, option_map, is_some, replicate}
 use Rattle.std.proofs.lemmas.List.{length-replicate}
 use Rattle.sched_base.specs.Numbers.{domain}
@@ -11,11 +11,12 @@ use Rattle.sched_model.specs.declared.config.ParamChange.TheVariants as changes
 use Rattle.sched_model.specs.declared.state.Domain.{Domain}
 use Rattle.sched_model.specs.declared.state.Pool.{Pool}
 use Rattle.sched_model.specs.declared.state.Records.{Records}
-use Rattle.sched_model.specs.declared.state.Records.TheVariants.{Credit2Pool, RtdsPool, ArincPool, NullPool}
+use Rattle.sched_model.specs.declared.state.Records.TheVariants.{Credit2Pool}
 use Rattle.sched_model.specs.declared.state.Scheduler.{Scheduler}
 use Rattle.sched_model.specs.Opening.{with_pins}
-use Rattle.sched_model.specs.Places.{at_place, change_at, change_item, numbers_from}
-use Rattle.sched_model.specs.Policy.{all_cores, changed_records, join, joined_records, kind_of, pinned_cores}
+use Rattle.sched_model.specs.Places.{at_place, numbers_from}
+use Rattle.sched_model.specs.Policy.{changed_records, join, kind_of, pinned_cores}
+use Rattle.sched_base.specs.CoreSets.{every_core}
 use Rattle.sched_model.specs.Pool.{is_off, queue_if_off, queue_units, set_params, unit_count, with_domain}
 use Rattle.sched_model.specs.State.{is_runnable}
 use Rattle.sched_laws.proofs.EachPlace.{at_place-put_at, by_cond, length_set, at_place-change_at}
@@ -47,17 +48,17 @@ module _ (g d : ℕ) (x : Domain) (params : DomParams) (pool : Pool) where
   kind_joined = came.kind ∙ same_joined kind_of (λ a b. refl) (λ a b. refl) pool.scheduler.records params d (unit_count g x) 0
 
   pub sets_joined : length (with_domain g 0 d x params pool).scheduler.affinity ≡ length pool.scheduler.affinity
-  sets_joined = ap (λ (sets : List (Option (List Cores))). length sets) came.sets ∙ length_set d (Some (replicate (unit_count g x) all_cores)) pool.scheduler.affinity
+  sets_joined = ap (λ (sets : List (Option (List Cores))). length sets) came.sets ∙ length_set d (Some (replicate (unit_count g x) every_core)) pool.scheduler.affinity
 
   -- the domain's sets of cores are there, one for each unit
-  has_sets : d < length pool.scheduler.affinity → at_place (with_domain g 0 d x params pool).scheduler.affinity d ≡ Some (replicate (unit_count g x) all_cores)
-  has_sets inside = rw came.sets (at_place-put_at d (replicate (unit_count g x) all_cores) pool.scheduler.affinity inside)
+  has_sets : d < length pool.scheduler.affinity → at_place (with_domain g 0 d x params pool).scheduler.affinity d ≡ Some (replicate (unit_count g x) every_core)
+  has_sets inside = rw came.sets (at_place-put_at d (replicate (unit_count g x) every_core) pool.scheduler.affinity inside)
 
   pub has_come_in : d < length pool.scheduler.affinity → has_joined (with_domain g 0 d x params pool).scheduler d ≡ true
   has_come_in inside = rw (has_sets inside) refl
 
   pub units_come_in : d < length pool.scheduler.affinity → units_of (with_domain g 0 d x params pool).scheduler d ≡ unit_count g x
-  units_come_in inside = rw (units_of, has_sets inside) (length-replicate (unit_count g x) all_cores)
+  units_come_in inside = rw (units_of, has_sets inside) (length-replicate (unit_count g x) every_core)
 
 -- a set of cores leaves the records as they are
 kept_records : (records : Records) (d n : ℕ) (cores : Cores) → changed_records records (changes.Pin (domain d) (Some n) cores) 0 ≡ records

@@ -1,6 +1,6 @@
 -- A pool that opens with the parameters of the file.
 use Rattle.std.proofs.Common.{◌≡◌, ◌+◌, ◌-◌, ℕ, zero, suc, true, List, [], ◌∷◌, ◌++◌, arith, sym, refl, ap, subst, ◌∙◌, length}
-use Rattle.std.specs.Prelude.{Option, Some, None, map, option_map, replicate, slice_get}
+use Rattle.std.specs.Prelude.{Option, Some, None, map, replicate, slice_get}
 use Rattle.std.proofs.lemmas.List.{append-nil, length-replicate}
 use Rattle.sched_base.specs.declared.UnitId.{UnitId}
 use Rattle.sched_model.specs.declared.config.Config.{Config}
@@ -14,16 +14,16 @@ use Rattle.sched_model.specs.declared.state.Pool.{Pool}
 use Rattle.sched_model.specs.declared.state.Scheduler.{Scheduler}
 use Rattle.sched_model.specs.Policy.{default_pool_params, fresh_records, kind_of}
 use Rattle.sched_model.specs.declared.work.Work.{Work}
-use Rattle.sched_model.specs.Opening.{core_count, empty_pool, most_pools, opening, opening_pool, opening_pools}
+use Rattle.sched_model.specs.Opening.{core_count, empty_pool, opening, opening_pool, opening_pools}
 use Rattle.sched_model.specs.Places.{at_place, numbers_from}
 use Rattle.sched_laws.specs.EachPlace.{EachPlace}
 use Rattle.sched_laws.proofs.EachPlace.{EachPlace-empty, is_empty}
 use Rattle.sched_ops.specs.Conditions.{ArePoolParams}
 use Rattle.sched_ops.specs.Seen.{restarted_scheduler, vacant_scheduler}
 use Rattle.plain_opening.specs.OpeningPool.{opening_core}
-use Rattle.unit_state.specs.Guests.{units_in}
+use Rattle.unit_state.specs.Guests.{units_in, most_units}
 use Rattle.pool_core.specs.Seen.{Seen, vacant_pool as vacant_pool}
-use Rattle.pool_opening.specs.OpeningPool.{IsOpening, IsPending, kinds_of, most_units, opening_seen, with_cores}
+use Rattle.pool_opening.specs.OpeningPool.{IsOpening, IsPending, opening_seen, with_cores}
 use Rattle.pool_opening.proofs.Attaching.{all_pending}
 
 pub kind_given : (kind : SchedKind) (params : PoolParams) (domains cores : ℕ) → ArePoolParams kind params → kind_of (fresh_records params domains cores) ≡ kind

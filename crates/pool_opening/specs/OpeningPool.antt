@@ -1,28 +1,23 @@
 -- A pool of a machine, while its cores and its domains come in.
-use Rattle.std.specs.Prelude.{ℕ, ◌≡◌, ◌≤◌, ◌+◌, ◌-◌, ◌/◌, ◌==◌, true, false, List, [], ◌∷◌, Option, None, length, map, if◌then◌else◌}
+use Rattle.std.specs.Prelude.{ℕ, ◌≡◌, ◌≤◌, ◌+◌, ◌-◌, ◌/◌, ◌==◌, true, List, [], ◌∷◌, Option, None, length, map, if◌then◌else◌}
 use Rattle.sched_model.specs.declared.config.Config.{Config}
 use Rattle.sched_model.specs.declared.config.DomConfig.{DomConfig}
 use Rattle.sched_model.specs.declared.config.PoolConfig.{PoolConfig}
 use Rattle.sched_model.specs.declared.config.SchedKind.{SchedKind}
-use Rattle.sched_model.specs.declared.state.Domain.{Domain}
 use Rattle.sched_model.specs.declared.state.Pool.{Pool}
 use Rattle.sched_model.specs.declared.state.Resource.{Resource}
-use Rattle.sched_model.specs.Actions.{units_from}
-use Rattle.sched_model.specs.Opening.{fresh_vcpu, opening_pool, with_configured, with_domains}
+use Rattle.sched_model.specs.Actions.{units_from, configured_units}
+use Rattle.sched_model.specs.Opening.{opening_pool, with_configured, with_domains, fresh_domain}
 use Rattle.sched_model.specs.Places.{at_place}
 use Rattle.sched_model.specs.Policy.{kind_of}
 use Rattle.sched_model.specs.Pool.{with_domain}
 use Rattle.sched_laws.specs.EachPlace.{EachPlace}
-use Rattle.unit_state.specs.Guests.{units_in}
+use Rattle.unit_state.specs.Guests.{units_in, most_units}
 use Rattle.pool_core.specs.Seen.{Seen}
 
 -- the schedulers of the machine's pools
 abbrev pub kinds_of : Config → List SchedKind
 kinds_of config = map (λ (pool : PoolConfig). pool.kind) config.pools
-
--- the most units that a machine has
-abbrev pub most_units : ℕ
-most_units = 256
 
 -- the same with another pool; with other cores
 abbrev pub with_pool : Pool → Seen → Seen
@@ -31,31 +26,24 @@ with_pool pool seen = record seen { pool = pool }
 abbrev pub with_cores : List (Option Resource) → Seen → Seen
 with_cores cores seen = with_pool (record seen.pool { resources = cores }) seen
 
--- how many units the domain has; how many the domains have, the first of which is the domain d; how many those have whose home is the pool i
-abbrev pub unit_total : ℕ → DomConfig → ℕ
-unit_total g joining = (length joining.guests + g - 1) / g
-
+-- how many units the domains have, the first of which is the domain d; how many those have whose home is the pool i
 abbrev pub units_in_all : ℕ → ℕ → List DomConfig → ℕ
 units_in_all g d domains = length (units_from g d domains)
 
 abbrev pub units_if_home : ℕ → ℕ → DomConfig → ℕ
-units_if_home g i joining = (if joining.home.0 == i then unit_total g joining else 0)
+units_if_home g i joining = (if joining.home.0 == i then configured_units g joining else 0)
 
 abbrev pub units_at_home : ℕ → ℕ → List DomConfig → ℕ
 units_at_home g i [] = 0
 units_at_home g i (joining ∷ domains) = units_if_home g i joining + units_at_home g i domains
 
--- a domain at the opening
-abbrev pub fresh_domain : DomConfig → Domain
-fresh_domain joining = record { paused = false; moving = None; vcpus = map fresh_vcpu joining.guests }
-
 -- the pool with the domain d, whose units may run on all cores; with the sets of cores of its units; with these where its home is the pool i;
 -- with the domains from d on whose home that is
 abbrev pub after_joining : ℕ → ℕ → DomConfig → Seen → Seen
-after_joining g d joining seen = record seen { pool = with_domain g 0 d (fresh_domain joining) joining.params seen.pool; spare = seen.spare - unit_total g joining }
+after_joining g d joining seen = record seen { pool = with_domain g 0 d (fresh_domain joining) joining.params seen.pool; spare = seen.spare - configured_units g joining }
 
 abbrev pub configured_pool : ℕ → ℕ → DomConfig → Seen → Seen
-configured_pool g d joining seen = record seen { pool = with_configured g d joining seen.pool; spare = seen.spare - unit_total g joining }
+configured_pool g d joining seen = record seen { pool = with_configured g d joining seen.pool; spare = seen.spare - configured_units g joining }
 
 abbrev pub configured_if : ℕ → ℕ → ℕ → DomConfig → Seen → Seen
 configured_if g i d joining seen = (if joining.home.0 == i then configured_pool g d joining seen else seen)

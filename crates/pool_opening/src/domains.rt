@@ -5,8 +5,8 @@ ghost use Rattle.sched_model.specs.CheckedMachine.{IsCheckedConfig, IsCheckedDom
 ghost use Rattle.sched_model.specs.Opening.{with_pins};
 ghost use Rattle.sched_ops.specs.Conditions.{has_joined};
 ghost use Rattle.sched_ops.specs.Seen.{units_of};
-ghost use Rattle.pool_opening.specs.OpeningPool.{IsOpening, IsStill, configured_pool, configured_if, after_joining, unit_total, units_at_home, units_if_home, with_all, with_pool};
-
+ghost use Rattle.pool_opening.specs.OpeningPool.{IsOpening, IsStill, configured_pool, configured_if, after_joining, units_at_home, units_if_home, with_all, with_pool};
+ghost use Rattle.sched_model.specs.Actions.{configured_units};
 use plain_opening::rows::fresh_vcpus;
 use pool_core::pool::PoolState;
 use sched_base::{Cores, DomId, Moment, NoMemory};
@@ -30,13 +30,13 @@ fn give<P: Policy>(
     requires domain { IsCheckedDomain config.now joining.now }
     requires place { d.0 < length config.now.domains }
     requires opening { IsOpening config.now home.now d.0 pool.old }
-    requires room { unit_total config.now.granularity joining.now ≤ pool.old.spare }
+    requires room { configured_units config.now.granularity joining.now ≤ pool.old.spare }
     ensures after { OnOk result (pool.new
         ≡ after_joining config.now.granularity d.0 joining.now pool.old) }
     ensures still { OnOk result (IsStill pool.new) }
     ensures joined { OnOk result (has_joined pool.new.pool.scheduler d.0 ≡ true) }
     ensures units { OnOk result (units_of pool.new.pool.scheduler d.0
-        ≡ unit_total config.now.granularity joining.now) }
+        ≡ configured_units config.now.granularity joining.now) }
 {
     let domain = Domain {
         paused: false,
@@ -101,7 +101,7 @@ fn join<P: Policy>(
     requires domain { IsCheckedDomain config.now joining.now }
     requires place { d.0 < length config.now.domains }
     requires opening { IsOpening config.now home.now d.0 pool.old }
-    requires room { unit_total config.now.granularity joining.now ≤ pool.old.spare }
+    requires room { configured_units config.now.granularity joining.now ≤ pool.old.spare }
     ensures after { OnOk result (pool.new ≡ configured_pool config.now.granularity d.0 joining.now
         pool.old) }
     ensures opening { OnOk result (IsOpening config.now home.now (d.0 + 1) pool.new) }

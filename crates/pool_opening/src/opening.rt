@@ -7,10 +7,9 @@ ghost use Rattle.sched_model.specs.Opening.{core_count as core_count_spec, openi
 ghost use Rattle.sched_model.specs.Places.{at_place};
 ghost use Rattle.sched_model.specs.Policy.{default_pool_params, kind_of};
 ghost use Rattle.sched_ops.specs.Conditions.{is_vacant};
-ghost use Rattle.unit_state.specs.Guests.{units_in};
+ghost use Rattle.unit_state.specs.Guests.{units_in, most_units};
 ghost use Rattle.pool_core.specs.Seen.{vacant_pool};
-ghost use Rattle.pool_opening.specs.OpeningPool.{kinds_of, most_units, opening_seen};
-
+ghost use Rattle.pool_opening.specs.OpeningPool.{kinds_of, opening_seen};
 use crate::cores::attach_all;
 use crate::domains::join_all;
 use plain_opening::spare::core_count;

@@ -12,16 +12,13 @@ use Rattle.sched_ranges.specs.Ranges.{DomainInRange, PoolInRange}
 use Rattle.pool_core.specs.Seen.{Seen, IsNow}
 use Rattle.pool_slots.specs.Told.{Told}
 use Rattle.pool_slots.specs.Places.{GoesOn, StandsAt, state_of}
-use Rattle.unit_state.specs.Guests.{units_in}
-use Rattle.pool_slots.specs.Rooms.{IsPlaced, most_units}
+use Rattle.unit_state.specs.Guests.{units_in, most_units}
+use Rattle.pool_slots.specs.Rooms.{IsPlaced}
 use Rattle.pool_slots.proofs.Going.{early, range-of}
 use Rattle.pool_slots.proofs.Standing.{stands-there}
+use Rattle.sched_model.specs.Actions.{configured_units}
 
--- the units of a domain of the file
-abbrev file_units : ℕ → DomConfig → ℕ
-file_units g c = (length c.guests + g - 1) / g
-
-same-units : (g : ℕ) (x : Domain) (b c : DomConfig) → length x.vcpus ≡ length b.guests → b ≡ c → unit_count g x ≡ file_units g c
+same-units : (g : ℕ) (x : Domain) (b c : DomConfig) → length x.vcpus ≡ length b.guests → b ≡ c → unit_count g x ≡ configured_units g c
 same-units g x b c count same = ap (λ k. (k + g - 1) / g) (count ∙ ap (λ (y : DomConfig). length y.guests) same)
 
 -- each domain at a place has as many vCPUs as the domain of the file with that number
@@ -46,14 +43,14 @@ units-low g n (Some x ∷ places) (c ∷ configs) follows =
 
 -- beside those that are here there is room for a domain that is not
 units-room : (g n d : ℕ) (places : List (Option Domain)) (configs : List DomConfig) (c : DomConfig) → Follows places configs → at_place places d ≡ None → slice_get configs d ≡ Some c
-    → units_in g places + file_units g c ≤ length (units_from g n configs)
+    → units_in g places + configured_units g c ≤ length (units_from g n configs)
 units-room g n d places [] c follows absent at = absurd (cc)
-units-room g n zero [] (b ∷ configs) c follows absent at = (let more = units_from-more g n b configs in let same : file_units g b ≡ file_units g c = (let e : b ≡ c = cc in ap (file_units g) e) in omega (arith, more, same))
+units-room g n zero [] (b ∷ configs) c follows absent at = (let more = units_from-more g n b configs in let same : configured_units g b ≡ configured_units g c = (let e : b ≡ c = cc in ap (configured_units g) e) in omega (arith, more, same))
 units-room g n zero (Some x ∷ places) (b ∷ configs) c follows absent at = absurd (cc)
 units-room g n zero (None ∷ places) (b ∷ configs) c follows absent at =
     let rest = units-low g (suc n) places configs (λ k x is. follows (suc k) x is) in
     let more = units_from-more g n b configs in
-    let same : file_units g b ≡ file_units g c = (let e : b ≡ c = cc in ap (file_units g) e) in
+    let same : configured_units g b ≡ configured_units g c = (let e : b ≡ c = cc in ap (configured_units g) e) in
     omega (arith, rest, more, same)
 units-room g n (suc d) [] (b ∷ configs) c follows absent at =
     let rest = units-room g (suc n) d [] configs c (λ k x is. absurd (cc)) refl at in

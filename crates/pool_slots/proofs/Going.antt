@@ -1,5 +1,5 @@
 -- Where a trail leads, and one entry on.
-use Rattle.std.proofs.Common.{◌≡◌, ◌≤◌, ◌∙◌, ℕ, true, false, [], ◌∷◌, ◌++◌, refl, sym, ap, ap₂, subst, arith}
+use Rattle.std.proofs.Common.{◌≡◌, ◌≤◌, ◌∙◌, ℕ, true, [], ◌∷◌, ◌++◌, refl, sym, ap, ap₂, subst, arith}
 use Rattle.sched_base.specs.Numbers.{moment}
 use Rattle.sched_model.specs.declared.action.Action.{Action}
 use Rattle.sched_model.specs.declared.event.Entry.{Entry}
@@ -15,6 +15,7 @@ use Rattle.journal_core.specs.Parts.{part_of}
 use Rattle.journal_core.specs.Histories.{reached_by, part_at, now_at}
 use Rattle.pool_slots.specs.Told.{Told, told_more}
 use Rattle.pool_slots.specs.Places.{GoesOn, state_of}
+use Rattle.sched_model.specs.Runs.{open_at}
 
 -- the folded words, opened
 pub state_of-is : (w : Told) → state_of w ≡ (reached_by w.input w.history).state
@@ -28,9 +29,6 @@ part_of-is w k = refl
 pub now_of-is : (w : Told) → now_at w.input w.history ≡ (state_of w).now
 unfolding state_of now_at
 now_of-is w = refl
-
-abbrev pub open_at : State → Reached
-open_at s = record { state = s; over = false }
 
 -- the run is there, and not over
 pub leads-to : (w : Told) → GoesOn w → reached_by w.input w.history ≡ open_at (state_of w)

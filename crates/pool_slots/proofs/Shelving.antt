@@ -15,7 +15,7 @@ use Rattle.sched_model.specs.Policy.{fresh_records, kind_of}
 use Rattle.sched_ops.specs.Conditions.{ArePoolParams}
 use Rattle.sched_ops.specs.Seen.{core_places, restarted_scheduler}
 use Rattle.sched_ranges.specs.Ranges.{PoolInRange, RecordsInRange}
-use Rattle.pool_core.specs.Seen.{Seen, IsEmpty}
+use Rattle.pool_core.specs.Seen.{Seen, IsEmpty, reopened}
 use Rattle.pool_core.proofs.Coming.{all_empty}
 use Rattle.pool_slots.specs.Told.{Told}
 use Rattle.pool_slots.specs.Places.{GoesOn, StandsAt, state_of}
@@ -35,10 +35,6 @@ fresh-places : (cores domains : ℕ) (params : PoolParams) (records : Records) �
 fresh-places cores domains pool_params.Null (NullPool kept) places params = ap (fresh_records pool_params.Null domains) places
 fresh-places cores domains pool_params.Null records places params = absurd params
 fresh-places cores domains other records places params = refl
-
--- a spare pool that is opened
-abbrev pub reopened : PoolParams → Seen → Seen
-reopened params seen = record seen { pool = record seen.pool { scheduler = restarted_scheduler params seen.pool.scheduler }; in_use = true }
 
 module _ (m : Machine) (now : ℕ) (params : PoolParams) (seen : Seen) (spare : IsSpare m now (kind_of seen.pool.scheduler.records) seen) (given : ArePoolParams (kind_of seen.pool.scheduler.records) params) where
   abbrev made : Pool

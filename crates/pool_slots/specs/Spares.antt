@@ -11,7 +11,7 @@ use Rattle.sched_model.specs.declared.state.Records.TheVariants.{NullPool}
 use Rattle.sched_model.specs.Opening.{core_count, empty_pool}
 use Rattle.sched_model.specs.Policy.{kind_of}
 use Rattle.pool_core.specs.Seen.{Seen, IsEmpty}
-use Rattle.pool_slots.specs.Rooms.{most_units}
+use Rattle.unit_state.specs.Guests.{most_units}
 
 -- a pool of this scheduler that is not in use: it has neither a domain nor a core, and has room for all units of a machine
 pub record IsIdle (kind : SchedKind) (seen : Seen) : Type 0 where

@@ -4,8 +4,8 @@
 ghost use Rattle.std.specs.Prelude.{◌≡◌, IfOk};
 ghost use Rattle.sched_model.specs.declared.config.PoolParams.{PoolParams as Params};
 ghost use Rattle.sched_ops.specs.Conditions.{ArePoolParams};
-ghost use Rattle.pool_threads.specs.OpeningPool.{CanOpen, opened_with};
-
+ghost use Rattle.pool_threads.specs.OpeningPool.{CanOpen};
+ghost use Rattle.pool_core.specs.Seen.{reopened};
 use any_policy::AnyPolicy;
 use pool_core::PoolState;
 use sched_base::NoMemory;
@@ -32,7 +32,7 @@ pub fn new_pool(alloc: Global, kind: SchedKind) -> Result<AnyPool, NoMemory>
 // The pool, opened with the parameters.
 fn opened(pool: AnyPool, params: PoolParams) -> AnyPool
     requires { CanOpen params pool }
-    ensures { result ≡ opened_with params pool }
+    ensures { result ≡ reopened params pool }
 {
     let mut pool = pool;
     pool.open(&params);
@@ -47,8 +47,8 @@ pub fn open_both<R: Threads>(
 ) -> (AnyPool, AnyPool)
     requires left { CanOpen left.1 left.0 }
     requires right { CanOpen right.1 right.0 }
-    ensures left { result.0 ≡ opened_with left.1 left.0 }
-    ensures right { result.1 ≡ opened_with right.1 right.0 }
+    ensures left { result.0 ≡ reopened left.1 left.0 }
+    ensures right { result.1 ≡ reopened right.1 right.0 }
 {
     let (left, left_params) = left;
     let (right, right_params) = right;

@@ -6,7 +6,8 @@ use Rattle.std.proofs.lemmas.List.{length-replicate, length-set}
 use Rattle.sched_base.specs.declared.UnitId.{UnitId}
 use Rattle.sched_base.specs.declared.Cores.{Cores}
 use Rattle.sched_model.specs.Places.{at_place, has_unit, same_unit, without_unit}
-use Rattle.sched_model.specs.Policy.{pinned_cores, all_cores}
+use Rattle.sched_model.specs.Policy.{pinned_cores}
+use Rattle.sched_base.specs.CoreSets.{every_core}
 use Rattle.sched_laws.proofs.EachPlace.{at_place-replicate}
 use Rattle.sched_laws.proofs.Choices.{same_unit_same}
 use Rattle.sched_laws.proofs.Counts.{same_unit_refl, without_absent, gone_without}
@@ -100,14 +101,14 @@ marked_vacant domains spare low few =
 
 pub marked_joined : (d count : ℕ) (marks : List Bool) (units : Units) → at_place units.affinity d ≡ None → count ≤ 32 → count ≤ units.spare → IsMarked marks units → IsMarked marks (after_join d count units)
 marked_joined d count marks units absent small few marked =
-    let sets : Option (List Cores) = Some (replicate count all_cores) in
+    let sets : Option (List Cores) = Some (replicate count every_core) in
     let same : length (slice_set units.affinity d sets) ≡ length units.affinity = length-set units.affinity d sets in
     record {
       whole = whole_joined d count units absent few marked.whole;
       waiting = marked.waiting;
       places = (let was = marked.places in omega (arith, same, was));
       domains = (let was = marked.domains in omega (arith, same, was));
-      few = λ k. few_set d k 32 sets units.affinity (let n : length (replicate count all_cores) ≡ count = length-replicate count all_cores in omega (arith, n, small)) marked.few;
+      few = λ k. few_set d k 32 sets units.affinity (let n : length (replicate count every_core) ≡ count = length-replicate count every_core in omega (arith, n, small)) marked.few;
     }
 
 pub marked_parted : (d : ℕ) (marks : List Bool) (units : Units) → HasNoneWaiting units d → IsMarked marks units → IsMarked marks (after_part d units)

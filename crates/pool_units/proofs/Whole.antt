@@ -7,7 +7,8 @@ use Rattle.std.proofs.lemmas.List.{length-replicate, length-append}
 use Rattle.sched_base.specs.declared.UnitId.{UnitId}
 use Rattle.sched_base.specs.declared.Cores.{Cores}
 use Rattle.sched_model.specs.Places.{at_place, put_at, clear_at, has_unit, same_unit}
-use Rattle.sched_model.specs.Policy.{pinned_cores, all_cores}
+use Rattle.sched_model.specs.Policy.{pinned_cores}
+use Rattle.sched_base.specs.CoreSets.{every_core}
 use Rattle.sched_ops.specs.Conditions.{IsApart}
 use Rattle.sched_laws.proofs.Choices.{same_unit_same}
 use Rattle.sched_laws.proofs.EachPlace.{at_place-put_at_other, at_place-clear_at_other, at_place-replicate}
@@ -84,12 +85,12 @@ whole_joined d count units absent few whole =
           let member = whole.members u has in
           elim (ℕ_discrete u.dom.0 d) [
             | yes e ↦ absurd (none_in u units.affinity (subst (λ k. at_place units.affinity k ≡ None) (sym e) absent) member)
-            | no other ↦ member_other u units.affinity (put_at d (replicate count all_cores) units.affinity) (at_place-put_at_other d u.dom.0 (replicate count all_cores) units.affinity other) member
+            | no other ↦ member_other u units.affinity (put_at d (replicate count every_core) units.affinity) (at_place-put_at_other d u.dom.0 (replicate count every_core) units.affinity other) member
           ]
           );
       room = (
-          let more = unit_count-put_at d (replicate count all_cores) units.affinity absent in
-          let sets : length (replicate count all_cores) ≡ count = length-replicate count all_cores in
+          let more = unit_count-put_at d (replicate count every_core) units.affinity absent in
+          let sets : length (replicate count every_core) ≡ count = length-replicate count every_core in
           let was = whole.room in
           omega (arith, more, sets, was, few)
           );

@@ -3,7 +3,8 @@ use Rattle.std.specs.Prelude.{ℕ, ◌+◌, ◌-◌, ◌≡◌, ◌≤◌, Bool,
 use Rattle.sched_base.specs.declared.UnitId.{UnitId}
 use Rattle.sched_base.specs.declared.Cores.{Cores}
 use Rattle.sched_model.specs.Places.{at_place, put_at, clear_at, change_at, has_unit, without_unit}
-use Rattle.sched_model.specs.Policy.{all_cores, pinned_cores}
+use Rattle.sched_model.specs.Policy.{pinned_cores}
+use Rattle.sched_base.specs.CoreSets.{every_core}
 use Rattle.sched_ops.specs.Conditions.{IsApart}
 
 -- the units that wait, in order of arrival; the sets of cores of each domain's units; and how many units may still join
@@ -30,7 +31,7 @@ HasNoneWaiting units d = (u : UnitId) → u.dom.0 ≡ d → has_unit units.queue
 
 -- the domain d joins with so many units, which may have all cores
 abbrev pub after_join : ℕ → ℕ → Units → Units
-after_join d count units = record units { affinity = put_at d (replicate count all_cores) units.affinity; spare = units.spare - count }
+after_join d count units = record units { affinity = put_at d (replicate count every_core) units.affinity; spare = units.spare - count }
 
 -- the domain d parts
 abbrev pub after_part : ℕ → Units → Units

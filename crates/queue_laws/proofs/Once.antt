@@ -8,7 +8,8 @@ use Rattle.sched_base.specs.Units.{number_of}
 use Rattle.arrival_queue.specs.declared.key.Key.{Key}
 use Rattle.arrival_queue.specs.Queues.{Queued, queued_unit, goes_before, is_of, list_with, list_without, closed_up}
 use Rattle.arrival_queue.specs.Order.{has_rank, EachRankOnce, EachUnitOnce}
-use Rattle.arrival_queue.proofs.Counting.{one_if, one-most, count-cons}
+use Rattle.arrival_queue.proofs.Counting.{one-most, count-cons}
+use Rattle.sched_base.specs.Numbers.{one_if}
 use Rattle.arrival_queue.proofs.Ordered.{ranks-below, lacks-rank}
 use Rattle.queue_laws.specs.Arrivals.{HasRanks, RanksBelow, LacksUnit, HasUnits, HasKeys}
 use Rattle.queue_laws.proofs.Arrivals.{each_put}

@@ -1,14 +1,13 @@
 -- The timers of the ids, and the first of them.
-use Rattle.std.proofs.Common.{◌≡◌, ◌≤◌, ◌<◌, ◌+◌, ℕ, zero, suc, Bool, true, false, List, [], ◌∷◌, length, refl, sym, ◌∙◌, ap, subst, arith, inl, inr}
+use Rattle.std.proofs.Common.{◌≡◌, ◌≤◌, ◌<◌, ◌+◌, ℕ, zero, suc, Bool, true, false, List, [], ◌∷◌, refl, sym, ◌∙◌, ap, subst, arith, inl, inr}
 use Rattle.std.specs.Prelude.{Option, Some, None, nat_le, nat_lt, if◌then◌else◌}
 use Rattle.std.proofs.lemmas.Bool.{cases_eq, cases_lt, le-ltb, lt-ltb, lt-leb}
 use Rattle.std.proofs.lemmas.Bool.Decides.{nat_tests}
 use Rattle.sched_base.specs.declared.Moment.{Moment}
 use Rattle.sched_ops.specs.declared.timer.Timer.TheVariants.{Repl}
-use Rattle.sched_ops.specs.Timers.{Armed, first_due, soonest_timer}
+use Rattle.sched_ops.specs.Timers.{Armed, first_due, soonest_timer, next_of}
 use Rattle.due_heap.specs.Dues.{IsArmed, GoesFirst}
-use Rattle.rtds_core.specs.Alarms.{armed_timers, unit_of, next_of, timer_of}
-use Rattle.due_heap.proofs.Tree.{armed_below}
+use Rattle.rtds_core.specs.Alarms.{armed_timers, unit_of, timer_of}
 
 has_come : (t a : ℕ) → a ≤ t → nat_le a t ≡ true
 has_come t a come = grind (arith, nat_tests, come)

@@ -13,7 +13,7 @@ use Rattle.sched_model.specs.Places.{at_place, has_unit}
 use Rattle.sched_model.specs.declared.state.RtdsUnit.{RtdsUnit}
 use Rattle.sched_model.specs.EligibleUnits.{rtds_unit, cores_of}
 use Rattle.sched_base.proofs.Bools.{clash, and_left, and_right}
-use Rattle.sched_laws.proofs.Lists.{AllByRecursion-map}
+use Rattle.sched_base.proofs.Lists.{AllByRecursion-map}
 use Rattle.arrival_queue.specs.Queues.{Queued, queued_unit}
 use Rattle.rtds_queue.specs.Lists.{Lists, count}
 use Rattle.queue_laws.proofs.Once.{once_units}
@@ -28,7 +28,8 @@ use Rattle.sched_model.specs.declared.config.DomParams.TheVariants as dom_params
 use Rattle.sched_model.specs.declared.config.SchedKind.TheVariants as kinds
 use Rattle.sched_model.specs.declared.state.Scheduler.{Scheduler}
 use Rattle.sched_model.specs.declared.state.Records.TheVariants.{RtdsPool}
-use Rattle.sched_model.specs.Policy.{replenish_due, joined_records, all_cores}
+use Rattle.sched_model.specs.Policy.{replenish_due, joined_records}
+use Rattle.sched_base.specs.CoreSets.{every_core}
 use Rattle.sched_model.specs.Places.{put_at}
 use Rattle.sched_model.specs.Rtds.{own_candidate, choice, foremost_unit, budget_left, unit_before, fresh_units}
 use Rattle.sched_model.specs.EligibleUnits.{eligible_units, is_allowed, is_eligible}
@@ -96,10 +97,10 @@ term_budget period budget is = (let l = is.within.least in let m = is.within.mos
 
 -- a domain joins with parameters of RTDS
 pub kept_with : (domains domains2 : List (Option (List RtdsUnit))) (affinity : List (Option (List Cores))) (q : Lists) (masks masks2 : List Cores) (dues : List (Option Moment)) (spare t d count : ℕ) (params : DomParams) → AreDomParams kinds.Rtds params → RtdsPool domains2 ≡ joined_records (RtdsPool domains) params d count t
-    → d < length affinity → at_place affinity d ≡ None → count ≤ 32 → count ≤ spare → Sets masks masks2 d None all_cores → IsKept domains affinity q masks dues spare t
-    → IsKept domains2 (put_at d (replicate count all_cores) affinity) q masks2 dues (spare - count) t
+    → d < length affinity → at_place affinity d ≡ None → count ≤ 32 → count ≤ spare → Sets masks masks2 d None every_core → IsKept domains affinity q masks dues spare t
+    → IsKept domains2 (put_at d (replicate count every_core) affinity) q masks2 dues (spare - count) t
 kept_with domains domains2 affinity q masks masks2 dues spare t d count (dom_params.Rtds period budget extra) are joined place absent few room set kept =
-    subst (λ (ds : List (Option (List RtdsUnit))). IsKept ds (put_at d (replicate count all_cores) affinity) q masks2 dues (spare - count) t) (same_domains (put_at d (fresh_units period.0 budget.0 extra count t) domains) domains2 (sym joined))
+    subst (λ (ds : List (Option (List RtdsUnit))). IsKept ds (put_at d (replicate count every_core) affinity) q masks2 dues (spare - count) t) (same_domains (put_at d (fresh_units period.0 budget.0 extra count t) domains) domains2 (sym joined))
     (kept_joined domains affinity q masks masks2 dues spare t d count period.0 budget.0 extra place absent few room are.long (term_budget period.0 budget.0 are) set kept)
   where
     same_domains : (a b : List (Option (List RtdsUnit))) → RtdsPool a ≡ RtdsPool b → a ≡ b

@@ -6,19 +6,19 @@ use Rattle.std.proofs.lemmas.Bool.Decides.{nat_tests}
 use Rattle.std.proofs.lemmas.List.Elements.{All-from_recursion}
 use Rattle.sched_base.specs.declared.Cores.{Cores}
 use Rattle.sched_base.specs.declared.UnitId.{UnitId}
-use Rattle.unit_places.specs.Places.{has_place}
+use Rattle.unit_places.specs.Places.{has_place, index_of}
 use Rattle.unit_places.proofs.Placed.{placed}
 use Rattle.sched_model.specs.Places.{at_place, change_at, change_item}
 use Rattle.sched_model.specs.declared.state.RtdsUnit.{RtdsUnit}
 use Rattle.sched_model.specs.EligibleUnits.{rtds_unit}
 use Rattle.sched_model.specs.Rtds.{change_unit}
 use Rattle.sched_laws.proofs.EachPlace.{by_option, place_below, length_set, EachPlace-change_at, at_place-set_other, at_place-change_at}
-use Rattle.sched_laws.proofs.Lists.{AllByRecursion-map, item_below, length_change_item}
+use Rattle.sched_laws.proofs.Lists.{item_below, length_change_item}
+use Rattle.sched_base.proofs.Lists.{AllByRecursion-map}
 use Rattle.sched_ranges.specs.Ranges.{RtdsInRange}
 use Rattle.sched_ranges.specs.Fits.{RtdsFits, RtdsFit}
 use Rattle.sched_ranges.proofs.Done.{rtds_in_range}
 use Rattle.plain_units.specs.Fits as plain
-use Rattle.rtds_core.specs.Alarms.{id_of}
 use Rattle.rtds_core.specs.RtdsParts.{IsShaped, size, total}
 use Rattle.std.proofs.lemmas.Option.{slice_get_within}
 
@@ -83,7 +83,7 @@ pub record IsLow (u : UnitId) : Type 0 where
   pub index : u.n < 32
   pub byte : u.n < 256
   pub place : has_place u ≡ true
-  pub id : id_of u < 2048
+  pub id : index_of u < 2048
 
 pub low_unit : (domains : List (Option (List RtdsUnit))) (affinity : List (Option (List Cores))) (u : UnitId) (x : RtdsUnit) → IsShaped domains affinity → rtds_unit domains u ≡ Some x → IsLow u
 low_unit domains affinity u x is at =

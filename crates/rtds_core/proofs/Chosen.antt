@@ -18,7 +18,8 @@ use Rattle.sched_laws.proofs.RtdsUnits.{rtds_unit-same, rtds_unit-other, burned_
 use Rattle.sched_ranges.proofs.Rtds.{rtds_burned, rtds_running, rtds_off, rtds_replenished, fit_unit}
 use Rattle.sched_ranges.specs.Fits.{RtdsFits}
 use Rattle.rtds_queue.specs.Lists.{Lists, holds, after_remove, after_renew}
-use Rattle.rtds_core.specs.Alarms.{id_of, with_due}
+use Rattle.rtds_core.specs.Alarms.{with_due}
+use Rattle.unit_places.specs.Places.{index_of}
 use Rattle.rtds_core.specs.Best.{queue_of, key_by, queues_without, dues_with, dues_without, run_from, deadline_in}
 use Rattle.rtds_core.specs.RtdsParts.{IsKept, renewed_if, rearmed_dues}
 use Rattle.rtds_core.proofs.Queues.{IsOrdered, queue_removed, queue_renewed}
@@ -97,7 +98,7 @@ module _ (affinity : List (Option (List Cores))) (q : Lists) (masks : List Cores
             let off : has_unit (queue_of (after_remove q u)) u ≡ false = gone_now u domains dues x known.at order here kept in
             let ran = kept_set domains affinity (after_remove q u) masks (with_due u None dues) spare t u run x (Some (moment x.deadline)) (rtds_running t x) known.at off refl gone in
             subst (λ (b : Bool). IsKept domains2 affinity (if b then after_remove q u else q) masks (with_due u (Some (moment x.deadline)) dues) spare t) (sym here)
-            (subst (λ (ds : List (Option Moment)). IsKept domains2 affinity (after_remove q u) masks ds spare t) (set_set (id_of u) None (Some (moment x.deadline)) dues) ran)
+            (subst (λ (ds : List (Option Moment)). IsKept domains2 affinity (after_remove q u) masks ds spare t) (set_set (index_of u) None (Some (moment x.deadline)) dues) ran)
         | inr other ↦
             let off : has_unit (queue_of q) u ≡ false = tells_waiting domains affinity q masks dues spare t u x kept known.at ∙ other in
             subst (λ (b : Bool). IsKept domains2 affinity (if b then after_remove q u else q) masks (with_due u (Some (moment x.deadline)) dues) spare t) (sym other)

@@ -22,7 +22,7 @@ use Rattle.due_heap.specs.Dues.{due_of}
 use Rattle.arrival_queue.specs.Queues.{Queued, queued_unit as queued, is_of}
 use Rattle.arrival_queue.specs.Queues.{has_unit as has_queued}
 use Rattle.rtds_queue.specs.Lists.{Lists, count}
-use Rattle.rtds_core.specs.Alarms.{id_of}
+use Rattle.unit_places.specs.Places.{index_of}
 use Rattle.rtds_core.specs.Best.{queue_of, IsEligible, IsSpent, AreQueued, AreMasks}
 use Rattle.rtds_core.specs.RtdsParts.{IsShaped, IsKept, due_for, total}
 use Rattle.rtds_core.proofs.Queues.{IsOrdered, waits}
@@ -33,7 +33,8 @@ use Rattle.std.proofs.lemmas.List.{length-replicate}
 use Rattle.sched_base.specs.Numbers.{core_set}
 use Rattle.sched_base.proofs.Lists.{each_get}
 use Rattle.sched_model.specs.Places.{change_at, put_at, clear_at}
-use Rattle.sched_model.specs.Policy.{pinned_cores, all_cores}
+use Rattle.sched_model.specs.Policy.{pinned_cores}
+use Rattle.sched_base.specs.CoreSets.{every_core}
 use Rattle.sched_model.specs.Rtds.{fresh_units}
 use Rattle.sched_laws.proofs.EachPlace.{EachPlace-put_at, EachPlace-clear_at, EachPlace-empty}
 use Rattle.sched_ranges.proofs.Rtds.{rtds_fresh}
@@ -115,7 +116,7 @@ all_off : (x : RtdsUnit) (count : ℕ) → x.burned ≡ None → AllByRecursion 
 all_off x zero off = tt
 all_off x (suc count) off = (off, all_off x count off)
 
-get_all : (count n : ℕ) → n < count → (slice_index_or (replicate count all_cores) n (core_set 0)).0 ≡ all_cores.0
+get_all : (count n : ℕ) → n < count → (slice_index_or (replicate count every_core) n (core_set 0)).0 ≡ every_core.0
 get_all zero n inside = absurd (omega (arith, inside))
 get_all (suc count) zero inside = refl
 get_all (suc count) (suc n) inside = get_all count n (omega (arith, inside))
@@ -143,21 +144,21 @@ not_named d unit u ne = by_unit unit
 abbrev pub Sets : List Cores → List Cores → ℕ → Option ℕ → Cores → Type 0
 Sets masks masks2 d unit cores = (u : UnitId) → u.n < 256 → mask_of masks2 u ≡ (if is_named d unit u then cores else mask_of masks u)
 
-joined_sets : (affinity : List (Option (List Cores))) (masks masks2 : List Cores) (d count : ℕ) → count ≤ 32 → d < length affinity → EachPlace (λ (sets : List Cores). length sets ≤ 32) affinity → Sets masks masks2 d None all_cores → AreMasks affinity masks
-    → AreMasks (put_at d (replicate count all_cores) affinity) masks2
+joined_sets : (affinity : List (Option (List Cores))) (masks masks2 : List Cores) (d count : ℕ) → count ≤ 32 → d < length affinity → EachPlace (λ (sets : List Cores). length sets ≤ 32) affinity → Sets masks masks2 d None every_core → AreMasks affinity masks
+    → AreMasks (put_at d (replicate count every_core) affinity) masks2
 joined_sets affinity masks masks2 d count few place small set old = record {
   each = λ u sets at inside. elim (ℕ_discrete d u.dom.0) [
     | yes e ↦
-        let here : at_place (put_at d (replicate count all_cores) affinity) u.dom.0 ≡ Some (replicate count all_cores) = subst (λ (k : ℕ). at_place (put_at d (replicate count all_cores) affinity) k ≡ Some (replicate count all_cores)) e (at_place-set d (Some (replicate count all_cores)) affinity place) in
-        let same : sets ≡ replicate count all_cores = some_same sets (replicate count all_cores) (sym at ∙ here) in
-        let n : u.n < count = (let l = ap (λ (xs : List Cores). length xs) same in let k = length-replicate count all_cores in omega (arith, inside, l, k)) in
-        ap (λ (c : Cores). c.0) (set u (omega (arith, n, few))) ∙ ap (λ (b : Bool). (if b then all_cores else mask_of masks u).0) (named_all d u e (omega (arith, n, few)))
+        let here : at_place (put_at d (replicate count every_core) affinity) u.dom.0 ≡ Some (replicate count every_core) = subst (λ (k : ℕ). at_place (put_at d (replicate count every_core) affinity) k ≡ Some (replicate count every_core)) e (at_place-set d (Some (replicate count every_core)) affinity place) in
+        let same : sets ≡ replicate count every_core = some_same sets (replicate count every_core) (sym at ∙ here) in
+        let n : u.n < count = (let l = ap (λ (xs : List Cores). length xs) same in let k = length-replicate count every_core in omega (arith, inside, l, k)) in
+        ap (λ (c : Cores). c.0) (set u (omega (arith, n, few))) ∙ ap (λ (b : Bool). (if b then every_core else mask_of masks u).0) (named_all d u e (omega (arith, n, few)))
         ∙ sym (get_all count u.n n) ∙ sym (ap (λ (o : Option (List Cores)). sets_in o u.n) here)
     | no ne ↦
-        let was : at_place affinity u.dom.0 ≡ Some sets = sym (at_place-set_other d u.dom.0 (Some (replicate count all_cores)) affinity ne) ∙ at in
+        let was : at_place affinity u.dom.0 ≡ Some sets = sym (at_place-set_other d u.dom.0 (Some (replicate count every_core)) affinity ne) ∙ at in
         let low : length sets ≤ 32 = small u.dom.0 sets was in
-        ap (λ (c : Cores). c.0) (set u (omega (arith, inside, low))) ∙ ap (λ (b : Bool). (if b then all_cores else mask_of masks u).0) (not_named d None u ne)
-        ∙ old.each u sets was inside ∙ sym (ap (λ (o : Option (List Cores)). sets_in o u.n) (at_place-set_other d u.dom.0 (Some (replicate count all_cores)) affinity ne))
+        ap (λ (c : Cores). c.0) (set u (omega (arith, inside, low))) ∙ ap (λ (b : Bool). (if b then every_core else mask_of masks u).0) (not_named d None u ne)
+        ∙ old.each u sets was inside ∙ sym (ap (λ (o : Option (List Cores)). sets_in o u.n) (at_place-set_other d u.dom.0 (Some (replicate count every_core)) affinity ne))
   ];
 }
   where
@@ -181,8 +182,8 @@ small_sets domains affinity is d sets at = of_size (at_place domains d) (at_plac
 module _ (domains : List (Option (List RtdsUnit))) (affinity : List (Option (List Cores))) (q : Lists) (masks masks2 : List Cores) (dues : List (Option Moment)) (spare t : ℕ) where
   -- a domain joins
   pub kept_joined : (d count period budget : ℕ) (extra : Bool) → d < length affinity → at_place affinity d ≡ None → count ≤ 32 → count ≤ spare → IsWithin 10000 1000000000000 period → IsWithin 10000 1000000000000 budget
-      → Sets masks masks2 d None all_cores → IsKept domains affinity q masks dues spare t
-      → IsKept (put_at d (fresh_units period budget extra count t) domains) (put_at d (replicate count all_cores) affinity) q masks2 dues (spare - count) t
+      → Sets masks masks2 d None every_core → IsKept domains affinity q masks dues spare t
+      → IsKept (put_at d (fresh_units period budget extra count t) domains) (put_at d (replicate count every_core) affinity) q masks2 dues (spare - count) t
   kept_joined d count period budget extra place absent few room periods budgets set kept =
       let fresh : List RtdsUnit = fresh_units period budget extra count t in
       let domains2 : List (Option (List RtdsUnit)) = put_at d fresh domains in
@@ -199,9 +200,9 @@ module _ (domains : List (Option (List RtdsUnit))) (affinity : List (Option (Lis
       record {
         shape =
             record {
-              places = length_set d (Some fresh) domains ∙ kept.shape.places ∙ sym (length_set d (Some (replicate count all_cores)) affinity);
-              few = (let l = length_set d (Some (replicate count all_cores)) affinity in let f = kept.shape.few in omega (arith, l, f));
-              same = sizes_set d (Some fresh) (Some (replicate count all_cores)) domains affinity kept.shape.places (ap Some (many ∙ sym (length-replicate count all_cores))) kept.shape.same;
+              places = length_set d (Some fresh) domains ∙ kept.shape.places ∙ sym (length_set d (Some (replicate count every_core)) affinity);
+              few = (let l = length_set d (Some (replicate count every_core)) affinity in let f = kept.shape.few in omega (arith, l, f));
+              same = sizes_set d (Some fresh) (Some (replicate count every_core)) domains affinity kept.shape.places (ap Some (many ∙ sym (length-replicate count every_core))) kept.shape.same;
               small = EachPlace-put_at (λ (units : List RtdsUnit). length units ≤ 32) d fresh domains kept.shape.small (omega (arith, many, few));
             };
         fits = EachPlace-put_at (AllByRecursion (RtdsFits t)) d fresh domains kept.fits (rtds_fresh t period budget count extra periods budgets);
@@ -415,6 +416,6 @@ kept_none n units latest masks few room early =
       armed =
           record {
             count = length-replicate {A = Option Moment} 2048 None;
-            each = λ u low. get_no_due 2048 (id_of u) ∙ sym (idle_due [] (replicate n None) u refl (λ x at. (let f : ◌≡◌ {A = Option RtdsUnit} None (Some x) = sym (no_record (replicate n None) u (get_none n u.dom.0)) ∙ at in absurd (cc))));
+            each = λ u low. get_no_due 2048 (index_of u) ∙ sym (idle_due [] (replicate n None) u refl (λ x at. (let f : ◌≡◌ {A = Option RtdsUnit} None (Some x) = sym (no_record (replicate n None) u (get_none n u.dom.0)) ∙ at in absurd (cc))));
           };
     }

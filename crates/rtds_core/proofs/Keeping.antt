@@ -14,7 +14,7 @@ use Rattle.sched_model.specs.EligibleUnits.{rtds_unit}
 use Rattle.sched_model.specs.Rtds.{change_unit}
 use Rattle.sched_base.proofs.Bools.{clash, or_left, or_right}
 use Rattle.sched_laws.proofs.Choices.{same_unit_same}
-use Rattle.sched_laws.proofs.Lists.{AllByRecursion-map, AllByRecursion-push}
+use Rattle.sched_base.proofs.Lists.{AllByRecursion-map, AllByRecursion-push}
 use Rattle.sched_laws.proofs.RtdsUnits.{rtds_unit-same, rtds_unit-other}
 use Rattle.arrival_queue.specs.Queues.{Queued, queued_unit as queued, is_of, put_first, goes_before, list_without as without, closed_up}
 use Rattle.arrival_queue.specs.Queues.{has_unit as has_queued}

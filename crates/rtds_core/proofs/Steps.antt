@@ -12,7 +12,8 @@ use Rattle.sched_model.specs.EligibleUnits.{rtds_unit}
 use Rattle.sched_model.specs.Rtds.{change_unit}
 use Rattle.sched_laws.proofs.Choices.{same_unit_same}
 use Rattle.sched_laws.proofs.Counts.{same_unit_refl, gone_without}
-use Rattle.sched_laws.proofs.Lists.{AllByRecursion-map, length_change_item}
+use Rattle.sched_laws.proofs.Lists.{length_change_item}
+use Rattle.sched_base.proofs.Lists.{AllByRecursion-map}
 use Rattle.sched_laws.proofs.RtdsUnits.{rtds_unit-same, rtds_unit-other}
 use Rattle.sched_ranges.proofs.Rtds.{rtds_later, fit_change_unit}
 use Rattle.sched_ranges.specs.Fits.{RtdsFits}

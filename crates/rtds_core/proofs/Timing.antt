@@ -15,13 +15,14 @@ use Rattle.sched_laws.proofs.EachPlace.{length_set, at_place-set_other}
 use Rattle.sched_ops.specs.declared.timer.Timer.TheVariants.{Repl}
 use Rattle.sched_ops.specs.Timers.{Armed, unit_timers, replenishments}
 use Rattle.due_heap.specs.Dues.{due_of, IsArmed}
-use Rattle.rtds_core.specs.Alarms.{armed_timers, unit_of, id_of, with_due}
+use Rattle.rtds_core.specs.Alarms.{armed_timers, unit_of, with_due}
+use Rattle.unit_places.specs.Places.{index_of}
 use Rattle.rtds_core.specs.RtdsParts.{AreArmed, due_for}
 use Rattle.rtds_core.proofs.Armed.{none_armed}
 use Rattle.rtds_core.proofs.Changed.{IsLow, at_place-set, unit_in}
 
 -- two units of one id are the same
-same_id : (u w : UnitId) → u.n < 32 → w.n < 32 → id_of u ≡ id_of w → same_unit u w ≡ true
+same_id : (u w : UnitId) → u.n < 32 → w.n < 32 → index_of u ≡ index_of w → same_unit u w ≡ true
 same_id u w low_u low_w same =
     let n : u.n ≡ w.n = omega (arith, same, low_u, low_w) in
     let d : u.dom.0 ≡ w.dom.0 = omega (arith, same, n) in
@@ -40,14 +41,14 @@ due_of_record queue domains u x at = ap (λ (o : Option RtdsUnit). elim o as (λ
 pub armed_changed : (queue queue2 : List UnitId) (domains domains2 : List (Option (List RtdsUnit))) (dues : List (Option Moment)) (u : UnitId) (o : Option Moment) → IsLow u → AreArmed queue domains dues
     → ((w : UnitId) → same_unit u w ≡ false → due_for queue2 domains2 w ≡ due_for queue domains w) → due_for queue2 domains2 u ≡ o → AreArmed queue2 domains2 (with_due u o dues)
 armed_changed queue queue2 domains domains2 dues u o low is others own = record {
-  count = length_set (id_of u) o dues ∙ is.count;
+  count = length_set (index_of u) o dues ∙ is.count;
   each = λ w low_w. elim (cases_Bool (same_unit u w)) [
     | inl same ↦
         let e : u ≡ w = same_unit_same u w same in
         let count = is.count in
         let inside = low.id in
-        subst (λ (v : UnitId). due_of (with_due u o dues) (id_of v) ≡ due_for queue2 domains2 v) e (at_place-set (id_of u) o dues (omega (arith, count, inside)) ∙ sym own)
-    | inr other ↦ at_place-set_other (id_of u) (id_of w) o dues (λ e. clash (same_unit u w) (same_id u w low.index low_w e) other) ∙ is.each w low_w ∙ sym (others w other)
+        subst (λ (v : UnitId). due_of (with_due u o dues) (index_of v) ≡ due_for queue2 domains2 v) e (at_place-set (index_of u) o dues (omega (arith, count, inside)) ∙ sym own)
+    | inr other ↦ at_place-set_other (index_of u) (index_of w) o dues (λ e. clash (same_unit u w) (same_id u w low.index low_w e) other) ∙ is.each w low_w ∙ sym (others w other)
   ];
 }
 

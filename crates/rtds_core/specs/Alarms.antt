@@ -1,19 +1,16 @@
 -- The armed timers, by the ids of their units: 32 for each domain.
 use Rattle.std.specs.Prelude.{ℕ, suc, ◌+◌, ◌*◌, ◌/◌, ◌%◌, List, [], ◌∷◌, Option, Some, None, slice_set}
-use Rattle.sched_base.specs.Numbers.{domain}
 use Rattle.sched_base.specs.declared.Moment.{Moment}
 use Rattle.sched_base.specs.declared.UnitId.{UnitId}
+use Rattle.sched_base.specs.Units.{unit_id}
 use Rattle.sched_ops.specs.declared.timer.Timer.TheVariants.{Repl}
 use Rattle.due_heap.specs.Dues.{due_of}
-use Rattle.sched_ops.specs.Timers.{Armed, first_due, soonest_timer}
-
--- the id of a unit
-abbrev pub id_of : UnitId → ℕ
-id_of u = u.dom.0 * 32 + u.n
+use Rattle.sched_ops.specs.Timers.{Armed}
+use Rattle.unit_places.specs.Places.{index_of}
 
 -- the unit of an id
 abbrev pub unit_of : ℕ → UnitId
-unit_of id = record { dom = domain (id / 32); n = id % 32 }
+unit_of id = unit_id (id / 32) (id % 32)
 
 -- the timer of an id, where it has a due
 abbrev pub timer_of : List (Option Moment) → ℕ → Option Armed
@@ -25,10 +22,6 @@ armed_timers n [] = []
 armed_timers n (None ∷ dues) = armed_timers (suc n) dues
 armed_timers n (Some at ∷ dues) = (at, Repl (unit_of n)) ∷ armed_timers (suc n) dues
 
--- the first timer whose moment has come at t, or else the one of the least moment
-abbrev pub next_of : ℕ → List Armed → Option Armed
-next_of t timers = elim (first_due t timers) [ Some x ↦ Some x | None ↦ soonest_timer None timers ]
-
 -- the dues with one unit's armed, or disarmed
 abbrev pub with_due : UnitId → Option Moment → List (Option Moment) → List (Option Moment)
-with_due u due dues = slice_set dues (id_of u) due
+with_due u due dues = slice_set dues (index_of u) due

@@ -17,7 +17,8 @@ use Rattle.sched_ranges.specs.Fits.{RtdsFit}
 use Rattle.due_heap.specs.Dues.{due_of}
 use Rattle.rtds_queue.specs.Lists.{Lists, count, after_renew}
 use Rattle.sched_ops.specs.Seen.{Seen, vacant_scheduler}
-use Rattle.rtds_core.specs.Alarms.{id_of, with_due}
+use Rattle.rtds_core.specs.Alarms.{with_due}
+use Rattle.unit_places.specs.Places.{index_of}
 use Rattle.rtds_core.specs.Best.{queue_of, key_by, AreQueued, AreMasks}
 
 -- the records and the sets of cores are of the same domains and units, at most 64 and 32 of them
@@ -44,7 +45,7 @@ due_for queue domains u = elim (rtds_unit domains u) [ None ↦ None | Some x �
 -- the armed moments are those
 pub record AreArmed (queue : List UnitId) (domains : List (Option (List RtdsUnit))) (dues : List (Option Moment)) : Type 0 where
   pub count : length dues ≡ 2048
-  pub each : (u : UnitId) → u.n < 32 → due_of dues (id_of u) ≡ due_for queue domains u
+  pub each : (u : UnitId) → u.n < 32 → due_of dues (index_of u) ≡ due_for queue domains u
 
 -- what the parts keep
 pub record IsKept (domains : List (Option (List RtdsUnit))) (affinity : List (Option (List Cores))) (q : Lists) (masks : List Cores) (dues : List (Option Moment)) (spare latest : ℕ) : Type 0 where

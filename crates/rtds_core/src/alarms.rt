@@ -1,8 +1,8 @@
 //! The moments at which units are replenished: a heap of them, and beside it each unit's own.
 
 ghost use Rattle.std.specs.Prelude.{◌≡◌, ◌≤◌, ◌<◌, length, replicate, IfOk};
-ghost use Rattle.rtds_core.specs.Alarms.{id_of, unit_of as unit_of_id, timer_of};
-
+ghost use Rattle.rtds_core.specs.Alarms.{unit_of as unit_of_id, timer_of};
+ghost use Rattle.unit_places.specs.Places.{index_of};
 use due_heap::DueHeap;
 use sched_base::{DomId, Moment, NoMemory, UnitId};
 use sched_ops::Timer;
@@ -41,7 +41,7 @@ fn none_times(alloc: Global, times: usize) -> Result<Vec<Option<Moment>>, NoMemo
 
 /// The id of a unit.
 fn id_of_unit(u: UnitId) -> u16
-    ensures { result ≡ id_of u }
+    ensures { result ≡ index_of u }
 {
     u.dom.0 as u16 * 32 + u.n as u16
 }
@@ -71,9 +71,9 @@ fn timer_at(dues: &[Option<Moment>], id: u16) -> Option<(Moment, Timer)>
 
 impl Alarms {
     ghost use Rattle.std.specs.Prelude.{◌≡◌, ◌<◌, IfOk, Some, None, replicate, length};
-    ghost use Rattle.sched_base.specs.declared.Moment.{Moment as MomentName};
-    ghost use Rattle.rtds_core.specs.Alarms.{id_of, armed_timers, next_of, with_due};
-
+    ghost use Rattle.unit_places.specs.Places.{index_of};
+    ghost use Rattle.rtds_core.specs.Alarms.{armed_timers, with_due};
+    ghost use Rattle.sched_ops.specs.Timers.{next_of};
     /// Alarms of which none is set.
     pub fn room(alloc: Global) -> Result<Alarms, NoMemory>
         ensures { IfOk result (λ alarms. alarms ≡ replicate 2048 None) }
@@ -85,7 +85,7 @@ impl Alarms {
 
     /// The unit's moment is this one, in place of the one that it had.
     pub fn arm(&mut self, u: UnitId, at: Moment)
-        requires { id_of u < 2048 }
+        requires { index_of u < 2048 }
         ensures { self.new ≡ with_due u (Some at) self.old }
     {
         let id = id_of_unit(u);
@@ -95,7 +95,7 @@ impl Alarms {
 
     /// The unit has no moment.
     pub fn disarm(&mut self, u: UnitId)
-        requires { id_of u < 2048 }
+        requires { index_of u < 2048 }
         ensures { self.new ≡ with_due u None self.old }
     {
         let id = id_of_unit(u);

@@ -8,7 +8,7 @@ ghost use Rattle.sched_model.specs.declared.state.Records.TheVariants.{RtdsPool}
 ghost use Rattle.sched_model.specs.Rtds.{budget_left as budget_left_spec, foremost_unit, choice, switch_off};
 ghost use Rattle.arrival_queue.specs.Order.{IsInOrder, EachRankOnce, EachUnitOnce};
 ghost use Rattle.plain_policy.specs.Parts.{scheduler_of};
-ghost use Rattle.rtds_core.specs.Alarms.{id_of};
+ghost use Rattle.unit_places.specs.Places.{index_of};
 ghost use Rattle.rtds_core.specs.Best.{queue_of, key_by, AreQueued, AreMasks, list_of, goes_first as goes_first_spec, due_at, deadline_in, run_from, queues_without, dues_with, dues_without};
 ghost use Rattle.rtds_core.specs.RtdsParts.{IsShaped};
 
@@ -111,7 +111,7 @@ pub fn due_of(domains: &[Option<RtdsUnits>], at: u64, chosen: Option<UnitId>) ->
 
 /// The core's own unit runs no more, and as it does not wait, it is not armed.
 pub fn stop(cur: Option<UnitId>, domains: &mut Row<Option<RtdsUnits>>, alarms: &mut Alarms)
-    requires known { ForSome cur (λ u. id_of u < 2048) }
+    requires known { ForSome cur (λ u. index_of u < 2048) }
     ensures domains { domains.new ≡ switch_off cur domains.old }
     ensures alarms { alarms.new ≡ dues_without cur alarms.old }
 {
@@ -129,7 +129,7 @@ pub fn start(
     queues: &mut RtdsQueues,
     alarms: &mut Alarms,
 )
-    requires known { ForSome chosen (λ u. id_of u < 2048) }
+    requires known { ForSome chosen (λ u. index_of u < 2048) }
     ensures domains { domains.new ≡ run_from at chosen domains.old }
     ensures queues { queues.new ≡ queues_without chosen queues.old }
     ensures alarms { alarms.new ≡ dues_with domains.old chosen alarms.old }

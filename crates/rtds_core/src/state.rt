@@ -5,7 +5,7 @@ ghost use Rattle.std.specs.Prelude.{◌≡◌, ◌≤◌, ◌<◌, IfOk, replica
 ghost use Rattle.std.specs.Option.{IfSome};
 ghost use Rattle.sched_model.specs.Places.{at_place};
 ghost use Rattle.rtds_queue.specs.Lists.{empty_lists, holds};
-ghost use Rattle.rtds_core.specs.Alarms.{id_of};
+ghost use Rattle.unit_places.specs.Places.{index_of};
 ghost use Rattle.rtds_core.specs.RtdsParts.{size, renewed_if, rearmed_dues};
 
 use crate::alarms::Alarms;
@@ -81,7 +81,7 @@ fn count_units(affinity: &[Option<Pins>], d: DomId) -> usize
 }
 
 impl RtdsState {
-    ghost use Rattle.std.specs.Prelude.{◌≡◌, ℕ, ◌≤◌, ◌<◌, ◌+◌, ◌-◌, true, false, IfOk, None, Some, length};
+    ghost use Rattle.std.specs.Prelude.{◌≡◌, ℕ, ◌≤◌, ◌<◌, ◌+◌, ◌-◌, true, IfOk, None, Some, length};
     ghost use Rattle.sched_model.specs.State.{has_core};
     ghost use Rattle.sched_laws.specs.EachPlace.{EachPlace};
     ghost use Rattle.sched_model.specs.declared.config.PoolParams.TheVariants as pool_params;
@@ -341,7 +341,7 @@ impl RtdsState {
 /// A unit that was replenished: one that is not on waits among the eligible, with its arrival as it was, and its new deadline
 /// is armed.
 fn renew(unit: Option<RtdsUnit>, u: UnitId, queues: &mut RtdsQueues, alarms: &mut Alarms)
-    requires id { id_of u < 2048 }
+    requires id { index_of u < 2048 }
     requires waits { IfSome unit (λ x. x.burned ≡ None → holds queues.old u ≡ true) }
     ensures queues { queues.new ≡ renewed_if unit u queues.old }
     ensures alarms { alarms.new ≡ rearmed_dues unit u alarms.old }

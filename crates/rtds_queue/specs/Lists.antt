@@ -1,7 +1,7 @@
 -- The queues of RTDS: the eligible units in order of level, deadline and arrival, and the spent ones in order of arrival.
 use Rattle.std.specs.Prelude.{ℕ, ◌+◌, ◌-◌, ◌||◌, Bool, pos, if◌then◌else◌, List, [], ◌∷◌, ◌++◌, length, map}
 use Rattle.sched_base.specs.declared.UnitId.{UnitId}
-use Rattle.sched_base.specs.Numbers.{domain, moment}
+use Rattle.sched_base.specs.Numbers.{moment}
 use Rattle.arrival_queue.specs.declared.key.Key.{Key}
 use Rattle.arrival_queue.specs.Queues.{Queued, queued_unit, list_with, list_without, has_unit, rank_in, closed_up}
 use Rattle.rtds_queue.specs.declared.RtdsKey.{RtdsKey}
@@ -57,9 +57,6 @@ after_renew q u key =
 abbrev pub empty_lists : ℕ → Lists
 empty_lists units = record { eligible = []; spent = []; spare = units }
 
--- the first unit of a domain, and the key of that level and deadline
-abbrev pub unit_id : ℕ → UnitId
-unit_id d = record { dom = domain d; n = 0 }
-
+-- the key of that level and deadline
 abbrev pub rtds_key : ℕ → ℕ → RtdsKey
 rtds_key level deadline = record { level = level; deadline = moment deadline }

@@ -5,7 +5,7 @@ use Rattle.std.specs.List.{list_any}
 use Rattle.std.proofs.lemmas.Bool.{leb-true, le-leb, false≢true, cases_Bool, or_right, or_parts, or_cases, and_from}
 use Rattle.std.proofs.lemmas.Bool.Decides.{leb_tells}
 use Rattle.sched_base.proofs.Bools.{and_left, and_right, or_more}
-use Rattle.run_laws.proofs.Named.{Has}
+use Rattle.sched_base.specs.Lists.{Has}
 
 -- a moment of the list, after t and not after u, at which the test passes
 pub record Begins (moments : List ℕ) (test : ℕ → Bool) (t u : ℕ) : Type 0 where

@@ -11,7 +11,7 @@ use Rattle.sched_model.specs.Places.{least_number}
 use Rattle.sched_model.specs.Actions.{candidates}
 use Rattle.sched_model.specs.Machine.{is_enabled, first_enabled, moments, next_moment}
 use Rattle.run_laws.specs.RunLaws.{IsNextMoment}
-use Rattle.run_laws.proofs.Named.{Has}
+use Rattle.sched_base.specs.Lists.{Has}
 use Rattle.run_laws.proofs.Awaits.{Awaits, Awaits-any, Awaits-same}
 use Rattle.run_laws.proofs.Rows.{Awaits-enabled}
 
@@ -31,14 +31,14 @@ Has-filter test [] n h on = absurd h
 Has-filter test (k ∷ ns) n h on =
     elim (test k) as (λ b. test k ≡ b → Has n (cond b (k ∷ filter test ns) (filter test ns))) [
       | true ↦ λ is. elim h [ inl e ↦ inl e | inr there ↦ inr (Has-filter test ns n there on) ]
-      | false ↦ λ is. elim h [ inl e ↦ absurd (false≢true (sym is ∙ subst (λ z. test z ≡ true) (sym e) on)) | inr there ↦ Has-filter test ns n there on ]
+      | false ↦ λ is. elim h [ inl e ↦ absurd (false≢true (sym is ∙ subst (λ z. test z ≡ true) e on)) | inr there ↦ Has-filter test ns n there on ]
     ] refl
 
 passes-filter : (test : ℕ → Bool) (ns : List ℕ) (n : ℕ) → Has n (filter test ns) → test n ≡ true
 passes-filter test [] n h = absurd h
 passes-filter test (k ∷ ns) n h =
     elim (test k) as (λ b. test k ≡ b → Has n (cond b (k ∷ filter test ns) (filter test ns)) → test n ≡ true) [
-      | true ↦ λ is there. elim there [ inl e ↦ subst (λ z. test z ≡ true) e is | inr later ↦ passes-filter test ns n later ]
+      | true ↦ λ is there. elim there [ inl e ↦ subst (λ z. test z ≡ true) (sym e) is | inr later ↦ passes-filter test ns n later ]
       | false ↦ λ is there. passes-filter test ns n there
     ] refl h
 

@@ -5,20 +5,8 @@ use Rattle.std.specs.List.{cons_option}
 use Rattle.sched_base.specs.declared.Moment.{Moment}
 use Rattle.sched_model.specs.Places.{at_place, numbered_items}
 use Rattle.sched_model.specs.Machine.{joined_lists, some_of}
-
--- the number stands in the list
-abbrev pub Has : ℕ → List ℕ → Type 0
-Has n [] = ⊥
-Has n (x ∷ xs) = (x ≡ n) ⊎ Has n xs
-
-pub Has-left : (n : ℕ) (xs ys : List ℕ) → Has n xs → Has n (xs ++ ys)
-Has-left n [] ys h = absurd h
-Has-left n (x ∷ xs) ys (inl e) = inl e
-Has-left n (x ∷ xs) ys (inr h) = inr (Has-left n xs ys h)
-
-pub Has-right : (n : ℕ) (xs ys : List ℕ) → Has n ys → Has n (xs ++ ys)
-Has-right n [] ys h = h
-Has-right n (x ∷ xs) ys h = inr (Has-right n xs ys h)
+use Rattle.sched_base.specs.Lists.{Has}
+use Rattle.sched_base.proofs.Lists.{Has-left, Has-right}
 
 pub Has-map : {X : Type 0} (f : X → ℕ) (xs : List X) (i : ℕ) (x : X) → slice_get xs i ≡ Some x → Has (f x) (map f xs)
 Has-map f [] i x at = absurd (cc)

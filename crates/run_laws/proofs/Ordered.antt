@@ -15,10 +15,7 @@ use Rattle.sched_model.specs.Machine.{first_enabled, event_of, after, next_in_ho
 use Rattle.sched_model.specs.Runs.{Reached, action_of, end_of, IsRun, IsRunFrom, IsNextEvent, run_start, after_event, after_quiet}
 use Rattle.sched_model.proofs.RunLemmas.{action_of-event_of, after_entry-action, ordered_run-IsRunFrom}
 use Rattle.run_laws.specs.RunLaws.{TakesFirst, IsOrderedFrom, IsOrderedRun}
-
--- where a run stands that is not over
-abbrev at : State → Reached
-at s = record { state = s; over = false }
+use Rattle.sched_model.specs.Runs.{open_at}
 
 -- one more entry of the ordered run, where this is the first action that may come and these are the entries after it
 abbrev with_action : Machine → State → Action → List Entry → List Entry
@@ -61,16 +58,16 @@ quiet_event event.Finish is = inl refl
 quiet_event other is = absurd (cc)
 
 -- the ordered run takes the first action each time
-ordered_run-IsOrderedFrom : (n : ℕ) (m : Machine) (s : State) → IsOrderedFrom m (at s) (ordered_run n m s)
+ordered_run-IsOrderedFrom : (n : ℕ) (m : Machine) (s : State) → IsOrderedFrom m (open_at s) (ordered_run n m s)
 ordered_run-IsOrderedFrom zero m s = tt
 ordered_run-IsOrderedFrom (suc n) m s =
-    subst (IsOrderedFrom m (at s)) (sym (ordered_run-by n m s))
-    (elim (first_enabled m s s.now) as (λ o. first_enabled m s s.now ≡ o → IsOrderedFrom m (at s) (run_by n m s o)) [
+    subst (IsOrderedFrom m (open_at s)) (sym (ordered_run-by n m s))
+    (elim (first_enabled m s s.now) as (λ o. first_enabled m s s.now ≡ o → IsOrderedFrom m (open_at s) (run_by n m s o)) [
       | Some action ↦ λ is. (
         subst (TakesFirst m s) (sym (action_of-event_of m s s.now action)) is,
         subst (λ from. IsOrderedFrom m from (ordered_run n m (after m s s.now action))) (sym (after_entry-action m s action)) (ordered_run-IsOrderedFrom n m (after m s s.now action)),
       )
-      | None ↦ λ is. elim (next_in_horizon m s) as (λ o. IsOrderedFrom m (at s) (quiet_run n m s o)) [ Some next ↦ (tt, ordered_run-IsOrderedFrom n m (record s { now = next })) | None ↦ (tt, tt) ]
+      | None ↦ λ is. elim (next_in_horizon m s) as (λ o. IsOrderedFrom m (open_at s) (quiet_run n m s o)) [ Some next ↦ (tt, ordered_run-IsOrderedFrom n m (record s { now = next })) | None ↦ (tt, tt) ]
     ] refl)
 
 take-none : (n : ℕ) → let none : List Entry = [] in take n none ≡ none
@@ -138,15 +135,15 @@ only_finish m s entry entries at is first horizon tail =
     ∙ sym (ordered_run-by (length entries) m s ∙ ap (run_by (length entries) m s) first ∙ ap (quiet_run (length entries) m s) horizon)
 
 -- a run that takes the first action each time is the ordered run of its length
-ordered_run-only : (m : Machine) (s : State) (entries : List Entry) → IsRunFrom m (at s) entries → IsOrderedFrom m (at s) entries → entries ≡ ordered_run (length entries) m s
+ordered_run-only : (m : Machine) (s : State) (entries : List Entry) → IsRunFrom m (open_at s) entries → IsOrderedFrom m (open_at s) entries → entries ≡ ordered_run (length entries) m s
 ordered_run-only m s [] run ordered = refl
 ordered_run-only m s (entry ∷ entries) run ordered =
-    elim (action_of entry.event) as (λ o. action_of entry.event ≡ o → IsNextEvent m s entry.event o → TakesFirst m s o → IsRunFrom m (after_event m entry.event o (at s)) entries → IsOrderedFrom m (after_event m entry.event o (at s)) entries → entry ∷ entries ≡ ordered_run (suc (length entries)) m s) [
+    elim (action_of entry.event) as (λ o. action_of entry.event ≡ o → IsNextEvent m s entry.event o → TakesFirst m s o → IsRunFrom m (after_event m entry.event o (open_at s)) entries → IsOrderedFrom m (after_event m entry.event o (open_at s)) entries → entry ∷ entries ≡ ordered_run (suc (length entries)) m s) [
       | Some action ↦ λ is next first rest order. only_action m s entry entries action run.0.moment next.1 first (ordered_run-only m (after m s s.now action) entries rest order)
       | None ↦ λ is next first rest order. elim (quiet_event entry.event is) [
-        | inl finish ↦ only_finish m s entry entries run.0.moment finish next.0 (next.1 ∙ ap end_of finish) (no_more m (record { state = s; over = true }) entries refl (subst (λ e. IsRunFrom m (after_quiet (end_of e) (at s)) entries) finish rest))
+        | inl finish ↦ only_finish m s entry entries run.0.moment finish next.0 (next.1 ∙ ap end_of finish) (no_more m (record { state = s; over = true }) entries refl (subst (λ e. IsRunFrom m (after_quiet (end_of e) (open_at s)) entries) finish rest))
         | inr end ↦ only_end m s entry entries end.0 run.0.moment end.1 next.0 (next.1 ∙ ap end_of end.1)
-            (ordered_run-only m (record s { now = end.0.0 }) entries (subst (λ e. IsRunFrom m (after_quiet (end_of e) (at s)) entries) end.1 rest) (subst (λ e. IsOrderedFrom m (after_quiet (end_of e) (at s)) entries) end.1 order))
+            (ordered_run-only m (record s { now = end.0.0 }) entries (subst (λ e. IsRunFrom m (after_quiet (end_of e) (open_at s)) entries) end.1 rest) (subst (λ e. IsOrderedFrom m (after_quiet (end_of e) (open_at s)) entries) end.1 order))
       ]
     ] refl run.0.event ordered.0 run.1 ordered.1
 
@@ -162,3 +159,8 @@ run_by-is_ordered m entries e = record {
 -- the ordered run is an ordered run, however many entries it is allowed
 pub ordered_run-is_ordered : (most : ℕ) (m : Machine) → IsOrderedRun m (ordered_run most m (opening m))
 ordered_run-is_ordered most m = record { run = ordered_run-IsRunFrom most m (opening m); ordered = ordered_run-IsOrderedFrom most m (opening m) }
+
+-- an entry that takes the first action goes on with an ordered run
+pub IsOrderedFrom-append : (m : Machine) (from : Reached) (entries : List Entry) (e : Entry) → IsOrderedFrom m from entries → TakesFirst m (after_entries m from entries).state (action_of e.event) → IsOrderedFrom m from (entries ++ e ∷ [])
+IsOrderedFrom-append m from [] e ordered first = (first, tt)
+IsOrderedFrom-append m from (x ∷ entries) e ordered first = (ordered.0, IsOrderedFrom-append m (after_entry m from x) entries e ordered.1 first)

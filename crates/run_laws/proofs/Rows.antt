@@ -2,7 +2,7 @@
 use Rattle.std.proofs.Common.{◌≡◌, ℕ, ◌/◌, ◌%◌, Bool, true, false, List, [], ◌∷◌, ◌++◌, refl, subst, sym, inl}
 use Rattle.std.specs.Prelude.{Option, Some, None, nat_le, ◌&&◌, ◌||◌, not, is_none, is_some, slice_get, map, option_map}
 use Rattle.std.specs.List.{list_any, list_all}
-use Rattle.sched_base.specs.Numbers.{moment}
+use Rattle.sched_base.specs.Numbers.{moment, has_come}
 use Rattle.sched_base.specs.declared.Moment.{Moment}
 use Rattle.sched_base.specs.declared.UnitId.{UnitId}
 use Rattle.sched_base.specs.declared.VcpuId.{VcpuId}
@@ -23,13 +23,15 @@ use Rattle.sched_model.specs.declared.state.RtdsUnit.{RtdsUnit}
 use Rattle.sched_model.specs.declared.work.StallLine.{StallLine}
 use Rattle.sched_model.specs.declared.work.CommandLine.{CommandLine}
 use Rattle.sched_model.specs.Places.{at_place, numbered_items, test_at, first_place, has_unit}
-use Rattle.sched_model.specs.State.{has_come, is_up}
+use Rattle.sched_model.specs.State.{is_up}
 use Rattle.sched_model.specs.EligibleUnits.{rtds_unit}
 use Rattle.sched_model.specs.Policy as policy
 use Rattle.sched_model.specs.Pool.{first_up, lowest_up, processor_of, vcpu_of, guest_of, done_at, is_held, is_open, core_of, enabled_in}
 use Rattle.sched_model.specs.Actions.{home_of}
 use Rattle.sched_model.specs.Machine.{joined_lists, some_of, core_moments, vcpu_moments, records_moments, pool_moments, moments, free_ready, enabled_at_home, is_enabled, is_move_under_way}
-use Rattle.run_laws.proofs.Named.{Has, Has-left, Has-right, Has-map, Has-joined, Has-placed, Has-filter_map-placed, Has-first, Has-second}
+use Rattle.run_laws.proofs.Named.{Has-map, Has-joined, Has-placed, Has-filter_map-placed, Has-first, Has-second}
+use Rattle.sched_base.proofs.Lists.{Has-left, Has-right}
+use Rattle.sched_base.specs.Lists.{Has}
 use Rattle.run_laws.proofs.Awaits.{Awaits, Awaits-fixed, Awaits-moment, Awaits-wider, Awaits-and, Awaits-or, Awaits-there}
 
 -- what a core of the pool names, the pool names

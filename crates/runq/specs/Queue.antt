@@ -1,7 +1,6 @@
 -- A run queue: units in order of their keys, then of arrival.
 use Rattle.std.specs.Prelude.{ℕ, ◌+◌, ◌-◌, ℤ, List, [], length, map}
 use Rattle.sched_base.specs.declared.UnitId.{UnitId}
-use Rattle.sched_base.specs.Numbers.{domain}
 use Rattle.arrival_queue.specs.declared.key.Key.{Key}
 use Rattle.arrival_queue.specs.Queues.{Queued, queued_unit, list_with, list_without, rank_in, closed_up}
 
@@ -29,7 +28,3 @@ after_rekey q u key = record { units = list_with (queued_unit u (plain key) (ran
 -- no unit, and room for so many
 abbrev pub empty_queue : ℕ → Queue
 empty_queue units = record { units = []; spare = units }
-
--- the first unit of a domain
-abbrev pub unit_id : ℕ → UnitId
-unit_id d = record { dom = domain d; n = 0 }

@@ -4,3 +4,4 @@ pub mod Credit2Numbers
 pub mod RtdsNumbers
 pub mod Units
 pub mod CoreSets
+pub mod Lists

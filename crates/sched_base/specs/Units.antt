@@ -3,6 +3,10 @@ use Rattle.std.specs.Prelude.{ℕ, ◌+◌, ◌*◌, ◌==◌, ◌&&◌, Bool}
 use Rattle.sched_base.specs.declared.UnitId.{UnitId}
 use Rattle.sched_base.specs.Numbers.{domain}
 
+-- the unit n of the domain d
+abbrev pub unit_id : ℕ → ℕ → UnitId
+unit_id d n = record { dom = domain d; n = n }
+
 -- the number of a unit; two units of one number are the same
 abbrev pub number_of : UnitId → ℕ
 number_of u = u.dom.0 * 256 + u.n
@@ -13,4 +17,4 @@ same_unit u w = u.dom.0 == w.dom.0 && u.n == w.n
 
 -- stands where there is no unit to name
 abbrev pub no_unit : UnitId
-no_unit = record { dom = domain 0; n = 0 }
+no_unit = unit_id 0 0

@@ -2,6 +2,7 @@
 use Rattle.std.specs.Prelude.{◌≡◌, ℕ, suc, Bool, true, List, [], Option, Result, Err, length}
 use Rattle.sched_base.specs.Numbers.{moment, span, processor, domain as domain_number, pool as pool_number}
 use Rattle.sched_base.specs.declared.UnitId.{UnitId}
+use Rattle.sched_base.specs.Units.{unit_id}
 use Rattle.sched_base.specs.declared.VcpuId.{VcpuId}
 use Rattle.sched_base.specs.declared.Span.{Span}
 use Rattle.sched_base.specs.declared.Cores.{Cores}
@@ -27,7 +28,7 @@ use Rattle.sched_model.specs.Laws.{ordered_run_is_sound}
 
 -- the unit n of the domain d
 abbrev pub unit : ℕ → ℕ → UnitId
-unit d n = record { dom = domain_number d; n = n }
+unit = unit_id
 
 -- the vCPU n of the domain d
 abbrev pub vcpu : ℕ → ℕ → VcpuId

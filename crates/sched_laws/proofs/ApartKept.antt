@@ -23,8 +23,8 @@ use Rattle.sched_model.specs.Machine.{is_enabled, after, after_at_home, after_st
 use Rattle.sched_laws.specs.EachPlace.{EachAt}
 use Rattle.sched_laws.proofs.EachPlace.{EachAt-change_at, EachAt-change_to, EachAt-put_at, read_put_at, read_clear_at, by_option, by_cond}
 use Rattle.sched_laws.proofs.Lists.{some-test_at, test_at-some, some_is, is_some_at}
-use Rattle.sched_laws.proofs.Kept.{IsApart, IsStayingAction, kept_change, kept_staying}
-use Rattle.sched_laws.specs.StateLaws.{has_core_at, has_domain_at}
+use Rattle.sched_laws.proofs.Kept.{IsApart, kept_change, kept_staying}
+use Rattle.sched_laws.specs.StateLaws.{has_core_at, has_domain_at, MovesNothing}
 use Rattle.sched_laws.proofs.Apart.{HasOnly, only_inside, only_empty, only_with_domain}
 
 -- each pool has only these
@@ -98,7 +98,7 @@ free_stall g t (Some l) s = free_stalled g l.cpu.0 _ s
 free_at_home : (g t : ℕ) (action : Action) (s : State) → FreeOf s (after_at_home g s t action)
 free_at_home g t action s = by_option (FreeOf s) (home_of g s action) _ _ (λ is. free_itself s) (λ i is. free_itself s)
 
-free_staying : (m : Machine) (s : State) (t : ℕ) (action : Action) → IsStayingAction action → FreeOf s (after m s t action)
+free_staying : (m : Machine) (s : State) (t : ℕ) (action : Action) → MovesNothing action → FreeOf s (after m s t action)
 free_staying m s t Stall stays = free_stall m.config.granularity t (slice_get m.work.stalls s.next_stall) s
 free_staying m s t Xl stays = by_option (FreeOf s) (slice_get m.work.commands s.next_command) _ _ (λ is. free_itself s) (λ line is. free_command m t line s)
 free_staying m s t (Moved r) stays = absurd stays
@@ -106,7 +106,7 @@ free_staying m s t (DomMoved d) stays = absurd stays
 free_staying m s t action stays = free_at_home m.config.granularity t action s
 
 -- the pools have what they had, and what is free was free
-apart_staying : (m : Machine) (s : State) (t : ℕ) (action : Action) → IsStayingAction action → is_enabled m s t action ≡ true → IsApart s → IsApart (after m s t action)
+apart_staying : (m : Machine) (s : State) (t : ℕ) (action : Action) → MovesNothing action → is_enabled m s t action ≡ true → IsApart s → IsApart (after m s t action)
 apart_staying m s t action stays on apart =
     let C : ℕ → ℕ → Type 0 = λ i r. has_core_at s i r ≡ true in
     let D : ℕ → ℕ → Type 0 = λ i d. has_domain_at s i d ≡ true in

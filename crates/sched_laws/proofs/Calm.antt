@@ -3,7 +3,7 @@ use Rattle.std.proofs.Common.{◌≡◌, ◌≢◌, ℕ, Bool, true, false, not,
 use Rattle.std.specs.Prelude.{Option, Some, None, is_some, slice_get, ◌&&◌, ◌||◌, ◌==◌, ◌/◌, ◌%◌, slice_index_or, bit_and}
 use Rattle.std.specs.List.{list_any, AllByRecursion}
 use Rattle.std.proofs.lemmas.Bool.{eq-eqb, not-true, and_from}
-use Rattle.sched_base.specs.Numbers.{core_set, domain}
+use Rattle.sched_base.specs.Numbers.{core_set, domain, has_come}
 use Rattle.sched_base.specs.declared.UnitId.{UnitId}
 use Rattle.sched_base.specs.declared.Cores.{Cores}
 use Rattle.sched_model.specs.declared.state.Processor.{Processor}
@@ -13,7 +13,7 @@ use Rattle.sched_model.specs.declared.state.Pool.{Pool}
 use Rattle.sched_model.specs.declared.state.Scheduler.{Scheduler}
 use Rattle.sched_model.specs.declared.state.Records.{Records}
 use Rattle.sched_model.specs.declared.state.RtdsUnit.{RtdsUnit}
-use Rattle.sched_model.specs.State.{has_come, has_core}
+use Rattle.sched_model.specs.State.{has_core}
 use Rattle.sched_model.specs.declared.state.Records.TheVariants.{Credit2Pool, RtdsPool, ArincPool, NullPool}
 use Rattle.sched_model.specs.EligibleUnits.{is_eligible, is_allowed, cores_of, passes, rtds_unit}
 use Rattle.sched_model.specs.Policy as policy
@@ -26,7 +26,8 @@ use Rattle.sched_model.specs.Laws.{is_more_urgent}
 use Rattle.sched_model.proofs.PlaceLemmas.{cores_from-change_each, cores_from-change_at}
 use Rattle.sched_laws.specs.EachPlace.{EachAt, EachPlace}
 use Rattle.sched_laws.proofs.EachPlace.{EachAt-change_at, read_change_each, by_cond}
-use Rattle.sched_laws.proofs.Lists.{AllByRecursion-map, none_passes, at_numbered}
+use Rattle.sched_laws.proofs.Lists.{none_passes, at_numbered}
+use Rattle.sched_base.proofs.Lists.{AllByRecursion-map}
 use Rattle.sched_laws.proofs.OwnUnits.{moving_not_staying}
 use Rattle.sched_laws.specs.PoolFacts.{UnitsAreOwn, IsStaying}
 use Rattle.sched_laws.proofs.Due.{window_of}

@@ -17,7 +17,7 @@ use Rattle.sched_model.specs.Policy.{decision_of, decision_by, arinc_decision}
 use Rattle.sched_model.specs.Credit2 as credit2
 use Rattle.sched_model.specs.Rtds as rtds
 use Rattle.sched_model.specs.NullScheduler as null
-use Rattle.sched_laws.proofs.Lists.{AllByRecursion-filter}
+use Rattle.sched_base.proofs.Lists.{AllByRecursion-filter}
 use Rattle.sched_laws.proofs.EachPlace.{by_option, by_cond}
 use Rattle.sched_base.proofs.Bools.{and_left, and_right}
 use Rattle.sched_laws.specs.PoolFacts.{IfUnit}

@@ -1,5 +1,5 @@
 -- How often something stands in a list and at places.
-use Rattle.std.proofs.Common.{◌≡◌, ◌≢◌, ◌≤◌, ◌+◌, ℕ, zero, suc, Bool, true, false, List, [], ◌∷◌, ◌++◌, refl, arith, subst, sym, ◌∙◌, ap, cond}
+use Rattle.std.proofs.Common.{◌≡◌, ◌≢◌, ◌<◌, ◌≤◌, ◌+◌, ℕ, zero, suc, Bool, true, false, List, [], ◌∷◌, ◌++◌, refl, arith, subst, sym, ◌∙◌, ap, cond}
 use Rattle.std.specs.Prelude.{Option, Some, None, filter, sum_by, count_by, ◌||◌, not}
 use Rattle.std.proofs.lemmas.Bool.{or_from}
 use Rattle.sched_base.proofs.Bools.{or_left, or_right}
@@ -7,15 +7,23 @@ use Rattle.std.specs.List.{list_any, AllByRecursion}
 use Rattle.std.proofs.lemmas.List.Sums.{sum_by-cons}
 use Rattle.std.proofs.Math.Decide.{dec_le}
 use Rattle.sched_base.specs.declared.UnitId.{UnitId}
-use Rattle.sched_model.specs.Places.{at_place, put_at, clear_at, change_at, change_each, numbered_items, has_unit, without_unit, same_unit}
+use Rattle.sched_model.specs.Places.{at_place, put_at, clear_at, change_at, change_each, numbered_items, has_unit, without_unit, is_unit, same_unit}
 use Rattle.sched_laws.specs.EachPlace.{EachPlace}
 use Rattle.sched_laws.proofs.Choices.{same_unit_same}
-use Rattle.sched_laws.specs.Counts.{total, one, times}
+use Rattle.sched_laws.specs.Counts.{total, total_over, one, times}
 
 pub total_is : {X : Type 0} (f : X → ℕ) (n : ℕ) (places : List (Option X)) → sum_by (λ (e : ℕ × X). f e.1) (numbered_items n places) ≡ total f places
 total_is f n [] = refl
 total_is f n (None ∷ places) = total_is f (suc n) places
 total_is {X} f n (Some x ∷ places) = sum_by-cons (λ (e : ℕ × X). f e.1) (n, x) (numbered_items (suc n) places) ∙ ap (λ k. f x + k) (total_is f (suc n) places)
+
+-- a sum of numbers that are at most others
+pub total_over_le : (n : ℕ) (f g : ℕ → ℕ) → ((r : ℕ) → r < n → f r ≤ g r) → total_over n f ≤ total_over n g
+total_over_le zero f g below = omega arith
+total_over_le (suc n) f g below =
+    let a = total_over_le n f g (λ r low. below r (omega (arith, low))) in
+    let b = below n (omega arith) in
+    omega (arith, a, b)
 
 module _ {X : Type 0} (f : X → ℕ) where
   pub total-change_at : (i : ℕ) (h : X → X) (places : List (Option X)) (x : X) → at_place places i ≡ Some x → total f (change_at i h places) + f x ≡ total f places + f (h x)
@@ -121,6 +129,9 @@ some_numbered {X} test n (Some y ∷ places) found =
 
 pub same_unit_refl : (u : UnitId) → same_unit u u ≡ true
 same_unit_refl u = grind arith
+
+pub is_that_unit : (o : Option UnitId) (u : UnitId) → o ≡ Some u → is_unit o u ≡ true
+is_that_unit o u is = ap (λ (x : Option UnitId). is_unit x u) is ∙ same_unit_refl u
 
 pub same_unit_other : (u w : UnitId) → same_unit u w ≡ false → u ≢ w
 same_unit_other u w other e = (let same : same_unit u w ≡ true = subst (λ (x : UnitId). same_unit u x ≡ true) e (same_unit_refl u) in cc)

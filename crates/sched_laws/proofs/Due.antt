@@ -16,7 +16,6 @@ use Rattle.sched_model.specs.declared.state.Records.{Records}
 use Rattle.sched_model.specs.declared.state.Credit2Records.{Credit2Records}
 use Rattle.sched_model.specs.declared.state.ArincRecords.{ArincRecords}
 use Rattle.sched_model.specs.declared.state.RtdsUnit.{RtdsUnit}
-use Rattle.sched_model.specs.State.{has_come}
 use Rattle.sched_model.specs.declared.state.Records.TheVariants.{Credit2Pool, RtdsPool, ArincPool}
 use Rattle.sched_model.specs.Opening.{fresh_core}
 use Rattle.sched_model.specs.Arinc.{window_at, window_unit, present_window}
@@ -29,7 +28,7 @@ use Rattle.sched_model.specs.Pool.{change_core, change_cores_of, decided_core as
 use Rattle.std.proofs.lemmas.List.{length-map}
 use Rattle.sched_laws.specs.EachPlace.{EachPlace}
 use Rattle.sched_laws.proofs.EachPlace.{EachPlace-change_at, EachPlace-put_at, EachPlace-clear_at, read_change_each, by_option, by_test}
-use Rattle.sched_base.specs.Numbers.{span}
+use Rattle.sched_base.specs.Numbers.{span, has_come}
 use Rattle.sched_base.specs.declared.Span.{Span}
 use Rattle.std.specs.Prelude.{unwrap_or}
 use Rattle.sched_model.specs.Commands.{set_rtds_unit}

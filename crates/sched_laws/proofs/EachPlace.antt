@@ -1,6 +1,6 @@
 -- What holds of everything that stands at a place, and the changes that keep it.
 use Rattle.std.proofs.Common.{slice_set, ◌<◌, length, ◌≡◌, ◌≢◌, ◌+◌, ℕ, zero, suc, Bool, true, false, List, [], ◌∷◌, refl, arith, ap, subst, sym, ◌∙◌, ◌⊎◌, inl, inr}
-use Rattle.std.specs.Prelude.{Option, Some, None, option_map, replicate, cond}
+use Rattle.std.specs.Prelude.{Option, Some, None, option_map, replicate, cond, slice_index_or}
 use Rattle.sched_laws.specs.EachPlace.{EachAt, EachPlace}
 use Rattle.sched_model.specs.Places.{at_place, put_at, clear_at, change_at, change_each, first_place}
 
@@ -188,3 +188,9 @@ pub at_place-replicate : {X : Type 0} (n i : ℕ) → at_place {X = X} (replicat
 at_place-replicate zero i = refl
 at_place-replicate (suc n) zero = refl
 at_place-replicate (suc n) (suc i) = at_place-replicate n i
+
+-- what was read at a place has what each has
+pub place_fits : {X : Type 0} (P : X → Type 0) (places : List (Option X)) (i : ℕ) (o : Option X) (x : X) → EachPlace P places → i < length places → o ≡ slice_index_or places i o → o ≡ Some x → P x
+place_fits P [] i o x each inside read is = absurd (omega (arith, inside))
+place_fits P (p ∷ places) zero o x each inside read is = each 0 x (sym read ∙ is)
+place_fits P (p ∷ places) (suc i) o x each inside read is = place_fits P places i o x (λ j y at. each (suc j) y at) (omega (arith, inside)) read is

@@ -40,6 +40,14 @@ pub record LikePlaces {X : Type 0} (R : X → X → Type 0) (old next : List (Op
   pub count : length next ≡ length old
   pub at : (i : ℕ) → LikePlace R (at_place old i) (at_place next i)
 
+-- the core has the same cur
+abbrev pub SameCur : Resource → Resource → Type 0
+SameCur c d = d.cur ≡ c.cur
+
+-- each core that has a unit in the first row has it in the second
+abbrev pub Stays : List (Option Resource) → List (Option Resource) → Type 0
+Stays old new = (r : ℕ) (c : Resource) (u : UnitId) → at_place old r ≡ Some c → c.cur ≡ Some u → (d : Resource) × (at_place new r ≡ Some d) × (d.cur ≡ Some u)
+
 module _ {X : Type 0} (R : X → X → Type 0) where
   like_itself : ((x : X) → R x x) → (o : Option X) → LikePlace R o o
   like_itself same None = tt

@@ -29,7 +29,7 @@ use Rattle.sched_model.specs.declared.config.ParamChange.TheVariants as changes
 use Rattle.sched_model.specs.declared.work.CommandLine.{CommandLine}
 use Rattle.sched_model.specs.declared.work.StallLine.{StallLine}
 use Rattle.sched_model.specs.Machine.{is_enabled, after, after_at_home, after_stall, after_command, with_stall_end, verdict, settled_at}
-use Rattle.sched_laws.specs.StateLaws.{has_core_at, has_domain_at}
+use Rattle.sched_laws.specs.StateLaws.{has_core_at, has_domain_at, MovesNothing}
 use Rattle.sched_laws.specs.EachPlace.{EachAt, EachPlace}
 use Rattle.sched_laws.proofs.EachPlace.{EachAt-change_at, EachAt-put_at, EachAt-clear_at, by_option, by_cond}
 
@@ -63,12 +63,6 @@ pub record IsApart (s : State) : Type 0 where
   pub cores : (i j r : ℕ) → has_core_at s i r ≡ true → has_core_at s j r ≡ true → i ≡ j
   pub domains : (i j d : ℕ) → has_domain_at s i d ≡ true → has_domain_at s j d ≡ true → i ≡ j
   pub free : (i r : ℕ) → is_some (at_place s.free r) ≡ true → has_core_at s i r ≡ true → ⊥
-
--- all but the moves of cores and domains
-abbrev pub IsStayingAction : Action → Type 0
-IsStayingAction (Moved r) = ⊥
-IsStayingAction (DomMoved d) = ⊥
-IsStayingAction _ = Unit {0}
 
 -- what passes the test at a place
 pub passes_at : {X : Type 0} (places : List (Option X)) (i : ℕ) (test : X → Bool) (x : X) → at_place places i ≡ Some x → test_at places i test ≡ true → test x ≡ true
@@ -144,7 +138,7 @@ module _ (m : Machine) (I : ℕ → Pool → Type 0) (kept : (i : ℕ) → IsKep
   kept_stall t (Some l) s each = kept_stalled m.config.granularity I kept l.cpu.0 _ s each
 
   -- an action after which each pool has the cores and domains that it had
-  pub kept_staying : (s : State) (t : ℕ) (action : Action) → IsStayingAction action → is_enabled m s t action ≡ true → EachAt I s.pools → EachAt I (after m s t action).pools
+  pub kept_staying : (s : State) (t : ℕ) (action : Action) → MovesNothing action → is_enabled m s t action ≡ true → EachAt I s.pools → EachAt I (after m s t action).pools
   kept_staying s t Stall stays on each = kept_stall t (slice_get m.work.stalls s.next_stall) s each
   kept_staying s t Xl stays on each = by_option (λ (next : State). EachAt I next.pools) (slice_get m.work.commands s.next_command) _ _ (λ is. each) (λ line is. kept_command t line s each)
   kept_staying s t (Moved r) stays on each = absurd stays

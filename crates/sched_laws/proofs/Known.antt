@@ -19,9 +19,11 @@ use Rattle.sched_model.specs.Pool as pools
 use Rattle.sched_model.specs.declared.action.Action.{Action}
 use Rattle.sched_model.specs.Pool.{enabled_in, after_in, change_domain, set_pending, unpause, set_params, without_domain, is_of_domain}
 use Rattle.sched_model.specs.declared.action.Action.TheVariants.{Moved, DomMoved, Wake, Block, Slice, Repl, Refill, Arrive, Decide, Leave, Save}
+use Rattle.sched_base.specs.Lists.{Has}
 use Rattle.sched_laws.specs.EachPlace.{EachPlace}
 use Rattle.sched_laws.proofs.EachPlace.{EachPlace-put_at, EachPlace-clear_at, EachPlace-empty, read_change_each, read_change_at, by_option, by_cond}
-use Rattle.sched_laws.proofs.Lists.{AllByRecursion-map, AllByRecursion-filter, none_passes, at_numbered, some-test_at, test_at-change_at_other, test_at-clear_at}
+use Rattle.sched_laws.proofs.Lists.{none_passes, at_numbered, some-test_at, test_at-change_at_other, test_at-clear_at}
+use Rattle.sched_base.proofs.Lists.{AllByRecursion-map, AllByRecursion-filter}
 use Rattle.sched_laws.proofs.Counts.{total-change_each, total-put_at_empty, total-clear_at, total_none, times-filter_yes, times-filter_no}
 use Rattle.sched_laws.specs.Counts.{total, one}
 use Rattle.sched_laws.proofs.Awake.{part_past}
@@ -40,12 +42,7 @@ use Rattle.sched_laws.specs.PoolFacts.{core_places, CurRuns, OneBut, OnePlace}
 use Rattle.sched_base.proofs.Bools.{and_left, and_right, or_left, or_more}
 use Rattle.sched_laws.specs.PoolFacts.{IsKnownPool}
 
--- the number is one of the list
-abbrev pub Member : ℕ → List ℕ → Type 0
-Member n [] = ⊥
-Member n (k ∷ ks) = (n ≡ k) ⊎ Member n ks
-
-member_numbers : (k count n : ℕ) → k ≤ n → n < k + count → Member n (numbers_from k count)
+member_numbers : (k count n : ℕ) → k ≤ n → n < k + count → Has n (numbers_from k count)
 member_numbers k zero n low high = absurd (omega (arith, low, high))
 member_numbers k (suc count) n low high =
     elim (ℕ_discrete n k) [ yes e ↦ inl e | no e ↦ inr (member_numbers (suc k) count n (omega (arith, low, e)) (omega (arith, high))) ]
@@ -125,11 +122,11 @@ module _ (g : ℕ) (some : 0 < g) where
       EachAt-change_to0 P Q h cores each to j y at = (let r = read_change_each j h cores y at in subst Q r.2 (to j r.0 (each j r.0 r.1)))
 
   -- the domain's units that are runnable and off join the queue
-  one_queue_units : (d : ℕ) (ns : List ℕ) (pool : Pool) → OneBut g (λ w. (w.dom.0 ≡ d) × Member w.n ns) pool → One0 (pools.queue_units g d ns pool)
+  one_queue_units : (d : ℕ) (ns : List ℕ) (pool : Pool) → OneBut g (λ w. (w.dom.0 ≡ d) × Has w.n ns) pool → One0 (pools.queue_units g d ns pool)
   one_queue_units d [] pool one = record { most = one.most; runs = λ u runs. elim (one.runs u runs) [ inl has ↦ inl has | inr rest ↦ absurd rest.1 ]; waits = one.waits; cur = one.cur }
   one_queue_units d (n ∷ ns) pool one =
       let u : UnitId = record { dom = domain_number d; n = n } in
-      let Rest : UnitId → Type 0 = λ w. (w.dom.0 ≡ d) × Member w.n ns in
+      let Rest : UnitId → Type 0 = λ w. (w.dom.0 ≡ d) × Has w.n ns in
       let split : OneBut g (λ w. (w ≡ u) ⊎ Rest w) pool = record {
         most = one.most;
         runs = λ w runs. elim (one.runs w runs) [
@@ -152,7 +149,7 @@ module _ (g : ℕ) (some : 0 < g) where
 
   -- the domain may run again: its units that may run wait
   one_unpaused : (d : ℕ) (domain : Domain) (pool : Pool) → at_place pool.domains d ≡ Some domain → One0 pool
-      → OneBut g (λ w. (w.dom.0 ≡ d) × Member w.n (numbers_from 0 (pools.unit_count g domain))) (change_domain d (λ x. record x { paused = false }) pool)
+      → OneBut g (λ w. (w.dom.0 ≡ d) × Has w.n (numbers_from 0 (pools.unit_count g domain))) (change_domain d (λ x. record x { paused = false }) pool)
   one_unpaused d domain pool at one =
       let f : Domain → Domain = λ x. record x { paused = false } in
       let more : (u : UnitId) → is_runnable g pool u ≡ true → runnable_among g (change_at d f pool.domains) u ≡ true =
@@ -190,7 +187,7 @@ module _ (g : ℕ) (some : 0 < g) where
 
   -- a domain joins: it had no unit here
   one_joined : (t d : ℕ) (domain : Domain) (params : DomParams) (pool : Pool) → at_place pool.domains d ≡ None → One0 pool
-      → OneBut g (λ w. (w.dom.0 ≡ d) × Member w.n (numbers_from 0 (pools.unit_count g domain))) (record pool { domains = put_at d domain pool.domains; scheduler = policy.join d (pools.unit_count g domain) params t pool.scheduler })
+      → OneBut g (λ w. (w.dom.0 ≡ d) × Has w.n (numbers_from 0 (pools.unit_count g domain))) (record pool { domains = put_at d domain pool.domains; scheduler = policy.join d (pools.unit_count g domain) params t pool.scheduler })
   one_joined t d domain params pool none one =
       let more : (u : UnitId) → is_runnable g pool u ≡ true → runnable_among g (put_at d domain pool.domains) u ≡ true =
       λ u runs. elim (ℕ_discrete u.dom.0 d) [

@@ -1,6 +1,6 @@
 -- What holds of each element of a list, and of what stands at a place.
-use Rattle.std.proofs.Common.{arith, length, ◌≡◌, ◌≢◌, ◌<◌, ℕ, zero, suc, Bool, true, false, List, [], ◌∷◌, ◌++◌, refl, subst, ap, cond, ◌⊎◌, inl, inr, ◌≤◌}
-use Rattle.std.specs.Prelude.{Option, Some, None, is_some, option_map, filter, ◌&&◌, ◌||◌, slice_get, slice_index_or}
+use Rattle.std.proofs.Common.{arith, length, ◌≡◌, ◌≢◌, ◌<◌, ℕ, zero, suc, Bool, true, false, List, [], ◌∷◌, ◌++◌, refl, subst, ap, ◌⊎◌, inl, inr, ◌≤◌}
+use Rattle.std.specs.Prelude.{Option, Some, None, is_some, option_map, ◌&&◌, ◌||◌, slice_get, slice_index_or}
 use Rattle.std.proofs.lemmas.Option.{slice_get-get_or}
 use Rattle.std.specs.List.{list_any, AllByRecursion}
 use Rattle.std.specs.Option.{IfSome}
@@ -13,25 +13,8 @@ use Rattle.sched_laws.specs.EachPlace.{EachPlace}
 use Rattle.sched_laws.proofs.EachPlace.{at_place-put_at_other, at_place-clear_at_other, at_place-clear_at}
 use Rattle.sched_base.specs.declared.Cores.{Cores}
 use Rattle.sched_base.specs.declared.Moment.{Moment}
-use Rattle.sched_model.specs.State.{has_come}
+use Rattle.sched_base.specs.Numbers.{has_come}
 use Rattle.sched_model.specs.Policy.{pinned_cores}
-
-pub AllByRecursion-map : {X : Type 0} (P Q : X → Type 0) → ((x : X) → P x → Q x) → (xs : List X) → AllByRecursion P xs → AllByRecursion Q xs
-AllByRecursion-map P Q to [] each = tt
-AllByRecursion-map P Q to (x ∷ xs) each = (to x each.0, AllByRecursion-map P Q to xs each.1)
-
-pub AllByRecursion-push : {X : Type 0} (P : X → Type 0) (xs : List X) (x : X) → AllByRecursion P xs → P x → AllByRecursion P (xs ++ x ∷ [])
-AllByRecursion-push P [] x each here = (here, tt)
-AllByRecursion-push P (y ∷ xs) x each here = (each.0, AllByRecursion-push P xs x each.1 here)
-
--- those that pass a test
-pub AllByRecursion-filter : {X : Type 0} (P Q : X → Type 0) (test : X → Bool) → ((x : X) → test x ≡ true → P x → Q x) → (xs : List X) → AllByRecursion P xs → AllByRecursion Q (filter test xs)
-AllByRecursion-filter P Q test to [] each = tt
-AllByRecursion-filter P Q test to (x ∷ xs) each =
-    elim (test x) as (λ b. test x ≡ b → AllByRecursion Q (cond b (x ∷ filter test xs) (filter test xs))) [
-      | true ↦ λ is. (to x is each.0, AllByRecursion-filter P Q test to xs each.1)
-      | false ↦ λ is. AllByRecursion-filter P Q test to xs each.1
-    ] refl
 
 -- none of the list passes, where none is found
 pub none_passes : {X : Type 0} (test : X → Bool) (xs : List X) → list_any test xs ≡ false → AllByRecursion (λ x. test x ≡ false) xs

@@ -20,7 +20,7 @@ use Rattle.sched_model.specs.Pool.{ask_of, decided_core, same_choice}
 use Rattle.sched_laws.specs.EachPlace.{EachAt}
 use Rattle.sched_laws.proofs.Records.{decided_is}
 use Rattle.sched_laws.proofs.EachPlace.{read_put_at, read_clear_at, by_test, by_cond}
-use Rattle.sched_laws.proofs.Lists.{AllByRecursion-map}
+use Rattle.sched_base.proofs.Lists.{AllByRecursion-map}
 use Rattle.sched_laws.proofs.Choices.{null_has}
 use Rattle.sched_laws.specs.PoolFacts.{IfUnit}
 use Rattle.sched_laws.proofs.Counts.{total_at, total_two, same_unit_other}

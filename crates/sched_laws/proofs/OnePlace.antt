@@ -26,7 +26,8 @@ use Rattle.sched_model.specs.Policy.{decision_of, after_decision, rtds_record}
 use Rattle.sched_model.specs.Pool as pools
 use Rattle.sched_model.specs.Pool.{settled_pool, home_cores, reconsidered_core, change_core, change_processor, change_vcpu, change_cores_of, set_pending, with_doing, queue_unit, started_on, decided_core, same_choice, ask_of, with_records, is_of_domain}
 use Rattle.sched_laws.proofs.EachPlace.{EachAt-change_to, EachPlace-change_at, EachPlace-put_at, EachPlace-change_each, by_option, by_test, by_cond}
-use Rattle.sched_laws.proofs.Lists.{AllByRecursion-map, AllByRecursion-push, AllByRecursion-filter, none_passes, at_numbered}
+use Rattle.sched_laws.proofs.Lists.{none_passes, at_numbered}
+use Rattle.sched_base.proofs.Lists.{AllByRecursion-map, AllByRecursion-push, AllByRecursion-filter}
 use Rattle.sched_laws.proofs.Choices.{is_unit_same, same_unit_same, decision_has}
 use Rattle.sched_laws.specs.PoolFacts.{IfUnit}
 use Rattle.sched_laws.proofs.Counts.{same_unit_refl, same_unit_other, total-change_at, total-change_at_same, total-change_each, total-put_at, total_at, total_two, total_none, times-push, times-filter_yes, times-filter_no, times_none, times_some}

@@ -22,7 +22,7 @@ use Rattle.sched_model.specs.declared.state.FreeCore.{FreeCore}
 use Rattle.sched_model.specs.State.{has_core, is_runnable}
 use Rattle.sched_model.specs.Pool as pools
 use Rattle.sched_model.specs.Pool.{with_domain, set_params, queue_units, queue_if_off}
-use Rattle.sched_model.specs.Opening.{opening, opening_free, opening_pool, opening_pools, with_domains, with_configured, with_pins, fresh_core, fresh_vcpu, core_count, most_pools}
+use Rattle.sched_model.specs.Opening.{opening, opening_free, opening_pool, opening_pools, with_domains, with_configured, with_pins, fresh_core, core_count, most_pools, fresh_domain}
 use Rattle.sched_laws.specs.EachPlace.{EachPlace}
 use Rattle.sched_laws.proofs.EachPlace.{read_put_at, is_empty, by_cond, EachPlace-empty}
 use Rattle.sched_model.specs.CheckedMachine.{IsChecked, IsCheckedDomain, DomParamsPass}
@@ -63,17 +63,13 @@ with_pins-domains d n pins pool = pins_keep (λ p. p.domains ≡ pool.domains) (
 pub with_pins-resources : (d n : ℕ) (pins : List Cores) (pool : Pool) → (with_pins d n pins pool).resources ≡ pool.resources
 with_pins-resources d n pins pool = pins_keep (λ p. p.resources ≡ pool.resources) (λ e k cores p same. same) d n pins pool refl
 
--- the domain of the file
-abbrev pub joining_domain : DomConfig → Domain
-joining_domain joining = record { paused = false; moving = None; vcpus = map fresh_vcpu joining.guests }
-
-pub with_configured-domains : (g d : ℕ) (joining : DomConfig) (pool : Pool) → (with_configured g d joining pool).domains ≡ put_at d (joining_domain joining) pool.domains
+pub with_configured-domains : (g d : ℕ) (joining : DomConfig) (pool : Pool) → (with_configured g d joining pool).domains ≡ put_at d (fresh_domain joining) pool.domains
 with_configured-domains g d joining pool =
-    with_pins-domains d 0 joining.pins (with_domain g 0 d (joining_domain joining) joining.params pool) ∙ with_domain-domains g 0 d (joining_domain joining) joining.params pool
+    with_pins-domains d 0 joining.pins (with_domain g 0 d (fresh_domain joining) joining.params pool) ∙ with_domain-domains g 0 d (fresh_domain joining) joining.params pool
 
 pub with_configured-resources : (g d : ℕ) (joining : DomConfig) (pool : Pool) → (with_configured g d joining pool).resources ≡ pool.resources
 with_configured-resources g d joining pool =
-    with_pins-resources d 0 joining.pins (with_domain g 0 d (joining_domain joining) joining.params pool) ∙ with_domain-resources g 0 d (joining_domain joining) joining.params pool
+    with_pins-resources d 0 joining.pins (with_domain g 0 d (fresh_domain joining) joining.params pool) ∙ with_domain-resources g 0 d (fresh_domain joining) joining.params pool
 
 -- what each domain keeps that joins at its home, all do
 pub domains_keep : (g i : ℕ) (I : Pool → Type 0) (d : ℕ) (domains : List DomConfig)
@@ -90,14 +86,14 @@ EmptyFrom d pool = (e : ℕ) → d ≤ e → at_place pool.domains e ≡ None
 
 EmptyFrom-configured : (g d : ℕ) (joining : DomConfig) (pool : Pool) → EmptyFrom d pool → EmptyFrom (suc d) (with_configured g d joining pool)
 EmptyFrom-configured g d joining pool empty e past =
-    rw with_configured-domains (is_empty (at_place (put_at d (joining_domain joining) pool.domains) e) (λ x at. elim (read_put_at d e (joining_domain joining) pool.domains x at) [
+    rw with_configured-domains (is_empty (at_place (put_at d (fresh_domain joining) pool.domains) e) (λ x at. elim (read_put_at d e (fresh_domain joining) pool.domains x at) [
       | inl was ↦ (let none : at_place pool.domains e ≡ None = empty e (omega arith) in cc)
       | inr r ↦ absurd (omega (arith, r.0))
     ]))
 
 module _ (g : ℕ) (I : Pool → Type 0) (kept : IsKept g I) where
   kept_configured : (d : ℕ) (joining : DomConfig) (pool : Pool) → at_place pool.domains d ≡ None → I pool → I (with_configured g d joining pool)
-  kept_configured d joining pool none here = pins_keep I (λ e n cores. kept.inside.changes (changes.Pin (domain_number e) (Some n) cores) 0) d 0 joining.pins _ (kept.domain_comes 0 d (joining_domain joining) joining.params pool refl none here)
+  kept_configured d joining pool none here = pins_keep I (λ e n cores. kept.inside.changes (changes.Pin (domain_number e) (Some n) cores) 0) d 0 joining.pins _ (kept.domain_comes 0 d (fresh_domain joining) joining.params pool refl none here)
 
   kept_domains : (i d : ℕ) (domains : List DomConfig) (pool : Pool) → EmptyFrom d pool → I pool → I (with_domains g i d domains pool)
   kept_domains i d [] pool empty here = here
@@ -150,7 +146,7 @@ with_domains-home g i d (joining ∷ domains) pool e x at =
     with_domains-step g i d joining domains pool e y at =
         by_cond (λ (p : Pool). at_place p.domains e ≡ Some y → ((z : Domain) × (at_place pool.domains e ≡ Some z)) ⊎ ((j : ℕ) × (c : DomConfig) × (e ≡ d + j) × (slice_get (joining ∷ domains) j ≡ Some c) × (c.home.0 ≡ i)))
         (joining.home.0 == i) (with_configured g d joining pool) pool
-        (λ is has. elim (read_put_at d e (joining_domain joining) pool.domains y (rw with_configured-domains at has)) [
+        (λ is has. elim (read_put_at d e (fresh_domain joining) pool.domains y (rw with_configured-domains at has)) [
           | inl was ↦ inl (y, was)
           | inr r ↦ inr (0, joining, omega (arith, r.0), refl, grind (arith, is))
         ])
@@ -179,7 +175,7 @@ module _ (m : Machine) (I : Pool → Type 0) (kept : IsKept m.config.granularity
 
 -- what the pins keep, and each checked domain that joins, the domains of the file do
 pub opened_keeps : (m : Machine) → IsChecked m → (i : ℕ) (p : PoolConfig) → slice_get m.config.pools i ≡ Some p → (I : Pool → Type 0)
-    → ((d : ℕ) (joining : DomConfig) (pool : Pool) → slice_get m.config.domains d ≡ Some joining → IsCheckedDomain m.config joining → DomParamsPass p.kind joining.params → I pool → I (with_domain m.config.granularity 0 d (joining_domain joining) joining.params pool))
+    → ((d : ℕ) (joining : DomConfig) (pool : Pool) → slice_get m.config.domains d ≡ Some joining → IsCheckedDomain m.config joining → DomParamsPass p.kind joining.params → I pool → I (with_domain m.config.granularity 0 d (fresh_domain joining) joining.params pool))
     → ((d n : ℕ) (cores : Cores) (pool : Pool) → I pool → I (set_params (changes.Pin (domain_number d) (Some n) cores) 0 pool)) → (pool : Pool) → I pool → I (with_domains m.config.granularity i 0 m.config.domains pool)
 opened_keeps m checked i p is I joins pins pool here =
     domains_keep m.config.granularity i I 0 m.config.domains (λ k joining next at home kept. (

@@ -21,7 +21,8 @@ use Rattle.sched_model.specs.Pool.{enabled_in, change_core, change_domain, chang
 use Rattle.sched_model.specs.declared.action.Action.TheVariants.{DomMoved}
 use Rattle.sched_laws.specs.EachPlace.{EachPlace}
 use Rattle.sched_laws.proofs.EachPlace.{EachPlace-change_at, EachPlace-put_at, EachPlace-clear_at, EachPlace-empty, by_test}
-use Rattle.sched_laws.proofs.Lists.{AllByRecursion-map, AllByRecursion-push, AllByRecursion-filter, none_passes, at_numbered, test_at-some, some-test_at, test_at-change_at, test_at-change_at_other, test_at-put_at, test_at-clear_at}
+use Rattle.sched_laws.proofs.Lists.{none_passes, at_numbered, test_at-some, some-test_at, test_at-change_at, test_at-change_at_other, test_at-put_at, test_at-clear_at}
+use Rattle.sched_base.proofs.Lists.{AllByRecursion-map, AllByRecursion-push, AllByRecursion-filter}
 use Rattle.sched_laws.proofs.Choices.{decision_has}
 use Rattle.sched_laws.specs.PoolFacts.{IfUnit}
 use Rattle.sched_laws.proofs.Kept.{IsKept, IsFresh}

@@ -15,7 +15,8 @@ use Rattle.sched_laws.specs.EachPlace.{EachPlace}
 use Rattle.sched_model.specs.CheckedMachine.{IsChecked}
 use Rattle.sched_laws.specs.StateLaws.{state_after, IsOfPool, PoolsKeepTheirOwn}
 use Rattle.sched_laws.proofs.EachPlace.{found_at, none_found, is_empty}
-use Rattle.sched_laws.proofs.Lists.{AllByRecursion-map, some-test_at, test_at-some, is_some_at}
+use Rattle.sched_laws.proofs.Lists.{some-test_at, test_at-some, is_some_at}
+use Rattle.sched_base.proofs.Lists.{AllByRecursion-map}
 use Rattle.sched_laws.proofs.Induction.{kept_by_runs}
 use Rattle.sched_laws.proofs.Kept.{IsApart, IsKept}
 use Rattle.sched_laws.proofs.Steps.{kept_after}

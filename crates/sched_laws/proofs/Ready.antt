@@ -15,7 +15,7 @@ use Rattle.sched_model.specs.declared.state.State.{State}
 use Rattle.sched_model.specs.declared.state.Pool.{Pool}
 use Rattle.sched_model.specs.declared.state.FreeCore.{FreeCore}
 use Rattle.sched_model.specs.State.{has_core, is_runnable}
-use Rattle.sched_model.specs.Opening.{opening_pool, empty_pool, with_pins, opening, opening_free, with_domains, with_configured, fresh_core, core_count}
+use Rattle.sched_model.specs.Opening.{opening_pool, empty_pool, with_pins, opening, opening_free, with_domains, with_configured, fresh_core, core_count, fresh_domain}
 use Rattle.sched_model.specs.declared.action.Action.{Action}
 use Rattle.sched_model.specs.Pool.{home_cores}
 use Rattle.sched_model.specs.Commands.{set_rtds_unit}
@@ -30,7 +30,7 @@ use Rattle.sched_laws.proofs.Kept.{IsApart}
 use Rattle.sched_laws.proofs.ApartKept.{apart_after}
 use Rattle.sched_laws.proofs.OwnUnits.{units_are_own}
 use Rattle.sched_laws.specs.PoolFacts.{UnitsAreOwn}
-use Rattle.sched_laws.proofs.Opened.{length_map_numbers, joining_domain, kept_opening, apart_opening, with_domains-resources, read_map, read_pools, pins_keep, domains_keep}
+use Rattle.sched_laws.proofs.Opened.{length_map_numbers, kept_opening, apart_opening, with_domains-resources, read_map, read_pools, pins_keep, domains_keep}
 use Rattle.std.proofs.lemmas.List.Elements.{recursion_from_All}
 use Rattle.sched_base.specs.declared.UnitId.{UnitId}
 use Rattle.sched_base.specs.declared.Cores.{Cores}
@@ -90,7 +90,7 @@ queue_units-windows g d (n ∷ ns) pool =
 
 with_configured-windows : (g d : ℕ) (joining : DomConfig) (pool : Pool) → SameWindows pool.scheduler.records (with_configured g d joining pool).scheduler.records
 with_configured-windows g d joining pool =
-    let x : Domain = joining_domain joining in
+    let x : Domain = fresh_domain joining in
     with_pins-windows d 0 joining.pins (with_domain g 0 d x joining.params pool)
     ∙ queue_units-windows g d (numbers_from 0 (unit_count g x)) (record pool { domains = put_at d x pool.domains; scheduler = join d (unit_count g x) joining.params 0 pool.scheduler })
     ∙ same_joined pool.scheduler.records joining.params d (unit_count g x) 0

@@ -4,11 +4,16 @@ use Rattle.std.proofs.Math.Decide.{ℕ_discrete}
 use Rattle.std.specs.Prelude.{Option, Some, None, is_some, slice_get, option_map}
 use Rattle.sched_base.specs.declared.UnitId.{UnitId}
 use Rattle.sched_model.specs.Places.{at_place, change_at, change_item, same_unit}
+use Rattle.sched_model.specs.declared.state.Records.TheVariants.{RtdsPool}
 use Rattle.sched_model.specs.declared.state.RtdsUnit.{RtdsUnit}
 use Rattle.sched_model.specs.EligibleUnits.{rtds_unit}
 use Rattle.sched_model.specs.Rtds.{burn_to, change_unit}
 use Rattle.sched_laws.proofs.EachPlace.{at_place-change_at, at_place-set_other, by_option}
 use Rattle.sched_laws.proofs.Lists.{slice_get-change_item, slice_get-change_item_other}
+
+-- the records of a pool are its own
+pub rtds_same : (a b : List (Option (List RtdsUnit))) → RtdsPool a ≡ RtdsPool b → a ≡ b
+rtds_same a b same = cc
 
 -- the unit's record after a change of it
 rtds_unit-changed : (u : UnitId) (f : RtdsUnit → RtdsUnit) (domains : List (Option (List RtdsUnit))) → rtds_unit (change_unit u f domains) u ≡ option_map f (rtds_unit domains u)

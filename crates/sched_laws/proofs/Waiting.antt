@@ -1,5 +1,5 @@
 -- The law of waiting: where nothing may happen, no core that may be used is pending, and no due has come.
-use Rattle.sched_base.specs.Numbers.{core, domain, processor}
+use Rattle.sched_base.specs.Numbers.{core, domain, processor, has_come}
 use Rattle.std.proofs.Common.{◌≡◌, ◌<◌, ◌≤◌, ℕ, zero, suc, Bool, true, false, not, List, [], ◌∷◌, ◌++◌, refl, arith, subst, sym, ap, inl, inr}
 use Rattle.std.specs.Prelude.{Option, Some, None, is_some, is_none, slice_get, length, map, ◌&&◌, ◌||◌, ◌+◌, ◌-◌, ◌*◌, ◌/◌, ◌%◌}
 use Rattle.std.specs.List.{list_any, list_all, AllByRecursion}
@@ -14,7 +14,7 @@ use Rattle.sched_model.specs.Places.{at_place, test_at, numbers_from}
 use Rattle.sched_model.specs.declared.machine.Machine.{Machine}
 use Rattle.sched_model.specs.declared.state.State.{State}
 use Rattle.sched_model.specs.declared.state.Pool.{Pool}
-use Rattle.sched_model.specs.State.{has_come, is_up}
+use Rattle.sched_model.specs.State.{is_up}
 use Rattle.sched_model.specs.Opening.{core_count}
 use Rattle.sched_model.specs.declared.action.Action.{Action}
 use Rattle.sched_model.specs.Pool.{enabled_in, home_cores, is_held, is_open, first_up, processor_of}

@@ -30,7 +30,7 @@ until_last start ahead last (e ∷ entries) fits =
       | false ↦ later
     ]
 
-abbrev cons_window : FrameEntry → ℕ → ℕ → ℕ → List FrameEntry → Bool → Window
+abbrev pub cons_window : FrameEntry → ℕ → ℕ → ℕ → List FrameEntry → Bool → Window
 cons_window e start ahead last entries b = elim b as (λ _. Window) [ true ↦ record { unit = Some (record { dom = e.dom; n = e.unit }); until = start + e.run.0 } | false ↦ window_from (start + e.run.0) (ahead - e.run.0) last entries ]
 
 same_window : (start other ahead more last last2 : ℕ) (entries : List FrameEntry) → start + ahead + more < (window_from start ahead last entries).until → (window_from other (ahead + more) last2 entries).unit ≡ (window_from start ahead last entries).unit

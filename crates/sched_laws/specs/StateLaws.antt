@@ -18,6 +18,8 @@ use Rattle.sched_model.specs.Pool.{unit_of}
 use Rattle.sched_model.specs.Actions.{home_of_core, home_of_domain}
 use Rattle.sched_model.specs.Runs.{run_start, after_entries}
 use Rattle.sched_laws.specs.EachPlace.{EachAt, EachPlace}
+use Rattle.sched_model.specs.declared.action.Action.{Action}
+use Rattle.sched_model.specs.declared.action.Action.TheVariants.{Moved, DomMoved}
 
 -- the state that the entries lead to
 abbrev pub state_after : Machine → List Entry → State
@@ -65,3 +67,9 @@ pub record UnitsHaveOnePlace (g : ℕ) (s : State) : Type 0 where
   pub runnable : (u : UnitId) → runs_somewhere g s u ≡ true → count s u ≡ 1
   pub waits : EachPlace (λ (pool : Pool). All (λ u. is_runnable g pool u ≡ true) pool.scheduler.queue) s.pools
   pub pending : EachPlace (λ (pool : Pool). EachPlace (λ (c : Resource). IfSome c.cur (λ u. is_runnable g pool u ≡ false → c.pending ≡ true)) pool.resources) s.pools
+
+-- the action moves no core and no domain
+abbrev pub MovesNothing : Action → Type 0
+MovesNothing (Moved r) = ⊥
+MovesNothing (DomMoved d) = ⊥
+MovesNothing _ = Unit {0}

@@ -40,10 +40,14 @@ abbrev pub vcpus_from : ℕ → List DomConfig → List VcpuId
 vcpus_from d [] = []
 vcpus_from d (domain ∷ domains) = map (λ n. record { dom = domain_number d; n = n }) (numbers_from 0 (length domain.guests)) ++ vcpus_from (suc d) domains
 
+-- how many units a domain of the file has, where a unit has g vCPUs
+abbrev pub configured_units : ℕ → DomConfig → ℕ
+configured_units g domain = (length domain.guests + g - 1) / g
+
 -- the units of all domains in order; the first domain of the list has the number d
 abbrev pub units_from : ℕ → ℕ → List DomConfig → List UnitId
 units_from g d [] = []
-units_from g d (domain ∷ domains) = map (λ n. record { dom = domain_number d; n = n }) (numbers_from 0 ((length domain.guests + g - 1) / g)) ++ units_from g (suc d) domains
+units_from g d (domain ∷ domains) = map (λ n. record { dom = domain_number d; n = n }) (numbers_from 0 (configured_units g domain)) ++ units_from g (suc d) domains
 
 -- every action there may be, in the order in which a run takes them
 abbrev pub candidates : Config → List Action

@@ -140,15 +140,21 @@ after_command m t line s =
 abbrev pub answer_of : Machine → State → CommandLine → Result Reply Refusal
 answer_of m s line = elim (verdict m s line) [ Err fault ↦ Err fault | Ok plan ↦ Ok (reply_of plan) ]
 
+-- the pool with the core, whose processors' stalls have these ends, and without it, looked at
+abbrev pub with_core : ℕ → ℕ → List Moment → Pool → Pool
+with_core t r ends pool = settled_pool t (record pool { resources = put_at r (fresh_core ends) pool.resources })
+
+abbrev pub without_core : ℕ → ℕ → Pool → Pool
+without_core t r pool = settled_pool t (record pool { resources = clear_at r pool.resources })
+
 -- a core of no pool joins the pool i
 abbrev pub with_core_in : ℕ → ℕ → ℕ → FreeCore → State → State
-with_core_in t r i c s =
-    change_pool i (λ pool. settled_pool t (record pool { resources = put_at r (fresh_core c.stall_ends) pool.resources })) (record s { free = clear_at r s.free })
+with_core_in t r i c s = change_pool i (with_core t r c.stall_ends) (record s { free = clear_at r s.free })
 
 -- a core of the pool i becomes free
 abbrev pub without_core_in : ℕ → ℕ → ℕ → Resource → State → State
 without_core_in t r i c s =
-    record (change_pool i (λ pool. settled_pool t (record pool { resources = clear_at r pool.resources })) s) {
+    record (change_pool i (without_core t r) s) {
       free = put_at r (record { target = None; stall_ends = map (λ p. p.stall_end) c.processors }) s.free;
     }
 

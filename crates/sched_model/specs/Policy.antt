@@ -1,5 +1,5 @@
 -- What a scheduler decides for its pool, and what happens to its records.
-use Rattle.sched_base.specs.Numbers.{moment, span, core_set}
+use Rattle.sched_base.specs.Numbers.{moment, span}
 use Rattle.std.specs.Prelude.{ℕ, ◌-◌, ◌^◌, ◌==◌, ◌&&◌, ◌||◌, Bool, true, false, not, List, [], ◌∷◌, ◌++◌, Option, Some, None, filter, map, replicate, nat_le, if◌then◌else◌, option_map}
 use Rattle.std.specs.List.{list_any}
 use Rattle.sched_base.specs.declared.UnitId.{UnitId}
@@ -23,6 +23,7 @@ use Rattle.sched_model.specs.EligibleUnits.{Ask, Decision, is_allowed, is_eligib
 use Rattle.sched_model.specs.Credit2 as credit2
 use Rattle.sched_model.specs.Rtds as rtds
 use Rattle.sched_model.specs.NullScheduler as null
+use Rattle.sched_base.specs.CoreSets.{every_core}
 
 -- the window's unit, where it goes on or waits
 abbrev pub choice_of_window : Ask → Scheduler → Option UnitId → Option UnitId
@@ -108,14 +109,10 @@ joined_records (Credit2Pool records) (dom_params.Credit2 weight cap) d count t =
 joined_records (RtdsPool domains) (dom_params.Rtds period budget extra) d count t = RtdsPool (put_at d (rtds.fresh_units period.0 budget.0 extra count t) domains)
 joined_records records params d count t = records
 
--- every core there may be
-abbrev pub all_cores : Cores
-all_cores = core_set (2 ^ 64 - 1)
-
 -- the domain d, with so many units, joins at t
 abbrev pub join : ℕ → ℕ → DomParams → ℕ → Scheduler → Scheduler
 join d count params t scheduler =
-    record scheduler { affinity = put_at d (replicate count all_cores) scheduler.affinity; records = joined_records scheduler.records params d count t }
+    record scheduler { affinity = put_at d (replicate count every_core) scheduler.affinity; records = joined_records scheduler.records params d count t }
 
 -- the records without the domain d
 abbrev pub parted_records : Records → ℕ → Records

@@ -1,5 +1,5 @@
 -- The events of one pool: when they may come, what they print, and the pool after them. g is the number of a core's processors, t the moment.
-use Rattle.sched_base.specs.Numbers.{moment, span, processor, core, domain, core_set, pool as pool_number}
+use Rattle.sched_base.specs.Numbers.{moment, span, processor, core, domain, core_set, pool as pool_number, has_come}
 use Rattle.std.specs.Prelude.{ℕ, ◌+◌, ◌-◌, ◌*◌, ◌/◌, ◌%◌, ◌^◌, ◌==◌, ◌&&◌, ◌||◌, suc, Bool, true, false, not, List, [], ◌∷◌, Option, Some, None, is_none, is_some, option_map, unwrap_or, slice_get, slice_index_or, length, if◌then◌else◌, min, pos, Ok}
 use Rattle.std.specs.List.{list_any, list_all}
 use Rattle.sched_base.specs.declared.UnitId.{UnitId}
@@ -10,7 +10,7 @@ use Rattle.sched_model.specs.declared.event.Event.{Event}
 use Rattle.sched_model.specs.declared.event.Event.TheVariants as event
 use Rattle.sched_model.specs.declared.event.Reply.TheVariants as reply
 use Rattle.sched_model.specs.Places.{at_place, put_at, clear_at, change_at, change_each, change_item, numbered_items, first_place, test_at, numbers_from, is_unit, has_unit, same_unit}
-use Rattle.sched_model.specs.State.{Scheduler, Records, RtdsUnit, Credit2Domain, Pool, is_awake, is_runnable, has_come, is_up}
+use Rattle.sched_model.specs.State.{Scheduler, Records, RtdsUnit, Credit2Domain, Pool, is_awake, is_runnable, is_up}
 use Rattle.sched_model.specs.declared.state.Doing.{Doing}
 pub use Rattle.sched_model.specs.declared.action.Action.{Action}
 use Rattle.sched_model.specs.declared.action.Action.TheVariants.{Stall, Xl, Moved, DomMoved, Wake, Block, Slice, Repl, Refill, Arrive, Decide, Leave, Save}
@@ -61,9 +61,12 @@ lowest_up t pool = elim (first_place 0 (λ c. true) pool.resources) [ None ↦ f
 abbrev pub processor_of : ℕ → Pool → ℕ → Option Processor
 processor_of g pool p = elim (at_place pool.resources (p / g)) [ None ↦ None | Some c ↦ slice_get c.processors (p % g) ]
 
--- the vCPU
+-- the vCPU, where these are the domains; the vCPU of the pool
+abbrev pub vcpu_among : List (Option Domain) → VcpuId → Option Vcpu
+vcpu_among domains v = elim (at_place domains v.dom.0) [ None ↦ None | Some d ↦ slice_get d.vcpus v.n ]
+
 abbrev pub vcpu_of : Pool → VcpuId → Option Vcpu
-vcpu_of pool v = elim (at_place pool.domains v.dom.0) [ None ↦ None | Some d ↦ slice_get d.vcpus v.n ]
+vcpu_of pool v = vcpu_among pool.domains v
 
 -- the vCPU that the processor runs
 abbrev pub guest_of : ℕ → Pool → ℕ → Option VcpuId
@@ -121,8 +124,11 @@ abbrev pub change_processor : ℕ → ℕ → (Processor → Processor) → Pool
 change_processor g p f pool = change_core (p / g) (λ c. record c { processors = change_item (p % g) f c.processors }) pool
 
 -- the vCPU changed by f
+abbrev pub change_among : VcpuId → (Vcpu → Vcpu) → List (Option Domain) → List (Option Domain)
+change_among v f domains = change_at v.dom.0 (λ d. record d { vcpus = change_item v.n f d.vcpus }) domains
+
 abbrev pub change_vcpu : VcpuId → (Vcpu → Vcpu) → Pool → Pool
-change_vcpu v f pool = record pool { domains = change_at v.dom.0 (λ d. record d { vcpus = change_item v.n f d.vcpus }) pool.domains }
+change_vcpu v f pool = record pool { domains = change_among v f pool.domains }
 
 -- the unit at the end of the queue
 abbrev pub queue_unit : UnitId → Pool → Pool

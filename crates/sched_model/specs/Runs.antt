@@ -38,6 +38,10 @@ pub record Reached : Type 0 where
   pub state : State
   pub over : Bool
 
+-- a run that has come to the state and is not over
+abbrev pub open_at : State → Reached
+open_at s = record { state = s; over = false }
+
 -- where the run has come to after an entry without an action: the moment that End names, or the end of the run
 abbrev pub after_quiet : Option ℕ → Reached → Reached
 after_quiet None from = record from { over = true }
@@ -76,7 +80,7 @@ IsRunFrom m from (entry ∷ entries) = IsNext m from entry × IsRunFrom m (after
 
 -- where every run begins
 abbrev pub run_start : Machine → Reached
-run_start m = record { state = opening m; over = false }
+run_start m = open_at (opening m)
 
 -- the entries are a run of the machine; the run is whole where it is over
 abbrev pub IsRun : Machine → List Entry → Type 0

@@ -2,7 +2,6 @@
 use Rattle.std.specs.Prelude.{ℕ, ◌*◌, ◌&&◌, Bool, false, not, List, Option, Some, None, is_none, take, drop, nat_le}
 use Rattle.std.specs.List.{list_any}
 use Rattle.sched_base.specs.declared.UnitId.{UnitId}
-use Rattle.sched_base.specs.declared.Moment.{Moment}
 use Rattle.sched_model.specs.declared.state.Processor.{Processor}
 use Rattle.sched_model.specs.declared.state.Vcpu.{Vcpu}
 use Rattle.sched_model.specs.declared.state.Domain.{Domain}
@@ -39,11 +38,6 @@ runnable_among g domains u = elim (at_place domains u.dom.0) [ None ↦ false | 
 -- the same of a unit of the pool
 abbrev pub is_runnable : ℕ → Pool → UnitId → Bool
 is_runnable g pool u = runnable_among g pool.domains u
-
--- whether the moment has come
-abbrev pub has_come : ℕ → Option Moment → Bool
-has_come t None = false
-has_come t (Some m) = nat_le m.0 t
 
 -- whether the processor is not stalled
 abbrev pub is_up : ℕ → Processor → Bool

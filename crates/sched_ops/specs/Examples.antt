@@ -1,7 +1,7 @@
 -- Worked examples of timers: a pool of four RTDS units, of which three wait or are on.
 use Rattle.std.specs.Prelude.{ℕ, List, [], ◌∷◌, Option, Some, None, false}
-use Rattle.sched_base.specs.Numbers.{moment, domain, core_set}
-use Rattle.sched_base.specs.declared.UnitId.{UnitId}
+use Rattle.sched_base.specs.Numbers.{moment, core_set}
+use Rattle.sched_base.specs.Units.{unit_id}
 use Rattle.sched_base.specs.declared.Cores.{Cores}
 use Rattle.sched_model.specs.declared.state.Records.TheVariants.{RtdsPool}
 use Rattle.sched_model.specs.declared.state.RtdsUnit.{RtdsUnit}
@@ -9,13 +9,9 @@ use Rattle.sched_model.specs.declared.state.Scheduler.{Scheduler}
 use Rattle.sched_ops.specs.declared.timer.Timer.TheVariants.{Repl}
 use Rattle.sched_ops.specs.Timers.{Armed}
 
--- the unit n of the domain d
-abbrev pub unit : ℕ → ℕ → UnitId
-unit d n = record { dom = domain d; n = n }
-
--- the replenishment of that unit at a moment
+-- the replenishment of the unit n of the domain d at a moment
 abbrev pub replenishment : ℕ → ℕ → ℕ → Armed
-replenishment at d n = (moment at, Repl (unit d n))
+replenishment at d n = (moment at, Repl (unit_id d n))
 
 -- a unit with 4 of each 10 milliseconds: its deadline, what is left of its budget, and the moment up to which it was charged where it is on
 abbrev pub rtds_unit : ℕ → ℕ → Option ℕ → RtdsUnit
@@ -56,7 +52,7 @@ two_sets = core_set 1 ∷ core_set 1 ∷ []
 abbrev pub scheduler_of : RtdsUnit → RtdsUnit → RtdsUnit → RtdsUnit → Scheduler
 scheduler_of a b c d =
     record {
-      queue = unit 2 1 ∷ unit 0 0 ∷ [];
+      queue = unit_id 2 1 ∷ unit_id 0 0 ∷ [];
       affinity = Some two_sets ∷ None ∷ Some two_sets ∷ [];
       records = RtdsPool (Some (a ∷ b ∷ []) ∷ None ∷ Some (c ∷ d ∷ []) ∷ []);
     }

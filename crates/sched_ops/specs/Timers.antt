@@ -1,6 +1,6 @@
 -- The timers of a scheduler: replenishments of RTDS units that wait or are on, and refills of Credit2 domains.
 use Rattle.std.specs.Prelude.{ℕ, suc, ◌||◌, ◌&&◌, Bool, List, [], ◌∷◌, ◌++◌, Option, Some, None, is_some, nat_le, nat_lt, if◌then◌else◌}
-use Rattle.sched_base.specs.Numbers.{moment, domain}
+use Rattle.sched_base.specs.Numbers.{moment, domain, has_come}
 use Rattle.sched_base.specs.declared.Moment.{Moment}
 use Rattle.sched_base.specs.declared.UnitId.{UnitId}
 use Rattle.sched_model.specs.declared.event.Event.{Event}
@@ -10,7 +10,6 @@ use Rattle.sched_model.specs.declared.state.Scheduler.{Scheduler}
 use Rattle.sched_model.specs.declared.state.Pool.{Pool}
 use Rattle.sched_model.specs.declared.state.Credit2Domain.{Credit2Domain}
 use Rattle.sched_model.specs.declared.state.RtdsUnit.{RtdsUnit}
-use Rattle.sched_model.specs.State.{has_come}
 use Rattle.sched_model.specs.Places.{numbered_items, has_unit}
 use Rattle.sched_model.specs.declared.action.Action.{Action}
 use Rattle.sched_model.specs.declared.action.Action.TheVariants.{Repl as ReplAction, Refill as RefillAction}
@@ -63,9 +62,12 @@ soonest_timer best [] = best
 soonest_timer None (x ∷ xs) = soonest_timer (Some x) xs
 soonest_timer (Some best) (x ∷ xs) = soonest_timer (Some (if nat_lt x.0.0 best.0.0 then x else best)) xs
 
--- the first timer whose moment has come at t, or else the one of the least moment
+-- the first timer whose moment has come at t, or else the one of the least moment: of a list, and of a scheduler
+abbrev pub next_of : ℕ → List Armed → Option Armed
+next_of t timers = elim (first_due t timers) [ Some x ↦ Some x | None ↦ soonest_timer None timers ]
+
 abbrev pub timer_at : ℕ → Scheduler → Option Armed
-timer_at t scheduler = elim (first_due t (timers scheduler)) [ Some x ↦ Some x | None ↦ soonest_timer None (timers scheduler) ]
+timer_at t scheduler = next_of t (timers scheduler)
 
 -- whether the timer is one of the scheduler's, and its moment has come at t
 abbrev pub is_due : ℕ → Scheduler → Timer → Bool

@@ -6,9 +6,8 @@ use Rattle.sched_base.specs.declared.PoolId.{PoolId}
 use Rattle.sched_model.specs.declared.state.Domain.{Domain}
 use Rattle.sched_model.specs.declared.state.FreeCore.{FreeCore}
 use Rattle.sched_model.specs.declared.state.Pool.{Pool}
-use Rattle.sched_model.specs.Opening.{fresh_core}
-use Rattle.sched_model.specs.Places.{at_place, clear_at, numbered_items, put_at}
-use Rattle.sched_model.specs.Pool.{settled_pool}
+use Rattle.sched_model.specs.Machine.{without_core}
+use Rattle.sched_model.specs.Places.{at_place, numbered_items}
 use Rattle.plain_pool.specs.Cores.{ends_of}
 
 -- whether a core or a domain of the pool is on its way
@@ -19,15 +18,7 @@ is_anything_moving pool = list_any (λ c. c.1.leaving) (numbered_items 0 pool.re
 abbrev pub target_at : List (Option FreeCore) → ℕ → Option ℕ
 target_at free r = elim (at_place free r) [ None ↦ None | Some c ↦ c.target ]
 
--- the pool with the core, looked at
-abbrev pub with_core : ℕ → ℕ → List Moment → Pool → Pool
-with_core t r ends pool = settled_pool t (record pool { resources = put_at r (fresh_core ends) pool.resources })
-
--- the pool without the core, looked at
-abbrev pub without_core : ℕ → ℕ → Pool → Pool
-without_core t r pool = settled_pool t (record pool { resources = clear_at r pool.resources })
-
--- the same, where the pool has the core
+-- the pool without the core, where it has that
 abbrev pub without_its_core : ℕ → ℕ → Pool → Pool
 without_its_core t r pool = elim (at_place pool.resources r) [ None ↦ pool | Some c ↦ without_core t r pool ]
 

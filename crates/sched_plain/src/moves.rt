@@ -1,16 +1,14 @@
 //! Cores and domains that move from one pool to another. g is the number of a core's processors, t the moment.
 
 ghost use Rattle.sched_model.specs.CheckedMachine.{most_span};
-ghost use Rattle.std.specs.Prelude.{◌≡◌, ◌<◌, ◌≤◌, ◌^◌, length, true, Some, None, is_some, option_map};
+ghost use Rattle.std.specs.Prelude.{◌≡◌, ◌<◌, ◌≤◌, ◌^◌, length, Some, None, option_map};
 ghost use Rattle.sched_model.specs.declared.action.Action.TheVariants as actions;
-ghost use Rattle.sched_model.specs.Machine.{is_enabled, event_of, after, after_moved as after_moved_spec};
+ghost use Rattle.sched_model.specs.Machine.{event_of, after, after_moved as after_moved_spec};
 ghost use Rattle.sched_model.specs.Places.{at_place, clear_at, change_at};
-ghost use Rattle.sched_model.specs.Pool.{settled_pool};
-ghost use Rattle.plain_units.specs.Fits.{RecordsFit};
 ghost use Rattle.plain_pool.specs.Cores.{ends_of};
-ghost use Rattle.plain_pool.specs.Fits.{PoolFits};
 ghost use Rattle.sched_plain.specs.Fits.{PoolFitsAt};
-ghost use Rattle.sched_plain.specs.Moves.{target_at as target_at_spec, with_core, without_core, without_its_core, ends_at};
+ghost use Rattle.sched_model.specs.Machine.{with_core};
+ghost use Rattle.sched_plain.specs.Moves.{target_at as target_at_spec, without_its_core, ends_at};
 ghost use Rattle.sched_plain.specs.ReachedStates.{Stands};
 ghost use Rattle.sched_laws.specs.EachPlace.{EachPlace};
 

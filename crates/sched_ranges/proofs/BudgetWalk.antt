@@ -25,7 +25,8 @@ use Rattle.sched_model.specs.Policy.{rtds_record, changed_records, joined_record
 use Rattle.sched_model.specs.Pool as pools
 use Rattle.sched_model.specs.Pool.{enabled_in, change_core, change_domain, set_params, without_domain, with_domain, is_open, first_up, decided_core, same_choice, ask_of}
 use Rattle.sched_laws.proofs.EachPlace.{EachPlace-empty, by_option, by_test, at_place-put_at, at_place-put_at_other, at_place-clear_at_other, place_below, EachAt-clear_at, EachAt-put_at}
-use Rattle.sched_laws.proofs.Lists.{AllByRecursion-map, some-test_at}
+use Rattle.sched_laws.proofs.Lists.{some-test_at}
+use Rattle.sched_base.proofs.Lists.{AllByRecursion-map}
 use Rattle.sched_laws.proofs.Kept.{IsKept}
 use Rattle.sched_laws.proofs.Sound.{none_is}
 use Rattle.sched_laws.proofs.Known.{known_pools}
@@ -60,6 +61,7 @@ use Rattle.sched_ranges.specs.Budgets.{BudgetFits, Nobody}
 use Rattle.sched_ranges.proofs.Budgets.{b_fresh, b_later}
 use Rattle.sched_ranges.proofs.Decided.{unit_rec, IsCur, choice_pays, decides_unit, decides_idle, s_refilled, s_set_domain, r_burn_cur, r_reset, r_take, r_switch_off, r_set_running, r_refilled, r_set_domain}
 use Rattle.sched_ranges.specs.Budgets.{None2, Budgets, RunsOnly, AllRunOnly}
+use Rattle.sched_laws.proofs.Events.{SameCur, Stays}
 
 -- the domain has as many units as its vCPUs make
 abbrev pub CountIs : Machine → ℕ → ℕ → Type 0
@@ -80,10 +82,6 @@ CreditFits m t records cores = (own : Credit2Records) → records ≡ Credit2Poo
 pub credit_fits : (m : Machine) (t : ℕ) (own : Credit2Records) (cores : List (Option Resource)) → CreditOk m t own cores → CreditFits m t (Credit2Pool own) cores
 credit_fits m t own cores fits other is = (let e : own ≡ other = cc in subst (λ (k : Credit2Records). CreditOk m t k cores) e fits)
 
--- each core that has a unit keeps it
-abbrev Stays : List (Option Resource) → List (Option Resource) → Type 0
-Stays old new = (r : ℕ) (c : Resource) (u : UnitId) → at_place old r ≡ Some c → c.cur ≡ Some u → (d : Resource) × (at_place new r ≡ Some d) × (d.cur ≡ Some u)
-
 fits_stay : (m : Machine) (t : ℕ) (records : Records) (old new : List (Option Resource)) → Stays old new → CreditFits m t records old → CreditFits m t records new
 fits_stay m t records old new stays fits own is =
     let before = fits own is in
@@ -94,10 +92,6 @@ fits_stay m t records old new stays fits own is =
         | inr on ↦ inr (let e = stays on.0 on.1 (record { dom = domain_number d; n = n }) on.2 on.3 in (on.0, e.0, e.1, e.2))
       ];
     }
-
--- the core has the same cur
-abbrev SameCur : Resource → Resource → Type 0
-SameCur c d = d.cur ≡ c.cur
 
 fits_like : (m : Machine) (t : ℕ) (records : Records) (old new : List (Option Resource)) → LikePlaces SameCur old new → CreditFits m t records old → CreditFits m t records new
 fits_like m t records old new like fits = fits_stay m t records old new (λ r c u at own. (let now = like_is SameCur old new r c like at in (now.0, now.1, now.2 ∙ own))) fits

@@ -20,7 +20,8 @@ use Rattle.sched_model.specs.Credit2.{max_weight, burn_unit, burn_units, burn_al
 use Rattle.sched_laws.specs.EachPlace.{EachAt}
 use Rattle.sched_base.proofs.Bools.{and_right}
 use Rattle.sched_laws.proofs.EachPlace.{EachAt-change_to, EachAt-change_at, EachAt-change_each, read_change_each, by_option, by_cond}
-use Rattle.sched_laws.proofs.Lists.{AllByRecursion-filter, item_below}
+use Rattle.sched_laws.proofs.Lists.{item_below}
+use Rattle.sched_base.proofs.Lists.{AllByRecursion-filter}
 use Rattle.sched_laws.proofs.Choices.{greatest_has}
 use Rattle.sched_laws.specs.PoolFacts.{IfUnit}
 use Rattle.sched_laws.proofs.Sound.{read_change_item, change_at-twice}

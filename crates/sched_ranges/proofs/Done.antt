@@ -4,7 +4,7 @@ use Rattle.std.specs.Prelude.{Option, Some, None, unwrap_or, pos, neg_ℤ, ◌�
 use Rattle.std.proofs.lemmas.List.Elements.{All-from_recursion, recursion_from_All}
 use Rattle.sched_base.specs.declared.Moment.{Moment}
 use Rattle.sched_base.specs.declared.Span.{Span}
-use Rattle.sched_base.proofs.Lists.{each_get}
+use Rattle.sched_base.proofs.Lists.{each_get, AllByRecursion-map}
 use Rattle.sched_model.specs.declared.event.Entry.{Entry}
 use Rattle.sched_model.specs.declared.machine.Machine.{Machine}
 use Rattle.sched_model.specs.declared.state.Pool.{Pool}
@@ -20,7 +20,7 @@ use Rattle.sched_model.specs.Opening.{core_count}
 use Rattle.sched_model.specs.Runs.{IsRun}
 use Rattle.sched_model.specs.CheckedMachine.{IsChecked, IsCheckedDomain, IsCheckedScript, most_span}
 use Rattle.sched_laws.specs.StateLaws.{state_after}
-use Rattle.sched_laws.proofs.Lists.{AllByRecursion-map, if_some, item_below}
+use Rattle.sched_laws.proofs.Lists.{if_some, item_below}
 use Rattle.sched_laws.proofs.SiblingsLaw.{some_processor}
 use Rattle.sched_laws.proofs.Reached as reached
 use Rattle.sched_ranges.specs.Ranges.{IsNear, IsPast, VcpuInRange, DomainInRange, IsUnitOf, CoreInRange, RtdsInRange, Credit2UnitInRange, Credit2InRange, IsFrame, RecordsInRange, PoolInRange, StateInRange}

@@ -30,7 +30,7 @@ use Rattle.sched_model.specs.declared.state.Processor.{Processor}
 use Rattle.sched_model.specs.declared.state.Resource.{Resource}
 use Rattle.sched_model.specs.Places.{at_place}
 use Rattle.sched_model.specs.State.{has_core}
-use Rattle.sched_model.specs.Opening.{opening, opening_pool, opening_free, fresh_core, fresh_vcpu, core_count}
+use Rattle.sched_model.specs.Opening.{opening, opening_pool, opening_free, fresh_core, fresh_vcpu, core_count, fresh_domain}
 use Rattle.sched_model.specs.CheckedMachine.{IsChecked, IsCheckedPool, IsCheckedDomain, IsCheckedScript, IsCheckedStall, DomParamsPass, most_span}
 use Rattle.sched_model.specs.Actions.{home_of_core}
 use Rattle.sched_model.specs.Machine.{is_enabled, after, next_in_horizon, next_moment, stall_end_of}
@@ -40,7 +40,7 @@ use Rattle.sched_laws.specs.StateLaws.{state_after}
 use Rattle.sched_laws.proofs.EachPlace.{EachPlace-empty, by_option, by_cond}
 use Rattle.sched_laws.proofs.Kept.{IsApart}
 use Rattle.sched_laws.proofs.ApartKept.{apart_after}
-use Rattle.sched_laws.proofs.Opened.{read_map, read_pools, apart_opening, joining_domain, length_map_numbers, kept_opening, opened_keeps}
+use Rattle.sched_laws.proofs.Opened.{read_map, read_pools, apart_opening, length_map_numbers, kept_opening, opened_keeps}
 use Rattle.sched_laws.proofs.Steps.{FreeFits, step_after}
 use Rattle.sched_laws.proofs.Free.{free_after}
 use Rattle.sched_laws.proofs.Ready.{next_later}
@@ -147,7 +147,7 @@ params_pass kind dom_params.Null passed = tt
 params_pass kind params passed = absurd passed
 
 module _ (m : Machine) (checked : IsChecked m) where
-  joining_fits : (d : ℕ) (joining : DomConfig) → slice_get m.config.domains d ≡ Some joining → DomFits m 0 d (joining_domain joining)
+  joining_fits : (d : ℕ) (joining : DomConfig) → slice_get m.config.domains d ≡ Some joining → DomFits m 0 d (fresh_domain joining)
   joining_fits d joining at =
       let domain = each_get (IsCheckedDomain m.config) m.config.domains d joining (recursion_from_All (IsCheckedDomain m.config) m.config.domains checked.config.domains) at in
       record {
@@ -176,7 +176,7 @@ module _ (m : Machine) (checked : IsChecked m) where
   opening_pool_fits i p is =
       let pool = each_get (IsCheckedPool m.config) m.config.pools i p (recursion_from_All (IsCheckedPool m.config) m.config.pools checked.config.pools) is in
       opened_keeps m checked i p is (PoolFits m 0)
-      (λ d joining pool at domain passed. r_with_domain m checked 0 d (joining_domain joining) joining.params pool (params_pass p.kind joining.params passed) (joining_fits d joining at))
+      (λ d joining pool at domain passed. r_with_domain m checked 0 d (fresh_domain joining) joining.params pool (params_pass p.kind joining.params passed) (joining_fits d joining at))
       (λ d n cores pool. r_set_params m checked 0 (changes.Pin (domain_number d) (Some n) cores) pool tt) _
       (record {
         domain_places = length-replicate (length m.config.domains) None;
@@ -202,7 +202,7 @@ module _ (m : Machine) (checked : IsChecked m) where
   opening_pool_credit : (i : ℕ) (p : PoolConfig) → slice_get m.config.pools i ≡ Some p → Credits (opening_pool m.config i p)
   opening_pool_credit i p is =
       opened_keeps m checked i p is Credits
-      (λ d joining pool at domain passed. n_with_domain m some 0 d (joining_domain joining) joining.params pool (params_pass p.kind joining.params passed) (joining_fits d joining at))
+      (λ d joining pool at domain passed. n_with_domain m some 0 d (fresh_domain joining) joining.params pool (params_pass p.kind joining.params passed) (joining_fits d joining at))
       (λ d n cores pool. n_set_params m some 0 (changes.Pin (domain_number d) (Some n) cores) pool tt) _
       (n_fresh m 0 p.params (length m.config.domains) (core_count m.config) _)
 

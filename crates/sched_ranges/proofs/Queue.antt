@@ -10,7 +10,7 @@ use Rattle.sched_model.specs.declared.machine.Machine.{Machine}
 use Rattle.sched_model.specs.declared.config.DomConfig.{DomConfig}
 use Rattle.sched_model.specs.Places.{numbers_from, same_unit}
 use Rattle.sched_model.specs.Actions.{units_from}
-use Rattle.sched_laws.proofs.Lists.{AllByRecursion-map}
+use Rattle.sched_base.proofs.Lists.{AllByRecursion-map}
 use Rattle.sched_laws.proofs.Choices.{same_unit_same}
 use Rattle.sched_laws.proofs.Counts.{same_unit_refl}
 use Rattle.sched_laws.specs.Counts.{one, times}

@@ -4,7 +4,7 @@ use Rattle.std.specs.Prelude.{Option, Some, None, unwrap_or, slice_get, min, max
 use Rattle.std.specs.List.{AllByRecursion}
 use Rattle.std.specs.Option.{IfSome}
 use Rattle.std.proofs.lemmas.List.{length-replicate}
-use Rattle.sched_base.specs.Numbers.{moment, span}
+use Rattle.sched_base.specs.Numbers.{moment, span, has_come}
 use Rattle.sched_base.specs.Credit2Numbers.{above_zero, slice}
 use Rattle.sched_base.specs.declared.Moment.{Moment}
 use Rattle.sched_base.specs.declared.Span.{Span}
@@ -40,7 +40,6 @@ use Rattle.sched_laws.proofs.EachPlace.{EachPlace-put_at, EachPlace-clear_at, Ea
 use Rattle.sched_laws.proofs.Window.{FitsMajor, until_last}
 use Rattle.sched_laws.proofs.Fits.{ChangeFits}
 use Rattle.sched_laws.proofs.NullKept.{length_released}
-use Rattle.sched_model.specs.State.{has_come}
 use Rattle.sched_ranges.proofs.Credit2.{c_burn_cur, c_reset, c_take, c_switch_off, c_set_running, c_refilled, c_fresh, c_set_domain, c_later}
 use Rattle.sched_ranges.specs.Fits.{Credit2DomainFits, Credit2Fits}
 use Rattle.sched_ranges.proofs.Rtds as rtds_lemmas

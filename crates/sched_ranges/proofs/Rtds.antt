@@ -19,6 +19,7 @@ use Rattle.sched_model.specs.CheckedMachine.{IsWithin, most_span}
 use Rattle.sched_model.specs.Rtds.{burn, burn_to, replenish, change_unit, budget_left, burn_cur, set_running, switch_off, choice, decide, rtds_decision, fresh_units}
 use Rattle.sched_laws.proofs.EachPlace.{EachPlace-change_at, by_option, by_cond, length_set}
 use Rattle.sched_ranges.specs.Fits.{used_budget, RtdsFits, RtdsFit}
+use Rattle.sched_laws.proofs.RtdsUnits.{rtds_same}
 
 -- when a unit was charged last, seen from a later moment
 pub last_later : (t next : ℕ) → t ≤ next → (o : Option ℕ) → unwrap_or o t ≤ unwrap_or o next
@@ -186,17 +187,15 @@ left_small t domains u fit =
     by_option (λ (k : ℕ). k ≤ most_span) (rtds_unit domains u) _ _ (λ none. omega arith)
     (λ x is. (let f = fit_unit t domains u x is fit in let a = f.left in let b = f.budget.most in omega (arith, a, b)))
 
-same_domains : (a b : List (Option (List RtdsUnit))) → RtdsPool a ≡ RtdsPool b → a ≡ b
-same_domains a b e = cc
 
 pub rtds_decides : (count : ℕ) (ask : Ask) (domains : List (Option (List RtdsUnit))) (chosen : Option UnitId) → length domains ≡ count → RtdsFit ask.at.0 domains → GoodDecision ask.at.0 count (decide ask domains chosen)
 rtds_decides count ask domains None whole fit = (
-  λ other is. (let e = same_domains (switch_off ask.cur domains) other is in subst (λ (x : List (Option (List RtdsUnit))). RtdsFit ask.at.0 x × (length x ≡ count)) e (fit_switch_off ask.at.0 ask.cur domains fit, length_switch_off ask.cur domains ∙ whole)),
+  λ other is. (let e = rtds_same (switch_off ask.cur domains) other is in subst (λ (x : List (Option (List RtdsUnit))). RtdsFit ask.at.0 x × (length x ≡ count)) e (fit_switch_off ask.at.0 ask.cur domains fit, length_switch_off ask.cur domains ∙ whole)),
   λ a is. absurd (cc),
 )
 rtds_decides count ask domains (Some u) whole fit = (
   λ other is. (
-      let e = same_domains (set_running (Some ask.at.0) u (switch_off ask.cur domains)) other is in
+      let e = rtds_same (set_running (Some ask.at.0) u (switch_off ask.cur domains)) other is in
       subst (λ (x : List (Option (List RtdsUnit))). RtdsFit ask.at.0 x × (length x ≡ count)) e (
         fit_change_unit ask.at.0 u (λ x. record x { burned = Some ask.at.0 }) (switch_off ask.cur domains) (λ x has. rtds_running ask.at.0 x) (fit_switch_off ask.at.0 ask.cur domains fit),
         length_set u.dom.0 _ (switch_off ask.cur domains) ∙ length_switch_off ask.cur domains ∙ whole,

@@ -4,7 +4,7 @@ use Rattle.std.specs.Prelude.{Option, Some, None, is_none, option_map, unwrap_or
 use Rattle.std.specs.List.{AllByRecursion}
 use Rattle.std.proofs.lemmas.List.{length-replicate, length-map}
 use Rattle.std.proofs.lemmas.List.Elements.{recursion_from_All}
-use Rattle.sched_base.specs.Numbers.{moment, span, pool as pool_number, processor}
+use Rattle.sched_base.specs.Numbers.{moment, span, pool as pool_number, processor, has_come}
 use Rattle.sched_base.specs.declared.Moment.{Moment}
 use Rattle.sched_base.specs.declared.Span.{Span}
 use Rattle.sched_base.specs.declared.UnitId.{UnitId}
@@ -25,7 +25,7 @@ use Rattle.sched_model.specs.declared.state.Resource.{Resource}
 use Rattle.sched_model.specs.declared.state.Scheduler.{Scheduler}
 use Rattle.sched_model.specs.declared.state.Pool.{Pool}
 use Rattle.sched_model.specs.Places.{at_place, put_at, clear_at, change_at, change_item, numbers_from, same_unit}
-use Rattle.sched_model.specs.State.{is_awake, is_runnable, unit_runnable, has_come}
+use Rattle.sched_model.specs.State.{is_awake, is_runnable, unit_runnable}
 use Rattle.sched_model.specs.Opening.{fresh_core, core_count}
 use Rattle.sched_model.specs.EligibleUnits.{Decision}
 use Rattle.sched_model.specs.CheckedMachine.{IsChecked, IsCheckedDomain, IsCheckedScript, most_span}
@@ -36,9 +36,9 @@ use Rattle.sched_model.specs.Pool as pools
 use Rattle.sched_model.specs.Pool.{enabled_in, change_core, change_processor, change_vcpu, change_domain, change_cores_of, with_doing as does, started_on, decided_core, same_choice, ask_of, set_params, without_domain, with_domain, vcpu_of, guest_of, vcpu_for}
 use Rattle.sched_laws.specs.EachPlace.{EachAt, EachPlace}
 use Rattle.sched_base.proofs.Bools.{and_left, and_right}
-use Rattle.sched_base.proofs.Lists.{each_get}
+use Rattle.sched_base.proofs.Lists.{each_get, AllByRecursion-push, AllByRecursion-filter}
 use Rattle.sched_laws.proofs.EachPlace.{EachAt-change_at, EachAt-put_at, EachAt-clear_at, EachPlace-change_at, EachPlace-put_at, EachPlace-clear_at, EachPlace-empty, by_option, by_test, by_cond, length_set}
-use Rattle.sched_laws.proofs.Lists.{AllByRecursion-push, AllByRecursion-filter, some-test_at, length_change_item}
+use Rattle.sched_laws.proofs.Lists.{some-test_at, length_change_item}
 use Rattle.sched_laws.proofs.Choices.{decision_has}
 use Rattle.sched_laws.specs.PoolFacts.{IfUnit}
 use Rattle.sched_laws.proofs.Awake.{part_past}

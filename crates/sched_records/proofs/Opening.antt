@@ -23,10 +23,10 @@ use Rattle.sched_model.specs.declared.state.Records.TheVariants.{Credit2Pool, Rt
 use Rattle.sched_model.specs.declared.state.Pool.{Pool}
 use Rattle.sched_model.specs.Policy.{changed_records, fresh_records, kind_of}
 use Rattle.sched_model.specs.Pool.{unit_count, with_domain}
-use Rattle.sched_model.specs.Opening.{opening, opening_pool, fresh_vcpu, core_count}
+use Rattle.sched_model.specs.Opening.{opening, opening_pool, fresh_vcpu, core_count, fresh_domain}
 use Rattle.sched_model.specs.CheckedMachine.{IsChecked, IsCheckedPool, IsCheckedDomain, PoolParamsPass, DomParamsPass}
 use Rattle.sched_laws.specs.EachPlace.{EachPlace}
-use Rattle.sched_laws.proofs.Opened.{read_pools, joining_domain, opened_keeps}
+use Rattle.sched_laws.proofs.Opened.{read_pools, opened_keeps}
 use Rattle.sched_laws.proofs.SiblingsLaw.{some_processor}
 use Rattle.sched_records.specs.Counts.{Matches, KeepsPool}
 use Rattle.sched_records.proofs.Walk.{keeps_empty, k_set_params, k_with_domain}
@@ -59,16 +59,16 @@ module _ (m : Machine) (checked : IsChecked m) where
   abbrev Opens : SchedKind → Pool → Type 0
   Opens kind pool = KeepsPool m.config.granularity pool × (kind_of pool.scheduler.records ≡ kind)
 
-  joining_unit : (joining : DomConfig) → IsCheckedDomain m.config joining → 1 ≤ unit_count m.config.granularity (joining_domain joining)
+  joining_unit : (joining : DomConfig) → IsCheckedDomain m.config joining → 1 ≤ unit_count m.config.granularity (fresh_domain joining)
   joining_unit joining domain =
-      let whole : length (joining_domain joining).vcpus ≡ length joining.guests = length-map joining.guests fresh_vcpu in
+      let whole : length (fresh_domain joining).vcpus ≡ length joining.guests = length-map joining.guests fresh_vcpu in
       let guest = domain.some_guest in
-      has_unit m.config.granularity (length (joining_domain joining).vcpus) (some_processor m.config.granularity checked.config.granularity) (omega (arith, whole, guest))
+      has_unit m.config.granularity (length (fresh_domain joining).vcpus) (some_processor m.config.granularity checked.config.granularity) (omega (arith, whole, guest))
 
-  joined_opens : (p : PoolConfig) (d : ℕ) (joining : DomConfig) (pool : Pool) → IsCheckedDomain m.config joining → DomParamsPass p.kind joining.params → Opens p.kind pool → Opens p.kind (with_domain m.config.granularity 0 d (joining_domain joining) joining.params pool)
+  joined_opens : (p : PoolConfig) (d : ℕ) (joining : DomConfig) (pool : Pool) → IsCheckedDomain m.config joining → DomParamsPass p.kind joining.params → Opens p.kind pool → Opens p.kind (with_domain m.config.granularity 0 d (fresh_domain joining) joining.params pool)
   joined_opens p d joining pool domain passed opens =
       let good : Matches pool.scheduler.records joining.params = passed_match pool.scheduler.records joining.params (subst (λ (kind : SchedKind). DomParamsPass kind joining.params) (sym opens.1) passed) in
-      let joins = k_with_domain m.config.granularity 0 d (joining_domain joining) joining.params pool good (joining_unit joining domain) opens.0 in
+      let joins = k_with_domain m.config.granularity 0 d (fresh_domain joining) joining.params pool good (joining_unit joining domain) opens.0 in
       (joins.0, joins.1 ∙ opens.1)
 
   pool_opens : (i : ℕ) (p : PoolConfig) → slice_get m.config.pools i ≡ Some p → KeepsPool m.config.granularity (opening_pool m.config i p)

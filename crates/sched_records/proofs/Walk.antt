@@ -32,11 +32,9 @@ use Rattle.sched_records.proofs.Measured.{length_measured, read_measured}
 use Rattle.sched_records.proofs.Shape.{shape_decision, shape_replenished, shape_refilled, shape_changed}
 use Rattle.sched_records.specs.Counts.{measures_of, shape, units_in, Matches, Keeps, KeepsPool, CountsFit}
 use Rattle.sched_records.proofs.Counts.{keeps_shape, keeps_change_at, keeps_joined, keeps_parted}
+use Rattle.sched_laws.proofs.Ready.{NoEnd}
 
 -- all that is needed of the ends of stalls is nothing; a domain that comes has a unit
-abbrev pub AnyEnd : ℕ → Type 0
-AnyEnd end = Unit {0}
-
 abbrev pub AnyEnds : List Moment → Type 0
 AnyEnds ends = Unit {0}
 
@@ -111,7 +109,7 @@ module _ (g : ℕ) where
       (record pool { domains = put_at d domain pool.domains; scheduler = policy.join d (unit_count g domain) params t pool.scheduler })
       (keeps_joined g t d domain pool.domains pool.scheduler.records params good some keeps)
 
-pub records_steps : (m : Machine) (t : ℕ) → IsKeptAt m t AnyEnd AnyEnds (SomeUnit m.config.granularity) (KeepsPool m.config.granularity) (KeepsPool m.config.granularity)
+pub records_steps : (m : Machine) (t : ℕ) → IsKeptAt m t NoEnd AnyEnds (SomeUnit m.config.granularity) (KeepsPool m.config.granularity) (KeepsPool m.config.granularity)
 records_steps m t =
     record {
       stays = λ pool keeps. keeps;

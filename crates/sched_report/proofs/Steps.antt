@@ -11,24 +11,21 @@ use Rattle.sched_report.specs.declared.choice.Choice.{Choice}
 use Rattle.sched_report.specs.declared.tally.UnitTally.{UnitTally}
 use Rattle.sched_report.specs.declared.tally.CoreTally.{CoreTally}
 use Rattle.sched_report.specs.Stays.{choice_in, choices}
+use Rattle.unit_places.specs.Places.{index_of}
 use Rattle.sched_report.specs.Tallies.{nothing_done, undecided_core, place_of, has_place, tally_at, changed_at, with_ended_stay, with_begun_stay, with_renewal, ended_span, after_found, units_after, units_renewed, units_with, begins, lateness_on}
 use Rattle.sched_report.proofs.Folds.{told}
 use Rattle.sched_report.proofs.Grows.{chosen_at, choices-more, charge}
 use Rattle.sched_report.proofs.Sums.{sum_by-same, sum_at, sum_beyond}
 
--- the place of a unit that has one
-abbrev place : UnitId → ℕ
-place u = u.dom.0 * 32 + u.n
+placed : (u : UnitId) → has_place u ≡ true → place_of u ≡ Some (index_of u)
+placed u has = ap (λ b. cond b (Some (index_of u)) None) has
 
-placed : (u : UnitId) → has_place u ≡ true → place_of u ≡ Some (place u)
-placed u has = ap (λ b. cond b (Some (place u)) None) has
-
-place-below : (u : UnitId) → has_place u ≡ true → place u < 2048
+place-below : (u : UnitId) → has_place u ≡ true → index_of u < 2048
 place-below u has =
     let parts = and_parts (nat_lt u.dom.0 64) (nat_lt u.n 32) has in
     omega (arith, ltb-true u.dom.0 64 parts.0, ltb-true u.n 32 parts.1)
 
-places-apart : (w u : UnitId) → has_place w ≡ true → has_place u ≡ true → same_unit w u ≡ false → place u ≢ place w
+places-apart : (w u : UnitId) → has_place w ≡ true → has_place u ≡ true → same_unit w u ≡ false → index_of u ≢ index_of w
 places-apart w u has_w has_u apart e =
     let of_w = and_parts (nat_lt w.dom.0 64) (nat_lt w.n 32) has_w in
     let of_u = and_parts (nat_lt u.dom.0 64) (nat_lt u.n 32) has_u in
@@ -42,7 +39,7 @@ places-apart w u has_w has_u apart e =
 pub tally_at-changed : (w u : UnitId) (f : UnitTally → UnitTally) (units : List UnitTally) → has_place u ≡ true → length units ≡ 2048
     → tally_at (changed_at (place_of w) f units) (place_of u) ≡ cond (same_unit w u) (f (tally_at units (place_of u))) (tally_at units (place_of u))
 tally_at-changed w u f units has all =
-    let i = place u in
+    let i = index_of u in
     let was : UnitTally = get_or units i nothing_done in
     let here : place_of u ≡ Some i = placed u has in
     let there : get_or (changed_at (place_of w) f units) i nothing_done ≡ cond (same_unit w u) (f was) was = elim (told w u) [
@@ -53,8 +50,8 @@ tally_at-changed w u f units has all =
     ] in
     subst (λ q. tally_at (changed_at (place_of w) f units) q ≡ cond (same_unit w u) (f (tally_at units q)) (tally_at units q)) (sym here) there
   where
-    stays : (b : Bool) → has_place w ≡ b → same_unit w u ≡ false → get_or (changed_at (cond b (Some (place w)) None) f units) (place u) nothing_done ≡ get_or units (place u) nothing_done
-    stays true has_w apart = get_or-set_other units (place w) (place u) (f (get_or units (place w) nothing_done)) nothing_done (places-apart w u has_w has apart)
+    stays : (b : Bool) → has_place w ≡ b → same_unit w u ≡ false → get_or (changed_at (cond b (Some (index_of w)) None) f units) (index_of u) nothing_done ≡ get_or units (index_of u) nothing_done
+    stays true has_w apart = get_or-set_other units (index_of w) (index_of u) (f (get_or units (index_of w) nothing_done)) nothing_done (places-apart w u has_w has apart)
     stays false has_w apart = refl
 
 length-changed : (o : Option ℕ) (f : UnitTally → UnitTally) (units : List UnitTally) → length (changed_at o f units) ≡ length units

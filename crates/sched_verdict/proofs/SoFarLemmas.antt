@@ -6,14 +6,15 @@ use Rattle.std.proofs.lemmas.List.Concat.{flat_map-cons}
 use Rattle.std.proofs.lemmas.List.Elements.{All-push}
 use Rattle.sched_model.specs.declared.event.Entry.{Entry}
 use Rattle.sched_model.specs.declared.machine.Machine.{Machine}
-use Rattle.sched_model.specs.Runs.{Reached, action_of, run_start, after_entry, after_entries}
+use Rattle.sched_model.specs.Runs.{Reached, run_start, after_entry, after_entries}
 use Rattle.sched_model.proofs.RunLemmas.{after_entries-append, IsRunFrom-append}
-use Rattle.run_laws.specs.RunLaws.{TakesFirst, IsOrderedFrom}
+use Rattle.run_laws.specs.RunLaws.{IsOrderedFrom}
 use Rattle.sched_print.specs.Line.{words, line, text}
 use Rattle.sched_print.specs.Ranges.{IsPrintable}
 use Rattle.sched_check.specs.Checking.{Checking, IsTaken}
 use Rattle.sched_verdict.specs.declared.verdict.Cause.TheVariants as cause
 use Rattle.sched_verdict.specs.Verdict.{IsBegun, IsTakenLine}
+use Rattle.run_laws.proofs.Ordered.{IsOrderedFrom-append}
 
 -- these many lines passed, and the rest is left: they are the text of a run, and the checker has come to where it leads
 pub record SoFar (start now : Checking) (bytes rest : List ℕ) (passed : ℕ) : Type 0 where
@@ -25,10 +26,6 @@ pub record SoFar (start now : Checking) (bytes rest : List ℕ) (passed : ℕ) :
 
 pub text_next : (entries : List Entry) (e : Entry) → text (entries ++ e ∷ []) ≡ text entries ++ line e
 text_next entries e = flat_map-append line entries (e ∷ []) ∙ ap (λ (z : List ℕ). text entries ++ z) (flat_map-cons line e [] ∙ append-nil (line e))
-
-IsOrderedFrom-append : (m : Machine) (from : Reached) (entries : List Entry) (entry : Entry) → IsOrderedFrom m from entries → TakesFirst m (after_entries m from entries).state (action_of entry.event) → IsOrderedFrom m from (entries ++ entry ∷ [])
-IsOrderedFrom-append m from [] entry ordered first = (first, tt)
-IsOrderedFrom-append m from (e ∷ entries) entry ordered first = (ordered.0, IsOrderedFrom-append m (after_entry m from e) entries entry ordered.1 first)
 
 begins_more : (m : Machine) (ordered : Bool) (bytes : List ℕ) (front : List Entry) (rest more : List ℕ) (e : Entry) → IsBegun m ordered bytes front rest → IsPrintable e → rest ≡ line e ++ more →
     IsTaken m ordered (after_entries m (run_start m) front) e → IsBegun m ordered bytes (front ++ e ∷ []) more

@@ -38,7 +38,7 @@ use Rattle.sched_model.specs.Places.{at_place, numbered_items}
 use Rattle.sched_model.specs.State.{has_core}
 use Rattle.sched_model.specs.CheckedMachine.{IsChecked, IsCheckedPool, PoolParamsPass}
 use Rattle.sched_model.specs.Policy.{kind_of, fresh_records}
-use Rattle.sched_model.specs.Opening.{opening, opening_free, with_domains, with_configured, with_pins, core_count, most_pools}
+use Rattle.sched_model.specs.Opening.{opening, opening_free, with_domains, with_configured, with_pins, core_count, most_pools, fresh_domain}
 use Rattle.sched_model.specs.Actions.{home_of, home_of_core, home_of_domain}
 use Rattle.sched_model.specs.Commands.{is_kind, cores_in, carried_out, change_home, pool_of_plan}
 use Rattle.sched_model.specs.Machine.{is_enabled, is_move_under_way, after, after_at_home, after_stall, after_command, after_moved, after_dom_moved, verdict, settled_at}
@@ -51,10 +51,9 @@ use Rattle.sched_base.proofs.Lists.{each_get}
 use Rattle.sched_laws.proofs.EachPlace.{EachAt-change_at, EachAt-put_at, read_clear_at, by_option, by_cond}
 use Rattle.sched_laws.proofs.Induction.{kept_by_runs}
 use Rattle.sched_laws.proofs.Lists.{at_numbered, none_passes, is_some_at}
-use Rattle.sched_laws.proofs.Opened.{read_map, read_pools, opened_core, joining_domain}
+use Rattle.sched_laws.proofs.Opened.{read_map, read_pools, opened_core}
 use Rattle.stretch_laws.proofs.CoresByRecords.{IsKeptTest, Counted, Aims, Comes, counted_core, core_counted, counted_after, gives_params, gives_with_domain}
 use Rattle.stretch_laws.proofs.ReachedDecisions.{PoolOf}
-use Rattle.turn_laws.specs.Turns.{one}
 
 abbrev is_arinc : Records → Bool
 is_arinc records = is_kind kinds.Arinc653 (kind_of records)
@@ -264,7 +263,7 @@ module _ (g : ℕ) (A : Type 0) where
   opens_domains i d [] pool here = here
   opens_domains i d (joining ∷ domains) pool here =
       opens_domains i (suc d) domains _ (by_cond Opens (joining.home.0 == i) (with_configured g d joining pool) pool
-      (λ is. opens_pins d 0 joining.pins _ (gives_with_domain g 0 is_arinc (arinc_kept 0) A d (joining_domain joining) joining.params pool here)) (λ is. here))
+      (λ is. opens_pins d 0 joining.pins _ (gives_with_domain g 0 is_arinc (arinc_kept 0) A d (fresh_domain joining) joining.params pool here)) (λ is. here))
 
 arinc_opened : (config : Config) (kind : SchedKind) (params : PoolParams) (domains cores : ℕ) → PoolParamsPass config kind params → is_arinc (fresh_records params domains cores) ≡ true → kind ≡ kinds.Arinc653
 arinc_opened config kinds.Arinc653 (pool_params.Arinc653 frame) domains cores pass is = refl

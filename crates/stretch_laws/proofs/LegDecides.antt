@@ -33,7 +33,7 @@ use Rattle.sched_laws.proofs.Counts.{same_unit_refl}
 use Rattle.sched_laws.proofs.Choices.{decision_has}
 use Rattle.sched_laws.specs.PoolFacts.{IfUnit}
 use Rattle.sched_laws.proofs.EachPlace.{EachAt-change_to, EachAt-change_at, EachAt-change_each, at_place-put_at, at_place-put_at_other, at_place-clear_at_other, place_below, by_option, by_test, by_cond}
-use Rattle.sched_laws.proofs.Lists.{AllByRecursion-filter}
+use Rattle.sched_base.proofs.Lists.{AllByRecursion-filter}
 use Rattle.sched_laws.proofs.OnePlace.{same_choice_same}
 use Rattle.sched_laws.proofs.Sound.{read_change_item}
 use Rattle.sched_ranges.proofs.Decided.{choice_pays}

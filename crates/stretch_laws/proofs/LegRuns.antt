@@ -67,6 +67,7 @@ use Rattle.stretch_laws.proofs.LegCharges.{Lasts, limit}
 use Rattle.stretch_laws.proofs.LegDecides.{FreeHolds, w_after_decide, legs_other}
 use Rattle.sched_laws.proofs.Events.{kept_settled, kept_processor, kept_by_parts, kept_set_leaving, kept_pause, kept_unpause}
 use Rattle.stretch_laws.proofs.LegWalk.{OnSince, Charged, charged_less, charged_later, IsLegged, Sound, w_parts, w_commands, w_set_moving, w_set_params, w_set_rtds_unit, w_with_domain, w_without_domain, w_core_comes, w_core_goes, w_idle}
+use Rattle.sched_laws.specs.NullLaws.{chosen_by}
 
 -- the action of an event that is one of an action
 abbrev pub action_in : Event → Action
@@ -130,11 +131,6 @@ AreLegged m before = EachPlace (IsLegged m.config.granularity (state_after m bef
 record IsKeptLeg (g t : ℕ) (legs : Legs) (pool : Pool) : Type 0 where
   own : UnitsAreOwn pool
   legged : IsLegged g t legs pool
-
--- the unit that a decision prints
-abbrev unit_of : Event → Option UnitId
-unit_of (event.Decide core unit due late reset) = unit
-unit_of _ = None
 
 module _ (m : Machine) (checked : IsChecked m) where
   abbrev g : ℕ
@@ -266,12 +262,12 @@ module _ (m : Machine) (checked : IsChecked m) where
 
     -- what the event of a decision prints as the unit
     printed_unit : (r i : ℕ) (pool : Pool) (c : Resource) (ev : Event) → ev ≡ event_of m s s.now (Decide (core_number r)) → home_of_core s r ≡ Some i → at_place s.pools i ≡ Some pool → at_place pool.resources r ≡ Some c
-        → unit_of ev ≡ (decision_of (ask_of m.config.granularity s.now pool r c) pool.scheduler).unit
+        → chosen_by ev ≡ (decision_of (ask_of m.config.granularity s.now pool r c) pool.scheduler).unit
     printed_unit r i pool c ev is home at has =
         let home_is : home_pool m s (Decide (core_number r)) ≡ pool = ap (λ (o : Option ℕ). elim o as (λ _. Pool) [ None ↦ no_pool m.config | Some j ↦ unwrap_or (at_place s.pools j) (no_pool m.config) ]) home ∙ ap (λ (o : Option Pool). unwrap_or o (no_pool m.config)) at in
         let asks : decision_at m.config.granularity s.now pool r ≡ decision_of (ask_of m.config.granularity s.now pool r c) pool.scheduler =
         ap (λ (o : Option Resource). elim o as (λ _. Decision) [ None ↦ record { unit = None; due = None; reset = 0; records = pool.scheduler.records } | Some x ↦ decision_of (ask_of m.config.granularity s.now pool r x) pool.scheduler ]) has in
-        ap unit_of is ∙ ap (λ (p : Pool). (decision_at m.config.granularity s.now p r).unit) home_is ∙ ap (λ (d : Decision). d.unit) asks
+        ap chosen_by is ∙ ap (λ (p : Pool). (decision_at m.config.granularity s.now p r).unit) home_is ∙ ap (λ (d : Decision). d.unit) asks
 
     -- the state after a decision, and what is known of the pool's records then
     decided_state : (r : ℕ) (unit : Option UnitId) → is_enabled m s s.now (Decide (core_number r)) ≡ true → ((i : ℕ) (pool : Pool) (c : Resource) → home_of_core s r ≡ Some i → at_place s.pools i ≡ Some pool → at_place pool.resources r ≡ Some c → unit ≡ (decision_of (ask_of m.config.granularity s.now pool r c) pool.scheduler).unit)

@@ -37,6 +37,7 @@ use Rattle.sched_laws.proofs.Events.{LikePlaces, like_was, like_map, like_change
 use Rattle.sched_laws.proofs.EachPlace.{EachAt-put_at, EachAt-clear_at, EachPlace-empty, read_put_at, read_clear_at, by_option}
 use Rattle.turn_laws.specs.Stretches.{Legs, cores}
 use Rattle.stretch_laws.proofs.LegCharges.{Lasts, lasts_later, EachItem, RtdsUnitKept, RtdsKept, rtds_change, UnitKept, DomainKept, Credit2Kept, c_refilled, c_set_domain}
+use Rattle.sched_laws.proofs.Events.{SameCur, Stays}
 
 -- the unit is a core's own, and the core's leg began at b
 abbrev pub OnSince : Legs → List (Option Resource) → ℕ → ℕ → ℕ → Type 0
@@ -62,24 +63,16 @@ charged_later On t next (Credit2Pool records) past kept = λ d x at n y get. (le
 charged_later On t next (RtdsPool domains) past kept = λ d units at n y get b on. lasts_later b t next y.burned (pos y.left -ℤ pos 1) past (kept d units at n y get b on)
 charged_later On t next any past kept = tt
 
--- each core that has a unit had it
-abbrev pub Had : List (Option Resource) → List (Option Resource) → Type 0
-Had new old = (r : ℕ) (c : Resource) (u : UnitId) → at_place new r ≡ Some c → c.cur ≡ Some u → (d : Resource) × (at_place old r ≡ Some d) × (d.cur ≡ Some u)
-
--- the core has the same cur
-abbrev SameCur : Resource → Resource → Type 0
-SameCur c d = d.cur ≡ c.cur
-
-had_like : (old new : List (Option Resource)) → LikePlaces SameCur old new → Had new old
+had_like : (old new : List (Option Resource)) → LikePlaces SameCur old new → Stays new old
 had_like old new like r d u at own = (let was = like_was SameCur old new r d like at in (was.0, was.1, sym was.2 ∙ own))
 
-had_come : (r : ℕ) (ends : List Moment) (cores : List (Option Resource)) → Had (put_at r (fresh_core ends) cores) cores
+had_come : (r : ℕ) (ends : List Moment) (cores : List (Option Resource)) → Stays (put_at r (fresh_core ends) cores) cores
 had_come r ends cores k c u at own = elim (read_put_at r k (fresh_core ends) cores c at) [
   | inl was ↦ (c, was, own)
   | inr x ↦ absurd (let e : None ≡ Some u = ap (λ (z : Resource). z.cur) x.1 ∙ own in cc)
 ]
 
-had_gone : (r : ℕ) (cores : List (Option Resource)) → Had (clear_at r cores) cores
+had_gone : (r : ℕ) (cores : List (Option Resource)) → Stays (clear_at r cores) cores
 had_gone r cores k c u at own = (c, (read_clear_at r k cores c at).1, own)
 
 -- which facts of the state's records are used: an RTDS unit's budgets are some, and a Credit2 unit that does not run holds nothing
@@ -94,7 +87,7 @@ module _ (g t : ℕ) (legs : Legs) where
     pub charged : Charged (OnSince legs pool.resources) t pool.scheduler.records
 
   -- cores that have no other units
-  w_had : (pool : Pool) (cores : List (Option Resource)) → Had cores pool.resources → IsLegged pool → IsLegged (record pool { resources = cores })
+  w_had : (pool : Pool) (cores : List (Option Resource)) → Stays cores pool.resources → IsLegged pool → IsLegged (record pool { resources = cores })
   w_had pool cores had w = record {
     have = λ r c u at own. (let x = had r c u at own in w.have r x.0 u x.1 x.2);
     charged = charged_less (OnSince legs pool.resources) (OnSince legs cores) t pool.scheduler.records

@@ -12,7 +12,8 @@ use Rattle.sched_model.specs.Rtds.{is_before, unit_before, budget_left, foremost
 use Rattle.sched_base.proofs.Bools.{clash}
 use Rattle.sched_laws.specs.Counts.{total}
 use Rattle.sched_laws.proofs.EachPlace.{by_option}
-use Rattle.turn_laws.specs.Turns.{how_many, one, goes_before, ahead}
+use Rattle.turn_laws.specs.Turns.{how_many, goes_before, ahead}
+use Rattle.sched_base.specs.Numbers.{one_if}
 use Rattle.turn_laws.proofs.Sums.{count_no_more, count_less, total_no_more, total_less}
 use Rattle.turn_laws.proofs.BestUnits.{IsOrder, IsScan}
 use Rattle.turn_laws.specs.Stretches.{units}
@@ -91,7 +92,7 @@ keys_before o ks = total (λ (xs : List Key). how_many (λ k. both_before (Some 
 how_many_keys : (o : Option RtdsUnit) (xs : List RtdsUnit) → how_many (goes_before o) xs ≡ how_many (λ k. both_before (Some k) (option_map key o)) (map key xs)
 how_many_keys o [] = refl
 how_many_keys None (x ∷ xs) = ap (λ n. 0 + n) (how_many_keys None xs)
-how_many_keys (Some y) (x ∷ xs) = ap (λ n. one (is_before x y) + n) (how_many_keys (Some y) xs)
+how_many_keys (Some y) (x ∷ xs) = ap (λ n. one_if (is_before x y) + n) (how_many_keys (Some y) xs)
 
 ahead_keys : (o : Option RtdsUnit) (domains : List (Option (List RtdsUnit))) → total (λ (xs : List RtdsUnit). how_many (goes_before o) xs) domains ≡ keys_before (option_map key o) (keys domains)
 ahead_keys o [] = refl

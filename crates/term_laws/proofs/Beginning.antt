@@ -33,7 +33,8 @@ use Rattle.sched_laws.proofs.Records.{same_joined}
 use Rattle.part_laws.proofs.Begun.{housed_opening}
 use Rattle.part_laws.proofs.Alike.{mover_of}
 use Rattle.term_laws.proofs.SamePool.{cur_in}
-use Rattle.term_laws.proofs.Track.{is_rtds_pool, rtds_same}
+use Rattle.term_laws.proofs.Track.{is_rtds_pool}
+use Rattle.sched_laws.proofs.RtdsUnits.{rtds_same}
 use Rattle.term_laws.proofs.Deciding.{Tracks, cur_core}
 
 -- no core has a unit at the opening

@@ -17,7 +17,6 @@ use Rattle.sched_model.specs.Policy.{decision_of, kind_of}
 use Rattle.sched_model.specs.Pool.{after_decide, ask_of, decided_core, lateness}
 use Rattle.sched_model.specs.Machine.{after, event_of}
 use Rattle.sched_laws.proofs.Choices.{is_unit_same}
-use Rattle.sched_laws.proofs.Counts.{same_unit_refl}
 use Rattle.sched_laws.proofs.Lists.{test_at-some, is_some_at}
 use Rattle.term_laws.specs.RtdsTerm.{late_now, late_of, taken_by}
 use Rattle.term_laws.proofs.RtdsSteps.{at_place-set_other}
@@ -30,9 +29,7 @@ use Rattle.term_laws.proofs.Track.{OffHome, OnHome, is_rtds_pool, home_chosen, h
 use Rattle.term_laws.proofs.ReachedStates.{Known}
 use Rattle.term_laws.proofs.ActsIn.{home_after, away_after, home_pools_same}
 use Rattle.term_laws.proofs.Deciding.{Tracks, Decides, OverPool, off_home_stable, on_home_stable, over_stable, cur_core, cur_of_seen_unit, late_other, taken_yes, taken_no}
-
-unit_yes : (o : Option UnitId) (u : UnitId) → o ≡ Some u → is_unit o u ≡ true
-unit_yes o u is = subst (λ x. is_unit x u ≡ true) (sym is) (same_unit_refl u)
+use Rattle.sched_laws.proofs.Counts.{is_that_unit}
 
 module _ (m : Machine) (u : UnitId) (s : State) (n : ℕ) (k : Known m s) (d : Decides m s s.now n) (moment : Moment) where
   abbrev pub entry_here : Entry
@@ -112,14 +109,14 @@ module _ (m : Machine) (u : UnitId) (s : State) (n : ℕ) (k : Known m s) (d : D
     pub off_decides_step : WithinTerm u deadline left None s → StepOff (WithinTerm u deadline) u deadline left s entry_here next_here
     off_decides_step w =
         elim (off_decides_in m u deadline left n s s.now d.acts.j the_pool d.core k.apart (k.own d.acts.j the_pool d.acts.at) d.acts.at d.has w) [
-          | inl chosen ↦ inr (inl (n, taken_yes m u s s.now n (unit_yes _ u chosen.0), refl, chosen.1))
+          | inl chosen ↦ inr (inl (n, taken_yes m u s s.now n (is_that_unit _ u chosen.0), refl, chosen.1))
           | inr passed ↦ inl (taken_no m u s s.now n passed.0, refl, passed.1)
         ]
 
     own_decides_step : (b : ℕ) → WithinTerm u deadline left (Some (n, b)) s → StepOn (WithinTerm u deadline) u deadline left n b s entry_here next_here
     own_decides_step b w =
         elim (within_decides m u deadline left n b s s.now k.apart w) [
-          | inl chosen ↦ inr (inr (inl (late_here, taken_yes m u s s.now n (unit_yes _ u chosen.0), refl, chosen.1)))
+          | inl chosen ↦ inr (inr (inl (late_here, taken_yes m u s s.now n (is_that_unit _ u chosen.0), refl, chosen.1)))
           | inr passed ↦ inr (inl (late_here, taken_no m u s s.now n passed.0, refl, passed.1))
         ]
 

@@ -29,7 +29,7 @@ use Rattle.sched_laws.proofs.Kept.{IsApart}
 use Rattle.sched_laws.proofs.Counts.{same_unit_refl}
 use Rattle.sched_laws.proofs.Lists.{test_at-some, some_is, some_same}
 use Rattle.sched_laws.proofs.Records.{same_replenish}
-use Rattle.sched_laws.proofs.RtdsUnits.{rtds_unit-same, rtds_unit-none, rtds_unit-other}
+use Rattle.sched_laws.proofs.RtdsUnits.{rtds_unit-same, rtds_unit-none, rtds_unit-other, rtds_same}
 use Rattle.term_laws.specs.RtdsTerm.{Term, term_end, opened_by}
 use Rattle.term_laws.proofs.RtdsSteps.{at_place-change_at, at_place-change_at_other}
 use Rattle.term_laws.proofs.SamePool.{seen, cur_in}
@@ -37,7 +37,7 @@ use Rattle.term_laws.proofs.TermPool.{OffPool, OnPool, core_seen, burned_to, on_
 use Rattle.term_laws.proofs.TermState.{PoolHas, WithinTerm, one_home}
 use Rattle.term_laws.proofs.TermSums.{StepOff, StepOn}
 use Rattle.term_laws.proofs.TermsOfRuns.{TrackOff, TrackOn, begun_on}
-use Rattle.term_laws.proofs.Track.{OffHome, OnHome, is_rtds_pool, rtds_same}
+use Rattle.term_laws.proofs.Track.{OffHome, OnHome, is_rtds_pool}
 use Rattle.term_laws.proofs.ReachedStates.{Known}
 use Rattle.term_laws.proofs.ActsIn.{IsStable, ActsIn, home_after, away_after, home_pools_same}
 use Rattle.term_laws.proofs.Deciding.{Tracks, OverPool, off_home_stable, on_home_stable, off_pool_stable, on_pool_stable, over_stable, over_is, cur_of_seen_unit}

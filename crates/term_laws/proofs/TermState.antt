@@ -21,7 +21,8 @@ use Rattle.sched_model.specs.Machine.{after}
 use Rattle.term_laws.specs.RtdsTerm.{core_in}
 use Rattle.sched_laws.specs.StateLaws.{has_domain_at}
 use Rattle.sched_laws.proofs.StillWaits.{core_home}
-use Rattle.sched_laws.proofs.Lists.{test_at-some, some-test_at, is_some_at, AllByRecursion-map, some_same}
+use Rattle.sched_laws.proofs.Lists.{test_at-some, some-test_at, is_some_at, some_same}
+use Rattle.sched_base.proofs.Lists.{AllByRecursion-map}
 use Rattle.sched_laws.proofs.OwnUnits.{there_if_staying}
 use Rattle.sched_laws.specs.PoolFacts.{UnitsAreOwn, IsThere, IsStaying}
 use Rattle.sched_laws.proofs.Choices.{decision_has, same_unit_same}

@@ -24,7 +24,8 @@ use Rattle.sched_model.specs.Machine.{event_of}
 use Rattle.sched_model.specs.Runs.{Reached, run_start, after_entry, IsNext, IsRunFrom, IsRun}
 use Rattle.sched_laws.specs.StateLaws.{state_after}
 use Rattle.sched_laws.proofs.EachPlace.{found_at}
-use Rattle.sched_laws.proofs.Lists.{AllByRecursion-map, some_is, some-test_at, test_at-some}
+use Rattle.sched_laws.proofs.Lists.{some_is, some-test_at, test_at-some}
+use Rattle.sched_base.proofs.Lists.{AllByRecursion-map}
 use Rattle.sched_laws.proofs.Choices.{same_unit_same}
 use Rattle.term_laws.specs.RtdsTerm.{Term, legs, terms, term_end, opened_terms, opened_by, rtds_in, KeepsTerm}
 use Rattle.term_laws.proofs.TermState.{WithinTerm}

@@ -11,7 +11,7 @@ use Rattle.sched_model.specs.declared.state.State.{State}
 use Rattle.sched_model.specs.Runs.{Reached, IsNext, IsRunFrom, after_entry, after_entries}
 use Rattle.term_laws.specs.RtdsTerm.{Leg, Term, late_of, leg_from, taken_by, legs, term_end, opened_by, opened_terms, KeepsTerm}
 use Rattle.std.specs.List.{AllByRecursion}
-use Rattle.sched_laws.proofs.Lists.{AllByRecursion-map}
+use Rattle.sched_base.proofs.Lists.{AllByRecursion-map}
 use Rattle.term_laws.proofs.TermSums.{TimeGoesOn, Within, Steps, Fits, fits_unmet, fits_within, legs_with, leg_from-open, leg_from-closed, legs-none, legs-taken}
 
 -- the unit is on this core, or on none

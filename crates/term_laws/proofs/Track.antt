@@ -21,7 +21,7 @@ use Rattle.sched_model.specs.Rtds as rtds
 use Rattle.sched_model.specs.Pool.{ask_of, after_decide, decided_core}
 use Rattle.sched_laws.proofs.Choices.{is_unit_same}
 use Rattle.sched_laws.proofs.Counts.{same_unit_refl}
-use Rattle.sched_laws.proofs.RtdsUnits.{rtds_unit-same, rtds_unit-none, rtds_unit-other}
+use Rattle.sched_laws.proofs.RtdsUnits.{rtds_unit-same, rtds_unit-none, rtds_unit-other, rtds_same}
 use Rattle.sched_laws.proofs.OnePlace.{decided_cur}
 use Rattle.term_laws.proofs.RtdsSteps.{at_place-set_other}
 use Rattle.term_laws.proofs.SamePool.{Same, seen, cur_in, charged}
@@ -48,9 +48,6 @@ pub record OnHome (u : UnitId) (r : ℕ) (p : Pool) : Type 0 where
 pub is_rtds_pool : (records : Records) → kind_of records ≡ kinds.Rtds → (domains : List (Option (List RtdsUnit))) × (records ≡ RtdsPool domains)
 is_rtds_pool (RtdsPool domains) is = (domains, refl)
 is_rtds_pool any is = absurd (cc)
-
-pub rtds_same : (a b : List (Option (List RtdsUnit))) → RtdsPool a ≡ RtdsPool b → a ≡ b
-rtds_same a b same = cc
 
 pub off_home_same : (u : UnitId) (p q : Pool) → Same u p q → OffHome u p → OffHome u q
 off_home_same u p q same a = record { there = same.there ∙ a.there; none = λ r is. a.none r (sym (same.curs r) ∙ is) }

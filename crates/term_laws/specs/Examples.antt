@@ -1,7 +1,8 @@
 -- Worked examples of terms: small machines, and the terms and legs of a unit in the ordered run of each.
 use Rattle.std.specs.Prelude.{ℕ, List, [], ◌∷◌, None, Some, Ok, false, map, codes}
-use Rattle.sched_base.specs.Numbers.{moment, span, processor, domain as domain_number, pool as pool_number}
+use Rattle.sched_base.specs.Numbers.{moment, span, processor, pool as pool_number}
 use Rattle.sched_base.specs.declared.UnitId.{UnitId}
+use Rattle.sched_base.specs.Units.{unit_id}
 use Rattle.sched_base.specs.declared.Span.{Span}
 use Rattle.sched_model.specs.declared.config.PoolConfig.{PoolConfig}
 use Rattle.sched_model.specs.declared.config.DomConfig.{DomConfig}
@@ -22,7 +23,7 @@ use Rattle.term_laws.specs.RtdsTerm.{Leg, Term, legs, terms, time_on, late_withi
 
 -- the only unit of the domain d
 abbrev pub unit : ℕ → UnitId
-unit d = record { dom = domain_number d; n = 0 }
+unit d = unit_id d 0
 
 -- a term, the time for which the unit is on a core within it, and what was late
 pub record TermSums : Type 0 where

@@ -19,6 +19,7 @@ use Rattle.sched_ops.specs.Timers.{Armed, unit_timers, replenishments, refills, 
 use Rattle.timer_laws.specs.TimerOrder.{armed_at}
 use Rattle.timer_laws.proofs.Scan.{each-append}
 use Rattle.sched_laws.proofs.Waiting.{parts_of}
+use Rattle.sched_base.specs.Units.{unit_id}
 
 -- what holds of each thing and its place holds of all that are numbered, and back
 pub to_numbered : {X : Type 0} (P : ℕ × X → Type 0) (n : ℕ) (places : List (Option X)) → ((i m : ℕ) (x : X) → n + i ≡ m → at_place places i ≡ Some x → P (m, x)) → AllByRecursion P (numbered_items n places)
@@ -36,10 +37,6 @@ of_numbered {X} P n (Some y ∷ places) each zero m x e at =
     subst (λ (j : ℕ). P (j, x)) k (subst (λ (z : X). P (n, z)) same each.0)
 of_numbered P n (Some y ∷ places) each (suc i) m x e at = of_numbered P (suc n) places each.1 i m x (omega (arith, e)) at
 
--- the unit with this number of the domain with this number
-abbrev pub unit_of : ℕ → ℕ → UnitId
-unit_of d n = record { dom = domain d; n = n }
-
 -- whether the unit waits or is on
 abbrev pub is_busy : List UnitId → UnitId → RtdsUnit → Bool
 is_busy queue u x = has_unit queue u || is_some x.burned
@@ -47,29 +44,29 @@ is_busy queue u x = has_unit queue u || is_some x.burned
 module _ (P : Armed → Type 0) where
   module _ (queue : List UnitId) where
     -- the units of one domain
-    pub to_units : (d n : ℕ) (units : List RtdsUnit) → ((i m : ℕ) (x : RtdsUnit) → n + i ≡ m → slice_get units i ≡ Some x → is_busy queue (unit_of d m) x ≡ true → P (moment x.deadline, Repl (unit_of d m))) → AllByRecursion P (unit_timers queue d n units)
+    pub to_units : (d n : ℕ) (units : List RtdsUnit) → ((i m : ℕ) (x : RtdsUnit) → n + i ≡ m → slice_get units i ≡ Some x → is_busy queue (unit_id d m) x ≡ true → P (moment x.deadline, Repl (unit_id d m))) → AllByRecursion P (unit_timers queue d n units)
     to_units d n [] each = tt
     to_units d n (y ∷ units) each =
         let rest : AllByRecursion P (unit_timers queue d (suc n) units) = to_units d (suc n) units (λ i m x e get. each (suc i) m x (omega (arith, e)) get) in
         let timers : List Armed = unit_timers queue d (suc n) units in
-        elim (is_busy queue (unit_of d n) y) as (λ b. is_busy queue (unit_of d n) y ≡ b → AllByRecursion P (cond b ((moment y.deadline, Repl (unit_of d n)) ∷ timers) timers)) [
+        elim (is_busy queue (unit_id d n) y) as (λ b. is_busy queue (unit_id d n) y ≡ b → AllByRecursion P (cond b ((moment y.deadline, Repl (unit_id d n)) ∷ timers) timers)) [
           | true ↦ λ on. (each 0 n y (omega arith) refl on, rest)
           | false ↦ λ off. rest
         ] refl
 
-    of_units : (d n : ℕ) (units : List RtdsUnit) → AllByRecursion P (unit_timers queue d n units) → (i m : ℕ) (x : RtdsUnit) → n + i ≡ m → slice_get units i ≡ Some x → is_busy queue (unit_of d m) x ≡ true → P (moment x.deadline, Repl (unit_of d m))
+    of_units : (d n : ℕ) (units : List RtdsUnit) → AllByRecursion P (unit_timers queue d n units) → (i m : ℕ) (x : RtdsUnit) → n + i ≡ m → slice_get units i ≡ Some x → is_busy queue (unit_id d m) x ≡ true → P (moment x.deadline, Repl (unit_id d m))
     of_units d n [] each i m x e get on = absurd (cc)
     of_units d n (y ∷ units) each zero m x e get on =
         let same : y ≡ x = cc in
         let k : n ≡ m = omega (arith, e) in
-        let on2 : is_busy queue (unit_of d n) y ≡ true = ap (is_busy queue (unit_of d n)) same ∙ ap (λ (j : ℕ). is_busy queue (unit_of d j) x) k ∙ on in
+        let on2 : is_busy queue (unit_id d n) y ≡ true = ap (is_busy queue (unit_id d n)) same ∙ ap (λ (j : ℕ). is_busy queue (unit_id d j) x) k ∙ on in
         let timers : List Armed = unit_timers queue d (suc n) units in
-        let head : AllByRecursion P ((moment y.deadline, Repl (unit_of d n)) ∷ timers) = subst (λ (b : Bool). AllByRecursion P (cond b ((moment y.deadline, Repl (unit_of d n)) ∷ timers) timers)) on2 each in
-        subst (λ (j : ℕ). P (moment x.deadline, Repl (unit_of d j))) k (subst (λ (z : RtdsUnit). P (moment z.deadline, Repl (unit_of d n))) same head.0)
+        let head : AllByRecursion P ((moment y.deadline, Repl (unit_id d n)) ∷ timers) = subst (λ (b : Bool). AllByRecursion P (cond b ((moment y.deadline, Repl (unit_id d n)) ∷ timers) timers)) on2 each in
+        subst (λ (j : ℕ). P (moment x.deadline, Repl (unit_id d j))) k (subst (λ (z : RtdsUnit). P (moment z.deadline, Repl (unit_id d n))) same head.0)
     of_units d n (y ∷ units) each (suc i) m x e get on =
         let timers : List Armed = unit_timers queue d (suc n) units in
         let rest : AllByRecursion P timers =
-        elim (is_busy queue (unit_of d n) y) as (λ b. AllByRecursion P (cond b ((moment y.deadline, Repl (unit_of d n)) ∷ timers) timers) → AllByRecursion P timers) [
+        elim (is_busy queue (unit_id d n) y) as (λ b. AllByRecursion P (cond b ((moment y.deadline, Repl (unit_id d n)) ∷ timers) timers) → AllByRecursion P timers) [
           | true ↦ λ all. all.1
           | false ↦ λ all. all
         ] each in
@@ -173,7 +170,7 @@ module _ (P : Armed → Type 0) (scheduler : Scheduler) where
       (λ j n x e2 get on.
       let d : i ≡ m = omega (arith, e) in
       let k : j ≡ n = omega (arith, e2) in
-      let u : UnitId = unit_of m n in
+      let u : UnitId = unit_id m n in
       let there : rtds_unit domains u ≡ Some x = unit_there domains u units x (ap (at_place domains) (sym d) ∙ at) (ap (slice_get units) (sym k) ∙ get) in
       each (Repl u) (moment x.deadline) (ap (moment_of (has_unit scheduler.queue u)) there ∙ ap (λ (b : Bool). cond b (Some (moment x.deadline)) None) on))))
   to_list_of (ArincPool records) each = tt

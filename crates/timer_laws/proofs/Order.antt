@@ -15,7 +15,8 @@ use Rattle.sched_ops.specs.declared.timer.Timer.TheVariants.{Repl, Refill}
 use Rattle.sched_ops.specs.Timers.{Armed, unit_timers, replenishments, refills, timers_in, timers}
 use Rattle.timer_laws.specs.TimerOrder.{IsNotAfter, domain_place}
 use Rattle.timer_laws.proofs.Scan.{AreInOrder, in_order-append}
-use Rattle.timer_laws.proofs.Listed.{unit_of, is_busy, to_numbered, to_units, to_replenishments, to_refills, OfRefill}
+use Rattle.timer_laws.proofs.Listed.{is_busy, to_numbered, to_units, to_replenishments, to_refills, OfRefill}
+use Rattle.sched_base.specs.Units.{unit_id}
 
 earlier_domain : (a b : Timer) → domain_place a < domain_place b → IsNotAfter a b
 earlier_domain a b less = record { by_domain = omega (arith, less); then_by_unit = λ same. absurd (omega (arith, less, same)) }
@@ -28,8 +29,8 @@ units_in_order queue d n [] = tt
 units_in_order queue d n (x ∷ units) =
     let timers : List Armed = unit_timers queue d (suc n) units in
     let rest : AreInOrder timers = units_in_order queue d (suc n) units in
-    let later : AllByRecursion (IsAfter (Repl (unit_of d n))) timers = to_units (IsAfter (Repl (unit_of d n))) queue d (suc n) units (λ i m y e get on. record { by_domain = omega arith; then_by_unit = λ same. omega (arith, e) }) in
-    elim (is_busy queue (unit_of d n) x) as (λ b. AreInOrder (cond b ((moment x.deadline, Repl (unit_of d n)) ∷ timers) timers)) [
+    let later : AllByRecursion (IsAfter (Repl (unit_id d n))) timers = to_units (IsAfter (Repl (unit_id d n))) queue d (suc n) units (λ i m y e get on. record { by_domain = omega arith; then_by_unit = λ same. omega (arith, e) }) in
+    elim (is_busy queue (unit_id d n) x) as (λ b. AreInOrder (cond b ((moment x.deadline, Repl (unit_id d n)) ∷ timers) timers)) [
       | true ↦ (later, rest)
       | false ↦ rest
     ]
@@ -43,9 +44,9 @@ replenishments_in_order queue k (Some units ∷ domains) =
     in_order-append own others (units_in_order queue k 0 units) (replenishments_in_order queue (suc k) domains)
     (to_units (λ (x : Armed). AllByRecursion (IsAfter x.1) others) queue k 0 units
     (λ i m x e get on.
-    to_replenishments (IsAfter (Repl (unit_of k m))) queue (numbered_items (suc k) domains)
-    (to_numbered (λ (d : ℕ × List RtdsUnit). AllByRecursion (IsAfter (Repl (unit_of k m))) (unit_timers queue d.0 0 d.1)) (suc k) domains
-    (λ i2 d units2 e2 at. to_units (IsAfter (Repl (unit_of k m))) queue d 0 units2 (λ i3 n y e3 get2 on2. earlier_domain (Repl (unit_of k m)) (Repl (unit_of d n)) (omega (arith, e2)))))))
+    to_replenishments (IsAfter (Repl (unit_id k m))) queue (numbered_items (suc k) domains)
+    (to_numbered (λ (d : ℕ × List RtdsUnit). AllByRecursion (IsAfter (Repl (unit_id k m))) (unit_timers queue d.0 0 d.1)) (suc k) domains
+    (λ i2 d units2 e2 at. to_units (IsAfter (Repl (unit_id k m))) queue d 0 units2 (λ i3 n y e3 get2 on2. earlier_domain (Repl (unit_id k m)) (Repl (unit_id d n)) (omega (arith, e2)))))))
 
 refills_in_order : (k : ℕ) (domains : List (Option Credit2Domain)) → AreInOrder (refills (numbered_items k domains))
 refills_in_order k [] = tt

@@ -3,8 +3,8 @@ use Rattle.std.proofs.Common.{◌≡◌, ◌≤◌, ◌<◌, ℕ, true, false, L
 use Rattle.std.specs.Prelude.{Option, Some, None, nat_le, nat_lt}
 use Rattle.std.specs.List.{AllByRecursion}
 use Rattle.std.proofs.lemmas.Bool.{leb-true, leb-false, ltb-true, ltb-false}
-use Rattle.sched_laws.proofs.Lists.{AllByRecursion-map}
-use Rattle.sched_ops.specs.Timers.{Armed, first_due, soonest_timer}
+use Rattle.sched_base.proofs.Lists.{AllByRecursion-map}
+use Rattle.sched_ops.specs.Timers.{Armed, first_due, soonest_timer, next_of}
 use Rattle.timer_laws.specs.TimerOrder.{IsNotAfter}
 
 -- what holds of each of two lists holds of both, one after the other, and back
@@ -83,10 +83,6 @@ soonest_least best (y ∷ xs) x is =
 pub soonest_some : (best : Armed) (xs : List Armed) → soonest_timer (Some best) xs ≡ None → ⊥
 soonest_some best [] is = absurd (cc)
 soonest_some best (y ∷ xs) is = soonest_some (cond (nat_lt y.0.0 best.0.0) y best) xs is
-
--- the first of a list whose moment has come, or else the soonest
-abbrev pub next_of : ℕ → List Armed → Option Armed
-next_of t xs = elim (first_due t xs) [ Some x ↦ Some x | None ↦ soonest_timer None xs ]
 
 -- which of the two it is
 next_cases : (o soon : Option Armed) (x : Armed) → elim o as (λ _. Option Armed) [ Some y ↦ Some y | None ↦ soon ] ≡ Some x → (o ≡ Some x) ⊎ ((o ≡ None) × (soon ≡ Some x))

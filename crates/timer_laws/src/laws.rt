@@ -3,7 +3,7 @@
 ghost use Rattle.std.specs.Prelude.{◌≡◌, ◌≤◌, ◌⊎◌, ℕ, Some, None};
 ghost use Rattle.sched_base.specs.declared.Moment.{Moment};
 ghost use Rattle.sched_model.specs.declared.state.Scheduler.{Scheduler};
-ghost use Rattle.sched_model.specs.State.{has_come};
+ghost use Rattle.sched_base.specs.Numbers.{has_come};
 ghost use Rattle.sched_ops.specs.declared.timer.Timer.{Timer};
 ghost use Rattle.sched_ops.specs.Timers.{Armed, timer_at, is_due};
 ghost use Rattle.timer_laws.specs.TimerOrder.{armed_at, IsNotAfter};

@@ -37,7 +37,7 @@ use Rattle.cpupool.proofs.SubjectLemmas.{length-map}
 use Rattle.actor_laws.specs.First.{move_first}
 use Rattle.move_laws.specs.Moves.{HasOneMove}
 use Rattle.move_laws.proofs.Law.{has_one_move}
-use Rattle.tool_laws.specs.ToolSteps as steps
+use Rattle.sched_model.specs.Machine as machine
 use Rattle.tool_laws.specs.ToolSteps.{JoinSteps, LeaveSteps}
 use Rattle.tool_laws.proofs.Steps.{tool_steps}
 use Rattle.pool_core.specs.Seen as pools
@@ -182,7 +182,7 @@ module _ (w : Told) (tool : Tool) (t r : ℕ) (begins : Begins w tool t (Moved (
         joins-siblings seen here = ap length ends-joining ∙ ((range-of w begins.goes).free r coming joining.1).count ∙ sym (stands.suits seen here).granularity
 
         module _ (event : Event) (ev : event ≡ event_of m s s.now (Moved (core_number r))) (new : Option Seen) (made : new ≡ option_map (λ seen. seen_at t (settled_pool t (pools.with_core r ends seen.pool)) seen) slot) where
-          joined-at : (o : Option Seen) → pool_at (option_map (λ seen. seen_at t (settled_pool t (pools.with_core r ends seen.pool)) seen) o) ≡ option_map (steps.with_core s.now r coming) (pool_at o)
+          joined-at : (o : Option Seen) → pool_at (option_map (λ seen. seen_at t (settled_pool t (pools.with_core r ends seen.pool)) seen) o) ≡ option_map (machine.with_core s.now r coming.stall_ends) (pool_at o)
           joined-at None = refl
           joined-at (Some seen) =
               ap (λ (n : ℕ). Some (settled_pool n (pools.with_core r ends seen.pool))) begins.now
@@ -190,14 +190,14 @@ module _ (w : Told) (tool : Tool) (t r : ℕ) (begins : Begins w tool t (Moved (
 
           pub stands-joined : StandsAt (told_event w t event) i new
           stands-joined =
-              stands-changed w tool t (Moved (core_number r)) begins event ev i (option_map (steps.with_core s.now r coming)) slot new join-steps.own stands (ap pool_at made ∙ joined-at slot)
+              stands-changed w tool t (Moved (core_number r)) begins event ev i (option_map (machine.with_core s.now r coming.stall_ends)) slot new join-steps.own stands (ap pool_at made ∙ joined-at slot)
               (subst (λ (o : Option Seen). ForSome o (SlotSuits m s.now)) (sym made) (suits-seen m s.now t (λ seen. settled_pool t (pools.with_core r ends seen.pool)) begins.now slot stands.suits))
 
     -- the tool, which has the core no more
     module _ (new : Tool) (done : new ≡ but_for_free (clear_at r tool.part.free) (tool_of m left)) where
       pub acted-joins : (event : Event) → event ≡ event_of m s s.now (Moved (core_number r)) → HasActedOn w i (told_event w t event) new
       acted-joins event ev =
-          acted-on w tool t (Moved (core_number r)) begins event ev i (option_map (steps.with_core s.now r coming)) new join-steps.own
+          acted-on w tool t (Moved (core_number r)) begins event ev i (option_map (machine.with_core s.now r coming.stall_ends)) new join-steps.own
           (knows-left (clear_at r tool.part.free) new done (ap (map (option_map ends_of)) join-steps.free ∙ map-set (option_map ends_of) s.free r None ∙ ap (λ (x : Tool). clear_at r x.part.free) begins.known))
 
       pub counts-joins : KeepsCounts tool.part new.part
@@ -268,13 +268,13 @@ module _ (w : Told) (tool : Tool) (t r : ℕ) (begins : Begins w tool t (Moved (
 
     module _ (event : Event) (ev : event ≡ event_of m s s.now (Moved (core_number r))) where
       module _ (new : Option Seen) (made : new ≡ option_map (λ seen. seen_at t (settled_pool t (pools.without_core r seen.pool)) seen) slot) where
-        left-at : (o : Option Seen) → pool_at (option_map (λ seen. seen_at t (settled_pool t (pools.without_core r seen.pool)) seen) o) ≡ option_map (steps.without_core s.now r) (pool_at o)
+        left-at : (o : Option Seen) → pool_at (option_map (λ seen. seen_at t (settled_pool t (pools.without_core r seen.pool)) seen) o) ≡ option_map (machine.without_core s.now r) (pool_at o)
         left-at None = refl
         left-at (Some seen) = ap (λ (n : ℕ). Some (settled_pool n (pools.without_core r seen.pool))) begins.now
 
         pub stands-left : StandsAt (told_event w t event) i new
         stands-left =
-            stands-changed w tool t (Moved (core_number r)) begins event ev i (option_map (steps.without_core s.now r)) slot new leave-steps.own stands (ap pool_at made ∙ left-at slot)
+            stands-changed w tool t (Moved (core_number r)) begins event ev i (option_map (machine.without_core s.now r)) slot new leave-steps.own stands (ap pool_at made ∙ left-at slot)
             (subst (λ (o : Option Seen). ForSome o (SlotSuits m s.now)) (sym made) (suits-seen m s.now t (λ seen. settled_pool t (pools.without_core r seen.pool)) begins.now slot stands.suits))
 
     -- the tool, which has the core
@@ -287,7 +287,7 @@ module _ (w : Told) (tool : Tool) (t r : ℕ) (begins : Begins w tool t (Moved (
       pub acted-leaves : (event : Event) → event ≡ event_of m s s.now (Moved (core_number r)) → HasActedOn w i (told_event w t event) new
       acted-leaves event ev =
           let free : FreeCore = record { target = None; stall_ends = plain.ends_of going } in
-          acted-on w tool t (Moved (core_number r)) begins event ev i (option_map (steps.without_core s.now r)) new leave-steps.own
+          acted-on w tool t (Moved (core_number r)) begins event ev i (option_map (machine.without_core s.now r)) new leave-steps.own
           (knows-left (put_at r ends tool.part.free) new done
           (ap (map (option_map ends_of)) leave-steps.free ∙ map-set (option_map ends_of) s.free r (Some free)
           ∙ ap (λ (l : List Moment). put_at r l (map (option_map ends_of) s.free)) (sym ends-going) ∙ ap (λ (x : Tool). put_at r ends x.part.free) begins.known))

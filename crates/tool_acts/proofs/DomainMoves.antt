@@ -60,7 +60,7 @@ use Rattle.cpupool.specs.declared.moves.Move.TheVariants as move
 use Rattle.unit_state.specs.declared.part.DomPart.{DomPart}
 use Rattle.unit_state.specs.Parts.{IsPart}
 use Rattle.unit_state.specs.Seen.{units_at}
-use Rattle.pool_core.specs.Domains.{unit_id}
+use Rattle.sched_base.specs.Units.{unit_id}
 use Rattle.pool_core.specs.Params.{stored_units}
 use Rattle.pool_core.specs.Seen.{IsNow, Seen, seen_at, with_spare}
 use Rattle.pool_core.proofs.Comers.{some_units}

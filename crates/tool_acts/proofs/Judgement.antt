@@ -18,7 +18,7 @@ use Rattle.sched_laws.proofs.EachPlace.{place_below}
 use Rattle.sched_records.specs.Records.{HasRecords}
 use Rattle.sched_records.proofs.Law.{has_records}
 use Rattle.unit_state.specs.Seen as guests
-use Rattle.pool_core.specs.Domains.{unit_id}
+use Rattle.sched_base.specs.Units.{unit_id}
 use Rattle.pool_core.specs.Params as params
 use Rattle.pool_core.specs.Seen.{Seen}
 use Rattle.cpupool.specs.Facts.{rate_at, stored_from, stored_in, stored_at}

@@ -27,7 +27,7 @@ use Rattle.sched_laws.proofs.Fits.{RtdsFits}
 use Rattle.sched_laws.proofs.Judged.{Fits, verdict_fits}
 use Rattle.sched_laws.proofs.Lists.{item_below, some_is, some_same}
 use Rattle.sched_records.specs.Records.{IsRecorded}
-use Rattle.pool_core.specs.Domains.{unit_id}
+use Rattle.sched_base.specs.Units.{unit_id}
 use Rattle.pool_core.specs.Params.{AreGiven}
 use Rattle.sched_model.specs.declared.state.Scheduler.{Scheduler}
 use Rattle.sched_ops.specs.Conditions.{IsCap, IsChange, IsWeight, has_joined}

@@ -17,14 +17,15 @@ pub use Rattle.sched_model.proofs.PlaceLemmas.{at_place-change_at_other}
 use Rattle.sched_laws.proofs.EachPlace.{at_place-change_each}
 pub use Rattle.sched_laws.proofs.EachPlace.{at_place-change_at}
 use Rattle.turn_laws.specs.Stretches.{cores, units}
-use Rattle.turn_laws.specs.Turns.{one, turns, turns_in, weight_of, meeting, is_stirred, is_secure, keeps, ahead}
+use Rattle.turn_laws.specs.Turns.{turns, turns_in, weight_of, meeting, is_stirred, is_secure, keeps, ahead}
+use Rattle.sched_base.specs.Numbers.{one_if}
 use Rattle.turn_laws.proofs.Sums.{many}
 use Rattle.turn_laws.proofs.Looking.{turns_settled}
 
 -- the same units run
 pub turns_runs : (g weight most t home : ℕ) (runs runs2 : UnitId → Bool) (scheduler : Scheduler) (r : ℕ) (c : Resource) → ((u : UnitId) → runs2 u ≡ runs u) → turns g weight most runs2 t home scheduler r c ≡ turns g weight most runs t home scheduler r c
 turns_runs g weight most t home runs runs2 scheduler r c same =
-    ap (λ k. weight * (k + k + one (is_some c.saving)) + meeting g (is_stirred t home scheduler r c) c) (by_cur c.cur)
+    ap (λ k. weight * (k + k + one_if (is_some c.saving)) + meeting g (is_stirred t home scheduler r c) c) (by_cur c.cur)
   where
     by_cur : (cur : Option UnitId)
         → elim cur as (λ _. ℕ) [ None ↦ cond (c.leaving && c.pending) (suc most) most | Some u ↦ cond (not c.leaving && is_secure runs2 t home scheduler r u) (ahead scheduler.records u) (suc most) ]

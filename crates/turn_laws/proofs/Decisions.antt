@@ -3,7 +3,7 @@ use Rattle.std.proofs.Common.{◌≡◌, ◌≢◌, ◌≤◌, ◌+◌, ◌-◌,
 use Rattle.std.specs.Prelude.{Option, Some, None, is_some, ◌&&◌, ◌||◌, option_map, slice_set}
 use Rattle.std.specs.List.{list_all}
 use Rattle.std.proofs.lemmas.Bool.{cases_Bool}
-use Rattle.sched_base.specs.Numbers.{moment}
+use Rattle.sched_base.specs.Numbers.{moment, one_if}
 use Rattle.sched_base.specs.declared.UnitId.{UnitId}
 use Rattle.sched_base.proofs.Bools.{and_false}
 use Rattle.sched_model.specs.declared.machine.Machine.{Machine}
@@ -20,7 +20,7 @@ use Rattle.sched_laws.proofs.Counts.{same_unit_refl}
 use Rattle.sched_laws.proofs.EachPlace.{by_option, by_test}
 use Rattle.sched_laws.proofs.OnePlace.{same_choice_same}
 use Rattle.turn_laws.specs.Stretches.{cores, units}
-use Rattle.turn_laws.specs.Turns.{one, how_many, weight_of, chances, changes_left, meeting, is_stirred, is_secure, ahead}
+use Rattle.turn_laws.specs.Turns.{how_many, weight_of, chances, changes_left, meeting, is_stirred, is_secure, ahead}
 use Rattle.turn_laws.proofs.Sums.{many, many_is, many_none, one_most, how_many_all, weighs_less, weighs_no_more}
 use Rattle.turn_laws.proofs.Changed.{Falls, under, changed}
 use Rattle.turn_laws.proofs.Meetings.{meeting_open, meeting_decided, meeting_most, cond_most}
@@ -229,7 +229,7 @@ module _ (m : Machine) (t : ℕ) (pool : Pool) (r : ℕ) (c : Resource) where
       own_stays same chances calm =
           let stay : Resource = record c { due = decision.due; pending = false; stage = Decided } in
           let is : left ≡ stay = ap (λ b. elim b as (λ _. Resource) [ true ↦ stay | false ↦ record c { saving = c.cur; cur = decision.unit; since = moment t; due = decision.due; pending = false; stage = Decided } ]) same in
-          let saves : one (is_some left.saving) ≡ one (is_some c.saving) = ap (λ (x : Resource). one (is_some x.saving)) is in
+          let saves : one_if (is_some left.saving) ≡ one_if (is_some c.saving) = ap (λ (x : Resource). one_if (is_some x.saving)) is in
           let stirred : is_stirred t (home_cores pool) next r left ≡ false = ap (λ (x : Resource). is_stirred t (home_cores pool) next r x) is ∙ ap (λ b. not c.leaving && b) calm.own ∙ and_false (not c.leaving) in
           let weighs = weighs_no_more (weight_of m) (changes_left (units m) (is_runnable m.config.granularity pool) t (home_cores pool) next r left) (changes_left (units m) (is_runnable m.config.granularity pool) t (home_cores pool) pool.scheduler r c) (omega (arith, chances, saves)) in
           let before = meeting_before pending gathers all whole in

@@ -13,7 +13,8 @@ use Rattle.sched_model.specs.Pool.{home_cores, reconsidered_core, settled_pool}
 use Rattle.sched_model.proofs.PlaceLemmas.{cores_from-change_each}
 use Rattle.sched_laws.proofs.EachPlace.{at_place-change_each, by_cond}
 use Rattle.turn_laws.specs.Stretches.{units}
-use Rattle.turn_laws.specs.Turns.{one, turns, turns_in, is_secure, weight_of, ahead, meeting, changes_left}
+use Rattle.turn_laws.specs.Turns.{turns, turns_in, is_secure, weight_of, ahead, meeting, changes_left}
+use Rattle.sched_base.specs.Numbers.{one_if}
 
 -- looking at a core changes nothing of what is left to it
 stirred_again : (pending leaving better : Bool) → leaving ≡ false → ((pending || better) || (not leaving && better)) ≡ (pending || (not leaving && better))
@@ -30,7 +31,7 @@ pub turns_reconsidered : (g weight most t home : ℕ) (runs : UnitId → Bool) (
 turns_reconsidered g weight most t home runs scheduler r c =
     by_cond (λ (x : Resource). turns g weight most runs t home scheduler r x ≡ turns g weight most runs t home scheduler r c) c.leaving c (record c { pending = c.pending || better })
     (λ is. refl)
-    (λ is. ap (λ k. weight * (k + k + one (is_some c.saving)) + meeting g ((c.pending || better) || (not c.leaving && better)) c) (by_cur c.cur is) ∙ ap (λ b. weight * changes_left most runs t home scheduler r c + meeting g b c) (stirred_again c.pending c.leaving better is))
+    (λ is. ap (λ k. weight * (k + k + one_if (is_some c.saving)) + meeting g ((c.pending || better) || (not c.leaving && better)) c) (by_cur c.cur is) ∙ ap (λ b. weight * changes_left most runs t home scheduler r c + meeting g b c) (stirred_again c.pending c.leaving better is))
   where
     better : Bool
     better = better_waits c.cur c.since.0 t r home scheduler

@@ -3,7 +3,7 @@ use Rattle.std.proofs.Common.{◌≡◌, ◌≢◌, ◌≤◌, ◌<◌, ◌+◌,
 use Rattle.std.specs.Prelude.{Option, Some, None, is_some, is_none, slice_get, ◌&&◌}
 use Rattle.std.specs.List.{list_any}
 use Rattle.std.proofs.lemmas.Bool.{not-true}
-use Rattle.sched_base.specs.Numbers.{moment, core, processor}
+use Rattle.sched_base.specs.Numbers.{moment, core, processor, one_if}
 use Rattle.sched_base.specs.declared.UnitId.{UnitId}
 use Rattle.sched_model.specs.declared.machine.Machine.{Machine}
 use Rattle.sched_model.specs.declared.state.Pool.{Pool}
@@ -30,7 +30,7 @@ use Rattle.sched_laws.proofs.EachPlace.{by_option, by_cond}
 use Rattle.sched_laws.proofs.Lists.{some-test_at, length_change_item}
 use Rattle.sched_laws.proofs.Sound.{change_at-twice, processor_of_is}
 use Rattle.turn_laws.specs.Stretches.{cores, units}
-use Rattle.turn_laws.specs.Turns.{one, how_many, weight_of, chances, changes_left, meeting, is_stirred, is_secure, keeps, ahead}
+use Rattle.turn_laws.specs.Turns.{how_many, weight_of, chances, changes_left, meeting, is_stirred, is_secure, keeps, ahead}
 use Rattle.turn_laws.proofs.Sums.{many, many_is, many_none, how_many_most, how_many_changed, how_many_none, weighs_less}
 use Rattle.turn_laws.proofs.Changed.{Falls, under, changed}
 
@@ -62,7 +62,7 @@ meeting_arrives g i stirred c q is gathers whole at free =
     let a = meeting_open g stirred c gathers in
     let b = meeting_open g stirred c2 gathers in
     let more = how_many_changed is_held i (with_doing Held) c.processors q at in
-    let was : one (is_held q) ≡ 0 = ap one free in
+    let was : one_if (is_held q) ≡ 0 = ap one_if free in
     let most = how_many_most is_held c2.processors in
     let count = length_change_item i (with_doing Held) c.processors in
     let a2 : meeting g stirred c ≡ 2 * g + 1 - how_many is_held c.processors = a ∙ ap (λ s. cond s (2 * g + 1 - how_many is_held c.processors) 0) is in
@@ -76,8 +76,8 @@ meeting_leaves g i stirred c q doing closed at held free =
     let c2 : Resource = record c { processors = change_item i (with_doing doing) c.processors } in
     let a = meeting_decided g stirred c closed in
     let less = how_many_changed is_held i (with_doing doing) c.processors q at in
-    let was : one (is_held q) ≡ 1 = ap one held in
-    let now : one (is_held (with_doing doing q)) ≡ 0 = ap one free in
+    let was : one_if (is_held q) ≡ 1 = ap one_if held in
+    let now : one_if (is_held (with_doing doing q)) ≡ 0 = ap one_if free in
     by_cond (λ (x : Resource). meeting g stirred x + 1 ≤ meeting g stirred c) (list_any is_held c2.processors) c2 (record c2 { stage = Open })
     (λ any. (let b = meeting_decided g stirred c2 closed in omega (arith, a, b, less, was, now)))
     (λ none. (
@@ -176,7 +176,7 @@ module _ (m : Machine) (some : 0 < m.config.granularity) (t : ℕ) (pool : Pool)
       let same : (k : ℕ) (x : Resource) → chances (units m) runs t home scheduler k x ≡ chances (units m) runs t home pool.scheduler k x = λ k x. chances_queue (units m) t home runs pool.scheduler queue k x in
       changed m t pool scheduler pool.domains r (2 * g + 1) saved_core c at (λ w. refl)
       (
-      let one_saves : one (is_some c.saving) ≡ 1 = ap (λ (o : Option UnitId). one (is_some o)) saves in
+      let one_saves : one_if (is_some c.saving) ≡ 1 = ap (λ (o : Option UnitId). one_if (is_some o)) saves in
       let here = same r c in
       let less : changes_left (units m) runs t home scheduler r (saved_core c) + 1 ≤ changes_left (units m) runs t home pool.scheduler r c = omega (arith, one_saves, here) in
       let weighs = weighs_less (weight_of m) (changes_left (units m) runs t home scheduler r (saved_core c)) (changes_left (units m) runs t home pool.scheduler r c) less in
@@ -185,7 +185,7 @@ module _ (m : Machine) (some : 0 < m.config.granularity) (t : ℕ) (pool : Pool)
       omega (arith, weighs, meets, pays))
       (λ k x other at_k. (
       let meets = meeting_most g (is_stirred t home pool.scheduler k x) (is_stirred t home scheduler k x) x in
-      let e : weight_of m * changes_left (units m) runs t home scheduler k x ≡ weight_of m * changes_left (units m) runs t home pool.scheduler k x = ap (λ n. weight_of m * (n + n + one (is_some x.saving))) (same k x) in
+      let e : weight_of m * changes_left (units m) runs t home scheduler k x ≡ weight_of m * changes_left (units m) runs t home pool.scheduler k x = ap (λ n. weight_of m * (n + n + one_if (is_some x.saving))) (same k x) in
       omega (arith, meets, e)))
 
   pub save_falls : (r : ℕ) → enabled_in m.config.granularity t pool (Save (core r)) ≡ true → Falls m t pool (pools.after_in m.config.granularity t pool (Save (core r))) r

@@ -7,8 +7,9 @@ use Rattle.std.proofs.Math.Nat.{mul-le-mul_left}
 use Rattle.sched_model.specs.Places.{change_item}
 use Rattle.sched_base.proofs.Bools.{or_left, or_right, and_left, and_right}
 use Rattle.sched_model.specs.Places.{at_place}
-use Rattle.sched_laws.specs.Counts.{total}
-use Rattle.turn_laws.specs.Turns.{total_over, one, how_many}
+use Rattle.sched_laws.specs.Counts.{total, total_over}
+use Rattle.turn_laws.specs.Turns.{how_many}
+use Rattle.sched_base.specs.Numbers.{one_if}
 
 -- b, so many times
 abbrev pub many : ℕ → ℕ → ℕ
@@ -53,7 +54,7 @@ falls (suc n) b drop i f h low own others =
           omega (arith, a, c))
     ]
 
-pub one_most : (b : Bool) → one b ≤ 1
+pub one_most : (b : Bool) → one_if b ≤ 1
 one_most true = omega arith
 one_most false = omega arith
 
@@ -61,9 +62,9 @@ pub how_many_most : {X : Type 0} (test : X → Bool) (xs : List X) → how_many 
 how_many_most test [] = grind arith
 how_many_most test (x ∷ xs) = (let r = how_many_most test xs in let o = one_most (test x) in grind (arith, r, o))
 
-pub how_many_changed : {X : Type 0} (test : X → Bool) (i : ℕ) (f : X → X) (xs : List X) (x : X) → slice_get xs i ≡ Some x → how_many test (change_item i f xs) + one (test x) ≡ how_many test xs + one (test (f x))
+pub how_many_changed : {X : Type 0} (test : X → Bool) (i : ℕ) (f : X → X) (xs : List X) (x : X) → slice_get xs i ≡ Some x → how_many test (change_item i f xs) + one_if (test x) ≡ how_many test xs + one_if (test (f x))
 how_many_changed test i f [] x at = absurd (cc)
-how_many_changed {X} test zero f (y ∷ xs) x at = (let e : y ≡ x = cc in subst (λ (z : X). (one (test (f y)) + how_many test xs) + one (test z) ≡ (one (test y) + how_many test xs) + one (test (f z))) e (omega arith))
+how_many_changed {X} test zero f (y ∷ xs) x at = (let e : y ≡ x = cc in subst (λ (z : X). (one_if (test (f y)) + how_many test xs) + one_if (test z) ≡ (one_if (test y) + how_many test xs) + one_if (test (f z))) e (omega arith))
 how_many_changed test (suc i) f (y ∷ xs) x at = (let r = how_many_changed test i f xs x at in omega (arith, r))
 
 pub how_many_none : {X : Type 0} (test : X → Bool) (xs : List X) → list_any test xs ≡ false → how_many test xs ≡ 0
@@ -94,7 +95,7 @@ pub count_no_more : {X : Type 0} (p q : X → Bool) → ((x : X) → p x ≡ tru
 count_no_more p q to [] = omega arith
 count_no_more p q to (x ∷ xs) = (let r = count_no_more p q to xs in let o = one_less (p x) (q x) (to x) in omega (arith, r, o))
   where
-    one_less : (a b : Bool) → (a ≡ true → b ≡ true) → one a ≤ one b
+    one_less : (a b : Bool) → (a ≡ true → b ≡ true) → one_if a ≤ one_if b
     one_less true true t = omega arith
     one_less true false t = absurd (let e = t refl in cc)
     one_less false b t = omega arith
@@ -103,8 +104,8 @@ pub count_less : {X : Type 0} (p q : X → Bool) → ((x : X) → p x ≡ true �
 count_less p q to [] n x at passes fails = absurd (cc)
 count_less {X} p q to (y ∷ xs) zero x at passes fails = (
     let e : y ≡ x = cc in
-    let a : one (p y) ≡ 0 = ap one (subst (λ z. p z ≡ false) (sym e) fails) in
-    let b : one (q y) ≡ 1 = ap one (subst (λ z. q z ≡ true) (sym e) passes) in
+    let a : one_if (p y) ≡ 0 = ap one_if (subst (λ z. p z ≡ false) (sym e) fails) in
+    let b : one_if (q y) ≡ 1 = ap one_if (subst (λ z. q z ≡ true) (sym e) passes) in
     let r = count_no_more p q to xs in
     omega (arith, a, b, r))
 count_less p q to (y ∷ xs) (suc n) x at passes fails = (

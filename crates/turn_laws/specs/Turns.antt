@@ -1,5 +1,5 @@
 -- How many entries the cores of a machine still have before them in a stretch, at most: a number of the state alone.
-use Rattle.std.specs.Prelude.{◌≡◌, ◌≤◌, ◌+◌, ◌-◌, ◌*◌, ℕ, zero, suc, Bool, true, false, cond, not, List, [], ◌∷◌, length, Option, Some, None, is_some, ◌&&◌, ◌||◌, ◌==◌, int_lt, nat_lt, pos, slice_get}
+use Rattle.std.specs.Prelude.{◌≡◌, ◌≤◌, ◌+◌, ◌-◌, ◌*◌, ℕ, suc, Bool, true, false, cond, not, List, [], ◌∷◌, length, Option, Some, None, is_some, ◌&&◌, ◌||◌, ◌==◌, int_lt, nat_lt, pos, slice_get}
 use Rattle.sched_base.specs.declared.UnitId.{UnitId}
 use Rattle.sched_model.specs.declared.machine.Machine.{Machine}
 use Rattle.sched_model.specs.declared.state.State.{State}
@@ -21,22 +21,14 @@ use Rattle.sched_model.specs.EligibleUnits.{is_allowed, is_placed, rtds_unit}
 use Rattle.sched_model.specs.Policy.{better_waits}
 use Rattle.sched_model.specs.Pool.{home_cores, is_held, is_open}
 use Rattle.sched_laws.specs.EachPlace.{EachPlace}
-use Rattle.sched_laws.specs.Counts.{total}
+use Rattle.sched_laws.specs.Counts.{total, total_over}
 use Rattle.turn_laws.specs.Stretches.{cores, units}
-
--- what f makes of the numbers below n, added up
-abbrev pub total_over : ℕ → (ℕ → ℕ) → ℕ
-total_over zero f = 0
-total_over (suc n) f = total_over n f + f n
-
--- one where the test passes
-abbrev pub one : Bool → ℕ
-one b = cond b 1 0
+use Rattle.sched_base.specs.Numbers.{one_if}
 
 -- how many of the list pass the test
 abbrev pub how_many : {X : Type 0} → (X → Bool) → List X → ℕ
 how_many test [] = 0
-how_many test (x ∷ xs) = one (test x) + how_many test xs
+how_many test (x ∷ xs) = one_if (test x) + how_many test xs
 
 -- whether the core is to decide, or would be marked to as soon as it is looked at
 abbrev pub is_stirred : ℕ → ℕ → Scheduler → ℕ → Resource → Bool
@@ -88,7 +80,7 @@ meeting g stirred c =
 
 -- the core's changes and saves to come: each change may bring a save of its own
 abbrev pub changes_left : ℕ → (UnitId → Bool) → ℕ → ℕ → Scheduler → ℕ → Resource → ℕ
-changes_left most runs t home scheduler r c = chances most runs t home scheduler r c + chances most runs t home scheduler r c + one (is_some c.saving)
+changes_left most runs t home scheduler r c = chances most runs t home scheduler r c + chances most runs t home scheduler r c + one_if (is_some c.saving)
 
 -- the core's turns: each change and each save may stir every core of the machine once more, and the weight pays for that
 abbrev pub turns : ℕ → ℕ → ℕ → (UnitId → Bool) → ℕ → ℕ → Scheduler → ℕ → Resource → ℕ

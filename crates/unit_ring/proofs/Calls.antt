@@ -5,9 +5,11 @@ use Rattle.std.proofs.lemmas.List.{get_or-set_same}
 use Rattle.sched_base.specs.declared.UnitId.{UnitId}
 use Rattle.unit_ring.specs.Lists as l
 use Rattle.unit_ring.specs.Lists.{Item, Lists, item, no_unit, has_node, is_live, unit_of, unit_in, list_of, first_in, next_in, next_of, last_in, prev_from, prev_of, after_take, after_give, after_append, room_of}
-use Rattle.unit_ring.specs.Chains.{Lacks, Has, Path, Below, Distinct, IsChain, IsRing, chain, fenced_numbers, nodes_of, second_of, free_of, numbers_without, put_before, unit_at, items, lists_of, link, as_node, nodes_up_to, after_with, before_with}
+use Rattle.unit_ring.specs.Chains.{Lacks, Path, Below, Distinct, IsChain, IsRing, chain, fenced_numbers, nodes_of, second_of, free_of, numbers_without, put_before, unit_at, items, lists_of, link, as_node, nodes_up_to, after_with, before_with}
+use Rattle.sched_base.specs.Lists.{Has}
 use Rattle.unit_ring.proofs.Linking.{IsChain-put_before, chain-is, length-chain, without-same, without-lacks, put_before-lacks, Lacks-Has, Below-Has, Lacks-without}
-use Rattle.unit_ring.proofs.Fences.{Has-right, Lacks-append, Plain, high, fenced-without, fenced-put_before, fenced-first_end, fenced-second_end, fenced-free_end}
+use Rattle.unit_ring.proofs.Fences.{Lacks-append, Plain, high, fenced-without, fenced-put_before, fenced-first_end, fenced-second_end, fenced-free_end}
+use Rattle.sched_base.proofs.Lists.{Has-right}
 use Rattle.unit_ring.proofs.ItemLists.{items-append, items-set, items-without, items-put_before, has_node-lacks, Has-has_node, unit_in-items, as_node-fence, first_in-items, next_in-items, last_from-items, prev_from-items}
 use Rattle.unit_ring.proofs.Operations.{ring_parted, live_in, live_high, FirstFree, Made, made, chain_has_free, chain_has_1, chain_has_2, ring_path, second_path, live_has}
 use Rattle.unit_ring.proofs.Shifting.{below, before_below, after_below}

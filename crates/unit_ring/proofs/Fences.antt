@@ -2,16 +2,10 @@
 use Rattle.std.proofs.Common.{◌≡◌, ◌⊎◌, ℕ, ◌≤◌, List, [], ◌∷◌, ◌++◌, Bool, refl, sym, ◌∙◌, ap, subst, inl, inr, arith, append_assoc}
 use Rattle.std.specs.Prelude.{if◌then◌else◌}
 use Rattle.std.proofs.lemmas.Bool.{cases_eq, eq-eqb, ne_eqb}
-use Rattle.unit_ring.specs.Chains.{Path, Lacks, Has, Distinct, chain, numbers_before, numbers_after, fenced_numbers, nodes_of, second_of, free_of, numbers_without, put_before}
+use Rattle.unit_ring.specs.Chains.{Path, Lacks, Distinct, chain, numbers_before, numbers_after, fenced_numbers, nodes_of, second_of, free_of, numbers_without, put_before}
+use Rattle.sched_base.specs.Lists.{Has}
 use Rattle.unit_ring.proofs.Linking.{without-same, without-other, put_before-same, put_before-other, put_before-lacks, Lacks-Has}
-
-pub Has-left : (m : ℕ) (xs ws : List ℕ) → Has m xs → Has m (xs ++ ws)
-Has-left m [] ws has = absurd has
-Has-left m (x ∷ xs) ws has = elim has as (λ h. (m ≡ x) ⊎ Has m (xs ++ ws)) [ inl is ↦ inl is | inr later ↦ inr (Has-left m xs ws later) ]
-
-pub Has-right : (m : ℕ) (xs ws : List ℕ) → Has m ws → Has m (xs ++ ws)
-Has-right m [] ws has = has
-Has-right m (x ∷ xs) ws has = inr (Has-right m xs ws has)
+use Rattle.sched_base.proofs.Lists.{Has-left, Has-right}
 
 pub Lacks-left : (m : ℕ) (xs ws : List ℕ) → Lacks m (xs ++ ws) → Lacks m xs
 Lacks-left m [] ws lacks = tt

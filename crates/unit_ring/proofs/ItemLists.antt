@@ -7,7 +7,8 @@ use Rattle.std.proofs.lemmas.List.{get_or-set_same, get_or-set_other}
 use Rattle.sched_base.specs.declared.UnitId.{UnitId}
 use Rattle.unit_ring.specs.declared.Node.{Node}
 use Rattle.unit_ring.specs.Lists.{Item, item, node, no_unit, has_node, unit_in, first_in, next_in, last_from, prev_from, without_in, put_before_in}
-use Rattle.unit_ring.specs.Chains.{link, Path, Lacks, Has, Distinct, unit_at, items, as_node, numbers_without, put_before}
+use Rattle.unit_ring.specs.Chains.{link, Path, Lacks, Distinct, unit_at, items, as_node, numbers_without, put_before}
+use Rattle.sched_base.specs.Lists.{Has}
 
 pub items-append : (us : List UnitId) (xs ys : List ℕ) → items us (xs ++ ys) ≡ items us xs ++ items us ys
 items-append us [] ys = refl

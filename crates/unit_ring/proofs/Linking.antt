@@ -3,7 +3,8 @@ use Rattle.std.proofs.Common.{◌≡◌, ◌⊎◌, ℕ, zero, suc, ◌+◌, ◌
 use Rattle.std.specs.Prelude.{if◌then◌else◌}
 use Rattle.std.proofs.lemmas.Bool.{cases_eq, eq-eqb, ne_eqb}
 use Rattle.std.proofs.lemmas.List.{get_or-set_same, get_or-set_other}
-use Rattle.unit_ring.specs.Chains.{link, Path, Lacks, Has, Distinct, Below, EndsIn, IsChain, follow, chain, numbers_without, put_before, after_without, before_without, after_with, before_with}
+use Rattle.unit_ring.specs.Chains.{link, Path, Lacks, Distinct, Below, EndsIn, IsChain, follow, chain, numbers_without, put_before, after_without, before_without, after_with, before_with}
+use Rattle.sched_base.specs.Lists.{Has}
 
 pub without-same : (n y : ℕ) (ys : List ℕ) → y ≡ n → numbers_without n (y ∷ ys) ≡ numbers_without n ys
 without-same n y ys e = ap (λ (t : Bool). if t then numbers_without n ys else y ∷ numbers_without n ys) (eq-eqb y n e)

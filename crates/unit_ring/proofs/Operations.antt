@@ -3,9 +3,11 @@ use Rattle.std.proofs.Common.{◌≡◌, ◌⊎◌, ℕ, ◌<◌, ◌≤◌, Lis
 use Rattle.std.proofs.lemmas.Bool.{or_cases}
 use Rattle.sched_base.specs.declared.UnitId.{UnitId}
 use Rattle.unit_ring.specs.Lists.{has_node, is_live}
-use Rattle.unit_ring.specs.Chains.{link, Path, Has, Distinct, IsChain, IsRing, chain, fenced_numbers, nodes_of, second_of, free_of, items, lists_of}
+use Rattle.unit_ring.specs.Chains.{link, Path, Distinct, IsChain, IsRing, chain, fenced_numbers, nodes_of, second_of, free_of, items, lists_of}
+use Rattle.sched_base.specs.Lists.{Has}
 use Rattle.unit_ring.proofs.Linking.{Below-Has}
-use Rattle.unit_ring.proofs.Fences.{Parted, parted, high, Has-left, Has-right, Path-right, nodes_of-is, second_of-is, free_of-is}
+use Rattle.unit_ring.proofs.Fences.{Parted, parted, high, Path-right, nodes_of-is, second_of-is, free_of-is}
+use Rattle.sched_base.proofs.Lists.{Has-left, Has-right}
 use Rattle.unit_ring.proofs.ItemLists.{has_node-Has}
 
 -- what is known of a ring: its path, and how its lists stand apart

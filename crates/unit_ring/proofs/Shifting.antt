@@ -1,6 +1,7 @@
 -- A number of the chain goes before another, in two steps: it is taken out, and put in.
 use Rattle.std.proofs.Common.{◌≡◌, ℕ, ◌<◌, List, ◌∷◌, length, set, sym, ◌∙◌, arith, length-set}
-use Rattle.unit_ring.specs.Chains.{IsChain, Has, Lacks, chain, link, numbers_without, put_before, after_without, before_without, after_with, before_with}
+use Rattle.unit_ring.specs.Chains.{IsChain, Lacks, chain, link, numbers_without, put_before, after_without, before_without, after_with, before_with}
+use Rattle.sched_base.specs.Lists.{Has}
 use Rattle.unit_ring.proofs.Linking.{Below-Has, before-Has, after-Has, IsChain-without, IsChain-put_before, Has-without, Lacks-Has, Lacks-without_self, length-without, length-put_before, length-chain, chain-is}
 
 -- a number of the chain, and the ones beside it, are below the length

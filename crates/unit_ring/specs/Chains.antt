@@ -23,11 +23,6 @@ abbrev pub Distinct : List ℕ → Type 0
 Distinct [] = Unit {0}
 Distinct (y ∷ ys) = Lacks y ys × Distinct ys
 
--- the number is in the list
-abbrev pub Has : ℕ → List ℕ → Type 0
-Has n [] = ⊥
-Has n (y ∷ ys) = (n ≡ y) ⊎ Has n ys
-
 -- each number is below m
 abbrev pub Below : ℕ → List ℕ → Type 0
 Below m [] = Unit {0}

@@ -3,7 +3,8 @@
 
 ghost use Rattle.std.specs.Prelude.{ℕ, ◌≡◌, ◌≢◌, ◌-◌, ◌<◌, ◌≤◌, [], ◌∷◌, length, slice_set, IfOk};
 ghost use Rattle.core.specs.Mem.Slots.{slots_items, slots_len, IsFull, SamePlaces};
-ghost use Rattle.unit_ring.specs.Chains.{link, unit_at, after_without, before_without, after_with, before_with, IsChain, Has, chain, fenced_numbers, nodes_up_to, numbers_without, put_before};
+ghost use Rattle.unit_ring.specs.Chains.{link, unit_at, after_without, before_without, after_with, before_with, IsChain, chain, fenced_numbers, nodes_up_to, numbers_without, put_before};
+ghost use Rattle.sched_base.specs.Lists.{Has};
 ghost use Rattle.unit_ring.specs.Nodes.{blank_node, first_node, node_at};
 
 use crate::nodes;

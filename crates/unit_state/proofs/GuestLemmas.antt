@@ -4,7 +4,7 @@ use Rattle.std.proofs.Common.{◌≡◌, ◌≢◌, ◌≤◌, ◌<◌, ◌+◌,
 use Rattle.std.specs.Prelude.{Option, Some, None, option_map, is_none, slice_get, replicate}
 use Rattle.std.specs.List.{AllByRecursion}
 use Rattle.std.proofs.lemmas.Bool.Decides.{nat_tests}
-use Rattle.sched_base.specs.Numbers.{moment, span}
+use Rattle.sched_base.specs.Numbers.{moment, span, has_come}
 use Rattle.sched_base.specs.declared.Moment.{Moment}
 use Rattle.sched_base.specs.declared.Span.{Span}
 use Rattle.sched_base.specs.declared.VcpuId.{VcpuId}
@@ -12,15 +12,14 @@ use Rattle.sched_model.specs.declared.state.Vcpu.{Vcpu}
 use Rattle.sched_model.specs.declared.state.Domain.{Domain}
 use Rattle.sched_model.specs.CheckedMachine.{IsCheckedScript, IsGranularity, most_span}
 use Rattle.sched_model.specs.Places.{at_place, put_at, clear_at, change_at, change_item, AllPlaces}
-use Rattle.sched_model.specs.State.{has_come}
 use Rattle.sched_model.specs.Opening.{fresh_vcpu}
-use Rattle.sched_model.specs.Pool.{woken_vcpu, put_to_sleep, stopped_vcpu, done_at, unit_count}
+use Rattle.sched_model.specs.Pool.{woken_vcpu, put_to_sleep, stopped_vcpu, done_at, unit_count, vcpu_among, change_among}
 use Rattle.sched_laws.specs.EachPlace.{EachPlace}
 use Rattle.sched_laws.proofs.EachPlace.{EachAt-change_to, EachPlace-change_at, EachPlace-put_at, EachPlace-clear_at, EachPlace-empty, place_below, length_set}
 use Rattle.sched_laws.proofs.Lists.{length_change_item, has_come-le}
 use Rattle.sched_ranges.proofs.Vcpus.{VcpuFits as VcpuStands, vcpu_fresh, vcpu_woken, vcpu_slept, vcpu_stopped, vcpu_started}
-use Rattle.plain_pool.specs.Fits.{DomainFits, VcpuFits, vcpu_among}
-use Rattle.unit_state.specs.Seen.{Seen, IsNow, vacant_guests, change_among, done_among, is_awake_among, is_due_among}
+use Rattle.plain_pool.specs.Fits.{DomainFits, VcpuFits}
+use Rattle.unit_state.specs.Seen.{Seen, IsNow, vacant_guests, done_among, is_awake_among, is_due_among}
 use Rattle.unit_state.specs.Parts.{IsGuest, HasGuests, IsStill, IsRunPlace, IsSleepPlace}
 use Rattle.unit_state.specs.Guests.{KeepsGuests, units_in}
 use Rattle.unit_state.proofs.PlaceLemmas.{read_change_item, vcpu_there, vcpu_in, units_in-put_at, units_in-clear_at, units_in-change_at}

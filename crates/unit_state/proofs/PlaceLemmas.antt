@@ -7,14 +7,12 @@ use Rattle.sched_base.specs.declared.VcpuId.{VcpuId}
 use Rattle.sched_model.specs.declared.state.Vcpu.{Vcpu}
 use Rattle.sched_model.specs.declared.state.Domain.{Domain}
 use Rattle.sched_model.specs.Places.{at_place, put_at, clear_at, change_at, change_item}
-use Rattle.sched_model.specs.Pool.{stopped_vcpu, unit_count}
+use Rattle.sched_model.specs.Pool.{stopped_vcpu, unit_count, vcpu_among, change_among}
 use Rattle.sched_model.proofs.PlaceLemmas.{at_place-change_at_other}
 use Rattle.sched_laws.proofs.EachPlace.{at_place-put_at_other, at_place-clear_at_other, by_option, at_place-change_at}
-use Rattle.plain_credit2.proofs.Items.{get-change_item}
-use Rattle.plain_pool.specs.Fits.{vcpu_among}
-use Rattle.unit_state.specs.Seen.{change_among, wake_among}
+use Rattle.unit_state.specs.Seen.{wake_among}
 use Rattle.unit_state.specs.Guests.{units_in}
-use Rattle.sched_laws.proofs.Lists.{slice_get-change_item_other}
+use Rattle.sched_laws.proofs.Lists.{slice_get-change_item_other, slice_get-change_item}
 
 -- two vCPUs are not the same
 abbrev pub AreOthers : VcpuId → VcpuId → Type 0
@@ -43,7 +41,7 @@ vcpu_among-change_among v f domains =
   where
     here : (o : Option Domain) → vcpu_in v.n (option_map (λ (d : Domain). record d { vcpus = change_item v.n f d.vcpus }) o) ≡ option_map f (vcpu_in v.n o)
     here None = refl
-    here (Some d) = get-change_item v.n f d.vcpus
+    here (Some d) = slice_get-change_item v.n f d.vcpus
 
 -- another vCPU stays as it was
 pub vcpu_among-change_among_other : (v w : VcpuId) (f : Vcpu → Vcpu) (domains : List (Option Domain)) → AreOthers v w → vcpu_among (change_among v f domains) w ≡ vcpu_among domains w

@@ -9,10 +9,10 @@ use Rattle.sched_base.specs.declared.VcpuId.{VcpuId}
 use Rattle.sched_model.specs.declared.state.Vcpu.{Vcpu}
 use Rattle.sched_model.specs.declared.state.Domain.{Domain}
 use Rattle.sched_model.specs.Places.{at_place}
-use Rattle.sched_model.specs.State.{has_come}
-use Rattle.plain_pool.specs.Fits.{vcpu_among}
+use Rattle.sched_base.specs.Numbers.{has_come}
+use Rattle.sched_model.specs.Pool.{vcpu_among, change_among}
 use Rattle.due_heap.specs.Dues.{due_of, IsArmed, HasCome}
-use Rattle.unit_state.specs.Seen.{Seen, IsNotAfter, change_among, wake_among, is_due_among}
+use Rattle.unit_state.specs.Seen.{Seen, IsNotAfter, wake_among, is_due_among}
 use Rattle.unit_state.specs.Guests.{KeepsGuests, AreSleepers, vcpu_id}
 use Rattle.unit_state.proofs.PlaceLemmas.{AreOthers, vcpu_in, wake_in, vcpu_among-change_among_other}
 use Rattle.unit_state.proofs.GuestLemmas.{among_there, vcpu_bounds}

@@ -14,6 +14,10 @@ use Rattle.unit_state.specs.Parts.{HasGuests}
 abbrev pub vcpu_id : ℕ → ℕ → VcpuId
 vcpu_id d n = record { dom = domain d; n = n }
 
+-- the most units that a machine has
+abbrev pub most_units : ℕ
+most_units = 256
+
 -- how many units of g vCPUs the domains have
 abbrev pub units_in : ℕ → List (Option Domain) → ℕ
 units_in g [] = 0

@@ -3,13 +3,12 @@ use Rattle.std.specs.Prelude.{ℕ, suc, ◌≡◌, ◌≤◌, ◌+◌, ◌^◌, 
 use Rattle.sched_base.specs.declared.Moment.{Moment}
 use Rattle.sched_base.specs.declared.PoolId.{PoolId}
 use Rattle.sched_base.specs.declared.VcpuId.{VcpuId}
-use Rattle.sched_model.specs.declared.state.Vcpu.{Vcpu}
 use Rattle.sched_model.specs.declared.state.Domain.{Domain}
 use Rattle.sched_model.specs.CheckedMachine.{most_span}
-use Rattle.sched_model.specs.Places.{at_place, change_at, change_item, test_at}
-use Rattle.sched_model.specs.State.{is_awake, has_come}
-use Rattle.sched_model.specs.Pool.{done_at, unit_count}
-use Rattle.plain_pool.specs.Fits.{vcpu_among}
+use Rattle.sched_model.specs.Places.{at_place, test_at}
+use Rattle.sched_model.specs.State.{is_awake}
+use Rattle.sched_base.specs.Numbers.{has_come}
+use Rattle.sched_model.specs.Pool.{done_at, unit_count, vcpu_among}
 
 -- the domains by number, how many vCPUs a unit has, how many units may still be added, and the greatest moment that was given
 pub record Seen : Type 0 where
@@ -26,10 +25,6 @@ vacant_guests granularity places units = record { domains = replicate places Non
 pub record IsNow (seen : Seen) (t : ℕ) : Type 0 where
   pub after : seen.latest ≤ t
   pub early : t ≤ most_span
-
--- the vCPU of these domains changed by f
-abbrev pub change_among : VcpuId → (Vcpu → Vcpu) → List (Option Domain) → List (Option Domain)
-change_among v f domains = change_at v.dom.0 (λ d. record d { vcpus = change_item v.n f d.vcpus }) domains
 
 -- whether the vCPU is there and awake
 abbrev pub is_awake_among : List (Option Domain) → VcpuId → Bool

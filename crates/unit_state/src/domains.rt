@@ -1,6 +1,6 @@
 //! The domains of one pool, and their vCPUs.
 
-ghost use Rattle.std.specs.Prelude.{◌≡◌, ◌≤◌, true, is_some, IfOk, None, Some, length, replicate};
+ghost use Rattle.std.specs.Prelude.{◌≡◌, ◌≤◌, true, is_some, IfOk, None, Some, length};
 ghost use Rattle.std.specs.Option.{option_copied};
 ghost use Rattle.sched_model.specs.declared.state.Domain.{Domain as DomainRecord};
 ghost use Rattle.sched_model.specs.Places.{at_place, change_at, clear_at};
@@ -126,9 +126,10 @@ impl Guests {
     ghost use Rattle.sched_model.specs.declared.state.Domain.{Domain as DomainRecord};
     ghost use Rattle.sched_model.specs.CheckedMachine.{IsGranularity};
     ghost use Rattle.sched_model.specs.Places.{at_place, change_at, clear_at, put_at};
-    ghost use Rattle.sched_model.specs.State.{has_come, has_core as has_bit, runnable_among};
-    ghost use Rattle.sched_model.specs.Pool.{put_to_sleep, stopped_vcpu, unit_count as unit_count_spec, woken_vcpu};
-    ghost use Rattle.unit_state.specs.Seen.{IsNow, IsNotAfter, change_among, done_among, is_awake_among, is_due_among, is_paused_among, start_among, target_among, units_at, vacant_guests, wake_among};
+    ghost use Rattle.sched_base.specs.Numbers.{has_come};
+    ghost use Rattle.sched_model.specs.State.{has_core as has_bit, runnable_among};
+    ghost use Rattle.sched_model.specs.Pool.{put_to_sleep, stopped_vcpu, unit_count as unit_count_spec, woken_vcpu, change_among};
+    ghost use Rattle.unit_state.specs.Seen.{IsNow, IsNotAfter, done_among, is_awake_among, is_due_among, is_paused_among, start_among, target_among, units_at, vacant_guests, wake_among};
     ghost use Rattle.unit_state.specs.Parts.{IsPart, IsStill};
     ghost use Rattle.unit_state.specs.Guests.{KeepsGuests};
 

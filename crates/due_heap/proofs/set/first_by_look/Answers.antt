@@ -7,10 +7,10 @@ loop-id-init c = all_armed c.args.moments.now c.args.words.now c.union-rest.resu
 
 pub loop-id-preserved : goal.loop-id-preserved
 loop-id-preserved c =
-    looked_more c.args.moments.now c.args.t.0 c.in-Some.id c.loop-id.rest c.without-rest.result c.without-rest.ensures.change (sym c.if-has_come.ensures) c.loop-id.invariant
+    looked_more c.args.moments.now c.args.t.0 c.in-Some.id c.loop-id.rest c.without-rest.result c.without-rest.ensures.change (sym c.if-is_due.ensures) c.loop-id.invariant
 
-pub returns-then-has_come : goal.returns-then-has_come
-returns-then-has_come c = looked_some c.args.moments.now c.args.t.0 c.in-Some.id c.loop-id.rest c.in-Some.ensures.lowest (sym c.if-has_come.ensures) c.loop-id.invariant
+pub returns-then-is_due : goal.returns-then-is_due
+returns-then-is_due c = looked_some c.args.moments.now c.args.t.0 c.in-Some.id c.loop-id.rest c.in-Some.ensures.lowest (sym c.if-is_due.ensures) c.loop-id.invariant
 
 pub returns : goal.returns
 returns c = looked_none c.args.moments.now c.args.words.now c.args.t.0 c.loop-id.rest c.requires c.in_default.ensures.none c.loop-id.invariant

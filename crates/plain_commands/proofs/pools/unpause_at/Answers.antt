@@ -2,11 +2,12 @@ use Rattle.std.proofs.Common.{refl}
 use Rattle.sched_model.specs.Pool.{unpause}
 use Rattle.plain_pool.specs.Fits.{PoolFits}
 use Rattle.plain_opening.specs.OpeningPool.{FewWait}
-use Rattle.plain_commands.proofs.Items.{each-item, changed-item}
+use Rattle.plain_commands.proofs.Items.{changed-item}
+use Rattle.sched_laws.proofs.EachPlace.{place_fits}
 use Rattle.plain_commands.proofs.pools.unpause_at.Goals as goal
 
 pub unpause-requires-clause-fits : goal.unpause-requires-clause-fits
-unpause-requires-clause-fits c = each-item PoolFits c.args.pools.now c.args.i c.in-Some.place.now c.in-Some-place.pool c.requires.fits (c.in-Some.ensures.some.0 refl) c.in-Some.ensures.value c.in-Some-place.is
+unpause-requires-clause-fits c = place_fits PoolFits c.args.pools.now c.args.i c.in-Some.place.now c.in-Some-place.pool c.requires.fits (c.in-Some.ensures.some.0 refl) c.in-Some.ensures.value c.in-Some-place.is
 
 pub unpause-requires-clause-room : goal.unpause-requires-clause-room
 unpause-requires-clause-room c =

@@ -1,6 +1,6 @@
 use Rattle.std.proofs.Common.{refl}
 use Rattle.plain_credit2.specs.Bounds.{DomainFits}
-use Rattle.plain_credit2.proofs.Items.{place_fits}
+use Rattle.sched_laws.proofs.EachPlace.{place_fits}
 use Rattle.plain_credit2.proofs.params.set_cap_of.Goals as goal
 
 pub set_cap-requires-clause-fits : goal.set_cap-requires-clause-fits

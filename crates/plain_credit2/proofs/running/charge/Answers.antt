@@ -6,7 +6,7 @@ use Rattle.sched_model.specs.declared.state.Credit2Records.{Credit2Records}
 use Rattle.sched_model.specs.Credit2.{max_weight}
 use Rattle.sched_ranges.specs.Ranges.{Credit2InRange}
 use Rattle.plain_credit2.specs.Bounds.{DomainFits, own_charged}
-use Rattle.plain_credit2.proofs.Items.{place_fits}
+use Rattle.sched_laws.proofs.EachPlace.{place_fits}
 use Rattle.plain_credit2.proofs.Ranges.{pool_in_range}
 use Rattle.plain_credit2.proofs.Steps.{burn_cur-own, change_at-put}
 use Rattle.plain_credit2.proofs.running.charge.Goals as goal

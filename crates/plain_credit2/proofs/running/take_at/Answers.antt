@@ -1,7 +1,7 @@
 use Rattle.std.proofs.Common.{refl}
 use Rattle.sched_model.specs.Credit2.{max_weight}
 use Rattle.plain_credit2.specs.Bounds.{ParamsFit}
-use Rattle.plain_credit2.proofs.Items.{place_fits}
+use Rattle.sched_laws.proofs.EachPlace.{place_fits}
 use Rattle.plain_credit2.proofs.running.take_at.Goals as goal
 
 pub take_budget-requires : goal.take_budget-requires

@@ -1,5 +1,5 @@
 use Rattle.std.proofs.Common.{◌∙◌, sym, ap, arith}
-use Rattle.sched_model.specs.State.{has_come}
+use Rattle.sched_base.specs.Numbers.{has_come}
 use Rattle.pool_core.proofs.ByActor.{one_more, sleeps, wakes_first}
 use Rattle.pool_core.proofs.actors.first_of_domain.Goals as goal
 

@@ -2,7 +2,8 @@ use Rattle.std.proofs.Common.{◌≡◌, ◌∙◌, true, ℕ, Bool, sym, ap}
 use Rattle.std.specs.Prelude.{false, Some, None}
 use Rattle.sched_model.specs.declared.state.Pool.{Pool}
 use Rattle.sched_model.specs.Pool.{guest_of}
-use Rattle.sched_model.specs.State.{has_come, is_up}
+use Rattle.sched_model.specs.State.{is_up}
+use Rattle.sched_base.specs.Numbers.{has_come}
 use Rattle.core_state.specs.Seen.{processor_among}
 use Rattle.pool_core.specs.Seen.{guest_among, pool_of}
 use Rattle.pool_core.proofs.ByActor.{and_stop, and_then, done_is, done_test}

@@ -3,8 +3,8 @@ use Rattle.std.specs.Prelude.{None, Some}
 use Rattle.sched_model.specs.declared.state.Doing.TheVariants.{Held}
 use Rattle.sched_model.specs.declared.state.Pool.{Pool}
 use Rattle.sched_model.specs.Places.{change_at}
-use Rattle.sched_model.specs.Pool.{with_doing, guest_of, stopped_vcpu}
-use Rattle.unit_state.specs.Seen.{Seen as GuestsSeen, change_among}
+use Rattle.sched_model.specs.Pool.{with_doing, guest_of, stopped_vcpu, change_among}
+use Rattle.unit_state.specs.Seen.{Seen as GuestsSeen}
 use Rattle.core_state.specs.Seen.{Seen as CoresSeen, changed_processor, with_sibling, with_work}
 use Rattle.pool_core.specs.Seen.{guest_among, pool_of}
 use Rattle.pool_core.proofs.Acting.{arrived_alone, arrived_with}

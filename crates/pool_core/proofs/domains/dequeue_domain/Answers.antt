@@ -3,7 +3,7 @@ use Rattle.sched_model.specs.declared.state.Pool.{Pool}
 use Rattle.sched_model.specs.declared.state.Scheduler.{Scheduler}
 use Rattle.sched_model.specs.Places.{has_unit}
 use Rattle.sched_ops.specs.Seen.{Seen, dequeue, with_scheduler}
-use Rattle.pool_core.specs.Domains.{unit_id}
+use Rattle.sched_base.specs.Units.{unit_id}
 use Rattle.pool_core.specs.Seen.{pool_of}
 use Rattle.pool_core.proofs.Withdrawing.{below_all, below_first, below_next, below_waits, units_known, waits_by}
 use Rattle.pool_core.proofs.domains.dequeue_domain.Goals as goal

@@ -6,7 +6,8 @@ use Rattle.sched_model.specs.Policy as policy
 use Rattle.sched_model.specs.Pool.{unit_count}
 use Rattle.pool_kept.proofs.Members.{joined}
 use Rattle.unit_state.specs.Seen as guests
-use Rattle.pool_core.specs.Domains.{MayQueue, unit_id}
+use Rattle.pool_core.specs.Domains.{MayQueue}
+use Rattle.sched_base.specs.Units.{unit_id}
 use Rattle.pool_core.specs.Seen.{pool_of}
 use Rattle.pool_core.proofs.Comers.{comers_may}
 use Rattle.pool_core.proofs.domains.join.Goals as goal

@@ -1,7 +1,7 @@
 use Rattle.std.proofs.Common.{◌≡◌, ◌∙◌, true, sym, ap, subst}
 use Rattle.sched_model.specs.declared.action.Action.{Action}
 use Rattle.sched_model.specs.declared.state.Pool.{Pool}
-use Rattle.sched_model.specs.State.{has_come}
+use Rattle.sched_base.specs.Numbers.{has_come}
 use Rattle.pool_laws.specs.ReadyMoments.{lowest_end}
 use Rattle.timer_laws.proofs.Law as law
 use Rattle.pool_core.specs.Order.{IsFirstOf, is_any}

@@ -4,7 +4,8 @@ use Rattle.sched_model.specs.Opening.{fresh_vcpu}
 use Rattle.sched_ops.specs.Conditions.{has_joined}
 use Rattle.sched_ops.specs.Seen.{units_of}
 use Rattle.pool_core.specs.Seen.{Seen}
-use Rattle.pool_opening.specs.OpeningPool.{IsStill, unit_total}
+use Rattle.pool_opening.specs.OpeningPool.{IsStill}
+use Rattle.sched_model.specs.Actions.{configured_units}
 use Rattle.pool_opening.proofs.Joining.{given, joined_came, part_fits, still_joined_in, units_came}
 use Rattle.pool_opening.proofs.Parameters.{domain_fits}
 use Rattle.pool_opening.proofs.domains.give.Goals as goal
@@ -30,5 +31,5 @@ returns-clause-joined g c =
 
 pub returns-clause-units : goal.returns-clause-units
 returns-clause-units g c =
-    subst (λ (s : Seen). units_of s.pool.scheduler c.args.d.0 ≡ unit_total c.args.config.now.granularity c.args.joining.now) (sym (returns-clause-after g c))
+    subst (λ (s : Seen). units_of s.pool.scheduler c.args.d.0 ≡ configured_units c.args.config.now.granularity c.args.joining.now) (sym (returns-clause-after g c))
     (units_came c.args.config.now c.args.home.now c.args.d.0 c.args.joining.now c.args.pool.now c.requires.opening c.requires.place)

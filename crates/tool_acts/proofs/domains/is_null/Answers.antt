@@ -4,7 +4,7 @@ use Rattle.sched_model.specs.declared.facts.Stored.{Stored}
 use Rattle.sched_model.specs.declared.facts.Stored.TheVariants as stored
 use Rattle.sched_model.specs.Places.{at_place}
 use Rattle.unit_state.specs.Seen.{units_at}
-use Rattle.pool_core.specs.Domains.{unit_id}
+use Rattle.sched_base.specs.Units.{unit_id}
 use Rattle.sched_laws.proofs.Lists.{some_is}
 use Rattle.tool_acts.proofs.DomainMoves.{first-told, told-null, told-other}
 use Rattle.tool_acts.proofs.domains.is_null.Goals as goal

@@ -3,7 +3,8 @@ use Rattle.std.specs.Prelude.{Some}
 use Rattle.pool_slots.specs.Places.{state_of}
 use Rattle.pool_slots.specs.Rooms.{IsPlaced}
 use Rattle.pool_slots.proofs.Rooming.{some-out}
-use Rattle.pool_slots.proofs.Shelving.{opened-is, opened-placed, reopened}
+use Rattle.pool_slots.proofs.Shelving.{opened-is, opened-placed}
+use Rattle.pool_core.specs.Seen.{reopened}
 use Rattle.pool_slots.proofs.slot.PoolSlot.open_with.Goals as goal
 
 pub invariant_of-self : goal.invariant_of-self

@@ -3,7 +3,8 @@ use Rattle.sched_base.specs.declared.Moment.{Moment}
 use Rattle.sched_base.specs.declared.UnitId.{UnitId}
 use Rattle.sched_ops.specs.declared.timer.Timer.TheVariants.{Repl}
 use Rattle.due_heap.specs.Dues.{IsArmed, HasCome}
-use Rattle.rtds_core.specs.Alarms.{armed_timers as armed, next_of, timer_of}
+use Rattle.rtds_core.specs.Alarms.{armed_timers as armed, timer_of}
+use Rattle.sched_ops.specs.Timers.{next_of}
 use Rattle.rtds_core.proofs.Armed.{none_armed, next_later, next_due, IsLeast}
 use Rattle.rtds_core.proofs.alarms.Alarms.next.Goals as goal
 use Rattle.due_heap.proofs.Tree.{armed_below}

@@ -1,9 +1,9 @@
 use Rattle.std.proofs.Common.{◌≡◌, ℕ, subst, true}
 use Rattle.sched_model.specs.declared.config.SchedKind.TheVariants as kinds
 use Rattle.sched_model.specs.declared.state.Records.{Records}
-use Rattle.sched_model.specs.declared.state.Records.TheVariants.{Credit2Pool, RtdsPool, ArincPool, NullPool}
+use Rattle.sched_model.specs.declared.state.Records.TheVariants.{Credit2Pool}
 use Rattle.sched_model.specs.Policy.{kind_of, next_refill}
-use Rattle.sched_model.specs.State.{has_come}
+use Rattle.sched_base.specs.Numbers.{has_come}
 use Rattle.sched_ops.specs.Seen.{Seen}
 use Rattle.sched_ops.specs.Timers.{is_due}
 use Rattle.sched_ops.specs.declared.timer.Timer.{Timer}

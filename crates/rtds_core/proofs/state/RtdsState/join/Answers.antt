@@ -5,7 +5,7 @@ use Rattle.sched_ops.specs.Conditions.{AreDomParams}
 use Rattle.sched_model.specs.declared.config.SchedKind.TheVariants as kinds
 use Rattle.sched_model.specs.Policy.{kind_of}
 use Rattle.sched_model.specs.Places.{at_place, put_at}
-use Rattle.sched_model.specs.Policy.{all_cores}
+use Rattle.sched_base.specs.CoreSets.{every_core}
 use Rattle.rtds_core.specs.RtdsParts.{IsKept}
 use Rattle.rtds_core.proofs.Steps.{kept_later}
 use Rattle.rtds_core.proofs.Calls.{kept_with}
@@ -21,7 +21,7 @@ invariant_of-self c =
     let params : AreDomParams kinds.Rtds c.args.params.now = subst (λ (s : Seen). AreDomParams (kind_of s.scheduler.records) c.args.params.now) (sym c.self.view_is) c.requires.params in
     let later = kept_later i.domains i.affinity i.queues i.masks i.alarms i.spare i.latest c.args.t.0 past c.requires.now.early c.self.invariant in
     let joined = kept_with i.domains c.join_records.new.domains i.affinity i.queues i.masks c.set_masks.new.masks i.alarms i.spare c.args.t.0 c.args.d.0 c.args.units c.args.params.now params c.join_records.ensures place absent c.requires.few room c.set_masks.ensures later in
-    let sets : c.set_place.new.places ≡ put_at c.args.d.0 (replicate c.args.units all_cores) i.affinity = c.set_place.ensures ∙ ap (λ (xs : List Cores). put_at c.args.d.0 xs i.affinity) c.copies.ensures in
+    let sets : c.set_place.new.places ≡ put_at c.args.d.0 (replicate c.args.units every_core) i.affinity = c.set_place.ensures ∙ ap (λ (xs : List Cores). put_at c.args.d.0 xs i.affinity) c.copies.ensures in
     subst (λ (affinity : List (Option (List Cores))). IsKept c.join_records.new.domains affinity i.queues c.set_masks.new.masks i.alarms (i.spare - c.args.units) c.args.t.0) (sym sets) joined
 
 pub set_masks-requires-clause-domain : goal.set_masks-requires-clause-domain

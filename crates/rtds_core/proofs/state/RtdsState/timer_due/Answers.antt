@@ -1,7 +1,6 @@
 use Rattle.std.proofs.Common.{◌≤◌, ◌∙◌, ap, arith, length, List}
 use Rattle.sched_ops.specs.Seen.{Seen}
-use Rattle.sched_ops.specs.Timers.{Armed, timer_at}
-use Rattle.rtds_core.specs.Alarms.{next_of}
+use Rattle.sched_ops.specs.Timers.{Armed, timer_at, next_of}
 use Rattle.rtds_core.specs.Best.{queue_of}
 use Rattle.rtds_core.proofs.Timing.{timers_armed}
 use Rattle.rtds_core.proofs.state.RtdsState.timer_due.Goals as goal

@@ -1,7 +1,8 @@
 use Rattle.std.proofs.Common.{◌≡◌, ℕ, ◌+◌, ◌-◌, ◌<◌, ◌≤◌, suc, [], ◌∷◌, List, length, refl, sym, ◌∙◌, ap, subst, inl, inr, arith, set, length-set}
-use Rattle.unit_ring.specs.Chains.{IsChain, Has, fenced_numbers, nodes_up_to, after_with, before_with, link}
+use Rattle.unit_ring.specs.Chains.{IsChain, fenced_numbers, nodes_up_to, after_with, before_with, link}
+use Rattle.sched_base.specs.Lists.{Has}
 use Rattle.unit_ring.proofs.Shifting.{before_below}
-use Rattle.unit_ring.proofs.Fences.{Has-right}
+use Rattle.sched_base.proofs.Lists.{Has-right}
 use Rattle.unit_ring.proofs.Calls.{with_next}
 use Rattle.unit_ring.proofs.links.Nodes.link_all.Goals as goal
 

@@ -1,10 +1,9 @@
-use Rattle.std.proofs.Common.{◌≡◌, ◌+◌, ◌*◌, ◌<◌, true, List, Option, length, sym, subst}
+use Rattle.std.proofs.Common.{◌≡◌, ◌+◌, ◌*◌, ◌<◌, true, List, Option, sym, subst}
 use Rattle.std.specs.Prelude.{slice_set}
 use Rattle.sched_base.specs.declared.Moment.{Moment}
 use Rattle.sched_model.specs.declared.state.Domain.{Domain}
-use Rattle.sched_model.specs.State.{has_come}
-use Rattle.sched_model.specs.Pool.{done_at, put_to_sleep}
-use Rattle.plain_pool.specs.Fits.{vcpu_among}
+use Rattle.sched_base.specs.Numbers.{has_come}
+use Rattle.sched_model.specs.Pool.{done_at, put_to_sleep, vcpu_among}
 use Rattle.unit_state.specs.Seen.{Seen, IsNow, done_among, wake_among}
 use Rattle.unit_state.specs.Guests.{KeepsGuests, AreSleepers}
 use Rattle.unit_state.proofs.GuestLemmas.{all_fit, come_among, keeps_slept}

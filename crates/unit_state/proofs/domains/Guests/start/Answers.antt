@@ -2,7 +2,8 @@ use Rattle.std.proofs.Common.{◌≡◌, true, List, Option, Some, refl, sym, su
 use Rattle.sched_base.specs.Numbers.{moment}
 use Rattle.sched_model.specs.declared.state.Vcpu.{Vcpu}
 use Rattle.sched_model.specs.declared.state.Domain.{Domain}
-use Rattle.unit_state.specs.Seen.{Seen, IsNow, change_among, is_awake_among}
+use Rattle.unit_state.specs.Seen.{Seen, IsNow, is_awake_among}
+use Rattle.sched_model.specs.Pool.{change_among}
 use Rattle.unit_state.specs.Guests.{KeepsGuests, AreSleepers}
 use Rattle.unit_state.proofs.GuestLemmas.{keeps_started}
 use Rattle.unit_state.proofs.PlaceLemmas.{wake_among-same}

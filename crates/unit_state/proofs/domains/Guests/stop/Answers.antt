@@ -1,7 +1,7 @@
 use Rattle.std.proofs.Common.{◌≡◌, List, Option, sym, subst}
 use Rattle.sched_model.specs.declared.state.Domain.{Domain}
-use Rattle.sched_model.specs.Pool.{stopped_vcpu}
-use Rattle.unit_state.specs.Seen.{Seen, IsNow, change_among}
+use Rattle.sched_model.specs.Pool.{stopped_vcpu, change_among}
+use Rattle.unit_state.specs.Seen.{Seen, IsNow}
 use Rattle.unit_state.specs.Guests.{KeepsGuests, AreSleepers}
 use Rattle.unit_state.proofs.GuestLemmas.{keeps_stopped}
 use Rattle.unit_state.proofs.PlaceLemmas.{wake_among-same, stopped_wakes}
