@@ -14,7 +14,7 @@ use Rattle.sched_ranges.specs.Ranges.{IsFrame}
 use Rattle.sched_ops.specs.Conditions.{is_vacant}
 use Rattle.sched_ops.specs.Seen.{restarted_scheduler}
 use Rattle.plain_policy.specs.Parts.{scheduler_of}
-use Rattle.pool_units.specs.Units.{is_member}
+use Rattle.sched_ops.specs.Affinity.{is_member_among}
 use Rattle.pool_units.proofs.Whole.{affinity_of_vacant, queue_of_vacant}
 use Rattle.arinc_frame.specs.declared.window.Present.{Present}
 use Rattle.arinc_frame.specs.Frames.{IsReady}
@@ -27,7 +27,7 @@ ready_installed frame t fits = record { frame = λ x e. (let same : frame ≡ x 
 
 -- a pool without domains, with a frame that is installed at 0
 pub begun_anew : (queue : List UnitId) (affinity : List (Option (List Cores))) (records : ArincRecords) (params : PoolParams) (frame : Option Frame)
-    → ((u : UnitId) → has_unit queue u ≡ true → is_member affinity u ≡ true) → is_vacant (scheduler_of queue affinity (ArincPool records)) ≡ true
+    → ((u : UnitId) → has_unit queue u ≡ true → is_member_among affinity u ≡ true) → is_vacant (scheduler_of queue affinity (ArincPool records)) ≡ true
     → ((domains cores : ℕ) → fresh_records params domains cores ≡ ArincPool (record { frame = frame; installed = 0 }))
     → scheduler_of queue affinity (ArincPool (record { frame = frame; installed = 0 })) ≡ restarted_scheduler params (scheduler_of queue affinity (ArincPool records))
 begun_anew queue affinity records params frame members vacant fresh =

@@ -18,7 +18,7 @@ use Rattle.sched_model.specs.Opening.{core_count}
 use Rattle.sched_model.specs.Pool.{lateness}
 use Rattle.term_laws.specs.RtdsTerm.{core_in, late_now, moves}
 use Rattle.cap_laws.specs.CapTerm.{PlacedLeg, cap_set, refills, ends_term, cap_after, credit2_in}
-use Rattle.cap_laws.proofs.CapTracks.{cap_at, decided_for, on_core, due_at, Stops, GivesBack, Takes, Decides, EventTracks, CapTracks}
+use Rattle.cap_laws.proofs.CapTracks.{cap_at, decided_for, on_core, due_at, Stops, HasLeft, Decides, EventTracks, CapTracks}
 use Rattle.cap_laws.proofs.CoreSums.{total_same, total_changed, above_rises, given_back, given_now}
 use Rattle.sched_laws.specs.Counts.{over, total_over}
 use Rattle.cap_laws.proofs.CapLegs.{OpenLeg, Opens, opens_after, closed_at, begun_at, DecidesNone, DecidesOne, decides, Tracked, Closes, closes_none, closes_one, late_is}
@@ -192,7 +192,7 @@ module _ (m : Machine) (d : ℕ) (K : State → Type 0) (tracks : CapTracks m d 
         stops2 : (r : ℕ) (o : OpenLeg) → after r ≡ Some o → Stops y o.unit (stop2 r)
         stops2 r o is =
             elim (ℕ_discrete r r0) [
-              | yes e ↦ subst (λ k. Stops y o.unit (stop2 k)) (sym e) (subst (Stops y o.unit) (sym stop2_own) (subst (Takes s.now y decided.taken) (has_on2 r0 o (subst (λ k. after k ≡ Some o) e is)) decided.takes))
+              | yes e ↦ subst (λ k. Stops y o.unit (stop2 k)) (sym e) (subst (Stops y o.unit) (sym stop2_own) (subst (HasLeft s.now y decided.taken) (has_on2 r0 o (subst (λ k. after k ≡ Some o) e is)) decided.takes))
               | no ne ↦ (
                   let was : opens r ≡ Some o = sym (unchanged r ne) ∙ is in
                   subst (Stops y o.unit) (sym (stop2_other r ne))
@@ -218,13 +218,13 @@ module _ (m : Machine) (d : ℕ) (K : State → Type 0) (tracks : CapTracks m d 
         ends : (t0 : ℕ) → t0 ≤ s.now → (o : Option OpenLeg) → opens r0 ≡ o
             → above_zero (x.budget +ℤ decided.given) + over (part t0) (option_map (closed_at entry.at.0 one.late n) o) ≤ above_zero x.budget + over (λ z. above_zero (stop r0 -ℤ pos (max z.from t0))) o + over (late_part t0) (option_map (closed_at entry.at.0 one.late n) o)
         ends t0 le None is =
-            let none : decided.given ≡ pos 0 = subst (GivesBack s.now x decided.given) (tracked.on r0 ∙ ap (option_map (λ (z : OpenLeg). z.unit)) is) decided.gives_back in
+            let none : decided.given ≡ pos 0 = subst (HasLeft s.now x decided.given) (tracked.on r0 ∙ ap (option_map (λ (z : OpenLeg). z.unit)) is) decided.gives_back in
             let rises = above_rises (x.budget +ℤ decided.given) x.budget (omega (arith, ints, none)) in
             omega (arith, rises)
         ends t0 le (Some o) is =
             let on = has_on r0 o is in
             let stops = within.stops r0 o is in
-            let gives = stops_same x o.unit (stop r0) (pos s.now +ℤ decided.given) stops (subst (GivesBack s.now x decided.given) on decided.gives_back) in
+            let gives = stops_same x o.unit (stop r0) (pos s.now +ℤ decided.given) stops (subst (HasLeft s.now x decided.given) on decided.gives_back) in
             let begun = tracked.begun r0 o is in
             let late = (step.decides r0 one.late one.is_late).0 in
             let enough = late_enough s x r0 o.unit (stop r0) known within.at within.capped on stops in

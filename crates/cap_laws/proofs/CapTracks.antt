@@ -46,22 +46,17 @@ pub record Stops (x : Credit2Domain) (n : ℕ) (stop : ℤ) : Type 0 where
   pub burned : unit.burned ≡ Some from
   pub sum : pos from +ℤ unit.held ≡ stop
 
--- the unit that the core had gives back what is left at t, which is below 0 where it overran
-abbrev pub GivesBack : ℕ → Credit2Domain → ℤ → Option ℕ → Type 0
-GivesBack t x given None = given ≡ pos 0
-GivesBack t x given (Some n) = Stops x n (pos t +ℤ given)
-
--- the unit that the core has from t on takes a part of the budget
-abbrev pub Takes : ℕ → Credit2Domain → ℤ → Option ℕ → Type 0
-Takes t x taken None = taken ≡ pos 0
-Takes t x taken (Some n) = Stops x n (pos t +ℤ taken)
+-- what a core's unit of the domain has of the budget at t: nothing where there is none, and below 0 where it overran
+abbrev pub HasLeft : ℕ → Credit2Domain → ℤ → Option ℕ → Type 0
+HasLeft t x left None = left ≡ pos 0
+HasLeft t x left (Some n) = Stops x n (pos t +ℤ left)
 
 -- a core decides at t, and the domain's record x becomes y: the core had this unit of the domain, and now has that
 pub record Decides (t : ℕ) (had has : Option ℕ) (x y : Credit2Domain) : Type 0 where
   pub given : ℤ
   pub taken : ℤ
-  pub gives_back : GivesBack t x given had
-  pub takes : Takes t y taken has
+  pub gives_back : HasLeft t x given had
+  pub takes : HasLeft t y taken has
   pub budget : above_zero y.budget + above_zero taken ≤ above_zero (x.budget +ℤ given)
   pub others : (n : ℕ) (stop : ℤ) → (had ≡ Some n → ⊥) → (has ≡ Some n → ⊥) → Stops x n stop → Stops y n stop
 

@@ -8,10 +8,7 @@ use Rattle.sched_model.specs.Places.{change_item}
 use Rattle.sched_laws.specs.Counts.{over, total_over}
 use Rattle.cap_laws.proofs.CapLegs.{OpenLeg, Opens}
 
--- what the unit holds, where it runs; the unit, running no more
-abbrev pub held_running : Credit2Unit → ℕ
-held_running x = cond (is_some x.burned) (above_zero x.held) 0
-
+-- the unit, running no more
 abbrev idle : Credit2Unit → Credit2Unit
 idle x = record x { burned = None }
 

@@ -32,23 +32,23 @@ nobody_at_first m d r =
     (λ p at. is_empty (number_in d (cur_in (at_place p.resources r))) (λ n is. (let u = unit_of_number d n (cur_in (at_place p.resources r)) is in nobody_runs m i p at r u.0 u.1))))
 
 -- the budgets of all records are full
-abbrev AllFull : Records → Type 0
-AllFull records = (d : ℕ) (x : Credit2Domain) → credit2_record records d ≡ Some x → x.budget ≡ pos (total x.cap)
+abbrev AllUnspent : Records → Type 0
+AllUnspent records = (d : ℕ) (x : Credit2Domain) → credit2_record records d ≡ Some x → x.budget ≡ pos (total x.cap)
 
-full_joined : (records : Records) (params : DomParams) (d count : ℕ) → AllFull records → AllFull (joined_records records params d count 0)
-full_joined (Credit2Pool own) (dom_params.Credit2 weight percent) d count full = λ e x is. elim (read_put_at d e (fresh_domain weight percent count 0) own.domains x is) [
+unspent_joined : (records : Records) (params : DomParams) (d count : ℕ) → AllUnspent records → AllUnspent (joined_records records params d count 0)
+unspent_joined (Credit2Pool own) (dom_params.Credit2 weight percent) d count full = λ e x is. elim (read_put_at d e (fresh_domain weight percent count 0) own.domains x is) [
   | inl was ↦ full e x was
   | inr new ↦ subst (λ (y : Credit2Domain). y.budget ≡ pos (total y.cap)) new.1 refl
 ]
-full_joined (RtdsPool domains) (dom_params.Rtds period budget extra) d count full = λ e x is. absurd (cc)
-full_joined records params d count full = full
+unspent_joined (RtdsPool domains) (dom_params.Rtds period budget extra) d count full = λ e x is. absurd (cc)
+unspent_joined records params d count full = full
 
-full_fresh : (params : PoolParams) (domains cores : ℕ) → AllFull (fresh_records params domains cores)
-full_fresh (pool_params.Credit2 limit) n cores d x is = absurd (EachPlace-empty {X = Credit2Domain} (λ y. ⊥) n d x is)
-full_fresh other n cores d x is = absurd (cc)
+unspent_fresh : (params : PoolParams) (domains cores : ℕ) → AllUnspent (fresh_records params domains cores)
+unspent_fresh (pool_params.Credit2 limit) n cores d x is = absurd (EachPlace-empty {X = Credit2Domain} (λ y. ⊥) n d x is)
+unspent_fresh other n cores d x is = absurd (cc)
 
 pub full_at_first : (m : Machine) (d : ℕ) (x : Credit2Domain) → credit2_in (opening m) d ≡ Some x → x.budget ≡ pos (total x.cap)
 full_at_first m d x =
     by_option (λ (o : Option Credit2Domain). o ≡ Some x → x.budget ≡ pos (total x.cap)) (home_of_domain (opening m) d) _ _ (λ none is. absurd (cc))
     (λ i found. by_option (λ (o : Option Credit2Domain). o ≡ Some x → x.budget ≡ pos (total x.cap)) (at_place (opening m).pools i) None (λ p. credit2_record p.scheduler.records d) (λ none is. absurd (cc))
-    (λ p at is. records_at_first AllFull full_joined full_fresh m i p at d x is))
+    (λ p at is. records_at_first AllUnspent unspent_joined unspent_fresh m i p at d x is))

@@ -7,7 +7,7 @@ use Rattle.sched_base.specs.Credit2Numbers.{above_zero, quota, total}
 use Rattle.sched_model.specs.declared.state.Credit2Unit.{Credit2Unit}
 use Rattle.sched_model.specs.declared.state.Credit2Domain.{Credit2Domain}
 use Rattle.sched_model.specs.EligibleUnits.{has_budget}
-use Rattle.cap_laws.proofs.CapTracks.{Stops, GivesBack}
+use Rattle.cap_laws.proofs.CapTracks.{Stops, HasLeft}
 use Rattle.cap_laws.proofs.StepsDomain.{ArePast, Kept, kept_same, kept_trans}
 use Rattle.cap_laws.proofs.StepsChosen.{own_charged, was_reset, has_taken, now_from, chosen_domain, part_of, given_by, own_cap, own_is, own_other, own_past, reset_cap, reset_budget, reset_kept, taken_cap, taken_is, taken_other, holds_taken, from_cap, from_budget, from_other, from_holds, from_burned, split_budget, budget_above}
 
@@ -16,7 +16,7 @@ pub record DomainDecides (t : ℕ) (had has : Option ℕ) (taken : ℤ) (x y : C
   pub cap : y.cap ≡ x.cap
   pub others : (n : ℕ) → (had ≡ Some n → ⊥) → (has ≡ Some n → ⊥) → Kept x y n
   pub given : ℤ
-  pub gives_back : 0 < x.cap → GivesBack t x given had
+  pub gives_back : 0 < x.cap → HasLeft t x given had
   pub budget : 0 < x.cap → above_zero y.budget + above_zero taken ≤ above_zero (x.budget +ℤ given)
   pub nothing : has ≡ None → taken ≡ pos 0
   pub takes : (j : ℕ) → has ≡ Some j → (z : Credit2Unit) → slice_get y.units j ≡ Some z → (z.burned ≡ Some t) × (0 < x.cap → z.held ≡ taken)

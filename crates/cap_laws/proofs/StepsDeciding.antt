@@ -24,7 +24,7 @@ use Rattle.term_laws.proofs.RtdsSteps.{at_place-set_other}
 use Rattle.term_laws.proofs.SamePool.{cur_in}
 use Rattle.term_laws.proofs.TermPool.{at_place-put_at}
 use Rattle.term_laws.proofs.Track.{kind_decided}
-use Rattle.cap_laws.proofs.CapTracks.{Stops, Takes, Decides, number_in}
+use Rattle.cap_laws.proofs.CapTracks.{Stops, HasLeft, Decides, number_in}
 use Rattle.cap_laws.proofs.StepsDomain.{ArePast}
 use Rattle.cap_laws.proofs.StepsRecords.{RecordDecides, PoolDecides, pool_decides}
 use Rattle.cap_laws.proofs.StepsSame.{due_in, Same, same_refl, same_settled}
@@ -176,7 +176,7 @@ module _ (g t : ℕ) (n : ℕ) (c : Resource) (p : Pool) (at : at_place p.resour
           others = λ k stop no_had no_has stops. (let c = (dec.decides.others k no_had no_has).goes stop stops in subst (Stops y k) (c.2 some) c.1);
         }
       where
-        taken_one : (dec : RecordDecides d t had has the_decision.due x y) (o : Option ℕ) → has ≡ o → Takes t y dec.taken o
+        taken_one : (dec : RecordDecides d t had has the_decision.due x y) (o : Option ℕ) → has ≡ o → HasLeft t y dec.taken o
         taken_one dec None own = dec.decides.nothing own
         taken_one dec (Some j) own =
             let z = recorded y is n j (on_here j own) in

@@ -1,5 +1,5 @@
 -- Worked examples of terms of caps: small machines, and the terms and legs of a domain in the ordered run of each.
-use Rattle.std.specs.Prelude.{ℕ, Bool, List, [], ◌∷◌, None, Some, codes, map}
+use Rattle.std.specs.Prelude.{ℕ, Bool, List, [], ◌∷◌, None, Some, Ok, codes, map}
 use Rattle.sched_base.specs.Numbers.{moment, span, pool as pool_number}
 use Rattle.sched_base.specs.declared.Span.{Span}
 use Rattle.sched_model.specs.declared.config.PoolConfig.{PoolConfig}
@@ -12,7 +12,7 @@ use Rattle.sched_model.specs.declared.command.Which.TheVariants as which
 use Rattle.sched_model.specs.declared.machine.Machine.{Machine}
 use Rattle.sched_laws.specs.StateLaws.{state_after}
 use Rattle.term_laws.specs.RtdsTerm.{Leg}
-use Rattle.term_laws.specs.Examples.{endless_script, stall, xl, run_of}
+use Rattle.sched_examples.specs.Words.{endless_script, stall, xl, run_of}
 use Rattle.cap_laws.specs.CapTerm.{CapTerm, PlacedLeg, domain_legs, settings, cap_terms, time_on, late_within, is_undisturbed}
 
 -- a term, the time for which the domain's units are on cores within it, what was late, and whether the law speaks of the term
@@ -111,7 +111,7 @@ set_after_overrun = record {
   };
   work = record {
     stalls = stall 100000 0 9900000 ∷ [];
-    commands = xl 10000000 (command.Credit2Dom (which.Name (codes "a")) None (Some 33)) ∷ [];
+    commands = xl 10000000 (Ok (command.Credit2Dom (which.Name (codes "a")) None (Some 33))) ∷ [];
   };
 }
 
@@ -130,7 +130,7 @@ set_after_refill = record {
   };
   work = record {
     stalls = stall 100000 1 19900000 ∷ [];
-    commands = xl 20000000 (command.Credit2Dom (which.Name (codes "a")) None (Some 33)) ∷ [];
+    commands = xl 20000000 (Ok (command.Credit2Dom (which.Name (codes "a")) None (Some 33))) ∷ [];
   };
 }
 
@@ -146,6 +146,6 @@ moved_domain = record {
   };
   work = record {
     stalls = [];
-    commands = xl 1000000 (command.Migrate (which.Name (codes "a")) (which.Name (codes "other"))) ∷ [];
+    commands = xl 1000000 (Ok (command.Migrate (which.Name (codes "a")) (which.Name (codes "other")))) ∷ [];
   };
 }

@@ -30,11 +30,13 @@ use Rattle.cpupool.specs.Verdicts.{core_home}
 use Rattle.cpupool.specs.ToolArrival.{with_core, with_domain, without_domain, size_at, handed_over, pools_after, after_arrival, action_of, but_for_free, EndsTheMove}
 use Rattle.cpupool.proofs.OpenedLemmas.{joined_kind}
 use Rattle.cpupool.proofs.AlikeLemmas.{IsAlike, queued_alike}
-use Rattle.cpupool.proofs.SightLemmas.{core_sight, domain_sight, outline_still, settled_still}
+use Rattle.cpupool.proofs.SightLemmas.{domain_sight, outline_still, settled_still}
 use Rattle.cpupool.proofs.SubjectLemmas.{core_home-seen, domain_home-seen}
 use Rattle.cpupool.proofs.WayLemmas.{under_way-seen}
 use Rattle.cpupool.proofs.StallLemmas.{map_changed}
 use Rattle.cpupool.proofs.AnswerLemmas.{none_at, none_either, or_else}
+use Rattle.cpupool.specs.Tool.{size_of}
+use Rattle.journal_core.specs.Parts.{is_leaving}
 
 -- the place that answers
 abbrev Found : {X Y : Type 0} → (ℕ → X → Option Y) → ℕ → List (Option X) → Y → Type 0
@@ -226,9 +228,6 @@ parted_kind (RtdsPool domains) d = refl
 parted_kind (ArincPool records) d = refl
 parted_kind (NullPool kept) d = refl
 
-abbrev size_of : Domain → ℕ
-size_of domain = length domain.vcpus
-
 without_seen : (d : ℕ) (pool : Pool) → outline_of (pools.without_domain d pool) ≡ without_domain d (outline_of pool)
 without_seen d pool =
     ap (λ kind. record (outline_of (pools.without_domain d pool)) { kind = kind }) (parted_kind pool.scheduler.records d)
@@ -243,7 +242,7 @@ domain_parted t d pool =
     ]
 
 alike_outline : (p q : Pool) → IsAlike p q → outline_of p ≡ outline_of q
-alike_outline p q same = outline_still p q (record { kind = same.kind; cores = ap (map (option_map core_sight)) same.resources; domains = ap (map (option_map domain_sight)) same.domains })
+alike_outline p q same = outline_still p q (record { kind = same.kind; cores = ap (map (option_map is_leaving)) same.resources; domains = ap (map (option_map domain_sight)) same.domains })
 
 domain_joined : (g t d : ℕ) (domain : Domain) (pool : Pool) → outline_of (joined_by g t d domain pool) ≡ with_domain d (length domain.vcpus) (outline_of pool)
 domain_joined g t d domain pool =

@@ -33,6 +33,7 @@ use Rattle.cpupool.proofs.AlikeLemmas.{IsAlike, alike, chained, queued_alike}
 use Rattle.cpupool.proofs.SubjectLemmas.{length-map as length_map, map_none}
 use Rattle.cpupool.specs.OpeningPools.{kind_of_params, size_at_home, opened_outline, opened_outlines, opened_free}
 use Rattle.cpupool.proofs.AnswerLemmas.{no_answer, put_none}
+use Rattle.cpupool.specs.Tool.{size_of}
 
 pinned_records : (records : Records) (d n t : ℕ) (cores : Cores) → changed_records records (changes.Pin (domain_number d) (Some n) cores) t ≡ records
 pinned_records (Credit2Pool records) d n t cores = refl
@@ -84,10 +85,6 @@ domains_alike g i d (joining ∷ domains) pool =
     let one = one_alike g d joining pool (joining.home.0 == i) in
     record { kind = rest.kind ∙ one.kind; resources = rest.resources ∙ one.resources; domains = rest.domains ∙ ap (placed i (suc d) domains) one.domains }
 
--- how many vCPUs
-abbrev size : Domain → ℕ
-size d = length d.vcpus
-
 -- a place behind others is changed
 put_seam : {X : Type 0} (front : List X) (y x : X) (rest : List X) → slice_set (front ++ y ∷ rest) (length front) x ≡ (front ++ x ∷ []) ++ rest
 put_seam [] y x rest = refl
@@ -103,16 +100,16 @@ longer (z ∷ front) y = ap suc (longer front y)
 
 -- the sizes of the domains that are placed
 placed_sizes : (i d : ℕ) (domains : List DomConfig) (front : List (Option Domain)) → length front ≡ d
-    → map (option_map size) (placed i d domains (front ++ replicate (length domains) None)) ≡ map (option_map size) front ++ map (size_at_home i) domains
-placed_sizes i d [] front at = map-append (option_map size) front []
+    → map (option_map size_of) (placed i d domains (front ++ replicate (length domains) None)) ≡ map (option_map size_of) front ++ map (size_at_home i) domains
+placed_sizes i d [] front at = map-append (option_map size_of) front []
 placed_sizes i d (joining ∷ domains) front at =
     let spare : List (Option Domain) = replicate (length domains) None in
-    let sizes : List (Option Domain) → List (Option ℕ) = map (option_map size) in
+    let sizes : List (Option Domain) → List (Option ℕ) = map (option_map size_of) in
     let behind : Option Domain → Option ℕ → Type 0 = λ x n. sizes (placed i (suc d) domains ((front ++ x ∷ []) ++ spare)) ≡ sizes front ++ n ∷ map (size_at_home i) domains in
-    let next : (x : Option Domain) → sizes (placed i (suc d) domains ((front ++ x ∷ []) ++ spare)) ≡ sizes front ++ option_map size x ∷ map (size_at_home i) domains =
+    let next : (x : Option Domain) → sizes (placed i (suc d) domains ((front ++ x ∷ []) ++ spare)) ≡ sizes front ++ option_map size_of x ∷ map (size_at_home i) domains =
     λ x. placed_sizes i (suc d) domains (front ++ x ∷ []) (longer front x ∙ ap suc at)
-    ∙ ap (λ xs. xs ++ map (size_at_home i) domains) (map-append (option_map size) front (x ∷ []))
-    ∙ sym (kept_seam (sizes front) (option_map size x) (map (size_at_home i) domains)) in
+    ∙ ap (λ xs. xs ++ map (size_at_home i) domains) (map-append (option_map size_of) front (x ∷ []))
+    ∙ sym (kept_seam (sizes front) (option_map size_of x) (map (size_at_home i) domains)) in
     elim (joining.home.0 == i) as (λ b. sizes (placed i (suc d) domains (cond b (put_at d (fresh_domain joining) (front ++ None ∷ spare)) (front ++ None ∷ spare))) ≡ sizes front ++ cond b (Some (length joining.guests)) None ∷ map (size_at_home i) domains) [
       | true ↦
           ap (λ k. sizes (placed i (suc d) domains (slice_set (front ++ None ∷ spare) k (Some (fresh_domain joining))))) (sym at)
@@ -150,7 +147,7 @@ outline_opened config i pool =
     let same = pool_alike config i pool in
     let kind = same.kind ∙ kind_opened pool.params (length config.domains) (core_count config) in
     let cores = ap (map is_some) same.resources ∙ flags_there (fresh_core (replicate config.granularity (moment 0))) (has_core pool.cores) (numbers_from 0 (core_count config)) in
-    let domains = ap (map (option_map size)) same.domains ∙ placed_sizes i 0 config.domains [] refl in
+    let domains = ap (map (option_map size_of)) same.domains ∙ placed_sizes i 0 config.domains [] refl in
     cc (kind, cores, domains)
 
 -- the pools at the opening

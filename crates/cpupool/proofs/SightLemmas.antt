@@ -20,18 +20,16 @@ use Rattle.sched_model.specs.Pool.{settled_pool, reconsidered_core, home_cores, 
 use Rattle.sched_model.specs.Commands.{set_rtds_unit, set_rtds}
 use Rattle.journal_core.specs.Parts.{UnderWay, core_to, domain_to, outline_of, first_answer, leaving_pool, core_leaving, domain_moving}
 use Rattle.cpupool.proofs.AlikeLemmas.{queued_alike}
+use Rattle.journal_core.specs.Parts.{is_leaving}
 
--- whether a core is leaving; how many vCPUs a domain has, and where it is moving
-abbrev pub core_sight : Resource → Bool
-core_sight c = c.leaving
-
+-- how many vCPUs a domain has, and where it is moving
 abbrev pub domain_sight : Domain → ℕ × Option PoolId
 domain_sight d = (length d.vcpus, d.moving)
 
 -- the tool sees the same of both pools
 pub record IsStill (p q : Pool) : Type 0 where
   pub kind : kind_of p.scheduler.records ≡ kind_of q.scheduler.records
-  pub cores : map (option_map core_sight) p.resources ≡ map (option_map core_sight) q.resources
+  pub cores : map (option_map is_leaving) p.resources ≡ map (option_map is_leaving) q.resources
   pub domains : map (option_map domain_sight) p.domains ≡ map (option_map domain_sight) q.domains
 
 pub still : (p : Pool) → IsStill p p
@@ -67,7 +65,7 @@ sizes_of_sight (Some x ∷ places) = ap (λ rest. Some (length x.vcpus) ∷ rest
 pub outline_still : (p q : Pool) → IsStill p q → outline_of p ≡ outline_of q
 outline_still p q same =
     let kind = same.kind in
-    let cores = flags_of_sight core_sight p.resources ∙ ap (map is_some) same.cores ∙ sym (flags_of_sight core_sight q.resources) in
+    let cores = flags_of_sight is_leaving p.resources ∙ ap (map is_some) same.cores ∙ sym (flags_of_sight is_leaving q.resources) in
     let domains = sizes_of_sight p.domains ∙ ap (map (option_map (λ (e : ℕ × Option PoolId). e.0))) same.domains ∙ sym (sizes_of_sight q.domains) in
     cc (kind, cores, domains)
 
@@ -87,13 +85,13 @@ moving_sight d e = option_map (λ i. domain_to d i.0) e.1
 pub leaving_still : (i : ℕ) (p q : Pool) → IsStill p q → leaving_pool i p ≡ leaving_pool i q
 leaving_still i p q same =
     let answer : Option UnderWay → Option UnderWay → Option UnderWay = λ a b. elim a [ Some way ↦ Some way | None ↦ b ] in
-    let cores = answer_of_sight core_sight leaving_sight 0 p.resources ∙ ap (first_answer leaving_sight 0) same.cores ∙ sym (answer_of_sight core_sight leaving_sight 0 q.resources) in
+    let cores = answer_of_sight is_leaving leaving_sight 0 p.resources ∙ ap (first_answer leaving_sight 0) same.cores ∙ sym (answer_of_sight is_leaving leaving_sight 0 q.resources) in
     let domains = answer_of_sight domain_sight moving_sight 0 p.domains ∙ ap (first_answer moving_sight 0) same.domains ∙ sym (answer_of_sight domain_sight moving_sight 0 q.domains) in
     ap (λ a. answer a (first_answer domain_moving 0 p.domains)) cores ∙ ap (answer (first_answer core_leaving 0 q.resources)) domains
 
 -- what leaves it as it is
 cores_still : (p : Pool) (f : ℕ → Resource → Resource) → ((r : ℕ) (c : Resource) → (f r c).leaving ≡ c.leaving) → IsStill (record p { resources = change_each 0 f p.resources }) p
-cores_still p f same = record { kind = refl; cores = map_each core_sight f same 0 p.resources; domains = refl }
+cores_still p f same = record { kind = refl; cores = map_each is_leaving f same 0 p.resources; domains = refl }
 
 one_or : (b : Bool) (c d : Resource) → d.leaving ≡ c.leaving → (cond b d c).leaving ≡ c.leaving
 one_or true c d same = same
@@ -151,7 +149,7 @@ unpause_still g d p =
         | true ↦
             let same = queued_alike g d (numbers_from 0 (unit_count g domain)) next in
             and_then (woken domain) next p
-            (record { kind = same.kind; cores = ap (map (option_map core_sight)) same.resources; domains = ap (map (option_map domain_sight)) same.domains })
+            (record { kind = same.kind; cores = ap (map (option_map is_leaving)) same.resources; domains = ap (map (option_map domain_sight)) same.domains })
             (domain_still d (λ x. record x { paused = false }) p (λ x. refl))
         | false ↦ still p
       ]

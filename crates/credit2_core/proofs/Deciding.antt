@@ -20,7 +20,7 @@ use Rattle.runq.specs.Queue.{Queue}
 use Rattle.queue_laws.specs.Arrivals.{arrivals}
 use Rattle.credit2_core.specs.declared.state.Credit2State.{Credit2State}
 use Rattle.credit2_core.specs.Choice.{records_after_run}
-use Rattle.credit2_core.specs.Places.{has_joined, count_at}
+use Rattle.sched_ops.specs.Affinity.{count_at, is_member_among}
 use Rattle.credit2_core.specs.Credit2State.{IsSound, IsLineOf, IsSameRoom, scheduler_in}
 use Rattle.credit2_core.proofs.Lists.{each_has}
 use Rattle.credit2_core.proofs.Members.{count_there, waits_off}
@@ -66,7 +66,7 @@ sound_ran h ask u k q sound past own is line room =
     let chosen : choice ask (scheduler_in h) burned ≡ Some u = is in
     let from : (ask.cur ≡ Some u) ⊎ (has_unit (arrivals h.queue.units) u ≡ true) = choice_from ask (scheduler_in h) h.records u refl chosen in
     let pays : domain_has_budget burned u ≡ true = subst (IfUnit (λ w. domain_has_budget burned w ≡ true)) chosen (choice_pays ask.at.0 Few ask (scheduler_in h) burned) in
-    let joined : has_joined h.affinity u ≡ true = elim from [ inl cur ↦ (own u cur).member | inr waits ↦ at_unit (λ w. has_joined h.affinity w ≡ true) u (arrivals h.queue.units) waits sound.line.joined ] in
+    let joined : is_member_among h.affinity u ≡ true = elim from [ inl cur ↦ (own u cur).member | inr waits ↦ at_unit (λ w. is_member_among h.affinity w ≡ true) u (arrivals h.queue.units) waits sound.line.joined ] in
     let off : (ask.cur ≡ Some u) ⊎ ((y : Credit2Unit) → unit_rec h.records u ≡ Some y → y.burned ≡ None) = elim from [ inl cur ↦ inl cur | inr waits ↦ inr (waits_off (arrivals h.queue.units) h.records u sound.line.off waits) ] in
     let one = alike_burn_cur ask.cur ask.at.0 h.records in
     let two = alike_ran ask.cur ask.at.0 k u burned in

@@ -39,12 +39,13 @@ use Rattle.queue_laws.specs.Arrivals.{arrivals}
 use Rattle.queue_laws.proofs.Arrivals.{length-arrivals}
 use Rattle.credit2_core.specs.declared.state.Credit2State.{Credit2State}
 use Rattle.credit2_core.specs.Keys.{key_in}
-use Rattle.credit2_core.specs.Places.{set_counts, unit_counts, count_all, count_at, has_joined, refill_of, refills_of}
+use Rattle.credit2_core.specs.Places.{set_counts, unit_counts, refill_of, refills_of}
+use Rattle.sched_ops.specs.Affinity.{count_all, count_at, is_member_among}
 use Rattle.credit2_core.specs.Domains.{masked_cores, refreshed_cores}
 use Rattle.credit2_core.specs.Credit2State.{InRange, IsFree, IsSound, IsLineOf, AreMasks, scheduler_in, seen_in}
 use Rattle.credit2_core.proofs.Lists.{each_has, queued_have, length-placed}
 use Rattle.credit2_core.proofs.Waiting.{IsOrdered}
-use Rattle.credit2_core.proofs.Rooms.{no_more_wait, count_all-put, count_all-clear}
+use Rattle.sched_ops.proofs.Affinity.{no_more_wait, count_all-put_at, count_all-clear_at, count_all-empty}
 use Rattle.credit2_core.proofs.Members.{IsElsewhere, joined_small, record_of, waits_off}
 use Rattle.credit2_core.proofs.Idle.{IsOff, each_keeps, idle_set_domain}
 use Rattle.credit2_core.proofs.Ranges.{range_later, range_refilled, range_set_domain, range_limit, range_joined, range_parted}
@@ -73,7 +74,7 @@ on_off records u off y is = (
 pub keeps_line : (h : Credit2State) → IsSound h → Keeps (seen_in h)
 keeps_line h sound = record {
   apart = sound.line.apart;
-  members = λ u there. at_unit (λ w. has_joined h.affinity w ≡ true) u (arrivals h.queue.units) there sound.line.joined;
+  members = λ u there. at_unit (λ w. is_member_among h.affinity w ≡ true) u (arrivals h.queue.units) there sound.line.joined;
   off = λ u there. off_on h.records u (waits_off (arrivals h.queue.units) h.records u sound.line.off there);
 }
 
@@ -174,13 +175,13 @@ count_all_same (Some x ∷ a) (Some y ∷ b) same = (let r = count_all_same a b 
 
 -- the masks, once those of a domain are written anew
 masks_refreshed : (affinity next : List (Option (List Cores))) (masks now : List Cores) (d : ℕ) → ((e : ℕ) → e ≢ d → at_place next e ≡ at_place affinity e) → ((u : UnitId) → u.n < 256 → mask_of now u ≡ refreshed_cores masks next d u)
-    → ((u : UnitId) → has_joined next u ≡ true → u.n < 256) → AreMasks affinity masks → AreMasks next now
+    → ((u : UnitId) → is_member_among next u ≡ true → u.n < 256) → AreMasks affinity masks → AreMasks next now
 masks_refreshed affinity next masks now d same written low are u joined =
     written u (low u joined) ∙ elim (ℕ_discrete u.dom.0 d) [
       | yes here ↦ by_sets (at_place next d) (subst (λ k. at_place next k ≡ at_place next d) (sym here) refl) joined here
       | no other ↦ (
           let place : at_place next u.dom.0 ≡ at_place affinity u.dom.0 = same u.dom.0 other in
-          let before : has_joined affinity u ≡ true = subst (λ (o : Option (List Cores)). nat_lt u.n (elim o as (λ _. ℕ) [ None ↦ 0 | Some sets ↦ length sets ]) ≡ true) place joined in
+          let before : is_member_among affinity u ≡ true = subst (λ (o : Option (List Cores)). nat_lt u.n (elim o as (λ _. ℕ) [ None ↦ 0 | Some sets ↦ length sets ]) ≡ true) place joined in
           elsewhere (at_place next d) other ∙ are u before ∙ ap (λ (o : Option (List Cores)). core_set (elim o as (λ _. ℕ) [ None ↦ 0 | Some sets ↦ (slice_index_or sets u.n (core_set 0)).0 ])) (sym place))
     ]
   where
@@ -188,7 +189,7 @@ masks_refreshed affinity next masks now d same written low are u joined =
     elsewhere None other = refl
     elsewhere (Some sets) other = (let e : (u.dom.0 == d) ≡ false = elim (cases_Bool (u.dom.0 == d)) [ inl is ↦ absurd (other (grind (arith, is))) | inr is ↦ is ] in rw e refl)
 
-    by_sets : (o : Option (List Cores)) → at_place next u.dom.0 ≡ o → has_joined next u ≡ true → u.dom.0 ≡ d → elim o as (λ _. Cores) [ None ↦ mask_of masks u | Some sets ↦ masked_cores masks d sets (length sets) u ] ≡ core_set (cores_of next u)
+    by_sets : (o : Option (List Cores)) → at_place next u.dom.0 ≡ o → is_member_among next u ≡ true → u.dom.0 ≡ d → elim o as (λ _. Cores) [ None ↦ mask_of masks u | Some sets ↦ masked_cores masks d sets (length sets) u ] ≡ core_set (cores_of next u)
     by_sets None is joined here = absurd (
         let l = ltb-true u.n (count_at next u.dom.0) joined in
         let z : count_at next u.dom.0 ≡ 0 = ap (λ (p : Option (List Cores)). elim p as (λ _. ℕ) [ None ↦ 0 | Some sets ↦ length sets ]) is in
@@ -259,8 +260,8 @@ sound_pinned h d t unit cores now sound past written =
     let next : List (Option (List Cores)) = change_at d (pinned unit cores) h.affinity in
     let same : set_counts next ≡ set_counts h.affinity = map-change_at (λ (o : Option (List Cores)). option_map length o) d (pinned unit cores) h.affinity (λ x at. ap (λ k. Some k) (length_pinned unit cores x)) in
     let all = count_all_same next h.affinity same in
-    let stays : (u : UnitId) → has_joined h.affinity u ≡ true → has_joined next u ≡ true = λ u joined. subst (λ k. nat_lt u.n k ≡ true) (sym (count_same next h.affinity u.dom.0 same)) joined in
-    let back : (u : UnitId) → has_joined next u ≡ true → has_joined h.affinity u ≡ true = λ u joined. subst (λ k. nat_lt u.n k ≡ true) (count_same next h.affinity u.dom.0 same) joined in
+    let stays : (u : UnitId) → is_member_among h.affinity u ≡ true → is_member_among next u ≡ true = λ u joined. subst (λ k. nat_lt u.n k ≡ true) (sym (count_same next h.affinity u.dom.0 same)) joined in
+    let back : (u : UnitId) → is_member_among next u ≡ true → is_member_among h.affinity u ≡ true = λ u joined. subst (λ k. nat_lt u.n k ≡ true) (count_same next h.affinity u.dom.0 same) joined in
     let room = sound.room in
     let small = sound.small in
     record {
@@ -268,7 +269,7 @@ sound_pinned h d t unit cores now sound past written =
       counts = same ∙ sound.counts;
       line = record {
         apart = sound.line.apart;
-        joined = each_has (arrivals h.queue.units) (λ u. has_joined next u ≡ true) (λ u there. stays u (at_unit (λ w. has_joined h.affinity w ≡ true) u (arrivals h.queue.units) there sound.line.joined));
+        joined = each_has (arrivals h.queue.units) (λ u. is_member_among next u ≡ true) (λ u there. stays u (at_unit (λ w. is_member_among h.affinity w ≡ true) u (arrivals h.queue.units) there sound.line.joined));
         indices = sound.line.indices;
         keys = sound.line.keys;
         off = sound.line.off;
@@ -285,8 +286,8 @@ line_elsewhere : (affinity next : List (Option (List Cores))) (records after : C
     → ((u : UnitId) → has_unit (arrivals es) u ≡ true → u.dom.0 ≢ d) → AllRunOnly (IsElsewhere (arrivals es)) after → IsLineOf affinity records es → IsLineOf next after es
 line_elsewhere affinity next records after d es sets places other only line = record {
   apart = line.apart;
-  joined = each_has (arrivals es) (λ u. has_joined next u ≡ true)
-      (λ u there. subst (λ (o : Option (List Cores)). nat_lt u.n (elim o as (λ _. ℕ) [ None ↦ 0 | Some s ↦ length s ]) ≡ true) (sym (sets u.dom.0 (other u there))) (at_unit (λ w. has_joined affinity w ≡ true) u (arrivals es) there line.joined));
+  joined = each_has (arrivals es) (λ u. is_member_among next u ≡ true)
+      (λ u there. subst (λ (o : Option (List Cores)). nat_lt u.n (elim o as (λ _. ℕ) [ None ↦ 0 | Some s ↦ length s ]) ≡ true) (sym (sets u.dom.0 (other u there))) (at_unit (λ w. is_member_among affinity w ≡ true) u (arrivals es) there line.joined));
   indices = line.indices;
   keys = each_keeps records after es (queued_have (λ (u : UnitId). credit_of after u ≡ credit_of records u) es (each_has (arrivals es) (λ u. credit_of after u ≡ credit_of records u)
       (λ u there. ap (λ (o : Option Credit2Domain). elim o as (λ _. ℤ) [ None ↦ pos 0 | Some x ↦ elim (slice_get x.units u.n) as (λ _. ℤ) [ None ↦ pos 0 | Some y ↦ y.credit ] ]) (places u.dom.0 (other u there))))) line.keys;
@@ -298,7 +299,7 @@ pub sound_parted : (h : Credit2State) (d k : ℕ) → IsSound h → HasNoneBusy 
     → IsSound (record h { records = record h.records { domains = clear_at d h.records.domains }; affinity = clear_at d h.affinity; refills = slice_set h.refills d (refill_of (at_place (clear_at d h.records.domains) d)); spare = h.spare + k })
 sound_parted h d k sound idle is =
     let after : Credit2Records = record h.records { domains = clear_at d h.records.domains } in
-    let all = count_all-clear d h.affinity in
+    let all = count_all-clear_at d h.affinity in
     let room = sound.room in
     let small = sound.small in
     record {
@@ -342,7 +343,7 @@ sound_joined h d weight percent count t sets now sound inside absent few fits wi
     let new : Credit2Unit = record { credit = pos start_credit; residual = 0; held = pos 0; burned = None } in
     let after : Credit2Records = record h.records { domains = put_at d fresh h.records.domains } in
     let next : List (Option (List Cores)) = put_at d sets h.affinity in
-    let all = count_all-put d sets h.affinity inside absent in
+    let all = count_all-put_at d sets h.affinity absent in
     let room = sound.room in
     let small = sound.small in
     let range : InRange t after = range_joined t d weight percent count h.records within low few (range_later h.latest t h.records past sound.range) in
@@ -357,7 +358,7 @@ sound_joined h d weight percent count t sets now sound inside absent few fits wi
       counts = counts;
       line = line_elsewhere h.affinity next h.records after d h.queue.units (λ e other. at_place-put_at_other d e sets h.affinity other) (λ e other. at_place-put_at_other d e fresh h.records.domains other)
           (λ u there same. (
-          let joined = at_unit (λ w. has_joined h.affinity w ≡ true) u (arrivals h.queue.units) there sound.line.joined in
+          let joined = at_unit (λ w. is_member_among h.affinity w ≡ true) u (arrivals h.queue.units) there sound.line.joined in
           let l = ltb-true u.n (count_at h.affinity u.dom.0) joined in
           let z : count_at h.affinity u.dom.0 ≡ 0 = ap (λ (p : Option (List Cores)). elim p as (λ _. ℕ) [ None ↦ 0 | Some s ↦ length s ]) (subst (λ j. at_place h.affinity j ≡ None) (sym same) absent) in
           omega (arith, l, z)))
@@ -394,7 +395,7 @@ count_empty zero i = refl
 count_empty (suc n) zero = refl
 count_empty (suc n) (suc i) = count_empty n i
 
-nobody_waits : (affinity : List (Option (List Cores))) (units : List UnitId) → affinity ≡ replicate (length affinity) None → AllByRecursion (λ u. has_joined affinity u ≡ true) units → units ≡ []
+nobody_waits : (affinity : List (Option (List Cores))) (units : List UnitId) → affinity ≡ replicate (length affinity) None → AllByRecursion (λ u. is_member_among affinity u ≡ true) units → units ≡ []
 nobody_waits affinity [] empty joined = refl
 nobody_waits affinity (u ∷ units) empty joined = absurd (
     let l = ltb-true u.n (count_at affinity u.dom.0) joined.0 in
@@ -421,16 +422,12 @@ empty_refills : (n : ℕ) → ◌≡◌ {A = List (Option Moment)} (replicate n 
 empty_refills zero = refl
 empty_refills (suc n) = ap (λ ks. None ∷ ks) (empty_refills n)
 
-empty_count : (n : ℕ) → count_all (replicate n None) ≡ 0
-empty_count zero = refl
-empty_count (suc n) = empty_count n
-
 pub sound_fresh : (domains units latest : ℕ) (masks : List Cores) → domains ≤ 64 → units ≤ 256
     → IsSound (record { records = record { limit = 1000; last_reset = None; domains = replicate domains None }; affinity = replicate domains None; queue = empty units; masks = masks; refills = replicate domains None; spare = units; latest = latest; unpinned = true })
 sound_fresh n units latest masks few small =
     let records : Credit2Records = record { limit = 1000; last_reset = None; domains = replicate n None } in
     let long : length records.domains ≡ n = length-replicate n None in
-    let all = empty_count n in
+    let all = count_all-empty n in
     record {
       range = record {
         few = omega (arith, long, few);

@@ -23,7 +23,7 @@ use Rattle.queue_laws.proofs.Removed.{is_of_same}
 use Rattle.runq.specs.Queue.{Queue}
 use Rattle.credit2_core.specs.declared.state.Credit2State.{Credit2State}
 use Rattle.credit2_core.specs.declared.line.Ready.{Ready}
-use Rattle.credit2_core.specs.Places.{has_joined}
+use Rattle.sched_ops.specs.Affinity.{is_member_among}
 use Rattle.credit2_core.specs.Credit2State.{IsFree}
 use Rattle.credit2_core.specs.Choice.{first_ready, first_with}
 use Rattle.credit2_core.specs.Domains.{may_run_at, AreRunnable, AreRunnableBut}
@@ -248,7 +248,7 @@ first_has P p (e ∷ es) u each found =
     same_some is = cc
 
 -- where none was pinned each unit may be on every core
-pub free_allows : (unpinned : Bool) (affinity : List (Option (List Cores))) (home core : ℕ) (u : UnitId) → IsFree unpinned affinity → unpinned ≡ true → has_joined affinity u ≡ true → core < 64 → is_allowed_by affinity home core u ≡ true
+pub free_allows : (unpinned : Bool) (affinity : List (Option (List Cores))) (home core : ℕ) (u : UnitId) → IsFree unpinned affinity → unpinned ≡ true → is_member_among affinity u ≡ true → core < 64 → is_allowed_by affinity home core u ≡ true
 free_allows unpinned affinity home core u free is joined low =
     ap (λ (cores : ℕ). has_core cores core || bit_and cores home == 0) (free.all is u joined)
     ∙ ap (λ (bit : ℕ). bit == 1 || bit_and (2 ^ 64 - 1) home == 0) (bit_at_ones 64 core low)

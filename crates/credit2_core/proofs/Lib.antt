@@ -2,7 +2,6 @@ pub mod Lists
 pub mod Waiting
 pub mod Tables
 pub mod Rekeying
-pub mod Rooms
 pub mod Members
 pub mod Idle
 pub mod Kept

@@ -22,7 +22,7 @@ use Rattle.queue_laws.specs.Arrivals.{arrivals}
 use Rattle.queue_laws.proofs.Once.{keys_placed, keys_removed}
 use Rattle.queue_laws.proofs.Arrivals.{length-arrivals}
 use Rattle.credit2_core.specs.Keys.{HasCredits, key_in}
-use Rattle.credit2_core.specs.Places.{has_joined}
+use Rattle.sched_ops.specs.Affinity.{is_member_among}
 use Rattle.credit2_core.specs.Credit2State.{IsLineOf, IsSameRoom}
 use Rattle.credit2_core.proofs.Lists.{apart_push, apart_without, has_unit-without, has_unit-push}
 use Rattle.credit2_core.proofs.Waiting.{IsOrdered, has_arrived, removed_arrivals, placed_arrivals}
@@ -42,7 +42,7 @@ module _ (affinity : List (Option (List Cores))) where
   pub line_rekeyed : (records next : Credit2Records) (es ds : List Queued) → arrivals ds ≡ arrivals es → HasCredits next ds → AllRunOnly (IsElsewhere (arrivals es)) next → IsLineOf affinity records es → IsLineOf affinity next ds
   line_rekeyed records next es ds order keys only line = record {
     apart = subst IsApart (sym order) line.apart;
-    joined = subst (λ (units : List UnitId). AllByRecursion (λ u. has_joined affinity u ≡ true) units) (sym order) line.joined;
+    joined = subst (λ (units : List UnitId). AllByRecursion (λ u. is_member_among affinity u ≡ true) units) (sym order) line.joined;
     indices = subst (λ (units : List UnitId). AllByRecursion (λ (u : UnitId). u.n < 256) units) (sym order) line.indices;
     keys = keys;
     off = subst (λ (units : List UnitId). AllRunOnly (IsElsewhere units) next) (sym order) only;
@@ -85,7 +85,7 @@ module _ (affinity : List (Option (List Cores))) where
         order = order;
         line = record {
           apart = subst IsApart (sym order) (apart_without u (arrivals es) line.apart);
-          joined = subst (λ (units : List UnitId). AllByRecursion (λ w. has_joined affinity w ≡ true) units) (sym order) (AllByRecursion-filter (λ w. has_joined affinity w ≡ true) (λ w. has_joined affinity w ≡ true) (λ w. not (same_unit u w)) (λ w passes here. here) (arrivals es) line.joined);
+          joined = subst (λ (units : List UnitId). AllByRecursion (λ w. is_member_among affinity w ≡ true) units) (sym order) (AllByRecursion-filter (λ w. is_member_among affinity w ≡ true) (λ w. is_member_among affinity w ≡ true) (λ w. not (same_unit u w)) (λ w passes here. here) (arrivals es) line.joined);
           indices = subst (λ (units : List UnitId). AllByRecursion (λ (w : UnitId). w.n < 256) units) (sym order) (AllByRecursion-filter (λ (w : UnitId). w.n < 256) (λ (w : UnitId). w.n < 256) (λ w. not (same_unit u w)) (λ w passes here. here) (arrivals es) line.indices);
           keys = keys_removed (key_in records) u (rank_in u es) es line.keys;
           off = subst (λ (units : List UnitId). AllRunOnly (IsElsewhere units) records) (sym order)
@@ -126,12 +126,12 @@ module _ (affinity : List (Option (List Cores))) where
   line_left records u old new false ordered low answer when else line = subst (IsLeft records u old) (sym else) (kept records u old low (sym answer) line)
 
   -- one more waits
-  pub line_pushed : (records : Credit2Records) (u : UnitId) (es : List Queued) → IsOrdered es → u.n < 256 → has_unit (arrivals es) u ≡ false → has_joined affinity u ≡ true → IsOff records u → IsLineOf affinity records es → IsLineOf affinity records (list_with (queued_unit u (key_in records u) (length es)) es)
+  pub line_pushed : (records : Credit2Records) (u : UnitId) (es : List Queued) → IsOrdered es → u.n < 256 → has_unit (arrivals es) u ≡ false → is_member_among affinity u ≡ true → IsOff records u → IsLineOf affinity records es → IsLineOf affinity records (list_with (queued_unit u (key_in records u) (length es)) es)
   line_pushed records u es ordered low absent joined off line =
       let order : arrivals (list_with (queued_unit u (key_in records u) (length es)) es) ≡ arrivals es ++ u ∷ [] = placed_arrivals u (key_in records u) es ordered in
       record {
         apart = subst IsApart (sym order) (apart_push u (arrivals es) line.apart absent);
-        joined = subst (λ (units : List UnitId). AllByRecursion (λ w. has_joined affinity w ≡ true) units) (sym order) (AllByRecursion-push (λ w. has_joined affinity w ≡ true) (arrivals es) u line.joined joined);
+        joined = subst (λ (units : List UnitId). AllByRecursion (λ w. is_member_among affinity w ≡ true) units) (sym order) (AllByRecursion-push (λ w. is_member_among affinity w ≡ true) (arrivals es) u line.joined joined);
         indices = subst (λ (units : List UnitId). AllByRecursion (λ (w : UnitId). w.n < 256) units) (sym order) (AllByRecursion-push (λ (w : UnitId). w.n < 256) (arrivals es) u line.indices low);
         keys = keys_placed (key_in records) u (length es) es line.keys;
         off = subst (λ (units : List UnitId). AllRunOnly (IsElsewhere units) records) (sym order) others;

@@ -14,7 +14,8 @@ use Rattle.sched_base.proofs.Bools.{clash}
 use Rattle.sched_laws.proofs.EachPlace.{place_below}
 use Rattle.sched_ranges.proofs.Decided.{unit_rec}
 use Rattle.sched_ranges.specs.Budgets.{AllRunOnly}
-use Rattle.credit2_core.specs.Places.{set_counts, unit_counts, count_at, has_joined}
+use Rattle.credit2_core.specs.Places.{set_counts, unit_counts}
+use Rattle.sched_ops.specs.Affinity.{count_at, is_member_among}
 use Rattle.credit2_core.specs.Credit2State.{InRange}
 use Rattle.std.proofs.lemmas.Bool.{ltb-true}
 
@@ -38,7 +39,7 @@ count_there affinity domains i x same at =
     by_sets (Some sets) e = cc
 
 -- a unit that has joined has a record
-pub joined_record : (affinity : List (Option (List Cores))) (domains : List (Option Credit2Domain)) (u : UnitId) → set_counts affinity ≡ unit_counts domains → has_joined affinity u ≡ true
+pub joined_record : (affinity : List (Option (List Cores))) (domains : List (Option Credit2Domain)) (u : UnitId) → set_counts affinity ≡ unit_counts domains → is_member_among affinity u ≡ true
     → (x : Credit2Domain) × (at_place domains u.dom.0 ≡ Some x) × (u.n < length x.units)
 joined_record affinity domains u same joined = by_place (at_place domains u.dom.0) refl
   where
@@ -56,7 +57,7 @@ joined_record affinity domains u same joined = by_place (at_place domains u.dom.
         absurd (omega (arith, inside, z))
     by_place (Some x) is = (x, is, (let e = count_there affinity domains u.dom.0 x same is in omega (arith, inside, e)))
 
-pub joined_small : (t : ℕ) (records : Credit2Records) (affinity : List (Option (List Cores))) (u : UnitId) → InRange t records → set_counts affinity ≡ unit_counts records.domains → has_joined affinity u ≡ true → u.n < 32
+pub joined_small : (t : ℕ) (records : Credit2Records) (affinity : List (Option (List Cores))) (u : UnitId) → InRange t records → set_counts affinity ≡ unit_counts records.domains → is_member_among affinity u ≡ true → u.n < 32
 joined_small t records affinity u range same joined =
     let r = joined_record affinity records.domains u same joined in
     let few = (range.budgets u.dom.0 r.0 r.1).count in
@@ -64,7 +65,7 @@ joined_small t records affinity u range same joined =
     omega (arith, few, inside)
 
 -- a unit that has joined has a place in tables
-pub joined_place : (t : ℕ) (records : Credit2Records) (affinity : List (Option (List Cores))) (u : UnitId) → InRange t records → set_counts affinity ≡ unit_counts records.domains → has_joined affinity u ≡ true → has_place u ≡ true
+pub joined_place : (t : ℕ) (records : Credit2Records) (affinity : List (Option (List Cores))) (u : UnitId) → InRange t records → set_counts affinity ≡ unit_counts records.domains → is_member_among affinity u ≡ true → has_place u ≡ true
 joined_place t records affinity u range same joined =
     let r = joined_record affinity records.domains u same joined in
     let below = place_below records.domains u.dom.0 r.0 r.1 in

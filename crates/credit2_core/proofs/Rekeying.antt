@@ -1,8 +1,8 @@
 -- The keys of the run queue while its units are put at their places one after another.
-use Rattle.std.proofs.Common.{◌≡◌, ◌<◌, ◌≤◌, ◌+◌, ℕ, zero, suc, Bool, true, false, List, [], ◌∷◌, length, refl, subst, arith, ◌⊎◌, inl, inr}
+use Rattle.std.proofs.Common.{◌≡◌, ◌<◌, ◌≤◌, ◌+◌, ℕ, zero, suc, true, false, List, [], ◌∷◌, length, refl, subst, arith, ◌⊎◌, inl, inr}
 use Rattle.std.specs.Prelude.{Option, ◌==◌, ◌&&◌, ◌||◌, if◌then◌else◌, nat_lt}
 use Rattle.std.specs.List.{AllByRecursion}
-use Rattle.std.proofs.lemmas.Bool.{cases_lt, eqb-true, ltb-true, lt-ltb, le-ltb, eq-eqb, or_cases}
+use Rattle.std.proofs.lemmas.Bool.{cases_lt, eqb-true, ltb-true, lt-ltb, eq-eqb, or_cases}
 use Rattle.sched_base.specs.Units.{number_of}
 use Rattle.sched_base.specs.declared.Cores.{Cores}
 use Rattle.sched_base.specs.declared.UnitId.{UnitId}
@@ -11,7 +11,7 @@ use Rattle.sched_base.proofs.Bools.{and_left, and_right, or_left, or_right}
 use Rattle.arrival_queue.specs.Queues.{Queued, queued_unit, list_with, list_without, is_of, has_unit}
 use Rattle.queue_laws.specs.Arrivals.{arrivals}
 use Rattle.credit2_core.specs.Keys.{KeysWhere, HasCredits, key_in, is_passed}
-use Rattle.credit2_core.specs.Places.{has_joined, count_at}
+use Rattle.sched_ops.specs.Affinity.{count_at, is_member_among}
 use Rattle.credit2_core.proofs.Lists.{All-put, queued_have}
 use Rattle.std.proofs.Math.Bool.{or-true}
 
@@ -68,10 +68,10 @@ module _ (records : Credit2Records) where
       ]
 
   -- all units of the domain are passed: the next domain
-  pub keys_next : (affinity : List (Option (List Cores))) (d : ℕ) (es : List Queued) → AllByRecursion (λ u. has_joined affinity u ≡ true) (arrivals es) → KeysWhere (is_passed d (count_at affinity d)) records es → KeysWhere (is_passed (d + 1) 0) records es
-  keys_next affinity d es joined keys = each es (queued_have (λ u. has_joined affinity u ≡ true) es joined) keys
+  pub keys_next : (affinity : List (Option (List Cores))) (d : ℕ) (es : List Queued) → AllByRecursion (λ u. is_member_among affinity u ≡ true) (arrivals es) → KeysWhere (is_passed d (count_at affinity d)) records es → KeysWhere (is_passed (d + 1) 0) records es
+  keys_next affinity d es joined keys = each es (queued_have (λ u. is_member_among affinity u ≡ true) es joined) keys
     where
-      passed : (w : UnitId) → has_joined affinity w ≡ true → is_passed (d + 1) 0 w ≡ true → is_passed d (count_at affinity d) w ≡ true
+      passed : (w : UnitId) → is_member_among affinity w ≡ true → is_passed (d + 1) 0 w ≡ true → is_passed d (count_at affinity d) w ≡ true
       passed w there is = elim (or_cases (nat_lt w.dom.0 (d + 1)) (w.dom.0 == d + 1 && nat_lt w.n 0) is) [
         | inr here ↦ absurd (let l = ltb-true w.n 0 (and_right (w.dom.0 == d + 1) (nat_lt w.n 0) here) in omega (arith, l))
         | inl low ↦ elim (cases_lt w.dom.0 d) [
@@ -85,25 +85,25 @@ module _ (records : Credit2Records) where
         ]
       ]
 
-      each : (xs : List Queued) → AllByRecursion (λ (e : Queued). has_joined affinity e.unit ≡ true) xs → KeysWhere (is_passed d (count_at affinity d)) records xs → KeysWhere (is_passed (d + 1) 0) records xs
+      each : (xs : List Queued) → AllByRecursion (λ (e : Queued). is_member_among affinity e.unit ≡ true) xs → KeysWhere (is_passed d (count_at affinity d)) records xs → KeysWhere (is_passed (d + 1) 0) records xs
       each [] there keys = tt
       each (e ∷ xs) there keys = (λ is. keys.0 (passed e.unit there.0 is), each xs there.1 keys.1)
 
   -- all domains are passed
-  pub keys_all : (affinity : List (Option (List Cores))) (es : List Queued) → AllByRecursion (λ u. has_joined affinity u ≡ true) (arrivals es) → KeysWhere (is_passed (length affinity) 0) records es → HasCredits records es
-  keys_all affinity es joined keys = each es (queued_have (λ u. has_joined affinity u ≡ true) es joined) keys
+  pub keys_all : (affinity : List (Option (List Cores))) (es : List Queued) → AllByRecursion (λ u. is_member_among affinity u ≡ true) (arrivals es) → KeysWhere (is_passed (length affinity) 0) records es → HasCredits records es
+  keys_all affinity es joined keys = each es (queued_have (λ u. is_member_among affinity u ≡ true) es joined) keys
     where
       outside : (places : List (Option (List Cores))) (d : ℕ) → length places ≤ d → count_at places d ≡ 0
       outside [] d high = refl
       outside (p ∷ places) zero high = absurd (omega (arith, high))
       outside (p ∷ places) (suc d) high = outside places d (omega (arith, high))
 
-      inside : (w : UnitId) → has_joined affinity w ≡ true → is_passed (length affinity) 0 w ≡ true
+      inside : (w : UnitId) → is_member_among affinity w ≡ true → is_passed (length affinity) 0 w ≡ true
       inside w there = elim (cases_lt w.dom.0 (length affinity)) [
         | inl low ↦ (let e = lt-ltb w.dom.0 (length affinity) low in rw e refl)
         | inr high ↦ absurd (let l = ltb-true w.n (count_at affinity w.dom.0) there in let z = outside affinity w.dom.0 high in omega (arith, l, z))
       ]
 
-      each : (xs : List Queued) → AllByRecursion (λ (e : Queued). has_joined affinity e.unit ≡ true) xs → KeysWhere (is_passed (length affinity) 0) records xs → HasCredits records xs
+      each : (xs : List Queued) → AllByRecursion (λ (e : Queued). is_member_among affinity e.unit ≡ true) xs → KeysWhere (is_passed (length affinity) 0) records xs → HasCredits records xs
       each [] there keys = tt
       each (e ∷ xs) there keys = (keys.0 (inside e.unit there.0), each xs there.1 keys.1)

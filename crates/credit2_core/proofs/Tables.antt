@@ -15,7 +15,7 @@ use Rattle.sched_model.specs.EligibleUnits.{has_budget, cores_of, is_allowed_by}
 use Rattle.sched_model.specs.Credit2.{domain_has_budget}
 use Rattle.arrival_queue.specs.Filters.{first_that, has_domain, may_run}
 use Rattle.arrival_queue.specs.Queues.{Queued}
-use Rattle.credit2_core.specs.Places.{has_joined}
+use Rattle.sched_ops.specs.Affinity.{is_member_among}
 use Rattle.credit2_core.specs.Domains.{may_run_at, may_run_bit, AreRunnable, set_of, masked_cores}
 use Rattle.credit2_core.specs.Choice.{may_take}
 use Rattle.credit2_core.specs.Credit2State.{AreMasks}
@@ -62,14 +62,14 @@ filter-same p q (x ∷ xs) same =
     ap (λ (b : Bool). cond b (x ∷ filter p xs) (filter p xs)) same.0 ∙ ap (λ (ys : List _). cond (q x) (x ∷ ys) ys) (filter-same p q xs same.1)
 
 -- a unit that has joined passes the search of the run queue just where it may take the core
-pub passes_same : (affinity : List (Option (List Cores))) (masks : List Cores) (records : Credit2Records) (set core home : ℕ) (u : UnitId) → AreRunnable records.domains set → AreMasks affinity masks → has_joined affinity u ≡ true
+pub passes_same : (affinity : List (Option (List Cores))) (masks : List Cores) (records : Credit2Records) (set core home : ℕ) (u : UnitId) → AreRunnable records.domains set → AreMasks affinity masks → is_member_among affinity u ≡ true
     → (has_domain set u.dom.0 && may_run masks (record { 0 = core }) (record { 0 = home }) u) ≡ may_take affinity home core records u
 passes_same affinity masks records set core home u runnable are joined =
     let mask : mask_of masks u ≡ core_set (cores_of affinity u) = are u joined in
     let may : may_run masks (record { 0 = core }) (record { 0 = home }) u ≡ is_allowed_by affinity home core u = ap (λ (m : Cores). sets.is_allowed m.0 core home) mask in
     ap (λ (b : Bool). b && may_run masks (record { 0 = core }) (record { 0 = home }) u) (runnable.each u.dom.0) ∙ ap (λ (b : Bool). domain_has_budget records u && b) may ∙ and_comm (domain_has_budget records u) (is_allowed_by affinity home core u)
 
-pub passes_each : (affinity : List (Option (List Cores))) (masks : List Cores) (records : Credit2Records) (set core home : ℕ) (units : List UnitId) → AreRunnable records.domains set → AreMasks affinity masks → AllByRecursion (λ u. has_joined affinity u ≡ true) units
+pub passes_each : (affinity : List (Option (List Cores))) (masks : List Cores) (records : Credit2Records) (set core home : ℕ) (units : List UnitId) → AreRunnable records.domains set → AreMasks affinity masks → AllByRecursion (λ u. is_member_among affinity u ≡ true) units
     → AllByRecursion (λ u. (has_domain set u.dom.0 && may_run masks (record { 0 = core }) (record { 0 = home }) u) ≡ may_take affinity home core records u) units
 passes_each affinity masks records set core home [] runnable are joined = tt
 passes_each affinity masks records set core home (u ∷ units) runnable are joined = (passes_same affinity masks records set core home u runnable are joined.0, passes_each affinity masks records set core home units runnable are joined.1)

@@ -19,7 +19,8 @@ use Rattle.sched_ops.specs.Seen.{Seen}
 use Rattle.sched_ops.specs.Conditions.{IsApart}
 use Rattle.credit2_core.specs.declared.state.Credit2State.{Credit2State}
 use Rattle.credit2_core.specs.Keys.{HasCredits}
-use Rattle.credit2_core.specs.Places.{set_counts, unit_counts, count_all, has_joined, refills_of}
+use Rattle.credit2_core.specs.Places.{set_counts, unit_counts, refills_of}
+use Rattle.sched_ops.specs.Affinity.{count_all, is_member_among}
 
 -- the numbers of the records are in range at t
 pub record InRange (t : ℕ) (records : Credit2Records) : Type 0 where
@@ -30,7 +31,7 @@ pub record InRange (t : ℕ) (records : Credit2Records) : Type 0 where
 -- the units that wait: no unit is there twice, each has joined, has its key and is not on
 pub record IsLineOf (affinity : List (Option (List Cores))) (records : Credit2Records) (es : List Queued) : Type 0 where
   pub apart : IsApart (arrivals es)
-  pub joined : AllByRecursion (λ u. has_joined affinity u ≡ true) (arrivals es)
+  pub joined : AllByRecursion (λ u. is_member_among affinity u ≡ true) (arrivals es)
   pub indices : AllByRecursion (λ (u : UnitId). u.n < 256) (arrivals es)
   pub keys : HasCredits records es
   pub off : AllRunOnly (λ d n. has_unit (arrivals es) (record { dom = domain d; n = n }) ≡ false) records
@@ -51,11 +52,11 @@ pub record IsSameRoom (old new : Queue) : Type 0 where
 
 -- the table of masks has the sets of cores of the units that have joined
 abbrev pub AreMasks : List (Option (List Cores)) → List Cores → Type 0
-AreMasks affinity masks = (u : UnitId) → has_joined affinity u ≡ true → mask_of masks u ≡ core_set (cores_of affinity u)
+AreMasks affinity masks = (u : UnitId) → is_member_among affinity u ≡ true → mask_of masks u ≡ core_set (cores_of affinity u)
 
 -- each unit that has joined may have all cores, where none was pinned to fewer
 pub record IsFree (unpinned : Bool) (affinity : List (Option (List Cores))) : Type 0 where
-  pub all : unpinned ≡ true → (u : UnitId) → has_joined affinity u ≡ true → cores_of affinity u ≡ 2 ^ 64 - 1
+  pub all : unpinned ≡ true → (u : UnitId) → is_member_among affinity u ≡ true → cores_of affinity u ≡ 2 ^ 64 - 1
 
 -- all that always holds
 pub record IsSound (h : Credit2State) : Type 0 where

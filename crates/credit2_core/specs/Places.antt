@@ -1,11 +1,9 @@
 -- What the sets of cores and the records of a pool have in common, and what is kept beside them.
-use Rattle.std.specs.Prelude.{ℕ, ◌+◌, Bool, List, [], ◌∷◌, Option, Some, None, option_map, map, length, nat_lt}
+use Rattle.std.specs.Prelude.{ℕ, ◌+◌, List, [], ◌∷◌, Option, Some, None, option_map, map, length}
 use Rattle.sched_base.specs.Numbers.{moment}
 use Rattle.sched_base.specs.declared.Cores.{Cores}
 use Rattle.sched_base.specs.declared.Moment.{Moment}
-use Rattle.sched_base.specs.declared.UnitId.{UnitId}
 use Rattle.sched_model.specs.declared.state.Credit2Domain.{Credit2Domain}
-use Rattle.sched_model.specs.Places.{at_place}
 
 -- how many units each domain has, by its sets of cores
 abbrev pub set_counts : List (Option (List Cores)) → List (Option ℕ)
@@ -14,20 +12,6 @@ set_counts affinity = map (λ (o : Option (List Cores)). option_map length o) af
 -- the same by its records
 abbrev pub unit_counts : List (Option Credit2Domain) → List (Option ℕ)
 unit_counts domains = map (λ (o : Option Credit2Domain). option_map (λ (d : Credit2Domain). length d.units) o) domains
-
--- how many units all domains have
-abbrev pub count_all : List (Option (List Cores)) → ℕ
-count_all [] = 0
-count_all (None ∷ affinity) = count_all affinity
-count_all (Some sets ∷ affinity) = length sets + count_all affinity
-
--- how many units the domain has
-abbrev pub count_at : List (Option (List Cores)) → ℕ → ℕ
-count_at affinity d = elim (at_place affinity d) [ None ↦ 0 | Some sets ↦ length sets ]
-
--- the unit is one of a domain that has joined
-abbrev pub has_joined : List (Option (List Cores)) → UnitId → Bool
-has_joined affinity u = nat_lt u.n (count_at affinity u.dom.0)
 
 -- the moment of the domain's next refill
 abbrev pub refill_of : Option Credit2Domain → Option Moment

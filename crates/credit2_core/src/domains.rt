@@ -1,12 +1,12 @@
 //! Tables by domain: which domains may run, the sets of cores by unit, and the moments of the refills.
 
-ghost use Rattle.std.specs.Prelude.{◌≡◌, ◌≢◌, ◌<◌, ◌≤◌, ◌^◌, ◌==◌, ◌&&◌, if◌then◌else◌, ℕ, length, nat_lt, slice_index_or, slice_set};
+ghost use Rattle.std.specs.Prelude.{◌≡◌, ◌≢◌, ◌<◌, ◌≤◌, ◌^◌, ◌==◌, ◌&&◌, if◌then◌else◌, ℕ, length, nat_lt, slice_set};
 ghost use Rattle.sched_base.specs.declared.UnitId.{UnitId as Unit};
 ghost use Rattle.unit_places.specs.Masks.{mask_of};
 ghost use Rattle.arrival_queue.specs.Filters.{has_domain};
-ghost use Rattle.sched_base.specs.Numbers.{core_set};
 ghost use Rattle.sched_model.specs.Places.{at_place};
-ghost use Rattle.credit2_core.specs.Places.{refill_of, count_at as count_at_spec};
+ghost use Rattle.credit2_core.specs.Places.{refill_of};
+ghost use Rattle.sched_ops.specs.Affinity.{count_at as count_at_spec};
 ghost use Rattle.credit2_core.specs.Domains.{may_run_at, may_run_bit, set_of, masked_cores};
 
 use due_heap::{DueHeap, put_id};

@@ -6,7 +6,7 @@ ghost use Rattle.sched_base.specs.declared.UnitId.{UnitId as Unit};
 ghost use Rattle.queue_laws.specs.Arrivals.{arrivals};
 ghost use Rattle.sched_model.specs.Credit2.{credit_of as credit_of_spec};
 ghost use Rattle.credit2_core.specs.Keys.{HasCredits, KeysWhere, is_passed};
-ghost use Rattle.credit2_core.specs.Places.{has_joined};
+ghost use Rattle.sched_ops.specs.Affinity.{is_member_among};
 ghost use Rattle.sched_model.specs.EligibleUnits.{is_allowed_by};
 ghost use Rattle.credit2_core.specs.Credit2State.{AreMasks, IsFree, IsLine, IsSameLine};
 ghost use Rattle.arrival_queue.specs.Filters.{has_domain as domain_in};
@@ -61,7 +61,7 @@ fn rekey_domain(queue: &mut Runq, records: &Credit2Records, d: DomId, count: u8)
 pub fn rekey_all(queue: &mut Runq, records: &Credit2Records, affinity: &[Option<Pins>])
     requires few { length affinity.now ≤ 64 }
     requires indices { AllByRecursion (λ (w : Unit). w.n < 256) (arrivals queue.old.units) }
-    requires joined { AllByRecursion (λ u. has_joined affinity.now u ≡ true)
+    requires joined { AllByRecursion (λ u. is_member_among affinity.now u ≡ true)
         (arrivals queue.old.units) }
     ensures keys { HasCredits records.now queue.new.units }
     ensures same { IsSameLine queue.old queue.new }
@@ -187,7 +187,7 @@ pub fn first_with(records: &Credit2Records, ready: Ready, u: UnitId) -> Option<U
 #[inline]
 pub fn may_be_on(state: &Credit2State, u: UnitId, core: ResId, home: Cores) -> bool
     requires free { IsFree state.now.unpinned state.now.affinity }
-    requires joined { has_joined state.now.affinity u ≡ true }
+    requires joined { is_member_among state.now.affinity u ≡ true }
     requires core { core.0 < 64 }
     ensures { result ≡ is_allowed_by state.now.affinity home.0 core.0 u }
 {

@@ -35,6 +35,7 @@ use Rattle.sched_ranges.proofs.Credit2.{c_burn_cur}
 use Rattle.sched_ranges.specs.Fits.{Credit2Fits, UnitFits}
 use Rattle.sched_ranges.proofs.Records.{RecordsFit}
 use Rattle.sched_print.specs.Ranges.{IsSigned}
+use Rattle.sched_ranges.specs.Ranges.{held_running}
 
 -- how many resets a decision has
 resets_low : (credit : ℤ) → neg_ℤ (pos (65536 * most_span)) ≤ℤ credit → resets credit < 2 ^ 63
@@ -79,15 +80,11 @@ decision_resets count cores (NullPool kept) ask scheduler low fits =
     by_cond (λ (d : Decision). d.reset < 2 ^ 63) ask.leaving (null.decide ask.core.0 (clear_at ask.core.0 kept) None) (null.decide ask.core.0 kept (null.choice ask scheduler kept))
     (λ leaves. omega arith) (λ stays. null_resets ask.core.0 kept (null.choice ask scheduler kept))
 
--- what a running unit holds of a budget
-abbrev holding : Credit2Unit → ℕ
-holding y = cond (is_some y.burned) (above_zero y.held) 0
-
 above_low : (h : ℤ) → h ≤ℤ pos 640000000 → above_zero h ≤ 640000000
 above_low (pos n) low = omega (arith, ints, low)
 above_low (negsuc n) low = omega arith
 
-holding_low : (y : Credit2Unit) → y.held ≤ℤ pos 640000000 → holding y ≤ 640000000
+holding_low : (y : Credit2Unit) → y.held ≤ℤ pos 640000000 → held_running y ≤ 640000000
 holding_low y low = by_cond (λ (n : ℕ). n ≤ 640000000) (is_some y.burned) (above_zero y.held) 0 (λ runs. above_low y.held low) (λ stays. omega arith)
 
 less_low : (h : ℤ) (k : ℕ) → h ≤ℤ pos 640000000 → (h -ℤ pos k) ≤ℤ pos 640000000
@@ -99,12 +96,12 @@ burned_low t most d x low =
     (λ from is. by_cond (λ (h : ℤ). h ≤ℤ pos 640000000) (d.cap == 0) x.held (x.held -ℤ pos (t - from)) (λ free. low) (λ capped. less_low x.held (t - from) low))
 
 -- and what all hold, once they are charged
-held_low : (t most : ℕ) (d : Credit2Domain) (units : List Credit2Unit) → AllByRecursion (Credit2UnitInRange t) units → sum_by holding (map (credit2.burn_unit most t d) units) ≤ length units * 640000000
+held_low : (t most : ℕ) (d : Credit2Domain) (units : List Credit2Unit) → AllByRecursion (Credit2UnitInRange t) units → sum_by held_running (map (credit2.burn_unit most t d) units) ≤ length units * 640000000
 held_low t most d [] each = omega arith
 held_low t most d (x ∷ units) each =
     let rest = held_low t most d units each.1 in
     let one = holding_low (credit2.burn_unit most t d x) (burned_low t most d x each.0.held_most) in
-    let sum = sum_by-cons holding (credit2.burn_unit most t d x) (map (credit2.burn_unit most t d) units) in
+    let sum = sum_by-cons held_running (credit2.burn_unit most t d x) (map (credit2.burn_unit most t d) units) in
     omega (arith, rest, one, sum)
 
 -- the budget after a refill

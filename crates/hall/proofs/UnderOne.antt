@@ -52,6 +52,7 @@ use Rattle.hall.proofs.Calls.{goes-where, adds-event, settles-event, settles-ful
 use Rattle.hall.proofs.Locking.{keeps_same, no_place, no_tool}
 use Rattle.hall.proofs.Parting.{now-held, part-held, stands-held, run-held}
 use Rattle.hall.proofs.Processors.{arrival-small}
+use Rattle.tool_laws.proofs.Moving.{high_name}
 
 module _ (set : LockTable) (b : Chronicle) (s : Sitting) (has : HasBook set b s) (current : Current s.view) (of_hall : IsChecked set.opened.input) (input : b.input ≡ set.opened.input)
     (i : ℕ) (low : i < 16) (slot : Option PoolSeen) (knows : KnowsPool i slot s.view) (some : IsSome slot) (t : ℕ) (now : t ≡ s.view.now)
@@ -168,9 +169,6 @@ lock-of-tool k tool v low some = dite (dec_lt k 16)
     (λ below. absurd (no_tool k v tool below some))
     (λ high. omega (arith, low, high))
 
-high-name : (d : ℕ) → nat_lt (64 + d) 64 ≡ false
-high-name d = grind arith
-
 same-name : (a b : NameId) → (let o : Option NameId = Some a in o) ≡ Some b → b ≡ a
 same-name a b is = cc
 
@@ -191,7 +189,7 @@ listed-has m (Dom d) name named pool listed =
     let here : pool_lists (64 + d.0) pool ≡ true = subst (λ (n : NameId). pool_lists (name_number n) pool ≡ true) same listed in
     let back : 64 + d.0 - 64 ≡ d.0 = omega arith in
     subst (λ (n : ℕ). is_some (at_place pool.domains n) ≡ true) back
-    (sym (domain_name (64 + d.0) pool (high-name d.0)) ∙ here)
+    (sym (domain_name (64 + d.0) pool (high_name d.0)) ∙ here)
 listed-has m Tool name named pool listed = absurd (no-name name named.is)
 
 pub actor-there : (m : Machine) (now : ℕ) (actor : Actor) (name : NameId) → IsNamed m actor name → (slot : Option PoolSeen) → ForSome slot (SlotSuits m now) → lists (slot_part slot) (name_number name) ≡ true
@@ -223,7 +221,7 @@ module _ (set hall : LockTable) (b : Chronicle) (s : Sitting) (has : HasBook set
       let same : name ≡ name_id.Dom d = same-name (name_id.Dom d) name named.is in
       let both = free-listed (64 + d.0) (subst (λ (n : NameId). lists (tool_part part) (name_number n) ≡ true) same listed) in
       let low : nat_lt (64 + d.0) 64 ≡ true = and_left (nat_lt (64 + d.0) 64) (is_some (at_place (tool_of (state_in b)).free (64 + d.0))) both in
-      absurd (true≢false (sym low ∙ high-name d.0))
+      absurd (true≢false (sym low ∙ high_name d.0))
   nothing-free m is Tool name named listed = absurd (no-name name named.is)
 
   pub free-settles : (actor : Actor) (name : NameId) → IsNamed hall.opened.input actor name → lists (tool_part part) (name_number name) ≡ true → (new : Sitting) → KeepsSight s new → SettlesNothing actor b s new

@@ -58,9 +58,12 @@ first_answer f n [] = None
 first_answer f n (None ∷ places) = first_answer f (suc n) places
 first_answer f n (Some x ∷ places) = elim (f n x) [ Some y ↦ Some y | None ↦ first_answer f (suc n) places ]
 
--- the core leaves its pool
+-- whether the core is leaving its pool; that it does
+abbrev pub is_leaving : Resource → Bool
+is_leaving c = c.leaving
+
 abbrev pub core_leaving : ℕ → Resource → Option UnderWay
-core_leaving r c = (if c.leaving then Some (core_to r None) else None)
+core_leaving r c = (if is_leaving c then Some (core_to r None) else None)
 
 -- the domain moves to a pool
 abbrev pub domain_moving : ℕ → Domain → Option UnderWay

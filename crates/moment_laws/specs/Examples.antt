@@ -1,7 +1,6 @@
 -- Worked examples of stretches and moments: small machines, and the stretches and moments of the ordered run of each.
 use Rattle.std.specs.Prelude.{ℕ, suc, ◌==◌, true, false, List, [], ◌∷◌, None, Some, Ok, codes, filter, length, replicate}
-use Rattle.sched_base.specs.Numbers.{moment, span, processor, domain as domain_number, pool as pool_number}
-use Rattle.sched_base.specs.declared.Span.{Span}
+use Rattle.sched_base.specs.Numbers.{moment, span, domain as domain_number, pool as pool_number}
 use Rattle.sched_model.specs.declared.config.SchedKind.TheVariants as kinds
 use Rattle.sched_model.specs.declared.config.PoolParams.TheVariants as pool_params
 use Rattle.sched_model.specs.declared.config.DomParams.TheVariants as dom_params
@@ -9,14 +8,9 @@ use Rattle.sched_model.specs.declared.command.Command.TheVariants as command
 use Rattle.sched_model.specs.declared.command.Which.TheVariants as which
 use Rattle.sched_model.specs.declared.event.Entry.{Entry}
 use Rattle.sched_model.specs.declared.machine.Machine.{Machine}
-use Rattle.sched_model.specs.Machine.{ordered_run}
-use Rattle.sched_model.specs.Opening.{opening}
+use Rattle.sched_examples.specs.Words.{endless_script, run_of, stall, xl}
 use Rattle.turn_laws.specs.Stretches.{Legs, cores, legs_with, is_in_stretch}
 use Rattle.moment_laws.specs.Moments.{causes, lines, whole_moments}
-
--- the entries of the ordered run, which are fewer than a hundred
-abbrev pub run_of : Machine → List Entry
-run_of m = ordered_run 100 m (opening m)
 
 -- a number that is not 0, before others
 abbrev pub with_count : ℕ → List ℕ → List ℕ
@@ -63,10 +57,6 @@ run_sums entries causes moments = record { entries = entries; causes = causes; m
 abbrev pub sums_of : Machine → RunSums
 sums_of m = run_sums (length (run_of m)) (causes (run_of m)) (whole_moments (run_of m))
 
--- the script of a vCPU that always runs
-abbrev pub endless_script : List Span
-endless_script = []
-
 -- a core with two windows
 unfoldable pub two_windows : Machine
 two_windows = record {
@@ -111,7 +101,7 @@ cap_set = record {
   };
   work = record {
     stalls = [];
-    commands = record { at = moment 1000000; command = Ok (command.Credit2Dom (which.Name (codes "b")) None (Some 20)) } ∷ [];
+    commands = xl 1000000 (Ok (command.Credit2Dom (which.Name (codes "b")) None (Some 20))) ∷ [];
   };
 }
 
@@ -135,7 +125,7 @@ budgets = record {
         [];
   };
   work = record {
-    stalls = record { at = moment 3000000; cpu = processor 0; span = span 1000000 } ∷ [];
+    stalls = stall 3000000 0 1000000 ∷ [];
     commands = [];
   };
 }

@@ -16,20 +16,9 @@ use Rattle.plain_opening.specs.OpeningPool.{JoinFits}
 params_fit : (kind : SchedKind) (params : DomParams) → DomParamsPass kind params → ParamsFit params
 params_fit kinds.Credit2 (dom_params.Credit2 weight cap) pass = pass.1
 params_fit kinds.Rtds (dom_params.Rtds period budget extra) pass = pass.0.most
-params_fit kinds.Arinc653 dom_params.Arinc653 pass = tt
-params_fit kinds.Null dom_params.Null pass = tt
-params_fit kinds.Credit2 (dom_params.Rtds period budget extra) pass = absurd pass
-params_fit kinds.Credit2 dom_params.Arinc653 pass = absurd pass
-params_fit kinds.Credit2 dom_params.Null pass = absurd pass
-params_fit kinds.Rtds (dom_params.Credit2 weight cap) pass = absurd pass
-params_fit kinds.Rtds dom_params.Arinc653 pass = absurd pass
-params_fit kinds.Rtds dom_params.Null pass = absurd pass
-params_fit kinds.Arinc653 (dom_params.Credit2 weight cap) pass = absurd pass
-params_fit kinds.Arinc653 (dom_params.Rtds period budget extra) pass = absurd pass
-params_fit kinds.Arinc653 dom_params.Null pass = absurd pass
-params_fit kinds.Null (dom_params.Credit2 weight cap) pass = absurd pass
-params_fit kinds.Null (dom_params.Rtds period budget extra) pass = absurd pass
-params_fit kinds.Null dom_params.Arinc653 pass = absurd pass
+params_fit kind dom_params.Arinc653 pass = tt
+params_fit kind dom_params.Null pass = tt
+params_fit kind params pass = absurd pass
 
 -- a checked domain may join
 join_fits : (config : Config) (domain : DomConfig) → IsCheckedDomain config domain → JoinFits domain

@@ -22,6 +22,7 @@ use Rattle.sched_model.specs.State.{is_runnable}
 use Rattle.sched_laws.proofs.EachPlace.{at_place-put_at, by_cond, length_set, at_place-change_at}
 use Rattle.sched_ops.specs.Conditions.{has_joined}
 use Rattle.sched_ops.specs.Seen.{units_of}
+use Rattle.sched_ops.specs.Affinity.{count_at}
 use Rattle.sched_laws.proofs.Lists.{length_change_item}
 use Rattle.sched_laws.proofs.Records.{same_joined}
 
@@ -58,7 +59,7 @@ module _ (g d : ℕ) (x : Domain) (params : DomParams) (pool : Pool) where
   has_come_in inside = rw (has_sets inside) refl
 
   pub units_come_in : d < length pool.scheduler.affinity → units_of (with_domain g 0 d x params pool).scheduler d ≡ unit_count g x
-  units_come_in inside = rw (units_of, has_sets inside) (length-replicate (unit_count g x) every_core)
+  units_come_in inside = rw (units_of, count_at, has_sets inside) (length-replicate (unit_count g x) every_core)
 
 -- a set of cores leaves the records as they are
 kept_records : (records : Records) (d n : ℕ) (cores : Cores) → changed_records records (changes.Pin (domain d) (Some n) cores) 0 ≡ records
@@ -81,7 +82,7 @@ module _ (d n : ℕ) (cores : Cores) (pool : Pool) where
       by_sets (Some sets) = refl
 
   pub still_units : units_of pin_set.scheduler d ≡ units_of pool.scheduler d
-  still_units = rw (units_of, there) (by_sets (at_place pool.scheduler.affinity d))
+  still_units = rw (units_of, count_at, there) (by_sets (at_place pool.scheduler.affinity d))
     where
       by_sets : (o : Option (List Cores)) → elim (option_map (pinned_cores (Some n) cores) o) as (λ _. ℕ) [ None ↦ 0 | Some sets ↦ length sets ] ≡ elim o as (λ _. ℕ) [ None ↦ 0 | Some sets ↦ length sets ]
       by_sets None = refl

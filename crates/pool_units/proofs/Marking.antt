@@ -14,9 +14,10 @@ use Rattle.sched_laws.proofs.Counts.{same_unit_refl, without_absent, gone_withou
 use Rattle.sched_laws.proofs.Lists.{length-pinned_cores}
 use Rattle.unit_places.specs.Places.{has_place, index_of}
 use Rattle.unit_places.proofs.Placed.{placed, low_unit}
-use Rattle.pool_units.specs.Units.{Units, units_in, is_member, HasNoneWaiting, after_join, after_part, after_enqueue, after_dequeue, pinned_in, vacant_units}
+use Rattle.pool_units.specs.Units.{Units, HasNoneWaiting, after_join, after_part, after_enqueue, after_dequeue, pinned_in, vacant_units}
+use Rattle.sched_ops.specs.Affinity.{count_at, is_member_among}
 use Rattle.pool_units.specs.Marks.{is_marked, IsMarked}
-use Rattle.pool_units.proofs.Counting.{units_in-change_at}
+use Rattle.sched_ops.proofs.Affinity.{count_at-change_at}
 use Rattle.pool_units.proofs.Whole.{has_unit-push, whole_joined, whole_parted, whole_enqueued, whole_dequeued, whole_pinned, whole_vacant}
 use Rattle.std.proofs.Math.Bool.{or-false}
 
@@ -49,44 +50,44 @@ kept u w (x ∷ units) other =
     ]
 
 -- a domain that has units has a place
-domain_there : (d : ℕ) (affinity : List (Option (List Cores))) → 0 < units_in affinity d → d < length affinity
+domain_there : (d : ℕ) (affinity : List (Option (List Cores))) → 0 < count_at affinity d → d < length affinity
 domain_there d [] some = absurd (omega (arith, some))
 domain_there zero (p ∷ affinity) some = omega arith
 domain_there (suc d) (p ∷ affinity) some = (let r = domain_there d affinity some in omega (arith, r))
 
 -- and so has a unit that has joined
-pub member_place : (u : UnitId) (marks : List Bool) (units : Units) → is_member units.affinity u ≡ true → IsMarked marks units → has_place u ≡ true
+pub member_place : (u : UnitId) (marks : List Bool) (units : Units) → is_member_among units.affinity u ≡ true → IsMarked marks units → has_place u ≡ true
 member_place u marks units member marked =
-    let low = ltb-true u.n (units_in units.affinity u.dom.0) member in
+    let low = ltb-true u.n (count_at units.affinity u.dom.0) member in
     let few = marked.few u.dom.0 in
     let there = domain_there u.dom.0 units.affinity (omega (arith, low)) in
     let all = marked.domains in
     placed u (omega (arith, there, all)) (omega (arith, low, few))
 
-member_index : (u : UnitId) (marks : List Bool) (units : Units) → is_member units.affinity u ≡ true → IsMarked marks units → index_of u < length marks
+member_index : (u : UnitId) (marks : List Bool) (units : Units) → is_member_among units.affinity u ≡ true → IsMarked marks units → index_of u < length marks
 member_index u marks units member marked =
-    let low = ltb-true u.n (units_in units.affinity u.dom.0) member in
+    let low = ltb-true u.n (count_at units.affinity u.dom.0) member in
     let few = marked.few u.dom.0 in
     let there = domain_there u.dom.0 units.affinity (omega (arith, low)) in
     let all = marked.places in
     omega (arith, there, all, low, few)
 
 -- a marked unit has joined
-marked_member : (u : UnitId) (marks : List Bool) (units : Units) → is_marked marks u ≡ true → IsMarked marks units → is_member units.affinity u ≡ true
+marked_member : (u : UnitId) (marks : List Bool) (units : Units) → is_marked marks u ≡ true → IsMarked marks units → is_member_among units.affinity u ≡ true
 marked_member u marks units waits marked = marked.whole.members u (sym (marked.waiting u) ∙ waits)
 
 pub marked_place : (u : UnitId) (marks : List Bool) (units : Units) → is_marked marks u ≡ true → IsMarked marks units → has_place u ≡ true
 marked_place u marks units waits marked = member_place u marks units (marked_member u marks units waits marked) marked
 
 -- where one domain joins or parts, none has more units than are allowed
-few_set : (d k most : ℕ) (p : Option (List Cores)) (affinity : List (Option (List Cores))) → units_in (p ∷ []) 0 ≤ most → ((k : ℕ) → units_in affinity k ≤ most) → units_in (slice_set affinity d p) k ≤ most
+few_set : (d k most : ℕ) (p : Option (List Cores)) (affinity : List (Option (List Cores))) → count_at (p ∷ []) 0 ≤ most → ((k : ℕ) → count_at affinity k ≤ most) → count_at (slice_set affinity d p) k ≤ most
 few_set d k most p [] small few = few k
 few_set zero zero most p (q ∷ affinity) small few = small
 few_set zero (suc k) most p (q ∷ affinity) small few = few (suc k)
 few_set (suc d) zero most p (q ∷ affinity) small few = few 0
 few_set (suc d) (suc k) most p (q ∷ affinity) small few = few_set d k most p affinity small (λ j. few (suc j))
 
-none_in_empty : (domains d : ℕ) → units_in (replicate domains None) d ≡ 0
+none_in_empty : (domains d : ℕ) → count_at (replicate domains None) d ≡ 0
 none_in_empty domains d = ap (λ (o : Option (List Cores)). elim o as (λ _. ℕ) [ None ↦ 0 | Some sets ↦ length sets ]) (at_place-replicate domains d)
 
 pub marked_vacant : (domains spare : ℕ) → domains ≤ 64 → spare ≤ 256 → IsMarked (replicate (32 * domains) false) (vacant_units domains spare)
@@ -130,10 +131,10 @@ marked_pinned d unit cores marks units marked =
       waiting = marked.waiting;
       places = (let was = marked.places in omega (arith, same, was));
       domains = (let was = marked.domains in omega (arith, same, was));
-      few = λ k. (let n = units_in-change_at d k (pinned_cores unit cores) units.affinity (length-pinned_cores unit cores) in let was = marked.few k in omega (arith, n, was));
+      few = λ k. (let n = count_at-change_at d k (pinned_cores unit cores) units.affinity (length-pinned_cores unit cores) in let was = marked.few k in omega (arith, n, was));
     }
 
-pub marked_enqueued : (u : UnitId) (marks : List Bool) (units : Units) → is_member units.affinity u ≡ true → has_unit units.queue u ≡ false → IsMarked marks units → IsMarked (slice_set marks (index_of u) true) (after_enqueue u units)
+pub marked_enqueued : (u : UnitId) (marks : List Bool) (units : Units) → is_member_among units.affinity u ≡ true → has_unit units.queue u ≡ false → IsMarked marks units → IsMarked (slice_set marks (index_of u) true) (after_enqueue u units)
 marked_enqueued u marks units member absent marked =
     let place = member_place u marks units member marked in
     let low = member_index u marks units member marked in

@@ -14,8 +14,9 @@ use Rattle.sched_laws.proofs.Choices.{same_unit_same}
 use Rattle.sched_laws.proofs.EachPlace.{at_place-put_at_other, at_place-clear_at_other, at_place-replicate}
 use Rattle.sched_laws.proofs.Counts.{same_unit_refl}
 use Rattle.sched_laws.proofs.Lists.{length-pinned_cores}
-use Rattle.pool_units.specs.Units.{Units, IsWhole, is_member, HasNoneWaiting, after_join, after_part, after_enqueue, after_dequeue, pinned_in, vacant_units as vacant}
-use Rattle.pool_units.proofs.Counting.{unit_count-put_at, unit_count-clear_at, unit_count-change_at, units_in-change_at, unit_count-empty, waiting_count}
+use Rattle.pool_units.specs.Units.{Units, IsWhole, HasNoneWaiting, after_join, after_part, after_enqueue, after_dequeue, pinned_in, vacant_units as vacant}
+use Rattle.sched_ops.specs.Affinity.{is_member_among}
+use Rattle.sched_ops.proofs.Affinity.{count_all-put_at, count_all-clear_at, count_all-change_at, count_at-change_at, count_all-empty, no_more_wait, each_here}
 use Rattle.std.proofs.Math.Bool.{or-false}
 
 pub has_unit-push : (u w : UnitId) (units : List UnitId) → has_unit (units ++ w ∷ []) u ≡ (has_unit units u || same_unit u w)
@@ -62,12 +63,12 @@ apart_filter test (w ∷ units) apart =
     ]
 
 -- a unit of another domain
-member_other : (u : UnitId) (affinity places : List (Option (List Cores))) → at_place places u.dom.0 ≡ at_place affinity u.dom.0 → is_member affinity u ≡ true → is_member places u ≡ true
+member_other : (u : UnitId) (affinity places : List (Option (List Cores))) → at_place places u.dom.0 ≡ at_place affinity u.dom.0 → is_member_among affinity u ≡ true → is_member_among places u ≡ true
 member_other u affinity places same member =
     ap (λ (o : Option (List Cores)). nat_lt u.n (elim o as (λ _. ℕ) [ None ↦ 0 | Some sets ↦ length sets ])) same ∙ member
 
 -- a unit that has joined is of a domain that has
-none_in : (u : UnitId) (affinity : List (Option (List Cores))) → at_place affinity u.dom.0 ≡ None → is_member affinity u ≡ true → ⊥
+none_in : (u : UnitId) (affinity : List (Option (List Cores))) → at_place affinity u.dom.0 ≡ None → is_member_among affinity u ≡ true → ⊥
 none_in u affinity none member =
     let e : nat_lt u.n 0 ≡ true = ap (λ (o : Option (List Cores)). nat_lt u.n (elim o as (λ _. ℕ) [ None ↦ 0 | Some sets ↦ length sets ])) (sym none) ∙ member in
     let low : u.n < 0 = grind arith in
@@ -89,7 +90,7 @@ whole_joined d count units absent few whole =
           ]
           );
       room = (
-          let more = unit_count-put_at d (replicate count every_core) units.affinity absent in
+          let more = count_all-put_at d (replicate count every_core) units.affinity absent in
           let sets : length (replicate count every_core) ≡ count = length-replicate count every_core in
           let was = whole.room in
           omega (arith, more, sets, was, few)
@@ -107,18 +108,18 @@ whole_parted d units none whole =
             | no other ↦ member_other u units.affinity (clear_at d units.affinity) (at_place-clear_at_other d u.dom.0 units.affinity other) member
           ]
           );
-      room = (let less = unit_count-clear_at d units.affinity in let was = whole.room in omega (arith, less, was));
+      room = (let less = count_all-clear_at d units.affinity in let was = whole.room in omega (arith, less, was));
     }
 
-pub whole_enqueued : (u : UnitId) (units : Units) → is_member units.affinity u ≡ true → has_unit units.queue u ≡ false → IsWhole units → IsWhole (after_enqueue u units)
+pub whole_enqueued : (u : UnitId) (units : Units) → is_member_among units.affinity u ≡ true → has_unit units.queue u ≡ false → IsWhole units → IsWhole (after_enqueue u units)
 whole_enqueued u units member absent whole =
     record {
       apart = apart_push units.queue u absent whole.apart;
       members = λ w has. (
           let split : (has_unit units.queue w || same_unit w u) ≡ true = sym (has_unit-push w u units.queue) ∙ has in
-          elim (has_unit units.queue w) as (λ b. has_unit units.queue w ≡ b → (b || same_unit w u) ≡ true → is_member units.affinity w ≡ true) [
+          elim (has_unit units.queue w) as (λ b. has_unit units.queue w ≡ b → (b || same_unit w u) ≡ true → is_member_among units.affinity w ≡ true) [
             | true ↦ λ is e. whole.members w is
-            | false ↦ λ is e. subst (λ (x : UnitId). is_member units.affinity x ≡ true) (sym (same_unit_same w u e)) member
+            | false ↦ λ is e. subst (λ (x : UnitId). is_member_among units.affinity x ≡ true) (sym (same_unit_same w u e)) member
           ] refl split
           );
       room = whole.room;
@@ -136,8 +137,8 @@ pub whole_pinned : (d : ℕ) (unit : Option ℕ) (cores : Cores) (units : Units)
 whole_pinned d unit cores units whole =
     record {
       apart = whole.apart;
-      members = λ u has. (let same = units_in-change_at d u.dom.0 (pinned_cores unit cores) units.affinity (length-pinned_cores unit cores) in ap (nat_lt u.n) same ∙ whole.members u has);
-      room = (let same = unit_count-change_at d (pinned_cores unit cores) units.affinity (length-pinned_cores unit cores) in let was = whole.room in omega (arith, same, was));
+      members = λ u has. (let same = count_at-change_at d u.dom.0 (pinned_cores unit cores) units.affinity (length-pinned_cores unit cores) in ap (nat_lt u.n) same ∙ whole.members u has);
+      room = (let same = count_all-change_at d (pinned_cores unit cores) units.affinity (length-pinned_cores unit cores) in let was = whole.room in omega (arith, same, was));
     }
 
 pub whole_vacant : (domains spare : ℕ) → spare ≤ 256 → IsWhole (vacant domains spare)
@@ -145,14 +146,14 @@ whole_vacant domains spare few =
     record {
       apart = tt;
       members = λ u has. absurd (cc);
-      room = (let none = unit_count-empty domains in omega (arith, none, few));
+      room = (let none = count_all-empty domains in omega (arith, none, few));
     }
 
 -- a unit that has joined and does not wait finds room to wait
-pub room_to_wait : (u : UnitId) (units : Units) → is_member units.affinity u ≡ true → has_unit units.queue u ≡ false → IsWhole units → length units.queue < 256
+pub room_to_wait : (u : UnitId) (units : Units) → is_member_among units.affinity u ≡ true → has_unit units.queue u ≡ false → IsWhole units → length units.queue < 256
 room_to_wait u units member absent whole =
     let more = whole_enqueued u units member absent whole in
-    let few = waiting_count (units.queue ++ u ∷ []) units.affinity more.apart more.members in
+    let few = no_more_wait units.affinity (units.queue ++ u ∷ []) more.apart (each_here (λ w. is_member_among units.affinity w ≡ true) (units.queue ++ u ∷ []) more.members) in
     let all = length-append units.queue (u ∷ []) in
     let was = whole.room in
     omega (arith, few, all, was)
@@ -167,6 +168,6 @@ none_waits : (queue : List UnitId) → ((u : UnitId) → has_unit queue u ≡ tr
 none_waits [] none = refl
 none_waits (u ∷ queue) none = absurd (none u (let s = same_unit_refl u in rw s refl))
 
-pub queue_of_vacant : (queue : List UnitId) (affinity : List (Option (List Cores))) → ((u : UnitId) → has_unit queue u ≡ true → is_member affinity u ≡ true) → not (list_any is_some affinity) ≡ true → queue ≡ []
+pub queue_of_vacant : (queue : List UnitId) (affinity : List (Option (List Cores))) → ((u : UnitId) → has_unit queue u ≡ true → is_member_among affinity u ≡ true) → not (list_any is_some affinity) ≡ true → queue ≡ []
 queue_of_vacant queue affinity members vacant =
     none_waits queue (λ u has. none_in u affinity (ap (λ (ps : List (Option (List Cores))). at_place ps u.dom.0) (affinity_of_vacant affinity vacant) ∙ at_place-replicate (length affinity) u.dom.0) (members u has))

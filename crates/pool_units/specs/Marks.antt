@@ -3,7 +3,8 @@ use Rattle.std.specs.Prelude.{ℕ, ◌≡◌, ◌≤◌, ◌*◌, ◌&&◌, Bool
 use Rattle.sched_base.specs.declared.UnitId.{UnitId}
 use Rattle.sched_model.specs.Places.{has_unit}
 use Rattle.unit_places.specs.Places.{has_place, index_of}
-use Rattle.pool_units.specs.Units.{Units, IsWhole, units_in}
+use Rattle.pool_units.specs.Units.{Units, IsWhole}
+use Rattle.sched_ops.specs.Affinity.{count_at}
 
 -- whether the unit is marked
 abbrev pub is_marked : List Bool → UnitId → Bool
@@ -15,4 +16,4 @@ pub record IsMarked (marks : List Bool) (units : Units) : Type 0 where
   pub waiting : (u : UnitId) → is_marked marks u ≡ has_unit units.queue u
   pub places : length marks ≡ 32 * length units.affinity
   pub domains : length units.affinity ≤ 64
-  pub few : (d : ℕ) → units_in units.affinity d ≤ 32
+  pub few : (d : ℕ) → count_at units.affinity d ≤ 32

@@ -1,11 +1,12 @@
 -- The units of a pool: those of the domains that joined, with their sets of cores, and those that wait.
-use Rattle.std.specs.Prelude.{ℕ, ◌+◌, ◌-◌, ◌≡◌, ◌≤◌, Bool, true, false, List, [], ◌∷◌, ◌++◌, Option, Some, None, length, replicate, nat_lt}
+use Rattle.std.specs.Prelude.{ℕ, ◌+◌, ◌-◌, ◌≡◌, ◌≤◌, true, false, List, [], ◌∷◌, ◌++◌, Option, None, replicate}
 use Rattle.sched_base.specs.declared.UnitId.{UnitId}
 use Rattle.sched_base.specs.declared.Cores.{Cores}
-use Rattle.sched_model.specs.Places.{at_place, put_at, clear_at, change_at, has_unit, without_unit}
+use Rattle.sched_model.specs.Places.{put_at, clear_at, change_at, has_unit, without_unit}
 use Rattle.sched_model.specs.Policy.{pinned_cores}
 use Rattle.sched_base.specs.CoreSets.{every_core}
 use Rattle.sched_ops.specs.Conditions.{IsApart}
+use Rattle.sched_ops.specs.Affinity.{count_at, count_all, is_member_among}
 
 -- the units that wait, in order of arrival; the sets of cores of each domain's units; and how many units may still join
 pub record Units : Type 0 where
@@ -17,14 +18,6 @@ pub record Units : Type 0 where
 abbrev pub vacant_units : ℕ → ℕ → Units
 vacant_units domains units = record { queue = []; affinity = replicate domains None; spare = units }
 
--- how many units the domain has
-abbrev pub units_in : List (Option (List Cores)) → ℕ → ℕ
-units_in affinity d = elim (at_place affinity d) [ None ↦ 0 | Some sets ↦ length sets ]
-
--- the unit is one of a domain that has joined
-abbrev pub is_member : List (Option (List Cores)) → UnitId → Bool
-is_member affinity u = nat_lt u.n (units_in affinity u.dom.0)
-
 -- none of the domain's units waits
 abbrev pub HasNoneWaiting : Units → ℕ → Type 0
 HasNoneWaiting units d = (u : UnitId) → u.dom.0 ≡ d → has_unit units.queue u ≡ false
@@ -35,7 +28,7 @@ after_join d count units = record units { affinity = put_at d (replicate count e
 
 -- the domain d parts
 abbrev pub after_part : ℕ → Units → Units
-after_part d units = record units { affinity = clear_at d units.affinity; spare = units.spare + units_in units.affinity d }
+after_part d units = record units { affinity = clear_at d units.affinity; spare = units.spare + count_at units.affinity d }
 
 -- the unit waits behind all others
 abbrev pub after_enqueue : UnitId → Units → Units
@@ -49,14 +42,8 @@ after_dequeue u units = record units { queue = without_unit u units.queue }
 abbrev pub pinned_in : ℕ → Option ℕ → Cores → Units → Units
 pinned_in d unit cores units = record units { affinity = change_at d (pinned_cores unit cores) units.affinity }
 
--- how many units have joined
-abbrev pub unit_count : List (Option (List Cores)) → ℕ
-unit_count [] = 0
-unit_count (None ∷ places) = unit_count places
-unit_count (Some sets ∷ places) = length sets + unit_count places
-
 -- no unit waits twice, those that wait have joined, and no more than 256 ever do
 pub record IsWhole (units : Units) : Type 0 where
   pub apart : IsApart units.queue
-  pub members : (u : UnitId) → has_unit units.queue u ≡ true → is_member units.affinity u ≡ true
-  pub room : unit_count units.affinity + units.spare ≤ 256
+  pub members : (u : UnitId) → has_unit units.queue u ≡ true → is_member_among units.affinity u ≡ true
+  pub room : count_all units.affinity + units.spare ≤ 256

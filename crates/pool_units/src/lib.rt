@@ -3,8 +3,7 @@
 //! It is what the schedulers without keys have in common: nothing but the order of arrival tells their waiting units apart.
 #![tactic(auto)]
 
-ghost use Rattle.std.specs.Prelude.{◌≡◌, ◌≤◌, ◌<◌, Some, None, true, false, is_some, not, length, OnOk, OnErr, IfOk, replicate, unwrap_or, [], slice_set};
-ghost use Rattle.std.specs.List.{list_any};
+ghost use Rattle.std.specs.Prelude.{◌≡◌, ◌≤◌, ◌<◌, Some, None, true, false, length, IfOk, unwrap_or, [], slice_set};
 ghost use Rattle.sched_model.specs.Places.{at_place, change_at, has_unit};
 ghost use Rattle.sched_model.specs.Policy.{pinned_cores};
 ghost use Rattle.sched_model.specs.EligibleUnits.{is_allowed_by};
@@ -74,9 +73,9 @@ fn pin_sets(affinity: &mut Option<Row<Option<Pins>>>, d: DomId, unit: Option<u8>
 }
 
 impl PoolUnits {
-    ghost use Rattle.std.specs.Prelude.{◌≡◌, ◌≤◌, ◌<◌, Some, None, true, false, is_some, not, length, OnOk, OnErr, IfOk, replicate};
-    ghost use Rattle.pool_units.specs.Units.{vacant_units, units_in, is_member, HasNoneWaiting, after_join, after_part, after_enqueue, after_dequeue, pinned_in};
-
+    ghost use Rattle.std.specs.Prelude.{◌≡◌, ◌≤◌, ◌<◌, Some, None, true, false, length, IfOk};
+    ghost use Rattle.pool_units.specs.Units.{vacant_units, HasNoneWaiting, after_join, after_part, after_enqueue, after_dequeue, pinned_in};
+    ghost use Rattle.sched_ops.specs.Affinity.{count_at, is_member_among};
     /// No unit, no place for a domain and no room. It has no memory.
     pub fn empty() -> Self
         ensures { result ≡ vacant_units 0 0 }
@@ -119,7 +118,7 @@ impl PoolUnits {
 
     /// How many units the domain has: none where it has not joined.
     pub fn count(&self, d: DomId) -> usize
-        ensures { result ≡ units_in self.now.affinity d.0 }
+        ensures { result ≡ count_at self.now.affinity d.0 }
     {
         let affinity = self.affinity();
         let d = d.0 as usize;
@@ -144,7 +143,7 @@ impl PoolUnits {
 
     /// The unit, which has joined and does not wait, waits behind all others.
     pub fn enqueue(&mut self, u: UnitId)
-        requires member { is_member self.old.affinity u ≡ true }
+        requires member { is_member_among self.old.affinity u ≡ true }
         requires waits_not { has_unit self.old.queue u ≡ false }
         ensures { self.new ≡ after_enqueue u self.old }
     {
@@ -206,7 +205,7 @@ impl PoolUnits {
     pub fn keeps(&self)
         ensures apart { IsApart self.now.queue }
         ensures members { (u : UnitId) → has_unit self.now.queue u ≡ true →
-            is_member self.now.affinity u ≡ true }
+            is_member_among self.now.affinity u ≡ true }
     {
         let _ = &self.queue;
     }

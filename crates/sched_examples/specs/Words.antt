@@ -102,6 +102,10 @@ no_reading place = Err (record { place = place })
 abbrev pub at : ℕ → Event → Entry
 at t event = record { at = moment t; event = event }
 
+-- the entries of an ordered run that has fewer than a hundred
+abbrev pub run_of : Machine → List Entry
+run_of m = ordered_run 100 m (opening m)
+
 -- the ordered run of the machine has these entries, and no more
 abbrev pub RunsAs : Machine → List Entry → Type 0
 RunsAs m entries = ordered_run (suc (length entries)) m (opening m) ≡ entries

@@ -23,7 +23,7 @@ use Rattle.sched_model.specs.State.{is_runnable}
 use Rattle.sched_model.specs.Policy as policy
 use Rattle.sched_model.specs.Policy.{dequeue_domain, rtds_record}
 use Rattle.sched_model.specs.Pool as pools
-use Rattle.sched_model.specs.Pool.{enabled_in, after_in, settled_pool, home_cores, reconsidered_core, change_core, change_processor, change_vcpu, change_domain, change_cores_of, set_pending, set_leaving, with_doing, queue_unit, started_on, with_records, pause, unpause, unit_of, core_of, processor_of, vcpu_of, guest_of, is_idle, is_held, is_of_domain, unit_count}
+use Rattle.sched_model.specs.Pool.{enabled_in, after_in, settled_pool, home_cores, reconsidered_core, change_core, change_processor, change_vcpu, change_domain, change_cores_of, set_pending, set_leaving, with_doing, queue_unit, started_on, with_records, pause, unpause, unit_of, core_of, processor_of, vcpu_of, guest_of, is_idle, is_held, is_of_domain, unit_count, vcpu_among}
 use Rattle.sched_laws.specs.EachPlace.{EachAt}
 use Rattle.sched_laws.proofs.EachPlace.{by_option, by_test, by_cond, length_set, length_change_each, read_change_at}
 use Rattle.sched_laws.proofs.Lists.{length_change_item, read_change_item}
@@ -168,7 +168,7 @@ vcpu_after v f pool y is =
       | inl was ↦ absurd (was.0 refl)
       | inr r ↦ (
           let has : slice_get (change_item v.n f r.0.vcpus) v.n ≡ Some y = rw (← r.3) at e in
-          elim (read_change_item v.n v.n f r.0.vcpus y has) [ inl was ↦ absurd (was.0 refl) | inr x ↦ (x.0, rw (vcpu_of, r.1) x.1, x.3) ])
+          elim (read_change_item v.n v.n f r.0.vcpus y has) [ inl was ↦ absurd (was.0 refl) | inr x ↦ (x.0, rw (vcpu_of, vcpu_among, r.1) x.1, x.3) ])
     ]) is
 
 -- nothing is known of an event that comes; it may come

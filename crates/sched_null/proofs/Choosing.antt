@@ -20,7 +20,8 @@ use Rattle.sched_laws.proofs.Counts.{same_unit_refl}
 use Rattle.sched_ops.specs.Conditions.{ArePoolParams, is_vacant}
 use Rattle.sched_ops.specs.Seen.{restarted_scheduler}
 use Rattle.plain_policy.specs.Parts.{scheduler_of}
-use Rattle.pool_units.specs.Units.{Units, is_member}
+use Rattle.pool_units.specs.Units.{Units}
+use Rattle.sched_ops.specs.Affinity.{is_member_among}
 use Rattle.pool_units.proofs.Waiting.{first_of_one, any_of_none}
 use Rattle.pool_units.proofs.Whole.{affinity_of_vacant, queue_of_vacant}
 
@@ -95,7 +96,7 @@ fresh_null pool_params.Null domains cores are = refl
 
 -- a pool without domains, whose cores are kept for no unit
 pub begun_anew : (queue : List UnitId) (affinity : List (Option (List Cores))) (kept : List (Option UnitId)) (params : PoolParams)
-    → ((u : UnitId) → has_unit queue u ≡ true → is_member affinity u ≡ true) → is_vacant (scheduler_of queue affinity (NullPool kept)) ≡ true → ArePoolParams kinds.Null params
+    → ((u : UnitId) → has_unit queue u ≡ true → is_member_among affinity u ≡ true) → is_vacant (scheduler_of queue affinity (NullPool kept)) ≡ true → ArePoolParams kinds.Null params
     → scheduler_of queue affinity (NullPool (replicate (length kept) None)) ≡ restarted_scheduler params (scheduler_of queue affinity (NullPool kept))
 begun_anew queue affinity kept params members vacant are =
     ap (λ (q : List UnitId). scheduler_of q affinity (NullPool (replicate (length kept) None))) (queue_of_vacant queue affinity members vacant)

@@ -1,5 +1,5 @@
 -- What the calls of a scheduler ask of their callers.
-use Rattle.std.specs.Prelude.{ℕ, ◌≡◌, ◌≤◌, ◌<◌, Bool, true, false, not, List, Option, Some, None, is_some, nat_lt, slice_get, ◌∷◌, []}
+use Rattle.std.specs.Prelude.{ℕ, ◌≡◌, ◌≤◌, ◌<◌, Bool, true, false, not, List, Option, Some, None, is_some, slice_get, ◌∷◌, []}
 use Rattle.std.specs.List.{list_any}
 use Rattle.std.specs.Option.{ForSome}
 use Rattle.sched_base.specs.declared.UnitId.{UnitId}
@@ -19,6 +19,7 @@ use Rattle.sched_model.specs.Places.{at_place, has_unit}
 use Rattle.sched_model.specs.EligibleUnits.{rtds_unit}
 use Rattle.sched_model.specs.CheckedMachine.{IsWithin, most_span}
 use Rattle.sched_ranges.specs.Ranges.{IsFrame}
+use Rattle.sched_ops.specs.Affinity.{is_member_among}
 use Rattle.sched_ops.specs.Seen.{Seen, units_of}
 
 -- the domain has joined
@@ -27,7 +28,7 @@ has_joined scheduler d = is_some (at_place scheduler.affinity d)
 
 -- the unit is one of a domain that has joined
 abbrev pub is_member : Scheduler → UnitId → Bool
-is_member scheduler u = nat_lt u.n (units_of scheduler u.dom.0)
+is_member scheduler u = is_member_among scheduler.affinity u
 
 -- no domain has joined
 abbrev pub is_vacant : Scheduler → Bool

@@ -1,3 +1,4 @@
+pub mod Affinity
 pub mod Seen
 pub mod Conditions
 pub mod Timers

@@ -1,14 +1,15 @@
 -- What callers see of a scheduler, and what its calls make of that.
-use Rattle.std.specs.Prelude.{ℕ, ◌≡◌, [], Some, None, length, replicate}
+use Rattle.std.specs.Prelude.{ℕ, ◌≡◌, [], None, length, replicate}
 use Rattle.sched_base.specs.declared.UnitId.{UnitId}
 use Rattle.sched_model.specs.declared.config.PoolParams.{PoolParams}
 use Rattle.sched_model.specs.declared.config.SchedKind.{SchedKind}
 use Rattle.sched_model.specs.declared.state.Records.{Records}
 use Rattle.sched_model.specs.declared.state.Records.TheVariants.{Credit2Pool, RtdsPool, ArincPool, NullPool}
 use Rattle.sched_model.specs.declared.state.Scheduler.{Scheduler}
-use Rattle.sched_model.specs.Places.{at_place, without_unit}
+use Rattle.sched_model.specs.Places.{without_unit}
 use Rattle.sched_model.specs.EligibleUnits.{Decision}
 use Rattle.sched_model.specs.Policy.{fresh_records, default_pool_params}
+use Rattle.sched_ops.specs.Affinity.{count_at}
 use Rattle.sched_ops.specs.declared.choice.Choice.{Choice}
 
 -- the waiting units in order of arrival, the sets of cores and the records; how many units may still join; and the greatest moment that was given
@@ -42,7 +43,7 @@ dequeue u scheduler = record scheduler { queue = without_unit u scheduler.queue 
 
 -- how many units the domain joined with
 abbrev pub units_of : Scheduler → ℕ → ℕ
-units_of scheduler d = elim (at_place scheduler.affinity d) [ None ↦ 0 | Some sets ↦ length sets ]
+units_of scheduler d = count_at scheduler.affinity d
 
 -- the same with another scheduler
 abbrev pub with_scheduler : Scheduler → Seen → Seen

@@ -1,17 +1,15 @@
 -- The digits of a number are read back as that number.
 use Rattle.std.proofs.Common.{◌≡◌, ◌+◌, ◌-◌, ◌*◌, ◌/◌, ◌%◌, ◌^◌, ◌<◌, ◌≤◌, ℕ, zero, suc, Bool, true, false, not, ◌&&◌, List, [], ◌∷◌, ◌++◌, length, arith, refl, ap, ◌∙◌, append_assoc, append-nil}
-use Rattle.std.specs.Prelude.{Ok, Err, nat_le, ◌==◌, decimal}
+use Rattle.std.specs.Prelude.{Ok, Err, ◌==◌, decimal}
+use Rattle.std.specs.Char.{is_ascii_digit}
 use Rattle.std.proofs.lemmas.Fmt.{decimal_digit, decimal_by_steps}
 use Rattle.std.proofs.lemmas.Bool.Decides.{nat_tests}
 use Rattle.sched_print.specs.Readers.{Form, Number, read, goes_on, digits_at, number_at, ◌>>=◌}
 
-abbrev pub is_digit : ℕ → Bool
-is_digit b = nat_le 48 b && nat_le b 57
-
 -- no digit goes on with what stands before
 abbrev pub is_plain : List ℕ → Bool
 is_plain [] = true
-is_plain (b ∷ bytes) = not (is_digit b)
+is_plain (b ∷ bytes) = not (is_ascii_digit b)
 
 -- the number may be read with these bounds
 pub record Fits (low high n : ℕ) : Type 0 where

@@ -7,7 +7,8 @@ use Rattle.std.proofs.lemmas.Bool.{eqb-true}
 use Rattle.sched_base.proofs.Bools.{and_left, and_right}
 use Rattle.sched_model.specs.declared.event.Entry.{Entry}
 use Rattle.sched_print.specs.Readers.{Form, Done, Word, Number, Either, read, word_at, better_reading, goes_on, digits_at, number_at, ◌>>=◌}
-use Rattle.sched_print.proofs.Numbers.{is_digit, is_plain}
+use Rattle.sched_print.proofs.Numbers.{is_plain}
+use Rattle.std.specs.Char.{is_ascii_digit}
 
 -- t is a text of the form, and stands for e
 abbrev pub Spells : Form → List ℕ → Entry → Type 0
@@ -24,7 +25,7 @@ Begins f front = (rest : List ℕ) × (y : Entry) × Spells f (front ++ rest) y
 abbrev pub starts_plain : Form → Bool
 starts_plain (Done e) = true
 starts_plain (Word [] f) = false
-starts_plain (Word (c ∷ w) f) = not (is_digit c)
+starts_plain (Word (c ∷ w) f) = not (is_ascii_digit c)
 starts_plain (Number low high f) = false
 starts_plain (Either f g) = starts_plain f && starts_plain g
 

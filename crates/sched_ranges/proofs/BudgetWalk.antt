@@ -55,7 +55,7 @@ use Rattle.sched_laws.proofs.Records.{same_joined, same_decision}
 use Rattle.sched_laws.proofs.Events.{LikePlaces, like_change_at, capped, like_of_domain, like_is, like_map, KeepsCore, KeptByCommands, KeptByParts, commands_of, kept_settled, kept_processor, kept_by_parts, kept_set_leaving, kept_withdrawn, kept_pause, kept_unpause, kept_marked, kept_queue_units}
 use Rattle.sched_laws.proofs.Steps.{IsKeptAt}
 use Rattle.sched_ranges.specs.Ranges.{IsUnitOf}
-use Rattle.sched_ranges.proofs.Records.{ParamsFit, default_fits}
+use Rattle.sched_ranges.proofs.Records.{ParamsInRange, default_fits}
 use Rattle.sched_ranges.proofs.Walk.{DomFits, NearEnd, EndsFit, PoolFits, range_steps}
 use Rattle.sched_ranges.specs.Budgets.{BudgetFits, Nobody}
 use Rattle.sched_ranges.proofs.Budgets.{b_fresh, b_later}
@@ -172,7 +172,7 @@ module _ (m : Machine) (some : 0 < m.config.granularity) (t : ℕ) where
   n_parted (ArincPool records) d cores fits = fits
   n_parted (NullPool kept) d cores fits = not_credit2 m t (parted_records (NullPool kept) d) cores refl
 
-  n_joined : (records : Records) (params : DomParams) (d count : ℕ) (cores : List (Option Resource)) → ParamsFit params → CountIs m d count → CreditFits m t records cores → CreditFits m t (joined_records records params d count t) cores
+  n_joined : (records : Records) (params : DomParams) (d count : ℕ) (cores : List (Option Resource)) → ParamsInRange params → CountIs m d count → CreditFits m t records cores → CreditFits m t (joined_records records params d count t) cores
   n_joined (Credit2Pool own) (dom_params.Credit2 weight percent) d count cores good counted fits = (
       let ok = fits own refl in
       credit_fits m t (record own { domains = put_at d (credit2.fresh_domain weight percent count t) own.domains }) cores (record {
@@ -300,7 +300,7 @@ module _ (m : Machine) (some : 0 < m.config.granularity) (t : ℕ) where
       let same : comes.config ≡ config = cc in
       ap (λ k. (k + m.config.granularity - 1) / m.config.granularity) (count ∙ ap (λ (c : DomConfig). length c.guests) same)
 
-  pub n_with_domain : (d : ℕ) (domain : Domain) (params : DomParams) (pool : Pool) → ParamsFit params → DomFits m t d domain → N pool → N (with_domain m.config.granularity t d domain params pool)
+  pub n_with_domain : (d : ℕ) (domain : Domain) (params : DomParams) (pool : Pool) → ParamsInRange params → DomFits m t d domain → N pool → N (with_domain m.config.granularity t d domain params pool)
   n_with_domain d domain params pool good comes fits =
       kept_queue_units n_commands d (numbers_from 0 (pools.unit_count m.config.granularity domain)) (record pool { domains = put_at d domain pool.domains; scheduler = policy.join d (pools.unit_count m.config.granularity domain) params t pool.scheduler })
       (n_joined pool.scheduler.records params d (pools.unit_count m.config.granularity domain) pool.resources good (counted d domain comes) fits)

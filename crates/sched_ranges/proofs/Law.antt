@@ -45,7 +45,7 @@ use Rattle.sched_laws.proofs.Steps.{FreeFits, step_after}
 use Rattle.sched_laws.proofs.Free.{free_after}
 use Rattle.sched_laws.proofs.Ready.{next_later}
 use Rattle.sched_ranges.proofs.Vcpus.{VcpuFits, vcpu_fresh, vcpu_later}
-use Rattle.sched_ranges.proofs.Records.{ParamsFit, opened_fits, later_fits}
+use Rattle.sched_ranges.proofs.Records.{ParamsInRange, opened_fits, later_fits}
 use Rattle.sched_ranges.proofs.Walk.{DomFits, NearEnd, NearProcessor, CoreFits, PoolFits, EndsFit, r_set_params, r_with_domain, fresh_core_fits}
 use Rattle.sched_laws.proofs.SiblingsLaw.{some_processor}
 use Rattle.sched_laws.proofs.Known.{known_pools}
@@ -139,7 +139,7 @@ fits_from m checked from [] run fits = fits
 fits_from m checked from (entry ∷ entries) run fits = fits_from m checked (after_entry m from entry) entries run.1 (fits_event m checked entry.event (action_of entry.event) from run.0.event fits)
 
 -- the opening
-pub params_pass : (kind : SchedKind) (params : DomParams) → DomParamsPass kind params → ParamsFit params
+pub params_pass : (kind : SchedKind) (params : DomParams) → DomParamsPass kind params → ParamsInRange params
 params_pass kinds.Credit2 (dom_params.Credit2 weight percent) passed = passed
 params_pass kinds.Rtds (dom_params.Rtds period budget extra) passed = (passed.0, record { least = passed.1.least; most = (let a = passed.0.most in let b = passed.1.most in omega (arith, a, b)) })
 params_pass kind dom_params.Arinc653 passed = tt

@@ -178,19 +178,19 @@ parted_fits n cores t (ArincPool records) d fits = fits
 parted_fits n cores t (NullPool kept) d fits = length_released (λ u. u.dom.0 == d) kept ∙ fits
 
 -- the parameters of a domain that joins
-abbrev pub ParamsFit : DomParams → Type 0
-ParamsFit (dom_params.Credit2 weight percent) = IsWithin 1 65535 weight × (percent ≤ 6400)
-ParamsFit (dom_params.Rtds period budget extra) = IsWithin 10000 1000000000000 period.0 × IsWithin 10000 1000000000000 budget.0
-ParamsFit dom_params.Arinc653 = Unit {0}
-ParamsFit dom_params.Null = Unit {0}
+abbrev pub ParamsInRange : DomParams → Type 0
+ParamsInRange (dom_params.Credit2 weight percent) = IsWithin 1 65535 weight × (percent ≤ 6400)
+ParamsInRange (dom_params.Rtds period budget extra) = IsWithin 10000 1000000000000 period.0 × IsWithin 10000 1000000000000 budget.0
+ParamsInRange dom_params.Arinc653 = Unit {0}
+ParamsInRange dom_params.Null = Unit {0}
 
-pub default_fits : (records : Records) → ParamsFit (default_dom_params records)
+pub default_fits : (records : Records) → ParamsInRange (default_dom_params records)
 default_fits (Credit2Pool records) = (record { least = omega arith; most = omega arith }, omega arith)
 default_fits (RtdsPool domains) = (record { least = omega arith; most = omega arith }, record { least = omega arith; most = omega arith })
 default_fits (ArincPool records) = tt
 default_fits (NullPool kept) = tt
 
-pub joined_fits : (n cores t : ℕ) (records : Records) (params : DomParams) (d count : ℕ) → ParamsFit params → RecordsFit n cores t records → RecordsFit n cores t (joined_records records params d count t)
+pub joined_fits : (n cores t : ℕ) (records : Records) (params : DomParams) (d count : ℕ) → ParamsInRange params → RecordsFit n cores t records → RecordsFit n cores t (joined_records records params d count t)
 joined_fits n cores t (Credit2Pool records) (dom_params.Credit2 weight percent) d count good fits = record { places = length_set d _ records.domains ∙ fits.places; limit = fits.limit; domains = EachPlace-put_at (Credit2DomainFits t) d (credit2.fresh_domain weight percent count t) records.domains fits.domains (c_fresh n t weight percent count good.0 good.1) }
 joined_fits n cores t (RtdsPool domains) (dom_params.Rtds period budget extra) d count good fits = record {
   places = length_set d _ domains ∙ fits.places;

@@ -33,7 +33,7 @@ use Rattle.sched_model.specs.Commands.{set_rtds_unit}
 use Rattle.sched_model.specs.Policy as policy
 use Rattle.sched_model.specs.Policy.{decision_of, rtds_record, default_dom_params, changed_affinity}
 use Rattle.sched_model.specs.Pool as pools
-use Rattle.sched_model.specs.Pool.{enabled_in, change_core, change_processor, change_vcpu, change_domain, change_cores_of, with_doing as does, started_on, decided_core, same_choice, ask_of, set_params, without_domain, with_domain, vcpu_of, guest_of, vcpu_for}
+use Rattle.sched_model.specs.Pool.{enabled_in, change_core, change_processor, change_vcpu, change_domain, change_cores_of, with_doing as does, started_on, decided_core, same_choice, ask_of, set_params, without_domain, with_domain, vcpu_of, guest_of, vcpu_for, vcpu_among}
 use Rattle.sched_laws.specs.EachPlace.{EachAt, EachPlace}
 use Rattle.sched_base.proofs.Bools.{and_left, and_right}
 use Rattle.sched_base.proofs.Lists.{each_get, AllByRecursion-push, AllByRecursion-filter}
@@ -49,7 +49,7 @@ use Rattle.sched_laws.proofs.Steps.{IsKeptAt}
 use Rattle.sched_ranges.specs.Ranges.{IsUnitOf}
 use Rattle.sched_ranges.proofs.Vcpus.{VcpuFits, vcpu_woken, vcpu_slept, vcpu_stopped, vcpu_started}
 use Rattle.sched_ranges.proofs.Rtds.{AllByRecursion-change_item}
-use Rattle.sched_ranges.proofs.Records.{RecordsFit, DecisionFits, ParamsFit, decision_fits, replenish_fits, refill_fits, parted_fits, joined_fits, changed_fits, unit_fits, default_fits, fresh_fits}
+use Rattle.sched_ranges.proofs.Records.{RecordsFit, DecisionFits, ParamsInRange, decision_fits, replenish_fits, refill_fits, parted_fits, joined_fits, changed_fits, unit_fits, default_fits, fresh_fits}
 
 -- the domain d of the file, with all its vCPUs
 pub record DomFits (m : Machine) (t d : ℕ) (x : Domain) : Type 0 where
@@ -185,7 +185,7 @@ module _ (m : Machine) (checked : IsChecked m) (t : ℕ) where
           | inl was ↦ here.vcpus n y script was.1 guest
           | inr r ↦ (
               let old : slice_get x.vcpus n ≡ Some r.0 = subst (λ k. slice_get x.vcpus k ≡ Some r.0) (sym r.2) r.1 in
-              subst (VcpuFits t script) r.3 (keeps r.0 script (rw (vcpu_of, at) r.1) (script_checked v.dom.0 n here.config script here.at guest) (here.vcpus n r.0 script old guest)))
+              subst (VcpuFits t script) r.3 (keeps r.0 script (rw (vcpu_of, vcpu_among, at) r.1) (script_checked v.dom.0 n here.config script here.at guest) (here.vcpus n r.0 script old guest)))
         ];
       })) fits
 
@@ -317,7 +317,7 @@ module _ (m : Machine) (checked : IsChecked m) (t : ℕ) where
       (λ x is. r_scheduler (policy.set_params (changes.«Unit» u (unwrap_or period (span x.next_period)) (unwrap_or budget (span x.next_budget)) (unwrap_or extra x.next_extra)) t pool.scheduler) pool refl fits.queue
       (unit_fits (length m.config.domains) (core_count m.config) t pool.scheduler.records u x period budget (unwrap_or extra x.next_extra) is good.0 good.1 fits.records) fits)
 
-  pub r_with_domain : (d : ℕ) (domain : Domain) (params : DomParams) (pool : Pool) → ParamsFit params → DomFits m t d domain → R pool → R (with_domain m.config.granularity t d domain params pool)
+  pub r_with_domain : (d : ℕ) (domain : Domain) (params : DomParams) (pool : Pool) → ParamsInRange params → DomFits m t d domain → R pool → R (with_domain m.config.granularity t d domain params pool)
   r_with_domain d domain params pool good comes fits =
       let count : ℕ = pools.unit_count m.config.granularity domain in
       kept_queue_units r_commands d (numbers_from 0 count) (record pool { domains = put_at d domain pool.domains; scheduler = policy.join d count params t pool.scheduler })

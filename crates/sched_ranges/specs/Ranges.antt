@@ -1,5 +1,5 @@
 -- The ranges of the numbers of a state. Moments and spans are in nanoseconds.
-use Rattle.std.specs.Prelude.{◌≡◌, ◌≤◌, ◌<◌, ◌+◌, ◌*◌, ℕ, List, Some, slice_get, length, sum_by, pos, neg_ℤ, ◌≤ℤ◌}
+use Rattle.std.specs.Prelude.{◌≡◌, ◌≤◌, ◌<◌, ◌+◌, ◌*◌, ℕ, List, Some, cond, is_some, slice_get, length, sum_by, pos, neg_ℤ, ◌≤ℤ◌}
 use Rattle.std.specs.List.{All}
 use Rattle.std.specs.Option.{IfSome}
 use Rattle.sched_base.specs.declared.Moment.{Moment}
@@ -24,6 +24,7 @@ use Rattle.sched_model.specs.declared.state.State.{State}
 use Rattle.sched_model.specs.Opening.{core_count, most_pools}
 use Rattle.sched_model.specs.CheckedMachine.{IsWithin, most_span}
 use Rattle.sched_laws.specs.EachPlace.{EachAt, EachPlace}
+use Rattle.sched_base.specs.Credit2Numbers.{above_zero}
 
 -- the moment is at most a longest span after t
 abbrev pub IsNear : ℕ → Moment → Type 0
@@ -133,3 +134,7 @@ pub record StateInRange (m : Machine) (s : State) : Type 0 where
   pub commands : s.next_command ≤ length m.work.commands
   pub pools : EachPlace (PoolInRange m s.now) s.pools
   pub free : EachPlace (FreeInRange m s.now) s.free
+
+-- what the unit holds of its domain's budget, where it runs
+abbrev pub held_running : Credit2Unit → ℕ
+held_running x = cond (is_some x.burned) (above_zero x.held) 0

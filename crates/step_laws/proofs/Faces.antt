@@ -22,7 +22,8 @@ use Rattle.sched_laws.proofs.EachPlace.{by_option, by_cond, by_test}
 use Rattle.sched_laws.proofs.Lists.{length_change_item}
 use Rattle.sched_laws.proofs.Records.{same_replenish, same_refill, same_decision}
 use Rattle.sched_laws.proofs.Events.{Anyway, KeptBySteps, kept_by_event}
-use Rattle.step_laws.specs.Faces.{Face, DomainFace, domain_face, is_leaving, face_of}
+use Rattle.step_laws.specs.Faces.{Face, DomainFace, domain_face, face_of}
+use Rattle.journal_core.specs.Parts.{is_leaving}
 
 -- what is seen of each place stays where a change keeps it
 pub seen_change_at : {X Y : Type 0} (see : X → Y) (i : ℕ) (f : X → X) (places : List (Option X)) → ((x : X) → see (f x) ≡ see x) → map (option_map see) (change_at i f places) ≡ map (option_map see) places

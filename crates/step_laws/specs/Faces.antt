@@ -3,9 +3,9 @@ use Rattle.std.specs.Prelude.{ℕ, Bool, List, Option, option_map, map, length}
 use Rattle.sched_base.specs.declared.PoolId.{PoolId}
 use Rattle.sched_model.specs.declared.config.SchedKind.{SchedKind}
 use Rattle.sched_model.specs.declared.state.Domain.{Domain}
-use Rattle.sched_model.specs.declared.state.Resource.{Resource}
 use Rattle.sched_model.specs.declared.state.Pool.{Pool}
 use Rattle.sched_model.specs.Policy.{kind_of}
+use Rattle.journal_core.specs.Parts.{is_leaving}
 
 -- how many vCPUs a domain has, and the pool to which it is moving
 pub record DomainFace : Type 0 where
@@ -20,10 +20,6 @@ pub record Face : Type 0 where
 
 abbrev pub domain_face : Domain → DomainFace
 domain_face d = record { vcpus = length d.vcpus; moving = d.moving }
-
--- whether a core is leaving
-abbrev pub is_leaving : Resource → Bool
-is_leaving c = c.leaving
 
 -- the face of a pool
 abbrev pub face_of : Pool → Face

@@ -1,23 +1,17 @@
 -- Worked examples of terms: small machines, and the terms and legs of a unit in the ordered run of each.
 use Rattle.std.specs.Prelude.{ℕ, List, [], ◌∷◌, None, Some, Ok, false, map, codes}
-use Rattle.sched_base.specs.Numbers.{moment, span, processor, pool as pool_number}
+use Rattle.sched_base.specs.Numbers.{moment, span}
 use Rattle.sched_base.specs.declared.UnitId.{UnitId}
 use Rattle.sched_base.specs.Units.{unit_id}
 use Rattle.sched_base.specs.declared.Span.{Span}
-use Rattle.sched_model.specs.declared.config.PoolConfig.{PoolConfig}
 use Rattle.sched_model.specs.declared.config.DomConfig.{DomConfig}
 use Rattle.sched_model.specs.declared.config.SchedKind.TheVariants as kinds
 use Rattle.sched_model.specs.declared.config.PoolParams.TheVariants as pool_params
 use Rattle.sched_model.specs.declared.config.DomParams.TheVariants as dom_params
-use Rattle.sched_model.specs.declared.command.Command.{Command}
 use Rattle.sched_model.specs.declared.command.Command.TheVariants as command
 use Rattle.sched_model.specs.declared.command.Which.TheVariants as which
-use Rattle.sched_model.specs.declared.event.Entry.{Entry}
 use Rattle.sched_model.specs.declared.machine.Machine.{Machine}
-use Rattle.sched_model.specs.declared.work.CommandLine.{CommandLine}
-use Rattle.sched_model.specs.declared.work.StallLine.{StallLine}
-use Rattle.sched_model.specs.Machine.{ordered_run}
-use Rattle.sched_model.specs.Opening.{opening}
+use Rattle.sched_examples.specs.Words.{endless_script, rtds_domain, rtds_pool, run_of, stall, xl}
 use Rattle.sched_laws.specs.StateLaws.{state_after}
 use Rattle.term_laws.specs.RtdsTerm.{Leg, Term, legs, terms, time_on, late_within}
 
@@ -40,10 +34,6 @@ term from until budget delay time_on late = record { from = from; until = until;
 abbrev pub leg : ℕ → ℕ → ℕ → Leg
 leg from until late = record { from = from; until = until; late = late }
 
--- the entries of the ordered run, which are fewer than a hundred
-abbrev pub run_of : Machine → List Entry
-run_of m = ordered_run 100 m (opening m)
-
 -- the unit's legs in the ordered run; its terms there, with their sums
 abbrev pub legs_of : Machine → UnitId → List Leg
 legs_of m u = legs (state_after m (run_of m)) u (run_of m)
@@ -51,23 +41,9 @@ legs_of m u = legs (state_after m (run_of m)) u (run_of m)
 abbrev pub terms_of : Machine → UnitId → List TermSums
 terms_of m u = map (λ (t : Term). term t.from t.until t.budget t.delay (time_on t (legs_of m u)) (late_within t (legs_of m u))) (terms m u (run_of m))
 
--- an RTDS pool with a set of cores; a domain of it without extra time
-abbrev pub rtds_pool : List ℕ → ℕ → PoolConfig
-rtds_pool name cores = record { name = name; kind = kinds.Rtds; cores = cores; params = pool_params.Rtds }
-
-abbrev pub rtds_domain : List ℕ → ℕ → ℕ → List (List Span) → DomConfig
-rtds_domain name period budget guests = record { name = name; home = pool_number 0; guests = guests; params = dom_params.Rtds (span period) (span budget) false; pins = [] }
-
--- the script of a vCPU that always runs
-abbrev pub endless_script : List Span
-endless_script = []
-
--- a processor stalls at a moment for a span; a command at a moment
-abbrev pub stall : ℕ → ℕ → ℕ → StallLine
-stall t p long = record { at = moment t; cpu = processor p; span = span long }
-
-abbrev pub xl : ℕ → Command → CommandLine
-xl t command = record { at = moment t; command = Ok command }
+-- a domain of the first pool, an RTDS pool, without extra time
+abbrev pub domain_of : List ℕ → ℕ → ℕ → List (List Span) → DomConfig
+domain_of name period budget guests = rtds_domain name 0 period budget false guests
 
 -- two units with budgets of 4 of 10 and 5 of 20 milliseconds
 unfoldable pub two_units : Machine
@@ -78,8 +54,8 @@ two_units = record {
     horizon = moment 20000000;
     pools = rtds_pool (codes "Pool-0") 1 ∷ [];
     domains =
-        rtds_domain (codes "a") 10000000 4000000 (endless_script ∷ []) ∷
-        rtds_domain (codes "b") 20000000 5000000 (endless_script ∷ []) ∷
+        domain_of (codes "a") 10000000 4000000 (endless_script ∷ []) ∷
+        domain_of (codes "b") 20000000 5000000 (endless_script ∷ []) ∷
         [];
   };
   work = record {
@@ -97,8 +73,8 @@ stall_past_the_due = record {
     horizon = moment 5000000;
     pools = rtds_pool (codes "Pool-0") 1 ∷ [];
     domains =
-        rtds_domain (codes "a") 10000000 4000000 (endless_script ∷ []) ∷
-        rtds_domain (codes "b") 20000000 5000000 (endless_script ∷ []) ∷
+        domain_of (codes "a") 10000000 4000000 (endless_script ∷ []) ∷
+        domain_of (codes "b") 20000000 5000000 (endless_script ∷ []) ∷
         [];
   };
   work = record {
@@ -115,7 +91,7 @@ late_replenishment = record {
     processors = 1;
     horizon = moment 35000000;
     pools = rtds_pool (codes "Pool-0") 1 ∷ [];
-    domains = rtds_domain (codes "a") 10000000 4000000 (endless_script ∷ []) ∷ [];
+    domains = domain_of (codes "a") 10000000 4000000 (endless_script ∷ []) ∷ [];
   };
   work = record {
     stalls = stall 5000000 0 30000000 ∷ [];
@@ -131,11 +107,11 @@ new_budget = record {
     processors = 1;
     horizon = moment 10000000;
     pools = rtds_pool (codes "Pool-0") 1 ∷ [];
-    domains = rtds_domain (codes "a") 10000000 4000000 (endless_script ∷ []) ∷ [];
+    domains = domain_of (codes "a") 10000000 4000000 (endless_script ∷ []) ∷ [];
   };
   work = record {
     stalls = [];
-    commands = xl 2000000 (command.RtdsDom (which.Name (codes "a")) None None (Some 1000) None) ∷ [];
+    commands = xl 2000000 (Ok (command.RtdsDom (which.Name (codes "a")) None None (Some 1000) None)) ∷ [];
   };
 }
 
@@ -148,11 +124,11 @@ new_budget_while_running = record {
     horizon = moment 11000000;
     pools = rtds_pool (codes "Pool-0") 1 ∷ [];
     domains =
-        rtds_domain (codes "a") 10000000 4000000 ((span 1000000 ∷ span 7000000 ∷ span 9000000 ∷ span 1000000 ∷ []) ∷ []) ∷
+        domain_of (codes "a") 10000000 4000000 ((span 1000000 ∷ span 7000000 ∷ span 9000000 ∷ span 1000000 ∷ []) ∷ []) ∷
         [];
   };
   work = record {
     stalls = [];
-    commands = xl 9000000 (command.RtdsDom (which.Name (codes "a")) None None (Some 500) None) ∷ [];
+    commands = xl 9000000 (Ok (command.RtdsDom (which.Name (codes "a")) None None (Some 500) None)) ∷ [];
   };
 }

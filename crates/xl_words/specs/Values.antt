@@ -1,5 +1,6 @@
 -- What a word stands for.
 use Rattle.std.specs.Prelude.{ℕ, ◌+◌, ◌*◌, ◌-◌, ◌==◌, ◌&&◌, ◌||◌, Bool, true, false, List, [], ◌∷◌, Option, Some, None, option_map, length, bytes_eq, nat_le, codes, if◌then◌else◌}
+use Rattle.std.specs.Char.{is_ascii_digit}
 use Rattle.std.specs.List.{list_all, fold}
 use Rattle.sched_base.specs.Names.{is_name}
 use Rattle.sched_model.specs.declared.command.Which.{Which}
@@ -9,10 +10,6 @@ use Rattle.sched_model.specs.declared.config.SchedKind.{SchedKind}
 use Rattle.sched_model.specs.declared.config.SchedKind.TheVariants as kinds
 use Rattle.xl_words.specs.Parts.{parts}
 
--- a decimal digit
-abbrev pub is_digit : ℕ → Bool
-is_digit b = nat_le 48 b && nat_le b 57
-
 -- the number that decimal digits write
 abbrev pub decimal : List ℕ → ℕ
 decimal digits = fold (λ n b. 10 * n + (b - 48)) 0 digits
@@ -20,7 +17,7 @@ decimal digits = fold (λ n b. 10 * n + (b - 48)) 0 digits
 -- a number as files and commands spell it: 0, or a digit 1 to 9 and up to 14 digits
 abbrev pub spells_number : List ℕ → Bool
 spells_number [] = false
-spells_number (b ∷ digits) = (b == 48 && length digits == 0) || (nat_le 49 b && nat_le b 57 && nat_le (length digits) 14 && list_all is_digit digits)
+spells_number (b ∷ digits) = (b == 48 && length digits == 0) || (nat_le 49 b && nat_le b 57 && nat_le (length digits) 14 && list_all is_ascii_digit digits)
 
 -- the number that a word spells
 abbrev pub number_of : List ℕ → Option ℕ

@@ -1,25 +1,19 @@
 //! What a word stands for.
 
 ghost use Rattle.std.specs.Prelude.{◌≡◌, ◌+◌, ◌^◌, ◌<◌, ◌≤◌, true, length, IfSome};
+ghost use Rattle.std.specs.Char.{is_ascii_digit};
 ghost use Rattle.std.specs.List.{list_all};
-ghost use Rattle.sched_base.specs.Names.{is_name};
 ghost use Rattle.sched_model.specs.CheckedMachine.{IsNumber, IsCheckedWhich, IsGivenNumber};
-ghost use Rattle.xl_words.specs.Values.{is_digit as digit, decimal, spells_number, number_of, name_of, which_of, vcpu_of, switch_of, kind_of};
+ghost use Rattle.xl_words.specs.Values.{decimal, spells_number, number_of, which_of, vcpu_of, switch_of, kind_of};
 
 use sched_base::Name;
 use sched_model::command::Which;
 use sched_model::config::SchedKind;
 
-fn is_digit(b: u8) -> bool
-    ensures { result ≡ digit b }
-{
-    b'0' <= b && b <= b'9'
-}
-
 fn are_digits(bytes: &[u8]) -> bool
-    ensures { result ≡ list_all digit bytes.now }
+    ensures { result ≡ list_all is_ascii_digit bytes.now }
 {
-    bytes.iter().all(|b| is_digit(*b))
+    bytes.iter().all(|b| b.is_ascii_digit())
 }
 
 /// Whether the bytes are a number as files and commands spell it: `0`, or a digit 1 to 9 and up to 14 digits.
@@ -38,7 +32,7 @@ fn is_number(bytes: &[u8]) -> bool
 /// The number that the digits write.
 fn decimal_value(digits: &[u8]) -> u64
     requires few { length digits.now ≤ 15 }
-    requires digits { list_all digit digits.now ≡ true }
+    requires digits { list_all is_ascii_digit digits.now ≡ true }
     ensures value { result ≡ decimal digits.now }
     ensures small { result < 10 ^ 15 }
 {

@@ -6,7 +6,7 @@ use Rattle.sched_model.specs.Credit2.{domain_has_budget}
 use Rattle.sched_model.specs.EligibleUnits.{is_allowed_by}
 use Rattle.arrival_queue.specs.Queues.{Queued}
 use Rattle.credit2_core.specs.Choice.{may_take, first_ready}
-use Rattle.credit2_core.specs.Places.{has_joined}
+use Rattle.sched_ops.specs.Affinity.{is_member_among}
 use Rattle.credit2_core.proofs.Kept.{first_has}
 use Rattle.credit2_core.proofs.Lists.{queued_have}
 use Rattle.credit2_core.proofs.Waiting.{first_greatest, first_of_none, first_of_both}
@@ -42,4 +42,4 @@ pub may_be_on-requires-clause-joined : goal.may_be_on-requires-clause-joined
 may_be_on-requires-clause-joined c =
     let state = c.args.state.now in
     let es : List Queued = state.queue.units in
-    first_has (λ u. has_joined state.affinity u ≡ true) (domain_has_budget state.records) es c.in-Some.u (queued_have (λ u. has_joined state.affinity u ≡ true) es c.requires.line.joined) (sym c.requires.ready.first ∙ c.in-Some.is)
+    first_has (λ u. is_member_among state.affinity u ≡ true) (domain_has_budget state.records) es c.in-Some.u (queued_have (λ u. is_member_among state.affinity u ≡ true) es c.requires.line.joined) (sym c.requires.ready.first ∙ c.in-Some.is)

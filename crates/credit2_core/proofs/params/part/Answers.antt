@@ -5,7 +5,8 @@ use Rattle.sched_base.specs.declared.Moment.{Moment}
 use Rattle.sched_model.specs.declared.state.Credit2Domain.{Credit2Domain}
 use Rattle.sched_model.specs.Places.{at_place, clear_at}
 use Rattle.credit2_core.specs.declared.state.Credit2State.{Credit2State}
-use Rattle.credit2_core.specs.Places.{refill_of, count_at}
+use Rattle.credit2_core.specs.Places.{refill_of}
+use Rattle.sched_ops.specs.Affinity.{count_at}
 use Rattle.credit2_core.specs.Credit2State.{IsSound}
 use Rattle.credit2_core.proofs.Keeping.{sound_parted}
 use Rattle.credit2_core.proofs.params.part.Goals as goal

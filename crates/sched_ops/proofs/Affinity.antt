@@ -1,4 +1,4 @@
--- The units of a pool, counted: no more of them wait than have joined.
+-- The units that have joined, counted: no more of them wait.
 use Rattle.std.proofs.Common.{◌≡◌, ◌≤◌, ◌<◌, ◌+◌, ℕ, zero, suc, Bool, true, false, ◌||◌, List, [], ◌∷◌, ◌++◌, refl, arith, subst, sym, cond, length}
 use Rattle.std.specs.Prelude.{Option, Some, None, replicate}
 use Rattle.std.specs.List.{AllByRecursion}
@@ -8,47 +8,48 @@ use Rattle.sched_base.specs.Numbers.{domain}
 use Rattle.sched_base.specs.declared.UnitId.{UnitId}
 use Rattle.sched_base.specs.declared.Cores.{Cores}
 use Rattle.sched_model.specs.Places.{at_place, put_at, clear_at, change_at, has_unit, same_unit}
+use Rattle.sched_base.proofs.Lists.{AllByRecursion-map}
 use Rattle.sched_ops.specs.Conditions.{IsApart}
 use Rattle.sched_laws.proofs.Choices.{same_unit_same}
 use Rattle.sched_laws.proofs.Counts.{times_none, same_unit_refl}
 use Rattle.sched_laws.specs.Counts.{one, times}
 use Rattle.sched_ranges.proofs.Queue.{no_longer, times-append}
-use Rattle.pool_units.specs.Units.{units_in, unit_count, is_member}
+use Rattle.sched_ops.specs.Affinity.{count_at, count_all, is_member_among}
 use Rattle.std.proofs.lemmas.Bool.{ltb-true}
 
 -- the number of units after a domain joined, parted, or had other sets of cores
-pub unit_count-put_at : (d : ℕ) (sets : List Cores) (affinity : List (Option (List Cores))) → at_place affinity d ≡ None → unit_count (put_at d sets affinity) ≤ unit_count affinity + length sets
-unit_count-put_at d sets [] none = omega arith
-unit_count-put_at zero sets (None ∷ places) none = omega arith
-unit_count-put_at zero sets (Some x ∷ places) none = absurd (cc)
-unit_count-put_at (suc d) sets (None ∷ places) none = unit_count-put_at d sets places none
-unit_count-put_at (suc d) sets (Some x ∷ places) none = (let r = unit_count-put_at d sets places none in omega (arith, r))
+pub count_all-put_at : (d : ℕ) (sets : List Cores) (affinity : List (Option (List Cores))) → at_place affinity d ≡ None → count_all (put_at d sets affinity) ≤ count_all affinity + length sets
+count_all-put_at d sets [] none = omega arith
+count_all-put_at zero sets (None ∷ places) none = omega arith
+count_all-put_at zero sets (Some x ∷ places) none = absurd (cc)
+count_all-put_at (suc d) sets (None ∷ places) none = count_all-put_at d sets places none
+count_all-put_at (suc d) sets (Some x ∷ places) none = (let r = count_all-put_at d sets places none in omega (arith, r))
 
-pub unit_count-clear_at : (d : ℕ) (affinity : List (Option (List Cores))) → unit_count (clear_at d affinity) + units_in affinity d ≡ unit_count affinity
-unit_count-clear_at d [] = refl
-unit_count-clear_at zero (None ∷ places) = omega arith
-unit_count-clear_at zero (Some x ∷ places) = omega arith
-unit_count-clear_at (suc d) (None ∷ places) = unit_count-clear_at d places
-unit_count-clear_at (suc d) (Some x ∷ places) = (let r = unit_count-clear_at d places in omega (arith, r))
+pub count_all-clear_at : (d : ℕ) (affinity : List (Option (List Cores))) → count_all (clear_at d affinity) + count_at affinity d ≡ count_all affinity
+count_all-clear_at d [] = refl
+count_all-clear_at zero (None ∷ places) = omega arith
+count_all-clear_at zero (Some x ∷ places) = omega arith
+count_all-clear_at (suc d) (None ∷ places) = count_all-clear_at d places
+count_all-clear_at (suc d) (Some x ∷ places) = (let r = count_all-clear_at d places in omega (arith, r))
 
-pub unit_count-change_at : (d : ℕ) (f : List Cores → List Cores) (affinity : List (Option (List Cores))) → ((sets : List Cores) → length (f sets) ≡ length sets) → unit_count (change_at d f affinity) ≡ unit_count affinity
-unit_count-change_at d f [] same = refl
-unit_count-change_at zero f (None ∷ places) same = refl
-unit_count-change_at zero f (Some x ∷ places) same = (let r = same x in omega (arith, r))
-unit_count-change_at (suc d) f (None ∷ places) same = unit_count-change_at d f places same
-unit_count-change_at (suc d) f (Some x ∷ places) same = (let r = unit_count-change_at d f places same in omega (arith, r))
+pub count_all-change_at : (d : ℕ) (f : List Cores → List Cores) (affinity : List (Option (List Cores))) → ((sets : List Cores) → length (f sets) ≡ length sets) → count_all (change_at d f affinity) ≡ count_all affinity
+count_all-change_at d f [] same = refl
+count_all-change_at zero f (None ∷ places) same = refl
+count_all-change_at zero f (Some x ∷ places) same = (let r = same x in omega (arith, r))
+count_all-change_at (suc d) f (None ∷ places) same = count_all-change_at d f places same
+count_all-change_at (suc d) f (Some x ∷ places) same = (let r = count_all-change_at d f places same in omega (arith, r))
 
-pub units_in-change_at : (d k : ℕ) (f : List Cores → List Cores) (affinity : List (Option (List Cores))) → ((sets : List Cores) → length (f sets) ≡ length sets) → units_in (change_at d f affinity) k ≡ units_in affinity k
-units_in-change_at d k f [] same = refl
-units_in-change_at zero zero f (None ∷ places) same = refl
-units_in-change_at zero zero f (Some x ∷ places) same = same x
-units_in-change_at zero (suc k) f (p ∷ places) same = refl
-units_in-change_at (suc d) zero f (p ∷ places) same = refl
-units_in-change_at (suc d) (suc k) f (p ∷ places) same = units_in-change_at d k f places same
+pub count_at-change_at : (d k : ℕ) (f : List Cores → List Cores) (affinity : List (Option (List Cores))) → ((sets : List Cores) → length (f sets) ≡ length sets) → count_at (change_at d f affinity) k ≡ count_at affinity k
+count_at-change_at d k f [] same = refl
+count_at-change_at zero zero f (None ∷ places) same = refl
+count_at-change_at zero zero f (Some x ∷ places) same = same x
+count_at-change_at zero (suc k) f (p ∷ places) same = refl
+count_at-change_at (suc d) zero f (p ∷ places) same = refl
+count_at-change_at (suc d) (suc k) f (p ∷ places) same = count_at-change_at d k f places same
 
-pub unit_count-empty : (domains : ℕ) → unit_count (replicate domains None) ≡ 0
-unit_count-empty zero = refl
-unit_count-empty (suc domains) = unit_count-empty domains
+pub count_all-empty : (domains : ℕ) → count_all (replicate domains None) ≡ 0
+count_all-empty zero = refl
+count_all-empty (suc domains) = count_all-empty domains
 
 -- so many units of the domain
 abbrev first_units : ℕ → ℕ → List UnitId
@@ -65,7 +66,7 @@ length-first_units : (d n : ℕ) → length (first_units d n) ≡ n
 length-first_units d zero = refl
 length-first_units d (suc n) = (let r = length-first_units d n in omega (arith, r))
 
-length-all_units : (d : ℕ) (affinity : List (Option (List Cores))) → length (all_units d affinity) ≡ unit_count affinity
+length-all_units : (d : ℕ) (affinity : List (Option (List Cores))) → length (all_units d affinity) ≡ count_all affinity
 length-all_units d [] = refl
 length-all_units d (None ∷ places) = length-all_units (suc d) places
 length-all_units d (Some sets ∷ places) =
@@ -84,7 +85,7 @@ times-first_units u (suc n) low =
     ]
 
 -- a unit that has joined is one of all
-times-all_units : (u : UnitId) (d k : ℕ) (affinity : List (Option (List Cores))) → u.dom.0 ≡ d + k → u.n < units_in affinity k → 1 ≤ times u (all_units d affinity)
+times-all_units : (u : UnitId) (d k : ℕ) (affinity : List (Option (List Cores))) → u.dom.0 ≡ d + k → u.n < count_at affinity k → 1 ≤ times u (all_units d affinity)
 times-all_units u d k [] at low = absurd (omega (arith, low))
 times-all_units u d zero (None ∷ places) at low = absurd (omega (arith, low))
 times-all_units u d zero (Some sets ∷ places) at low =
@@ -99,27 +100,27 @@ times-all_units u d (suc k) (Some sets ∷ places) at low =
     let a = times-append u (first_units d (length sets)) (all_units (suc d) places) in
     omega (arith, r, a)
 
-member_there : (u : UnitId) (affinity : List (Option (List Cores))) → is_member affinity u ≡ true → 1 ≤ times u (all_units 0 affinity)
-member_there u affinity member = times-all_units u 0 u.dom.0 affinity (omega arith) (ltb-true u.n (units_in affinity u.dom.0) member)
+member_there : (u : UnitId) (affinity : List (Option (List Cores))) → is_member_among affinity u ≡ true → 1 ≤ times u (all_units 0 affinity)
+member_there u affinity member = times-all_units u 0 u.dom.0 affinity (omega arith) (ltb-true u.n (count_at affinity u.dom.0) member)
 
 -- a unit that stands in no list twice
-times_apart : (u : UnitId) (units : List UnitId) → IsApart units → times u units ≤ 1
-times_apart u [] apart = omega arith
-times_apart u (w ∷ units) apart =
+times-apart : (u : UnitId) (units : List UnitId) → IsApart units → times u units ≤ 1
+times-apart u [] apart = omega arith
+times-apart u (w ∷ units) apart =
     elim (same_unit u w) as (λ b. same_unit u w ≡ b → cond b 1 0 + times u units ≤ 1) [
       | true ↦ λ is. (let none = times_none u units (subst (λ (x : UnitId). has_unit units x ≡ false) (sym (same_unit_same u w is)) apart.0) in omega (arith, none))
-      | false ↦ λ is. (let r = times_apart u units apart.1 in omega (arith, r))
+      | false ↦ λ is. (let r = times-apart u units apart.1 in omega (arith, r))
     ] refl
 
 -- what holds of each unit of a list
-each_here : (P : UnitId → Type 0) (units : List UnitId) → ((u : UnitId) → has_unit units u ≡ true → P u) → AllByRecursion P units
+pub each_here : (P : UnitId → Type 0) (units : List UnitId) → ((u : UnitId) → has_unit units u ≡ true → P u) → AllByRecursion P units
 each_here P [] each = tt
 each_here P (w ∷ units) each =
     (each w (let s = same_unit_refl w in rw s refl), each_here P units (λ u has. each u (let or_true : (b : Bool) → (b || true) ≡ true = elim [ true ↦ refl | false ↦ refl ] in rw has (or_true (same_unit u w)))))
 
 -- no more units wait than have joined
-pub waiting_count : (queue : List UnitId) (affinity : List (Option (List Cores))) → IsApart queue → ((u : UnitId) → has_unit queue u ≡ true → is_member affinity u ≡ true) → length queue ≤ unit_count affinity
-waiting_count queue affinity apart members =
-    let few = no_longer queue (all_units 0 affinity) (λ u. times_apart u queue apart) (each_here (λ u. 1 ≤ times u (all_units 0 affinity)) queue (λ u has. member_there u affinity (members u has))) in
+pub no_more_wait : (affinity : List (Option (List Cores))) (units : List UnitId) → IsApart units → AllByRecursion (λ u. is_member_among affinity u ≡ true) units → length units ≤ count_all affinity
+no_more_wait affinity units apart members =
+    let few = no_longer units (all_units 0 affinity) (λ u. times-apart u units apart) (AllByRecursion-map (λ u. is_member_among affinity u ≡ true) (λ u. 1 ≤ times u (all_units 0 affinity)) (λ u member. member_there u affinity member) units members) in
     let all = length-all_units 0 affinity in
     omega (arith, few, all)
