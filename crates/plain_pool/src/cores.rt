@@ -8,6 +8,7 @@ ghost use Rattle.sched_model.specs.Places.{at_place, first_place, numbered_items
 ghost use Rattle.sched_model.specs.Pool.{cores_from, is_held as is_held_spec, is_idle as is_idle_spec, is_of_domain as is_of_domain_spec, is_open as is_open_spec, first_up as first_up_spec};
 ghost use Rattle.sched_model.specs.State.{is_up as is_up_spec};
 ghost use Rattle.sched_base.specs.Numbers.{has_come as has_come_spec};
+
 use plain_units::units::{is_of_domain, is_there};
 use sched_base::{DomId, Moment, UnitId};
 use sched_model::state::{Doing, Processor, Resource, Stage};

@@ -9,6 +9,7 @@ ghost use Rattle.sched_model.specs.declared.state.Domain.{Domain as DomainRecord
 ghost use Rattle.sched_model.specs.Places.{change_at, change_item, AllPlaces};
 ghost use Rattle.sched_model.specs.Pool.{done_at as done_at_spec, put_to_sleep, stopped_vcpu, woken_vcpu, vcpu_among};
 ghost use Rattle.plain_pool.specs.Fits.{DomainFits, VcpuFits};
+
 use sched_base::{Moment, Span, VcpuId};
 use sched_model::row::Row;
 use sched_model::state::{Domain, Vcpu};

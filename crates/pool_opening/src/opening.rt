@@ -10,6 +10,7 @@ ghost use Rattle.sched_ops.specs.Conditions.{is_vacant};
 ghost use Rattle.unit_state.specs.Guests.{units_in, most_units};
 ghost use Rattle.pool_core.specs.Seen.{vacant_pool};
 ghost use Rattle.pool_opening.specs.OpeningPool.{kinds_of, opening_seen};
+
 use crate::cores::attach_all;
 use crate::domains::join_all;
 use plain_opening::spare::core_count;

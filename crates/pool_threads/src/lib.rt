@@ -6,6 +6,7 @@ ghost use Rattle.sched_model.specs.declared.config.PoolParams.{PoolParams as Par
 ghost use Rattle.sched_ops.specs.Conditions.{ArePoolParams};
 ghost use Rattle.pool_threads.specs.OpeningPool.{CanOpen};
 ghost use Rattle.pool_core.specs.Seen.{reopened};
+
 use any_policy::AnyPolicy;
 use pool_core::PoolState;
 use sched_base::NoMemory;

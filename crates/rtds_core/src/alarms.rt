@@ -3,6 +3,7 @@
 ghost use Rattle.std.specs.Prelude.{◌≡◌, ◌≤◌, ◌<◌, length, replicate, IfOk};
 ghost use Rattle.rtds_core.specs.Alarms.{unit_of as unit_of_id, timer_of};
 ghost use Rattle.unit_places.specs.Places.{index_of};
+
 use due_heap::DueHeap;
 use sched_base::{DomId, Moment, NoMemory, UnitId};
 use sched_ops::Timer;

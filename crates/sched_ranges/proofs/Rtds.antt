@@ -187,7 +187,6 @@ left_small t domains u fit =
     by_option (λ (k : ℕ). k ≤ most_span) (rtds_unit domains u) _ _ (λ none. omega arith)
     (λ x is. (let f = fit_unit t domains u x is fit in let a = f.left in let b = f.budget.most in omega (arith, a, b)))
 
-
 pub rtds_decides : (count : ℕ) (ask : Ask) (domains : List (Option (List RtdsUnit))) (chosen : Option UnitId) → length domains ≡ count → RtdsFit ask.at.0 domains → GoodDecision ask.at.0 count (decide ask domains chosen)
 rtds_decides count ask domains None whole fit = (
   λ other is. (let e = rtds_same (switch_off ask.cur domains) other is in subst (λ (x : List (Option (List RtdsUnit))). RtdsFit ask.at.0 x × (length x ≡ count)) e (fit_switch_off ask.at.0 ask.cur domains fit, length_switch_off ask.cur domains ∙ whole)),
