@@ -14,10 +14,6 @@ count-cons p e es = sum_by-cons (λ (x : Queued). one_if (p x)) e es
 pub count-append : (p : Queued → Bool) (xs ys : List Queued) → count_by p (xs ++ ys) ≡ count_by p xs + count_by p ys
 count-append p xs ys = sum_by-append (λ (x : Queued). one_if (p x)) xs ys
 
-pub one-most : (t : Bool) → one_if t ≤ 1
-one-most true = omega arith
-one-most false = omega arith
-
 -- with one put before the first that passes a test
 pub count-put : (p t : Queued → Bool) (new : Queued) (xs : List Queued) → count_by p (put_first t new xs) ≡ one_if (p new) + count_by p xs
 count-put p t new [] = count-cons p new []

@@ -9,7 +9,8 @@ use Rattle.arrival_queue.specs.declared.key.Key.{Key}
 use Rattle.arrival_queue.specs.Queues.{Queued, Queues, queued_unit, goes_before, list_with, is_of, has_unit, holds, list_without, rank_in, rank_of, count, after_insert, after_append, closed_up, after_remove, after_move}
 use Rattle.arrival_queue.specs.Order.{GoesBeforeAll, IsInOrder, ArrivedBeforeAll, IsInArrival, has_rank, EachRankOnce, EachUnitOnce, IsOrdered}
 use Rattle.arrival_queue.proofs.Changes.{rank_in-append}
-use Rattle.arrival_queue.proofs.Counting.{one-most, count-cons, count-append, count-put, length-put, count-map, count-alike, count-same, count-without, length-without, without-append, count-absent, count-here, has_unit-append, count-rank}
+use Rattle.arrival_queue.proofs.Counting.{count-cons, count-append, count-put, length-put, count-map, count-alike, count-same, count-without, length-without, without-append, count-absent, count-here, has_unit-append, count-rank}
+use Rattle.sched_base.proofs.Bools.{one_if_most}
 use Rattle.sched_base.specs.Numbers.{one_if}
 use Rattle.arrival_queue.proofs.Ordering.{before_trans, before_other, closed-test, closed_before}
 
@@ -177,7 +178,7 @@ more_units es ds new none counts once w =
     elim (cases_eq (number_of new.unit) (number_of w)) [
       | inl is ↦
           let same : count_by (is_of w) es ≡ count_by (is_of new.unit) es = count-same (is_of w) (is_of new.unit) es (λ x. ap (λ (k : ℕ). number_of x.unit == k) (sym is)) in
-          omega (arith, counts (is_of w), one-most (is_of w new), same, none)
+          omega (arith, counts (is_of w), one_if_most (is_of w new), same, none)
       | inr other ↦
           let zero_here : one_if (is_of w new) ≡ 0 = ap one_if (ne_eqb (number_of new.unit) (number_of w) other) in
           let most = once w in
@@ -259,7 +260,7 @@ module _ (q : Queues) (u : UnitId) (here : holds q u ≡ true) (ordered : IsOrde
   rest_lacks : count_by (has_rank (rank_of q u)) rest ≡ 0
   rest_lacks =
       let one : one_if (rank_of q u == rank_of q u) ≡ 1 = ap one_if (eq-eqb (rank_of q u) (rank_of q u) refl) in
-      omega (arith, one, one-most (nat_lt (rank_of q u) (length (all q))), rest_ranks (rank_of q u))
+      omega (arith, one, one_if_most (nat_lt (rank_of q u) (length (all q))), rest_ranks (rank_of q u))
 
   rest_parts : rest ≡ list_without u q.sorted ++ list_without u q.others
   rest_parts = without-append u q.sorted q.others

@@ -45,7 +45,7 @@ use Rattle.credit2_core.specs.Domains.{masked_cores, refreshed_cores}
 use Rattle.credit2_core.specs.Credit2State.{InRange, IsFree, IsSound, IsLineOf, AreMasks, scheduler_in, seen_in}
 use Rattle.credit2_core.proofs.Lists.{each_has, queued_have, length-placed}
 use Rattle.credit2_core.proofs.Waiting.{IsOrdered}
-use Rattle.sched_ops.proofs.Affinity.{no_more_wait, count_all-put_at, count_all-clear_at, count_all-empty}
+use Rattle.sched_ops.proofs.Affinity.{no_more_wait, count_all-put_at, count_all-clear_at, count_all-empty, count_at-empty}
 use Rattle.credit2_core.proofs.Members.{IsElsewhere, joined_small, record_of, waits_off}
 use Rattle.credit2_core.proofs.Idle.{IsOff, each_keeps, idle_set_domain}
 use Rattle.credit2_core.proofs.Ranges.{range_later, range_refilled, range_set_domain, range_limit, range_joined, range_parted}
@@ -390,16 +390,11 @@ all_empty_too (Some x ∷ affinity) (d ∷ domains) same none = absurd cc
 all_empty_too (None ∷ affinity) (None ∷ domains) same none = (let rest : set_counts affinity ≡ unit_counts domains = cc in ap (λ (ps : List (Option Credit2Domain)). None ∷ ps) (all_empty_too affinity domains rest none))
 all_empty_too (None ∷ affinity) (Some d ∷ domains) same none = absurd cc
 
-count_empty : (n i : ℕ) → count_at (replicate n None) i ≡ 0
-count_empty zero i = refl
-count_empty (suc n) zero = refl
-count_empty (suc n) (suc i) = count_empty n i
-
 nobody_waits : (affinity : List (Option (List Cores))) (units : List UnitId) → affinity ≡ replicate (length affinity) None → AllByRecursion (λ u. is_member_among affinity u ≡ true) units → units ≡ []
 nobody_waits affinity [] empty joined = refl
 nobody_waits affinity (u ∷ units) empty joined = absurd (
     let l = ltb-true u.n (count_at affinity u.dom.0) joined.0 in
-    let z : count_at affinity u.dom.0 ≡ 0 = ap (λ (a : List (Option (List Cores))). count_at a u.dom.0) empty ∙ count_empty (length affinity) u.dom.0 in
+    let z : count_at affinity u.dom.0 ≡ 0 = ap (λ (a : List (Option (List Cores))). count_at a u.dom.0) empty ∙ count_at-empty (length affinity) u.dom.0 in
     omega (arith, l, z))
 
 -- a pool that no domain has joined begins anew
@@ -436,8 +431,8 @@ sound_fresh n units latest masks few small =
       };
       counts = empty_counts n;
       line = record { apart = tt; joined = tt; indices = tt; keys = tt; off = λ d x at. EachPlace-empty (λ (y : Credit2Domain). RunsOnly (IsElsewhere [] d) y.units) n d x at };
-      masks = λ u joined. absurd (let l = ltb-true u.n (count_at (replicate n None) u.dom.0) joined in let z = count_empty n u.dom.0 in omega (arith, l, z));
-      free = record { all = λ free u joined. absurd (let l = ltb-true u.n (count_at (replicate n None) u.dom.0) joined in let z = count_empty n u.dom.0 in omega (arith, l, z)) };
+      masks = λ u joined. absurd (let l = ltb-true u.n (count_at (replicate n None) u.dom.0) joined in let z = count_at-empty n u.dom.0 in omega (arith, l, z));
+      free = record { all = λ free u joined. absurd (let l = ltb-true u.n (count_at (replicate n None) u.dom.0) joined in let z = count_at-empty n u.dom.0 in omega (arith, l, z)) };
       refills = empty_refills n;
       room = omega (arith, all);
       small = omega (arith, all, small);
@@ -454,7 +449,7 @@ sound_unpinned h sound vacant = record {
     all = λ is u joined. absurd (
         let none : list_any is_some h.affinity ≡ false = not-true (list_any is_some h.affinity) vacant in
         let l = ltb-true u.n (count_at h.affinity u.dom.0) joined in
-        let z : count_at h.affinity u.dom.0 ≡ 0 = ap (λ (a : List (Option (List Cores))). count_at a u.dom.0) (all_empty h.affinity none) ∙ count_empty (length h.affinity) u.dom.0 in
+        let z : count_at h.affinity u.dom.0 ≡ 0 = ap (λ (a : List (Option (List Cores))). count_at a u.dom.0) (all_empty h.affinity none) ∙ count_at-empty (length h.affinity) u.dom.0 in
         omega (arith, l, z));
   };
   refills = sound.refills;

@@ -35,7 +35,8 @@ use Rattle.sched_records.specs.Records.{HasRtdsRecords, IsRecorded}
 use Rattle.sched_records.proofs.Law.{has_records}
 use Rattle.turn_laws.specs.Stretches.{cores, units}
 use Rattle.turn_laws.specs.Turns.{how_many}
-use Rattle.turn_laws.proofs.Sums.{many_is, total_at_most, one_most, how_many_most}
+use Rattle.turn_laws.proofs.Sums.{many_is, total_at_most, how_many_most}
+use Rattle.sched_base.proofs.Bools.{one_if_most}
 use Rattle.stretch_laws.proofs.OwnDomains.{has_own_rtds, has_own_credit2}
 use Rattle.moment_laws.specs.Moments.{vcpus, domains, is_line, causes, lines, are_at, most_causes}
 use Rattle.moment_laws.proofs.MomentParts.{causes_are}
@@ -146,7 +147,7 @@ module _ (m : Machine) (checked : IsChecked m) (before : List Entry) (run : IsRu
       where
         by_place : (o : Option Credit2Domain) → over (of_credit2 t) o ≤ unit_count m.config.granularity x + 1
         by_place None = omega arith
-        by_place (Some y) = (let a = one_most (is_refill_due t y.refill) in omega (arith, a))
+        by_place (Some y) = (let a = one_if_most (is_refill_due t y.refill) in omega (arith, a))
     few_records (RtdsPool xs) is d x has =
         let recorded : HasRtdsRecords xs d (unit_count m.config.granularity x) = subst (λ (y : Records). IsRecorded y d (unit_count m.config.granularity x)) is ((has_records m checked before run i pool at).recorded d x has) in
         let a = how_many_most (is_deadline_due t) recorded.records in
@@ -192,7 +193,7 @@ module _ (m : Machine) (checked : IsChecked m) (before : List Entry) (run : IsRu
     where
       by_place : (o : Option Resource) → over (of_core t) o ≤ 1
       by_place None = omega arith
-      by_place (Some c) = one_most (is_overdue t c)
+      by_place (Some c) = one_if_most (is_overdue t c)
 
   domain_once : (d : ℕ) → total (of_dom t d) s.pools ≤ limit m d
   domain_once d =

@@ -42,7 +42,7 @@ use Rattle.sched_model.specs.Runs.{Reached, IsRun, IsNextEvent, action_of, run_s
 use Rattle.sched_model.specs.CheckedMachine.{IsChecked}
 use Rattle.sched_model.proofs.RunLemmas.{after_entries-append}
 use Rattle.sched_laws.specs.StateLaws.{state_after, has_core_at}
-use Rattle.sched_base.proofs.Bools.{and_left, and_right, or_right, clash}
+use Rattle.sched_base.proofs.Bools.{and_left, and_right, or_right, clash, one_if_most}
 use Rattle.sched_laws.proofs.Counts.{some_numbered}
 use Rattle.sched_laws.proofs.EachPlace.{read_change_at, place_below, by_cond}
 use Rattle.sched_laws.proofs.Kept.{IsApart}
@@ -53,7 +53,7 @@ use Rattle.turn_laws.specs.Stretches.{cores}
 use Rattle.turn_laws.specs.Turns.{how_many}
 use Rattle.sched_laws.specs.Counts.{total_over}
 use Rattle.turn_laws.specs.GoodDecisions.{decision}
-use Rattle.turn_laws.proofs.Sums.{many_is, many_none, total_at_most, grows, falls, one_most}
+use Rattle.turn_laws.proofs.Sums.{many_is, many_none, total_at_most, grows, falls}
 use Rattle.turn_laws.proofs.StretchFalls.{push_assoc}
 use Rattle.stretch_laws.proofs.LegRuns.{action_in}
 use Rattle.stretch_laws.proofs.CoresByRecords.{IsKeptTest, last_of, Counted, counts, counted_core, core_counted, counted_after}
@@ -214,7 +214,7 @@ module _ (m : Machine) (s : State) (apart : IsApart s) (places : (i : ℕ) (pool
   move_rises : (q : ℕ) → is_enabled m s s.now (Moved (core q)) ≡ true → left (after m s s.now (Moved (core q))) ≤ left s + 1
   move_rises q on =
       rises (cores m) q (λ r. one_if (waits_for_reset s.now s r)) (λ r. one_if (waits_for_reset s.now (after m s s.now (Moved (core q))) r))
-      (let a = one_most (waits_for_reset s.now (after m s s.now (Moved (core q))) q) in omega (arith, a))
+      (let a = one_if_most (waits_for_reset s.now (after m s s.now (Moved (core q))) q) in omega (arith, a))
       (λ r other. one_less (waits_for_reset s.now s r) (waits_for_reset s.now (after m s s.now (Moved (core q))) r) (was (Moved (core q)) on r (λ e. other (moved q r e))))
     where
       moved : (a b : ℕ) → Moved (core a) ≡ Moved (core b) → b ≡ a
@@ -290,6 +290,6 @@ module _ (m : Machine) (checked : IsChecked m) (t : ℕ) where
 pub resets_few : (m : Machine) → IsChecked m → ResetsFew m
 resets_few m checked before moment t run at =
     let a = moment_lowers m checked t moment before run at in
-    let b = total_at_most (cores m) 1 (λ r. one_if (waits_for_reset t (state_after m before) r)) (λ r low. one_most (waits_for_reset t (state_after m before) r)) in
+    let b = total_at_most (cores m) 1 (λ r. one_if (waits_for_reset t (state_after m before) r)) (λ r low. one_if_most (waits_for_reset t (state_after m before) r)) in
     let e = many_is (cores m) 1 in
     omega (arith, a, b, e)

@@ -13,14 +13,14 @@ use Rattle.sched_model.specs.declared.event.Entry.{Entry}
 use Rattle.sched_model.specs.declared.machine.Machine.{Machine}
 use Rattle.sched_model.specs.Places.{put_at, clear_at}
 use Rattle.sched_model.specs.Runs.{IsRun, run_start}
-use Rattle.sched_base.proofs.Bools.{and_left, and_right}
+use Rattle.sched_base.proofs.Bools.{and_left, and_right, one_if_most}
 use Rattle.sched_laws.proofs.EachPlace.{at_place-put_at_other, at_place-clear_at, at_place-clear_at_other, length_set}
 use Rattle.sched_laws.proofs.StillWaits.{split_run}
 use Rattle.turn_laws.specs.Stretches.{Legs, cores, units, legs_with, legs_after, leg_of, open_legs, has_no_older_leg, is_in_stretch, is_stretch}
 use Rattle.turn_laws.specs.Turns.{how_many, most_turns}
 use Rattle.sched_base.specs.Numbers.{one_if}
 use Rattle.sched_laws.specs.Counts.{total_over}
-use Rattle.turn_laws.proofs.Sums.{many_is, many_none, total_at_most, grows, falls, one_most}
+use Rattle.turn_laws.proofs.Sums.{many_is, many_none, total_at_most, grows, falls}
 use Rattle.turn_laws.proofs.StretchFalls.{legs_push, push_assoc}
 use Rattle.moment_laws.specs.Moments.{is_cause, is_end, causes, are_at, most_in_moment, most_turns_in_moment}
 use Rattle.turn_laws.proofs.TurnsBound.{most_turns_fit}
@@ -62,7 +62,7 @@ causes_are entries = counted_events is_cause entries
 decide_low : (a b : Bool) → one_if (not (a && b)) ≤ one_if (not b) + one_if (not a)
 decide_low true true = omega arith
 decide_low true false = omega arith
-decide_low false b = (let x = one_most (not b) in omega (arith, x))
+decide_low false b = (let x = one_if_most (not b) in omega (arith, x))
 
 one_between : (t : ℕ) (legs : Legs) (e : Event) → one_if (not (is_in_stretch t legs e)) ≤ one_if (is_cause e) + one_if (is_old t legs e) + one_if (is_reset e) + one_if (is_end e)
 one_between t legs (event.Decide r unit due late reset) = (let a = decide_low (reset == 0) (has_no_older_leg t legs r.0) in omega (arith, a))
@@ -117,7 +117,7 @@ module _ (t n : ℕ) where
       elim (dec_lt r n) [
         | yes inside ↦ (let f = falls n 0 (older t legs r) r (older t legs) (older t (leg_of t r unit legs)) inside (omega (arith, here)) others in omega (arith, f, none))
         | no outside ↦ (
-            let zero_old : older t legs r ≡ 0 = (let most = one_most (not (has_no_older_leg t legs r)) in by_one (older t legs r) most (λ e. (let a = old_inside t r n legs low e in omega (arith, a, outside)))) in
+            let zero_old : older t legs r ≡ 0 = (let most = one_if_most (not (has_no_older_leg t legs r)) in by_one (older t legs r) most (λ e. (let a = old_inside t r n legs low e in omega (arith, a, outside)))) in
             let f = grows n 0 (older t legs) (older t (leg_of t r unit legs)) (λ k below. others k (λ e. omega (arith, e, below, outside))) in
             omega (arith, f, none, zero_old))
       ]
@@ -154,7 +154,7 @@ module _ (t n : ℕ) where
 pub olds_few : (t n : ℕ) (entries : List Entry) (legs : Legs) → length legs ≤ n → are_at t entries ≡ true → olds legs entries ≤ n
 olds_few t n entries legs low at =
     let a = olds_lower t n entries legs low at in
-    let b = total_at_most n 1 (older t legs) (λ r inside. one_most (not (has_no_older_leg t legs r))) in
+    let b = total_at_most n 1 (older t legs) (λ r inside. one_if_most (not (has_no_older_leg t legs r))) in
     let e = many_is n 1 in
     omega (arith, a, b, e)
 

@@ -1,23 +1,17 @@
 -- What the scribe has read, step by step.
 use mathlib.Core.List.{IsPrefix}
-use Rattle.std.proofs.Common.{◌≡◌, ◌∙◌, ⊎_elim, ◌++◌, ◌+◌, ◌<◌, ◌≤◌, ◌^◌, ℕ, suc, cond, List, [], ◌∷◌, length, take, refl, sym, ap, subst, arith, append_assoc, append-nil, length-append, true, false}
+use Rattle.std.proofs.Common.{◌≡◌, ◌∙◌, ⊎_elim, ◌++◌, ◌+◌, ◌<◌, ◌≤◌, ◌^◌, ℕ, suc, cond, List, [], ◌∷◌, length, take, sym, ap, subst, arith, append_assoc, append-nil, length-append, true, false}
 use Rattle.std.specs.Prelude.{Some, slice_get}
 use Rattle.std.proofs.lemmas.Bool.{cases_lt}
-use Rattle.std.proofs.lemmas.List.{length-take-le, take-take, take_all}
+use Rattle.std.proofs.lemmas.List.{length-take-le, take_all}
 use Rattle.std.proofs.lemmas.Option.{slice_get_within}
 use Rattle.sched_model.specs.declared.event.Entry.{Entry}
-use Rattle.sched_report.specs.Stays.{last_moment}
 use Rattle.status_board.specs.Boards.{Desk}
 use Rattle.lock_moves.specs.Sets.{LockTable}
 use Rattle.lock_moves.proofs.Prefix.{prefix_refl}
-use Rattle.hall.specs.Seats.{IsOf, Seated, Stays}
-use Rattle.hall.specs.Turns.{Looked}
-use Rattle.pcpu_threads.proofs.Counting.{of-stays}
-use Rattle.pcpu_threads.proofs.Turning.{prefix_trans}
-use Rattle.pcpu_watch.specs.declared.looks.Look.{Look}
+use Rattle.hall.specs.Seats.{IsOf, Seated}
 use Rattle.pcpu_watch.specs.declared.scribe.Scribe.{Scribe}
-use Rattle.pcpu_watch.specs.Moments.{ends, is_end, moment_of}
-use Rattle.pcpu_watch.specs.Looks.{ShowsBeginning}
+use Rattle.pcpu_watch.specs.Moments.{ends, opens_next, moment_of}
 use Rattle.pcpu_watch.specs.Scribes.{CanWrite, HasWritten, IsScribe, KeepsReading, ReadsBefore, ReadsOn, SeesOn, front_of, has_read}
 use Rattle.pcpu_watch.proofs.Counting.{ends-more, moment-same, one-more, part-same}
 
@@ -66,7 +60,7 @@ module _ (hall : LockTable) (s t : Scribe) (on : SeesOn hall s.seat t.seat) (is 
     }
 
   -- one entry more was read and given to the writer
-  module _ (e : Entry) (at : slice_get (seen_by t) s.read ≡ Some e) (few : s.read < 2 ^ 32) (read : t.read ≡ s.read + 1) (ended : t.ended ≡ s.ended + cond (is_end e.event) 1 0)
+  module _ (e : Entry) (at : slice_get (seen_by t) s.read ≡ Some e) (few : s.read < 2 ^ 32) (read : t.read ≡ s.read + 1) (ended : t.ended ≡ s.ended + cond (opens_next e.event) 1 0)
       (writer : t.writer ≡ record s.writer { pending = s.writer.pending ++ e ∷ [] }) where
     more : has_read t ≡ has_read s ++ e ∷ []
     more = ap (λ (n : ℕ). take n (seen_by t)) next ∙ one-more (seen_by t) s.read e at ∙ ap (λ (h : List Entry). h ++ e ∷ []) part
@@ -80,7 +74,7 @@ module _ (hall : LockTable) (s t : Scribe) (on : SeesOn hall s.seat t.seat) (is 
       inside = omega (arith, read, slice_get_within (seen_by t) s.read e at);
       few = omega (arith, read, few);
       given = ap (λ (w : Desk). w.published ++ w.pending) writer ∙ sym (append_assoc s.writer.published s.writer.pending (e ∷ [])) ∙ ap (λ (h : List Entry). h ++ e ∷ []) is.given ∙ sym more;
-      ended = ended ∙ ap (λ (n : ℕ). n + cond (is_end e.event) 1 0) is.ended ∙ sym (ap ends more ∙ ends-more (has_read s) e);
+      ended = ended ∙ ap (λ (n : ℕ). n + cond (opens_next e.event) 1 0) is.ended ∙ sym (ap ends more ∙ ends-more (has_read s) e);
     }
 
     goes-on : IsPrefix (has_read s) (has_read t)
@@ -90,7 +84,7 @@ module _ (hall : LockTable) (s t : Scribe) (on : SeesOn hall s.seat t.seat) (is 
     reads-on = record { is = reads; begins = goes-on; shares = on.shares; cores = ap (λ (w : Desk). w.cores) writer }
 
     pub can-go-on : (k : ℕ) → CanWrite hall k s → s.ended < k → CanWrite hall k t
-    can-go-on k can due = record { is = reads; before = before; ended = at-most (is_end e.event) ended }
+    can-go-on k can due = record { is = reads; before = before; ended = at-most (opens_next e.event) ended }
       where
         at-most : (b : _) → t.ended ≡ s.ended + cond b 1 0 → t.ended ≤ k
         at-most true is = omega (arith, is, due)

@@ -3,7 +3,7 @@
 ghost use Rattle.std.specs.Prelude.{◌≡◌, ◌<◌, ◌≤◌, ◌^◌, Some, IfNone, IfSome, OnSome, length, slice_get, take};
 ghost use Rattle.sched_report.specs.Stays.{last_moment};
 ghost use Rattle.hall.specs.Seats.{IsOf};
-ghost use Rattle.pcpu_watch.specs.Moments.{is_end as is_end_spec};
+ghost use Rattle.pcpu_watch.specs.Moments.{opens_next as opens_next_spec};
 ghost use Rattle.pcpu_watch.specs.Scribes.{SeesOn, front_of};
 
 use hall::{Hall, HallSeat};
@@ -12,8 +12,8 @@ use sched_model::event::{Entry, Event};
 use std::sync::Wait;
 
 /// Whether the entry ends its moment, and another one follows.
-pub(crate) fn is_end(e: &Entry) -> bool
-    ensures { result ≡ is_end_spec e.now.event }
+pub(crate) fn opens_next(e: &Entry) -> bool
+    ensures { result ≡ opens_next_spec e.now.event }
 {
     matches!(e.event, Event::End { .. })
 }

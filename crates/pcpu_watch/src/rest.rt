@@ -3,7 +3,7 @@
 ghost use Rattle.std.specs.Prelude.{◌≡◌, ◌+◌, ◌≤◌, ◌<◌, length, take};
 ghost use Rattle.pcpu_watch.specs.Looks.{AreLooks, LooksSoFar};
 
-use crate::entries::is_end;
+use crate::entries::opens_next;
 use crate::looks::{Look, Looks};
 use journal_core::Book;
 
@@ -17,7 +17,7 @@ fn look_at_end(book: &Book, place: u32, looks: &mut Looks)
 {
     book.tell();
     let entry = book.get(place);
-    if is_end(&entry) {
+    if opens_next(&entry) {
         looks.push(Look {
             entries: u64::from(place) + 1,
             moment: entry.at,

@@ -4,7 +4,7 @@ ghost use Rattle.std.specs.Prelude.{◌≡◌, ◌≤◌, ◌<◌, ◌⊎◌, On
 ghost use Rattle.pcpu_watch.specs.Looks.{ShowsBeginning};
 ghost use Rattle.pcpu_watch.specs.Scribes.{CanWrite, HasWritten, IsScribe, KeepsReading, MayKeep, ReadsOn, has_read};
 
-use crate::entries::{entry_at, is_end, moment_at};
+use crate::entries::{entry_at, moment_at, opens_next};
 use crate::looks::Look;
 use hall::{Hall, HallSeat};
 use sched_base::NoMemory;
@@ -53,7 +53,7 @@ impl Scribe {
         };
         self.writer.add(alloc, &entry)?;
         self.read += 1;
-        self.ended += u32::from(is_end(&entry));
+        self.ended += u32::from(opens_next(&entry));
         Ok(())
     }
 

@@ -14,13 +14,12 @@ use Rattle.sched_model.specs.Places.{change_each}
 use Rattle.sched_model.specs.declared.state.Doing.TheVariants.{Held}
 use Rattle.sched_model.specs.Pool.{after_arrive, after_block, after_in, change_processor, change_vcpu, with_doing, stopped_vcpu, cores_from, done_at, enabled_in, guest_of, reconsidered_core, settled_pool, vcpu_of, vcpu_among}
 use Rattle.sched_base.proofs.Bools.{and_left}
-use Rattle.sched_laws.proofs.EachPlace.{by_cond}
+use Rattle.sched_laws.proofs.EachPlace.{by_cond, vcpu_is}
 use Rattle.sched_laws.proofs.Lists.{has_come-le}
 use Rattle.pool_kept.specs.Holds.{Holds}
 use Rattle.pool_kept.proofs.Kept as kept
 use Rattle.unit_state.specs.Guests.{KeepsGuests}
 use Rattle.unit_state.specs.Seen.{Seen as GuestsSeen, done_among, is_due_among}
-use Rattle.unit_state.proofs.PlaceLemmas.{vcpu_there}
 use Rattle.core_state.specs.Seen.{Seen as CoresSeen}
 use Rattle.sched_ops.specs.Seen.{Seen as SchedulerSeen}
 use Rattle.pool_core.specs.ProcessorEvents.{IsMoved}
@@ -109,7 +108,7 @@ wake_due g t v pool on = by_vcpu (vcpu_of pool v) on
 -- it is not started
 pub wake_still : (t : ℕ) (v : VcpuId) (guests : GuestsSeen) → KeepsGuests guests → is_due_among t guests.domains v ≡ true → (x : Vcpu) → vcpu_among guests.domains v ≡ Some x → x.started ≡ None
 wake_still t v guests keeps due x there =
-    let at = vcpu_there guests.domains v x there in
+    let at = vcpu_is guests.domains v x there in
     let sleeps : has_come t x.asleep_until ≡ true = subst (λ (o : Option Vcpu). has_come t (elim o as (λ _. Option Moment) [ None ↦ None | Some y ↦ y.asleep_until ]) ≡ true) there due in
     let until = has_come-le t x.asleep_until sleeps in
     ((keeps.guests v.dom.0 at.0 at.1).vcpus v.n x at.2).still until.0 until.1

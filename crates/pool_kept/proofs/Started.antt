@@ -40,6 +40,7 @@ use Rattle.sched_laws.proofs.Events.{LikePlaces, like_change_at, capped, like_of
 use Rattle.pool_kept.proofs.Members.{joined}
 use Rattle.pool_kept.proofs.Units.{goes_empty}
 use Rattle.sched_model.specs.Pool.{vcpu_among, change_among}
+use Rattle.sched_laws.proofs.EachPlace.{vcpu_is}
 
 -- what the i-th processor of a core does
 abbrev doing_in : ℕ → Resource → Option Doing
@@ -127,11 +128,6 @@ doing_other (suc r) i (suc k) j doing (o ∷ cores) other = doing_other r i k j 
 
 vcpu_there : (domains : List (Option Domain)) (v : VcpuId) (d : Domain) (x : Vcpu) → at_place domains v.dom.0 ≡ Some d → slice_get d.vcpus v.n ≡ Some x → vcpu_among domains v ≡ Some x
 vcpu_there domains v d x at get = ap (λ (o : Option Domain). elim o as (λ _. Option Vcpu) [ None ↦ None | Some e ↦ slice_get e.vcpus v.n ]) at ∙ get
-
-vcpu_is : (domains : List (Option Domain)) (v : VcpuId) (x : Vcpu) → vcpu_among domains v ≡ Some x → (d : Domain) × (at_place domains v.dom.0 ≡ Some d) × (slice_get d.vcpus v.n ≡ Some x)
-vcpu_is domains v x is =
-    by_option (λ (o : Option Vcpu). o ≡ Some x → (d : Domain) × (at_place domains v.dom.0 ≡ Some d) × (slice_get d.vcpus v.n ≡ Some x)) (at_place domains v.dom.0) None (λ d. slice_get d.vcpus v.n)
-    (λ none e. absurd (cc)) (λ d at e. (d, at, e)) is
 
 -- a vCPU after a change of one: another as before, or that one
 read_vcpu : (v w : VcpuId) (f : Vcpu → Vcpu) (domains : List (Option Domain)) (x : Vcpu) → vcpu_among (change_among v f domains) w ≡ Some x

@@ -8,7 +8,6 @@ use Rattle.sched_base.specs.declared.Cores.{Cores}
 use Rattle.sched_model.specs.Places.{at_place, has_unit, same_unit, without_unit}
 use Rattle.sched_model.specs.Policy.{pinned_cores}
 use Rattle.sched_base.specs.CoreSets.{every_core}
-use Rattle.sched_laws.proofs.EachPlace.{at_place-replicate}
 use Rattle.sched_laws.proofs.Choices.{same_unit_same}
 use Rattle.sched_laws.proofs.Counts.{same_unit_refl, without_absent, gone_without}
 use Rattle.sched_laws.proofs.Lists.{length-pinned_cores}
@@ -17,7 +16,7 @@ use Rattle.unit_places.proofs.Placed.{placed, low_unit}
 use Rattle.pool_units.specs.Units.{Units, HasNoneWaiting, after_join, after_part, after_enqueue, after_dequeue, pinned_in, vacant_units}
 use Rattle.sched_ops.specs.Affinity.{count_at, is_member_among}
 use Rattle.pool_units.specs.Marks.{is_marked, IsMarked}
-use Rattle.sched_ops.proofs.Affinity.{count_at-change_at}
+use Rattle.sched_ops.proofs.Affinity.{count_at-change_at, count_at-empty}
 use Rattle.pool_units.proofs.Whole.{has_unit-push, whole_joined, whole_parted, whole_enqueued, whole_dequeued, whole_pinned, whole_vacant}
 use Rattle.std.proofs.Math.Bool.{or-false}
 
@@ -87,9 +86,6 @@ few_set zero (suc k) most p (q ∷ affinity) small few = few (suc k)
 few_set (suc d) zero most p (q ∷ affinity) small few = few 0
 few_set (suc d) (suc k) most p (q ∷ affinity) small few = few_set d k most p affinity small (λ j. few (suc j))
 
-none_in_empty : (domains d : ℕ) → count_at (replicate domains None) d ≡ 0
-none_in_empty domains d = ap (λ (o : Option (List Cores)). elim o as (λ _. ℕ) [ None ↦ 0 | Some sets ↦ length sets ]) (at_place-replicate domains d)
-
 pub marked_vacant : (domains spare : ℕ) → domains ≤ 64 → spare ≤ 256 → IsMarked (replicate (32 * domains) false) (vacant_units domains spare)
 marked_vacant domains spare low few =
     record {
@@ -97,7 +93,7 @@ marked_vacant domains spare low few =
       waiting = λ u. and_right (has_place u) (slice_index_or (replicate (32 * domains) false) (index_of u) false) (no_mark (32 * domains) (index_of u));
       places = (let a = length-replicate (32 * domains) false in let b : length (vacant_units domains spare).affinity ≡ domains = length-replicate domains None in omega (arith, a, b));
       domains = (let b : length (vacant_units domains spare).affinity ≡ domains = length-replicate domains None in omega (arith, b, low));
-      few = λ d. (let none = none_in_empty domains d in omega (arith, none));
+      few = λ d. (let none = count_at-empty domains d in omega (arith, none));
     }
 
 pub marked_joined : (d count : ℕ) (marks : List Bool) (units : Units) → at_place units.affinity d ≡ None → count ≤ 32 → count ≤ units.spare → IsMarked marks units → IsMarked marks (after_join d count units)

@@ -8,7 +8,8 @@ use Rattle.sched_base.specs.Units.{number_of}
 use Rattle.arrival_queue.specs.declared.key.Key.{Key}
 use Rattle.arrival_queue.specs.Queues.{Queued, queued_unit, goes_before, is_of, list_with, list_without, closed_up}
 use Rattle.arrival_queue.specs.Order.{has_rank, EachRankOnce, EachUnitOnce}
-use Rattle.arrival_queue.proofs.Counting.{one-most, count-cons}
+use Rattle.arrival_queue.proofs.Counting.{count-cons}
+use Rattle.sched_base.proofs.Bools.{one_if_most}
 use Rattle.sched_base.specs.Numbers.{one_if}
 use Rattle.arrival_queue.proofs.Ordered.{ranks-below, lacks-rank}
 use Rattle.queue_laws.specs.Arrivals.{HasRanks, RanksBelow, LacksUnit, HasUnits, HasKeys}
@@ -23,7 +24,7 @@ ranks_most (e ∷ es) most =
 
 -- no two units have one rank
 pub once_ranks : (es : List Queued) → EachRankOnce es → HasRanks es
-once_ranks es once = ranks_most es (λ r. omega (arith, once r, one-most (nat_lt r (length es))))
+once_ranks es once = ranks_most es (λ r. omega (arith, once r, one_if_most (nat_lt r (length es))))
 
 -- each rank is below the count of the units
 pub once_below : (es : List Queued) → EachRankOnce es → RanksBelow (length es) es

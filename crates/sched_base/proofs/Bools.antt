@@ -1,6 +1,7 @@
 -- What is known of the parts of a test.
-use Rattle.std.proofs.Common.{◌≡◌, Bool, true, false, not, refl, ◌⊎◌}
+use Rattle.std.proofs.Common.{◌≡◌, ◌≤◌, Bool, true, false, not, refl, ◌⊎◌, arith}
 use Rattle.std.specs.Prelude.{◌&&◌, ◌||◌, ◌==◌}
+use Rattle.sched_base.specs.Numbers.{one_if}
 
 pub and_left : (a b : Bool) → (a && b) ≡ true → a ≡ true
 and_left true b is = refl
@@ -25,6 +26,10 @@ or_right false b none = none
 pub or_more : (a b : Bool) → a ≡ true → (a || b) ≡ true
 or_more true b is = refl
 or_more false b is = absurd (cc)
+
+pub one_if_most : (b : Bool) → one_if b ≤ 1
+one_if_most true = omega arith
+one_if_most false = omega arith
 
 pub clash : (b : Bool) → b ≡ true → b ≡ false → ⊥
 clash true a b = absurd (cc)

@@ -1,8 +1,12 @@
 -- What holds of everything that stands at a place, and the changes that keep it.
 use Rattle.std.proofs.Common.{slice_set, ◌<◌, length, ◌≡◌, ◌≢◌, ◌+◌, ℕ, zero, suc, Bool, true, false, List, [], ◌∷◌, refl, arith, ap, subst, sym, ◌∙◌, ◌⊎◌, inl, inr}
-use Rattle.std.specs.Prelude.{Option, Some, None, option_map, replicate, cond, slice_index_or}
+use Rattle.std.specs.Prelude.{Option, Some, None, option_map, replicate, cond, slice_get, slice_index_or}
 use Rattle.sched_laws.specs.EachPlace.{EachAt, EachPlace}
 use Rattle.sched_model.specs.Places.{at_place, put_at, clear_at, change_at, change_each, first_place}
+use Rattle.sched_base.specs.declared.VcpuId.{VcpuId}
+use Rattle.sched_model.specs.declared.state.Domain.{Domain}
+use Rattle.sched_model.specs.declared.state.Vcpu.{Vcpu}
+use Rattle.sched_model.specs.Pool.{vcpu_among}
 
 -- what stands at a place after a change of one place: what stood there, or what was changed
 pub read_change_at : {X : Type 0} (i j : ℕ) (f : X → X) (places : List (Option X)) (y : X) → at_place (change_at i f places) j ≡ Some y → ((j ≢ i) × (at_place places j ≡ Some y)) ⊎ ((x : X) × (at_place places i ≡ Some x) × (j ≡ i) × (f x ≡ y))
@@ -188,6 +192,12 @@ pub at_place-replicate : {X : Type 0} (n i : ℕ) → at_place {X = X} (replicat
 at_place-replicate zero i = refl
 at_place-replicate (suc n) zero = refl
 at_place-replicate (suc n) (suc i) = at_place-replicate n i
+
+-- a vCPU that is there is one of a domain that is there
+pub vcpu_is : (domains : List (Option Domain)) (v : VcpuId) (x : Vcpu) → vcpu_among domains v ≡ Some x → (d : Domain) × (at_place domains v.dom.0 ≡ Some d) × (slice_get d.vcpus v.n ≡ Some x)
+vcpu_is domains v x is =
+    by_option (λ (o : Option Vcpu). o ≡ Some x → (d : Domain) × (at_place domains v.dom.0 ≡ Some d) × (slice_get d.vcpus v.n ≡ Some x)) (at_place domains v.dom.0) None (λ d. slice_get d.vcpus v.n)
+    (λ none e. absurd (cc)) (λ d at e. (d, at, e)) is
 
 -- what was read at a place has what each has
 pub place_fits : {X : Type 0} (P : X → Type 0) (places : List (Option X)) (i : ℕ) (o : Option X) (x : X) → EachPlace P places → i < length places → o ≡ slice_index_or places i o → o ≡ Some x → P x

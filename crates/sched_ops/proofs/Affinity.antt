@@ -51,6 +51,11 @@ pub count_all-empty : (domains : ℕ) → count_all (replicate domains None) ≡
 count_all-empty zero = refl
 count_all-empty (suc domains) = count_all-empty domains
 
+pub count_at-empty : (domains d : ℕ) → count_at (replicate domains None) d ≡ 0
+count_at-empty zero d = refl
+count_at-empty (suc domains) zero = refl
+count_at-empty (suc domains) (suc d) = count_at-empty domains d
+
 -- so many units of the domain
 abbrev first_units : ℕ → ℕ → List UnitId
 first_units d zero = []

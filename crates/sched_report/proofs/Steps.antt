@@ -16,14 +16,10 @@ use Rattle.sched_report.specs.Tallies.{nothing_done, undecided_core, place_of, h
 use Rattle.sched_report.proofs.Folds.{told}
 use Rattle.sched_report.proofs.Grows.{chosen_at, choices-more, charge}
 use Rattle.sched_report.proofs.Sums.{sum_by-same, sum_at, sum_beyond}
+use Rattle.unit_places.proofs.Placed.{low_index}
 
 placed : (u : UnitId) → has_place u ≡ true → place_of u ≡ Some (index_of u)
 placed u has = ap (λ b. cond b (Some (index_of u)) None) has
-
-place-below : (u : UnitId) → has_place u ≡ true → index_of u < 2048
-place-below u has =
-    let parts = and_parts (nat_lt u.dom.0 64) (nat_lt u.n 32) has in
-    omega (arith, ltb-true u.dom.0 64 parts.0, ltb-true u.n 32 parts.1)
 
 places-apart : (w u : UnitId) → has_place w ≡ true → has_place u ≡ true → same_unit w u ≡ false → index_of u ≢ index_of w
 places-apart w u has_w has_u apart e =
@@ -45,7 +41,7 @@ tally_at-changed w u f units has all =
     let there : get_or (changed_at (place_of w) f units) i nothing_done ≡ cond (same_unit w u) (f was) was = elim (told w u) [
       | inl same ↦
           subst (λ q. get_or (changed_at q f units) i nothing_done ≡ cond (same_unit w u) (f was) was) (sym (ap place_of same.0 ∙ here))
-          (get_or-set_same units i (f was) nothing_done (omega (arith, place-below u has, all)) ∙ ap (λ b. cond b (f was) was) (sym same.1))
+          (get_or-set_same units i (f was) nothing_done (omega (arith, low_index u has, all)) ∙ ap (λ b. cond b (f was) was) (sym same.1))
       | inr apart ↦ stays (has_place w) refl apart.0 ∙ ap (λ b. cond b (f was) was) (sym apart.0)
     ] in
     subst (λ q. tally_at (changed_at (place_of w) f units) q ≡ cond (same_unit w u) (f (tally_at units q)) (tally_at units q)) (sym here) there

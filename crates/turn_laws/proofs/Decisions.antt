@@ -5,7 +5,7 @@ use Rattle.std.specs.List.{list_all}
 use Rattle.std.proofs.lemmas.Bool.{cases_Bool}
 use Rattle.sched_base.specs.Numbers.{moment, one_if}
 use Rattle.sched_base.specs.declared.UnitId.{UnitId}
-use Rattle.sched_base.proofs.Bools.{and_false}
+use Rattle.sched_base.proofs.Bools.{and_false, one_if_most}
 use Rattle.sched_model.specs.declared.machine.Machine.{Machine}
 use Rattle.sched_model.specs.declared.state.Pool.{Pool}
 use Rattle.sched_model.specs.declared.state.Resource.{Resource}
@@ -21,7 +21,7 @@ use Rattle.sched_laws.proofs.EachPlace.{by_option, by_test}
 use Rattle.sched_laws.proofs.OnePlace.{same_choice_same}
 use Rattle.turn_laws.specs.Stretches.{cores, units}
 use Rattle.turn_laws.specs.Turns.{how_many, weight_of, chances, changes_left, meeting, is_stirred, is_secure, ahead}
-use Rattle.turn_laws.proofs.Sums.{many, many_is, many_none, one_most, how_many_all, weighs_less, weighs_no_more}
+use Rattle.turn_laws.proofs.Sums.{many, many_is, many_none, how_many_all, weighs_less, weighs_no_more}
 use Rattle.turn_laws.proofs.Changed.{Falls, under, changed}
 use Rattle.turn_laws.proofs.Meetings.{meeting_open, meeting_decided, meeting_most, cond_most}
 use Rattle.turn_laws.specs.GoodDecisions as good
@@ -246,7 +246,7 @@ module _ (m : Machine) (t : ℕ) (pool : Pool) (r : ℕ) (c : Resource) where
 
       own_less : chances_under next r left + 1 ≤ chances_under pool.scheduler r c → under m t pool next r left + (many (cores m) (2 * m.config.granularity + 1) + 1) ≤ under m t pool pool.scheduler r c + (2 * m.config.granularity + 1)
       own_less less =
-          let saves = one_most (is_some left.saving) in
+          let saves = one_if_most (is_some left.saving) in
           let down : changes_left (units m) (is_runnable m.config.granularity pool) t (home_cores pool) next r left + 1 ≤ changes_left (units m) (is_runnable m.config.granularity pool) t (home_cores pool) pool.scheduler r c = omega (arith, less, saves) in
           let weighs = weighs_less (weight_of m) _ _ down in
           let before = meeting_before pending gathers all whole in

@@ -5,7 +5,7 @@ use Rattle.std.specs.List.{list_any, list_all}
 use Rattle.std.proofs.Math.Decide.{ℕ_discrete}
 use Rattle.std.proofs.Math.Nat.{mul-le-mul_left}
 use Rattle.sched_model.specs.Places.{change_item}
-use Rattle.sched_base.proofs.Bools.{or_left, or_right, and_left, and_right}
+use Rattle.sched_base.proofs.Bools.{or_left, or_right, and_left, and_right, one_if_most}
 use Rattle.sched_model.specs.Places.{at_place}
 use Rattle.sched_laws.specs.Counts.{total, total_over}
 use Rattle.turn_laws.specs.Turns.{how_many}
@@ -54,13 +54,9 @@ falls (suc n) b drop i f h low own others =
           omega (arith, a, c))
     ]
 
-pub one_most : (b : Bool) → one_if b ≤ 1
-one_most true = omega arith
-one_most false = omega arith
-
 pub how_many_most : {X : Type 0} (test : X → Bool) (xs : List X) → how_many test xs ≤ length xs
 how_many_most test [] = grind arith
-how_many_most test (x ∷ xs) = (let r = how_many_most test xs in let o = one_most (test x) in grind (arith, r, o))
+how_many_most test (x ∷ xs) = (let r = how_many_most test xs in let o = one_if_most (test x) in grind (arith, r, o))
 
 pub how_many_changed : {X : Type 0} (test : X → Bool) (i : ℕ) (f : X → X) (xs : List X) (x : X) → slice_get xs i ≡ Some x → how_many test (change_item i f xs) + one_if (test x) ≡ how_many test xs + one_if (test (f x))
 how_many_changed test i f [] x at = absurd (cc)

@@ -15,7 +15,8 @@ use Rattle.sched_model.specs.Actions.{home_of_core}
 use Rattle.sched_laws.specs.EachPlace.{EachPlace}
 use Rattle.turn_laws.specs.Stretches.{cores, units, most_in_stretch}
 use Rattle.turn_laws.specs.Turns.{how_many, turns, turns_in, turns_left, core_turns, weight_of, chances, changes_left, meeting, is_stirred, is_secure, ahead, IsBounded, most_turns}
-use Rattle.turn_laws.proofs.Sums.{many_is, total_at_most, one_most, how_many_most, weighs_no_more}
+use Rattle.turn_laws.proofs.Sums.{many_is, total_at_most, how_many_most, weighs_no_more}
+use Rattle.sched_base.proofs.Bools.{one_if_most}
 use Rattle.turn_laws.proofs.Meetings.{cond_most}
 
 cond_of : (b : Bool) (x y n : ℕ) → x ≤ n → y ≤ n → cond b x y ≤ n
@@ -51,7 +52,7 @@ turns_most m t pool bounded r = by_core (at_place pool.resources r) refl
     by_core (Some c) is =
         let e = ap (λ (o : Option Resource). elim o as (λ _. ℕ) [ None ↦ 0 | Some x ↦ turns m.config.granularity (weight_of m) (units m) (is_runnable m.config.granularity pool) t (home_cores pool) pool.scheduler r x ]) is in
         let a = chances_most (units m) t (home_cores pool) (is_runnable m.config.granularity pool) pool.scheduler r c bounded.few in
-        let s = one_most (is_some c.saving) in
+        let s = one_if_most (is_some c.saving) in
         let b = meeting_bound m.config.granularity (is_stirred t (home_cores pool) pool.scheduler r c) c (bounded.whole r c is) in
         let w = weighs_no_more (weight_of m) (changes_left (units m) (is_runnable m.config.granularity pool) t (home_cores pool) pool.scheduler r c) (2 * units m + 3) (omega (arith, a, s)) in
         omega (arith, e, b, w)

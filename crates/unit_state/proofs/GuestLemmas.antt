@@ -15,14 +15,14 @@ use Rattle.sched_model.specs.Places.{at_place, put_at, clear_at, change_at, chan
 use Rattle.sched_model.specs.Opening.{fresh_vcpu}
 use Rattle.sched_model.specs.Pool.{woken_vcpu, put_to_sleep, stopped_vcpu, done_at, unit_count, vcpu_among, change_among}
 use Rattle.sched_laws.specs.EachPlace.{EachPlace}
-use Rattle.sched_laws.proofs.EachPlace.{EachAt-change_to, EachPlace-change_at, EachPlace-put_at, EachPlace-clear_at, EachPlace-empty, place_below, length_set}
+use Rattle.sched_laws.proofs.EachPlace.{EachAt-change_to, EachPlace-change_at, EachPlace-put_at, EachPlace-clear_at, EachPlace-empty, place_below, length_set, vcpu_is}
 use Rattle.sched_laws.proofs.Lists.{length_change_item, has_come-le}
 use Rattle.sched_ranges.proofs.Vcpus.{VcpuFits as VcpuStands, vcpu_fresh, vcpu_woken, vcpu_slept, vcpu_stopped, vcpu_started}
 use Rattle.plain_pool.specs.Fits.{DomainFits, VcpuFits}
 use Rattle.unit_state.specs.Seen.{Seen, IsNow, vacant_guests, done_among, is_awake_among, is_due_among}
 use Rattle.unit_state.specs.Parts.{IsGuest, HasGuests, IsStill, IsRunPlace, IsSleepPlace}
 use Rattle.unit_state.specs.Guests.{KeepsGuests, units_in}
-use Rattle.unit_state.proofs.PlaceLemmas.{read_change_item, vcpu_there, vcpu_in, units_in-put_at, units_in-clear_at, units_in-change_at}
+use Rattle.unit_state.proofs.PlaceLemmas.{read_change_item, vcpu_in, units_in-put_at, units_in-clear_at, units_in-change_at}
 
 come_later : (t s : ℕ) (o : Option Moment) → t ≤ s → has_come t o ≡ true → has_come s o ≡ true
 come_later t s None past come = come
@@ -263,7 +263,7 @@ keeps_vacant g places units multiple few room = record {
 -- the places of a vCPU that is there
 pub vcpu_bounds : (seen : Seen) (v : VcpuId) (x : Vcpu) → KeepsGuests seen → vcpu_among seen.domains v ≡ Some x → (v.dom.0 < 64) × (v.n < 32)
 vcpu_bounds seen v x keeps there =
-    let d = vcpu_there seen.domains v x there in
+    let d = vcpu_is seen.domains v x there in
     let place = place_below seen.domains v.dom.0 d.0 d.1 in
     let index = slice_get_within d.0.vcpus v.n x d.2 in
     let places = keeps.places in

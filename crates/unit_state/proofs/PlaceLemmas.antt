@@ -60,14 +60,6 @@ vcpu_among-change_among_other v w f domains others =
     here n None = refl
     here n (Some d) = slice_get-change_item_other v.n w.n f d.vcpus (λ e. n (sym e))
 
--- a vCPU that is there is one of a domain that is there
-pub vcpu_there : (domains : List (Option Domain)) (v : VcpuId) (x : Vcpu) → vcpu_among domains v ≡ Some x → (d : Domain) × (at_place domains v.dom.0 ≡ Some d) × (slice_get d.vcpus v.n ≡ Some x)
-vcpu_there domains v x there = by_place (at_place domains v.dom.0) refl there
-  where
-    by_place : (o : Option Domain) → at_place domains v.dom.0 ≡ o → vcpu_in v.n o ≡ Some x → (d : Domain) × (at_place domains v.dom.0 ≡ Some d) × (slice_get d.vcpus v.n ≡ Some x)
-    by_place None is e = absurd (cc)
-    by_place (Some d) is e = (d, is, e)
-
 -- the units of all domains after a domain came in or went out, or was changed and kept its units
 pub units_in-put_at : (g i : ℕ) (d : Domain) (domains : List (Option Domain)) → i < length domains → at_place domains i ≡ None → units_in g (put_at i d domains) ≡ units_in g domains + unit_count g d
 units_in-put_at g i d [] inside none = absurd (omega (arith, inside))
