@@ -65,7 +65,8 @@ pub fn choice(state: &Credit2State, ready: &Ready, ask: &Ask) -> Option<UnitId>
 /// The unit, where it waits, waits no more.
 pub fn leave(state: &mut Credit2State, u: UnitId)
     requires { IsLine state.old }
-    ensures order { arrivals state.new.queue.units ≡ without_unit u (arrivals state.old.queue.units) }
+    ensures order { arrivals state.new.queue.units
+        ≡ without_unit u (arrivals state.old.queue.units) }
     ensures line { IsLine state.new }
     ensures room { IsSameRoom state.old.queue state.new.queue }
     ensures first { (p : Unit → Bool) → is_unit (first_that p state.old.queue.units) u ≡ false →
@@ -152,7 +153,8 @@ fn one_is_better(
     requires ready { IsReadyIn state.now ready.now }
     requires core { core.0 < 64 }
     ensures { result ≡ is_better_of state.now.records own since.0 t.0
-        (best_of (arrivals state.now.queue.units) state.now.affinity home.0 core.0 state.now.records) }
+        (best_of (arrivals state.now.queue.units) state.now.affinity home.0 core.0
+        state.now.records) }
 {
     if is_within_limit(&state.records, since, t) {
         return false;

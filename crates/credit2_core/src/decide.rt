@@ -88,7 +88,8 @@ fn run_unit(state: &mut Credit2State, ready: &mut Ready, ask: &Ask, u: UnitId) -
         (Some u)) }
     ensures records { state.new.records ≡ records_after_run ask.now.cur ask.now.at.0
         (resets_for_spec ask.now.at.0 u state.old.records) u state.old.records }
-    ensures order { arrivals state.new.queue.units ≡ without_unit u (arrivals state.old.queue.units) }
+    ensures order { arrivals state.new.queue.units
+        ≡ without_unit u (arrivals state.old.queue.units) }
     ensures line { IsLine state.new }
     ensures ready { IsReadyIn state.new ready.new }
     ensures room { IsSameRoom state.old.queue state.new.queue }

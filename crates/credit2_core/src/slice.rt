@@ -49,7 +49,8 @@ pub fn take_slice(
     requires line { IsLine state.old }
     requires masks { AreMasks state.old.affinity state.old.masks }
     requires free { IsFree state.old.unpinned state.old.affinity }
-    ensures records { state.new.records ≡ change_domain u.dom.0 (take_budget u.n) state.old.records }
+    ensures records { state.new.records
+        ≡ change_domain u.dom.0 (take_budget u.n) state.old.records }
     ensures line { IsLine state.new }
     ensures ready { IsReadyIn state.new ready.new }
     ensures slice { result ≡ slice_beside_spec state.new.records u

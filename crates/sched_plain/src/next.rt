@@ -99,7 +99,8 @@ fn look_at_each<T: Moments>(
     requires machine { MachineFits m.now }
     requires state { StateFits s.now }
     requires fits { AllByRecursion T.Fits items.now }
-    ensures { result ≡ soonest_moment m.now s.entry.now t.0 best (joined_lists T.moments items.now) }
+    ensures { result ≡ soonest_moment m.now s.entry.now t.0 best
+        (joined_lists T.moments items.now) }
 {
     match items {
         [] => best,
