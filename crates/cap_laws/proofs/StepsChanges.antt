@@ -58,9 +58,6 @@ module _ (d t : ℕ) where
   weighed : (e : ℕ) (weight : Option ℕ) (own : Credit2Records) → SameRecord (at_place own.domains d) (at_place (change_at e (set_weight weight) own.domains) d)
   weighed e weight own = record_change e d (set_weight weight) own.domains (weight_goes weight)
 
-  capped_other : (e most : ℕ) (percent : Option ℕ) (places : List (Option Credit2Domain)) → (percent ≡ None → ⊥) → e ≢ d → SameRecord (at_place places d) (at_place (change_at e (set_cap most t percent) places) d)
-  capped_other e most percent places some other = same_record (at_place places d) (at_place (change_at e (set_cap most t percent) places) d) (at_place-change_at_other e d (set_cap most t percent) places other)
-
   changed : (records : Records) (change : ParamChange) → SetsNoCap d change → SameRecord (credit2_record records d) (credit2_record (changed_records records change t) d)
   changed (Credit2Pool own) (changes.Dom e weight None) none =
       record_trans2 (at_place own.domains d) (at_place (change_at e.0 (set_weight weight) own.domains) d) _ (weighed e.0 weight own)

@@ -56,17 +56,6 @@ module _ (records : Credit2Records) where
   pub keys_moved : (u : UnitId) (r : ℕ) (es : List Queued) → KeysWhere (is_passed u.dom.0 u.n) records es → KeysWhere (is_passed u.dom.0 (u.n + 1)) records (list_with (queued_unit u (key_in records u) r) (list_without u es))
   keys_moved u r es keys = All-put (λ (e : Queued). is_passed u.dom.0 (u.n + 1) e.unit ≡ true → e.key ≡ key_in records e.unit) _ (queued_unit u (key_in records u) r) (list_without u es) (λ _. refl) (keys_gone u es keys)
 
-  -- none is passed at first
-  pub keys_first : (es : List Queued) → KeysWhere (is_passed 0 0) records es
-  keys_first [] = tt
-  keys_first (e ∷ es) = (λ is. absurd (none e.unit is), keys_first es)
-    where
-      none : (w : UnitId) → is_passed 0 0 w ≡ true → ⊥
-      none w is = elim (or_cases (nat_lt w.dom.0 0) (w.dom.0 == 0 && nat_lt w.n 0) is) [
-        | inl low ↦ (let l = ltb-true w.dom.0 0 low in omega (arith, l))
-        | inr here ↦ (let l = ltb-true w.n 0 (and_right (w.dom.0 == 0) (nat_lt w.n 0) here) in omega (arith, l))
-      ]
-
   -- all units of the domain are passed: the next domain
   pub keys_next : (affinity : List (Option (List Cores))) (d : ℕ) (es : List Queued) → AllByRecursion (λ u. is_member_among affinity u ≡ true) (arrivals es) → KeysWhere (is_passed d (count_at affinity d)) records es → KeysWhere (is_passed (d + 1) 0) records es
   keys_next affinity d es joined keys = each es (queued_have (λ u. is_member_among affinity u ≡ true) es joined) keys

@@ -372,9 +372,6 @@ module _ (m : Machine) (t : ℕ) (queue : List UnitId) (affinity : List (Option 
       burned_again : burned ≡ given (Some u)
       burned_again = burned_is ∙ ap given cur
 
-      abbrev first : Credit2Domain → Credit2Domain
-      first d = gives u.n d
-
       abbrev second : Credit2Domain → Credit2Domain
       second d = take_budget u.n (gives u.n d)
 

@@ -73,9 +73,6 @@ pub face_units : (d : Credit2Domain) (units : List Credit2Unit) → credits unit
 face_units d units same = ap (λ cs. (d.weight, d.cap, cs)) same
 
 -- the greatest weight
-weights : ℕ → Faces → List ℕ
-weights n fs = map (λ (e : ℕ × Face). e.1.0) (numbered_items n fs)
-
 weights_are : (n : ℕ) (domains : List (Option Credit2Domain)) → map (λ (e : ℕ × Credit2Domain). e.1.weight) (numbered_items n domains) ≡ map (λ (e : ℕ × Face). e.1.0) (numbered_items n (faces domains))
 weights_are n [] = refl
 weights_are n (None ∷ domains) = weights_are (suc n) domains

@@ -108,9 +108,6 @@ held_low t most d (x ∷ units) each =
 refill_signed : (budget : ℤ) (held all n t : ℕ) → t ≤ most_span → neg_ℤ (pos (32 * t + 20480000000)) ≤ℤ budget → held ≤ 20480000000 → all ≤ 640000000 → IsSigned (refill budget held all n)
 refill_signed budget held all n t low least few small = signed (refill budget held all n) above below
   where
-    plus : ℕ
-    plus = n * all
-
     above : refill budget held all n ≤ℤ pos 640000000
     above = most (budget +ℤ pos (n * all)) (pos all -ℤ pos held) (omega (arith, ints, small))
       where

@@ -52,9 +52,6 @@ module _ (m : Machine) (checked : IsChecked m) (before : List Entry) (run : IsRu
   abbrev s : State
   s = state_after m before
 
-  abbrev g : ℕ
-  g = m.config.granularity
-
   ranges : PoolInRange m s.now pool
   ranges = (in_range m checked before run).pools i pool at
 

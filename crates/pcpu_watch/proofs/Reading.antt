@@ -1,6 +1,6 @@
 -- What the scribe has read, step by step.
 use mathlib.Core.List.{IsPrefix}
-use Rattle.std.proofs.Common.{◌≡◌, ◌∙◌, ⊎_elim, ◌++◌, ◌+◌, ◌<◌, ◌≤◌, ◌^◌, ℕ, suc, cond, List, [], ◌∷◌, length, take, sym, ap, subst, arith, append_assoc, append-nil, length-append, true, false}
+use Rattle.std.proofs.Common.{◌≡◌, ◌∙◌, ⊎_elim, ◌++◌, ◌+◌, ◌<◌, ◌≤◌, ◌^◌, ℕ, suc, cond, List, [], ◌∷◌, length, take, sym, ap, arith, append_assoc, true, false}
 use Rattle.std.specs.Prelude.{Some, slice_get}
 use Rattle.std.proofs.lemmas.Bool.{cases_lt}
 use Rattle.std.proofs.lemmas.List.{length-take-le, take_all}
@@ -8,11 +8,9 @@ use Rattle.std.proofs.lemmas.Option.{slice_get_within}
 use Rattle.sched_model.specs.declared.event.Entry.{Entry}
 use Rattle.status_board.specs.Boards.{Desk}
 use Rattle.lock_moves.specs.Sets.{LockTable}
-use Rattle.lock_moves.proofs.Prefix.{prefix_refl}
-use Rattle.hall.specs.Seats.{IsOf, Seated}
 use Rattle.pcpu_watch.specs.declared.scribe.Scribe.{Scribe}
 use Rattle.pcpu_watch.specs.Moments.{ends, opens_next, moment_of}
-use Rattle.pcpu_watch.specs.Scribes.{CanWrite, HasWritten, IsScribe, KeepsReading, ReadsBefore, ReadsOn, SeesOn, front_of, has_read}
+use Rattle.pcpu_watch.specs.Scribes.{CanWrite, IsScribe, ReadsBefore, ReadsOn, SeesOn, front_of, has_read}
 use Rattle.pcpu_watch.proofs.Counting.{ends-more, moment-same, one-more, part-same}
 
 abbrev seen_by : Scribe → List Entry
@@ -25,39 +23,6 @@ read-length hall s is = length-take-le s.read (seen_by s) is.inside
 module _ (hall : LockTable) (s t : Scribe) (on : SeesOn hall s.seat t.seat) (is : IsScribe hall s) where
   part : take s.read (seen_by t) ≡ has_read s
   part = part-same (seen_by s) (seen_by t) s.read on.begins is.inside
-
-  -- the book was looked at, and nothing was read
-  module _ (read : t.read ≡ s.read) (ended : t.ended ≡ s.ended) (writer : t.writer ≡ s.writer) where
-    same : has_read t ≡ has_read s
-    same = ap (λ (n : ℕ). take n (seen_by t)) read ∙ part
-
-    still : IsScribe hall t
-    still = record {
-      of = on.of;
-      inside = longer is.inside;
-      few = subst (λ (n : ℕ). n ≤ 2 ^ 32) (sym read) is.few;
-      given = ap (λ (w : Desk). w.published ++ w.pending) writer ∙ is.given ∙ sym same;
-      ended = ended ∙ is.ended ∙ ap ends (sym same);
-    }
-      where
-        longer : s.read ≤ length (seen_by s) → t.read ≤ length (seen_by t)
-        longer low = subst (λ (n : ℕ). n ≤ length (seen_by t)) (sym read) (let more = on.begins.1 in let sum = ap length more in let len = length-append (seen_by s) on.begins.0 in omega (arith, low, sum, len))
-
-    pub keeps-reading : KeepsReading hall s t
-    keeps-reading = record {
-      on = record { is = still; begins = subst (IsPrefix (has_read s)) (sym same) (prefix_refl (has_read s)); shares = on.shares; cores = ap (λ (w : Desk). w.cores) writer };
-      same = same;
-      read = read;
-      ended = ended;
-      writer = writer;
-    }
-
-    pub still-can : (k : ℕ) → CanWrite hall k s → CanWrite hall k t
-    still-can k can = record {
-      is = still;
-      before = λ place low. subst (λ (h : List Entry). moment_of h place < k) (sym same) (can.before place (subst (λ (n : ℕ). place < n) read low));
-      ended = subst (λ (n : ℕ). n ≤ k) (sym ended) can.ended;
-    }
 
   -- one entry more was read and given to the writer
   module _ (e : Entry) (at : slice_get (seen_by t) s.read ≡ Some e) (few : s.read < 2 ^ 32) (read : t.read ≡ s.read + 1) (ended : t.ended ≡ s.ended + cond (opens_next e.event) 1 0)
@@ -102,30 +67,3 @@ module _ (hall : LockTable) (s t : Scribe) (on : SeesOn hall s.seat t.seat) (is 
             let all : moment_of (has_read s) place ≡ s.ended = ap ends (take_all place (has_read s) (omega (arith, here))) ∙ sym is.ended in
             omega (arith, same, all, due))
             (cases_lt place s.read)
-
--- what was given to the writer is published
-module _ (hall : LockTable) (s t : Scribe) (is : IsScribe hall s) (seat : t.seat ≡ s.seat) (read : t.read ≡ s.read) (ended : t.ended ≡ s.ended)
-    (writer : t.writer ≡ record s.writer { published = s.writer.published ++ s.writer.pending; pending = [] }) where
-  published-same : has_read t ≡ has_read s
-  published-same = (λ i. take (read i) (seat i).sitting.view.front)
-
-  pub reads-published : ReadsOn hall s t
-  reads-published = record {
-    is = record {
-      of = subst (IsOf hall) (sym seat) is.of;
-      inside = subst (λ (x : Seated). t.read ≤ length x.sitting.view.front) (sym seat) (subst (λ (n : ℕ). n ≤ length (seen_by s)) (sym read) is.inside);
-      few = subst (λ (n : ℕ). n ≤ 2 ^ 32) (sym read) is.few;
-      given = ap (λ (w : Desk). w.published ++ w.pending) writer ∙ append-nil (s.writer.published ++ s.writer.pending) ∙ is.given ∙ sym published-same;
-      ended = ended ∙ is.ended ∙ ap ends (sym published-same);
-    };
-    begins = subst (IsPrefix (has_read s)) (sym published-same) (prefix_refl (has_read s));
-    shares = ap (λ (x : Seated). x.sitting.view.shares) seat;
-    cores = ap (λ (w : Desk). w.cores) writer;
-  }
-
-  pub has-written : (k : ℕ) → CanWrite hall k s → s.ended ≡ k → HasWritten k t
-  has-written k can all = record {
-    before = λ place low. subst (λ (h : List Entry). moment_of h place < k) (sym published-same) (can.before place (subst (λ (n : ℕ). place < n) read low));
-    ended = ended ∙ all;
-    pending = ap (λ (w : Desk). w.pending) writer;
-  }

@@ -1,10 +1,8 @@
 -- One look more.
 use mathlib.Core.List.{IsPrefix}
-use Rattle.std.proofs.Common.{◌≡◌, ◌∙◌, ◌++◌, ◌-◌, ◌<◌, ◌≤◌, ◌^◌, ℕ, suc, List, [], ◌∷◌, length, refl, sym, ap, subst, arith, append-nil}
-use Rattle.std.proofs.lemmas.List.{length_push, take_all}
-use Rattle.std.proofs.lemmas.Option.{slice_get_within}
+use Rattle.std.proofs.Common.{◌≡◌, ◌∙◌, ◌++◌, ◌-◌, ◌<◌, ◌≤◌, ◌^◌, ℕ, suc, List, [], ◌∷◌, length, sym, ap, subst, arith, append-nil}
+use Rattle.std.proofs.lemmas.List.{length_push}
 use Rattle.sched_model.specs.declared.event.Entry.{Entry}
-use Rattle.sched_report.specs.Stays.{last_moment}
 use Rattle.status_board.specs.Boards.{Desk, Watch}
 use Rattle.status_board.specs.Counts.{entry_count}
 use Rattle.lock_moves.specs.Sets.{LockTable}
@@ -12,9 +10,9 @@ use Rattle.pcpu_watch.specs.declared.looks.Look.{Look}
 use Rattle.pcpu_watch.specs.declared.scribe.Scribe.{Scribe}
 use Rattle.pcpu_watch.specs.declared.watch.Watcher.{Watcher}
 use Rattle.pcpu_watch.specs.Moments.{ends, moment_of}
-use Rattle.pcpu_watch.specs.Looks.{EachIsLook, IsLook, LookList, LooksSoFar, ShowsBeginning, look_of}
-use Rattle.pcpu_watch.specs.Scribes.{CanWrite, HasWritten, KeepsReading, ReadsOn, has_read}
-use Rattle.pcpu_watch.specs.Watcher.{HasLooked, IsWatch, StaysWatch}
+use Rattle.pcpu_watch.specs.Looks.{EachIsLook, IsLook, LookList, ShowsBeginning, look_of}
+use Rattle.pcpu_watch.specs.Scribes.{HasWritten, KeepsReading, ReadsOn, has_read}
+use Rattle.pcpu_watch.specs.Watcher.{HasLooked, IsWatch}
 use Rattle.pcpu_watch.proofs.Looking.{look-new, looks-pushed, looks-still}
 use Rattle.pcpu_watch.proofs.Reading.{read-length}
 
@@ -22,27 +20,11 @@ use Rattle.pcpu_watch.proofs.Reading.{read-length}
 few-counted : (h : List Entry) (n : ℕ) → length h ≡ n → n ≤ 2 ^ 32 → entry_count h ≡ length h
 few-counted h n len few = omega (arith, len, few)
 
--- what is told of all that was read shows that
-pub shows-all : (h : List Entry) (n : ℕ) → length h ≡ n → n ≤ 2 ^ 32 → ShowsBeginning h (look_of h)
-shows-all h n len few = let all = few-counted h n len few in record {
-  inside = omega (arith, all);
-  last = ap last_moment (sym (take_all (entry_count h) h (omega (arith, all))));
-}
-
 module _ (hall : LockTable) (w : Watcher) (is : IsWatch hall w) where
-  k : ℕ
-  k = length w.looks.items
-
   pub all-published : w.scribe.writer.published ≡ has_read w.scribe
   all-published = sym (append-nil w.scribe.writer.published) ∙ ap (λ (p : List Entry). w.scribe.writer.published ++ p) (sym is.pending) ∙ is.scribe.given
 
-  pub can-write : CanWrite hall (length w.looks.items) w.scribe
-  can-write = record { is = is.scribe; before = is.before; ended = (let ended = is.ended in omega (arith, ended)) }
-
-  -- what was learned shows what was read before
-  pub learned-shows : ShowsBeginning (has_read w.scribe) (look_of (has_read w.scribe))
-  learned-shows = shows-all (has_read w.scribe) w.scribe.read (read-length hall w.scribe is.scribe) is.scribe.few
-
+  -- what was learned counts all that was read before
   pub learned-count : (look_of (has_read w.scribe)).entries ≡ length (has_read w.scribe)
   learned-count = few-counted (has_read w.scribe) w.scribe.read (read-length hall w.scribe is.scribe) is.scribe.few
 
@@ -83,14 +65,3 @@ module _ (hall : LockTable) (w : Watcher) (is : IsWatch hall w) where
       };
       one_more = one-more;
     }
-
-    pub stays-looked : StaysWatch hall w new
-    stays-looked = record { of = keeps.on.is.of; shares = keeps.on.shares ∙ on.shares; room = ap (λ (l : LookList). l.room) pushed }
-
-  -- the writer had no memory
-  pub stays-unwritten : (s : Scribe) → ReadsOn hall w.scribe s → (reader : Watch) → let new : Watcher = record { scribe = s; reader = reader; looks = w.looks } in StaysWatch hall w new
-  stays-unwritten s on reader = record { of = on.is.of; shares = on.shares; room = refl }
-
-  -- with at least one look there is one for each moment that ended, and one more
-  pub looks-so-far : 0 < length w.looks.items → LooksSoFar (has_read w.scribe) w.looks.items
-  looks-so-far some = record { count = (let a = is.scribe.ended in let b = is.ended in omega (arith, some, a, b)); each = is.looks }

@@ -69,12 +69,6 @@ lowest_leads g p (Some r) own = (r, own)
 pub lowest_of : (g r p : ℕ) (pool : Pool) → p ≡ r * g → first_place 0 (λ c. true) pool.resources ≡ Some r → is_lowest g pool p ≡ true
 lowest_of g r p pool is first = ap (λ (o : Option ℕ). elim o as (λ _. Bool) [ None ↦ false | Some k ↦ leads g k p ]) first ∙ eq-eqb p (r * g) is
 
--- and no other
-pub not_lowest : (g r p : ℕ) (o : Option ℕ) (pool : Pool) → 0 < g → p ≡ r * g → first_place 0 (λ c. true) pool.resources ≡ o → ((k : ℕ) → o ≡ Some k → k ≢ r) → is_lowest g pool p ≡ false
-not_lowest g r p None pool some is first others = ap (λ (o : Option ℕ). elim o as (λ _. Bool) [ None ↦ false | Some k ↦ leads g k p ]) first
-not_lowest g r p (Some k) pool some is first others =
-    ap (λ (o : Option ℕ). elim o as (λ _. Bool) [ None ↦ false | Some k ↦ leads g k p ]) first ∙ false_from_ne_true _ (λ own. others k refl (led g r k p some is own))
-
 module _ (g t : ℕ) (pool : Pool) (actor : Actor) where
   -- of all the kinds of a pool
   pub of_all : (o : Option Action) → IsFirstByIn 4 13 g t pool actor o → IsFirstBy g t pool actor o

@@ -1,6 +1,6 @@
 -- A domain that joins a pool: its units may come to wait.
 use Rattle.std.proofs.Common.{◌≡◌, ◌<◌, ◌≤◌, ◌+◌, ◌-◌, ℕ, Bool, true, false, List, refl, sym, ap, subst, ◌∙◌, arith, length}
-use Rattle.std.specs.Prelude.{Option, Some, None, option_map, replicate}
+use Rattle.std.specs.Prelude.{Option, Some, None, replicate}
 use Rattle.std.proofs.lemmas.Bool.{lt-ltb, false_from_ne_true}
 use Rattle.std.proofs.lemmas.List.{length-replicate}
 use Rattle.std.proofs.lemmas.Nat.{le-div}
@@ -30,14 +30,6 @@ pub some_units : (g : ℕ) (domain : Domain) → 0 < g → 1 ≤ length domain.v
 some_units g domain some has = le-div 1 (length domain.vcpus + g - 1) g some (omega (arith, some, has))
 
 module _ (g t d : ℕ) (pool : Pool) (holds : Holds g t pool) (absent : at_place pool.domains d ≡ None) where
-  -- the scheduler does not know the domain
-  pub absent_sets : at_place pool.scheduler.affinity d ≡ None
-  absent_sets = by_sets (at_place pool.scheduler.affinity d) (holds.members.units d ∙ ap (option_map (unit_count g)) absent)
-    where
-      by_sets : (o : Option (List Cores)) → option_map length o ≡ None → o ≡ None
-      by_sets None e = refl
-      by_sets (Some sets) e = absurd (cc)
-
   -- none of its units waits
   absent_waits_not : (n : ℕ) → has_unit pool.scheduler.queue (unit_id d n) ≡ false
   absent_waits_not n = false_from_ne_true (has_unit pool.scheduler.queue (unit_id d n)) (λ is.

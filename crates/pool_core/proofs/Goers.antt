@@ -1,5 +1,5 @@
 -- A domain that goes on after a pause, and one that parts.
-use Rattle.std.proofs.Common.{◌≡◌, ◌<◌, ◌/◌, ℕ, Bool, true, false, List, refl, sym, ap, subst, ◌∙◌, cond, arith, length}
+use Rattle.std.proofs.Common.{◌≡◌, ◌<◌, ◌/◌, ℕ, Bool, true, false, List, refl, sym, ap, subst, ◌∙◌, arith, length}
 use Rattle.std.specs.Prelude.{Option, Some, None, option_map, is_none, is_some, not, slice_get, ◌&&◌}
 use Rattle.std.specs.List.{list_any}
 use Rattle.std.specs.Option.{ForSome}
@@ -13,8 +13,8 @@ use Rattle.sched_model.specs.declared.action.Action.TheVariants.{DomMoved}
 use Rattle.sched_model.specs.declared.state.Domain.{Domain}
 use Rattle.sched_model.specs.declared.state.Pool.{Pool}
 use Rattle.sched_model.specs.declared.state.Vcpu.{Vcpu}
-use Rattle.sched_model.specs.Places.{at_place, has_unit, numbers_from, test_at}
-use Rattle.sched_model.specs.Pool.{change_domain, enabled_in, is_of_domain, is_off, queue_units, unit_count, unit_of, unpause, vcpu_of}
+use Rattle.sched_model.specs.Places.{at_place, has_unit, test_at}
+use Rattle.sched_model.specs.Pool.{enabled_in, is_of_domain, is_off, unit_count, unit_of, vcpu_of}
 use Rattle.sched_model.specs.State.{is_awake, is_runnable, unit_runnable, vcpus_of_unit}
 use Rattle.sched_base.proofs.Bools.{and_left, or_left}
 use Rattle.sched_laws.proofs.Counts.{times_has, times_some, total_at}
@@ -65,24 +65,6 @@ module _ (g d : ℕ) (pool : Pool) where
         waits_not = waits_not;
         off = nowhere_off g pool (unit_id d n) on waits_not;
       }
-
-  -- a domain that is paused goes on, and any other stays as it is
-  pub unpaused_some : is_paused_among pool.domains d ≡ true → queue_units g d (numbers_from 0 (units_at g (at_place pool.domains d))) (change_domain d (λ x. record x { paused = false }) pool) ≡ unpause g d pool
-  unpaused_some paused = by_domain (at_place pool.domains d) paused
-    where
-      by_domain : (o : Option Domain) → elim o as (λ _. Bool) [ None ↦ false | Some x ↦ x.paused ] ≡ true
-          → queue_units g d (numbers_from 0 (units_at g o)) (change_domain d (λ x. record x { paused = false }) pool)
-          ≡ elim o as (λ _. Pool) [ None ↦ pool | Some x ↦ cond x.paused (queue_units g d (numbers_from 0 (unit_count g x)) (change_domain d (λ y. record y { paused = false }) pool)) pool ]
-      by_domain None e = absurd (cc)
-      by_domain (Some x) e = ap (λ (b : Bool). cond b (queue_units g d (numbers_from 0 (unit_count g x)) (change_domain d (λ y. record y { paused = false }) pool)) pool) (sym e)
-
-  pub unpaused_none : is_paused_among pool.domains d ≡ false → pool ≡ unpause g d pool
-  unpaused_none paused = by_domain (at_place pool.domains d) paused
-    where
-      by_domain : (o : Option Domain) → elim o as (λ _. Bool) [ None ↦ false | Some x ↦ x.paused ] ≡ false
-          → pool ≡ elim o as (λ _. Pool) [ None ↦ pool | Some x ↦ cond x.paused (queue_units g d (numbers_from 0 (unit_count g x)) (change_domain d (λ y. record y { paused = false }) pool)) pool ]
-      by_domain None e = refl
-      by_domain (Some x) e = ap (λ (b : Bool). cond b (queue_units g d (numbers_from 0 (unit_count g x)) (change_domain d (λ y. record y { paused = false }) pool)) pool) (sym e)
 
 -- what is known of a domain that may part
 module _ (g t d : ℕ) (pool : Pool) (holds : Holds g t pool) (enabled : enabled_in g t pool (DomMoved (domain_number d)) ≡ true) where

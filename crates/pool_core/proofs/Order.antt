@@ -38,7 +38,6 @@ use Rattle.core_state.specs.Seen.{Seen as CoresSeen, processor_among}
 use Rattle.pool_core.specs.PoolState.{AreWorks}
 use Rattle.pool_core.specs.Seen.{pool_of}
 use Rattle.pool_core.specs.Order.{IsFirstEnabled, IsFirstIn, IsFirstWhere, is_any, IsNotAfter, index_place, kind_place, subject_place}
-use Rattle.std.proofs.Math.Bool.{and-false}
 use Rattle.pool_laws.proofs.ActionOrder.{action_at, later_kind, of_kind}
 use Rattle.sched_laws.proofs.Lists.{has_come-le}
 
@@ -221,9 +220,6 @@ module _ (g t : ℕ) (pool : Pool) where
   no_timer none = joined is_any g t pool 7 8 9 None (omega arith)
       (none_at is_any g t pool 7 (λ i n own. let u : UnitId = record { dom = domain i; n = n } in none (timer.Repl u)))
       (none_at is_any g t pool 8 (λ i n own. none (timer.Refill (domain i))))
-
-  pub no_timer_up : AreOn pool → has_come t (lowest_end pool) ≡ false → IsFirstIn 7 9 g t pool None
-  no_timer_up on stalled = no_timer (λ x. timer_may on x ∙ ap (λ (b : Bool). has_come t (armed_at pool.scheduler x) && b) stalled ∙ and-false _)
 
   pub no_timer_due : AreOn pool → ((x : Timer) → has_come t (armed_at pool.scheduler x) ≡ false) → IsFirstIn 7 9 g t pool None
   no_timer_due on none = no_timer (λ x. timer_may on x ∙ ap (λ (b : Bool). b && has_come t (lowest_end pool)) (none x))

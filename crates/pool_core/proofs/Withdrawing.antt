@@ -1,17 +1,16 @@
 -- The units of a domain leave the queue, and the cores that run one are marked.
 use Rattle.std.proofs.Common.{◌≡◌, ◌<◌, ◌≤◌, ◌+◌, ℕ, Bool, true, false, List, [], ◌∷◌, refl, sym, ap, subst, ◌∙◌, cond, arith}
-use Rattle.std.specs.Prelude.{◌&&◌, ◌||◌, ◌==◌, not, nat_lt, filter, slice_set, Option, Some, None, option_map}
+use Rattle.std.specs.Prelude.{◌&&◌, ◌||◌, ◌==◌, not, nat_lt, filter, Option, Some, None, option_map}
 use Rattle.std.specs.List.{AllByRecursion}
 use Rattle.std.proofs.lemmas.Bool.{ltb-true, true_from_ne_false, not-true}
-use Rattle.std.proofs.lemmas.List.{set-get_or}
 use Rattle.sched_base.specs.declared.UnitId.{UnitId}
 use Rattle.sched_model.specs.declared.state.Domain.{Domain}
 use Rattle.sched_model.specs.declared.state.Pool.{Pool}
 use Rattle.sched_model.specs.declared.state.Resource.{Resource}
 use Rattle.sched_model.specs.declared.state.Scheduler.{Scheduler}
-use Rattle.sched_model.specs.Places.{at_place, change_at, has_unit, is_unit, same_unit, test_at}
+use Rattle.sched_model.specs.Places.{at_place, has_unit, is_unit, same_unit}
 use Rattle.sched_model.specs.Policy.{dequeue_domain}
-use Rattle.sched_model.specs.Pool.{is_of_domain, is_off, set_pending, unit_count}
+use Rattle.sched_model.specs.Pool.{is_off, unit_count}
 use Rattle.sched_model.specs.State.{is_runnable}
 use Rattle.sched_base.proofs.Bools.{and_left}
 use Rattle.sched_laws.proofs.Counts.{some_numbered, times-filter_yes, times_none, times_some, without_absent}
@@ -20,7 +19,6 @@ use Rattle.sched_base.proofs.Lists.{AllByRecursion-map}
 use Rattle.sched_laws.specs.PoolFacts.{OnePlace, core_places}
 use Rattle.sched_laws.proofs.Calm.{each_of}
 use Rattle.sched_ops.specs.Seen.{Seen as SchedulerSeen, dequeue, units_of, with_scheduler}
-use Rattle.plain_pool.specs.Marks.{pending_of}
 use Rattle.pool_kept.specs.Holds.{HasMembers}
 use Rattle.pool_kept.proofs.Alike.{units_in, units_of_is}
 use Rattle.pool_kept.proofs.Members.{runnable_member}
@@ -141,22 +139,6 @@ below_all g d n pool some one has over =
     let here : u.n < units_of pool.scheduler d = subst (λ (k : ℕ). u.n < units_of pool.scheduler k) same below in
     omega (arith, here, over)))
     pool.scheduler.queue one.waits))
-
--- the core is marked where it runs a unit of the domain
-module _ (d r : ℕ) (cores : List (Option Resource)) where
-  pub marked_some : test_at cores r (λ c. is_of_domain d c.cur) ≡ true → change_at r set_pending cores ≡ change_at r (pending_of d r) cores
-  marked_some is = ap (slice_set cores r) (by_core (at_place cores r) is)
-    where
-      by_core : (o : Option Resource) → elim o as (λ _. Bool) [ None ↦ false | Some c ↦ is_of_domain d c.cur ] ≡ true → option_map set_pending o ≡ option_map (pending_of d r) o
-      by_core None e = absurd (cc)
-      by_core (Some c) e = ap (λ (b : Bool). Some (cond b (set_pending c) c)) (sym e)
-
-  pub marked_none : test_at cores r (λ c. is_of_domain d c.cur) ≡ false → cores ≡ change_at r (pending_of d r) cores
-  marked_none is = sym (ap (slice_set cores r) (sym (by_core (at_place cores r) is)) ∙ set-get_or cores r None)
-    where
-      by_core : (o : Option Resource) → elim o as (λ _. Bool) [ None ↦ false | Some c ↦ is_of_domain d c.cur ] ≡ false → o ≡ option_map (pending_of d r) o
-      by_core None e = refl
-      by_core (Some c) e = ap (λ (b : Bool). Some (cond b (set_pending c) c)) (sym e)
 
 -- the scheduler knows as many units of the domain as the domain has
 pub units_known : (g d : ℕ) (pool : Pool) → HasMembers g pool → units_of pool.scheduler d ≡ units_at g (at_place pool.domains d)

@@ -1,11 +1,9 @@
 -- A vCPU that is started is run by a processor: what each step keeps of that.
-use Rattle.std.proofs.Common.{◌≡◌, ◌≢◌, ◌<◌, ◌⊎◌, ℕ, zero, suc, Bool, true, false, List, [], ◌∷◌, refl, arith, subst, sym, ◌∙◌, ap, inl, inr}
+use Rattle.std.proofs.Common.{◌≡◌, ◌≢◌, ◌<◌, ◌⊎◌, ℕ, zero, suc, Bool, true, false, List, [], ◌∷◌, refl, subst, sym, ◌∙◌, ap, inl, inr}
 use Rattle.std.specs.Prelude.{Option, Some, None, option_map, slice_get, not, ◌+◌, ◌*◌, ◌/◌, ◌%◌, ◌&&◌}
 use Rattle.std.proofs.Math.Decide.{ℕ_discrete}
-use Rattle.std.proofs.Math.Nat.{div-add-mod}
 use Rattle.sched_base.specs.Numbers.{moment, domain as domain_number, pool as pool_number, core, processor}
 use Rattle.sched_base.specs.declared.Moment.{Moment}
-use Rattle.sched_base.specs.declared.UnitId.{UnitId}
 use Rattle.sched_base.specs.declared.VcpuId.{VcpuId}
 use Rattle.sched_model.specs.declared.action.Action.TheVariants.{Moved, Leave}
 use Rattle.sched_model.specs.declared.config.DomParams.{DomParams}
@@ -26,13 +24,8 @@ use Rattle.sched_model.specs.Policy.{decision_of}
 use Rattle.sched_model.specs.Pool as pools
 use Rattle.sched_model.specs.Pool.{ask_of, change_core, change_domain, change_processor, change_vcpu, decided_core, with_doing, enabled_in, guest_of, same_choice, set_moving, set_params, started_on, unit_count, with_domain, without_domain}
 use Rattle.sched_laws.proofs.EachPlace.{read_change_at, read_clear_at, read_put_at, at_place-put_at, place_below, at_place-put_at_other, at_place-clear_at_other, by_option, by_test}
-use Rattle.sched_laws.specs.PoolFacts.{IsKnownPool}
 use Rattle.sched_laws.proofs.Sound.{read_change_item, processor_of_is, guest_of_is}
 use Rattle.sched_laws.specs.PoolFacts.{AreSound}
-use Rattle.sched_laws.proofs.Counts.{total_two}
-use Rattle.sched_laws.specs.Counts.{one_at}
-use Rattle.sched_laws.proofs.OnePlace.{one_same}
-use Rattle.sched_laws.specs.PoolFacts.{core_places}
 use Rattle.sched_base.proofs.Bools.{and_left, and_right}
 use Rattle.pool_kept.specs.Holds.{HaveProcessors}
 use Rattle.pool_kept.proofs.Alike.{AreAlike, alike_like, alike_change_at}
@@ -389,22 +382,3 @@ module _ (g : ℕ) where
   started_without_domain d pool have =
       from_have (without_domain d pool) (have_domains pool.domains (clear_at d pool.domains) pool.resources
       (λ v x from is started. (let now = vcpu_is (clear_at d pool.domains) v x is in let was = read_clear_at d v.dom.0 pool.domains now.0 now.1 in (x, vcpu_there pool.domains v now.0 x was.1 now.2, started))) (to_have pool have))
-
-  -- a vCPU is run by one processor at most
-  pub one_processor : 0 < g → (pool : Pool) → IsKnownPool g pool → (p q : ℕ) (v : VcpuId) → guest_of g pool p ≡ Some v → guest_of g pool q ≡ Some v → p ≡ q
-  one_processor some pool known p q v on_p on_q =
-      let a = guest_of_is g pool p v on_p in
-      let b = guest_of_is g pool q v on_q in
-      let at_a = (known.sound (p / g) a.0 a.2).guests (p % g) a.1 v a.3 a.4 in
-      let at_b = (known.sound (q / g) b.0 b.2).guests (q % g) b.1 v b.3 b.4 in
-      let same_place : p % g ≡ q % g = sym at_a.1 ∙ at_b.1 in
-      elim (ℕ_discrete (p / g) (q / g)) [
-        | yes same ↦ sym (div-add-mod p g) ∙ ap (λ (k : ℕ). g * k + p % g) same ∙ ap (λ (k : ℕ). g * (q / g) + k) same_place ∙ div-add-mod q g
-        | no other ↦ absurd (
-            let u : UnitId = pools.unit_of g v in
-            let two = total_two (core_places u) (p / g) (q / g) a.0 b.0 pool.resources other a.2 b.2 in
-            let has_a : one_at u a.0.cur ≡ 1 = ap (one_at u) at_a.0 ∙ one_same u in
-            let has_b : one_at u b.0.cur ≡ 1 = ap (one_at u) at_b.0 ∙ one_same u in
-            let most = known.one.most u in
-            omega (arith, two, has_a, has_b, most))
-      ]

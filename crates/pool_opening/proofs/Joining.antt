@@ -1,5 +1,5 @@
 -- The domains come in one after another.
-use Rattle.std.proofs.Common.{◌≡◌, ◌≤◌, ◌<◌, ◌+◌, ◌-◌, ◌/◌, ℕ, zero, suc, Bool, true, false, List, [], ◌∷◌, refl, sym, ap, subst, ◌∙◌, cond, arith, length, inl, inr}
+use Rattle.std.proofs.Common.{◌≡◌, ◌≤◌, ◌<◌, ◌+◌, ◌-◌, ◌/◌, ℕ, zero, suc, Bool, true, false, List, [], ◌∷◌, sym, ap, subst, ◌∙◌, cond, arith, length, inl, inr}
 use Rattle.std.specs.Prelude.{Option, Some, None, drop, map, slice_get, ◌==◌}
 use Rattle.std.proofs.lemmas.List.{length-append, length-map}
 use Rattle.sched_base.specs.Numbers.{domain}
@@ -12,7 +12,7 @@ use Rattle.sched_model.specs.declared.state.Domain.{Domain}
 use Rattle.sched_model.specs.declared.state.Vcpu.{Vcpu}
 use Rattle.sched_model.specs.declared.config.ParamChange.TheVariants as changes
 use Rattle.sched_model.specs.Actions.{units_from, configured_units}
-use Rattle.sched_model.specs.CheckedMachine.{IsCheckedConfig, IsCheckedDomain, IsGranularity}
+use Rattle.sched_model.specs.CheckedMachine.{IsCheckedConfig, IsCheckedDomain}
 use Rattle.sched_model.specs.Opening.{fresh_vcpu, with_configured, with_domains, with_pins, fresh_domain}
 use Rattle.sched_model.specs.Places.{numbers_from, put_at}
 use Rattle.sched_model.specs.Pool.{set_params, settled_pool, unit_count, with_domain}
@@ -159,13 +159,6 @@ given config home d joining seen vcpus opening same =
 pub pinned_still : (d n : ℕ) (cores : Cores) (seen : Seen) → IsStill seen → seen_at 0 (settled_pool 0 (set_params (changes.Pin (domain d) (Some n) cores) 0 seen.pool)) seen ≡ with_pool (with_pins d n (cores ∷ []) seen.pool) seen
 pinned_still d n cores seen still = stays (set_params (changes.Pin (domain d) (Some n) cores) 0 seen.pool) seen still.early still.pending
 
--- a domain has at most 32 units
-pub few_units : (g : ℕ) (joining : DomConfig) → IsGranularity g → length joining.guests ≤ 32 → configured_units g joining ≤ 32
-few_units g joining one_of few = elim one_of [
-  | inl one ↦ rw one (omega (arith, few))
-  | inr more ↦ elim more [ inl two ↦ rw two (omega (arith, few)) | inr four ↦ rw four (omega (arith, few)) ]
-]
-
 module _ (config : Config) (home : PoolConfig) (d : ℕ) (joining : DomConfig) (seen : Seen) (opening : IsOpening config home d seen) (inside : d < length config.domains) where
   set_place : d < length seen.pool.scheduler.affinity
   set_place = let all = opening.sets in omega (arith, all, inside)
@@ -185,12 +178,6 @@ first_left (suc i) (y ∷ xs) x at = first_left i xs x at
 first_and_left : {X : Type 0} (i : ℕ) (xs : List X) (x : X) → slice_get xs i ≡ Some x → drop i xs ≡ x ∷ drop (i + 1) xs
 first_and_left i xs x at = let next : suc i ≡ i + 1 = omega arith in first_left i xs x at ∙ ap (λ (k : ℕ). x ∷ drop k xs) next
 
-none_left : {X : Type 0} (i : ℕ) (xs : List X) → length xs ≤ i → drop i xs ≡ []
-none_left zero [] past = refl
-none_left (suc i) [] past = refl
-none_left zero (x ∷ xs) past = absurd (omega (arith, past))
-none_left (suc i) (x ∷ xs) past = none_left i xs (omega (arith, past))
-
 -- the domains below d came in, and there is room for the others
 pub record IsBetween (config : Config) (i : ℕ) (home : PoolConfig) (d : ℕ) (first now : Seen) : Type 0 where
   pub opening : IsOpening config home d now
@@ -199,9 +186,6 @@ pub record IsBetween (config : Config) (i : ℕ) (home : PoolConfig) (d : ℕ) (
   pub inside : d ≤ length config.domains
 
 module _ (config : Config) (i : ℕ) (home : PoolConfig) (first : Seen) where
-  pub between_first : IsOpening config home 0 first → units_at_home config.granularity i config.domains ≤ first.spare → IsBetween config i home 0 first first
-  between_first opening room = record { opening = opening; rest = refl; room = room; inside = omega arith }
-
   module _ (d : ℕ) (now : Seen) (between : IsBetween config i home d first now) where
     pub next_fits : (joining : DomConfig) → slice_get config.domains d ≡ Some joining → units_if_home config.granularity i joining ≤ now.spare
     next_fits joining at =
@@ -223,12 +207,3 @@ module _ (config : Config) (i : ℕ) (home : PoolConfig) (first : Seen) where
               (left_room g i d joining (drop (d + 1) config.domains) now (subst (λ (list : List DomConfig). units_at_home g i list ≤ now.spare) left between.room));
           inside = omega (arith, inside);
         }
-
-    -- all came in
-    pub between_last : length config.domains ≤ d → now ≡ with_all config.granularity i 0 config.domains first
-    between_last past =
-        let same : now.spare ≡ now.spare - 0 = omega arith in
-        ap (λ (k : ℕ). record now { spare = k }) same ∙ ap (λ (list : List DomConfig). with_all config.granularity i d list now) (sym (none_left d config.domains past)) ∙ between.rest
-
-    pub opened_last : length config.domains ≤ d → IsOpening config home (length config.domains) now
-    opened_last past = (let all = between.inside in let same : d ≡ length config.domains = omega (arith, past, all) in subst (λ (k : ℕ). IsOpening config home k now) same between.opening)

@@ -42,10 +42,6 @@ pub record StandsAt (w : Told) (i : ℕ) (slot : Option Seen) : Type 0 where
   pub part : slot_part slot ≡ part_at w.input w.history i
   pub suits : ForSome slot (SlotSuits w.input (state_of w).now)
 
--- the same of a place that has the pool
-abbrev pub StandsIn : Told → ℕ → Seen → Type 0
-StandsIn w i seen = StandsAt w i (Some seen)
-
 -- the 16 places of a machine's pools, each the part of its number
 pub record AllStand (w : Told) (slots : List (Option Seen)) : Type 0 where
   pub count : length slots ≡ 16

@@ -123,12 +123,6 @@ pub record PoolIsReady (m : Machine) (t : ℕ) (pool : Pool) : Type 0 where
   pub calms : IsCalm t pool
 
 module _ (m : Machine) (t : ℕ) where
-  abbrev N : ℕ
-  N = core_count m.config
-
-  abbrev G : ℕ
-  G = m.config.granularity
-
   pub ready_steps : IsKeptAt m t NoEnd (Whole m.config.granularity) NoDomain (PoolIsReady m t) (PoolIsFit m t)
   ready_steps =
       let own = units_are_own m.config.granularity in

@@ -48,10 +48,6 @@ is_enabled m s t Xl = elim (slice_get m.work.commands s.next_command) [ None ↦
 is_enabled m s t (Moved r) = test_at s.free r.0 (free_ready t) || enabled_at_home m s t (Moved r)
 is_enabled m s t action = enabled_at_home m s t action
 
--- the actions that may come at t, in order
-abbrev pub enabled_actions : Machine → State → ℕ → List Action
-enabled_actions m s t = filter (is_enabled m s t) (candidates m.config)
-
 -- the first action that may come at t
 abbrev pub first_enabled : Machine → State → ℕ → Option Action
 first_enabled m s t = find (is_enabled m s t) (candidates m.config)

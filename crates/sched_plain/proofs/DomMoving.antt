@@ -1,10 +1,9 @@
 -- A domain that moves: what is in range on the way, what is printed, and what is left.
-use Rattle.std.proofs.Common.{◌≡◌, ◌≤◌, ◌∙◌, ℕ, zero, suc, Bool, true, false, List, [], ◌∷◌, length, refl, sym, ap, subst, arith}
-use Rattle.std.specs.Prelude.{Option, Some, None, is_some, unwrap_or, ◌==◌}
-use Rattle.sched_base.specs.Numbers.{domain as domain_number, pool as pool_number}
+use Rattle.std.proofs.Common.{◌≡◌, ◌≤◌, ◌∙◌, ℕ, zero, suc, true, List, [], ◌∷◌, length, refl, sym, ap, subst, arith}
+use Rattle.std.specs.Prelude.{Option, Some, None, ◌==◌}
+use Rattle.sched_base.specs.Numbers.{domain as domain_number}
 use Rattle.sched_base.specs.declared.PoolId.{PoolId}
 use Rattle.sched_base.specs.declared.UnitId.{UnitId}
-use Rattle.sched_base.proofs.Bools.{and_left}
 use Rattle.sched_model.specs.declared.action.Action.TheVariants.{DomMoved}
 use Rattle.sched_model.specs.declared.event.Event.TheVariants as event
 use Rattle.sched_model.specs.declared.machine.Machine.{Machine}
@@ -16,10 +15,10 @@ use Rattle.sched_model.specs.declared.state.Records.TheVariants.{Credit2Pool, Rt
 use Rattle.sched_model.specs.declared.state.State.{State}
 use Rattle.std.specs.List.{All}
 use Rattle.sched_model.specs.Actions.{change_pool, home_of_domain}
-use Rattle.sched_model.specs.Machine.{after, event_of, is_enabled, home_pool, is_null, joined_by, left_by}
-use Rattle.sched_model.specs.Places.{at_place, change_at, clear_at, test_at, AllPlaces}
+use Rattle.sched_model.specs.Machine.{after, is_enabled, is_null, joined_by, left_by}
+use Rattle.sched_model.specs.Places.{at_place, change_at, clear_at, AllPlaces}
 use Rattle.sched_model.specs.Policy.{default_dom_params, parted_records}
-use Rattle.sched_model.specs.Pool.{enabled_in, event_in, settled_pool, reconsidered_core, home_cores, with_domain, without_domain}
+use Rattle.sched_model.specs.Pool.{settled_pool, reconsidered_core, home_cores, with_domain, without_domain}
 use Rattle.sched_laws.specs.EachPlace.{EachPlace}
 use Rattle.sched_laws.proofs.EachPlace.{EachPlace-change_at, EachPlace-clear_at, by_cond, length_change_each, length_set}
 use Rattle.sched_laws.proofs.NullKept.{length_released}
@@ -32,7 +31,7 @@ use Rattle.sched_plain.specs.Moves.{domain_in, target_in}
 use Rattle.sched_plain.specs.ReachedStates.{Stands}
 use Rattle.sched_plain.proofs.Reaching.{stands-after}
 use Rattle.sched_plain.proofs.Bridges.{stands-pool}
-use Rattle.sched_plain.proofs.Performing.{home_pool-there, settled-back}
+use Rattle.sched_plain.proofs.Performing.{settled-back}
 
 -- the records after a domain has parted
 parted-fit : (t d : ℕ) (records : Records) → RecordsFit t records → RecordsFit t (parted_records records d)
@@ -83,34 +82,9 @@ some_through None f y is = absurd (cc)
 some_through (Some x) f y is = (x, refl, is)
 
 module _ (m : Machine) (s : State) (t d : ℕ) where
-  -- where the move may come, the domain is moving
-  pub moving-there : (i : ℕ) (pool : Pool) → enabled_in m.config.granularity t pool (DomMoved (domain_number d)) ≡ true → at_place s.pools i ≡ Some pool → target_in d i s.pools ≡ None → ⊥
-  moving-there i pool enabled there none =
-      let passes : test_at pool.domains d (λ (domain : Domain). is_some domain.moving) ≡ true = and_left (test_at pool.domains d (λ (domain : Domain). is_some domain.moving)) _ enabled in
-      let away : elim (at_place pool.domains d) as (λ _. Option PoolId) [ None ↦ None | Some domain ↦ domain.moving ] ≡ None = subst (λ (o : Option Pool). elim (elim o as (λ _. Option Domain) [ None ↦ None | Some x ↦ at_place x.domains d ]) as (λ _. Option PoolId) [ None ↦ None | Some domain ↦ domain.moving ] ≡ None) there none in
-      none_passes (at_place pool.domains d) passes away
-    where
-      none_passes : (o : Option Domain) → elim o as (λ _. Bool) [ None ↦ false | Some x ↦ is_some x.moving ] ≡ true → elim o as (λ _. Option PoolId) [ None ↦ None | Some domain ↦ domain.moving ] ≡ None → ⊥
-      none_passes None passes away = absurd (cc)
-      none_passes (Some x) passes away = (let off : is_some x.moving ≡ false = ap (λ (o : Option PoolId). is_some o) away in cc)
-
-  -- the domain that is moving is there
-  pub domain-there : (i : ℕ) (to : PoolId) → target_in d i s.pools ≡ Some to → domain_in d i s.pools ≡ None → ⊥
-  domain-there i to target none = (let away : target_in d i s.pools ≡ None = ap (λ (o : Option Domain). elim o as (λ _. Option PoolId) [ None ↦ None | Some domain ↦ domain.moving ]) none in cc)
-
   module _ (i : ℕ) (to : PoolId) (domain : Domain) (home : home_of_domain s d ≡ Some i) (target : target_in d i s.pools ≡ Some to) (there : domain_in d i s.pools ≡ Some domain) where
     moves : domain.moving ≡ Some to
     moves = (let is : target_in d i s.pools ≡ domain.moving = ap (λ (o : Option Domain). elim o as (λ _. Option PoolId) [ None ↦ None | Some x ↦ x.moving ]) there in sym is ∙ target)
-
-    -- what is printed
-    pub dom-event : event.DomMoved (domain_number d) to ≡ event_of m s t (DomMoved (domain_number d))
-    dom-event =
-        let pool = some_through (at_place s.pools i) (λ (x : Pool). at_place x.domains d) domain there in
-        let is : home_pool m s (DomMoved (domain_number d)) ≡ pool.0 = home_pool-there m s t (DomMoved (domain_number d)) i pool.0 home pool.1 in
-        let printed : event_in m.config.granularity t pool.0 (DomMoved (domain_number d)) ≡ event.DomMoved (domain_number d) to =
-        ap (λ (o : Option Domain). event.DomMoved (domain_number d) (elim o as (λ _. PoolId) [ None ↦ pool_number 0 | Some x ↦ unwrap_or x.moving (pool_number 0) ])) pool.2
-        ∙ ap (λ (o : Option PoolId). event.DomMoved (domain_number d) (unwrap_or o (pool_number 0))) moves in
-        sym (ap (λ (x : Pool). event_in m.config.granularity t x (DomMoved (domain_number d))) is ∙ printed)
 
     -- what is left
     pub dom-state : let left : State = record s { pools = change_at to.0 (joined_by m.config.granularity t d domain) (change_at i (left_by t d) s.pools) } in left ≡ after m s t (DomMoved (domain_number d))

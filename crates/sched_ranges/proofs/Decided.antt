@@ -127,9 +127,6 @@ module _ (t : ℕ) (C : ℕ → ℕ → Type 0) where
       (λ scans. greatest_has P records (own_candidate ask scheduler records) _ own
       (AllByRecursion-filter (λ u. Unit {0}) P (is_eligible (record scheduler { records = Credit2Pool records }) ask.home.0 ask.core.0 ask.at.0) (λ u passes all. and_right (is_allowed (record scheduler { records = Credit2Pool records }) ask.home.0 ask.core.0 u) (domain_has_budget records u) passes) scheduler.queue (all_units scheduler.queue))))
 
-  same_unit_at : (u : UnitId) (d n : ℕ) → Is u d n → (P : ℕ → ℕ → Type 0) → P u.dom.0 u.n → P d n
-  same_unit_at u d n is P here = subst (λ k. P k n) (sym is.0) (subst (λ k. P u.dom.0 k) (sym is.1) here)
-
   -- a decision for a unit that is the core's own, or does not run
   module _ (ask : Ask) (scheduler : Scheduler) (records : Credit2Records) (now : ask.at.0 ≡ t) (fits : Budgets t C None2 None2 records) where
     abbrev burned : Credit2Records

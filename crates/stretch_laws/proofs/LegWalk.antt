@@ -11,7 +11,6 @@ use Rattle.sched_model.specs.declared.config.DomParams.{DomParams}
 use Rattle.sched_model.specs.declared.config.DomParams.TheVariants as dom_params
 use Rattle.sched_model.specs.declared.config.ParamChange.{ParamChange}
 use Rattle.sched_model.specs.declared.config.ParamChange.TheVariants as changes
-use Rattle.sched_model.specs.declared.config.PoolParams.{PoolParams}
 use Rattle.sched_model.specs.declared.config.PoolParams.TheVariants as pool_params
 use Rattle.sched_model.specs.declared.state.Domain.{Domain}
 use Rattle.sched_model.specs.declared.state.Resource.{Resource}
@@ -28,13 +27,13 @@ use Rattle.sched_model.specs.EligibleUnits.{rtds_unit}
 use Rattle.sched_model.specs.Rtds as rtds
 use Rattle.sched_model.specs.Credit2 as credit2
 use Rattle.sched_model.specs.Policy as policy
-use Rattle.sched_model.specs.Policy.{rtds_record, changed_records, joined_records, parted_records, fresh_records}
+use Rattle.sched_model.specs.Policy.{rtds_record, changed_records, joined_records, parted_records}
 use Rattle.sched_model.specs.Commands.{set_rtds_unit}
 use Rattle.sched_model.specs.Pool as pools
 use Rattle.sched_model.specs.Pool.{change_core, change_domain, set_moving, set_params, without_domain, with_domain}
 use Rattle.sched_laws.specs.EachPlace.{EachAt}
 use Rattle.sched_laws.proofs.Events.{LikePlaces, like_was, like_map, like_change_at, like_of_domain, capped, KeepsCore, KeptByCommands, KeptByParts, commands_of, kept_withdrawn, kept_marked, kept_queue_units}
-use Rattle.sched_laws.proofs.EachPlace.{EachAt-put_at, EachAt-clear_at, EachPlace-empty, read_put_at, read_clear_at, by_option}
+use Rattle.sched_laws.proofs.EachPlace.{EachAt-put_at, EachAt-clear_at, read_put_at, read_clear_at, by_option}
 use Rattle.turn_laws.specs.Stretches.{Legs, cores}
 use Rattle.stretch_laws.proofs.LegCharges.{Lasts, lasts_later, EachItem, RtdsUnitKept, RtdsKept, rtds_change, UnitKept, DomainKept, Credit2Kept, c_refilled, c_set_domain}
 use Rattle.sched_laws.proofs.Events.{SameCur, Stays}
@@ -171,11 +170,6 @@ module _ (g t : ℕ) (legs : Legs) where
     r_changed (RtdsPool domains) change sound kept = kept
     r_changed records (changes.Frame frame) sound kept = tt
     r_changed records change sound kept = tt
-
-    r_fresh : (params : PoolParams) (domains count : ℕ) → Charged On t (fresh_records params domains count)
-    r_fresh (pool_params.Credit2 rate) domains count = λ d x at. absurd (EachPlace-empty {X = Credit2Domain} (λ y. ⊥) domains d x at)
-    r_fresh pool_params.Rtds domains count = λ d units at. absurd (EachPlace-empty {X = List RtdsUnit} (λ y. ⊥) domains d units at)
-    r_fresh other domains count = tt
 
   -- every event but a decision
   pub w_parts : KeptByParts g t (λ pool action. ((r : ℕ) → action ≡ Decide (core r) → ⊥) × Sound pool.scheduler.records) IsLegged

@@ -70,9 +70,6 @@ due_falls u n t budget due cores r at =
     ]
 
 module _ (t : ℕ) (v : UnitId) (p : Pool) where
-  next_pool : Pool
-  next_pool = with_records (policy.replenish p.scheduler.records t v) p
-
   -- what the cores of the pool keep
   by_cores : (Q : Pool → Type 0) → Q (with_records (policy.replenish p.scheduler.records t v) p) → ((n : ℕ) (budget : ℕ) → Q (record (with_records (policy.replenish p.scheduler.records t v) p) { resources = change_at n (due_within t budget) p.resources })) → Q (after_replenish t v p)
   by_cores Q here changed =

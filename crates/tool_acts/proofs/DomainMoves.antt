@@ -350,9 +350,6 @@ module _ (w : Told) (t : ℕ) (route : DomainRoute) (moves : MovesDomain w t rou
         let still : DomainInRange m s.now d (record finds.domain { moving = None }) = record { config = range.config; at = range.at; count = range.count; vcpus = range.vcpus } in
         subst (λ (x : DomId). DomainInRange m s.now x.0 joining) (sym gone.number) (subst (λ (x : Domain). DomainInRange m s.now d (record x { moving = None })) (sym same-domain) still)
 
-    pub joining-part : IsPart (record part { domain = joining })
-    joining-part = (let p = gone.is_part in record { number = p.number; granularity = p.granularity; guests = record { some = p.guests.some; few = p.guests.few; vcpus = p.guests.vcpus }; still = p.still })
-
     module _ (old : Option Seen) (stands : StandsAt w j old) where
       to-there : (seen : Seen) × (old ≡ Some seen) × (at_place s.pools j ≡ Some seen.pool)
       to-there = slot-there w j old stands finds.target

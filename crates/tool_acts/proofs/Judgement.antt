@@ -76,10 +76,6 @@ units-are : (g : ℕ) (s : State) (i : PoolId) (d : Option DomId) → stored_at 
 units-are g s i None = elim (at_place s.pools i.0) as (λ o. [] ≡ units_by g None o) [ None ↦ refl | Some pool ↦ refl ]
 units-are g s i (Some d) = refl
 
-no-units : (g : ℕ) (s : State) (d : Option DomId) → stored_at g s (record { pool = None; dom = d }) ≡ []
-no-units g s None = refl
-no-units g s (Some d) = refl
-
 -- a subject with a pool, by its place
 module _ (w : Told) (slots : List (Option Seen)) (goes : GoesOn w) (all : AllStand w slots) (subject : Subject) (i : PoolId) (at : subject.pool ≡ Some i) where
   abbrev g : ℕ

@@ -175,12 +175,6 @@ module _ (w : Told) (slots : List (Option Seen)) (tool : Tool) (parts : AreParts
     gone : FindsPool s i.0 HasNothing
     gone = subst (Finds m s) destroys.is (accepted-finds w parts.goes p accepted)
 
-    gone-says : verdict m s accepted.line ≡ Ok (plan.PoolDestroy i destroys.answer)
-    gone-says = accepted.accepted ∙ ap (λ (q : Plan). Ok q) destroys.is
-
-    pub gone-there : IsSome (at_place s.pools i.0)
-    gone-there = ap (λ (o : Option Pool). is_some o) gone.at
-
     gone-low : i.0 < 16
     gone-low = (let below = place_below s.pools i.0 gone.pool gone.at in let places = (range-of w parts.goes).pool_places in omega (arith, below, places))
 

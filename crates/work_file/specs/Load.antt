@@ -117,7 +117,3 @@ load_domains seed processors domains = pools_text processors ++ domains_text pro
 -- the work file of the number, whose draws come behind those of the domains: ten stalls
 abbrev pub load_work : ℕ → ℕ → ℕ → List ℕ
 load_work seed processors domains = stalls_text processors 10 (after_domains domains seed)
-
--- the domain file and the work file of the number
-abbrev pub load_of : ℕ → ℕ → ℕ → List ℕ × List ℕ
-load_of seed processors domains = (load_domains seed processors domains, load_work seed processors domains)
