@@ -1,5 +1,4 @@
 -- What an accepted command does to the tool's part is what it does to the state.
-use Rattle.std.specs.Option.{option_or}
 use Rattle.sched_base.specs.Numbers.{pool as pool_number}
 use Rattle.std.proofs.Common.{◌≡◌, ◌+◌, ℕ, zero, suc, Bool, true, false, not, List, [], ◌∷◌, Option, Some, None, Result, Ok, Err, length, map, refl, sym, ◌∙◌, ap, cond, zero-add}
 use Rattle.std.specs.Prelude.{◌==◌, ◌&&◌, ◌||◌, is_some, option_map, slice_set, replicate}
@@ -38,6 +37,7 @@ use Rattle.cpupool.proofs.AnswerLemmas.{answer_change, answer_put, changed_answe
 use Rattle.cpupool.proofs.SubjectLemmas.{flag-there, there-map, length-map as length_map, map_none}
 use Rattle.cpupool.proofs.SightLemmas.{IsStill, map_change, outline_still, leaving_still, settled_still, params_still, withdrawn_still, pause_still, unpause_still, rtds_still}
 use Rattle.sched_laws.proofs.Records.{kind_default}
+use Rattle.journal_core.specs.Parts.{or_else}
 
 -- the tool sees the same of both states
 record IsSame (a b : State) : Type 0 where
@@ -100,7 +100,7 @@ empty_seen m s kind =
 
 empty_quiet : (m : Machine) (kind : SchedKind) (n : ℕ) → leaving_pool n (empty_pool m.config (default_pool_params kind)) ≡ None
 empty_quiet m kind n =
-    ap (λ a. option_or a (first_answer domain_moving 0 (replicate (length m.config.domains) None))) (no_answer core_leaving 0 (core_count m.config)) ∙ no_answer domain_moving 0 (length m.config.domains)
+    ap (λ a. or_else a (first_answer domain_moving 0 (replicate (length m.config.domains) None))) (no_answer core_leaving 0 (core_count m.config)) ∙ no_answer domain_moving 0 (length m.config.domains)
 
 -- a core sets out from its pool
 flags_change : {X : Type 0} (f : X → X) (i : ℕ) (places : List (Option X)) → map is_some (change_at i f places) ≡ map is_some places
@@ -116,10 +116,10 @@ core_sets_out : (r k : ℕ) (pool : Pool) → leaving_pool k pool ≡ None → l
 core_sets_out r k pool none =
     let split = none_either (first_answer core_leaving 0 pool.resources) (first_answer domain_moving 0 pool.domains) none in
     let g : Resource → Resource = λ c. record c { leaving = true; pending = c.pending || is_some c.cur } in
-    ap (λ b. option_or (first_answer core_leaving 0 (change_at r g pool.resources)) b) split.1
-    ∙ ap (λ a. option_or a None) (answer_put core_leaving g r 0 pool.resources split.0)
-    ∙ ap (λ n. option_or (changed_answer (λ (c : Resource). Some (core_to n None)) (at_place pool.resources r)) None) (zero-add r)
-    ∙ elim (at_place pool.resources r) as (λ o. option_or (changed_answer (λ (c : Resource). Some (core_to r None)) o) None ≡ cond (is_some o) (Some (core_to r None)) None) [ None ↦ refl | Some c ↦ refl ]
+    ap (λ b. or_else (first_answer core_leaving 0 (change_at r g pool.resources)) b) split.1
+    ∙ ap (λ a. or_else a None) (answer_put core_leaving g r 0 pool.resources split.0)
+    ∙ ap (λ n. or_else (changed_answer (λ (c : Resource). Some (core_to n None)) (at_place pool.resources r)) None) (zero-add r)
+    ∙ elim (at_place pool.resources r) as (λ o. or_else (changed_answer (λ (c : Resource). Some (core_to r None)) o) None ≡ cond (is_some o) (Some (core_to r None)) None) [ None ↦ refl | Some c ↦ refl ]
 
 -- a domain sets out from its pool
 moving_outline : (d j : ℕ) (pool : Pool) → outline_of (set_moving d j pool) ≡ outline_of pool
@@ -133,7 +133,7 @@ domain_sets_out d j k pool none =
     let split = none_either (first_answer core_leaving 0 pool.resources) (first_answer domain_moving 0 pool.domains) none in
     let f : Domain → Domain = λ domain. record domain { moving = Some (pool_number j) } in
     leaving_still k (set_moving d j pool) (change_domain d f pool) (withdrawn_still d (change_domain d f pool))
-    ∙ ap (λ a. option_or a (first_answer domain_moving 0 (change_at d f pool.domains))) split.0
+    ∙ ap (λ a. or_else a (first_answer domain_moving 0 (change_at d f pool.domains))) split.0
     ∙ answer_put domain_moving f d 0 pool.domains split.1
     ∙ ap (λ n. changed_answer (λ (x : Domain). Some (domain_to n j)) (at_place pool.domains d)) (zero-add d)
     ∙ elim (at_place pool.domains d) as (λ o. changed_answer (λ (x : Domain). Some (domain_to d j)) o ≡ cond (is_some o) (Some (domain_to d j)) None) [ None ↦ refl | Some x ↦ refl ]
@@ -147,17 +147,17 @@ module _ (m : Machine) (s : State) (idle : under_way_of s ≡ None) where
 
   -- one pool is changed, and what sets out from it is told by a test of its outline
   sets_out : (i : ℕ) (f : Pool → Pool) (way : UnderWay) (test : Outline → Bool) → ((k : ℕ) (pool : Pool) → leaving_pool k pool ≡ None → leaving_pool k (f pool) ≡ cond (test (outline_of pool)) (Some way) None)
-      → option_or (first_answer leaving_pool 0 (change_at i f s.pools)) (first_answer core_joining 0 s.free)
+      → or_else (first_answer leaving_pool 0 (change_at i f s.pools)) (first_answer core_joining 0 s.free)
       ≡ cond (elim (at_place (map (option_map outline_of) s.pools) i) [ None ↦ false | Some o ↦ test o ]) (Some way) None
   sets_out i f way test same =
       let tested : Option Outline → Option UnderWay = λ o. cond (elim o [ None ↦ false | Some x ↦ test x ]) (Some way) None in
-      ap (option_or (first_answer leaving_pool 0 (change_at i f s.pools))) none_joins
-      ∙ ap (λ a. option_or a None) (answer_put leaving_pool f i 0 s.pools none_leaves)
-      ∙ elim (at_place s.pools i) as (λ o. at_place s.pools i ≡ o → option_or (changed_answer (λ pool. leaving_pool (0 + i) (f pool)) o) None ≡ tested (option_map outline_of o)) [
+      ap (or_else (first_answer leaving_pool 0 (change_at i f s.pools))) none_joins
+      ∙ ap (λ a. or_else a None) (answer_put leaving_pool f i 0 s.pools none_leaves)
+      ∙ elim (at_place s.pools i) as (λ o. at_place s.pools i ≡ o → or_else (changed_answer (λ pool. leaving_pool (0 + i) (f pool)) o) None ≡ tested (option_map outline_of o)) [
         | None ↦ λ is. refl
         | Some pool ↦ λ is.
-            ap (λ a. option_or a None) (same (0 + i) pool (none_at leaving_pool i 0 s.pools pool none_leaves is))
-            ∙ elim (test (outline_of pool)) as (λ b. option_or (cond b (Some way) None) None ≡ cond b (Some way) None) [ true ↦ refl | false ↦ refl ]
+            ap (λ a. or_else a None) (same (0 + i) pool (none_at leaving_pool i 0 s.pools pool none_leaves is))
+            ∙ elim (test (outline_of pool)) as (λ b. or_else (cond b (Some way) None) None ≡ cond b (Some way) None) [ true ↦ refl | false ↦ refl ]
       ] refl
       ∙ ap tested (sym (at_place-map outline_of s.pools i))
 
@@ -194,12 +194,12 @@ module _ (m : Machine) (s : State) (idle : under_way_of s ≡ None) where
   added t i core answer =
       let g : FreeCore → FreeCore = λ c. record c { target = Some i.0 } in
       let ends = map_change ends_of g (λ c. refl) core.0 s.free in
-      let way = ap (λ a. option_or a (first_answer core_joining 0 (change_at core.0 g s.free))) none_leaves
+      let way = ap (λ a. or_else a (first_answer core_joining 0 (change_at core.0 g s.free))) none_leaves
       ∙ answer_put core_joining g core.0 0 s.free none_joins
       ∙ ap (λ n. changed_answer (λ (c : FreeCore). Some (core_to n (Some i.0))) (at_place s.free core.0)) (zero-add core.0)
       ∙ elim (at_place s.free core.0) as (λ o. changed_answer (λ (c : FreeCore). Some (core_to core.0 (Some i.0))) o ≡ cond (is_some o) (Some (core_to core.0 (Some i.0))) None) [ None ↦ refl | Some c ↦ refl ]
       ∙ ap (λ b. cond b (Some (core_to core.0 (Some i.0))) None) (sym (there-map ends_of s.free core.0)) in
-      ap (λ x. part_with (map (option_map outline_of) s.pools) x (option_or (first_answer leaving_pool 0 s.pools) (first_answer core_joining 0 (change_at core.0 g s.free)))) ends
+      ap (λ x. part_with (map (option_map outline_of) s.pools) x (or_else (first_answer leaving_pool 0 s.pools) (first_answer core_joining 0 (change_at core.0 g s.free)))) ends
       ∙ ap (part_with (map (option_map outline_of) s.pools) (map (option_map ends_of) s.free)) way
 
   removed : (t : ℕ) (i : PoolId) (core : ResId) (answer : Reply) → Carried t (plan.CpuRemove i core answer)
@@ -208,7 +208,7 @@ module _ (m : Machine) (s : State) (idle : under_way_of s ≡ None) where
       let outlines = map_change outline_of f (leaving_outline core.0) i.0 s.pools in
       let way = sets_out i.0 f (core_to core.0 None) (λ o. has_core o core.0)
       (λ k pool none. core_sets_out core.0 k pool none ∙ ap (λ b. cond b (Some (core_to core.0 None)) None) (sym (flag-there pool.resources core.0))) in
-      ap (λ x. part_with x (map (option_map ends_of) s.free) (option_or (first_answer leaving_pool 0 (change_at i.0 f s.pools)) (first_answer core_joining 0 s.free))) outlines
+      ap (λ x. part_with x (map (option_map ends_of) s.free) (or_else (first_answer leaving_pool 0 (change_at i.0 f s.pools)) (first_answer core_joining 0 s.free))) outlines
       ∙ ap (part_with (map (option_map outline_of) s.pools) (map (option_map ends_of) s.free)) way
 
   moved_out : (t : ℕ) (d : DomId) (i j : PoolId) → part_of_tool (change_pool i.0 (set_moving d.0 j.0) over) ≡ part_over (record (part_of_tool s) { under_way = cond (has_domain_at (part_of_tool s) i.0 d.0) (Some (domain_to d.0 j.0)) None })
@@ -217,7 +217,7 @@ module _ (m : Machine) (s : State) (idle : under_way_of s ≡ None) where
       let outlines = map_change outline_of f (moving_outline d.0 j.0) i.0 s.pools in
       let way = sets_out i.0 f (domain_to d.0 j.0) (λ o. is_some (at_place o.domains d.0))
       (λ k pool none. domain_sets_out d.0 j.0 k pool none ∙ ap (λ b. cond b (Some (domain_to d.0 j.0)) None) (sym (there-map (λ (x : Domain). length x.vcpus) pool.domains d.0))) in
-      ap (λ x. part_with x (map (option_map ends_of) s.free) (option_or (first_answer leaving_pool 0 (change_at i.0 f s.pools)) (first_answer core_joining 0 s.free))) outlines
+      ap (λ x. part_with x (map (option_map ends_of) s.free) (or_else (first_answer leaving_pool 0 (change_at i.0 f s.pools)) (first_answer core_joining 0 s.free))) outlines
       ∙ ap (part_with (map (option_map outline_of) s.pools) (map (option_map ends_of) s.free)) way
 
   migrated : (t : ℕ) (d : DomId) (i j : PoolId) (answer : Reply) → Carried t (plan.Migrate d i j answer)

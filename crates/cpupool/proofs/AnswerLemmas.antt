@@ -3,7 +3,7 @@ use Rattle.std.proofs.Common.{◌≡◌, ◌+◌, ℕ, zero, suc, List, [], ◌�
 use Rattle.std.specs.Prelude.{Option, Some, None, replicate}
 use Rattle.sched_model.specs.Places.{at_place, change_at, put_at, clear_at}
 use Rattle.journal_core.specs.Parts.{UnderWay, first_answer}
-use Rattle.std.specs.Option.{option_or}
+use Rattle.journal_core.specs.Parts.{or_else}
 
 -- one place changed without a change of its answer
 pub answer_change : {X Y : Type 0} (h : ℕ → X → Option Y) (f : X → X) → ((n : ℕ) (x : X) → h n (f x) ≡ h n x) → (i n : ℕ) (places : List (Option X)) → first_answer h n (change_at i f places) ≡ first_answer h n places
@@ -84,7 +84,7 @@ clear_none {X} {Y} h (suc i) n (Some z ∷ places) none =
     ap (λ (o : Option Y). elim o [ Some y ↦ Some y | None ↦ first_answer h (suc n) (clear_at i places) ]) (first_none h n z places none).0 ∙ clear_none h i (suc n) places (first_none h n z places none).1
 
 -- nothing is on its way from the pools, nor from the cores of none
-pub none_either : (a b : Option UnderWay) → option_or a b ≡ None → (a ≡ None) × (b ≡ None)
+pub none_either : (a b : Option UnderWay) → or_else a b ≡ None → (a ≡ None) × (b ≡ None)
 none_either None b none = (refl, none)
 none_either (Some way) b none = cc
 

@@ -1,5 +1,4 @@
 -- What the end of a move does to the tool's part is what it does to the state.
-use Rattle.std.specs.Option.{option_or}
 use Rattle.sched_base.specs.Numbers.{pool as pool_number}
 use Rattle.std.proofs.Common.{◌≡◌, ◌+◌, ℕ, zero, suc, Bool, true, false, List, [], ◌∷◌, Option, Some, None, length, map, refl, sym, ◌∙◌, ap, cond, subst, add-zero, zero-add, arith}
 use Rattle.std.specs.Prelude.{is_some, option_map}
@@ -38,6 +37,7 @@ use Rattle.cpupool.proofs.StallLemmas.{map_changed}
 use Rattle.cpupool.proofs.AnswerLemmas.{none_at, none_either}
 use Rattle.cpupool.specs.Tool.{size_of}
 use Rattle.journal_core.specs.Parts.{is_leaving}
+use Rattle.journal_core.specs.Parts.{or_else}
 
 -- the place that answers
 abbrev Found : {X Y : Type 0} → (ℕ → X → Option Y) → ℕ → List (Option X) → Y → Type 0
@@ -103,7 +103,7 @@ joining_no_domain (Some i) k d j found = cc
 pool_core : (n : ℕ) (pool : Pool) (r : ℕ) (to : Option ℕ) → leaving_pool n pool ≡ Some (core_to r to) → (is_some (at_place pool.resources r) ≡ true) × (to ≡ None)
 pool_core n pool r to found = by_core (first_answer core_leaving 0 pool.resources) found refl
   where
-    by_core : (a : Option UnderWay) → option_or a (first_answer domain_moving 0 pool.domains) ≡ Some (core_to r to) → first_answer core_leaving 0 pool.resources ≡ a → (is_some (at_place pool.resources r) ≡ true) × (to ≡ None)
+    by_core : (a : Option UnderWay) → or_else a (first_answer domain_moving 0 pool.domains) ≡ Some (core_to r to) → first_answer core_leaving 0 pool.resources ≡ a → (is_some (at_place pool.resources r) ≡ true) × (to ≡ None)
     by_core (Some way) found is =
         let there = answer_there core_leaving 0 pool.resources (core_to r to) (is ∙ found) in
         let told = leaving_core (there.1).leaving (0 + there.0) r to there.3 in
@@ -117,7 +117,7 @@ pool_core n pool r to found = by_core (first_answer core_leaving 0 pool.resource
 pool_domain : (n : ℕ) (pool : Pool) (d j : ℕ) → leaving_pool n pool ≡ Some (domain_to d j) → (domain : Domain) × (at_place pool.domains d ≡ Some domain) × (domain.moving ≡ Some (pool_number j))
 pool_domain n pool d j found = by_core (first_answer core_leaving 0 pool.resources) found refl
   where
-    by_core : (a : Option UnderWay) → option_or a (first_answer domain_moving 0 pool.domains) ≡ Some (domain_to d j) → first_answer core_leaving 0 pool.resources ≡ a
+    by_core : (a : Option UnderWay) → or_else a (first_answer domain_moving 0 pool.domains) ≡ Some (domain_to d j) → first_answer core_leaving 0 pool.resources ≡ a
         → (domain : Domain) × (at_place pool.domains d ≡ Some domain) × (domain.moving ≡ Some (pool_number j))
     by_core (Some way) found is =
         let there = answer_there core_leaving 0 pool.resources (domain_to d j) (is ∙ found) in
@@ -132,7 +132,7 @@ pool_domain n pool d j found = by_core (first_answer core_leaving 0 pool.resourc
 pub core_joins : (s : State) (r i : ℕ) → under_way_of s ≡ Some (core_to r (Some i)) → (c : FreeCore) × (at_place s.free r ≡ Some c) × (c.target ≡ Some i)
 core_joins s r i found = by_pools (first_answer leaving_pool 0 s.pools) found refl
   where
-    by_pools : (a : Option UnderWay) → option_or a (first_answer core_joining 0 s.free) ≡ Some (core_to r (Some i)) → first_answer leaving_pool 0 s.pools ≡ a
+    by_pools : (a : Option UnderWay) → or_else a (first_answer core_joining 0 s.free) ≡ Some (core_to r (Some i)) → first_answer leaving_pool 0 s.pools ≡ a
         → (c : FreeCore) × (at_place s.free r ≡ Some c) × (c.target ≡ Some i)
     by_pools (Some way) found is =
         let there = answer_there leaving_pool 0 s.pools (core_to r (Some i)) (is ∙ found) in
@@ -148,7 +148,7 @@ core_joins s r i found = by_pools (first_answer leaving_pool 0 s.pools) found re
 core_leaves : (s : State) (r : ℕ) → under_way_of s ≡ Some (core_to r None) → is_some (home_of_core s r) ≡ true
 core_leaves s r found = by_pools (first_answer leaving_pool 0 s.pools) found refl
   where
-    by_pools : (a : Option UnderWay) → option_or a (first_answer core_joining 0 s.free) ≡ Some (core_to r None) → first_answer leaving_pool 0 s.pools ≡ a → is_some (home_of_core s r) ≡ true
+    by_pools : (a : Option UnderWay) → or_else a (first_answer core_joining 0 s.free) ≡ Some (core_to r None) → first_answer leaving_pool 0 s.pools ≡ a → is_some (home_of_core s r) ≡ true
     by_pools (Some way) found is =
         let there = answer_there leaving_pool 0 s.pools (core_to r None) (is ∙ found) in
         let told = pool_core (0 + there.0) there.1 r None there.3 in
@@ -195,7 +195,7 @@ home_found d j n (Some pool ∷ places) found = by_pool (leaving_pool n pool) fo
         let by_place : Option Domain → Option ℕ = λ o. elim (is_some o) [ true ↦ Some n | false ↦ first_place (suc n) (λ (p : Pool). is_some (at_place p.domains d)) places ] in
         home_behind d j n (Some pool) places (ap by_place there) rest
 
-    by_pool : (a : Option UnderWay) → option_or a (first_answer leaving_pool (suc n) places) ≡ Some (domain_to d j) → leaving_pool n pool ≡ a
+    by_pool : (a : Option UnderWay) → or_else a (first_answer leaving_pool (suc n) places) ≡ Some (domain_to d j) → leaving_pool n pool ≡ a
         → (first_answer leaving_pool (suc n) places ≡ Some (domain_to d j) → HomeFound d j (suc n) places) → HomeFound d j n (Some pool ∷ places)
     by_pool (Some way) found is rest =
         let told = pool_domain n pool d j (is ∙ found) in
@@ -205,7 +205,7 @@ home_found d j n (Some pool ∷ places) found = by_pool (leaving_pool n pool) fo
 domain_goes : (s : State) (d j : ℕ) → under_way_of s ≡ Some (domain_to d j) → HomeFound d j 0 s.pools
 domain_goes s d j found = by_pools (first_answer leaving_pool 0 s.pools) found refl
   where
-    by_pools : (a : Option UnderWay) → option_or a (first_answer core_joining 0 s.free) ≡ Some (domain_to d j) → first_answer leaving_pool 0 s.pools ≡ a → HomeFound d j 0 s.pools
+    by_pools : (a : Option UnderWay) → or_else a (first_answer core_joining 0 s.free) ≡ Some (domain_to d j) → first_answer leaving_pool 0 s.pools ≡ a → HomeFound d j 0 s.pools
     by_pools (Some way) found is = home_found d j 0 s.pools (is ∙ found)
     by_pools None found is =
         let there = answer_there core_joining 0 s.free (domain_to d j) found in

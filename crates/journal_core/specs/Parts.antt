@@ -73,13 +73,17 @@ domain_moving d domain = option_map (λ i. domain_to d i.0) domain.moving
 abbrev pub core_joining : ℕ → FreeCore → Option UnderWay
 core_joining r c = option_map (λ (i : ℕ). core_to r (Some i)) c.target
 
+-- the first answer, or else the second
+abbrev pub or_else : Option UnderWay → Option UnderWay → Option UnderWay
+or_else first second = elim first [ Some way ↦ Some way | None ↦ second ]
+
 -- what is on its way from the pool
 abbrev pub leaving_pool : ℕ → Pool → Option UnderWay
-leaving_pool i pool = elim (first_answer core_leaving 0 pool.resources) [ Some way ↦ Some way | None ↦ first_answer domain_moving 0 pool.domains ]
+leaving_pool i pool = or_else (first_answer core_leaving 0 pool.resources) (first_answer domain_moving 0 pool.domains)
 
 -- what is on its way
 abbrev pub under_way_of : State → Option UnderWay
-under_way_of s = elim (first_answer leaving_pool 0 s.pools) [ Some way ↦ Some way | None ↦ first_answer core_joining 0 s.free ]
+under_way_of s = or_else (first_answer leaving_pool 0 s.pools) (first_answer core_joining 0 s.free)
 
 -- what the tool keeps of the state
 abbrev pub tool_of : State → ToolPart

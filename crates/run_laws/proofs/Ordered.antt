@@ -12,7 +12,7 @@ use Rattle.sched_model.specs.declared.machine.Machine.{Machine}
 use Rattle.sched_model.specs.declared.state.State.{State}
 use Rattle.sched_model.specs.Opening.{opening}
 use Rattle.sched_model.specs.Machine.{first_enabled, event_of, after, next_in_horizon, ordered_run}
-use Rattle.sched_model.specs.Runs.{Reached, action_of, end_of, IsRun, IsRunFrom, IsNextEvent, run_start, after_event, after_quiet}
+use Rattle.sched_model.specs.Runs.{Reached, action_of, end_of, IsRun, IsRunFrom, IsNextEvent, run_start, after_event, after_entry, after_entries, after_quiet}
 use Rattle.sched_model.proofs.RunLemmas.{action_of-event_of, after_entry-action, ordered_run-IsRunFrom}
 use Rattle.run_laws.specs.RunLaws.{TakesFirst, IsOrderedFrom, IsOrderedRun}
 use Rattle.sched_model.specs.Runs.{open_at}
