@@ -1,4 +1,4 @@
-//! The work file: stalls of processors, and commands, each at its moment. docs/FORMATS.md has the format.
+//! The work file: stalls of processors, and commands, each at its moment. docs/FORMATS-work.md has the format.
 #![tactic(auto)]
 
 ghost use Rattle.std.specs.Prelude.{◌≡◌, Ok, IfOk, IfErr};

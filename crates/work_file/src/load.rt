@@ -266,7 +266,7 @@ fn put_stalls(
 }
 
 /// The domain file and the work file that are made from the number: a machine with these many processors and domains,
-/// and ten stalls. docs/FORMATS.md has the rule. The one answer beside them is for want of memory.
+/// and ten stalls. docs/FORMATS-work.md has the rule. The one answer beside them is for want of memory.
 #[tactic(auto, using(crate::proofs::LengthLemmas::short_domains))]
 pub fn make_load(
     alloc: Global,

@@ -1,4 +1,4 @@
-//! The commands that steer a machine, read from their words. docs/FORMATS.md has the commands and their words.
+//! The commands that steer a machine, read from their words. docs/FORMATS-work.md has the commands and their words.
 #![tactic(auto)]
 
 ghost use Rattle.std.specs.Prelude.{◌≡◌, IfOk};
