@@ -14,7 +14,7 @@ pub shares-cons : (s : Seated) (seats : List Seated) → shares_of (s ∷ seats)
 shares-cons s seats = sum_by-cons shares_in s seats
 
 pub shares-push : (seats : List Seated) (s : Seated) → shares_of (seats ++ s ∷ []) ≡ shares_of seats + s.sitting.view.shares
-shares-push seats s = sum_by_push parts seats s
+shares-push seats s = sum_by_push shares_in seats s
 
 -- where each seat stays, they have as many parts together
 shares-stay : (old new : List Seated) → length new ≡ length old → ((p : ℕ) (d : Seated) → p < length old → Stays (get_or old p d) (get_or new p d)) → shares_of new ≡ shares_of old
@@ -22,7 +22,7 @@ shares-stay [] [] len each = refl
 shares-stay [] (y ∷ new) len each = absurd (omega (arith, len))
 shares-stay (x ∷ old) [] len each = absurd (omega (arith, len))
 shares-stay (x ∷ old) (y ∷ new) len each =
-    let first : parts y ≡ parts x = (each 0 x (omega arith)).shares in
+    let first : shares_in y ≡ shares_in x = (each 0 x (omega arith)).shares in
     let rest : shares_of new ≡ shares_of old = shares-stay old new (omega (arith, len)) (λ p d low. each (suc p) d (omega (arith, low))) in
     let a = shares-cons x old in
     let b = shares-cons y new in
