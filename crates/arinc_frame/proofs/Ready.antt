@@ -10,7 +10,7 @@ use Rattle.sched_model.specs.declared.state.Records.{Records}
 use Rattle.sched_model.specs.declared.state.Records.TheVariants.{ArincPool}
 use Rattle.sched_model.specs.Places.{has_unit}
 use Rattle.sched_model.specs.Policy.{fresh_records}
-use Rattle.sched_ranges.specs.Ranges.{IsFrame}
+use Rattle.sched_laws.specs.RecordRanges.{IsFrame}
 use Rattle.sched_ops.specs.Conditions.{is_vacant}
 use Rattle.sched_ops.specs.Seen.{restarted_scheduler}
 use Rattle.plain_policy.specs.Parts.{scheduler_of}

@@ -3,7 +3,7 @@ use Rattle.std.specs.Prelude.{ℕ, ◌≡◌, ◌≤◌, Option, Some}
 use Rattle.std.specs.Option.{ForSome}
 use Rattle.sched_model.specs.declared.state.ArincRecords.{ArincRecords}
 use Rattle.sched_model.specs.Arinc.{present_window}
-use Rattle.sched_ranges.specs.Ranges.{IsFrame}
+use Rattle.sched_laws.specs.RecordRanges.{IsFrame}
 use Rattle.plain_policy.specs.Frames.{window_of}
 use Rattle.arinc_frame.specs.declared.window.Present.{Present}
 

@@ -8,7 +8,7 @@ ghost use Rattle.sched_model.specs.declared.config.SchedKind.TheVariants.{Arinc6
 ghost use Rattle.sched_model.specs.Arinc.{window_unit};
 ghost use Rattle.sched_model.specs.Policy.{better_waits, decision_of, fresh_records};
 ghost use Rattle.sched_model.specs.declared.state.ArincRecords.{ArincRecords as ArincRecord};
-ghost use Rattle.sched_ranges.specs.Ranges.{IsFrame};
+ghost use Rattle.sched_laws.specs.RecordRanges.{IsFrame};
 ghost use Rattle.plain_policy.specs.Parts.{scheduler_of};
 ghost use Rattle.sched_ops.specs.Conditions.{ArePoolParams};
 ghost use Rattle.sched_ops.specs.Seen.{Tells};
@@ -16,7 +16,6 @@ ghost use Rattle.arinc_frame.specs.Frames.{IsPresent};
 ghost use Rattle.arinc_frame.specs.WaitingUnits.{awaited_unit as awaited_spec, chosen_unit as chosen_spec, if_allowed as if_allowed_spec, if_waits as if_waits_spec, is_other as is_other_spec};
 
 use crate::window::{Present, copy_frame, copy_of, found_at, window_now};
-use plain_units::units::{is_same, is_there};
 use pool_units::PoolUnits;
 use sched_base::{Cores, DomId, Moment, NoMemory, ResId, UnitId};
 use sched_model::ask::Ask;
@@ -24,6 +23,7 @@ use sched_model::config::{DomParams, Frame, ParamChange, PoolParams};
 use sched_model::event::Event;
 use sched_model::facts::Stored;
 use sched_model::state::{ArincRecords, Resource};
+use sched_model::units::{is_same, is_there};
 use sched_ops::{Choice, Places, Policy, Timer, wanted_where};
 use std::alloc::Global;
 use std::marker::Model;

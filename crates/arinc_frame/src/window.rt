@@ -4,7 +4,7 @@ ghost use Rattle.sched_model.specs.CheckedMachine.{most_span};
 ghost use Rattle.std.specs.Prelude.{◌≡◌, ◌≤◌, option_map};
 ghost use Rattle.std.specs.Option.{ForSome};
 ghost use Rattle.sched_model.specs.Arinc.{present_window as present_window_spec};
-ghost use Rattle.sched_ranges.specs.Ranges.{IsFrame};
+ghost use Rattle.sched_laws.specs.RecordRanges.{IsFrame};
 ghost use Rattle.plain_policy.specs.Frames.{window_of};
 ghost use Rattle.arinc_frame.specs.Frames.{IsPresent};
 

@@ -4,10 +4,10 @@ ghost use Rattle.std.specs.Prelude.{◌≡◌, ◌+◌, ◌/◌, ◌%◌, ◌^�
 ghost use Rattle.sched_model.specs.Places.{change_at, change_item, clear_at};
 ghost use Rattle.core_state.specs.Seen.{chosen_core, leaving_core, pending_by, stalled_to, with_sibling, without_works as without_works_spec};
 
-use plain_units::units::is_same_choice;
 use sched_base::{Moment, ProcId, ResId, UnitId};
 use sched_model::row::Row;
 use sched_model::state::{Processors, Resource, Stage};
+use sched_model::units::is_same_choice;
 
 /// The core is to decide anew, at this moment at the latest.
 pub fn set_pending_by(r: ResId, due: Moment, cores: &mut Row<Option<Resource>>)
@@ -66,7 +66,7 @@ pub fn choose_at(
 }
 
 /// The stall of the processor at this place ends then.
-#[tactic(auto, using(plain_units::proofs::Places::past_the_end))]
+#[tactic(auto, using(sched_model::proofs::PlaceLemmas::past_the_end))]
 fn set_end(processors: &mut Processors, i: usize, end: Moment)
     ensures { processors.new ≡ change_item i (stalled_to end) processors.old }
 {

@@ -10,13 +10,12 @@ use crate::dues::{
     Dues, IDS, advance, earlier, empty_dues, first_due_core, first_due_processor, least_of, rearm,
 };
 use crate::ends::{lowest_end, move_end, processor_at};
-use plain_policy::places::set_place;
-use plain_pool::cores::{core_at, core_of, first_core, has_domain, home_cores, is_on_core};
+use plain_pool::cores::{core_of, first_core, has_domain, home_cores, is_on_core};
 use plain_pool::doing::{change_doing, set_pending};
 use plain_pool::events::{open_if_left, take_saved};
-use plain_pool::leaving::take_place;
 use plain_pool::replenishing::bring_due_at;
 use sched_base::{DomId, Moment, NoMemory, ProcId, ResId, UnitId, VcpuId};
+use sched_model::places::{item_at, set_place, take_item};
 use sched_model::row::{Row, empty_places};
 use sched_model::state::{Doing, Processor, Resource};
 use std::alloc::Global;
@@ -127,7 +126,7 @@ impl CoreState {
     pub fn core(&self, r: ResId) -> Option<&Resource>
         ensures { option_copied result ≡ at_place self.now.resources r.0 }
     {
-        core_at(self.cores.as_slice(), r.0 as usize)
+        item_at(self.cores.as_slice(), r.0 as usize)
     }
 
     /// The cores by number, each at its place.
@@ -231,7 +230,7 @@ impl CoreState {
         } }
     {
         let g = self.granularity;
-        let core = take_place(r, &mut self.cores);
+        let core = take_item(&mut self.cores, r.0 as usize);
         clear_works(r.0 as u16 * g as u16, g, &mut self.works);
         self.home = home_cores(self.cores.as_slice());
         self.first = first_number(self.cores.as_slice());
@@ -373,7 +372,7 @@ impl CoreState {
     pub fn move_end(&self, r: ResId) -> Option<Moment>
         ensures { result ≡ ready_among self.now (Moved r) }
     {
-        move_end(core_at(self.cores.as_slice(), r.0 as usize))
+        move_end(item_at(self.cores.as_slice(), r.0 as usize))
     }
 
     /// The first core that may leave the pool at t.

@@ -16,8 +16,8 @@ use crate::ends::{
     work_at,
 };
 use due_heap::DueSet;
-use plain_pool::cores::core_at;
 use sched_base::{Moment, NoMemory, ProcId, ResId};
+use sched_model::places::item_at;
 use sched_model::row::Row;
 use sched_model::state::Resource;
 use std::alloc::Global;
@@ -133,7 +133,7 @@ pub fn rearm(
     ensures { AreArmed (record { resources = cores.now; works = works.now; granularity = g })
         dues.new }
 {
-    let core = core_at(cores.as_slice(), r.0 as usize);
+    let core = item_at(cores.as_slice(), r.0 as usize);
     let done_at = works.as_slice();
     rearm_core(dues, r.0 as u16, core);
     for i in 0..g {

@@ -9,8 +9,9 @@ ghost use Rattle.pool_laws.specs.ReadyMoments.{moment_if as when_spec, later_mom
 ghost use Rattle.core_state.specs.Seen.{processor_among, sibling_of as sibling_of_spec};
 ghost use Rattle.core_state.specs.Ends.{may_decide as may_decide_spec, may_save as may_save_spec, parts as parts_spec, sibling_end, lowest_among};
 
-use plain_pool::cores::{all_held, any_held, core_at, is_held, is_open};
+use plain_pool::cores::{all_held, any_held, is_held, is_open};
 use sched_base::Moment;
+use sched_model::places::item_at;
 use sched_model::state::{Processor, Resource};
 
 /// The moment, under a condition.
@@ -125,7 +126,7 @@ pub fn processor_at(g: u8, cores: &[Option<Resource>], p: usize) -> Option<&Proc
     requires { 0 < g }
     ensures { option_copied result ≡ processor_among g cores.now p }
 {
-    sibling_of(core_at(cores, p / g as usize), p % g as usize)
+    sibling_of(item_at(cores, p / g as usize), p % g as usize)
 }
 
 /// The end of the stall of a processor, if there is one.
@@ -210,7 +211,7 @@ pub fn lowest_end(cores: &[Option<Resource>], first: Option<u8>) -> Option<Momen
 {
     match first {
         None => None,
-        Some(r) => match core_at(cores, r as usize) {
+        Some(r) => match item_at(cores, r as usize) {
             None => None,
             Some(c) => first_end(c),
         },

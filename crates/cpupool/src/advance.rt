@@ -3,10 +3,11 @@
 ghost use Rattle.std.specs.Prelude.{◌≡◌, ◌≤◌, ◌+◌, false, Some, None, length, replicate, slice_set};
 
 use crate::outline::{CoreFlags, DomainSizes, Outline, Outlines, PoolNames, Way};
-use crate::pools::{has_core, item_at, size_in};
+use crate::pools::{has_core, size_in};
 use crate::tool::ToolState;
 use sched_base::{DomId, Name, PoolId, ResId};
 use sched_model::config::SchedKind;
+use sched_model::places::item_at;
 use sched_model::plan::Plan;
 use sched_model::short::Short;
 

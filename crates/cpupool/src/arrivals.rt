@@ -6,9 +6,10 @@ ghost use Rattle.cpupool.specs.ToolArrival.{with_core, with_domain as with_domai
 ghost use Rattle.cpupool.specs.Tool.{number_of_pool, way_of};
 
 use crate::outline::{CoreFlags, DomainSizes, Outlines, Way};
-use crate::pools::{core_home, domain_home, item_at, size_in};
+use crate::pools::{core_home, domain_home, size_in};
 use crate::tool::ToolState;
 use sched_base::{DomId, PoolId, ResId};
+use sched_model::places::item_at;
 
 /// Puts a flag at the place of the core r.
 #[tactic(auto, using(crate::proofs::PlaceLemmas::set_past))]

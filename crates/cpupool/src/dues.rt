@@ -5,10 +5,10 @@ ghost use Rattle.sched_model.specs.Places.{at_place};
 ghost use Rattle.cpupool.specs.Dues.{sooner_moment as sooner_spec, later_than as later_than_spec, first_end as first_end_spec};
 
 use crate::outline::Way;
-use crate::pools::item_at;
 use crate::tool::ToolState;
 use sched_base::{Moment, ResId};
 use sched_model::facts::StallEnds;
+use sched_model::places::item_at;
 
 /// The sooner of the moments that are there.
 fn sooner(a: Option<Moment>, b: Option<Moment>) -> Option<Moment>

@@ -6,11 +6,12 @@ ghost use Rattle.cpupool.specs.Steps.{first_end_up};
 
 use crate::copies::same_items;
 use crate::outline::{FreeCores, Way};
-use crate::pools::{item_at, kind_of};
+use crate::pools::kind_of;
 use crate::tool::ToolState;
 use sched_base::{DomId, Moment, PoolId, ResId};
 use sched_model::config::SchedKind;
 use sched_model::facts::{ResPart, StallEnds};
+use sched_model::places::item_at;
 
 /// What is on its way: a core to a pool, or to none; or a domain to a pool with this scheduler.
 #[derive(Clone, Copy, Debug, PartialEq, Eq)]

@@ -1,10 +1,11 @@
 //! The pools and domains that commands name.
 
 use crate::outline::Outline;
-use crate::pools::{item_at, size_in};
+use crate::pools::size_in;
 use crate::tool::ToolState;
 use sched_base::{DomId, PoolId};
 use sched_model::command::Which;
+use sched_model::places::item_at;
 
 /// A pool that a command names: its number, and what the tool knows of it.
 #[derive(Clone, Copy)]

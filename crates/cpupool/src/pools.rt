@@ -66,17 +66,6 @@ pub(crate) fn count_of<T>(places: &[Option<T>]) -> u64
     places.iter().filter(|x| x.is_some()).count() as u64
 }
 
-/// What stands at the place i.
-pub fn item_at<T>(places: &[Option<T>], i: usize) -> Option<&T>
-    ensures { option_copied result ≡ at_place places.now i }
-{
-    if i < places.len() {
-        places[i].as_ref()
-    } else {
-        None
-    }
-}
-
 /// The pool's scheduler.
 pub(crate) fn kind_of(pool: &Outline) -> SchedKind
     ensures { result ≡ pool.now.kind }

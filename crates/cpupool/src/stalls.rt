@@ -5,10 +5,10 @@ ghost use Rattle.sched_base.specs.Numbers.{moment};
 
 use crate::copies::same_items;
 use crate::moves::{put_end, put_ends};
-use crate::pools::item_at;
 use crate::tool::ToolState;
 use sched_base::{Moment, ProcId, ResId};
 use sched_model::facts::StallEnds;
+use sched_model::places::item_at;
 
 impl ToolState {
     ghost use Rattle.std.specs.Prelude.{◌≡◌, ◌/◌, ◌%◌, None, IsSome};

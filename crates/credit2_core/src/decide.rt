@@ -19,9 +19,9 @@ use crate::slice::take_slice;
 use crate::state::Credit2State;
 use plain_credit2::choice::resets_for;
 use plain_credit2::running::{charge, set_running, switch_off};
-use plain_units::units::is_there;
 use sched_base::{Moment, UnitId};
 use sched_model::ask::Ask;
+use sched_model::units::is_there;
 use sched_ops::Choice;
 
 /// The core's own unit is charged.

@@ -11,9 +11,9 @@ ghost use Rattle.credit2_core.specs.Domains.{may_run_at, may_run_bit, set_of, ma
 
 use due_heap::{DueHeap, put_id};
 use plain_credit2::choice::has_budget;
-use plain_credit2::running::domain_at;
 use sched_base::{Cores, DomId, Moment, UnitId};
 use sched_model::config::Pins;
+use sched_model::places::item_at;
 use sched_model::state::Credit2Domain;
 use unit_places::Masks;
 
@@ -44,7 +44,7 @@ pub fn runnable_domains(domains: &[Option<Credit2Domain>]) -> u64
 pub fn may_run(domains: &[Option<Credit2Domain>], d: DomId) -> bool
     ensures { result ≡ may_run_at (at_place domains.now d.0) }
 {
-    match domain_at(domains, d) {
+    match item_at(domains, d.0 as usize) {
         None => false,
         Some(d) => has_budget(d),
     }
@@ -80,7 +80,7 @@ pub fn rearm(refills: &mut DueHeap, domains: &[Option<Credit2Domain>], d: DomId)
     requires { d.0 < length refills.old }
     ensures { refills.new ≡ slice_set refills.old d.0 (refill_of (at_place domains.now d.0)) }
 {
-    let refill = match domain_at(domains, d) {
+    let refill = match item_at(domains, d.0 as usize) {
         None => None,
         Some(domain) => domain.refill,
     };

@@ -22,9 +22,10 @@ use crate::state::Credit2State;
 use plain_credit2::credit2;
 use plain_credit2::running::max_weight;
 use plain_policy::params;
-use plain_policy::places::{copies, set_place};
 use sched_base::{Cores, DomId, Moment};
 use sched_model::config::{ParamChange, Pins};
+use sched_model::places::set_place;
+use sched_model::short::copies;
 use unit_places::Masks;
 
 /// The table of masks has the sets of cores of the domain's units again.

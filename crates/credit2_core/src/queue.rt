@@ -14,10 +14,10 @@ ghost use Rattle.credit2_core.specs.Whole.{IsReadyIn};
 use crate::choice::leave;
 use crate::line::{Ready, first_ready, first_with, key_of};
 use crate::state::Credit2State;
-use plain_credit2::running::domain_at;
-use plain_units::units::is_there;
 use sched_base::UnitId;
 use sched_model::facts::Stored;
+use sched_model::places::item_at;
+use sched_model::units::is_there;
 
 /// The unit waits behind all others. It is the first where it may run and has more credit than the one that was.
 pub fn enqueue(state: &mut Credit2State, ready: &mut Ready, u: UnitId)
@@ -73,7 +73,7 @@ pub fn stored(state: &Credit2State, u: UnitId) -> Stored
     ensures value { stored_of (scheduler_in state.now).records u ≡ Some result }
     ensures range { IsInRange result }
 {
-    match domain_at(state.records.domains.as_slice(), u.dom) {
+    match item_at(state.records.domains.as_slice(), u.dom.0 as usize) {
         None => Stored::Null,
         Some(d) => Stored::Credit2 {
             weight: d.weight,

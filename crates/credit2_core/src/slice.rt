@@ -12,9 +12,10 @@ use crate::choice::other_credit;
 use crate::line::{Ready, follow};
 use crate::state::Credit2State;
 use plain_credit2::choice::slice_in;
-use plain_credit2::running::{domain_at, take_at};
+use plain_credit2::running::take_at;
 use sched_base::UnitId;
 use sched_model::ask::Ask;
+use sched_model::places::item_at;
 use sched_model::state::Credit2Records;
 
 /// How long the unit runs, where the best of the others has so much credit. The greatest weight of the pool is most.
@@ -25,7 +26,7 @@ fn slice_beside(records: &Credit2Records, most: u32, u: UnitId, other: i64) -> u
     ensures exact { result ≡ slice_beside_spec records.now u other }
     ensures few { result ≤ 500000000 }
 {
-    match domain_at(records.domains.as_slice(), u.dom) {
+    match item_at(records.domains.as_slice(), u.dom.0 as usize) {
         None => 0,
         Some(d) => slice_in(d, u.n, other, most, records.limit as u64 * 1000),
     }

@@ -15,9 +15,9 @@ use crate::line::{Ready, follow};
 use crate::state::Credit2State;
 use plain_credit2::credit2;
 use plain_credit2::domain::periods;
-use plain_credit2::running::domain_at;
 use sched_base::{DomId, Moment};
 use sched_model::event::Event;
+use sched_model::places::item_at;
 use sched_model::state::{Credit2Domain, Credit2Records};
 use sched_ops::Timer;
 
@@ -69,7 +69,7 @@ pub fn timer_due(state: &Credit2State, t: Moment) -> Option<(Moment, Timer)>
 fn periods_at(records: &Credit2Records, d: DomId, t: Moment) -> u64
     ensures { result ≡ periods_at_spec records.now d.0 t.0 }
 {
-    match domain_at(records.domains.as_slice(), d) {
+    match item_at(records.domains.as_slice(), d.0 as usize) {
         None => 0,
         Some(domain) => periods(domain, t),
     }
@@ -79,7 +79,7 @@ fn periods_at(records: &Credit2Records, d: DomId, t: Moment) -> u64
 fn budget_at(records: &Credit2Records, d: DomId) -> i64
     ensures { result ≡ budget_at_spec records.now d.0 }
 {
-    match domain_at(records.domains.as_slice(), d) {
+    match item_at(records.domains.as_slice(), d.0 as usize) {
         None => 0,
         Some(domain) => domain.budget,
     }

@@ -18,26 +18,14 @@ ghost use Rattle.plain_commands.specs.PlanEffects.{FitsAt, PlanFits, HasSpare, s
 use crate::pools::{
     pause_at, set_leaving_at, set_moving_at, set_params_at, set_rtds_at, unpause_at,
 };
-use plain_policy::places::set_place;
 use sched_base::{DomId, Moment, Name, ResId};
 use sched_model::config::ParamChange;
 use sched_model::facts::RtdsGiven;
 use sched_model::machine::Machine;
+use sched_model::places::{set_place, take_item};
 use sched_model::plan::Plan;
 use sched_model::row::Row;
 use sched_model::state::{FreeCore, Pool, State};
-
-/// The spare at the place k is taken out of its place.
-fn take_spare(k: usize, spares: &mut Row<Option<Pool>>) -> Option<Pool>
-    ensures spare { result ≡ at_place spares.old k }
-    ensures spares { spares.new ≡ clear_at k spares.old }
-{
-    if k < spares.len() {
-        spares.replace(k, None)
-    } else {
-        None
-    }
-}
 
 /// The spare at the place k is the pool i, with this name.
 fn create(i: u8, name: Name, k: usize, s: &mut State, spares: &mut Row<Option<Pool>>)
@@ -48,7 +36,7 @@ fn create(i: u8, name: Name, k: usize, s: &mut State, spares: &mut Row<Option<Po
     } }
     ensures spares { spares.new ≡ clear_at k spares.old }
 {
-    let pool = take_spare(k, spares);
+    let pool = take_item(spares, k);
     set_place(&mut s.names, i, Some(name));
     set_place(&mut s.pools, i, pool);
 }

@@ -6,11 +6,11 @@ ghost use Rattle.sched_model.specs.Policy.{stored_of as stored_of_spec};
 ghost use Rattle.sched_laws.specs.EachPlace.{EachPlace};
 ghost use Rattle.plain_pool.specs.Fits.{PoolFits};
 
-use cpupool::pools::item_at;
 use plain_policy::records::{credit2_record, rate_of, rtds_record};
 use plain_pool::domains::unit_count;
 use sched_base::{DomId, Span, UnitId};
 use sched_model::facts::{Facts, Stored, StoredList, Subject};
+use sched_model::places::item_at;
 use sched_model::short::Short;
 use sched_model::state::{Pool, Records, State};
 

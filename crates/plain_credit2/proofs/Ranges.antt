@@ -7,7 +7,7 @@ use Rattle.std.proofs.lemmas.List.{length-map}
 use Rattle.std.proofs.lemmas.List.Elements.{All-map}
 use Rattle.std.proofs.lemmas.List.Sums.{sum_by-cons}
 use Rattle.std.proofs.lemmas.Nat.{div-add-mod'}
-use Rattle.std.proofs.Math.Nat.{mod-lt}
+use Rattle.std.proofs.Math.Nat.{mod-lt, div-le_self, max-le}
 use Rattle.sched_base.specs.Credit2Numbers.{above_zero, charge, burned_credit, burned_residual}
 use Rattle.sched_model.specs.declared.state.Credit2Unit.{Credit2Unit}
 use Rattle.sched_model.specs.declared.state.Credit2Domain.{Credit2Domain}
@@ -16,9 +16,7 @@ use Rattle.sched_model.specs.Places.{at_place, numbered_items}
 use Rattle.sched_model.specs.Credit2.{burn_unit, burn_units, held_by_running}
 use Rattle.sched_model.specs.CheckedMachine.{IsWithin, most_span}
 use Rattle.sched_laws.specs.EachPlace.{EachPlace}
-use Rattle.sched_ranges.specs.Ranges.{Credit2InRange, Credit2UnitInRange}
-use Rattle.sched_ranges.proofs.Credit2.{max_small}
-use Rattle.sched_ranges.proofs.Budgets.{div_small}
+use Rattle.sched_laws.specs.RecordRanges.{Credit2InRange, Credit2UnitInRange}
 use Rattle.plain_units.specs.Fits.{Credit2Fits}
 use Rattle.plain_credit2.specs.Bounds.{UnitFits, ParamsFit, DomainFits, PoolFits, PoolParamsFit, amount_held}
 
@@ -28,7 +26,7 @@ times-small e k low = (let split : 65535 ≡ k + (65535 - k) = omega (arith, low
 -- what a unit of a domain is charged for a span
 charge-small : (residual weight most elapsed : ℕ) → residual < 65536 → most ≤ 65535 → elapsed ≤ most_span → charge residual most elapsed / weight ≤ 655350000000065535
 charge-small residual weight most elapsed low small short =
-    let d = div_small (charge residual most elapsed) weight in
+    let d = div-le_self (charge residual most elapsed) weight in
     let e = times-small elapsed most small in
     omega (arith, d, e, low, short)
 
@@ -151,7 +149,7 @@ weights-most n acc (suc i) (Some e ∷ domains) d at = weights-most (suc n) (max
 weights-small : (n acc : ℕ) (domains : List (Option Credit2Domain)) → acc ≤ 65535 → EachPlace (λ (d : Credit2Domain). d.weight ≤ 65535) domains → fold max acc (map (λ (e : ℕ × Credit2Domain). e.1.weight) (numbered_items n domains)) ≤ 65535
 weights-small n acc [] low each = low
 weights-small n acc (None ∷ domains) low each = weights-small (suc n) acc domains low (λ i x at. each (suc i) x at)
-weights-small n acc (Some d ∷ domains) low each = weights-small (suc n) (max acc d.weight) domains (max_small acc d.weight low (each 0 d refl)) (λ i x at. each (suc i) x at)
+weights-small n acc (Some d ∷ domains) low each = weights-small (suc n) (max acc d.weight) domains (max-le low (each 0 d refl)) (λ i x at. each (suc i) x at)
 
 -- the parameters of domains, and the units of one
 pub record ParamsBounded (d : Credit2Domain) : Type 0 where

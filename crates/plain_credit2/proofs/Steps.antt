@@ -16,7 +16,7 @@ use Rattle.sched_model.specs.Credit2.{max_weight, burn_unit, burn_units, burn_cu
 use Rattle.sched_laws.specs.EachPlace.{EachPlace}
 use Rattle.sched_laws.proofs.EachPlace.{EachPlace-change_at, EachPlace-change_each, by_option, by_cond}
 use Rattle.sched_laws.proofs.Sound.{change_at-twice}
-use Rattle.sched_ranges.specs.Ranges.{Credit2InRange, Credit2UnitInRange}
+use Rattle.sched_laws.specs.RecordRanges.{Credit2InRange, Credit2UnitInRange}
 use Rattle.plain_units.specs.Fits.{Credit2Fits}
 use Rattle.plain_credit2.specs.Bounds.{UnitFits, ParamsFit, PoolFits, PoolParamsFit, own_charged, reset_by, cut_unit}
 use Rattle.plain_credit2.proofs.Items.{All-change_item, get_fits}

@@ -7,15 +7,16 @@ ghost use Rattle.sched_model.specs.Credit2.{domain_has_budget as domain_has_budg
 ghost use Rattle.plain_credit2.specs.Bounds.{PoolParamsFit, ParamsFit};
 ghost use Rattle.plain_credit2.specs.WaitingUnits.{scheduler_of, contends as contends_spec, richer_unit as richer_spec, slice_in as slice_in_spec};
 
-use crate::running::{credit_of, domain_at, max_weight};
+use crate::running::{credit_of, max_weight};
 use crate::units::{above_zero, unit_at};
 use credit2_reset::resets;
 use plain_units::eligible::is_allowed;
-use plain_units::units::is_there;
 use sched_base::{Moment, UnitId};
 use sched_model::ask::Ask;
 use sched_model::config::Pins;
+use sched_model::places::item_at;
 use sched_model::state::{Credit2Domain, Credit2Records};
+use sched_model::units::is_there;
 
 /// Whether the cap lets the domain run.
 pub fn has_budget(d: &Credit2Domain) -> bool
@@ -28,7 +29,7 @@ pub fn has_budget(d: &Credit2Domain) -> bool
 pub fn domain_has_budget(records: &Credit2Records, u: UnitId) -> bool
     ensures { result ≡ domain_has_budget_spec records.now u }
 {
-    match domain_at(records.domains.as_slice(), u.dom) {
+    match item_at(records.domains.as_slice(), u.dom.0 as usize) {
         None => false,
         Some(d) => has_budget(d),
     }
@@ -229,7 +230,7 @@ pub fn slice_of(
 {
     let other = best_other(ask, queue, affinity, records, u);
     let most = max_weight(records);
-    match domain_at(records.domains.as_slice(), u.dom) {
+    match item_at(records.domains.as_slice(), u.dom.0 as usize) {
         None => 0,
         Some(d) => slice_in(d, u.n, other, most, records.limit as u64 * 1000),
     }

@@ -8,7 +8,7 @@ ghost use Rattle.std.specs.Int.{w64};
 ghost use Rattle.std.specs.Option.{IfSome};
 ghost use Rattle.sched_model.specs.Places.{change_item};
 ghost use Rattle.sched_model.specs.Credit2.{burn_unit as burn_unit_spec, give_back as give_back_spec, burn_units as burn_units_spec, take_budget as take_budget_spec, periods as periods_spec, held_by_running as held_by_running_spec, refill_domain as refill_domain_spec};
-ghost use Rattle.sched_ranges.specs.Ranges.{Credit2InRange};
+ghost use Rattle.sched_laws.specs.RecordRanges.{Credit2InRange};
 ghost use Rattle.plain_credit2.specs.Bounds.{DomainFits, amount_held, own_charged, reset_by};
 
 use crate::units::{above_zero, burn_unit, raise_unit, set_held, set_unit, unit_at};

@@ -13,20 +13,9 @@ ghost use Rattle.sched_laws.specs.EachPlace.{EachPlace};
 use crate::domain::{burn_own, refill_domain, reset_domain, take_budget};
 use crate::units::{burn_unit, set_burned, unit_at};
 use sched_base::{DomId, Moment, UnitId};
+use sched_model::places::item_at;
 use sched_model::row::Row;
 use sched_model::state::{Credit2Domain, Credit2Records};
-
-/// The domain with this number.
-pub fn domain_at(domains: &[Option<Credit2Domain>], d: DomId) -> Option<&Credit2Domain>
-    ensures { option_copied result ≡ at_place domains.now d.0 }
-{
-    let place = d.0 as usize;
-    if place < domains.len() {
-        domains[place].as_ref()
-    } else {
-        None
-    }
-}
 
 /// The greatest of a weight and those of the domains.
 fn greatest_weight(most: u32, domains: &[Option<Credit2Domain>]) -> u32
@@ -51,7 +40,7 @@ pub fn max_weight(records: &Credit2Records) -> u32
 pub fn credit_of(records: &Credit2Records, u: UnitId) -> i64
     ensures { result ≡ credit_of_spec records.now u }
 {
-    match domain_at(records.domains.as_slice(), u.dom) {
+    match item_at(records.domains.as_slice(), u.dom.0 as usize) {
         None => 0,
         Some(d) => credit_in(d, u.n),
     }
@@ -98,7 +87,7 @@ pub fn burned_credit_by(most: u32, records: &Credit2Records, t: Moment, u: UnitI
     ensures { result ≡ credit_of_spec (change_unit u
         (burn_unit_spec (max_weight_spec records.now) t.0) records.now) u }
 {
-    match domain_at(records.domains.as_slice(), u.dom) {
+    match item_at(records.domains.as_slice(), u.dom.0 as usize) {
         None => 0,
         Some(d) => burned_credit_in(most, t, d, u.n),
     }

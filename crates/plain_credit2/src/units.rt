@@ -30,7 +30,7 @@ pub fn set_unit(units: &mut Credit2Units, n: u8, unit: Credit2Unit)
 }
 
 /// The unit with this index holds so much of its domain's budget.
-#[tactic(auto, using(plain_units::proofs::Places::past_the_end))]
+#[tactic(auto, using(sched_model::proofs::PlaceLemmas::past_the_end))]
 pub fn set_held(units: &mut Credit2Units, n: u8, held: i64)
     ensures { units.new ≡ change_item n (λ (x : UnitRecord). record x { held = held }) units.old }
 {
@@ -40,7 +40,7 @@ pub fn set_held(units: &mut Credit2Units, n: u8, held: i64)
 }
 
 /// The domain's unit with this index runs from a moment, or runs no more.
-#[tactic(auto, using(plain_units::proofs::Places::past_the_end))]
+#[tactic(auto, using(sched_model::proofs::PlaceLemmas::past_the_end))]
 pub fn set_burned(d: &mut Credit2Domain, n: u8, from: Option<u64>)
     ensures { d.new ≡ record d.old
         { units = change_item n (λ (x : UnitRecord). record x { burned = from }) d.old.units } }

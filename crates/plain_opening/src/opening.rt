@@ -8,10 +8,10 @@ ghost use Rattle.std.specs.List.{All};
 ghost use Rattle.plain_policy.specs.Parameters.{ParamsFit};
 ghost use Rattle.plain_opening.specs.OpeningPool.{FewWait, AllFewWait, JoinFits, configured_if as configured_if_spec};
 
+use plain_units::pins::pin;
 use crate::cores::{free_cores, fresh_cores};
 use crate::rows::fresh_vcpus;
 use crate::spare::{core_count, pool_of_cores};
-use plain_policy::params::pin;
 use plain_pool::domains::with_domain;
 use sched_base::{Cores, DomId, Moment, Name, NoMemory};
 use sched_model::config::{Config, DomConfig, PoolConfig};

@@ -11,8 +11,8 @@ use Rattle.sched_model.specs.EligibleUnits.{rtds_unit}
 use Rattle.sched_model.specs.Rtds.{change_unit, burn_to, burn_cur, budget_left}
 use Rattle.sched_laws.specs.EachPlace.{EachPlace}
 use Rattle.sched_laws.proofs.EachPlace.{EachPlace-change_at, by_option, by_cond}
-use Rattle.sched_ranges.specs.Ranges.{RtdsInRange}
-use Rattle.sched_ranges.proofs.Rtds.{AllByRecursion-change_item}
+use Rattle.sched_laws.specs.RecordRanges.{RtdsInRange}
+use Rattle.sched_laws.proofs.Lists.{AllByRecursion-change_item}
 use Rattle.plain_units.specs.Fits.{RtdsFits}
 use Rattle.plain_credit2.proofs.Items.{change_item-none}
 

@@ -14,11 +14,12 @@ ghost use Rattle.plain_policy.specs.Parts.{scheduler_of};
 
 use plain_units::decided::Decided;
 use plain_units::eligible::is_allowed;
-use plain_units::units::{has_unit, is_there};
+use plain_units::units::has_unit;
 use sched_base::{Moment, UnitId};
 use sched_model::ask::Ask;
 use sched_model::config::{Frame, FrameEntry, Pins};
 use sched_model::state::ArincRecords;
+use sched_model::units::is_there;
 
 /// A window: the unit that it is for, none in the rest of a frame, and the moment of its end.
 #[derive(Clone, Copy, Debug, PartialEq, Eq)]

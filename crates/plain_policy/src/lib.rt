@@ -4,7 +4,6 @@
 pub mod arinc;
 pub mod null;
 pub mod params;
-pub mod places;
 pub mod policy;
 pub mod queue;
 pub mod records;

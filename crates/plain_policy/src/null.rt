@@ -11,14 +11,14 @@ ghost use Rattle.sched_model.specs.NullScheduler.{kept_without, kept_for, placed
 ghost use Rattle.plain_units.specs.Tells.{Tells};
 ghost use Rattle.plain_policy.specs.Parts.{scheduler_of};
 
-use crate::places::set_place;
 use plain_units::decided::Decided;
 use plain_units::eligible::is_allowed;
-use plain_units::units::{is_same, is_there};
 use sched_base::{Cores, DomId, ResId, UnitId};
 use sched_model::ask::Ask;
 use sched_model::config::Pins;
+use sched_model::places::set_place;
 use sched_model::row::Row;
+use sched_model::units::{is_same, is_there};
 
 /// The unit that the core is kept for.
 fn kept_at(kept: &[Option<UnitId>], core: ResId) -> Option<UnitId>
@@ -153,7 +153,7 @@ fn choice(
 }
 
 /// No core is kept for the unit any more.
-fn release_unit(u: UnitId, kept: &mut Row<Option<UnitId>>)
+pub fn release_unit(u: UnitId, kept: &mut Row<Option<UnitId>>)
     ensures { kept.new ≡ kept_without (same_unit u) kept.old }
 {
     for r in 0..kept.len() {

@@ -2,18 +2,19 @@
 
 ghost use Rattle.sched_model.specs.CheckedMachine.{most_span};
 ghost use Rattle.std.specs.Prelude.{◌≡◌, ◌≤◌};
-ghost use Rattle.sched_model.specs.Places.{change_at};
-ghost use Rattle.sched_model.specs.Policy.{default_pool_params as default_pool_params_spec, default_dom_params as default_dom_params_spec, pinned_cores, joined_records, join as join_spec, parted_records, part as part_spec, set_params as set_params_spec};
+ghost use Rattle.sched_model.specs.Policy.{default_pool_params as default_pool_params_spec, default_dom_params as default_dom_params_spec, joined_records, join as join_spec, parted_records, part as part_spec, set_params as set_params_spec};
 ghost use Rattle.plain_units.specs.Fits.{RecordsFit};
 ghost use Rattle.plain_policy.specs.Parameters.{ParamsFit, ChangeFits};
 
 use crate::null::release_domain;
-use crate::places::{copies, set_place};
 use crate::rtds;
 use plain_credit2::credit2;
+use plain_units::pins::pin;
 use sched_base::{Cores, DomId, Moment, Span};
 use sched_model::config::{DomParams, ParamChange, Pins, PoolParams, SchedKind};
+use sched_model::places::set_place;
 use sched_model::row::Row;
+use sched_model::short::copies;
 use sched_model::state::{Records, Scheduler};
 
 /// The parameters of a pool where none are given.
@@ -105,32 +106,6 @@ pub fn part(d: DomId, scheduler: &mut Scheduler)
 {
     set_place(&mut scheduler.affinity, d.0, None);
     part_records(d, &mut scheduler.records);
-}
-
-/// The set of cores of one of the units, or of all of them.
-#[tactic(auto, using(plain_units::proofs::Places::past_the_end))]
-fn pin_units(unit: Option<u8>, cores: Cores, units: &mut Pins)
-    ensures { units.new ≡ pinned_cores unit cores units.old }
-{
-    match unit {
-        None => *units = copies(cores, units.len() as u8),
-        Some(n) => {
-            if let Some(set) = units.get_mut(n as usize) {
-                *set = cores;
-            }
-        }
-    }
-}
-
-/// The set of cores of one of the domain's units, or of all of them.
-pub fn pin(d: DomId, unit: Option<u8>, cores: Cores, affinity: &mut Row<Option<Pins>>)
-    ensures { affinity.new ≡ change_at d.0 (pinned_cores unit cores) affinity.old }
-{
-    if let Some(place) = affinity.get_mut(d.0 as usize)
-        && let Some(units) = place
-    {
-        pin_units(unit, cores, units);
-    }
 }
 
 /// The parameters change at t. A change for another scheduler changes nothing.

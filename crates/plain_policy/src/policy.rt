@@ -13,11 +13,12 @@ use crate::{arinc, null, rtds};
 use plain_credit2::credit2;
 use plain_units::decided::Decided;
 use plain_units::eligible::is_allowed;
-use plain_units::units::{drop_unit, is_same};
+use plain_units::units::drop_unit;
 use sched_base::{Cores, DomId, Moment, ResId, UnitId};
 use sched_model::ask::Ask;
 use sched_model::config::Pins;
 use sched_model::state::{Records, Scheduler};
+use sched_model::units::is_same;
 
 /// Whether the scheduler's own rule lets the unit have a core at t.
 fn passes(scheduler: &Scheduler, home: Cores, core: ResId, t: Moment, u: UnitId) -> bool

@@ -6,9 +6,10 @@ ghost use Rattle.sched_model.specs.Policy.{kind_of as kind_of_spec, rate_of as r
 ghost use Rattle.sched_model.specs.Machine.{is_null as is_null_spec};
 
 use crate::rtds::rtds_unit;
-use plain_credit2::running::domain_at;
+pub use plain_credit2::credit2::periods;
 use sched_base::{DomId, Moment, UnitId};
 use sched_model::config::SchedKind;
+use sched_model::places::item_at;
 use sched_model::state::{Credit2Domain, Records, RtdsUnit};
 
 /// Which scheduler it is.
@@ -58,7 +59,7 @@ pub fn credit2_record(records: &Records, d: DomId) -> Option<&Credit2Domain>
     ensures { option_copied result ≡ credit2_record_spec records.now d.0 }
 {
     match records {
-        Records::Credit2Pool(records) => domain_at(records.domains.as_slice(), d),
+        Records::Credit2Pool(records) => item_at(records.domains.as_slice(), d.0 as usize),
         _ => None,
     }
 }

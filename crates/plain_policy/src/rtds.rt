@@ -9,39 +9,28 @@ ghost use Rattle.sched_model.specs.declared.state.Records.TheVariants.{RtdsPool}
 ghost use Rattle.sched_model.specs.Places.{at_place, change_item};
 ghost use Rattle.sched_model.specs.EligibleUnits.{rtds_unit as rtds_unit_spec, passes as passes_spec, eligible_units};
 ghost use Rattle.sched_model.specs.Rtds.{burn as burn_spec, burn_to as burn_to_spec, replenish as replenish_spec, change_unit, is_before as is_before_spec, unit_before as unit_before_spec, foremost_unit as foremost_spec, budget_left as budget_left_spec, own_candidate as own_candidate_spec, burn_cur as burn_cur_spec, set_running as set_running_spec, choice as choice_spec, decide as decide_spec, rtds_decision, fresh_units as fresh_units_spec};
-ghost use Rattle.sched_ranges.specs.Ranges.{RtdsInRange};
+ghost use Rattle.sched_laws.specs.RecordRanges.{RtdsInRange};
 ghost use Rattle.plain_units.specs.Fits.{RtdsFits};
 ghost use Rattle.plain_units.specs.Tells.{Tells};
 ghost use Rattle.plain_policy.specs.Parts.{scheduler_of};
 ghost use Rattle.plain_policy.specs.Replenishments.{printed_event};
 
-use crate::places::copies;
 use plain_units::decided::Decided;
 use plain_units::eligible::is_allowed;
 use sched_base::{DomId, Moment, Span, UnitId};
 use sched_model::ask::Ask;
 use sched_model::config::Pins;
 use sched_model::event::Event;
+use sched_model::places::item_at;
 use sched_model::row::Row;
+use sched_model::short::copies;
 use sched_model::state::{RtdsUnit, RtdsUnits};
-
-/// The records of the domain's units.
-fn units_of(domains: &[Option<RtdsUnits>], d: DomId) -> Option<&RtdsUnits>
-    ensures { option_copied result ≡ at_place domains.now d.0 }
-{
-    let place = d.0 as usize;
-    if place < domains.len() {
-        domains[place].as_ref()
-    } else {
-        None
-    }
-}
 
 /// The unit's record.
 pub fn rtds_unit(domains: &[Option<RtdsUnits>], u: UnitId) -> Option<&RtdsUnit>
     ensures { option_copied result ≡ rtds_unit_spec domains.now u }
 {
-    match units_of(domains, u.dom) {
+    match item_at(domains, u.dom.0 as usize) {
         None => None,
         Some(units) => units.as_slice().get(u.n as usize),
     }
@@ -92,7 +81,7 @@ pub fn fresh_units(period: Span, budget: Span, extra: bool, count: u8, t: Moment
 }
 
 /// The record at this place of the domain's units.
-#[tactic(auto, using(plain_units::proofs::Places::past_the_end))]
+#[tactic(auto, using(sched_model::proofs::PlaceLemmas::past_the_end))]
 fn put_item(n: u8, unit: RtdsUnit, units: &mut RtdsUnits)
     ensures { units.new ≡ change_item n (λ x. unit) units.old }
 {

@@ -9,9 +9,10 @@ ghost use Rattle.sched_model.specs.Pool.{cores_from, is_held as is_held_spec, is
 ghost use Rattle.sched_model.specs.State.{is_up as is_up_spec};
 ghost use Rattle.sched_base.specs.Numbers.{has_come as has_come_spec};
 
-use plain_units::units::{is_of_domain, is_there};
+use plain_units::units::is_of_domain;
 use sched_base::{DomId, Moment, UnitId};
 use sched_model::state::{Doing, Processor, Resource, Stage};
+use sched_model::units::is_there;
 
 /// The set of the cores that are there.
 pub fn home_cores(cores: &[Option<Resource>]) -> u64
@@ -96,17 +97,6 @@ pub fn any_held(processors: &[Processor]) -> bool
     ensures { result ≡ list_any is_held_spec processors.now }
 {
     processors.iter().any(|p| is_held(p))
-}
-
-/// The core with this number.
-pub fn core_at(cores: &[Option<Resource>], r: usize) -> Option<&Resource>
-    ensures { option_copied result ≡ at_place cores.now r }
-{
-    if r < cores.len() {
-        cores[r].as_ref()
-    } else {
-        None
-    }
 }
 
 /// The number of the first core.

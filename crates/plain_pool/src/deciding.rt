@@ -11,16 +11,17 @@ ghost use Rattle.plain_units.specs.Fits.{RecordsFit};
 ghost use Rattle.plain_pool.specs.Decisions.{decided_by};
 ghost use Rattle.plain_pool.specs.Fits.{PoolFits};
 
-use crate::cores::{core_at, home_cores};
+use crate::cores::home_cores;
 use crate::runnable::is_runnable;
 use plain_policy::policy::decide as decide_by_policy;
 use plain_units::decided::Decided;
-use plain_units::units::is_same_choice;
 use sched_base::{Cores, Moment, ResId, Span};
 use sched_model::ask::Ask;
 use sched_model::event::Event;
+use sched_model::places::item_at;
 use sched_model::row::Row;
 use sched_model::state::{Pool, Resource, Stage};
+use sched_model::units::is_same_choice;
 
 /// What the core asks its scheduler.
 pub fn ask_of(g: u8, t: Moment, pool: &Pool, r: ResId, c: &Resource) -> Ask
@@ -86,7 +87,7 @@ pub fn decide(g: u8, t: Moment, r: ResId, pool: &mut Pool) -> Event
     ensures event { result ≡ event_in g t.0 pool.old (Decide r) }
     ensures pool { pool.new ≡ after_in g t.0 pool.old (Decide r) }
 {
-    let Some(c) = core_at(pool.resources.as_slice(), r.0 as usize) else {
+    let Some(c) = item_at(pool.resources.as_slice(), r.0 as usize) else {
         unreachable!();
     };
     let ask = ask_of(g, t, pool, r, c);

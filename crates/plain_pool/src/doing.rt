@@ -13,7 +13,7 @@ use sched_model::short::Short;
 use sched_model::state::{Doing, Pool, Resource};
 
 /// The core's processor at this place does this.
-#[tactic(auto, using(plain_units::proofs::Places::past_the_end))]
+#[tactic(auto, using(sched_model::proofs::PlaceLemmas::past_the_end))]
 fn set_doing(c: &mut Resource, i: usize, doing: Doing)
     ensures { c.new
         ≡ record c.old { processors = change_item i (with_doing doing) c.old.processors } }

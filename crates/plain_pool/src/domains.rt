@@ -9,10 +9,10 @@ ghost use Rattle.plain_policy.specs.Parameters.{ParamsFit};
 use crate::runnable::is_runnable;
 use crate::waking::is_off;
 use plain_policy::params::{join, part};
-use plain_policy::places::set_place;
 use plain_policy::queue::enqueue;
 use sched_base::{DomId, Moment, UnitId};
 use sched_model::config::DomParams;
+use sched_model::places::{set_place, take_item};
 use sched_model::row::Row;
 use sched_model::state::{Domain, Pool};
 
@@ -69,24 +69,11 @@ pub fn with_domain(g: u8, t: Moment, d: DomId, joining: Domain, params: &DomPara
     queue_units(g, d, count, pool);
 }
 
-/// The domain is taken out of its place.
-fn take_domain(d: DomId, domains: &mut Row<Option<Domain>>) -> Option<Domain>
-    ensures domain { result ≡ at_place domains.old d.0 }
-    ensures domains { domains.new ≡ clear_at d.0 domains.old }
-{
-    let place = d.0 as usize;
-    if place < domains.len() {
-        domains.replace(place, None)
-    } else {
-        None
-    }
-}
-
 /// The domain parts from the pool, which is to have none of its units on a core. It is none where the pool has no such domain.
 pub fn without_domain(d: DomId, pool: &mut Pool) -> Option<Domain>
     ensures domain { result ≡ at_place pool.old.domains d.0 }
     ensures pool { pool.new ≡ without_domain_spec d.0 pool.old }
 {
     part(d, &mut pool.scheduler);
-    take_domain(d, &mut pool.domains)
+    take_item(&mut pool.domains, d.0 as usize)
 }

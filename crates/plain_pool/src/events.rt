@@ -9,7 +9,7 @@ ghost use Rattle.plain_units.specs.Fits.{RecordsFit};
 ghost use Rattle.plain_pool.specs.Fits.{PoolFits};
 ghost use Rattle.sched_model.specs.Actions.{IsOfPool};
 
-use crate::cores::{any_held, core_at};
+use crate::cores::any_held;
 use crate::deciding::decide;
 use crate::doing::{change_doing, set_pending, take};
 use crate::pool::guest_of;
@@ -21,6 +21,7 @@ use plain_policy::queue::enqueue;
 use sched_base::{Moment, ProcId, ResId, UnitId, VcpuId};
 use sched_model::action::Action;
 use sched_model::event::Event;
+use sched_model::places::item_at;
 use sched_model::row::Row;
 use sched_model::state::{Doing, Pool, Resource, Stage};
 
@@ -109,7 +110,7 @@ pub fn leave(g: u8, t: Moment, p: ProcId, pool: &mut Pool) -> Event
     ensures event { result ≡ event_in g t.0 pool.old (Leave p) }
     ensures pool { pool.new ≡ after_in g t.0 pool.old (Leave p) }
 {
-    let Some(c) = core_at(pool.resources.as_slice(), (p.0 / g) as usize) else {
+    let Some(c) = item_at(pool.resources.as_slice(), (p.0 / g) as usize) else {
         unreachable!();
     };
     let v = vcpu_for(g, pool, c, p.0 % g);

@@ -10,9 +10,9 @@ ghost use Rattle.sched_model.specs.Places.{at_place, put_at, clear_at, change_at
 ghost use Rattle.sched_model.specs.Pool.{set_leaving as set_leaving_spec, change_processor};
 ghost use Rattle.plain_pool.specs.Cores.{fresh_processor, ends_of, stalled_to};
 
-use plain_policy::places::set_place;
 use sched_base::{Moment, ProcId, ResId};
 use sched_model::facts::StallEnds;
+use sched_model::places::{set_place, take_item};
 use sched_model::row::Row;
 use sched_model::short::Short;
 use sched_model::state::{Doing, Pool, Processor, Processors, Resource, Stage};
@@ -66,25 +66,12 @@ pub fn stall_ends_of(c: &Resource) -> StallEnds
     stall_ends
 }
 
-/// The core is taken out of its place.
-pub fn take_place(r: ResId, cores: &mut Row<Option<Resource>>) -> Option<Resource>
-    ensures core { result ≡ at_place cores.old r.0 }
-    ensures cores { cores.new ≡ clear_at r.0 cores.old }
-{
-    let place = r.0 as usize;
-    if place < cores.len() {
-        cores.replace(place, None)
-    } else {
-        None
-    }
-}
-
 /// The core leaves the pool: the ends of its processors' stalls, and none where the pool has no such core.
 pub fn take_core(r: ResId, pool: &mut Pool) -> Option<StallEnds>
     ensures ends { result ≡ option_map ends_of (at_place pool.old.resources r.0) }
     ensures pool { pool.new ≡ record pool.old { resources = clear_at r.0 pool.old.resources } }
 {
-    match take_place(r, &mut pool.resources) {
+    match take_item(&mut pool.resources, r.0 as usize) {
         None => None,
         Some(c) => Some(stall_ends_of(&c)),
     }
@@ -104,7 +91,7 @@ pub fn set_leaving(r: ResId, pool: &mut Pool)
 }
 
 /// The stall of the core's processor at this place ends at this moment.
-#[tactic(auto, using(plain_units::proofs::Places::past_the_end))]
+#[tactic(auto, using(sched_model::proofs::PlaceLemmas::past_the_end))]
 fn set_end(c: &mut Resource, i: usize, end: u64)
     ensures { c.new
         ≡ record c.old { processors = change_item i (stalled_to end) c.old.processors } }

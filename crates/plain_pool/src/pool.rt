@@ -9,14 +9,15 @@ ghost use Rattle.plain_pool.specs.Fits.{PoolFits};
 ghost use Rattle.plain_pool.specs.Rows.{done_among, processor_up};
 
 use crate::cores::{
-    all_held, any_held, core_at, core_of, first_core, first_up, has_come, has_domain, is_held,
-    is_open, is_up,
+    all_held, any_held, core_of, first_core, first_up, has_come, has_domain, is_held, is_open,
+    is_up,
 };
 use crate::vcpus::{done_at, vcpu_of};
 use plain_policy::records::{next_refill, replenish_due};
 use plain_units::units::has_unit;
 use sched_base::{DomId, Moment, ProcId, ResId, UnitId, VcpuId};
 use sched_model::action::Action;
+use sched_model::places::item_at;
 use sched_model::state::{Doing, Pool, Processor};
 
 /// The processor with this number.
@@ -24,7 +25,7 @@ pub fn processor_of(g: u8, pool: &Pool, p: ProcId) -> Option<&Processor>
     requires { 0 < g }
     ensures { option_copied result ≡ processor_of_spec g pool.now p.0 }
 {
-    let c = core_at(pool.resources.as_slice(), (p.0 / g) as usize)?;
+    let c = item_at(pool.resources.as_slice(), (p.0 / g) as usize)?;
     c.processors.as_slice().get((p.0 % g) as usize)
 }
 
@@ -49,7 +50,7 @@ fn lowest_up(t: Moment, pool: &Pool) -> bool
     let cores = pool.resources.as_slice();
     match first_core(cores) {
         None => false,
-        Some(r) => match core_at(cores, r) {
+        Some(r) => match item_at(cores, r) {
             None => false,
             Some(c) => first_up(t, c),
         },
@@ -76,7 +77,7 @@ fn may_dom_moved(g: u8, t: Moment, pool: &Pool, d: DomId) -> bool
 fn may_moved(g: u8, t: Moment, pool: &Pool, r: ResId) -> bool
     ensures { result ≡ enabled_in g t.0 pool.now (Moved r) }
 {
-    match core_at(pool.resources.as_slice(), r.0 as usize) {
+    match item_at(pool.resources.as_slice(), r.0 as usize) {
         None => false,
         Some(c) => {
             c.leaving
@@ -137,7 +138,7 @@ fn may_block(g: u8, t: Moment, pool: &Pool, p: ProcId) -> bool
 fn may_slice(g: u8, t: Moment, pool: &Pool, r: ResId) -> bool
     ensures { result ≡ enabled_in g t.0 pool.now (Slice r) }
 {
-    match core_at(pool.resources.as_slice(), r.0 as usize) {
+    match item_at(pool.resources.as_slice(), r.0 as usize) {
         None => false,
         Some(c) => has_come(t, c.due) && !c.pending && first_up(t, c),
     }
@@ -167,7 +168,7 @@ fn may_arrive(g: u8, t: Moment, pool: &Pool, p: ProcId) -> bool
     requires { 0 < g }
     ensures { result ≡ enabled_in g t.0 pool.now (Arrive p) }
 {
-    let gathers = match core_at(pool.resources.as_slice(), (p.0 / g) as usize) {
+    let gathers = match item_at(pool.resources.as_slice(), (p.0 / g) as usize) {
         None => false,
         Some(c) => c.pending && is_open(c) && c.saving.is_none(),
     };
@@ -182,7 +183,7 @@ fn may_arrive(g: u8, t: Moment, pool: &Pool, p: ProcId) -> bool
 fn may_decide(g: u8, t: Moment, pool: &Pool, r: ResId) -> bool
     ensures { result ≡ enabled_in g t.0 pool.now (Decide r) }
 {
-    match core_at(pool.resources.as_slice(), r.0 as usize) {
+    match item_at(pool.resources.as_slice(), r.0 as usize) {
         None => false,
         Some(c) => all_held(c.processors.as_slice()) && is_open(c) && first_up(t, c),
     }
@@ -193,7 +194,7 @@ fn may_leave(g: u8, t: Moment, pool: &Pool, p: ProcId) -> bool
     requires { 0 < g }
     ensures { result ≡ enabled_in g t.0 pool.now (Leave p) }
 {
-    let decided = match core_at(pool.resources.as_slice(), (p.0 / g) as usize) {
+    let decided = match item_at(pool.resources.as_slice(), (p.0 / g) as usize) {
         None => false,
         Some(c) => !is_open(c),
     };
@@ -208,7 +209,7 @@ fn may_leave(g: u8, t: Moment, pool: &Pool, p: ProcId) -> bool
 fn may_save(g: u8, t: Moment, pool: &Pool, r: ResId) -> bool
     ensures { result ≡ enabled_in g t.0 pool.now (Save r) }
 {
-    match core_at(pool.resources.as_slice(), r.0 as usize) {
+    match item_at(pool.resources.as_slice(), r.0 as usize) {
         None => false,
         Some(c) => { c.saving.is_some() && !any_held(c.processors.as_slice()) && first_up(t, c) }
     }

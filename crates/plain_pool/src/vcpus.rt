@@ -59,7 +59,7 @@ fn stop(v: &mut Vcpu, t: Moment)
 }
 
 /// The domain's vCPU at this place stopped at t.
-#[tactic(auto, using(plain_units::proofs::Places::past_the_end))]
+#[tactic(auto, using(sched_model::proofs::PlaceLemmas::past_the_end))]
 fn stop_at(domain: &mut Domain, n: usize, t: Moment)
     ensures { domain.new ≡ record domain.old
         { vcpus = change_item n (stopped_vcpu t.0) domain.old.vcpus } }
@@ -83,7 +83,7 @@ pub fn stop_vcpu(domains: &mut Row<Option<Domain>>, v: VcpuId, t: Moment)
 }
 
 /// The domain's vCPU at this place counts its work from t on.
-#[tactic(auto, using(plain_units::proofs::Places::past_the_end))]
+#[tactic(auto, using(sched_model::proofs::PlaceLemmas::past_the_end))]
 fn start_at(domain: &mut Domain, n: usize, t: Moment)
     ensures { domain.new ≡ record domain.old {
       vcpus = change_item n (λ (x : VcpuRecord). record x { started = Some t })
@@ -134,7 +134,7 @@ fn wake_up(v: &mut Vcpu)
 }
 
 /// The domain's vCPU at this place wakes.
-#[tactic(auto, using(plain_units::proofs::Places::past_the_end))]
+#[tactic(auto, using(sched_model::proofs::PlaceLemmas::past_the_end))]
 fn wake_at(domain: &mut Domain, n: usize)
     requires { DomainFits domain.old }
     ensures { domain.new ≡ record domain.old
@@ -185,7 +185,7 @@ fn fall_asleep(v: &mut Vcpu, t: Moment)
 }
 
 /// The domain's vCPU at this place sleeps from t for the next span of its script.
-#[tactic(auto, using(plain_units::proofs::Places::past_the_end))]
+#[tactic(auto, using(sched_model::proofs::PlaceLemmas::past_the_end))]
 fn sleep_at(domain: &mut Domain, n: usize, t: Moment)
     requires fits { DomainFits domain.old }
     requires early { t.0 ≤ most_span }

@@ -21,13 +21,13 @@ use crate::copies::copy_places;
 use crate::scratch::Scratch;
 use plain_credit2::credit2;
 use plain_policy::{arinc, null, rtds};
-use plain_pool::cores::core_at;
 use plain_pool::deciding::{ask_of, lateness_of};
 use plain_units::decided::Decided;
 use sched_base::{Moment, ResId, Span, UnitId};
 use sched_model::ask::Ask;
 use sched_model::config::Pins;
 use sched_model::event::Event;
+use sched_model::places::item_at;
 use sched_model::row::Row;
 use sched_model::state::{Credit2Records, Pool, Records, Resource, RtdsUnits, Scheduler};
 
@@ -177,7 +177,7 @@ pub fn decide(g: u8, t: Moment, r: ResId, pool: &Pool, scratch: &mut Scratch) ->
     ensures event { result ≡ event_in g t.0 pool.now (Decide r) }
     ensures room { AsLarge scratch.new scratch.old }
 {
-    match core_at(pool.resources.as_slice(), r.0 as usize) {
+    match item_at(pool.resources.as_slice(), r.0 as usize) {
         None => Event::Decide {
             r,
             unit: None,

@@ -17,11 +17,11 @@ use crate::copies::copy_places;
 use crate::deciding::copy_credit2;
 use crate::scratch::Scratch;
 use plain_credit2::credit2;
-use plain_credit2::running::domain_at;
 use plain_policy::records::credit2_record;
 use plain_policy::rtds;
 use sched_base::{DomId, Moment, UnitId};
 use sched_model::event::Event;
+use sched_model::places::item_at;
 use sched_model::row::Row;
 use sched_model::state::{Credit2Domain, Credit2Records, Pool, Records, RtdsUnit, RtdsUnits};
 
@@ -72,7 +72,7 @@ pub fn replenish(g: u8, t: Moment, u: UnitId, pool: &Pool, scratch: &mut Scratch
 fn budget_in(d: DomId, domains: &[Option<Credit2Domain>]) -> i64
     ensures { result ≡ budget_in_spec d.0 domains.now }
 {
-    match domain_at(domains, d) {
+    match item_at(domains, d.0 as usize) {
         None => 0,
         Some(x) => x.budget,
     }

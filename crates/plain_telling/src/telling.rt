@@ -12,13 +12,13 @@ ghost use Rattle.plain_telling.specs.Rooms.{AsLarge, HasRoom};
 use crate::deciding::decide;
 use crate::replenishing::{refill, replenish};
 use crate::scratch::Scratch;
-use plain_pool::cores::core_at;
 use plain_pool::events::vcpu_for;
 use plain_pool::pool::guest_of;
 use plain_pool::runnable::is_runnable;
 use sched_base::{Moment, ProcId, ResId};
 use sched_model::action::Action;
 use sched_model::event::Event;
+use sched_model::places::item_at;
 use sched_model::state::Pool;
 
 /// The vCPU that the processor runs sleeps.
@@ -41,7 +41,7 @@ fn leave(g: u8, t: Moment, p: ProcId, pool: &Pool) -> Event
     requires fits { PoolFits pool.now }
     ensures { result ≡ event_in g t.0 pool.now (Leave p) }
 {
-    let Some(c) = core_at(pool.resources.as_slice(), (p.0 / g) as usize) else {
+    let Some(c) = item_at(pool.resources.as_slice(), (p.0 / g) as usize) else {
         unreachable!();
     };
     Event::Leave {
@@ -55,7 +55,7 @@ fn save(g: u8, t: Moment, r: ResId, pool: &Pool) -> Event
     requires enabled { IsTrue (enabled_in g t.0 pool.now (Save r)) }
     ensures { result ≡ event_in g t.0 pool.now (Save r) }
 {
-    let Some(c) = core_at(pool.resources.as_slice(), r.0 as usize) else {
+    let Some(c) = item_at(pool.resources.as_slice(), r.0 as usize) else {
         unreachable!();
     };
     let Some(u) = c.saving else {

@@ -8,8 +8,8 @@ use Rattle.sched_model.specs.declared.state.RtdsUnit.{RtdsUnit}
 use Rattle.sched_model.specs.declared.state.Records.{Records}
 use Rattle.sched_model.specs.declared.state.Records.TheVariants.{Credit2Pool, RtdsPool, ArincPool, NullPool}
 use Rattle.sched_laws.specs.EachPlace.{EachPlace}
-pub use Rattle.sched_ranges.specs.Ranges.{IsFrame}
-use Rattle.sched_ranges.specs.Ranges.{Credit2InRange, RtdsInRange}
+pub use Rattle.sched_laws.specs.RecordRanges.{IsFrame}
+use Rattle.sched_laws.specs.RecordRanges.{Credit2InRange, RtdsInRange}
 
 -- the records of a Credit2 pool at t
 pub record Credit2Fits (t : ℕ) (records : Credit2Records) : Type 0 where

@@ -3,4 +3,5 @@
 
 pub mod decided;
 pub mod eligible;
+pub mod pins;
 pub mod units;

@@ -2,42 +2,13 @@
 
 ghost use Rattle.std.specs.Prelude.{◌≡◌, ◌<◌, ◌==◌, ◌++◌, ◌∷◌, [], length, not, filter};
 ghost use Rattle.std.specs.List.{list_any};
-ghost use Rattle.sched_model.specs.Places.{same_unit, is_unit, has_unit as has_unit_spec, without_unit};
-ghost use Rattle.sched_model.specs.Pool.{is_of_domain as is_of_domain_spec, same_choice};
+ghost use Rattle.sched_model.specs.Places.{has_unit as has_unit_spec, without_unit};
+ghost use Rattle.sched_model.specs.Pool.{is_of_domain as is_of_domain_spec};
 
 use sched_base::{DomId, UnitId};
 use sched_model::short::Short;
 use sched_model::state::Queue;
-
-/// Whether two units are the same.
-pub fn is_same(u: UnitId, w: UnitId) -> bool
-    ensures { result ≡ same_unit u w }
-{
-    u.dom.0 == w.dom.0 && u.n == w.n
-}
-
-/// Whether the unit is the one that stands there, if any does.
-pub fn is_there(there: Option<UnitId>, u: UnitId) -> bool
-    ensures { result ≡ is_unit there u }
-{
-    match there {
-        None => false,
-        Some(w) => is_same(w, u),
-    }
-}
-
-/// Whether the choice is the unit that is there.
-pub fn is_same_choice(a: Option<UnitId>, b: Option<UnitId>) -> bool
-    ensures { result ≡ same_choice a b }
-{
-    match a {
-        None => b.is_none(),
-        Some(u) => match b {
-            None => false,
-            Some(w) => is_same(u, w),
-        },
-    }
-}
+use sched_model::units::is_same;
 
 /// Whether the unit that stands there, if any does, is one of the domain.
 pub fn is_of_domain(d: DomId, there: Option<UnitId>) -> bool

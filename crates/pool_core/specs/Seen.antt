@@ -14,6 +14,7 @@ use Rattle.sched_model.specs.CheckedMachine.{most_span}
 use Rattle.unit_state.specs.Seen as guests
 use Rattle.core_state.specs.Seen as cores
 use Rattle.core_state.specs.Seen.{processor_among, stalled_to}
+pub use Rattle.core_state.specs.Seen.{stall_until}
 use Rattle.sched_ops.specs.Seen as schedulers
 use Rattle.sched_ops.specs.Seen.{vacant_scheduler as vacant_scheduler}
 use Rattle.sched_ops.specs.Seen.{restarted_scheduler}

@@ -16,7 +16,7 @@ use Rattle.sched_model.specs.declared.config.SchedKind.{SchedKind}
 use Rattle.sched_model.specs.declared.config.SchedKind.TheVariants as kinds
 use Rattle.sched_model.specs.CheckedMachine.{DomParamsPass, IsCheckedConfig, IsCheckedDomain, IsCheckedFrame, IsCheckedPool, PoolParamsPass}
 use Rattle.sched_ops.specs.Conditions.{AreDomParams, ArePoolParams}
-use Rattle.sched_ranges.specs.Ranges.{IsFrame}
+use Rattle.sched_laws.specs.RecordRanges.{IsFrame}
 
 frame_fits : (config : Config) (frame : Option Frame) → IfSome frame (IsCheckedFrame config) → ForSome frame IsFrame
 frame_fits config None fits = λ x e. absurd (cc)

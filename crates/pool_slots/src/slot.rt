@@ -53,13 +53,12 @@ impl PoolSlot {
     ghost use Rattle.sched_model.specs.Pool.{enabled_in, processor_of, settled_pool};
     ghost use Rattle.sched_model.specs.State.{has_core as has_bit};
     ghost use Rattle.sched_model.specs.declared.action.Action.TheVariants.{DomMoved, Moved};
-    ghost use Rattle.core_state.specs.Seen.{stall_until};
     ghost use Rattle.pool_laws.specs.ReadyMoments.{ready_in};
     ghost use Rattle.pool_kept.specs.Holds.{Holds};
     ghost use Rattle.pool_core.specs.Actors.{IsFirstBy};
     ghost use Rattle.pool_core.specs.Order.{IsFirstEnabled, IsNextMoment};
     ghost use Rattle.pool_core.specs.Params.{stored_in};
-    ghost use Rattle.pool_core.specs.Seen.{IsNow, seen_at, with_stall};
+    ghost use Rattle.pool_core.specs.Seen.{IsNow, seen_at, stall_until, with_stall};
     ghost use Rattle.pool_slots.specs.Places.{with_pool};
     ghost use Rattle.pool_slots.specs.Rooms.{IsPlaced};
 

@@ -12,14 +12,14 @@ ghost use Rattle.sched_ops.specs.Conditions.{IsApart};
 mod marks;
 
 use marks::Marks;
-use plain_policy::params::pin;
-use plain_policy::places::{copies, set_place};
 use plain_units::eligible::is_allowed;
+use plain_units::pins::pin;
 use plain_units::units::drop_unit;
 use sched_base::{Cores, DomId, NoMemory, ResId, UnitId};
 use sched_model::config::Pins;
+use sched_model::places::set_place;
 use sched_model::row::{Row, empty_places};
-use sched_model::short::Short;
+use sched_model::short::{Short, copies};
 use sched_model::state::Queue;
 use std::alloc::Global;
 use std::marker::Model;

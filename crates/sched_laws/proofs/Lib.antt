@@ -14,6 +14,7 @@ pub mod SiblingsLaw
 pub mod Counts
 pub mod Awake
 pub mod OnePlace
+pub mod Fewer
 pub mod Known
 pub mod OnePlaceLaw
 pub mod Judged

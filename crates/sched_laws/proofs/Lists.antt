@@ -176,3 +176,9 @@ length-pinned_cores (Some n) cores sets = length_change_item n (λ old. cores) s
 pub has_come-le : (t : ℕ) (o : Option Moment) → has_come t o ≡ true → (at : Moment) × (o ≡ Some at) × (at.0 ≤ t)
 has_come-le t None come = absurd (cc)
 has_come-le t (Some at) come = (at, refl, grind (arith, nat_tests, come))
+
+-- a change of one item of which each holds
+pub AllByRecursion-change_item : {X : Type 0} (P : X → Type 0) (i : ℕ) (f : X → X) (xs : List X) → ((x : X) → slice_get xs i ≡ Some x → P x → P (f x)) → AllByRecursion P xs → AllByRecursion P (change_item i f xs)
+AllByRecursion-change_item P i f [] keeps each = tt
+AllByRecursion-change_item P zero f (x ∷ xs) keeps each = (keeps x refl each.0, each.1)
+AllByRecursion-change_item P (suc i) f (x ∷ xs) keeps each = (each.0, AllByRecursion-change_item P i f xs keeps each.1)

@@ -5,3 +5,4 @@ pub mod NullLaws
 pub mod Counts
 pub mod PoolFacts
 pub mod Finds
+pub mod RecordRanges

@@ -1,6 +1,6 @@
 -- What a scheduler decides for its pool, and what happens to its records.
 use Rattle.sched_base.specs.Numbers.{moment, span}
-use Rattle.std.specs.Prelude.{ℕ, ◌-◌, ◌^◌, ◌==◌, ◌&&◌, ◌||◌, Bool, true, false, not, List, [], ◌∷◌, ◌++◌, Option, Some, None, filter, map, replicate, nat_le, if◌then◌else◌, option_map}
+use Rattle.std.specs.Prelude.{ℕ, ◌==◌, ◌&&◌, ◌||◌, Bool, true, false, not, List, [], ◌∷◌, ◌++◌, Option, Some, None, filter, map, replicate, nat_le, if◌then◌else◌, option_map}
 use Rattle.std.specs.List.{list_any}
 use Rattle.sched_base.specs.declared.UnitId.{UnitId}
 use Rattle.sched_base.specs.declared.Moment.{Moment}

@@ -1,5 +1,7 @@
 //! Short lists, which take no memory of their own.
 
+ghost use Rattle.std.specs.Prelude.{◌≡◌, ◌≤◌, replicate};
+
 use arrayvec::ArrayVec;
 use std::marker::Model;
 
@@ -97,4 +99,16 @@ impl<T: Default + Drop, const N: usize> Short<T, N> {
     {
         self.items.clear();
     }
+}
+
+/// The item so many times.
+pub fn copies<T: Copy + Default + Drop>(item: T, count: u8) -> Short<T, 32>
+    requires { count ≤ 32 }
+    ensures { result ≡ replicate count item }
+{
+    let mut items = Short::new();
+    for _n in 0..count {
+        items.push(item);
+    }
+    items
 }

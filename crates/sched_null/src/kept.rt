@@ -4,11 +4,11 @@ ghost use Rattle.std.specs.Prelude.{◌≡◌, [], None, replicate, unwrap_or, s
 ghost use Rattle.sched_model.specs.Places.{same_unit};
 ghost use Rattle.sched_model.specs.NullScheduler.{kept_without};
 
-use plain_policy::null::release_domain;
-use plain_policy::places::set_place;
-use plain_units::units::{is_same, is_there};
+use plain_policy::null::{release_domain, release_unit};
 use sched_base::{DomId, NoMemory, ResId, UnitId};
+use sched_model::places::set_place;
 use sched_model::row::{Row, empty_places};
+use sched_model::units::is_there;
 use std::alloc::Global;
 use std::marker::Model;
 
@@ -39,26 +39,12 @@ fn set_kept(places: &mut Option<Row<Option<UnitId>>>, core: ResId, unit: Option<
     }
 }
 
-/// No core is kept for the unit any more.
-fn release(u: UnitId, kept: &mut Row<Option<UnitId>>)
-    ensures { kept.new ≡ kept_without (same_unit u) kept.old }
-{
-    for r in 0..kept.len() {
-        let there = kept.item_mut(r);
-        if let Some(w) = *there
-            && is_same(u, w)
-        {
-            *there = None;
-        }
-    }
-}
-
-/// The same, where there are cores.
-fn release_unit(places: &mut Option<Row<Option<UnitId>>>, u: UnitId)
+/// No core is kept for the unit any more, where there are cores.
+fn release_one(places: &mut Option<Row<Option<UnitId>>>, u: UnitId)
     ensures { unwrap_or places.new [] ≡ kept_without (same_unit u) (unwrap_or places.old []) }
 {
     if let Some(kept) = places {
-        release(u, kept);
+        release_unit(u, kept);
     }
 }
 
@@ -144,7 +130,7 @@ impl Kept {
         if is_there(self.at(core), u) {
             return;
         }
-        release_unit(&mut self.places, u);
+        release_one(&mut self.places, u);
         set_kept(&mut self.places, core, Some(u));
     }
 

@@ -13,7 +13,7 @@ use Rattle.sched_ops.specs.Conditions.{IsApart}
 use Rattle.sched_laws.proofs.Choices.{same_unit_same}
 use Rattle.sched_laws.proofs.Counts.{times_none, same_unit_refl}
 use Rattle.sched_laws.specs.Counts.{one, times}
-use Rattle.sched_ranges.proofs.Queue.{no_longer, times-append}
+use Rattle.sched_laws.proofs.Fewer.{no_longer, times-append}
 use Rattle.sched_ops.specs.Affinity.{count_at, count_all, is_member_among}
 use Rattle.std.proofs.lemmas.Bool.{ltb-true}
 

@@ -11,7 +11,6 @@ ghost use Rattle.sched_plain.specs.Moves.{domain_in, target_in as target_in_spec
 ghost use Rattle.sched_plain.specs.ReachedStates.{Stands};
 
 use crate::homes::{home_of_domain, pool_at};
-use cpupool::pools::item_at;
 use plain_policy::params::default_dom_params;
 use plain_policy::records::is_null;
 use plain_pool::domains::{with_domain, without_domain};
@@ -19,6 +18,7 @@ use plain_pool::settle::settle;
 use sched_base::{DomId, Moment, PoolId};
 use sched_model::event::Event;
 use sched_model::machine::Machine;
+use sched_model::places::item_at;
 use sched_model::row::Row;
 use sched_model::state::{Domain, Pool, State};
 

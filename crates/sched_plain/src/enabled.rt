@@ -8,11 +8,11 @@ ghost use Rattle.sched_plain.specs.Fits.{MachineFits, StateFits};
 ghost use Rattle.sched_plain.specs.Search.{stall_due as stall_due_spec, command_due as command_due_spec};
 
 use crate::homes::{home_of, is_move_under_way, pool_at};
-use cpupool::pools::item_at;
 use plain_pool::pool::is_enabled_in;
 use sched_base::{Moment, ResId};
 use sched_model::action::Action;
 use sched_model::machine::Machine;
+use sched_model::places::item_at;
 use sched_model::state::{FreeCore, State};
 
 /// Whether the next stall has come.

@@ -13,9 +13,9 @@ ghost use Rattle.sched_model.specs.Machine.{is_move_under_way as is_move_under_w
 ghost use Rattle.sched_plain.specs.Moves.{is_anything_moving};
 ghost use Rattle.plain_pool.specs.Fits.{PoolFits};
 
-use cpupool::pools::item_at;
 use sched_base::{DomId, ResId};
 use sched_model::action::Action;
+use sched_model::places::item_at;
 use sched_model::state::{Domain, FreeCore, Pool, Resource, State};
 
 /// The pool that has the core, where the first of these has the number i.

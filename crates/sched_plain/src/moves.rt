@@ -13,14 +13,13 @@ ghost use Rattle.sched_plain.specs.ReachedStates.{Stands};
 ghost use Rattle.sched_laws.specs.EachPlace.{EachPlace};
 
 use crate::homes::home_of_core;
-use cpupool::pools::item_at;
-use plain_policy::places::set_place;
 use plain_pool::leaving::{put_core, take_core};
 use plain_pool::settle::settle;
 use sched_base::{Moment, PoolId, ResId};
 use sched_model::event::Event;
 use sched_model::facts::StallEnds;
 use sched_model::machine::Machine;
+use sched_model::places::{item_at, set_place, take_item};
 use sched_model::row::Row;
 use sched_model::state::{FreeCore, Pool, State};
 
@@ -29,19 +28,6 @@ pub(crate) fn target_at(free: &[Option<FreeCore>], r: ResId) -> Option<u8>
     ensures { result ≡ target_at_spec free.now r.0 }
 {
     item_at(free, r.0 as usize)?.target
-}
-
-/// The core of no pool is taken out of its place.
-fn take_free(r: ResId, free: &mut Row<Option<FreeCore>>) -> Option<FreeCore>
-    ensures core { result ≡ at_place free.old r.0 }
-    ensures free { free.new ≡ clear_at r.0 free.old }
-{
-    let place = r.0 as usize;
-    if place < free.len() {
-        free.replace(place, None)
-    } else {
-        None
-    }
 }
 
 /// The core joins the pool, whose cores are looked at.
@@ -108,7 +94,7 @@ fn attach(t: Moment, r: ResId, i: u8, s: &mut State)
     requires target { target_at_spec s.old.free r.0 ≡ Some i }
     ensures { s.new ≡ after_moved_spec t.0 r.0 s.old }
 {
-    let Some(c) = take_free(r, &mut s.free) else {
+    let Some(c) = take_item(&mut s.free, r.0 as usize) else {
         unreachable!();
     };
     join_core_at(t, r, &c.stall_ends, i as usize, &mut s.pools);

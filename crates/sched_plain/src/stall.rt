@@ -11,12 +11,12 @@ ghost use Rattle.sched_plain.specs.ReachedStates.{Stands};
 ghost use Rattle.sched_plain.specs.Stalls.{end_in_pool as end_in_pool_spec, end_at_home as end_at_home_spec, end_among as end_among_spec, end_in_free as end_in_free_spec, ends_to, free_to};
 
 use crate::homes::{home_of_core, pool_at};
-use cpupool::pools::item_at;
 use plain_pool::leaving::set_stall_end;
 use plain_pool::pool::processor_of;
 use sched_base::{Moment, ProcId, ResId};
 use sched_model::event::Event;
 use sched_model::machine::Machine;
+use sched_model::places::item_at;
 use sched_model::row::Row;
 use sched_model::state::{FreeCore, Pool, State};
 
@@ -76,7 +76,7 @@ pub(crate) fn stall_end_of(g: u8, s: &State, p: ProcId, end: u64) -> u64
 }
 
 /// The end at this place of a core of no pool set.
-#[tactic(auto, using(plain_units::proofs::Places::past_the_end))]
+#[tactic(auto, using(sched_model::proofs::PlaceLemmas::past_the_end))]
 fn set_end_among(c: &mut FreeCore, i: usize, end: u64)
     ensures { c.new ≡ record c.old { stall_ends = ends_to i end c.old.stall_ends } }
 {

@@ -20,15 +20,8 @@ use Rattle.sched_ranges.proofs.Budget.{get_map, helds_item, lasts_item, held_wea
 use Rattle.sched_ranges.specs.Budgets.{lasts, helds, HeldFits, BudgetFits, Nobody}
 
 -- the part that a unit takes of a budget above 0
-pub div_small : (a b : ℕ) → a / b ≤ a
-div_small a zero = grind arith
-div_small a (suc b) =
-    let d : a / suc b * suc b + a % suc b ≡ a = div-add-mod' a (suc b) in
-    let e : a / suc b * suc b ≡ a / suc b * b + a / suc b = grind arith in
-    omega (arith, d, e)
-
 quota_small : (cap units : ℕ) → cap ≤ 6400 → quota (total cap) units ≤ 640000000
-quota_small cap units low = max_low (total cap / units) (let d = div_small (total cap) units in omega (arith, d, low))
+quota_small cap units low = max_low (total cap / units) (let d = div-le_self (total cap) units in omega (arith, d, low))
   where
     max_low : (a : ℕ) → a ≤ 640000000 → max a 500000 ≤ 640000000
     max_low a x = grind (arith, x)

@@ -17,17 +17,15 @@ use Rattle.sched_model.specs.CheckedMachine.{IsWithin}
 use Rattle.sched_model.specs.Credit2.{max_weight, burn_unit, burn_units, burn_all, change_domain, change_unit, give_back, burn_cur, reset, take_budget, set_running, switch_off, refill_domain, refilled_pool, first_refill, fresh_domain, set_weight, set_cap, set_domain}
 use Rattle.sched_laws.specs.EachPlace.{EachPlace}
 use Rattle.sched_laws.proofs.EachPlace.{EachPlace-change_at, EachPlace-change_each, by_option, by_cond, length_set, length_change_each}
-use Rattle.sched_ranges.proofs.Rtds.{AllByRecursion-change_item, still_last}
+use Rattle.sched_laws.proofs.Lists.{AllByRecursion-change_item}
+use Rattle.sched_ranges.proofs.Rtds.{still_last}
 use Rattle.sched_ranges.specs.Fits.{UnitFits, Credit2DomainFits, Credit2Fits}
 
 -- the greatest weight is one
-pub max_small : (a b : ℕ) → a ≤ 65535 → b ≤ 65535 → max a b ≤ 65535
-max_small a b x y = grind (arith, x, y)
-
 fold_small : (t n acc : ℕ) (domains : List (Option Credit2Domain)) → acc ≤ 65535 → EachPlace (Credit2DomainFits t) domains → fold max acc (map (λ (e : ℕ × Credit2Domain). e.1.weight) (numbered_items n domains)) ≤ 65535
 fold_small t n acc [] low each = low
 fold_small t n acc (None ∷ domains) low each = fold_small t (suc n) acc domains low (λ i x at. each (suc i) x at)
-fold_small t n acc (Some d ∷ domains) low each = fold_small t (suc n) (max acc d.weight) domains (max_small acc d.weight low (each 0 d refl).weight.most) (λ i x at. each (suc i) x at)
+fold_small t n acc (Some d ∷ domains) low each = fold_small t (suc n) (max acc d.weight) domains (max-le low (each 0 d refl).weight.most) (λ i x at. each (suc i) x at)
 
 max_weight_small : (count t : ℕ) (records : Credit2Records) → Credit2Fits count t records → max_weight records ≤ 65535
 max_weight_small count t records fits = fold_small t 0 0 records.domains (omega arith) fits.domains

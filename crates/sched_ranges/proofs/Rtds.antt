@@ -19,6 +19,7 @@ use Rattle.sched_model.specs.CheckedMachine.{IsWithin, most_span}
 use Rattle.sched_model.specs.Rtds.{burn, burn_to, replenish, change_unit, budget_left, burn_cur, set_running, switch_off, choice, decide, rtds_decision, fresh_units}
 use Rattle.sched_laws.proofs.EachPlace.{EachPlace-change_at, by_option, by_cond, length_set}
 use Rattle.sched_ranges.specs.Fits.{used_budget, RtdsFits, RtdsFit}
+use Rattle.sched_laws.proofs.Lists.{AllByRecursion-change_item}
 use Rattle.sched_laws.proofs.RtdsUnits.{rtds_same}
 
 -- when a unit was charged last, seen from a later moment
@@ -147,11 +148,6 @@ rtds_fresh t period budget (suc count) extra periods budgets = (
   },
   rtds_fresh t period budget count extra periods budgets,
 )
-
-pub AllByRecursion-change_item : {X : Type 0} (P : X → Type 0) (i : ℕ) (f : X → X) (xs : List X) → ((x : X) → slice_get xs i ≡ Some x → P x → P (f x)) → AllByRecursion P xs → AllByRecursion P (change_item i f xs)
-AllByRecursion-change_item P i f [] keeps each = tt
-AllByRecursion-change_item P zero f (x ∷ xs) keeps each = (keeps x refl each.0, each.1)
-AllByRecursion-change_item P (suc i) f (x ∷ xs) keeps each = (each.0, AllByRecursion-change_item P i f xs keeps each.1)
 
 pub fit_unit : (t : ℕ) (domains : List (Option (List RtdsUnit))) (u : UnitId) (x : RtdsUnit) → rtds_unit domains u ≡ Some x → RtdsFit t domains → RtdsFits t x
 fit_unit t domains u x is fit =

@@ -48,7 +48,7 @@ use Rattle.sched_laws.proofs.Events.{LikePlaces, EachAt-like, capped, like_of_do
 use Rattle.sched_laws.proofs.Steps.{IsKeptAt}
 use Rattle.sched_ranges.specs.Ranges.{IsUnitOf}
 use Rattle.sched_ranges.proofs.Vcpus.{VcpuFits, vcpu_woken, vcpu_slept, vcpu_stopped, vcpu_started}
-use Rattle.sched_ranges.proofs.Rtds.{AllByRecursion-change_item}
+use Rattle.sched_laws.proofs.Lists.{AllByRecursion-change_item}
 use Rattle.sched_ranges.proofs.Records.{RecordsFit, DecisionFits, ParamsInRange, decision_fits, replenish_fits, refill_fits, parted_fits, joined_fits, changed_fits, unit_fits, default_fits, fresh_fits}
 
 -- the domain d of the file, with all its vCPUs

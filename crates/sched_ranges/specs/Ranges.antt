@@ -24,6 +24,7 @@ use Rattle.sched_model.specs.declared.state.State.{State}
 use Rattle.sched_model.specs.Opening.{core_count, most_pools}
 use Rattle.sched_model.specs.CheckedMachine.{IsWithin, most_span}
 use Rattle.sched_laws.specs.EachPlace.{EachAt, EachPlace}
+pub use Rattle.sched_laws.specs.RecordRanges.{RtdsInRange, Credit2UnitInRange, Credit2InRange, IsFrame}
 use Rattle.sched_base.specs.Credit2Numbers.{above_zero}
 
 -- the moment is at most a longest span after t
@@ -63,43 +64,6 @@ pub record CoreInRange (m : Machine) (t : ℕ) (c : Resource) : Type 0 where
   pub due : IfSome c.due (IsNear t)
   pub count : length c.processors ≡ m.config.granularity
   pub stalls : All (λ (p : Processor). IsNear t p.stall_end) c.processors
-
--- an RTDS unit at t
-pub record RtdsInRange (t : ℕ) (x : RtdsUnit) : Type 0 where
-  pub period : IsWithin 10000 1000000000000 x.period
-  pub budget : IsWithin 10000 1000000000000 x.budget
-  pub next_period : IsWithin 10000 1000000000000 x.next_period
-  pub next_budget : IsWithin 10000 1000000000000 x.next_budget
-  pub left : x.left ≤ x.budget
-  pub level : x.level * 10000 ≤ t
-  pub deadline : x.deadline ≤ t + 1000000000000
-  pub burned : IfSome x.burned (λ (b : ℕ). b ≤ t)
-
--- a Credit2 unit at t: its credit is at most what no reset lifts it above, and falls by 65,536 a nanosecond at most; what it holds of a
--- budget is at most the budget of the greatest cap, and falls by one a nanosecond at most
-pub record Credit2UnitInRange (t : ℕ) (x : Credit2Unit) : Type 0 where
-  pub residual : x.residual < 65536
-  pub burned : IfSome x.burned (λ (b : ℕ). b ≤ t)
-  pub most : x.credit ≤ℤ pos 10500000
-  pub least : neg_ℤ (pos (65536 * t)) ≤ℤ x.credit
-  pub held_most : x.held ≤ℤ pos 640000000
-  pub held_least : neg_ℤ (pos t) ≤ℤ x.held
-
--- a domain of Credit2 at t, with its units: the budget that is left of its cap
-pub record Credit2InRange (t : ℕ) (d : Credit2Domain) : Type 0 where
-  pub weight : IsWithin 1 65535 d.weight
-  pub cap : d.cap ≤ 6400
-  pub refill : IfSome d.refill (λ (r : ℕ). r ≤ t + 10000000)
-  pub count : length d.units ≤ 32
-  pub units : All (Credit2UnitInRange t) d.units
-  pub budget_most : d.budget ≤ℤ pos (32 * t + 640000000)
-  pub budget_least : neg_ℤ (pos (32 * t + 20480000000)) ≤ℤ d.budget
-
--- a frame: its runs fit its major span, which is 1 nanosecond at least, and at most a longest span
-pub record IsFrame (frame : Frame) : Type 0 where
-  pub some_span : 0 < frame.major.0
-  pub fits : sum_by (λ (e : FrameEntry). e.run.0) frame.entries ≤ frame.major.0
-  pub bounded : frame.major.0 ≤ most_span
 
 -- the records of a scheduler at t: a place for each domain or core, and their numbers
 abbrev pub RecordsInRange : Machine → ℕ → Records → Type 0

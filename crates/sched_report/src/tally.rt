@@ -2,8 +2,6 @@
 
 ghost use Rattle.std.specs.Prelude.{◌≡◌, ◌+◌, ◌*◌, ◌^◌, ◌<◌, ◌≤◌, IfSome, length, sum_by, true, Some, None};
 ghost use Rattle.sched_base.specs.declared.UnitId.{UnitId as UnitRecord};
-ghost use Rattle.sched_model.specs.Places.{same_unit};
-ghost use Rattle.sched_model.specs.Pool.{same_choice};
 ghost use Rattle.sched_report.specs.Stays.{choice_in, renewed_by};
 ghost use Rattle.sched_report.specs.Tallies.{UnitsWithin, CoresWithin, IsShort};
 ghost use Rattle.sched_report.specs.Tallies as tallies;
@@ -11,6 +9,7 @@ ghost use Rattle.sched_report.specs.Tallies as tallies;
 use crate::choice::{Choice, choice_in, renewed_by};
 use sched_base::{Moment, UnitId};
 use sched_model::event::Entry;
+use sched_model::units::{is_same, is_same_choice};
 use unit_places::place_of;
 
 /// What a unit did up to now, but for a stay that goes on. Times are in nanoseconds.
@@ -51,31 +50,11 @@ impl CoreTally {
     };
 }
 
-/// Whether two units are the same.
-pub fn is_same(u: UnitId, w: UnitId) -> bool
-    ensures { result ≡ same_unit u w }
-{
-    u.dom.0 == w.dom.0 && u.n == w.n
-}
-
-/// Whether the choice leaves on the core what is there.
-fn is_kept(cur: Option<UnitId>, chosen: Option<UnitId>) -> bool
-    ensures { result ≡ same_choice cur chosen }
-{
-    match cur {
-        None => chosen.is_none(),
-        Some(u) => match chosen {
-            None => false,
-            Some(w) => is_same(u, w),
-        },
-    }
-}
-
 /// How long the stay was that the choice ends, 0 where it ends none.
 fn ended(core: &CoreTally, c: &Choice) -> u64
     ensures { result ≡ tallies.ended_span core.now c.now }
 {
-    if core.cur.is_none() || is_kept(core.cur, c.unit) {
+    if core.cur.is_none() || is_same_choice(core.cur, c.unit) {
         0
     } else {
         c.at.0.saturating_sub(core.since.0)
@@ -90,7 +69,7 @@ pub fn core_after(core: &CoreTally, c: &Choice) -> CoreTally
 {
     let run = core.run + u128::from(ended(core, c));
     let decides = core.decides + 1;
-    if is_kept(core.cur, c.unit) {
+    if is_same_choice(core.cur, c.unit) {
         CoreTally {
             run,
             decides,
@@ -127,7 +106,7 @@ fn count_picked(units: &mut [UnitTally], core: &CoreTally, c: &Choice)
     requires within { UnitsWithin 4294967295 4294967294 4294967294 units.old }
     ensures { units.new ≡ tallies.after_picked core.now c.now units.old }
 {
-    if !is_kept(core.cur, c.unit)
+    if !is_same_choice(core.cur, c.unit)
         && let Some(u) = c.unit
         && let Some(i) = place_of(u)
     {

@@ -31,13 +31,12 @@ use Rattle.sched_laws.proofs.Granularity.{by_granularity}
 use Rattle.sched_laws.proofs.Lists.{same_read}
 use Rattle.journal_core.specs.Parts.{ToolPart}
 use Rattle.part_laws.proofs.Alike.{core_of}
-use Rattle.core_state.specs.Seen.{stall_until}
 use Rattle.cpupool.specs.Tool.{Tool, ends_of, tool_of}
 use Rattle.tool_laws.specs.ToolSteps as steps
 use Rattle.tool_laws.specs.ToolSteps.{StallSteps, end_of_stall, stall_end_in}
 use Rattle.tool_laws.proofs.Moving.{IsKnown, known_in_runs}
 use Rattle.tool_laws.proofs.Steps.{tool_steps}
-use Rattle.pool_core.specs.Seen.{Seen, with_stall}
+use Rattle.pool_core.specs.Seen.{Seen, stall_until, with_stall}
 use Rattle.pool_slots.specs.Counts.{KeepsCounts, in_use_of}
 use Rattle.pool_slots.specs.Told.{Told}
 use Rattle.pool_slots.specs.Places.{AllStand, GoesOn, SlotSuits, StandsAt, state_of, with_pool}

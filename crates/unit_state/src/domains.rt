@@ -13,6 +13,7 @@ use plain_pool::domains::unit_count;
 use plain_pool::runnable::is_runnable;
 use plain_pool::vcpus::{done_at, sleep_vcpu, start_vcpu, stop_vcpu, vcpu_of, wake_vcpu};
 use sched_base::{DomId, Moment, NoMemory, PoolId, UnitId, VcpuId};
+use sched_model::places::item_at;
 use sched_model::row::{Row, empty_places};
 use sched_model::state::Domain;
 use std::alloc::Global;
@@ -52,18 +53,6 @@ impl Model for Guests {
           spare = a.spare;
           latest = a.latest.0;
         }) × AreSleepers a.domains a.sleepers };
-}
-
-/// The domain with this number, where these are the domains.
-fn domain_of(domains: &[Option<Domain>], d: DomId) -> Option<&Domain>
-    ensures { option_copied result ≡ at_place domains.now d.0 }
-{
-    let place = d.0 as usize;
-    if place < domains.len() {
-        domains[place].as_ref()
-    } else {
-        None
-    }
 }
 
 /// The set of the domains that are there.
@@ -322,7 +311,7 @@ impl Guests {
     pub fn unit_count(&self, d: DomId) -> u8
         ensures { result ≡ units_at self.now.granularity (at_place self.now.domains d.0) }
     {
-        match domain_of(self.domains.as_slice(), d) {
+        match item_at(self.domains.as_slice(), d.0 as usize) {
             Some(domain) => unit_count(self.granularity, domain),
             None => 0,
         }
@@ -332,7 +321,7 @@ impl Guests {
     pub fn is_paused(&self, d: DomId) -> bool
         ensures { result ≡ is_paused_among self.now.domains d.0 }
     {
-        match domain_of(self.domains.as_slice(), d) {
+        match item_at(self.domains.as_slice(), d.0 as usize) {
             Some(domain) => domain.paused,
             None => false,
         }
@@ -342,7 +331,7 @@ impl Guests {
     pub fn moving(&self, d: DomId) -> Option<PoolId>
         ensures { result ≡ target_among self.now.domains d.0 }
     {
-        match domain_of(self.domains.as_slice(), d) {
+        match item_at(self.domains.as_slice(), d.0 as usize) {
             Some(domain) => domain.moving,
             None => None,
         }

@@ -1,6 +1,6 @@
 use Rattle.std.proofs.Common.{sym, ◌∙◌}
 use Rattle.std.specs.Option.{ForSome}
-use Rattle.sched_ranges.specs.Ranges.{IsFrame}
+use Rattle.sched_laws.specs.RecordRanges.{IsFrame}
 use Rattle.arinc_frame.proofs.arinc.frame_of.Goals as goal
 
 pub returns-in-Arinc653-clause-frame : goal.returns-in-Arinc653-clause-frame

@@ -1,4 +1,4 @@
-use Rattle.plain_units.proofs.Places.{slice_set-changed}
+use Rattle.sched_model.proofs.PlaceLemmas.{slice_set-changed}
 use Rattle.core_state.specs.Seen.{stalled_to}
 use Rattle.core_state.proofs.changes.set_end.Goals as goal
 

@@ -4,7 +4,7 @@ use Rattle.sched_base.specs.declared.UnitId.{UnitId}
 use Rattle.sched_model.specs.declared.state.Credit2Domain.{Credit2Domain}
 use Rattle.sched_model.specs.declared.state.Credit2Records.{Credit2Records}
 use Rattle.sched_model.specs.Credit2.{max_weight}
-use Rattle.sched_ranges.specs.Ranges.{Credit2InRange}
+use Rattle.sched_laws.specs.RecordRanges.{Credit2InRange}
 use Rattle.plain_credit2.specs.Bounds.{DomainFits, own_charged}
 use Rattle.sched_laws.proofs.EachPlace.{place_fits}
 use Rattle.plain_credit2.proofs.Ranges.{pool_in_range}

@@ -1,5 +1,5 @@
 use Rattle.sched_model.specs.declared.state.Credit2Unit.{Credit2Unit}
-use Rattle.plain_units.proofs.Places.{slice_set-changed}
+use Rattle.sched_model.proofs.PlaceLemmas.{slice_set-changed}
 use Rattle.plain_credit2.proofs.units.set_burned.Goals as goal
 
 pub returns-in-Some : goal.returns-in-Some

@@ -1,4 +1,4 @@
-use Rattle.plain_units.proofs.Places.{slice_set-changed}
+use Rattle.sched_model.proofs.PlaceLemmas.{slice_set-changed}
 use Rattle.plain_policy.proofs.rtds.put_item.Goals as goal
 
 pub returns-in-Some : goal.returns-in-Some

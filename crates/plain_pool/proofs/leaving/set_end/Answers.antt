@@ -1,4 +1,4 @@
-use Rattle.plain_units.proofs.Places.{slice_set-changed}
+use Rattle.sched_model.proofs.PlaceLemmas.{slice_set-changed}
 use Rattle.plain_pool.specs.Cores.{stalled_to}
 use Rattle.plain_pool.proofs.leaving.set_end.Goals as goal
 

@@ -1,6 +1,6 @@
 use Rattle.std.specs.Prelude.{Some}
 use Rattle.sched_model.specs.declared.state.Vcpu.{Vcpu}
-use Rattle.plain_units.proofs.Places.{slice_set-changed}
+use Rattle.sched_model.proofs.PlaceLemmas.{slice_set-changed}
 use Rattle.plain_pool.proofs.vcpus.start_at.Goals as goal
 
 pub returns-in-Some : goal.returns-in-Some

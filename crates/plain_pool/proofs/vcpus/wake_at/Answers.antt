@@ -1,5 +1,5 @@
 use Rattle.sched_model.specs.Pool.{woken_vcpu}
-use Rattle.plain_units.proofs.Places.{slice_set-changed}
+use Rattle.sched_model.proofs.PlaceLemmas.{slice_set-changed}
 use Rattle.plain_pool.proofs.vcpus.wake_at.Goals as goal
 
 pub returns-in-Some : goal.returns-in-Some

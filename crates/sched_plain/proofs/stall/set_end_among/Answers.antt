@@ -3,7 +3,7 @@ use Rattle.sched_base.specs.Numbers.{moment}
 use Rattle.sched_base.specs.declared.Moment.{Moment}
 use Rattle.sched_model.specs.declared.state.FreeCore.{FreeCore}
 use Rattle.std.specs.Prelude.{List}
-use Rattle.plain_units.proofs.Places.{slice_set-changed}
+use Rattle.sched_model.proofs.PlaceLemmas.{slice_set-changed}
 use Rattle.sched_plain.proofs.stall.set_end_among.Goals as goal
 
 pub returns-in-Some : goal.returns-in-Some

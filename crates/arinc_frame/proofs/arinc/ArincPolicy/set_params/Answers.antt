@@ -1,4 +1,4 @@
-use Rattle.sched_ranges.specs.Ranges.{IsFrame}
+use Rattle.sched_laws.specs.RecordRanges.{IsFrame}
 use Rattle.arinc_frame.proofs.Ready.{ready_later, ready_installed}
 use Rattle.arinc_frame.proofs.arinc.ArincPolicy.set_params.Goals as goal
 use Rattle.arinc_frame.proofs.arinc.ArincPolicy.set_params.Goals.{in-Frame, in-Pin, in_default}

@@ -8,23 +8,23 @@ use Rattle.core_state.proofs.ChangeLemmas.{few_after, may_rearm, none_has, place
 use Rattle.core_state.proofs.cores.CoreState.take.Goals as goal
 
 pub home_cores-self-inside-requires : goal.home_cores-self-inside-requires
-home_cores-self-inside-requires c = few_after c.self.invariant (placed_change c.args.r.0 None (none_has c.self.inside.granularity) c.self.invariant) (c.as_slice.ensures ∙ c.take_place-core.ensures.cores)
+home_cores-self-inside-requires c = few_after c.self.invariant (placed_change c.args.r.0 None (none_has c.self.inside.granularity) c.self.invariant) (c.as_slice.ensures ∙ c.take_item-core.ensures.places)
 
 pub first_number-self-inside-requires : goal.first_number-self-inside-requires
-first_number-self-inside-requires c = few_after c.self.invariant (placed_change c.args.r.0 None (none_has c.self.inside.granularity) c.self.invariant) (c.as_slice-2.ensures ∙ c.take_place-core.ensures.cores)
+first_number-self-inside-requires c = few_after c.self.invariant (placed_change c.args.r.0 None (none_has c.self.inside.granularity) c.self.invariant) (c.as_slice-2.ensures ∙ c.take_item-core.ensures.places)
 
 pub rearm-requires : goal.rearm-requires
-rearm-requires c = may_rearm c.self.invariant (placed_change c.args.r.0 None (none_has c.self.inside.granularity) c.self.invariant) c.take_place-core.ensures.cores c.clear_works.ensures
+rearm-requires c = may_rearm c.self.invariant (placed_change c.args.r.0 None (none_has c.self.inside.granularity) c.self.invariant) c.take_item-core.ensures.places c.clear_works.ensures
 
 pub invariant_of-self : goal.invariant_of-self
 invariant_of-self c =
-    placed_kept c.self.invariant (placed_change c.args.r.0 None (none_has c.self.inside.granularity) c.self.invariant) c.take_place-core.ensures.cores c.clear_works.ensures
+    placed_kept c.self.invariant (placed_change c.args.r.0 None (none_has c.self.inside.granularity) c.self.invariant) c.take_item-core.ensures.places c.clear_works.ensures
     (c.home_cores-self-inside.ensures ∙ ap (cores_from 0) c.as_slice.ensures) (c.first_number-self-inside.ensures ∙ ap (first_place 0 (λ (x : Resource). true)) c.as_slice-2.ensures) c.rearm.ensures
 
 pub returns-clause-core : goal.returns-clause-core
-returns-clause-core c = c.take_place-core.ensures.core ∙ ap (λ (seen : Seen). at_place seen.resources c.args.r.0) c.self.view_is
+returns-clause-core c = c.take_item-core.ensures.item ∙ ap (λ (seen : Seen). at_place seen.resources c.args.r.0) c.self.view_is
 
 pub returns-clause-after : goal.returns-clause-after
 returns-clause-after c =
-    seen_is c.take_place-core.ensures.cores c.clear_works.ensures
+    seen_is c.take_item-core.ensures.places c.clear_works.ensures
     ∙ ap (λ (seen : Seen). record seen { resources = clear_at c.args.r.0 seen.resources; works = without_works (c.args.r.0 * seen.granularity) seen.granularity seen.works }) c.self.view_is

@@ -5,7 +5,7 @@ use Rattle.sched_null.proofs.kept.Kept.keep.Goals as goal
 use Rattle.sched_laws.proofs.Choices.{is_unit_same}
 
 pub invariant_of-self : goal.invariant_of-self
-invariant_of-self c = rw (c.set_kept.ensures, c.release_unit.ensures) (kept_keep c.args.core.0 c.args.u _ c.self.invariant)
+invariant_of-self c = rw (c.set_kept.ensures, c.release_one.ensures) (kept_keep c.args.core.0 c.args.u _ c.self.invariant)
 
 pub returns-then-is_there : goal.returns-then-is_there
 returns-then-is_there c =

@@ -1,8 +1,8 @@
 use Rattle.std.proofs.Common.{◌≡◌, sym, ap, length, ◌∙◌, List, [], ◌∷◌, refl}
 use Rattle.std.specs.Prelude.{replicate, map}
 use Rattle.sched_model.specs.Policy.{pinned_cores}
-use Rattle.plain_units.proofs.Places.{slice_set-changed}
-use Rattle.plain_policy.proofs.params.pin_units.Goals as goal
+use Rattle.sched_model.proofs.PlaceLemmas.{slice_set-changed}
+use Rattle.plain_units.proofs.pins.pin_units.Goals as goal
 
 -- as many copies as there are items
 replicate-map : {X : Type 0} (x : X) (xs : List X) → replicate (length xs) x ≡ map (λ y. x) xs
